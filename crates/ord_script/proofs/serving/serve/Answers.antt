@@ -1,0 +1,15 @@
+use Rattle.std.proofs.Common.{◌≡◌, ap, sym, ◌∙◌}
+use Rattle.ord_script.proofs.Endings.{Ends-part}
+use Rattle.ord_script.proofs.serving.serve.Goals as goal
+
+pub returns-clause-served : goal.returns-clause-served
+returns-clause-served g c =
+    let input = c.in-Ok.ensures.bytes in
+    let output = c.in-Err.ensures.bytes in
+    record {
+      read = input.taken;
+      written = output.written;
+      reads = input.consumes;
+      writes = output.appends;
+      ends = Ends-part _ c.deref.result.now _ _ output.rest (input.input.0 ∙ sym c.deref.ensures.value) input.input.1 c.in-Ok-answer_to.ensures.text (sym c.as_bytes.ensures.value ∙ output.parts) output.whole;
+    }

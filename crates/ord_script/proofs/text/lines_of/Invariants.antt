@@ -1,0 +1,10 @@
+use Rattle.std.proofs.Common.{◌≡◌, ◌++◌, string_bytes}
+use Rattle.std.specs.Iterator.Adapters.{zip_first, zip_second}
+use Rattle.std.specs.Slice.Iter.{iter_rest}
+use Rattle.ord_script.specs.Text.{reply_lines}
+use Rattle.ord_script.proofs.text.lines_of.Given as goal
+
+-- the lines so far, and then those of what is left
+abbrev pub invariant-loop-command : goal.invariant-loop-command
+invariant-loop-command g l =
+    string_bytes l.text ++ reply_lines (iter_rest (zip_first l.command-iterator)) (iter_rest (zip_second l.command-iterator)) ≡ reply_lines l.commands l.replies

@@ -1,0 +1,70 @@
+-- What a watched device shows, and what goes through it.
+use Rattle.std.specs.Prelude.{◌≡◌, ℕ, ◌+◌, ◌<◌, ◌≤◌, Bool, true, false, ◌&&◌, ◌==◌, nat_lt, List, [], ◌++◌, length, Option, Result, Ok, Err, MatchResult, IfOk}
+use Rattle.std.specs.Io.KnownBytes.{Consumes, Appends, IsAtEnd}
+use Rattle.ord_script.specs.declared.reading.ReadError.{ReadError}
+use Rattle.ord_script.specs.declared.reading.ReadError.TheVariants.{TooLong, Memory, Failed}
+
+-- a device, whether a call of it has failed, and whether a read of it has met its end
+pub record Watch (D : Type 0) : Type 0 where
+  pub device : D
+  pub failed : Bool
+  pub ended : Bool
+
+-- it moved none of the `room` bytes that it might have moved
+abbrev pub moves_none : {E : Type 0} → Result ℕ E → ℕ → Bool
+moves_none (Ok count) room = (count == 0) && nat_lt 0 room
+moves_none (Err error) room = false
+
+-- the most bytes that an input may have
+abbrev pub limit : ℕ
+limit = 1_048_576
+
+-- the reader answered an error
+abbrev pub is_failure : {V : Type 0} → Result V ReadError → Bool
+is_failure (Ok v) = false
+is_failure (Err TooLong) = false
+is_failure (Err Memory) = false
+is_failure (Err Failed) = true
+
+-- a read met the reader's end
+abbrev pub is_end : Result ℕ ReadError → Bool
+is_end (Ok count) = count == 0
+is_end (Err error) = false
+
+-- What one read says of the bytes that were taken from the reader.
+abbrev pub IsPiece : Result ℕ ReadError → List ℕ → Option (List ℕ) → List ℕ → List ℕ → Type 0
+-- they stand behind the bytes so far, and there are none only at the reader's end
+IsPiece (Ok count) taken after old new = (new ≡ old ++ taken) × (length taken ≡ count) × (count ≡ 0 → IsAtEnd after)
+-- one read is never too long
+IsPiece (Err TooLong) taken after old new = ⊥
+IsPiece (Err Memory) taken after old new = Unit {0}
+IsPiece (Err Failed) taken after old new = Unit {0}
+
+-- One read, onto the bytes so far.
+pub record ReadsSome (result : Result ℕ ReadError) (before after : Option (List ℕ)) (old new : List ℕ) : Type 0 where
+  pub taken : List ℕ
+  pub consumes : Consumes before after taken
+  pub piece : IsPiece result taken after old new
+
+-- What a whole read says of the bytes that were taken from the reader.
+abbrev pub IsInput : Result (List ℕ) ReadError → List ℕ → Option (List ℕ) → Type 0
+-- they are all there were
+IsInput (Ok bytes) taken after = (taken ≡ bytes) × (length taken ≤ limit) × IsAtEnd after
+-- reading stops at the first byte beyond the limit
+IsInput (Err TooLong) taken after = length taken ≡ limit + 1
+IsInput (Err Memory) taken after = Unit {0}
+IsInput (Err Failed) taken after = Unit {0}
+
+-- A whole read.
+pub record ReadsAll (result : Result (List ℕ) ReadError) (before after : Option (List ℕ)) : Type 0 where
+  pub taken : List ℕ
+  pub consumes : Consumes before after taken
+  pub input : IsInput result taken after
+
+-- A whole write: the bytes that were written and those that were left, none exactly where all went well.
+pub record WritesAll {E : Type 0} (result : Result (Unit {0}) E) (before after : Option (List ℕ)) (bytes : List ℕ) : Type 0 where
+  pub written : List ℕ
+  pub rest : List ℕ
+  pub appends : Appends before after written
+  pub parts : bytes ≡ written ++ rest
+  pub whole : MatchResult result (λ _. rest ≡ []) (λ _. 0 < length rest)

@@ -1,0 +1,8 @@
+-- The definitions that the contracts cite.
+pub mod Devices
+pub mod Machine
+pub mod Text
+pub mod Numbers
+pub mod Commands
+pub mod Script
+pub mod Service

@@ -1,0 +1,90 @@
+-- What a script answers, and what is written of it.
+use Rattle.std.specs.Prelude.{◌≡◌, ℕ, ◌+◌, ◌<◌, ◌≤◌, Bool, true, false, List, [], ◌++◌, length, codes, Option, Some, None}
+use Rattle.std.specs.Io.KnownBytes.{Consumes, Appends, IsAtEnd}
+use Rattle.ord_script.specs.declared.entry.Entry.{Entry}
+use Rattle.ord_script.specs.declared.reply.Reply.{Reply}
+use Rattle.ord_script.specs.declared.fault.Fault.{Fault}
+use Rattle.ord_script.specs.declared.fault.FaultKind.{FaultKind}
+use Rattle.ord_script.specs.declared.script_end.ScriptEnd.{ScriptEnd}
+use Rattle.ord_script.specs.declared.script_end.ScriptEnd.TheVariants as ends
+use Rattle.ord_script.specs.Devices.{limit}
+use Rattle.ord_script.specs.Machine.{Runs}
+use Rattle.ord_script.specs.Script.{Script, script_of}
+use Rattle.ord_script.specs.Text.{reply_lines, fault_line}
+
+-- The text answers the script: the replies of a run over its commands from an empty list, and then its fault.
+pub record Answers (A : Type 0) (script : Script) (text : List ℕ) : Type 0 where
+  pub replies : List (Reply A)
+  pub list : List Entry
+  pub run : Runs [] script.commands replies list
+  pub lines : text ≡ reply_lines script.commands replies ++ fault_line script.fault
+
+-- how a script ends where all goes well
+abbrev pub end_of : Option Fault → ScriptEnd
+end_of None = ends.Done
+end_of (Some fault) = ends.Fault fault.line fault.kind
+
+-- What an end says of the bytes that were read and of those that were written.
+abbrev pub Ends : (A : Type 0) → ScriptEnd → List ℕ → List ℕ → Type 0
+-- the whole answer
+Ends A ends.Done read written = ((script_of read).fault ≡ None) × Answers A (script_of read) written × (length read ≤ limit)
+Ends A (ends.Fault line kind) read written =
+    ((script_of read).fault ≡ Some (record { line = line; kind = kind })) × Answers A (script_of read) written × (length read ≤ limit)
+-- a beginning of the answer, and not all of it
+Ends A ends.WriteFailed read written =
+    (rest : List ℕ) × (0 < length rest) × Answers A (script_of read) (written ++ rest) × (length read ≤ limit)
+-- nothing
+Ends A ends.TooLong read written = (length read ≡ limit + 1) × (written ≡ [])
+Ends A ends.Memory read written = written ≡ []
+Ends A ends.ReadFailed read written = written ≡ []
+
+-- Some bytes were read and some were written, as the end says.
+pub record Serves (A : Type 0) (end : ScriptEnd) (unread unread' contents contents' : Option (List ℕ)) : Type 0 where
+  pub read : List ℕ
+  pub written : List ℕ
+  pub reads : Consumes unread unread' read
+  pub writes : Appends contents contents' written
+  pub ends : Ends A end read written
+
+-- the whole input was read and answered, at least in part
+abbrev pub is_answered : ScriptEnd → Bool
+is_answered ends.Done = true
+is_answered (ends.Fault line kind) = true
+is_answered ends.WriteFailed = true
+is_answered ends.TooLong = false
+is_answered ends.Memory = false
+is_answered ends.ReadFailed = false
+
+abbrev pub is_read_failed : ScriptEnd → Bool
+is_read_failed ends.ReadFailed = true
+is_read_failed ends.Done = false
+is_read_failed (ends.Fault line kind) = false
+is_read_failed ends.WriteFailed = false
+is_read_failed ends.TooLong = false
+is_read_failed ends.Memory = false
+
+abbrev pub is_write_failed : ScriptEnd → Bool
+is_write_failed ends.WriteFailed = true
+is_write_failed ends.Done = false
+is_write_failed (ends.Fault line kind) = false
+is_write_failed ends.TooLong = false
+is_write_failed ends.Memory = false
+is_write_failed ends.ReadFailed = false
+
+-- the exit status of a program that ends so
+abbrev pub status_of : ScriptEnd → ℕ
+status_of ends.Done = 0
+status_of (ends.Fault line kind) = 2
+status_of ends.TooLong = 3
+status_of ends.Memory = 4
+status_of ends.ReadFailed = 5
+status_of ends.WriteFailed = 6
+
+-- what such a program says of it, if anything
+abbrev pub message_of : ScriptEnd → List ℕ
+message_of ends.Done = []
+message_of (ends.Fault line kind) = []
+message_of ends.TooLong = codes "ordrun: input too long"
+message_of ends.Memory = codes "ordrun: out of memory"
+message_of ends.ReadFailed = codes "ordrun: read failed"
+message_of ends.WriteFailed = codes "ordrun: write failed"

@@ -1,0 +1,71 @@
+// Reads a whole input, up to a limit, and tries nothing again.
+ghost use Rattle.std.specs.Prelude.{◌≡◌, ◌||◌, ◌≤◌, ◌+◌, vec_len, is_ok};
+ghost use Rattle.std.specs.Result.{result_map_both};
+ghost use Rattle.ord_script.specs.Devices.{limit, is_failure, is_end, ReadsSome, ReadsAll};
+
+use crate::watched::Watched;
+use std::alloc::{AllocError, Allocator};
+use std::io::Read;
+
+/// The most bytes that a script may have.
+const LIMIT: usize = 1_048_576;
+
+/// How many bytes one read may bring.
+const CHUNK: usize = 4096;
+
+/// Why an input was not taken in.
+#[derive(Clone, Copy, Debug)]
+pub enum ReadError {
+    TooLong,
+    Memory,
+    Failed,
+}
+
+impl From<AllocError> for ReadError {
+    ghost use Rattle.std.specs.Prelude.{◌≡◌};
+    ghost use Rattle.ord_script.specs.declared.reading.ReadError.TheVariants.{Memory};
+
+    ghost from_gives = { λ _ error. error ≡ Memory };
+
+    fn from(_error: AllocError) -> Self {
+        ReadError::Memory
+    }
+}
+
+/// Reads all bytes up to the reader's end, and stops at the first one beyond the limit.
+pub fn read_all<R: Read, A: Allocator>(
+    alloc: A,
+    reader: &mut Watched<R>,
+) -> Result<Vec<u8, A>, ReadError>
+    ensures bytes { ReadsAll (result_map_both (λ v. v.items) (λ e. e) result) (R.remaining reader.old.device) (R.remaining reader.new.device) }
+    ensures failed { reader.new.failed ≡ (reader.old.failed || is_failure result) }
+    ensures ended { reader.new.ended ≡ (reader.old.ended || is_ok result) }
+{
+    let mut bytes = Vec::new(alloc);
+    while bytes.len() <= LIMIT {
+        if read_some(reader, &mut bytes)? == 0 {
+            return Ok(bytes);
+        }
+    }
+    Err(ReadError::TooLong)
+}
+
+/// Reads once, no more than one byte beyond the limit, and answers how many bytes came.
+fn read_some<R: Read, A: Allocator>(
+    reader: &mut Watched<R>,
+    bytes: &mut Vec<u8, A>,
+) -> Result<usize, ReadError>
+    requires { vec_len bytes.old ≤ limit }
+    ensures bytes { ReadsSome result (R.remaining reader.old.device) (R.remaining reader.new.device) bytes.old.items bytes.new.items }
+    ensures bound { vec_len bytes.new ≤ limit + 1 }
+    ensures failed { reader.new.failed ≡ (reader.old.failed || is_failure result) }
+    ensures ended { reader.new.ended ≡ (reader.old.ended || is_end result) }
+{
+    let mut chunk = [0; CHUNK];
+    let room = CHUNK.min(LIMIT + 1 - bytes.len());
+    let Ok(count) = reader.read(&mut chunk[..room]) else {
+        return Err(ReadError::Failed);
+    };
+    bytes.extend_from_slice(&chunk[..count])?;
+    Ok(count)
+}

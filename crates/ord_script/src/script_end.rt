@@ -1,0 +1,52 @@
+// How a script ends.
+ghost use Rattle.std.specs.Prelude.{◌≡◌};
+ghost use Rattle.ord_script.specs.Service.{status_of, message_of};
+
+use crate::fault::FaultKind;
+
+/// How a script ended, and what was written.
+#[derive(Clone, Copy, Debug, PartialEq, Eq)]
+pub enum ScriptEnd {
+    /// Every command was answered.
+    Done,
+    /// The commands before this line were answered, and then what is wrong with it was written.
+    /// Lines are counted from 1.
+    Fault(usize, FaultKind),
+    /// The input has more than 1,048,576 bytes. Nothing was written.
+    TooLong,
+    /// There was no memory to read the input, or to build the answer. Nothing was written.
+    Memory,
+    /// The reader answered an error. Nothing was written.
+    ReadFailed,
+    /// The writer answered an error, or took no byte. A beginning of the answer was written.
+    WriteFailed,
+}
+
+impl ScriptEnd {
+    /// The exit status of a program that ends so.
+    pub fn status(&self) -> u8
+        ensures { result ≡ status_of self.now }
+    {
+        match self {
+            ScriptEnd::Done => 0,
+            ScriptEnd::Fault(_, _) => 2,
+            ScriptEnd::TooLong => 3,
+            ScriptEnd::Memory => 4,
+            ScriptEnd::ReadFailed => 5,
+            ScriptEnd::WriteFailed => 6,
+        }
+    }
+
+    /// What such a program says on standard error; the empty text for nothing.
+    pub fn message(&self) -> &'static str
+        ensures { result.now ≡ message_of self.now }
+    {
+        match self {
+            ScriptEnd::Done | ScriptEnd::Fault(_, _) => "",
+            ScriptEnd::TooLong => "ordrun: input too long",
+            ScriptEnd::Memory => "ordrun: out of memory",
+            ScriptEnd::ReadFailed => "ordrun: read failed",
+            ScriptEnd::WriteFailed => "ordrun: write failed",
+        }
+    }
+}

@@ -1,0 +1,75 @@
+// Reads a script, runs it, and writes its answer.
+ghost use Rattle.std.specs.Prelude.{◌≡◌, ◌||◌, true, false, IfOk, string_bytes};
+ghost use Rattle.ord_script.specs.Script.{script_of};
+ghost use Rattle.ord_script.specs.Service.{Answers, Serves, end_of, is_answered, is_read_failed, is_write_failed};
+
+use crate::reading::{ReadError, read_all};
+use crate::running::run;
+use crate::script::parse;
+use crate::script_end::ScriptEnd;
+use crate::sorted_list::SortedList;
+use crate::text::text_of;
+use crate::watched::Watched;
+use crate::writing::write_all;
+use std::alloc::{AllocError, Allocator};
+use std::io::{Read, Write};
+
+/// Reads a whole script, runs its commands on an empty list, and writes the answer: a line for each
+/// reply, and one for the first fault, if there is one.
+///
+/// All memory is taken from `alloc`. Nothing is written before the whole answer stands there, and
+/// no read or write that failed is tried again. The input may have 1,048,576 bytes; reading stops
+/// at the first one beyond.
+pub fn serve<R: Read, W: Write, A: Allocator + Copy>(
+    alloc: A,
+    reader: &mut Watched<R>,
+    writer: &mut Watched<W>,
+) -> ScriptEnd
+    // What is written answers what was read.
+    ensures served { Serves A result (R.remaining reader.old.device) (R.remaining reader.new.device)
+        (W.contents writer.old.device) (W.contents writer.new.device) }
+
+    // The marks say which device failed, and that the input was read to its end.
+    ensures read_failed { reader.new.failed ≡ (reader.old.failed || is_read_failed result) }
+    ensures write_failed { writer.new.failed ≡ (writer.old.failed || is_write_failed result) }
+    ensures ended { is_answered result ≡ true → reader.new.ended ≡ true }
+
+    // Where nothing is written, the writer isn't touched.
+    ensures untouched { is_answered result ≡ false → writer.new ≡ writer.old }
+{
+    let bytes = match read_all(alloc, reader) {
+        Ok(bytes) => bytes,
+        Err(ReadError::TooLong) => return ScriptEnd::TooLong,
+        Err(ReadError::Memory) => return ScriptEnd::Memory,
+        Err(ReadError::Failed) => return ScriptEnd::ReadFailed,
+    };
+    let Ok(answer) = answer_to(alloc, &bytes) else {
+        return ScriptEnd::Memory;
+    };
+    match write_all(writer, answer.text.as_bytes()) {
+        Ok(()) => answer.end,
+        Err(_) => ScriptEnd::WriteFailed,
+    }
+}
+
+/// The answer to a script, and how the script ends where all of it is written.
+#[derive(Drop)]
+struct Answer<A: Allocator> {
+    text: String<A>,
+    end: ScriptEnd,
+}
+
+fn answer_to<A: Allocator + Copy>(alloc: A, bytes: &[u8]) -> Result<Answer<A>, AllocError>
+    ensures text { IfOk result (λ answer. Answers A (script_of bytes.now) (string_bytes answer.text)) }
+    ensures end { IfOk result (λ answer. answer.end ≡ end_of (script_of bytes.now).fault) }
+{
+    let script = parse(alloc, bytes)?;
+    let mut list = SortedList::new(alloc);
+    let replies = run(alloc, &mut list, &script.commands)?;
+    let text = text_of(alloc, &script.commands, &replies, script.fault)?;
+    let end = match script.fault {
+        None => ScriptEnd::Done,
+        Some(fault) => ScriptEnd::Fault(fault.line, fault.kind),
+    };
+    Ok(Answer { text, end })
+}
