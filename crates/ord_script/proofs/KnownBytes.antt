@@ -1,5 +1,5 @@
 -- What one read or write after another does to the known bytes of a device.
-use Rattle.std.proofs.Common.{◌≡◌, ℕ, List, [], ◌++◌, Option, None, Some, refl, sym, ◌∙◌, ap, append_assoc, append-nil}
+use Rattle.std.proofs.Common.{ℕ, List, [], ◌++◌, Option, None, Some, refl, sym, ◌∙◌, ap, append_assoc, append-nil}
 use Rattle.std.specs.Io.KnownBytes.{Keeps, Appends, Consumes}
 
 pub Appends-none : (known : Option (List ℕ)) → Appends known known []

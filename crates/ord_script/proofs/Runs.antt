@@ -1,5 +1,5 @@
 -- A run, step by step.
-use Rattle.std.proofs.Common.{◌≡◌, ℕ, ◌+◌, ◌<◌, List, [], ◌∷◌, ◌++◌, length, take, get_or, refl, subst, sym}
+use Rattle.std.proofs.Common.{ℕ, ◌+◌, ◌<◌, List, [], ◌∷◌, ◌++◌, length, take, get_or, refl, subst}
 use Rattle.std.proofs.lemmas.List.{take_more}
 use Rattle.ord_script.specs.declared.entry.Entry.{Entry}
 use Rattle.ord_script.specs.declared.command.Command.{Command}

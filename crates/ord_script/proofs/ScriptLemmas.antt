@@ -1,7 +1,7 @@
 -- A script, read line by line.
-use Rattle.std.proofs.Common.{◌≡◌, ℕ, ◌+◌, List, [], ◌∷◌, ◌++◌, Option, Some, None, Ok, Err, refl, sym, ◌∙◌, ap, append_assoc, append-nil}
+use Rattle.std.proofs.Common.{List, ◌++◌}
 use Rattle.ord_script.specs.declared.command.Command.{Command}
-use Rattle.ord_script.specs.Script.{Script, and_then, script_from}
+use Rattle.ord_script.specs.Script.{Script}
 
 -- commands in front of a script
 abbrev pub in_front : List Command → Script → Script

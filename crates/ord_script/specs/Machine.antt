@@ -23,7 +23,8 @@ next_pointer entries = record { index = length entries + 1; generation = 2 }
 abbrev pub Inserts : {A : Type 0} → List Entry → Pair → Reply A → List Entry → Type 0
 -- a new entry goes into a gap that fits its key
 Inserts old pair (New pointer) new =
-    (gap : ℕ) × Fits old gap pair.key × (pointer ≡ next_pointer old) × (new ≡ insert old gap (record { pointer = pointer; pair = pair }))
+    (gap : ℕ) × Fits old gap pair.key × (pointer ≡ next_pointer old)
+    × (new ≡ insert old gap (record { pointer = pointer; pair = pair }))
 -- an entry with an equal key keeps its place and its pointer, and gets the pair
 Inserts old pair (Replaced pointer before) new =
     (place : ℕ) × (slice_get old place ≡ Some (record { pointer = pointer; pair = before })) × (before.key ≡ pair.key)
@@ -56,6 +57,7 @@ Step old commands.List reply new = Lists old reply new
 -- The machine may give these replies to these commands, one after another.
 abbrev pub Runs : {A : Type 0} → List Entry → List Command → List (Reply A) → List Entry → Type 0
 Runs old [] [] new = new ≡ old
-Runs old (command ∷ commands) (reply ∷ replies) new = (mid : List Entry) × Step old command reply mid × Runs mid commands replies new
+Runs old (command ∷ commands) (reply ∷ replies) new =
+    (mid : List Entry) × Step old command reply mid × Runs mid commands replies new
 Runs old [] (reply ∷ replies) new = ⊥
 Runs old (command ∷ commands) [] new = ⊥

@@ -5,7 +5,8 @@ use Rattle.std.specs.Str.Parse.{digits_value}
 
 -- one or more digits, of which the number is at most the greatest one; leading zeros are allowed
 abbrev pub is_number_up_to : ℕ → List ℕ → Bool
-is_number_up_to greatest word = nat_lt 0 (length word) && all_ascii_digits word && nat_le (digits_value 10 word) greatest
+is_number_up_to greatest word =
+    nat_lt 0 (length word) && all_ascii_digits word && nat_le (digits_value 10 word) greatest
 
 -- the number that such a word writes
 abbrev pub number_up_to : ℕ → List ℕ → Option ℕ
@@ -15,7 +16,8 @@ number_up_to greatest word = if is_number_up_to greatest word then Some (digits_
 abbrev pub key_of : List ℕ → Option ℤ
 key_of [] = None
 key_of (b ∷ word) =
-    if b == 45 then option_map (λ n. neg_ℤ (pos n)) (number_up_to (2 ^ 63) word) else option_map pos (number_up_to (2 ^ 63 - 1) (b ∷ word))
+    if b == 45 then option_map (λ n. neg_ℤ (pos n)) (number_up_to (2 ^ 63) word)
+    else option_map pos (number_up_to (2 ^ 63 - 1) (b ∷ word))
 
 -- a value of 64 bits
 abbrev pub value_of : List ℕ → Option ℕ

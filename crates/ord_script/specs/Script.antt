@@ -23,8 +23,10 @@ pub record Script : Type 0 where
 -- what a line says, before what the lines after it say
 abbrev pub and_then : ℕ → Option (Result Command FaultKind) → Script → Script
 and_then number None script = script
-and_then number (Some (Ok command)) script = record { commands = command ∷ script.commands; fault = script.fault }
-and_then number (Some (Err kind)) script = record { commands = []; fault = Some (record { line = number; kind = kind }) }
+and_then number (Some (Ok command)) script =
+    record { commands = command ∷ script.commands; fault = script.fault }
+and_then number (Some (Err kind)) script =
+    record { commands = []; fault = Some (record { line = number; kind = kind }) }
 
 -- the script of some lines, of which the first has this number
 abbrev pub script_from : ℕ → List (List ℕ) → Script

@@ -1,10 +1,9 @@
 -- What a script answers, and what is written of it.
 use Rattle.std.specs.Prelude.{◌≡◌, ℕ, ◌+◌, ◌<◌, ◌≤◌, Bool, true, false, List, [], ◌++◌, length, codes, Option, Some, None}
-use Rattle.std.specs.Io.KnownBytes.{Consumes, Appends, IsAtEnd}
+use Rattle.std.specs.Io.KnownBytes.{Consumes, Appends}
 use Rattle.ord_script.specs.declared.entry.Entry.{Entry}
 use Rattle.ord_script.specs.declared.reply.Reply.{Reply}
 use Rattle.ord_script.specs.declared.fault.Fault.{Fault}
-use Rattle.ord_script.specs.declared.fault.FaultKind.{FaultKind}
 use Rattle.ord_script.specs.declared.script_end.ScriptEnd.{ScriptEnd}
 use Rattle.ord_script.specs.declared.script_end.ScriptEnd.TheVariants as ends
 use Rattle.ord_script.specs.Devices.{limit}
@@ -27,9 +26,11 @@ end_of (Some fault) = ends.Fault fault.line fault.kind
 -- What an end says of the bytes that were read and of those that were written.
 abbrev pub Ends : (A : Type 0) → ScriptEnd → List ℕ → List ℕ → Type 0
 -- the whole answer
-Ends A ends.Done read written = ((script_of read).fault ≡ None) × Answers A (script_of read) written × (length read ≤ limit)
+Ends A ends.Done read written =
+    ((script_of read).fault ≡ None) × Answers A (script_of read) written × (length read ≤ limit)
 Ends A (ends.Fault line kind) read written =
-    ((script_of read).fault ≡ Some (record { line = line; kind = kind })) × Answers A (script_of read) written × (length read ≤ limit)
+    ((script_of read).fault ≡ Some (record { line = line; kind = kind }))
+    × Answers A (script_of read) written × (length read ≤ limit)
 -- a beginning of the answer, and not all of it
 Ends A ends.WriteFailed read written =
     (rest : List ℕ) × (0 < length rest) × Answers A (script_of read) (written ++ rest) × (length read ≤ limit)

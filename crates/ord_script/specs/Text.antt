@@ -1,5 +1,5 @@
 -- The lines that a script answers.
-use Rattle.std.specs.Prelude.{ℕ, List, [], ◌∷◌, ◌++◌, Option, Some, None, codes, decimal, flat_map}
+use Rattle.std.specs.Prelude.{◌≡◌, Result, OnOk, String, string_bytes, ℕ, List, [], ◌∷◌, ◌++◌, Option, Some, None, codes, decimal, flat_map}
 use Rattle.std.specs.Fmt.{signed_decimal}
 use Rattle.ord_script.specs.declared.entry.Pointer.{Pointer}
 use Rattle.ord_script.specs.declared.entry.Pair.{Pair}
@@ -24,6 +24,10 @@ pair_text pair = signed_decimal pair.key ++ codes ":" ++ decimal pair.value
 abbrev pub entry_text : Entry → List ℕ
 entry_text entry = pointer_text entry.pointer ++ codes "=" ++ pair_text entry.pair
 
+-- a text that was written on, and that has these bytes more where that went well
+abbrev pub Adds : {A E : Type 0} → Result (Unit {0}) E → String A → String A → List ℕ → Type 0
+Adds result old new bytes = OnOk result (string_bytes new ≡ string_bytes old ++ bytes)
+
 -- what a refused command says; the machine gives no other reply where this line is asked for
 abbrev pub refusal_line : {A : Type 0} → Reply A → List ℕ
 refusal_line RefusedMemory = codes "refused memory" ++ 10 ∷ []
@@ -31,7 +35,8 @@ refusal_line reply = []
 
 abbrev pub insertion_line : {A : Type 0} → Reply A → List ℕ
 insertion_line (New pointer) = codes "new " ++ pointer_text pointer ++ 10 ∷ []
-insertion_line (Replaced pointer before) = codes "replaced " ++ pointer_text pointer ++ codes " " ++ pair_text before ++ 10 ∷ []
+insertion_line (Replaced pointer before) =
+    codes "replaced " ++ pointer_text pointer ++ codes " " ++ pair_text before ++ 10 ∷ []
 insertion_line reply = refusal_line reply
 
 abbrev pub place_line : {A : Type 0} → Reply A → List ℕ

@@ -6,7 +6,7 @@ ghost use Rattle.ord_script.specs.Script.{is_blank, words_of};
 use std::marker::Model;
 
 /// The words that are left of a line.
-#[derive(Debug, Drop)]
+#[derive(Drop)]
 pub struct Words<'a> {
     rest: &'a [u8],
 }
@@ -45,11 +45,12 @@ impl<'a> Iterator for Words<'a> {
     }
 }
 
-/// The first line and what comes after it. A line ends with LF or CR LF, which is no part of it, and
-/// the last one may end with the bytes.
+/// The first line, and what comes after it. A line ends with LF or CR LF, which is no part of it,
+/// and the last one may end with the bytes.
 pub fn first_line(bytes: &[u8]) -> Option<(&[u8], &[u8])>
     ensures shorter { IfSome result (λ cut. length cut.1.now < length bytes.now) }
-    ensures cut { MatchOption result (lines bytes.now ≡ []) (λ cut. lines bytes.now ≡ cut.0.now ∷ lines cut.1.now) }
+    ensures cut { MatchOption result (lines bytes.now ≡ [])
+        (λ cut. lines bytes.now ≡ cut.0.now ∷ lines cut.1.now) }
 {
     if bytes.is_empty() {
         return None;
@@ -79,7 +80,8 @@ fn without_return(line: &[u8]) -> &[u8]
 
 /// The first word, and what comes after it.
 fn first_word(line: &[u8]) -> Option<(&[u8], &[u8])>
-    ensures { MatchOption result (words_of line.now ≡ []) (λ cut. words_of line.now ≡ cut.0.now ∷ words_of cut.1.now) }
+    ensures { MatchOption result (words_of line.now ≡ [])
+        (λ cut. words_of line.now ≡ cut.0.now ∷ words_of cut.1.now) }
 {
     let rest = &line[word_start(line)?..];
     match word_end(rest) {

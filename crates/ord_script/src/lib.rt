@@ -25,3 +25,6 @@ pub use fault::FaultKind;
 pub use script_end::ScriptEnd;
 pub use serving::serve;
 pub use watched::Watched;
+
+#[cfg(test)]
+mod tests;

@@ -78,7 +78,8 @@ fn none(mut arguments: Words<'_>) -> Result<(), FaultKind>
 
 /// The one argument.
 fn one(mut arguments: Words<'_>) -> Result<&[u8], FaultKind>
-    ensures { MatchResult result (λ one. one_argument arguments.entry ≡ Ok one.now) (λ kind. one_argument arguments.entry ≡ Err kind) }
+    ensures { MatchResult result (λ one. one_argument arguments.entry ≡ Ok one.now)
+        (λ kind. one_argument arguments.entry ≡ Err kind) }
 {
     match (arguments.next(), arguments.next()) {
         (Some(first), None) => Ok(first),
@@ -88,7 +89,8 @@ fn one(mut arguments: Words<'_>) -> Result<&[u8], FaultKind>
 
 /// The two arguments.
 fn two(mut arguments: Words<'_>) -> Result<(&[u8], &[u8]), FaultKind>
-    ensures { MatchResult result (λ two. two_arguments arguments.entry ≡ Ok (two.0.now, two.1.now)) (λ kind. two_arguments arguments.entry ≡ Err kind) }
+    ensures { MatchResult result (λ two. two_arguments arguments.entry ≡ Ok (two.0.now, two.1.now))
+        (λ kind. two_arguments arguments.entry ≡ Err kind) }
 {
     match (arguments.next(), arguments.next(), arguments.next()) {
         (Some(first), Some(second), None) => Ok((first, second)),

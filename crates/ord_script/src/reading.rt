@@ -37,7 +37,8 @@ pub fn read_all<R: Read, A: Allocator>(
     alloc: A,
     reader: &mut Watched<R>,
 ) -> Result<Vec<u8, A>, ReadError>
-    ensures bytes { ReadsAll (result_map_both (λ v. v.items) (λ e. e) result) (R.remaining reader.old.device) (R.remaining reader.new.device) }
+    ensures bytes { ReadsAll (result_map_both (λ v. v.items) (λ e. e) result)
+        (R.remaining reader.old.device) (R.remaining reader.new.device) }
     ensures failed { reader.new.failed ≡ (reader.old.failed || is_failure result) }
     ensures ended { reader.new.ended ≡ (reader.old.ended || is_ok result) }
 {
@@ -56,7 +57,8 @@ fn read_some<R: Read, A: Allocator>(
     bytes: &mut Vec<u8, A>,
 ) -> Result<usize, ReadError>
     requires { vec_len bytes.old ≤ limit }
-    ensures bytes { ReadsSome result (R.remaining reader.old.device) (R.remaining reader.new.device) bytes.old.items bytes.new.items }
+    ensures bytes { ReadsSome result (R.remaining reader.old.device) (R.remaining reader.new.device)
+        bytes.old.items bytes.new.items }
     ensures bound { vec_len bytes.new ≤ limit + 1 }
     ensures failed { reader.new.failed ≡ (reader.old.failed || is_failure result) }
     ensures ended { reader.new.ended ≡ (reader.old.ended || is_end result) }

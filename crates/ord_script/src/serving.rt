@@ -1,5 +1,6 @@
 // Reads a script, runs it, and writes its answer.
 ghost use Rattle.std.specs.Prelude.{◌≡◌, ◌||◌, true, false, IfOk, string_bytes};
+ghost use Rattle.std.specs.Io.KnownBytes.{IsAtEnd};
 ghost use Rattle.ord_script.specs.Script.{script_of};
 ghost use Rattle.ord_script.specs.Service.{Answers, Serves, end_of, is_answered, is_read_failed, is_write_failed};
 
@@ -33,6 +34,7 @@ pub fn serve<R: Read, W: Write, A: Allocator + Copy>(
     ensures read_failed { reader.new.failed ≡ (reader.old.failed || is_read_failed result) }
     ensures write_failed { writer.new.failed ≡ (writer.old.failed || is_write_failed result) }
     ensures ended { is_answered result ≡ true → reader.new.ended ≡ true }
+    ensures nothing_unread { is_answered result ≡ true → IsAtEnd (R.remaining reader.new.device) }
 
     // Where nothing is written, the writer isn't touched.
     ensures untouched { is_answered result ≡ false → writer.new ≡ writer.old }
@@ -60,7 +62,8 @@ struct Answer<A: Allocator> {
 }
 
 fn answer_to<A: Allocator + Copy>(alloc: A, bytes: &[u8]) -> Result<Answer<A>, AllocError>
-    ensures text { IfOk result (λ answer. Answers A (script_of bytes.now) (string_bytes answer.text)) }
+    ensures text { IfOk result
+        (λ answer. Answers A (script_of bytes.now) (string_bytes answer.text)) }
     ensures end { IfOk result (λ answer. answer.end ≡ end_of (script_of bytes.now).fault) }
 {
     let script = parse(alloc, bytes)?;

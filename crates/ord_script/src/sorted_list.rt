@@ -88,7 +88,8 @@ impl<A: Allocator> SortedList<A> {
 
 /// The place of an entry with this key, or else a gap that fits it.
 fn search(entries: &[Entry], key: i64) -> Result<usize, usize>
-    ensures found { IfOk result (λ place. IsSomeAnd (slice_get entries.now place) (λ e. e.pair.key ≡ key)) }
+    ensures found { IfOk result
+        (λ place. IsSomeAnd (slice_get entries.now place) (λ e. e.pair.key ≡ key)) }
     ensures fits { IfErr result (λ gap. Fits entries.now gap key) }
 {
     let mut low = 0;

@@ -1,6 +1,6 @@
 // Writes the lines that a script answers.
-ghost use Rattle.std.specs.Prelude.{◌≡◌, ◌++◌, IfOk, OnOk, string_bytes};
-ghost use Rattle.ord_script.specs.Text.{reply_lines, reply_line, fault_line, insertion_line, place_line, entries_line, refusal_line};
+ghost use Rattle.std.specs.Prelude.{◌≡◌, ◌++◌, IfOk, string_bytes};
+ghost use Rattle.ord_script.specs.Text.{Adds, reply_lines, reply_line, fault_line, insertion_line, place_line, entries_line, refusal_line};
 
 use crate::command::Command;
 use crate::fault::Fault;
@@ -15,7 +15,8 @@ pub fn text_of<A: Allocator>(
     replies: &[Reply<A>],
     fault: Option<Fault>,
 ) -> Result<String<A>, AllocError>
-    ensures { IfOk result (λ text. string_bytes text ≡ reply_lines commands.now replies.now ++ fault_line fault) }
+    ensures { IfOk result (λ text.
+        string_bytes text ≡ reply_lines commands.now replies.now ++ fault_line fault) }
 {
     let mut text = lines_of(alloc, commands, replies)?;
     if let Some(fault) = fault {
@@ -44,7 +45,7 @@ fn push_reply<A: Allocator>(
     command: &Command,
     reply: &Reply<A>,
 ) -> Result<(), AllocError>
-    ensures { OnOk result (string_bytes text.new ≡ string_bytes text.old ++ reply_line command.now reply.now) }
+    ensures { Adds result text.old text.new (reply_line command.now reply.now) }
 {
     match command {
         Command::Insert(_) => push_insertion(text, reply),
@@ -54,7 +55,7 @@ fn push_reply<A: Allocator>(
 }
 
 fn push_insertion<A: Allocator>(text: &mut String<A>, reply: &Reply<A>) -> Result<(), AllocError>
-    ensures { OnOk result (string_bytes text.new ≡ string_bytes text.old ++ insertion_line reply.now) }
+    ensures { Adds result text.old text.new (insertion_line reply.now) }
 {
     match reply {
         Reply::New(pointer) => write!(text, "new {pointer}\n"),
@@ -64,7 +65,7 @@ fn push_insertion<A: Allocator>(text: &mut String<A>, reply: &Reply<A>) -> Resul
 }
 
 fn push_place<A: Allocator>(text: &mut String<A>, reply: &Reply<A>) -> Result<(), AllocError>
-    ensures { OnOk result (string_bytes text.new ≡ string_bytes text.old ++ place_line reply.now) }
+    ensures { Adds result text.old text.new (place_line reply.now) }
 {
     match reply {
         Reply::Found(Some(pointer)) => write!(text, "at {pointer}\n"),
@@ -78,7 +79,7 @@ fn push_entries<A: Allocator>(
     word: &str,
     reply: &Reply<A>,
 ) -> Result<(), AllocError>
-    ensures { OnOk result (string_bytes text.new ≡ string_bytes text.old ++ entries_line word.now reply.now) }
+    ensures { Adds result text.old text.new (entries_line word.now reply.now) }
 {
     let Reply::Entries(listing) = reply else {
         return push_refusal(text, reply);
@@ -91,7 +92,7 @@ fn push_entries<A: Allocator>(
 }
 
 fn push_refusal<A: Allocator>(text: &mut String<A>, reply: &Reply<A>) -> Result<(), AllocError>
-    ensures { OnOk result (string_bytes text.new ≡ string_bytes text.old ++ refusal_line reply.now) }
+    ensures { Adds result text.old text.new (refusal_line reply.now) }
 {
     match reply {
         Reply::RefusedMemory => write!(text, "refused memory\n"),

@@ -10,7 +10,7 @@ use std::marker::Model;
 
 /// A device that is read or written exactly as it is, and that remembers two things about it:
 /// whether a call has failed, and whether a read has met the end.
-#[derive(Drop)]
+#[derive(Debug, Drop)]
 pub struct Watched<D> {
     device: D,
     failed: bool,
@@ -59,7 +59,8 @@ impl<D: Read> Read for Watched<D> {
 
     fn read(&mut self, buf: &mut [u8]) -> io::Result<usize>
         ensures bound { ReadsAtMost result buf.new }
-        ensures bytes { ReadConsumes (D.remaining self.old.device) (D.remaining self.new.device) result buf.new }
+        ensures bytes { ReadConsumes (D.remaining self.old.device) (D.remaining self.new.device)
+            result buf.new }
         ensures failed { self.new.failed ≡ (self.old.failed || is_err result) }
         ensures ended { self.new.ended ≡ (self.old.ended || moves_none result (length buf.old)) }
     {
@@ -79,8 +80,10 @@ impl<D: Write> Write for Watched<D> {
 
     fn write(&mut self, buf: &[u8]) -> io::Result<usize>
         ensures bound { WritesAtMost result buf.now }
-        ensures bytes { WriteAppends (D.contents self.old.device) (D.contents self.new.device) result buf.now }
-        ensures failed { self.new.failed ≡ (self.old.failed || is_err result || moves_none result (length buf.now)) }
+        ensures bytes { WriteAppends (D.contents self.old.device) (D.contents self.new.device)
+            result buf.now }
+        ensures failed { self.new.failed
+            ≡ (self.old.failed || is_err result || moves_none result (length buf.now)) }
         ensures ended { self.new.ended ≡ self.old.ended }
     {
         let result = self.device.write(buf);

@@ -11,7 +11,8 @@ pub struct WriteFailed;
 
 /// Writes the bytes, as many at a time as the writer takes, until it fails.
 pub fn write_all<W: Write>(writer: &mut Watched<W>, bytes: &[u8]) -> Result<(), WriteFailed>
-    ensures bytes { WritesAll result (W.contents writer.old.device) (W.contents writer.new.device) bytes.now }
+    ensures bytes { WritesAll result
+        (W.contents writer.old.device) (W.contents writer.new.device) bytes.now }
     ensures failed { writer.new.failed ≡ (writer.old.failed || is_err result) }
     ensures ended { writer.new.ended ≡ writer.old.ended }
 {

@@ -1,6 +1,5 @@
-use Rattle.std.proofs.Common.{◌≡◌, ◌++◌, Result, Option, List, ℕ, Ok, Err, sym, refl}
+use Rattle.std.proofs.Common.{◌++◌, Option, List, ℕ, Err}
 use Rattle.std.specs.Io.KnownBytes.{Consumes}
-use Rattle.std.specs.Result.{result_map_both}
 use Rattle.std.proofs.lemmas.Result.{err_from_is_err_and}
 use Rattle.ord_script.specs.declared.reading.ReadError.{ReadError}
 use Rattle.ord_script.specs.declared.reading.ReadError.TheVariants.{TooLong, Memory, Failed}

@@ -1,4 +1,4 @@
-use Rattle.std.proofs.Common.{◌≡◌, ap, sym, ◌∙◌}
+use Rattle.std.proofs.Common.{sym, ◌∙◌}
 use Rattle.ord_script.proofs.Endings.{Ends-part}
 use Rattle.ord_script.proofs.serving.serve.Goals as goal
 

@@ -1,6 +1,5 @@
-use Rattle.std.proofs.Common.{◌≡◌, ℕ, ◌-◌, List, ◌++◌, length, take, drop, rules, arith, append_assoc, sym, ◌∙◌, ap}
+use Rattle.std.proofs.Common.{◌≡◌, ℕ, ◌-◌, List, ◌++◌, length, take, drop, rules, arith, append_assoc}
 use Rattle.std.proofs.lemmas.List.{take-append-drop, take_rest}
-use Rattle.std.proofs.lemmas.Bool.Decides.{nat_tests}
 use Rattle.ord_script.proofs.KnownBytes.{Appends-append}
 use Rattle.ord_script.proofs.writing.write_all.Goals as goal
 
