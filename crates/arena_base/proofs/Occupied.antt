@@ -1,0 +1,142 @@
+-- The greatest index with an entry, and slots of which an entry is read or written.
+use Rattle.std.proofs.Common.{◌≡◌, ℕ, zero, suc, ◌+◌, ◌-◌, ◌<◌, ◌≤◌, Bool, true, false, cond, ◌||◌, Option, Some, None, unwrap_or, List, [], ◌∷◌, ◌++◌, map, length, get_or, take, drop, replicate, is_some, count_by, refl, sym, ap, ◌∙◌, subst, arith, zero-add, inl, inr}
+use Rattle.std.specs.List.{list_any}
+use Rattle.std.specs.Option.{option_map}
+use Rattle.std.proofs.lemmas.Bool.{false≢true, cases_Bool, ne_eqb}
+use Rattle.std.proofs.lemmas.List.Sums.{sum_by-cons}
+use Rattle.std.proofs.lemmas.Option.{none-some, same_Some}
+use Rattle.arena_base.specs.declared.slot.Slot.{Slot}
+use Rattle.arena_base.specs.declared.slot.Slot.TheVariants.{Occupied, Vacant}
+use Rattle.arena_base.specs.Slot.{entry_in, slot_entry, with_slot_item, with_era}
+use Rattle.arena_base.specs.Pointer.{index_number}
+use Rattle.arena_base.specs.Arena.{greatest_occupied}
+
+module _ {X : Type 0} where
+  none_past : (slots : List (Option X)) (i : ℕ) → list_any is_some slots ≡ false → get_or slots i None ≡ None
+  none_past [] i h = refl
+  none_past (None ∷ slots) zero h = refl
+  none_past (None ∷ slots) (suc i) h = none_past slots i h
+  none_past (Some e ∷ slots) i h = absurd (false≢true (sym h))
+
+  some_within : (slots : List (Option X)) (i : ℕ) (e : X) → get_or slots i None ≡ Some e → list_any is_some slots ≡ true
+  some_within [] i e is = absurd (none-some e is)
+  some_within (None ∷ slots) zero e is = absurd (none-some e is)
+  some_within (None ∷ slots) (suc i) e is = some_within slots i e is
+  some_within (Some x ∷ slots) i e is = refl
+
+  -- beyond the greatest index with an entry there is none
+  pub greatest_occupied-above : (slots : List (Option X)) (i : ℕ) → greatest_occupied slots < i → get_or slots i None ≡ None
+  greatest_occupied-above [] i h = refl
+  greatest_occupied-above (s ∷ slots) zero h = absurd (omega arith)
+  greatest_occupied-above (s ∷ slots) (suc i) h =
+      elim (cases_Bool (list_any is_some slots)) [
+        | inl some ↦
+            let below : greatest_occupied slots + 1 < suc i = subst (λ b. cond b (greatest_occupied slots + 1) 0 < suc i) some h in
+            greatest_occupied-above slots i (omega arith)
+        | inr none ↦ none_past slots i none
+      ]
+
+  found : (slots : List (Option X)) → list_any is_some slots ≡ true → ((k : ℕ) → get_or slots k None ≡ None) → ⊥
+  found [] h free = false≢true h
+  found (None ∷ slots) h free = found slots h (λ k. free (suc k))
+  found (Some x ∷ slots) h free = none-some x (sym (free 0))
+
+  -- an index with an entry, beyond which there is none, is the greatest
+  pub greatest_occupied-is : (slots : List (Option X)) (i : ℕ) (e : X) → get_or slots i None ≡ Some e → ((k : ℕ) → i < k → get_or slots k None ≡ None) → greatest_occupied slots ≡ i
+  greatest_occupied-is [] i e is above = absurd (none-some e is)
+  greatest_occupied-is (s ∷ slots) zero e is above =
+      elim (cases_Bool (list_any is_some slots)) [
+        | inl some ↦ absurd (found slots some (λ k. above (suc k) (omega arith)))
+        | inr none ↦ ap (λ b. cond b (greatest_occupied slots + 1) 0) none
+      ]
+  greatest_occupied-is (s ∷ slots) (suc i) e is above =
+      let ih = greatest_occupied-is slots i e is (λ k h. above (suc k) (omega arith)) in
+      ap (λ b. cond b (greatest_occupied slots + 1) 0) (some_within slots i e is) ∙ omega (arith, ih)
+
+  -- what has a generation is an entry
+  pub entry-from_generation : (o : Option (ℕ × X)) (g : ℕ) → option_map (λ (e : ℕ × X). e.0) o ≡ Some g → (e : ℕ × X) × (o ≡ Some e)
+  entry-from_generation None g is = absurd (none-some g is)
+  entry-from_generation (Some e) g is = (e, refl)
+
+  -- it is within the slots
+  pub greatest_occupied-below : (slots : List (Option X)) → greatest_occupied slots ≤ length slots - 1
+  greatest_occupied-below [] = omega arith
+  greatest_occupied-below (None ∷ []) = omega arith
+  greatest_occupied-below (Some e ∷ []) = omega arith
+  greatest_occupied-below (s ∷ (s' ∷ slots)) =
+      let ih = greatest_occupied-below (s' ∷ slots) in
+      elim (cases_Bool (list_any is_some (s' ∷ slots))) [
+        | inl some ↦ subst (λ b. cond b (greatest_occupied (s' ∷ slots) + 1) 0 ≤ suc (suc (length slots)) - 1) (sym some) (omega arith)
+        | inr none ↦ subst (λ b. cond b (greatest_occupied (s' ∷ slots) + 1) 0 ≤ suc (suc (length slots)) - 1) (sym none) (omega arith)
+      ]
+
+  -- where no entry is counted, there is none
+  pub none_counted : (slots : List (Option X)) (i : ℕ) → count_by is_some slots ≡ 0 → get_or slots i None ≡ None
+  none_counted [] i h = refl
+  none_counted (None ∷ slots) zero h = refl
+  none_counted (None ∷ slots) (suc i) h =
+      let step : count_by is_some (None ∷ slots) ≡ 0 + count_by is_some slots = sum_by-cons (λ x. cond (is_some x) 1 0) None slots in none_counted slots i (omega (arith, step))
+  none_counted (Some e ∷ slots) i h =
+      let step : count_by is_some (Some e ∷ slots) ≡ 1 + count_by is_some slots = sum_by-cons (λ x. cond (is_some x) 1 0) (Some e) slots in absurd (omega (arith, step))
+
+  -- then the greatest index is 0
+  pub greatest_occupied-none : (slots : List (Option X)) → count_by is_some slots ≡ 0 → greatest_occupied slots ≡ 0
+  greatest_occupied-none [] h = refl
+  greatest_occupied-none (s ∷ slots) h =
+      elim (cases_Bool (list_any is_some slots)) [
+        | inl some ↦ absurd (found slots some (λ k. none_counted (s ∷ slots) (suc k) h))
+        | inr none ↦ ap (λ b. cond b (greatest_occupied slots + 1) 0) none
+      ]
+
+  -- where there is no entry, none is counted
+  pub counted_none : (slots : List (Option X)) → ((k : ℕ) → get_or slots k None ≡ None) → count_by is_some slots ≡ 0
+  counted_none [] free = refl
+  counted_none (None ∷ slots) free = sum_by-cons (λ x. cond (is_some x) 1 0) None slots ∙ (zero-add (count_by is_some slots) ∙ counted_none slots (λ k. free (suc k)))
+  counted_none (Some e ∷ slots) free = absurd (none-some e (sym (free 0)))
+
+  -- where there is an entry, one is counted
+  pub counted_some : (slots : List (Option X)) (k : ℕ) (e : X) → get_or slots k None ≡ Some e → 0 < count_by is_some slots
+  counted_some slots k e is =
+      elim (count_by is_some slots) as (λ n. count_by is_some slots ≡ n → 0 < n) [ zero ↦ λ h. absurd (none-some e (sym (none_counted slots k h) ∙ is)) | suc n ↦ λ h. omega arith ] refl
+
+-- the number of an index, or 0
+pub unwrap_or-index_number : (n : ℕ) → unwrap_or (index_number n) 0 ≡ n
+unwrap_or-index_number zero = refl
+unwrap_or-index_number (suc n) = ap (λ b. unwrap_or (cond b None (Some (suc n))) 0) (ne_eqb (suc n) 0 (λ e. absurd (omega arith)))
+
+module _ {T G : Type 0} (number : G → ℕ) where
+  -- a slot with an entry, seen by index or in memory
+  pub is_some-slot_entry : (s : Slot T G) → is_some (entry_in number s) ≡ true → is_some (slot_entry s) ≡ true
+  is_some-slot_entry (Occupied item era) h = h
+  is_some-slot_entry Vacant h = h
+
+  pub is_some-entry_in : (s : Slot T G) → is_some (slot_entry s) ≡ true → is_some (entry_in number s) ≡ true
+  is_some-entry_in (Occupied item era) h = h
+  is_some-entry_in Vacant h = h
+
+  pub entry_in-slot_entry : (s : Slot T G) (e : G × T) → slot_entry s ≡ Some e → entry_in number s ≡ Some (number e.0, e.1)
+  entry_in-slot_entry (Occupied item era) e is = ap (option_map (λ (x : G × T). (number x.0, x.1))) is
+  entry_in-slot_entry Vacant e is = absurd (none-some e is)
+
+  -- the entry of a slot after a write
+  pub entry_in-with_era : (s : Slot T G) (era : G) → entry_in number (with_era s era) ≡ option_map (λ e. (number era, e.1)) (entry_in number s)
+  entry_in-with_era (Occupied item old) era = refl
+  entry_in-with_era Vacant era = refl
+
+  pub entry_in-with_slot_item : (s : Slot T G) (item : T) → entry_in number (with_slot_item s item) ≡ option_map (λ e. (e.0, item)) (entry_in number s)
+  entry_in-with_slot_item (Occupied old era) item = refl
+  entry_in-with_slot_item Vacant item = refl
+
+  -- the item of a slot, seen by index or in memory
+  pub item-slot_entry : (s : Slot T G) → option_map (λ (e : ℕ × T). e.1) (entry_in number s) ≡ option_map (λ (e : G × T). e.1) (slot_entry s)
+  item-slot_entry (Occupied item era) = refl
+  item-slot_entry Vacant = refl
+
+  -- an entry that is read in two parts
+  pub entry_in-parts : (s : Slot T G) (era : G) (item : T) (e : Option (ℕ × T)) → e ≡ entry_in number s → option_map (λ (x : G × T). x.0) (slot_entry s) ≡ Some era
+      → option_map (λ (x : ℕ × T). x.1) e ≡ Some item → e ≡ Some (number era, item)
+  entry_in-parts (Occupied old was) era item e is first second =
+      let era_is : was ≡ era = same_Some was era first in
+      let item_is : old ≡ item = same_Some old item (ap (option_map (λ (x : ℕ × T). x.1)) (sym is) ∙ second) in
+      is ∙ (ap (λ g. Some (number g, old)) era_is ∙ ap (λ t. Some (number era, t)) item_is)
+  entry_in-parts Vacant era item e is first second = absurd (none-some era first)

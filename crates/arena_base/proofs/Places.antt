@@ -1,0 +1,40 @@
+-- How the slots in memory are the slots by index.
+use Rattle.std.proofs.Common.{◌≡◌, ℕ, zero, suc, ◌+◌, ◌-◌, ◌<◌, ◌≤◌, Option, Some, None, List, [], ◌∷◌, ◌++◌, map, length, get_or, set, take, drop, replicate, reverse, refl, sym, ap, ◌∙◌, arith, add-one}
+use Rattle.std.proofs.lemmas.List.{take_at, take-take, get_or-take, get_or_push, map-set, get_or-map, get_or_read}
+use Rattle.arena_base.specs.declared.slot.Slot.{Slot}
+use Rattle.arena_base.specs.declared.slot.Slot.TheVariants.{Occupied, Vacant}
+use Rattle.arena_base.specs.Slot.{entry_in, vacant_places}
+use Rattle.arena_base.specs.Arena.{vacant_from}
+
+module _ {T G : Type 0} (number : G → ℕ) where
+  -- the slots by index, from index 1 on
+  abbrev pub entries : List (Slot T G) → List (Option (ℕ × T))
+  entries slots = map (entry_in number) slots
+
+  -- a slot that was read, by its index
+  pub slot-read : (slots : List (Slot T G)) (k : ℕ) (s : Slot T G) → k < length slots → s ≡ get_or slots k s → get_or (None ∷ entries slots) (k + 1) None ≡ entry_in number s
+  slot-read slots k s within is = rw add-one (get_or-map (entry_in number) slots k s None within ∙ ap (entry_in number) (sym is))
+
+  -- a slot that is written
+  pub slots-written : (slots : List (Slot T G)) (k : ℕ) (s : Slot T G) → None ∷ entries (set slots k s) ≡ set (None ∷ entries slots) (k + 1) (entry_in number s)
+  slots-written slots k s = rw add-one (ap (λ rest. None ∷ rest) (map-set (entry_in number) slots k s))
+
+  -- the vacant places are the vacant indexes, counted from 0
+  pub vacant_places-indexes : (from : ℕ) (slots : List (Slot T G)) → map (λ k. k + 1) (vacant_places from slots) ≡ vacant_from (from + 1) (entries slots)
+  vacant_places-indexes from [] = refl
+  vacant_places-indexes from (Vacant ∷ slots) = ap (λ rest. (from + 1) ∷ rest) (vacant_places-indexes (from + 1) slots)
+  vacant_places-indexes from (Occupied item era ∷ slots) = vacant_places-indexes (from + 1) slots
+
+-- there are no more vacant places than slots
+pub length-vacant_places : {T G : Type 0} (from : ℕ) (slots : List (Slot T G)) → length (vacant_places from slots) ≤ length slots
+length-vacant_places from [] = omega arith
+length-vacant_places from (Vacant ∷ slots) = let ih = length-vacant_places (from + 1) slots in omega arith
+length-vacant_places from (Occupied item era ∷ slots) = let ih = length-vacant_places (from + 1) slots in omega arith
+
+-- a front of a list without its last item
+pub take-without_last : {X : Type 0} (xs ys : List X) (x : X) (m n : ℕ) → ys ++ x ∷ [] ≡ take n xs → n ≡ m + 1 → length ys ≡ m → ys ≡ take m xs
+take-without_last xs ys x m n e more l = sym (take_at ys (x ∷ []) m l) ∙ (ap (take m) e ∙ take-take m n xs (omega arith))
+
+-- the last item of a front of a list
+pub get_or-last : {X : Type 0} (xs ys : List X) (x d : X) (m n : ℕ) → ys ++ x ∷ [] ≡ take n xs → n ≡ m + 1 → length ys ≡ m → get_or xs m d ≡ x
+get_or-last xs ys x d m n e more l = sym (get_or-take n xs m d (omega arith)) ∙ (ap (λ zs. get_or zs m d) (sym e) ∙ get_or_push ys x d m l)

@@ -1,0 +1,10 @@
+use Rattle.std.proofs.Common.{inl, inr, None, length, refl, arith}
+use Rattle.std.proofs.lemmas.Bool.{cases_lt}
+use Rattle.std.proofs.lemmas.List.{get_or_past}
+use Rattle.arena_base.proofs.Occupied.{counted_none}
+use Rattle.arena_base.proofs.arena.Arena.find_first_inx_ptr.Goals as goal
+
+pub returns-clause-empty : goal.returns-clause-empty
+returns-clause-empty g c =
+    let slots = c.args.self.now.slots in
+    (λ h. counted_none slots (λ k. elim (cases_lt k (length slots)) [ inl within ↦ c.loop-place.invariant k (omega arith) | inr past ↦ get_or_past slots k None past ]), λ h. refl)

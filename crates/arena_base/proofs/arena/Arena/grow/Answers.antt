@@ -1,0 +1,11 @@
+use Rattle.std.proofs.Common.{◌<◌, length, sym, ap, subst, arith}
+use Rattle.arena_base.proofs.Occupied.{greatest_occupied-below}
+use Rattle.arena_base.proofs.Resizing.{with_capacity-room}
+use Rattle.arena_base.proofs.arena.Arena.grow.Goals as goal
+
+pub set_capacity-requires-clause-entries : goal.set_capacity-requires-clause-entries
+set_capacity-requires-clause-entries g c = omega (arith, greatest_occupied-below c.args.self.now.slots)
+
+pub returns-in-Ok-clause-room : goal.returns-in-Ok-clause-room
+returns-in-Ok-clause-room g c =
+    subst (λ v. 0 < length v.vacant) (sym c.in-Ok.ensures.ok) (with_capacity-room c.args.self.now c.min.result c.capacity-capacity.ensures.sound.begins (omega arith))

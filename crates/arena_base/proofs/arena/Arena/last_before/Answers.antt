@@ -1,0 +1,25 @@
+use Rattle.std.proofs.Common.{◌≡◌, ◌+◌, ◌-◌, ℕ, None, ◌∷◌, sym, ap, ◌∙◌, arith}
+use Rattle.std.specs.Option.{option_map}
+use Rattle.arena_base.specs.Arena.{generation_at}
+use Rattle.arena_base.specs.Walk.{falling_from}
+use Rattle.arena_base.proofs.Walks.{falling-none, falling-some}
+use Rattle.arena_base.proofs.arena.Arena.last_before.Goals as goal
+
+pub returns-in-Some : goal.returns-in-Some
+returns-in-Some g c =
+    let a = c.args.self.now in
+    let n = c.loop-place.place in
+    let next : n ≡ n - 1 + 1 = omega arith in
+    let index : n ≡ g.P.Ptr.index c.pointer.result = next ∙ sym c.pointer.ensures.index in
+    sym c.loop-place.invariant
+    ∙ (falling-some a.slots n (n - 1) (g.P.Gen.PtrGen.number c.in-Some.generation) next (omega arith) (rw (← next) at (sym c.in-Some.ensures))
+    ∙ (ap (λ (i : ℕ). (i, g.P.Gen.PtrGen.number c.in-Some.generation) ∷ falling_from a (n - 1)) index
+    ∙ ap (λ (e : ℕ). (g.P.Ptr.index c.pointer.result, e) ∷ falling_from a (n - 1)) (sym c.pointer.ensures.era)))
+
+pub loop-place-preserved : goal.loop-place-preserved
+loop-place-preserved g c =
+    let a = c.args.self.now in
+    let n = c.loop-place.place in
+    let next : n ≡ n - 1 + 1 = omega arith in
+    let none : generation_at a (n - 1 + 1) ≡ None = sym c.generation_at.ensures ∙ ap (option_map g.P.Gen.PtrGen.number) c.in_default.is in
+    sym (falling-none a.slots n (n - 1) next (omega arith) (rw (← next) at none)) ∙ c.loop-place.invariant

@@ -1,0 +1,41 @@
+-- How an arena lies in memory: a vector of slots, of which the first has index 1, and a stack of vacant places.
+use Rattle.std.specs.Prelude.{◌≡◌, ℕ, ◌+◌, Option, Some, None, List, [], ◌∷◌, map, reverse, slice_index_or, ◌≤◌}
+use Rattle.arena_base.specs.Arena.{Arena}
+use Rattle.arena_base.specs.declared.slot.Slot.{Slot}
+use Rattle.arena_base.specs.declared.slot.Slot.TheVariants.{Occupied, Vacant}
+
+-- the entry in a slot, its generation as a number
+abbrev pub entry_in : {T G : Type 0} → (G → ℕ) → Slot T G → Option (ℕ × T)
+entry_in number (Occupied item era) = Some (number era, item)
+entry_in number Vacant = None
+
+-- the arena of these slots, where the top of the stack of vacant places is taken next
+abbrev pub arena_of : {T G : Type 0} → (G → ℕ) → List (Slot T G) → List ℕ → G → Option ℕ → Arena T
+arena_of number slots vacant generation maximum =
+    record { slots = None ∷ map (entry_in number) slots; vacant = map (λ k. k + 1) (reverse vacant); generation = number generation; maximum = maximum }
+
+module _ {T G : Type 0} where
+  -- the vacant places, where the first slot has place `from`
+  abbrev pub vacant_places : ℕ → List (Slot T G) → List ℕ
+  vacant_places from [] = []
+  vacant_places from (Vacant ∷ slots) = from ∷ vacant_places (from + 1) slots
+  vacant_places from (Occupied item era ∷ slots) = vacant_places (from + 1) slots
+
+  -- the slots from place n on are vacant
+  abbrev pub AllVacantFrom : ℕ → List (Slot T G) → Type 0
+  AllVacantFrom n slots = (k : ℕ) → n ≤ k → slice_index_or slots k Vacant ≡ Vacant
+
+  -- generation and item
+  abbrev pub slot_entry : Slot T G → Option (G × T)
+  slot_entry (Occupied item era) = Some (era, item)
+  slot_entry Vacant = None
+
+  -- the slot with another item in its entry
+  abbrev pub with_slot_item : Slot T G → T → Slot T G
+  with_slot_item (Occupied item era) new = Occupied new era
+  with_slot_item Vacant new = Vacant
+
+  -- the slot with another generation in its entry
+  abbrev pub with_era : Slot T G → G → Slot T G
+  with_era (Occupied item era) new = Occupied item new
+  with_era Vacant new = Vacant

@@ -1,0 +1,132 @@
+//! `Arena`: entries in slots of one vector, with a stack of the vacant ones.
+ghost use Rattle.std.specs.Prelude.{◌≡◌, ◌==◌, ◌+◌, ◌<◌, ◌≤◌, ◌↔◌};
+ghost use Rattle.arena_base.specs.Generation.{IsLawfulGeneration, overflows_after};
+ghost use Rattle.arena_base.specs.Invalidation.{is_overflow};
+ghost use Rattle.arena_base.specs.Arena.{arena_len, arena_capacity, arena_limit, raised, IsSound};
+
+mod drain;
+mod get;
+mod growth;
+mod index;
+mod insert;
+mod remove;
+mod traits;
+mod walks;
+mod write;
+
+use crate::invalidation::InvalidationOption;
+use crate::ptr::{Ptr, PtrGen, PtrInx};
+use crate::slot::Slot;
+pub use drain::Drain;
+use std::alloc::{Allocator, Global};
+use std::marker::Model;
+pub use walks::PtrAdvancer;
+
+/// Entries that are found by pointers: an index, and the generation that the arena had when the entry came.
+///
+/// An entry that goes away raises the generation, so that its pointer isn't valid for the next entry at that index.
+/// An insertion takes the slot that was freed last, else the least that was never used.
+#[derive(Drop)]
+pub struct Arena<P: Ptr, T, A: Allocator = Global> {
+    slots: Vec<Slot<T, P::Gen>, A>,
+    // The places in `slots` without an entry. The last is taken next. It has room for all, so that a removal needs no memory.
+    vacant: Vec<usize, A>,
+    generation: P::Gen,
+    maximum: Option<usize>,
+}
+
+impl<P: Ptr, T, A: Allocator> Model for Arena<P, T, A> {
+    ghost use Rattle.std.specs.Prelude.{◌≤◌, vec_len, vec_capacity};
+    ghost use Rattle.arena_base.specs.Arena.{Arena as Slots};
+
+    ghost Value = { Slots T };
+
+    ghost use Rattle.arena_base.specs.Arena.{IsSound};
+    ghost use Rattle.arena_base.specs.Slot.{arena_of};
+
+    ghost view = { λ a. arena_of P.Gen.number a.slots.items a.vacant.items a.generation a.maximum };
+
+    ghost invariant = { λ a. IsSound P.Inx.most P.Gen.greatest (arena_of P.Gen.number a.slots.items a.vacant.items a.generation a.maximum) × (vec_len a.slots ≤ vec_capacity a.vacant) };
+}
+
+impl<P: Ptr, T, A: Allocator> Arena<P, T, A> {
+    /// How many entries there is room for before the arena has to grow.
+    pub fn capacity(&self) -> usize
+        ensures value { result ≡ arena_capacity self.now }
+        ensures sound { IsSound P.Inx.most P.Gen.greatest self.now }
+        ensures limit { arena_capacity self.now ≤ P.Inx.most }
+    {
+        self.slots.len()
+    }
+
+    /// The maximum that was set. The capacity never goes beyond it, nor beyond what the pointers' indexes can name.
+    pub fn max_capacity(&self) -> Option<usize>
+        ensures { result ≡ self.now.maximum }
+    {
+        self.maximum
+    }
+
+    /// How many entries there are.
+    pub fn len(&self) -> usize
+        ensures value { result ≡ arena_len self.now }
+        ensures sound { IsSound P.Inx.most P.Gen.greatest self.now }
+        ensures within { arena_len self.now ≤ arena_capacity self.now }
+    {
+        self.slots.len() - self.vacant.len()
+    }
+
+    pub fn is_empty(&self) -> bool
+        ensures { result ≡ (arena_len self.now == 0) }
+    {
+        self.len() == 0
+    }
+
+    /// The generation that the next entry gets.
+    pub fn generation(&self) -> P::Gen
+        ensures value { P.Gen.number result ≡ self.now.generation }
+        ensures lawful { IsLawfulGeneration P.Gen.greatest self.now.generation }
+    {
+        self.generation
+    }
+
+    /// The allocator's handle that the arena keeps for its growths.
+    pub fn alloc(&self) -> A
+    where
+        A: Copy,
+    {
+        *self.slots.allocator()
+    }
+
+    /// Sets the generation, and leaves each entry its own.
+    pub fn set_generation(&mut self, generation: P::Gen)
+        requires { IsLawfulGeneration P.Gen.greatest (P.Gen.number generation) }
+        ensures { self.new ≡ record self.old { generation = P.Gen.number generation } }
+    {
+        self.generation = generation;
+    }
+
+    /// Raises the generation, and leaves each entry its own.
+    pub fn inc_generation(&mut self) -> InvalidationOption<()>
+        ensures after { self.new ≡ raised P.Gen.greatest self.old }
+        ensures overflow { is_overflow result ≡ overflows_after P.Gen.greatest self.old.generation }
+    {
+        let (next, overflow) = self.generation.generational_inc();
+        self.generation = next;
+        if overflow {
+            InvalidationOption::GenerationOverflow(())
+        } else {
+            InvalidationOption::Success(())
+        }
+    }
+
+    // How far the capacity may grow.
+    fn limit(&self) -> usize
+        ensures value { result ≡ arena_limit P.Inx.most self.now }
+        ensures within { arena_capacity self.now ≤ arena_limit P.Inx.most self.now }
+    {
+        match self.maximum {
+            Some(maximum) => maximum.min(P::Inx::limit()),
+            None => P::Inx::limit(),
+        }
+    }
+}

@@ -1,0 +1,61 @@
+//! Taking all entries out of an arena.
+ghost use Rattle.std.specs.Prelude.{◌≡◌, ◌+◌, [], length};
+ghost use Rattle.std.specs.Iterator.{item_count};
+ghost use Rattle.arena_base.specs.Arena.{cleared};
+ghost use Rattle.arena_base.specs.Drain.{drain_arena, drain_lender, drain_rest, DrainSteps};
+ghost use Rattle.arena_base.specs.Walk.{entries_from};
+
+use super::Arena;
+use crate::invalidation::InvalidationOption;
+use crate::ptr::{Ptr, PtrGen};
+use std::alloc::{Allocator, Global};
+
+/// Takes the entries out of an arena by rising index, each by a removal of its own. When it is dropped it clears the arena.
+pub struct Drain<'a, P: Ptr, T: Drop, A: Allocator = Global> {
+    arena: &'a mut Arena<P, T, A>,
+    // the place of the slot that it looks at next
+    at: usize,
+}
+
+impl<P: Ptr, T: Drop, A: Allocator> Arena<P, T, A> {
+    /// Takes all entries out, by rising index.
+    ///
+    /// Each is removed, and raises the generation, as it is given. When the drain is dropped, the arena is cleared of the rest, which
+    /// raises the generation once more. After a drain that is forgotten the rest is still there.
+    pub fn drain(&mut self) -> Drain<'_, P, T, A>
+        ensures rest { drain_rest result ≡ entries_from 0 self.old.slots }
+        ensures arena { drain_arena result ≡ self.old }
+        ensures same_reference { drain_lender result ≡ self.entry.ghost_name }
+    {
+        let _ = self.capacity();
+        Drain { arena: self, at: 0 }
+    }
+}
+
+impl<'a, P: Ptr, T: Drop, A: Allocator> Drop for Drain<'a, P, T, A> {
+    fn drop(self)
+        ensures { self.exit.0.now ≡ cleared P.Gen.greatest (drain_arena self.entry) }
+    {
+        let Drain { arena, at: _ } = self;
+        let _ = arena.clear();
+    }
+}
+
+impl<'a, P: Ptr, T: Drop, A: Allocator> Iterator for Drain<'a, P, T, A> {
+    type Item = InvalidationOption<(P, T)>;
+
+    ghost next_gives = { DrainSteps P.Gen.greatest P.index P.era };
+
+    ghost remaining = { item_count drain_rest };
+
+    fn next(&mut self) -> Option<InvalidationOption<(P, T)>> {
+        let (at, p) = self.arena.first_from(self.at)?;
+        self.at = at;
+        match self.arena.remove(p).unwrap() {
+            InvalidationOption::Success(item) => Some(InvalidationOption::Success((p, item))),
+            InvalidationOption::GenerationOverflow(item) => {
+                Some(InvalidationOption::GenerationOverflow((p, item)))
+            }
+        }
+    }
+}

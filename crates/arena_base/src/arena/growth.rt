@@ -1,0 +1,182 @@
+//! Making an arena, and changing its capacity.
+ghost use Rattle.std.specs.Prelude.{◌≡◌, ◌+◌, ◌-◌, ◌<◌, ◌≤◌, ◌↔◌, ◌++◌, ℕ, max, reverse, take, replicate, length, vec_len, vec_capacity, slice_index_or, IsOk, IsErr, IfOk, OnOk, OnErr, MatchResult};
+ghost use Rattle.arena_base.specs.Arena.{slot, arena_len, arena_capacity, arena_limit, new_arena, with_capacity, cleared, emptied, greatest_occupied};
+ghost use Rattle.arena_base.specs.Generation.{overflows_after};
+ghost use Rattle.arena_base.specs.Invalidation.{is_overflow};
+ghost use Rattle.arena_base.specs.Slot.{vacant_places, AllVacantFrom};
+
+use super::Arena;
+use crate::error::{MaxCapacityReductionError, ReallocationError};
+use crate::invalidation::InvalidationOption;
+use crate::ptr::{Ptr, PtrGen, PtrInx};
+use crate::slot::Slot;
+use std::alloc::{AllocError, Allocator};
+
+impl<P: Ptr, T, A: Allocator> Arena<P, T, A> {
+    /// An empty arena with capacity 0 and no maximum, which takes no memory until it grows.
+    pub fn new(alloc: A) -> Self
+    where
+        A: Copy,
+        ensures { result ≡ new_arena P.Gen.greatest }
+    {
+        Arena {
+            slots: Vec::new(alloc),
+            vacant: Vec::new(alloc),
+            generation: P::Gen::two(),
+            maximum: None,
+        }
+    }
+
+    /// An empty arena with room for `n` entries. It fails where memory is refused, or the pointers' indexes can't name so many.
+    pub fn with_min_capacity(alloc: A, n: usize) -> Result<Self, AllocError>
+    where
+        A: Copy,
+        T: Drop,
+        ensures ok { IfOk result (λ a. a ≡ with_capacity (new_arena P.Gen.greatest) n) }
+        ensures beyond { P.Inx.most < n → IsErr result }
+        ensures none { n ≡ 0 → IsOk result }
+    {
+        let mut arena = Arena::new(alloc);
+        if n > P::Inx::limit() {
+            return Err(AllocError);
+        }
+        arena.set_capacity(n)?;
+        Ok(arena)
+    }
+
+    /// Makes the capacity the greater of `n` and the greatest index with an entry. All vacant slots then count as never used.
+    ///
+    /// It is refused where `n` is beyond the maximum or the greatest index, or where the capacity would grow and memory is refused.
+    pub fn reallocate_min_capacity(&mut self, n: usize) -> Result<(), ReallocationError>
+        ensures ok { OnOk result (self.new ≡ with_capacity self.old (max n (greatest_occupied self.old.slots))) }
+        ensures beyond { (result ≡ Err ReallocationError.BeyondMaxCapacity) ↔ (arena_limit P.Inx.most self.old < n) }
+        ensures memory { result ≡ Err ReallocationError.AllocError → arena_capacity self.old < n }
+        ensures err { OnErr result (self.new ≡ self.old) }
+    {
+        if n > self.limit() {
+            return Err(ReallocationError::BeyondMaxCapacity);
+        }
+        let needed = self.greatest_occupied();
+        match self.set_capacity(n.max(needed)) {
+            Ok(()) => {
+                self.release();
+                Ok(())
+            }
+            Err(_) => Err(ReallocationError::AllocError),
+        }
+    }
+
+    /// Sets a maximum of the capacity. It is refused where the capacity is already greater.
+    pub fn set_max_capacity(&mut self, n: usize) -> Result<(), MaxCapacityReductionError>
+        ensures ok { OnOk result (self.new ≡ record self.old { maximum = Some n }) }
+        ensures refused { IsErr result ↔ (n < arena_capacity self.old) }
+        ensures err { OnErr result (self.new ≡ self.old) }
+    {
+        if n < self.capacity() {
+            return Err(MaxCapacityReductionError);
+        }
+        self.maximum = Some(n);
+        Ok(())
+    }
+
+    /// Drops all entries and raises the generation, once also where there was none. The capacity stays, and all slots count as
+    /// never used.
+    pub fn clear(&mut self) -> InvalidationOption<()>
+    where
+        T: Drop,
+        ensures after { self.new ≡ cleared P.Gen.greatest self.old }
+        ensures overflow { is_overflow result ≡ overflows_after P.Gen.greatest self.old.generation }
+    {
+        self.vacate();
+        self.inc_generation()
+    }
+
+    // Drops all entries. All slots then count as never used.
+    fn vacate(&mut self)
+    where
+        T: Drop,
+        ensures { self.new ≡ emptied self.old }
+    {
+        let n = self.slots.len();
+        self.slots.clear();
+        add_vacant(&mut self.slots, n);
+        list_vacant(self.slots.as_slice(), &mut self.vacant);
+    }
+
+    // Gives back the memory that no slot needs.
+    fn release(&mut self)
+        ensures { self.new ≡ self.old }
+    {
+        let n = self.slots.len();
+        self.slots.shrink_to(n);
+        self.vacant.shrink_to(n);
+    }
+
+    // The greatest index with an entry, or 0.
+    fn greatest_occupied(&self) -> usize
+        ensures value { result ≡ greatest_occupied self.now.slots }
+        ensures within { result ≤ arena_capacity self.now }
+    {
+        match self.find_last_inx_ptr() {
+            Some(p) => p.inx().try_into_usize().unwrap_or(0),
+            None => 0,
+        }
+    }
+
+    // Makes the capacity `n`, whereby no entry is lost. All vacant slots then count as never used.
+    pub(super) fn set_capacity(&mut self, n: usize) -> Result<(), AllocError>
+        requires limit { n ≤ arena_limit P.Inx.most self.old }
+        requires entries { greatest_occupied self.old.slots ≤ n }
+        ensures ok { OnOk result (self.new ≡ with_capacity self.old n) }
+        ensures memory { IsErr result → arena_capacity self.old < n }
+        ensures err { OnErr result (self.new ≡ self.old) }
+    {
+        self.slots
+            .reserve_exact(n.saturating_sub(self.slots.len()))?;
+        self.vacant
+            .reserve_exact(n.saturating_sub(self.vacant.len()))?;
+        add_vacant(&mut self.slots, n);
+        cut_vacant(&mut self.slots, n);
+        list_vacant(self.slots.as_slice(), &mut self.vacant);
+        Ok(())
+    }
+}
+
+// Adds vacant slots until there are `n`.
+fn add_vacant<T, G, A: Allocator>(slots: &mut Vec<Slot<T, G>, A>, n: usize)
+    requires { n ≤ vec_capacity slots.old }
+    ensures items { slots.new.items ≡ slots.old.items ++ replicate (n - vec_len slots.old) Slot.Vacant }
+    ensures capacity { vec_capacity slots.new ≡ vec_capacity slots.old }
+{
+    while slots.len() < n {
+        slots.push_reserved(Slot::Vacant);
+    }
+}
+
+// Takes vacant slots away from the end until there are at most `n`.
+fn cut_vacant<T, G: Copy, A: Allocator>(slots: &mut Vec<Slot<T, G>, A>, n: usize)
+    requires { AllVacantFrom n slots.old.items }
+    ensures items { slots.new.items ≡ take n slots.old.items }
+    ensures capacity { vec_capacity slots.new ≡ vec_capacity slots.old }
+{
+    while slots.len() > n {
+        match slots.take_last() {
+            Slot::Vacant => {}
+            Slot::Occupied(_, _) => unreachable!(),
+        }
+    }
+}
+
+// Lists the vacant places from the last to the first.
+fn list_vacant<T, G, A: Allocator>(slots: &[Slot<T, G>], vacant: &mut Vec<usize, A>)
+    requires { length slots.now ≤ vec_capacity vacant.old }
+    ensures items { vacant.new.items ≡ reverse (vacant_places 0 slots.now) }
+    ensures capacity { vec_capacity vacant.new ≡ vec_capacity vacant.old }
+{
+    vacant.clear();
+    for place in (0..slots.len()).rev() {
+        if let Slot::Vacant = slots[place] {
+            vacant.push_reserved(place);
+        }
+    }
+}

@@ -1,0 +1,80 @@
+//! Adding entries.
+ghost use Rattle.std.specs.Prelude.{◌≡◌, ◌<◌, ◌≤◌, ◌↔◌, ◌⊎◌, [], is_some, length, IsSome, IsOk, IsErr, IfOk, OnOk, IfErr, OnErr};
+ghost use Rattle.arena_base.specs.Arena.{arena_len, arena_capacity, arena_limit, next_index, grown_capacity, with_room, IsInsertion, IsSound};
+
+use super::Arena;
+use super::get::pointer;
+use crate::error::InsertionError;
+use crate::ptr::{Ptr, PtrInx};
+use crate::slot::Slot;
+use std::alloc::Allocator;
+
+impl<P: Ptr, T: Drop, A: Allocator> Arena<P, T, A> {
+    /// Inserts an item into a vacant slot: the one that was freed last, else the least that was never used.
+    ///
+    /// Its generation is the arena's. It is refused where no slot is vacant; the item is then dropped, and nothing else changes.
+    pub fn insert_within_capacity(&mut self, item: T) -> Result<P, InsertionError>
+        ensures ok { IfOk result (λ p. IsInsertion self.old self.new item (P.index p) (P.era p)) }
+        ensures full { IsErr result ↔ (arena_len self.old ≡ arena_capacity self.old) }
+        ensures refusal { IfErr result (λ e. e ≡ InsertionError.NotWithinCapacity) }
+        ensures err { OnErr result (self.new ≡ self.old) }
+        ensures sound { IsSound P.Inx.most P.Gen.greatest self.new }
+        ensures room { arena_capacity self.new ≡ arena_capacity self.old }
+    {
+        if self.vacant.is_empty() {
+            return Err(InsertionError::NotWithinCapacity);
+        }
+        Ok(self.insert_next(item))
+    }
+
+    /// Inserts an item as `insert_within_capacity` does, and grows first where no slot is vacant.
+    ///
+    /// A growth makes the capacity twice as great, at least 4, and at most its limit. It is refused where the capacity is at the
+    /// limit or memory is refused; the item is then dropped, and nothing else changes.
+    pub fn insert_reallocating(&mut self, item: T) -> Result<P, InsertionError>
+        ensures ok { IfOk result (λ p. IsInsertion (with_room P.Inx.most self.old) self.new item (P.index p) (P.era p)) }
+        ensures beyond { (result ≡ Err InsertionError.BeyondMaxCapacity) ↔ (arena_len self.old ≡ arena_limit P.Inx.most self.old) }
+        ensures memory { result ≡ Err InsertionError.AllocError → arena_len self.old ≡ arena_capacity self.old }
+        ensures refusal { IfErr result (λ e. (e ≡ InsertionError.BeyondMaxCapacity) ⊎ (e ≡ InsertionError.AllocError)) }
+        ensures err { OnErr result (self.new ≡ self.old) }
+        ensures sound { IsSound P.Inx.most P.Gen.greatest self.new }
+        ensures room { arena_capacity self.old ≤ arena_capacity self.new }
+    {
+        if self.vacant.is_empty() {
+            self.grow()?;
+        }
+        Ok(self.insert_next(item))
+    }
+
+    // Makes room for one more entry at least.
+    fn grow(&mut self) -> Result<(), InsertionError>
+        requires { self.old.vacant ≡ [] }
+        ensures ok { OnOk result (self.new ≡ with_room P.Inx.most self.old) }
+        ensures room { OnOk result (0 < length self.new.vacant) }
+        ensures beyond { (result ≡ Err InsertionError.BeyondMaxCapacity) ↔ (arena_len self.old ≡ arena_limit P.Inx.most self.old) }
+        ensures refusal { IfErr result (λ e. (e ≡ InsertionError.BeyondMaxCapacity) ⊎ (e ≡ InsertionError.AllocError)) }
+        ensures err { OnErr result (self.new ≡ self.old) }
+    {
+        let capacity = self.capacity();
+        let limit = self.limit();
+        if capacity >= limit {
+            return Err(InsertionError::BeyondMaxCapacity);
+        }
+        match self.set_capacity(limit.min(capacity.saturating_mul(2).max(4))) {
+            Ok(()) => Ok(()),
+            Err(_) => Err(InsertionError::AllocError),
+        }
+    }
+
+    // Inserts an item where a slot is vacant.
+    fn insert_next(&mut self, item: T) -> P
+        requires { 0 < length self.old.vacant }
+        ensures inserted { IsInsertion self.old self.new item (P.index result) (P.era result) }
+        ensures sound { IsSound P.Inx.most P.Gen.greatest self.new }
+    {
+        let generation = self.generation;
+        let place = self.vacant.take_last();
+        self.slots[place] = Slot::Occupied(item, generation);
+        pointer(place, generation)
+    }
+}

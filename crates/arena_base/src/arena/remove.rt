@@ -1,0 +1,93 @@
+//! Ending entries and their pointers.
+ghost use Rattle.std.specs.Prelude.{◌≡◌, ◌<◌, ◌&&◌, Some, None, is_some, IsSome, IfSome, IfNone, OnSome};
+ghost use Rattle.std.specs.Option.{option_map};
+ghost use Rattle.arena_base.specs.Arena.{slot, item_of, freed, with_slot, without, renewed, IsOccupied};
+ghost use Rattle.arena_base.specs.Generation.{next_generation, overflows_after};
+ghost use Rattle.arena_base.specs.Invalidation.{valid_value, has_overflowed};
+
+use super::Arena;
+use crate::invalidation::{InvalidationOption, InvalidationResult};
+use crate::ptr::{Ptr, PtrGen, PtrInx};
+use crate::slot::Slot;
+use std::alloc::Allocator;
+
+impl<P: Ptr, T, A: Allocator> Arena<P, T, A> {
+    /// Takes the entry out that the pointer names, and raises the generation. The next insertion takes its slot.
+    pub fn remove(&mut self, p: P) -> InvalidationResult<T>
+        ensures value { valid_value result ≡ item_of self.old (P.index p) (P.era p) }
+        ensures overflow { OnSome (valid_value result) (has_overflowed result ≡ overflows_after P.Gen.greatest self.old.generation) }
+        ensures removed { OnSome (valid_value result) (self.new ≡ without P.Gen.greatest self.old (P.index p)) }
+        ensures invalid { IfNone (valid_value result) (self.new ≡ self.old) }
+    {
+        if self.contains(p) {
+            self.remove_inx(p.inx()).map(|entry: (P::Gen, T)| entry.1)
+        } else {
+            InvalidationResult::InvalidPtr
+        }
+    }
+
+    /// Takes the entry at the index out, with its generation, and raises the arena's. The next insertion takes its slot.
+    pub fn remove_inx(&mut self, i: P::Inx) -> InvalidationResult<(P::Gen, T)>
+        ensures value { option_map (λ e. (P.Gen.number e.0, e.1)) (valid_value result) ≡ slot self.old (P.Inx.number i) }
+        ensures overflow { OnSome (valid_value result) (has_overflowed result ≡ overflows_after P.Gen.greatest self.old.generation) }
+        ensures removed { OnSome (valid_value result) (self.new ≡ without P.Gen.greatest self.old (P.Inx.number i)) }
+        ensures invalid { IfNone (valid_value result) (self.new ≡ self.old) }
+    {
+        if !self.contains_inx(i) {
+            return InvalidationResult::InvalidPtr;
+        }
+        let entry = self.take_entry(i);
+        match self.inc_generation() {
+            InvalidationOption::Success(()) => InvalidationResult::Success(entry),
+            InvalidationOption::GenerationOverflow(()) => InvalidationResult::GenerationOverflow(
+                entry,
+            ),
+        }
+    }
+
+    /// Gives the entry that the pointer names a new pointer, at the same index and with the raised generation.
+    pub fn invalidate(&mut self, p: P) -> InvalidationResult<P>
+        ensures valid { is_some (valid_value result) ≡ is_some (item_of self.old (P.index p) (P.era p)) }
+        ensures index { IfSome (valid_value result) (λ q. P.index q ≡ P.index p) }
+        ensures era { IfSome (valid_value result) (λ q. P.era q ≡ next_generation P.Gen.greatest self.old.generation) }
+        ensures overflow { OnSome (valid_value result) (has_overflowed result ≡ overflows_after P.Gen.greatest self.old.generation) }
+        ensures renewed { OnSome (valid_value result) (self.new ≡ renewed P.Gen.greatest self.old (P.index p)) }
+        ensures invalid { IfNone (valid_value result) (self.new ≡ self.old) }
+    {
+        if !self.contains(p) {
+            return InvalidationResult::InvalidPtr;
+        }
+        let overflow = self.inc_generation();
+        self.renew(p.inx());
+        let renewed = P::_from_raw(p.inx(), self.generation);
+        match overflow {
+            InvalidationOption::Success(()) => InvalidationResult::Success(renewed),
+            InvalidationOption::GenerationOverflow(()) => {
+                InvalidationResult::GenerationOverflow(renewed)
+            }
+        }
+    }
+
+    // Gives the entry at an index that has one the arena's generation.
+    fn renew(&mut self, i: P::Inx)
+        requires { IsOccupied self.old (P.Inx.number i) }
+        ensures { self.new ≡ with_slot self.old (P.Inx.number i) (option_map (λ e. (self.old.generation, e.1)) (slot self.old (P.Inx.number i))) }
+    {
+        let place = self.place_of_entry(i);
+        let generation = self.generation;
+        let slot = &mut self.slots[place];
+        slot.renew(generation);
+    }
+
+    // Takes the entry out at an index that has one.
+    fn take_entry(&mut self, i: P::Inx) -> (P::Gen, T)
+        requires { IsOccupied self.old (P.Inx.number i) }
+        ensures value { slot self.old (P.Inx.number i) ≡ Some (P.Gen.number result.0, result.1) }
+        ensures after { self.new ≡ freed self.old (P.Inx.number i) }
+    {
+        let place = self.place_of_entry(i);
+        self.vacant.push_reserved(place);
+        let slot = &mut self.slots[place];
+        slot.take()
+    }
+}

@@ -1,0 +1,118 @@
+//! `Arena` as an arena among others.
+ghost use Rattle.std.specs.Prelude.{refl};
+ghost use Rattle.arena_base.specs.Arena.{with_item};
+
+use super::Arena;
+use crate::error::{MaxCapacityReductionError, ReallocationError};
+use crate::invalidation::{InvalidationOption, InvalidationResult};
+use crate::ptr::{Ptr, PtrGen, PtrInx};
+use crate::traits::{ArenaTrait, CompactArenaTrait, SetMaxCapacity};
+use std::alloc::{AllocError, Allocator};
+
+impl<P: Ptr, T, A: Allocator + Copy> ArenaTrait<P, T> for Arena<P, T, A> {
+    type Alloc = A;
+
+    ghost content = { λ a. a };
+
+    ghost written = { with_item };
+
+    ghost written_content = { λ s i item. refl };
+
+    fn new(alloc: A) -> Self {
+        Arena::new(alloc)
+    }
+
+    fn with_min_capacity(alloc: A, n: usize) -> Result<Self, AllocError>
+    where
+        T: Drop,
+    {
+        Arena::with_min_capacity(alloc, n)
+    }
+
+    fn capacity(&self) -> usize {
+        self.capacity()
+    }
+
+    fn max_capacity(&self) -> Option<usize> {
+        self.max_capacity()
+    }
+
+    fn len(&self) -> usize {
+        self.len()
+    }
+
+    fn is_empty(&self) -> bool {
+        self.is_empty()
+    }
+
+    fn reallocate_min_capacity(&mut self, n: usize) -> Result<(), ReallocationError> {
+        self.reallocate_min_capacity(n)
+    }
+
+    fn contains(&self, p: P) -> bool {
+        self.contains(p)
+    }
+
+    fn contains_inx(&self, i: P::Inx) -> bool {
+        self.contains_inx(i)
+    }
+
+    fn singular_generation(&self) -> Option<P::Gen> {
+        Some(self.generation())
+    }
+
+    fn get(&self, p: P) -> Option<&T> {
+        self.get(p)
+    }
+
+    fn get_mut(&mut self, p: P) -> Option<&mut T> {
+        self.get_mut(p)
+    }
+
+    fn get_inx(&self, i: P::Inx) -> Option<(P::Gen, &T)> {
+        self.get_inx(i)
+    }
+
+    fn get_inx_mut(&mut self, i: P::Inx) -> Option<(P::Gen, &mut T)> {
+        self.get_inx_mut(i)
+    }
+
+    fn pair_mut(&mut self, i: P::Inx) -> (P::Gen, &mut T) {
+        self.pair_mut(i)
+    }
+
+    fn find_first_inx_ptr(&self) -> Option<P> {
+        self.find_first_inx_ptr()
+    }
+
+    fn find_last_inx_ptr(&self) -> Option<P> {
+        self.find_last_inx_ptr()
+    }
+
+    fn invalidate(&mut self, p: P) -> InvalidationResult<P> {
+        self.invalidate(p)
+    }
+
+    fn remove(&mut self, p: P) -> InvalidationResult<T> {
+        self.remove(p)
+    }
+
+    fn remove_inx(&mut self, i: P::Inx) -> InvalidationResult<(P::Gen, T)> {
+        self.remove_inx(i)
+    }
+
+    fn clear(&mut self) -> InvalidationOption<()>
+    where
+        T: Drop,
+    {
+        self.clear()
+    }
+}
+
+impl<P: Ptr, T, A: Allocator> CompactArenaTrait for Arena<P, T, A> {}
+
+impl<P: Ptr, T, A: Allocator + Copy> SetMaxCapacity<P, T> for Arena<P, T, A> {
+    fn set_max_capacity(&mut self, n: usize) -> Result<(), MaxCapacityReductionError> {
+        self.set_max_capacity(n)
+    }
+}

@@ -1,0 +1,117 @@
+//! Going through the entries by index.
+ghost use Rattle.std.specs.Prelude.{◌≡◌, ◌+◌, ◌<◌, ◌≤◌, [], ◌∷◌, true, false, IfSome, MatchOption};
+ghost use Rattle.arena_base.specs.Walk.{pointers, entries_rising, rising_from, falling_from, walk_rest};
+
+use super::Arena;
+use super::get::pointer;
+use crate::advancer::Advancer;
+use crate::ptr::{Ptr, PtrInx};
+use std::alloc::Allocator;
+use std::marker::{Model, PhantomData};
+
+/// Goes through the pointers of an arena by index, up or down.
+///
+/// It borrows nothing, so the arena may be changed between two steps: a step gives the next entry that is there then.
+#[derive(Drop)]
+pub struct PtrAdvancer<P: Ptr> {
+    // the place of the slot that it stands before
+    at: usize,
+    falling: bool,
+    of: PhantomData<P>,
+}
+
+impl<P: Ptr> Model for PtrAdvancer<P> {
+    ghost use Rattle.arena_base.specs.Walk.{Walk};
+
+    ghost Value = { Walk };
+
+    ghost view = { λ s. record { at = s.at; falling = s.falling } };
+}
+
+impl<P: Ptr, T, A: Allocator> Advancer<Arena<P, T, A>> for PtrAdvancer<P> {
+    type Item = P;
+
+    ghost advance_gives = { λ s a result t. MatchOption result
+        ((walk_rest s a ≡ []) × (walk_rest t a ≡ []))
+        (λ p. walk_rest s a ≡ (P.index p, P.era p) ∷ walk_rest t a) };
+
+    ghost has_ended = { λ s. (s.falling ≡ true) × (s.at ≡ 0) };
+
+    fn advance(&mut self, arena: &Arena<P, T, A>) -> Option<P> {
+        let (at, p) = if self.falling {
+            arena.last_before(self.at)?
+        } else {
+            arena.first_from(self.at)?
+        };
+        self.at = at;
+        Some(p)
+    }
+
+    fn empty() -> PtrAdvancer<P> {
+        PtrAdvancer {
+            at: 0,
+            falling: true,
+            of: PhantomData,
+        }
+    }
+}
+
+impl<P: Ptr, T, A: Allocator> Arena<P, T, A> {
+    /// Goes through all pointers by rising index.
+    pub fn advancer(&self) -> PtrAdvancer<P>
+        ensures { walk_rest result self.now ≡ pointers self.now }
+    {
+        let _ = self.capacity();
+        PtrAdvancer {
+            at: 0,
+            falling: false,
+            of: PhantomData,
+        }
+    }
+
+    /// Goes through the pointers from an index on, which is the first: up, or down where `rev` is true.
+    pub fn advancer_inx(&self, i: P::Inx, rev: bool) -> PtrAdvancer<P>
+        ensures rising { rev ≡ false → walk_rest result self.now ≡ rising_from self.now (P.Inx.number i) }
+        ensures falling { rev ≡ true → walk_rest result self.now ≡ falling_from self.now (P.Inx.number i) }
+    {
+        let _ = self.capacity();
+        let index = i.try_into_usize().unwrap_or(0);
+        PtrAdvancer {
+            at: if rev { index } else { index.saturating_sub(1) },
+            falling: rev,
+            of: PhantomData,
+        }
+    }
+
+    // The pointer of the first entry from a place on, and the place after it.
+    pub(super) fn first_from(&self, from: usize) -> Option<(usize, P)>
+        ensures pointers { MatchOption result
+            (rising_from self.now (from + 1) ≡ [])
+            (λ e. rising_from self.now (from + 1) ≡ (P.index e.1, P.era e.1) ∷ rising_from self.now (e.0 + 1)) }
+        ensures entries { MatchOption result
+            (entries_rising self.now (from + 1) ≡ [])
+            (λ e. (item : T) × (entries_rising self.now (from + 1) ≡ (P.index e.1, P.era e.1, item) ∷ entries_rising self.now (e.0 + 1))) }
+        ensures next { IfSome result (λ e. e.0 ≡ P.index e.1) }
+    {
+        for place in from..self.capacity() {
+            if let Some(generation) = self.generation_at(place) {
+                return Some((place + 1, pointer(place, generation)));
+            }
+        }
+        None
+    }
+
+    // The pointer of the last entry before a place, and its own place.
+    pub(super) fn last_before(&self, end: usize) -> Option<(usize, P)>
+        ensures { MatchOption result
+            (falling_from self.now end ≡ [])
+            (λ e. falling_from self.now end ≡ (P.index e.1, P.era e.1) ∷ falling_from self.now e.0) }
+    {
+        for place in (0..end.min(self.capacity())).rev() {
+            if let Some(generation) = self.generation_at(place) {
+                return Some((place, pointer(place, generation)));
+            }
+        }
+        None
+    }
+}

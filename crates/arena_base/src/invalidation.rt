@@ -1,0 +1,98 @@
+//! The answers of calls that end or renew a pointer, and so raise the arena's generation.
+ghost use Rattle.std.specs.Prelude.{◌≡◌, ◌↔◌, IsSome, MatchOption, IfSome};
+
+/// The answer of a call that was given a pointer.
+#[derive(Debug, Clone, Copy, PartialEq, Eq, Drop)]
+pub enum InvalidationResult<T> {
+    /// The pointer was valid, and its generation won't come again yet.
+    Success(T),
+    /// The pointer was valid, and the generations began again: old pointers may become valid.
+    GenerationOverflow(T),
+    /// The pointer named no entry, and nothing changed.
+    InvalidPtr,
+}
+
+/// The answer of a call that always succeeds.
+#[derive(Debug, Clone, Copy, PartialEq, Eq, Drop)]
+pub enum InvalidationOption<T> {
+    /// The old generation won't come again yet.
+    Success(T),
+    /// The generations began again: old pointers may become valid.
+    GenerationOverflow(T),
+}
+
+impl<T> InvalidationResult<T> {
+    ghost use Rattle.arena_base.specs.Invalidation.{valid_value, has_overflowed, allowed_value, is_overflow};
+
+    /// The value, whether or not the generations began again; `None` for an invalid pointer.
+    pub fn allow(self) -> Option<T>
+        ensures { result ≡ valid_value self }
+    {
+        match self {
+            InvalidationResult::Success(value) | InvalidationResult::GenerationOverflow(value) => {
+                Some(value)
+            }
+            InvalidationResult::InvalidPtr => None,
+        }
+    }
+
+    /// The same answer of another value.
+    pub fn map<U, F: FnOnce(T) -> U + Drop>(self, f: F) -> InvalidationResult<U>
+        requires { F.IsAlwaysCallable f }
+        ensures value { MatchOption (valid_value self) (result ≡ InvalidationResult.InvalidPtr) (λ x. IfSome (valid_value result) (F.post f x)) }
+        ensures variant { IsSome (valid_value self) ↔ IsSome (valid_value result) }
+        ensures overflow { has_overflowed result ≡ has_overflowed self }
+    {
+        match self {
+            InvalidationResult::Success(value) => InvalidationResult::Success(f(value)),
+            InvalidationResult::GenerationOverflow(value) => {
+                InvalidationResult::GenerationOverflow(f(value))
+            }
+            InvalidationResult::InvalidPtr => InvalidationResult::InvalidPtr,
+        }
+    }
+
+    /// The answer for a pointer that is known to have been valid.
+    pub fn unwrap(self) -> InvalidationOption<T>
+        requires { IsSome (valid_value self) }
+        ensures value { valid_value self ≡ Some (allowed_value result) }
+        ensures overflow { is_overflow result ≡ has_overflowed self }
+    {
+        match self {
+            InvalidationResult::Success(value) => InvalidationOption::Success(value),
+            InvalidationResult::GenerationOverflow(value) => {
+                InvalidationOption::GenerationOverflow(value)
+            }
+            InvalidationResult::InvalidPtr => unreachable!(),
+        }
+    }
+}
+
+impl<T> InvalidationOption<T> {
+    ghost use Rattle.arena_base.specs.Invalidation.{allowed_value, is_overflow};
+
+    /// The value, whether or not the generations began again.
+    pub fn allow(self) -> T
+        ensures { result ≡ allowed_value self }
+    {
+        match self {
+            InvalidationOption::Success(value) | InvalidationOption::GenerationOverflow(value) => {
+                value
+            }
+        }
+    }
+
+    /// The same answer of another value.
+    pub fn map<U, F: FnOnce(T) -> U + Drop>(self, f: F) -> InvalidationOption<U>
+        requires { F.IsAlwaysCallable f }
+        ensures value { F.post f (allowed_value self) (allowed_value result) }
+        ensures overflow { is_overflow result ≡ is_overflow self }
+    {
+        match self {
+            InvalidationOption::Success(value) => InvalidationOption::Success(f(value)),
+            InvalidationOption::GenerationOverflow(value) => {
+                InvalidationOption::GenerationOverflow(f(value))
+            }
+        }
+    }
+}

@@ -1,0 +1,25 @@
+//! Generational arenas: entries at small numbers, found again by pointers that notice when their entry is gone.
+#![tactic(auto)]
+
+mod advancer;
+mod arena;
+mod error;
+mod invalidation;
+pub mod laws;
+mod ptr;
+mod recast;
+mod slot;
+#[cfg(test)]
+mod tests;
+mod traits;
+
+pub use advancer::Advancer;
+pub use arena::{Arena, Drain, PtrAdvancer};
+pub use error::{InsertionError, MaxCapacityReductionError, ReallocationError};
+pub use invalidation::{InvalidationOption, InvalidationResult};
+pub use ptr::{P0, P8, PN, Ptr, PtrGen, PtrInx, Q0};
+pub use recast::{Recast, Recaster};
+// A crate can name an arena in a contract only if the types of its fields are exported.
+#[doc(hidden)]
+pub use slot::Slot;
+pub use traits::{ArenaTrait, CompactArenaTrait, SetMaxCapacity};

@@ -1,0 +1,118 @@
+//! Pointers into an arena: an index, and a generation that tells whose index it was.
+ghost use Rattle.std.specs.Prelude.{◌≡◌, ◌==◌, ◌+◌, ◌<◌, ◌≤◌, ◌^◌, ◌↔◌, ◌&&◌, ℕ, Bool, Option, Some, None, IsTrue, IsSome, IfSome, refl};
+ghost use Rattle.arena_base.specs.Generation.{invalid_generation, first_generation, next_generation, overflows_after, IsLawfulGeneration};
+ghost use Rattle.arena_base.specs.Pointer.{index_number};
+
+use std::fmt::Debug;
+use std::hash::Hash;
+
+mod numbers;
+mod pointers;
+
+pub use pointers::{P0, P8, PN, Q0};
+
+/// The index part of a pointer.
+///
+/// Index 0 names nothing, and neither does the greatest index: entries have the indexes from 1 to `limit()`.
+pub trait PtrInx: Copy + Eq + Ord + Hash + Debug {
+    // the index as a number
+    ghost number: { Self → ℕ };
+
+    // the greatest index that an entry may have
+    ghost most: { ℕ };
+
+    /// The index as a number; `None` for 0.
+    fn try_into_usize(self) -> Option<usize>
+        ensures { result ≡ index_number (number self) };
+
+    /// The index with this number; `None` for 0 and beyond `limit()`.
+    fn try_from_usize(n: usize) -> Option<Self>
+        ensures variant { IsSome result ↔ (0 < n × n ≤ most) }
+        ensures value { IfSome result (λ i. number i ≡ n) };
+
+    /// The greatest index that an entry may have, one less than the greatest of the type.
+    fn limit() -> usize
+        ensures { result ≡ most };
+
+    // indexes with one number are one index
+    ghost one_each: { (i j : Self) → number i ≡ number j → i ≡ j };
+
+    // `==` compares the numbers
+    ghost eq_is: { (i j : Self) → Self.PartialEq.eq i j ≡ (number i == number j) };
+
+    // a position after that of the greatest index still has a number
+    ghost fits: { most + 1 < 2 ^ 64 };
+}
+
+/// The generation part of a pointer.
+///
+/// Generation 0 is unused and 1 belongs to invalid pointers: entries have the generations from `two()` on. After the greatest
+/// comes `two()` again. The type `()` has one generation, which never changes.
+pub trait PtrGen: Copy + Eq + Debug {
+    // the generation as a number, 0 for `()`
+    ghost number: { Self → ℕ };
+
+    // the greatest generation of a type of numbers
+    ghost greatest: { Option ℕ };
+
+    /// The generation of invalid pointers.
+    fn one() -> Self
+        ensures { number result ≡ invalid_generation greatest };
+
+    /// The generation of a fresh arena.
+    fn two() -> Self
+        ensures value { number result ≡ first_generation greatest }
+        ensures lawful { IsLawfulGeneration greatest (number result) };
+
+    /// The next generation, and whether it begins again at `two()`.
+    fn generational_inc(self) -> (Self, bool)
+        requires { IsLawfulGeneration greatest (number self) }
+        ensures next { number result.0 ≡ next_generation greatest (number self) }
+        ensures lawful { IsLawfulGeneration greatest (number result.0) }
+        ensures overflow { result.1 ≡ overflows_after greatest (number self) };
+
+    /// Whether an entry or an arena may have this generation: false for 0 and 1.
+    fn is_lawful(self) -> bool
+        ensures { IsTrue result ↔ IsLawfulGeneration greatest (number self) };
+
+    // generations with one number are one generation
+    ghost one_each: { (g h : Self) → number g ≡ number h → g ≡ h };
+
+    // `==` compares the numbers
+    ghost eq_is: { (g h : Self) → Self.PartialEq.eq g h ≡ (number g == number h) };
+}
+
+/// A pointer to an entry of an arena: the entry's index, and the generation that the entry has.
+pub trait Ptr: Copy + Eq + Ord + Hash + Debug {
+    type Inx: PtrInx;
+
+    type Gen: PtrGen;
+
+    // the number of its index
+    ghost index: { Self → ℕ };
+
+    // the number of its generation
+    ghost era: { Self → ℕ };
+
+    fn inx(self) -> Self::Inx
+        ensures { Self.Inx.number result ≡ index self };
+
+    fn generation(self) -> Self::Gen
+        ensures { Self.Gen.number result ≡ era self };
+
+    /// A pointer that names no entry of any arena.
+    fn invalid() -> Self
+        ensures index { index result ≡ Self.Inx.most + 1 }
+        ensures era { era result ≡ invalid_generation Self.Gen.greatest };
+
+    #[doc(hidden)]
+    fn _from_raw(inx: Self::Inx, generation: Self::Gen) -> Self
+        ensures index { index result ≡ Self.Inx.number inx }
+        ensures era { era result ≡ Self.Gen.number generation };
+
+    // pointers with the same numbers are one pointer
+    ghost one_each: { (p q : Self) → index p ≡ index q → era p ≡ era q → p ≡ q };
+
+    // `==` compares both numbers
+    ghost eq_is: { (p q : Self) → Self.PartialEq.eq p q ≡ ((index p == index q) && (era p == era q)) };
+}

@@ -1,0 +1,223 @@
+//! The pointer types.
+ghost use Rattle.std.specs.Prelude.{refl};
+ghost use Rattle.std.proofs.Common.{ap, ◌∙◌};
+
+use super::Ptr;
+use crate::recast::{Recast, Recaster};
+use std::fmt;
+
+/// The usual pointer: more than four thousand million indexes, and generations that never run out.
+#[derive(Clone, Copy, PartialEq, Eq, PartialOrd, Ord, Hash)]
+pub struct P0 {
+    inx: u32,
+    generation: u64,
+}
+
+impl Ptr for P0 {
+    type Inx = u32;
+
+    type Gen = u64;
+
+    ghost index = { λ p. p.inx };
+
+    ghost era = { λ p. p.generation };
+
+    ghost one_each = { λ p q i g. ap (λ a. record p { inx = a }) i ∙ ap (λ b. record q { generation = b }) g };
+
+    ghost eq_is = { λ p q. refl };
+
+    fn inx(self) -> u32 {
+        self.inx
+    }
+
+    fn generation(self) -> u64 {
+        self.generation
+    }
+
+    fn invalid() -> P0 {
+        P0 {
+            inx: u32::MAX,
+            generation: 1,
+        }
+    }
+
+    fn _from_raw(inx: u32, generation: u64) -> P0 {
+        P0 { inx, generation }
+    }
+}
+
+impl fmt::Debug for P0 {
+    fn fmt<W: fmt::Write>(&self, f: &mut fmt::Formatter<W>) -> fmt::Result {
+        write!(f, "P0[{}]({})", self.inx, self.generation)
+    }
+}
+
+impl Recast<P0> for P0 {
+    ghost recast_gives = { λ gives old result new. gives old result new };
+
+    fn recast<R: Recaster<Item = P0>>(&mut self, recaster: &R) -> Result<(), P0> {
+        recaster.recast_item(self)
+    }
+}
+
+/// A second pointer type like [`P0`], for a second arena: neither is taken for the other.
+#[derive(Clone, Copy, PartialEq, Eq, PartialOrd, Ord, Hash)]
+pub struct Q0 {
+    inx: u32,
+    generation: u64,
+}
+
+impl Ptr for Q0 {
+    type Inx = u32;
+
+    type Gen = u64;
+
+    ghost index = { λ p. p.inx };
+
+    ghost era = { λ p. p.generation };
+
+    ghost one_each = { λ p q i g. ap (λ a. record p { inx = a }) i ∙ ap (λ b. record q { generation = b }) g };
+
+    ghost eq_is = { λ p q. refl };
+
+    fn inx(self) -> u32 {
+        self.inx
+    }
+
+    fn generation(self) -> u64 {
+        self.generation
+    }
+
+    fn invalid() -> Q0 {
+        Q0 {
+            inx: u32::MAX,
+            generation: 1,
+        }
+    }
+
+    fn _from_raw(inx: u32, generation: u64) -> Q0 {
+        Q0 { inx, generation }
+    }
+}
+
+impl fmt::Debug for Q0 {
+    fn fmt<W: fmt::Write>(&self, f: &mut fmt::Formatter<W>) -> fmt::Result {
+        write!(f, "Q0[{}]({})", self.inx, self.generation)
+    }
+}
+
+impl Recast<Q0> for Q0 {
+    ghost recast_gives = { λ gives old result new. gives old result new };
+
+    fn recast<R: Recaster<Item = Q0>>(&mut self, recaster: &R) -> Result<(), Q0> {
+        recaster.recast_item(self)
+    }
+}
+
+/// A pointer of two bytes, for small arenas. Its generations run out after 254 removals.
+#[derive(Clone, Copy, PartialEq, Eq, PartialOrd, Ord, Hash)]
+pub struct P8 {
+    inx: u8,
+    generation: u8,
+}
+
+impl Ptr for P8 {
+    type Inx = u8;
+
+    type Gen = u8;
+
+    ghost index = { λ p. p.inx };
+
+    ghost era = { λ p. p.generation };
+
+    ghost one_each = { λ p q i g. ap (λ a. record p { inx = a }) i ∙ ap (λ b. record q { generation = b }) g };
+
+    ghost eq_is = { λ p q. refl };
+
+    fn inx(self) -> u8 {
+        self.inx
+    }
+
+    fn generation(self) -> u8 {
+        self.generation
+    }
+
+    fn invalid() -> P8 {
+        P8 {
+            inx: u8::MAX,
+            generation: 1,
+        }
+    }
+
+    fn _from_raw(inx: u8, generation: u8) -> P8 {
+        P8 { inx, generation }
+    }
+}
+
+impl fmt::Debug for P8 {
+    fn fmt<W: fmt::Write>(&self, f: &mut fmt::Formatter<W>) -> fmt::Result {
+        write!(f, "P8[{}]({})", self.inx, self.generation)
+    }
+}
+
+impl Recast<P8> for P8 {
+    ghost recast_gives = { λ gives old result new. gives old result new };
+
+    fn recast<R: Recaster<Item = P8>>(&mut self, recaster: &R) -> Result<(), P8> {
+        recaster.recast_item(self)
+    }
+}
+
+/// A pointer without a generation: it names whatever entry is at its index.
+#[derive(Clone, Copy, PartialEq, Eq, PartialOrd, Ord, Hash)]
+pub struct PN {
+    inx: u32,
+    generation: (),
+}
+
+impl Ptr for PN {
+    type Inx = u32;
+
+    type Gen = ();
+
+    ghost index = { λ p. p.inx };
+
+    ghost era = { λ p. 0 };
+
+    ghost one_each = { λ p q i g. ap (λ a. record p { inx = a }) i };
+
+    ghost eq_is = { λ p q. refl };
+
+    fn inx(self) -> u32 {
+        self.inx
+    }
+
+    fn generation(self) -> () {
+        self.generation
+    }
+
+    fn invalid() -> PN {
+        PN {
+            inx: u32::MAX,
+            generation: (),
+        }
+    }
+
+    fn _from_raw(inx: u32, generation: ()) -> PN {
+        PN { inx, generation }
+    }
+}
+
+impl fmt::Debug for PN {
+    fn fmt<W: fmt::Write>(&self, f: &mut fmt::Formatter<W>) -> fmt::Result {
+        write!(f, "PN[{}](())", self.inx)
+    }
+}
+
+impl Recast<PN> for PN {
+    ghost recast_gives = { λ gives old result new. gives old result new };
+
+    fn recast<R: Recaster<Item = PN>>(&mut self, recaster: &R) -> Result<(), PN> {
+        recaster.recast_item(self)
+    }
+}

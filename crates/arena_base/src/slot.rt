@@ -1,0 +1,70 @@
+//! One slot of an arena.
+ghost use Rattle.std.specs.Prelude.{◌≡◌, IsSome, Some};
+ghost use Rattle.std.specs.Option.{option_map};
+ghost use Rattle.std.specs.Borrow.{sem, Lends};
+
+use std::mem::{replace, size_of};
+
+/// An entry with its generation, or nothing. The item comes first, where a search reads it.
+#[doc(hidden)]
+#[derive(Drop)]
+pub enum Slot<T, G> {
+    Occupied(T, G),
+    Vacant,
+}
+
+// An item and a generation of a word each make a slot of three.
+const _: () = prove!(size_of::<Slot<u64, u64>>() <= 24);
+
+impl<T, G> Slot<T, G> {
+    ghost use Rattle.arena_base.specs.Slot.{slot_entry, with_slot_item, with_era};
+    ghost use Rattle.arena_base.specs.contracts.slot.Slot.{the_row};
+
+    // Takes the entry out, with its generation.
+    pub(crate) fn take(&mut self) -> (G, T)
+        requires { IsSome (slot_entry self.old) }
+        ensures value { slot_entry self.old ≡ Some result }
+        ensures after { self.new ≡ Slot.Vacant }
+    {
+        match replace(self, Slot::Vacant) {
+            Slot::Occupied(item, generation) => (generation, item),
+            Slot::Vacant => unreachable!(),
+        }
+    }
+
+    // The item of the entry, to be written.
+    pub(crate) fn item_mut(&mut self) -> &mut T
+        requires { IsSome (slot_entry self.old) }
+        ensures* writes_back { sem 𝓛 (Lends (the_row T.row G.row) T.row self.entry result (with_slot_item self.old)) }
+        ensures value { option_map (λ e. e.1) (slot_entry self.old) ≡ Some result.now }
+    {
+        match self {
+            Slot::Occupied(item, _) => item,
+            Slot::Vacant => unreachable!(),
+        }
+    }
+
+    // The entry's generation.
+    pub(crate) fn generation(&self) -> G
+    where
+        G: Copy,
+        requires { IsSome (slot_entry self.now) }
+        ensures { option_map (λ e. e.0) (slot_entry self.now) ≡ Some result }
+    {
+        match self {
+            Slot::Occupied(_, generation) => *generation,
+            Slot::Vacant => unreachable!(),
+        }
+    }
+
+    // Gives the entry another generation.
+    pub(crate) fn renew(&mut self, generation: G)
+    where
+        G: Copy,
+        ensures { self.new ≡ with_era self.old generation }
+    {
+        if let Slot::Occupied(_, old) = self {
+            *old = generation;
+        }
+    }
+}

@@ -1,0 +1,148 @@
+//! `ArenaTrait`: what every arena is, as a finite map from pointers to items with at most one pointer for an index.
+ghost use Rattle.std.specs.Prelude.{◌≡◌, ◌==◌, ◌<◌, ◌↔◌, ℕ, Some, None, max, is_some, IsSome, IsNone, IsOk, IsErr, IfOk, OnOk, OnErr, IfSome, IfNone, OnSome};
+ghost use Rattle.std.specs.Option.{option_copied, option_copied_mut, option_map};
+ghost use Rattle.std.specs.Borrow.{sem, Lends, LendsIf};
+ghost use Rattle.arena_base.specs.Arena.{Arena as Content, HoldsSame, slot, item_of, arena_len, arena_capacity, arena_limit, new_arena, with_capacity, with_item, without, renewed, cleared, greatest_occupied, IsOccupied, IsFirstEntry, IsLastEntry};
+ghost use Rattle.arena_base.specs.Generation.{next_generation, overflows_after};
+ghost use Rattle.arena_base.specs.Invalidation.{valid_value, has_overflowed, is_overflow};
+
+use crate::error::{MaxCapacityReductionError, ReallocationError};
+use crate::invalidation::{InvalidationOption, InvalidationResult};
+use crate::ptr::{Ptr, PtrGen, PtrInx};
+use std::alloc::{AllocError, Allocator};
+
+/// The calls that all arenas have.
+pub trait ArenaTrait<P: Ptr, T> {
+    /// The handle that the arena's memory comes from.
+    type Alloc: Allocator + Copy;
+
+    // what the arena holds; the order in which vacant slots are taken is not told
+    ghost content: { Self → Content T };
+
+    // the arena with another item in the entry at an index
+    ghost written: { Self → ℕ → T → Self };
+
+    /// An empty arena, which takes no memory until it grows.
+    fn new(alloc: Self::Alloc) -> Self
+        ensures { HoldsSame (content result) (new_arena P.Gen.greatest) };
+
+    /// An empty arena with room for `n` entries.
+    fn with_min_capacity(alloc: Self::Alloc, n: usize) -> Result<Self, AllocError>
+    where
+        Self: Sized,
+        T: Drop,
+        ensures ok { IfOk result (λ a. HoldsSame (content a) (with_capacity (new_arena P.Gen.greatest) n)) }
+        ensures beyond { P.Inx.most < n → IsErr result };
+
+    /// How many entries there is room for.
+    fn capacity(&self) -> usize
+        ensures { result ≡ arena_capacity (content self.now) };
+
+    /// The maximum of the capacity, where one is set.
+    fn max_capacity(&self) -> Option<usize>
+        ensures { result ≡ (content self.now).maximum };
+
+    /// How many entries there are.
+    fn len(&self) -> usize
+        ensures { result ≡ arena_len (content self.now) };
+
+    fn is_empty(&self) -> bool
+        ensures { result ≡ (arena_len (content self.now) == 0) };
+
+    /// Makes the capacity the greater of `n` and the greatest index with an entry. A refusal changes nothing.
+    fn reallocate_min_capacity(&mut self, n: usize) -> Result<(), ReallocationError>
+        ensures ok { OnOk result (HoldsSame (content self.new) (with_capacity (content self.old) (max n (greatest_occupied (content self.old).slots)))) }
+        ensures beyond { (result ≡ Err ReallocationError.BeyondMaxCapacity) ↔ (arena_limit P.Inx.most (content self.old) < n) }
+        ensures memory { result ≡ Err ReallocationError.AllocError → arena_capacity (content self.old) < n }
+        ensures err { OnErr result (HoldsSame (content self.new) (content self.old)) };
+
+    /// Whether the pointer is a key of the map.
+    fn contains(&self, p: P) -> bool
+        ensures { result ≡ is_some (item_of (content self.now) (P.index p) (P.era p)) };
+
+    /// Whether there is an entry at the index.
+    fn contains_inx(&self, i: P::Inx) -> bool
+        ensures { result ≡ is_some (slot (content self.now) (P.Inx.number i)) };
+
+    /// The generation of the next entry, where all entries share one count of generations.
+    fn singular_generation(&self) -> Option<P::Gen>
+        ensures { option_map P.Gen.number result ≡ Some (content self.now).generation };
+
+    /// The item that the pointer names.
+    fn get(&self, p: P) -> Option<&T>
+        ensures { option_copied result ≡ item_of (content self.now) (P.index p) (P.era p) };
+
+    /// The item that the pointer names, to be written.
+    fn get_mut(&mut self, p: P) -> Option<&mut T>
+        ensures* writes_back { sem 𝓛 (LendsIf Self.row T.row self.entry result (written self.old (P.index p)) self.old) }
+        ensures value { option_copied_mut result ≡ item_of (content self.old) (P.index p) (P.era p) };
+
+    /// Generation and item of the entry at the index.
+    fn get_inx(&self, i: P::Inx) -> Option<(P::Gen, &T)>
+        ensures { option_map (λ e. (P.Gen.number e.0, e.1.now)) result ≡ slot (content self.now) (P.Inx.number i) };
+
+    /// Generation and item of the entry at the index; the item may be written.
+    fn get_inx_mut(&mut self, i: P::Inx) -> Option<(P::Gen, &mut T)>
+        ensures { option_map (λ e. (P.Gen.number e.0, e.1.now)) result ≡ slot (content self.old) (P.Inx.number i) };
+
+    /// Generation and item of the entry at an index that has one; the item may be written.
+    fn pair_mut(&mut self, i: P::Inx) -> (P::Gen, &mut T)
+        requires { IsOccupied (content self.old) (P.Inx.number i) }
+        ensures* writes_back { sem 𝓛 (Lends Self.row T.row self.entry result.1 (written self.old (P.Inx.number i))) }
+        ensures value { slot (content self.old) (P.Inx.number i) ≡ Some (P.Gen.number result.0, result.1.now) };
+
+    /// The pointer of the entry with the least index.
+    fn find_first_inx_ptr(&self) -> Option<P>
+        ensures first { IfSome result (λ p. IsFirstEntry (content self.now) (P.index p) (P.era p)) }
+        ensures empty { IsNone result ↔ (arena_len (content self.now) ≡ 0) };
+
+    /// The pointer of the entry with the greatest index.
+    fn find_last_inx_ptr(&self) -> Option<P>
+        ensures last { IfSome result (λ p. IsLastEntry (content self.now) (P.index p) (P.era p)) }
+        ensures empty { IsNone result ↔ (arena_len (content self.now) ≡ 0) };
+
+    /// Gives the entry that the pointer names a new pointer, at the same index and with the raised generation.
+    fn invalidate(&mut self, p: P) -> InvalidationResult<P>
+        ensures valid { is_some (valid_value result) ≡ is_some (item_of (content self.old) (P.index p) (P.era p)) }
+        ensures index { IfSome (valid_value result) (λ q. P.index q ≡ P.index p) }
+        ensures era { IfSome (valid_value result) (λ q. P.era q ≡ next_generation P.Gen.greatest (content self.old).generation) }
+        ensures overflow { OnSome (valid_value result) (has_overflowed result ≡ overflows_after P.Gen.greatest (content self.old).generation) }
+        ensures renewed { OnSome (valid_value result) (HoldsSame (content self.new) (renewed P.Gen.greatest (content self.old) (P.index p))) }
+        ensures invalid { IfNone (valid_value result) (HoldsSame (content self.new) (content self.old)) };
+
+    /// Takes the entry out that the pointer names, and raises the generation.
+    fn remove(&mut self, p: P) -> InvalidationResult<T>
+        ensures value { valid_value result ≡ item_of (content self.old) (P.index p) (P.era p) }
+        ensures overflow { OnSome (valid_value result) (has_overflowed result ≡ overflows_after P.Gen.greatest (content self.old).generation) }
+        ensures removed { OnSome (valid_value result) (HoldsSame (content self.new) (without P.Gen.greatest (content self.old) (P.index p))) }
+        ensures invalid { IfNone (valid_value result) (HoldsSame (content self.new) (content self.old)) };
+
+    /// Takes the entry at the index out, with its generation, and raises the arena's.
+    fn remove_inx(&mut self, i: P::Inx) -> InvalidationResult<(P::Gen, T)>
+        ensures value { option_map (λ e. (P.Gen.number e.0, e.1)) (valid_value result) ≡ slot (content self.old) (P.Inx.number i) }
+        ensures overflow { OnSome (valid_value result) (has_overflowed result ≡ overflows_after P.Gen.greatest (content self.old).generation) }
+        ensures removed { OnSome (valid_value result) (HoldsSame (content self.new) (without P.Gen.greatest (content self.old) (P.Inx.number i))) }
+        ensures invalid { IfNone (valid_value result) (HoldsSame (content self.new) (content self.old)) };
+
+    /// Drops all entries, and raises the generation once.
+    fn clear(&mut self) -> InvalidationOption<()>
+    where
+        T: Drop,
+        ensures after { HoldsSame (content self.new) (cleared P.Gen.greatest (content self.old)) }
+        ensures overflow { is_overflow result ≡ overflows_after P.Gen.greatest (content self.old).generation };
+
+    // a written item is the map's
+    ghost written_content: { (s : Self) (i : ℕ) (item : T) → content (written s i item) ≡ with_item (content s) i item };
+}
+
+/// Marks arenas whose entries lie in the slots that their indexes name.
+pub trait CompactArenaTrait {}
+
+/// Arenas whose capacity can be given a maximum.
+pub trait SetMaxCapacity<P: Ptr, T>: ArenaTrait<P, T> {
+    /// Sets a maximum of the capacity. It is refused, and nothing changes, where the capacity is already greater.
+    fn set_max_capacity(&mut self, n: usize) -> Result<(), MaxCapacityReductionError>
+        ensures ok { OnOk result (HoldsSame (Self.content self.new) (record (Self.content self.old) { maximum = Some n })) }
+        ensures refused { IsErr result ↔ (n < arena_capacity (Self.content self.old)) }
+        ensures err { OnErr result (HoldsSame (Self.content self.new) (Self.content self.old)) };
+}

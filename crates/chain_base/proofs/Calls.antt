@@ -1,0 +1,225 @@
+-- What the calls of a chain arena owe: from what the arena's calls ensure to the step on the list.
+use Rattle.std.proofs.Common.{◌≡◌, ◌≢◌, ℕ, zero, suc, ◌+◌, ◌-◌, ◌<◌, ◌≤◌, Bool, true, false, List, [], ◌∷◌, ◌++◌, length, Option, Some, None, IsSome, is_some, refl, sym, ap, subst, ◌∙◌, arith, if◌then◌else◌, inl, inr, ◌⊎◌, get_or, max, OnSome, IfNone, IfSome, Result, Ok, Err, OnOk, OnErr, slice_get, length-set}
+use Rattle.std.proofs.lemmas.Bool.Decides.{eqb_tells}
+use Rattle.std.specs.Option.{option_map}
+use Rattle.arena_base.specs.Arena.{Arena, slot, with_entry_at, arena_capacity, limit_of, new_arena, with_capacity as arena_with_capacity, with_room as arena_with_room, without as arena_without, renewed as arena_renewed, greatest_occupied, IsSound as IsSoundArena, IsInsertion as IsArenaInsertion}
+use Rattle.chain_base.specs.Link.{Link, neighbour_of}
+use Rattle.chain_base.specs.Chain.{Entry, Chain, times, first_or, last_or, link_at, new_chain, with_capacity, with_room, grown_capacity, greatest_index, renewed}
+use Rattle.chain_base.specs.Insert.{IsInsertion, IsPlace}
+use Rattle.chain_base.specs.Layout.{chain_of, linked_next, linked_prev, IsLaidOut}
+use Rattle.chain_base.proofs.Lists.{times-append, times-here, times-last, times-first, times-unlinked, other_index, Stands, Stands-occurs}
+use Rattle.chain_base.proofs.LaidOut.{slot-filled, slot-emptied, slot-within, slot-laid_out}
+use Rattle.chain_base.proofs.Vacancy.{below-greatest, greatest-links}
+use Rattle.chain_base.proofs.Sound.{occupied-within}
+use Rattle.chain_base.proofs.Steps.{next-first, occurs-held, Inserts, Inserts-joined, Rooms, Rooms-roomed, Removes, Removes-joined, Renews-at, IsLaidOut-walked, IsLaidOut-resized, chain_of-resized}
+
+-- an index within reach names a neighbour
+pub neighbour_of-within : (most : ℕ) (o : Option ℕ) → ((k : ℕ) → o ≡ Some k → k ≤ most) → neighbour_of most o ≡ o
+neighbour_of-within most None within = refl
+neighbour_of-within most (Some k) within =
+    let far : k ≢ most + 1 = λ same. omega (arith, within k refl) in
+    rw (other_index k (most + 1) far) refl
+
+-- a limit is within what pointers can name
+limit_of-most : (most : ℕ) (maximum : Option ℕ) → limit_of most maximum ≤ most
+limit_of-most most None = omega arith
+limit_of-most most (Some m) = omega arith
+
+-- a fact that is owed where a value is there
+pub on_some : {A B : Type 0} {P : Type 0} (f : A → B) (o : Option A) (p : Option B) (x : B) → option_map f o ≡ p → p ≡ Some x → OnSome o P → P
+on_some f None p x same is fact = absurd (let none = same ∙ is in cc)
+on_some f (Some a) p x same is fact = fact
+
+pub owed : {A : Type 0} (o : Option A) (P : Type 0) → P → OnSome o P
+owed None P fact = tt
+owed (Some x) P fact = fact
+
+-- a fact of a value, where another follows from it
+pub if_some-map : {A : Type 0} (o : Option A) (P Q : A → Type 0) → ((x : A) → P x → Q x) → IfSome o P → IfSome o Q
+if_some-map None P Q follows fact = tt
+if_some-map (Some x) P Q follows fact = follows x fact
+
+module _ {T : Type 0} where
+  -- an index that occurs in the list has a slot that holds something
+  held-occurs : (a : Arena (Link T)) (es : List (Entry T)) (k : ℕ) (o : Option (ℕ × Link T)) → slot a k ≡ o → slot a k ≡ link_at es k → 1 ≤ times k es → IsSome o
+  held-occurs a es k None held links occurs = absurd (omega (arith, times-unlinked None None es k (sym links ∙ held)))
+  held-occurs a es k (Some e) held links occurs = refl
+
+  -- what was held is held after an insertion
+  held-inserted : (a a1 : Arena (Link T)) (link : Link T) (j g : ℕ) → IsArenaInsertion a a1 link j g → (k : ℕ) → IsSome (slot a k) → IsSome (slot a1 k)
+  held-inserted a a1 link j g ins k held =
+      let head = next-first a.vacant j ins.next in
+      let within : j < length a.slots = omega (arith, ins.vacant.within, ins.vacant.above) in
+      let after : a1 ≡ with_entry_at a (j ∷ head.0) link = ins.after ∙ ap (λ is. with_entry_at a is link) head.1 in
+      rw (after, slot-filled a j k (a.generation, link) within) (elim (eqb_tells j k) [ inl h ↦ rw h.0 refl | inr h ↦ rw h.0 held ])
+
+  module _ (a : Arena (Link T)) (first last : Option ℕ) (laid : IsLaidOut a.slots first last (chain_of a first).entries) where
+    -- the neighbours of a place occur in the list
+    prev-occurs : (place : Entry T → List (Entry T)) (prev next : Option ℕ) → IsPlace (chain_of a first).entries place prev next → (k : ℕ) → prev ≡ Some k → 1 ≤ times k (chain_of a first).entries
+    prev-occurs place prev next at k is =
+        let there = times-last at.front k (sym at.prev_is ∙ is) in
+        rw at.split (omega (arith, times-append k at.front at.back, there))
+
+    next-occurs : (place : Entry T → List (Entry T)) (prev next : Option ℕ) → IsPlace (chain_of a first).entries place prev next → (k : ℕ) → next ≡ Some k → 1 ≤ times k (chain_of a first).entries
+    next-occurs place prev next at k is =
+        let there = times-first at.back k (sym at.next_is ∙ is) in
+        rw at.split (omega (arith, times-append k at.front at.back, there))
+
+    -- the neighbours of a place have entries after an insertion too
+    pub prev-held : (a1 : Arena (Link T)) (link : Link T) (j g : ℕ) (place : Entry T → List (Entry T)) (prev next : Option ℕ) → IsPlace (chain_of a first).entries place prev next → IsArenaInsertion a a1 link j g → (k : ℕ) → prev ≡ Some k → IsSome (slot a1 k)
+    prev-held a1 link j g place prev next at ins k is =
+        held-inserted a a1 link j g ins k (held-occurs a (chain_of a first).entries k _ refl (laid.links k) (prev-occurs place prev next at k is))
+
+    pub next-held : (a1 : Arena (Link T)) (link : Link T) (j g : ℕ) (place : Entry T → List (Entry T)) (prev next : Option ℕ) → IsPlace (chain_of a first).entries place prev next → IsArenaInsertion a a1 link j g → (k : ℕ) → next ≡ Some k → IsSome (slot a1 k)
+    next-held a1 link j g place prev next at ins k is =
+        held-inserted a a1 link j g ins k (held-occurs a (chain_of a first).entries k _ refl (laid.links k) (next-occurs place prev next at k is))
+
+    -- an index of the list is within reach where the arena after an insertion is sound
+    within-most : (most : ℕ) (greatest : Option ℕ) (a1 : Arena (Link T)) (link : Link T) (j g : ℕ) → IsArenaInsertion a a1 link j g → IsSoundArena most greatest a1 → arena_capacity a ≤ most
+    within-most most greatest a1 link j g ins sound =
+        let head = next-first a.vacant j ins.next in
+        let after : a1 ≡ with_entry_at a (j ∷ head.0) link = ins.after ∙ ap (λ is. with_entry_at a is link) head.1 in
+        let size : arena_capacity a1 ≡ arena_capacity a = ap arena_capacity after ∙ ap (λ n. n - 1) (length-set a.slots j _) in
+        omega (arith, sound.within_limit, limit_of-most most a1.maximum)
+
+    -- an insertion, from what the arena's insertion and the writes of links ensure
+    pub Inserts-linked : (most : ℕ) (greatest : Option ℕ) (a1 b : Arena (Link T)) (first2 last2 : Option ℕ) (place : Entry T → List (Entry T)) (prev next : Option ℕ) (link : Link T) (item : T) (j g : ℕ) → IsPlace (chain_of a first).entries place prev next → link.item ≡ item → link.prev ≡ neighbour_of most prev → link.next ≡ neighbour_of most next → IsArenaInsertion a a1 link j g → IsSoundArena most greatest a1 → b ≡ linked_prev (linked_next a1 prev (neighbour_of most (Some j))) next (neighbour_of most (Some j)) → first2 ≡ (if is_some prev then first else Some j) → last2 ≡ (if is_some next then last else Some j) → Inserts a b first first2 last2 place item j g
+    Inserts-linked most greatest a1 b first2 last2 place prev next link item j g at item_is prev_is next_is ins sound joined first_is last_is =
+        let room = within-most most greatest a1 link j g ins sound in
+        let es = (chain_of a first).entries in
+        let named_prev : neighbour_of most prev ≡ prev = neighbour_of-within most prev (λ k is. omega (arith, occupied-within a es k _ refl (laid.links k) (prev-occurs place prev next at k is))) in
+        let named_next : neighbour_of most next ≡ next = neighbour_of-within most next (λ k is. omega (arith, occupied-within a es k _ refl (laid.links k) (next-occurs place prev next at k is))) in
+        let named_new : neighbour_of most (Some j) ≡ Some j = neighbour_of-within most (Some j) (λ k is. let same : j ≡ k = cc in omega (arith, ins.vacant.within)) in
+        let whole : link ≡ record { item = item; prev = prev; next = next } = rw (← item_is, ← named_prev, ← named_next, ← prev_is, ← next_is) refl in
+        let ins2 = subst (λ (l : Link T). IsArenaInsertion a a1 l j g) whole ins in
+        rw (joined, first_is, last_is, named_new) (Inserts-joined a a1 first last place prev next item j g laid at ins2)
+
+    -- the writes of links after a removal find their entries
+    module _ (greatest : Option ℕ) (i : ℕ) (e : ℕ × Link T) (held : slot a i ≡ Some e) where
+      -- an entry beside the one that is taken out has its slot still
+      beside-held : (k : ℕ) → i ≢ k → 1 ≤ times k (chain_of a first).entries → IsSome (slot (arena_without greatest a i) k)
+      beside-held k other occurs =
+          let there = held-occurs a (chain_of a first).entries k _ refl (laid.links k) occurs in
+          rw (slot-emptied a i k (slot-within a i e held), other_index i k other) there
+
+      stretches : Stands (chain_of a first).entries i → (k : ℕ) → ((e.1.prev ≡ Some k) ⊎ (e.1.next ≡ Some k)) → (i ≢ k) × (1 ≤ times k (chain_of a first).entries)
+      stretches s k named =
+          let laid2 = subst (λ (xs : List (Entry T)). IsLaidOut a.slots first last xs) s.split laid in
+          let found : slot a i ≡ Some (s.entry.generation, record { item = s.entry.item; prev = last_or None s.front; next = first_or None s.back }) =
+          ap (slot a) (sym s.here) ∙ slot-laid_out a first last s.front s.entry s.back laid2 in
+          let same : e ≡ (s.entry.generation, record { item = s.entry.item; prev = last_or None s.front; next = first_or None s.back }) = cc in
+          let once = laid2.distinct k in
+          let count = times-append k s.front (s.entry ∷ s.back) in
+          let whole : times k (chain_of a first).entries ≡ times k (s.front ++ s.entry ∷ s.back) = ap (times k) s.split in
+          elim named [
+            | inl p ↦
+                let there = times-last s.front k (sym (ap (λ x. x.1.prev) same) ∙ p) in
+                (λ is. omega (arith, times-here k s.entry s.back (s.here ∙ is)), omega arith)
+            | inr n ↦
+                let there = times-first s.back k (sym (ap (λ x. x.1.next) same) ∙ n) in
+                (λ is. omega (arith, times-here k s.entry s.back (s.here ∙ is)), omega arith)
+          ]
+
+      pub left-held : (k : ℕ) → e.1.prev ≡ Some k → IsSome (slot (arena_without greatest a i) k)
+      left-held k is =
+          let s = stretches (Stands-occurs (chain_of a first).entries i (occurs-held a (chain_of a first).entries i e held (laid.links i))) k (inl is) in
+          beside-held k s.0 s.1
+
+      pub right-held : (k : ℕ) → e.1.next ≡ Some k → IsSome (slot (arena_without greatest a i) k)
+      right-held k is =
+          let s = stretches (Stands-occurs (chain_of a first).entries i (occurs-held a (chain_of a first).entries i e held (laid.links i))) k (inr is) in
+          beside-held k s.0 s.1
+
+      -- a removal, from what the arena's removal and the writes of links ensure
+      pub Removes-linked : (most : ℕ) (a1 b : Arena (Link T)) (first2 last2 prev next : Option ℕ) → prev ≡ e.1.prev → next ≡ e.1.next → neighbour_of most e.1.prev ≡ e.1.prev → neighbour_of most e.1.next ≡ e.1.next → a1 ≡ arena_without greatest a i → b ≡ linked_prev (linked_next a1 prev (neighbour_of most next)) next (neighbour_of most prev) → first2 ≡ (if is_some prev then first else next) → last2 ≡ (if is_some next then last else prev) → Removes greatest a b first first2 last2 i
+      Removes-linked most a1 b first2 last2 prev next prev_is next_is named_prev named_next without joined first_is last_is =
+          rw (joined, first_is, last_is, without, prev_is, next_is, named_prev, named_next) (Removes-joined greatest a first last i e laid held)
+
+    -- a call that renews an entry, or changes nothing
+    pub renewed-or_kept : {X : Type 0} (greatest : Option ℕ) (b : Arena (Link T)) (i : ℕ) (o : Option X) → OnSome o (b ≡ arena_renewed greatest a i) → IfNone o (b ≡ a) → IsLaidOut b.slots first last (chain_of b first).entries
+    renewed-or_kept greatest b i None renews keeps = rw keeps laid
+    renewed-or_kept greatest b i (Some x) renews keeps = rw renews (Renews-at greatest a first last i laid).laid
+
+    pub renewed-chain : {X : Type 0} (greatest : Option ℕ) (b : Arena (Link T)) (i : ℕ) (o : Option X) → OnSome o (b ≡ arena_renewed greatest a i) → OnSome o (chain_of b first ≡ renewed greatest (chain_of a first) i)
+    renewed-chain greatest b i None renews = tt
+    renewed-chain greatest b i (Some x) renews = rw renews (Renews-at greatest a first last i laid).chain
+
+    -- beyond the greatest index all slots are vacant
+    beyond-greatest : (n k : ℕ) (o : Option (ℕ × Link T)) → slot a k ≡ o → max n (greatest_occupied a.slots) < k → slot a k ≡ None
+    beyond-greatest n k None held far = held
+    beyond-greatest n k (Some e) held far = absurd (omega (arith, below-greatest a.slots k e held))
+
+    -- a call that makes the capacity n or what is needed, or changes nothing
+    pub resized-or_kept : {X E : Type 0} (b : Arena (Link T)) (n : ℕ) (r : Result X E) → OnOk r (b ≡ arena_with_capacity a (max n (greatest_occupied a.slots))) → OnErr r (b ≡ a) → IsLaidOut b.slots first last (chain_of b first).entries
+    resized-or_kept b n (Err e) ok err = rw err laid
+    resized-or_kept b n (Ok x) ok err =
+        let size = max n (greatest_occupied a.slots) in
+        rw ok (IsLaidOut-walked (arena_with_capacity a size) first last _ (IsLaidOut-resized a first last _ size (λ k far. beyond-greatest n k _ refl far) laid))
+
+    pub resized-chain : {X E : Type 0} (b : Arena (Link T)) (n : ℕ) (r : Result X E) → OnOk r (b ≡ arena_with_capacity a (max n (greatest_occupied a.slots))) → OnOk r (chain_of b first ≡ with_capacity (chain_of a first) (max n (greatest_index (chain_of a first).entries)))
+    resized-chain b n (Err e) ok = tt
+    resized-chain b n (Ok x) ok =
+        let size = max n (greatest_occupied a.slots) in
+        let same : size ≡ max n (greatest_index (chain_of a first).entries) = ap (max n) (greatest-links a.slots (chain_of a first).entries laid.links) in
+        rw ok (chain_of-resized a first last size (λ k far. beyond-greatest n k _ refl far) laid ∙ ap (with_capacity (chain_of a first)) same)
+
+  -- what an insertion into a chain that grew first says of the chain as it was
+  with_room-entries : (most : ℕ) (c : Chain T) → (with_room most c).entries ≡ c.entries
+  with_room-entries most c = chosen (is_some (slice_get c.vacant 0))
+    where
+      chosen : (b : Bool) → (if b then c else with_capacity c (grown_capacity most c)).entries ≡ c.entries
+      chosen true = refl
+      chosen false = refl
+
+  -- what the arena made room for, before the insertion
+  module _ (most : ℕ) (a : Arena (Link T)) (first last : Option ℕ) (laid : IsLaidOut a.slots first last (chain_of a first).entries) (a1 : Arena (Link T)) (link : Link T) (j g : ℕ) (room : arena_capacity a ≤ arena_capacity a1) (ins : IsArenaInsertion (arena_with_room most a) a1 link j g) where
+    roomy : arena_capacity a ≤ arena_capacity (arena_with_room most a)
+    roomy =
+        let before : Arena (Link T) = arena_with_room most a in
+        let head = next-first before.vacant j ins.next in
+        let after : a1 ≡ with_entry_at before (j ∷ head.0) link = ins.after ∙ ap (λ is. with_entry_at before is link) head.1 in
+        let size : arena_capacity a1 ≡ arena_capacity before = ap arena_capacity after ∙ ap (λ n. n - 1) (length-set before.slots j _) in
+        omega arith
+
+    rooms : Rooms a (arena_with_room most a) (with_room most (chain_of a first)) first last
+    rooms = Rooms-roomed most a first last roomy laid
+
+    same-entries : (chain_of a first).entries ≡ (chain_of (arena_with_room most a) first).entries
+    same-entries = sym (ap (λ c. c.entries) rooms.chain ∙ with_room-entries most (chain_of a first))
+
+    module _ (place : Entry T → List (Entry T)) (prev next : Option ℕ) (at : IsPlace (chain_of a first).entries place prev next) where
+      at-roomed : IsPlace (chain_of (arena_with_room most a) first).entries place prev next
+      at-roomed = subst (λ (es : List (Entry T)). IsPlace es place prev next) same-entries at
+
+      pub prev-held_roomed : (k : ℕ) → prev ≡ Some k → IsSome (slot a1 k)
+      prev-held_roomed k is = prev-held (arena_with_room most a) first last rooms.laid a1 link j g place prev next at-roomed ins k is
+
+      pub next-held_roomed : (k : ℕ) → next ≡ Some k → IsSome (slot a1 k)
+      next-held_roomed k is = next-held (arena_with_room most a) first last rooms.laid a1 link j g place prev next at-roomed ins k is
+
+      pub Inserts-roomed : (greatest : Option ℕ) (b : Arena (Link T)) (first2 last2 : Option ℕ) (item : T) → link.item ≡ item → link.prev ≡ neighbour_of most prev → link.next ≡ neighbour_of most next → IsSoundArena most greatest a1 → b ≡ linked_prev (linked_next a1 prev (neighbour_of most (Some j))) next (neighbour_of most (Some j)) → first2 ≡ (if is_some prev then first else Some j) → last2 ≡ (if is_some next then last else Some j) → Inserts (arena_with_room most a) b first first2 last2 place item j g
+      Inserts-roomed greatest b first2 last2 item item_is prev_is next_is sound joined first_is last_is =
+          Inserts-linked (arena_with_room most a) first last rooms.laid most greatest a1 b first2 last2 place prev next link item j g at-roomed item_is prev_is next_is ins sound joined first_is last_is
+
+      pub IsInsertion-roomed : (b : Arena (Link T)) (first2 last2 : Option ℕ) (item : T) → Inserts (arena_with_room most a) b first first2 last2 place item j g → IsInsertion (with_room most (chain_of a first)) (chain_of b first2) place item j g
+      IsInsertion-roomed b first2 last2 item inserts = subst (λ (c : Chain T). IsInsertion c (chain_of b first2) place item j g) rooms.chain inserts.insertion
+
+  -- an arena without entries
+  new-laid_out : (greatest : Option ℕ) → IsLaidOut {T = T} (new_arena greatest).slots None None []
+  new-laid_out greatest = record { links = vacant; distinct = λ i. omega arith; first_is = refl; last_is = refl; counted = refl }
+    where
+      vacant : (i : ℕ) → get_or {A = Option (ℕ × Link T)} (None ∷ []) i None ≡ link_at {T = T} [] i
+      vacant zero = refl
+      vacant (suc i) = refl
+
+  new-vacant : (greatest : Option ℕ) (n k : ℕ) → n < k → slot {T = Link T} (new_arena greatest) k ≡ None
+  new-vacant greatest n zero far = refl
+  new-vacant greatest n (suc k) far = refl
+
+  pub made-laid_out : (greatest : Option ℕ) (a : Arena (Link T)) (n : ℕ) → a ≡ arena_with_capacity (new_arena greatest) n → IsLaidOut a.slots None None (chain_of a None).entries
+  made-laid_out greatest a n made =
+      rw made (IsLaidOut-walked (arena_with_capacity (new_arena greatest) n) None None [] (IsLaidOut-resized (new_arena greatest) None None [] n (new-vacant greatest n) (new-laid_out greatest)))
+
+  pub made-chain : (greatest : Option ℕ) (a : Arena (Link T)) (n : ℕ) → a ≡ arena_with_capacity (new_arena greatest) n → chain_of a None ≡ with_capacity (new_chain greatest) n
+  made-chain greatest a n made =
+      rw made (chain_of-resized (new_arena greatest) None None n (new-vacant greatest n) (IsLaidOut-walked (new_arena greatest) None None [] (new-laid_out greatest)))

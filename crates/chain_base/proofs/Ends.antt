@@ -1,0 +1,125 @@
+-- What the calls that look up an entry find, read off the list.
+use Rattle.std.proofs.Common.{◌≡◌, ℕ, ◌≤◌, List, [], ◌∷◌, Option, Some, None, IsSome, is_some, refl, sym, ◌∙◌, arith, inl, inr}
+use Rattle.std.proofs.lemmas.Bool.Decides.{eqb_tells}
+use Rattle.std.specs.Option.{option_map}
+use Rattle.arena_base.specs.Arena.{Arena, slot, item_if, item_of as slot_item, IsFirstEntry, IsLastEntry}
+use Rattle.chain_base.specs.Link.{Link}
+use Rattle.chain_base.specs.Chain.{Entry, times, entry_at, link_at, first_or, last_or, first_pointer, last_pointer, pointed, item_of, generation_at, IsFirstIndex, IsLastIndex}
+use Rattle.chain_base.specs.Layout.{chain_of, IsLaidOut}
+use Rattle.chain_base.proofs.Lists.{times-here, times-there, times-last, times-unlinked, entry_at-link, same_index}
+
+-- an option is there where what it is mapped to is there
+pub some-of : {A B : Type 0} (f : A → B) (o : Option A) (p : Option B) → option_map f o ≡ p → IsSome p → IsSome o
+some-of f None p same some = rw (← same) at some
+some-of f (Some x) p same some = refl
+
+module _ {T : Type 0} where
+  -- the pointer to the first index is the first pointer
+  pub pointed-first : (es : List (Entry T)) (i : ℕ) → first_or None es ≡ Some i → pointed i (entry_at es i) ≡ first_pointer es
+  pointed-first [] i first = absurd (cc)
+  pointed-first (e ∷ es) i first =
+      let same : e.index ≡ i = cc in
+      rw (← same, same_index e.index) refl
+
+  pub first_pointer-none : (es : List (Entry T)) → first_or None es ≡ None → first_pointer es ≡ None
+  first_pointer-none [] none = refl
+  first_pointer-none (e ∷ es) none = absurd (cc)
+
+  -- the pointer to the last index is the last pointer
+  pub pointed-last : (es : List (Entry T)) (i : ℕ) → times i es ≤ 1 → last_or None es ≡ Some i → pointed i (entry_at es i) ≡ last_pointer es
+  pointed-last [] i once last = absurd (cc)
+  pointed-last (e ∷ []) i once last =
+      let same : e.index ≡ i = cc in
+      rw (← same, same_index e.index) refl
+  pointed-last (e ∷ f ∷ es) i once last =
+      elim (eqb_tells e.index i) [
+        | inl h ↦ absurd (omega (arith, times-here i e (f ∷ es) h.1, times-last (f ∷ es) i last))
+        | inr h ↦ rw h.0 (pointed-last (f ∷ es) i (omega (arith, times-there i e (f ∷ es) h.1)) last)
+      ]
+
+  pub last_pointer-none : (es : List (Entry T)) → last_or None es ≡ None → last_pointer es ≡ None
+  last_pointer-none [] none = refl
+  last_pointer-none (e ∷ []) none = absurd (cc)
+  last_pointer-none (e ∷ f ∷ es) none = last_pointer-none (f ∷ es) none
+
+  -- the item of a pointer is that of the link in its slot
+  item_if-link : (g : ℕ) (o : Option (ℕ × Link T)) → item_if g (option_map (λ e. (e.0, e.1.item)) o) ≡ option_map (λ l. l.item) (item_if g o)
+  item_if-link g None = refl
+  item_if-link g (Some e) = elim (eqb_tells e.0 g) [ inl h ↦ rw h.0 refl | inr h ↦ rw h.0 refl ]
+
+  pub item_of-link : (es : List (Entry T)) (i g : ℕ) (o : Option (ℕ × Link T)) → o ≡ link_at es i → item_of es i g ≡ option_map (λ l. l.item) (item_if g o)
+  item_of-link es i g o links = rw (entry_at-link None None es i, ← links) (item_if-link g o)
+
+  -- an entry's generation is that of its slot
+  pub generation_at-link : (es : List (Entry T)) (i : ℕ) (o : Option (ℕ × Link T)) → o ≡ link_at es i → generation_at es i ≡ option_map (λ e. e.0) o
+  generation_at-link es i o links = rw (entry_at-link None None es i, ← links) (mapped o)
+    where
+      mapped : (o : Option (ℕ × Link T)) → option_map {T = ℕ × T} (λ e. e.0) (option_map (λ e. (e.0, e.1.item)) o) ≡ option_map (λ e. e.0) o
+      mapped None = refl
+      mapped (Some e) = refl
+
+  pub IsFirstIndex-slot : (a : Arena (Link T)) (es : List (Entry T)) (i g : ℕ) → ((k : ℕ) → slot a k ≡ link_at es k) → IsFirstEntry a i g → IsFirstIndex es i g
+  IsFirstIndex-slot a es i g links first =
+      record {
+        entry = generation_at-link es i (slot a i) (links i) ∙ first.entry;
+        least = λ k below. times-unlinked None None es k (sym (links k) ∙ first.least k below);
+      }
+
+  pub IsLastIndex-slot : (a : Arena (Link T)) (es : List (Entry T)) (i g : ℕ) → ((k : ℕ) → slot a k ≡ link_at es k) → IsLastEntry a i g → IsLastIndex es i g
+  IsLastIndex-slot a es i g links last =
+      record {
+        entry = generation_at-link es i (slot a i) (links i) ∙ last.entry;
+        greatest = λ k above. times-unlinked None None es k (sym (links k) ∙ last.greatest k above);
+      }
+
+  -- What the slots of an arena say of the chain that lies in it.
+  module _ (a : Arena (Link T)) (first last : Option ℕ) (laid : IsLaidOut a.slots first last (chain_of a first).entries) where
+    pub link_at-laid_out : (i : ℕ) → link_at (chain_of a first).entries i ≡ slot a i
+    link_at-laid_out i = sym (laid.links i)
+
+    pub entry_at-laid_out : (i : ℕ) → entry_at (chain_of a first).entries i ≡ option_map (λ e. (e.0, e.1.item)) (slot a i)
+    entry_at-laid_out i = rw (entry_at-link None None (chain_of a first).entries i, link_at-laid_out i) refl
+
+    pub item_of-laid_out : (i g : ℕ) → item_of (chain_of a first).entries i g ≡ option_map (λ l. l.item) (slot_item a i g)
+    item_of-laid_out i g = item_of-link (chain_of a first).entries i g (slot a i) (laid.links i)
+
+    pub contains-laid_out : (i g : ℕ) → is_some (slot_item a i g) ≡ is_some (item_of (chain_of a first).entries i g)
+    contains-laid_out i g = rw (item_of-laid_out i g) (mapped (slot_item a i g))
+      where
+        mapped : (o : Option (Link T)) → is_some o ≡ is_some (option_map (λ l. l.item) o)
+        mapped None = refl
+        mapped (Some l) = refl
+
+    -- an occupied index of the chain has a link in its slot
+    pub occupied-laid_out : (i : ℕ) → IsSome (entry_at (chain_of a first).entries i) → IsSome (slot a i)
+    occupied-laid_out i some = mapped (slot a i) (rw (entry_at-laid_out i) at some)
+      where
+        mapped : (o : Option (ℕ × Link T)) → IsSome {T = ℕ × T} (option_map (λ e. (e.0, e.1.item)) o) → IsSome o
+        mapped None some = some
+        mapped (Some e) some = some
+
+  -- what a look-up answers, read off what the arena answered
+  pub item-found : (o : Option (Link T)) (l : Link T) (item : T) → Some l ≡ o → item ≡ l.item → Some item ≡ option_map (λ l. l.item) o
+  item-found o l item found same = rw (← found, same) refl
+
+  pub item-missing : (o : Option (Link T)) → None ≡ o → None ≡ option_map (λ l. l.item) o
+  item-missing o missing = rw (← missing) refl
+
+  pub entry-found : (o : Option (ℕ × Link T)) (g : ℕ) (l : Link T) (item : T) → ◌≡◌ {A = Option (ℕ × Link T)} (Some (g, l)) o → item ≡ l.item → ◌≡◌ {A = Option (ℕ × T)} (Some (g, item)) (option_map (λ e. (e.0, e.1.item)) o)
+  entry-found o g l item found same = rw (← found, same) refl
+
+  pub entry-missing : (o : Option (ℕ × Link T)) → None ≡ o → None ≡ option_map {U = ℕ × T} (λ e. (e.0, e.1.item)) o
+  entry-missing o missing = rw (← missing) refl
+
+  pub pointed-found : (o : Option (ℕ × Link T)) (i g : ℕ) (l : Link T) → ◌≡◌ {A = Option (ℕ × Link T)} (Some (g, l)) o → ◌≡◌ {A = Option (ℕ × ℕ)} (Some (i, g)) (pointed i (option_map {U = ℕ × T} (λ e. (e.0, e.1.item)) o))
+  pointed-found o i g l found = rw (← found) refl
+
+  pub pointed-missing : (o : Option (ℕ × Link T)) (i : ℕ) → None ≡ o → None ≡ pointed i (option_map {U = ℕ × T} (λ e. (e.0, e.1.item)) o)
+  pointed-missing o i missing = rw (← missing) refl
+
+  -- the pointer to the last index of a chain that lies in an arena
+  pub last-found : (a : Arena (Link T)) (first last : Option ℕ) (i : ℕ) → IsLaidOut a.slots first last (chain_of a first).entries → last ≡ Some i → pointed i (entry_at (chain_of a first).entries i) ≡ last_pointer (chain_of a first).entries
+  last-found a first last i laid is = pointed-last (chain_of a first).entries i (laid.distinct i) (sym laid.last_is ∙ is)
+
+  pub last-missing : (a : Arena (Link T)) (first last : Option ℕ) → IsLaidOut a.slots first last (chain_of a first).entries → last ≡ None → None ≡ last_pointer (chain_of a first).entries
+  last-missing a first last laid is = sym (last_pointer-none (chain_of a first).entries (sym laid.last_is ∙ is))

@@ -1,0 +1,230 @@
+-- How each step of a chain keeps its list laid out in the arena.
+use Rattle.std.proofs.Common.{◌≡◌, ◌≢◌, ℕ, ◌+◌, ◌<◌, ◌≤◌, ◌==◌, false, List, ◌∷◌, ◌++◌, length, Option, Some, None, is_some, count_by, cond, refl, sym, ap, ◌∙◌, arith, if◌then◌else◌, inl, inr, get_or, set, length-append, length-set}
+use Rattle.std.proofs.lemmas.List.{get_or-set_same, get_or-set_other, get_or_past, set-get_or}
+use Rattle.std.proofs.lemmas.List.Sums.{sum_by-set, count_by-le-length}
+use Rattle.std.proofs.lemmas.Bool.Decides.{eqb_tells, leb_tells}
+use Rattle.std.specs.Option.{option_map}
+use Rattle.arena_base.specs.Arena.{Arena, slot, with_slot, with_entry_at, arena_len, without as arena_without}
+use Rattle.chain_base.specs.Link.{Link}
+use Rattle.chain_base.specs.Chain.{Entry, times, first_or, last_or, link_at, with_item, with_generation}
+use Rattle.chain_base.specs.Layout.{walk, names, with_next, with_prev, linked_next, linked_prev, relinked, IsLaidOut}
+use Rattle.chain_base.proofs.Lists.{names_tells, same_index, times-append, times-inserted, times-here, times-there, times-last, times-first, first_or-append, last_or-append, link_between-append, link_between-absent, times-unlinked, seam-relinked, IsRow-links, walk-row, link_between-with_item, times-with_item, first_or-with_item, last_or-with_item, length-with_item, link_between-with_generation, times-with_generation, first_or-with_generation, last_or-with_generation, length-with_generation}
+
+module _ {T : Type 0} where
+  -- a slot beside one that is written stays
+  pub slot-with_other : (a : Arena (Link T)) (i k : ℕ) (s : Option (ℕ × Link T)) → i ≢ k → slot (with_slot a i s) k ≡ slot a k
+  slot-with_other a i k s other = get_or-set_other a.slots i k s None (λ same. other (sym same))
+
+  -- a slot that is written holds what was written
+  pub slot-with_same : (a : Arena (Link T)) (i : ℕ) (s : Option (ℕ × Link T)) → i < length a.slots → slot (with_slot a i s) i ≡ s
+  slot-with_same a i s within = get_or-set_same a.slots i s None within
+
+  -- a slot whose content is mapped holds the mapped content
+  slot-mapped_same : (a : Arena (Link T)) (i : ℕ) (f : ℕ × Link T → ℕ × Link T) → slot (with_slot a i (option_map f (slot a i))) i ≡ option_map f (slot a i)
+  slot-mapped_same a i f =
+      elim (leb_tells (length a.slots) i) [
+        | inl h ↦
+            let past : slot a i ≡ None = get_or_past a.slots i None h.1 in
+            rw past (get_or_past (set a.slots i None) i None (omega (arith, length-set a.slots i None)))
+        | inr h ↦ slot-with_same a i _ h.1
+      ]
+
+  -- what the slots hold once one is filled
+  pub slot-filled : (a : Arena (Link T)) (j k : ℕ) (e : ℕ × Link T) → j < length a.slots → slot (with_slot a j (Some e)) k ≡ (if j == k then Some e else slot a k)
+  slot-filled a j k e within =
+      elim (eqb_tells j k) [
+        | inl h ↦ rw (h.0, ← h.1) (slot-with_same a j (Some e) within)
+        | inr h ↦ rw h.0 (slot-with_other a j k _ h.1)
+      ]
+
+  -- what the slots hold once one is emptied
+  pub slot-emptied : (a : Arena (Link T)) (j k : ℕ) → j < length a.slots → slot (with_slot a j None) k ≡ (if j == k then None else slot a k)
+  slot-emptied a j k within =
+      elim (eqb_tells j k) [
+        | inl h ↦ rw (h.0, ← h.1) (slot-with_same a j None within)
+        | inr h ↦ rw h.0 (slot-with_other a j k _ h.1)
+      ]
+
+  -- a map of what a slot holds
+  pub slot-mapped : (a : Arena (Link T)) (i k : ℕ) (f : ℕ × Link T → ℕ × Link T) → slot (with_slot a i (option_map f (slot a i))) k ≡ (if i == k then option_map f (slot a k) else slot a k)
+  slot-mapped a i k f =
+      elim (eqb_tells i k) [
+        | inl h ↦ rw (h.0, ← h.1) (slot-mapped_same a i f)
+        | inr h ↦ rw h.0 (slot-with_other a i k _ h.1)
+      ]
+
+  pub slot-linked_next : (a : Arena (Link T)) (at next : Option ℕ) (k : ℕ) → slot (linked_next a at next) k ≡ (if names at k then option_map (with_next next) (slot a k) else slot a k)
+  slot-linked_next a None next k = refl
+  slot-linked_next a (Some i) next k = slot-mapped a i k (with_next next)
+
+  pub slot-linked_prev : (a : Arena (Link T)) (at prev : Option ℕ) (k : ℕ) → slot (linked_prev a at prev) k ≡ (if names at k then option_map (with_prev prev) (slot a k) else slot a k)
+  slot-linked_prev a None prev k = refl
+  slot-linked_prev a (Some i) prev k = slot-mapped a i k (with_prev prev)
+
+  -- what the slots hold after both writes of a seam
+  pub slot-relinked : (a : Arena (Link T)) (left next right prev : Option ℕ) (k : ℕ) → slot (linked_prev (linked_next a left next) right prev) k ≡ relinked left next right prev k (slot a k)
+  slot-relinked a left next right prev k =
+      rw (slot-linked_prev (linked_next a left next) right prev k, slot-linked_next a left next k) refl
+
+  -- the walk from the first index meets just the entries
+  pub walk-laid_out : (a : Arena (Link T)) (first last : Option ℕ) (es : List (Entry T)) → IsLaidOut a.slots first last es → walk (slot a) (length a.slots) first ≡ es
+  walk-laid_out a first last es laid =
+      let row = IsRow-links (slot a) None es laid.distinct (λ i there. laid.links i) in
+      let fits : length es ≤ length a.slots = omega (arith, count_by-le-length is_some a.slots, laid.counted) in
+      rw laid.first_is (walk-row (slot a) None es (length a.slots) fits row)
+
+  -- an index whose slot is vacant stands nowhere in the list
+  pub times-vacant : (a : Arena (Link T)) (first last : Option ℕ) (es : List (Entry T)) (i : ℕ) → IsLaidOut a.slots first last es → slot a i ≡ None → times i es ≡ 0
+  times-vacant a first last es i laid vacant = times-unlinked None None es i (sym (laid.links i) ∙ vacant)
+
+  -- an index that does not stand in a stretch is neither its last nor its first
+  unnamed_last : (xs : List (Entry T)) (i : ℕ) → times i xs ≡ 0 → names (last_or None xs) i ≡ false
+  unnamed_last xs i absent = elim (names_tells (last_or None xs) i) [ inl h ↦ absurd (omega (arith, times-last xs i h.1)) | inr h ↦ h.0 ]
+
+  unnamed_first : (ys : List (Entry T)) (i : ℕ) → times i ys ≡ 0 → names (first_or None ys) i ≡ false
+  unnamed_first ys i absent = elim (names_tells (first_or None ys) i) [ inl h ↦ absurd (omega (arith, times-first ys i h.1)) | inr h ↦ h.0 ]
+
+  -- the two writes of a seam change nothing at an index that stands on neither side
+  relinked-apart : (xs ys : List (Entry T)) (next prev : Option ℕ) (i : ℕ) (o : Option (ℕ × Link T)) → times i xs ≡ 0 → times i ys ≡ 0 → relinked (last_or None xs) next (first_or None ys) prev i o ≡ o
+  relinked-apart xs ys next prev i o apart_left apart_right = rw (unnamed_last xs i apart_left, unnamed_first ys i apart_right) refl
+
+  -- a map of what one slot holds keeps the number of entries
+  arena_len-mapped : (a : Arena (Link T)) (i : ℕ) (f : ℕ × Link T → ℕ × Link T) → arena_len (with_slot a i (option_map f (slot a i))) ≡ arena_len a
+  arena_len-mapped a i f =
+      elim (leb_tells (length a.slots) i) [
+        | inl h ↦
+            let past : slot a i ≡ None = get_or_past a.slots i None h.1 in
+            let same : set a.slots i None ≡ a.slots = ap (set a.slots i) (sym past) ∙ set-get_or a.slots i None in
+            rw (past, same) refl
+        | inr h ↦ count-mapped a.slots i f (slot a i) h.1 refl
+      ]
+    where
+      count-mapped : (xs : List (Option (ℕ × Link T))) (i : ℕ) (f : ℕ × Link T → ℕ × Link T) (o : Option (ℕ × Link T)) → i < length xs → get_or xs i None ≡ o → count_by is_some (set xs i (option_map f o)) ≡ count_by is_some xs
+      count-mapped xs i f None within read = let moved = rw read at (sum_by-set (λ x. cond (is_some x) 1 0) xs i None None within) in omega arith
+      count-mapped xs i f (Some e) within read = let moved = rw read at (sum_by-set (λ x. cond (is_some x) 1 0) xs i (Some (f e)) None within) in omega arith
+
+  arena_len-linked_next : (a : Arena (Link T)) (at next : Option ℕ) → arena_len (linked_next a at next) ≡ arena_len a
+  arena_len-linked_next a None next = refl
+  arena_len-linked_next a (Some i) next = arena_len-mapped a i (with_next next)
+
+  arena_len-linked_prev : (a : Arena (Link T)) (at prev : Option ℕ) → arena_len (linked_prev a at prev) ≡ arena_len a
+  arena_len-linked_prev a None prev = refl
+  arena_len-linked_prev a (Some i) prev = arena_len-mapped a i (with_prev prev)
+
+  -- a vacant slot that is filled makes one entry more
+  arena_len-filled : (a : Arena (Link T)) (i : ℕ) (e : ℕ × Link T) → i < length a.slots → slot a i ≡ None → arena_len (with_slot a i (Some e)) ≡ arena_len a + 1
+  arena_len-filled a i e within vacant = let moved = rw vacant at (sum_by-set (λ x. cond (is_some x) 1 0) a.slots i (Some e) None within) in omega arith
+
+  -- an entry that is taken out makes one entry less
+  arena_len-emptied : (a : Arena (Link T)) (i : ℕ) (e : ℕ × Link T) → i < length a.slots → slot a i ≡ Some e → arena_len (with_slot a i None) + 1 ≡ arena_len a
+  arena_len-emptied a i e within held = let moved = rw held at (sum_by-set (λ x. cond (is_some x) 1 0) a.slots i None None within) in omega arith
+
+  -- the arena of a chain after an insertion between two neighbours
+  abbrev pub joined : Arena (Link T) → ℕ → List (Entry T) → List (Entry T) → Arena (Link T)
+  joined a j xs ys = linked_prev (linked_next a (last_or None xs) (Some j)) (first_or None ys) (Some j)
+
+  -- what the slots hold after an insertion between two stretches
+  slots-inserted : (xs ys : List (Entry T)) (new : Entry T) (k : ℕ) (o : Option (ℕ × Link T)) → times new.index xs ≡ 0 → times new.index ys ≡ 0 → times k xs + times k ys ≤ 1 → o ≡ link_at (xs ++ ys) k → relinked (last_or None xs) (Some new.index) (first_or None ys) (Some new.index) k (if new.index == k then Some (new.generation, record { item = new.item; prev = last_or None xs; next = first_or None ys }) else o) ≡ link_at (xs ++ new ∷ ys) k
+  slots-inserted xs ys new k o left right once was =
+      rw (link_between-append None None xs (new ∷ ys) k)
+      (elim (eqb_tells new.index k) [
+        | inl h ↦
+            let left_k : times k xs ≡ 0 = rw (← h.1) left in
+            let right_k : times k ys ≡ 0 = rw (← h.1) right in
+            rw (h.0, link_between-absent None (Some new.index) xs k left_k) (relinked-apart xs ys (Some new.index) (Some new.index) k _ left_k right_k)
+        | inr h ↦
+            rw (h.0, was, link_between-append None None xs ys k) (sym (seam-relinked xs ys (first_or None ys) (last_or None xs) (Some new.index) (Some new.index) k once))
+      ])
+
+  -- a new entry between two stretches of the list
+  pub IsLaidOut-inserted : (a : Arena (Link T)) (first last : Option ℕ) (xs ys : List (Entry T)) (j : ℕ) (rest : List ℕ) (item : T) → IsLaidOut a.slots first last (xs ++ ys) → slot a j ≡ None → j < length a.slots → IsLaidOut (joined (with_entry_at a (j ∷ rest) (record { item = item; prev = last_or None xs; next = first_or None ys })) j xs ys).slots (first_or (Some j) xs) (last_or (Some j) ys) (xs ++ record { index = j; generation = a.generation; item = item } ∷ ys)
+  IsLaidOut-inserted a first last xs ys j rest item laid vacant within =
+      let new : Entry T = record { index = j; generation = a.generation; item = item } in
+      let link : Link T = record { item = item; prev = last_or None xs; next = first_or None ys } in
+      let a1 : Arena (Link T) = with_entry_at a (j ∷ rest) link in
+      let absent : times j (xs ++ ys) ≡ 0 = times-vacant a first last (xs ++ ys) j laid vacant in
+      let parts : times j xs + times j ys ≡ 0 = sym (times-append j xs ys) ∙ absent in
+      record {
+        links = λ k. slot-relinked a1 (last_or None xs) (Some j) (first_or None ys) (Some j) k
+            ∙ ap (relinked (last_or None xs) (Some j) (first_or None ys) (Some j) k) (slot-filled a j k (a.generation, link) within)
+            ∙ slots-inserted xs ys new k (slot a k) (omega arith) (omega arith) (omega (arith, times-append k xs ys, laid.distinct k)) (laid.links k);
+        distinct = λ k. times-inserted k xs new ys absent (laid.distinct k);
+        first_is = sym (first_or-append None xs (new ∷ ys));
+        last_is = sym (last_or-append None xs (new ∷ ys));
+        counted =
+            arena_len-linked_prev (linked_next a1 (last_or None xs) (Some j)) (first_or None ys) (Some j)
+            ∙ arena_len-linked_next a1 (last_or None xs) (Some j)
+            ∙ arena_len-filled a j (a.generation, link) within vacant
+            ∙ omega (arith, laid.counted, length-append xs (new ∷ ys), length-append xs ys);
+      }
+
+  -- what the slots hold after the entry between two stretches is taken out
+  slots-removed : (xs : List (Entry T)) (e : Entry T) (ys : List (Entry T)) (k : ℕ) (o : Option (ℕ × Link T)) → times k (xs ++ e ∷ ys) ≤ 1 → o ≡ link_at (xs ++ e ∷ ys) k → relinked (last_or None xs) (first_or None ys) (first_or None ys) (last_or None xs) k (if e.index == k then None else o) ≡ link_at (xs ++ ys) k
+  slots-removed xs e ys k o once was =
+      rw (link_between-append None None xs ys k)
+      (elim (eqb_tells e.index k) [
+        | inl h ↦
+            let parts : times k xs + times k ys ≡ 0 = omega (arith, times-append k xs (e ∷ ys), times-here k e ys h.1) in
+            let left_k : times k xs ≡ 0 = omega arith in
+            let right_k : times k ys ≡ 0 = omega arith in
+            rw (h.0, link_between-absent None (first_or None ys) xs k left_k, link_between-absent (last_or None xs) None ys k right_k) (relinked-apart xs ys (first_or None ys) (last_or None xs) k None left_k right_k)
+        | inr h ↦
+            let parts : times k xs + times k ys ≤ 1 = omega (arith, times-append k xs (e ∷ ys), times-there k e ys h.1) in
+            rw (h.0, was, link_between-append None None xs (e ∷ ys) k, h.0) (sym (seam-relinked xs ys (Some e.index) (Some e.index) (first_or None ys) (last_or None xs) k parts))
+      ])
+
+  -- an entry stands in its slot
+  pub slot-laid_out : (a : Arena (Link T)) (first last : Option ℕ) (xs : List (Entry T)) (e : Entry T) (ys : List (Entry T)) → IsLaidOut a.slots first last (xs ++ e ∷ ys) → slot a e.index ≡ Some (e.generation, record { item = e.item; prev = last_or None xs; next = first_or None ys })
+  slot-laid_out a first last xs e ys laid =
+      let once = laid.distinct e.index in
+      let gone : times e.index xs ≡ 0 = omega (arith, times-append e.index xs (e ∷ ys), times-here e.index e ys refl) in
+      laid.links e.index ∙ rw (link_between-append None None xs (e ∷ ys) e.index, link_between-absent None (Some e.index) xs e.index gone, same_index e.index) refl
+
+  -- a slot that holds something is within the arena
+  pub slot-within : (a : Arena (Link T)) (i : ℕ) (e : ℕ × Link T) → slot a i ≡ Some e → i < length a.slots
+  slot-within a i e held =
+      elim (leb_tells (length a.slots) i) [
+        | inl h ↦ absurd (let past : slot a i ≡ None = get_or_past a.slots i None h.1 in cc)
+        | inr h ↦ h.1
+      ]
+
+  -- the entry between two stretches of the list is taken out
+  pub IsLaidOut-removed : (greatest : Option ℕ) (a : Arena (Link T)) (first last : Option ℕ) (xs : List (Entry T)) (e : Entry T) (ys : List (Entry T)) → IsLaidOut a.slots first last (xs ++ e ∷ ys) → IsLaidOut (linked_prev (linked_next (arena_without greatest a e.index) (last_or None xs) (first_or None ys)) (first_or None ys) (last_or None xs)).slots (first_or (first_or None ys) xs) (last_or (last_or None xs) ys) (xs ++ ys)
+  IsLaidOut-removed greatest a first last xs e ys laid =
+      let held = slot-laid_out a first last xs e ys laid in
+      let within = slot-within a e.index _ held in
+      let a1 : Arena (Link T) = arena_without greatest a e.index in
+      record {
+        links = λ k. slot-relinked a1 (last_or None xs) (first_or None ys) (first_or None ys) (last_or None xs) k
+            ∙ ap (relinked (last_or None xs) (first_or None ys) (first_or None ys) (last_or None xs) k) (slot-emptied a e.index k within)
+            ∙ slots-removed xs e ys k (slot a k) (laid.distinct k) (laid.links k);
+        distinct = λ k. omega (arith, times-append k xs ys, times-append k xs (e ∷ ys), laid.distinct k);
+        first_is = sym (first_or-append None xs ys);
+        last_is = sym (last_or-append None xs ys);
+        counted =
+            let less = arena_len-emptied a e.index _ within held in
+            let same = arena_len-linked_prev (linked_next a1 (last_or None xs) (first_or None ys)) (first_or None ys) (last_or None xs) ∙ arena_len-linked_next a1 (last_or None xs) (first_or None ys) in
+            same ∙ omega (arith, laid.counted, length-append xs (e ∷ ys), length-append xs ys);
+      }
+
+  -- an item is written
+  pub IsLaidOut-with_item : (a : Arena (Link T)) (first last : Option ℕ) (es : List (Entry T)) (i : ℕ) (item : T) → IsLaidOut a.slots first last es → IsLaidOut (with_slot a i (option_map (λ e. (e.0, record e.1 { item = item })) (slot a i))).slots first last (with_item es i item)
+  IsLaidOut-with_item a first last es i item laid =
+      record {
+        links = λ k. slot-mapped a i k _ ∙ rw (laid.links k) (sym (link_between-with_item None None es i item k));
+        distinct = λ k. omega (arith, times-with_item k es i item, laid.distinct k);
+        first_is = laid.first_is ∙ sym (first_or-with_item None es i item);
+        last_is = laid.last_is ∙ sym (last_or-with_item None es i item);
+        counted = arena_len-mapped a i _ ∙ laid.counted ∙ sym (length-with_item es i item);
+      }
+
+  -- an entry gets another generation
+  pub IsLaidOut-with_generation : (a : Arena (Link T)) (first last : Option ℕ) (es : List (Entry T)) (i g : ℕ) → IsLaidOut a.slots first last es → IsLaidOut (with_slot a i (option_map (λ e. (g, e.1)) (slot a i))).slots first last (with_generation es i g)
+  IsLaidOut-with_generation a first last es i g laid =
+      record {
+        links = λ k. slot-mapped a i k _ ∙ rw (laid.links k) (sym (link_between-with_generation None None es i g k));
+        distinct = λ k. omega (arith, times-with_generation k es i g, laid.distinct k);
+        first_is = laid.first_is ∙ sym (first_or-with_generation None es i g);
+        last_is = laid.last_is ∙ sym (last_or-with_generation None es i g);
+        counted = arena_len-mapped a i _ ∙ laid.counted ∙ sym (length-with_generation es i g);
+      }

@@ -1,0 +1,9 @@
+pub mod Lists
+pub mod LaidOut
+pub mod Vacancy
+pub mod Sound
+pub mod Steps
+pub mod Ends
+pub mod Places
+pub mod Calls
+pub mod Going

@@ -1,0 +1,318 @@
+-- Lists of entries: where an index stands, and what an insertion or a removal there does to the links.
+use Rattle.std.proofs.Common.{◌≡◌, ◌≢◌, ℕ, zero, suc, ◌+◌, ◌≤◌, ◌==◌, Bool, true, false, List, [], ◌∷◌, ◌++◌, length, Option, Some, None, refl, sym, ap, ◌∙◌, arith, if◌then◌else◌, inl, inr, ◌⊎◌}
+use Rattle.std.proofs.lemmas.Bool.Decides.{nat_tests, eqb_tells}
+use Rattle.std.specs.Option.{option_or, option_map}
+use Rattle.chain_base.specs.Link.{Link}
+use Rattle.chain_base.specs.Layout.{walk, names, with_next, with_prev, relinked}
+use Rattle.chain_base.specs.Chain.{Entry, times, entry_at, first_or, last_or, link_between, insert_after, insert_before, without, with_item, with_generation}
+
+-- a choice in the first of two options
+pub option_or-if : {A : Type 0} (b : Bool) (x : A) (o p : Option A) → option_or (if b then Some x else o) p ≡ (if b then Some x else option_or o p)
+option_or-if true x o p = refl
+option_or-if false x o p = refl
+
+pub option_or-none : {A : Type 0} (o : Option A) → option_or o None ≡ o
+option_or-none None = refl
+option_or-none (Some x) = refl
+
+pub names_tells : (o : Option ℕ) (i : ℕ) → ((names o i ≡ true) × (o ≡ Some i)) ⊎ ((names o i ≡ false) × (o ≢ Some i))
+names_tells None i = inr (refl, λ h. cc)
+names_tells (Some j) i =
+    elim (eqb_tells j i) [ inl h ↦ inl (h.0, ap Some h.1) | inr h ↦ inr (h.0, λ same. h.1 (let e : j ≡ i = cc in e)) ]
+
+-- an index is itself
+pub same_index : (i : ℕ) → (i == i) ≡ true
+same_index i = elim (eqb_tells i i) [ inl h ↦ h.0 | inr h ↦ absurd (h.1 refl) ]
+
+pub other_index : (i j : ℕ) → i ≢ j → (i == j) ≡ false
+other_index i j other = elim (eqb_tells i j) [ inl h ↦ absurd (other h.1) | inr h ↦ h.0 ]
+
+module _ {T : Type 0} where
+  pub times-here : (i : ℕ) (e : Entry T) (es : List (Entry T)) → e.index ≡ i → times i (e ∷ es) ≡ 1 + times i es
+  times-here i e es same = grind (arith, nat_tests)
+
+  pub times-there : (i : ℕ) (e : Entry T) (es : List (Entry T)) → e.index ≢ i → times i (e ∷ es) ≡ times i es
+  times-there i e es other = grind (arith, nat_tests)
+
+  pub times-append : (i : ℕ) (xs ys : List (Entry T)) → times i (xs ++ ys) ≡ times i xs + times i ys
+  times-append i [] ys = omega arith
+  times-append i (x ∷ xs) ys = omega (arith, times-append i xs ys)
+
+  -- an index that was in no entry keeps the indexes pairwise different
+  pub times-inserted : (k : ℕ) (xs : List (Entry T)) (new : Entry T) (ys : List (Entry T)) → times new.index (xs ++ ys) ≡ 0 → times k (xs ++ ys) ≤ 1 → times k (xs ++ new ∷ ys) ≤ 1
+  times-inserted k xs new ys absent once =
+      elim (eqb_tells new.index k) [
+        | inl h ↦ let gone : times k (xs ++ ys) ≡ 0 = rw (← h.1) absent in
+            omega (arith, times-append k xs ys, times-append k xs (new ∷ ys), times-here k new ys h.1)
+        | inr h ↦ omega (arith, times-append k xs ys, times-append k xs (new ∷ ys), times-there k new ys h.1)
+      ]
+
+  pub first_or-append : (after : Option ℕ) (xs ys : List (Entry T)) → first_or after (xs ++ ys) ≡ first_or (first_or after ys) xs
+  first_or-append after [] ys = refl
+  first_or-append after (x ∷ xs) ys = refl
+
+  pub last_or-append : (before : Option ℕ) (xs ys : List (Entry T)) → last_or before (xs ++ ys) ≡ last_or (last_or before xs) ys
+  last_or-append before [] ys = refl
+  last_or-append before (x ∷ xs) ys = last_or-append (Some x.index) xs ys
+
+  -- a stretch of a chain in two parts
+  pub link_between-append : (before after : Option ℕ) (xs ys : List (Entry T)) (i : ℕ) → link_between before after (xs ++ ys) i ≡ option_or (link_between before (first_or after ys) xs i) (link_between (last_or before xs) after ys i)
+  link_between-append before after [] ys i = refl
+  link_between-append before after (x ∷ xs) ys i =
+      rw (first_or-append after xs ys, link_between-append (Some x.index) after xs ys i) (sym (option_or-if (x.index == i) _ _ _))
+
+  -- the last index stands in the list
+  pub times-last : (es : List (Entry T)) (i : ℕ) → last_or None es ≡ Some i → 1 ≤ times i es
+  times-last [] i last = absurd (cc)
+  times-last (e ∷ []) i last =
+      let same : e.index ≡ i = cc in
+      omega (arith, times-here i e [] same)
+  times-last (e ∷ f ∷ es) i last = omega (arith, times-last (f ∷ es) i last)
+
+  -- the first index stands in the list
+  pub times-first : (es : List (Entry T)) (i : ℕ) → first_or None es ≡ Some i → 1 ≤ times i es
+  times-first [] i first = absurd (cc)
+  times-first (e ∷ es) i first =
+      let same : e.index ≡ i = cc in
+      omega (arith, times-here i e es same)
+
+  -- an index that stands nowhere in a stretch names nothing there
+  pub link_between-absent : (before after : Option ℕ) (es : List (Entry T)) (i : ℕ) → times i es ≡ 0 → link_between before after es i ≡ None
+  link_between-absent before after [] i absent = refl
+  link_between-absent before after (e ∷ es) i absent =
+      elim (eqb_tells e.index i) [
+        | inl h ↦ absurd (omega (arith, times-here i e es h.1))
+        | inr h ↦ rw h.0 (link_between-absent (Some e.index) after es i (omega (arith, times-there i e es h.1)))
+      ]
+
+  -- an index that names nothing in a stretch stands nowhere in it
+  pub times-unlinked : (before after : Option ℕ) (es : List (Entry T)) (i : ℕ) → link_between before after es i ≡ None → times i es ≡ 0
+  times-unlinked before after [] i unlinked = refl
+  times-unlinked before after (e ∷ es) i unlinked =
+      elim (eqb_tells e.index i) [
+        | inl h ↦ absurd (let found = rw h.0 at unlinked in cc)
+        | inr h ↦ let rest = rw h.0 at unlinked in times-there i e es h.1 ∙ times-unlinked (Some e.index) after es i rest
+      ]
+
+  -- an entry is its link without the neighbours
+  pub entry_at-link : (before after : Option ℕ) (es : List (Entry T)) (i : ℕ) → entry_at es i ≡ option_map (λ e. (e.0, e.1.item)) (link_between before after es i)
+  entry_at-link before after [] i = refl
+  entry_at-link before after (e ∷ es) i =
+      elim (eqb_tells e.index i) [ inl h ↦ rw h.0 refl | inr h ↦ rw h.0 (entry_at-link (Some e.index) after es i) ]
+
+  -- an index that is not the last sees no change at the far end
+  pub link_between-other_after : (before after other : Option ℕ) (es : List (Entry T)) (i : ℕ) → last_or None es ≢ Some i → link_between before other es i ≡ link_between before after es i
+  link_between-other_after before after other [] i unlast = refl
+  link_between-other_after before after other (e ∷ []) i unlast =
+      elim (eqb_tells e.index i) [ inl h ↦ absurd (unlast (ap Some h.1)) | inr h ↦ rw h.0 refl ]
+  link_between-other_after before after other (e ∷ f ∷ es) i unlast =
+      rw (link_between-other_after (Some e.index) after other (f ∷ es) i unlast) refl
+
+  -- the last index sees the new far end
+  pub link_between-last : (before after other : Option ℕ) (es : List (Entry T)) (i : ℕ) → times i es ≤ 1 → last_or None es ≡ Some i → link_between before other es i ≡ option_map (with_next other) (link_between before after es i)
+  link_between-last before after other [] i once last = refl
+  link_between-last before after other (e ∷ []) i once last =
+      elim (eqb_tells e.index i) [ inl h ↦ rw h.0 refl | inr h ↦ rw h.0 refl ]
+  link_between-last before after other (e ∷ f ∷ es) i once last =
+      elim (eqb_tells e.index i) [
+        | inl h ↦ absurd (omega (arith, times-here i e (f ∷ es) h.1, times-last (f ∷ es) i last))
+        | inr h ↦ rw h.0 (link_between-last (Some e.index) after other (f ∷ es) i (omega (arith, times-there i e (f ∷ es) h.1)) last)
+      ]
+
+  -- an index that is not the first sees no change at the near end
+  pub link_between-other_before : (before other after : Option ℕ) (es : List (Entry T)) (i : ℕ) → first_or None es ≢ Some i → link_between other after es i ≡ link_between before after es i
+  link_between-other_before before other after [] i unfirst = refl
+  link_between-other_before before other after (e ∷ es) i unfirst =
+      elim (eqb_tells e.index i) [ inl h ↦ absurd (unfirst (ap Some h.1)) | inr h ↦ rw h.0 refl ]
+
+  -- the first index sees the new near end
+  pub link_between-first : (before other after : Option ℕ) (es : List (Entry T)) (i : ℕ) → first_or None es ≡ Some i → link_between other after es i ≡ option_map (with_prev other) (link_between before after es i)
+  link_between-first before other after [] i first = refl
+  link_between-first before other after (e ∷ es) i first =
+      let same : e.index ≡ i = cc in
+      elim (eqb_tells e.index i) [ inl h ↦ rw h.0 refl | inr h ↦ absurd (h.1 same) ]
+
+  -- where an index stands in a list, for the first time
+  pub record Stands (es : List (Entry T)) (i : ℕ) : Type 0 where
+    pub front : List (Entry T)
+    pub entry : Entry T
+    pub back : List (Entry T)
+    pub split : es ≡ front ++ entry ∷ back
+    pub here : entry.index ≡ i
+    pub unmet : times i front ≡ 0
+
+  -- an entry stands after one more that has another index
+  Stands-behind : (e : Entry T) (es : List (Entry T)) (i : ℕ) → e.index ≢ i → Stands es i → Stands (e ∷ es) i
+  Stands-behind e es i other s =
+      record {
+        front = e ∷ s.front;
+        entry = s.entry;
+        back = s.back;
+        split = ap (λ xs. e ∷ xs) s.split;
+        here = s.here;
+        unmet = omega (arith, times-there i e s.front other, s.unmet);
+      }
+
+  -- an index that occurs stands somewhere
+  pub Stands-occurs : (es : List (Entry T)) (i : ℕ) → 1 ≤ times i es → Stands es i
+  Stands-occurs [] i occurs = absurd (omega arith)
+  Stands-occurs (e ∷ es) i occurs =
+      elim (eqb_tells e.index i) [
+        | inl h ↦ record { front = []; entry = e; back = es; split = refl; here = h.1; unmet = refl }
+        | inr h ↦ Stands-behind e es i h.1 (Stands-occurs es i (omega (arith, times-there i e es h.1)))
+      ]
+
+  -- what stands at the place of an index
+  pub entry_at-split : (front : List (Entry T)) (e : Entry T) (back : List (Entry T)) (i : ℕ) → e.index ≡ i → times i front ≡ 0 → entry_at (front ++ e ∷ back) i ≡ Some (e.generation, e.item)
+  entry_at-split [] e back i here unmet = elim (eqb_tells e.index i) [ inl h ↦ rw h.0 refl | inr h ↦ absurd (h.1 here) ]
+  entry_at-split (f ∷ front) e back i here unmet =
+      elim (eqb_tells f.index i) [
+        | inl h ↦ absurd (omega (arith, times-here i f front h.1))
+        | inr h ↦ rw h.0 (entry_at-split front e back i here (omega (arith, times-there i f front h.1)))
+      ]
+
+  pub entry_at-absent : (es : List (Entry T)) (i : ℕ) → times i es ≡ 0 → entry_at es i ≡ None
+  entry_at-absent [] i absent = refl
+  entry_at-absent (e ∷ es) i absent =
+      elim (eqb_tells e.index i) [
+        | inl h ↦ absurd (omega (arith, times-here i e es h.1))
+        | inr h ↦ rw h.0 (entry_at-absent es i (omega (arith, times-there i e es h.1)))
+      ]
+
+  pub insert_after-split : (front : List (Entry T)) (e new : Entry T) (back : List (Entry T)) (i : ℕ) → e.index ≡ i → times i front ≡ 0 → insert_after i new (front ++ e ∷ back) ≡ front ++ e ∷ new ∷ back
+  insert_after-split [] e new back i here unmet = elim (eqb_tells e.index i) [ inl h ↦ rw h.0 refl | inr h ↦ absurd (h.1 here) ]
+  insert_after-split (f ∷ front) e new back i here unmet =
+      elim (eqb_tells f.index i) [
+        | inl h ↦ absurd (omega (arith, times-here i f front h.1))
+        | inr h ↦ rw h.0 (ap (λ xs. f ∷ xs) (insert_after-split front e new back i here (omega (arith, times-there i f front h.1))))
+      ]
+
+  pub insert_before-split : (front : List (Entry T)) (e new : Entry T) (back : List (Entry T)) (i : ℕ) → e.index ≡ i → times i front ≡ 0 → insert_before i new (front ++ e ∷ back) ≡ front ++ new ∷ e ∷ back
+  insert_before-split [] e new back i here unmet = elim (eqb_tells e.index i) [ inl h ↦ rw h.0 refl | inr h ↦ absurd (h.1 here) ]
+  insert_before-split (f ∷ front) e new back i here unmet =
+      elim (eqb_tells f.index i) [
+        | inl h ↦ absurd (omega (arith, times-here i f front h.1))
+        | inr h ↦ rw h.0 (ap (λ xs. f ∷ xs) (insert_before-split front e new back i here (omega (arith, times-there i f front h.1))))
+      ]
+
+  pub without-split : (front : List (Entry T)) (e : Entry T) (back : List (Entry T)) (i : ℕ) → e.index ≡ i → times i front ≡ 0 → without i (front ++ e ∷ back) ≡ front ++ back
+  without-split [] e back i here unmet = elim (eqb_tells e.index i) [ inl h ↦ rw h.0 refl | inr h ↦ absurd (h.1 here) ]
+  without-split (f ∷ front) e back i here unmet =
+      elim (eqb_tells f.index i) [
+        | inl h ↦ absurd (omega (arith, times-here i f front h.1))
+        | inr h ↦ rw h.0 (ap (λ xs. f ∷ xs) (without-split front e back i here (omega (arith, times-there i f front h.1))))
+      ]
+
+  -- two stretches of a chain, of which the first ends at `after` and the second begins at `before`
+  abbrev pub seam : List (Entry T) → Option ℕ → Option ℕ → List (Entry T) → ℕ → Option (ℕ × Link T)
+  seam xs after before ys i = option_or (link_between None after xs i) (link_between before None ys i)
+
+  -- the seam of two stretches is moved by two writes
+  pub seam-relinked : (xs ys : List (Entry T)) (after before next prev : Option ℕ) (i : ℕ) → times i xs + times i ys ≤ 1 → seam xs next prev ys i ≡ relinked (last_or None xs) next (first_or None ys) prev i (seam xs after before ys i)
+  seam-relinked xs ys after before next prev i once =
+      elim (names_tells (last_or None xs) i) [
+        | inl l ↦ elim (names_tells (first_or None ys) i) [
+          | inl r ↦ absurd (omega (arith, times-last xs i l.1, times-first ys i r.1))
+          | inr r ↦
+              let gone : times i ys ≡ 0 = omega (arith, times-last xs i l.1) in
+              rw (l.0, r.0, link_between-absent prev None ys i gone, link_between-absent before None ys i gone, option_or-none (link_between None next xs i), option_or-none (link_between None after xs i))
+              (link_between-last None after next xs i (omega arith) l.1)
+        ]
+        | inr l ↦ elim (names_tells (first_or None ys) i) [
+          | inl r ↦
+              let gone : times i xs ≡ 0 = omega (arith, times-first ys i r.1) in
+              rw (l.0, r.0, link_between-absent None next xs i gone, link_between-absent None after xs i gone)
+              (link_between-first before prev None ys i r.1)
+          | inr r ↦
+              rw (l.0, r.0, link_between-other_after None after next xs i l.1, link_between-other_before before prev None ys i r.1) refl
+        ]
+      ]
+
+  -- the slots hold these entries, linked in this order from `before` on
+  abbrev pub IsRow : (ℕ → Option (ℕ × Link T)) → Option ℕ → List (Entry T) → Type 0
+  IsRow at before [] = Unit {0}
+  IsRow at before (e ∷ es) =
+      (at e.index ≡ Some (e.generation, record { item = e.item; prev = before; next = first_or None es }))
+      × IsRow at (Some e.index) es
+
+  pub IsRow-links : (at : ℕ → Option (ℕ × Link T)) (before : Option ℕ) (es : List (Entry T)) → ((i : ℕ) → times i es ≤ 1) → ((i : ℕ) → 1 ≤ times i es → at i ≡ link_between before None es i) → IsRow at before es
+  IsRow-links at before [] once holds = tt
+  IsRow-links at before (e ∷ es) once holds =
+      let found = holds e.index (omega (arith, times-here e.index e es refl)) in
+      let first = rw (same_index e.index) at found in
+      let other : (i : ℕ) → 1 ≤ times i es → e.index ≢ i = λ i there same. omega (arith, times-here i e es same, once i) in (
+        first,
+        IsRow-links at (Some e.index) es
+            (λ i. omega (arith, once i))
+            (λ i there. let step = holds i (omega arith) in rw (other_index e.index i (other i there)) at step),
+      )
+
+  pub walk-row : (at : ℕ → Option (ℕ × Link T)) (before : Option ℕ) (es : List (Entry T)) (n : ℕ) → length es ≤ n → IsRow at before es → walk at n (first_or None es) ≡ es
+  walk-row at before [] zero fits row = refl
+  walk-row at before [] (suc n) fits row = refl
+  walk-row at before (e ∷ es) zero fits row = absurd (omega arith)
+  walk-row at before (e ∷ es) (suc n) fits row = rw row.0 (ap (λ xs. e ∷ xs) (walk-row at (Some e.index) es n (omega arith) row.1))
+
+  pub first_or-with_item : (after : Option ℕ) (es : List (Entry T)) (i : ℕ) (item : T) → first_or after (with_item es i item) ≡ first_or after es
+  first_or-with_item after [] i item = refl
+  first_or-with_item after (e ∷ es) i item = elim (eqb_tells e.index i) [ inl h ↦ rw h.0 refl | inr h ↦ rw h.0 refl ]
+
+  pub last_or-with_item : (before : Option ℕ) (es : List (Entry T)) (i : ℕ) (item : T) → last_or before (with_item es i item) ≡ last_or before es
+  last_or-with_item before [] i item = refl
+  last_or-with_item before (e ∷ es) i item = elim (eqb_tells e.index i) [ inl h ↦ rw h.0 refl | inr h ↦ rw h.0 (last_or-with_item (Some e.index) es i item) ]
+
+  pub times-with_item : (k : ℕ) (es : List (Entry T)) (i : ℕ) (item : T) → times k (with_item es i item) ≡ times k es
+  times-with_item k [] i item = refl
+  times-with_item k (e ∷ es) i item = elim (eqb_tells e.index i) [ inl h ↦ rw h.0 refl | inr h ↦ rw h.0 (ap (λ n. (if e.index == k then 1 else 0) + n) (times-with_item k es i item)) ]
+
+  pub length-with_item : (es : List (Entry T)) (i : ℕ) (item : T) → length (with_item es i item) ≡ length es
+  length-with_item [] i item = refl
+  length-with_item (e ∷ es) i item = elim (eqb_tells e.index i) [ inl h ↦ rw h.0 refl | inr h ↦ rw h.0 (ap suc (length-with_item es i item)) ]
+
+  -- a write of one item changes that item, and no link
+  pub link_between-with_item : (before after : Option ℕ) (es : List (Entry T)) (i : ℕ) (item : T) (k : ℕ) → link_between before after (with_item es i item) k ≡ (if i == k then option_map (λ e. (e.0, record e.1 { item = item })) (link_between before after es k) else link_between before after es k)
+  link_between-with_item before after [] i item k = elim (eqb_tells i k) [ inl h ↦ rw h.0 refl | inr h ↦ rw h.0 refl ]
+  link_between-with_item before after (e ∷ es) i item k =
+      elim (eqb_tells e.index i) [
+        | inl h ↦ rw h.0 (elim (eqb_tells e.index k) [
+          | inl h2 ↦ let same : (i == k) ≡ true = rw (sym h.1) h2.0 in rw (h2.0, same) refl
+          | inr h2 ↦ let other : (i == k) ≡ false = rw (sym h.1) h2.0 in rw (h2.0, other) refl
+        ])
+        | inr h ↦ rw h.0 (elim (eqb_tells e.index k) [
+          | inl h2 ↦ let other = other_index i k (λ same. h.1 (h2.1 ∙ sym same)) in
+              rw (h2.0, other, first_or-with_item after es i item) refl
+          | inr h2 ↦ rw h2.0 (link_between-with_item (Some e.index) after es i item k)
+        ])
+      ]
+
+  pub first_or-with_generation : (after : Option ℕ) (es : List (Entry T)) (i : ℕ) (g : ℕ) → first_or after (with_generation es i g) ≡ first_or after es
+  first_or-with_generation after [] i g = refl
+  first_or-with_generation after (e ∷ es) i g = elim (eqb_tells e.index i) [ inl h ↦ rw h.0 refl | inr h ↦ rw h.0 refl ]
+
+  pub last_or-with_generation : (before : Option ℕ) (es : List (Entry T)) (i : ℕ) (g : ℕ) → last_or before (with_generation es i g) ≡ last_or before es
+  last_or-with_generation before [] i g = refl
+  last_or-with_generation before (e ∷ es) i g = elim (eqb_tells e.index i) [ inl h ↦ rw h.0 refl | inr h ↦ rw h.0 (last_or-with_generation (Some e.index) es i g) ]
+
+  pub times-with_generation : (k : ℕ) (es : List (Entry T)) (i : ℕ) (g : ℕ) → times k (with_generation es i g) ≡ times k es
+  times-with_generation k [] i g = refl
+  times-with_generation k (e ∷ es) i g = elim (eqb_tells e.index i) [ inl h ↦ rw h.0 refl | inr h ↦ rw h.0 (ap (λ n. (if e.index == k then 1 else 0) + n) (times-with_generation k es i g)) ]
+
+  pub length-with_generation : (es : List (Entry T)) (i : ℕ) (g : ℕ) → length (with_generation es i g) ≡ length es
+  length-with_generation [] i g = refl
+  length-with_generation (e ∷ es) i g = elim (eqb_tells e.index i) [ inl h ↦ rw h.0 refl | inr h ↦ rw h.0 (ap suc (length-with_generation es i g)) ]
+
+  -- another generation of one entry changes that generation, and no link
+  pub link_between-with_generation : (before after : Option ℕ) (es : List (Entry T)) (i : ℕ) (g : ℕ) (k : ℕ) → link_between before after (with_generation es i g) k ≡ (if i == k then option_map (λ e. (g, e.1)) (link_between before after es k) else link_between before after es k)
+  link_between-with_generation before after [] i g k = elim (eqb_tells i k) [ inl h ↦ rw h.0 refl | inr h ↦ rw h.0 refl ]
+  link_between-with_generation before after (e ∷ es) i g k =
+      elim (eqb_tells e.index i) [
+        | inl h ↦ rw h.0 (elim (eqb_tells e.index k) [
+          | inl h2 ↦ let same : (i == k) ≡ true = rw (sym h.1) h2.0 in rw (h2.0, same) refl
+          | inr h2 ↦ let other : (i == k) ≡ false = rw (sym h.1) h2.0 in rw (h2.0, other) refl
+        ])
+        | inr h ↦ rw h.0 (elim (eqb_tells e.index k) [
+          | inl h2 ↦ let other = other_index i k (λ same. h.1 (h2.1 ∙ sym same)) in
+              rw (h2.0, other, first_or-with_generation after es i g) refl
+          | inr h2 ↦ rw h2.0 (link_between-with_generation (Some e.index) after es i g k)
+        ])
+      ]

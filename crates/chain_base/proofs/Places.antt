@@ -1,0 +1,59 @@
+-- Where a new entry stands: the two stretches of the list that an insertion parts.
+use Rattle.std.proofs.Common.{◌≡◌, ℕ, ◌≤◌, List, [], ◌∷◌, ◌++◌, Some, None, sym, ap, ◌∙◌, arith, inl, inr, append_assoc}
+use Rattle.std.proofs.lemmas.Bool.Decides.{eqb_tells}
+use Rattle.std.specs.Option.{option_map}
+use Rattle.chain_base.specs.Link.{Link}
+use Rattle.chain_base.specs.Chain.{Entry, times, link_at, first_or, last_or, insert_after, insert_before}
+use Rattle.chain_base.specs.Insert.{IsPlace}
+use Rattle.chain_base.proofs.Lists.{link_between-append, link_between-absent, last_or-append, same_index, Stands, Stands-occurs, insert_after-split, insert_before-split}
+
+module _ {T : Type 0} where
+  -- an index that has a link occurs in the list
+  occurs-linked : (es : List (Entry T)) (i : ℕ) (l : Link T) → option_map (λ e. e.1) (link_at es i) ≡ Some l → 1 ≤ times i es
+  occurs-linked es i l linked =
+      elim (eqb_tells (times i es) 0) [
+        | inl h ↦ absurd (let none = link_between-absent None None es i h.1 in let bad = rw none at linked in cc)
+        | inr h ↦ omega arith
+      ]
+
+  -- the link of an entry names the neighbours
+  link_at-split : (front : List (Entry T)) (e : Entry T) (back : List (Entry T)) (l : Link T) → times e.index front ≡ 0 → option_map (λ e. e.1) (link_at (front ++ e ∷ back) e.index) ≡ Some l → (l.prev ≡ last_or None front) × (l.next ≡ first_or None back)
+  link_at-split front e back l unmet linked =
+      let found = rw (link_between-append None None front (e ∷ back) e.index, link_between-absent None (Some e.index) front e.index unmet, same_index e.index) at linked in
+      (cc, cc)
+
+  -- directly after an entry
+  pub IsPlace-after : (es : List (Entry T)) (i : ℕ) (l : Link T) → option_map (λ e. e.1) (link_at es i) ≡ Some l → IsPlace es (λ new. insert_after i new es) (Some i) l.next
+  IsPlace-after es i l linked = from_place (Stands-occurs es i (occurs-linked es i l linked))
+    where
+      from_place : Stands es i → IsPlace es (λ new. insert_after i new es) (Some i) l.next
+      from_place s =
+          let unmet : times s.entry.index s.front ≡ 0 = ap (λ k. times k s.front) s.here ∙ s.unmet in
+          let linked2 : option_map (λ e. e.1) (link_at (s.front ++ s.entry ∷ s.back) s.entry.index) ≡ Some l = ap (λ k. option_map (λ e. e.1) (link_at (s.front ++ s.entry ∷ s.back) k)) s.here ∙ ap (λ xs. option_map (λ e. e.1) (link_at xs i)) (sym s.split) ∙ linked in
+          let ends = link_at-split s.front s.entry s.back l unmet linked2 in
+          record {
+            front = s.front ++ s.entry ∷ [];
+            back = s.back;
+            split = s.split ∙ sym (append_assoc s.front (s.entry ∷ []) s.back);
+            prev_is = ap Some (sym s.here) ∙ sym (last_or-append None s.front (s.entry ∷ []));
+            next_is = ends.1;
+            puts = λ new. ap (insert_after i new) s.split ∙ insert_after-split s.front s.entry new s.back i s.here s.unmet ∙ sym (append_assoc s.front (s.entry ∷ []) (new ∷ s.back));
+          }
+
+  -- directly before an entry
+  pub IsPlace-before : (es : List (Entry T)) (i : ℕ) (l : Link T) → option_map (λ e. e.1) (link_at es i) ≡ Some l → IsPlace es (λ new. insert_before i new es) l.prev (Some i)
+  IsPlace-before es i l linked = from_place (Stands-occurs es i (occurs-linked es i l linked))
+    where
+      from_place : Stands es i → IsPlace es (λ new. insert_before i new es) l.prev (Some i)
+      from_place s =
+          let unmet : times s.entry.index s.front ≡ 0 = ap (λ k. times k s.front) s.here ∙ s.unmet in
+          let linked2 : option_map (λ e. e.1) (link_at (s.front ++ s.entry ∷ s.back) s.entry.index) ≡ Some l = ap (λ k. option_map (λ e. e.1) (link_at (s.front ++ s.entry ∷ s.back) k)) s.here ∙ ap (λ xs. option_map (λ e. e.1) (link_at xs i)) (sym s.split) ∙ linked in
+          let ends = link_at-split s.front s.entry s.back l unmet linked2 in
+          record {
+            front = s.front;
+            back = s.entry ∷ s.back;
+            split = s.split;
+            prev_is = ends.0;
+            next_is = ap Some (sym s.here);
+            puts = λ new. ap (insert_before i new) s.split ∙ insert_before-split s.front s.entry new s.back i s.here s.unmet;
+          }

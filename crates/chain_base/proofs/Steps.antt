@@ -1,0 +1,308 @@
+-- What each call does to the chain that lies in the arena.
+use Rattle.std.proofs.Common.{◌≡◌, ℕ, zero, suc, ◌+◌, ◌-◌, ◌<◌, ◌≤◌, Bool, true, false, List, [], ◌∷◌, ◌++◌, length, Option, Some, None, IsSome, is_some, refl, sym, ap, subst, ◌∙◌, arith, if◌then◌else◌, inl, inr, get_or, set, slice_get, length-set, replicate}
+use Rattle.std.proofs.lemmas.Bool.Decides.{eqb_tells}
+use Rattle.std.proofs.lemmas.List.{length-replicate, get_or_past}
+use Rattle.std.specs.Option.{option_map}
+use Rattle.arena_base.specs.Generation.{next_generation}
+use Rattle.arena_base.specs.Arena.{Arena, slot, with_entry_at, arena_capacity, next_index as next_slot, with_capacity as arena_with_capacity, with_room as arena_with_room, grown_capacity as arena_grown, without as arena_without, renewed as arena_renewed, cleared as arena_cleared, resized, vacant_from, vacant_indexes as slots_vacant, IsInsertion as IsArenaInsertion}
+use Rattle.chain_base.specs.Link.{Link}
+use Rattle.chain_base.specs.Chain.{Entry, Chain, times, first_or, last_or, link_at, IsOccupied, inserted_at, with_capacity, with_room, vacant_indexes, without, removed, renewed, cleared, with_item_at}
+use Rattle.chain_base.specs.Insert.{IsInsertion, IsPlace}
+use Rattle.chain_base.specs.Layout.{chain_of, rewritten, with_next, with_prev, linked_next, linked_prev, IsLaidOut}
+use Rattle.chain_base.proofs.Lists.{link_between-absent, entry_at-link, last_or-append, Stands, Stands-occurs, without-split}
+use Rattle.chain_base.proofs.LaidOut.{walk-laid_out, slot-laid_out, times-vacant, joined, IsLaidOut-inserted, IsLaidOut-removed, IsLaidOut-with_item, IsLaidOut-with_generation}
+use Rattle.chain_base.proofs.Vacancy.{vacant-links, get_or-resized, count-resized, length-resized, get_or-vacant, count-vacant}
+
+-- the list of vacant indexes begins with the next one
+pub next-first : (is : List ℕ) (i : ℕ) → slice_get is 0 ≡ Some i → (rest : List ℕ) × (is ≡ i ∷ rest)
+next-first [] i next = absurd (cc)
+next-first (k ∷ rest) i next = let same : k ≡ i = cc in (rest, ap (λ n. n ∷ rest) same)
+
+-- a map of what one slot holds keeps the vacant indexes
+vacant_from-mapped : {X : Type 0} (n : ℕ) (xs : List (Option X)) (i : ℕ) (f : X → X) → vacant_from n (set xs i (option_map f (get_or xs i None))) ≡ vacant_from n xs
+vacant_from-mapped n [] i f = refl
+vacant_from-mapped n (None ∷ xs) zero f = refl
+vacant_from-mapped n (Some x ∷ xs) zero f = refl
+vacant_from-mapped n (None ∷ xs) (suc i) f = ap (λ is. n ∷ is) (vacant_from-mapped (n + 1) xs i f)
+vacant_from-mapped n (Some x ∷ xs) (suc i) f = vacant_from-mapped (n + 1) xs i f
+
+slots_vacant-mapped : {X : Type 0} (xs : List (Option X)) (i : ℕ) (f : X → X) → slots_vacant (set xs i (option_map f (get_or xs i None))) ≡ slots_vacant xs
+slots_vacant-mapped [] i f = refl
+slots_vacant-mapped (x ∷ xs) zero f = refl
+slots_vacant-mapped (x ∷ xs) (suc i) f = vacant_from-mapped 1 xs i f
+
+module _ {T : Type 0} where
+  -- a chain is the one that lies in an arena where all that it says agrees
+  pub chain_of-laid_out : (a : Arena (Link T)) (first last : Option ℕ) (c : Chain T) → IsLaidOut a.slots first last c.entries → arena_capacity a ≡ c.capacity → a.vacant ≡ c.vacant → a.generation ≡ c.generation → a.maximum ≡ c.maximum → chain_of a first ≡ c
+  chain_of-laid_out a first last c laid capacity vacant generation maximum =
+      let entries = walk-laid_out a first last c.entries laid in
+      rw (entries, capacity, vacant, generation, maximum) refl
+
+  -- the invariant of a chain whose list is known
+  pub IsLaidOut-walked : (a : Arena (Link T)) (first last : Option ℕ) (es : List (Entry T)) → IsLaidOut a.slots first last es → IsLaidOut a.slots first last (chain_of a first).entries
+  IsLaidOut-walked a first last es laid = rw (walk-laid_out a first last es laid) laid
+
+  -- writes of links keep all but the slots
+  pub record SameAside (old new : Arena (Link T)) : Type 0 where
+    pub capacity : arena_capacity new ≡ arena_capacity old
+    pub vacant : new.vacant ≡ old.vacant
+    pub generation : new.generation ≡ old.generation
+    pub maximum : new.maximum ≡ old.maximum
+
+  pub SameAside-linked_next : (a : Arena (Link T)) (at next : Option ℕ) → SameAside a (linked_next a at next)
+  SameAside-linked_next a None next = record { capacity = refl; vacant = refl; generation = refl; maximum = refl }
+  SameAside-linked_next a (Some i) next = record { capacity = ap (λ n. n - 1) (length-set a.slots i _); vacant = refl; generation = refl; maximum = refl }
+
+  pub SameAside-linked_prev : (a : Arena (Link T)) (at prev : Option ℕ) → SameAside a (linked_prev a at prev)
+  SameAside-linked_prev a None prev = record { capacity = refl; vacant = refl; generation = refl; maximum = refl }
+  SameAside-linked_prev a (Some i) prev = record { capacity = ap (λ n. n - 1) (length-set a.slots i _); vacant = refl; generation = refl; maximum = refl }
+
+  pub SameAside-both : (a : Arena (Link T)) (left next right prev : Option ℕ) → SameAside a (linked_prev (linked_next a left next) right prev)
+  SameAside-both a left next right prev =
+      let one = SameAside-linked_next a left next in
+      let two = SameAside-linked_prev (linked_next a left next) right prev in
+      record {
+        capacity = two.capacity ∙ one.capacity;
+        vacant = two.vacant ∙ one.vacant;
+        generation = two.generation ∙ one.generation;
+        maximum = two.maximum ∙ one.maximum;
+      }
+
+  -- the first of a list that goes on, or another first where there is nothing before
+  pub first_or-end : (xs zs : List (Entry T)) (d : Option ℕ) → (if is_some (last_or None xs) then first_or None (xs ++ zs) else d) ≡ first_or d xs
+  first_or-end [] zs d = refl
+  first_or-end (x ∷ xs) zs d = rw (last_some xs x.index) refl
+    where
+      last_some : (xs : List (Entry T)) (i : ℕ) → is_some (last_or (Some i) xs) ≡ true
+      last_some [] i = refl
+      last_some (x ∷ xs) i = last_some xs x.index
+
+  -- the last of a list that was there before, or another last where there is nothing after
+  pub last_or-end : (zs ys : List (Entry T)) (d : Option ℕ) → (if is_some (first_or None ys) then last_or None (zs ++ ys) else d) ≡ last_or d ys
+  last_or-end zs [] d = refl
+  last_or-end zs (y ∷ ys) d = last_or-append None zs (y ∷ ys)
+
+  -- the last entry behind one that is taken out
+  last_or-behind : (left : Option ℕ) (e : Entry T) (ys : List (Entry T)) → (if is_some (first_or None ys) then last_or left (e ∷ ys) else left) ≡ last_or left ys
+  last_or-behind left e [] = refl
+  last_or-behind left e (y ∷ ys) = refl
+
+  -- the entries of a chain where a slot holds something
+  IsOccupied-slot : (a : Arena (Link T)) (first : Option ℕ) (k : ℕ) (o : Option (ℕ × Link T)) → slot a k ≡ o → link_at (chain_of a first).entries k ≡ o → IsSome o → IsOccupied (chain_of a first) k
+  IsOccupied-slot a first k o held links some = rw (entry_at-link None None (chain_of a first).entries k, links) (some-mapped o some)
+    where
+      some-mapped : (o : Option (ℕ × Link T)) → IsSome o → IsSome {T = ℕ × T} (option_map (λ e. (e.0, e.1.item)) o)
+      some-mapped None some = some
+      some-mapped (Some e) some = some
+
+  -- the vacant slots are those of the list
+  fresh-slots : (a : Arena (Link T)) (first last : Option ℕ) → IsLaidOut a.slots first last (chain_of a first).entries → slots_vacant a.slots ≡ vacant_indexes (chain_of a first).entries (arena_capacity a)
+  fresh-slots a first last laid = vacant-links a.slots (chain_of a first).entries laid.links
+
+  pub slots_vacant-linked_next : (a : Arena (Link T)) (at next : Option ℕ) → slots_vacant (linked_next a at next).slots ≡ slots_vacant a.slots
+  slots_vacant-linked_next a None next = refl
+  slots_vacant-linked_next a (Some i) next = slots_vacant-mapped a.slots i (with_next next)
+
+  pub slots_vacant-linked_prev : (a : Arena (Link T)) (at prev : Option ℕ) → slots_vacant (linked_prev a at prev).slots ≡ slots_vacant a.slots
+  slots_vacant-linked_prev a None prev = refl
+  slots_vacant-linked_prev a (Some i) prev = slots_vacant-mapped a.slots i (with_prev prev)
+
+  -- what an insertion between two neighbours makes of a chain
+  pub record Inserts (a b : Arena (Link T)) (first first2 last2 : Option ℕ) (place : Entry T → List (Entry T)) (item : T) (j g : ℕ) : Type 0 where
+    pub laid : IsLaidOut b.slots first2 last2 (chain_of b first2).entries
+    pub insertion : IsInsertion (chain_of a first) (chain_of b first2) place item j g
+
+  -- the list and the layout after an insertion between two stretches
+  record Joins (a b : Arena (Link T)) (first2 last2 : Option ℕ) (front back : List (Entry T)) (item : T) (j : ℕ) (rest : List ℕ) : Type 0 where
+    laid : IsLaidOut b.slots first2 last2 (front ++ record { index = j; generation = a.generation; item = item } ∷ back)
+    chain : chain_of b first2 ≡ record { entries = front ++ record { index = j; generation = a.generation; item = item } ∷ back; capacity = arena_capacity a; vacant = rest; generation = a.generation; maximum = a.maximum }
+
+  Joins-between : (a a1 : Arena (Link T)) (first last : Option ℕ) (front back : List (Entry T)) (item : T) (j : ℕ) (rest : List ℕ) → IsLaidOut a.slots first last (front ++ back) → slot a j ≡ None → j < length a.slots → a1 ≡ with_entry_at a (j ∷ rest) (record { item = item; prev = last_or None front; next = first_or None back }) → Joins a (linked_prev (linked_next a1 (last_or None front) (Some j)) (first_or None back) (Some j)) (if is_some (last_or None front) then first else Some j) (if is_some (first_or None back) then last else Some j) front back item j rest
+  Joins-between a a1 first last front back item j rest laid vacant within after =
+      let link : Link T = record { item = item; prev = last_or None front; next = first_or None back } in
+      let filled : Arena (Link T) = with_entry_at a (j ∷ rest) link in
+      let b : Arena (Link T) = joined filled j front back in
+      let new : Entry T = record { index = j; generation = a.generation; item = item } in
+      let first2 : (if is_some (last_or None front) then first else Some j) ≡ first_or (Some j) front =
+      rw laid.first_is (first_or-end front back (Some j)) in
+      let last2 : (if is_some (first_or None back) then last else Some j) ≡ last_or (Some j) back =
+      rw laid.last_is (last_or-end front back (Some j)) in
+      let lies = IsLaidOut-inserted a first last front back j rest item laid vacant within in
+      let aside = SameAside-both filled (last_or None front) (Some j) (first_or None back) (Some j) in
+      rw (after, first2, last2) (record {
+        laid = lies;
+        chain = chain_of-laid_out b (first_or (Some j) front) (last_or (Some j) back) _ lies
+            (aside.capacity ∙ ap (λ n. n - 1) (length-set a.slots j _)) aside.vacant aside.generation aside.maximum;
+      })
+
+  pub Inserts-joined : (a a1 : Arena (Link T)) (first last : Option ℕ) (place : Entry T → List (Entry T)) (prev next : Option ℕ) (item : T) (j g : ℕ) → IsLaidOut a.slots first last (chain_of a first).entries → IsPlace (chain_of a first).entries place prev next → IsArenaInsertion a a1 (record { item = item; prev = prev; next = next }) j g → Inserts a (linked_prev (linked_next a1 prev (Some j)) next (Some j)) first (if is_some prev then first else Some j) (if is_some next then last else Some j) place item j g
+  Inserts-joined a a1 first last place prev next item j g laid at ins =
+      let head = next-first a.vacant j ins.next in
+      let laid2 = subst (λ (es : List (Entry T)). IsLaidOut a.slots first last es) at.split laid in
+      let within : j < length a.slots = omega (arith, ins.vacant.within, ins.vacant.above) in
+      let ins2 = rw (at.prev_is, at.next_is) at ins in
+      let after : a1 ≡ with_entry_at a (j ∷ head.0) (record { item = item; prev = last_or None at.front; next = first_or None at.back }) =
+      ins2.after ∙ ap (λ is. with_entry_at a is (record { item = item; prev = last_or None at.front; next = first_or None at.back })) head.1 in
+      let joins = Joins-between a a1 first last at.front at.back item j head.0 laid2 ins.vacant.free within after in
+      let new : Entry T = record { index = j; generation = a.generation; item = item } in
+      let vacancy = fresh-slots a first last laid in
+      let b : Arena (Link T) = linked_prev (linked_next a1 (last_or None at.front) (Some j)) (first_or None at.back) (Some j) in
+      let aside = SameAside-both a1 (last_or None at.front) (Some j) (first_or None at.back) (Some j) in
+      let lies = IsLaidOut-walked b _ _ _ joins.laid in
+      rw (at.prev_is, at.next_is) (record {
+        laid = lies;
+        insertion = record {
+          next = ins.next;
+          vacant = record { above = ins.vacant.above; within = ins.vacant.within; free = times-vacant a first last _ j laid ins.vacant.free };
+          least = λ fresh k above below. IsOccupied-slot a first k (slot a k) refl (sym (laid.links k)) (ins.least (fresh ∙ sym vacancy) k above below);
+          generation = ins.generation;
+          after = joins.chain ∙ ap (λ es. record { entries = es; capacity = arena_capacity a; vacant = head.0; generation = a.generation; maximum = a.maximum }) (sym (at.puts new)) ∙ sym (ap (inserted_at (chain_of a first) place item) head.1);
+          fresh = λ fresh. aside.vacant ∙ ins.fresh (fresh ∙ sym vacancy)
+              ∙ sym (slots_vacant-linked_prev (linked_next a1 (last_or None at.front) (Some j)) (first_or None at.back) (Some j) ∙ slots_vacant-linked_next a1 (last_or None at.front) (Some j))
+              ∙ fresh-slots b _ _ lies;
+        };
+      })
+
+  -- where all slots beyond n are vacant, a capacity of n keeps the list
+  pub IsLaidOut-resized : (a : Arena (Link T)) (first last : Option ℕ) (es : List (Entry T)) (n : ℕ) → ((k : ℕ) → n < k → slot a k ≡ None) → IsLaidOut a.slots first last es → IsLaidOut (resized (n + 1) a.slots) first last es
+  IsLaidOut-resized a first last es n rest laid =
+      let beyond : (k : ℕ) → n + 1 ≤ k → get_or a.slots k None ≡ None = λ k far. rest k (omega arith) in
+      record {
+        links = λ i. get_or-resized (n + 1) a.slots i beyond ∙ laid.links i;
+        distinct = laid.distinct;
+        first_is = laid.first_is;
+        last_is = laid.last_is;
+        counted = count-resized (n + 1) a.slots beyond ∙ laid.counted;
+      }
+
+  pub chain_of-resized : (a : Arena (Link T)) (first last : Option ℕ) (n : ℕ) → ((k : ℕ) → n < k → slot a k ≡ None) → IsLaidOut a.slots first last (chain_of a first).entries → chain_of (arena_with_capacity a n) first ≡ with_capacity (chain_of a first) n
+  chain_of-resized a first last n rest laid =
+      let es = (chain_of a first).entries in
+      let laid2 = IsLaidOut-resized a first last es n rest laid in
+      let size : length (resized (n + 1) a.slots) - 1 ≡ n = omega (arith, length-resized (n + 1) a.slots) in
+      chain_of-laid_out (arena_with_capacity a n) first last (with_capacity (chain_of a first) n) laid2 size
+      (vacant-links (resized (n + 1) a.slots) es laid2.links ∙ ap (vacant_indexes es) size) refl refl
+
+  -- a chain that has grown, where it had no vacant slot
+  pub record Rooms (a b : Arena (Link T)) (c : Chain T) (first last : Option ℕ) : Type 0 where
+    pub laid : IsLaidOut b.slots first last (chain_of b first).entries
+    pub chain : chain_of b first ≡ c
+
+  Rooms-chosen : (has_room : Bool) (n : ℕ) (a : Arena (Link T)) (first last : Option ℕ) → arena_capacity a ≤ arena_capacity (if has_room then a else arena_with_capacity a n) → IsLaidOut a.slots first last (chain_of a first).entries → Rooms a (if has_room then a else arena_with_capacity a n) (if has_room then chain_of a first else with_capacity (chain_of a first) n) first last
+  Rooms-chosen true n a first last room laid = record { laid = laid; chain = refl }
+  Rooms-chosen false n a first last room laid =
+      let size = length-resized (n + 1) a.slots in
+      let beyond : (k : ℕ) → n < k → slot a k ≡ None = λ k far. get_or_past a.slots k None (omega arith) in
+      record {
+        laid = IsLaidOut-walked (arena_with_capacity a n) first last _ (IsLaidOut-resized a first last _ n beyond laid);
+        chain = chain_of-resized a first last n beyond laid;
+      }
+
+  pub Rooms-roomed : (most : ℕ) (a : Arena (Link T)) (first last : Option ℕ) → arena_capacity a ≤ arena_capacity (arena_with_room most a) → IsLaidOut a.slots first last (chain_of a first).entries → Rooms a (arena_with_room most a) (with_room most (chain_of a first)) first last
+  Rooms-roomed most a first last room laid = Rooms-chosen (is_some (next_slot a)) (arena_grown most a) a first last room laid
+
+  -- a chain that is cleared
+  pub IsLaidOut-cleared : (n : ℕ) → IsLaidOut {T = T} (replicate n None) None None []
+  IsLaidOut-cleared n =
+      record {
+        links = λ i. get_or-vacant n i;
+        distinct = λ i. omega arith;
+        first_is = refl;
+        last_is = refl;
+        counted = count-vacant (replicate n None) (get_or-vacant n);
+      }
+
+  pub chain_of-cleared : (greatest : Option ℕ) (a : Arena (Link T)) (first : Option ℕ) → chain_of (arena_cleared greatest a) None ≡ cleared greatest (chain_of a first)
+  chain_of-cleared greatest a first =
+      let n = length a.slots in
+      let laid = IsLaidOut-cleared n in
+      let size : length (replicate n (let none : Option (ℕ × Link T) = None in none)) - 1 ≡ n - 1 = ap (λ m. m - 1) (length-replicate n _) in
+      chain_of-laid_out (arena_cleared greatest a) None None (cleared greatest (chain_of a first)) laid size
+      (vacant-links (replicate n None) [] laid.links ∙ ap (vacant_indexes {T = T} []) size) refl refl
+
+  -- a chain without one entry
+  pub record Removes (greatest : Option ℕ) (a b : Arena (Link T)) (first first2 last2 : Option ℕ) (i : ℕ) : Type 0 where
+    pub laid : IsLaidOut b.slots first2 last2 (chain_of b first2).entries
+    pub chain : chain_of b first2 ≡ removed greatest (chain_of a first) i
+
+  -- the list and the layout after the entry between two stretches is taken out
+  record Cuts (greatest : Option ℕ) (a b : Arena (Link T)) (first2 last2 : Option ℕ) (front : List (Entry T)) (e : Entry T) (back : List (Entry T)) : Type 0 where
+    laid : IsLaidOut b.slots first2 last2 (front ++ back)
+    chain : chain_of b first2 ≡ record { entries = front ++ back; capacity = arena_capacity a; vacant = e.index ∷ a.vacant; generation = next_generation greatest a.generation; maximum = a.maximum }
+
+  Removes-between : (greatest : Option ℕ) (a : Arena (Link T)) (first last : Option ℕ) (front : List (Entry T)) (e : Entry T) (back : List (Entry T)) → IsLaidOut a.slots first last (front ++ e ∷ back) → Cuts greatest a (linked_prev (linked_next (arena_without greatest a e.index) (last_or None front) (first_or None back)) (first_or None back) (last_or None front)) (if is_some (last_or None front) then first else first_or None back) (if is_some (first_or None back) then last else last_or None front) front e back
+  Removes-between greatest a first last front e back laid =
+      let emptied : Arena (Link T) = arena_without greatest a e.index in
+      let left = last_or None front in
+      let right = first_or None back in
+      let b : Arena (Link T) = linked_prev (linked_next emptied left right) right left in
+      let first2 : (if is_some left then first else right) ≡ first_or right front = rw laid.first_is (first_or-end front (e ∷ back) right) in
+      let last2 : (if is_some right then last else left) ≡ last_or left back = rw laid.last_is (rw (last_or-append None front (e ∷ back)) (last_or-behind left e back)) in
+      let lies = IsLaidOut-removed greatest a first last front e back laid in
+      let aside = SameAside-both emptied left right right left in
+      rw (first2, last2) (record {
+        laid = lies;
+        chain = chain_of-laid_out b (first_or right front) (last_or left back) _ lies
+            (aside.capacity ∙ ap (λ n. n - 1) (length-set a.slots e.index None)) aside.vacant aside.generation aside.maximum;
+      })
+
+  -- a slot that holds a link has its index in the list
+  pub occurs-held : (a : Arena (Link T)) (es : List (Entry T)) (i : ℕ) (e : ℕ × Link T) → slot a i ≡ Some e → slot a i ≡ link_at es i → 1 ≤ times i es
+  occurs-held a es i e held links =
+      elim (eqb_tells (times i es) 0) [
+        | inl h ↦ absurd (let none = link_between-absent None None es i h.1 in cc)
+        | inr h ↦ omega arith
+      ]
+
+  -- the entry at a known place is taken out
+  Removes-at : (greatest : Option ℕ) (a : Arena (Link T)) (first last : Option ℕ) (front : List (Entry T)) (x : Entry T) (back : List (Entry T)) → IsLaidOut a.slots first last (chain_of a first).entries → (chain_of a first).entries ≡ front ++ x ∷ back → times x.index front ≡ 0 → Removes greatest a (linked_prev (linked_next (arena_without greatest a x.index) (last_or None front) (first_or None back)) (first_or None back) (last_or None front)) first (if is_some (last_or None front) then first else first_or None back) (if is_some (first_or None back) then last else last_or None front) x.index
+  Removes-at greatest a first last front x back laid split unmet =
+      let laid2 = subst (λ (xs : List (Entry T)). IsLaidOut a.slots first last xs) split laid in
+      let kept = Removes-between greatest a first last front x back laid2 in
+      let list : without x.index (chain_of a first).entries ≡ front ++ back = ap (without x.index) split ∙ without-split front x back x.index refl unmet in
+      let b : Arena (Link T) = linked_prev (linked_next (arena_without greatest a x.index) (last_or None front) (first_or None back)) (first_or None back) (last_or None front) in
+      record {
+        laid = IsLaidOut-walked b _ _ _ kept.laid;
+        chain = kept.chain ∙ ap (λ xs. record { entries = xs; capacity = arena_capacity a; vacant = x.index ∷ a.vacant; generation = next_generation greatest a.generation; maximum = a.maximum }) (sym list);
+      }
+
+  pub Removes-joined : (greatest : Option ℕ) (a : Arena (Link T)) (first last : Option ℕ) (i : ℕ) (e : ℕ × Link T) → IsLaidOut a.slots first last (chain_of a first).entries → slot a i ≡ Some e → Removes greatest a (linked_prev (linked_next (arena_without greatest a i) e.1.prev e.1.next) e.1.next e.1.prev) first (if is_some e.1.prev then first else e.1.next) (if is_some e.1.next then last else e.1.prev) i
+  Removes-joined greatest a first last i e laid held = from_place (Stands-occurs (chain_of a first).entries i (occurs-held a (chain_of a first).entries i e held (laid.links i)))
+    where
+      from_place : Stands (chain_of a first).entries i → Removes greatest a (linked_prev (linked_next (arena_without greatest a i) e.1.prev e.1.next) e.1.next e.1.prev) first (if is_some e.1.prev then first else e.1.next) (if is_some e.1.next then last else e.1.prev) i
+      from_place stands =
+          let laid2 = subst (λ (xs : List (Entry T)). IsLaidOut a.slots first last xs) stands.split laid in
+          let found : slot a i ≡ Some (stands.entry.generation, record { item = stands.entry.item; prev = last_or None stands.front; next = first_or None stands.back }) =
+          ap (slot a) (sym stands.here) ∙ slot-laid_out a first last stands.front stands.entry stands.back laid2 in
+          let same : (stands.entry.generation, record { item = stands.entry.item; prev = last_or None stands.front; next = first_or None stands.back }) ≡ e = cc in
+          let unmet : times stands.entry.index stands.front ≡ 0 = ap (λ k. times k stands.front) stands.here ∙ stands.unmet in
+          let at = Removes-at greatest a first last stands.front stands.entry stands.back laid stands.split unmet in
+          let moved = subst (λ (k : ℕ). Removes greatest a (linked_prev (linked_next (arena_without greatest a k) (last_or None stands.front) (first_or None stands.back)) (first_or None stands.back) (last_or None stands.front)) first (if is_some (last_or None stands.front) then first else first_or None stands.back) (if is_some (first_or None stands.back) then last else last_or None stands.front) k) stands.here at in
+          subst (λ (x : ℕ × Link T). Removes greatest a (linked_prev (linked_next (arena_without greatest a i) x.1.prev x.1.next) x.1.next x.1.prev) first (if is_some x.1.prev then first else x.1.next) (if is_some x.1.next then last else x.1.prev) i) same moved
+
+  -- an entry that gets another generation
+  pub record Renews (greatest : Option ℕ) (a : Arena (Link T)) (first last : Option ℕ) (i : ℕ) : Type 0 where
+    pub laid : IsLaidOut (arena_renewed greatest a i).slots first last (chain_of (arena_renewed greatest a i) first).entries
+    pub chain : chain_of (arena_renewed greatest a i) first ≡ renewed greatest (chain_of a first) i
+
+  pub Renews-at : (greatest : Option ℕ) (a : Arena (Link T)) (first last : Option ℕ) (i : ℕ) → IsLaidOut a.slots first last (chain_of a first).entries → Renews greatest a first last i
+  Renews-at greatest a first last i laid =
+      let g = next_generation greatest a.generation in
+      let lies = IsLaidOut-with_generation a first last (chain_of a first).entries i g laid in
+      record {
+        laid = IsLaidOut-walked (arena_renewed greatest a i) first last _ lies;
+        chain = chain_of-laid_out (arena_renewed greatest a i) first last (renewed greatest (chain_of a first) i) lies (ap (λ n. n - 1) (length-set a.slots i _)) refl refl refl;
+      }
+
+  -- an item that is written
+  pub record Writes (a : Arena (Link T)) (first last : Option ℕ) (i : ℕ) (item : T) : Type 0 where
+    pub laid : IsLaidOut (rewritten a i item).slots first last (chain_of (rewritten a i item) first).entries
+    pub chain : chain_of (rewritten a i item) first ≡ with_item_at (chain_of a first) i item
+
+  pub Writes-at : (a : Arena (Link T)) (first last : Option ℕ) (i : ℕ) (item : T) → IsLaidOut a.slots first last (chain_of a first).entries → Writes a first last i item
+  Writes-at a first last i item laid =
+      let lies = IsLaidOut-with_item a first last (chain_of a first).entries i item laid in
+      record {
+        laid = IsLaidOut-walked (rewritten a i item) first last _ lies;
+        chain = chain_of-laid_out (rewritten a i item) first last (with_item_at (chain_of a first) i item) lies (ap (λ n. n - 1) (length-set a.slots i _)) refl refl refl;
+      }

@@ -1,0 +1,220 @@
+-- A chain arena as its users see it: one list of entries, and the numbers around it.
+use Rattle.std.specs.Prelude.{◌≡◌, ℕ, zero, suc, ◌+◌, ◌*◌, ◌<◌, ◌≤◌, ◌==◌, if◌then◌else◌, min, max, List, [], ◌∷◌, length, Option, Some, None, IsSome, is_some, slice_get}
+use Rattle.std.specs.Option.{option_map, ForSome}
+use Rattle.arena_base.specs.Generation.{first_generation, next_generation, IsLawfulGeneration}
+use Rattle.arena_base.specs.Arena.{Arena, how_often, limit_of, slot, item_if, arena_capacity}
+use Rattle.chain_base.specs.Link.{Link}
+
+-- an entry: its index and generation, which make its pointer, and its item
+pub record Entry (T : Type 0) : Type 0 where
+  pub index : ℕ
+  pub generation : ℕ
+  pub item : T
+
+-- A chain arena: the entries in the order of the chain, the capacity, the vacant indexes in the order in
+-- which insertions take them, the generation that a new entry gets, and the maximum, if one is set.
+pub record Chain (T : Type 0) : Type 0 where
+  pub entries : List (Entry T)
+  pub capacity : ℕ
+  pub vacant : List ℕ
+  pub generation : ℕ
+  pub maximum : Option ℕ
+
+module _ {T : Type 0} where
+  -- how many entries have this index
+  abbrev pub times : ℕ → List (Entry T) → ℕ
+  times i [] = 0
+  times i (e ∷ es) = (if e.index == i then 1 else 0) + times i es
+
+  -- the indexes are pairwise different
+  abbrev pub IsDistinct : List (Entry T) → Type 0
+  IsDistinct es = (i : ℕ) → times i es ≤ 1
+
+  -- the generation and the item of the entry with this index
+  abbrev pub entry_at : List (Entry T) → ℕ → Option (ℕ × T)
+  entry_at [] i = None
+  entry_at (e ∷ es) i = if e.index == i then Some (e.generation, e.item) else entry_at es i
+
+  -- the first index, or this one where there is none
+  abbrev pub first_or : Option ℕ → List (Entry T) → Option ℕ
+  first_or other [] = other
+  first_or other (e ∷ es) = Some e.index
+
+  -- the last index, or this one where there is none
+  abbrev pub last_or : Option ℕ → List (Entry T) → Option ℕ
+  last_or other [] = other
+  last_or other (e ∷ es) = last_or (Some e.index) es
+
+  -- the generation and the link of the entry with this index, in a stretch of a chain between these
+  -- two neighbours
+  abbrev pub link_between : Option ℕ → Option ℕ → List (Entry T) → ℕ → Option (ℕ × Link T)
+  link_between before after [] i = None
+  link_between before after (e ∷ es) i =
+      if e.index == i then Some (e.generation, record { item = e.item; prev = before; next = first_or after es })
+      else link_between (Some e.index) after es i
+
+  -- the generation and the link of the entry with this index
+  abbrev pub link_at : List (Entry T) → ℕ → Option (ℕ × Link T)
+  link_at es i = link_between None None es i
+
+  -- the list with a new entry directly after the one with this index
+  abbrev pub insert_after : ℕ → Entry T → List (Entry T) → List (Entry T)
+  insert_after i new [] = []
+  insert_after i new (e ∷ es) = if e.index == i then e ∷ new ∷ es else e ∷ insert_after i new es
+
+  -- the list with a new entry directly before the one with this index
+  abbrev pub insert_before : ℕ → Entry T → List (Entry T) → List (Entry T)
+  insert_before i new [] = []
+  insert_before i new (e ∷ es) = if e.index == i then new ∷ e ∷ es else e ∷ insert_before i new es
+
+  -- the list without the entry with this index
+  abbrev pub without : ℕ → List (Entry T) → List (Entry T)
+  without i [] = []
+  without i (e ∷ es) = if e.index == i then es else e ∷ without i es
+
+  -- the list with another item at this index
+  abbrev pub with_item : List (Entry T) → ℕ → T → List (Entry T)
+  with_item [] i item = []
+  with_item (e ∷ es) i item = if e.index == i then record e { item = item } ∷ es else e ∷ with_item es i item
+
+  -- the greatest index, or 0
+  abbrev pub greatest_index : List (Entry T) → ℕ
+  greatest_index [] = 0
+  greatest_index (e ∷ es) = max e.index (greatest_index es)
+
+  -- the indexes that no entry has, ascending, among so many indexes from `from` on
+  abbrev pub vacant_among : List (Entry T) → ℕ → ℕ → List ℕ
+  vacant_among es from zero = []
+  vacant_among es from (suc count) =
+      if times from es == 0 then from ∷ vacant_among es (from + 1) count else vacant_among es (from + 1) count
+
+  -- the vacant indexes within this capacity, ascending
+  abbrev pub vacant_indexes : List (Entry T) → ℕ → List ℕ
+  vacant_indexes es capacity = vacant_among es 1 capacity
+
+  -- some entry has this index
+  abbrev pub IsOccupied : Chain T → ℕ → Type 0
+  IsOccupied c i = IsSome (entry_at c.entries i)
+
+  -- the index that the next insertion takes, where one is vacant
+  abbrev pub next_index : Chain T → Option ℕ
+  next_index c = slice_get c.vacant 0
+
+  -- all vacant slots count as never used: insertions take the least index first
+  abbrev pub IsFresh : Chain T → Type 0
+  IsFresh c = c.vacant ≡ vacant_indexes c.entries c.capacity
+
+  -- how far the capacity can grow, where `most` is the greatest index of an entry
+  abbrev pub chain_limit : ℕ → Chain T → ℕ
+  chain_limit most c = limit_of most c.maximum
+
+  -- the capacity after a growth
+  abbrev pub grown_capacity : ℕ → Chain T → ℕ
+  grown_capacity most c = min (chain_limit most c) (max 4 (2 * c.capacity))
+
+  -- what is true of every chain arena: `most` is the greatest index of an entry, `greatest` stands for the
+  -- generations
+  pub record IsSound (most : ℕ) (greatest : Option ℕ) (c : Chain T) : Type 0 where
+    pub distinct : IsDistinct c.entries
+    pub within : (i : ℕ) → 1 ≤ times i c.entries → (0 < i) × (i ≤ c.capacity)
+    pub within_limit : c.capacity ≤ chain_limit most c
+    pub generation_lawful : IsLawfulGeneration greatest c.generation
+    pub entries_lawful : (i : ℕ) → ForSome (entry_at c.entries i) (λ e. IsLawfulGeneration greatest e.0)
+    pub vacant_listed : (i : ℕ) → how_often c.vacant i ≡ how_often (vacant_indexes c.entries c.capacity) i
+    pub counted : length c.entries + length c.vacant ≡ c.capacity
+
+  -- a chain arena without entries and without room
+  abbrev pub new_chain : Option ℕ → Chain T
+  new_chain greatest = record { entries = []; capacity = 0; vacant = []; generation = first_generation greatest; maximum = None }
+
+  -- c after an insertion, where `vacant` are the vacant indexes and `place` puts a new entry into the list
+  abbrev pub inserted_at : Chain T → (Entry T → List (Entry T)) → T → List ℕ → Chain T
+  inserted_at c place item [] = c
+  inserted_at c place item (i ∷ rest) =
+      record c { entries = place (record { index = i; generation = c.generation; item = item }); vacant = rest }
+
+  -- c with a new entry at the next index, put into the list by `place`
+  abbrev pub inserted : Chain T → (Entry T → List (Entry T)) → T → Chain T
+  inserted c place item = inserted_at c place item c.vacant
+
+  -- c with this capacity, all its vacant slots counting as never used
+  abbrev pub with_capacity : Chain T → ℕ → Chain T
+  with_capacity c n = record c { capacity = n; vacant = vacant_indexes c.entries n }
+
+  -- c with the next generation
+  abbrev pub raised : Option ℕ → Chain T → Chain T
+  raised greatest c = record c { generation = next_generation greatest c.generation }
+
+  -- c with the next generation and without the entry of this index, which the next insertion takes
+  abbrev pub removed : Option ℕ → Chain T → ℕ → Chain T
+  removed greatest c i =
+      record c { entries = without i c.entries; vacant = i ∷ c.vacant; generation = next_generation greatest c.generation }
+
+  -- the list with another generation at this index
+  abbrev pub with_generation : List (Entry T) → ℕ → ℕ → List (Entry T)
+  with_generation [] i g = []
+  with_generation (e ∷ es) i g = if e.index == i then record e { generation = g } ∷ es else e ∷ with_generation es i g
+
+  -- c with the next generation, which the entry of this index gets too
+  abbrev pub renewed : Option ℕ → Chain T → ℕ → Chain T
+  renewed greatest c i = let next = next_generation greatest c.generation in
+      record c { entries = with_generation c.entries i next; generation = next }
+
+  -- c with the next generation and without entries, all its slots counting as never used
+  abbrev pub cleared : Option ℕ → Chain T → Chain T
+  cleared greatest c =
+      record c { entries = []; vacant = vacant_indexes [] c.capacity; generation = next_generation greatest c.generation }
+
+  -- c with another item at this index
+  abbrev pub with_item_at : Chain T → ℕ → T → Chain T
+  with_item_at c i item = record c { entries = with_item c.entries i item }
+
+  -- the arena under the chain: each entry stands at its index with its neighbours' indexes
+  pub record IsArenaOf (c : Chain T) (a : Arena (Link T)) : Type 0 where
+    pub slots : (i : ℕ) → slot a i ≡ link_at c.entries i
+    pub capacity : arena_capacity a ≡ c.capacity
+    pub vacant : a.vacant ≡ c.vacant
+    pub generation : a.generation ≡ c.generation
+    pub maximum : a.maximum ≡ c.maximum
+
+  -- the item of the entry with this index and generation
+  abbrev pub item_of : List (Entry T) → ℕ → ℕ → Option T
+  item_of es i g = item_if g (entry_at es i)
+
+  -- the index and the generation of the first entry
+  abbrev pub first_pointer : List (Entry T) → Option (ℕ × ℕ)
+  first_pointer [] = None
+  first_pointer (e ∷ es) = Some (e.index, e.generation)
+
+  -- the index and the generation of the last entry
+  abbrev pub last_pointer : List (Entry T) → Option (ℕ × ℕ)
+  last_pointer [] = None
+  last_pointer (e ∷ []) = Some (e.index, e.generation)
+  last_pointer (e ∷ f ∷ es) = last_pointer (f ∷ es)
+
+  -- the generation of the entry with this index
+  abbrev pub generation_at : List (Entry T) → ℕ → Option ℕ
+  generation_at es i = option_map (λ e. e.0) (entry_at es i)
+
+  -- the entry with the least index has index i and generation g
+  pub record IsFirstIndex (es : List (Entry T)) (i g : ℕ) : Type 0 where
+    pub entry : generation_at es i ≡ Some g
+    pub least : (k : ℕ) → k < i → times k es ≡ 0
+
+  -- the entry with the greatest index has index i and generation g
+  pub record IsLastIndex (es : List (Entry T)) (i g : ℕ) : Type 0 where
+    pub entry : generation_at es i ≡ Some g
+    pub greatest : (k : ℕ) → i < k → times k es ≡ 0
+
+  -- c, grown where it has no vacant slot
+  abbrev pub with_room : ℕ → Chain T → Chain T
+  with_room most c = if is_some (next_index c) then c else with_capacity c (grown_capacity most c)
+
+  -- the entries from the one with this index on
+  abbrev pub from_index : List (Entry T) → ℕ → List (Entry T)
+  from_index [] i = []
+  from_index (e ∷ es) i = if e.index == i then e ∷ es else from_index es i
+
+  -- the pointer of an entry at index i, as index and generation
+  abbrev pub pointed : ℕ → Option (ℕ × T) → Option (ℕ × ℕ)
+  pointed i entry = option_map (λ e. (i, e.0)) entry

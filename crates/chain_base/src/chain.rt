@@ -1,0 +1,113 @@
+//! `ChainArena`: an arena whose entries are linked into one list.
+ghost use Rattle.std.specs.Prelude.{◌≡◌, ◌==◌, length};
+ghost use Rattle.arena_base.specs.Generation.{IsLawfulGeneration, overflows_after};
+ghost use Rattle.arena_base.specs.Invalidation.{is_overflow};
+ghost use Rattle.chain_base.specs.Chain.{raised, IsSound, IsArenaOf};
+
+mod get;
+mod growth;
+pub mod insert;
+mod links;
+mod remove;
+pub mod walk;
+mod write;
+
+use crate::link::LinkNoGen;
+use arena_base::{Arena, InvalidationOption, Ptr};
+use std::alloc::{Allocator, Global};
+use std::marker::Model;
+
+/// Entries in a list, each found at once by its pointer, and linked to the entries before and after it.
+///
+/// An entry keeps its pointer while others come and go. Each call takes O(1), but for `clear`, growths and the two calls
+/// that look for an index.
+#[derive(Drop)]
+pub struct ChainArena<P: Ptr, T, A: Allocator = Global> {
+    arena: Arena<P, LinkNoGen<P, T>, A>,
+    first: Option<P::Inx>,
+    last: Option<P::Inx>,
+}
+
+impl<P: Ptr, T, A: Allocator> Model for ChainArena<P, T, A> {
+    ghost use Rattle.std.specs.Option.{option_map};
+    ghost use Rattle.chain_base.specs.Chain.{Chain};
+
+    ghost Value = { Chain T };
+
+    ghost use Rattle.chain_base.specs.Layout.{chain_of, IsLaidOut};
+
+    ghost view = { λ c. chain_of c.arena (option_map P.Inx.number c.first) };
+
+    ghost invariant = { λ c. IsLaidOut c.arena.slots (option_map P.Inx.number c.first) (option_map P.Inx.number c.last) (chain_of c.arena (option_map P.Inx.number c.first)).entries };
+}
+
+impl<P: Ptr, T, A: Allocator> ChainArena<P, T, A> {
+    /// How many entries there is room for before the arena has to grow.
+    pub fn capacity(&self) -> usize
+        ensures { result ≡ self.now.capacity }
+    {
+        self.arena.capacity()
+    }
+
+    /// The maximum that was set. The capacity never goes beyond it, nor beyond what the pointers' indexes can name.
+    pub fn max_capacity(&self) -> Option<usize>
+        ensures { result ≡ self.now.maximum }
+    {
+        self.arena.max_capacity()
+    }
+
+    /// How many entries there are.
+    pub fn len(&self) -> usize
+        ensures value { result ≡ length self.now.entries }
+        ensures sound { IsSound P.Inx.most P.Gen.greatest self.now }
+    {
+        self.arena.len()
+    }
+
+    /// Whether there is no entry.
+    pub fn is_empty(&self) -> bool
+        ensures { result ≡ (length self.now.entries == 0) }
+    {
+        self.len() == 0
+    }
+
+    /// The generation that the next entry gets.
+    pub fn generation(&self) -> P::Gen
+        ensures value { P.Gen.number result ≡ self.now.generation }
+        ensures lawful { IsLawfulGeneration P.Gen.greatest self.now.generation }
+    {
+        self.arena.generation()
+    }
+
+    /// The allocator's handle that the arena keeps for its growths.
+    pub fn alloc(&self) -> A
+    where
+        A: Copy,
+    {
+        self.arena.alloc()
+    }
+
+    /// The arena under the chain: its slots hold the entries with the links to their neighbours. It shows the entries by
+    /// index, and the pointer that the next insertion gives.
+    pub fn arena(&self) -> &Arena<P, LinkNoGen<P, T>, A>
+        ensures { IsArenaOf self.now result.now }
+    {
+        &self.arena
+    }
+
+    /// Sets the generation, and leaves each entry its own.
+    pub fn set_generation(&mut self, generation: P::Gen)
+        requires { IsLawfulGeneration P.Gen.greatest (P.Gen.number generation) }
+        ensures { self.new ≡ record self.old { generation = P.Gen.number generation } }
+    {
+        self.arena.set_generation(generation);
+    }
+
+    /// Raises the generation, and leaves each entry its own. The answer says whether the generations began again.
+    pub fn inc_generation(&mut self) -> InvalidationOption<()>
+        ensures after { self.new ≡ raised P.Gen.greatest self.old }
+        ensures overflow { is_overflow result ≡ overflows_after P.Gen.greatest self.old.generation }
+    {
+        self.arena.inc_generation()
+    }
+}

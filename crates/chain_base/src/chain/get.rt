@@ -1,0 +1,89 @@
+//! Looking up entries and their neighbours.
+ghost use Rattle.std.specs.Prelude.{◌≡◌, ◌↔◌, [], Some, IfSome, IsNone, is_some, length};
+ghost use Rattle.std.specs.Option.{option_copied, option_map};
+ghost use Rattle.chain_base.specs.Chain.{entry_at, item_of, link_at, pointed, first_pointer, last_pointer, IsFirstIndex, IsLastIndex};
+
+use super::ChainArena;
+use crate::link::LinkNoGen;
+use arena_base::Ptr;
+use std::alloc::Allocator;
+
+impl<P: Ptr, T, A: Allocator> ChainArena<P, T, A> {
+    /// Whether the pointer names an entry.
+    pub fn contains(&self, p: P) -> bool
+        ensures { result ≡ is_some (item_of self.now.entries (P.index p) (P.era p)) }
+    {
+        self.arena.contains(p)
+    }
+
+    /// Whether there is an entry at the index.
+    pub fn contains_inx(&self, i: P::Inx) -> bool
+        ensures { result ≡ is_some (entry_at self.now.entries (P.Inx.number i)) }
+    {
+        self.get_inx(i).is_some()
+    }
+
+    /// The item that the pointer names.
+    pub fn get(&self, p: P) -> Option<&T>
+        ensures { option_copied result ≡ item_of self.now.entries (P.index p) (P.era p) }
+    {
+        let link = self.arena.get(p)?;
+        Some(&link.t)
+    }
+
+    /// Generation and item of the entry at the index.
+    pub fn get_inx(&self, i: P::Inx) -> Option<(P::Gen, &T)>
+        ensures { option_map (λ e. (P.Gen.number e.0, e.1.now)) result ≡ entry_at self.now.entries (P.Inx.number i) }
+    {
+        let entry = self.arena.get_inx(i)?;
+        let link = entry.1;
+        Some((entry.0, &link.t))
+    }
+
+    /// Generation, item and neighbours of the entry at the index.
+    pub fn get_inx_link_no_gen(&self, i: P::Inx) -> Option<(P::Gen, LinkNoGen<P, &T>)>
+        ensures { option_map (λ e. (P.Gen.number e.0, (record { item = e.1.item.now; prev = e.1.prev; next = e.1.next }))) result ≡ link_at self.now.entries (P.Inx.number i) }
+    {
+        let entry = self.arena.get_inx(i)?;
+        let link = entry.1;
+        Some((entry.0, LinkNoGen::new(link.prev_next(), &link.t)))
+    }
+
+    /// The pointer of the first entry of the list.
+    pub fn first(&self) -> Option<P>
+        ensures { option_map (λ p. (P.index p, P.era p)) result ≡ first_pointer self.now.entries }
+    {
+        self.ptr_at(self.first?)
+    }
+
+    /// The pointer of the last entry of the list.
+    pub fn last(&self) -> Option<P>
+        ensures { option_map (λ p. (P.index p, P.era p)) result ≡ last_pointer self.now.entries }
+    {
+        self.ptr_at(self.last?)
+    }
+
+    /// The pointer of the entry with the least index.
+    pub fn find_first_inx_ptr(&self) -> Option<P>
+        ensures first { IfSome result (λ p. IsFirstIndex self.now.entries (P.index p) (P.era p)) }
+        ensures empty { IsNone result ↔ (self.now.entries ≡ []) }
+    {
+        self.arena.find_first_inx_ptr()
+    }
+
+    /// The pointer of the entry with the greatest index.
+    pub fn find_last_inx_ptr(&self) -> Option<P>
+        ensures last { IfSome result (λ p. IsLastIndex self.now.entries (P.index p) (P.era p)) }
+        ensures empty { IsNone result ↔ (self.now.entries ≡ []) }
+    {
+        self.arena.find_last_inx_ptr()
+    }
+
+    // The pointer of the entry at the index.
+    pub(super) fn ptr_at(&self, i: P::Inx) -> Option<P>
+        ensures { option_map (λ p. (P.index p, P.era p)) result ≡ pointed (P.Inx.number i) (entry_at self.now.entries (P.Inx.number i)) }
+    {
+        let entry = self.arena.get_inx(i)?;
+        Some(P::_from_raw(i, entry.0))
+    }
+}

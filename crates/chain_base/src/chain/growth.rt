@@ -1,0 +1,76 @@
+//! Making a chain arena, and changing its capacity.
+ghost use Rattle.std.specs.Prelude.{◌≡◌, ◌<◌, ◌↔◌, max, IsOk, IsErr, IfOk, OnOk, OnErr};
+ghost use Rattle.arena_base.specs.Generation.{overflows_after};
+ghost use Rattle.arena_base.specs.Invalidation.{is_overflow};
+ghost use Rattle.chain_base.specs.Chain.{new_chain, with_capacity, cleared, greatest_index, chain_limit};
+
+use super::ChainArena;
+use arena_base::{Arena, InvalidationOption, MaxCapacityReductionError, Ptr, ReallocationError};
+use std::alloc::{AllocError, Allocator};
+
+impl<P: Ptr, T, A: Allocator> ChainArena<P, T, A> {
+    /// An empty chain arena with capacity 0 and no maximum, which takes no memory until it grows.
+    pub fn new(alloc: A) -> Self
+    where
+        A: Copy,
+        ensures { result ≡ new_chain P.Gen.greatest }
+    {
+        ChainArena {
+            arena: Arena::new(alloc),
+            first: None,
+            last: None,
+        }
+    }
+
+    /// An empty chain arena with room for `n` entries. It fails where memory is refused, or the pointers' indexes can't name
+    /// so many.
+    pub fn with_min_capacity(alloc: A, n: usize) -> Result<Self, AllocError>
+    where
+        A: Copy,
+        T: Drop,
+        ensures ok { IfOk result (λ c. c ≡ with_capacity (new_chain P.Gen.greatest) n) }
+        ensures beyond { P.Inx.most < n → IsErr result }
+        ensures none { n ≡ 0 → IsOk result }
+    {
+        Ok(ChainArena {
+            arena: Arena::with_min_capacity(alloc, n)?,
+            first: None,
+            last: None,
+        })
+    }
+
+    /// Makes the capacity the greater of `n` and the greatest index with an entry. All vacant slots then count as never used.
+    ///
+    /// It is refused where `n` is beyond the maximum or the greatest index, or where the capacity would grow and memory is
+    /// refused. Nothing changes then.
+    pub fn reallocate_min_capacity(&mut self, n: usize) -> Result<(), ReallocationError>
+        ensures ok { OnOk result (self.new ≡ with_capacity self.old (max n (greatest_index self.old.entries))) }
+        ensures beyond { (result ≡ Err ReallocationError.BeyondMaxCapacity) ↔ (chain_limit P.Inx.most self.old < n) }
+        ensures memory { result ≡ Err ReallocationError.AllocError → self.old.capacity < n }
+        ensures err { OnErr result (self.new ≡ self.old) }
+    {
+        self.arena.reallocate_min_capacity(n)
+    }
+
+    /// Sets a maximum of the capacity. It is refused where the capacity is already greater, and nothing changes then.
+    pub fn set_max_capacity(&mut self, n: usize) -> Result<(), MaxCapacityReductionError>
+        ensures ok { OnOk result (self.new ≡ record self.old { maximum = Some n }) }
+        ensures refused { IsErr result ↔ (n < self.old.capacity) }
+        ensures err { OnErr result (self.new ≡ self.old) }
+    {
+        self.arena.set_max_capacity(n)
+    }
+
+    /// Drops all entries and raises the generation, once also where there was none. The capacity stays, and all slots count as
+    /// never used. It takes no memory.
+    pub fn clear(&mut self) -> InvalidationOption<()>
+    where
+        T: Drop,
+        ensures after { self.new ≡ cleared P.Gen.greatest self.old }
+        ensures overflow { is_overflow result ≡ overflows_after P.Gen.greatest self.old.generation }
+    {
+        self.first = None;
+        self.last = None;
+        self.arena.clear()
+    }
+}

@@ -1,0 +1,111 @@
+//! Adding entries.
+ghost use Rattle.std.specs.Prelude.{◌≡◌, ◌≤◌, ◌↔◌, ◌⊎◌, Some, IsErr, IfOk, IfErr, OnErr, length};
+ghost use Rattle.std.specs.Option.{option_map};
+ghost use Rattle.chain_base.specs.Chain.{IsOccupied, link_at, chain_limit, with_room};
+ghost use Rattle.chain_base.specs.Insert.{placed, CanPlace, IsInsertion, IsPlace};
+
+use super::ChainArena;
+use super::links::relink;
+use crate::link::LinkNoGen;
+use arena_base::{InsertionError, Ptr};
+use std::alloc::Allocator;
+
+/// Where a new entry stands in the list.
+#[derive(Debug, PartialEq, Eq, Drop)]
+pub enum LinkInsertKind<P: Ptr> {
+    /// As the only entry. The list must be empty.
+    Disconnected,
+    /// Directly after the entry of this index, which must have one.
+    NextToInx(P::Inx),
+    /// Directly before the entry of this index, which must have one.
+    PrevToInx(P::Inx),
+}
+
+impl<P: Ptr, T: Drop, A: Allocator> ChainArena<P, T, A> {
+    /// Inserts an item at the place that `kind` names, into the slot that was freed last, else the least that was never used.
+    ///
+    /// Its generation is the arena's. It is refused where no slot is vacant; the item is then dropped, and nothing else changes.
+    pub fn insert_within_capacity(
+        &mut self,
+        kind: LinkInsertKind<P>,
+        t: T,
+    ) -> Result<P, InsertionError>
+        requires { CanPlace P.Inx.number kind self.old }
+        ensures ok { IfOk result (λ p. IsInsertion self.old self.new (placed P.Inx.number kind self.old.entries) t (P.index p) (P.era p)) }
+        ensures full { IsErr result ↔ (length self.old.entries ≡ self.old.capacity) }
+        ensures refusal { IfErr result (λ e. e ≡ InsertionError.NotWithinCapacity) }
+        ensures err { OnErr result (self.new ≡ self.old) }
+    {
+        let (prev, next) = self.neighbours(kind);
+        let p = self
+            .arena
+            .insert_within_capacity(LinkNoGen::new((prev, next), t))?;
+        let new = Some(p.inx());
+        let ends = relink(
+            &mut self.arena,
+            prev,
+            new,
+            new,
+            next,
+            (self.first, self.last),
+        );
+        self.first = ends.0;
+        self.last = ends.1;
+        Ok(p)
+    }
+
+    /// Inserts an item as `insert_within_capacity` does, and grows first where no slot is vacant.
+    ///
+    /// A growth makes the capacity twice as great, at least 4, and at most its limit. It is refused where the capacity is at the
+    /// limit or memory is refused; the item is then dropped, and nothing else changes.
+    pub fn insert_reallocating(
+        &mut self,
+        kind: LinkInsertKind<P>,
+        t: T,
+    ) -> Result<P, InsertionError>
+        requires { CanPlace P.Inx.number kind self.old }
+        ensures ok { IfOk result (λ p. IsInsertion (with_room P.Inx.most self.old) self.new (placed P.Inx.number kind self.old.entries) t (P.index p) (P.era p)) }
+        ensures beyond { (result ≡ Err InsertionError.BeyondMaxCapacity) ↔ (length self.old.entries ≡ chain_limit P.Inx.most self.old) }
+        ensures memory { result ≡ Err InsertionError.AllocError → length self.old.entries ≡ self.old.capacity }
+        ensures refusal { IfErr result (λ e. (e ≡ InsertionError.BeyondMaxCapacity) ⊎ (e ≡ InsertionError.AllocError)) }
+        ensures room { self.old.capacity ≤ self.new.capacity }
+        ensures err { OnErr result (self.new ≡ self.old) }
+    {
+        let (prev, next) = self.neighbours(kind);
+        let p = self
+            .arena
+            .insert_reallocating(LinkNoGen::new((prev, next), t))?;
+        let new = Some(p.inx());
+        let ends = relink(
+            &mut self.arena,
+            prev,
+            new,
+            new,
+            next,
+            (self.first, self.last),
+        );
+        self.first = ends.0;
+        self.last = ends.1;
+        Ok(p)
+    }
+
+    // The neighbours of a new entry.
+    fn neighbours(&self, kind: LinkInsertKind<P>) -> (Option<P::Inx>, Option<P::Inx>)
+        requires { CanPlace P.Inx.number kind self.now }
+        ensures { IsPlace self.now.entries (placed P.Inx.number kind self.now.entries) (option_map P.Inx.number result.0) (option_map P.Inx.number result.1) }
+    {
+        match kind {
+            LinkInsertKind::Disconnected => (None, None),
+            LinkInsertKind::NextToInx(i) => (Some(i), self.link_at(i).next()),
+            LinkInsertKind::PrevToInx(i) => (self.link_at(i).prev(), Some(i)),
+        }
+    }
+
+    // The link of the entry at an index that has one.
+    fn link_at(&self, i: P::Inx) -> &LinkNoGen<P, T>
+        requires { IsOccupied self.now (P.Inx.number i) }
+        ensures { option_map (λ e. e.1) (link_at self.now.entries (P.Inx.number i)) ≡ Some result.now }
+    {
+        self.arena.get_inx(i).unwrap().1
+    }
+}

@@ -1,0 +1,69 @@
+//! The few writes that change links.
+ghost use Rattle.std.specs.Prelude.{◌≡◌, is_some, if◌then◌else◌};
+ghost use Rattle.std.specs.Option.{option_map, ForSome};
+ghost use Rattle.arena_base.specs.Arena.{IsOccupied};
+ghost use Rattle.chain_base.specs.Link.{neighbour_of};
+ghost use Rattle.chain_base.specs.Layout.{linked_next, linked_prev};
+
+use crate::link::LinkNoGen;
+use arena_base::{Arena, Ptr};
+use std::alloc::Allocator;
+
+// Lets `left`, if there is one, lead on to `next`, and `right`, if there is one, back to `prev`. Where one is missing that end
+// of the list is new. Answers the first and the last index of the list.
+pub(super) fn relink<P: Ptr, T, A: Allocator>(
+    arena: &mut Arena<P, LinkNoGen<P, T>, A>,
+    left: Option<P::Inx>,
+    next: Option<P::Inx>,
+    prev: Option<P::Inx>,
+    right: Option<P::Inx>,
+    ends: (Option<P::Inx>, Option<P::Inx>),
+) -> (Option<P::Inx>, Option<P::Inx>)
+    requires left { ForSome left (λ i. IsOccupied arena.old (P.Inx.number i)) }
+    requires right { ForSome right (λ i. IsOccupied arena.old (P.Inx.number i)) }
+    ensures arena { arena.new ≡ linked_prev
+        (linked_next arena.old (option_map P.Inx.number left) (neighbour_of P.Inx.most (option_map P.Inx.number next)))
+        (option_map P.Inx.number right) (neighbour_of P.Inx.most (option_map P.Inx.number prev)) }
+    ensures first { option_map P.Inx.number result.0 ≡
+        (if is_some (option_map P.Inx.number left) then option_map P.Inx.number ends.0 else option_map P.Inx.number next) }
+    ensures last { option_map P.Inx.number result.1 ≡
+        (if is_some (option_map P.Inx.number right) then option_map P.Inx.number ends.1 else option_map P.Inx.number prev) }
+{
+    set_next(arena, left, next);
+    set_prev(arena, right, prev);
+    let first = if left.is_some() { ends.0 } else { next };
+    let last = if right.is_some() { ends.1 } else { prev };
+    (first, last)
+}
+
+// Links the entry at an index, if one is named, to another next one.
+fn set_next<P: Ptr, T, A: Allocator>(
+    arena: &mut Arena<P, LinkNoGen<P, T>, A>,
+    at: Option<P::Inx>,
+    next: Option<P::Inx>,
+)
+    requires { ForSome at (λ i. IsOccupied arena.old (P.Inx.number i)) }
+    ensures { arena.new ≡ linked_next arena.old (option_map P.Inx.number at) (neighbour_of P.Inx.most (option_map P.Inx.number next)) }
+{
+    if let Some(i) = at {
+        let pair = arena.pair_mut(i);
+        let link = pair.1;
+        link.set_next(next);
+    }
+}
+
+// Links the entry at an index, if one is named, to another previous one.
+fn set_prev<P: Ptr, T, A: Allocator>(
+    arena: &mut Arena<P, LinkNoGen<P, T>, A>,
+    at: Option<P::Inx>,
+    prev: Option<P::Inx>,
+)
+    requires { ForSome at (λ i. IsOccupied arena.old (P.Inx.number i)) }
+    ensures { arena.new ≡ linked_prev arena.old (option_map P.Inx.number at) (neighbour_of P.Inx.most (option_map P.Inx.number prev)) }
+{
+    if let Some(i) = at {
+        let pair = arena.pair_mut(i);
+        let link = pair.1;
+        link.set_prev(prev);
+    }
+}

@@ -1,0 +1,59 @@
+//! Ending entries and their pointers.
+ghost use Rattle.std.specs.Prelude.{◌≡◌, IfSome, IfNone, OnSome, is_some};
+ghost use Rattle.std.specs.Option.{option_map};
+ghost use Rattle.arena_base.specs.Generation.{next_generation, overflows_after};
+ghost use Rattle.arena_base.specs.Invalidation.{valid_value, has_overflowed};
+ghost use Rattle.chain_base.specs.Chain.{link_at, item_of, removed, renewed};
+
+use super::ChainArena;
+use super::links::relink;
+use crate::link::LinkNoGen;
+use arena_base::{InvalidationResult, Ptr};
+use std::alloc::Allocator;
+
+impl<P: Ptr, T, A: Allocator> ChainArena<P, T, A> {
+    /// Takes the entry at the index out, with its generation and the link that it had, links its neighbours to each other,
+    /// and raises the generation. The next insertion takes its slot. It takes no memory.
+    ///
+    /// At an index without an entry the answer is `InvalidPtr`, and nothing changes.
+    pub fn remove_inx_link_no_gen(
+        &mut self,
+        i: P::Inx,
+    ) -> InvalidationResult<(P::Gen, LinkNoGen<P, T>)>
+        ensures value { option_map (λ e. (P.Gen.number e.0, e.1)) (valid_value result) ≡ link_at self.old.entries (P.Inx.number i) }
+        ensures overflow { OnSome (valid_value result) (has_overflowed result ≡ overflows_after P.Gen.greatest self.old.generation) }
+        ensures removed { OnSome (valid_value result) (self.new ≡ removed P.Gen.greatest self.old (P.Inx.number i)) }
+        ensures invalid { IfNone (valid_value result) (self.new ≡ self.old) }
+    {
+        let (prev, next) = match self.arena.get_inx(i) {
+            Some(entry) => entry.1.prev_next(),
+            None => return InvalidationResult::InvalidPtr,
+        };
+        let taken = self.arena.remove_inx(i);
+        let ends = relink(
+            &mut self.arena,
+            prev,
+            next,
+            prev,
+            next,
+            (self.first, self.last),
+        );
+        self.first = ends.0;
+        self.last = ends.1;
+        taken
+    }
+
+    /// Gives the entry that the pointer names a new pointer, at the same index and place and with the raised generation.
+    ///
+    /// For a pointer that names no entry the answer is `InvalidPtr`, and nothing changes.
+    pub fn invalidate(&mut self, p: P) -> InvalidationResult<P>
+        ensures valid { is_some (valid_value result) ≡ is_some (item_of self.old.entries (P.index p) (P.era p)) }
+        ensures index { IfSome (valid_value result) (λ q. P.index q ≡ P.index p) }
+        ensures era { IfSome (valid_value result) (λ q. P.era q ≡ next_generation P.Gen.greatest self.old.generation) }
+        ensures overflow { OnSome (valid_value result) (has_overflowed result ≡ overflows_after P.Gen.greatest self.old.generation) }
+        ensures renewed { OnSome (valid_value result) (self.new ≡ renewed P.Gen.greatest self.old (P.index p)) }
+        ensures invalid { IfNone (valid_value result) (self.new ≡ self.old) }
+    {
+        self.arena.invalidate(p)
+    }
+}

@@ -1,0 +1,74 @@
+//! Going along the chain.
+ghost use Rattle.std.specs.Prelude.{◌≡◌, [], ◌∷◌, Some, None, MatchOption, IfSome, is_some};
+ghost use Rattle.std.specs.Option.{option_map};
+ghost use Rattle.chain_base.specs.Chain.{item_of};
+ghost use Rattle.chain_base.specs.Walk.{pointers_from};
+
+use super::ChainArena;
+use arena_base::{Advancer, Ptr};
+use std::alloc::Allocator;
+use std::marker::Model;
+
+/// Goes through the pointers of a chain arena, from one entry to the last.
+///
+/// It borrows nothing, and keeps the index of the entry that it gives next: a step gives the entry that has this index then, and
+/// goes on from its present link. Where no entry has the index, it has ended.
+#[derive(Drop)]
+pub struct ChainPtrAdvancer<P: Ptr> {
+    at: Option<P::Inx>,
+}
+
+impl<P: Ptr> Model for ChainPtrAdvancer<P> {
+    ghost use Rattle.std.specs.Prelude.{ℕ, Option};
+    ghost use Rattle.std.specs.Option.{option_map};
+
+    ghost Value = { Option ℕ };
+
+    ghost view = { λ s. option_map P.Inx.number s.at };
+}
+
+impl<P: Ptr, T, A: Allocator> Advancer<ChainArena<P, T, A>> for ChainPtrAdvancer<P> {
+    type Item = P;
+
+    ghost advance_gives = { λ s c result t. MatchOption result
+        ((pointers_from s c ≡ []) × (t ≡ None))
+        (λ p. pointers_from s c ≡ (P.index p, P.era p) ∷ pointers_from t c) };
+
+    ghost has_ended = { λ s. s ≡ None };
+
+    fn advance(&mut self, chain: &ChainArena<P, T, A>) -> Option<P> {
+        let at = self.at;
+        self.at = None;
+        let (p, next) = chain.step(at?)?;
+        self.at = next;
+        Some(p)
+    }
+
+    fn empty() -> ChainPtrAdvancer<P> {
+        ChainPtrAdvancer { at: None }
+    }
+}
+
+impl<P: Ptr, T, A: Allocator> ChainArena<P, T, A> {
+    /// Goes through the pointers from an entry on, which is the first to be given; `None` where the pointer names no entry.
+    pub fn advancer_chain(&self, p: P) -> Option<ChainPtrAdvancer<P>>
+        ensures valid { is_some result ≡ is_some (item_of self.now.entries (P.index p) (P.era p)) }
+        ensures begins { IfSome result (λ s. s ≡ Some (P.index p)) }
+    {
+        if self.contains(p) {
+            Some(ChainPtrAdvancer { at: Some(p.inx()) })
+        } else {
+            None
+        }
+    }
+
+    // The pointer of the entry at an index, and the index after it.
+    fn step(&self, i: P::Inx) -> Option<(P, Option<P::Inx>)>
+        ensures { MatchOption result
+            (pointers_from (Some (P.Inx.number i)) self.now ≡ [])
+            (λ e. pointers_from (Some (P.Inx.number i)) self.now ≡ (P.index e.0, P.era e.0) ∷ pointers_from (option_map P.Inx.number e.1) self.now) }
+    {
+        let entry = self.arena.get_inx(i)?;
+        Some((P::_from_raw(i, entry.0), entry.1.next()))
+    }
+}

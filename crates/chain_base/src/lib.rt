@@ -1,0 +1,12 @@
+//! Chain arenas: entries of an arena that stand in one list, each linked to its neighbours.
+#![tactic(auto)]
+
+mod chain;
+mod link;
+#[cfg(test)]
+mod tests;
+
+pub use chain::ChainArena;
+pub use chain::insert::LinkInsertKind;
+pub use chain::walk::ChainPtrAdvancer;
+pub use link::LinkNoGen;

@@ -1,0 +1,267 @@
+// Chains as a program makes them.
+ghost use Rattle.std.specs.Prelude.{[], ◌≡◌};
+
+use crate::{ChainArena, LinkInsertKind, LinkNoGen};
+use arena_base::{
+    Advancer, InsertionError, InvalidationOption, InvalidationResult, P0, P8, PN, Ptr,
+    ReallocationError,
+};
+use linked_list_allocator::LocalHeap;
+use std::alloc::{Allocator, Global};
+use std::process::Abort;
+use std::test::Fail;
+
+type Letters<A = Global> = ChainArena<P0, char, A>;
+
+/// Inserts the only letter.
+fn begin<A: Allocator>(
+    rt: &impl Abort,
+    chain: &mut Letters<A>,
+    letter: char,
+) -> Result<P0, InsertionError> {
+    assert!(rt; chain.is_empty());
+    chain.insert_reallocating(LinkInsertKind::Disconnected, letter)
+}
+
+/// Inserts a letter directly after an index.
+fn after<A: Allocator>(
+    rt: &impl Abort,
+    chain: &mut Letters<A>,
+    i: u32,
+    letter: char,
+) -> Result<P0, InsertionError> {
+    assert!(rt; chain.contains_inx(i));
+    chain.insert_reallocating(LinkInsertKind::NextToInx(i), letter)
+}
+
+/// Inserts a letter directly before an index.
+fn before<A: Allocator>(
+    rt: &impl Abort,
+    chain: &mut Letters<A>,
+    i: u32,
+    letter: char,
+) -> Result<P0, InsertionError> {
+    assert!(rt; chain.contains_inx(i));
+    chain.insert_reallocating(LinkInsertKind::PrevToInx(i), letter)
+}
+
+/// The letters in order, with the pointers that an advancer gives.
+fn text<A: Allocator>(rt: &impl Abort, alloc: Global, chain: &Letters<A>) -> Result<String, Fail> {
+    let mut text = String::new(alloc);
+    let Some(first) = chain.first() else {
+        return Ok(text);
+    };
+    let mut advancer = chain
+        .advancer_chain(first)
+        .ok_or("the first names an entry")?;
+    for _ in 0..chain.len() {
+        let p = advancer.advance(chain).ok_or("an entry for each")?;
+        text.push(*chain.get(p).ok_or("its letter")?)?;
+        if chain.last() == Some(p) {
+            assert_eq!(rt; advancer.advance(chain), None);
+        }
+    }
+    Ok(text)
+}
+
+/// The indexes of an entry's neighbours.
+fn neighbours(chain: &Letters, i: u32) -> Option<(Option<u32>, Option<u32>)> {
+    let link = chain.get_inx_link_no_gen(i)?.1;
+    Some(link.prev_next())
+}
+
+#[test]
+fn links_before_and_after(rt: HostRuntime) -> Result<(), Fail> {
+    let mut chain = Letters::new(rt.alloc());
+    assert_eq!(rt; begin(&rt, &mut chain, 'a')?, P0::_from_raw(1, 2));
+    assert_eq!(rt; after(&rt, &mut chain, 1, 'b')?, P0::_from_raw(2, 2));
+    assert_eq!(rt; before(&rt, &mut chain, 2, 'c')?, P0::_from_raw(3, 2));
+    assert_eq!(rt; text(&rt, rt.alloc(), &chain)?.as_str(), "acb");
+    assert_eq!(rt; neighbours(&chain, 3), Some((Some(1), Some(2))));
+
+    let removed = chain
+        .remove_inx_link_no_gen(3)
+        .allow()
+        .ok_or("3 has an entry")?;
+    let (generation, link) = removed;
+    assert_eq!(rt;
+        (generation, link.t, link.prev(), link.next()),
+        (2, 'c', Some(1), Some(2))
+    );
+    assert_eq!(rt; neighbours(&chain, 1), Some((None, Some(2))));
+    assert_eq!(rt; neighbours(&chain, 2), Some((Some(1), None)));
+    assert_eq!(rt; neighbours(&chain, 3), None);
+    assert_eq!(rt;
+        (chain.generation(), chain.len(), chain.capacity()),
+        (3, 2, 4)
+    );
+    assert_eq!(rt;
+        chain.arena().next_insertion_ptr(),
+        Some(P0::_from_raw(3, 3))
+    );
+    Ok(())
+}
+
+#[test]
+fn inserts_and_removes_at_the_ends(rt: HostRuntime) -> Result<(), Fail> {
+    let mut chain = Letters::new(rt.alloc());
+    let middle = begin(&rt, &mut chain, 'm')?;
+    let first = before(&rt, &mut chain, 1, 'f')?;
+    let last = after(&rt, &mut chain, 1, 'l')?;
+    assert_eq!(rt; text(&rt, rt.alloc(), &chain)?.as_str(), "fml");
+    assert_eq!(rt; (chain.first(), chain.last()), (Some(first), Some(last)));
+    assert_eq!(rt;
+        (chain.find_first_inx_ptr(), chain.find_last_inx_ptr()),
+        (Some(middle), Some(last))
+    );
+
+    assert!(rt; chain.remove_inx_link_no_gen(first.inx()).allow().is_some());
+    assert_eq!(rt;
+        (
+            text(&rt, rt.alloc(), &chain)?.as_str(),
+            chain.first(),
+            neighbours(&chain, 1)
+        ),
+        ("ml", Some(middle), Some((None, Some(3))))
+    );
+    assert!(rt; chain.remove_inx_link_no_gen(last.inx()).allow().is_some());
+    assert_eq!(rt;
+        (
+            text(&rt, rt.alloc(), &chain)?.as_str(),
+            chain.last(),
+            neighbours(&chain, 1)
+        ),
+        ("m", Some(middle), Some((None, None)))
+    );
+    assert!(rt; chain.remove_inx_link_no_gen(middle.inx()).allow().is_some());
+    assert_eq!(rt;
+        (chain.is_empty(), chain.first(), chain.last()),
+        (true, None, None)
+    );
+    assert!(rt; chain.remove_inx_link_no_gen(1).allow().is_none());
+    assert_eq!(rt;
+        (begin(&rt, &mut chain, 'n')?, chain.first()),
+        (P0::_from_raw(1, 5), Some(P0::_from_raw(1, 5)))
+    );
+    Ok(())
+}
+
+#[test]
+fn renews_clears_and_writes(rt: HostRuntime) -> Result<(), Fail> {
+    let mut chain = Letters::with_min_capacity(rt.alloc(), 3)?;
+    let p = begin(&rt, &mut chain, 'a')?;
+    let _ = after(&rt, &mut chain, 1, 'b')?;
+    assert_eq!(rt;
+        chain.invalidate(p),
+        InvalidationResult::Success(P0::_from_raw(1, 3))
+    );
+    assert_eq!(rt;
+        (chain.contains(p), chain.invalidate(p)),
+        (false, InvalidationResult::InvalidPtr)
+    );
+    assert_eq!(rt; text(&rt, rt.alloc(), &chain)?.as_str(), "ab");
+
+    let (_, letter) = chain.get_inx_mut(2).ok_or("2 has an entry")?;
+    *letter = 'x';
+    if let Some(letter) = chain.item_at_mut(1) {
+        *letter = 'y';
+    }
+    assert!(rt; chain.get_inx_mut(3).is_none());
+    assert_eq!(rt; text(&rt, rt.alloc(), &chain)?.as_str(), "yx");
+    assert_eq!(rt; chain.get_inx(2), Some((2, &'x')));
+
+    assert_eq!(rt;
+        (chain.set_max_capacity(2).is_err(), chain.max_capacity()),
+        (true, None)
+    );
+    assert_eq!(rt;
+        (chain.set_max_capacity(3).is_ok(), chain.max_capacity()),
+        (true, Some(3))
+    );
+    assert_eq!(rt;
+        chain.reallocate_min_capacity(4),
+        Err(ReallocationError::BeyondMaxCapacity)
+    );
+    assert_eq!(rt;
+        (chain.reallocate_min_capacity(0), chain.capacity()),
+        (Ok(()), 2)
+    );
+    chain.set_generation(9);
+    assert_eq!(rt;
+        (chain.inc_generation(), chain.generation()),
+        (InvalidationOption::Success(()), 10)
+    );
+    assert_eq!(rt;
+        (chain.clear(), chain.generation()),
+        (InvalidationOption::Success(()), 11)
+    );
+    assert_eq!(rt;
+        (chain.len(), chain.capacity(), chain.first()),
+        (0, 2, None)
+    );
+    Ok(())
+}
+
+#[test]
+fn fills_small_pointers(rt: HostRuntime) -> Result<(), Fail> {
+    let mut chain: ChainArena<P8, u8> = ChainArena::new(rt.alloc());
+    assert!(rt; chain.is_empty());
+    let _ = chain.insert_reallocating(LinkInsertKind::Disconnected, 0)?;
+    for item in 1..254 {
+        assert!(rt; chain.contains_inx(item));
+        let _ = chain.insert_reallocating(LinkInsertKind::NextToInx(item), item)?;
+    }
+    assert_eq!(rt; (chain.len(), chain.capacity()), (254, 254));
+    assert!(rt; chain.contains_inx(254));
+    let refused = chain.insert_reallocating(LinkInsertKind::NextToInx(254), 255);
+    assert_eq!(rt;
+        (refused, chain.len()),
+        (Err(InsertionError::BeyondMaxCapacity), 254)
+    );
+    assert_eq!(rt; chain.last(), Some(P8::_from_raw(254, 2)));
+
+    let mut ageless: ChainArena<PN, u8> = ChainArena::new(rt.alloc());
+    assert!(rt; ageless.is_empty());
+    let refused = ageless.insert_within_capacity(LinkInsertKind::Disconnected, 0);
+    assert_eq!(rt; refused, Err(InsertionError::NotWithinCapacity));
+    let link: LinkNoGen<P8, u8> = LinkNoGen::new((Some(7), Some(255)), 1);
+    assert_eq!(rt; link.prev_next(), (Some(7), None));
+    Ok(())
+}
+
+/// Inserts ten letters, each after the last, until memory is refused.
+fn fill<A: Allocator>(rt: &impl Abort, chain: &mut Letters<A>) -> Result<(), InsertionError> {
+    for letter in 'a'..='j' {
+        match chain.last() {
+            None => begin(rt, chain, letter)?,
+            Some(last) => after(rt, chain, last.inx(), letter)?,
+        };
+    }
+    Ok(())
+}
+
+#[test]
+fn keeps_all_where_memory_is_refused(rt: HostRuntime) -> Result<(), Fail> {
+    let mut is_refused = [false; 3];
+    for size in 1..80 {
+        let heap = LocalHeap::new(rt.alloc(), 16 * size)?;
+        let mut chain = Letters::new(&heap);
+        let outcome = fill(&rt, &mut chain);
+        let len = chain.len();
+        match outcome {
+            Ok(()) => assert_eq!(rt; len, 10),
+            Err(error) => {
+                assert_eq!(rt; error, InsertionError::AllocError);
+                assert_eq!(rt; (chain.capacity(), chain.generation()), (len, 2));
+            }
+        }
+        for (i, known) in [0, 4, 8].iter().enumerate() {
+            if len == *known {
+                is_refused[i] = true;
+            }
+        }
+        assert!(rt; "abcdefghij".starts_with(text(&rt, rt.alloc(), &chain)?.as_str()));
+    }
+    assert_eq!(rt; is_refused, [true; 3]);
+    Ok(())
+}
