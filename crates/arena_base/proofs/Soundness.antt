@@ -1,6 +1,5 @@
 -- What is true of every arena stays so through each step. The slots here are those from index 1 on.
-use Rattle.std.proofs.Common.{inl, inr, ◌⊎◌, ◌==◌, ◌≡◌, ◌≢◌, ℕ, zero, suc, ◌+◌, ◌-◌, ◌<◌, ◌≤◌, true, Option, Some, None, List, [], ◌∷◌, ◌++◌, cond, eqb, length, get_or, set, is_some, count_by, refl, sym, ap, ◌∙◌, subst, arith, min, zero-add}
-use Rattle.std.specs.Option.{ForSome}
+use Rattle.std.proofs.Common.{inl, inr, ◌≡◌, ℕ, zero, suc, ◌+◌, ◌<◌, ◌≤◌, Option, Some, None, List, [], ◌∷◌, cond, eqb, length, get_or, set, is_some, count_by, refl, sym, ap, ◌∙◌, subst, arith, zero-add}
 use Rattle.std.proofs.lemmas.Bool.{cases_eq, eq-eqb, ne_eqb}
 use Rattle.std.proofs.lemmas.List.{length-set, get_or-set_same, get_or-set_other}
 use Rattle.std.proofs.lemmas.List.Sums.{sum_by-cons}

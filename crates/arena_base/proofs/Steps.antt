@@ -1,5 +1,5 @@
 -- Each step on the vector of slots and the stack of vacant places is the step of the arena that contracts name.
-use Rattle.std.proofs.Common.{inl, inr, ◌≡◌, ℕ, zero, suc, ◌+◌, ◌-◌, ◌<◌, ◌≤◌, true, Option, Some, None, List, [], ◌∷◌, ◌++◌, map, length, slice_get, get_or, set, take, drop, replicate, reverse, is_some, min, refl, sym, ap, ◌∙◌, subst, arith, add-one}
+use Rattle.std.proofs.Common.{◌≡◌, ℕ, zero, suc, ◌+◌, ◌-◌, ◌<◌, ◌≤◌, true, Option, Some, None, List, [], ◌∷◌, ◌++◌, map, length, slice_get, get_or, set, take, reverse, is_some, refl, sym, ap, ◌∙◌, subst, arith, add-one}
 use Rattle.std.proofs.lemmas.Bool.{false≢true}
 use Rattle.std.proofs.lemmas.Option.{slice_get_within, get_or_from_slice_get}
 use Rattle.std.proofs.lemmas.List.{take_all, take_more, map-set, reverse-append, reverse-reverse, length-map}
@@ -8,7 +8,7 @@ use Rattle.arena_base.specs.declared.slot.Slot.{Slot}
 use Rattle.arena_base.specs.declared.slot.Slot.TheVariants.{Occupied, Vacant}
 use Rattle.arena_base.specs.Slot.{entry_in, vacant_places, arena_of}
 use Rattle.arena_base.specs.Generation.{IsLawfulGeneration}
-use Rattle.arena_base.specs.Arena.{Arena, slot, arena_capacity, with_slot, freed, with_entry_at, IsSound, IsInsertion, IsVacant, vacant_from, limit_of}
+use Rattle.arena_base.specs.Arena.{Arena, slot, arena_capacity, with_slot, freed, IsSound, IsInsertion, IsVacant, vacant_from, limit_of}
 use Rattle.arena_base.proofs.Places.{entries, slot-read, slots-written, vacant_places-indexes}
 use Rattle.arena_base.proofs.Vacancies.{within_from_some, vacant_from-least, vacant_from-filled_first}
 use Rattle.arena_base.proofs.Soundness.{limit_of-below, arena, within_limit, sound-listed, sound-written, sound-freed, sound-filled, first-vacant}

@@ -1,5 +1,5 @@
 -- Two entries whose slots change places and whose generations are then put back have exchanged their items.
-use Rattle.std.proofs.Common.{inl, inr, ◌⊎◌, ◌≡◌, ◌≢◌, ℕ, ◌+◌, ◌<◌, Option, Some, None, List, [], ◌∷◌, map, reverse, length, get_or, set, is_some, true, refl, sym, ap, ◌∙◌, subst, arith, add-one}
+use Rattle.std.proofs.Common.{inl, inr, ◌≡◌, ℕ, ◌+◌, ◌<◌, Option, Some, None, List, length, get_or, set, is_some, true, refl, sym, ap, ◌∙◌, subst, arith}
 use Rattle.std.specs.Option.{option_map}
 use Rattle.std.proofs.lemmas.Bool.{cases_eq, false≢true}
 use Rattle.std.proofs.lemmas.List.{set-set, set_comm, get_or-set_same, get_or-set_other, get_or_default}

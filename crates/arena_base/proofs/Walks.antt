@@ -1,8 +1,8 @@
 -- One step of a walk by index.
-use Rattle.std.proofs.Common.{inl, inr, ◌≡◌, ℕ, cond, zero, suc, ◌+◌, ◌<◌, ◌≤◌, Option, Some, None, List, [], ◌∷◌, ◌++◌, length, get_or, take, drop, reverse, refl, sym, ap, ◌∙◌, subst, arith, add-one}
+use Rattle.std.proofs.Common.{◌≡◌, ℕ, cond, suc, ◌+◌, ◌<◌, Option, Some, None, List, [], ◌∷◌, ◌++◌, length, get_or, take, drop, reverse, refl, sym, ap, ◌∙◌, arith}
 use Rattle.std.specs.Option.{option_map}
 use Rattle.std.proofs.lemmas.Option.{none-some, same_Some}
-use Rattle.std.proofs.lemmas.List.{get_or-drop, drop-set-lt, append-nil, drop_more, drop_all, take_more, take_all, reverse-append, length-take-le, get_or_past}
+use Rattle.std.proofs.lemmas.List.{get_or-drop, drop-set-lt, append-nil, take_more, reverse-append, length-take-le}
 use Rattle.std.proofs.lemmas.Bool.{eq-eqb}
 use Rattle.arena_base.specs.Arena.{Arena, slot, item_if, item_of, without}
 use Rattle.arena_base.specs.Walk.{pointers_from, entries_from, entries_rising}

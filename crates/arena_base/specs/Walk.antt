@@ -1,5 +1,5 @@
 -- Walks over an arena by index: the pointers that an advancer still gives, and the entries that a drain still takes.
-use Rattle.std.specs.Prelude.{◌≡◌, ℕ, ◌+◌, Bool, Option, Some, None, List, [], ◌∷◌, if◌then◌else◌, take, drop, reverse}
+use Rattle.std.specs.Prelude.{ℕ, ◌+◌, Bool, Option, Some, None, List, [], ◌∷◌, if◌then◌else◌, take, drop, reverse}
 use Rattle.arena_base.specs.Arena.{Arena}
 
 -- an advancer stands before the slot at this place, and goes up or down from there

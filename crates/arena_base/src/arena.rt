@@ -26,6 +26,9 @@ pub use walks::PtrAdvancer;
 ///
 /// An entry that goes away raises the generation, so that its pointer isn't valid for the next entry at that index.
 /// An insertion takes the slot that was freed last, else the least that was never used.
+///
+/// The calls take this arena's pointer type alone: where `arena` is an `Arena<P0, u64>` and `q` a `Q0`, `arena.get(q)` doesn't
+/// compile, with `error[mismatched-types]: expected `P0`, found `Q0``.
 #[derive(Drop)]
 pub struct Arena<P: Ptr, T, A: Allocator = Global> {
     slots: Vec<Slot<T, P::Gen>, A>,
@@ -75,6 +78,7 @@ impl<P: Ptr, T, A: Allocator> Arena<P, T, A> {
         self.slots.len() - self.vacant.len()
     }
 
+    /// Whether there is no entry.
     pub fn is_empty(&self) -> bool
         ensures { result ≡ (arena_len self.now == 0) }
     {
@@ -97,7 +101,7 @@ impl<P: Ptr, T, A: Allocator> Arena<P, T, A> {
         *self.slots.allocator()
     }
 
-    /// Sets the generation, and leaves each entry its own.
+    /// Sets the generation, which has to be lawful, and leaves each entry its own.
     pub fn set_generation(&mut self, generation: P::Gen)
         requires { IsLawfulGeneration P.Gen.greatest (P.Gen.number generation) }
         ensures { self.new ≡ record self.old { generation = P.Gen.number generation } }
@@ -105,7 +109,7 @@ impl<P: Ptr, T, A: Allocator> Arena<P, T, A> {
         self.generation = generation;
     }
 
-    /// Raises the generation, and leaves each entry its own.
+    /// Raises the generation, and leaves each entry its own. After the greatest comes the first again, which is an overflow.
     pub fn inc_generation(&mut self) -> InvalidationOption<()>
         ensures after { self.new ≡ raised P.Gen.greatest self.old }
         ensures overflow { is_overflow result ≡ overflows_after P.Gen.greatest self.old.generation }

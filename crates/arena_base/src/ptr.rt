@@ -8,6 +8,7 @@ use std::hash::Hash;
 
 mod numbers;
 mod pointers;
+mod unit;
 
 pub use pointers::{P0, P8, PN, Q0};
 
@@ -94,9 +95,11 @@ pub trait Ptr: Copy + Eq + Ord + Hash + Debug {
     // the number of its generation
     ghost era: { Self → ℕ };
 
+    /// The index of the entry that it names.
     fn inx(self) -> Self::Inx
         ensures { Self.Inx.number result ≡ index self };
 
+    /// The generation that the entry has to have.
     fn generation(self) -> Self::Gen
         ensures { Self.Gen.number result ≡ era self };
 

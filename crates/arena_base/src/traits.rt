@@ -46,6 +46,7 @@ pub trait ArenaTrait<P: Ptr, T> {
     fn len(&self) -> usize
         ensures { result ≡ arena_len (content self.now) };
 
+    /// Whether there is no entry.
     fn is_empty(&self) -> bool
         ensures { result ≡ (arena_len (content self.now) == 0) };
 

@@ -1,4 +1,4 @@
-//! The unsigned numbers as indexes and generations, and `()` as the generation that never changes.
+//! The unsigned numbers as indexes and generations.
 ghost use Rattle.std.specs.Prelude.{◌≡◌, ℕ, ◌^◌, ◌-◌, Option, Some, None, refl};
 ghost use Rattle.std.proofs.Common.{rules};
 
@@ -261,27 +261,5 @@ impl PtrGen for u64 {
 
     fn is_lawful(self) -> bool {
         self >= 2
-    }
-}
-
-impl PtrGen for () {
-    ghost number = { λ _. 0 };
-
-    ghost greatest = { None };
-
-    ghost one_each = { λ g h e. refl };
-
-    ghost eq_is = { λ g h. refl };
-
-    fn one() {}
-
-    fn two() {}
-
-    fn generational_inc(self) -> ((), bool) {
-        ((), false)
-    }
-
-    fn is_lawful(self) -> bool {
-        true
     }
 }

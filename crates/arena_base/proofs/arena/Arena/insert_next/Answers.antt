@@ -1,5 +1,5 @@
 use Rattle.arena_base.proofs.Steps.{top-within, top-limit, sound-put, insertion}
-use Rattle.std.proofs.Common.{subst, sym, arith}
+use Rattle.std.proofs.Common.{arith}
 use Rattle.arena_base.proofs.arena.Arena.insert_next.Goals as goal
 
 pub index_mut-requires : goal.index_mut-requires

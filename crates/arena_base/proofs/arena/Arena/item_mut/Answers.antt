@@ -1,7 +1,7 @@
-use Rattle.std.proofs.Common.{◌≡◌, ℕ, ◌+◌, subst, is_some, refl, sym, ap, ◌∙◌, arith}
+use Rattle.std.proofs.Common.{ℕ, ◌+◌, subst, is_some, refl, sym, ap, ◌∙◌}
 use Rattle.std.specs.Option.{option_map, ForSome}
 use Rattle.arena_base.specs.Generation.{IsLawfulGeneration}
-use Rattle.arena_base.specs.Slot.{entry_in, slot_entry, with_slot_item}
+use Rattle.arena_base.specs.Slot.{with_slot_item}
 use Rattle.arena_base.specs.Arena.{slot}
 use Rattle.arena_base.proofs.Occupied.{is_some-slot_entry, item-slot_entry, entry_in-with_slot_item}
 use Rattle.arena_base.proofs.Steps.{slot-of, entry-within, set-view, set-sound}

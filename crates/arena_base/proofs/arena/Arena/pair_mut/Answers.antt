@@ -1,4 +1,4 @@
-use Rattle.std.proofs.Common.{◌≡◌, ◌+◌, Some, is_some, refl, sym, ap, ◌∙◌}
+use Rattle.std.proofs.Common.{is_some, refl, sym, ap, ◌∙◌}
 use Rattle.arena_base.specs.Arena.{with_item, slot}
 use Rattle.arena_base.proofs.Occupied.{is_some-slot_entry, entry_in-parts}
 use Rattle.arena_base.proofs.Steps.{slot-of}

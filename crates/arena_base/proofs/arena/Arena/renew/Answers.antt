@@ -1,4 +1,4 @@
-use Rattle.std.proofs.Common.{◌≡◌, ℕ, sym, ap, ◌∙◌, arith}
+use Rattle.std.proofs.Common.{ℕ, sym, ap, ◌∙◌}
 use Rattle.std.specs.Option.{option_map}
 use Rattle.arena_base.specs.Arena.{slot}
 use Rattle.arena_base.specs.Slot.{entry_in}

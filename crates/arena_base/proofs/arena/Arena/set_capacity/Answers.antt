@@ -1,4 +1,4 @@
-use Rattle.std.proofs.Common.{◌≤◌, take, reverse, length, sym, ap, ◌∙◌, subst, arith}
+use Rattle.std.proofs.Common.{◌≤◌, reverse, length, sym, ap, ◌∙◌, subst, arith}
 use Rattle.std.proofs.lemmas.List.{length-take}
 use Rattle.arena_base.specs.Slot.{vacant_places}
 use Rattle.arena_base.specs.Arena.{greatest_occupied, limit_of}

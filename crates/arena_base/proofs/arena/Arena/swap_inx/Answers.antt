@@ -1,4 +1,4 @@
-use Rattle.std.proofs.Common.{◌≡◌, ◌<◌, is_some, sym, ap, ◌∙◌, subst, arith}
+use Rattle.std.proofs.Common.{◌<◌, is_some, sym, ap, ◌∙◌, subst, arith}
 use Rattle.arena_base.specs.Arena.{arena_capacity}
 use Rattle.arena_base.proofs.Occupied.{is_some-slot_entry}
 use Rattle.arena_base.proofs.Steps.{slot-of, arena_capacity-of}

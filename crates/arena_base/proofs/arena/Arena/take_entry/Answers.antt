@@ -1,5 +1,4 @@
-use Rattle.std.proofs.Common.{◌≡◌, is_some, sym, ap, ◌∙◌, arith}
-use Rattle.arena_base.specs.Slot.{entry_in}
+use Rattle.std.proofs.Common.{is_some, sym, ap, ◌∙◌, arith}
 use Rattle.arena_base.proofs.Occupied.{is_some-slot_entry, entry_in-slot_entry}
 use Rattle.arena_base.proofs.Steps.{slot-of, take-view, take-sound}
 use Rattle.arena_base.proofs.arena.Arena.take_entry.Goals as goal

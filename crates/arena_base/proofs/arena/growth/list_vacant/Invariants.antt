@@ -1,4 +1,4 @@
-use Rattle.std.proofs.Common.{◌≡◌, ◌+◌, ◌≤◌, reverse, drop, length, vec_len, vec_capacity}
+use Rattle.std.proofs.Common.{◌≡◌, reverse, drop, vec_capacity}
 use Rattle.arena_base.specs.Slot.{vacant_places}
 use Rattle.arena_base.proofs.arena.growth.list_vacant.Given as goal
 

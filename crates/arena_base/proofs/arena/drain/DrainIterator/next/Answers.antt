@@ -1,4 +1,4 @@
-use Rattle.std.proofs.Common.{◌≡◌, ◌+◌, Some, OnSome, is_some, refl, sym, ap, ◌∙◌, subst}
+use Rattle.std.proofs.Common.{◌≡◌, ◌+◌, OnSome, is_some, refl, sym, ap, ◌∙◌, subst}
 use Rattle.arena_base.specs.Arena.{without}
 use Rattle.arena_base.specs.Generation.{overflows_after}
 use Rattle.arena_base.specs.Invalidation.{has_overflowed}
