@@ -1,0 +1,190 @@
+-- Taking out a node of which one side is empty: what hangs on its other side takes its place.
+use Rattle.std.proofs.Common.{◌≡◌, ◌≢◌, ℕ, ◌+◌, ◌<◌, ◌≤◌, ◌^◌, Option, Some, None, List, [], ◌∷◌, ◌++◌, length, arith, refl, sym, ◌∙◌, ap, subst, inl, inr, ⊎_elim, option_map, is_some, true, append_assoc, length-append, MatchOption}
+use Rattle.std.specs.Option.{IfSome, option_to_list}
+use Rattle.std.proofs.lemmas.Bool.{cases_eq, cases_lt, eq-eqb, ne_eqb}
+use Rattle.ord_tree.specs.declared.links.Side.{Side}
+use Rattle.ord_tree.specs.declared.links.Side.TheVariants.{Lesser, Greater}
+use Rattle.ord_tree.specs.declared.links.Links.{Links}
+use Rattle.ord_tree.specs.declared.links.Place.{Place}
+use Rattle.ord_tree.specs.Links.{other_side, child_at, with_child_at}
+use Rattle.ord_tree.specs.Shape.{Shape, missing, node, fork, rank_of, root_of, walk}
+use Rattle.ord_tree.specs.Slots.{Slots, Holds, Way, top, up, plug, above, HoldsWay, here, times, times_in, times_way, IsOnce, back_at, MovesBacks}
+use Rattle.ord_tree.specs.Balance.{IsOver, IsBalanced, IsBalancedWay}
+use Rattle.ord_tree.specs.Raise.{IsBuilt}
+use Rattle.ord_tree.specs.Sink.{IsFallen}
+use Rattle.ord_tree.specs.Detach.{without, IsLoose}
+use Rattle.ord_tree.proofs.Forks.{Holds-fork, Holds-plug, link-root, fork_balanced, here-same, times-append, times-walk, times_in-plug, times_in-fork, rank-fork}
+use Rattle.ord_tree.proofs.Frames.{root-in, Holds-frame, HoldsWay-frame, Holds-rehung, HoldsWay-replaced}
+use Rattle.ord_tree.proofs.Rotations.{above-in, occupied-link, cases_link}
+use Rattle.ord_tree.proofs.Spots.{Spot, spot_in, plug_balanced, Around, around}
+use Rattle.ord_tree.proofs.Budding.{rootless}
+use Rattle.ord_tree.proofs.Doubles.{Among-root, length-root}
+
+-- lists without an index
+pub without-split : (i : ℕ) (front back : List ℕ) → times i front ≡ 0 → without i (front ++ i ∷ back) ≡ front ++ back
+without-split i [] back none = rw (eq-eqb i i refl) refl
+without-split i (j ∷ js) back none =
+    let other : j ≢ i = λ e. let one = here-same i in let same = ap (here i) e in omega arith in
+    rw (ne_eqb j i other) (ap (λ ys. j ∷ ys) (without-split i js back (omega (arith, none))))
+
+pub times-without : (i j : ℕ) (xs : List ℕ) → times j (without i xs) ≤ times j xs
+times-without i j [] = omega arith
+times-without i j (x ∷ xs) =
+    ⊎_elim (λ (same : x ≡ i). rw (eq-eqb x i same) (omega arith)) (λ (other : x ≢ i). rw (ne_eqb x i other) (omega (arith, times-without i j xs))) (cases_eq x i)
+
+pub length-without : (i : ℕ) (xs : List ℕ) → length (without i xs) ≤ length xs
+length-without i [] = omega arith
+length-without i (x ∷ xs) =
+    ⊎_elim (λ (same : x ≡ i). rw (eq-eqb x i same) (omega arith)) (λ (other : x ≢ i). rw (ne_eqb x i other) (omega (arith, length-without i xs))) (cases_eq x i)
+
+-- a node with one empty side is one above the other side
+bare_rank : (k m : ℕ) → IsOver 1 k 0 m → k ≡ m + 1
+bare_rank k m h =
+    ⊎_elim (λ (some : 0 < m). omega (arith, h)) (λ (none : m ≤ 0). let one = h.leaf refl (omega arith) in omega arith) (cases_lt 0 m)
+
+module _ {old : Slots} {root : Option ℕ} {v : ℕ} {side : Side} {order : List ℕ} (loose : IsLoose old root v side order) where
+  pub spot : Spot old root side v loose.built.shape
+  spot = spot_in old root side v loose.built.shape top root refl loose.built.held (omega (arith, loose.within, times-walk v loose.built.shape, ap (times v) loose.built.listed))
+
+  pub v_occupied : is_some (old v) ≡ true
+  v_occupied = ap is_some spot.at_y
+
+  near_missing : spot.near ≡ missing
+  near_missing = rootless spot.near (sym (link-root old (Some v) (child_at side spot.links) spot.near spot.holds.near_held) ∙ loose.bare spot.links spot.at_y)
+
+  whole : plug spot.way (fork side missing v spot.rank spot.far) ≡ loose.built.shape
+  whole = ap (λ s. plug spot.way (fork side s v spot.rank spot.far)) (sym near_missing) ∙ spot.is
+
+  total : (j : ℕ) → times j order ≡ times_way j spot.way + here j v + times_in j spot.far
+  total j = ap (times j) (sym loose.built.listed) ∙ times-walk j loose.built.shape ∙ ap (times_in j) (sym whole) ∙ times_in-plug j spot.way (fork side missing v spot.rank spot.far) ∙ omega (arith, times_in-fork j side missing spot.far v spot.rank)
+
+  pub listed_without : walk (plug spot.way spot.far) ≡ without v order
+  listed_without = go side (sym loose.built.listed ∙ ap walk (sym whole))
+    where
+      a : Around spot.way
+      a = around spot.way
+
+      in_way : (j : ℕ) → times j a.before + times j a.behind ≡ times_way j spot.way
+      in_way j = omega (arith, ap (times j) (a.is missing), times-append j a.before a.behind, times-walk j (plug spot.way missing), times_in-plug j spot.way missing)
+
+      go : (side : Side) → order ≡ walk (plug spot.way (fork side missing v spot.rank spot.far)) → walk (plug spot.way spot.far) ≡ without v order
+      go Lesser e =
+          a.is spot.far ∙ sym (without-split v a.before (walk spot.far ++ a.behind) (omega (arith, in_way v, total v, here-same v, loose.once v)))
+          ∙ ap (without v) (sym (e ∙ a.is (node missing v spot.rank spot.far)))
+      go Greater e =
+          let before : order ≡ (a.before ++ walk spot.far) ++ v ∷ a.behind = e ∙ a.is (node spot.far v spot.rank missing) ∙ simp append_assoc in
+          a.is spot.far ∙ sym (append_assoc a.before (walk spot.far) a.behind)
+          ∙ sym (without-split v (a.before ++ walk spot.far) a.behind (omega (arith, times-append v a.before (walk spot.far), times-walk v spot.far, in_way v, total v, here-same v, loose.once v)))
+          ∙ ap (without v) (sym before)
+
+  parts : IsBalancedWay 1 spot.way (rank_of spot.far + 1) × IsBalanced 1 spot.far
+  parts =
+      let P : Shape → Type 0 = λ s. IsBalanced 1 s in
+      let below = plug_balanced 1 spot.way (fork side missing v spot.rank spot.far) (subst P (sym whole) loose.built.balanced) in
+      let fork = fork_balanced 1 side missing spot.far v spot.rank below.1 in
+      let Q : ℕ → Type 0 = λ rank. IsBalancedWay 1 spot.way rank in
+      (subst Q (rank-fork side missing spot.far v spot.rank ∙ bare_rank spot.rank (rank_of spot.far) fork.0) below.0, fork.2)
+
+  module _ (nv : Links ℕ) (e : old v ≡ Some nv) where
+    nv_is : spot.links ≡ nv
+    nv_is = let f = spot.at_y in cc
+
+    back_is : nv.back ≡ above spot.way
+    back_is = ap (λ (n : Links ℕ). n.back) (sym nv_is) ∙ spot.holds.back
+
+    pub rest_root : child_at (other_side side) nv ≡ root_of spot.far
+    rest_root = ap (child_at (other_side side)) (sym nv_is) ∙ link-root old (Some v) (child_at (other_side side) spot.links) spot.far spot.holds.far_held
+
+    rest_held : Holds old (Some v) (child_at (other_side side) nv) spot.far
+    rest_held = let P : Links ℕ → Type 0 = λ n. Holds old (Some v) (child_at (other_side side) n) spot.far in subst P nv_is spot.holds.far_held
+
+    pub rest_occupied : (i : ℕ) → child_at (other_side side) nv ≡ Some i → is_some (old i) ≡ true
+    rest_occupied i link = occupied-link old (Some v) (child_at (other_side side) nv) spot.far i rest_held link
+
+    pub parent_occupied : (p : ℕ) → nv.back ≡ Some p → is_some (old p) ≡ true
+    parent_occupied p b = go spot.way spot.held_way (sym back_is ∙ b)
+      where
+        go : (w : Way) → HoldsWay old root w (Some v) → above w ≡ Some p → is_some (old p) ≡ true
+        go top h a = absurd cc
+        go (up d i k far rest) h a = let same : p ≡ i = cc in rw (same, h.1) refl
+
+    module _ (replaced new : Slots) (root' : Option ℕ)
+        (at_top : nv.back ≡ None → root' ≡ child_at (other_side side) nv) (root_stays : (p : ℕ) → nv.back ≡ Some p → root' ≡ root)
+        (parent : (p : ℕ) (n : Links ℕ) (s : Side) → nv.back ≡ Some p → old p ≡ Some n → child_at s n ≡ Some v → child_at (other_side s) n ≢ Some v → replaced p ≡ Some (with_child_at s (child_at (other_side side) nv) n))
+        (but_parent : (j : ℕ) → nv.back ≢ Some j → replaced j ≡ old j)
+        (backs : (j : ℕ) → back_at old j ≡ back_at replaced j)
+        (hung : (i : ℕ) (n : Links ℕ) → child_at (other_side side) nv ≡ Some i → replaced i ≡ Some n → new i ≡ Some (record n { back = nv.back }))
+        (but_hung : (j : ℕ) → child_at (other_side side) nv ≢ Some j → new j ≡ replaced j) where
+      in_far : (j : ℕ) → child_at (other_side side) nv ≡ Some j → 0 < times_in j spot.far
+      in_far j link = root-in spot.far j (sym rest_root ∙ link)
+
+      in_way : (j : ℕ) → nv.back ≡ Some j → 0 < times_way j spot.way
+      in_way j b = above-in spot.way j (sym back_is ∙ b)
+
+      far_replaced : (j : ℕ) → 0 < times_in j spot.far → replaced j ≡ old j
+      far_replaced j inside = but_parent j (λ b. omega (arith, inside, in_way j b, total j, loose.once j))
+
+      far_held : Holds new (above spot.way) (child_at (other_side side) nv) spot.far
+      far_held =
+          Holds-rehung replaced new spot.far (Some v) (above spot.way) (child_at (other_side side) nv)
+          (λ j n link d. hung j n link d ∙ ap (λ (b : Option ℕ). Some (record n { back = b })) back_is)
+          (λ j other inside. but_hung j other) (λ j. omega (arith, total j, loose.once j))
+          (Holds-frame old replaced spot.far (Some v) (child_at (other_side side) nv) far_replaced rest_held)
+
+      way_held : HoldsWay new root' spot.way (child_at (other_side side) nv)
+      way_held =
+          HoldsWay-frame replaced new spot.way root' (child_at (other_side side) nv) (λ j inside. but_hung j (λ link. omega (arith, inside, in_far j link, total j, loose.once j)))
+          (HoldsWay-replaced old replaced spot.way root root' (child_at (other_side side) nv) v (λ a. at_top (back_is ∙ a)) (λ p a. root_stays p (back_is ∙ a)) (λ p n s a. parent p n s (back_is ∙ a)) (λ j a. but_parent j (λ b. a (sym back_is ∙ b)))
+          (λ j. omega (arith, total j, loose.once j)) (omega (arith, total v, here-same v, loose.once v)) spot.held_way)
+
+      pub moves_one : MovesBacks 1 old new
+      moves_one = (
+        option_to_list (root_of spot.far) ++ [],
+        omega (arith, length-append (option_to_list (root_of spot.far)) [], length-root (root_of spot.far)),
+        λ j. ⊎_elim (λ link. inl (Among-root spot.far j [] (sym rest_root ∙ link)))
+            (λ other. inr (backs j ∙ ap (λ (o : Option (Links ℕ)). option_map (λ (n : Links ℕ). n.back) o) (sym (but_hung j other)))) (cases_link (child_at (other_side side) nv) j),
+      )
+
+      pub cut_place : {I : Type 0} (number : I → ℕ) (result : Option (Place I)) → option_map (λ (p : Place I). number p.parent) result ≡ nv.back
+          → IfSome result (λ place. (p : Links ℕ) (s : Side) → old (number place.parent) ≡ Some p → child_at s p ≡ Some v → child_at (other_side s) p ≢ Some v → place.side ≡ s)
+          → MatchOption result (IsBuilt new root' (without v order) 1) (λ place. IsFallen new root' (number place.parent) place.side (without v order))
+      cut_place {I} number result b sides =
+          go spot.way spot.held_way way_held far_held listed_without parts.0 result (b ∙ back_is) sides (λ j. omega (arith, total j, loose.once j))
+        where
+          fewer : length (without v order) < 2 ^ 64
+          fewer = omega (arith, length-without v order, loose.few)
+
+          once_less : IsOnce (without v order)
+          once_less j = omega (arith, times-without v j order, loose.once j)
+
+          go : (w : Way) → HoldsWay old root w (Some v) → HoldsWay new root' w (child_at (other_side side) nv) → Holds new (above w) (child_at (other_side side) nv) spot.far → walk (plug w spot.far) ≡ without v order
+              → IsBalancedWay 1 w (rank_of spot.far + 1) → (result : Option (Place I)) → option_map (λ (p : Place I). number p.parent) result ≡ above w
+              → IfSome result (λ place. (p : Links ℕ) (s : Side) → old (number place.parent) ≡ Some p → child_at s p ≡ Some v → child_at (other_side s) p ≢ Some v → place.side ≡ s)
+              → ((j : ℕ) → times_way j w + here j v ≤ 1)
+              → MatchOption result (IsBuilt new root' (without v order) 1) (λ place. IsFallen new root' (number place.parent) place.side (without v order))
+          go top was w h listed balanced None a sides alone =
+              record { shape = spot.far; held = Holds-plug new root' top spot.far (child_at (other_side side) nv) w h; listed = listed; balanced = parts.1 }
+          go top was w h listed balanced (Some place) a sides alone = absurd cc
+          go (up d i k far rest) was w h listed balanced None a sides alone = absurd cc
+          go (up d i k far rest) was w h listed balanced (Some place) a sides alone =
+              let same : number place.parent ≡ i = cc in
+              let not_far : child_at (other_side d) was.0 ≢ Some v = λ f. let inside = root-in far v (sym (link-root old (Some i) (child_at (other_side d) was.0) far was.5) ∙ f) in omega (arith, alone v, here-same v) in
+              let d_is : place.side ≡ d = sides was.0 d (rw same was.1) was.4 not_far in
+              let P : Option ℕ → Type 0 = λ link. Holds new (Some i) link spot.far in
+              let Q : ℕ → Type 0 = λ p. IsFallen new root' p place.side (without v order) in
+              let R : Side → Type 0 = λ d. IsFallen new root' i d (without v order) in
+              subst Q (sym same) (subst R (sym d_is) (record {
+                way = rest;
+                low = spot.far;
+                far = far;
+                rank = k;
+                held_way = w.6;
+                held = Holds-fork new (above rest) (Some i) d spot.far far i k (w.0, refl, w.1, w.2, w.3, subst P (sym w.4) h, w.5);
+                listed = listed;
+                over = balanced.0;
+                balanced_low = parts.1;
+                balanced_far = balanced.1;
+                balanced_way = balanced.2;
+                once = once_less;
+                few = fewer;
+              }))

@@ -1,0 +1,71 @@
+-- A node is taken out: the entry before it stands in its place, and the place that has fallen goes along.
+use Rattle.std.proofs.Common.{◌≡◌, ◌≢◌, ℕ, ◌+◌, Option, None, List, [], ◌∷◌, ◌++◌, map, arith, refl, sym, ◌∙◌, ap, subst, inl, inr, ⊎_elim, length-append}
+use Rattle.ord_tree.specs.declared.links.Side.{Side}
+use Rattle.ord_tree.specs.declared.links.Side.TheVariants.{Lesser, Greater}
+use Rattle.ord_tree.specs.Links.{child_at}
+use Rattle.ord_tree.specs.Shape.{Shape, missing, node, fork, rank_of, walk}
+use Rattle.ord_tree.specs.Slots.{Slots, Holds, Way, top, up, plug, above, HoldsWay, here, times, Among, MovesBacks}
+use Rattle.ord_tree.specs.Balance.{IsBalanced, IsBalancedWay}
+use Rattle.ord_tree.specs.Detach.{stand_in, renamed}
+use Rattle.ord_tree.proofs.Forks.{HoldsFork-holds, here-same}
+use Rattle.ord_tree.proofs.Standing.{stand_in-other}
+use Rattle.ord_tree.proofs.Doubles.{Among-behind}
+use Rattle.std.proofs.lemmas.List.{map-append}
+
+-- the way with v in the place of z
+abbrev pub renamed_way : ℕ → ℕ → Way → Way
+renamed_way z v top = top
+renamed_way z v (up side i k far rest) = up side (stand_in z v i) k (renamed z v far) (renamed_way z v rest)
+
+pub renamed-fork : (z v : ℕ) (side : Side) (near far : Shape) (i k : ℕ) → renamed z v (fork side near i k far) ≡ fork side (renamed z v near) (stand_in z v i) k (renamed z v far)
+renamed-fork z v Lesser near far i k = refl
+renamed-fork z v Greater near far i k = refl
+
+pub renamed-plug : (z v : ℕ) (way : Way) (s : Shape) → renamed z v (plug way s) ≡ plug (renamed_way z v way) (renamed z v s)
+renamed-plug z v top s = refl
+renamed-plug z v (up side i k far rest) s = renamed-plug z v rest (fork side s i k far) ∙ ap (plug (renamed_way z v rest)) (renamed-fork z v side s far i k)
+
+pub rank-renamed : (z v : ℕ) (s : Shape) → rank_of (renamed z v s) ≡ rank_of s
+rank-renamed z v missing = refl
+rank-renamed z v (node l i k r) = refl
+
+pub IsBalanced-renamed : (slack z v : ℕ) (s : Shape) → IsBalanced slack s → IsBalanced slack (renamed z v s)
+IsBalanced-renamed slack z v missing h = tt
+IsBalanced-renamed slack z v (node l i k r) h =
+    (rw (rank-renamed z v l, rank-renamed z v r) h.0, IsBalanced-renamed slack z v l h.1, IsBalanced-renamed slack z v r h.2)
+
+pub IsBalancedWay-renamed : (slack z v : ℕ) (way : Way) (rank : ℕ) → IsBalancedWay slack way rank → IsBalancedWay slack (renamed_way z v way) rank
+IsBalancedWay-renamed slack z v top rank h = tt
+IsBalancedWay-renamed slack z v (up side i k far rest) rank h =
+    (rw (rank-renamed z v far) h.0, IsBalanced-renamed slack z v far h.1, IsBalancedWay-renamed slack z v rest k h.2)
+
+pub walk-renamed : (z v : ℕ) (s : Shape) → walk (renamed z v s) ≡ map (stand_in z v) (walk s)
+walk-renamed z v missing = refl
+walk-renamed z v (node l i k r) = rw (walk-renamed z v l, walk-renamed z v r) (sym (map-append (stand_in z v) (walk l) (i ∷ walk r)))
+
+pub map-absent : (z v : ℕ) (xs : List ℕ) → times z xs ≡ 0 → map (stand_in z v) xs ≡ xs
+map-absent z v [] none = refl
+map-absent z v (x ∷ xs) none =
+    let not_z : x ≢ z = λ e. let one = here-same z in let same = ap (here z) e in omega arith in
+    rw (stand_in-other z v x not_z, map-absent z v xs (omega (arith, none))) refl
+
+-- what holds a whole tree holds a way and what stands at its end
+pub plug_held : (at : Slots) (root : Option ℕ) (way : Way) (s : Shape) → Holds at None root (plug way s) → (link : Option ℕ) × HoldsWay at root way link × Holds at (above way) link s
+plug_held at root top s h = (root, refl, h)
+plug_held at root (up side i k far rest) s h =
+    let below = plug_held at root rest (fork side s i k far) h in
+    let f = HoldsFork-holds at (above rest) below.0 side s far i k below.2 in
+    let P : Option ℕ → Type 0 = λ link. HoldsWay at root rest link in
+    (child_at side f.0, (f.0, f.2, f.3, f.4, refl, f.6, subst P f.1 below.1), f.5)
+
+-- two changes, one after the other
+pub MovesBacks-then : (m n : ℕ) (first mid last : Slots) → MovesBacks m first mid → MovesBacks n mid last → MovesBacks (m + n) first last
+MovesBacks-then m n first mid last a b = (
+  a.0 ++ b.0,
+  omega (arith, length-append a.0 b.0, a.1, b.1),
+  λ j. ⊎_elim (λ in_a. inl (Among-front a.0 b.0 j in_a)) (λ same. ⊎_elim (λ in_b. inl (Among-behind a.0 b.0 j in_b)) (λ also. inr (same ∙ also)) (b.2 j)) (a.2 j),
+)
+  where
+    Among-front : (xs ys : List ℕ) (j : ℕ) → Among j xs → Among j (xs ++ ys)
+    Among-front [] ys j h = elim h [ ]
+    Among-front (x ∷ xs) ys j h = ⊎_elim (λ e. inl e) (λ rest. inr (Among-front xs ys j rest)) h

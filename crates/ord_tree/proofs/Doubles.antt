@@ -1,0 +1,232 @@
+-- Single and double rotations: their sites, what they keep, and how many parents they move.
+use Rattle.std.proofs.Common.{◌≡◌, ℕ, ◌<◌, ◌≤◌, Option, Some, None, List, [], ◌∷◌, ◌++◌, length, arith, refl, sym, ◌∙◌, ap, subst, inl, inr, ⊎_elim, is_some, true, length-append}
+use Rattle.std.specs.Option.{option_to_list}
+use Rattle.ord_tree.specs.declared.links.Side.{Side}
+use Rattle.ord_tree.specs.declared.links.Side.TheVariants.{Lesser, Greater}
+use Rattle.ord_tree.specs.declared.links.Links.{Links}
+use Rattle.ord_tree.specs.Links.{other_side, child_at}
+use Rattle.ord_tree.specs.Shape.{Shape, missing, node, fork, rank_of, root_of, walk}
+use Rattle.ord_tree.specs.Slots.{Slots, Holds, up, plug, above, HoldsWay, times_in, IsApart, Among, rank_at, MovesBacks}
+use Rattle.ord_tree.specs.Balance.{IsOver, IsBalanced, IsBalancedWay}
+use Rattle.ord_tree.specs.Rotate.{Site, IsRotated}
+use Rattle.ord_tree.specs.Raise.{IsBuilt}
+use Rattle.ord_tree.proofs.Rotations.{ForkAt-holds, fork_at_low}
+use Rattle.ord_tree.proofs.Forks.{fork-other, rank-fork, walk-rotated, walk-fork_near, walk-plug, HoldsFork, HoldsFork-holds, Holds-fork, link-root, Holds-plug, IsBalanced-fork, fork_balanced, IsBalanced-plug, times_in-fork}
+
+pub root-fork : (side : Side) (near far : Shape) (i k : ℕ) → root_of (fork side near i k far) ≡ Some i
+root-fork Lesser near far i k = refl
+root-fork Greater near far i k = refl
+
+-- a shape whose root is known, as a fork
+pub record Forked (side : Side) (s : Shape) (i : ℕ) : Type 0 where
+  pub near : Shape
+  pub rank : ℕ
+  pub far : Shape
+  pub is : s ≡ fork side near i rank far
+
+pub fork_of : (side : Side) (s : Shape) (i : ℕ) → root_of s ≡ Some i → Forked side s i
+fork_of side missing i e = absurd cc
+fork_of Lesser (node l j k r) i e = let same : j ≡ i = cc in record { near = l; rank = k; far = r; is = ap (λ j. node l j k r) same }
+fork_of Greater (node l j k r) i e = let same : j ≡ i = cc in record { near = r; rank = k; far = l; is = ap (λ j. node l j k r) same }
+
+-- the rank that a link leads to is that of the shape there
+pub rank_at-held : (at : Slots) (over link : Option ℕ) (s : Shape) → Holds at over link s → rank_at at link ≡ rank_of s
+rank_at-held at over link missing h = rw h refl
+rank_at-held at over link (node l i k r) h = rw (h.1, h.2) h.4
+
+-- where a rank is, a node is
+pub root-some : (s : Shape) → 0 < rank_of s → is_some (root_of s) ≡ true
+root-some missing h = absurd (omega (arith, h))
+root-some (node l i k r) h = refl
+
+-- the moved indexes, as a list
+pub Among-root : (s : Shape) (j : ℕ) (rest : List ℕ) → root_of s ≡ Some j → Among j (option_to_list (root_of s) ++ rest)
+Among-root s j rest e = rw e (inl refl)
+
+pub Among-behind : (xs ys : List ℕ) (j : ℕ) → Among j ys → Among j (xs ++ ys)
+Among-behind [] ys j h = h
+Among-behind (x ∷ xs) ys j h = inr (Among-behind xs ys j h)
+
+pub length-root : (o : Option ℕ) → length (option_to_list o) ≤ 1
+length-root None = omega arith
+length-root (Some i) = omega arith
+
+module _ {old : Slots} {old_root : Option ℕ} {side : Side} {z y : ℕ} (site : Site old old_root side z y) where
+  -- what y holds
+  pub low_rank : (ny : Links ℕ) → old y ≡ Some ny → ny.rank ≡ site.low
+  low_rank ny e = (fork_at_low old old_root side z y site ny e).rank
+
+  pub outer_rank : (ny : Links ℕ) → old y ≡ Some ny → rank_at old (child_at side ny) ≡ rank_of site.outer
+  outer_rank ny e = rank_at-held old (Some y) (child_at side ny) site.outer (fork_at_low old old_root side z y site ny e).near_held
+
+  pub inner_rank : (ny : Links ℕ) → old y ≡ Some ny → rank_at old (child_at (other_side side) ny) ≡ rank_of site.inner
+  inner_rank ny e = rank_at-held old (Some y) (child_at (other_side side) ny) site.inner (fork_at_low old old_root side z y site ny e).far_held
+
+  pub high_rank : (nz : Links ℕ) → old z ≡ Some nz → nz.rank ≡ site.high
+  high_rank nz e = (ForkAt-holds old (above site.way) (Some z) side (fork side site.outer y site.low site.inner) z site.high site.far nz e site.held).rank
+
+  pub inner_root : (ny : Links ℕ) → old y ≡ Some ny → child_at (other_side side) ny ≡ root_of site.inner
+  inner_root ny e = link-root old (Some y) (child_at (other_side side) ny) site.inner (fork_at_low old old_root side z y site ny e).far_held
+
+  -- a single rotation moves three parents at most
+  pub backs_single : (new : Slots) (root : Option ℕ) (rank_z rank_y : ℕ) → IsRotated site new root rank_z rank_y → MovesBacks 5 old new
+  backs_single new root rank_z rank_y r = (
+    z ∷ y ∷ (option_to_list (root_of site.inner) ++ []),
+    omega (arith, length-append (option_to_list (root_of site.inner)) [], length-root (root_of site.inner)),
+    λ j. ⊎_elim (λ e. inl (inl e)) (⊎_elim (λ e. inl (inr (inl e))) (⊎_elim (λ e. inl (inr (inr (Among-root site.inner j [] e)))) (λ e. inr e))) (r.backs j),
+  )
+
+  -- after a single rotation a balanced tree stands there again, where the new ranks fit
+  pub IsBuilt-single : (new : Slots) (root : Option ℕ) (rank_z rank_y slack : ℕ) (order : List ℕ) → IsRotated site new root rank_z rank_y
+      → IsOver slack rank_z (rank_of site.inner) (rank_of site.far) → IsOver slack rank_y (rank_of site.outer) rank_z
+      → IsBalanced slack site.outer → IsBalanced slack site.inner → IsBalanced slack site.far → IsBalancedWay slack site.way rank_y
+      → walk (plug site.way (fork side (fork side site.outer y site.low site.inner) z site.high site.far)) ≡ order → IsBuilt new root order slack
+  IsBuilt-single new root rank_z rank_y slack order r over_z over_y outer inner far way listed =
+      let below = fork side site.inner z rank_z site.far in
+      let whole = fork side site.outer y rank_y below in
+      let P : ℕ → Type 0 = λ rank. IsOver slack rank_y (rank_of site.outer) rank in
+      let Q : ℕ → Type 0 = λ rank. IsBalancedWay slack site.way rank in
+      record {
+        shape = plug site.way whole;
+        held = Holds-plug new root site.way whole (Some y) r.held_way r.held;
+        listed = sym (walk-plug site.way (fork side (fork side site.outer y site.low site.inner) z site.high site.far) whole (walk-rotated side site.outer site.inner site.far y z site.low site.high rank_y rank_z)) ∙ listed;
+        balanced = IsBalanced-plug slack site.way whole (subst Q (sym (rank-fork side site.outer below y rank_y)) way)
+            (IsBalanced-fork slack side site.outer below y rank_y (subst P (sym (rank-fork side site.inner site.far z rank_z)) over_y) outer (IsBalanced-fork slack side site.inner site.far z rank_z over_z inner far));
+      }
+
+  module _ (x : ℕ) (root_is : root_of site.inner ≡ Some x) where
+    -- what stands between y and z, told from the other side
+    abbrev pub middle : Forked (other_side side) site.inner x
+    middle = fork_of (other_side side) site.inner x root_is
+
+    pub middle_rank : (ny nx : Links ℕ) → old y ≡ Some ny → old x ≡ Some nx → nx.rank ≡ middle.rank
+    middle_rank ny nx e d =
+        let P : Shape → Type 0 = λ s. Holds old (Some y) (child_at (other_side side) ny) s in
+        (ForkAt-holds old (Some y) (child_at (other_side side) ny) (other_side side) middle.near x middle.rank middle.far nx d (subst P middle.is (fork_at_low old old_root side z y site ny e).far_held)).rank
+
+    -- the ranks and the balance of what stood between y and z
+    pub middle_over : (slack : ℕ) → IsBalanced slack site.inner → (rank_of site.inner ≡ middle.rank) × IsOver slack middle.rank (rank_of middle.near) (rank_of middle.far) × IsBalanced slack middle.near × IsBalanced slack middle.far
+    middle_over slack h =
+        let P : Shape → Type 0 = λ s. IsBalanced slack s in
+        let inner = fork_balanced slack (other_side side) middle.near middle.far x middle.rank (subst P middle.is h) in
+        (ap rank_of middle.is ∙ rank-fork (other_side side) middle.near middle.far x middle.rank, inner.0, inner.1, inner.2)
+
+    -- y over what it carries, told from the other side
+    shape_below : fork side site.outer y site.low site.inner ≡ fork (other_side side) (fork (other_side side) middle.near x middle.rank middle.far) y site.low site.outer
+    shape_below = sym (fork-other side site.inner site.outer y site.low) ∙ ap (λ s. fork (other_side side) s y site.low site.outer) middle.is
+
+    fork_high : HoldsFork old (above site.way) (Some z) side (fork side site.outer y site.low site.inner) z site.high site.far
+    fork_high = HoldsFork-holds old (above site.way) (Some z) side (fork side site.outer y site.low site.inner) site.far z site.high site.held
+
+    link_y : child_at side fork_high.0 ≡ Some y
+    link_y = link-root old (Some z) (child_at side fork_high.0) (fork side site.outer y site.low site.inner) fork_high.5 ∙ root-fork side site.outer site.inner y site.low
+
+    pub way_below : HoldsWay old old_root (up side z site.high site.far site.way) (Some y)
+    way_below = (fork_high.0, fork_high.2, fork_high.3, fork_high.4, link_y, fork_high.6, site.held_way)
+
+    pub held_below : Holds old (Some z) (Some y) (fork (other_side side) (fork (other_side side) middle.near x middle.rank middle.far) y site.low site.outer)
+    held_below =
+        let P : Option ℕ → Type 0 = λ link. Holds old (Some z) link (fork side site.outer y site.low site.inner) in
+        let Q : Shape → Type 0 = λ s. Holds old (Some z) (Some y) s in
+        subst Q shape_below (subst P link_y fork_high.5)
+
+    pub apart_below : IsApart (up side z site.high site.far site.way) (fork (other_side side) (fork (other_side side) middle.near x middle.rank middle.far) y site.low site.outer)
+    apart_below j =
+        omega (arith, site.apart j, ap (times_in j) shape_below, times_in-fork j side (fork side site.outer y site.low site.inner) site.far z site.high)
+
+    -- the first rotation, of x over y
+    abbrev pub site_below : Site old old_root (other_side side) y x
+    site_below = record {
+      way = up side z site.high site.far site.way;
+      outer = middle.near;
+      inner = middle.far;
+      far = site.outer;
+      low = middle.rank;
+      high = site.low;
+      held_way = way_below;
+      held = held_below;
+      apart = apart_below;
+    }
+
+    module _ {mid : Slots} {mid_root : Option ℕ} {rank_low rank_high : ℕ} (r : IsRotated site_below mid mid_root rank_low rank_high) where
+      shape_above : fork (other_side side) middle.near x rank_high (fork (other_side side) middle.far y rank_low site.outer) ≡ fork side (fork side site.outer y rank_low middle.far) x rank_high middle.near
+      shape_above = fork-other side middle.near (fork (other_side side) middle.far y rank_low site.outer) x rank_high ∙ ap (λ s. fork side s x rank_high middle.near) (fork-other side middle.far site.outer y rank_low)
+
+      pub held_above : Holds mid (above site.way) (Some z) (fork side (fork side (fork side site.outer y rank_low middle.far) x rank_high middle.near) z site.high site.far)
+      held_above =
+          let w = r.held_way in
+          let P : Option ℕ → Type 0 = λ link. Holds mid (Some z) link (fork side (fork side site.outer y rank_low middle.far) x rank_high middle.near) in
+          let Q : Shape → Type 0 = λ s. Holds mid (Some z) (Some x) s in
+          Holds-fork mid (above site.way) (Some z) side (fork side (fork side site.outer y rank_low middle.far) x rank_high middle.near) site.far z site.high
+          (w.0, refl, w.1, w.2, w.3, subst P (sym w.4) (subst Q shape_above r.held), w.5)
+
+      pub apart_above : IsApart site.way (fork side (fork side (fork side site.outer y rank_low middle.far) x rank_high middle.near) z site.high site.far)
+      apart_above j =
+          omega (
+            arith,
+            apart_below j,
+            times_in-fork j side (fork side (fork side site.outer y rank_low middle.far) x rank_high middle.near) site.far z site.high,
+            times_in-fork j side (fork side site.outer y rank_low middle.far) middle.near x rank_high,
+            times_in-fork j side site.outer middle.far y rank_low,
+            times_in-fork j (other_side side) (fork (other_side side) middle.near x middle.rank middle.far) site.outer y site.low,
+            times_in-fork j (other_side side) middle.near middle.far x middle.rank,
+          )
+
+      -- the second rotation, of x over z
+      abbrev pub site_above : Site mid mid_root side z x
+      site_above = record {
+        way = site.way;
+        outer = fork side site.outer y rank_low middle.far;
+        inner = middle.near;
+        far = site.far;
+        low = rank_high;
+        high = site.high;
+        held_way = r.held_way.6;
+        held = held_above;
+        apart = apart_above;
+      }
+
+      -- the walk stays
+      pub walk_double : (rank_x : ℕ) → walk (plug site.way (fork side (fork side site.outer y rank_low middle.far) x rank_x (fork side middle.near z rank_low site.far)))
+          ≡ walk (plug site.way (fork side (fork side site.outer y site.low site.inner) z site.high site.far))
+      walk_double rank_x =
+          let lifted = fork side site.outer y rank_low middle.far in
+          let inner_is : site.inner ≡ fork side middle.far x middle.rank middle.near = middle.is ∙ fork-other side middle.near middle.far x middle.rank in
+          let first : walk (fork side lifted x rank_x middle.near) ≡ walk (fork side site.outer y site.low site.inner)
+          = walk-rotated side site.outer middle.far middle.near y x rank_low rank_x site.low middle.rank ∙ ap (λ s. walk (fork side site.outer y site.low s)) (sym inner_is) in
+          let second = walk-rotated side lifted middle.near site.far x z rank_x site.high rank_x rank_low in
+          walk-plug site.way (fork side lifted x rank_x (fork side middle.near z rank_low site.far)) (fork side (fork side site.outer y site.low site.inner) z site.high site.far)
+          (sym second ∙ walk-fork_near side (fork side lifted x rank_x middle.near) (fork side site.outer y site.low site.inner) site.far z site.high first)
+
+      -- and so do the parents of all but five
+      pub backs_double : (new : Slots) (root : Option ℕ) (rank_z rank_x : ℕ) → IsRotated site_above new root rank_z rank_x → MovesBacks 5 old new
+      backs_double new root rank_z rank_x t = (
+        z ∷ y ∷ x ∷ (option_to_list (root_of middle.near) ++ (option_to_list (root_of middle.far) ++ [])),
+        omega (arith, length-append (option_to_list (root_of middle.near)) (option_to_list (root_of middle.far) ++ []), length-append (option_to_list (root_of middle.far)) [], length-root (root_of middle.near), length-root (root_of middle.far)),
+        λ j. ⊎_elim (λ e. inl (inr (inl e))) (⊎_elim (λ e. inl (inr (inr (inl e))))
+            (⊎_elim (λ e. inl (inr (inr (inr (Among-behind (option_to_list (root_of middle.near)) (option_to_list (root_of middle.far) ++ []) j (Among-root middle.far j [] e))))))
+            (λ first. ⊎_elim (λ e. inl (inl e)) (⊎_elim (λ e. inl (inr (inr (inl e))))
+            (⊎_elim (λ e. inl (inr (inr (inr (Among-root middle.near j (option_to_list (root_of middle.far) ++ []) e))))) (λ second. inr (first ∙ second)))) (t.backs j)))) (r.backs j),
+      )
+
+      -- after a double rotation a balanced tree stands there again, where the new ranks fit
+      pub IsBuilt-double : (new : Slots) (root : Option ℕ) (slack : ℕ) (order : List ℕ) → IsRotated site_above new root rank_low rank_high
+          → IsOver slack rank_low (rank_of site.outer) (rank_of middle.far) → IsOver slack rank_low (rank_of middle.near) (rank_of site.far) → IsOver slack rank_high rank_low rank_low
+          → IsBalanced slack site.outer → IsBalanced slack middle.near → IsBalanced slack middle.far → IsBalanced slack site.far → IsBalancedWay slack site.way rank_high
+          → walk (plug site.way (fork side (fork side site.outer y site.low site.inner) z site.high site.far)) ≡ order → IsBuilt new root order slack
+      IsBuilt-double new root slack order t over_y over_z over_x outer near far other way listed =
+          let lower = fork side site.outer y rank_low middle.far in
+          let upper = fork side middle.near z rank_low site.far in
+          let whole = fork side lower x rank_high upper in
+          let P : ℕ → Type 0 = λ rank. IsOver slack rank_high rank (rank_of upper) in
+          let R : ℕ → Type 0 = λ rank. IsOver slack rank_high rank_low rank in
+          let Q : ℕ → Type 0 = λ rank. IsBalancedWay slack site.way rank in
+          record {
+            shape = plug site.way whole;
+            held = Holds-plug new root site.way whole (Some x) t.held_way t.held;
+            listed = walk_double rank_high ∙ listed;
+            balanced = IsBalanced-plug slack site.way whole (subst Q (sym (rank-fork side lower upper x rank_high)) way)
+                (IsBalanced-fork slack side lower upper x rank_high
+                (subst P (sym (rank-fork side site.outer middle.far y rank_low)) (subst R (sym (rank-fork side middle.near site.far z rank_low)) over_x))
+                (IsBalanced-fork slack side site.outer middle.far y rank_low over_y outer far) (IsBalanced-fork slack side middle.near site.far z rank_low over_z near other));
+          }

@@ -1,0 +1,115 @@
+-- What nodes hold stays where no write touches them, and what a write of one link makes of it.
+use Rattle.std.proofs.Common.{◌≡◌, ◌≢◌, ℕ, ◌<◌, ◌≤◌, Option, Some, None, arith, refl, sym, ◌∙◌, ap, subst, ⊎_elim, option_map}
+use Rattle.std.proofs.lemmas.Bool.{cases_eq}
+use Rattle.ord_tree.specs.declared.links.Side.{Side}
+use Rattle.ord_tree.specs.declared.links.Side.TheVariants.{Lesser, Greater}
+use Rattle.ord_tree.specs.declared.links.Links.{Links}
+use Rattle.ord_tree.specs.Links.{other_side, child_at, with_child_at}
+use Rattle.ord_tree.specs.Shape.{Shape, missing, node, fork, root_of}
+use Rattle.ord_tree.specs.Slots.{Slots, Holds, Way, top, up, above, HoldsWay, times_in, times_way, back_at}
+use Rattle.ord_tree.proofs.Forks.{HoldsFork-holds, Holds-fork, here-same, apart-from, link-root, child-with_child, other_child-with_child, back-with_child, rank-with_child}
+
+-- the root stands in the shape
+pub root-in : (s : Shape) (i : ℕ) → root_of s ≡ Some i → 0 < times_in i s
+root-in missing i e = absurd cc
+root-in (node l j k r) i e = let same : j ≡ i = cc in rw same (omega (arith, here-same i))
+
+Some-apart : (i j : ℕ) → j ≢ i → ◌≡◌ {A = Option ℕ} (Some i) (Some j) → ⊥
+Some-apart i j ne e = ne cc
+
+module _ (old new : Slots) where
+  pub Holds-frame : (s : Shape) (over link : Option ℕ) → ((j : ℕ) → 0 < times_in j s → new j ≡ old j) → Holds old over link s → Holds new over link s
+  Holds-frame missing over link same h = h
+  Holds-frame (node l i k r) over link same h = (
+    h.0,
+    h.1,
+    same i (omega (arith, here-same i)) ∙ h.2,
+    h.3,
+    h.4,
+    Holds-frame l (Some i) h.0.lesser (λ j in_l. same j (omega arith)) h.5,
+    Holds-frame r (Some i) h.0.greater (λ j in_r. same j (omega arith)) h.6,
+  )
+
+  pub HoldsWay-frame : (way : Way) (root link : Option ℕ) → ((j : ℕ) → 0 < times_way j way → new j ≡ old j) → HoldsWay old root way link → HoldsWay new root way link
+  HoldsWay-frame top root link same h = h
+  HoldsWay-frame (up side i k far rest) root link same h = (
+    h.0,
+    same i (omega (arith, here-same i)) ∙ h.1,
+    h.2,
+    h.3,
+    h.4,
+    Holds-frame far (Some i) (child_at (other_side side) h.0) (λ j in_far. same j (omega arith)) h.5,
+    HoldsWay-frame rest root (Some i) (λ j in_rest. same j (omega arith)) h.6,
+  )
+
+  -- the root of a shape gets another parent
+  pub Holds-rehung : (s : Shape) (over over' link : Option ℕ)
+      → ((j : ℕ) (n : Links ℕ) → link ≡ Some j → old j ≡ Some n → new j ≡ Some (record n { back = over' }))
+      → ((j : ℕ) → link ≢ Some j → 0 < times_in j s → new j ≡ old j)
+      → ((j : ℕ) → times_in j s ≤ 1) → Holds old over link s → Holds new over' link s
+  Holds-rehung missing over over' link written same once h = h
+  Holds-rehung (node l i k r) over over' link written same once h =
+      let alone = once i in
+      let below : (t : Shape) (child : Option ℕ) → times_in i t ≡ 0 → ((j : ℕ) → 0 < times_in j t → 0 < times_in j (node l i k r)) → Holds old (Some i) child t → Holds new (Some i) child t
+      = λ t child none inside. Holds-frame t (Some i) child (λ j in_t. same j (λ e. Some-apart i j (apart-from i j (λ j. times_in j t) none in_t) (sym h.1 ∙ e)) (inside j in_t)) in (
+        record (h.0) { back = over' },
+        h.1,
+        written i h.0 h.1 h.2,
+        refl,
+        h.4,
+        below l h.0.lesser (omega (arith, here-same i)) (λ j in_l. omega arith) h.5,
+        below r h.0.greater (omega (arith, here-same i)) (λ j in_r. omega arith) h.6,
+      )
+
+  -- the link at the end of a way is replaced
+  pub HoldsWay-replaced : (way : Way) (root root' link' : Option ℕ) (y : ℕ)
+      → (above way ≡ None → root' ≡ link')
+      → ((p : ℕ) → above way ≡ Some p → root' ≡ root)
+      → ((p : ℕ) (n : Links ℕ) (side : Side) → above way ≡ Some p → old p ≡ Some n → child_at side n ≡ Some y → child_at (other_side side) n ≢ Some y → new p ≡ Some (with_child_at side link' n))
+      → ((j : ℕ) → above way ≢ Some j → new j ≡ old j)
+      → ((j : ℕ) → times_way j way ≤ 1) → times_way y way ≡ 0 → HoldsWay old root way (Some y) → HoldsWay new root' way link'
+  HoldsWay-replaced top root root' link' y at_top below written same once absent h = at_top refl
+  HoldsWay-replaced (up side i k far rest) root root' link' y at_top below written same once absent h =
+      let alone = once i in
+      let elsewhere : (child : Option ℕ) → Holds old (Some i) child far → Holds new (Some i) child far
+      = λ child. Holds-frame far (Some i) child (λ j in_far. same j (Some-apart i j (apart-from i j (λ j. times_in j far) (omega (arith, here-same i)) in_far))) in
+      let rest_held = HoldsWay-frame rest root (Some i) (λ j in_rest. same j (Some-apart i j (apart-from i j (λ j. times_way j rest) (omega (arith, here-same i)) in_rest))) h.6 in
+      let not_far : child_at (other_side side) h.0 ≢ Some y
+      = λ e. let inside = root-in far y (sym (link-root old (Some i) (child_at (other_side side) h.0) far h.5) ∙ e) in omega arith in
+      let root_is = below i refl in (
+        with_child_at side link' h.0,
+        written i h.0 side refl h.1 h.4 not_far,
+        back-with_child side link' h.0 ∙ h.2,
+        rank-with_child side link' h.0 ∙ h.3,
+        child-with_child side link' h.0,
+        rw (other_child-with_child side link' h.0) (elsewhere (child_at (other_side side) h.0) h.5),
+        (let P : Option ℕ → Type 0 = λ r. HoldsWay new r rest (Some i) in subst P (sym root_is) rest_held),
+      )
+
+child-ranked : (side : Side) (rank : ℕ) (n : Links ℕ) → child_at side (record n { rank = rank }) ≡ child_at side n
+child-ranked Lesser rank n = refl
+child-ranked Greater rank n = refl
+
+-- the root of a shape gets another rank
+pub Holds-reranked : (old new : Slots) (over link : Option ℕ) (side : Side) (near far : Shape) (i k rank : ℕ)
+    → ((n : Links ℕ) → old i ≡ Some n → new i ≡ Some (record n { rank = rank })) → ((j : ℕ) → j ≢ i → new j ≡ old j)
+    → times_in i near ≡ 0 → times_in i far ≡ 0 → Holds old over link (fork side near i k far) → Holds new over link (fork side near i rank far)
+Holds-reranked old new over link side near far i k rank written elsewhere not_near not_far h =
+    let f = HoldsFork-holds old over link side near far i k h in
+    let P : Option ℕ → Type 0 = λ child. Holds new (Some i) child near in
+    let Q : Option ℕ → Type 0 = λ child. Holds new (Some i) child far in
+    Holds-fork new over link side near far i rank (
+      record (f.0) { rank = rank },
+      f.1,
+      written f.0 f.2,
+      f.3,
+      refl,
+      subst P (sym (child-ranked side rank f.0)) (Holds-frame old new near (Some i) (child_at side f.0) (λ j in_near. elsewhere j (apart-from i j (λ j. times_in j near) not_near in_near)) f.5),
+      subst Q (sym (child-ranked (other_side side) rank f.0)) (Holds-frame old new far (Some i) (child_at (other_side side) f.0) (λ j in_far. elsewhere j (apart-from i j (λ j. times_in j far) not_far in_far)) f.6),
+    )
+
+-- a write of a rank moves no parent
+pub backs-ranked : (old new : Slots) (i rank : ℕ) (n : Links ℕ) → old i ≡ Some n → ((n : Links ℕ) → old i ≡ Some n → new i ≡ Some (record n { rank = rank })) → ((j : ℕ) → j ≢ i → new j ≡ old j) → (j : ℕ) → back_at old j ≡ back_at new j
+backs-ranked old new i rank n e written elsewhere j =
+    ⊎_elim (λ (same : j ≡ i). rw (same, e, written n e) refl)
+    (λ other. ap (λ (o : Option (Links ℕ)). option_map (λ (n : Links ℕ). n.back) o) (sym (elsewhere j other))) (cases_eq j i)

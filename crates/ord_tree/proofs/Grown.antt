@@ -1,0 +1,328 @@
+-- An insertion: from the chain's new entry to the tree with it.
+use Rattle.std.proofs.Common.{◌≡◌, ◌≢◌, ℕ, ◌+◌, ◌<◌, ◌≤◌, ◌^◌, Option, Some, None, List, [], ◌∷◌, map, length, arith, refl, sym, ◌∙◌, ap, subst, inl, is_some, true, false, option_map, MatchOption, slice_get, cond, Bool}
+use Rattle.std.proofs.lemmas.Bool.{eq-eqb}
+use Rattle.std.proofs.lemmas.List.{length-map}
+use Rattle.std.specs.declared.cmp.Ordering.{Ordering}
+use Rattle.std.specs.declared.cmp.Ordering.TheVariants.{Less, Equal, Greater}
+use Rattle.arena_base.specs.Arena.{limit_of}
+use Rattle.chain_base.specs.Chain.{Entry, Chain, entry_at, times as entry_times, IsFresh, IsSound, IsDistinct, next_index, inserted, with_room, with_capacity, grown_capacity}
+use Rattle.chain_base.specs.Insert.{placed, CanPlace, IsInsertion}
+use Rattle.chain_base.specs.declared.chain.insert.LinkInsertKind.{LinkInsertKind}
+use Rattle.ord_tree.specs.declared.links.Place.{Place}
+use Rattle.ord_tree.specs.declared.node.SimpleOrdArenaNode.{SimpleOrdArenaNode}
+use Rattle.ord_tree.specs.Shape.{Shape, missing, node, walk}
+use Rattle.ord_tree.specs.Ranks.{IsRanked}
+use Rattle.ord_tree.specs.Slots.{Holds, times, IsOnce, shape_under}
+use Rattle.ord_tree.specs.Balance.{IsBalanced}
+use Rattle.ord_tree.specs.Raise.{IsRepaired}
+use Rattle.ord_tree.specs.Bud.{beside, leaf_links, IsBudding}
+use Rattle.ord_tree.specs.Node.{bare_entry, bare, links_in, slots_of, indexes}
+use Rattle.ord_tree.specs.Tree.{put_on, put_at, CanPutAt, IsGrown}
+use Rattle.ord_tree.specs.Layout.{shape_in, IsLaidOut}
+use Rattle.ord_tree.specs.Plant.{side_at, kind_on, kind_at, IsBud, IsBudAt}
+use Rattle.ord_tree.proofs.Slack.{IsRanked-balanced, IsBalanced-ranked, IsTight-balanced, IsBalanced-tight}
+use Rattle.ord_tree.proofs.Forks.{times-walk, apart-from}
+use Rattle.ord_tree.proofs.Frames.{Holds-frame}
+use Rattle.ord_tree.proofs.Views.{MovesAtMost-backs}
+use Rattle.ord_tree.proofs.Trees.{times-bare, indexes-bare, vacant_among-bare, bare-with_capacity, shape_in-held, is_some-bare}
+use Rattle.ord_tree.proofs.Planting.{times-indexes, IsOnce-distinct, within-occupied}
+use Rattle.ord_tree.proofs.Spots.{times-beside-ge, length-beside_in}
+use Rattle.ord_tree.proofs.Puts.{put-same, put-other, put-indexes, put-bare}
+
+module _ (P G : Type 0) {T I : Type 0} (number : I → ℕ) where
+  -- the place in the chain that is named is the one in the list
+  pub placed-put : (at : Option (I × Ordering)) (es : List (Entry T)) (new : Entry T) → placed {P = P} {G = G} number (kind_at at) es new ≡ put_at number at es new
+  placed-put None es new = refl
+  placed-put (Some at) es new = on at.1
+    where
+      on : (o : Ordering) → placed {P = P} {G = G} number (kind_on o at.0) es new ≡ put_on o (number at.0) es new
+      on Less = refl
+      on Equal = refl
+      on Greater = refl
+
+  pub CanPlace-put : (at : Option (I × Ordering)) (c : Chain T) → CanPutAt number at c → CanPlace {P = P} {G = G} number (kind_at at) c
+  CanPlace-put None c h = h
+  CanPlace-put (Some at) c h = on at.1
+    where
+      on : (o : Ordering) → CanPlace {P = P} {G = G} number (kind_on o at.0) c
+      on Less = h.0
+      on Equal = h.0
+      on Greater = h.0
+
+-- an insertion's chain
+module _ {T : Type 0} where
+  -- the entry that an insertion puts into the list
+  pub inserted-entries : (old new : Chain T) (place : Entry T → List (Entry T)) (item : T) (i g : ℕ) → IsInsertion old new place item i g → new.entries ≡ place (record { index = i; generation = g; item = item })
+  inserted-entries old new place item i g h = go old.vacant h.next h.after
+    where
+      go : (vacant : List ℕ) → slice_get vacant 0 ≡ Some i → new ≡ inserted (record old { vacant = vacant }) place item → new.entries ≡ place (record { index = i; generation = g; item = item })
+      go [] next after = absurd cc
+      go (j ∷ rest) next after =
+          let same : j ≡ i = cc in
+          ap (λ (c : Chain T). c.entries) after ∙ ap (λ (j : ℕ). place (record { index = j; generation = old.generation; item = item })) same
+          ∙ ap (λ (g : ℕ). place (record { index = i; generation = g; item = item })) (sym h.generation)
+
+  pub with_room-entries : (most : ℕ) (c : Chain T) → (with_room most c).entries ≡ c.entries
+  with_room-entries most c = go (is_some (next_index c))
+    where
+      go : (b : Bool) → (cond b c (with_capacity c (grown_capacity most c))).entries ≡ c.entries
+      go true = refl
+      go false = refl
+
+module _ {P T I G : Type 0} where
+  pub bare-with_room : (most : ℕ) (c : Chain (SimpleOrdArenaNode P T I G)) → bare (with_room most c) ≡ with_room most (bare c)
+  bare-with_room most c = go (is_some (next_index c))
+    where
+      go : (b : Bool) → bare (cond b c (with_capacity c (grown_capacity most c))) ≡ cond b (bare c) (with_capacity (bare c) (grown_capacity most (bare c)))
+      go true = refl
+      go false = bare-with_capacity c (grown_capacity most c)
+
+  IsFresh-bare : (c : Chain (SimpleOrdArenaNode P T I G)) → IsFresh (bare c) → IsFresh c
+  IsFresh-bare c h = h ∙ vacant_among-bare c.entries 1 c.capacity
+
+  bare_fresh : (c : Chain (SimpleOrdArenaNode P T I G)) → IsFresh c → IsFresh (bare c)
+  bare_fresh c h = h ∙ sym (vacant_among-bare c.entries 1 c.capacity)
+
+  bare_inserted : (c : Chain (SimpleOrdArenaNode P T I G)) (place : Entry (SimpleOrdArenaNode P T I G) → List (Entry (SimpleOrdArenaNode P T I G))) (put : Entry T → List (Entry T)) (item : SimpleOrdArenaNode P T I G)
+      → ((e : Entry (SimpleOrdArenaNode P T I G)) → map bare_entry (place e) ≡ put (bare_entry e)) → bare (inserted c place item) ≡ inserted (bare c) put item.t
+  bare_inserted c place put item same = go c.vacant
+    where
+      go : (vacant : List ℕ) → bare (inserted (record c { vacant = vacant }) place item) ≡ inserted (record (bare c) { vacant = vacant }) put item.t
+      go [] = refl
+      go (i ∷ rest) = ap (λ (es : List (Entry T)). record { entries = es; capacity = c.capacity; vacant = rest; generation = c.generation; maximum = c.maximum }) (same (record { index = i; generation = c.generation; item = item }))
+
+  -- the insertion as the list sees it
+  pub IsInsertion-bare : (old new last : Chain (SimpleOrdArenaNode P T I G)) (place : Entry (SimpleOrdArenaNode P T I G) → List (Entry (SimpleOrdArenaNode P T I G))) (put : Entry T → List (Entry T)) (item : SimpleOrdArenaNode P T I G) (i g : ℕ)
+      → ((e : Entry (SimpleOrdArenaNode P T I G)) → map bare_entry (place e) ≡ put (bare_entry e)) → bare last ≡ bare new → IsInsertion old new place item i g → IsInsertion (bare old) (bare last) put item.t i g
+  IsInsertion-bare old new last place put item i g same kept h =
+      let Fresh : Chain T → Type 0 = λ c. IsFresh (bare old) → IsFresh c in
+      record {
+        next = h.next;
+        vacant = record { above = h.vacant.above; within = h.vacant.within; free = times-bare old.entries i ∙ h.vacant.free };
+        least = λ fresh k low high. is_some-bare old.entries k ∙ h.least (IsFresh-bare old fresh) k low high;
+        generation = h.generation;
+        after = kept ∙ ap bare h.after ∙ bare_inserted old place put item same;
+        fresh = subst Fresh (sym kept) (λ fresh. bare_fresh new (h.fresh (IsFresh-bare old fresh)));
+      }
+
+limit_of-le : (most : ℕ) (maximum : Option ℕ) → limit_of most maximum ≤ most
+limit_of-le most None = omega arith
+limit_of-le most (Some m) = omega arith
+
+-- the tree with the new entry beside another
+module _ {P T I G : Type 0} (number : I → ℕ) (c d : Chain (SimpleOrdArenaNode P T I G)) (root : Option ℕ) (at : I × Ordering) (x g : ℕ) (leaf : SimpleOrdArenaNode P T I G)
+    (laid : IsLaidOut number c root (shape_in number c root)) (occupied : is_some (entry_at c.entries (number at.0)) ≡ true) (free : entry_times x c.entries ≡ 0)
+    (entries : d.entries ≡ put_on at.1 (number at.0) c.entries (record { index = x; generation = g; item = leaf }))
+    (most : ℕ) (greatest : Option ℕ) (sound : IsSound most greatest d) (fits : most + 1 < 2 ^ 64) where
+  abbrev order : List ℕ
+  order = indexes c.entries
+
+  abbrev before : Shape
+  before = shape_in number c root
+
+  slots_other : (j : ℕ) → j ≢ x → slots_of number d j ≡ slots_of number c j
+  slots_other j ne =
+      ap (λ (es : List (Entry (SimpleOrdArenaNode P T I G))). option_map (λ (e : ℕ × SimpleOrdArenaNode P T I G). links_in number e.1) (entry_at es j)) entries
+      ∙ ap (option_map (λ (e : ℕ × SimpleOrdArenaNode P T I G). links_in number e.1)) (put-other at.1 c.entries (number at.0) j (record { index = x; generation = g; item = leaf }) ne)
+
+  slots_x : slots_of number d x ≡ Some (links_in number leaf)
+  slots_x =
+      ap (λ (es : List (Entry (SimpleOrdArenaNode P T I G))). option_map (λ (e : ℕ × SimpleOrdArenaNode P T I G). links_in number e.1) (entry_at es x)) entries
+      ∙ ap (option_map (λ (e : ℕ × SimpleOrdArenaNode P T I G). links_in number e.1)) (put-same at.1 c.entries (number at.0) (record { index = x; generation = g; item = leaf }) occupied free)
+
+  pub order_is : indexes d.entries ≡ beside (side_at at.1) (number at.0) x order
+  order_is =
+      ap (λ (es : List (Entry (SimpleOrdArenaNode P T I G))). indexes es) entries
+      ∙ put-indexes at.1 c.entries (number at.0) (record { index = x; generation = g; item = leaf })
+
+  fresh : times x order ≡ 0
+  fresh = times-indexes c.entries x ∙ free
+
+  pub once : IsOnce order
+  once j = omega (arith, IsOnce-distinct d.entries sound.distinct j, ap (times j) order_is, times-beside-ge (side_at at.1) (number at.0) x j order)
+
+  pub distinct : IsDistinct c.entries
+  distinct j = omega (arith, once j, times-indexes c.entries j)
+
+  few : length order + 1 < 2 ^ 64
+  few =
+      omega (
+        arith,
+        length-beside_in (side_at at.1) (number at.0) x order (within-occupied c.entries (number at.0) occupied),
+        ap length order_is,
+        length-map d.entries (λ (e : Entry (SimpleOrdArenaNode P T I G)). e.index),
+        sound.counted,
+        sound.within_limit,
+        limit_of-le most d.maximum,
+        fits,
+      )
+
+  held_d : Holds (slots_of number d) None root before
+  held_d =
+      Holds-frame (slots_of number c) (slots_of number d) before None root
+      (λ j inside. slots_other j (apart-from x j (λ j. times j order) fresh (omega (arith, inside, times-walk j before, ap (times j) laid.listed)))) laid.held
+
+  pub budding : (slack : ℕ) (place : Place I) → IsBalanced slack before → IsBud number (number at.0) (side_at at.1) (slots_of number c) order place → links_in number leaf ≡ leaf_links (Some (number place.parent))
+      → IsBudding (slots_of number d) root place.side (number place.parent) x order slack
+  budding slack place balanced bud leaf_is = record {
+    built = record { shape = before; held = held_d; listed = laid.listed; balanced = balanced };
+    within = bud.within;
+    bare = λ n e. bud.bare n (sym (slots_other (number place.parent) (apart-from x (number place.parent) (λ j. times j order) fresh bud.within)) ∙ e);
+    leaf = slots_x ∙ ap Some leaf_is;
+    fresh = fresh;
+    once = once;
+    few = few;
+  }
+
+  module _ (new : Chain (SimpleOrdArenaNode P T I G)) (root' : Option ℕ) (place : Place I) (bud : IsBud number (number at.0) (side_at at.1) (slots_of number c) order place) (kept : bare new ≡ bare d)
+      (repaired : (slack : ℕ) → IsBalanced slack before → IsRepaired (slots_of number d) (slots_of number new) root' (beside place.side (number place.parent) x order) slack) where
+    listed_new : beside place.side (number place.parent) x order ≡ indexes new.entries
+    listed_new = bud.put x ∙ sym order_is ∙ sym (indexes-bare d.entries) ∙ ap (λ (c : Chain T). indexes c.entries) (sym kept) ∙ indexes-bare new.entries
+
+    shape_is : (slack : ℕ) (balanced : IsBalanced slack before) → shape_in number new root' ≡ (repaired slack balanced).built.shape
+    shape_is slack balanced = let b = (repaired slack balanced).built in shape_in-held number new root' b.shape b.held (b.listed ∙ listed_new)
+
+    balanced_new : (slack : ℕ) → IsBalanced slack before → IsBalanced slack (shape_in number new root')
+    balanced_new slack balanced = let P : Shape → Type 0 = λ s. IsBalanced slack s in subst P (sym (shape_is slack balanced)) (repaired slack balanced).built.balanced
+
+    held_new : Holds (slots_of number new) None root' (shape_in number new root')
+    held_new = let b = IsBalanced-ranked before laid.ranked in let P : Shape → Type 0 = λ s. Holds (slots_of number new) None root' s in subst P (sym (shape_is 1 b)) (repaired 1 b).built.held
+
+    pub IsLaidOut-planted : IsLaidOut number new root' (shape_in number new root')
+    IsLaidOut-planted =
+        let b = IsBalanced-ranked before laid.ranked in
+        record { held = held_new; listed = ap walk (shape_is 1 b) ∙ (repaired 1 b).built.listed ∙ listed_new; ranked = IsRanked-balanced 1 (shape_in number new root') (balanced_new 1 b) }
+
+    pub IsGrown-planted : IsGrown before (shape_in number new root')
+    IsGrown-planted =
+        let b = IsBalanced-ranked before laid.ranked in
+        record {
+          ranked = IsRanked-balanced 1 (shape_in number new root') (balanced_new 1 b);
+          tight = λ tight. IsTight-balanced (shape_in number new root') (balanced_new 0 (IsBalanced-tight before laid.ranked tight));
+          moved = MovesAtMost-backs 5 (slots_of number d) (slots_of number new) root root' before (shape_in number new root') held_d held_new (repaired 1 b).backs;
+        }
+
+-- the tree of one entry
+module _ {P T I G : Type 0} (number : I → ℕ) (c d : Chain (SimpleOrdArenaNode P T I G)) (root : Option ℕ) (x g : ℕ) (leaf : SimpleOrdArenaNode P T I G)
+    (empty : c.entries ≡ []) (entries : d.entries ≡ record { index = x; generation = g; item = leaf } ∷ []) (leaf_is : links_in number leaf ≡ leaf_links None) where
+  slots_alone : slots_of number d x ≡ Some (leaf_links None)
+  slots_alone =
+      ap (λ (es : List (Entry (SimpleOrdArenaNode P T I G))). option_map (λ (e : ℕ × SimpleOrdArenaNode P T I G). links_in number e.1) (entry_at es x)) entries
+      ∙ rw (eq-eqb x x refl) (ap Some leaf_is)
+
+  held_alone : Holds (slots_of number d) None (Some x) (node missing x 1 missing)
+  held_alone = (leaf_links None, refl, slots_alone, refl, refl, refl, refl)
+
+  shape_alone : shape_in number d (Some x) ≡ node missing x 1 missing
+  shape_alone = shape_in-held number d (Some x) (node missing x 1 missing) held_alone (ap (λ (es : List (Entry (SimpleOrdArenaNode P T I G))). indexes es) (sym entries))
+
+  shape_none : shape_in number c root ≡ missing
+  shape_none = ap (λ (es : List (Entry (SimpleOrdArenaNode P T I G))). shape_under (length es) (slots_of number c) root) empty
+
+  ranked_alone : IsRanked (node missing x 1 missing)
+  ranked_alone = (record { lesser = omega arith; greater = omega arith; leaf = λ _ _. refl }, tt, tt)
+
+  pub IsLaidOut-alone : IsLaidOut number d (Some x) (shape_in number d (Some x))
+  IsLaidOut-alone =
+      let L : Shape → Type 0 = λ s. IsLaidOut number d (Some x) s in
+      subst L (sym shape_alone) (record { held = held_alone; listed = ap (λ (es : List (Entry (SimpleOrdArenaNode P T I G))). indexes es) (sym entries); ranked = ranked_alone })
+
+  pub IsGrown-alone : IsGrown (shape_in number c root) (shape_in number d (Some x))
+  IsGrown-alone =
+      let A : Shape → Type 0 = λ s. IsGrown s (shape_in number d (Some x)) in
+      let B : Shape → Type 0 = λ s. IsGrown missing s in
+      subst A (sym shape_none) (subst B (sym shape_alone) (record { ranked = ranked_alone; tight = λ _. (inl refl, tt, tt); moved = ([], omega arith, λ i p q old new. elim old [ ]) }))
+
+-- an insertion as a whole
+module _ {P T I G : Type 0} (number : I → ℕ) (c d : Chain (SimpleOrdArenaNode P T I G)) (root : Option ℕ) (x g : ℕ) (leaf : SimpleOrdArenaNode P T I G)
+    (laid : IsLaidOut number c root (shape_in number c root)) (free : entry_times x c.entries ≡ 0)
+    (most : ℕ) (greatest : Option ℕ) (sound : IsSound most greatest d) (fits : most + 1 < 2 ^ 64) where
+  pub grow_allowed : (at : Option (I × Ordering)) (place : Option (Place I)) → CanPutAt number at c
+      → ((root : Option ℕ) (s : Shape) → IsLaidOut number c root s → IsDistinct c.entries → IsBudAt number at (slots_of number c) (indexes c.entries) place)
+      → d.entries ≡ put_at number at c.entries (record { index = x; generation = g; item = leaf }) → links_in number leaf ≡ leaf_links (option_map (λ (p : Place I). number p.parent) place)
+      → MatchOption place (Unit {0}) (λ p. (order : List ℕ) × (slack : ℕ) × IsBudding (slots_of number d) root p.side (number p.parent) x order slack)
+  grow_allowed at None can bud entries leaf_is = tt
+  grow_allowed None (Some place) can bud entries leaf_is = absurd (let none = bud root (shape_in number c root) laid (λ i. let e = ap (entry_times i) can in omega arith) in cc)
+  grow_allowed (Some at) (Some place) can bud entries leaf_is =
+      let apart = distinct number c d root at x g leaf laid can.0 free entries most greatest sound fits in
+      (indexes c.entries, 1, budding number c d root at x g leaf laid can.0 free entries most greatest sound fits 1 place (IsBalanced-ranked (shape_in number c root) laid.ranked) (bud root (shape_in number c root) laid apart) leaf_is)
+
+  pub grown_whole : (at : Option (I × Ordering)) (place : Option (Place I)) → CanPutAt number at c
+      → ((root : Option ℕ) (s : Shape) → IsLaidOut number c root s → IsDistinct c.entries → IsBudAt number at (slots_of number c) (indexes c.entries) place)
+      → d.entries ≡ put_at number at c.entries (record { index = x; generation = g; item = leaf }) → links_in number leaf ≡ leaf_links (option_map (λ (p : Place I). number p.parent) place)
+      → (new : Chain (SimpleOrdArenaNode P T I G)) (root' : Option I) (y : I) → number y ≡ x → bare new ≡ bare d
+      → MatchOption place ((new ≡ d) × (root' ≡ Some y))
+      (λ p. (order : List ℕ) (slack : ℕ) → IsBudding (slots_of number d) root p.side (number p.parent) x order slack → IsRepaired (slots_of number d) (slots_of number new) (option_map number root') (beside p.side (number p.parent) x order) slack)
+      → IsLaidOut number new (option_map number root') (shape_in number new (option_map number root')) × IsGrown (shape_in number c root) (shape_in number new (option_map number root'))
+  grown_whole None None can bud entries leaf_is new root' y y_is kept same =
+      let e : List (Entry (SimpleOrdArenaNode P T I G)) = record { index = x; generation = g; item = leaf } ∷ [] in
+      let alone = entries ∙ ap (λ (es : List (Entry (SimpleOrdArenaNode P T I G))). record { index = x; generation = g; item = leaf } ∷ es) can in
+      let named : option_map number root' ≡ Some x = ap (option_map number) same.1 ∙ ap Some y_is in
+      let R : Option ℕ → Type 0 = λ r. IsLaidOut number new r (shape_in number new r) × IsGrown (shape_in number c root) (shape_in number new r) in
+      let N : Chain (SimpleOrdArenaNode P T I G) → Type 0 = λ n. IsLaidOut number n (Some x) (shape_in number n (Some x)) × IsGrown (shape_in number c root) (shape_in number n (Some x)) in
+      subst R (sym named) (subst N (sym same.0) (IsLaidOut-alone number c d root x g leaf can alone leaf_is, IsGrown-alone number c d root x g leaf can alone leaf_is))
+  grown_whole (Some at) None can bud entries leaf_is new root' y y_is kept same =
+      absurd (elim (bud root (shape_in number c root) laid (distinct number c d root at x g leaf laid can.0 free entries most greatest sound fits)) [ ])
+  grown_whole None (Some place) can bud entries leaf_is new root' y y_is kept repaired = absurd (let none = bud root (shape_in number c root) laid (λ i. let e = ap (entry_times i) can in omega arith) in cc)
+  grown_whole (Some at) (Some place) can bud entries leaf_is new root' y y_is kept repaired =
+      let here = bud root (shape_in number c root) laid (distinct number c d root at x g leaf laid can.0 free entries most greatest sound fits) in
+      let again : (slack : ℕ) → IsBalanced slack (shape_in number c root) → IsRepaired (slots_of number d) (slots_of number new) (option_map number root') (beside place.side (number place.parent) x (indexes c.entries)) slack
+      = λ slack balanced. repaired (indexes c.entries) slack (budding number c d root at x g leaf laid can.0 free entries most greatest sound fits slack place balanced here leaf_is) in (
+        IsLaidOut-planted number c d root at x g leaf laid can.0 free entries most greatest sound fits new (option_map number root') place here kept again,
+        IsGrown-planted number c d root at x g leaf laid can.0 free entries most greatest sound fits new (option_map number root') place here kept again,
+      )
+
+-- small steps of an insertion's call
+bare_empty : {P T I G : Type 0} (es : List (Entry (SimpleOrdArenaNode P T I G))) → map bare_entry es ≡ [] → es ≡ []
+bare_empty [] h = refl
+bare_empty (e ∷ es) h = absurd cc
+
+module _ {P T I G : Type 0} (number : I → ℕ) where
+  pub CanPutAt-bare : (at : Option (I × Ordering)) (c : Chain (SimpleOrdArenaNode P T I G)) → CanPutAt number at (bare c) → CanPutAt number at c
+  CanPutAt-bare None c h = bare_empty c.entries h
+  CanPutAt-bare (Some at) c h = (sym (is_some-bare c.entries (number at.0)) ∙ h.0, h.1)
+
+put_at-bare : {P T I G : Type 0} (number : I → ℕ) (at : Option (I × Ordering)) (es : List (Entry (SimpleOrdArenaNode P T I G))) (e : Entry (SimpleOrdArenaNode P T I G)) → map bare_entry (put_at number at es e) ≡ put_at number at (map bare_entry es) (bare_entry e)
+put_at-bare number None es e = refl
+put_at-bare number (Some at) es e = put-bare at.1 es (number at.0) e
+
+mapped-twice : {I : Type 0} (number : I → ℕ) (place : Option (Place I)) → option_map number (option_map (λ (p : Place I). p.parent) place) ≡ option_map (λ (p : Place I). number p.parent) place
+mapped-twice number None = refl
+mapped-twice number (Some p) = refl
+
+-- the call of an insertion, from what its steps ensure
+module _ {P T I G : Type 0} (number : I → ℕ) (room c d : Chain (SimpleOrdArenaNode P T I G)) (root : Option ℕ) (at : Option (I × Ordering)) (place : Option (Place I)) (kind : LinkInsertKind P I G)
+    (back : Option I) (t : T) (leaf : SimpleOrdArenaNode P T I G) (index era : ℕ) (x : I)
+    (laid : IsLaidOut number c root (shape_in number c root)) (can : CanPutAt number at c) (same_room : room.entries ≡ c.entries)
+    (place_is : (root : Option ℕ) (s : Shape) → IsLaidOut number c root s → IsDistinct c.entries → IsBudAt number at (slots_of number c) (indexes c.entries) place)
+    (back_is : back ≡ option_map (λ (p : Place I). p.parent) place) (leaf_is : leaf ≡ record { p_tree0 = None; p_tree1 = None; t = t; p_back = back; rank = 1 }) (kind_is : kind ≡ kind_at at)
+    (insertion : IsInsertion room d (placed number kind c.entries) leaf index era) (x_is : number x ≡ index)
+    (most : ℕ) (greatest : Option ℕ) (sound : IsSound most greatest d) (fits : most + 1 < 2 ^ 64) where
+  put_is : (e : Entry (SimpleOrdArenaNode P T I G)) → placed number kind c.entries e ≡ put_at number at c.entries e
+  put_is e = ap (λ (kind : LinkInsertKind P I G). placed number kind c.entries e) kind_is ∙ placed-put P G number at c.entries e
+
+  entries_are : d.entries ≡ put_at number at c.entries (record { index = number x; generation = era; item = leaf })
+  entries_are =
+      inserted-entries room d (placed number kind c.entries) leaf index era insertion ∙ put_is (record { index = index; generation = era; item = leaf })
+      ∙ ap (λ (i : ℕ). put_at number at c.entries (record { index = i; generation = era; item = leaf })) (sym x_is)
+
+  links_are : links_in number leaf ≡ leaf_links (option_map (λ (p : Place I). number p.parent) place)
+  links_are = ap (links_in number) leaf_is ∙ ap (λ (b : Option I). leaf_links (option_map number b)) back_is ∙ ap leaf_links (mapped-twice number place)
+
+  x_free : entry_times (number x) c.entries ≡ 0
+  x_free = ap (λ (i : ℕ). entry_times i c.entries) x_is ∙ ap (entry_times index) (sym same_room) ∙ insertion.vacant.free
+
+  pub call_allowed : MatchOption place (Unit {0}) (λ p. (order : List ℕ) × (slack : ℕ) × IsBudding (slots_of number d) root p.side (number p.parent) (number x) order slack)
+  call_allowed = grow_allowed number c d root (number x) era leaf laid x_free most greatest sound fits at place can place_is entries_are links_are
+
+  module _ (new : Chain (SimpleOrdArenaNode P T I G)) (root' : Option I) (kept : bare new ≡ bare d)
+      (grown : MatchOption place ((new ≡ d) × (root' ≡ Some x))
+      (λ p. (order : List ℕ) (slack : ℕ) → IsBudding (slots_of number d) root p.side (number p.parent) (number x) order slack → IsRepaired (slots_of number d) (slots_of number new) (option_map number root') (beside p.side (number p.parent) (number x) order) slack)) where
+    pub call_grown : IsLaidOut number new (option_map number root') (shape_in number new (option_map number root')) × IsGrown (shape_in number c root) (shape_in number new (option_map number root'))
+    call_grown = grown_whole number c d root (number x) era leaf laid x_free most greatest sound fits at place can place_is entries_are links_are new root' x refl kept grown
+
+    pub call_listed : IsInsertion (bare room) (bare new) (put_at number at (map bare_entry c.entries)) t index era
+    call_listed =
+        let L : T → Type 0 = λ t. IsInsertion (bare room) (bare new) (put_at number at (map bare_entry c.entries)) t index era in
+        subst L (ap (λ (n : SimpleOrdArenaNode P T I G). n.t) leaf_is)
+        (IsInsertion-bare room d new (placed number kind c.entries) (put_at number at (map bare_entry c.entries)) leaf index era (λ e. ap (λ (es : List (Entry (SimpleOrdArenaNode P T I G))). map bare_entry es) (put_is e) ∙ put_at-bare number at c.entries e) kept insertion)

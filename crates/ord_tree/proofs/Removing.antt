@@ -1,0 +1,169 @@
+-- What the code of a removal finds at each of its steps.
+use Rattle.std.proofs.Common.{◌≡◌, ℕ, ◌+◌, ◌≤◌, Option, Some, None, List, [], ◌∷◌, ◌++◌, map, arith, refl, sym, ◌∙◌, ap, subst, option_map, is_some, true, append_assoc, MatchOption}
+use Rattle.std.specs.Option.{IsSomeAnd}
+use Rattle.std.proofs.lemmas.List.{map-append}
+use Rattle.ord_tree.specs.declared.links.Side.{Side}
+use Rattle.ord_tree.specs.declared.links.Side.TheVariants.{Lesser, Greater}
+use Rattle.ord_tree.specs.declared.links.Links.{Links}
+use Rattle.ord_tree.specs.declared.links.Place.{Place}
+use Rattle.ord_tree.specs.Shape.{Shape, fork, rank_of, walk}
+use Rattle.ord_tree.specs.Slots.{Slots, Holds, Way, top, plug, above, HoldsWay, here, times, MovesBacks}
+use Rattle.ord_tree.specs.Balance.{IsOver}
+use Rattle.ord_tree.specs.Raise.{IsBuilt}
+use Rattle.ord_tree.specs.Sink.{IsFallen}
+use Rattle.ord_tree.specs.Detach.{without, stand_in, renamed, IsLoose, CanStandIn, IsDetachable}
+use Rattle.ord_tree.proofs.Forks.{Holds-plug, HoldsFork-holds, here-same, times-append, times-walk}
+use Rattle.ord_tree.proofs.Spots.{Spot, spot_in}
+use Rattle.ord_tree.proofs.Cutting.{without-split, times-without, length-without}
+use Rattle.ord_tree.proofs.Neighbours.{BeforeIn, before_in, previous-neighbour, first-within}
+use Rattle.ord_tree.proofs.Standing.{stand_in-same}
+use Rattle.ord_tree.proofs.Displacing.{renamed_way, renamed-fork, renamed-plug, rank-renamed, IsBalanced-renamed, IsBalancedWay-renamed, walk-renamed, map-absent, plug_held}
+
+pub MovesBacks-more : (m n : ℕ) (old new : Slots) → m ≤ n → MovesBacks m old new → MovesBacks n old new
+MovesBacks-more m n old new b h = (h.0, omega (arith, b, h.1), h.2)
+
+module _ {old : Slots} {root : Option ℕ} {z : ℕ} {before : Option ℕ} {order : List ℕ} (can : IsDetachable old root z before order) where
+  spot : Spot old root Lesser z can.built.shape
+  spot = spot_in old root Lesser z can.built.shape top root refl can.built.held (omega (arith, can.within, times-walk z can.built.shape, ap (times z) can.built.listed))
+
+  pub z_occupied : is_some (old z) ≡ true
+  z_occupied = ap is_some spot.at_y
+
+  module _ (nz : Links ℕ) (e : old z ≡ Some nz) where
+    pub loose_z : nz.lesser ≡ None → IsLoose old root z Lesser order
+    loose_z none = record { built = can.built; within = can.within; bare = λ n d. (let same : n ≡ nz = cc in ap (λ (n : Links ℕ). n.lesser) same ∙ none); once = can.once; few = can.few }
+
+    module _ (j : ℕ) (some : nz.lesser ≡ Some j) where
+      abbrev b : BeforeIn old z order
+      b = before_in old root can.built.shape order can.built.held can.built.listed z can.within nz e j some
+
+      pub v_is : before ≡ Some b.index
+      v_is = can.is_before ∙ previous-neighbour order b.front b.back b.index z can.once b.is
+
+      module _ (v : ℕ) (is_v : before ≡ Some v) where
+        same : b.index ≡ v
+        same = let e = v_is in cc
+
+        listed : order ≡ b.front ++ v ∷ z ∷ b.back
+        listed = b.is ∙ ap (λ i. b.front ++ i ∷ z ∷ b.back) same
+
+        pub loose_v : IsLoose old root v Greater order
+        loose_v =
+            let P : ℕ → Type 0 = λ v. (n : Links ℕ) → old v ≡ Some n → n.greater ≡ None in
+            record { built = can.built; within = first-within order b.front b.back v z can.once listed; bare = subst P same b.bare; once = can.once; few = can.few }
+
+        counts : (i : ℕ) → times i b.front + (here i v + (here i z + times i b.back)) ≤ 1
+        counts i = omega (arith, can.once i, ap (times i) listed, times-append i b.front (v ∷ z ∷ b.back))
+
+        rest : without v order ≡ b.front ++ z ∷ b.back
+        rest = ap (without v) listed ∙ without-split v b.front (z ∷ b.back) (omega (arith, counts v, here-same v))
+
+        gone : without z order ≡ b.front ++ v ∷ b.back
+        gone =
+            ap (without z) (listed ∙ sym (append_assoc b.front (v ∷ []) (z ∷ b.back)))
+            ∙ without-split z (b.front ++ v ∷ []) b.back (omega (arith, counts z, here-same z, times-append z b.front (v ∷ [])))
+            ∙ append_assoc b.front (v ∷ []) b.back
+
+        order_renamed : map (stand_in z v) (without v order) ≡ without z order
+        order_renamed =
+            ap (map (stand_in z v)) rest ∙ map-append (stand_in z v) b.front (z ∷ b.back)
+            ∙ rw (stand_in-same z v, map-absent z v b.front (omega (arith, counts z, here-same z)), map-absent z v b.back (omega (arith, counts z, here-same z))) (sym gone)
+
+        module _ (mid : Slots) (root' : Option ℕ) (spare : is_some (mid v) ≡ true) where
+          stands : (s : Shape) → Holds mid None root' s → walk s ≡ without v order → CanStandIn mid root' z v s
+          stands s held is = record {
+            held = held;
+            within = omega (arith, times-walk z s, ap (times z) (is ∙ rest), times-append z b.front (z ∷ b.back), here-same z);
+            fresh = omega (arith, times-walk v s, ap (times v) (is ∙ rest), times-append v b.front (z ∷ b.back), counts v, here-same v);
+            apart = λ i. omega (arith, times-walk i s, ap (times i) is, times-without v i order, can.once i);
+            spare = spare;
+          }
+
+          built_stands : (built : IsBuilt mid root' (without v order) 1) → CanStandIn mid root' z v built.shape
+          built_stands built = stands built.shape built.held built.listed
+
+          fallen_stands : {y : ℕ} {side : Side} (fallen : IsFallen mid root' y side (without v order)) → CanStandIn mid root' z v (plug fallen.way (fork side fallen.low y fallen.rank fallen.far))
+          fallen_stands {y} {side} fallen = stands (plug fallen.way (fork side fallen.low y fallen.rank fallen.far)) (Holds-plug mid root' fallen.way (fork side fallen.low y fallen.rank fallen.far) (Some y) fallen.held_way fallen.held) fallen.listed
+
+          pub can_stand : {I : Type 0} (number : I → ℕ) (cut : Option (Place I))
+              → MatchOption cut (IsBuilt mid root' (without v order) 1) (λ p. IsFallen mid root' (number p.parent) p.side (without v order))
+              → (s : Shape) × CanStandIn mid root' z v s
+          can_stand number None h = (h.shape, built_stands h)
+          can_stand number (Some p) h = (plug h.way (fork p.side h.low (number p.parent) h.rank h.far), fallen_stands h)
+
+          module _ (new : Slots) (root'' : Option ℕ) (held : (s : Shape) → CanStandIn mid root' z v s → Holds new None root'' (renamed z v s)) where
+            built_renamed : IsBuilt mid root' (without v order) 1 → IsBuilt new root'' (without z order) 1
+            built_renamed built = record {
+              shape = renamed z v built.shape;
+              held = held built.shape (built_stands built);
+              listed = walk-renamed z v built.shape ∙ ap (map (stand_in z v)) built.listed ∙ order_renamed;
+              balanced = IsBalanced-renamed 1 z v built.shape built.balanced;
+            }
+
+            fallen_renamed : (y y' : ℕ) (side side' : Side) → y' ≡ stand_in z v y → side' ≡ side → IsFallen mid root' y side (without v order) → IsFallen new root'' y' side' (without z order)
+            fallen_renamed y y' side side' is_y is_side f =
+                let P : ℕ → Type 0 = λ y. IsFallen new root'' y side' (without z order) in
+                let Q : Side → Type 0 = λ side. IsFallen new root'' (stand_in z v y) side (without z order) in
+                subst P (sym is_y) (subst Q (sym is_side) go)
+              where
+                s : Shape
+                s = plug f.way (fork side f.low y f.rank f.far)
+
+                way' : Way
+                way' = renamed_way z v f.way
+
+                fork' : Shape
+                fork' = fork side (renamed z v f.low) (stand_in z v y) f.rank (renamed z v f.far)
+
+                same_shape : renamed z v s ≡ plug way' fork'
+                same_shape = renamed-plug z v f.way (fork side f.low y f.rank f.far) ∙ ap (plug way') (renamed-fork z v side f.low f.far y f.rank)
+
+                whole : Holds new None root'' (plug way' fork')
+                whole = let P : Shape → Type 0 = λ s. Holds new None root'' s in subst P same_shape (held s (fallen_stands f))
+
+                parts : (link : Option ℕ) × HoldsWay new root'' way' link × Holds new (above way') link fork'
+                parts = plug_held new root'' way' fork' whole
+
+                link_is : parts.0 ≡ Some (stand_in z v y)
+                link_is = (HoldsFork-holds new (above way') parts.0 side (renamed z v f.low) (renamed z v f.far) (stand_in z v y) f.rank parts.2).1
+
+                over' : IsOver 1 f.rank (rank_of (renamed z v f.low) + 1) (rank_of (renamed z v f.far))
+                over' = rw (rank-renamed z v f.low, rank-renamed z v f.far) f.over
+
+                go : IsFallen new root'' (stand_in z v y) side (without z order)
+                go =
+                    let W : Option ℕ → Type 0 = λ link. HoldsWay new root'' way' link in
+                    let H : Option ℕ → Type 0 = λ link. Holds new (above way') link fork' in
+                    record {
+                      way = way';
+                      low = renamed z v f.low;
+                      far = renamed z v f.far;
+                      rank = f.rank;
+                      held_way = subst W link_is parts.1;
+                      held = subst H link_is parts.2;
+                      listed = ap walk (sym same_shape) ∙ walk-renamed z v s ∙ ap (map (stand_in z v)) f.listed ∙ order_renamed;
+                      over = over';
+                      balanced_low = IsBalanced-renamed 1 z v f.low f.balanced_low;
+                      balanced_far = IsBalanced-renamed 1 z v f.far f.balanced_far;
+                      balanced_way = IsBalancedWay-renamed 1 z v f.way f.rank f.balanced_way;
+                      once = λ i. omega (arith, times-without z i order, can.once i);
+                      few = omega (arith, length-without z order, can.few);
+                    }
+
+            pub displaced : {I : Type 0} (number : I → ℕ) (cut result : Option (Place I))
+                → MatchOption cut (result ≡ None) (λ p. IsSomeAnd result (λ q. (number q.parent ≡ stand_in z v (number p.parent)) × (q.side ≡ p.side)))
+                → MatchOption cut (IsBuilt mid root' (without v order) 1) (λ p. IsFallen mid root' (number p.parent) p.side (without v order))
+                → MatchOption result (IsBuilt new root'' (without z order) 1) (λ p. IsFallen new root'' (number p.parent) p.side (without z order))
+            displaced number None None is h = built_renamed h
+            displaced number None (Some q) is h = absurd cc
+            displaced number (Some p) None is h = elim is [ ]
+            displaced number (Some p) (Some q) is h = fallen_renamed (number p.parent) (number q.parent) p.side q.side is.0 is.1 h
+
+-- a link that leads somewhere, with numbers for indexes
+pub mapped : {I : Type 0} (number : I → ℕ) (o : Option I) → is_some o ≡ true → (j : ℕ) × option_map number o ≡ Some j
+mapped number None e = absurd cc
+mapped number (Some i) e = (number i, refl)
+
+pub unmapped : {I : Type 0} (number : I → ℕ) (o : Option I) (j : ℕ) → option_map number o ≡ Some j → is_some o ≡ true
+unmapped number None j e = absurd cc
+unmapped number (Some i) j e = refl

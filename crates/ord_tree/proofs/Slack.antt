@@ -1,0 +1,50 @@
+-- Balance with a slack, and the rank rules with and without tightness.
+use Rattle.std.proofs.Common.{◌≡◌, ℕ, ◌+◌, ◌*◌, ◌^◌, ◌<◌, ◌≤◌, arith, inl, inr, ⊎_elim, ◌⊎◌}
+use Rattle.std.proofs.Math.Nat.{mul-le-mul}
+use Rattle.std.proofs.lemmas.Bool.{cases_lt}
+use Rattle.ord_tree.specs.declared.links.Side.{Side}
+use Rattle.ord_tree.specs.declared.links.Side.TheVariants.{Lesser, Greater}
+use Rattle.ord_tree.specs.Shape.{Shape, missing, node, fork, rank_of, size_of}
+use Rattle.ord_tree.specs.Ranks.{IsRanked, IsTight}
+use Rattle.ord_tree.specs.Balance.{IsBalanced, IsUneven}
+use Rattle.ord_tree.proofs.Sizes.{nodes_over_rank}
+
+pub IsRanked-balanced : (slack : ℕ) (s : Shape) → IsBalanced slack s → IsRanked s
+IsRanked-balanced slack missing h = tt
+IsRanked-balanced slack (node l i k r) h =
+    (record { lesser = h.0.lesser; greater = h.0.greater; leaf = h.0.leaf }, IsRanked-balanced slack l h.1, IsRanked-balanced slack r h.2)
+
+pub IsBalanced-ranked : (s : Shape) → IsRanked s → IsBalanced 1 s
+IsBalanced-ranked missing h = tt
+IsBalanced-ranked (node l i k r) h =
+    (record { lesser = h.0.lesser; greater = h.0.greater; leaf = h.0.leaf; tight = omega (arith, h.0.lesser, h.0.greater) }, IsBalanced-ranked l h.1, IsBalanced-ranked r h.2)
+
+pub IsTight-balanced : (s : Shape) → IsBalanced 0 s → IsTight s
+IsTight-balanced missing h = tt
+IsTight-balanced (node l i k r) h = (
+  ⊎_elim (λ (high : rank_of l + 1 < k). inr (omega (arith, h.0.lesser, h.0.greater, h.0.tight))) (λ (low : k ≤ rank_of l + 1). inl (omega (arith, h.0.lesser))) (cases_lt (rank_of l + 1) k),
+  IsTight-balanced l h.1,
+  IsTight-balanced r h.2,
+)
+
+pub IsBalanced-tight : (s : Shape) → IsRanked s → IsTight s → IsBalanced 0 s
+IsBalanced-tight missing h t = tt
+IsBalanced-tight (node l i k r) h t =
+    (record { lesser = h.0.lesser; greater = h.0.greater; leaf = h.0.leaf; tight = omega (arith, h.0.lesser, h.0.greater, t.0) }, IsBalanced-tight l h.1 t.1, IsBalanced-tight r h.2 t.2)
+
+-- a rank fits a byte with room to spare, where the number of nodes fits a word
+pub rank-small : (s : Shape) → IsRanked s → size_of s < 2 ^ 64 → rank_of s < 128
+rank-small s h few =
+    ⊎_elim (λ (low : rank_of s < 128). low)
+    (λ (high : 128 ≤ rank_of s).
+    let square = nodes_over_rank s 127 h high in
+    let bound : (size_of s + 1) * (size_of s + 1) ≤ 2 ^ 64 * 2 ^ 64 = mul-le-mul {n₂ = 2 ^ 64} {m₂ = 2 ^ 64} (omega arith) (omega arith) in
+    absurd (omega arith)) (cases_lt (rank_of s) 128)
+
+pub IsUneven-fork : (side : Side) (near far : Shape) (i k : ℕ) → (k ≡ 1) ⊎ (2 * k ≡ rank_of near + rank_of far + 3) → IsUneven (fork side near i k far)
+IsUneven-fork Lesser near far i k h = h
+IsUneven-fork Greater near far i k h = ⊎_elim (λ e. inl e) (λ (e : 2 * k ≡ rank_of near + rank_of far + 3). inr (omega arith)) h
+
+pub fork_uneven : (side : Side) (near far : Shape) (i k : ℕ) → IsUneven (fork side near i k far) → (k ≡ 1) ⊎ (2 * k ≡ rank_of near + rank_of far + 3)
+fork_uneven Lesser near far i k h = h
+fork_uneven Greater near far i k h = ⊎_elim (λ e. inl e) (λ (e : 2 * k ≡ rank_of far + rank_of near + 3). inr (omega arith)) h

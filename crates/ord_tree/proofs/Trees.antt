@@ -1,0 +1,165 @@
+-- A tree that lies in a chain: what its view is, and what changes of the chain keep it.
+use Rattle.std.proofs.Common.{◌≡◌, ◌≢◌, ℕ, zero, suc, ◌+◌, ◌≤◌, Option, Some, None, List, [], ◌∷◌, map, length, arith, refl, sym, ◌∙◌, ap, subst, ⊎_elim, is_some, option_map, max, Result, Ok, Err, OnOk, OnErr}
+use Rattle.std.proofs.lemmas.Bool.{cases_eq, eq-eqb, ne_eqb}
+use Rattle.std.proofs.lemmas.List.{length-map}
+use Rattle.chain_base.specs.Chain.{Entry, Chain, entry_at, times, with_item, with_item_at, vacant_among, with_capacity, greatest_index, IsSound}
+use Rattle.std.specs.Option.{ForSome}
+use Rattle.arena_base.specs.Arena.{how_often}
+use Rattle.arena_base.specs.Generation.{IsLawfulGeneration}
+use Rattle.ord_tree.specs.declared.node.SimpleOrdArenaNode.{SimpleOrdArenaNode}
+use Rattle.ord_tree.specs.Shape.{Shape, missing, node, size_of, height, walk}
+use Rattle.ord_tree.specs.Slots.{Slots, Holds, shape_under}
+use Rattle.ord_tree.specs.Node.{bare_entry, bare, entry_in, links_in, slots_of, indexes}
+use Rattle.ord_tree.specs.Tree.{IsSoundTree, with_item_in}
+use Rattle.ord_tree.specs.Layout.{shape_in, tree_of, IsLaidOut, with_item_below, with_node_item}
+use Rattle.ord_tree.proofs.Halves.{size_of-walk}
+use Rattle.ord_tree.specs.Ranks.{IsRanked}
+use Rattle.ord_tree.proofs.Frames.{Holds-frame}
+use Rattle.ord_tree.proofs.Views.{shape_under-held}
+
+-- nodes with the same links hold the same
+Holds-same : (old new : Slots) → ((j : ℕ) → new j ≡ old j) → (s : Shape) (over link : Option ℕ) → Holds old over link s → Holds new over link s
+Holds-same old new same s over link h = Holds-frame old new s over link (λ j _. same j) h
+
+-- what a result doesn't decide
+pub either_result : {X Y : Type 0} (r : Result X Y) (A : Type 0) → OnOk r A → OnErr r A → A
+either_result (Ok x) A ok err = ok
+either_result (Err y) A ok err = err
+
+pub on_ok : {X Y : Type 0} (r : Result X Y) (A B : Type 0) → OnOk r A → (A → B) → OnOk r B
+on_ok (Ok x) A B ok f = f ok
+on_ok (Err y) A B ok f = ok
+
+pub on_err : {X Y : Type 0} (r : Result X Y) (A B : Type 0) → OnErr r A → (A → B) → OnErr r B
+on_err (Ok x) A B err f = err
+on_err (Err y) A B err f = f err
+
+height-le-size : (s : Shape) → height s ≤ size_of s
+height-le-size missing = omega arith
+height-le-size (node l i k r) = omega (arith, height-le-size l, height-le-size r)
+
+module _ {P T I G : Type 0} where
+  -- the bare list
+  pub entry_at-bare : (es : List (Entry (SimpleOrdArenaNode P T I G))) (i : ℕ) → entry_at (map bare_entry es) i ≡ option_map entry_in (entry_at es i)
+  entry_at-bare [] i = refl
+  entry_at-bare (e ∷ es) i =
+      ⊎_elim (λ (same : e.index ≡ i). rw (eq-eqb e.index i same) refl) (λ (other : e.index ≢ i). rw (ne_eqb e.index i other) (entry_at-bare es i)) (cases_eq e.index i)
+
+  pub is_some-bare : (es : List (Entry (SimpleOrdArenaNode P T I G))) (i : ℕ) → is_some (entry_at (map bare_entry es) i) ≡ is_some (entry_at es i)
+  is_some-bare [] i = refl
+  is_some-bare (e ∷ es) i =
+      ⊎_elim (λ (same : e.index ≡ i). rw (eq-eqb e.index i same) refl) (λ (other : e.index ≢ i). rw (ne_eqb e.index i other) (is_some-bare es i)) (cases_eq e.index i)
+
+  pub times-bare : (es : List (Entry (SimpleOrdArenaNode P T I G))) (i : ℕ) → times i (map bare_entry es) ≡ times i es
+  times-bare [] i = refl
+  times-bare (e ∷ es) i = omega (arith, times-bare es i)
+
+  pub indexes-bare : (es : List (Entry (SimpleOrdArenaNode P T I G))) → indexes (map bare_entry es) ≡ indexes es
+  indexes-bare [] = refl
+  indexes-bare (e ∷ es) = ap (λ ys. e.index ∷ ys) (indexes-bare es)
+
+  pub vacant_among-bare : (es : List (Entry (SimpleOrdArenaNode P T I G))) (from count : ℕ) → vacant_among (map bare_entry es) from count ≡ vacant_among es from count
+  vacant_among-bare es from zero = refl
+  vacant_among-bare es from (suc count) = rw (times-bare es from, vacant_among-bare es (from + 1) count) refl
+
+  pub greatest_index-bare : (es : List (Entry (SimpleOrdArenaNode P T I G))) → greatest_index (map bare_entry es) ≡ greatest_index es
+  greatest_index-bare [] = refl
+  greatest_index-bare (e ∷ es) = ap (max e.index) (greatest_index-bare es)
+
+  pub bare-with_capacity : (c : Chain (SimpleOrdArenaNode P T I G)) (n : ℕ) → bare (with_capacity c n) ≡ with_capacity (bare c) n
+  bare-with_capacity c n = ap (λ vs. record { entries = map bare_entry c.entries; capacity = n; vacant = vs; generation = c.generation; maximum = c.maximum }) (sym (vacant_among-bare c.entries 1 n))
+
+  -- another item in a node
+  pub entry_at-below : (es : List (Entry (SimpleOrdArenaNode P T I G))) (i j : ℕ) (x : T) (number : I → ℕ)
+      → option_map (λ e. links_in number e.1) (entry_at (with_item_below es i x) j) ≡ option_map (λ (e : ℕ × SimpleOrdArenaNode P T I G). links_in number e.1) (entry_at es j)
+  entry_at-below [] i j x number = refl
+  entry_at-below (e ∷ es) i j x number =
+      ⊎_elim (λ (same : e.index ≡ i). rw (eq-eqb e.index i same) (⊎_elim (λ (here : e.index ≡ j). rw (eq-eqb e.index j here) refl) (λ (there : e.index ≢ j). rw (ne_eqb e.index j there) refl) (cases_eq e.index j)))
+      (λ (other : e.index ≢ i). rw (ne_eqb e.index i other) (⊎_elim (λ (here : e.index ≡ j). rw (eq-eqb e.index j here) refl) (λ (there : e.index ≢ j). rw (ne_eqb e.index j there) (entry_at-below es i j x number)) (cases_eq e.index j)))
+      (cases_eq e.index i)
+
+  pub bare-below : (es : List (Entry (SimpleOrdArenaNode P T I G))) (i : ℕ) (x : T) → map bare_entry (with_item_below es i x) ≡ with_item (map bare_entry es) i x
+  bare-below [] i x = refl
+  bare-below (e ∷ es) i x =
+      ⊎_elim (λ (same : e.index ≡ i). rw (eq-eqb e.index i same) refl) (λ (other : e.index ≢ i). rw (ne_eqb e.index i other) (ap (λ ys. bare_entry e ∷ ys) (bare-below es i x))) (cases_eq e.index i)
+
+  pub below-written : (es : List (Entry (SimpleOrdArenaNode P T I G))) (i : ℕ) (e : ℕ × SimpleOrdArenaNode P T I G) (x : T) → entry_at es i ≡ Some e → with_item es i (record (e.1) { t = x }) ≡ with_item_below es i x
+  below-written [] i e x h = refl
+  below-written (a ∷ es) i e x h =
+      ⊎_elim (λ (same : a.index ≡ i). let first = rw (eq-eqb a.index i same) at h in rw (eq-eqb a.index i same) (ap (λ (n : SimpleOrdArenaNode P T I G). record { index = a.index; generation = a.generation; item = record n { t = x } } ∷ es) (let f : e ≡ (a.generation, a.item) = cc in ap (λ (p : ℕ × SimpleOrdArenaNode P T I G). p.1) f)))
+      (λ (other : a.index ≢ i). rw (ne_eqb a.index i other) (ap (λ ys. a ∷ ys) (below-written es i e x (rw (ne_eqb a.index i other) at h)))) (cases_eq a.index i)
+
+  pub below-written_chain : (c : Chain (SimpleOrdArenaNode P T I G)) (i : ℕ) (e : ℕ × SimpleOrdArenaNode P T I G) (x : T) → entry_at c.entries i ≡ Some e → with_item_at c i (record (e.1) { t = x }) ≡ with_node_item c i x
+  below-written_chain c i e x h = ap (λ (es : List (Entry (SimpleOrdArenaNode P T I G))). record c { entries = es }) (below-written c.entries i e x h)
+
+  indexes-below : (es : List (Entry (SimpleOrdArenaNode P T I G))) (i : ℕ) (x : T) → indexes (with_item_below es i x) ≡ indexes es
+  indexes-below [] i x = refl
+  indexes-below (e ∷ es) i x =
+      ⊎_elim (λ (same : e.index ≡ i). rw (eq-eqb e.index i same) refl) (λ (other : e.index ≢ i). rw (ne_eqb e.index i other) (ap (λ ys. e.index ∷ ys) (indexes-below es i x))) (cases_eq e.index i)
+
+  -- a shape that the nodes spell is the view's
+  pub shape_in-held : (number : I → ℕ) (c : Chain (SimpleOrdArenaNode P T I G)) (root : Option ℕ) (s : Shape) → Holds (slots_of number c) None root s → walk s ≡ indexes c.entries → shape_in number c root ≡ s
+  shape_in-held number c root s h listed =
+      let counted : size_of s ≡ length c.entries = size_of-walk s ∙ ap length listed ∙ length-map c.entries (λ (e : Entry (SimpleOrdArenaNode P T I G)). e.index) in
+      shape_under-held (length c.entries) (slots_of number c) None root s h (omega (arith, height-le-size s, counted))
+
+  -- the layout depends on the entries alone
+  pub IsLaidOut-entries : (number : I → ℕ) (c d : Chain (SimpleOrdArenaNode P T I G)) (root : Option ℕ) → d.entries ≡ c.entries → IsLaidOut number c root (shape_in number c root) → IsLaidOut number d root (shape_in number d root)
+  IsLaidOut-entries number c d root e h =
+      let at : List (Entry (SimpleOrdArenaNode P T I G)) → Slots = λ es i. option_map (λ (e : ℕ × SimpleOrdArenaNode P T I G). links_in number e.1) (entry_at es i) in
+      let Spelled : List (Entry (SimpleOrdArenaNode P T I G)) → Shape = λ es. shape_under (length es) (at es) root in
+      let Held : List (Entry (SimpleOrdArenaNode P T I G)) → Type 0 = λ es. Holds (at es) None root (Spelled es) in
+      let Listed : List (Entry (SimpleOrdArenaNode P T I G)) → Type 0 = λ es. walk (Spelled es) ≡ indexes es in
+      let Ranks : List (Entry (SimpleOrdArenaNode P T I G)) → Type 0 = λ es. IsRanked (Spelled es) in
+      record { held = subst Held (sym e) h.held; listed = subst Listed (sym e) h.listed; ranked = subst Ranks (sym e) h.ranked }
+
+  -- what holds of a tree that lies in a chain
+  pub IsSoundTree-laid_out : (number : I → ℕ) (c : Chain (SimpleOrdArenaNode P T I G)) (root : Option ℕ) → IsLaidOut number c root (shape_in number c root) → IsSoundTree (tree_of number c root)
+  IsSoundTree-laid_out number c root h = record { listed = h.listed ∙ sym (indexes-bare c.entries); ranked = h.ranked }
+
+  -- a new capacity
+  pub tree_of-with_capacity : (number : I → ℕ) (c : Chain (SimpleOrdArenaNode P T I G)) (root : Option ℕ) (n : ℕ)
+      → tree_of number (with_capacity c (max n (greatest_index c.entries))) root ≡ record (tree_of number c root) { list = with_capacity (bare c) (max n (greatest_index (map bare_entry c.entries))) }
+  tree_of-with_capacity number c root n =
+      ap (λ (l : Chain T). record { list = l; shape = shape_in number c root })
+      (bare-with_capacity c (max n (greatest_index c.entries)) ∙ ap (λ (k : ℕ). with_capacity (bare c) (max n k)) (sym (greatest_index-bare c.entries)))
+
+  -- another item
+  pub IsLaidOut-below : (number : I → ℕ) (c : Chain (SimpleOrdArenaNode P T I G)) (root : Option ℕ) (i : ℕ) (x : T) → IsLaidOut number c root (shape_in number c root)
+      → IsLaidOut number (with_node_item c i x) root (shape_in number (with_node_item c i x) root)
+  IsLaidOut-below number c root i x h =
+      let s = shape_in number c root in
+      let held = Holds-same (slots_of number c) (slots_of number (with_node_item c i x)) (λ j. entry_at-below c.entries i j x number) s None root h.held in
+      let listed = h.listed ∙ sym (indexes-below c.entries i x) in
+      let same = shape_in-held number (with_node_item c i x) root s held listed in
+      let Laid : Shape → Type 0 = λ t. IsLaidOut number (with_node_item c i x) root t in
+      subst Laid (sym same) (record { held = held; listed = listed; ranked = h.ranked })
+
+  pub tree_of-below : (number : I → ℕ) (c : Chain (SimpleOrdArenaNode P T I G)) (root : Option ℕ) (i : ℕ) (x : T) → IsLaidOut number c root (shape_in number c root)
+      → tree_of number (with_node_item c i x) root ≡ with_item_in (tree_of number c root) i x
+  tree_of-below number c root i x h =
+      let s = shape_in number c root in
+      let held = Holds-same (slots_of number c) (slots_of number (with_node_item c i x)) (λ j. entry_at-below c.entries i j x number) s None root h.held in
+      let listed = h.listed ∙ sym (indexes-below c.entries i x) in
+      let same = shape_in-held number (with_node_item c i x) root s held listed in
+      ap (λ (es : List (Entry T)). record { list = record { entries = es; capacity = c.capacity; vacant = c.vacant; generation = c.generation; maximum = c.maximum }; shape = shape_in number (with_node_item c i x) root }) (bare-below c.entries i x)
+      ∙ ap (λ (t : Shape). record { list = with_item_at (bare c) i x; shape = t }) same
+
+  -- what chain arenas promise holds of the bare chain too
+  entries_lawful-bare : (Q : ℕ → Type 0) (o : Option (ℕ × SimpleOrdArenaNode P T I G)) (b : Option (ℕ × T)) → b ≡ option_map entry_in o → ForSome o (λ e. Q e.0) → ForSome b (λ e. Q e.0)
+  entries_lawful-bare Q o b e h = rw e (cases o h)
+    where
+      cases : (o : Option (ℕ × SimpleOrdArenaNode P T I G)) → ForSome o (λ e. Q e.0) → ForSome (option_map entry_in o) (λ e. Q e.0)
+      cases None h = λ x e. absurd cc
+      cases (Some n) h = λ x e. let same : (n.0, n.1.t) ≡ x = cc in let P : ℕ × T → Type 0 = λ x. Q x.0 in subst P same (h n refl)
+
+  pub IsSound-bare : (most : ℕ) (greatest : Option ℕ) (c : Chain (SimpleOrdArenaNode P T I G)) → IsSound most greatest c → IsSound most greatest (bare c)
+  IsSound-bare most greatest c h = record {
+    distinct = λ i. rw (times-bare c.entries i) (h.distinct i);
+    within = λ i inside. h.within i (rw (times-bare c.entries i) at inside);
+    within_limit = h.within_limit;
+    generation_lawful = h.generation_lawful;
+    entries_lawful = λ i. entries_lawful-bare (λ g. IsLawfulGeneration greatest g) (entry_at c.entries i) (entry_at (map bare_entry c.entries) i) (entry_at-bare c.entries i) (h.entries_lawful i);
+    vacant_listed = λ i. h.vacant_listed i ∙ ap (λ vs. how_often vs i) (sym (vacant_among-bare c.entries 1 c.capacity));
+    counted = omega (arith, h.counted, length-map c.entries (λ (e : Entry (SimpleOrdArenaNode P T I G)). bare_entry e));
+  }

@@ -1,0 +1,60 @@
+use Rattle.std.proofs.Common.{◌∙◌, ap, option_map}
+use Rattle.ord_tree.specs.Links.{numbered}
+use Rattle.ord_tree.proofs.Cutting.{v_occupied}
+use Rattle.ord_tree.proofs.Displacing.{MovesBacks-then}
+use Rattle.ord_tree.proofs.Removing.{z_occupied, v_is, loose_v, can_stand, displaced, mapped, unmapped}
+use Rattle.ord_tree.proofs.detach.displace.Goals as goal
+
+pub links-requires : goal.links-requires
+links-requires g c = z_occupied c.requires.1
+
+pub unwrap-v-requires : goal.unwrap-v-requires
+unwrap-v-requires g c =
+    let number = g.N.Nodes.number in
+    let some = mapped number c.links.result.lesser c.if-is_none.ensures in
+    unmapped number c.args.before _ (v_is c.requires.1 (numbered number c.links.result) c.links.ensures some.0 some.1)
+
+pub cut-place-requires : goal.cut-place-requires
+cut-place-requires g c =
+    let number = g.N.Nodes.number in
+    let some = mapped number c.links.result.lesser c.if-is_none.ensures in
+    (c.requires.0, loose_v c.requires.1 (numbered number c.links.result) c.links.ensures some.0 some.1 (number c.unwrap-v.result) (ap (option_map number) c.unwrap-v.ensures))
+
+pub substitute-requires : goal.substitute-requires
+substitute-requires g c =
+    let number = g.N.Nodes.number in
+    let at = g.N.Nodes.at in
+    let v = number c.unwrap-v.result in
+    let links = numbered number c.links.result in
+    let some = mapped number c.links.result.lesser c.if-is_none.ensures in
+    let is_v = ap (option_map number) c.unwrap-v.ensures in
+    let loose = loose_v c.requires.1 links c.links.ensures some.0 some.1 v is_v in
+    can_stand c.requires.1 links c.links.ensures some.0 some.1 v is_v (at c.cut-place.new.nodes) (option_map number c.cut-place.new.root)
+    (c.cut-place.ensures.occupied v ∙ v_occupied loose) number c.cut-place.result (c.cut-place.ensures.fallen c.requires.0 loose)
+
+pub returns-clause-fallen : goal.returns-clause-fallen
+returns-clause-fallen g c = λ order can.
+    let number = g.N.Nodes.number in
+    let at = g.N.Nodes.at in
+    let v = number c.unwrap-v.result in
+    let links = numbered number c.links.result in
+    let some = mapped number c.links.result.lesser c.if-is_none.ensures in
+    let is_v = ap (option_map number) c.unwrap-v.ensures in
+    let loose = loose_v can links c.links.ensures some.0 some.1 v is_v in
+    displaced can links c.links.ensures some.0 some.1 v is_v (at c.cut-place.new.nodes) (option_map number c.cut-place.new.root)
+    (c.cut-place.ensures.occupied v ∙ v_occupied loose) (at c.substitute.new.nodes) (option_map number c.substitute.new.root) c.substitute.ensures.held
+    number c.cut-place.result c.place_with.result c.place_with.ensures (c.cut-place.ensures.fallen order loose)
+
+pub returns-clause-backs : goal.returns-clause-backs
+returns-clause-backs g c = λ order can.
+    let number = g.N.Nodes.number in
+    let at = g.N.Nodes.at in
+    let v = number c.unwrap-v.result in
+    let links = numbered number c.links.result in
+    let some = mapped number c.links.result.lesser c.if-is_none.ensures in
+    let is_v = ap (option_map number) c.unwrap-v.ensures in
+    let loose = loose_v can links c.links.ensures some.0 some.1 v is_v in
+    let stands = can_stand can links c.links.ensures some.0 some.1 v is_v (at c.cut-place.new.nodes) (option_map number c.cut-place.new.root)
+    (c.cut-place.ensures.occupied v ∙ v_occupied loose) number c.cut-place.result (c.cut-place.ensures.fallen order loose) in
+    MovesBacks-then 1 3 (at c.args.nodes.now) (at c.cut-place.new.nodes) (at c.substitute.new.nodes) (c.cut-place.ensures.backs order loose)
+    (c.substitute.ensures.backs stands.0 stands.1)

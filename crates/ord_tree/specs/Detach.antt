@@ -1,0 +1,47 @@
+-- Taking a node out: the list without it, and what takes its place.
+use Rattle.std.specs.Prelude.{◌≡◌, ℕ, ◌^◌, ◌<◌, ◌≤◌, ◌==◌, if◌then◌else◌, Option, None, Some, List, [], ◌∷◌, length, IsSome}
+use Rattle.ord_tree.specs.declared.links.Side.{Side}
+use Rattle.ord_tree.specs.declared.links.Links.{Links}
+use Rattle.ord_tree.specs.Links.{child_at}
+use Rattle.ord_tree.specs.Shape.{Shape, missing, node}
+use Rattle.ord_tree.specs.Slots.{Slots, Holds, times, times_in, IsOnce}
+use Rattle.ord_tree.specs.Bud.{previous}
+use Rattle.ord_tree.specs.Raise.{IsBuilt}
+
+-- the list without this index
+abbrev pub without : ℕ → List ℕ → List ℕ
+without i [] = []
+without i (j ∷ js) = if j == i then js else j ∷ without i js
+
+-- v stands for z
+abbrev pub stand_in : ℕ → ℕ → ℕ → ℕ
+stand_in z v j = if j == z then v else j
+
+-- the shape with v in the place of z
+abbrev pub renamed : ℕ → ℕ → Shape → Shape
+renamed z v missing = missing
+renamed z v (node l i k r) = node (renamed z v l) (stand_in z v i) k (renamed z v r)
+
+-- v stands in a balanced tree, and nothing hangs on that side of it
+pub record IsLoose (at : Slots) (root : Option ℕ) (v : ℕ) (side : Side) (order : List ℕ) : Type 0 where
+  pub built : IsBuilt at root order 1
+  pub within : 0 < times v order
+  pub bare : (n : Links ℕ) → at v ≡ Some n → child_at side n ≡ None
+  pub once : IsOnce order
+  pub few : length order < 2 ^ 64
+
+-- z stands in the tree that nodes spell, and the node v doesn't
+pub record CanStandIn (at : Slots) (root : Option ℕ) (z v : ℕ) (s : Shape) : Type 0 where
+  pub held : Holds at None root s
+  pub within : 0 < times_in z s
+  pub fresh : times_in v s ≡ 0
+  pub apart : (j : ℕ) → times_in j s ≤ 1
+  pub spare : IsSome (at v)
+
+-- z stands in a balanced tree, and `before` is the index directly before it in the list
+pub record IsDetachable (at : Slots) (root : Option ℕ) (z : ℕ) (before : Option ℕ) (order : List ℕ) : Type 0 where
+  pub built : IsBuilt at root order 1
+  pub within : 0 < times z order
+  pub once : IsOnce order
+  pub few : length order < 2 ^ 64
+  pub is_before : before ≡ previous None z order

@@ -1,0 +1,19 @@
+-- The shape that a rebuild gives: each node stands in the middle of its run.
+use Rattle.std.specs.Prelude.{◌≡◌, ℕ, ◌+◌, ◌-◌, ◌/◌, nat_le, if◌then◌else◌}
+use Rattle.ord_tree.specs.Shape.{Shape, missing, node, size_of}
+use Rattle.ord_tree.specs.Numbers.{IsTop}
+
+-- the rank over a run of n nodes: 1, 2, 3, 3 for the first four lengths, and q from five on
+abbrev pub half_rank : ℕ → ℕ → ℕ
+half_rank n q = if nat_le n 2 then n else (if nat_le n 4 then 3 else q)
+
+-- the root of a run of n nodes is at place n / 2, counted from 0, and its sides are halves one rank below
+abbrev pub IsHalf : ℕ → Shape → Type 0
+IsHalf q missing = Unit {0}
+IsHalf q (node l i k r) =
+    let n = size_of l + 1 + size_of r in
+    (size_of l ≡ n / 2) × (k ≡ half_rank n q) × IsHalf (q - 1) l × IsHalf (q - 1) r
+
+-- the shape is the one that a rebuild of so many nodes gives
+abbrev pub IsRebuilt : Shape → Type 0
+IsRebuilt s = (q : ℕ) × IsTop (size_of s) q × IsHalf q s

@@ -1,0 +1,24 @@
+-- What a rotation finds and what it leaves.
+use Rattle.std.specs.Prelude.{◌≡◌, ℕ, ◌⊎◌, Option, Some}
+use Rattle.ord_tree.specs.declared.links.Side.{Side}
+use Rattle.ord_tree.specs.Shape.{Shape, fork, root_of}
+use Rattle.ord_tree.specs.Slots.{Slots, Holds, Way, above, HoldsWay, back_at, IsApart}
+
+-- z stands at the end of a way, and y on that side of it, nearer to `outer` than to `inner`
+pub record Site (at : Slots) (root : Option ℕ) (side : Side) (z y : ℕ) : Type 0 where
+  pub way : Way
+  pub outer : Shape
+  pub inner : Shape
+  pub far : Shape
+  pub low : ℕ
+  pub high : ℕ
+  pub held_way : HoldsWay at root way (Some z)
+  pub held : Holds at (above way) (Some z) (fork side (fork side outer y low inner) z high far)
+  pub apart : IsApart way (fork side (fork side outer y low inner) z high far)
+
+-- y has taken z's place, and z is y's child on the other side, with what was between them; each has its new rank
+pub record IsRotated {old : Slots} {old_root : Option ℕ} {side : Side} {z y : ℕ} (site : Site old old_root side z y) (new : Slots) (root : Option ℕ) (rank_z rank_y : ℕ) : Type 0 where
+  pub held_way : HoldsWay new root site.way (Some y)
+  pub held : Holds new (above site.way) (Some y) (fork side site.outer y rank_y (fork side site.inner z rank_z site.far))
+  -- no other node than z, y and the root of what was between them has another parent
+  pub backs : (j : ℕ) → (j ≡ z) ⊎ (j ≡ y) ⊎ (root_of site.inner ≡ Some j) ⊎ (back_at old j ≡ back_at new j)

@@ -1,0 +1,71 @@
+-- A tree as its users see it: one list of entries, with a shape.
+use Rattle.std.specs.Prelude.{◌≡◌, ◌≢◌, ℕ, Option, None, Some, List, [], ◌∷◌, refl}
+use Rattle.std.specs.declared.cmp.Ordering.{Ordering}
+use Rattle.std.specs.declared.cmp.Ordering.TheVariants.{Less, Equal, Greater}
+use Rattle.std.specs.Coded.{Coded, code_by, coded×, coded_ℕ, coded_list, coded_option}
+use Rattle.chain_base.specs.Chain.{Entry, Chain, insert_after, insert_before, with_item_at, IsOccupied}
+use Rattle.ord_tree.specs.Shape.{Shape, root_of, walk}
+use Rattle.ord_tree.specs.ShapeCode.{shape_code}
+use Rattle.ord_tree.specs.Ranks.{IsRanked, IsTight}
+use Rattle.ord_tree.specs.Parents.{MovesAtMost}
+use Rattle.ord_tree.specs.Slots.{Holds}
+use Rattle.ord_tree.specs.Node.{indexes, bare, slots_of}
+use Rattle.ord_tree.specs.declared.node.SimpleOrdArenaNode.{SimpleOrdArenaNode}
+
+-- the list of entries with the numbers around it, as a chain arena has them, and the shape over the entries' indexes
+pub record Tree (T : Type 0) : Type 0 where
+  pub list : Chain T
+  pub shape : Shape
+
+-- the codes, by which a proof tells values apart: an entry as a tuple, and so a chain and a tree
+abbrev pub entry_code : {T : Type 0} → Coded T → Coded (Entry T)
+entry_code {T} code =
+    code_by (ℕ × (ℕ × T)) (coded× coded_ℕ (coded× coded_ℕ code)) (λ e. (e.index, (e.generation, e.item)))
+    (λ p. record { index = p.0; generation = p.1.0; item = p.1.1 }) (λ _. refl)
+
+abbrev pub chain_code : {T : Type 0} → Coded T → Coded (Chain T)
+chain_code {T} code =
+    code_by (List (Entry T) × (ℕ × (List ℕ × (ℕ × Option ℕ))))
+    (coded× (coded_list (entry_code code)) (coded× coded_ℕ (coded× (coded_list coded_ℕ) (coded× coded_ℕ (coded_option coded_ℕ)))))
+    (λ c. (c.entries, (c.capacity, (c.vacant, (c.generation, c.maximum)))))
+    (λ p. record { entries = p.0; capacity = p.1.0; vacant = p.1.1.0; generation = p.1.1.1.0; maximum = p.1.1.1.1 }) (λ _. refl)
+
+abbrev pub tree_code : {T : Type 0} → Coded T → Coded (Tree T)
+tree_code {T} code =
+    code_by (Chain T × Shape) (coded× (chain_code code) shape_code) (λ t. (t.list, t.shape)) (λ p. record { list = p.0; shape = p.1 }) (λ _. refl)
+
+-- what is true of every tree: the walk of the shape is the list, and the rank rules hold
+pub record IsSoundTree {T : Type 0} (t : Tree T) : Type 0 where
+  pub listed : walk t.shape ≡ indexes t.list.entries
+  pub ranked : IsRanked t.shape
+
+-- the chain of nodes under the tree: it has the list, and its nodes' links and ranks spell the shape
+pub record IsChainOf {P T I G : Type 0} (number : I → ℕ) (t : Tree T) (c : Chain (SimpleOrdArenaNode P T I G)) : Type 0 where
+  pub list : bare c ≡ t.list
+  pub held : Holds (slots_of number c) None (root_of t.shape) t.shape
+
+-- the list with a new entry directly before the one with this index, or directly after it
+abbrev pub put_on : {T : Type 0} → Ordering → ℕ → List (Entry T) → Entry T → List (Entry T)
+put_on Less i es new = insert_before i new es
+put_on Equal i es new = insert_after i new es
+put_on Greater i es new = insert_after i new es
+
+-- the list with a new entry at the place that is named: before or after an entry, or alone
+abbrev pub put_at : {I T : Type 0} → (I → ℕ) → Option (I × Ordering) → List (Entry T) → Entry T → List (Entry T)
+put_at number None es new = new ∷ es
+put_at number (Some at) es new = put_on at.1 (number at.0) es new
+
+-- a new entry can be put there: alone into an empty list, else before or after an entry
+abbrev pub CanPutAt : {I T : Type 0} → (I → ℕ) → Option (I × Ordering) → Chain T → Type 0
+CanPutAt number None c = c.entries ≡ []
+CanPutAt number (Some at) c = IsOccupied c (number at.0) × (at.1 ≢ Equal)
+
+-- what an insertion makes of the shape: tight stays tight, and at most five entries get another parent
+pub record IsGrown (old new : Shape) : Type 0 where
+  pub ranked : IsRanked new
+  pub tight : IsTight old → IsTight new
+  pub moved : MovesAtMost 5 old new
+
+-- the tree with another item at this index
+abbrev pub with_item_in : {T : Type 0} → Tree T → ℕ → T → Tree T
+with_item_in t i item = record t { list = with_item_at t.list i item }

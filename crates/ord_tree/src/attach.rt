@@ -1,0 +1,23 @@
+//! A new leaf, and the repair that it needs.
+
+ghost use Rattle.std.specs.Prelude.{◌≡◌, ℕ, List, option_map};
+ghost use Rattle.ord_tree.specs.Bud.{IsBudding, beside};
+ghost use Rattle.ord_tree.specs.Raise.{IsRepaired};
+
+use crate::links::Side;
+use crate::nodes::{Nodes, set_child};
+use crate::raise::raise_all;
+
+/// Hangs the leaf x on a side of y where nothing hangs yet, and repairs the ranks above it.
+pub fn attach<N: Nodes>(nodes: &mut N, root: &mut Option<N::Inx>, side: Side, y: N::Inx, x: N::Inx)
+    requires { (order : List ℕ) × (slack : ℕ)
+        × IsBudding (N.at nodes.old) (option_map N.number root.old) side (N.number y) (N.number x) order slack }
+    ensures repaired { (order : List ℕ) (slack : ℕ)
+        → IsBudding (N.at nodes.old) (option_map N.number root.old) side (N.number y) (N.number x) order slack
+        → IsRepaired (N.at nodes.old) (N.at nodes.new) (option_map N.number root.new)
+        (beside side (N.number y) (N.number x) order) slack }
+    ensures kept { N.list nodes.new ≡ N.list nodes.old }
+{
+    set_child(nodes, y, side, Some(x));
+    raise_all(nodes, root, x);
+}

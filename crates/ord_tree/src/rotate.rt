@@ -1,0 +1,58 @@
+//! Rotations: the only steps of a repair that change the shape.
+
+ghost use Rattle.std.specs.Prelude.{◌≡◌, Option, Some, option_map};
+ghost use Rattle.ord_tree.specs.Rotate.{Site, IsRotated};
+
+use crate::links::{Links, Side};
+use crate::nodes::{Nodes, hang, replace_child};
+
+/// Lifts y, the child of z on a side, to the place of z. Each gets the rank that is given for it.
+///
+/// ```text
+///         z                 y
+///        / \               / \
+///       y   far    ->  outer  z
+///      / \                   / \
+///  outer  inner          inner  far
+/// ```
+///
+/// and its mirror image for the other side.
+pub fn rotate<N: Nodes>(
+    nodes: &mut N,
+    root: &mut Option<N::Inx>,
+    side: Side,
+    z: N::Inx,
+    y: N::Inx,
+    rank_z: u8,
+    rank_y: u8,
+)
+    requires { Site (N.at nodes.old) (option_map N.number root.old) side (N.number z) (N.number y) }
+    ensures rotated { (site : Site (N.at nodes.old) (option_map N.number root.old) side (N.number z) (N.number y))
+        → IsRotated site (N.at nodes.new) (option_map N.number root.new) rank_z rank_y }
+    ensures kept { N.list nodes.new ≡ N.list nodes.old }
+{
+    let other = side.other();
+    let low = nodes.links(y);
+    let high = nodes.links(z);
+    let inner = low.child(other);
+    replace_child(nodes, root, high.back, z, Some(y));
+    hang(nodes, inner, Some(z));
+    let below = high.with_child(side, inner);
+    nodes.set_links(
+        z,
+        Links {
+            back: Some(y),
+            rank: rank_z,
+            ..below
+        },
+    );
+    let over = low.with_child(other, Some(z));
+    nodes.set_links(
+        y,
+        Links {
+            back: high.back,
+            rank: rank_y,
+            ..over
+        },
+    );
+}

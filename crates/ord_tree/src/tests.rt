@@ -1,0 +1,356 @@
+// Trees of small keys, kept in order by hand, seen through the chain's nodes.
+use crate::{OrdTree, SimpleOrdArenaNode};
+use arena_base::{
+    Advancer, InsertionError, InvalidationOption, P0, P8, PN, Ptr, ReallocationError,
+};
+use chain_base::{ChainArena, LinkNoGen};
+use linked_list_allocator::LocalHeap;
+use std::alloc::{Allocator, Global};
+use std::cmp::Ordering;
+use std::process::Abort;
+use std::test::Fail;
+
+type Keys<A = Global> = OrdTree<P0, u8, A>;
+
+type Nodes<A = Global> = ChainArena<P0, SimpleOrdArenaNode<P0, u8>, A>;
+
+/// What the tree says of one key.
+#[derive(Clone, Copy, Debug, PartialEq, Eq)]
+struct Place {
+    index: u32,
+    key: u8,
+    rank: u8,
+    parent: Option<u32>,
+    children: (Option<u32>, Option<u32>),
+}
+
+/// Each key in order, with its place in the tree.
+fn places<A: Allocator>(alloc: Global, tree: &Keys<A>) -> Result<Vec<Place>, Fail> {
+    let chain = tree.chain();
+    let mut places = Vec::new(alloc);
+    let Some(first) = chain.first() else {
+        return Ok(places);
+    };
+    let mut advancer = chain.advancer_chain(first).ok_or("the first")?;
+    for _ in 0..chain.len() {
+        let p = advancer.advance(chain).ok_or("an entry for each")?;
+        let node = chain.get(p).ok_or("its node")?;
+        places.push(Place {
+            index: p.inx(),
+            key: node.t,
+            rank: node.rank,
+            parent: node.p_back,
+            children: (node.p_tree0, node.p_tree1),
+        })?;
+    }
+    Ok(places)
+}
+
+/// The place of a key: before the first greater one, or behind the last.
+fn place_of(places: &[Place], key: u8) -> Option<(u32, Ordering)> {
+    let mut at = None;
+    for place in places {
+        if place.key < key {
+            at = Some((place.index, Ordering::Greater));
+        } else if at.is_none() {
+            at = Some((place.index, Ordering::Less));
+        }
+    }
+    at
+}
+
+/// Inserts a key at its place.
+fn insert_at<A: Allocator>(
+    rt: &impl Abort,
+    tree: &mut Keys<A>,
+    at: Option<(u32, Ordering)>,
+    key: u8,
+) -> Result<P0, InsertionError> {
+    match at {
+        None => assert!(rt; tree.is_empty()),
+        Some((index, side)) => {
+            assert!(rt; tree.contains_inx(index));
+            assert!(rt; side != Ordering::Equal);
+        }
+    }
+    tree.insert_reallocating(at, key)
+}
+
+/// Inserts a key in order.
+fn insert<A: Allocator>(
+    rt: &impl Abort,
+    alloc: Global,
+    tree: &mut Keys<A>,
+    key: u8,
+) -> Result<P0, Fail> {
+    let at = place_of(&places(alloc, tree)?, key);
+    Ok(insert_at(rt, tree, at, key)?)
+}
+
+/// A tree of these keys, inserted in this order.
+fn tree_of(rt: &impl Abort, alloc: Global, keys: &[u8]) -> Result<Keys, Fail> {
+    let mut tree = Keys::new(alloc);
+    for key in keys {
+        let _ = insert(rt, alloc, &mut tree, *key)?;
+    }
+    Ok(tree)
+}
+
+/// The key at an index.
+fn key_at(places: &[Place], index: Option<u32>) -> u8 {
+    match places.iter().find(|place| Some(place.index) == index) {
+        Some(place) => place.key,
+        None => 0,
+    }
+}
+
+/// The tree as `key:rank^parent` for each key in order, the root's parent being 0.
+fn text(alloc: Global, tree: &Keys) -> Result<String, Fail> {
+    let places = places(alloc, tree)?;
+    let mut text = String::new(alloc);
+    for place in &places {
+        let parent = key_at(&places, place.parent);
+        text.push_str(format!(in alloc; "{}:{}^{parent} ", place.key, place.rank)?.as_str())?;
+    }
+    Ok(text)
+}
+
+/// How many indexes of the first list have another parent in the second.
+fn moved(old: &[Place], new: &[Place]) -> usize {
+    let mut moved: usize = 0;
+    for before in old {
+        for after in new {
+            if after.index == before.index && after.parent != before.parent {
+                moved = moved.saturating_add(1);
+            }
+        }
+    }
+    moved
+}
+
+/// The rank of a child.
+fn rank_at(places: &[Place], index: Option<u32>) -> u8 {
+    match places.iter().find(|place| Some(place.index) == index) {
+        Some(place) => place.rank,
+        None => 0,
+    }
+}
+
+/// The rules of the balance, seen from outside: ranks, tightness, and links that agree.
+fn is_balanced(places: &[Place], root: Option<u32>) -> bool {
+    for place in places {
+        let (lesser, greater) = place.children;
+        let ranks = (rank_at(places, lesser), rank_at(places, greater));
+        let steps = (
+            place.rank.saturating_sub(ranks.0),
+            place.rank.saturating_sub(ranks.1),
+        );
+        let is_step = |step: u8| step == 1 || step == 2;
+        let is_leaf = lesser.is_none() && greater.is_none();
+        if !is_step(steps.0) || !is_step(steps.1) || steps == (2, 2) || is_leaf && place.rank != 1 {
+            return false;
+        }
+        for other in places {
+            let is_child = Some(other.index) == lesser || Some(other.index) == greater;
+            let is_root = other.parent.is_none() == (Some(other.index) == root);
+            if (other.parent == Some(place.index)) != is_child || !is_root {
+                return false;
+            }
+        }
+    }
+    true
+}
+
+#[test]
+fn repairs_by_the_table(rt: HostRuntime) -> Result<(), Fail> {
+    let cases: [(&[u8], &str, usize); 16] = [
+        // the parent has rank 2 already
+        (&[2, 1, 3], "1:1^2 2:2^0 3:1^2 ", 0),
+        (&[2, 3, 1], "1:1^2 2:2^0 3:1^2 ", 0),
+        // the grandparent's rank is greater
+        (&[3, 2, 5, 4, 1], "1:1^2 2:2^3 3:3^0 4:1^5 5:2^3 ", 0),
+        (&[3, 4, 1, 2, 5], "1:2^3 2:1^1 3:3^0 4:2^3 5:1^4 ", 0),
+        // promotions
+        (&[2, 1, 4, 3], "1:1^2 2:3^0 3:1^4 4:2^2 ", 0),
+        (&[3, 4, 1, 2], "1:2^3 2:1^1 3:3^0 4:1^3 ", 0),
+        // a single restructuring
+        (&[1, 2, 3], "1:1^2 2:2^0 3:1^2 ", 2),
+        (&[3, 2, 1], "1:1^2 2:2^0 3:1^2 ", 2),
+        // a double one
+        (&[1, 3, 2], "1:1^2 2:2^0 3:1^2 ", 2),
+        (&[3, 1, 2], "1:1^2 2:2^0 3:1^2 ", 2),
+        // a single one after promotions, with an inner subtree
+        (
+            &[8, 7, 6, 5, 9, 3, 1, 4, 2],
+            "1:2^3 2:1^1 3:3^7 4:1^5 5:2^3 6:1^5 7:4^0 8:2^7 9:1^8 ",
+            3,
+        ),
+        (
+            &[2, 3, 4, 5, 1, 7, 9, 6, 8],
+            "1:1^2 2:2^3 3:4^0 4:1^5 5:2^7 6:1^5 7:3^3 8:1^9 9:2^7 ",
+            3,
+        ),
+        // a double one after promotions, with both inner subtrees: the most that an insertion moves
+        (
+            &[4, 1, 3, 8, 10, 2, 9, 7, 5, 6],
+            "1:2^3 2:1^1 3:3^5 4:1^3 5:4^0 6:1^7 7:2^8 8:3^5 9:1^10 10:2^8 ",
+            5,
+        ),
+        (
+            &[7, 10, 8, 3, 1, 9, 2, 4, 6, 5],
+            "1:2^3 2:1^1 3:3^6 4:2^3 5:1^4 6:4^0 7:1^8 8:3^6 9:1^10 10:2^8 ",
+            5,
+        ),
+        // keys in order
+        (
+            &[1, 2, 3, 4, 5, 6, 7],
+            "1:1^2 2:2^4 3:1^2 4:3^0 5:1^6 6:2^4 7:1^6 ",
+            2,
+        ),
+        (
+            &[7, 6, 5, 4, 3, 2, 1],
+            "1:1^2 2:2^4 3:1^2 4:3^0 5:1^6 6:2^4 7:1^6 ",
+            2,
+        ),
+    ];
+    for (keys, expected, moves) in cases {
+        let (last, before) = keys.split_last().ok_or("a last key")?;
+        let mut tree = tree_of(&rt, rt.alloc(), before)?;
+        let old = places(rt.alloc(), &tree)?;
+        let _ = insert(&rt, rt.alloc(), &mut tree, *last)?;
+        assert_eq!(rt; text(rt.alloc(), &tree)?.as_str(), expected);
+        assert_eq!(rt; moved(&old, &places(rt.alloc(), &tree)?), moves, "{keys:?}");
+    }
+    Ok(())
+}
+
+/// The order of the keys from 1 to `count` that has this number among all orders.
+fn order_of(alloc: Global, count: u8, number: usize) -> Result<Vec<u8>, Fail> {
+    let mut rest = Vec::new(alloc);
+    for key in 1..=count {
+        rest.push(key)?;
+    }
+    let mut order = Vec::new(alloc);
+    let mut number = number;
+    for _ in 0..count {
+        let len = rest.len();
+        if len > 0 {
+            order.push(rest.remove(number % len))?;
+            number /= len;
+        }
+    }
+    Ok(order)
+}
+
+#[test]
+fn keeps_the_balance_in_every_order(rt: HostRuntime) -> Result<(), Fail> {
+    let mut orders: usize = 1;
+    for count in 1..=7u8 {
+        orders = orders.saturating_mul(usize::from(count));
+        for number in 0..orders {
+            let mut tree = Keys::new(rt.alloc());
+            let mut sorted: Vec<u8> = Vec::new(rt.alloc());
+            let mut old = Vec::new(rt.alloc());
+            for key in order_of(rt.alloc(), count, number)? {
+                let p = insert(&rt, rt.alloc(), &mut tree, key)?;
+                sorted.push(key)?;
+                sorted.sort()?;
+                let new = places(rt.alloc(), &tree)?;
+                assert!(rt; new.iter().map(|place| place.key).eq(sorted.iter().copied()));
+                assert!(rt; is_balanced(&new, tree.root()), "{new:?}");
+                assert!(rt; moved(&old, &new) <= 5);
+                assert_eq!(rt; usize::try_from(p.inx()).ok(), Some(sorted.len()));
+                old = new;
+            }
+        }
+    }
+    Ok(())
+}
+
+#[test]
+fn inserts_within_capacity_and_writes(rt: HostRuntime) -> Result<(), Fail> {
+    let mut tree: OrdTree<P8, char> = OrdTree::with_min_capacity(rt.alloc(), 2)?;
+    assert!(rt; tree.is_empty());
+    let p = tree.insert_within_capacity(None, 'b')?;
+    assert!(rt; tree.contains_inx(1));
+    let q = tree.insert_within_capacity(Some((1, Ordering::Less)), 'a')?;
+    assert_eq!(rt;
+        (p, q, tree.root()),
+        (P8::_from_raw(1, 2), P8::_from_raw(2, 2), Some(1))
+    );
+    assert!(rt; tree.contains_inx(2));
+    let refused = tree.insert_within_capacity(Some((2, Ordering::Greater)), 'c');
+    assert_eq!(rt;
+        (refused, tree.chain().len()),
+        (Err(InsertionError::NotWithinCapacity), 2)
+    );
+
+    let (_, letter) = tree.get_inx_mut(2).ok_or("2 has an entry")?;
+    *letter = 'x';
+    if let Some(letter) = tree.item_at_mut(1) {
+        *letter = 'y';
+    }
+    let node = tree.chain().get(q).ok_or("its node")?;
+    assert_eq!(rt; (node.t, node.rank, node.p_back), ('x', 1, Some(1)));
+    assert_eq!(rt; tree.chain().get(p).ok_or("its node")?.t, 'y');
+
+    assert_eq!(rt;
+        (
+            tree.set_max_capacity(1).is_err(),
+            tree.set_max_capacity(2).is_ok()
+        ),
+        (true, true)
+    );
+    assert!(rt; tree.contains_inx(2));
+    let refused = tree.insert_reallocating(Some((2, Ordering::Greater)), 'c');
+    assert_eq!(rt;
+        (refused, tree.chain().len()),
+        (Err(InsertionError::BeyondMaxCapacity), 2)
+    );
+    assert_eq!(rt;
+        tree.reallocate_min_capacity(3),
+        Err(ReallocationError::BeyondMaxCapacity)
+    );
+    assert_eq!(rt;
+        (tree.reallocate_min_capacity(0), tree.chain().capacity()),
+        (Ok(()), 2)
+    );
+    tree.set_generation(7);
+    assert_eq!(rt;
+        (tree.inc_generation(), tree.chain().generation()),
+        (InvalidationOption::Success(()), 8)
+    );
+
+    let ageless: OrdTree<PN, u8> = OrdTree::new(rt.alloc());
+    assert_eq!(rt; (ageless.root(), ageless.len()), (None, 0));
+    Ok(())
+}
+
+#[test]
+fn keeps_all_where_memory_is_refused(rt: HostRuntime) -> Result<(), Fail> {
+    let mut lens = [false; 3];
+    for size in 1..120 {
+        let heap = LocalHeap::new(rt.alloc(), 16 * size)?;
+        let mut tree = Keys::new(&heap);
+        let mut old = Vec::new(rt.alloc());
+        for key in 1..=9 {
+            let at = place_of(&old, key);
+            if insert_at(&rt, &mut tree, at, key).is_err() {
+                assert!(rt; places(rt.alloc(), &tree)? == old);
+                assert_eq!(rt;
+                    (tree.chain().capacity(), tree.chain().generation()),
+                    (old.len(), 2)
+                );
+                break;
+            }
+            old = places(rt.alloc(), &tree)?;
+        }
+        for (i, known) in [0, 4, 8].iter().enumerate() {
+            if old.len() == *known {
+                lens[i] = true;
+            }
+        }
+    }
+    assert_eq!(rt; lens, [true; 3]);
+    Ok(())
+}

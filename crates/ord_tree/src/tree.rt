@@ -1,0 +1,103 @@
+//! `OrdTree`: a chain of entries with a balanced tree over it.
+
+ghost use Rattle.std.specs.Prelude.{◌≡◌, ◌==◌, None, is_some, length};
+ghost use Rattle.std.specs.Option.{option_map};
+ghost use Rattle.arena_base.specs.Generation.{IsLawfulGeneration, overflows_after};
+ghost use Rattle.arena_base.specs.Invalidation.{is_overflow};
+ghost use Rattle.chain_base.specs.Chain.{raised, entry_at, IsSound};
+ghost use Rattle.ord_tree.specs.Shape.{root_of};
+ghost use Rattle.ord_tree.specs.Tree.{IsChainOf, IsSoundTree};
+
+mod growth;
+mod insert;
+mod write;
+
+use crate::node::SimpleOrdArenaNode;
+use arena_base::{InvalidationOption, Ptr};
+use chain_base::ChainArena;
+use std::alloc::{Allocator, Global};
+use std::marker::Model;
+
+/// One list of entries, over which a balanced tree stands. It knows no key: a new entry is put beside an entry that is named.
+///
+/// The in-order walk of the tree is the list. The tree is rank-balanced (Haeupler, Sen and Tarjan, "Rank-balanced trees",
+/// 2015, ranks shifted by one): a missing node counts as rank 0, a node without children has rank 1, and a node's rank is
+/// greater than that of each side by 1 or 2. So a tree of n entries and rank R has `2^(R+1) <= (n+1)^2`, and no way down
+/// passes more than R entries.
+#[derive(Drop)]
+pub struct OrdTree<P: Ptr, T, A: Allocator = Global> {
+    chain: ChainArena<P, SimpleOrdArenaNode<P, T>, A>,
+    root: Option<P::Inx>,
+}
+
+impl<P: Ptr, T, A: Allocator> Model for OrdTree<P, T, A> {
+    ghost use Rattle.std.specs.Option.{option_map};
+    ghost use Rattle.ord_tree.specs.Tree.{Tree, tree_code};
+
+    ghost Value = { Tree T };
+
+    ghost coded = { tree_code T.code };
+
+    ghost use Rattle.ord_tree.specs.Layout.{tree_of, shape_in, IsLaidOut};
+
+    ghost view = { λ t. tree_of P.Inx.number t.chain (option_map P.Inx.number t.root) };
+
+    ghost invariant = { λ t. IsLaidOut P.Inx.number t.chain (option_map P.Inx.number t.root) (shape_in P.Inx.number t.chain (option_map P.Inx.number t.root)) };
+}
+
+impl<P: Ptr, T, A: Allocator> OrdTree<P, T, A> {
+    /// The list, with the links and ranks of its entries.
+    pub fn chain(&self) -> &ChainArena<P, SimpleOrdArenaNode<P, T>, A>
+        ensures chain { IsChainOf P.Inx.number self.now result.now }
+        ensures sound { IsSoundTree self.now }
+    {
+        &self.chain
+    }
+
+    /// How many entries there are.
+    pub fn len(&self) -> usize
+        ensures value { result ≡ length self.now.list.entries }
+        ensures list { IsSound P.Inx.most P.Gen.greatest self.now.list }
+        ensures sound { IsSoundTree self.now }
+    {
+        self.chain.len()
+    }
+
+    /// Whether there is no entry.
+    pub fn is_empty(&self) -> bool
+        ensures { result ≡ (length self.now.list.entries == 0) }
+    {
+        self.len() == 0
+    }
+
+    /// Whether there is an entry at the index.
+    pub fn contains_inx(&self, i: P::Inx) -> bool
+        ensures { result ≡ is_some (entry_at self.now.list.entries (P.Inx.number i)) }
+    {
+        self.chain.contains_inx(i)
+    }
+
+    /// The index of the root, or `None` where there is no entry.
+    pub fn root(&self) -> Option<P::Inx>
+        ensures { option_map P.Inx.number result ≡ root_of self.now.shape }
+    {
+        self.root
+    }
+
+    /// Sets the generation that the next entry gets, and leaves each entry its own.
+    pub fn set_generation(&mut self, generation: P::Gen)
+        requires { IsLawfulGeneration P.Gen.greatest (P.Gen.number generation) }
+        ensures { self.new ≡ record self.old { list = record self.old.list { generation = P.Gen.number generation } } }
+    {
+        self.chain.set_generation(generation);
+    }
+
+    /// Raises the generation that the next entry gets, and leaves each entry its own. The answer says whether the generations
+    /// began again.
+    pub fn inc_generation(&mut self) -> InvalidationOption<()>
+        ensures after { self.new ≡ record self.old { list = raised P.Gen.greatest self.old.list } }
+        ensures overflow { is_overflow result ≡ overflows_after P.Gen.greatest self.old.list.generation }
+    {
+        self.chain.inc_generation()
+    }
+}

@@ -1,0 +1,63 @@
+//! Making a tree, and changing its capacity.
+
+ghost use Rattle.std.specs.Prelude.{◌≡◌, ◌<◌, ◌↔◌, max, IsOk, IsErr, IfOk, OnOk, OnErr};
+ghost use Rattle.chain_base.specs.Chain.{new_chain, with_capacity, greatest_index, chain_limit};
+ghost use Rattle.ord_tree.specs.Shape.{missing};
+
+use super::OrdTree;
+use arena_base::{MaxCapacityReductionError, Ptr, ReallocationError};
+use chain_base::ChainArena;
+use std::alloc::{AllocError, Allocator};
+
+impl<P: Ptr, T, A: Allocator> OrdTree<P, T, A> {
+    /// An empty tree with capacity 0 and no maximum, which takes no memory until it grows.
+    pub fn new(alloc: A) -> Self
+    where
+        A: Copy,
+        ensures { result ≡ record { list = new_chain P.Gen.greatest; shape = missing } }
+    {
+        OrdTree {
+            chain: ChainArena::new(alloc),
+            root: None,
+        }
+    }
+
+    /// An empty tree with room for `n` entries. It fails where memory is refused, or the pointers' indexes can't name so many.
+    pub fn with_min_capacity(alloc: A, n: usize) -> Result<Self, AllocError>
+    where
+        A: Copy,
+        T: Drop,
+        ensures ok { IfOk result (λ t. t ≡ record { list = with_capacity (new_chain P.Gen.greatest) n; shape = missing }) }
+        ensures beyond { P.Inx.most < n → IsErr result }
+        ensures none { n ≡ 0 → IsOk result }
+    {
+        Ok(OrdTree {
+            chain: ChainArena::with_min_capacity(alloc, n)?,
+            root: None,
+        })
+    }
+
+    /// Makes the capacity the greater of `n` and the greatest index with an entry. All vacant slots then count as never used.
+    ///
+    /// It is refused where `n` is beyond the maximum or the greatest index, or where the capacity would grow and memory is
+    /// refused. Nothing changes then.
+    pub fn reallocate_min_capacity(&mut self, n: usize) -> Result<(), ReallocationError>
+        ensures ok { OnOk result (self.new ≡ record self.old {
+          list = with_capacity self.old.list (max n (greatest_index self.old.list.entries));
+        }) }
+        ensures beyond { (result ≡ Err ReallocationError.BeyondMaxCapacity) ↔ (chain_limit P.Inx.most self.old.list < n) }
+        ensures memory { result ≡ Err ReallocationError.AllocError → self.old.list.capacity < n }
+        ensures err { OnErr result (self.new ≡ self.old) }
+    {
+        self.chain.reallocate_min_capacity(n)
+    }
+
+    /// Sets a maximum of the capacity. It is refused where the capacity is already greater, and nothing changes then.
+    pub fn set_max_capacity(&mut self, n: usize) -> Result<(), MaxCapacityReductionError>
+        ensures ok { OnOk result (self.new ≡ record self.old { list = record self.old.list { maximum = Some n } }) }
+        ensures refused { IsErr result ↔ (n < self.old.list.capacity) }
+        ensures err { OnErr result (self.new ≡ self.old) }
+    {
+        self.chain.set_max_capacity(n)
+    }
+}

@@ -1,0 +1,187 @@
+//! Adding entries.
+
+ghost use Rattle.std.specs.Prelude.{◌≡◌, ◌↔◌, ◌⊎◌, ℕ, List, Option, Some, option_map, IsSomeAnd, MatchOption, IsErr, IfOk, OnOk, IfErr, OnErr, length};
+ghost use Rattle.chain_base.specs.Chain.{IsDistinct, IsOccupied, chain_limit, with_room};
+ghost use Rattle.chain_base.specs.Insert.{IsInsertion};
+ghost use Rattle.ord_tree.specs.Shape.{Shape};
+ghost use Rattle.ord_tree.specs.Node.{indexes, bare, slots_of};
+ghost use Rattle.ord_tree.specs.Bud.{neighbour_in, beside, IsBudding};
+ghost use Rattle.ord_tree.specs.Raise.{IsRepaired};
+ghost use Rattle.ord_tree.specs.Tree.{put_at, CanPutAt, IsGrown};
+ghost use Rattle.ord_tree.specs.Layout.{IsLaidOut};
+ghost use Rattle.ord_tree.specs.Plant.{side_at, kind_at, IsBud, IsBudAt};
+
+use super::OrdTree;
+use crate::attach::attach;
+use crate::links::{Place, Side};
+use crate::node::SimpleOrdArenaNode;
+use crate::nodes::Nodes;
+use arena_base::{InsertionError, Ptr};
+use chain_base::{ChainArena, LinkInsertKind};
+use std::alloc::Allocator;
+use std::cmp::Ordering;
+
+impl<P: Ptr, T: Drop, A: Allocator> OrdTree<P, T, A> {
+    /// Inserts an item directly before (`Less`) or after (`Greater`) the entry at an index, or alone (`None`) where there is no
+    /// entry, into the slot that was freed last, else the least that was never used.
+    ///
+    /// Its generation is the arena's. It is refused where no slot is vacant; the item is then dropped, and nothing else changes.
+    /// It takes no memory.
+    pub fn insert_within_capacity(
+        &mut self,
+        at: Option<(P::Inx, Ordering)>,
+        t: T,
+    ) -> Result<P, InsertionError>
+        requires { CanPutAt P.Inx.number at self.old.list }
+        ensures ok { IfOk result (λ p. IsInsertion self.old.list self.new.list
+            (put_at P.Inx.number at self.old.list.entries) t (P.index p) (P.era p)) }
+        ensures shape { OnOk result (IsGrown self.old.shape self.new.shape) }
+        ensures full { IsErr result ↔ (length self.old.list.entries ≡ self.old.list.capacity) }
+        ensures refusal { IfErr result (λ e. e ≡ InsertionError.NotWithinCapacity) }
+        ensures err { OnErr result (self.new ≡ self.old) }
+    {
+        let place = place_at(&self.chain, at);
+        let node = SimpleOrdArenaNode::leaf(parent_in(place), t);
+        let p = self.chain.insert_within_capacity(kind_of(at), node)?;
+        prove!(self.chain.len() <= self.chain.capacity());
+        grow(&mut self.chain, &mut self.root, place, p.inx());
+        Ok(p)
+    }
+
+    /// Inserts an item as `insert_within_capacity` does, and grows first where no slot is vacant.
+    ///
+    /// A growth makes the capacity twice as great, at least 4, and at most its limit. It is refused where the capacity is at the
+    /// limit or memory is refused; the item is then dropped, and nothing else changes.
+    pub fn insert_reallocating(
+        &mut self,
+        at: Option<(P::Inx, Ordering)>,
+        t: T,
+    ) -> Result<P, InsertionError>
+        requires { CanPutAt P.Inx.number at self.old.list }
+        ensures ok { IfOk result (λ p. IsInsertion (with_room P.Inx.most self.old.list) self.new.list
+            (put_at P.Inx.number at self.old.list.entries) t (P.index p) (P.era p)) }
+        ensures shape { OnOk result (IsGrown self.old.shape self.new.shape) }
+        ensures beyond { (result ≡ Err InsertionError.BeyondMaxCapacity)
+            ↔ (length self.old.list.entries ≡ chain_limit P.Inx.most self.old.list) }
+        ensures memory { result ≡ Err InsertionError.AllocError → length self.old.list.entries ≡ self.old.list.capacity }
+        ensures refusal { IfErr result (λ e. (e ≡ InsertionError.BeyondMaxCapacity) ⊎ (e ≡ InsertionError.AllocError)) }
+        ensures err { OnErr result (self.new ≡ self.old) }
+    {
+        let place = place_at(&self.chain, at);
+        let node = SimpleOrdArenaNode::leaf(parent_in(place), t);
+        let p = self.chain.insert_reallocating(kind_of(at), node)?;
+        prove!(self.chain.len() <= self.chain.capacity());
+        grow(&mut self.chain, &mut self.root, place, p.inx());
+        Ok(p)
+    }
+}
+
+// The node at a place.
+fn parent_in<I: Copy>(place: Option<Place<I>>) -> Option<I>
+    ensures { result ≡ option_map (λ p. p.parent) place }
+{
+    Some(place?.parent)
+}
+
+// The place in the chain that is named.
+fn kind_of<P: Ptr>(at: Option<(P::Inx, Ordering)>) -> LinkInsertKind<P>
+    ensures { result ≡ kind_at at }
+{
+    match at {
+        None => LinkInsertKind::Disconnected,
+        Some((i, Ordering::Less)) => LinkInsertKind::PrevToInx(i),
+        Some((i, _)) => LinkInsertKind::NextToInx(i),
+    }
+}
+
+// The side of an entry that an ordering names.
+fn side_of(ordering: Ordering) -> Side
+    ensures { result ≡ side_at ordering }
+{
+    match ordering {
+        Ordering::Less => Side::Lesser,
+        Ordering::Equal | Ordering::Greater => Side::Greater,
+    }
+}
+
+// The entry directly before or after the one at an index that has one.
+fn neighbour<P: Ptr, T, A: Allocator>(
+    chain: &ChainArena<P, SimpleOrdArenaNode<P, T>, A>,
+    i: P::Inx,
+    side: Side,
+) -> Option<P::Inx>
+    requires { IsOccupied chain.now (P.Inx.number i) }
+    ensures { option_map P.Inx.number result ≡ neighbour_in side (P.Inx.number i) (indexes chain.now.entries) }
+{
+    let link = chain.get_inx_link_no_gen(i).unwrap().1;
+    match side {
+        Side::Lesser => link.prev(),
+        Side::Greater => link.next(),
+    }
+}
+
+// The place in the tree of a new leaf that is to stand on that side of the entry at an index that has one: there where nothing
+// hangs, else under its neighbour on that side, of which the facing side is free then.
+fn place_on<P: Ptr, T, A: Allocator>(
+    chain: &ChainArena<P, SimpleOrdArenaNode<P, T>, A>,
+    i: P::Inx,
+    side: Side,
+) -> Option<Place<P::Inx>>
+    requires { IsOccupied chain.now (P.Inx.number i) }
+    ensures { (root : Option ℕ) (s : Shape) → IsLaidOut P.Inx.number chain.now root s → IsDistinct chain.now.entries
+        → IsSomeAnd result (IsBud P.Inx.number (P.Inx.number i) side (slots_of P.Inx.number chain.now)
+        (indexes chain.now.entries)) }
+{
+    let links = chain.links(i);
+    if links.child(side).is_none() {
+        return Some(Place { parent: i, side });
+    }
+    let Some(parent) = neighbour(chain, i, side) else {
+        return None;
+    };
+    Some(Place {
+        parent,
+        side: side.other(),
+    })
+}
+
+// The place in the tree of a new leaf that is to stand before or after an entry, or alone.
+fn place_at<P: Ptr, T, A: Allocator>(
+    chain: &ChainArena<P, SimpleOrdArenaNode<P, T>, A>,
+    at: Option<(P::Inx, Ordering)>,
+) -> Option<Place<P::Inx>>
+    requires { CanPutAt P.Inx.number at chain.now }
+    ensures { (root : Option ℕ) (s : Shape) → IsLaidOut P.Inx.number chain.now root s → IsDistinct chain.now.entries
+        → IsBudAt P.Inx.number at (slots_of P.Inx.number chain.now) (indexes chain.now.entries) result }
+{
+    match at {
+        None => None,
+        Some((i, ordering)) => place_on(chain, i, side_of(ordering)),
+    }
+}
+
+// Lets the tree over a chain have the new leaf x, at its place or alone.
+fn grow<P: Ptr, T, A: Allocator>(
+    chain: &mut ChainArena<P, SimpleOrdArenaNode<P, T>, A>,
+    root: &mut Option<P::Inx>,
+    place: Option<Place<P::Inx>>,
+    x: P::Inx,
+)
+    requires { MatchOption place (Unit {0}) (λ p. (order : List ℕ) × (slack : ℕ)
+        × IsBudding (slots_of P.Inx.number chain.old) (option_map P.Inx.number root.old) p.side
+        (P.Inx.number p.parent) (P.Inx.number x) order slack) }
+    ensures grown { MatchOption place
+        ((chain.new ≡ chain.old) × (root.new ≡ Some x))
+        (λ p. (order : List ℕ) (slack : ℕ)
+        → IsBudding (slots_of P.Inx.number chain.old) (option_map P.Inx.number root.old) p.side
+        (P.Inx.number p.parent) (P.Inx.number x) order slack
+        → IsRepaired (slots_of P.Inx.number chain.old) (slots_of P.Inx.number chain.new)
+        (option_map P.Inx.number root.new) (beside p.side (P.Inx.number p.parent) (P.Inx.number x) order)
+        slack) }
+    ensures kept { bare chain.new ≡ bare chain.old }
+{
+    match place {
+        None => *root = Some(x),
+        Some(place) => attach(chain, root, place.side, place.parent, x),
+    }
+}

@@ -1,0 +1,151 @@
+-- A chain of nodes and the list of its items: each look-up in the one reads what the other has.
+use Rattle.std.proofs.Common.{◌≡◌, ℕ, List, [], ◌∷◌, ◌++◌, Option, Some, None, IfSome, is_some, refl, sym, ap, subst, ◌∙◌, inl, inr, ◌⊎◌, map}
+use Rattle.std.proofs.lemmas.Bool.Decides.{eqb_tells}
+use Rattle.std.specs.Option.{option_map}
+use Rattle.arena_base.specs.Arena.{Arena, slot, item_if}
+use Rattle.chain_base.specs.Link.{Link}
+use Rattle.chain_base.specs.Chain.{Entry, Chain, entry_at, item_of, first_or, link_between, link_at, first_pointer, last_pointer, IsArenaOf}
+use Rattle.chain_base.proofs.Lists.{entry_at-link}
+use Rattle.ord_tree.specs.declared.links.Links.{Links}
+use Rattle.ord_tree.specs.declared.node.SimpleOrdArenaNode.{SimpleOrdArenaNode}
+use Rattle.ord_tree.specs.Shape.{Shape, missing, node, root_of, walk}
+use Rattle.ord_tree.specs.Parents.{HasParentUnder}
+use Rattle.ord_tree.specs.Slots.{Slots, Holds, Among}
+use Rattle.ord_tree.specs.Node.{bare_entry, links_in, slots_of, indexes}
+use Rattle.ord_tree.specs.Tree.{Tree, IsChainOf, IsSoundTree}
+use Rattle.triple_ord.specs.Node.{IsPart, IsNodeIn}
+use Rattle.triple_ord.proofs.Holding.{held-root, entry_at-bare}
+
+-- the option of a mapped value
+pub is_some-map : {A B : Type 0} (f : A → B) (o : Option A) → is_some (option_map f o) ≡ is_some o
+is_some-map f None = refl
+is_some-map f (Some x) = refl
+
+-- mapped twice
+pub option_map-twice : {A B C : Type 0} (f : A → B) (g : B → C) (o : Option A) → option_map (λ x. g (f x)) o ≡ option_map g (option_map f o)
+option_map-twice f g None = refl
+option_map-twice f g (Some x) = refl
+
+module _ {P T I G : Type 0} where
+  item_if-bare : (g : ℕ) (o : Option (ℕ × SimpleOrdArenaNode P T I G)) → item_if g (option_map {U = ℕ × T} (λ e. (e.0, e.1.t)) o) ≡ option_map (λ n. n.t) (item_if g o)
+  item_if-bare g None = refl
+  item_if-bare g (Some e) = elim (eqb_tells e.0 g) [ inl h ↦ rw h.0 refl | inr h ↦ rw h.0 refl ]
+
+  last_pointer-bare : (es : List (Entry (SimpleOrdArenaNode P T I G))) → last_pointer (map bare_entry es) ≡ last_pointer es
+  last_pointer-bare [] = refl
+  last_pointer-bare (e ∷ []) = refl
+  last_pointer-bare (e ∷ f ∷ es) = last_pointer-bare (f ∷ es)
+
+  first_pointer-bare : (es : List (Entry (SimpleOrdArenaNode P T I G))) → first_pointer (map bare_entry es) ≡ first_pointer es
+  first_pointer-bare [] = refl
+  first_pointer-bare (e ∷ es) = refl
+
+  first_or-bare : (after : Option ℕ) (es : List (Entry (SimpleOrdArenaNode P T I G))) → first_or after (map bare_entry es) ≡ first_or after es
+  first_or-bare after [] = refl
+  first_or-bare after (e ∷ es) = refl
+
+  -- a link to a node, seen as a link to its item
+  abbrev pub bare_link : ℕ × Link (SimpleOrdArenaNode P T I G) → ℕ × Link T
+  bare_link e = (e.0, record { item = e.1.item.t; prev = e.1.prev; next = e.1.next })
+
+  link_between-bare : (before after : Option ℕ) (es : List (Entry (SimpleOrdArenaNode P T I G))) (i : ℕ) → link_between before after (map bare_entry es) i ≡ option_map bare_link (link_between before after es i)
+  link_between-bare before after [] i = refl
+  link_between-bare before after (e ∷ es) i = elim (eqb_tells e.index i) [
+    | inl h ↦ rw (h.0, first_or-bare after es) refl
+    | inr h ↦ rw h.0 (link_between-bare (Some e.index) after es i)
+  ]
+
+  -- what the chain of nodes under a tree says of the tree's list
+  module _ (number : I → ℕ) (t : Tree T) (c : Chain (SimpleOrdArenaNode P T I G)) (under : IsChainOf number t c) where
+    pub item_of-under : (i g : ℕ) → item_of t.list.entries i g ≡ option_map (λ n. n.t) (item_of c.entries i g)
+    item_of-under i g =
+        ap (λ (l : Chain T). item_of l.entries i g) (sym under.list) ∙ ap (item_if g) (entry_at-bare c.entries i) ∙ item_if-bare g (entry_at c.entries i)
+
+    pub contains-under : (i g : ℕ) → is_some (item_of c.entries i g) ≡ is_some (item_of t.list.entries i g)
+    contains-under i g = sym (is_some-map _ (item_of c.entries i g)) ∙ ap is_some (sym (item_of-under i g))
+
+    pub item_found-under : (i g : ℕ) (n : SimpleOrdArenaNode P T I G) → Some n ≡ item_of c.entries i g → Some n.t ≡ item_of t.list.entries i g
+    item_found-under i g n is = sym (item_of-under i g ∙ rw (← is) refl)
+
+    pub item_missing-under : (i g : ℕ) → None ≡ item_of c.entries i g → None ≡ item_of t.list.entries i g
+    item_missing-under i g is = sym (item_of-under i g ∙ rw (← is) refl)
+
+    pub first_pointer-under : first_pointer c.entries ≡ first_pointer t.list.entries
+    first_pointer-under = sym (first_pointer-bare c.entries) ∙ ap (λ (l : Chain T). first_pointer l.entries) under.list
+
+    pub last_pointer-under : last_pointer c.entries ≡ last_pointer t.list.entries
+    last_pointer-under = sym (last_pointer-bare c.entries) ∙ ap (λ (l : Chain T). last_pointer l.entries) under.list
+
+    pub link_at-under : (i : ℕ) → option_map bare_link (link_at c.entries i) ≡ link_at t.list.entries i
+    link_at-under i = sym (link_between-bare None None c.entries i) ∙ ap (λ (l : Chain T). link_at l.entries i) under.list
+
+-- a node that stands in a shape which nodes hold
+module _ (at : Slots) where
+  record IsNodeUnder (above : Option ℕ) (s : Shape) (i : ℕ) (n : Links ℕ) : Type 0 where
+    lesser_side : Shape
+    greater_side : Shape
+    part : IsPart (node lesser_side i n.rank greater_side) s
+    has_parent : HasParentUnder above s i n.back
+    lesser_root : n.lesser ≡ root_of lesser_side
+    greater_root : n.greater ≡ root_of greater_side
+
+  Among-append : (j : ℕ) (xs ys : List ℕ) → Among j (xs ++ ys) → Among j xs ⊎ Among j ys
+  Among-append j [] ys there = inr there
+  Among-append j (x ∷ xs) ys there = elim there [
+    | inl here ↦ inl (inl here)
+    | inr rest ↦ elim (Among-append j xs ys rest) [ inl p ↦ inl (inr p) | inr q ↦ inr q ]
+  ]
+
+  node-under : (above link : Option ℕ) (s : Shape) (i : ℕ) (n : Links ℕ) → Holds at above link s → at i ≡ Some n → Among i (walk s) → IsNodeUnder above s i n
+  node-under above link missing i n h is there = absurd there
+  node-under above link (node l j k r) i n h is there = elim (Among-append i (walk l) (j ∷ walk r) there) [
+    | inl low ↦
+        let rest = node-under (Some j) h.0.lesser l i n h.5 is low in
+        record { lesser_side = rest.lesser_side; greater_side = rest.greater_side; part = inr (inl rest.part); has_parent = inr (inl rest.has_parent); lesser_root = rest.lesser_root; greater_root = rest.greater_root }
+    | inr high ↦ elim high [
+      | inl here ↦
+          let same : n ≡ h.0 = let both : Some n ≡ Some h.0 = sym is ∙ ap at here ∙ h.2 in cc in
+          let rank : k ≡ n.rank = cc in
+          let back : n.back ≡ above = cc in
+          record {
+            lesser_side = l;
+            greater_side = r;
+            part = inl (rw (here, rank) refl);
+            has_parent = inl (here, back);
+            lesser_root = ap (λ (m : Links ℕ). m.lesser) same ∙ held-root at (Some j) h.0.lesser l h.5;
+            greater_root = ap (λ (m : Links ℕ). m.greater) same ∙ held-root at (Some j) h.0.greater r h.6;
+          }
+      | inr rest ↦
+          let found = node-under (Some j) h.0.greater r i n h.6 is rest in
+          record { lesser_side = found.lesser_side; greater_side = found.greater_side; part = inr (inr found.part); has_parent = inr (inr found.has_parent); lesser_root = found.lesser_root; greater_root = found.greater_root }
+    ]
+  ]
+
+among-entries : {T : Type 0} (es : List (Entry T)) (i : ℕ) (e : ℕ × T) → entry_at es i ≡ Some e → Among i (indexes es)
+among-entries [] i e found = absurd (cc)
+among-entries (f ∷ es) i e found = elim (eqb_tells f.index i) [
+  | inl h ↦ inl (sym h.1)
+  | inr h ↦ inr (among-entries es i e (rw h.0 at found))
+]
+
+module _ {P T I G : Type 0} (number : I → ℕ) (t : Tree T) (c : Chain (SimpleOrdArenaNode P T I G)) (under : IsChainOf number t c) (sound : IsSoundTree t) (a : Arena (Link (SimpleOrdArenaNode P T I G))) (lies : IsArenaOf c a) where
+  -- the place in the tree of the node that the arena shows at i
+  node-shown : (i : ℕ) (e : ℕ × Link (SimpleOrdArenaNode P T I G)) → slot a i ≡ Some e → IsNodeIn t.shape i (option_map number e.1.item.p_back) (option_map number e.1.item.p_tree0) (option_map number e.1.item.p_tree1) e.1.item.rank
+  node-shown i e is =
+      let entry : entry_at c.entries i ≡ Some (e.0, e.1.item) = entry_at-link None None c.entries i ∙ rw (← lies.slots i, is) refl in
+      let listed : indexes c.entries ≡ walk t.shape = indexes-bare c.entries ∙ ap (λ (l : Chain T). indexes l.entries) under.list ∙ sym sound.listed in
+      let there : Among i (walk t.shape) = subst (λ (js : List ℕ). Among i js) listed (among-entries c.entries i (e.0, e.1.item) entry) in
+      let found = node-under (slots_of number c) None (root_of t.shape) t.shape i (links_in number e.1.item) under.held (rw entry refl) there in
+      record { lesser_side = found.lesser_side; greater_side = found.greater_side; part = found.part; has_parent = found.has_parent; lesser_root = found.lesser_root; greater_root = found.greater_root }
+    where
+      indexes-bare : (es : List (Entry (SimpleOrdArenaNode P T I G))) → indexes es ≡ indexes (map bare_entry es)
+      indexes-bare [] = refl
+      indexes-bare (x ∷ es) = rw (← indexes-bare es) refl
+
+  -- what a look-up in the arena shows
+  pub node-looked_up : {X : Type 0} (f : X → ℕ × Link (SimpleOrdArenaNode P T I G)) (o : Option X) (i : ℕ) → option_map f o ≡ slot a i → IfSome o (λ x. IsNodeIn t.shape i (option_map number (f x).1.item.p_back) (option_map number (f x).1.item.p_tree0) (option_map number (f x).1.item.p_tree1) (f x).1.item.rank)
+  node-looked_up f None i is = tt
+  node-looked_up f (Some x) i is = node-shown i (f x) (sym is)
+
+  pub link-looked_up : {X : Type 0} (f : X → ℕ × Link (SimpleOrdArenaNode P T I G)) (o : Option X) (i : ℕ) → option_map f o ≡ slot a i → option_map (λ x. bare_link (f x)) o ≡ link_at t.list.entries i
+  link-looked_up f o i is = option_map-twice f bare_link o ∙ ap (option_map bare_link) (is ∙ lies.slots i) ∙ link_at-under number t c under i

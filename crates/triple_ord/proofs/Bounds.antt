@@ -1,0 +1,71 @@
+-- A search that goes down once stays within the bounds on its visits.
+use Rattle.std.proofs.Common.{◌≡◌, ℕ, zero, suc, ◌+◌, ◌-◌, ◌^◌, ◌<◌, ◌≤◌, ◌∷◌, length, Option, Some, None, refl, sym, ap, ◌∙◌, arith, length-append}
+use Rattle.std.proofs.lemmas.List.{length-map}
+use Rattle.std.proofs.Math.Pow.{pow_mono}
+use Rattle.arena_base.specs.Arena.{limit_of}
+use Rattle.chain_base.specs.Chain.{IsSound}
+use Rattle.ord_tree.specs.Shape.{Shape, missing, node, size_of, rank_of, walk, height}
+use Rattle.ord_tree.specs.Numbers.{fib}
+use Rattle.ord_tree.specs.Tree.{Tree, IsSoundTree}
+use Rattle.ord_tree.proofs.Sizes.{height-le-rank, square-ge-power, fib-le-size}
+use Rattle.ord_tree.proofs.Halves.{height-rebuilt}
+use Rattle.triple_ord.specs.VisitBounds.{IsWithinBounds}
+
+-- the walk passes each node once
+length-walk : (s : Shape) → length (walk s) ≡ size_of s
+length-walk missing = refl
+length-walk (node l i k r) = omega (arith, length-append (walk l) (i ∷ walk r), length-walk l, length-walk r)
+
+pub height-le-size : (s : Shape) → height s ≤ size_of s
+height-le-size missing = omega arith
+height-le-size (node l i k r) = omega (arith, height-le-size l, height-le-size r)
+
+-- the Fibonacci numbers don't fall
+fib-step : (n : ℕ) → fib n ≤ fib (suc n)
+fib-step zero = omega arith
+fib-step (suc zero) = omega arith
+fib-step (suc (suc n)) = omega arith
+
+fib_more : (n d : ℕ) → fib n ≤ fib (d + n)
+fib_more n zero = rw (same n) (omega arith)
+  where
+    same : (n : ℕ) → 0 + n ≡ n
+    same n = omega arith
+fib_more n (suc d) = rw (same d n) (omega (arith, fib_more n d, fib-step (d + n)))
+  where
+    same : (d n : ℕ) → suc d + n ≡ suc (d + n)
+    same d n = omega arith
+
+fib-mono : (m n : ℕ) → m ≤ n → fib m ≤ fib n
+fib-mono m n least = let same : (n - m) + m ≡ n = omega (arith, least) in rw same at (fib_more m (n - m))
+
+module _ {T : Type 0} (t : Tree T) (sound : IsSoundTree t) where
+  pub size-listed : size_of t.shape ≡ length t.list.entries
+  size-listed = sym (length-walk t.shape) ∙ ap length sound.listed ∙ length-map t.list.entries (λ e. e.index)
+
+  -- no way down is as long as a machine's number can say
+  pub height-fits : (most : ℕ) (greatest : Option ℕ) → IsSound most greatest t.list → most + 1 < 2 ^ 64 → height t.shape < 2 ^ 64
+  height-fits most greatest list fits =
+      omega (arith, height-le-size t.shape, size-listed, list.counted, list.within_limit, limited t.list.maximum)
+    where
+      limited : (maximum : Option ℕ) → limit_of most maximum ≤ most
+      limited None = omega arith
+      limited (Some m) = omega arith
+
+  empty-height : (s : Shape) → size_of s ≡ 0 → height s ≡ 0
+  empty-height s none = omega (arith, height-le-size s)
+
+  pub within_bounds : (c : ℕ) → c ≤ height t.shape → IsWithinBounds (length t.list.entries) t.shape c
+  within_bounds c few =
+      rw (← size-listed) record {
+        ranked = λ some.
+            let law = square-ge-power t.shape sound.ranked some in
+            let power : 2 ^ (c + 1) ≤ 2 ^ (rank_of t.shape + 1) = pow_mono (omega (arith, few, height-le-rank t.shape sound.ranked)) in
+            omega (arith, law, power);
+        tight = λ tight.
+            let law = fib-le-size t.shape sound.ranked tight in
+            let less : fib (c + 2) ≤ fib (rank_of t.shape + 2) = fib-mono (c + 2) (rank_of t.shape + 2) (omega (arith, few, height-le-rank t.shape sound.ranked)) in
+            omega (arith, law, less);
+        rebuilt = λ rebuilt digits has. omega (arith, few, height-rebuilt t.shape digits rebuilt has);
+        empty = λ none. omega (arith, few, empty-height t.shape none);
+      }

@@ -1,0 +1,70 @@
+-- What nodes that hold a shape say of each node: its sides are the shape's.
+use Rattle.std.proofs.Common.{◌≡◌, ℕ, List, [], ◌∷◌, Option, Some, None, IsSome, refl, sym, ap, ◌∙◌, inl, inr, map}
+use Rattle.std.proofs.lemmas.Bool.Decides.{eqb_tells}
+use Rattle.std.specs.Option.{option_map}
+use Rattle.chain_base.specs.Chain.{Entry, Chain, entry_at}
+use Rattle.ord_tree.specs.declared.links.Links.{Links}
+use Rattle.ord_tree.specs.declared.node.SimpleOrdArenaNode.{SimpleOrdArenaNode}
+use Rattle.ord_tree.specs.Shape.{Shape, missing, node, root_of}
+use Rattle.ord_tree.specs.Slots.{Slots, Holds}
+use Rattle.ord_tree.specs.Node.{bare_entry, links_in, slots_of}
+use Rattle.ord_tree.specs.Tree.{Tree, IsChainOf}
+use Rattle.triple_ord.specs.Node.{IsPart}
+use Rattle.triple_ord.specs.Descent.{IsShown}
+
+-- a link leads to the root of what hangs there
+pub held-root : (at : Slots) (back link : Option ℕ) (s : Shape) → Holds at back link s → link ≡ root_of s
+held-root at back link missing h = h
+held-root at back link (node l i k r) h = h.1
+
+-- the links that nodes hold at i, in the tree that they spell
+held-part : (at : Slots) (back link : Option ℕ) (s l r : Shape) (i k : ℕ) (n : Links ℕ) → Holds at back link s → IsPart (node l i k r) s → at i ≡ Some n → (n.lesser ≡ root_of l) × (n.greater ≡ root_of r)
+held-part at back link missing l r i k n h part is = absurd (cc)
+held-part at back link (node l' i' k' r') l r i k n h part is = elim part [
+  | inl same ↦
+      let here : i ≡ i' = cc in
+      let links : n ≡ h.0 = let both : Some n ≡ Some h.0 = sym is ∙ ap at here ∙ h.2 in cc in
+      let lesser : l' ≡ l = cc in
+      let greater : r' ≡ r = cc in
+      (ap (λ (m : Links ℕ). m.lesser) links ∙ held-root at (Some i') h.0.lesser l' h.5 ∙ ap root_of lesser, ap (λ (m : Links ℕ). m.greater) links ∙ held-root at (Some i') h.0.greater r' h.6 ∙ ap root_of greater)
+  | inr rest ↦ elim rest [
+    | inl p ↦ held-part at (Some i') h.0.lesser l' l r i k n h.5 p is
+    | inr p ↦ held-part at (Some i') h.0.greater r' l r i k n h.6 p is
+  ]
+]
+
+-- what a look-up that found something read
+pub read-found : {X Y : Type 0} (f : X → Y) (o : Option X) (x : X) (p : Option Y) → option_map f o ≡ p → o ≡ Some x → p ≡ Some (f x)
+read-found f o x p is found = sym is ∙ rw found refl
+
+module _ {P T I G : Type 0} where
+  -- the entry of an index, without its node
+  pub entry_at-bare : (es : List (Entry (SimpleOrdArenaNode P T I G))) (i : ℕ) → entry_at (map bare_entry es) i ≡ option_map (λ e. (e.0, e.1.t)) (entry_at es i)
+  entry_at-bare [] i = refl
+  entry_at-bare (e ∷ es) i = elim (eqb_tells e.index i) [ inl h ↦ rw h.0 refl | inr h ↦ rw h.0 (entry_at-bare es i) ]
+
+  -- what the chain of nodes under a tree says of the entry at i
+  module _ (number : I → ℕ) (t : Tree T) (c : Chain (SimpleOrdArenaNode P T I G)) (under : IsChainOf number t c) (i : ℕ) where
+    pub entry_at-under : entry_at t.list.entries i ≡ option_map (λ e. (e.0, e.1.t)) (entry_at c.entries i)
+    entry_at-under = ap (λ (l : Chain T). entry_at l.entries i) (sym under.list) ∙ entry_at-bare c.entries i
+
+    -- a look-up in the chain finds what the tree's list has
+    pub found-under : {X : Type 0} (f : X → ℕ × SimpleOrdArenaNode P T I G) (o : Option X) → option_map f o ≡ entry_at c.entries i → IsSome (entry_at t.list.entries i) → IsSome o
+    found-under f None is some = let none : entry_at t.list.entries i ≡ None = entry_at-under ∙ rw (← is) refl in rw none at some
+    found-under f (Some x) is some = refl
+
+    item-under : (e : ℕ × SimpleOrdArenaNode P T I G) → entry_at c.entries i ≡ Some e → entry_at t.list.entries i ≡ Some (e.0, e.1.t)
+    item-under e is = entry_at-under ∙ rw is refl
+
+    sides-under : (e : ℕ × SimpleOrdArenaNode P T I G) (l r : Shape) (k : ℕ) → entry_at c.entries i ≡ Some e → IsPart (node l i k r) t.shape → (option_map number e.1.p_tree0 ≡ root_of l) × (option_map number e.1.p_tree1 ≡ root_of r)
+    sides-under e l r k is part =
+        held-part (slots_of number c) None (root_of t.shape) t.shape l r i k (links_in number e.1) under.held part (rw is refl)
+
+    -- a node of the chain shows the entry, and the roots of its sides
+    pub shown-under : (e : ℕ × SimpleOrdArenaNode P T I G) → entry_at c.entries i ≡ Some e → IsShown t i e.0 e.1.t (option_map number e.1.p_tree0) (option_map number e.1.p_tree1)
+    shown-under e is =
+        record {
+          entry = item-under e is;
+          lesser_root = λ l r k part. (sides-under e l r k is part).0;
+          greater_root = λ l r k part. (sides-under e l r k is part).1;
+        }

@@ -1,0 +1,224 @@
+-- Where an insertion by key puts its entry: from what the search answers to the gap in the list.
+use Rattle.std.proofs.Common.{◌≡◌, ◌≢◌, ℕ, zero, suc, ◌+◌, ◌<◌, ◌≤◌, true, false, List, [], ◌∷◌, ◌++◌, length, Option, Some, None, IsSome, Result, Ok, Err, refl, sym, ap, subst, ◌∙◌, arith, inl, inr, append_assoc, Contains, get_or}
+use Rattle.std.proofs.lemmas.Bool.Decides.{eqb_tells}
+use Rattle.std.specs.Option.{option_map}
+use Rattle.std.specs.Ordering.{is_eq}
+use Rattle.std.specs.declared.cmp.Ordering.{Ordering}
+use Rattle.std.specs.declared.cmp.Ordering.TheVariants.{Less, Equal, Greater}
+use Rattle.chain_base.specs.Chain.{Entry, Chain, times, IsDistinct, entry_at, insert_after, insert_before, inserted_at}
+use Rattle.chain_base.specs.Insert.{IsInsertion}
+use Rattle.ord_tree.specs.Tree.{Tree, put_on, put_at, with_item_in}
+use Rattle.triple_ord.specs.Gap.{Gap, first_of, last_or, before, after, with_between}
+use Rattle.triple_ord.specs.Search.{order_to, Fits, IsMet, IsBeside, FindsSimilar}
+use Rattle.triple_ord.specs.declared.error.OrdInsertionError.{OrdInsertionError}
+use Rattle.triple_ord.specs.declared.error.OrdInsertionError.TheVariants.{FailedOrdRequirement, NotWithinCapacity, BeyondMaxCapacity, AllocError}
+use Rattle.triple_ord.specs.Insertion.{Replaces, Inserts}
+use Rattle.triple_ord.specs.Placing.{InsertsAt}
+use Rattle.triple_ord.proofs.Descending.{entry_at-here, times-back, met-of_equal, stop-of_other}
+
+module _ {T : Type 0} where
+  -- a list with a last entry ends with it
+  pub record EndsWith (es : List (Entry T)) (e : Entry T) : Type 0 where
+    pub front : List (Entry T)
+    pub cut : es ≡ front ++ e ∷ []
+
+  ends_with : (other : Option (Entry T)) (x : Entry T) (xs : List (Entry T)) (e : Entry T) → last_or other (x ∷ xs) ≡ Some e → EndsWith (x ∷ xs) e
+  ends_with other x [] e last = let same : x ≡ e = cc in record { front = []; cut = rw same refl }
+  ends_with other x (y ∷ ys) e last =
+      let rest = ends_with (Some x) y ys e last in
+      record { front = x ∷ rest.front; cut = ap (λ zs. x ∷ zs) rest.cut }
+
+  ends : (es : List (Entry T)) (e : Entry T) → last_or None es ≡ Some e → EndsWith es e
+  ends [] e last = absurd (cc)
+  ends (x ∷ xs) e last = ends_with None x xs e last
+
+  times-here : (e : Entry T) (es : List (Entry T)) → times e.index (e ∷ es) ≡ 1 + times e.index es
+  times-here e es = elim (eqb_tells e.index e.index) [ inl h ↦ rw h.0 refl | inr h ↦ absurd (h.1 refl) ]
+
+  -- an insertion beside an entry, where its index stands once
+  insert_before-here : (new : Entry T) (front : List (Entry T)) (e : Entry T) (back : List (Entry T)) → IsDistinct (front ++ e ∷ back) → insert_before e.index new (front ++ e ∷ back) ≡ front ++ new ∷ e ∷ back
+  insert_before-here new [] e back distinct = elim (eqb_tells e.index e.index) [ inl h ↦ rw h.0 refl | inr h ↦ absurd (h.1 refl) ]
+  insert_before-here new (f ∷ front) e back distinct = elim (eqb_tells f.index e.index) [
+    | inl h ↦
+        let twice : times e.index (f ∷ front ++ e ∷ back) ≡ 1 + times e.index (front ++ e ∷ back) = rw h.0 refl in
+        absurd (omega (arith, twice, times-here e back, times-back e.index front (e ∷ back), distinct e.index))
+    | inr h ↦ rw h.0 (ap (λ xs. f ∷ xs) (insert_before-here new front e back (λ j. omega (arith, distinct j))))
+  ]
+
+  insert_after-here : (new : Entry T) (front : List (Entry T)) (e : Entry T) (back : List (Entry T)) → IsDistinct (front ++ e ∷ back) → insert_after e.index new (front ++ e ∷ back) ≡ front ++ e ∷ new ∷ back
+  insert_after-here new [] e back distinct = elim (eqb_tells e.index e.index) [ inl h ↦ rw h.0 refl | inr h ↦ absurd (h.1 refl) ]
+  insert_after-here new (f ∷ front) e back distinct = elim (eqb_tells f.index e.index) [
+    | inl h ↦
+        let twice : times e.index (f ∷ front ++ e ∷ back) ≡ 1 + times e.index (front ++ e ∷ back) = rw h.0 refl in
+        absurd (omega (arith, twice, times-here e back, times-back e.index front (e ∷ back), distinct e.index))
+    | inr h ↦ rw h.0 (ap (λ xs. f ∷ xs) (insert_after-here new front e back (λ j. omega (arith, distinct j))))
+  ]
+
+  -- an entry of the list is found by its index
+  entry_at-among : (es : List (Entry T)) (e : Entry T) (k : ℕ) → IsDistinct es → k < length es → get_or es k e ≡ e → entry_at es e.index ≡ Some (e.generation, e.item)
+  entry_at-among [] e k distinct within is = absurd (omega (arith, within))
+  entry_at-among (f ∷ es) e zero distinct within is = rw is (elim (eqb_tells e.index e.index) [ inl h ↦ rw h.0 refl | inr h ↦ absurd (h.1 refl) ])
+  entry_at-among (f ∷ es) e (suc k) distinct within is =
+      elim (eqb_tells f.index e.index) [
+        | inl h ↦
+            let there = occurs es e k (omega (arith, within)) is in
+            let twice : times e.index (f ∷ es) ≡ 1 + times e.index es = rw h.0 refl in
+            absurd (omega (arith, there, twice, distinct e.index))
+        | inr h ↦ rw h.0 (entry_at-among es e k (λ j. omega (arith, distinct j)) (omega (arith, within)) is)
+      ]
+    where
+      occurs : (es : List (Entry T)) (e : Entry T) (k : ℕ) → k < length es → get_or es k e ≡ e → 1 ≤ times e.index es
+      occurs [] e k within is = absurd (omega (arith, within))
+      occurs (f ∷ es) e zero within is = rw is (omega (arith, times-here e es))
+      occurs (f ∷ es) e (suc k) within is = omega (arith, occurs es e k (omega (arith, within)) is)
+
+  pub entry_at-contained : (es : List (Entry T)) (e : Entry T) → IsDistinct es → Contains es e → entry_at es e.index ≡ Some (e.generation, e.item)
+  entry_at-contained es e distinct there = entry_at-among es e there.0 distinct there.1 there.2
+
+  -- an insertion by another word for the same place
+  inserted_at-same : (c : Chain T) (place other : Entry T → List (Entry T)) (item : T) (vacant : List ℕ) → ((new : Entry T) → place new ≡ other new) → inserted_at c place item vacant ≡ inserted_at c other item vacant
+  inserted_at-same c place other item [] same = refl
+  inserted_at-same c place other item (i ∷ rest) same = rw (same (record { index = i; generation = c.generation; item = item })) refl
+
+  IsInsertion-same : (c d : Chain T) (place other : Entry T → List (Entry T)) (item : T) (i g : ℕ) → ((new : Entry T) → place new ≡ other new) → IsInsertion c d place item i g → IsInsertion c d other item i g
+  IsInsertion-same c d place other item i g same ins =
+      record {
+        next = ins.next;
+        vacant = ins.vacant;
+        least = ins.least;
+        generation = ins.generation;
+        after = ins.after ∙ inserted_at-same c place other item c.vacant same;
+        fresh = ins.fresh;
+      }
+
+-- a comparison whose test for equality failed
+pub not_equal : (o : Ordering) → is_eq o ≡ false → o ≢ Equal
+not_equal o test same = let yes : is_eq o ≡ true = ap is_eq same in cc
+
+-- the place that a search found for a new entry is a gap that fits
+module _ {T K : Type 0} (key : T → K) (cmp : K → K → Ordering) (es : List (Entry T)) (k : K) where
+  pub record HasPlace (put : Entry T → List (Entry T)) : Type 0 where
+    pub gap : Gap es
+    pub fits : Fits key cmp gap k
+    pub puts : (new : Entry T) → put new ≡ with_between gap new
+
+  pub place-alone : es ≡ [] → HasPlace (λ new. new ∷ es)
+  place-alone empty =
+      let gap : Gap es = record { front = []; back = []; cut = empty } in
+      record { gap = gap; fits = record { lesser_before = tt; greater_after = tt }; puts = λ new. ap (λ xs. new ∷ xs) empty }
+
+  module _ (distinct : IsDistinct es) (e : Entry T) (gap : Gap es) (fits : Fits key cmp gap k) where
+    -- before an entry with a greater key
+    place-before : after gap ≡ Some e → HasPlace (put_on Less e.index es)
+    place-before is = split gap.back refl is
+      where
+        split : (back : List (Entry T)) → gap.back ≡ back → first_of back ≡ Some e → HasPlace (put_on Less e.index es)
+        split [] same first = absurd (cc)
+        split (x ∷ back) same first =
+            let cut : es ≡ gap.front ++ x ∷ back = gap.cut ∙ ap (λ ys. gap.front ++ ys) same in
+            let here : x ≡ e = cc in
+            let distinct2 = subst (λ (xs : List (Entry T)). IsDistinct xs) cut distinct in
+            record {
+              gap = gap;
+              fits = fits;
+              puts = λ new.
+                  ap (λ (i : ℕ). insert_before i new es) (ap (λ (y : Entry T). y.index) (sym here)) ∙ ap (insert_before x.index new) cut ∙ insert_before-here new gap.front x back distinct2 ∙ ap (λ ys. gap.front ++ new ∷ ys) (sym same);
+            }
+
+    -- after an entry with a lesser key
+    place-after : before gap ≡ Some e → HasPlace (put_on Greater e.index es)
+    place-after is =
+        let last = ends gap.front e is in
+        let cut : es ≡ last.front ++ e ∷ gap.back = gap.cut ∙ ap (λ xs. xs ++ gap.back) last.cut ∙ simp append_assoc in
+        let distinct2 = subst (λ (xs : List (Entry T)). IsDistinct xs) cut distinct in
+        record {
+          gap = gap;
+          fits = fits;
+          puts = λ new.
+              ap (insert_after e.index new) cut ∙ insert_after-here new last.front e gap.back distinct2 ∙ (let whole : last.front ++ e ∷ new ∷ gap.back ≡ (last.front ++ e ∷ []) ++ new ∷ gap.back = simp append_assoc in whole) ∙ ap (λ xs. xs ++ new ∷ gap.back) (sym last.cut);
+        }
+
+  module _ (distinct : IsDistinct es) (p : ℕ × ℕ) (o : Ordering) (c : ℕ) (found : FindsSimilar key cmp es k (Some (p, o)) c) where
+    named : found.0.index ≡ p.0
+    named = sym (ap (λ a. a.0.0) found.1)
+
+    ordered : order_to key cmp k found.0 ≡ o
+    ordered = sym (ap (λ a. a.1) found.1)
+
+    beside_occupied : (e : Entry T) (b : IsBeside key cmp es k c e) → IsSome (entry_at es e.index)
+    beside_occupied e b = elim b.2 [
+      | inl low ↦
+          let last = ends b.0.front e low in
+          let cut : es ≡ last.front ++ e ∷ b.0.back = b.0.cut ∙ ap (λ xs. xs ++ b.0.back) last.cut ∙ simp append_assoc in
+          rw (cut, entry_at-here last.front e b.0.back (subst (λ (xs : List (Entry T)). IsDistinct xs) cut distinct)) refl
+      | inr high ↦ split b.0.back refl high
+    ]
+      where
+        split : (back : List (Entry T)) → b.0.back ≡ back → first_of back ≡ Some e → IsSome (entry_at es e.index)
+        split [] same first = absurd (cc)
+        split (x ∷ back) same first =
+            let here : x ≡ e = cc in
+            let cut : es ≡ b.0.front ++ e ∷ back = b.0.cut ∙ ap (λ ys. b.0.front ++ ys) (same ∙ ap (λ y. y ∷ back) here) in
+            rw (cut, entry_at-here b.0.front e back (subst (λ (xs : List (Entry T)). IsDistinct xs) cut distinct)) refl
+
+    -- the entry that was answered is there
+    pub similar-occupied : IsSome (entry_at es p.0)
+    similar-occupied =
+        rw (← named) (elim found.2 [
+          | inl met ↦ let there = entry_at-contained es found.0 distinct met.0.within in rw there refl
+          | inr beside ↦ beside_occupied found.0 beside
+        ])
+
+    beside_placed : (b : IsBeside key cmp es k c found.0) (o2 : Ordering) → o ≡ o2 → o2 ≢ Equal → HasPlace (put_on o2 found.0.index es)
+    beside_placed b Equal same other = absurd (other refl)
+    beside_placed b Less same other = elim b.2 [
+      | inl low ↦ absurd (let more = rw low at b.1.fits.lesser_before in let less = ordered ∙ same in cc)
+      | inr high ↦ place-before distinct found.0 b.0 b.1.fits high
+    ]
+    beside_placed b Greater same other = elim b.2 [
+      | inl low ↦ place-after distinct found.0 b.0 b.1.fits low
+      | inr high ↦ absurd (let less = rw high at b.1.fits.greater_after in let more = ordered ∙ same in cc)
+    ]
+
+    -- beside it a new entry stands in a gap that fits
+    pub similar-placed : (i : ℕ) → i ≡ p.0 → is_eq o ≡ false → HasPlace (put_on o i es)
+    similar-placed i at test =
+        let beside = stop-of_other key cmp es k c found.0 found.2 (λ same. not_equal o test (sym ordered ∙ same)) in
+        rw (at, ← named) (beside_placed beside o refl (not_equal o test))
+
+    similar-met : is_eq o ≡ true → IsMet key cmp es k found.0
+    similar-met test = (met-of_equal key cmp es k c found.0 found.2 (ordered ∙ equal o test)).0
+      where
+        equal : (o : Ordering) → is_eq o ≡ true → o ≡ Equal
+        equal Less test = absurd (cc)
+        equal Greater test = absurd (cc)
+        equal Equal test = refl
+
+    similar-found : is_eq o ≡ true → entry_at es p.0 ≡ Some (found.0.generation, found.0.item)
+    similar-found test = rw (← named) (entry_at-contained es found.0 distinct (similar-met test).within)
+
+-- a replacement of the item of the entry that the search met
+pub similar-replaced : {T K : Type 0} (key : T → K) (cmp : K → K → Ordering) (most : ℕ) (old : Tree T) (item : T) (distinct : IsDistinct old.list.entries) (p : ℕ × ℕ) (o : Ordering) (c : ℕ) (found : FindsSimilar key cmp old.list.entries (key item) (Some (p, o)) c) → is_eq o ≡ true → (i : ℕ) (before : T) (new : Tree T) → i ≡ p.0 → option_map (λ e. e.1) (entry_at old.list.entries i) ≡ Some before → new ≡ with_item_in old i item → Replaces key cmp most old item p before new
+similar-replaced key cmp most old item distinct p o c found test i before new at had after =
+    let es = old.list.entries in
+    let there = similar-found key cmp es (key item) distinct p o c found test in
+    let taken : Some found.0.item ≡ Some before = sym (ap (option_map (λ e. e.1)) there) ∙ ap (λ j. option_map (λ e. e.1) (entry_at es j)) (sym at) ∙ had in
+    record {
+      entry = found.0;
+      met = similar-met key cmp es (key item) distinct p o c found test;
+      named = ap (λ a. a.0) found.1;
+      taken = cc;
+      after = after ∙ ap (λ j. with_item_in old j item) (at ∙ sym (named key cmp es (key item) distinct p o c found));
+    }
+
+-- an insertion at a place that fits is one by key
+pub inserts-placed : {P T K I : Type 0} (key : T → K) (cmp : K → K → Ordering) (number : I → ℕ) (most : ℕ) (numbers : P → ℕ × ℕ) (at : Option (I × Ordering)) (old : Tree T) (item : T) (answer : Result (P × Option T) OrdInsertionError) (new : Tree T) → HasPlace key cmp old.list.entries (key item) (put_at number at old.list.entries) → InsertsAt number most numbers at old item answer new → Inserts key cmp most numbers old item answer new
+inserts-placed key cmp number most numbers at old item (Ok (p, None)) new place ins =
+    record { gap = place.gap; fits = place.fits; inserted = IsInsertion-same _ _ _ _ item _ _ place.puts ins.0; grown = ins.1 }
+inserts-placed key cmp number most numbers at old item (Ok (p, Some before)) new place ins = absurd ins
+inserts-placed key cmp number most numbers at old item (Err BeyondMaxCapacity) new place ins =
+    record { gap = place.gap; fits = place.fits; full = ins.0; after = ins.1 }
+inserts-placed key cmp number most numbers at old item (Err AllocError) new place ins =
+    record { gap = place.gap; fits = place.fits; below = ins.0; full = ins.1; after = ins.2 }
+inserts-placed key cmp number most numbers at old item (Err FailedOrdRequirement) new place ins = absurd ins
+inserts-placed key cmp number most numbers at old item (Err NotWithinCapacity) new place ins = absurd ins

@@ -1,0 +1,6 @@
+pub mod Descending
+pub mod Holding
+pub mod Bounds
+pub mod Bare
+pub mod Walking
+pub mod Inserting

@@ -1,0 +1,6 @@
+use Rattle.std.proofs.Common.{◌∙◌}
+use Rattle.triple_ord.proofs.Bare.{contains-under}
+use Rattle.triple_ord.proofs.arena.SimpleOrdArena.contains.Goals as goal
+
+pub returns : goal.returns
+returns g c = rw (← c.self.view_is) (c.contains.ensures ∙ contains-under _ _ _ c.chain.ensures.chain _ _)

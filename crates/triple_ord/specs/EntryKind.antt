@@ -1,0 +1,8 @@
+-- The two kinds of entries that an insertion can make.
+use Rattle.triple_ord.specs.declared.entry_kind.OrdEntryKind.{OrdEntryKind}
+use Rattle.triple_ord.specs.declared.entry_kind.OrdEntryKind.TheVariants.{New, Replacing}
+
+-- the pointer of either kind
+abbrev pub pointer_of : {P : Type 0} → OrdEntryKind P → P
+pointer_of (New p) = p
+pointer_of (Replacing p) = p

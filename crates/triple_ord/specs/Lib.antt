@@ -1,0 +1,9 @@
+pub mod EntryKind
+pub mod Gap
+pub mod Search
+pub mod VisitBounds
+pub mod Insertion
+pub mod Placing
+pub mod Node
+pub mod Walk
+pub mod Descent

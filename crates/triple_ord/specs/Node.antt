@@ -1,0 +1,18 @@
+-- Where an entry stands in the shape.
+use Rattle.std.specs.Prelude.{◌≡◌, ℕ, ◌⊎◌, Option}
+use Rattle.ord_tree.specs.Shape.{Shape, missing, node, root_of}
+use Rattle.ord_tree.specs.Parents.{HasParent}
+
+-- a shape is a part of another: the whole, or a part of one of its sides
+abbrev pub IsPart : Shape → Shape → Type 0
+IsPart part missing = part ≡ missing
+IsPart part (node l i k r) = (part ≡ node l i k r) ⊎ IsPart part l ⊎ IsPart part r
+
+-- the node of index i stands in the shape under this parent, over sides with these roots, and has this rank
+pub record IsNodeIn (shape : Shape) (i : ℕ) (parent lesser greater : Option ℕ) (rank : ℕ) : Type 0 where
+  pub lesser_side : Shape
+  pub greater_side : Shape
+  pub part : IsPart (node lesser_side i rank greater_side) shape
+  pub has_parent : HasParent shape i parent
+  pub lesser_root : lesser ≡ root_of lesser_side
+  pub greater_root : greater ≡ root_of greater_side

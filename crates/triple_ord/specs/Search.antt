@@ -1,0 +1,46 @@
+-- What a search by key answers on a list of entries: an equal entry that it met, or a gap that fits the key.
+use Rattle.std.specs.Prelude.{◌≡◌, ℕ, ◌≤◌, ◌⊎◌, List, [], Option, Some, None, IfSome, Contains}
+use Rattle.std.specs.declared.cmp.Ordering.{Ordering}
+use Rattle.std.specs.declared.cmp.Ordering.TheVariants.{Less, Equal, Greater}
+use Rattle.chain_base.specs.Chain.{Entry}
+use Rattle.triple_ord.specs.Gap.{Gap, before, after, neighbour_count}
+
+-- the index and the generation of an entry: its pointer's
+abbrev pub pointer : {T : Type 0} → Entry T → ℕ × ℕ
+pointer e = (e.index, e.generation)
+
+module _ {T K : Type 0} (key : T → K) (cmp : K → K → Ordering) where
+  -- how a key lies to an entry's key
+  abbrev pub order_to : K → Entry T → Ordering
+  order_to k e = cmp k (key e.item)
+
+  -- a gap fits a key where the entry before it, if any, has a lesser key, and the entry after it, if any, a greater one
+  pub record Fits {entries : List (Entry T)} (gap : Gap entries) (k : K) : Type 0 where
+    pub lesser_before : IfSome (before gap) (λ e. order_to k e ≡ Greater)
+    pub greater_after : IfSome (after gap) (λ e. order_to k e ≡ Less)
+
+  -- e is an entry of the list and has an equal key
+  pub record IsMet (entries : List (Entry T)) (k : K) (e : Entry T) : Type 0 where
+    pub within : Contains entries e
+    pub equal : order_to k e ≡ Equal
+
+  -- a search stops at a gap that fits the key, and has seen the gap's neighbours: its visits c are no fewer
+  pub record StopsAt {entries : List (Entry T)} (gap : Gap entries) (k : K) (c : ℕ) : Type 0 where
+    pub fits : Fits gap k
+    pub seen : neighbour_count gap ≤ c
+
+  -- e stands beside a gap at which the search stops
+  abbrev pub IsBeside : List (Entry T) → K → ℕ → Entry T → Type 0
+  IsBeside entries k c e = (gap : Gap entries) × StopsAt gap k c × ((before gap ≡ Some e) ⊎ (after gap ≡ Some e))
+
+  -- a search for an equal key with c visits: it answers the pointer of one that it met, or none where it stops at a gap that fits
+  abbrev pub FindsKey : List (Entry T) → K → Option (ℕ × ℕ) → ℕ → Type 0
+  FindsKey entries k None c = (gap : Gap entries) × StopsAt gap k c
+  FindsKey entries k (Some p) c = (e : Entry T) × (p ≡ pointer e) × IsMet entries k e × (1 ≤ c)
+
+  -- a search for a similar key: it answers the pointer of an equal entry that it met, or of an entry beside a gap that fits,
+  -- each with the order of k to its key, and none in an empty list alone
+  abbrev pub FindsSimilar : List (Entry T) → K → Option ((ℕ × ℕ) × Ordering) → ℕ → Type 0
+  FindsSimilar entries k None c = entries ≡ []
+  FindsSimilar entries k (Some answer) c =
+      (e : Entry T) × (answer ≡ (pointer e, order_to k e)) × (IsMet entries k e × (1 ≤ c) ⊎ IsBeside entries k c e)

@@ -1,0 +1,17 @@
+-- How few entries a search visits.
+use Rattle.std.specs.Prelude.{◌≡◌, ℕ, ◌+◌, ◌^◌, ◌<◌, ◌≤◌}
+use Rattle.ord_tree.specs.Shape.{Shape}
+use Rattle.ord_tree.specs.Ranks.{IsTight}
+use Rattle.ord_tree.specs.Numbers.{fib, HasDigits}
+use Rattle.ord_tree.specs.Half.{IsRebuilt}
+
+-- the bounds on the visits c of a search among n entries that hang in this shape
+pub record IsWithinBounds (n : ℕ) (shape : Shape) (c : ℕ) : Type 0 where
+  -- in any shape that keeps the rank rules, as every arena's does
+  pub ranked : 0 < n → 2 ^ (c + 1) ≤ (n + 1) ^ 2
+  -- in a tight shape: so it is while only insertions have come
+  pub tight : IsTight shape → fib (c + 2) ≤ n + 1
+  -- in a shape just rebuilt: as many as n has binary digits
+  pub rebuilt : IsRebuilt shape → (digits : ℕ) → HasDigits n digits → c ≤ digits
+  -- in an empty list
+  pub empty : n ≡ 0 → c ≡ 0

@@ -1,0 +1,79 @@
+//! `SimpleOrdArena`: an arena in the order of keys.
+ghost use Rattle.std.specs.Prelude.{◌≡◌, ◌==◌, length};
+ghost use Rattle.arena_base.specs.Generation.{IsLawfulGeneration};
+ghost use Rattle.chain_base.specs.Chain.{IsSound};
+ghost use Rattle.ord_tree.specs.Tree.{IsSoundTree};
+
+mod access;
+mod find;
+mod growth;
+mod insert;
+mod iter;
+mod neighbours;
+
+use arena_base::Ptr;
+pub use iter::Iter;
+use ord_tree::OrdTree;
+use std::alloc::{Allocator, Global};
+use std::marker::Model;
+
+/// Entries in the order of their keys, each found at once by its pointer, and by its key in a time logarithmic in their number.
+///
+/// An entry keeps its pointer while others come and go. The arena keeps its entries in one list, over which a rank-balanced tree
+/// stands (Haeupler, Sen and Tarjan, "Rank-balanced trees", 2015). Nothing is assumed of the order of the keys: an arena whose
+/// keys were misplaced is as safe as any, and a search in it meets an entry with an equal key, or stops between two neighbours
+/// of which the first has a lesser key and the second a greater one.
+#[derive(Drop)]
+pub struct SimpleOrdArena<P: Ptr, T, A: Allocator = Global> {
+    tree: OrdTree<P, T, A>,
+}
+
+impl<P: Ptr, T, A: Allocator> Model for SimpleOrdArena<P, T, A> {
+    ghost use Rattle.ord_tree.specs.Tree.{Tree, tree_code};
+
+    ghost Value = { Tree T };
+
+    ghost coded = { tree_code T.code };
+
+    ghost view = { λ a. a.tree };
+}
+
+impl<P: Ptr, T, A: Allocator> SimpleOrdArena<P, T, A> {
+    /// How many entries there is room for before the arena has to grow.
+    pub fn capacity(&self) -> usize
+        ensures { result ≡ self.now.list.capacity }
+    {
+        self.tree.chain().capacity()
+    }
+
+    /// The maximum that was set. The capacity never goes beyond it, nor beyond what the pointers' indexes can name.
+    pub fn max_capacity(&self) -> Option<usize>
+        ensures { result ≡ self.now.list.maximum }
+    {
+        self.tree.chain().max_capacity()
+    }
+
+    /// How many entries there are.
+    pub fn len(&self) -> usize
+        ensures value { result ≡ length self.now.list.entries }
+        ensures sound { IsSound P.Inx.most P.Gen.greatest self.now.list }
+        ensures tree { IsSoundTree self.now }
+    {
+        self.tree.len()
+    }
+
+    /// Whether there is no entry.
+    pub fn is_empty(&self) -> bool
+        ensures { result ≡ (length self.now.list.entries == 0) }
+    {
+        self.tree.is_empty()
+    }
+
+    /// The generation that the next entry gets.
+    pub fn generation(&self) -> P::Gen
+        ensures value { P.Gen.number result ≡ self.now.list.generation }
+        ensures lawful { IsLawfulGeneration P.Gen.greatest self.now.list.generation }
+    {
+        self.tree.chain().generation()
+    }
+}

@@ -1,0 +1,64 @@
+//! Searches by key.
+ghost use Rattle.std.specs.Prelude.{◌≡◌, ℕ, length};
+ghost use Rattle.std.specs.Option.{option_map};
+ghost use Rattle.triple_ord.specs.Search.{FindsKey, FindsSimilar};
+ghost use Rattle.triple_ord.specs.VisitBounds.{IsWithinBounds};
+
+use super::SimpleOrdArena;
+use crate::descent::descend;
+use crate::item::SimpleOrdItem;
+use crate::probe::Probe;
+use crate::visits::Visits;
+use arena_base::Ptr;
+use std::alloc::Allocator;
+use std::cmp::Ordering;
+
+impl<P: Ptr, T: SimpleOrdItem, A: Allocator> SimpleOrdArena<P, T, A> {
+    /// The pointer of an entry with an equal key that the search met.
+    ///
+    /// With `None` the search stopped at a gap of the list: the entry before it, if any, has a lesser key, and the one after it, if
+    /// any, a greater one. So no entry has an equal key where the keys are in order.
+    pub fn find_key(&self, k: &T::Key) -> Option<P>
+        ensures { (visits : ℕ) × FindsKey T.key_of T.Key.cmp self.now.list.entries k.now
+            (option_map (λ p. (P.index p, P.era p)) result) visits }
+    {
+        self.find_key_counted(k).0
+    }
+
+    /// `find_key`, and how many entries it visited: of n > 0 entries c with `2^(c+1) <= (n+1)^2`, and after insertions alone
+    /// `fib(c+2) <= n+1`.
+    pub fn find_key_counted(&self, k: &T::Key) -> (Option<P>, Visits)
+        ensures found { FindsKey T.key_of T.Key.cmp self.now.list.entries k.now
+            (option_map (λ p. (P.index p, P.era p)) result.0) result.1 }
+        ensures visits { IsWithinBounds (length self.now.list.entries) self.now.shape result.1 }
+    {
+        let (found, visits) = self.find_similar_key_counted(k);
+        match found {
+            None => (None, visits),
+            Some(similar) if similar.1.is_eq() => (Some(similar.0), visits),
+            Some(_) => (None, visits),
+        }
+    }
+
+    /// The pointer of the entry that the search met last, with the order of `k` to its key: an entry with an equal key, or one
+    /// beside a gap of the list that fits `k`. `None` only where there is no entry.
+    ///
+    /// A gap fits where the entry before it, if any, has a lesser key, and the one after it, if any, a greater one.
+    pub fn find_similar_key(&self, k: &T::Key) -> Option<(P, Ordering)>
+        ensures { (visits : ℕ) × FindsSimilar T.key_of T.Key.cmp self.now.list.entries k.now
+            (option_map (λ a. ((P.index a.0, P.era a.0), a.1)) result) visits }
+    {
+        self.find_similar_key_counted(k).0
+    }
+
+    /// `find_similar_key`, and how many entries it visited, within the bounds of `find_key_counted`.
+    pub fn find_similar_key_counted(&self, k: &T::Key) -> (Option<(P, Ordering)>, Visits)
+        ensures found { FindsSimilar T.key_of T.Key.cmp self.now.list.entries k.now
+            (option_map (λ a. ((P.index a.0, P.era a.0), a.1)) result.0) result.1 }
+        ensures visits { IsWithinBounds (length self.now.list.entries) self.now.shape result.1 }
+    {
+        let mut probe = Probe::new(&self.tree);
+        let found = descend(&mut probe, k);
+        (found, probe.visits())
+    }
+}

@@ -1,0 +1,77 @@
+//! Going through an arena in the order of its list.
+ghost use Rattle.std.specs.Prelude.{◌≡◌};
+ghost use Rattle.std.specs.Iterator.{YieldsFirstBy, item_count};
+
+use super::SimpleOrdArena;
+use arena_base::Ptr;
+use std::alloc::{Allocator, Global};
+use std::marker::Model;
+
+/// Gives the pointers and the items of an arena in the order of its list.
+#[derive(Drop)]
+pub struct Iter<'a, P: Ptr, T, A: Allocator = Global> {
+    arena: &'a SimpleOrdArena<P, T, A>,
+    // the index of the entry that comes next
+    at: Option<P::Inx>,
+}
+
+impl<'a, P: Ptr, T, A: Allocator> Model for Iter<'a, P, T, A> {
+    ghost use Rattle.std.specs.Prelude.{List};
+    ghost use Rattle.std.specs.Option.{option_map};
+    ghost use Rattle.std.specs.Coded.{coded_list};
+    ghost use Rattle.chain_base.specs.Chain.{Entry, IsDistinct};
+    ghost use Rattle.ord_tree.specs.Tree.{entry_code};
+
+    ghost Value = { List (Entry T) };
+
+    ghost coded = { coded_list (entry_code T.code) };
+
+    ghost use Rattle.triple_ord.specs.Walk.{entries_from};
+
+    ghost view = { λ i. entries_from i.arena.now.list.entries (option_map P.Inx.number i.at) };
+
+    ghost invariant = { λ i. IsDistinct i.arena.now.list.entries };
+}
+
+impl<P: Ptr, T, A: Allocator> SimpleOrdArena<P, T, A> {
+    /// The entries in the order of the list, each as its pointer and its item.
+    pub fn iter_ordered(&self) -> Iter<'_, P, T, A>
+        ensures { result ≡ self.now.list.entries }
+    {
+        // with its length an arena tells what holds of every list
+        let _ = self.len();
+        let at = match self.first() {
+            Some(p) => Some(p.inx()),
+            None => None,
+        };
+        Iter { arena: self, at }
+    }
+}
+
+impl<'a, P: Ptr, T, A: Allocator> Iterator for Iter<'a, P, T, A> {
+    type Item = (P, &'a T);
+
+    ghost next_gives = { YieldsFirstBy (λ x. record { index = P.index x.0; generation = P.era x.0; item = x.1.now }) (λ left. left) };
+
+    ghost remaining = { item_count (λ left. left) };
+
+    fn next(&mut self) -> Option<(P, &'a T)> {
+        let i = self.at?;
+        let entry = self.arena.get_inx_link_no_gen(i)?;
+        let link = entry.1;
+        self.at = link.next();
+        Some((P::_from_raw(i, entry.0), link.t))
+    }
+}
+
+impl<'a, P: Ptr, T, A: Allocator> IntoIterator for &'a SimpleOrdArena<P, T, A> {
+    type Item = (P, &'a T);
+
+    type IntoIter = Iter<'a, P, T, A>;
+
+    ghost into_iter_gives = { λ a i. i ≡ a.now.list.entries };
+
+    fn into_iter(self) -> Iter<'a, P, T, A> {
+        self.iter_ordered()
+    }
+}

@@ -1,0 +1,50 @@
+//! The ends of the list, and the neighbours of an entry in the list and in the tree.
+ghost use Rattle.std.specs.Prelude.{◌≡◌, IfSome};
+ghost use Rattle.std.specs.Option.{option_map};
+ghost use Rattle.chain_base.specs.Chain.{link_at, first_pointer, last_pointer};
+ghost use Rattle.triple_ord.specs.Node.{IsNodeIn};
+
+use super::SimpleOrdArena;
+use arena_base::Ptr;
+use chain_base::LinkNoGen;
+use ord_tree::SimpleOrdArenaNode;
+use std::alloc::Allocator;
+
+impl<P: Ptr, T, A: Allocator> SimpleOrdArena<P, T, A> {
+    /// The pointer of the first entry of the list.
+    pub fn first(&self) -> Option<P>
+        ensures { option_map (λ p. (P.index p, P.era p)) result ≡ first_pointer self.now.list.entries }
+    {
+        self.tree.chain().first()
+    }
+
+    /// The pointer of the last entry of the list.
+    pub fn last(&self) -> Option<P>
+        ensures { option_map (λ p. (P.index p, P.era p)) result ≡ last_pointer self.now.list.entries }
+    {
+        self.tree.chain().last()
+    }
+
+    /// Generation, item and neighbours in the list of the entry at the index.
+    pub fn get_inx_link_no_gen(&self, p: P::Inx) -> Option<(P::Gen, LinkNoGen<P, &T>)>
+        ensures { option_map (λ e. (P.Gen.number e.0, (record { item = e.1.item.now; prev = e.1.prev; next = e.1.next }))) result
+            ≡ link_at self.now.list.entries (P.Inx.number p) }
+    {
+        let entry = self.get_inx_node(p)?;
+        let link = entry.1;
+        Some((entry.0, LinkNoGen::new(link.prev_next(), &link.t.t)))
+    }
+
+    /// Generation and node of the entry at the index: its item, its neighbours in the list, and its place in the tree.
+    pub fn get_inx_node(
+        &self,
+        p: P::Inx,
+    ) -> Option<(P::Gen, &LinkNoGen<P, SimpleOrdArenaNode<P, T>>)>
+        ensures entry { option_map (λ e. (P.Gen.number e.0, (record { item = e.1.now.item.t; prev = e.1.now.prev; next = e.1.now.next }))) result
+            ≡ link_at self.now.list.entries (P.Inx.number p) }
+        ensures node { IfSome result (λ e. IsNodeIn self.now.shape (P.Inx.number p) (option_map P.Inx.number e.1.now.item.p_back)
+            (option_map P.Inx.number e.1.now.item.p_tree0) (option_map P.Inx.number e.1.now.item.p_tree1) e.1.now.item.rank) }
+    {
+        self.tree.chain().arena().get_inx(p)
+    }
+}

@@ -1,0 +1,24 @@
+//! `OrdEntryKind`: whether an entry is new or replaces another's item.
+ghost use Rattle.std.specs.Prelude.{◌≡◌};
+ghost use Rattle.triple_ord.specs.EntryKind.{pointer_of};
+
+/// The pointer of an entry, and whether an insertion makes it new or replaces the item that it has.
+#[derive(Debug, Clone, Copy, PartialEq, Eq)]
+pub enum OrdEntryKind<P> {
+    /// The entry is new.
+    New(P),
+    /// The entry was there, and its item is replaced.
+    Replacing(P),
+}
+
+impl<P> OrdEntryKind<P> {
+    /// The pointer, whichever it is.
+    pub fn any(self) -> P
+        ensures { result ≡ pointer_of self }
+    {
+        match self {
+            OrdEntryKind::New(p) => p,
+            OrdEntryKind::Replacing(p) => p,
+        }
+    }
+}

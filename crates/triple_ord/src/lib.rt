@@ -1,0 +1,20 @@
+//! Ordered arenas: entries that are found by a stable pointer at once and by their key in logarithmic time.
+#![tactic(auto)]
+
+mod arena;
+mod descent;
+mod entry_kind;
+mod error;
+mod item;
+mod pair;
+mod probe;
+#[cfg(test)]
+mod tests;
+mod visits;
+
+pub use arena::{Iter, SimpleOrdArena};
+pub use entry_kind::OrdEntryKind;
+pub use error::OrdInsertionError;
+pub use item::SimpleOrdItem;
+pub use pair::OrdPair;
+pub use visits::Visits;

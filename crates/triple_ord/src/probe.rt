@@ -1,0 +1,62 @@
+//! `Probe`: what a search sees of an arena, entry by entry, each one counted.
+ghost use Rattle.std.specs.Prelude.{◌≡◌, ◌+◌, ◌<◌, ◌^◌, IsSome};
+ghost use Rattle.std.specs.Option.{option_map};
+ghost use Rattle.chain_base.specs.Chain.{entry_at, IsDistinct};
+ghost use Rattle.ord_tree.specs.Shape.{root_of, height};
+ghost use Rattle.ord_tree.specs.Tree.{IsSoundTree};
+ghost use Rattle.triple_ord.specs.Descent.{IsShown};
+
+use crate::visits::Visits;
+use arena_base::Ptr;
+use ord_tree::{OrdTree, SimpleOrdArenaNode};
+use std::alloc::Allocator;
+
+/// Shows the entries of a tree to a search. A search is handed a probe and never the tree, and each entry that it sees is
+/// counted.
+#[derive(Drop)]
+pub(crate) struct Probe<'a, P: Ptr, T, A: Allocator> {
+    tree: &'a OrdTree<P, T, A>,
+    visits: u128,
+}
+
+impl<'a, P: Ptr, T, A: Allocator> Probe<'a, P, T, A> {
+    /// A probe that has shown nothing yet.
+    pub fn new(tree: &'a OrdTree<P, T, A>) -> Self
+        ensures tree { result.tree.now ≡ tree.now }
+        ensures none { result.visits ≡ 0 }
+    {
+        Probe { tree, visits: 0 }
+    }
+
+    /// The index at which a descent begins, `None` where there is no entry.
+    pub fn root(&self) -> Option<P::Inx>
+        ensures root { option_map P.Inx.number result ≡ root_of self.now.tree.now.shape }
+        ensures distinct { IsDistinct self.now.tree.now.list.entries }
+        ensures sound { IsSoundTree self.now.tree.now }
+        ensures few { height self.now.tree.now.shape < 2 ^ 64 }
+    {
+        // with its length a tree tells what holds of every tree
+        let _ = self.tree.len();
+        self.tree.root()
+    }
+
+    /// How many entries were shown.
+    pub fn visits(&self) -> Visits
+        ensures { result ≡ self.now.visits }
+    {
+        Visits::new(self.visits)
+    }
+
+    /// Shows the entry at the index: its generation, and its node with the item and the roots of its sides.
+    pub fn show(&mut self, i: P::Inx) -> (P::Gen, &'a SimpleOrdArenaNode<P, T>)
+        requires occupied { IsSome (entry_at self.old.tree.now.list.entries (P.Inx.number i)) }
+        requires room { self.old.visits + 1 < 2 ^ 128 }
+        ensures shown { IsShown self.old.tree.now (P.Inx.number i) (P.Gen.number result.0) result.1.now.t
+            (option_map P.Inx.number result.1.now.p_tree0) (option_map P.Inx.number result.1.now.p_tree1) }
+        ensures counted { self.new.visits ≡ self.old.visits + 1 }
+        ensures tree { self.new.tree.now ≡ self.old.tree.now }
+    {
+        self.visits += 1;
+        self.tree.chain().get_inx(i).unwrap()
+    }
+}

@@ -1,0 +1,232 @@
+//! Arenas of keys, as a program sees them.
+ghost use Rattle.std.proofs.Common.{rules};
+ghost use Rattle.std.specs.Cmp.{partial_order_from_own_ties};
+ghost use Rattle.std.specs.Cmp.Rules.{comparing};
+ghost use Rattle.std.specs.Ordering.{nat_cmp, on, as_partial_cmp};
+
+use crate::{OrdEntryKind, OrdInsertionError, OrdPair, SimpleOrdArena, SimpleOrdItem};
+use arena_base::{P0, P8, PN, Ptr};
+use std::alloc::{AllocError, Global};
+use std::cell::Cell;
+use std::cmp::Ordering;
+use std::test::Fail;
+
+type Keys = SimpleOrdArena<P0, OrdPair<u64, ()>>;
+
+/// An arena with these keys, inserted in this order.
+fn keys(alloc: Global, list: &[u64]) -> Result<Keys, OrdInsertionError> {
+    let mut a = SimpleOrdArena::new(alloc);
+    for k in list {
+        let _ = a.insert(OrdPair::new(*k, ()))?;
+    }
+    Ok(a)
+}
+
+/// The indexes in the order of the list, each with the rank of its node.
+fn ranks(alloc: Global, a: &Keys) -> Result<Vec<(u32, u8)>, AllocError> {
+    let mut ranks = Vec::new(alloc);
+    for (p, _) in a {
+        if let Some(entry) = a.get_inx_node(p.inx()) {
+            let node = entry.1;
+            ranks.push((p.inx(), node.t.rank))?;
+        }
+    }
+    Ok(ranks)
+}
+
+/// Index and generation of a pointer.
+fn numbers(p: Option<P0>) -> Option<(u32, u64)> {
+    let p = p?;
+    Some((p.inx(), p.generation()))
+}
+
+#[test]
+fn five_keys(rt: HostRuntime) -> Result<(), Fail> {
+    let a = keys(rt.alloc(), &[50, 30, 70, 60, 10])?;
+    assert_eq!(rt; a.len(), 5);
+    assert_eq!(rt; a.capacity(), 8);
+    assert_eq!(rt; a.max_capacity(), None);
+    assert_eq!(rt; a.generation(), 2);
+    assert_eq!(rt; numbers(a.first()), Some((5, 2)));
+    assert_eq!(rt; numbers(a.last()), Some((3, 2)));
+    assert_eq!(rt; numbers(a.find_key(&50)), Some((1, 2)));
+    let order = [(5u32, 1u8), (2, 2), (1, 3), (4, 1), (3, 2)];
+    assert_eq!(rt; ranks(rt.alloc(), &a)?.as_slice(), order.as_slice());
+    Ok(())
+}
+
+#[test]
+fn similar_keys(rt: HostRuntime) -> Result<(), Fail> {
+    let a = keys(rt.alloc(), &[50, 30, 70, 60, 10])?;
+    let (near_53, visits_53) = a.find_similar_key_counted(&53);
+    let (p53, order_53) = near_53.ok_or("53")?;
+    assert_eq!(rt; (p53.inx(), order_53), (4, Ordering::Less));
+    assert_eq!(rt; visits_53.count(), 3);
+    let (near_40, visits_40) = a.find_similar_key_counted(&40);
+    let (p40, order_40) = near_40.ok_or("40")?;
+    assert_eq!(rt; (p40.inx(), order_40), (2, Ordering::Greater));
+    assert_eq!(rt; visits_40.count(), 2);
+    let link = a.get_inx_link_no_gen(4).ok_or("60")?;
+    assert_eq!(rt; link.1.prev_next(), (Some(1), Some(3)));
+    assert!(rt; a.find_key(&53).is_none());
+    Ok(())
+}
+
+#[test]
+fn keys_in_order(rt: HostRuntime) -> Result<(), Fail> {
+    let three = keys(rt.alloc(), &[1, 2, 3])?;
+    let of_three = [(1u32, 1u8), (2, 2), (3, 1)];
+    assert_eq!(rt; ranks(rt.alloc(), &three)?.as_slice(), of_three.as_slice());
+    let seven = keys(rt.alloc(), &[1, 2, 3, 4, 5, 6, 7])?;
+    let of_seven = [(1u32, 1u8), (2, 2), (3, 1), (4, 3), (5, 1), (6, 2), (7, 1)];
+    assert_eq!(rt; ranks(rt.alloc(), &seven)?.as_slice(), of_seven.as_slice());
+    Ok(())
+}
+
+#[test]
+fn equal_keys_replace(rt: HostRuntime) -> Result<(), Fail> {
+    let mut a: SimpleOrdArena<P8, OrdPair<u64, u64>> = SimpleOrdArena::new(rt.alloc());
+    let (p, none) = a.insert(OrdPair::new(7, 1))?;
+    assert!(rt; none.is_none());
+    let (q, before) = a.insert_reallocating(OrdPair::new(7, 2))?;
+    assert!(rt; p == q);
+    let old = before.ok_or("replaced")?;
+    assert_eq!(rt; *old.v(), 1);
+    let new = a.get(p).ok_or("there")?;
+    assert_eq!(rt; *new.v(), 2);
+    assert_eq!(rt; a.len(), 1);
+    Ok(())
+}
+
+/// A key that counts the comparisons in which it stands first.
+#[derive(Clone, Copy)]
+#[derive_where(PartialEq, Eq)]
+struct Counting<'a> {
+    key: u64,
+    #[derive_where(skip(EqHashOrd))]
+    comparisons: &'a Cell<u128>,
+}
+
+impl Ord for Counting<'_> {
+    ghost cmp = { on (λ c. c.key) nat_cmp };
+
+    ghost total = { Prim.search (comparing, rules) };
+
+    ghost matches_partial_cmp = { Prim.search (comparing, rules) };
+
+    ghost matches_eq = { Prim.search (comparing, rules) };
+
+    fn cmp(&self, other: &Self) -> Ordering {
+        self.comparisons.set(self.comparisons.get().wrapping_add(1));
+        self.key.cmp(&other.key)
+    }
+}
+
+impl PartialOrd for Counting<'_> {
+    ghost partial_cmp = { as_partial_cmp (on (λ c. c.key) nat_cmp) };
+
+    ghost laws = { partial_order_from_own_ties (Prim.search (comparing, rules)) (Prim.search (comparing, rules)) };
+
+    fn partial_cmp(&self, other: &Self) -> Option<Ordering> {
+        Some(self.cmp(other))
+    }
+}
+
+/// An item that is nothing but its key.
+#[derive(Drop)]
+struct Sole<'a> {
+    key: Counting<'a>,
+}
+
+impl<'a> SimpleOrdItem for Sole<'a> {
+    type Key = Counting<'a>;
+
+    ghost key_of = { λ s. s.key };
+
+    fn key(&self) -> &Counting<'a> {
+        &self.key
+    }
+}
+
+/// How many comparisons there were since the last time.
+fn taken(comparisons: &Cell<u128>) -> u128 {
+    comparisons.replace(0)
+}
+
+#[test]
+fn visits_are_comparisons(rt: HostRuntime) -> Result<(), Fail> {
+    let made = Cell::new(0u128);
+    let comparisons = &made;
+    let mut a: SimpleOrdArena<PN, Sole> = SimpleOrdArena::new(rt.alloc());
+    for key in [50u64, 30, 70, 60, 10] {
+        let _ = a.insert(Sole {
+            key: Counting { key, comparisons },
+        })?;
+    }
+    for key in [50u64, 30, 70, 60, 10, 53, 40, 5, 99] {
+        let wanted = Counting { key, comparisons };
+        let _ = taken(comparisons);
+        let (found, visits) = a.find_key_counted(&wanted);
+        assert_eq!(rt; taken(comparisons), visits.count());
+        assert_eq!(rt; a.find_key(&wanted), found);
+        assert_eq!(rt; taken(comparisons), visits.count());
+        let (similar, similar_visits) = a.find_similar_key_counted(&wanted);
+        assert_eq!(rt; taken(comparisons), similar_visits.count());
+        assert_eq!(rt; similar_visits.count(), visits.count());
+        assert_eq!(rt; a.find_similar_key(&wanted).is_some(), similar.is_some());
+        assert_eq!(rt; taken(comparisons), visits.count());
+        let _ = a.insert(Sole { key: wanted })?;
+        assert_eq!(rt; taken(comparisons), visits.count());
+    }
+    Ok(())
+}
+
+#[test]
+fn empty_arena(rt: HostRuntime) -> Result<(), Fail> {
+    let a: Keys = SimpleOrdArena::with_min_capacity(rt.alloc(), 3)?;
+    assert!(rt; a.is_empty());
+    assert_eq!(rt; a.capacity(), 3);
+    assert!(rt; a.first().is_none());
+    assert!(rt; a.last().is_none());
+    assert!(rt; a.iter_ordered().next().is_none());
+    let (found, visits) = a.find_similar_key_counted(&1);
+    assert!(rt; found.is_none());
+    assert_eq!(rt; visits.count(), 0);
+    let too_many: Result<SimpleOrdArena<P8, OrdPair<u64, ()>>, AllocError> =
+        SimpleOrdArena::with_min_capacity(rt.alloc(), 255);
+    assert!(rt; too_many.is_err());
+    Ok(())
+}
+
+#[test]
+fn pointers_and_items(rt: HostRuntime) -> Result<(), Fail> {
+    let mut a: SimpleOrdArena<P0, OrdPair<i64, u8>> = SimpleOrdArena::new(rt.alloc());
+    let (p, _) = a.insert(OrdPair::new(-3, 8))?;
+    assert!(rt; a.contains(p));
+    assert!(rt; !a.contains(P0::invalid()));
+    assert!(rt; a.get(P0::invalid()).is_none());
+    let found = a.get_inx(p.inx()).ok_or("index")?;
+    assert_eq!(rt; found.0, 2);
+    assert_eq!(rt; *found.1.k(), -3);
+    let mut pair = OrdPair::new(1u8, 2u8);
+    *pair.v_mut() = 5;
+    assert_eq!(rt; format!(in rt.alloc(); "{pair:?}")?.as_str(), "(1, 5)");
+    assert_eq!(rt; pair.into_k_v(), (1, 5));
+    assert_eq!(rt; OrdEntryKind::Replacing(7u8).any(), 7);
+    Ok(())
+}
+
+#[test]
+fn eight_bit_pointers_run_out(rt: HostRuntime) -> Result<(), Fail> {
+    let mut a: SimpleOrdArena<P8, OrdPair<u64, ()>> = SimpleOrdArena::new(rt.alloc());
+    for k in 0u64..254 {
+        let _ = a.insert(OrdPair::new(k, ()))?;
+    }
+    assert_eq!(rt; a.len(), 254);
+    assert_eq!(rt; a.capacity(), 254);
+    let refused = a.insert(OrdPair::new(999, ()));
+    assert_eq!(rt; refused.err(), Some(OrdInsertionError::BeyondMaxCapacity));
+    let (_, before) = a.insert(OrdPair::new(9, ()))?;
+    assert!(rt; before.is_some());
+    Ok(())
+}
