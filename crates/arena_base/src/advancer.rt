@@ -3,6 +3,7 @@ ghost use Rattle.std.specs.Prelude.{Option, IsNone};
 
 /// Goes through a collection, which may be changed between two steps.
 pub trait Advancer<C> {
+    /// What each step gives.
     type Item;
 
     // a step over the collection gave this, and left the advancer so

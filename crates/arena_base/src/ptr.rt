@@ -85,8 +85,10 @@ pub trait PtrGen: Copy + Eq + Debug {
 
 /// A pointer to an entry of an arena: the entry's index, and the generation that the entry has.
 pub trait Ptr: Copy + Eq + Ord + Hash + Debug {
+    /// The type of its index.
     type Inx: PtrInx;
 
+    /// The type of its generation.
     type Gen: PtrGen;
 
     // the number of its index
@@ -108,6 +110,7 @@ pub trait Ptr: Copy + Eq + Ord + Hash + Debug {
         ensures index { index result ≡ Self.Inx.most + 1 }
         ensures era { era result ≡ invalid_generation Self.Gen.greatest };
 
+    /// The pointer of these numbers, whether they name an entry or not.
     #[doc(hidden)]
     fn _from_raw(inx: Self::Inx, generation: Self::Gen) -> Self
         ensures index { index result ≡ Self.Inx.number inx }

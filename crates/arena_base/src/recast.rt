@@ -3,6 +3,7 @@ ghost use Rattle.std.specs.Prelude.{Result};
 
 /// Something that knows what to put in an item's place.
 pub trait Recaster {
+    /// What it replaces.
     type Item;
 
     // what an item may be afterwards, and what is answered of it

@@ -1,10 +1,11 @@
-//! The pointer types.
+//! The pointer types. In contracts a pointer is the pair of its index and its generation, one without generations its index.
 ghost use Rattle.std.specs.Prelude.{refl};
 ghost use Rattle.std.proofs.Common.{ap, ◌∙◌};
 
 use super::Ptr;
 use crate::recast::{Recast, Recaster};
 use std::fmt;
+use std::marker::Model;
 
 /// The usual pointer: more than four thousand million indexes, and generations that never run out.
 #[derive(Clone, Copy, PartialEq, Eq, PartialOrd, Ord, Hash)]
@@ -13,16 +14,26 @@ pub struct P0 {
     generation: u64,
 }
 
+impl Model for P0 {
+    ghost use Rattle.std.specs.Prelude.{ℕ};
+
+    ghost Value = { ℕ × ℕ };
+
+    ghost view = { λ p. (p.inx, p.generation) };
+
+    ghost inverse = { λ p. record { inx = p.0; generation = p.1 } };
+}
+
 impl Ptr for P0 {
     type Inx = u32;
 
     type Gen = u64;
 
-    ghost index = { λ p. p.inx };
+    ghost index = { λ p. p.0 };
 
-    ghost era = { λ p. p.generation };
+    ghost era = { λ p. p.1 };
 
-    ghost one_each = { λ p q i g. ap (λ a. record p { inx = a }) i ∙ ap (λ b. record q { generation = b }) g };
+    ghost one_each = { λ p q i g. ap (λ a. (a, p.1)) i ∙ ap (λ b. (q.0, b)) g };
 
     ghost eq_is = { λ p q. refl };
 
@@ -67,16 +78,26 @@ pub struct Q0 {
     generation: u64,
 }
 
+impl Model for Q0 {
+    ghost use Rattle.std.specs.Prelude.{ℕ};
+
+    ghost Value = { ℕ × ℕ };
+
+    ghost view = { λ p. (p.inx, p.generation) };
+
+    ghost inverse = { λ p. record { inx = p.0; generation = p.1 } };
+}
+
 impl Ptr for Q0 {
     type Inx = u32;
 
     type Gen = u64;
 
-    ghost index = { λ p. p.inx };
+    ghost index = { λ p. p.0 };
 
-    ghost era = { λ p. p.generation };
+    ghost era = { λ p. p.1 };
 
-    ghost one_each = { λ p q i g. ap (λ a. record p { inx = a }) i ∙ ap (λ b. record q { generation = b }) g };
+    ghost one_each = { λ p q i g. ap (λ a. (a, p.1)) i ∙ ap (λ b. (q.0, b)) g };
 
     ghost eq_is = { λ p q. refl };
 
@@ -121,16 +142,26 @@ pub struct P8 {
     generation: u8,
 }
 
+impl Model for P8 {
+    ghost use Rattle.std.specs.Prelude.{ℕ};
+
+    ghost Value = { ℕ × ℕ };
+
+    ghost view = { λ p. (p.inx, p.generation) };
+
+    ghost inverse = { λ p. record { inx = p.0; generation = p.1 } };
+}
+
 impl Ptr for P8 {
     type Inx = u8;
 
     type Gen = u8;
 
-    ghost index = { λ p. p.inx };
+    ghost index = { λ p. p.0 };
 
-    ghost era = { λ p. p.generation };
+    ghost era = { λ p. p.1 };
 
-    ghost one_each = { λ p q i g. ap (λ a. record p { inx = a }) i ∙ ap (λ b. record q { generation = b }) g };
+    ghost one_each = { λ p q i g. ap (λ a. (a, p.1)) i ∙ ap (λ b. (q.0, b)) g };
 
     ghost eq_is = { λ p q. refl };
 
@@ -175,16 +206,26 @@ pub struct PN {
     generation: (),
 }
 
+impl Model for PN {
+    ghost use Rattle.std.specs.Prelude.{ℕ};
+
+    ghost Value = { ℕ };
+
+    ghost view = { λ p. p.inx };
+
+    ghost inverse = { λ n. record { inx = n; generation = tt } };
+}
+
 impl Ptr for PN {
     type Inx = u32;
 
     type Gen = ();
 
-    ghost index = { λ p. p.inx };
+    ghost index = { λ p. p };
 
     ghost era = { λ p. 0 };
 
-    ghost one_each = { λ p q i g. ap (λ a. record p { inx = a }) i };
+    ghost one_each = { λ p q i g. i };
 
     ghost eq_is = { λ p q. refl };
 
