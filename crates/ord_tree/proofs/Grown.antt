@@ -1,10 +1,9 @@
 -- An insertion: from the chain's new entry to the tree with it.
-use Rattle.std.proofs.Common.{◌≡◌, ◌≢◌, ℕ, ◌+◌, ◌<◌, ◌≤◌, ◌^◌, Option, Some, None, List, [], ◌∷◌, map, length, arith, refl, sym, ◌∙◌, ap, subst, inl, is_some, true, false, option_map, MatchOption, slice_get, cond, Bool}
+use Rattle.std.proofs.Common.{◌≡◌, ◌≢◌, ℕ, ◌+◌, ◌<◌, ◌^◌, Option, Some, None, List, [], ◌∷◌, map, length, arith, refl, sym, ◌∙◌, ap, subst, inl, is_some, true, false, option_map, MatchOption, slice_get, cond, Bool}
 use Rattle.std.proofs.lemmas.Bool.{eq-eqb}
 use Rattle.std.proofs.lemmas.List.{length-map}
 use Rattle.std.specs.declared.cmp.Ordering.{Ordering}
 use Rattle.std.specs.declared.cmp.Ordering.TheVariants.{Less, Equal, Greater}
-use Rattle.arena_base.specs.Arena.{limit_of}
 use Rattle.chain_base.specs.Chain.{Entry, Chain, entry_at, times as entry_times, IsFresh, IsSound, IsDistinct, next_index, inserted, with_room, with_capacity, grown_capacity}
 use Rattle.chain_base.specs.Insert.{placed, CanPlace, IsInsertion}
 use Rattle.chain_base.specs.declared.chain.insert.LinkInsertKind.{LinkInsertKind}
@@ -24,7 +23,7 @@ use Rattle.ord_tree.proofs.Slack.{IsRanked-balanced, IsBalanced-ranked, IsTight-
 use Rattle.ord_tree.proofs.Forks.{times-walk, apart-from}
 use Rattle.ord_tree.proofs.Frames.{Holds-frame}
 use Rattle.ord_tree.proofs.Views.{MovesAtMost-backs}
-use Rattle.ord_tree.proofs.Trees.{times-bare, indexes-bare, vacant_among-bare, bare-with_capacity, shape_in-held, is_some-bare}
+use Rattle.ord_tree.proofs.Trees.{times-bare, indexes-bare, vacant_among-bare, bare-with_capacity, shape_in-held, is_some-bare, limit_of-le}
 use Rattle.ord_tree.proofs.Planting.{times-indexes, IsOnce-distinct, within-occupied}
 use Rattle.ord_tree.proofs.Spots.{times-beside-ge, length-beside_in}
 use Rattle.ord_tree.proofs.Puts.{put-same, put-other, put-indexes, put-bare}
@@ -104,10 +103,6 @@ module _ {P T I G : Type 0} where
         after = kept ∙ ap bare h.after ∙ bare_inserted old place put item same;
         fresh = subst Fresh (sym kept) (λ fresh. bare_fresh new (h.fresh (IsFresh-bare old fresh)));
       }
-
-limit_of-le : (most : ℕ) (maximum : Option ℕ) → limit_of most maximum ≤ most
-limit_of-le most None = omega arith
-limit_of-le most (Some m) = omega arith
 
 -- the tree with the new entry beside another
 module _ {P T I G : Type 0} (number : I → ℕ) (c d : Chain (SimpleOrdArenaNode P T I G)) (root : Option ℕ) (at : I × Ordering) (x g : ℕ) (leaf : SimpleOrdArenaNode P T I G)

@@ -21,4 +21,6 @@ pub mod Trees
 pub mod Planting
 pub mod Puts
 pub mod Grown
+pub mod Shrunk
+pub mod Renewed
 pub mod Displacing

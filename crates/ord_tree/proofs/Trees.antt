@@ -1,10 +1,10 @@
 -- A tree that lies in a chain: what its view is, and what changes of the chain keep it.
-use Rattle.std.proofs.Common.{◌≡◌, ◌≢◌, ℕ, zero, suc, ◌+◌, ◌≤◌, Option, Some, None, List, [], ◌∷◌, map, length, arith, refl, sym, ◌∙◌, ap, subst, ⊎_elim, is_some, option_map, max, Result, Ok, Err, OnOk, OnErr}
+use Rattle.std.proofs.Common.{◌≡◌, ◌≢◌, ℕ, zero, suc, ◌+◌, ◌≤◌, Option, Some, None, List, [], ◌∷◌, map, length, arith, refl, sym, ◌∙◌, ap, subst, ⊎_elim, is_some, option_map, max, Result, Ok, Err, OnOk, OnErr, OnSome, IfNone, true}
 use Rattle.std.proofs.lemmas.Bool.{cases_eq, eq-eqb, ne_eqb}
 use Rattle.std.proofs.lemmas.List.{length-map}
 use Rattle.chain_base.specs.Chain.{Entry, Chain, entry_at, times, with_item, with_item_at, vacant_among, with_capacity, greatest_index, IsSound}
 use Rattle.std.specs.Option.{ForSome}
-use Rattle.arena_base.specs.Arena.{how_often}
+use Rattle.arena_base.specs.Arena.{how_often, limit_of}
 use Rattle.arena_base.specs.Generation.{IsLawfulGeneration}
 use Rattle.ord_tree.specs.declared.node.SimpleOrdArenaNode.{SimpleOrdArenaNode}
 use Rattle.ord_tree.specs.Shape.{Shape, missing, node, size_of, height, walk}
@@ -33,6 +33,36 @@ on_ok (Err y) A B ok f = ok
 pub on_err : {X Y : Type 0} (r : Result X Y) (A B : Type 0) → OnErr r A → (A → B) → OnErr r B
 on_err (Ok x) A B err f = err
 on_err (Err y) A B err f = f err
+
+-- what an option doesn't decide
+pub either_option : {X : Type 0} (o : Option X) (A : Type 0) → OnSome o A → IfNone o A → A
+either_option None A some none = none
+either_option (Some x) A some none = some
+
+pub on_some : {X : Type 0} (o : Option X) (A B : Type 0) → OnSome o A → (A → B) → OnSome o B
+on_some None A B some f = some
+on_some (Some x) A B some f = f some
+
+pub if_none : {X : Type 0} (o : Option X) (A B : Type 0) → IfNone o A → (A → B) → IfNone o B
+if_none None A B none f = f none
+if_none (Some x) A B none f = none
+
+pub on_there : {X : Type 0} (o : Option X) (A : Type 0) → is_some o ≡ true → OnSome o A → A
+on_there None A there some = absurd cc
+on_there (Some x) A there some = some
+
+pub owed_some : {X : Type 0} (o : Option X) (A : Type 0) → A → OnSome o A
+owed_some None A a = tt
+owed_some (Some x) A a = a
+
+pub not_none : {X : Type 0} (o : Option X) (A : Type 0) → is_some o ≡ true → IfNone o A
+not_none None A there = absurd cc
+not_none (Some x) A there = tt
+
+-- a limit is within what pointers can name
+pub limit_of-le : (most : ℕ) (maximum : Option ℕ) → limit_of most maximum ≤ most
+limit_of-le most None = omega arith
+limit_of-le most (Some m) = omega arith
 
 height-le-size : (s : Shape) → height s ≤ size_of s
 height-le-size missing = omega arith
@@ -124,24 +154,29 @@ module _ {P T I G : Type 0} where
       ap (λ (l : Chain T). record { list = l; shape = shape_in number c root })
       (bare-with_capacity c (max n (greatest_index c.entries)) ∙ ap (λ (k : ℕ). with_capacity (bare c) (max n k)) (sym (greatest_index-bare c.entries)))
 
+  -- the shape depends on the links and the order of the nodes alone
+  module _ (number : I → ℕ) (c d : Chain (SimpleOrdArenaNode P T I G)) (root : Option ℕ) (links : (j : ℕ) → slots_of number d j ≡ slots_of number c j) (order : indexes d.entries ≡ indexes c.entries)
+      (h : IsLaidOut number c root (shape_in number c root)) where
+    held-linked : Holds (slots_of number d) None root (shape_in number c root)
+    held-linked = Holds-same (slots_of number c) (slots_of number d) links (shape_in number c root) None root h.held
+
+    pub shape_in-linked : shape_in number d root ≡ shape_in number c root
+    shape_in-linked = shape_in-held number d root (shape_in number c root) held-linked (h.listed ∙ sym order)
+
+    pub IsLaidOut-linked : IsLaidOut number d root (shape_in number d root)
+    IsLaidOut-linked =
+        let Laid : Shape → Type 0 = λ s. IsLaidOut number d root s in
+        subst Laid (sym shape_in-linked) (record { held = held-linked; listed = h.listed ∙ sym order; ranked = h.ranked })
+
   -- another item
   pub IsLaidOut-below : (number : I → ℕ) (c : Chain (SimpleOrdArenaNode P T I G)) (root : Option ℕ) (i : ℕ) (x : T) → IsLaidOut number c root (shape_in number c root)
       → IsLaidOut number (with_node_item c i x) root (shape_in number (with_node_item c i x) root)
-  IsLaidOut-below number c root i x h =
-      let s = shape_in number c root in
-      let held = Holds-same (slots_of number c) (slots_of number (with_node_item c i x)) (λ j. entry_at-below c.entries i j x number) s None root h.held in
-      let listed = h.listed ∙ sym (indexes-below c.entries i x) in
-      let same = shape_in-held number (with_node_item c i x) root s held listed in
-      let Laid : Shape → Type 0 = λ t. IsLaidOut number (with_node_item c i x) root t in
-      subst Laid (sym same) (record { held = held; listed = listed; ranked = h.ranked })
+  IsLaidOut-below number c root i x h = IsLaidOut-linked number c (with_node_item c i x) root (λ j. entry_at-below c.entries i j x number) (indexes-below c.entries i x) h
 
   pub tree_of-below : (number : I → ℕ) (c : Chain (SimpleOrdArenaNode P T I G)) (root : Option ℕ) (i : ℕ) (x : T) → IsLaidOut number c root (shape_in number c root)
       → tree_of number (with_node_item c i x) root ≡ with_item_in (tree_of number c root) i x
   tree_of-below number c root i x h =
-      let s = shape_in number c root in
-      let held = Holds-same (slots_of number c) (slots_of number (with_node_item c i x)) (λ j. entry_at-below c.entries i j x number) s None root h.held in
-      let listed = h.listed ∙ sym (indexes-below c.entries i x) in
-      let same = shape_in-held number (with_node_item c i x) root s held listed in
+      let same = shape_in-linked number c (with_node_item c i x) root (λ j. entry_at-below c.entries i j x number) (indexes-below c.entries i x) h in
       ap (λ (es : List (Entry T)). record { list = record { entries = es; capacity = c.capacity; vacant = c.vacant; generation = c.generation; maximum = c.maximum }; shape = shape_in number (with_node_item c i x) root }) (bare-below c.entries i x)
       ∙ ap (λ (t : Shape). record { list = with_item_at (bare c) i x; shape = t }) same
 

@@ -66,6 +66,11 @@ pub record IsGrown (old new : Shape) : Type 0 where
   pub tight : IsTight old → IsTight new
   pub moved : MovesAtMost 5 old new
 
+-- what a removal makes of the shape: at most nine entries get another parent
+pub record IsShrunk (old new : Shape) : Type 0 where
+  pub ranked : IsRanked new
+  pub moved : MovesAtMost 9 old new
+
 -- the tree with another item at this index
 abbrev pub with_item_in : {T : Type 0} → Tree T → ℕ → T → Tree T
 with_item_in t i item = record t { list = with_item_at t.list i item }

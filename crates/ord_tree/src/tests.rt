@@ -1,7 +1,8 @@
 // Trees of small keys, kept in order by hand, seen through the chain's nodes.
 use crate::{OrdTree, SimpleOrdArenaNode};
 use arena_base::{
-    Advancer, InsertionError, InvalidationOption, P0, P8, PN, Ptr, ReallocationError,
+    Advancer, InsertionError, InvalidationOption, InvalidationResult, P0, P8, PN, Ptr,
+    ReallocationError,
 };
 use chain_base::{ChainArena, LinkNoGen};
 use linked_list_allocator::LocalHeap;
@@ -96,6 +97,25 @@ fn tree_of(rt: &impl Abort, alloc: Global, keys: &[u8]) -> Result<Keys, Fail> {
     Ok(tree)
 }
 
+/// The index of a key.
+fn index_of(places: &[Place], key: u8) -> Option<u32> {
+    let place = places.iter().find(|place| place.key == key)?;
+    Some(place.index)
+}
+
+/// Removes a key that is there.
+fn remove<A: Allocator>(
+    rt: &impl Abort,
+    alloc: Global,
+    tree: &mut Keys<A>,
+    key: u8,
+) -> Result<(), Fail> {
+    let index = index_of(&places(alloc, tree)?, key).ok_or("the key is there")?;
+    let removed = tree.remove_inx(index).allow().ok_or("so is its entry")?;
+    assert_eq!(rt; removed.1, key);
+    Ok(())
+}
+
 /// The key at an index.
 fn key_at(places: &[Place], index: Option<u32>) -> u8 {
     match places.iter().find(|place| Some(place.index) == index) {
@@ -136,18 +156,28 @@ fn rank_at(places: &[Place], index: Option<u32>) -> u8 {
     }
 }
 
-/// The rules of the balance, seen from outside: ranks, tightness, and links that agree.
-fn is_balanced(places: &[Place], root: Option<u32>) -> bool {
+/// How much higher a node's rank is than that of each child.
+fn steps(places: &[Place], place: &Place) -> (u8, u8) {
+    let (lesser, greater) = place.children;
+    (
+        place.rank.saturating_sub(rank_at(places, lesser)),
+        place.rank.saturating_sub(rank_at(places, greater)),
+    )
+}
+
+/// No node has both children two below it.
+fn is_tight(places: &[Place]) -> bool {
+    places.iter().all(|place| steps(places, place) != (2, 2))
+}
+
+/// The rules of the balance, seen from outside: ranks, and links that agree.
+fn is_ranked(places: &[Place], root: Option<u32>) -> bool {
     for place in places {
         let (lesser, greater) = place.children;
-        let ranks = (rank_at(places, lesser), rank_at(places, greater));
-        let steps = (
-            place.rank.saturating_sub(ranks.0),
-            place.rank.saturating_sub(ranks.1),
-        );
+        let steps = steps(places, place);
         let is_step = |step: u8| step == 1 || step == 2;
         let is_leaf = lesser.is_none() && greater.is_none();
-        if !is_step(steps.0) || !is_step(steps.1) || steps == (2, 2) || is_leaf && place.rank != 1 {
+        if !is_step(steps.0) || !is_step(steps.1) || is_leaf && place.rank != 1 {
             return false;
         }
         for other in places {
@@ -257,7 +287,7 @@ fn keeps_the_balance_in_every_order(rt: HostRuntime) -> Result<(), Fail> {
                 sorted.sort()?;
                 let new = places(rt.alloc(), &tree)?;
                 assert!(rt; new.iter().map(|place| place.key).eq(sorted.iter().copied()));
-                assert!(rt; is_balanced(&new, tree.root()), "{new:?}");
+                assert!(rt; is_ranked(&new, tree.root()) && is_tight(&new), "{new:?}");
                 assert!(rt; moved(&old, &new) <= 5);
                 assert_eq!(rt; usize::try_from(p.inx()).ok(), Some(sorted.len()));
                 old = new;
@@ -352,5 +382,181 @@ fn keeps_all_where_memory_is_refused(rt: HostRuntime) -> Result<(), Fail> {
         }
     }
     assert_eq!(rt; lens, [true; 3]);
+    Ok(())
+}
+
+#[test]
+fn repairs_removals_by_the_table(rt: HostRuntime) -> Result<(), Fail> {
+    let cases: [(&[u8], &[u8], &str, usize); 33] = [
+        // a leaf; a node with one side, whose child takes its place
+        (&[1], &[1], "", 0),
+        (&[1, 2], &[1], "2:1^0 ", 1),
+        (&[2, 1], &[2], "1:1^0 ", 1),
+        (&[1, 3, 4, 2], &[1], "2:1^3 3:3^0 4:1^3 ", 1),
+        (&[1, 2, 4, 3], &[4], "1:1^2 2:3^0 3:1^2 ", 1),
+        // a node with both sides, which the previous one takes: its child, then further down
+        (&[1, 2, 3], &[2], "1:2^0 3:1^1 ", 2),
+        (&[1, 4, 5, 2, 3], &[4], "1:1^2 2:2^3 3:3^0 5:1^3 ", 3),
+        // the same where the previous one has a lesser side
+        (&[2, 3, 4, 1], &[3], "1:1^2 2:3^0 4:1^2 ", 2),
+        (
+            &[50, 30, 70, 60, 10],
+            &[50],
+            "10:1^30 30:3^0 60:1^70 70:2^30 ",
+            2,
+        ),
+        (
+            &[1, 2, 7, 4, 5, 6, 3],
+            &[5],
+            "1:1^2 2:3^4 3:1^2 4:4^0 6:1^7 7:2^4 ",
+            4,
+        ),
+        // the parent is without children now
+        (&[2, 1], &[1], "2:1^0 ", 0),
+        (&[1, 2], &[2], "1:1^0 ", 0),
+        (&[2, 3, 4, 1], &[1], "2:1^3 3:3^0 4:1^3 ", 0),
+        (&[1, 2, 3, 4], &[4], "1:1^2 2:3^0 3:1^2 ", 0),
+        // it is at most two above
+        (&[1, 2, 3], &[1], "2:2^0 3:1^2 ", 0),
+        (&[1, 2, 3], &[3], "1:1^2 2:2^0 ", 0),
+        // the sibling is two below
+        (&[1, 2, 4, 3], &[4, 1], "2:2^0 3:1^2 ", 0),
+        (&[1, 2, 4, 3], &[1, 4], "2:1^3 3:2^0 ", 0),
+        (
+            &[5, 7, 3, 1, 4, 2, 6],
+            &[7, 4],
+            "1:2^3 2:1^1 3:4^0 5:2^3 6:1^5 ",
+            0,
+        ),
+        (
+            &[6, 7, 1, 3, 5, 2, 4],
+            &[6, 7],
+            "1:2^3 2:1^1 3:4^0 4:1^5 5:2^3 ",
+            0,
+        ),
+        // the sibling's outer child is one below it: a single restructuring
+        (&[1, 2, 3, 4], &[1], "2:1^3 3:3^0 4:1^3 ", 2),
+        (&[2, 3, 4, 1], &[4], "1:1^2 2:3^0 3:1^2 ", 2),
+        (&[1, 2, 3, 4, 5], &[1], "2:2^4 3:1^2 4:3^0 5:1^4 ", 3),
+        (&[1, 4, 5, 2, 3], &[5], "1:1^2 2:3^0 3:1^4 4:2^2 ", 3),
+        // the same further up
+        (
+            &[1, 2, 5, 3, 6, 4, 7],
+            &[1],
+            "2:1^3 3:2^5 4:1^3 5:4^0 6:2^5 7:1^6 ",
+            3,
+        ),
+        (
+            &[1, 3, 5, 7, 6, 4, 2],
+            &[7],
+            "1:2^3 2:1^1 3:4^0 4:1^5 5:2^3 6:1^5 ",
+            3,
+        ),
+        // both children of the sibling are two below it
+        (
+            &[2, 6, 3, 1, 4, 7, 5],
+            &[5, 1],
+            "2:1^3 3:3^0 4:1^6 6:2^3 7:1^6 ",
+            0,
+        ),
+        (
+            &[6, 3, 1, 7, 5, 4, 2],
+            &[2, 7],
+            "1:1^3 3:2^5 4:1^3 5:3^0 6:1^5 ",
+            0,
+        ),
+        // its inner child alone is one below it: a double restructuring
+        (&[1, 2, 4, 3], &[1], "2:1^3 3:3^0 4:1^3 ", 3),
+        (&[1, 3, 4, 2], &[4], "1:1^2 2:3^0 3:1^2 ", 3),
+        // the same further up, with both inner subtrees
+        (
+            &[1, 2, 7, 8, 3, 4, 5, 6],
+            &[1],
+            "2:1^3 3:2^5 4:1^3 5:4^0 6:1^7 7:2^5 8:1^7 ",
+            5,
+        ),
+        (
+            &[7, 1, 6, 3, 8, 2, 4, 5],
+            &[8],
+            "1:1^2 2:2^4 3:1^2 4:4^0 5:1^6 6:2^4 7:1^6 ",
+            5,
+        ),
+        // the most that a removal moves
+        (
+            &[
+                14, 5, 19, 3, 11, 17, 21, 2, 4, 7, 13, 16, 18, 20, 1, 6, 9, 12, 15, 8, 10,
+            ],
+            &[14],
+            "1:1^2 2:2^3 3:3^5 4:1^3 5:5^13 6:1^7 7:2^9 8:1^7 9:4^5 10:1^11 11:2^9 12:1^11 13:6^0 \
+            15:1^16 16:2^17 17:3^19 18:1^17 19:4^13 20:1^21 21:2^19 ",
+            9,
+        ),
+    ];
+    for (keys, removed, expected, moves) in cases {
+        let (last, before) = removed.split_last().ok_or("a last key")?;
+        let mut tree = tree_of(&rt, rt.alloc(), keys)?;
+        for key in before {
+            remove(&rt, rt.alloc(), &mut tree, *key)?;
+        }
+        let old = places(rt.alloc(), &tree)?;
+        remove(&rt, rt.alloc(), &mut tree, *last)?;
+        assert_eq!(rt; text(rt.alloc(), &tree)?.as_str(), expected);
+        assert_eq!(rt;
+            moved(&old, &places(rt.alloc(), &tree)?),
+            moves,
+            "{keys:?} without {removed:?}"
+        );
+    }
+    Ok(())
+}
+
+/// Inserts a key that isn't there, or removes one that is, in the tree and in a plain vector; both must agree then.
+fn toggle(
+    rt: &impl Abort,
+    alloc: Global,
+    tree: &mut Keys,
+    sorted: &mut Vec<u8>,
+    key: u8,
+) -> Result<(), Fail> {
+    let old = places(alloc, tree)?;
+    let most = match sorted.iter().position(|other| *other == key) {
+        None => {
+            let _ = insert(rt, alloc, tree, key)?;
+            sorted.push(key)?;
+            sorted.sort()?;
+            5
+        }
+        Some(at) => {
+            remove(rt, alloc, tree, key)?;
+            let _ = sorted.remove(at);
+            9
+        }
+    };
+    let new = places(alloc, tree)?;
+    assert!(rt; new.iter().map(|place| place.key).eq(sorted.iter().copied()));
+    assert!(rt; is_ranked(&new, tree.root()), "{new:?}");
+    assert!(rt; moved(&old, &new) <= most);
+    Ok(())
+}
+
+#[test]
+fn removes_in_every_order(rt: HostRuntime) -> Result<(), Fail> {
+    let mut orders: usize = 1;
+    for count in 1..=5u8 {
+        orders = orders.saturating_mul(usize::from(count));
+        for inserted in 0..orders {
+            for removed in 0..orders {
+                let mut tree = Keys::new(rt.alloc());
+                let mut sorted: Vec<u8> = Vec::new(rt.alloc());
+                for key in order_of(rt.alloc(), count, inserted)? {
+                    toggle(&rt, rt.alloc(), &mut tree, &mut sorted, key)?;
+                }
+                for key in order_of(rt.alloc(), count, removed)? {
+                    toggle(&rt, rt.alloc(), &mut tree, &mut sorted, key)?;
+                }
+                assert!(rt; tree.is_empty());
+            }
+        }
+    }
     Ok(())
 }

@@ -10,6 +10,7 @@ ghost use Rattle.ord_tree.specs.Tree.{IsChainOf, IsSoundTree};
 
 mod growth;
 mod insert;
+mod remove;
 mod write;
 
 use crate::node::SimpleOrdArenaNode;

@@ -105,7 +105,7 @@ fn side_of(ordering: Ordering) -> Side
 }
 
 // The entry directly before or after the one at an index that has one.
-fn neighbour<P: Ptr, T, A: Allocator>(
+pub(super) fn neighbour<P: Ptr, T, A: Allocator>(
     chain: &ChainArena<P, SimpleOrdArenaNode<P, T>, A>,
     i: P::Inx,
     side: Side,

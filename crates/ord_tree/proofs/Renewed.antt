@@ -1,0 +1,68 @@
+-- A new pointer for an entry: the tree stays.
+use Rattle.std.proofs.Common.{◌≡◌, ◌≢◌, ℕ, Option, Some, None, List, [], ◌∷◌, map, refl, sym, ◌∙◌, ap, ⊎_elim, is_some, option_map, OnSome, IfNone, subst, Bool, true, false, cond, eqb}
+use Rattle.std.proofs.lemmas.Bool.{cases_eq, eq-eqb, ne_eqb}
+use Rattle.arena_base.specs.Arena.{item_if}
+use Rattle.arena_base.specs.Generation.{next_generation}
+use Rattle.chain_base.specs.Chain.{Entry, Chain, entry_at, item_of, with_generation, renewed}
+use Rattle.ord_tree.specs.declared.node.SimpleOrdArenaNode.{SimpleOrdArenaNode}
+use Rattle.ord_tree.specs.Node.{bare_entry, bare, entry_in, links_in, indexes}
+use Rattle.ord_tree.specs.Layout.{shape_in, tree_of, IsLaidOut}
+use Rattle.ord_tree.proofs.Trees.{entry_at-bare, IsLaidOut-linked, shape_in-linked, either_option, on_some, if_none}
+
+module _ {P T I G : Type 0} where
+  -- a pointer names an entry of the list where it names a node
+  is_some-item_if : (g : ℕ) (o : Option (ℕ × SimpleOrdArenaNode P T I G)) → is_some (item_if g (option_map entry_in o)) ≡ is_some (item_if g o)
+  is_some-item_if g None = refl
+  is_some-item_if g (Some e) = go (eqb e.0 g)
+    where
+      go : (b : Bool) → is_some (cond b (Some e.1.t) None) ≡ is_some (cond b (Some e.1) None)
+      go true = refl
+      go false = refl
+
+  pub item_of-bare : (es : List (Entry (SimpleOrdArenaNode P T I G))) (i g : ℕ) → is_some (item_of (map bare_entry es) i g) ≡ is_some (item_of es i g)
+  item_of-bare es i g = ap (λ (o : Option (ℕ × T)). is_some (item_if g o)) (entry_at-bare es i) ∙ is_some-item_if g (entry_at es i)
+
+  -- another generation of an entry
+  links-renewed : (number : I → ℕ) (es : List (Entry (SimpleOrdArenaNode P T I G))) (i g j : ℕ)
+      → option_map (λ e. links_in number e.1) (entry_at (with_generation es i g) j) ≡ option_map (λ (e : ℕ × SimpleOrdArenaNode P T I G). links_in number e.1) (entry_at es j)
+  links-renewed number [] i g j = refl
+  links-renewed number (e ∷ es) i g j =
+      ⊎_elim (λ (same : e.index ≡ i). rw (eq-eqb e.index i same) (⊎_elim (λ (here : e.index ≡ j). rw (eq-eqb e.index j here) refl) (λ (there : e.index ≢ j). rw (ne_eqb e.index j there) refl) (cases_eq e.index j)))
+      (λ (other : e.index ≢ i). rw (ne_eqb e.index i other) (⊎_elim (λ (here : e.index ≡ j). rw (eq-eqb e.index j here) refl) (λ (there : e.index ≢ j). rw (ne_eqb e.index j there) (links-renewed number es i g j)) (cases_eq e.index j)))
+      (cases_eq e.index i)
+
+  indexes-renewed : (es : List (Entry (SimpleOrdArenaNode P T I G))) (i g : ℕ) → indexes (with_generation es i g) ≡ indexes es
+  indexes-renewed [] i g = refl
+  indexes-renewed (e ∷ es) i g =
+      ⊎_elim (λ (same : e.index ≡ i). rw (eq-eqb e.index i same) refl) (λ (other : e.index ≢ i). rw (ne_eqb e.index i other) (ap (λ is. e.index ∷ is) (indexes-renewed es i g))) (cases_eq e.index i)
+
+  bare-renewed : (es : List (Entry (SimpleOrdArenaNode P T I G))) (i g : ℕ) → map bare_entry (with_generation es i g) ≡ with_generation (map bare_entry es) i g
+  bare-renewed [] i g = refl
+  bare-renewed (e ∷ es) i g =
+      ⊎_elim (λ (same : e.index ≡ i). rw (eq-eqb e.index i same) refl) (λ (other : e.index ≢ i). rw (ne_eqb e.index i other) (ap (λ bs. bare_entry e ∷ bs) (bare-renewed es i g))) (cases_eq e.index i)
+
+  module _ (number : I → ℕ) (greatest : Option ℕ) (c : Chain (SimpleOrdArenaNode P T I G)) (root : Option ℕ) (i : ℕ) (laid : IsLaidOut number c root (shape_in number c root)) where
+    pub IsLaidOut-renewed : IsLaidOut number (renewed greatest c i) root (shape_in number (renewed greatest c i) root)
+    IsLaidOut-renewed =
+        IsLaidOut-linked number c (renewed greatest c i) root (λ j. links-renewed number c.entries i (next_generation greatest c.generation) j) (indexes-renewed c.entries i (next_generation greatest c.generation)) laid
+
+    pub tree_of-renewed : tree_of number (renewed greatest c i) root ≡ record (tree_of number c root) { list = renewed greatest (bare c) i }
+    tree_of-renewed =
+        let g = next_generation greatest c.generation in
+        let same = shape_in-linked number c (renewed greatest c i) root (λ j. links-renewed number c.entries i g j) (indexes-renewed c.entries i g) laid in
+        let list : Chain T = renewed greatest (bare c) i in
+        ap (λ (es : List (Entry T)). record { list = record { entries = es; capacity = c.capacity; vacant = c.vacant; generation = g; maximum = c.maximum }; shape = shape_in number (renewed greatest c i) root }) (bare-renewed c.entries i g)
+        ∙ ap (λ s. record { list = list; shape = s }) same
+
+    -- the call, from what the chain's ensures
+    module _ {X : Type 0} (o : Option X) (new : Chain (SimpleOrdArenaNode P T I G)) (renewing : OnSome o (new ≡ renewed greatest c i)) where
+      pub call_laid_out : IfNone o (new ≡ c) → IsLaidOut number new root (shape_in number new root)
+      call_laid_out keeping =
+          let L : Chain (SimpleOrdArenaNode P T I G) → Type 0 = λ c. IsLaidOut number c root (shape_in number c root) in
+          let A : Type 0 = L new in
+          either_option o A (on_some o (new ≡ renewed greatest c i) A renewing (λ e. subst L (sym e) IsLaidOut-renewed)) (if_none o (new ≡ c) A keeping (λ e. subst L (sym e) laid))
+
+      pub call_renewed : OnSome o (tree_of number new root ≡ record (tree_of number c root) { list = renewed greatest (bare c) i })
+      call_renewed =
+          on_some o (new ≡ renewed greatest c i) (tree_of number new root ≡ record (tree_of number c root) { list = renewed greatest (bare c) i }) renewing
+          (λ e. ap (λ (c : Chain (SimpleOrdArenaNode P T I G)). tree_of number c root) e ∙ tree_of-renewed)

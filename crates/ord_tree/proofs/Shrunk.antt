@@ -1,0 +1,175 @@
+-- A removal: from the tree without a node to the chain without its entry.
+use Rattle.std.proofs.Common.{◌≡◌, ◌≢◌, ℕ, ◌+◌, ◌<◌, ◌≤◌, ◌^◌, Option, Some, None, List, [], ◌∷◌, map, length, arith, refl, sym, ◌∙◌, ap, subst, ⊎_elim, is_some, true, option_map, OnSome}
+use Rattle.std.proofs.lemmas.Bool.{cases_eq, eq-eqb, ne_eqb}
+use Rattle.std.proofs.lemmas.List.{length-map}
+use Rattle.chain_base.specs.Chain.{Entry, Chain, entry_at, link_between, link_at, IsSound, removed, without as entries_without}
+use Rattle.chain_base.specs.Link.{Link}
+use Rattle.ord_tree.specs.declared.node.SimpleOrdArenaNode.{SimpleOrdArenaNode}
+use Rattle.ord_tree.specs.Shape.{Shape, walk}
+use Rattle.ord_tree.specs.Slots.{Holds, times, IsOnce, MovesBacks}
+use Rattle.ord_tree.specs.Raise.{IsBuilt}
+use Rattle.ord_tree.specs.Bud.{previous}
+use Rattle.ord_tree.specs.Detach.{without, IsDetachable}
+use Rattle.ord_tree.specs.Node.{bare_entry, bare, entry_in, links_in, slots_of, indexes}
+use Rattle.ord_tree.specs.Tree.{IsShrunk}
+use Rattle.ord_tree.specs.Layout.{shape_in, IsLaidOut}
+use Rattle.ord_tree.proofs.Slack.{IsRanked-balanced, IsBalanced-ranked}
+use Rattle.ord_tree.proofs.Forks.{here-same, here-other, times-walk, apart-from}
+use Rattle.ord_tree.proofs.Frames.{Holds-frame}
+use Rattle.ord_tree.proofs.Views.{MovesAtMost-backs}
+use Rattle.ord_tree.proofs.Trees.{entry_at-bare, is_some-bare, indexes-bare, limit_of-le, shape_in-held, on_there, owed_some}
+use Rattle.ord_tree.proofs.Planting.{IsOnce-distinct, within-occupied, linked-occupied, is_some-mapped}
+
+-- a list without one of its indexes
+pub times-without_same : (i : ℕ) (xs : List ℕ) → times i xs ≤ 1 → times i (without i xs) ≡ 0
+times-without_same i [] once = refl
+times-without_same i (x ∷ xs) once =
+    ⊎_elim (λ (same : x ≡ i). rw (eq-eqb x i same) (let one = rw same at once in omega (arith, one, here-same i)))
+    (λ (other : x ≢ i). rw (ne_eqb x i other) (omega (arith, here-other i x (λ e. other (sym e)), times-without_same i xs (omega (arith, once))))) (cases_eq x i)
+
+-- the entries without one
+module _ {T : Type 0} where
+  pub entry_at-without_other : (es : List (Entry T)) (i j : ℕ) → j ≢ i → entry_at (entries_without i es) j ≡ entry_at es j
+  entry_at-without_other [] i j ne = refl
+  entry_at-without_other (e ∷ es) i j ne =
+      ⊎_elim (λ (same : e.index ≡ i). rw (eq-eqb e.index i same, ne_eqb e.index j (λ d. ne (sym d ∙ same))) refl)
+      (λ (other : e.index ≢ i). rw (ne_eqb e.index i other) (⊎_elim (λ (here : e.index ≡ j). rw (eq-eqb e.index j here) refl) (λ (there : e.index ≢ j). rw (ne_eqb e.index j there) (entry_at-without_other es i j ne)) (cases_eq e.index j)))
+      (cases_eq e.index i)
+
+  pub indexes-without : (es : List (Entry T)) (i : ℕ) → indexes (entries_without i es) ≡ without i (indexes es)
+  indexes-without [] i = refl
+  indexes-without (e ∷ es) i =
+      ⊎_elim (λ (same : e.index ≡ i). rw (eq-eqb e.index i same) refl)
+      (λ (other : e.index ≢ i). rw (ne_eqb e.index i other) (ap (λ is. e.index ∷ is) (indexes-without es i))) (cases_eq e.index i)
+
+  -- an entry without its neighbours
+  pub entry_at-linked : (before after : Option ℕ) (es : List (Entry T)) (i : ℕ) → entry_at es i ≡ option_map (λ (e : ℕ × Link T). (e.0, e.1.item)) (link_between before after es i)
+  entry_at-linked before after [] i = refl
+  entry_at-linked before after (e ∷ es) i =
+      ⊎_elim (λ (same : e.index ≡ i). rw (eq-eqb e.index i same) refl)
+      (λ (other : e.index ≢ i). rw (ne_eqb e.index i other) (entry_at-linked (Some e.index) after es i)) (cases_eq e.index i)
+
+module _ {P T I G : Type 0} where
+  pub bare-without : (es : List (Entry (SimpleOrdArenaNode P T I G))) (i : ℕ) → map bare_entry (entries_without i es) ≡ entries_without i (map bare_entry es)
+  bare-without [] i = refl
+  bare-without (e ∷ es) i =
+      ⊎_elim (λ (same : e.index ≡ i). rw (eq-eqb e.index i same) refl)
+      (λ (other : e.index ≢ i). rw (ne_eqb e.index i other) (ap (λ bs. bare_entry e ∷ bs) (bare-without es i))) (cases_eq e.index i)
+
+  -- what the list says of an entry, from the link in the chain of nodes
+  pub entry_at-link : (c d : Chain (SimpleOrdArenaNode P T I G)) (x : ℕ) → bare d ≡ bare c
+      → entry_at (map bare_entry c.entries) x ≡ option_map (λ (e : ℕ × Link (SimpleOrdArenaNode P T I G)). (e.0, e.1.item.t)) (link_at d.entries x)
+  entry_at-link c d x kept =
+      ap (λ (b : Chain T). entry_at b.entries x) (sym kept) ∙ entry_at-bare d.entries x ∙ ap (option_map entry_in) (entry_at-linked None None d.entries x) ∙ over (link_at d.entries x)
+    where
+      over : (o : Option (ℕ × Link (SimpleOrdArenaNode P T I G))) → option_map entry_in (option_map (λ (e : ℕ × Link (SimpleOrdArenaNode P T I G)). (e.0, e.1.item)) o) ≡ option_map (λ (e : ℕ × Link (SimpleOrdArenaNode P T I G)). (e.0, e.1.item.t)) o
+      over None = refl
+      over (Some e) = refl
+
+-- what a removal owes: `new` is the chain c without the entry x, and `answer` what the entry was, its generation by `gen`
+pub record Removal {P T I G : Type 0} (number : I → ℕ) (greatest : Option ℕ) (c new : Chain (SimpleOrdArenaNode P T I G)) (root root' : Option ℕ) (x : ℕ) (gen : G → ℕ) (answer : Option (G × T)) : Type 0 where
+  pub laid : IsLaidOut number new root' (shape_in number new root')
+  pub listed : OnSome answer (bare new ≡ removed greatest (bare c) x)
+  pub shrunk : OnSome answer (IsShrunk (shape_in number c root) (shape_in number new root'))
+  pub value : option_map (λ (e : G × T). (gen e.0, e.1)) answer ≡ entry_at (map bare_entry c.entries) x
+  pub there : is_some answer ≡ true
+
+-- the tree without the entry x: c is its chain, d the chain once the node is taken out of the tree
+module _ {P T I G : Type 0} (number : I → ℕ) (c : Chain (SimpleOrdArenaNode P T I G)) (root : Option ℕ) (x : ℕ)
+    (laid : IsLaidOut number c root (shape_in number c root)) (occupied : is_some (entry_at c.entries x) ≡ true)
+    (most : ℕ) (greatest : Option ℕ) (sound : IsSound most greatest c) (fits : most + 1 < 2 ^ 64) where
+  abbrev order : List ℕ
+  order = indexes c.entries
+
+  once : IsOnce order
+  once = IsOnce-distinct c.entries sound.distinct
+
+  few : length order < 2 ^ 64
+  few = omega (arith, length-map c.entries (λ (e : Entry (SimpleOrdArenaNode P T I G)). e.index), sound.counted, sound.within_limit, limit_of-le most c.maximum, fits)
+
+  pub detachable : (before : Option ℕ) → before ≡ previous None x order → IsDetachable (slots_of number c) root x before order
+  detachable before is = record {
+    built = record { shape = shape_in number c root; held = laid.held; listed = laid.listed; balanced = IsBalanced-ranked (shape_in number c root) laid.ranked };
+    within = within-occupied c.entries x occupied;
+    once = once;
+    few = few;
+    is_before = is;
+  }
+
+  module _ (before : Option ℕ) (is_before : before ≡ previous None x order) (d : Chain (SimpleOrdArenaNode P T I G)) (root' : Option ℕ) (kept : bare d ≡ bare c)
+      (builds : (order : List ℕ) → IsDetachable (slots_of number c) root x before order → IsBuilt (slots_of number d) root' (without x order) 1)
+      (moves : (order : List ℕ) → IsDetachable (slots_of number c) root x before order → MovesBacks 9 (slots_of number c) (slots_of number d)) where
+    built : IsBuilt (slots_of number d) root' (without x order) 1
+    built = builds order (detachable before is_before)
+
+    backs : MovesBacks 9 (slots_of number c) (slots_of number d)
+    backs = moves order (detachable before is_before)
+
+    abbrev last : Chain (SimpleOrdArenaNode P T I G)
+    last = removed greatest d x
+
+    same_order : indexes d.entries ≡ order
+    same_order = sym (indexes-bare d.entries) ∙ ap (λ (b : Chain T). indexes b.entries) kept ∙ indexes-bare c.entries
+
+    held_last : Holds (slots_of number last) None root' built.shape
+    held_last =
+        Holds-frame (slots_of number d) (slots_of number last) built.shape None root'
+        (λ j inside. ap (option_map (λ (e : ℕ × SimpleOrdArenaNode P T I G). links_in number e.1)) (entry_at-without_other d.entries x j
+        (apart-from x j (λ j. times j (without x order)) (times-without_same x order (once x)) (omega (arith, inside, times-walk j built.shape, ap (times j) built.listed)))))
+        built.held
+
+    listed_last : walk built.shape ≡ indexes last.entries
+    listed_last = built.listed ∙ ap (without x) (sym same_order) ∙ sym (indexes-without d.entries x)
+
+    shape_is : shape_in number last root' ≡ built.shape
+    shape_is = shape_in-held number last root' built.shape held_last listed_last
+
+    pub IsLaidOut-removed : IsLaidOut number last root' (shape_in number last root')
+    IsLaidOut-removed =
+        let L : Shape → Type 0 = λ s. IsLaidOut number last root' s in
+        subst L (sym shape_is) (record { held = held_last; listed = listed_last; ranked = IsRanked-balanced 1 built.shape built.balanced })
+
+    pub IsShrunk-removed : IsShrunk (shape_in number c root) (shape_in number last root')
+    IsShrunk-removed =
+        let S : Shape → Type 0 = λ s. IsShrunk (shape_in number c root) s in
+        subst S (sym shape_is) (record {
+          ranked = IsRanked-balanced 1 built.shape built.balanced;
+          moved = MovesAtMost-backs 9 (slots_of number c) (slots_of number d) root root' (shape_in number c root) built.shape laid.held built.held backs;
+        })
+
+    pub bare_removed : bare last ≡ removed greatest (bare c) x
+    bare_removed =
+        ap (λ (es : List (Entry T)). record { entries = es; capacity = d.capacity; vacant = x ∷ d.vacant; generation = (removed greatest d x).generation; maximum = d.maximum }) (bare-without d.entries x)
+        ∙ ap (λ (b : Chain T). removed greatest b x) kept
+
+    -- the call, from what its steps ensure: the chain's answer, and the same with the item alone
+    module _ (new : Chain (SimpleOrdArenaNode P T I G)) (gen : G → ℕ) (taken : Option (G × Link (SimpleOrdArenaNode P T I G))) (answer : Option (G × T))
+        (value : option_map (λ (e : G × Link (SimpleOrdArenaNode P T I G)). (gen e.0, e.1)) taken ≡ link_at d.entries x) (removing : OnSome taken (new ≡ removed greatest d x))
+        (answer_is : answer ≡ option_map (λ (e : G × Link (SimpleOrdArenaNode P T I G)). (e.0, e.1.item.t)) taken) where
+      there : is_some taken ≡ true
+      there =
+          sym (is_some-mapped (λ (e : G × Link (SimpleOrdArenaNode P T I G)). (gen e.0, e.1)) taken) ∙ ap is_some value
+          ∙ linked-occupied None d.entries x (sym (is_some-bare d.entries x) ∙ ap (λ (b : Chain T). is_some (entry_at b.entries x)) kept ∙ is_some-bare c.entries x ∙ occupied)
+
+      new_is : new ≡ removed greatest d x
+      new_is = on_there taken (new ≡ removed greatest d x) there removing
+
+      over : (o : Option (G × Link (SimpleOrdArenaNode P T I G)))
+          → option_map {U = ℕ × T} (λ (e : G × T). (gen e.0, e.1)) (option_map {U = G × T} (λ (e : G × Link (SimpleOrdArenaNode P T I G)). (e.0, e.1.item.t)) o)
+          ≡ option_map {U = ℕ × T} (λ (e : ℕ × Link (SimpleOrdArenaNode P T I G)). (e.0, e.1.item.t)) (option_map {U = ℕ × Link (SimpleOrdArenaNode P T I G)} (λ (e : G × Link (SimpleOrdArenaNode P T I G)). (gen e.0, e.1)) o)
+      over None = refl
+      over (Some e) = refl
+
+      pub removal : Removal number greatest c new root root' x gen answer
+      removal =
+          let Laid : Chain (SimpleOrdArenaNode P T I G) → Type 0 = λ n. IsLaidOut number n root' (shape_in number n root') in
+          let Shrunk : Chain (SimpleOrdArenaNode P T I G) → Type 0 = λ n. IsShrunk (shape_in number c root) (shape_in number n root') in
+          record {
+            laid = subst Laid (sym new_is) IsLaidOut-removed;
+            listed = owed_some answer (bare new ≡ removed greatest (bare c) x) (ap bare new_is ∙ bare_removed);
+            shrunk = owed_some answer (Shrunk new) (subst Shrunk (sym new_is) IsShrunk-removed);
+            value =
+                ap (option_map (λ (e : G × T). (gen e.0, e.1))) answer_is ∙ over taken
+                ∙ ap (option_map {U = ℕ × T} (λ (e : ℕ × Link (SimpleOrdArenaNode P T I G)). (e.0, e.1.item.t))) value ∙ sym (entry_at-link c d x kept);
+            there = ap is_some answer_is ∙ is_some-mapped (λ (e : G × Link (SimpleOrdArenaNode P T I G)). (e.0, e.1.item.t)) taken ∙ there;
+          }

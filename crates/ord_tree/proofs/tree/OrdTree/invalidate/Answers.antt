@@ -1,0 +1,17 @@
+use Rattle.std.proofs.Common.{◌∙◌, sym, option_map}
+use Rattle.arena_base.specs.Invalidation.{valid_value}
+use Rattle.ord_tree.proofs.Renewed.{item_of-bare, call_laid_out, call_renewed}
+use Rattle.ord_tree.proofs.tree.OrdTree.invalidate.Goals as goal
+
+pub invariant_of-self : goal.invariant_of-self
+invariant_of-self g c =
+    call_laid_out g.P.Inx.PtrInx.number g.P.Gen.PtrGen.greatest c.self.inside.chain (option_map g.P.Inx.PtrInx.number c.self.inside.root) _ c.self.invariant (valid_value c.invalidate.result) c.invalidate.new.self
+    c.invalidate.ensures.renewed c.invalidate.ensures.invalid
+
+pub returns-clause-valid : goal.returns-clause-valid
+returns-clause-valid g c = rw (← c.self.view_is) (c.invalidate.ensures.valid ∙ sym (item_of-bare c.self.inside.chain.entries _ _))
+
+pub returns-clause-renewed : goal.returns-clause-renewed
+returns-clause-renewed g c =
+    rw (← c.self.view_is) (call_renewed g.P.Inx.PtrInx.number g.P.Gen.PtrGen.greatest c.self.inside.chain (option_map g.P.Inx.PtrInx.number c.self.inside.root) _ c.self.invariant (valid_value c.invalidate.result) c.invalidate.new.self
+    c.invalidate.ensures.renewed)
