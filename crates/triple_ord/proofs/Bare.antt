@@ -5,7 +5,6 @@ use Rattle.std.specs.Option.{option_map}
 use Rattle.arena_base.specs.Arena.{Arena, slot, item_if}
 use Rattle.chain_base.specs.Link.{Link}
 use Rattle.chain_base.specs.Chain.{Entry, Chain, entry_at, item_of, first_or, link_between, link_at, first_pointer, last_pointer, IsArenaOf}
-use Rattle.chain_base.proofs.Lists.{entry_at-link}
 use Rattle.ord_tree.specs.declared.links.Links.{Links}
 use Rattle.ord_tree.specs.declared.node.SimpleOrdArenaNode.{SimpleOrdArenaNode}
 use Rattle.ord_tree.specs.Shape.{Shape, missing, node, root_of, walk}
@@ -25,6 +24,12 @@ is_some-map f (Some x) = refl
 pub option_map-twice : {A B C : Type 0} (f : A → B) (g : B → C) (o : Option A) → option_map (λ x. g (f x)) o ≡ option_map g (option_map f o)
 option_map-twice f g None = refl
 option_map-twice f g (Some x) = refl
+
+-- the entry of an index is its link, without the neighbours
+entry_at-link : {X : Type 0} (before after : Option ℕ) (es : List (Entry X)) (i : ℕ) → entry_at es i ≡ option_map (λ e. (e.0, e.1.item)) (link_between before after es i)
+entry_at-link before after [] i = refl
+entry_at-link before after (e ∷ es) i =
+    elim (eqb_tells e.index i) [ inl h ↦ rw h.0 refl | inr h ↦ rw h.0 (entry_at-link (Some e.index) after es i) ]
 
 module _ {P T I G : Type 0} where
   item_if-bare : (g : ℕ) (o : Option (ℕ × SimpleOrdArenaNode P T I G)) → item_if g (option_map {U = ℕ × T} (λ e. (e.0, e.1.t)) o) ≡ option_map (λ n. n.t) (item_if g o)

@@ -7,9 +7,8 @@ use Rattle.chain_base.specs.Chain.{IsSound}
 use Rattle.ord_tree.specs.Shape.{Shape, missing, node, size_of, rank_of, walk, height}
 use Rattle.ord_tree.specs.Numbers.{fib}
 use Rattle.ord_tree.specs.Tree.{Tree, IsSoundTree}
-use Rattle.ord_tree.proofs.Sizes.{height-le-rank, square-ge-power, fib-le-size}
-use Rattle.ord_tree.proofs.Halves.{height-rebuilt}
-use Rattle.triple_ord.specs.VisitBounds.{IsWithinBounds}
+use Rattle.ord_tree.specs.Laws.{HeightLaw, RankSquareLaw, TightRankLaw, RebuiltHeightLaw}
+use Rattle.triple_ord.specs.VisitBounds.{IsWithinBounds, VisitsLaw}
 
 -- the walk passes each node once
 length-walk : (s : Shape) → length (walk s) ≡ size_of s
@@ -39,6 +38,22 @@ fib_more n (suc d) = rw (same d n) (omega (arith, fib_more n d, fib-step (d + n)
 fib-mono : (m n : ℕ) → m ≤ n → fib m ≤ fib n
 fib-mono m n least = let same : (n - m) + m ≡ n = omega (arith, least) in rw same at (fib_more m (n - m))
 
+-- a search that visits no more entries than stand on the longest way down stays within the bounds, by the laws of balance
+pub visits-bounded : HeightLaw → RankSquareLaw → TightRankLaw → RebuiltHeightLaw → VisitsLaw
+visits-bounded height_law square_law tight_law rebuilt_law s c ranked few =
+    record {
+      ranked = λ some.
+          let law = square_law s ranked some in
+          let power : 2 ^ (c + 1) ≤ 2 ^ (rank_of s + 1) = pow_mono (omega (arith, few, height_law s ranked)) in
+          omega (arith, law, power);
+      tight = λ tight.
+          let law = tight_law s ranked tight in
+          let less : fib (c + 2) ≤ fib (rank_of s + 2) = fib-mono (c + 2) (rank_of s + 2) (omega (arith, few, height_law s ranked)) in
+          omega (arith, law, less);
+      rebuilt = λ rebuilt digits has. omega (arith, few, rebuilt_law s digits rebuilt has);
+      empty = λ none. omega (arith, few, none, height-le-size s);
+    }
+
 module _ {T : Type 0} (t : Tree T) (sound : IsSoundTree t) where
   pub size-listed : size_of t.shape ≡ length t.list.entries
   size-listed = sym (length-walk t.shape) ∙ ap length sound.listed ∙ length-map t.list.entries (λ e. e.index)
@@ -52,20 +67,6 @@ module _ {T : Type 0} (t : Tree T) (sound : IsSoundTree t) where
       limited None = omega arith
       limited (Some m) = omega arith
 
-  empty-height : (s : Shape) → size_of s ≡ 0 → height s ≡ 0
-  empty-height s none = omega (arith, height-le-size s)
-
-  pub within_bounds : (c : ℕ) → c ≤ height t.shape → IsWithinBounds (length t.list.entries) t.shape c
-  within_bounds c few =
-      rw (← size-listed) record {
-        ranked = λ some.
-            let law = square-ge-power t.shape sound.ranked some in
-            let power : 2 ^ (c + 1) ≤ 2 ^ (rank_of t.shape + 1) = pow_mono (omega (arith, few, height-le-rank t.shape sound.ranked)) in
-            omega (arith, law, power);
-        tight = λ tight.
-            let law = fib-le-size t.shape sound.ranked tight in
-            let less : fib (c + 2) ≤ fib (rank_of t.shape + 2) = fib-mono (c + 2) (rank_of t.shape + 2) (omega (arith, few, height-le-rank t.shape sound.ranked)) in
-            omega (arith, law, less);
-        rebuilt = λ rebuilt digits has. omega (arith, few, height-rebuilt t.shape digits rebuilt has);
-        empty = λ none. omega (arith, few, empty-height t.shape none);
-      }
+  -- what the law says of the tree's list
+  pub within_bounds : VisitsLaw → (c : ℕ) → c ≤ height t.shape → IsWithinBounds (length t.list.entries) t.shape c
+  within_bounds law c few = rw (← size-listed) (law t.shape c sound.ranked few)

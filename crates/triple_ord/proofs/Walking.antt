@@ -1,9 +1,9 @@
 -- One step of a walk along a list of entries.
-use Rattle.std.proofs.Common.{◌≡◌, ℕ, ◌+◌, ◌≤◌, List, [], ◌∷◌, Option, Some, None, refl, sym, ap, ◌∙◌, arith, inl, inr}
+use Rattle.std.proofs.Common.{◌≡◌, ℕ, ◌+◌, ◌-◌, ◌≤◌, List, [], ◌∷◌, length, Option, Some, None, refl, sym, ap, ◌∙◌, arith, inl, inr}
 use Rattle.std.proofs.lemmas.Bool.Decides.{eqb_tells}
 use Rattle.chain_base.specs.Link.{Link}
 use Rattle.chain_base.specs.Chain.{Entry, times, IsDistinct, first_or, link_between, link_at, from_index}
-use Rattle.triple_ord.specs.Walk.{entries_from}
+use Rattle.triple_ord.specs.Walk.{entries_from, IsWalking}
 
 module _ {T : Type 0} where
   first-occurs : (es : List (Entry T)) (j : ℕ) → first_or None es ≡ Some j → 1 ≤ times j es
@@ -55,6 +55,14 @@ module _ {T : Type 0} where
   -- the entry that is shown at an index, and then the entries from its neighbour on
   pub walk-step : (es : List (Entry T)) (i g : ℕ) (l : Link T) → IsDistinct es → Some (g, l) ≡ link_at es i → entries_from es (Some i) ≡ record { index = i; generation = g; item = l.item } ∷ entries_from es l.next
   walk-step es i g l distinct found = step-between None es i g l distinct (sym found)
+
+  -- a walk at an entry has it left, and goes on at its neighbour with one entry fewer
+  pub walk-left : (es : List (Entry T)) (i g left : ℕ) (l : Link T) → IsWalking es (Some i) left → Some (g, l) ≡ link_at es i → 1 ≤ left
+  walk-left es i g left l walking found = omega (arith, walking.counted, ap length (walk-step es i g l walking.distinct found))
+
+  pub walk-goes : (es : List (Entry T)) (i g left : ℕ) (l : Link T) (next : Option ℕ) → IsWalking es (Some i) left → Some (g, l) ≡ link_at es i → next ≡ l.next → IsWalking es next (left - 1)
+  walk-goes es i g left l next walking found goes =
+      rw goes record { distinct = walking.distinct; counted = omega (arith, walking.counted, ap length (walk-step es i g l walking.distinct found)) }
 
   -- from an index without an entry nothing is left
   pub walk-end : (es : List (Entry T)) (i : ℕ) → None ≡ link_at es i → entries_from es (Some i) ≡ []

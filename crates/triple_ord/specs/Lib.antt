@@ -7,3 +7,4 @@ pub mod Placing
 pub mod Node
 pub mod Walk
 pub mod Descent
+pub mod Lends

@@ -1,7 +1,7 @@
 -- How few entries a search visits.
 use Rattle.std.specs.Prelude.{◌≡◌, ℕ, ◌+◌, ◌^◌, ◌<◌, ◌≤◌}
-use Rattle.ord_tree.specs.Shape.{Shape}
-use Rattle.ord_tree.specs.Ranks.{IsTight}
+use Rattle.ord_tree.specs.Shape.{Shape, size_of, height}
+use Rattle.ord_tree.specs.Ranks.{IsRanked, IsTight}
 use Rattle.ord_tree.specs.Numbers.{fib, HasDigits}
 use Rattle.ord_tree.specs.Half.{IsRebuilt}
 
@@ -15,3 +15,7 @@ pub record IsWithinBounds (n : ℕ) (shape : Shape) (c : ℕ) : Type 0 where
   pub rebuilt : IsRebuilt shape → (digits : ℕ) → HasDigits n digits → c ≤ digits
   -- in an empty list
   pub empty : n ≡ 0 → c ≡ 0
+
+-- a search that visits no more entries than stand on the longest way down stays within the bounds
+abbrev pub VisitsLaw : Type 0
+VisitsLaw = (s : Shape) (c : ℕ) → IsRanked s → c ≤ height s → IsWithinBounds (size_of s) s c

@@ -1,7 +1,8 @@
 //! `SimpleOrdArena`: an arena in the order of keys.
 ghost use Rattle.std.specs.Prelude.{◌≡◌, ◌==◌, length};
-ghost use Rattle.arena_base.specs.Generation.{IsLawfulGeneration};
-ghost use Rattle.chain_base.specs.Chain.{IsSound};
+ghost use Rattle.arena_base.specs.Generation.{IsLawfulGeneration, overflows_after};
+ghost use Rattle.arena_base.specs.Invalidation.{is_overflow};
+ghost use Rattle.chain_base.specs.Chain.{raised, IsSound};
 ghost use Rattle.ord_tree.specs.Tree.{IsSoundTree};
 
 mod access;
@@ -10,8 +11,10 @@ mod growth;
 mod insert;
 mod iter;
 mod neighbours;
+mod remove;
+mod write;
 
-use arena_base::Ptr;
+use arena_base::{InvalidationOption, Ptr};
 pub use iter::Iter;
 use ord_tree::OrdTree;
 use std::alloc::{Allocator, Global};
@@ -75,5 +78,22 @@ impl<P: Ptr, T, A: Allocator> SimpleOrdArena<P, T, A> {
         ensures lawful { IsLawfulGeneration P.Gen.greatest self.now.list.generation }
     {
         self.tree.chain().generation()
+    }
+
+    /// Sets the generation that the next entry gets, and leaves each entry its own.
+    pub fn set_generation(&mut self, generation: P::Gen)
+        requires { IsLawfulGeneration P.Gen.greatest (P.Gen.number generation) }
+        ensures { self.new ≡ record self.old { list = record self.old.list { generation = P.Gen.number generation } } }
+    {
+        self.tree.set_generation(generation);
+    }
+
+    /// Raises the generation that the next entry gets, and leaves each entry its own. The answer says whether the generations
+    /// began again.
+    pub fn inc_generation(&mut self) -> InvalidationOption<()>
+        ensures after { self.new ≡ record self.old { list = raised P.Gen.greatest self.old.list } }
+        ensures overflow { is_overflow result ≡ overflows_after P.Gen.greatest self.old.list.generation }
+    {
+        self.tree.inc_generation()
     }
 }

@@ -2,11 +2,12 @@
 ghost use Rattle.std.specs.Prelude.{◌≡◌, length};
 ghost use Rattle.std.specs.Option.{option_map};
 ghost use Rattle.triple_ord.specs.Search.{FindsSimilar};
-ghost use Rattle.triple_ord.specs.VisitBounds.{IsWithinBounds};
+ghost use Rattle.triple_ord.specs.VisitBounds.{IsWithinBounds, VisitsLaw};
 
 use crate::item::SimpleOrdItem;
 use crate::probe::Probe;
 use arena_base::Ptr;
+use ord_tree::laws::{height_law, rank_square_law, rebuilt_height_law, tight_rank_law};
 use std::alloc::Allocator;
 use std::cmp::Ordering;
 
@@ -22,6 +23,7 @@ pub(crate) fn descend<P: Ptr, T: SimpleOrdItem, A: Allocator>(
         (option_map (λ a. ((P.index a.0, P.era a.0), a.1)) result) probe.new.visits }
     ensures visits { IsWithinBounds (length probe.old.tree.now.list.entries) probe.old.tree.now.shape probe.new.visits }
 {
+    visits_law();
     let mut last = None;
     let mut at = probe.root();
     while let Some(i) = at {
@@ -35,4 +37,14 @@ pub(crate) fn descend<P: Ptr, T: SimpleOrdItem, A: Allocator>(
         at = if order.is_lt() { lesser } else { greater };
     }
     last
+}
+
+// The laws of balance bound a search by the longest way down. It does nothing; its contract is the law.
+fn visits_law()
+    ensures { VisitsLaw }
+{
+    height_law();
+    rank_square_law();
+    tight_rank_law();
+    rebuilt_height_law();
 }

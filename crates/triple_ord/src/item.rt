@@ -5,6 +5,7 @@ ghost use Rattle.std.specs.Prelude.{◌≡◌};
 ///
 /// The key is a part of the item. Its order is a total order, as `Ord` says.
 pub trait SimpleOrdItem {
+    /// The type of the keys.
     type Key: Ord;
 
     // the key of an item

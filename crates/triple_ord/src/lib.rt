@@ -13,8 +13,11 @@ mod tests;
 mod visits;
 
 pub use arena::{Iter, SimpleOrdArena};
+pub use arena_base::{InvalidationOption, InvalidationResult, P0, P8, PN, Ptr, PtrGen, PtrInx, Q0};
+pub use chain_base::LinkNoGen;
 pub use entry_kind::OrdEntryKind;
 pub use error::OrdInsertionError;
 pub use item::SimpleOrdItem;
+pub use ord_tree::SimpleOrdArenaNode;
 pub use pair::OrdPair;
 pub use visits::Visits;

@@ -29,7 +29,7 @@ impl<K: Ord, V> SimpleOrdItem for OrdPair<K, V> {
     ghost key_of = { λ p. p.0 };
 
     fn key(&self) -> &K {
-        &self.k
+        self.k()
     }
 }
 

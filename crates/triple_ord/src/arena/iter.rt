@@ -1,6 +1,7 @@
 //! Going through an arena in the order of its list.
-ghost use Rattle.std.specs.Prelude.{◌≡◌};
-ghost use Rattle.std.specs.Iterator.{YieldsFirstBy, item_count};
+ghost use Rattle.std.specs.Prelude.{◌≡◌, Some, IfSome, length};
+ghost use Rattle.std.specs.Iterator.{YieldsFirstBy, UpTo, item_count};
+ghost use Rattle.std.specs.Iterator.SizeHint.{IsWithinCount};
 
 use super::SimpleOrdArena;
 use arena_base::Ptr;
@@ -13,24 +14,26 @@ pub struct Iter<'a, P: Ptr, T, A: Allocator = Global> {
     arena: &'a SimpleOrdArena<P, T, A>,
     // the index of the entry that comes next
     at: Option<P::Inx>,
+    // how many entries are to come
+    left: usize,
 }
 
 impl<'a, P: Ptr, T, A: Allocator> Model for Iter<'a, P, T, A> {
     ghost use Rattle.std.specs.Prelude.{List};
     ghost use Rattle.std.specs.Option.{option_map};
     ghost use Rattle.std.specs.Coded.{coded_list};
-    ghost use Rattle.chain_base.specs.Chain.{Entry, IsDistinct};
+    ghost use Rattle.chain_base.specs.Chain.{Entry};
     ghost use Rattle.ord_tree.specs.Tree.{entry_code};
 
     ghost Value = { List (Entry T) };
 
     ghost coded = { coded_list (entry_code T.code) };
 
-    ghost use Rattle.triple_ord.specs.Walk.{entries_from};
+    ghost use Rattle.triple_ord.specs.Walk.{entries_from, IsWalking};
 
     ghost view = { λ i. entries_from i.arena.now.list.entries (option_map P.Inx.number i.at) };
 
-    ghost invariant = { λ i. IsDistinct i.arena.now.list.entries };
+    ghost invariant = { λ i. IsWalking i.arena.now.list.entries (option_map P.Inx.number i.at) i.left };
 }
 
 impl<P: Ptr, T, A: Allocator> SimpleOrdArena<P, T, A> {
@@ -39,12 +42,16 @@ impl<P: Ptr, T, A: Allocator> SimpleOrdArena<P, T, A> {
         ensures { result ≡ self.now.list.entries }
     {
         // with its length an arena tells what holds of every list
-        let _ = self.len();
+        let left = self.len();
         let at = match self.first() {
             Some(p) => Some(p.inx()),
             None => None,
         };
-        Iter { arena: self, at }
+        Iter {
+            arena: self,
+            at,
+            left,
+        }
     }
 }
 
@@ -60,7 +67,22 @@ impl<'a, P: Ptr, T, A: Allocator> Iterator for Iter<'a, P, T, A> {
         let entry = self.arena.get_inx_link_no_gen(i)?;
         let link = entry.1;
         self.at = link.next();
+        self.left -= 1;
         Some((P::_from_raw(i, entry.0), link.t))
+    }
+
+    fn size_hint(&self) -> (usize, Option<usize>)
+        ensures exact { result ≡ (length self.now, Some (length self.now)) }
+        ensures lower { IsWithinCount result.0 (item_count (λ left. left) self.now) }
+        ensures upper { IfSome result.1 (UpTo (item_count (λ left. left) self.now)) }
+    {
+        (self.left, Some(self.left))
+    }
+}
+
+impl<'a, P: Ptr, T, A: Allocator> ExactSizeIterator for Iter<'a, P, T, A> {
+    fn len(&self) -> usize {
+        self.left
     }
 }
 

@@ -35,8 +35,8 @@ pub returns-then-is_eq-clause-visits : goal.returns-then-is_eq-clause-visits
 returns-then-is_eq-clause-visits g c =
     let distinct = rw (← c.loop-at.invariant.0) at c.root-at.ensures.distinct in
     let few = step-few _ _ c.loop-at.probe.tree.now _ distinct _ _ _ (rw c.in-Some.is at c.loop-at.invariant.1) in
-    within_bounds _ c.root-at.ensures.sound _ (omega (arith, few, c.show-generation.ensures.counted, ap (λ (t : Tree g.row.T.Denot). height t.shape) c.loop-at.invariant.0))
+    within_bounds _ c.root-at.ensures.sound c.visits_law.ensures _ (omega (arith, few, c.show-generation.ensures.counted, ap (λ (t : Tree g.row.T.Denot). height t.shape) c.loop-at.invariant.0))
 
 pub returns-clause-visits : goal.returns-clause-visits
 returns-clause-visits g c =
-    within_bounds _ c.root-at.ensures.sound _ (omega (arith, c.loop-at.invariant.1.few, ap (λ (t : Tree g.row.T.Denot). height t.shape) c.loop-at.invariant.0))
+    within_bounds _ c.root-at.ensures.sound c.visits_law.ensures _ (omega (arith, c.loop-at.invariant.1.few, ap (λ (t : Tree g.row.T.Denot). height t.shape) c.loop-at.invariant.0))

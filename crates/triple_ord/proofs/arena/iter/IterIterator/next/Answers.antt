@@ -1,6 +1,6 @@
 use Rattle.std.proofs.Common.{◌≡◌, [], Bor, arith, length, sym, ap, ◌∙◌}
 use Rattle.chain_base.specs.Link.{Link}
-use Rattle.triple_ord.proofs.Walking.{walk-step, walk-end}
+use Rattle.triple_ord.proofs.Walking.{walk-step, walk-left, walk-goes, walk-end}
 use Rattle.triple_ord.proofs.arena.iter.IterIterator.next.Goals as goal
 
 pub returns-in_err-entry-clause-steps : goal.returns-in_err-entry-clause-steps
@@ -12,9 +12,16 @@ pub returns-clause-steps : goal.returns-clause-steps
 returns-clause-steps g c =
     let item = ap (λ (l : Link (Bor g.row.T.Denot)). l.item) c.link.view_is in
     let next = c.next-self-inside.ensures.value in
-    sym c.self.view_is ∙ rw (c.in_ok-i.was, c._from_raw.ensures.index, c._from_raw.ensures.era, next, item) (walk-step _ _ _ _ c.self.invariant c.in_ok-entry.ensures)
+    sym c.self.view_is ∙ rw (c.in_ok-i.was, c._from_raw.ensures.index, c._from_raw.ensures.era, next, item) (walk-step _ _ _ _ c.self.invariant.distinct c.in_ok-entry.ensures)
 
 pub returns-clause-goes : goal.returns-clause-goes
 returns-clause-goes g c =
     let shorter = ap length (returns-clause-steps g c) in
     record { on = λ _. (tt, tt, omega (arith, shorter)); keeps = tt; rests = λ _. tt }
+
+pub overflow_sub-self : goal.overflow_sub-self
+overflow_sub-self g c = walk-left _ _ _ _ _ (rw c.in_ok-i.was at c.self.invariant) c.in_ok-entry.ensures
+
+pub invariant_of-self : goal.invariant_of-self
+invariant_of-self g c =
+    walk-goes _ _ _ _ _ _ (rw c.in_ok-i.was at c.self.invariant) c.in_ok-entry.ensures c.next-self-inside.ensures.value

@@ -1,0 +1,84 @@
+//! Ending entries and their pointers. None of these calls takes memory.
+ghost use Rattle.std.specs.Prelude.{◌≡◌, IfSome, IfNone, OnSome, is_some};
+ghost use Rattle.std.specs.Option.{option_map};
+ghost use Rattle.arena_base.specs.Generation.{next_generation, overflows_after};
+ghost use Rattle.arena_base.specs.Invalidation.{valid_value, has_overflowed, is_overflow};
+ghost use Rattle.chain_base.specs.Chain.{entry_at, item_of, removed, renewed, cleared};
+ghost use Rattle.ord_tree.specs.Shape.{missing};
+ghost use Rattle.ord_tree.specs.Tree.{IsShrunk};
+
+use super::SimpleOrdArena;
+use arena_base::{InvalidationOption, InvalidationResult, Ptr};
+use std::alloc::Allocator;
+
+impl<P: Ptr, T, A: Allocator> SimpleOrdArena<P, T, A> {
+    /// Takes the entry that the pointer names out, answers its item, and raises the generation. The next insertion takes its slot.
+    /// Every other entry keeps its pointer, its item and its place in the order, and at most nine get another parent in the tree.
+    ///
+    /// For a pointer that names no entry the answer is `InvalidPtr`, and nothing changes. It doesn't compare keys.
+    pub fn remove(&mut self, p: P) -> InvalidationResult<T>
+        ensures value { valid_value result ≡ item_of self.old.list.entries (P.index p) (P.era p) }
+        ensures overflow { OnSome (valid_value result)
+            (has_overflowed result ≡ overflows_after P.Gen.greatest self.old.list.generation) }
+        ensures removed { OnSome (valid_value result) (self.new.list ≡ removed P.Gen.greatest self.old.list (P.index p)) }
+        ensures shape { OnSome (valid_value result) (IsShrunk self.old.shape self.new.shape) }
+        ensures invalid { IfNone (valid_value result) (self.new ≡ self.old) }
+    {
+        if !self.contains(p) {
+            return InvalidationResult::InvalidPtr;
+        }
+        item_taken::<P, T>(self.tree.remove_inx(p.inx()))
+    }
+
+    /// Takes the entry at the index out, as `remove` does, and answers its generation and its item.
+    ///
+    /// At an index without an entry the answer is `InvalidPtr`, and nothing changes.
+    pub fn remove_inx(&mut self, i: P::Inx) -> InvalidationResult<(P::Gen, T)>
+        ensures value { option_map (λ e. (P.Gen.number e.0, e.1)) (valid_value result)
+            ≡ entry_at self.old.list.entries (P.Inx.number i) }
+        ensures overflow { OnSome (valid_value result)
+            (has_overflowed result ≡ overflows_after P.Gen.greatest self.old.list.generation) }
+        ensures removed { OnSome (valid_value result)
+            (self.new.list ≡ removed P.Gen.greatest self.old.list (P.Inx.number i)) }
+        ensures shape { OnSome (valid_value result) (IsShrunk self.old.shape self.new.shape) }
+        ensures invalid { IfNone (valid_value result) (self.new ≡ self.old) }
+    {
+        self.tree.remove_inx(i)
+    }
+
+    /// Ends the pointer and gives its entry a new one, at the same index and place and with the raised generation. The item stays.
+    ///
+    /// For a pointer that names no entry the answer is `InvalidPtr`, and nothing changes.
+    pub fn invalidate(&mut self, p: P) -> InvalidationResult<P>
+        ensures valid { is_some (valid_value result) ≡ is_some (item_of self.old.list.entries (P.index p) (P.era p)) }
+        ensures index { IfSome (valid_value result) (λ q. P.index q ≡ P.index p) }
+        ensures era { IfSome (valid_value result)
+            (λ q. P.era q ≡ next_generation P.Gen.greatest self.old.list.generation) }
+        ensures overflow { OnSome (valid_value result)
+            (has_overflowed result ≡ overflows_after P.Gen.greatest self.old.list.generation) }
+        ensures renewed { OnSome (valid_value result)
+            (self.new ≡ record self.old { list = renewed P.Gen.greatest self.old.list (P.index p) }) }
+        ensures invalid { IfNone (valid_value result) (self.new ≡ self.old) }
+    {
+        self.tree.invalidate(p)
+    }
+
+    /// Drops all entries and raises the generation, once also where there was none. The capacity stays, and all slots count as
+    /// never used.
+    pub fn clear(&mut self) -> InvalidationOption<()>
+    where
+        T: Drop,
+        ensures after { self.new ≡ record { list = cleared P.Gen.greatest self.old.list; shape = missing } }
+        ensures overflow { is_overflow result ≡ overflows_after P.Gen.greatest self.old.list.generation }
+    {
+        self.tree.clear()
+    }
+}
+
+// The answer of the tree, without the generation.
+fn item_taken<P: Ptr, T>(taken: InvalidationResult<(P::Gen, T)>) -> InvalidationResult<T>
+    ensures value { valid_value result ≡ option_map (λ e. e.1) (valid_value taken) }
+    ensures overflow { has_overflowed result ≡ has_overflowed taken }
+{
+    taken.map(|entry| entry.1)
+}
