@@ -3,5 +3,9 @@ pub mod KnownBytes
 pub mod Parts
 pub mod Digits
 pub mod ScriptLemmas
+pub mod Words
+pub mod Lists
+pub mod Ranking
+pub mod Marking
 pub mod Runs
 pub mod Endings

@@ -1,7 +1,9 @@
--- Numbers as a script writes them.
-use Rattle.std.specs.Prelude.{ℕ, ◌-◌, ◌^◌, ◌==◌, ℤ, pos, neg_ℤ, List, [], ◌∷◌, Bool, ◌&&◌, nat_lt, nat_le, length, if◌then◌else◌, Option, Some, None, option_map}
+-- Numbers and pointers as a script writes them.
+use Rattle.std.specs.Prelude.{ℕ, ◌-◌, ◌^◌, ◌==◌, ℤ, pos, neg_ℤ, List, [], ◌∷◌, Bool, ◌&&◌, nat_lt, nat_le, length, if◌then◌else◌, Option, Some, None, option_and_then, option_map}
+use Rattle.std.specs.List.{before_first, after_first}
 use Rattle.std.specs.Str.{all_ascii_digits}
 use Rattle.std.specs.Str.Parse.{digits_value}
+use Rattle.ord_script.specs.Pairs.{Pointer}
 
 -- one or more digits, of which the number is at most the greatest one; leading zeros are allowed
 abbrev pub is_number_up_to : ℕ → List ℕ → Bool
@@ -19,6 +21,20 @@ key_of (b ∷ word) =
     if b == 45 then option_map (λ n. neg_ℤ (pos n)) (number_up_to (2 ^ 63) word)
     else option_map pos (number_up_to (2 ^ 63 - 1) (b ∷ word))
 
--- a value of 64 bits
+-- a value of 64 bits, or a generation
 abbrev pub value_of : List ℕ → Option ℕ
 value_of word = number_up_to (2 ^ 64 - 1) word
+
+-- an index of 32 bits
+abbrev pub index_of : List ℕ → Option ℕ
+index_of word = number_up_to (2 ^ 32 - 1) word
+
+-- a point
+abbrev pub is_point : ℕ → Bool
+is_point b = b == 46
+
+-- an index and a generation, with the first point between them
+abbrev pub pointer_of : List ℕ → Option Pointer
+pointer_of word =
+    option_and_then (λ index. option_map (λ generation. (index, generation)) (value_of (after_first is_point word)))
+    (index_of (before_first is_point word))

@@ -4,8 +4,8 @@ use Rattle.std.specs.List.{slice_split}
 use Rattle.std.specs.Str.Lines.{lines}
 use Rattle.ord_script.specs.declared.fault.Fault.{Fault}
 use Rattle.ord_script.specs.declared.fault.FaultKind.{FaultKind}
-use Rattle.ord_script.specs.declared.command.Command.{Command}
 use Rattle.ord_script.specs.Commands.{said_by}
+use Rattle.ord_script.specs.Pairs.{PairCommand}
 
 -- a space or a tab
 abbrev pub is_blank : ℕ → Bool
@@ -17,11 +17,11 @@ words_of line = filter (λ word. not (length word == 0)) (slice_split is_blank l
 
 -- the commands up to the first fault, and that fault, if there is one
 pub record Script : Type 0 where
-  pub commands : List Command
+  pub commands : List PairCommand
   pub fault : Option Fault
 
 -- what a line says, before what the lines after it say
-abbrev pub and_then : ℕ → Option (Result Command FaultKind) → Script → Script
+abbrev pub and_then : ℕ → Option (Result PairCommand FaultKind) → Script → Script
 and_then number None script = script
 and_then number (Some (Ok command)) script =
     record { commands = command ∷ script.commands; fault = script.fault }

@@ -1,22 +1,22 @@
 -- What a script answers, and what is written of it.
-use Rattle.std.specs.Prelude.{◌≡◌, ℕ, ◌+◌, ◌<◌, ◌≤◌, Bool, true, false, List, [], ◌++◌, length, codes, Option, Some, None}
+use Rattle.std.specs.Prelude.{◌≡◌, ℕ, ◌+◌, ◌<◌, ◌≤◌, Bool, true, false, List, [], ◌++◌, length, map, codes, Option, Some, None}
 use Rattle.std.specs.Io.KnownBytes.{Consumes, Appends}
-use Rattle.ord_script.specs.declared.entry.Entry.{Entry}
-use Rattle.ord_script.specs.declared.reply.Reply.{Reply}
 use Rattle.ord_script.specs.declared.fault.Fault.{Fault}
 use Rattle.ord_script.specs.declared.script_end.ScriptEnd.{ScriptEnd}
 use Rattle.ord_script.specs.declared.script_end.ScriptEnd.TheVariants as ends
 use Rattle.ord_script.specs.Devices.{limit}
-use Rattle.ord_script.specs.Machine.{Runs}
+use Rattle.ord_script.specs.Commands.{word_of}
+use Rattle.ord_script.specs.Machine.{State, Runs}
+use Rattle.ord_script.specs.Pairs.{Pair, PairReply, reading, beginning}
 use Rattle.ord_script.specs.Script.{Script, script_of}
 use Rattle.ord_script.specs.Text.{reply_lines, fault_line}
 
--- The text answers the script: the replies of a run over its commands from an empty list, and then its fault.
+-- The text answers the script: the replies of a run over its commands from an empty arena, and then its fault.
 pub record Answers (A : Type 0) (script : Script) (text : List ℕ) : Type 0 where
-  pub replies : List (Reply A)
-  pub list : List Entry
-  pub run : Runs [] script.commands replies list
-  pub lines : text ≡ reply_lines script.commands replies ++ fault_line script.fault
+  pub replies : List (PairReply A)
+  pub end : State Pair
+  pub run : Runs reading beginning script.commands replies end
+  pub lines : text ≡ reply_lines (map word_of script.commands) replies ++ fault_line script.fault
 
 -- how a script ends where all goes well
 abbrev pub end_of : Option Fault → ScriptEnd

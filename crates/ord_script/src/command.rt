@@ -1,13 +1,28 @@
-// What a list can be asked.
-use crate::entry::Pair;
+// What an arena can be asked.
+use arena_base::Ptr;
+use triple_ord::SimpleOrdItem;
 
-/// A command to a list.
-#[derive(Clone, Copy, Debug)]
-pub enum Command {
-    /// Adds an entry, or gives the one with an equal key this pair.
-    Insert(Pair),
-    /// Asks for the pointer of the entry with this key.
-    Find(i64),
+/// A command to an ordered arena of items `T` under pointers `P`.
+#[derive(Drop)]
+pub enum Command<P: Ptr, T: SimpleOrdItem> {
+    /// Inserts the item by its key.
+    Insert(T),
+    /// Searches an entry with an equal key.
+    Find(T::Key),
+    /// Searches an entry with an equal key, and asks how many entries the search was shown.
+    Visits(T::Key),
+    /// Asks for the item that the pointer names.
+    Get(P),
+    /// Asks for the pointer of the first entry.
+    First,
+    /// Asks for the pointer of the last entry.
+    Last,
+    /// Asks for the neighbours of the entry at the index.
+    Neighbours(P::Inx),
     /// Asks for all entries in order.
     List,
+    /// Asks for the ranks of all entries in the tree, in order.
+    Ranks,
+    /// Asks for the numbers that go with the entries.
+    Stats,
 }

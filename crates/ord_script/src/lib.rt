@@ -1,13 +1,14 @@
-//! Scripts of commands on a sorted list: bytes in, replies out.
+//! Commands to an ordered arena, and scripts of them: bytes in, replies out.
 //!
-//! `serve` reads a whole script, runs its commands, and writes a line for each reply.
+//! `run` runs commands on any `SimpleOrdArena`, and answers a reply to each. `serve` reads a whole script, runs its commands on an
+//! arena of pairs, and writes a line for each reply.
 #![tactic(auto)]
 
 mod command;
 mod cutting;
-mod entry;
 mod fault;
 mod numbers;
+mod pairs;
 mod parsing;
 mod reading;
 mod reply;
@@ -15,13 +16,16 @@ mod running;
 mod script;
 mod script_end;
 mod serving;
-mod sorted_list;
+mod steps;
 mod text;
 mod watched;
 mod word;
 mod writing;
 
+pub use command::Command;
 pub use fault::FaultKind;
+pub use reply::Reply;
+pub use running::run;
 pub use script_end::ScriptEnd;
 pub use serving::serve;
 pub use watched::Watched;

@@ -1,6 +1,8 @@
-// Reads the numbers of a script.
-ghost use Rattle.std.specs.Prelude.{◌≡◌};
-ghost use Rattle.ord_script.specs.Numbers.{number_up_to, key_of, value_of};
+// Reads the numbers and pointers of a script.
+ghost use Rattle.std.specs.Prelude.{◌≡◌, position};
+ghost use Rattle.ord_script.specs.Numbers.{number_up_to, key_of, value_of, index_of, pointer_of, is_point};
+
+use arena_base::{P0, Ptr};
 
 /// A key: decimal digits, which may have a `-` before them.
 pub fn key_of(word: &[u8]) -> Option<i64>
@@ -18,11 +20,36 @@ pub fn key_of(word: &[u8]) -> Option<i64>
     }
 }
 
-/// A value: decimal digits.
+/// A value, or a generation: decimal digits.
 pub fn value_of(word: &[u8]) -> Option<u64>
     ensures { result ≡ value_of word.now }
 {
     number_up_to(u64::MAX, word)
+}
+
+/// An index: decimal digits.
+pub fn index_of(word: &[u8]) -> Option<u32>
+    ensures { result ≡ index_of word.now }
+{
+    let number = number_up_to(u64::from(u32::MAX), word)?;
+    Some(number as u32)
+}
+
+/// A pointer: an index and a generation, with a point between them.
+pub fn pointer_of(word: &[u8]) -> Option<P0>
+    ensures { result ≡ pointer_of word.now }
+{
+    let point = first_point(word)?;
+    let index = index_of(&word[..point])?;
+    let generation = value_of(&word[point + 1..])?;
+    Some(P0::_from_raw(index, generation))
+}
+
+/// The place of the first point.
+fn first_point(word: &[u8]) -> Option<usize>
+    ensures { result ≡ position is_point word.now }
+{
+    word.iter().position(|b| *b == b'.')
 }
 
 /// The number that decimal digits write, where it is at most the greatest one. It is exact: any

@@ -1,20 +1,21 @@
 // Reads the command that a line gives.
 ghost use Rattle.std.specs.Prelude.{◌≡◌, MatchResult};
-ghost use Rattle.ord_script.specs.Commands.{no_argument, one_argument, two_arguments, insert_of, find_of, list_of, command_by, said_by};
+ghost use Rattle.ord_script.specs.Commands.{no_argument, one_argument, two_arguments, insert_of, with_key, get_of, neighbours_of, alone, said_by};
 ghost use Rattle.ord_script.specs.Commands as spec;
 ghost use Rattle.ord_script.specs.Script.{words_of};
 
 use crate::command::Command;
 use crate::cutting::Words;
-use crate::entry::Pair;
 use crate::fault::FaultKind;
-use crate::numbers::{key_of, value_of};
-use crate::word::{Word, word_of};
+use crate::numbers::{index_of, key_of, pointer_of, value_of};
+use crate::pairs::PairCommand;
+use crate::word::{Word, word_in};
+use triple_ord::OrdPair;
 
 /// What a line says: nothing, where it has no words or begins with `#`; else a command, or what is
 /// wrong with it. The first word is looked at first, then the number of words, then each argument
 /// from the left.
-pub fn command_in(line: &[u8]) -> Option<Result<Command, FaultKind>>
+pub fn command_in(line: &[u8]) -> Option<Result<PairCommand, FaultKind>>
     ensures { result ≡ said_by (words_of line.now) }
 {
     let mut words = Words::new(line);
@@ -25,45 +26,82 @@ pub fn command_in(line: &[u8]) -> Option<Result<Command, FaultKind>>
     Some(command_of(first, words))
 }
 
-fn command_of(first: &[u8], arguments: Words<'_>) -> Result<Command, FaultKind>
+fn command_of(first: &[u8], arguments: Words<'_>) -> Result<PairCommand, FaultKind>
     ensures { result ≡ spec.command_of first.now arguments.entry }
 {
-    let word = word_of(first).ok_or(FaultKind::UnknownCommand)?;
+    let word = word_in(first).ok_or(FaultKind::UnknownCommand)?;
     match word {
         Word::Insert => insert_of(arguments),
         Word::Find => find_of(arguments),
-        Word::List => list_of(arguments),
+        Word::Visits => visits_of(arguments),
+        Word::Get => get_of(arguments),
+        Word::First => alone(Command::First, arguments),
+        Word::Last => alone(Command::Last, arguments),
+        Word::Neighbours => neighbours_of(arguments),
+        Word::List => alone(Command::List, arguments),
+        Word::Ranks => alone(Command::Ranks, arguments),
+        Word::Stats => alone(Command::Stats, arguments),
     }
 }
 
 /// `insert K V`
 #[tactic(auto, unfolding(crate::specs::Commands::insert_of))]
-fn insert_of(arguments: Words<'_>) -> Result<Command, FaultKind>
+fn insert_of(arguments: Words<'_>) -> Result<PairCommand, FaultKind>
     ensures { result ≡ insert_of arguments.entry }
 {
     let (key, value) = two(arguments)?;
     let key = key_of(key).ok_or(FaultKind::BadNumber)?;
     let value = value_of(value).ok_or(FaultKind::BadNumber)?;
-    Ok(Command::Insert(Pair { key, value }))
+    Ok(Command::Insert(OrdPair::new(key, value)))
 }
 
 /// `find K`
-#[tactic(auto, unfolding(crate::specs::Commands::find_of))]
-fn find_of(arguments: Words<'_>) -> Result<Command, FaultKind>
-    ensures { result ≡ find_of arguments.entry }
+#[tactic(auto, unfolding(crate::specs::Commands::with_key))]
+fn find_of(arguments: Words<'_>) -> Result<PairCommand, FaultKind>
+    ensures { result ≡ with_key Command.Find arguments.entry }
 {
     let key = one(arguments)?;
     let key = key_of(key).ok_or(FaultKind::BadNumber)?;
     Ok(Command::Find(key))
 }
 
-/// `list`
-#[tactic(auto, unfolding(crate::specs::Commands::list_of))]
-fn list_of(arguments: Words<'_>) -> Result<Command, FaultKind>
-    ensures { result ≡ list_of arguments.entry }
+/// `visits K`
+#[tactic(auto, unfolding(crate::specs::Commands::with_key))]
+fn visits_of(arguments: Words<'_>) -> Result<PairCommand, FaultKind>
+    ensures { result ≡ with_key Command.Visits arguments.entry }
+{
+    let key = one(arguments)?;
+    let key = key_of(key).ok_or(FaultKind::BadNumber)?;
+    Ok(Command::Visits(key))
+}
+
+/// `get P`
+#[tactic(auto, unfolding(crate::specs::Commands::get_of))]
+fn get_of(arguments: Words<'_>) -> Result<PairCommand, FaultKind>
+    ensures { result ≡ get_of arguments.entry }
+{
+    let pointer = one(arguments)?;
+    let pointer = pointer_of(pointer).ok_or(FaultKind::BadNumber)?;
+    Ok(Command::Get(pointer))
+}
+
+/// `neighbours I`
+#[tactic(auto, unfolding(crate::specs::Commands::neighbours_of))]
+fn neighbours_of(arguments: Words<'_>) -> Result<PairCommand, FaultKind>
+    ensures { result ≡ neighbours_of arguments.entry }
+{
+    let index = one(arguments)?;
+    let index = index_of(index).ok_or(FaultKind::BadNumber)?;
+    Ok(Command::Neighbours(index))
+}
+
+/// A command without arguments.
+#[tactic(auto, unfolding(crate::specs::Commands::alone))]
+fn alone(command: PairCommand, arguments: Words<'_>) -> Result<PairCommand, FaultKind>
+    ensures { result ≡ alone command arguments.entry }
 {
     none(arguments)?;
-    Ok(Command::List)
+    Ok(command)
 }
 
 /// No argument.

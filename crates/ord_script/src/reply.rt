@@ -1,34 +1,31 @@
-// What a list answers.
-use crate::entry::{Entry, Pair, Pointer};
+// What an arena answers.
+use arena_base::Ptr;
 use std::alloc::Allocator;
-use std::marker::Model;
-
-/// The entries of a list, copied in their order.
-#[derive(Drop)]
-pub struct Listing<A: Allocator> {
-    pub entries: Vec<Entry, A>,
-}
-
-impl<A: Allocator> Model for Listing<A> {
-    ghost use Rattle.std.specs.Prelude.{List};
-    ghost use Rattle.ord_script.specs.declared.entry.Entry.{Entry};
-
-    ghost Value = { List Entry };
-
-    ghost view = { λ listing. listing.entries.items };
-}
+use triple_ord::{OrdEntryKind, OrdInsertionError};
 
 /// A reply to a command.
 #[derive(Drop)]
-pub enum Reply<A: Allocator> {
-    /// The pair is in a new entry.
-    New(Pointer),
-    /// The pair took the place of this one.
-    Replaced(Pointer, Pair),
-    /// The entry with the key, if there is one.
-    Found(Option<Pointer>),
-    /// All entries.
-    Entries(Listing<A>),
-    /// The command wanted memory and got none. It changed nothing.
-    RefusedMemory,
+pub enum Reply<P: Ptr, T, A: Allocator> {
+    /// The item is in a new entry, or replaces the item that an entry with an equal key had, which stands beside.
+    Inserted(OrdEntryKind<P>, Option<T>),
+    /// The command was refused, and changed nothing. A command other than an insertion is refused for want of memory alone.
+    Refused(OrdInsertionError),
+    /// The pointer of an entry with an equal key, `None` where the search stopped at a gap that fits the key; and how many
+    /// entries the search was shown.
+    Found(Option<P>, u128),
+    /// How many entries the search was shown.
+    Count(u128),
+    /// A clone of the item, `None` where the pointer names no entry.
+    Item(Option<T>),
+    /// The pointer of the entry, `None` where there is none.
+    At(Option<P>),
+    /// The indexes of the entries before and after the one at the index, each `None` at an end of the list; `None` where the index
+    /// has no entry.
+    Links(Option<(Option<P::Inx>, Option<P::Inx>)>),
+    /// The pointer of each entry and a clone of its item, in order.
+    Entries(Vec<(P, T), A>),
+    /// The rank of each entry in the tree, in order.
+    Ranks(Vec<u8, A>),
+    /// Length, capacity, the generation that the next entry gets, and the maximum of the capacity, if one is set.
+    Stats(usize, usize, P::Gen, Option<usize>),
 }

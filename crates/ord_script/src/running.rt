@@ -1,26 +1,88 @@
-// Runs commands on a list.
+// Runs commands on an ordered arena.
 ghost use Rattle.std.specs.Prelude.{◌≡◌, IfOk, OnErr};
-ghost use Rattle.ord_script.specs.Machine.{Runs};
+ghost use Rattle.ord_tree.specs.Tree.{IsSoundTree};
+ghost use Rattle.ord_script.specs.Machine.{Marks, AreTrue, Replies, RunsBetween};
 
 use crate::command::Command;
 use crate::reply::Reply;
-use crate::sorted_list::SortedList;
+use crate::steps;
+use arena_base::Ptr;
 use std::alloc::{AllocError, Allocator};
+use std::cmp::Ordering;
+use triple_ord::{SimpleOrdArena, SimpleOrdItem};
 
-/// Runs the commands in order, and answers one reply to each. Memory for the replies is asked for
-/// first: where that is refused, nothing has changed.
-pub fn run<A: Allocator + Copy>(
+/// Runs the commands in order, and answers one reply to each.
+///
+/// Memory for the replies is asked for first, on `alloc`: where that is refused, nothing has changed. What the replies hold stands on
+/// `alloc` too. A command that is refused, also memory, says so in its reply, changes nothing, and the others go on. A clone of an
+/// item has to equal it. The closure is for searches by closure; no command calls it yet.
+pub fn run<
+    P: Ptr,
+    T: SimpleOrdItem + Clone + Drop,
+    F: FnMut(P, &T) -> Ordering,
+    A: Allocator + Copy,
+>(
     alloc: A,
-    list: &mut SortedList<A>,
-    commands: &[Command],
-) -> Result<Vec<Reply<A>, A>, AllocError>
-    ensures run { IfOk result (λ replies. Runs list.old commands.now replies.items list.new) }
-    ensures err { OnErr result (list.new ≡ list.old) }
+    arena: &mut SimpleOrdArena<P, T, A>,
+    commands: Vec<Command<P, T>, A>,
+    closure: &mut F,
+) -> Result<Vec<Reply<P, T, A>, A>, AllocError>
+where
+    T::Key: Drop,
+    requires { (x y : T) → T.is_clone x y → y ≡ x }
+    ensures run { IfOk result (λ replies. RunsBetween (record {
+      key = T.key_of;
+      cmp = T.Key.cmp;
+      most = P.Inx.most;
+      pointer = λ p. (P.index p, P.era p);
+      index = P.Inx.number;
+      generation = P.Gen.number;
+    })
+        arena.old commands.items replies.items arena.new) }
+    ensures err { OnErr result (arena.new ≡ arena.old) }
+    ensures closure { closure.new ≡ closure.old }
 {
     let mut replies = Vec::with_capacity(alloc, commands.len())?;
     for command in commands {
-        let reply = list.step(alloc, command);
+        let reply = step(alloc, arena, command);
         replies.push(reply).unwrap();
     }
     Ok(replies)
+}
+
+// One step.
+fn step<P: Ptr, T: SimpleOrdItem + Clone + Drop, A: Allocator + Copy>(
+    alloc: A,
+    arena: &mut SimpleOrdArena<P, T, A>,
+    command: Command<P, T>,
+) -> Reply<P, T, A>
+where
+    T::Key: Drop,
+    requires { (x y : T) → T.is_clone x y → y ≡ x }
+    ensures replies { (marks : Marks) → AreTrue marks arena.old.shape
+        → Replies (record {
+          key = T.key_of;
+          cmp = T.Key.cmp;
+          most = P.Inx.most;
+          pointer = λ p. (P.index p, P.era p);
+          index = P.Inx.number;
+          generation = P.Gen.number;
+        })
+        (record { tree = arena.old; marks = marks }) command result arena.new }
+    ensures sound { IsSoundTree arena.old }
+{
+    // with its length an arena tells what holds of its shape
+    let _ = arena.len();
+    match command {
+        Command::Insert(item) => steps::insert(arena, item),
+        Command::Find(key) => steps::find(arena, &key),
+        Command::Visits(key) => steps::visits(arena, &key),
+        Command::Get(p) => steps::get(arena, p),
+        Command::First => steps::first(arena),
+        Command::Last => steps::last(arena),
+        Command::Neighbours(i) => steps::neighbours(arena, i),
+        Command::List => steps::list(alloc, arena),
+        Command::Ranks => steps::ranks(alloc, arena),
+        Command::Stats => steps::stats(arena),
+    }
 }

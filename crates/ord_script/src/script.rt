@@ -2,9 +2,9 @@
 ghost use Rattle.std.specs.Prelude.{◌≡◌, IfOk};
 ghost use Rattle.ord_script.specs.Script.{script_of};
 
-use crate::command::Command;
 use crate::cutting::first_line;
 use crate::fault::Fault;
+use crate::pairs::PairCommand;
 use crate::parsing::command_in;
 use std::alloc::{AllocError, Allocator};
 use std::marker::Model;
@@ -12,7 +12,7 @@ use std::marker::Model;
 /// The commands of a script up to its first fault, and that fault, if there is one.
 #[derive(Drop)]
 pub struct Script<A: Allocator> {
-    pub commands: Vec<Command, A>,
+    pub commands: Vec<PairCommand, A>,
     pub fault: Option<Fault>,
 }
 

@@ -1,21 +1,27 @@
 // Reads a script, runs it, and writes its answer.
 ghost use Rattle.std.specs.Prelude.{◌≡◌, ◌||◌, true, false, IfOk, string_bytes};
 ghost use Rattle.std.specs.Io.KnownBytes.{IsAtEnd};
+ghost use Rattle.ord_script.specs.Machine.{State, Runs};
+ghost use Rattle.ord_script.specs.Pairs.{Pair, reading, beginning};
 ghost use Rattle.ord_script.specs.Script.{script_of};
 ghost use Rattle.ord_script.specs.Service.{Answers, Serves, end_of, is_answered, is_read_failed, is_write_failed};
 
+use crate::pairs::{Pair, PairArena, PairCommand, PairReply};
 use crate::reading::{ReadError, read_all};
 use crate::running::run;
-use crate::script::parse;
+use crate::script::{Script, parse};
 use crate::script_end::ScriptEnd;
-use crate::sorted_list::SortedList;
 use crate::text::text_of;
 use crate::watched::Watched;
+use crate::word::words_of;
 use crate::writing::write_all;
+use arena_base::P0;
 use std::alloc::{AllocError, Allocator};
+use std::cmp::Ordering;
 use std::io::{Read, Write};
+use triple_ord::SimpleOrdArena;
 
-/// Reads a whole script, runs its commands on an empty list, and writes the answer: a line for each
+/// Reads a whole script, runs its commands on an empty arena, and writes the answer: a line for each
 /// reply, and one for the first fault, if there is one.
 ///
 /// All memory is taken from `alloc`. Nothing is written before the whole answer stands there, and
@@ -66,13 +72,26 @@ fn answer_to<A: Allocator + Copy>(alloc: A, bytes: &[u8]) -> Result<Answer<A>, A
         (λ answer. Answers A (script_of bytes.now) (string_bytes answer.text)) }
     ensures end { IfOk result (λ answer. answer.end ≡ end_of (script_of bytes.now).fault) }
 {
-    let script = parse(alloc, bytes)?;
-    let mut list = SortedList::new(alloc);
-    let replies = run(alloc, &mut list, &script.commands)?;
-    let text = text_of(alloc, &script.commands, &replies, script.fault)?;
-    let end = match script.fault {
+    let Script { commands, fault } = parse(alloc, bytes)?;
+    let words = words_of(alloc, &commands)?;
+    let replies = replies_to(alloc, commands)?;
+    let text = text_of(alloc, &words, &replies, fault)?;
+    let end = match fault {
         None => ScriptEnd::Done,
         Some(fault) => ScriptEnd::Fault(fault.line, fault.kind),
     };
     Ok(Answer { text, end })
+}
+
+/// Runs the commands on an empty arena.
+fn replies_to<A: Allocator + Copy>(
+    alloc: A,
+    commands: Vec<PairCommand, A>,
+) -> Result<Vec<PairReply<A>, A>, AllocError>
+    ensures { IfOk result (λ replies. (end : State Pair) × Runs reading beginning commands.items replies.items end) }
+{
+    let mut arena: PairArena<A> = SimpleOrdArena::new(alloc);
+    // no command searches by a closure
+    let mut closure = |_p: P0, _pair: &Pair| Ordering::Equal;
+    run(alloc, &mut arena, commands, &mut closure)
 }

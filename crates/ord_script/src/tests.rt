@@ -1,4 +1,4 @@
-// Scripts through `serve`, as a program sees them.
+// Scripts through `serve`, and runs of commands, as a program sees them.
 ghost use Rattle.std.specs.Prelude.{◌≤◌, IfOk};
 
 use crate::{FaultKind, ScriptEnd, Watched, serve};
@@ -73,7 +73,7 @@ impl Write for Sink {
 }
 
 /// Scripts, each with its answer and its end.
-const ROWS: [(&[u8], &str, ScriptEnd); 52] = [
+const ROWS: [(&[u8], &str, ScriptEnd); 80] = [
     // the commands
     (
         b"insert 50 1\ninsert 30 2\nfind 30\nlist\n",
@@ -96,6 +96,148 @@ const ROWS: [(&[u8], &str, ScriptEnd); 52] = [
         b"insert 2 0\ninsert -1 0\ninsert 3 0\ninsert 1 0\ninsert 0 0\nfind 1\nlist\n",
         "new 1.2\nnew 2.2\nnew 3.2\nnew 4.2\nnew 5.2\nat 4.2\nlist 2.2=-1:0 5.2=0:0 4.2=1:0 1.2=2:0 3.2=3:0\n",
         ScriptEnd::Done,
+    ),
+    // the tree, and what stands around the entries
+    (
+        b"insert 50 0\ninsert 30 0\ninsert 70 0\ninsert 60 0\ninsert 10 0\nranks\nvisits 53\nneighbours 4\nstats\n",
+        "new 1.2\nnew 2.2\nnew 3.2\nnew 4.2\nnew 5.2\nranks 1 2 3 1 2\nvisits 3\nneighbours 1 3\nlen 5 capacity 8 generation 2 max none\n",
+        ScriptEnd::Done,
+    ),
+    (
+        b"insert 1 0\ninsert 2 0\ninsert 3 0\ninsert 4 0\ninsert 5 0\ninsert 6 0\ninsert 7 0\nranks\nvisits 4\nvisits 2\nvisits 7\nvisits 8\n",
+        "new 1.2\nnew 2.2\nnew 3.2\nnew 4.2\nnew 5.2\nnew 6.2\nnew 7.2\nranks 1 2 1 3 1 2 1\nvisits 1\nvisits 2\nvisits 3\nvisits 3\n",
+        ScriptEnd::Done,
+    ),
+    (
+        b"insert 50 5\ninsert 30 3\ninsert 70 7\nfirst\nlast\nget 1.2\nget 2.2\nget 3.2\nget 003.0002\n",
+        "new 1.2\nnew 2.2\nnew 3.2\nat 2.2\nat 3.2\nitem 50:5\nitem 30:3\nitem 70:7\nitem 70:7\n",
+        ScriptEnd::Done,
+    ),
+    (
+        b"insert 50 5\nget 1.1\nget 1.3\nget 0.2\nget 2.2\nget 4294967295.18446744073709551615\n",
+        "new 1.2\nnone\nnone\nnone\nnone\nnone\n",
+        ScriptEnd::Done,
+    ),
+    (
+        b"insert 50 0\ninsert 30 0\ninsert 70 0\nneighbours 1\nneighbours 2\nneighbours 3\nneighbours 4\nneighbours 0\nneighbours 4294967295\n",
+        "new 1.2\nnew 2.2\nnew 3.2\nneighbours 2 3\nneighbours - 1\nneighbours 1 -\nnone\nnone\nnone\n",
+        ScriptEnd::Done,
+    ),
+    (
+        b"insert 5 0\nneighbours 1\nfirst\nlast\nranks\nvisits 5\nvisits 6\nstats\n",
+        "new 1.2\nneighbours - -\nat 1.2\nat 1.2\nranks 1\nvisits 1\nvisits 1\nlen 1 capacity 4 generation 2 max none\n",
+        ScriptEnd::Done,
+    ),
+    (
+        b"first\nlast\nget 1.2\nneighbours 1\nlist\nranks\nvisits 0\nfind 0\nstats\n",
+        "none\nnone\nnone\nnone\nlist\nranks\nvisits 0\nnone\nlen 0 capacity 0 generation 2 max none\n",
+        ScriptEnd::Done,
+    ),
+    (
+        b"visits",
+        "line 1: wrong arguments\n",
+        ScriptEnd::Fault(1, FaultKind::WrongArguments),
+    ),
+    (
+        b"get 1.2 3",
+        "line 1: wrong arguments\n",
+        ScriptEnd::Fault(1, FaultKind::WrongArguments),
+    ),
+    (
+        b"first 1",
+        "line 1: wrong arguments\n",
+        ScriptEnd::Fault(1, FaultKind::WrongArguments),
+    ),
+    (
+        b"last 1",
+        "line 1: wrong arguments\n",
+        ScriptEnd::Fault(1, FaultKind::WrongArguments),
+    ),
+    (
+        b"neighbours",
+        "line 1: wrong arguments\n",
+        ScriptEnd::Fault(1, FaultKind::WrongArguments),
+    ),
+    (
+        b"ranks 1",
+        "line 1: wrong arguments\n",
+        ScriptEnd::Fault(1, FaultKind::WrongArguments),
+    ),
+    (
+        b"stats 1",
+        "line 1: wrong arguments\n",
+        ScriptEnd::Fault(1, FaultKind::WrongArguments),
+    ),
+    (
+        b"visits x",
+        "line 1: bad number\n",
+        ScriptEnd::Fault(1, FaultKind::BadNumber),
+    ),
+    (
+        b"neighbours -1",
+        "line 1: bad number\n",
+        ScriptEnd::Fault(1, FaultKind::BadNumber),
+    ),
+    (
+        b"neighbours 4294967296",
+        "line 1: bad number\n",
+        ScriptEnd::Fault(1, FaultKind::BadNumber),
+    ),
+    (
+        b"neighbour 1",
+        "line 1: unknown command\n",
+        ScriptEnd::Fault(1, FaultKind::UnknownCommand),
+    ),
+    // pointers
+    (
+        b"get 1",
+        "line 1: bad number\n",
+        ScriptEnd::Fault(1, FaultKind::BadNumber),
+    ),
+    (
+        b"get 1.",
+        "line 1: bad number\n",
+        ScriptEnd::Fault(1, FaultKind::BadNumber),
+    ),
+    (
+        b"get .2",
+        "line 1: bad number\n",
+        ScriptEnd::Fault(1, FaultKind::BadNumber),
+    ),
+    (
+        b"get .",
+        "line 1: bad number\n",
+        ScriptEnd::Fault(1, FaultKind::BadNumber),
+    ),
+    (
+        b"get 1.2.3",
+        "line 1: bad number\n",
+        ScriptEnd::Fault(1, FaultKind::BadNumber),
+    ),
+    (
+        b"get 1..2",
+        "line 1: bad number\n",
+        ScriptEnd::Fault(1, FaultKind::BadNumber),
+    ),
+    (
+        b"get -1.2",
+        "line 1: bad number\n",
+        ScriptEnd::Fault(1, FaultKind::BadNumber),
+    ),
+    (
+        b"get 1,2",
+        "line 1: bad number\n",
+        ScriptEnd::Fault(1, FaultKind::BadNumber),
+    ),
+    (
+        b"get 4294967296.2",
+        "line 1: bad number\n",
+        ScriptEnd::Fault(1, FaultKind::BadNumber),
+    ),
+    (
+        b"get 1.18446744073709551616",
+        "line 1: bad number\n",
+        ScriptEnd::Fault(1, FaultKind::BadNumber),
     ),
     // a fault ends the script
     (
@@ -443,37 +585,42 @@ fn reads_one_byte_beyond_the_limit(rt: HostRuntime) -> Result<(), Fail> {
     Ok(())
 }
 
-/// A script whose fifth entry makes the list grow, and whose last command copies it.
-const GROWING: &[u8] = b"insert 9 1\ninsert 8 2\ninsert 7 3\ninsert 6 4\ninsert 5 5\nlist\n";
+/// A script whose first and fifth entries make the arena grow, and whose lists copy it.
+const GROWING: &[u8] =
+    b"insert 9 1\ninsert 8 2\ninsert 7 3\ninsert 6 4\nlist\nranks\ninsert 5 5\nget 1.2\nlist\nranks\n";
 
 /// How it may end with more and more memory. A command that is refused memory says so, and the
 /// script goes on.
-const OUTCOMES: [(ScriptEnd, &str); 4] = [
+const OUTCOMES: [(ScriptEnd, &str); 5] = [
     (ScriptEnd::Memory, ""),
     (
         ScriptEnd::Done,
-        "new 1.2\nnew 2.2\nnew 3.2\nnew 4.2\nrefused memory\nrefused memory\n",
+        "refused memory\nrefused memory\nrefused memory\nrefused memory\nlist\nranks\nrefused memory\nnone\nlist\nranks\n",
     ),
     (
         ScriptEnd::Done,
-        "new 1.2\nnew 2.2\nnew 3.2\nnew 4.2\nnew 5.2\nrefused memory\n",
+        "new 1.2\nnew 2.2\nnew 3.2\nnew 4.2\nlist 4.2=6:4 3.2=7:3 2.2=8:2 1.2=9:1\nranks 1 2 3 1\nrefused memory\nitem 9:1\nrefused memory\nranks 1 2 3 1\n",
     ),
     (
         ScriptEnd::Done,
-        "new 1.2\nnew 2.2\nnew 3.2\nnew 4.2\nnew 5.2\nlist 5.2=5:5 4.2=6:4 3.2=7:3 2.2=8:2 1.2=9:1\n",
+        "new 1.2\nnew 2.2\nnew 3.2\nnew 4.2\nlist 4.2=6:4 3.2=7:3 2.2=8:2 1.2=9:1\nranks 1 2 3 1\nrefused memory\nitem 9:1\nlist 4.2=6:4 3.2=7:3 2.2=8:2 1.2=9:1\nranks 1 2 3 1\n",
+    ),
+    (
+        ScriptEnd::Done,
+        "new 1.2\nnew 2.2\nnew 3.2\nnew 4.2\nlist 4.2=6:4 3.2=7:3 2.2=8:2 1.2=9:1\nranks 1 2 3 1\nnew 5.2\nitem 9:1\nlist 5.2=5:5 4.2=6:4 3.2=7:3 2.2=8:2 1.2=9:1\nranks 1 2 1 3 1\n",
     ),
 ];
 
 #[test]
 fn each_request_for_memory_is_refused_in_turn(rt: HostRuntime) -> Result<(), Fail> {
-    let mut is_seen = [false; 4];
-    for size in 0..100 {
+    let mut is_seen = [false; 5];
+    for size in 0..160 {
         let heap = LocalHeap::new(rt.alloc(), 16 * size)?;
         let mut output = Vec::new(rt.alloc());
         let mut reader = Watched::new(GROWING);
         let end = serve(&heap, &mut reader, &mut Watched::new(&mut output));
         let mut is_known = false;
-        for i in 0..4 {
+        for i in 0..5 {
             let (expected, answer) = OUTCOMES[i];
             if end == expected && output.as_slice() == answer.as_bytes() {
                 is_seen[i] = true;
@@ -483,6 +630,6 @@ fn each_request_for_memory_is_refused_in_turn(rt: HostRuntime) -> Result<(), Fai
         assert!(rt; is_known, "{size}: {end:?}");
         assert_eq!(rt; heap.used(), 0);
     }
-    assert_eq!(rt; is_seen, [true; 4]);
+    assert_eq!(rt; is_seen, [true; 5]);
     Ok(())
 }

@@ -1,24 +1,27 @@
 // Writes the lines that a script answers.
-ghost use Rattle.std.specs.Prelude.{◌≡◌, ◌++◌, IfOk, string_bytes};
-ghost use Rattle.ord_script.specs.Text.{Adds, reply_lines, reply_line, fault_line, insertion_line, place_line, entries_line, refusal_line};
+ghost use Rattle.std.specs.Prelude.{◌≡◌, ◌++◌, [], ◌∷◌, IfOk, string_bytes};
+ghost use Rattle.ord_script.specs.Text.{Adds, reply_lines, reply_line, fault_line, refusal_line, insertion_line, place_text, search_line, count_line, item_line, place_line, links_text, neighbours_line, entries_line, ranks_line, stats_line, refusal_text};
 
-use crate::command::Command;
 use crate::fault::Fault;
+use crate::pairs::{PairReply, ShownMaximum, ShownNeighbour, ShownPair, ShownPointer};
 use crate::reply::Reply;
+use crate::word::Word;
+use arena_base::P0;
 use std::alloc::{AllocError, Allocator};
 use std::fmt::Write;
+use triple_ord::{OrdEntryKind, OrdInsertionError};
 
-/// A line for each reply, and one for the fault, if there is one.
+/// A line for each reply, and one for the fault, if there is one. Beside the replies stand the words of their commands.
 pub fn text_of<A: Allocator>(
     alloc: A,
-    commands: &[Command],
-    replies: &[Reply<A>],
+    words: &[Word],
+    replies: &[PairReply<A>],
     fault: Option<Fault>,
 ) -> Result<String<A>, AllocError>
     ensures { IfOk result (λ text.
-        string_bytes text ≡ reply_lines commands.now replies.now ++ fault_line fault) }
+        string_bytes text ≡ reply_lines words.now replies.now ++ fault_line fault) }
 {
-    let mut text = lines_of(alloc, commands, replies)?;
+    let mut text = lines_of(alloc, words, replies)?;
     if let Some(fault) = fault {
         write!(text, "{fault}\n")?;
     }
@@ -27,14 +30,14 @@ pub fn text_of<A: Allocator>(
 
 fn lines_of<A: Allocator>(
     alloc: A,
-    commands: &[Command],
-    replies: &[Reply<A>],
+    words: &[Word],
+    replies: &[PairReply<A>],
 ) -> Result<String<A>, AllocError>
-    ensures { IfOk result (λ text. string_bytes text ≡ reply_lines commands.now replies.now) }
+    ensures { IfOk result (λ text. string_bytes text ≡ reply_lines words.now replies.now) }
 {
     let mut text = String::new(alloc);
-    for (command, reply) in commands.iter().zip(replies) {
-        push_reply(&mut text, command, reply)?;
+    for (word, reply) in words.iter().zip(replies) {
+        push_reply(&mut text, *word, reply)?;
     }
     Ok(text)
 }
@@ -42,60 +45,191 @@ fn lines_of<A: Allocator>(
 /// The line of a reply. The same kind of reply is told differently for different commands.
 fn push_reply<A: Allocator>(
     text: &mut String<A>,
-    command: &Command,
-    reply: &Reply<A>,
+    word: Word,
+    reply: &PairReply<A>,
 ) -> Result<(), AllocError>
-    ensures { Adds result text.old text.new (reply_line command.now reply.now) }
+    ensures { Adds result text.old text.new (reply_line word reply.now) }
 {
-    match command {
-        Command::Insert(_) => push_insertion(text, reply),
-        Command::Find(_) => push_place(text, reply),
-        Command::List => push_entries(text, "list", reply),
+    match word {
+        Word::Insert => push_insertion(text, reply),
+        Word::Find => push_search(text, reply),
+        Word::Visits => push_count(text, reply),
+        Word::Get => push_item(text, reply),
+        Word::First | Word::Last => push_end(text, reply),
+        Word::Neighbours => push_neighbours(text, reply),
+        Word::List => push_entries(text, "list", reply),
+        Word::Ranks => push_ranks(text, reply),
+        Word::Stats => push_stats(text, reply),
     }
 }
 
-fn push_insertion<A: Allocator>(text: &mut String<A>, reply: &Reply<A>) -> Result<(), AllocError>
+fn push_insertion<A: Allocator>(
+    text: &mut String<A>,
+    reply: &PairReply<A>,
+) -> Result<(), AllocError>
     ensures { Adds result text.old text.new (insertion_line reply.now) }
 {
     match reply {
-        Reply::New(pointer) => write!(text, "new {pointer}\n"),
-        Reply::Replaced(pointer, before) => write!(text, "replaced {pointer} {before}\n"),
+        Reply::Inserted(OrdEntryKind::New(p), None) => {
+            let pointer = ShownPointer(*p);
+            write!(text, "new {pointer}\n")
+        }
+        Reply::Inserted(OrdEntryKind::Replacing(p), Some(before)) => {
+            let pointer = ShownPointer(*p);
+            let pair = ShownPair(*before);
+            write!(text, "replaced {pointer} {pair}\n")
+        }
         _ => push_refusal(text, reply),
     }
 }
 
-fn push_place<A: Allocator>(text: &mut String<A>, reply: &Reply<A>) -> Result<(), AllocError>
+fn push_search<A: Allocator>(text: &mut String<A>, reply: &PairReply<A>) -> Result<(), AllocError>
+    ensures { Adds result text.old text.new (search_line reply.now) }
+{
+    match reply {
+        Reply::Found(found, _) => push_place(text, *found),
+        _ => push_refusal(text, reply),
+    }
+}
+
+fn push_end<A: Allocator>(text: &mut String<A>, reply: &PairReply<A>) -> Result<(), AllocError>
     ensures { Adds result text.old text.new (place_line reply.now) }
 {
     match reply {
-        Reply::Found(Some(pointer)) => write!(text, "at {pointer}\n"),
-        Reply::Found(None) => write!(text, "none\n"),
+        Reply::At(place) => push_place(text, *place),
         _ => push_refusal(text, reply),
+    }
+}
+
+fn push_place<A: Allocator>(text: &mut String<A>, place: Option<P0>) -> Result<(), AllocError>
+    ensures { Adds result text.old text.new (place_text place ++ 10 ∷ []) }
+{
+    match place {
+        Some(p) => {
+            let pointer = ShownPointer(p);
+            write!(text, "at {pointer}\n")
+        }
+        None => write!(text, "none\n"),
+    }
+}
+
+fn push_count<A: Allocator>(text: &mut String<A>, reply: &PairReply<A>) -> Result<(), AllocError>
+    ensures { Adds result text.old text.new (count_line reply.now) }
+{
+    match reply {
+        Reply::Count(visits) => write!(text, "visits {visits}\n"),
+        _ => push_refusal(text, reply),
+    }
+}
+
+fn push_item<A: Allocator>(text: &mut String<A>, reply: &PairReply<A>) -> Result<(), AllocError>
+    ensures { Adds result text.old text.new (item_line reply.now) }
+{
+    match reply {
+        Reply::Item(Some(item)) => {
+            let pair = ShownPair(*item);
+            write!(text, "item {pair}\n")
+        }
+        Reply::Item(None) => write!(text, "none\n"),
+        _ => push_refusal(text, reply),
+    }
+}
+
+fn push_neighbours<A: Allocator>(
+    text: &mut String<A>,
+    reply: &PairReply<A>,
+) -> Result<(), AllocError>
+    ensures { Adds result text.old text.new (neighbours_line reply.now) }
+{
+    match reply {
+        Reply::Links(links) => push_links(text, *links),
+        _ => push_refusal(text, reply),
+    }
+}
+
+fn push_links<A: Allocator>(
+    text: &mut String<A>,
+    links: Option<(Option<u32>, Option<u32>)>,
+) -> Result<(), AllocError>
+    ensures { Adds result text.old text.new (links_text links ++ 10 ∷ []) }
+{
+    match links {
+        Some((prev, next)) => {
+            let prev = ShownNeighbour(prev);
+            let next = ShownNeighbour(next);
+            write!(text, "neighbours {prev} {next}\n")
+        }
+        None => write!(text, "none\n"),
     }
 }
 
 fn push_entries<A: Allocator>(
     text: &mut String<A>,
     word: &str,
-    reply: &Reply<A>,
+    reply: &PairReply<A>,
 ) -> Result<(), AllocError>
     ensures { Adds result text.old text.new (entries_line word.now reply.now) }
 {
-    let Reply::Entries(listing) = reply else {
+    let Reply::Entries(entries) = reply else {
         return push_refusal(text, reply);
     };
     text.push_str(word)?;
-    for entry in &listing.entries {
-        write!(text, " {entry}")?;
+    for (p, item) in entries {
+        let pointer = ShownPointer(*p);
+        let pair = ShownPair(*item);
+        write!(text, " {pointer}={pair}")?;
     }
     write!(text, "\n")
 }
 
-fn push_refusal<A: Allocator>(text: &mut String<A>, reply: &Reply<A>) -> Result<(), AllocError>
+fn push_ranks<A: Allocator>(text: &mut String<A>, reply: &PairReply<A>) -> Result<(), AllocError>
+    ensures { Adds result text.old text.new (ranks_line reply.now) }
+{
+    let Reply::Ranks(ranks) = reply else {
+        return push_refusal(text, reply);
+    };
+    text.push_str("ranks")?;
+    for rank in ranks {
+        write!(text, " {rank}")?;
+    }
+    write!(text, "\n")
+}
+
+fn push_stats<A: Allocator>(text: &mut String<A>, reply: &PairReply<A>) -> Result<(), AllocError>
+    ensures { Adds result text.old text.new (stats_line reply.now) }
+{
+    match reply {
+        Reply::Stats(len, capacity, generation, maximum) => {
+            let maximum = ShownMaximum(*maximum);
+            write!(
+                text,
+                "len {len} capacity {capacity} generation {generation} max {maximum}\n"
+            )
+        }
+        _ => push_refusal(text, reply),
+    }
+}
+
+fn push_refusal<A: Allocator>(text: &mut String<A>, reply: &PairReply<A>) -> Result<(), AllocError>
     ensures { Adds result text.old text.new (refusal_line reply.now) }
 {
     match reply {
-        Reply::RefusedMemory => write!(text, "refused memory\n"),
+        Reply::Refused(refusal) => {
+            let why = reason(*refusal);
+            write!(text, "refused {why}\n")
+        }
         _ => Ok(()),
+    }
+}
+
+/// Why a command was refused, in a word.
+fn reason(refusal: OrdInsertionError) -> &'static str
+    ensures { result.now ≡ refusal_text refusal }
+{
+    match refusal {
+        OrdInsertionError::FailedOrdRequirement => "order",
+        OrdInsertionError::NotWithinCapacity => "capacity",
+        OrdInsertionError::BeyondMaxCapacity => "maximum",
+        OrdInsertionError::AllocError => "memory",
     }
 }

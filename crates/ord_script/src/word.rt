@@ -1,30 +1,99 @@
 // The words that begin a command.
-ghost use Rattle.std.specs.Prelude.{◌≡◌};
-ghost use Rattle.ord_script.specs.Commands.{word_table, word_in};
+ghost use Rattle.std.specs.Prelude.{◌≡◌, IfOk, map};
+ghost use Rattle.ord_script.specs.Commands.{word_text, all_words, word_in, word_of};
+
+use crate::command::Command;
+use crate::pairs::PairCommand;
+use std::alloc::{AllocError, Allocator};
 
 /// The first word of a command.
 #[derive(Clone, Copy, Debug)]
 pub enum Word {
     Insert,
     Find,
+    Visits,
+    Get,
+    First,
+    Last,
+    Neighbours,
     List,
+    Ranks,
+    Stats,
 }
 
-/// Each word with its text.
-const WORDS: [(&str, Word); 3] = [
-    ("insert", Word::Insert),
-    ("find", Word::Find),
-    ("list", Word::List),
+/// All words.
+const WORDS: [Word; 10] = [
+    Word::Insert,
+    Word::Find,
+    Word::Visits,
+    Word::Get,
+    Word::First,
+    Word::Last,
+    Word::Neighbours,
+    Word::List,
+    Word::Ranks,
+    Word::Stats,
 ];
 
+impl Word {
+    /// How a script writes it.
+    pub fn text(self) -> &'static str
+        ensures { result.now ≡ word_text self }
+    {
+        match self {
+            Word::Insert => "insert",
+            Word::Find => "find",
+            Word::Visits => "visits",
+            Word::Get => "get",
+            Word::First => "first",
+            Word::Last => "last",
+            Word::Neighbours => "neighbours",
+            Word::List => "list",
+            Word::Ranks => "ranks",
+            Word::Stats => "stats",
+        }
+    }
+}
+
 /// The word that has this text.
-pub fn word_of(text: &[u8]) -> Option<Word>
-    ensures { result ≡ word_in word_table text.now }
+pub fn word_in(text: &[u8]) -> Option<Word>
+    ensures { result ≡ word_in all_words text.now }
 {
-    for (name, word) in WORDS {
-        if text == name.as_bytes() {
+    for word in WORDS {
+        if text == word.text().as_bytes() {
             return Some(word);
         }
     }
     None
+}
+
+/// The words that begin the commands.
+pub fn words_of<A: Allocator>(
+    alloc: A,
+    commands: &[PairCommand],
+) -> Result<Vec<Word, A>, AllocError>
+    ensures { IfOk result (λ words. words.items ≡ map word_of commands.now) }
+{
+    commands
+        .iter()
+        .map(|command| word_of(command))
+        .collect(alloc)
+}
+
+/// The word that begins a command.
+fn word_of(command: &PairCommand) -> Word
+    ensures { result ≡ word_of command.now }
+{
+    match command {
+        Command::Insert(_) => Word::Insert,
+        Command::Find(_) => Word::Find,
+        Command::Visits(_) => Word::Visits,
+        Command::Get(_) => Word::Get,
+        Command::First => Word::First,
+        Command::Last => Word::Last,
+        Command::Neighbours(_) => Word::Neighbours,
+        Command::List => Word::List,
+        Command::Ranks => Word::Ranks,
+        Command::Stats => Word::Stats,
+    }
 }

@@ -1,0 +1,87 @@
+// What a script's arena holds: pairs of a key and a value under pointers. How they are written.
+use crate::command::Command;
+use crate::reply::Reply;
+use arena_base::{P0, Ptr};
+use std::fmt;
+use triple_ord::{OrdPair, SimpleOrdArena};
+
+/// A key with its value.
+pub type Pair = OrdPair<i64, u64>;
+
+/// A script's arena.
+pub type PairArena<A> = SimpleOrdArena<P0, Pair, A>;
+
+/// A command to it.
+pub type PairCommand = Command<P0, Pair>;
+
+/// Its reply.
+pub type PairReply<A> = Reply<P0, Pair, A>;
+
+/// A pointer as a script writes it, as `1.2`.
+#[derive(Clone, Copy)]
+pub struct ShownPointer(pub P0);
+
+impl fmt::Display for ShownPointer {
+    ghost use Rattle.std.specs.Prelude.{Some};
+    ghost use Rattle.ord_script.specs.Text.{pointer_text};
+
+    ghost output = { λ shown. Some (pointer_text shown.0) };
+
+    fn fmt<W: fmt::Write>(&self, f: &mut fmt::Formatter<W>) -> fmt::Result {
+        let index = self.0.inx();
+        let generation = self.0.generation();
+        write!(f, "{index}.{generation}")
+    }
+}
+
+/// A pair as a script writes it, as `-50:1`.
+#[derive(Clone, Copy)]
+pub struct ShownPair(pub Pair);
+
+impl fmt::Display for ShownPair {
+    ghost use Rattle.std.specs.Prelude.{Some};
+    ghost use Rattle.ord_script.specs.Text.{pair_text};
+
+    ghost output = { λ shown. Some (pair_text shown.0) };
+
+    fn fmt<W: fmt::Write>(&self, f: &mut fmt::Formatter<W>) -> fmt::Result {
+        let (key, value) = self.0.into_k_v();
+        write!(f, "{key}:{value}")
+    }
+}
+
+/// A neighbour's index, or `-` for none.
+#[derive(Clone, Copy)]
+pub struct ShownNeighbour(pub Option<u32>);
+
+impl fmt::Display for ShownNeighbour {
+    ghost use Rattle.std.specs.Prelude.{Some};
+    ghost use Rattle.ord_script.specs.Text.{neighbour_text};
+
+    ghost output = { λ shown. Some (neighbour_text shown.0) };
+
+    fn fmt<W: fmt::Write>(&self, f: &mut fmt::Formatter<W>) -> fmt::Result {
+        match self.0 {
+            Some(index) => write!(f, "{index}"),
+            None => write!(f, "-"),
+        }
+    }
+}
+
+/// A maximum, or `none`.
+#[derive(Clone, Copy)]
+pub struct ShownMaximum(pub Option<usize>);
+
+impl fmt::Display for ShownMaximum {
+    ghost use Rattle.std.specs.Prelude.{Some};
+    ghost use Rattle.ord_script.specs.Text.{maximum_text};
+
+    ghost output = { λ shown. Some (maximum_text shown.0) };
+
+    fn fmt<W: fmt::Write>(&self, f: &mut fmt::Formatter<W>) -> fmt::Result {
+        match self.0 {
+            Some(maximum) => write!(f, "{maximum}"),
+            None => write!(f, "none"),
+        }
+    }
+}

@@ -1,0 +1,173 @@
+// What each command does, and what it answers.
+ghost use Rattle.std.specs.Prelude.{◌≡◌, IfOk, IfSome, is_some, map};
+ghost use Rattle.chain_base.specs.Chain.{link_at, first_pointer, last_pointer};
+ghost use Rattle.ord_script.specs.Machine.{Marks, AreTrue, Inserts, Finds, Visits, Gets, IsEnd, HasNeighbours, Lists, Ranked, HasRank, HaveRanks, Counts};
+
+use crate::reply::Reply;
+use arena_base::Ptr;
+use std::alloc::{AllocError, Allocator};
+use triple_ord::{OrdEntryKind, OrdInsertionError, SimpleOrdArena, SimpleOrdItem};
+
+/// `Command::Insert`
+pub fn insert<P: Ptr, T: SimpleOrdItem + Drop, A: Allocator>(
+    arena: &mut SimpleOrdArena<P, T, A>,
+    item: T,
+) -> Reply<P, T, A>
+    ensures { Inserts T.key_of T.Key.cmp P.Inx.most (λ p. (P.index p, P.era p)) arena.old item result arena.new }
+{
+    match arena.insert(item) {
+        Ok((p, before)) => {
+            let kind = match before {
+                None => OrdEntryKind::New(p),
+                Some(_) => OrdEntryKind::Replacing(p),
+            };
+            Reply::Inserted(kind, before)
+        }
+        Err(refusal) => Reply::Refused(refusal),
+    }
+}
+
+/// `Command::Find`
+pub fn find<P: Ptr, T: SimpleOrdItem, A: Allocator>(
+    arena: &SimpleOrdArena<P, T, A>,
+    key: &T::Key,
+) -> Reply<P, T, A>
+    ensures { (marks : Marks) → AreTrue marks arena.now.shape
+        → Finds T.key_of T.Key.cmp (λ p. (P.index p, P.era p)) (record { tree = arena.now; marks = marks }) key.now result }
+{
+    let (found, visits) = arena.find_key_counted(key);
+    Reply::Found(found, visits.count())
+}
+
+/// `Command::Visits`
+pub fn visits<P: Ptr, T: SimpleOrdItem, A: Allocator>(
+    arena: &SimpleOrdArena<P, T, A>,
+    key: &T::Key,
+) -> Reply<P, T, A>
+    ensures { (marks : Marks) → AreTrue marks arena.now.shape
+        → Visits T.key_of T.Key.cmp (record { tree = arena.now; marks = marks }) key.now result }
+{
+    let (_, visits) = arena.find_key_counted(key);
+    Reply::Count(visits.count())
+}
+
+/// `Command::Get`
+pub fn get<P: Ptr, T: Clone, A: Allocator>(arena: &SimpleOrdArena<P, T, A>, p: P) -> Reply<P, T, A>
+    requires { (x y : T) → T.is_clone x y → y ≡ x }
+    ensures { Gets (λ p. (P.index p, P.era p)) arena.now p result }
+{
+    match arena.get(p) {
+        None => Reply::Item(None),
+        Some(item) => match item.clone() {
+            Ok(item) => Reply::Item(Some(item)),
+            Err(_) => Reply::Refused(OrdInsertionError::AllocError),
+        },
+    }
+}
+
+/// `Command::First`
+pub fn first<P: Ptr, T, A: Allocator>(arena: &SimpleOrdArena<P, T, A>) -> Reply<P, T, A>
+    ensures { IsEnd (λ p. (P.index p, P.era p)) (first_pointer arena.now.list.entries) result }
+{
+    Reply::At(arena.first())
+}
+
+/// `Command::Last`
+pub fn last<P: Ptr, T, A: Allocator>(arena: &SimpleOrdArena<P, T, A>) -> Reply<P, T, A>
+    ensures { IsEnd (λ p. (P.index p, P.era p)) (last_pointer arena.now.list.entries) result }
+{
+    Reply::At(arena.last())
+}
+
+/// `Command::Neighbours`
+pub fn neighbours<P: Ptr, T, A: Allocator>(
+    arena: &SimpleOrdArena<P, T, A>,
+    i: P::Inx,
+) -> Reply<P, T, A>
+    ensures { HasNeighbours P.Inx.number arena.now i result }
+{
+    match arena.get_inx_link_no_gen(i) {
+        None => Reply::Links(None),
+        Some(entry) => {
+            let link = entry.1;
+            Reply::Links(Some(link.prev_next()))
+        }
+    }
+}
+
+/// `Command::List`
+pub fn list<P: Ptr, T: Clone, A: Allocator>(
+    alloc: A,
+    arena: &SimpleOrdArena<P, T, A>,
+) -> Reply<P, T, A>
+    requires { (x y : T) → T.is_clone x y → y ≡ x }
+    ensures { Lists (λ p. (P.index p, P.era p)) arena.now result }
+{
+    match entries(alloc, arena) {
+        Ok(entries) => Reply::Entries(entries),
+        Err(AllocError) => Reply::Refused(OrdInsertionError::AllocError),
+    }
+}
+
+/// `Command::Ranks`
+pub fn ranks<P: Ptr, T, A: Allocator>(alloc: A, arena: &SimpleOrdArena<P, T, A>) -> Reply<P, T, A>
+    ensures { Ranked arena.now result }
+{
+    match ranks_of(alloc, arena) {
+        Ok(ranks) => Reply::Ranks(ranks),
+        Err(AllocError) => Reply::Refused(OrdInsertionError::AllocError),
+    }
+}
+
+/// `Command::Stats`
+pub fn stats<P: Ptr, T, A: Allocator>(arena: &SimpleOrdArena<P, T, A>) -> Reply<P, T, A>
+    ensures { Counts P.Gen.number arena.now result }
+{
+    Reply::Stats(
+        arena.len(),
+        arena.capacity(),
+        arena.generation(),
+        arena.max_capacity(),
+    )
+}
+
+// The pointer of each entry and a clone of its item, in order.
+fn entries<P: Ptr, T: Clone, A: Allocator>(
+    alloc: A,
+    arena: &SimpleOrdArena<P, T, A>,
+) -> Result<Vec<(P, T), A>, AllocError>
+    requires { (x y : T) → T.is_clone x y → y ≡ x }
+    ensures { IfOk result (λ pairs. map (λ pair. record { index = P.index pair.0; generation = P.era pair.0; item = pair.1 }) pairs.items
+        ≡ arena.now.list.entries) }
+{
+    let mut pairs = Vec::with_capacity(alloc, arena.len())?;
+    for (p, item) in arena {
+        pairs.push((p, item.clone()?))?;
+    }
+    Ok(pairs)
+}
+
+// The rank of each entry's node, in order.
+fn ranks_of<P: Ptr, T, A: Allocator>(
+    alloc: A,
+    arena: &SimpleOrdArena<P, T, A>,
+) -> Result<Vec<u8, A>, AllocError>
+    ensures { IfOk result (λ ranks. HaveRanks arena.now.shape arena.now.list.entries ranks.items) }
+{
+    let mut ranks = Vec::with_capacity(alloc, arena.len())?;
+    for (p, _) in arena {
+        let rank = rank_at(arena, p.inx()).unwrap();
+        ranks.push(rank)?;
+    }
+    Ok(ranks)
+}
+
+// The rank of the node at the index.
+fn rank_at<P: Ptr, T, A: Allocator>(arena: &SimpleOrdArena<P, T, A>, i: P::Inx) -> Option<u8>
+    ensures there { is_some result ≡ is_some (link_at arena.now.list.entries (P.Inx.number i)) }
+    ensures rank { IfSome result (λ rank. HasRank arena.now.shape (P.Inx.number i) rank) }
+{
+    let entry = arena.get_inx_node(i)?;
+    let node = entry.1;
+    Some(node.t.rank)
+}
