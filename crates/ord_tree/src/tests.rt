@@ -542,21 +542,167 @@ fn toggle(
 #[test]
 fn removes_in_every_order(rt: HostRuntime) -> Result<(), Fail> {
     let mut orders: usize = 1;
-    for count in 1..=5u8 {
+    let mut seen: Vec<String> = Vec::new(rt.alloc());
+    for count in 1..=6u8 {
         orders = orders.saturating_mul(usize::from(count));
         for inserted in 0..orders {
+            let keys = order_of(rt.alloc(), count, inserted)?;
+            let shape = text(rt.alloc(), &tree_of(&rt, rt.alloc(), keys.as_slice())?)?;
+            // what is removed from one tree is removed alike from each of the same shape
+            if seen.iter().any(|other| other.as_str() == shape.as_str()) {
+                continue;
+            }
             for removed in 0..orders {
-                let mut tree = Keys::new(rt.alloc());
-                let mut sorted: Vec<u8> = Vec::new(rt.alloc());
-                for key in order_of(rt.alloc(), count, inserted)? {
-                    toggle(&rt, rt.alloc(), &mut tree, &mut sorted, key)?;
-                }
+                let mut tree = tree_of(&rt, rt.alloc(), keys.as_slice())?;
+                let mut sorted = order_of(rt.alloc(), count, 0)?;
                 for key in order_of(rt.alloc(), count, removed)? {
                     toggle(&rt, rt.alloc(), &mut tree, &mut sorted, key)?;
                 }
                 assert!(rt; tree.is_empty());
             }
+            seen.push(shape)?;
         }
     }
+    Ok(())
+}
+
+#[test]
+fn inserts_and_removes_in_every_mix(rt: HostRuntime) -> Result<(), Fail> {
+    for word in 0..78_125usize {
+        let mut tree = Keys::new(rt.alloc());
+        let mut sorted: Vec<u8> = Vec::new(rt.alloc());
+        let mut rest = word;
+        for _ in 0..7 {
+            let key = [1, 2, 3, 4, 5][rest % 5];
+            toggle(&rt, rt.alloc(), &mut tree, &mut sorted, key)?;
+            rest /= 5;
+        }
+    }
+    Ok(())
+}
+
+#[test]
+fn ends_and_renews_pointers(rt: HostRuntime) -> Result<(), Fail> {
+    let mut tree = tree_of(&rt, rt.alloc(), &[2, 1, 3])?;
+    let old = places(rt.alloc(), &tree)?;
+    for index in [0, 4, u32::MAX] {
+        assert_eq!(rt; tree.remove_inx(index), InvalidationResult::InvalidPtr);
+    }
+    for p in [P0::invalid(), P0::_from_raw(1, 3), P0::_from_raw(4, 2)] {
+        assert_eq!(rt; tree.invalidate(p), InvalidationResult::InvalidPtr);
+    }
+    assert!(rt; places(rt.alloc(), &tree)? == old);
+    assert_eq!(rt;
+        (tree.chain().generation(), tree.chain().capacity()),
+        (2, 4)
+    );
+
+    let (p, q) = (P0::_from_raw(1, 2), P0::_from_raw(1, 3));
+    assert_eq!(rt; tree.invalidate(p), InvalidationResult::Success(q));
+    assert_eq!(rt; tree.invalidate(p), InvalidationResult::InvalidPtr);
+    assert!(rt; tree.chain().contains(q) && !tree.chain().contains(p));
+    assert!(rt; places(rt.alloc(), &tree)? == old);
+    assert_eq!(rt; tree.remove_inx(1), InvalidationResult::Success((3, 2)));
+    assert_eq!(rt; tree.remove_inx(1), InvalidationResult::InvalidPtr);
+    assert_eq!(rt; text(rt.alloc(), &tree)?.as_str(), "1:2^0 3:1^1 ");
+    assert_eq!(rt; insert(&rt, rt.alloc(), &mut tree, 5)?, P0::_from_raw(1, 4));
+
+    assert_eq!(rt; tree.clear(), InvalidationOption::Success(()));
+    assert_eq!(rt; tree.clear(), InvalidationOption::Success(()));
+    assert_eq!(rt;
+        (tree.len(), tree.root(), tree.chain().capacity()),
+        (0, None, 4)
+    );
+    assert_eq!(rt; insert(&rt, rt.alloc(), &mut tree, 7)?, P0::_from_raw(1, 6));
+    assert_eq!(rt; tree.root(), Some(1));
+    Ok(())
+}
+
+#[test]
+fn tells_where_the_generations_begin_again(rt: HostRuntime) -> Result<(), Fail> {
+    let mut tree: OrdTree<P8, char> = OrdTree::with_min_capacity(rt.alloc(), 2)?;
+    tree.set_generation(255);
+    let p = tree.insert_within_capacity(None, 'a')?;
+    assert_eq!(rt;
+        tree.invalidate(p),
+        InvalidationResult::GenerationOverflow(P8::_from_raw(1, 2))
+    );
+    tree.set_generation(255);
+    assert_eq!(rt;
+        tree.remove_inx(1),
+        InvalidationResult::GenerationOverflow((2, 'a'))
+    );
+    assert_eq!(rt; tree.chain().generation(), 2);
+    tree.set_generation(255);
+    assert_eq!(rt; tree.clear(), InvalidationOption::GenerationOverflow(()));
+
+    let mut ageless: OrdTree<PN, u8> = OrdTree::with_min_capacity(rt.alloc(), 1)?;
+    let p = ageless.insert_within_capacity(None, 7)?;
+    assert_eq!(rt; ageless.invalidate(p), InvalidationResult::Success(p));
+    assert_eq!(rt; ageless.remove_inx(1), InvalidationResult::Success(((), 7)));
+    Ok(())
+}
+
+#[test]
+fn takes_no_memory_to_end_entries(rt: HostRuntime) -> Result<(), Fail> {
+    let heap = LocalHeap::new(rt.alloc(), 4096)?;
+    let mut tree = Keys::new(&heap);
+    let mut old = Vec::new(rt.alloc());
+    for key in 1..=9 {
+        let _ = insert_at(&rt, &mut tree, place_of(&old, key), key)?;
+        old = places(rt.alloc(), &tree)?;
+    }
+    let mut taken: Vec<Vec<u8, &LocalHeap>> = Vec::new(rt.alloc());
+    for _ in 0..4096 {
+        match Vec::with_capacity(&heap, 1) {
+            Ok(room) => taken.push(room)?,
+            Err(_) => break,
+        }
+    }
+    assert!(rt; Vec::<u8, &LocalHeap>::with_capacity(&heap, 1).is_err());
+    for key in [4, 8, 1, 9] {
+        remove(&rt, rt.alloc(), &mut tree, key)?;
+    }
+    let p = tree.chain().first().ok_or("2 is there")?;
+    assert!(rt; tree.invalidate(p).allow().is_some());
+    let keys = places(rt.alloc(), &tree)?;
+    assert!(rt; keys.iter().map(|place| place.key).eq([2, 3, 5, 6, 7]));
+    let _ = tree.clear();
+    assert!(rt; tree.is_empty());
+    Ok(())
+}
+
+/// The parent, by its place in order, of a place in the shape of `n` that a rebuild gives: the root of a run is in its middle.
+fn middle_above(n: usize, place: usize) -> Option<usize> {
+    let (mut low, mut high, mut above) = (0usize, n, None);
+    for _ in 0..n {
+        let middle = low.saturating_add(high.saturating_sub(low) / 2);
+        if place < middle {
+            high = middle;
+            above = Some(middle);
+        } else if place > middle {
+            low = middle.saturating_add(1);
+            above = Some(middle);
+        }
+    }
+    above
+}
+
+/// How many places that are in both such shapes have another parent in the second.
+fn moved_by_a_rebuild(old: usize, new: usize) -> usize {
+    let mut moved: usize = 0;
+    for place in 0..old.min(new) {
+        if middle_above(old, place) != middle_above(new, place) {
+            moved = moved.saturating_add(1);
+        }
+    }
+    moved
+}
+
+#[test]
+fn a_whole_rebuild_moves_more_parents(rt: HostRuntime) -> Result<(), Fail> {
+    // a last entry is inserted, where five may move, and removed, where nine may
+    assert_eq!(rt; moved_by_a_rebuild(31, 32), 30);
+    assert_eq!(rt; moved_by_a_rebuild(32, 31), 30);
     Ok(())
 }
