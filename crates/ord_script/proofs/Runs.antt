@@ -15,8 +15,13 @@ module _ {P T I G A K : Type 0} (r : Reading P T I G K) where
   Runs-more old (c ∷ commands) [] mid new command reply run step = absurd run
   Runs-more old (c ∷ commands) (q ∷ replies) mid new command reply run step = (run.0, run.1, Runs-more run.0 commands replies mid new command reply run.2 step)
 
-  -- the same, between trees
-  pub RunsBetween-more : (old mid new : Tree T) (commands : List (Command P T I G K)) (replies : List (Reply P T A I G)) (command : Command P T I G K) (reply : Reply P T A I G) → RunsBetween r old commands replies mid → IsSoundTree mid → ((marks : Marks) → AreTrue marks mid.shape → Replies r (record { tree = mid; marks = marks }) command reply new) → RunsBetween r old (commands ++ command ∷ []) (replies ++ reply ∷ []) new
+  -- a run over nothing
+  pub RunsBetween-none : (t : Tree T) (replies : List (Reply P T A I G)) → replies ≡ [] → RunsBetween r t [] replies t
+  RunsBetween-none t [] none = λ marks holds. (marks, holds, refl)
+  RunsBetween-none t (q ∷ replies) none = cc
+
+  -- a run between trees goes on by one step
+  pub RunsBetween-more : (old mid new : Tree T) (commands : List (Command P T I G K)) (replies : List (Reply P T A I G)) (command : Command P T I G K) (reply : Reply P T A I G) → RunsBetween r old commands replies mid → IsSoundTree new → ((marks : Marks) → AreTrue marks mid.shape → Replies r (record { tree = mid; marks = marks }) command reply new) → RunsBetween r old (commands ++ command ∷ []) (replies ++ reply ∷ []) new
   RunsBetween-more old mid new commands replies command reply so_far sound step marks holds =
       let run = so_far marks holds in
       let replies_now = step run.0 run.1 in (

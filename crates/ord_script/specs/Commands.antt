@@ -6,11 +6,17 @@ use Rattle.ord_script.specs.declared.command.Command.TheVariants as commands
 use Rattle.ord_script.specs.declared.word.Word.{Word}
 use Rattle.ord_script.specs.declared.word.Word.TheVariants as words
 use Rattle.ord_script.specs.Numbers.{key_of, value_of, index_of, pointer_of}
-use Rattle.ord_script.specs.Pairs.{PairCommand}
+use Rattle.ord_script.specs.Pairs.{Pair, Pointer, PairCommand}
 
 -- how a script writes the words that begin a command
 abbrev pub word_text : Word → List ℕ
 word_text words.Insert = codes "insert"
+word_text words.Set = codes "set"
+word_text words.Remove = codes "remove"
+word_text words.RemoveInx = codes "remove-index"
+word_text words.Invalidate = codes "invalidate"
+word_text words.Clear = codes "clear"
+word_text words.IncGeneration = codes "next-generation"
 word_text words.Find = codes "find"
 word_text words.Visits = codes "visits"
 word_text words.Get = codes "get"
@@ -24,8 +30,9 @@ word_text words.Stats = codes "stats"
 -- all of them
 abbrev pub all_words : List Word
 all_words =
-    words.Insert ∷ words.Find ∷ words.Visits ∷ words.Get ∷ words.First ∷ words.Last ∷ words.Neighbours ∷ words.List
-    ∷ words.Ranks ∷ words.Stats ∷ []
+    words.Insert ∷ words.Set ∷ words.Remove ∷ words.RemoveInx ∷ words.Invalidate ∷ words.Clear ∷ words.IncGeneration
+    ∷ words.Find ∷ words.Visits ∷ words.Get ∷ words.First ∷ words.Last ∷ words.Neighbours ∷ words.List ∷ words.Ranks
+    ∷ words.Stats ∷ []
 
 -- the one among them that has this text
 abbrev pub word_in : List Word → List ℕ → Option Word
@@ -51,36 +58,60 @@ abbrev pub two_arguments : List (List ℕ) → Result (List ℕ × List ℕ) Fau
 two_arguments (a ∷ b ∷ []) = Ok (a, b)
 two_arguments arguments = Err WrongArguments
 
+abbrev pub three_arguments : List (List ℕ) → Result (List ℕ × List ℕ × List ℕ) FaultKind
+three_arguments (a ∷ b ∷ c ∷ []) = Ok (a, b, c)
+three_arguments arguments = Err WrongArguments
+
+-- a word that is a key, a pointer or an index, or two that are a pair
+abbrev pub key_in : List ℕ → Result ℤ FaultKind
+key_in word = ok_or (key_of word) BadNumber
+
+abbrev pub pointer_in : List ℕ → Result Pointer FaultKind
+pointer_in word = ok_or (pointer_of word) BadNumber
+
+abbrev pub index_in : List ℕ → Result ℕ FaultKind
+index_in word = ok_or (index_of word) BadNumber
+
+unfoldable pub pair_in : List ℕ → List ℕ → Result Pair FaultKind
+pair_in first second = do
+  key ← key_in first
+  value ← ok_or (value_of second) BadNumber
+  Ok (key, value)
+
 -- insert K V
 unfoldable pub insert_of : List (List ℕ) → Result PairCommand FaultKind
 insert_of arguments = do
   two ← two_arguments arguments
-  key ← ok_or (key_of two.0) BadNumber
-  value ← ok_or (value_of two.1) BadNumber
-  Ok (commands.Insert (key, value))
+  pair ← pair_in two.0 two.1
+  Ok (commands.Insert pair)
 
--- a command with a key: find K, visits K
+-- set P K V
+unfoldable pub set_of : List (List ℕ) → Result PairCommand FaultKind
+set_of arguments = do
+  three ← three_arguments arguments
+  pointer ← pointer_in three.0
+  pair ← pair_in three.1 three.2
+  Ok (commands.Set pointer pair)
+
+-- a command with a key, a pointer or an index, or without arguments
 unfoldable pub with_key : (ℤ → PairCommand) → List (List ℕ) → Result PairCommand FaultKind
 with_key command arguments = do
   one ← one_argument arguments
-  key ← ok_or (key_of one) BadNumber
+  key ← key_in one
   Ok (command key)
 
--- get P
-unfoldable pub get_of : List (List ℕ) → Result PairCommand FaultKind
-get_of arguments = do
+unfoldable pub with_pointer : (Pointer → PairCommand) → List (List ℕ) → Result PairCommand FaultKind
+with_pointer command arguments = do
   one ← one_argument arguments
-  pointer ← ok_or (pointer_of one) BadNumber
-  Ok (commands.Get pointer)
+  pointer ← pointer_in one
+  Ok (command pointer)
 
--- neighbours I
-unfoldable pub neighbours_of : List (List ℕ) → Result PairCommand FaultKind
-neighbours_of arguments = do
+unfoldable pub with_index : (ℕ → PairCommand) → List (List ℕ) → Result PairCommand FaultKind
+with_index command arguments = do
   one ← one_argument arguments
-  index ← ok_or (index_of one) BadNumber
-  Ok (commands.Neighbours index)
+  index ← index_in one
+  Ok (command index)
 
--- a command without arguments: first, last, list, ranks, stats
 unfoldable pub alone : PairCommand → List (List ℕ) → Result PairCommand FaultKind
 alone command arguments = do
   none ← no_argument arguments
@@ -89,12 +120,18 @@ alone command arguments = do
 -- the command that a word begins
 abbrev pub command_by : Word → List (List ℕ) → Result PairCommand FaultKind
 command_by words.Insert arguments = insert_of arguments
+command_by words.Set arguments = set_of arguments
+command_by words.Remove arguments = with_pointer commands.Remove arguments
+command_by words.RemoveInx arguments = with_index commands.RemoveInx arguments
+command_by words.Invalidate arguments = with_pointer commands.Invalidate arguments
+command_by words.Clear arguments = alone commands.Clear arguments
+command_by words.IncGeneration arguments = alone commands.IncGeneration arguments
 command_by words.Find arguments = with_key commands.Find arguments
 command_by words.Visits arguments = with_key commands.Visits arguments
-command_by words.Get arguments = get_of arguments
+command_by words.Get arguments = with_pointer commands.Get arguments
 command_by words.First arguments = alone commands.First arguments
 command_by words.Last arguments = alone commands.Last arguments
-command_by words.Neighbours arguments = neighbours_of arguments
+command_by words.Neighbours arguments = with_index commands.Neighbours arguments
 command_by words.List arguments = alone commands.List arguments
 command_by words.Ranks arguments = alone commands.Ranks arguments
 command_by words.Stats arguments = alone commands.Stats arguments
@@ -102,6 +139,12 @@ command_by words.Stats arguments = alone commands.Stats arguments
 -- the word that begins a command
 abbrev pub word_of : PairCommand → Word
 word_of (commands.Insert pair) = words.Insert
+word_of (commands.Set pointer pair) = words.Set
+word_of (commands.Remove pointer) = words.Remove
+word_of (commands.RemoveInx index) = words.RemoveInx
+word_of (commands.Invalidate pointer) = words.Invalidate
+word_of commands.Clear = words.Clear
+word_of commands.IncGeneration = words.IncGeneration
 word_of (commands.Find key) = words.Find
 word_of (commands.Visits key) = words.Visits
 word_of (commands.Get pointer) = words.Get

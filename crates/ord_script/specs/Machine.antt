@@ -1,14 +1,17 @@
 -- The list machine: what each command may answer on an ordered arena, and what it leaves.
-use Rattle.std.specs.Prelude.{◌≡◌, ℕ, ◌+◌, ◌^◌, ◌<◌, ◌≤◌, ◌==◌, Bool, true, false, if◌then◌else◌, List, [], ◌∷◌, length, map, Option, Some, None, IsSome, Ok, Err}
+use Rattle.std.specs.Prelude.{◌≡◌, ℕ, ◌+◌, ◌^◌, ◌<◌, ◌≤◌, ◌==◌, Bool, true, false, if◌then◌else◌, List, [], ◌∷◌, length, map, Option, Some, None, IsSome, MatchOption, Ok, Err}
 use Rattle.std.specs.Option.{option_map}
 use Rattle.std.specs.declared.cmp.Ordering.{Ordering}
+use Rattle.arena_base.specs.Generation.{next_generation, overflows_after}
+use Rattle.arena_base.specs.Invalidation.{valid_value, has_overflowed, is_overflow}
+use Rattle.arena_base.specs.declared.invalidation.InvalidationResult.TheVariants.{Success, GenerationOverflow}
 use Rattle.chain_base.specs.Link.{Link}
-use Rattle.chain_base.specs.Chain.{Entry, item_of, link_at, first_pointer, last_pointer}
-use Rattle.ord_tree.specs.Shape.{Shape, node}
+use Rattle.chain_base.specs.Chain.{Entry, entry_at, item_of, link_at, first_pointer, last_pointer, removed, renewed, cleared, raised}
+use Rattle.ord_tree.specs.Shape.{Shape, missing, node}
 use Rattle.ord_tree.specs.Ranks.{IsTight}
 use Rattle.ord_tree.specs.Half.{IsRebuilt}
 use Rattle.ord_tree.specs.Numbers.{fib, HasDigits}
-use Rattle.ord_tree.specs.Tree.{Tree}
+use Rattle.ord_tree.specs.Tree.{Tree, IsShrunk, with_item_in}
 use Rattle.triple_ord.specs.Node.{IsPart}
 use Rattle.triple_ord.specs.Search.{FindsKey}
 use Rattle.triple_ord.specs.Insertion as insertion
@@ -17,7 +20,7 @@ use Rattle.triple_ord.specs.declared.error.OrdInsertionError.TheVariants.{AllocE
 use Rattle.ord_script.specs.declared.command.Command.{Command}
 use Rattle.ord_script.specs.declared.command.Command.TheVariants as commands
 use Rattle.ord_script.specs.declared.reply.Reply.{Reply}
-use Rattle.ord_script.specs.declared.reply.Reply.TheVariants.{Inserted, Refused, Found, Count, Item, At, Links, Entries, Ranks, Stats}
+use Rattle.ord_script.specs.declared.reply.Reply.TheVariants.{Inserted, Refused, Found, Count, Item, Removed, Renewed, Changed, At, Links, Entries, Ranks, Stats}
 
 -- how items and pointers are read
 pub record Reading (P T I G K : Type 0) : Type 0 where
@@ -26,10 +29,17 @@ pub record Reading (P T I G K : Type 0) : Type 0 where
   pub cmp : K → K → Ordering
   -- the greatest index that an entry may have
   pub most : ℕ
+  -- the greatest generation, if generations are counted
+  pub greatest : Option ℕ
   -- index and generation of a pointer, and the numbers of an index and of a generation
   pub pointer : P → ℕ × ℕ
   pub index : I → ℕ
   pub generation : G → ℕ
+
+-- the reading of these; a pointer is read by its index and its generation
+abbrev pub reading_by : {P T I G K : Type 0} → (T → K) → (K → K → Ordering) → ℕ → Option ℕ → (P → ℕ) → (P → ℕ) → (I → ℕ) → (G → ℕ) → Reading P T I G K
+reading_by key cmp most greatest inx era index generation =
+    record { key = key; cmp = cmp; most = most; greatest = greatest; pointer = λ p. (inx p, era p); index = index; generation = generation }
 
 -- what is known of how a shape came about
 pub record Marks : Type 0 where
@@ -48,12 +58,22 @@ pub record AreTrue (marks : Marks) (shape : Shape) : Type 0 where
   pub only_inserted : marks.only_inserted ≡ true → IsTight shape
   pub just_built : marks.just_built ≡ true → IsRebuilt shape
 
+-- both marks are true where there is no entry
+abbrev pub settled : {T : Type 0} → Tree T → Marks → Marks
+settled t marks = if length t.list.entries == 0 then record { only_inserted = true; just_built = true } else marks
+
 -- how few entries a search is shown: c of the n entries of the state
 pub record IsWithinBounds {T : Type 0} (s : State T) (c : ℕ) : Type 0 where
   pub always : let n = length s.tree.list.entries in 0 < n → 2 ^ (c + 1) ≤ (n + 1) ^ 2
   pub inserted : let n = length s.tree.list.entries in s.marks.only_inserted ≡ true → fib (c + 2) ≤ n + 1
   pub built : let n = length s.tree.list.entries in s.marks.just_built ≡ true → (digits : ℕ) → HasDigits n digits → c ≤ digits
   pub empty : let n = length s.tree.list.entries in n ≡ 0 → c ≡ 0
+
+-- the entry at index i is taken out, and the generation raised: with an overflow where it begins again
+pub record IsRemoval {T : Type 0} (greatest : Option ℕ) (old : Tree T) (i : ℕ) (overflow : Bool) (new : Tree T) : Type 0 where
+  pub list : new.list ≡ removed greatest old.list i
+  pub shape : IsShrunk old.shape new.shape
+  pub begins_again : overflow ≡ overflows_after greatest old.list.generation
 
 -- the node of index i has rank k in the shape
 abbrev pub HasRank : Shape → ℕ → ℕ → Type 0
@@ -98,6 +118,45 @@ module _ {P T I G A : Type 0} where
   Gets pointer t p (Refused AllocError) = IsSome (item_of t.list.entries (pointer p).0 (pointer p).1)
   Gets pointer t p reply = ⊥
 
+  -- the item under a pointer, in the place of which another is put; the shape stays
+  abbrev pub Sets : (P → ℕ × ℕ) → Tree T → P → T → Reply P T A I G → Tree T → Type 0
+  Sets pointer old p item (Item before) new =
+      (before ≡ item_of old.list.entries (pointer p).0 (pointer p).1)
+      × MatchOption before (new ≡ old) (λ _. new ≡ with_item_in old (pointer p).0 item)
+  Sets pointer old p item reply new = ⊥
+
+  -- the entry under a pointer, taken out
+  abbrev pub Removes : Option ℕ → (P → ℕ × ℕ) → Tree T → P → Reply P T A I G → Tree T → Type 0
+  Removes greatest pointer old p (Removed result) new =
+      let item = item_of old.list.entries (pointer p).0 (pointer p).1 in
+      MatchOption (valid_value result) ((item ≡ None) × (new ≡ old))
+      (λ taken. (taken.0 ≡ p) × (item ≡ Some taken.1) × IsRemoval greatest old (pointer p).0 (has_overflowed result) new)
+  Removes greatest pointer old p reply new = ⊥
+
+  -- the entry at an index, taken out
+  abbrev pub RemovesAt : Option ℕ → (P → ℕ × ℕ) → Tree T → ℕ → Reply P T A I G → Tree T → Type 0
+  RemovesAt greatest pointer old i (Removed result) new =
+      let entry = entry_at old.list.entries i in
+      MatchOption (valid_value result) ((entry ≡ None) × (new ≡ old))
+      (λ taken. ((pointer taken.0).0 ≡ i) × (entry ≡ Some ((pointer taken.0).1, taken.1)) × IsRemoval greatest old i (has_overflowed result) new)
+  RemovesAt greatest pointer old i reply new = ⊥
+
+  -- the entry under a pointer, under a new one of the same index and the raised generation; the shape stays
+  abbrev pub Renews : Option ℕ → (P → ℕ × ℕ) → Tree T → P → Reply P T A I G → Tree T → Type 0
+  Renews greatest pointer old p (Renewed result) new =
+      let item = item_of old.list.entries (pointer p).0 (pointer p).1 in
+      MatchOption (valid_value result) ((item ≡ None) × (new ≡ old))
+      (λ q. IsSome item × (pointer q ≡ ((pointer p).0, next_generation greatest old.list.generation))
+      × (has_overflowed result ≡ overflows_after greatest old.list.generation)
+      × (new ≡ record old { list = renewed greatest old.list (pointer p).0 }))
+  Renews greatest pointer old p reply new = ⊥
+
+  -- a change of all that raises the generation
+  abbrev pub Changes : Option ℕ → Tree T → Tree T → Reply P T A I G → Tree T → Type 0
+  Changes greatest old after (Changed result) new =
+      (new ≡ after) × (is_overflow result ≡ overflows_after greatest old.list.generation)
+  Changes greatest old after reply new = ⊥
+
   -- the end of the list that has this index and generation
   abbrev pub IsEnd : (P → ℕ × ℕ) → Option (ℕ × ℕ) → Reply P T A I G → Type 0
   IsEnd pointer end (At p) = option_map pointer p ≡ end
@@ -131,6 +190,15 @@ module _ {P T I G A : Type 0} where
   -- From the state old, the reply to the command may be this one, and the tree goes on to new.
   abbrev pub Replies : {K : Type 0} → Reading P T I G K → State T → Command P T I G K → Reply P T A I G → Tree T → Type 0
   Replies r old (commands.Insert item) reply new = Inserts r.key r.cmp r.most r.pointer old.tree item reply new
+  Replies r old (commands.Set p item) reply new = Sets r.pointer old.tree p item reply new
+  Replies r old (commands.Remove p) reply new = Removes r.greatest r.pointer old.tree p reply new
+  Replies r old (commands.RemoveInx i) reply new = RemovesAt r.greatest r.pointer old.tree (r.index i) reply new
+  Replies r old (commands.Invalidate p) reply new = Renews r.greatest r.pointer old.tree p reply new
+  -- there is no entry left, and all slots count as never used
+  Replies r old commands.Clear reply new =
+      Changes r.greatest old.tree (record { list = cleared r.greatest old.tree.list; shape = missing }) reply new
+  Replies r old commands.IncGeneration reply new =
+      Changes r.greatest old.tree (record old.tree { list = raised r.greatest old.tree.list }) reply new
   Replies r old (commands.Find k) reply new = Finds r.key r.cmp r.pointer old k reply × (new ≡ old.tree)
   Replies r old (commands.Visits k) reply new = Visits r.key r.cmp old k reply × (new ≡ old.tree)
   Replies r old (commands.Get p) reply new = Gets r.pointer old.tree p reply × (new ≡ old.tree)
@@ -141,12 +209,13 @@ module _ {P T I G A : Type 0} where
   Replies r old commands.Ranks reply new = Ranked old.tree reply × (new ≡ old.tree)
   Replies r old commands.Stats reply new = Counts r.generation old.tree reply × (new ≡ old.tree)
 
-  -- the marks after a reply: a new entry keeps the first mark and ends the second; after any other reply both are true where
-  -- there is no entry, and stay where there is one
+  -- the marks after a reply. Where no entry is left, both are true; else a new entry keeps the first and ends the second, a removal
+  -- ends both, and any other reply, also a refusal, keeps both.
   abbrev pub marks_after : Reply P T A I G → Tree T → Marks → Marks
-  marks_after (Inserted (New p) before) new marks = record { only_inserted = marks.only_inserted; just_built = false }
-  marks_after reply new marks =
-      if length new.list.entries == 0 then record { only_inserted = true; just_built = true } else marks
+  marks_after (Inserted (New p) before) new marks = settled new (record { only_inserted = marks.only_inserted; just_built = false })
+  marks_after (Removed (Success taken)) new marks = settled new (record { only_inserted = false; just_built = false })
+  marks_after (Removed (GenerationOverflow taken)) new marks = settled new (record { only_inserted = false; just_built = false })
+  marks_after reply new marks = settled new marks
 
   -- From the state old, the machine may give this reply to the command, and go on to the state new.
   pub record Step {K : Type 0} (r : Reading P T I G K) (old : State T) (command : Command P T I G K) (reply : Reply P T A I G) (new : State T) : Type 0 where

@@ -1,12 +1,14 @@
 -- The lines that a script answers.
-use Rattle.std.specs.Prelude.{◌≡◌, Result, OnOk, String, string_bytes, ℕ, List, [], ◌∷◌, ◌++◌, Option, Some, None, codes, decimal, flat_map}
+use Rattle.std.specs.Prelude.{◌≡◌, Result, OnOk, String, string_bytes, ℕ, Bool, true, false, List, [], ◌∷◌, ◌++◌, Option, Some, None, codes, decimal, flat_map}
 use Rattle.std.specs.Fmt.{signed_decimal}
+use Rattle.arena_base.specs.Invalidation.{is_overflow}
+use Rattle.arena_base.specs.declared.invalidation.InvalidationResult.TheVariants.{Success, GenerationOverflow, InvalidPtr}
 use Rattle.triple_ord.specs.declared.entry_kind.OrdEntryKind.TheVariants.{New, Replacing}
 use Rattle.triple_ord.specs.declared.error.OrdInsertionError.{OrdInsertionError}
 use Rattle.triple_ord.specs.declared.error.OrdInsertionError.TheVariants.{FailedOrdRequirement, NotWithinCapacity, BeyondMaxCapacity, AllocError}
 use Rattle.ord_script.specs.declared.word.Word.{Word}
 use Rattle.ord_script.specs.declared.word.Word.TheVariants as words
-use Rattle.ord_script.specs.declared.reply.Reply.TheVariants.{Inserted, Refused, Found, Count, Item, At, Links, Entries, Ranks, Stats}
+use Rattle.ord_script.specs.declared.reply.Reply.TheVariants.{Inserted, Refused, Found, Count, Item, Removed, Renewed, Changed, At, Links, Entries, Ranks, Stats}
 use Rattle.ord_script.specs.declared.fault.Fault.{Fault}
 use Rattle.ord_script.specs.declared.fault.FaultKind.{FaultKind}
 use Rattle.ord_script.specs.declared.fault.FaultKind.TheVariants.{UnknownCommand, WrongArguments, BadNumber}
@@ -74,6 +76,42 @@ item_line (Item (Some pair)) = codes "item " ++ pair_text pair ++ 10 ∷ []
 item_line (Item None) = codes "none" ++ 10 ∷ []
 item_line reply = refusal_line reply
 
+-- an answer that may tell that the generation began again
+abbrev pub overflow_text : Bool → List ℕ
+overflow_text true = codes " overflow"
+overflow_text false = []
+
+-- the item that was replaced
+abbrev pub old_line : {A : Type 0} → PairReply A → List ℕ
+old_line (Item (Some pair)) = codes "old " ++ pair_text pair ++ 10 ∷ []
+old_line (Item None) = codes "none" ++ 10 ∷ []
+old_line reply = refusal_line reply
+
+-- what was taken out under a pointer, or at an index
+abbrev pub taken_line : List ℕ → Bool → List ℕ
+taken_line taken overflow = codes "removed " ++ taken ++ overflow_text overflow ++ 10 ∷ []
+
+abbrev pub removal_line : {A : Type 0} → (Pointer × Pair → List ℕ) → PairReply A → List ℕ
+removal_line shown (Removed (Success taken)) = taken_line (shown taken) false
+removal_line shown (Removed (GenerationOverflow taken)) = taken_line (shown taken) true
+removal_line shown (Removed InvalidPtr) = codes "invalid" ++ 10 ∷ []
+removal_line shown reply = refusal_line reply
+
+-- an entry's new pointer
+abbrev pub now_line : Pointer → Bool → List ℕ
+now_line p overflow = codes "now " ++ pointer_text p ++ overflow_text overflow ++ 10 ∷ []
+
+abbrev pub renewal_line : {A : Type 0} → PairReply A → List ℕ
+renewal_line (Renewed (Success p)) = now_line p false
+renewal_line (Renewed (GenerationOverflow p)) = now_line p true
+renewal_line (Renewed InvalidPtr) = codes "invalid" ++ 10 ∷ []
+renewal_line reply = refusal_line reply
+
+-- a word for a change of all
+abbrev pub change_line : {A : Type 0} → List ℕ → PairReply A → List ℕ
+change_line word (Changed result) = word ++ overflow_text (is_overflow result) ++ 10 ∷ []
+change_line word reply = refusal_line reply
+
 abbrev pub place_line : {A : Type 0} → PairReply A → List ℕ
 place_line (At place) = place_text place ++ 10 ∷ []
 place_line reply = refusal_line reply
@@ -105,6 +143,12 @@ stats_line reply = refusal_line reply
 -- the line of a reply to a command that begins with this word
 abbrev pub reply_line : {A : Type 0} → Word → PairReply A → List ℕ
 reply_line words.Insert reply = insertion_line reply
+reply_line words.Set reply = old_line reply
+reply_line words.Remove reply = removal_line (λ taken. pair_text taken.1) reply
+reply_line words.RemoveInx reply = removal_line (λ taken. pointer_text taken.0 ++ codes " " ++ pair_text taken.1) reply
+reply_line words.Invalidate reply = renewal_line reply
+reply_line words.Clear reply = change_line (codes "cleared") reply
+reply_line words.IncGeneration reply = change_line (codes "ok") reply
 reply_line words.Find reply = search_line reply
 reply_line words.Visits reply = count_line reply
 reply_line words.Get reply = item_line reply

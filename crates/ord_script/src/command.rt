@@ -7,6 +7,18 @@ use triple_ord::SimpleOrdItem;
 pub enum Command<P: Ptr, T: SimpleOrdItem> {
     /// Inserts the item by its key.
     Insert(T),
+    /// Gives the entry that the pointer names another item, whatever its key.
+    Set(P, T),
+    /// Takes the entry that the pointer names out.
+    Remove(P),
+    /// Takes the entry at the index out.
+    RemoveInx(P::Inx),
+    /// Gives the entry that the pointer names a new pointer.
+    Invalidate(P),
+    /// Drops all entries.
+    Clear,
+    /// Raises the generation that the next entry gets.
+    IncGeneration,
     /// Searches an entry with an equal key.
     Find(T::Key),
     /// Searches an entry with an equal key, and asks how many entries the search was shown.

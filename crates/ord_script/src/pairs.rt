@@ -85,3 +85,22 @@ impl fmt::Display for ShownMaximum {
         }
     }
 }
+
+/// ` overflow` where the generations began again, else nothing.
+#[derive(Clone, Copy)]
+pub struct ShownOverflow(pub bool);
+
+impl fmt::Display for ShownOverflow {
+    ghost use Rattle.std.specs.Prelude.{Some};
+    ghost use Rattle.ord_script.specs.Text.{overflow_text};
+
+    ghost output = { λ shown. Some (overflow_text shown.0) };
+
+    fn fmt<W: fmt::Write>(&self, f: &mut fmt::Formatter<W>) -> fmt::Result {
+        if self.0 {
+            write!(f, " overflow")
+        } else {
+            Ok(())
+        }
+    }
+}

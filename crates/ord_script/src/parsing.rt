@@ -1,6 +1,6 @@
 // Reads the command that a line gives.
 ghost use Rattle.std.specs.Prelude.{◌≡◌, MatchResult};
-ghost use Rattle.ord_script.specs.Commands.{no_argument, one_argument, two_arguments, insert_of, with_key, get_of, neighbours_of, alone, said_by};
+ghost use Rattle.ord_script.specs.Commands.{no_argument, one_argument, two_arguments, three_arguments, key_in, pointer_in, index_in, pair_in, insert_of, set_of, with_key, with_pointer, with_index, alone, said_by};
 ghost use Rattle.ord_script.specs.Commands as spec;
 ghost use Rattle.ord_script.specs.Script.{words_of};
 
@@ -8,8 +8,9 @@ use crate::command::Command;
 use crate::cutting::Words;
 use crate::fault::FaultKind;
 use crate::numbers::{index_of, key_of, pointer_of, value_of};
-use crate::pairs::PairCommand;
+use crate::pairs::{Pair, PairCommand};
 use crate::word::{Word, word_in};
+use arena_base::P0;
 use triple_ord::OrdPair;
 
 /// What a line says: nothing, where it has no words or begins with `#`; else a command, or what is
@@ -32,6 +33,12 @@ fn command_of(first: &[u8], arguments: Words<'_>) -> Result<PairCommand, FaultKi
     let word = word_in(first).ok_or(FaultKind::UnknownCommand)?;
     match word {
         Word::Insert => insert_of(arguments),
+        Word::Set => set_of(arguments),
+        Word::Remove => remove_of(arguments),
+        Word::RemoveInx => remove_inx_of(arguments),
+        Word::Invalidate => invalidate_of(arguments),
+        Word::Clear => alone(Command::Clear, arguments),
+        Word::IncGeneration => alone(Command::IncGeneration, arguments),
         Word::Find => find_of(arguments),
         Word::Visits => visits_of(arguments),
         Word::Get => get_of(arguments),
@@ -50,9 +57,49 @@ fn insert_of(arguments: Words<'_>) -> Result<PairCommand, FaultKind>
     ensures { result ≡ insert_of arguments.entry }
 {
     let (key, value) = two(arguments)?;
-    let key = key_of(key).ok_or(FaultKind::BadNumber)?;
-    let value = value_of(value).ok_or(FaultKind::BadNumber)?;
-    Ok(Command::Insert(OrdPair::new(key, value)))
+    let pair = pair_in(key, value)?;
+    Ok(Command::Insert(pair))
+}
+
+/// `set P K V`
+#[tactic(auto, unfolding(crate::specs::Commands::set_of))]
+fn set_of(arguments: Words<'_>) -> Result<PairCommand, FaultKind>
+    ensures { result ≡ set_of arguments.entry }
+{
+    let (pointer, key, value) = three(arguments)?;
+    let pointer = pointer_in(pointer)?;
+    let pair = pair_in(key, value)?;
+    Ok(Command::Set(pointer, pair))
+}
+
+/// `remove P`
+#[tactic(auto, unfolding(crate::specs::Commands::with_pointer))]
+fn remove_of(arguments: Words<'_>) -> Result<PairCommand, FaultKind>
+    ensures { result ≡ with_pointer Command.Remove arguments.entry }
+{
+    let pointer = one(arguments)?;
+    let pointer = pointer_in(pointer)?;
+    Ok(Command::Remove(pointer))
+}
+
+/// `remove-index I`
+#[tactic(auto, unfolding(crate::specs::Commands::with_index))]
+fn remove_inx_of(arguments: Words<'_>) -> Result<PairCommand, FaultKind>
+    ensures { result ≡ with_index Command.RemoveInx arguments.entry }
+{
+    let index = one(arguments)?;
+    let index = index_in(index)?;
+    Ok(Command::RemoveInx(index))
+}
+
+/// `invalidate P`
+#[tactic(auto, unfolding(crate::specs::Commands::with_pointer))]
+fn invalidate_of(arguments: Words<'_>) -> Result<PairCommand, FaultKind>
+    ensures { result ≡ with_pointer Command.Invalidate arguments.entry }
+{
+    let pointer = one(arguments)?;
+    let pointer = pointer_in(pointer)?;
+    Ok(Command::Invalidate(pointer))
 }
 
 /// `find K`
@@ -61,7 +108,7 @@ fn find_of(arguments: Words<'_>) -> Result<PairCommand, FaultKind>
     ensures { result ≡ with_key Command.Find arguments.entry }
 {
     let key = one(arguments)?;
-    let key = key_of(key).ok_or(FaultKind::BadNumber)?;
+    let key = key_in(key)?;
     Ok(Command::Find(key))
 }
 
@@ -71,27 +118,27 @@ fn visits_of(arguments: Words<'_>) -> Result<PairCommand, FaultKind>
     ensures { result ≡ with_key Command.Visits arguments.entry }
 {
     let key = one(arguments)?;
-    let key = key_of(key).ok_or(FaultKind::BadNumber)?;
+    let key = key_in(key)?;
     Ok(Command::Visits(key))
 }
 
 /// `get P`
-#[tactic(auto, unfolding(crate::specs::Commands::get_of))]
+#[tactic(auto, unfolding(crate::specs::Commands::with_pointer))]
 fn get_of(arguments: Words<'_>) -> Result<PairCommand, FaultKind>
-    ensures { result ≡ get_of arguments.entry }
+    ensures { result ≡ with_pointer Command.Get arguments.entry }
 {
     let pointer = one(arguments)?;
-    let pointer = pointer_of(pointer).ok_or(FaultKind::BadNumber)?;
+    let pointer = pointer_in(pointer)?;
     Ok(Command::Get(pointer))
 }
 
 /// `neighbours I`
-#[tactic(auto, unfolding(crate::specs::Commands::neighbours_of))]
+#[tactic(auto, unfolding(crate::specs::Commands::with_index))]
 fn neighbours_of(arguments: Words<'_>) -> Result<PairCommand, FaultKind>
-    ensures { result ≡ neighbours_of arguments.entry }
+    ensures { result ≡ with_index Command.Neighbours arguments.entry }
 {
     let index = one(arguments)?;
-    let index = index_of(index).ok_or(FaultKind::BadNumber)?;
+    let index = index_in(index)?;
     Ok(Command::Neighbours(index))
 }
 
@@ -102,6 +149,37 @@ fn alone(command: PairCommand, arguments: Words<'_>) -> Result<PairCommand, Faul
 {
     none(arguments)?;
     Ok(command)
+}
+
+/// A word that is a key.
+fn key_in(word: &[u8]) -> Result<i64, FaultKind>
+    ensures { result ≡ key_in word.now }
+{
+    key_of(word).ok_or(FaultKind::BadNumber)
+}
+
+/// A word that is a pointer.
+fn pointer_in(word: &[u8]) -> Result<P0, FaultKind>
+    ensures { result ≡ pointer_in word.now }
+{
+    pointer_of(word).ok_or(FaultKind::BadNumber)
+}
+
+/// A word that is an index.
+fn index_in(word: &[u8]) -> Result<u32, FaultKind>
+    ensures { result ≡ index_in word.now }
+{
+    index_of(word).ok_or(FaultKind::BadNumber)
+}
+
+/// Two words that are a key and a value.
+#[tactic(auto, unfolding(crate::specs::Commands::pair_in))]
+fn pair_in(key: &[u8], value: &[u8]) -> Result<Pair, FaultKind>
+    ensures { result ≡ pair_in key.now value.now }
+{
+    let key = key_in(key)?;
+    let value = value_of(value).ok_or(FaultKind::BadNumber)?;
+    Ok(OrdPair::new(key, value))
 }
 
 /// No argument.
@@ -132,6 +210,22 @@ fn two(mut arguments: Words<'_>) -> Result<(&[u8], &[u8]), FaultKind>
 {
     match (arguments.next(), arguments.next(), arguments.next()) {
         (Some(first), Some(second), None) => Ok((first, second)),
+        _ => Err(FaultKind::WrongArguments),
+    }
+}
+
+/// The three arguments.
+fn three(mut arguments: Words<'_>) -> Result<(&[u8], &[u8], &[u8]), FaultKind>
+    ensures { MatchResult result (λ three. three_arguments arguments.entry ≡ Ok (three.0.now, three.1.now, three.2.now))
+        (λ kind. three_arguments arguments.entry ≡ Err kind) }
+{
+    match (
+        arguments.next(),
+        arguments.next(),
+        arguments.next(),
+        arguments.next(),
+    ) {
+        (Some(first), Some(second), Some(third), None) => Ok((first, second, third)),
         _ => Err(FaultKind::WrongArguments),
     }
 }

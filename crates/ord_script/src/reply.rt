@@ -1,5 +1,5 @@
 // What an arena answers.
-use arena_base::Ptr;
+use arena_base::{InvalidationOption, InvalidationResult, Ptr};
 use std::alloc::Allocator;
 use triple_ord::{OrdEntryKind, OrdInsertionError};
 
@@ -15,8 +15,14 @@ pub enum Reply<P: Ptr, T, A: Allocator> {
     Found(Option<P>, u128),
     /// How many entries the search was shown.
     Count(u128),
-    /// A clone of the item, `None` where the pointer names no entry.
+    /// A clone of the item, or the item that was replaced; `None` where the pointer names no entry.
     Item(Option<T>),
+    /// The pointer and the item of the entry that was taken out.
+    Removed(InvalidationResult<(P, T)>),
+    /// The entry's new pointer.
+    Renewed(InvalidationResult<P>),
+    /// The generation was raised.
+    Changed(InvalidationOption<()>),
     /// The pointer of the entry, `None` where there is none.
     At(Option<P>),
     /// The indexes of the entries before and after the one at the index, each `None` at an end of the list; `None` where the index

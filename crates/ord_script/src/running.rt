@@ -1,7 +1,7 @@
 // Runs commands on an ordered arena.
 ghost use Rattle.std.specs.Prelude.{◌≡◌, IfOk, OnErr};
 ghost use Rattle.ord_tree.specs.Tree.{IsSoundTree};
-ghost use Rattle.ord_script.specs.Machine.{Marks, AreTrue, Replies, RunsBetween};
+ghost use Rattle.ord_script.specs.Machine.{reading_by, Marks, AreTrue, Replies, RunsBetween};
 
 use crate::command::Command;
 use crate::reply::Reply;
@@ -30,14 +30,7 @@ pub fn run<
 where
     T::Key: Drop,
     requires { (x y : T) → T.is_clone x y → y ≡ x }
-    ensures run { IfOk result (λ replies. RunsBetween (record {
-      key = T.key_of;
-      cmp = T.Key.cmp;
-      most = P.Inx.most;
-      pointer = λ p. (P.index p, P.era p);
-      index = P.Inx.number;
-      generation = P.Gen.number;
-    })
+    ensures run { IfOk result (λ replies. RunsBetween (reading_by T.key_of T.Key.cmp P.Inx.most P.Gen.greatest P.index P.era P.Inx.number P.Gen.number)
         arena.old commands.items replies.items arena.new) }
     ensures err { OnErr result (arena.new ≡ arena.old) }
     ensures closure { closure.new ≡ closure.old }
@@ -60,21 +53,37 @@ where
     T::Key: Drop,
     requires { (x y : T) → T.is_clone x y → y ≡ x }
     ensures replies { (marks : Marks) → AreTrue marks arena.old.shape
-        → Replies (record {
-          key = T.key_of;
-          cmp = T.Key.cmp;
-          most = P.Inx.most;
-          pointer = λ p. (P.index p, P.era p);
-          index = P.Inx.number;
-          generation = P.Gen.number;
-        })
+        → Replies (reading_by T.key_of T.Key.cmp P.Inx.most P.Gen.greatest P.index P.era P.Inx.number P.Gen.number)
         (record { tree = arena.old; marks = marks }) command result arena.new }
-    ensures sound { IsSoundTree arena.old }
+    ensures sound { IsSoundTree arena.new }
 {
+    let reply = reply_to(alloc, arena, command);
     // with its length an arena tells what holds of its shape
     let _ = arena.len();
+    reply
+}
+
+// What a command does, and what it answers.
+fn reply_to<P: Ptr, T: SimpleOrdItem + Clone + Drop, A: Allocator + Copy>(
+    alloc: A,
+    arena: &mut SimpleOrdArena<P, T, A>,
+    command: Command<P, T>,
+) -> Reply<P, T, A>
+where
+    T::Key: Drop,
+    requires { (x y : T) → T.is_clone x y → y ≡ x }
+    ensures { (marks : Marks) → AreTrue marks arena.old.shape
+        → Replies (reading_by T.key_of T.Key.cmp P.Inx.most P.Gen.greatest P.index P.era P.Inx.number P.Gen.number)
+        (record { tree = arena.old; marks = marks }) command result arena.new }
+{
     match command {
         Command::Insert(item) => steps::insert(arena, item),
+        Command::Set(p, item) => steps::set(arena, p, item),
+        Command::Remove(p) => steps::remove(arena, p),
+        Command::RemoveInx(i) => steps::remove_inx(arena, i),
+        Command::Invalidate(p) => steps::invalidate(arena, p),
+        Command::Clear => steps::clear(arena),
+        Command::IncGeneration => steps::inc_generation(arena),
         Command::Find(key) => steps::find(arena, &key),
         Command::Visits(key) => steps::visits(arena, &key),
         Command::Get(p) => steps::get(arena, p),

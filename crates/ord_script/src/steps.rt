@@ -1,11 +1,13 @@
 // What each command does, and what it answers.
 ghost use Rattle.std.specs.Prelude.{◌≡◌, IfOk, IfSome, is_some, map};
-ghost use Rattle.chain_base.specs.Chain.{link_at, first_pointer, last_pointer};
-ghost use Rattle.ord_script.specs.Machine.{Marks, AreTrue, Inserts, Finds, Visits, Gets, IsEnd, HasNeighbours, Lists, Ranked, HasRank, HaveRanks, Counts};
+ghost use Rattle.chain_base.specs.Chain.{link_at, first_pointer, last_pointer, cleared, raised};
+ghost use Rattle.ord_tree.specs.Shape.{missing};
+ghost use Rattle.ord_script.specs.Machine.{Marks, AreTrue, Inserts, Sets, Removes, RemovesAt, Renews, Changes, Finds, Visits, Gets, IsEnd, HasNeighbours, Lists, Ranked, HasRank, HaveRanks, Counts};
 
 use crate::reply::Reply;
 use arena_base::Ptr;
 use std::alloc::{AllocError, Allocator};
+use std::mem;
 use triple_ord::{OrdEntryKind, OrdInsertionError, SimpleOrdArena, SimpleOrdItem};
 
 /// `Command::Insert`
@@ -25,6 +27,74 @@ pub fn insert<P: Ptr, T: SimpleOrdItem + Drop, A: Allocator>(
         }
         Err(refusal) => Reply::Refused(refusal),
     }
+}
+
+/// `Command::Set`
+pub fn set<P: Ptr, T: Drop, A: Allocator>(
+    arena: &mut SimpleOrdArena<P, T, A>,
+    p: P,
+    item: T,
+) -> Reply<P, T, A>
+    ensures { Sets (λ p. (P.index p, P.era p)) arena.old p item result arena.new }
+{
+    if !arena.contains(p) {
+        return Reply::Item(None);
+    }
+    let pair = arena.pair_mut(p.inx());
+    let place = pair.1;
+    Reply::Item(Some(mem::replace(place, item)))
+}
+
+/// `Command::Remove`
+pub fn remove<P: Ptr, T: Drop, A: Allocator>(
+    arena: &mut SimpleOrdArena<P, T, A>,
+    p: P,
+) -> Reply<P, T, A>
+    ensures { Removes P.Gen.greatest (λ p. (P.index p, P.era p)) arena.old p result arena.new }
+{
+    Reply::Removed(arena.remove(p).map(|item| (p, item)))
+}
+
+/// `Command::RemoveInx`
+pub fn remove_inx<P: Ptr, T: Drop, A: Allocator>(
+    arena: &mut SimpleOrdArena<P, T, A>,
+    i: P::Inx,
+) -> Reply<P, T, A>
+    ensures { RemovesAt P.Gen.greatest (λ p. (P.index p, P.era p)) arena.old (P.Inx.number i) result arena.new }
+{
+    Reply::Removed(
+        arena
+            .remove_inx(i)
+            .map(|taken| (P::_from_raw(i, taken.0), taken.1)),
+    )
+}
+
+/// `Command::Invalidate`
+pub fn invalidate<P: Ptr, T, A: Allocator>(
+    arena: &mut SimpleOrdArena<P, T, A>,
+    p: P,
+) -> Reply<P, T, A>
+    ensures { Renews P.Gen.greatest (λ p. (P.index p, P.era p)) arena.old p result arena.new }
+{
+    Reply::Renewed(arena.invalidate(p))
+}
+
+/// `Command::Clear`
+pub fn clear<P: Ptr, T: Drop, A: Allocator>(arena: &mut SimpleOrdArena<P, T, A>) -> Reply<P, T, A>
+    ensures { Changes P.Gen.greatest arena.old
+        (record { list = cleared P.Gen.greatest arena.old.list; shape = missing }) result arena.new }
+{
+    Reply::Changed(arena.clear())
+}
+
+/// `Command::IncGeneration`
+pub fn inc_generation<P: Ptr, T, A: Allocator>(
+    arena: &mut SimpleOrdArena<P, T, A>,
+) -> Reply<P, T, A>
+    ensures { Changes P.Gen.greatest arena.old (record arena.old { list = raised P.Gen.greatest arena.old.list })
+        result arena.new }
+{
+    Reply::Changed(arena.inc_generation())
 }
 
 /// `Command::Find`

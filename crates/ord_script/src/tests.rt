@@ -72,411 +72,263 @@ impl Write for Sink {
     }
 }
 
-/// Scripts, each with its answer and its end.
-const ROWS: [(&[u8], &str, ScriptEnd); 80] = [
+/// Scripts that are done, each with its answer.
+const ANSWERS: [(&[u8], &str); 26] = [
     // the commands
     (
         b"insert 50 1\ninsert 30 2\nfind 30\nlist\n",
         "new 1.2\nnew 2.2\nat 2.2\nlist 2.2=30:2 1.2=50:1\n",
-        ScriptEnd::Done,
     ),
-    (b"", "", ScriptEnd::Done),
-    (b"list", "list\n", ScriptEnd::Done),
+    (b"", ""),
+    (b"list", "list\n"),
     (
         b"insert 5 1\ninsert 5 2\nlist\n",
         "new 1.2\nreplaced 1.2 5:1\nlist 1.2=5:2\n",
-        ScriptEnd::Done,
     ),
     (
         b"find 3\ninsert 3 4\nfind 2\nfind 3\nfind 4\n",
         "none\nnew 1.2\nnone\nat 1.2\nnone\n",
-        ScriptEnd::Done,
     ),
     (
         b"insert 2 0\ninsert -1 0\ninsert 3 0\ninsert 1 0\ninsert 0 0\nfind 1\nlist\n",
         "new 1.2\nnew 2.2\nnew 3.2\nnew 4.2\nnew 5.2\nat 4.2\nlist 2.2=-1:0 5.2=0:0 4.2=1:0 1.2=2:0 3.2=3:0\n",
-        ScriptEnd::Done,
     ),
     // the tree, and what stands around the entries
     (
         b"insert 50 0\ninsert 30 0\ninsert 70 0\ninsert 60 0\ninsert 10 0\nranks\nvisits 53\nneighbours 4\nstats\n",
         "new 1.2\nnew 2.2\nnew 3.2\nnew 4.2\nnew 5.2\nranks 1 2 3 1 2\nvisits 3\nneighbours 1 3\nlen 5 capacity 8 generation 2 max none\n",
-        ScriptEnd::Done,
     ),
     (
         b"insert 1 0\ninsert 2 0\ninsert 3 0\ninsert 4 0\ninsert 5 0\ninsert 6 0\ninsert 7 0\nranks\nvisits 4\nvisits 2\nvisits 7\nvisits 8\n",
         "new 1.2\nnew 2.2\nnew 3.2\nnew 4.2\nnew 5.2\nnew 6.2\nnew 7.2\nranks 1 2 1 3 1 2 1\nvisits 1\nvisits 2\nvisits 3\nvisits 3\n",
-        ScriptEnd::Done,
     ),
     (
         b"insert 50 5\ninsert 30 3\ninsert 70 7\nfirst\nlast\nget 1.2\nget 2.2\nget 3.2\nget 003.0002\n",
         "new 1.2\nnew 2.2\nnew 3.2\nat 2.2\nat 3.2\nitem 50:5\nitem 30:3\nitem 70:7\nitem 70:7\n",
-        ScriptEnd::Done,
     ),
     (
         b"insert 50 5\nget 1.1\nget 1.3\nget 0.2\nget 2.2\nget 4294967295.18446744073709551615\n",
         "new 1.2\nnone\nnone\nnone\nnone\nnone\n",
-        ScriptEnd::Done,
     ),
     (
         b"insert 50 0\ninsert 30 0\ninsert 70 0\nneighbours 1\nneighbours 2\nneighbours 3\nneighbours 4\nneighbours 0\nneighbours 4294967295\n",
         "new 1.2\nnew 2.2\nnew 3.2\nneighbours 2 3\nneighbours - 1\nneighbours 1 -\nnone\nnone\nnone\n",
-        ScriptEnd::Done,
     ),
     (
         b"insert 5 0\nneighbours 1\nfirst\nlast\nranks\nvisits 5\nvisits 6\nstats\n",
         "new 1.2\nneighbours - -\nat 1.2\nat 1.2\nranks 1\nvisits 1\nvisits 1\nlen 1 capacity 4 generation 2 max none\n",
-        ScriptEnd::Done,
     ),
     (
         b"first\nlast\nget 1.2\nneighbours 1\nlist\nranks\nvisits 0\nfind 0\nstats\n",
         "none\nnone\nnone\nnone\nlist\nranks\nvisits 0\nnone\nlen 0 capacity 0 generation 2 max none\n",
-        ScriptEnd::Done,
+    ),
+    // removals and generations
+    (
+        b"insert 7 0\nremove 1.2\nremove 1.2\ninsert 7 1\nget 1.2\nget 1.3\nremove-index 0\n",
+        "new 1.2\nremoved 7:0\ninvalid\nnew 1.3\nnone\nitem 7:1\ninvalid\n",
     ),
     (
-        b"visits",
-        "line 1: wrong arguments\n",
-        ScriptEnd::Fault(1, FaultKind::WrongArguments),
+        b"insert 7 0\ninvalidate 1.2\nget 1.2\ninsert 8 0\nclear\nstats\ninsert 1 0\n",
+        "new 1.2\nnow 1.3\nnone\nnew 2.3\ncleared\nlen 0 capacity 4 generation 4 max none\nnew 1.4\n",
     ),
     (
-        b"get 1.2 3",
-        "line 1: wrong arguments\n",
-        ScriptEnd::Fault(1, FaultKind::WrongArguments),
+        b"insert 50 0\ninsert 30 0\ninsert 70 0\ninsert 60 0\ninsert 10 0\nremove 1.2\nlist\nranks\nnext-generation\ninsert 50 3\nstats\n",
+        "new 1.2\nnew 2.2\nnew 3.2\nnew 4.2\nnew 5.2\nremoved 50:0\nlist 5.2=10:0 2.2=30:0 4.2=60:0 3.2=70:0\nranks 1 3 1 2\nok\nnew 1.4\nlen 5 capacity 8 generation 4 max none\n",
     ),
     (
-        b"first 1",
-        "line 1: wrong arguments\n",
-        ScriptEnd::Fault(1, FaultKind::WrongArguments),
+        b"insert 1 0\ninsert 2 0\ninsert 3 0\nset 2.2 9 5\nvisits 3\nfind 1\nremove 1.2\nranks\n",
+        "new 1.2\nnew 2.2\nnew 3.2\nold 2:0\nvisits 2\nat 1.2\nremoved 1:0\nranks 2 1\n",
     ),
     (
-        b"last 1",
-        "line 1: wrong arguments\n",
-        ScriptEnd::Fault(1, FaultKind::WrongArguments),
+        b"insert 1 5\ninsert 2 6\nremove-index 1\nremove-index 1\nremove-index 2\nremove-index 3\nlist\n",
+        "new 1.2\nnew 2.2\nremoved 1.2 1:5\ninvalid\nremoved 2.2 2:6\ninvalid\nlist\n",
     ),
     (
-        b"neighbours",
-        "line 1: wrong arguments\n",
-        ScriptEnd::Fault(1, FaultKind::WrongArguments),
+        b"invalidate 1.2\nremove 1.2\nset 1.2 1 1\nremove-index 1\nclear\nnext-generation\nstats\ninsert 1 1\nset 1.3 1 2\nset 1.4 1 2\nlist\n",
+        "invalid\ninvalid\nnone\ninvalid\ncleared\nok\nlen 0 capacity 0 generation 4 max none\nnew 1.4\nnone\nold 1:1\nlist 1.4=1:2\n",
     ),
+    // lines: CR before LF, blank lines and comments, which are counted
+    (b"insert 007 01\r\n", "new 1.2\n"),
+    (b"\r\nlist\r\n", "list\n"),
+    (b"#list\nlist\n\n", "list\n"),
+    // words: spaces and tabs, and no other byte
+    (b"\tinsert \t 7\t8 \n  list\t\n", "new 1.2\nlist 1.2=7:8\n"),
+    // signs
+    (b"insert -0 1\nlist\n", "new 1.2\nlist 1.2=0:1\n"),
+    (b"insert -5 1\nfind 5\nfind -5\n", "new 1.2\nnone\nat 1.2\n"),
+    // the range of a key and of a value, and zeros in front
     (
-        b"ranks 1",
-        "line 1: wrong arguments\n",
-        ScriptEnd::Fault(1, FaultKind::WrongArguments),
+        b"insert 00000000000000000000000000000012 000000000000000000000000000000345\ninsert -00000000000000000000000000000012 0\nlist\n",
+        "new 1.2\nnew 2.2\nlist 2.2=-12:0 1.2=12:345\n",
     ),
-    (
-        b"stats 1",
-        "line 1: wrong arguments\n",
-        ScriptEnd::Fault(1, FaultKind::WrongArguments),
-    ),
-    (
-        b"visits x",
-        "line 1: bad number\n",
-        ScriptEnd::Fault(1, FaultKind::BadNumber),
-    ),
-    (
-        b"neighbours -1",
-        "line 1: bad number\n",
-        ScriptEnd::Fault(1, FaultKind::BadNumber),
-    ),
-    (
-        b"neighbours 4294967296",
-        "line 1: bad number\n",
-        ScriptEnd::Fault(1, FaultKind::BadNumber),
-    ),
-    (
-        b"neighbour 1",
-        "line 1: unknown command\n",
-        ScriptEnd::Fault(1, FaultKind::UnknownCommand),
-    ),
-    // pointers
-    (
-        b"get 1",
-        "line 1: bad number\n",
-        ScriptEnd::Fault(1, FaultKind::BadNumber),
-    ),
-    (
-        b"get 1.",
-        "line 1: bad number\n",
-        ScriptEnd::Fault(1, FaultKind::BadNumber),
-    ),
-    (
-        b"get .2",
-        "line 1: bad number\n",
-        ScriptEnd::Fault(1, FaultKind::BadNumber),
-    ),
-    (
-        b"get .",
-        "line 1: bad number\n",
-        ScriptEnd::Fault(1, FaultKind::BadNumber),
-    ),
-    (
-        b"get 1.2.3",
-        "line 1: bad number\n",
-        ScriptEnd::Fault(1, FaultKind::BadNumber),
-    ),
-    (
-        b"get 1..2",
-        "line 1: bad number\n",
-        ScriptEnd::Fault(1, FaultKind::BadNumber),
-    ),
-    (
-        b"get -1.2",
-        "line 1: bad number\n",
-        ScriptEnd::Fault(1, FaultKind::BadNumber),
-    ),
-    (
-        b"get 1,2",
-        "line 1: bad number\n",
-        ScriptEnd::Fault(1, FaultKind::BadNumber),
-    ),
-    (
-        b"get 4294967296.2",
-        "line 1: bad number\n",
-        ScriptEnd::Fault(1, FaultKind::BadNumber),
-    ),
-    (
-        b"get 1.18446744073709551616",
-        "line 1: bad number\n",
-        ScriptEnd::Fault(1, FaultKind::BadNumber),
-    ),
+];
+
+/// Scripts that end at a fault, each with its answer, the fault's line and its kind.
+const FAULTS: [(&[u8], &str, usize, FaultKind); 6] = [
     // a fault ends the script
     (
         b"insert 1 1\nfnd 1\nlist\n",
         "new 1.2\nline 2: unknown command\n",
-        ScriptEnd::Fault(2, FaultKind::UnknownCommand),
+        2,
+        FaultKind::UnknownCommand,
     ),
     (
         b"insert 50 1\ninsert 3",
         "new 1.2\nline 2: wrong arguments\n",
-        ScriptEnd::Fault(2, FaultKind::WrongArguments),
-    ),
-    (
-        b"insert 1",
-        "line 1: wrong arguments\n",
-        ScriptEnd::Fault(1, FaultKind::WrongArguments),
-    ),
-    (
-        b"insert",
-        "line 1: wrong arguments\n",
-        ScriptEnd::Fault(1, FaultKind::WrongArguments),
-    ),
-    (
-        b"insert 1 2 3",
-        "line 1: wrong arguments\n",
-        ScriptEnd::Fault(1, FaultKind::WrongArguments),
-    ),
-    (
-        b"find",
-        "line 1: wrong arguments\n",
-        ScriptEnd::Fault(1, FaultKind::WrongArguments),
-    ),
-    (
-        b"find 1 2",
-        "line 1: wrong arguments\n",
-        ScriptEnd::Fault(1, FaultKind::WrongArguments),
-    ),
-    (
-        b"list 1",
-        "line 1: wrong arguments\n",
-        ScriptEnd::Fault(1, FaultKind::WrongArguments),
-    ),
-    // first the word is looked at, then the number of words, then each argument
-    (
-        b"fnd x",
-        "line 1: unknown command\n",
-        ScriptEnd::Fault(1, FaultKind::UnknownCommand),
-    ),
-    (
-        b"find x y",
-        "line 1: wrong arguments\n",
-        ScriptEnd::Fault(1, FaultKind::WrongArguments),
-    ),
-    (
-        b"insert 1 x\n",
-        "line 1: bad number\n",
-        ScriptEnd::Fault(1, FaultKind::BadNumber),
-    ),
-    (
-        b"lists",
-        "line 1: unknown command\n",
-        ScriptEnd::Fault(1, FaultKind::UnknownCommand),
-    ),
-    (
-        b"lis",
-        "line 1: unknown command\n",
-        ScriptEnd::Fault(1, FaultKind::UnknownCommand),
-    ),
-    (
-        b"List",
-        "line 1: unknown command\n",
-        ScriptEnd::Fault(1, FaultKind::UnknownCommand),
+        2,
+        FaultKind::WrongArguments,
     ),
     // lines: CR before LF, blank lines and comments, which are counted
-    (b"insert 007 01\r\n", "new 1.2\n", ScriptEnd::Done),
-    (
-        b"list\r",
-        "line 1: unknown command\n",
-        ScriptEnd::Fault(1, FaultKind::UnknownCommand),
-    ),
-    (
-        b"list\r\r\n",
-        "line 1: unknown command\n",
-        ScriptEnd::Fault(1, FaultKind::UnknownCommand),
-    ),
-    (b"\r\nlist\r\n", "list\n", ScriptEnd::Done),
     (
         b"\n# x\nlist 1\n",
         "line 3: wrong arguments\n",
-        ScriptEnd::Fault(3, FaultKind::WrongArguments),
+        3,
+        FaultKind::WrongArguments,
     ),
     (
         b"\n\n \t \n#\n # fnd\nfnd",
         "line 6: unknown command\n",
-        ScriptEnd::Fault(6, FaultKind::UnknownCommand),
-    ),
-    (
-        b"list #",
-        "line 1: wrong arguments\n",
-        ScriptEnd::Fault(1, FaultKind::WrongArguments),
-    ),
-    (b"#list\nlist\n\n", "list\n", ScriptEnd::Done),
-    // words: spaces and tabs, and no other byte
-    (
-        b"\tinsert \t 7\t8 \n  list\t\n",
-        "new 1.2\nlist 1.2=7:8\n",
-        ScriptEnd::Done,
-    ),
-    (
-        b"find\x0b1",
-        "line 1: unknown command\n",
-        ScriptEnd::Fault(1, FaultKind::UnknownCommand),
-    ),
-    (
-        b"find\x001",
-        "line 1: unknown command\n",
-        ScriptEnd::Fault(1, FaultKind::UnknownCommand),
-    ),
-    (
-        b"\xff\n",
-        "line 1: unknown command\n",
-        ScriptEnd::Fault(1, FaultKind::UnknownCommand),
-    ),
-    (
-        b"list \xff\n",
-        "line 1: wrong arguments\n",
-        ScriptEnd::Fault(1, FaultKind::WrongArguments),
-    ),
-    (
-        b"find \xff",
-        "line 1: bad number\n",
-        ScriptEnd::Fault(1, FaultKind::BadNumber),
-    ),
-    (
-        b"\xef\xbb\xbflist",
-        "line 1: unknown command\n",
-        ScriptEnd::Fault(1, FaultKind::UnknownCommand),
-    ),
-    // signs
-    (
-        b"insert +5 1",
-        "line 1: bad number\n",
-        ScriptEnd::Fault(1, FaultKind::BadNumber),
-    ),
-    (
-        b"insert 5 +1",
-        "line 1: bad number\n",
-        ScriptEnd::Fault(1, FaultKind::BadNumber),
-    ),
-    (
-        b"insert 5 -1",
-        "line 1: bad number\n",
-        ScriptEnd::Fault(1, FaultKind::BadNumber),
-    ),
-    (
-        b"insert - 1",
-        "line 1: bad number\n",
-        ScriptEnd::Fault(1, FaultKind::BadNumber),
-    ),
-    (
-        b"insert --5 1",
-        "line 1: bad number\n",
-        ScriptEnd::Fault(1, FaultKind::BadNumber),
-    ),
-    (
-        b"insert 5- 1",
-        "line 1: bad number\n",
-        ScriptEnd::Fault(1, FaultKind::BadNumber),
-    ),
-    (
-        b"insert -0 1\nlist\n",
-        "new 1.2\nlist 1.2=0:1\n",
-        ScriptEnd::Done,
-    ),
-    (
-        b"insert -5 1\nfind 5\nfind -5\n",
-        "new 1.2\nnone\nat 1.2\n",
-        ScriptEnd::Done,
-    ),
-    (
-        b"find 5x",
-        "line 1: bad number\n",
-        ScriptEnd::Fault(1, FaultKind::BadNumber),
-    ),
-    (
-        b"find /",
-        "line 1: bad number\n",
-        ScriptEnd::Fault(1, FaultKind::BadNumber),
-    ),
-    (
-        b"find :",
-        "line 1: bad number\n",
-        ScriptEnd::Fault(1, FaultKind::BadNumber),
+        6,
+        FaultKind::UnknownCommand,
     ),
     // the range of a key and of a value, and zeros in front
     (
         b"insert -9223372036854775808 18446744073709551615\nlist\ninsert 9223372036854775808 0\n",
         "new 1.2\nlist 1.2=-9223372036854775808:18446744073709551615\nline 3: bad number\n",
-        ScriptEnd::Fault(3, FaultKind::BadNumber),
+        3,
+        FaultKind::BadNumber,
     ),
     (
         b"insert 9223372036854775807 0\nlist\ninsert -9223372036854775809 0\n",
         "new 1.2\nlist 1.2=9223372036854775807:0\nline 3: bad number\n",
-        ScriptEnd::Fault(3, FaultKind::BadNumber),
-    ),
-    (
-        b"insert 1 18446744073709551616",
-        "line 1: bad number\n",
-        ScriptEnd::Fault(1, FaultKind::BadNumber),
-    ),
-    (
-        b"insert 1 340282366920938463463374607431768211456",
-        "line 1: bad number\n",
-        ScriptEnd::Fault(1, FaultKind::BadNumber),
-    ),
-    (
-        b"find -340282366920938463463374607431768211457",
-        "line 1: bad number\n",
-        ScriptEnd::Fault(1, FaultKind::BadNumber),
-    ),
-    (
-        b"insert 00000000000000000000000000000012 000000000000000000000000000000345\ninsert -00000000000000000000000000000012 0\nlist\n",
-        "new 1.2\nnew 2.2\nlist 2.2=-12:0 1.2=12:345\n",
-        ScriptEnd::Done,
+        3,
+        FaultKind::BadNumber,
     ),
 ];
 
+/// Lines that are a fault of this kind.
+const BAD_LINES: [(&[u8], FaultKind); 69] = [
+    // the tree, and what stands around the entries
+    (b"visits", FaultKind::WrongArguments),
+    (b"get 1.2 3", FaultKind::WrongArguments),
+    (b"first 1", FaultKind::WrongArguments),
+    (b"last 1", FaultKind::WrongArguments),
+    (b"neighbours", FaultKind::WrongArguments),
+    (b"ranks 1", FaultKind::WrongArguments),
+    (b"stats 1", FaultKind::WrongArguments),
+    (b"visits x", FaultKind::BadNumber),
+    (b"neighbours -1", FaultKind::BadNumber),
+    (b"neighbours 4294967296", FaultKind::BadNumber),
+    (b"neighbour 1", FaultKind::UnknownCommand),
+    // pointers
+    (b"get 1", FaultKind::BadNumber),
+    (b"get 1.", FaultKind::BadNumber),
+    (b"get .2", FaultKind::BadNumber),
+    (b"get .", FaultKind::BadNumber),
+    (b"get 1.2.3", FaultKind::BadNumber),
+    (b"get 1..2", FaultKind::BadNumber),
+    (b"get -1.2", FaultKind::BadNumber),
+    (b"get 1,2", FaultKind::BadNumber),
+    (b"get 4294967296.2", FaultKind::BadNumber),
+    (b"get 1.18446744073709551616", FaultKind::BadNumber),
+    // removals and generations
+    (b"set 1.2 3", FaultKind::WrongArguments),
+    (b"set 1.2 3 4 5", FaultKind::WrongArguments),
+    (b"set 1.2 x 4", FaultKind::BadNumber),
+    (b"set 1 3 4", FaultKind::BadNumber),
+    (b"set 1.2 3 -4", FaultKind::BadNumber),
+    (b"remove", FaultKind::WrongArguments),
+    (b"remove 1", FaultKind::BadNumber),
+    (b"remove-index 1.2", FaultKind::BadNumber),
+    (b"remove-index", FaultKind::WrongArguments),
+    (b"invalidate 1.2 3", FaultKind::WrongArguments),
+    (b"invalidate x", FaultKind::BadNumber),
+    (b"clear 1", FaultKind::WrongArguments),
+    (b"next-generation 1", FaultKind::WrongArguments),
+    (b"next", FaultKind::UnknownCommand),
+    (b"remove_index 1", FaultKind::UnknownCommand),
+    // a fault ends the script
+    (b"insert 1", FaultKind::WrongArguments),
+    (b"insert", FaultKind::WrongArguments),
+    (b"insert 1 2 3", FaultKind::WrongArguments),
+    (b"find", FaultKind::WrongArguments),
+    (b"find 1 2", FaultKind::WrongArguments),
+    (b"list 1", FaultKind::WrongArguments),
+    // first the word is looked at, then the number of words, then each argument
+    (b"fnd x", FaultKind::UnknownCommand),
+    (b"find x y", FaultKind::WrongArguments),
+    (b"insert 1 x\n", FaultKind::BadNumber),
+    (b"lists", FaultKind::UnknownCommand),
+    (b"lis", FaultKind::UnknownCommand),
+    (b"List", FaultKind::UnknownCommand),
+    // lines: CR before LF, blank lines and comments, which are counted
+    (b"list\r", FaultKind::UnknownCommand),
+    (b"list\r\r\n", FaultKind::UnknownCommand),
+    (b"list #", FaultKind::WrongArguments),
+    // words: spaces and tabs, and no other byte
+    (b"find\x0b1", FaultKind::UnknownCommand),
+    (b"find\x001", FaultKind::UnknownCommand),
+    (b"\xff\n", FaultKind::UnknownCommand),
+    (b"list \xff\n", FaultKind::WrongArguments),
+    (b"find \xff", FaultKind::BadNumber),
+    (b"\xef\xbb\xbflist", FaultKind::UnknownCommand),
+    // signs
+    (b"insert +5 1", FaultKind::BadNumber),
+    (b"insert 5 +1", FaultKind::BadNumber),
+    (b"insert 5 -1", FaultKind::BadNumber),
+    (b"insert - 1", FaultKind::BadNumber),
+    (b"insert --5 1", FaultKind::BadNumber),
+    (b"insert 5- 1", FaultKind::BadNumber),
+    (b"find 5x", FaultKind::BadNumber),
+    (b"find /", FaultKind::BadNumber),
+    (b"find :", FaultKind::BadNumber),
+    // the range of a key and of a value, and zeros in front
+    (b"insert 1 18446744073709551616", FaultKind::BadNumber),
+    (
+        b"insert 1 340282366920938463463374607431768211456",
+        FaultKind::BadNumber,
+    ),
+    (
+        b"find -340282366920938463463374607431768211457",
+        FaultKind::BadNumber,
+    ),
+];
+
+/// Asserts what a script answers and how it ends.
+fn expect_answer<R: Abort + AllocGlobal>(rt: &R, script: &[u8], answer: &str, end: ScriptEnd) {
+    let mut output = Vec::new(rt.alloc());
+    let mut reader = Watched::new(script);
+    let mut writer = Watched::new(&mut output);
+    let ended = serve(rt.alloc(), &mut reader, &mut writer);
+    assert_eq!(rt; ended, end, "{script:?}");
+    assert!(rt; reader.ended() && !reader.failed() && !writer.failed());
+    assert_eq!(rt; output.as_slice(), answer.as_bytes(), "{script:?}");
+}
+
 #[test]
-fn answers_scripts(rt: HostRuntime) -> Result<(), Fail> {
-    for (script, answer, end) in ROWS {
-        let mut output = Vec::new(rt.alloc());
-        let mut reader = Watched::new(script);
-        let mut writer = Watched::new(&mut output);
-        let ended = serve(rt.alloc(), &mut reader, &mut writer);
-        assert_eq!(rt; ended, end, "{script:?}");
-        assert!(rt; reader.ended() && !reader.failed() && !writer.failed());
-        assert_eq!(rt; output.as_slice(), answer.as_bytes(), "{script:?}");
+fn answers_scripts(rt: HostRuntime) {
+    for (script, answer) in ANSWERS {
+        expect_answer(&rt, script, answer, ScriptEnd::Done);
     }
-    Ok(())
+}
+
+#[test]
+fn answers_up_to_a_fault(rt: HostRuntime) {
+    for (script, answer, line, kind) in FAULTS {
+        expect_answer(&rt, script, answer, ScriptEnd::Fault(line, kind));
+    }
+}
+
+#[test]
+fn tells_what_is_wrong(rt: HostRuntime) {
+    for (line, kind) in BAD_LINES {
+        let answer = match kind {
+            FaultKind::UnknownCommand => "line 1: unknown command\n",
+            FaultKind::WrongArguments => "line 1: wrong arguments\n",
+            FaultKind::BadNumber => "line 1: bad number\n",
+        };
+        expect_answer(&rt, line, answer, ScriptEnd::Fault(1, kind));
+    }
 }
 
 /// A script with its answer and its end, for devices that go slowly or fail.
@@ -589,47 +441,70 @@ fn reads_one_byte_beyond_the_limit(rt: HostRuntime) -> Result<(), Fail> {
 const GROWING: &[u8] =
     b"insert 9 1\ninsert 8 2\ninsert 7 3\ninsert 6 4\nlist\nranks\ninsert 5 5\nget 1.2\nlist\nranks\n";
 
-/// How it may end with more and more memory. A command that is refused memory says so, and the
-/// script goes on.
-const OUTCOMES: [(ScriptEnd, &str); 5] = [
-    (ScriptEnd::Memory, ""),
-    (
-        ScriptEnd::Done,
-        "refused memory\nrefused memory\nrefused memory\nrefused memory\nlist\nranks\nrefused memory\nnone\nlist\nranks\n",
-    ),
-    (
-        ScriptEnd::Done,
-        "new 1.2\nnew 2.2\nnew 3.2\nnew 4.2\nlist 4.2=6:4 3.2=7:3 2.2=8:2 1.2=9:1\nranks 1 2 3 1\nrefused memory\nitem 9:1\nrefused memory\nranks 1 2 3 1\n",
-    ),
-    (
-        ScriptEnd::Done,
-        "new 1.2\nnew 2.2\nnew 3.2\nnew 4.2\nlist 4.2=6:4 3.2=7:3 2.2=8:2 1.2=9:1\nranks 1 2 3 1\nrefused memory\nitem 9:1\nlist 4.2=6:4 3.2=7:3 2.2=8:2 1.2=9:1\nranks 1 2 3 1\n",
-    ),
-    (
-        ScriptEnd::Done,
-        "new 1.2\nnew 2.2\nnew 3.2\nnew 4.2\nlist 4.2=6:4 3.2=7:3 2.2=8:2 1.2=9:1\nranks 1 2 3 1\nnew 5.2\nitem 9:1\nlist 5.2=5:5 4.2=6:4 3.2=7:3 2.2=8:2 1.2=9:1\nranks 1 2 1 3 1\n",
-    ),
+/// What each of its lines may be: a command that is refused memory says so, and the script goes on.
+const LINES: [&[&str]; 10] = [
+    &["refused memory", "new 1.2"],
+    &["refused memory", "new 2.2"],
+    &["refused memory", "new 3.2"],
+    &["refused memory", "new 4.2"],
+    &[
+        "refused memory",
+        "list",
+        "list 4.2=6:4 3.2=7:3 2.2=8:2 1.2=9:1",
+    ],
+    &["refused memory", "ranks", "ranks 1 2 3 1"],
+    &["refused memory", "new 5.2"],
+    &["none", "item 9:1"],
+    &[
+        "refused memory",
+        "list",
+        "list 4.2=6:4 3.2=7:3 2.2=8:2 1.2=9:1",
+        "list 5.2=5:5 4.2=6:4 3.2=7:3 2.2=8:2 1.2=9:1",
+    ],
+    &[
+        "refused memory",
+        "ranks",
+        "ranks 1 2 3 1",
+        "ranks 1 2 1 3 1",
+    ],
 ];
+
+/// The answer where no memory is refused.
+const WHOLE: &str =
+    "new 1.2\nnew 2.2\nnew 3.2\nnew 4.2\nlist 4.2=6:4 3.2=7:3 2.2=8:2 1.2=9:1\nranks 1 2 3 1\nnew 5.2\nitem 9:1\nlist 5.2=5:5 4.2=6:4 3.2=7:3 2.2=8:2 1.2=9:1\nranks 1 2 1 3 1\n";
+
+/// Whether the answer has these lines.
+fn is_possible(answer: &str) -> bool {
+    let mut lines = answer.lines();
+    for known in LINES {
+        match lines.next() {
+            Some(line) if known.contains(&line) => {}
+            _ => return false,
+        }
+    }
+    lines.next().is_none()
+}
 
 #[test]
 fn each_request_for_memory_is_refused_in_turn(rt: HostRuntime) -> Result<(), Fail> {
-    let mut is_seen = [false; 5];
-    for size in 0..160 {
+    let mut is_refused = false;
+    let mut is_whole = false;
+    for size in 0..250 {
         let heap = LocalHeap::new(rt.alloc(), 16 * size)?;
         let mut output = Vec::new(rt.alloc());
         let mut reader = Watched::new(GROWING);
         let end = serve(&heap, &mut reader, &mut Watched::new(&mut output));
-        let mut is_known = false;
-        for i in 0..5 {
-            let (expected, answer) = OUTCOMES[i];
-            if end == expected && output.as_slice() == answer.as_bytes() {
-                is_seen[i] = true;
-                is_known = true;
-            }
-        }
-        assert!(rt; is_known, "{size}: {end:?}");
         assert_eq!(rt; heap.used(), 0);
+        let answer = std::str::from_utf8(&output)?;
+        if end == ScriptEnd::Memory {
+            assert!(rt; answer.is_empty());
+        } else {
+            assert_eq!(rt; end, ScriptEnd::Done);
+            assert!(rt; is_possible(answer), "{size}: {answer}");
+            is_refused = is_refused || answer.contains("refused memory");
+            is_whole = answer == WHOLE;
+        }
     }
-    assert_eq!(rt; is_seen, [true; 5]);
+    assert!(rt; is_refused && is_whole);
     Ok(())
 }

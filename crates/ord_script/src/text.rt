@@ -1,12 +1,14 @@
 // Writes the lines that a script answers.
-ghost use Rattle.std.specs.Prelude.{◌≡◌, ◌++◌, [], ◌∷◌, IfOk, string_bytes};
-ghost use Rattle.ord_script.specs.Text.{Adds, reply_lines, reply_line, fault_line, refusal_line, insertion_line, place_text, search_line, count_line, item_line, place_line, links_text, neighbours_line, entries_line, ranks_line, stats_line, refusal_text};
+ghost use Rattle.std.specs.Prelude.{◌≡◌, ◌++◌, [], ◌∷◌, IfOk, string_bytes, codes};
+ghost use Rattle.ord_script.specs.Text.{Adds, reply_lines, reply_line, fault_line, refusal_line, insertion_line, pointer_text, pair_text, old_line, taken_line, removal_line, now_line, renewal_line, change_line, place_text, search_line, count_line, item_line, place_line, links_text, neighbours_line, entries_line, ranks_line, stats_line, refusal_text};
 
 use crate::fault::Fault;
-use crate::pairs::{PairReply, ShownMaximum, ShownNeighbour, ShownPair, ShownPointer};
+use crate::pairs::{
+    Pair, PairReply, ShownMaximum, ShownNeighbour, ShownOverflow, ShownPair, ShownPointer,
+};
 use crate::reply::Reply;
 use crate::word::Word;
-use arena_base::P0;
+use arena_base::{InvalidationOption, InvalidationResult, P0};
 use std::alloc::{AllocError, Allocator};
 use std::fmt::Write;
 use triple_ord::{OrdEntryKind, OrdInsertionError};
@@ -52,6 +54,12 @@ fn push_reply<A: Allocator>(
 {
     match word {
         Word::Insert => push_insertion(text, reply),
+        Word::Set => push_old(text, reply),
+        Word::Remove => push_removal(text, reply),
+        Word::RemoveInx => push_removal_at(text, reply),
+        Word::Invalidate => push_renewal(text, reply),
+        Word::Clear => push_change(text, "cleared", reply),
+        Word::IncGeneration => push_change(text, "ok", reply),
         Word::Find => push_search(text, reply),
         Word::Visits => push_count(text, reply),
         Word::Get => push_item(text, reply),
@@ -78,6 +86,115 @@ fn push_insertion<A: Allocator>(
             let pointer = ShownPointer(*p);
             let pair = ShownPair(*before);
             write!(text, "replaced {pointer} {pair}\n")
+        }
+        _ => push_refusal(text, reply),
+    }
+}
+
+fn push_old<A: Allocator>(text: &mut String<A>, reply: &PairReply<A>) -> Result<(), AllocError>
+    ensures { Adds result text.old text.new (old_line reply.now) }
+{
+    match reply {
+        Reply::Item(Some(item)) => {
+            let pair = ShownPair(*item);
+            write!(text, "old {pair}\n")
+        }
+        Reply::Item(None) => write!(text, "none\n"),
+        _ => push_refusal(text, reply),
+    }
+}
+
+fn push_removal<A: Allocator>(text: &mut String<A>, reply: &PairReply<A>) -> Result<(), AllocError>
+    ensures { Adds result text.old text.new (removal_line (λ taken. pair_text taken.1) reply.now) }
+{
+    match reply {
+        Reply::Removed(InvalidationResult::Success(taken)) => push_item_taken(text, taken.1, false),
+        Reply::Removed(InvalidationResult::GenerationOverflow(taken)) => {
+            push_item_taken(text, taken.1, true)
+        }
+        Reply::Removed(InvalidationResult::InvalidPtr) => write!(text, "invalid\n"),
+        _ => push_refusal(text, reply),
+    }
+}
+
+fn push_item_taken<A: Allocator>(
+    text: &mut String<A>,
+    item: Pair,
+    overflow: bool,
+) -> Result<(), AllocError>
+    ensures { Adds result text.old text.new (taken_line (pair_text item) overflow) }
+{
+    let pair = ShownPair(item);
+    let overflow = ShownOverflow(overflow);
+    write!(text, "removed {pair}{overflow}\n")
+}
+
+fn push_removal_at<A: Allocator>(
+    text: &mut String<A>,
+    reply: &PairReply<A>,
+) -> Result<(), AllocError>
+    ensures { Adds result text.old text.new
+        (removal_line (λ taken. pointer_text taken.0 ++ codes " " ++ pair_text taken.1) reply.now) }
+{
+    match reply {
+        Reply::Removed(InvalidationResult::Success(taken)) => {
+            push_entry_taken(text, taken.0, taken.1, false)
+        }
+        Reply::Removed(InvalidationResult::GenerationOverflow(taken)) => {
+            push_entry_taken(text, taken.0, taken.1, true)
+        }
+        Reply::Removed(InvalidationResult::InvalidPtr) => write!(text, "invalid\n"),
+        _ => push_refusal(text, reply),
+    }
+}
+
+fn push_entry_taken<A: Allocator>(
+    text: &mut String<A>,
+    p: P0,
+    item: Pair,
+    overflow: bool,
+) -> Result<(), AllocError>
+    ensures { Adds result text.old text.new (taken_line (pointer_text p ++ codes " " ++ pair_text item) overflow) }
+{
+    let pointer = ShownPointer(p);
+    let pair = ShownPair(item);
+    let overflow = ShownOverflow(overflow);
+    write!(text, "removed {pointer} {pair}{overflow}\n")
+}
+
+fn push_renewal<A: Allocator>(text: &mut String<A>, reply: &PairReply<A>) -> Result<(), AllocError>
+    ensures { Adds result text.old text.new (renewal_line reply.now) }
+{
+    match reply {
+        Reply::Renewed(InvalidationResult::Success(p)) => push_now(text, *p, false),
+        Reply::Renewed(InvalidationResult::GenerationOverflow(p)) => push_now(text, *p, true),
+        Reply::Renewed(InvalidationResult::InvalidPtr) => write!(text, "invalid\n"),
+        _ => push_refusal(text, reply),
+    }
+}
+
+fn push_now<A: Allocator>(text: &mut String<A>, p: P0, overflow: bool) -> Result<(), AllocError>
+    ensures { Adds result text.old text.new (now_line p overflow) }
+{
+    let pointer = ShownPointer(p);
+    let overflow = ShownOverflow(overflow);
+    write!(text, "now {pointer}{overflow}\n")
+}
+
+fn push_change<A: Allocator>(
+    text: &mut String<A>,
+    word: &str,
+    reply: &PairReply<A>,
+) -> Result<(), AllocError>
+    ensures { Adds result text.old text.new (change_line word.now reply.now) }
+{
+    match reply {
+        Reply::Changed(result) => {
+            let overflow = ShownOverflow(matches!(
+                result,
+                InvalidationOption::GenerationOverflow(())
+            ));
+            write!(text, "{word}{overflow}\n")
         }
         _ => push_refusal(text, reply),
     }

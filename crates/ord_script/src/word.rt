@@ -10,6 +10,12 @@ use std::alloc::{AllocError, Allocator};
 #[derive(Clone, Copy, Debug)]
 pub enum Word {
     Insert,
+    Set,
+    Remove,
+    RemoveInx,
+    Invalidate,
+    Clear,
+    IncGeneration,
     Find,
     Visits,
     Get,
@@ -22,8 +28,14 @@ pub enum Word {
 }
 
 /// All words.
-const WORDS: [Word; 10] = [
+const WORDS: [Word; 16] = [
     Word::Insert,
+    Word::Set,
+    Word::Remove,
+    Word::RemoveInx,
+    Word::Invalidate,
+    Word::Clear,
+    Word::IncGeneration,
     Word::Find,
     Word::Visits,
     Word::Get,
@@ -42,6 +54,12 @@ impl Word {
     {
         match self {
             Word::Insert => "insert",
+            Word::Set => "set",
+            Word::Remove => "remove",
+            Word::RemoveInx => "remove-index",
+            Word::Invalidate => "invalidate",
+            Word::Clear => "clear",
+            Word::IncGeneration => "next-generation",
             Word::Find => "find",
             Word::Visits => "visits",
             Word::Get => "get",
@@ -86,6 +104,12 @@ fn word_of(command: &PairCommand) -> Word
 {
     match command {
         Command::Insert(_) => Word::Insert,
+        Command::Set(_, _) => Word::Set,
+        Command::Remove(_) => Word::Remove,
+        Command::RemoveInx(_) => Word::RemoveInx,
+        Command::Invalidate(_) => Word::Invalidate,
+        Command::Clear => Word::Clear,
+        Command::IncGeneration => Word::IncGeneration,
         Command::Find(_) => Word::Find,
         Command::Visits(_) => Word::Visits,
         Command::Get(_) => Word::Get,

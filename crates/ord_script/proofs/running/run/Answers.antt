@@ -1,8 +1,18 @@
 use Rattle.std.proofs.Common.{◌≡◌, ◌++◌, ◌∷◌, [], sym, ◌∙◌, arith}
 use Rattle.std.proofs.lemmas.Grind.{common_steps}
 use Rattle.ord_script.proofs.Lists.{cut_more, cut_all}
-use Rattle.ord_script.proofs.Runs.{RunsBetween-more}
+use Rattle.ord_script.specs.Machine.{reading_by}
+use Rattle.ord_script.proofs.Runs.{RunsBetween-none, RunsBetween-more}
 use Rattle.ord_script.proofs.running.run.Goals as goal
+
+pub loop-command-init : goal.loop-command-init
+loop-command-init g c =
+    record {
+      cut = grind (arith, common_steps);
+      runs = RunsBetween-none (reading_by g.T.SimpleOrdItem.key_of g.T.Key.Ord.cmp g.P.Inx.PtrInx.most g.P.Gen.PtrGen.greatest g.P.Ptr.index g.P.Ptr.era g.P.Inx.PtrInx.number g.P.Gen.PtrGen.number) _ _ c.in_ok-replies.ensures.items;
+      count = grind (arith, common_steps);
+      room = grind (arith, common_steps);
+    }
 
 pub loop-command-preserved : goal.loop-command-preserved
 loop-command-preserved g c =

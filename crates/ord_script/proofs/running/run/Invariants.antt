@@ -1,13 +1,13 @@
 use Rattle.std.proofs.Common.{◌≡◌, ◌+◌, ◌≤◌, ◌++◌, length, vec_len, vec_capacity}
 use Rattle.std.specs.Vec.Iter.{into_iter_items, into_iter_len}
-use Rattle.ord_script.specs.Machine.{RunsBetween}
+use Rattle.ord_script.specs.Machine.{reading_by, RunsBetween}
 use Rattle.ord_script.proofs.running.run.Given as goal
 
 -- a run over the commands so far, and room for the replies to the others
 abbrev pub invariant-loop-command : goal.invariant-loop-command
 invariant-loop-command g l = record {
   cut : l.yielded ++ into_iter_items l.command-iterator ≡ l.fn.commands.items;
-  runs : RunsBetween (record { key = g.T.SimpleOrdItem.key_of; cmp = g.T.Key.Ord.cmp; most = g.P.Inx.PtrInx.most; pointer = λ p. (g.P.Ptr.index p, g.P.Ptr.era p); index = g.P.Inx.PtrInx.number; generation = g.P.Gen.PtrGen.number }) l.fn.arena l.yielded l.replies.items l.arena;
+  runs : RunsBetween (reading_by g.T.SimpleOrdItem.key_of g.T.Key.Ord.cmp g.P.Inx.PtrInx.most g.P.Gen.PtrGen.greatest g.P.Ptr.index g.P.Ptr.era g.P.Inx.PtrInx.number g.P.Gen.PtrGen.number) l.fn.arena l.yielded l.replies.items l.arena;
   count : into_iter_len l.command-iterator ≡ length (into_iter_items l.command-iterator);
   room : vec_len l.replies + into_iter_len l.command-iterator ≤ vec_capacity l.replies;
 }

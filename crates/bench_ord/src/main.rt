@@ -1,0 +1,28 @@
+//! Measures an ordered arena beside std's `BTreeMap` and plain vectors.
+//!
+//! Each argument is a number of entries. Standard output gets the sums of what the measured calls answered, the same on each run;
+//! standard error gets their times, in nanoseconds an operation, the best of several rounds.
+#![tactic(auto)]
+
+mod arena;
+mod keys;
+mod lap;
+mod map;
+mod measures;
+mod report;
+mod store;
+mod vector;
+
+use anyhow::{Context, Result};
+use std::env;
+
+fn main(rt: HostRuntime) -> Result<()> {
+    for argument in env::args(&rt)?.skip(1) {
+        let n = argument
+            .as_str()
+            .parse::<usize>()
+            .context("a number of entries")?;
+        measures::run(&rt, n)?;
+    }
+    Ok(())
+}

@@ -1,0 +1,292 @@
+//! The measures, each of the arena and of another structure in turn.
+use crate::arena::{Pairs, Pointed};
+use crate::keys::{Keys, keys_of, shuffle};
+use crate::lap::Lap;
+use crate::map::Map;
+use crate::report::{Row, print};
+use crate::store::{Linked, Reached, Store, churn, filled, find_all, take_all};
+use crate::vector::{Items, Slots};
+use anyhow::Result;
+use std::io;
+use std::time::{Clock, Instant};
+
+/// What a measure needs of the system.
+pub trait System: Clock + Print + Eprint + AllocGlobal {}
+
+impl<R: Clock + Print + Eprint + AllocGlobal> System for R {}
+
+/// Measures everything at n entries, and prints it.
+pub fn run<R: System>(rt: &R, n: usize) -> Result<()> {
+    let keys = keys_of(rt.alloc(), n)?;
+    compare_filling(rt, "insert random keys", keys.random.as_slice())?;
+    compare_filling(rt, "insert ascending keys", keys.ascending.as_slice())?;
+    compare_removal(rt, &keys)?;
+    compare_churn(rt, &keys)?;
+    let pairs: Pairs = filled(rt.alloc(), keys.random.as_slice())?;
+    let map: Map = filled(rt.alloc(), keys.random.as_slice())?;
+    compare_finding(rt, "find hits", &pairs, &map, keys.hits.as_slice())?;
+    compare_finding(rt, "find misses", &pairs, &map, keys.misses.as_slice())?;
+    compare_walking(rt, &pairs, &map)?;
+    compare_with_vectors(rt, &pairs)
+}
+
+// How many rounds are run at n entries.
+fn rounds(n: usize) -> usize {
+    (300_000 / n.max(1)).clamp(3, 30)
+}
+
+fn filling<R: System, S: Store>(rt: &R, keys: &[u64]) -> Result<Lap> {
+    let start = Instant::now(rt)?;
+    let store: S = filled(rt.alloc(), keys)?;
+    Ok(Lap::since(rt, start, store.size() as u64)?)
+}
+
+fn compare_filling<R: System>(rt: &R, measure: &str, keys: &[u64]) -> Result<()> {
+    let mut arena = filling::<R, Pairs>(rt, keys)?;
+    let mut other = filling::<R, Map>(rt, keys)?;
+    for _ in 1..rounds(keys.len()) {
+        arena = arena.or_quicker(filling::<R, Pairs>(rt, keys)?);
+        other = other.or_quicker(filling::<R, Map>(rt, keys)?);
+    }
+    let n = keys.len();
+    let other_name = "BTreeMap";
+    print(
+        rt,
+        Row {
+            n,
+            measure,
+            arena,
+            other,
+            other_name,
+        },
+    )?;
+    Ok(())
+}
+
+fn removal<R: System, S: Store>(rt: &R, keys: &Keys) -> Result<Lap> {
+    let mut store: S = filled(rt.alloc(), keys.random.as_slice())?;
+    let mut names = store.names(rt.alloc())?;
+    shuffle(names.as_mut_slice());
+    let start = Instant::now(rt)?;
+    let sum = take_all(&mut store, &names);
+    Ok(Lap::since(rt, start, sum)?)
+}
+
+fn compare_removal<R: System>(rt: &R, keys: &Keys) -> Result<()> {
+    let n = keys.random.len();
+    let mut arena = removal::<R, Pairs>(rt, keys)?;
+    let mut other = removal::<R, Map>(rt, keys)?;
+    for _ in 1..rounds(n) {
+        arena = arena.or_quicker(removal::<R, Pairs>(rt, keys)?);
+        other = other.or_quicker(removal::<R, Map>(rt, keys)?);
+    }
+    let (measure, other_name) = ("remove by pointer", "BTreeMap");
+    print(
+        rt,
+        Row {
+            n,
+            measure,
+            arena,
+            other,
+            other_name,
+        },
+    )?;
+    Ok(())
+}
+
+fn churning<R: System, S: Store>(rt: &R, keys: &Keys) -> Result<Lap> {
+    let mut store: S = filled(rt.alloc(), keys.random.as_slice())?;
+    let mut names = store.names(rt.alloc())?;
+    shuffle(names.as_mut_slice());
+    let start = Instant::now(rt)?;
+    let sum = churn(&mut store, &names, keys.misses.as_slice())?;
+    Ok(Lap::since(rt, start, sum)?)
+}
+
+fn compare_churn<R: System>(rt: &R, keys: &Keys) -> Result<()> {
+    let n = keys.random.len();
+    let mut arena = churning::<R, Pairs>(rt, keys)?;
+    let mut other = churning::<R, Map>(rt, keys)?;
+    for _ in 1..rounds(n) {
+        arena = arena.or_quicker(churning::<R, Pairs>(rt, keys)?);
+        other = other.or_quicker(churning::<R, Map>(rt, keys)?);
+    }
+    let (measure, other_name) = ("remove and insert", "BTreeMap");
+    print(
+        rt,
+        Row {
+            n,
+            measure,
+            arena,
+            other,
+            other_name,
+        },
+    )?;
+    Ok(())
+}
+
+fn finding<R: System, S: Store>(rt: &R, store: &S, keys: &[u64]) -> io::Result<Lap> {
+    let start = Instant::now(rt)?;
+    let sum = find_all(store, keys);
+    Lap::since(rt, start, sum)
+}
+
+fn compare_finding<R: System>(
+    rt: &R,
+    measure: &str,
+    pairs: &Pairs,
+    map: &Map,
+    keys: &[u64],
+) -> Result<()> {
+    let n = keys.len();
+    let mut arena = finding(rt, pairs, keys)?;
+    let mut other = finding(rt, map, keys)?;
+    for _ in 1..rounds(n) {
+        arena = arena.or_quicker(finding(rt, pairs, keys)?);
+        other = other.or_quicker(finding(rt, map, keys)?);
+    }
+    let other_name = "BTreeMap";
+    print(
+        rt,
+        Row {
+            n,
+            measure,
+            arena,
+            other,
+            other_name,
+        },
+    )?;
+    Ok(())
+}
+
+fn walking<R: System, S: Store>(rt: &R, store: &S) -> io::Result<Lap> {
+    let start = Instant::now(rt)?;
+    let sum = store.walk();
+    Lap::since(rt, start, sum)
+}
+
+fn compare_walking<R: System>(rt: &R, pairs: &Pairs, map: &Map) -> Result<()> {
+    let n = pairs.len();
+    let mut arena = walking(rt, pairs)?;
+    let mut other = walking(rt, map)?;
+    for _ in 1..rounds(n) {
+        arena = arena.or_quicker(walking(rt, pairs)?);
+        other = other.or_quicker(walking(rt, map)?);
+    }
+    let (measure, other_name) = ("go through in order", "BTreeMap");
+    print(
+        rt,
+        Row {
+            n,
+            measure,
+            arena,
+            other,
+            other_name,
+        },
+    )?;
+    Ok(())
+}
+
+fn compare_with_vectors<R: System>(rt: &R, pairs: &Pairs) -> Result<()> {
+    let mut pointers = pairs.names(rt.alloc())?;
+    shuffle(pointers.as_mut_slice());
+    let pointed = Pointed {
+        pairs,
+        pointers: pointers.as_slice(),
+    };
+    let items = Items::of(rt.alloc(), pointed)?;
+    let slots = Slots::of(rt.alloc(), pointed)?;
+    compare_reaching(rt, pointed, "Vec of items", &items)?;
+    compare_reaching(rt, pointed, "Vec of slots", &slots)?;
+    compare_neighbours(rt, pointed, &slots)?;
+    compare_steps(rt, pointed, &slots)
+}
+
+fn reaching<R: System, L: Reached>(rt: &R, reached: &L) -> io::Result<Lap> {
+    let start = Instant::now(rt)?;
+    let sum = reached.get_all();
+    Lap::since(rt, start, sum)
+}
+
+fn compare_reaching<R: System, L: Reached>(
+    rt: &R,
+    pointed: Pointed,
+    other_name: &str,
+    vector: &L,
+) -> Result<()> {
+    let n = pointed.pointers.len();
+    let mut arena = reaching(rt, &pointed)?;
+    let mut other = reaching(rt, vector)?;
+    for _ in 1..rounds(n) {
+        arena = arena.or_quicker(reaching(rt, &pointed)?);
+        other = other.or_quicker(reaching(rt, vector)?);
+    }
+    let measure = "get by pointer";
+    print(
+        rt,
+        Row {
+            n,
+            measure,
+            arena,
+            other,
+            other_name,
+        },
+    )?;
+    Ok(())
+}
+
+fn asking<R: System, L: Linked>(rt: &R, linked: &L) -> io::Result<Lap> {
+    let start = Instant::now(rt)?;
+    let sum = linked.neighbours_of_all();
+    Lap::since(rt, start, sum)
+}
+
+fn compare_neighbours<R: System>(rt: &R, pointed: Pointed, slots: &Slots) -> Result<()> {
+    let n = pointed.pointers.len();
+    let mut arena = asking(rt, &pointed)?;
+    let mut other = asking(rt, slots)?;
+    for _ in 1..rounds(n) {
+        arena = arena.or_quicker(asking(rt, &pointed)?);
+        other = other.or_quicker(asking(rt, slots)?);
+    }
+    let (measure, other_name) = ("both neighbours", "Vec of slots");
+    print(
+        rt,
+        Row {
+            n,
+            measure,
+            arena,
+            other,
+            other_name,
+        },
+    )?;
+    Ok(())
+}
+
+fn stepping<R: System, L: Linked>(rt: &R, linked: &L) -> io::Result<Lap> {
+    let start = Instant::now(rt)?;
+    let sum = linked.step_through();
+    Lap::since(rt, start, sum)
+}
+
+fn compare_steps<R: System>(rt: &R, pointed: Pointed, slots: &Slots) -> Result<()> {
+    let n = pointed.pointers.len();
+    let mut arena = stepping(rt, &pointed)?;
+    let mut other = stepping(rt, slots)?;
+    for _ in 1..rounds(n) {
+        arena = arena.or_quicker(stepping(rt, &pointed)?);
+        other = other.or_quicker(stepping(rt, slots)?);
+    }
+    let (measure, other_name) = ("step to the next", "Vec of slots");
+    print(
+        rt,
+        Row {
+            n,
+            measure,
+            arena,
+            other,
+            other_name,
+        },
+    )?;
+    Ok(())
+}

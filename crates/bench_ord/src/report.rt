@@ -1,0 +1,42 @@
+//! What is printed of a measure.
+use crate::lap::Lap;
+use std::io;
+
+/// The best rounds of a measure at n entries, of the arena and of another structure.
+#[derive(Clone, Copy)]
+pub struct Row<'a> {
+    pub n: usize,
+    pub measure: &'a str,
+    pub arena: Lap,
+    pub other: Lap,
+    pub other_name: &'a str,
+}
+
+/// Prints the sums to standard output, and the times to standard error.
+pub fn print(rt: &(impl Print + Eprint), row: Row) -> io::Result<()> {
+    let (n, measure, other_name) = (row.n, row.measure, row.other_name);
+    let (arena_sum, other_sum) = (row.arena.sum, row.other.sum);
+    println!(rt; "{n} {measure}: arena {arena_sum} {other_name} {other_sum}")?;
+    let (arena, arena_tenth) = in_tenths(per_operation(row.arena, n));
+    let (other, other_tenth) = in_tenths(per_operation(row.other, n));
+    let (ratio, hundredths) = ratio(row.arena, row.other);
+    eprintln!(rt;
+        "{n:>8} {measure:<22} {arena:>5}.{arena_tenth} {other:>5}.{other_tenth} {ratio:>3}.{hundredths:02} {other_name}"
+    )
+}
+
+// Tenths of a nanosecond an operation.
+fn per_operation(lap: Lap, n: usize) -> u128 {
+    lap.nanoseconds.saturating_mul(10) / (n as u128).max(1)
+}
+
+// A number of tenths as whole ones and a digit.
+fn in_tenths(tenths: u128) -> (u128, u128) {
+    (tenths / 10, tenths % 10)
+}
+
+// How many times as long the first took, as whole ones and hundredths.
+fn ratio(lap: Lap, other: Lap) -> (u128, u128) {
+    let hundredths = lap.nanoseconds.saturating_mul(100) / other.nanoseconds.max(1);
+    (hundredths / 100, hundredths % 100)
+}
