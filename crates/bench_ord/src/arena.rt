@@ -26,7 +26,7 @@ impl Store for Pairs {
 
     fn find(&self, key: u64) -> u64 {
         match self.find_key(&key) {
-            Some(p) => u64::from(p.inx()),
+            Some(p) => u64::from(p.inx()).wrapping_add(p.generation()),
             None => 0,
         }
     }

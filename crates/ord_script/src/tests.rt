@@ -1,6 +1,8 @@
 // Scripts through `serve`, and runs of commands, as a program sees them.
 ghost use Rattle.std.specs.Prelude.{◌≤◌, IfOk};
 
+mod runs;
+
 use crate::{FaultKind, ScriptEnd, Watched, serve};
 use linked_list_allocator::LocalHeap;
 use std::alloc::AllocError;
