@@ -1,5 +1,6 @@
 -- A run, step by step.
 use Rattle.std.proofs.Common.{◌≡◌, List, [], ◌∷◌, ◌++◌, Result, Ok, Err, IfOk, refl, subst}
+use Rattle.chain_base.specs.Chain.{IsSound}
 use Rattle.ord_tree.specs.Tree.{Tree, IsSoundTree}
 use Rattle.ord_script.specs.declared.command.Command.{Command}
 use Rattle.ord_script.specs.declared.reply.Reply.{Reply}
@@ -21,13 +22,13 @@ module _ {P T I G A K : Type 0} (r : Reading P T I G K) where
   RunsBetween-none t (q ∷ replies) none = cc
 
   -- a run between trees goes on by one step
-  pub RunsBetween-more : (old mid new : Tree T) (commands : List (Command P T I G K)) (replies : List (Reply P T A I G)) (command : Command P T I G K) (reply : Reply P T A I G) → RunsBetween r old commands replies mid → IsSoundTree new → ((marks : Marks) → AreTrue marks mid.shape → Replies r (record { tree = mid; marks = marks }) command reply new) → RunsBetween r old (commands ++ command ∷ []) (replies ++ reply ∷ []) new
-  RunsBetween-more old mid new commands replies command reply so_far sound step marks holds =
+  pub RunsBetween-more : (old mid new : Tree T) (commands : List (Command P T I G K)) (replies : List (Reply P T A I G)) (command : Command P T I G K) (reply : Reply P T A I G) → RunsBetween r old commands replies mid → IsSound r.most r.greatest new.list → IsSoundTree new → ((marks : Marks) → AreTrue marks mid.shape → Replies r (record { tree = mid; marks = marks }) command reply new) → RunsBetween r old (commands ++ command ∷ []) (replies ++ reply ∷ []) new
+  RunsBetween-more old mid new commands replies command reply so_far lawful sound step marks holds =
       let run = so_far marks holds in
       let replies_now = step run.0 run.1 in (
         marks_after reply new run.0,
         AreTrue-after r mid new command reply run.0 sound run.1 replies_now,
-        Runs-more (record { tree = old; marks = marks }) commands replies (record { tree = mid; marks = run.0 }) (record { tree = new; marks = marks_after reply new run.0 }) command reply run.2 (record { replies = replies_now; marks = refl }),
+        Runs-more (record { tree = old; marks = marks }) commands replies (record { tree = mid; marks = run.0 }) (record { tree = new; marks = marks_after reply new run.0 }) command reply run.2 (record { replies = replies_now; marks = refl; lawful = lawful; sound = sound }),
       )
 
 -- a run of a script, from where it begins

@@ -6,12 +6,12 @@ use Rattle.arena_base.specs.Generation.{next_generation, overflows_after}
 use Rattle.arena_base.specs.Invalidation.{valid_value, has_overflowed, is_overflow}
 use Rattle.arena_base.specs.declared.invalidation.InvalidationResult.TheVariants.{Success, GenerationOverflow}
 use Rattle.chain_base.specs.Link.{Link}
-use Rattle.chain_base.specs.Chain.{Entry, entry_at, item_of, link_at, first_pointer, last_pointer, removed, renewed, cleared, raised}
+use Rattle.chain_base.specs.Chain.{Entry, IsSound, entry_at, item_of, link_at, first_pointer, last_pointer, removed, renewed, cleared, raised}
 use Rattle.ord_tree.specs.Shape.{Shape, missing, node}
 use Rattle.ord_tree.specs.Ranks.{IsTight}
 use Rattle.ord_tree.specs.Half.{IsRebuilt}
 use Rattle.ord_tree.specs.Numbers.{fib, HasDigits}
-use Rattle.ord_tree.specs.Tree.{Tree, IsShrunk, with_item_in}
+use Rattle.ord_tree.specs.Tree.{Tree, IsSoundTree, IsShrunk, with_item_in}
 use Rattle.triple_ord.specs.Node.{IsPart}
 use Rattle.triple_ord.specs.Search.{FindsKey}
 use Rattle.triple_ord.specs.Insertion as insertion
@@ -168,17 +168,17 @@ module _ {P T I G A : Type 0} where
       option_map (both_numbers index) links ≡ option_map prev_next (link_at t.list.entries (index i))
   HasNeighbours index t i reply = ⊥
 
-  -- the whole list, each entry as its pointer and its item
+  -- the whole list, each entry as its pointer and its item; memory may be refused where there is an entry
   abbrev pub Lists : (P → ℕ × ℕ) → Tree T → Reply P T A I G → Type 0
   Lists pointer t (Entries pairs) =
       map (λ pair. record { index = (pointer pair.0).0; generation = (pointer pair.0).1; item = pair.1 }) pairs.items ≡ t.list.entries
-  Lists pointer t (Refused AllocError) = Unit {0}
+  Lists pointer t (Refused AllocError) = 0 < length t.list.entries
   Lists pointer t reply = ⊥
 
-  -- the ranks of all entries in order
+  -- the ranks of all entries in order; memory may be refused where there is an entry
   abbrev pub Ranked : Tree T → Reply P T A I G → Type 0
   Ranked t (Ranks ranks) = HaveRanks t.shape t.list.entries ranks.items
-  Ranked t (Refused AllocError) = Unit {0}
+  Ranked t (Refused AllocError) = 0 < length t.list.entries
   Ranked t reply = ⊥
 
   -- length, capacity, generation and maximum
@@ -217,10 +217,13 @@ module _ {P T I G A : Type 0} where
   marks_after (Removed (GenerationOverflow taken)) new marks = settled new (record { only_inserted = false; just_built = false })
   marks_after reply new marks = settled new marks
 
-  -- From the state old, the machine may give this reply to the command, and go on to the state new.
+  -- From the state old, the machine may give this reply to the command, and go on to the state new, which is one that an arena can
+  -- have: its list is lawful, and its shape is one over this list that keeps the rank rules.
   pub record Step {K : Type 0} (r : Reading P T I G K) (old : State T) (command : Command P T I G K) (reply : Reply P T A I G) (new : State T) : Type 0 where
     pub replies : Replies r old command reply new.tree
     pub marks : new.marks ≡ marks_after reply new.tree old.marks
+    pub lawful : IsSound r.most r.greatest new.tree.list
+    pub sound : IsSoundTree new.tree
 
   -- The machine may give these replies to these commands, one after another.
   abbrev pub Runs : {K : Type 0} → Reading P T I G K → State T → List (Command P T I G K) → List (Reply P T A I G) → State T → Type 0

@@ -1,5 +1,6 @@
 // Runs commands on an ordered arena.
 ghost use Rattle.std.specs.Prelude.{◌≡◌, IfOk, OnErr};
+ghost use Rattle.chain_base.specs.Chain.{IsSound};
 ghost use Rattle.ord_tree.specs.Tree.{IsSoundTree};
 ghost use Rattle.ord_script.specs.Machine.{reading_by, Marks, AreTrue, Replies, RunsBetween};
 
@@ -55,10 +56,11 @@ where
     ensures replies { (marks : Marks) → AreTrue marks arena.old.shape
         → Replies (reading_by T.key_of T.Key.cmp P.Inx.most P.Gen.greatest P.index P.era P.Inx.number P.Gen.number)
         (record { tree = arena.old; marks = marks }) command result arena.new }
+    ensures lawful { IsSound P.Inx.most P.Gen.greatest arena.new.list }
     ensures sound { IsSoundTree arena.new }
 {
     let reply = reply_to(alloc, arena, command);
-    // with its length an arena tells what holds of its shape
+    // with its length an arena tells what holds of its list and its shape
     let _ = arena.len();
     reply
 }

@@ -1,5 +1,5 @@
 // What each command does, and what it answers.
-ghost use Rattle.std.specs.Prelude.{◌≡◌, IfOk, IfSome, is_some, map};
+ghost use Rattle.std.specs.Prelude.{◌≡◌, ◌<◌, IfOk, OnErr, IfSome, is_some, length, map};
 ghost use Rattle.chain_base.specs.Chain.{link_at, first_pointer, last_pointer, cleared, raised};
 ghost use Rattle.ord_tree.specs.Shape.{missing};
 ghost use Rattle.ord_script.specs.Machine.{Marks, AreTrue, Inserts, Sets, Removes, RemovesAt, Renews, Changes, Finds, Visits, Gets, IsEnd, HasNeighbours, Lists, Ranked, HasRank, HaveRanks, Counts};
@@ -207,8 +207,9 @@ fn entries<P: Ptr, T: Clone, A: Allocator>(
     arena: &SimpleOrdArena<P, T, A>,
 ) -> Result<Vec<(P, T), A>, AllocError>
     requires { (x y : T) → T.is_clone x y → y ≡ x }
-    ensures { IfOk result (λ pairs. map (λ pair. record { index = P.index pair.0; generation = P.era pair.0; item = pair.1 }) pairs.items
+    ensures pairs { IfOk result (λ pairs. map (λ pair. record { index = P.index pair.0; generation = P.era pair.0; item = pair.1 }) pairs.items
         ≡ arena.now.list.entries) }
+    ensures refused { OnErr result (0 < length arena.now.list.entries) }
 {
     let mut pairs = Vec::with_capacity(alloc, arena.len())?;
     for (p, item) in arena {
@@ -222,7 +223,8 @@ fn ranks_of<P: Ptr, T, A: Allocator>(
     alloc: A,
     arena: &SimpleOrdArena<P, T, A>,
 ) -> Result<Vec<u8, A>, AllocError>
-    ensures { IfOk result (λ ranks. HaveRanks arena.now.shape arena.now.list.entries ranks.items) }
+    ensures ranks { IfOk result (λ ranks. HaveRanks arena.now.shape arena.now.list.entries ranks.items) }
+    ensures refused { OnErr result (0 < length arena.now.list.entries) }
 {
     let mut ranks = Vec::with_capacity(alloc, arena.len())?;
     for (p, _) in arena {
