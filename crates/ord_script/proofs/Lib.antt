@@ -9,3 +9,4 @@ pub mod Ranking
 pub mod Marking
 pub mod Runs
 pub mod Endings
+pub mod FirstRank

@@ -7,3 +7,4 @@ pub mod Numbers
 pub mod Commands
 pub mod Script
 pub mod Service
+pub mod Laws

@@ -7,6 +7,7 @@
 mod command;
 mod cutting;
 mod fault;
+pub mod laws;
 mod numbers;
 mod pairs;
 mod parsing;
