@@ -31,14 +31,16 @@ abbrev pub is_end : Result ℕ ReadError → Bool
 is_end (Ok count) = count == 0
 is_end (Err error) = false
 
--- What one read says of the bytes that were taken from the reader.
+-- What one read says of the bytes that were taken from the reader, for room up to one byte beyond the limit.
 abbrev pub IsPiece : Result ℕ ReadError → List ℕ → Option (List ℕ) → List ℕ → List ℕ → Type 0
 -- they stand behind the bytes so far, and there are none only at the reader's end
 IsPiece (Ok count) taken after old new = (new ≡ old ++ taken) × (length taken ≡ count) × (count ≡ 0 → IsAtEnd after)
 -- one read is never too long
 IsPiece (Err TooLong) taken after old new = ⊥
-IsPiece (Err Memory) taken after old new = Unit {0}
-IsPiece (Err Failed) taken after old new = Unit {0}
+-- there was no memory for them
+IsPiece (Err Memory) taken after old new = length old + length taken ≤ limit + 1
+-- a read that failed took none
+IsPiece (Err Failed) taken after old new = taken ≡ []
 
 -- One read, onto the bytes so far.
 pub record ReadsSome (result : Result ℕ ReadError) (before after : Option (List ℕ)) (old new : List ℕ) : Type 0 where
@@ -52,8 +54,10 @@ abbrev pub IsInput : Result (List ℕ) ReadError → List ℕ → Option (List �
 IsInput (Ok bytes) taken after = (taken ≡ bytes) × (length taken ≤ limit) × IsAtEnd after
 -- reading stops at the first byte beyond the limit
 IsInput (Err TooLong) taken after = length taken ≡ limit + 1
-IsInput (Err Memory) taken after = Unit {0}
-IsInput (Err Failed) taken after = Unit {0}
+-- there was no memory for them; none was taken behind that one
+IsInput (Err Memory) taken after = length taken ≤ limit + 1
+-- a read failed, and none was tried behind the limit
+IsInput (Err Failed) taken after = length taken ≤ limit
 
 -- A whole read.
 pub record ReadsAll (result : Result (List ℕ) ReadError) (before after : Option (List ℕ)) : Type 0 where

@@ -34,10 +34,10 @@ Ends A (ends.Fault line kind) read written =
 -- a beginning of the answer, and not all of it
 Ends A ends.WriteFailed read written =
     (rest : List ℕ) × (0 < length rest) × Answers A (script_of read) (written ++ rest) × (length read ≤ limit)
--- nothing
+-- nothing, since the input went on beyond the limit, there was no memory for it or for the answer, or a read up to the limit failed
 Ends A ends.TooLong read written = (length read ≡ limit + 1) × (written ≡ [])
-Ends A ends.Memory read written = written ≡ []
-Ends A ends.ReadFailed read written = written ≡ []
+Ends A ends.Memory read written = (length read ≤ limit + 1) × (written ≡ [])
+Ends A ends.ReadFailed read written = (length read ≤ limit) × (written ≡ [])
 
 -- Some bytes were read and some were written, as the end says.
 pub record Serves (A : Type 0) (end : ScriptEnd) (unread unread' contents contents' : Option (List ℕ)) : Type 0 where
