@@ -10,3 +10,6 @@ pub mod Marking
 pub mod Runs
 pub mod Endings
 pub mod FirstRank
+pub mod NumberTexts
+pub mod Spelled
+pub mod ScriptTexts

@@ -40,7 +40,7 @@ parts_after_none p (x ∷ xs) past =
     [ true ↦ λ low. absurd (omega (arith, low)) | false ↦ λ low. parts_after_none p xs (omega (arith, low)) ]) past
 
 -- there is always a part
-lines_onto : (p : ℕ → Bool) (line rest : List ℕ) → lines_of_parts (line ∷ slice_split p rest) ≡ strip_carriage_return line ∷ lines_of_parts (slice_split p rest)
+pub lines_onto : (p : ℕ → Bool) (line rest : List ℕ) → lines_of_parts (line ∷ slice_split p rest) ≡ strip_carriage_return line ∷ lines_of_parts (slice_split p rest)
 lines_onto p line rest = rw (split_first p rest) refl
 
 -- what `position` found

@@ -1,11 +1,16 @@
 -- What is true of every run and of every script, each as a statement of its own.
-use Rattle.std.specs.Prelude.{◌≡◌, ◌∷◌, List, [], None}
+use Rattle.std.specs.Prelude.{◌≡◌, ℤ, List, [], ◌∷◌, All, Some, None, Ok}
 use Rattle.triple_ord.specs.declared.entry_kind.OrdEntryKind.TheVariants.{New}
 use Rattle.triple_ord.specs.declared.error.OrdInsertionError.TheVariants.{AllocError}
 use Rattle.ord_script.specs.declared.command.Command.TheVariants as commands
 use Rattle.ord_script.specs.declared.reply.Reply.{Reply}
 use Rattle.ord_script.specs.declared.reply.Reply.TheVariants.{Inserted, Refused, Ranks}
 use Rattle.ord_script.specs.Machine.{Reading, State, Runs}
+use Rattle.ord_script.specs.Pairs.{Pointer, PairCommand}
+use Rattle.ord_script.specs.Numbers.{key_of, pointer_of}
+use Rattle.ord_script.specs.Commands.{word_text, word_of, said_by}
+use Rattle.ord_script.specs.Script.{script_of}
+use Rattle.ord_script.specs.Spelling.{key, pointer, argument_text, IsInRange, saying_of, spelled, CanBeSaid, script_text}
 
 -- The replies to an insertion and to `ranks`, where there was no entry: one new entry of rank 1, if memory isn't refused to
 -- the ranks; or a refusal, and no ranks.
@@ -22,3 +27,24 @@ FirstRankLaw P T I G A K =
     → old.tree.list.entries ≡ []
     → Runs r old (commands.Insert item ∷ commands.Ranks ∷ []) replies new
     → AreFirstReplies replies
+
+-- the text of a key, read, is the key
+abbrev pub KeyTextLaw : Type 0
+KeyTextLaw = (k : ℤ) → IsInRange (key k) → key_of (argument_text (key k)) ≡ Some k
+
+-- the text of a pointer, read, is the pointer
+abbrev pub PointerTextLaw : Type 0
+PointerTextLaw = (p : Pointer) → IsInRange (pointer p) → pointer_of (argument_text (pointer p)) ≡ Some p
+
+-- what a script says for a command is read as this command
+abbrev pub CommandTextLaw : Type 0
+CommandTextLaw = (command : PairCommand) → CanBeSaid command → said_by (spelled command) ≡ Some (Ok command)
+
+-- and the reply to it is told as that to a command of this word
+abbrev pub CommandWordLaw : Type 0
+CommandWordLaw = (command : PairCommand) → word_text (word_of command) ≡ (saying_of command).word
+
+-- the lines of some commands, cut and read, are these commands and no fault
+abbrev pub ScriptTextLaw : Type 0
+ScriptTextLaw = (commands : List PairCommand) → All CanBeSaid commands
+    → script_of (script_text commands) ≡ record { commands = commands; fault = None }

@@ -7,4 +7,5 @@ pub mod Numbers
 pub mod Commands
 pub mod Script
 pub mod Service
+pub mod Spelling
 pub mod Laws

@@ -1,6 +1,6 @@
 //! Laws of runs and scripts. Each function here does nothing, and its contract is a law: a fact about every run, or about every script.
 
-ghost use Rattle.ord_script.specs.Laws.{FirstRankLaw};
+ghost use Rattle.ord_script.specs.Laws.{FirstRankLaw, KeyTextLaw, PointerTextLaw, CommandTextLaw, CommandWordLaw, ScriptTextLaw};
 
 use arena_base::Ptr;
 use std::alloc::Allocator;
@@ -9,4 +9,29 @@ use triple_ord::SimpleOrdItem;
 /// An insertion where there is no entry, and then `ranks`: the ranks are 1 and nothing else, unless something is refused.
 pub fn first_rank_law<P: Ptr, T: SimpleOrdItem, A: Allocator>()
     ensures { FirstRankLaw P T P.Inx P.Gen A T.Key }
+{}
+
+/// The text of a key, read, is the key.
+pub fn key_text_law()
+    ensures { KeyTextLaw }
+{}
+
+/// The text of a pointer, read, is the pointer.
+pub fn pointer_text_law()
+    ensures { PointerTextLaw }
+{}
+
+/// What a script says for a command is read as this command.
+pub fn command_text_law()
+    ensures { CommandTextLaw }
+{}
+
+/// The reply to a command is told as that to a command of the word that a script says for it.
+pub fn command_word_law()
+    ensures { CommandWordLaw }
+{}
+
+/// The lines of some commands, cut and read, are these commands and no fault.
+pub fn script_text_law()
+    ensures { ScriptTextLaw }
 {}

@@ -24,4 +24,4 @@ ends Failed first before after bytes new so_far short some = record {
 pub returns-in_err-read_some-clause-bytes : goal.returns-in_err-read_some-clause-bytes
 returns-in_err-read_some-clause-bytes g c =
     let p = err_from_is_err_and c.from_residual.result c.from_residual.ensures.1 in
-    rw (p.1) (rw (p.2) (ends _ _ _ _ _ _ c.loop-reader.invariant.taken (omega (arith, c.loop-reader.bytes.ok.0)) c.in_err-read_some.ensures.bytes))
+    rw (p.1) (rw (p.2) (ends _ _ _ _ c.loop-reader.bytes.items c.read_some.new.bytes.items c.loop-reader.invariant.taken (omega (arith, c.loop-reader.bytes.ok.0)) c.in_err-read_some.ensures.bytes))

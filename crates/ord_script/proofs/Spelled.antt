@@ -1,0 +1,70 @@
+-- What a script says for a command, read: by the kinds of its arguments, and then for each command.
+use Rattle.std.proofs.Common.{◌≡◌, ℕ, ◌-◌, ◌^◌, ℤ, [], ◌∷◌, Some, Ok, ok_or, refl, ap, arith}
+use Rattle.std.specs.List.{AllByRecursion}
+use Rattle.std.proofs.lemmas.List.Elements.{recursion_from_All}
+use Rattle.ord_script.specs.declared.command.Command.TheVariants as commands
+use Rattle.ord_script.specs.declared.fault.FaultKind.TheVariants.{BadNumber}
+use Rattle.ord_script.specs.Commands.{key_in, pointer_in, index_in, pair_in, insert_of, set_of, with_key, with_pointer, with_index, alone, word_text, word_of, said_by}
+use Rattle.ord_script.specs.Pairs.{Pair, Pointer, PairCommand}
+use Rattle.ord_script.specs.Spelling.{key, value, index, pointer, argument_text, IsInRange, saying_of, spelled, CanBeSaid}
+use Rattle.ord_script.proofs.NumberTexts.{key_of-text, pointer_of-text, number_up_to-decimal}
+
+-- each kind of argument
+key_in-text : (k : ℤ) → IsInRange (key k) → key_in (argument_text (key k)) ≡ Ok k
+key_in-text k range = ap (λ read. ok_or read BadNumber) (key_of-text k range)
+
+pointer_in-text : (p : Pointer) → IsInRange (pointer p) → pointer_in (argument_text (pointer p)) ≡ Ok p
+pointer_in-text p range = ap (λ read. ok_or read BadNumber) (pointer_of-text p range)
+
+index_in-text : (i : ℕ) → IsInRange (index i) → index_in (argument_text (index i)) ≡ Ok i
+index_in-text i range = ap (λ read. ok_or read BadNumber) (number_up_to-decimal (2 ^ 32 - 1) i (omega (arith, range)) (omega (arith, range)))
+
+pair_in-text : (pair : Pair) → IsInRange (key pair.0) → IsInRange (value pair.1) → pair_in (argument_text (key pair.0)) (argument_text (value pair.1)) ≡ Ok pair
+unfolding pair_in
+pair_in-text pair keyed valued = rw (key_in-text pair.0 keyed, number_up_to-decimal (2 ^ 64 - 1) pair.1 (omega (arith, valued)) valued) refl
+
+-- each kind of command
+insert_of-text : (pair : Pair) → AllByRecursion IsInRange (key pair.0 ∷ value pair.1 ∷ []) → insert_of (argument_text (key pair.0) ∷ argument_text (value pair.1) ∷ []) ≡ Ok (commands.Insert pair)
+unfolding insert_of
+insert_of-text pair range = rw (pair_in-text pair range.0 range.1.0) refl
+
+set_of-text : (p : Pointer) (pair : Pair) → AllByRecursion IsInRange (pointer p ∷ key pair.0 ∷ value pair.1 ∷ []) → set_of (argument_text (pointer p) ∷ argument_text (key pair.0) ∷ argument_text (value pair.1) ∷ []) ≡ Ok (commands.Set p pair)
+unfolding set_of
+set_of-text p pair range = rw (pointer_in-text p range.0, pair_in-text pair range.1.0 range.1.1.0) refl
+
+with_key-text : (command : ℤ → PairCommand) (k : ℤ) → AllByRecursion IsInRange (key k ∷ []) → with_key command (argument_text (key k) ∷ []) ≡ Ok (command k)
+unfolding with_key
+with_key-text command k range = rw (key_in-text k range.0) refl
+
+with_pointer-text : (command : Pointer → PairCommand) (p : Pointer) → AllByRecursion IsInRange (pointer p ∷ []) → with_pointer command (argument_text (pointer p) ∷ []) ≡ Ok (command p)
+unfolding with_pointer
+with_pointer-text command p range = rw (pointer_in-text p range.0) refl
+
+with_index-text : (command : ℕ → PairCommand) (i : ℕ) → AllByRecursion IsInRange (index i ∷ []) → with_index command (argument_text (index i) ∷ []) ≡ Ok (command i)
+unfolding with_index
+with_index-text command i range = rw (index_in-text i range.0) refl
+
+alone-text : (command : PairCommand) → alone command [] ≡ Ok command
+unfolding alone
+alone-text command = refl
+
+-- each command
+said_by-spelled : (command : PairCommand) → AllByRecursion IsInRange (saying_of command).arguments → said_by (spelled command) ≡ Some (Ok command)
+said_by-spelled (commands.Insert pair) range = ap Some (insert_of-text pair range)
+said_by-spelled (commands.Set p pair) range = ap Some (set_of-text p pair range)
+said_by-spelled (commands.Remove p) range = ap Some (with_pointer-text commands.Remove p range)
+said_by-spelled (commands.RemoveInx i) range = ap Some (with_index-text commands.RemoveInx i range)
+said_by-spelled (commands.Invalidate p) range = ap Some (with_pointer-text commands.Invalidate p range)
+said_by-spelled (commands.Find k) range = ap Some (with_key-text commands.Find k range)
+said_by-spelled (commands.Visits k) range = ap Some (with_key-text commands.Visits k range)
+said_by-spelled (commands.Get p) range = ap Some (with_pointer-text commands.Get p range)
+said_by-spelled (commands.Neighbours i) range = ap Some (with_index-text commands.Neighbours i range)
+said_by-spelled command range = ap Some (alone-text command)
+
+pub command_text : (command : PairCommand) → CanBeSaid command → said_by (spelled command) ≡ Some (Ok command)
+command_text command sayable = said_by-spelled command (recursion_from_All IsInRange (saying_of command).arguments sayable)
+
+-- the word of its reply
+pub command_word : (command : PairCommand) → word_text (word_of command) ≡ (saying_of command).word
+command_word (commands.Insert pair) = refl
+command_word command = refl

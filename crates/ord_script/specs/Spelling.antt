@@ -1,0 +1,64 @@
+-- How a script says each command: the words of its line.
+use Rattle.std.specs.Prelude.{ℕ, ◌^◌, ◌<◌, ℤ, pos, neg_ℤ, ◌≤ℤ◌, ◌<ℤ◌, List, [], ◌∷◌, ◌++◌, All, map, flat_map, codes, decimal}
+use Rattle.std.specs.Fmt.{signed_decimal}
+use Rattle.std.specs.List.{join_with_byte}
+use Rattle.ord_script.specs.declared.command.Command.TheVariants as commands
+use Rattle.ord_script.specs.Pairs.{Pointer, PairCommand}
+use Rattle.ord_script.specs.Text.{pointer_text}
+
+-- an argument of a command
+pub data Argument : Type 0 where
+  key : ℤ → Argument
+  value : ℕ → Argument
+  index : ℕ → Argument
+  pointer : Pointer → Argument
+
+-- how it is written, with its numbers in decimal
+abbrev pub argument_text : Argument → List ℕ
+argument_text (key k) = signed_decimal k
+argument_text (value v) = decimal v
+argument_text (index i) = decimal i
+argument_text (pointer p) = pointer_text p
+
+-- a key has 64 bits with a sign; a value and a generation have 64 without one, an index 32
+abbrev pub IsInRange : Argument → Type 0
+IsInRange (key k) = (neg_ℤ (pos (2 ^ 63)) ≤ℤ k) × (k <ℤ pos (2 ^ 63))
+IsInRange (value v) = v < 2 ^ 64
+IsInRange (index i) = i < 2 ^ 32
+IsInRange (pointer p) = (p.0 < 2 ^ 32) × (p.1 < 2 ^ 64)
+
+-- the word of a command, and its arguments
+pub record Saying : Type 0 where
+  pub word : List ℕ
+  pub arguments : List Argument
+
+-- what a script says for each command
+abbrev pub saying_of : PairCommand → Saying
+saying_of (commands.Insert pair) = record { word = codes "insert"; arguments = key pair.0 ∷ value pair.1 ∷ [] }
+saying_of (commands.Set p pair) = record { word = codes "set"; arguments = pointer p ∷ key pair.0 ∷ value pair.1 ∷ [] }
+saying_of (commands.Remove p) = record { word = codes "remove"; arguments = pointer p ∷ [] }
+saying_of (commands.RemoveInx i) = record { word = codes "remove-index"; arguments = index i ∷ [] }
+saying_of (commands.Invalidate p) = record { word = codes "invalidate"; arguments = pointer p ∷ [] }
+saying_of commands.Clear = record { word = codes "clear"; arguments = [] }
+saying_of commands.IncGeneration = record { word = codes "next-generation"; arguments = [] }
+saying_of (commands.Find k) = record { word = codes "find"; arguments = key k ∷ [] }
+saying_of (commands.Visits k) = record { word = codes "visits"; arguments = key k ∷ [] }
+saying_of (commands.Get p) = record { word = codes "get"; arguments = pointer p ∷ [] }
+saying_of commands.First = record { word = codes "first"; arguments = [] }
+saying_of commands.Last = record { word = codes "last"; arguments = [] }
+saying_of (commands.Neighbours i) = record { word = codes "neighbours"; arguments = index i ∷ [] }
+saying_of commands.List = record { word = codes "list"; arguments = [] }
+saying_of commands.Ranks = record { word = codes "ranks"; arguments = [] }
+saying_of commands.Stats = record { word = codes "stats"; arguments = [] }
+
+-- the words of its line
+abbrev pub spelled : PairCommand → List (List ℕ)
+spelled command = (saying_of command).word ∷ map argument_text (saying_of command).arguments
+
+-- a script can say it: its numbers are within their ranges
+abbrev pub CanBeSaid : PairCommand → Type 0
+CanBeSaid command = All IsInRange (saying_of command).arguments
+
+-- a line for each command, the words joined by a space
+abbrev pub script_text : List PairCommand → List ℕ
+script_text commands = flat_map (λ command. join_with_byte 32 (spelled command) ++ 10 ∷ []) commands
