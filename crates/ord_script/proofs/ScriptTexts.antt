@@ -43,7 +43,7 @@ argument_whole (pointer p) range =
     record {
       some = omega (arith, before.some, length-append (decimal p.0 ++ 46 ∷ []) (decimal p.1), length-append (decimal p.0) (46 ∷ []));
       dark = All-append (λ b. 32 < b) (decimal p.0 ++ 46 ∷ []) (decimal p.1)
-      (All-append (λ b. 32 < b) (decimal p.0) (46 ∷ []) before.dark (All-cons (λ b. 32 < b) 46 [] (omega arith) (All-nil (λ b. 32 < b)))) (number_dark p.1 range.1);
+          (All-append (λ b. 32 < b) (decimal p.0) (46 ∷ []) before.dark (All-cons (λ b. 32 < b) 46 [] (omega arith) (All-nil (λ b. 32 < b)))) (number_dark p.1 range.1);
     }
 
 -- the words that begin a line

@@ -1,0 +1,270 @@
+// Devices that go slowly, that fail in one call and go well again, and that count their calls: nothing is tried again.
+ghost use Rattle.std.specs.Prelude.{◌≤◌, IfOk};
+
+use crate::{FaultKind, ScriptEnd, Watched, serve};
+use std::alloc::AllocError;
+use std::io;
+use std::io::{ErrorKind, Read, Write};
+use std::process::Abort;
+use std::test::Fail;
+
+/// How a device goes: at most so many bytes a call, and perhaps one call that fails. It counts its calls.
+#[derive(Clone, Copy)]
+struct Pace {
+    step: usize,
+    failure: Failure,
+    calls: usize,
+}
+
+/// The one call that fails, counted from 0, and how. The calls after it go well.
+#[derive(Clone, Copy)]
+enum Failure {
+    Never,
+    /// By an interruption, which is an error like any other.
+    ErrorAt(usize),
+    /// It moves no byte.
+    NothingAt(usize),
+}
+
+/// All at once, and no failure.
+const AT_ONCE: Pace = Pace {
+    step: usize::MAX,
+    failure: Failure::Never,
+    calls: 0,
+};
+
+/// A byte a call, and no failure.
+const BY_BYTE: Pace = Pace {
+    step: 1,
+    failure: Failure::Never,
+    calls: 0,
+};
+
+impl Pace {
+    /// How many of `len` bytes one call moves.
+    fn next_count(&mut self, len: usize) -> io::Result<usize>
+        ensures { IfOk result (λ count. count ≤ len) }
+    {
+        let call = self.calls;
+        self.calls = call.saturating_add(1);
+        match self.failure {
+            Failure::ErrorAt(at) if at == call => Err(io::Error::from(ErrorKind::Interrupted)),
+            Failure::NothingAt(at) if at == call => Ok(0),
+            _ => Ok(len.min(self.step)),
+        }
+    }
+}
+
+/// A reader over memory.
+#[derive(Drop)]
+struct Source<'a> {
+    bytes: &'a [u8],
+    pace: Pace,
+}
+
+impl Read for Source<'_> {
+    fn read(&mut self, buf: &mut [u8]) -> io::Result<usize> {
+        let all = self.bytes;
+        let count = self.pace.next_count(all.len().min(buf.len()))?;
+        buf[..count].copy_from_slice(&all[..count]);
+        self.bytes = &all[count..];
+        Ok(count)
+    }
+}
+
+/// A writer into memory. It counts its flushes too.
+#[derive(Drop)]
+struct Sink {
+    bytes: Vec<u8>,
+    pace: Pace,
+    flushes: usize,
+}
+
+impl Write for Sink {
+    fn write(&mut self, buf: &[u8]) -> io::Result<usize> {
+        let count = self.pace.next_count(buf.len())?;
+        self.bytes.extend_from_slice(&buf[..count])?;
+        Ok(count)
+    }
+
+    fn flush(&mut self) -> io::Result<()> {
+        self.flushes = self.flushes.saturating_add(1);
+        Ok(())
+    }
+}
+
+/// A script with its answer and its end.
+const SCRIPT: &[u8] = b"insert 50 1\ninsert 30 2\nfind 30\nlist\nstop";
+
+const ANSWER: &[u8] =
+    b"new 1.2\nnew 2.2\nat 2.2\nlist 2.2=30:2 1.2=50:1\nline 5: unknown command\n";
+
+const END: ScriptEnd = ScriptEnd::Fault(5, FaultKind::UnknownCommand);
+
+/// How often each device was called, and how many bytes were left unread.
+#[derive(Clone, Copy, Debug, PartialEq, Eq)]
+struct Calls {
+    reads: usize,
+    unread: usize,
+    writes: usize,
+}
+
+/// Serves the script with devices that go so, and asserts its end, what is written, and what the marks say.
+fn expect_end<R: Abort + AllocGlobal>(
+    rt: &R,
+    reading: Pace,
+    writing: Pace,
+    end: ScriptEnd,
+    written: &[u8],
+) -> Calls {
+    let mut source = Source {
+        bytes: SCRIPT,
+        pace: reading,
+    };
+    let mut sink = Sink {
+        bytes: Vec::new(rt.alloc()),
+        pace: writing,
+        flushes: 0,
+    };
+    let mut reader = Watched::new(&mut source);
+    let mut writer = Watched::new(&mut sink);
+    assert_eq!(rt; serve(rt.alloc(), &mut reader, &mut writer), end);
+    let is_answered = end == END || end == ScriptEnd::WriteFailed;
+    assert_eq!(rt; reader.ended(), is_answered);
+    assert_eq!(rt; reader.failed(), end == ScriptEnd::ReadFailed);
+    assert_eq!(rt; writer.failed(), end == ScriptEnd::WriteFailed);
+    assert_eq!(rt; sink.bytes.as_slice(), written);
+    Calls {
+        reads: source.pace.calls,
+        unread: source.bytes.len(),
+        writes: sink.pace.calls,
+    }
+}
+
+#[test]
+fn reads_and_writes_in_pieces(rt: HostRuntime) {
+    for step in [1, 2, 3, 7, 50] {
+        let pace = Pace { step, ..AT_ONCE };
+        let calls = expect_end(&rt, pace, pace, END, ANSWER);
+        // the last read is the one that meets the end
+        let expected = Calls {
+            reads: SCRIPT.len().div_ceil(step) + 1,
+            unread: 0,
+            writes: ANSWER.len().div_ceil(step),
+        };
+        assert_eq!(rt; calls, expected);
+    }
+}
+
+#[test]
+fn each_read_fails_in_turn(rt: HostRuntime) {
+    for call in 0..=SCRIPT.len() {
+        let failure = Failure::ErrorAt(call);
+        let pace = Pace { failure, ..BY_BYTE };
+        let calls = expect_end(&rt, pace, AT_ONCE, ScriptEnd::ReadFailed, b"");
+        let expected = Calls {
+            reads: call + 1,
+            unread: SCRIPT.len() - call,
+            writes: 0,
+        };
+        assert_eq!(rt; calls, expected);
+    }
+}
+
+#[test]
+fn each_write_fails_in_turn(rt: HostRuntime) {
+    for call in 0..ANSWER.len() {
+        for failure in [Failure::ErrorAt(call), Failure::NothingAt(call)] {
+            let pace = Pace { failure, ..BY_BYTE };
+            let written = &ANSWER[..call];
+            let calls = expect_end(&rt, AT_ONCE, pace, ScriptEnd::WriteFailed, written);
+            let expected = Calls {
+                reads: 2,
+                unread: 0,
+                writes: call + 1,
+            };
+            assert_eq!(rt; calls, expected);
+        }
+    }
+}
+
+#[test]
+fn a_watched_reader_is_asked_once_a_read(rt: HostRuntime) {
+    for failing in 0usize..4 {
+        let mut source = Source {
+            bytes: b"abc",
+            pace: Pace {
+                failure: Failure::ErrorAt(failing),
+                ..BY_BYTE
+            },
+        };
+        let mut reader = Watched::new(&mut source);
+        for call in 0usize..5 {
+            let mut byte = [0];
+            let result = reader.read(&mut byte);
+            assert_eq!(rt; result.is_err(), call == failing);
+            assert_eq!(rt; reader.failed(), call >= failing);
+            assert_eq!(rt; reader.ended(), call == 4);
+        }
+        assert_eq!(rt; source.pace.calls, 5);
+        assert!(rt; source.bytes.is_empty());
+    }
+}
+
+#[test]
+fn a_watched_writer_is_asked_once_a_write(rt: HostRuntime) {
+    for failing in 0usize..4 {
+        for failure in [Failure::ErrorAt(failing), Failure::NothingAt(failing)] {
+            let mut sink = Sink {
+                bytes: Vec::new(rt.alloc()),
+                pace: Pace { failure, ..BY_BYTE },
+                flushes: 0,
+            };
+            let mut writer = Watched::new(&mut sink);
+            for call in 0usize..4 {
+                let is_well = matches!(writer.write(b"xy"), Ok(1));
+                assert_eq!(rt; is_well, call != failing);
+                assert_eq!(rt; writer.failed(), call >= failing);
+            }
+            assert!(rt; writer.flush().is_ok());
+            assert_eq!(rt; sink.pace.calls, 4);
+            assert_eq!(rt; sink.flushes, 1);
+            assert_eq!(rt; sink.bytes.as_slice(), b"xxx".as_slice());
+        }
+    }
+}
+
+/// Serves so many line feeds, of which none is answered: how it ends, after how many reads, and how many bytes are left unread.
+fn serve_line_feeds<R: Abort + AllocGlobal>(
+    rt: &R,
+    count: usize,
+    failure: Failure,
+) -> Result<(ScriptEnd, usize, usize), AllocError> {
+    let script = vec![in rt.alloc(); b'\n'; count]?;
+    let mut source = Source {
+        bytes: &script,
+        pace: Pace { failure, ..AT_ONCE },
+    };
+    let mut output = Vec::new(rt.alloc());
+    let mut reader = Watched::new(&mut source);
+    let end = serve(rt.alloc(), &mut reader, &mut Watched::new(&mut output));
+    assert!(rt; output.is_empty());
+    Ok((end, source.pace.calls, source.bytes.len()))
+}
+
+#[test]
+fn reads_one_byte_beyond_the_limit(rt: HostRuntime) -> Result<(), Fail> {
+    // 256 reads of 4096 bytes reach the limit
+    let at_limit = serve_line_feeds(&rt, 1_048_576, Failure::Never)?;
+    assert_eq!(rt; at_limit, (ScriptEnd::Done, 257, 0));
+    let beyond = serve_line_feeds(&rt, 1_048_577, Failure::Never)?;
+    assert_eq!(rt; beyond, (ScriptEnd::TooLong, 257, 0));
+    let far_beyond = serve_line_feeds(&rt, 1_048_600, Failure::Never)?;
+    assert_eq!(rt; far_beyond, (ScriptEnd::TooLong, 257, 23));
+    // whichever comes first
+    let fails_first = serve_line_feeds(&rt, 1_048_600, Failure::ErrorAt(256))?;
+    assert_eq!(rt; fails_first, (ScriptEnd::ReadFailed, 257, 24));
+    let fails_later = serve_line_feeds(&rt, 1_048_600, Failure::ErrorAt(257))?;
+    assert_eq!(rt; fails_later, (ScriptEnd::TooLong, 257, 23));
+    Ok(())
+}
