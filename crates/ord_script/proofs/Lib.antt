@@ -13,3 +13,4 @@ pub mod FirstRank
 pub mod NumberTexts
 pub mod Spelled
 pub mod ScriptTexts
+pub mod FirstRankText

@@ -1,5 +1,5 @@
 -- What is true of every run and of every script, each as a statement of its own.
-use Rattle.std.specs.Prelude.{◌≡◌, ℤ, List, [], ◌∷◌, All, Some, None, Ok}
+use Rattle.std.specs.Prelude.{◌≡◌, ℕ, ℤ, List, [], ◌∷◌, All, Contains, codes, Some, None, Ok}
 use Rattle.triple_ord.specs.declared.entry_kind.OrdEntryKind.TheVariants.{New}
 use Rattle.triple_ord.specs.declared.error.OrdInsertionError.TheVariants.{AllocError}
 use Rattle.ord_script.specs.declared.command.Command.TheVariants as commands
@@ -10,6 +10,7 @@ use Rattle.ord_script.specs.Pairs.{Pointer, PairCommand}
 use Rattle.ord_script.specs.Numbers.{key_of, pointer_of}
 use Rattle.ord_script.specs.Commands.{word_text, word_of, said_by}
 use Rattle.ord_script.specs.Script.{script_of}
+use Rattle.ord_script.specs.Service.{Answers}
 use Rattle.ord_script.specs.Spelling.{key, pointer, argument_text, IsInRange, saying_of, spelled, CanBeSaid, script_text}
 
 -- The replies to an insertion and to `ranks`, where there was no entry: one new entry of rank 1, if memory isn't refused to
@@ -27,6 +28,14 @@ FirstRankLaw P T I G A K =
     → old.tree.list.entries ≡ []
     → Runs r old (commands.Insert item ∷ commands.Ranks ∷ []) replies new
     → AreFirstReplies replies
+
+-- the answers to a script of these two commands: where memory is refused to one of them, it says so
+abbrev pub first_answers : List (List ℕ)
+first_answers = codes "new 1.2\nranks 1\n" ∷ codes "new 1.2\nrefused memory\n" ∷ codes "refused memory\nranks\n" ∷ []
+
+-- it has no other answer
+abbrev pub FirstRankTextLaw : Type 0 → Type 0
+FirstRankTextLaw A = (text : List ℕ) → Answers A (script_of (codes "insert 5 1\nranks\n")) text → Contains first_answers text
 
 -- the text of a key, read, is the key
 abbrev pub KeyTextLaw : Type 0

@@ -1,0 +1,60 @@
+-- The script of two lines, an insertion and `ranks`, from its bytes to those of its answers.
+use Rattle.std.proofs.Common.{◌≡◌, ℕ, pos, List, [], ◌∷◌, Contains, codes, Some, None, refl, sym, ◌∙◌, subst, arith, append-nil}
+use Rattle.std.proofs.lemmas.Fmt.{decimal_digit}
+use Rattle.triple_ord.specs.Insertion.{InsertsNew}
+use Rattle.triple_ord.specs.declared.entry_kind.OrdEntryKind.TheVariants.{New}
+use Rattle.triple_ord.specs.declared.error.OrdInsertionError.TheVariants.{FailedOrdRequirement, NotWithinCapacity, BeyondMaxCapacity, AllocError}
+use Rattle.ord_tree.specs.Tree.{Tree}
+use Rattle.ord_script.specs.declared.command.Command.TheVariants as commands
+use Rattle.ord_script.specs.declared.reply.Reply.TheVariants.{Inserted, Refused, Ranks}
+use Rattle.ord_script.specs.declared.word.Word.TheVariants as words
+use Rattle.ord_script.specs.Commands.{insert_of, pair_in, alone}
+use Rattle.ord_script.specs.Machine.{State, Inserts, Runs}
+use Rattle.ord_script.specs.Pairs.{Pair, Pointer, PairReply, reading, beginning}
+use Rattle.ord_script.specs.Script.{Script, script_of}
+use Rattle.ord_script.specs.Service.{Answers}
+use Rattle.ord_script.specs.Text.{reply_lines}
+use Rattle.ord_script.specs.Laws.{AreFirstReplies, FirstRankTextLaw, first_answers}
+use Rattle.ord_script.proofs.FirstRank.{first_rank}
+
+-- the script, read
+two_lines : script_of (codes "insert 5 1\nranks\n") ≡ record { commands = commands.Insert (pos 5, 1) ∷ commands.Ranks ∷ []; fault = None }
+unfolding insert_of pair_in alone
+two_lines = refl
+
+-- the pointer of the first entry
+first_pointer : (item : Pair) (p : Pointer) (new : Tree Pair) → InsertsNew reading.key reading.cmp reading.most beginning.tree item (reading.pointer p) new → (p.0 ≡ 1) × (p.1 ≡ 2)
+first_pointer item p new inserts =
+    let next : Some 1 ≡ Some p.0 = inserts.inserted.next in
+    let index : 1 ≡ p.0 = cc in
+    (sym index, inserts.inserted.generation)
+
+module _ {A : Type 0} where
+  -- both replies, as lines
+  first_lines : (item : Pair) (first second : PairReply A) (new : Tree Pair) → Inserts reading.key reading.cmp reading.most reading.pointer beginning.tree item first new → AreFirstReplies (first ∷ second ∷ []) → Contains first_answers (reply_lines (words.Insert ∷ words.Ranks ∷ []) (first ∷ second ∷ []))
+  first_lines item (Inserted (New p) None) (Ranks ranks) new inserts replies =
+      let is = first_pointer item p new inserts in
+      (0, omega arith, sym (rw (is.0, is.1, replies, decimal_digit 1 (omega arith), decimal_digit 2 (omega arith)) refl))
+  first_lines item (Inserted (New p) None) (Refused AllocError) new inserts replies =
+      let is = first_pointer item p new inserts in
+      (1, omega arith, sym (rw (is.0, is.1, decimal_digit 1 (omega arith), decimal_digit 2 (omega arith)) refl))
+  first_lines item (Refused AllocError) (Ranks ranks) new inserts replies = (2, omega arith, sym (rw replies refl))
+  first_lines item (Refused BeyondMaxCapacity) second new inserts replies = absurd (omega (arith, inserts.full))
+  first_lines item (Refused FailedOrdRequirement) second new inserts replies = absurd inserts
+  first_lines item (Refused NotWithinCapacity) second new inserts replies = absurd inserts
+  first_lines item first second new inserts replies = absurd replies
+
+  -- all replies
+  answer_lines : (replies : List (PairReply A)) (end : State Pair) → Runs reading beginning (commands.Insert (pos 5, 1) ∷ commands.Ranks ∷ []) replies end → Contains first_answers (reply_lines (words.Insert ∷ words.Ranks ∷ []) replies)
+  answer_lines [] end run = absurd run
+  answer_lines (first ∷ []) end run = absurd run.2
+  answer_lines (first ∷ second ∷ []) end run =
+      first_lines (pos 5, 1) first second run.0.tree run.1.replies (first_rank _ _ _ _ _ _ reading beginning end (pos 5, 1) (first ∷ second ∷ []) refl run)
+  answer_lines (first ∷ second ∷ third ∷ replies) end run = absurd run.2.2
+
+  answer_text : (text : List ℕ) → Answers A (record { commands = commands.Insert (pos 5, 1) ∷ commands.Ranks ∷ []; fault = None }) text → Contains first_answers text
+  answer_text text answers =
+      subst (λ (t : List ℕ). Contains first_answers t) (sym (answers.lines ∙ append-nil _)) (answer_lines answers.replies answers.end answers.run)
+
+pub first_rank_text : (A : Type 0) → FirstRankTextLaw A
+first_rank_text A text answers = answer_text text (subst (λ (script : Script). Answers A script text) two_lines answers)
