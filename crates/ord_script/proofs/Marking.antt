@@ -53,73 +53,70 @@ module _ {P T I G A : Type 0} where
   AreTrue-any (Removed (GenerationOverflow taken)) new marks sound holds = AreTrue-settled new _ sound (AreTrue-none new.shape)
   AreTrue-any reply new marks sound holds = AreTrue-settled new marks sound holds
 
+-- one step, by the reply
+module _ {P T I G A : Type 0} (old new : Tree T) (marks : Marks) (sound : IsSoundTree new) (holds : AreTrue marks old.shape) where
   -- a reply that leaves the shape
-  AreTrue-like : (reply : Reply P T A I G) (old new : Tree T) (marks : Marks) → IsSoundTree new → AreTrue marks old.shape → new.shape ≡ old.shape → AreTrue (marks_after reply new marks) new.shape
-  AreTrue-like reply old new marks sound holds same =
-      AreTrue-any reply new marks sound (subst (λ (s : Shape). AreTrue marks s) (sym same) holds)
+  AreTrue-like : (reply : Reply P T A I G) → new.shape ≡ old.shape → AreTrue (marks_after reply new marks) new.shape
+  AreTrue-like reply same = AreTrue-any reply new marks sound (subst (λ (s : Shape). AreTrue marks s) (sym same) holds)
 
   -- a reply that leaves the tree
-  AreTrue-still : (reply : Reply P T A I G) (old new : Tree T) (marks : Marks) → IsSoundTree new → AreTrue marks old.shape → new ≡ old → AreTrue (marks_after reply new marks) new.shape
-  AreTrue-still reply old new marks sound holds same = AreTrue-like reply old new marks sound holds (ap (λ t. t.shape) same)
+  AreTrue-still : (reply : Reply P T A I G) → new ≡ old → AreTrue (marks_after reply new marks) new.shape
+  AreTrue-still reply same = AreTrue-like reply (ap (λ t. t.shape) same)
 
-  AreTrue-inserted : {K : Type 0} (r : Reading P T I G K) (old new : Tree T) (item : T) (reply : Reply P T A I G) (marks : Marks) → IsSoundTree new → AreTrue marks old.shape → Inserts r.key r.cmp r.most r.pointer old item reply new → AreTrue (marks_after reply new marks) new.shape
-  AreTrue-inserted r old new item (Inserted (New p) None) marks sound holds inserts =
+  AreTrue-inserted : {K : Type 0} (r : Reading P T I G K) (item : T) (reply : Reply P T A I G) → Inserts r.key r.cmp r.most r.pointer old item reply new → AreTrue (marks_after reply new marks) new.shape
+  AreTrue-inserted r item (Inserted (New p) None) inserts =
       AreTrue-settled new _ sound (record { only_inserted = λ e. inserts.grown.tight (holds.only_inserted e); just_built = λ e. cc })
-  AreTrue-inserted r old new item (Inserted (New p) (Some before)) marks sound holds inserts = absurd inserts
-  AreTrue-inserted r old new item (Inserted (Replacing p) None) marks sound holds inserts = absurd inserts
-  AreTrue-inserted r old new item (Inserted (Replacing p) (Some before)) marks sound holds inserts =
-      AreTrue-like (Inserted (Replacing p) (Some before)) old new marks sound holds (ap (λ t. t.shape) inserts.after)
-  AreTrue-inserted r old new item (Refused BeyondMaxCapacity) marks sound holds inserts =
-      AreTrue-still (Refused BeyondMaxCapacity) old new marks sound holds inserts.after
-  AreTrue-inserted r old new item (Refused AllocError) marks sound holds inserts =
-      AreTrue-still (Refused AllocError) old new marks sound holds inserts.after
-  AreTrue-inserted r old new item (Refused FailedOrdRequirement) marks sound holds inserts = absurd inserts
-  AreTrue-inserted r old new item (Refused NotWithinCapacity) marks sound holds inserts = absurd inserts
-  AreTrue-inserted r old new item reply marks sound holds inserts = absurd inserts
+  AreTrue-inserted r item (Inserted (New p) (Some before)) inserts = absurd inserts
+  AreTrue-inserted r item (Inserted (Replacing p) None) inserts = absurd inserts
+  AreTrue-inserted r item (Inserted (Replacing p) (Some before)) inserts = AreTrue-like (Inserted (Replacing p) (Some before)) (ap (λ t. t.shape) inserts.after)
+  AreTrue-inserted r item (Refused BeyondMaxCapacity) inserts = AreTrue-still (Refused BeyondMaxCapacity) inserts.after
+  AreTrue-inserted r item (Refused AllocError) inserts = AreTrue-still (Refused AllocError) inserts.after
+  AreTrue-inserted r item (Refused FailedOrdRequirement) inserts = absurd inserts
+  AreTrue-inserted r item (Refused NotWithinCapacity) inserts = absurd inserts
+  AreTrue-inserted r item reply inserts = absurd inserts
 
-  AreTrue-set : (pointer : P → ℕ × ℕ) (old new : Tree T) (p : P) (item : T) (reply : Reply P T A I G) (marks : Marks) → IsSoundTree new → AreTrue marks old.shape → Sets pointer old p item reply new → AreTrue (marks_after reply new marks) new.shape
-  AreTrue-set pointer old new p item (Item None) marks sound holds sets = AreTrue-still (Item None) old new marks sound holds sets.1
-  AreTrue-set pointer old new p item (Item (Some before)) marks sound holds sets =
-      AreTrue-like (Item (Some before)) old new marks sound holds (ap (λ t. t.shape) sets.1)
-  AreTrue-set pointer old new p item reply marks sound holds sets = absurd sets
+  AreTrue-set : (pointer : P → ℕ × ℕ) (p : P) (item : T) (reply : Reply P T A I G) → Sets pointer old p item reply new → AreTrue (marks_after reply new marks) new.shape
+  AreTrue-set pointer p item (Item None) sets = AreTrue-still (Item None) sets.1
+  AreTrue-set pointer p item (Item (Some before)) sets = AreTrue-like (Item (Some before)) (ap (λ t. t.shape) sets.1)
+  AreTrue-set pointer p item reply sets = absurd sets
 
-  AreTrue-removed : (greatest : Option ℕ) (pointer : P → ℕ × ℕ) (old new : Tree T) (p : P) (reply : Reply P T A I G) (marks : Marks) → IsSoundTree new → AreTrue marks old.shape → Removes greatest pointer old p reply new → AreTrue (marks_after reply new marks) new.shape
-  AreTrue-removed greatest pointer old new p (Removed (Success taken)) marks sound holds removes = AreTrue-settled new _ sound (AreTrue-none new.shape)
-  AreTrue-removed greatest pointer old new p (Removed (GenerationOverflow taken)) marks sound holds removes = AreTrue-settled new _ sound (AreTrue-none new.shape)
-  AreTrue-removed greatest pointer old new p (Removed InvalidPtr) marks sound holds removes = AreTrue-still (Removed InvalidPtr) old new marks sound holds removes.1
-  AreTrue-removed greatest pointer old new p reply marks sound holds removes = absurd removes
+  AreTrue-removed : (greatest : Option ℕ) (pointer : P → ℕ × ℕ) (p : P) (reply : Reply P T A I G) → Removes greatest pointer old p reply new → AreTrue (marks_after reply new marks) new.shape
+  AreTrue-removed greatest pointer p (Removed (Success taken)) removes = AreTrue-settled new _ sound (AreTrue-none new.shape)
+  AreTrue-removed greatest pointer p (Removed (GenerationOverflow taken)) removes = AreTrue-settled new _ sound (AreTrue-none new.shape)
+  AreTrue-removed greatest pointer p (Removed InvalidPtr) removes = AreTrue-still (Removed InvalidPtr) removes.1
+  AreTrue-removed greatest pointer p reply removes = absurd removes
 
-  AreTrue-removed_at : (greatest : Option ℕ) (pointer : P → ℕ × ℕ) (old new : Tree T) (i : ℕ) (reply : Reply P T A I G) (marks : Marks) → IsSoundTree new → AreTrue marks old.shape → RemovesAt greatest pointer old i reply new → AreTrue (marks_after reply new marks) new.shape
-  AreTrue-removed_at greatest pointer old new i (Removed (Success taken)) marks sound holds removes = AreTrue-settled new _ sound (AreTrue-none new.shape)
-  AreTrue-removed_at greatest pointer old new i (Removed (GenerationOverflow taken)) marks sound holds removes = AreTrue-settled new _ sound (AreTrue-none new.shape)
-  AreTrue-removed_at greatest pointer old new i (Removed InvalidPtr) marks sound holds removes = AreTrue-still (Removed InvalidPtr) old new marks sound holds removes.1
-  AreTrue-removed_at greatest pointer old new i reply marks sound holds removes = absurd removes
+  AreTrue-removed_at : (greatest : Option ℕ) (pointer : P → ℕ × ℕ) (i : ℕ) (reply : Reply P T A I G) → RemovesAt greatest pointer old i reply new → AreTrue (marks_after reply new marks) new.shape
+  AreTrue-removed_at greatest pointer i (Removed (Success taken)) removes = AreTrue-settled new _ sound (AreTrue-none new.shape)
+  AreTrue-removed_at greatest pointer i (Removed (GenerationOverflow taken)) removes = AreTrue-settled new _ sound (AreTrue-none new.shape)
+  AreTrue-removed_at greatest pointer i (Removed InvalidPtr) removes = AreTrue-still (Removed InvalidPtr) removes.1
+  AreTrue-removed_at greatest pointer i reply removes = absurd removes
 
-  AreTrue-renewed : (greatest : Option ℕ) (pointer : P → ℕ × ℕ) (old new : Tree T) (p : P) (reply : Reply P T A I G) (marks : Marks) → IsSoundTree new → AreTrue marks old.shape → Renews greatest pointer old p reply new → AreTrue (marks_after reply new marks) new.shape
-  AreTrue-renewed greatest pointer old new p (Renewed (Success q)) marks sound holds renews = AreTrue-like (Renewed (Success q)) old new marks sound holds (ap (λ t. t.shape) renews.3)
-  AreTrue-renewed greatest pointer old new p (Renewed (GenerationOverflow q)) marks sound holds renews = AreTrue-like (Renewed (GenerationOverflow q)) old new marks sound holds (ap (λ t. t.shape) renews.3)
-  AreTrue-renewed greatest pointer old new p (Renewed InvalidPtr) marks sound holds renews = AreTrue-still (Renewed InvalidPtr) old new marks sound holds renews.1
-  AreTrue-renewed greatest pointer old new p reply marks sound holds renews = absurd renews
+  AreTrue-renewed : (greatest : Option ℕ) (pointer : P → ℕ × ℕ) (p : P) (reply : Reply P T A I G) → Renews greatest pointer old p reply new → AreTrue (marks_after reply new marks) new.shape
+  AreTrue-renewed greatest pointer p (Renewed (Success q)) renews = AreTrue-like (Renewed (Success q)) (ap (λ t. t.shape) renews.3)
+  AreTrue-renewed greatest pointer p (Renewed (GenerationOverflow q)) renews = AreTrue-like (Renewed (GenerationOverflow q)) (ap (λ t. t.shape) renews.3)
+  AreTrue-renewed greatest pointer p (Renewed InvalidPtr) renews = AreTrue-still (Renewed InvalidPtr) renews.1
+  AreTrue-renewed greatest pointer p reply renews = absurd renews
 
-  AreTrue-changed : (greatest : Option ℕ) (old after new : Tree T) (reply : Reply P T A I G) (marks : Marks) → IsSoundTree new → AreTrue marks after.shape → Changes greatest old after reply new → AreTrue (marks_after reply new marks) new.shape
-  AreTrue-changed greatest old after new (Changed result) marks sound holds changes = AreTrue-still (Changed result) after new marks sound holds changes.0
-  AreTrue-changed greatest old after new reply marks sound holds changes = absurd changes
+  AreTrue-changed : (greatest : Option ℕ) (after : Tree T) (reply : Reply P T A I G) → AreTrue marks after.shape → Changes greatest old after reply new → AreTrue (marks_after reply new marks) new.shape
+  AreTrue-changed greatest after (Changed result) kept changes = AreTrue-settled new marks sound (subst (λ (t : Tree T). AreTrue marks t.shape) (sym changes.0) kept)
+  AreTrue-changed greatest after reply kept changes = absurd changes
 
-  -- a step
-  pub AreTrue-after : {K : Type 0} (r : Reading P T I G K) (old new : Tree T) (command : Command P T I G K) (reply : Reply P T A I G) (marks : Marks) → IsSoundTree new → AreTrue marks old.shape → Replies r (record { tree = old; marks = marks }) command reply new → AreTrue (marks_after reply new marks) new.shape
-  AreTrue-after r old new (commands.Insert item) reply marks sound holds replies = AreTrue-inserted r old new item reply marks sound holds replies
-  AreTrue-after r old new (commands.Set p item) reply marks sound holds replies = AreTrue-set r.pointer old new p item reply marks sound holds replies
-  AreTrue-after r old new (commands.Remove p) reply marks sound holds replies = AreTrue-removed r.greatest r.pointer old new p reply marks sound holds replies
-  AreTrue-after r old new (commands.RemoveInx i) reply marks sound holds replies = AreTrue-removed_at r.greatest r.pointer old new (r.index i) reply marks sound holds replies
-  AreTrue-after r old new (commands.Invalidate p) reply marks sound holds replies = AreTrue-renewed r.greatest r.pointer old new p reply marks sound holds replies
-  AreTrue-after r old new commands.Clear reply marks sound holds replies = AreTrue-changed r.greatest old _ new reply marks sound (AreTrue-missing marks) replies
-  AreTrue-after r old new commands.IncGeneration reply marks sound holds replies = AreTrue-changed r.greatest old _ new reply marks sound holds replies
-  AreTrue-after r old new (commands.Find k) reply marks sound holds replies = AreTrue-still reply old new marks sound holds replies.1
-  AreTrue-after r old new (commands.Visits k) reply marks sound holds replies = AreTrue-still reply old new marks sound holds replies.1
-  AreTrue-after r old new (commands.Get p) reply marks sound holds replies = AreTrue-still reply old new marks sound holds replies.1
-  AreTrue-after r old new commands.First reply marks sound holds replies = AreTrue-still reply old new marks sound holds replies.1
-  AreTrue-after r old new commands.Last reply marks sound holds replies = AreTrue-still reply old new marks sound holds replies.1
-  AreTrue-after r old new (commands.Neighbours i) reply marks sound holds replies = AreTrue-still reply old new marks sound holds replies.1
-  AreTrue-after r old new commands.List reply marks sound holds replies = AreTrue-still reply old new marks sound holds replies.1
-  AreTrue-after r old new commands.Ranks reply marks sound holds replies = AreTrue-still reply old new marks sound holds replies.1
-  AreTrue-after r old new commands.Stats reply marks sound holds replies = AreTrue-still reply old new marks sound holds replies.1
+  -- by the command
+  pub AreTrue-after : {K : Type 0} (r : Reading P T I G K) (command : Command P T I G K) (reply : Reply P T A I G) → Replies r (record { tree = old; marks = marks }) command reply new → AreTrue (marks_after reply new marks) new.shape
+  AreTrue-after r (commands.Insert item) reply replies = AreTrue-inserted r item reply replies
+  AreTrue-after r (commands.Set p item) reply replies = AreTrue-set r.pointer p item reply replies
+  AreTrue-after r (commands.Remove p) reply replies = AreTrue-removed r.greatest r.pointer p reply replies
+  AreTrue-after r (commands.RemoveInx i) reply replies = AreTrue-removed_at r.greatest r.pointer (r.index i) reply replies
+  AreTrue-after r (commands.Invalidate p) reply replies = AreTrue-renewed r.greatest r.pointer p reply replies
+  AreTrue-after r commands.Clear reply replies = AreTrue-changed r.greatest _ reply (AreTrue-missing marks) replies
+  AreTrue-after r commands.IncGeneration reply replies = AreTrue-changed r.greatest _ reply holds replies
+  AreTrue-after r (commands.Find k) reply replies = AreTrue-still reply replies.1
+  AreTrue-after r (commands.Visits k) reply replies = AreTrue-still reply replies.1
+  AreTrue-after r (commands.Get p) reply replies = AreTrue-still reply replies.1
+  AreTrue-after r commands.First reply replies = AreTrue-still reply replies.1
+  AreTrue-after r commands.Last reply replies = AreTrue-still reply replies.1
+  AreTrue-after r (commands.Neighbours i) reply replies = AreTrue-still reply replies.1
+  AreTrue-after r commands.List reply replies = AreTrue-still reply replies.1
+  AreTrue-after r commands.Ranks reply replies = AreTrue-still reply replies.1
+  AreTrue-after r commands.Stats reply replies = AreTrue-still reply replies.1

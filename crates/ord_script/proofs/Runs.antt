@@ -9,35 +9,49 @@ use Rattle.ord_script.specs.Pairs.{Pair, PairCommand, PairReply, reading, beginn
 use Rattle.ord_script.proofs.Marking.{AreTrue-missing, AreTrue-after}
 
 module _ {P T I G A K : Type 0} (r : Reading P T I G K) where
-  -- a run goes on by one step
-  Runs-more : (old : State T) (commands : List (Command P T I G K)) (replies : List (Reply P T A I G)) (mid new : State T) (command : Command P T I G K) (reply : Reply P T A I G) → Runs r old commands replies mid → Step r mid command reply new → Runs r old (commands ++ command ∷ []) (replies ++ reply ∷ []) new
-  Runs-more old [] [] mid new command reply run step = (new, subst (λ (s : State T). Step r s command reply new) run step, refl)
-  Runs-more old [] (q ∷ replies) mid new command reply run step = absurd run
-  Runs-more old (c ∷ commands) [] mid new command reply run step = absurd run
-  Runs-more old (c ∷ commands) (q ∷ replies) mid new command reply run step = (run.0, run.1, Runs-more run.0 commands replies mid new command reply run.2 step)
+  -- a step between trees, whatever marks tell the truth of the first
+  pub record StepsBetween (old : Tree T) (command : Command P T I G K) (reply : Reply P T A I G) (new : Tree T) : Type 0 where
+    pub replies : (marks : Marks) → AreTrue marks old.shape → Replies r (record { tree = old; marks = marks }) command reply new
+    pub lawful : IsSound r.most r.greatest new.list
+    pub sound : IsSoundTree new
 
   -- a run over nothing
   pub RunsBetween-none : (t : Tree T) (replies : List (Reply P T A I G)) → replies ≡ [] → RunsBetween r t [] replies t
   RunsBetween-none t [] none = λ marks holds. (marks, holds, refl)
   RunsBetween-none t (q ∷ replies) none = cc
 
-  -- a run between trees goes on by one step
-  pub RunsBetween-more : (old mid new : Tree T) (commands : List (Command P T I G K)) (replies : List (Reply P T A I G)) (command : Command P T I G K) (reply : Reply P T A I G) → RunsBetween r old commands replies mid → IsSound r.most r.greatest new.list → IsSoundTree new → ((marks : Marks) → AreTrue marks mid.shape → Replies r (record { tree = mid; marks = marks }) command reply new) → RunsBetween r old (commands ++ command ∷ []) (replies ++ reply ∷ []) new
-  RunsBetween-more old mid new commands replies command reply so_far lawful sound step marks holds =
+-- a run goes on by one step
+module _ {P T I G A K : Type 0} (r : Reading P T I G K) (command : Command P T I G K) (reply : Reply P T A I G) where
+  Runs-more : (old mid new : State T) (commands : List (Command P T I G K)) (replies : List (Reply P T A I G))
+      → Runs r old commands replies mid → Step r mid command reply new → Runs r old (commands ++ command ∷ []) (replies ++ reply ∷ []) new
+  Runs-more old mid new [] [] run step = (new, subst (λ (s : State T). Step r s command reply new) run step, refl)
+  Runs-more old mid new [] (q ∷ replies) run step = absurd run
+  Runs-more old mid new (c ∷ commands) [] run step = absurd run
+  Runs-more old mid new (c ∷ commands) (q ∷ replies) run step = (run.0, run.1, Runs-more run.0 mid new commands replies run.2 step)
+
+  -- and so does one between trees
+  pub RunsBetween-more : (old mid new : Tree T) (commands : List (Command P T I G K)) (replies : List (Reply P T A I G))
+      → RunsBetween r old commands replies mid → StepsBetween r mid command reply new → RunsBetween r old (commands ++ command ∷ []) (replies ++ reply ∷ []) new
+  RunsBetween-more old mid new commands replies so_far step marks holds =
       let run = so_far marks holds in
-      let replies_now = step run.0 run.1 in (
-        marks_after reply new run.0,
-        AreTrue-after r mid new command reply run.0 sound run.1 replies_now,
-        Runs-more (record { tree = old; marks = marks }) commands replies (record { tree = mid; marks = run.0 }) (record { tree = new; marks = marks_after reply new run.0 }) command reply run.2 (record { replies = replies_now; marks = refl; lawful = lawful; sound = sound }),
+      let begins : State T = record { tree = mid; marks = run.0 } in
+      let ends : State T = record { tree = new; marks = marks_after reply new run.0 } in
+      let replies_now = step.replies run.0 run.1 in (
+        ends.marks,
+        AreTrue-after mid new run.0 step.sound run.1 r command reply replies_now,
+        Runs-more (record { tree = old; marks = marks }) begins ends commands replies run.2
+        (record { replies = replies_now; marks = refl; lawful = step.lawful; sound = step.sound }),
       )
 
 -- a run of a script, from where it begins
-from_beginning : {A : Type 0} (commands : List PairCommand) (replies : List (PairReply A)) (old new : Tree Pair) → old ≡ beginning.tree → RunsBetween reading old commands replies new → (end : State Pair) × Runs reading beginning commands replies end
-from_beginning commands replies old new empty between =
-    let run = subst (λ (t : Tree Pair). RunsBetween reading t commands replies new) empty between beginning.marks (AreTrue-missing beginning.marks) in
-    (record { tree = new; marks = run.0 }, run.2)
+module _ {A : Type 0} (commands : List PairCommand) (old new : Tree Pair) (empty : old ≡ beginning.tree) where
+  from_beginning : (replies : List (PairReply A)) → RunsBetween reading old commands replies new → (end : State Pair) × Runs reading beginning commands replies end
+  from_beginning replies between =
+      let run = subst (λ (t : Tree Pair). RunsBetween reading t commands replies new) empty between beginning.marks (AreTrue-missing beginning.marks) in
+      (record { tree = new; marks = run.0 }, run.2)
 
--- the same of what a call answers
-pub answered : {V E A : Type 0} (result : Result V E) (replies_in : V → List (PairReply A)) (commands : List PairCommand) (old new : Tree Pair) → old ≡ beginning.tree → IfOk result (λ v. RunsBetween reading old commands (replies_in v) new) → IfOk result (λ v. (end : State Pair) × Runs reading beginning commands (replies_in v) end)
-answered (Ok v) replies_in commands old new empty between = from_beginning commands (replies_in v) old new empty between
-answered (Err e) replies_in commands old new empty between = tt
+  -- the same of what a call answers
+  pub answered : {V E : Type 0} (result : Result V E) (replies_in : V → List (PairReply A))
+      → IfOk result (λ v. RunsBetween reading old commands (replies_in v) new) → IfOk result (λ v. (end : State Pair) × Runs reading beginning commands (replies_in v) end)
+  answered (Ok v) replies_in between = from_beginning (replies_in v) between
+  answered (Err e) replies_in between = tt

@@ -216,7 +216,8 @@ fn two(mut arguments: Words<'_>) -> Result<(&[u8], &[u8]), FaultKind>
 
 /// The three arguments.
 fn three(mut arguments: Words<'_>) -> Result<(&[u8], &[u8], &[u8]), FaultKind>
-    ensures { MatchResult result (λ three. three_arguments arguments.entry ≡ Ok (three.0.now, three.1.now, three.2.now))
+    ensures { MatchResult result
+        (λ three. three_arguments arguments.entry ≡ Ok (three.0.now, three.1.now, three.2.now))
         (λ kind. three_arguments arguments.entry ≡ Err kind) }
 {
     match (

@@ -31,7 +31,9 @@ pub fn run<
 where
     T::Key: Drop,
     requires { (x y : T) → T.is_clone x y → y ≡ x }
-    ensures run { IfOk result (λ replies. RunsBetween (reading_by T.key_of T.Key.cmp P.Inx.most P.Gen.greatest P.index P.era P.Inx.number P.Gen.number)
+    ensures run { IfOk result (λ replies. RunsBetween
+        (reading_by T.key_of T.Key.cmp P.Inx.most P.Gen.greatest
+        P.index P.era P.Inx.number P.Gen.number)
         arena.old commands.items replies.items arena.new) }
     ensures err { OnErr result (arena.new ≡ arena.old) }
     ensures closure { closure.new ≡ closure.old }
@@ -54,7 +56,8 @@ where
     T::Key: Drop,
     requires { (x y : T) → T.is_clone x y → y ≡ x }
     ensures replies { (marks : Marks) → AreTrue marks arena.old.shape
-        → Replies (reading_by T.key_of T.Key.cmp P.Inx.most P.Gen.greatest P.index P.era P.Inx.number P.Gen.number)
+        → Replies (reading_by T.key_of T.Key.cmp P.Inx.most P.Gen.greatest
+        P.index P.era P.Inx.number P.Gen.number)
         (record { tree = arena.old; marks = marks }) command result arena.new }
     ensures lawful { IsSound P.Inx.most P.Gen.greatest arena.new.list }
     ensures sound { IsSoundTree arena.new }
@@ -75,7 +78,8 @@ where
     T::Key: Drop,
     requires { (x y : T) → T.is_clone x y → y ≡ x }
     ensures { (marks : Marks) → AreTrue marks arena.old.shape
-        → Replies (reading_by T.key_of T.Key.cmp P.Inx.most P.Gen.greatest P.index P.era P.Inx.number P.Gen.number)
+        → Replies (reading_by T.key_of T.Key.cmp P.Inx.most P.Gen.greatest
+        P.index P.era P.Inx.number P.Gen.number)
         (record { tree = arena.old; marks = marks }) command result arena.new }
 {
     match command {

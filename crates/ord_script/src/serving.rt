@@ -88,7 +88,8 @@ fn replies_to<A: Allocator + Copy>(
     alloc: A,
     commands: Vec<PairCommand, A>,
 ) -> Result<Vec<PairReply<A>, A>, AllocError>
-    ensures { IfOk result (λ replies. (end : State Pair) × Runs reading beginning commands.items replies.items end) }
+    ensures { IfOk result (λ replies. (end : State Pair)
+        × Runs reading beginning commands.items replies.items end) }
 {
     let mut arena: PairArena<A> = SimpleOrdArena::new(alloc);
     // no command searches by a closure

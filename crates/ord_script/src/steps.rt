@@ -15,7 +15,8 @@ pub fn insert<P: Ptr, T: SimpleOrdItem + Drop, A: Allocator>(
     arena: &mut SimpleOrdArena<P, T, A>,
     item: T,
 ) -> Reply<P, T, A>
-    ensures { Inserts T.key_of T.Key.cmp P.Inx.most (λ p. (P.index p, P.era p)) arena.old item result arena.new }
+    ensures { Inserts T.key_of T.Key.cmp P.Inx.most (λ p. (P.index p, P.era p))
+        arena.old item result arena.new }
 {
     match arena.insert(item) {
         Ok((p, before)) => {
@@ -60,7 +61,8 @@ pub fn remove_inx<P: Ptr, T: Drop, A: Allocator>(
     arena: &mut SimpleOrdArena<P, T, A>,
     i: P::Inx,
 ) -> Reply<P, T, A>
-    ensures { RemovesAt P.Gen.greatest (λ p. (P.index p, P.era p)) arena.old (P.Inx.number i) result arena.new }
+    ensures { RemovesAt P.Gen.greatest (λ p. (P.index p, P.era p))
+        arena.old (P.Inx.number i) result arena.new }
 {
     Reply::Removed(
         arena
@@ -82,7 +84,8 @@ pub fn invalidate<P: Ptr, T, A: Allocator>(
 /// `Command::Clear`
 pub fn clear<P: Ptr, T: Drop, A: Allocator>(arena: &mut SimpleOrdArena<P, T, A>) -> Reply<P, T, A>
     ensures { Changes P.Gen.greatest arena.old
-        (record { list = cleared P.Gen.greatest arena.old.list; shape = missing }) result arena.new }
+        (record { list = cleared P.Gen.greatest arena.old.list; shape = missing })
+        result arena.new }
 {
     Reply::Changed(arena.clear())
 }
@@ -91,8 +94,8 @@ pub fn clear<P: Ptr, T: Drop, A: Allocator>(arena: &mut SimpleOrdArena<P, T, A>)
 pub fn inc_generation<P: Ptr, T, A: Allocator>(
     arena: &mut SimpleOrdArena<P, T, A>,
 ) -> Reply<P, T, A>
-    ensures { Changes P.Gen.greatest arena.old (record arena.old { list = raised P.Gen.greatest arena.old.list })
-        result arena.new }
+    ensures { Changes P.Gen.greatest arena.old
+        (record arena.old { list = raised P.Gen.greatest arena.old.list }) result arena.new }
 {
     Reply::Changed(arena.inc_generation())
 }
@@ -103,7 +106,8 @@ pub fn find<P: Ptr, T: SimpleOrdItem, A: Allocator>(
     key: &T::Key,
 ) -> Reply<P, T, A>
     ensures { (marks : Marks) → AreTrue marks arena.now.shape
-        → Finds T.key_of T.Key.cmp (λ p. (P.index p, P.era p)) (record { tree = arena.now; marks = marks }) key.now result }
+        → Finds T.key_of T.Key.cmp (λ p. (P.index p, P.era p))
+        (record { tree = arena.now; marks = marks }) key.now result }
 {
     let (found, visits) = arena.find_key_counted(key);
     Reply::Found(found, visits.count())
@@ -207,8 +211,9 @@ fn entries<P: Ptr, T: Clone, A: Allocator>(
     arena: &SimpleOrdArena<P, T, A>,
 ) -> Result<Vec<(P, T), A>, AllocError>
     requires { (x y : T) → T.is_clone x y → y ≡ x }
-    ensures pairs { IfOk result (λ pairs. map (λ pair. record { index = P.index pair.0; generation = P.era pair.0; item = pair.1 }) pairs.items
-        ≡ arena.now.list.entries) }
+    ensures pairs { IfOk result (λ pairs. map
+        (λ pair. record { index = P.index pair.0; generation = P.era pair.0; item = pair.1 })
+        pairs.items ≡ arena.now.list.entries) }
     ensures refused { OnErr result (0 < length arena.now.list.entries) }
 {
     let mut pairs = Vec::with_capacity(alloc, arena.len())?;
@@ -223,7 +228,8 @@ fn ranks_of<P: Ptr, T, A: Allocator>(
     alloc: A,
     arena: &SimpleOrdArena<P, T, A>,
 ) -> Result<Vec<u8, A>, AllocError>
-    ensures ranks { IfOk result (λ ranks. HaveRanks arena.now.shape arena.now.list.entries ranks.items) }
+    ensures ranks { IfOk result
+        (λ ranks. HaveRanks arena.now.shape arena.now.list.entries ranks.items) }
     ensures refused { OnErr result (0 < length arena.now.list.entries) }
 {
     let mut ranks = Vec::with_capacity(alloc, arena.len())?;

@@ -154,7 +154,8 @@ fn push_entry_taken<A: Allocator>(
     item: Pair,
     overflow: bool,
 ) -> Result<(), AllocError>
-    ensures { Adds result text.old text.new (taken_line (pointer_text p ++ codes " " ++ pair_text item) overflow) }
+    ensures { Adds result text.old text.new
+        (taken_line (pointer_text p ++ codes " " ++ pair_text item) overflow) }
 {
     let pointer = ShownPointer(p);
     let pair = ShownPair(item);
