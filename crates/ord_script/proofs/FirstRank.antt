@@ -35,13 +35,14 @@ only_rank (node (node a b c d) j m r) i k listed ranked has =
     absurd (omega (arith, ap length listed, length-append (walk a ++ b ∷ walk d) (j ∷ walk r), length-append (walk a) (b ∷ walk d)))
 only_rank (node missing j m (node a b c d)) i k listed ranked has = absurd (omega (arith, ap length listed, length-append (walk a) (b ∷ walk d)))
 
-module _ {T : Type 0} where
-  -- the list after an insertion into a gap where there was no entry
-  first_entries : (c : Chain T) (place : Entry T → List (Entry T)) (item : T) (i : ℕ) → ((e : Entry T) → place e ≡ e ∷ []) → next_index c ≡ Some i → (e : Entry T) × ((inserted c place item).entries ≡ e ∷ [])
-  first_entries c place item i alone next =
+-- the list after an insertion into a gap where there was no entry
+module _ {T : Type 0} (c : Chain T) (place : Entry T → List (Entry T)) (item : T) (alone : (e : Entry T) → place e ≡ e ∷ []) where
+  first_entries : (i : ℕ) → next_index c ≡ Some i → (e : Entry T) × ((inserted c place item).entries ≡ e ∷ [])
+  first_entries i next =
       (elim c.vacant as (λ vacant. next_index (record c { vacant = vacant }) ≡ Some i → (e : Entry T) × ((inserted (record c { vacant = vacant }) place item).entries ≡ e ∷ []))
       [ [] ↦ λ none. cc | (j ∷ rest) ↦ λ _. (record { index = j; generation = c.generation; item = item }, alone _) ]) next
 
+module _ {T : Type 0} where
   -- the ranks of no entry, and of a single one
   no_ranks : (shape : Shape) (entries : List (Entry T)) (ranks : List ℕ) → entries ≡ [] → HaveRanks shape entries ranks → ranks ≡ []
   no_ranks shape [] [] none have = refl
@@ -65,47 +66,46 @@ module _ {T K : Type 0} (key : T → K) (cmp : K → K → Ordering) (most : ℕ
   new_alone old new item p none inserts =
       let gap = inserts.gap in
       let parts = no_parts gap.front gap.back (sym none ∙ gap.cut) in
-      let first = first_entries (with_room most old.list) (with_between gap) item p.0 (λ e. alone gap.front gap.back e parts) inserts.inserted.next in
+      let first = first_entries (with_room most old.list) (with_between gap) item (λ e. alone gap.front gap.back e parts) p.0 inserts.inserted.next in
       (first.0, ap (λ c. c.entries) inserts.inserted.after ∙ first.1)
 
-module _ {P T I G A K : Type 0} (r : Reading P T I G K) where
-  -- the ranks after it
-  ranks_of_new : (old new : Tree T) (item : T) (p : P) (second : Reply P T A I G) → old.list.entries ≡ [] → InsertsNew r.key r.cmp r.most old item (r.pointer p) new → IsSoundTree new → Ranked new second → AreFirstReplies (Inserted (New p) None ∷ second ∷ [])
-  ranks_of_new old new item p (Ranks ranks) none inserts sound ranked =
+module _ {P T I G A K : Type 0} (r : Reading P T I G K) (old new : Tree T) (none : old.list.entries ≡ []) where
+  -- the ranks after a new entry
+  ranks_of_new : (item : T) (p : P) (second : Reply P T A I G) → InsertsNew r.key r.cmp r.most old item (r.pointer p) new → IsSoundTree new → Ranked new second → AreFirstReplies (Inserted (New p) None ∷ second ∷ [])
+  ranks_of_new item p (Ranks ranks) inserts sound ranked =
       let first = new_alone r.key r.cmp r.most old new item (r.pointer p) none inserts in
       one_rank new.shape first.0 ranks.items (sound.listed ∙ ap (map (λ e. e.index)) first.1) sound.ranked (subst (λ (es : List (Entry T)). HaveRanks new.shape es ranks.items) first.1 ranked)
-  ranks_of_new old new item p (Refused AllocError) none inserts sound ranked = tt
-  ranks_of_new old new item p (Refused BeyondMaxCapacity) none inserts sound ranked = absurd ranked
-  ranks_of_new old new item p (Refused NotWithinCapacity) none inserts sound ranked = absurd ranked
-  ranks_of_new old new item p (Refused FailedOrdRequirement) none inserts sound ranked = absurd ranked
-  ranks_of_new old new item p second none inserts sound ranked = absurd ranked
+  ranks_of_new item p (Refused AllocError) inserts sound ranked = tt
+  ranks_of_new item p (Refused BeyondMaxCapacity) inserts sound ranked = absurd ranked
+  ranks_of_new item p (Refused NotWithinCapacity) inserts sound ranked = absurd ranked
+  ranks_of_new item p (Refused FailedOrdRequirement) inserts sound ranked = absurd ranked
+  ranks_of_new item p second inserts sound ranked = absurd ranked
 
   -- the ranks after a refusal
-  ranks_of_none : (old new : Tree T) (refusal : OrdInsertionError) (second : Reply P T A I G) → old.list.entries ≡ [] → new ≡ old → Ranked new second → AreFirstReplies (Refused refusal ∷ second ∷ [])
-  ranks_of_none old new refusal (Ranks ranks) none same ranked = no_ranks new.shape new.list.entries ranks.items (ap (λ t. t.list.entries) same ∙ none) ranked
-  ranks_of_none old new refusal (Refused AllocError) none same ranked = absurd (omega (arith, ranked, ap length (ap (λ t. t.list.entries) same ∙ none)))
-  ranks_of_none old new refusal (Refused BeyondMaxCapacity) none same ranked = absurd ranked
-  ranks_of_none old new refusal (Refused NotWithinCapacity) none same ranked = absurd ranked
-  ranks_of_none old new refusal (Refused FailedOrdRequirement) none same ranked = absurd ranked
-  ranks_of_none old new refusal second none same ranked = absurd ranked
+  ranks_of_none : (refusal : OrdInsertionError) (second : Reply P T A I G) → new ≡ old → Ranked new second → AreFirstReplies (Refused refusal ∷ second ∷ [])
+  ranks_of_none refusal (Ranks ranks) same ranked = no_ranks new.shape new.list.entries ranks.items (ap (λ t. t.list.entries) same ∙ none) ranked
+  ranks_of_none refusal (Refused AllocError) same ranked = absurd (omega (arith, ranked, ap length (ap (λ t. t.list.entries) same ∙ none)))
+  ranks_of_none refusal (Refused BeyondMaxCapacity) same ranked = absurd ranked
+  ranks_of_none refusal (Refused NotWithinCapacity) same ranked = absurd ranked
+  ranks_of_none refusal (Refused FailedOrdRequirement) same ranked = absurd ranked
+  ranks_of_none refusal second same ranked = absurd ranked
 
   -- both replies, from the first
-  first_and_ranks : (old new : Tree T) (item : T) (first second : Reply P T A I G) → old.list.entries ≡ [] → Inserts r.key r.cmp r.most r.pointer old item first new → IsSoundTree new → Ranked new second → AreFirstReplies (first ∷ second ∷ [])
-  first_and_ranks old new item (Inserted (New p) None) second none inserts sound ranked = ranks_of_new old new item p second none inserts sound ranked
-  first_and_ranks old new item (Inserted (Replacing p) (Some before)) second none inserts sound ranked =
-      absurd (omega (arith, inserts.met.within.1, ap length none))
-  first_and_ranks old new item (Refused BeyondMaxCapacity) second none inserts sound ranked = ranks_of_none old new BeyondMaxCapacity second none inserts.after ranked
-  first_and_ranks old new item (Refused AllocError) second none inserts sound ranked = ranks_of_none old new AllocError second none inserts.after ranked
-  first_and_ranks old new item (Inserted (New p) (Some before)) second none inserts sound ranked = absurd inserts
-  first_and_ranks old new item (Inserted (Replacing p) None) second none inserts sound ranked = absurd inserts
-  first_and_ranks old new item (Refused FailedOrdRequirement) second none inserts sound ranked = absurd inserts
-  first_and_ranks old new item (Refused NotWithinCapacity) second none inserts sound ranked = absurd inserts
-  first_and_ranks old new item first second none inserts sound ranked = absurd inserts
+  first_and_ranks : (item : T) (first second : Reply P T A I G) → Inserts r.key r.cmp r.most r.pointer old item first new → IsSoundTree new → Ranked new second → AreFirstReplies (first ∷ second ∷ [])
+  first_and_ranks item (Inserted (New p) None) second inserts sound ranked = ranks_of_new item p second inserts sound ranked
+  first_and_ranks item (Inserted (Replacing p) (Some before)) second inserts sound ranked = absurd (omega (arith, inserts.met.within.1, ap length none))
+  first_and_ranks item (Refused BeyondMaxCapacity) second inserts sound ranked = ranks_of_none BeyondMaxCapacity second inserts.after ranked
+  first_and_ranks item (Refused AllocError) second inserts sound ranked = ranks_of_none AllocError second inserts.after ranked
+  first_and_ranks item (Inserted (New p) (Some before)) second inserts sound ranked = absurd inserts
+  first_and_ranks item (Inserted (Replacing p) None) second inserts sound ranked = absurd inserts
+  first_and_ranks item (Refused FailedOrdRequirement) second inserts sound ranked = absurd inserts
+  first_and_ranks item (Refused NotWithinCapacity) second inserts sound ranked = absurd inserts
+  first_and_ranks item first second inserts sound ranked = absurd inserts
 
 -- a run over both commands
 pub first_rank : (P T I G A K : Type 0) → FirstRankLaw P T I G A K
 first_rank P T I G A K r old new item [] none run = absurd run
 first_rank P T I G A K r old new item (first ∷ []) none run = absurd run.2
 first_rank P T I G A K r old new item (first ∷ second ∷ []) none run =
-    first_and_ranks r old.tree run.0.tree item first second none run.1.replies run.1.sound run.2.1.replies.0
+    first_and_ranks r old.tree run.0.tree none item first second run.1.replies run.1.sound run.2.1.replies.0
 first_rank P T I G A K r old new item (first ∷ second ∷ third ∷ replies) none run = absurd run.2.2

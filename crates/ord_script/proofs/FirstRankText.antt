@@ -7,10 +7,11 @@ use Rattle.triple_ord.specs.declared.error.OrdInsertionError.TheVariants.{Failed
 use Rattle.ord_tree.specs.Tree.{Tree}
 use Rattle.ord_script.specs.declared.command.Command.TheVariants as commands
 use Rattle.ord_script.specs.declared.reply.Reply.TheVariants.{Inserted, Refused, Ranks}
+use Rattle.ord_script.specs.declared.word.Word.{Word}
 use Rattle.ord_script.specs.declared.word.Word.TheVariants as words
 use Rattle.ord_script.specs.Commands.{insert_of, pair_in, alone}
 use Rattle.ord_script.specs.Machine.{State, Inserts, Runs}
-use Rattle.ord_script.specs.Pairs.{Pair, Pointer, PairReply, reading, beginning}
+use Rattle.ord_script.specs.Pairs.{Pair, Pointer, PairCommand, PairReply, reading, beginning}
 use Rattle.ord_script.specs.Script.{Script, script_of}
 use Rattle.ord_script.specs.Service.{Answers}
 use Rattle.ord_script.specs.Text.{reply_lines}
@@ -29,9 +30,20 @@ first_pointer item p new inserts =
     let index : 1 ≡ p.0 = cc in
     (sym index, inserts.inserted.generation)
 
+-- their words, and the commands
+abbrev both_words : List Word
+both_words = words.Insert ∷ words.Ranks ∷ []
+
+abbrev both_commands : List PairCommand
+both_commands = commands.Insert (pos 5, 1) ∷ commands.Ranks ∷ []
+
 module _ {A : Type 0} where
+  -- what the insertion does first
+  abbrev InsertsFirst : Pair → PairReply A → Tree Pair → Type 0
+  InsertsFirst item reply new = Inserts reading.key reading.cmp reading.most reading.pointer beginning.tree item reply new
+
   -- both replies, as lines
-  first_lines : (item : Pair) (first second : PairReply A) (new : Tree Pair) → Inserts reading.key reading.cmp reading.most reading.pointer beginning.tree item first new → AreFirstReplies (first ∷ second ∷ []) → Contains first_answers (reply_lines (words.Insert ∷ words.Ranks ∷ []) (first ∷ second ∷ []))
+  first_lines : (item : Pair) (first second : PairReply A) (new : Tree Pair) → InsertsFirst item first new → AreFirstReplies (first ∷ second ∷ []) → Contains first_answers (reply_lines both_words (first ∷ second ∷ []))
   first_lines item (Inserted (New p) None) (Ranks ranks) new inserts replies =
       let is = first_pointer item p new inserts in
       (0, omega arith, sym (rw (is.0, is.1, replies, decimal_digit 1 (omega arith), decimal_digit 2 (omega arith)) refl))
@@ -45,14 +57,14 @@ module _ {A : Type 0} where
   first_lines item first second new inserts replies = absurd replies
 
   -- all replies
-  answer_lines : (replies : List (PairReply A)) (end : State Pair) → Runs reading beginning (commands.Insert (pos 5, 1) ∷ commands.Ranks ∷ []) replies end → Contains first_answers (reply_lines (words.Insert ∷ words.Ranks ∷ []) replies)
+  answer_lines : (replies : List (PairReply A)) (end : State Pair) → Runs reading beginning both_commands replies end → Contains first_answers (reply_lines both_words replies)
   answer_lines [] end run = absurd run
   answer_lines (first ∷ []) end run = absurd run.2
   answer_lines (first ∷ second ∷ []) end run =
       first_lines (pos 5, 1) first second run.0.tree run.1.replies (first_rank _ _ _ _ _ _ reading beginning end (pos 5, 1) (first ∷ second ∷ []) refl run)
   answer_lines (first ∷ second ∷ third ∷ replies) end run = absurd run.2.2
 
-  answer_text : (text : List ℕ) → Answers A (record { commands = commands.Insert (pos 5, 1) ∷ commands.Ranks ∷ []; fault = None }) text → Contains first_answers text
+  answer_text : (text : List ℕ) → Answers A (record { commands = both_commands; fault = None }) text → Contains first_answers text
   answer_text text answers =
       subst (λ (t : List ℕ). Contains first_answers t) (sym (answers.lines ∙ append-nil _)) (answer_lines answers.replies answers.end answers.run)
 

@@ -11,7 +11,7 @@ use Rattle.std.proofs.lemmas.Bool.{lt-ltb, le-leb, ne_eqb}
 use Rattle.std.proofs.lemmas.Fmt.{decimal_nonempty, digits_decimal, digits_value-decimal}
 use Rattle.std.proofs.lemmas.Int.{ints}
 use Rattle.std.proofs.lemmas.Str.Parse.{IsNumeralModel, tells_all_ascii_digits, numerals_by_value}
-use Rattle.ord_script.specs.Numbers.{number_up_to, key_of, pointer_of, is_point}
+use Rattle.ord_script.specs.Numbers.{number_up_to, key_of, value_of, index_of, pointer_of, is_point}
 use Rattle.ord_script.specs.Pairs.{Pointer}
 use Rattle.ord_script.specs.Spelling as spelling
 use Rattle.ord_script.specs.Text.{pointer_text}
@@ -34,6 +34,13 @@ decimal_digits n fits = digits_decimal own n fits
 pub number_up_to-decimal : (greatest n : ℕ) → n ≤ greatest → n < 2 ^ 64 → number_up_to greatest (decimal n) ≡ Some n
 number_up_to-decimal greatest n within fits =
     rw (digits_value-decimal own n fits, decimal_digits n fits, lt-ltb 0 (length (decimal n)) (decimal_nonempty n fits), le-leb n greatest within) refl
+
+-- an index, and a value or a generation
+pub index_of-text : (i : ℕ) → i < 2 ^ 32 → index_of (decimal i) ≡ Some i
+index_of-text i range = number_up_to-decimal (2 ^ 32 - 1) i (omega (arith, range)) (omega (arith, range))
+
+pub value_of-text : (v : ℕ) → v < 2 ^ 64 → value_of (decimal v) ≡ Some v
+value_of-text v range = number_up_to-decimal (2 ^ 64 - 1) v (omega (arith, range)) range
 
 -- a key without a sign
 key_of_digits : (word : List ℕ) → 0 < length word → all_ascii_digits word ≡ true → key_of word ≡ option_map pos (number_up_to (2 ^ 63 - 1) word)
@@ -71,5 +78,6 @@ pointer_of-text p range =
     let generation = decimal p.1 in
     let dark = digits_all (λ b. is_point b ≡ false) (λ b digit. ne_eqb b 46 (λ same. omega (arith, digit.0, same))) index (decimal_digits p.0 (omega (arith, range.0))) in
     let joined : pointer_text p ≡ index ++ 46 ∷ generation = append_assoc index (46 ∷ []) generation in
-    ap pointer_of joined
-    ∙ rw (before_first-at is_point index 46 generation dark refl, after_first-at is_point index 46 generation dark refl, number_up_to-decimal (2 ^ 32 - 1) p.0 (omega (arith, range.0)) (omega (arith, range.0)), number_up_to-decimal (2 ^ 64 - 1) p.1 (omega (arith, range.1)) range.1) refl
+    let before = before_first-at is_point index 46 generation dark refl in
+    let after = after_first-at is_point index 46 generation dark refl in
+    ap pointer_of joined ∙ rw (before, after, index_of-text p.0 range.0, value_of-text p.1 range.1) refl

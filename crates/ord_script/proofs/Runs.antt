@@ -21,37 +21,39 @@ module _ {P T I G A K : Type 0} (r : Reading P T I G K) where
   RunsBetween-none t (q ∷ replies) none = cc
 
 -- a run goes on by one step
-module _ {P T I G A K : Type 0} (r : Reading P T I G K) (command : Command P T I G K) (reply : Reply P T A I G) where
-  Runs-more : (old mid new : State T) (commands : List (Command P T I G K)) (replies : List (Reply P T A I G))
-      → Runs r old commands replies mid → Step r mid command reply new → Runs r old (commands ++ command ∷ []) (replies ++ reply ∷ []) new
-  Runs-more old mid new [] [] run step = (new, subst (λ (s : State T). Step r s command reply new) run step, refl)
-  Runs-more old mid new [] (q ∷ replies) run step = absurd run
-  Runs-more old mid new (c ∷ commands) [] run step = absurd run
-  Runs-more old mid new (c ∷ commands) (q ∷ replies) run step = (run.0, run.1, Runs-more run.0 mid new commands replies run.2 step)
+module _ {P T I G A K : Type 0} (r : Reading P T I G K) (command : Command P T I G K) (reply : Reply P T A I G) (mid new : State T) (step : Step r mid command reply new) where
+  Runs-more : (old : State T) (commands : List (Command P T I G K)) (replies : List (Reply P T A I G)) → Runs r old commands replies mid → Runs r old (commands ++ command ∷ []) (replies ++ reply ∷ []) new
+  Runs-more old [] [] run = (new, subst (λ (s : State T). Step r s command reply new) run step, refl)
+  Runs-more old [] (q ∷ replies) run = absurd run
+  Runs-more old (c ∷ commands) [] run = absurd run
+  Runs-more old (c ∷ commands) (q ∷ replies) run = (run.0, run.1, Runs-more run.0 commands replies run.2)
 
-  -- and so does one between trees
-  pub RunsBetween-more : (old mid new : Tree T) (commands : List (Command P T I G K)) (replies : List (Reply P T A I G))
-      → RunsBetween r old commands replies mid → StepsBetween r mid command reply new → RunsBetween r old (commands ++ command ∷ []) (replies ++ reply ∷ []) new
-  RunsBetween-more old mid new commands replies so_far step marks holds =
-      let run = so_far marks holds in
-      let begins : State T = record { tree = mid; marks = run.0 } in
-      let ends : State T = record { tree = new; marks = marks_after reply new run.0 } in
-      let replies_now = step.replies run.0 run.1 in (
-        ends.marks,
-        AreTrue-after mid new run.0 step.sound run.1 r command reply replies_now,
-        Runs-more (record { tree = old; marks = marks }) begins ends commands replies run.2
-        (record { replies = replies_now; marks = refl; lawful = step.lawful; sound = step.sound }),
+-- and so does one between trees
+module _ {P T I G A K : Type 0} (r : Reading P T I G K) (command : Command P T I G K) (reply : Reply P T A I G) (mid new : Tree T) (step : StepsBetween r mid command reply new) where
+  -- a step between the states that the marks make of the trees
+  step_from : (marks : Marks) → AreTrue marks mid.shape → Step r (record { tree = mid; marks = marks }) command reply (record { tree = new; marks = marks_after reply new marks })
+  step_from marks holds = record { replies = step.replies marks holds; marks = refl; lawful = step.lawful; sound = step.sound }
+
+  pub RunsBetween-more : (old : Tree T) (commands : List (Command P T I G K)) (replies : List (Reply P T A I G)) → RunsBetween r old commands replies mid → RunsBetween r old (commands ++ command ∷ []) (replies ++ reply ∷ []) new
+  RunsBetween-more old commands replies so_far marks holds =
+      let run = so_far marks holds in (
+        marks_after reply new run.0,
+        AreTrue-after mid new run.0 step.sound run.1 r command reply (step.replies run.0 run.1),
+        Runs-more r command reply _ _ (step_from run.0 run.1) (record { tree = old; marks = marks }) commands replies run.2,
       )
 
 -- a run of a script, from where it begins
 module _ {A : Type 0} (commands : List PairCommand) (old new : Tree Pair) (empty : old ≡ beginning.tree) where
-  from_beginning : (replies : List (PairReply A)) → RunsBetween reading old commands replies new → (end : State Pair) × Runs reading beginning commands replies end
+  -- these are replies of a run over the commands
+  abbrev IsRun : List (PairReply A) → Type 0
+  IsRun replies = (end : State Pair) × Runs reading beginning commands replies end
+
+  from_beginning : (replies : List (PairReply A)) → RunsBetween reading old commands replies new → IsRun replies
   from_beginning replies between =
       let run = subst (λ (t : Tree Pair). RunsBetween reading t commands replies new) empty between beginning.marks (AreTrue-missing beginning.marks) in
       (record { tree = new; marks = run.0 }, run.2)
 
   -- the same of what a call answers
-  pub answered : {V E : Type 0} (result : Result V E) (replies_in : V → List (PairReply A))
-      → IfOk result (λ v. RunsBetween reading old commands (replies_in v) new) → IfOk result (λ v. (end : State Pair) × Runs reading beginning commands (replies_in v) end)
+  pub answered : {V E : Type 0} (result : Result V E) (replies_in : V → List (PairReply A)) → IfOk result (λ v. RunsBetween reading old commands (replies_in v) new) → IfOk result (λ v. IsRun (replies_in v))
   answered (Ok v) replies_in between = from_beginning (replies_in v) between
   answered (Err e) replies_in between = tt

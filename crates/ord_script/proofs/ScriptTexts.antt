@@ -76,7 +76,10 @@ kept [] words some = absurd (omega (arith, some))
 kept (b ∷ word) words some = rw eqb-suc-zero refl
 
 no_blank : (word : List ℕ) → IsWhole word → All (λ b. is_blank b ≡ false) word
-no_blank word whole = All-weaker (λ b. 32 < b) (λ b. is_blank b ≡ false) (λ b dark. rw (ne_eqb b 32 (λ same. omega (arith, dark, same)), ne_eqb b 9 (λ same. omega (arith, dark, same))) refl) word whole.dark
+no_blank word whole = All-weaker (λ b. 32 < b) (λ b. is_blank b ≡ false) other word whole.dark
+  where
+    other : (b : ℕ) → 32 < b → is_blank b ≡ false
+    other b dark = rw (ne_eqb b 32 (λ same. omega (arith, dark, same)), ne_eqb b 9 (λ same. omega (arith, dark, same))) refl
 
 -- words that were joined by a space, cut again
 words_of-joined : (words : List (List ℕ)) → All IsWhole words → words_of (join_with_byte 32 words) ≡ words

@@ -1,13 +1,14 @@
 -- What a script says for a command, read: by the kinds of its arguments, and then for each command.
-use Rattle.std.proofs.Common.{◌≡◌, ℕ, ◌-◌, ◌^◌, ℤ, [], ◌∷◌, Some, Ok, ok_or, refl, ap, arith}
+use Rattle.std.proofs.Common.{◌≡◌, ℕ, ℤ, List, [], ◌∷◌, map, Some, Result, Ok, ok_or, refl, ap}
 use Rattle.std.specs.List.{AllByRecursion}
 use Rattle.std.proofs.lemmas.List.Elements.{recursion_from_All}
 use Rattle.ord_script.specs.declared.command.Command.TheVariants as commands
+use Rattle.ord_script.specs.declared.fault.FaultKind.{FaultKind}
 use Rattle.ord_script.specs.declared.fault.FaultKind.TheVariants.{BadNumber}
 use Rattle.ord_script.specs.Commands.{key_in, pointer_in, index_in, pair_in, insert_of, set_of, with_key, with_pointer, with_index, alone, word_text, word_of, said_by}
 use Rattle.ord_script.specs.Pairs.{Pair, Pointer, PairCommand}
 use Rattle.ord_script.specs.Spelling.{key, value, index, pointer, argument_text, IsInRange, saying_of, spelled, CanBeSaid}
-use Rattle.ord_script.proofs.NumberTexts.{key_of-text, pointer_of-text, number_up_to-decimal}
+use Rattle.ord_script.proofs.NumberTexts.{key_of-text, pointer_of-text, index_of-text, value_of-text}
 
 -- each kind of argument
 key_in-text : (k : ℤ) → IsInRange (key k) → key_in (argument_text (key k)) ≡ Ok k
@@ -17,18 +18,24 @@ pointer_in-text : (p : Pointer) → IsInRange (pointer p) → pointer_in (argume
 pointer_in-text p range = ap (λ read. ok_or read BadNumber) (pointer_of-text p range)
 
 index_in-text : (i : ℕ) → IsInRange (index i) → index_in (argument_text (index i)) ≡ Ok i
-index_in-text i range = ap (λ read. ok_or read BadNumber) (number_up_to-decimal (2 ^ 32 - 1) i (omega (arith, range)) (omega (arith, range)))
+index_in-text i range = ap (λ read. ok_or read BadNumber) (index_of-text i range)
 
 pair_in-text : (pair : Pair) → IsInRange (key pair.0) → IsInRange (value pair.1) → pair_in (argument_text (key pair.0)) (argument_text (value pair.1)) ≡ Ok pair
 unfolding pair_in
-pair_in-text pair keyed valued = rw (key_in-text pair.0 keyed, number_up_to-decimal (2 ^ 64 - 1) pair.1 (omega (arith, valued)) valued) refl
+pair_in-text pair keyed valued = rw (key_in-text pair.0 keyed, value_of-text pair.1 valued) refl
+
+-- a parser of arguments reads those that a script says for the command as this command
+abbrev IsReadBy : (List (List ℕ) → Result PairCommand FaultKind) → PairCommand → Type 0
+IsReadBy parse command =
+    let arguments = (saying_of command).arguments in
+    AllByRecursion IsInRange arguments → parse (map argument_text arguments) ≡ Ok command
 
 -- each kind of command
-insert_of-text : (pair : Pair) → AllByRecursion IsInRange (key pair.0 ∷ value pair.1 ∷ []) → insert_of (argument_text (key pair.0) ∷ argument_text (value pair.1) ∷ []) ≡ Ok (commands.Insert pair)
+insert_of-text : (pair : Pair) → IsReadBy insert_of (commands.Insert pair)
 unfolding insert_of
 insert_of-text pair range = rw (pair_in-text pair range.0 range.1.0) refl
 
-set_of-text : (p : Pointer) (pair : Pair) → AllByRecursion IsInRange (pointer p ∷ key pair.0 ∷ value pair.1 ∷ []) → set_of (argument_text (pointer p) ∷ argument_text (key pair.0) ∷ argument_text (value pair.1) ∷ []) ≡ Ok (commands.Set p pair)
+set_of-text : (p : Pointer) (pair : Pair) → IsReadBy set_of (commands.Set p pair)
 unfolding set_of
 set_of-text p pair range = rw (pointer_in-text p range.0, pair_in-text pair range.1.0 range.1.1.0) refl
 
