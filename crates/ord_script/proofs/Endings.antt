@@ -6,6 +6,7 @@ use Rattle.ord_script.specs.Script.{script_of}
 use Rattle.ord_script.specs.Service.{Answers, Ends}
 
 -- an answer of which a part was written
-pub Ends-part : {A : Type 0} (read bytes text written rest : List ℕ) → read ≡ bytes → length read ≤ limit → Answers A (script_of bytes) text → text ≡ written ++ rest → 0 < length rest → Ends A WriteFailed read written
-Ends-part {A} read bytes text written rest same short answer parts more =
-    (rest, more, subst (λ (t : List ℕ). Answers A (script_of read) t) parts (subst (λ (b : List ℕ). Answers A (script_of b) text) (sym same) answer), short)
+module _ {A : Type 0} (read bytes text written rest : List ℕ) (same : read ≡ bytes) (short : length read ≤ limit) (answer : Answers A (script_of bytes) text) where
+  pub Ends-part : text ≡ written ++ rest → 0 < length rest → Ends A WriteFailed read written
+  Ends-part parts more =
+      (rest, more, subst (λ (t : List ℕ). Answers A (script_of read) t) parts (subst (λ (b : List ℕ). Answers A (script_of b) text) (sym same) answer), short)

@@ -81,21 +81,30 @@ words_of_start (x ∷ xs) =
     (elim (is_blank x) as (λ b. is_blank x ≡ b → words_of (drop (cond (not (not b)) (1 + position_or_len (λ c. not (is_blank c)) xs) 0) (x ∷ xs)) ≡ words_of (x ∷ xs))
     [ true ↦ λ blank. rw (one-add, words_of_blank x xs blank) (words_of_start xs) | false ↦ λ _. refl ]) refl
 
+-- the parts that are words
+abbrev pub words_among : List (List ℕ) → List (List ℕ)
+words_among parts = filter (λ part. not (length part == 0)) parts
+
+-- a part that isn't empty is one
+pub words_among-cons : (part : List ℕ) (parts : List (List ℕ)) → 0 < length part → words_among (part ∷ parts) ≡ part ∷ words_among parts
+words_among-cons [] parts some = absurd (omega (arith, some))
+words_among-cons (x ∷ part) parts some = rw eqb-suc-zero refl
+
 -- the words that come after the first part
-words_after : (xs : List ℕ) → filter (λ word. not (length word == 0)) (parts_after is_blank xs) ≡ words_of (drop (position_or_len is_blank xs) xs)
+words_after : (xs : List ℕ) → words_among (parts_after is_blank xs) ≡ words_of (drop (position_or_len is_blank xs) xs)
 words_after [] = refl
 words_after (x ∷ xs) =
-    (elim (is_blank x) as (λ b. is_blank x ≡ b → filter (λ word. not (length word == 0)) (cond b (slice_split is_blank xs) (parts_after is_blank xs)) ≡ words_of (drop (cond (not b) (1 + position_or_len is_blank xs) 0) (x ∷ xs)))
+    let n : ℕ = position_or_len is_blank xs in
+    (elim (is_blank x) as (λ b. is_blank x ≡ b → words_among (cond b (slice_split is_blank xs) (parts_after is_blank xs)) ≡ words_of (drop (cond (not b) (1 + n) 0) (x ∷ xs)))
     [ true ↦ λ blank. sym (words_of_blank x xs blank) | false ↦ λ _. rw one-add (words_after xs) ]) refl
 
 -- and ends at the next blank
-words_of_cons : (x : ℕ) (xs : List ℕ) → is_blank x ≡ false → words_of (x ∷ xs) ≡ take (position_or_len is_blank (x ∷ xs)) (x ∷ xs) ∷ words_of (drop (position_or_len is_blank (x ∷ xs)) (x ∷ xs))
-words_of_cons x xs dark =
-    ap (filter (λ word. not (length word == 0))) (split_first is_blank (x ∷ xs))
-    ∙ kept ∙ ap (λ words. take (position_or_len is_blank (x ∷ xs)) (x ∷ xs) ∷ words) (words_after (x ∷ xs))
-  where
-    kept : filter (λ word. not (length word == 0)) (take (position_or_len is_blank (x ∷ xs)) (x ∷ xs) ∷ parts_after is_blank (x ∷ xs)) ≡ take (position_or_len is_blank (x ∷ xs)) (x ∷ xs) ∷ filter (λ word. not (length word == 0)) (parts_after is_blank (x ∷ xs))
-    kept = rw (dark, one-add, eqb-suc-zero) refl
+words_of_cons : (x : ℕ) (xs : List ℕ) (end : ℕ) → is_blank x ≡ false → end ≡ position_or_len is_blank (x ∷ xs) → words_of (x ∷ xs) ≡ take end (x ∷ xs) ∷ words_of (drop end (x ∷ xs))
+words_of_cons x xs end dark ends =
+    let parts = parts_after is_blank (x ∷ xs) in
+    let some : 0 < length (take (position_or_len is_blank (x ∷ xs)) (x ∷ xs)) = rw (dark, one-add) (omega arith) in
+    ap words_among (split_first is_blank (x ∷ xs))
+    ∙ rw ends (words_among-cons (take (position_or_len is_blank (x ∷ xs)) (x ∷ xs)) parts some ∙ ap (λ words. take (position_or_len is_blank (x ∷ xs)) (x ∷ xs) ∷ words) (words_after (x ∷ xs)))
 
 -- a line of blanks has no word
 pub words_none : (line : List ℕ) → None ≡ position (λ b. not (is_blank b)) line → words_of line ≡ []
@@ -106,16 +115,18 @@ not_not true h = h
 not_not false h = refl
 
 -- the first word, where it begins and where it ends
-words_split : (line : List ℕ) (start end : ℕ) → Some start ≡ position (λ b. not (is_blank b)) line → end ≡ position_or_len is_blank (drop start line) → words_of line ≡ take end (drop start line) ∷ words_of (drop end (drop start line))
-words_split line start end is ends =
-    let found = position_some (λ b. not (is_blank b)) line start is in
-    let stops = prefix_len_stops (λ b. not (not (is_blank b))) line 0 (omega (arith, found.0, found.1)) in
-    let dark : is_blank (get_or line start 0) ≡ false = subst (λ (n : ℕ). is_blank (get_or line n 0) ≡ false) found.0 (not_not _ stops) in
-    sym (words_of_start line) ∙ rw (found.0, ends, drop_more line start 0 found.1) (words_of_cons (get_or line start 0) (drop (start + 1) line) dark)
+module _ (line : List ℕ) (start end : ℕ) (starts : Some start ≡ position (λ b. not (is_blank b)) line) where
+  words_split : end ≡ position_or_len is_blank (drop start line) → words_of line ≡ take end (drop start line) ∷ words_of (drop end (drop start line))
+  words_split ends =
+      let found = position_some (λ b. not (is_blank b)) line start starts in
+      let stops = prefix_len_stops (λ b. not (not (is_blank b))) line 0 (omega (arith, found.0, found.1)) in
+      let dark : is_blank (get_or line start 0) ≡ false = subst (λ (n : ℕ). is_blank (get_or line n 0) ≡ false) found.0 (not_not _ stops) in
+      let first = drop_more line start 0 found.1 in
+      sym (words_of_start line) ∙ rw (found.0, first) (words_of_cons (get_or line start 0) (drop (start + 1) line) end dark (rw first at ends))
 
--- a word that ends at a blank
-pub words_some : (line : List ℕ) (start end : ℕ) → Some start ≡ position (λ b. not (is_blank b)) line → Some end ≡ position is_blank (drop start line) → words_of line ≡ take end (drop start line) ∷ words_of (drop end (drop start line))
-words_some line start end starts ends = words_split line start end starts (sym (position_some is_blank (drop start line) end ends).0)
+  -- a word that ends at a blank
+  pub words_some : Some end ≡ position is_blank (drop start line) → words_of line ≡ take end (drop start line) ∷ words_of (drop end (drop start line))
+  words_some ends = words_split (sym (position_some is_blank (drop start line) end ends).0)
 
 -- a word that ends with the line
 pub words_last : (line : List ℕ) (start : ℕ) → Some start ≡ position (λ b. not (is_blank b)) line → None ≡ position is_blank (drop start line) → words_of line ≡ drop start line ∷ []

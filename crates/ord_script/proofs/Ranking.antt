@@ -15,11 +15,13 @@ module _ {T : Type 0} where
   -- the next of a rest has one too
   pub link_next : (all done rest left : List (Entry T)) (e : Entry T) (i : ℕ) → done ++ rest ≡ all → rest ≡ e ∷ left → i ≡ e.index → IsSome (link_at all i)
   link_next all done rest left e i cut next is =
-      subst (λ (es : List (Entry T)). IsSome (link_at es i)) (ap (λ r. done ++ r) (sym next) ∙ cut) (subst (λ (k : ℕ). IsSome (link_at (done ++ e ∷ left) k)) (sym is) (link_there None None done left e))
+      let there = subst (λ (k : ℕ). IsSome (link_at (done ++ e ∷ left) k)) (sym is) (link_there None None done left e) in
+      subst (λ (es : List (Entry T)). IsSome (link_at es i)) (ap (λ r. done ++ r) (sym next) ∙ cut) there
 
-  -- one more rank
-  pub HaveRanks-more : (shape : Shape) (before : List (Entry T)) (ranks : List ℕ) (e : Entry T) (k : ℕ) → HaveRanks shape before ranks → HasRank shape e.index k → HaveRanks shape (before ++ e ∷ []) (ranks ++ k ∷ [])
-  HaveRanks-more shape [] [] e k ranked part = (part, tt)
-  HaveRanks-more shape [] (r ∷ ranks) e k ranked part = absurd ranked
-  HaveRanks-more shape (b ∷ before) [] e k ranked part = absurd ranked
-  HaveRanks-more shape (b ∷ before) (r ∷ ranks) e k ranked part = (ranked.0, HaveRanks-more shape before ranks e k ranked.1 part)
+-- one more rank
+module _ {T : Type 0} (shape : Shape) (e : Entry T) (k : ℕ) (has : HasRank shape e.index k) where
+  pub HaveRanks-more : (before : List (Entry T)) (ranks : List ℕ) → HaveRanks shape before ranks → HaveRanks shape (before ++ e ∷ []) (ranks ++ k ∷ [])
+  HaveRanks-more [] [] ranked = (has, tt)
+  HaveRanks-more [] (r ∷ ranks) ranked = absurd ranked
+  HaveRanks-more (b ∷ before) [] ranked = absurd ranked
+  HaveRanks-more (b ∷ before) (r ∷ ranks) ranked = (ranked.0, HaveRanks-more before ranks ranked.1)

@@ -1,5 +1,5 @@
 -- The lines of some commands, cut into lines and words again.
-use Rattle.std.proofs.Common.{◌≡◌, ℕ, ◌+◌, ◌-◌, ◌^◌, ◌<◌, ◌==◌, Bool, true, false, not, nat_lt, ◌&&◌, pos, negsuc, List, [], ◌∷◌, ◌++◌, length, get_or, filter, map, All, Some, None, Ok, decimal, suc, refl, ◌∙◌, ap, arith, append_assoc, length-append}
+use Rattle.std.proofs.Common.{◌≡◌, ℕ, ◌+◌, ◌-◌, ◌^◌, ◌<◌, ◌==◌, Bool, true, false, nat_lt, ◌&&◌, pos, negsuc, List, [], ◌∷◌, ◌++◌, length, get_or, map, All, Some, None, Ok, decimal, suc, refl, ◌∙◌, ap, arith, append_assoc, length-append}
 use Rattle.std.specs.List.{AllByRecursion, list_all, slice_split, join_with_byte}
 use Rattle.std.specs.Str.Lines.{lines, lines_of_parts, strip_carriage_return}
 use Rattle.std.proofs.lemmas.Bool.{ltb-true, ne_eqb}
@@ -8,14 +8,13 @@ use Rattle.std.proofs.lemmas.Int.{ints}
 use Rattle.std.proofs.lemmas.List.Elements.{All-from_recursion, recursion_from_All, All-nil, All-cons, All-head, All-tail, All-append, All-map, All-weaker, All-get_or}
 use Rattle.std.proofs.lemmas.List.Recursion.{and_at}
 use Rattle.std.proofs.lemmas.List.Splits.{slice_split_none, slice_split_at}
-use Rattle.std.proofs.Math.Dec.{eqb-suc-zero}
 use Rattle.ord_script.specs.declared.command.Command.TheVariants as commands
 use Rattle.ord_script.specs.Pairs.{PairCommand}
 use Rattle.ord_script.specs.Script.{is_blank, words_of, and_then, script_from, script_of}
 use Rattle.ord_script.specs.Commands.{said_by}
 use Rattle.ord_script.specs.Spelling.{Argument, key, value, index, pointer, argument_text, IsInRange, saying_of, spelled, CanBeSaid, script_text}
 use Rattle.ord_script.proofs.NumberTexts.{digits_all, decimal_digits}
-use Rattle.ord_script.proofs.Parts.{lines_onto}
+use Rattle.ord_script.proofs.Parts.{words_among, words_among-cons, lines_onto}
 use Rattle.ord_script.proofs.Spelled.{command_text}
 
 -- a word that isn't cut: it has a byte, and none of its bytes is a blank or ends a line
@@ -70,11 +69,6 @@ words_whole command sayable =
     All-cons IsWhole (saying_of command).word (map argument_text arguments) (word_whole command)
     (All-map IsWhole argument_text arguments (All-weaker IsInRange (λ a. IsWhole (argument_text a)) argument_whole arguments sayable))
 
--- a word that isn't empty is kept
-kept : (word : List ℕ) (words : List (List ℕ)) → 0 < length word → filter (λ w. not (length w == 0)) (word ∷ words) ≡ word ∷ filter (λ w. not (length w == 0)) words
-kept [] words some = absurd (omega (arith, some))
-kept (b ∷ word) words some = rw eqb-suc-zero refl
-
 no_blank : (word : List ℕ) → IsWhole word → All (λ b. is_blank b ≡ false) word
 no_blank word whole = All-weaker (λ b. 32 < b) (λ b. is_blank b ≡ false) other word whole.dark
   where
@@ -86,12 +80,12 @@ words_of-joined : (words : List (List ℕ)) → All IsWhole words → words_of (
 words_of-joined [] whole = refl
 words_of-joined (word ∷ []) whole =
     let first = All-head IsWhole word [] whole in
-    ap (filter (λ w. not (length w == 0))) (slice_split_none is_blank word (no_blank word first)) ∙ kept word [] first.some
+    ap words_among (slice_split_none is_blank word (no_blank word first)) ∙ words_among-cons word [] first.some
 words_of-joined (word ∷ next ∷ words) whole =
     let first = All-head IsWhole word (next ∷ words) whole in
     let rest = join_with_byte 32 (next ∷ words) in
-    ap (filter (λ w. not (length w == 0))) (slice_split_at is_blank word 32 rest (no_blank word first) refl)
-    ∙ kept word (slice_split is_blank rest) first.some ∙ ap (λ ws. word ∷ ws) (words_of-joined (next ∷ words) (All-tail IsWhole word (next ∷ words) whole))
+    ap words_among (slice_split_at is_blank word 32 rest (no_blank word first) refl)
+    ∙ words_among-cons word (slice_split is_blank rest) first.some ∙ ap (λ ws. word ∷ ws) (words_of-joined (next ∷ words) (All-tail IsWhole word (next ∷ words) whole))
 
 -- no byte of the line ends it
 joined_light : (words : List (List ℕ)) → All IsWhole words → All (λ b. 31 < b) (join_with_byte 32 words)

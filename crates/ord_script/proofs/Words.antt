@@ -5,5 +5,6 @@ use Rattle.ord_script.specs.declared.word.Word.{Word}
 use Rattle.ord_script.specs.Commands.{word_text, word_in}
 
 -- a word with another text is passed over
-pub word_in-drop : (words : List Word) (text : List ℕ) (i : ℕ) (default : Word) → i < length words → bytes_eq text (word_text (get_or words i default)) ≡ false → word_in (drop (i + 1) words) text ≡ word_in (drop i words) text
-word_in-drop words text i default within other = rw (drop_more words i default within) (rw other refl)
+module _ (words : List Word) (text : List ℕ) (i : ℕ) (default : Word) (within : i < length words) where
+  pub word_in-drop : bytes_eq text (word_text (get_or words i default)) ≡ false → word_in (drop (i + 1) words) text ≡ word_in (drop i words) text
+  word_in-drop other = rw (drop_more words i default within) (rw other refl)

@@ -17,7 +17,8 @@ no_digit greatest word bad =
 -- a number that is too great
 too_great : (greatest : ℕ) (word : List ℕ) → greatest < digits_value 10 word → None ≡ number_up_to greatest word
 too_great greatest word over =
-    rw (lt-leb (digits_value 10 word) greatest over) (elim (nat_lt 0 (length word) && all_ascii_digits word) as (λ good. None ≡ cond (good && false) (Some (digits_value 10 word)) None) [ true ↦ refl | false ↦ refl ])
+    rw (lt-leb (digits_value 10 word) greatest over)
+    (elim (nat_lt 0 (length word) && all_ascii_digits word) as (λ good. None ≡ cond (good && false) (Some (digits_value 10 word)) None) [ true ↦ refl | false ↦ refl ])
 
 pub returns-then-not-is_ascii_digit : goal.returns-then-not-is_ascii_digit
 returns-then-not-is_ascii_digit c =

@@ -20,7 +20,7 @@ loop-command-preserved g c =
     record {
       cut = cut_more _ _ _ _ _ c.loop-command.invariant.cut c.in-Some.ensures.steps.0;
       runs = rw items (RunsBetween-more _ _ _ _ _
-      (record { replies = c.step-reply.ensures.replies; lawful = c.step-reply.ensures.lawful; sound = c.step-reply.ensures.sound }) _ _ _ c.loop-command.invariant.runs);
+          (record { replies = c.step-reply.ensures.replies; lawful = c.step-reply.ensures.lawful; sound = c.step-reply.ensures.sound }) _ _ _ c.loop-command.invariant.runs);
       count = grind (arith, common_steps);
       room = grind (arith, common_steps);
     }

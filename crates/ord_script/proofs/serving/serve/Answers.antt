@@ -6,10 +6,12 @@ pub returns-clause-served : goal.returns-clause-served
 returns-clause-served g c =
     let input = c.in-Ok.ensures.bytes in
     let output = c.in-Err.ensures.bytes in
+    let same = input.input.0 ∙ sym c.deref.ensures.value in
+    let parts = sym c.as_bytes.ensures.value ∙ output.parts in
     record {
       read = input.taken;
       written = output.written;
       reads = input.consumes;
       writes = output.appends;
-      ends = Ends-part _ c.deref.result.now _ _ output.rest (input.input.0 ∙ sym c.deref.ensures.value) input.input.1 c.in-Ok-answer_to.ensures.text (sym c.as_bytes.ensures.value ∙ output.parts) output.whole;
+      ends = Ends-part _ c.deref.result.now _ _ output.rest same input.input.1 c.in-Ok-answer_to.ensures.text parts output.whole;
     }

@@ -1,4 +1,4 @@
-use Rattle.std.proofs.Common.{◌≡◌, [], ◌∷◌, ◌++◌, ◌∙◌, arith}
+use Rattle.std.proofs.Common.{◌≡◌, [], ◌∷◌, ◌++◌, arith}
 use Rattle.std.proofs.lemmas.Grind.{common_steps}
 use Rattle.ord_script.specs.Machine.{HasRank}
 use Rattle.ord_script.proofs.Lists.{cut_more}
@@ -8,7 +8,7 @@ use Rattle.ord_script.proofs.steps.ranks_of.Goals as goal
 pub unwrap-rank-requires : goal.unwrap-rank-requires
 unwrap-rank-requires g c =
     let so_far = c.loop-p.invariant in
-    c.rank_at.ensures.there ∙ link_next _ _ _ _ _ _ so_far.1 c.in-Some.ensures.steps c.inx.ensures
+    rw c.rank_at.ensures.there (link_next _ _ _ _ _ _ so_far.1 c.in-Some.ensures.steps c.inx.ensures)
 
 pub loop-p-preserved : goal.loop-p-preserved
 loop-p-preserved g c =
@@ -18,5 +18,5 @@ loop-p-preserved g c =
     rw c.inx.ensures at (rw c.unwrap-rank.ensures at c.rank_at.ensures.rank) in (
       so_far.0 ++ record { index = g.P.Ptr.index c.in-Some.p; generation = g.P.Ptr.era c.in-Some.p; item = c.in-Some.field-0-1.now } ∷ [],
       cut_more _ _ _ _ _ so_far.1 c.in-Some.ensures.steps,
-      rw items (HaveRanks-more _ _ _ _ _ so_far.2 rank),
+      rw items (HaveRanks-more _ _ _ rank _ _ so_far.2),
     )
