@@ -5,9 +5,9 @@ use Rattle.std.proofs.lemmas.List.Elements.{recursion_from_All}
 use Rattle.ord_script.specs.declared.command.Command.TheVariants as commands
 use Rattle.ord_script.specs.declared.fault.FaultKind.{FaultKind}
 use Rattle.ord_script.specs.declared.fault.FaultKind.TheVariants.{BadNumber}
-use Rattle.ord_script.specs.Commands.{key_in, pointer_in, index_in, pair_in, insert_of, set_of, with_key, with_pointer, with_index, alone, word_text, word_of, said_by}
+use Rattle.ord_script.specs.Commands.{key_in, pointer_in, index_in, pair_in, with_pair, with_pointer_and_pair, with_key, with_pointer, with_index, alone, word_text, word_of, said_by}
 use Rattle.ord_script.specs.Pairs.{Pair, Pointer, PairCommand}
-use Rattle.ord_script.specs.Spelling.{key, value, index, pointer, argument_text, IsInRange, saying_of, spelled, CanBeSaid}
+use Rattle.ord_script.specs.Spelling.{Argument, pair_arguments, key, value, index, pointer, argument_text, IsInRange, saying_of, spelled, CanBeSaid}
 use Rattle.ord_script.proofs.NumberTexts.{key_of-text, pointer_of-text, index_of-text, value_of-text}
 
 -- each kind of argument
@@ -24,41 +24,39 @@ pair_in-text : (pair : Pair) → IsInRange (key pair.0) → IsInRange (value pai
 unfolding pair_in
 pair_in-text pair keyed valued = rw (key_in-text pair.0 keyed, value_of-text pair.1 valued) refl
 
--- a parser of arguments reads those that a script says for the command as this command
-abbrev IsReadBy : (List (List ℕ) → Result PairCommand FaultKind) → PairCommand → Type 0
-IsReadBy parse command =
-    let arguments = (saying_of command).arguments in
-    AllByRecursion IsInRange arguments → parse (map argument_text arguments) ≡ Ok command
+-- a parser of arguments reads these as this command, where they are in their ranges
+abbrev ReadsAs : (List (List ℕ) → Result PairCommand FaultKind) → List Argument → PairCommand → Type 0
+ReadsAs parse arguments command = AllByRecursion IsInRange arguments → parse (map argument_text arguments) ≡ Ok command
 
--- each kind of command
-insert_of-text : (pair : Pair) → IsReadBy insert_of (commands.Insert pair)
-unfolding insert_of
-insert_of-text pair range = rw (pair_in-text pair range.0 range.1.0) refl
+-- each kind of arguments
+with_pair-text : (command : Pair → PairCommand) (pair : Pair) → ReadsAs (with_pair command) (pair_arguments pair) (command pair)
+unfolding with_pair
+with_pair-text command pair range = rw (pair_in-text pair range.0 range.1.0) refl
 
-set_of-text : (p : Pointer) (pair : Pair) → IsReadBy set_of (commands.Set p pair)
-unfolding set_of
-set_of-text p pair range = rw (pointer_in-text p range.0, pair_in-text pair range.1.0 range.1.1.0) refl
+with_pointer_and_pair-text : (command : Pointer → Pair → PairCommand) (p : Pointer) (pair : Pair) → ReadsAs (with_pointer_and_pair command) (pointer p ∷ pair_arguments pair) (command p pair)
+unfolding with_pointer_and_pair
+with_pointer_and_pair-text command p pair range = rw (pointer_in-text p range.0, pair_in-text pair range.1.0 range.1.1.0) refl
 
-with_key-text : (command : ℤ → PairCommand) (k : ℤ) → AllByRecursion IsInRange (key k ∷ []) → with_key command (argument_text (key k) ∷ []) ≡ Ok (command k)
+with_key-text : (command : ℤ → PairCommand) (k : ℤ) → ReadsAs (with_key command) (key k ∷ []) (command k)
 unfolding with_key
 with_key-text command k range = rw (key_in-text k range.0) refl
 
-with_pointer-text : (command : Pointer → PairCommand) (p : Pointer) → AllByRecursion IsInRange (pointer p ∷ []) → with_pointer command (argument_text (pointer p) ∷ []) ≡ Ok (command p)
+with_pointer-text : (command : Pointer → PairCommand) (p : Pointer) → ReadsAs (with_pointer command) (pointer p ∷ []) (command p)
 unfolding with_pointer
 with_pointer-text command p range = rw (pointer_in-text p range.0) refl
 
-with_index-text : (command : ℕ → PairCommand) (i : ℕ) → AllByRecursion IsInRange (index i ∷ []) → with_index command (argument_text (index i) ∷ []) ≡ Ok (command i)
+with_index-text : (command : ℕ → PairCommand) (i : ℕ) → ReadsAs (with_index command) (index i ∷ []) (command i)
 unfolding with_index
 with_index-text command i range = rw (index_in-text i range.0) refl
 
-alone-text : (command : PairCommand) → alone command [] ≡ Ok command
+alone-text : (command : PairCommand) → ReadsAs (alone command) [] command
 unfolding alone
-alone-text command = refl
+alone-text command range = refl
 
 -- each command
 said_by-spelled : (command : PairCommand) → AllByRecursion IsInRange (saying_of command).arguments → said_by (spelled command) ≡ Some (Ok command)
-said_by-spelled (commands.Insert pair) range = ap Some (insert_of-text pair range)
-said_by-spelled (commands.Set p pair) range = ap Some (set_of-text p pair range)
+said_by-spelled (commands.Insert pair) range = ap Some (with_pair-text commands.Insert pair range)
+said_by-spelled (commands.Set p pair) range = ap Some (with_pointer_and_pair-text commands.Set p pair range)
 said_by-spelled (commands.Remove p) range = ap Some (with_pointer-text commands.Remove p range)
 said_by-spelled (commands.RemoveInx i) range = ap Some (with_index-text commands.RemoveInx i range)
 said_by-spelled (commands.Invalidate p) range = ap Some (with_pointer-text commands.Invalidate p range)
@@ -66,7 +64,7 @@ said_by-spelled (commands.Find k) range = ap Some (with_key-text commands.Find k
 said_by-spelled (commands.Visits k) range = ap Some (with_key-text commands.Visits k range)
 said_by-spelled (commands.Get p) range = ap Some (with_pointer-text commands.Get p range)
 said_by-spelled (commands.Neighbours i) range = ap Some (with_index-text commands.Neighbours i range)
-said_by-spelled command range = ap Some (alone-text command)
+said_by-spelled command range = ap Some (alone-text command tt)
 
 pub command_text : (command : PairCommand) → CanBeSaid command → said_by (spelled command) ≡ Some (Ok command)
 command_text command sayable = said_by-spelled command (recursion_from_All IsInRange (saying_of command).arguments sayable)

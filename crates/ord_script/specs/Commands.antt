@@ -78,20 +78,19 @@ pair_in first second = do
   value ← ok_or (value_of second) BadNumber
   Ok (key, value)
 
--- insert K V
-unfoldable pub insert_of : List (List ℕ) → Result PairCommand FaultKind
-insert_of arguments = do
+-- a command with a pair, or with a pointer and a pair
+unfoldable pub with_pair : (Pair → PairCommand) → List (List ℕ) → Result PairCommand FaultKind
+with_pair command arguments = do
   two ← two_arguments arguments
   pair ← pair_in two.0 two.1
-  Ok (commands.Insert pair)
+  Ok (command pair)
 
--- set P K V
-unfoldable pub set_of : List (List ℕ) → Result PairCommand FaultKind
-set_of arguments = do
+unfoldable pub with_pointer_and_pair : (Pointer → Pair → PairCommand) → List (List ℕ) → Result PairCommand FaultKind
+with_pointer_and_pair command arguments = do
   three ← three_arguments arguments
   pointer ← pointer_in three.0
   pair ← pair_in three.1 three.2
-  Ok (commands.Set pointer pair)
+  Ok (command pointer pair)
 
 -- a command with a key, a pointer or an index, or without arguments
 unfoldable pub with_key : (ℤ → PairCommand) → List (List ℕ) → Result PairCommand FaultKind
@@ -119,8 +118,8 @@ alone command arguments = do
 
 -- the command that a word begins
 abbrev pub command_by : Word → List (List ℕ) → Result PairCommand FaultKind
-command_by words.Insert arguments = insert_of arguments
-command_by words.Set arguments = set_of arguments
+command_by words.Insert arguments = with_pair commands.Insert arguments
+command_by words.Set arguments = with_pointer_and_pair commands.Set arguments
 command_by words.Remove arguments = with_pointer commands.Remove arguments
 command_by words.RemoveInx arguments = with_index commands.RemoveInx arguments
 command_by words.Invalidate arguments = with_pointer commands.Invalidate arguments

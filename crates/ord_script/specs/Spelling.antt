@@ -3,7 +3,7 @@ use Rattle.std.specs.Prelude.{ℕ, ◌^◌, ◌<◌, ℤ, pos, neg_ℤ, ◌≤�
 use Rattle.std.specs.Fmt.{signed_decimal}
 use Rattle.std.specs.List.{join_with_byte}
 use Rattle.ord_script.specs.declared.command.Command.TheVariants as commands
-use Rattle.ord_script.specs.Pairs.{Pointer, PairCommand}
+use Rattle.ord_script.specs.Pairs.{Pair, Pointer, PairCommand}
 use Rattle.ord_script.specs.Text.{pointer_text}
 
 -- an argument of a command
@@ -32,10 +32,14 @@ pub record Saying : Type 0 where
   pub word : List ℕ
   pub arguments : List Argument
 
+-- a pair is a key and a value
+abbrev pub pair_arguments : Pair → List Argument
+pair_arguments pair = key pair.0 ∷ value pair.1 ∷ []
+
 -- what a script says for each command
 abbrev pub saying_of : PairCommand → Saying
-saying_of (commands.Insert pair) = record { word = codes "insert"; arguments = key pair.0 ∷ value pair.1 ∷ [] }
-saying_of (commands.Set p pair) = record { word = codes "set"; arguments = pointer p ∷ key pair.0 ∷ value pair.1 ∷ [] }
+saying_of (commands.Insert pair) = record { word = codes "insert"; arguments = pair_arguments pair }
+saying_of (commands.Set p pair) = record { word = codes "set"; arguments = pointer p ∷ pair_arguments pair }
 saying_of (commands.Remove p) = record { word = codes "remove"; arguments = pointer p ∷ [] }
 saying_of (commands.RemoveInx i) = record { word = codes "remove-index"; arguments = index i ∷ [] }
 saying_of (commands.Invalidate p) = record { word = codes "invalidate"; arguments = pointer p ∷ [] }

@@ -1,6 +1,6 @@
 // Reads the command that a line gives.
 ghost use Rattle.std.specs.Prelude.{◌≡◌, MatchResult};
-ghost use Rattle.ord_script.specs.Commands.{no_argument, one_argument, two_arguments, three_arguments, key_in, pointer_in, index_in, pair_in, insert_of, set_of, with_key, with_pointer, with_index, alone, said_by};
+ghost use Rattle.ord_script.specs.Commands.{no_argument, one_argument, two_arguments, three_arguments, key_in, pointer_in, index_in, pair_in, with_pair, with_pointer_and_pair, with_key, with_pointer, with_index, alone, said_by};
 ghost use Rattle.ord_script.specs.Commands as spec;
 ghost use Rattle.ord_script.specs.Script.{words_of};
 
@@ -52,9 +52,9 @@ fn command_of(first: &[u8], arguments: Words<'_>) -> Result<PairCommand, FaultKi
 }
 
 /// `insert K V`
-#[tactic(auto, unfolding(crate::specs::Commands::insert_of))]
+#[tactic(auto, unfolding(crate::specs::Commands::with_pair))]
 fn insert_of(arguments: Words<'_>) -> Result<PairCommand, FaultKind>
-    ensures { result ≡ insert_of arguments.entry }
+    ensures { result ≡ with_pair Command.Insert arguments.entry }
 {
     let (key, value) = two(arguments)?;
     let pair = pair_in(key, value)?;
@@ -62,9 +62,9 @@ fn insert_of(arguments: Words<'_>) -> Result<PairCommand, FaultKind>
 }
 
 /// `set P K V`
-#[tactic(auto, unfolding(crate::specs::Commands::set_of))]
+#[tactic(auto, unfolding(crate::specs::Commands::with_pointer_and_pair))]
 fn set_of(arguments: Words<'_>) -> Result<PairCommand, FaultKind>
-    ensures { result ≡ set_of arguments.entry }
+    ensures { result ≡ with_pointer_and_pair Command.Set arguments.entry }
 {
     let (pointer, key, value) = three(arguments)?;
     let pointer = pointer_in(pointer)?;

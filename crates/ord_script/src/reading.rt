@@ -32,7 +32,7 @@ impl From<AllocError> for ReadError {
     }
 }
 
-/// Reads all bytes up to the reader's end, and stops at the first one beyond the limit.
+/// Reads all bytes up to the reader's end, and stops at the first one beyond the limit, or at the first read that fails.
 pub fn read_all<R: Read, A: Allocator>(
     alloc: A,
     reader: &mut Watched<R>,
@@ -51,7 +51,7 @@ pub fn read_all<R: Read, A: Allocator>(
     Err(ReadError::TooLong)
 }
 
-/// Reads once, no more than one byte beyond the limit, and answers how many bytes came.
+/// Reads once, no more than one byte beyond the limit, and returns how many bytes came. A read that fails takes none.
 fn read_some<R: Read, A: Allocator>(
     reader: &mut Watched<R>,
     bytes: &mut Vec<u8, A>,

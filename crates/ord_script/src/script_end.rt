@@ -16,7 +16,7 @@ pub enum ScriptEnd {
     TooLong,
     /// There was no memory to read the input, or to build the answer. Nothing was written.
     Memory,
-    /// The reader answered an error. Nothing was written.
+    /// The reader answered an error, before a byte beyond the limit came. Nothing was written.
     ReadFailed,
     /// The writer answered an error, or took no byte. A beginning of the answer was written.
     WriteFailed,
