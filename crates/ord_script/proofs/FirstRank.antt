@@ -69,17 +69,17 @@ module _ {T K : Type 0} (key : T → K) (cmp : K → K → Ordering) (most : ℕ
       let first = first_entries (with_room most old.list) (with_between gap) item (λ e. alone gap.front gap.back e parts) p.0 inserts.inserted.next in
       (first.0, ap (λ c. c.entries) inserts.inserted.after ∙ first.1)
 
-module _ {P T I G A K : Type 0} (r : Reading P T I G K) (old new : Tree T) (none : old.list.entries ≡ []) where
+module _ {P T I G A K : Type 0} (r : Reading P T I G K) (old new : Tree T) (none : old.list.entries ≡ []) (sound : IsSoundTree new) where
   -- the ranks after a new entry
-  ranks_of_new : (item : T) (p : P) (second : Reply P T A I G) → InsertsNew r.key r.cmp r.most old item (r.pointer p) new → IsSoundTree new → Ranked new second → AreFirstReplies (Inserted (New p) None ∷ second ∷ [])
-  ranks_of_new item p (Ranks ranks) inserts sound ranked =
+  ranks_of_new : (item : T) (p : P) (second : Reply P T A I G) → InsertsNew r.key r.cmp r.most old item (r.pointer p) new → Ranked new second → AreFirstReplies (Inserted (New p) None ∷ second ∷ [])
+  ranks_of_new item p (Ranks ranks) inserts ranked =
       let first = new_alone r.key r.cmp r.most old new item (r.pointer p) none inserts in
       one_rank new.shape first.0 ranks.items (sound.listed ∙ ap (map (λ e. e.index)) first.1) sound.ranked (subst (λ (es : List (Entry T)). HaveRanks new.shape es ranks.items) first.1 ranked)
-  ranks_of_new item p (Refused AllocError) inserts sound ranked = tt
-  ranks_of_new item p (Refused BeyondMaxCapacity) inserts sound ranked = absurd ranked
-  ranks_of_new item p (Refused NotWithinCapacity) inserts sound ranked = absurd ranked
-  ranks_of_new item p (Refused FailedOrdRequirement) inserts sound ranked = absurd ranked
-  ranks_of_new item p second inserts sound ranked = absurd ranked
+  ranks_of_new item p (Refused AllocError) inserts ranked = tt
+  ranks_of_new item p (Refused BeyondMaxCapacity) inserts ranked = absurd ranked
+  ranks_of_new item p (Refused NotWithinCapacity) inserts ranked = absurd ranked
+  ranks_of_new item p (Refused FailedOrdRequirement) inserts ranked = absurd ranked
+  ranks_of_new item p second inserts ranked = absurd ranked
 
   -- the ranks after a refusal
   ranks_of_none : (refusal : OrdInsertionError) (second : Reply P T A I G) → new ≡ old → Ranked new second → AreFirstReplies (Refused refusal ∷ second ∷ [])
@@ -91,21 +91,21 @@ module _ {P T I G A K : Type 0} (r : Reading P T I G K) (old new : Tree T) (none
   ranks_of_none refusal second same ranked = absurd ranked
 
   -- both replies, from the first
-  first_and_ranks : (item : T) (first second : Reply P T A I G) → Inserts r.key r.cmp r.most r.pointer old item first new → IsSoundTree new → Ranked new second → AreFirstReplies (first ∷ second ∷ [])
-  first_and_ranks item (Inserted (New p) None) second inserts sound ranked = ranks_of_new item p second inserts sound ranked
-  first_and_ranks item (Inserted (Replacing p) (Some before)) second inserts sound ranked = absurd (omega (arith, inserts.met.within.1, ap length none))
-  first_and_ranks item (Refused BeyondMaxCapacity) second inserts sound ranked = ranks_of_none BeyondMaxCapacity second inserts.after ranked
-  first_and_ranks item (Refused AllocError) second inserts sound ranked = ranks_of_none AllocError second inserts.after ranked
-  first_and_ranks item (Inserted (New p) (Some before)) second inserts sound ranked = absurd inserts
-  first_and_ranks item (Inserted (Replacing p) None) second inserts sound ranked = absurd inserts
-  first_and_ranks item (Refused FailedOrdRequirement) second inserts sound ranked = absurd inserts
-  first_and_ranks item (Refused NotWithinCapacity) second inserts sound ranked = absurd inserts
-  first_and_ranks item first second inserts sound ranked = absurd inserts
+  first_and_ranks : (item : T) (first second : Reply P T A I G) → Inserts r.key r.cmp r.most r.pointer old item first new → Ranked new second → AreFirstReplies (first ∷ second ∷ [])
+  first_and_ranks item (Inserted (New p) None) second inserts ranked = ranks_of_new item p second inserts ranked
+  first_and_ranks item (Inserted (Replacing p) (Some before)) second inserts ranked = absurd (omega (arith, inserts.met.within.1, ap length none))
+  first_and_ranks item (Refused BeyondMaxCapacity) second inserts ranked = ranks_of_none BeyondMaxCapacity second inserts.after ranked
+  first_and_ranks item (Refused AllocError) second inserts ranked = ranks_of_none AllocError second inserts.after ranked
+  first_and_ranks item (Inserted (New p) (Some before)) second inserts ranked = absurd inserts
+  first_and_ranks item (Inserted (Replacing p) None) second inserts ranked = absurd inserts
+  first_and_ranks item (Refused FailedOrdRequirement) second inserts ranked = absurd inserts
+  first_and_ranks item (Refused NotWithinCapacity) second inserts ranked = absurd inserts
+  first_and_ranks item first second inserts ranked = absurd inserts
 
 -- a run over both commands
 pub first_rank : (P T I G A K : Type 0) → FirstRankLaw P T I G A K
 first_rank P T I G A K r old new item [] none run = absurd run
 first_rank P T I G A K r old new item (first ∷ []) none run = absurd run.2
 first_rank P T I G A K r old new item (first ∷ second ∷ []) none run =
-    first_and_ranks r old.tree run.0.tree none item first second run.1.replies run.1.sound run.2.1.replies.0
+    first_and_ranks r old.tree run.0.tree none run.1.sound item first second run.1.replies run.2.1.replies.0
 first_rank P T I G A K r old new item (first ∷ second ∷ third ∷ replies) none run = absurd run.2.2

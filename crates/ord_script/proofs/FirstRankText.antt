@@ -42,8 +42,12 @@ module _ {A : Type 0} where
   abbrev InsertsFirst : Pair → PairReply A → Tree Pair → Type 0
   InsertsFirst item reply new = Inserts reading.key reading.cmp reading.most reading.pointer beginning.tree item reply new
 
+  -- these replies, as lines, are one of the answers
+  abbrev AreAnswer : List (PairReply A) → Type 0
+  AreAnswer replies = Contains first_answers (reply_lines both_words replies)
+
   -- both replies, as lines
-  first_lines : (item : Pair) (first second : PairReply A) (new : Tree Pair) → InsertsFirst item first new → AreFirstReplies (first ∷ second ∷ []) → Contains first_answers (reply_lines both_words (first ∷ second ∷ []))
+  first_lines : (item : Pair) (first second : PairReply A) (new : Tree Pair) → InsertsFirst item first new → AreFirstReplies (first ∷ second ∷ []) → AreAnswer (first ∷ second ∷ [])
   first_lines item (Inserted (New p) None) (Ranks ranks) new inserts replies =
       let is = first_pointer item p new inserts in
       (0, omega arith, sym (rw (is.0, is.1, replies, decimal_digit 1 (omega arith), decimal_digit 2 (omega arith)) refl))
@@ -57,7 +61,7 @@ module _ {A : Type 0} where
   first_lines item first second new inserts replies = absurd replies
 
   -- all replies
-  answer_lines : (replies : List (PairReply A)) (end : State Pair) → Runs reading beginning both_commands replies end → Contains first_answers (reply_lines both_words replies)
+  answer_lines : (replies : List (PairReply A)) (end : State Pair) → Runs reading beginning both_commands replies end → AreAnswer replies
   answer_lines [] end run = absurd run
   answer_lines (first ∷ []) end run = absurd run.2
   answer_lines (first ∷ second ∷ []) end run =

@@ -55,15 +55,19 @@ module _ {P T I G A : Type 0} where
 
 -- one step, by the reply
 module _ {P T I G A : Type 0} (old new : Tree T) (marks : Marks) (sound : IsSoundTree new) (holds : AreTrue marks old.shape) where
+  -- the marks after a reply tell the truth
+  abbrev StaysTrue : Reply P T A I G → Type 0
+  StaysTrue reply = AreTrue (marks_after reply new marks) new.shape
+
   -- a reply that leaves the shape
-  AreTrue-like : (reply : Reply P T A I G) → new.shape ≡ old.shape → AreTrue (marks_after reply new marks) new.shape
+  AreTrue-like : (reply : Reply P T A I G) → new.shape ≡ old.shape → StaysTrue reply
   AreTrue-like reply same = AreTrue-any reply new marks sound (subst (λ (s : Shape). AreTrue marks s) (sym same) holds)
 
   -- a reply that leaves the tree
-  AreTrue-still : (reply : Reply P T A I G) → new ≡ old → AreTrue (marks_after reply new marks) new.shape
+  AreTrue-still : (reply : Reply P T A I G) → new ≡ old → StaysTrue reply
   AreTrue-still reply same = AreTrue-like reply (ap (λ t. t.shape) same)
 
-  AreTrue-inserted : {K : Type 0} (r : Reading P T I G K) (item : T) (reply : Reply P T A I G) → Inserts r.key r.cmp r.most r.pointer old item reply new → AreTrue (marks_after reply new marks) new.shape
+  AreTrue-inserted : {K : Type 0} (r : Reading P T I G K) (item : T) (reply : Reply P T A I G) → Inserts r.key r.cmp r.most r.pointer old item reply new → StaysTrue reply
   AreTrue-inserted r item (Inserted (New p) None) inserts =
       AreTrue-settled new _ sound (record { only_inserted = λ e. inserts.grown.tight (holds.only_inserted e); just_built = λ e. cc })
   AreTrue-inserted r item (Inserted (New p) (Some before)) inserts = absurd inserts
@@ -75,48 +79,48 @@ module _ {P T I G A : Type 0} (old new : Tree T) (marks : Marks) (sound : IsSoun
   AreTrue-inserted r item (Refused NotWithinCapacity) inserts = absurd inserts
   AreTrue-inserted r item reply inserts = absurd inserts
 
-  AreTrue-set : (pointer : P → ℕ × ℕ) (p : P) (item : T) (reply : Reply P T A I G) → Sets pointer old p item reply new → AreTrue (marks_after reply new marks) new.shape
+  AreTrue-set : (pointer : P → ℕ × ℕ) (p : P) (item : T) (reply : Reply P T A I G) → Sets pointer old p item reply new → StaysTrue reply
   AreTrue-set pointer p item (Item None) sets = AreTrue-still (Item None) sets.1
   AreTrue-set pointer p item (Item (Some before)) sets = AreTrue-like (Item (Some before)) (ap (λ t. t.shape) sets.1)
   AreTrue-set pointer p item reply sets = absurd sets
 
-  AreTrue-removed : (greatest : Option ℕ) (pointer : P → ℕ × ℕ) (p : P) (reply : Reply P T A I G) → Removes greatest pointer old p reply new → AreTrue (marks_after reply new marks) new.shape
+  AreTrue-removed : (greatest : Option ℕ) (pointer : P → ℕ × ℕ) (p : P) (reply : Reply P T A I G) → Removes greatest pointer old p reply new → StaysTrue reply
   AreTrue-removed greatest pointer p (Removed (Success taken)) removes = AreTrue-settled new _ sound (AreTrue-none new.shape)
   AreTrue-removed greatest pointer p (Removed (GenerationOverflow taken)) removes = AreTrue-settled new _ sound (AreTrue-none new.shape)
   AreTrue-removed greatest pointer p (Removed InvalidPtr) removes = AreTrue-still (Removed InvalidPtr) removes.1
   AreTrue-removed greatest pointer p reply removes = absurd removes
 
-  AreTrue-removed_at : (greatest : Option ℕ) (pointer : P → ℕ × ℕ) (i : ℕ) (reply : Reply P T A I G) → RemovesAt greatest pointer old i reply new → AreTrue (marks_after reply new marks) new.shape
+  AreTrue-removed_at : (greatest : Option ℕ) (pointer : P → ℕ × ℕ) (i : ℕ) (reply : Reply P T A I G) → RemovesAt greatest pointer old i reply new → StaysTrue reply
   AreTrue-removed_at greatest pointer i (Removed (Success taken)) removes = AreTrue-settled new _ sound (AreTrue-none new.shape)
   AreTrue-removed_at greatest pointer i (Removed (GenerationOverflow taken)) removes = AreTrue-settled new _ sound (AreTrue-none new.shape)
   AreTrue-removed_at greatest pointer i (Removed InvalidPtr) removes = AreTrue-still (Removed InvalidPtr) removes.1
   AreTrue-removed_at greatest pointer i reply removes = absurd removes
 
-  AreTrue-renewed : (greatest : Option ℕ) (pointer : P → ℕ × ℕ) (p : P) (reply : Reply P T A I G) → Renews greatest pointer old p reply new → AreTrue (marks_after reply new marks) new.shape
+  AreTrue-renewed : (greatest : Option ℕ) (pointer : P → ℕ × ℕ) (p : P) (reply : Reply P T A I G) → Renews greatest pointer old p reply new → StaysTrue reply
   AreTrue-renewed greatest pointer p (Renewed (Success q)) renews = AreTrue-like (Renewed (Success q)) (ap (λ t. t.shape) renews.3)
   AreTrue-renewed greatest pointer p (Renewed (GenerationOverflow q)) renews = AreTrue-like (Renewed (GenerationOverflow q)) (ap (λ t. t.shape) renews.3)
   AreTrue-renewed greatest pointer p (Renewed InvalidPtr) renews = AreTrue-still (Renewed InvalidPtr) renews.1
   AreTrue-renewed greatest pointer p reply renews = absurd renews
 
-  AreTrue-changed : (greatest : Option ℕ) (after : Tree T) (reply : Reply P T A I G) → AreTrue marks after.shape → Changes greatest old after reply new → AreTrue (marks_after reply new marks) new.shape
+  AreTrue-changed : (greatest : Option ℕ) (after : Tree T) (reply : Reply P T A I G) → AreTrue marks after.shape → Changes greatest old after reply new → StaysTrue reply
   AreTrue-changed greatest after (Changed result) kept changes = AreTrue-settled new marks sound (subst (λ (t : Tree T). AreTrue marks t.shape) (sym changes.0) kept)
   AreTrue-changed greatest after reply kept changes = absurd changes
 
   -- by the command
-  pub AreTrue-after : {K : Type 0} (r : Reading P T I G K) (command : Command P T I G K) (reply : Reply P T A I G) → Replies r (record { tree = old; marks = marks }) command reply new → AreTrue (marks_after reply new marks) new.shape
-  AreTrue-after r (commands.Insert item) reply replies = AreTrue-inserted r item reply replies
-  AreTrue-after r (commands.Set p item) reply replies = AreTrue-set r.pointer p item reply replies
-  AreTrue-after r (commands.Remove p) reply replies = AreTrue-removed r.greatest r.pointer p reply replies
-  AreTrue-after r (commands.RemoveInx i) reply replies = AreTrue-removed_at r.greatest r.pointer (r.index i) reply replies
-  AreTrue-after r (commands.Invalidate p) reply replies = AreTrue-renewed r.greatest r.pointer p reply replies
-  AreTrue-after r commands.Clear reply replies = AreTrue-changed r.greatest _ reply (AreTrue-missing marks) replies
-  AreTrue-after r commands.IncGeneration reply replies = AreTrue-changed r.greatest _ reply holds replies
-  AreTrue-after r (commands.Find k) reply replies = AreTrue-still reply replies.1
-  AreTrue-after r (commands.Visits k) reply replies = AreTrue-still reply replies.1
-  AreTrue-after r (commands.Get p) reply replies = AreTrue-still reply replies.1
-  AreTrue-after r commands.First reply replies = AreTrue-still reply replies.1
-  AreTrue-after r commands.Last reply replies = AreTrue-still reply replies.1
-  AreTrue-after r (commands.Neighbours i) reply replies = AreTrue-still reply replies.1
-  AreTrue-after r commands.List reply replies = AreTrue-still reply replies.1
-  AreTrue-after r commands.Ranks reply replies = AreTrue-still reply replies.1
-  AreTrue-after r commands.Stats reply replies = AreTrue-still reply replies.1
+  pub AreTrue-step : {K : Type 0} (r : Reading P T I G K) (command : Command P T I G K) (reply : Reply P T A I G) → Replies r (record { tree = old; marks = marks }) command reply new → StaysTrue reply
+  AreTrue-step r (commands.Insert item) reply replies = AreTrue-inserted r item reply replies
+  AreTrue-step r (commands.Set p item) reply replies = AreTrue-set r.pointer p item reply replies
+  AreTrue-step r (commands.Remove p) reply replies = AreTrue-removed r.greatest r.pointer p reply replies
+  AreTrue-step r (commands.RemoveInx i) reply replies = AreTrue-removed_at r.greatest r.pointer (r.index i) reply replies
+  AreTrue-step r (commands.Invalidate p) reply replies = AreTrue-renewed r.greatest r.pointer p reply replies
+  AreTrue-step r commands.Clear reply replies = AreTrue-changed r.greatest _ reply (AreTrue-missing marks) replies
+  AreTrue-step r commands.IncGeneration reply replies = AreTrue-changed r.greatest _ reply holds replies
+  AreTrue-step r (commands.Find k) reply replies = AreTrue-still reply replies.1
+  AreTrue-step r (commands.Visits k) reply replies = AreTrue-still reply replies.1
+  AreTrue-step r (commands.Get p) reply replies = AreTrue-still reply replies.1
+  AreTrue-step r commands.First reply replies = AreTrue-still reply replies.1
+  AreTrue-step r commands.Last reply replies = AreTrue-still reply replies.1
+  AreTrue-step r (commands.Neighbours i) reply replies = AreTrue-still reply replies.1
+  AreTrue-step r commands.List reply replies = AreTrue-still reply replies.1
+  AreTrue-step r commands.Ranks reply replies = AreTrue-still reply replies.1
+  AreTrue-step r commands.Stats reply replies = AreTrue-still reply replies.1

@@ -6,7 +6,7 @@ use Rattle.ord_script.specs.declared.command.Command.{Command}
 use Rattle.ord_script.specs.declared.reply.Reply.{Reply}
 use Rattle.ord_script.specs.Machine.{Reading, Marks, State, AreTrue, Replies, marks_after, Step, Runs, RunsBetween}
 use Rattle.ord_script.specs.Pairs.{Pair, PairCommand, PairReply, reading, beginning}
-use Rattle.ord_script.proofs.Marking.{AreTrue-missing, AreTrue-after}
+use Rattle.ord_script.proofs.Marking.{AreTrue-missing, AreTrue-step}
 
 module _ {P T I G A K : Type 0} (r : Reading P T I G K) where
   -- a step between trees, whatever marks tell the truth of the first
@@ -22,24 +22,24 @@ module _ {P T I G A K : Type 0} (r : Reading P T I G K) where
 
 -- a run goes on by one step
 module _ {P T I G A K : Type 0} (r : Reading P T I G K) (command : Command P T I G K) (reply : Reply P T A I G) (mid new : State T) (step : Step r mid command reply new) where
-  Runs-more : (old : State T) (commands : List (Command P T I G K)) (replies : List (Reply P T A I G)) → Runs r old commands replies mid → Runs r old (commands ++ command ∷ []) (replies ++ reply ∷ []) new
+  Runs-more : (old : State T) (asked : List (Command P T I G K)) (told : List (Reply P T A I G)) → Runs r old asked told mid → Runs r old (asked ++ command ∷ []) (told ++ reply ∷ []) new
   Runs-more old [] [] run = (new, subst (λ (s : State T). Step r s command reply new) run step, refl)
-  Runs-more old [] (q ∷ replies) run = absurd run
-  Runs-more old (c ∷ commands) [] run = absurd run
-  Runs-more old (c ∷ commands) (q ∷ replies) run = (run.0, run.1, Runs-more run.0 commands replies run.2)
+  Runs-more old [] (q ∷ told) run = absurd run
+  Runs-more old (c ∷ asked) [] run = absurd run
+  Runs-more old (c ∷ asked) (q ∷ told) run = (run.0, run.1, Runs-more run.0 asked told run.2)
 
 -- and so does one between trees
-module _ {P T I G A K : Type 0} (r : Reading P T I G K) (command : Command P T I G K) (reply : Reply P T A I G) (mid new : Tree T) (step : StepsBetween r mid command reply new) where
+module _ {P T I G A K : Type 0} (r : Reading P T I G K) (command : Command P T I G K) (reply : Reply P T A I G) (old mid new : Tree T) (step : StepsBetween r mid command reply new) where
   -- a step between the states that the marks make of the trees
   step_from : (marks : Marks) → AreTrue marks mid.shape → Step r (record { tree = mid; marks = marks }) command reply (record { tree = new; marks = marks_after reply new marks })
   step_from marks holds = record { replies = step.replies marks holds; marks = refl; lawful = step.lawful; sound = step.sound }
 
-  pub RunsBetween-more : (old : Tree T) (commands : List (Command P T I G K)) (replies : List (Reply P T A I G)) → RunsBetween r old commands replies mid → RunsBetween r old (commands ++ command ∷ []) (replies ++ reply ∷ []) new
-  RunsBetween-more old commands replies so_far marks holds =
+  pub RunsBetween-more : (asked : List (Command P T I G K)) (told : List (Reply P T A I G)) → RunsBetween r old asked told mid → RunsBetween r old (asked ++ command ∷ []) (told ++ reply ∷ []) new
+  RunsBetween-more asked told so_far marks holds =
       let run = so_far marks holds in (
         marks_after reply new run.0,
-        AreTrue-after mid new run.0 step.sound run.1 r command reply (step.replies run.0 run.1),
-        Runs-more r command reply _ _ (step_from run.0 run.1) (record { tree = old; marks = marks }) commands replies run.2,
+        AreTrue-step mid new run.0 step.sound run.1 r command reply (step.replies run.0 run.1),
+        Runs-more r command reply _ _ (step_from run.0 run.1) (record { tree = old; marks = marks }) asked told run.2,
       )
 
 -- a run of a script, from where it begins
@@ -54,6 +54,6 @@ module _ {A : Type 0} (commands : List PairCommand) (old new : Tree Pair) (empty
       (record { tree = new; marks = run.0 }, run.2)
 
   -- the same of what a call answers
-  pub answered : {V E : Type 0} (result : Result V E) (replies_in : V → List (PairReply A)) → IfOk result (λ v. RunsBetween reading old commands (replies_in v) new) → IfOk result (λ v. IsRun (replies_in v))
-  answered (Ok v) replies_in between = from_beginning (replies_in v) between
-  answered (Err e) replies_in between = tt
+  pub answered : {V E : Type 0} (result : Result V E) (replies : V → List (PairReply A)) → IfOk result (λ v. RunsBetween reading old commands (replies v) new) → IfOk result (λ v. IsRun (replies v))
+  answered (Ok v) replies between = from_beginning (replies v) between
+  answered (Err e) replies between = tt

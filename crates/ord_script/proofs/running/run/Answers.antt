@@ -9,7 +9,8 @@ pub loop-command-init : goal.loop-command-init
 loop-command-init g c =
     record {
       cut = grind (arith, common_steps);
-      runs = RunsBetween-none (reading_by g.T.SimpleOrdItem.key_of g.T.Key.Ord.cmp g.P.Inx.PtrInx.most g.P.Gen.PtrGen.greatest g.P.Ptr.index g.P.Ptr.era g.P.Inx.PtrInx.number g.P.Gen.PtrGen.number) _ _ c.in_ok-replies.ensures.items;
+      runs = RunsBetween-none (reading_by g.T.SimpleOrdItem.key_of g.T.Key.Ord.cmp g.P.Inx.PtrInx.most g.P.Gen.PtrGen.greatest
+          g.P.Ptr.index g.P.Ptr.era g.P.Inx.PtrInx.number g.P.Gen.PtrGen.number) _ _ c.in_ok-replies.ensures.items;
       count = grind (arith, common_steps);
       room = grind (arith, common_steps);
     }
@@ -19,8 +20,8 @@ loop-command-preserved g c =
     let items : c.push.new.self.items ≡ c.loop-command.replies.items ++ c.step-reply.result ∷ [] = grind (arith, common_steps) in
     record {
       cut = cut_more _ _ _ _ _ c.loop-command.invariant.cut c.in-Some.ensures.steps.0;
-      runs = rw items (RunsBetween-more _ _ _ _ _
-          (record { replies = c.step-reply.ensures.replies; lawful = c.step-reply.ensures.lawful; sound = c.step-reply.ensures.sound }) _ _ _ c.loop-command.invariant.runs);
+      runs = rw items (RunsBetween-more _ _ _ _ _ _
+          (record { replies = c.step-reply.ensures.replies; lawful = c.step-reply.ensures.lawful; sound = c.step-reply.ensures.sound }) _ _ c.loop-command.invariant.runs);
       count = grind (arith, common_steps);
       room = grind (arith, common_steps);
     }

@@ -7,7 +7,8 @@ use Rattle.ord_script.proofs.running.run.Given as goal
 abbrev pub invariant-loop-command : goal.invariant-loop-command
 invariant-loop-command g l = record {
   cut : l.yielded ++ into_iter_items l.command-iterator ≡ l.fn.commands.items;
-  runs : RunsBetween (reading_by g.T.SimpleOrdItem.key_of g.T.Key.Ord.cmp g.P.Inx.PtrInx.most g.P.Gen.PtrGen.greatest g.P.Ptr.index g.P.Ptr.era g.P.Inx.PtrInx.number g.P.Gen.PtrGen.number) l.fn.arena l.yielded l.replies.items l.arena;
+  runs : RunsBetween (reading_by g.T.SimpleOrdItem.key_of g.T.Key.Ord.cmp g.P.Inx.PtrInx.most g.P.Gen.PtrGen.greatest
+      g.P.Ptr.index g.P.Ptr.era g.P.Inx.PtrInx.number g.P.Gen.PtrGen.number) l.fn.arena l.yielded l.replies.items l.arena;
   count : into_iter_len l.command-iterator ≡ length (into_iter_items l.command-iterator);
   room : vec_len l.replies + into_iter_len l.command-iterator ≤ vec_capacity l.replies;
 }
