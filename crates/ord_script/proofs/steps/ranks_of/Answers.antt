@@ -1,5 +1,4 @@
-use Rattle.std.proofs.Common.{◌≡◌, [], ◌∷◌, ◌++◌, arith}
-use Rattle.std.proofs.lemmas.Grind.{common_steps}
+use Rattle.std.proofs.Common.{◌≡◌, [], ◌∷◌, ◌++◌}
 use Rattle.ord_script.specs.Machine.{HasRank}
 use Rattle.ord_script.proofs.Lists.{cut_more}
 use Rattle.ord_script.proofs.Ranking.{link_next, HaveRanks-more}
@@ -13,7 +12,7 @@ unwrap-rank-requires g c =
 pub loop-p-preserved : goal.loop-p-preserved
 loop-p-preserved g c =
     let so_far = c.loop-p.invariant in
-    let items : c.push.new.self.items ≡ c.loop-p.ranks.items ++ c.unwrap-rank.result ∷ [] = grind (arith, common_steps) in
+    let items : c.push.new.self.items ≡ c.loop-p.ranks.items ++ c.unwrap-rank.result ∷ [] = c.in_ok-push.ensures.items in
     let rank : HasRank c.args.arena.now.shape (g.P.Ptr.index c.in-Some.p) c.unwrap-rank.result =
     rw c.inx.ensures at (rw c.unwrap-rank.ensures at c.rank_at.ensures.rank) in (
       so_far.0 ++ record { index = g.P.Ptr.index c.in-Some.p; generation = g.P.Ptr.era c.in-Some.p; item = c.in-Some.field-0-1.now } ∷ [],
