@@ -1,5 +1,5 @@
 // Runs commands on an ordered arena.
-ghost use Rattle.std.specs.Prelude.{◌≡◌, IfOk, OnErr};
+ghost use Rattle.std.specs.Prelude.{◌≡◌, ◌<◌, IfOk, OnErr, length};
 ghost use Rattle.chain_base.specs.Chain.{IsSound};
 ghost use Rattle.ord_tree.specs.Tree.{IsSoundTree};
 ghost use Rattle.ord_script.specs.Machine.{reading_by, Marks, AreTrue, Replies, RunsBetween};
@@ -14,9 +14,9 @@ use triple_ord::{SimpleOrdArena, SimpleOrdItem};
 
 /// Runs the commands in order, and answers one reply to each.
 ///
-/// Memory for the replies is asked for first, on `alloc`: where that is refused, nothing has changed. What the replies hold stands on
-/// `alloc` too. A command that is refused, also memory, says so in its reply, changes nothing, and the others go on. A clone of an
-/// item has to equal it. The closure is for searches by closure; no command calls it yet.
+/// Memory for the replies is asked for first, on `alloc`: where that is refused, nothing has changed; no commands need none. What the
+/// replies hold stands on `alloc` too. A command that is refused, also memory, says so in its reply, changes nothing, and the others go
+/// on. A clone of an item has to equal it. The closure is for searches by closure; no command calls it yet.
 pub fn run<
     P: Ptr,
     T: SimpleOrdItem + Clone + Drop,
@@ -36,6 +36,7 @@ where
         P.index P.era P.Inx.number P.Gen.number)
         arena.old commands.items replies.items arena.new) }
     ensures err { OnErr result (arena.new ≡ arena.old) }
+    ensures refused { OnErr result (0 < length commands.items) }
     ensures closure { closure.new ≡ closure.old }
 {
     let mut replies = Vec::with_capacity(alloc, commands.len())?;

@@ -7,7 +7,7 @@ use Rattle.ord_script.proofs.steps.ranks_of.Goals as goal
 pub unwrap-rank-requires : goal.unwrap-rank-requires
 unwrap-rank-requires g c =
     let so_far = c.loop-p.invariant in
-    rw c.rank_at.ensures.there (link_next _ _ _ _ _ _ so_far.1 c.in-Some.ensures.steps c.inx.ensures)
+    rw c.rank_at.ensures.there (link_next c.args.arena.now.list.entries so_far.0 _ _ _ _ so_far.1 c.in-Some.ensures.steps c.inx.ensures)
 
 pub loop-p-preserved : goal.loop-p-preserved
 loop-p-preserved g c =
