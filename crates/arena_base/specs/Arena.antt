@@ -1,5 +1,5 @@
 -- An arena as contracts see it: its slots by index, and the order in which the vacant ones are taken.
-use Rattle.std.specs.Prelude.{◌≡◌, ℕ, ◌+◌, ◌-◌, ◌*◌, ◌<◌, ◌≤◌, Option, Some, None, List, [], ◌∷◌, ◌++◌, ◌==◌, min, max, if◌then◌else◌, is_some, length, take, drop, replicate, count_by, slice_get, slice_index_or, slice_set, IsSome}
+use Rattle.std.specs.Prelude.{◌≡◌, ◌≢◌, ◌⊎◌, ℕ, ◌+◌, ◌-◌, ◌*◌, ◌<◌, ◌≤◌, Option, Some, None, List, [], ◌∷◌, ◌++◌, ◌==◌, min, max, if◌then◌else◌, is_some, length, take, drop, replicate, count_by, slice_get, slice_index_or, slice_set, IsSome}
 use Rattle.std.specs.Option.{option_map, ForSome}
 use Rattle.std.specs.List.{list_any}
 use Rattle.arena_base.specs.Generation.{first_generation, next_generation, IsLawfulGeneration}
@@ -54,6 +54,14 @@ module _ {T : Type 0} where
   -- the item of the entry with this index and generation
   abbrev pub item_of : Arena T → ℕ → ℕ → Option T
   item_of a i g = item_if g (slot a i)
+
+  -- every pointer finds the same in both
+  abbrev pub FindSame : Arena T → Arena T → Type 0
+  FindSame a b = (i g : ℕ) → item_of a i g ≡ item_of b i g
+
+  -- every pointer finds the same in both, but the one with index i and generation g
+  abbrev pub FindSameBut : ℕ → ℕ → Arena T → Arena T → Type 0
+  FindSameBut i g a b = (j h : ℕ) → (j ≢ i) ⊎ (h ≢ g) → item_of a j h ≡ item_of b j h
 
   -- how many entries there are
   abbrev pub arena_len : Arena T → ℕ
