@@ -93,7 +93,16 @@ module _ {T : Type 0} where
     pub within : i ≤ arena_capacity a
     pub free : slot a i ≡ None
 
-  -- what is true of every arena: `most` is the greatest index of an entry, `greatest` stands for the generations
+  -- what is true of every arena, whatever the order in which it takes its vacant slots: `most` is the greatest index of an entry,
+  -- `greatest` stands for the generations
+  pub record IsLawful (most : ℕ) (greatest : Option ℕ) (a : Arena T) : Type 0 where
+    pub begins : take 1 a.slots ≡ None ∷ []
+    pub within_capacity : arena_len a ≤ arena_capacity a
+    pub within_limit : arena_capacity a ≤ arena_limit most a
+    pub generation_lawful : IsLawfulGeneration greatest a.generation
+    pub entries_lawful : (i : ℕ) → ForSome (slot a i) (λ e. IsLawfulGeneration greatest e.0)
+
+  -- what is true of every arena of this crate: besides, its vacant slots are those that are listed
   pub record IsSound (most : ℕ) (greatest : Option ℕ) (a : Arena T) : Type 0 where
     pub begins : take 1 a.slots ≡ None ∷ []
     pub within_limit : arena_capacity a ≤ arena_limit most a
