@@ -1,4 +1,4 @@
-use Rattle.std.proofs.Common.{◌∙◌, sym, ap}
+use Rattle.std.proofs.Common.{◌∙◌, sym}
 use Rattle.std.specs.Option.{option_map}
 use Rattle.chain_base.specs.Layout.{chain_of}
 use Rattle.chain_base.proofs.Ends.{link_at-laid_out}
