@@ -1,16 +1,18 @@
 -- Changing the number of slots, and emptying them all.
-use Rattle.std.proofs.Common.{inl, inr, ◌⊎◌, ◌≡◌, ℕ, zero, suc, ◌+◌, ◌-◌, ◌<◌, ◌≤◌, Option, Some, None, List, [], ◌∷◌, ◌++◌, map, length, get_or, take, drop, replicate, reverse, refl, sym, ap, ◌∙◌, arith, add-one}
+use Rattle.std.proofs.Common.{inl, inr, ◌⊎◌, ◌≡◌, ℕ, zero, suc, ◌+◌, ◌-◌, ◌<◌, ◌≤◌, Option, Some, None, List, [], ◌∷◌, ◌++◌, map, length, get_or, take, drop, replicate, reverse, refl, sym, ap, ◌∙◌, subst, arith, add-one}
 use Rattle.std.proofs.lemmas.Bool.{cases_lt}
 use Rattle.std.proofs.lemmas.List.{map-append, take-map, take_all, take-append-le, append-nil, length-append, length-map, length-replicate, length-take, get_or-map, get_or_append_left, get_or-append_right}
 use Rattle.std.proofs.lemmas.Option.{none-some}
 use Rattle.arena_base.specs.declared.slot.Slot.{Slot}
 use Rattle.arena_base.specs.declared.slot.Slot.TheVariants.{Occupied, Vacant}
 use Rattle.arena_base.specs.Slot.{entry_in, vacant_places, arena_of, AllVacantFrom}
-use Rattle.arena_base.specs.Arena.{Arena, IsSound, vacant_from, vacant_indexes, limit_of, resized, with_capacity, emptied, greatest_occupied}
+use Rattle.arena_base.specs.Generation.{IsLawfulGeneration, first_generation}
+use Rattle.arena_base.specs.Arena.{Arena, IsSound, vacant_from, vacant_indexes, limit_of, resized, new_arena, with_capacity, emptied, greatest_occupied}
 use Rattle.arena_base.proofs.Occupied.{greatest_occupied-above}
 use Rattle.arena_base.proofs.Places.{entries}
 use Rattle.arena_base.proofs.Vacancies.{length-vacant_from-padded}
 use Rattle.arena_base.proofs.Steps.{list-view, list-sound}
+use Rattle.arena_base.proofs.Soundness.{arena, sound-new}
 
 map-replicate : {X Y : Type 0} (f : X → Y) (n : ℕ) (x : X) → map f (replicate n x) ≡ replicate n (f x)
 map-replicate f zero x = refl
@@ -121,3 +123,23 @@ module _ {T G : Type 0} where
   padded-empty slots moved padded n m is none count whole =
       let all : n - m ≡ length slots = omega arith in
       is ∙ (ap (λ k. moved ++ replicate k Vacant) all ∙ ap (λ ss. ss ++ replicate (length slots) Vacant) none)
+
+-- the slots of an arena that was made with room
+module _ {T G : Type 0} (number : G → ℕ) (most : ℕ) (greatest : Option ℕ) (two : G) (first : number two ≡ first_generation greatest)
+    (n : ℕ) (next : List (Slot T G)) (is : next ≡ [] ++ replicate (n - 0) Vacant) (listed : List ℕ) (all : listed ≡ reverse (vacant_places 0 next)) where
+  pub made-length : length next ≡ n
+  made-length = omega (arith, ap length is, length-replicate {A = Slot T G} (n - 0) Vacant)
+
+  made-cut : next ≡ take n next
+  made-cut = sym (take_all n next (omega (arith, made-length)))
+
+  pub made-view : arena_of number next listed two None ≡ with_capacity (new_arena greatest) n
+  made-view =
+      resized-view number most greatest [] two None [] listed (arena_of number [] [] two None) refl next all n next is made-cut
+      ∙ ap (λ g. with_capacity (record { slots = None ∷ []; vacant = []; generation = g; maximum = None }) n) first
+
+  pub made-sound : IsLawfulGeneration greatest (number two) → n ≤ most → IsSound most greatest (arena_of number next listed two None)
+  made-sound lawful within =
+      let begins : IsSound most greatest (arena [] [] (number two) None) =
+      subst (λ g. IsSound most greatest (arena {T = T} [] [] g None)) (sym first) (sound-new most greatest (subst (IsLawfulGeneration greatest) first lawful)) in
+      resized-sound number most greatest [] two None [] listed (arena_of number [] [] two None) refl next all n next is made-cut begins within

@@ -1,5 +1,5 @@
 -- An arena as contracts see it: its slots by index, and the order in which the vacant ones are taken.
-use Rattle.std.specs.Prelude.{◌≡◌, ℕ, ◌+◌, ◌-◌, ◌*◌, ◌<◌, ◌≤◌, Option, Some, None, List, [], ◌∷◌, ◌++◌, ◌==◌, min, max, if◌then◌else◌, is_some, length, take, drop, replicate, count_by, slice_get, slice_index_or, slice_set, IsSome}
+use Rattle.std.specs.Prelude.{◌≡◌, ◌≢◌, ◌⊎◌, ℕ, ◌+◌, ◌-◌, ◌*◌, ◌<◌, ◌≤◌, Option, Some, None, List, [], ◌∷◌, ◌++◌, ◌==◌, min, max, if◌then◌else◌, is_some, length, take, drop, replicate, count_by, slice_get, slice_index_or, slice_set, IsSome}
 use Rattle.std.specs.Option.{option_map, ForSome}
 use Rattle.std.specs.List.{list_any}
 use Rattle.arena_base.specs.Generation.{first_generation, next_generation, IsLawfulGeneration}
@@ -55,6 +55,14 @@ module _ {T : Type 0} where
   abbrev pub item_of : Arena T → ℕ → ℕ → Option T
   item_of a i g = item_if g (slot a i)
 
+  -- every pointer finds the same in both
+  abbrev pub FindSame : Arena T → Arena T → Type 0
+  FindSame a b = (i g : ℕ) → item_of a i g ≡ item_of b i g
+
+  -- every pointer finds the same in both, but the one with index i and generation g
+  abbrev pub FindSameBut : ℕ → ℕ → Arena T → Arena T → Type 0
+  FindSameBut i g a b = (j h : ℕ) → (j ≢ i) ⊎ (h ≢ g) → item_of a j h ≡ item_of b j h
+
   -- how many entries there are
   abbrev pub arena_len : Arena T → ℕ
   arena_len a = count_by is_some a.slots
@@ -85,7 +93,16 @@ module _ {T : Type 0} where
     pub within : i ≤ arena_capacity a
     pub free : slot a i ≡ None
 
-  -- what is true of every arena: `most` is the greatest index of an entry, `greatest` stands for the generations
+  -- what is true of every arena, whatever the order in which it takes its vacant slots: `most` is the greatest index of an entry,
+  -- `greatest` stands for the generations
+  pub record IsLawful (most : ℕ) (greatest : Option ℕ) (a : Arena T) : Type 0 where
+    pub begins : take 1 a.slots ≡ None ∷ []
+    pub within_capacity : arena_len a ≤ arena_capacity a
+    pub within_limit : arena_capacity a ≤ arena_limit most a
+    pub generation_lawful : IsLawfulGeneration greatest a.generation
+    pub entries_lawful : (i : ℕ) → ForSome (slot a i) (λ e. IsLawfulGeneration greatest e.0)
+
+  -- what is true of every arena of this crate: besides, its vacant slots are those that are listed
   pub record IsSound (most : ℕ) (greatest : Option ℕ) (a : Arena T) : Type 0 where
     pub begins : take 1 a.slots ≡ None ∷ []
     pub within_limit : arena_capacity a ≤ arena_limit most a

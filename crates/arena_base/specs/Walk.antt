@@ -1,11 +1,27 @@
 -- Walks over an arena by index: the pointers that an advancer still gives, and the entries that a drain still takes.
-use Rattle.std.specs.Prelude.{ℕ, ◌+◌, Bool, Option, Some, None, List, [], ◌∷◌, if◌then◌else◌, take, drop, reverse}
+use Rattle.std.specs.Prelude.{◌≡◌, ℕ, ◌+◌, ◌-◌, Bool, true, false, Option, Some, None, List, [], ◌∷◌, if◌then◌else◌, take, drop, reverse, MatchOption}
 use Rattle.arena_base.specs.Arena.{Arena}
 
--- an advancer stands before the slot at this place, and goes up or down from there
+-- an advancer stands between the indexes `at` and `at + 1`, and goes up or down from there
 pub record Walk : Type 0 where
   pub at : ℕ
   pub falling : Bool
+
+-- a walk that begins with the entry at index i, or the next one there is, and goes up
+abbrev pub rising_walk : ℕ → Walk
+rising_walk i = record { at = i - 1; falling = false }
+
+-- a walk that begins with the entry at index i, or the next one there is, and goes down
+abbrev pub falling_walk : ℕ → Walk
+falling_walk i = record { at = i; falling = true }
+
+-- the walk, once it has given the entry at index i: it goes on from there, up or down as before
+abbrev pub walk_from : Walk → ℕ → Walk
+walk_from w i = record w { at = if w.falling then i - 1 else i }
+
+-- the walk gives nothing, whatever entries come
+abbrev pub HasEnded : Walk → Type 0
+HasEnded w = w ≡ falling_walk 0
 
 module _ {T : Type 0} where
   -- index, generation and item of each entry, where the first slot has index `from`
@@ -39,3 +55,18 @@ module _ {T : Type 0} where
   -- what a walk gives, as long as the arena stays as it is
   abbrev pub walk_rest : Walk → Arena T → List (ℕ × ℕ)
   walk_rest w a = if w.falling then falling_from a w.at else rising_from a (w.at + 1)
+
+  -- a step over the arena as it is now took the walk `old` to `new`, and gave the entry with index i and generation g, the next that
+  -- there is
+  pub record GivesEntry (old new : Walk) (a : Arena T) (i g : ℕ) : Type 0 where
+    pub first : walk_rest old a ≡ (i, g) ∷ walk_rest new a
+    pub stands : new ≡ walk_from old i
+
+  -- a step gave nothing: no entry is left on the way, and the walk stays where it is, so that it gives one that comes there later
+  pub record GivesNothing (old new : Walk) (a : Arena T) : Type 0 where
+    pub none_left : walk_rest old a ≡ []
+    pub stays : new ≡ old
+
+  -- a step over the arena took the walk `old` to `new`, and gave this pointer or nothing
+  abbrev pub WalkSteps : {P : Type 0} → (P → ℕ) → (P → ℕ) → Walk → Arena T → Option P → Walk → Type 0
+  WalkSteps index era old a result new = MatchOption result (GivesNothing old new a) (λ p. GivesEntry old new a (index p) (era p))

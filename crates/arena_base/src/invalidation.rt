@@ -1,5 +1,6 @@
 //! The answers of calls that end or renew a pointer, and so raise the arena's generation.
 ghost use Rattle.std.specs.Prelude.{◌≡◌, ◌↔◌, IsSome, MatchOption, IfSome};
+ghost use Rattle.std.specs.Option.{ForSome};
 
 /// The answer of a call that was given a pointer.
 #[derive(Debug, Clone, Copy, PartialEq, Eq, Drop)]
@@ -38,7 +39,7 @@ impl<T> InvalidationResult<T> {
 
     /// The same answer of another value.
     pub fn map<U, F: FnOnce(T) -> U + Drop>(self, f: F) -> InvalidationResult<U>
-        requires { F.IsAlwaysCallable f }
+        requires { ForSome (valid_value self) (F.pre f) }
         ensures value { MatchOption (valid_value self) (result ≡ InvalidationResult.InvalidPtr) (λ x. IfSome (valid_value result) (F.post f x)) }
         ensures variant { IsSome (valid_value self) ↔ IsSome (valid_value result) }
         ensures overflow { has_overflowed result ≡ has_overflowed self }
@@ -83,8 +84,8 @@ impl<T> InvalidationOption<T> {
     }
 
     /// The same answer of another value.
-    pub fn map<U, F: FnOnce(T) -> U + Drop>(self, f: F) -> InvalidationOption<U>
-        requires { F.IsAlwaysCallable f }
+    pub fn map<U, F: FnOnce(T) -> U>(self, f: F) -> InvalidationOption<U>
+        requires { F.pre f (allowed_value self) }
         ensures value { F.post f (allowed_value self) (allowed_value result) }
         ensures overflow { is_overflow result ≡ is_overflow self }
     {

@@ -203,6 +203,57 @@ fn items_are_written_in_place(rt: HostRuntime) -> Result<(), Fail> {
     Ok(())
 }
 
+/// All that can be seen of an arena: its numbers, the pointer that comes next, and generation and item by index.
+#[derive(Debug, PartialEq, Drop)]
+struct Seen {
+    len: usize,
+    capacity: usize,
+    maximum: Option<usize>,
+    generation: u64,
+    next: Option<P0>,
+    slots: Vec<Option<(u64, u64)>>,
+}
+
+fn look_at(alloc: Global, arena: &Arena<P0, u64>) -> Result<Seen, AllocError> {
+    let mut slots = Vec::new(alloc);
+    for i in 0..=6u32 {
+        slots.push(arena.get_inx(i).map(|e| (e.0, *e.1)))?;
+    }
+    Ok(Seen {
+        len: arena.len(),
+        capacity: arena.capacity(),
+        maximum: arena.max_capacity(),
+        generation: arena.generation(),
+        next: arena.next_insertion_ptr(),
+        slots,
+    })
+}
+
+#[test]
+fn get_inx_mut_leaves_all_but_the_item(rt: HostRuntime) -> Result<(), Fail> {
+    let mut arena = three(rt.alloc())?;
+    assert_eq!(rt; arena.set_max_capacity(5), Ok(()));
+    let mut expected = look_at(rt.alloc(), &arena)?;
+    for i in [0, 1, 2, 4, 5, u32::MAX] {
+        assert!(rt; arena.get_inx_mut(i).is_none());
+        assert_eq!(rt; look_at(rt.alloc(), &arena)?, expected);
+    }
+    let (generation, item) = arena.get_inx_mut(3).ok_or("3 has an entry")?;
+    assert_eq!(rt; (generation, *item), (2, 30));
+    assert_eq!(rt; look_at(rt.alloc(), &arena)?, expected);
+    let (_, item) = arena.get_inx_mut(3).ok_or("3 has an entry")?;
+    *item = 31;
+    *expected.slots.get_mut(3).ok_or("seven were seen")? = Some((2, 31));
+    assert_eq!(rt; look_at(rt.alloc(), &arena)?, expected);
+    let next = (
+        arena.insert_within_capacity(1)?,
+        arena.insert_within_capacity(2)?,
+        arena.insert_within_capacity(3)?,
+    );
+    assert_eq!(rt; next, (p0(2, 4), p0(1, 4), p0(4, 4)));
+    Ok(())
+}
+
 #[test]
 fn walks_and_drains(rt: HostRuntime) -> Result<(), Fail> {
     let mut arena: Arena<P0, u64> = Arena::new(rt.alloc());
@@ -243,6 +294,42 @@ fn walks_and_drains(rt: HostRuntime) -> Result<(), Fail> {
     assert_eq!(rt; forgotten.next(), Some(InvalidationOption::Success((p, 1))));
     mem::forget(forgotten);
     assert_eq!(rt; (arena.len(), arena.contains(q)), (1, true));
+    Ok(())
+}
+
+#[test]
+fn a_walk_goes_on_with_later_entries(rt: HostRuntime) -> Result<(), Fail> {
+    let mut arena: Arena<P0, u64> = Arena::new(rt.alloc());
+    let (mut up, mut down) = (arena.advancer(), arena.advancer_inx(3, true));
+    let mut none: PtrAdvancer<P0> = Advancer::<Arena<P0, u64>>::empty();
+    assert_eq!(rt; (up.advance(&arena), down.advance(&arena)), (None, None));
+    for item in 0..3u64 {
+        arena.insert_reallocating(item)?;
+    }
+    assert_eq!(rt;
+        (up.advance(&arena), up.advance(&arena)),
+        (Some(p0(1, 2)), Some(p0(2, 2)))
+    );
+    assert_eq!(rt;
+        (down.advance(&arena), down.advance(&arena)),
+        (Some(p0(3, 2)), Some(p0(2, 2)))
+    );
+    let _ = (arena.remove_inx(1), arena.remove_inx(3));
+    assert_eq!(rt; (up.advance(&arena), down.advance(&arena)), (None, None));
+    assert_eq!(rt;
+        (arena.insert_reallocating(3)?, arena.insert_reallocating(1)?),
+        (p0(3, 4), p0(1, 4))
+    );
+    assert_eq!(rt;
+        (up.advance(&arena), down.advance(&arena)),
+        (Some(p0(3, 4)), Some(p0(1, 4)))
+    );
+    let _ = arena.insert_reallocating(4)?;
+    assert_eq!(rt;
+        (up.advance(&arena), down.advance(&arena)),
+        (Some(p0(4, 4)), None)
+    );
+    assert_eq!(rt; (up.advance(&arena), none.advance(&arena)), (None, None));
     Ok(())
 }
 
@@ -411,5 +498,5 @@ fn answers_are_allowed(rt: HostRuntime) {
         InvalidationResult::GenerationOverflow(2)
     );
     assert_eq!(rt; again.unwrap(), InvalidationOption::GenerationOverflow(4));
-    assert_eq!(rt; InvalidationOption::Success(6u8).map(|n| n / 2).allow(), 3);
+    assert_eq!(rt; InvalidationOption::Success(6u8).map(|n| 12 / n).allow(), 2);
 }

@@ -1,8 +1,8 @@
 //! `ArenaTrait`: what every arena is, as a finite map from pointers to items with at most one pointer for an index.
-ghost use Rattle.std.specs.Prelude.{◌≡◌, ◌==◌, ◌<◌, ◌↔◌, ℕ, Some, None, max, is_some, IsSome, IsNone, IsOk, IsErr, IfOk, OnOk, OnErr, IfSome, IfNone, OnSome};
+ghost use Rattle.std.specs.Prelude.{◌≡◌, ◌==◌, ◌<◌, ◌≤◌, ◌↔◌, ℕ, Some, None, max, is_some, IsSome, IsNone, IsOk, IsErr, IfOk, OnOk, OnErr, IfSome, IfNone, OnSome};
 ghost use Rattle.std.specs.Option.{option_copied, option_copied_mut, option_map};
 ghost use Rattle.std.specs.Borrow.{sem, Lends, LendsIf};
-ghost use Rattle.arena_base.specs.Arena.{Arena as Content, HoldsSame, slot, item_of, arena_len, arena_capacity, arena_limit, new_arena, with_capacity, with_item, without, renewed, cleared, greatest_occupied, IsOccupied, IsFirstEntry, IsLastEntry};
+ghost use Rattle.arena_base.specs.Arena.{Arena as Content, HoldsSame, slot, item_of, arena_len, arena_capacity, arena_limit, new_arena, with_capacity, with_item, without, renewed, cleared, greatest_occupied, IsLawful, IsOccupied, IsFirstEntry, IsLastEntry};
 ghost use Rattle.arena_base.specs.Generation.{next_generation, overflows_after};
 ghost use Rattle.arena_base.specs.Invalidation.{valid_value, has_overflowed, is_overflow};
 
@@ -30,13 +30,15 @@ pub trait ArenaTrait<P: Ptr, T> {
     fn with_min_capacity(alloc: Self::Alloc, n: usize) -> Result<Self, AllocError>
     where
         Self: Sized,
-        T: Drop,
         ensures ok { IfOk result (λ a. HoldsSame (content a) (with_capacity (new_arena P.Gen.greatest) n)) }
-        ensures beyond { P.Inx.most < n → IsErr result };
+        ensures beyond { P.Inx.most < n → IsErr result }
+        ensures none { n ≡ 0 → IsOk result };
 
     /// How many entries there is room for.
     fn capacity(&self) -> usize
-        ensures { result ≡ arena_capacity (content self.now) };
+        ensures value { result ≡ arena_capacity (content self.now) }
+        ensures lawful { IsLawful P.Inx.most P.Gen.greatest (content self.now) }
+        ensures limit { arena_capacity (content self.now) ≤ P.Inx.most };
 
     /// The maximum of the capacity, where one is set.
     fn max_capacity(&self) -> Option<usize>
@@ -44,7 +46,8 @@ pub trait ArenaTrait<P: Ptr, T> {
 
     /// How many entries there are.
     fn len(&self) -> usize
-        ensures { result ≡ arena_len (content self.now) };
+        ensures value { result ≡ arena_len (content self.now) }
+        ensures lawful { IsLawful P.Inx.most P.Gen.greatest (content self.now) };
 
     /// Whether there is no entry.
     fn is_empty(&self) -> bool
@@ -82,7 +85,7 @@ pub trait ArenaTrait<P: Ptr, T> {
     fn get_inx(&self, i: P::Inx) -> Option<(P::Gen, &T)>
         ensures { option_map (λ e. (P.Gen.number e.0, e.1.now)) result ≡ slot (content self.now) (P.Inx.number i) };
 
-    /// Generation and item of the entry at the index; the item may be written.
+    /// Generation and item of the entry at the index; the item may be written. What it leaves is not said, other than of `pair_mut`.
     fn get_inx_mut(&mut self, i: P::Inx) -> Option<(P::Gen, &mut T)>
         ensures { option_map (λ e. (P.Gen.number e.0, e.1.now)) result ≡ slot (content self.old) (P.Inx.number i) };
 

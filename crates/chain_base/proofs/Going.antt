@@ -1,10 +1,10 @@
 -- One step along a chain.
-use Rattle.std.proofs.Common.{◌≡◌, ◌≢◌, ℕ, ◌+◌, ◌<◌, ◌≤◌, ◌==◌, true, false, List, [], ◌∷◌, ◌++◌, map, Option, Some, None, refl, sym, ap, subst, ◌∙◌, arith, inl, inr, append_assoc}
-use Rattle.std.proofs.lemmas.Bool.Decides.{nat_tests, eqb_tells}
-use Rattle.std.specs.Option.{option_map}
+use Rattle.std.proofs.Common.{◌≡◌, ℕ, ◌≤◌, List, [], ◌∷◌, ◌++◌, Option, Some, None, refl, sym, ap, subst, ◌∙◌, arith, inl, inr, append_assoc}
+use Rattle.std.proofs.lemmas.Bool.Decides.{eqb_tells}
+use Rattle.std.specs.Option.{option_and_then}
 use Rattle.chain_base.specs.Link.{Link}
 use Rattle.chain_base.specs.Chain.{Entry, Chain, times, IsDistinct, link_at, first_or, last_or, from_index}
-use Rattle.chain_base.specs.Walk.{pointers, pointers_from}
+use Rattle.chain_base.specs.Walk.{pointers, pointers_from, GivesEntry}
 use Rattle.chain_base.proofs.Lists.{link_between-append, link_between-absent, times-unlinked, times-append, times-here, times-there, same_index, Stands, Stands-occurs}
 
 module _ {T : Type 0} where
@@ -38,7 +38,7 @@ module _ {T : Type 0} where
       ap pointers (ap (λ es. from_index es f.index) same ∙ from_index-split (front ++ e ∷ []) f back f.index refl unmet)
 
   -- the entry of an index, and what its link leads to
-  pub pointers_from-some : (c : Chain T) (i g : ℕ) (l : Link T) → IsDistinct c.entries → ◌≡◌ {A = Option (ℕ × Link T)} (Some (g, l)) (link_at c.entries i) → pointers_from (Some i) c ≡ (i, g) ∷ pointers_from l.next c
+  pointers_from-some : (c : Chain T) (i g : ℕ) (l : Link T) → IsDistinct c.entries → ◌≡◌ {A = Option (ℕ × Link T)} (Some (g, l)) (link_at c.entries i) → pointers_from (Some i) c ≡ (i, g) ∷ pointers_from l.next c
   pointers_from-some c i g l distinct held = from_place (Stands-occurs c.entries i occurs)
     where
       occurs : 1 ≤ times i c.entries
@@ -61,3 +61,8 @@ module _ {T : Type 0} where
           let here : pointers_from (Some i) c ≡ (s.entry.index, s.entry.generation) ∷ pointers s.back =
           ap pointers (ap (λ es. from_index es i) s.split ∙ from_index-split s.front s.entry s.back i s.here s.unmet) in
           rw (here, s.here, era, next, behind c s.front s.entry s.back distinct2 s.split) refl
+
+  -- a walk that stands at the index gives the entry, and goes on by its link
+  pub gives-from_link : (c : Chain T) (i g : ℕ) (l : Link T) → IsDistinct c.entries → ◌≡◌ {A = Option (ℕ × Link T)} (Some (g, l)) (link_at c.entries i) → GivesEntry (Some i) l.next c i g
+  gives-from_link c i g l distinct held =
+      record { stood = refl; first = pointers_from-some c i g l distinct held; stands = ap (option_and_then (λ (e : ℕ × Link T). e.1.next)) held }

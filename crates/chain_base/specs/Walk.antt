@@ -1,6 +1,7 @@
--- A walk along a chain: the pointers that an advancer still gives.
-use Rattle.std.specs.Prelude.{ℕ, List, [], map, Option, Some, None}
-use Rattle.chain_base.specs.Chain.{Entry, Chain, from_index}
+-- A walk along a chain: it stands at the index of the entry that it gives next, or at none.
+use Rattle.std.specs.Prelude.{◌≡◌, ℕ, List, [], ◌∷◌, map, Option, Some, None, MatchOption}
+use Rattle.std.specs.Option.{option_and_then}
+use Rattle.chain_base.specs.Chain.{Entry, Chain, from_index, link_at}
 
 module _ {T : Type 0} where
   -- index and generation of each entry, in the order of the chain
@@ -11,3 +12,23 @@ module _ {T : Type 0} where
   abbrev pub pointers_from : Option ℕ → Chain T → List (ℕ × ℕ)
   pointers_from None c = []
   pointers_from (Some i) c = pointers (from_index c.entries i)
+
+  -- the index of the entry after the one with this index, which the link of that one names
+  abbrev pub index_after : List (Entry T) → ℕ → Option ℕ
+  index_after es i = option_and_then (λ e. e.1.next) (link_at es i)
+
+  -- a step over the chain as it is now took a walk from `old` to `new`, and gave the entry with index i and generation g: the one that
+  -- it stood at. It stands at the entry after that one, or at none.
+  pub record GivesEntry (old new : Option ℕ) (c : Chain T) (i g : ℕ) : Type 0 where
+    pub stood : old ≡ Some i
+    pub first : pointers_from old c ≡ (i, g) ∷ pointers_from new c
+    pub stands : new ≡ index_after c.entries i
+
+  -- a step gave nothing: no entry has the index, and the walk has ended
+  pub record GivesNothing (old new : Option ℕ) (c : Chain T) : Type 0 where
+    pub none_left : pointers_from old c ≡ []
+    pub ends : new ≡ None
+
+  -- a step over the chain took the walk from `old` to `new`, and gave this pointer or nothing
+  abbrev pub WalkSteps : {P : Type 0} → (P → ℕ) → (P → ℕ) → Option ℕ → Chain T → Option P → Option ℕ → Type 0
+  WalkSteps index era old c result new = MatchOption result (GivesNothing old new c) (λ p. GivesEntry old new c (index p) (era p))

@@ -1,13 +1,13 @@
 // Chains as a program makes them.
 ghost use Rattle.std.specs.Prelude.{[], ◌≡◌};
 
-use crate::{ChainArena, LinkInsertKind, LinkNoGen};
+use crate::{ChainArena, ChainPtrAdvancer, LinkInsertKind, LinkNoGen};
 use arena_base::{
     Advancer, InsertionError, InvalidationOption, InvalidationResult, P0, P8, PN, Ptr,
     ReallocationError,
 };
 use linked_list_allocator::LocalHeap;
-use std::alloc::{Allocator, Global};
+use std::alloc::{AllocError, Allocator, Global};
 use std::process::Abort;
 use std::test::Fail;
 
@@ -199,6 +199,104 @@ fn renews_clears_and_writes(rt: HostRuntime) -> Result<(), Fail> {
         (chain.len(), chain.capacity(), chain.first()),
         (0, 2, None)
     );
+    Ok(())
+}
+
+/// What stands at an index: generation, letter and neighbours.
+type Standing = Option<(u64, char, Option<u32>, Option<u32>)>;
+
+/// All that can be seen of a chain: its numbers, its ends, the pointer that comes next, and what stands at each index.
+#[derive(Debug, PartialEq, Drop)]
+struct Seen {
+    capacity: usize,
+    maximum: Option<usize>,
+    generation: u64,
+    ends: (Option<P0>, Option<P0>),
+    next: Option<P0>,
+    at: Vec<Standing>,
+}
+
+fn look_at(alloc: Global, chain: &Letters) -> Result<Seen, AllocError> {
+    let mut at = Vec::new(alloc);
+    for i in 0..=6 {
+        at.push(match chain.get_inx_link_no_gen(i) {
+            Some((generation, link)) => Some((generation, *link.t, link.prev(), link.next())),
+            None => None,
+        })?;
+    }
+    Ok(Seen {
+        capacity: chain.capacity(),
+        maximum: chain.max_capacity(),
+        generation: chain.generation(),
+        ends: (chain.first(), chain.last()),
+        next: chain.arena().next_insertion_ptr(),
+        at,
+    })
+}
+
+#[test]
+fn get_inx_mut_leaves_all_but_the_item(rt: HostRuntime) -> Result<(), Fail> {
+    let mut chain = Letters::new(rt.alloc());
+    let _ = begin(&rt, &mut chain, 'b')?;
+    let _ = (
+        after(&rt, &mut chain, 1, 'd')?,
+        before(&rt, &mut chain, 1, 'a')?,
+    );
+    let _ = after(&rt, &mut chain, 1, 'c')?;
+    let _ = chain.remove_inx_link_no_gen(1);
+    assert!(rt; chain.set_max_capacity(5).is_ok());
+    let mut expected = look_at(rt.alloc(), &chain)?;
+    for i in [0, 1, 5, u32::MAX] {
+        assert!(rt; chain.get_inx_mut(i).is_none());
+        assert_eq!(rt; look_at(rt.alloc(), &chain)?, expected);
+    }
+    let (generation, letter) = chain.get_inx_mut(4).ok_or("4 has an entry")?;
+    assert_eq!(rt; (generation, *letter), (2, 'c'));
+    assert_eq!(rt; look_at(rt.alloc(), &chain)?, expected);
+    let (_, letter) = chain.get_inx_mut(4).ok_or("4 has an entry")?;
+    *letter = 'x';
+    *expected.at.get_mut(4).ok_or("seven were seen")? = Some((2, 'x', Some(3), Some(2)));
+    assert_eq!(rt; look_at(rt.alloc(), &chain)?, expected);
+    assert_eq!(rt; text(&rt, rt.alloc(), &chain)?.as_str(), "axd");
+    Ok(())
+}
+
+/// The chain of the letters a, b and c at the indexes 1, 2 and 3, with a walk that has given the first.
+fn walked(rt: &impl Abort, alloc: Global) -> Result<(Letters, ChainPtrAdvancer<P0>), Fail> {
+    let mut chain = Letters::new(alloc);
+    let first = begin(rt, &mut chain, 'a')?;
+    let _ = (
+        after(rt, &mut chain, 1, 'b')?,
+        after(rt, &mut chain, 2, 'c')?,
+    );
+    let mut walk = chain
+        .advancer_chain(first)
+        .ok_or("the first names an entry")?;
+    assert_eq!(rt; walk.advance(&chain), Some(first));
+    Ok((chain, walk))
+}
+
+#[test]
+fn a_walk_goes_by_the_links_that_are_there(rt: HostRuntime) -> Result<(), Fail> {
+    let (mut chain, mut walk) = walked(&rt, rt.alloc())?;
+    let _ = chain.remove_inx_link_no_gen(2);
+    let _ = (
+        after(&rt, &mut chain, 3, 'd')?,
+        after(&rt, &mut chain, 2, 'e')?,
+    );
+    assert_eq!(rt; walk.advance(&chain), Some(P0::_from_raw(2, 3)));
+    let _ = before(&rt, &mut chain, 4, 'x')?;
+    assert_eq!(rt; walk.advance(&chain), Some(P0::_from_raw(4, 3)));
+    let _ = after(&rt, &mut chain, 4, 'f')?;
+    assert_eq!(rt; (walk.advance(&chain), walk.advance(&chain)), (None, None));
+
+    let (mut chain, mut walk) = walked(&rt, rt.alloc())?;
+    let _ = chain.remove_inx_link_no_gen(2);
+    assert_eq!(rt; walk.advance(&chain), None);
+    let _ = after(&rt, &mut chain, 1, 'd')?;
+    assert_eq!(rt; (chain.contains_inx(2), walk.advance(&chain)), (true, None));
+    let mut none: ChainPtrAdvancer<P0> = Advancer::<Letters>::empty();
+    assert_eq!(rt; none.advance(&chain), None);
     Ok(())
 }
 

@@ -356,6 +356,56 @@ fn inserts_within_capacity_and_writes(rt: HostRuntime) -> Result<(), Fail> {
     Ok(())
 }
 
+/// All that can be seen of a tree: its numbers, its root and ends, the pointer that comes next, the generation at each index, and
+/// the place of each key in order.
+#[derive(Debug, PartialEq, Drop)]
+struct Seen {
+    numbers: (usize, Option<usize>, u64),
+    root: Option<u32>,
+    ends: (Option<P0>, Option<P0>),
+    next: Option<P0>,
+    generations: Vec<Option<u64>>,
+    places: Vec<Place>,
+}
+
+fn look_at(alloc: Global, tree: &Keys) -> Result<Seen, Fail> {
+    let chain = tree.chain();
+    let mut generations = Vec::new(alloc);
+    for i in 0..=9 {
+        generations.push(chain.get_inx(i).map(|entry| entry.0))?;
+    }
+    Ok(Seen {
+        numbers: (chain.capacity(), chain.max_capacity(), chain.generation()),
+        root: tree.root(),
+        ends: (chain.first(), chain.last()),
+        next: chain.arena().next_insertion_ptr(),
+        generations,
+        places: places(alloc, tree)?,
+    })
+}
+
+#[test]
+fn get_inx_mut_leaves_all_but_the_item(rt: HostRuntime) -> Result<(), Fail> {
+    let mut tree = tree_of(&rt, rt.alloc(), &[40, 20, 60, 10, 30, 50, 70])?;
+    remove(&rt, rt.alloc(), &mut tree, 60)?;
+    assert!(rt; tree.set_max_capacity(9).is_ok());
+    let mut expected = look_at(rt.alloc(), &tree)?;
+    for i in [0, 3, 8, 9, u32::MAX] {
+        assert!(rt; tree.get_inx_mut(i).is_none());
+        assert_eq!(rt; look_at(rt.alloc(), &tree)?, expected);
+    }
+    let (generation, key) = tree.get_inx_mut(1).ok_or("1 has an entry")?;
+    assert_eq!(rt; (generation, *key), (2, 40));
+    assert_eq!(rt; look_at(rt.alloc(), &tree)?, expected);
+    let (_, key) = tree.get_inx_mut(1).ok_or("1 has an entry")?;
+    *key = 99;
+    let written = expected.places.get_mut(3).ok_or("40 was the fourth")?;
+    assert_eq!(rt; (written.index, written.key), (1, 40));
+    written.key = 99;
+    assert_eq!(rt; look_at(rt.alloc(), &tree)?, expected);
+    Ok(())
+}
+
 #[test]
 fn keeps_all_where_memory_is_refused(rt: HostRuntime) -> Result<(), Fail> {
     let mut lens = [false; 3];

@@ -6,6 +6,7 @@ mod descent;
 mod entry_kind;
 mod error;
 mod item;
+pub mod laws;
 mod pair;
 mod probe;
 #[cfg(test)]

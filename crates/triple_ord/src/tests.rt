@@ -8,12 +8,13 @@ mod each_call;
 mod every_order;
 mod removal;
 
-use crate::{OrdEntryKind, OrdInsertionError, OrdPair, SimpleOrdArena, SimpleOrdItem};
+use crate::{OrdEntryKind, OrdInsertionError, OrdPair, SimpleOrdArena, SimpleOrdItem, laws};
 use arena_base::{P0, P8, PN, Ptr};
 use linked_list_allocator::LocalHeap;
 use std::alloc::{AllocError, Allocator, Global};
 use std::cell::Cell;
 use std::cmp::Ordering;
+use std::hash::{DefaultHasher, Hasher};
 use std::test::Fail;
 
 type Keys<A = Global> = SimpleOrdArena<P0, OrdPair<u64, ()>, A>;
@@ -180,6 +181,36 @@ fn pointers_and_items(rt: HostRuntime) -> Result<(), Fail> {
     assert_eq!(rt; format!(in rt.alloc(); "{pair:?}")?.as_str(), "(1, 5)");
     assert_eq!(rt; pair.into_k_v(), (1, 5));
     assert_eq!(rt; OrdEntryKind::Replacing(7u8).any(), 7);
+    Ok(())
+}
+
+/// What a hasher makes of a pair.
+fn hash_of(pair: &OrdPair<u8, u64>) -> u64 {
+    let mut state = DefaultHasher::new();
+    laws::pair_hash(pair, &mut state);
+    state.finish()
+}
+
+#[test]
+fn pairs_compare_by_key_then_by_value(rt: HostRuntime) -> Result<(), Fail> {
+    let pairs = [(1u8, 9u64), (2, 0), (2, 7)];
+    for (i, (k, v)) in pairs.iter().enumerate() {
+        let a = OrdPair::new(*k, *v);
+        for (j, (k, v)) in pairs.iter().enumerate() {
+            let b = OrdPair::new(*k, *v);
+            assert_eq!(rt; laws::pairs_cmp(&a, &b), i.cmp(&j));
+            assert_eq!(rt; laws::pairs_partial_cmp(&a, &b), Some(i.cmp(&j)));
+            assert_eq!(rt;
+                (laws::pairs_equal(&a, &b), laws::pairs_hash_alike(&a, &b)),
+                (i == j, i == j)
+            );
+            assert_eq!(rt; hash_of(&a) == hash_of(&b), i == j);
+        }
+    }
+    let mut state = DefaultHasher::new();
+    state.write_u8(2);
+    state.write_u64(7);
+    assert_eq!(rt; hash_of(&OrdPair::new(2, 7)), state.finish());
     Ok(())
 }
 

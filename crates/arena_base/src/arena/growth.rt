@@ -31,17 +31,25 @@ impl<P: Ptr, T, A: Allocator> Arena<P, T, A> {
     pub fn with_min_capacity(alloc: A, n: usize) -> Result<Self, AllocError>
     where
         A: Copy,
-        T: Drop,
         ensures ok { IfOk result (λ a. a ≡ with_capacity (new_arena P.Gen.greatest) n) }
         ensures beyond { P.Inx.most < n → IsErr result }
         ensures none { n ≡ 0 → IsOk result }
     {
-        let mut arena = Arena::new(alloc);
         if n > P::Inx::limit() {
             return Err(AllocError);
         }
-        arena.set_capacity(n)?;
-        Ok(arena)
+        // The slots come last, so that where they are refused there is nothing yet that could hold an item.
+        let mut vacant = Vec::with_capacity(alloc, n)?;
+        let mut slots = Vec::with_capacity(alloc, n)?;
+        add_vacant(&mut slots, n);
+        list_vacant(slots.as_slice(), &mut vacant);
+        let generation = P::Gen::two();
+        Ok(Arena {
+            slots,
+            vacant,
+            generation,
+            maximum: None,
+        })
     }
 
     /// Makes the capacity the greater of `n` and the greatest index with an entry. All vacant slots then count as never used.

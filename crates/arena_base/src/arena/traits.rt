@@ -22,10 +22,7 @@ impl<P: Ptr, T, A: Allocator + Copy> ArenaTrait<P, T> for Arena<P, T, A> {
         Arena::new(alloc)
     }
 
-    fn with_min_capacity(alloc: A, n: usize) -> Result<Self, AllocError>
-    where
-        T: Drop,
-    {
+    fn with_min_capacity(alloc: A, n: usize) -> Result<Self, AllocError> {
         Arena::with_min_capacity(alloc, n)
     }
 

@@ -1,6 +1,6 @@
 //! Going through the entries by index.
-ghost use Rattle.std.specs.Prelude.{◌≡◌, ◌+◌, ◌<◌, ◌≤◌, [], ◌∷◌, true, false, IfSome, MatchOption};
-ghost use Rattle.arena_base.specs.Walk.{pointers, entries_rising, rising_from, falling_from, walk_rest};
+ghost use Rattle.std.specs.Prelude.{◌≡◌, ◌+◌, ◌<◌, ◌≤◌, [], ◌∷◌, true, false, if◌then◌else◌, IfSome, MatchOption};
+ghost use Rattle.arena_base.specs.Walk.{pointers, entries_rising, rising_from, falling_from, rising_walk, falling_walk, walk_rest, HasEnded, WalkSteps};
 
 use super::Arena;
 use super::get::pointer;
@@ -11,7 +11,9 @@ use std::marker::{Model, PhantomData};
 
 /// Goes through the pointers of an arena by index, up or down.
 ///
-/// It borrows nothing, so the arena may be changed between two steps: a step gives the next entry that is there then.
+/// It borrows nothing, so the arena may be changed between two steps: a step gives the next entry that is there then, and stands at its
+/// index afterwards. Where there is none it gives `None` and stays where it is, so that it goes on with entries that come behind it later.
+/// Only one that goes down and has come to index 0 has ended.
 #[derive(Drop)]
 pub struct PtrAdvancer<P: Ptr> {
     // the place of the slot that it stands before
@@ -31,11 +33,9 @@ impl<P: Ptr> Model for PtrAdvancer<P> {
 impl<P: Ptr, T, A: Allocator> Advancer<Arena<P, T, A>> for PtrAdvancer<P> {
     type Item = P;
 
-    ghost advance_gives = { λ s a result t. MatchOption result
-        ((walk_rest s a ≡ []) × (walk_rest t a ≡ []))
-        (λ p. walk_rest s a ≡ (P.index p, P.era p) ∷ walk_rest t a) };
+    ghost advance_gives = { WalkSteps P.index P.era };
 
-    ghost has_ended = { λ s. (s.falling ≡ true) × (s.at ≡ 0) };
+    ghost has_ended = { HasEnded };
 
     fn advance(&mut self, arena: &Arena<P, T, A>) -> Option<P> {
         let (at, p) = if self.falling {
@@ -59,7 +59,8 @@ impl<P: Ptr, T, A: Allocator> Advancer<Arena<P, T, A>> for PtrAdvancer<P> {
 impl<P: Ptr, T, A: Allocator> Arena<P, T, A> {
     /// Goes through all pointers by rising index.
     pub fn advancer(&self) -> PtrAdvancer<P>
-        ensures { walk_rest result self.now ≡ pointers self.now }
+        ensures begins { result ≡ rising_walk 1 }
+        ensures rest { walk_rest result self.now ≡ pointers self.now }
     {
         let _ = self.capacity();
         PtrAdvancer {
@@ -71,6 +72,7 @@ impl<P: Ptr, T, A: Allocator> Arena<P, T, A> {
 
     /// Goes through the pointers from an index on, which is the first: up, or down where `rev` is true.
     pub fn advancer_inx(&self, i: P::Inx, rev: bool) -> PtrAdvancer<P>
+        ensures begins { result ≡ (if rev then falling_walk (P.Inx.number i) else rising_walk (P.Inx.number i)) }
         ensures rising { rev ≡ false → walk_rest result self.now ≡ rising_from self.now (P.Inx.number i) }
         ensures falling { rev ≡ true → walk_rest result self.now ≡ falling_from self.now (P.Inx.number i) }
     {
@@ -103,9 +105,11 @@ impl<P: Ptr, T, A: Allocator> Arena<P, T, A> {
 
     // The pointer of the last entry before a place, and its own place.
     pub(super) fn last_before(&self, end: usize) -> Option<(usize, P)>
-        ensures { MatchOption result
+        ensures pointers { MatchOption result
             (falling_from self.now end ≡ [])
             (λ e. falling_from self.now end ≡ (P.index e.1, P.era e.1) ∷ falling_from self.now e.0) }
+        ensures next { IfSome result (λ e. e.0 + 1 ≡ P.index e.1) }
+        ensures before { IfSome result (λ e. e.0 < end) }
     {
         for place in (0..end.min(self.capacity())).rev() {
             if let Some(generation) = self.generation_at(place) {

@@ -28,6 +28,9 @@ impl<P: Ptr, T, A: Allocator> Arena<P, T, A> {
     }
 
     /// Generation and item of the entry at the index; the item may be written.
+    ///
+    /// Its clause says what it gives, and can't say what it leaves; that is said by `pair_mut`, which it calls where `contains_inx` is
+    /// true, and it does nothing else.
     pub fn get_inx_mut(&mut self, i: P::Inx) -> Option<(P::Gen, &mut T)>
         ensures value { option_map (λ e. (P.Gen.number e.0, e.1.now)) result ≡ slot self.old (P.Inx.number i) }
     {

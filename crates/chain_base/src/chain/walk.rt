@@ -1,8 +1,8 @@
 //! Going along the chain.
-ghost use Rattle.std.specs.Prelude.{◌≡◌, [], ◌∷◌, Some, None, MatchOption, IfSome, is_some};
+ghost use Rattle.std.specs.Prelude.{◌≡◌, [], Some, None, MatchOption, IfSome, is_some};
 ghost use Rattle.std.specs.Option.{option_map};
 ghost use Rattle.chain_base.specs.Chain.{item_of};
-ghost use Rattle.chain_base.specs.Walk.{pointers_from};
+ghost use Rattle.chain_base.specs.Walk.{pointers_from, GivesEntry, WalkSteps};
 
 use super::ChainArena;
 use arena_base::{Advancer, Ptr};
@@ -12,7 +12,8 @@ use std::marker::Model;
 /// Goes through the pointers of a chain arena, from one entry to the last.
 ///
 /// It borrows nothing, and keeps the index of the entry that it gives next: a step gives the entry that has this index then, and
-/// goes on from its present link. Where no entry has the index, it has ended.
+/// goes on to the index that its link names at that moment. `None` is for good: it comes where no entry has the index, and after the
+/// entry that was the last one when it was given, also where others come behind it later.
 #[derive(Drop)]
 pub struct ChainPtrAdvancer<P: Ptr> {
     at: Option<P::Inx>,
@@ -30,9 +31,7 @@ impl<P: Ptr> Model for ChainPtrAdvancer<P> {
 impl<P: Ptr, T, A: Allocator> Advancer<ChainArena<P, T, A>> for ChainPtrAdvancer<P> {
     type Item = P;
 
-    ghost advance_gives = { λ s c result t. MatchOption result
-        ((pointers_from s c ≡ []) × (t ≡ None))
-        (λ p. pointers_from s c ≡ (P.index p, P.era p) ∷ pointers_from t c) };
+    ghost advance_gives = { WalkSteps P.index P.era };
 
     ghost has_ended = { λ s. s ≡ None };
 
@@ -66,7 +65,7 @@ impl<P: Ptr, T, A: Allocator> ChainArena<P, T, A> {
     fn step(&self, i: P::Inx) -> Option<(P, Option<P::Inx>)>
         ensures { MatchOption result
             (pointers_from (Some (P.Inx.number i)) self.now ≡ [])
-            (λ e. pointers_from (Some (P.Inx.number i)) self.now ≡ (P.index e.0, P.era e.0) ∷ pointers_from (option_map P.Inx.number e.1) self.now) }
+            (λ e. GivesEntry (Some (P.Inx.number i)) (option_map P.Inx.number e.1) self.now (P.index e.0) (P.era e.0)) }
     {
         let entry = self.arena.get_inx(i)?;
         Some((P::_from_raw(i, entry.0), entry.1.next()))

@@ -26,7 +26,6 @@ impl<P: Ptr, T, A: Allocator> OrdTree<P, T, A> {
     pub fn with_min_capacity(alloc: A, n: usize) -> Result<Self, AllocError>
     where
         A: Copy,
-        T: Drop,
         ensures ok { IfOk result (λ t. t ≡ record { list = with_capacity (new_chain P.Gen.greatest) n; shape = missing }) }
         ensures beyond { P.Inx.most < n → IsErr result }
         ensures none { n ≡ 0 → IsOk result }

@@ -24,7 +24,6 @@ impl<P: Ptr, T, A: Allocator> SimpleOrdArena<P, T, A> {
     pub fn with_min_capacity(alloc: A, n: usize) -> Result<Self, AllocError>
     where
         A: Copy,
-        T: Drop,
         ensures ok { IfOk result (λ a. a ≡ record { list = with_capacity (new_chain P.Gen.greatest) n; shape = missing }) }
         ensures beyond { P.Inx.most < n → IsErr result }
         ensures none { n ≡ 0 → IsOk result }

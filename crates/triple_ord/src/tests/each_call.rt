@@ -1,7 +1,7 @@
 //! Each call's answer over five keys, at each kind of pointer and two kinds of items.
 use crate::{OrdInsertionError, OrdPair, SimpleOrdArena, SimpleOrdItem};
-use arena_base::{P0, P8, PN, Ptr, PtrGen};
-use std::alloc::Global;
+use arena_base::{P0, P8, PN, Ptr, PtrGen, PtrInx};
+use std::alloc::{AllocError, Global};
 use std::cmp::Ordering;
 use std::process::Abort;
 use std::test::Fail;
@@ -218,6 +218,86 @@ fn writes_reach_items<P: Ptr, T: Marked>(
     Ok(())
 }
 
+/// What stands at an index: the generation, key and mark, the neighbours in the list, and in the tree parent, sides and rank.
+#[derive(PartialEq, Drop)]
+struct Standing<P: Ptr> {
+    generation: P::Gen,
+    item: (u64, u64),
+    neighbours: (Option<P::Inx>, Option<P::Inx>),
+    parent: Option<P::Inx>,
+    sides: (Option<P::Inx>, Option<P::Inx>),
+    rank: u8,
+}
+
+/// All that can be seen of an arena: its numbers and ends, and what stands at each index.
+#[derive(PartialEq, Drop)]
+struct Seen<P: Ptr> {
+    capacity: usize,
+    maximum: Option<usize>,
+    generation: P::Gen,
+    ends: (Option<P>, Option<P>),
+    at: Vec<Option<Standing<P>>>,
+}
+
+fn stands_at<P: Ptr, T: Marked>(a: &SimpleOrdArena<P, T>, i: P::Inx) -> Option<Standing<P>> {
+    let (generation, link) = a.get_inx_node(i)?;
+    let node = &link.t;
+    Some(Standing {
+        generation,
+        item: (*node.t.key(), node.t.mark()),
+        neighbours: link.prev_next(),
+        parent: node.p_back,
+        sides: (node.p_tree0, node.p_tree1),
+        rank: node.rank,
+    })
+}
+
+fn look_at<P: Ptr, T: Marked>(
+    alloc: Global,
+    a: &SimpleOrdArena<P, T>,
+) -> Result<Seen<P>, AllocError> {
+    let mut at = Vec::new(alloc);
+    for n in 1..=9 {
+        at.push(match P::Inx::try_from_usize(n) {
+            Some(i) => stands_at(a, i),
+            None => None,
+        })?;
+    }
+    Ok(Seen {
+        capacity: a.capacity(),
+        maximum: a.max_capacity(),
+        generation: a.generation(),
+        ends: (a.first(), a.last()),
+        at,
+    })
+}
+
+fn get_inx_mut_leaves_all_but_the_item<P: Ptr, T: Marked>(
+    rt: &impl Abort,
+    alloc: Global,
+    five: &mut Five<P, T>,
+) -> Result<(), Fail> {
+    let a = &mut five.arena;
+    let i = five.p30.inx();
+    let mut expected = look_at(alloc, a)?;
+    let vacant = P::Inx::try_from_usize(6).ok_or("an index")?;
+    assert!(rt; a.get_inx_mut(vacant).is_none() && look_at(alloc, a)? == expected);
+    assert!(rt; a.get_inx_mut(P::invalid().inx()).is_none() && look_at(alloc, a)? == expected);
+    let (generation, item) = a.get_inx_mut(i).ok_or("30")?;
+    assert!(rt; generation == five.p30.generation() && *item.key() == 30);
+    assert!(rt; look_at(alloc, a)? == expected);
+    let (_, item) = a.get_inx_mut(i).ok_or("30")?;
+    *item = T::marked(99, 12);
+    if let Some(Some(written)) = expected.at.get_mut(1) {
+        assert_eq!(rt; written.item.0, 30);
+        written.item = (99, 12);
+    }
+    assert!(rt; look_at(alloc, a)? == expected);
+    let (_, item) = a.get_inx_mut(i).ok_or("30")?;
+    *item = T::marked(30, 12);
+    Ok(())
+}
+
 fn generations_are_set<P: Ptr, T: Marked>(rt: &impl Abort, five: &mut Five<P, T>) {
     let a = &mut five.arena;
     let two = <P::Gen as PtrGen>::two();
@@ -260,6 +340,7 @@ fn each_call_answers<P: Ptr, T: Marked>(rt: &impl Abort, alloc: Global) -> Resul
     walks_give_all(rt, &five)?;
     equal_keys_replace(rt, &mut five)?;
     writes_reach_items(rt, &mut five)?;
+    get_inx_mut_leaves_all_but_the_item(rt, alloc, &mut five)?;
     generations_are_set(rt, &mut five);
     pointers_end(rt, five)
 }

@@ -5,8 +5,8 @@ use Rattle.arena_base.specs.Walk.{falling_from}
 use Rattle.arena_base.proofs.Walks.{falling-none, falling-some}
 use Rattle.arena_base.proofs.arena.Arena.last_before.Goals as goal
 
-pub returns-in-Some : goal.returns-in-Some
-returns-in-Some g c =
+pub returns-in-Some-clause-pointers : goal.returns-in-Some-clause-pointers
+returns-in-Some-clause-pointers g c =
     let a = c.args.self.now in
     let n = c.loop-place.place in
     let next : n ≡ n - 1 + 1 = omega arith in

@@ -1,14 +1,14 @@
-use Rattle.std.proofs.Common.{◌∙◌, sym, ap}
+use Rattle.std.proofs.Common.{◌∙◌, sym}
 use Rattle.std.specs.Option.{option_map}
 use Rattle.chain_base.specs.Layout.{chain_of}
 use Rattle.chain_base.proofs.Ends.{link_at-laid_out}
-use Rattle.chain_base.proofs.Going.{pointers_from-some, pointers_from-none}
+use Rattle.chain_base.proofs.Going.{gives-from_link, pointers_from-none}
 use Rattle.chain_base.proofs.chain.ChainArena.step.Goals as goal
 
 pub returns : goal.returns
 returns g c =
     rw (c._from_raw.ensures.index, c._from_raw.ensures.era, c.next.ensures.value, ← c.self.view_is)
-    (pointers_from-some (chain_of c.self.inside.arena (option_map g.P.Inx.PtrInx.number c.self.inside.first)) _ _ c.in_ok-entry.entry.1.now c.self.invariant.distinct (c.in_ok-entry.ensures ∙ sym (link_at-laid_out c.self.inside.arena _ _ c.self.invariant _)))
+    (gives-from_link (chain_of c.self.inside.arena (option_map g.P.Inx.PtrInx.number c.self.inside.first)) _ _ c.in_ok-entry.entry.1.now c.self.invariant.distinct (c.in_ok-entry.ensures ∙ sym (link_at-laid_out c.self.inside.arena _ _ c.self.invariant _)))
 
 pub returns-in_err-entry : goal.returns-in_err-entry
 returns-in_err-entry g c =
