@@ -1,4 +1,4 @@
-ghost use Rattle.std.specs.Prelude.{◌≡◌, IfErr};
+ghost use Rattle.std.specs.Prelude.{◌≡◌, IfErr, IsTrue};
 
 use super::*;
 use linked_list_allocator::LocalHeap;
@@ -297,11 +297,22 @@ fn walks_and_drains(rt: HostRuntime) -> Result<(), Fail> {
     Ok(())
 }
 
+// Any advancer that is made empty gives nothing, however the collection changes between two steps.
+fn gives_nothing<C, A: Advancer<C> + Drop>(first: &C, second: &C) -> bool
+where
+    A::Item: Drop,
+    ensures { IsTrue result }
+{
+    let mut none: A = Advancer::<C>::empty();
+    none.advance(first).is_none() && none.advance(second).is_none()
+}
+
 #[test]
 fn a_walk_goes_on_with_later_entries(rt: HostRuntime) -> Result<(), Fail> {
     let mut arena: Arena<P0, u64> = Arena::new(rt.alloc());
     let (mut up, mut down) = (arena.advancer(), arena.advancer_inx(3, true));
     let mut none: PtrAdvancer<P0> = Advancer::<Arena<P0, u64>>::empty();
+    let empty: Arena<P0, u64> = Arena::new(rt.alloc());
     assert_eq!(rt; (up.advance(&arena), down.advance(&arena)), (None, None));
     for item in 0..3u64 {
         arena.insert_reallocating(item)?;
@@ -330,6 +341,7 @@ fn a_walk_goes_on_with_later_entries(rt: HostRuntime) -> Result<(), Fail> {
         (Some(p0(4, 4)), None)
     );
     assert_eq!(rt; (up.advance(&arena), none.advance(&arena)), (None, None));
+    assert!(rt; gives_nothing::<Arena<P0, u64>, PtrAdvancer<P0>>(&empty, &arena));
     Ok(())
 }
 
