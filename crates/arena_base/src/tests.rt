@@ -400,6 +400,7 @@ fn through_the_trait<A: ArenaTrait<P0, u64> + SetMaxCapacity<P0, u64>>(
         (arena.len(), arena.is_empty(), arena.capacity()),
         (2, false, 4)
     );
+    assert_eq!(rt; arena.capacity() - arena.len(), 2);
     assert_eq!(rt;
         (arena.max_capacity(), arena.singular_generation()),
         (None, Some(2))
@@ -433,6 +434,8 @@ fn as_any_arena(rt: HostRuntime) -> Result<(), Fail> {
     through_the_trait(&mut arena, &rt, p);
     let fresh: Arena<P0, u64> = ArenaTrait::new(arena.alloc());
     assert!(rt; fresh.is_empty());
+    let none: Arena<P0, u64> = ArenaTrait::with_min_capacity(arena.alloc(), 0).unwrap();
+    assert_eq!(rt; none.capacity(), 0);
     Ok(())
 }
 
