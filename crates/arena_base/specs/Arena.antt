@@ -93,7 +93,7 @@ module _ {T : Type 0} where
     pub within : i ≤ arena_capacity a
     pub free : slot a i ≡ None
 
-  -- what is true of every arena, whatever the order in which it takes its vacant slots: `most` is the greatest index of an entry,
+  -- what is true of every arena, in whatever order it takes its vacant slots: `most` is the greatest index of an entry,
   -- `greatest` stands for the generations
   pub record IsLawful (most : ℕ) (greatest : Option ℕ) (a : Arena T) : Type 0 where
     pub begins : take 1 a.slots ≡ None ∷ []

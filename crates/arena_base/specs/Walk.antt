@@ -56,13 +56,13 @@ module _ {T : Type 0} where
   abbrev pub walk_rest : Walk → Arena T → List (ℕ × ℕ)
   walk_rest w a = if w.falling then falling_from a w.at else rising_from a (w.at + 1)
 
-  -- a step over the arena as it is now took the walk `old` to `new`, and gave the entry with index i and generation g, the next that
-  -- there is
+  -- a step over the arena as it is now took the walk `old` to `new`, and gave the next entry on its way, with index i and
+  -- generation g
   pub record GivesEntry (old new : Walk) (a : Arena T) (i g : ℕ) : Type 0 where
     pub first : walk_rest old a ≡ (i, g) ∷ walk_rest new a
     pub stands : new ≡ walk_from old i
 
-  -- a step gave nothing: no entry is left on the way, and the walk stays where it is, so that it gives one that comes there later
+  -- a step gave nothing: no entry is on the way now, and the walk stays where it is, for those that come there later
   pub record GivesNothing (old new : Walk) (a : Arena T) : Type 0 where
     pub none_left : walk_rest old a ≡ []
     pub stays : new ≡ old

@@ -1,4 +1,4 @@
-ghost use Rattle.std.specs.Prelude.{◌≡◌, IfErr};
+ghost use Rattle.std.specs.Prelude.{◌≡◌, IfErr, IsTrue};
 
 use super::*;
 use linked_list_allocator::LocalHeap;
@@ -297,11 +297,22 @@ fn walks_and_drains(rt: HostRuntime) -> Result<(), Fail> {
     Ok(())
 }
 
+// Any advancer that is made empty gives nothing, however the collection changes between two steps.
+fn gives_nothing<C, A: Advancer<C> + Drop>(first: &C, second: &C) -> bool
+where
+    A::Item: Drop,
+    ensures { IsTrue result }
+{
+    let mut none: A = Advancer::<C>::empty();
+    none.advance(first).is_none() && none.advance(second).is_none()
+}
+
 #[test]
 fn a_walk_goes_on_with_later_entries(rt: HostRuntime) -> Result<(), Fail> {
     let mut arena: Arena<P0, u64> = Arena::new(rt.alloc());
     let (mut up, mut down) = (arena.advancer(), arena.advancer_inx(3, true));
     let mut none: PtrAdvancer<P0> = Advancer::<Arena<P0, u64>>::empty();
+    let empty: Arena<P0, u64> = Arena::new(rt.alloc());
     assert_eq!(rt; (up.advance(&arena), down.advance(&arena)), (None, None));
     for item in 0..3u64 {
         arena.insert_reallocating(item)?;
@@ -330,6 +341,7 @@ fn a_walk_goes_on_with_later_entries(rt: HostRuntime) -> Result<(), Fail> {
         (Some(p0(4, 4)), None)
     );
     assert_eq!(rt; (up.advance(&arena), none.advance(&arena)), (None, None));
+    assert!(rt; gives_nothing::<Arena<P0, u64>, PtrAdvancer<P0>>(&empty, &arena));
     Ok(())
 }
 
@@ -388,6 +400,7 @@ fn through_the_trait<A: ArenaTrait<P0, u64> + SetMaxCapacity<P0, u64>>(
         (arena.len(), arena.is_empty(), arena.capacity()),
         (2, false, 4)
     );
+    assert_eq!(rt; arena.capacity() - arena.len(), 2);
     assert_eq!(rt;
         (arena.max_capacity(), arena.singular_generation()),
         (None, Some(2))
@@ -421,6 +434,8 @@ fn as_any_arena(rt: HostRuntime) -> Result<(), Fail> {
     through_the_trait(&mut arena, &rt, p);
     let fresh: Arena<P0, u64> = ArenaTrait::new(arena.alloc());
     assert!(rt; fresh.is_empty());
+    let none: Arena<P0, u64> = ArenaTrait::with_min_capacity(arena.alloc(), 0).unwrap();
+    assert_eq!(rt; none.capacity(), 0);
     Ok(())
 }
 

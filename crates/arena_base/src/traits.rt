@@ -85,7 +85,8 @@ pub trait ArenaTrait<P: Ptr, T> {
     fn get_inx(&self, i: P::Inx) -> Option<(P::Gen, &T)>
         ensures { option_map (λ e. (P.Gen.number e.0, e.1.now)) result ≡ slot (content self.now) (P.Inx.number i) };
 
-    /// Generation and item of the entry at the index; the item may be written. What it leaves is not said, other than of `pair_mut`.
+    /// Generation and item of the entry at the index; the item may be written. No clause says what it leaves; that of `pair_mut`
+    /// does.
     fn get_inx_mut(&mut self, i: P::Inx) -> Option<(P::Gen, &mut T)>
         ensures { option_map (λ e. (P.Gen.number e.0, e.1.now)) result ≡ slot (content self.old) (P.Inx.number i) };
 

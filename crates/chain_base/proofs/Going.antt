@@ -37,32 +37,33 @@ module _ {T : Type 0} where
       omega (arith, distinct f.index, times-append f.index front (e ∷ f ∷ back), times-append f.index front (e ∷ []), times-here f.index f back refl) in
       ap pointers (ap (λ es. from_index es f.index) same ∙ from_index-split (front ++ e ∷ []) f back f.index refl unmet)
 
-  -- the entry of an index, and what its link leads to
-  pointers_from-some : (c : Chain T) (i g : ℕ) (l : Link T) → IsDistinct c.entries → ◌≡◌ {A = Option (ℕ × Link T)} (Some (g, l)) (link_at c.entries i) → pointers_from (Some i) c ≡ (i, g) ∷ pointers_from l.next c
-  pointers_from-some c i g l distinct held = from_place (Stands-occurs c.entries i occurs)
-    where
-      occurs : 1 ≤ times i c.entries
-      occurs = elim (eqb_tells (times i c.entries) 0) [
-        | inl h ↦ absurd (let none = link_between-absent None None c.entries i h.1 in cc)
-        | inr h ↦ omega arith
-      ]
+  module _ (c : Chain T) (i g : ℕ) (l : Link T) (distinct : IsDistinct c.entries) (held : ◌≡◌ {A = Option (ℕ × Link T)} (Some (g, l)) (link_at c.entries i)) where
+    -- the entry of an index, and what its link leads to
+    pointers_from-some : pointers_from (Some i) c ≡ (i, g) ∷ pointers_from l.next c
+    pointers_from-some = from_place (Stands-occurs c.entries i occurs)
+      where
+        occurs : 1 ≤ times i c.entries
+        occurs = elim (eqb_tells (times i c.entries) 0) [
+          | inl h ↦ absurd (let none = link_between-absent None None c.entries i h.1 in cc)
+          | inr h ↦ omega arith
+        ]
 
-      from_place : Stands c.entries i → pointers_from (Some i) c ≡ (i, g) ∷ pointers_from l.next c
-      from_place s =
-          let unmet : times s.entry.index s.front ≡ 0 = ap (λ k. times k s.front) s.here ∙ s.unmet in
-          let found : Some (g, l) ≡ link_at (s.front ++ s.entry ∷ s.back) s.entry.index =
-          held ∙ ap (λ es. link_at es i) s.split ∙ ap (link_at (s.front ++ s.entry ∷ s.back)) (sym s.here) in
-          let read = rw (link_between-append None None s.front (s.entry ∷ s.back) s.entry.index, link_between-absent None (Some s.entry.index) s.front s.entry.index unmet, same_index s.entry.index) at found in
-          let held_pair : ℕ × Link T = (g, l) in
-          let pair : held_pair ≡ (s.entry.generation, record { item = s.entry.item; prev = last_or None s.front; next = first_or None s.back }) = cc in
-          let era : g ≡ s.entry.generation = ap (λ x. x.0) pair in
-          let next : l.next ≡ first_or None s.back = ap (λ x. x.1.next) pair in
-          let distinct2 = subst (λ (es : List (Entry T)). IsDistinct es) s.split distinct in
-          let here : pointers_from (Some i) c ≡ (s.entry.index, s.entry.generation) ∷ pointers s.back =
-          ap pointers (ap (λ es. from_index es i) s.split ∙ from_index-split s.front s.entry s.back i s.here s.unmet) in
-          rw (here, s.here, era, next, behind c s.front s.entry s.back distinct2 s.split) refl
+        from_place : Stands c.entries i → pointers_from (Some i) c ≡ (i, g) ∷ pointers_from l.next c
+        from_place s =
+            let unmet : times s.entry.index s.front ≡ 0 = ap (λ k. times k s.front) s.here ∙ s.unmet in
+            let found : Some (g, l) ≡ link_at (s.front ++ s.entry ∷ s.back) s.entry.index =
+            held ∙ ap (λ es. link_at es i) s.split ∙ ap (link_at (s.front ++ s.entry ∷ s.back)) (sym s.here) in
+            let read = rw (link_between-append None None s.front (s.entry ∷ s.back) s.entry.index, link_between-absent None (Some s.entry.index) s.front s.entry.index unmet, same_index s.entry.index) at found in
+            let held_pair : ℕ × Link T = (g, l) in
+            let pair : held_pair ≡ (s.entry.generation, record { item = s.entry.item; prev = last_or None s.front; next = first_or None s.back }) = cc in
+            let era : g ≡ s.entry.generation = ap (λ x. x.0) pair in
+            let next : l.next ≡ first_or None s.back = ap (λ x. x.1.next) pair in
+            let distinct2 = subst (λ (es : List (Entry T)). IsDistinct es) s.split distinct in
+            let here : pointers_from (Some i) c ≡ (s.entry.index, s.entry.generation) ∷ pointers s.back =
+            ap pointers (ap (λ es. from_index es i) s.split ∙ from_index-split s.front s.entry s.back i s.here s.unmet) in
+            rw (here, s.here, era, next, behind c s.front s.entry s.back distinct2 s.split) refl
 
-  -- a walk that stands at the index gives the entry, and goes on by its link
-  pub gives-from_link : (c : Chain T) (i g : ℕ) (l : Link T) → IsDistinct c.entries → ◌≡◌ {A = Option (ℕ × Link T)} (Some (g, l)) (link_at c.entries i) → GivesEntry (Some i) l.next c i g
-  gives-from_link c i g l distinct held =
-      record { stood = refl; first = pointers_from-some c i g l distinct held; stands = ap (option_and_then (λ (e : ℕ × Link T). e.1.next)) held }
+    -- a walk that stands at the index gives the entry, and goes on by its link
+    pub gives-from_link : GivesEntry (Some i) l.next c i g
+    gives-from_link =
+        record { stood = refl; first = pointers_from-some; stands = ap (option_and_then (λ (e : ℕ × Link T). e.1.next)) held }

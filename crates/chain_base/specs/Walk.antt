@@ -17,8 +17,8 @@ module _ {T : Type 0} where
   abbrev pub index_after : List (Entry T) → ℕ → Option ℕ
   index_after es i = option_and_then (λ e. e.1.next) (link_at es i)
 
-  -- a step over the chain as it is now took a walk from `old` to `new`, and gave the entry with index i and generation g: the one that
-  -- it stood at. It stands at the entry after that one, or at none.
+  -- a step over the chain as it is now took a walk from `old` to `new`, and gave the entry that it stood at, with index i and
+  -- generation g. It stands at the index of the entry after that one, or at none.
   pub record GivesEntry (old new : Option ℕ) (c : Chain T) (i g : ℕ) : Type 0 where
     pub stood : old ≡ Some i
     pub first : pointers_from old c ≡ (i, g) ∷ pointers_from new c

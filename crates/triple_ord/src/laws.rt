@@ -1,4 +1,4 @@
-//! How pairs compare and hash: by key, then by value. A pair's order and hash agree with its equality where those of its parts do.
+//! How pairs compare and hash: by key, then by value. The order and the hash of pairs agree with their equality.
 ghost use Rattle.std.specs.Prelude.{◌≡◌, ◌&&◌, ◌++◌, ◌↔◌, Some, IsTrue};
 ghost use Rattle.std.specs.List.{fold};
 ghost use Rattle.std.specs.Ordering.{ordering_then, partial_ordering_then, is_eq};
@@ -14,19 +14,22 @@ pub fn pairs_equal<K: PartialEq, V: PartialEq>(a: &OrdPair<K, V>, b: &OrdPair<K,
     *a == *b
 }
 
-/// The order of two pairs, if there is one: that of their keys, and where these are equal that of their values. It is `Equal` just for
-/// equal pairs.
+/// The order of two pairs, if there is one: that of their keys, and where these are equal that of their values. It is `Equal`
+/// just for equal pairs.
 pub fn pairs_partial_cmp<K: PartialOrd, V: PartialOrd>(
     a: &OrdPair<K, V>,
     b: &OrdPair<K, V>,
 ) -> Option<Ordering>
-    ensures order { result ≡ partial_ordering_then (K.partial_cmp a.now.0 b.now.0) (V.partial_cmp a.now.1 b.now.1) }
-    ensures equal { (result ≡ Some Ordering.Equal) ↔ IsTrue (K.eq a.now.0 b.now.0 && V.eq a.now.1 b.now.1) }
+    ensures order { result
+        ≡ partial_ordering_then (K.partial_cmp a.now.0 b.now.0) (V.partial_cmp a.now.1 b.now.1) }
+    ensures equal { (result ≡ Some Ordering.Equal)
+        ↔ IsTrue (K.eq a.now.0 b.now.0 && V.eq a.now.1 b.now.1) }
 {
     a.partial_cmp(b)
 }
 
-/// The order of two pairs: that of their keys, and where these are equal that of their values. It is `Equal` just for equal pairs.
+/// The order of two pairs: that of their keys, and where these are equal that of their values. It is `Equal` just for equal
+/// pairs.
 pub fn pairs_cmp<K: Ord, V: Ord>(a: &OrdPair<K, V>, b: &OrdPair<K, V>) -> Ordering
     ensures order { result ≡ ordering_then (K.cmp a.now.0 b.now.0) (V.cmp a.now.1 b.now.1) }
     ensures equal { is_eq result ≡ (K.eq a.now.0 b.now.0 && V.eq a.now.1 b.now.1) }
@@ -36,7 +39,8 @@ pub fn pairs_cmp<K: Ord, V: Ord>(a: &OrdPair<K, V>, b: &OrdPair<K, V>) -> Orderi
 
 /// Feeds a pair to a hasher: the key, and then the value.
 pub fn pair_hash<K: Hash, V: Hash, H: Hasher>(pair: &OrdPair<K, V>, state: &mut H)
-    ensures { state.new ≡ fold H.write state.old (K.hash_input pair.now.0 ++ V.hash_input pair.now.1) }
+    ensures { state.new
+        ≡ fold H.write state.old (K.hash_input pair.now.0 ++ V.hash_input pair.now.1) }
 {
     pair.hash(state);
 }
@@ -44,7 +48,8 @@ pub fn pair_hash<K: Hash, V: Hash, H: Hasher>(pair: &OrdPair<K, V>, state: &mut 
 /// Whether two pairs are equal. Then they feed a hasher alike.
 pub fn pairs_hash_alike<K: Hash, V: Hash>(a: &OrdPair<K, V>, b: &OrdPair<K, V>) -> bool
     ensures equal { result ≡ (K.eq a.now.0 b.now.0 && V.eq a.now.1 b.now.1) }
-    ensures alike { IsTrue result → K.hash_input a.now.0 ++ V.hash_input a.now.1 ≡ K.hash_input b.now.0 ++ V.hash_input b.now.1 }
+    ensures alike { IsTrue result → K.hash_input a.now.0 ++ V.hash_input a.now.1
+        ≡ K.hash_input b.now.0 ++ V.hash_input b.now.1 }
 {
     *a == *b
 }

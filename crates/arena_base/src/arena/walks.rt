@@ -11,9 +11,9 @@ use std::marker::{Model, PhantomData};
 
 /// Goes through the pointers of an arena by index, up or down.
 ///
-/// It borrows nothing, so the arena may be changed between two steps: a step gives the next entry that is there then, and stands at its
-/// index afterwards. Where there is none it gives `None` and stays where it is, so that it goes on with entries that come behind it later.
-/// Only one that goes down and has come to index 0 has ended.
+/// It borrows nothing, so the arena may be changed between two steps: a step gives the next entry that is there then, and
+/// stands at its index afterwards. Where there is none it gives `None` and stays where it is, so that it goes on with entries
+/// that come behind it later. It has ended where it goes down from index 0, and nowhere else.
 #[derive(Drop)]
 pub struct PtrAdvancer<P: Ptr> {
     // the place of the slot that it stands before
@@ -72,7 +72,8 @@ impl<P: Ptr, T, A: Allocator> Arena<P, T, A> {
 
     /// Goes through the pointers from an index on, which is the first: up, or down where `rev` is true.
     pub fn advancer_inx(&self, i: P::Inx, rev: bool) -> PtrAdvancer<P>
-        ensures begins { result ≡ (if rev then falling_walk (P.Inx.number i) else rising_walk (P.Inx.number i)) }
+        ensures begins { result
+            ≡ (if rev then falling_walk (P.Inx.number i) else rising_walk (P.Inx.number i)) }
         ensures rising { rev ≡ false → walk_rest result self.now ≡ rising_from self.now (P.Inx.number i) }
         ensures falling { rev ≡ true → walk_rest result self.now ≡ falling_from self.now (P.Inx.number i) }
     {

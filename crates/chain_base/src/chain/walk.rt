@@ -12,8 +12,8 @@ use std::marker::Model;
 /// Goes through the pointers of a chain arena, from one entry to the last.
 ///
 /// It borrows nothing, and keeps the index of the entry that it gives next: a step gives the entry that has this index then, and
-/// goes on to the index that its link names at that moment. `None` is for good: it comes where no entry has the index, and after the
-/// entry that was the last one when it was given, also where others come behind it later.
+/// goes on to the index that its link names at that moment. `None` is for good: it comes where no entry has the index, and
+/// after the entry that was the last one when it was given, also where others come behind it later.
 #[derive(Drop)]
 pub struct ChainPtrAdvancer<P: Ptr> {
     at: Option<P::Inx>,
@@ -65,7 +65,8 @@ impl<P: Ptr, T, A: Allocator> ChainArena<P, T, A> {
     fn step(&self, i: P::Inx) -> Option<(P, Option<P::Inx>)>
         ensures { MatchOption result
             (pointers_from (Some (P.Inx.number i)) self.now ≡ [])
-            (λ e. GivesEntry (Some (P.Inx.number i)) (option_map P.Inx.number e.1) self.now (P.index e.0) (P.era e.0)) }
+            (λ e. GivesEntry (Some (P.Inx.number i)) (option_map P.Inx.number e.1) self.now
+            (P.index e.0) (P.era e.0)) }
     {
         let entry = self.arena.get_inx(i)?;
         Some((P::_from_raw(i, entry.0), entry.1.next()))

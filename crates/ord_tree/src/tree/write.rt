@@ -47,8 +47,8 @@ impl<P: Ptr, T, A: Allocator> OrdTree<P, T, A> {
 
     /// Generation and item of the entry at the index; the item may be written.
     ///
-    /// Its clause says what it gives, and can't say what it leaves; that is said by `pair_mut`, which it calls where `contains_inx` is
-    /// true, and it does nothing else.
+    /// Its clause says what it gives, and can't say what it leaves. It calls `pair_mut`, whose clause says that, where
+    /// `contains_inx` is true, and does nothing else.
     pub fn get_inx_mut(&mut self, i: P::Inx) -> Option<(P::Gen, &mut T)>
         ensures value { option_map (λ e. (P.Gen.number e.0, e.1.now)) result
             ≡ entry_at self.old.list.entries (P.Inx.number i) }

@@ -33,8 +33,8 @@ impl<P: Ptr, T, A: Allocator> SimpleOrdArena<P, T, A> {
 
     /// Generation and item of the entry at the index; the item may be written, as with `get_mut`.
     ///
-    /// Its clause says what it gives, and can't say what it leaves. It hands on to the tree's call of this name, which calls `pair_mut`
-    /// where there is an entry, and does nothing else.
+    /// Its clause says what it gives, and can't say what it leaves. It hands on to the tree's call of this name, which calls
+    /// `pair_mut` where there is an entry, and does nothing else.
     pub fn get_inx_mut(&mut self, i: P::Inx) -> Option<(P::Gen, &mut T)>
         ensures value { option_map (λ e. (P.Gen.number e.0, e.1.now)) result
             ≡ entry_at self.old.list.entries (P.Inx.number i) }
