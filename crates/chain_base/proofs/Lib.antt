@@ -7,3 +7,4 @@ pub mod Ends
 pub mod Places
 pub mod Calls
 pub mod Going
+pub mod CallerLemmas

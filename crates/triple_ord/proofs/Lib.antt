@@ -4,3 +4,4 @@ pub mod Bounds
 pub mod Bare
 pub mod Walking
 pub mod Inserting
+pub mod CallerLemmas

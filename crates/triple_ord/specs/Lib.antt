@@ -1,6 +1,7 @@
 pub mod EntryKind
 pub mod Gap
 pub mod Search
+pub mod Arena
 pub mod VisitBounds
 pub mod Insertion
 pub mod Placing

@@ -1,7 +1,7 @@
 //! Looking up entries by pointer and by index.
 ghost use Rattle.std.specs.Prelude.{◌≡◌, Some, IsSome, is_some};
 ghost use Rattle.std.specs.Option.{option_copied, option_map};
-ghost use Rattle.chain_base.specs.Chain.{entry_at, item_of};
+ghost use Rattle.triple_ord.specs.Arena.{item_of, entry_at};
 
 use super::SimpleOrdArena;
 use arena_base::Ptr;
@@ -11,14 +11,14 @@ use std::ops::Index;
 impl<P: Ptr, T, A: Allocator> SimpleOrdArena<P, T, A> {
     /// Whether the pointer names an entry.
     pub fn contains(&self, p: P) -> bool
-        ensures { result ≡ is_some (item_of self.now.list.entries (P.index p) (P.era p)) }
+        ensures { result ≡ is_some (item_of self.now (P.index p, P.era p)) }
     {
         self.tree.chain().contains(p)
     }
 
     /// The item that the pointer names.
     pub fn get(&self, p: P) -> Option<&T>
-        ensures { option_copied result ≡ item_of self.now.list.entries (P.index p) (P.era p) }
+        ensures { option_copied result ≡ item_of self.now (P.index p, P.era p) }
     {
         let node = self.tree.chain().get(p)?;
         Some(&node.t)
@@ -26,7 +26,7 @@ impl<P: Ptr, T, A: Allocator> SimpleOrdArena<P, T, A> {
 
     /// Generation and item of the entry at the index.
     pub fn get_inx(&self, i: P::Inx) -> Option<(P::Gen, &T)>
-        ensures { option_map (λ e. (P.Gen.number e.0, e.1.now)) result ≡ entry_at self.now.list.entries (P.Inx.number i) }
+        ensures { option_map (λ e. (P.Gen.number e.0, e.1.now)) result ≡ entry_at self.now (P.Inx.number i) }
     {
         let entry = self.tree.chain().get_inx(i)?;
         let node = entry.1;
@@ -37,9 +37,9 @@ impl<P: Ptr, T, A: Allocator> SimpleOrdArena<P, T, A> {
 impl<P: Ptr, T, A: Allocator> Index<P> for SimpleOrdArena<P, T, A> {
     type Output = T;
 
-    ghost can_index = { λ a p. IsSome (item_of a.list.entries (P.index p) (P.era p)) };
+    ghost can_index = { λ a p. IsSome (item_of a (P.index p, P.era p)) };
 
-    ghost index_gives = { λ a p item. item_of a.list.entries (P.index p) (P.era p) ≡ Some item };
+    ghost index_gives = { λ a p item. item_of a (P.index p, P.era p) ≡ Some item };
 
     fn index(&self, p: P) -> &T {
         self.get(p).unwrap()

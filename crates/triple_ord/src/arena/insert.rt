@@ -1,8 +1,9 @@
 //! Adding entries by key.
-ghost use Rattle.std.specs.Prelude.{◌≡◌, Some};
+ghost use Rattle.std.specs.Prelude.{◌≡◌, ◌+◌, Some, IfOk, OnErr, is_some, if◌then◌else◌};
 ghost use Rattle.std.specs.Option.{option_map};
-ghost use Rattle.chain_base.specs.Chain.{entry_at, IsOccupied};
+ghost use Rattle.chain_base.specs.Chain.{IsOccupied};
 ghost use Rattle.ord_tree.specs.Tree.{CanPutAt, with_item_in};
+ghost use Rattle.triple_ord.specs.Arena.{item_of, entry_at, count, Updates};
 ghost use Rattle.triple_ord.specs.Insertion.{Inserts};
 ghost use Rattle.triple_ord.specs.Placing.{InsertsAt};
 
@@ -25,10 +26,13 @@ impl<P: Ptr, T: SimpleOrdItem + Drop, A: Allocator> SimpleOrdArena<P, T, A> {
     ///
     /// A new entry changes the parent of at most five others in the tree.
     pub fn insert_reallocating(&mut self, t: T) -> Result<(P, Option<T>), OrdInsertionError>
-        ensures { Inserts T.key_of T.Key.cmp P.Inx.most (λ p. (P.index p, P.era p)) self.old t result self.new }
+        ensures inserts { Inserts T.key_of T.Key.cmp P.Inx.most (λ p. (P.index p, P.era p)) self.old t result self.new }
+        ensures updates { IfOk result (λ a. Updates self.old self.new (P.index a.0, P.era a.0) (Some t)) }
+        ensures before { IfOk result (λ a. a.1 ≡ item_of self.old (P.index a.0, P.era a.0)) }
+        ensures count { IfOk result (λ a. count self.new ≡ (if is_some a.1 then count self.old else count self.old + 1)) }
+        ensures refused { OnErr result (self.new ≡ self.old) }
     {
-        // with its length an arena tells what holds of its list
-        let _ = self.len();
+        prove!(self.len() <= self.capacity());
         match self.find_similar_key(t.key()) {
             None => self.insert_at(None, t),
             Some(similar) if similar.1.is_eq() => {
@@ -41,7 +45,11 @@ impl<P: Ptr, T: SimpleOrdItem + Drop, A: Allocator> SimpleOrdArena<P, T, A> {
 
     /// The same as `insert_reallocating`.
     pub fn insert(&mut self, t: T) -> Result<(P, Option<T>), OrdInsertionError>
-        ensures { Inserts T.key_of T.Key.cmp P.Inx.most (λ p. (P.index p, P.era p)) self.old t result self.new }
+        ensures inserts { Inserts T.key_of T.Key.cmp P.Inx.most (λ p. (P.index p, P.era p)) self.old t result self.new }
+        ensures updates { IfOk result (λ a. Updates self.old self.new (P.index a.0, P.era a.0) (Some t)) }
+        ensures before { IfOk result (λ a. a.1 ≡ item_of self.old (P.index a.0, P.era a.0)) }
+        ensures count { IfOk result (λ a. count self.new ≡ (if is_some a.1 then count self.old else count self.old + 1)) }
+        ensures refused { OnErr result (self.new ≡ self.old) }
     {
         self.insert_reallocating(t)
     }
@@ -62,7 +70,7 @@ impl<P: Ptr, T: SimpleOrdItem + Drop, A: Allocator> SimpleOrdArena<P, T, A> {
     // Gives the entry at an index that has one another item, and answers the one that it had.
     fn replace(&mut self, i: P::Inx, t: T) -> T
         requires { IsOccupied self.old.list (P.Inx.number i) }
-        ensures before { option_map (λ e. e.1) (entry_at self.old.list.entries (P.Inx.number i)) ≡ Some result }
+        ensures before { option_map (λ e. e.1) (entry_at self.old (P.Inx.number i)) ≡ Some result }
         ensures after { self.new ≡ with_item_in self.old (P.Inx.number i) t }
     {
         let pair = self.tree.pair_mut(i);

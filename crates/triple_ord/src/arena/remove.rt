@@ -1,11 +1,12 @@
 //! Ending entries and their pointers. None of these calls takes memory.
-ghost use Rattle.std.specs.Prelude.{◌≡◌, IfSome, IfNone, OnSome, is_some};
+ghost use Rattle.std.specs.Prelude.{◌≡◌, ◌+◌, None, IfSome, IfNone, OnSome, is_some};
 ghost use Rattle.std.specs.Option.{option_map};
 ghost use Rattle.arena_base.specs.Generation.{next_generation, overflows_after};
 ghost use Rattle.arena_base.specs.Invalidation.{valid_value, has_overflowed, is_overflow};
-ghost use Rattle.chain_base.specs.Chain.{entry_at, item_of, removed, renewed, cleared};
+ghost use Rattle.chain_base.specs.Chain.{removed, renewed, cleared};
 ghost use Rattle.ord_tree.specs.Shape.{missing};
 ghost use Rattle.ord_tree.specs.Tree.{IsShrunk};
+ghost use Rattle.triple_ord.specs.Arena.{item_of, entry_at, count, Updates, Renews, FindsNothing};
 
 use super::SimpleOrdArena;
 use arena_base::{InvalidationOption, InvalidationResult, Ptr};
@@ -17,13 +18,16 @@ impl<P: Ptr, T, A: Allocator> SimpleOrdArena<P, T, A> {
     ///
     /// For a pointer that names no entry the answer is `InvalidPtr`, and nothing changes. It doesn't compare keys.
     pub fn remove(&mut self, p: P) -> InvalidationResult<T>
-        ensures value { valid_value result ≡ item_of self.old.list.entries (P.index p) (P.era p) }
+        ensures value { valid_value result ≡ item_of self.old (P.index p, P.era p) }
         ensures overflow { OnSome (valid_value result)
             (has_overflowed result ≡ overflows_after P.Gen.greatest self.old.list.generation) }
+        ensures updates { Updates self.old self.new (P.index p, P.era p) None }
+        ensures count { OnSome (valid_value result) (count self.old ≡ count self.new + 1) }
         ensures removed { OnSome (valid_value result) (self.new.list ≡ removed P.Gen.greatest self.old.list (P.index p)) }
         ensures shape { OnSome (valid_value result) (IsShrunk self.old.shape self.new.shape) }
         ensures invalid { IfNone (valid_value result) (self.new ≡ self.old) }
     {
+        prove!(self.len() <= self.capacity());
         if !self.contains(p) {
             return InvalidationResult::InvalidPtr;
         }
@@ -35,14 +39,18 @@ impl<P: Ptr, T, A: Allocator> SimpleOrdArena<P, T, A> {
     /// At an index without an entry the answer is `InvalidPtr`, and nothing changes.
     pub fn remove_inx(&mut self, i: P::Inx) -> InvalidationResult<(P::Gen, T)>
         ensures value { option_map (λ e. (P.Gen.number e.0, e.1)) (valid_value result)
-            ≡ entry_at self.old.list.entries (P.Inx.number i) }
+            ≡ entry_at self.old (P.Inx.number i) }
         ensures overflow { OnSome (valid_value result)
             (has_overflowed result ≡ overflows_after P.Gen.greatest self.old.list.generation) }
+        ensures updates { IfSome (valid_value result)
+            (λ e. Updates self.old self.new (P.Inx.number i, P.Gen.number e.0) None) }
+        ensures count { OnSome (valid_value result) (count self.old ≡ count self.new + 1) }
         ensures removed { OnSome (valid_value result)
             (self.new.list ≡ removed P.Gen.greatest self.old.list (P.Inx.number i)) }
         ensures shape { OnSome (valid_value result) (IsShrunk self.old.shape self.new.shape) }
         ensures invalid { IfNone (valid_value result) (self.new ≡ self.old) }
     {
+        prove!(self.len() <= self.capacity());
         self.tree.remove_inx(i)
     }
 
@@ -50,12 +58,15 @@ impl<P: Ptr, T, A: Allocator> SimpleOrdArena<P, T, A> {
     ///
     /// For a pointer that names no entry the answer is `InvalidPtr`, and nothing changes.
     pub fn invalidate(&mut self, p: P) -> InvalidationResult<P>
-        ensures valid { is_some (valid_value result) ≡ is_some (item_of self.old.list.entries (P.index p) (P.era p)) }
+        ensures valid { is_some (valid_value result) ≡ is_some (item_of self.old (P.index p, P.era p)) }
         ensures index { IfSome (valid_value result) (λ q. P.index q ≡ P.index p) }
         ensures era { IfSome (valid_value result)
             (λ q. P.era q ≡ next_generation P.Gen.greatest self.old.list.generation) }
         ensures overflow { OnSome (valid_value result)
             (has_overflowed result ≡ overflows_after P.Gen.greatest self.old.list.generation) }
+        ensures renews { IfSome (valid_value result)
+            (λ q. Renews self.old self.new (P.index p, P.era p) (P.index q, P.era q)) }
+        ensures count { count self.new ≡ count self.old }
         ensures renewed { OnSome (valid_value result)
             (self.new ≡ record self.old { list = renewed P.Gen.greatest self.old.list (P.index p) }) }
         ensures invalid { IfNone (valid_value result) (self.new ≡ self.old) }
@@ -68,6 +79,8 @@ impl<P: Ptr, T, A: Allocator> SimpleOrdArena<P, T, A> {
     pub fn clear(&mut self) -> InvalidationOption<()>
     where
         T: Drop,
+        ensures found { FindsNothing self.new }
+        ensures count { count self.new ≡ 0 }
         ensures after { self.new ≡ record { list = cleared P.Gen.greatest self.old.list; shape = missing } }
         ensures overflow { is_overflow result ≡ overflows_after P.Gen.greatest self.old.list.generation }
     {

@@ -2,7 +2,8 @@
 ghost use Rattle.std.specs.Prelude.{◌≡◌, Some, IsSome};
 ghost use Rattle.std.specs.Option.{option_copied_mut, option_map};
 ghost use Rattle.std.specs.Borrow.{sem};
-ghost use Rattle.chain_base.specs.Chain.{entry_at, item_of, IsOccupied};
+ghost use Rattle.chain_base.specs.Chain.{IsOccupied};
+ghost use Rattle.triple_ord.specs.Arena.{item_of, entry_at};
 
 use super::SimpleOrdArena;
 use arena_base::Ptr;
@@ -22,7 +23,7 @@ impl<P: Ptr, T, A: Allocator> SimpleOrdArena<P, T, A> {
             P.Inx.PtrInx.own P.Inx.PartialEq P.Inx.Ord.own P.Inx.PartialOrd.own P.Inx.Hash.own P.Inx.Debug
             P.Gen.PtrGen.own P.Gen.PartialEq P.Gen.Debug A.Allocator
             self.entry (P.index p) result) }
-        ensures value { option_copied_mut result ≡ item_of self.old.list.entries (P.index p) (P.era p) }
+        ensures value { option_copied_mut result ≡ item_of self.old (P.index p, P.era p) }
     {
         if self.contains(p) {
             self.tree.item_at_mut(p.inx())
@@ -37,7 +38,7 @@ impl<P: Ptr, T, A: Allocator> SimpleOrdArena<P, T, A> {
     /// `pair_mut` where there is an entry, and does nothing else.
     pub fn get_inx_mut(&mut self, i: P::Inx) -> Option<(P::Gen, &mut T)>
         ensures value { option_map (λ e. (P.Gen.number e.0, e.1.now)) result
-            ≡ entry_at self.old.list.entries (P.Inx.number i) }
+            ≡ entry_at self.old (P.Inx.number i) }
     {
         self.tree.get_inx_mut(i)
     }
@@ -50,7 +51,7 @@ impl<P: Ptr, T, A: Allocator> SimpleOrdArena<P, T, A> {
             P.Inx.PtrInx.own P.Inx.PartialEq P.Inx.Ord.own P.Inx.PartialOrd.own P.Inx.Hash.own P.Inx.Debug
             P.Gen.PtrGen.own P.Gen.PartialEq P.Gen.Debug A.Allocator
             self.entry (P.Inx.number i) result.1) }
-        ensures value { entry_at self.old.list.entries (P.Inx.number i) ≡ Some (P.Gen.number result.0, result.1.now) }
+        ensures value { entry_at self.old (P.Inx.number i) ≡ Some (P.Gen.number result.0, result.1.now) }
     {
         self.tree.pair_mut(i)
     }
@@ -60,13 +61,13 @@ impl<P: Ptr, T, A: Allocator> IndexMut<P> for SimpleOrdArena<P, T, A> {
     ghost use Rattle.triple_ord.specs.Lends.{lends_item};
 
     fn index_mut(&mut self, p: P) -> &mut T
-        requires { IsSome (item_of self.old.list.entries (P.index p) (P.era p)) }
+        requires { IsSome (item_of self.old (P.index p, P.era p)) }
         ensures* writes_back { sem 𝓛 (lends_item P.row T.row A.row P.Inx.row P.Gen.row
             P.Ptr.own P.PartialEq P.Ord.own P.PartialOrd.own P.Hash.own P.Debug
             P.Inx.PtrInx.own P.Inx.PartialEq P.Inx.Ord.own P.Inx.PartialOrd.own P.Inx.Hash.own P.Inx.Debug
             P.Gen.PtrGen.own P.Gen.PartialEq P.Gen.Debug A.Allocator
             self.entry (P.index p) result) }
-        ensures value { item_of self.old.list.entries (P.index p) (P.era p) ≡ Some result.now }
+        ensures value { item_of self.old (P.index p, P.era p) ≡ Some result.now }
     {
         self.tree.pair_mut(p.inx()).1
     }

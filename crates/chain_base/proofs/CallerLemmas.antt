@@ -1,0 +1,140 @@
+-- For callers: what an index finds in the list, and how many entries there are, after each change.
+use Rattle.std.proofs.Common.{◌≡◌, ◌≢◌, ℕ, suc, ◌+◌, ◌≤◌, List, [], ◌∷◌, ◌++◌, length, Option, Some, None, IsSome, refl, sym, ap, ◌∙◌, arith, inl, inr}
+use Rattle.std.proofs.lemmas.Bool.Decides.{eqb_tells}
+use Rattle.std.specs.Option.{option_map}
+use Rattle.chain_base.specs.Chain.{Entry, times, IsDistinct, entry_at, without, with_item, with_generation}
+
+module _ {T : Type 0} where
+  -- an index that no entry has finds none
+  pub entry_at-absent : (es : List (Entry T)) (i : ℕ) → times i es ≡ 0 → entry_at es i ≡ None
+  entry_at-absent [] i never = refl
+  entry_at-absent (e ∷ es) i never = elim (eqb_tells e.index i) [
+    | inl h ↦
+        let here : times i (e ∷ es) ≡ 1 + times i es = rw h.0 refl in
+        absurd (omega (arith, here, never))
+    | inr h ↦
+        let there : times i (e ∷ es) ≡ 0 + times i es = rw h.0 refl in
+        rw h.0 (entry_at-absent es i (omega (arith, there, never)))
+  ]
+
+  -- without the entry of an index, every other index finds what it found
+  pub entry_at-without_other : (es : List (Entry T)) (i j : ℕ) → j ≢ i → entry_at (without i es) j ≡ entry_at es j
+  entry_at-without_other [] i j other = refl
+  entry_at-without_other (e ∷ es) i j other = elim (eqb_tells e.index i) [
+    | inl h ↦ elim (eqb_tells e.index j) [
+      | inl same ↦ absurd (other (sym same.1 ∙ h.1))
+      | inr apart ↦ rw (h.0, apart.0) refl
+    ]
+    | inr h ↦ elim (eqb_tells e.index j) [
+      | inl same ↦ rw (h.0, same.0) refl
+      | inr apart ↦ rw (h.0, apart.0) (entry_at-without_other es i j other)
+    ]
+  ]
+
+  -- and the index itself finds none, where the indexes are pairwise different
+  pub entry_at-without : (es : List (Entry T)) (i : ℕ) → IsDistinct es → entry_at (without i es) i ≡ None
+  entry_at-without [] i distinct = refl
+  entry_at-without (e ∷ es) i distinct = elim (eqb_tells e.index i) [
+    | inl h ↦
+        let here : times i (e ∷ es) ≡ 1 + times i es = rw h.0 refl in
+        rw h.0 (entry_at-absent es i (omega (arith, here, distinct i)))
+    | inr h ↦ rw (h.0, h.0) (entry_at-without es i (λ k. omega (arith, distinct k)))
+  ]
+
+  -- there is one entry less, where the index has one
+  pub length-without : (es : List (Entry T)) (i : ℕ) → IsSome (entry_at es i) → length es ≡ length (without i es) + 1
+  length-without [] i there = absurd (cc)
+  length-without (e ∷ es) i there = elim (eqb_tells e.index i) [
+    | inl h ↦ rw h.0 (omega arith)
+    | inr h ↦
+        let less = length-without es i (rw h.0 at there) in
+        rw h.0 (omega (arith, less))
+  ]
+
+  -- with another item at an index, every other index finds what it found
+  pub entry_at-with_item_other : (es : List (Entry T)) (i j : ℕ) (item : T) → j ≢ i → entry_at (with_item es i item) j ≡ entry_at es j
+  entry_at-with_item_other [] i j item other = refl
+  entry_at-with_item_other (e ∷ es) i j item other = elim (eqb_tells e.index i) [
+    | inl h ↦ elim (eqb_tells e.index j) [
+      | inl same ↦ absurd (other (sym same.1 ∙ h.1))
+      | inr apart ↦ rw (h.0, apart.0) refl
+    ]
+    | inr h ↦ elim (eqb_tells e.index j) [
+      | inl same ↦ rw (h.0, same.0) refl
+      | inr apart ↦ rw (h.0, apart.0) (entry_at-with_item_other es i j item other)
+    ]
+  ]
+
+  -- and the index itself finds the new item, under the generation that it had
+  pub entry_at-with_item : (es : List (Entry T)) (i : ℕ) (item : T) → entry_at (with_item es i item) i ≡ option_map (λ e. (e.0, item)) (entry_at es i)
+  entry_at-with_item [] i item = refl
+  entry_at-with_item (e ∷ es) i item = elim (eqb_tells e.index i) [
+    | inl h ↦ rw (h.0, h.0) refl
+    | inr h ↦ rw (h.0, h.0) (entry_at-with_item es i item)
+  ]
+
+  pub length-with_item : (es : List (Entry T)) (i : ℕ) (item : T) → length (with_item es i item) ≡ length es
+  length-with_item [] i item = refl
+  length-with_item (e ∷ es) i item = elim (eqb_tells e.index i) [
+    | inl h ↦ rw h.0 refl
+    | inr h ↦ rw h.0 (ap suc (length-with_item es i item))
+  ]
+
+  -- with another generation at an index, every other index finds what it found
+  pub entry_at-with_generation_other : (es : List (Entry T)) (i j g : ℕ) → j ≢ i → entry_at (with_generation es i g) j ≡ entry_at es j
+  entry_at-with_generation_other [] i j g other = refl
+  entry_at-with_generation_other (e ∷ es) i j g other = elim (eqb_tells e.index i) [
+    | inl h ↦ elim (eqb_tells e.index j) [
+      | inl same ↦ absurd (other (sym same.1 ∙ h.1))
+      | inr apart ↦ rw (h.0, apart.0) refl
+    ]
+    | inr h ↦ elim (eqb_tells e.index j) [
+      | inl same ↦ rw (h.0, same.0) refl
+      | inr apart ↦ rw (h.0, apart.0) (entry_at-with_generation_other es i j g other)
+    ]
+  ]
+
+  -- and the index itself finds its item, under the new generation
+  pub entry_at-with_generation : (es : List (Entry T)) (i g : ℕ) → entry_at (with_generation es i g) i ≡ option_map (λ e. (g, e.1)) (entry_at es i)
+  entry_at-with_generation [] i g = refl
+  entry_at-with_generation (e ∷ es) i g = elim (eqb_tells e.index i) [
+    | inl h ↦ rw (h.0, h.0) refl
+    | inr h ↦ rw (h.0, h.0) (entry_at-with_generation es i g)
+  ]
+
+  pub length-with_generation : (es : List (Entry T)) (i g : ℕ) → length (with_generation es i g) ≡ length es
+  length-with_generation [] i g = refl
+  length-with_generation (e ∷ es) i g = elim (eqb_tells e.index i) [
+    | inl h ↦ rw h.0 refl
+    | inr h ↦ rw h.0 (ap suc (length-with_generation es i g))
+  ]
+
+  -- with a new entry between two stretches, every other index finds what it found
+  pub entry_at-between_other : (front : List (Entry T)) (new : Entry T) (back : List (Entry T)) (j : ℕ) → j ≢ new.index → entry_at (front ++ new ∷ back) j ≡ entry_at (front ++ back) j
+  entry_at-between_other [] new back j other = elim (eqb_tells new.index j) [
+    | inl h ↦ absurd (other (sym h.1))
+    | inr h ↦ rw h.0 refl
+  ]
+  entry_at-between_other (f ∷ front) new back j other = elim (eqb_tells f.index j) [
+    | inl h ↦ rw h.0 refl
+    | inr h ↦ rw h.0 (entry_at-between_other front new back j other)
+  ]
+
+  -- and its own index finds it, where no other entry has that
+  pub entry_at-between : (front : List (Entry T)) (new : Entry T) (back : List (Entry T)) → times new.index (front ++ back) ≡ 0 → entry_at (front ++ new ∷ back) new.index ≡ Some (new.generation, new.item)
+  entry_at-between [] new back never = elim (eqb_tells new.index new.index) [
+    | inl h ↦ rw h.0 refl
+    | inr h ↦ absurd (h.1 refl)
+  ]
+  entry_at-between (f ∷ front) new back never = elim (eqb_tells f.index new.index) [
+    | inl h ↦
+        let here : times new.index (f ∷ front ++ back) ≡ 1 + times new.index (front ++ back) = rw h.0 refl in
+        absurd (omega (arith, here, never))
+    | inr h ↦
+        let there : times new.index (f ∷ front ++ back) ≡ 0 + times new.index (front ++ back) = rw h.0 refl in
+        rw h.0 (entry_at-between front new back (omega (arith, there, never)))
+  ]
+
+  pub length-between : (front : List (Entry T)) (new : Entry T) (back : List (Entry T)) → length (front ++ new ∷ back) ≡ length (front ++ back) + 1
+  length-between [] new back = omega arith
+  length-between (f ∷ front) new back = omega (arith, length-between front new back)

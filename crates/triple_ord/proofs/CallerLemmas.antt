@@ -1,0 +1,257 @@
+-- For callers: what pointers find after each change of an ordered arena.
+use Rattle.std.proofs.Common.{◌≡◌, ◌≢◌, ℕ, suc, ◌+◌, ◌≤◌, true, false, List, [], ◌∷◌, ◌++◌, length, Option, Some, None, IsSome, is_some, Bool, slice_get, IfSome, IfNone, OnSome, IfOk, OnErr, Result, Ok, Err, refl, sym, ap, subst, ◌∙◌, arith, inl, inr, if◌then◌else◌}
+use Rattle.std.proofs.lemmas.Bool.Decides.{eqb_tells}
+use Rattle.std.specs.Option.{option_map}
+use Rattle.std.specs.declared.cmp.Ordering.{Ordering}
+use Rattle.arena_base.specs.Generation.{next_generation}
+use Rattle.arena_base.specs.Arena.{item_if}
+use Rattle.chain_base.specs.Chain.{Entry, Chain, times, IsDistinct, entry_at as entry_among, removed, renewed, with_room, with_capacity, grown_capacity, inserted_at, next_index}
+use Rattle.chain_base.specs.Insert.{IsInsertion}
+use Rattle.chain_base.proofs.CallerLemmas.{entry_at-absent, entry_at-without_other, entry_at-without, length-without, entry_at-with_item_other, entry_at-with_item, length-with_item, entry_at-with_generation_other, entry_at-with_generation, length-with_generation, entry_at-between_other, entry_at-between, length-between}
+use Rattle.ord_tree.specs.Tree.{Tree, with_item_in}
+use Rattle.triple_ord.specs.Gap.{Gap, with_between}
+use Rattle.triple_ord.specs.Search.{pointer, IsMet}
+use Rattle.triple_ord.specs.declared.error.OrdInsertionError.{OrdInsertionError}
+use Rattle.triple_ord.specs.declared.error.OrdInsertionError.TheVariants.{FailedOrdRequirement, NotWithinCapacity, BeyondMaxCapacity, AllocError}
+use Rattle.triple_ord.specs.Insertion.{Inserts}
+use Rattle.triple_ord.proofs.Inserting.{entry_at-contained}
+use Rattle.triple_ord.specs.Arena.{item_of, entry_at, count, Updates, Renews}
+
+module _ {T : Type 0} where
+  -- a pointer finds nothing at an index that has no entry
+  item_of-absent : (a : Tree T) (p : ℕ × ℕ) → entry_at a p.0 ≡ None → item_of a p ≡ None
+  item_of-absent a p none = rw none refl
+
+  -- a pointer that finds something finds nothing else at its index
+  item_of-same : (a : Tree T) (p q : ℕ × ℕ) → IsSome (item_of a p) → q.0 ≡ p.0 → q ≢ p → item_of a q ≡ None
+  item_of-same a p q there same apart = go (entry_at a p.0) refl
+    where
+      go : (o : Option (ℕ × T)) → entry_at a p.0 ≡ o → item_of a q ≡ None
+      go None is = rw (same, is) refl
+      go (Some e) is = elim (eqb_tells e.0 p.1) [
+        | inl h ↦ elim (eqb_tells e.0 q.1) [
+          | inl k ↦ absurd (apart (ap (λ i. (i, q.1)) same ∙ ap (λ g. (p.0, g)) (sym k.1 ∙ h.1)))
+          | inr k ↦ rw (same, is, k.0) refl
+        ]
+        | inr h ↦ absurd (let none : item_of a p ≡ None = rw (is, h.0) refl in cc)
+      ]
+
+  -- where a pointer finds something, its index has an entry
+  occupied : (a : Tree T) (p : ℕ × ℕ) → IsSome (item_of a p) → IsSome (entry_at a p.0)
+  occupied a p there = go (entry_at a p.0) refl
+    where
+      go : (o : Option (ℕ × T)) → entry_at a p.0 ≡ o → IsSome o
+      go None is = absurd (let none : item_of a p ≡ None = rw is refl in cc)
+      go (Some e) is = refl
+
+  -- a removal
+  pub updates-removed : (greatest : Option ℕ) (old new : Tree T) (p : ℕ × ℕ) → IsDistinct old.list.entries → IsSome (item_of old p) → new.list ≡ removed greatest old.list p.0 → Updates old new p None
+  updates-removed greatest old new p distinct there is =
+      record {
+        changed = rw (is, entry_at-without old.list.entries p.0 distinct) refl;
+        others = λ q apart. elim (eqb_tells q.0 p.0) [
+          | inl h ↦ rw (item_of-same old p q there h.1 apart, is, h.1, entry_at-without old.list.entries p.0 distinct) refl
+          | inr h ↦ rw (is, entry_at-without_other old.list.entries p.0 q.0 h.1) refl
+        ];
+      }
+
+  pub count-removed : (greatest : Option ℕ) (old new : Tree T) (p : ℕ × ℕ) → IsSome (item_of old p) → new.list ≡ removed greatest old.list p.0 → count old ≡ count new + 1
+  count-removed greatest old new p there is = rw is (length-without old.list.entries p.0 (occupied old p there))
+
+  -- a write in place
+  pub updates-written : (a : Tree T) (p : ℕ × ℕ) (item : T) → IsSome (item_of a p) → Updates a (with_item_in a p.0 item) p (Some item)
+  updates-written a p item there = go (entry_at a p.0) refl
+    where
+      elsewhere : (e : ℕ × T) (q p : ℕ × ℕ) → e.0 ≡ p.1 → q.0 ≡ p.0 → q ≢ p → item_if q.1 (Some (e.0, item)) ≡ None
+      elsewhere e q p era same apart = elim (eqb_tells e.0 q.1) [
+        | inl k ↦ absurd (apart (ap (λ i. (i, q.1)) same ∙ ap (λ g. (p.0, g)) (sym k.1 ∙ era)))
+        | inr k ↦ rw k.0 refl
+      ]
+
+      go : (o : Option (ℕ × T)) → entry_at a p.0 ≡ o → Updates a (with_item_in a p.0 item) p (Some item)
+      go None is = absurd (let none : item_of a p ≡ None = rw is refl in cc)
+      go (Some e) is = elim (eqb_tells e.0 p.1) [
+        | inl h ↦
+            record {
+              changed = rw (entry_at-with_item a.list.entries p.0 item, is, h.0) refl;
+              others = λ q apart. elim (eqb_tells q.0 p.0) [
+                | inl same ↦
+                    rw (item_of-same a p q there same.1 apart, same.1, entry_at-with_item a.list.entries p.0 item, is)
+                    (elsewhere e q p h.1 same.1 apart)
+                | inr other ↦ rw (entry_at-with_item_other a.list.entries p.0 q.0 item other.1) refl
+              ];
+            }
+        | inr h ↦ absurd (let none : item_of a p ≡ None = rw (is, h.0) refl in cc)
+      ]
+
+  pub count-written : (a : Tree T) (i : ℕ) (item : T) → count (with_item_in a i item) ≡ count a
+  count-written a i item = length-with_item a.list.entries i item
+
+  -- a renewal
+  pub updates-renewed : (greatest : Option ℕ) (old : Tree T) (p : ℕ × ℕ) → IsSome (item_of old p) → let new : Tree T = record old { list = renewed greatest old.list p.0 } in Renews old new p (p.0, new.list.generation)
+  updates-renewed greatest old p there = go (entry_at old p.0) refl
+    where
+      next : ℕ
+      next = (renewed greatest old.list p.0).generation
+
+      new : Tree T
+      new = record old { list = renewed greatest old.list p.0 }
+
+      here : (e : ℕ × T) → entry_at old p.0 ≡ Some e → entry_at new p.0 ≡ Some (next, e.1)
+      here e is = entry_at-with_generation old.list.entries p.0 next ∙ ap (option_map (λ d. (next, d.1))) is
+
+      -- at the index only the new pointer finds something
+      lost : (e : ℕ × T) (r : ℕ × ℕ) → entry_at old p.0 ≡ Some e → r.0 ≡ p.0 → r ≢ (p.0, next) → item_of new r ≡ None
+      lost e r is same apart = elim (eqb_tells next r.1) [
+        | inl k ↦ absurd (apart (ap (λ i. (i, r.1)) same ∙ ap (λ g. (p.0, g)) (sym k.1)))
+        | inr k ↦ rw (same, here e is, k.0) refl
+      ]
+
+      go : (o : Option (ℕ × T)) → entry_at old p.0 ≡ o → Renews old new p (p.0, next)
+      go None is = absurd (let none : item_of old p ≡ None = rw is refl in cc)
+      go (Some e) is = elim (eqb_tells e.0 p.1) [
+        | inl h ↦
+            record {
+              found = elim (eqb_tells next next) [
+                | inl k ↦ rw (here e is, is, h.0, k.0) refl
+                | inr k ↦ absurd (k.1 refl)
+              ];
+              ended = λ apart. lost e p is refl (λ same. apart (sym same));
+              others = λ r other third. elim (eqb_tells r.0 p.0) [
+                | inl k ↦ lost e r is k.1 third ∙ sym (item_of-same old p r there k.1 other)
+                | inr k ↦ rw (entry_at-with_generation_other old.list.entries p.0 r.0 next k.1) refl
+              ];
+            }
+        | inr h ↦ absurd (let none : item_of old p ≡ None = rw (is, h.0) refl in cc)
+      ]
+
+  -- an insertion of a new entry
+  module _ (most : ℕ) (old new : Tree T) (gap : Gap old.list.entries) (item : T) (p : ℕ × ℕ) (inserted : IsInsertion (with_room most old.list) new.list (with_between gap) item p.0 p.1) where
+    roomy : (with_room most old.list).entries ≡ old.list.entries
+    roomy = go (is_some (next_index old.list))
+      where
+        go : (b : Bool) → (if b then old.list else with_capacity old.list (grown_capacity most old.list)).entries ≡ old.list.entries
+        go true = refl
+        go false = refl
+
+    abbrev entry : Entry T
+    entry = record { index = p.0; generation = p.1; item = item }
+
+    -- the list afterwards
+    listed : new.list.entries ≡ gap.front ++ entry ∷ gap.back
+    listed = ap (λ (c : Chain T). c.entries) inserted.after ∙ first (with_room most old.list).vacant inserted.next ∙ ap (λ g. gap.front ++ record { index = p.0; generation = g; item = item } ∷ gap.back) (sym inserted.generation)
+      where
+        first : (vacant : List ℕ) → slice_get vacant 0 ≡ Some p.0 → (inserted_at (with_room most old.list) (with_between gap) item vacant).entries ≡ gap.front ++ record { index = p.0; generation = (with_room most old.list).generation; item = item } ∷ gap.back
+        first [] next = absurd (cc)
+        first (i ∷ rest) next = let same : i ≡ p.0 = cc in rw same refl
+
+    unused : times p.0 (gap.front ++ gap.back) ≡ 0
+    unused = ap (times p.0) (sym gap.cut) ∙ ap (times p.0) (sym roomy) ∙ inserted.vacant.free
+
+    pub named_nothing : item_of old p ≡ None
+    named_nothing = item_of-absent old p (ap (λ es. entry_among es p.0) gap.cut ∙ entry_at-absent (gap.front ++ gap.back) p.0 unused)
+
+    pub updates-inserted : Updates old new p (Some item)
+    updates-inserted =
+        record {
+          changed = elim (eqb_tells p.1 p.1) [
+            | inl k ↦ rw (listed, entry_at-between gap.front entry gap.back unused, k.0) refl
+            | inr k ↦ absurd (k.1 refl)
+          ];
+          others = λ q apart. elim (eqb_tells q.0 p.0) [
+            | inl h ↦
+                let none : item_of old q ≡ None = item_of-absent old q (ap (λ es. entry_among es q.0) gap.cut ∙ ap (entry_among (gap.front ++ gap.back)) h.1 ∙ entry_at-absent (gap.front ++ gap.back) p.0 unused) in
+                lost q h.1 apart ∙ sym none
+            | inr h ↦ rw (listed, gap.cut, entry_at-between_other gap.front entry gap.back q.0 h.1) refl
+          ];
+        }
+      where
+        lost : (q : ℕ × ℕ) → q.0 ≡ p.0 → q ≢ p → item_of new q ≡ None
+        lost q same apart = elim (eqb_tells p.1 q.1) [
+          | inl k ↦ absurd (apart (ap (λ i. (i, q.1)) same ∙ ap (λ g. (p.0, g)) (sym k.1)))
+          | inr k ↦ rw (listed, same, entry_at-between gap.front entry gap.back unused, k.0) refl
+        ]
+
+    pub count-inserted : count new ≡ count old + 1
+    count-inserted = rw (listed, gap.cut) (length-between gap.front entry gap.back)
+
+owed : {X P : Type 0} (o : Option X) → P → OnSome o P
+owed None fact = tt
+owed (Some x) fact = fact
+
+-- what the calls return of these changes
+module _ {T : Type 0} where
+  module _ (greatest : Option ℕ) (old new : Tree T) (distinct : IsDistinct old.list.entries) where
+    -- of a removal of the entry that a pointer finds
+    module _ {X : Type 0} (p : ℕ × ℕ) (there : IsSome (item_of old p)) (f : X → ℕ × T) where
+      taken_out : (o : Option X) → option_map f o ≡ entry_at old p.0 → OnSome o (new.list ≡ removed greatest old.list p.0) → new.list ≡ removed greatest old.list p.0
+      taken_out None value after = absurd (let none : item_of old p ≡ None = rw (← value) refl in cc)
+      taken_out (Some e) value after = after
+
+      pub updates-taken : (o : Option X) → option_map f o ≡ entry_at old p.0 → OnSome o (new.list ≡ removed greatest old.list p.0) → Updates old new p None
+      updates-taken o value after = updates-removed greatest old new p distinct there (taken_out o value after)
+
+      pub count-taken : {Y : Type 0} (o : Option X) (r : Option Y) → option_map f o ≡ entry_at old p.0 → OnSome o (new.list ≡ removed greatest old.list p.0) → OnSome r (count old ≡ count new + 1)
+      count-taken o r value after = owed r (count-removed greatest old new p there (taken_out o value after))
+
+    -- of a removal by index
+    module _ {G : Type 0} (number : G → ℕ) (i : ℕ) where
+      found_there : (e : G × T) → Some (number e.0, e.1) ≡ entry_at old i → IsSome (item_of old (i, number e.0))
+      found_there e value = elim (eqb_tells (number e.0) (number e.0)) [
+        | inl k ↦ rw (← value, k.0) refl
+        | inr k ↦ absurd (k.1 refl)
+      ]
+
+      pub updates-taken_at : (o : Option (G × T)) → option_map (λ e. (number e.0, e.1)) o ≡ entry_at old i → OnSome o (new.list ≡ removed greatest old.list i) → IfSome o (λ e. Updates old new (i, number e.0) None)
+      updates-taken_at None value after = tt
+      updates-taken_at (Some e) value after = updates-removed greatest old new (i, number e.0) distinct (found_there e value) after
+
+      pub count-taken_at : (o : Option (G × T)) → option_map (λ e. (number e.0, e.1)) o ≡ entry_at old i → OnSome o (new.list ≡ removed greatest old.list i) → OnSome o (count old ≡ count new + 1)
+      count-taken_at None value after = tt
+      count-taken_at (Some e) value after = count-removed greatest old new (i, number e.0) (found_there e value) after
+
+  -- of a renewal
+  module _ {P : Type 0} (index era : P → ℕ) (greatest : Option ℕ) (old new : Tree T) (p : ℕ × ℕ) where
+    pub renews-renewed : (o : Option P) → is_some o ≡ is_some (item_of old p) → IfSome o (λ q. index q ≡ p.0) → IfSome o (λ q. era q ≡ next_generation greatest old.list.generation) → OnSome o (new ≡ record old { list = renewed greatest old.list p.0 }) → IfSome o (λ q. Renews old new p (index q, era q))
+    renews-renewed None valid at raised after = tt
+    renews-renewed (Some q) valid at raised after = rw (at, raised, after) (updates-renewed greatest old p (sym valid))
+
+    pub count-renewed : (o : Option P) → OnSome o (new ≡ record old { list = renewed greatest old.list p.0 }) → IfNone o (new ≡ old) → count new ≡ count old
+    count-renewed None after same = ap count same
+    count-renewed (Some q) after same = ap count after ∙ length-with_generation old.list.entries p.0 (next_generation greatest old.list.generation)
+
+-- of an insertion by key
+module _ {P T K : Type 0} (key : T → K) (cmp : K → K → Ordering) (most : ℕ) (numbers : P → ℕ × ℕ) (old : Tree T) (item : T) (new : Tree T) (distinct : IsDistinct old.list.entries) where
+  -- the entry that was met is the one that its pointer finds
+  met_there : (e : Entry T) → IsMet key cmp old.list.entries (key item) e → item_of old (pointer e) ≡ Some e.item
+  met_there e met = elim (eqb_tells e.generation e.generation) [
+    | inl k ↦ rw (entry_at-contained old.list.entries e distinct met.within, k.0) refl
+    | inr k ↦ absurd (k.1 refl)
+  ]
+
+  pub inserts-updates : (result : Result (P × Option T) OrdInsertionError) → Inserts key cmp most numbers old item result new → IfOk result (λ a. Updates old new (numbers a.0) (Some item))
+  inserts-updates (Ok (p, None)) ins = updates-inserted most old new ins.gap item (numbers p) ins.inserted
+  inserts-updates (Ok (p, Some before)) ins =
+      rw (ins.named, ins.after) (updates-written old (pointer ins.entry) item (rw (met_there ins.entry ins.met) refl))
+  inserts-updates (Err e) ins = tt
+
+  pub inserts-before : (result : Result (P × Option T) OrdInsertionError) → Inserts key cmp most numbers old item result new → IfOk result (λ a. a.1 ≡ item_of old (numbers a.0))
+  inserts-before (Ok (p, None)) ins = sym (named_nothing most old new ins.gap item (numbers p) ins.inserted)
+  inserts-before (Ok (p, Some before)) ins = rw (ins.named, ins.taken, met_there ins.entry ins.met) refl
+  inserts-before (Err e) ins = tt
+
+  pub inserts-count : (result : Result (P × Option T) OrdInsertionError) → Inserts key cmp most numbers old item result new → IfOk result (λ a. count new ≡ (if is_some a.1 then count old else count old + 1))
+  inserts-count (Ok (p, None)) ins = count-inserted most old new ins.gap item (numbers p) ins.inserted
+  inserts-count (Ok (p, Some before)) ins = rw ins.after (count-written old ins.entry.index item)
+  inserts-count (Err e) ins = tt
+
+  pub inserts-refused : (result : Result (P × Option T) OrdInsertionError) → Inserts key cmp most numbers old item result new → OnErr result (new ≡ old)
+  inserts-refused (Ok a) ins = tt
+  inserts-refused (Err BeyondMaxCapacity) ins = ins.after
+  inserts-refused (Err AllocError) ins = ins.after
+  inserts-refused (Err FailedOrdRequirement) ins = absurd ins
+  inserts-refused (Err NotWithinCapacity) ins = absurd ins
+
+  -- what an insertion says, by what it does
+  pub inserts-said : (result : Result (P × Option T) OrdInsertionError) → Inserts key cmp most numbers old item result new → record { inserts : Inserts key cmp most numbers old item result new; updates : IfOk result (λ a. Updates old new (numbers a.0) (Some item)); before : IfOk result (λ a. a.1 ≡ item_of old (numbers a.0)); count : IfOk result (λ a. count new ≡ (if is_some a.1 then count old else count old + 1)); refused : OnErr result (new ≡ old) }
+  inserts-said result ins = record { inserts = ins; updates = inserts-updates result ins; before = inserts-before result ins; count = inserts-count result ins; refused = inserts-refused result ins }

@@ -1,0 +1,42 @@
+-- An ordered arena as its callers see it: what pointers find in it, and its entries in order. A pointer is the pair of its
+-- index and its generation.
+use Rattle.std.specs.Prelude.{◌≡◌, ◌≢◌, ℕ, List, Option, Some, None, length, map}
+use Rattle.chain_base.specs.Chain.{entry_at as entry_among, item_of as item_among}
+use Rattle.ord_tree.specs.Tree.{Tree}
+use Rattle.triple_ord.specs.Search.{pointer}
+
+module _ {T : Type 0} where
+  -- the item that the pointer names; none where it names no entry
+  abbrev pub item_of : Tree T → ℕ × ℕ → Option T
+  item_of a p = item_among a.list.entries p.0 p.1
+
+  -- the generation and the item of the entry at the index
+  abbrev pub entry_at : Tree T → ℕ → Option (ℕ × T)
+  entry_at a i = entry_among a.list.entries i
+
+  -- the items in order
+  abbrev pub items : Tree T → List T
+  items a = map (λ e. e.item) a.list.entries
+
+  -- the pointers of the entries in order
+  abbrev pub pointers : Tree T → List (ℕ × ℕ)
+  pointers a = map pointer a.list.entries
+
+  -- how many entries there are
+  abbrev pub count : Tree T → ℕ
+  count a = length a.list.entries
+
+  -- from old to new, a pointer finds this now, and every other pointer finds what it found
+  pub record Updates (old new : Tree T) (p : ℕ × ℕ) (found : Option T) : Type 0 where
+    pub changed : item_of new p ≡ found
+    pub others : (q : ℕ × ℕ) → q ≢ p → item_of new q ≡ item_of old q
+
+  -- from old to new, the entry of p has the pointer q: p finds nothing more, and every third pointer finds what it found
+  pub record Renews (old new : Tree T) (p q : ℕ × ℕ) : Type 0 where
+    pub found : item_of new q ≡ item_of old p
+    pub ended : q ≢ p → item_of new p ≡ None
+    pub others : (r : ℕ × ℕ) → r ≢ p → r ≢ q → item_of new r ≡ item_of old r
+
+  -- no pointer finds anything
+  abbrev pub FindsNothing : Tree T → Type 0
+  FindsNothing a = (p : ℕ × ℕ) → item_of a p ≡ None
