@@ -255,3 +255,21 @@ module _ {P T K : Type 0} (key : T → K) (cmp : K → K → Ordering) (most : �
   -- what an insertion says, by what it does
   pub inserts-said : (result : Result (P × Option T) OrdInsertionError) → Inserts key cmp most numbers old item result new → record { inserts : Inserts key cmp most numbers old item result new; updates : IfOk result (λ a. Updates old new (numbers a.0) (Some item)); before : IfOk result (λ a. a.1 ≡ item_of old (numbers a.0)); count : IfOk result (λ a. count new ≡ (if is_some a.1 then count old else count old + 1)); refused : OnErr result (new ≡ old) }
   inserts-said result ins = record { inserts = ins; updates = inserts-updates result ins; before = inserts-before result ins; count = inserts-count result ins; refused = inserts-refused result ins }
+
+-- a write through a reference that went out, by what pointers find
+module _ {T : Type 0} (a : Tree T) (p : ℕ × ℕ) (item : T) where
+  pub found-written : item_of (with_item_in a p.0 item) p ≡ option_map (λ old. item) (item_of a p)
+  found-written = rw (entry_at-with_item a.list.entries p.0 item) (go (entry_at a p.0))
+    where
+      go : (o : Option (ℕ × T)) → item_if p.1 (option_map (λ e. (e.0, item)) o) ≡ option_map (λ old. item) (item_if p.1 o)
+      go None = refl
+      go (Some e) = elim (eqb_tells e.0 p.1) [
+        | inl h ↦ rw h.0 refl
+        | inr h ↦ rw h.0 refl
+      ]
+
+  pub others-written : IsSome (item_of a p) → (q : ℕ × ℕ) → q ≢ p → item_of (with_item_in a p.0 item) q ≡ item_of a q
+  others-written there q apart = (updates-written a p item there).others q apart
+
+-- what pointers find after a write, for a caller to cite
+pub ruleset written = (found-written, others-written, count-written)

@@ -1,0 +1,66 @@
+//! A scheduler: jobs by deadline, each named by the pointer that it got.
+
+ghost use Rattle.std.specs.Prelude.{◌≡◌, ◌≢◌, false, ◌+◌, ℕ, Some, None, IfOk, OnErr, IfSome, OnSome, IsSome, is_some, if◌then◌else◌};
+ghost use Rattle.std.specs.Option.{option_map};
+ghost use Rattle.triple_ord.specs.Arena.{item_of, count, Updates, FindsNothing};
+
+use std::alloc::Global;
+use triple_ord::{OrdInsertionError, OrdPair, P0, SimpleOrdArena};
+
+/// Jobs by deadline; a job is a number.
+pub type Jobs = SimpleOrdArena<P0, OrdPair<u64, u64>>;
+
+/// Puts a job on the list, and returns the pointer by which it is found.
+pub fn schedule(jobs: &mut Jobs, deadline: u64, job: u64) -> Result<P0, OrdInsertionError>
+    ensures finds { IfOk result (λ p. item_of jobs.new p ≡ Some (deadline, job)) }
+    ensures others { IfOk result (λ p. (q : ℕ × ℕ) → q ≢ p → item_of jobs.new q ≡ item_of jobs.old q) }
+    ensures refused { OnErr result (jobs.new ≡ jobs.old) }
+{
+    let (p, _) = jobs.insert(OrdPair::new(deadline, job))?;
+    Ok(p)
+}
+
+/// Takes a job off the list; returns whether the pointer named one.
+pub fn cancel(jobs: &mut Jobs, p: P0) -> bool
+    ensures cancelled { result ≡ is_some (item_of jobs.old p) }
+    ensures gone { item_of jobs.new p ≡ None }
+    ensures others { (q : ℕ × ℕ) → q ≢ p → item_of jobs.new q ≡ item_of jobs.old q }
+    ensures count { count jobs.old ≡ (if result then count jobs.new + 1 else count jobs.new) }
+{
+    jobs.remove(p).allow().is_some()
+}
+
+/// Puts another job in the place of one; returns whether the pointer named one. The number of jobs stays.
+#[tactic(auto, using(triple_ord::proofs::CallerLemmas::written))]
+pub fn replace(jobs: &mut Jobs, p: P0, job: u64) -> bool
+    ensures replaced { result ≡ is_some (item_of jobs.old p) }
+    ensures finds { item_of jobs.new p ≡ option_map (λ pair. (pair.0, job)) (item_of jobs.old p) }
+    ensures others { (q : ℕ × ℕ) → q ≢ p → item_of jobs.new q ≡ item_of jobs.old q }
+    ensures count { count jobs.new ≡ count jobs.old }
+{
+    match jobs.get_mut(p) {
+        Some(pair) => {
+            *pair.v_mut() = job;
+            true
+        }
+        None => false,
+    }
+}
+
+/// The first job of the list with its deadline, and its pointer.
+pub fn next(jobs: &Jobs) -> Option<(P0, u64, u64)>
+    ensures finds { IfSome result (λ n. item_of jobs.now n.0 ≡ Some (n.1, n.2)) }
+    ensures none { is_some result ≡ false → count jobs.now ≡ 0 }
+{
+    let p = jobs.first()?;
+    let pair = jobs.get(p)?;
+    Some((p, *pair.k(), *pair.v()))
+}
+
+/// Takes all jobs off the list.
+pub fn cancel_all(jobs: &mut Jobs)
+    ensures gone { FindsNothing jobs.new }
+    ensures count { count jobs.new ≡ 0 }
+{
+    let _ = jobs.clear();
+}
