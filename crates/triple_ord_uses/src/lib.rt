@@ -1,4 +1,5 @@
 //! Uses of `triple_ord`, as a caller writes them: each with the clauses that its user wants, proved from the contracts alone.
 #![tactic(auto)]
 
+mod catalogue;
 mod scheduler;

@@ -1,0 +1,95 @@
+//! A catalogue of books by number, with an item type and a pointer type of its own.
+
+ghost use Rattle.std.specs.Prelude.{◌≡◌, ◌≢◌, ◌+◌, ℕ, Some, None, IfOk, OnErr, IfSome, IsSome, is_some, refl, if◌then◌else◌};
+ghost use Rattle.std.specs.Option.{option_map};
+ghost use Rattle.std.proofs.Common.{ap, ◌∙◌};
+ghost use Rattle.triple_ord.specs.Arena.{item_of, count};
+
+use std::alloc::Global;
+use std::marker::Model;
+use triple_ord::{OrdInsertionError, Ptr, SimpleOrdArena, SimpleOrdItem};
+
+/// The pointer of a book: a type of its own, so that no other pointer is taken for one.
+#[derive(Clone, Copy, PartialEq, Eq, PartialOrd, Ord, Hash, Debug)]
+pub struct BookPtr {
+    inx: u32,
+    generation: u64,
+}
+
+impl Model for BookPtr {
+    ghost Value = { ℕ × ℕ };
+
+    ghost view = { λ p. (p.inx, p.generation) };
+
+    ghost inverse = { λ p. record { inx = p.0; generation = p.1 } };
+}
+
+impl Ptr for BookPtr {
+    type Inx = u32;
+
+    type Gen = u64;
+
+    ghost index = { λ p. p.0 };
+
+    ghost era = { λ p. p.1 };
+
+    ghost one_each = { λ p q i g. ap (λ a. (a, p.1)) i ∙ ap (λ b. (q.0, b)) g };
+
+    ghost eq_is = { λ p q. refl };
+
+    fn inx(self) -> u32 {
+        self.inx
+    }
+
+    fn generation(self) -> u64 {
+        self.generation
+    }
+
+    fn invalid() -> BookPtr {
+        BookPtr {
+            inx: u32::MAX,
+            generation: 1,
+        }
+    }
+
+    fn _from_raw(inx: u32, generation: u64) -> BookPtr {
+        BookPtr { inx, generation }
+    }
+}
+
+/// A book: its number, by which it is found, and how many pages it has.
+#[derive(Clone, Copy, PartialEq, Eq, Debug)]
+pub struct Book {
+    pub number: u64,
+    pub pages: u64,
+}
+
+impl SimpleOrdItem for Book {
+    type Key = u64;
+
+    ghost key_of = { λ r. r.number };
+
+    fn key(&self) -> &u64 {
+        &self.number
+    }
+}
+
+/// Books by number.
+pub type Catalogue = SimpleOrdArena<BookPtr, Book>;
+
+/// Puts a book into the index, in the place of the one of its number, if there is one.
+pub fn put(catalogue: &mut Catalogue, book: Book) -> Result<BookPtr, OrdInsertionError>
+    ensures finds { IfOk result (λ p. item_of catalogue.new p ≡ Some book) }
+    ensures others { IfOk result (λ p. (q : ℕ × ℕ) → q ≢ p → item_of catalogue.new q ≡ item_of catalogue.old q) }
+    ensures refused { OnErr result (catalogue.new ≡ catalogue.old) }
+{
+    let (p, _) = catalogue.insert(book)?;
+    Ok(p)
+}
+
+/// How many pages a book has.
+pub fn pages(catalogue: &Catalogue, p: BookPtr) -> Option<u64>
+    ensures { result ≡ option_map (λ r. r.pages) (item_of catalogue.now p) }
+{
+    Some(catalogue.get(p)?.pages)
+}
