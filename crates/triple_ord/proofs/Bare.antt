@@ -133,6 +133,12 @@ among-entries (f ∷ es) i e found = elim (eqb_tells f.index i) [
   | inr h ↦ inr (among-entries es i e (rw h.0 at found))
 ]
 
+-- a look-up in the arena under a chain reads the chain's entry
+pub entry-looked_up : {X Y : Type 0} (c : Chain Y) (a : Arena (Link Y)) (lies : IsArenaOf c a) (f : X → ℕ × Link Y) (o : Option X) (i : ℕ) → option_map f o ≡ slot a i → option_map (λ x. ((f x).0, (f x).1.item)) o ≡ entry_at c.entries i
+entry-looked_up {X} {Y} c a lies f o i is =
+    let bare_of : ℕ × Link Y → ℕ × Y = λ e. (e.0, e.1.item) in
+    option_map-twice f bare_of o ∙ ap (option_map bare_of) (is ∙ lies.slots i) ∙ sym (entry_at-link None None c.entries i)
+
 module _ {P T I G : Type 0} (number : I → ℕ) (t : Tree T) (c : Chain (SimpleOrdArenaNode P T I G)) (under : IsChainOf number t c) (sound : IsSoundTree t) (a : Arena (Link (SimpleOrdArenaNode P T I G))) (lies : IsArenaOf c a) where
   -- the place in the tree of the node that the arena shows at i
   node-shown : (i : ℕ) (e : ℕ × Link (SimpleOrdArenaNode P T I G)) → slot a i ≡ Some e → IsNodeIn t.shape i (option_map number e.1.item.p_back) (option_map number e.1.item.p_tree0) (option_map number e.1.item.p_tree1) e.1.item.rank

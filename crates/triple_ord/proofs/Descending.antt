@@ -1,8 +1,9 @@
 -- A descent from the root: how it begins, goes down, and ends.
-use Rattle.std.proofs.Common.{◌≡◌, ◌≢◌, ℕ, true, false, ◌+◌, ◌≤◌, List, [], ◌∷◌, ◌++◌, Option, Some, None, IsSome, IfSome, refl, sym, ap, subst, ◌∙◌, arith, inl, inr, ◌⊎◌, max, map, append_assoc, Contains}
+use Rattle.std.proofs.Common.{◌≡◌, ◌≢◌, ℕ, true, false, ◌+◌, ◌-◌, ◌≤◌, List, [], ◌∷◌, ◌++◌, Option, Some, None, IsSome, IfSome, refl, sym, ap, subst, ◌∙◌, arith, inl, inr, ◌⊎◌, max, map, append_assoc, Contains, length, MatchOption}
 use Rattle.std.proofs.lemmas.List.{append-nil}
 use Rattle.std.proofs.lemmas.List.Elements.{Contains-append_right}
 use Rattle.std.proofs.lemmas.Bool.Decides.{eqb_tells}
+use Rattle.std.specs.Option.{option_map}
 use Rattle.std.specs.Ordering.{is_eq, is_lt}
 use Rattle.std.specs.declared.cmp.Ordering.{Ordering}
 use Rattle.std.specs.declared.cmp.Ordering.TheVariants.{Less, Equal, Greater}
@@ -12,7 +13,12 @@ use Rattle.triple_ord.specs.Gap.{Gap, first_of, last_or, present}
 use Rattle.triple_ord.specs.Search.{order_to, pointer, IsMet, StopsAt, IsBeside, FindsKey, FindsSimilar}
 use Rattle.ord_tree.specs.Tree.{Tree}
 use Rattle.triple_ord.specs.Node.{IsPart}
-use Rattle.triple_ord.specs.Descent.{IsShown, IsLastShown, IsDescending}
+use Rattle.triple_ord.specs.ClosureSearch.{Shown, entries_of, but_last, IsSearch, StopsAfter, where_equal, similar_of, FindsSimilarWith, Searches}
+use Rattle.triple_ord.specs.Descent.{IsShown, IsDescending, HasDescended}
+use Rattle.std.specs.List.{All, FoldsTo, AllByRecursion as ByRecursion}
+use Rattle.std.proofs.lemmas.List.Elements.{All-nil, All-push, All-from_recursion, recursion_from_All, Contains-append_left, Contains-push}
+use Rattle.std.proofs.lemmas.List.{length_push}
+use Rattle.std.proofs.lemmas.Fn.{FoldsTo-push}
 
 -- a part of a part is a part
 pub IsPart-whole : (s : Shape) → IsPart s s
@@ -75,10 +81,43 @@ module _ {T : Type 0} where
   pub Contains-here : (front : List (Entry T)) (e : Entry T) (back : List (Entry T)) → Contains (front ++ e ∷ back) e
   Contains-here front e back = Contains-append_right front (e ∷ back) e (0, omega arith, refl)
 
-module _ {T K : Type 0} (key : T → K) (cmp : K → K → Ordering) (es : List (Entry T)) (shape : Shape) (k : K) where
+-- all but the last
+but_last-push : {X : Type 0} (xs : List X) (x : X) → but_last (xs ++ x ∷ []) ≡ xs
+but_last-push [] x = refl
+but_last-push (y ∷ []) x = refl
+but_last-push (y ∷ (z ∷ zs)) x = ap (λ l. y ∷ l) (but_last-push (z ∷ zs) x)
+
+by_parts-but_last : {X : Type 0} (P : X → Type 0) (xs : List X) → ByRecursion P xs → ByRecursion P (but_last xs)
+by_parts-but_last P [] all = tt
+by_parts-but_last P (x ∷ []) all = tt
+by_parts-but_last P (x ∷ (y ∷ ys)) all = (all.0, by_parts-but_last P (y ∷ ys) all.1)
+
+All-but_last : {X : Type 0} (P : X → Type 0) (xs : List X) → All P xs → All P (but_last xs)
+All-but_last P xs all = All-from_recursion P (but_last xs) (by_parts-but_last P xs (recursion_from_All P xs all))
+
+last_or-push : {X : Type 0} (other : Option X) (xs : List X) (x : X) → last_or other (xs ++ x ∷ []) ≡ Some x
+last_or-push other xs x = last_or-append other xs x []
+
+pub IfSome-map : {X : Type 0} (P Q : X → Type 0) (o : Option X) → ((x : X) → P x → Q x) → IfSome o P → IfSome o Q
+IfSome-map P Q None h p = tt
+IfSome-map P Q (Some x) h p = h x p
+
+module _ {T : Type 0} where
+  times-append : (j : ℕ) (xs ys : List (Entry T)) → times j (xs ++ ys) ≡ times j xs + times j ys
+  times-append j [] ys = omega arith
+  times-append j (x ∷ xs) ys = omega (arith, times-append j xs ys)
+
+  entries_of-push : (shown : List (Shown T)) (s : Shown T) → entries_of (shown ++ s ∷ []) ≡ entries_of shown ++ s.0 ∷ []
+  entries_of-push [] s = refl
+  entries_of-push (x ∷ shown) s = ap (λ l. x.0 ∷ l) (entries_of-push shown s)
+
+  times-push : (j : ℕ) (shown : List (Shown T)) (s : Shown T) → times j (entries_of (shown ++ s ∷ [])) ≡ times j (entries_of shown) + times j (s.0 ∷ [])
+  times-push j shown s = rw (entries_of-push shown s) (times-append j (entries_of shown) (s.0 ∷ []))
+
+module _ {T : Type 0} (es : List (Entry T)) (shape : Shape) where
   -- a descent begins at the root
-  pub IsDescending-begin : map (λ e. e.index) es ≡ walk shape → IsDescending key cmp es shape k (root_of shape) 0 None
-  IsDescending-begin listed =
+  pub IsDescending-begin : map (λ e. e.index) es ≡ walk shape → IsDistinct es → IsDescending es shape [] (root_of shape)
+  IsDescending-begin listed distinct =
       record {
         part = shape;
         within = IsPart-whole shape;
@@ -88,15 +127,17 @@ module _ {T K : Type 0} (key : T → K) (cmp : K → K → Ordering) (es : List 
         back = [];
         cut = sym (append-nil es);
         left = listed;
-        lesser = tt;
-        greater = tt;
+        greater_before = tt;
+        less_after = tt;
+        last_beside = (refl, refl);
         few = omega arith;
-        seen = omega arith;
-        shown = (refl, refl);
+        new = λ j. omega (arith, distinct j);
+        inside = All-nil (λ (s : Shown T). Contains es s.0);
+        no_equal = All-nil (λ (s : Shown T). s.1 ≢ Equal);
       }
 
   -- a descent stands before the node i, and knows the entry there
-  pub record IsFacing (i visits : ℕ) : Type 0 where
+  pub record IsFacing (shown : List (Shown T)) (i : ℕ) : Type 0 where
     pub lesser_side : Shape
     pub rank : ℕ
     pub greater_side : Shape
@@ -110,14 +151,16 @@ module _ {T K : Type 0} (key : T → K) (cmp : K → K → Ordering) (es : List 
     pub here : entry.index ≡ i
     pub low_is : map (λ e. e.index) low ≡ walk lesser_side
     pub high_is : map (λ e. e.index) high ≡ walk greater_side
-    pub lesser : IfSome (last_or None front) (λ e. order_to key cmp k e ≡ Greater)
-    pub greater : IfSome (first_of back) (λ e. order_to key cmp k e ≡ Less)
-    pub few : visits + (max (height lesser_side) (height greater_side) + 1) ≤ height shape
-    pub seen : present (last_or None front) + present (first_of back) ≤ visits
+    pub greater_before : IfSome (last_or None front) (λ e. Contains shown (e, Greater))
+    pub less_after : IfSome (first_of back) (λ e. Contains shown (e, Less))
+    pub few : length shown + (max (height lesser_side) (height greater_side) + 1) ≤ height shape
+    pub new : (j : ℕ) → times j (entries_of shown) + (times j low + (times j (entry ∷ []) + times j high)) ≤ 1
+    pub inside : All (λ s. Contains es s.0) shown
+    pub no_equal : All (λ s. s.1 ≢ Equal) shown
 
-  facing_part : (i visits : ℕ) (last : Option ((ℕ × ℕ) × Ordering)) (d : IsDescending key cmp es shape k (Some i) visits last) (part : Shape) → d.part ≡ part → IsFacing i visits
-  facing_part i visits last d missing is = absurd (let none : Some i ≡ None = d.led ∙ ap root_of is in cc)
-  facing_part i visits last d (node l j m r) is =
+  facing_part : (shown : List (Shown T)) (i : ℕ) (d : IsDescending es shape shown (Some i)) (part : Shape) → d.part ≡ part → IsFacing shown i
+  facing_part shown i d missing is = absurd (let none : Some i ≡ None = d.led ∙ ap root_of is in cc)
+  facing_part shown i d (node l j m r) is =
       let same : Some i ≡ Some j = d.led ∙ ap root_of is in
       let here : j ≡ i = cc in
       let cut = cut_at d.middle (walk l) j (walk r) (d.left ∙ ap walk is) in
@@ -135,16 +178,18 @@ module _ {T K : Type 0} (key : T → K) (cmp : K → K → Ordering) (es : List 
         here = cut.here ∙ here;
         low_is = cut.low_is;
         high_is = cut.high_is;
-        lesser = d.lesser;
-        greater = d.greater;
+        greater_before = d.greater_before;
+        less_after = d.less_after;
         few = let h = ap height is in omega (arith, d.few, h);
-        seen = d.seen;
+        new = λ j. let h = ap (times j) cut.cut in omega (arith, d.new j, h, times-append j cut.front (cut.entry ∷ cut.back));
+        inside = d.inside;
+        no_equal = d.no_equal;
       }
 
-  pub facing : (i visits : ℕ) (last : Option ((ℕ × ℕ) × Ordering)) → IsDescending key cmp es shape k (Some i) visits last → IsFacing i visits
-  facing i visits last d = facing_part i visits last d d.part refl
+  pub facing : (shown : List (Shown T)) (i : ℕ) → IsDescending es shape shown (Some i) → IsFacing shown i
+  facing shown i d = facing_part shown i d d.part refl
 
-  module _ (i visits : ℕ) (f : IsFacing i visits) where
+  module _ (shown : List (Shown T)) (i : ℕ) (f : IsFacing shown i) where
     whole : es ≡ (f.front ++ f.low) ++ f.entry ∷ (f.high ++ f.back)
     whole = f.cut ∙ simp append_assoc
 
@@ -154,16 +199,22 @@ module _ {T K : Type 0} (key : T → K) (cmp : K → K → Ordering) (es : List 
         let found = entry_at-here (f.front ++ f.low) f.entry (f.high ++ f.back) (subst (λ (xs : List (Entry T)). IsDistinct xs) whole distinct) in
         rw (whole, ← f.here) found
 
-    pub facing-met : order_to key cmp k f.entry ≡ Equal → IsMet key cmp es k f.entry
-    facing-met equal =
-        record {
-          within = let P : List (Entry T) → Type 0 = λ xs. Contains xs f.entry in subst P (sym whole) (Contains-here (f.front ++ f.low) f.entry (f.high ++ f.back));
-          equal = equal;
-        }
+    pub facing-within : Contains es f.entry
+    facing-within = let P : List (Entry T) → Type 0 = λ xs. Contains xs f.entry in subst P (sym whole) (Contains-here (f.front ++ f.low) f.entry (f.high ++ f.back))
+
+    kept : (o : Ordering) (e : Entry T) (answer : Ordering) → Contains shown (e, answer) → Contains (shown ++ (f.entry, o) ∷ []) (e, answer)
+    kept o e answer there = Contains-append_left shown ((f.entry, o) ∷ []) (e, answer) there
+
+    inside_more : (o : Ordering) → All (λ s. Contains es s.0) (shown ++ (f.entry, o) ∷ [])
+    inside_more o = All-push (λ (s : Shown T). Contains es s.0) shown (f.entry, o) f.inside facing-within
+
+    counted : (o : Ordering) → length (shown ++ (f.entry, o) ∷ []) ≡ length shown + 1
+    counted o = length_push shown (f.entry, o)
 
     -- the descent goes to the lesser side
-    pub facing-lesser : order_to key cmp k f.entry ≡ Less → IsDescending key cmp es shape k (root_of f.lesser_side) (visits + 1) (Some (pointer f.entry, Less))
-    facing-lesser less =
+    pub facing-lesser : IsDescending es shape (shown ++ (f.entry, Less) ∷ []) (root_of f.lesser_side)
+    facing-lesser =
+        let last : last_or None (shown ++ (f.entry, Less) ∷ []) ≡ Some (f.entry, Less) = last_or-push None shown (f.entry, Less) in
         record {
           part = f.lesser_side;
           within = IsPart-lesser shape f.lesser_side f.greater_side i f.rank f.within;
@@ -173,17 +224,20 @@ module _ {T K : Type 0} (key : T → K) (cmp : K → K → Ordering) (es : List 
           back = f.entry ∷ (f.high ++ f.back);
           cut = f.cut ∙ simp append_assoc;
           left = f.low_is;
-          lesser = f.lesser;
-          greater = less;
-          few = omega (arith, f.few);
-          seen = omega (arith, f.seen);
-          shown = (f.entry, ap (λ o. (pointer f.entry, o)) (sym less), inr refl);
+          greater_before = IfSome-map (λ e. Contains shown (e, Greater)) (λ e. Contains (shown ++ (f.entry, Less) ∷ []) (e, Greater)) (last_or None f.front) (λ e there. kept Less e Greater there) f.greater_before;
+          less_after = Contains-push shown (f.entry, Less);
+          last_beside = rw last (inr refl);
+          few = omega (arith, f.few, counted Less);
+          new = λ j. omega (arith, f.new j, times-push j shown (f.entry, Less));
+          inside = inside_more Less;
+          no_equal = All-push (λ (s : Shown T). s.1 ≢ Equal) shown (f.entry, Less) f.no_equal (λ e. cc);
         }
 
     -- the descent goes to the greater side
-    pub facing-greater : order_to key cmp k f.entry ≡ Greater → IsDescending key cmp es shape k (root_of f.greater_side) (visits + 1) (Some (pointer f.entry, Greater))
-    facing-greater more =
-        let last : last_or None (f.front ++ f.low ++ f.entry ∷ []) ≡ Some f.entry = last_or-append None (f.front ++ f.low) f.entry [] in
+    pub facing-greater : IsDescending es shape (shown ++ (f.entry, Greater) ∷ []) (root_of f.greater_side)
+    facing-greater =
+        let last : last_or None (shown ++ (f.entry, Greater) ∷ []) ≡ Some (f.entry, Greater) = last_or-push None shown (f.entry, Greater) in
+        let before : last_or None (f.front ++ f.low ++ f.entry ∷ []) ≡ Some f.entry = last_or-append None (f.front ++ f.low) f.entry [] in
         record {
           part = f.greater_side;
           within = IsPart-greater shape f.lesser_side f.greater_side i f.rank f.within;
@@ -193,24 +247,56 @@ module _ {T K : Type 0} (key : T → K) (cmp : K → K → Ordering) (es : List 
           back = f.back;
           cut = f.cut ∙ simp append_assoc;
           left = f.high_is;
-          lesser = rw last more;
-          greater = f.greater;
-          few = omega (arith, f.few);
-          seen = rw last (omega (arith, f.seen));
-          shown = rw last (f.entry, ap (λ o. (pointer f.entry, o)) (sym more), inl refl);
+          greater_before = rw before (Contains-push shown (f.entry, Greater));
+          less_after = IfSome-map (λ e. Contains shown (e, Less)) (λ e. Contains (shown ++ (f.entry, Greater) ∷ []) (e, Less)) (first_of f.back) (λ e there. kept Greater e Less there) f.less_after;
+          last_beside = rw (last, before) (inl refl);
+          few = omega (arith, f.few, counted Greater);
+          new = λ j. omega (arith, f.new j, times-push j shown (f.entry, Greater));
+          inside = inside_more Greater;
+          no_equal = All-push (λ (s : Shown T). s.1 ≢ Equal) shown (f.entry, Greater) f.no_equal (λ e. cc);
         }
 
-  -- where the descent has come to a missing side, it stops at a gap that fits
-  none_left : (visits : ℕ) (last : Option ((ℕ × ℕ) × Ordering)) (d : IsDescending key cmp es shape k None visits last) (part : Shape) → d.part ≡ part → d.middle ≡ []
-  none_left visits last d missing is = no_index d.middle (d.left ∙ ap walk is)
+    -- the descent has met an entry that was answered Equal
+    pub facing-equal : IsSearch es (shown ++ (f.entry, Equal) ∷ [])
+    facing-equal =
+        record {
+          within = inside_more Equal;
+          different = λ j. omega (arith, f.new j, times-push j shown (f.entry, Equal));
+          equal_last = rw (but_last-push shown (f.entry, Equal)) f.no_equal;
+          ends = inl (f.entry, last_or-push None shown (f.entry, Equal));
+        }
+
+  -- where the descent has come to a missing side, it stops at a gap
+  none_left : (shown : List (Shown T)) (d : IsDescending es shape shown None) (part : Shape) → d.part ≡ part → d.middle ≡ []
+  none_left shown d missing is = no_index d.middle (d.left ∙ ap walk is)
     where
       no_index : (xs : List (Entry T)) → map (λ e. e.index) xs ≡ [] → xs ≡ []
       no_index [] same = refl
       no_index (x ∷ xs) same = absurd (cc)
-  none_left visits last d (node l i m r) is = absurd (let none : None ≡ Some i = d.led ∙ ap root_of is in cc)
+  none_left shown d (node l i m r) is = absurd (let none : None ≡ Some i = d.led ∙ ap root_of is in cc)
 
-  pub stops : (visits : ℕ) (last : Option ((ℕ × ℕ) × Ordering)) → IsDescending key cmp es shape k None visits last → FindsSimilar key cmp es k last visits
-  stops visits last d = answered last d.shown
+  cut_there : (shown : List (Shown T)) (d : IsDescending es shape shown None) → es ≡ d.front ++ d.back
+  cut_there shown d = d.cut ∙ ap (λ xs. d.front ++ (xs ++ d.back)) (none_left shown d d.part refl)
+
+  beside : (low high : Option (Entry T)) (last : Option (Shown T)) → MatchOption last ((low ≡ None) × (high ≡ None)) (λ s. (low ≡ Some s.0) ⊎ (high ≡ Some s.0)) → IfSome last (λ s. (low ≡ Some s.0) ⊎ (high ≡ Some s.0))
+  beside low high None h = tt
+  beside low high (Some s) h = h
+
+  pub descent-search : (shown : List (Shown T)) → IsDescending es shape shown None → IsSearch es shown
+  descent-search shown d =
+      let gap : Gap es = record { front = d.front; back = d.back; cut = cut_there shown d } in
+      record {
+        within = d.inside;
+        different = λ j. omega (arith, d.new j);
+        equal_last = All-but_last (λ (s : Shown T). s.1 ≢ Equal) shown d.no_equal;
+        ends = inr (gap, record { greater_before = d.greater_before; less_after = d.less_after; last_beside = beside (last_or None d.front) (first_of d.back) (last_or None shown) d.last_beside });
+      }
+
+  -- nothing was shown in an empty list alone
+  pub descent-empty : (shown : List (Shown T)) (last : Option (Shown T)) → last ≡ last_or None shown → IsDescending es shape shown None → MatchOption (similar_of last) (es ≡ []) (λ a. Unit {0})
+  descent-empty shown None is d =
+      let none : MatchOption {T = Shown T} None ((last_or None d.front ≡ None) × (first_of d.back ≡ None)) (λ s. (last_or None d.front ≡ Some s.0) ⊎ (first_of d.back ≡ Some s.0)) = rw (← is) at d.last_beside in
+      cut_there shown d ∙ rw (empty_front d.front none.0, empty_back d.back none.1) refl
     where
       no_last : (x : Entry T) (xs : List (Entry T)) → last_or (Some x) xs ≡ None → ⊥
       no_last x [] same = cc
@@ -223,71 +309,106 @@ module _ {T K : Type 0} (key : T → K) (cmp : K → K → Ordering) (es : List 
       empty_back : (xs : List (Entry T)) → first_of xs ≡ None → xs ≡ []
       empty_back [] same = refl
       empty_back (x ∷ xs) same = absurd (cc)
+  descent-empty shown (Some s) is d = tt
 
-      cut : es ≡ d.front ++ d.back
-      cut = d.cut ∙ ap (λ xs. d.front ++ (xs ++ d.back)) (none_left visits last d d.part refl)
+-- One step of a descent in a tree: the entry at the link is shown to the closure.
+module _ {T F : Type 0} (asks : F → Shown T → F → Type 0) (t : Tree T) (distinct : IsDistinct t.list.entries) (f : F) (before : ℕ) where
+  pub descent-begins : map (λ e. e.index) t.list.entries ≡ walk t.shape → HasDescended asks t.list.entries t.shape before f f (root_of t.shape) before None
+  descent-begins listed = record { shown = []; calls = refl; descending = IsDescending-begin t.list.entries t.shape listed distinct; count = omega arith; last_is = refl }
 
-      answered : (last : Option ((ℕ × ℕ) × Ordering)) → IsLastShown key cmp k (last_or None d.front) (first_of d.back) last → FindsSimilar key cmp es k last visits
-      answered None shown = cut ∙ rw (empty_front d.front shown.0, empty_back d.back shown.1) refl
-      answered (Some a) shown =
-          let gap : Gap es = record { front = d.front; back = d.back; cut = cut } in
-          let stop : StopsAt key cmp gap k visits = record { fits = record { lesser_before = d.lesser; greater_after = d.greater }; seen = d.seen } in
-          (shown.0, shown.1, inr (gap, stop, shown.2))
+  pub descent-ends : (g : F) (visits : ℕ) (last : Option ((ℕ × ℕ) × Ordering)) → HasDescended asks t.list.entries t.shape before f g None visits last → FindsSimilarWith asks t.list.entries f g last (visits - before)
+  descent-ends g visits last d = (
+    last_or None d.shown,
+    record { shown = d.shown; calls = d.calls; search = descent-search t.list.entries t.shape d.shown d.descending; last_is = refl; count = omega (arith, d.count) },
+    d.last_is,
+    rw d.last_is (descent-empty t.list.entries t.shape d.shown (last_or None d.shown) refl d.descending),
+  )
 
--- One step of a descent in a tree: the entry at the link is shown, and k compared with its key.
-module _ {T K : Type 0} (key : T → K) (cmp : K → K → Ordering) (t : Tree T) (k : K) (distinct : IsDistinct t.list.entries) (i visits : ℕ) (last : Option ((ℕ × ℕ) × Ordering)) (d : IsDescending key cmp t.list.entries t.shape k (Some i) visits last) where
-  -- an entry stands at the link
-  pub step-occupied : IsSome (entry_at t.list.entries i)
-  step-occupied = rw (facing-found key cmp t.list.entries t.shape k i visits (facing key cmp t.list.entries t.shape k i visits last d) distinct) refl
+  module _ (g : F) (i visits : ℕ) (last : Option ((ℕ × ℕ) × Ordering)) (d : HasDescended asks t.list.entries t.shape before f g (Some i) visits last) where
+    face : IsFacing t.list.entries t.shape d.shown i
+    face = facing t.list.entries t.shape d.shown i d.descending
 
-  -- so there is a step left
-  pub step-few : visits + 1 ≤ height t.shape
-  step-few = let f = facing key cmp t.list.entries t.shape k i visits last d in omega (arith, f.few)
+    -- an entry stands at the link
+    pub step-occupied : IsSome (entry_at t.list.entries i)
+    step-occupied = rw (facing-found t.list.entries t.shape d.shown i face distinct) refl
 
-  module _ (generation : ℕ) (item : T) (lesser greater : Option ℕ) (shown : IsShown t i generation item lesser greater) where
-    step-entry : (f : IsFacing key cmp t.list.entries t.shape k i visits) → ◌≡◌ {A = ℕ × T} (f.entry.generation, f.entry.item) (generation, item)
-    step-entry f = let h = facing-found key cmp t.list.entries t.shape k i visits f distinct in let s = shown.entry in cc
+    -- so there is a step left
+    pub step-few : visits + 1 ≤ before + height t.shape
+    step-few = let few = face.few in omega (arith, few, d.count)
 
-    step-pointer : (f : IsFacing key cmp t.list.entries t.shape k i visits) → pointer f.entry ≡ (i, generation)
-    step-pointer f = let g : f.entry.generation ≡ generation = ap (λ e. e.0) (step-entry f) in let h = f.here in cc
+    module _ (generation : ℕ) (item : T) (lesser greater : Option ℕ) (shown : IsShown t i generation item lesser greater) where
+      step-entry : ◌≡◌ {A = ℕ × T} (face.entry.generation, face.entry.item) (generation, item)
+      step-entry = let h = facing-found t.list.entries t.shape d.shown i face distinct in let s = shown.entry in cc
 
-    step-order : (f : IsFacing key cmp t.list.entries t.shape k i visits) (o : Ordering) → cmp k (key item) ≡ o → order_to key cmp k f.entry ≡ o
-    step-order f o is = ap (λ e. cmp k (key e.1)) (step-entry f) ∙ is
+      step-pointer : pointer face.entry ≡ (i, generation)
+      step-pointer = let e : face.entry.generation ≡ generation = ap (λ e. e.0) step-entry in let h = face.here in cc
 
-    step-equal : cmp k (key item) ≡ Equal → FindsSimilar key cmp t.list.entries k (Some ((i, generation), Equal)) (visits + 1)
-    step-equal is =
-        let f = facing key cmp t.list.entries t.shape k i visits last d in
-        let equal = step-order f Equal is in
-        (f.entry, rw (step-pointer f, equal) refl, inl (facing-met key cmp t.list.entries t.shape k i visits f equal, omega arith))
+      step-item : face.entry.item ≡ item
+      step-item = ap (λ e. e.1) step-entry
 
-    step-less : cmp k (key item) ≡ Less → IsDescending key cmp t.list.entries t.shape k lesser (visits + 1) (Some ((i, generation), Less))
-    step-less is =
-        let f = facing key cmp t.list.entries t.shape k i visits last d in
-        let link = shown.lesser_root f.lesser_side f.greater_side f.rank f.within in
-        rw (link, ← step-pointer f) (facing-lesser key cmp t.list.entries t.shape k i visits f (step-order f Less is))
+      module _ (o : Ordering) (h : F) (asked : (e : Entry T) → pointer e ≡ (i, generation) → e.item ≡ item → asks g (e, o) h) where
+        calls_more : FoldsTo asks f (d.shown ++ (face.entry, o) ∷ []) h
+        calls_more = FoldsTo-push asks f d.shown g (face.entry, o) h d.calls (asked face.entry step-pointer step-item)
 
-    step-greater : cmp k (key item) ≡ Greater → IsDescending key cmp t.list.entries t.shape k greater (visits + 1) (Some ((i, generation), Greater))
-    step-greater is =
-        let f = facing key cmp t.list.entries t.shape k i visits last d in
-        let link = shown.greater_root f.lesser_side f.greater_side f.rank f.within in
-        rw (link, ← step-pointer f) (facing-greater key cmp t.list.entries t.shape k i visits f (step-order f Greater is))
+        last_more : Some ((i, generation), o) ≡ similar_of (last_or None (d.shown ++ (face.entry, o) ∷ []))
+        last_more = rw (last_or-push None d.shown (face.entry, o), step-pointer) refl
 
-    -- the step by the answer of the comparison: the descent meets an equal entry, or goes to a side
-    pub step-meets : (u : Tree T) → t ≡ u → (o : Ordering) (p : ℕ × ℕ) (c : ℕ) → o ≡ cmp k (key item) → is_eq o ≡ true → p ≡ (i, generation) → c ≡ visits + 1 → FindsSimilar key cmp u.list.entries k (Some (p, o)) c
-    step-meets u same Less p c is test named count = absurd (cc)
-    step-meets u same Greater p c is test named count = absurd (cc)
-    step-meets u same Equal p c is test named count =
-        subst (λ (x : Tree T). FindsSimilar key cmp x.list.entries k (Some (p, Equal)) c) same (rw (named, count) (step-equal (sym is)))
+        count_more : visits + 1 ≡ before + length (d.shown ++ (face.entry, o) ∷ [])
+        count_more = omega (arith, d.count, length_push d.shown (face.entry, o))
 
-    pub step-goes_lesser : (o : Ordering) (p : ℕ × ℕ) (c : ℕ) → o ≡ cmp k (key item) → is_lt o ≡ true → p ≡ (i, generation) → c ≡ visits + 1 → IsDescending key cmp t.list.entries t.shape k lesser c (Some (p, o))
-    step-goes_lesser Equal p c is test named count = absurd (cc)
-    step-goes_lesser Greater p c is test named count = absurd (cc)
-    step-goes_lesser Less p c is test named count = rw (named, count) (step-less (sym is))
+        pub step-equal : o ≡ Equal → FindsSimilarWith asks t.list.entries f h (Some ((i, generation), o)) (visits + 1 - before)
+        step-equal is = (
+          last_or None (d.shown ++ (face.entry, o) ∷ []),
+          record {
+            shown = d.shown ++ (face.entry, o) ∷ [];
+            calls = calls_more;
+            search = rw is (facing-equal t.list.entries t.shape d.shown i face);
+            last_is = refl;
+            count = let more = count_more in omega (arith, more);
+          },
+          last_more,
+          tt,
+        )
 
-    pub step-goes_greater : (o : Ordering) (p : ℕ × ℕ) (c : ℕ) → o ≡ cmp k (key item) → is_eq o ≡ false → is_lt o ≡ false → p ≡ (i, generation) → c ≡ visits + 1 → IsDescending key cmp t.list.entries t.shape k greater c (Some (p, o))
-    step-goes_greater Less p c is other not_less named count = absurd (cc)
-    step-goes_greater Equal p c is other not_less named count = absurd (cc)
-    step-goes_greater Greater p c is other not_less named count = rw (named, count) (step-greater (sym is))
+        pub step-less : o ≡ Less → HasDescended asks t.list.entries t.shape before f h lesser (visits + 1) (Some ((i, generation), o))
+        step-less is =
+            let fa = face in
+            let link = shown.lesser_root fa.lesser_side fa.greater_side fa.rank fa.within in
+            record {
+              shown = d.shown ++ (face.entry, o) ∷ [];
+              calls = calls_more;
+              descending = rw (link, is) (facing-lesser t.list.entries t.shape d.shown i face);
+              count = count_more;
+              last_is = last_more;
+            }
+
+        pub step-greater : o ≡ Greater → HasDescended asks t.list.entries t.shape before f h greater (visits + 1) (Some ((i, generation), o))
+        step-greater is =
+            let fa = face in
+            let link = shown.greater_root fa.lesser_side fa.greater_side fa.rank fa.within in
+            record {
+              shown = d.shown ++ (face.entry, o) ∷ [];
+              calls = calls_more;
+              descending = rw (link, is) (facing-greater t.list.entries t.shape d.shown i face);
+              count = count_more;
+              last_is = last_more;
+            }
+
+-- the answer, by its tests
+pub equal_by : (o : Ordering) → is_eq o ≡ true → o ≡ Equal
+equal_by Less test = absurd (cc)
+equal_by Equal test = refl
+equal_by Greater test = absurd (cc)
+
+pub less_by : (o : Ordering) → is_lt o ≡ true → o ≡ Less
+less_by Less test = refl
+less_by Equal test = absurd (cc)
+less_by Greater test = absurd (cc)
+
+pub greater_by : (o : Ordering) → is_eq o ≡ false → is_lt o ≡ false → o ≡ Greater
+greater_by Less other not_less = absurd (cc)
+greater_by Equal other not_less = absurd (cc)
+greater_by Greater other not_less = refl
 
 -- a search for a similar key tells whether an equal one is there
 module _ {T K : Type 0} (key : T → K) (cmp : K → K → Ordering) (es : List (Entry T)) (k : K) (c : ℕ) where
@@ -318,15 +439,34 @@ module _ {T K : Type 0} (key : T → K) (cmp : K → K → Ordering) (es : List 
       (gap, record { fits = record { lesser_before = tt; greater_after = tt }; seen = omega arith })
 
   -- the search met an equal entry, or stopped at a gap that fits
-  pub finds_key-met : (p : ℕ × ℕ) (o : Ordering) → FindsSimilar key cmp es k (Some (p, o)) c → is_eq o ≡ true → FindsKey key cmp es k (Some p) c
+  finds_key-met : (p : ℕ × ℕ) (o : Ordering) → FindsSimilar key cmp es k (Some (p, o)) c → is_eq o ≡ true → FindsKey key cmp es k (Some p) c
   finds_key-met p Less found test = absurd (cc)
   finds_key-met p Greater found test = absurd (cc)
   finds_key-met p Equal found test =
       let met = met-of_equal found.0 found.2 (sym (ap (λ a. a.1) found.1)) in
       (found.0, ap (λ a. a.0) found.1, met.0, met.1)
 
-  pub finds_key-stopped : (p : ℕ × ℕ) (o : Ordering) → FindsSimilar key cmp es k (Some (p, o)) c → is_eq o ≡ false → FindsKey key cmp es k None c
+  finds_key-stopped : (p : ℕ × ℕ) (o : Ordering) → FindsSimilar key cmp es k (Some (p, o)) c → is_eq o ≡ false → FindsKey key cmp es k None c
   finds_key-stopped p o found test =
       let other : order_to key cmp k found.0 ≢ Equal = λ same. let equal : o ≡ Equal = ap (λ a. a.1) found.1 ∙ same in let yes : is_eq o ≡ true = ap is_eq equal in cc in
       let beside = stop-of_other found.0 found.2 other in
       (beside.0, beside.1)
+
+  pub finds_key-similar : (found : Option ((ℕ × ℕ) × Ordering)) → FindsSimilar key cmp es k found c → FindsKey key cmp es k (where_equal found) c
+  finds_key-similar None empty = stop-of_empty empty
+  finds_key-similar (Some a) found = by_order a.0 a.1 found
+    where
+      by_order : (p : ℕ × ℕ) (o : Ordering) → FindsSimilar key cmp es k (Some (p, o)) c → FindsKey key cmp es k (where_equal (Some (p, o))) c
+      by_order p Less found = finds_key-stopped p Less found refl
+      by_order p Equal found = finds_key-met p Equal found refl
+      by_order p Greater found = finds_key-stopped p Greater found refl
+
+-- what came with Equal, mapped
+pub where_equal-map : {X Y : Type 0} (f : X → Y) (found : Option (X × Ordering)) → where_equal (option_map (λ a. (f a.0, a.1)) found) ≡ option_map f (where_equal found)
+where_equal-map f None = refl
+where_equal-map {X} f (Some a) = by_order a.0 a.1
+  where
+    by_order : (x : X) (o : Ordering) → where_equal (Some (f x, o)) ≡ option_map f (where_equal (Some (x, o)))
+    by_order x Less = refl
+    by_order x Equal = refl
+    by_order x Greater = refl

@@ -28,7 +28,7 @@ module _ {T : Type 0} where
       let rest = ends_with (Some x) y ys e last in
       record { front = x ∷ rest.front; cut = ap (λ zs. x ∷ zs) rest.cut }
 
-  ends : (es : List (Entry T)) (e : Entry T) → last_or None es ≡ Some e → EndsWith es e
+  pub ends : (es : List (Entry T)) (e : Entry T) → last_or None es ≡ Some e → EndsWith es e
   ends [] e last = absurd (cc)
   ends (x ∷ xs) e last = ends_with None x xs e last
 

@@ -1,4 +1,8 @@
 pub mod Descending
+pub mod Ordered
+pub mod Stepping
+pub mod Hinted
+pub mod Calling
 pub mod Holding
 pub mod Bounds
 pub mod Bare

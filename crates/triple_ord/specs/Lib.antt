@@ -2,10 +2,14 @@ pub mod EntryKind
 pub mod Gap
 pub mod Search
 pub mod Arena
+pub mod ClosureSearch
+pub mod Order
+pub mod Hint
 pub mod VisitBounds
 pub mod Insertion
 pub mod Placing
 pub mod Node
 pub mod Walk
 pub mod Descent
+pub mod Steps
 pub mod Lends

@@ -16,6 +16,16 @@ pub record IsWithinBounds (n : ℕ) (shape : Shape) (c : ℕ) : Type 0 where
   -- in an empty list
   pub empty : n ≡ 0 → c ≡ 0
 
+-- The bounds on the visits c of a search that first makes steps from a hint: at most num of them, and no more than there are
+-- entries; to them it adds those of a whole search, or none.
+pub record IsWithinHintedBounds (n : ℕ) (shape : Shape) (num c : ℕ) : Type 0 where
+  pub steps : ℕ
+  pub search : ℕ
+  pub sum : c ≡ steps + search
+  pub few : steps ≤ num
+  pub within : steps ≤ n
+  pub bounded : IsWithinBounds n shape search
+
 -- a search that visits no more entries than stand on the longest way down stays within the bounds
 abbrev pub VisitsLaw : Type 0
 VisitsLaw = (s : Shape) (c : ℕ) → IsRanked s → c ≤ height s → IsWithinBounds (size_of s) s c

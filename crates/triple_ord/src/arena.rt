@@ -7,6 +7,8 @@ ghost use Rattle.ord_tree.specs.Tree.{IsSoundTree};
 
 mod access;
 mod find;
+mod find_linear;
+mod find_with;
 mod growth;
 mod insert;
 mod iter;

@@ -9,6 +9,7 @@ mod item;
 pub mod laws;
 mod pair;
 mod probe;
+mod steps;
 #[cfg(test)]
 mod tests;
 mod visits;

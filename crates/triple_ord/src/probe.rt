@@ -1,13 +1,14 @@
 //! `Probe`: what a search sees of an arena, entry by entry, each one counted.
-ghost use Rattle.std.specs.Prelude.{◌≡◌, ◌+◌, ◌<◌, ◌^◌, IsSome};
+ghost use Rattle.std.specs.Prelude.{◌≡◌, ◌+◌, ◌<◌, ◌^◌, Some, IsSome};
 ghost use Rattle.std.specs.Option.{option_map};
-ghost use Rattle.chain_base.specs.Chain.{entry_at, IsDistinct};
+ghost use Rattle.chain_base.specs.Chain.{entry_at, link_at, IsDistinct};
 ghost use Rattle.ord_tree.specs.Shape.{root_of, height};
 ghost use Rattle.ord_tree.specs.Tree.{IsSoundTree};
 ghost use Rattle.triple_ord.specs.Descent.{IsShown};
 
 use crate::visits::Visits;
 use arena_base::Ptr;
+use chain_base::LinkNoGen;
 use ord_tree::{OrdTree, SimpleOrdArenaNode};
 use std::alloc::Allocator;
 
@@ -24,7 +25,10 @@ impl<'a, P: Ptr, T, A: Allocator> Probe<'a, P, T, A> {
     pub fn new(tree: &'a OrdTree<P, T, A>) -> Self
         ensures tree { result.tree.now ≡ tree.now }
         ensures none { result.visits ≡ 0 }
+        ensures distinct { IsDistinct tree.now.list.entries }
     {
+        // with its length a tree tells what holds of every tree
+        let _ = tree.len();
         Probe { tree, visits: 0 }
     }
 
@@ -56,7 +60,24 @@ impl<'a, P: Ptr, T, A: Allocator> Probe<'a, P, T, A> {
         ensures counted { self.new.visits ≡ self.old.visits + 1 }
         ensures tree { self.new.tree.now ≡ self.old.tree.now }
     {
+        let (generation, link) = self.show_link(i);
+        (generation, &link.t)
+    }
+
+    /// Shows the entry at the index: its generation, and its node with its neighbours in the list.
+    pub fn show_link(&mut self, i: P::Inx) -> (P::Gen, &'a LinkNoGen<P, SimpleOrdArenaNode<P, T>>)
+        requires occupied { IsSome (entry_at self.old.tree.now.list.entries (P.Inx.number i)) }
+        requires room { self.old.visits + 1 < 2 ^ 128 }
+        ensures shown { IsShown self.old.tree.now (P.Inx.number i) (P.Gen.number result.0) result.1.now.item.t
+            (option_map P.Inx.number result.1.now.item.p_tree0) (option_map P.Inx.number result.1.now.item.p_tree1) }
+        ensures linked { link_at self.old.tree.now.list.entries (P.Inx.number i) ≡ Some (
+          P.Gen.number result.0,
+          record { item = result.1.now.item.t; prev = result.1.now.prev; next = result.1.now.next },
+        ) }
+        ensures counted { self.new.visits ≡ self.old.visits + 1 }
+        ensures tree { self.new.tree.now ≡ self.old.tree.now }
+    {
         self.visits += 1;
-        self.tree.chain().get_inx(i).unwrap()
+        self.tree.chain().arena().get_inx(i).unwrap()
     }
 }

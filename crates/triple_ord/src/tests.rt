@@ -4,8 +4,10 @@ ghost use Rattle.std.specs.Cmp.{partial_order_from_own_ties};
 ghost use Rattle.std.specs.Cmp.Rules.{comparing};
 ghost use Rattle.std.specs.Ordering.{nat_cmp, on, as_partial_cmp};
 
+mod closures;
 mod each_call;
 mod every_order;
+mod hints;
 mod removal;
 
 use crate::{OrdEntryKind, OrdInsertionError, OrdPair, SimpleOrdArena, SimpleOrdItem, laws};
@@ -56,6 +58,18 @@ fn five_keys(rt: HostRuntime) -> Result<(), Fail> {
     assert_eq!(rt; numbers(a.first()), Some((5, 2)));
     assert_eq!(rt; numbers(a.last()), Some((3, 2)));
     assert_eq!(rt; numbers(a.find_key(&50)), Some((1, 2)));
+    let (similar, visits) = a.find_similar_key_counted(&53);
+    assert_eq!(rt;
+        similar.map(|a| (a.0.inx(), a.1)),
+        Some((4, Ordering::Less))
+    );
+    assert_eq!(rt; visits.count(), 3);
+    let (similar, visits) = a.find_similar_key_counted(&40);
+    assert_eq!(rt;
+        similar.map(|a| (a.0.inx(), a.1)),
+        Some((2, Ordering::Greater))
+    );
+    assert_eq!(rt; visits.count(), 2);
     let order = [(5u32, 1u8), (2, 2), (1, 3), (4, 1), (3, 2)];
     assert_eq!(rt; ranks(rt.alloc(), &a)?.as_slice(), order.as_slice());
     Ok(())
@@ -152,6 +166,37 @@ fn visits_are_comparisons(rt: HostRuntime) -> Result<(), Fail> {
         assert_eq!(rt; taken(comparisons), visits.count());
         assert!(rt; a.insert(Sole { key: wanted }).is_ok());
         assert_eq!(rt; taken(comparisons), visits.count());
+    }
+    Ok(())
+}
+
+#[test]
+fn steps_are_comparisons(rt: HostRuntime) -> Result<(), Fail> {
+    let made = Cell::new(0u128);
+    let comparisons = &made;
+    let mut a: SimpleOrdArena<PN, Sole> = SimpleOrdArena::new(rt.alloc());
+    for key in [50u64, 30, 70, 60, 10] {
+        let inserted = a.insert(Sole {
+            key: Counting { key, comparisons },
+        });
+        assert!(rt; inserted.is_ok());
+    }
+    for key in [50u64, 30, 70, 60, 10, 53, 40, 5, 99] {
+        let wanted = Counting { key, comparisons };
+        for hint in 0u32..7 {
+            for num in [0, 1, 2, 3, usize::MAX] {
+                let _ = taken(comparisons);
+                let p = PN::_from_raw(hint, ());
+                let (found, visits) = a.find_key_linear_counted(p, num, &wanted);
+                assert_eq!(rt; taken(comparisons), visits.count());
+                assert_eq!(rt; a.find_key_linear(p, num, &wanted), found);
+                assert_eq!(rt; taken(comparisons), visits.count());
+                let (similar, visits) = a.find_similar_key_linear_counted(hint, num, &wanted);
+                assert_eq!(rt; taken(comparisons), visits.count());
+                assert_eq!(rt; a.find_similar_key_linear(hint, num, &wanted), similar);
+                assert_eq!(rt; taken(comparisons), visits.count());
+            }
+        }
     }
     Ok(())
 }

@@ -1,11 +1,12 @@
 //! Searches by key.
 ghost use Rattle.std.specs.Prelude.{◌≡◌, ℕ, length};
 ghost use Rattle.std.specs.Option.{option_map};
+ghost use Rattle.triple_ord.specs.ClosureSearch.{where_equal};
 ghost use Rattle.triple_ord.specs.Search.{FindsKey, FindsSimilar};
 ghost use Rattle.triple_ord.specs.VisitBounds.{IsWithinBounds};
 
 use super::SimpleOrdArena;
-use crate::descent::descend;
+use crate::descent::descend_by_key;
 use crate::item::SimpleOrdItem;
 use crate::probe::Probe;
 use crate::visits::Visits;
@@ -33,11 +34,7 @@ impl<P: Ptr, T: SimpleOrdItem, A: Allocator> SimpleOrdArena<P, T, A> {
         ensures visits { IsWithinBounds (length self.now.list.entries) self.now.shape result.1 }
     {
         let (found, visits) = self.find_similar_key_counted(k);
-        match found {
-            None => (None, visits),
-            Some(similar) if similar.1.is_eq() => (Some(similar.0), visits),
-            Some(_) => (None, visits),
-        }
+        (equal_alone(found), visits)
     }
 
     /// The pointer of the entry that the search met last, with the order of `k` to its key: an entry with an equal key, or one
@@ -58,7 +55,17 @@ impl<P: Ptr, T: SimpleOrdItem, A: Allocator> SimpleOrdArena<P, T, A> {
         ensures visits { IsWithinBounds (length self.now.list.entries) self.now.shape result.1 }
     {
         let mut probe = Probe::new(&self.tree);
-        let found = descend(&mut probe, k);
+        let found = descend_by_key(&mut probe, k);
         (found, probe.visits())
+    }
+}
+
+// What was answered Equal.
+pub(super) fn equal_alone<P: Ptr>(found: Option<(P, Ordering)>) -> Option<P>
+    ensures { result ≡ where_equal found }
+{
+    match found {
+        Some(similar) if similar.1.is_eq() => Some(similar.0),
+        _ => None,
     }
 }

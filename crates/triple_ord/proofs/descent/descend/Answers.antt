@@ -1,42 +1,71 @@
-use Rattle.std.proofs.Common.{arith, refl, sym, ap, ◌∙◌}
-use Rattle.triple_ord.proofs.Descending.{IsDescending-begin, stops, step-occupied, step-few, step-meets, step-goes_lesser, step-goes_greater}
-use Rattle.ord_tree.specs.Shape.{height}
+use Rattle.std.proofs.Common.{◌≡◌, ℕ, ◌+◌, Some, arith, refl, sym, ap, ◌∙◌, of_calls}
+use Rattle.std.specs.Option.{option_map}
 use Rattle.ord_tree.specs.Tree.{Tree}
+use Rattle.triple_ord.specs.ClosureSearch.{Asks, FindsSimilarWith}
+use Rattle.triple_ord.specs.Descent.{HasDescended, IsShown}
+use Rattle.triple_ord.proofs.Descending.{descent-begins, descent-ends, step-occupied, step-few, step-equal, step-less, step-greater, equal_by, less_by, greater_by}
 use Rattle.triple_ord.proofs.Bounds.{within_bounds}
 use Rattle.triple_ord.proofs.descent.descend.Goals as goal
 
 pub loop-at-init : goal.loop-at-init
-loop-at-init g c = (refl, rw (c.root-at.ensures.root, c.requires) (IsDescending-begin _ _ _ _ _ (sym c.root-at.ensures.sound.listed)))
+loop-at-init g c = record {
+  callable = c.requires.callable;
+  tree = refl;
+  descended = rw c.root-at.ensures.root (descent-begins _ c.args.probe.now.tree.now c.root-at.ensures.distinct _ _ (sym c.root-at.ensures.sound.listed));
+}
 
 pub show-generation-requires-clause-occupied : goal.show-generation-requires-clause-occupied
 show-generation-requires-clause-occupied g c =
-    let distinct = rw (← c.loop-at.invariant.0) at c.root-at.ensures.distinct in
-    step-occupied _ _ c.loop-at.probe.tree.now _ distinct _ _ _ (rw c.in-Some.is at c.loop-at.invariant.1)
+    rw c.loop-at.invariant.tree (step-occupied _ c.args.probe.now.tree.now c.root-at.ensures.distinct _ _ _ _ _ _ (rw c.in-Some.is at c.loop-at.invariant.descended))
 
 pub returns-then-is_eq-clause-found : goal.returns-then-is_eq-clause-found
 returns-then-is_eq-clause-found g c =
-    let distinct = rw (← c.loop-at.invariant.0) at c.root-at.ensures.distinct in
-    step-meets _ _ c.loop-at.probe.tree.now _ distinct _ _ _ (rw c.in-Some.is at c.loop-at.invariant.1) _ _ _ _ c.show-generation.ensures.shown c.args.probe.now.tree.now c.loop-at.invariant.0 _ (g.P.Ptr.index c._from_raw.result, g.P.Ptr.era c._from_raw.result) _ (rw c.key.ensures at c.cmp-order.ensures) (sym c.is_eq.ensures ∙ c.if-is_eq.true) (cc) c.show-generation.ensures.counted
+    let d = rw c.in-Some.is at c.loop-at.invariant.descended in
+    let shown = rw c.loop-at.invariant.tree at c.show-generation.ensures.shown in
+    let equal = equal_by c.f-order.result (sym c.is_eq.ensures ∙ c.if-is_eq.true) in
+    let named : ◌≡◌ {A = ℕ × ℕ} (g.P.Ptr.index c._from_raw-p.result, g.P.Ptr.era c._from_raw-p.result) (g.P.Inx.PtrInx.number c.in-Some.i, g.P.Gen.PtrGen.number c.show-generation.result.0) = (cc) in
+    rw (c.show-generation.ensures.counted, named)
+    (step-equal _ c.args.probe.now.tree.now c.root-at.ensures.distinct _ _ _ _ _ _ d _ _ _ _ shown c.f-order.result c.f-order.new.self
+    (λ e is item. record { named = c._from_raw-p.result; item = _; names = named ∙ sym is; shows = sym item; called = c.f-order.ensures }) equal)
 
 pub loop-at-preserved-then-is_lt : goal.loop-at-preserved-then-is_lt
 loop-at-preserved-then-is_lt g c =
-    let distinct = rw (← c.loop-at.invariant.0) at c.root-at.ensures.distinct in
-    (c.show-generation.ensures.tree ∙ c.loop-at.invariant.0, rw c.show-generation.ensures.tree (step-goes_lesser _ _ c.loop-at.probe.tree.now _ distinct _ _ _ (rw c.in-Some.is at c.loop-at.invariant.1) _ _ _ _ c.show-generation.ensures.shown _ _ _ (rw c.key.ensures at c.cmp-order.ensures) (sym c.is_lt.ensures ∙ c.if-is_lt.true) (cc) c.show-generation.ensures.counted))
+    let d = rw c.in-Some.is at c.loop-at.invariant.descended in
+    let shown = rw c.loop-at.invariant.tree at c.show-generation.ensures.shown in
+    let less = less_by c.f-order.result (sym c.is_lt.ensures ∙ c.if-is_lt.true) in
+    let named : ◌≡◌ {A = ℕ × ℕ} (g.P.Ptr.index c._from_raw-p.result, g.P.Ptr.era c._from_raw-p.result) (g.P.Inx.PtrInx.number c.in-Some.i, g.P.Gen.PtrGen.number c.show-generation.result.0) = (cc) in
+    record {
+      callable = search of_calls;
+      tree = c.show-generation.ensures.tree ∙ c.loop-at.invariant.tree;
+      descended = rw (c.show-generation.ensures.counted, named)
+          (step-less _ c.args.probe.now.tree.now c.root-at.ensures.distinct _ _ _ _ _ _ d _ _ _ _ shown c.f-order.result c.f-order.new.self
+          (λ e is item. record { named = c._from_raw-p.result; item = _; names = named ∙ sym is; shows = sym item; called = c.f-order.ensures }) less);
+    }
 
 pub loop-at-preserved : goal.loop-at-preserved
 loop-at-preserved g c =
-    let distinct = rw (← c.loop-at.invariant.0) at c.root-at.ensures.distinct in
-    (c.show-generation.ensures.tree ∙ c.loop-at.invariant.0, rw c.show-generation.ensures.tree (step-goes_greater _ _ c.loop-at.probe.tree.now _ distinct _ _ _ (rw c.in-Some.is at c.loop-at.invariant.1) _ _ _ _ c.show-generation.ensures.shown _ _ _ (rw c.key.ensures at c.cmp-order.ensures) (sym c.is_eq.ensures ∙ c.if-is_eq.false) (sym c.is_lt.ensures ∙ c.if-is_lt.false) (cc) c.show-generation.ensures.counted))
+    let d = rw c.in-Some.is at c.loop-at.invariant.descended in
+    let shown = rw c.loop-at.invariant.tree at c.show-generation.ensures.shown in
+    let greater = greater_by c.f-order.result (sym c.is_eq.ensures ∙ c.if-is_eq.false) (sym c.is_lt.ensures ∙ c.if-is_lt.false) in
+    let named : ◌≡◌ {A = ℕ × ℕ} (g.P.Ptr.index c._from_raw-p.result, g.P.Ptr.era c._from_raw-p.result) (g.P.Inx.PtrInx.number c.in-Some.i, g.P.Gen.PtrGen.number c.show-generation.result.0) = (cc) in
+    record {
+      callable = search of_calls;
+      tree = c.show-generation.ensures.tree ∙ c.loop-at.invariant.tree;
+      descended = rw (c.show-generation.ensures.counted, named)
+          (step-greater _ c.args.probe.now.tree.now c.root-at.ensures.distinct _ _ _ _ _ _ d _ _ _ _ shown c.f-order.result c.f-order.new.self
+          (λ e is item. record { named = c._from_raw-p.result; item = _; names = named ∙ sym is; shows = sym item; called = c.f-order.ensures }) greater);
+    }
 
 pub returns-clause-found : goal.returns-clause-found
-returns-clause-found g c = rw c.loop-at.invariant.0 at (stops _ _ _ _ _ _ _ (rw c.in_default.is at c.loop-at.invariant.1))
+returns-clause-found g c = descent-ends _ c.args.probe.now.tree.now c.root-at.ensures.distinct _ _ _ _ _ (rw c.in_default.is at c.loop-at.invariant.descended)
 
 pub returns-then-is_eq-clause-visits : goal.returns-then-is_eq-clause-visits
 returns-then-is_eq-clause-visits g c =
-    let distinct = rw (← c.loop-at.invariant.0) at c.root-at.ensures.distinct in
-    let few = step-few _ _ c.loop-at.probe.tree.now _ distinct _ _ _ (rw c.in-Some.is at c.loop-at.invariant.1) in
-    within_bounds _ c.root-at.ensures.sound c.visits_law.ensures _ (omega (arith, few, c.show-generation.ensures.counted, ap (λ (t : Tree g.row.T.Denot). height t.shape) c.loop-at.invariant.0))
+    let few = step-few _ c.args.probe.now.tree.now c.root-at.ensures.distinct _ _ _ _ _ _ (rw c.in-Some.is at c.loop-at.invariant.descended) in
+    within_bounds _ c.root-at.ensures.sound c.visits_law.ensures _ (omega (arith, few, c.show-generation.ensures.counted))
 
 pub returns-clause-visits : goal.returns-clause-visits
 returns-clause-visits g c =
-    within_bounds _ c.root-at.ensures.sound c.visits_law.ensures _ (omega (arith, c.loop-at.invariant.1.few, ap (λ (t : Tree g.row.T.Denot). height t.shape) c.loop-at.invariant.0))
+    let d = c.loop-at.invariant.descended in
+    let few = d.descending.few in
+    within_bounds _ c.root-at.ensures.sound c.visits_law.ensures _ (omega (arith, few, d.count))

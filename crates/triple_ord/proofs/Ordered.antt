@@ -1,0 +1,91 @@
+-- A list in the order of its keys, with a gap that fits a key: the key is greater than all before the gap, and less than all after it.
+use Rattle.std.proofs.Common.{◌≡◌, ◌≢◌, ℕ, ◌<◌, ◌≤◌, List, [], ◌∷◌, ◌++◌, IfSome, None, length, refl, sym, ap, ◌∙◌, arith, inl, inr}
+use Rattle.std.proofs.lemmas.Bool.Decides.{leb_tells}
+use Rattle.std.specs.List.{AllByRecursion as ByRecursion}
+use Rattle.std.specs.Cmp.{IsTotalOrder, alike_right}
+use Rattle.std.specs.Ordering.{ordering_reverse}
+use Rattle.std.specs.declared.cmp.Ordering.{Ordering}
+use Rattle.std.specs.declared.cmp.Ordering.TheVariants.{Less, Equal, Greater}
+use Rattle.chain_base.specs.Chain.{Entry}
+use Rattle.triple_ord.specs.Gap.{Gap, first_of, last_or}
+use Rattle.triple_ord.specs.Search.{order_to, Fits}
+use Rattle.triple_ord.specs.Order.{IsInOrder}
+
+-- in a total order: what is not greater than something lesser is lesser, and what is not less than something greater is greater
+module _ {K : Type 0} (cmp : K → K → Ordering) (total : IsTotalOrder cmp) where
+  lesser_before : (k a b : K) (o : Ordering) → cmp a b ≡ o → o ≢ Greater → cmp k b ≡ Greater → cmp k a ≡ Greater
+  lesser_before k a b o is not_greater more =
+      total.antisymm k a ∙ ap ordering_reverse (less o is not_greater)
+    where
+      below : cmp b k ≡ Less
+      below = total.antisymm b k ∙ ap ordering_reverse more
+
+      less : (o : Ordering) → cmp a b ≡ o → o ≢ Greater → cmp a k ≡ Less
+      less Less is not_greater = total.trans a b k is below
+      less Equal is not_greater = total.congr a b k is ∙ below
+      less Greater is not_greater = absurd (not_greater refl)
+
+  greater_after : (k a b : K) (o : Ordering) → cmp a b ≡ o → o ≢ Greater → cmp k a ≡ Less → cmp k b ≡ Less
+  greater_after k a b Less is not_greater less = total.trans k a b less is
+  greater_after k a b Equal is not_greater less = sym (alike_right total a b k is) ∙ less
+  greater_after k a b Greater is not_greater less = absurd (not_greater refl)
+
+module _ {T K : Type 0} (key : T → K) (cmp : K → K → Ordering) where
+  IsInOrder-rest : (e : Entry T) (es : List (Entry T)) → IsInOrder key cmp (e ∷ es) → IsInOrder key cmp es
+  IsInOrder-rest e es order front back f g cut = order (e ∷ front) back f g (ap (λ xs. e ∷ xs) cut)
+
+  IsInOrder-back : (front back : List (Entry T)) → IsInOrder key cmp (front ++ back) → IsInOrder key cmp back
+  IsInOrder-back [] back order = order
+  IsInOrder-back (e ∷ front) back order = IsInOrder-back front back (IsInOrder-rest e (front ++ back) order)
+
+  module _ (total : IsTotalOrder cmp) (k : K) where
+    all_greater : (front back : List (Entry T)) → IsInOrder key cmp (front ++ back) → IfSome (last_or None front) (λ e. order_to key cmp k e ≡ Greater) → ByRecursion (λ e. order_to key cmp k e ≡ Greater) front
+    all_greater [] back order last = tt
+    all_greater (e ∷ []) back order last = (last, tt)
+    all_greater (e ∷ (f ∷ front)) back order last =
+        let rest = all_greater (f ∷ front) back (IsInOrder-rest e (f ∷ front ++ back) order) last in
+        (lesser_before cmp total k (key e.item) (key f.item) _ refl (order [] (front ++ back) e f refl) rest.0, rest)
+
+    all_less : (back : List (Entry T)) → IsInOrder key cmp back → IfSome (first_of back) (λ e. order_to key cmp k e ≡ Less) → ByRecursion (λ e. order_to key cmp k e ≡ Less) back
+    all_less [] order first = tt
+    all_less (e ∷ []) order first = (first, tt)
+    all_less (e ∷ (f ∷ back)) order first =
+        let next = greater_after cmp total k (key e.item) (key f.item) _ refl (order [] back e f refl) first in
+        (first, all_less (f ∷ back) (IsInOrder-rest e (f ∷ back) order) next)
+
+  -- what stands at a place of the front, and of the back, of a list that is cut in two
+  in_front : (P : Entry T → Type 0) (low high front back : List (Entry T)) (e : Entry T) → low ++ high ≡ front ++ e ∷ back → length front < length low → ByRecursion P low → P e
+  in_front P [] high front back e cut within all = absurd (omega arith)
+  in_front P (x ∷ low) high [] back e cut within all = let P' = P in let same : x ≡ e = cc in rw same at all.0
+  in_front P (x ∷ low) high (y ∷ front) back e cut within all = in_front P low high front back e (cc) (omega (arith, within)) all.1
+
+  in_back : (P : Entry T → Type 0) (low high front back : List (Entry T)) (e : Entry T) → low ++ high ≡ front ++ e ∷ back → length low ≤ length front → ByRecursion P high → P e
+  in_back P [] [] [] back e cut within all = absurd (cc)
+  in_back P [] [] (y ∷ front) back e cut within all = absurd (cc)
+  in_back P [] (x ∷ high) [] back e cut within all = let same : x ≡ e = cc in rw same at all.0
+  in_back P [] (x ∷ high) (y ∷ front) back e cut within all = in_back P [] high front back e (cc) (omega arith) all.1
+  in_back P (x ∷ low) high [] back e cut within all = absurd (omega arith)
+  in_back P (x ∷ low) high (y ∷ front) back e cut within all = in_back P low high front back e (cc) (omega (arith, within)) all
+
+  -- an entry to which k lies Greater stands before the gap, one to which it lies Less behind it
+  module _ (total : IsTotalOrder cmp) (k : K) (es : List (Entry T)) (order : IsInOrder key cmp es) (gap : Gap es) (fits : Fits key cmp gap k) (front back : List (Entry T)) (e : Entry T) (cut : es ≡ front ++ e ∷ back) where
+    ordered : IsInOrder key cmp (gap.front ++ gap.back)
+    ordered = rw gap.cut at order
+
+    pub Greater-before : order_to key cmp k e ≡ Greater → length front < length gap.front
+    Greater-before more = elim (leb_tells (length gap.front) (length front)) [
+      | inl h ↦
+          let all = all_less total k gap.back (IsInOrder-back gap.front gap.back ordered) fits.greater_after in
+          let less = in_back (λ x. order_to key cmp k x ≡ Less) gap.front gap.back front back e (sym gap.cut ∙ cut) h.1 all in
+          absurd (cc)
+      | inr h ↦ h.1
+    ]
+
+    pub Less-behind : order_to key cmp k e ≡ Less → length gap.front ≤ length front
+    Less-behind less = elim (leb_tells (length gap.front) (length front)) [
+      | inl h ↦ h.1
+      | inr h ↦
+          let all = all_greater total k gap.front gap.back ordered fits.lesser_before in
+          let more = in_front (λ x. order_to key cmp k x ≡ Greater) gap.front gap.back front back e (sym gap.cut ∙ cut) h.1 all in
+          absurd (cc)
+    ]

@@ -1,9 +1,0 @@
-use Rattle.triple_ord.proofs.Holding.{read-found, found-under, shown-under}
-use Rattle.triple_ord.proofs.probe.Probe.show.Goals as goal
-
-pub unwrap-requires : goal.unwrap-requires
-unwrap-requires g c = found-under g.P.Inx.PtrInx.number _ _ c.chain.ensures.chain _ _ _ c.get_inx.ensures c.requires.occupied
-
-pub returns-clause-shown : goal.returns-clause-shown
-returns-clause-shown g c =
-    shown-under g.P.Inx.PtrInx.number _ _ c.chain.ensures.chain _ _ (read-found _ _ _ _ c.get_inx.ensures c.unwrap.ensures)

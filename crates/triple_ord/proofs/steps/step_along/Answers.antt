@@ -1,0 +1,51 @@
+use Rattle.std.proofs.Common.{◌≡◌, ℕ, refl, sym, ap, ◌∙◌, arith}
+use Rattle.std.specs.Option.{option_map}
+use Rattle.triple_ord.proofs.Stepping.{stepping-begins, stepping-occupied, stepping-goes, stepping-settles, stepping-near, apart, alike}
+use Rattle.triple_ord.proofs.steps.step_along.Goals as goal
+use Rattle.triple_ord.proofs.steps.step_along.Goals.{in_default-via-in-Some+else-ne, in_default-via-in_default}
+
+pub loop-step-init : goal.loop-step-init
+loop-step-init g c = record {
+  tree = refl;
+  counted = c.requires.fresh;
+  stepping = rw c.requires.fresh (stepping-begins _ _ _ _ c.requires.distinct _ c.requires.occupied);
+}
+
+pub show_link-generation-requires-clause-occupied : goal.show_link-generation-requires-clause-occupied
+show_link-generation-requires-clause-occupied g c =
+    rw c.loop-step.invariant.tree (stepping-occupied _ _ _ _ c.requires.distinct _ _ _ _ c.loop-step.invariant.stepping)
+
+pub returns-in_default-clause-settled : goal.returns-in_default-clause-settled
+returns-in_default-clause-settled g c =
+    let linked = rw c.loop-step.invariant.tree at c.show_link-generation.ensures.linked in
+    let order = c.cmp-order.ensures ∙ ap (g.T.Key.Ord.cmp c.args.k.now) (c.key.ensures ∙ ap (λ l. g.T.SimpleOrdItem.key_of l.item.t) c.link.view_is) in
+    let named : ◌≡◌ {A = ℕ × ℕ} (g.P.Ptr.index c._from_raw.result, g.P.Ptr.era c._from_raw.result) (g.P.Inx.PtrInx.number c.loop-step.at, g.P.Gen.PtrGen.number c.show_link-generation.result.0) = (cc) in
+    rw (c.show_link-generation.ensures.counted, named)
+    (stepping-settles _ _ _ _ c.requires.distinct _ _ _ _ c.loop-step.invariant.stepping _ _ linked _ order
+    (rw (← c.towards.ensures)
+    (elim c.in_default.branch [
+      | in_default-via-in-Some+else-ne w ↦ rw w.in-Some.is (alike _ _ (rw w.reverse.ensures at (sym w.ne.ensures ∙ w.if-ne.false)))
+      | in_default-via-in_default w ↦ rw w.in_default.is tt
+    ])))
+
+pub returns-in_default-clause-near : goal.returns-in_default-clause-near
+returns-in_default-clause-near g c = λ ordered gap fits.
+    rw c.show_link-generation.ensures.counted
+    (stepping-near _ _ _ _ c.requires.distinct _ _ _ _ c.loop-step.invariant.stepping g.met.T.Key.Ord.total ordered gap fits)
+
+pub loop-step-preserved : goal.loop-step-preserved
+loop-step-preserved g c =
+    let linked = rw c.loop-step.invariant.tree at c.show_link-generation.ensures.linked in
+    let order = c.cmp-order.ensures ∙ ap (g.T.Key.Ord.cmp c.args.k.now) (c.key.ensures ∙ ap (λ l. g.T.SimpleOrdItem.key_of l.item.t) c.link.view_is) in
+    record {
+      tree = c.show_link-generation.ensures.tree ∙ c.loop-step.invariant.tree;
+      counted = omega (arith, c.show_link-generation.ensures.counted, c.loop-step.invariant.counted);
+      stepping = rw c.show_link-generation.ensures.counted
+          (stepping-goes _ _ _ _ c.requires.distinct _ _ _ _ c.loop-step.invariant.stepping _ _ linked _ order _
+          (sym c.towards.ensures ∙ ap (option_map g.P.Inx.PtrInx.number) c.in-Some.is) (apart _ _ (rw c.reverse.ensures at (sym c.ne.ensures ∙ c.if-ne.true))));
+    }
+
+pub returns-clause-near : goal.returns-clause-near
+returns-clause-near g c = λ ordered gap fits.
+    let near = stepping-near _ _ _ _ c.requires.distinct _ _ _ _ c.loop-step.invariant.stepping g.met.T.Key.Ord.total ordered gap fits in
+    omega (arith, near, c.loop-step-test.false, c.loop-step.invariant.counted)

@@ -1,0 +1,10 @@
+-- When a list is in the order of its keys.
+use Rattle.std.specs.Prelude.{◌≡◌, ◌≢◌, List, ◌∷◌, ◌++◌}
+use Rattle.std.specs.declared.cmp.Ordering.{Ordering}
+use Rattle.std.specs.declared.cmp.Ordering.TheVariants.{Greater}
+use Rattle.chain_base.specs.Chain.{Entry}
+
+-- no entry's key is greater than that of the entry directly after it
+abbrev pub IsInOrder : {T K : Type 0} → (T → K) → (K → K → Ordering) → List (Entry T) → Type 0
+IsInOrder {T} key cmp entries =
+    (front back : List (Entry T)) (e f : Entry T) → entries ≡ front ++ e ∷ f ∷ back → cmp (key e.item) (key f.item) ≢ Greater

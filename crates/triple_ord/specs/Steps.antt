@@ -1,0 +1,47 @@
+-- How far the steps from a hint have come. No public clause cites this file.
+use Rattle.std.specs.Prelude.{◌≡◌, ℕ, ◌+◌, ◌<◌, ◌≤◌, List, ◌∷◌, ◌++◌, Option, Some, None, IfSome, MatchOption, length}
+use Rattle.std.specs.declared.cmp.Ordering.{Ordering}
+use Rattle.std.specs.declared.cmp.Ordering.TheVariants.{Less, Equal, Greater}
+use Rattle.chain_base.specs.Chain.{Entry}
+use Rattle.chain_base.specs.Link.{Link}
+use Rattle.triple_ord.specs.Gap.{Gap, first_of, last_or}
+use Rattle.triple_ord.specs.Hint.{place_of, way_length}
+use Rattle.triple_ord.specs.Order.{IsInOrder}
+use Rattle.triple_ord.specs.Search.{order_to, Fits, FindsSimilar}
+
+-- the neighbour on the side on which a key lies, none for an equal key
+abbrev pub neighbour_towards : {X : Type 0} → Link X → Ordering → Option ℕ
+neighbour_towards link Less = link.prev
+neighbour_towards link Equal = None
+neighbour_towards link Greater = link.next
+
+module _ {T K : Type 0} (key : T → K) (cmp : K → K → Ordering) (entries : List (Entry T)) (k : K) where
+  -- what the steps answer, if anything, is the answer of a search for a similar key
+  abbrev pub Settles : Option ((ℕ × ℕ) × Ordering) → ℕ → Type 0
+  Settles found visits = IfSome found (λ answer. FindsSimilar key cmp entries k (Some answer) visits)
+
+  -- from the index i, on a list in order with a gap that fits k: the steps answer after no more visits than there are entries on the
+  -- way to the gap, and leave it open only where there are more than num
+  abbrev pub IsNear : {X : Type 0} → ℕ → ℕ → Option X → ℕ → Type 0
+  IsNear i num found visits =
+      IsInOrder key cmp entries → (gap : Gap entries) → Fits key cmp gap k
+      → MatchOption found (num < way_length gap (place_of entries i)) (λ answer. visits ≤ way_length gap (place_of entries i))
+
+  -- the steps went so many entries from a place: to the one with `front` before it and `back` behind it; the entry that they came
+  -- from was answered `came`, Equal where they begin
+  abbrev pub CameFrom : ℕ → ℕ → List (Entry T) → List (Entry T) → Ordering → Type 0
+  CameFrom start visits front back Less =
+      (e : Entry T) × (first_of back ≡ Some e) × (order_to key cmp k e ≡ Less) × (1 ≤ visits) × (length front + visits ≡ start)
+  CameFrom start visits front back Equal = (visits ≡ 0) × (length front ≡ start)
+  CameFrom start visits front back Greater =
+      (e : Entry T) × (last_or None front ≡ Some e) × (order_to key cmp k e ≡ Greater) × (1 ≤ visits) × (length front ≡ start + visits)
+
+  -- the steps from a place have come to the entry with index i after so many visits
+  pub record IsStepping (start i visits : ℕ) (came : Ordering) : Type 0 where
+    pub front : List (Entry T)
+    pub entry : Entry T
+    pub back : List (Entry T)
+    pub cut : entries ≡ front ++ entry ∷ back
+    pub here : entry.index ≡ i
+    pub from : CameFrom start visits front back came
+    pub within : start < length entries

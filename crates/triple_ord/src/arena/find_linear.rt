@@ -1,0 +1,100 @@
+//! Searches by key from a hint: an entry near which the key may lie.
+ghost use Rattle.std.specs.Prelude.{◌≡◌, ℕ, length, IfNone};
+ghost use Rattle.std.specs.Option.{option_map};
+ghost use Rattle.chain_base.specs.Chain.{entry_at, item_of};
+ghost use Rattle.triple_ord.specs.Hint.{IsNearHint};
+ghost use Rattle.triple_ord.specs.Search.{FindsKey, FindsSimilar};
+ghost use Rattle.triple_ord.specs.VisitBounds.{IsWithinBounds, IsWithinHintedBounds};
+
+use super::SimpleOrdArena;
+use super::find::equal_alone;
+use crate::descent::descend_by_key;
+use crate::item::SimpleOrdItem;
+use crate::probe::Probe;
+use crate::steps::step_along;
+use crate::visits::Visits;
+use arena_base::Ptr;
+use std::alloc::Allocator;
+use std::cmp::Ordering;
+
+impl<P: Ptr, T: SimpleOrdItem, A: Allocator> SimpleOrdArena<P, T, A> {
+    /// `find_key`, after at most `num` steps along the list from the entry that `p_init` names.
+    ///
+    /// Each step compares `k` with an entry's key: Less leads to the previous entry, Greater to the next. An equal key is the
+    /// answer. Where the order turns, at an end of the list, and after `num` comparisons a whole search follows; so it does at once
+    /// where `p_init` names no entry.
+    pub fn find_key_linear(&self, p_init: P, num: usize, k: &T::Key) -> Option<P>
+        ensures { (visits : ℕ) × FindsKey T.key_of T.Key.cmp self.now.list.entries k.now
+            (option_map (λ p. (P.index p, P.era p)) result) visits }
+    {
+        self.find_key_linear_counted(p_init, num, k).0
+    }
+
+    /// `find_key_linear`, and how many entries its steps and its whole search visited: at most the lesser of `num` and the number of
+    /// entries more than a whole search may. A pointer that names no entry adds none.
+    pub fn find_key_linear_counted(&self, p_init: P, num: usize, k: &T::Key) -> (Option<P>, Visits)
+        ensures found { FindsKey T.key_of T.Key.cmp self.now.list.entries k.now
+            (option_map (λ p. (P.index p, P.era p)) result.0) result.1 }
+        ensures visits { IsWithinHintedBounds (length self.now.list.entries) self.now.shape num result.1 }
+        ensures unhinted { IfNone (item_of self.now.list.entries (P.index p_init) (P.era p_init))
+            (IsWithinBounds (length self.now.list.entries) self.now.shape result.1) }
+    {
+        if !self.contains(p_init) {
+            return self.find_key_counted(k);
+        }
+        let mut probe = Probe::new(&self.tree);
+        let near = equal_alone(step_along(&mut probe, p_init.inx(), num, k));
+        if near.is_some() {
+            return (near, probe.visits());
+        }
+        let found = equal_alone(descend_by_key(&mut probe, k));
+        (found, probe.visits())
+    }
+
+    /// `find_similar_key`, after at most `num` steps along the list from the entry at the index, whatever its generation.
+    ///
+    /// The steps are those of `find_key_linear`. An entry with an equal key is the answer, and so is the entry at which the order
+    /// turns, and the one at the end of the list that was met. After `num` comparisons a whole search follows; so it does at once
+    /// where the index has no entry.
+    pub fn find_similar_key_linear(
+        &self,
+        p_init: P::Inx,
+        num: usize,
+        k: &T::Key,
+    ) -> Option<(P, Ordering)>
+        ensures { (visits : ℕ) × FindsSimilar T.key_of T.Key.cmp self.now.list.entries k.now
+            (option_map (λ a. ((P.index a.0, P.era a.0), a.1)) result) visits }
+    {
+        self.find_similar_key_linear_counted(p_init, num, k).0
+    }
+
+    /// `find_similar_key_linear`, and how many entries its steps and its whole search visited, within the bounds of
+    /// `find_key_linear_counted`.
+    ///
+    /// On a list in the order of its keys without an equal key, they are at most the entries from the hint to the far neighbour of the
+    /// gap where `k` belongs, or to the end of the list where it has none, if these are no more than `num`.
+    pub fn find_similar_key_linear_counted(
+        &self,
+        p_init: P::Inx,
+        num: usize,
+        k: &T::Key,
+    ) -> (Option<(P, Ordering)>, Visits)
+        ensures found { FindsSimilar T.key_of T.Key.cmp self.now.list.entries k.now
+            (option_map (λ a. ((P.index a.0, P.era a.0), a.1)) result.0) result.1 }
+        ensures visits { IsWithinHintedBounds (length self.now.list.entries) self.now.shape num result.1 }
+        ensures unhinted { IfNone (entry_at self.now.list.entries (P.Inx.number p_init))
+            (IsWithinBounds (length self.now.list.entries) self.now.shape result.1) }
+        ensures near { IsNearHint T.key_of T.Key.cmp self.now.list.entries k.now (P.Inx.number p_init) num result.1 }
+    {
+        if !self.tree.contains_inx(p_init) {
+            return self.find_similar_key_counted(k);
+        }
+        let mut probe = Probe::new(&self.tree);
+        let near = step_along(&mut probe, p_init, num, k);
+        if near.is_some() {
+            return (near, probe.visits());
+        }
+        let found = descend_by_key(&mut probe, k);
+        (found, probe.visits())
+    }
+}

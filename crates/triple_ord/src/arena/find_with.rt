@@ -1,0 +1,74 @@
+//! Searches by a closure.
+ghost use Rattle.std.specs.Prelude.{◌≡◌, ℕ, length};
+ghost use Rattle.std.specs.Option.{option_map};
+ghost use Rattle.triple_ord.specs.ClosureSearch.{Asks, FindsWith, FindsSimilarWith};
+ghost use Rattle.triple_ord.specs.VisitBounds.{IsWithinBounds};
+
+use super::SimpleOrdArena;
+use super::find::equal_alone;
+use crate::descent::descend;
+use crate::probe::Probe;
+use crate::visits::Visits;
+use arena_base::Ptr;
+use std::alloc::Allocator;
+use std::cmp::Ordering;
+
+impl<P: Ptr, T, A: Allocator> SimpleOrdArena<P, T, A> {
+    /// The pointer of the entry at which `f` answered Equal.
+    ///
+    /// `f` says how what is searched lies to the entry that it is shown: with Less the search goes on before it, with Greater behind
+    /// it. No entry is shown twice, and none after Equal. With `None` the search stopped at a gap of the list: `f` answered Greater
+    /// to the entry before it, if any, and Less to the one after it, if any. `f` may answer anything, and differently each time.
+    pub fn find_with<F: FnMut(P, &T) -> Ordering + Drop>(&self, f: F) -> Option<P>
+        requires { F.IsAlwaysCallable f }
+        ensures { (left : F) × (visits : ℕ)
+            × FindsWith (Asks (λ p. (P.index p, P.era p)) F.step) self.now.list.entries f left
+            (option_map (λ p. (P.index p, P.era p)) result) visits }
+    {
+        let mut f = f;
+        self.find_with_counted(&mut f).0
+    }
+
+    /// `find_with`, and how many entries it visited: so often was `f` called. The bounds are those of `find_key_counted`.
+    pub fn find_with_counted<F: FnMut(P, &T) -> Ordering>(&self, f: &mut F) -> (Option<P>, Visits)
+        requires { F.IsAlwaysCallable f.old }
+        ensures found { FindsWith (Asks (λ p. (P.index p, P.era p)) F.step) self.now.list.entries f.old f.new
+            (option_map (λ p. (P.index p, P.era p)) result.0) result.1 }
+        ensures callable { F.IsAlwaysCallable f.new }
+        ensures visits { IsWithinBounds (length self.now.list.entries) self.now.shape result.1 }
+    {
+        let (found, visits) = self.find_similar_with_counted(f);
+        (equal_alone(found), visits)
+    }
+
+    /// The pointer of the entry that `f` was shown last, and what `f` answered, which `find_with` says more of. `None` only where
+    /// there is no entry.
+    pub fn find_similar_with<F: FnMut(P, &T) -> Ordering + Drop>(
+        &self,
+        f: F,
+    ) -> Option<(P, Ordering)>
+        requires { F.IsAlwaysCallable f }
+        ensures { (left : F) × (visits : ℕ)
+            × FindsSimilarWith (Asks (λ p. (P.index p, P.era p)) F.step) self.now.list.entries f left
+            (option_map (λ a. ((P.index a.0, P.era a.0), a.1)) result) visits }
+    {
+        let mut f = f;
+        self.find_similar_with_counted(&mut f).0
+    }
+
+    /// `find_similar_with`, and how many entries it visited: so often was `f` called. The bounds are those of `find_key_counted`.
+    pub fn find_similar_with_counted<F: FnMut(P, &T) -> Ordering>(
+        &self,
+        f: &mut F,
+    ) -> (Option<(P, Ordering)>, Visits)
+        requires { F.IsAlwaysCallable f.old }
+        ensures found { FindsSimilarWith (Asks (λ p. (P.index p, P.era p)) F.step) self.now.list.entries f.old f.new
+            (option_map (λ a. ((P.index a.0, P.era a.0), a.1)) result.0) result.1 }
+        ensures callable { F.IsAlwaysCallable f.new }
+        ensures visits { IsWithinBounds (length self.now.list.entries) self.now.shape result.1 }
+    {
+        let mut probe = Probe::new(&self.tree);
+        let found = descend(&mut probe, f);
+        (found, probe.visits())
+    }
+}

@@ -1,0 +1,61 @@
+//! The steps along the list from a hint.
+ghost use Rattle.std.specs.Prelude.{◌≡◌, ◌≤◌, IsSome, length};
+ghost use Rattle.std.specs.Option.{option_map};
+ghost use Rattle.chain_base.specs.Chain.{entry_at, IsDistinct};
+ghost use Rattle.triple_ord.specs.Steps.{neighbour_towards, Settles, IsNear};
+
+use crate::item::SimpleOrdItem;
+use crate::probe::Probe;
+use arena_base::Ptr;
+use chain_base::LinkNoGen;
+use std::alloc::Allocator;
+use std::cmp::Ordering;
+
+/// Steps along the list from the entry at an index to where the key lies, and answers as a search for a similar key does, or
+/// `None` where the steps leave that open.
+///
+/// Each step compares the key with an entry's: Less leads to the previous entry, Greater to the next. An equal key ends the steps
+/// with an answer; so does an entry at which the order turns, and an end of the list. After `num` comparisons they end without.
+pub(crate) fn step_along<P: Ptr, T: SimpleOrdItem, A: Allocator>(
+    probe: &mut Probe<'_, P, T, A>,
+    p_init: P::Inx,
+    num: usize,
+    k: &T::Key,
+) -> Option<(P, Ordering)>
+    requires fresh { probe.old.visits ≡ 0 }
+    requires distinct { IsDistinct probe.old.tree.now.list.entries }
+    requires occupied { IsSome (entry_at probe.old.tree.now.list.entries (P.Inx.number p_init)) }
+    ensures settled { Settles T.key_of T.Key.cmp probe.old.tree.now.list.entries k.now
+        (option_map (λ a. ((P.index a.0, P.era a.0), a.1)) result) probe.new.visits }
+    ensures few { probe.new.visits ≤ num }
+    ensures within { probe.new.visits ≤ length probe.old.tree.now.list.entries }
+    ensures near { IsNear T.key_of T.Key.cmp probe.old.tree.now.list.entries k.now (P.Inx.number p_init) num
+        result probe.new.visits }
+    ensures tree { probe.new.tree.now ≡ probe.old.tree.now }
+{
+    let mut at = p_init;
+    // the order at the entry before, Equal where there is none
+    let mut came = Ordering::Equal;
+    for _step in 0..num {
+        let (generation, link) = probe.show_link(at);
+        let node = &link.t;
+        let order = k.cmp(node.t.key());
+        match towards(link, order) {
+            Some(next) if order != came.reverse() => at = next,
+            _ => return Some((P::_from_raw(at, generation), order)),
+        }
+        came = order;
+    }
+    None
+}
+
+// The entry's neighbour on the side on which the key lies. There is none behind an end of the list, and none for an equal key.
+fn towards<P: Ptr, T>(link: &LinkNoGen<P, T>, order: Ordering) -> Option<P::Inx>
+    ensures { option_map P.Inx.number result ≡ neighbour_towards link.now order }
+{
+    match order {
+        Ordering::Less => link.prev(),
+        Ordering::Equal => None,
+        Ordering::Greater => link.next(),
+    }
+}
