@@ -10,12 +10,13 @@ use Rattle.chain_base.specs.Insert.{IsInsertion}
 use Rattle.chain_base.proofs.CallerLemmas.{entry_at-absent, entry_at-without_other, entry_at-without, length-without, entry_at-with_item_other, entry_at-with_item, length-with_item, entry_at-with_generation_other, entry_at-with_generation, length-with_generation, entry_at-between_other, entry_at-between, length-between}
 use Rattle.ord_tree.specs.Tree.{Tree, with_item_in}
 use Rattle.triple_ord.specs.Gap.{Gap, with_between}
-use Rattle.triple_ord.specs.Search.{pointer, IsMet}
+use Rattle.std.specs.declared.cmp.Ordering.TheVariants.{Equal}
+use Rattle.triple_ord.specs.Search.{pointer, IsMet, FindsKey, FindsSimilar}
 use Rattle.triple_ord.specs.declared.error.OrdInsertionError.{OrdInsertionError}
 use Rattle.triple_ord.specs.declared.error.OrdInsertionError.TheVariants.{FailedOrdRequirement, NotWithinCapacity, BeyondMaxCapacity, AllocError}
 use Rattle.triple_ord.specs.Insertion.{Inserts}
-use Rattle.triple_ord.proofs.Inserting.{entry_at-contained}
-use Rattle.triple_ord.specs.Arena.{item_of, entry_at, count, Updates, Renews}
+use Rattle.triple_ord.proofs.Inserting.{entry_at-contained, similar-here}
+use Rattle.triple_ord.specs.Arena.{item_of, entry_at, count, Updates, Renews, FindsBy}
 
 module _ {T : Type 0} where
   -- a pointer finds nothing at an index that has no entry
@@ -273,3 +274,22 @@ module _ {T : Type 0} (a : Tree T) (p : ℕ × ℕ) (item : T) where
 
 -- what pointers find after a write, for a caller to cite
 pub ruleset written = (found-written, others-written, count-written)
+
+-- what the searches by key find
+module _ {T K : Type 0} (key : T → K) (cmp : K → K → Ordering) (t : Tree T) (k : K) (distinct : IsDistinct t.list.entries) where
+  module _ {P : Type 0} (numbers : P → ℕ × ℕ) where
+    finds_here : (e : Entry T) → entry_at t e.index ≡ Some (e.generation, e.item) → (p : P) → numbers p ≡ pointer e → (order : Ordering) → cmp k (key e.item) ≡ order → FindsBy key cmp t k (numbers p) order
+    finds_here e there p named order lies = elim (eqb_tells e.generation e.generation) [
+      | inl h ↦ rw (named, there, h.0) lies
+      | inr h ↦ absurd (h.1 refl)
+    ]
+
+    pub finds-similar : (o : Option (P × Ordering)) (c : ℕ) → FindsSimilar key cmp t.list.entries k (option_map (λ a. (numbers a.0, a.1)) o) c → IfSome o (λ a. FindsBy key cmp t k (numbers a.0) a.1)
+    finds-similar None c found = tt
+    finds-similar (Some a) c found =
+        finds_here found.0 (similar-here key cmp t.list.entries k distinct (numbers a.0) a.1 c found) a.0 (ap (λ b. b.0) found.1) a.1 (sym (ap (λ b. b.1) found.1))
+
+    pub finds-key : (o : Option P) (c : ℕ) → FindsKey key cmp t.list.entries k (option_map numbers o) c → IfSome o (λ p. FindsBy key cmp t k (numbers p) Equal)
+    finds-key None c found = tt
+    finds-key (Some p) c found =
+        finds_here found.0 (entry_at-contained t.list.entries found.0 distinct found.2.within) p found.1 Equal found.2.equal

@@ -145,29 +145,33 @@ module _ {T K : Type 0} (key : T → K) (cmp : K → K → Ordering) (es : List 
     ordered : order_to key cmp k found.0 ≡ o
     ordered = sym (ap (λ a. a.1) found.1)
 
-    beside_occupied : (e : Entry T) (b : IsBeside key cmp es k c e) → IsSome (entry_at es e.index)
-    beside_occupied e b = elim b.2 [
+    beside_here : (e : Entry T) (b : IsBeside key cmp es k c e) → entry_at es e.index ≡ Some (e.generation, e.item)
+    beside_here e b = elim b.2 [
       | inl low ↦
           let last = ends b.0.front e low in
           let cut : es ≡ last.front ++ e ∷ b.0.back = b.0.cut ∙ ap (λ xs. xs ++ b.0.back) last.cut ∙ simp append_assoc in
-          rw (cut, entry_at-here last.front e b.0.back (subst (λ (xs : List (Entry T)). IsDistinct xs) cut distinct)) refl
+          at_cut last.front b.0.back cut
       | inr high ↦ split b.0.back refl high
     ]
       where
-        split : (back : List (Entry T)) → b.0.back ≡ back → first_of back ≡ Some e → IsSome (entry_at es e.index)
+        at_cut : (front back : List (Entry T)) → es ≡ front ++ e ∷ back → entry_at es e.index ≡ Some (e.generation, e.item)
+        at_cut front back cut = ap (λ xs. entry_at xs e.index) cut ∙ entry_at-here front e back (subst (λ (xs : List (Entry T)). IsDistinct xs) cut distinct)
+
+        split : (back : List (Entry T)) → b.0.back ≡ back → first_of back ≡ Some e → entry_at es e.index ≡ Some (e.generation, e.item)
         split [] same first = absurd (cc)
         split (x ∷ back) same first =
             let here : x ≡ e = cc in
-            let cut : es ≡ b.0.front ++ e ∷ back = b.0.cut ∙ ap (λ ys. b.0.front ++ ys) (same ∙ ap (λ y. y ∷ back) here) in
-            rw (cut, entry_at-here b.0.front e back (subst (λ (xs : List (Entry T)). IsDistinct xs) cut distinct)) refl
+            at_cut b.0.front back (b.0.cut ∙ ap (λ ys. b.0.front ++ ys) (same ∙ ap (λ y. y ∷ back) here))
 
-    -- the entry that was answered is there
+    -- the entry that was returned is found by its index
+    pub similar-here : entry_at es found.0.index ≡ Some (found.0.generation, found.0.item)
+    similar-here = elim found.2 [
+      | inl met ↦ entry_at-contained es found.0 distinct met.0.within
+      | inr beside ↦ beside_here found.0 beside
+    ]
+
     pub similar-occupied : IsSome (entry_at es p.0)
-    similar-occupied =
-        rw (← named) (elim found.2 [
-          | inl met ↦ let there = entry_at-contained es found.0 distinct met.0.within in rw there refl
-          | inr beside ↦ beside_occupied found.0 beside
-        ])
+    similar-occupied = rw (← named, similar-here) refl
 
     beside_placed : (b : IsBeside key cmp es k c found.0) (o2 : Ordering) → o ≡ o2 → o2 ≢ Equal → HasPlace (put_on o2 found.0.index es)
     beside_placed b Equal same other = absurd (other refl)

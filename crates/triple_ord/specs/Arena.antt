@@ -1,6 +1,7 @@
 -- An ordered arena as its callers see it: what pointers find in it, and its entries in order. A pointer is the pair of its
 -- index and its generation.
-use Rattle.std.specs.Prelude.{◌≡◌, ◌≢◌, ℕ, List, Option, Some, None, length, map}
+use Rattle.std.specs.Prelude.{◌≡◌, ◌≢◌, ℕ, List, Option, Some, None, IsSomeAnd, length, map}
+use Rattle.std.specs.declared.cmp.Ordering.{Ordering}
 use Rattle.chain_base.specs.Chain.{entry_at as entry_among, item_of as item_among}
 use Rattle.ord_tree.specs.Tree.{Tree}
 use Rattle.triple_ord.specs.Search.{pointer}
@@ -40,3 +41,7 @@ module _ {T : Type 0} where
   -- no pointer finds anything
   abbrev pub FindsNothing : Tree T → Type 0
   FindsNothing a = (p : ℕ × ℕ) → item_of a p ≡ None
+
+-- the pointer finds an item, and k lies so to its key
+abbrev pub FindsBy : {T K : Type 0} → (T → K) → (K → K → Ordering) → Tree T → K → ℕ × ℕ → Ordering → Type 0
+FindsBy key cmp a k p order = IsSomeAnd (item_of a p) (λ item. cmp k (key item) ≡ order)

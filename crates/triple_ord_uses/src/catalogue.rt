@@ -1,6 +1,6 @@
 //! A catalogue of books by number, with an item type and a pointer type of its own.
 
-ghost use Rattle.std.specs.Prelude.{◌≡◌, ◌≢◌, ◌+◌, ℕ, Some, None, IfOk, OnErr, IfSome, IsSome, is_some, refl, if◌then◌else◌};
+ghost use Rattle.std.specs.Prelude.{◌≡◌, ◌≢◌, ◌+◌, ℕ, false, Some, IfOk, OnErr, IfSome, IsSomeAnd, is_some, refl, if◌then◌else◌};
 ghost use Rattle.std.specs.Option.{option_map};
 ghost use Rattle.std.proofs.Common.{ap, ◌∙◌};
 ghost use Rattle.triple_ord.specs.Arena.{item_of, count};
@@ -92,4 +92,37 @@ pub fn pages(catalogue: &Catalogue, p: BookPtr) -> Option<u64>
     ensures { result ≡ option_map (λ r. r.pages) (item_of catalogue.now p) }
 {
     Some(catalogue.get(p)?.pages)
+}
+
+/// The pointer of a book with this number.
+pub fn find(catalogue: &Catalogue, number: u64) -> Option<BookPtr>
+    ensures { IfSome result (λ p. IsSomeAnd (item_of catalogue.now p) (λ book. book.number ≡ number)) }
+{
+    catalogue.find_key(&number)
+}
+
+/// Gives a book another number, and so another pointer, or `None` where the pointer named no book. A book that had the number
+/// already is replaced. Where the new place is refused, the book is gone.
+pub fn renumber(
+    catalogue: &mut Catalogue,
+    p: BookPtr,
+    number: u64,
+) -> Result<Option<BookPtr>, OrdInsertionError>
+    ensures finds { IfOk result (λ o. IfSome o (λ q. item_of catalogue.new q ≡ option_map (λ b. record { number = number; pages = b.pages }) (item_of catalogue.old p))) }
+    ensures none { IfOk result (λ o. is_some o ≡ is_some (item_of catalogue.old p)) }
+{
+    let Some(book) = catalogue.remove(p).allow() else {
+        return Ok(None);
+    };
+    let q = put(catalogue, Book { number, ..book })?;
+    Ok(Some(q))
+}
+
+/// Takes the first book out, if there is one.
+pub fn take_first(catalogue: &mut Catalogue) -> Option<Book>
+    ensures count { count catalogue.old ≡ (if is_some result then count catalogue.new + 1 else count catalogue.new) }
+    ensures none { is_some result ≡ false → count catalogue.old ≡ 0 }
+{
+    let p = catalogue.first()?;
+    catalogue.remove(p).allow()
 }

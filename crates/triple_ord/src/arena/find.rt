@@ -1,7 +1,9 @@
 //! Searches by key.
-ghost use Rattle.std.specs.Prelude.{◌≡◌, ℕ, length};
+ghost use Rattle.std.specs.Prelude.{◌≡◌, ℕ, IfSome, length};
 ghost use Rattle.std.specs.Option.{option_map};
 ghost use Rattle.triple_ord.specs.ClosureSearch.{where_equal};
+ghost use Rattle.std.specs.declared.cmp.Ordering.TheVariants.{Equal};
+ghost use Rattle.triple_ord.specs.Arena.{FindsBy};
 ghost use Rattle.triple_ord.specs.Search.{FindsKey, FindsSimilar};
 ghost use Rattle.triple_ord.specs.VisitBounds.{IsWithinBounds};
 
@@ -20,9 +22,11 @@ impl<P: Ptr, T: SimpleOrdItem, A: Allocator> SimpleOrdArena<P, T, A> {
     /// With `None` the search stopped at a gap of the list: the entry before it, if any, has a lesser key, and the one after it, if
     /// any, a greater one. So no entry has an equal key where the keys are in order.
     pub fn find_key(&self, k: &T::Key) -> Option<P>
-        ensures { (visits : ℕ) × FindsKey T.key_of T.Key.cmp self.now.list.entries k.now
+        ensures finds { IfSome result (λ p. FindsBy T.key_of T.Key.cmp self.now k.now (P.index p, P.era p) Equal) }
+        ensures found { (visits : ℕ) × FindsKey T.key_of T.Key.cmp self.now.list.entries k.now
             (option_map (λ p. (P.index p, P.era p)) result) visits }
     {
+        prove!(self.len() <= self.capacity());
         self.find_key_counted(k).0
     }
 
@@ -42,9 +46,11 @@ impl<P: Ptr, T: SimpleOrdItem, A: Allocator> SimpleOrdArena<P, T, A> {
     ///
     /// A gap fits where the entry before it, if any, has a lesser key, and the one after it, if any, a greater one.
     pub fn find_similar_key(&self, k: &T::Key) -> Option<(P, Ordering)>
-        ensures { (visits : ℕ) × FindsSimilar T.key_of T.Key.cmp self.now.list.entries k.now
+        ensures finds { IfSome result (λ a. FindsBy T.key_of T.Key.cmp self.now k.now (P.index a.0, P.era a.0) a.1) }
+        ensures found { (visits : ℕ) × FindsSimilar T.key_of T.Key.cmp self.now.list.entries k.now
             (option_map (λ a. ((P.index a.0, P.era a.0), a.1)) result) visits }
     {
+        prove!(self.len() <= self.capacity());
         self.find_similar_key_counted(k).0
     }
 

@@ -1,8 +1,10 @@
 //! Searches by key from a hint: an entry near which the key may lie.
-ghost use Rattle.std.specs.Prelude.{◌≡◌, ℕ, length, IfNone};
+ghost use Rattle.std.specs.Prelude.{◌≡◌, ℕ, IfSome, length, IfNone};
 ghost use Rattle.std.specs.Option.{option_map};
 ghost use Rattle.chain_base.specs.Chain.{entry_at, item_of};
 ghost use Rattle.triple_ord.specs.Hint.{IsNearHint};
+ghost use Rattle.std.specs.declared.cmp.Ordering.TheVariants.{Equal};
+ghost use Rattle.triple_ord.specs.Arena.{FindsBy};
 ghost use Rattle.triple_ord.specs.Search.{FindsKey, FindsSimilar};
 ghost use Rattle.triple_ord.specs.VisitBounds.{IsWithinBounds, IsWithinHintedBounds};
 
@@ -24,9 +26,11 @@ impl<P: Ptr, T: SimpleOrdItem, A: Allocator> SimpleOrdArena<P, T, A> {
     /// answer. Where the order turns, at an end of the list, and after `num` comparisons a whole search follows; so it does at once
     /// where `p_init` names no entry.
     pub fn find_key_linear(&self, p_init: P, num: usize, k: &T::Key) -> Option<P>
-        ensures { (visits : ℕ) × FindsKey T.key_of T.Key.cmp self.now.list.entries k.now
+        ensures finds { IfSome result (λ p. FindsBy T.key_of T.Key.cmp self.now k.now (P.index p, P.era p) Equal) }
+        ensures found { (visits : ℕ) × FindsKey T.key_of T.Key.cmp self.now.list.entries k.now
             (option_map (λ p. (P.index p, P.era p)) result) visits }
     {
+        prove!(self.len() <= self.capacity());
         self.find_key_linear_counted(p_init, num, k).0
     }
 
@@ -62,9 +66,11 @@ impl<P: Ptr, T: SimpleOrdItem, A: Allocator> SimpleOrdArena<P, T, A> {
         num: usize,
         k: &T::Key,
     ) -> Option<(P, Ordering)>
-        ensures { (visits : ℕ) × FindsSimilar T.key_of T.Key.cmp self.now.list.entries k.now
+        ensures finds { IfSome result (λ a. FindsBy T.key_of T.Key.cmp self.now k.now (P.index a.0, P.era a.0) a.1) }
+        ensures found { (visits : ℕ) × FindsSimilar T.key_of T.Key.cmp self.now.list.entries k.now
             (option_map (λ a. ((P.index a.0, P.era a.0), a.1)) result) visits }
     {
+        prove!(self.len() <= self.capacity());
         self.find_similar_key_linear_counted(p_init, num, k).0
     }
 
