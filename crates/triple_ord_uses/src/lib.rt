@@ -1,5 +1,7 @@
 //! Uses of `triple_ord`, as a caller writes them: each with the clauses that its user wants, proved from the contracts alone.
 #![tactic(auto)]
 
-mod catalogue;
-mod scheduler;
+pub mod catalogue;
+pub mod scheduler;
+#[cfg(test)]
+mod tests;

@@ -1,0 +1,65 @@
+//! The scheduler and the catalogue, run.
+
+use crate::catalogue::{Book, Catalogue, find, pages, put, renumber, take_first};
+use crate::scheduler::{Jobs, cancel, cancel_all, next, replace, schedule};
+use std::alloc::Global;
+use std::test::Fail;
+
+#[test]
+fn jobs_come_by_deadline_and_leave_when_they_are_cancelled(rt: HostRuntime) -> Result<(), Fail> {
+    let mut jobs = Jobs::new(rt.alloc());
+    let late = schedule(&mut jobs, 90, 1)?;
+    let early = schedule(&mut jobs, 30, 2)?;
+    assert_eq!(rt; next(&jobs), Some((early, 30, 2)));
+    assert!(rt; replace(&mut jobs, early, 7));
+    assert_eq!(rt; next(&jobs), Some((early, 30, 7)));
+    assert!(rt; cancel(&mut jobs, early));
+    assert!(rt; !cancel(&mut jobs, early));
+    assert!(rt; !replace(&mut jobs, early, 8));
+    assert_eq!(rt; next(&jobs), Some((late, 90, 1)));
+    cancel_all(&mut jobs);
+    assert_eq!(rt; next(&jobs), None);
+    Ok(())
+}
+
+#[test]
+fn books_are_found_by_number_and_by_pointer(rt: HostRuntime) -> Result<(), Fail> {
+    let mut catalogue = Catalogue::new(rt.alloc());
+    let p = put(
+        &mut catalogue,
+        Book {
+            number: 5,
+            pages: 120,
+        },
+    )?;
+    let q = put(
+        &mut catalogue,
+        Book {
+            number: 3,
+            pages: 80,
+        },
+    )?;
+    assert_eq!(rt; find(&catalogue, 5), Some(p));
+    assert_eq!(rt; pages(&catalogue, q), Some(80));
+    let moved = renumber(&mut catalogue, p, 1)?;
+    assert_eq!(rt; find(&catalogue, 5), None);
+    assert_eq!(rt; find(&catalogue, 1), moved);
+    assert_eq!(rt; pages(&catalogue, p), None);
+    assert_eq!(rt; renumber(&mut catalogue, p, 9)?, None);
+    assert_eq!(rt;
+        take_first(&mut catalogue),
+        Some(Book {
+            number: 1,
+            pages: 120
+        })
+    );
+    assert_eq!(rt;
+        take_first(&mut catalogue),
+        Some(Book {
+            number: 3,
+            pages: 80
+        })
+    );
+    assert_eq!(rt; take_first(&mut catalogue), None);
+    Ok(())
+}
