@@ -57,6 +57,17 @@ pub fn next(jobs: &Jobs) -> Option<(P0, u64, u64)>
     Some((p, *pair.k(), *pair.v()))
 }
 
+/// Takes the first job off the list; returns the pointer that it had, its deadline and the job.
+pub fn pop(jobs: &mut Jobs) -> Option<(P0, u64, u64)>
+    ensures found { IfSome result (λ n. item_of jobs.old n.0 ≡ Some (n.1, n.2)) }
+    ensures gone { IfSome result (λ n. Updates jobs.old jobs.new n.0 None) }
+    ensures none { is_some result ≡ false → jobs.new ≡ jobs.old × count jobs.old ≡ 0 }
+{
+    let p = jobs.first()?;
+    let pair = jobs.remove(p).allow()?;
+    Some((p, *pair.k(), *pair.v()))
+}
+
 /// Takes all jobs off the list.
 pub fn cancel_all(jobs: &mut Jobs)
     ensures gone { FindsNothing jobs.new }

@@ -1,7 +1,7 @@
 //! The scheduler and the catalogue, run.
 
 use crate::catalogue::{Book, Catalogue, find, pages, put, renumber, take_first};
-use crate::scheduler::{Jobs, cancel, cancel_all, next, replace, schedule};
+use crate::scheduler::{Jobs, cancel, cancel_all, next, pop, replace, schedule};
 use std::alloc::Global;
 use std::test::Fail;
 
@@ -17,6 +17,9 @@ fn jobs_come_by_deadline_and_leave_when_they_are_cancelled(rt: HostRuntime) -> R
     assert!(rt; !cancel(&mut jobs, early));
     assert!(rt; !replace(&mut jobs, early, 8));
     assert_eq!(rt; next(&jobs), Some((late, 90, 1)));
+    assert_eq!(rt; pop(&mut jobs), Some((late, 90, 1)));
+    assert_eq!(rt; pop(&mut jobs), None);
+    let _ = schedule(&mut jobs, 10, 3)?;
     cancel_all(&mut jobs);
     assert_eq!(rt; next(&jobs), None);
     Ok(())

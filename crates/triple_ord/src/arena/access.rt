@@ -9,14 +9,14 @@ use std::alloc::Allocator;
 use std::ops::Index;
 
 impl<P: Ptr, T, A: Allocator> SimpleOrdArena<P, T, A> {
-    /// Whether the pointer names an entry.
+    /// Whether the pointer names an entry, in O(1).
     pub fn contains(&self, p: P) -> bool
         ensures { result ≡ is_some (item_of self.now (P.index p, P.era p)) }
     {
         self.tree.chain().contains(p)
     }
 
-    /// The item that the pointer names.
+    /// The item that the pointer names, in O(1).
     pub fn get(&self, p: P) -> Option<&T>
         ensures { option_copied result ≡ item_of self.now (P.index p, P.era p) }
     {
@@ -24,7 +24,7 @@ impl<P: Ptr, T, A: Allocator> SimpleOrdArena<P, T, A> {
         Some(&node.t)
     }
 
-    /// Generation and item of the entry at the index.
+    /// Generation and item of the entry at the index, in O(1).
     pub fn get_inx(&self, i: P::Inx) -> Option<(P::Gen, &T)>
         ensures { option_map (λ e. (P.Gen.number e.0, e.1.now)) result ≡ entry_at self.now (P.Inx.number i) }
     {

@@ -20,7 +20,7 @@ impl<P: Ptr, T: SimpleOrdItem, A: Allocator> SimpleOrdArena<P, T, A> {
     /// The pointer of an entry with an equal key that the search met.
     ///
     /// With `None` the search stopped at a gap of the list: the entry before it, if any, has a lesser key, and the one after it, if
-    /// any, a greater one. So no entry has an equal key where the keys are in order.
+    /// any, a greater one. So no entry has an equal key where the keys are in order. It takes O(log n) time for n entries.
     pub fn find_key(&self, k: &T::Key) -> Option<P>
         ensures finds { IfSome result (λ p. FindsBy T.key_of T.Key.cmp self.now k.now (P.index p, P.era p) Equal) }
         ensures found { (visits : ℕ) × FindsKey T.key_of T.Key.cmp self.now.list.entries k.now
@@ -44,7 +44,8 @@ impl<P: Ptr, T: SimpleOrdItem, A: Allocator> SimpleOrdArena<P, T, A> {
     /// The pointer of the entry that the search met last, with the order of `k` to its key: an entry with an equal key, or one
     /// beside a gap of the list that fits `k`. `None` only where there is no entry.
     ///
-    /// A gap fits where the entry before it, if any, has a lesser key, and the one after it, if any, a greater one.
+    /// A gap fits where the entry before it, if any, has a lesser key, and the one after it, if any, a greater one. It takes
+    /// O(log n) time for n entries.
     pub fn find_similar_key(&self, k: &T::Key) -> Option<(P, Ordering)>
         ensures finds { IfSome result (λ a. FindsBy T.key_of T.Key.cmp self.now k.now (P.index a.0, P.era a.0) a.1) }
         ensures found { (visits : ℕ) × FindsSimilar T.key_of T.Key.cmp self.now.list.entries k.now

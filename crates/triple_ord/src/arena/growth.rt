@@ -20,7 +20,7 @@ impl<P: Ptr, T, A: Allocator> SimpleOrdArena<P, T, A> {
         }
     }
 
-    /// An empty arena with room for `n` entries. It fails where memory is refused, or the pointers' indexes can't name so many.
+    /// An empty arena with room for `n` entries, in O(n). It fails where memory is refused, or the pointers' indexes can't name so many.
     pub fn with_min_capacity(alloc: A, n: usize) -> Result<Self, AllocError>
     where
         A: Copy,

@@ -24,7 +24,8 @@ impl<P: Ptr, T: SimpleOrdItem + Drop, A: Allocator> SimpleOrdArena<P, T, A> {
     /// to twice its capacity, at least 4, and at most its limit. It is refused with `BeyondMaxCapacity` where the length is at the
     /// limit, and with `AllocError` where memory is refused; the item is then dropped, and nothing else changes.
     ///
-    /// A new entry changes the parent of at most five others in the tree.
+    /// A new entry changes the parent of at most five others in the tree. It takes O(log n) time for n entries, and O(n) where the
+    /// arena grows; each growth doubles the room, so over many insertions that is O(1) for each.
     pub fn insert_reallocating(&mut self, t: T) -> Result<(P, Option<T>), OrdInsertionError>
         ensures inserts { Inserts T.key_of T.Key.cmp P.Inx.most (λ p. (P.index p, P.era p)) self.old t result self.new }
         ensures updates { IfOk result (λ a. Updates self.old self.new (P.index a.0, P.era a.0) (Some t)) }

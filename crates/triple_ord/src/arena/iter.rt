@@ -37,7 +37,7 @@ impl<'a, P: Ptr, T, A: Allocator> Model for Iter<'a, P, T, A> {
 }
 
 impl<P: Ptr, T, A: Allocator> SimpleOrdArena<P, T, A> {
-    /// The entries in the order of the list, each as its pointer and its item.
+    /// The entries in the order of the list, each as its pointer and its item; each step is O(1).
     pub fn iter_ordered(&self) -> Iter<'_, P, T, A>
         ensures { result ≡ self.now.list.entries }
     {

@@ -11,21 +11,21 @@ use ord_tree::SimpleOrdArenaNode;
 use std::alloc::Allocator;
 
 impl<P: Ptr, T, A: Allocator> SimpleOrdArena<P, T, A> {
-    /// The pointer of the first entry of the list.
+    /// The pointer of the first entry of the list, in O(1).
     pub fn first(&self) -> Option<P>
         ensures { option_map (λ p. (P.index p, P.era p)) result ≡ first_pointer self.now.list.entries }
     {
         self.tree.chain().first()
     }
 
-    /// The pointer of the last entry of the list.
+    /// The pointer of the last entry of the list, in O(1).
     pub fn last(&self) -> Option<P>
         ensures { option_map (λ p. (P.index p, P.era p)) result ≡ last_pointer self.now.list.entries }
     {
         self.tree.chain().last()
     }
 
-    /// Generation, item and neighbours in the list of the entry at the index.
+    /// Generation, item and neighbours in the list of the entry at the index, in O(1).
     pub fn get_inx_link_no_gen(&self, p: P::Inx) -> Option<(P::Gen, LinkNoGen<P, &T>)>
         ensures { option_map (λ e. (P.Gen.number e.0, (record { item = e.1.item.now; prev = e.1.prev; next = e.1.next }))) result
             ≡ link_at self.now.list.entries (P.Inx.number p) }
@@ -35,7 +35,7 @@ impl<P: Ptr, T, A: Allocator> SimpleOrdArena<P, T, A> {
         Some((entry.0, LinkNoGen::new(link.prev_next(), &link.t.t)))
     }
 
-    /// Generation and node of the entry at the index: its item, its neighbours in the list, and its place in the tree.
+    /// Generation and node of the entry at the index, in O(1): its item, its neighbours in the list, and its place in the tree.
     pub fn get_inx_node(
         &self,
         p: P::Inx,

@@ -16,7 +16,8 @@ impl<P: Ptr, T, A: Allocator> SimpleOrdArena<P, T, A> {
     /// Takes the entry that the pointer names out, answers its item, and raises the generation. The next insertion takes its slot.
     /// Every other entry keeps its pointer, its item and its place in the order, and at most nine get another parent in the tree.
     ///
-    /// For a pointer that names no entry the answer is `InvalidPtr`, and nothing changes. It doesn't compare keys.
+    /// For a pointer that names no entry the answer is `InvalidPtr`, and nothing changes. It compares no keys, and takes
+    /// O(log n) time for n entries: O(1) for the list, and the repair of the ranks.
     pub fn remove(&mut self, p: P) -> InvalidationResult<T>
         ensures value { valid_value result ≡ item_of self.old (P.index p, P.era p) }
         ensures overflow { OnSome (valid_value result)
@@ -56,7 +57,7 @@ impl<P: Ptr, T, A: Allocator> SimpleOrdArena<P, T, A> {
 
     /// Ends the pointer and gives its entry a new one, at the same index and place and with the raised generation. The item stays.
     ///
-    /// For a pointer that names no entry the answer is `InvalidPtr`, and nothing changes.
+    /// For a pointer that names no entry the answer is `InvalidPtr`, and nothing changes. It takes O(1) time.
     pub fn invalidate(&mut self, p: P) -> InvalidationResult<P>
         ensures valid { is_some (valid_value result) ≡ is_some (item_of self.old (P.index p, P.era p)) }
         ensures index { IfSome (valid_value result) (λ q. P.index q ≡ P.index p) }
@@ -75,7 +76,7 @@ impl<P: Ptr, T, A: Allocator> SimpleOrdArena<P, T, A> {
     }
 
     /// Drops all entries and raises the generation, once also where there was none. The capacity stays, and all slots count as
-    /// never used.
+    /// never used. It takes O(capacity) time.
     pub fn clear(&mut self) -> InvalidationOption<()>
     where
         T: Drop,

@@ -13,7 +13,7 @@ use std::ops::IndexMut;
 impl<P: Ptr, T, A: Allocator> SimpleOrdArena<P, T, A> {
     ghost use Rattle.triple_ord.specs.Lends.{lends_item, lends_found};
 
-    /// The item that the pointer names, to be written.
+    /// The item that the pointer names, to be written, in O(1).
     ///
     /// Where its key is written too, the entry stays in its place: later searches may then miss it or others, and nothing else is
     /// harmed.
@@ -32,7 +32,7 @@ impl<P: Ptr, T, A: Allocator> SimpleOrdArena<P, T, A> {
         }
     }
 
-    /// Generation and item of the entry at the index; the item may be written, as with `get_mut`.
+    /// Generation and item of the entry at the index, in O(1); the item may be written, as with `get_mut`.
     ///
     /// Its clause says what it gives, and can't say what it leaves. It hands on to the tree's call of this name, which calls
     /// `pair_mut` where there is an entry, and does nothing else.
@@ -43,7 +43,7 @@ impl<P: Ptr, T, A: Allocator> SimpleOrdArena<P, T, A> {
         self.tree.get_inx_mut(i)
     }
 
-    /// Generation and item of the entry at an index that has one; the item may be written, as with `get_mut`.
+    /// Generation and item of the entry at an index that has one, in O(1); the item may be written, as with `get_mut`.
     pub fn pair_mut(&mut self, i: P::Inx) -> (P::Gen, &mut T)
         requires { IsOccupied self.old.list (P.Inx.number i) }
         ensures* writes_back { sem 𝓛 (lends_item P.row T.row A.row P.Inx.row P.Gen.row
