@@ -6,6 +6,7 @@ ghost use Rattle.chain_base.specs.Chain.{raised, IsSound};
 ghost use Rattle.ord_tree.specs.Tree.{IsSoundTree};
 
 mod access;
+mod compare;
 mod find;
 mod find_linear;
 mod find_with;

@@ -1,0 +1,8 @@
+use Rattle.std.proofs.Common.{◌≡◌, map}
+use Rattle.std.specs.Cmp.Lexicographic.{slice_cmp}
+use Rattle.triple_ord.specs.Arena.{items}
+use Rattle.triple_ord.proofs.arena.SimpleOrdArena.canonical_cmp.Given as goal
+
+abbrev pub invariant-loop-mine : goal.invariant-loop-mine
+invariant-loop-mine g l =
+    slice_cmp g.T.Ord.cmp (items l.fn.self) (items l.fn.other) ≡ slice_cmp g.T.Ord.cmp (map (λ e. e.item) l.mine-iterator) (map (λ e. e.item) l.theirs)

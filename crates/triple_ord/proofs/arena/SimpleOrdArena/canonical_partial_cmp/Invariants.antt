@@ -1,0 +1,8 @@
+use Rattle.std.proofs.Common.{◌≡◌, map}
+use Rattle.std.specs.Cmp.Lexicographic.{slice_partial_cmp}
+use Rattle.triple_ord.specs.Arena.{items}
+use Rattle.triple_ord.proofs.arena.SimpleOrdArena.canonical_partial_cmp.Given as goal
+
+abbrev pub invariant-loop-mine : goal.invariant-loop-mine
+invariant-loop-mine g l =
+    slice_partial_cmp g.T.PartialOrd.partial_cmp (items l.fn.self) (items l.fn.other) ≡ slice_partial_cmp g.T.PartialOrd.partial_cmp (map (λ e. e.item) l.mine-iterator) (map (λ e. e.item) l.theirs)

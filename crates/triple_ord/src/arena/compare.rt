@@ -1,0 +1,81 @@
+//! Comparing arenas by their items.
+ghost use Rattle.std.specs.Prelude.{◌≡◌};
+ghost use Rattle.std.specs.Cmp.Lexicographic.{slice_cmp, slice_partial_cmp, pointwise};
+ghost use Rattle.triple_ord.specs.Arena.{items};
+
+use super::SimpleOrdArena;
+use arena_base::Ptr;
+use std::alloc::Allocator;
+use std::cmp::Ordering;
+
+impl<P: Ptr, T, A: Allocator> SimpleOrdArena<P, T, A> {
+    /// Whether both have equal items in the same order.
+    pub fn canonical_eq<Q: Ptr, B: Allocator>(&self, other: &SimpleOrdArena<Q, T, B>) -> bool
+    where
+        T: PartialEq,
+        ensures { result ≡ pointwise T.eq (items self.now) (items other.now) }
+    {
+        let mut theirs = other.iter_ordered();
+        for mine in self.iter_ordered() {
+            match theirs.next() {
+                Some(their) => {
+                    if !mine.1.eq(their.1) {
+                        return false;
+                    }
+                }
+                None => return false,
+            }
+        }
+        theirs.next().is_none()
+    }
+
+    /// The order of the items, as words are ordered by their letters; `None` where the first two that differ have none.
+    pub fn canonical_partial_cmp<Q: Ptr, B: Allocator>(
+        &self,
+        other: &SimpleOrdArena<Q, T, B>,
+    ) -> Option<Ordering>
+    where
+        T: PartialOrd,
+        ensures { result ≡ slice_partial_cmp T.partial_cmp (items self.now) (items other.now) }
+    {
+        let mut theirs = other.iter_ordered();
+        for mine in self.iter_ordered() {
+            match theirs.next() {
+                Some(their) => match mine.1.partial_cmp(their.1) {
+                    Some(Ordering::Less) => return Some(Ordering::Less),
+                    Some(Ordering::Equal) => {}
+                    Some(Ordering::Greater) => return Some(Ordering::Greater),
+                    None => return None,
+                },
+                None => return Some(Ordering::Greater),
+            }
+        }
+        match theirs.next() {
+            Some(_) => Some(Ordering::Less),
+            None => Some(Ordering::Equal),
+        }
+    }
+
+    /// The order of the items, as words are ordered by their letters.
+    pub fn canonical_cmp<Q: Ptr, B: Allocator>(&self, other: &SimpleOrdArena<Q, T, B>) -> Ordering
+    where
+        T: Ord,
+        ensures { result ≡ slice_cmp T.cmp (items self.now) (items other.now) }
+    {
+        let mut theirs = other.iter_ordered();
+        for mine in self.iter_ordered() {
+            match theirs.next() {
+                Some(their) => match mine.1.cmp(their.1) {
+                    Ordering::Less => return Ordering::Less,
+                    Ordering::Equal => {}
+                    Ordering::Greater => return Ordering::Greater,
+                },
+                None => return Ordering::Greater,
+            }
+        }
+        match theirs.next() {
+            Some(_) => Ordering::Less,
+            None => Ordering::Equal,
+        }
+    }
+}
