@@ -5,6 +5,7 @@ use Rattle.chain_base.specs.Chain.{Entry, Chain, next_index, inserted, with_room
 use Rattle.ord_tree.specs.Shape.{Shape, missing, node, walk}
 use Rattle.ord_tree.specs.Ranks.{IsRanked}
 use Rattle.ord_tree.specs.Tree.{Tree, IsSoundTree}
+use Rattle.triple_ord.specs.ClosureSearch.{Shown}
 use Rattle.triple_ord.specs.Gap.{with_between}
 use Rattle.triple_ord.specs.Node.{IsPart}
 use Rattle.triple_ord.specs.Insertion.{InsertsNew}
@@ -103,9 +104,11 @@ module _ {P T I G A K : Type 0} (r : Reading P T I G K) (old new : Tree T) (none
   first_and_ranks item first second inserts ranked = absurd inserts
 
 -- a run over both commands
-pub first_rank : (P T I G A K : Type 0) → FirstRankLaw P T I G A K
-first_rank P T I G A K r old new item [] none run = absurd run
-first_rank P T I G A K r old new item (first ∷ []) none run = absurd run.2
-first_rank P T I G A K r old new item (first ∷ second ∷ []) none run =
-    first_and_ranks r old.tree run.0.tree none run.1.sound item first second run.1.replies run.2.1.replies.0
-first_rank P T I G A K r old new item (first ∷ second ∷ third ∷ replies) none run = absurd run.2.2
+pub first_rank : (P T I G A K : Type 0) {F : Type 0} (asks : F → Shown T → F → Type 0) → FirstRankLaw P T I G A K asks
+first_rank P T I G A K asks r old new f g item [] none run = absurd run
+first_rank P T I G A K asks r old new f g item (first ∷ []) none run = absurd run.3
+first_rank P T I G A K asks r old new f g item (first ∷ second ∷ []) none run =
+    let step = run.2 in
+    let next = run.3.2 in
+    first_and_ranks r old.tree run.0.tree none step.sound item first second step.does.0 next.does.0.0
+first_rank P T I G A K asks r old new f g item (first ∷ second ∷ third ∷ replies) none run = absurd run.3.3

@@ -11,7 +11,7 @@ use Rattle.ord_script.specs.declared.word.Word.{Word}
 use Rattle.ord_script.specs.declared.word.Word.TheVariants as words
 use Rattle.ord_script.specs.Commands.{with_pair, pair_in, alone}
 use Rattle.ord_script.specs.Machine.{State, Inserts, Runs}
-use Rattle.ord_script.specs.Pairs.{Pair, Pointer, PairCommand, PairReply, reading, beginning}
+use Rattle.ord_script.specs.Pairs.{Pair, Pointer, PairCommand, PairReply, reading, beginning, answers_equal}
 use Rattle.ord_script.specs.Script.{Script, script_of}
 use Rattle.ord_script.specs.Service.{Answers}
 use Rattle.ord_script.specs.Text.{reply_lines}
@@ -61,12 +61,13 @@ module _ {A : Type 0} where
   first_lines item first second new inserts replies = absurd replies
 
   -- all replies
-  answer_lines : (replies : List (PairReply A)) (end : State Pair) → Runs reading beginning both_commands replies end → AreAnswer replies
+  answer_lines : (replies : List (PairReply A)) (end : State Pair) → Runs reading answers_equal beginning tt both_commands replies end tt → AreAnswer replies
   answer_lines [] end run = absurd run
-  answer_lines (first ∷ []) end run = absurd run.2
+  answer_lines (first ∷ []) end run = absurd run.3
   answer_lines (first ∷ second ∷ []) end run =
-      first_lines (pos 5, 1) first second run.0.tree run.1.replies (first_rank _ _ _ _ _ _ reading beginning end (pos 5, 1) (first ∷ second ∷ []) refl run)
-  answer_lines (first ∷ second ∷ third ∷ replies) end run = absurd run.2.2
+      let step = run.2 in
+      first_lines (pos 5, 1) first second run.0.tree step.does.0 (first_rank _ _ _ _ _ _ answers_equal reading beginning end tt tt (pos 5, 1) (first ∷ second ∷ []) refl run)
+  answer_lines (first ∷ second ∷ third ∷ replies) end run = absurd run.3.3
 
   answer_text : (text : List ℕ) → Answers A (record { commands = both_commands; fault = None }) text → Contains first_answers text
   answer_text text answers =

@@ -7,6 +7,7 @@ pub mod Words
 pub mod Lists
 pub mod Ranking
 pub mod Marking
+pub mod Bounded
 pub mod Runs
 pub mod Endings
 pub mod FirstRank

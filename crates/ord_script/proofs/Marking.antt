@@ -12,7 +12,8 @@ use Rattle.ord_script.specs.declared.command.Command.{Command}
 use Rattle.ord_script.specs.declared.command.Command.TheVariants as commands
 use Rattle.ord_script.specs.declared.reply.Reply.{Reply}
 use Rattle.ord_script.specs.declared.reply.Reply.TheVariants.{Inserted, Refused, Item, Removed, Renewed, Changed}
-use Rattle.ord_script.specs.Machine.{Reading, Marks, AreTrue, settled, Inserts, Sets, Removes, RemovesAt, Renews, Changes, Replies, marks_after}
+use Rattle.ord_script.specs.Machine.{Reading, Marks, AreTrue, settled, Inserts, Sets, Removes, RemovesAt, Renews, Changes, Replies, Does, marks_after}
+use Rattle.triple_ord.specs.ClosureSearch.{Shown}
 
 -- the shape without a node is rebuilt
 rebuilt_missing : IsRebuilt missing
@@ -107,7 +108,7 @@ module _ {P T I G A : Type 0} (old new : Tree T) (marks : Marks) (sound : IsSoun
   AreTrue-changed greatest after reply kept changes = absurd changes
 
   -- by the command
-  pub AreTrue-step : {K : Type 0} (r : Reading P T I G K) (command : Command P T I G K) (reply : Reply P T A I G) → Replies r (record { tree = old; marks = marks }) command reply new → StaysTrue reply
+  AreTrue-step : {K : Type 0} (r : Reading P T I G K) (command : Command P T I G K) (reply : Reply P T A I G) → Replies r (record { tree = old; marks = marks }) command reply new → StaysTrue reply
   AreTrue-step r (commands.Insert item) reply replies = AreTrue-inserted r item reply replies
   AreTrue-step r (commands.Set p item) reply replies = AreTrue-set r.pointer p item reply replies
   AreTrue-step r (commands.Remove p) reply replies = AreTrue-removed r.greatest r.pointer p reply replies
@@ -116,6 +117,11 @@ module _ {P T I G A : Type 0} (old new : Tree T) (marks : Marks) (sound : IsSoun
   AreTrue-step r commands.Clear reply replies = AreTrue-changed r.greatest _ reply (AreTrue-missing marks) replies
   AreTrue-step r commands.IncGeneration reply replies = AreTrue-changed r.greatest _ reply holds replies
   AreTrue-step r (commands.Find k) reply replies = AreTrue-still reply replies.1
+  AreTrue-step r (commands.FindLinear p num k) reply replies = AreTrue-still reply replies.1
+  AreTrue-step r (commands.Similar k) reply replies = AreTrue-still reply replies.1
+  AreTrue-step r (commands.SimilarLinear i num k) reply replies = AreTrue-still reply replies.1
+  AreTrue-step r commands.FindWith reply replies = absurd replies
+  AreTrue-step r commands.SimilarWith reply replies = absurd replies
   AreTrue-step r (commands.Visits k) reply replies = AreTrue-still reply replies.1
   AreTrue-step r (commands.Get p) reply replies = AreTrue-still reply replies.1
   AreTrue-step r commands.First reply replies = AreTrue-still reply replies.1
@@ -124,3 +130,9 @@ module _ {P T I G A : Type 0} (old new : Tree T) (marks : Marks) (sound : IsSoun
   AreTrue-step r commands.List reply replies = AreTrue-still reply replies.1
   AreTrue-step r commands.Ranks reply replies = AreTrue-still reply replies.1
   AreTrue-step r commands.Stats reply replies = AreTrue-still reply replies.1
+
+  -- and with a closure
+  pub AreTrue-does : {F K : Type 0} (r : Reading P T I G K) (asks : F → Shown T → F → Type 0) (f g : F) (command : Command P T I G K) (reply : Reply P T A I G) → Does r asks (record { tree = old; marks = marks }) f command reply new g → StaysTrue reply
+  AreTrue-does r asks f g commands.FindWith reply does = AreTrue-still reply does.1
+  AreTrue-does r asks f g commands.SimilarWith reply does = AreTrue-still reply does.1
+  AreTrue-does r asks f g command reply does = AreTrue-step r command reply does.0

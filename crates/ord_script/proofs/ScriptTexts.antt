@@ -12,10 +12,10 @@ use Rattle.ord_script.specs.declared.command.Command.TheVariants as commands
 use Rattle.ord_script.specs.Pairs.{PairCommand}
 use Rattle.ord_script.specs.Script.{is_blank, words_of, and_then, script_from, script_of}
 use Rattle.ord_script.specs.Commands.{said_by}
-use Rattle.ord_script.specs.Spelling.{Argument, key, value, index, pointer, argument_text, IsInRange, saying_of, spelled, CanBeSaid, script_text}
+use Rattle.ord_script.specs.Spelling.{Argument, key, value, index, count, pointer, argument_text, IsInRange, saying_of, spelled, CanBeSaid, script_text}
 use Rattle.ord_script.proofs.NumberTexts.{digits_all, decimal_digits}
 use Rattle.ord_script.proofs.Parts.{words_among, words_among-cons, lines_onto}
-use Rattle.ord_script.proofs.Spelled.{command_text}
+use Rattle.ord_script.proofs.Spelled.{command_text, in_range}
 
 -- a word that isn't cut: it has a byte, and none of its bytes is a blank or ends a line
 record IsWhole (word : List ℕ) : Type 0 where
@@ -37,6 +37,7 @@ argument_whole (key (negsuc n)) range = record {
 }
 argument_whole (value v) range = number_whole v range
 argument_whole (index i) range = number_whole i (omega (arith, range))
+argument_whole (count n) range = number_whole n range
 argument_whole (pointer p) range =
     let before = number_whole p.0 (omega (arith, range.0)) in
     record {
@@ -67,7 +68,7 @@ words_whole : (command : PairCommand) → CanBeSaid command → All IsWhole (spe
 words_whole command sayable =
     let arguments = (saying_of command).arguments in
     All-cons IsWhole (saying_of command).word (map argument_text arguments) (word_whole command)
-    (All-map IsWhole argument_text arguments (All-weaker IsInRange (λ a. IsWhole (argument_text a)) argument_whole arguments sayable))
+    (All-map IsWhole argument_text arguments (All-weaker IsInRange (λ a. IsWhole (argument_text a)) argument_whole arguments (in_range command sayable)))
 
 no_blank : (word : List ℕ) → IsWhole word → All (λ b. is_blank b ≡ false) word
 no_blank word whole = All-weaker (λ b. 32 < b) (λ b. is_blank b ≡ false) other word whole.dark

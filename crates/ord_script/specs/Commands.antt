@@ -18,6 +18,9 @@ word_text words.Invalidate = codes "invalidate"
 word_text words.Clear = codes "clear"
 word_text words.IncGeneration = codes "next-generation"
 word_text words.Find = codes "find"
+word_text words.FindLinear = codes "find-linear"
+word_text words.Similar = codes "similar"
+word_text words.SimilarLinear = codes "similar-linear"
 word_text words.Visits = codes "visits"
 word_text words.Get = codes "get"
 word_text words.First = codes "first"
@@ -31,7 +34,8 @@ word_text words.Stats = codes "stats"
 abbrev pub all_words : List Word
 all_words =
     words.Insert ∷ words.Set ∷ words.Remove ∷ words.RemoveInx ∷ words.Invalidate ∷ words.Clear ∷ words.IncGeneration
-    ∷ words.Find ∷ words.Visits ∷ words.Get ∷ words.First ∷ words.Last ∷ words.Neighbours ∷ words.List ∷ words.Ranks
+    ∷ words.Find ∷ words.FindLinear ∷ words.Similar ∷ words.SimilarLinear
+    ∷ words.Visits ∷ words.Get ∷ words.First ∷ words.Last ∷ words.Neighbours ∷ words.List ∷ words.Ranks
     ∷ words.Stats ∷ []
 
 -- the one among them that has this text
@@ -62,7 +66,7 @@ abbrev pub three_arguments : List (List ℕ) → Result (List ℕ × List ℕ ×
 three_arguments (a ∷ b ∷ c ∷ []) = Ok (a, b, c)
 three_arguments arguments = Err WrongArguments
 
--- a word that is a key, a pointer or an index, or two that are a pair
+-- a word that is a key, a pointer, an index or a number of steps, or two that are a pair
 abbrev pub key_in : List ℕ → Result ℤ FaultKind
 key_in word = ok_or (key_of word) BadNumber
 
@@ -71,6 +75,9 @@ pointer_in word = ok_or (pointer_of word) BadNumber
 
 abbrev pub index_in : List ℕ → Result ℕ FaultKind
 index_in word = ok_or (index_of word) BadNumber
+
+abbrev pub count_in : List ℕ → Result ℕ FaultKind
+count_in word = ok_or (value_of word) BadNumber
 
 unfoldable pub pair_in : List ℕ → List ℕ → Result Pair FaultKind
 pair_in first second = do
@@ -111,6 +118,23 @@ with_index command arguments = do
   index ← index_in one
   Ok (command index)
 
+-- a command with a hint, a number of steps and a key: the hint is a pointer or an index
+unfoldable pub from_pointer : (Pointer → ℕ → ℤ → PairCommand) → List (List ℕ) → Result PairCommand FaultKind
+from_pointer command arguments = do
+  three ← three_arguments arguments
+  pointer ← pointer_in three.0
+  count ← count_in three.1
+  key ← key_in three.2
+  Ok (command pointer count key)
+
+unfoldable pub from_index : (ℕ → ℕ → ℤ → PairCommand) → List (List ℕ) → Result PairCommand FaultKind
+from_index command arguments = do
+  three ← three_arguments arguments
+  index ← index_in three.0
+  count ← count_in three.1
+  key ← key_in three.2
+  Ok (command index count key)
+
 unfoldable pub alone : PairCommand → List (List ℕ) → Result PairCommand FaultKind
 alone command arguments = do
   none ← no_argument arguments
@@ -126,6 +150,9 @@ command_by words.Invalidate arguments = with_pointer commands.Invalidate argumen
 command_by words.Clear arguments = alone commands.Clear arguments
 command_by words.IncGeneration arguments = alone commands.IncGeneration arguments
 command_by words.Find arguments = with_key commands.Find arguments
+command_by words.FindLinear arguments = from_pointer commands.FindLinear arguments
+command_by words.Similar arguments = with_key commands.Similar arguments
+command_by words.SimilarLinear arguments = from_index commands.SimilarLinear arguments
 command_by words.Visits arguments = with_key commands.Visits arguments
 command_by words.Get arguments = with_pointer commands.Get arguments
 command_by words.First arguments = alone commands.First arguments
@@ -145,6 +172,12 @@ word_of (commands.Invalidate pointer) = words.Invalidate
 word_of commands.Clear = words.Clear
 word_of commands.IncGeneration = words.IncGeneration
 word_of (commands.Find key) = words.Find
+word_of (commands.FindLinear pointer count key) = words.FindLinear
+word_of (commands.Similar key) = words.Similar
+word_of (commands.SimilarLinear index count key) = words.SimilarLinear
+-- no line says these two; their replies are told as those of a search by key
+word_of commands.FindWith = words.Find
+word_of commands.SimilarWith = words.Similar
 word_of (commands.Visits key) = words.Visits
 word_of (commands.Get pointer) = words.Get
 word_of commands.First = words.First

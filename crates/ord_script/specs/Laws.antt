@@ -1,5 +1,6 @@
 -- What is true of every run and of every script, each as a statement of its own.
 use Rattle.std.specs.Prelude.{◌≡◌, ℕ, ℤ, List, [], ◌∷◌, All, Contains, codes, Some, None, Ok}
+use Rattle.triple_ord.specs.ClosureSearch.{Shown}
 use Rattle.triple_ord.specs.declared.entry_kind.OrdEntryKind.TheVariants.{New}
 use Rattle.triple_ord.specs.declared.error.OrdInsertionError.TheVariants.{AllocError}
 use Rattle.ord_script.specs.declared.command.Command.TheVariants as commands
@@ -21,12 +22,12 @@ AreFirstReplies (Inserted (New p) None ∷ Refused AllocError ∷ []) = Unit {0}
 AreFirstReplies (Refused refusal ∷ Ranks ranks ∷ []) = ranks.items ≡ []
 AreFirstReplies replies = ⊥
 
--- a run over these two commands, from any state without entries, gives such replies
-abbrev pub FirstRankLaw : (P T I G A K : Type 0) → Type 0
-FirstRankLaw P T I G A K =
-    (r : Reading P T I G K) (old new : State T) (item : T) (replies : List (Reply P T A I G))
+-- a run over these two commands, with any closure, from any state without entries, gives such replies
+abbrev pub FirstRankLaw : (P T I G A K : Type 0) {F : Type 0} → (F → Shown T → F → Type 0) → Type 0
+FirstRankLaw P T I G A K {F} asks =
+    (r : Reading P T I G K) (old new : State T) (f g : F) (item : T) (replies : List (Reply P T A I G))
     → old.tree.list.entries ≡ []
-    → Runs r old (commands.Insert item ∷ commands.Ranks ∷ []) replies new
+    → Runs r asks old f (commands.Insert item ∷ commands.Ranks ∷ []) replies new g
     → AreFirstReplies replies
 
 -- the answers to a script of these two commands: where memory is refused to one of them, it says so

@@ -1,5 +1,5 @@
 -- The list machine: what each command may answer on an ordered arena, and what it leaves.
-use Rattle.std.specs.Prelude.{◌≡◌, ℕ, ◌+◌, ◌^◌, ◌<◌, ◌≤◌, ◌==◌, Bool, true, false, if◌then◌else◌, List, [], ◌∷◌, length, map, Option, Some, None, IsSome, MatchOption, Ok, Err}
+use Rattle.std.specs.Prelude.{◌≡◌, ℕ, ◌+◌, ◌^◌, ◌<◌, ◌≤◌, ◌==◌, Bool, true, false, if◌then◌else◌, List, [], ◌∷◌, length, map, Option, Some, None, IsSome, IfNone, MatchOption, Ok, Err}
 use Rattle.std.specs.Option.{option_map}
 use Rattle.std.specs.declared.cmp.Ordering.{Ordering}
 use Rattle.arena_base.specs.Generation.{next_generation, overflows_after}
@@ -13,14 +13,16 @@ use Rattle.ord_tree.specs.Half.{IsRebuilt}
 use Rattle.ord_tree.specs.Numbers.{fib, HasDigits}
 use Rattle.ord_tree.specs.Tree.{Tree, IsSoundTree, IsShrunk, with_item_in}
 use Rattle.triple_ord.specs.Node.{IsPart}
-use Rattle.triple_ord.specs.Search.{FindsKey}
+use Rattle.triple_ord.specs.Search.{FindsKey, FindsSimilar}
+use Rattle.triple_ord.specs.ClosureSearch.{Shown, FindsWith, FindsSimilarWith}
+use Rattle.triple_ord.specs.Hint.{IsNearHint}
 use Rattle.triple_ord.specs.Insertion as insertion
 use Rattle.triple_ord.specs.declared.entry_kind.OrdEntryKind.TheVariants.{New, Replacing}
 use Rattle.triple_ord.specs.declared.error.OrdInsertionError.TheVariants.{AllocError}
 use Rattle.ord_script.specs.declared.command.Command.{Command}
 use Rattle.ord_script.specs.declared.command.Command.TheVariants as commands
 use Rattle.ord_script.specs.declared.reply.Reply.{Reply}
-use Rattle.ord_script.specs.declared.reply.Reply.TheVariants.{Inserted, Refused, Found, Count, Item, Removed, Renewed, Changed, At, Links, Entries, Ranks, Stats}
+use Rattle.ord_script.specs.declared.reply.Reply.TheVariants.{Inserted, Refused, Found, Similar, Count, Item, Removed, Renewed, Changed, At, Links, Entries, Ranks, Stats}
 
 -- how items and pointers are read
 pub record Reading (P T I G K : Type 0) : Type 0 where
@@ -69,6 +71,16 @@ pub record IsWithinBounds {T : Type 0} (s : State T) (c : ℕ) : Type 0 where
   pub built : let n = length s.tree.list.entries in s.marks.just_built ≡ true → (digits : ℕ) → HasDigits n digits → c ≤ digits
   pub empty : let n = length s.tree.list.entries in n ≡ 0 → c ≡ 0
 
+-- how few entries a search is shown that first makes at most num steps from a hint: to the steps, of which there are no more than
+-- entries, it adds a whole search, or none
+pub record IsWithinHintedBounds {T : Type 0} (s : State T) (num c : ℕ) : Type 0 where
+  pub steps : ℕ
+  pub search : ℕ
+  pub sum : c ≡ steps + search
+  pub few : steps ≤ num
+  pub within : steps ≤ length s.tree.list.entries
+  pub bounded : IsWithinBounds s search
+
 -- the entry at index i is taken out, and the generation raised: with an overflow where it begins again
 pub record IsRemoval {T : Type 0} (greatest : Option ℕ) (old : Tree T) (i : ℕ) (overflow : Bool) (new : Tree T) : Type 0 where
   pub list : new.list ≡ removed greatest old.list i
@@ -106,6 +118,27 @@ module _ {P T I G A : Type 0} where
   abbrev pub Finds : {K : Type 0} → (T → K) → (K → K → Ordering) → (P → ℕ × ℕ) → State T → K → Reply P T A I G → Type 0
   Finds key cmp pointer s k (Found p c) = FindsKey key cmp s.tree.list.entries k (option_map pointer p) c × IsWithinBounds s c
   Finds key cmp pointer s k reply = ⊥
+
+  -- the same from the entry under a pointer, by at most num steps; a pointer that names no entry adds none
+  abbrev pub FindsFrom : {K : Type 0} → (T → K) → (K → K → Ordering) → (P → ℕ × ℕ) → State T → P → ℕ → K → Reply P T A I G → Type 0
+  FindsFrom key cmp pointer s p num k (Found q c) =
+      FindsKey key cmp s.tree.list.entries k (option_map pointer q) c × IsWithinHintedBounds s num c
+      × IfNone (item_of s.tree.list.entries (pointer p).0 (pointer p).1) (IsWithinBounds s c)
+  FindsFrom key cmp pointer s p num k reply = ⊥
+
+  -- a search for a similar key
+  abbrev pub FindsNear : {K : Type 0} → (T → K) → (K → K → Ordering) → (P → ℕ × ℕ) → State T → K → Reply P T A I G → Type 0
+  FindsNear key cmp pointer s k (Similar found c) =
+      FindsSimilar key cmp s.tree.list.entries k (option_map (λ a. (pointer a.0, a.1)) found) c × IsWithinBounds s c
+  FindsNear key cmp pointer s k reply = ⊥
+
+  -- the same from the entry at an index, by at most num steps; an index without an entry adds none, and on a list in the order of
+  -- its keys a near one makes few
+  abbrev pub FindsNearFrom : {K : Type 0} → (T → K) → (K → K → Ordering) → (P → ℕ × ℕ) → State T → ℕ → ℕ → K → Reply P T A I G → Type 0
+  FindsNearFrom key cmp pointer s i num k (Similar found c) =
+      FindsSimilar key cmp s.tree.list.entries k (option_map (λ a. (pointer a.0, a.1)) found) c × IsWithinHintedBounds s num c
+      × IfNone (entry_at s.tree.list.entries i) (IsWithinBounds s c) × IsNearHint key cmp s.tree.list.entries k i num c
+  FindsNearFrom key cmp pointer s i num k reply = ⊥
 
   -- the visits that a search for an equal key may have
   abbrev pub Visits : {K : Type 0} → (T → K) → (K → K → Ordering) → State T → K → Reply P T A I G → Type 0
@@ -187,7 +220,8 @@ module _ {P T I G A : Type 0} where
       (len ≡ length t.list.entries) × (capacity ≡ t.list.capacity) × (generation g ≡ t.list.generation) × (maximum ≡ t.list.maximum)
   Counts generation t reply = ⊥
 
-  -- From the state old, the reply to the command may be this one, and the tree goes on to new.
+  -- From the state old, the reply to the command may be this one, and the tree goes on to new. Of a search by a closure nothing is
+  -- said here.
   abbrev pub Replies : {K : Type 0} → Reading P T I G K → State T → Command P T I G K → Reply P T A I G → Tree T → Type 0
   Replies r old (commands.Insert item) reply new = Inserts r.key r.cmp r.most r.pointer old.tree item reply new
   Replies r old (commands.Set p item) reply new = Sets r.pointer old.tree p item reply new
@@ -200,6 +234,11 @@ module _ {P T I G A : Type 0} where
   Replies r old commands.IncGeneration reply new =
       Changes r.greatest old.tree (record old.tree { list = raised r.greatest old.tree.list }) reply new
   Replies r old (commands.Find k) reply new = Finds r.key r.cmp r.pointer old k reply × (new ≡ old.tree)
+  Replies r old (commands.FindLinear p num k) reply new =
+      FindsFrom r.key r.cmp r.pointer old p num k reply × (new ≡ old.tree)
+  Replies r old (commands.Similar k) reply new = FindsNear r.key r.cmp r.pointer old k reply × (new ≡ old.tree)
+  Replies r old (commands.SimilarLinear i num k) reply new =
+      FindsNearFrom r.key r.cmp r.pointer old (r.index i) num k reply × (new ≡ old.tree)
   Replies r old (commands.Visits k) reply new = Visits r.key r.cmp old k reply × (new ≡ old.tree)
   Replies r old (commands.Get p) reply new = Gets r.pointer old.tree p reply × (new ≡ old.tree)
   Replies r old commands.First reply new = IsEnd r.pointer (first_pointer old.tree.list.entries) reply × (new ≡ old.tree)
@@ -208,6 +247,8 @@ module _ {P T I G A : Type 0} where
   Replies r old commands.List reply new = Lists r.pointer old.tree reply × (new ≡ old.tree)
   Replies r old commands.Ranks reply new = Ranked old.tree reply × (new ≡ old.tree)
   Replies r old commands.Stats reply new = Counts r.generation old.tree reply × (new ≡ old.tree)
+  Replies r old commands.FindWith reply new = ⊥
+  Replies r old commands.SimilarWith reply new = ⊥
 
   -- the marks after a reply. Where no entry is left, both are true; else a new entry keeps the first and ends the second, a removal
   -- ends both, and any other reply, also a refusal, keeps both.
@@ -217,25 +258,46 @@ module _ {P T I G A : Type 0} where
   marks_after (Removed (GenerationOverflow taken)) new marks = settled new (record { only_inserted = false; just_built = false })
   marks_after reply new marks = settled new marks
 
-  -- From the state old, the machine may give this reply to the command, and go on to the state new, which is one that an arena can
-  -- have: its list is lawful, and its shape is one over this list that keeps the rank rules.
-  pub record Step {K : Type 0} (r : Reading P T I G K) (old : State T) (command : Command P T I G K) (reply : Reply P T A I G) (new : State T) : Type 0 where
-    pub replies : Replies r old command reply new.tree
+-- The same with a closure, which searches by closure call: `asks f s g` where f is shown the entry of s, gives the answer of s and
+-- is left as g.
+module _ {P T I G A F : Type 0} where
+  -- a search by the closure, which goes on from f to g
+  abbrev pub AnswersWith : (F → Shown T → F → Type 0) → (P → ℕ × ℕ) → State T → F → Reply P T A I G → F → Type 0
+  AnswersWith asks pointer s f (Found p c) g = FindsWith asks s.tree.list.entries f g (option_map pointer p) c × IsWithinBounds s c
+  AnswersWith asks pointer s f reply g = ⊥
+
+  -- the same for a similar entry
+  abbrev pub AnswersSimilarWith : (F → Shown T → F → Type 0) → (P → ℕ × ℕ) → State T → F → Reply P T A I G → F → Type 0
+  AnswersSimilarWith asks pointer s f (Similar found c) g =
+      FindsSimilarWith asks s.tree.list.entries f g (option_map (λ a. (pointer a.0, a.1)) found) c × IsWithinBounds s c
+  AnswersSimilarWith asks pointer s f reply g = ⊥
+
+  -- From the state old and the closure f, the reply to the command may be this one, and tree and closure go on to new and g. A
+  -- command that doesn't search by the closure leaves it.
+  abbrev pub Does : {K : Type 0} → Reading P T I G K → (F → Shown T → F → Type 0) → State T → F → Command P T I G K → Reply P T A I G → Tree T → F → Type 0
+  Does r asks old f commands.FindWith reply new g = AnswersWith asks r.pointer old f reply g × (new ≡ old.tree)
+  Does r asks old f commands.SimilarWith reply new g = AnswersSimilarWith asks r.pointer old f reply g × (new ≡ old.tree)
+  Does r asks old f command reply new g = Replies r old command reply new × (g ≡ f)
+
+  -- From the state old and the closure f, the machine may give this reply to the command, and go on to the state new and to g. The
+  -- state is one that an arena can have: its list is lawful, and its shape is one over this list that keeps the rank rules.
+  pub record Step {K : Type 0} (r : Reading P T I G K) (asks : F → Shown T → F → Type 0) (old : State T) (f : F) (command : Command P T I G K) (reply : Reply P T A I G) (new : State T) (g : F) : Type 0 where
+    pub does : Does r asks old f command reply new.tree g
     pub marks : new.marks ≡ marks_after reply new.tree old.marks
     pub lawful : IsSound r.most r.greatest new.tree.list
     pub sound : IsSoundTree new.tree
 
   -- The machine may give these replies to these commands, one after another.
-  abbrev pub Runs : {K : Type 0} → Reading P T I G K → State T → List (Command P T I G K) → List (Reply P T A I G) → State T → Type 0
-  Runs r old [] [] new = new ≡ old
-  Runs r old (command ∷ commands) (reply ∷ replies) new =
-      (mid : State T) × Step r old command reply mid × Runs r mid commands replies new
-  Runs r old [] (reply ∷ replies) new = ⊥
-  Runs r old (command ∷ commands) [] new = ⊥
+  abbrev pub Runs : {K : Type 0} → Reading P T I G K → (F → Shown T → F → Type 0) → State T → F → List (Command P T I G K) → List (Reply P T A I G) → State T → F → Type 0
+  Runs r asks old f [] [] new g = (new ≡ old) × (g ≡ f)
+  Runs r asks old f (command ∷ commands) (reply ∷ replies) new g =
+      (mid : State T) × (between : F) × Step r asks old f command reply mid between × Runs r asks mid between commands replies new g
+  Runs r asks old f [] (reply ∷ replies) new g = ⊥
+  Runs r asks old f (command ∷ commands) [] new g = ⊥
 
   -- Whatever marks tell the truth of the tree old, a run from there ends in the tree new, with marks that tell the truth of it.
-  abbrev pub RunsBetween : {K : Type 0} → Reading P T I G K → Tree T → List (Command P T I G K) → List (Reply P T A I G) → Tree T → Type 0
-  RunsBetween r old commands replies new =
+  abbrev pub RunsBetween : {K : Type 0} → Reading P T I G K → (F → Shown T → F → Type 0) → Tree T → F → List (Command P T I G K) → List (Reply P T A I G) → Tree T → F → Type 0
+  RunsBetween r asks old f commands replies new g =
       (marks : Marks) → AreTrue marks old.shape
       → (marks' : Marks) × AreTrue marks' new.shape
-      × Runs r (record { tree = old; marks = marks }) commands replies (record { tree = new; marks = marks' })
+      × Runs r asks (record { tree = old; marks = marks }) f commands replies (record { tree = new; marks = marks' }) g

@@ -7,7 +7,7 @@ use Rattle.ord_script.specs.declared.script_end.ScriptEnd.TheVariants as ends
 use Rattle.ord_script.specs.Devices.{limit}
 use Rattle.ord_script.specs.Commands.{word_of}
 use Rattle.ord_script.specs.Machine.{State, Runs}
-use Rattle.ord_script.specs.Pairs.{Pair, PairReply, reading, beginning}
+use Rattle.ord_script.specs.Pairs.{Pair, PairReply, reading, beginning, answers_equal}
 use Rattle.ord_script.specs.Script.{Script, script_of}
 use Rattle.ord_script.specs.Text.{reply_lines, fault_line}
 
@@ -15,7 +15,7 @@ use Rattle.ord_script.specs.Text.{reply_lines, fault_line}
 pub record Answers (A : Type 0) (script : Script) (text : List ℕ) : Type 0 where
   pub replies : List (PairReply A)
   pub end : State Pair
-  pub run : Runs reading beginning script.commands replies end
+  pub run : Runs reading answers_equal beginning tt script.commands replies end tt
   pub lines : text ≡ reply_lines (map word_of script.commands) replies ++ fault_line script.fault
 
 -- how a script ends where all goes well

@@ -11,6 +11,7 @@ pub data Argument : Type 0 where
   key : ℤ → Argument
   value : ℕ → Argument
   index : ℕ → Argument
+  count : ℕ → Argument
   pointer : Pointer → Argument
 
 -- how it is written, with its numbers in decimal
@@ -18,13 +19,15 @@ abbrev pub argument_text : Argument → List ℕ
 argument_text (key k) = signed_decimal k
 argument_text (value v) = decimal v
 argument_text (index i) = decimal i
+argument_text (count n) = decimal n
 argument_text (pointer p) = pointer_text p
 
--- a key has 64 bits with a sign; a value and a generation have 64 without one, an index 32
+-- a key has 64 bits with a sign; a value, a generation and a number of steps have 64 without one, an index 32
 abbrev pub IsInRange : Argument → Type 0
 IsInRange (key k) = (neg_ℤ (pos (2 ^ 63)) ≤ℤ k) × (k <ℤ pos (2 ^ 63))
 IsInRange (value v) = v < 2 ^ 64
 IsInRange (index i) = i < 2 ^ 32
+IsInRange (count n) = n < 2 ^ 64
 IsInRange (pointer p) = (p.0 < 2 ^ 32) × (p.1 < 2 ^ 64)
 
 -- the word of a command, and its arguments
@@ -46,6 +49,12 @@ saying_of (commands.Invalidate p) = record { word = codes "invalidate"; argument
 saying_of commands.Clear = record { word = codes "clear"; arguments = [] }
 saying_of commands.IncGeneration = record { word = codes "next-generation"; arguments = [] }
 saying_of (commands.Find k) = record { word = codes "find"; arguments = key k ∷ [] }
+saying_of (commands.FindLinear p n k) = record { word = codes "find-linear"; arguments = pointer p ∷ count n ∷ key k ∷ [] }
+saying_of (commands.Similar k) = record { word = codes "similar"; arguments = key k ∷ [] }
+saying_of (commands.SimilarLinear i n k) = record { word = codes "similar-linear"; arguments = index i ∷ count n ∷ key k ∷ [] }
+-- it says nothing for these two; their replies are told as those of a search by key
+saying_of commands.FindWith = record { word = codes "find"; arguments = [] }
+saying_of commands.SimilarWith = record { word = codes "similar"; arguments = [] }
 saying_of (commands.Visits k) = record { word = codes "visits"; arguments = key k ∷ [] }
 saying_of (commands.Get p) = record { word = codes "get"; arguments = pointer p ∷ [] }
 saying_of commands.First = record { word = codes "first"; arguments = [] }
@@ -59,8 +68,10 @@ saying_of commands.Stats = record { word = codes "stats"; arguments = [] }
 abbrev pub spelled : PairCommand → List (List ℕ)
 spelled command = (saying_of command).word ∷ map argument_text (saying_of command).arguments
 
--- a script can say it: its numbers are within their ranges
+-- a script can say it: it isn't a search by a closure, and its numbers are within their ranges
 abbrev pub CanBeSaid : PairCommand → Type 0
+CanBeSaid commands.FindWith = ⊥
+CanBeSaid commands.SimilarWith = ⊥
 CanBeSaid command = All IsInRange (saying_of command).arguments
 
 -- a line for each command, the words joined by a space

@@ -1,6 +1,8 @@
 -- The lines that a script answers.
 use Rattle.std.specs.Prelude.{◌≡◌, Result, OnOk, String, string_bytes, ℕ, Bool, true, false, List, [], ◌∷◌, ◌++◌, Option, Some, None, codes, decimal, flat_map}
 use Rattle.std.specs.Fmt.{signed_decimal}
+use Rattle.std.specs.declared.cmp.Ordering.{Ordering}
+use Rattle.std.specs.declared.cmp.Ordering.TheVariants.{Less, Equal, Greater}
 use Rattle.arena_base.specs.Invalidation.{is_overflow}
 use Rattle.arena_base.specs.declared.invalidation.InvalidationResult.TheVariants.{Success, GenerationOverflow, InvalidPtr}
 use Rattle.triple_ord.specs.declared.entry_kind.OrdEntryKind.TheVariants.{New, Replacing}
@@ -8,7 +10,7 @@ use Rattle.triple_ord.specs.declared.error.OrdInsertionError.{OrdInsertionError}
 use Rattle.triple_ord.specs.declared.error.OrdInsertionError.TheVariants.{FailedOrdRequirement, NotWithinCapacity, BeyondMaxCapacity, AllocError}
 use Rattle.ord_script.specs.declared.word.Word.{Word}
 use Rattle.ord_script.specs.declared.word.Word.TheVariants as words
-use Rattle.ord_script.specs.declared.reply.Reply.TheVariants.{Inserted, Refused, Found, Count, Item, Removed, Renewed, Changed, At, Links, Entries, Ranks, Stats}
+use Rattle.ord_script.specs.declared.reply.Reply.TheVariants.{Inserted, Refused, Found, Similar, Count, Item, Removed, Renewed, Changed, At, Links, Entries, Ranks, Stats}
 use Rattle.ord_script.specs.declared.fault.Fault.{Fault}
 use Rattle.ord_script.specs.declared.fault.FaultKind.{FaultKind}
 use Rattle.ord_script.specs.declared.fault.FaultKind.TheVariants.{UnknownCommand, WrongArguments, BadNumber}
@@ -66,6 +68,21 @@ place_text None = codes "none"
 abbrev pub search_line : {A : Type 0} → PairReply A → List ℕ
 search_line (Found found visits) = place_text found ++ 10 ∷ []
 search_line reply = refusal_line reply
+
+-- how a key lies to an entry's
+abbrev pub order_text : Ordering → List ℕ
+order_text Less = codes "less"
+order_text Equal = codes "equal"
+order_text Greater = codes "greater"
+
+-- the pointer of a similar entry with the order, if there is one
+abbrev pub similar_text : Option (Pointer × Ordering) → List ℕ
+similar_text (Some a) = codes "similar " ++ pointer_text a.0 ++ codes " " ++ order_text a.1
+similar_text None = codes "none"
+
+abbrev pub similar_line : {A : Type 0} → PairReply A → List ℕ
+similar_line (Similar found visits) = similar_text found ++ 10 ∷ []
+similar_line reply = refusal_line reply
 
 abbrev pub count_line : {A : Type 0} → PairReply A → List ℕ
 count_line (Count visits) = codes "visits " ++ decimal visits ++ 10 ∷ []
@@ -150,6 +167,9 @@ reply_line words.Invalidate reply = renewal_line reply
 reply_line words.Clear reply = change_line (codes "cleared") reply
 reply_line words.IncGeneration reply = change_line (codes "ok") reply
 reply_line words.Find reply = search_line reply
+reply_line words.FindLinear reply = search_line reply
+reply_line words.Similar reply = similar_line reply
+reply_line words.SimilarLinear reply = similar_line reply
 reply_line words.Visits reply = count_line reply
 reply_line words.Get reply = item_line reply
 reply_line words.First reply = place_line reply

@@ -21,6 +21,16 @@ pub enum Command<P: Ptr, T: SimpleOrdItem> {
     IncGeneration,
     /// Searches an entry with an equal key.
     Find(T::Key),
+    /// Searches an entry with an equal key, after at most so many steps along the list from the entry that the pointer names.
+    FindLinear(P, usize, T::Key),
+    /// Searches an entry with an equal key, or one beside a gap that fits the key.
+    Similar(T::Key),
+    /// Searches so after at most so many steps along the list from the entry at the index.
+    SimilarLinear(P::Inx, usize, T::Key),
+    /// Searches the entry at which the closure answers Equal.
+    FindWith,
+    /// Searches by the closure, and asks for the entry that it was shown last.
+    SimilarWith,
     /// Searches an entry with an equal key, and asks how many entries the search was shown.
     Visits(T::Key),
     /// Asks for the item that the pointer names.

@@ -1,14 +1,16 @@
 //! Laws of runs and scripts. Each function here does nothing, and its contract is a law: a fact about every run, or about every script.
 
+ghost use Rattle.triple_ord.specs.ClosureSearch.{Asks};
 ghost use Rattle.ord_script.specs.Laws.{FirstRankLaw, FirstRankTextLaw, KeyTextLaw, PointerTextLaw, CommandTextLaw, CommandWordLaw, ScriptTextLaw};
 
 use arena_base::Ptr;
 use std::alloc::Allocator;
+use std::cmp::Ordering;
 use triple_ord::SimpleOrdItem;
 
 /// An insertion where there is no entry, and then `ranks`: the ranks are 1 and nothing else, unless something is refused.
-pub fn first_rank_law<P: Ptr, T: SimpleOrdItem, A: Allocator>()
-    ensures { FirstRankLaw P T P.Inx P.Gen A T.Key }
+pub fn first_rank_law<P: Ptr, T: SimpleOrdItem, F: FnMut(P, &T) -> Ordering, A: Allocator>()
+    ensures { FirstRankLaw P T P.Inx P.Gen A T.Key (Asks (λ p. (P.index p, P.era p)) F.step) }
 {}
 
 /// The script of two lines, `insert 5 1` and `ranks`, is answered by `new 1.2` and `ranks 1`, unless memory is refused.

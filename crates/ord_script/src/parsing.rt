@@ -1,6 +1,6 @@
 // Reads the command that a line gives.
 ghost use Rattle.std.specs.Prelude.{◌≡◌, MatchResult};
-ghost use Rattle.ord_script.specs.Commands.{no_argument, one_argument, two_arguments, three_arguments, key_in, pointer_in, index_in, pair_in, with_pair, with_pointer_and_pair, with_key, with_pointer, with_index, alone, said_by};
+ghost use Rattle.ord_script.specs.Commands.{no_argument, one_argument, two_arguments, three_arguments, key_in, pointer_in, index_in, count_in, pair_in, with_pair, with_pointer_and_pair, with_key, with_pointer, with_index, from_pointer, from_index, alone, said_by};
 ghost use Rattle.ord_script.specs.Commands as spec;
 ghost use Rattle.ord_script.specs.Script.{words_of};
 
@@ -40,6 +40,9 @@ fn command_of(first: &[u8], arguments: Words<'_>) -> Result<PairCommand, FaultKi
         Word::Clear => alone(Command::Clear, arguments),
         Word::IncGeneration => alone(Command::IncGeneration, arguments),
         Word::Find => find_of(arguments),
+        Word::FindLinear => find_linear_of(arguments),
+        Word::Similar => similar_of(arguments),
+        Word::SimilarLinear => similar_linear_of(arguments),
         Word::Visits => visits_of(arguments),
         Word::Get => get_of(arguments),
         Word::First => alone(Command::First, arguments),
@@ -112,6 +115,40 @@ fn find_of(arguments: Words<'_>) -> Result<PairCommand, FaultKind>
     Ok(Command::Find(key))
 }
 
+/// `find-linear P N K`
+#[tactic(auto, unfolding(crate::specs::Commands::from_pointer))]
+fn find_linear_of(arguments: Words<'_>) -> Result<PairCommand, FaultKind>
+    ensures { result ≡ from_pointer Command.FindLinear arguments.entry }
+{
+    let (pointer, count, key) = three(arguments)?;
+    let pointer = pointer_in(pointer)?;
+    let count = count_in(count)?;
+    let key = key_in(key)?;
+    Ok(Command::FindLinear(pointer, count, key))
+}
+
+/// `similar K`
+#[tactic(auto, unfolding(crate::specs::Commands::with_key))]
+fn similar_of(arguments: Words<'_>) -> Result<PairCommand, FaultKind>
+    ensures { result ≡ with_key Command.Similar arguments.entry }
+{
+    let key = one(arguments)?;
+    let key = key_in(key)?;
+    Ok(Command::Similar(key))
+}
+
+/// `similar-linear I N K`
+#[tactic(auto, unfolding(crate::specs::Commands::from_index))]
+fn similar_linear_of(arguments: Words<'_>) -> Result<PairCommand, FaultKind>
+    ensures { result ≡ from_index Command.SimilarLinear arguments.entry }
+{
+    let (index, count, key) = three(arguments)?;
+    let index = index_in(index)?;
+    let count = count_in(count)?;
+    let key = key_in(key)?;
+    Ok(Command::SimilarLinear(index, count, key))
+}
+
 /// `visits K`
 #[tactic(auto, unfolding(crate::specs::Commands::with_key))]
 fn visits_of(arguments: Words<'_>) -> Result<PairCommand, FaultKind>
@@ -170,6 +207,14 @@ fn index_in(word: &[u8]) -> Result<u32, FaultKind>
     ensures { result ≡ index_in word.now }
 {
     index_of(word).ok_or(FaultKind::BadNumber)
+}
+
+/// A word that is a number of steps.
+fn count_in(word: &[u8]) -> Result<usize, FaultKind>
+    ensures { result ≡ count_in word.now }
+{
+    let count = value_of(word).ok_or(FaultKind::BadNumber)?;
+    Ok(count as usize)
 }
 
 /// Two words that are a key and a value.

@@ -1,6 +1,7 @@
 // What an arena answers.
 use arena_base::{InvalidationOption, InvalidationResult, Ptr};
 use std::alloc::Allocator;
+use std::cmp::Ordering;
 use triple_ord::{OrdEntryKind, OrdInsertionError};
 
 /// A reply to a command.
@@ -13,6 +14,9 @@ pub enum Reply<P: Ptr, T, A: Allocator> {
     /// The pointer of an entry with an equal key, `None` where the search stopped at a gap that fits the key; and how many
     /// entries the search was shown.
     Found(Option<P>, u128),
+    /// The pointer of the entry that a search was shown last, with the order of the key to its key, or with the closure's answer;
+    /// `None` where there is no entry. And how many entries the search was shown.
+    Similar(Option<(P, Ordering)>, u128),
     /// How many entries the search was shown.
     Count(u128),
     /// A clone of the item, or the item that was replaced; `None` where the pointer names no entry.

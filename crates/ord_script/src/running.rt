@@ -2,7 +2,8 @@
 ghost use Rattle.std.specs.Prelude.{◌≡◌, ◌<◌, IfOk, OnErr, length};
 ghost use Rattle.chain_base.specs.Chain.{IsSound};
 ghost use Rattle.ord_tree.specs.Tree.{IsSoundTree};
-ghost use Rattle.ord_script.specs.Machine.{reading_by, Marks, AreTrue, Replies, RunsBetween};
+ghost use Rattle.triple_ord.specs.ClosureSearch.{Asks};
+ghost use Rattle.ord_script.specs.Machine.{reading_by, Marks, AreTrue, Does, RunsBetween};
 
 use crate::command::Command;
 use crate::reply::Reply;
@@ -16,7 +17,8 @@ use triple_ord::{SimpleOrdArena, SimpleOrdItem};
 ///
 /// Memory for the replies is asked for first, on `alloc`: where that is refused, nothing has changed; no commands need none. What the
 /// replies hold stands on `alloc` too. A command that is refused, also memory, says so in its reply, changes nothing, and the others go
-/// on. A clone of an item has to equal it. The closure is for searches by closure; no command calls it yet.
+/// on. A clone of an item has to equal it. `FindWith` and `SimilarWith` call the closure, and its state passes from one to the next; it
+/// may answer anything, differently each time, and has to be one that may be called at every pointer and item, again and again.
 pub fn run<
     P: Ptr,
     T: SimpleOrdItem + Clone + Drop,
@@ -30,58 +32,71 @@ pub fn run<
 ) -> Result<Vec<Reply<P, T, A>, A>, AllocError>
 where
     T::Key: Drop,
-    requires { (x y : T) → T.is_clone x y → y ≡ x }
+    requires clones { (x y : T) → T.is_clone x y → y ≡ x }
+    requires callable { F.IsAlwaysCallable closure.old }
     ensures run { IfOk result (λ replies. RunsBetween
         (reading_by T.key_of T.Key.cmp P.Inx.most P.Gen.greatest
-        P.index P.era P.Inx.number P.Gen.number)
-        arena.old commands.items replies.items arena.new) }
+        P.index P.era P.Inx.number P.Gen.number) (Asks (λ p. (P.index p, P.era p)) F.step)
+        arena.old closure.old commands.items replies.items arena.new closure.new) }
     ensures err { OnErr result (arena.new ≡ arena.old) }
     ensures refused { OnErr result (0 < length commands.items) }
-    ensures closure { closure.new ≡ closure.old }
+    ensures closure_err { OnErr result (closure.new ≡ closure.old) }
+    ensures callable { F.IsAlwaysCallable closure.new }
 {
     let mut replies = Vec::with_capacity(alloc, commands.len())?;
     for command in commands {
-        let reply = step(alloc, arena, command);
+        let reply = step(alloc, arena, command, closure);
         replies.push(reply).unwrap();
     }
     Ok(replies)
 }
 
 // One step.
-fn step<P: Ptr, T: SimpleOrdItem + Clone + Drop, A: Allocator + Copy>(
+fn step<P: Ptr, T: SimpleOrdItem + Clone + Drop, F: FnMut(P, &T) -> Ordering, A: Allocator + Copy>(
     alloc: A,
     arena: &mut SimpleOrdArena<P, T, A>,
     command: Command<P, T>,
+    closure: &mut F,
 ) -> Reply<P, T, A>
 where
     T::Key: Drop,
-    requires { (x y : T) → T.is_clone x y → y ≡ x }
-    ensures replies { (marks : Marks) → AreTrue marks arena.old.shape
-        → Replies (reading_by T.key_of T.Key.cmp P.Inx.most P.Gen.greatest
-        P.index P.era P.Inx.number P.Gen.number)
-        (record { tree = arena.old; marks = marks }) command result arena.new }
+    requires clones { (x y : T) → T.is_clone x y → y ≡ x }
+    requires callable { F.IsAlwaysCallable closure.old }
+    ensures does { (marks : Marks) → AreTrue marks arena.old.shape
+        → Does (reading_by T.key_of T.Key.cmp P.Inx.most P.Gen.greatest
+        P.index P.era P.Inx.number P.Gen.number) (Asks (λ p. (P.index p, P.era p)) F.step)
+        (record { tree = arena.old; marks = marks }) closure.old command result arena.new closure.new }
+    ensures callable { F.IsAlwaysCallable closure.new }
     ensures lawful { IsSound P.Inx.most P.Gen.greatest arena.new.list }
     ensures sound { IsSoundTree arena.new }
 {
-    let reply = reply_to(alloc, arena, command);
+    let reply = reply_to(alloc, arena, command, closure);
     // with its length an arena tells what holds of its list and its shape
     let _ = arena.len();
     reply
 }
 
 // What a command does, and what it answers.
-fn reply_to<P: Ptr, T: SimpleOrdItem + Clone + Drop, A: Allocator + Copy>(
+fn reply_to<
+    P: Ptr,
+    T: SimpleOrdItem + Clone + Drop,
+    F: FnMut(P, &T) -> Ordering,
+    A: Allocator + Copy,
+>(
     alloc: A,
     arena: &mut SimpleOrdArena<P, T, A>,
     command: Command<P, T>,
+    closure: &mut F,
 ) -> Reply<P, T, A>
 where
     T::Key: Drop,
-    requires { (x y : T) → T.is_clone x y → y ≡ x }
-    ensures { (marks : Marks) → AreTrue marks arena.old.shape
-        → Replies (reading_by T.key_of T.Key.cmp P.Inx.most P.Gen.greatest
-        P.index P.era P.Inx.number P.Gen.number)
-        (record { tree = arena.old; marks = marks }) command result arena.new }
+    requires clones { (x y : T) → T.is_clone x y → y ≡ x }
+    requires callable { F.IsAlwaysCallable closure.old }
+    ensures does { (marks : Marks) → AreTrue marks arena.old.shape
+        → Does (reading_by T.key_of T.Key.cmp P.Inx.most P.Gen.greatest
+        P.index P.era P.Inx.number P.Gen.number) (Asks (λ p. (P.index p, P.era p)) F.step)
+        (record { tree = arena.old; marks = marks }) closure.old command result arena.new closure.new }
+    ensures callable { F.IsAlwaysCallable closure.new }
 {
     match command {
         Command::Insert(item) => steps::insert(arena, item),
@@ -92,6 +107,11 @@ where
         Command::Clear => steps::clear(arena),
         Command::IncGeneration => steps::inc_generation(arena),
         Command::Find(key) => steps::find(arena, &key),
+        Command::FindLinear(p, num, key) => steps::find_linear(arena, p, num, &key),
+        Command::Similar(key) => steps::similar(arena, &key),
+        Command::SimilarLinear(i, num, key) => steps::similar_linear(arena, i, num, &key),
+        Command::FindWith => steps::find_with(arena, closure),
+        Command::SimilarWith => steps::similar_with(arena, closure),
         Command::Visits(key) => steps::visits(arena, &key),
         Command::Get(p) => steps::get(arena, p),
         Command::First => steps::first(arena),

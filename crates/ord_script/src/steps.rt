@@ -2,11 +2,13 @@
 ghost use Rattle.std.specs.Prelude.{◌≡◌, ◌<◌, IfOk, OnErr, IfSome, is_some, length, map};
 ghost use Rattle.chain_base.specs.Chain.{link_at, first_pointer, last_pointer, cleared, raised};
 ghost use Rattle.ord_tree.specs.Shape.{missing};
-ghost use Rattle.ord_script.specs.Machine.{Marks, AreTrue, Inserts, Sets, Removes, RemovesAt, Renews, Changes, Finds, Visits, Gets, IsEnd, HasNeighbours, Lists, Ranked, HasRank, HaveRanks, Counts};
+ghost use Rattle.triple_ord.specs.ClosureSearch.{Asks};
+ghost use Rattle.ord_script.specs.Machine.{Marks, AreTrue, Inserts, Sets, Removes, RemovesAt, Renews, Changes, Finds, FindsFrom, FindsNear, FindsNearFrom, AnswersWith, AnswersSimilarWith, Visits, Gets, IsEnd, HasNeighbours, Lists, Ranked, HasRank, HaveRanks, Counts};
 
 use crate::reply::Reply;
 use arena_base::Ptr;
 use std::alloc::{AllocError, Allocator};
+use std::cmp::Ordering;
 use std::mem;
 use triple_ord::{OrdEntryKind, OrdInsertionError, SimpleOrdArena, SimpleOrdItem};
 
@@ -111,6 +113,79 @@ pub fn find<P: Ptr, T: SimpleOrdItem, A: Allocator>(
 {
     let (found, visits) = arena.find_key_counted(key);
     Reply::Found(found, visits.count())
+}
+
+/// `Command::FindLinear`
+pub fn find_linear<P: Ptr, T: SimpleOrdItem, A: Allocator>(
+    arena: &SimpleOrdArena<P, T, A>,
+    p: P,
+    num: usize,
+    key: &T::Key,
+) -> Reply<P, T, A>
+    ensures { (marks : Marks) → AreTrue marks arena.now.shape
+        → FindsFrom T.key_of T.Key.cmp (λ p. (P.index p, P.era p))
+        (record { tree = arena.now; marks = marks }) p num key.now result }
+{
+    let (found, visits) = arena.find_key_linear_counted(p, num, key);
+    Reply::Found(found, visits.count())
+}
+
+/// `Command::Similar`
+pub fn similar<P: Ptr, T: SimpleOrdItem, A: Allocator>(
+    arena: &SimpleOrdArena<P, T, A>,
+    key: &T::Key,
+) -> Reply<P, T, A>
+    ensures { (marks : Marks) → AreTrue marks arena.now.shape
+        → FindsNear T.key_of T.Key.cmp (λ p. (P.index p, P.era p))
+        (record { tree = arena.now; marks = marks }) key.now result }
+{
+    let (found, visits) = arena.find_similar_key_counted(key);
+    Reply::Similar(found, visits.count())
+}
+
+/// `Command::SimilarLinear`
+pub fn similar_linear<P: Ptr, T: SimpleOrdItem, A: Allocator>(
+    arena: &SimpleOrdArena<P, T, A>,
+    i: P::Inx,
+    num: usize,
+    key: &T::Key,
+) -> Reply<P, T, A>
+    ensures { (marks : Marks) → AreTrue marks arena.now.shape
+        → FindsNearFrom T.key_of T.Key.cmp (λ p. (P.index p, P.era p))
+        (record { tree = arena.now; marks = marks }) (P.Inx.number i) num key.now result }
+{
+    let (found, visits) = arena.find_similar_key_linear_counted(i, num, key);
+    Reply::Similar(found, visits.count())
+}
+
+/// `Command::FindWith`
+pub fn find_with<P: Ptr, T, F: FnMut(P, &T) -> Ordering, A: Allocator>(
+    arena: &SimpleOrdArena<P, T, A>,
+    closure: &mut F,
+) -> Reply<P, T, A>
+    requires { F.IsAlwaysCallable closure.old }
+    ensures answer { (marks : Marks) → AreTrue marks arena.now.shape
+        → AnswersWith (Asks (λ p. (P.index p, P.era p)) F.step) (λ p. (P.index p, P.era p))
+        (record { tree = arena.now; marks = marks }) closure.old result closure.new }
+    ensures callable { F.IsAlwaysCallable closure.new }
+{
+    let (found, visits) = arena.find_with_counted(closure);
+    Reply::Found(found, visits.count())
+}
+
+/// `Command::SimilarWith`
+pub fn similar_with<P: Ptr, T, F: FnMut(P, &T) -> Ordering, A: Allocator>(
+    arena: &SimpleOrdArena<P, T, A>,
+    closure: &mut F,
+) -> Reply<P, T, A>
+    requires { F.IsAlwaysCallable closure.old }
+    ensures answer { (marks : Marks) → AreTrue marks arena.now.shape
+        → AnswersSimilarWith (Asks (λ p. (P.index p, P.era p)) F.step) (λ p. (P.index p, P.era p))
+        (record { tree = arena.now; marks = marks }) closure.old result closure.new }
+    ensures callable { F.IsAlwaysCallable closure.new }
+{
+    let (found, visits) = arena.find_similar_with_counted(closure);
+    Reply::Similar(found, visits.count())
 }
 
 /// `Command::Visits`

@@ -7,7 +7,7 @@ use crate::{FaultKind, ScriptEnd, Watched, serve};
 use std::process::Abort;
 
 /// Scripts that are done, each with its answer.
-const ANSWERS: [(&[u8], &str); 26] = [
+const ANSWERS: [(&[u8], &str); 29] = [
     // the commands
     (
         b"insert 50 1\ninsert 30 2\nfind 30\nlist\n",
@@ -55,6 +55,19 @@ const ANSWERS: [(&[u8], &str); 26] = [
     (
         b"first\nlast\nget 1.2\nneighbours 1\nlist\nranks\nvisits 0\nfind 0\nstats\n",
         "none\nnone\nnone\nnone\nlist\nranks\nvisits 0\nnone\nlen 0 capacity 0 generation 2 max none\n",
+    ),
+    // searches from a hint
+    (
+        b"insert 50 0\ninsert 30 0\ninsert 70 0\ninsert 60 0\ninsert 10 0\nsimilar 53\nsimilar 40\nsimilar-linear 2 3 40\nsimilar-linear 9 3 40\nfind-linear 2.2 3 40\nfind-linear 5.2 2 60\nfind-linear 2.9 3 40\n",
+        "new 1.2\nnew 2.2\nnew 3.2\nnew 4.2\nnew 5.2\nsimilar 4.2 less\nsimilar 2.2 greater\nsimilar 1.2 less\nsimilar 2.2 greater\nnone\nat 4.2\nnone\n",
+    ),
+    (
+        b"insert 50 0\ninsert 30 0\ninsert 70 0\ninsert 60 0\ninsert 10 0\nsimilar-linear 2 2 40\nsimilar-linear 2 1 40\nsimilar-linear 5 9 50\nsimilar-linear 5 1 5\nsimilar-linear 3 18446744073709551615 5\nfind-linear 5.2 0 60\n",
+        "new 1.2\nnew 2.2\nnew 3.2\nnew 4.2\nnew 5.2\nsimilar 1.2 less\nsimilar 2.2 greater\nsimilar 1.2 equal\nsimilar 5.2 less\nsimilar 5.2 less\nat 4.2\n",
+    ),
+    (
+        b"similar 1\nsimilar-linear 1 3 1\nfind-linear 1.2 3 1\ninsert 1 0\nsimilar 1\nsimilar -1\n",
+        "none\nnone\nnone\nnew 1.2\nsimilar 1.2 equal\nsimilar 1.2 less\n",
     ),
     // removals and generations
     (
@@ -141,7 +154,7 @@ const FAULTS: [(&[u8], &str, usize, FaultKind); 6] = [
 ];
 
 /// Lines that are a fault of this kind.
-const BAD_LINES: [(&[u8], FaultKind); 69] = [
+const BAD_LINES: [(&[u8], FaultKind); 79] = [
     // the tree, and what stands around the entries
     (b"visits", FaultKind::WrongArguments),
     (b"get 1.2 3", FaultKind::WrongArguments),
@@ -165,6 +178,20 @@ const BAD_LINES: [(&[u8], FaultKind); 69] = [
     (b"get 1,2", FaultKind::BadNumber),
     (b"get 4294967296.2", FaultKind::BadNumber),
     (b"get 1.18446744073709551616", FaultKind::BadNumber),
+    // searches from a hint
+    (b"similar", FaultKind::WrongArguments),
+    (b"similar x", FaultKind::BadNumber),
+    (b"find-linear 1.2 3", FaultKind::WrongArguments),
+    (b"find-linear 1 3 4", FaultKind::BadNumber),
+    (b"find-linear 1.2 x 4", FaultKind::BadNumber),
+    (
+        b"find-linear 1.2 18446744073709551616 4",
+        FaultKind::BadNumber,
+    ),
+    (b"similar-linear 1 2", FaultKind::WrongArguments),
+    (b"similar-linear 1.2 2 3", FaultKind::BadNumber),
+    (b"similar-linear 1 -2 3", FaultKind::BadNumber),
+    (b"similar-with", FaultKind::UnknownCommand),
     // removals and generations
     (b"set 1.2 3", FaultKind::WrongArguments),
     (b"set 1.2 3 4 5", FaultKind::WrongArguments),

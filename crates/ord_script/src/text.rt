@@ -1,6 +1,6 @@
 // Writes the lines that a script answers.
 ghost use Rattle.std.specs.Prelude.{◌≡◌, ◌++◌, [], ◌∷◌, IfOk, string_bytes, codes};
-ghost use Rattle.ord_script.specs.Text.{Adds, reply_lines, reply_line, fault_line, refusal_line, insertion_line, pointer_text, pair_text, old_line, taken_line, removal_line, now_line, renewal_line, change_line, place_text, search_line, count_line, item_line, place_line, links_text, neighbours_line, entries_line, ranks_line, stats_line, refusal_text};
+ghost use Rattle.ord_script.specs.Text.{Adds, reply_lines, reply_line, fault_line, refusal_line, insertion_line, pointer_text, pair_text, old_line, taken_line, removal_line, now_line, renewal_line, change_line, place_text, search_line, similar_text, similar_line, order_text, count_line, item_line, place_line, links_text, neighbours_line, entries_line, ranks_line, stats_line, refusal_text};
 
 use crate::fault::Fault;
 use crate::pairs::{
@@ -10,6 +10,7 @@ use crate::reply::Reply;
 use crate::word::Word;
 use arena_base::{InvalidationOption, InvalidationResult, P0};
 use std::alloc::{AllocError, Allocator};
+use std::cmp::Ordering;
 use std::fmt::Write;
 use triple_ord::{OrdEntryKind, OrdInsertionError};
 
@@ -60,7 +61,8 @@ fn push_reply<A: Allocator>(
         Word::Invalidate => push_renewal(text, reply),
         Word::Clear => push_change(text, "cleared", reply),
         Word::IncGeneration => push_change(text, "ok", reply),
-        Word::Find => push_search(text, reply),
+        Word::Find | Word::FindLinear => push_search(text, reply),
+        Word::Similar | Word::SimilarLinear => push_similar(text, reply),
         Word::Visits => push_count(text, reply),
         Word::Get => push_item(text, reply),
         Word::First | Word::Last => push_end(text, reply),
@@ -207,6 +209,42 @@ fn push_search<A: Allocator>(text: &mut String<A>, reply: &PairReply<A>) -> Resu
     match reply {
         Reply::Found(found, _) => push_place(text, *found),
         _ => push_refusal(text, reply),
+    }
+}
+
+fn push_similar<A: Allocator>(text: &mut String<A>, reply: &PairReply<A>) -> Result<(), AllocError>
+    ensures { Adds result text.old text.new (similar_line reply.now) }
+{
+    match reply {
+        Reply::Similar(found, _) => push_similar_place(text, *found),
+        _ => push_refusal(text, reply),
+    }
+}
+
+fn push_similar_place<A: Allocator>(
+    text: &mut String<A>,
+    found: Option<(P0, Ordering)>,
+) -> Result<(), AllocError>
+    ensures { Adds result text.old text.new (similar_text found ++ 10 ∷ []) }
+{
+    match found {
+        Some((p, order)) => {
+            let pointer = ShownPointer(p);
+            let order = order_word(order);
+            write!(text, "similar {pointer} {order}\n")
+        }
+        None => write!(text, "none\n"),
+    }
+}
+
+/// How a key lies to an entry's, in a word.
+fn order_word(order: Ordering) -> &'static str
+    ensures { result.now ≡ order_text order }
+{
+    match order {
+        Ordering::Less => "less",
+        Ordering::Equal => "equal",
+        Ordering::Greater => "greater",
     }
 }
 

@@ -17,6 +17,9 @@ pub enum Word {
     Clear,
     IncGeneration,
     Find,
+    FindLinear,
+    Similar,
+    SimilarLinear,
     Visits,
     Get,
     First,
@@ -28,7 +31,7 @@ pub enum Word {
 }
 
 /// All words.
-const WORDS: [Word; 16] = [
+const WORDS: [Word; 19] = [
     Word::Insert,
     Word::Set,
     Word::Remove,
@@ -37,6 +40,9 @@ const WORDS: [Word; 16] = [
     Word::Clear,
     Word::IncGeneration,
     Word::Find,
+    Word::FindLinear,
+    Word::Similar,
+    Word::SimilarLinear,
     Word::Visits,
     Word::Get,
     Word::First,
@@ -61,6 +67,9 @@ impl Word {
             Word::Clear => "clear",
             Word::IncGeneration => "next-generation",
             Word::Find => "find",
+            Word::FindLinear => "find-linear",
+            Word::Similar => "similar",
+            Word::SimilarLinear => "similar-linear",
             Word::Visits => "visits",
             Word::Get => "get",
             Word::First => "first",
@@ -111,6 +120,12 @@ fn word_of(command: &PairCommand) -> Word
         Command::Clear => Word::Clear,
         Command::IncGeneration => Word::IncGeneration,
         Command::Find(_) => Word::Find,
+        Command::FindLinear(_, _, _) => Word::FindLinear,
+        Command::Similar(_) => Word::Similar,
+        Command::SimilarLinear(_, _, _) => Word::SimilarLinear,
+        // no line says these two; their replies are told as those of a search by key
+        Command::FindWith => Word::Find,
+        Command::SimilarWith => Word::Similar,
         Command::Visits(_) => Word::Visits,
         Command::Get(_) => Word::Get,
         Command::First => Word::First,

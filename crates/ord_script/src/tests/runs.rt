@@ -256,3 +256,43 @@ fn a_run_that_is_refused_its_replies_changes_nothing(rt: HostRuntime) -> Result<
     assert!(rt; is_refused && is_run);
     Ok(())
 }
+
+/// Searches by a closure that says one order after another, whatever it is shown; and searches from a hint.
+#[test]
+fn searches_by_a_closure(rt: HostRuntime) -> Result<(), Fail> {
+    let mut arena: SimpleOrdArena<P0, Letter> = SimpleOrdArena::new(rt.alloc());
+    let mut commands = Vec::new(rt.alloc());
+    for number in [50u16, 30, 70, 60, 10] {
+        commands.push(Command::Insert(item(number, 'x')))?;
+    }
+    commands.push(Command::SimilarWith)?;
+    commands.push(Command::FindWith)?;
+    commands.push(Command::Similar(53))?;
+    commands.push(Command::SimilarLinear(2, 2, 40))?;
+    commands.push(Command::FindLinear(P0::_from_raw(5, 2), 2, 60))?;
+    let mut calls = 0u8;
+    let mut closure = |_p: P0, _l: &Letter| {
+        calls = calls.wrapping_add(1);
+        match calls {
+            1 | 3 => Ordering::Greater,
+            2 | 4 => Ordering::Less,
+            _ => Ordering::Equal,
+        }
+    };
+    let replies = run(rt.alloc(), &mut arena, commands, &mut closure)?;
+    assert_eq!(rt; calls, 5);
+    assert_eq!(rt; replies.len(), 10);
+    // 50, 70, 60; then 50, 30
+    assert!(rt;
+        matches!(&replies[5], Reply::Similar(Some((p, Ordering::Greater)), 3) if p.inx() == 4)
+    );
+    assert!(rt; matches!(&replies[6], Reply::Found(Some(p), 2) if p.inx() == 2));
+    assert!(rt;
+        matches!(&replies[7], Reply::Similar(Some((p, Ordering::Less)), 3) if p.inx() == 4)
+    );
+    assert!(rt;
+        matches!(&replies[8], Reply::Similar(Some((p, Ordering::Less)), 2) if p.inx() == 1)
+    );
+    assert!(rt; matches!(&replies[9], Reply::Found(Some(p), 5) if p.inx() == 4));
+    Ok(())
+}

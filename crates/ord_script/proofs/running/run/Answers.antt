@@ -1,6 +1,7 @@
 use Rattle.std.proofs.Common.{◌≡◌, ◌++◌, ◌∷◌, [], sym, ◌∙◌, arith}
 use Rattle.std.proofs.lemmas.Grind.{common_steps}
 use Rattle.ord_script.proofs.Lists.{cut_more, cut_all}
+use Rattle.triple_ord.specs.ClosureSearch.{Asks}
 use Rattle.ord_script.specs.Machine.{reading_by}
 use Rattle.ord_script.proofs.Runs.{RunsBetween-none, RunsBetween-more}
 use Rattle.ord_script.proofs.running.run.Goals as goal
@@ -10,7 +11,8 @@ loop-command-init g c =
     record {
       cut = grind (arith, common_steps);
       runs = RunsBetween-none (reading_by g.T.SimpleOrdItem.key_of g.T.Key.Ord.cmp g.P.Inx.PtrInx.most g.P.Gen.PtrGen.greatest
-          g.P.Ptr.index g.P.Ptr.era g.P.Inx.PtrInx.number g.P.Gen.PtrGen.number) _ _ c.in_ok-replies.ensures.items;
+          g.P.Ptr.index g.P.Ptr.era g.P.Inx.PtrInx.number g.P.Gen.PtrGen.number) (Asks (λ p. (g.P.Ptr.index p, g.P.Ptr.era p)) (goal.F-step g)) _ _ _ c.in_ok-replies.ensures.items;
+      callable = c.requires.callable;
       count = grind (arith, common_steps);
       room = grind (arith, common_steps);
     }
@@ -20,8 +22,9 @@ loop-command-preserved g c =
     let items : c.push.new.self.items ≡ c.loop-command.replies.items ++ c.step-reply.result ∷ [] = grind (arith, common_steps) in
     record {
       cut = cut_more _ _ _ _ _ c.loop-command.invariant.cut c.in-Some.ensures.steps.0;
-      runs = rw items (RunsBetween-more _ _ _ _ _ _
-          (record { replies = c.step-reply.ensures.replies; lawful = c.step-reply.ensures.lawful; sound = c.step-reply.ensures.sound }) _ _ c.loop-command.invariant.runs);
+      callable = c.step-reply.ensures.callable;
+      runs = rw items (RunsBetween-more _ _ _ _ _ _ _ _ _ _
+          (record { does = c.step-reply.ensures.does; lawful = c.step-reply.ensures.lawful; sound = c.step-reply.ensures.sound }) _ _ c.loop-command.invariant.runs);
       count = grind (arith, common_steps);
       room = grind (arith, common_steps);
     }

@@ -1,5 +1,6 @@
 use Rattle.std.proofs.Common.{◌≡◌, ◌+◌, ◌≤◌, ◌++◌, length, vec_len, vec_capacity}
 use Rattle.std.specs.Vec.Iter.{into_iter_items, into_iter_len}
+use Rattle.triple_ord.specs.ClosureSearch.{Asks}
 use Rattle.ord_script.specs.Machine.{reading_by, RunsBetween}
 use Rattle.ord_script.proofs.running.run.Given as goal
 
@@ -7,8 +8,10 @@ use Rattle.ord_script.proofs.running.run.Given as goal
 abbrev pub invariant-loop-command : goal.invariant-loop-command
 invariant-loop-command g l = record {
   cut : l.yielded ++ into_iter_items l.command-iterator ≡ l.fn.commands.items;
+  callable : goal.F-IsAlwaysCallable g l.closure;
   runs : RunsBetween (reading_by g.T.SimpleOrdItem.key_of g.T.Key.Ord.cmp g.P.Inx.PtrInx.most g.P.Gen.PtrGen.greatest
-      g.P.Ptr.index g.P.Ptr.era g.P.Inx.PtrInx.number g.P.Gen.PtrGen.number) l.fn.arena l.yielded l.replies.items l.arena;
+      g.P.Ptr.index g.P.Ptr.era g.P.Inx.PtrInx.number g.P.Gen.PtrGen.number) (Asks (λ p. (g.P.Ptr.index p, g.P.Ptr.era p)) (goal.F-step g))
+      l.fn.arena l.fn.closure l.yielded l.replies.items l.arena l.closure;
   count : into_iter_len l.command-iterator ≡ length (into_iter_items l.command-iterator);
   room : vec_len l.replies + into_iter_len l.command-iterator ≤ vec_capacity l.replies;
 }

@@ -1,5 +1,7 @@
+use Rattle.std.proofs.Common.{rules}
 use Rattle.ord_script.proofs.Runs.{answered}
 use Rattle.ord_script.proofs.serving.replies_to.Goals as goal
 
 pub returns : goal.returns
-returns g c = answered c.args.commands.items c.new-arena.result c.run.new.arena c.new-arena.ensures c.run.result (λ replies. replies.items) c.run.ensures.run
+returns g c =
+    answered _ _ (λ f p pair o h call. search rules) c.args.commands.items c.new-arena.result _ c.run.new.arena _ c.new-arena.ensures c.run.result (λ replies. replies.items) c.run.ensures.run
