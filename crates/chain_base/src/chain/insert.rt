@@ -106,6 +106,6 @@ impl<P: Ptr, T: Drop, A: Allocator> ChainArena<P, T, A> {
         requires { IsOccupied self.now (P.Inx.number i) }
         ensures { option_map (λ e. e.1) (link_at self.now.entries (P.Inx.number i)) ≡ Some result.now }
     {
-        self.arena.get_inx(i).unwrap().1
+        self.arena.entry(i).1
     }
 }
