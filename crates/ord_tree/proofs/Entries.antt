@@ -3,6 +3,7 @@ use Rattle.std.proofs.Common.{◌≡◌, ◌≢◌, ℕ, Some, List, [], ◌∷�
 use Rattle.std.proofs.lemmas.Bool.{cases_eq, eq-eqb, ne_eqb}
 use Rattle.chain_base.specs.Chain.{Entry, Chain, entry_at, with_item, with_item_at}
 use Rattle.ord_tree.specs.declared.node.SimpleOrdArenaNode.{SimpleOrdArenaNode}
+use Rattle.ord_tree.specs.declared.links.Links.{Links}
 use Rattle.ord_tree.specs.Node.{bare_entry, bare, links_in, slots_of}
 
 module _ {T : Type 0} where
@@ -27,14 +28,19 @@ module _ {P T I G : Type 0} where
       (λ (other : a.index ≢ i). rw (ne_eqb a.index i other) (ap (λ ys. bare_entry a ∷ ys) (bare-with_item es i e x (rw (ne_eqb a.index i other) at h) t))) (cases_eq a.index i)
 
   -- the same of a whole chain
-  module _ (number : I → ℕ) (c : Chain (SimpleOrdArenaNode P T I G)) (i : ℕ) (e : ℕ × SimpleOrdArenaNode P T I G) (x : SimpleOrdArenaNode P T I G) (there : entry_at c.entries i ≡ Some e) where
-    pub slots_of-written : slots_of number (with_item_at c i x) i ≡ Some (links_in number x)
-    slots_of-written = ap (option_map (λ (e : ℕ × SimpleOrdArenaNode P T I G). links_in number e.1)) (entry_at-with_item_same c.entries i e x there)
+  module _ (c : Chain (SimpleOrdArenaNode P T I G)) (i : ℕ) (e : ℕ × SimpleOrdArenaNode P T I G) (x : SimpleOrdArenaNode P T I G) (there : entry_at c.entries i ≡ Some e) where
+    pub slots_of-written : slots_of (with_item_at c i x) i ≡ Some (links_in x)
+    slots_of-written = ap (option_map (λ (e : ℕ × SimpleOrdArenaNode P T I G). links_in e.1)) (entry_at-with_item_same c.entries i e x there)
 
-    pub slots_of-elsewhere : (j : ℕ) → j ≢ i → slots_of number (with_item_at c i x) j ≡ slots_of number c j
-    slots_of-elsewhere j ne = ap (option_map (λ (e : ℕ × SimpleOrdArenaNode P T I G). links_in number e.1)) (entry_at-with_item_other c.entries i j x ne)
+    pub slots_of-linked : (n : Links ℕ) → x.p_back ≡ n.back → x.p_tree0 ≡ n.lesser → x.p_tree1 ≡ n.greater → x.rank ≡ n.rank → slots_of (with_item_at c i x) i ≡ Some n
+    slots_of-linked n back lesser greater rank =
+        let same : links_in x ≡ n = rw (back, lesser, greater, rank) refl in
+        slots_of-written ∙ ap Some same
 
-    pub slots_of-occupied : (j : ℕ) → is_some (slots_of number (with_item_at c i x) j) ≡ is_some (slots_of number c j)
+    pub slots_of-elsewhere : (j : ℕ) → j ≢ i → slots_of (with_item_at c i x) j ≡ slots_of c j
+    slots_of-elsewhere j ne = ap (option_map (λ (e : ℕ × SimpleOrdArenaNode P T I G). links_in e.1)) (entry_at-with_item_other c.entries i j x ne)
+
+    pub slots_of-occupied : (j : ℕ) → is_some (slots_of (with_item_at c i x) j) ≡ is_some (slots_of c j)
     slots_of-occupied j =
         ⊎_elim (λ (same : j ≡ i). rw (same, slots_of-written, there) refl) (λ (other : j ≢ i). ap is_some (slots_of-elsewhere j other)) (cases_eq j i)
 

@@ -7,6 +7,7 @@ mod detach;
 pub mod laws;
 mod links;
 mod node;
+mod node_inx;
 mod nodes;
 mod raise;
 mod rotate;

@@ -61,7 +61,7 @@ module _ {P T I G : Type 0} where
   ]
 
   -- what the chain of nodes under a tree says of the tree's list
-  module _ (number : I → ℕ) (t : Tree T) (c : Chain (SimpleOrdArenaNode P T I G)) (under : IsChainOf number t c) where
+  module _ (number : I → ℕ) (t : Tree T) (c : Chain (SimpleOrdArenaNode P T I G)) (under : IsChainOf t c) where
     pub item_of-under : (i g : ℕ) → item_of t.list.entries i g ≡ option_map (λ n. n.t) (item_of c.entries i g)
     item_of-under i g =
         ap (λ (l : Chain T). item_of l.entries i g) (sym under.list) ∙ ap (item_if g) (entry_at-bare c.entries i) ∙ item_if-bare g (entry_at c.entries i)
@@ -139,14 +139,14 @@ entry-looked_up {X} {Y} c a lies f o i is =
     let bare_of : ℕ × Link Y → ℕ × Y = λ e. (e.0, e.1.item) in
     option_map-twice f bare_of o ∙ ap (option_map bare_of) (is ∙ lies.slots i) ∙ sym (entry_at-link None None c.entries i)
 
-module _ {P T I G : Type 0} (number : I → ℕ) (t : Tree T) (c : Chain (SimpleOrdArenaNode P T I G)) (under : IsChainOf number t c) (sound : IsSoundTree t) (a : Arena (Link (SimpleOrdArenaNode P T I G))) (lies : IsArenaOf c a) where
+module _ {P T I G : Type 0} (number : I → ℕ) (t : Tree T) (c : Chain (SimpleOrdArenaNode P T I G)) (under : IsChainOf t c) (sound : IsSoundTree t) (a : Arena (Link (SimpleOrdArenaNode P T I G))) (lies : IsArenaOf c a) where
   -- the place in the tree of the node that the arena shows at i
   node-shown : (i : ℕ) (e : ℕ × Link (SimpleOrdArenaNode P T I G)) → slot a i ≡ Some e → IsNodeIn t.shape i (option_map number e.1.item.p_back) (option_map number e.1.item.p_tree0) (option_map number e.1.item.p_tree1) e.1.item.rank
   node-shown i e is =
       let entry : entry_at c.entries i ≡ Some (e.0, e.1.item) = entry_at-link None None c.entries i ∙ rw (← lies.slots i, is) refl in
       let listed : indexes c.entries ≡ walk t.shape = indexes-bare c.entries ∙ ap (λ (l : Chain T). indexes l.entries) under.list ∙ sym sound.listed in
       let there : Among i (walk t.shape) = subst (λ (js : List ℕ). Among i js) listed (among-entries c.entries i (e.0, e.1.item) entry) in
-      let found = node-under (slots_of number c) None (root_of t.shape) t.shape i (links_in number e.1.item) under.held (rw entry refl) there in
+      let found = node-under (slots_of c) None (root_of t.shape) t.shape i (links_in e.1.item) under.held (rw entry refl) there in
       record { lesser_side = found.lesser_side; greater_side = found.greater_side; part = found.part; has_parent = found.has_parent; lesser_root = found.lesser_root; greater_root = found.greater_root }
     where
       indexes-bare : (es : List (Entry (SimpleOrdArenaNode P T I G))) → indexes es ≡ indexes (map bare_entry es)

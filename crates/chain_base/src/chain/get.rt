@@ -50,6 +50,14 @@ impl<P: Ptr, T, A: Allocator> ChainArena<P, T, A> {
         (pair.0, &link.t)
     }
 
+    /// Item and neighbours of the entry at an index that has one.
+    pub fn link(&self, i: P::Inx) -> &LinkNoGen<P, T>
+        requires { IsOccupied self.now (P.Inx.number i) }
+        ensures { option_map (λ e. e.1) (link_at self.now.entries (P.Inx.number i)) ≡ Some result.now }
+    {
+        self.arena.entry(i).1
+    }
+
     /// Generation, item and neighbours of the entry at the index.
     pub fn get_inx_link_no_gen(&self, i: P::Inx) -> Option<(P::Gen, LinkNoGen<P, &T>)>
         ensures { option_map (λ e. (P.Gen.number e.0, (record { item = e.1.item.now; prev = e.1.prev; next = e.1.next }))) result ≡ link_at self.now.entries (P.Inx.number i) }

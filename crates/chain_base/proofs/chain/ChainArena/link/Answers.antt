@@ -1,7 +1,7 @@
 use Rattle.std.proofs.Common.{ap, ◌∙◌}
 use Rattle.std.specs.Option.{option_map}
 use Rattle.chain_base.proofs.Ends.{occupied-laid_out, link_at-laid_out}
-use Rattle.chain_base.proofs.chain.ChainArena.link_at.Goals as goal
+use Rattle.chain_base.proofs.chain.ChainArena.link.Goals as goal
 
 pub entry-requires : goal.entry-requires
 entry-requires g c =
