@@ -2,6 +2,7 @@
 
 ghost use Rattle.std.specs.Prelude.{◌≡◌, None, option_map};
 
+use crate::links::Side;
 use crate::node_inx::{NodeInx, kept};
 use arena_base::{OptInx, Ptr};
 
@@ -24,6 +25,9 @@ pub struct SimpleOrdArenaNode<P: Ptr, T> {
 }
 
 impl<P: Ptr, T> SimpleOrdArenaNode<P, T> {
+    ghost use Rattle.ord_tree.specs.Links.{with_child_at};
+    ghost use Rattle.ord_tree.specs.Node.{links_in};
+
     /// A node without children.
     pub(crate) fn leaf(p_back: Option<NodeInx<P::Inx>>, t: T) -> Self
         ensures { result ≡ record { p_tree0 = None; p_tree1 = None; t = t; p_back = option_map P.Inx.number p_back; rank = 1 } }
@@ -34,6 +38,17 @@ impl<P: Ptr, T> SimpleOrdArenaNode<P, T> {
             t,
             p_back: kept(p_back),
             rank: 1,
+        }
+    }
+
+    /// Keeps another root of a side from now on.
+    pub(crate) fn set_child(&mut self, side: Side, child: Option<NodeInx<P::Inx>>)
+        ensures links { links_in self.new ≡ with_child_at side (option_map P.Inx.number child) (links_in self.old) }
+        ensures item { self.new.t ≡ self.old.t }
+    {
+        match side {
+            Side::Lesser => self.p_tree0 = kept(child),
+            Side::Greater => self.p_tree1 = kept(child),
         }
     }
 }

@@ -35,6 +35,16 @@ pub trait Nodes {
         requires { IsSome (at self.now (number i)) }
         ensures { at self.now (number i) ≡ Some (numbered number result) };
 
+    /// The rank of a node.
+    fn rank(&self, i: Self::Inx) -> u8
+        requires { IsSome (at self.now (number i)) }
+        ensures { option_map (λ n. n.rank) (at self.now (number i)) ≡ Some result };
+
+    /// The parent of a node.
+    fn back(&self, i: Self::Inx) -> Option<Self::Inx>
+        requires { IsSome (at self.now (number i)) }
+        ensures { back_at (at self.now) (number i) ≡ Some (option_map number result) };
+
     /// Writes the links of a node.
     fn set_links(&mut self, i: Self::Inx, links: Links<Self::Inx>)
         requires { IsSome (at self.old (number i)) }
@@ -42,45 +52,57 @@ pub trait Nodes {
         ensures elsewhere { (j : ℕ) → j ≢ number i → at self.new j ≡ at self.old j }
         ensures occupied { (j : ℕ) → is_some (at self.new j) ≡ is_some (at self.old j) }
         ensures kept { list self.new ≡ list self.old };
+
+    /// Writes the parent of a node.
+    fn set_back(&mut self, i: Self::Inx, back: Option<Self::Inx>)
+        requires { IsSome (at self.old (number i)) }
+        ensures here { (n : LinksOf ℕ) → at self.old (number i) ≡ Some n
+            → at self.new (number i) ≡ Some (record n { back = option_map number back }) }
+        ensures elsewhere { (j : ℕ) → j ≢ number i → at self.new j ≡ at self.old j }
+        ensures occupied { (j : ℕ) → is_some (at self.new j) ≡ is_some (at self.old j) }
+        ensures kept { list self.new ≡ list self.old };
+
+    /// Writes the root of a side of a node.
+    fn set_child(&mut self, i: Self::Inx, side: Side, child: Option<Self::Inx>)
+        requires { IsSome (at self.old (number i)) }
+        ensures here { (n : LinksOf ℕ) → at self.old (number i) ≡ Some n
+            → at self.new (number i) ≡ Some (with_child_at side (option_map number child) n) }
+        ensures elsewhere { (j : ℕ) → j ≢ number i → at self.new j ≡ at self.old j }
+        ensures occupied { (j : ℕ) → is_some (at self.new j) ≡ is_some (at self.old j) }
+        ensures kept { list self.new ≡ list self.old };
+
+    /// Writes the rank of a node.
+    fn set_rank(&mut self, i: Self::Inx, rank: u8)
+        requires { IsSome (at self.old (number i)) }
+        ensures here { (n : LinksOf ℕ) → at self.old (number i) ≡ Some n
+            → at self.new (number i) ≡ Some (record n { rank = rank }) }
+        ensures elsewhere { (j : ℕ) → j ≢ number i → at self.new j ≡ at self.old j }
+        ensures occupied { (j : ℕ) → is_some (at self.new j) ≡ is_some (at self.old j) }
+        ensures kept { list self.new ≡ list self.old };
 }
 
-/// Writes the parent of a node.
-pub fn set_back<N: Nodes>(nodes: &mut N, i: N::Inx, back: Option<N::Inx>)
+/// Writes the root of a side of a node, its parent and its rank.
+pub fn place<N: Nodes>(
+    nodes: &mut N,
+    i: N::Inx,
+    side: Side,
+    child: Option<N::Inx>,
+    back: Option<N::Inx>,
+    rank: u8,
+)
     requires { IsSome (N.at nodes.old (N.number i)) }
     ensures here { (n : LinksOf ℕ) → N.at nodes.old (N.number i) ≡ Some n
-        → N.at nodes.new (N.number i) ≡ Some (record n { back = option_map N.number back }) }
+        → N.at nodes.new (N.number i) ≡ Some (record (with_child_at side (option_map N.number child) n) {
+          back = option_map N.number back;
+          rank = rank;
+        }) }
     ensures elsewhere { (j : ℕ) → j ≢ N.number i → N.at nodes.new j ≡ N.at nodes.old j }
     ensures occupied { (j : ℕ) → is_some (N.at nodes.new j) ≡ is_some (N.at nodes.old j) }
     ensures kept { N.list nodes.new ≡ N.list nodes.old }
 {
-    let links = nodes.links(i);
-    nodes.set_links(i, Links { back, ..links });
-}
-
-/// Writes the root of a side of a node.
-pub fn set_child<N: Nodes>(nodes: &mut N, i: N::Inx, side: Side, child: Option<N::Inx>)
-    requires { IsSome (N.at nodes.old (N.number i)) }
-    ensures here { (n : LinksOf ℕ) → N.at nodes.old (N.number i) ≡ Some n
-        → N.at nodes.new (N.number i) ≡ Some (with_child_at side (option_map N.number child) n) }
-    ensures elsewhere { (j : ℕ) → j ≢ N.number i → N.at nodes.new j ≡ N.at nodes.old j }
-    ensures occupied { (j : ℕ) → is_some (N.at nodes.new j) ≡ is_some (N.at nodes.old j) }
-    ensures kept { N.list nodes.new ≡ N.list nodes.old }
-{
-    let links = nodes.links(i);
-    nodes.set_links(i, links.with_child(side, child));
-}
-
-/// Writes the rank of a node.
-pub fn set_rank<N: Nodes>(nodes: &mut N, i: N::Inx, rank: u8)
-    requires { IsSome (N.at nodes.old (N.number i)) }
-    ensures here { (n : LinksOf ℕ) → N.at nodes.old (N.number i) ≡ Some n
-        → N.at nodes.new (N.number i) ≡ Some (record n { rank = rank }) }
-    ensures elsewhere { (j : ℕ) → j ≢ N.number i → N.at nodes.new j ≡ N.at nodes.old j }
-    ensures occupied { (j : ℕ) → is_some (N.at nodes.new j) ≡ is_some (N.at nodes.old j) }
-    ensures kept { N.list nodes.new ≡ N.list nodes.old }
-{
-    let links = nodes.links(i);
-    nodes.set_links(i, Links { rank, ..links });
+    nodes.set_child(i, side, child);
+    nodes.set_back(i, back);
+    nodes.set_rank(i, rank);
 }
 
 /// The side of its parent on which a child hangs.
@@ -102,7 +124,7 @@ pub fn rank_of<N: Nodes>(nodes: &N, link: Option<N::Inx>) -> u8
 {
     match link {
         None => 0,
-        Some(i) => nodes.links(i).rank,
+        Some(i) => nodes.rank(i),
     }
 }
 
@@ -116,7 +138,7 @@ pub fn hang<N: Nodes>(nodes: &mut N, link: Option<N::Inx>, back: Option<N::Inx>)
     ensures kept { N.list nodes.new ≡ N.list nodes.old }
 {
     if let Some(i) = link {
-        set_back(nodes, i, back);
+        nodes.set_back(i, back);
     }
 }
 
@@ -146,7 +168,7 @@ pub fn replace_child<N: Nodes>(
         Some(p) => {
             let links = nodes.links(p);
             let side = side_of::<N>(&links, child);
-            nodes.set_links(p, links.with_child(side, instead));
+            nodes.set_child(p, side, instead);
         }
     }
 }
@@ -162,7 +184,7 @@ pub fn place_of<N: Nodes>(nodes: &N, i: N::Inx) -> Option<Place<N::Inx>>
         → child_at side p ≡ Some (N.number i) → child_at (other_side side) p ≢ Some (N.number i)
         → place.side ≡ side) }
 {
-    let parent = nodes.links(i).back?;
+    let parent = nodes.back(i)?;
     let links = nodes.links(parent);
     let side = side_of::<N>(&links, i);
     Some(Place { parent, side })

@@ -13,8 +13,11 @@ neighbour-before-requires g c = let held = rw (← c.self.view_is) at c.requires
 pub detach-requires : goal.detach-requires
 detach-requires g c =
     let held = rw (← c.self.view_is) at c.requires in
-    rw c.node_at-z.ensures (_, detachable c.self.inside.chain (option_map g.P.Inx.PtrInx.number c.self.inside.root) _ c.self.invariant (sym (is_some-bare c.self.inside.chain.entries _) ∙ held)
-    g.P.Inx.PtrInx.most g.P.Gen.PtrGen.greatest c.len.ensures.sound g.met.P.Inx.PtrInx.fits _ (rw c.node_at-z.ensures at c.neighbour-before.ensures))
+    rw c.node_at-z.ensures (
+      _,
+      detachable c.self.inside.chain (option_map g.P.Inx.PtrInx.number c.self.inside.root) _ c.self.invariant (sym (is_some-bare c.self.inside.chain.entries _) ∙ held)
+          g.P.Inx.PtrInx.most g.P.Gen.PtrGen.greatest c.len.ensures.sound g.met.P.Inx.PtrInx.fits _ (rw c.node_at-z.ensures at c.neighbour-before.ensures),
+    )
 
 pub remove_entry-requires : goal.remove_entry-requires
 remove_entry-requires g c =
