@@ -1,5 +1,5 @@
 -- A list of entries from its end: each entry's neighbours change places. So a walk back along a list is one along the list from its end.
-use Rattle.std.proofs.Common.{◌≡◌, ℕ, ◌+◌, ◌≤◌, Bool, true, false, List, [], ◌∷◌, ◌++◌, map, reverse, Option, Some, None, refl, sym, ap, subst, ◌∙◌, arith, inl, inr}
+use Rattle.std.proofs.Common.{◌≡◌, ℕ, ◌+◌, ◌≤◌, Bool, true, false, List, [], ◌∷◌, ◌++◌, map, reverse, Option, Some, None, IsSome, refl, sym, ap, subst, ◌∙◌, arith, inl, inr}
 use Rattle.std.proofs.lemmas.List.{reverse-append}
 use Rattle.std.proofs.lemmas.Bool.Decides.{eqb_tells}
 use Rattle.std.specs.Option.{option_map, option_or, option_and_then}
@@ -8,9 +8,11 @@ use Rattle.chain_base.specs.Chain.{Entry, times, IsDistinct, first_or, last_or, 
 use Rattle.chain_base.proofs.CallerLemmas.{option_or-none, last_or-append, link_between-append, link_between-absent, times-append}
 use Rattle.ord_tree.specs.Tree.{Tree}
 use Rattle.triple_ord.specs.Search.{pointer}
+use Rattle.triple_ord.specs.Arena.{item_of}
 use Rattle.triple_ord.specs.Walk.{entries_from}
 use Rattle.triple_ord.specs.OrderedWalk.{ordered_rest, GivesEntry}
 use Rattle.triple_ord.proofs.Walking.{walk-step, walk-end}
+use Rattle.triple_ord.proofs.Bare.{entry_at-link}
 
 module _ {T : Type 0} where
   -- an entry in the list from its end
@@ -52,20 +54,25 @@ module _ {T : Type 0} where
 
     -- a step of a walk, in either direction
     module _ (g : ℕ) (l : Link T) (found : ◌≡◌ {A = Option (ℕ × Link T)} (Some (g, l)) (link_at a.list.entries i)) where
+      there : IsSome (item_of a (i, g))
+      there = rw (entry_at-link None None a.list.entries i, ← found) (elim (eqb_tells g g) [ inl h ↦ rw h.0 refl | inr h ↦ absurd (h.1 refl) ])
+
       pub gives-rising : GivesEntry (record { at = Some i; falling = false }) (record { at = l.next; falling = false }) a i g
       gives-rising =
           record {
             stood = refl;
+            there = there;
             first = ap (map pointer) (walk-step a.list.entries i g l distinct found);
             stands = ap (λ o. record { at = o; falling = false }) (ap (option_and_then (λ (e : ℕ × Link T). e.1.next)) found);
           }
 
       pub gives-falling : GivesEntry (record { at = Some i; falling = true }) (record { at = l.prev; falling = true }) a i g
       gives-falling =
-          let there : Some (turned (g, l)) ≡ link_at (reverse a.list.entries) i = sym (link-turned ∙ ap (option_map turned) (sym found)) in
+          let turned_found : Some (turned (g, l)) ≡ link_at (reverse a.list.entries) i = sym (link-turned ∙ ap (option_map turned) (sym found)) in
           record {
             stood = refl;
-            first = ap (map pointer) (walk-step (reverse a.list.entries) i g (turned (g, l)).1 distinct-reverse there);
+            there = there;
+            first = ap (map pointer) (walk-step (reverse a.list.entries) i g (turned (g, l)).1 distinct-reverse turned_found);
             stands = ap (λ o. record { at = o; falling = true }) (ap (option_and_then (λ (e : ℕ × Link T). e.1.prev)) found);
           }
 

@@ -1,10 +1,11 @@
 -- A walk along the list of an arena that borrows nothing: it stands at the index of the entry that it gives next, or at none.
-use Rattle.std.specs.Prelude.{◌≡◌, ℕ, Bool, Option, Some, None, List, [], ◌∷◌, if◌then◌else◌, map, reverse, MatchOption}
+use Rattle.std.specs.Prelude.{◌≡◌, ℕ, Bool, Option, Some, None, List, [], ◌∷◌, if◌then◌else◌, map, reverse, MatchOption, IsSome}
 use Rattle.std.specs.Option.{option_and_then}
 use Rattle.chain_base.specs.Chain.{Entry, link_at}
 use Rattle.ord_tree.specs.Tree.{Tree}
 use Rattle.triple_ord.specs.Search.{pointer}
 use Rattle.triple_ord.specs.Walk.{entries_from}
+use Rattle.triple_ord.specs.Arena.{item_of}
 
 -- where a walk stands, and whether it goes back along the list
 pub record OrderedWalk : Type 0 where
@@ -21,9 +22,10 @@ module _ {T : Type 0} where
   neighbour_at a falling i = option_and_then (λ e. if falling then e.1.prev else e.1.next) (link_at a.list.entries i)
 
   -- a step over the arena as it is now took a walk from `old` to `new`, and gave the entry that it stood at, with index i and
-  -- generation g. It stands at that entry's neighbour, or at none.
+  -- generation g, which is there. It stands at that entry's neighbour, or at none.
   pub record GivesEntry (old new : OrderedWalk) (a : Tree T) (i g : ℕ) : Type 0 where
     pub stood : old.at ≡ Some i
+    pub there : IsSome (item_of a (i, g))
     pub first : ordered_rest old a ≡ (i, g) ∷ ordered_rest new a
     pub stands : new ≡ record old { at = neighbour_at a old.falling i }
 
