@@ -25,3 +25,5 @@ pub mod Grown
 pub mod Shrunk
 pub mod Renewed
 pub mod Displacing
+pub mod Rebuilding
+pub mod Rebuilt

@@ -1,4 +1,6 @@
 // Trees of small keys, kept in order by hand, seen through the chain's nodes.
+mod rebuild;
+
 use crate::{OrdTree, SimpleOrdArenaNode};
 use arena_base::{
     Advancer, InsertionError, InvalidationOption, InvalidationResult, P0, P8, PN, Ptr,

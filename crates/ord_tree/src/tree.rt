@@ -10,6 +10,7 @@ ghost use Rattle.ord_tree.specs.Tree.{IsChainOf, IsSoundTree};
 
 mod growth;
 mod insert;
+mod rebuild;
 mod remove;
 mod write;
 

@@ -26,7 +26,7 @@ option_map-twice f g None = refl
 option_map-twice f g (Some x) = refl
 
 -- the entry of an index is its link, without the neighbours
-entry_at-link : {X : Type 0} (before after : Option ℕ) (es : List (Entry X)) (i : ℕ) → entry_at es i ≡ option_map (λ e. (e.0, e.1.item)) (link_between before after es i)
+pub entry_at-link : {X : Type 0} (before after : Option ℕ) (es : List (Entry X)) (i : ℕ) → entry_at es i ≡ option_map (λ e. (e.0, e.1.item)) (link_between before after es i)
 entry_at-link before after [] i = refl
 entry_at-link before after (e ∷ es) i =
     elim (eqb_tells e.index i) [ inl h ↦ rw h.0 refl | inr h ↦ rw h.0 (entry_at-link (Some e.index) after es i) ]
