@@ -7,8 +7,8 @@ returns-then-falling g c =
     rw (c.if-falling.true, c._from_raw-p.ensures.index, c._from_raw-p.ensures.era, c.prev.ensures.value)
     (gives-falling c.args.self.now (g.P.Inx.PtrInx.number c.args.i) c.len.ensures.sound.distinct _ _ c.in_ok-entry.ensures)
 
-pub returns-else-falling : goal.returns-else-falling
-returns-else-falling g c =
+pub returns : goal.returns
+returns g c =
     rw (c.if-falling.false, c._from_raw-p.ensures.index, c._from_raw-p.ensures.era, c.next.ensures.value)
     (gives-rising c.args.self.now (g.P.Inx.PtrInx.number c.args.i) c.len.ensures.sound.distinct _ _ c.in_ok-entry.ensures)
 
