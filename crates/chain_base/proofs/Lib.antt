@@ -2,6 +2,7 @@ pub mod Lists
 pub mod LaidOut
 pub mod Vacancy
 pub mod Sound
+pub mod Naming
 pub mod Steps
 pub mod Ends
 pub mod Places
