@@ -132,6 +132,51 @@ module _ {P T G F : Type 0} (index era : P → ℕ) (number : G → ℕ) (step :
         after = b.shape ∙ (ap (λ rest. filled b.items ++ (replicate b.gap Vacant ++ rest)) none ∙ (ap (λ xs. filled b.items ++ xs) (append-nil (replicate b.gap Vacant)) ∙ ap (λ n. filled b.items ++ replicate n Vacant) gap));
       }
 
+-- Calls of one kind are calls of another: `state` and `item` give the other's states and items.
+module _ {P X T M F : Type 0} (index era : P → ℕ) (below : M → P → X → P → X → M → Type 0) (above : F → P → T → P → T → F → Type 0) (g : ℕ) (state : M → F) (item : X → T)
+    (like : (m : M) (p : P) (x : X) (q : P) (y : X) (n : M) → below m p x q y n → above (state m) p (item x) q (item y) (state n)) where
+  -- an entry with the other's item
+  abbrev pub retold : ℕ × ℕ × X → ℕ × ℕ × T
+  retold e = (e.0, e.1, item e.2)
+
+  pub calls-retold : (es : List (ℕ × ℕ × X)) (m n : M) (xs ys : List X) → FoldsTo {P = M × List X} (CompressionStep index era below g) (m, xs) es (n, ys)
+      → FoldsTo {P = F × List T} (CompressionStep index era above g) (state m, map item xs) (map retold es) (state n, map item ys)
+  calls-retold [] m n xs ys same = ap (λ (s : M × List X). (state s.0, map item s.1)) same
+  calls-retold (e ∷ es) m n xs ys calls =
+      let s = calls.1 in (
+        (state calls.0.0, map item calls.0.1),
+        record {
+          from = s.from;
+          to = s.to;
+          item = item s.item;
+          from_index = s.from_index;
+          from_era = s.from_era;
+          to_index = s.to_index ∙ ap (λ n. n + 1) (sym (length-map xs item));
+          to_era = s.to_era;
+          called = like m s.from e.2 s.to s.item calls.0.0 s.called;
+          behind = ap (map item) s.behind ∙ map_push item xs s.item;
+        },
+        calls-retold es calls.0.0 n calls.0.1 ys calls.2,
+      )
+
+map-itself : {X : Type 0} (f : X → X) → ((x : X) → f x ≡ x) → (xs : List X) → map f xs ≡ xs
+map-itself f itself [] = refl
+map-itself f itself (x ∷ xs) = rw (itself x, map-itself f itself xs) refl
+
+-- the same items, in other states
+pub compression-retold : {P T M F : Type 0} (index era : P → ℕ) (below : M → P → T → P → T → M → Type 0) (above : F → P → T → P → T → F → Type 0) (g : ℕ) (state : M → F)
+    → ((m : M) (p : P) (x : T) (q : P) (y : T) (n : M) → below m p x q y n → above (state m) p x q y (state n))
+    → (m : M) (old new : Arena T) → IsCompression index era below g m old new → IsCompression index era above g (state m) old new
+compression-retold {P} {T} index era below above g state like m old new c =
+    let es = entries_rising old 0 in
+    let calls = calls-retold index era below above g state (λ x. x) like es m c.last [] c.items c.calls in
+    record {
+      items = c.items;
+      last = state c.last;
+      calls = rw (map-itself (λ (e : ℕ × ℕ × T). (e.0, e.1, e.2)) (λ e. refl) es, map-itself (λ (x : T). x) (λ x. refl) c.items) at calls;
+      after = c.after;
+    }
+
 module _ {P T F : Type 0} (index era : P → ℕ) (step : F → P → T → P → T → F → Type 0) (g : ℕ) where
   -- what is made where each answer is the item that was shown
   pub compressed-same : ((f : F) (p : P) (item : T) (q : P) (new : T) (f' : F) → step f p item q new f' → new ≡ item)

@@ -1,7 +1,10 @@
 -- How each entry of a chain learns the new indexes of its neighbours, from these. No public clause cites this file.
-use Rattle.std.specs.Prelude.{◌≡◌, ◌≢◌, ℕ, ◌+◌, List, Option, Some, None, IsSome, is_some, count_by, take, length}
+use Rattle.std.specs.Prelude.{◌≡◌, ◌≢◌, ℕ, ◌+◌, List, [], map, Option, Some, None, IsSome, is_some, count_by, take, length}
 use Rattle.std.specs.Option.{option_map, option_and_then}
-use Rattle.arena_base.specs.Arena.{Arena, slot, arena_len}
+use Rattle.std.specs.List.{FoldsTo}
+use Rattle.arena_base.specs.Arena.{Arena, HoldsSame, slot}
+use Rattle.arena_base.specs.Compression.{CompressionStep, compressed}
+use Rattle.arena_base.specs.Walk.{entries_rising}
 use Rattle.chain_base.specs.Link.{Link}
 use Rattle.chain_base.specs.Layout.{with_next, with_prev, linked_next, linked_prev}
 use Rattle.chain_base.specs.declared.chain.compress.Side.{Side}
@@ -46,3 +49,24 @@ module _ {T : Type 0} where
     pub no_end : ((i : ℕ) → IsSome (slot old i) → named side old i ≢ None) → end ≡ None
     pub kept : new ≡ record old { slots = new.slots }
     pub within : length new.slots ≡ length old.slots
+
+-- the call made a new item, and the link keeps its neighbours
+pub record MapsItem {P T M : Type 0} (step : M → P → T → P → T → M → Type 0) (m : M) (old : P) (link : Link T) (new : P) (answer : Link T) (n : M) : Type 0 where
+  pub called : step m old link.item new answer.item n
+  pub before : answer.prev ≡ link.prev
+  pub behind : answer.next ≡ link.next
+
+-- P reads pointers as index and generation; `step` is what making a new item may do; g is the new generation
+module _ {P T M : Type 0} (index era : P → ℕ) (step : M → P → T → P → T → M → Type 0) (g : ℕ) where
+  -- an entry without its neighbours
+  abbrev pub bare : ℕ × ℕ × Link T → ℕ × ℕ × T
+  bare e = (e.0, e.1, e.2.item)
+
+  -- the arena was compressed, with new items; the links keep their neighbours
+  pub record CompressesItems (m : M) (old new : Arena (Link T)) : Type 0 where
+    pub links : List (Link T)
+    pub last : M
+    pub calls : FoldsTo (CompressionStep index era step g) (m, []) (map bare (entries_rising old 0)) (last, map (λ l. l.item) links)
+    pub before : map (λ l. l.prev) links ≡ map (λ e. e.2.prev) (entries_rising old 0)
+    pub behind : map (λ l. l.next) links ≡ map (λ e. e.2.next) (entries_rising old 0)
+    pub after : HoldsSame new (compressed old g links)

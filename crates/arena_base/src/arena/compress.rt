@@ -9,6 +9,7 @@ use super::Arena;
 use super::get::pointer;
 use super::growth::list_vacant;
 use crate::invalidation::InvalidationOption;
+use crate::map_entry::{Calls, MapEntry};
 use crate::ptr::{Ptr, PtrGen, PtrInx};
 use crate::slot::Slot;
 use std::alloc::Allocator;
@@ -31,8 +32,23 @@ impl<P: Ptr, T, A: Allocator> Arena<P, T, A> {
         ensures fresh { IsFresh self.new }
         ensures overflow { is_overflow result ≡ compression_overflows P.Gen.greatest reset self.old.generation }
     {
+        self.compress_by(reset, Calls { f })
+    }
+
+    /// Moves all entries to the indexes from 1 on as `compress_with` does, where `map` has the place of the closure.
+    pub fn compress_by<M: MapEntry<P, T> + Drop>(
+        &mut self,
+        reset: bool,
+        map: M,
+    ) -> InvalidationOption<()>
+        requires { M.callable map }
+        ensures after { IsCompression P.index P.era M.step
+            (compressed_generation P.Gen.greatest reset self.old.generation) map self.old self.new }
+        ensures fresh { IsFresh self.new }
+        ensures overflow { is_overflow result ≡ compression_overflows P.Gen.greatest reset self.old.generation }
+    {
         let overflow = self.restart(reset);
-        move_down::<P, T, A, F>(&mut self.slots, self.generation, f);
+        move_down::<P, T, A, M>(&mut self.slots, self.generation, map);
         list_vacant(self.slots.as_slice(), &mut self.vacant);
         overflow
     }
@@ -62,14 +78,14 @@ impl<P: Ptr, T, A: Allocator> Arena<P, T, A> {
 }
 
 // Moves the entries of all slots to the first ones, with this generation.
-fn move_down<P: Ptr, T, A: Allocator, F: FnMut(P, T, P) -> T + Drop>(
+fn move_down<P: Ptr, T, A: Allocator, M: MapEntry<P, T> + Drop>(
     slots: &mut Vec<Slot<T, P::Gen>, A>,
     generation: P::Gen,
-    mut f: F,
+    mut map: M,
 )
-    requires callable { F.IsAlwaysCallable f }
+    requires callable { M.callable map }
     requires named { vec_len slots.old ≤ P.Inx.most }
-    ensures items { CompressesSlots P.index P.era P.Gen.number F.step generation f slots.old.items slots.new.items }
+    ensures items { CompressesSlots P.index P.era P.Gen.number M.step generation map slots.old.items slots.new.items }
     ensures capacity { vec_capacity slots.new ≡ vec_capacity slots.old }
     ensures len { vec_len slots.new ≡ vec_len slots.old }
 {
@@ -77,7 +93,7 @@ fn move_down<P: Ptr, T, A: Allocator, F: FnMut(P, T, P) -> T + Drop>(
     for from in 0..slots.len() {
         let slot = &mut slots[from];
         if let Some(entry) = slot.vacate() {
-            let answer = f(pointer(from, entry.0), entry.1, pointer(to, generation));
+            let answer = map.map_entry(pointer(from, entry.0), entry.1, pointer(to, generation));
             let slot = &mut slots[to];
             slot.fill(answer, generation);
             to += 1;

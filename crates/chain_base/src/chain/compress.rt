@@ -1,17 +1,17 @@
 //! Moving all entries to the least indexes.
 ghost use Rattle.std.specs.Prelude.{◌≡◌};
 ghost use Rattle.std.specs.Option.{option_map, ForSome};
-ghost use Rattle.arena_base.specs.Arena.{IsOccupied};
+ghost use Rattle.arena_base.specs.Arena.{IsFresh, IsOccupied};
 ghost use Rattle.arena_base.specs.Compression.{compressed_generation, compression_overflows};
 ghost use Rattle.arena_base.specs.Invalidation.{is_overflow};
 ghost use Rattle.chain_base.specs.Compression.{IsCompression};
 ghost use Rattle.chain_base.specs.Link.{neighbour_of};
-ghost use Rattle.chain_base.specs.Naming.{neighbour_on, linked_facing, IsPaired, NamesPlaces};
+ghost use Rattle.chain_base.specs.Naming.{CompressesItems, neighbour_on, linked_facing, IsPaired, NamesPlaces};
 
 use super::ChainArena;
 use super::links::{set_next, set_prev};
 use crate::link::LinkNoGen;
-use arena_base::{Arena, InvalidationOption, Ptr, PtrInx};
+use arena_base::{Arena, Calls, InvalidationOption, MapEntry, Ptr, PtrInx};
 use std::alloc::Allocator;
 
 impl<P: Ptr, T, A: Allocator> ChainArena<P, T, A> {
@@ -25,22 +25,67 @@ impl<P: Ptr, T, A: Allocator> ChainArena<P, T, A> {
     pub fn compress_with<F: FnMut(P, T, P) -> T + Drop>(
         &mut self,
         reset: bool,
-        mut f: F,
+        f: F,
     ) -> InvalidationOption<()>
         requires { F.IsAlwaysCallable f }
         ensures after { IsCompression P.index P.era F.step
             (compressed_generation P.Gen.greatest reset self.old.generation) f self.old self.new }
         ensures overflow { is_overflow result ≡ compression_overflows P.Gen.greatest reset self.old.generation }
     {
+        self.compress_by(reset, Calls { f })
+    }
+
+    /// Moves all entries to the indexes from 1 on as `compress_with` does, where `map` has the place of the closure.
+    pub fn compress_by<M: MapEntry<P, T> + Drop>(
+        &mut self,
+        reset: bool,
+        map: M,
+    ) -> InvalidationOption<()>
+        requires { M.callable map }
+        ensures after { IsCompression P.index P.era M.step
+            (compressed_generation P.Gen.greatest reset self.old.generation) map self.old self.new }
+        ensures overflow { is_overflow result ≡ compression_overflows P.Gen.greatest reset self.old.generation }
+    {
         let first = name_places(&mut self.arena, Side::Before);
-        let overflow = self
-            .arena
-            .compress_with(reset, move |old, link: LinkNoGen<P, T>, new| {
-                LinkNoGen::new(link.prev_next(), f(old, link.t, new))
-            });
+        let overflow = compress_items(&mut self.arena, reset, map);
         self.last = name_places(&mut self.arena, Side::After);
         self.first = first;
         overflow
+    }
+}
+
+// Compresses the arena under a chain. The links keep the names of neighbours that they have.
+fn compress_items<P: Ptr, T, A: Allocator, M: MapEntry<P, T> + Drop>(
+    arena: &mut Arena<P, LinkNoGen<P, T>, A>,
+    reset: bool,
+    map: M,
+) -> InvalidationOption<()>
+    requires { M.callable map }
+    ensures after { CompressesItems P.index P.era M.step
+        (compressed_generation P.Gen.greatest reset arena.old.generation) map arena.old arena.new }
+    ensures fresh { IsFresh arena.new }
+    ensures overflow { is_overflow result ≡ compression_overflows P.Gen.greatest reset arena.old.generation }
+{
+    arena.compress_by(reset, MapItem { map })
+}
+
+/// Makes a new item within a link, which keeps its neighbours.
+#[doc(hidden)]
+#[derive(Drop)]
+pub struct MapItem<M> {
+    map: M,
+}
+
+impl<P: Ptr, T, M: MapEntry<P, T>> MapEntry<P, LinkNoGen<P, T>> for MapItem<M> {
+    ghost use Rattle.chain_base.specs.Naming.{MapsItem};
+
+    ghost callable = { λ m. M.callable m.map };
+
+    ghost step = { λ m old link new answer n. MapsItem M.step m.map old link new answer n.map };
+
+    fn map_entry(&mut self, old: P, link: LinkNoGen<P, T>, new: P) -> LinkNoGen<P, T> {
+        let neighbours = link.prev_next();
+        LinkNoGen::new(neighbours, self.map.map_entry(old, link.t, new))
     }
 }
 
