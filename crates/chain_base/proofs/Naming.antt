@@ -46,6 +46,7 @@ module _ {T : Type 0} where
       vacant : (slots : List (Option (ℕ × Link T))) → take 1 slots ≡ None ∷ [] → get_or slots 0 None ≡ None
       vacant [] begins = refl
       vacant (x ∷ xs) begins = cc
+
       unheld : (o : Option (ℕ × Link T)) → o ≡ None → IsSome o → ⊥
       unheld o none held = let there : is_some o ≡ true = held in cc
 
@@ -143,13 +144,13 @@ module _ {T : Type 0} where
           record {
             met = λ i j within names. below i within
                 (λ same.
-                    let first : named side old c ≡ Some j = rw (← same) names in
-                    let target : k ≡ j = same_Some k j (sym here ∙ first) in
-                    let fresh : slot now k ≡ slot old k = b.unmet k (λ i less is'. let clash : i ≡ c = paired.once i c k is' here in absurd (omega arith)) in
-                    rw (same, ← target) (at k ∙ (if-same k (option_map (with_facing side (Some (count + 1))) (slot now k)) (slot now k) ∙ (ap (option_map (with_facing side (Some (count + 1)))) fresh ∙ ap (λ o. option_map (with_facing side o) (slot old k)) place))))
+                let first : named side old c ≡ Some j = rw (← same) names in
+                let target : k ≡ j = same_Some k j (sym here ∙ first) in
+                let fresh : slot now k ≡ slot old k = b.unmet k (λ i less is'. let clash : i ≡ c = paired.once i c k is' here in absurd (omega arith)) in
+                rw (same, ← target) (at k ∙ (if-same k (option_map (with_facing side (Some (count + 1))) (slot now k)) (slot now k) ∙ (ap (option_map (with_facing side (Some (count + 1)))) fresh ∙ ap (λ o. option_map (with_facing side o) (slot old k)) place))))
                 (λ less.
-                    let apart : k ≢ j = λ target. let clash : i ≡ c = paired.once i c j names (here ∙ ap Some target) in absurd (omega arith) in
-                    at j ∙ (if-other k j apart _ _ ∙ b.met i j less names));
+                let apart : k ≢ j = λ target. let clash : i ≡ c = paired.once i c j names (here ∙ ap Some target) in absurd (omega arith) in
+                at j ∙ (if-other k j apart _ _ ∙ b.met i j less names));
             unmet = λ j no.
                 let apart : k ≢ j = λ target. no c (omega arith) (here ∙ ap Some target) in
                 at j ∙ (if-other k j apart _ _ ∙ b.unmet j (λ i less. no i (omega arith)));
@@ -165,10 +166,13 @@ module _ {T : Type 0} where
         where
           if-same : (k : ℕ) (x y : Option (ℕ × Link T)) → (if k == k then x else y) ≡ x
           if-same k x y = elim (eqb_tells k k) [ inl h ↦ rw h.0 refl | inr h ↦ absurd (h.1 refl) ]
+
           if-other : (k j : ℕ) → k ≢ j → (x y : Option (ℕ × Link T)) → (if k == j then x else y) ≡ y
           if-other k j apart x y = elim (eqb_tells k j) [ inl h ↦ absurd (apart h.1) | inr h ↦ rw h.0 refl ]
+
           names-if : (j k : ℕ) → option_and_then (λ e. neighbour_on side e.1) (if k == j then option_map (with_facing side (Some (count + 1))) (slot now j) else slot now j) ≡ named side now j
           names-if j k = elim (eqb_tells k j) [ inl h ↦ rw h.0 (names-facing side (Some (count + 1)) (slot now j)) | inr h ↦ rw h.0 refl ]
+
           held-if : (j k : ℕ) → is_some (if k == j then option_map (with_facing side (Some (count + 1))) (slot now j) else slot now j) ≡ is_some (slot now j)
           held-if j k = elim (eqb_tells k j) [ inl h ↦ rw h.0 (held-mapped (with_facing side (Some (count + 1))) (slot now j)) | inr h ↦ rw h.0 refl ]
 
@@ -196,14 +200,16 @@ module _ {T : Type 0} where
       is_named (Some e) is = refl
 
   -- at last all have
-  pub named-ends : (side : Side) (old now : Arena (Link T)) (count : ℕ) (end : Option ℕ) (c : ℕ) → NamedBelow side old now count end c → length old.slots ≤ c → NamesPlaces side old now end
-  named-ends side old now count end c b past =
+  pub named-ends : (side : Side) (old now : Arena (Link T)) (count : ℕ) (end : Option ℕ) (c : ℕ) → NamedBelow side old now count end c → length old.slots ≤ c → take 1 old.slots ≡ None ∷ [] → NamesPlaces side old now end
+  named-ends side old now count end c b past begins =
       record {
         met = λ i k is. let within = named-within side old i k is in b.met i k (omega arith) is;
         unmet = λ k no. b.unmet k (λ i less. no i);
         end_is = λ i held is. let within = held-inside old.slots i held in b.end_is i (omega arith) held is;
         no_end = λ no. b.no_end (λ i less. no i);
         kept = b.kept;
+        begins = begins;
+        held = b.held_same;
         within = b.within;
       }
 

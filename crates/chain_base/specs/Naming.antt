@@ -1,5 +1,5 @@
 -- How each entry of a chain learns the new indexes of its neighbours, from these. No public clause cites this file.
-use Rattle.std.specs.Prelude.{◌≡◌, ◌≢◌, ℕ, ◌+◌, List, [], map, Option, Some, None, IsSome, is_some, count_by, take, length}
+use Rattle.std.specs.Prelude.{◌≡◌, ◌≢◌, ℕ, ◌+◌, List, [], ◌∷◌, map, Option, Some, None, IsSome, is_some, count_by, take, length}
 use Rattle.std.specs.Option.{option_map, option_and_then}
 use Rattle.std.specs.List.{FoldsTo}
 use Rattle.arena_base.specs.Arena.{Arena, HoldsSame, slot}
@@ -48,6 +48,8 @@ module _ {T : Type 0} where
     pub end_is : (i : ℕ) → IsSome (slot old i) → named side old i ≡ None → end ≡ Some (place_in old i)
     pub no_end : ((i : ℕ) → IsSome (slot old i) → named side old i ≢ None) → end ≡ None
     pub kept : new ≡ record old { slots = new.slots }
+    pub begins : take 1 old.slots ≡ None ∷ []
+    pub held : (i : ℕ) → is_some (slot new i) ≡ is_some (slot old i)
     pub within : length new.slots ≡ length old.slots
 
 -- the call made a new item, and the link keeps its neighbours

@@ -58,4 +58,4 @@ loop-place-preserved g c =
 
 pub returns : goal.returns
 returns g c =
-    named-ends c.args.side c.args.arena.now c.loop-place.arena c.loop-place.count _ (c.loop-place.place + 1) c.loop-place.invariant (omega (arith, c.capacity-place-end.ensures.value))
+    named-ends c.args.side c.args.arena.now c.loop-place.arena c.loop-place.count _ (c.loop-place.place + 1) c.loop-place.invariant (omega (arith, c.capacity-place-end.ensures.value)) c.capacity-place-end.ensures.sound.begins
