@@ -6,6 +6,7 @@ mod arena;
 mod error;
 mod invalidation;
 pub mod laws;
+mod map_entry;
 mod ptr;
 mod recast;
 mod slot;
@@ -17,6 +18,7 @@ pub use advancer::Advancer;
 pub use arena::{Arena, Drain, PtrAdvancer};
 pub use error::{InsertionError, MaxCapacityReductionError, ReallocationError};
 pub use invalidation::{InvalidationOption, InvalidationResult};
+pub use map_entry::{Calls, MapEntry};
 pub use ptr::{P0, P8, PN, Ptr, PtrGen, PtrInx, Q0};
 pub use recast::{Recast, Recaster};
 // A crate can name an arena in a contract only if the types of its fields are exported.

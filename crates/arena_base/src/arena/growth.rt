@@ -176,7 +176,7 @@ fn cut_vacant<T, G: Copy, A: Allocator>(slots: &mut Vec<Slot<T, G>, A>, n: usize
 }
 
 // Lists the vacant places from the last to the first.
-fn list_vacant<T, G, A: Allocator>(slots: &[Slot<T, G>], vacant: &mut Vec<usize, A>)
+pub(super) fn list_vacant<T, G, A: Allocator>(slots: &[Slot<T, G>], vacant: &mut Vec<usize, A>)
     requires { length slots.now ≤ vec_capacity vacant.old }
     ensures items { vacant.new.items ≡ reverse (vacant_places 0 slots.now) }
     ensures capacity { vec_capacity vacant.new ≡ vec_capacity vacant.old }
