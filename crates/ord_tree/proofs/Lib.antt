@@ -19,6 +19,7 @@ pub mod Neighbours
 pub mod Entries
 pub mod Trees
 pub mod Planting
+pub mod Named
 pub mod Puts
 pub mod Grown
 pub mod Shrunk

@@ -10,7 +10,7 @@ ghost use Rattle.ord_tree.specs.Half.{half_rank, IsHalf, IsRebuilt};
 ghost use Rattle.ord_tree.specs.Rebuild.{IsFew, IsPlan, IsUnopened, IsOpening, IsFinished, IsReady};
 
 use crate::links::{Links, Side};
-use crate::nodes::{Nodes, hang, set_child};
+use crate::nodes::{Nodes, hang};
 use arrayvec::ArrayVec;
 
 /// A run of the list over which a tree is being built: some entries in a row, of which the one in the middle becomes the root.
@@ -138,7 +138,7 @@ pub fn close_one<N: Nodes>(
     let found = stack.last()?.middle?;
     stack.pop();
     let middle = nodes.inx_of(found);
-    set_child(nodes, middle, Side::Greater, greater);
+    nodes.set_child(middle, Side::Greater, greater);
     hang(nodes, greater, Some(middle));
     Some(middle)
 }

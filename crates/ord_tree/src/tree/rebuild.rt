@@ -9,6 +9,7 @@ ghost use Rattle.ord_tree.specs.Layout.{IsLaidOut};
 
 use super::OrdTree;
 use crate::node::SimpleOrdArenaNode;
+use crate::node_inx::NodeInx;
 use crate::rebuild::rebuild;
 use arena_base::Ptr;
 use chain_base::ChainArena;
@@ -27,7 +28,7 @@ impl<P: Ptr, T, A: Allocator> OrdTree<P, T, A> {
 // Builds the tree over a chain anew, whatever its nodes say.
 pub(super) fn rebuild_over<P: Ptr, T, A: Allocator>(
     chain: &mut ChainArena<P, SimpleOrdArenaNode<P, T>, A>,
-    root: &mut Option<P::Inx>,
+    root: &mut Option<NodeInx<P::Inx>>,
 )
     ensures rebuilt { (s : Shape) × IsRebuilt s
         × IsLaidOut P.Inx.number chain.new (option_map P.Inx.number root.new) s }
