@@ -109,9 +109,9 @@ fn places(alloc: Global, tree: &Row) -> Result<Vec<Place>, Fail> {
         let index = next.ok_or("an entry for each")?;
         let (_, link) = chain.get_inx_link_no_gen(index).ok_or("its node")?;
         places.push(Place {
-            parent: place_of(link.t.p_back),
-            lesser: place_of(link.t.p_tree0),
-            greater: place_of(link.t.p_tree1),
+            parent: place_of(link.t.p_back.get()),
+            lesser: place_of(link.t.p_tree0.get()),
+            greater: place_of(link.t.p_tree1.get()),
             rank: link.t.rank,
         })?;
         next = link.next();

@@ -31,7 +31,7 @@ pub(super) fn rebuild_over<P: Ptr, T, A: Allocator>(
     root: &mut Option<NodeInx<P::Inx>>,
 )
     ensures rebuilt { (s : Shape) × IsRebuilt s
-        × IsLaidOut P.Inx.number chain.new (option_map P.Inx.number root.new) s }
+        × IsLaidOut chain.new (option_map P.Inx.number root.new) s }
     ensures kept { bare chain.new ≡ bare chain.old }
 {
     let len = chain.len();
