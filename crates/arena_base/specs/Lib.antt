@@ -1,4 +1,6 @@
 pub mod Arena
+pub mod Compression
+pub mod CompressionSlots
 pub mod Drain
 pub mod Generation
 pub mod Invalidation

@@ -4,6 +4,7 @@ ghost use Rattle.arena_base.specs.Generation.{IsLawfulGeneration, overflows_afte
 ghost use Rattle.arena_base.specs.Invalidation.{is_overflow};
 ghost use Rattle.arena_base.specs.Arena.{arena_len, arena_capacity, arena_limit, raised, IsSound};
 
+mod compress;
 mod drain;
 mod get;
 mod growth;

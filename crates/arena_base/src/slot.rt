@@ -32,6 +32,28 @@ impl<T, G> Slot<T, G> {
         }
     }
 
+    // Takes the entry out, where there is one, with its generation.
+    pub(crate) fn vacate(&mut self) -> Option<(G, T)>
+        ensures value { result ≡ slot_entry self.old }
+        ensures after { self.new ≡ Slot.Vacant }
+    {
+        match replace(self, Slot::Vacant) {
+            Slot::Occupied(item, generation) => Some((generation, item)),
+            Slot::Vacant => None,
+        }
+    }
+
+    // Puts an entry in, where there is none.
+    pub(crate) fn fill(&mut self, item: T, generation: G)
+        requires { self.old ≡ Slot.Vacant }
+        ensures { self.new ≡ Slot.Occupied item generation }
+    {
+        match replace(self, Slot::Occupied(item, generation)) {
+            Slot::Vacant => {}
+            Slot::Occupied(_, _) => unreachable!(),
+        }
+    }
+
     // The item of the entry, to be written.
     pub(crate) fn item_mut(&mut self) -> &mut T
         requires { IsSome (slot_entry self.old) }

@@ -515,3 +515,68 @@ fn answers_are_allowed(rt: HostRuntime) {
     assert_eq!(rt; again.unwrap(), InvalidationOption::GenerationOverflow(4));
     assert_eq!(rt; InvalidationOption::Success(6u8).map(|n| 12 / n).allow(), 2);
 }
+
+/// The place of a call among all, the pointers that it was shown, and the item.
+type Call = (u8, P0, P0, char);
+
+fn no_call(letter: char) -> Call {
+    (0, P0::invalid(), P0::invalid(), letter)
+}
+
+#[test]
+fn a_compression_goes_by_rising_index(rt: HostRuntime) -> Result<(), Fail> {
+    let mut arena = Arena::<P0, Call>::new(rt.alloc());
+    for letter in ['a', 'b', 'c', 'd'] {
+        arena.insert_reallocating(no_call(letter))?;
+    }
+    let _ = arena.remove(p0(3, 2));
+    let _ = arena.remove(p0(1, 2));
+    arena.insert_reallocating(no_call('e'))?;
+    let _ = arena.invalidate(p0(1, 4));
+    let _ = arena.remove(p0(2, 2));
+
+    let mut calls = 0u8;
+    let overflow = arena.compress_with(false, |old, item: Call, new| {
+        calls = calls.wrapping_add(1);
+        (calls, old, new, item.3)
+    });
+    assert_eq!(rt; overflow, InvalidationOption::Success(()));
+    assert_eq!(rt;
+        arena.get(p0(1, 7)).copied(),
+        Some((1, p0(1, 5), p0(1, 7), 'e'))
+    );
+    assert_eq!(rt;
+        arena.get(p0(2, 7)).copied(),
+        Some((2, p0(4, 2), p0(2, 7), 'd'))
+    );
+    assert_eq!(rt;
+        (arena.len(), arena.capacity(), arena.generation()),
+        (2, 4, 7)
+    );
+    assert_eq!(rt; arena.next_insertion_ptr(), Some(p0(3, 7)));
+    assert_eq!(rt; arena.compress(true), InvalidationOption::Success(()));
+    assert_eq!(rt; arena.contains(p0(2, 2)), true);
+    assert_eq!(rt; arena.generation(), 2);
+    Ok(())
+}
+
+#[test]
+fn a_compression_overflows(rt: HostRuntime) -> Result<(), Fail> {
+    let mut arena: Arena<P8, char> = Arena::new(rt.alloc());
+    arena.insert_reallocating('a')?;
+    arena.insert_reallocating('b')?;
+    let _ = arena.remove_inx(1);
+    arena.set_generation(255);
+    assert_eq!(rt; arena.compress(true), InvalidationOption::Success(()));
+    assert_eq!(rt; arena.get(P8::_from_raw(1, 2)).copied(), Some('b'));
+    arena.set_generation(255);
+    assert_eq!(rt;
+        ArenaTrait::compress(&mut arena, false),
+        InvalidationOption::GenerationOverflow(())
+    );
+    assert_eq!(rt; arena.get(P8::_from_raw(1, 2)).copied(), Some('b'));
+    assert_eq!(rt; arena.clear(), InvalidationOption::Success(()));
+    assert_eq!(rt; arena.compress(false), InvalidationOption::Success(()));
+    assert_eq!(rt; (arena.len(), arena.generation()), (0, 4));
+    Ok(())
+}

@@ -3,6 +3,7 @@ ghost use Rattle.std.specs.Prelude.{◌≡◌, ◌==◌, ◌<◌, ◌≤◌, ◌
 ghost use Rattle.std.specs.Option.{option_copied, option_copied_mut, option_map};
 ghost use Rattle.std.specs.Borrow.{sem, Lends, LendsIf};
 ghost use Rattle.arena_base.specs.Arena.{Arena as Content, HoldsSame, slot, item_of, arena_len, arena_capacity, arena_limit, new_arena, with_capacity, with_item, without, renewed, cleared, greatest_occupied, IsLawful, IsOccupied, IsFirstEntry, IsLastEntry};
+ghost use Rattle.arena_base.specs.Compression.{compressed, compressed_generation, compression_overflows, items_rising, IsCompression};
 ghost use Rattle.arena_base.specs.Generation.{next_generation, overflows_after};
 ghost use Rattle.arena_base.specs.Invalidation.{valid_value, has_overflowed, is_overflow};
 
@@ -135,6 +136,28 @@ pub trait ArenaTrait<P: Ptr, T> {
         T: Drop,
         ensures after { HoldsSame (content self.new) (cleared P.Gen.greatest (content self.old)) }
         ensures overflow { is_overflow result ≡ overflows_after P.Gen.greatest (content self.old).generation };
+
+    /// Moves all entries to the indexes from 1 on, in the order of their indexes, and gives them all one generation, which
+    /// becomes the arena's: the first where `reset` is true, else the next one. For each entry, by rising index, `f` is called
+    /// with its old pointer, its item and its new pointer, and gives the item that the entry has then. The capacity stays.
+    fn compress_with<F: FnMut(P, T, P) -> T + Drop>(
+        &mut self,
+        reset: bool,
+        f: F,
+    ) -> InvalidationOption<()>
+        requires { F.IsAlwaysCallable f }
+        ensures after { IsCompression P.index P.era F.step
+            (compressed_generation P.Gen.greatest reset (content self.old).generation) f (content self.old) (content self.new) }
+        ensures overflow { is_overflow result ≡ compression_overflows P.Gen.greatest reset (content self.old).generation };
+
+    /// Moves all entries to the indexes from 1 on as `compress_with` does, each with the item that it has.
+    fn compress(&mut self, reset: bool) -> InvalidationOption<()>
+        ensures after { HoldsSame (content self.new) (compressed (content self.old)
+            (compressed_generation P.Gen.greatest reset (content self.old).generation) (items_rising (content self.old))) }
+        ensures overflow { is_overflow result ≡ compression_overflows P.Gen.greatest reset (content self.old).generation }
+    {
+        self.compress_with(reset, |_old, item, _new| item)
+    }
 
     // a written item is the map's
     ghost written_content: { (s : Self) (i : ℕ) (item : T) → content (written s i item) ≡ with_item (content s) i item };

@@ -2,6 +2,11 @@ pub mod Lists
 pub mod LaidOut
 pub mod Vacancy
 pub mod Sound
+pub mod Naming
+pub mod Kept
+pub mod Renumbering
+pub mod Ranking
+pub mod Compressing
 pub mod Steps
 pub mod Ends
 pub mod Places

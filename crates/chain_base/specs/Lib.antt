@@ -1,6 +1,8 @@
 pub mod Link
+pub mod Naming
 pub mod Walk
 pub mod Chain
+pub mod Compression
 pub mod Insert
 pub mod Layout
 pub mod Lends

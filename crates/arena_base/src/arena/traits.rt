@@ -104,6 +104,14 @@ impl<P: Ptr, T, A: Allocator + Copy> ArenaTrait<P, T> for Arena<P, T, A> {
     {
         self.clear()
     }
+
+    fn compress_with<F: FnMut(P, T, P) -> T + Drop>(
+        &mut self,
+        reset: bool,
+        f: F,
+    ) -> InvalidationOption<()> {
+        self.compress_with(reset, f)
+    }
 }
 
 impl<P: Ptr, T, A: Allocator> CompactArenaTrait for Arena<P, T, A> {}

@@ -37,7 +37,7 @@ pub(super) fn relink<P: Ptr, T, A: Allocator>(
 }
 
 // Links the entry at an index, if one is named, to another next one.
-fn set_next<P: Ptr, T, A: Allocator>(
+pub(super) fn set_next<P: Ptr, T, A: Allocator>(
     arena: &mut Arena<P, LinkNoGen<P, T>, A>,
     at: Option<P::Inx>,
     next: Option<P::Inx>,
@@ -53,7 +53,7 @@ fn set_next<P: Ptr, T, A: Allocator>(
 }
 
 // Links the entry at an index, if one is named, to another previous one.
-fn set_prev<P: Ptr, T, A: Allocator>(
+pub(super) fn set_prev<P: Ptr, T, A: Allocator>(
     arena: &mut Arena<P, LinkNoGen<P, T>, A>,
     at: Option<P::Inx>,
     prev: Option<P::Inx>,

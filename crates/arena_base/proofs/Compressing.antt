@@ -1,0 +1,278 @@
+-- How far a compression has come.
+use Rattle.std.proofs.Common.{◌≡◌, ℕ, zero, suc, ◌+◌, ◌-◌, ◌≤◌, ◌<◌, List, [], ◌∷◌, ◌++◌, length, map, Option, Some, None, replicate, reverse, count_by, is_some, cond, zero-add, drop, get_or, set, refl, sym, ap, ◌∙◌, arith, subst}
+use Rattle.std.proofs.lemmas.List.{drop_more, drop_all, set_at, get_or_at, append_assoc, map_push, length-map, length-replicate, length-append, map-append, take_all, length_push, length-set, append-nil, get_or_read}
+use Rattle.std.proofs.lemmas.Option.{none-some, same_Some}
+use Rattle.std.specs.List.{FoldsTo}
+use Rattle.arena_base.specs.declared.slot.Slot.{Slot}
+use Rattle.arena_base.specs.declared.slot.Slot.TheVariants.{Occupied, Vacant}
+use Rattle.arena_base.specs.Slot.{entry_in, slot_entry, arena_of, vacant_places}
+use Rattle.arena_base.specs.Walk.{entries_from, entries_rising}
+use Rattle.arena_base.specs.Generation.{IsLawfulGeneration}
+use Rattle.arena_base.specs.Arena.{Arena, HoldsSame, IsSound, IsFresh, vacant_from, resized}
+use Rattle.arena_base.proofs.Places.{entries}
+use Rattle.arena_base.proofs.Steps.{list-view}
+use Rattle.arena_base.proofs.Vacancies.{length-vacant_from}
+use Rattle.std.proofs.lemmas.List.Sums.{sum_by-cons}
+use Rattle.arena_base.specs.Compression.{CompressionStep, IsCompression, compressed, items_rising}
+use Rattle.arena_base.specs.CompressionSlots.{CompressesSlots}
+
+module _ {P T G F : Type 0} (index era : P → ℕ) (number : G → ℕ) (step : F → P → T → P → T → F → Type 0) (generation : G) where
+  abbrev filled : List T → List (Slot T G)
+  filled items = map (λ item. Occupied item generation) items
+
+  -- the items that came to the first slots, the slots that were vacated, and those that are still to come
+  abbrev parts : List T → ℕ → List (Slot T G) → List (Slot T G)
+  parts items gap rest = filled items ++ (replicate gap Vacant ++ rest)
+
+  abbrev Calls : F × List T → List (ℕ × ℕ × T) → F × List T → Type 0
+  Calls s entries t = FoldsTo (CompressionStep index era step (number generation)) s entries t
+
+  abbrev entries_of : ℕ → List (Slot T G) → List (ℕ × ℕ × T)
+  entries_of i slots = entries_from i (map (entry_in number) slots)
+
+  pub record CompressedBelow (first : F) (old : List (Slot T G)) (f : F) (slots : List (Slot T G)) (from to : ℕ) : Type 0 where
+    pub items : List T
+    pub gap : ℕ
+    pub answers : length items ≡ to
+    pub visited : to + gap ≡ from
+    pub within : length slots ≡ length old
+    pub shape : slots ≡ parts items gap (drop from old)
+    pub calls : (s : F × List T) → Calls (f, items) (entries_of (from + 1) (drop from old)) s → Calls (first, []) (entries_of 1 old) s
+
+  pub compressed-begins : (f : F) (old : List (Slot T G)) → CompressedBelow f old f old 0 0
+  compressed-begins f old = record { items = []; gap = 0; answers = refl; visited = refl; within = refl; shape = refl; calls = λ s p. p }
+
+  vacated : (gap : ℕ) (rest : List (Slot T G)) → replicate gap Vacant ++ (Vacant ∷ rest) ≡ Vacant ∷ (replicate gap Vacant ++ rest)
+  vacated zero rest = refl
+  vacated (suc n) rest = ap (λ xs. Vacant ∷ xs) (vacated n rest)
+
+  entry-none : (s : Slot T G) → slot_entry s ≡ None → s ≡ Vacant
+  entry-none (Occupied item e) is = absurd (none-some (e, item) (sym is))
+  entry-none Vacant is = refl
+
+  entry-some : (s : Slot T G) (e : G) (item : T) → slot_entry s ≡ Some (e, item) → s ≡ Occupied item e
+  entry-some (Occupied x k) e item is =
+      let same : ◌≡◌ {A = G × T} (k, x) (e, item) = same_Some (k, x) (e, item) is in
+      ap (λ (p : G × T). Occupied p.1 p.0) same
+  entry-some Vacant e item is = absurd (none-some (e, item) is)
+
+  module _ (first : F) (old : List (Slot T G)) (f : F) (slots : List (Slot T G)) (from to : ℕ) (b : CompressedBelow first old f slots from to) (inside : from < length old) where
+    before : List (Slot T G)
+    before = filled b.items ++ replicate b.gap Vacant
+
+    length-before : length before ≡ from
+    unfolding before
+    length-before = length-append (filled b.items) (replicate b.gap Vacant) ∙ rw (length-map b.items (λ item. Occupied item generation), length-replicate, b.answers) b.visited
+
+    opened : slots ≡ before ++ (get_or old from Vacant ∷ drop (from + 1) old)
+    unfolding before
+    opened = b.shape ∙ rw (drop_more old from Vacant inside) (sym (append_assoc (filled b.items) (replicate b.gap Vacant) _))
+
+    at_from : (now : Slot T G) → now ≡ get_or slots from now → get_or old from Vacant ≡ now
+    at_from now read =
+        let inside_now : from < length slots = omega (arith, b.within, inside) in
+        sym (get_or_at before (get_or old from Vacant) (drop (from + 1) old) Vacant from length-before) ∙ (ap (λ xs. get_or xs from Vacant) (sym opened) ∙ sym (get_or_read slots from now inside_now read Vacant))
+
+    -- the slots once the slot is vacated
+    emptied : set slots from Vacant ≡ filled b.items ++ (Vacant ∷ (replicate b.gap Vacant ++ drop (from + 1) old))
+    unfolding before
+    emptied =
+        ap (λ xs. set xs from Vacant) opened ∙ set_at before _ _ Vacant from length-before
+        ∙ append_assoc (filled b.items) (replicate b.gap Vacant) (Vacant ∷ drop (from + 1) old)
+        ∙ ap (λ xs. filled b.items ++ xs) (vacated b.gap (drop (from + 1) old))
+
+    pub compressed-vacant : (now : Slot T G) → now ≡ get_or slots from now → slot_entry now ≡ None → CompressedBelow first old f (set slots from Vacant) (from + 1) to
+    compressed-vacant now read none =
+        let head : get_or old from Vacant ≡ Vacant = at_from now read ∙ entry-none now none in
+        record {
+          items = b.items;
+          gap = suc b.gap;
+          answers = b.answers;
+          visited = omega (arith, b.visited);
+          within = length-set slots from Vacant ∙ b.within;
+          shape = emptied;
+          calls = λ s p. b.calls s (rw (drop_more old from Vacant inside, head) p);
+        }
+
+    -- the slot that the item comes to is vacant
+    pub compressed-free : (x : Slot T G) → x ≡ get_or (set slots from Vacant) to x → x ≡ Vacant
+    compressed-free x read =
+        let within : to < length (set slots from Vacant) = omega (arith, length-set slots from Vacant, b.within, b.visited, inside) in
+        get_or_read (set slots from Vacant) to x within read Vacant ∙ (ap (λ xs. get_or xs to Vacant) emptied ∙ get_or_at (filled b.items) Vacant (replicate b.gap Vacant ++ drop (from + 1) old) Vacant to (length-map b.items (λ item. Occupied item generation) ∙ b.answers))
+
+    pub compressed-filled : (now : Slot T G) (e : G) (old_item new : T) (p q : P) (next : F) → now ≡ get_or slots from now → slot_entry now ≡ Some (e, old_item)
+        → index p ≡ from + 1 → era p ≡ number e → index q ≡ to + 1 → era q ≡ number generation → step f p old_item q new next
+        → CompressedBelow first old next (set (set slots from Vacant) to (Occupied new generation)) (from + 1) (to + 1)
+    compressed-filled now e old_item new p q next read is p_index p_era q_index q_era called =
+        let head : get_or old from Vacant ≡ Occupied old_item e = at_from now read ∙ entry-some now e old_item is in
+        let more = replicate b.gap Vacant ++ drop (from + 1) old in
+        let put : set (set slots from Vacant) to (Occupied new generation) ≡ filled b.items ++ (Occupied new generation ∷ more) =
+        ap (λ xs. set xs to (Occupied new generation)) emptied ∙ set_at (filled b.items) Vacant more (Occupied new generation) to (length-map b.items (λ item. Occupied item generation) ∙ b.answers) in
+        let stepped : CompressionStep index era step (number generation) (f, b.items) (from + 1, number e, old_item) (next, b.items ++ new ∷ []) =
+        record { from = p; to = q; item = new; from_index = p_index; from_era = p_era; to_index = q_index ∙ ap (λ n. n + 1) (sym b.answers); to_era = q_era; called = called; behind = refl } in
+        record {
+          items = b.items ++ new ∷ [];
+          gap = b.gap;
+          answers = length_push b.items new ∙ ap (λ n. n + 1) b.answers;
+          visited = omega (arith, b.visited);
+          within = length-set (set slots from Vacant) to (Occupied new generation) ∙ (length-set slots from Vacant ∙ b.within);
+          shape = put ∙ rw (map_push (λ item. Occupied item generation) b.items new) (sym (append_assoc (filled b.items) (Occupied new generation ∷ []) more));
+          calls = λ s c. b.calls s (rw (drop_more old from Vacant inside, head) ((next, b.items ++ new ∷ []), stepped, c));
+        }
+
+  pub compressed-ends : (first : F) (old : List (Slot T G)) (f : F) (slots : List (Slot T G)) (from to : ℕ) → CompressedBelow first old f slots from to → length old ≤ from → from ≤ length old → CompressesSlots index era number step generation first old slots
+  compressed-ends first old f slots from to b past upto =
+      let none : drop from old ≡ [] = drop_all from old past in
+      let gap : b.gap ≡ length old - length b.items = omega (arith, b.answers, b.visited) in
+      record {
+        items = b.items;
+        last = f;
+        calls = b.calls (f, b.items) (rw none refl);
+        fits = omega (arith, b.answers, b.visited, upto);
+        after = b.shape ∙ (ap (λ rest. filled b.items ++ (replicate b.gap Vacant ++ rest)) none ∙ (ap (λ xs. filled b.items ++ xs) (append-nil (replicate b.gap Vacant)) ∙ ap (λ n. filled b.items ++ replicate n Vacant) gap));
+      }
+
+-- Calls of one kind are calls of another: `state` and `item` give the other's states and items.
+module _ {P X T M F : Type 0} (index era : P → ℕ) (below : M → P → X → P → X → M → Type 0) (above : F → P → T → P → T → F → Type 0) (g : ℕ) (state : M → F) (item : X → T)
+    (like : (m : M) (p : P) (x : X) (q : P) (y : X) (n : M) → below m p x q y n → above (state m) p (item x) q (item y) (state n)) where
+  -- an entry with the other's item
+  abbrev pub retold : ℕ × ℕ × X → ℕ × ℕ × T
+  retold e = (e.0, e.1, item e.2)
+
+  pub calls-retold : (es : List (ℕ × ℕ × X)) (m n : M) (xs ys : List X) → FoldsTo {P = M × List X} (CompressionStep index era below g) (m, xs) es (n, ys)
+      → FoldsTo {P = F × List T} (CompressionStep index era above g) (state m, map item xs) (map retold es) (state n, map item ys)
+  calls-retold [] m n xs ys same = ap (λ (s : M × List X). (state s.0, map item s.1)) same
+  calls-retold (e ∷ es) m n xs ys calls =
+      let s = calls.1 in (
+        (state calls.0.0, map item calls.0.1),
+        record {
+          from = s.from;
+          to = s.to;
+          item = item s.item;
+          from_index = s.from_index;
+          from_era = s.from_era;
+          to_index = s.to_index ∙ ap (λ n. n + 1) (sym (length-map xs item));
+          to_era = s.to_era;
+          called = like m s.from e.2 s.to s.item calls.0.0 s.called;
+          behind = ap (map item) s.behind ∙ map_push item xs s.item;
+        },
+        calls-retold es calls.0.0 n calls.0.1 ys calls.2,
+      )
+
+map-itself : {X : Type 0} (f : X → X) → ((x : X) → f x ≡ x) → (xs : List X) → map f xs ≡ xs
+map-itself f itself [] = refl
+map-itself f itself (x ∷ xs) = rw (itself x, map-itself f itself xs) refl
+
+-- the same items, in other states
+pub compression-retold : {P T M F : Type 0} (index era : P → ℕ) (below : M → P → T → P → T → M → Type 0) (above : F → P → T → P → T → F → Type 0) (g : ℕ) (state : M → F)
+    → ((m : M) (p : P) (x : T) (q : P) (y : T) (n : M) → below m p x q y n → above (state m) p x q y (state n))
+    → (m : M) (old new : Arena T) → IsCompression index era below g m old new → IsCompression index era above g (state m) old new
+compression-retold {P} {T} index era below above g state like m old new c =
+    let es = entries_rising old 0 in
+    let calls = calls-retold index era below above g state (λ x. x) like es m c.last [] c.items c.calls in
+    record {
+      items = c.items;
+      last = state c.last;
+      calls = rw (map-itself (λ (e : ℕ × ℕ × T). (e.0, e.1, e.2)) (λ e. refl) es, map-itself (λ (x : T). x) (λ x. refl) c.items) at calls;
+      after = c.after;
+    }
+
+module _ {P T F : Type 0} (index era : P → ℕ) (step : F → P → T → P → T → F → Type 0) (g : ℕ) where
+  -- what is made where each answer is the item that was shown
+  pub compressed-same : ((f : F) (p : P) (item : T) (q : P) (new : T) (f' : F) → step f p item q new f' → new ≡ item)
+      → (es : List (ℕ × ℕ × T)) (f last : F) (items before : List T) → FoldsTo {P = F × List T} (CompressionStep index era step g) (f, before) es (last, items)
+      → items ≡ before ++ map (λ (e : ℕ × ℕ × T). e.2) es
+  compressed-same answers [] f last items before calls = sym (ap (λ (s : F × List T). s.1) calls) ∙ sym (append-nil before)
+  compressed-same answers (e ∷ es) f last items before calls =
+      let s = calls.1 in
+      let same : s.item ≡ e.2 = answers f s.from e.2 s.to s.item calls.0.0 s.called in
+      let more = map (λ (e : ℕ × ℕ × T). e.2) es in
+      compressed-same answers es calls.0.0 last items calls.0.1 calls.2
+      ∙ (ap (λ xs. xs ++ more) s.behind ∙ (append_assoc before (s.item ∷ []) more ∙ ap (λ x. before ++ x ∷ more) same))
+
+pub compressed-given_back : {P F T : Type 0} (index era : P → ℕ) (step : F → P → T → P → T → F → Type 0) (g : ℕ) → ((f : F) (p : P) (item : T) (q : P) (new : T) (f' : F) → step f p item q new f' → new ≡ item)
+    → (f : F) (old new : Arena T) → IsCompression index era step g f old new → HoldsSame new (compressed old g (items_rising old))
+compressed-given_back index era step g answers f old new h =
+    subst (λ items. HoldsSame new (compressed old g items)) (compressed-same index era step g answers (entries_rising old 0) f h.last h.items [] h.calls) h.after
+
+get_or-compressed : {T : Type 0} (g m : ℕ) (items : List T) (k : ℕ) (e : ℕ × T) → get_or (map (λ item. Some (g, item)) items ++ replicate m None) k None ≡ Some e → e.0 ≡ g
+get_or-compressed g zero [] k e is = absurd (none-some e is)
+get_or-compressed g (suc m) [] zero e is = absurd (none-some e is)
+get_or-compressed g (suc m) [] (suc k) e is = get_or-compressed g m [] k e is
+get_or-compressed g m (x ∷ items) zero e is = let same : ◌≡◌ {A = ℕ × _} (g, x) e = same_Some (g, x) e is in sym (ap (λ (p : ℕ × _). p.0) same)
+get_or-compressed g m (x ∷ items) (suc k) e is = get_or-compressed g m items k e is
+
+module _ {T G : Type 0} (number : G → ℕ) (most : ℕ) (greatest : Option ℕ) (slots next : List (Slot T G)) (generation : G) (maximum : Option ℕ) (places listed : List ℕ) (all : listed ≡ reverse (vacant_places 0 next))
+    (items : List T) (fits : length items ≤ length slots) (is : next ≡ map (λ item. Occupied item generation) items ++ replicate (length slots - length items) Vacant) where
+  abbrev now : List (Option (ℕ × T))
+  now = map (λ item. Some (number generation, item)) items ++ replicate (length slots - length items) None
+
+  entries-compressed : entries number next ≡ now
+  entries-compressed =
+      ap (λ ss. entries number ss) is
+      ∙ (map-append (entry_in number) (map (λ item. Occupied item generation) items) (replicate (length slots - length items) Vacant)
+      ∙ (ap (λ front. front ++ map (entry_in number) (replicate (length slots - length items) Vacant)) (twice items)
+      ∙ ap (λ back. map (λ item. Some (number generation, item)) items ++ back) (vacant (length slots - length items))))
+    where
+      twice : (xs : List T) → map (entry_in number) (map (λ item. Occupied item generation) xs) ≡ map (λ item. Some (number generation, item)) xs
+      twice [] = refl
+      twice (x ∷ xs) = ap (λ rest. Some (number generation, x) ∷ rest) (twice xs)
+
+      vacant : (n : ℕ) → map (entry_in {T = T} {G = G} number) (replicate n Vacant) ≡ replicate n None
+      vacant zero = refl
+      vacant (suc n) = ap (λ rest. None ∷ rest) (vacant n)
+
+  pub compressed-view : arena_of number next listed generation maximum ≡ record { slots = None ∷ now; vacant = vacant_from 1 now; generation = number generation; maximum = maximum }
+  compressed-view = list-view number most greatest slots generation maximum places listed next all now entries-compressed
+
+  pub compressed-fresh : IsFresh (arena_of number next listed generation maximum)
+  compressed-fresh = subst (λ (a : Arena T). IsFresh a) (sym compressed-view) refl
+
+  length-now : length now ≡ length slots
+  length-now = length-append (map (λ item. Some (number generation, item)) items) (replicate (length slots - length items) None) ∙ rw (length-map {B = Option (ℕ × T)} items (λ item. Some (number generation, item)), length-replicate) (omega (arith, fits))
+
+  pub compressed-sound : IsSound most greatest (arena_of number slots places generation maximum) → IsSound most greatest (arena_of number next listed generation maximum)
+  compressed-sound sound =
+      subst (λ (a : Arena T). IsSound most greatest a) (sym compressed-view) record {
+        begins = refl;
+        within_limit = let within = sound.within_limit in omega (arith, within, length-now, length-map slots (entry_in number));
+        generation_lawful = sound.generation_lawful;
+        entries_lawful = lawful;
+        vacant_listed = λ i. refl;
+        counted = omega (arith, count, length-vacant_from 1 now);
+      }
+    where
+      count : count_by is_some (None ∷ now) ≡ count_by is_some now
+      count = sum_by-cons (λ (x : Option (ℕ × T)). cond (is_some x) 1 0) None now ∙ zero-add (count_by is_some now)
+
+      lawful : (i : ℕ) (e : ℕ × T) → get_or (None ∷ now) i None ≡ Some e → IsLawfulGeneration greatest e.0
+      lawful zero e at = absurd (none-some e at)
+      lawful (suc k) e at = subst (λ n. IsLawfulGeneration greatest n) (sym (get_or-compressed (number generation) (length slots - length items) items k e at)) sound.generation_lawful
+
+-- the arena of the compressed slots
+pub compressed-after : {P T G F : Type 0} (index era : P → ℕ) (number : G → ℕ) (most : ℕ) (greatest : Option ℕ) (step : F → P → T → P → T → F → Type 0) (slots next : List (Slot T G)) (generation : G) (maximum : Option ℕ) (places listed : List ℕ)
+    → listed ≡ reverse (vacant_places 0 next) → (f : F) (a : Arena T) (g : ℕ) → None ∷ entries number slots ≡ a.slots → maximum ≡ a.maximum → number generation ≡ g
+    → CompressesSlots index era number step generation f slots next → IsCompression index era step g f a (arena_of number next listed generation maximum)
+compressed-after {P} {T} {G} {F} index era number most greatest step slots next generation maximum places listed all f a g same limit named p =
+    let m = length p.items in
+    let n = length slots in
+    let view = compressed-view number most greatest slots next generation maximum places listed all p.items p.fits p.after in
+    let count : length a.slots ≡ suc n = ap length (sym same) ∙ ap suc (length-map slots (entry_in number)) in
+    record {
+      items = p.items;
+      last = p.last;
+      calls = rw (← same, ← named) p.calls;
+      after = record {
+        slots = ap (λ (v : Arena T). v.slots) view ∙ (ap (λ h. None ∷ (map (λ item. Some (h, item)) p.items ++ replicate (n - m) None)) named ∙ sym (unpadded a.slots g p.items n count p.fits));
+        generation = named;
+        maximum = limit;
+      };
+    }
+  where
+    unpadded : (ss : List (Option (ℕ × T))) (g : ℕ) (items : List T) (n : ℕ) → length ss ≡ suc n → length items ≤ n
+        → resized {X = ℕ × T} (length ss) (None ∷ map (λ item. Some (g, item)) items) ≡ None ∷ (map (λ item. Some (g, item)) items ++ replicate (n - length items) None)
+    unpadded ss g items n count fits =
+        let xs : List (Option (ℕ × T)) = map (λ item. Some (g, item)) items in
+        let long : length xs ≡ length items = length-map {B = Option (ℕ × T)} items (λ item. Some (g, item)) in
+        let less : suc n - suc (length items) ≡ n - length items = omega arith in
+        rw (count, long, less) (ap (λ front. None ∷ (front ++ replicate (n - length items) None)) (take_all n xs (omega (arith, long, fits))))

@@ -1,0 +1,45 @@
+-- What a compression makes of an arena: its items lie at the indexes from 1 on, in the order of their old indexes.
+use Rattle.std.specs.Prelude.{◌≡◌, ℕ, ◌+◌, Bool, false, if◌then◌else◌, Option, Some, None, List, [], ◌∷◌, ◌++◌, length, map}
+use Rattle.std.specs.List.{FoldsTo}
+use Rattle.arena_base.specs.Generation.{first_generation, next_generation, overflows_after}
+use Rattle.arena_base.specs.Arena.{Arena, HoldsSame, resized, vacant_indexes}
+use Rattle.arena_base.specs.Walk.{entries_rising}
+
+-- the generation after a compression: the first where it is reset, else the next
+abbrev pub compressed_generation : Option ℕ → Bool → ℕ → ℕ
+compressed_generation greatest reset g = if reset then first_generation greatest else next_generation greatest g
+
+-- a compression begins the generations again: never where it resets them
+abbrev pub compression_overflows : Option ℕ → Bool → ℕ → Bool
+compression_overflows greatest reset g = if reset then false else overflows_after greatest g
+
+-- a with these items at the indexes from 1 on, all with generation g, which is the arena's; its vacant slots count as never used
+abbrev pub compressed : {T : Type 0} → Arena T → ℕ → List T → Arena T
+compressed a g items = let slots = resized (length a.slots) (None ∷ map (λ item. Some (g, item)) items) in
+    record a { slots = slots; vacant = vacant_indexes slots; generation = g }
+
+-- P reads pointers as index and generation; `step` is what a call of the closure may do; g is the new generation
+module _ {P T F : Type 0} (index era : P → ℕ) (step : F → P → T → P → T → F → Type 0) (g : ℕ) where
+  -- The closure was called with the entry's pointer, its item and its new pointer, and its answer came behind the items so far.
+  -- A state is the closure with the items so far.
+  pub record CompressionStep (s : F × List T) (e : ℕ × ℕ × T) (t : F × List T) : Type 0 where
+    pub from : P
+    pub to : P
+    pub item : T
+    pub from_index : index from ≡ e.0
+    pub from_era : era from ≡ e.1
+    pub to_index : index to ≡ length s.1 + 1
+    pub to_era : era to ≡ g
+    pub called : step s.0 from e.2 to item t.0
+    pub behind : t.1 ≡ s.1 ++ item ∷ []
+
+  -- the closure was called at each entry by rising index, each time in the state in which the call before had left it
+  pub record IsCompression (f : F) (old new : Arena T) : Type 0 where
+    pub items : List T
+    pub last : F
+    pub calls : FoldsTo CompressionStep (f, []) (entries_rising old 0) (last, items)
+    pub after : HoldsSame new (compressed old g items)
+
+-- the items by rising index
+abbrev pub items_rising : {T : Type 0} → Arena T → List T
+items_rising a = map (λ e. e.2) (entries_rising a 0)

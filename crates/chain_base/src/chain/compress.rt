@@ -1,0 +1,154 @@
+//! Moving all entries to the least indexes.
+ghost use Rattle.std.specs.Prelude.{◌≡◌};
+ghost use Rattle.std.specs.Option.{option_map, ForSome};
+ghost use Rattle.arena_base.specs.Arena.{IsFresh, IsOccupied};
+ghost use Rattle.arena_base.specs.Compression.{compressed_generation, compression_overflows};
+ghost use Rattle.arena_base.specs.Invalidation.{is_overflow};
+ghost use Rattle.chain_base.specs.Compression.{IsCompression};
+ghost use Rattle.arena_base.specs.Pointer.{named_of};
+ghost use Rattle.chain_base.specs.Naming.{CompressesItems, neighbour_on, linked_facing, IsPaired, NamesPlaces};
+
+use super::ChainArena;
+use super::links::{set_next, set_prev};
+use crate::link::LinkNoGen;
+use arena_base::{Arena, Calls, InvalidationOption, MapEntry, Ptr, PtrInx};
+use std::alloc::Allocator;
+
+impl<P: Ptr, T, A: Allocator> ChainArena<P, T, A> {
+    /// Moves all entries to the indexes from 1 on, in the order of their indexes, and gives them all one generation, which
+    /// becomes the arena's: the first where `reset` is true, else the next one. The list keeps its order.
+    ///
+    /// The answer says whether the generations began again because the next one comes after the greatest. For each entry, by
+    /// rising index, `f` is called with its old pointer, its item and its new pointer, and gives the item that the entry has
+    /// then. The capacity stays, and all vacant slots count as never used. It takes no memory, and goes through the slots three
+    /// times.
+    pub fn compress_with<F: FnMut(P, T, P) -> T + Drop>(
+        &mut self,
+        reset: bool,
+        f: F,
+    ) -> InvalidationOption<()>
+        requires { F.IsAlwaysCallable f }
+        ensures after { IsCompression P.index P.era F.step
+            (compressed_generation P.Gen.greatest reset self.old.generation) f self.old self.new }
+        ensures overflow { is_overflow result ≡ compression_overflows P.Gen.greatest reset self.old.generation }
+    {
+        self.compress_by(reset, Calls { f })
+    }
+
+    /// Moves all entries to the indexes from 1 on as `compress_with` does, where `map` has the place of the closure.
+    pub fn compress_by<M: MapEntry<P, T> + Drop>(
+        &mut self,
+        reset: bool,
+        map: M,
+    ) -> InvalidationOption<()>
+        requires { M.callable map }
+        ensures after { IsCompression P.index P.era M.step
+            (compressed_generation P.Gen.greatest reset self.old.generation) map self.old self.new }
+        ensures overflow { is_overflow result ≡ compression_overflows P.Gen.greatest reset self.old.generation }
+    {
+        let first = name_places(&mut self.arena, Side::Before);
+        let overflow = compress_items(&mut self.arena, reset, map);
+        self.last = name_places(&mut self.arena, Side::After);
+        self.first = first;
+        overflow
+    }
+}
+
+// Compresses the arena under a chain. The links keep the names of neighbours that they have.
+fn compress_items<P: Ptr, T, A: Allocator, M: MapEntry<P, T> + Drop>(
+    arena: &mut Arena<P, LinkNoGen<P, T>, A>,
+    reset: bool,
+    map: M,
+) -> InvalidationOption<()>
+    requires { M.callable map }
+    ensures after { CompressesItems P.index P.era M.step
+        (compressed_generation P.Gen.greatest reset arena.old.generation) map arena.old arena.new }
+    ensures fresh { IsFresh arena.new }
+    ensures overflow { is_overflow result ≡ compression_overflows P.Gen.greatest reset arena.old.generation }
+{
+    arena.compress_by(reset, MapItem { map })
+}
+
+/// Makes a new item within a link, which keeps its neighbours.
+#[doc(hidden)]
+#[derive(Drop)]
+pub struct MapItem<M> {
+    map: M,
+}
+
+impl<P: Ptr, T, M: MapEntry<P, T>> MapEntry<P, LinkNoGen<P, T>> for MapItem<M> {
+    ghost use Rattle.chain_base.specs.Naming.{MapsItem};
+
+    ghost callable = { λ m. M.callable m.map };
+
+    ghost step = { λ m old link new answer n. MapsItem M.step m.map old link new answer n.map };
+
+    fn map_entry(&mut self, old: P, link: LinkNoGen<P, T>, new: P) -> LinkNoGen<P, T> {
+        let neighbours = link.prev_next();
+        LinkNoGen::new(neighbours, self.map.map_entry(old, link.t, new))
+    }
+}
+
+/// A side of an entry in the list.
+#[doc(hidden)]
+#[derive(Clone, Copy)]
+pub enum Side {
+    Before,
+    After,
+}
+
+// For each entry, by rising index, lets its neighbour on a side name the entry's place among all, counted from 1. Answers the
+// place of the entry that has no such neighbour.
+//
+// Before a compression the places are the indexes to come: an entry is met at its old index, its neighbour's link not
+// yet changed on this side. After it they are the indexes.
+fn name_places<P: Ptr, T, A: Allocator>(
+    arena: &mut Arena<P, LinkNoGen<P, T>, A>,
+    side: Side,
+) -> Option<P::Inx>
+    requires { IsPaired side arena.old }
+    ensures { NamesPlaces side arena.old arena.new (option_map P.Inx.number result) }
+{
+    let mut end = None;
+    let mut count = 0;
+    for place in 0..arena.capacity() {
+        let index = P::Inx::try_from_usize(place + 1).unwrap();
+        if let Some(entry) = arena.get_inx(index) {
+            let neighbour = neighbour_on(entry.1, side);
+            count += 1;
+            let here = P::Inx::try_from_usize(count);
+            if neighbour.is_none() {
+                end = here;
+            }
+            link_facing(arena, side, neighbour, here);
+        }
+    }
+    end
+}
+
+// The index of the neighbour on a side.
+fn neighbour_on<P: Ptr, T>(link: &LinkNoGen<P, T>, side: Side) -> Option<P::Inx>
+    ensures { option_map P.Inx.number result ≡ neighbour_on side link.now }
+{
+    match side {
+        Side::Before => link.prev(),
+        Side::After => link.next(),
+    }
+}
+
+// Links the entry at an index, if one is named, to another neighbour on the side that faces this one.
+fn link_facing<P: Ptr, T, A: Allocator>(
+    arena: &mut Arena<P, LinkNoGen<P, T>, A>,
+    side: Side,
+    at: Option<P::Inx>,
+    other: Option<P::Inx>,
+)
+    requires { ForSome at (λ i. IsOccupied arena.old (P.Inx.number i)) }
+    ensures { arena.new ≡ linked_facing side arena.old (option_map P.Inx.number at)
+        (named_of P.Inx.most (option_map P.Inx.number other)) }
+{
+    match side {
+        Side::Before => set_next(arena, at, other),
+        Side::After => set_prev(arena, at, other),
+    }
+}
