@@ -51,7 +51,7 @@ struct Slot {
     pair: OrdPair<u64, u64>,
     prev: u32,
     next: u32,
-    _rest: [u64; 6],
+    _rest: [u64; 4],
 }
 
 /// The items of an arena in a vector of slots, at the indexes that they have there, with their neighbours.
@@ -98,7 +98,7 @@ fn slot_of(pair: OrdPair<u64, u64>, prev: u32, next: u32) -> Slot {
         pair,
         prev,
         next,
-        _rest: [0; 6],
+        _rest: [0; 4],
     }
 }
 

@@ -4,8 +4,12 @@ ghost use Rattle.std.specs.List.{fold};
 ghost use Rattle.std.specs.Ordering.{ordering_then, partial_ordering_then, is_eq};
 
 use crate::pair::OrdPair;
+use arena_base::{P0, Slot};
+use chain_base::LinkNoGen;
+use ord_tree::SimpleOrdArenaNode;
 use std::cmp::Ordering;
 use std::hash::{Hash, Hasher};
+use std::mem::size_of;
 
 /// Whether two pairs are equal: their keys are, and their values are.
 pub fn pairs_equal<K: PartialEq, V: PartialEq>(a: &OrdPair<K, V>, b: &OrdPair<K, V>) -> bool
@@ -52,4 +56,10 @@ pub fn pairs_hash_alike<K: Hash, V: Hash>(a: &OrdPair<K, V>, b: &OrdPair<K, V>) 
         ≡ K.hash_input b.now.0 ++ V.hash_input b.now.1 }
 {
     *a == *b
+}
+
+/// A slot of an arena of pairs of words takes at most seven words: the pair, the generation, the tag, and in half a word
+/// each both neighbours, the three links and the rank. It does nothing; that it compiles says so.
+pub fn slots_are_small() {
+    prove!(size_of::<Slot<LinkNoGen<P0, SimpleOrdArenaNode<P0, OrdPair<u64, u64>>>, u64>>() <= 56);
 }
