@@ -13,3 +13,4 @@ pub mod Places
 pub mod Calls
 pub mod Going
 pub mod CallerLemmas
+pub mod Transferring
