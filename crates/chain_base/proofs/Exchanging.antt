@@ -293,8 +293,8 @@ module _ {T : Type 0} where
     laid-exchanged =
         IsLaidOut-renumbered (in_exchange i j) (other i j) (λ e. refl) es laid.distinct (λ x y there_x there_y same. other-injective i j x y same) linked.slots (option_map (other i j) first) (option_map (other i j) last)
         (λ xs e ys split.
-            let is = link_at-split es xs e ys split laid.distinct e.index refl in
-            linked-slot e.index _ (laid.links e.index ∙ is) ∙ rw is refl)
+        let is = link_at-split es xs e ys split laid.distinct e.index refl in
+        linked-slot e.index _ (laid.links e.index ∙ is) ∙ rw is refl)
         vacant-linked
         (ap (option_map (other i j)) laid.first_is)
         (ap (option_map (other i j)) laid.last_is)
@@ -331,7 +331,7 @@ module _ {T : Type 0} where
         pub laid-again : IsLaidOut b4.slots end1 end2 (chain_of b4 end1).entries
         laid-again =
             let laid2 : IsLaidOut linked.slots (option_map (other i j) first) (option_map (other i j) last) (chain_of linked (option_map (other i j) first)).entries =
-              subst (λ fs. IsLaidOut linked.slots (option_map (other i j) first) (option_map (other i j) last) fs) (sym (walk-laid_out linked _ _ _ laid-exchanged)) laid-exchanged in
+            subst (λ fs. IsLaidOut linked.slots (option_map (other i j) first) (option_map (other i j) last) fs) (sym (walk-laid_out linked _ _ _ laid-exchanged)) laid-exchanged in
             rw (is-linked made1 made2 made3 made4, is_first, is_last) laid2
 
         pub chain-again : chain_of b4 end1 ≡ exchanged (chain_of a0 first) i j
