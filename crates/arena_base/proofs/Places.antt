@@ -1,5 +1,5 @@
 -- How the slots in memory are the slots by index.
-use Rattle.std.proofs.Common.{◌≡◌, ℕ, ◌+◌, ◌<◌, ◌≤◌, Option, None, List, [], ◌∷◌, ◌++◌, map, length, get_or, set, take, refl, sym, ap, ◌∙◌, arith, add-one}
+use Rattle.std.proofs.Common.{◌≡◌, ◌≢◌, ℕ, zero, suc, drop, ◌+◌, ◌<◌, ◌≤◌, Option, None, List, [], ◌∷◌, ◌++◌, map, length, get_or, set, take, refl, sym, ap, ◌∙◌, arith, add-one}
 use Rattle.std.proofs.lemmas.List.{take_at, take-take, get_or-take, get_or_push, map-set, get_or-map}
 use Rattle.arena_base.specs.declared.slot.Slot.{Slot}
 use Rattle.arena_base.specs.declared.slot.Slot.TheVariants.{Occupied, Vacant}
@@ -24,6 +24,15 @@ module _ {T G : Type 0} (number : G → ℕ) where
   vacant_places-indexes from [] = refl
   vacant_places-indexes from (Vacant ∷ slots) = ap (λ rest. (from + 1) ∷ rest) (vacant_places-indexes (from + 1) slots)
   vacant_places-indexes from (Occupied item era ∷ slots) = vacant_places-indexes (from + 1) slots
+
+-- the vacant places stand behind the slots that have entries
+pub vacant_places-full : {T G : Type 0} (from full : ℕ) (slots : List (Slot T G)) → ((k : ℕ) → k < full → get_or slots k Vacant ≢ Vacant) → vacant_places from slots ≡ vacant_places (from + full) (drop full slots)
+vacant_places-full from zero slots occupied = let same : from ≡ from + 0 = omega arith in ap (λ n. vacant_places n slots) same
+vacant_places-full from (suc full) [] occupied = absurd (occupied 0 (omega arith) refl)
+vacant_places-full from (suc full) (Vacant ∷ slots) occupied = absurd (occupied 0 (omega arith) refl)
+vacant_places-full from (suc full) (Occupied item era ∷ slots) occupied =
+    let later : from + 1 + full ≡ from + suc full = omega arith in
+    vacant_places-full (from + 1) full slots (λ k below. occupied (suc k) (omega arith)) ∙ ap (λ n. vacant_places n (drop full slots)) later
 
 -- there are no more vacant places than slots
 pub length-vacant_places : {T G : Type 0} (from : ℕ) (slots : List (Slot T G)) → length (vacant_places from slots) ≤ length slots

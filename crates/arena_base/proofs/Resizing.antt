@@ -1,17 +1,17 @@
 -- Changing the number of slots, and emptying them all.
-use Rattle.std.proofs.Common.{inl, inr, ◌⊎◌, ◌≡◌, ℕ, zero, suc, ◌+◌, ◌-◌, ◌<◌, ◌≤◌, Option, Some, None, List, [], ◌∷◌, ◌++◌, map, length, get_or, take, drop, replicate, reverse, refl, sym, ap, ◌∙◌, subst, arith, add-one}
-use Rattle.std.proofs.lemmas.Bool.{cases_lt}
-use Rattle.std.proofs.lemmas.List.{map-append, take-map, take_all, take-append-le, append-nil, length-append, length-map, length-replicate, length-take, get_or-map, get_or_append_left, get_or-append_right}
+use Rattle.std.proofs.Common.{inl, inr, ◌⊎◌, ◌≡◌, ◌≢◌, is_some, true, ℕ, zero, suc, ◌+◌, ◌-◌, ◌<◌, ◌≤◌, Option, Some, None, List, [], ◌∷◌, ◌++◌, map, length, get_or, take, drop, replicate, reverse, refl, sym, ap, ◌∙◌, subst, arith, add-one}
+use Rattle.std.proofs.lemmas.Bool.{cases_lt, false≢true}
+use Rattle.std.proofs.lemmas.List.{map-append, take-map, take_all, take-append-le, append-nil, length-append, length-map, length-replicate, length-take, get_or-take, get_or-map, get_or_append_left, get_or-append_right}
 use Rattle.std.proofs.lemmas.Option.{none-some}
 use Rattle.arena_base.specs.declared.slot.Slot.{Slot}
 use Rattle.arena_base.specs.declared.slot.Slot.TheVariants.{Occupied, Vacant}
 use Rattle.arena_base.specs.Slot.{entry_in, vacant_places, arena_of, AllVacantFrom}
 use Rattle.arena_base.specs.Generation.{IsLawfulGeneration, first_generation}
-use Rattle.arena_base.specs.Arena.{Arena, IsSound, vacant_from, vacant_indexes, limit_of, resized, new_arena, with_capacity, emptied, greatest_occupied}
+use Rattle.arena_base.specs.Arena.{Arena, slot, arena_capacity, IsSound, vacant_from, vacant_indexes, limit_of, resized, new_arena, with_capacity, emptied, greatest_occupied}
 use Rattle.arena_base.proofs.Occupied.{greatest_occupied-above}
 use Rattle.arena_base.proofs.Places.{entries}
 use Rattle.arena_base.proofs.Vacancies.{length-vacant_from-padded}
-use Rattle.arena_base.proofs.Steps.{list-view, list-sound}
+use Rattle.arena_base.proofs.Steps.{arena_capacity-of, entry-at, entry-within, list-view, list-sound}
 use Rattle.arena_base.proofs.Soundness.{arena, sound-new}
 
 map-replicate : {X Y : Type 0} (f : X → Y) (n : ℕ) (x : X) → map f (replicate n x) ≡ replicate n (f x)
@@ -63,6 +63,23 @@ module _ {T G : Type 0} (number : G → ℕ) where
           ∙ vacant_from_none (get_or slots k Vacant) (sym (get_or-map (entry_in number) slots k Vacant None inside) ∙ none)
       here k beyond (inr past) =
           get_or-append_right slots (replicate (n - length slots) Vacant) (length slots) k Vacant refl past ∙ get_or-all_default (n - length slots) (k - length slots) Vacant
+
+  -- an entry keeps its slot
+  pub resized-full : (slots padded next : List (Slot T G)) (generation : G) (maximum : Option ℕ) (places : List ℕ) (a : Arena T) (n full : ℕ) → arena_of number slots places generation maximum ≡ a
+      → padded ≡ slots ++ replicate (n - length slots) Vacant → next ≡ take n padded → greatest_occupied a.slots ≤ n → ((i : ℕ) → 0 < i → i ≤ full → is_some (slot a i) ≡ true) → (k : ℕ) → k < full → get_or next k Vacant ≢ Vacant
+  resized-full slots padded next generation maximum places a n full seen is cut least occupied k below = λ vacant.
+      let there = occupied (k + 1) (omega arith) (omega arith) in
+      let inside : k < length slots = omega (arith, entry-within number slots generation maximum places a k (k + 1) seen refl there, ap arena_capacity (sym seen), arena_capacity-of number slots generation maximum places) in
+      let read : entry_in number (get_or slots k Vacant) ≡ slot a (k + 1) = sym (get_or-map (entry_in number) slots k Vacant None inside) ∙ entry-at number slots generation maximum places a k (k + 1) seen refl (slot a (k + 1)) refl in
+      elim (cases_lt k n) [
+        | inl within ↦
+            let same : get_or next k Vacant ≡ get_or slots k Vacant = ap (λ ss. get_or ss k Vacant) cut ∙ get_or-take n padded k Vacant within ∙ ap (λ ss. get_or ss k Vacant) is ∙ get_or_append_left slots (replicate (n - length slots) Vacant) Vacant k inside in
+            let none : None ≡ slot a (k + 1) = ap (entry_in number) (sym vacant ∙ same) ∙ read in
+            false≢true (ap is_some none ∙ there)
+        | inr beyond ↦
+            let none : slot a (k + 1) ≡ None = greatest_occupied-above a.slots (k + 1) (omega arith) in
+            false≢true (ap is_some (sym none) ∙ there)
+      ]
 
   module _ (most : ℕ) (greatest : Option ℕ) (slots : List (Slot T G)) (generation : G) (maximum : Option ℕ) (places listed : List ℕ) (a : Arena T) (seen : arena_of number slots places generation maximum ≡ a)
       (next : List (Slot T G)) (all : listed ≡ reverse (vacant_places 0 next)) where

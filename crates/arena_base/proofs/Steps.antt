@@ -34,8 +34,13 @@ module _ {T G : Type 0} (number : G → ℕ) (slots : List (Slot T G)) (generati
       rw (← view, index) (slot-read number slots k s inside is)
 
   -- what stands at an index stands in the slot at its place
-  entry-at : (places : List ℕ) (a : Arena T) (k i : ℕ) → arena_of number slots places generation maximum ≡ a → i ≡ k + 1 → (e : Option (ℕ × T)) → slot a i ≡ e → get_or (entries number slots) k None ≡ e
+  pub entry-at : (places : List ℕ) (a : Arena T) (k i : ℕ) → arena_of number slots places generation maximum ≡ a → i ≡ k + 1 → (e : Option (ℕ × T)) → slot a i ≡ e → get_or (entries number slots) k None ≡ e
   entry-at places a k i seen place e is = rw (← seen, place, add-one) at is
+
+  -- an index with an entry is not 0
+  pub entry-positive : (places : List ℕ) (a : Arena T) (i : ℕ) → arena_of number slots places generation maximum ≡ a → is_some (slot a i) ≡ true → (k : ℕ) × (i ≡ k + 1)
+  entry-positive places a zero seen there = absurd (false≢true (rw (← seen) at there))
+  entry-positive places a (suc k) seen there = (k, sym (add-one k))
 
   -- an index with an entry is within the capacity
   pub entry-within : (places : List ℕ) (a : Arena T) (k i : ℕ) → arena_of number slots places generation maximum ≡ a → i ≡ k + 1 → is_some (slot a i) ≡ true → k < arena_capacity a

@@ -1,5 +1,5 @@
 -- The vacant indexes of a list of slots: how many there are, what stands at them, and how a write changes them.
-use Rattle.std.proofs.Common.{◌==◌, subst, zero-add, inl, inr, ◌≡◌, ℕ, zero, suc, ◌+◌, ◌<◌, ◌≤◌, true, Option, Some, None, List, [], ◌∷◌, ◌++◌, cond, eqb, length, get_or, set, replicate, is_some, count_by, refl, sym, ap, ◌∙◌, arith}
+use Rattle.std.proofs.Common.{◌==◌, subst, zero-add, inl, inr, ◌≡◌, ℕ, zero, suc, ◌+◌, ◌<◌, ◌≤◌, true, Option, Some, None, List, [], ◌∷◌, ◌++◌, cond, eqb, length, get_or, set, replicate, is_some, count_by, take, ◌-◌, refl, sym, ap, ◌∙◌, arith}
 use Rattle.std.proofs.lemmas.Bool.{cases_eq, ne_eqb}
 use Rattle.std.proofs.lemmas.List.Sums.{sum_by-cons, sum_by-set}
 use Rattle.std.proofs.lemmas.Option.{none-some}
@@ -110,3 +110,19 @@ module _ {X : Type 0} where
   within_from_some [] k entry is = absurd (none-some entry is)
   within_from_some (s ∷ slots) zero entry is = omega arith
   within_from_some (s ∷ slots) (suc k) entry is = let ih = within_from_some slots k entry is in omega arith
+
+  -- where no slot is vacant, each has an entry
+  pub all-occupied : (from : ℕ) (slots : List (Option X)) (k : ℕ) → length (vacant_from from slots) ≡ 0 → k < length slots → is_some (get_or slots k None) ≡ true
+  all-occupied from [] k none within = absurd (omega arith)
+  all-occupied from (None ∷ slots) k none within = absurd (omega arith)
+  all-occupied from (Some e ∷ slots) zero none within = refl
+  all-occupied from (Some e ∷ slots) (suc k) none within = all-occupied (from + 1) slots k none (omega arith)
+
+  -- the same by index, where index 0 has none
+  pub full-occupied : (slots : List (Option X)) → take 1 slots ≡ None ∷ [] → count_by is_some slots ≡ length slots - 1 → (i : ℕ) → 0 < i → i ≤ length slots - 1 → is_some (get_or slots i None) ≡ true
+  full-occupied [] begins full i above within = absurd (cc)
+  full-occupied (s ∷ slots) begins full zero above within = absurd (omega arith)
+  full-occupied (s ∷ slots) begins full (suc k) above within =
+      let none : s ≡ None = cc in
+      let count : count_by is_some (s ∷ slots) ≡ 0 + count_by is_some slots = rw none (sum_by-cons (λ x. cond (is_some x) 1 0) None slots) in
+      all-occupied 1 slots k (omega (arith, full, count, length-vacant_from 1 slots)) (omega arith)

@@ -1,5 +1,5 @@
 //! The answers of calls that end or renew a pointer, and so raise the arena's generation.
-ghost use Rattle.std.specs.Prelude.{◌≡◌, ◌↔◌, IsSome, MatchOption, IfSome};
+ghost use Rattle.std.specs.Prelude.{◌≡◌, ◌↔◌, IsSome, MatchOption, IfSome, Some};
 ghost use Rattle.std.specs.Option.{ForSome};
 
 /// The answer of a call that was given a pointer.
@@ -70,7 +70,20 @@ impl<T> InvalidationResult<T> {
 }
 
 impl<T> InvalidationOption<T> {
-    ghost use Rattle.arena_base.specs.Invalidation.{allowed_value, is_overflow};
+    ghost use Rattle.arena_base.specs.Invalidation.{valid_value, has_overflowed, allowed_value, is_overflow};
+
+    /// The same answer, as that of a call that was given a valid pointer.
+    pub fn valid(self) -> InvalidationResult<T>
+        ensures value { valid_value result ≡ Some (allowed_value self) }
+        ensures overflow { has_overflowed result ≡ is_overflow self }
+    {
+        match self {
+            InvalidationOption::Success(value) => InvalidationResult::Success(value),
+            InvalidationOption::GenerationOverflow(value) => {
+                InvalidationResult::GenerationOverflow(value)
+            }
+        }
+    }
 
     /// The value, whether or not the generations began again.
     pub fn allow(self) -> T

@@ -7,6 +7,7 @@ mod error;
 mod invalidation;
 pub mod laws;
 mod map_entry;
+mod opt_inx;
 mod ptr;
 mod recast;
 mod slot;
@@ -19,6 +20,7 @@ pub use arena::{Arena, Drain, PtrAdvancer};
 pub use error::{InsertionError, MaxCapacityReductionError, ReallocationError};
 pub use invalidation::{InvalidationOption, InvalidationResult};
 pub use map_entry::{Calls, MapEntry};
+pub use opt_inx::OptInx;
 pub use ptr::{P0, P8, PN, Ptr, PtrGen, PtrInx, Q0};
 pub use recast::{Recast, Recaster};
 // A crate can name an arena in a contract only if the types of its fields are exported.

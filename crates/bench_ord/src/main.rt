@@ -1,10 +1,11 @@
-//! Measures an ordered arena beside std's `BTreeMap` and plain vectors.
+//! Measures an ordered arena beside std's `BTreeMap` and plain vectors, and its searches from a hint beside whole ones.
 //!
 //! Each argument is a number of entries. Standard output gets the sums of what the measured calls answered, the same on each run;
 //! standard error gets their times, in nanoseconds an operation, the best of several rounds.
 #![tactic(auto)]
 
 mod arena;
+mod hints;
 mod keys;
 mod lap;
 mod map;

@@ -1,5 +1,6 @@
 //! The measures, each of the arena and of another structure in turn.
 use crate::arena::{Pairs, Pointed};
+use crate::hints::{Searches, hints_of};
 use crate::keys::{Keys, keys_of, shuffle};
 use crate::lap::Lap;
 use crate::map::Map;
@@ -26,6 +27,9 @@ pub fn run<R: System>(rt: &R, n: usize) -> Result<()> {
     let map: Map = filled(rt.alloc(), keys.random.as_slice())?;
     compare_finding(rt, "find hits", &pairs, &map, keys.hits.as_slice())?;
     compare_finding(rt, "find misses", &pairs, &map, keys.misses.as_slice())?;
+    compare_hints(rt, "find at the hint", &pairs, 0)?;
+    compare_hints(rt, "find beside the hint", &pairs, 1)?;
+    compare_hints(rt, "find ten from the hint", &pairs, 10)?;
     compare_walking(rt, &pairs, &map)?;
     compare_with_vectors(rt, &pairs)
 }
@@ -146,6 +150,45 @@ fn compare_finding<R: System>(
         other = other.or_quicker(finding(rt, map, keys)?);
     }
     let other_name = "BTreeMap";
+    print(
+        rt,
+        Row {
+            n,
+            measure,
+            arena,
+            other,
+            other_name,
+        },
+    )?;
+    Ok(())
+}
+
+fn hinted<R: System>(rt: &R, searches: Searches) -> io::Result<Lap> {
+    let start = Instant::now(rt)?;
+    let sum = searches.from_hints();
+    Lap::since(rt, start, sum)
+}
+
+fn whole<R: System>(rt: &R, searches: Searches) -> io::Result<Lap> {
+    let start = Instant::now(rt)?;
+    let sum = searches.from_the_root();
+    Lap::since(rt, start, sum)
+}
+
+fn compare_hints<R: System>(rt: &R, measure: &str, pairs: &Pairs, places: usize) -> Result<()> {
+    let hints = hints_of(rt.alloc(), pairs, places)?;
+    let searches = Searches {
+        pairs,
+        hints: hints.as_slice(),
+    };
+    let n = searches.hints.len();
+    let mut arena = hinted(rt, searches)?;
+    let mut other = whole(rt, searches)?;
+    for _ in 1..rounds(n) {
+        arena = arena.or_quicker(hinted(rt, searches)?);
+        other = other.or_quicker(whole(rt, searches)?);
+    }
+    let other_name = "find_key";
     print(
         rt,
         Row {

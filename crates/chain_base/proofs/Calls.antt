@@ -3,7 +3,8 @@ use Rattle.std.proofs.Common.{◌≡◌, ◌≢◌, ℕ, zero, suc, ◌+◌, ◌
 use Rattle.std.proofs.lemmas.Bool.Decides.{eqb_tells}
 use Rattle.std.specs.Option.{option_map}
 use Rattle.arena_base.specs.Arena.{Arena, slot, with_entry_at, arena_capacity, limit_of, new_arena, with_capacity as arena_with_capacity, with_room as arena_with_room, without as arena_without, renewed as arena_renewed, greatest_occupied, IsSound as IsSoundArena, IsInsertion as IsArenaInsertion}
-use Rattle.chain_base.specs.Link.{Link, neighbour_of}
+use Rattle.arena_base.specs.Pointer.{named_of}
+use Rattle.chain_base.specs.Link.{Link}
 use Rattle.chain_base.specs.Chain.{Entry, Chain, times, first_or, last_or, link_at, new_chain, with_capacity, with_room, grown_capacity, greatest_index, renewed}
 use Rattle.chain_base.specs.Insert.{IsInsertion, IsPlace}
 use Rattle.chain_base.specs.Layout.{chain_of, linked_next, linked_prev, IsLaidOut}
@@ -13,10 +14,10 @@ use Rattle.chain_base.proofs.Vacancy.{below-greatest, greatest-links}
 use Rattle.chain_base.proofs.Sound.{occupied-within}
 use Rattle.chain_base.proofs.Steps.{next-first, occurs-held, Inserts, Inserts-joined, Rooms, Rooms-roomed, Removes, Removes-joined, Renews-at, IsLaidOut-walked, IsLaidOut-resized, chain_of-resized}
 
--- an index within reach names a neighbour
-pub neighbour_of-within : (most : ℕ) (o : Option ℕ) → ((k : ℕ) → o ≡ Some k → k ≤ most) → neighbour_of most o ≡ o
-neighbour_of-within most None within = refl
-neighbour_of-within most (Some k) within =
+-- an index within reach names what it says
+pub named_of-within : (most : ℕ) (o : Option ℕ) → ((k : ℕ) → o ≡ Some k → k ≤ most) → named_of most o ≡ o
+named_of-within most None within = refl
+named_of-within most (Some k) within =
     let far : k ≢ most + 1 = λ same. omega (arith, within k refl) in
     rw (other_index k (most + 1) far) refl
 
@@ -83,13 +84,13 @@ module _ {T : Type 0} where
         omega (arith, sound.within_limit, limit_of-most most a1.maximum)
 
     -- an insertion, from what the arena's insertion and the writes of links ensure
-    pub Inserts-linked : (most : ℕ) (greatest : Option ℕ) (a1 b : Arena (Link T)) (first2 last2 : Option ℕ) (place : Entry T → List (Entry T)) (prev next : Option ℕ) (link : Link T) (item : T) (j g : ℕ) → IsPlace (chain_of a first).entries place prev next → link.item ≡ item → link.prev ≡ neighbour_of most prev → link.next ≡ neighbour_of most next → IsArenaInsertion a a1 link j g → IsSoundArena most greatest a1 → b ≡ linked_prev (linked_next a1 prev (neighbour_of most (Some j))) next (neighbour_of most (Some j)) → first2 ≡ (if is_some prev then first else Some j) → last2 ≡ (if is_some next then last else Some j) → Inserts a b first first2 last2 place item j g
+    pub Inserts-linked : (most : ℕ) (greatest : Option ℕ) (a1 b : Arena (Link T)) (first2 last2 : Option ℕ) (place : Entry T → List (Entry T)) (prev next : Option ℕ) (link : Link T) (item : T) (j g : ℕ) → IsPlace (chain_of a first).entries place prev next → link.item ≡ item → link.prev ≡ named_of most prev → link.next ≡ named_of most next → IsArenaInsertion a a1 link j g → IsSoundArena most greatest a1 → b ≡ linked_prev (linked_next a1 prev (named_of most (Some j))) next (named_of most (Some j)) → first2 ≡ (if is_some prev then first else Some j) → last2 ≡ (if is_some next then last else Some j) → Inserts a b first first2 last2 place item j g
     Inserts-linked most greatest a1 b first2 last2 place prev next link item j g at item_is prev_is next_is ins sound joined first_is last_is =
         let room = within-most most greatest a1 link j g ins sound in
         let es = (chain_of a first).entries in
-        let named_prev : neighbour_of most prev ≡ prev = neighbour_of-within most prev (λ k is. omega (arith, occupied-within a es k _ refl (laid.links k) (prev-occurs place prev next at k is))) in
-        let named_next : neighbour_of most next ≡ next = neighbour_of-within most next (λ k is. omega (arith, occupied-within a es k _ refl (laid.links k) (next-occurs place prev next at k is))) in
-        let named_new : neighbour_of most (Some j) ≡ Some j = neighbour_of-within most (Some j) (λ k is. let same : j ≡ k = cc in omega (arith, ins.vacant.within)) in
+        let named_prev : named_of most prev ≡ prev = named_of-within most prev (λ k is. omega (arith, occupied-within a es k _ refl (laid.links k) (prev-occurs place prev next at k is))) in
+        let named_next : named_of most next ≡ next = named_of-within most next (λ k is. omega (arith, occupied-within a es k _ refl (laid.links k) (next-occurs place prev next at k is))) in
+        let named_new : named_of most (Some j) ≡ Some j = named_of-within most (Some j) (λ k is. let same : j ≡ k = cc in omega (arith, ins.vacant.within)) in
         let whole : link ≡ record { item = item; prev = prev; next = next } = rw (← item_is, ← named_prev, ← named_next, ← prev_is, ← next_is) refl in
         let ins2 = subst (λ (l : Link T). IsArenaInsertion a a1 l j g) whole ins in
         rw (joined, first_is, last_is, named_new) (Inserts-joined a a1 first last place prev next item j g laid at ins2)
@@ -131,7 +132,7 @@ module _ {T : Type 0} where
           beside-held k s.0 s.1
 
       -- a removal, from what the arena's removal and the writes of links ensure
-      pub Removes-linked : (most : ℕ) (a1 b : Arena (Link T)) (first2 last2 prev next : Option ℕ) → prev ≡ e.1.prev → next ≡ e.1.next → neighbour_of most e.1.prev ≡ e.1.prev → neighbour_of most e.1.next ≡ e.1.next → a1 ≡ arena_without greatest a i → b ≡ linked_prev (linked_next a1 prev (neighbour_of most next)) next (neighbour_of most prev) → first2 ≡ (if is_some prev then first else next) → last2 ≡ (if is_some next then last else prev) → Removes greatest a b first first2 last2 i
+      pub Removes-linked : (most : ℕ) (a1 b : Arena (Link T)) (first2 last2 prev next : Option ℕ) → prev ≡ e.1.prev → next ≡ e.1.next → named_of most e.1.prev ≡ e.1.prev → named_of most e.1.next ≡ e.1.next → a1 ≡ arena_without greatest a i → b ≡ linked_prev (linked_next a1 prev (named_of most next)) next (named_of most prev) → first2 ≡ (if is_some prev then first else next) → last2 ≡ (if is_some next then last else prev) → Removes greatest a b first first2 last2 i
       Removes-linked most a1 b first2 last2 prev next prev_is next_is named_prev named_next without joined first_is last_is =
           rw (joined, first_is, last_is, without, prev_is, next_is, named_prev, named_next) (Removes-joined greatest a first last i e laid held)
 
@@ -197,7 +198,7 @@ module _ {T : Type 0} where
       pub next-held_roomed : (k : ℕ) → next ≡ Some k → IsSome (slot a1 k)
       next-held_roomed k is = next-held (arena_with_room most a) first last rooms.laid a1 link j g place prev next at-roomed ins k is
 
-      pub Inserts-roomed : (greatest : Option ℕ) (b : Arena (Link T)) (first2 last2 : Option ℕ) (item : T) → link.item ≡ item → link.prev ≡ neighbour_of most prev → link.next ≡ neighbour_of most next → IsSoundArena most greatest a1 → b ≡ linked_prev (linked_next a1 prev (neighbour_of most (Some j))) next (neighbour_of most (Some j)) → first2 ≡ (if is_some prev then first else Some j) → last2 ≡ (if is_some next then last else Some j) → Inserts (arena_with_room most a) b first first2 last2 place item j g
+      pub Inserts-roomed : (greatest : Option ℕ) (b : Arena (Link T)) (first2 last2 : Option ℕ) (item : T) → link.item ≡ item → link.prev ≡ named_of most prev → link.next ≡ named_of most next → IsSoundArena most greatest a1 → b ≡ linked_prev (linked_next a1 prev (named_of most (Some j))) next (named_of most (Some j)) → first2 ≡ (if is_some prev then first else Some j) → last2 ≡ (if is_some next then last else Some j) → Inserts (arena_with_room most a) b first first2 last2 place item j g
       Inserts-roomed greatest b first2 last2 item item_is prev_is next_is sound joined first_is last_is =
           Inserts-linked (arena_with_room most a) first last rooms.laid most greatest a1 b first2 last2 place prev next link item j g at-roomed item_is prev_is next_is ins sound joined first_is last_is
 

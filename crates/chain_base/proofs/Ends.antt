@@ -1,5 +1,5 @@
 -- What the calls that look up an entry find, read off the list.
-use Rattle.std.proofs.Common.{◌≡◌, ℕ, ◌≤◌, List, [], ◌∷◌, Option, Some, None, IsSome, is_some, refl, sym, ◌∙◌, arith, inl, inr}
+use Rattle.std.proofs.Common.{◌≡◌, ℕ, ◌≤◌, List, [], ◌∷◌, Option, Some, None, IsSome, is_some, false, refl, sym, ap, ◌∙◌, arith, inl, inr}
 use Rattle.std.proofs.lemmas.Bool.Decides.{eqb_tells}
 use Rattle.std.specs.Option.{option_map}
 use Rattle.arena_base.specs.Arena.{Arena, slot, item_if, item_of as slot_item, IsFirstEntry, IsLastEntry}
@@ -49,6 +49,14 @@ module _ {T : Type 0} where
 
   pub item_of-link : (es : List (Entry T)) (i g : ℕ) (o : Option (ℕ × Link T)) → o ≡ link_at es i → item_of es i g ≡ option_map (λ l. l.item) (item_if g o)
   item_of-link es i g o links = rw (entry_at-link None None es i, ← links) (item_if-link g o)
+
+  -- where there is no entry there is no link
+  pub link_at-none : (es : List (Entry T)) (i : ℕ) → is_some (entry_at es i) ≡ false → None ≡ link_at es i
+  link_at-none es i none = mapped (link_at es i) (ap is_some (sym (entry_at-link None None es i)) ∙ none)
+    where
+      mapped : (o : Option (ℕ × Link T)) → is_some {T = ℕ × T} (option_map (λ e. (e.0, e.1.item)) o) ≡ false → None ≡ o
+      mapped None h = refl
+      mapped (Some e) h = absurd (cc)
 
   -- an entry's generation is that of its slot
   pub generation_at-link : (es : List (Entry T)) (i : ℕ) (o : Option (ℕ × Link T)) → o ≡ link_at es i → generation_at es i ≡ option_map (λ e. e.0) o

@@ -4,8 +4,9 @@ use Rattle.std.proofs.lemmas.Bool.{false≢true}
 use Rattle.std.proofs.lemmas.Bool.Decides.{eqb_tells}
 use Rattle.std.proofs.lemmas.Option.{none-some, same_Some}
 use Rattle.std.specs.Option.{option_map, option_and_then, ForSome}
+use Rattle.arena_base.specs.Pointer.{named_of}
 use Rattle.arena_base.specs.Arena.{Arena, slot, with_slot, with_item_of, swapped}
-use Rattle.chain_base.specs.Link.{Link, neighbour_of}
+use Rattle.chain_base.specs.Link.{Link}
 use Rattle.chain_base.specs.Chain.{Entry, Chain, times, entry_at, first_or, last_or, link_at, IsSound}
 use Rattle.chain_base.specs.Layout.{chain_of, names, with_next, with_prev, linked_next, linked_prev, IsLaidOut}
 use Rattle.chain_base.specs.Exchange.{exchanged_index, in_exchange, exchanged}
@@ -346,7 +347,7 @@ module _ {T : Type 0} where
       at x e held = even x (e.0, e.1.item) (entry_at-link None None es x ∙ ap (option_map (λ e. (e.0, e.1.item))) (sym (laid.links x) ∙ held))
 
   -- an index with an entry can be named in a link
-  pub occupied-named : (most : ℕ) (greatest : Option ℕ) (c : Chain T) (i : ℕ) → IsSound most greatest c → is_some (entry_at c.entries i) ≡ true → neighbour_of most (Some i) ≡ Some i
+  pub occupied-named : (most : ℕ) (greatest : Option ℕ) (c : Chain T) (i : ℕ) → IsSound most greatest c → is_some (entry_at c.entries i) ≡ true → named_of most (Some i) ≡ Some i
   occupied-named most greatest c i sound occupied =
       elim (eqb_tells (times i c.entries) 0) [
         | inl h ↦ absurd (false≢true (sym (ap is_some (entry_at-absent c.entries i h.1)) ∙ occupied))

@@ -6,7 +6,8 @@ use Rattle.std.proofs.lemmas.Option.{none-some, same_Some}
 use Rattle.std.proofs.lemmas.List.Sums.{count_by_more_no, count_by_more_yes}
 use Rattle.std.specs.Option.{option_map, option_and_then}
 use Rattle.arena_base.specs.Arena.{Arena, slot}
-use Rattle.chain_base.specs.Link.{Link, neighbour_of}
+use Rattle.arena_base.specs.Pointer.{named_of}
+use Rattle.chain_base.specs.Link.{Link}
 use Rattle.chain_base.specs.Naming.{neighbour_on, with_facing, linked_facing, named, place_in, IsPaired, NamesPlaces}
 use Rattle.chain_base.specs.declared.chain.compress.Side.{Side}
 use Rattle.chain_base.specs.declared.chain.compress.Side.TheVariants.{Before, After}
@@ -219,5 +220,5 @@ index-made number most n None made value above within = absurd (false≢true (ma
 index-made number most n (Some i) made value above within = ap Some value
 
 -- it stands for itself in a link
-pub neighbour-within : (most n : ℕ) → n ≤ most → neighbour_of most (Some n) ≡ Some n
+pub neighbour-within : (most n : ℕ) → n ≤ most → named_of most (Some n) ≡ Some n
 neighbour-within most n within = elim (eqb_tells n (most + 1)) [ inl h ↦ absurd (omega arith) | inr h ↦ rw h.0 refl ]

@@ -106,24 +106,24 @@ module _ {P T I G : Type 0} where
 
 -- the tree with the new entry beside another
 module _ {P T I G : Type 0} (number : I → ℕ) (c d : Chain (SimpleOrdArenaNode P T I G)) (root : Option ℕ) (at : I × Ordering) (x g : ℕ) (leaf : SimpleOrdArenaNode P T I G)
-    (laid : IsLaidOut number c root (shape_in number c root)) (occupied : is_some (entry_at c.entries (number at.0)) ≡ true) (free : entry_times x c.entries ≡ 0)
+    (laid : IsLaidOut c root (shape_in c root)) (occupied : is_some (entry_at c.entries (number at.0)) ≡ true) (free : entry_times x c.entries ≡ 0)
     (entries : d.entries ≡ put_on at.1 (number at.0) c.entries (record { index = x; generation = g; item = leaf }))
     (most : ℕ) (greatest : Option ℕ) (sound : IsSound most greatest d) (fits : most + 1 < 2 ^ 64) where
   abbrev order : List ℕ
   order = indexes c.entries
 
   abbrev before : Shape
-  before = shape_in number c root
+  before = shape_in c root
 
-  slots_other : (j : ℕ) → j ≢ x → slots_of number d j ≡ slots_of number c j
+  slots_other : (j : ℕ) → j ≢ x → slots_of d j ≡ slots_of c j
   slots_other j ne =
-      ap (λ (es : List (Entry (SimpleOrdArenaNode P T I G))). option_map (λ (e : ℕ × SimpleOrdArenaNode P T I G). links_in number e.1) (entry_at es j)) entries
-      ∙ ap (option_map (λ (e : ℕ × SimpleOrdArenaNode P T I G). links_in number e.1)) (put-other at.1 c.entries (number at.0) j (record { index = x; generation = g; item = leaf }) ne)
+      ap (λ (es : List (Entry (SimpleOrdArenaNode P T I G))). option_map (λ (e : ℕ × SimpleOrdArenaNode P T I G). links_in e.1) (entry_at es j)) entries
+      ∙ ap (option_map (λ (e : ℕ × SimpleOrdArenaNode P T I G). links_in e.1)) (put-other at.1 c.entries (number at.0) j (record { index = x; generation = g; item = leaf }) ne)
 
-  slots_x : slots_of number d x ≡ Some (links_in number leaf)
+  slots_x : slots_of d x ≡ Some (links_in leaf)
   slots_x =
-      ap (λ (es : List (Entry (SimpleOrdArenaNode P T I G))). option_map (λ (e : ℕ × SimpleOrdArenaNode P T I G). links_in number e.1) (entry_at es x)) entries
-      ∙ ap (option_map (λ (e : ℕ × SimpleOrdArenaNode P T I G). links_in number e.1)) (put-same at.1 c.entries (number at.0) (record { index = x; generation = g; item = leaf }) occupied free)
+      ap (λ (es : List (Entry (SimpleOrdArenaNode P T I G))). option_map (λ (e : ℕ × SimpleOrdArenaNode P T I G). links_in e.1) (entry_at es x)) entries
+      ∙ ap (option_map (λ (e : ℕ × SimpleOrdArenaNode P T I G). links_in e.1)) (put-same at.1 c.entries (number at.0) (record { index = x; generation = g; item = leaf }) occupied free)
 
   pub order_is : indexes d.entries ≡ beside (side_at at.1) (number at.0) x order
   order_is =
@@ -152,13 +152,13 @@ module _ {P T I G : Type 0} (number : I → ℕ) (c d : Chain (SimpleOrdArenaNod
         fits,
       )
 
-  held_d : Holds (slots_of number d) None root before
+  held_d : Holds (slots_of d) None root before
   held_d =
-      Holds-frame (slots_of number c) (slots_of number d) before None root
+      Holds-frame (slots_of c) (slots_of d) before None root
       (λ j inside. slots_other j (apart-from x j (λ j. times j order) fresh (omega (arith, inside, times-walk j before, ap (times j) laid.listed)))) laid.held
 
-  pub budding : (slack : ℕ) (place : Place I) → IsBalanced slack before → IsBud number (number at.0) (side_at at.1) (slots_of number c) order place → links_in number leaf ≡ leaf_links (Some (number place.parent))
-      → IsBudding (slots_of number d) root place.side (number place.parent) x order slack
+  pub budding : (slack : ℕ) (place : Place I) → IsBalanced slack before → IsBud number (number at.0) (side_at at.1) (slots_of c) order place → links_in leaf ≡ leaf_links (Some (number place.parent))
+      → IsBudding (slots_of d) root place.side (number place.parent) x order slack
   budding slack place balanced bud leaf_is = record {
     built = record { shape = before; held = held_d; listed = laid.listed; balanced = balanced };
     within = bud.within;
@@ -169,99 +169,99 @@ module _ {P T I G : Type 0} (number : I → ℕ) (c d : Chain (SimpleOrdArenaNod
     few = few;
   }
 
-  module _ (new : Chain (SimpleOrdArenaNode P T I G)) (root' : Option ℕ) (place : Place I) (bud : IsBud number (number at.0) (side_at at.1) (slots_of number c) order place) (kept : bare new ≡ bare d)
-      (repaired : (slack : ℕ) → IsBalanced slack before → IsRepaired (slots_of number d) (slots_of number new) root' (beside place.side (number place.parent) x order) slack) where
+  module _ (new : Chain (SimpleOrdArenaNode P T I G)) (root' : Option ℕ) (place : Place I) (bud : IsBud number (number at.0) (side_at at.1) (slots_of c) order place) (kept : bare new ≡ bare d)
+      (repaired : (slack : ℕ) → IsBalanced slack before → IsRepaired (slots_of d) (slots_of new) root' (beside place.side (number place.parent) x order) slack) where
     listed_new : beside place.side (number place.parent) x order ≡ indexes new.entries
     listed_new = bud.put x ∙ sym order_is ∙ sym (indexes-bare d.entries) ∙ ap (λ (c : Chain T). indexes c.entries) (sym kept) ∙ indexes-bare new.entries
 
-    shape_is : (slack : ℕ) (balanced : IsBalanced slack before) → shape_in number new root' ≡ (repaired slack balanced).built.shape
-    shape_is slack balanced = let b = (repaired slack balanced).built in shape_in-held number new root' b.shape b.held (b.listed ∙ listed_new)
+    shape_is : (slack : ℕ) (balanced : IsBalanced slack before) → shape_in new root' ≡ (repaired slack balanced).built.shape
+    shape_is slack balanced = let b = (repaired slack balanced).built in shape_in-held new root' b.shape b.held (b.listed ∙ listed_new)
 
-    balanced_new : (slack : ℕ) → IsBalanced slack before → IsBalanced slack (shape_in number new root')
+    balanced_new : (slack : ℕ) → IsBalanced slack before → IsBalanced slack (shape_in new root')
     balanced_new slack balanced = let P : Shape → Type 0 = λ s. IsBalanced slack s in subst P (sym (shape_is slack balanced)) (repaired slack balanced).built.balanced
 
-    held_new : Holds (slots_of number new) None root' (shape_in number new root')
-    held_new = let b = IsBalanced-ranked before laid.ranked in let P : Shape → Type 0 = λ s. Holds (slots_of number new) None root' s in subst P (sym (shape_is 1 b)) (repaired 1 b).built.held
+    held_new : Holds (slots_of new) None root' (shape_in new root')
+    held_new = let b = IsBalanced-ranked before laid.ranked in let P : Shape → Type 0 = λ s. Holds (slots_of new) None root' s in subst P (sym (shape_is 1 b)) (repaired 1 b).built.held
 
-    pub IsLaidOut-planted : IsLaidOut number new root' (shape_in number new root')
+    pub IsLaidOut-planted : IsLaidOut new root' (shape_in new root')
     IsLaidOut-planted =
         let b = IsBalanced-ranked before laid.ranked in
-        record { held = held_new; listed = ap walk (shape_is 1 b) ∙ (repaired 1 b).built.listed ∙ listed_new; ranked = IsRanked-balanced 1 (shape_in number new root') (balanced_new 1 b) }
+        record { held = held_new; listed = ap walk (shape_is 1 b) ∙ (repaired 1 b).built.listed ∙ listed_new; ranked = IsRanked-balanced 1 (shape_in new root') (balanced_new 1 b) }
 
-    pub IsGrown-planted : IsGrown before (shape_in number new root')
+    pub IsGrown-planted : IsGrown before (shape_in new root')
     IsGrown-planted =
         let b = IsBalanced-ranked before laid.ranked in
         record {
-          ranked = IsRanked-balanced 1 (shape_in number new root') (balanced_new 1 b);
-          tight = λ tight. IsTight-balanced (shape_in number new root') (balanced_new 0 (IsBalanced-tight before laid.ranked tight));
-          moved = MovesAtMost-backs 5 (slots_of number d) (slots_of number new) root root' before (shape_in number new root') held_d held_new (repaired 1 b).backs;
+          ranked = IsRanked-balanced 1 (shape_in new root') (balanced_new 1 b);
+          tight = λ tight. IsTight-balanced (shape_in new root') (balanced_new 0 (IsBalanced-tight before laid.ranked tight));
+          moved = MovesAtMost-backs 5 (slots_of d) (slots_of new) root root' before (shape_in new root') held_d held_new (repaired 1 b).backs;
         }
 
 -- the tree of one entry
-module _ {P T I G : Type 0} (number : I → ℕ) (c d : Chain (SimpleOrdArenaNode P T I G)) (root : Option ℕ) (x g : ℕ) (leaf : SimpleOrdArenaNode P T I G)
-    (empty : c.entries ≡ []) (entries : d.entries ≡ record { index = x; generation = g; item = leaf } ∷ []) (leaf_is : links_in number leaf ≡ leaf_links None) where
-  slots_alone : slots_of number d x ≡ Some (leaf_links None)
+module _ {P T I G : Type 0} (c d : Chain (SimpleOrdArenaNode P T I G)) (root : Option ℕ) (x g : ℕ) (leaf : SimpleOrdArenaNode P T I G)
+    (empty : c.entries ≡ []) (entries : d.entries ≡ record { index = x; generation = g; item = leaf } ∷ []) (leaf_is : links_in leaf ≡ leaf_links None) where
+  slots_alone : slots_of d x ≡ Some (leaf_links None)
   slots_alone =
-      ap (λ (es : List (Entry (SimpleOrdArenaNode P T I G))). option_map (λ (e : ℕ × SimpleOrdArenaNode P T I G). links_in number e.1) (entry_at es x)) entries
+      ap (λ (es : List (Entry (SimpleOrdArenaNode P T I G))). option_map (λ (e : ℕ × SimpleOrdArenaNode P T I G). links_in e.1) (entry_at es x)) entries
       ∙ rw (eq-eqb x x refl) (ap Some leaf_is)
 
-  held_alone : Holds (slots_of number d) None (Some x) (node missing x 1 missing)
+  held_alone : Holds (slots_of d) None (Some x) (node missing x 1 missing)
   held_alone = (leaf_links None, refl, slots_alone, refl, refl, refl, refl)
 
-  shape_alone : shape_in number d (Some x) ≡ node missing x 1 missing
-  shape_alone = shape_in-held number d (Some x) (node missing x 1 missing) held_alone (ap (λ (es : List (Entry (SimpleOrdArenaNode P T I G))). indexes es) (sym entries))
+  shape_alone : shape_in d (Some x) ≡ node missing x 1 missing
+  shape_alone = shape_in-held d (Some x) (node missing x 1 missing) held_alone (ap (λ (es : List (Entry (SimpleOrdArenaNode P T I G))). indexes es) (sym entries))
 
-  shape_none : shape_in number c root ≡ missing
-  shape_none = ap (λ (es : List (Entry (SimpleOrdArenaNode P T I G))). shape_under (length es) (slots_of number c) root) empty
+  shape_none : shape_in c root ≡ missing
+  shape_none = ap (λ (es : List (Entry (SimpleOrdArenaNode P T I G))). shape_under (length es) (slots_of c) root) empty
 
   ranked_alone : IsRanked (node missing x 1 missing)
   ranked_alone = (record { lesser = omega arith; greater = omega arith; leaf = λ _ _. refl }, tt, tt)
 
-  pub IsLaidOut-alone : IsLaidOut number d (Some x) (shape_in number d (Some x))
+  pub IsLaidOut-alone : IsLaidOut d (Some x) (shape_in d (Some x))
   IsLaidOut-alone =
-      let L : Shape → Type 0 = λ s. IsLaidOut number d (Some x) s in
+      let L : Shape → Type 0 = λ s. IsLaidOut d (Some x) s in
       subst L (sym shape_alone) (record { held = held_alone; listed = ap (λ (es : List (Entry (SimpleOrdArenaNode P T I G))). indexes es) (sym entries); ranked = ranked_alone })
 
-  pub IsGrown-alone : IsGrown (shape_in number c root) (shape_in number d (Some x))
+  pub IsGrown-alone : IsGrown (shape_in c root) (shape_in d (Some x))
   IsGrown-alone =
-      let A : Shape → Type 0 = λ s. IsGrown s (shape_in number d (Some x)) in
+      let A : Shape → Type 0 = λ s. IsGrown s (shape_in d (Some x)) in
       let B : Shape → Type 0 = λ s. IsGrown missing s in
       subst A (sym shape_none) (subst B (sym shape_alone) (record { ranked = ranked_alone; tight = λ _. (inl refl, tt, tt); moved = ([], omega arith, λ i p q old new. elim old [ ]) }))
 
 -- an insertion as a whole
 module _ {P T I G : Type 0} (number : I → ℕ) (c d : Chain (SimpleOrdArenaNode P T I G)) (root : Option ℕ) (x g : ℕ) (leaf : SimpleOrdArenaNode P T I G)
-    (laid : IsLaidOut number c root (shape_in number c root)) (free : entry_times x c.entries ≡ 0)
+    (laid : IsLaidOut c root (shape_in c root)) (free : entry_times x c.entries ≡ 0)
     (most : ℕ) (greatest : Option ℕ) (sound : IsSound most greatest d) (fits : most + 1 < 2 ^ 64) where
   pub grow_allowed : (at : Option (I × Ordering)) (place : Option (Place I)) → CanPutAt number at c
-      → ((root : Option ℕ) (s : Shape) → IsLaidOut number c root s → IsDistinct c.entries → IsBudAt number at (slots_of number c) (indexes c.entries) place)
-      → d.entries ≡ put_at number at c.entries (record { index = x; generation = g; item = leaf }) → links_in number leaf ≡ leaf_links (option_map (λ (p : Place I). number p.parent) place)
-      → MatchOption place (Unit {0}) (λ p. (order : List ℕ) × (slack : ℕ) × IsBudding (slots_of number d) root p.side (number p.parent) x order slack)
+      → ((root : Option ℕ) (s : Shape) → IsLaidOut c root s → IsDistinct c.entries → IsBudAt number at (slots_of c) (indexes c.entries) place)
+      → d.entries ≡ put_at number at c.entries (record { index = x; generation = g; item = leaf }) → links_in leaf ≡ leaf_links (option_map (λ (p : Place I). number p.parent) place)
+      → MatchOption place (Unit {0}) (λ p. (order : List ℕ) × (slack : ℕ) × IsBudding (slots_of d) root p.side (number p.parent) x order slack)
   grow_allowed at None can bud entries leaf_is = tt
-  grow_allowed None (Some place) can bud entries leaf_is = absurd (let none = bud root (shape_in number c root) laid (λ i. let e = ap (entry_times i) can in omega arith) in cc)
+  grow_allowed None (Some place) can bud entries leaf_is = absurd (let none = bud root (shape_in c root) laid (λ i. let e = ap (entry_times i) can in omega arith) in cc)
   grow_allowed (Some at) (Some place) can bud entries leaf_is =
       let apart = distinct number c d root at x g leaf laid can.0 free entries most greatest sound fits in
-      (indexes c.entries, 1, budding number c d root at x g leaf laid can.0 free entries most greatest sound fits 1 place (IsBalanced-ranked (shape_in number c root) laid.ranked) (bud root (shape_in number c root) laid apart) leaf_is)
+      (indexes c.entries, 1, budding number c d root at x g leaf laid can.0 free entries most greatest sound fits 1 place (IsBalanced-ranked (shape_in c root) laid.ranked) (bud root (shape_in c root) laid apart) leaf_is)
 
   pub grown_whole : (at : Option (I × Ordering)) (place : Option (Place I)) → CanPutAt number at c
-      → ((root : Option ℕ) (s : Shape) → IsLaidOut number c root s → IsDistinct c.entries → IsBudAt number at (slots_of number c) (indexes c.entries) place)
-      → d.entries ≡ put_at number at c.entries (record { index = x; generation = g; item = leaf }) → links_in number leaf ≡ leaf_links (option_map (λ (p : Place I). number p.parent) place)
+      → ((root : Option ℕ) (s : Shape) → IsLaidOut c root s → IsDistinct c.entries → IsBudAt number at (slots_of c) (indexes c.entries) place)
+      → d.entries ≡ put_at number at c.entries (record { index = x; generation = g; item = leaf }) → links_in leaf ≡ leaf_links (option_map (λ (p : Place I). number p.parent) place)
       → (new : Chain (SimpleOrdArenaNode P T I G)) (root' : Option I) (y : I) → number y ≡ x → bare new ≡ bare d
       → MatchOption place ((new ≡ d) × (root' ≡ Some y))
-      (λ p. (order : List ℕ) (slack : ℕ) → IsBudding (slots_of number d) root p.side (number p.parent) x order slack → IsRepaired (slots_of number d) (slots_of number new) (option_map number root') (beside p.side (number p.parent) x order) slack)
-      → IsLaidOut number new (option_map number root') (shape_in number new (option_map number root')) × IsGrown (shape_in number c root) (shape_in number new (option_map number root'))
+      (λ p. (order : List ℕ) (slack : ℕ) → IsBudding (slots_of d) root p.side (number p.parent) x order slack → IsRepaired (slots_of d) (slots_of new) (option_map number root') (beside p.side (number p.parent) x order) slack)
+      → IsLaidOut new (option_map number root') (shape_in new (option_map number root')) × IsGrown (shape_in c root) (shape_in new (option_map number root'))
   grown_whole None None can bud entries leaf_is new root' y y_is kept same =
       let e : List (Entry (SimpleOrdArenaNode P T I G)) = record { index = x; generation = g; item = leaf } ∷ [] in
       let alone = entries ∙ ap (λ (es : List (Entry (SimpleOrdArenaNode P T I G))). record { index = x; generation = g; item = leaf } ∷ es) can in
       let named : option_map number root' ≡ Some x = ap (option_map number) same.1 ∙ ap Some y_is in
-      let R : Option ℕ → Type 0 = λ r. IsLaidOut number new r (shape_in number new r) × IsGrown (shape_in number c root) (shape_in number new r) in
-      let N : Chain (SimpleOrdArenaNode P T I G) → Type 0 = λ n. IsLaidOut number n (Some x) (shape_in number n (Some x)) × IsGrown (shape_in number c root) (shape_in number n (Some x)) in
-      subst R (sym named) (subst N (sym same.0) (IsLaidOut-alone number c d root x g leaf can alone leaf_is, IsGrown-alone number c d root x g leaf can alone leaf_is))
+      let R : Option ℕ → Type 0 = λ r. IsLaidOut new r (shape_in new r) × IsGrown (shape_in c root) (shape_in new r) in
+      let N : Chain (SimpleOrdArenaNode P T I G) → Type 0 = λ n. IsLaidOut n (Some x) (shape_in n (Some x)) × IsGrown (shape_in c root) (shape_in n (Some x)) in
+      subst R (sym named) (subst N (sym same.0) (IsLaidOut-alone c d root x g leaf can alone leaf_is, IsGrown-alone c d root x g leaf can alone leaf_is))
   grown_whole (Some at) None can bud entries leaf_is new root' y y_is kept same =
-      absurd (elim (bud root (shape_in number c root) laid (distinct number c d root at x g leaf laid can.0 free entries most greatest sound fits)) [ ])
-  grown_whole None (Some place) can bud entries leaf_is new root' y y_is kept repaired = absurd (let none = bud root (shape_in number c root) laid (λ i. let e = ap (entry_times i) can in omega arith) in cc)
+      absurd (elim (bud root (shape_in c root) laid (distinct number c d root at x g leaf laid can.0 free entries most greatest sound fits)) [ ])
+  grown_whole None (Some place) can bud entries leaf_is new root' y y_is kept repaired = absurd (let none = bud root (shape_in c root) laid (λ i. let e = ap (entry_times i) can in omega arith) in cc)
   grown_whole (Some at) (Some place) can bud entries leaf_is new root' y y_is kept repaired =
-      let here = bud root (shape_in number c root) laid (distinct number c d root at x g leaf laid can.0 free entries most greatest sound fits) in
-      let again : (slack : ℕ) → IsBalanced slack (shape_in number c root) → IsRepaired (slots_of number d) (slots_of number new) (option_map number root') (beside place.side (number place.parent) x (indexes c.entries)) slack
+      let here = bud root (shape_in c root) laid (distinct number c d root at x g leaf laid can.0 free entries most greatest sound fits) in
+      let again : (slack : ℕ) → IsBalanced slack (shape_in c root) → IsRepaired (slots_of d) (slots_of new) (option_map number root') (beside place.side (number place.parent) x (indexes c.entries)) slack
       = λ slack balanced. repaired (indexes c.entries) slack (budding number c d root at x g leaf laid can.0 free entries most greatest sound fits slack place balanced here leaf_is) in (
         IsLaidOut-planted number c d root at x g leaf laid can.0 free entries most greatest sound fits new (option_map number root') place here kept again,
         IsGrown-planted number c d root at x g leaf laid can.0 free entries most greatest sound fits new (option_map number root') place here kept again,
@@ -288,9 +288,9 @@ mapped-twice number (Some p) = refl
 -- the call of an insertion, from what its steps ensure
 module _ {P T I G : Type 0} (number : I → ℕ) (room c d : Chain (SimpleOrdArenaNode P T I G)) (root : Option ℕ) (at : Option (I × Ordering)) (place : Option (Place I)) (kind : LinkInsertKind P I G)
     (back : Option I) (t : T) (leaf : SimpleOrdArenaNode P T I G) (index era : ℕ) (x : I)
-    (laid : IsLaidOut number c root (shape_in number c root)) (can : CanPutAt number at c) (same_room : room.entries ≡ c.entries)
-    (place_is : (root : Option ℕ) (s : Shape) → IsLaidOut number c root s → IsDistinct c.entries → IsBudAt number at (slots_of number c) (indexes c.entries) place)
-    (back_is : back ≡ option_map (λ (p : Place I). p.parent) place) (leaf_is : leaf ≡ record { p_tree0 = None; p_tree1 = None; t = t; p_back = back; rank = 1 }) (kind_is : kind ≡ kind_at at)
+    (laid : IsLaidOut c root (shape_in c root)) (can : CanPutAt number at c) (same_room : room.entries ≡ c.entries)
+    (place_is : (root : Option ℕ) (s : Shape) → IsLaidOut c root s → IsDistinct c.entries → IsBudAt number at (slots_of c) (indexes c.entries) place)
+    (back_is : back ≡ option_map (λ (p : Place I). p.parent) place) (leaf_is : leaf ≡ record { p_tree0 = None; p_tree1 = None; t = t; p_back = option_map number back; rank = 1 }) (kind_is : kind ≡ kind_at at)
     (insertion : IsInsertion room d (placed number kind c.entries) leaf index era) (x_is : number x ≡ index)
     (most : ℕ) (greatest : Option ℕ) (sound : IsSound most greatest d) (fits : most + 1 < 2 ^ 64) where
   put_is : (e : Entry (SimpleOrdArenaNode P T I G)) → placed number kind c.entries e ≡ put_at number at c.entries e
@@ -301,19 +301,19 @@ module _ {P T I G : Type 0} (number : I → ℕ) (room c d : Chain (SimpleOrdAre
       inserted-entries room d (placed number kind c.entries) leaf index era insertion ∙ put_is (record { index = index; generation = era; item = leaf })
       ∙ ap (λ (i : ℕ). put_at number at c.entries (record { index = i; generation = era; item = leaf })) (sym x_is)
 
-  links_are : links_in number leaf ≡ leaf_links (option_map (λ (p : Place I). number p.parent) place)
-  links_are = ap (links_in number) leaf_is ∙ ap (λ (b : Option I). leaf_links (option_map number b)) back_is ∙ ap leaf_links (mapped-twice number place)
+  links_are : links_in leaf ≡ leaf_links (option_map (λ (p : Place I). number p.parent) place)
+  links_are = ap (links_in) leaf_is ∙ ap (λ (b : Option I). leaf_links (option_map number b)) back_is ∙ ap leaf_links (mapped-twice number place)
 
   x_free : entry_times (number x) c.entries ≡ 0
   x_free = ap (λ (i : ℕ). entry_times i c.entries) x_is ∙ ap (entry_times index) (sym same_room) ∙ insertion.vacant.free
 
-  pub call_allowed : MatchOption place (Unit {0}) (λ p. (order : List ℕ) × (slack : ℕ) × IsBudding (slots_of number d) root p.side (number p.parent) (number x) order slack)
+  pub call_allowed : MatchOption place (Unit {0}) (λ p. (order : List ℕ) × (slack : ℕ) × IsBudding (slots_of d) root p.side (number p.parent) (number x) order slack)
   call_allowed = grow_allowed number c d root (number x) era leaf laid x_free most greatest sound fits at place can place_is entries_are links_are
 
   module _ (new : Chain (SimpleOrdArenaNode P T I G)) (root' : Option I) (kept : bare new ≡ bare d)
       (grown : MatchOption place ((new ≡ d) × (root' ≡ Some x))
-      (λ p. (order : List ℕ) (slack : ℕ) → IsBudding (slots_of number d) root p.side (number p.parent) (number x) order slack → IsRepaired (slots_of number d) (slots_of number new) (option_map number root') (beside p.side (number p.parent) (number x) order) slack)) where
-    pub call_grown : IsLaidOut number new (option_map number root') (shape_in number new (option_map number root')) × IsGrown (shape_in number c root) (shape_in number new (option_map number root'))
+      (λ p. (order : List ℕ) (slack : ℕ) → IsBudding (slots_of d) root p.side (number p.parent) (number x) order slack → IsRepaired (slots_of d) (slots_of new) (option_map number root') (beside p.side (number p.parent) (number x) order) slack)) where
+    pub call_grown : IsLaidOut new (option_map number root') (shape_in new (option_map number root')) × IsGrown (shape_in c root) (shape_in new (option_map number root'))
     call_grown = grown_whole number c d root (number x) era leaf laid x_free most greatest sound fits at place can place_is entries_are links_are new root' x refl kept grown
 
     pub call_listed : IsInsertion (bare room) (bare new) (put_at number at (map bare_entry c.entries)) t index era

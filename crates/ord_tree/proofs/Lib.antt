@@ -19,8 +19,11 @@ pub mod Neighbours
 pub mod Entries
 pub mod Trees
 pub mod Planting
+pub mod Named
 pub mod Puts
 pub mod Grown
 pub mod Shrunk
 pub mod Renewed
 pub mod Displacing
+pub mod Rebuilding
+pub mod Rebuilt

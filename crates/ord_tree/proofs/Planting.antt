@@ -47,6 +47,11 @@ module _ {T : Type 0} where
       rw (eq-eqb e.index i same) (sym (ap (λ (l : Link T). l.prev) link), sym (ap (λ (l : Link T). l.next) link) ∙ head-first_or es))
       (λ (other : e.index ≢ i). rw (ne_eqb e.index i other) (neighbours-linked (Some e.index) es i g l (rw (ne_eqb e.index i other) at h))) (cases_eq e.index i)
 
+  -- what is linked to an entry is linked to it whatever its generation
+  pub linked-some : (o : Option (ℕ × Link T)) (l : Link T) → option_map (λ (e : ℕ × Link T). e.1) o ≡ Some l → (g : ℕ) × (o ≡ Some (g, l))
+  linked-some None l h = absurd cc
+  linked-some (Some e) l h = (e.0, let same : e.1 ≡ l = cc in ap (λ (l : Link T). Some (e.0, l)) same)
+
   pub linked-occupied : (before : Option ℕ) (es : List (Entry T)) (i : ℕ) → is_some (entry_at es i) ≡ true → is_some (link_between before None es i) ≡ true
   linked-occupied before [] i h = absurd cc
   linked-occupied before (e ∷ es) i h =

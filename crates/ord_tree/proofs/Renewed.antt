@@ -23,12 +23,12 @@ module _ {P T I G : Type 0} where
   item_of-bare es i g = ap (λ (o : Option (ℕ × T)). is_some (item_if g o)) (entry_at-bare es i) ∙ is_some-item_if g (entry_at es i)
 
   -- another generation of an entry
-  links-renewed : (number : I → ℕ) (es : List (Entry (SimpleOrdArenaNode P T I G))) (i g j : ℕ)
-      → option_map (λ e. links_in number e.1) (entry_at (with_generation es i g) j) ≡ option_map (λ (e : ℕ × SimpleOrdArenaNode P T I G). links_in number e.1) (entry_at es j)
-  links-renewed number [] i g j = refl
-  links-renewed number (e ∷ es) i g j =
+  links-renewed : (es : List (Entry (SimpleOrdArenaNode P T I G))) (i g j : ℕ)
+      → option_map (λ e. links_in e.1) (entry_at (with_generation es i g) j) ≡ option_map (λ (e : ℕ × SimpleOrdArenaNode P T I G). links_in e.1) (entry_at es j)
+  links-renewed [] i g j = refl
+  links-renewed (e ∷ es) i g j =
       ⊎_elim (λ (same : e.index ≡ i). rw (eq-eqb e.index i same) (⊎_elim (λ (here : e.index ≡ j). rw (eq-eqb e.index j here) refl) (λ (there : e.index ≢ j). rw (ne_eqb e.index j there) refl) (cases_eq e.index j)))
-      (λ (other : e.index ≢ i). rw (ne_eqb e.index i other) (⊎_elim (λ (here : e.index ≡ j). rw (eq-eqb e.index j here) refl) (λ (there : e.index ≢ j). rw (ne_eqb e.index j there) (links-renewed number es i g j)) (cases_eq e.index j)))
+      (λ (other : e.index ≢ i). rw (ne_eqb e.index i other) (⊎_elim (λ (here : e.index ≡ j). rw (eq-eqb e.index j here) refl) (λ (there : e.index ≢ j). rw (ne_eqb e.index j there) (links-renewed es i g j)) (cases_eq e.index j)))
       (cases_eq e.index i)
 
   indexes-renewed : (es : List (Entry (SimpleOrdArenaNode P T I G))) (i g : ℕ) → indexes (with_generation es i g) ≡ indexes es
@@ -41,28 +41,28 @@ module _ {P T I G : Type 0} where
   bare-renewed (e ∷ es) i g =
       ⊎_elim (λ (same : e.index ≡ i). rw (eq-eqb e.index i same) refl) (λ (other : e.index ≢ i). rw (ne_eqb e.index i other) (ap (λ bs. bare_entry e ∷ bs) (bare-renewed es i g))) (cases_eq e.index i)
 
-  module _ (number : I → ℕ) (greatest : Option ℕ) (c : Chain (SimpleOrdArenaNode P T I G)) (root : Option ℕ) (i : ℕ) (laid : IsLaidOut number c root (shape_in number c root)) where
-    pub IsLaidOut-renewed : IsLaidOut number (renewed greatest c i) root (shape_in number (renewed greatest c i) root)
+  module _ (greatest : Option ℕ) (c : Chain (SimpleOrdArenaNode P T I G)) (root : Option ℕ) (i : ℕ) (laid : IsLaidOut c root (shape_in c root)) where
+    pub IsLaidOut-renewed : IsLaidOut (renewed greatest c i) root (shape_in (renewed greatest c i) root)
     IsLaidOut-renewed =
-        IsLaidOut-linked number c (renewed greatest c i) root (λ j. links-renewed number c.entries i (next_generation greatest c.generation) j) (indexes-renewed c.entries i (next_generation greatest c.generation)) laid
+        IsLaidOut-linked c (renewed greatest c i) root (λ j. links-renewed c.entries i (next_generation greatest c.generation) j) (indexes-renewed c.entries i (next_generation greatest c.generation)) laid
 
-    pub tree_of-renewed : tree_of number (renewed greatest c i) root ≡ record (tree_of number c root) { list = renewed greatest (bare c) i }
+    pub tree_of-renewed : tree_of (renewed greatest c i) root ≡ record (tree_of c root) { list = renewed greatest (bare c) i }
     tree_of-renewed =
         let g = next_generation greatest c.generation in
-        let same = shape_in-linked number c (renewed greatest c i) root (λ j. links-renewed number c.entries i g j) (indexes-renewed c.entries i g) laid in
+        let same = shape_in-linked c (renewed greatest c i) root (λ j. links-renewed c.entries i g j) (indexes-renewed c.entries i g) laid in
         let list : Chain T = renewed greatest (bare c) i in
-        ap (λ (es : List (Entry T)). record { list = record { entries = es; capacity = c.capacity; vacant = c.vacant; generation = g; maximum = c.maximum }; shape = shape_in number (renewed greatest c i) root }) (bare-renewed c.entries i g)
+        ap (λ (es : List (Entry T)). record { list = record { entries = es; capacity = c.capacity; vacant = c.vacant; generation = g; maximum = c.maximum }; shape = shape_in (renewed greatest c i) root }) (bare-renewed c.entries i g)
         ∙ ap (λ s. record { list = list; shape = s }) same
 
     -- the call, from what the chain's ensures
     module _ {X : Type 0} (o : Option X) (new : Chain (SimpleOrdArenaNode P T I G)) (renewing : OnSome o (new ≡ renewed greatest c i)) where
-      pub call_laid_out : IfNone o (new ≡ c) → IsLaidOut number new root (shape_in number new root)
+      pub call_laid_out : IfNone o (new ≡ c) → IsLaidOut new root (shape_in new root)
       call_laid_out keeping =
-          let L : Chain (SimpleOrdArenaNode P T I G) → Type 0 = λ c. IsLaidOut number c root (shape_in number c root) in
+          let L : Chain (SimpleOrdArenaNode P T I G) → Type 0 = λ c. IsLaidOut c root (shape_in c root) in
           let A : Type 0 = L new in
           either_option o A (on_some o (new ≡ renewed greatest c i) A renewing (λ e. subst L (sym e) IsLaidOut-renewed)) (if_none o (new ≡ c) A keeping (λ e. subst L (sym e) laid))
 
-      pub call_renewed : OnSome o (tree_of number new root ≡ record (tree_of number c root) { list = renewed greatest (bare c) i })
+      pub call_renewed : OnSome o (tree_of new root ≡ record (tree_of c root) { list = renewed greatest (bare c) i })
       call_renewed =
-          on_some o (new ≡ renewed greatest c i) (tree_of number new root ≡ record (tree_of number c root) { list = renewed greatest (bare c) i }) renewing
-          (λ e. ap (λ (c : Chain (SimpleOrdArenaNode P T I G)). tree_of number c root) e ∙ tree_of-renewed)
+          on_some o (new ≡ renewed greatest c i) (tree_of new root ≡ record (tree_of c root) { list = renewed greatest (bare c) i }) renewing
+          (λ e. ap (λ (c : Chain (SimpleOrdArenaNode P T I G)). tree_of c root) e ∙ tree_of-renewed)

@@ -74,9 +74,9 @@ module _ (old replaced hung below new : Slots) (root root' : Option ℕ) (side :
     (backs : (j : ℕ) → back_at old j ≡ back_at replaced j)
     (middle : (i : ℕ) (n : Links ℕ) → child_at (other_side side) ny ≡ Some i → replaced i ≡ Some n → hung i ≡ Some (record n { back = Some z }))
     (but_middle : (j : ℕ) → child_at (other_side side) ny ≢ Some j → hung j ≡ replaced j)
-    (at_z : below z ≡ Some (placed (Some y) rank_z (with_child_at side (child_at (other_side side) ny) nz)))
+    (at_z : (n : Links ℕ) → hung z ≡ Some n → below z ≡ Some (placed (Some y) rank_z (with_child_at side (child_at (other_side side) ny) n)))
     (but_z : (j : ℕ) → j ≢ z → below j ≡ hung j)
-    (at_y : new y ≡ Some (placed nz.back rank_y (with_child_at (other_side side) (Some z) ny)))
+    (at_y : (n : Links ℕ) → below y ≡ Some n → new y ≡ Some (placed nz.back rank_y (with_child_at (other_side side) (Some z) n)))
     (but_y : (j : ℕ) → j ≢ y → new j ≡ below j) where
   fork_z : ForkAt old (above site.way) side (fork side site.outer y site.low site.inner) z site.high site.far nz
   fork_z = ForkAt-holds old (above site.way) (Some z) side (fork side site.outer y site.low site.inner) z site.high site.far nz is_z site.held
@@ -99,6 +99,13 @@ module _ (old replaced hung below new : Slots) (root root' : Option ℕ) (side :
 
   y≢z : y ≢ z
   y≢z = apart-from z y (λ j. here j y) (omega (arith, total z, here-same z)) (omega (arith, here-same y))
+
+  -- neither of the two nodes was written before
+  z_stays : hung z ≡ Some nz
+  z_stays = but_middle z (λ e. omega (arith, total z, here-same z, in_inner z e)) ∙ but_parent z (λ e. omega (arith, total z, here-same z, in_way z e)) ∙ is_z
+
+  y_stays : below y ≡ Some ny
+  y_stays = but_z y y≢z ∙ but_middle y (λ e. omega (arith, total y, here-same y, in_inner y e)) ∙ but_parent y (λ e. omega (arith, total y, here-same y, in_way y e)) ∙ is_y
 
   elsewhere : (j : ℕ) → j ≢ z → j ≢ y → child_at (other_side side) ny ≢ Some j → nz.back ≢ Some j → new j ≡ old j
   elsewhere j not_z not_y not_middle not_parent = but_y j not_y ∙ but_z j not_z ∙ but_middle j not_middle ∙ but_parent j not_parent
@@ -152,7 +159,7 @@ module _ (old replaced hung below new : Slots) (root root' : Option ℕ) (side :
       Holds-fork new (Some y) link side site.inner site.far z rank_z (
         placed (Some y) rank_z n,
         e,
-        but_y z (λ e. y≢z (sym e)) ∙ at_z,
+        but_y z (λ e. y≢z (sym e)) ∙ at_z nz z_stays,
         refl,
         refl,
         rw (child-placed side (Some y) rank_z n, child-with_child side (child_at (other_side side) ny) nz) inner_held,
@@ -165,7 +172,7 @@ module _ (old replaced hung below new : Slots) (root root' : Option ℕ) (side :
       Holds-fork new (above site.way) (Some y) side site.outer (fork side site.inner z rank_z site.far) y rank_y (
         placed nz.back rank_y n,
         refl,
-        at_y,
+        at_y ny y_stays,
         fork_z.back,
         refl,
         rw (child-placed side nz.back rank_y n, child-with_other side (Some z) ny) outer_held,

@@ -1,5 +1,5 @@
 -- A removal: from the tree without a node to the chain without its entry.
-use Rattle.std.proofs.Common.{◌≡◌, ◌≢◌, ℕ, ◌+◌, ◌<◌, ◌≤◌, ◌^◌, Option, Some, None, List, [], ◌∷◌, map, length, arith, refl, sym, ◌∙◌, ap, subst, ⊎_elim, is_some, true, option_map, OnSome}
+use Rattle.std.proofs.Common.{◌≡◌, ◌≢◌, ℕ, ◌+◌, ◌<◌, ◌≤◌, ◌^◌, Option, Some, None, List, [], ◌∷◌, map, length, arith, refl, sym, ◌∙◌, ap, subst, ⊎_elim, is_some, true, option_map}
 use Rattle.std.proofs.lemmas.Bool.{cases_eq, eq-eqb, ne_eqb}
 use Rattle.std.proofs.lemmas.List.{length-map}
 use Rattle.chain_base.specs.Chain.{Entry, Chain, entry_at, link_between, link_at, IsSound, removed, without as entries_without}
@@ -17,8 +17,8 @@ use Rattle.ord_tree.proofs.Slack.{IsRanked-balanced, IsBalanced-ranked}
 use Rattle.ord_tree.proofs.Forks.{here-same, here-other, times-walk, apart-from}
 use Rattle.ord_tree.proofs.Frames.{Holds-frame}
 use Rattle.ord_tree.proofs.Views.{MovesAtMost-backs}
-use Rattle.ord_tree.proofs.Trees.{entry_at-bare, is_some-bare, indexes-bare, limit_of-le, shape_in-held, on_there, owed_some}
-use Rattle.ord_tree.proofs.Planting.{IsOnce-distinct, within-occupied, linked-occupied, is_some-mapped}
+use Rattle.ord_tree.proofs.Trees.{entry_at-bare, is_some-bare, indexes-bare, limit_of-le, shape_in-held}
+use Rattle.ord_tree.proofs.Planting.{IsOnce-distinct, within-occupied}
 
 -- a list without one of its indexes
 pub times-without_same : (i : ℕ) (xs : List ℕ) → times i xs ≤ 1 → times i (without i xs) ≡ 0
@@ -67,16 +67,15 @@ module _ {P T I G : Type 0} where
       over (Some e) = refl
 
 -- what a removal owes: `new` is the chain c without the entry x, and `answer` what the entry was, its generation by `gen`
-pub record Removal {P T I G : Type 0} (number : I → ℕ) (greatest : Option ℕ) (c new : Chain (SimpleOrdArenaNode P T I G)) (root root' : Option ℕ) (x : ℕ) (gen : G → ℕ) (answer : Option (G × T)) : Type 0 where
-  pub laid : IsLaidOut number new root' (shape_in number new root')
-  pub listed : OnSome answer (bare new ≡ removed greatest (bare c) x)
-  pub shrunk : OnSome answer (IsShrunk (shape_in number c root) (shape_in number new root'))
-  pub value : option_map (λ (e : G × T). (gen e.0, e.1)) answer ≡ entry_at (map bare_entry c.entries) x
-  pub there : is_some answer ≡ true
+pub record Removal {P T I G : Type 0} (greatest : Option ℕ) (c new : Chain (SimpleOrdArenaNode P T I G)) (root root' : Option ℕ) (x : ℕ) (gen : G → ℕ) (answer : G × T) : Type 0 where
+  pub laid : IsLaidOut new root' (shape_in new root')
+  pub listed : bare new ≡ removed greatest (bare c) x
+  pub shrunk : IsShrunk (shape_in c root) (shape_in new root')
+  pub value : entry_at (map bare_entry c.entries) x ≡ Some (gen answer.0, answer.1)
 
 -- the tree without the entry x: c is its chain, d the chain once the node is taken out of the tree
-module _ {P T I G : Type 0} (number : I → ℕ) (c : Chain (SimpleOrdArenaNode P T I G)) (root : Option ℕ) (x : ℕ)
-    (laid : IsLaidOut number c root (shape_in number c root)) (occupied : is_some (entry_at c.entries x) ≡ true)
+module _ {P T I G : Type 0} (c : Chain (SimpleOrdArenaNode P T I G)) (root : Option ℕ) (x : ℕ)
+    (laid : IsLaidOut c root (shape_in c root)) (occupied : is_some (entry_at c.entries x) ≡ true)
     (most : ℕ) (greatest : Option ℕ) (sound : IsSound most greatest c) (fits : most + 1 < 2 ^ 64) where
   abbrev order : List ℕ
   order = indexes c.entries
@@ -87,9 +86,9 @@ module _ {P T I G : Type 0} (number : I → ℕ) (c : Chain (SimpleOrdArenaNode 
   few : length order < 2 ^ 64
   few = omega (arith, length-map c.entries (λ (e : Entry (SimpleOrdArenaNode P T I G)). e.index), sound.counted, sound.within_limit, limit_of-le most c.maximum, fits)
 
-  pub detachable : (before : Option ℕ) → before ≡ previous None x order → IsDetachable (slots_of number c) root x before order
+  pub detachable : (before : Option ℕ) → before ≡ previous None x order → IsDetachable (slots_of c) root x before order
   detachable before is = record {
-    built = record { shape = shape_in number c root; held = laid.held; listed = laid.listed; balanced = IsBalanced-ranked (shape_in number c root) laid.ranked };
+    built = record { shape = shape_in c root; held = laid.held; listed = laid.listed; balanced = IsBalanced-ranked (shape_in c root) laid.ranked };
     within = within-occupied c.entries x occupied;
     once = once;
     few = few;
@@ -97,12 +96,12 @@ module _ {P T I G : Type 0} (number : I → ℕ) (c : Chain (SimpleOrdArenaNode 
   }
 
   module _ (before : Option ℕ) (is_before : before ≡ previous None x order) (d : Chain (SimpleOrdArenaNode P T I G)) (root' : Option ℕ) (kept : bare d ≡ bare c)
-      (builds : (order : List ℕ) → IsDetachable (slots_of number c) root x before order → IsBuilt (slots_of number d) root' (without x order) 1)
-      (moves : (order : List ℕ) → IsDetachable (slots_of number c) root x before order → MovesBacks 9 (slots_of number c) (slots_of number d)) where
-    built : IsBuilt (slots_of number d) root' (without x order) 1
+      (builds : (order : List ℕ) → IsDetachable (slots_of c) root x before order → IsBuilt (slots_of d) root' (without x order) 1)
+      (moves : (order : List ℕ) → IsDetachable (slots_of c) root x before order → MovesBacks 9 (slots_of c) (slots_of d)) where
+    built : IsBuilt (slots_of d) root' (without x order) 1
     built = builds order (detachable before is_before)
 
-    backs : MovesBacks 9 (slots_of number c) (slots_of number d)
+    backs : MovesBacks 9 (slots_of c) (slots_of d)
     backs = moves order (detachable before is_before)
 
     abbrev last : Chain (SimpleOrdArenaNode P T I G)
@@ -111,30 +110,30 @@ module _ {P T I G : Type 0} (number : I → ℕ) (c : Chain (SimpleOrdArenaNode 
     same_order : indexes d.entries ≡ order
     same_order = sym (indexes-bare d.entries) ∙ ap (λ (b : Chain T). indexes b.entries) kept ∙ indexes-bare c.entries
 
-    held_last : Holds (slots_of number last) None root' built.shape
+    held_last : Holds (slots_of last) None root' built.shape
     held_last =
-        Holds-frame (slots_of number d) (slots_of number last) built.shape None root'
-        (λ j inside. ap (option_map (λ (e : ℕ × SimpleOrdArenaNode P T I G). links_in number e.1)) (entry_at-without_other d.entries x j
+        Holds-frame (slots_of d) (slots_of last) built.shape None root'
+        (λ j inside. ap (option_map (λ (e : ℕ × SimpleOrdArenaNode P T I G). links_in e.1)) (entry_at-without_other d.entries x j
         (apart-from x j (λ j. times j (without x order)) (times-without_same x order (once x)) (omega (arith, inside, times-walk j built.shape, ap (times j) built.listed)))))
         built.held
 
     listed_last : walk built.shape ≡ indexes last.entries
     listed_last = built.listed ∙ ap (without x) (sym same_order) ∙ sym (indexes-without d.entries x)
 
-    shape_is : shape_in number last root' ≡ built.shape
-    shape_is = shape_in-held number last root' built.shape held_last listed_last
+    shape_is : shape_in last root' ≡ built.shape
+    shape_is = shape_in-held last root' built.shape held_last listed_last
 
-    pub IsLaidOut-removed : IsLaidOut number last root' (shape_in number last root')
+    pub IsLaidOut-removed : IsLaidOut last root' (shape_in last root')
     IsLaidOut-removed =
-        let L : Shape → Type 0 = λ s. IsLaidOut number last root' s in
+        let L : Shape → Type 0 = λ s. IsLaidOut last root' s in
         subst L (sym shape_is) (record { held = held_last; listed = listed_last; ranked = IsRanked-balanced 1 built.shape built.balanced })
 
-    pub IsShrunk-removed : IsShrunk (shape_in number c root) (shape_in number last root')
+    pub IsShrunk-removed : IsShrunk (shape_in c root) (shape_in last root')
     IsShrunk-removed =
-        let S : Shape → Type 0 = λ s. IsShrunk (shape_in number c root) s in
+        let S : Shape → Type 0 = λ s. IsShrunk (shape_in c root) s in
         subst S (sym shape_is) (record {
           ranked = IsRanked-balanced 1 built.shape built.balanced;
-          moved = MovesAtMost-backs 9 (slots_of number c) (slots_of number d) root root' (shape_in number c root) built.shape laid.held built.held backs;
+          moved = MovesAtMost-backs 9 (slots_of c) (slots_of d) root root' (shape_in c root) built.shape laid.held built.held backs;
         })
 
     pub bare_removed : bare last ≡ removed greatest (bare c) x
@@ -142,34 +141,22 @@ module _ {P T I G : Type 0} (number : I → ℕ) (c : Chain (SimpleOrdArenaNode 
         ap (λ (es : List (Entry T)). record { entries = es; capacity = d.capacity; vacant = x ∷ d.vacant; generation = (removed greatest d x).generation; maximum = d.maximum }) (bare-without d.entries x)
         ∙ ap (λ (b : Chain T). removed greatest b x) kept
 
+    -- the entry is still in the chain
+    pub still_there : is_some (entry_at d.entries x) ≡ true
+    still_there = sym (is_some-bare d.entries x) ∙ ap (λ (b : Chain T). is_some (entry_at b.entries x)) kept ∙ is_some-bare c.entries x ∙ occupied
+
     -- the call, from what its steps ensure: the chain's answer, and the same with the item alone
-    module _ (new : Chain (SimpleOrdArenaNode P T I G)) (gen : G → ℕ) (taken : Option (G × Link (SimpleOrdArenaNode P T I G))) (answer : Option (G × T))
-        (value : option_map (λ (e : G × Link (SimpleOrdArenaNode P T I G)). (gen e.0, e.1)) taken ≡ link_at d.entries x) (removing : OnSome taken (new ≡ removed greatest d x))
-        (answer_is : answer ≡ option_map (λ (e : G × Link (SimpleOrdArenaNode P T I G)). (e.0, e.1.item.t)) taken) where
-      there : is_some taken ≡ true
-      there =
-          sym (is_some-mapped (λ (e : G × Link (SimpleOrdArenaNode P T I G)). (gen e.0, e.1)) taken) ∙ ap is_some value
-          ∙ linked-occupied None d.entries x (sym (is_some-bare d.entries x) ∙ ap (λ (b : Chain T). is_some (entry_at b.entries x)) kept ∙ is_some-bare c.entries x ∙ occupied)
-
-      new_is : new ≡ removed greatest d x
-      new_is = on_there taken (new ≡ removed greatest d x) there removing
-
-      over : (o : Option (G × Link (SimpleOrdArenaNode P T I G)))
-          → option_map {U = ℕ × T} (λ (e : G × T). (gen e.0, e.1)) (option_map {U = G × T} (λ (e : G × Link (SimpleOrdArenaNode P T I G)). (e.0, e.1.item.t)) o)
-          ≡ option_map {U = ℕ × T} (λ (e : ℕ × Link (SimpleOrdArenaNode P T I G)). (e.0, e.1.item.t)) (option_map {U = ℕ × Link (SimpleOrdArenaNode P T I G)} (λ (e : G × Link (SimpleOrdArenaNode P T I G)). (gen e.0, e.1)) o)
-      over None = refl
-      over (Some e) = refl
-
-      pub removal : Removal number greatest c new root root' x gen answer
+    module _ (new : Chain (SimpleOrdArenaNode P T I G)) (gen : G → ℕ) (taken : G × Link (SimpleOrdArenaNode P T I G)) (answer : G × T)
+        (value : link_at d.entries x ≡ Some (gen taken.0, taken.1)) (new_is : new ≡ removed greatest d x) (answer_is : answer ≡ (taken.0, taken.1.item.t)) where
+      pub removal : Removal greatest c new root root' x gen answer
       removal =
-          let Laid : Chain (SimpleOrdArenaNode P T I G) → Type 0 = λ n. IsLaidOut number n root' (shape_in number n root') in
-          let Shrunk : Chain (SimpleOrdArenaNode P T I G) → Type 0 = λ n. IsShrunk (shape_in number c root) (shape_in number n root') in
+          let Laid : Chain (SimpleOrdArenaNode P T I G) → Type 0 = λ n. IsLaidOut n root' (shape_in n root') in
+          let Shrunk : Chain (SimpleOrdArenaNode P T I G) → Type 0 = λ n. IsShrunk (shape_in c root) (shape_in n root') in
           record {
             laid = subst Laid (sym new_is) IsLaidOut-removed;
-            listed = owed_some answer (bare new ≡ removed greatest (bare c) x) (ap bare new_is ∙ bare_removed);
-            shrunk = owed_some answer (Shrunk new) (subst Shrunk (sym new_is) IsShrunk-removed);
+            listed = ap bare new_is ∙ bare_removed;
+            shrunk = subst Shrunk (sym new_is) IsShrunk-removed;
             value =
-                ap (option_map (λ (e : G × T). (gen e.0, e.1))) answer_is ∙ over taken
-                ∙ ap (option_map {U = ℕ × T} (λ (e : ℕ × Link (SimpleOrdArenaNode P T I G)). (e.0, e.1.item.t))) value ∙ sym (entry_at-link c d x kept);
-            there = ap is_some answer_is ∙ is_some-mapped (λ (e : G × Link (SimpleOrdArenaNode P T I G)). (e.0, e.1.item.t)) taken ∙ there;
+                entry_at-link c d x kept ∙ ap (option_map {U = ℕ × T} (λ (e : ℕ × Link (SimpleOrdArenaNode P T I G)). (e.0, e.1.item.t))) value
+                ∙ ap (λ (e : G × T). Some (gen e.0, e.1)) (sym answer_is);
           }

@@ -100,12 +100,12 @@ module _ {P T I G : Type 0} where
   bare-with_capacity c n = ap (λ vs. record { entries = map bare_entry c.entries; capacity = n; vacant = vs; generation = c.generation; maximum = c.maximum }) (sym (vacant_among-bare c.entries 1 n))
 
   -- another item in a node
-  pub entry_at-below : (es : List (Entry (SimpleOrdArenaNode P T I G))) (i j : ℕ) (x : T) (number : I → ℕ)
-      → option_map (λ e. links_in number e.1) (entry_at (with_item_below es i x) j) ≡ option_map (λ (e : ℕ × SimpleOrdArenaNode P T I G). links_in number e.1) (entry_at es j)
-  entry_at-below [] i j x number = refl
-  entry_at-below (e ∷ es) i j x number =
+  pub entry_at-below : (es : List (Entry (SimpleOrdArenaNode P T I G))) (i j : ℕ) (x : T)
+      → option_map (λ e. links_in e.1) (entry_at (with_item_below es i x) j) ≡ option_map (λ (e : ℕ × SimpleOrdArenaNode P T I G). links_in e.1) (entry_at es j)
+  entry_at-below [] i j x = refl
+  entry_at-below (e ∷ es) i j x =
       ⊎_elim (λ (same : e.index ≡ i). rw (eq-eqb e.index i same) (⊎_elim (λ (here : e.index ≡ j). rw (eq-eqb e.index j here) refl) (λ (there : e.index ≢ j). rw (ne_eqb e.index j there) refl) (cases_eq e.index j)))
-      (λ (other : e.index ≢ i). rw (ne_eqb e.index i other) (⊎_elim (λ (here : e.index ≡ j). rw (eq-eqb e.index j here) refl) (λ (there : e.index ≢ j). rw (ne_eqb e.index j there) (entry_at-below es i j x number)) (cases_eq e.index j)))
+      (λ (other : e.index ≢ i). rw (ne_eqb e.index i other) (⊎_elim (λ (here : e.index ≡ j). rw (eq-eqb e.index j here) refl) (λ (there : e.index ≢ j). rw (ne_eqb e.index j there) (entry_at-below es i j x)) (cases_eq e.index j)))
       (cases_eq e.index i)
 
   pub bare-below : (es : List (Entry (SimpleOrdArenaNode P T I G))) (i : ℕ) (x : T) → map bare_entry (with_item_below es i x) ≡ with_item (map bare_entry es) i x
@@ -128,15 +128,15 @@ module _ {P T I G : Type 0} where
       ⊎_elim (λ (same : e.index ≡ i). rw (eq-eqb e.index i same) refl) (λ (other : e.index ≢ i). rw (ne_eqb e.index i other) (ap (λ ys. e.index ∷ ys) (indexes-below es i x))) (cases_eq e.index i)
 
   -- a shape that the nodes spell is the view's
-  pub shape_in-held : (number : I → ℕ) (c : Chain (SimpleOrdArenaNode P T I G)) (root : Option ℕ) (s : Shape) → Holds (slots_of number c) None root s → walk s ≡ indexes c.entries → shape_in number c root ≡ s
-  shape_in-held number c root s h listed =
+  pub shape_in-held : (c : Chain (SimpleOrdArenaNode P T I G)) (root : Option ℕ) (s : Shape) → Holds (slots_of c) None root s → walk s ≡ indexes c.entries → shape_in c root ≡ s
+  shape_in-held c root s h listed =
       let counted : size_of s ≡ length c.entries = size_of-walk s ∙ ap length listed ∙ length-map c.entries (λ (e : Entry (SimpleOrdArenaNode P T I G)). e.index) in
-      shape_under-held (length c.entries) (slots_of number c) None root s h (omega (arith, height-le-size s, counted))
+      shape_under-held (length c.entries) (slots_of c) None root s h (omega (arith, height-le-size s, counted))
 
   -- the layout depends on the entries alone
-  pub IsLaidOut-entries : (number : I → ℕ) (c d : Chain (SimpleOrdArenaNode P T I G)) (root : Option ℕ) → d.entries ≡ c.entries → IsLaidOut number c root (shape_in number c root) → IsLaidOut number d root (shape_in number d root)
-  IsLaidOut-entries number c d root e h =
-      let at : List (Entry (SimpleOrdArenaNode P T I G)) → Slots = λ es i. option_map (λ (e : ℕ × SimpleOrdArenaNode P T I G). links_in number e.1) (entry_at es i) in
+  pub IsLaidOut-entries : (c d : Chain (SimpleOrdArenaNode P T I G)) (root : Option ℕ) → d.entries ≡ c.entries → IsLaidOut c root (shape_in c root) → IsLaidOut d root (shape_in d root)
+  IsLaidOut-entries c d root e h =
+      let at : List (Entry (SimpleOrdArenaNode P T I G)) → Slots = λ es i. option_map (λ (e : ℕ × SimpleOrdArenaNode P T I G). links_in e.1) (entry_at es i) in
       let Spelled : List (Entry (SimpleOrdArenaNode P T I G)) → Shape = λ es. shape_under (length es) (at es) root in
       let Held : List (Entry (SimpleOrdArenaNode P T I G)) → Type 0 = λ es. Holds (at es) None root (Spelled es) in
       let Listed : List (Entry (SimpleOrdArenaNode P T I G)) → Type 0 = λ es. walk (Spelled es) ≡ indexes es in
@@ -144,40 +144,40 @@ module _ {P T I G : Type 0} where
       record { held = subst Held (sym e) h.held; listed = subst Listed (sym e) h.listed; ranked = subst Ranks (sym e) h.ranked }
 
   -- what holds of a tree that lies in a chain
-  pub IsSoundTree-laid_out : (number : I → ℕ) (c : Chain (SimpleOrdArenaNode P T I G)) (root : Option ℕ) → IsLaidOut number c root (shape_in number c root) → IsSoundTree (tree_of number c root)
-  IsSoundTree-laid_out number c root h = record { listed = h.listed ∙ sym (indexes-bare c.entries); ranked = h.ranked }
+  pub IsSoundTree-laid_out : (c : Chain (SimpleOrdArenaNode P T I G)) (root : Option ℕ) → IsLaidOut c root (shape_in c root) → IsSoundTree (tree_of c root)
+  IsSoundTree-laid_out c root h = record { listed = h.listed ∙ sym (indexes-bare c.entries); ranked = h.ranked }
 
   -- a new capacity
-  pub tree_of-with_capacity : (number : I → ℕ) (c : Chain (SimpleOrdArenaNode P T I G)) (root : Option ℕ) (n : ℕ)
-      → tree_of number (with_capacity c (max n (greatest_index c.entries))) root ≡ record (tree_of number c root) { list = with_capacity (bare c) (max n (greatest_index (map bare_entry c.entries))) }
-  tree_of-with_capacity number c root n =
-      ap (λ (l : Chain T). record { list = l; shape = shape_in number c root })
+  pub tree_of-with_capacity : (c : Chain (SimpleOrdArenaNode P T I G)) (root : Option ℕ) (n : ℕ)
+      → tree_of (with_capacity c (max n (greatest_index c.entries))) root ≡ record (tree_of c root) { list = with_capacity (bare c) (max n (greatest_index (map bare_entry c.entries))) }
+  tree_of-with_capacity c root n =
+      ap (λ (l : Chain T). record { list = l; shape = shape_in c root })
       (bare-with_capacity c (max n (greatest_index c.entries)) ∙ ap (λ (k : ℕ). with_capacity (bare c) (max n k)) (sym (greatest_index-bare c.entries)))
 
   -- the shape depends on the links and the order of the nodes alone
-  module _ (number : I → ℕ) (c d : Chain (SimpleOrdArenaNode P T I G)) (root : Option ℕ) (links : (j : ℕ) → slots_of number d j ≡ slots_of number c j) (order : indexes d.entries ≡ indexes c.entries)
-      (h : IsLaidOut number c root (shape_in number c root)) where
-    held-linked : Holds (slots_of number d) None root (shape_in number c root)
-    held-linked = Holds-same (slots_of number c) (slots_of number d) links (shape_in number c root) None root h.held
+  module _ (c d : Chain (SimpleOrdArenaNode P T I G)) (root : Option ℕ) (links : (j : ℕ) → slots_of d j ≡ slots_of c j) (order : indexes d.entries ≡ indexes c.entries)
+      (h : IsLaidOut c root (shape_in c root)) where
+    held-linked : Holds (slots_of d) None root (shape_in c root)
+    held-linked = Holds-same (slots_of c) (slots_of d) links (shape_in c root) None root h.held
 
-    pub shape_in-linked : shape_in number d root ≡ shape_in number c root
-    shape_in-linked = shape_in-held number d root (shape_in number c root) held-linked (h.listed ∙ sym order)
+    pub shape_in-linked : shape_in d root ≡ shape_in c root
+    shape_in-linked = shape_in-held d root (shape_in c root) held-linked (h.listed ∙ sym order)
 
-    pub IsLaidOut-linked : IsLaidOut number d root (shape_in number d root)
+    pub IsLaidOut-linked : IsLaidOut d root (shape_in d root)
     IsLaidOut-linked =
-        let Laid : Shape → Type 0 = λ s. IsLaidOut number d root s in
+        let Laid : Shape → Type 0 = λ s. IsLaidOut d root s in
         subst Laid (sym shape_in-linked) (record { held = held-linked; listed = h.listed ∙ sym order; ranked = h.ranked })
 
   -- another item
-  pub IsLaidOut-below : (number : I → ℕ) (c : Chain (SimpleOrdArenaNode P T I G)) (root : Option ℕ) (i : ℕ) (x : T) → IsLaidOut number c root (shape_in number c root)
-      → IsLaidOut number (with_node_item c i x) root (shape_in number (with_node_item c i x) root)
-  IsLaidOut-below number c root i x h = IsLaidOut-linked number c (with_node_item c i x) root (λ j. entry_at-below c.entries i j x number) (indexes-below c.entries i x) h
+  pub IsLaidOut-below : (c : Chain (SimpleOrdArenaNode P T I G)) (root : Option ℕ) (i : ℕ) (x : T) → IsLaidOut c root (shape_in c root)
+      → IsLaidOut (with_node_item c i x) root (shape_in (with_node_item c i x) root)
+  IsLaidOut-below c root i x h = IsLaidOut-linked c (with_node_item c i x) root (λ j. entry_at-below c.entries i j x) (indexes-below c.entries i x) h
 
-  pub tree_of-below : (number : I → ℕ) (c : Chain (SimpleOrdArenaNode P T I G)) (root : Option ℕ) (i : ℕ) (x : T) → IsLaidOut number c root (shape_in number c root)
-      → tree_of number (with_node_item c i x) root ≡ with_item_in (tree_of number c root) i x
-  tree_of-below number c root i x h =
-      let same = shape_in-linked number c (with_node_item c i x) root (λ j. entry_at-below c.entries i j x number) (indexes-below c.entries i x) h in
-      ap (λ (es : List (Entry T)). record { list = record { entries = es; capacity = c.capacity; vacant = c.vacant; generation = c.generation; maximum = c.maximum }; shape = shape_in number (with_node_item c i x) root }) (bare-below c.entries i x)
+  pub tree_of-below : (c : Chain (SimpleOrdArenaNode P T I G)) (root : Option ℕ) (i : ℕ) (x : T) → IsLaidOut c root (shape_in c root)
+      → tree_of (with_node_item c i x) root ≡ with_item_in (tree_of c root) i x
+  tree_of-below c root i x h =
+      let same = shape_in-linked c (with_node_item c i x) root (λ j. entry_at-below c.entries i j x) (indexes-below c.entries i x) h in
+      ap (λ (es : List (Entry T)). record { list = record { entries = es; capacity = c.capacity; vacant = c.vacant; generation = c.generation; maximum = c.maximum }; shape = shape_in (with_node_item c i x) root }) (bare-below c.entries i x)
       ∙ ap (λ (t : Shape). record { list = with_item_at (bare c) i x; shape = t }) same
 
   -- what chain arenas promise holds of the bare chain too

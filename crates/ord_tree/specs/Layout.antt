@@ -10,16 +10,16 @@ use Rattle.ord_tree.specs.Tree.{Tree}
 
 module _ {P T I G : Type 0} where
   -- the shape that a chain's nodes spell from this root
-  abbrev pub shape_in : (I → ℕ) → Chain (SimpleOrdArenaNode P T I G) → Option ℕ → Shape
-  shape_in number c root = shape_under (length c.entries) (slots_of number c) root
+  abbrev pub shape_in : Chain (SimpleOrdArenaNode P T I G) → Option ℕ → Shape
+  shape_in c root = shape_under (length c.entries) (slots_of c) root
 
   -- the tree that lies in a chain, with this root
-  abbrev pub tree_of : (I → ℕ) → Chain (SimpleOrdArenaNode P T I G) → Option ℕ → Tree T
-  tree_of number c root = record { list = bare c; shape = shape_in number c root }
+  abbrev pub tree_of : Chain (SimpleOrdArenaNode P T I G) → Option ℕ → Tree T
+  tree_of c root = record { list = bare c; shape = shape_in c root }
 
   -- the nodes of the chain spell this shape from this root: it walks along the chain, under the rank rules
-  pub record IsLaidOut (number : I → ℕ) (c : Chain (SimpleOrdArenaNode P T I G)) (root : Option ℕ) (s : Shape) : Type 0 where
-    pub held : Holds (slots_of number c) None root s
+  pub record IsLaidOut (c : Chain (SimpleOrdArenaNode P T I G)) (root : Option ℕ) (s : Shape) : Type 0 where
+    pub held : Holds (slots_of c) None root s
     pub listed : walk s ≡ indexes c.entries
     pub ranked : IsRanked s
 

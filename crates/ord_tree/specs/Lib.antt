@@ -19,3 +19,4 @@ pub mod Layout
 pub mod Lends
 pub mod NodeLends
 pub mod Plant
+pub mod Rebuild

@@ -24,14 +24,9 @@ module _ {P T I G : Type 0} where
   bare c = record { entries = map bare_entry c.entries; capacity = c.capacity; vacant = c.vacant; generation = c.generation; maximum = c.maximum }
 
   -- the links that a node holds, as numbers
-  abbrev pub links_in : (I → ℕ) → SimpleOrdArenaNode P T I G → Links ℕ
-  links_in number n = record {
-    back = option_map number n.p_back;
-    lesser = option_map number n.p_tree0;
-    greater = option_map number n.p_tree1;
-    rank = n.rank;
-  }
+  abbrev pub links_in : SimpleOrdArenaNode P T I G → Links ℕ
+  links_in n = record { back = n.p_back; lesser = n.p_tree0; greater = n.p_tree1; rank = n.rank }
 
   -- the links at each index of a chain
-  abbrev pub slots_of : (I → ℕ) → Chain (SimpleOrdArenaNode P T I G) → Slots
-  slots_of number c = λ i. option_map (λ e. links_in number e.1) (entry_at c.entries i)
+  abbrev pub slots_of : Chain (SimpleOrdArenaNode P T I G) → Slots
+  slots_of c = λ i. option_map (λ e. links_in e.1) (entry_at c.entries i)

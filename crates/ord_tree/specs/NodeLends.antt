@@ -25,5 +25,5 @@ module _ (P T A Inx Gen : RattleType)
   -- the chain ends with the last value behind r as the item of its node at the index
   abbrev pub lends_node_item : MutBor T.Denot → Fml
   lends_node_item r =
-      let node = node_row P T Inx Gen in
+      let node = node_row P T Inx Gen ptr ptr_eq ptr_ord ptr_partial ptr_hash ptr_debug inx inx_eq inx_ord inx_partial inx_hash inx_debug gen gen_eq gen_debug in
       Lends (the_row P node A Inx Gen ptr ptr_eq ptr_ord ptr_partial ptr_hash ptr_debug inx inx_eq inx_ord inx_partial inx_hash inx_debug gen gen_eq gen_debug alloc) T chain r (with_node_item chain.now index)

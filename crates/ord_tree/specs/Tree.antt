@@ -40,9 +40,9 @@ pub record IsSoundTree {T : Type 0} (t : Tree T) : Type 0 where
   pub ranked : IsRanked t.shape
 
 -- the chain of nodes under the tree: it has the list, and its nodes' links and ranks spell the shape
-pub record IsChainOf {P T I G : Type 0} (number : I → ℕ) (t : Tree T) (c : Chain (SimpleOrdArenaNode P T I G)) : Type 0 where
+pub record IsChainOf {P T I G : Type 0} (t : Tree T) (c : Chain (SimpleOrdArenaNode P T I G)) : Type 0 where
   pub list : bare c ≡ t.list
-  pub held : Holds (slots_of number c) None (root_of t.shape) t.shape
+  pub held : Holds (slots_of c) None (root_of t.shape) t.shape
 
 -- the list with a new entry directly before the one with this index, or directly after it
 abbrev pub put_on : {T : Type 0} → Ordering → ℕ → List (Entry T) → Entry T → List (Entry T)

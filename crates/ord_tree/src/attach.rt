@@ -5,7 +5,7 @@ ghost use Rattle.ord_tree.specs.Bud.{IsBudding, beside};
 ghost use Rattle.ord_tree.specs.Raise.{IsRepaired};
 
 use crate::links::Side;
-use crate::nodes::{Nodes, set_child};
+use crate::nodes::Nodes;
 use crate::raise::raise_all;
 
 /// Hangs the leaf x on a side of y where nothing hangs yet, and repairs the ranks above it.
@@ -18,6 +18,6 @@ pub fn attach<N: Nodes>(nodes: &mut N, root: &mut Option<N::Inx>, side: Side, y:
         (beside side (N.number y) (N.number x) order) slack }
     ensures kept { N.list nodes.new ≡ N.list nodes.old }
 {
-    set_child(nodes, y, side, Some(x));
+    nodes.set_child(y, side, Some(x));
     raise_all(nodes, root, x);
 }

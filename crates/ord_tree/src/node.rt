@@ -1,38 +1,54 @@
 //! `SimpleOrdArenaNode`: an item and its place in the tree.
 
-ghost use Rattle.std.specs.Prelude.{◌≡◌, None};
+ghost use Rattle.std.specs.Prelude.{◌≡◌, None, option_map};
 
-use arena_base::Ptr;
+use crate::links::Side;
+use crate::node_inx::{NodeInx, kept};
+use arena_base::{OptInx, Ptr};
 
 /// What the chain holds of an entry of a tree: the item, and the links and the rank of its node.
 ///
 /// The links are indexes without generations, since what a link leads to is always an entry. The fields that a descent reads
-/// stand together.
+/// stand together, and a link that leads nowhere takes no more room than another.
 #[derive(Clone, Debug, Drop)]
 pub struct SimpleOrdArenaNode<P: Ptr, T> {
     /// The root of the lesser side, or `None` where nothing hangs there.
-    pub p_tree0: Option<P::Inx>,
+    pub p_tree0: OptInx<P>,
     /// The root of the greater side, or `None` where nothing hangs there.
-    pub p_tree1: Option<P::Inx>,
+    pub p_tree1: OptInx<P>,
     /// The item.
     pub t: T,
     /// The parent, or `None` at the root.
-    pub p_back: Option<P::Inx>,
+    pub p_back: OptInx<P>,
     /// The rank: from 1, that of a node without children, up to 126.
     pub rank: u8,
 }
 
 impl<P: Ptr, T> SimpleOrdArenaNode<P, T> {
+    ghost use Rattle.ord_tree.specs.Links.{with_child_at};
+    ghost use Rattle.ord_tree.specs.Node.{links_in};
+
     /// A node without children.
-    pub(crate) fn leaf(p_back: Option<P::Inx>, t: T) -> Self
-        ensures { result ≡ record { p_tree0 = None; p_tree1 = None; t = t; p_back = p_back; rank = 1 } }
+    pub(crate) fn leaf(p_back: Option<NodeInx<P::Inx>>, t: T) -> Self
+        ensures { result ≡ record { p_tree0 = None; p_tree1 = None; t = t; p_back = option_map P.Inx.number p_back; rank = 1 } }
     {
         SimpleOrdArenaNode {
-            p_tree0: None,
-            p_tree1: None,
+            p_tree0: OptInx::none(),
+            p_tree1: OptInx::none(),
             t,
-            p_back,
+            p_back: kept(p_back),
             rank: 1,
+        }
+    }
+
+    /// Keeps another root of a side from now on.
+    pub(crate) fn set_child(&mut self, side: Side, child: Option<NodeInx<P::Inx>>)
+        ensures links { links_in self.new ≡ with_child_at side (option_map P.Inx.number child) (links_in self.old) }
+        ensures item { self.new.t ≡ self.old.t }
+    {
+        match side {
+            Side::Lesser => self.p_tree0 = kept(child),
+            Side::Greater => self.p_tree1 = kept(child),
         }
     }
 }

@@ -4,7 +4,7 @@ ghost use Rattle.std.specs.Prelude.{◌≡◌, ℕ, Option, Some, List, option_m
 ghost use Rattle.ord_tree.specs.Raise.{IsRising, IsSteep, IsRepaired, IsRaised};
 
 use crate::links::Side;
-use crate::nodes::{Nodes, rank_of, set_rank, side_of};
+use crate::nodes::{Nodes, rank_of, side_of};
 use crate::rotate::rotate;
 
 /// Lifts the higher child of y over z: y has z's rank r, and z's other side has rank r-2.
@@ -80,7 +80,7 @@ pub fn raise<N: Nodes>(nodes: &mut N, root: &mut Option<N::Inx>, y: N::Inx) -> O
     let side = side_of::<N>(&high, y);
     let sibling = rank_of(nodes, high.child(side.other()));
     if high.rank - sibling == 1 {
-        set_rank(nodes, z, high.rank + 1);
+        nodes.set_rank(z, high.rank + 1);
         return Some(z);
     }
     restructure(nodes, root, side, z, y);

@@ -3,8 +3,8 @@
 ghost use Rattle.std.specs.Prelude.{◌≡◌, Option, Some, option_map};
 ghost use Rattle.ord_tree.specs.Rotate.{Site, IsRotated};
 
-use crate::links::{Links, Side};
-use crate::nodes::{Nodes, hang, replace_child};
+use crate::links::Side;
+use crate::nodes::{Nodes, hang, place, replace_child};
 
 /// Lifts y, the child of z on a side, to the place of z. Each gets the rank that is given for it.
 ///
@@ -37,22 +37,6 @@ pub fn rotate<N: Nodes>(
     let inner = low.child(other);
     replace_child(nodes, root, high.back, z, Some(y));
     hang(nodes, inner, Some(z));
-    let below = high.with_child(side, inner);
-    nodes.set_links(
-        z,
-        Links {
-            back: Some(y),
-            rank: rank_z,
-            ..below
-        },
-    );
-    let over = low.with_child(other, Some(z));
-    nodes.set_links(
-        y,
-        Links {
-            back: high.back,
-            rank: rank_y,
-            ..over
-        },
-    );
+    place(nodes, z, side, inner, Some(y), rank_z);
+    place(nodes, y, other, Some(z), high.back, rank_y);
 }

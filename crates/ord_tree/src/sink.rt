@@ -5,7 +5,7 @@ ghost use Rattle.ord_tree.specs.Raise.{IsRepaired};
 ghost use Rattle.ord_tree.specs.Sink.{IsFallen, IsLeaning, IsDemoted, HasSunk};
 
 use crate::links::{Place, Side};
-use crate::nodes::{Nodes, place_of, rank_of, set_rank};
+use crate::nodes::{Nodes, place_of, rank_of};
 use crate::rotate::rotate;
 
 /// Mends y, of rank r, where s on that side of it has rank r-1 and its other side r-3. Answers whether y has sunk.
@@ -67,8 +67,8 @@ pub fn rebalance<N: Nodes>(
         return false;
     }
     if links.rank - inner == 2 {
-        set_rank(nodes, s, links.rank - 1);
-        set_rank(nodes, y, rank - 1);
+        nodes.set_rank(s, links.rank - 1);
+        nodes.set_rank(y, rank - 1);
         return true;
     }
     let a = links.child(other).unwrap();
@@ -92,7 +92,7 @@ pub fn demote<N: Nodes>(nodes: &mut N, root: &mut Option<N::Inx>, y: N::Inx, sid
     let low = rank_of(nodes, links.child(side));
     let other = side.other();
     let Some(s) = links.child(other) else {
-        set_rank(nodes, y, 1);
+        nodes.set_rank(y, 1);
         return true;
     };
     if links.rank - low <= 2 {
@@ -100,7 +100,7 @@ pub fn demote<N: Nodes>(nodes: &mut N, root: &mut Option<N::Inx>, y: N::Inx, sid
     }
     let sibling = nodes.links(s).rank;
     if links.rank - sibling == 2 {
-        set_rank(nodes, y, links.rank - 1);
+        nodes.set_rank(y, links.rank - 1);
         return true;
     }
     rebalance(nodes, root, other, y, s)

@@ -1,4 +1,6 @@
 // Trees of small keys, kept in order by hand, seen through the chain's nodes.
+mod rebuild;
+
 use crate::{OrdTree, SimpleOrdArenaNode};
 use arena_base::{
     Advancer, InsertionError, InvalidationOption, InvalidationResult, P0, P8, PN, Ptr,
@@ -40,8 +42,8 @@ fn places<A: Allocator>(alloc: Global, tree: &Keys<A>) -> Result<Vec<Place>, Fai
             index: p.inx(),
             key: node.t,
             rank: node.rank,
-            parent: node.p_back,
-            children: (node.p_tree0, node.p_tree1),
+            parent: node.p_back.get(),
+            children: (node.p_tree0.get(), node.p_tree1.get()),
         })?;
     }
     Ok(places)
@@ -321,7 +323,7 @@ fn inserts_within_capacity_and_writes(rt: HostRuntime) -> Result<(), Fail> {
         *letter = 'y';
     }
     let node = tree.chain().get(q).ok_or("its node")?;
-    assert_eq!(rt; (node.t, node.rank, node.p_back), ('x', 1, Some(1)));
+    assert_eq!(rt; (node.t, node.rank, node.p_back.get()), ('x', 1, Some(1)));
     assert_eq!(rt; tree.chain().get(p).ok_or("its node")?.t, 'y');
 
     assert_eq!(rt;

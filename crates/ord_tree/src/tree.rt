@@ -10,10 +10,12 @@ ghost use Rattle.ord_tree.specs.Tree.{IsChainOf, IsSoundTree};
 
 mod growth;
 mod insert;
+mod rebuild;
 mod remove;
 mod write;
 
 use crate::node::SimpleOrdArenaNode;
+use crate::node_inx::NodeInx;
 use arena_base::{InvalidationOption, Ptr};
 use chain_base::ChainArena;
 use std::alloc::{Allocator, Global};
@@ -28,7 +30,7 @@ use std::marker::Model;
 #[derive(Drop)]
 pub struct OrdTree<P: Ptr, T, A: Allocator = Global> {
     chain: ChainArena<P, SimpleOrdArenaNode<P, T>, A>,
-    root: Option<P::Inx>,
+    root: Option<NodeInx<P::Inx>>,
 }
 
 impl<P: Ptr, T, A: Allocator> Model for OrdTree<P, T, A> {
@@ -41,15 +43,15 @@ impl<P: Ptr, T, A: Allocator> Model for OrdTree<P, T, A> {
 
     ghost use Rattle.ord_tree.specs.Layout.{tree_of, shape_in, IsLaidOut};
 
-    ghost view = { λ t. tree_of P.Inx.number t.chain (option_map P.Inx.number t.root) };
+    ghost view = { λ t. tree_of t.chain (option_map P.Inx.number t.root) };
 
-    ghost invariant = { λ t. IsLaidOut P.Inx.number t.chain (option_map P.Inx.number t.root) (shape_in P.Inx.number t.chain (option_map P.Inx.number t.root)) };
+    ghost invariant = { λ t. IsLaidOut t.chain (option_map P.Inx.number t.root) (shape_in t.chain (option_map P.Inx.number t.root)) };
 }
 
 impl<P: Ptr, T, A: Allocator> OrdTree<P, T, A> {
     /// The list, with the links and ranks of its entries.
     pub fn chain(&self) -> &ChainArena<P, SimpleOrdArenaNode<P, T>, A>
-        ensures chain { IsChainOf P.Inx.number self.now result.now }
+        ensures chain { IsChainOf self.now result.now }
         ensures sound { IsSoundTree self.now }
     {
         &self.chain
@@ -82,7 +84,7 @@ impl<P: Ptr, T, A: Allocator> OrdTree<P, T, A> {
     pub fn root(&self) -> Option<P::Inx>
         ensures { option_map P.Inx.number result ≡ root_of self.now.shape }
     {
-        self.root
+        Some(self.root?.get())
     }
 
     /// Sets the generation that the next entry gets, and leaves each entry its own.

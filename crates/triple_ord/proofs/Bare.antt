@@ -1,5 +1,5 @@
 -- A chain of nodes and the list of its items: each look-up in the one reads what the other has.
-use Rattle.std.proofs.Common.{◌≡◌, ℕ, List, [], ◌∷◌, ◌++◌, Option, Some, None, IfSome, is_some, refl, sym, ap, subst, ◌∙◌, inl, inr, ◌⊎◌, map}
+use Rattle.std.proofs.Common.{◌≡◌, ℕ, List, [], ◌∷◌, ◌++◌, Option, Some, None, IsSome, IfSome, is_some, refl, sym, ap, subst, ◌∙◌, inl, inr, ◌⊎◌, map}
 use Rattle.std.proofs.lemmas.Bool.Decides.{eqb_tells}
 use Rattle.std.specs.Option.{option_map}
 use Rattle.arena_base.specs.Arena.{Arena, slot, item_if}
@@ -26,7 +26,7 @@ option_map-twice f g None = refl
 option_map-twice f g (Some x) = refl
 
 -- the entry of an index is its link, without the neighbours
-entry_at-link : {X : Type 0} (before after : Option ℕ) (es : List (Entry X)) (i : ℕ) → entry_at es i ≡ option_map (λ e. (e.0, e.1.item)) (link_between before after es i)
+pub entry_at-link : {X : Type 0} (before after : Option ℕ) (es : List (Entry X)) (i : ℕ) → entry_at es i ≡ option_map (λ e. (e.0, e.1.item)) (link_between before after es i)
 entry_at-link before after [] i = refl
 entry_at-link before after (e ∷ es) i =
     elim (eqb_tells e.index i) [ inl h ↦ rw h.0 refl | inr h ↦ rw h.0 (entry_at-link (Some e.index) after es i) ]
@@ -61,7 +61,7 @@ module _ {P T I G : Type 0} where
   ]
 
   -- what the chain of nodes under a tree says of the tree's list
-  module _ (number : I → ℕ) (t : Tree T) (c : Chain (SimpleOrdArenaNode P T I G)) (under : IsChainOf number t c) where
+  module _ (t : Tree T) (c : Chain (SimpleOrdArenaNode P T I G)) (under : IsChainOf t c) where
     pub item_of-under : (i g : ℕ) → item_of t.list.entries i g ≡ option_map (λ n. n.t) (item_of c.entries i g)
     item_of-under i g =
         ap (λ (l : Chain T). item_of l.entries i g) (sym under.list) ∙ ap (item_if g) (entry_at-bare c.entries i) ∙ item_if-bare g (entry_at c.entries i)
@@ -139,24 +139,42 @@ entry-looked_up {X} {Y} c a lies f o i is =
     let bare_of : ℕ × Link Y → ℕ × Y = λ e. (e.0, e.1.item) in
     option_map-twice f bare_of o ∙ ap (option_map bare_of) (is ∙ lies.slots i) ∙ sym (entry_at-link None None c.entries i)
 
-module _ {P T I G : Type 0} (number : I → ℕ) (t : Tree T) (c : Chain (SimpleOrdArenaNode P T I G)) (under : IsChainOf number t c) (sound : IsSoundTree t) (a : Arena (Link (SimpleOrdArenaNode P T I G))) (lies : IsArenaOf c a) where
+-- a pointer that finds an item has an entry at its index
+pub found-occupied : {T : Type 0} (g : ℕ) (o : Option (ℕ × T)) → IsSome (item_if g o) → IsSome o
+found-occupied g None some = some
+found-occupied g (Some e) some = refl
+
+module _ {P T I G : Type 0} (t : Tree T) (c : Chain (SimpleOrdArenaNode P T I G)) (under : IsChainOf t c) (sound : IsSoundTree t) (a : Arena (Link (SimpleOrdArenaNode P T I G))) (lies : IsArenaOf c a) where
   -- the place in the tree of the node that the arena shows at i
-  node-shown : (i : ℕ) (e : ℕ × Link (SimpleOrdArenaNode P T I G)) → slot a i ≡ Some e → IsNodeIn t.shape i (option_map number e.1.item.p_back) (option_map number e.1.item.p_tree0) (option_map number e.1.item.p_tree1) e.1.item.rank
+  node-shown : (i : ℕ) (e : ℕ × Link (SimpleOrdArenaNode P T I G)) → slot a i ≡ Some e → IsNodeIn t.shape i e.1.item.p_back e.1.item.p_tree0 e.1.item.p_tree1 e.1.item.rank
   node-shown i e is =
       let entry : entry_at c.entries i ≡ Some (e.0, e.1.item) = entry_at-link None None c.entries i ∙ rw (← lies.slots i, is) refl in
       let listed : indexes c.entries ≡ walk t.shape = indexes-bare c.entries ∙ ap (λ (l : Chain T). indexes l.entries) under.list ∙ sym sound.listed in
       let there : Among i (walk t.shape) = subst (λ (js : List ℕ). Among i js) listed (among-entries c.entries i (e.0, e.1.item) entry) in
-      let found = node-under (slots_of number c) None (root_of t.shape) t.shape i (links_in number e.1.item) under.held (rw entry refl) there in
+      let found = node-under (slots_of c) None (root_of t.shape) t.shape i (links_in e.1.item) under.held (rw entry refl) there in
       record { lesser_side = found.lesser_side; greater_side = found.greater_side; part = found.part; has_parent = found.has_parent; lesser_root = found.lesser_root; greater_root = found.greater_root }
     where
       indexes-bare : (es : List (Entry (SimpleOrdArenaNode P T I G))) → indexes es ≡ indexes (map bare_entry es)
       indexes-bare [] = refl
       indexes-bare (x ∷ es) = rw (← indexes-bare es) refl
 
+  -- where the tree's list has an entry, the arena has a link
+  pub slot-occupied : (i : ℕ) → IsSome (entry_at t.list.entries i) → IsSome (slot a i)
+  slot-occupied i some =
+      let linked : entry_at c.entries i ≡ option_map {U = ℕ × SimpleOrdArenaNode P T I G} (λ e. (e.0, e.1.item)) (slot a i) =
+      entry_at-link None None c.entries i ∙ ap (option_map {U = ℕ × SimpleOrdArenaNode P T I G} (λ e. (e.0, e.1.item))) (sym (lies.slots i)) in
+      let listed : entry_at t.list.entries i ≡ option_map {U = ℕ × T} (λ e. (e.0, e.1.t)) (option_map {U = ℕ × SimpleOrdArenaNode P T I G} (λ e. (e.0, e.1.item)) (slot a i)) =
+      ap (λ (l : Chain T). entry_at l.entries i) (sym under.list) ∙ entry_at-bare c.entries i ∙ ap (option_map {U = ℕ × T} (λ e. (e.0, e.1.t))) linked in
+      mapped (slot a i) (rw listed at some)
+    where
+      mapped : (o : Option (ℕ × Link (SimpleOrdArenaNode P T I G))) → IsSome (option_map {U = ℕ × T} (λ e. (e.0, e.1.t)) (option_map {U = ℕ × SimpleOrdArenaNode P T I G} (λ e. (e.0, e.1.item)) o)) → IsSome o
+      mapped None some = some
+      mapped (Some e) some = refl
+
   -- what a look-up in the arena shows
-  pub node-looked_up : {X : Type 0} (f : X → ℕ × Link (SimpleOrdArenaNode P T I G)) (o : Option X) (i : ℕ) → option_map f o ≡ slot a i → IfSome o (λ x. IsNodeIn t.shape i (option_map number (f x).1.item.p_back) (option_map number (f x).1.item.p_tree0) (option_map number (f x).1.item.p_tree1) (f x).1.item.rank)
+  pub node-looked_up : {X : Type 0} (f : X → ℕ × Link (SimpleOrdArenaNode P T I G)) (o : Option X) (i : ℕ) → option_map f o ≡ slot a i → IfSome o (λ x. IsNodeIn t.shape i (f x).1.item.p_back (f x).1.item.p_tree0 (f x).1.item.p_tree1 (f x).1.item.rank)
   node-looked_up f None i is = tt
   node-looked_up f (Some x) i is = node-shown i (f x) (sym is)
 
   pub link-looked_up : {X : Type 0} (f : X → ℕ × Link (SimpleOrdArenaNode P T I G)) (o : Option X) (i : ℕ) → option_map f o ≡ slot a i → option_map (λ x. bare_link (f x)) o ≡ link_at t.list.entries i
-  link-looked_up f o i is = option_map-twice f bare_link o ∙ ap (option_map bare_link) (is ∙ lies.slots i) ∙ link_at-under number t c under i
+  link-looked_up f o i is = option_map-twice f bare_link o ∙ ap (option_map bare_link) (is ∙ lies.slots i) ∙ link_at-under t c under i

@@ -176,7 +176,7 @@ module _ {T : Type 0} where
     pub count-inserted : count new ≡ count old + 1
     count-inserted = rw (listed, gap.cut) (length-between gap.front entry gap.back)
 
-owed : {X P : Type 0} (o : Option X) → P → OnSome o P
+pub owed : {X P : Type 0} (o : Option X) → P → OnSome o P
 owed None fact = tt
 owed (Some x) fact = fact
 

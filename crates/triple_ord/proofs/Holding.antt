@@ -44,7 +44,7 @@ module _ {P T I G : Type 0} where
   entry_at-bare (e ∷ es) i = elim (eqb_tells e.index i) [ inl h ↦ rw h.0 refl | inr h ↦ rw h.0 (entry_at-bare es i) ]
 
   -- what the chain of nodes under a tree says of the entry at i
-  module _ (number : I → ℕ) (t : Tree T) (c : Chain (SimpleOrdArenaNode P T I G)) (under : IsChainOf number t c) (i : ℕ) where
+  module _ (t : Tree T) (c : Chain (SimpleOrdArenaNode P T I G)) (under : IsChainOf t c) (i : ℕ) where
     pub entry_at-under : entry_at t.list.entries i ≡ option_map (λ e. (e.0, e.1.t)) (entry_at c.entries i)
     entry_at-under = ap (λ (l : Chain T). entry_at l.entries i) (sym under.list) ∙ entry_at-bare c.entries i
 
@@ -56,12 +56,12 @@ module _ {P T I G : Type 0} where
     item-under : (e : ℕ × SimpleOrdArenaNode P T I G) → entry_at c.entries i ≡ Some e → entry_at t.list.entries i ≡ Some (e.0, e.1.t)
     item-under e is = entry_at-under ∙ rw is refl
 
-    sides-under : (e : ℕ × SimpleOrdArenaNode P T I G) (l r : Shape) (k : ℕ) → entry_at c.entries i ≡ Some e → IsPart (node l i k r) t.shape → (option_map number e.1.p_tree0 ≡ root_of l) × (option_map number e.1.p_tree1 ≡ root_of r)
+    sides-under : (e : ℕ × SimpleOrdArenaNode P T I G) (l r : Shape) (k : ℕ) → entry_at c.entries i ≡ Some e → IsPart (node l i k r) t.shape → (e.1.p_tree0 ≡ root_of l) × (e.1.p_tree1 ≡ root_of r)
     sides-under e l r k is part =
-        held-part (slots_of number c) None (root_of t.shape) t.shape l r i k (links_in number e.1) under.held part (rw is refl)
+        held-part (slots_of c) None (root_of t.shape) t.shape l r i k (links_in e.1) under.held part (rw is refl)
 
     -- a node of the chain shows the entry, and the roots of its sides
-    pub shown-under : (e : ℕ × SimpleOrdArenaNode P T I G) → entry_at c.entries i ≡ Some e → IsShown t i e.0 e.1.t (option_map number e.1.p_tree0) (option_map number e.1.p_tree1)
+    pub shown-under : (e : ℕ × SimpleOrdArenaNode P T I G) → entry_at c.entries i ≡ Some e → IsShown t i e.0 e.1.t e.1.p_tree0 e.1.p_tree1
     shown-under e is =
         record {
           entry = item-under e is;

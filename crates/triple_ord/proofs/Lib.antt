@@ -7,5 +7,6 @@ pub mod Holding
 pub mod Bounds
 pub mod Bare
 pub mod Walking
+pub mod Reversed
 pub mod Inserting
 pub mod CallerLemmas

@@ -1,9 +1,9 @@
 -- A list in the order of its keys, with a gap that fits a key: the key is greater than all before the gap, and less than all after it.
-use Rattle.std.proofs.Common.{◌≡◌, ◌≢◌, ℕ, ◌<◌, ◌≤◌, List, [], ◌∷◌, ◌++◌, IfSome, None, length, refl, sym, ap, ◌∙◌, arith, inl, inr}
+use Rattle.std.proofs.Common.{◌≡◌, ◌≢◌, ◌↔◌, true, false, ℕ, ◌<◌, ◌≤◌, List, [], ◌∷◌, ◌++◌, IfSome, None, length, refl, sym, ap, ◌∙◌, arith, inl, inr}
 use Rattle.std.proofs.lemmas.Bool.Decides.{leb_tells}
 use Rattle.std.specs.List.{AllByRecursion as ByRecursion}
 use Rattle.std.specs.Cmp.{IsTotalOrder, alike_right}
-use Rattle.std.specs.Ordering.{ordering_reverse}
+use Rattle.std.specs.Ordering.{ordering_reverse, is_gt}
 use Rattle.std.specs.declared.cmp.Ordering.{Ordering}
 use Rattle.std.specs.declared.cmp.Ordering.TheVariants.{Less, Equal, Greater}
 use Rattle.chain_base.specs.Chain.{Entry}
@@ -33,6 +33,35 @@ module _ {K : Type 0} (cmp : K → K → Ordering) (total : IsTotalOrder cmp) wh
 module _ {T K : Type 0} (key : T → K) (cmp : K → K → Ordering) where
   IsInOrder-rest : (e : Entry T) (es : List (Entry T)) → IsInOrder key cmp (e ∷ es) → IsInOrder key cmp es
   IsInOrder-rest e es order front back f g cut = order (e ∷ front) back f g (ap (λ xs. e ∷ xs) cut)
+
+  -- a list of one entry is in order; one of more, where its first two are and the list from the second on is
+  pub in_order-one : (e : Entry T) → IsInOrder key cmp (e ∷ [])
+  in_order-one e [] back f g cut = absurd (cc)
+  in_order-one e (x ∷ []) back f g cut = absurd (cc)
+  in_order-one e (x ∷ y ∷ front) back f g cut = absurd (cc)
+
+  in_order-more : (e f : Entry T) (es : List (Entry T)) → cmp (key e.item) (key f.item) ≢ Greater → IsInOrder key cmp (f ∷ es) → IsInOrder key cmp (e ∷ f ∷ es)
+  in_order-more e f es two rest [] back x y cut =
+      let first : e ≡ x = cc in
+      let second : f ≡ y = cc in
+      rw (← first, ← second) two
+  in_order-more e f es two rest (z ∷ front) back x y cut = rest front back x y (cc)
+
+  -- where the key of the first is greater than that of the second, or isn't
+  module _ (e f : Entry T) (es : List (Entry T)) (o : Ordering) (is : o ≡ cmp (key e.item) (key f.item)) where
+    pub in_order-step : is_gt o ≡ false → IsInOrder key cmp (e ∷ f ∷ es) ↔ IsInOrder key cmp (f ∷ es)
+    in_order-step less = (IsInOrder-rest e (f ∷ es), in_order-more e f es (λ greater. not_both o (is ∙ greater) less))
+      where
+        not_both : (o : Ordering) → o ≡ Greater → is_gt o ≡ false → ⊥
+        not_both o greater less = absurd (let both = rw greater at less in cc)
+
+    pub in_order-not : is_gt o ≡ true → IsInOrder key cmp (e ∷ f ∷ es) → ⊥
+    in_order-not more order = order [] es e f refl (sym is ∙ told o more)
+      where
+        told : (o : Ordering) → is_gt o ≡ true → o ≡ Greater
+        told Less more = absurd (cc)
+        told Equal more = absurd (cc)
+        told Greater more = refl
 
   IsInOrder-back : (front back : List (Entry T)) → IsInOrder key cmp (front ++ back) → IsInOrder key cmp back
   IsInOrder-back [] back order = order

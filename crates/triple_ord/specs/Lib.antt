@@ -10,6 +10,8 @@ pub mod Insertion
 pub mod Placing
 pub mod Node
 pub mod Walk
+pub mod OrderedWalk
+pub mod OrderedDrain
 pub mod Descent
 pub mod Steps
 pub mod Lends

@@ -6,7 +6,10 @@ ghost use Rattle.chain_base.specs.Chain.{raised, IsSound};
 ghost use Rattle.ord_tree.specs.Tree.{IsSoundTree};
 
 mod access;
+mod check;
 mod compare;
+mod debug;
+mod drain;
 mod find;
 mod find_linear;
 mod find_with;
@@ -15,13 +18,16 @@ mod insert;
 mod iter;
 mod neighbours;
 mod remove;
+mod walk;
 mod write;
 
 use arena_base::{InvalidationOption, Ptr};
+pub use drain::{CapacityDrain, OrderedDrain};
 pub use iter::Iter;
 use ord_tree::OrdTree;
 use std::alloc::{Allocator, Global};
 use std::marker::Model;
+pub use walk::OrderedPtrAdvancer;
 
 /// Entries in the order of their keys, each found at once by its pointer, and by its key in a time logarithmic in their number.
 ///

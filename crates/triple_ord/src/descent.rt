@@ -40,7 +40,8 @@ pub(crate) fn descend<P: Ptr, T, F: FnMut(P, &T) -> Ordering, A: Allocator>(
         if order.is_eq() {
             return last;
         }
-        let (lesser, greater) = (node.p_tree0, node.p_tree1);
+        let lesser = node.p_tree0.get();
+        let greater = node.p_tree1.get();
         at = if order.is_lt() { lesser } else { greater };
     }
     last

@@ -14,8 +14,10 @@ mod steps;
 mod tests;
 mod visits;
 
-pub use arena::{Iter, SimpleOrdArena};
-pub use arena_base::{InvalidationOption, InvalidationResult, P0, P8, PN, Ptr, PtrGen, PtrInx, Q0};
+pub use arena::{CapacityDrain, Iter, OrderedDrain, OrderedPtrAdvancer, SimpleOrdArena};
+pub use arena_base::{
+    Advancer, InvalidationOption, InvalidationResult, P0, P8, PN, Ptr, PtrGen, PtrInx, Q0,
+};
 pub use chain_base::LinkNoGen;
 pub use entry_kind::OrdEntryKind;
 pub use error::OrdInsertionError;

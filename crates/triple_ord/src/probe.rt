@@ -56,7 +56,7 @@ impl<'a, P: Ptr, T, A: Allocator> Probe<'a, P, T, A> {
         requires occupied { IsSome (entry_at self.old.tree.now.list.entries (P.Inx.number i)) }
         requires room { self.old.visits + 1 < 2 ^ 128 }
         ensures shown { IsShown self.old.tree.now (P.Inx.number i) (P.Gen.number result.0) result.1.now.t
-            (option_map P.Inx.number result.1.now.p_tree0) (option_map P.Inx.number result.1.now.p_tree1) }
+            result.1.now.p_tree0 result.1.now.p_tree1 }
         ensures counted { self.new.visits ≡ self.old.visits + 1 }
         ensures tree { self.new.tree.now ≡ self.old.tree.now }
     {
@@ -69,7 +69,7 @@ impl<'a, P: Ptr, T, A: Allocator> Probe<'a, P, T, A> {
         requires occupied { IsSome (entry_at self.old.tree.now.list.entries (P.Inx.number i)) }
         requires room { self.old.visits + 1 < 2 ^ 128 }
         ensures shown { IsShown self.old.tree.now (P.Inx.number i) (P.Gen.number result.0) result.1.now.item.t
-            (option_map P.Inx.number result.1.now.item.p_tree0) (option_map P.Inx.number result.1.now.item.p_tree1) }
+            result.1.now.item.p_tree0 result.1.now.item.p_tree1 }
         ensures linked { link_at self.old.tree.now.list.entries (P.Inx.number i) ≡ Some (
           P.Gen.number result.0,
           record { item = result.1.now.item.t; prev = result.1.now.prev; next = result.1.now.next },
@@ -78,6 +78,6 @@ impl<'a, P: Ptr, T, A: Allocator> Probe<'a, P, T, A> {
         ensures tree { self.new.tree.now ≡ self.old.tree.now }
     {
         self.visits += 1;
-        self.tree.chain().arena().get_inx(i).unwrap()
+        self.tree.chain().arena().entry(i)
     }
 }

@@ -1,6 +1,7 @@
 //! The scheduler and the catalogue, run.
 
 use crate::catalogue::{Book, Catalogue, find, pages, put, renumber, take_first};
+use crate::rounds::{first_of_drain, last_job, next_of_round, round_from};
 use crate::scheduler::{Jobs, cancel, cancel_all, next, pop, replace, schedule};
 use std::alloc::Global;
 use std::test::Fail;
@@ -22,6 +23,26 @@ fn jobs_come_by_deadline_and_leave_when_they_are_cancelled(rt: HostRuntime) -> R
     let _ = schedule(&mut jobs, 10, 3)?;
     cancel_all(&mut jobs);
     assert_eq!(rt; next(&jobs), None);
+    Ok(())
+}
+
+#[test]
+fn rounds_go_on_over_changes(rt: HostRuntime) -> Result<(), Fail> {
+    let mut jobs = Jobs::new(rt.alloc());
+    let first = schedule(&mut jobs, 10, 1)?;
+    let second = schedule(&mut jobs, 20, 2)?;
+    let third = schedule(&mut jobs, 30, 3)?;
+    let mut round = round_from(&jobs, first).ok_or("the first job")?;
+    assert_eq!(rt; next_of_round(&mut round, &jobs), Some((first, 10, 1)));
+    assert!(rt; cancel(&mut jobs, first));
+    assert!(rt; round_from(&jobs, first).is_none());
+    assert_eq!(rt; next_of_round(&mut round, &jobs), Some((second, 20, 2)));
+    assert_eq!(rt; first_of_drain(&mut jobs), Some((second, 20, 2)));
+    assert_eq!(rt; next_of_round(&mut round, &jobs), Some((third, 30, 3)));
+    assert_eq!(rt; next_of_round(&mut round, &jobs), None);
+    let _ = schedule(&mut jobs, 40, 4)?;
+    assert_eq!(rt; last_job(&mut jobs), Some((30, 3)));
+    assert_eq!(rt; (first_of_drain(&mut jobs), last_job(&mut jobs)), (None, None));
     Ok(())
 }
 

@@ -49,7 +49,7 @@ impl<P: Ptr, T, A: Allocator> Arena<P, T, A> {
     {
         let overflow = self.restart(reset);
         move_down::<P, T, A, M>(&mut self.slots, self.generation, map);
-        list_vacant(self.slots.as_slice(), &mut self.vacant);
+        list_vacant(self.slots.as_slice(), 0, &mut self.vacant);
         overflow
     }
 

@@ -1,5 +1,5 @@
 //! Looking up entries.
-ghost use Rattle.std.specs.Prelude.{◌≡◌, ◌+◌, ◌<◌, ◌↔◌, IfSome, IsNone, IfNone, None, is_some};
+ghost use Rattle.std.specs.Prelude.{◌≡◌, ◌+◌, ◌<◌, ◌↔◌, IfSome, IsNone, IfNone, Some, None, is_some};
 ghost use Rattle.std.specs.Option.{option_copied, option_map};
 ghost use Rattle.arena_base.specs.Arena.{slot, generation_at, item_of, arena_len, arena_capacity, next_index, IsFresh, IsVacant, IsOccupied, IsFirstEntry, IsLastEntry};
 
@@ -41,6 +41,17 @@ impl<P: Ptr, T, A: Allocator> Arena<P, T, A> {
         match &self.slots[place] {
             Slot::Occupied(item, generation) => Some((*generation, item)),
             Slot::Vacant => None,
+        }
+    }
+
+    /// Generation and item of the entry at an index that has one.
+    pub fn entry(&self, i: P::Inx) -> (P::Gen, &T)
+        requires { IsOccupied self.now (P.Inx.number i) }
+        ensures { slot self.now (P.Inx.number i) ≡ Some (P.Gen.number result.0, result.1.now) }
+    {
+        match &self.slots[self.place_of_entry(i)] {
+            Slot::Occupied(item, generation) => (*generation, item),
+            Slot::Vacant => unreachable!(),
         }
     }
 
@@ -110,7 +121,10 @@ impl<P: Ptr, T, A: Allocator> Arena<P, T, A> {
         ensures number { P.Inx.number i ≡ result + 1 }
         ensures within { result < arena_capacity self.now }
     {
-        self.place(i).unwrap()
+        // Where the slots are in sight, the index is known to be within them: so nothing is tested.
+        let _ = self.slots.len();
+        let n = i.try_into_usize().unwrap_or(0);
+        n - 1
     }
 }
 

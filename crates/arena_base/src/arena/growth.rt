@@ -1,6 +1,6 @@
 //! Making an arena, and changing its capacity.
-ghost use Rattle.std.specs.Prelude.{◌≡◌, ◌+◌, ◌-◌, ◌<◌, ◌≤◌, ◌↔◌, ◌++◌, ℕ, max, reverse, take, replicate, length, vec_len, vec_capacity, slice_index_or, IsOk, IsErr, IfOk, OnOk, OnErr, MatchResult};
-ghost use Rattle.arena_base.specs.Arena.{slot, arena_len, arena_capacity, arena_limit, new_arena, with_capacity, cleared, emptied, greatest_occupied};
+ghost use Rattle.std.specs.Prelude.{◌≡◌, ◌≢◌, ◌+◌, ◌-◌, ◌<◌, ◌≤◌, ◌↔◌, ◌++◌, ℕ, max, reverse, take, replicate, length, vec_len, vec_capacity, slice_index_or, IsOk, IsErr, IfOk, OnOk, OnErr, MatchResult};
+ghost use Rattle.arena_base.specs.Arena.{IsOccupied, slot, arena_len, arena_capacity, arena_limit, new_arena, with_capacity, cleared, emptied, greatest_occupied};
 ghost use Rattle.arena_base.specs.Generation.{overflows_after};
 ghost use Rattle.arena_base.specs.Invalidation.{is_overflow};
 ghost use Rattle.arena_base.specs.Slot.{vacant_places, AllVacantFrom};
@@ -42,7 +42,7 @@ impl<P: Ptr, T, A: Allocator> Arena<P, T, A> {
         let mut vacant = Vec::with_capacity(alloc, n)?;
         let mut slots = Vec::with_capacity(alloc, n)?;
         add_vacant(&mut slots, n);
-        list_vacant(slots.as_slice(), &mut vacant);
+        list_vacant(slots.as_slice(), 0, &mut vacant);
         let generation = P::Gen::two();
         Ok(Arena {
             slots,
@@ -108,7 +108,7 @@ impl<P: Ptr, T, A: Allocator> Arena<P, T, A> {
         let n = self.slots.len();
         self.slots.clear();
         add_vacant(&mut self.slots, n);
-        list_vacant(self.slots.as_slice(), &mut self.vacant);
+        list_vacant(self.slots.as_slice(), 0, &mut self.vacant);
     }
 
     // Gives back the memory that no slot needs.
@@ -131,6 +131,17 @@ impl<P: Ptr, T, A: Allocator> Arena<P, T, A> {
         }
     }
 
+    // How many slots from the first on are known to have entries without a look at them: all, where none is vacant.
+    fn full_places(&self) -> usize
+        ensures { (i : ℕ) → 0 < i → i ≤ result → IsOccupied self.now i }
+    {
+        if self.vacant.is_empty() {
+            self.slots.len()
+        } else {
+            0
+        }
+    }
+
     // Makes the capacity `n`, whereby no entry is lost. All vacant slots then count as never used.
     pub(super) fn set_capacity(&mut self, n: usize) -> Result<(), AllocError>
         requires limit { n ≤ arena_limit P.Inx.most self.old }
@@ -139,13 +150,14 @@ impl<P: Ptr, T, A: Allocator> Arena<P, T, A> {
         ensures memory { IsErr result → arena_capacity self.old < n }
         ensures err { OnErr result (self.new ≡ self.old) }
     {
+        let full = self.full_places();
         self.slots
             .reserve_exact(n.saturating_sub(self.slots.len()))?;
         self.vacant
             .reserve_exact(n.saturating_sub(self.vacant.len()))?;
         add_vacant(&mut self.slots, n);
         cut_vacant(&mut self.slots, n);
-        list_vacant(self.slots.as_slice(), &mut self.vacant);
+        list_vacant(self.slots.as_slice(), full, &mut self.vacant);
         Ok(())
     }
 }
@@ -175,14 +187,15 @@ fn cut_vacant<T, G: Copy, A: Allocator>(slots: &mut Vec<Slot<T, G>, A>, n: usize
     }
 }
 
-// Lists the vacant places from the last to the first.
-pub(super) fn list_vacant<T, G, A: Allocator>(slots: &[Slot<T, G>], vacant: &mut Vec<usize, A>)
-    requires { length slots.now ≤ vec_capacity vacant.old }
+// Lists the vacant places from the last to the first. The first `full` slots have entries, and are not looked at.
+pub(super) fn list_vacant<T, G, A: Allocator>(slots: &[Slot<T, G>], full: usize, vacant: &mut Vec<usize, A>)
+    requires room { length slots.now ≤ vec_capacity vacant.old }
+    requires full { (k : ℕ) → k < full → slice_index_or slots.now k Slot.Vacant ≢ Slot.Vacant }
     ensures items { vacant.new.items ≡ reverse (vacant_places 0 slots.now) }
     ensures capacity { vec_capacity vacant.new ≡ vec_capacity vacant.old }
 {
     vacant.clear();
-    for place in (0..slots.len()).rev() {
+    for place in (full..slots.len()).rev() {
         if let Slot::Vacant = slots[place] {
             vacant.push_reserved(place);
         }

@@ -3,7 +3,7 @@ ghost use Rattle.std.specs.Prelude.{◌≡◌, ◌<◌, ◌&&◌, Some, None, is
 ghost use Rattle.std.specs.Option.{option_map};
 ghost use Rattle.arena_base.specs.Arena.{slot, item_of, freed, with_slot, without, renewed, IsOccupied};
 ghost use Rattle.arena_base.specs.Generation.{next_generation, overflows_after};
-ghost use Rattle.arena_base.specs.Invalidation.{valid_value, has_overflowed};
+ghost use Rattle.arena_base.specs.Invalidation.{valid_value, has_overflowed, allowed_value, is_overflow};
 
 use super::Arena;
 use crate::invalidation::{InvalidationOption, InvalidationResult};
@@ -20,7 +20,9 @@ impl<P: Ptr, T, A: Allocator> Arena<P, T, A> {
         ensures invalid { IfNone (valid_value result) (self.new ≡ self.old) }
     {
         if self.contains(p) {
-            self.remove_inx(p.inx()).map(|entry: (P::Gen, T)| entry.1)
+            self.remove_entry(p.inx())
+                .valid()
+                .map(|entry: (P::Gen, T)| entry.1)
         } else {
             InvalidationResult::InvalidPtr
         }
@@ -36,10 +38,21 @@ impl<P: Ptr, T, A: Allocator> Arena<P, T, A> {
         if !self.contains_inx(i) {
             return InvalidationResult::InvalidPtr;
         }
+        self.remove_entry(i).valid()
+    }
+
+    /// Takes the entry out at an index that has one, with its generation, and raises the arena's. The next insertion takes its
+    /// slot.
+    pub fn remove_entry(&mut self, i: P::Inx) -> InvalidationOption<(P::Gen, T)>
+        requires { IsOccupied self.old (P.Inx.number i) }
+        ensures value { slot self.old (P.Inx.number i) ≡ Some (P.Gen.number (allowed_value result).0, (allowed_value result).1) }
+        ensures overflow { is_overflow result ≡ overflows_after P.Gen.greatest self.old.generation }
+        ensures removed { self.new ≡ without P.Gen.greatest self.old (P.Inx.number i) }
+    {
         let entry = self.take_entry(i);
         match self.inc_generation() {
-            InvalidationOption::Success(()) => InvalidationResult::Success(entry),
-            InvalidationOption::GenerationOverflow(()) => InvalidationResult::GenerationOverflow(
+            InvalidationOption::Success(()) => InvalidationOption::Success(entry),
+            InvalidationOption::GenerationOverflow(()) => InvalidationOption::GenerationOverflow(
                 entry,
             ),
         }

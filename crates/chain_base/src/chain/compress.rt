@@ -4,8 +4,8 @@ ghost use Rattle.std.specs.Option.{option_map, ForSome};
 ghost use Rattle.arena_base.specs.Arena.{IsFresh, IsOccupied};
 ghost use Rattle.arena_base.specs.Compression.{compressed_generation, compression_overflows};
 ghost use Rattle.arena_base.specs.Invalidation.{is_overflow};
+ghost use Rattle.arena_base.specs.Pointer.{named_of};
 ghost use Rattle.chain_base.specs.Compression.{relocated, IsCompression};
-ghost use Rattle.chain_base.specs.Link.{neighbour_of};
 ghost use Rattle.chain_base.specs.Naming.{CompressesItems, neighbour_on, linked_facing, IsPaired, NamesPlaces};
 
 use super::ChainArena;
@@ -155,7 +155,7 @@ fn link_facing<P: Ptr, T, A: Allocator>(
 )
     requires { ForSome at (λ i. IsOccupied arena.old (P.Inx.number i)) }
     ensures { arena.new ≡ linked_facing side arena.old (option_map P.Inx.number at)
-        (neighbour_of P.Inx.most (option_map P.Inx.number other)) }
+        (named_of P.Inx.most (option_map P.Inx.number other)) }
 {
     match side {
         Side::Before => set_next(arena, at, other),

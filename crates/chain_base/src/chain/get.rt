@@ -1,7 +1,7 @@
 //! Looking up entries and their neighbours.
 ghost use Rattle.std.specs.Prelude.{◌≡◌, ◌↔◌, [], Some, IfSome, IsNone, is_some, length};
 ghost use Rattle.std.specs.Option.{option_copied, option_map};
-ghost use Rattle.chain_base.specs.Chain.{entry_at, item_of, link_at, pointed, first_pointer, last_pointer, IsFirstIndex, IsLastIndex};
+ghost use Rattle.chain_base.specs.Chain.{entry_at, item_of, link_at, pointed, first_pointer, last_pointer, IsOccupied, IsFirstIndex, IsLastIndex};
 
 use super::ChainArena;
 use crate::link::LinkNoGen;
@@ -38,6 +38,24 @@ impl<P: Ptr, T, A: Allocator> ChainArena<P, T, A> {
         let entry = self.arena.get_inx(i)?;
         let link = entry.1;
         Some((entry.0, &link.t))
+    }
+
+    /// Generation and item of the entry at an index that has one.
+    pub fn entry(&self, i: P::Inx) -> (P::Gen, &T)
+        requires { IsOccupied self.now (P.Inx.number i) }
+        ensures { entry_at self.now.entries (P.Inx.number i) ≡ Some (P.Gen.number result.0, result.1.now) }
+    {
+        let pair = self.arena.entry(i);
+        let link = pair.1;
+        (pair.0, &link.t)
+    }
+
+    /// Item and neighbours of the entry at an index that has one.
+    pub fn link(&self, i: P::Inx) -> &LinkNoGen<P, T>
+        requires { IsOccupied self.now (P.Inx.number i) }
+        ensures { option_map (λ e. e.1) (link_at self.now.entries (P.Inx.number i)) ≡ Some result.now }
+    {
+        self.arena.entry(i).1
     }
 
     /// Generation, item and neighbours of the entry at the index.

@@ -1,7 +1,7 @@
 //! Adding entries.
 ghost use Rattle.std.specs.Prelude.{◌≡◌, ◌≤◌, ◌↔◌, ◌⊎◌, Some, IsErr, IfOk, IfErr, OnErr, length};
 ghost use Rattle.std.specs.Option.{option_map};
-ghost use Rattle.chain_base.specs.Chain.{IsOccupied, link_at, chain_limit, with_room};
+ghost use Rattle.chain_base.specs.Chain.{chain_limit, with_room};
 ghost use Rattle.chain_base.specs.Insert.{placed, CanPlace, IsInsertion, IsPlace};
 
 use super::ChainArena;
@@ -96,16 +96,8 @@ impl<P: Ptr, T: Drop, A: Allocator> ChainArena<P, T, A> {
     {
         match kind {
             LinkInsertKind::Disconnected => (None, None),
-            LinkInsertKind::NextToInx(i) => (Some(i), self.link_at(i).next()),
-            LinkInsertKind::PrevToInx(i) => (self.link_at(i).prev(), Some(i)),
+            LinkInsertKind::NextToInx(i) => (Some(i), self.link(i).next()),
+            LinkInsertKind::PrevToInx(i) => (self.link(i).prev(), Some(i)),
         }
-    }
-
-    // The link of the entry at an index that has one.
-    fn link_at(&self, i: P::Inx) -> &LinkNoGen<P, T>
-        requires { IsOccupied self.now (P.Inx.number i) }
-        ensures { option_map (λ e. e.1) (link_at self.now.entries (P.Inx.number i)) ≡ Some result.now }
-    {
-        self.arena.get_inx(i).unwrap().1
     }
 }

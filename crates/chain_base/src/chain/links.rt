@@ -2,7 +2,7 @@
 ghost use Rattle.std.specs.Prelude.{◌≡◌, is_some, if◌then◌else◌};
 ghost use Rattle.std.specs.Option.{option_map, ForSome};
 ghost use Rattle.arena_base.specs.Arena.{IsOccupied};
-ghost use Rattle.chain_base.specs.Link.{neighbour_of};
+ghost use Rattle.arena_base.specs.Pointer.{named_of};
 ghost use Rattle.chain_base.specs.Layout.{linked_next, linked_prev};
 
 use crate::link::LinkNoGen;
@@ -22,8 +22,8 @@ pub(super) fn relink<P: Ptr, T, A: Allocator>(
     requires left { ForSome left (λ i. IsOccupied arena.old (P.Inx.number i)) }
     requires right { ForSome right (λ i. IsOccupied arena.old (P.Inx.number i)) }
     ensures arena { arena.new ≡ linked_prev
-        (linked_next arena.old (option_map P.Inx.number left) (neighbour_of P.Inx.most (option_map P.Inx.number next)))
-        (option_map P.Inx.number right) (neighbour_of P.Inx.most (option_map P.Inx.number prev)) }
+        (linked_next arena.old (option_map P.Inx.number left) (named_of P.Inx.most (option_map P.Inx.number next)))
+        (option_map P.Inx.number right) (named_of P.Inx.most (option_map P.Inx.number prev)) }
     ensures first { option_map P.Inx.number result.0 ≡
         (if is_some (option_map P.Inx.number left) then option_map P.Inx.number ends.0 else option_map P.Inx.number next) }
     ensures last { option_map P.Inx.number result.1 ≡
@@ -43,7 +43,7 @@ pub(super) fn set_next<P: Ptr, T, A: Allocator>(
     next: Option<P::Inx>,
 )
     requires { ForSome at (λ i. IsOccupied arena.old (P.Inx.number i)) }
-    ensures { arena.new ≡ linked_next arena.old (option_map P.Inx.number at) (neighbour_of P.Inx.most (option_map P.Inx.number next)) }
+    ensures { arena.new ≡ linked_next arena.old (option_map P.Inx.number at) (named_of P.Inx.most (option_map P.Inx.number next)) }
 {
     if let Some(i) = at {
         let pair = arena.pair_mut(i);
@@ -59,7 +59,7 @@ pub(super) fn set_prev<P: Ptr, T, A: Allocator>(
     prev: Option<P::Inx>,
 )
     requires { ForSome at (λ i. IsOccupied arena.old (P.Inx.number i)) }
-    ensures { arena.new ≡ linked_prev arena.old (option_map P.Inx.number at) (neighbour_of P.Inx.most (option_map P.Inx.number prev)) }
+    ensures { arena.new ≡ linked_prev arena.old (option_map P.Inx.number at) (named_of P.Inx.most (option_map P.Inx.number prev)) }
 {
     if let Some(i) = at {
         let pair = arena.pair_mut(i);

@@ -1,14 +1,14 @@
 //! Ending entries and their pointers.
-ghost use Rattle.std.specs.Prelude.{◌≡◌, IfSome, IfNone, OnSome, is_some};
+ghost use Rattle.std.specs.Prelude.{◌≡◌, Some, IfSome, IfNone, OnSome, is_some};
 ghost use Rattle.std.specs.Option.{option_map};
 ghost use Rattle.arena_base.specs.Generation.{next_generation, overflows_after};
-ghost use Rattle.arena_base.specs.Invalidation.{valid_value, has_overflowed};
-ghost use Rattle.chain_base.specs.Chain.{link_at, item_of, removed, renewed};
+ghost use Rattle.arena_base.specs.Invalidation.{valid_value, has_overflowed, allowed_value, is_overflow};
+ghost use Rattle.chain_base.specs.Chain.{IsOccupied, link_at, item_of, removed, renewed};
 
 use super::ChainArena;
 use super::links::relink;
 use crate::link::LinkNoGen;
-use arena_base::{InvalidationResult, Ptr};
+use arena_base::{InvalidationOption, InvalidationResult, Ptr};
 use std::alloc::Allocator;
 
 impl<P: Ptr, T, A: Allocator> ChainArena<P, T, A> {
@@ -25,11 +25,22 @@ impl<P: Ptr, T, A: Allocator> ChainArena<P, T, A> {
         ensures removed { OnSome (valid_value result) (self.new ≡ removed P.Gen.greatest self.old (P.Inx.number i)) }
         ensures invalid { IfNone (valid_value result) (self.new ≡ self.old) }
     {
-        let (prev, next) = match self.arena.get_inx(i) {
-            Some(entry) => entry.1.prev_next(),
-            None => return InvalidationResult::InvalidPtr,
-        };
-        let taken = self.arena.remove_inx(i);
+        if !self.contains_inx(i) {
+            return InvalidationResult::InvalidPtr;
+        }
+        self.remove_entry(i).valid()
+    }
+
+    /// Takes the entry out at an index that has one, with its generation and the link that it had, links its neighbours to each
+    /// other, and raises the generation. The next insertion takes its slot. It takes no memory.
+    pub fn remove_entry(&mut self, i: P::Inx) -> InvalidationOption<(P::Gen, LinkNoGen<P, T>)>
+        requires { IsOccupied self.old (P.Inx.number i) }
+        ensures value { link_at self.old.entries (P.Inx.number i) ≡ Some (P.Gen.number (allowed_value result).0, (allowed_value result).1) }
+        ensures overflow { is_overflow result ≡ overflows_after P.Gen.greatest self.old.generation }
+        ensures removed { self.new ≡ removed P.Gen.greatest self.old (P.Inx.number i) }
+    {
+        let (prev, next) = self.arena.entry(i).1.prev_next();
+        let taken = self.arena.remove_entry(i);
         let ends = relink(
             &mut self.arena,
             prev,

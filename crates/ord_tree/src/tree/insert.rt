@@ -15,6 +15,7 @@ use super::OrdTree;
 use crate::attach::attach;
 use crate::links::{Place, Side};
 use crate::node::SimpleOrdArenaNode;
+use crate::node_inx::{NodeInx, as_link, node_at};
 use crate::nodes::Nodes;
 use arena_base::{InsertionError, Ptr};
 use chain_base::{ChainArena, LinkInsertKind};
@@ -44,7 +45,12 @@ impl<P: Ptr, T: Drop, A: Allocator> OrdTree<P, T, A> {
         let node = SimpleOrdArenaNode::leaf(parent_in(place), t);
         let p = self.chain.insert_within_capacity(kind_of(at), node)?;
         prove!(self.chain.len() <= self.chain.capacity());
-        grow(&mut self.chain, &mut self.root, place, p.inx());
+        grow(
+            &mut self.chain,
+            &mut self.root,
+            place,
+            NodeInx::new(p.inx()),
+        );
         Ok(p)
     }
 
@@ -71,7 +77,12 @@ impl<P: Ptr, T: Drop, A: Allocator> OrdTree<P, T, A> {
         let node = SimpleOrdArenaNode::leaf(parent_in(place), t);
         let p = self.chain.insert_reallocating(kind_of(at), node)?;
         prove!(self.chain.len() <= self.chain.capacity());
-        grow(&mut self.chain, &mut self.root, place, p.inx());
+        grow(
+            &mut self.chain,
+            &mut self.root,
+            place,
+            NodeInx::new(p.inx()),
+        );
         Ok(p)
     }
 }
@@ -107,16 +118,16 @@ fn side_of(ordering: Ordering) -> Side
 // The entry directly before or after the one at an index that has one.
 pub(super) fn neighbour<P: Ptr, T, A: Allocator>(
     chain: &ChainArena<P, SimpleOrdArenaNode<P, T>, A>,
-    i: P::Inx,
+    i: NodeInx<P::Inx>,
     side: Side,
-) -> Option<P::Inx>
+) -> Option<NodeInx<P::Inx>>
     requires { IsOccupied chain.now (P.Inx.number i) }
     ensures { option_map P.Inx.number result ≡ neighbour_in side (P.Inx.number i) (indexes chain.now.entries) }
 {
-    let link = chain.get_inx_link_no_gen(i).unwrap().1;
+    let link = chain.link(i.get());
     match side {
-        Side::Lesser => link.prev(),
-        Side::Greater => link.next(),
+        Side::Lesser => as_link::<P>(link.prev()),
+        Side::Greater => as_link::<P>(link.next()),
     }
 }
 
@@ -124,12 +135,12 @@ pub(super) fn neighbour<P: Ptr, T, A: Allocator>(
 // hangs, else under its neighbour on that side, of which the facing side is free then.
 fn place_on<P: Ptr, T, A: Allocator>(
     chain: &ChainArena<P, SimpleOrdArenaNode<P, T>, A>,
-    i: P::Inx,
+    i: NodeInx<P::Inx>,
     side: Side,
-) -> Option<Place<P::Inx>>
+) -> Option<Place<NodeInx<P::Inx>>>
     requires { IsOccupied chain.now (P.Inx.number i) }
-    ensures { (root : Option ℕ) (s : Shape) → IsLaidOut P.Inx.number chain.now root s → IsDistinct chain.now.entries
-        → IsSomeAnd result (IsBud P.Inx.number (P.Inx.number i) side (slots_of P.Inx.number chain.now)
+    ensures { (root : Option ℕ) (s : Shape) → IsLaidOut chain.now root s → IsDistinct chain.now.entries
+        → IsSomeAnd result (IsBud P.Inx.number (P.Inx.number i) side (slots_of chain.now)
         (indexes chain.now.entries)) }
 {
     let links = chain.links(i);
@@ -149,33 +160,33 @@ fn place_on<P: Ptr, T, A: Allocator>(
 fn place_at<P: Ptr, T, A: Allocator>(
     chain: &ChainArena<P, SimpleOrdArenaNode<P, T>, A>,
     at: Option<(P::Inx, Ordering)>,
-) -> Option<Place<P::Inx>>
+) -> Option<Place<NodeInx<P::Inx>>>
     requires { CanPutAt P.Inx.number at chain.now }
-    ensures { (root : Option ℕ) (s : Shape) → IsLaidOut P.Inx.number chain.now root s → IsDistinct chain.now.entries
-        → IsBudAt P.Inx.number at (slots_of P.Inx.number chain.now) (indexes chain.now.entries) result }
+    ensures { (root : Option ℕ) (s : Shape) → IsLaidOut chain.now root s → IsDistinct chain.now.entries
+        → IsBudAt P.Inx.number at (slots_of chain.now) (indexes chain.now.entries) result }
 {
     match at {
         None => None,
-        Some((i, ordering)) => place_on(chain, i, side_of(ordering)),
+        Some((i, ordering)) => place_on(chain, node_at(chain, i), side_of(ordering)),
     }
 }
 
 // Lets the tree over a chain have the new leaf x, at its place or alone.
 fn grow<P: Ptr, T, A: Allocator>(
     chain: &mut ChainArena<P, SimpleOrdArenaNode<P, T>, A>,
-    root: &mut Option<P::Inx>,
-    place: Option<Place<P::Inx>>,
-    x: P::Inx,
+    root: &mut Option<NodeInx<P::Inx>>,
+    place: Option<Place<NodeInx<P::Inx>>>,
+    x: NodeInx<P::Inx>,
 )
     requires { MatchOption place (Unit {0}) (λ p. (order : List ℕ) × (slack : ℕ)
-        × IsBudding (slots_of P.Inx.number chain.old) (option_map P.Inx.number root.old) p.side
+        × IsBudding (slots_of chain.old) (option_map P.Inx.number root.old) p.side
         (P.Inx.number p.parent) (P.Inx.number x) order slack) }
     ensures grown { MatchOption place
         ((chain.new ≡ chain.old) × (root.new ≡ Some x))
         (λ p. (order : List ℕ) (slack : ℕ)
-        → IsBudding (slots_of P.Inx.number chain.old) (option_map P.Inx.number root.old) p.side
+        → IsBudding (slots_of chain.old) (option_map P.Inx.number root.old) p.side
         (P.Inx.number p.parent) (P.Inx.number x) order slack
-        → IsRepaired (slots_of P.Inx.number chain.old) (slots_of P.Inx.number chain.new)
+        → IsRepaired (slots_of chain.old) (slots_of chain.new)
         (option_map P.Inx.number root.new) (beside p.side (P.Inx.number p.parent) (P.Inx.number x) order)
         slack) }
     ensures kept { bare chain.new ≡ bare chain.old }

@@ -1,10 +1,10 @@
 //! Ending entries and their pointers.
 
-ghost use Rattle.std.specs.Prelude.{◌≡◌, IfSome, IfNone, OnSome, is_some};
+ghost use Rattle.std.specs.Prelude.{◌≡◌, Some, IfSome, IfNone, OnSome, is_some};
 ghost use Rattle.std.specs.Option.{option_map};
 ghost use Rattle.arena_base.specs.Generation.{next_generation, overflows_after};
-ghost use Rattle.arena_base.specs.Invalidation.{valid_value, has_overflowed, is_overflow};
-ghost use Rattle.chain_base.specs.Chain.{entry_at, item_of, removed, renewed, cleared};
+ghost use Rattle.arena_base.specs.Invalidation.{valid_value, has_overflowed, allowed_value, is_overflow};
+ghost use Rattle.chain_base.specs.Chain.{IsOccupied, entry_at, item_of, removed, renewed, cleared};
 ghost use Rattle.ord_tree.specs.Shape.{missing};
 ghost use Rattle.ord_tree.specs.Tree.{IsShrunk};
 
@@ -13,6 +13,7 @@ use super::insert::neighbour;
 use crate::detach::detach;
 use crate::links::Side;
 use crate::node::SimpleOrdArenaNode;
+use crate::node_inx::node_at;
 use arena_base::{InvalidationOption, InvalidationResult, Ptr};
 use chain_base::LinkNoGen;
 use std::alloc::Allocator;
@@ -36,10 +37,26 @@ impl<P: Ptr, T, A: Allocator> OrdTree<P, T, A> {
         if !self.chain.contains_inx(i) {
             return InvalidationResult::InvalidPtr;
         }
+        self.remove_entry(i).valid()
+    }
+
+    /// Takes the entry out at an index that has one, with its generation and its item, and raises the generation. The next
+    /// insertion takes its slot. Every other entry keeps its pointer, its item and its order, and at most nine get another parent.
+    ///
+    /// For n entries it takes O(log n) time, and no memory.
+    pub fn remove_entry(&mut self, i: P::Inx) -> InvalidationOption<(P::Gen, T)>
+        requires { IsOccupied self.old.list (P.Inx.number i) }
+        ensures value { entry_at self.old.list.entries (P.Inx.number i)
+            ≡ Some (P.Gen.number (allowed_value result).0, (allowed_value result).1) }
+        ensures overflow { is_overflow result ≡ overflows_after P.Gen.greatest self.old.list.generation }
+        ensures removed { self.new.list ≡ removed P.Gen.greatest self.old.list (P.Inx.number i) }
+        ensures shape { IsShrunk self.old.shape self.new.shape }
+    {
         prove!(self.chain.len() <= self.chain.capacity());
-        let before = neighbour(&self.chain, i, Side::Lesser);
-        detach(&mut self.chain, &mut self.root, i, before);
-        item_taken(self.chain.remove_inx_link_no_gen(i))
+        let z = node_at(&self.chain, i);
+        let before = neighbour(&self.chain, z, Side::Lesser);
+        detach(&mut self.chain, &mut self.root, z, before);
+        item_taken(self.chain.remove_entry(i))
     }
 
     /// Gives the entry that the pointer names a new pointer, at the same index and place and with the raised generation. The
@@ -75,10 +92,10 @@ impl<P: Ptr, T, A: Allocator> OrdTree<P, T, A> {
 
 // The answer of the chain, with the item alone in place of the node.
 fn item_taken<P: Ptr, T>(
-    taken: InvalidationResult<(P::Gen, LinkNoGen<P, SimpleOrdArenaNode<P, T>>)>,
-) -> InvalidationResult<(P::Gen, T)>
-    ensures value { valid_value result ≡ option_map (λ e. (e.0, e.1.item.t)) (valid_value taken) }
-    ensures overflow { has_overflowed result ≡ has_overflowed taken }
+    taken: InvalidationOption<(P::Gen, LinkNoGen<P, SimpleOrdArenaNode<P, T>>)>,
+) -> InvalidationOption<(P::Gen, T)>
+    ensures value { allowed_value result ≡ ((allowed_value taken).0, (allowed_value taken).1.item.t) }
+    ensures overflow { is_overflow result ≡ is_overflow taken }
 {
     taken.map(|(generation, link)| (generation, link.t.t))
 }

@@ -32,7 +32,7 @@ impl<P: Ptr, T, A: Allocator> SimpleOrdArena<P, T, A> {
         if !self.contains(p) {
             return InvalidationResult::InvalidPtr;
         }
-        item_taken::<P, T>(self.tree.remove_inx(p.inx()))
+        item_taken::<P, T>(self.tree.remove_entry(p.inx()).valid())
     }
 
     /// Takes the entry at the index out, as `remove` does, and answers its generation and its item.

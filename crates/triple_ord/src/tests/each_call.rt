@@ -129,9 +129,9 @@ fn neighbours_are_named<P: Ptr, T: Marked>(rt: &impl Abort, five: &Five<P, T>) -
     assert!(rt; link.prev() == Some(five.p50.inx()) && link.next() == Some(five.p70.inx()));
     assert_eq!(rt; *link.t.key(), 60);
     let (_, top) = a.get_inx_node(five.p50.inx()).ok_or("50")?;
-    assert!(rt; top.t.p_back.is_none() && top.t.rank == 3);
-    assert!(rt; top.t.p_tree0 == Some(five.p30.inx()));
-    assert!(rt; top.t.p_tree1 == Some(five.p70.inx()));
+    assert!(rt; top.t.p_back.get().is_none() && top.t.rank == 3);
+    assert!(rt; top.t.p_tree0.get() == Some(five.p30.inx()));
+    assert!(rt; top.t.p_tree1.get() == Some(five.p70.inx()));
     Ok(())
 }
 
@@ -246,8 +246,8 @@ fn stands_at<P: Ptr, T: Marked>(a: &SimpleOrdArena<P, T>, i: P::Inx) -> Option<S
         generation,
         item: (*node.t.key(), node.t.mark()),
         neighbours: link.prev_next(),
-        parent: node.p_back,
-        sides: (node.p_tree0, node.p_tree1),
+        parent: node.p_back.get(),
+        sides: (node.p_tree0.get(), node.p_tree1.get()),
         rank: node.rank,
     })
 }

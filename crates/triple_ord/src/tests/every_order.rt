@@ -52,8 +52,8 @@ fn has_ranks(a: &Keys) -> bool {
         let Some((_, node)) = a.get_inx_node(p.inx()) else {
             return false;
         };
-        let lesser = rank_at(a, node.t.p_tree0);
-        let greater = rank_at(a, node.t.p_tree1);
+        let lesser = rank_at(a, node.t.p_tree0.get());
+        let greater = rank_at(a, node.t.p_tree1.get());
         let rank = node.t.rank;
         for side in [lesser, greater] {
             if rank <= side || rank - side > 2 {

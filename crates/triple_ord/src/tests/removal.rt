@@ -15,7 +15,7 @@ pub fn parents<A: Allocator>(
     let mut parents = Vec::new(alloc);
     for (p, _) in a {
         if let Some((_, node)) = a.get_inx_node(p.inx()) {
-            parents.push((p.inx(), node.t.p_back))?;
+            parents.push((p.inx(), node.t.p_back.get()))?;
         }
     }
     Ok(parents)

@@ -80,8 +80,8 @@ returns-then-high-sibling-eq1-clause-raised g c = λ order slack rising.
     let link_is : option_map number c.child.result ≡ child_at (other_side u.side) high
     = rw (c.child.ensures, c.other.ensures, side_is) (child-numbered number (other_side u.side) c.links-high.result) in
     let sibling_is : c.rank_of-sibling.result ≡ rank_of u.far = rw (c.rank_of-sibling.ensures, link_is) (sibling_rank u high c.links-high.ensures) in
-    let P : ℕ → Type 0 = λ k. (n : Links ℕ) → g.N.Nodes.at c.args.nodes.now (number c.in-Some.z) ≡ Some n → g.N.Nodes.at c.set_rank.new.nodes (number c.in-Some.z) ≡ Some (record n { rank = k + 1 }) in
-    IsRaised-promoted u (g.N.Nodes.at c.set_rank.new.nodes) (subst P ranks.0 c.set_rank.ensures.here) c.set_rank.ensures.elsewhere
+    let P : ℕ → Type 0 = λ k. (n : Links ℕ) → g.N.Nodes.at c.args.nodes.now (number c.in-Some.z) ≡ Some n → g.N.Nodes.at c.set_rank.new.self (number c.in-Some.z) ≡ Some (record n { rank = k + 1 }) in
+    IsRaised-promoted u (g.N.Nodes.at c.set_rank.new.self) (subst P ranks.0 c.set_rank.ensures.here) c.set_rank.ensures.elsewhere
     (omega (arith, ranks, u.over.lesser)) (omega (arith, ranks, sibling_is))
 
 pub restructure-requires : goal.restructure-requires

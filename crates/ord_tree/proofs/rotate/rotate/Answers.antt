@@ -1,8 +1,7 @@
 use Rattle.std.proofs.Common.{◌≡◌, ℕ, Option, Some, sym, ◌∙◌, ap, option_map, is_some}
-use Rattle.ord_tree.specs.declared.links.Links.{Links}
 use Rattle.ord_tree.specs.declared.links.Side.{Side}
 use Rattle.ord_tree.specs.Links.{other_side, child_at, with_child_at, numbered}
-use Rattle.ord_tree.proofs.Rotations.{placed, child-numbered, numbered-with_child, occupied-inner, IsRotated-written}
+use Rattle.ord_tree.proofs.Rotations.{placed, child-numbered, occupied-inner, IsRotated-written}
 use Rattle.ord_tree.proofs.rotate.rotate.Goals as goal
 
 pub hang-requires : goal.hang-requires
@@ -12,11 +11,11 @@ hang-requires g c =
     = rw (c.child-inner.ensures, c.other-other.ensures) (child-numbered number (other_side c.args.side) c.links-low.result) in
     λ i e. c.replace_child.ensures.occupied i ∙ occupied-inner _ _ c.args.side _ _ (numbered number c.links-low.result) i c.requires c.links-low.ensures (sym inner_is ∙ e)
 
-pub set_links-requires : goal.set_links-requires
-set_links-requires g c = c.hang.ensures.occupied _ ∙ c.replace_child.ensures.occupied _ ∙ ap is_some c.links-high.ensures
+pub place-requires : goal.place-requires
+place-requires g c = c.hang.ensures.occupied _ ∙ c.replace_child.ensures.occupied _ ∙ ap is_some c.links-high.ensures
 
-pub set_links-requires-2 : goal.set_links-requires-2
-set_links-requires-2 g c = c.set_links.ensures.occupied _ ∙ c.hang.ensures.occupied _ ∙ c.replace_child.ensures.occupied _ ∙ ap is_some c.links-low.ensures
+pub place-requires-2 : goal.place-requires-2
+place-requires-2 g c = c.place.ensures.occupied _ ∙ c.hang.ensures.occupied _ ∙ c.replace_child.ensures.occupied _ ∙ ap is_some c.links-low.ensures
 
 pub returns-clause-rotated : goal.returns-clause-rotated
 returns-clause-rotated g c = λ site.
@@ -26,12 +25,12 @@ returns-clause-rotated g c = λ site.
     let high = numbered number c.links-high.result in
     let inner_is : option_map number c.child-inner.result ≡ child_at (other_side side) low
     = rw (c.child-inner.ensures, c.other-other.ensures) (child-numbered number (other_side side) c.links-low.result) in
-    IsRotated-written (g.N.Nodes.at c.args.nodes.now) (g.N.Nodes.at c.replace_child.new.nodes) (g.N.Nodes.at c.hang.new.nodes) (g.N.Nodes.at c.set_links.new.self) (g.N.Nodes.at c.set_links-2.new.self)
+    IsRotated-written (g.N.Nodes.at c.args.nodes.now) (g.N.Nodes.at c.replace_child.new.nodes) (g.N.Nodes.at c.hang.new.nodes) (g.N.Nodes.at c.place.new.nodes) (g.N.Nodes.at c.place-2.new.nodes)
     (option_map number c.args.root.now) (option_map number c.replace_child.new.root) side (number c.args.z) (number c.args.y) c.args.rank_z c.args.rank_y low high
     site c.links-low.ensures c.links-high.ensures
     c.replace_child.ensures.at_top c.replace_child.ensures.below c.replace_child.ensures.here c.replace_child.ensures.elsewhere c.replace_child.ensures.backs
     (λ i n e. c.hang.ensures.here i n (inner_is ∙ e)) (λ j e. c.hang.ensures.elsewhere j (λ m. e (sym inner_is ∙ m)))
-    (c.set_links.ensures.here ∙ ap (λ (n : Links ℕ). Some (placed (Some (number c.args.y)) c.args.rank_z n)) (ap (numbered number) c.with_child-below.ensures ∙ numbered-with_child number side c.child-inner.result c.links-high.result ∙ ap (λ (o : Option ℕ). with_child_at side o high) inner_is))
-    c.set_links.ensures.elsewhere
-    (c.set_links-2.ensures.here ∙ ap (λ (n : Links ℕ). Some (placed high.back c.args.rank_y n)) (ap (numbered number) c.with_child-over.ensures ∙ numbered-with_child number c.other-other.result (Some c.args.z) c.links-low.result ∙ ap (λ (s : Side). with_child_at s (Some (number c.args.z)) low) c.other-other.ensures))
-    c.set_links-2.ensures.elsewhere
+    (λ n is. c.place.ensures.here n is ∙ ap (λ (o : Option ℕ). Some (placed (Some (number c.args.y)) c.args.rank_z (with_child_at side o n))) inner_is)
+    c.place.ensures.elsewhere
+    (λ n is. c.place-2.ensures.here n is ∙ ap (λ (s : Side). Some (placed high.back c.args.rank_y (with_child_at s (Some (number c.args.z)) n))) c.other-other.ensures)
+    c.place-2.ensures.elsewhere

@@ -17,7 +17,7 @@ returns-in_default-clause-mended g c = λ order fallen.
     let far_is : option_map number c.child-2.result ≡ child_at (other_side c.args.side) links
     = rw (c.child-2.ensures, c.other-other.ensures) (child-numbered number (other_side c.args.side) c.links-links.result) in
     let bare = IsOver-bare fallen (sym (far_root fallen links c.links-links.ensures) ∙ sym far_is ∙ ap (option_map number) c.in_default.is) in
-    IsDemoted-written fallen (g.N.Nodes.at c.set_rank.new.nodes) 1 (omega (arith, bare.0)) bare.1 c.set_rank.ensures.here c.set_rank.ensures.elsewhere links c.links-links.ensures
+    IsDemoted-written fallen (g.N.Nodes.at c.set_rank.new.self) 1 (omega (arith, bare.0)) bare.1 c.set_rank.ensures.here c.set_rank.ensures.elsewhere links c.links-links.ensures
 
 pub returns-then-links-low-le2-clause-mended : goal.returns-then-links-low-le2-clause-mended
 returns-then-links-low-le2-clause-mended g c = λ order fallen.
@@ -62,7 +62,7 @@ returns-then-links-sibling-eq2-clause-mended g c = λ order fallen.
     let link_is : child_at (other_side c.args.side) links ≡ Some s = sym far_is ∙ ap (option_map number) c.in-Some.is in
     let root_is : root_of fallen.far ≡ Some s = sym (far_root fallen links c.links-links.ensures) ∙ link_is in
     let sibling_is : c.links-sibling.result.rank ≡ rank_of fallen.far = far_rank fallen links c.links-links.ensures s (numbered number c.links-sibling.result) link_is c.links-sibling.ensures in
-    IsDemoted-written fallen (g.N.Nodes.at c.set_rank-then-links-sibling-eq2.new.nodes) (c.links-links.result.rank - 1) (omega (arith, rank_is, fallen.over.lesser))
+    IsDemoted-written fallen (g.N.Nodes.at c.set_rank-then-links-sibling-eq2.new.self) (c.links-links.result.rank - 1) (omega (arith, rank_is, fallen.over.lesser))
     (omega (arith, rank_is, low_is, sibling_is, fallen.over)) c.set_rank-then-links-sibling-eq2.ensures.here c.set_rank-then-links-sibling-eq2.ensures.elsewhere links c.links-links.ensures
 
 pub rebalance-requires : goal.rebalance-requires

@@ -56,9 +56,9 @@ returns-then-links-inner-eq2-clause-mended g c = λ order lean.
     let at = g.N.Nodes.at in
     let s = number c.args.s in
     let y = number c.args.y in
-    let P : ℕ → Type 0 = λ k. (n : Links ℕ) → at c.args.nodes.now s ≡ Some n → at c.set_rank.new.nodes s ≡ Some (record n { rank = k - 1 }) in
-    let Q : ℕ → Type 0 = λ k. (n : Links ℕ) → at c.set_rank.new.nodes y ≡ Some n → at c.set_rank-then-links-inner-eq2.new.nodes y ≡ Some (record n { rank = k - 1 }) in
-    IsDemoted-both lean (at c.set_rank.new.nodes) (at c.set_rank-then-links-inner-eq2.new.nodes) c.links-rank.result.rank
+    let P : ℕ → Type 0 = λ k. (n : Links ℕ) → at c.args.nodes.now s ≡ Some n → at c.set_rank.new.self s ≡ Some (record n { rank = k - 1 }) in
+    let Q : ℕ → Type 0 = λ k. (n : Links ℕ) → at c.set_rank.new.self y ≡ Some n → at c.set_rank-then-links-inner-eq2.new.self y ≡ Some (record n { rank = k - 1 }) in
+    IsDemoted-both lean (at c.set_rank.new.self) (at c.set_rank-then-links-inner-eq2.new.self) c.links-rank.result.rank
     (subst P ranks.0 c.set_rank.ensures.here) c.set_rank.ensures.elsewhere (subst Q ranks.1 c.set_rank-then-links-inner-eq2.ensures.here) c.set_rank-then-links-inner-eq2.ensures.elsewhere
     (omega (arith, outer_is, inner_is, ranks, lean.over)) (omega (arith, inner_is, ranks)) (ap is_some c.links-links.ensures) (ap is_some c.links-rank.ensures)
 

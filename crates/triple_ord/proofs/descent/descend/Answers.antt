@@ -37,7 +37,7 @@ loop-at-preserved-then-is_lt g c =
     record {
       callable = search of_calls;
       tree = c.show-generation.ensures.tree ∙ c.loop-at.invariant.tree;
-      descended = rw (c.show-generation.ensures.counted, named)
+      descended = rw (c.get-lesser.ensures.value, c.show-generation.ensures.counted, named)
           (step-less _ c.args.probe.now.tree.now c.root-at.ensures.distinct _ _ _ _ _ _ d _ _ _ _ shown c.f-order.result c.f-order.new.self
           (λ e is item. record { named = c._from_raw-p.result; item = _; names = named ∙ sym is; shows = sym item; called = c.f-order.ensures }) less);
     }
@@ -51,7 +51,7 @@ loop-at-preserved g c =
     record {
       callable = search of_calls;
       tree = c.show-generation.ensures.tree ∙ c.loop-at.invariant.tree;
-      descended = rw (c.show-generation.ensures.counted, named)
+      descended = rw (c.get-greater.ensures.value, c.show-generation.ensures.counted, named)
           (step-greater _ c.args.probe.now.tree.now c.root-at.ensures.distinct _ _ _ _ _ _ d _ _ _ _ shown c.f-order.result c.f-order.new.self
           (λ e is item. record { named = c._from_raw-p.result; item = _; names = named ∙ sym is; shows = sym item; called = c.f-order.ensures }) greater);
     }

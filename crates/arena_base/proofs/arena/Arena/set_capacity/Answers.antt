@@ -2,7 +2,7 @@ use Rattle.std.proofs.Common.{◌≤◌, reverse, length, sym, ap, ◌∙◌, su
 use Rattle.std.proofs.lemmas.List.{length-take}
 use Rattle.arena_base.specs.Slot.{vacant_places}
 use Rattle.arena_base.specs.Arena.{greatest_occupied, limit_of}
-use Rattle.arena_base.proofs.Resizing.{padded-moved, padded-vacant, resized-view, resized-sound}
+use Rattle.arena_base.proofs.Resizing.{resized-full, padded-moved, padded-vacant, resized-view, resized-sound}
 use Rattle.arena_base.proofs.arena.Arena.set_capacity.Goals as goal
 
 pub cut_vacant-requires : goal.cut_vacant-requires
@@ -12,6 +12,15 @@ cut_vacant-requires g c =
     let padded = c.add_vacant.new.slots.items in
     let is = padded-moved s.slots.items moved.items padded c.args.n moved.len c.add_vacant.ensures.items c.reserve_exact.ensures.items moved.ok.0 in
     padded-vacant g.P.Gen.PtrGen.number s.slots.items padded c.args.n is (subst (λ v. greatest_occupied v.slots ≤ c.args.n) (sym c.self.view_is) c.requires.entries)
+
+pub list_vacant-requires-clause-full : goal.list_vacant-requires-clause-full
+list_vacant-requires-clause-full g c =
+    let s = c.self.inside in
+    let moved = c.reserve_exact.new.self in
+    let padded = c.add_vacant.new.slots.items in
+    let is = padded-moved s.slots.items moved.items padded c.args.n moved.len c.add_vacant.ensures.items c.reserve_exact.ensures.items moved.ok.0 in
+    rw c.as_slice.ensures.value
+    (resized-full g.P.Gen.PtrGen.number s.slots.items padded c.cut_vacant.new.slots.items s.generation s.maximum s.vacant.items c.args.self.now c.args.n c.full_places-full.result c.self.view_is is c.cut_vacant.ensures.items c.requires.entries c.full_places-full.ensures)
 
 pub invariant_of-self-2 : goal.invariant_of-self-2
 invariant_of-self-2 g c =

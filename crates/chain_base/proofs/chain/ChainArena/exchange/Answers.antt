@@ -1,6 +1,6 @@
 use Rattle.std.proofs.Common.{Some, sym, ap, ◌∙◌}
 use Rattle.std.specs.Option.{option_map}
-use Rattle.chain_base.specs.Link.{neighbour_of}
+use Rattle.arena_base.specs.Pointer.{named_of}
 use Rattle.chain_base.specs.Exchange.{exchanged_index, exchanged, index_before}
 use Rattle.chain_base.specs.Walk.{index_after}
 use Rattle.chain_base.proofs.Exchanging.{alike-is, alike-next, alike-prev, alike-swap, even-slots, occupied-named, target-before, target-behind, laid-again, chain-again}
@@ -39,7 +39,7 @@ set_prev-requires g c = λ x is.
     let even = even-slots a0 _ _ _ c.self.invariant _ (let same = rw (← c.self.view_is) at c.requires.even in same) in
     let is_2 = c.exchanged_inx-2.ensures ∙ ap (option_map (exchanged_index i j)) (c.neighbours_at-of_i.ensures.behind ∙ ap (λ v. index_after v.entries i) (sym c.self.view_is)) in
     let alike0 = alike-is c.swap_inx.new.self _ a0 c.swap_inx.ensures (alike-swap a0 _ _ _ c.self.invariant i j at_i at_j even) in
-    let alike1 = alike-is c.set_next.new.arena _ a0 c.set_next.ensures (alike-next c.swap_inx.new.self a0 (option_map number c.exchanged_inx.result) (neighbour_of most (Some j)) alike0) in
+    let alike1 = alike-is c.set_next.new.arena _ a0 c.set_next.ensures (alike-next c.swap_inx.new.self a0 (option_map number c.exchanged_inx.result) (named_of most (Some j)) alike0) in
     target-behind a0 _ _ _ c.self.invariant i j at_i at_j even c.set_next.new.arena alike1 i (option_map number c.exchanged_inx-2.result) is_2 (number x) (ap (option_map number) is)
 
 pub set_next-requires-2 : goal.set_next-requires-2
@@ -54,8 +54,8 @@ set_next-requires-2 g c = λ x is.
     let even = even-slots a0 _ _ _ c.self.invariant _ (let same = rw (← c.self.view_is) at c.requires.even in same) in
     let is_3 = c.exchanged_inx-3.ensures ∙ ap (option_map (exchanged_index i j)) (c.neighbours_at-of_j.ensures.before ∙ ap (λ v. index_before v.entries j) (sym c.self.view_is)) in
     let alike0 = alike-is c.swap_inx.new.self _ a0 c.swap_inx.ensures (alike-swap a0 _ _ _ c.self.invariant i j at_i at_j even) in
-    let alike1 = alike-is c.set_next.new.arena _ a0 c.set_next.ensures (alike-next c.swap_inx.new.self a0 (option_map number c.exchanged_inx.result) (neighbour_of most (Some j)) alike0) in
-    let alike2 = alike-is c.set_prev.new.arena _ a0 c.set_prev.ensures (alike-prev c.set_next.new.arena a0 (option_map number c.exchanged_inx-2.result) (neighbour_of most (Some j)) alike1) in
+    let alike1 = alike-is c.set_next.new.arena _ a0 c.set_next.ensures (alike-next c.swap_inx.new.self a0 (option_map number c.exchanged_inx.result) (named_of most (Some j)) alike0) in
+    let alike2 = alike-is c.set_prev.new.arena _ a0 c.set_prev.ensures (alike-prev c.set_next.new.arena a0 (option_map number c.exchanged_inx-2.result) (named_of most (Some j)) alike1) in
     target-before a0 _ _ _ c.self.invariant i j at_i at_j even c.set_prev.new.arena alike2 j (option_map number c.exchanged_inx-3.result) is_3 (number x) (ap (option_map number) is)
 
 pub set_prev-requires-2 : goal.set_prev-requires-2
@@ -70,9 +70,9 @@ set_prev-requires-2 g c = λ x is.
     let even = even-slots a0 _ _ _ c.self.invariant _ (let same = rw (← c.self.view_is) at c.requires.even in same) in
     let is_4 = c.exchanged_inx-4.ensures ∙ ap (option_map (exchanged_index i j)) (c.neighbours_at-of_j.ensures.behind ∙ ap (λ v. index_after v.entries j) (sym c.self.view_is)) in
     let alike0 = alike-is c.swap_inx.new.self _ a0 c.swap_inx.ensures (alike-swap a0 _ _ _ c.self.invariant i j at_i at_j even) in
-    let alike1 = alike-is c.set_next.new.arena _ a0 c.set_next.ensures (alike-next c.swap_inx.new.self a0 (option_map number c.exchanged_inx.result) (neighbour_of most (Some j)) alike0) in
-    let alike2 = alike-is c.set_prev.new.arena _ a0 c.set_prev.ensures (alike-prev c.set_next.new.arena a0 (option_map number c.exchanged_inx-2.result) (neighbour_of most (Some j)) alike1) in
-    let alike3 = alike-is c.set_next-2.new.arena _ a0 c.set_next-2.ensures (alike-next c.set_prev.new.arena a0 (option_map number c.exchanged_inx-3.result) (neighbour_of most (Some i)) alike2) in
+    let alike1 = alike-is c.set_next.new.arena _ a0 c.set_next.ensures (alike-next c.swap_inx.new.self a0 (option_map number c.exchanged_inx.result) (named_of most (Some j)) alike0) in
+    let alike2 = alike-is c.set_prev.new.arena _ a0 c.set_prev.ensures (alike-prev c.set_next.new.arena a0 (option_map number c.exchanged_inx-2.result) (named_of most (Some j)) alike1) in
+    let alike3 = alike-is c.set_next-2.new.arena _ a0 c.set_next-2.ensures (alike-next c.set_prev.new.arena a0 (option_map number c.exchanged_inx-3.result) (named_of most (Some i)) alike2) in
     target-behind a0 _ _ _ c.self.invariant i j at_i at_j even c.set_next-2.new.arena alike3 j (option_map number c.exchanged_inx-4.result) is_4 (number x) (ap (option_map number) is)
 
 pub invariant_of-self : goal.invariant_of-self

@@ -1,7 +1,7 @@
 use Rattle.std.proofs.Common.{◌≡◌, ℕ, ◌+◌, ◌<◌, ◌≤◌, ◌↔◌, length, Option, Some, None, IsSome, IfSome, refl, sym, ap, ◌∙◌, rules, arith, subst}
 use Rattle.std.specs.Option.{option_map}
 use Rattle.arena_base.specs.Arena.{slot}
-use Rattle.chain_base.specs.Link.{neighbour_of}
+use Rattle.arena_base.specs.Pointer.{named_of}
 use Rattle.chain_base.specs.Naming.{linked_facing}
 use Rattle.chain_base.proofs.Naming.{NamedBelow, named-begins, named-vacant, named-step_end, named-step_more, named-target, named-ends, index-made, neighbour-within}
 use Rattle.chain_base.proofs.chain.compress.name_places.Goals.{in-Some, then-is_none, else-is_none, in_default}
@@ -41,7 +41,7 @@ loop-place-preserved g c =
           let held = found number g.P.Gen.PtrGen.number _ at.arena c.unwrap-index.result (at.place + 1) (search rules) c.get_inx.result c.get_inx.ensures e w.in-Some.is in
           let within : at.count + 1 ≤ g.P.Inx.PtrInx.most = omega (arith, at.invariant.fewer, c.capacity-place-end.ensures.limit, c.capacity-place-end.ensures.value) in
           let made : option_map number w.try_from_usize-here.result ≡ Some (at.count + 1) = index-made number g.P.Inx.PtrInx.most (at.count + 1) w.try_from_usize-here.result w.try_from_usize-here.ensures.variant w.try_from_usize-here.ensures.value (omega arith) within in
-          let linked = w.link_facing.ensures ∙ ap (linked_facing c.args.side at.arena (option_map number w.neighbour_on-neighbour.result)) (ap (neighbour_of g.P.Inx.PtrInx.most) made ∙ neighbour-within g.P.Inx.PtrInx.most (at.count + 1) within) in
+          let linked = w.link_facing.ensures ∙ ap (linked_facing c.args.side at.arena (option_map number w.neighbour_on-neighbour.result)) (ap (named_of g.P.Inx.PtrInx.most) made ∙ neighbour-within g.P.Inx.PtrInx.most (at.count + 1) within) in
           elim w.if-is_none.branch [
             | then-is_none v ↦
                 rw (w.arena-is, w.end-is, v.end-is, w.count-is, made)

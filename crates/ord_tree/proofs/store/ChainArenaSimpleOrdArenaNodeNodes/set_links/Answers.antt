@@ -1,15 +1,17 @@
 use Rattle.std.proofs.Common.{refl}
-use Rattle.ord_tree.proofs.Entries.{slots_of-written, slots_of-elsewhere, slots_of-occupied, bare-written}
+use Rattle.ord_tree.specs.Links.{numbered}
+use Rattle.ord_tree.proofs.Entries.{slots_of-linked, slots_of-elsewhere, slots_of-occupied, bare-written}
 use Rattle.ord_tree.proofs.store.ChainArenaSimpleOrdArenaNodeNodes.set_links.Goals as goal
 
 pub returns-clause-here : goal.returns-clause-here
-returns-clause-here g c = slots_of-written g.P.Inx.PtrInx.number c.args.self.now _ _ _ c.pair_mut-pair.ensures.value
+returns-clause-here g c =
+    rw (← c.get.ensures.value) (slots_of-linked c.args.self.now _ _ _ c.pair_mut-pair.ensures.value (numbered g.P.Inx.PtrInx.number c.args.links) c.kept-node.ensures c.kept-node-2.ensures c.kept-node-3.ensures refl)
 
 pub returns-clause-elsewhere : goal.returns-clause-elsewhere
-returns-clause-elsewhere g c = slots_of-elsewhere g.P.Inx.PtrInx.number c.args.self.now _ _ _ c.pair_mut-pair.ensures.value
+returns-clause-elsewhere g c = rw (← c.get.ensures.value) (slots_of-elsewhere c.args.self.now _ _ _ c.pair_mut-pair.ensures.value)
 
 pub returns-clause-occupied : goal.returns-clause-occupied
-returns-clause-occupied g c = slots_of-occupied g.P.Inx.PtrInx.number c.args.self.now _ _ _ c.pair_mut-pair.ensures.value
+returns-clause-occupied g c = slots_of-occupied c.args.self.now _ _ _ c.pair_mut-pair.ensures.value
 
 pub returns-clause-kept : goal.returns-clause-kept
-returns-clause-kept g c = bare-written g.P.Inx.PtrInx.number c.args.self.now _ _ _ c.pair_mut-pair.ensures.value refl
+returns-clause-kept g c = bare-written c.args.self.now _ _ _ c.pair_mut-pair.ensures.value refl

@@ -5,7 +5,7 @@ use Rattle.ord_tree.proofs.tree.OrdTree.invalidate.Goals as goal
 
 pub invariant_of-self : goal.invariant_of-self
 invariant_of-self g c =
-    call_laid_out g.P.Inx.PtrInx.number g.P.Gen.PtrGen.greatest c.self.inside.chain (option_map g.P.Inx.PtrInx.number c.self.inside.root) _ c.self.invariant (valid_value c.invalidate.result) c.invalidate.new.self
+    call_laid_out g.P.Gen.PtrGen.greatest c.self.inside.chain (option_map g.P.Inx.PtrInx.number c.self.inside.root) _ c.self.invariant (valid_value c.invalidate.result) c.invalidate.new.self
     c.invalidate.ensures.renewed c.invalidate.ensures.invalid
 
 pub returns-clause-valid : goal.returns-clause-valid
@@ -13,5 +13,5 @@ returns-clause-valid g c = rw (← c.self.view_is) (c.invalidate.ensures.valid �
 
 pub returns-clause-renewed : goal.returns-clause-renewed
 returns-clause-renewed g c =
-    rw (← c.self.view_is) (call_renewed g.P.Inx.PtrInx.number g.P.Gen.PtrGen.greatest c.self.inside.chain (option_map g.P.Inx.PtrInx.number c.self.inside.root) _ c.self.invariant (valid_value c.invalidate.result) c.invalidate.new.self
+    rw (← c.self.view_is) (call_renewed g.P.Gen.PtrGen.greatest c.self.inside.chain (option_map g.P.Inx.PtrInx.number c.self.inside.root) _ c.self.invariant (valid_value c.invalidate.result) c.invalidate.new.self
     c.invalidate.ensures.renewed)

@@ -5,4 +5,4 @@ pub returns-clause-list : goal.returns-clause-list
 returns-clause-list g c = rw (← c.self.view_is) (IsSound-bare g.P.Inx.PtrInx.most g.P.Gen.PtrGen.greatest c.self.inside.chain c.len.ensures.sound)
 
 pub returns-clause-sound : goal.returns-clause-sound
-returns-clause-sound g c = rw (← c.self.view_is) (IsSoundTree-laid_out g.P.Inx.PtrInx.number c.self.inside.chain _ c.self.invariant)
+returns-clause-sound g c = rw (← c.self.view_is) (IsSoundTree-laid_out c.self.inside.chain _ c.self.invariant)

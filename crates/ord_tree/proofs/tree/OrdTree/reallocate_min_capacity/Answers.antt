@@ -7,7 +7,7 @@ use Rattle.ord_tree.proofs.tree.OrdTree.reallocate_min_capacity.Goals as goal
 pub invariant_of-self : goal.invariant_of-self
 invariant_of-self g c =
     let r = c.reallocate_min_capacity in
-    IsLaidOut-entries g.P.Inx.PtrInx.number c.self.inside.chain r.new.self _
+    IsLaidOut-entries c.self.inside.chain r.new.self _
     (either_result r.result _ (on_ok r.result _ _ r.ensures.ok (λ e. ap (λ (c : Chain _). c.entries) e)) (on_err r.result _ _ r.ensures.err (λ e. ap (λ (c : Chain _). c.entries) e)))
     c.self.invariant
 
@@ -16,4 +16,4 @@ returns-clause-ok g c =
     let r = c.reallocate_min_capacity in
     let number = g.P.Inx.PtrInx.number in
     let root = option_map number c.self.inside.root in
-    rw (← c.self.view_is) (on_ok r.result _ _ r.ensures.ok (λ e. ap (λ (c : Chain _). tree_of number c root) e ∙ tree_of-with_capacity number c.self.inside.chain root c.args.n))
+    rw (← c.self.view_is) (on_ok r.result _ _ r.ensures.ok (λ e. ap (λ (c : Chain _). tree_of c root) e ∙ tree_of-with_capacity c.self.inside.chain root c.args.n))

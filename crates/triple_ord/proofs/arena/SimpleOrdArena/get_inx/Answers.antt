@@ -3,7 +3,7 @@ use Rattle.triple_ord.proofs.Holding.{entry_at-under}
 use Rattle.triple_ord.proofs.arena.SimpleOrdArena.get_inx.Goals as goal
 
 pub returns-in_err-entry : goal.returns-in_err-entry
-returns-in_err-entry g c = rw (← c.self.view_is, c.from_residual.ensures, entry_at-under _ _ _ c.chain.ensures.chain _, ← c.in_err-entry.ensures) refl
+returns-in_err-entry g c = rw (← c.self.view_is, c.from_residual.ensures, entry_at-under _ _ c.chain.ensures.chain _, ← c.in_err-entry.ensures) refl
 
 pub returns : goal.returns
-returns g c = rw (← c.self.view_is, entry_at-under _ _ _ c.chain.ensures.chain _, ← c.in_ok-entry.ensures) refl
+returns g c = rw (← c.self.view_is, entry_at-under _ _ c.chain.ensures.chain _, ← c.in_ok-entry.ensures) refl

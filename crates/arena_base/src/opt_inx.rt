@@ -1,0 +1,56 @@
+//! `OptInx`: an optional index in the room of an index.
+ghost use Rattle.std.specs.Prelude.{◌≡◌, None};
+ghost use Rattle.std.specs.Option.{option_map};
+ghost use Rattle.arena_base.specs.Pointer.{named, named_of};
+
+use crate::ptr::Ptr;
+use std::marker::Model;
+
+/// An index or none, in the room of an index: an `Option` of one would take twice as much.
+///
+/// The index of `Ptr::invalid()` names no entry, and stands for none.
+#[derive(Clone, Debug, Drop)]
+pub struct OptInx<P: Ptr> {
+    inx: P::Inx,
+}
+
+impl<P: Ptr> Model for OptInx<P> {
+    ghost use Rattle.std.specs.Prelude.{ℕ, Option};
+    ghost use Rattle.arena_base.specs.Pointer.{named};
+
+    ghost Value = { Option ℕ };
+
+    ghost view = { λ i. named P.Inx.most (P.Inx.number i.inx) };
+}
+
+impl<P: Ptr> OptInx<P> {
+    /// An index or none. The index of `Ptr::invalid()` is none.
+    pub fn new(inx: Option<P::Inx>) -> Self
+        ensures { result ≡ named_of P.Inx.most (option_map P.Inx.number inx) }
+    {
+        OptInx {
+            inx: inx.unwrap_or(P::invalid().inx()),
+        }
+    }
+
+    /// None.
+    pub fn none() -> Self
+        ensures { result ≡ None }
+    {
+        OptInx {
+            inx: P::invalid().inx(),
+        }
+    }
+
+    /// The index, if there is one.
+    pub fn get(&self) -> Option<P::Inx>
+        ensures value { option_map P.Inx.number result ≡ self.now }
+        ensures named { named_of P.Inx.most self.now ≡ self.now }
+    {
+        if self.inx == P::invalid().inx() {
+            None
+        } else {
+            Some(self.inx)
+        }
+    }
+}

@@ -1,0 +1,32 @@
+use Rattle.std.proofs.Common.{◌∙◌, sym, ap}
+use Rattle.std.specs.Option.{option_map}
+use Rattle.chain_base.proofs.Calls.{left-held, right-held, Removes-linked}
+use Rattle.chain_base.proofs.Ends.{occupied-laid_out, link_at-laid_out}
+use Rattle.chain_base.proofs.chain.ChainArena.remove_entry.Goals as goal
+
+pub entry-requires : goal.entry-requires
+entry-requires g c = let held = rw (← c.self.view_is) at c.requires in occupied-laid_out c.self.inside.arena _ _ c.self.invariant _ held
+
+pub remove_entry-taken-requires : goal.remove_entry-taken-requires
+remove_entry-taken-requires g c = let held = rw (← c.self.view_is) at c.requires in occupied-laid_out c.self.inside.arena _ _ c.self.invariant _ held
+
+pub relink-ends-requires-clause-left : goal.relink-ends-requires-clause-left
+relink-ends-requires-clause-left g c = λ x is.
+    rw c.remove_entry-taken.ensures.removed (left-held c.self.inside.arena _ _ c.self.invariant g.P.Gen.PtrGen.greatest (g.P.Inx.PtrInx.number c.args.i) _ c.entry.ensures _ (sym c.prev_next.ensures.prev ∙ ap (option_map g.P.Inx.PtrInx.number) is))
+
+pub relink-ends-requires-clause-right : goal.relink-ends-requires-clause-right
+relink-ends-requires-clause-right g c = λ x is.
+    rw c.remove_entry-taken.ensures.removed (right-held c.self.inside.arena _ _ c.self.invariant g.P.Gen.PtrGen.greatest (g.P.Inx.PtrInx.number c.args.i) _ c.entry.ensures _ (sym c.prev_next.ensures.next ∙ ap (option_map g.P.Inx.PtrInx.number) is))
+
+pub invariant_of-self : goal.invariant_of-self
+invariant_of-self g c =
+    let removes = Removes-linked c.self.inside.arena _ _ c.self.invariant g.P.Gen.PtrGen.greatest _ _ c.entry.ensures _ _ c.relink-ends.new.arena _ _ _ _ c.prev_next.ensures.prev c.prev_next.ensures.next c.prev_next.ensures.named_prev c.prev_next.ensures.named_next c.remove_entry-taken.ensures.removed c.relink-ends.ensures.arena c.relink-ends.ensures.first c.relink-ends.ensures.last in
+    removes.laid
+
+pub returns-clause-value : goal.returns-clause-value
+returns-clause-value g c = rw (← c.self.view_is) (link_at-laid_out c.self.inside.arena _ _ c.self.invariant _ ∙ c.remove_entry-taken.ensures.value)
+
+pub returns-clause-removed : goal.returns-clause-removed
+returns-clause-removed g c =
+    let removes = Removes-linked c.self.inside.arena _ _ c.self.invariant g.P.Gen.PtrGen.greatest _ _ c.entry.ensures _ _ c.relink-ends.new.arena _ _ _ _ c.prev_next.ensures.prev c.prev_next.ensures.next c.prev_next.ensures.named_prev c.prev_next.ensures.named_next c.remove_entry-taken.ensures.removed c.relink-ends.ensures.arena c.relink-ends.ensures.first c.relink-ends.ensures.last in
+    rw (← c.self.view_is) removes.chain

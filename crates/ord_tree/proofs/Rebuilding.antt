@@ -1,0 +1,509 @@
+-- The steps of a rebuild: opening a run, meeting an entry, ending a run.
+use Rattle.std.proofs.Common.{◌≡◌, ◌≢◌, ℕ, zero, suc, ◌+◌, ◌-◌, ◌*◌, ◌/◌, ◌^◌, ◌<◌, ◌≤◌, inr, ⊎_elim, Option, Some, None, List, [], ◌∷◌, ◌++◌, length, length-append, append_assoc, arith, refl, sym, ◌∙◌, ap, subst, is_some, true, slice_get}
+use Rattle.std.proofs.Math.Nat.{mul-le-mul_right, one-le-pow, pow-suc, two-pow-succ}
+use Rattle.std.proofs.Math.Pow.{pow_mono}
+use Rattle.std.proofs.lemmas.Bool.{cases_lt, eq-eqb, ne_eqb}
+use Rattle.std.proofs.lemmas.Nat.{leading_length}
+use Rattle.std.specs.Int.Count.{count_leading_zeros}
+use Rattle.std.proofs.lemmas.List.{append-nil}
+use Rattle.ord_tree.specs.declared.links.Side.{Side}
+use Rattle.ord_tree.specs.declared.links.Side.TheVariants.{Lesser, Greater}
+use Rattle.ord_tree.specs.declared.links.Links.{Links}
+use Rattle.ord_tree.specs.declared.rebuild.Frame.{Frame}
+use Rattle.ord_tree.specs.Shape.{Shape, missing, node, fork, size_of, walk}
+use Rattle.ord_tree.specs.Slots.{Slots, Holds, Way, top, up, plug, here, times, times_in, times_way, IsOnce}
+use Rattle.ord_tree.specs.Half.{half_rank, IsHalf, IsRebuilt}
+use Rattle.ord_tree.specs.Numbers.{IsTop}
+use Rattle.ord_tree.specs.Bud.{list_head, following}
+use Rattle.ord_tree.specs.Rebuild.{ahead, behind, IsFacing, IsFew, IsPlan, IsMiddle, IsStack, IsUnopened, IsFinished, IsReady, IsOpening, IsPassing}
+use Rattle.ord_tree.proofs.Forks.{here-same, times-append, times-walk, times_in-plug, link-root, apart-from}
+use Rattle.ord_tree.proofs.Halves.{rebuilt_exists, size_of-walk}
+use Rattle.ord_tree.proofs.Frames.{root-in, Holds-frame, Holds-rehung}
+use Rattle.ord_tree.proofs.Rotations.{occupied-link}
+
+-- how many steps a way has
+abbrev pub depth : Way → ℕ
+depth top = 0
+depth (up side i k far rest) = suc (depth rest)
+
+-- a side of a half is a half, one rank below and at most half as large
+IsHalf-near : (side : Side) (near far : Shape) (i k p : ℕ) → IsHalf p (fork side near i k far) → IsHalf (p - 1) near × (2 * size_of near ≤ size_of (fork side near i k far))
+IsHalf-near Lesser near far i k p h = (h.2, omega (arith, h.0))
+IsHalf-near Greater near far i k p h = (h.3, omega (arith, h.0))
+
+-- so is what stands at the end of a way
+pub IsHalf-plug : (way : Way) (t : Shape) (q p : ℕ) → p ≡ q - depth way → IsHalf q (plug way t) → IsHalf p t
+IsHalf-plug top t q p e h = let same : p ≡ q = omega arith in rw same h
+IsHalf-plug (up side i k far rest) t q p e h =
+    let same : p ≡ q - depth rest - 1 = omega arith in
+    rw same (IsHalf-near side t far i k (q - depth rest) (IsHalf-plug rest (fork side t i k far) q (q - depth rest) refl h)).0
+
+-- each step of a way halves what stands at its end
+halved : (u v p n r : ℕ) → r ≡ p * 2 → 2 * u ≤ v → v * p ≤ n → u * r ≤ n
+halved u v p n r e g l = rw e (omega (arith, mul-le-mul_right p g))
+
+size-plug : (way : Way) (t : Shape) (q : ℕ) → IsHalf q (plug way t) → size_of t * 2 ^ depth way ≤ size_of (plug way t)
+size-plug top t q h = omega arith
+size-plug (up side i k far rest) t q h =
+    halved (size_of t) (size_of (fork side t i k far)) (2 ^ depth rest) (size_of (plug rest (fork side t i k far))) (2 ^ suc (depth rest)) (pow-suc 2 (depth rest))
+    (IsHalf-near side t far i k (q - depth rest) (IsHalf-plug rest (fork side t i k far) q (q - depth rest) refl h)).1
+    (size-plug rest (fork side t i k far) q h)
+
+-- what comes before the end of a way and what stands there is a part of the whole
+behind-plug : (way : Way) (t : Shape) → behind way + size_of t ≤ size_of (plug way t)
+behind-plug top t = omega arith
+behind-plug (up Lesser i k far rest) t = omega (arith, behind-plug rest (node t i k far))
+behind-plug (up Greater i k far rest) t = omega (arith, behind-plug rest (node far i k t))
+
+below_power : (k l n d : ℕ) → 0 < l → n < 2 ^ d → l * 2 ^ k ≤ n → k < d
+below_power k l n d p s g =
+    ⊎_elim (λ (less : k < d). less)
+    (λ (more : d ≤ k). absurd (omega (arith, pow_mono {i = d} {j = k} more, mul-le-mul_right (2 ^ k) p, s))) (cases_lt k d)
+
+-- so a way to a node of the plan has fewer steps than the size of the plan has digits
+few-steps : {at : Slots} {q : ℕ} {s : Shape} (way : Way) (t : Shape) → IsPlan at q s → plug way t ≡ s → 0 < size_of t → (d : ℕ) → size_of s < 2 ^ d → depth way < d
+few-steps {at} {q} {s} way t plan whole some d below =
+    let P : Shape → Type 0 = λ s. IsHalf q s in
+    below_power (depth way) (size_of t) (size_of s) d some below (omega (arith, size-plug way t q (subst P (sym whole) plan.half), ap size_of whole))
+
+size-fork-some : (side : Side) (near far : Shape) (i k : ℕ) → 0 < size_of (fork side near i k far)
+size-fork-some Lesser near far i k = omega arith
+size-fork-some Greater near far i k = omega arith
+
+apart : {at : Slots} {q : ℕ} {s : Shape} (way : Way) (t : Shape) → IsPlan at q s → plug way t ≡ s → (j : ℕ) → times_way j way + times_in j t ≤ 1
+apart way t plan whole j = omega (arith, plan.once j, times_in-plug j way t, ap (times_in j) whole)
+
+within : {at : Slots} {q : ℕ} {s : Shape} (way : Way) (t : Shape) → IsPlan at q s → plug way t ≡ s → (j : ℕ) → 0 < times_way j way + times_in j t → is_some (at j) ≡ true
+within way t plan whole j some = plan.there j (omega (arith, some, times_in-plug j way t, ap (times_in j) whole))
+
+-- the last of a list is one
+pub snoc-same : {A : Type 0} (xs ys : List A) (x y : A) → xs ++ x ∷ [] ≡ ys ++ y ∷ [] → (xs ≡ ys) × (x ≡ y)
+snoc-same [] [] x y e = (refl, cc)
+snoc-same [] (b ∷ ys) x y e = absurd (omega (arith, ap length e, length-append ys (y ∷ [])))
+snoc-same (a ∷ xs) [] x y e = absurd (omega (arith, ap length e, length-append xs (x ∷ [])))
+snoc-same (a ∷ xs) (b ∷ ys) x y e =
+    let rest : xs ++ x ∷ [] ≡ ys ++ y ∷ [] = cc in
+    let same = snoc-same xs ys x y rest in
+    let first : a ≡ b = cc in
+    (rw (first, same.0) refl, same.1)
+
+not-snoc : {A : Type 0} (xs : List A) (x : A) → [] ≡ xs ++ x ∷ [] → ⊥
+not-snoc xs x e = omega (arith, ap length e, length-append xs (x ∷ []))
+
+-- the last of a list is found at the end
+pub slice_get-end : {A : Type 0} (xs : List A) (x : A) (n : ℕ) → n ≡ length xs → slice_get (xs ++ x ∷ []) n ≡ Some x
+slice_get-end [] x n e = rw e refl
+slice_get-end (a ∷ xs) x zero e = absurd (omega (arith, e))
+slice_get-end (a ∷ xs) x (suc n) e = slice_get-end xs x n (omega (arith, e))
+
+pub slice_get-last : {A : Type 0} (all below : List A) (x : A) → all ≡ below ++ x ∷ [] → slice_get all (length all - 1) ≡ Some x
+slice_get-last all below x e = ap (λ xs. slice_get xs (length all - 1)) e ∙ slice_get-end below x (length all - 1) (omega (arith, ap length e, length-append below (x ∷ [])))
+
+module _ where
+  -- as many frames as steps
+  pub length-stack : (at : Slots) (way : Way) (n : ℕ) (frames : List Frame) → IsStack at way n frames → length frames ≡ depth way
+  length-stack at top n frames h = ap length h
+  length-stack at (up side i k far rest) n frames h =
+      omega (arith, ap length h.2, length-append h.0 (h.1 ∷ []), length-stack at rest (n + 1 + size_of far) h.0 h.6)
+
+  -- so no more than the size of the plan has digits
+  few-frames : {at : Slots} {q : ℕ} {s : Shape} (frames : List Frame) → IsPlan at q s → (way : Way) (t : Shape) → plug way t ≡ s → IsStack at way (size_of t) frames → IsFew frames s
+  few-frames {at} {q} {s} frames plan top t whole stack d digits = omega (arith, length-stack at top (size_of t) frames stack)
+  few-frames {at} {q} {s} frames plan (up side i k far rest) t whole stack d digits =
+      omega (arith, length-stack at (up side i k far rest) (size_of t) frames stack, few-steps rest (fork side t i k far) plan whole (size-fork-some side t far i k) d digits.0)
+
+  pub IsReady-few : {at : Slots} {q : ℕ} {s : Shape} {frames : List Frame} {link : Option ℕ} {todo : List ℕ} → IsPlan at q s → IsReady at frames s link todo → IsFew frames s
+  IsReady-few {frames = frames} plan ready = few-frames frames plan ready.finished.way ready.finished.done ready.finished.whole ready.finished.stack
+
+  -- what the frames say stays where no write touches the nodes that are met
+  module _ (old new : Slots) where
+    IsMiddle-frame : (side : Side) (i k : ℕ) (far : Shape) (middle : Option ℕ) → ((j : ℕ) → 0 < here j i + times_in j far → new j ≡ old j) → IsMiddle old side i k far middle → IsMiddle new side i k far middle
+    IsMiddle-frame Lesser i k far middle same h = h
+    IsMiddle-frame Greater i k far middle same h =
+        (h.0, h.1, same i (omega (arith, here-same i)) ∙ h.2, h.3, h.4, Holds-frame old new far (Some i) h.1.lesser (λ j inside. same j (omega arith)) h.5)
+
+    pub IsStack-frame : (way : Way) (n : ℕ) (frames : List Frame) → ((j : ℕ) → 0 < times_way j way → new j ≡ old j) → IsStack old way n frames → IsStack new way n frames
+    IsStack-frame top n frames same h = h
+    IsStack-frame (up side i k far rest) n frames same h =
+        (h.0, h.1, h.2, IsMiddle-frame side i k far h.1.middle (λ j inside. same j (omega arith)) h.3, h.4, h.5, IsStack-frame rest (n + 1 + size_of far) h.0 (λ j inside. same j (omega arith)) h.6)
+
+  -- opening
+  abbrev frame_over : ℕ → ℕ → Frame
+  frame_over start len = record { start = start; len = len; middle = None }
+
+  module _ {at : Slots} {q : ℕ} {s : Shape} (plan : IsPlan at q s) {todo : List ℕ} where
+    -- one frame more
+    pub opened-more : {frames : List Frame} {start len : ℕ} → IsUnopened at frames s start len todo → 0 < len → (length frames < 64) × IsOpening at (frames ++ frame_over start len ∷ []) s start (len / 2) todo
+    opened-more {frames} {start} {len} u some = go u.way u.run u.whole u.stack u.size u.place u.todo_is
+      where
+        go : (way : Way) (run : Shape) → plug way run ≡ s → IsStack at way (size_of run) frames → len ≡ size_of run → start ≡ behind way → walk run ++ ahead way ≡ todo
+            → (length frames < 64) × IsOpening at (frames ++ frame_over start len ∷ []) s start (len / 2) todo
+        go way missing whole stack size inside todo_is = absurd (omega (arith, some, size))
+        go way (node l i k r) whole stack size inside todo_is =
+            let P : Shape → Type 0 = λ s. IsHalf q s in
+            let half = IsHalf-plug way (node l i k r) q (q - depth way) refl (subst P (sym whole) plan.half) in (
+              omega (arith, length-stack at way (size_of (node l i k r)) frames stack, few-steps way (node l i k r) plan whole (omega arith) 64 plan.few),
+              record {
+                unopened = record {
+                  way = up Lesser i k r way;
+                  run = l;
+                  whole = whole;
+                  stack = (frames, frame_over start len, refl, refl, size, inside, stack);
+                  size = omega (arith, half.0, size);
+                  place = inside;
+                  todo_is = sym (append_assoc (walk l) (i ∷ walk r) (ahead way)) ∙ todo_is;
+                };
+                facing = inr tt;
+              },
+            )
+
+    -- nothing is left to open
+    pub IsReady-empty : {frames : List Frame} {start len : ℕ} (u : IsUnopened at frames s start len todo) → len ≡ 0 → IsFinished at frames s None todo × (IsFacing u.way → IsReady at frames s None todo)
+    IsReady-empty {frames} {start} {len} u none = go u.way u.run u.whole u.stack u.size u.todo_is
+      where
+        go : (way : Way) (run : Shape) → plug way run ≡ s → IsStack at way (size_of run) frames → len ≡ size_of run → walk run ++ ahead way ≡ todo
+            → IsFinished at frames s None todo × (IsFacing way → IsReady at frames s None todo)
+        go way missing whole stack size todo_is = (
+          record { way = way; done = missing; whole = whole; stack = stack; held = refl; todo_is = todo_is },
+          λ facing. record { finished = record { way = way; done = missing; whole = whole; stack = stack; held = refl; todo_is = todo_is }; facing = facing },
+        )
+        go way (node l i k r) whole stack size todo_is = absurd (omega (arith, none, size))
+
+    pub IsReady-opened : {frames : List Frame} {start len : ℕ} → IsOpening at frames s start len todo → len ≡ 0 → IsReady at frames s None todo
+    IsReady-opened {frames} {start} {len} o none =
+        ⊎_elim (λ some. absurd (omega (arith, some, none))) (λ facing. (IsReady-empty o.unopened none).1 facing) o.facing
+
+  -- the run whose middle is met next
+  pub record IsNext {at : Slots} {q : ℕ} {s : Shape} (plan : IsPlan at q s) (below : List Frame) (f : Frame) (link : Option ℕ) (x : ℕ) (todo : List ℕ) : Type 0 where
+    pub rest : Way
+    pub l : Shape
+    pub k : ℕ
+    pub r : Shape
+    pub whole : plug rest (node l x k r) ≡ s
+    pub stack : IsStack at rest (size_of l + 1 + size_of r) below
+    pub len : f.len ≡ size_of l + 1 + size_of r
+    pub start : f.start ≡ behind rest
+    pub held : Holds at None link l
+    pub todo_is : walk r ++ ahead rest ≡ todo
+
+  pub next-run : {at : Slots} {q : ℕ} {s : Shape} (plan : IsPlan at q s) {frames : List Frame} {link : Option ℕ} {x : ℕ} {todo : List ℕ}
+      → IsReady at frames s link (x ∷ todo) → (below : List Frame) (f : Frame) → frames ≡ below ++ f ∷ [] → IsNext plan below f link x todo
+  next-run {at} {q} {s} plan {frames} {link} {x} {todo} ready below f e =
+      go ready.finished.way ready.finished.done ready.finished.whole ready.finished.stack ready.finished.held ready.finished.todo_is ready.facing
+    where
+      go : (way : Way) (done : Shape) → plug way done ≡ s → IsStack at way (size_of done) frames → Holds at None link done → ahead way ≡ x ∷ todo → IsFacing way → IsNext plan below f link x todo
+      go top done whole stack held todo_is facing = absurd cc
+      go (up Greater i k far rest) done whole stack held todo_is facing = absurd facing
+      go (up Lesser i k far rest) done whole stack held todo_is facing =
+          let same = snoc-same stack.0 below stack.1 f (sym stack.2 ∙ e) in
+          let first : i ≡ x = cc in
+          let tail : walk far ++ ahead rest ≡ todo = cc in
+          let P : ℕ → Type 0 = λ i. plug rest (node done i k far) ≡ s in
+          let Q : List Frame → Type 0 = λ frames. IsStack at rest (size_of done + 1 + size_of far) frames in
+          record {
+            rest = rest;
+            l = done;
+            k = k;
+            r = far;
+            whole = subst P first whole;
+            stack = subst Q same.0 stack.6;
+            len = ap (λ (f : Frame). f.len) (sym same.1) ∙ stack.4;
+            start = ap (λ (f : Frame). f.start) (sym same.1) ∙ stack.5;
+            held = held;
+            todo_is = tail;
+          }
+
+  -- there is one
+  pub ready-some : {at : Slots} {s : Shape} {frames : List Frame} {link : Option ℕ} {x : ℕ} {todo : List ℕ} → IsReady at frames s link (x ∷ todo) → 0 < length frames
+  ready-some {at} {s} {frames} {link} {x} {todo} ready = go ready.finished.way ready.finished.stack ready.finished.todo_is
+    where
+      go : (way : Way) → IsStack at way (size_of ready.finished.done) frames → ahead way ≡ x ∷ todo → 0 < length frames
+      go top stack e = absurd cc
+      go (up side i k far rest) stack e = omega (arith, ap length stack.2, length-append stack.0 (stack.1 ∷ []))
+
+  module _ {at : Slots} {q : ℕ} {s : Shape} {plan : IsPlan at q s} {below : List Frame} {f : Frame} {link : Option ℕ} {x : ℕ} {todo : List ℕ} (next : IsNext plan below f link x todo) where
+    pub next-room : length below < 64
+    next-room = omega (arith, length-stack at next.rest (size_of next.l + 1 + size_of next.r) below next.stack, few-steps next.rest (node next.l x next.k next.r) plan next.whole (omega arith) 64 plan.few)
+
+    pub next-fits : (0 < f.len) × (f.start + f.len < 2 ^ 64)
+    next-fits = (omega (arith, next.len), omega (arith, next.start, next.len, plan.few, behind-plug next.rest (node next.l x next.k next.r), ap size_of next.whole))
+
+    pub next-there : is_some (at x) ≡ true
+    next-there = within next.rest (node next.l x next.k next.r) plan next.whole x (omega (arith, here-same x))
+
+    pub next-link-there : (i : ℕ) → link ≡ Some i → is_some (at i) ≡ true
+    next-link-there i e = occupied-link at None link next.l i next.held e
+
+    alone : (j : ℕ) → times_way j next.rest + (times_in j next.l + here j x + times_in j next.r) ≤ 1
+    alone = apart next.rest (node next.l x next.k next.r) plan next.whole
+
+    half : IsHalf (q - depth next.rest) (node next.l x next.k next.r)
+    half = let P : Shape → Type 0 = λ s. IsHalf q s in IsHalf-plug next.rest (node next.l x next.k next.r) q (q - depth next.rest) refl (subst P (sym next.whole) plan.half)
+
+    in_l : (j : ℕ) → link ≡ Some j → 0 < times_in j next.l
+    in_l j e = root-in next.l j (sym (link-root at None link next.l next.held) ∙ e)
+
+    -- the entry is met
+    module _ (written new : Slots) (rank : ℕ) (rank_is : rank ≡ half_rank f.len (q - length below))
+        (here_is : written x ≡ Some (record { back = None; lesser = link; greater = None; rank = rank })) (but_x : (j : ℕ) → j ≢ x → written j ≡ at j)
+        (hung : (i : ℕ) (n : Links ℕ) → link ≡ Some i → written i ≡ Some n → new i ≡ Some (record n { back = Some x }))
+        (but_hung : (j : ℕ) → link ≢ Some j → new j ≡ written j) where
+      not_x : (j : ℕ) → 0 < times_way j next.rest + times_in j next.l → j ≢ x
+      not_x j some = apart-from x j (λ j. times_way j next.rest + times_in j next.l) (omega (arith, alone x, here-same x)) some
+
+      not_hung : (j : ℕ) → times_in j next.l ≡ 0 → link ≢ Some j
+      not_hung j none e = omega (arith, in_l j e)
+
+      abbrev pub met_frame : Frame
+      met_frame = record { start = f.start; len = f.len; middle = Some x }
+
+      rank_met : rank ≡ next.k
+      rank_met =
+          let steps = length-stack at next.rest (size_of next.l + 1 + size_of next.r) below next.stack in
+          rank_is ∙ ap (λ n. half_rank n (q - length below)) next.len ∙ ap (λ d. half_rank (size_of next.l + 1 + size_of next.r) (q - d)) steps ∙ sym half.1
+
+      pub IsUnopened-met : IsUnopened new (below ++ met_frame ∷ []) s (f.start + f.len / 2 + 1) (f.len - f.len / 2 - 1) todo
+      IsUnopened-met =
+          let P : ℕ → Type 0 = λ n. IsStack new next.rest n below in
+          let turned : size_of next.l + 1 + size_of next.r ≡ size_of next.r + 1 + size_of next.l = omega arith in
+          record {
+            way = up Greater x next.k next.l next.rest;
+            run = next.r;
+            whole = next.whole;
+            stack = (
+              below,
+              met_frame,
+              refl,
+              (
+                refl,
+                record { back = None; lesser = link; greater = None; rank = rank },
+                but_hung x (not_hung x (omega (arith, alone x, here-same x))) ∙ here_is,
+                refl,
+                rank_met,
+                Holds-rehung written new next.l None (Some x) link hung (λ j other inside. but_hung j other) (λ j. omega (arith, alone j))
+                    (Holds-frame at written next.l None link (λ j inside. but_x j (not_x j (omega arith))) next.held),
+              ),
+              omega (arith, next.len),
+              next.start,
+              subst P turned (IsStack-frame at new next.rest (size_of next.l + 1 + size_of next.r) below (λ j inside. but_hung j (not_hung j (omega (arith, alone j))) ∙ but_x j (not_x j (omega arith))) next.stack),
+            );
+            size = omega (arith, next.len, half.0);
+            place = omega (arith, next.start, half.0);
+            todo_is = next.todo_is;
+          }
+
+  -- ending a run
+  module _ {at : Slots} {q : ℕ} {s : Shape} (plan : IsPlan at q s) {frames : List Frame} {link : Option ℕ} {todo : List ℕ} (finished : IsFinished at frames s link todo) where
+    -- where the innermost run has no middle yet, or there is none, the next entry can be met
+    pub IsReady-bare : ((below : List Frame) (f : Frame) → frames ≡ below ++ f ∷ [] → f.middle ≡ None) → IsReady at frames s link todo
+    IsReady-bare bare = record { finished = finished; facing = go finished.way finished.stack }
+      where
+        go : (way : Way) → IsStack at way (size_of finished.done) frames → IsFacing way
+        go top stack = tt
+        go (up Lesser i k far rest) stack = tt
+        go (up Greater i k far rest) stack = let none = bare stack.0 stack.1 stack.2 in let some = stack.3.0 in cc
+
+    -- the run that ends
+    pub record IsEnding (below : List Frame) (m : ℕ) : Type 0 where
+      pub rest : Way
+      pub l : Shape
+      pub k : ℕ
+      pub r : Shape
+      pub n : Links ℕ
+      pub whole : plug rest (node l m k r) ≡ s
+      pub stack : IsStack at rest (size_of l + 1 + size_of r) below
+      pub found : at m ≡ Some n
+      pub back : n.back ≡ None
+      pub rank : n.rank ≡ k
+      pub lesser : Holds at (Some m) n.lesser l
+      pub greater : Holds at None link r
+      pub todo_is : ahead rest ≡ todo
+
+    pub ending-run : (below : List Frame) (f : Frame) (m : ℕ) → frames ≡ below ++ f ∷ [] → f.middle ≡ Some m → IsEnding below m
+    ending-run below f m e mid = go finished.way finished.done finished.whole finished.stack finished.held finished.todo_is
+      where
+        go : (way : Way) (done : Shape) → plug way done ≡ s → IsStack at way (size_of done) frames → Holds at None link done → ahead way ≡ todo → IsEnding below m
+        go top done whole stack held todo_is = absurd (not-snoc below f (sym stack ∙ e))
+        go (up Lesser i k far rest) done whole stack held todo_is =
+            let same = snoc-same stack.0 below stack.1 f (sym stack.2 ∙ e) in
+            let none : f.middle ≡ None = ap (λ (f : Frame). f.middle) (sym same.1) ∙ stack.3 in absurd cc
+        go (up Greater i k far rest) done whole stack held todo_is =
+            let same = snoc-same stack.0 below stack.1 f (sym stack.2 ∙ e) in
+            let some : f.middle ≡ Some i = ap (λ (f : Frame). f.middle) (sym same.1) ∙ stack.3.0 in
+            let is_m : i ≡ m = cc in
+            let P : List Frame → Type 0 = λ frames. IsStack at rest (size_of done + 1 + size_of far) frames in
+            let Q : ℕ → Type 0 = λ n. IsStack at rest n below in
+            let turned : size_of done + 1 + size_of far ≡ size_of far + 1 + size_of done = omega arith in
+            let E : ℕ → Type 0 = λ m. IsEnding below m in
+            subst E is_m (record {
+              rest = rest;
+              l = far;
+              k = k;
+              r = done;
+              n = stack.3.1;
+              whole = whole;
+              stack = subst Q turned (subst P same.0 stack.6);
+              found = stack.3.2;
+              back = stack.3.3;
+              rank = stack.3.4;
+              lesser = stack.3.5;
+              greater = held;
+              todo_is = todo_is;
+            })
+
+    module _ {below : List Frame} {m : ℕ} (ending : IsEnding below m) where
+      alone-ending : (j : ℕ) → times_way j ending.rest + (times_in j ending.l + here j m + times_in j ending.r) ≤ 1
+      alone-ending = apart ending.rest (node ending.l m ending.k ending.r) plan ending.whole
+
+      pub ending-there : is_some (at m) ≡ true
+      ending-there = ap is_some ending.found
+
+      pub ending-link-there : (i : ℕ) → link ≡ Some i → is_some (at i) ≡ true
+      ending-link-there i e = occupied-link at None link ending.r i ending.greater e
+
+      module _ (written new : Slots) (here_is : (n : Links ℕ) → at m ≡ Some n → written m ≡ Some (record n { greater = link })) (but_m : (j : ℕ) → j ≢ m → written j ≡ at j)
+          (hung : (i : ℕ) (n : Links ℕ) → link ≡ Some i → written i ≡ Some n → new i ≡ Some (record n { back = Some m }))
+          (but_hung : (j : ℕ) → link ≢ Some j → new j ≡ written j) where
+        not_m : (j : ℕ) → 0 < times_way j ending.rest + times_in j ending.l + times_in j ending.r → j ≢ m
+        not_m j some = apart-from m j (λ j. times_way j ending.rest + times_in j ending.l + times_in j ending.r) (omega (arith, alone-ending m, here-same m)) some
+
+        in_r : (j : ℕ) → link ≡ Some j → 0 < times_in j ending.r
+        in_r j e = root-in ending.r j (sym (link-root at None link ending.r ending.greater) ∙ e)
+
+        not_link : (j : ℕ) → times_in j ending.r ≡ 0 → link ≢ Some j
+        not_link j none e = omega (arith, in_r j e)
+
+        kept : (j : ℕ) → 0 < times_way j ending.rest + times_in j ending.l → new j ≡ at j
+        kept j inside = but_hung j (not_link j (omega (arith, alone-ending j))) ∙ but_m j (not_m j (omega arith))
+
+        pub IsFinished-ended : IsFinished new below s (Some m) todo
+        IsFinished-ended = record {
+          way = ending.rest;
+          done = node ending.l m ending.k ending.r;
+          whole = ending.whole;
+          stack = IsStack-frame at new ending.rest (size_of ending.l + 1 + size_of ending.r) below (λ j inside. kept j (omega arith)) ending.stack;
+          held = (
+            record (ending.n) { greater = link },
+            refl,
+            but_hung m (not_link m (omega (arith, alone-ending m, here-same m))) ∙ here_is ending.n ending.found,
+            ending.back,
+            ending.rank,
+            Holds-frame at new ending.l (Some m) ending.n.lesser (λ j inside. kept j (omega arith)) ending.lesser,
+            Holds-rehung written new ending.r None (Some m) link hung (λ j other inside. but_hung j other) (λ j. omega (arith, alone-ending j))
+                (Holds-frame at written ending.r None link (λ j inside. but_m j (not_m j (omega arith))) ending.greater),
+          );
+          todo_is = ending.todo_is;
+        }
+
+-- the plan stays where no node goes
+pub IsPlan-kept : {old new : Slots} {q : ℕ} {s : Shape} → ((j : ℕ) → is_some (new j) ≡ is_some (old j)) → IsPlan old q s → IsPlan new q s
+IsPlan-kept same plan = record { half = plan.half; few = plan.few; once = plan.once; there = λ j some. same j ∙ plan.there j some }
+
+-- the top rank by the count of leading zeros
+pub IsTop-leading : (n : ℕ) → n < 2 ^ 64 → IsTop n (64 - count_leading_zeros 64 (n - 2) + 1)
+IsTop-leading n fits =
+    let h = leading_length 64 (n - 2) (omega arith) in
+    (h.0, omega (arith, h.1), (omega (arith, h.2), λ j less small. omega (arith, h.3, small, one-le-pow j 2 (omega arith), pow_mono {i = suc j} {j = h.0} (omega arith), two-pow-succ j)))
+
+IsTop-same : (n p q : ℕ) → IsTop n p → IsTop n q → p ≡ q
+IsTop-same n p q a b =
+    ⊎_elim (λ (less : a.0 < b.0). absurd (b.2.1 a.0 less a.2.0))
+    (λ (more : b.0 ≤ a.0). ⊎_elim (λ (less : b.0 < a.0). absurd (a.2.1 b.0 less b.2.0)) (λ (same : a.0 ≤ b.0). omega (arith, a.1, b.1)) (cases_lt b.0 a.0)) (cases_lt a.0 b.0)
+
+-- what follows an entry in a list
+pub following-at : (z : ℕ) (front back : List ℕ) → times z front ≡ 0 → following z (front ++ z ∷ back) ≡ list_head back
+following-at z [] back none = rw (eq-eqb z z refl) refl
+following-at z (x ∷ xs) back none =
+    let not_z : x ≢ z = λ e. let one = here-same z in let same = ap (here z) e in omega arith in
+    rw (ne_eqb x z not_z) (following-at z xs back (omega (arith, none)))
+
+-- a list that is to be rebuilt
+module _ (at : Slots) (order : List ℕ) (n top_rank : ℕ) (len : n ≡ length order) (fits : n < 2 ^ 64) (once : IsOnce order) (there : (j : ℕ) → 0 < times j order → is_some (at j) ≡ true) (top_is : IsTop n top_rank) where
+  abbrev pub planned : Shape
+  planned = (rebuilt_exists order).0
+
+  pub planned_walk : walk planned ≡ order
+  planned_walk = (rebuilt_exists order).1
+
+  planned_size : size_of planned ≡ n
+  planned_size = size_of-walk planned ∙ ap length planned_walk ∙ sym len
+
+  pub planned_rebuilt : IsRebuilt planned
+  planned_rebuilt = (rebuilt_exists order).2
+
+  pub plan_for : IsPlan at top_rank planned
+  plan_for =
+      let P : ℕ → Type 0 = λ m. IsTop m top_rank in
+      let same = IsTop-same (size_of planned) planned_rebuilt.0 top_rank planned_rebuilt.1 (subst P (sym planned_size) top_is) in
+      let Q : ℕ → Type 0 = λ q. IsHalf q planned in
+      record {
+        half = subst Q same planned_rebuilt.2;
+        few = omega (arith, planned_size);
+        once = λ j. omega (arith, once j, times-walk j planned, ap (times j) planned_walk);
+        there = λ j some. there j (omega (arith, some, times-walk j planned, ap (times j) planned_walk));
+      }
+
+module _ {at : Slots} {s : Shape} {order : List ℕ} where
+  -- at the start nothing is open
+  pub IsOpening-start : (walk s ≡ order) → (n : ℕ) → n ≡ length order → (frames : List Frame) → frames ≡ [] → IsOpening at frames s 0 n order
+  IsOpening-start walked n len frames none =
+      let size : n ≡ size_of s = omega (arith, len, size_of-walk s, ap length walked) in
+      record {
+        unopened = record { way = top; run = s; whole = refl; stack = none; size = size; place = refl; todo_is = append-nil (walk s) ∙ walked };
+        facing = inr tt;
+      }
+
+  module _ {frames : List Frame} {link target : Option ℕ} {place : ℕ} (passing : IsPassing at frames s order link place target) where
+    -- the next entry
+    pub record IsTarget (x : ℕ) : Type 0 where
+      pub rest : List ℕ
+      pub split : order ≡ passing.met ++ x ∷ rest
+      pub ready : IsReady at frames s link (x ∷ rest)
+
+    pub target_of : (x : ℕ) → target ≡ Some x → IsTarget x
+    target_of x e = go passing.todo passing.split passing.ready (sym passing.target_is ∙ e)
+      where
+        go : (todo : List ℕ) → order ≡ passing.met ++ todo → IsReady at frames s link todo → list_head todo ≡ Some x → IsTarget x
+        go [] split ready h = absurd cc
+        go (y ∷ rest) split ready h =
+            let same : y ≡ x = cc in
+            let P : ℕ → Type 0 = λ y. order ≡ passing.met ++ y ∷ rest in
+            let Q : ℕ → Type 0 = λ y. IsReady at frames s link (y ∷ rest) in
+            record { rest = rest; split = subst P same split; ready = subst Q same ready }
+
+    pub target-there : {q x : ℕ} → IsPlan at q s → walk s ≡ order → IsTarget x → is_some (at x) ≡ true
+    target-there {q} {x} plan walked is =
+        plan.there x (omega (arith, times-walk x s, ap (times x) walked, ap (times x) is.split, times-append x passing.met (x ∷ is.rest), here-same x))
+
+    pub target-some : place < length order → is_some target ≡ true
+    target-some less = go passing.todo passing.split passing.target_is
+      where
+        go : (todo : List ℕ) → order ≡ passing.met ++ todo → target ≡ list_head todo → is_some target ≡ true
+        go [] split h = absurd (omega (arith, passing.count, ap length split, length-append passing.met []))
+        go (y ∷ rest) split h = rw h refl
+
+    -- at the end all hangs on the link
+    pub Holds-passed : length order ≤ place → Holds at None link s
+    Holds-passed all = go passing.ready.finished.way passing.ready.facing passing.ready.finished.whole (passing.ready.finished.todo_is ∙ none passing.todo passing.split) passing.ready.finished.held
+      where
+        none : (todo : List ℕ) → order ≡ passing.met ++ todo → todo ≡ []
+        none [] split = refl
+        none (y ∷ rest) split = absurd (omega (arith, passing.count, ap length split, length-append passing.met (y ∷ rest)))
+
+        go : (way : Way) → IsFacing way → plug way passing.ready.finished.done ≡ s → ahead way ≡ [] → Holds at None link passing.ready.finished.done → Holds at None link s
+        go top facing whole e held = let P : Shape → Type 0 = λ s. Holds at None link s in subst P whole held
+        go (up Lesser i k far rest) facing whole e held = absurd cc
+        go (up Greater i k far rest) facing whole e held = absurd facing
+
+-- one entry more is met
+pub IsPassing-next : {at new : Slots} {s : Shape} {order : List ℕ} {frames frames' : List Frame} {link link' target target' : Option ℕ} {place x : ℕ}
+    (passing : IsPassing at frames s order link place target) (is : IsTarget passing x) → IsOnce order → target' ≡ following x order → IsReady new frames' s link' is.rest
+    → IsPassing new frames' s order link' (place + 1) target'
+IsPassing-next {x = x} passing is once next ready = record {
+  met = passing.met ++ x ∷ [];
+  todo = is.rest;
+  split = is.split ∙ sym (append_assoc passing.met (x ∷ []) is.rest);
+  count = omega (arith, passing.count, length-append passing.met (x ∷ []));
+  target_is = next ∙ ap (following x) is.split ∙ following-at x passing.met is.rest (omega (arith, once x, ap (times x) is.split, times-append x passing.met (x ∷ is.rest), here-same x));
+  ready = ready;
+}

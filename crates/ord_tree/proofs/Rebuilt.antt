@@ -1,0 +1,68 @@
+-- A rebuild over a chain of nodes: what it asks of the chain, and what it makes of the tree.
+use Rattle.std.proofs.Common.{◌≡◌, ◌≢◌, ℕ, ◌<◌, ◌≤◌, Option, Some, None, List, [], ◌∷◌, map, arith, refl, sym, ◌∙◌, ap, subst, ⊎_elim, is_some, true}
+use Rattle.std.proofs.lemmas.Bool.{cases_eq, eq-eqb, ne_eqb}
+use Rattle.arena_base.specs.Pointer.{index_number}
+use Rattle.chain_base.specs.Chain.{Entry, Chain, entry_at, first_pointer, IsSound}
+use Rattle.ord_tree.specs.declared.node.SimpleOrdArenaNode.{SimpleOrdArenaNode}
+use Rattle.ord_tree.specs.Slots.{times}
+use Rattle.ord_tree.specs.Node.{bare_entry, bare, links_in, slots_of, indexes}
+use Rattle.ord_tree.proofs.Planting.{is_some-mapped, times-indexes, within-occupied, IsOnce-distinct}
+use Rattle.ord_tree.proofs.Trees.{limit_of-le, indexes-bare, shape_in-held}
+use Rattle.ord_tree.specs.Shape.{Shape, walk}
+use Rattle.ord_tree.specs.Slots.{Holds, IsOnce}
+use Rattle.ord_tree.specs.Half.{IsRebuilt}
+use Rattle.ord_tree.specs.Layout.{shape_in, IsLaidOut}
+use Rattle.ord_tree.proofs.Halves.{IsRanked-from_rebuilt}
+
+-- an index above 0 has a number
+pub index-some : (n : ℕ) → 0 < n → is_some (index_number n) ≡ true
+index-some n some = rw (ne_eqb n 0 (λ e. omega arith)) refl
+
+-- an index in the list has an entry
+occupied-within : {T : Type 0} (es : List (Entry T)) (i : ℕ) → 0 < times i (indexes es) → is_some (entry_at es i) ≡ true
+occupied-within [] i some = absurd (omega (arith, some))
+occupied-within (e ∷ es) i some =
+    ⊎_elim (λ (same : e.index ≡ i). rw (eq-eqb e.index i same) refl)
+    (λ (other : e.index ≢ i). rw (ne_eqb e.index i other) (occupied-within es i (omega (arith, (rw (ne_eqb i e.index (λ d. other (sym d))) at some))))) (cases_eq e.index i)
+
+-- the first pointer is that of an entry
+pub first-occupied : {T : Type 0} (es : List (Entry T)) (i g : ℕ) → Some (i, g) ≡ first_pointer es → is_some (entry_at es i) ≡ true
+first-occupied [] i g first = absurd (cc)
+first-occupied (e ∷ es) i g first =
+    let both : ◌≡◌ {A = ℕ × ℕ} (i, g) (e.index, e.generation) = cc in
+    rw (eq-eqb e.index i (sym (ap (λ (p : ℕ × ℕ). p.0) both))) refl
+
+module _ {P T I G : Type 0} (c : Chain (SimpleOrdArenaNode P T I G)) where
+  pub entry-occupied : (i : ℕ) → is_some (slots_of c i) ≡ true → is_some (entry_at c.entries i) ≡ true
+  entry-occupied i some = sym (is_some-mapped (λ (e : ℕ × SimpleOrdArenaNode P T I G). links_in e.1) (entry_at c.entries i)) ∙ some
+
+  pub slots-within : (i : ℕ) → 0 < times i (indexes c.entries) → is_some (slots_of c i) ≡ true
+  slots-within i some = is_some-mapped (λ (e : ℕ × SimpleOrdArenaNode P T I G). links_in e.1) (entry_at c.entries i) ∙ occupied-within c.entries i some
+
+  -- so in the bare list
+  pub slots-within_bare : (i : ℕ) → 0 < times i (indexes (map bare_entry c.entries)) → is_some (slots_of c i) ≡ true
+  slots-within_bare i some = slots-within i (rw (indexes-bare c.entries) at some)
+
+  pub IsOnce-bare : (most : ℕ) (greatest : Option ℕ) → IsSound most greatest c → IsOnce (indexes (map bare_entry c.entries))
+  IsOnce-bare most greatest sound = rw (indexes-bare c.entries) (IsOnce-distinct c.entries sound.distinct)
+
+  pub number-within : (most : ℕ) (greatest : Option ℕ) → IsSound most greatest c → (i : ℕ) → is_some (slots_of c i) ≡ true → (0 < i) × (i ≤ most)
+  number-within most greatest sound i some =
+      let inside = sound.within i (omega (arith, times-indexes c.entries i, within-occupied c.entries i (entry-occupied i some))) in
+      (inside.0, omega (arith, inside.1, sound.within_limit, limit_of-le most c.maximum))
+
+-- what a rebuild owes of the chain: the nodes spell a rebuilt shape along it
+module _ {P T I G : Type 0} (c new : Chain (SimpleOrdArenaNode P T I G)) (kept : bare new ≡ bare c) where
+  pub laid_rebuilt : (root : Option ℕ) (s : Shape) → walk s ≡ indexes (map bare_entry c.entries) → IsRebuilt s → Holds (slots_of new) None root s → IsLaidOut new root s
+  laid_rebuilt root s listed rebuilt held = record {
+    held = held;
+    listed = listed ∙ ap (λ (b : Chain T). indexes b.entries) (sym kept) ∙ indexes-bare new.entries;
+    ranked = IsRanked-from_rebuilt s rebuilt;
+  }
+
+-- a shape along a chain is the tree's
+pub shape_in-laid : {P T I G : Type 0} (c : Chain (SimpleOrdArenaNode P T I G)) (root : Option ℕ) (s : Shape) → IsLaidOut c root s → IsLaidOut c root (shape_in c root) × (shape_in c root ≡ s)
+shape_in-laid c root s laid =
+    let same = shape_in-held c root s laid.held laid.listed in
+    let L : Shape → Type 0 = λ s. IsLaidOut c root s in
+    (subst L (sym same) laid, same)

@@ -1,0 +1,22 @@
+use Rattle.std.proofs.Common.{◌∙◌, ap, length, arith}
+use Rattle.ord_tree.proofs.rebuild.close.Goals as goal
+
+pub close_one-requires : goal.close_one-requires
+close_one-requires g c =
+    let r = c.requires in
+    (r.0, r.1, r.2, c.loop-middle.invariant.plan r.0 r.1 r.3, c.loop-middle.invariant.finished r.0 r.1 r.2 r.3 r.4)
+
+pub loop-middle-preserved : goal.loop-middle-preserved
+loop-middle-preserved g c = record {
+  plan = λ s top plan. c.in-Some.ensures.plan s top (c.loop-middle.invariant.plan s top plan);
+  finished = λ s top todo plan finished. c.in-Some.ensures.closed s top todo (c.loop-middle.invariant.plan s top plan) (c.loop-middle.invariant.finished s top todo plan finished);
+  few = omega (arith, c.in-Some.ensures.fewer, c.loop-middle.invariant.few);
+  kept = c.in-Some.ensures.kept ∙ c.loop-middle.invariant.kept;
+}
+
+pub returns-clause-closed : goal.returns-clause-closed
+returns-clause-closed g c = λ s top todo plan finished.
+    c.in_default.ensures.closed s top todo (c.loop-middle.invariant.plan s top plan) (c.loop-middle.invariant.finished s top todo plan finished)
+
+pub returns-clause-few : goal.returns-clause-few
+returns-clause-few g c = omega (arith, ap (λ stack. length stack.items) c.in_default.ensures.fewer, c.loop-middle.invariant.few)

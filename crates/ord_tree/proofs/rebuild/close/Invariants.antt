@@ -1,0 +1,21 @@
+use Rattle.std.proofs.Common.{◌≡◌, ◌≤◌, ℕ, None, List, option_map, length}
+use Rattle.ord_tree.specs.Shape.{Shape}
+use Rattle.ord_tree.specs.Rebuild.{IsPlan, IsFinished}
+use Rattle.ord_tree.proofs.rebuild.close.Given as goal
+
+-- what was finished is finished still, with all that hangs on it now
+abbrev pub invariant-loop-middle : goal.invariant-loop-middle
+invariant-loop-middle g l =
+    let at = g.N.Nodes.at in
+    let number = g.N.Nodes.number in
+    record {
+      plan : (s : Shape) (top : ℕ) → IsPlan (at l.fn.nodes) top s → IsPlan (at l.nodes) top s;
+      finished : (s : Shape) (top : ℕ) (todo : List ℕ) → IsPlan (at l.fn.nodes) top s → IsFinished (at l.fn.nodes) l.fn.stack.items s None todo
+          → IsFinished (at l.nodes) l.stack.items s (option_map number l.finished) todo;
+      few : length l.stack.items ≤ length l.fn.stack.items;
+      kept : g.N.Nodes.list l.nodes ≡ g.N.Nodes.list l.fn.nodes;
+    }
+
+-- each run that ends leaves the stack
+abbrev pub decreases-loop-middle : goal.decreases-loop-middle
+decreases-loop-middle g l = length l.stack.items

@@ -1,0 +1,49 @@
+use Rattle.std.proofs.Common.{◌∙◌, sym, rules, option_map}
+use Rattle.arena_base.specs.Invalidation.{allowed_value}
+use Rattle.ord_tree.proofs.Trees.{is_some-bare}
+use Rattle.ord_tree.proofs.Shrunk.{detachable, still_there, removal}
+use Rattle.ord_tree.proofs.tree.OrdTree.remove_entry.Goals as goal
+
+pub node_at-z-requires : goal.node_at-z-requires
+node_at-z-requires g c = let held = rw (← c.self.view_is) at c.requires in sym (is_some-bare c.self.inside.chain.entries _) ∙ held
+
+pub neighbour-before-requires : goal.neighbour-before-requires
+neighbour-before-requires g c = let held = rw (← c.self.view_is) at c.requires in rw c.node_at-z.ensures (sym (is_some-bare c.self.inside.chain.entries _) ∙ held)
+
+pub detach-requires : goal.detach-requires
+detach-requires g c =
+    let held = rw (← c.self.view_is) at c.requires in
+    rw c.node_at-z.ensures (
+      _,
+      detachable c.self.inside.chain (option_map g.P.Inx.PtrInx.number c.self.inside.root) _ c.self.invariant (sym (is_some-bare c.self.inside.chain.entries _) ∙ held)
+          g.P.Inx.PtrInx.most g.P.Gen.PtrGen.greatest c.len.ensures.sound g.met.P.Inx.PtrInx.fits _ (rw c.node_at-z.ensures at c.neighbour-before.ensures),
+    )
+
+pub remove_entry-requires : goal.remove_entry-requires
+remove_entry-requires g c =
+    let held = rw (← c.self.view_is) at c.requires in
+    still_there c.self.inside.chain (option_map g.P.Inx.PtrInx.number c.self.inside.root) _ c.self.invariant (sym (is_some-bare c.self.inside.chain.entries _) ∙ held)
+    g.P.Inx.PtrInx.most g.P.Gen.PtrGen.greatest c.len.ensures.sound g.met.P.Inx.PtrInx.fits _ (rw c.node_at-z.ensures at c.neighbour-before.ensures)
+    c.detach.new.nodes (option_map g.P.Inx.PtrInx.number c.detach.new.root) c.detach.ensures.kept (rw c.node_at-z.ensures at c.detach.ensures.built) (rw c.node_at-z.ensures at c.detach.ensures.backs)
+
+pub invariant_of-self : goal.invariant_of-self
+invariant_of-self g c =
+    let held = rw (← c.self.view_is) at c.requires in
+    (removal c.self.inside.chain (option_map g.P.Inx.PtrInx.number c.self.inside.root) _ c.self.invariant (sym (is_some-bare c.self.inside.chain.entries _) ∙ held)
+    g.P.Inx.PtrInx.most g.P.Gen.PtrGen.greatest c.len.ensures.sound g.met.P.Inx.PtrInx.fits _ (rw c.node_at-z.ensures at c.neighbour-before.ensures)
+    c.detach.new.nodes (option_map g.P.Inx.PtrInx.number c.detach.new.root) c.detach.ensures.kept (rw c.node_at-z.ensures at c.detach.ensures.built) (rw c.node_at-z.ensures at c.detach.ensures.backs)
+    c.remove_entry.new.self g.P.Gen.PtrGen.number (allowed_value c.remove_entry.result) (allowed_value c.item_taken.result) c.remove_entry.ensures.value c.remove_entry.ensures.removed c.item_taken.ensures.value).laid
+
+pub returns : goal.returns
+returns g c =
+    let held = rw (← c.self.view_is) at c.requires in
+    let r = removal c.self.inside.chain (option_map g.P.Inx.PtrInx.number c.self.inside.root) _ c.self.invariant (sym (is_some-bare c.self.inside.chain.entries _) ∙ held)
+    g.P.Inx.PtrInx.most g.P.Gen.PtrGen.greatest c.len.ensures.sound g.met.P.Inx.PtrInx.fits _ (rw c.node_at-z.ensures at c.neighbour-before.ensures)
+    c.detach.new.nodes (option_map g.P.Inx.PtrInx.number c.detach.new.root) c.detach.ensures.kept (rw c.node_at-z.ensures at c.detach.ensures.built) (rw c.node_at-z.ensures at c.detach.ensures.backs)
+    c.remove_entry.new.self g.P.Gen.PtrGen.number (allowed_value c.remove_entry.result) (allowed_value c.item_taken.result) c.remove_entry.ensures.value c.remove_entry.ensures.removed c.item_taken.ensures.value in
+    record {
+      value = rw (← c.self.view_is) r.value;
+      overflow = search rules;
+      removed = rw (← c.self.view_is) r.listed;
+      shape = rw (← c.self.view_is) r.shrunk;
+    }

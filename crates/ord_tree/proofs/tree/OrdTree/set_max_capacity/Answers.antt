@@ -1,0 +1,18 @@
+use Rattle.std.proofs.Common.{ap, option_map}
+use Rattle.chain_base.specs.Chain.{Chain}
+use Rattle.ord_tree.specs.Layout.{tree_of}
+use Rattle.ord_tree.proofs.Trees.{either_result, on_ok, on_err, IsLaidOut-entries}
+use Rattle.ord_tree.proofs.tree.OrdTree.set_max_capacity.Goals as goal
+
+pub invariant_of-self : goal.invariant_of-self
+invariant_of-self g c =
+    let r = c.set_max_capacity in
+    IsLaidOut-entries c.self.inside.chain r.new.self _
+    (either_result r.result _ (on_ok r.result _ _ r.ensures.ok (λ e. ap (λ (c : Chain _). c.entries) e)) (on_err r.result _ _ r.ensures.err (λ e. ap (λ (c : Chain _). c.entries) e)))
+    c.self.invariant
+
+pub returns-clause-ok : goal.returns-clause-ok
+returns-clause-ok g c =
+    let root = c.self.inside.root in
+    let r = c.set_max_capacity in
+    rw (← c.self.view_is) (on_ok r.result _ _ r.ensures.ok (λ e. ap (λ (c : Chain _). tree_of c (option_map g.P.Inx.PtrInx.number root)) e))

@@ -1,0 +1,13 @@
+use Rattle.ord_tree.proofs.Rebuilt.{laid_rebuilt, IsOnce-bare, slots-within_bare}
+use Rattle.ord_tree.proofs.tree.rebuild.rebuild_over.Goals as goal
+
+pub rebuild-requires-clause-once : goal.rebuild-requires-clause-once
+rebuild-requires-clause-once g c = IsOnce-bare c.args.chain.now _ _ c.len-len.ensures.sound
+
+pub rebuild-requires-clause-there : goal.rebuild-requires-clause-there
+rebuild-requires-clause-there g c = slots-within_bare c.args.chain.now
+
+pub returns-clause-rebuilt : goal.returns-clause-rebuilt
+returns-clause-rebuilt g c =
+    let r = c.rebuild.ensures.rebuilt in
+    (r.0, r.2, laid_rebuilt c.args.chain.now c.rebuild.new.nodes c.rebuild.ensures.kept _ r.0 r.1 r.2 r.3)

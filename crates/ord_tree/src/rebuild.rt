@@ -1,0 +1,213 @@
+//! Building the tree anew, in one pass along the list, with a stack of the runs that are open.
+
+ghost use Rattle.std.specs.Prelude.{◌≡◌, ℕ, ◌<◌, ◌≤◌, None, Some, List, [], ◌∷◌, ◌++◌, option_map, length, IsSome, MatchOption};
+ghost use Rattle.arrayvec.specs.ArrayVec.{array_vec_len};
+ghost use Rattle.ord_tree.specs.Shape.{Shape, walk};
+ghost use Rattle.ord_tree.specs.Slots.{Slots, Holds, times, IsOnce};
+ghost use Rattle.ord_tree.specs.Node.{indexes};
+ghost use Rattle.ord_tree.specs.Numbers.{IsTop};
+ghost use Rattle.ord_tree.specs.Half.{half_rank, IsHalf, IsRebuilt};
+ghost use Rattle.ord_tree.specs.Rebuild.{IsFew, IsPlan, IsUnopened, IsOpening, IsFinished, IsReady};
+
+use crate::links::{Links, Side};
+use crate::nodes::{Nodes, hang};
+use arrayvec::ArrayVec;
+
+/// A run of the list over which a tree is being built: some entries in a row, of which the one in the middle becomes the root.
+#[derive(Clone, Copy, Debug, Default)]
+pub struct Frame {
+    /// The place of its first entry, counted from 0.
+    pub start: usize,
+    /// How many entries it has.
+    pub len: usize,
+    /// The number of the entry in its middle, once that was met.
+    pub middle: Option<usize>,
+}
+
+/// The frames of the runs around a place in the list, the innermost last. Each is at most half as long as the one around it, so
+/// that no more frames ever stand than the length of the list has binary digits.
+pub type Stack = ArrayVec<Frame, 64>;
+
+/// Puts a frame on the stack, which isn't full.
+fn put(stack: &mut Stack, frame: Frame)
+    requires not_full { array_vec_len stack.old < 64 }
+    ensures { stack.new.items ≡ stack.old.items ++ frame ∷ [] }
+{
+    stack.push(frame);
+}
+
+/// The rank over a run of so many entries, where that over a run of five or more is `level`.
+pub fn rank_over(len: usize, level: u8) -> u8
+    ensures { result ≡ half_rank len level }
+{
+    match len {
+        0 => 0,
+        1 => 1,
+        2 => 2,
+        3 | 4 => 3,
+        _ => level,
+    }
+}
+
+/// The rank at the top of a rebuilt tree of so many entries.
+pub fn top_rank(len: usize) -> u8
+    ensures { IsTop len result }
+{
+    let digits = 64 - len.saturating_sub(2).leading_zeros();
+    digits as u8 + 1
+}
+
+/// Opens a run: puts it on the stack, then its lesser half, and so on down to a run of one entry, which is met next.
+pub fn open(stack: &mut Stack, start: usize, len: usize)
+    requires { (at : Slots) × (s : Shape) × (top : ℕ) × (todo : List ℕ) × IsPlan at top s
+        × IsOpening at stack.old.items s start len todo }
+    ensures opened { (at : Slots) (s : Shape) (top : ℕ) (todo : List ℕ) → IsPlan at top s
+        → IsOpening at stack.old.items s start len todo → IsReady at stack.new.items s None todo }
+    ensures few { (at : Slots) (s : Shape) (top : ℕ) (todo : List ℕ) → IsPlan at top s
+        → IsOpening at stack.old.items s start len todo → IsFew stack.new.items s }
+{
+    let mut rest = len;
+    while rest > 0 {
+        let frame = Frame {
+            start,
+            len: rest,
+            middle: None,
+        };
+        put(stack, frame);
+        rest /= 2;
+    }
+}
+
+/// Meets the entry in the middle of the innermost run, whose lesser side is finished and hangs on `lesser`. Answers where its
+/// greater side starts, and how many entries that has.
+pub fn meet<N: Nodes>(
+    nodes: &mut N,
+    stack: &mut Stack,
+    top: u8,
+    x: N::Inx,
+    lesser: Option<N::Inx>,
+) -> (usize, usize)
+    requires { (s : Shape) × (todo : List ℕ) × IsPlan (N.at nodes.old) top s
+        × IsReady (N.at nodes.old) stack.old.items s (option_map N.number lesser) (N.number x ∷ todo) }
+    ensures plan { (s : Shape) → IsPlan (N.at nodes.old) top s → IsPlan (N.at nodes.new) top s }
+    ensures met { (s : Shape) (todo : List ℕ) → IsPlan (N.at nodes.old) top s
+        → IsReady (N.at nodes.old) stack.old.items s (option_map N.number lesser) (N.number x ∷ todo)
+        → IsUnopened (N.at nodes.new) stack.new.items s (result.0) (result.1) todo }
+    ensures few { array_vec_len stack.new ≡ array_vec_len stack.old }
+    ensures kept { N.list nodes.new ≡ N.list nodes.old }
+{
+    let frame = stack.pop().unwrap();
+    let rank = rank_over(frame.len, top.saturating_sub(stack.len() as u8));
+    nodes.set_links(
+        x,
+        Links {
+            back: None,
+            lesser,
+            greater: None,
+            rank,
+        },
+    );
+    hang(nodes, lesser, Some(x));
+    let met = Frame {
+        middle: Some(nodes.number_of(x)),
+        ..frame
+    };
+    put(stack, met);
+    let half = frame.len / 2;
+    (frame.start + half + 1, frame.len - half - 1)
+}
+
+/// Where the middle of the innermost run was met, its greater side is finished and hangs on `greater`: this ends the run, and
+/// answers its middle.
+pub fn close_one<N: Nodes>(
+    nodes: &mut N,
+    stack: &mut Stack,
+    greater: Option<N::Inx>,
+) -> Option<N::Inx>
+    requires { (s : Shape) × (top : ℕ) × (todo : List ℕ) × IsPlan (N.at nodes.old) top s
+        × IsFinished (N.at nodes.old) stack.old.items s (option_map N.number greater) todo }
+    ensures plan { (s : Shape) (top : ℕ) → IsPlan (N.at nodes.old) top s → IsPlan (N.at nodes.new) top s }
+    ensures closed { (s : Shape) (top : ℕ) (todo : List ℕ) → IsPlan (N.at nodes.old) top s
+        → IsFinished (N.at nodes.old) stack.old.items s (option_map N.number greater) todo
+        → MatchOption result
+        (IsReady (N.at nodes.new) stack.new.items s (option_map N.number greater) todo)
+        (λ m. IsFinished (N.at nodes.new) stack.new.items s (Some (N.number m)) todo) }
+    ensures fewer { MatchOption result (stack.new ≡ stack.old) (λ m. array_vec_len stack.new < array_vec_len stack.old) }
+    ensures kept { N.list nodes.new ≡ N.list nodes.old }
+{
+    let found = stack.last()?.middle?;
+    stack.pop();
+    let middle = nodes.inx_of(found);
+    nodes.set_child(middle, Side::Greater, greater);
+    hang(nodes, greater, Some(middle));
+    Some(middle)
+}
+
+/// Ends each run that is finished, from the innermost on. Answers what hangs on the lesser side of the next entry, or the root.
+pub fn close<N: Nodes>(nodes: &mut N, stack: &mut Stack) -> Option<N::Inx>
+    requires { (s : Shape) × (top : ℕ) × (todo : List ℕ) × IsPlan (N.at nodes.old) top s
+        × IsFinished (N.at nodes.old) stack.old.items s None todo }
+    ensures plan { (s : Shape) (top : ℕ) → IsPlan (N.at nodes.old) top s → IsPlan (N.at nodes.new) top s }
+    ensures closed { (s : Shape) (top : ℕ) (todo : List ℕ) → IsPlan (N.at nodes.old) top s
+        → IsFinished (N.at nodes.old) stack.old.items s None todo
+        → IsReady (N.at nodes.new) stack.new.items s (option_map N.number result) todo }
+    ensures few { array_vec_len stack.new ≤ array_vec_len stack.old }
+    ensures kept { N.list nodes.new ≡ N.list nodes.old }
+{
+    let mut finished = None;
+    while let Some(middle) = close_one(nodes, stack, finished) {
+        finished = Some(middle);
+    }
+    finished
+}
+
+/// One step of a rebuild, at the next entry. Answers what hangs on the lesser side of the entry after it, or the root.
+pub fn pass<N: Nodes>(
+    nodes: &mut N,
+    stack: &mut Stack,
+    top: u8,
+    x: N::Inx,
+    lesser: Option<N::Inx>,
+) -> Option<N::Inx>
+    requires { (s : Shape) × (todo : List ℕ) × IsPlan (N.at nodes.old) top s
+        × IsReady (N.at nodes.old) stack.old.items s (option_map N.number lesser) (N.number x ∷ todo) }
+    ensures plan { (s : Shape) → IsPlan (N.at nodes.old) top s → IsPlan (N.at nodes.new) top s }
+    ensures passed { (s : Shape) (todo : List ℕ) → IsPlan (N.at nodes.old) top s
+        → IsReady (N.at nodes.old) stack.old.items s (option_map N.number lesser) (N.number x ∷ todo)
+        → IsReady (N.at nodes.new) stack.new.items s (option_map N.number result) todo }
+    ensures few { (s : Shape) (todo : List ℕ) → IsPlan (N.at nodes.old) top s
+        → IsReady (N.at nodes.old) stack.old.items s (option_map N.number lesser) (N.number x ∷ todo)
+        → IsFew stack.new.items s }
+    ensures kept { N.list nodes.new ≡ N.list nodes.old }
+{
+    let (start, len) = meet(nodes, stack, top, x, lesser);
+    if len > 0 {
+        open(stack, start, len);
+        return None;
+    }
+    close(nodes, stack)
+}
+
+/// Builds the tree anew over the list, whatever the links say. Answers the root.
+///
+/// Each entry is met once, in order. It takes no memory.
+pub fn rebuild<N: Nodes>(nodes: &mut N, len: usize) -> Option<N::Inx>
+    requires len { len ≡ length (indexes (N.list nodes.old).entries) }
+    requires once { IsOnce (indexes (N.list nodes.old).entries) }
+    requires there { (j : ℕ) → 0 < times j (indexes (N.list nodes.old).entries) → IsSome (N.at nodes.old j) }
+    ensures rebuilt { (s : Shape) × (walk s ≡ indexes (N.list nodes.old).entries) × IsRebuilt s
+        × Holds (N.at nodes.new) None (option_map N.number result) s }
+    ensures kept { N.list nodes.new ≡ N.list nodes.old }
+{
+    let top = top_rank(len);
+    let mut stack = ArrayVec::new();
+    open(&mut stack, 0, len);
+    let mut finished = None;
+    let mut target = nodes.first();
+    for _ in 0..len {
+        let x = target.unwrap();
+        target = nodes.next(x);
+        finished = pass(nodes, &mut stack, top, x, finished);
+    }
+    finished
+}

@@ -1,0 +1,169 @@
+//! Rebuilt trees, compared place by place with a recursive function of the length.
+use crate::OrdTree;
+use arena_base::{P0, Ptr};
+use std::alloc::{AllocError, Global};
+use std::cmp::Ordering;
+use std::process::Abort;
+use std::test::Fail;
+
+type Row = OrdTree<P0, ()>;
+
+/// What a tree says of one entry, with places in the list, counted from 0, for indexes.
+#[derive(Clone, Copy, Debug, PartialEq, Eq)]
+struct Place {
+    parent: Option<usize>,
+    lesser: Option<usize>,
+    greater: Option<usize>,
+    rank: u8,
+}
+
+/// The place in the middle of a run.
+fn middle_of(start: usize, len: usize) -> Option<usize> {
+    if len == 0 {
+        return None;
+    }
+    Some(start.saturating_add(len / 2))
+}
+
+/// The rank over a run, `level` where it is of five entries or more.
+fn rank_over(len: usize, level: u8) -> u8 {
+    match len {
+        1 => 1,
+        2 => 2,
+        3 | 4 => 3,
+        _ => level,
+    }
+}
+
+/// Adds the places of a run in order. Its root hangs on the parent.
+fn add_run(
+    places: &mut Vec<Place>,
+    start: usize,
+    len: usize,
+    parent: Option<usize>,
+    level: u8,
+) -> Result<(), AllocError> {
+    if len == 0 {
+        return Ok(());
+    }
+    let half = len / 2;
+    let rest = len - half - 1;
+    let middle = start.saturating_add(half);
+    let after = middle.saturating_add(1);
+    let below = level.saturating_sub(1);
+    add_run(places, start, half, Some(middle), below)?;
+    places.push(Place {
+        parent,
+        lesser: middle_of(start, half),
+        greater: middle_of(after, rest),
+        rank: rank_over(len, level),
+    })?;
+    add_run(places, after, rest, Some(middle), below)
+}
+
+/// The places of the rebuilt tree of `len` entries.
+fn rebuilt(alloc: Global, len: usize) -> Result<Vec<Place>, AllocError> {
+    let (mut power, mut top) = (1usize, 1u8);
+    for _ in 0..64 {
+        if power < len.saturating_sub(1) {
+            power = power.saturating_mul(2);
+            top = top.saturating_add(1);
+        }
+    }
+    let mut places = Vec::new(alloc);
+    add_run(&mut places, 0, len, None, top)?;
+    Ok(places)
+}
+
+/// A tree of `len` entries, each inserted behind the last, so that the entry at place i has the index i + 1.
+fn row(rt: &impl Abort, alloc: Global, len: usize) -> Result<Row, Fail> {
+    let mut tree = Row::new(alloc);
+    let mut last = None;
+    for _ in 0..len {
+        let p = match last {
+            None => {
+                assert!(rt; tree.is_empty());
+                tree.insert_reallocating(None, ())?
+            }
+            Some(index) => {
+                assert!(rt; tree.contains_inx(index));
+                tree.insert_reallocating(Some((index, Ordering::Greater)), ())?
+            }
+        };
+        last = Some(p.inx());
+    }
+    Ok(tree)
+}
+
+/// The place of an index.
+fn place_of(index: Option<u32>) -> Option<usize> {
+    usize::try_from(index?.saturating_sub(1)).ok()
+}
+
+/// Each place of a tree in order.
+fn places(alloc: Global, tree: &Row) -> Result<Vec<Place>, Fail> {
+    let chain = tree.chain();
+    let mut places = Vec::new(alloc);
+    let mut next = chain.first().map(|p| p.inx());
+    for _ in 0..chain.len() {
+        let index = next.ok_or("an entry for each")?;
+        let (_, link) = chain.get_inx_link_no_gen(index).ok_or("its node")?;
+        places.push(Place {
+            parent: place_of(link.t.p_back.get()),
+            lesser: place_of(link.t.p_tree0.get()),
+            greater: place_of(link.t.p_tree1.get()),
+            rank: link.t.rank,
+        })?;
+        next = link.next();
+    }
+    Ok(places)
+}
+
+/// Rebuilds a tree of `len` entries, and compares it with what the recursive function says. Answers the ranks in order.
+fn rebuild(rt: &impl Abort, alloc: Global, len: usize) -> Result<Vec<u8>, Fail> {
+    let mut tree = row(rt, alloc, len)?;
+    tree.rebuild();
+    let found = places(alloc, &tree)?;
+    assert_eq!(rt; found.as_slice(), rebuilt(alloc, len)?.as_slice());
+    assert_eq!(rt; place_of(tree.root()), middle_of(0, len));
+    let mut ranks = Vec::new(alloc);
+    for place in &found {
+        ranks.push(place.rank)?;
+    }
+    Ok(ranks)
+}
+
+#[test]
+fn rebuilds_in_halves(rt: HostRuntime) -> Result<(), Fail> {
+    let alloc = rt.alloc();
+    for len in 0..301usize {
+        let _ = rebuild(&rt, alloc, len)?;
+    }
+    let mut power = 512usize;
+    for _ in 0..4 {
+        for len in [power.saturating_sub(1), power, power.saturating_add(1)] {
+            let _ = rebuild(&rt, alloc, len)?;
+        }
+        power = power.saturating_mul(2);
+    }
+    Ok(())
+}
+
+#[test]
+fn ranks_after_a_rebuild(rt: HostRuntime) -> Result<(), Fail> {
+    let wanted = [
+        [1u8, 3, 1].as_slice(),
+        [1u8, 2, 3, 1, 2].as_slice(),
+        [1u8, 3, 1, 4, 1, 2].as_slice(),
+        [1u8, 3, 1, 4, 1, 3, 1].as_slice(),
+        [1u8, 2, 4, 1, 2, 5, 1, 2, 3, 1].as_slice(),
+        [1u8, 3, 1, 4, 1, 2, 5, 1, 2, 4, 1, 2].as_slice(),
+        [1u8, 2, 3, 1, 4, 1, 3, 1, 5, 1, 2, 3, 1, 4, 1, 3, 1].as_slice(),
+        [1u8, 2, 3, 1, 5, 1, 2, 3, 1, 6, 1, 2, 3, 1, 5, 1, 3, 1].as_slice(),
+    ];
+    for ranks in wanted {
+        let found = rebuild(&rt, rt.alloc(), ranks.len())?;
+        assert_eq!(rt; found.as_slice(), ranks);
+    }
+    Ok(())
+}

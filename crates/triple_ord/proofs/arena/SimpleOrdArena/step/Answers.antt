@@ -1,0 +1,18 @@
+use Rattle.std.proofs.Common.{◌≡◌}
+use Rattle.triple_ord.proofs.Reversed.{gives-rising, gives-falling, rest-missing}
+use Rattle.triple_ord.proofs.arena.SimpleOrdArena.step.Goals as goal
+
+pub returns-then-falling : goal.returns-then-falling
+returns-then-falling g c =
+    rw (c.if-falling.true, c._from_raw-p.ensures.index, c._from_raw-p.ensures.era, c.prev.ensures.value)
+    (gives-falling c.args.self.now (g.P.Inx.PtrInx.number c.args.i) c.len.ensures.sound.distinct _ _ c.in_ok-entry.ensures)
+
+pub returns-else-falling : goal.returns-else-falling
+returns-else-falling g c =
+    rw (c.if-falling.false, c._from_raw-p.ensures.index, c._from_raw-p.ensures.era, c.next.ensures.value)
+    (gives-rising c.args.self.now (g.P.Inx.PtrInx.number c.args.i) c.len.ensures.sound.distinct _ _ c.in_ok-entry.ensures)
+
+pub returns-in_err-entry : goal.returns-in_err-entry
+returns-in_err-entry g c =
+    rw c.from_residual.ensures
+    (rest-missing c.args.self.now (g.P.Inx.PtrInx.number c.args.i) c.len.ensures.sound.distinct c.args.falling c.in_err-entry.ensures)

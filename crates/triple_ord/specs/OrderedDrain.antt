@@ -1,0 +1,37 @@
+-- What a contract sees of a drain of an ordered arena in the order of its list.
+use Rattle.std.specs.Prelude.{◌≡◌, ℕ, Option, Some, None, List, [], ◌∷◌, MatchOption}
+use Rattle.std.specs.Borrow.{GName}
+use Rattle.arena_base.specs.Generation.{overflows_after}
+use Rattle.arena_base.specs.Invalidation.{allowed_value, is_overflow}
+use Rattle.arena_base.specs.declared.invalidation.InvalidationOption.{InvalidationOption}
+use Rattle.chain_base.specs.Chain.{Entry, removed}
+use Rattle.ord_tree.specs.Tree.{Tree, IsShrunk}
+use Rattle.triple_ord.specs.Arena.{item_of, Updates}
+use Rattle.triple_ord.specs.declared.arena.drain.OrderedDrain.{OrderedDrain}
+
+module _ {P T A Inx Gen : Type 0} where
+  -- the arena, as it is now
+  abbrev pub ordered_drain_arena : OrderedDrain P T A Inx Gen → Tree T
+  ordered_drain_arena d = d.arena.now
+
+  -- the ghost name of the reference to the arena
+  abbrev pub ordered_drain_lender : OrderedDrain P T A Inx Gen → GName
+  ordered_drain_lender d = d.arena.ghost_name
+
+  -- the entries that are still to come
+  abbrev pub ordered_drain_rest : OrderedDrain P T A Inx Gen → List (Entry T)
+  ordered_drain_rest d = d.arena.now.list.entries
+
+  -- x is the first entry of s, which has been removed, and t has the others
+  pub record IsDrainedInOrder (greatest : Option ℕ) (index era : P → ℕ) (s : OrderedDrain P T A Inx Gen) (x : InvalidationOption (P × T)) (t : OrderedDrain P T A Inx Gen) : Type 0 where
+    pub first : ordered_drain_rest s ≡ record { index = index (allowed_value x).0; generation = era (allowed_value x).0; item = (allowed_value x).1 } ∷ ordered_drain_rest t
+    pub removed_list : (ordered_drain_arena t).list ≡ removed greatest (ordered_drain_arena s).list (index (allowed_value x).0)
+    pub shape : IsShrunk (ordered_drain_arena s).shape (ordered_drain_arena t).shape
+    pub overflow : is_overflow x ≡ overflows_after greatest (ordered_drain_arena s).list.generation
+    pub found : item_of (ordered_drain_arena s) (index (allowed_value x).0, era (allowed_value x).0) ≡ Some (allowed_value x).1
+    pub updates : Updates (ordered_drain_arena s) (ordered_drain_arena t) (index (allowed_value x).0, era (allowed_value x).0) None
+
+  -- `next` took s to t, and returned r: the entries go in order, each by a removal of its own
+  abbrev pub OrderedDrainSteps : Option ℕ → (P → ℕ) → (P → ℕ) → OrderedDrain P T A Inx Gen → Option (InvalidationOption (P × T)) → OrderedDrain P T A Inx Gen → Type 0
+  OrderedDrainSteps greatest index era s r t =
+      (ordered_drain_lender t ≡ ordered_drain_lender s) × MatchOption r ((ordered_drain_rest s ≡ []) × (t ≡ s)) (λ x. IsDrainedInOrder greatest index era s x t)

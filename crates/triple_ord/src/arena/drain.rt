@@ -1,0 +1,128 @@
+//! Taking all entries out of an arena in the order of its list.
+ghost use Rattle.std.specs.Prelude.{◌≡◌, Some, IfSome, length};
+ghost use Rattle.std.specs.Iterator.{item_count, UpTo, YieldsFirstBy};
+ghost use Rattle.std.specs.Iterator.SizeHint.{IsWithinCount};
+ghost use Rattle.chain_base.specs.Chain.{cleared};
+ghost use Rattle.ord_tree.specs.Shape.{missing};
+ghost use Rattle.triple_ord.specs.OrderedDrain.{ordered_drain_arena, ordered_drain_lender, ordered_drain_rest, OrderedDrainSteps};
+
+use super::SimpleOrdArena;
+use arena_base::{InvalidationOption, Ptr};
+use std::alloc::{Allocator, Global};
+use std::marker::Model;
+
+/// Takes the entries out of an arena in order, each by a removal of its own. When it is dropped it clears the arena.
+pub struct OrderedDrain<'a, P: Ptr, T: Drop, A: Allocator = Global> {
+    arena: &'a mut SimpleOrdArena<P, T, A>,
+}
+
+impl<P: Ptr, T: Drop, A: Allocator> SimpleOrdArena<P, T, A> {
+    /// Takes all entries out, in the order of the list.
+    ///
+    /// Each is removed, and raises the generation, as it is given, in O(log n) time. When the drain is dropped, the arena is cleared of
+    /// the rest, which raises the generation once more. After a drain that is forgotten the rest is still there.
+    pub fn drain_ordered(&mut self) -> OrderedDrain<'_, P, T, A>
+        ensures arena { ordered_drain_arena result ≡ self.old }
+        ensures same_reference { ordered_drain_lender result ≡ self.entry.ghost_name }
+    {
+        OrderedDrain { arena: self }
+    }
+}
+
+impl<'a, P: Ptr, T: Drop, A: Allocator> OrderedDrain<'a, P, T, A> {
+    /// Ends the drain, and leaves the arena as it is: the entries that haven't been given stay.
+    ///
+    /// `mem::forget` does the same, but says nothing to a caller of what is left.
+    pub fn keep_rest(self)
+        ensures { self.exit.0.now ≡ ordered_drain_arena self.entry }
+    {
+        let OrderedDrain { arena: _ } = self;
+    }
+}
+
+impl<'a, P: Ptr, T: Drop, A: Allocator> Drop for OrderedDrain<'a, P, T, A> {
+    fn drop(self)
+        ensures { self.exit.0.now ≡ record { list = cleared P.Gen.greatest (ordered_drain_arena self.entry).list; shape = missing } }
+    {
+        let OrderedDrain { arena } = self;
+        let _ = arena.clear();
+    }
+}
+
+impl<'a, P: Ptr, T: Drop, A: Allocator> Iterator for OrderedDrain<'a, P, T, A> {
+    type Item = InvalidationOption<(P, T)>;
+
+    ghost next_gives = { OrderedDrainSteps P.Gen.greatest P.index P.era };
+
+    ghost remaining = { item_count ordered_drain_rest };
+
+    fn next(&mut self) -> Option<InvalidationOption<(P, T)>> {
+        let p = self.arena.first()?;
+        match self.arena.remove(p).unwrap() {
+            InvalidationOption::Success(item) => Some(InvalidationOption::Success((p, item))),
+            InvalidationOption::GenerationOverflow(item) => {
+                Some(InvalidationOption::GenerationOverflow((p, item)))
+            }
+        }
+    }
+}
+
+/// Gives the pointers and the items of an arena that it owns, in the order of the list. What it hasn't given is dropped with it.
+#[derive(Drop)]
+pub struct CapacityDrain<P: Ptr, T, A: Allocator = Global> {
+    arena: SimpleOrdArena<P, T, A>,
+}
+
+impl<P: Ptr, T, A: Allocator> Model for CapacityDrain<P, T, A> {
+    ghost use Rattle.std.specs.Prelude.{List};
+    ghost use Rattle.std.specs.Coded.{coded_list};
+    ghost use Rattle.chain_base.specs.Chain.{Entry};
+    ghost use Rattle.ord_tree.specs.Tree.{entry_code};
+
+    ghost Value = { List (Entry T) };
+
+    ghost coded = { coded_list (entry_code T.code) };
+
+    ghost view = { λ d. d.arena.list.entries };
+}
+
+impl<P: Ptr, T: Drop, A: Allocator> Iterator for CapacityDrain<P, T, A> {
+    type Item = (P, T);
+
+    ghost next_gives = { YieldsFirstBy (λ x. record { index = P.index x.0; generation = P.era x.0; item = x.1 }) (λ left. left) };
+
+    ghost remaining = { item_count (λ left. left) };
+
+    fn next(&mut self) -> Option<(P, T)> {
+        let first = self.arena.first()?;
+        let item = self.arena.remove(first).allow()?;
+        Some((first, item))
+    }
+
+    fn size_hint(&self) -> (usize, Option<usize>)
+        ensures exact { result ≡ (length self.now, Some (length self.now)) }
+        ensures lower { IsWithinCount result.0 (item_count (λ left. left) self.now) }
+        ensures upper { IfSome result.1 (UpTo (item_count (λ left. left) self.now)) }
+    {
+        let left = self.arena.len();
+        (left, Some(left))
+    }
+}
+
+impl<P: Ptr, T: Drop, A: Allocator> ExactSizeIterator for CapacityDrain<P, T, A> {
+    fn len(&self) -> usize {
+        self.arena.len()
+    }
+}
+
+impl<P: Ptr, T: Drop, A: Allocator> IntoIterator for SimpleOrdArena<P, T, A> {
+    type Item = (P, T);
+
+    type IntoIter = CapacityDrain<P, T, A>;
+
+    ghost into_iter_gives = { λ a d. d ≡ a.list.entries };
+
+    fn into_iter(self) -> CapacityDrain<P, T, A> {
+        CapacityDrain { arena: self }
+    }
+}

@@ -1,0 +1,90 @@
+//! Going along the list of an arena without borrowing it.
+ghost use Rattle.std.specs.Prelude.{◌≡◌, [], Some, None, MatchOption, IfSome, is_some};
+ghost use Rattle.std.specs.Option.{option_map};
+ghost use Rattle.triple_ord.specs.Arena.{item_of};
+ghost use Rattle.triple_ord.specs.OrderedWalk.{ordered_rest, GivesEntry, OrderedWalkSteps};
+
+use super::SimpleOrdArena;
+use arena_base::{Advancer, Ptr};
+use std::alloc::Allocator;
+use std::marker::Model;
+
+/// Goes along the list of an arena, from one entry to an end of the list.
+///
+/// It borrows nothing, and keeps the index of the entry that it gives next: a step gives the entry that has this index then, and
+/// goes on to the neighbour that this entry has at that moment; each step is O(1). `None` is for good: it comes where no entry has
+/// the index, and after the entry that stood at the end when it was given, also where others come behind it later.
+#[derive(Drop)]
+pub struct OrderedPtrAdvancer<P: Ptr> {
+    at: Option<P::Inx>,
+    falling: bool,
+}
+
+impl<P: Ptr> Model for OrderedPtrAdvancer<P> {
+    ghost use Rattle.std.specs.Option.{option_map};
+    ghost use Rattle.triple_ord.specs.OrderedWalk.{OrderedWalk};
+
+    ghost Value = { OrderedWalk };
+
+    ghost view = { λ s. record { at = option_map P.Inx.number s.at; falling = s.falling } };
+}
+
+impl<P: Ptr, T, A: Allocator> Advancer<SimpleOrdArena<P, T, A>> for OrderedPtrAdvancer<P> {
+    type Item = P;
+
+    ghost advance_gives = { OrderedWalkSteps P.index P.era };
+
+    ghost has_ended = { λ s. s.at ≡ None };
+
+    fn advance(&mut self, arena: &SimpleOrdArena<P, T, A>) -> Option<P> {
+        let at = self.at;
+        self.at = None;
+        let (p, next) = arena.step(at?, self.falling)?;
+        self.at = next;
+        Some(p)
+    }
+
+    fn empty() -> OrderedPtrAdvancer<P> {
+        OrderedPtrAdvancer {
+            at: None,
+            falling: false,
+        }
+    }
+}
+
+impl<P: Ptr, T, A: Allocator> SimpleOrdArena<P, T, A> {
+    /// Goes through the pointers from an entry on, which is the first to be given: to the end of the list, or back to its first
+    /// entry where `rev` is true. `None` where the pointer names no entry. O(1), as each step is.
+    pub fn advancer_ordered(&self, p: P, rev: bool) -> Option<OrderedPtrAdvancer<P>>
+        ensures valid { is_some result ≡ is_some (item_of self.now (P.index p, P.era p)) }
+        ensures begins { IfSome result (λ s. s ≡ record { at = Some (P.index p); falling = rev }) }
+    {
+        if self.contains(p) {
+            Some(OrderedPtrAdvancer {
+                at: Some(p.inx()),
+                falling: rev,
+            })
+        } else {
+            None
+        }
+    }
+
+    // The pointer of the entry at an index, and the index to which a walk goes on from there.
+    fn step(&self, i: P::Inx, falling: bool) -> Option<(P, Option<P::Inx>)>
+        ensures { MatchOption result
+            (ordered_rest (record { at = Some (P.Inx.number i); falling = falling }) self.now ≡ [])
+            (λ e. GivesEntry (record { at = Some (P.Inx.number i); falling = falling })
+            (record { at = option_map P.Inx.number e.1; falling = falling }) self.now (P.index e.0) (P.era e.0)) }
+    {
+        // with its length an arena tells what holds of every list
+        let _ = self.len();
+        let entry = self.get_inx_link_no_gen(i)?;
+        let link = entry.1;
+        let p = P::_from_raw(i, entry.0);
+        if falling {
+            Some((p, link.prev()))
+        } else {
+            Some((p, link.next()))
+        }
+    }
+}
