@@ -15,3 +15,4 @@ pub mod Places
 pub mod Calls
 pub mod Going
 pub mod CallerLemmas
+pub mod Transferring

@@ -8,3 +8,4 @@ pub mod Insert
 pub mod Layout
 pub mod Lends
 pub mod LinkLends
+pub mod Transfer

@@ -11,6 +11,7 @@ mod growth;
 pub mod insert;
 mod links;
 mod remove;
+mod transfer;
 pub mod walk;
 mod write;
 

@@ -1,7 +1,10 @@
-//! Building the tree anew over the list.
+//! Moving all entries, and building the tree anew over the list.
 
-ghost use Rattle.std.specs.Prelude.{◌≡◌};
+ghost use Rattle.std.specs.Prelude.{◌≡◌, map};
 ghost use Rattle.std.specs.Option.{option_map};
+ghost use Rattle.arena_base.specs.Compression.{compressed_generation, compression_overflows};
+ghost use Rattle.arena_base.specs.Invalidation.{is_overflow};
+ghost use Rattle.chain_base.specs.Compression.{compressed, entries_rising, IsCompression};
 ghost use Rattle.ord_tree.specs.Shape.{Shape};
 ghost use Rattle.ord_tree.specs.Half.{IsRebuilt};
 ghost use Rattle.ord_tree.specs.Node.{bare};
@@ -11,17 +14,66 @@ use super::OrdTree;
 use crate::node::SimpleOrdArenaNode;
 use crate::node_inx::NodeInx;
 use crate::rebuild::rebuild;
-use arena_base::Ptr;
+use arena_base::{Calls, InvalidationOption, MapEntry, Ptr};
 use chain_base::ChainArena;
 use std::alloc::Allocator;
 
 impl<P: Ptr, T, A: Allocator> OrdTree<P, T, A> {
-    /// Builds the tree anew over the list, which stays. For n entries it takes O(n) time, and no memory.
-    pub(crate) fn rebuild(&mut self)
+    /// Moves all entries to the indexes from 1 on, in the order of their indexes, and gives them all one generation, which
+    /// becomes the arena's: the first where `reset` is true, else the next one. Then the tree is built anew; the list keeps its
+    /// order.
+    ///
+    /// The answer says whether the generations began again because the next one comes after the greatest. For each entry, by
+    /// rising index, `f` is called with its old pointer, its item and its new pointer, and gives the item that the entry has
+    /// then. The capacity stays, and all vacant slots count as never used. It takes O(capacity) time, and no memory.
+    pub fn compress_with<F: FnMut(P, T, P) -> T + Drop>(
+        &mut self,
+        reset: bool,
+        f: F,
+    ) -> InvalidationOption<()>
+        requires { F.IsAlwaysCallable f }
+        ensures after { IsCompression P.index P.era F.step
+            (compressed_generation P.Gen.greatest reset self.old.list.generation) f self.old.list self.new.list }
         ensures shape { IsRebuilt self.new.shape }
-        ensures list { self.new.list ≡ self.old.list }
+        ensures overflow { is_overflow result ≡ compression_overflows P.Gen.greatest reset self.old.list.generation }
     {
+        let map = MapNode { map: Calls { f } };
+        let overflow = self.chain.compress_by(reset, map);
         rebuild_over(&mut self.chain, &mut self.root);
+        overflow
+    }
+
+    /// Moves all entries to the indexes from 1 on as `compress_with` does, each with the item that it has.
+    pub fn compress(&mut self, reset: bool) -> InvalidationOption<()>
+        ensures after { self.new.list ≡ compressed self.old.list
+            (compressed_generation P.Gen.greatest reset self.old.list.generation)
+            (map (λ e. e.2) (entries_rising self.old.list)) }
+        ensures shape { IsRebuilt self.new.shape }
+        ensures overflow { is_overflow result ≡ compression_overflows P.Gen.greatest reset self.old.list.generation }
+    {
+        self.compress_with(reset, |_old, item, _new| item)
+    }
+}
+
+/// Makes a new item within a node, which stands alone until the tree is built anew.
+#[doc(hidden)]
+#[derive(Drop)]
+pub struct MapNode<M> {
+    map: M,
+}
+
+impl<P: Ptr, T, M: MapEntry<P, T>> MapEntry<P, SimpleOrdArenaNode<P, T>> for MapNode<M> {
+    ghost callable = { λ m. M.callable m.map };
+
+    ghost step = { λ m old node new answer n. M.step m.map old node.t new answer.t n.map };
+
+    fn map_entry(
+        &mut self,
+        old: P,
+        node: SimpleOrdArenaNode<P, T>,
+        new: P,
+    ) -> SimpleOrdArenaNode<P, T> {
+        SimpleOrdArenaNode::leaf(None, self.map.map_entry(old, node.t, new))
     }
 }
 
