@@ -7,6 +7,8 @@ pub mod Kept
 pub mod Renumbering
 pub mod Ranking
 pub mod Compressing
+pub mod Exchanging
+pub mod Canonical
 pub mod Steps
 pub mod Ends
 pub mod Places

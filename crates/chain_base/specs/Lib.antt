@@ -3,6 +3,7 @@ pub mod Naming
 pub mod Walk
 pub mod Chain
 pub mod Compression
+pub mod Exchange
 pub mod Insert
 pub mod Layout
 pub mod Lends

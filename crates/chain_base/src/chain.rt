@@ -4,6 +4,7 @@ ghost use Rattle.arena_base.specs.Generation.{IsLawfulGeneration, overflows_afte
 ghost use Rattle.arena_base.specs.Invalidation.{is_overflow};
 ghost use Rattle.chain_base.specs.Chain.{raised, IsSound, IsArenaOf};
 
+mod canonical;
 mod compress;
 mod get;
 mod growth;
