@@ -4,7 +4,10 @@ use Rattle.std.proofs.lemmas.List.{length-map, map_push}
 use Rattle.std.specs.List.{FoldsTo}
 use Rattle.arena_base.specs.Compression.{CompressionStep}
 use Rattle.chain_base.specs.Chain.{Entry, Chain, entry_at}
-use Rattle.chain_base.specs.Compression.{lesser, entry_before, rising_among, entries_rising, refilled, moved, compressed, numbered, canonical, replaced, left_empty, IsCompression}
+use Rattle.chain_base.specs.Compression.{lesser, entry_before, rising_among, entries_rising, refilled, moved, compressed, numbered, canonical, replaced, left_empty, IsCompression, Transferring, IsTransfer}
+use Rattle.arena_base.specs.declared.invalidation.InvalidationOption.{InvalidationOption}
+use Rattle.chain_base.proofs.Transferring.{steps-retold}
+use Rattle.ord_tree.specs.MapNode.{MapsTaken}
 use Rattle.arena_base.proofs.Compressing.{calls-retold, compressed-same}
 use Rattle.ord_tree.specs.declared.node.SimpleOrdArenaNode.{SimpleOrdArenaNode}
 use Rattle.ord_tree.specs.Node.{bare_entry, bare, entry_in}
@@ -93,3 +96,21 @@ pub compressed-given_back : {P F T : Type 0} (index era : P → ℕ) (step : F �
     → (f : F) (old new : Chain T) → IsCompression index era step g f old new → new ≡ compressed old g (map (λ e. e.2) (entries_rising old))
 compressed-given_back index era step g answers f old new h =
     h.after ∙ ap (λ items. compressed old g items) (compressed-same index era step g answers (entries_rising old) f h.last h.items [] h.calls)
+
+-- where the closure that was called on the source's nodes calls f on their items
+module _ {P T I G Q U J H S F : Type 0} (index_from era_from : Q → ℕ) (index_to era_to : P → ℕ) (greatest : Option ℕ)
+    (outer : S → Q → InvalidationOption (SimpleOrdArenaNode Q U J H) → P → SimpleOrdArenaNode P T I G → S → Type 0) (step : F → Q → InvalidationOption U → P → T → F → Type 0) (inner : S → F)
+    (calls : (s : S) (q : Q) (taken : InvalidationOption (SimpleOrdArenaNode Q U J H)) (p : P) (n : SimpleOrdArenaNode P T I G) (t : S) → outer s q taken p n t
+    → MapsTaken step (inner s) q taken p n (inner t)) where
+  pub IsTransfer-bare : (g : ℕ) (s : S) (source source_after : Chain (SimpleOrdArenaNode Q U J H)) (old new : Chain (SimpleOrdArenaNode P T I G))
+      → IsTransfer index_from era_from index_to era_to greatest outer g s source source_after old new → (after : Chain T) → after ≡ bare new
+      → IsTransfer index_from era_from index_to era_to greatest step g (inner s) (bare source) (bare source_after) (bare old) after
+  IsTransfer-bare g s source source_after old new h after is =
+      let start : Transferring S (SimpleOrdArenaNode P T I G) = record { closure = s; items = []; generation = source.generation } in
+      record {
+        last = record { closure = inner h.last.closure; items = items_in h.last.items; generation = h.last.generation };
+        calls = steps-retold index_from era_from index_to era_to greatest outer step inner (λ n. n.t) (λ n. n.t)
+            (λ s q taken p n t called. let c = calls s q taken p n t called in (c.plain, c.item, c.overflow, c.called)) g source.entries start h.last h.calls;
+        left = ap bare h.left ∙ bare-left_empty source h.last.generation;
+        after = is ∙ ap bare h.after ∙ bare-replaced old g h.last.items;
+      }

@@ -1,11 +1,13 @@
 //! Moving all entries, and building the tree anew over the list.
 
-ghost use Rattle.std.specs.Prelude.{◌≡◌, map};
+ghost use Rattle.std.specs.Prelude.{◌≡◌, ◌<◌, ◌↔◌, OnOk, OnErr, length, map};
 ghost use Rattle.std.specs.Option.{option_map};
 ghost use Rattle.arena_base.specs.Compression.{compressed_generation, compression_overflows};
+ghost use Rattle.arena_base.specs.Generation.{IsLawfulGeneration};
 ghost use Rattle.arena_base.specs.Invalidation.{is_overflow};
-ghost use Rattle.chain_base.specs.Compression.{compressed, entries_rising, IsCompression};
-ghost use Rattle.ord_tree.specs.Shape.{Shape};
+ghost use Rattle.chain_base.specs.Chain.{chain_limit};
+ghost use Rattle.chain_base.specs.Compression.{compressed, entries_rising, IsCompression, IsTransfer};
+ghost use Rattle.ord_tree.specs.Shape.{Shape, missing};
 ghost use Rattle.ord_tree.specs.Half.{IsRebuilt};
 ghost use Rattle.ord_tree.specs.Node.{bare};
 ghost use Rattle.ord_tree.specs.Layout.{IsLaidOut};
@@ -14,8 +16,8 @@ use super::OrdTree;
 use crate::node::SimpleOrdArenaNode;
 use crate::node_inx::NodeInx;
 use crate::rebuild::rebuild;
-use arena_base::{Calls, InvalidationOption, MapEntry, Ptr};
-use chain_base::ChainArena;
+use arena_base::{Calls, InvalidationOption, MapEntry, Ptr, ReallocationError};
+use chain_base::{ChainArena, MapTaken};
 use std::alloc::Allocator;
 
 impl<P: Ptr, T, A: Allocator> OrdTree<P, T, A> {
@@ -53,6 +55,50 @@ impl<P: Ptr, T, A: Allocator> OrdTree<P, T, A> {
     {
         self.compress_with(reset, |_old, item, _new| item)
     }
+
+    /// Takes all entries out of the source, in order, and puts one for each into this tree, whose old entries are dropped: at
+    /// the indexes from 1 on, with this generation, which becomes the tree's. The capacity grows to their number where it was
+    /// less.
+    ///
+    /// For each entry `f` is called with its old pointer, its item, with what the removal says of the source's generations, and
+    /// its new pointer, and gives the item that the new entry has. Each removal raises the source's generation once, and the
+    /// source keeps its capacity.
+    ///
+    /// It is refused with `BeyondMaxCapacity` where the source has more entries than this tree's limit, and with `AllocError`
+    /// where the capacity would grow and memory is refused. Nothing changes then, and `f` isn't called.
+    pub fn transfer_canonical_reallocating<
+        Q: Ptr,
+        U,
+        B: Allocator,
+        F: FnMut(Q, InvalidationOption<U>, P) -> T + Drop,
+    >(
+        &mut self,
+        new_generation: P::Gen,
+        source: &mut OrdTree<Q, U, B>,
+        f: F,
+    ) -> Result<(), ReallocationError>
+    where
+        T: Drop,
+        requires lawful { IsLawfulGeneration P.Gen.greatest (P.Gen.number new_generation) }
+        requires callable { F.IsAlwaysCallable f }
+        ensures ok { OnOk result (IsTransfer Q.index Q.era P.index P.era Q.Gen.greatest F.step
+            (P.Gen.number new_generation) f source.old.list source.new.list self.old.list self.new.list) }
+        ensures shape { OnOk result (IsRebuilt self.new.shape) }
+        ensures left { OnOk result (source.new.shape ≡ missing) }
+        ensures beyond { (result ≡ Err ReallocationError.BeyondMaxCapacity)
+            ↔ (chain_limit P.Inx.most self.old.list < length source.old.list.entries) }
+        ensures memory { result ≡ Err ReallocationError.AllocError
+            → self.old.list.capacity < length source.old.list.entries }
+        ensures err { OnErr result (self.new ≡ self.old) }
+        ensures err_source { OnErr result (source.new ≡ source.old) }
+    {
+        let map = MapNode { map: Calls { f } };
+        self.chain
+            .transfer_by(new_generation, &mut source.chain, map)?;
+        source.root = None;
+        rebuild_over(&mut self.chain, &mut self.root);
+        Ok(())
+    }
 }
 
 /// Makes a new item within a node, which stands alone until the tree is built anew.
@@ -74,6 +120,33 @@ impl<P: Ptr, T, M: MapEntry<P, T>> MapEntry<P, SimpleOrdArenaNode<P, T>> for Map
         new: P,
     ) -> SimpleOrdArenaNode<P, T> {
         SimpleOrdArenaNode::leaf(None, self.map.map_entry(old, node.t, new))
+    }
+}
+
+impl<Q: Ptr, U, P: Ptr, T, M: MapTaken<Q, U, P, T>> MapTaken<
+    Q,
+    SimpleOrdArenaNode<Q, U>,
+    P,
+    SimpleOrdArenaNode<P, T>,
+> for MapNode<M> {
+    ghost use Rattle.ord_tree.specs.MapNode.{MapsTaken};
+
+    ghost callable = { λ m. M.callable m.map };
+
+    ghost step = { λ m old taken new answer n. MapsTaken M.step m.map old taken new answer n.map };
+
+    fn map_taken(
+        &mut self,
+        old: Q,
+        taken: InvalidationOption<SimpleOrdArenaNode<Q, U>>,
+        new: P,
+    ) -> SimpleOrdArenaNode<P, T>
+        requires { M.callable self.old.map }
+        ensures step { MapsTaken M.step self.old.map old taken new result self.new.map }
+        ensures callable { M.callable self.new.map }
+    {
+        let plain = taken.map(|node| node.t);
+        SimpleOrdArenaNode::leaf(None, self.map.map_taken(old, plain, new))
     }
 }
 
