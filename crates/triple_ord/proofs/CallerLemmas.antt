@@ -1,5 +1,5 @@
 -- For callers: what pointers find after each change of an ordered arena.
-use Rattle.std.proofs.Common.{◌≡◌, ◌≢◌, ℕ, suc, ◌+◌, ◌≤◌, true, false, List, [], ◌∷◌, ◌++◌, length, Option, Some, None, IsSome, is_some, Bool, slice_get, map, IfSome, IfNone, OnSome, IfOk, OnErr, Result, Ok, Err, refl, sym, ap, subst, ◌∙◌, arith, inl, inr, if◌then◌else◌}
+use Rattle.std.proofs.Common.{◌≡◌, ◌≢◌, ℕ, suc, ◌+◌, ◌≤◌, true, false, List, [], ◌∷◌, ◌++◌, length, Option, Some, None, IsSome, is_some, Bool, slice_get, map, length-append, IfSome, IfNone, OnSome, IfOk, OnErr, Result, Ok, Err, refl, sym, ap, subst, ◌∙◌, arith, inl, inr, if◌then◌else◌}
 use Rattle.std.proofs.lemmas.Bool.Decides.{eqb_tells}
 use Rattle.std.specs.Option.{option_map}
 use Rattle.std.specs.declared.cmp.Ordering.{Ordering}
@@ -7,8 +7,11 @@ use Rattle.arena_base.specs.Generation.{next_generation}
 use Rattle.arena_base.specs.Arena.{item_if}
 use Rattle.chain_base.specs.Chain.{Entry, Chain, times, IsDistinct, entry_at as entry_among, removed, renewed, with_room, with_capacity, grown_capacity, inserted_at, next_index}
 use Rattle.chain_base.specs.Insert.{IsInsertion}
-use Rattle.chain_base.specs.Compression.{moved, numbered}
-use Rattle.chain_base.proofs.CallerLemmas.{entry_at-absent, entry_at-without_other, entry_at-without, length-without, entry_at-with_item_other, entry_at-with_item, length-with_item, entry_at-with_generation_other, entry_at-with_generation, length-with_generation, entry_at-between_other, entry_at-between, length-between, entry_at-numbered, entry_at-numbered_before, generation-numbered, generation-moved}
+use Rattle.chain_base.specs.Compression.{moved, numbered, Transferring, TransferStep, IsTransfer}
+use Rattle.arena_base.specs.declared.invalidation.InvalidationOption.{InvalidationOption}
+use Rattle.std.specs.List.{FoldsTo}
+use Rattle.std.proofs.lemmas.List.{length-map}
+use Rattle.chain_base.proofs.CallerLemmas.{entry_at-absent, entry_at-without_other, entry_at-without, length-without, entry_at-with_item_other, entry_at-with_item, length-with_item, entry_at-with_generation_other, entry_at-with_generation, length-with_generation, entry_at-between_other, entry_at-between, length-between, entry_at-numbered, entry_at-numbered_before, generation-numbered, items-numbered, generation-moved}
 use Rattle.ord_tree.specs.Tree.{Tree, with_item_in}
 use Rattle.triple_ord.specs.Gap.{Gap, with_between}
 use Rattle.std.specs.declared.cmp.Ordering.TheVariants.{Equal}
@@ -17,7 +20,7 @@ use Rattle.triple_ord.specs.declared.error.OrdInsertionError.{OrdInsertionError}
 use Rattle.triple_ord.specs.declared.error.OrdInsertionError.TheVariants.{FailedOrdRequirement, NotWithinCapacity, BeyondMaxCapacity, AllocError}
 use Rattle.triple_ord.specs.Insertion.{Inserts}
 use Rattle.triple_ord.proofs.Inserting.{entry_at-contained, similar-here}
-use Rattle.triple_ord.specs.Arena.{item_of, entry_at, count, Updates, Renews, FindsBy, IsOfGeneration, IsNumbered}
+use Rattle.triple_ord.specs.Arena.{item_of, entry_at, items, count, Updates, Renews, FindsBy, IsOfGeneration, IsNumbered, FindsNothing}
 
 module _ {T : Type 0} where
   -- a pointer finds nothing at an index that has no entry
@@ -323,3 +326,27 @@ module _ {T : Type 0} (a : Tree T) (g : ℕ) where
         | inl h ↦ rw h.0 refl
         | inr h ↦ absurd (h.1 refl)
       ]
+
+-- what pointers find after a transfer
+module _ {P Q T U F : Type 0} (index_from era_from : Q → ℕ) (index_to era_to : P → ℕ) (greatest : Option ℕ) (step : F → Q → InvalidationOption U → P → T → F → Type 0) (g : ℕ) where
+  items-counted : (es : List (Entry U)) (s t : Transferring F T) → FoldsTo (TransferStep index_from era_from index_to era_to greatest step g) s es t → length t.items ≡ length s.items + length es
+  items-counted [] s t same = omega (arith, ap (λ (s : Transferring F T). length s.items) same)
+  items-counted (e ∷ es) s t calls =
+      omega (arith, items-counted es calls.0 t calls.2, ap length calls.1.behind, length-append s.items (calls.1.item ∷ []))
+
+  module _ (f : F) (source left : Tree U) (old new : Tree T) (h : IsTransfer index_from era_from index_to era_to greatest step g f source.list left.list old.list new.list) where
+    entries-transferred : new.list.entries ≡ numbered g 1 h.last.items
+    entries-transferred = ap (λ (c : Chain T). c.entries) h.after
+
+    pub found-transferred : IsNumbered new g (items new)
+    found-transferred =
+        let P : List T → Type 0 = λ xs. IsNumbered new g xs in
+        subst P (sym (ap (λ (es : List (Entry T)). map (λ e. e.item) es) entries-transferred ∙ items-numbered g 1 h.last.items)) (found-numbered new g h.last.items entries-transferred)
+
+    pub count-transferred : count new ≡ count source
+    count-transferred =
+        let items : length (map (λ (e : Entry T). e.item) new.list.entries) ≡ length h.last.items = ap length (ap (λ (es : List (Entry T)). map (λ e. e.item) es) entries-transferred ∙ items-numbered g 1 h.last.items) in
+        omega (arith, items, length-map new.list.entries (λ e. e.item), items-counted source.list.entries (record { closure = f; items = []; generation = source.list.generation }) h.last h.calls)
+
+    pub emptied-transferred : FindsNothing left
+    emptied-transferred p = item_of-absent left p (ap (λ (c : Chain U). entry_among c.entries p.0) h.left)

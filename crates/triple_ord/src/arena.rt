@@ -17,6 +17,7 @@ mod growth;
 mod insert;
 mod iter;
 mod neighbours;
+mod rebuild;
 mod remove;
 mod walk;
 mod write;

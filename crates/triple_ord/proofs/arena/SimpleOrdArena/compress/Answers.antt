@@ -1,0 +1,16 @@
+use Rattle.std.proofs.Common.{ap, length, ◌∙◌}
+use Rattle.std.proofs.lemmas.List.{length-map}
+use Rattle.chain_base.specs.Chain.{Chain}
+use Rattle.triple_ord.proofs.CallerLemmas.{ended-moved}
+use Rattle.triple_ord.proofs.arena.SimpleOrdArena.compress.Goals as goal
+
+pub returns-clause-count : goal.returns-clause-count
+returns-clause-count g c =
+    rw (← c.self.view_is) (ap (λ (c : Chain _). length c.entries) c.compress.ensures.after ∙ length-map c.self.inside.tree.list.entries _)
+
+pub returns-clause-ended : goal.returns-clause-ended
+returns-clause-ended g c =
+    rw (← c.self.view_is) (ended-moved c.compress.new.self _ _ _ _ (ap (λ (c : Chain _). c.entries) c.compress.ensures.after))
+
+pub returns-clause-after : goal.returns-clause-after
+returns-clause-after g c = rw (← c.self.view_is) c.compress.ensures.after
