@@ -480,3 +480,90 @@ fn compressions_overflow(rt: HostRuntime) -> Result<(), Fail> {
     assert_eq!(rt; chain.first(), Some(P8::_from_raw(1, 2)));
     Ok(())
 }
+
+/// The pointer that an entry had, its letter, and the pointer that it gets.
+type Moved = (P0, char, P8);
+
+#[test]
+fn a_transfer_takes_all_in_order(rt: HostRuntime) -> Result<(), Fail> {
+    let mut source = scattered(&rt, rt.alloc())?;
+    let mut chain: ChainArena<P8, Moved> = ChainArena::new(rt.alloc());
+    let old = (P0::invalid(), 'z', P8::invalid());
+    chain.insert_reallocating(LinkInsertKind::Disconnected, old)?;
+    assert_eq!(rt; chain.set_max_capacity(4), Ok(()));
+    let moved = |from: P0, taken: InvalidationOption<char>, to: P8| (from, taken.allow(), to);
+    assert_eq!(rt;
+        chain.transfer_canonical_reallocating(7, &mut source, moved),
+        Ok(())
+    );
+    for (i, from, letter) in [(1u8, (2u32, 2u64), 'c'), (2, (4, 2), 'd'), (3, (1, 2), 'a')] {
+        let p = P8::_from_raw(i, 7);
+        assert_eq!(rt;
+            chain.get(p).copied(),
+            Some((P0::_from_raw(from.0, from.1), letter, p))
+        );
+    }
+    assert_eq!(rt;
+        (chain.len(), chain.capacity(), chain.generation()),
+        (3, 4, 7)
+    );
+    assert_eq!(rt; chain.first(), Some(P8::_from_raw(1, 7)));
+    assert_eq!(rt;
+        (source.len(), source.capacity(), source.generation()),
+        (0, 4, 6)
+    );
+    assert_eq!(rt;
+        source.arena().next_insertion_ptr(),
+        Some(P0::_from_raw(1, 6))
+    );
+
+    // The source is empty now.
+    assert_eq!(rt;
+        chain.transfer_canonical_reallocating(9, &mut source, moved),
+        Ok(())
+    );
+    assert_eq!(rt;
+        (chain.len(), chain.capacity(), chain.generation()),
+        (0, 4, 9)
+    );
+    assert_eq!(rt; source.generation(), 6);
+    Ok(())
+}
+
+#[test]
+fn a_refused_transfer_changes_nothing(rt: HostRuntime) -> Result<(), Fail> {
+    let mut source = scattered(&rt, rt.alloc())?;
+    let mut chain = Letters::new(rt.alloc());
+    assert_eq!(rt; chain.set_max_capacity(2), Ok(()));
+    begin(&rt, &mut chain, 'x')?;
+    let kept = |_from: P0, taken: InvalidationOption<char>, _to: P0| taken.allow();
+    assert_eq!(rt;
+        chain.transfer_canonical_reallocating(5, &mut source, kept),
+        Err(ReallocationError::BeyondMaxCapacity)
+    );
+    assert_eq!(rt; layout(&rt, rt.alloc(), &chain)?.as_str(), "1.2x ");
+    assert_eq!(rt;
+        layout(&rt, rt.alloc(), &source)?.as_str(),
+        "2.2c 4.2d 1.2a "
+    );
+    assert_eq!(rt; (chain.generation(), source.generation()), (2, 3));
+
+    let mut is_refused = [false; 2];
+    for size in 1..40 {
+        let heap = LocalHeap::new(rt.alloc(), 16 * size)?;
+        let mut source = scattered(&rt, rt.alloc())?;
+        let mut chain = Letters::new(&heap);
+        let outcome = chain.transfer_canonical_reallocating(5, &mut source, kept);
+        is_refused[usize::from(outcome.is_err())] = true;
+        match outcome {
+            Ok(()) => assert_eq!(rt; text(&rt, rt.alloc(), &chain)?.as_str(), "cda"),
+            Err(error) => {
+                assert_eq!(rt; error, ReallocationError::AllocError);
+                assert_eq!(rt; (chain.capacity(), chain.generation()), (0, 2));
+                assert_eq!(rt; text(&rt, rt.alloc(), &source)?.as_str(), "cda");
+            }
+        }
+    }
+    assert_eq!(rt; is_refused, [true; 2]);
+    Ok(())
+}
