@@ -6,7 +6,7 @@ ghost use Rattle.arena_base.specs.Compression.{compressed_generation, compressio
 ghost use Rattle.arena_base.specs.Generation.{IsLawfulGeneration};
 ghost use Rattle.arena_base.specs.Invalidation.{is_overflow};
 ghost use Rattle.chain_base.specs.Chain.{chain_limit};
-ghost use Rattle.chain_base.specs.Compression.{compressed, entries_rising, IsCompression, IsTransfer};
+ghost use Rattle.chain_base.specs.Compression.{canonical, compressed, entries_rising, IsCompression, IsTransfer};
 ghost use Rattle.ord_tree.specs.Shape.{Shape, missing};
 ghost use Rattle.ord_tree.specs.Half.{IsRebuilt};
 ghost use Rattle.ord_tree.specs.Node.{bare};
@@ -54,6 +54,21 @@ impl<P: Ptr, T, A: Allocator> OrdTree<P, T, A> {
         ensures overflow { is_overflow result ≡ compression_overflows P.Gen.greatest reset self.old.list.generation }
     {
         self.compress_with(reset, |_old, item, _new| item)
+    }
+
+    /// Gives the entries the indexes from 1 on in the order of the list, and one generation as `compress_with` does. Then the
+    /// tree is built anew.
+    ///
+    /// The capacity stays, and all vacant slots count as never used. It takes O(capacity) time, and no memory.
+    pub fn compress_canonical(&mut self, reset: bool) -> InvalidationOption<()>
+        ensures after { self.new.list ≡ canonical self.old.list
+            (compressed_generation P.Gen.greatest reset self.old.list.generation) }
+        ensures shape { IsRebuilt self.new.shape }
+        ensures overflow { is_overflow result ≡ compression_overflows P.Gen.greatest reset self.old.list.generation }
+    {
+        let overflow = self.chain.compress_canonical(reset);
+        rebuild_over(&mut self.chain, &mut self.root);
+        overflow
     }
 
     /// Takes all entries out of the source, in order, and puts one for each into this tree, whose old entries are dropped: at

@@ -5,7 +5,7 @@ ghost use Rattle.arena_base.specs.Compression.{compressed_generation, compressio
 ghost use Rattle.arena_base.specs.Generation.{IsLawfulGeneration};
 ghost use Rattle.arena_base.specs.Invalidation.{is_overflow};
 ghost use Rattle.chain_base.specs.Chain.{chain_limit};
-ghost use Rattle.chain_base.specs.Compression.{compressed, entries_rising, IsCompression, IsTransfer};
+ghost use Rattle.chain_base.specs.Compression.{canonical, compressed, entries_rising, IsCompression, IsTransfer};
 ghost use Rattle.ord_tree.specs.Half.{IsRebuilt};
 ghost use Rattle.ord_tree.specs.Shape.{missing};
 ghost use Rattle.triple_ord.specs.Arena.{items, count, IsOfGeneration, IsNumbered, FindsNothing};
@@ -52,6 +52,23 @@ impl<P: Ptr, T, A: Allocator> SimpleOrdArena<P, T, A> {
         ensures overflow { is_overflow result ≡ compression_overflows P.Gen.greatest reset self.old.list.generation }
     {
         self.tree.compress(reset)
+    }
+
+    /// Gives the entries the indexes from 1 on in their order, and one generation as `compress_with` does. Then the tree is
+    /// built anew.
+    ///
+    /// The capacity stays, and all vacant slots count as never used. It takes O(capacity) time, and no memory.
+    pub fn compress_canonical(&mut self, reset: bool) -> InvalidationOption<()>
+        ensures items { items self.new ≡ items self.old }
+        ensures count { count self.new ≡ count self.old }
+        ensures found { IsNumbered self.new
+            (compressed_generation P.Gen.greatest reset self.old.list.generation) (items self.old) }
+        ensures after { self.new.list ≡ canonical self.old.list
+            (compressed_generation P.Gen.greatest reset self.old.list.generation) }
+        ensures shape { IsRebuilt self.new.shape }
+        ensures overflow { is_overflow result ≡ compression_overflows P.Gen.greatest reset self.old.list.generation }
+    {
+        self.tree.compress_canonical(reset)
     }
 
     /// Takes all entries out of the source, in order, and puts one for each into this arena, whose old entries are dropped: at

@@ -1,0 +1,19 @@
+use Rattle.std.proofs.Common.{ap, length, map, ◌∙◌, sym}
+use Rattle.std.proofs.lemmas.List.{length-map}
+use Rattle.chain_base.specs.Chain.{Entry, Chain}
+use Rattle.chain_base.proofs.CallerLemmas.{items-numbered}
+use Rattle.triple_ord.proofs.CallerLemmas.{found-numbered}
+use Rattle.triple_ord.proofs.arena.SimpleOrdArena.compress_canonical.Goals as goal
+
+pub returns-clause-items : goal.returns-clause-items
+returns-clause-items g c =
+    rw (← c.self.view_is) (ap (λ (c : Chain _). map (λ e. e.item) c.entries) c.compress_canonical.ensures.after ∙ items-numbered _ 1 _)
+
+pub returns-clause-count : goal.returns-clause-count
+returns-clause-count g c =
+    let items = ap (λ (c : Chain _). map (λ e. e.item) c.entries) c.compress_canonical.ensures.after ∙ items-numbered _ 1 _ in
+    rw (← c.self.view_is) (sym (length-map c.compress_canonical.new.self.list.entries (λ e. e.item)) ∙ ap length items ∙ length-map c.self.inside.tree.list.entries (λ e. e.item))
+
+pub returns-clause-found : goal.returns-clause-found
+returns-clause-found g c =
+    rw (← c.self.view_is) (found-numbered c.compress_canonical.new.self _ _ (ap (λ (c : Chain _). c.entries) c.compress_canonical.ensures.after))
