@@ -1,8 +1,9 @@
 -- For callers: what an index finds in the list, and how many entries there are, after each change.
-use Rattle.std.proofs.Common.{◌≡◌, ◌≢◌, ℕ, suc, ◌+◌, ◌≤◌, List, [], ◌∷◌, ◌++◌, length, Option, Some, None, IsSome, refl, sym, ap, ◌∙◌, arith, inl, inr}
+use Rattle.std.proofs.Common.{◌≡◌, ◌≢◌, ℕ, zero, suc, ◌+◌, ◌<◌, ◌≤◌, List, [], ◌∷◌, ◌++◌, length, map, slice_get, slice_index_or, Option, Some, None, IsSome, refl, sym, ap, ◌∙◌, arith, inl, inr}
 use Rattle.std.proofs.lemmas.Bool.Decides.{eqb_tells}
 use Rattle.std.specs.Option.{option_map}
 use Rattle.chain_base.specs.Chain.{Entry, times, IsDistinct, entry_at, without, with_item, with_generation}
+use Rattle.chain_base.specs.Compression.{lesser, place_of, moved, numbered}
 -- a list in two parts
 pub use Rattle.chain_base.proofs.Lists.{option_or-none, times-append, last_or-append, link_between-append, link_between-absent}
 
@@ -140,3 +141,47 @@ module _ {T : Type 0} where
   pub length-between : (front : List (Entry T)) (new : Entry T) (back : List (Entry T)) → length (front ++ new ∷ back) ≡ length (front ++ back) + 1
   length-between [] new back = omega arith
   length-between (f ∷ front) new back = omega (arith, length-between front new back)
+
+module _ {T : Type 0} where
+  -- among entries numbered in a row, each number finds the item of its place
+  pub entry_at-numbered : (g from : ℕ) (xs : List T) (k : ℕ) → entry_at (numbered g from xs) (from + k) ≡ option_map (λ x. (g, x)) (slice_get xs k)
+  entry_at-numbered g from [] k = refl
+  entry_at-numbered g from (x ∷ xs) zero = elim (eqb_tells from (from + 0)) [
+    | inl h ↦ rw h.0 refl
+    | inr h ↦ absurd (h.1 (omega arith))
+  ]
+  entry_at-numbered g from (x ∷ xs) (suc k) = elim (eqb_tells from (from + suc k)) [
+    | inl h ↦ absurd (omega (arith, h.1))
+    | inr h ↦
+        let later : from + suc k ≡ from + 1 + k = omega arith in
+        rw h.0 (ap (entry_at (numbered g (from + 1) xs)) later ∙ entry_at-numbered g (from + 1) xs k)
+  ]
+
+  -- and a number before them none
+  pub entry_at-numbered_before : (g from : ℕ) (xs : List T) (i : ℕ) → i < from → entry_at (numbered g from xs) i ≡ None
+  entry_at-numbered_before g from [] i before = refl
+  entry_at-numbered_before g from (x ∷ xs) i before = elim (eqb_tells from i) [
+    | inl h ↦ absurd (omega (arith, h.1, before))
+    | inr h ↦ rw h.0 (entry_at-numbered_before g (from + 1) xs i (omega (arith, before)))
+  ]
+
+  -- they have this generation
+  pub generation-numbered : (g from : ℕ) (xs : List T) (i : ℕ) (e : ℕ × T) → entry_at (numbered g from xs) i ≡ Some e → e.0 ≡ g
+  generation-numbered g from [] i e is = absurd cc
+  generation-numbered g from (x ∷ xs) i e is = elim (eqb_tells from i) [
+    | inl h ↦ let same : Some (g, x) ≡ Some e = (rw h.0 at is) in cc
+    | inr h ↦ generation-numbered g (from + 1) xs i e (rw h.0 at is)
+  ]
+
+  -- and these items
+  pub items-numbered : (g from : ℕ) (xs : List T) → map (λ (e : Entry T). e.item) (numbered g from xs) ≡ xs
+  items-numbered g from [] = refl
+  items-numbered g from (x ∷ xs) = ap (λ rest. x ∷ rest) (items-numbered g (from + 1) xs)
+
+  -- entries that were moved have this generation
+  pub generation-moved : (all : List (Entry T)) (g : ℕ) (xs : List T) (es : List (Entry T)) (i : ℕ) (e : ℕ × T) → entry_at (map (moved all g xs) es) i ≡ Some e → e.0 ≡ g
+  generation-moved all g xs [] i e is = absurd cc
+  generation-moved all g xs (f ∷ es) i e is = elim (eqb_tells (place_of all f.index) i) [
+    | inl h ↦ let same : Some (g, slice_index_or xs (lesser all f.index) f.item) ≡ Some e = (rw h.0 at is) in cc
+    | inr h ↦ generation-moved all g xs es i e (rw h.0 at is)
+  ]

@@ -22,7 +22,7 @@ use Rattle.chain_base.proofs.Vacancy.{vacant-links}
 use Rattle.chain_base.proofs.Renumbering.{link_at-split, prev_at, next_at, linked-occurs, named-occurs, next-of_prev, prev-of_next, first-unnamed, last-unnamed, unnamed-first, unnamed-last, last_or-nothing, times-changed, IsLaidOut-renumbered}
 use Rattle.chain_base.proofs.Ranking.{place-injective, place-slots, length-entries, entry-placed, placed-entry, compressed-at, compressed-first, compressed-place, compressed-count, compressed-length, with_era, count-alike, counts-alike, vacant-alike, rising-slots}
 
-renamed : (f : ℕ → ℕ) (o : Option ℕ) (k : ℕ) → option_map f o ≡ Some k → (y : ℕ) × (o ≡ Some y) × (f y ≡ k)
+pub renamed : (f : ℕ → ℕ) (o : Option ℕ) (k : ℕ) → option_map f o ≡ Some k → (y : ℕ) × (o ≡ Some y) × (f y ≡ k)
 renamed f None k is = absurd (none-some k is)
 renamed f (Some y) k is = (y, refl, same_Some (f y) k is)
 
@@ -47,7 +47,7 @@ module _ {T : Type 0} where
   named-held (Some e) read k is = refl
 
   -- what is there is something
-  held-some : (o : Option (ℕ × Link T)) → is_some o ≡ true → (e : ℕ × Link T) × (o ≡ Some e)
+  pub held-some : (o : Option (ℕ × Link T)) → is_some o ≡ true → (e : ℕ × Link T) × (o ≡ Some e)
   held-some None held = absurd (false≢true held)
   held-some (Some e) held = (e, refl)
 

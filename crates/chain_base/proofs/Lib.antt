@@ -7,9 +7,12 @@ pub mod Kept
 pub mod Renumbering
 pub mod Ranking
 pub mod Compressing
+pub mod Exchanging
+pub mod Canonical
 pub mod Steps
 pub mod Ends
 pub mod Places
 pub mod Calls
 pub mod Going
 pub mod CallerLemmas
+pub mod Transferring

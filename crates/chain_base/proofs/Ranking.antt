@@ -17,20 +17,20 @@ use Rattle.chain_base.proofs.Vacancy.{get_or-vacant}
 use Rattle.chain_base.proofs.Renumbering.{linked-occurs}
 
 module _ {T : Type 0} where
-  lesser-zero : (es : List (Entry T)) → lesser es 0 ≡ 0
+  pub lesser-zero : (es : List (Entry T)) → lesser es 0 ≡ 0
   lesser-zero [] = refl
   lesser-zero (e ∷ es) = let ih = lesser-zero es in grind (arith, nat_tests)
 
-  lesser-next : (es : List (Entry T)) (i : ℕ) → lesser es (i + 1) ≡ lesser es i + times i es
+  pub lesser-next : (es : List (Entry T)) (i : ℕ) → lesser es (i + 1) ≡ lesser es i + times i es
   lesser-next [] i = refl
   lesser-next (e ∷ es) i = let ih = lesser-next es i in grind (arith, nat_tests)
 
-  lesser-more : (es : List (Entry T)) (i n : ℕ) → lesser es i ≤ lesser es (i + n)
+  pub lesser-more : (es : List (Entry T)) (i n : ℕ) → lesser es i ≤ lesser es (i + n)
   lesser-more [] i n = omega arith
   lesser-more (e ∷ es) i n = let ih = lesser-more es i n in grind (arith, nat_tests)
 
   -- of two indexes with an entry the lesser has the lesser place
-  lesser-below : (es : List (Entry T)) (i j : ℕ) → 1 ≤ times i es → i < j → lesser es i < lesser es j
+  pub lesser-below : (es : List (Entry T)) (i j : ℕ) → 1 ≤ times i es → i < j → lesser es i < lesser es j
   lesser-below es i j occurs below =
       let more = lesser-more es (i + 1) (j - (i + 1)) in
       let reach : (i + 1) + (j - (i + 1)) ≡ j = omega arith in

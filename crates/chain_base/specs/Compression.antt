@@ -44,6 +44,14 @@ module _ {T : Type 0} where
   abbrev pub compressed : Chain T → ℕ → List T → Chain T
   compressed c g items = refilled c g (map (moved c.entries g items) c.entries)
 
+  -- the entry with its place by rising index for its index, and generation g
+  abbrev pub at_place : List (Entry T) → ℕ → Entry T → Entry T
+  at_place es g e = record { index = place_of es e.index; generation = g; item = e.item }
+
+  -- c compressed, with the items that it has
+  abbrev pub relocated : Chain T → ℕ → Chain T
+  relocated c g = refilled c g (map (at_place c.entries g) c.entries)
+
   -- entries of these items in this order, with the indexes from `from` on and generation g
   abbrev pub numbered : ℕ → ℕ → List T → List (Entry T)
   numbered g from [] = []

@@ -3,7 +3,9 @@ pub mod Naming
 pub mod Walk
 pub mod Chain
 pub mod Compression
+pub mod Exchange
 pub mod Insert
 pub mod Layout
 pub mod Lends
 pub mod LinkLends
+pub mod Transfer

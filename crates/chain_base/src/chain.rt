@@ -4,12 +4,14 @@ ghost use Rattle.arena_base.specs.Generation.{IsLawfulGeneration, overflows_afte
 ghost use Rattle.arena_base.specs.Invalidation.{is_overflow};
 ghost use Rattle.chain_base.specs.Chain.{raised, IsSound, IsArenaOf};
 
+mod canonical;
 mod compress;
 mod get;
 mod growth;
 pub mod insert;
 mod links;
 mod remove;
+mod transfer;
 pub mod walk;
 mod write;
 

@@ -3,6 +3,7 @@
 
 mod chain;
 mod link;
+mod map_taken;
 #[cfg(test)]
 mod tests;
 
@@ -10,3 +11,4 @@ pub use chain::ChainArena;
 pub use chain::insert::LinkInsertKind;
 pub use chain::walk::ChainPtrAdvancer;
 pub use link::LinkNoGen;
+pub use map_taken::MapTaken;

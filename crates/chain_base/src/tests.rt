@@ -363,3 +363,120 @@ fn keeps_all_where_memory_is_refused(rt: HostRuntime) -> Result<(), Fail> {
     assert_eq!(rt; is_refused, [true; 3]);
     Ok(())
 }
+
+/// The letters in order, each behind its index and its generation.
+fn layout(rt: &impl Abort, alloc: Global, chain: &Letters) -> Result<String, Fail> {
+    let mut text = String::new(alloc);
+    let Some(first) = chain.first() else {
+        return Ok(text);
+    };
+    let mut advancer = chain
+        .advancer_chain(first)
+        .ok_or("the first names an entry")?;
+    for _ in 0..chain.len() {
+        let p = advancer.advance(chain).ok_or("an entry for each")?;
+        let letter = *chain.get(p).ok_or("its letter")?;
+        let entry = format!(in alloc; "{}.{}{} ", p.inx(), p.generation(), letter)?;
+        text.push_str(entry.as_str())?;
+    }
+    assert_eq!(rt; advancer.advance(chain), None);
+    Ok(text)
+}
+
+/// The list c, d, a with the indexes 2, 4, 1, the index 3 being vacant.
+fn scattered(rt: &impl Abort, alloc: Global) -> Result<Letters, Fail> {
+    let mut chain = Letters::new(alloc);
+    begin(rt, &mut chain, 'a')?;
+    before(rt, &mut chain, 1, 'c')?;
+    after(rt, &mut chain, 1, 'e')?;
+    after(rt, &mut chain, 2, 'd')?;
+    let _ = chain.remove_inx_link_no_gen(3);
+    Ok(chain)
+}
+
+#[test]
+fn a_compression_keeps_the_order(rt: HostRuntime) -> Result<(), Fail> {
+    let mut chain = scattered(&rt, rt.alloc())?;
+    assert_eq!(rt;
+        layout(&rt, rt.alloc(), &chain)?.as_str(),
+        "2.2c 4.2d 1.2a "
+    );
+    assert_eq!(rt; chain.compress(false), InvalidationOption::Success(()));
+    assert_eq!(rt;
+        layout(&rt, rt.alloc(), &chain)?.as_str(),
+        "2.4c 3.4d 1.4a "
+    );
+    assert_eq!(rt; neighbours(&chain, 3), Some((Some(2), Some(1))));
+    assert_eq!(rt; (chain.capacity(), chain.generation()), (4, 4));
+    assert_eq!(rt;
+        chain.arena().next_insertion_ptr(),
+        Some(P0::_from_raw(4, 4))
+    );
+
+    assert_eq!(rt;
+        chain.compress_canonical(false),
+        InvalidationOption::Success(())
+    );
+    assert_eq!(rt;
+        layout(&rt, rt.alloc(), &chain)?.as_str(),
+        "1.5c 2.5d 3.5a "
+    );
+    assert_eq!(rt; neighbours(&chain, 2), Some((Some(1), Some(3))));
+    assert_eq!(rt;
+        chain.compress_canonical(true),
+        InvalidationOption::Success(())
+    );
+    assert_eq!(rt;
+        layout(&rt, rt.alloc(), &chain)?.as_str(),
+        "1.2c 2.2d 3.2a "
+    );
+    Ok(())
+}
+
+#[test]
+fn a_compression_calls_by_rising_index(rt: HostRuntime) -> Result<(), Fail> {
+    let mut chain = scattered(&rt, rt.alloc())?;
+    let mut calls = 0u8;
+    let overflow = chain.compress_with(true, |old: P0, letter: char, new: P0| {
+        calls = calls.wrapping_add(1);
+        if calls == 1 && old == P0::_from_raw(1, 2) && new == P0::_from_raw(1, 2) {
+            'A'
+        } else if calls == 2 && old == P0::_from_raw(2, 2) && new == P0::_from_raw(2, 2) {
+            'C'
+        } else if calls == 3 && old == P0::_from_raw(4, 2) && new == P0::_from_raw(3, 2) {
+            'D'
+        } else {
+            letter
+        }
+    });
+    assert_eq!(rt; overflow, InvalidationOption::Success(()));
+    assert_eq!(rt;
+        layout(&rt, rt.alloc(), &chain)?.as_str(),
+        "2.2C 3.2D 1.2A "
+    );
+    Ok(())
+}
+
+#[test]
+fn compressions_overflow(rt: HostRuntime) -> Result<(), Fail> {
+    let mut chain: ChainArena<P8, char> = ChainArena::new(rt.alloc());
+    assert_eq!(rt;
+        chain.compress_canonical(false),
+        InvalidationOption::Success(())
+    );
+    assert_eq!(rt; chain.compress(true), InvalidationOption::Success(()));
+    assert_eq!(rt; (chain.is_empty(), chain.generation()), (true, 2));
+    chain.insert_reallocating(LinkInsertKind::Disconnected, 'a')?;
+    chain.set_generation(255);
+    assert_eq!(rt;
+        chain.compress(false),
+        InvalidationOption::GenerationOverflow(())
+    );
+    chain.set_generation(255);
+    assert_eq!(rt;
+        chain.compress_canonical(false),
+        InvalidationOption::GenerationOverflow(())
+    );
+    assert_eq!(rt; chain.first(), Some(P8::_from_raw(1, 2)));
+    Ok(())
+}

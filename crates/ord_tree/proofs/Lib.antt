@@ -27,3 +27,4 @@ pub mod Renewed
 pub mod Displacing
 pub mod Rebuilding
 pub mod Rebuilt
+pub mod Compressing

@@ -20,3 +20,4 @@ pub mod Lends
 pub mod NodeLends
 pub mod Plant
 pub mod Rebuild
+pub mod MapNode

@@ -1,5 +1,5 @@
 -- For callers: what pointers find after each change of an ordered arena.
-use Rattle.std.proofs.Common.{◌≡◌, ◌≢◌, ℕ, suc, ◌+◌, ◌≤◌, true, false, List, [], ◌∷◌, ◌++◌, length, Option, Some, None, IsSome, is_some, Bool, slice_get, IfSome, IfNone, OnSome, IfOk, OnErr, Result, Ok, Err, refl, sym, ap, subst, ◌∙◌, arith, inl, inr, if◌then◌else◌}
+use Rattle.std.proofs.Common.{◌≡◌, ◌≢◌, ℕ, suc, ◌+◌, ◌≤◌, true, false, List, [], ◌∷◌, ◌++◌, length, Option, Some, None, IsSome, is_some, Bool, slice_get, map, IfSome, IfNone, OnSome, IfOk, OnErr, Result, Ok, Err, refl, sym, ap, subst, ◌∙◌, arith, inl, inr, if◌then◌else◌}
 use Rattle.std.proofs.lemmas.Bool.Decides.{eqb_tells}
 use Rattle.std.specs.Option.{option_map}
 use Rattle.std.specs.declared.cmp.Ordering.{Ordering}
@@ -7,7 +7,8 @@ use Rattle.arena_base.specs.Generation.{next_generation}
 use Rattle.arena_base.specs.Arena.{item_if}
 use Rattle.chain_base.specs.Chain.{Entry, Chain, times, IsDistinct, entry_at as entry_among, removed, renewed, with_room, with_capacity, grown_capacity, inserted_at, next_index}
 use Rattle.chain_base.specs.Insert.{IsInsertion}
-use Rattle.chain_base.proofs.CallerLemmas.{entry_at-absent, entry_at-without_other, entry_at-without, length-without, entry_at-with_item_other, entry_at-with_item, length-with_item, entry_at-with_generation_other, entry_at-with_generation, length-with_generation, entry_at-between_other, entry_at-between, length-between}
+use Rattle.chain_base.specs.Compression.{moved, numbered}
+use Rattle.chain_base.proofs.CallerLemmas.{entry_at-absent, entry_at-without_other, entry_at-without, length-without, entry_at-with_item_other, entry_at-with_item, length-with_item, entry_at-with_generation_other, entry_at-with_generation, length-with_generation, entry_at-between_other, entry_at-between, length-between, entry_at-numbered, entry_at-numbered_before, generation-numbered, generation-moved}
 use Rattle.ord_tree.specs.Tree.{Tree, with_item_in}
 use Rattle.triple_ord.specs.Gap.{Gap, with_between}
 use Rattle.std.specs.declared.cmp.Ordering.TheVariants.{Equal}
@@ -16,7 +17,7 @@ use Rattle.triple_ord.specs.declared.error.OrdInsertionError.{OrdInsertionError}
 use Rattle.triple_ord.specs.declared.error.OrdInsertionError.TheVariants.{FailedOrdRequirement, NotWithinCapacity, BeyondMaxCapacity, AllocError}
 use Rattle.triple_ord.specs.Insertion.{Inserts}
 use Rattle.triple_ord.proofs.Inserting.{entry_at-contained, similar-here}
-use Rattle.triple_ord.specs.Arena.{item_of, entry_at, count, Updates, Renews, FindsBy}
+use Rattle.triple_ord.specs.Arena.{item_of, entry_at, count, Updates, Renews, FindsBy, IsOfGeneration, IsNumbered}
 
 module _ {T : Type 0} where
   -- a pointer finds nothing at an index that has no entry
@@ -293,3 +294,32 @@ module _ {T K : Type 0} (key : T → K) (cmp : K → K → Ordering) (t : Tree T
     finds-key None c found = tt
     finds-key (Some p) c found =
         finds_here found.0 (entry_at-contained t.list.entries found.0 distinct found.2.within) p found.1 Equal found.2.equal
+
+-- what pointers find where all entries were moved
+module _ {T : Type 0} (a : Tree T) (g : ℕ) where
+  ended-of : ((i : ℕ) (e : ℕ × T) → entry_at a i ≡ Some e → e.0 ≡ g) → IsOfGeneration a g
+  ended-of same p apart = go (entry_at a p.0) refl
+    where
+      go : (o : Option (ℕ × T)) → entry_at a p.0 ≡ o → item_of a p ≡ None
+      go None is = item_of-absent a p is
+      go (Some e) is = elim (eqb_tells e.0 p.1) [
+        | inl h ↦ absurd (apart (sym h.1 ∙ same p.0 e is))
+        | inr h ↦ rw (is, h.0) refl
+      ]
+
+  pub ended-moved : (all es : List (Entry T)) (xs : List T) → a.list.entries ≡ map (moved all g xs) es → IsOfGeneration a g
+  ended-moved all es xs is = ended-of (λ i e found. generation-moved all g xs es i e (ap (λ (es : List (Entry T)). entry_among es i) (sym is) ∙ found))
+
+  pub found-numbered : (xs : List T) → a.list.entries ≡ numbered g 1 xs → IsNumbered a g xs
+  found-numbered xs is = record {
+    inside = λ k. let later : k + 1 ≡ 1 + k = omega arith in rw (is, later, entry_at-numbered g 1 xs k) (go (slice_get xs k));
+    outside = λ k. item_of-absent a (0, k) (rw is (entry_at-numbered_before g 1 xs 0 (omega arith)));
+    ended = ended-of (λ i e found. generation-numbered g 1 xs i e (ap (λ (es : List (Entry T)). entry_among es i) (sym is) ∙ found));
+  }
+    where
+      go : (o : Option T) → item_if g (option_map (λ x. (g, x)) o) ≡ o
+      go None = refl
+      go (Some x) = elim (eqb_tells g g) [
+        | inl h ↦ rw h.0 refl
+        | inr h ↦ absurd (h.1 refl)
+      ]

@@ -1,6 +1,6 @@
 -- An ordered arena as its callers see it: what pointers find in it, and its entries in order. A pointer is the pair of its
 -- index and its generation.
-use Rattle.std.specs.Prelude.{◌≡◌, ◌≢◌, ℕ, List, Option, Some, None, IsSomeAnd, length, map}
+use Rattle.std.specs.Prelude.{◌≡◌, ◌≢◌, ℕ, ◌+◌, List, Option, Some, None, IsSomeAnd, length, map, slice_get}
 use Rattle.std.specs.declared.cmp.Ordering.{Ordering}
 use Rattle.chain_base.specs.Chain.{entry_at as entry_among, item_of as item_among}
 use Rattle.ord_tree.specs.Tree.{Tree}
@@ -37,6 +37,16 @@ module _ {T : Type 0} where
     pub found : item_of new q ≡ item_of old p
     pub ended : q ≢ p → item_of new p ≡ None
     pub others : (r : ℕ × ℕ) → r ≢ p → r ≢ q → item_of new r ≡ item_of old r
+
+  -- all entries have the generation g: a pointer of another one finds nothing
+  abbrev pub IsOfGeneration : Tree T → ℕ → Type 0
+  IsOfGeneration a g = (p : ℕ × ℕ) → p.1 ≢ g → item_of a p ≡ None
+
+  -- the pointers of the indexes 1, 2 and so on, with generation g, find these items in turn, and no other pointer finds anything
+  pub record IsNumbered (a : Tree T) (g : ℕ) (found : List T) : Type 0 where
+    pub inside : (k : ℕ) → item_of a (k + 1, g) ≡ slice_get found k
+    pub outside : (k : ℕ) → item_of a (0, k) ≡ None
+    pub ended : IsOfGeneration a g
 
   -- no pointer finds anything
   abbrev pub FindsNothing : Tree T → Type 0

@@ -4,8 +4,8 @@ ghost use Rattle.std.specs.Option.{option_map, ForSome};
 ghost use Rattle.arena_base.specs.Arena.{IsFresh, IsOccupied};
 ghost use Rattle.arena_base.specs.Compression.{compressed_generation, compression_overflows};
 ghost use Rattle.arena_base.specs.Invalidation.{is_overflow};
-ghost use Rattle.chain_base.specs.Compression.{IsCompression};
 ghost use Rattle.arena_base.specs.Pointer.{named_of};
+ghost use Rattle.chain_base.specs.Compression.{relocated, IsCompression};
 ghost use Rattle.chain_base.specs.Naming.{CompressesItems, neighbour_on, linked_facing, IsPaired, NamesPlaces};
 
 use super::ChainArena;
@@ -33,6 +33,16 @@ impl<P: Ptr, T, A: Allocator> ChainArena<P, T, A> {
         ensures overflow { is_overflow result ≡ compression_overflows P.Gen.greatest reset self.old.generation }
     {
         self.compress_by(reset, Calls { f })
+    }
+
+    /// Moves all entries to the indexes from 1 on as `compress_with` does, each with the item that it has.
+    pub fn compress(&mut self, reset: bool) -> InvalidationOption<()>
+        ensures after { self.new ≡ relocated self.old (compressed_generation P.Gen.greatest reset self.old.generation) }
+        ensures overflow { is_overflow result ≡ compression_overflows P.Gen.greatest reset self.old.generation }
+    {
+        // The invariant of the list is needed: each of its indexes is within the capacity.
+        let _ = self.len();
+        self.compress_with(reset, |_old, item, _new| item)
     }
 
     /// Moves all entries to the indexes from 1 on as `compress_with` does, where `map` has the place of the closure.

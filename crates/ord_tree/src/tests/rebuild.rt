@@ -122,7 +122,7 @@ fn places(alloc: Global, tree: &Row) -> Result<Vec<Place>, Fail> {
 /// Rebuilds a tree of `len` entries, and compares it with what the recursive function says. Answers the ranks in order.
 fn rebuild(rt: &impl Abort, alloc: Global, len: usize) -> Result<Vec<u8>, Fail> {
     let mut tree = row(rt, alloc, len)?;
-    tree.rebuild();
+    let _ = tree.compress(false);
     let found = places(alloc, &tree)?;
     assert_eq!(rt; found.as_slice(), rebuilt(alloc, len)?.as_slice());
     assert_eq!(rt; place_of(tree.root()), middle_of(0, len));

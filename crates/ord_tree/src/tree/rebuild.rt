@@ -1,8 +1,13 @@
-//! Building the tree anew over the list.
+//! Moving all entries, and building the tree anew over the list.
 
-ghost use Rattle.std.specs.Prelude.{◌≡◌};
+ghost use Rattle.std.specs.Prelude.{◌≡◌, ◌<◌, ◌↔◌, OnOk, OnErr, length, map};
 ghost use Rattle.std.specs.Option.{option_map};
-ghost use Rattle.ord_tree.specs.Shape.{Shape};
+ghost use Rattle.arena_base.specs.Compression.{compressed_generation, compression_overflows};
+ghost use Rattle.arena_base.specs.Generation.{IsLawfulGeneration};
+ghost use Rattle.arena_base.specs.Invalidation.{is_overflow};
+ghost use Rattle.chain_base.specs.Chain.{chain_limit};
+ghost use Rattle.chain_base.specs.Compression.{compressed, entries_rising, IsCompression, IsTransfer};
+ghost use Rattle.ord_tree.specs.Shape.{Shape, missing};
 ghost use Rattle.ord_tree.specs.Half.{IsRebuilt};
 ghost use Rattle.ord_tree.specs.Node.{bare};
 ghost use Rattle.ord_tree.specs.Layout.{IsLaidOut};
@@ -11,17 +16,137 @@ use super::OrdTree;
 use crate::node::SimpleOrdArenaNode;
 use crate::node_inx::NodeInx;
 use crate::rebuild::rebuild;
-use arena_base::Ptr;
-use chain_base::ChainArena;
+use arena_base::{Calls, InvalidationOption, MapEntry, Ptr, ReallocationError};
+use chain_base::{ChainArena, MapTaken};
 use std::alloc::Allocator;
 
 impl<P: Ptr, T, A: Allocator> OrdTree<P, T, A> {
-    /// Builds the tree anew over the list, which stays. For n entries it takes O(n) time, and no memory.
-    pub(crate) fn rebuild(&mut self)
+    /// Moves all entries to the indexes from 1 on, in the order of their indexes, and gives them all one generation, which
+    /// becomes the arena's: the first where `reset` is true, else the next one. Then the tree is built anew; the list keeps its
+    /// order.
+    ///
+    /// The answer says whether the generations began again because the next one comes after the greatest. For each entry, by
+    /// rising index, `f` is called with its old pointer, its item and its new pointer, and gives the item that the entry has
+    /// then. The capacity stays, and all vacant slots count as never used. It takes O(capacity) time, and no memory.
+    pub fn compress_with<F: FnMut(P, T, P) -> T + Drop>(
+        &mut self,
+        reset: bool,
+        f: F,
+    ) -> InvalidationOption<()>
+        requires { F.IsAlwaysCallable f }
+        ensures after { IsCompression P.index P.era F.step
+            (compressed_generation P.Gen.greatest reset self.old.list.generation) f self.old.list self.new.list }
         ensures shape { IsRebuilt self.new.shape }
-        ensures list { self.new.list ≡ self.old.list }
+        ensures overflow { is_overflow result ≡ compression_overflows P.Gen.greatest reset self.old.list.generation }
     {
+        let map = MapNode { map: Calls { f } };
+        let overflow = self.chain.compress_by(reset, map);
         rebuild_over(&mut self.chain, &mut self.root);
+        overflow
+    }
+
+    /// Moves all entries to the indexes from 1 on as `compress_with` does, each with the item that it has.
+    pub fn compress(&mut self, reset: bool) -> InvalidationOption<()>
+        ensures after { self.new.list ≡ compressed self.old.list
+            (compressed_generation P.Gen.greatest reset self.old.list.generation)
+            (map (λ e. e.2) (entries_rising self.old.list)) }
+        ensures shape { IsRebuilt self.new.shape }
+        ensures overflow { is_overflow result ≡ compression_overflows P.Gen.greatest reset self.old.list.generation }
+    {
+        self.compress_with(reset, |_old, item, _new| item)
+    }
+
+    /// Takes all entries out of the source, in order, and puts one for each into this tree, whose old entries are dropped: at
+    /// the indexes from 1 on, with this generation, which becomes the tree's. The capacity grows to their number where it was
+    /// less.
+    ///
+    /// For each entry `f` is called with its old pointer, its item, with what the removal says of the source's generations, and
+    /// its new pointer, and gives the item that the new entry has. Each removal raises the source's generation once, and the
+    /// source keeps its capacity.
+    ///
+    /// It is refused with `BeyondMaxCapacity` where the source has more entries than this tree's limit, and with `AllocError`
+    /// where the capacity would grow and memory is refused. Nothing changes then, and `f` isn't called.
+    pub fn transfer_canonical_reallocating<
+        Q: Ptr,
+        U,
+        B: Allocator,
+        F: FnMut(Q, InvalidationOption<U>, P) -> T + Drop,
+    >(
+        &mut self,
+        new_generation: P::Gen,
+        source: &mut OrdTree<Q, U, B>,
+        f: F,
+    ) -> Result<(), ReallocationError>
+    where
+        T: Drop,
+        requires lawful { IsLawfulGeneration P.Gen.greatest (P.Gen.number new_generation) }
+        requires callable { F.IsAlwaysCallable f }
+        ensures ok { OnOk result (IsTransfer Q.index Q.era P.index P.era Q.Gen.greatest F.step
+            (P.Gen.number new_generation) f source.old.list source.new.list self.old.list self.new.list) }
+        ensures shape { OnOk result (IsRebuilt self.new.shape) }
+        ensures left { OnOk result (source.new.shape ≡ missing) }
+        ensures beyond { (result ≡ Err ReallocationError.BeyondMaxCapacity)
+            ↔ (chain_limit P.Inx.most self.old.list < length source.old.list.entries) }
+        ensures memory { result ≡ Err ReallocationError.AllocError
+            → self.old.list.capacity < length source.old.list.entries }
+        ensures err { OnErr result (self.new ≡ self.old) }
+        ensures err_source { OnErr result (source.new ≡ source.old) }
+    {
+        let map = MapNode { map: Calls { f } };
+        self.chain
+            .transfer_by(new_generation, &mut source.chain, map)?;
+        source.root = None;
+        rebuild_over(&mut self.chain, &mut self.root);
+        Ok(())
+    }
+}
+
+/// Makes a new item within a node, which stands alone until the tree is built anew.
+#[doc(hidden)]
+#[derive(Drop)]
+pub struct MapNode<M> {
+    map: M,
+}
+
+impl<P: Ptr, T, M: MapEntry<P, T>> MapEntry<P, SimpleOrdArenaNode<P, T>> for MapNode<M> {
+    ghost callable = { λ m. M.callable m.map };
+
+    ghost step = { λ m old node new answer n. M.step m.map old node.t new answer.t n.map };
+
+    fn map_entry(
+        &mut self,
+        old: P,
+        node: SimpleOrdArenaNode<P, T>,
+        new: P,
+    ) -> SimpleOrdArenaNode<P, T> {
+        SimpleOrdArenaNode::leaf(None, self.map.map_entry(old, node.t, new))
+    }
+}
+
+impl<Q: Ptr, U, P: Ptr, T, M: MapTaken<Q, U, P, T>> MapTaken<
+    Q,
+    SimpleOrdArenaNode<Q, U>,
+    P,
+    SimpleOrdArenaNode<P, T>,
+> for MapNode<M> {
+    ghost use Rattle.ord_tree.specs.MapNode.{MapsTaken};
+
+    ghost callable = { λ m. M.callable m.map };
+
+    ghost step = { λ m old taken new answer n. MapsTaken M.step m.map old taken new answer n.map };
+
+    fn map_taken(
+        &mut self,
+        old: Q,
+        taken: InvalidationOption<SimpleOrdArenaNode<Q, U>>,
+        new: P,
+    ) -> SimpleOrdArenaNode<P, T>
+        requires { M.callable self.old.map }
+        ensures step { MapsTaken M.step self.old.map old taken new result self.new.map }
+        ensures callable { M.callable self.new.map }
+    {
+        let plain = taken.map(|node| node.t);
+        SimpleOrdArenaNode::leaf(None, self.map.map_taken(old, plain, new))
     }
 }
 

@@ -1,0 +1,343 @@
+-- The steps of a transfer.
+use Rattle.std.proofs.Common.{◌≡◌, ◌≢◌, ℕ, zero, suc, ◌+◌, ◌-◌, ◌<◌, ◌≤◌, max, List, [], ◌∷◌, ◌++◌, map, length, length-append, append_assoc, Option, Some, None, OnSome, OnOk, IsOk, IsErr, Result, Ok, Err, IsSome, is_some, true, slice_get, if◌then◌else◌, refl, sym, ap, subst, ◌∙◌, arith, inl, inr}
+use Rattle.std.proofs.lemmas.Bool.Decides.{eqb_tells}
+use Rattle.std.specs.List.{FoldsTo}
+use Rattle.std.proofs.lemmas.Fn.{FoldsTo-push}
+use Rattle.std.proofs.lemmas.List.{append-nil, length-map, map_push}
+use Rattle.std.proofs.lemmas.Option.{same_Some}
+use Rattle.std.specs.Option.{option_map}
+use Rattle.arena_base.specs.Generation.{overflows_after}
+use Rattle.arena_base.specs.Invalidation.{allowed_value, is_overflow}
+use Rattle.arena_base.specs.declared.invalidation.InvalidationOption.{InvalidationOption}
+use Rattle.chain_base.specs.Link.{Link}
+use Rattle.chain_base.specs.Chain.{Entry, Chain, times, entry_at, first_pointer, link_at, insert_after, vacant_among, removed, with_capacity, greatest_index, inserted, IsSound}
+use Rattle.chain_base.specs.Insert.{placed, CanPlace}
+use Rattle.chain_base.specs.Compression.{numbered, refilled, Transferring, TransferStep, IsTransfer}
+use Rattle.chain_base.specs.Transfer.{filled_with, last_of, place_behind, TakesOut, HasTaken}
+use Rattle.chain_base.proofs.Vacancy.{times-greatest}
+
+-- what is there is said
+pub on_taken : {X Y : Type 0} (f : X → Y) (y : Y) (o : Option X) (A : Type 0) → option_map f o ≡ Some y → OnSome o A → A
+on_taken f y None A is some = absurd cc
+on_taken f y (Some x) A is some = some
+
+module _ {T : Type 0} where
+  -- a capacity that is raised
+  greatest-within : (most : ℕ) (greatest : Option ℕ) (c : Chain T) → IsSound most greatest c → greatest_index c.entries ≤ c.capacity
+  greatest-within most greatest c sound = go c.entries (λ i some. (sound.within i some).1)
+    where
+      go : (es : List (Entry T)) → ((i : ℕ) → 1 ≤ times i es → i ≤ c.capacity) → greatest_index es ≤ c.capacity
+      go [] within = omega arith
+      go (e ∷ es) within = within (greatest_index (e ∷ es)) (times-greatest e es)
+
+  pub capacity-raised : {X E : Type 0} (most : ℕ) (greatest : Option ℕ) (c new : Chain T) (n : ℕ) (r : Result X E) → IsSound most greatest c → c.capacity < n
+      → OnOk r (new ≡ with_capacity c (max n (greatest_index c.entries))) → OnOk r (new.capacity ≡ max c.capacity n)
+  capacity-raised most greatest c new n (Ok x) sound less is =
+      ap (λ (c : Chain T). c.capacity) is ∙ omega (arith, greatest-within most greatest c sound, less)
+  capacity-raised most greatest c new n (Err e) sound less is = tt
+
+  -- the item in a link, under a generation or its number
+  pub item-numbered : {G : Type 0} (number : G → ℕ) (o : Option (G × Link T)) → option_map (λ (e : ℕ × Link T). e.1.item) (option_map (λ (e : G × Link T). (number e.0, e.1)) o) ≡ option_map (λ (e : G × Link T). e.1.item) o
+  item-numbered number None = refl
+  item-numbered number (Some e) = refl
+
+  -- the first entry is taken out
+  pub takes-out : {Q : Type 0} (index era : Q → ℕ) (greatest : Option ℕ) (old new : Chain T) (from : Q) (taken : InvalidationOption T)
+      → Some (index from, era from) ≡ first_pointer old.entries → Some (allowed_value taken) ≡ option_map (λ e. e.1.item) (link_at old.entries (index from))
+      → is_overflow taken ≡ overflows_after greatest old.generation → new ≡ removed greatest old (index from) → TakesOut index era greatest old new from taken
+  takes-out index era greatest old new from taken head value overflow gone = go old.entries refl
+    where
+      go : (es : List (Entry T)) → old.entries ≡ es → TakesOut index era greatest old new from taken
+      go [] is = let none : Some (index from, era from) ≡ None = rw is at head in absurd cc
+      go (e ∷ rest) is = elim (eqb_tells e.index e.index) [
+        | inr h ↦ absurd (h.1 refl)
+        | inl h ↦
+            let first : Some (index from, era from) ≡ Some (e.index, e.generation) = rw is at head in
+            let pair : ◌≡◌ {A = ℕ × ℕ} (index from, era from) (e.index, e.generation) = same_Some (index from, era from) (e.index, e.generation) first in
+            let at : index from ≡ e.index = ap (λ (p : ℕ × ℕ). p.0) pair in
+            let of : era from ≡ e.generation = ap (λ (p : ℕ × ℕ). p.1) pair in
+            let shown : Some (allowed_value taken) ≡ Some e.item = rw (is, at, h.0) at value in
+            record {
+              entry = e;
+              rest = rest;
+              split = is;
+              from_index = at;
+              from_era = of;
+              taken_item = same_Some (allowed_value taken) e.item shown;
+              taken_overflow = overflow;
+              left = ap (λ (c : Chain T). c.entries) gone ∙ rw (is, at, h.0) refl;
+              capacity = ap (λ (c : Chain T). c.capacity) gone;
+              maximum = ap (λ (c : Chain T). c.maximum) gone;
+              raised = ap (λ (c : Chain T). c.generation) gone;
+            }
+      ]
+
+  -- entries numbered in a row, and one more
+  numbered-push : (g from : ℕ) (xs : List T) (x : T) → numbered g from (xs ++ x ∷ []) ≡ numbered g from xs ++ record { index = from + length xs; generation = g; item = x } ∷ []
+  numbered-push g from [] x = let same : from ≡ from + 0 = omega arith in ap (λ (i : ℕ). record { index = i; generation = g; item = x } ∷ []) same
+  numbered-push g from (y ∷ ys) x =
+      let later : from + 1 + length ys ≡ from + suc (length ys) = omega arith in
+      ap (λ (es : List (Entry T)). record { index = from; generation = g; item = y } ∷ es)
+      (numbered-push g (from + 1) ys x ∙ ap (λ (i : ℕ). numbered g (from + 1) ys ++ record { index = i; generation = g; item = x } ∷ []) later)
+
+  insert_after-last : (g from : ℕ) (x : T) (xs : List T) (new : Entry T) → insert_after (from + length xs) new (numbered g from (x ∷ xs)) ≡ numbered g from (x ∷ xs) ++ new ∷ []
+  insert_after-last g from x [] new = elim (eqb_tells from (from + 0)) [
+    | inl h ↦ rw h.0 refl
+    | inr h ↦ absurd (h.1 (omega arith))
+  ]
+  insert_after-last g from x (y ∷ ys) new = elim (eqb_tells from (from + suc (length ys))) [
+    | inl h ↦ absurd (omega (arith, h.1))
+    | inr h ↦
+        let later : from + suc (length ys) ≡ from + 1 + length ys = omega arith in
+        rw h.0 (ap (λ (es : List (Entry T)). record { index = from; generation = g; item = x } ∷ es)
+        (ap (λ i. insert_after i new (numbered g (from + 1) (y ∷ ys))) later ∙ insert_after-last g (from + 1) y ys new))
+  ]
+
+  entry_at-last : (g from : ℕ) (x : T) (xs : List T) → is_some (entry_at (numbered g from (x ∷ xs)) (from + length xs)) ≡ true
+  entry_at-last g from x [] = elim (eqb_tells from (from + 0)) [
+    | inl h ↦ rw h.0 refl
+    | inr h ↦ absurd (h.1 (omega arith))
+  ]
+  entry_at-last g from x (y ∷ ys) = elim (eqb_tells from (from + suc (length ys))) [
+    | inl h ↦ absurd (omega (arith, h.1))
+    | inr h ↦
+        let later : from + suc (length ys) ≡ from + 1 + length ys = omega arith in
+        rw h.0 (ap (λ i. is_some (entry_at (numbered g (from + 1) (y ∷ ys)) i)) later ∙ entry_at-last g (from + 1) y ys)
+  ]
+
+  module _ (P G : Type 0) {I : Type 0} (number : I → ℕ) where
+    pub can_place-behind : (last : Option I) (c : Chain T) (items : List T) → option_map number last ≡ last_of (length items) → CanPlace {P = P} {I = I} {G = G} number (place_behind last) (filled_with c items)
+    can_place-behind None c [] is = refl
+    can_place-behind None c (x ∷ xs) is = absurd cc
+    can_place-behind (Some i) c [] is = absurd cc
+    can_place-behind (Some i) c (x ∷ xs) is =
+        let at : number i ≡ 1 + length xs = let same : number i ≡ suc (length xs) = cc in omega (arith, same) in
+        rw at (entry_at-last c.generation 1 x xs)
+
+    pub placed-behind : (last : Option I) (g : ℕ) (items : List T) (new : Entry T) → option_map number last ≡ last_of (length items)
+        → placed {P = P} {I = I} {G = G} number (place_behind last) (numbered g 1 items) new ≡ numbered g 1 items ++ new ∷ []
+    placed-behind None g [] new is = refl
+    placed-behind None g (x ∷ xs) new is = absurd cc
+    placed-behind (Some i) g [] new is = absurd cc
+    placed-behind (Some i) g (x ∷ xs) new is =
+        let at : number i ≡ 1 + length xs = let same : number i ≡ suc (length xs) = cc in omega (arith, same) in
+        ap (λ k. insert_after k new (numbered g 1 (x ∷ xs))) at ∙ insert_after-last g 1 x xs new
+
+  -- the vacant indexes beside them
+  times-before : (g from : ℕ) (xs : List T) (j : ℕ) → j < from → times j (numbered g from xs) ≡ 0
+  times-before g from [] j less = refl
+  times-before g from (x ∷ xs) j less = elim (eqb_tells from j) [
+    | inl h ↦ absurd (omega (arith, h.1, less))
+    | inr h ↦ rw h.0 (omega (arith, times-before g (from + 1) xs j (omega (arith, less))))
+  ]
+
+  times-among : (g from : ℕ) (xs : List T) (j : ℕ) → from ≤ j → j < from + length xs → times j (numbered g from xs) ≡ 1
+  times-among g from [] j more less = absurd (omega (arith, more, less))
+  times-among g from (x ∷ xs) j more less = elim (eqb_tells from j) [
+    | inl h ↦ rw h.0 (omega (arith, times-before g (from + 1) xs j (omega (arith, h.1))))
+    | inr h ↦ rw h.0 (omega (arith, times-among g (from + 1) xs j (omega (arith, more, h.1)) (omega (arith, less))))
+  ]
+
+  times-behind : (g from : ℕ) (xs : List T) (j : ℕ) → from + length xs ≤ j → times j (numbered g from xs) ≡ 0
+  times-behind g from [] j more = refl
+  times-behind g from (x ∷ xs) j more = elim (eqb_tells from j) [
+    | inl h ↦ absurd (omega (arith, h.1, more))
+    | inr h ↦ rw h.0 (omega (arith, times-behind g (from + 1) xs j (omega (arith, more))))
+  ]
+
+  vacant-all : (es : List (Entry T)) (from count : ℕ) → ((j : ℕ) → from ≤ j → times j es ≡ 0) → vacant_among es from count ≡ vacant_among {T = T} [] from count
+  vacant-all es from zero none = refl
+  vacant-all es from (suc count) none = rw (none from (omega arith)) (ap (λ is. from ∷ is) (vacant-all es (from + 1) count (λ j more. none j (omega (arith, more)))))
+
+  vacant-none : (es : List (Entry T)) (from n m : ℕ) → ((j : ℕ) → from ≤ j → j < from + n → times j es ≡ 1) → vacant_among es from (n + m) ≡ vacant_among es (from + n) m
+  vacant-none es from zero m all = let same : from ≡ from + 0 = omega arith in let none : 0 + m ≡ m = omega arith in ap (λ n. vacant_among es from n) none ∙ ap (λ i. vacant_among es i m) same
+  vacant-none es from (suc n) m all =
+      let later : from + 1 + n ≡ from + suc n = omega arith in
+      let more : suc n + m ≡ suc (n + m) = omega arith in
+      ap (vacant_among es from) more
+      ∙ rw (all from (omega arith) (omega arith)) (vacant-none es (from + 1) n m (λ j more less. all j (omega (arith, more)) (omega (arith, less))) ∙ ap (λ i. vacant_among es i m) later)
+
+  vacant-numbered : (g : ℕ) (xs : List T) (m : ℕ) → vacant_among (numbered g 1 xs) 1 (length xs + m) ≡ vacant_among {T = T} [] (1 + length xs) m
+  vacant-numbered g xs m =
+      vacant-none (numbered g 1 xs) 1 (length xs) m (times-among g 1 xs) ∙ vacant-all (numbered g 1 xs) (1 + length xs) m (times-behind g 1 xs)
+
+  pub vacant-next : (c : Chain T) (items : List T) (x : T) → length items < c.capacity → (filled_with c items).vacant ≡ (1 + length items) ∷ (filled_with c (items ++ x ∷ [])).vacant
+  vacant-next c items x less =
+      let m = c.capacity - length items - 1 in
+      let now : c.capacity ≡ length items + suc m = omega (arith, less) in
+      let after : c.capacity ≡ length (items ++ x ∷ []) + m = omega (arith, less, length-append items (x ∷ [])) in
+      let later : 1 + length (items ++ x ∷ []) ≡ 1 + length items + 1 = omega (arith, length-append items (x ∷ [])) in
+      ap (vacant_among (numbered c.generation 1 items) 1) now ∙ vacant-numbered c.generation items (suc m)
+      ∙ ap (λ is. (1 + length items) ∷ is) (sym (ap (vacant_among (numbered c.generation 1 (items ++ x ∷ [])) 1) after ∙ vacant-numbered c.generation (items ++ x ∷ []) m ∙ ap (λ i. vacant_among {T = T} [] i m) later))
+
+  -- one more
+  pub filled-more : (c : Chain T) (items : List T) (x : T) (place : Entry T → List (Entry T)) → length items < c.capacity
+      → ((new : Entry T) → place new ≡ numbered c.generation 1 items ++ new ∷ []) → inserted (filled_with c items) place x ≡ filled_with c (items ++ x ∷ [])
+  filled-more c items x place less puts =
+      rw (vacant-next c items x less)
+      (ap (λ (es : List (Entry T)). record { entries = es; capacity = c.capacity; vacant = (filled_with c (items ++ x ∷ [])).vacant; generation = c.generation; maximum = c.maximum })
+      (puts (record { index = 1 + length items; generation = c.generation; item = x }) ∙ sym (numbered-push c.generation 1 items x)))
+
+  -- there is room
+  length-numbered : (g from : ℕ) (xs : List T) → length (numbered g from xs) ≡ length xs
+  length-numbered g from [] = refl
+  length-numbered g from (x ∷ xs) = ap suc (length-numbered g (from + 1) xs)
+
+  pub has-room : {X E : Type 0} (r : Result X E) (c : Chain T) (items : List T) → length items < c.capacity → (IsErr r → length (filled_with c items).entries ≡ c.capacity) → IsOk r
+  has-room (Ok x) c items less full = refl
+  has-room (Err e) c items less full = absurd (omega (arith, less, full refl, length-numbered c.generation 1 items))
+
+  -- the next index
+  vacant-first : (c : Chain T) (items : List T) → length items < c.capacity → slice_get (filled_with c items).vacant 0 ≡ Some (1 + length items)
+  vacant-first c items less =
+      let now : c.capacity ≡ length items + suc (c.capacity - length items - 1) = omega (arith, less) in
+      ap (λ n. slice_get (vacant_among (numbered c.generation 1 items) 1 n) 0) now ∙ ap (λ is. slice_get is 0) (vacant-numbered c.generation items (suc (c.capacity - length items - 1)))
+
+  module _ {P : Type 0} (index : P → ℕ) (c chain : Chain T) (items : List T) (less : length items < c.capacity) (put : chain ≡ filled_with c items) where
+    next-is : (o : Option P) (vacant : List ℕ) → vacant ≡ chain.vacant → option_map index o ≡ slice_get vacant 0 → option_map index o ≡ Some (1 + length items)
+    next-is o vacant same is = is ∙ ap (λ is. slice_get is 0) (same ∙ ap (λ (c : Chain T). c.vacant) put) ∙ vacant-first c items less
+
+    pub next-some : (o : Option P) (vacant : List ℕ) → vacant ≡ chain.vacant → option_map index o ≡ slice_get vacant 0 → is_some o ≡ true
+    next-some None vacant same is = absurd (let none = next-is None vacant same is in cc)
+    next-some (Some p) vacant same is = refl
+
+    pub next-at : (p : P) (o : Option P) (vacant : List ℕ) → o ≡ Some p → vacant ≡ chain.vacant → option_map index o ≡ slice_get vacant 0 → index p ≡ length items + 1
+    next-at p o vacant found same is =
+        let at : ◌≡◌ {A = ℕ} (index p) (1 + length items) = same_Some (index p) (1 + length items) (ap (option_map index) (sym found) ∙ next-is o vacant same is) in omega (arith, at)
+
+-- one entry more has gone over
+module _ {P Q T U M : Type 0} (index_from era_from : Q → ℕ) (index_to era_to : P → ℕ) (greatest : Option ℕ) (step : M → Q → InvalidationOption U → P → T → M → Type 0) (m : M) (source : Chain U) (c : Chain T) where
+  abbrev Taken : Chain U → Chain T → M → Type 0
+  Taken rest now n = HasTaken index_from era_from index_to era_to greatest step m source rest c now n
+
+  abbrev pub taken-none : c ≡ filled_with c [] → Taken source c m
+  taken-none empty = record { gone = []; items = []; split = refl; calls = refl; count = refl; put = empty; capacity = refl; maximum = refl }
+
+  abbrev pub taken-more : (rest after : Chain U) (now then_now : Chain T) (n n' : M) (from : Q) (taken : InvalidationOption U) (to : P) (item : T) (h : Taken rest now n)
+      → TakesOut index_from era_from greatest rest after from taken → index_to to ≡ length h.items + 1 → era_to to ≡ c.generation → step n from taken to item n'
+      → then_now ≡ filled_with c (h.items ++ item ∷ []) → Taken after then_now n'
+  taken-more rest after now then_now n n' from taken to item h t at of called put = record {
+    gone = h.gone ++ t.entry ∷ [];
+    items = h.items ++ item ∷ [];
+    split = h.split ∙ ap (λ es. h.gone ++ es) (t.split ∙ ap (λ es. t.entry ∷ es) (sym t.left)) ∙ sym (append_assoc h.gone (t.entry ∷ []) after.entries);
+    calls =
+        FoldsTo-push (TransferStep index_from era_from index_to era_to greatest step c.generation) (record { closure = m; items = []; generation = source.generation }) h.gone
+        (record { closure = n; items = h.items; generation = rest.generation }) t.entry (record { closure = n'; items = h.items ++ item ∷ []; generation = after.generation }) h.calls
+        (record {
+          from = from;
+          taken = taken;
+          to = to;
+          item = item;
+          from_index = t.from_index;
+          from_era = t.from_era;
+          taken_item = t.taken_item;
+          taken_overflow = t.taken_overflow;
+          to_index = at;
+          to_era = of;
+          called = called;
+          behind = refl;
+          raised = t.raised;
+        });
+    count = omega (arith, h.count, length-append h.items (item ∷ []), length-append h.gone (t.entry ∷ []));
+    put = put;
+    capacity = t.capacity ∙ h.capacity;
+    maximum = t.maximum ∙ h.maximum;
+  }
+
+  pub rest-some : (rest : Chain U) (now : Chain T) (n : M) (h : Taken rest now n) → length h.gone < length source.entries → 0 < length rest.entries
+  rest-some rest now n h less = omega (arith, less, ap length h.split, length-append h.gone rest.entries)
+
+  pub rest-none : (rest : Chain U) (now : Chain T) (n : M) (h : Taken rest now n) → length source.entries ≤ length h.gone → rest.entries ≡ []
+  rest-none rest now n h all = go rest.entries (omega (arith, all, ap length h.split, length-append h.gone rest.entries))
+    where
+      go : (es : List (Entry U)) → length es ≡ 0 → es ≡ []
+      go [] none = refl
+      go (e ∷ es) none = absurd (omega (arith, none))
+
+-- the last index is one more
+pub last-more : {I T : Type 0} (number : I → ℕ) (i : I) (items : List T) (item : T) → number i ≡ length items + 1 → Some (number i) ≡ last_of (length (items ++ item ∷ []))
+last-more number i items item at =
+    let count : length (items ++ item ∷ []) ≡ suc (length items) = omega (arith, length-append items (item ∷ [])) in
+    let same : number i ≡ suc (length items) = omega (arith, at) in
+    ap Some same ∙ ap last_of (sym count)
+
+-- a whole transfer
+module _ {P Q T U M : Type 0} (index_from era_from : Q → ℕ) (index_to era_to : P → ℕ) (greatest : Option ℕ) (step : M → Q → InvalidationOption U → P → T → M → Type 0) where
+  refilled-same : (c d : Chain T) (g : ℕ) (es : List (Entry T)) → c.capacity ≡ d.capacity → c.maximum ≡ d.maximum → refilled c g es ≡ refilled d g es
+  refilled-same c d g es capacity maximum = rw (capacity, maximum) refl
+
+  pub transferred : {X E : Type 0} (g : ℕ) (m n : M) (source rest source_after : Chain U) (old base new : Chain T) (r : Result X E) (x : X)
+      → base.generation ≡ g → base.capacity ≡ max old.capacity (length source.entries) → base.maximum ≡ old.maximum
+      → HasTaken index_from era_from index_to era_to greatest step m source rest base new n → rest.entries ≡ []
+      → r ≡ Ok x → OnOk r (source_after ≡ with_capacity rest (max rest.capacity (greatest_index rest.entries)))
+      → IsTransfer index_from era_from index_to era_to greatest step g m source source_after old new
+  transferred g m n source rest source_after old base new r x era capacity maximum h all is sized =
+      let whole : source.entries ≡ h.gone = h.split ∙ ap (λ es. h.gone ++ es) all ∙ append-nil h.gone in
+      let shrunk : source_after ≡ with_capacity rest (max rest.capacity (greatest_index rest.entries)) = rw is at sized in
+      let none : greatest_index rest.entries ≡ 0 = ap greatest_index all in
+      let size : max rest.capacity (greatest_index rest.entries) ≡ source.capacity = omega (arith, h.capacity, none) in
+      let count : max old.capacity (length source.entries) ≡ max old.capacity (length h.items) = ap (max old.capacity) (ap length whole ∙ sym h.count) in
+      record {
+        last = record { closure = n; items = h.items; generation = rest.generation };
+        calls = rw (whole, ← era) h.calls;
+        left = shrunk ∙ rw (size, all, h.maximum) refl;
+        after = h.put ∙ rw era (refilled-same base (record old { capacity = max old.capacity (length h.items) }) g (numbered g 1 h.items) (capacity ∙ count) maximum);
+      }
+
+-- Calls of one kind are calls of another: `state`, `item` and `part` give the other's states and items.
+module _ {P Q S F X T V U : Type 0} (index_from era_from : Q → ℕ) (index_to era_to : P → ℕ) (greatest : Option ℕ)
+    (below : S → Q → InvalidationOption V → P → X → S → Type 0) (above : F → Q → InvalidationOption U → P → T → F → Type 0) (state : S → F) (item : X → T) (part : V → U)
+    (like : (s : S) (q : Q) (taken : InvalidationOption V) (p : P) (x : X) (t : S) → below s q taken p x t
+    → (plain : InvalidationOption U) × (allowed_value plain ≡ part (allowed_value taken)) × (is_overflow plain ≡ is_overflow taken) × above (state s) q plain p (item x) (state t)) where
+  abbrev pub retold : Transferring S X → Transferring F T
+  retold s = record { closure = state s.closure; items = map item s.items; generation = s.generation }
+
+  -- an entry with the other's item
+  abbrev pub part_entry : Entry V → Entry U
+  part_entry e = record { index = e.index; generation = e.generation; item = part e.item }
+
+  pub steps-retold : (g : ℕ) (es : List (Entry V)) (s t : Transferring S X) → FoldsTo (TransferStep index_from era_from index_to era_to greatest below g) s es t
+      → FoldsTo (TransferStep index_from era_from index_to era_to greatest above g) (retold s) (map part_entry es) (retold t)
+  steps-retold g [] s t h = ap retold h
+  steps-retold g (e ∷ es) s t h =
+      let one = h.1 in
+      let call = like s.closure one.from one.taken one.to one.item h.0.closure one.called in (
+        retold h.0,
+        record {
+          from = one.from;
+          taken = call.0;
+          to = one.to;
+          item = item one.item;
+          from_index = one.from_index;
+          from_era = one.from_era;
+          taken_item = call.1 ∙ ap part one.taken_item;
+          taken_overflow = call.2 ∙ one.taken_overflow;
+          to_index = one.to_index ∙ ap (λ n. n + 1) (sym (length-map s.items item));
+          to_era = one.to_era;
+          called = call.3;
+          behind = ap (map item) one.behind ∙ map_push item s.items one.item;
+          raised = one.raised;
+        },
+        steps-retold g es h.0 t h.2,
+      )
+
+map-itself : {X : Type 0} (f : X → X) → ((x : X) → f x ≡ x) → (xs : List X) → map f xs ≡ xs
+map-itself f itself [] = refl
+map-itself f itself (x ∷ xs) = rw (itself x, map-itself f itself xs) refl
+
+-- the same items, in other states
+pub transfer-retold : {P Q S F T U X E : Type 0} (index_from era_from : Q → ℕ) (index_to era_to : P → ℕ) (greatest : Option ℕ)
+    (below : S → Q → InvalidationOption U → P → T → S → Type 0) (above : F → Q → InvalidationOption U → P → T → F → Type 0) (state : S → F)
+    → ((s : S) (q : Q) (taken : InvalidationOption U) (p : P) (x : T) (t : S) → below s q taken p x t → above (state s) q taken p x (state t))
+    → (g : ℕ) (s : S) (source source_after : Chain U) (old new : Chain T) (r : Result X E) → OnOk r (IsTransfer index_from era_from index_to era_to greatest below g s source source_after old new)
+    → OnOk r (IsTransfer index_from era_from index_to era_to greatest above g (state s) source source_after old new)
+transfer-retold {T = T} {U = U} index_from era_from index_to era_to greatest below above state like g s source source_after old new (Ok x) h =
+    let steps = steps-retold index_from era_from index_to era_to greatest below above state (λ x. x) (λ x. x) (λ s q taken p x t called. (taken, refl, refl, like s q taken p x t called)) g source.entries
+    (record { closure = s; items = []; generation = source.generation }) h.last h.calls in
+    record {
+      last = record { closure = state h.last.closure; items = h.last.items; generation = h.last.generation };
+      calls = rw (map-itself (λ (e : Entry U). record { index = e.index; generation = e.generation; item = e.item }) (λ e. refl) source.entries, map-itself (λ (x : T). x) (λ x. refl) h.last.items) at steps;
+      left = h.left;
+      after = h.after;
+    }
+transfer-retold index_from era_from index_to era_to greatest below above state like g s source source_after old new (Err e) h = tt

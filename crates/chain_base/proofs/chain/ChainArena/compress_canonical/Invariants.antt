@@ -1,0 +1,11 @@
+use Rattle.std.proofs.Common.{length, map}
+use Rattle.std.specs.Option.{option_map}
+use Rattle.arena_base.specs.Compression.{compressed_generation}
+use Rattle.chain_base.specs.Compression.{relocated}
+use Rattle.chain_base.proofs.Canonical.{CanonicalBelow}
+use Rattle.chain_base.proofs.chain.ChainArena.compress_canonical.Given as goal
+
+abbrev pub invariant-loop-place : goal.invariant-loop-place
+invariant-loop-place g l =
+    let generation = compressed_generation g.P.Gen.PtrGen.greatest l.fn.reset l.fn.self.generation in
+    CanonicalBelow (relocated l.fn.self generation) generation (length l.fn.self.entries) (map (λ e. e.item) l.fn.self.entries) l.self (option_map g.P.Inx.PtrInx.number l.at) l.place

@@ -1,0 +1,6 @@
+use Rattle.chain_base.proofs.Transferring.{transfer-retold}
+use Rattle.chain_base.proofs.chain.ChainArena.transfer_canonical_reallocating.Goals as goal
+
+pub returns-clause-ok : goal.returns-clause-ok
+returns-clause-ok g c =
+    transfer-retold g.Q.Ptr.index g.Q.Ptr.era g.P.Ptr.index g.P.Ptr.era g.Q.Gen.PtrGen.greatest _ _ (λ m. m.f) (λ s q taken p x t called. called) _ _ _ _ _ _ c.transfer_by.result c.transfer_by.ensures.ok

@@ -1,0 +1,52 @@
+-- The steps of a transfer. No public clause cites this file.
+use Rattle.std.specs.Prelude.{◌≡◌, ℕ, zero, suc, ◌+◌, List, [], ◌∷◌, ◌++◌, length, Option, Some, None}
+use Rattle.std.specs.List.{FoldsTo}
+use Rattle.arena_base.specs.Generation.{next_generation, overflows_after}
+use Rattle.arena_base.specs.Invalidation.{allowed_value, is_overflow}
+use Rattle.arena_base.specs.declared.invalidation.InvalidationOption.{InvalidationOption}
+use Rattle.chain_base.specs.declared.chain.insert.LinkInsertKind.{LinkInsertKind}
+use Rattle.chain_base.specs.declared.chain.insert.LinkInsertKind.TheVariants.{Disconnected, NextToInx}
+use Rattle.chain_base.specs.Chain.{Entry, Chain}
+use Rattle.chain_base.specs.Compression.{numbered, refilled, Transferring, TransferStep}
+
+-- c with entries of these items alone, at the indexes from 1 on
+abbrev pub filled_with : {T : Type 0} → Chain T → List T → Chain T
+filled_with c items = refilled c c.generation (numbered c.generation 1 items)
+
+-- the last index among so many from 1 on
+abbrev pub last_of : ℕ → Option ℕ
+last_of zero = None
+last_of (suc n) = Some (suc n)
+
+-- the place behind the last entry, or alone where there is none
+abbrev pub place_behind : {P I G : Type 0} → Option I → LinkInsertKind P I G
+place_behind None = Disconnected
+place_behind (Some i) = NextToInx i
+
+-- the first entry was taken out
+pub record TakesOut {Q U : Type 0} (index era : Q → ℕ) (greatest : Option ℕ) (old new : Chain U) (from : Q) (taken : InvalidationOption U) : Type 0 where
+  pub entry : Entry U
+  pub rest : List (Entry U)
+  pub split : old.entries ≡ entry ∷ rest
+  pub from_index : index from ≡ entry.index
+  pub from_era : era from ≡ entry.generation
+  pub taken_item : allowed_value taken ≡ entry.item
+  pub taken_overflow : is_overflow taken ≡ overflows_after greatest old.generation
+  pub left : new.entries ≡ rest
+  pub capacity : new.capacity ≡ old.capacity
+  pub maximum : new.maximum ≡ old.maximum
+  pub raised : new.generation ≡ next_generation greatest old.generation
+
+module _ {P Q T U M : Type 0} (index_from era_from : Q → ℕ) (index_to era_to : P → ℕ) (greatest : Option ℕ) (step : M → Q → InvalidationOption U → P → T → M → Type 0) where
+  -- some entries went from the source to c, which had none
+  pub record HasTaken (m : M) (source source_now : Chain U) (c now : Chain T) (n : M) : Type 0 where
+    pub gone : List (Entry U)
+    pub items : List T
+    pub split : source.entries ≡ gone ++ source_now.entries
+    pub calls : FoldsTo (TransferStep index_from era_from index_to era_to greatest step c.generation)
+        (record { closure = m; items = []; generation = source.generation }) gone
+        (record { closure = n; items = items; generation = source_now.generation })
+    pub count : length items ≡ length gone
+    pub put : now ≡ filled_with c items
+    pub capacity : source_now.capacity ≡ source.capacity
+    pub maximum : source_now.maximum ≡ source.maximum

@@ -1,0 +1,84 @@
+//! Giving the entries the indexes of their places in the list.
+ghost use Rattle.std.specs.Prelude.{◌≡◌};
+ghost use Rattle.std.specs.Option.{option_map};
+ghost use Rattle.arena_base.specs.Compression.{compressed_generation, compression_overflows};
+ghost use Rattle.arena_base.specs.Invalidation.{is_overflow};
+ghost use Rattle.chain_base.specs.Chain.{IsOccupied};
+ghost use Rattle.chain_base.specs.Compression.{canonical};
+ghost use Rattle.chain_base.specs.Exchange.{exchanged, exchanged_index, index_before, IsEven};
+ghost use Rattle.chain_base.specs.Walk.{index_after};
+
+use super::ChainArena;
+use super::links::{set_next, set_prev};
+use arena_base::{InvalidationOption, Ptr, PtrInx};
+use std::alloc::Allocator;
+
+impl<P: Ptr, T, A: Allocator> ChainArena<P, T, A> {
+    /// Moves all entries to the indexes from 1 on, in the order of the list, and gives them all one generation, which becomes
+    /// the arena's: the first where `reset` is true, else the next one. The entry at place i of the list, counted from 0, has
+    /// index i + 1 then.
+    ///
+    /// The answer says whether the generations began again because the next one comes after the greatest. The capacity stays,
+    /// and all vacant slots count as never used. It takes no memory, and goes through the list once more than `compress`.
+    pub fn compress_canonical(&mut self, reset: bool) -> InvalidationOption<()>
+        ensures after { self.new ≡ canonical self.old (compressed_generation P.Gen.greatest reset self.old.generation) }
+        ensures overflow { is_overflow result ≡ compression_overflows P.Gen.greatest reset self.old.generation }
+    {
+        let len = self.len();
+        let overflow = self.compress(reset);
+        let mut at = self.first;
+        for place in 0..len {
+            let index = P::Inx::try_from_usize(place + 1).unwrap();
+            self.exchange(at.unwrap(), index);
+            at = self.next_after(index);
+        }
+        overflow
+    }
+
+    // The index after that of an entry.
+    fn next_after(&self, i: P::Inx) -> Option<P::Inx>
+        ensures { option_map P.Inx.number result ≡ index_after self.now.entries (P.Inx.number i) }
+    {
+        self.arena.get_inx(i)?.1.next()
+    }
+
+    // Lets two entries, all having the arena's generation, change their indexes with each other.
+    fn exchange(&mut self, i: P::Inx, j: P::Inx)
+        requires first { IsOccupied self.old (P.Inx.number i) }
+        requires second { IsOccupied self.old (P.Inx.number j) }
+        requires even { IsEven self.old }
+        ensures { self.new ≡ exchanged self.old (P.Inx.number i) (P.Inx.number j) }
+    {
+        // Each index of an entry can be named in a link.
+        let _ = self.len();
+        let of_i = self.neighbours_at(i);
+        let of_j = self.neighbours_at(j);
+        self.arena.swap_inx(i, j);
+        set_next(&mut self.arena, exchanged_inx::<P>(of_i.0, i, j), Some(j));
+        set_prev(&mut self.arena, exchanged_inx::<P>(of_i.1, i, j), Some(j));
+        set_next(&mut self.arena, exchanged_inx::<P>(of_j.0, i, j), Some(i));
+        set_prev(&mut self.arena, exchanged_inx::<P>(of_j.1, i, j), Some(i));
+        self.first = exchanged_inx::<P>(self.first, i, j);
+        self.last = exchanged_inx::<P>(self.last, i, j);
+    }
+
+    // The neighbours of an entry.
+    fn neighbours_at(&self, i: P::Inx) -> (Option<P::Inx>, Option<P::Inx>)
+        requires { IsOccupied self.now (P.Inx.number i) }
+        ensures before { option_map P.Inx.number result.0 ≡ index_before self.now.entries (P.Inx.number i) }
+        ensures behind { option_map P.Inx.number result.1 ≡ index_after self.now.entries (P.Inx.number i) }
+    {
+        self.arena.get_inx(i).unwrap().1.prev_next()
+    }
+}
+
+// The index that an entry has once those at i and j have changed theirs.
+fn exchanged_inx<P: Ptr>(at: Option<P::Inx>, i: P::Inx, j: P::Inx) -> Option<P::Inx>
+    ensures { option_map P.Inx.number result ≡ option_map (exchanged_index (P.Inx.number i) (P.Inx.number j)) (option_map P.Inx.number at) }
+{
+    match at {
+        Some(k) if k == i => Some(j),
+        Some(k) if k == j => Some(i),
+        other => other,
+    }
+}

@@ -1,0 +1,168 @@
+//! Moving all entries over into another chain.
+ghost use Rattle.std.specs.Prelude.{◌≡◌, ◌<◌, ◌≤◌, ◌↔◌, List, [], ◌∷◌, ◌++◌, OnOk, OnErr, length, max};
+ghost use Rattle.std.specs.Option.{option_map};
+ghost use Rattle.arena_base.specs.Generation.{IsLawfulGeneration};
+ghost use Rattle.arena_base.specs.Invalidation.{valid_value, has_overflowed};
+ghost use Rattle.chain_base.specs.Chain.{Chain, chain_limit};
+ghost use Rattle.chain_base.specs.Compression.{IsTransfer};
+ghost use Rattle.chain_base.specs.Transfer.{filled_with, last_of, place_behind, TakesOut, HasTaken};
+
+use super::ChainArena;
+use super::insert::LinkInsertKind;
+use crate::link::LinkNoGen;
+use crate::map_taken::MapTaken;
+use arena_base::{Calls, InvalidationOption, InvalidationResult, Ptr, ReallocationError};
+use std::alloc::Allocator;
+
+impl<P: Ptr, T, A: Allocator> ChainArena<P, T, A> {
+    /// Takes all entries out of the source, in order, and puts one for each into this chain, whose old entries are dropped: at
+    /// the indexes from 1 on, with this generation, which becomes the chain's. The capacity grows to their number where it was
+    /// less.
+    ///
+    /// For each entry `f` is called with its old pointer, its item, with what the removal says of the source's generations, and
+    /// its new pointer, and gives the item that the new entry has. Each removal raises the source's generation once, and the
+    /// source keeps its capacity. Of both, all vacant slots count as never used.
+    ///
+    /// It is refused with `BeyondMaxCapacity` where the source has more entries than this chain's limit, and with `AllocError`
+    /// where the capacity would grow and memory is refused. Nothing changes then, and `f` isn't called.
+    pub fn transfer_canonical_reallocating<
+        Q: Ptr,
+        U,
+        B: Allocator,
+        F: FnMut(Q, InvalidationOption<U>, P) -> T + Drop,
+    >(
+        &mut self,
+        new_generation: P::Gen,
+        source: &mut ChainArena<Q, U, B>,
+        f: F,
+    ) -> Result<(), ReallocationError>
+    where
+        T: Drop,
+        requires lawful { IsLawfulGeneration P.Gen.greatest (P.Gen.number new_generation) }
+        requires callable { F.IsAlwaysCallable f }
+        ensures ok { OnOk result (IsTransfer Q.index Q.era P.index P.era Q.Gen.greatest F.step
+            (P.Gen.number new_generation) f source.old source.new self.old self.new) }
+        ensures beyond { (result ≡ Err ReallocationError.BeyondMaxCapacity)
+            ↔ (chain_limit P.Inx.most self.old < length source.old.entries) }
+        ensures memory { result ≡ Err ReallocationError.AllocError → self.old.capacity < length source.old.entries }
+        ensures err { OnErr result (self.new ≡ self.old) }
+        ensures err_source { OnErr result (source.new ≡ source.old) }
+    {
+        self.transfer_by(new_generation, source, Calls { f })
+    }
+
+    /// Takes all entries over as `transfer_canonical_reallocating` does, where `map` has the place of the closure.
+    pub fn transfer_by<Q: Ptr, U, B: Allocator, M: MapTaken<Q, U, P, T> + Drop>(
+        &mut self,
+        new_generation: P::Gen,
+        source: &mut ChainArena<Q, U, B>,
+        map: M,
+    ) -> Result<(), ReallocationError>
+    where
+        T: Drop,
+        requires lawful { IsLawfulGeneration P.Gen.greatest (P.Gen.number new_generation) }
+        requires callable { M.callable map }
+        ensures ok { OnOk result (IsTransfer Q.index Q.era P.index P.era Q.Gen.greatest M.step
+            (P.Gen.number new_generation) map source.old source.new self.old self.new) }
+        ensures beyond { (result ≡ Err ReallocationError.BeyondMaxCapacity)
+            ↔ (chain_limit P.Inx.most self.old < length source.old.entries) }
+        ensures memory { result ≡ Err ReallocationError.AllocError → self.old.capacity < length source.old.entries }
+        ensures err { OnErr result (self.new ≡ self.old) }
+        ensures err_source { OnErr result (source.new ≡ source.old) }
+    {
+        raise_capacity(self, source.len())?;
+        let _ = self.clear();
+        self.set_generation(new_generation);
+        take_all(self, source, map);
+        source.reallocate_min_capacity(source.capacity()).unwrap();
+        Ok(())
+    }
+}
+
+// Makes the capacity n where it is less.
+fn raise_capacity<P: Ptr, T, A: Allocator>(
+    chain: &mut ChainArena<P, T, A>,
+    n: usize,
+) -> Result<(), ReallocationError>
+    ensures capacity { OnOk result (chain.new.capacity ≡ max chain.old.capacity n) }
+    ensures maximum { OnOk result (chain.new.maximum ≡ chain.old.maximum) }
+    ensures beyond { (result ≡ Err ReallocationError.BeyondMaxCapacity) ↔ (chain_limit P.Inx.most chain.old < n) }
+    ensures memory { result ≡ Err ReallocationError.AllocError → chain.old.capacity < n }
+    ensures err { OnErr result (chain.new ≡ chain.old) }
+{
+    prove!(chain.len() <= chain.capacity());
+    if n <= chain.capacity() {
+        return Ok(());
+    }
+    chain.reallocate_min_capacity(n)
+}
+
+// Takes all entries of the source over into a chain without entries.
+fn take_all<P: Ptr, T: Drop, A: Allocator, Q: Ptr, U, B: Allocator, M: MapTaken<Q, U, P, T> + Drop>(
+    chain: &mut ChainArena<P, T, A>,
+    source: &mut ChainArena<Q, U, B>,
+    mut map: M,
+)
+    requires callable { M.callable map }
+    requires empty { chain.old ≡ filled_with chain.old [] }
+    requires room { length source.old.entries ≤ chain.old.capacity }
+    ensures taken { (n : M) × HasTaken Q.index Q.era P.index P.era Q.Gen.greatest M.step map source.old source.new chain.old chain.new n }
+    ensures all { source.new.entries ≡ [] }
+{
+    let mut last = None;
+    for _ in 0..source.len() {
+        let (from, taken) = take_first(source);
+        let to = chain.arena().next_insertion_ptr().unwrap();
+        let item = map.map_taken(from, taken, to);
+        put_last(chain, last, item);
+        last = Some(to.inx());
+    }
+}
+
+// Takes the first entry out.
+fn take_first<Q: Ptr, U, B: Allocator>(
+    source: &mut ChainArena<Q, U, B>,
+) -> (Q, InvalidationOption<U>)
+    requires { 0 < length source.old.entries }
+    ensures { TakesOut Q.index Q.era Q.Gen.greatest source.old source.new result.0 result.1 }
+{
+    let from = source.first().unwrap();
+    let taken = item_taken(source.remove_inx_link_no_gen(from.inx()));
+    (from, taken.unwrap())
+}
+
+// The answer of a removal, with the item alone.
+fn item_taken<Q: Ptr, U>(
+    taken: InvalidationResult<(Q::Gen, LinkNoGen<Q, U>)>,
+) -> InvalidationResult<U>
+    ensures value { valid_value result ≡ option_map (λ e. e.1.item) (valid_value taken) }
+    ensures overflow { has_overflowed result ≡ has_overflowed taken }
+{
+    taken.map(|(_, link)| link.t)
+}
+
+// Puts an item behind the last of those at the indexes from 1 on.
+fn put_last<P: Ptr, T: Drop, A: Allocator>(
+    chain: &mut ChainArena<P, T, A>,
+    last: Option<P::Inx>,
+    item: T,
+)
+    requires { (c : Chain T) × (items : List T) × (chain.old ≡ filled_with c items) × (length items < c.capacity)
+        × (option_map P.Inx.number last ≡ last_of (length items)) }
+    ensures { (c : Chain T) (items : List T) → chain.old ≡ filled_with c items → length items < c.capacity
+        → option_map P.Inx.number last ≡ last_of (length items) → chain.new ≡ filled_with c (items ++ item ∷ []) }
+{
+    chain
+        .insert_within_capacity(kind_behind(last), item)
+        .unwrap();
+}
+
+// The place behind the last entry, or alone where there is none.
+fn kind_behind<P: Ptr>(last: Option<P::Inx>) -> LinkInsertKind<P>
+    ensures { result ≡ place_behind last }
+{
+    match last {
+        None => LinkInsertKind::Disconnected,
+        Some(i) => LinkInsertKind::NextToInx(i),
+    }
+}

@@ -1,0 +1,116 @@
+-- A chain of nodes in which all entries are moved, as the list without the nodes sees it.
+use Rattle.std.proofs.Common.{◌≡◌, ℕ, zero, suc, ◌+◌, Option, Some, None, List, [], ◌∷◌, ◌++◌, map, length, arith, refl, sym, ◌∙◌, ap, subst, option_map, max, slice_index_or, nat_lt, if◌then◌else◌, Bool}
+use Rattle.std.proofs.lemmas.List.{length-map, map_push}
+use Rattle.std.specs.List.{FoldsTo}
+use Rattle.arena_base.specs.Compression.{CompressionStep}
+use Rattle.chain_base.specs.Chain.{Entry, Chain, entry_at}
+use Rattle.chain_base.specs.Compression.{lesser, entry_before, rising_among, entries_rising, refilled, moved, compressed, numbered, canonical, replaced, left_empty, IsCompression, Transferring, IsTransfer}
+use Rattle.arena_base.specs.declared.invalidation.InvalidationOption.{InvalidationOption}
+use Rattle.chain_base.proofs.Transferring.{steps-retold}
+use Rattle.ord_tree.specs.MapNode.{MapsTaken}
+use Rattle.arena_base.proofs.Compressing.{calls-retold, compressed-same}
+use Rattle.ord_tree.specs.declared.node.SimpleOrdArenaNode.{SimpleOrdArenaNode}
+use Rattle.ord_tree.specs.Node.{bare_entry, bare, entry_in}
+use Rattle.ord_tree.proofs.Trees.{entry_at-bare, vacant_among-bare}
+
+module _ {P T I G : Type 0} where
+  -- the items of some nodes
+  abbrev pub items_in : List (SimpleOrdArenaNode P T I G) → List T
+  items_in nodes = map (λ n. n.t) nodes
+
+  -- index, generation and item of an entry, without its node
+  abbrev pub shown_in : ℕ × ℕ × SimpleOrdArenaNode P T I G → ℕ × ℕ × T
+  shown_in e = (e.0, e.1, e.2.t)
+
+  -- a chain with other entries
+  bare-refilled : (c : Chain (SimpleOrdArenaNode P T I G)) (g : ℕ) (es : List (Entry (SimpleOrdArenaNode P T I G))) → bare (refilled c g es) ≡ refilled (bare c) g (map bare_entry es)
+  bare-refilled c g es =
+      ap (λ (vacant : List ℕ). record { entries = map bare_entry es; capacity = c.capacity; vacant = vacant; generation = g; maximum = c.maximum }) (sym (vacant_among-bare es 1 c.capacity))
+
+  -- entries in the order of the list
+  items-bare : (es : List (Entry (SimpleOrdArenaNode P T I G))) → items_in (map (λ e. e.item) es) ≡ map (λ (e : Entry T). e.item) (map bare_entry es)
+  items-bare [] = refl
+  items-bare (e ∷ es) = ap (λ items. e.item.t ∷ items) (items-bare es)
+
+  numbered-bare : (g from : ℕ) (nodes : List (SimpleOrdArenaNode P T I G)) → map bare_entry (numbered g from nodes) ≡ numbered g from (items_in nodes)
+  numbered-bare g from [] = refl
+  numbered-bare g from (n ∷ nodes) = ap (λ es. record { index = from; generation = g; item = n.t } ∷ es) (numbered-bare g (from + 1) nodes)
+
+  pub bare-canonical : (c : Chain (SimpleOrdArenaNode P T I G)) (g : ℕ) → bare (canonical c g) ≡ canonical (bare c) g
+  bare-canonical c g =
+      bare-refilled c g (numbered g 1 (map (λ e. e.item) c.entries))
+      ∙ ap (λ es. refilled (bare c) g es) (numbered-bare g 1 (map (λ e. e.item) c.entries) ∙ ap (numbered g 1) (items-bare c.entries))
+
+  pub bare-replaced : (c : Chain (SimpleOrdArenaNode P T I G)) (g : ℕ) (nodes : List (SimpleOrdArenaNode P T I G)) → bare (replaced c g nodes) ≡ replaced (bare c) g (items_in nodes)
+  bare-replaced c g nodes =
+      bare-refilled (record c { capacity = max c.capacity (length nodes) }) g (numbered g 1 nodes)
+      ∙ ap (λ n. refilled (record (bare c) { capacity = max c.capacity n }) g (map bare_entry (numbered g 1 nodes))) (sym (length-map nodes (λ n. n.t)))
+      ∙ ap (λ es. refilled (record (bare c) { capacity = max c.capacity (length (items_in nodes)) }) g es) (numbered-bare g 1 nodes)
+
+  pub bare-left_empty : (c : Chain (SimpleOrdArenaNode P T I G)) (g : ℕ) → bare (left_empty c g) ≡ left_empty (bare c) g
+  bare-left_empty c g = bare-refilled c g []
+
+  -- entries by rising index
+  lesser-bare : (es : List (Entry (SimpleOrdArenaNode P T I G))) (i : ℕ) → lesser (map bare_entry es) i ≡ lesser es i
+  lesser-bare [] i = refl
+  lesser-bare (e ∷ es) i = ap (λ n. (if nat_lt e.index i then 1 else 0) + n) (lesser-bare es i)
+
+  item-at : (nodes : List (SimpleOrdArenaNode P T I G)) (k : ℕ) (n : SimpleOrdArenaNode P T I G) → slice_index_or (items_in nodes) k n.t ≡ (slice_index_or nodes k n).t
+  item-at [] k n = refl
+  item-at (m ∷ nodes) zero n = refl
+  item-at (m ∷ nodes) (suc k) n = item-at nodes k n
+
+  moved-bare : (g : ℕ) (nodes : List (SimpleOrdArenaNode P T I G)) (all es : List (Entry (SimpleOrdArenaNode P T I G)))
+      → map bare_entry (map (moved all g nodes) es) ≡ map (moved (map bare_entry all) g (items_in nodes)) (map bare_entry es)
+  moved-bare g nodes all [] = refl
+  moved-bare g nodes all (e ∷ es) =
+      rw (lesser-bare all e.index, item-at nodes (lesser all e.index) e.item) (ap (λ rest. bare_entry (moved all g nodes e) ∷ rest) (moved-bare g nodes all es))
+
+  bare-compressed : (c : Chain (SimpleOrdArenaNode P T I G)) (g : ℕ) (nodes : List (SimpleOrdArenaNode P T I G)) → bare (compressed c g nodes) ≡ compressed (bare c) g (items_in nodes)
+  bare-compressed c g nodes =
+      bare-refilled c g (map (moved c.entries g nodes) c.entries) ∙ ap (λ es. refilled (bare c) g es) (moved-bare g nodes c.entries c.entries)
+
+  before-bare : (i : ℕ) (o : Option (ℕ × SimpleOrdArenaNode P T I G)) (rest : List (ℕ × ℕ × SimpleOrdArenaNode P T I G))
+      → entry_before i (option_map entry_in o) (map shown_in rest) ≡ map shown_in (entry_before i o rest)
+  before-bare i None rest = refl
+  before-bare i (Some e) rest = refl
+
+  rising-bare : (es : List (Entry (SimpleOrdArenaNode P T I G))) (from count : ℕ) → rising_among (map bare_entry es) from count ≡ map shown_in (rising_among es from count)
+  rising-bare es from zero = refl
+  rising-bare es from (suc count) =
+      rw (entry_at-bare es from, rising-bare es (from + 1) count) (before-bare from (entry_at es from) (rising_among es (from + 1) count))
+
+  -- where the closure that was called on nodes calls f on their items
+  module _ {S F : Type 0} (index era : P → ℕ) (outer : S → P → SimpleOrdArenaNode P T I G → P → SimpleOrdArenaNode P T I G → S → Type 0) (step : F → P → T → P → T → F → Type 0) (inner : S → F)
+      (calls : (s : S) (p : P) (n : SimpleOrdArenaNode P T I G) (q : P) (m : SimpleOrdArenaNode P T I G) (t : S) → outer s p n q m t → step (inner s) p n.t q m.t (inner t)) where
+    pub IsCompression-bare : (g : ℕ) (s : S) (old new : Chain (SimpleOrdArenaNode P T I G)) → IsCompression index era outer g s old new → IsCompression index era step g (inner s) (bare old) (bare new)
+    IsCompression-bare g s old new h = record {
+      items = items_in h.items;
+      last = inner h.last;
+      calls = rw (rising-bare old.entries 1 old.capacity) (calls-retold index era outer step g inner (λ n. n.t) calls (entries_rising old) s h.last [] h.items h.calls);
+      after = ap bare h.after ∙ bare-compressed old g h.items;
+    }
+
+-- a compression by a closure that gives each item back
+pub compressed-given_back : {P F T : Type 0} (index era : P → ℕ) (step : F → P → T → P → T → F → Type 0) (g : ℕ) → ((f : F) (p : P) (item : T) (q : P) (new : T) (f' : F) → step f p item q new f' → new ≡ item)
+    → (f : F) (old new : Chain T) → IsCompression index era step g f old new → new ≡ compressed old g (map (λ e. e.2) (entries_rising old))
+compressed-given_back index era step g answers f old new h =
+    h.after ∙ ap (λ items. compressed old g items) (compressed-same index era step g answers (entries_rising old) f h.last h.items [] h.calls)
+
+-- where the closure that was called on the source's nodes calls f on their items
+module _ {P T I G Q U J H S F : Type 0} (index_from era_from : Q → ℕ) (index_to era_to : P → ℕ) (greatest : Option ℕ)
+    (outer : S → Q → InvalidationOption (SimpleOrdArenaNode Q U J H) → P → SimpleOrdArenaNode P T I G → S → Type 0) (step : F → Q → InvalidationOption U → P → T → F → Type 0) (inner : S → F)
+    (calls : (s : S) (q : Q) (taken : InvalidationOption (SimpleOrdArenaNode Q U J H)) (p : P) (n : SimpleOrdArenaNode P T I G) (t : S) → outer s q taken p n t
+    → MapsTaken step (inner s) q taken p n (inner t)) where
+  pub IsTransfer-bare : (g : ℕ) (s : S) (source source_after : Chain (SimpleOrdArenaNode Q U J H)) (old new : Chain (SimpleOrdArenaNode P T I G))
+      → IsTransfer index_from era_from index_to era_to greatest outer g s source source_after old new → (after : Chain T) → after ≡ bare new
+      → IsTransfer index_from era_from index_to era_to greatest step g (inner s) (bare source) (bare source_after) (bare old) after
+  IsTransfer-bare g s source source_after old new h after is =
+      let start : Transferring S (SimpleOrdArenaNode P T I G) = record { closure = s; items = []; generation = source.generation } in
+      record {
+        last = record { closure = inner h.last.closure; items = items_in h.last.items; generation = h.last.generation };
+        calls = steps-retold index_from era_from index_to era_to greatest outer step inner (λ n. n.t) (λ n. n.t)
+            (λ s q taken p n t called. let c = calls s q taken p n t called in (c.plain, c.item, c.overflow, c.called)) g source.entries start h.last h.calls;
+        left = ap bare h.left ∙ bare-left_empty source h.last.generation;
+        after = is ∙ ap bare h.after ∙ bare-replaced old g h.last.items;
+      }

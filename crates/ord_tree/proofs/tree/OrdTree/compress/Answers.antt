@@ -1,0 +1,7 @@
+use Rattle.std.proofs.Common.{rules}
+use Rattle.ord_tree.proofs.Compressing.{compressed-given_back}
+use Rattle.ord_tree.proofs.tree.OrdTree.compress.Goals as goal
+
+pub returns-clause-after : goal.returns-clause-after
+returns-clause-after g c =
+    compressed-given_back g.P.Ptr.index g.P.Ptr.era _ _ (λ f p item q new f' called. search rules) _ _ _ c.compress_with.ensures.after
