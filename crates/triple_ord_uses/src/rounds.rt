@@ -31,8 +31,8 @@ pub fn first_of_drain(jobs: &mut Jobs) -> Option<(P0, u64, u64)>
     let mut drain = jobs.drain_ordered();
     let taken = drain.next();
     drain.keep_rest();
-    let (InvalidationOption::Success((p, pair)) | InvalidationOption::GenerationOverflow((p, pair))) =
-        taken?;
+    let (InvalidationOption::Success((p, pair))
+    | InvalidationOption::GenerationOverflow((p, pair))) = taken?;
     Some((p, *pair.k(), *pair.v()))
 }
 
@@ -42,7 +42,7 @@ pub fn last_job(jobs: &mut Jobs) -> Option<(u64, u64)>
     ensures count { count jobs.new ≡ 0 }
 {
     let mut drain = jobs.drain_ordered();
-    let (InvalidationOption::Success((_, pair)) | InvalidationOption::GenerationOverflow((_, pair))) =
-        drain.next()?;
+    let (InvalidationOption::Success((_, pair))
+    | InvalidationOption::GenerationOverflow((_, pair))) = drain.next()?;
     Some((*pair.k(), *pair.v()))
 }

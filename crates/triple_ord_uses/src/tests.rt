@@ -42,7 +42,10 @@ fn rounds_go_on_over_changes(rt: HostRuntime) -> Result<(), Fail> {
     assert_eq!(rt; next_of_round(&mut round, &jobs), None);
     let _ = schedule(&mut jobs, 40, 4)?;
     assert_eq!(rt; last_job(&mut jobs), Some((30, 3)));
-    assert_eq!(rt; (first_of_drain(&mut jobs), last_job(&mut jobs)), (None, None));
+    assert_eq!(rt;
+        (first_of_drain(&mut jobs), last_job(&mut jobs)),
+        (None, None)
+    );
     Ok(())
 }
 

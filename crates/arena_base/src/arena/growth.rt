@@ -188,7 +188,11 @@ fn cut_vacant<T, G: Copy, A: Allocator>(slots: &mut Vec<Slot<T, G>, A>, n: usize
 }
 
 // Lists the vacant places from the last to the first. The first `full` slots have entries, and are not looked at.
-pub(super) fn list_vacant<T, G, A: Allocator>(slots: &[Slot<T, G>], full: usize, vacant: &mut Vec<usize, A>)
+pub(super) fn list_vacant<T, G, A: Allocator>(
+    slots: &[Slot<T, G>],
+    full: usize,
+    vacant: &mut Vec<usize, A>,
+)
     requires room { length slots.now ≤ vec_capacity vacant.old }
     requires full { (k : ℕ) → k < full → slice_index_or slots.now k Slot.Vacant ≢ Slot.Vacant }
     ensures items { vacant.new.items ≡ reverse (vacant_places 0 slots.now) }
