@@ -197,7 +197,7 @@ fn a_drain_overflows(rt: HostRuntime) -> Result<(), Fail> {
     for key in [1u64, 2, 3] {
         let _ = a.insert(OrdPair::new(key, ()))?;
     }
-    while a.generation() < 254 {
+    for _ in 2..254u64 {
         let _ = a.inc_generation();
     }
     let mut overflows = 0u64;
