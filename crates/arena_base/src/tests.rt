@@ -538,7 +538,8 @@ fn a_compression_goes_by_rising_index(rt: HostRuntime) -> Result<(), Fail> {
     let mut calls = 0u8;
     let overflow = arena.compress_with(false, |old, item: Call, new| {
         calls = calls.wrapping_add(1);
-        (calls, old, new, item.3)
+        let letter = item.3;
+        (calls, old, new, letter)
     });
     assert_eq!(rt; overflow, InvalidationOption::Success(()));
     assert_eq!(rt;
