@@ -434,30 +434,6 @@ fn a_compression_keeps_the_order(rt: HostRuntime) -> Result<(), Fail> {
 }
 
 #[test]
-fn a_compression_calls_by_rising_index(rt: HostRuntime) -> Result<(), Fail> {
-    let mut chain = scattered(&rt, rt.alloc())?;
-    let mut calls = 0u8;
-    let overflow = chain.compress_with(true, |old: P0, letter: char, new: P0| {
-        calls = calls.wrapping_add(1);
-        if calls == 1 && old == P0::_from_raw(1, 2) && new == P0::_from_raw(1, 2) {
-            'A'
-        } else if calls == 2 && old == P0::_from_raw(2, 2) && new == P0::_from_raw(2, 2) {
-            'C'
-        } else if calls == 3 && old == P0::_from_raw(4, 2) && new == P0::_from_raw(3, 2) {
-            'D'
-        } else {
-            letter
-        }
-    });
-    assert_eq!(rt; overflow, InvalidationOption::Success(()));
-    assert_eq!(rt;
-        layout(&rt, rt.alloc(), &chain)?.as_str(),
-        "2.2C 3.2D 1.2A "
-    );
-    Ok(())
-}
-
-#[test]
 fn compressions_overflow(rt: HostRuntime) -> Result<(), Fail> {
     let mut chain: ChainArena<P8, char> = ChainArena::new(rt.alloc());
     assert_eq!(rt;
