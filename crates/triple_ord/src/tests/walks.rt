@@ -4,9 +4,7 @@ use super::{Keys, keys, numbers, order};
 use crate::{Advancer, OrdPair, OrderedPtrAdvancer, SimpleOrdArena};
 use arena_base::{InvalidationOption, P0, P8, Ptr, Q0};
 use std::alloc::{AllocError, Global};
-use std::cell::Cell;
 use std::cmp::Ordering;
-use std::mem;
 use std::test::Fail;
 
 /// The indexes that a walk gives from now on.
@@ -99,94 +97,6 @@ fn drains_in_order(rt: HostRuntime) -> Result<(), Fail> {
     assert!(rt; drain.next().is_none());
     drop(drain);
     assert_eq!(rt; (a.len(), a.generation()), (0, 8));
-    Ok(())
-}
-
-#[test]
-fn drains_end_early(rt: HostRuntime) -> Result<(), Fail> {
-    for taken in 0..5usize {
-        let mut dropped = letters(rt.alloc())?;
-        let mut kept = letters(rt.alloc())?;
-        let mut forgotten = letters(rt.alloc())?;
-        let mut ends_early = dropped.drain_ordered();
-        let mut keeps_rest = kept.drain_ordered();
-        let mut is_forgotten = forgotten.drain_ordered();
-        for _ in 0..taken {
-            let _ = (ends_early.next(), keeps_rest.next(), is_forgotten.next());
-        }
-        drop(ends_early);
-        keeps_rest.keep_rest();
-        mem::forget(is_forgotten);
-        let raised = 3u64.wrapping_add(taken as u64);
-        assert_eq!(rt;
-            (dropped.len(), dropped.generation()),
-            (0, raised.wrapping_add(1))
-        );
-        assert_eq!(rt; kept.len().wrapping_add(taken), 4);
-        assert_eq!(rt; kept.generation(), raised);
-        assert!(rt; kept.canonical_eq(&forgotten));
-        assert_eq!(rt; forgotten.generation(), raised);
-    }
-    Ok(())
-}
-
-/// A key that counts how often it is dropped.
-struct Counted<'a> {
-    key: u64,
-    drops: &'a Cell<u64>,
-}
-
-impl Drop for Counted<'_> {
-    fn drop(self) {
-        let Counted { key: _, drops } = self;
-        drops.set(drops.get().wrapping_add(1));
-    }
-}
-
-impl crate::SimpleOrdItem for Counted<'_> {
-    type Key = u64;
-
-    ghost key_of = { λ c. c.key };
-
-    fn key(&self) -> &u64 {
-        &self.key
-    }
-}
-
-/// Each item is dropped just once, wherever a drain or an owning iterator ends.
-#[test]
-fn items_are_dropped_once(rt: HostRuntime) -> Result<(), Fail> {
-    let made = Cell::new(0u64);
-    let drops = &made;
-    for taken in 0..6usize {
-        for owning in [false, true] {
-            let mut a: SimpleOrdArena<P0, Counted> = SimpleOrdArena::new(rt.alloc());
-            for key in [3u64, 1, 5, 2, 4] {
-                assert!(rt; a.insert(Counted { key, drops }).is_ok());
-            }
-            assert_eq!(rt; drops.replace(0), 0);
-            if owning {
-                let mut all = a.into_iter();
-                assert_eq!(rt; all.size_hint(), (5, Some(5)));
-                for key in 1..=taken {
-                    if let Some((_, item)) = all.next() {
-                        assert_eq!(rt; item.key, key as u64);
-                    }
-                }
-                assert_eq!(rt; all.len().saturating_add(taken.min(5)), 5);
-                drop(all);
-            } else {
-                let mut drain = a.drain_ordered();
-                for _ in 0..taken {
-                    let _ = drain.next();
-                }
-                drop(drain);
-                assert!(rt; a.is_empty());
-                drop(a);
-            }
-            assert_eq!(rt; drops.replace(0), 5);
-        }
-    }
     Ok(())
 }
 
