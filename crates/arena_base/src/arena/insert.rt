@@ -3,7 +3,7 @@ ghost use Rattle.std.specs.Prelude.{◌≡◌, ◌<◌, ◌≤◌, ◌↔◌, �
 ghost use Rattle.arena_base.specs.Arena.{arena_len, arena_capacity, arena_limit, next_index, grown_capacity, with_room, IsInsertion, IsSound};
 
 use super::Arena;
-use super::get::pointer;
+use super::get::place_at;
 use crate::error::InsertionError;
 use crate::ptr::{Ptr, PtrInx};
 use crate::slot::Slot;
@@ -73,8 +73,8 @@ impl<P: Ptr, T: Drop, A: Allocator> Arena<P, T, A> {
         ensures sound { IsSound P.Inx.most P.Gen.greatest self.new }
     {
         let generation = self.generation;
-        let place = self.vacant.take_last();
-        self.slots[place] = Slot::Occupied(item, generation);
-        pointer(place, generation)
+        let i = self.vacant.take_last();
+        self.slots[place_at(i)] = Slot::Occupied(item, generation);
+        P::_from_raw(i, generation)
     }
 }

@@ -99,7 +99,7 @@ impl<P: Ptr, T, A: Allocator> Arena<P, T, A> {
         ensures after { self.new ≡ freed self.old (P.Inx.number i) }
     {
         let place = self.place_of_entry(i);
-        self.vacant.push_reserved(place);
+        self.vacant.push_reserved(i);
         let slot = &mut self.slots[place];
         slot.take()
     }
