@@ -12,20 +12,23 @@ top g c = numbers-pushed g.P.Inx.PtrInx.number c.self.inside.vacant.items c.take
 pub place_at-requires : goal.place_at-requires
 place_at-requires g c =
     let s = c.self.inside in
-    top-above g.P.Gen.PtrGen.number g.P.Inx.PtrInx.most g.P.Gen.PtrGen.greatest s.slots.items s.generation s.maximum (map g.P.Inx.PtrInx.number s.vacant.items) (map g.P.Inx.PtrInx.number c.take_last-i.new.self.items) (g.P.Inx.PtrInx.number c.take_last-i.result)
+    let number = g.P.Inx.PtrInx.number in
+    top-above g.P.Gen.PtrGen.number g.P.Inx.PtrInx.most g.P.Gen.PtrGen.greatest s.slots.items s.generation s.maximum (map number s.vacant.items) (map number c.take_last-i.new.self.items) (number c.take_last-i.result)
     (top g (goal.at.place_at-requires g c).After-take_last-i) c.args.self.now c.self.view_is c.self.invariant.0
 
 pub index_mut-requires : goal.index_mut-requires
 index_mut-requires g c =
     let s = c.self.inside in
-    let within = top-within g.P.Gen.PtrGen.number g.P.Inx.PtrInx.most g.P.Gen.PtrGen.greatest s.slots.items s.generation s.maximum (map g.P.Inx.PtrInx.number s.vacant.items) (map g.P.Inx.PtrInx.number c.take_last-i.new.self.items) (g.P.Inx.PtrInx.number c.take_last-i.result)
+    let number = g.P.Inx.PtrInx.number in
+    let within = top-within g.P.Gen.PtrGen.number g.P.Inx.PtrInx.most g.P.Gen.PtrGen.greatest s.slots.items s.generation s.maximum (map number s.vacant.items) (map number c.take_last-i.new.self.items) (number c.take_last-i.result)
     (top g (goal.at.index_mut-requires g c).After-take_last-i) c.args.self.now c.self.view_is c.self.invariant.0 c.place_at.result c.place_at.ensures in
     omega (arith, s.slots.ok.0)
 
 pub invariant_of-self : goal.invariant_of-self
 invariant_of-self g c =
-    let s = c.self.inside in (
-      sound-put g.P.Gen.PtrGen.number g.P.Inx.PtrInx.most g.P.Gen.PtrGen.greatest s.slots.items s.generation s.maximum (map g.P.Inx.PtrInx.number s.vacant.items) (map g.P.Inx.PtrInx.number c.take_last-i.new.self.items) (g.P.Inx.PtrInx.number c.take_last-i.result)
+    let s = c.self.inside in
+    let number = g.P.Inx.PtrInx.number in (
+      sound-put g.P.Gen.PtrGen.number g.P.Inx.PtrInx.most g.P.Gen.PtrGen.greatest s.slots.items s.generation s.maximum (map number s.vacant.items) (map number c.take_last-i.new.self.items) (number c.take_last-i.result)
           (top g (goal.at.invariant_of-self g c).After-take_last-i) c.args.self.now c.self.view_is c.self.invariant.0 c.place_at.result c.place_at.ensures c.args.item,
       omega (arith, c.self.invariant.1),
     )
@@ -33,11 +36,14 @@ invariant_of-self g c =
 pub returns-clause-inserted : goal.returns-clause-inserted
 returns-clause-inserted g c =
     let s = c.self.inside in
-    insertion g.P.Gen.PtrGen.number g.P.Inx.PtrInx.most g.P.Gen.PtrGen.greatest s.slots.items s.generation s.maximum (map g.P.Inx.PtrInx.number s.vacant.items) (map g.P.Inx.PtrInx.number c.take_last-i.new.self.items) (g.P.Inx.PtrInx.number c.take_last-i.result)
-    (top g (goal.at.returns-clause-inserted g c).After-take_last-i) c.args.self.now c.self.view_is c.self.invariant.0 c.place_at.result c.place_at.ensures c.args.item (g.P.Ptr.index c._from_raw.result) (g.P.Ptr.era c._from_raw.result) c._from_raw.ensures.index c._from_raw.ensures.era
+    let number = g.P.Inx.PtrInx.number in
+    insertion g.P.Gen.PtrGen.number g.P.Inx.PtrInx.most g.P.Gen.PtrGen.greatest s.slots.items s.generation s.maximum (map number s.vacant.items) (map number c.take_last-i.new.self.items) (number c.take_last-i.result)
+    (top g (goal.at.returns-clause-inserted g c).After-take_last-i) c.args.self.now c.self.view_is c.self.invariant.0 c.place_at.result c.place_at.ensures c.args.item
+    (g.P.Ptr.index c._from_raw.result) (g.P.Ptr.era c._from_raw.result) c._from_raw.ensures.index c._from_raw.ensures.era
 
 pub returns-clause-sound : goal.returns-clause-sound
 returns-clause-sound g c =
     let s = c.self.inside in
-    sound-put g.P.Gen.PtrGen.number g.P.Inx.PtrInx.most g.P.Gen.PtrGen.greatest s.slots.items s.generation s.maximum (map g.P.Inx.PtrInx.number s.vacant.items) (map g.P.Inx.PtrInx.number c.take_last-i.new.self.items) (g.P.Inx.PtrInx.number c.take_last-i.result)
+    let number = g.P.Inx.PtrInx.number in
+    sound-put g.P.Gen.PtrGen.number g.P.Inx.PtrInx.most g.P.Gen.PtrGen.greatest s.slots.items s.generation s.maximum (map number s.vacant.items) (map number c.take_last-i.new.self.items) (number c.take_last-i.result)
     (top g (goal.at.returns-clause-sound g c).After-take_last-i) c.args.self.now c.self.view_is c.self.invariant.0 c.place_at.result c.place_at.ensures c.args.item
