@@ -5,7 +5,7 @@ use Rattle.std.proofs.lemmas.Option.{none-some, same_Some}
 use Rattle.std.specs.List.{FoldsTo}
 use Rattle.arena_base.specs.declared.slot.Slot.{Slot}
 use Rattle.arena_base.specs.declared.slot.Slot.TheVariants.{Occupied, Vacant}
-use Rattle.arena_base.specs.Slot.{entry_in, slot_entry, arena_of, vacant_places}
+use Rattle.arena_base.specs.Slot.{entry_in, slot_entry, arena_of, vacant_slots}
 use Rattle.arena_base.specs.Walk.{entries_from, entries_rising}
 use Rattle.arena_base.specs.Generation.{IsLawfulGeneration}
 use Rattle.arena_base.specs.Arena.{Arena, HoldsSame, IsSound, IsFresh, vacant_from, resized}
@@ -202,7 +202,7 @@ get_or-compressed g (suc m) [] (suc k) e is = get_or-compressed g m [] k e is
 get_or-compressed g m (x ∷ items) zero e is = let same : ◌≡◌ {A = ℕ × _} (g, x) e = same_Some (g, x) e is in sym (ap (λ (p : ℕ × _). p.0) same)
 get_or-compressed g m (x ∷ items) (suc k) e is = get_or-compressed g m items k e is
 
-module _ {T G : Type 0} (number : G → ℕ) (most : ℕ) (greatest : Option ℕ) (slots next : List (Slot T G)) (generation : G) (maximum : Option ℕ) (places listed : List ℕ) (all : listed ≡ reverse (vacant_places 0 next))
+module _ {T G : Type 0} (number : G → ℕ) (most : ℕ) (greatest : Option ℕ) (slots next : List (Slot T G)) (generation : G) (maximum : Option ℕ) (stack listed : List ℕ) (all : listed ≡ reverse (vacant_slots 1 next))
     (items : List T) (fits : length items ≤ length slots) (is : next ≡ map (λ item. Occupied item generation) items ++ replicate (length slots - length items) Vacant) where
   abbrev now : List (Option (ℕ × T))
   now = map (λ item. Some (number generation, item)) items ++ replicate (length slots - length items) None
@@ -223,7 +223,7 @@ module _ {T G : Type 0} (number : G → ℕ) (most : ℕ) (greatest : Option ℕ
       vacant (suc n) = ap (λ rest. None ∷ rest) (vacant n)
 
   pub compressed-view : arena_of number next listed generation maximum ≡ record { slots = None ∷ now; vacant = vacant_from 1 now; generation = number generation; maximum = maximum }
-  compressed-view = list-view number most greatest slots generation maximum places listed next all now entries-compressed
+  compressed-view = list-view number most greatest slots generation maximum stack listed next all now entries-compressed
 
   pub compressed-fresh : IsFresh (arena_of number next listed generation maximum)
   compressed-fresh = subst (λ (a : Arena T). IsFresh a) (sym compressed-view) refl
@@ -231,7 +231,7 @@ module _ {T G : Type 0} (number : G → ℕ) (most : ℕ) (greatest : Option ℕ
   length-now : length now ≡ length slots
   length-now = length-append (map (λ item. Some (number generation, item)) items) (replicate (length slots - length items) None) ∙ rw (length-map {B = Option (ℕ × T)} items (λ item. Some (number generation, item)), length-replicate) (omega (arith, fits))
 
-  pub compressed-sound : IsSound most greatest (arena_of number slots places generation maximum) → IsSound most greatest (arena_of number next listed generation maximum)
+  pub compressed-sound : IsSound most greatest (arena_of number slots stack generation maximum) → IsSound most greatest (arena_of number next listed generation maximum)
   compressed-sound sound =
       subst (λ (a : Arena T). IsSound most greatest a) (sym compressed-view) record {
         begins = refl;
@@ -250,13 +250,13 @@ module _ {T G : Type 0} (number : G → ℕ) (most : ℕ) (greatest : Option ℕ
       lawful (suc k) e at = subst (λ n. IsLawfulGeneration greatest n) (sym (get_or-compressed (number generation) (length slots - length items) items k e at)) sound.generation_lawful
 
 -- the arena of the compressed slots
-pub compressed-after : {P T G F : Type 0} (index era : P → ℕ) (number : G → ℕ) (most : ℕ) (greatest : Option ℕ) (step : F → P → T → P → T → F → Type 0) (slots next : List (Slot T G)) (generation : G) (maximum : Option ℕ) (places listed : List ℕ)
-    → listed ≡ reverse (vacant_places 0 next) → (f : F) (a : Arena T) (g : ℕ) → None ∷ entries number slots ≡ a.slots → maximum ≡ a.maximum → number generation ≡ g
+pub compressed-after : {P T G F : Type 0} (index era : P → ℕ) (number : G → ℕ) (most : ℕ) (greatest : Option ℕ) (step : F → P → T → P → T → F → Type 0) (slots next : List (Slot T G)) (generation : G) (maximum : Option ℕ) (stack listed : List ℕ)
+    → listed ≡ reverse (vacant_slots 1 next) → (f : F) (a : Arena T) (g : ℕ) → None ∷ entries number slots ≡ a.slots → maximum ≡ a.maximum → number generation ≡ g
     → CompressesSlots index era number step generation f slots next → IsCompression index era step g f a (arena_of number next listed generation maximum)
-compressed-after {P} {T} {G} {F} index era number most greatest step slots next generation maximum places listed all f a g same limit named p =
+compressed-after {P} {T} {G} {F} index era number most greatest step slots next generation maximum stack listed all f a g same limit named p =
     let m = length p.items in
     let n = length slots in
-    let view = compressed-view number most greatest slots next generation maximum places listed all p.items p.fits p.after in
+    let view = compressed-view number most greatest slots next generation maximum stack listed all p.items p.fits p.after in
     let count : length a.slots ≡ suc n = ap length (sym same) ∙ ap suc (length-map slots (entry_in number)) in
     record {
       items = p.items;

@@ -1,3 +1,4 @@
+pub mod CallerLemmas
 pub mod Compressing
 pub mod Occupied
 pub mod Places

@@ -3,7 +3,7 @@ use Rattle.std.proofs.Common.{◌≡◌, ◌≢◌, ℕ, zero, suc, drop, ◌+�
 use Rattle.std.proofs.lemmas.List.{take_at, take-take, get_or-take, get_or_push, map-set, get_or-map}
 use Rattle.arena_base.specs.declared.slot.Slot.{Slot}
 use Rattle.arena_base.specs.declared.slot.Slot.TheVariants.{Occupied, Vacant}
-use Rattle.arena_base.specs.Slot.{entry_in, vacant_places}
+use Rattle.arena_base.specs.Slot.{entry_in, vacant_slots}
 use Rattle.arena_base.specs.Arena.{vacant_from}
 
 module _ {T G : Type 0} (number : G → ℕ) where
@@ -19,26 +19,26 @@ module _ {T G : Type 0} (number : G → ℕ) where
   pub slots-written : (slots : List (Slot T G)) (k : ℕ) (s : Slot T G) → None ∷ entries (set slots k s) ≡ set (None ∷ entries slots) (k + 1) (entry_in number s)
   slots-written slots k s = rw add-one (ap (λ rest. None ∷ rest) (map-set (entry_in number) slots k s))
 
-  -- the vacant places are the vacant indexes, counted from 0
-  pub vacant_places-indexes : (from : ℕ) (slots : List (Slot T G)) → map (λ k. k + 1) (vacant_places from slots) ≡ vacant_from (from + 1) (entries slots)
-  vacant_places-indexes from [] = refl
-  vacant_places-indexes from (Vacant ∷ slots) = ap (λ rest. (from + 1) ∷ rest) (vacant_places-indexes (from + 1) slots)
-  vacant_places-indexes from (Occupied item era ∷ slots) = vacant_places-indexes (from + 1) slots
+  -- the vacant slots in memory are the vacant ones by index
+  pub vacant_slots-from : (from : ℕ) (slots : List (Slot T G)) → vacant_slots from slots ≡ vacant_from from (entries slots)
+  vacant_slots-from from [] = refl
+  vacant_slots-from from (Vacant ∷ slots) = ap (λ rest. from ∷ rest) (vacant_slots-from (from + 1) slots)
+  vacant_slots-from from (Occupied item era ∷ slots) = vacant_slots-from (from + 1) slots
 
--- the vacant places stand behind the slots that have entries
-pub vacant_places-full : {T G : Type 0} (from full : ℕ) (slots : List (Slot T G)) → ((k : ℕ) → k < full → get_or slots k Vacant ≢ Vacant) → vacant_places from slots ≡ vacant_places (from + full) (drop full slots)
-vacant_places-full from zero slots occupied = let same : from ≡ from + 0 = omega arith in ap (λ n. vacant_places n slots) same
-vacant_places-full from (suc full) [] occupied = absurd (occupied 0 (omega arith) refl)
-vacant_places-full from (suc full) (Vacant ∷ slots) occupied = absurd (occupied 0 (omega arith) refl)
-vacant_places-full from (suc full) (Occupied item era ∷ slots) occupied =
+-- the vacant slots stand behind those that have entries
+pub vacant_slots-full : {T G : Type 0} (from full : ℕ) (slots : List (Slot T G)) → ((k : ℕ) → k < full → get_or slots k Vacant ≢ Vacant) → vacant_slots from slots ≡ vacant_slots (from + full) (drop full slots)
+vacant_slots-full from zero slots occupied = let same : from ≡ from + 0 = omega arith in ap (λ n. vacant_slots n slots) same
+vacant_slots-full from (suc full) [] occupied = absurd (occupied 0 (omega arith) refl)
+vacant_slots-full from (suc full) (Vacant ∷ slots) occupied = absurd (occupied 0 (omega arith) refl)
+vacant_slots-full from (suc full) (Occupied item era ∷ slots) occupied =
     let later : from + 1 + full ≡ from + suc full = omega arith in
-    vacant_places-full (from + 1) full slots (λ k below. occupied (suc k) (omega arith)) ∙ ap (λ n. vacant_places n (drop full slots)) later
+    vacant_slots-full (from + 1) full slots (λ k below. occupied (suc k) (omega arith)) ∙ ap (λ n. vacant_slots n (drop full slots)) later
 
--- there are no more vacant places than slots
-pub length-vacant_places : {T G : Type 0} (from : ℕ) (slots : List (Slot T G)) → length (vacant_places from slots) ≤ length slots
-length-vacant_places from [] = omega arith
-length-vacant_places from (Vacant ∷ slots) = let ih = length-vacant_places (from + 1) slots in omega arith
-length-vacant_places from (Occupied item era ∷ slots) = let ih = length-vacant_places (from + 1) slots in omega arith
+-- there are no more vacant slots than slots
+pub length-vacant_slots : {T G : Type 0} (from : ℕ) (slots : List (Slot T G)) → length (vacant_slots from slots) ≤ length slots
+length-vacant_slots from [] = omega arith
+length-vacant_slots from (Vacant ∷ slots) = let ih = length-vacant_slots (from + 1) slots in omega arith
+length-vacant_slots from (Occupied item era ∷ slots) = let ih = length-vacant_slots (from + 1) slots in omega arith
 
 -- a front of a list without its last item
 pub take-without_last : {X : Type 0} (xs ys : List X) (x : X) (m n : ℕ) → ys ++ x ∷ [] ≡ take n xs → n ≡ m + 1 → length ys ≡ m → ys ≡ take m xs

@@ -5,7 +5,7 @@ use Rattle.std.proofs.lemmas.List.{map-append, take-map, take_all, take-append-l
 use Rattle.std.proofs.lemmas.Option.{none-some}
 use Rattle.arena_base.specs.declared.slot.Slot.{Slot}
 use Rattle.arena_base.specs.declared.slot.Slot.TheVariants.{Occupied, Vacant}
-use Rattle.arena_base.specs.Slot.{entry_in, vacant_places, arena_of, AllVacantFrom}
+use Rattle.arena_base.specs.Slot.{entry_in, vacant_slots, arena_of, AllVacantFrom}
 use Rattle.arena_base.specs.Generation.{IsLawfulGeneration, first_generation}
 use Rattle.arena_base.specs.Arena.{Arena, slot, arena_capacity, IsSound, vacant_from, vacant_indexes, limit_of, resized, new_arena, with_capacity, emptied, greatest_occupied}
 use Rattle.arena_base.proofs.Occupied.{greatest_occupied-above}
@@ -65,12 +65,12 @@ module _ {T G : Type 0} (number : G → ℕ) where
           get_or-append_right slots (replicate (n - length slots) Vacant) (length slots) k Vacant refl past ∙ get_or-all_default (n - length slots) (k - length slots) Vacant
 
   -- an entry keeps its slot
-  pub resized-full : (slots padded next : List (Slot T G)) (generation : G) (maximum : Option ℕ) (places : List ℕ) (a : Arena T) (n full : ℕ) → arena_of number slots places generation maximum ≡ a
+  pub resized-full : (slots padded next : List (Slot T G)) (generation : G) (maximum : Option ℕ) (stack : List ℕ) (a : Arena T) (n full : ℕ) → arena_of number slots stack generation maximum ≡ a
       → padded ≡ slots ++ replicate (n - length slots) Vacant → next ≡ take n padded → greatest_occupied a.slots ≤ n → ((i : ℕ) → 0 < i → i ≤ full → is_some (slot a i) ≡ true) → (k : ℕ) → k < full → get_or next k Vacant ≢ Vacant
-  resized-full slots padded next generation maximum places a n full seen is cut least occupied k below = λ vacant.
+  resized-full slots padded next generation maximum stack a n full seen is cut least occupied k below = λ vacant.
       let there = occupied (k + 1) (omega arith) (omega arith) in
-      let inside : k < length slots = omega (arith, entry-within number slots generation maximum places a k (k + 1) seen refl there, ap arena_capacity (sym seen), arena_capacity-of number slots generation maximum places) in
-      let read : entry_in number (get_or slots k Vacant) ≡ slot a (k + 1) = sym (get_or-map (entry_in number) slots k Vacant None inside) ∙ entry-at number slots generation maximum places a k (k + 1) seen refl (slot a (k + 1)) refl in
+      let inside : k < length slots = omega (arith, entry-within number slots generation maximum stack a k (k + 1) seen refl there, ap arena_capacity (sym seen), arena_capacity-of number slots generation maximum stack) in
+      let read : entry_in number (get_or slots k Vacant) ≡ slot a (k + 1) = sym (get_or-map (entry_in number) slots k Vacant None inside) ∙ entry-at number slots generation maximum stack a k (k + 1) seen refl (slot a (k + 1)) refl in
       elim (cases_lt k n) [
         | inl within ↦
             let same : get_or next k Vacant ≡ get_or slots k Vacant = ap (λ ss. get_or ss k Vacant) cut ∙ get_or-take n padded k Vacant within ∙ ap (λ ss. get_or ss k Vacant) is ∙ get_or_append_left slots (replicate (n - length slots) Vacant) Vacant k inside in
@@ -81,8 +81,8 @@ module _ {T G : Type 0} (number : G → ℕ) where
             false≢true (ap is_some (sym none) ∙ there)
       ]
 
-  module _ (most : ℕ) (greatest : Option ℕ) (slots : List (Slot T G)) (generation : G) (maximum : Option ℕ) (places listed : List ℕ) (a : Arena T) (seen : arena_of number slots places generation maximum ≡ a)
-      (next : List (Slot T G)) (all : listed ≡ reverse (vacant_places 0 next)) where
+  module _ (most : ℕ) (greatest : Option ℕ) (slots : List (Slot T G)) (generation : G) (maximum : Option ℕ) (stack listed : List ℕ) (a : Arena T) (seen : arena_of number slots stack generation maximum ≡ a)
+      (next : List (Slot T G)) (all : listed ≡ reverse (vacant_slots 1 next)) where
     module _ (n : ℕ) (padded : List (Slot T G)) (is : padded ≡ slots ++ replicate (n - length slots) Vacant) (cut : next ≡ take n padded) where
       entries-resized : entries number next ≡ take n (entries number slots) ++ replicate (n - length (entries number slots)) None
       entries-resized =
@@ -93,13 +93,13 @@ module _ {T G : Type 0} (number : G → ℕ) where
 
       pub resized-view : arena_of number next listed generation maximum ≡ with_capacity a n
       resized-view =
-          list-view number most greatest slots generation maximum places listed next all (take n (entries number slots) ++ replicate (n - length (entries number slots)) None) entries-resized
+          list-view number most greatest slots generation maximum stack listed next all (take n (entries number slots) ++ replicate (n - length (entries number slots)) None) entries-resized
           ∙ (ap (λ ss. record { slots = ss; vacant = vacant_indexes ss; generation = number generation; maximum = maximum }) (sym (resized-cons n (entries number slots)))
           ∙ ap (λ v. with_capacity v n) seen)
 
-      pub resized-sound : IsSound most greatest (arena_of number slots places generation maximum) → n ≤ limit_of most maximum → IsSound most greatest (arena_of number next listed generation maximum)
+      pub resized-sound : IsSound most greatest (arena_of number slots stack generation maximum) → n ≤ limit_of most maximum → IsSound most greatest (arena_of number next listed generation maximum)
       resized-sound sound within =
-          list-sound number most greatest slots generation maximum places listed next all sound (rw cut (omega (arith, length-take n padded)))
+          list-sound number most greatest slots generation maximum stack listed next all sound (rw cut (omega (arith, length-take n padded)))
           (λ j e there. get_or-pad n (n - length (entries number slots)) (entries number slots) j e (ap (λ ss. get_or ss j None) (sym entries-resized) ∙ there))
 
     module _ (is : next ≡ replicate (length slots) Vacant) where
@@ -109,13 +109,13 @@ module _ {T G : Type 0} (number : G → ℕ) where
 
       pub emptied-view : arena_of number next listed generation maximum ≡ emptied a
       emptied-view =
-          list-view number most greatest slots generation maximum places listed next all (replicate (length (entries number slots)) None) entries-emptied
+          list-view number most greatest slots generation maximum stack listed next all (replicate (length (entries number slots)) None) entries-emptied
           ∙ ap (λ v. emptied v) seen
 
-      pub emptied-sound : IsSound most greatest (arena_of number slots places generation maximum) → IsSound most greatest (arena_of number next listed generation maximum)
+      pub emptied-sound : IsSound most greatest (arena_of number slots stack generation maximum) → IsSound most greatest (arena_of number next listed generation maximum)
       emptied-sound sound =
           let within = sound.within_limit in
-          list-sound number most greatest slots generation maximum places listed next all sound (rw is (omega (arith, length-replicate {A = Slot T G} (length slots) Vacant, length-map slots (entry_in number))))
+          list-sound number most greatest slots generation maximum stack listed next all sound (rw is (omega (arith, length-replicate {A = Slot T G} (length slots) Vacant, length-map slots (entry_in number))))
           (λ j e there. absurd (none-some e (sym (get_or-all_default (length (entries number slots)) j None) ∙ (ap (λ ss. get_or ss j None) (sym entries-emptied) ∙ there))))
 
 -- a greater capacity leaves a slot vacant
@@ -143,7 +143,7 @@ module _ {T G : Type 0} where
 
 -- the slots of an arena that was made with room
 module _ {T G : Type 0} (number : G → ℕ) (most : ℕ) (greatest : Option ℕ) (two : G) (first : number two ≡ first_generation greatest)
-    (n : ℕ) (next : List (Slot T G)) (is : next ≡ [] ++ replicate (n - 0) Vacant) (listed : List ℕ) (all : listed ≡ reverse (vacant_places 0 next)) where
+    (n : ℕ) (next : List (Slot T G)) (is : next ≡ [] ++ replicate (n - 0) Vacant) (listed : List ℕ) (all : listed ≡ reverse (vacant_slots 1 next)) where
   pub made-length : length next ≡ n
   made-length = omega (arith, ap length is, length-replicate {A = Slot T G} (n - 0) Vacant)
 

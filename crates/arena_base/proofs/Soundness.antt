@@ -123,13 +123,18 @@ module _ {T : Type 0} where
               | inr other ↦ lawful j e (sym (get_or-set_other slots k j None None other) ∙ at)
             ]
 
+  module _ (most : ℕ) (greatest : Option ℕ) (slots : List (Option (ℕ × T))) (i : ℕ) (vacant : List ℕ) (generation : ℕ) (maximum : Option ℕ) (sound : IsSound most greatest (arena slots (i ∷ vacant) generation maximum)) where
+    -- the index that is taken next is that of a vacant slot
+    pub first-place : (k : ℕ) × (i ≡ 1 + k) × (k < length slots) × (get_or slots k None ≡ None)
+    first-place =
+        let listed : 0 < how_often (vacant_from 1 slots) i = subst (λ n. 0 < n) (sym (how_often-cons i vacant i) ∙ sound.vacant_listed i) (rw (eq-eqb i i refl) (omega arith)) in
+        vacant_from-vacant 1 slots i listed
+
   module _ (most : ℕ) (greatest : Option ℕ) (slots : List (Option (ℕ × T))) (k : ℕ) (vacant : List ℕ) (generation : ℕ) (maximum : Option ℕ) (sound : IsSound most greatest (arena slots ((k + 1) ∷ vacant) generation maximum)) where
-    -- the index that is taken next is vacant
+    -- the same of an index that is known to have a place
     pub first-vacant : (k < length slots) × (get_or slots k None ≡ None)
     first-vacant =
-        let listed : 0 < how_often (vacant_from 1 slots) (k + 1) =
-        subst (λ n. 0 < n) (sym (how_often-cons (k + 1) vacant (k + 1)) ∙ sound.vacant_listed (k + 1)) (rw (eq-eqb (k + 1) (k + 1) refl) (omega arith)) in
-        let found = vacant_from-vacant 1 slots (k + 1) listed in
+        let found = first-place most greatest slots (k + 1) vacant generation maximum sound in
         let same : found.0 ≡ k = omega (arith, found.1) in
         (subst (λ n. n < length slots) same found.2, subst (λ n. get_or slots n None ≡ None) same found.3)
 

@@ -1,4 +1,4 @@
--- Two entries whose slots change places and whose generations are then put back have exchanged their items.
+-- Two entries whose slots change stack and whose generations are then put back have exchanged their items.
 use Rattle.std.proofs.Common.{inl, inr, ◌≡◌, ℕ, ◌+◌, ◌<◌, Option, Some, None, List, length, get_or, set, is_some, true, refl, sym, ap, ◌∙◌, subst, arith}
 use Rattle.std.specs.Option.{option_map}
 use Rattle.std.proofs.lemmas.Bool.{cases_eq, false≢true}
@@ -88,12 +88,12 @@ module _ {T G : Type 0} (number : G → ℕ) (xs ys : List (Slot T G)) (p q : �
   pub second-entry : entry_in number s2 ≡ with_item_of (entry_in number sq) (entry_in number sp)
   second-entry = ap (entry_in number) second-is ∙ entry_in-exchanged number sq sp gq h.p_occupied h.q_era
 
-  module _ (most : ℕ) (greatest : Option ℕ) (places : List ℕ) (generation : G) (maximum : Option ℕ) (a : Arena T) (seen : arena_of number xs places generation maximum ≡ a) (i j : ℕ) (i_is : i ≡ p + 1) (j_is : j ≡ q + 1) where
+  module _ (most : ℕ) (greatest : Option ℕ) (stack : List ℕ) (generation : G) (maximum : Option ℕ) (a : Arena T) (seen : arena_of number xs stack generation maximum ≡ a) (i j : ℕ) (i_is : i ≡ p + 1) (j_is : j ≡ q + 1) where
     at_first : slot a i ≡ entry_in number sp
-    at_first = slot-of number xs generation maximum places a p i sp seen i_is (subst (λ n. p < n) (sym (arena_capacity-of number xs generation maximum places) ∙ ap arena_capacity seen) h.p_within) h.p_is
+    at_first = slot-of number xs generation maximum stack a p i sp seen i_is (subst (λ n. p < n) (sym (arena_capacity-of number xs generation maximum stack) ∙ ap arena_capacity seen) h.p_within) h.p_is
 
     at_second : slot a j ≡ entry_in number sq
-    at_second = slot-of number xs generation maximum places a q j sq seen j_is (subst (λ n. q < n) (sym (arena_capacity-of number xs generation maximum places) ∙ ap arena_capacity seen) h.q_within) h.q_is
+    at_second = slot-of number xs generation maximum stack a q j sq seen j_is (subst (λ n. q < n) (sym (arena_capacity-of number xs generation maximum stack) ∙ ap arena_capacity seen) h.q_within) h.q_is
 
     first-now : entry_in number s1 ≡ with_item_of (slot a i) (slot a j)
     first-now = first-entry ∙ (ap (λ o. with_item_of o (entry_in number sq)) (sym at_first) ∙ ap (λ o. with_item_of (slot a i) o) (sym at_second))
@@ -101,15 +101,15 @@ module _ {T G : Type 0} (number : G → ℕ) (xs ys : List (Slot T G)) (p q : �
     second-now : entry_in number s2 ≡ with_item_of (slot a j) (slot a i)
     second-now = second-entry ∙ (ap (λ o. with_item_of o (entry_in number sp)) (sym at_second) ∙ ap (λ o. with_item_of (slot a j) o) (sym at_first))
 
-    half : arena_of number (set xs p s1) places generation maximum ≡ with_slot a i (with_item_of (slot a i) (slot a j))
-    half = set-view number most greatest xs generation maximum places a p i seen i_is s1 (with_item_of (slot a i) (slot a j)) first-now
+    half : arena_of number (set xs p s1) stack generation maximum ≡ with_slot a i (with_item_of (slot a i) (slot a j))
+    half = set-view number most greatest xs generation maximum stack a p i seen i_is s1 (with_item_of (slot a i) (slot a j)) first-now
 
-    pub swapped-view : arena_of number (set (set ys p s1) q s2) places generation maximum ≡ swapped a i j
+    pub swapped-view : arena_of number (set (set ys p s1) q s2) stack generation maximum ≡ swapped a i j
     swapped-view =
-        ap (λ ss. arena_of number ss places generation maximum) exchanged-slots
-        ∙ set-view number most greatest (set xs p s1) generation maximum places (with_slot a i (with_item_of (slot a i) (slot a j))) q j half j_is s2 (with_item_of (slot a j) (slot a i)) second-now
+        ap (λ ss. arena_of number ss stack generation maximum) exchanged-slots
+        ∙ set-view number most greatest (set xs p s1) generation maximum stack (with_slot a i (with_item_of (slot a i) (slot a j))) q j half j_is s2 (with_item_of (slot a j) (slot a i)) second-now
 
-    module _ (sound : IsSound most greatest (arena_of number xs places generation maximum)) where
+    module _ (sound : IsSound most greatest (arena_of number xs stack generation maximum)) where
       lawful : (k : ℕ) (e : ℕ × T) → slot a k ≡ Some e → IsLawfulGeneration greatest e.0
       lawful k e there = subst (λ v. ForSome (slot v k) (λ e. IsLawfulGeneration greatest e.0)) seen (sound.entries_lawful k) e there
 
@@ -119,10 +119,10 @@ module _ {T G : Type 0} (number : G → ℕ) (xs ys : List (Slot T G)) (p q : �
       occupied-second : (e : ℕ × T) × (slot a j ≡ Some e)
       occupied-second = some_of (slot a j) (ap is_some at_second ∙ is_some-entry_in number sq h.q_occupied)
 
-      first-sound : IsSound most greatest (arena_of number (set xs p s1) places generation maximum)
+      first-sound : IsSound most greatest (arena_of number (set xs p s1) stack generation maximum)
       first-sound =
           let other = occupied-second in
-          set-sound number most greatest xs generation maximum places a p i seen i_is s1 (λ e. (e.0, other.0.1)) sound (ap is_some occupied-first.1)
+          set-sound number most greatest xs generation maximum stack a p i seen i_is s1 (λ e. (e.0, other.0.1)) sound (ap is_some occupied-first.1)
           (first-now ∙ with_item_of-is (slot a i) (slot a j) other.0 other.1) (λ e there. lawful i e there)
 
       second-there : is_some (slot (with_slot a i (with_item_of (slot a i) (slot a j))) j) ≡ true
@@ -137,13 +137,13 @@ module _ {T G : Type 0} (number : G → ℕ) (xs ys : List (Slot T G)) (p q : �
             | inr different ↦ ap is_some (get_or-set_other a.slots i j (with_item_of (slot a i) (slot a j)) None different ∙ other.1)
           ]
 
-      pub swapped-sound : IsSound most greatest (arena_of number (set (set ys p s1) q s2) places generation maximum)
+      pub swapped-sound : IsSound most greatest (arena_of number (set (set ys p s1) q s2) stack generation maximum)
       swapped-sound =
           let one = occupied-first in
           let other = occupied-second in
           let new : entry_in number s2 ≡ Some (other.0.0, one.0.1) = second-now ∙ (with_item_of-is (slot a j) (slot a i) one.0 one.1 ∙ ap (option_map (λ (e : ℕ × T). (e.0, one.0.1))) other.1) in
           let b = with_slot a i (with_item_of (slot a i) (slot a j)) in
           let there = some_of (slot b j) second-there in
-          subst (λ ss. IsSound most greatest (arena_of number ss places generation maximum)) (sym exchanged-slots)
-          (set-sound number most greatest (set xs p s1) generation maximum places b q j half j_is s2 (λ e. (other.0.0, one.0.1)) first-sound second-there
+          subst (λ ss. IsSound most greatest (arena_of number ss stack generation maximum)) (sym exchanged-slots)
+          (set-sound number most greatest (set xs p s1) generation maximum stack b q j half j_is s2 (λ e. (other.0.0, one.0.1)) first-sound second-there
           (new ∙ ap (option_map (λ (e : ℕ × T). (other.0.0, one.0.1))) (sym there.1)) (λ e was. lawful j other.0 other.1))

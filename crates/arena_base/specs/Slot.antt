@@ -1,4 +1,4 @@
--- How an arena lies in memory: a vector of slots, of which the first has index 1, and a stack of vacant places.
+-- How an arena lies in memory: a vector of slots, of which the first has index 1, and a stack of vacant indexes.
 use Rattle.std.specs.Prelude.{◌≡◌, ℕ, ◌+◌, Option, Some, None, List, [], ◌∷◌, map, reverse, slice_index_or, ◌≤◌}
 use Rattle.arena_base.specs.Arena.{Arena}
 use Rattle.arena_base.specs.declared.slot.Slot.{Slot}
@@ -9,17 +9,17 @@ abbrev pub entry_in : {T G : Type 0} → (G → ℕ) → Slot T G → Option (�
 entry_in number (Occupied item era) = Some (number era, item)
 entry_in number Vacant = None
 
--- the arena of these slots, where the top of the stack of vacant places is taken next
+-- the arena of these slots, where the top of the stack of vacant indexes is taken next
 abbrev pub arena_of : {T G : Type 0} → (G → ℕ) → List (Slot T G) → List ℕ → G → Option ℕ → Arena T
-arena_of number slots vacant generation maximum =
-    record { slots = None ∷ map (entry_in number) slots; vacant = map (λ k. k + 1) (reverse vacant); generation = number generation; maximum = maximum }
+arena_of number slots stack generation maximum =
+    record { slots = None ∷ map (entry_in number) slots; vacant = reverse stack; generation = number generation; maximum = maximum }
 
 module _ {T G : Type 0} where
-  -- the vacant places, where the first slot has place `from`
-  abbrev pub vacant_places : ℕ → List (Slot T G) → List ℕ
-  vacant_places from [] = []
-  vacant_places from (Vacant ∷ slots) = from ∷ vacant_places (from + 1) slots
-  vacant_places from (Occupied item era ∷ slots) = vacant_places (from + 1) slots
+  -- the indexes of the vacant slots, where the first has index `from`
+  abbrev pub vacant_slots : ℕ → List (Slot T G) → List ℕ
+  vacant_slots from [] = []
+  vacant_slots from (Vacant ∷ slots) = from ∷ vacant_slots (from + 1) slots
+  vacant_slots from (Occupied item era ∷ slots) = vacant_slots (from + 1) slots
 
   -- the slots from place n on are vacant
   abbrev pub AllVacantFrom : ℕ → List (Slot T G) → Type 0

@@ -16,11 +16,12 @@ mod walks;
 mod write;
 
 use crate::invalidation::InvalidationOption;
-use crate::ptr::{Ptr, PtrGen, PtrInx};
+use crate::ptr::{P0, P8, Ptr, PtrGen, PtrInx};
 use crate::slot::Slot;
 pub use drain::Drain;
 use std::alloc::{Allocator, Global};
 use std::marker::Model;
+use std::mem::size_of;
 pub use walks::PtrAdvancer;
 
 /// Entries that are found by pointers: an index, and the generation that the arena had when the entry came.
@@ -33,14 +34,22 @@ pub use walks::PtrAdvancer;
 #[derive(Drop)]
 pub struct Arena<P: Ptr, T, A: Allocator = Global> {
     slots: Vec<Slot<T, P::Gen>, A>,
-    // The places in `slots` without an entry. The last is taken next. It has room for all, so that a removal needs no memory.
-    vacant: Vec<usize, A>,
+    // The indexes without an entry. The last is taken next. It has room for all, so that a removal needs no memory.
+    vacant: Vec<VacantInx<P>, A>,
     generation: P::Gen,
     maximum: Option<usize>,
 }
 
+// A vacant slot is listed by its index.
+type VacantInx<P> = <P as Ptr>::Inx;
+
+// So the list takes no more for each than an index: a byte in an arena of bytes, half a word in the usual one.
+const _: () = prove!(size_of::<VacantInx<P8>>() == 1);
+
+const _: () = prove!(size_of::<VacantInx<P0>>() == 4);
+
 impl<P: Ptr, T, A: Allocator> Model for Arena<P, T, A> {
-    ghost use Rattle.std.specs.Prelude.{◌≤◌, vec_len, vec_capacity};
+    ghost use Rattle.std.specs.Prelude.{◌≤◌, map, vec_len, vec_capacity};
     ghost use Rattle.arena_base.specs.Arena.{Arena as Slots};
 
     ghost Value = { Slots T };
@@ -48,9 +57,11 @@ impl<P: Ptr, T, A: Allocator> Model for Arena<P, T, A> {
     ghost use Rattle.arena_base.specs.Arena.{IsSound};
     ghost use Rattle.arena_base.specs.Slot.{arena_of};
 
-    ghost view = { λ a. arena_of P.Gen.number a.slots.items a.vacant.items a.generation a.maximum };
+    ghost view = { λ a. arena_of P.Gen.number a.slots.items (map P.Inx.number a.vacant.items) a.generation a.maximum };
 
-    ghost invariant = { λ a. IsSound P.Inx.most P.Gen.greatest (arena_of P.Gen.number a.slots.items a.vacant.items a.generation a.maximum) × (vec_len a.slots ≤ vec_capacity a.vacant) };
+    ghost invariant = { λ a. IsSound P.Inx.most P.Gen.greatest
+        (arena_of P.Gen.number a.slots.items (map P.Inx.number a.vacant.items) a.generation a.maximum)
+        × (vec_len a.slots ≤ vec_capacity a.vacant) };
 }
 
 impl<P: Ptr, T, A: Allocator> Arena<P, T, A> {

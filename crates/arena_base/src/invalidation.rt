@@ -40,7 +40,8 @@ impl<T> InvalidationResult<T> {
     /// The same answer of another value.
     pub fn map<U, F: FnOnce(T) -> U + Drop>(self, f: F) -> InvalidationResult<U>
         requires { ForSome (valid_value self) (F.pre f) }
-        ensures value { MatchOption (valid_value self) (result ≡ InvalidationResult.InvalidPtr) (λ x. IfSome (valid_value result) (F.post f x)) }
+        ensures value { MatchOption (valid_value self) (result ≡ InvalidationResult.InvalidPtr)
+            (λ x. IfSome (valid_value result) (F.post f x)) }
         ensures variant { IsSome (valid_value self) ↔ IsSome (valid_value result) }
         ensures overflow { has_overflowed result ≡ has_overflowed self }
     {

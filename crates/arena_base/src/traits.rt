@@ -56,8 +56,10 @@ pub trait ArenaTrait<P: Ptr, T> {
 
     /// Makes the capacity the greater of `n` and the greatest index with an entry. A refusal changes nothing.
     fn reallocate_min_capacity(&mut self, n: usize) -> Result<(), ReallocationError>
-        ensures ok { OnOk result (HoldsSame (content self.new) (with_capacity (content self.old) (max n (greatest_occupied (content self.old).slots)))) }
-        ensures beyond { (result ≡ Err ReallocationError.BeyondMaxCapacity) ↔ (arena_limit P.Inx.most (content self.old) < n) }
+        ensures ok { OnOk result (HoldsSame (content self.new)
+            (with_capacity (content self.old) (max n (greatest_occupied (content self.old).slots)))) }
+        ensures beyond { (result ≡ Err ReallocationError.BeyondMaxCapacity)
+            ↔ (arena_limit P.Inx.most (content self.old) < n) }
         ensures memory { result ≡ Err ReallocationError.AllocError → arena_capacity (content self.old) < n }
         ensures err { OnErr result (HoldsSame (content self.new) (content self.old)) };
 
@@ -79,7 +81,8 @@ pub trait ArenaTrait<P: Ptr, T> {
 
     /// The item that the pointer names, to be written.
     fn get_mut(&mut self, p: P) -> Option<&mut T>
-        ensures* writes_back { sem 𝓛 (LendsIf Self.row T.row self.entry result (written self.old (P.index p)) self.old) }
+        ensures* writes_back { sem 𝓛
+            (LendsIf Self.row T.row self.entry result (written self.old (P.index p)) self.old) }
         ensures value { option_copied_mut result ≡ item_of (content self.old) (P.index p) (P.era p) };
 
     /// Generation and item of the entry at the index.
@@ -111,23 +114,31 @@ pub trait ArenaTrait<P: Ptr, T> {
     fn invalidate(&mut self, p: P) -> InvalidationResult<P>
         ensures valid { is_some (valid_value result) ≡ is_some (item_of (content self.old) (P.index p) (P.era p)) }
         ensures index { IfSome (valid_value result) (λ q. P.index q ≡ P.index p) }
-        ensures era { IfSome (valid_value result) (λ q. P.era q ≡ next_generation P.Gen.greatest (content self.old).generation) }
-        ensures overflow { OnSome (valid_value result) (has_overflowed result ≡ overflows_after P.Gen.greatest (content self.old).generation) }
-        ensures renewed { OnSome (valid_value result) (HoldsSame (content self.new) (renewed P.Gen.greatest (content self.old) (P.index p))) }
+        ensures era { IfSome (valid_value result)
+            (λ q. P.era q ≡ next_generation P.Gen.greatest (content self.old).generation) }
+        ensures overflow { OnSome (valid_value result)
+            (has_overflowed result ≡ overflows_after P.Gen.greatest (content self.old).generation) }
+        ensures renewed { OnSome (valid_value result)
+            (HoldsSame (content self.new) (renewed P.Gen.greatest (content self.old) (P.index p))) }
         ensures invalid { IfNone (valid_value result) (HoldsSame (content self.new) (content self.old)) };
 
     /// Takes the entry out that the pointer names, and raises the generation.
     fn remove(&mut self, p: P) -> InvalidationResult<T>
         ensures value { valid_value result ≡ item_of (content self.old) (P.index p) (P.era p) }
-        ensures overflow { OnSome (valid_value result) (has_overflowed result ≡ overflows_after P.Gen.greatest (content self.old).generation) }
-        ensures removed { OnSome (valid_value result) (HoldsSame (content self.new) (without P.Gen.greatest (content self.old) (P.index p))) }
+        ensures overflow { OnSome (valid_value result)
+            (has_overflowed result ≡ overflows_after P.Gen.greatest (content self.old).generation) }
+        ensures removed { OnSome (valid_value result)
+            (HoldsSame (content self.new) (without P.Gen.greatest (content self.old) (P.index p))) }
         ensures invalid { IfNone (valid_value result) (HoldsSame (content self.new) (content self.old)) };
 
     /// Takes the entry at the index out, with its generation, and raises the arena's.
     fn remove_inx(&mut self, i: P::Inx) -> InvalidationResult<(P::Gen, T)>
-        ensures value { option_map (λ e. (P.Gen.number e.0, e.1)) (valid_value result) ≡ slot (content self.old) (P.Inx.number i) }
-        ensures overflow { OnSome (valid_value result) (has_overflowed result ≡ overflows_after P.Gen.greatest (content self.old).generation) }
-        ensures removed { OnSome (valid_value result) (HoldsSame (content self.new) (without P.Gen.greatest (content self.old) (P.Inx.number i))) }
+        ensures value { option_map (λ e. (P.Gen.number e.0, e.1)) (valid_value result)
+            ≡ slot (content self.old) (P.Inx.number i) }
+        ensures overflow { OnSome (valid_value result)
+            (has_overflowed result ≡ overflows_after P.Gen.greatest (content self.old).generation) }
+        ensures removed { OnSome (valid_value result)
+            (HoldsSame (content self.new) (without P.Gen.greatest (content self.old) (P.Inx.number i))) }
         ensures invalid { IfNone (valid_value result) (HoldsSame (content self.new) (content self.old)) };
 
     /// Drops all entries, and raises the generation once.
@@ -147,20 +158,25 @@ pub trait ArenaTrait<P: Ptr, T> {
     ) -> InvalidationOption<()>
         requires { F.IsAlwaysCallable f }
         ensures after { IsCompression P.index P.era F.step
-            (compressed_generation P.Gen.greatest reset (content self.old).generation) f (content self.old) (content self.new) }
-        ensures overflow { is_overflow result ≡ compression_overflows P.Gen.greatest reset (content self.old).generation };
+            (compressed_generation P.Gen.greatest reset (content self.old).generation) f
+            (content self.old) (content self.new) }
+        ensures overflow { is_overflow result
+            ≡ compression_overflows P.Gen.greatest reset (content self.old).generation };
 
     /// Moves all entries to the indexes from 1 on as `compress_with` does, each with the item that it has.
     fn compress(&mut self, reset: bool) -> InvalidationOption<()>
         ensures after { HoldsSame (content self.new) (compressed (content self.old)
-            (compressed_generation P.Gen.greatest reset (content self.old).generation) (items_rising (content self.old))) }
-        ensures overflow { is_overflow result ≡ compression_overflows P.Gen.greatest reset (content self.old).generation }
+            (compressed_generation P.Gen.greatest reset (content self.old).generation)
+            (items_rising (content self.old))) }
+        ensures overflow { is_overflow result
+            ≡ compression_overflows P.Gen.greatest reset (content self.old).generation }
     {
         self.compress_with(reset, |_old, item, _new| item)
     }
 
     // a written item is the map's
-    ghost written_content: { (s : Self) (i : ℕ) (item : T) → content (written s i item) ≡ with_item (content s) i item };
+    ghost written_content: { (s : Self) (i : ℕ) (item : T)
+        → content (written s i item) ≡ with_item (content s) i item };
 }
 
 /// Marks arenas whose entries lie in the slots that their indexes name.
@@ -170,7 +186,8 @@ pub trait CompactArenaTrait {}
 pub trait SetMaxCapacity<P: Ptr, T>: ArenaTrait<P, T> {
     /// Sets a maximum of the capacity. It is refused, and nothing changes, where the capacity is already greater.
     fn set_max_capacity(&mut self, n: usize) -> Result<(), MaxCapacityReductionError>
-        ensures ok { OnOk result (HoldsSame (Self.content self.new) (record (Self.content self.old) { maximum = Some n })) }
+        ensures ok { OnOk result
+            (HoldsSame (Self.content self.new) (record (Self.content self.old) { maximum = Some n })) }
         ensures refused { IsErr result ↔ (n < arena_capacity (Self.content self.old)) }
         ensures err { OnErr result (HoldsSame (Self.content self.new) (Self.content self.old)) };
 }

@@ -4,6 +4,8 @@ use Rattle.std.proofs.lemmas.Bool.Decides.{eqb_tells}
 use Rattle.std.specs.Option.{option_map}
 use Rattle.chain_base.specs.Chain.{Entry, times, IsDistinct, entry_at, without, with_item, with_generation}
 use Rattle.chain_base.specs.Compression.{lesser, place_of, moved, at_place, numbered}
+-- the steps of a transfer, told of other items
+pub use Rattle.chain_base.proofs.Transferring.{steps-retold}
 -- a list in two parts
 pub use Rattle.chain_base.proofs.Lists.{option_or-none, times-append, last_or-append, link_between-append, link_between-absent}
 -- entries at their places by rising index have the items that they had

@@ -14,7 +14,7 @@ use Rattle.chain_base.proofs.Lists.{entry_at-link, entry_at-absent, names_tells,
 use Rattle.chain_base.proofs.LaidOut.{slot-with_other, slot-with_same, slot-within, slot-linked_next, slot-linked_prev, walk-laid_out}
 use Rattle.chain_base.proofs.Renumbering.{link_at-split, prev_at, next_at, linked-occurs, named-occurs, next-of_prev, prev-of_next, times-changed, IsLaidOut-renumbered}
 use Rattle.chain_base.proofs.Ranking.{counts-alike}
-use Rattle.arena_base.proofs.Soundness.{limit_of-below}
+use Rattle.arena_base.proofs.CallerLemmas.{limit_of-below}
 use Rattle.chain_base.proofs.Naming.{neighbour-within}
 use Rattle.chain_base.proofs.Compressing.{held-some, renamed}
 

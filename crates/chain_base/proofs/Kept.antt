@@ -5,7 +5,7 @@ use Rattle.std.specs.List.{FoldsTo}
 use Rattle.arena_base.specs.Arena.{Arena}
 use Rattle.arena_base.specs.Walk.{entries_rising}
 use Rattle.arena_base.specs.Compression.{CompressionStep, IsCompression}
-use Rattle.arena_base.proofs.Compressing.{calls-retold}
+use Rattle.arena_base.proofs.CallerLemmas.{calls-retold}
 use Rattle.chain_base.specs.Link.{Link}
 use Rattle.chain_base.specs.Chain.{Chain}
 use Rattle.chain_base.specs.Compression.{entries_rising as chain_rising, IsCompression as IsChainCompression}

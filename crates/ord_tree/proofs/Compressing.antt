@@ -6,9 +6,9 @@ use Rattle.arena_base.specs.Compression.{CompressionStep}
 use Rattle.chain_base.specs.Chain.{Entry, Chain, entry_at}
 use Rattle.chain_base.specs.Compression.{lesser, entry_before, rising_among, entries_rising, refilled, moved, compressed, at_place, relocated, numbered, canonical, replaced, left_empty, IsCompression, Transferring, IsTransfer}
 use Rattle.arena_base.specs.declared.invalidation.InvalidationOption.{InvalidationOption}
-use Rattle.chain_base.proofs.Transferring.{steps-retold}
+use Rattle.chain_base.proofs.CallerLemmas.{steps-retold}
 use Rattle.ord_tree.specs.MapNode.{MapsTaken}
-use Rattle.arena_base.proofs.Compressing.{calls-retold}
+use Rattle.arena_base.proofs.CallerLemmas.{calls-retold}
 use Rattle.ord_tree.specs.declared.node.SimpleOrdArenaNode.{SimpleOrdArenaNode}
 use Rattle.ord_tree.specs.Node.{bare_entry, bare, entry_in}
 use Rattle.ord_tree.proofs.Trees.{entry_at-bare, vacant_among-bare}

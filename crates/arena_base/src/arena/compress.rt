@@ -65,7 +65,9 @@ impl<P: Ptr, T, A: Allocator> Arena<P, T, A> {
 
     // Begins the generations again, or raises the generation.
     fn restart(&mut self, reset: bool) -> InvalidationOption<()>
-        ensures after { self.new ≡ record self.old { generation = compressed_generation P.Gen.greatest reset self.old.generation } }
+        ensures after { self.new ≡ record self.old {
+          generation = compressed_generation P.Gen.greatest reset self.old.generation;
+        } }
         ensures overflow { is_overflow result ≡ compression_overflows P.Gen.greatest reset self.old.generation }
     {
         if reset {

@@ -62,8 +62,8 @@ impl<P: Ptr, T, A: Allocator> Arena<P, T, A> {
         ensures vacant { IfSome result (λ p. IsVacant self.now (P.index p)) }
         ensures full { IsNone result ↔ (arena_len self.now ≡ arena_capacity self.now) }
     {
-        let place = *self.vacant.last()?;
-        Some(pointer(place, self.generation))
+        let i = *self.vacant.last()?;
+        Some(P::_from_raw(i, self.generation))
     }
 
     /// The pointer of the entry with the least index.
@@ -123,8 +123,7 @@ impl<P: Ptr, T, A: Allocator> Arena<P, T, A> {
     {
         // Where the slots are in sight, the index is known to be within them: so nothing is tested.
         let _ = self.slots.len();
-        let n = i.try_into_usize().unwrap_or(0);
-        n - 1
+        place_at(i)
     }
 }
 
@@ -134,5 +133,21 @@ pub(super) fn pointer<P: Ptr>(place: usize, generation: P::Gen) -> P
     ensures index { P.index result ≡ place + 1 }
     ensures era { P.era result ≡ P.Gen.number generation }
 {
-    P::_from_raw(P::Inx::try_from_usize(place + 1).unwrap(), generation)
+    P::_from_raw(inx_at(place), generation)
+}
+
+// The index of the slot at the place.
+pub(super) fn inx_at<I: PtrInx>(place: usize) -> I
+    requires { place < I.most }
+    ensures { I.number result ≡ place + 1 }
+{
+    I::try_from_usize(place + 1).unwrap()
+}
+
+// The place of the slot at the index.
+pub(super) fn place_at<I: PtrInx>(i: I) -> usize
+    requires { 0 < I.number i }
+    ensures { I.number i ≡ result + 1 }
+{
+    i.try_into_usize().unwrap_or(0) - 1
 }

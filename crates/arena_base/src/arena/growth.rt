@@ -1,11 +1,12 @@
 //! Making an arena, and changing its capacity.
-ghost use Rattle.std.specs.Prelude.{◌≡◌, ◌≢◌, ◌+◌, ◌-◌, ◌<◌, ◌≤◌, ◌↔◌, ◌++◌, ℕ, max, reverse, take, replicate, length, vec_len, vec_capacity, slice_index_or, IsOk, IsErr, IfOk, OnOk, OnErr, MatchResult};
+ghost use Rattle.std.specs.Prelude.{◌≡◌, ◌≢◌, ◌+◌, ◌-◌, ◌<◌, ◌≤◌, ◌↔◌, ◌++◌, ℕ, map, max, reverse, take, replicate, length, vec_len, vec_capacity, slice_index_or, IsOk, IsErr, IfOk, OnOk, OnErr, MatchResult};
 ghost use Rattle.arena_base.specs.Arena.{IsOccupied, slot, arena_len, arena_capacity, arena_limit, new_arena, with_capacity, cleared, emptied, greatest_occupied};
 ghost use Rattle.arena_base.specs.Generation.{overflows_after};
 ghost use Rattle.arena_base.specs.Invalidation.{is_overflow};
-ghost use Rattle.arena_base.specs.Slot.{vacant_places, AllVacantFrom};
+ghost use Rattle.arena_base.specs.Slot.{vacant_slots, AllVacantFrom};
 
 use super::Arena;
+use super::get::inx_at;
 use crate::error::{MaxCapacityReductionError, ReallocationError};
 use crate::invalidation::InvalidationOption;
 use crate::ptr::{Ptr, PtrGen, PtrInx};
@@ -187,21 +188,22 @@ fn cut_vacant<T, G: Copy, A: Allocator>(slots: &mut Vec<Slot<T, G>, A>, n: usize
     }
 }
 
-// Lists the vacant places from the last to the first. The first `full` slots have entries, and are not looked at.
-pub(super) fn list_vacant<T, G, A: Allocator>(
+// Lists the vacant indexes from the last to the first. The first `full` slots have entries, and are not looked at.
+pub(super) fn list_vacant<T, G, I: PtrInx, A: Allocator>(
     slots: &[Slot<T, G>],
     full: usize,
-    vacant: &mut Vec<usize, A>,
+    vacant: &mut Vec<I, A>,
 )
     requires room { length slots.now ≤ vec_capacity vacant.old }
+    requires named { length slots.now ≤ I.most }
     requires full { (k : ℕ) → k < full → slice_index_or slots.now k Slot.Vacant ≢ Slot.Vacant }
-    ensures items { vacant.new.items ≡ reverse (vacant_places 0 slots.now) }
+    ensures items { map I.number vacant.new.items ≡ reverse (vacant_slots 1 slots.now) }
     ensures capacity { vec_capacity vacant.new ≡ vec_capacity vacant.old }
 {
     vacant.clear();
     for place in (full..slots.len()).rev() {
         if let Slot::Vacant = slots[place] {
-            vacant.push_reserved(place);
+            vacant.push_reserved(inx_at(place));
         }
     }
 }

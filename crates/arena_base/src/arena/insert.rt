@@ -3,7 +3,7 @@ ghost use Rattle.std.specs.Prelude.{◌≡◌, ◌<◌, ◌≤◌, ◌↔◌, �
 ghost use Rattle.arena_base.specs.Arena.{arena_len, arena_capacity, arena_limit, next_index, grown_capacity, with_room, IsInsertion, IsSound};
 
 use super::Arena;
-use super::get::pointer;
+use super::get::place_at;
 use crate::error::InsertionError;
 use crate::ptr::{Ptr, PtrInx};
 use crate::slot::Slot;
@@ -32,8 +32,10 @@ impl<P: Ptr, T: Drop, A: Allocator> Arena<P, T, A> {
     /// A growth makes the capacity twice as great, at least 4, and at most its limit. It is refused where the capacity is at the
     /// limit or memory is refused; the item is then dropped, and nothing else changes.
     pub fn insert_reallocating(&mut self, item: T) -> Result<P, InsertionError>
-        ensures ok { IfOk result (λ p. IsInsertion (with_room P.Inx.most self.old) self.new item (P.index p) (P.era p)) }
-        ensures beyond { (result ≡ Err InsertionError.BeyondMaxCapacity) ↔ (arena_len self.old ≡ arena_limit P.Inx.most self.old) }
+        ensures ok { IfOk result
+            (λ p. IsInsertion (with_room P.Inx.most self.old) self.new item (P.index p) (P.era p)) }
+        ensures beyond { (result ≡ Err InsertionError.BeyondMaxCapacity)
+            ↔ (arena_len self.old ≡ arena_limit P.Inx.most self.old) }
         ensures memory { result ≡ Err InsertionError.AllocError → arena_len self.old ≡ arena_capacity self.old }
         ensures refusal { IfErr result (λ e. (e ≡ InsertionError.BeyondMaxCapacity) ⊎ (e ≡ InsertionError.AllocError)) }
         ensures err { OnErr result (self.new ≡ self.old) }
@@ -51,7 +53,8 @@ impl<P: Ptr, T: Drop, A: Allocator> Arena<P, T, A> {
         requires { self.old.vacant ≡ [] }
         ensures ok { OnOk result (self.new ≡ with_room P.Inx.most self.old) }
         ensures room { OnOk result (0 < length self.new.vacant) }
-        ensures beyond { (result ≡ Err InsertionError.BeyondMaxCapacity) ↔ (arena_len self.old ≡ arena_limit P.Inx.most self.old) }
+        ensures beyond { (result ≡ Err InsertionError.BeyondMaxCapacity)
+            ↔ (arena_len self.old ≡ arena_limit P.Inx.most self.old) }
         ensures refusal { IfErr result (λ e. (e ≡ InsertionError.BeyondMaxCapacity) ⊎ (e ≡ InsertionError.AllocError)) }
         ensures err { OnErr result (self.new ≡ self.old) }
     {
@@ -73,8 +76,8 @@ impl<P: Ptr, T: Drop, A: Allocator> Arena<P, T, A> {
         ensures sound { IsSound P.Inx.most P.Gen.greatest self.new }
     {
         let generation = self.generation;
-        let place = self.vacant.take_last();
-        self.slots[place] = Slot::Occupied(item, generation);
-        pointer(place, generation)
+        let i = self.vacant.take_last();
+        self.slots[place_at(i)] = Slot::Occupied(item, generation);
+        P::_from_raw(i, generation)
     }
 }

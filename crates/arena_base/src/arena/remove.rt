@@ -15,7 +15,8 @@ impl<P: Ptr, T, A: Allocator> Arena<P, T, A> {
     /// Takes the entry out that the pointer names, and raises the generation. The next insertion takes its slot.
     pub fn remove(&mut self, p: P) -> InvalidationResult<T>
         ensures value { valid_value result ≡ item_of self.old (P.index p) (P.era p) }
-        ensures overflow { OnSome (valid_value result) (has_overflowed result ≡ overflows_after P.Gen.greatest self.old.generation) }
+        ensures overflow { OnSome (valid_value result)
+            (has_overflowed result ≡ overflows_after P.Gen.greatest self.old.generation) }
         ensures removed { OnSome (valid_value result) (self.new ≡ without P.Gen.greatest self.old (P.index p)) }
         ensures invalid { IfNone (valid_value result) (self.new ≡ self.old) }
     {
@@ -30,8 +31,10 @@ impl<P: Ptr, T, A: Allocator> Arena<P, T, A> {
 
     /// Takes the entry at the index out, with its generation, and raises the arena's. The next insertion takes its slot.
     pub fn remove_inx(&mut self, i: P::Inx) -> InvalidationResult<(P::Gen, T)>
-        ensures value { option_map (λ e. (P.Gen.number e.0, e.1)) (valid_value result) ≡ slot self.old (P.Inx.number i) }
-        ensures overflow { OnSome (valid_value result) (has_overflowed result ≡ overflows_after P.Gen.greatest self.old.generation) }
+        ensures value { option_map (λ e. (P.Gen.number e.0, e.1)) (valid_value result)
+            ≡ slot self.old (P.Inx.number i) }
+        ensures overflow { OnSome (valid_value result)
+            (has_overflowed result ≡ overflows_after P.Gen.greatest self.old.generation) }
         ensures removed { OnSome (valid_value result) (self.new ≡ without P.Gen.greatest self.old (P.Inx.number i)) }
         ensures invalid { IfNone (valid_value result) (self.new ≡ self.old) }
     {
@@ -45,7 +48,8 @@ impl<P: Ptr, T, A: Allocator> Arena<P, T, A> {
     /// slot.
     pub fn remove_entry(&mut self, i: P::Inx) -> InvalidationOption<(P::Gen, T)>
         requires { IsOccupied self.old (P.Inx.number i) }
-        ensures value { slot self.old (P.Inx.number i) ≡ Some (P.Gen.number (allowed_value result).0, (allowed_value result).1) }
+        ensures value { slot self.old (P.Inx.number i)
+            ≡ Some (P.Gen.number (allowed_value result).0, (allowed_value result).1) }
         ensures overflow { is_overflow result ≡ overflows_after P.Gen.greatest self.old.generation }
         ensures removed { self.new ≡ without P.Gen.greatest self.old (P.Inx.number i) }
     {
@@ -63,7 +67,8 @@ impl<P: Ptr, T, A: Allocator> Arena<P, T, A> {
         ensures valid { is_some (valid_value result) ≡ is_some (item_of self.old (P.index p) (P.era p)) }
         ensures index { IfSome (valid_value result) (λ q. P.index q ≡ P.index p) }
         ensures era { IfSome (valid_value result) (λ q. P.era q ≡ next_generation P.Gen.greatest self.old.generation) }
-        ensures overflow { OnSome (valid_value result) (has_overflowed result ≡ overflows_after P.Gen.greatest self.old.generation) }
+        ensures overflow { OnSome (valid_value result)
+            (has_overflowed result ≡ overflows_after P.Gen.greatest self.old.generation) }
         ensures renewed { OnSome (valid_value result) (self.new ≡ renewed P.Gen.greatest self.old (P.index p)) }
         ensures invalid { IfNone (valid_value result) (self.new ≡ self.old) }
     {
@@ -84,7 +89,8 @@ impl<P: Ptr, T, A: Allocator> Arena<P, T, A> {
     // Gives the entry at an index that has one the arena's generation.
     fn renew(&mut self, i: P::Inx)
         requires { IsOccupied self.old (P.Inx.number i) }
-        ensures { self.new ≡ with_slot self.old (P.Inx.number i) (option_map (λ e. (self.old.generation, e.1)) (slot self.old (P.Inx.number i))) }
+        ensures { self.new ≡ with_slot self.old (P.Inx.number i)
+            (option_map (λ e. (self.old.generation, e.1)) (slot self.old (P.Inx.number i))) }
     {
         let place = self.place_of_entry(i);
         let generation = self.generation;
@@ -99,7 +105,7 @@ impl<P: Ptr, T, A: Allocator> Arena<P, T, A> {
         ensures after { self.new ≡ freed self.old (P.Inx.number i) }
     {
         let place = self.place_of_entry(i);
-        self.vacant.push_reserved(place);
+        self.vacant.push_reserved(i);
         let slot = &mut self.slots[place];
         slot.take()
     }

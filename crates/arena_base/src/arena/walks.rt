@@ -93,7 +93,8 @@ impl<P: Ptr, T, A: Allocator> Arena<P, T, A> {
             (λ e. rising_from self.now (from + 1) ≡ (P.index e.1, P.era e.1) ∷ rising_from self.now (e.0 + 1)) }
         ensures entries { MatchOption result
             (entries_rising self.now (from + 1) ≡ [])
-            (λ e. (item : T) × (entries_rising self.now (from + 1) ≡ (P.index e.1, P.era e.1, item) ∷ entries_rising self.now (e.0 + 1))) }
+            (λ e. (item : T) × (entries_rising self.now (from + 1)
+            ≡ (P.index e.1, P.era e.1, item) ∷ entries_rising self.now (e.0 + 1))) }
         ensures next { IfSome result (λ e. e.0 ≡ P.index e.1) }
     {
         for place in from..self.capacity() {

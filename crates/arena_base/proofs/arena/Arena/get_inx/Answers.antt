@@ -1,4 +1,4 @@
-use Rattle.std.proofs.Common.{sym, ap, ◌∙◌}
+use Rattle.std.proofs.Common.{map, sym, ap, ◌∙◌}
 use Rattle.arena_base.specs.Slot.{entry_in}
 use Rattle.arena_base.proofs.Steps.{slot-of}
 use Rattle.arena_base.proofs.arena.Arena.get_inx.Goals as goal
@@ -8,7 +8,7 @@ returns-in-Occupied g c =
     let s = c.self.inside in
     let found = c.in_ok-place.ensures in
     let number = g.P.Gen.PtrGen.number in
-    sym (slot-of number s.slots.items s.generation s.maximum s.vacant.items c.args.self.now c.in_ok-place.place (g.P.Inx.PtrInx.number c.args.i) c.index.result.now
+    sym (slot-of number s.slots.items s.generation s.maximum (map g.P.Inx.PtrInx.number s.vacant.items) c.args.self.now c.in_ok-place.place (g.P.Inx.PtrInx.number c.args.i) c.index.result.now
     c.self.view_is found.number found.within c.index.ensures ∙ ap (entry_in number) c.in-Occupied.is)
 
 pub returns-in-Vacant : goal.returns-in-Vacant
@@ -16,5 +16,5 @@ returns-in-Vacant g c =
     let s = c.self.inside in
     let found = c.in_ok-place.ensures in
     let number = g.P.Gen.PtrGen.number in
-    sym (slot-of number s.slots.items s.generation s.maximum s.vacant.items c.args.self.now c.in_ok-place.place (g.P.Inx.PtrInx.number c.args.i) c.index.result.now
+    sym (slot-of number s.slots.items s.generation s.maximum (map g.P.Inx.PtrInx.number s.vacant.items) c.args.self.now c.in_ok-place.place (g.P.Inx.PtrInx.number c.args.i) c.index.result.now
     c.self.view_is found.number found.within c.index.ensures ∙ ap (entry_in number) c.in-Vacant.is)

@@ -1,36 +1,49 @@
-use Rattle.arena_base.proofs.Steps.{top-within, top-limit, sound-put, insertion}
-use Rattle.std.proofs.Common.{arith}
+use Rattle.std.proofs.Common.{◌≡◌, ◌∷◌, [], ◌++◌, map, arith}
+use Rattle.arena_base.proofs.Steps.{numbers-pushed, top-above, top-within, sound-put, insertion}
+use Rattle.arena_base.proofs.arena.Arena.insert_next.Given.{Over}
+use Rattle.arena_base.proofs.arena.Arena.insert_next.Goals.{After-take_last-i}
 use Rattle.arena_base.proofs.arena.Arena.insert_next.Goals as goal
+
+-- the stack as numbers
+top : (g : Over) (c : After-take_last-i g)
+    → map g.P.Inx.PtrInx.number c.self.inside.vacant.items ≡ map g.P.Inx.PtrInx.number c.take_last-i.new.self.items ++ g.P.Inx.PtrInx.number c.take_last-i.result ∷ []
+top g c = numbers-pushed g.P.Inx.PtrInx.number c.self.inside.vacant.items c.take_last-i.new.self.items c.take_last-i.result c.take_last-i.ensures.items
+
+pub place_at-requires : goal.place_at-requires
+place_at-requires g c =
+    let s = c.self.inside in
+    let number = g.P.Inx.PtrInx.number in
+    top-above g.P.Gen.PtrGen.number g.P.Inx.PtrInx.most g.P.Gen.PtrGen.greatest s.slots.items s.generation s.maximum (map number s.vacant.items) (map number c.take_last-i.new.self.items) (number c.take_last-i.result)
+    (top g (goal.at.place_at-requires g c).After-take_last-i) c.args.self.now c.self.view_is c.self.invariant.0
 
 pub index_mut-requires : goal.index_mut-requires
 index_mut-requires g c =
     let s = c.self.inside in
-    let within = top-within g.P.Gen.PtrGen.number g.P.Inx.PtrInx.most g.P.Gen.PtrGen.greatest s.slots.items s.generation s.maximum s.vacant.items c.take_last-place.new.self.items c.take_last-place.result
-    c.take_last-place.ensures.items c.args.self.now c.self.view_is c.self.invariant.0 in
+    let number = g.P.Inx.PtrInx.number in
+    let within = top-within g.P.Gen.PtrGen.number g.P.Inx.PtrInx.most g.P.Gen.PtrGen.greatest s.slots.items s.generation s.maximum (map number s.vacant.items) (map number c.take_last-i.new.self.items) (number c.take_last-i.result)
+    (top g (goal.at.index_mut-requires g c).After-take_last-i) c.args.self.now c.self.view_is c.self.invariant.0 c.place_at.result c.place_at.ensures in
     omega (arith, s.slots.ok.0)
-
-pub pointer-requires : goal.pointer-requires
-pointer-requires g c =
-    let s = c.self.inside in
-    top-limit g.P.Gen.PtrGen.number g.P.Inx.PtrInx.most g.P.Gen.PtrGen.greatest s.slots.items s.generation s.maximum s.vacant.items c.take_last-place.new.self.items c.take_last-place.result
-    c.take_last-place.ensures.items c.args.self.now c.self.view_is c.self.invariant.0
 
 pub invariant_of-self : goal.invariant_of-self
 invariant_of-self g c =
-    let s = c.self.inside in (
-      sound-put g.P.Gen.PtrGen.number g.P.Inx.PtrInx.most g.P.Gen.PtrGen.greatest s.slots.items s.generation s.maximum s.vacant.items c.take_last-place.new.self.items c.take_last-place.result
-          c.take_last-place.ensures.items c.args.self.now c.self.view_is c.self.invariant.0 c.args.item,
+    let s = c.self.inside in
+    let number = g.P.Inx.PtrInx.number in (
+      sound-put g.P.Gen.PtrGen.number g.P.Inx.PtrInx.most g.P.Gen.PtrGen.greatest s.slots.items s.generation s.maximum (map number s.vacant.items) (map number c.take_last-i.new.self.items) (number c.take_last-i.result)
+          (top g (goal.at.invariant_of-self g c).After-take_last-i) c.args.self.now c.self.view_is c.self.invariant.0 c.place_at.result c.place_at.ensures c.args.item,
       omega (arith, c.self.invariant.1),
     )
 
 pub returns-clause-inserted : goal.returns-clause-inserted
 returns-clause-inserted g c =
     let s = c.self.inside in
-    insertion g.P.Gen.PtrGen.number g.P.Inx.PtrInx.most g.P.Gen.PtrGen.greatest s.slots.items s.generation s.maximum s.vacant.items c.take_last-place.new.self.items c.take_last-place.result
-    c.take_last-place.ensures.items c.args.self.now c.self.view_is c.self.invariant.0 c.args.item (g.P.Ptr.index c.pointer.result) (g.P.Ptr.era c.pointer.result) c.pointer.ensures.index c.pointer.ensures.era
+    let number = g.P.Inx.PtrInx.number in
+    insertion g.P.Gen.PtrGen.number g.P.Inx.PtrInx.most g.P.Gen.PtrGen.greatest s.slots.items s.generation s.maximum (map number s.vacant.items) (map number c.take_last-i.new.self.items) (number c.take_last-i.result)
+    (top g (goal.at.returns-clause-inserted g c).After-take_last-i) c.args.self.now c.self.view_is c.self.invariant.0 c.place_at.result c.place_at.ensures c.args.item
+    (g.P.Ptr.index c._from_raw.result) (g.P.Ptr.era c._from_raw.result) c._from_raw.ensures.index c._from_raw.ensures.era
 
 pub returns-clause-sound : goal.returns-clause-sound
 returns-clause-sound g c =
     let s = c.self.inside in
-    sound-put g.P.Gen.PtrGen.number g.P.Inx.PtrInx.most g.P.Gen.PtrGen.greatest s.slots.items s.generation s.maximum s.vacant.items c.take_last-place.new.self.items c.take_last-place.result
-    c.take_last-place.ensures.items c.args.self.now c.self.view_is c.self.invariant.0 c.args.item
+    let number = g.P.Inx.PtrInx.number in
+    sound-put g.P.Gen.PtrGen.number g.P.Inx.PtrInx.most g.P.Gen.PtrGen.greatest s.slots.items s.generation s.maximum (map number s.vacant.items) (map number c.take_last-i.new.self.items) (number c.take_last-i.result)
+    (top g (goal.at.returns-clause-sound g c).After-take_last-i) c.args.self.now c.self.view_is c.self.invariant.0 c.place_at.result c.place_at.ensures c.args.item

@@ -1,4 +1,4 @@
-use Rattle.std.proofs.Common.{is_some, refl, sym, ap, ◌∙◌}
+use Rattle.std.proofs.Common.{map, is_some, refl, sym, ap, ◌∙◌}
 use Rattle.arena_base.specs.Arena.{with_item, slot}
 use Rattle.arena_base.proofs.Occupied.{is_some-slot_entry, entry_in-parts}
 use Rattle.arena_base.proofs.Steps.{slot-of}
@@ -9,7 +9,7 @@ generation-generation-requires g c =
     let s = c.self.inside in
     let number = g.P.Gen.PtrGen.number in
     let found = c.place_of_entry-place.ensures in
-    let was = slot-of number s.slots.items s.generation s.maximum s.vacant.items c.args.self.now c.place_of_entry-place.result (g.P.Inx.PtrInx.number c.args.i) c.index.result.now
+    let was = slot-of number s.slots.items s.generation s.maximum (map g.P.Inx.PtrInx.number s.vacant.items) c.args.self.now c.place_of_entry-place.result (g.P.Inx.PtrInx.number c.args.i) c.index.result.now
     c.self.view_is found.number found.within c.index.ensures in
     is_some-slot_entry number c.index.result.now (ap is_some (sym was) ∙ c.requires)
 
@@ -20,7 +20,7 @@ returns g c =
     let a = c.args.self.now in
     let i = g.P.Inx.PtrInx.number c.args.i in
     let found = c.place_of_entry-place.ensures in
-    let was = slot-of number s.slots.items s.generation s.maximum s.vacant.items a c.place_of_entry-place.result i c.index.result.now
+    let was = slot-of number s.slots.items s.generation s.maximum (map g.P.Inx.PtrInx.number s.vacant.items) a c.place_of_entry-place.result i c.index.result.now
     c.self.view_is found.number found.within c.index.ensures in (
       (refl, λ w. ap (λ n. with_item a n w) (sym found.number)),
       record {

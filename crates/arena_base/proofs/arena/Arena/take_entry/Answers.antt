@@ -1,6 +1,6 @@
-use Rattle.std.proofs.Common.{is_some, sym, ap, ◌∙◌, arith}
+use Rattle.std.proofs.Common.{map, is_some, sym, ap, ◌∙◌, arith}
 use Rattle.arena_base.proofs.Occupied.{is_some-slot_entry, entry_in-slot_entry}
-use Rattle.arena_base.proofs.Steps.{slot-of, take-view, take-sound}
+use Rattle.arena_base.proofs.Steps.{slot-of, numbers-pushed, take-view, take-sound}
 use Rattle.arena_base.proofs.arena.Arena.take_entry.Goals as goal
 
 pub take-requires : goal.take-requires
@@ -8,7 +8,7 @@ take-requires g c =
     let s = c.self.inside in
     let number = g.P.Gen.PtrGen.number in
     let found = c.place_of_entry-place.ensures in
-    let was = slot-of number s.slots.items s.generation s.maximum s.vacant.items c.args.self.now c.place_of_entry-place.result (g.P.Inx.PtrInx.number c.args.i) c.index_mut-slot.result.now
+    let was = slot-of number s.slots.items s.generation s.maximum (map g.P.Inx.PtrInx.number s.vacant.items) c.args.self.now c.place_of_entry-place.result (g.P.Inx.PtrInx.number c.args.i) c.index_mut-slot.result.now
     c.self.view_is found.number found.within c.index_mut-slot.ensures.value in
     is_some-slot_entry number c.index_mut-slot.result.now (ap is_some (sym was) ∙ c.requires)
 
@@ -17,8 +17,8 @@ invariant_of-self g c =
     let s = c.self.inside in
     let number = g.P.Gen.PtrGen.number in
     let found = c.place_of_entry-place.ensures in (
-      take-sound number g.P.Inx.PtrInx.most g.P.Gen.PtrGen.greatest s.slots.items s.generation s.maximum s.vacant.items c.args.self.now c.place_of_entry-place.result (g.P.Inx.PtrInx.number c.args.i)
-          c.self.view_is found.number c.push_reserved.new.self.items c.take.new.self c.take.ensures.after c.push_reserved.ensures.items c.self.invariant.0 c.requires,
+      take-sound number g.P.Inx.PtrInx.most g.P.Gen.PtrGen.greatest s.slots.items s.generation s.maximum (map g.P.Inx.PtrInx.number s.vacant.items) c.args.self.now c.place_of_entry-place.result (g.P.Inx.PtrInx.number c.args.i)
+          c.self.view_is found.number (map g.P.Inx.PtrInx.number c.push_reserved.new.self.items) c.take.new.self c.take.ensures.after (numbers-pushed g.P.Inx.PtrInx.number _ _ _ c.push_reserved.ensures.items) c.self.invariant.0 c.requires,
       omega (arith, c.self.invariant.1),
     )
 
@@ -27,7 +27,7 @@ returns-clause-value g c =
     let s = c.self.inside in
     let number = g.P.Gen.PtrGen.number in
     let found = c.place_of_entry-place.ensures in
-    slot-of number s.slots.items s.generation s.maximum s.vacant.items c.args.self.now c.place_of_entry-place.result (g.P.Inx.PtrInx.number c.args.i) c.index_mut-slot.result.now
+    slot-of number s.slots.items s.generation s.maximum (map g.P.Inx.PtrInx.number s.vacant.items) c.args.self.now c.place_of_entry-place.result (g.P.Inx.PtrInx.number c.args.i) c.index_mut-slot.result.now
     c.self.view_is found.number found.within c.index_mut-slot.ensures.value
     ∙ entry_in-slot_entry number c.index_mut-slot.result.now c.take.result c.take.ensures.value
 
@@ -36,5 +36,5 @@ returns-clause-after g c =
     let s = c.self.inside in
     let number = g.P.Gen.PtrGen.number in
     let found = c.place_of_entry-place.ensures in
-    take-view number g.P.Inx.PtrInx.most g.P.Gen.PtrGen.greatest s.slots.items s.generation s.maximum s.vacant.items c.args.self.now c.place_of_entry-place.result (g.P.Inx.PtrInx.number c.args.i)
-    c.self.view_is found.number c.push_reserved.new.self.items c.take.new.self c.take.ensures.after c.push_reserved.ensures.items
+    take-view number g.P.Inx.PtrInx.most g.P.Gen.PtrGen.greatest s.slots.items s.generation s.maximum (map g.P.Inx.PtrInx.number s.vacant.items) c.args.self.now c.place_of_entry-place.result (g.P.Inx.PtrInx.number c.args.i)
+    c.self.view_is found.number (map g.P.Inx.PtrInx.number c.push_reserved.new.self.items) c.take.new.self c.take.ensures.after (numbers-pushed g.P.Inx.PtrInx.number _ _ _ c.push_reserved.ensures.items)

@@ -1,9 +1,9 @@
-use Rattle.std.proofs.Common.{◌≡◌, reverse, drop, vec_capacity}
-use Rattle.arena_base.specs.Slot.{vacant_places}
+use Rattle.std.proofs.Common.{◌≡◌, ◌+◌, map, reverse, drop, vec_capacity}
+use Rattle.arena_base.specs.Slot.{vacant_slots}
 use Rattle.arena_base.proofs.arena.growth.list_vacant.Given as goal
 
 abbrev pub invariant-loop-place : goal.invariant-loop-place
 invariant-loop-place g l = record {
-  items : l.vacant.items ≡ reverse (vacant_places l.place (drop l.place l.slots));
+  items : map g.I.PtrInx.number l.vacant.items ≡ reverse (vacant_slots (l.place + 1) (drop l.place l.slots));
   capacity : vec_capacity l.vacant ≡ vec_capacity l.initial.vacant;
 }
