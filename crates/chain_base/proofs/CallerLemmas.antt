@@ -13,6 +13,9 @@ use Rattle.chain_base.proofs.Renumbering.{times-source}
 pub use Rattle.chain_base.proofs.Lists.{option_or-none, times-append, last_or-append, link_between-append, link_between-absent}
 -- the places of indexes by rising index
 pub use Rattle.chain_base.proofs.Ranking.{lesser-zero, lesser-next, compressed-at, compressed-length, length-entries}
+pub use Rattle.chain_base.proofs.Canonical.{occurs-entry}
+-- the greatest index with an entry
+pub use Rattle.chain_base.proofs.Vacancy.{below-greatest, greatest-or_none, times-greatest, below-greatest_index}
 
 module _ {T : Type 0} where
   -- an index that no entry has finds none

@@ -5,10 +5,10 @@ use Rattle.std.proofs.lemmas.Bool.Decides.{eqb_tells, leb_tells}
 use Rattle.std.proofs.lemmas.List.Sums.{sum_by-cons}
 use Rattle.std.specs.Option.{option_map}
 use Rattle.arena_base.specs.Generation.{next_generation}
-use Rattle.arena_base.specs.Arena.{Arena, HoldsSame, arena_len, arena_capacity, without as arena_without, renewed as arena_renewed, cleared as arena_cleared, with_item, slot, item_of, item_if, IsLawful}
+use Rattle.arena_base.specs.Arena.{Arena, HoldsSame, arena_len, arena_capacity, without as arena_without, renewed as arena_renewed, cleared as arena_cleared, with_item, slot, item_of, item_if, limit_of, IsLawful}
 use Rattle.chain_base.specs.Chain.{Entry, Chain, entry_at, times, IsSound, IsDistinct, without, with_generation, removed, renewed, cleared, item_of as item_among, with_item as list_with_item}
 use Rattle.chain_base.specs.Compression.{lesser}
-use Rattle.chain_base.proofs.CallerLemmas.{entry_at-absent, entry_at-with_item, entry_at-with_item_other, entry_at-without, entry_at-without_other, entry_at-with_generation, entry_at-with_generation_other, lesser-zero, lesser-next}
+use Rattle.chain_base.proofs.CallerLemmas.{entry_at-absent, entry_at-with_item, entry_at-with_item_other, entry_at-without, entry_at-without_other, entry_at-with_generation, entry_at-with_generation_other, lesser-zero, lesser-next, lesser-all}
 use Rattle.ord_tree.specs.Tree.{Tree, with_item_in}
 use Rattle.triple_ord.specs.Content.{slots_from, content_of}
 
@@ -18,13 +18,13 @@ module _ {T : Type 0} where
   length-slots es from (suc n) = ap suc (length-slots es (from + 1) n)
 
   -- a slot has the entry of its index
-  slots-within : (es : List (Entry T)) (from n k : ℕ) → k < n → get_or (slots_from es from n) k None ≡ entry_at es (from + k)
+  pub slots-within : (es : List (Entry T)) (from n k : ℕ) → k < n → get_or (slots_from es from n) k None ≡ entry_at es (from + k)
   slots-within es from zero k h = absurd (omega (arith, h))
   slots-within es from (suc n) zero h = ap (entry_at es) (let e : from ≡ from + 0 = omega arith in e)
   slots-within es from (suc n) (suc k) h =
       slots-within es (from + 1) n k (omega (arith, h)) ∙ ap (entry_at es) (let e : from + 1 + k ≡ from + suc k = omega arith in e)
 
-  slots-beyond : (es : List (Entry T)) (from n k : ℕ) → n ≤ k → get_or (slots_from es from n) k None ≡ None
+  pub slots-beyond : (es : List (Entry T)) (from n k : ℕ) → n ≤ k → get_or (slots_from es from n) k None ≡ None
   slots-beyond es from zero k h = refl
   slots-beyond es from (suc n) zero h = absurd (omega (arith, h))
   slots-beyond es from (suc n) (suc k) h = slots-beyond es (from + 1) n k (omega (arith, h))
@@ -65,12 +65,12 @@ module _ {T : Type 0} where
   content-written t i item =
       let es = t.list.entries in
       let change : ChangesAt (option_map (λ (e : ℕ × T). (e.0, item))) i es (list_with_item es i item) =
-          record { here = entry_at-with_item es i item; others = λ k other. entry_at-with_item_other es i k item other } in
+      record { here = entry_at-with_item es i item; others = λ k other. entry_at-with_item_other es i k item other } in
       ap (λ slots. record { slots = slots; vacant = t.list.vacant; generation = t.list.generation; maximum = t.list.maximum })
       (slots-changed (option_map (λ (e : ℕ × T). (e.0, item))) refl i es (list_with_item es i item) change t.list.capacity)
 
-  pub capacity-is : (t : Tree T) → arena_capacity (content_of t) ≡ t.list.capacity
-  capacity-is t = omega (arith, length-slots t.list.entries 1 t.list.capacity)
+  pub capacity_is : (t : Tree T) → arena_capacity (content_of t) ≡ t.list.capacity
+  capacity_is t = omega (arith, length-slots t.list.entries 1 t.list.capacity)
 
   -- an index beyond the capacity has no entry, nor has index 0
   pub outside : (most : ℕ) (greatest : Option ℕ) (t : Tree T) → IsSound most greatest t.list → (i : ℕ) → ((0 < i) → (i ≤ t.list.capacity) → ⊥) → entry_at t.list.entries i ≡ None
@@ -80,22 +80,22 @@ module _ {T : Type 0} where
   ]
 
   -- each index has its entry
-  pub slot-is : (most : ℕ) (greatest : Option ℕ) (t : Tree T) → IsSound most greatest t.list → (i : ℕ) → slot (content_of t) i ≡ entry_at t.list.entries i
-  slot-is most greatest t sound zero = sym (outside most greatest t sound 0 (λ above within. omega (arith, above)))
-  slot-is most greatest t sound (suc k) = elim (leb_tells (suc k) t.list.capacity) [
+  pub slot_is : (most : ℕ) (greatest : Option ℕ) (t : Tree T) → IsSound most greatest t.list → (i : ℕ) → slot (content_of t) i ≡ entry_at t.list.entries i
+  slot_is most greatest t sound zero = sym (outside most greatest t sound 0 (λ above within. omega (arith, above)))
+  slot_is most greatest t sound (suc k) = elim (leb_tells (suc k) t.list.capacity) [
     | inl h ↦ slots-within t.list.entries 1 t.list.capacity k (omega (arith, h.1)) ∙ ap (entry_at t.list.entries) (let e : 1 + k ≡ suc k = omega arith in e)
     | inr h ↦ slots-beyond t.list.entries 1 t.list.capacity k (omega (arith, h.1)) ∙ sym (outside most greatest t sound (suc k) (λ above within. omega (arith, h.1, within)))
   ]
 
-  pub item-is : (most : ℕ) (greatest : Option ℕ) (t : Tree T) → IsSound most greatest t.list → (i g : ℕ) → item_of (content_of t) i g ≡ item_among t.list.entries i g
-  item-is most greatest t sound i g = ap (item_if g) (slot-is most greatest t sound i)
+  pub item_is : (most : ℕ) (greatest : Option ℕ) (t : Tree T) → IsSound most greatest t.list → (i g : ℕ) → item_of (content_of t) i g ≡ item_among t.list.entries i g
+  item_is most greatest t sound i g = ap (item_if g) (slot_is most greatest t sound i)
 
-  pub content-renewed : (greatest : Option ℕ) (t u : Tree T) (i : ℕ) → u ≡ record t { list = renewed greatest t.list i } → HoldsSame (content_of u) (arena_renewed greatest (content_of t) i)
-  content-renewed greatest t u i is =
+  pub content_renewed : (greatest : Option ℕ) (t u : Tree T) (i : ℕ) → u ≡ record t { list = renewed greatest t.list i } → HoldsSame (content_of u) (arena_renewed greatest (content_of t) i)
+  content_renewed greatest t u i is =
       let next = next_generation greatest t.list.generation in
       let es = t.list.entries in
       let change : ChangesAt (option_map (λ (e : ℕ × T). (next, e.1))) i es (with_generation es i next) =
-          record { here = entry_at-with_generation es i next; others = λ k other. entry_at-with_generation_other es i k next other } in
+      record { here = entry_at-with_generation es i next; others = λ k other. entry_at-with_generation_other es i k next other } in
       let there : HoldsSame (content_of (record t { list = renewed greatest t.list i })) (arena_renewed greatest (content_of t) i) = record {
         slots = slots-changed (option_map (λ (e : ℕ × T). (next, e.1))) refl i es (with_generation es i next) change t.list.capacity;
         generation = refl;
@@ -103,11 +103,11 @@ module _ {T : Type 0} where
       } in
       subst (λ v. HoldsSame (content_of v) (arena_renewed greatest (content_of t) i)) (sym is) there
 
-  pub content-removed : (most : ℕ) (greatest : Option ℕ) (t u : Tree T) (i : ℕ) → IsSound most greatest t.list → u.list ≡ removed greatest t.list i → HoldsSame (content_of u) (arena_without greatest (content_of t) i)
-  content-removed most greatest t u i sound is =
+  pub content_removed : (most : ℕ) (greatest : Option ℕ) (t u : Tree T) (i : ℕ) → IsSound most greatest t.list → u.list ≡ removed greatest t.list i → HoldsSame (content_of u) (arena_without greatest (content_of t) i)
+  content_removed most greatest t u i sound is =
       let es = t.list.entries in
       let change : ChangesAt (λ s. None) i es (without i es) =
-          record { here = entry_at-without es i sound.distinct; others = λ k other. entry_at-without_other es i k other } in
+      record { here = entry_at-without es i sound.distinct; others = λ k other. entry_at-without_other es i k other } in
       record {
         slots = ap (λ (c : Chain T). None ∷ slots_from c.entries 1 c.capacity) is ∙ slots-changed (λ s. None) refl i es (without i es) change t.list.capacity;
         generation = ap (λ (c : Chain T). c.generation) is;
@@ -119,8 +119,8 @@ module _ {T : Type 0} where
   slots-empty from zero = refl
   slots-empty from (suc n) = ap (λ ss. None ∷ ss) (slots-empty (from + 1) n)
 
-  pub content-cleared : (greatest : Option ℕ) (t u : Tree T) → u.list ≡ cleared greatest t.list → HoldsSame (content_of u) (arena_cleared greatest (content_of t))
-  content-cleared greatest t u is =
+  pub content_cleared : (greatest : Option ℕ) (t u : Tree T) → u.list ≡ cleared greatest t.list → HoldsSame (content_of u) (arena_cleared greatest (content_of t))
+  content_cleared greatest t u is =
       let count : suc t.list.capacity ≡ length (content_of t).slots = ap suc (sym (length-slots t.list.entries 1 t.list.capacity)) in
       record {
         slots = ap (λ (c : Chain T). None ∷ slots_from c.entries 1 c.capacity) is ∙ (ap (λ ss. None ∷ ss) (slots-empty 1 t.list.capacity) ∙ ap (λ n. replicate n None) count);
@@ -133,7 +133,7 @@ module _ {T : Type 0} where
   times-shown [] i distinct = refl
   times-shown (e ∷ es) i distinct = elim (eqb_tells e.index i) [
     | inl h ↦ let once : 1 + times i es ≤ 1 = rw h.0 at (distinct i) in rw h.0 (omega (arith, once))
-    | inr h ↦ rw h.0 (times-shown es i (λ k. omega (arith, distinct k)))
+    | inr h ↦ rw h.0 (omega (arith, times-shown es i (λ k. omega (arith, distinct k))))
   ]
 
   -- so the slots up to an index have as many entries as there are lesser indexes
@@ -146,19 +146,8 @@ module _ {T : Type 0} where
       let all : lesser es (from + 1 + n) ≡ lesser es (from + suc n) = ap (lesser es) at in
       omega (arith, more, met, all, lesser-next es from, times-shown es from distinct)
 
-  -- all indexes are lesser than one that is above them
-  pub lesser-all : (es : List (Entry T)) (m : ℕ) → ((i : ℕ) → 1 ≤ times i es → i < m) → lesser es m ≡ length es
-  lesser-all [] m below = refl
-  lesser-all (e ∷ es) m below =
-      let here : e.index < m = below e.index (elim (eqb_tells e.index e.index) [ inl h ↦ rw h.0 (omega arith) | inr h ↦ absurd (h.1 refl) ]) in
-      let rest = lesser-all es m (λ i there. below i (omega (arith, there))) in
-      elim (leb_tells (suc e.index) m) [
-        | inl h ↦ rw h.0 (ap suc rest)
-        | inr h ↦ absurd (omega (arith, here, h.1))
-      ]
-
-  pub len-is : (most : ℕ) (greatest : Option ℕ) (t : Tree T) → IsSound most greatest t.list → arena_len (content_of t) ≡ length t.list.entries
-  len-is most greatest t sound =
+  pub len_is : (most : ℕ) (greatest : Option ℕ) (t : Tree T) → IsSound most greatest t.list → arena_len (content_of t) ≡ length t.list.entries
+  len_is most greatest t sound =
       let es = t.list.entries in
       let first = sum_by-cons (λ (o : Option (ℕ × T)). cond (is_some o) 1 0) None (slots_from es 1 t.list.capacity) in
       let counted = slots-counted es sound.distinct 1 t.list.capacity in
@@ -172,12 +161,20 @@ module _ {T : Type 0} where
       ]
 
   -- what is true of every arena
-  pub lawful-is : (most : ℕ) (greatest : Option ℕ) (t : Tree T) → IsSound most greatest t.list → IsLawful most greatest (content_of t)
-  lawful-is most greatest t sound =
+  pub lawful_is : (most : ℕ) (greatest : Option ℕ) (t : Tree T) → IsSound most greatest t.list → IsLawful most greatest (content_of t)
+  lawful_is most greatest t sound =
       record {
         begins = refl;
-        within_capacity = rw (len-is most greatest t sound, capacity-is t) (omega (arith, sound.counted));
-        within_limit = rw (capacity-is t) sound.within_limit;
+        within_capacity = rw (len_is most greatest t sound, capacity_is t) (omega (arith, sound.counted));
+        within_limit = rw (capacity_is t) sound.within_limit;
         generation_lawful = sound.generation_lawful;
-        entries_lawful = λ i. rw (slot-is most greatest t sound i) (sound.entries_lawful i);
+        entries_lawful = λ i. rw (slot_is most greatest t sound i) (sound.entries_lawful i);
       }
+
+  -- the capacity is within what indexes can name
+  pub capacity-within : (most : ℕ) (greatest : Option ℕ) (t : Tree T) → IsSound most greatest t.list → arena_capacity (content_of t) ≤ most
+  capacity-within most greatest t sound = rw (capacity_is t) (go t.list.maximum sound.within_limit)
+    where
+      go : (maximum : Option ℕ) → t.list.capacity ≤ limit_of most maximum → t.list.capacity ≤ most
+      go None within = within
+      go (Some m) within = omega (arith, within)
