@@ -4,7 +4,7 @@ use Rattle.std.proofs.lemmas.Bool.Decides.{eqb_tells, leb_tells}
 use Rattle.std.proofs.lemmas.Option.{slice_get_cases, slice_get_within, get_or_from_slice_get}
 use Rattle.std.specs.Option.{option_map}
 use Rattle.chain_base.specs.Chain.{Entry, times, IsDistinct, entry_at, without, with_item, with_generation}
-use Rattle.chain_base.specs.Compression.{lesser, place_of, moved, numbered}
+use Rattle.chain_base.specs.Compression.{lesser, place_of, moved, at_place, numbered}
 use Rattle.chain_base.proofs.Lists.{times-here}
 use Rattle.chain_base.proofs.Canonical.{entry-absent}
 use Rattle.chain_base.proofs.Ranking.{place-injective}
@@ -16,6 +16,8 @@ pub use Rattle.chain_base.proofs.Ranking.{lesser-zero, lesser-next, compressed-a
 pub use Rattle.chain_base.proofs.Canonical.{occurs-entry}
 -- the greatest index with an entry
 pub use Rattle.chain_base.proofs.Vacancy.{below-greatest, greatest-or_none, times-greatest, below-greatest_index}
+-- entries at their places by rising index have the items that they had
+pub use Rattle.chain_base.proofs.Canonical.{relocated-items}
 
 module _ {T : Type 0} where
   -- an index that no entry has finds none
@@ -194,6 +196,14 @@ module _ {T : Type 0} where
   generation-moved all g xs (f ∷ es) i e is = elim (eqb_tells (place_of all f.index) i) [
     | inl h ↦ let same : Some (g, slice_index_or xs (lesser all f.index) f.item) ≡ Some e = (rw h.0 at is) in cc
     | inr h ↦ generation-moved all g xs es i e (rw h.0 at is)
+  ]
+
+  -- and so have entries at their places by rising index
+  pub generation-relocated : (all : List (Entry T)) (g : ℕ) (es : List (Entry T)) (i : ℕ) (e : ℕ × T) → entry_at (map (at_place all g) es) i ≡ Some e → e.0 ≡ g
+  generation-relocated all g [] i e is = absurd cc
+  generation-relocated all g (f ∷ es) i e is = elim (eqb_tells (place_of all f.index) i) [
+    | inl h ↦ let same : Some (g, f.item) ≡ Some e = (rw h.0 at is) in cc
+    | inr h ↦ generation-relocated all g es i e (rw h.0 at is)
   ]
 
 -- the entries of a compressed list, by their places
