@@ -1,13 +1,23 @@
 -- For callers: what an index finds in the list, and how many entries there are, after each change.
 use Rattle.std.proofs.Common.{◌≡◌, ◌≢◌, ℕ, zero, suc, ◌+◌, ◌<◌, ◌≤◌, List, [], ◌∷◌, ◌++◌, length, map, slice_get, slice_index_or, Option, Some, None, IsSome, refl, sym, ap, ◌∙◌, arith, inl, inr}
-use Rattle.std.proofs.lemmas.Bool.Decides.{eqb_tells}
+use Rattle.std.proofs.lemmas.Bool.Decides.{eqb_tells, leb_tells}
+use Rattle.std.proofs.lemmas.Option.{slice_get_cases, slice_get_within, get_or_from_slice_get}
 use Rattle.std.specs.Option.{option_map}
 use Rattle.chain_base.specs.Chain.{Entry, times, IsDistinct, entry_at, without, with_item, with_generation}
 use Rattle.chain_base.specs.Compression.{lesser, place_of, moved, at_place, numbered}
+use Rattle.chain_base.proofs.Lists.{times-here}
+use Rattle.chain_base.proofs.Canonical.{entry-absent}
+use Rattle.chain_base.proofs.Ranking.{place-injective}
+use Rattle.chain_base.proofs.Renumbering.{times-source}
 -- the steps of a transfer, told of other items
 pub use Rattle.chain_base.proofs.Transferring.{steps-retold}
 -- a list in two parts
 pub use Rattle.chain_base.proofs.Lists.{option_or-none, times-append, last_or-append, link_between-append, link_between-absent}
+-- the places of indexes by rising index
+pub use Rattle.chain_base.proofs.Ranking.{lesser-zero, lesser-next, compressed-at, compressed-length, length-entries}
+pub use Rattle.chain_base.proofs.Canonical.{occurs-entry}
+-- the greatest index with an entry
+pub use Rattle.chain_base.proofs.Vacancy.{below-greatest, greatest-or_none, times-greatest, below-greatest_index}
 -- entries at their places by rising index have the items that they had
 pub use Rattle.chain_base.proofs.Canonical.{relocated-items}
 
@@ -197,3 +207,84 @@ module _ {T : Type 0} where
     | inl h ↦ let same : Some (g, f.item) ≡ Some e = (rw h.0 at is) in cc
     | inr h ↦ generation-relocated all g es i e (rw h.0 at is)
   ]
+
+-- the entries of a compressed list, by their places
+module _ {T : Type 0} where
+  past-end : (items : List T) (k : ℕ) → slice_get items k ≡ None → length items ≤ k
+  past-end items k none = elim (slice_get_cases items k).1 [
+    | inl there ↦ absurd (let some = there.2 in cc)
+    | inr past ↦ past.0
+  ]
+
+  -- no index has more lesser ones than there are entries
+  pub lesser-most : (es : List (Entry T)) (i : ℕ) → lesser es i ≤ length es
+  lesser-most [] i = omega arith
+  lesser-most (e ∷ es) i = elim (leb_tells (suc e.index) i) [
+    | inl h ↦ rw h.0 (omega (arith, lesser-most es i))
+    | inr h ↦ rw h.0 (omega (arith, lesser-most es i))
+  ]
+
+  -- all indexes are lesser than one above them
+  pub lesser-all : (es : List (Entry T)) (m : ℕ) → ((i : ℕ) → 1 ≤ times i es → i < m) → lesser es m ≡ length es
+  lesser-all [] m below = refl
+  lesser-all (e ∷ es) m below =
+      let here : e.index < m = below e.index (omega (arith, times-here e.index e es refl)) in
+      let rest = lesser-all es m (λ i there. below i (omega (arith, there))) in
+      elim (leb_tells (suc e.index) m) [
+        | inl h ↦ rw h.0 (omega (arith, rest))
+        | inr h ↦ absurd (omega (arith, here, h.1))
+      ]
+
+  -- an index below m has place k + 1, where there are more than k lesser than m
+  pub index-at_place : (es : List (Entry T)) → IsDistinct es → (m k : ℕ) → k < lesser es m → (i : ℕ) × (i < m) × (lesser es i ≡ k) × (1 ≤ times i es)
+  index-at_place es distinct zero k more = absurd (omega (arith, more, lesser-zero es))
+  index-at_place es distinct (suc m) k more =
+      let next : lesser es (suc m) ≡ lesser es m + times m es = ap (lesser es) (let e : suc m ≡ m + 1 = omega arith in e) ∙ lesser-next es m in
+      elim (leb_tells (suc k) (lesser es m)) [
+        | inl h ↦ let found = index-at_place es distinct m k (omega (arith, h.1)) in (found.0, omega (arith, found.1), found.2, found.3)
+        | inr h ↦ (m, omega arith, omega (arith, h.1, more, next, distinct m), omega (arith, h.1, more, next))
+      ]
+
+  -- a moved list has at the place of an index what it had there, with the item of that place
+  pub entry_at-moved : (all : List (Entry T)) (g : ℕ) (items : List T) (es : List (Entry T)) (i : ℕ)
+      → ((y : ℕ) → 1 ≤ times y es → place_of all y ≡ place_of all i → y ≡ i)
+      → entry_at (map (moved all g items) es) (place_of all i) ≡ option_map (λ e. (g, slice_index_or items (lesser all i) e.1)) (entry_at es i)
+  entry_at-moved all g items [] i apart = refl
+  entry_at-moved all g items (e ∷ es) i apart =
+      let more = entry_at-moved all g items es i (λ y there same. apart y (omega (arith, there)) same) in
+      elim (eqb_tells e.index i) [
+        | inl h ↦ elim (eqb_tells (place_of all e.index) (place_of all i)) [
+          | inl k ↦ rw (h.0, k.0, h.1) refl
+          | inr k ↦ absurd (k.1 (ap (place_of all) h.1))
+        ]
+        | inr h ↦ elim (eqb_tells (place_of all e.index) (place_of all i)) [
+          | inl k ↦ absurd (h.1 (apart e.index (omega (arith, times-here e.index e es refl)) k.1))
+          | inr k ↦ rw (h.0, k.0) more
+        ]
+      ]
+
+-- A compression of a list: the entry of a place has the item of that place, and there are no others.
+module _ {T : Type 0} (es : List (Entry T)) (distinct : IsDistinct es) (g : ℕ) (items : List T) (long : length items ≡ length es) where
+  pub entry_at-compressed : (m : ℕ) → ((i : ℕ) → 1 ≤ times i es → i < m) → (k : ℕ)
+      → entry_at (map (moved es g items) es) (k + 1) ≡ option_map (λ item. (g, item)) (slice_get items k)
+  entry_at-compressed m below k = go (slice_get items k) refl
+    where
+      met : (o : Option (ℕ × T)) (i : ℕ) (item : T) → entry_at es i ≡ o → 1 ≤ times i es → lesser es i ≡ k → slice_get items k ≡ Some item
+          → option_map {U = ℕ × T} (λ e. (g, slice_index_or items (lesser es i) e.1)) o ≡ Some (g, item)
+      met None i item is there place given = absurd (omega (arith, entry-absent es i is, there))
+      met (Some e) i item is there place given = rw place (ap (λ x. Some (g, x)) (get_or_from_slice_get items k item e.1 given))
+
+      go : (o : Option T) → slice_get items k ≡ o → entry_at (map (moved es g items) es) (k + 1) ≡ option_map (λ item. (g, item)) o
+      go None is = elim (eqb_tells (times (k + 1) (map (moved es g items) es)) 0) [
+        | inl z ↦ entry_at-absent (map (moved es g items) es) (k + 1) z.1
+        | inr z ↦
+            let source = times-source (moved es g items) (place_of es) (λ e. refl) es (k + 1) (omega (arith, z.1)) in
+            let place : lesser es source.0 ≡ k = let at : lesser es source.0 + 1 ≡ k + 1 = source.1 in omega (arith, at) in
+            absurd (let past = past-end items k is in omega (arith, place, lesser-next es source.0, lesser-most es (source.0 + 1), source.2, long, past))
+      ]
+      go (Some item) is =
+          let found = index-at_place es distinct m k (omega (arith, lesser-all es m below, long, slice_get_within items k item is)) in
+          let at : place_of es found.0 ≡ k + 1 = ap (λ n. n + 1) found.2 in
+          ap (entry_at (map (moved es g items) es)) (sym at)
+          ∙ (entry_at-moved es g items es found.0 (λ y there same. place-injective es y found.0 there found.3 same)
+          ∙ met (entry_at es found.0) found.0 item refl found.3 found.2 is)

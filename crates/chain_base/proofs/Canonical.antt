@@ -22,7 +22,7 @@ module _ {T : Type 0} where
       let s = Stands-occurs es i occurs in
       ap (λ fs. is_some (entry_at fs i)) s.split ∙ ap is_some (entry_at-split s.front s.entry s.back i s.here s.unmet)
 
-  entry-absent : (es : List (Entry T)) (i : ℕ) → entry_at es i ≡ None → times i es ≡ 0
+  pub entry-absent : (es : List (Entry T)) (i : ℕ) → entry_at es i ≡ None → times i es ≡ 0
   entry-absent es i none =
       elim (eqb_tells (times i es) 0) [
         | inl h ↦ h.1

@@ -1,10 +1,11 @@
 -- A chain of nodes and the list of its items: each look-up in the one reads what the other has.
-use Rattle.std.proofs.Common.{◌≡◌, ℕ, List, [], ◌∷◌, ◌++◌, Option, Some, None, IsSome, IfSome, is_some, refl, sym, ap, subst, ◌∙◌, inl, inr, ◌⊎◌, map}
+use Rattle.std.proofs.Common.{◌≡◌, ℕ, ◌+◌, ◌<◌, ◌==◌, ◌↔◌, if◌then◌else◌, length, arith, List, [], ◌∷◌, ◌++◌, Option, Some, None, IsSome, IfSome, is_some, refl, sym, ap, subst, ◌∙◌, inl, inr, ◌⊎◌, map}
 use Rattle.std.proofs.lemmas.Bool.Decides.{eqb_tells}
+use Rattle.std.proofs.lemmas.List.{length-map}
 use Rattle.std.specs.Option.{option_map}
 use Rattle.arena_base.specs.Arena.{Arena, slot, item_if}
 use Rattle.chain_base.specs.Link.{Link}
-use Rattle.chain_base.specs.Chain.{Entry, Chain, entry_at, item_of, first_or, link_between, link_at, first_pointer, last_pointer, IsArenaOf}
+use Rattle.chain_base.specs.Chain.{Entry, Chain, entry_at, item_of, first_or, link_between, link_at, first_pointer, last_pointer, times, generation_at, IsFirstIndex, IsLastIndex, IsArenaOf}
 use Rattle.ord_tree.specs.declared.links.Links.{Links}
 use Rattle.ord_tree.specs.declared.node.SimpleOrdArenaNode.{SimpleOrdArenaNode}
 use Rattle.ord_tree.specs.Shape.{Shape, missing, node, root_of, walk}
@@ -49,6 +50,19 @@ module _ {P T I G : Type 0} where
   first_or-bare after [] = refl
   first_or-bare after (e ∷ es) = refl
 
+  times-bare : (es : List (Entry (SimpleOrdArenaNode P T I G))) (i : ℕ) → times i (map bare_entry es) ≡ times i es
+  times-bare [] i = refl
+  times-bare (e ∷ es) i = ap (λ n. (if e.index == i then 1 else 0) + n) (times-bare es i)
+
+  generation_at-link : (es : List (Entry (SimpleOrdArenaNode P T I G))) (i : ℕ) → generation_at es i ≡ option_map (λ e. e.0) (link_at es i)
+  generation_at-link es i =
+      ap (option_map (λ (e : ℕ × SimpleOrdArenaNode P T I G). e.0)) (entry_at-link None None es i)
+      ∙ sym (option_map-twice (λ (e : ℕ × Link (SimpleOrdArenaNode P T I G)). (e.0, e.1.item)) (λ (e : ℕ × SimpleOrdArenaNode P T I G). e.0) (link_at es i))
+
+  no-entries : (es : List (Entry (SimpleOrdArenaNode P T I G))) → length es ≡ 0 → es ≡ []
+  no-entries [] none = refl
+  no-entries (e ∷ es) none = absurd (omega (arith, none))
+
   -- a link to a node, seen as a link to its item
   abbrev pub bare_link : ℕ × Link (SimpleOrdArenaNode P T I G) → ℕ × Link T
   bare_link e = (e.0, record { item = e.1.item.t; prev = e.1.prev; next = e.1.next })
@@ -69,6 +83,17 @@ module _ {P T I G : Type 0} where
     pub contains-under : (i g : ℕ) → is_some (item_of c.entries i g) ≡ is_some (item_of t.list.entries i g)
     contains-under i g = sym (is_some-map _ (item_of c.entries i g)) ∙ ap is_some (sym (item_of-under i g))
 
+    times-under : (i : ℕ) → times i c.entries ≡ times i t.list.entries
+    times-under i = sym (times-bare c.entries i) ∙ ap (λ (l : Chain T). times i l.entries) under.list
+
+    generation_at-under : (i : ℕ) → generation_at c.entries i ≡ generation_at t.list.entries i
+    generation_at-under i =
+        sym (ap (option_map (λ (e : ℕ × T). e.0)) (entry_at-bare c.entries i) ∙ sym (option_map-twice (λ (e : ℕ × SimpleOrdArenaNode P T I G). (e.0, e.1.t)) (λ (e : ℕ × T). e.0) (entry_at c.entries i)))
+        ∙ ap (λ (l : Chain T). generation_at l.entries i) under.list
+
+    length-under : length c.entries ≡ length t.list.entries
+    length-under = sym (length-map c.entries bare_entry) ∙ ap (λ (l : Chain T). length l.entries) under.list
+
     pub item_found-under : (i g : ℕ) (n : SimpleOrdArenaNode P T I G) → Some n ≡ item_of c.entries i g → Some n.t ≡ item_of t.list.entries i g
     item_found-under i g n is = sym (item_of-under i g ∙ rw (← is) refl)
 
@@ -80,6 +105,26 @@ module _ {P T I G : Type 0} where
 
     pub last_pointer-under : last_pointer c.entries ≡ last_pointer t.list.entries
     last_pointer-under = sym (last_pointer-bare c.entries) ∙ ap (λ (l : Chain T). last_pointer l.entries) under.list
+
+    pub capacity-under : c.capacity ≡ t.list.capacity
+    capacity-under = ap (λ (l : Chain T). l.capacity) under.list
+
+    pub link_generation-under : (i : ℕ) → option_map (λ e. e.0) (link_at c.entries i) ≡ option_map (λ e. e.0) (entry_at t.list.entries i)
+    link_generation-under i = sym (generation_at-link c.entries i) ∙ generation_at-under i
+
+    -- the entries with the least and the greatest index
+    pub first_index-under : {X : Type 0} (o : Option X) (index era : X → ℕ) → IfSome o (λ p. IsFirstIndex c.entries (index p) (era p)) → IfSome o (λ p. IsFirstIndex t.list.entries (index p) (era p))
+    first_index-under None index era h = h
+    first_index-under (Some p) index era h =
+        record { entry = sym (generation_at-under (index p)) ∙ h.entry; least = λ k below. sym (times-under k) ∙ h.least k below }
+
+    pub last_index-under : {X : Type 0} (o : Option X) (index era : X → ℕ) → IfSome o (λ p. IsLastIndex c.entries (index p) (era p)) → IfSome o (λ p. IsLastIndex t.list.entries (index p) (era p))
+    last_index-under None index era h = h
+    last_index-under (Some p) index era h =
+        record { entry = sym (generation_at-under (index p)) ∙ h.entry; greatest = λ k above. sym (times-under k) ∙ h.greatest k above }
+
+    pub none-under : (N : Type 0) → N ↔ (c.entries ≡ []) → N ↔ (length t.list.entries ≡ 0)
+    none-under N h = (λ n. sym length-under ∙ ap length (h.0 n), λ z. h.1 (no-entries c.entries (length-under ∙ z)))
 
     pub link_at-under : (i : ℕ) → option_map bare_link (link_at c.entries i) ≡ link_at t.list.entries i
     link_at-under i = sym (link_between-bare None None c.entries i) ∙ ap (λ (l : Chain T). link_at l.entries i) under.list

@@ -6,6 +6,7 @@ pub mod Calling
 pub mod Holding
 pub mod Bounds
 pub mod Bare
+pub mod Content
 pub mod Walking
 pub mod Reversed
 pub mod Inserting

@@ -32,6 +32,10 @@ module _ {T : Type 0} where
     pub changed : item_of new p ≡ found
     pub others : (q : ℕ × ℕ) → q ≢ p → item_of new q ≡ item_of old q
 
+  -- every pointer finds in both the same
+  abbrev pub FindSame : Tree T → Tree T → Type 0
+  FindSame old new = (p : ℕ × ℕ) → item_of new p ≡ item_of old p
+
   -- from old to new, the entry of p has the pointer q: p finds nothing more, and every third pointer finds what it found
   pub record Renews (old new : Tree T) (p q : ℕ × ℕ) : Type 0 where
     pub found : item_of new q ≡ item_of old p

@@ -2,6 +2,8 @@ pub mod EntryKind
 pub mod Gap
 pub mod Search
 pub mod Arena
+pub mod Content
+pub mod ContentLaws
 pub mod ClosureSearch
 pub mod Order
 pub mod Hint

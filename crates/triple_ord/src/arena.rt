@@ -19,6 +19,8 @@ mod iter;
 mod neighbours;
 mod rebuild;
 mod remove;
+mod slots;
+mod traits;
 mod walk;
 mod write;
 

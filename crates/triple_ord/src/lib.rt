@@ -16,7 +16,8 @@ mod visits;
 
 pub use arena::{CapacityDrain, Iter, OrderedDrain, OrderedPtrAdvancer, SimpleOrdArena};
 pub use arena_base::{
-    Advancer, InvalidationOption, InvalidationResult, P0, P8, PN, Ptr, PtrGen, PtrInx, Q0,
+    Advancer, ArenaTrait, CompactArenaTrait, InvalidationOption, InvalidationResult, P0, P8, PN,
+    Ptr, PtrAdvancer, PtrGen, PtrInx, Q0, SetMaxCapacity,
 };
 pub use chain_base::LinkNoGen;
 pub use entry_kind::OrdEntryKind;

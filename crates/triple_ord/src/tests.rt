@@ -9,6 +9,7 @@ mod each_call;
 mod every_order;
 mod hints;
 mod removal;
+mod slots;
 mod walks;
 
 use crate::{OrdEntryKind, OrdInsertionError, OrdPair, SimpleOrdArena, SimpleOrdItem, laws};

@@ -16,6 +16,13 @@ impl<P: Ptr, T, A: Allocator> SimpleOrdArena<P, T, A> {
         self.tree.chain().contains(p)
     }
 
+    /// Whether there is an entry at the index, in O(1).
+    pub fn contains_inx(&self, i: P::Inx) -> bool
+        ensures { result ≡ is_some (entry_at self.now (P.Inx.number i)) }
+    {
+        self.tree.contains_inx(i)
+    }
+
     /// The item that the pointer names, in O(1).
     pub fn get(&self, p: P) -> Option<&T>
         ensures { option_copied result ≡ item_of self.now (P.index p, P.era p) }

@@ -1,10 +1,11 @@
-//! Making an arena.
-ghost use Rattle.std.specs.Prelude.{◌≡◌, ◌<◌, IsOk, IsErr, IfOk};
-ghost use Rattle.chain_base.specs.Chain.{new_chain, with_capacity};
+//! Making an arena, and changing its capacity.
+ghost use Rattle.std.specs.Prelude.{◌≡◌, ◌<◌, ◌↔◌, Some, Err, max, IsOk, IsErr, IfOk, OnOk, OnErr};
+ghost use Rattle.chain_base.specs.Chain.{new_chain, with_capacity, greatest_index, chain_limit};
 ghost use Rattle.ord_tree.specs.Shape.{missing};
+ghost use Rattle.triple_ord.specs.Arena.{count, FindSame};
 
 use super::SimpleOrdArena;
-use arena_base::Ptr;
+use arena_base::{MaxCapacityReductionError, Ptr, ReallocationError};
 use ord_tree::OrdTree;
 use std::alloc::{AllocError, Allocator};
 
@@ -31,5 +32,34 @@ impl<P: Ptr, T, A: Allocator> SimpleOrdArena<P, T, A> {
         Ok(SimpleOrdArena {
             tree: OrdTree::with_min_capacity(alloc, n)?,
         })
+    }
+
+    /// Makes the capacity the greater of `n` and the greatest index with an entry, in O(capacity). Entries keep their pointers, and
+    /// all vacant slots then count as never used.
+    ///
+    /// It is refused with `BeyondMaxCapacity` where `n` is beyond the maximum or the greatest index of the pointers, and with
+    /// `AllocError` where the capacity would grow and memory is refused. Nothing changes then.
+    pub fn reallocate_min_capacity(&mut self, n: usize) -> Result<(), ReallocationError>
+        ensures found { FindSame self.old self.new }
+        ensures count { count self.new ≡ count self.old }
+        ensures ok { OnOk result (self.new ≡ record self.old {
+          list = with_capacity self.old.list (max n (greatest_index self.old.list.entries));
+        }) }
+        ensures beyond { (result ≡ Err ReallocationError.BeyondMaxCapacity) ↔ (chain_limit P.Inx.most self.old.list < n) }
+        ensures memory { result ≡ Err ReallocationError.AllocError → self.old.list.capacity < n }
+        ensures err { OnErr result (self.new ≡ self.old) }
+    {
+        self.tree.reallocate_min_capacity(n)
+    }
+
+    /// Sets a maximum of the capacity, in O(1). It is refused, and nothing changes, where the capacity is already greater.
+    pub fn set_max_capacity(&mut self, n: usize) -> Result<(), MaxCapacityReductionError>
+        ensures found { FindSame self.old self.new }
+        ensures count { count self.new ≡ count self.old }
+        ensures ok { OnOk result (self.new ≡ record self.old { list = record self.old.list { maximum = Some n } }) }
+        ensures refused { IsErr result ↔ (n < self.old.list.capacity) }
+        ensures err { OnErr result (self.new ≡ self.old) }
+    {
+        self.tree.set_max_capacity(n)
     }
 }

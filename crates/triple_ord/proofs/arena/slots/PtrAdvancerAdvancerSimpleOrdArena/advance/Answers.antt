@@ -1,0 +1,7 @@
+use Rattle.triple_ord.proofs.Content.{steps-under}
+use Rattle.triple_ord.proofs.arena.slots.PtrAdvancerAdvancerSimpleOrdArena.advance.Goals as goal
+
+pub returns-clause-step : goal.returns-clause-step
+returns-clause-step g c =
+    let under = rw c.arena.view_is at c.chain.ensures.chain in
+    steps-under _ _ c.args.arena.now c.len.ensures.sound _ _ _ _ under c.arena-nodes.ensures c.capacity.ensures.sound.begins _ _ _ c.advance.ensures.step

@@ -1,0 +1,180 @@
+-- What the calls of an ordered arena do to the finite map that it is. The impl of `ArenaTrait` cites these laws; no public clause
+-- does.
+use Rattle.std.proofs.Common.{◌≡◌, ◌≢◌, ℕ, zero, suc, ◌+◌, ◌-◌, ◌<◌, ◌≤◌, length, count_by, is_some, cond, replicate, ◌⊎◌, Option, Some, None, List, [], ◌∷◌, get_or, set, refl, sym, ap, zero-add, subst, ◌∙◌, arith, inl, inr}
+use Rattle.std.proofs.lemmas.Bool.Decides.{eqb_tells, leb_tells}
+use Rattle.std.proofs.lemmas.List.Sums.{sum_by-cons}
+use Rattle.std.specs.Option.{option_map}
+use Rattle.arena_base.specs.Generation.{next_generation}
+use Rattle.arena_base.specs.Arena.{Arena, HoldsSame, arena_len, arena_capacity, without as arena_without, renewed as arena_renewed, cleared as arena_cleared, with_item, slot, item_of, item_if, limit_of, IsLawful}
+use Rattle.chain_base.specs.Chain.{Entry, Chain, entry_at, times, IsSound, IsDistinct, without, with_generation, removed, renewed, cleared, item_of as item_among, with_item as list_with_item}
+use Rattle.chain_base.specs.Compression.{lesser}
+use Rattle.chain_base.proofs.CallerLemmas.{entry_at-absent, entry_at-with_item, entry_at-with_item_other, entry_at-without, entry_at-without_other, entry_at-with_generation, entry_at-with_generation_other, lesser-zero, lesser-next, lesser-all}
+use Rattle.ord_tree.specs.Tree.{Tree, with_item_in}
+use Rattle.triple_ord.specs.Content.{slots_from, content_of}
+
+module _ {T : Type 0} where
+  pub length-slots : (es : List (Entry T)) (from n : ℕ) → length (slots_from es from n) ≡ n
+  length-slots es from zero = refl
+  length-slots es from (suc n) = ap suc (length-slots es (from + 1) n)
+
+  -- a slot has the entry of its index
+  pub slots-within : (es : List (Entry T)) (from n k : ℕ) → k < n → get_or (slots_from es from n) k None ≡ entry_at es (from + k)
+  slots-within es from zero k h = absurd (omega (arith, h))
+  slots-within es from (suc n) zero h = ap (entry_at es) (let e : from ≡ from + 0 = omega arith in e)
+  slots-within es from (suc n) (suc k) h =
+      slots-within es (from + 1) n k (omega (arith, h)) ∙ ap (entry_at es) (let e : from + 1 + k ≡ from + suc k = omega arith in e)
+
+  pub slots-beyond : (es : List (Entry T)) (from n k : ℕ) → n ≤ k → get_or (slots_from es from n) k None ≡ None
+  slots-beyond es from zero k h = refl
+  slots-beyond es from (suc n) zero h = absurd (omega (arith, h))
+  slots-beyond es from (suc n) (suc k) h = slots-beyond es (from + 1) n k (omega (arith, h))
+
+  -- lists that have the same entries at these indexes have the same slots
+  pub slots-alike : (es fs : List (Entry T)) (from n : ℕ) → ((i : ℕ) → from ≤ i → i < from + n → entry_at fs i ≡ entry_at es i)
+      → slots_from fs from n ≡ slots_from es from n
+  slots-alike es fs from zero same = refl
+  slots-alike es fs from (suc n) same =
+      ap (λ s. s ∷ slots_from fs (from + 1) n) (same from (omega arith) (omega arith))
+      ∙ ap (λ ss. entry_at es from ∷ ss) (slots-alike es fs (from + 1) n (λ i least most. same i (omega (arith, least)) (omega (arith, most))))
+
+  -- fs is es, but that `h` was done to what stands at index i
+  record ChangesAt (h : Option (ℕ × T) → Option (ℕ × T)) (i : ℕ) (es fs : List (Entry T)) : Type 0 where
+    here : entry_at fs i ≡ h (entry_at es i)
+    others : (k : ℕ) → k ≢ i → entry_at fs k ≡ entry_at es k
+
+  slots-changed_from : (h : Option (ℕ × T) → Option (ℕ × T)) (i : ℕ) (es fs : List (Entry T)) → ChangesAt h i es fs
+      → (from n k : ℕ) → i ≡ from + k → slots_from fs from n ≡ set (slots_from es from n) k (h (get_or (slots_from es from n) k None))
+  slots-changed_from h i es fs change from zero k is = refl
+  slots-changed_from h i es fs change from (suc n) zero is =
+      let at : i ≡ from = omega (arith, is) in
+      ap (λ s. s ∷ slots_from fs (from + 1) n) (rw at at change.here)
+      ∙ ap (λ ss. h (entry_at es from) ∷ ss) (slots-alike es fs (from + 1) n (λ j least most. change.others j (omega (arith, least, at))))
+  slots-changed_from h i es fs change from (suc n) (suc k) is =
+      ap (λ s. s ∷ slots_from fs (from + 1) n) (change.others from (omega (arith, is)))
+      ∙ ap (λ ss. entry_at es from ∷ ss) (slots-changed_from h i es fs change (from + 1) n k (omega (arith, is)))
+
+  -- the slots of an arena with something done at one index; nothing is made of nothing
+  slots-changed : (h : Option (ℕ × T) → Option (ℕ × T)) → h None ≡ None → (i : ℕ) (es fs : List (Entry T)) → ChangesAt h i es fs → (n : ℕ)
+      → ◌≡◌ {A = List (Option (ℕ × T))} (None ∷ slots_from fs 1 n) (set (None ∷ slots_from es 1 n) i (h (get_or (None ∷ slots_from es 1 n) i None)))
+  slots-changed h none zero es fs change n =
+      ap (λ ss. None ∷ ss) (slots-alike es fs 1 n (λ j least most. change.others j (omega (arith, least)))) ∙ ap (λ s. s ∷ slots_from es 1 n) (sym none)
+  slots-changed h none (suc k) es fs change n = ap (λ ss. None ∷ ss) (slots-changed_from h (suc k) es fs change 1 n k (omega arith))
+
+  -- a written item
+  pub content-written : (t : Tree T) (i : ℕ) (item : T) → content_of (with_item_in t i item) ≡ with_item (content_of t) i item
+  content-written t i item =
+      let es = t.list.entries in
+      let change : ChangesAt (option_map (λ (e : ℕ × T). (e.0, item))) i es (list_with_item es i item) =
+      record { here = entry_at-with_item es i item; others = λ k other. entry_at-with_item_other es i k item other } in
+      ap (λ slots. record { slots = slots; vacant = t.list.vacant; generation = t.list.generation; maximum = t.list.maximum })
+      (slots-changed (option_map (λ (e : ℕ × T). (e.0, item))) refl i es (list_with_item es i item) change t.list.capacity)
+
+  pub capacity_is : (t : Tree T) → arena_capacity (content_of t) ≡ t.list.capacity
+  capacity_is t = omega (arith, length-slots t.list.entries 1 t.list.capacity)
+
+  -- an index beyond the capacity has no entry, nor has index 0
+  pub outside : (most : ℕ) (greatest : Option ℕ) (t : Tree T) → IsSound most greatest t.list → (i : ℕ) → ((0 < i) → (i ≤ t.list.capacity) → ⊥) → entry_at t.list.entries i ≡ None
+  outside most greatest t sound i out = elim (eqb_tells (times i t.list.entries) 0) [
+    | inl z ↦ entry_at-absent t.list.entries i z.1
+    | inr z ↦ absurd (let inside = sound.within i (omega (arith, z.1)) in out inside.0 inside.1)
+  ]
+
+  -- each index has its entry
+  pub slot_is : (most : ℕ) (greatest : Option ℕ) (t : Tree T) → IsSound most greatest t.list → (i : ℕ) → slot (content_of t) i ≡ entry_at t.list.entries i
+  slot_is most greatest t sound zero = sym (outside most greatest t sound 0 (λ above within. omega (arith, above)))
+  slot_is most greatest t sound (suc k) = elim (leb_tells (suc k) t.list.capacity) [
+    | inl h ↦ slots-within t.list.entries 1 t.list.capacity k (omega (arith, h.1)) ∙ ap (entry_at t.list.entries) (let e : 1 + k ≡ suc k = omega arith in e)
+    | inr h ↦ slots-beyond t.list.entries 1 t.list.capacity k (omega (arith, h.1)) ∙ sym (outside most greatest t sound (suc k) (λ above within. omega (arith, h.1, within)))
+  ]
+
+  pub item_is : (most : ℕ) (greatest : Option ℕ) (t : Tree T) → IsSound most greatest t.list → (i g : ℕ) → item_of (content_of t) i g ≡ item_among t.list.entries i g
+  item_is most greatest t sound i g = ap (item_if g) (slot_is most greatest t sound i)
+
+  pub content_renewed : (greatest : Option ℕ) (t u : Tree T) (i : ℕ) → u ≡ record t { list = renewed greatest t.list i } → HoldsSame (content_of u) (arena_renewed greatest (content_of t) i)
+  content_renewed greatest t u i is =
+      let next = next_generation greatest t.list.generation in
+      let es = t.list.entries in
+      let change : ChangesAt (option_map (λ (e : ℕ × T). (next, e.1))) i es (with_generation es i next) =
+      record { here = entry_at-with_generation es i next; others = λ k other. entry_at-with_generation_other es i k next other } in
+      let there : HoldsSame (content_of (record t { list = renewed greatest t.list i })) (arena_renewed greatest (content_of t) i) = record {
+        slots = slots-changed (option_map (λ (e : ℕ × T). (next, e.1))) refl i es (with_generation es i next) change t.list.capacity;
+        generation = refl;
+        maximum = refl;
+      } in
+      subst (λ v. HoldsSame (content_of v) (arena_renewed greatest (content_of t) i)) (sym is) there
+
+  pub content_removed : (most : ℕ) (greatest : Option ℕ) (t u : Tree T) (i : ℕ) → IsSound most greatest t.list → u.list ≡ removed greatest t.list i → HoldsSame (content_of u) (arena_without greatest (content_of t) i)
+  content_removed most greatest t u i sound is =
+      let es = t.list.entries in
+      let change : ChangesAt (λ s. None) i es (without i es) =
+      record { here = entry_at-without es i sound.distinct; others = λ k other. entry_at-without_other es i k other } in
+      record {
+        slots = ap (λ (c : Chain T). None ∷ slots_from c.entries 1 c.capacity) is ∙ slots-changed (λ s. None) refl i es (without i es) change t.list.capacity;
+        generation = ap (λ (c : Chain T). c.generation) is;
+        maximum = ap (λ (c : Chain T). c.maximum) is;
+      }
+
+  -- an empty list has no slot with an entry
+  slots-empty : (from n : ℕ) → slots_from {T = T} [] from n ≡ replicate {A = Option (ℕ × T)} n None
+  slots-empty from zero = refl
+  slots-empty from (suc n) = ap (λ ss. None ∷ ss) (slots-empty (from + 1) n)
+
+  pub content_cleared : (greatest : Option ℕ) (t u : Tree T) → u.list ≡ cleared greatest t.list → HoldsSame (content_of u) (arena_cleared greatest (content_of t))
+  content_cleared greatest t u is =
+      let count : suc t.list.capacity ≡ length (content_of t).slots = ap suc (sym (length-slots t.list.entries 1 t.list.capacity)) in
+      record {
+        slots = ap (λ (c : Chain T). None ∷ slots_from c.entries 1 c.capacity) is ∙ (ap (λ ss. None ∷ ss) (slots-empty 1 t.list.capacity) ∙ ap (λ n. replicate n None) count);
+        generation = ap (λ (c : Chain T). c.generation) is;
+        maximum = ap (λ (c : Chain T). c.maximum) is;
+      }
+
+  -- an index has as many entries as it shows: one or none
+  times-shown : (es : List (Entry T)) (i : ℕ) → IsDistinct es → cond (is_some (entry_at es i)) 1 0 ≡ times i es
+  times-shown [] i distinct = refl
+  times-shown (e ∷ es) i distinct = elim (eqb_tells e.index i) [
+    | inl h ↦ let once : 1 + times i es ≤ 1 = rw h.0 at (distinct i) in rw h.0 (omega (arith, once))
+    | inr h ↦ rw h.0 (omega (arith, times-shown es i (λ k. omega (arith, distinct k))))
+  ]
+
+  -- so the slots up to an index have as many entries as there are lesser indexes
+  pub slots-counted : (es : List (Entry T)) → IsDistinct es → (from n : ℕ) → lesser es from + count_by is_some (slots_from es from n) ≡ lesser es (from + n)
+  slots-counted es distinct from zero = let at : from + 0 ≡ from = omega arith in rw at (omega arith)
+  slots-counted es distinct from (suc n) =
+      let more = slots-counted es distinct (from + 1) n in
+      let at : from + 1 + n ≡ from + suc n = omega arith in
+      let met = sum_by-cons (λ (o : Option (ℕ × T)). cond (is_some o) 1 0) (entry_at es from) (slots_from es (from + 1) n) in
+      let all : lesser es (from + 1 + n) ≡ lesser es (from + suc n) = ap (lesser es) at in
+      omega (arith, more, met, all, lesser-next es from, times-shown es from distinct)
+
+  pub len_is : (most : ℕ) (greatest : Option ℕ) (t : Tree T) → IsSound most greatest t.list → arena_len (content_of t) ≡ length t.list.entries
+  len_is most greatest t sound =
+      let es = t.list.entries in
+      let first = sum_by-cons (λ (o : Option (ℕ × T)). cond (is_some o) 1 0) None (slots_from es 1 t.list.capacity) in
+      let counted = slots-counted es sound.distinct 1 t.list.capacity in
+      let none : lesser es 1 ≡ 0 = lesser-next es 0 ∙ omega (arith, lesser-zero es, unnamed) in
+      omega (arith, first, counted, none, lesser-all es (1 + t.list.capacity) (λ i there. let inside = sound.within i there in let most : i ≤ t.list.capacity = inside.1 in omega (arith, most)))
+    where
+      unnamed : times 0 t.list.entries ≡ 0
+      unnamed = elim (eqb_tells (times 0 t.list.entries) 0) [
+        | inl z ↦ z.1
+        | inr z ↦ absurd (let inside = sound.within 0 (omega (arith, z.1)) in let above : 0 < 0 = inside.0 in omega (arith, above))
+      ]
+
+  -- what is true of every arena
+  pub lawful_is : (most : ℕ) (greatest : Option ℕ) (t : Tree T) → IsSound most greatest t.list → IsLawful most greatest (content_of t)
+  lawful_is most greatest t sound =
+      record {
+        begins = refl;
+        within_capacity = rw (len_is most greatest t sound, capacity_is t) (omega (arith, sound.counted));
+        within_limit = rw (capacity_is t) sound.within_limit;
+        generation_lawful = sound.generation_lawful;
+        entries_lawful = λ i. rw (slot_is most greatest t sound i) (sound.entries_lawful i);
+      }
+
+  -- the capacity is within what indexes can name
+  pub capacity-within : (most : ℕ) (greatest : Option ℕ) (t : Tree T) → IsSound most greatest t.list → arena_capacity (content_of t) ≤ most
+  capacity-within most greatest t sound = rw (capacity_is t) (go t.list.maximum sound.within_limit)
+    where
+      go : (maximum : Option ℕ) → t.list.capacity ≤ limit_of most maximum → t.list.capacity ≤ most
+      go None within = within
+      go (Some m) within = omega (arith, within)

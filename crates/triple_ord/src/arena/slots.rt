@@ -1,0 +1,71 @@
+//! Going through the entries by index, in the order of the slots.
+ghost use Rattle.std.specs.Prelude.{◌≡◌, ◌↔◌, true, false, if◌then◌else◌, IfSome, IsNone};
+ghost use Rattle.arena_base.specs.Walk.{pointers, rising_from, falling_from, rising_walk, falling_walk, walk_rest, HasEnded, WalkSteps};
+ghost use Rattle.chain_base.specs.Chain.{IsFirstIndex, IsLastIndex};
+ghost use Rattle.triple_ord.specs.Arena.{count};
+ghost use Rattle.triple_ord.specs.Content.{content_of};
+
+use super::SimpleOrdArena;
+use arena_base::{Advancer, Arena, Ptr, PtrAdvancer};
+use chain_base::LinkNoGen;
+use ord_tree::SimpleOrdArenaNode;
+use std::alloc::Allocator;
+
+impl<P: Ptr, T, A: Allocator> SimpleOrdArena<P, T, A> {
+    /// The pointer of the entry with the least index, in O(capacity).
+    pub fn find_first_inx_ptr(&self) -> Option<P>
+        ensures first { IfSome result (λ p. IsFirstIndex self.now.list.entries (P.index p) (P.era p)) }
+        ensures empty { IsNone result ↔ (count self.now ≡ 0) }
+    {
+        self.tree.chain().find_first_inx_ptr()
+    }
+
+    /// The pointer of the entry with the greatest index, in O(capacity).
+    pub fn find_last_inx_ptr(&self) -> Option<P>
+        ensures last { IfSome result (λ p. IsLastIndex self.now.list.entries (P.index p) (P.era p)) }
+        ensures empty { IsNone result ↔ (count self.now ≡ 0) }
+    {
+        self.tree.chain().find_last_inx_ptr()
+    }
+
+    /// Goes through all pointers by rising index, whatever the order of the list. All steps together take O(capacity).
+    pub fn advancer(&self) -> PtrAdvancer<P>
+        ensures begins { result ≡ rising_walk 1 }
+        ensures rest { walk_rest result (content_of self.now) ≡ pointers (content_of self.now) }
+    {
+        self.tree.chain().arena().advancer()
+    }
+
+    /// Goes through the pointers from an index on, which is the first: up, or down where `rev` is true.
+    pub fn advancer_inx(&self, i: P::Inx, rev: bool) -> PtrAdvancer<P>
+        ensures begins { result
+            ≡ (if rev then falling_walk (P.Inx.number i) else rising_walk (P.Inx.number i)) }
+        ensures rising { rev ≡ false → walk_rest result (content_of self.now) ≡ rising_from (content_of self.now) (P.Inx.number i) }
+        ensures falling { rev ≡ true → walk_rest result (content_of self.now) ≡ falling_from (content_of self.now) (P.Inx.number i) }
+    {
+        self.tree.chain().arena().advancer_inx(i, rev)
+    }
+}
+
+// The arena under the tree: its slots hold the nodes.
+type Nodes<P, T, A> = Arena<P, LinkNoGen<P, SimpleOrdArenaNode<P, T>>, A>;
+
+impl<P: Ptr, T, A: Allocator> Advancer<SimpleOrdArena<P, T, A>> for PtrAdvancer<P> {
+    type Item = P;
+
+    ghost advance_gives = { λ old a result new. WalkSteps P.index P.era old (content_of a) result new };
+
+    ghost has_ended = { HasEnded };
+
+    fn advance(&mut self, arena: &SimpleOrdArena<P, T, A>) -> Option<P> {
+        // with its length and its capacity an arena tells what holds of every list and of all slots
+        let _ = arena.len();
+        let nodes = arena.tree.chain().arena();
+        let _ = nodes.capacity();
+        <PtrAdvancer<P> as Advancer<Nodes<P, T, A>>>::advance(self, nodes)
+    }
+
+    fn empty() -> PtrAdvancer<P> {
+        <PtrAdvancer<P> as Advancer<Nodes<P, T, A>>>::empty()
+    }
+}
