@@ -505,3 +505,135 @@ fn a_transfer_takes_all_in_order(rt: HostRuntime) -> Result<(), Fail> {
     assert_eq!(rt; source.generation(), 6);
     Ok(())
 }
+
+/// The place of a call among all, the pointers that it was shown, and the letter.
+type Call = (u8, P0, P0, char);
+
+/// The list d, c, a with the indexes 4, 3, 1, before any call.
+fn uncalled(rt: &impl Abort, alloc: Global) -> Result<ChainArena<P0, Call>, Fail> {
+    let mut chain: ChainArena<P0, Call> = ChainArena::new(alloc);
+    for letter in ['a', 'b', 'c', 'd'] {
+        let item: Call = (0, P0::invalid(), P0::invalid(), letter);
+        let kind = match chain.first() {
+            None => {
+                assert!(rt; chain.is_empty());
+                LinkInsertKind::Disconnected
+            }
+            Some(first) => {
+                assert!(rt; chain.contains_inx(first.inx()));
+                LinkInsertKind::PrevToInx(first.inx())
+            }
+        };
+        chain.insert_reallocating(kind, item)?;
+    }
+    let _ = chain.remove_inx_link_no_gen(2);
+    Ok(chain)
+}
+
+#[test]
+fn a_compression_calls_by_rising_index(rt: HostRuntime) -> Result<(), Fail> {
+    let mut chain = uncalled(&rt, rt.alloc())?;
+    let mut calls = 0u8;
+    let overflow = chain.compress_with(true, |old: P0, item: Call, new: P0| {
+        calls = calls.wrapping_add(1);
+        let letter = item.3;
+        (calls, old, new, letter)
+    });
+    assert_eq!(rt; overflow, InvalidationOption::Success(()));
+    let (p1, p2, p3) = (
+        P0::_from_raw(1, 2),
+        P0::_from_raw(2, 2),
+        P0::_from_raw(3, 2),
+    );
+    assert_eq!(rt; chain.get(p1).copied(), Some((1, p1, p1, 'a')));
+    assert_eq!(rt; chain.get(p2).copied(), Some((2, p3, p2, 'c')));
+    assert_eq!(rt;
+        chain.get(p3).copied(),
+        Some((3, P0::_from_raw(4, 2), p3, 'd'))
+    );
+    assert_eq!(rt; (chain.first(), chain.last()), (Some(p3), Some(p1)));
+    Ok(())
+}
+
+/// Transfers all letters with generation 5. Answers the outcome, and how often the closure was called.
+fn transfer_all<A: Allocator>(
+    chain: &mut Letters<A>,
+    source: &mut Letters,
+) -> (Result<(), ReallocationError>, u8) {
+    let mut calls = 0u8;
+    let outcome = chain.transfer_canonical_reallocating(
+        5,
+        source,
+        |_from: P0, taken: InvalidationOption<char>, _to: P0| {
+            calls = calls.wrapping_add(1);
+            taken.allow()
+        },
+    );
+    (outcome, calls)
+}
+
+/// Says that a chain has this layout and this generation.
+fn assert_laid_out(
+    rt: &impl Abort,
+    alloc: Global,
+    chain: &Letters,
+    wanted: &str,
+    generation: u64,
+) -> Result<(), Fail> {
+    let found = layout(rt, alloc, chain)?;
+    assert_eq!(rt; (found.as_str(), chain.generation()), (wanted, generation));
+    Ok(())
+}
+
+/// The chain of the letter x alone, which may hold two.
+fn small(rt: &impl Abort, alloc: Global) -> Result<Letters, Fail> {
+    let mut chain = Letters::new(alloc);
+    assert_eq!(rt; chain.set_max_capacity(2), Ok(()));
+    begin(rt, &mut chain, 'x')?;
+    Ok(chain)
+}
+
+#[test]
+fn a_transfer_beyond_the_limit_changes_nothing(rt: HostRuntime) -> Result<(), Fail> {
+    let mut source = scattered(&rt, rt.alloc())?;
+    let mut chain = small(&rt, rt.alloc())?;
+    assert_eq!(rt;
+        transfer_all(&mut chain, &mut source),
+        (Err(ReallocationError::BeyondMaxCapacity), 0)
+    );
+    assert_laid_out(&rt, rt.alloc(), &chain, "1.2x ", 2)?;
+    assert_laid_out(&rt, rt.alloc(), &source, "2.2c 4.2d 1.2a ", 3)
+}
+
+/// Transfers three letters into a chain on a heap of so many units. Answers how many are there.
+fn transferred(rt: &impl Abort, alloc: Global, units: usize) -> Result<usize, Fail> {
+    let heap = LocalHeap::new(alloc, units.saturating_mul(16))?;
+    let mut source = scattered(rt, alloc)?;
+    let mut chain = Letters::new(&heap);
+    let (outcome, calls) = transfer_all(&mut chain, &mut source);
+    let seen = (chain.len(), chain.capacity(), chain.generation(), calls);
+    match outcome {
+        Ok(()) => assert_eq!(rt; seen, (3, 3, 5, 3)),
+        Err(refusal) => {
+            assert_eq!(rt; refusal, ReallocationError::AllocError);
+            assert_eq!(rt; seen, (0, 0, 2, 0));
+            assert_laid_out(rt, alloc, &source, "2.2c 4.2d 1.2a ", 3)?;
+        }
+    }
+    Ok(seen.0)
+}
+
+#[test]
+fn a_transfer_without_memory_changes_nothing(rt: HostRuntime) -> Result<(), Fail> {
+    let mut met = [false; 2];
+    for units in 1..40 {
+        let len = transferred(&rt, rt.alloc(), units)?;
+        for (i, known) in [0, 3].iter().enumerate() {
+            if len == *known {
+                met[i] = true;
+            }
+        }
+    }
+    assert_eq!(rt; met, [true; 2]);
+    Ok(())
+}
