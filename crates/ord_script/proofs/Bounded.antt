@@ -1,5 +1,5 @@
 -- The bounds on the visits of a search, with what the marks of a state say of its shape.
-use Rattle.std.proofs.Common.{◌≡◌, ℕ, Option, Some, None, IfNone, length}
+use Rattle.std.proofs.Common.{ℕ, Option, Some, None, IfNone, length}
 use Rattle.ord_tree.specs.Tree.{Tree}
 use Rattle.triple_ord.specs.VisitBounds as visits
 use Rattle.ord_script.specs.Machine.{Marks, State, AreTrue, IsWithinBounds, IsWithinHintedBounds}

@@ -1,8 +1,10 @@
 -- The marks of a state keep telling the truth.
-use Rattle.std.proofs.Common.{◌≡◌, ℕ, zero, suc, ◌==◌, cond, true, false, ◌∷◌, length, Option, Some, None, refl, sym, ap, subst, arith, length-append}
+use Rattle.std.proofs.Common.{◌≡◌, ℕ, zero, suc, ◌==◌, cond, Bool, true, false, ◌∷◌, length, Option, Some, None, refl, sym, ap, subst, arith, length-append}
 use Rattle.std.proofs.lemmas.List.{length-map}
 use Rattle.std.proofs.Math.Dec.{eqb-suc-zero}
 use Rattle.arena_base.specs.declared.invalidation.InvalidationResult.TheVariants.{Success, GenerationOverflow, InvalidPtr}
+use Rattle.chain_base.specs.Chain.{Chain}
+use Rattle.chain_base.specs.Compression.{canonical}
 use Rattle.ord_tree.specs.Shape.{Shape, missing, node, walk}
 use Rattle.ord_tree.specs.Half.{IsRebuilt}
 use Rattle.ord_tree.specs.Tree.{Tree, IsSoundTree}
@@ -12,7 +14,7 @@ use Rattle.ord_script.specs.declared.command.Command.{Command}
 use Rattle.ord_script.specs.declared.command.Command.TheVariants as commands
 use Rattle.ord_script.specs.declared.reply.Reply.{Reply}
 use Rattle.ord_script.specs.declared.reply.Reply.TheVariants.{Inserted, Refused, Item, Removed, Renewed, Changed}
-use Rattle.ord_script.specs.Machine.{Reading, Marks, AreTrue, settled, Inserts, Sets, Removes, RemovesAt, Renews, Changes, Replies, Does, marks_after}
+use Rattle.ord_script.specs.Machine.{Reading, Marks, AreTrue, settled, Inserts, Sets, Removes, RemovesAt, Renews, Changes, Rebuilds, packed, Replies, Does, marks_kept, marks_after}
 use Rattle.triple_ord.specs.ClosureSearch.{Shown}
 
 -- the shape without a node is rebuilt
@@ -47,7 +49,7 @@ module _ {T : Type 0} where
 
 module _ {P T I G A : Type 0} where
   -- what is true of the new shape stays so, whatever the reply
-  AreTrue-any : (reply : Reply P T A I G) (new : Tree T) (marks : Marks) → IsSoundTree new → AreTrue marks new.shape → AreTrue (marks_after reply new marks) new.shape
+  AreTrue-any : (reply : Reply P T A I G) (new : Tree T) (marks : Marks) → IsSoundTree new → AreTrue marks new.shape → AreTrue (settled new (marks_kept reply marks)) new.shape
   AreTrue-any (Inserted (New p) before) new marks sound holds =
       AreTrue-settled new _ sound (record { only_inserted = holds.only_inserted; just_built = λ e. cc })
   AreTrue-any (Removed (Success taken)) new marks sound holds = AreTrue-settled new _ sound (AreTrue-none new.shape)
@@ -56,9 +58,9 @@ module _ {P T I G A : Type 0} where
 
 -- one step, by the reply
 module _ {P T I G A : Type 0} (old new : Tree T) (marks : Marks) (sound : IsSoundTree new) (holds : AreTrue marks old.shape) where
-  -- the marks after a reply tell the truth
+  -- the marks that a reply leaves tell the truth
   abbrev StaysTrue : Reply P T A I G → Type 0
-  StaysTrue reply = AreTrue (marks_after reply new marks) new.shape
+  StaysTrue reply = AreTrue (settled new (marks_kept reply marks)) new.shape
 
   -- a reply that leaves the shape
   AreTrue-like : (reply : Reply P T A I G) → new.shape ≡ old.shape → StaysTrue reply
@@ -107,8 +109,13 @@ module _ {P T I G A : Type 0} (old new : Tree T) (marks : Marks) (sound : IsSoun
   AreTrue-changed greatest after (Changed result) kept changes = AreTrue-settled new marks sound (subst (λ (t : Tree T). AreTrue marks t.shape) (sym changes.0) kept)
   AreTrue-changed greatest after reply kept changes = absurd changes
 
+  -- after a rebuild the shape is a rebuilt one
+  AreTrue-rebuilt : (greatest : Option ℕ) (reset : Bool) (after : ℕ → Chain T) (reply : Reply P T A I G) → Rebuilds greatest reset old after reply new → AreTrue (settled new (record { only_inserted = false; just_built = true })) new.shape
+  AreTrue-rebuilt greatest reset after (Changed result) rebuilds = AreTrue-settled new _ sound (record { only_inserted = λ e. cc; just_built = λ e. rebuilds.1 })
+  AreTrue-rebuilt greatest reset after reply rebuilds = absurd rebuilds
+
   -- by the command
-  AreTrue-step : {K : Type 0} (r : Reading P T I G K) (command : Command P T I G K) (reply : Reply P T A I G) → Replies r (record { tree = old; marks = marks }) command reply new → StaysTrue reply
+  AreTrue-step : {K : Type 0} (r : Reading P T I G K) (command : Command P T I G K) (reply : Reply P T A I G) → Replies r (record { tree = old; marks = marks }) command reply new → AreTrue (marks_after command reply new marks) new.shape
   AreTrue-step r (commands.Insert item) reply replies = AreTrue-inserted r item reply replies
   AreTrue-step r (commands.Set p item) reply replies = AreTrue-set r.pointer p item reply replies
   AreTrue-step r (commands.Remove p) reply replies = AreTrue-removed r.greatest r.pointer p reply replies
@@ -116,6 +123,8 @@ module _ {P T I G A : Type 0} (old new : Tree T) (marks : Marks) (sound : IsSoun
   AreTrue-step r (commands.Invalidate p) reply replies = AreTrue-renewed r.greatest r.pointer p reply replies
   AreTrue-step r commands.Clear reply replies = AreTrue-changed r.greatest _ reply (AreTrue-missing marks) replies
   AreTrue-step r commands.IncGeneration reply replies = AreTrue-changed r.greatest _ reply holds replies
+  AreTrue-step r (commands.Compress reset) reply replies = AreTrue-rebuilt r.greatest reset (packed old.list) reply replies
+  AreTrue-step r (commands.Canonical reset) reply replies = AreTrue-rebuilt r.greatest reset (canonical old.list) reply replies
   AreTrue-step r (commands.Find k) reply replies = AreTrue-still reply replies.1
   AreTrue-step r (commands.FindLinear p num k) reply replies = AreTrue-still reply replies.1
   AreTrue-step r (commands.Similar k) reply replies = AreTrue-still reply replies.1
@@ -132,7 +141,7 @@ module _ {P T I G A : Type 0} (old new : Tree T) (marks : Marks) (sound : IsSoun
   AreTrue-step r commands.Stats reply replies = AreTrue-still reply replies.1
 
   -- and with a closure
-  pub AreTrue-does : {F K : Type 0} (r : Reading P T I G K) (asks : F → Shown T → F → Type 0) (f g : F) (command : Command P T I G K) (reply : Reply P T A I G) → Does r asks (record { tree = old; marks = marks }) f command reply new g → StaysTrue reply
+  pub AreTrue-does : {F K : Type 0} (r : Reading P T I G K) (asks : F → Shown T → F → Type 0) (f g : F) (command : Command P T I G K) (reply : Reply P T A I G) → Does r asks (record { tree = old; marks = marks }) f command reply new g → AreTrue (marks_after command reply new marks) new.shape
   AreTrue-does r asks f g commands.FindWith reply does = AreTrue-still reply does.1
   AreTrue-does r asks f g commands.SimilarWith reply does = AreTrue-still reply does.1
   AreTrue-does r asks f g command reply does = AreTrue-step r command reply does.0

@@ -11,7 +11,7 @@ use Rattle.std.proofs.lemmas.Bool.{lt-ltb, le-leb, ne_eqb}
 use Rattle.std.proofs.lemmas.Fmt.{decimal_nonempty, digits_decimal, digits_value-decimal}
 use Rattle.std.proofs.lemmas.Int.{ints}
 use Rattle.std.proofs.lemmas.Str.Parse.{IsNumeralModel, tells_all_ascii_digits, numerals_by_value}
-use Rattle.ord_script.specs.Numbers.{number_up_to, key_of, value_of, index_of, pointer_of, is_point}
+use Rattle.ord_script.specs.Numbers.{number_up_to, key_of, value_of, index_of, flag_of, pointer_of, is_point}
 use Rattle.ord_script.specs.Pairs.{Pointer}
 use Rattle.ord_script.specs.Spelling as spelling
 use Rattle.ord_script.specs.Text.{pointer_text}
@@ -41,6 +41,11 @@ index_of-text i range = number_up_to-decimal (2 ^ 32 - 1) i (omega (arith, range
 
 pub value_of-text : (v : ℕ) → v < 2 ^ 64 → value_of (decimal v) ≡ Some v
 value_of-text v range = number_up_to-decimal (2 ^ 64 - 1) v (omega (arith, range)) range
+
+-- a flag
+pub flag_of-text : (b : Bool) → flag_of (decimal (spelling.flag_number b)) ≡ Some b
+flag_of-text true = rw (number_up_to-decimal 1 1 (omega arith) (omega arith)) refl
+flag_of-text false = rw (number_up_to-decimal 1 0 (omega arith) (omega arith)) refl
 
 -- a key without a sign
 key_of_digits : (word : List ℕ) → 0 < length word → all_ascii_digits word ≡ true → key_of word ≡ option_map pos (number_up_to (2 ^ 63 - 1) word)

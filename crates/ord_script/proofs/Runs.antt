@@ -38,13 +38,13 @@ module _ {P T I G A F K : Type 0} (r : Reading P T I G K) (asks : F → Shown T 
 -- and so does one between trees
 module _ {P T I G A F K : Type 0} (r : Reading P T I G K) (asks : F → Shown T → F → Type 0) (command : Command P T I G K) (reply : Reply P T A I G) (old : Tree T) (f : F) (mid : Tree T) (between : F) (new : Tree T) (g : F) (step : StepsBetween r asks mid between command reply new g) where
   -- a step between the states that the marks make of the trees
-  step_from : (marks : Marks) → AreTrue marks mid.shape → Step r asks (record { tree = mid; marks = marks }) between command reply (record { tree = new; marks = marks_after reply new marks }) g
+  step_from : (marks : Marks) → AreTrue marks mid.shape → Step r asks (record { tree = mid; marks = marks }) between command reply (record { tree = new; marks = marks_after command reply new marks }) g
   step_from marks holds = record { does = step.does marks holds; marks = refl; lawful = step.lawful; sound = step.sound }
 
   pub RunsBetween-more : (asked : List (Command P T I G K)) (told : List (Reply P T A I G)) → RunsBetween r asks old f asked told mid between → RunsBetween r asks old f (asked ++ command ∷ []) (told ++ reply ∷ []) new g
   RunsBetween-more asked told so_far marks holds =
       let run = so_far marks holds in (
-        marks_after reply new run.0,
+        marks_after command reply new run.0,
         AreTrue-does mid new run.0 step.sound run.1 r asks between g command reply (step.does run.0 run.1),
         Runs-more r asks command reply _ between _ g (step_from run.0 run.1) (record { tree = old; marks = marks }) f asked told run.2,
       )

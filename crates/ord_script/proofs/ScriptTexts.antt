@@ -12,7 +12,7 @@ use Rattle.ord_script.specs.declared.command.Command.TheVariants as commands
 use Rattle.ord_script.specs.Pairs.{PairCommand}
 use Rattle.ord_script.specs.Script.{is_blank, words_of, and_then, script_from, script_of}
 use Rattle.ord_script.specs.Commands.{said_by}
-use Rattle.ord_script.specs.Spelling.{Argument, key, value, index, count, pointer, argument_text, IsInRange, saying_of, spelled, CanBeSaid, script_text}
+use Rattle.ord_script.specs.Spelling.{Argument, key, value, index, count, pointer, flag, argument_text, IsInRange, saying_of, spelled, CanBeSaid, script_text}
 use Rattle.ord_script.proofs.NumberTexts.{digits_all, decimal_digits}
 use Rattle.ord_script.proofs.Parts.{words_among, words_among-cons, lines_onto}
 use Rattle.ord_script.proofs.Spelled.{command_text, in_range}
@@ -45,6 +45,8 @@ argument_whole (pointer p) range =
       dark = All-append (λ b. 32 < b) (decimal p.0 ++ 46 ∷ []) (decimal p.1)
           (All-append (λ b. 32 < b) (decimal p.0) (46 ∷ []) before.dark (All-cons (λ b. 32 < b) 46 [] (omega arith) (All-nil (λ b. 32 < b)))) (number_dark p.1 range.1);
     }
+argument_whole (flag true) range = number_whole 1 (omega arith)
+argument_whole (flag false) range = number_whole 0 (omega arith)
 
 -- the words that begin a line
 word_test : (command : PairCommand) → nat_lt 0 (length (saying_of command).word) && list_all (nat_lt 32) (saying_of command).word ≡ true

@@ -1,14 +1,14 @@
 -- What a script says for a command, read: by the kinds of its arguments, and then for each command.
-use Rattle.std.proofs.Common.{◌≡◌, ℕ, ℤ, List, [], ◌∷◌, map, Some, Result, Ok, ok_or, refl, ap}
+use Rattle.std.proofs.Common.{◌≡◌, ℕ, ℤ, Bool, List, [], ◌∷◌, map, Some, Result, Ok, ok_or, refl, ap}
 use Rattle.std.specs.List.{All, AllByRecursion}
 use Rattle.std.proofs.lemmas.List.Elements.{recursion_from_All}
 use Rattle.ord_script.specs.declared.command.Command.TheVariants as commands
 use Rattle.ord_script.specs.declared.fault.FaultKind.{FaultKind}
 use Rattle.ord_script.specs.declared.fault.FaultKind.TheVariants.{BadNumber}
-use Rattle.ord_script.specs.Commands.{key_in, pointer_in, index_in, count_in, pair_in, with_pair, with_pointer_and_pair, with_key, with_pointer, with_index, from_pointer, from_index, alone, word_text, word_of, said_by}
+use Rattle.ord_script.specs.Commands.{key_in, pointer_in, index_in, count_in, flag_in, pair_in, with_pair, with_pointer_and_pair, with_key, with_pointer, with_index, with_flag, from_pointer, from_index, alone, word_text, word_of, said_by}
 use Rattle.ord_script.specs.Pairs.{Pair, Pointer, PairCommand}
-use Rattle.ord_script.specs.Spelling.{Argument, pair_arguments, key, value, index, count, pointer, argument_text, IsInRange, saying_of, spelled, CanBeSaid}
-use Rattle.ord_script.proofs.NumberTexts.{key_of-text, pointer_of-text, index_of-text, value_of-text}
+use Rattle.ord_script.specs.Spelling.{Argument, pair_arguments, key, value, index, count, pointer, flag, argument_text, IsInRange, saying_of, spelled, CanBeSaid}
+use Rattle.ord_script.proofs.NumberTexts.{key_of-text, pointer_of-text, index_of-text, value_of-text, flag_of-text}
 
 -- each kind of argument
 key_in-text : (k : ℤ) → IsInRange (key k) → key_in (argument_text (key k)) ≡ Ok k
@@ -22,6 +22,9 @@ index_in-text i range = ap (λ read. ok_or read BadNumber) (index_of-text i rang
 
 count_in-text : (n : ℕ) → IsInRange (count n) → count_in (argument_text (count n)) ≡ Ok n
 count_in-text n range = ap (λ read. ok_or read BadNumber) (value_of-text n range)
+
+flag_in-text : (b : Bool) → flag_in (argument_text (flag b)) ≡ Ok b
+flag_in-text b = ap (λ read. ok_or read BadNumber) (flag_of-text b)
 
 pair_in-text : (pair : Pair) → IsInRange (key pair.0) → IsInRange (value pair.1) → pair_in (argument_text (key pair.0)) (argument_text (value pair.1)) ≡ Ok pair
 unfolding pair_in
@@ -52,6 +55,10 @@ with_index-text : (command : ℕ → PairCommand) (i : ℕ) → ReadsAs (with_in
 unfolding with_index
 with_index-text command i range = rw (index_in-text i range.0) refl
 
+with_flag-text : (command : Bool → PairCommand) (b : Bool) → ReadsAs (with_flag command) (flag b ∷ []) (command b)
+unfolding with_flag
+with_flag-text command b range = rw (flag_in-text b) refl
+
 from_pointer-text : (command : Pointer → ℕ → ℤ → PairCommand) (p : Pointer) (n : ℕ) (k : ℤ) → ReadsAs (from_pointer command) (pointer p ∷ count n ∷ key k ∷ []) (command p n k)
 unfolding from_pointer
 from_pointer-text command p n k range = rw (pointer_in-text p range.0, count_in-text n range.1.0, key_in-text k range.1.1.0) refl
@@ -71,6 +78,8 @@ said_by-spelled (commands.Set p pair) sayable range = ap Some (with_pointer_and_
 said_by-spelled (commands.Remove p) sayable range = ap Some (with_pointer-text commands.Remove p range)
 said_by-spelled (commands.RemoveInx i) sayable range = ap Some (with_index-text commands.RemoveInx i range)
 said_by-spelled (commands.Invalidate p) sayable range = ap Some (with_pointer-text commands.Invalidate p range)
+said_by-spelled (commands.Compress b) sayable range = ap Some (with_flag-text commands.Compress b range)
+said_by-spelled (commands.Canonical b) sayable range = ap Some (with_flag-text commands.Canonical b range)
 said_by-spelled (commands.Find k) sayable range = ap Some (with_key-text commands.Find k range)
 said_by-spelled (commands.FindLinear p n k) sayable range = ap Some (from_pointer-text commands.FindLinear p n k range)
 said_by-spelled (commands.Similar k) sayable range = ap Some (with_key-text commands.Similar k range)

@@ -1,11 +1,11 @@
 -- Commands as the words of a line spell them.
-use Rattle.std.specs.Prelude.{ℕ, ℤ, List, [], ◌∷◌, ◌==◌, ok_or, Option, Some, None, Result, Ok, Err, codes, bytes_eq, slice_index, if◌then◌else◌}
+use Rattle.std.specs.Prelude.{ℕ, ℤ, Bool, List, [], ◌∷◌, ◌==◌, ok_or, Option, Some, None, Result, Ok, Err, codes, bytes_eq, slice_index, if◌then◌else◌}
 use Rattle.ord_script.specs.declared.fault.FaultKind.{FaultKind}
 use Rattle.ord_script.specs.declared.fault.FaultKind.TheVariants.{UnknownCommand, WrongArguments, BadNumber}
 use Rattle.ord_script.specs.declared.command.Command.TheVariants as commands
 use Rattle.ord_script.specs.declared.word.Word.{Word}
 use Rattle.ord_script.specs.declared.word.Word.TheVariants as words
-use Rattle.ord_script.specs.Numbers.{key_of, value_of, index_of, pointer_of}
+use Rattle.ord_script.specs.Numbers.{key_of, value_of, index_of, flag_of, pointer_of}
 use Rattle.ord_script.specs.Pairs.{Pair, Pointer, PairCommand}
 
 -- how a script writes the words that begin a command
@@ -17,6 +17,8 @@ word_text words.RemoveInx = codes "remove-index"
 word_text words.Invalidate = codes "invalidate"
 word_text words.Clear = codes "clear"
 word_text words.IncGeneration = codes "next-generation"
+word_text words.Compress = codes "compress"
+word_text words.Canonical = codes "canonical"
 word_text words.Find = codes "find"
 word_text words.FindLinear = codes "find-linear"
 word_text words.Similar = codes "similar"
@@ -34,7 +36,7 @@ word_text words.Stats = codes "stats"
 abbrev pub all_words : List Word
 all_words =
     words.Insert ∷ words.Set ∷ words.Remove ∷ words.RemoveInx ∷ words.Invalidate ∷ words.Clear ∷ words.IncGeneration
-    ∷ words.Find ∷ words.FindLinear ∷ words.Similar ∷ words.SimilarLinear
+    ∷ words.Compress ∷ words.Canonical ∷ words.Find ∷ words.FindLinear ∷ words.Similar ∷ words.SimilarLinear
     ∷ words.Visits ∷ words.Get ∷ words.First ∷ words.Last ∷ words.Neighbours ∷ words.List ∷ words.Ranks
     ∷ words.Stats ∷ []
 
@@ -66,7 +68,7 @@ abbrev pub three_arguments : List (List ℕ) → Result (List ℕ × List ℕ ×
 three_arguments (a ∷ b ∷ c ∷ []) = Ok (a, b, c)
 three_arguments arguments = Err WrongArguments
 
--- a word that is a key, a pointer, an index or a number of steps, or two that are a pair
+-- a word that is a key, a pointer, an index, a number of steps or a flag, or two that are a pair
 abbrev pub key_in : List ℕ → Result ℤ FaultKind
 key_in word = ok_or (key_of word) BadNumber
 
@@ -78,6 +80,9 @@ index_in word = ok_or (index_of word) BadNumber
 
 abbrev pub count_in : List ℕ → Result ℕ FaultKind
 count_in word = ok_or (value_of word) BadNumber
+
+abbrev pub flag_in : List ℕ → Result Bool FaultKind
+flag_in word = ok_or (flag_of word) BadNumber
 
 unfoldable pub pair_in : List ℕ → List ℕ → Result Pair FaultKind
 pair_in first second = do
@@ -99,7 +104,7 @@ with_pointer_and_pair command arguments = do
   pair ← pair_in three.1 three.2
   Ok (command pointer pair)
 
--- a command with a key, a pointer or an index, or without arguments
+-- a command with a key, a pointer, an index or a flag, or without arguments
 unfoldable pub with_key : (ℤ → PairCommand) → List (List ℕ) → Result PairCommand FaultKind
 with_key command arguments = do
   one ← one_argument arguments
@@ -117,6 +122,12 @@ with_index command arguments = do
   one ← one_argument arguments
   index ← index_in one
   Ok (command index)
+
+unfoldable pub with_flag : (Bool → PairCommand) → List (List ℕ) → Result PairCommand FaultKind
+with_flag command arguments = do
+  one ← one_argument arguments
+  flag ← flag_in one
+  Ok (command flag)
 
 -- a command with a hint, a number of steps and a key: the hint is a pointer or an index
 unfoldable pub from_pointer : (Pointer → ℕ → ℤ → PairCommand) → List (List ℕ) → Result PairCommand FaultKind
@@ -149,6 +160,8 @@ command_by words.RemoveInx arguments = with_index commands.RemoveInx arguments
 command_by words.Invalidate arguments = with_pointer commands.Invalidate arguments
 command_by words.Clear arguments = alone commands.Clear arguments
 command_by words.IncGeneration arguments = alone commands.IncGeneration arguments
+command_by words.Compress arguments = with_flag commands.Compress arguments
+command_by words.Canonical arguments = with_flag commands.Canonical arguments
 command_by words.Find arguments = with_key commands.Find arguments
 command_by words.FindLinear arguments = from_pointer commands.FindLinear arguments
 command_by words.Similar arguments = with_key commands.Similar arguments
@@ -171,6 +184,8 @@ word_of (commands.RemoveInx index) = words.RemoveInx
 word_of (commands.Invalidate pointer) = words.Invalidate
 word_of commands.Clear = words.Clear
 word_of commands.IncGeneration = words.IncGeneration
+word_of (commands.Compress reset) = words.Compress
+word_of (commands.Canonical reset) = words.Canonical
 word_of (commands.Find key) = words.Find
 word_of (commands.FindLinear pointer count key) = words.FindLinear
 word_of (commands.Similar key) = words.Similar

@@ -2,11 +2,13 @@
 use Rattle.std.specs.Prelude.{◌≡◌, ℕ, ◌+◌, ◌^◌, ◌<◌, ◌≤◌, ◌==◌, Bool, true, false, if◌then◌else◌, List, [], ◌∷◌, length, map, Option, Some, None, IsSome, IfNone, MatchOption, Ok, Err}
 use Rattle.std.specs.Option.{option_map}
 use Rattle.std.specs.declared.cmp.Ordering.{Ordering}
+use Rattle.arena_base.specs.Compression.{compressed_generation, compression_overflows}
 use Rattle.arena_base.specs.Generation.{next_generation, overflows_after}
 use Rattle.arena_base.specs.Invalidation.{valid_value, has_overflowed, is_overflow}
 use Rattle.arena_base.specs.declared.invalidation.InvalidationResult.TheVariants.{Success, GenerationOverflow}
 use Rattle.chain_base.specs.Link.{Link}
-use Rattle.chain_base.specs.Chain.{Entry, IsSound, entry_at, item_of, link_at, first_pointer, last_pointer, removed, renewed, cleared, raised}
+use Rattle.chain_base.specs.Chain.{Entry, Chain, IsSound, entry_at, item_of, link_at, first_pointer, last_pointer, removed, renewed, cleared, raised}
+use Rattle.chain_base.specs.Compression.{relocated, canonical}
 use Rattle.ord_tree.specs.Shape.{Shape, missing, node}
 use Rattle.ord_tree.specs.Ranks.{IsTight}
 use Rattle.ord_tree.specs.Half.{IsRebuilt}
@@ -190,6 +192,15 @@ module _ {P T I G A : Type 0} where
       (new ≡ after) × (is_overflow result ≡ overflows_after greatest old.list.generation)
   Changes greatest old after reply new = ⊥
 
+  -- A rebuild: the entries get other pointers, all of one generation, as `after` lays them out; the tree is built anew. The generation is
+  -- the first where it is reset, else the next one, with an overflow where it begins again.
+  abbrev pub Rebuilds : Option ℕ → Bool → Tree T → (ℕ → Chain T) → Reply P T A I G → Tree T → Type 0
+  Rebuilds greatest reset old after (Changed result) new =
+      let generation = old.list.generation in
+      (new.list ≡ after (compressed_generation greatest reset generation)) × IsRebuilt new.shape
+      × (is_overflow result ≡ compression_overflows greatest reset generation)
+  Rebuilds greatest reset old after reply new = ⊥
+
   -- the end of the list that has this index and generation
   abbrev pub IsEnd : (P → ℕ × ℕ) → Option (ℕ × ℕ) → Reply P T A I G → Type 0
   IsEnd pointer end (At p) = option_map pointer p ≡ end
@@ -233,6 +244,8 @@ module _ {P T I G A : Type 0} where
       Changes r.greatest old.tree (record { list = cleared r.greatest old.tree.list; shape = missing }) reply new
   Replies r old commands.IncGeneration reply new =
       Changes r.greatest old.tree (record old.tree { list = raised r.greatest old.tree.list }) reply new
+  Replies r old (commands.Compress reset) reply new = Rebuilds r.greatest reset old.tree (relocated old.tree.list) reply new
+  Replies r old (commands.Canonical reset) reply new = Rebuilds r.greatest reset old.tree (canonical old.tree.list) reply new
   Replies r old (commands.Find k) reply new = Finds r.key r.cmp r.pointer old k reply × (new ≡ old.tree)
   Replies r old (commands.FindLinear p num k) reply new =
       FindsFrom r.key r.cmp r.pointer old p num k reply × (new ≡ old.tree)
@@ -250,13 +263,20 @@ module _ {P T I G A : Type 0} where
   Replies r old commands.FindWith reply new = ⊥
   Replies r old commands.SimilarWith reply new = ⊥
 
-  -- the marks after a reply. Where no entry is left, both are true; else a new entry keeps the first and ends the second, a removal
-  -- ends both, and any other reply, also a refusal, keeps both.
-  abbrev pub marks_after : Reply P T A I G → Tree T → Marks → Marks
-  marks_after (Inserted (New p) before) new marks = settled new (record { only_inserted = marks.only_inserted; just_built = false })
-  marks_after (Removed (Success taken)) new marks = settled new (record { only_inserted = false; just_built = false })
-  marks_after (Removed (GenerationOverflow taken)) new marks = settled new (record { only_inserted = false; just_built = false })
-  marks_after reply new marks = settled new marks
+  -- the marks that a reply leaves: a new entry keeps the first and ends the second, a removal ends both, and any other reply, also a
+  -- refusal, keeps both
+  abbrev pub marks_kept : Reply P T A I G → Marks → Marks
+  marks_kept (Inserted (New p) before) marks = record { only_inserted = marks.only_inserted; just_built = false }
+  marks_kept (Removed (Success taken)) marks = record { only_inserted = false; just_built = false }
+  marks_kept (Removed (GenerationOverflow taken)) marks = record { only_inserted = false; just_built = false }
+  marks_kept reply marks = marks
+
+  -- the marks after a command and its reply. Where no entry is left, both are true; else a rebuild ends the first and makes the second
+  -- true, and every other command leaves what its reply does.
+  abbrev pub marks_after : {K : Type 0} → Command P T I G K → Reply P T A I G → Tree T → Marks → Marks
+  marks_after (commands.Compress reset) reply new marks = settled new (record { only_inserted = false; just_built = true })
+  marks_after (commands.Canonical reset) reply new marks = settled new (record { only_inserted = false; just_built = true })
+  marks_after command reply new marks = settled new (marks_kept reply marks)
 
 -- The same with a closure, which searches by closure call: `asks f s g` where f is shown the entry of s, gives the answer of s and
 -- is left as g.
@@ -283,7 +303,7 @@ module _ {P T I G A F : Type 0} where
   -- state is one that an arena can have: its list is lawful, and its shape is one over this list that keeps the rank rules.
   pub record Step {K : Type 0} (r : Reading P T I G K) (asks : F → Shown T → F → Type 0) (old : State T) (f : F) (command : Command P T I G K) (reply : Reply P T A I G) (new : State T) (g : F) : Type 0 where
     pub does : Does r asks old f command reply new.tree g
-    pub marks : new.marks ≡ marks_after reply new.tree old.marks
+    pub marks : new.marks ≡ marks_after command reply new.tree old.marks
     pub lawful : IsSound r.most r.greatest new.tree.list
     pub sound : IsSoundTree new.tree
 

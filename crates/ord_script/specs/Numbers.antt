@@ -29,6 +29,10 @@ value_of word = number_up_to (2 ^ 64 - 1) word
 abbrev pub index_of : List ℕ → Option ℕ
 index_of word = number_up_to (2 ^ 32 - 1) word
 
+-- a flag: 0 or 1
+abbrev pub flag_of : List ℕ → Option Bool
+flag_of word = option_map (λ n. n == 1) (number_up_to 1 word)
+
 -- a point
 abbrev pub is_point : ℕ → Bool
 is_point b = b == 46

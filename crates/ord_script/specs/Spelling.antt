@@ -1,5 +1,5 @@
 -- How a script says each command: the words of its line.
-use Rattle.std.specs.Prelude.{ℕ, ◌^◌, ◌<◌, ℤ, pos, neg_ℤ, ◌≤ℤ◌, ◌<ℤ◌, List, [], ◌∷◌, ◌++◌, All, map, flat_map, codes, decimal}
+use Rattle.std.specs.Prelude.{Bool, true, false, ℕ, ◌^◌, ◌<◌, ℤ, pos, neg_ℤ, ◌≤ℤ◌, ◌<ℤ◌, List, [], ◌∷◌, ◌++◌, All, map, flat_map, codes, decimal}
 use Rattle.std.specs.Fmt.{signed_decimal}
 use Rattle.std.specs.List.{join_with_byte}
 use Rattle.ord_script.specs.declared.command.Command.TheVariants as commands
@@ -13,6 +13,12 @@ pub data Argument : Type 0 where
   index : ℕ → Argument
   count : ℕ → Argument
   pointer : Pointer → Argument
+  flag : Bool → Argument
+
+-- the number that stands for a flag
+abbrev pub flag_number : Bool → ℕ
+flag_number true = 1
+flag_number false = 0
 
 -- how it is written, with its numbers in decimal
 abbrev pub argument_text : Argument → List ℕ
@@ -21,6 +27,7 @@ argument_text (value v) = decimal v
 argument_text (index i) = decimal i
 argument_text (count n) = decimal n
 argument_text (pointer p) = pointer_text p
+argument_text (flag b) = decimal (flag_number b)
 
 -- a key has 64 bits with a sign; a value, a generation and a number of steps have 64 without one, an index 32
 abbrev pub IsInRange : Argument → Type 0
@@ -29,6 +36,7 @@ IsInRange (value v) = v < 2 ^ 64
 IsInRange (index i) = i < 2 ^ 32
 IsInRange (count n) = n < 2 ^ 64
 IsInRange (pointer p) = (p.0 < 2 ^ 32) × (p.1 < 2 ^ 64)
+IsInRange (flag b) = Unit {0}
 
 -- the word of a command, and its arguments
 pub record Saying : Type 0 where
@@ -48,6 +56,8 @@ saying_of (commands.RemoveInx i) = record { word = codes "remove-index"; argumen
 saying_of (commands.Invalidate p) = record { word = codes "invalidate"; arguments = pointer p ∷ [] }
 saying_of commands.Clear = record { word = codes "clear"; arguments = [] }
 saying_of commands.IncGeneration = record { word = codes "next-generation"; arguments = [] }
+saying_of (commands.Compress b) = record { word = codes "compress"; arguments = flag b ∷ [] }
+saying_of (commands.Canonical b) = record { word = codes "canonical"; arguments = flag b ∷ [] }
 saying_of (commands.Find k) = record { word = codes "find"; arguments = key k ∷ [] }
 saying_of (commands.FindLinear p n k) = record { word = codes "find-linear"; arguments = pointer p ∷ count n ∷ key k ∷ [] }
 saying_of (commands.Similar k) = record { word = codes "similar"; arguments = key k ∷ [] }

@@ -19,6 +19,11 @@ pub enum Command<P: Ptr, T: SimpleOrdItem> {
     Clear,
     /// Raises the generation that the next entry gets.
     IncGeneration,
+    /// Moves the entries to the indexes from 1 on in the order of their indexes, all with one generation: the first where the flag is set,
+    /// else the next one. The tree is built anew.
+    Compress(bool),
+    /// Gives the entries the indexes from 1 on in their order, with one generation as `Compress` does. The tree is built anew.
+    Canonical(bool),
     /// Searches an entry with an equal key.
     Find(T::Key),
     /// Searches an entry with an equal key, after at most so many steps along the list from the entry that the pointer names.

@@ -1,6 +1,6 @@
 // Reads the numbers and pointers of a script.
 ghost use Rattle.std.specs.Prelude.{◌≡◌, position};
-ghost use Rattle.ord_script.specs.Numbers.{number_up_to, key_of, value_of, index_of, pointer_of, is_point};
+ghost use Rattle.ord_script.specs.Numbers.{number_up_to, key_of, value_of, index_of, flag_of, pointer_of, is_point};
 
 use arena_base::{P0, Ptr};
 
@@ -33,6 +33,14 @@ pub fn index_of(word: &[u8]) -> Option<u32>
 {
     let number = number_up_to(u64::from(u32::MAX), word)?;
     Some(number as u32)
+}
+
+/// A flag: a number that is 0 or 1.
+pub fn flag_of(word: &[u8]) -> Option<bool>
+    ensures { result ≡ flag_of word.now }
+{
+    let number = number_up_to(1, word)?;
+    Some(number == 1)
 }
 
 /// A pointer: an index and a generation, with a point between them.

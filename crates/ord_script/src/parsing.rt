@@ -1,13 +1,13 @@
 // Reads the command that a line gives.
 ghost use Rattle.std.specs.Prelude.{◌≡◌, MatchResult};
-ghost use Rattle.ord_script.specs.Commands.{no_argument, one_argument, two_arguments, three_arguments, key_in, pointer_in, index_in, count_in, pair_in, with_pair, with_pointer_and_pair, with_key, with_pointer, with_index, from_pointer, from_index, alone, said_by};
+ghost use Rattle.ord_script.specs.Commands.{no_argument, one_argument, two_arguments, three_arguments, key_in, pointer_in, index_in, count_in, flag_in, pair_in, with_pair, with_pointer_and_pair, with_key, with_pointer, with_index, with_flag, from_pointer, from_index, alone, said_by};
 ghost use Rattle.ord_script.specs.Commands as spec;
 ghost use Rattle.ord_script.specs.Script.{words_of};
 
 use crate::command::Command;
 use crate::cutting::Words;
 use crate::fault::FaultKind;
-use crate::numbers::{index_of, key_of, pointer_of, value_of};
+use crate::numbers::{flag_of, index_of, key_of, pointer_of, value_of};
 use crate::pairs::{Pair, PairCommand};
 use crate::word::{Word, word_in};
 use arena_base::P0;
@@ -39,6 +39,8 @@ fn command_of(first: &[u8], arguments: Words<'_>) -> Result<PairCommand, FaultKi
         Word::Invalidate => invalidate_of(arguments),
         Word::Clear => alone(Command::Clear, arguments),
         Word::IncGeneration => alone(Command::IncGeneration, arguments),
+        Word::Compress => compress_of(arguments),
+        Word::Canonical => canonical_of(arguments),
         Word::Find => find_of(arguments),
         Word::FindLinear => find_linear_of(arguments),
         Word::Similar => similar_of(arguments),
@@ -103,6 +105,26 @@ fn invalidate_of(arguments: Words<'_>) -> Result<PairCommand, FaultKind>
     let pointer = one(arguments)?;
     let pointer = pointer_in(pointer)?;
     Ok(Command::Invalidate(pointer))
+}
+
+/// `compress B`
+#[tactic(auto, unfolding(crate::specs::Commands::with_flag))]
+fn compress_of(arguments: Words<'_>) -> Result<PairCommand, FaultKind>
+    ensures { result ≡ with_flag Command.Compress arguments.entry }
+{
+    let flag = one(arguments)?;
+    let reset = flag_in(flag)?;
+    Ok(Command::Compress(reset))
+}
+
+/// `canonical B`
+#[tactic(auto, unfolding(crate::specs::Commands::with_flag))]
+fn canonical_of(arguments: Words<'_>) -> Result<PairCommand, FaultKind>
+    ensures { result ≡ with_flag Command.Canonical arguments.entry }
+{
+    let flag = one(arguments)?;
+    let reset = flag_in(flag)?;
+    Ok(Command::Canonical(reset))
 }
 
 /// `find K`
@@ -215,6 +237,13 @@ fn count_in(word: &[u8]) -> Result<usize, FaultKind>
 {
     let count = value_of(word).ok_or(FaultKind::BadNumber)?;
     Ok(count as usize)
+}
+
+/// A word that is a flag.
+fn flag_in(word: &[u8]) -> Result<bool, FaultKind>
+    ensures { result ≡ flag_in word.now }
+{
+    flag_of(word).ok_or(FaultKind::BadNumber)
 }
 
 /// Two words that are a key and a value.

@@ -25,7 +25,7 @@ pub enum Reply<P: Ptr, T, A: Allocator> {
     Removed(InvalidationResult<(P, T)>),
     /// The entry's new pointer.
     Renewed(InvalidationResult<P>),
-    /// The generation was raised.
+    /// The generation was raised, or begins again.
     Changed(InvalidationOption<()>),
     /// The pointer of the entry, `None` where there is none.
     At(Option<P>),

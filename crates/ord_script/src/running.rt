@@ -106,6 +106,8 @@ where
         Command::Invalidate(p) => steps::invalidate(arena, p),
         Command::Clear => steps::clear(arena),
         Command::IncGeneration => steps::inc_generation(arena),
+        Command::Compress(reset) => steps::compress(arena, reset),
+        Command::Canonical(reset) => steps::canonical(arena, reset),
         Command::Find(key) => steps::find(arena, &key),
         Command::FindLinear(p, num, key) => steps::find_linear(arena, p, num, &key),
         Command::Similar(key) => steps::similar(arena, &key),

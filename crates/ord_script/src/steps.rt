@@ -1,9 +1,10 @@
 // What each command does, and what it answers.
 ghost use Rattle.std.specs.Prelude.{◌≡◌, ◌<◌, IfOk, OnErr, IfSome, is_some, length, map};
 ghost use Rattle.chain_base.specs.Chain.{link_at, first_pointer, last_pointer, cleared, raised};
+ghost use Rattle.chain_base.specs.Compression.{canonical, relocated};
 ghost use Rattle.ord_tree.specs.Shape.{missing};
 ghost use Rattle.triple_ord.specs.ClosureSearch.{Asks};
-ghost use Rattle.ord_script.specs.Machine.{Marks, AreTrue, Inserts, Sets, Removes, RemovesAt, Renews, Changes, Finds, FindsFrom, FindsNear, FindsNearFrom, AnswersWith, AnswersSimilarWith, Visits, Gets, IsEnd, HasNeighbours, Lists, Ranked, HasRank, HaveRanks, Counts};
+ghost use Rattle.ord_script.specs.Machine.{Marks, AreTrue, Inserts, Sets, Removes, RemovesAt, Renews, Changes, Rebuilds, Finds, FindsFrom, FindsNear, FindsNearFrom, AnswersWith, AnswersSimilarWith, Visits, Gets, IsEnd, HasNeighbours, Lists, Ranked, HasRank, HaveRanks, Counts};
 
 use crate::reply::Reply;
 use arena_base::Ptr;
@@ -100,6 +101,26 @@ pub fn inc_generation<P: Ptr, T, A: Allocator>(
         (record arena.old { list = raised P.Gen.greatest arena.old.list }) result arena.new }
 {
     Reply::Changed(arena.inc_generation())
+}
+
+/// `Command::Compress`
+pub fn compress<P: Ptr, T, A: Allocator>(
+    arena: &mut SimpleOrdArena<P, T, A>,
+    reset: bool,
+) -> Reply<P, T, A>
+    ensures { Rebuilds P.Gen.greatest reset arena.old (relocated arena.old.list) result arena.new }
+{
+    Reply::Changed(arena.compress(reset))
+}
+
+/// `Command::Canonical`
+pub fn canonical<P: Ptr, T, A: Allocator>(
+    arena: &mut SimpleOrdArena<P, T, A>,
+    reset: bool,
+) -> Reply<P, T, A>
+    ensures { Rebuilds P.Gen.greatest reset arena.old (canonical arena.old.list) result arena.new }
+{
+    Reply::Changed(arena.compress_canonical(reset))
 }
 
 /// `Command::Find`

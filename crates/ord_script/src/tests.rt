@@ -7,7 +7,7 @@ use crate::{FaultKind, ScriptEnd, Watched, serve};
 use std::process::Abort;
 
 /// Scripts that are done, each with its answer.
-const ANSWERS: [(&[u8], &str); 29] = [
+const ANSWERS: [(&[u8], &str); 32] = [
     // the commands
     (
         b"insert 50 1\ninsert 30 2\nfind 30\nlist\n",
@@ -94,6 +94,19 @@ const ANSWERS: [(&[u8], &str); 29] = [
         b"invalidate 1.2\nremove 1.2\nset 1.2 1 1\nremove-index 1\nclear\nnext-generation\nstats\ninsert 1 1\nset 1.3 1 2\nset 1.4 1 2\nlist\n",
         "invalid\ninvalid\nnone\ninvalid\ncleared\nok\nlen 0 capacity 0 generation 4 max none\nnew 1.4\nnone\nold 1:1\nlist 1.4=1:2\n",
     ),
+    // rebuilds
+    (
+        b"insert 30 0\ninsert 10 0\ninsert 40 0\ninsert 20 0\nremove 3.2\ncompress 0\nlist\nranks\ncanonical 0\nlist\ncanonical 1\nlist\n",
+        "new 1.2\nnew 2.2\nnew 3.2\nnew 4.2\nremoved 40:0\nok\nlist 2.4=10:0 3.4=20:0 1.4=30:0\nranks 1 3 1\nok\nlist 1.5=10:0 2.5=20:0 3.5=30:0\nok\nlist 1.2=10:0 2.2=20:0 3.2=30:0\n",
+    ),
+    (
+        b"insert 1 0\ninsert 2 0\ninsert 3 0\ninsert 4 0\ninsert 5 0\ninsert 6 0\ninsert 7 0\ncanonical 0\nranks\nremove-index 1\nranks\nremove-index 3\nranks\n",
+        "new 1.2\nnew 2.2\nnew 3.2\nnew 4.2\nnew 5.2\nnew 6.2\nnew 7.2\nok\nranks 1 3 1 4 1 3 1\nremoved 1.3 1:0\nranks 2 1 4 1 3 1\nremoved 3.3 3:0\nranks 1 3 1 2 1\n",
+    ),
+    (
+        b"compress 00\nstats\ninsert 5 0\ncompress 01\nlist\nremove 1.2\ncompress 0\nstats\ninsert 6 0\n",
+        "ok\nlen 0 capacity 0 generation 3 max none\nnew 1.3\nok\nlist 1.2=5:0\nremoved 5:0\nok\nlen 0 capacity 4 generation 4 max none\nnew 1.4\n",
+    ),
     // lines: CR before LF, blank lines and comments, which are counted
     (b"insert 007 01\r\n", "new 1.2\n"),
     (b"\r\nlist\r\n", "list\n"),
@@ -154,7 +167,7 @@ const FAULTS: [(&[u8], &str, usize, FaultKind); 6] = [
 ];
 
 /// Lines that are a fault of this kind.
-const BAD_LINES: [(&[u8], FaultKind); 79] = [
+const BAD_LINES: [(&[u8], FaultKind); 87] = [
     // the tree, and what stands around the entries
     (b"visits", FaultKind::WrongArguments),
     (b"get 1.2 3", FaultKind::WrongArguments),
@@ -208,6 +221,15 @@ const BAD_LINES: [(&[u8], FaultKind); 79] = [
     (b"next-generation 1", FaultKind::WrongArguments),
     (b"next", FaultKind::UnknownCommand),
     (b"remove_index 1", FaultKind::UnknownCommand),
+    // rebuilds
+    (b"compress", FaultKind::WrongArguments),
+    (b"compress 0 1", FaultKind::WrongArguments),
+    (b"compress 2", FaultKind::BadNumber),
+    (b"compress -1", FaultKind::BadNumber),
+    (b"canonical", FaultKind::WrongArguments),
+    (b"canonical 10", FaultKind::BadNumber),
+    (b"canonical true", FaultKind::BadNumber),
+    (b"compact 0", FaultKind::UnknownCommand),
     // a fault ends the script
     (b"insert 1", FaultKind::WrongArguments),
     (b"insert", FaultKind::WrongArguments),

@@ -60,7 +60,7 @@ fn push_reply<A: Allocator>(
         Word::RemoveInx => push_removal_at(text, reply),
         Word::Invalidate => push_renewal(text, reply),
         Word::Clear => push_change(text, "cleared", reply),
-        Word::IncGeneration => push_change(text, "ok", reply),
+        Word::IncGeneration | Word::Compress | Word::Canonical => push_change(text, "ok", reply),
         Word::Find | Word::FindLinear => push_search(text, reply),
         Word::Similar | Word::SimilarLinear => push_similar(text, reply),
         Word::Visits => push_count(text, reply),

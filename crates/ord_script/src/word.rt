@@ -16,6 +16,8 @@ pub enum Word {
     Invalidate,
     Clear,
     IncGeneration,
+    Compress,
+    Canonical,
     Find,
     FindLinear,
     Similar,
@@ -31,7 +33,7 @@ pub enum Word {
 }
 
 /// All words.
-const WORDS: [Word; 19] = [
+const WORDS: [Word; 21] = [
     Word::Insert,
     Word::Set,
     Word::Remove,
@@ -39,6 +41,8 @@ const WORDS: [Word; 19] = [
     Word::Invalidate,
     Word::Clear,
     Word::IncGeneration,
+    Word::Compress,
+    Word::Canonical,
     Word::Find,
     Word::FindLinear,
     Word::Similar,
@@ -66,6 +70,8 @@ impl Word {
             Word::Invalidate => "invalidate",
             Word::Clear => "clear",
             Word::IncGeneration => "next-generation",
+            Word::Compress => "compress",
+            Word::Canonical => "canonical",
             Word::Find => "find",
             Word::FindLinear => "find-linear",
             Word::Similar => "similar",
@@ -119,6 +125,8 @@ fn word_of(command: &PairCommand) -> Word
         Command::Invalidate(_) => Word::Invalidate,
         Command::Clear => Word::Clear,
         Command::IncGeneration => Word::IncGeneration,
+        Command::Compress(_) => Word::Compress,
+        Command::Canonical(_) => Word::Canonical,
         Command::Find(_) => Word::Find,
         Command::FindLinear(_, _, _) => Word::FindLinear,
         Command::Similar(_) => Word::Similar,

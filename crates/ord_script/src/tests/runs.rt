@@ -211,6 +211,34 @@ fn generations_of_eight_bits_begin_again(rt: HostRuntime) -> Result<(), Fail> {
 }
 
 #[test]
+fn a_compression_begins_the_generations_again(rt: HostRuntime) -> Result<(), Fail> {
+    let mut arena: SimpleOrdArena<P8, Letter> = SimpleOrdArena::new(rt.alloc());
+    let mut commands = Vec::new(rt.alloc());
+    commands.push(Command::Insert(item(1, 'a')))?;
+    for _ in 2u8..255 {
+        commands.push(Command::IncGeneration)?;
+    }
+    commands.push(Command::Compress(false))?;
+    commands.push(Command::Canonical(false))?;
+    let replies = answers(rt.alloc(), &mut arena, commands)?;
+    assert_eq!(rt; replies.len(), 256);
+    assert!(rt;
+        matches!(
+            &replies[254],
+            Reply::Changed(InvalidationOption::GenerationOverflow(()))
+        )
+    );
+    assert!(rt;
+        matches!(
+            &replies[255],
+            Reply::Changed(InvalidationOption::Success(()))
+        )
+    );
+    assert_eq!(rt; arena.generation(), 3);
+    Ok(())
+}
+
+#[test]
 fn indexes_of_eight_bits_run_out(rt: HostRuntime) -> Result<(), Fail> {
     let mut arena: SimpleOrdArena<P8, Letter> = SimpleOrdArena::new(rt.alloc());
     let mut commands = Vec::new(rt.alloc());

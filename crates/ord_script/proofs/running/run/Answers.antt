@@ -1,4 +1,4 @@
-use Rattle.std.proofs.Common.{◌≡◌, ◌++◌, ◌∷◌, [], sym, ◌∙◌, arith}
+use Rattle.std.proofs.Common.{◌≡◌, ℕ, zero, suc, ◌<◌, false, true, ◌++◌, ◌∷◌, [], length, Result, Ok, Err, OnErr, refl, sym, ◌∙◌, arith}
 use Rattle.std.proofs.lemmas.Grind.{common_steps}
 use Rattle.ord_script.proofs.Lists.{cut_more, cut_all}
 use Rattle.triple_ord.specs.ClosureSearch.{Asks}
@@ -34,3 +34,14 @@ returns-clause-run g c =
     let all : c.loop-command.yielded ≡ c.args.commands.items =
     cut_all _ _ _ c.loop-command.invariant.cut (sym c.loop-command.invariant.count ∙ c.in-None.ensures.steps.0) in
     rw all at c.loop-command.invariant.runs
+
+-- what is refused room was asked for some
+asked_some : {V E : Type 0} (result : Result V E) (n : ℕ) → (n ≡ 0 → false ≡ true) → OnErr result (0 < n)
+asked_some (Ok v) n room = tt
+asked_some (Err e) zero room = let never : false ≡ true = room refl in cc
+asked_some (Err e) (suc n) room = omega arith
+
+pub returns-in_err-replies-clause-refused : goal.returns-in_err-replies-clause-refused
+returns-in_err-replies-clause-refused g c =
+    let count : c.len.result ≡ length c.args.commands.items = grind (arith, common_steps) in
+    asked_some c.from_residual.result (length c.args.commands.items) (rw count at c.in_err-replies.ensures.succeeds)
