@@ -14,7 +14,8 @@ use Rattle.ord_script.specs.declared.command.Command.{Command}
 use Rattle.ord_script.specs.declared.command.Command.TheVariants as commands
 use Rattle.ord_script.specs.declared.reply.Reply.{Reply}
 use Rattle.ord_script.specs.declared.reply.Reply.TheVariants.{Inserted, Refused, Item, Removed, Renewed, Changed}
-use Rattle.ord_script.specs.Machine.{Reading, Marks, AreTrue, settled, Inserts, Sets, Removes, RemovesAt, Renews, Changes, Rebuilds, packed, Replies, Does, marks_kept, marks_after}
+use Rattle.chain_base.specs.Compression.{relocated}
+use Rattle.ord_script.specs.Machine.{Reading, Marks, AreTrue, settled, Inserts, Sets, Removes, RemovesAt, Renews, Changes, Rebuilds, Replies, Does, marks_kept, marks_after}
 use Rattle.triple_ord.specs.ClosureSearch.{Shown}
 
 -- the shape without a node is rebuilt
@@ -123,7 +124,7 @@ module _ {P T I G A : Type 0} (old new : Tree T) (marks : Marks) (sound : IsSoun
   AreTrue-step r (commands.Invalidate p) reply replies = AreTrue-renewed r.greatest r.pointer p reply replies
   AreTrue-step r commands.Clear reply replies = AreTrue-changed r.greatest _ reply (AreTrue-missing marks) replies
   AreTrue-step r commands.IncGeneration reply replies = AreTrue-changed r.greatest _ reply holds replies
-  AreTrue-step r (commands.Compress reset) reply replies = AreTrue-rebuilt r.greatest reset (packed old.list) reply replies
+  AreTrue-step r (commands.Compress reset) reply replies = AreTrue-rebuilt r.greatest reset (relocated old.list) reply replies
   AreTrue-step r (commands.Canonical reset) reply replies = AreTrue-rebuilt r.greatest reset (canonical old.list) reply replies
   AreTrue-step r (commands.Find k) reply replies = AreTrue-still reply replies.1
   AreTrue-step r (commands.FindLinear p num k) reply replies = AreTrue-still reply replies.1
