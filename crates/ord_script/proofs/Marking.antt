@@ -4,7 +4,7 @@ use Rattle.std.proofs.lemmas.List.{length-map}
 use Rattle.std.proofs.Math.Dec.{eqb-suc-zero}
 use Rattle.arena_base.specs.declared.invalidation.InvalidationResult.TheVariants.{Success, GenerationOverflow, InvalidPtr}
 use Rattle.chain_base.specs.Chain.{Chain}
-use Rattle.chain_base.specs.Compression.{canonical}
+use Rattle.chain_base.specs.Compression.{canonical, relocated}
 use Rattle.ord_tree.specs.Shape.{Shape, missing, node, walk}
 use Rattle.ord_tree.specs.Half.{IsRebuilt}
 use Rattle.ord_tree.specs.Tree.{Tree, IsSoundTree}
@@ -14,7 +14,6 @@ use Rattle.ord_script.specs.declared.command.Command.{Command}
 use Rattle.ord_script.specs.declared.command.Command.TheVariants as commands
 use Rattle.ord_script.specs.declared.reply.Reply.{Reply}
 use Rattle.ord_script.specs.declared.reply.Reply.TheVariants.{Inserted, Refused, Item, Removed, Renewed, Changed}
-use Rattle.chain_base.specs.Compression.{relocated}
 use Rattle.ord_script.specs.Machine.{Reading, Marks, AreTrue, settled, Inserts, Sets, Removes, RemovesAt, Renews, Changes, Rebuilds, Replies, Does, marks_kept, marks_after}
 use Rattle.triple_ord.specs.ClosureSearch.{Shown}
 
