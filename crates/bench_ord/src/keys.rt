@@ -26,6 +26,15 @@ pub fn keys_of(alloc: Global, n: usize) -> Result<Keys, AllocError> {
     })
 }
 
+/// These keys, each with its value.
+pub fn pairs_of(alloc: Global, keys: &[u64]) -> Result<Vec<(u64, u64)>, AllocError> {
+    let mut pairs = Vec::new(alloc);
+    for key in keys {
+        pairs.push((*key, *key >> 8))?;
+    }
+    Ok(pairs)
+}
+
 /// Puts elements into an order that looks random.
 pub fn shuffle<T>(elements: &mut [T]) {
     for i in 0..elements.len() {

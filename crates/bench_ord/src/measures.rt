@@ -1,13 +1,14 @@
 //! The measures, each of the arena and of another structure in turn.
 use crate::arena::{Pairs, Pointed};
 use crate::hints::{Searches, hints_of};
-use crate::keys::{Keys, keys_of, shuffle};
+use crate::keys::{Keys, keys_of, pairs_of, shuffle};
 use crate::lap::Lap;
 use crate::map::Map;
 use crate::report::{Row, print};
 use crate::store::{Linked, Reached, Store, churn, filled, find_all, take_all};
 use crate::vector::{Items, Slots};
 use anyhow::Result;
+use std::alloc::{AllocError, Global};
 use std::io;
 use std::time::{Clock, Instant};
 
@@ -30,8 +31,31 @@ pub fn run<R: System>(rt: &R, n: usize) -> Result<()> {
     compare_hints(rt, "find at the hint", &pairs, 0)?;
     compare_hints(rt, "find beside the hint", &pairs, 1)?;
     compare_hints(rt, "find ten from the hint", &pairs, 10)?;
-    compare_walking(rt, &pairs, &map)?;
+    compare_walking(rt, "go through in order", &pairs, &map)?;
+    compare_rebuilding(rt, &keys)?;
+    let rebuilt: Pairs = rebuilt_of(rt.alloc(), keys.random.as_slice())?;
+    compare_walking(rt, "go through rebuilt", &rebuilt, &map)?;
     compare_with_vectors(rt, &pairs)
+}
+
+// Prints the best rounds of a measure at n entries.
+fn report<R: System>(
+    rt: &R,
+    n: usize,
+    measure: &str,
+    arena: Lap,
+    other: Lap,
+    other_name: &str,
+) -> Result<()> {
+    let row = Row {
+        n,
+        measure,
+        arena,
+        other,
+        other_name,
+    };
+    print(rt, row)?;
+    Ok(())
 }
 
 // How many rounds are run at n entries.
@@ -52,19 +76,7 @@ fn compare_filling<R: System>(rt: &R, measure: &str, keys: &[u64]) -> Result<()>
         arena = arena.or_quicker(filling::<R, Pairs>(rt, keys)?);
         other = other.or_quicker(filling::<R, Map>(rt, keys)?);
     }
-    let n = keys.len();
-    let other_name = "BTreeMap";
-    print(
-        rt,
-        Row {
-            n,
-            measure,
-            arena,
-            other,
-            other_name,
-        },
-    )?;
-    Ok(())
+    report(rt, keys.len(), measure, arena, other, "BTreeMap")
 }
 
 fn removal<R: System, S: Store>(rt: &R, keys: &Keys) -> Result<Lap> {
@@ -84,18 +96,7 @@ fn compare_removal<R: System>(rt: &R, keys: &Keys) -> Result<()> {
         arena = arena.or_quicker(removal::<R, Pairs>(rt, keys)?);
         other = other.or_quicker(removal::<R, Map>(rt, keys)?);
     }
-    let (measure, other_name) = ("remove by pointer", "BTreeMap");
-    print(
-        rt,
-        Row {
-            n,
-            measure,
-            arena,
-            other,
-            other_name,
-        },
-    )?;
-    Ok(())
+    report(rt, n, "remove by pointer", arena, other, "BTreeMap")
 }
 
 fn churning<R: System, S: Store>(rt: &R, keys: &Keys) -> Result<Lap> {
@@ -115,18 +116,7 @@ fn compare_churn<R: System>(rt: &R, keys: &Keys) -> Result<()> {
         arena = arena.or_quicker(churning::<R, Pairs>(rt, keys)?);
         other = other.or_quicker(churning::<R, Map>(rt, keys)?);
     }
-    let (measure, other_name) = ("remove and insert", "BTreeMap");
-    print(
-        rt,
-        Row {
-            n,
-            measure,
-            arena,
-            other,
-            other_name,
-        },
-    )?;
-    Ok(())
+    report(rt, n, "remove and insert", arena, other, "BTreeMap")
 }
 
 fn finding<R: System, S: Store>(rt: &R, store: &S, keys: &[u64]) -> io::Result<Lap> {
@@ -149,18 +139,7 @@ fn compare_finding<R: System>(
         arena = arena.or_quicker(finding(rt, pairs, keys)?);
         other = other.or_quicker(finding(rt, map, keys)?);
     }
-    let other_name = "BTreeMap";
-    print(
-        rt,
-        Row {
-            n,
-            measure,
-            arena,
-            other,
-            other_name,
-        },
-    )?;
-    Ok(())
+    report(rt, n, measure, arena, other, "BTreeMap")
 }
 
 fn hinted<R: System>(rt: &R, searches: Searches) -> io::Result<Lap> {
@@ -188,18 +167,7 @@ fn compare_hints<R: System>(rt: &R, measure: &str, pairs: &Pairs, places: usize)
         arena = arena.or_quicker(hinted(rt, searches)?);
         other = other.or_quicker(whole(rt, searches)?);
     }
-    let other_name = "find_key";
-    print(
-        rt,
-        Row {
-            n,
-            measure,
-            arena,
-            other,
-            other_name,
-        },
-    )?;
-    Ok(())
+    report(rt, n, measure, arena, other, "find_key")
 }
 
 fn walking<R: System, S: Store>(rt: &R, store: &S) -> io::Result<Lap> {
@@ -208,7 +176,7 @@ fn walking<R: System, S: Store>(rt: &R, store: &S) -> io::Result<Lap> {
     Lap::since(rt, start, sum)
 }
 
-fn compare_walking<R: System>(rt: &R, pairs: &Pairs, map: &Map) -> Result<()> {
+fn compare_walking<R: System>(rt: &R, measure: &str, pairs: &Pairs, map: &Map) -> Result<()> {
     let n = pairs.len();
     let mut arena = walking(rt, pairs)?;
     let mut other = walking(rt, map)?;
@@ -216,18 +184,39 @@ fn compare_walking<R: System>(rt: &R, pairs: &Pairs, map: &Map) -> Result<()> {
         arena = arena.or_quicker(walking(rt, pairs)?);
         other = other.or_quicker(walking(rt, map)?);
     }
-    let (measure, other_name) = ("go through in order", "BTreeMap");
-    print(
-        rt,
-        Row {
-            n,
-            measure,
-            arena,
-            other,
-            other_name,
-        },
-    )?;
-    Ok(())
+    report(rt, n, measure, arena, other, "BTreeMap")
+}
+
+// An arena of these keys, inserted one after another, and then in the canonical order.
+fn rebuilt_of(alloc: Global, keys: &[u64]) -> Result<Pairs, AllocError> {
+    let mut pairs: Pairs = filled(alloc, keys)?;
+    let _ = pairs.compress_canonical(true);
+    Ok(pairs)
+}
+
+fn rebuilding<R: System>(rt: &R, keys: &[u64]) -> Result<Lap> {
+    let mut pairs: Pairs = filled(rt.alloc(), keys)?;
+    let start = Instant::now(rt)?;
+    let _ = pairs.compress_canonical(true);
+    Ok(Lap::since(rt, start, pairs.size() as u64)?)
+}
+
+fn building<R: System>(rt: &R, sorted: &[(u64, u64)]) -> Result<Lap> {
+    let start = Instant::now(rt)?;
+    let map: Map = sorted.iter().copied().collect(rt.alloc())?;
+    Ok(Lap::since(rt, start, map.size() as u64)?)
+}
+
+fn compare_rebuilding<R: System>(rt: &R, keys: &Keys) -> Result<()> {
+    let n = keys.ascending.len();
+    let sorted = pairs_of(rt.alloc(), keys.ascending.as_slice())?;
+    let mut arena = rebuilding(rt, keys.random.as_slice())?;
+    let mut other = building(rt, sorted.as_slice())?;
+    for _ in 1..rounds(n) {
+        arena = arena.or_quicker(rebuilding(rt, keys.random.as_slice())?);
+        other = other.or_quicker(building(rt, sorted.as_slice())?);
+    }
+    report(rt, n, "rebuild", arena, other, "BTreeMap")
 }
 
 fn compare_with_vectors<R: System>(rt: &R, pairs: &Pairs) -> Result<()> {
@@ -264,18 +253,7 @@ fn compare_reaching<R: System, L: Reached>(
         arena = arena.or_quicker(reaching(rt, &pointed)?);
         other = other.or_quicker(reaching(rt, vector)?);
     }
-    let measure = "get by pointer";
-    print(
-        rt,
-        Row {
-            n,
-            measure,
-            arena,
-            other,
-            other_name,
-        },
-    )?;
-    Ok(())
+    report(rt, n, "get by pointer", arena, other, other_name)
 }
 
 fn asking<R: System, L: Linked>(rt: &R, linked: &L) -> io::Result<Lap> {
@@ -292,18 +270,7 @@ fn compare_neighbours<R: System>(rt: &R, pointed: Pointed, slots: &Slots) -> Res
         arena = arena.or_quicker(asking(rt, &pointed)?);
         other = other.or_quicker(asking(rt, slots)?);
     }
-    let (measure, other_name) = ("both neighbours", "Vec of slots");
-    print(
-        rt,
-        Row {
-            n,
-            measure,
-            arena,
-            other,
-            other_name,
-        },
-    )?;
-    Ok(())
+    report(rt, n, "both neighbours", arena, other, "Vec of slots")
 }
 
 fn stepping<R: System, L: Linked>(rt: &R, linked: &L) -> io::Result<Lap> {
@@ -320,16 +287,5 @@ fn compare_steps<R: System>(rt: &R, pointed: Pointed, slots: &Slots) -> Result<(
         arena = arena.or_quicker(stepping(rt, &pointed)?);
         other = other.or_quicker(stepping(rt, slots)?);
     }
-    let (measure, other_name) = ("step to the next", "Vec of slots");
-    print(
-        rt,
-        Row {
-            n,
-            measure,
-            arena,
-            other,
-            other_name,
-        },
-    )?;
-    Ok(())
+    report(rt, n, "step to the next", arena, other, "Vec of slots")
 }

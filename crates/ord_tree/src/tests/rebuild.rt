@@ -1,6 +1,6 @@
 //! Rebuilt trees, compared place by place with a recursive function of the length.
 use crate::OrdTree;
-use arena_base::{P0, Ptr};
+use arena_base::{InvalidationOption, P0, Ptr, ReallocationError};
 use std::alloc::{AllocError, Global};
 use std::cmp::Ordering;
 use std::process::Abort;
@@ -119,15 +119,25 @@ fn places(alloc: Global, tree: &Row) -> Result<Vec<Place>, Fail> {
     Ok(places)
 }
 
-/// Rebuilds a tree of `len` entries, and compares it with what the recursive function says. Answers the ranks in order.
+/// The places of a tree of `len` entries, which are what the recursive function says.
+fn rebuilt_places(
+    rt: &impl Abort,
+    alloc: Global,
+    tree: &Row,
+    len: usize,
+) -> Result<Vec<Place>, Fail> {
+    let found = places(alloc, tree)?;
+    assert_eq!(rt; found.as_slice(), rebuilt(alloc, len)?.as_slice());
+    assert_eq!(rt; place_of(tree.root()), middle_of(0, len));
+    Ok(found)
+}
+
+/// Rebuilds a tree of `len` entries. Answers the ranks in order.
 fn rebuild(rt: &impl Abort, alloc: Global, len: usize) -> Result<Vec<u8>, Fail> {
     let mut tree = row(rt, alloc, len)?;
     let _ = tree.compress(false);
-    let found = places(alloc, &tree)?;
-    assert_eq!(rt; found.as_slice(), rebuilt(alloc, len)?.as_slice());
-    assert_eq!(rt; place_of(tree.root()), middle_of(0, len));
     let mut ranks = Vec::new(alloc);
-    for place in &found {
+    for place in &rebuilt_places(rt, alloc, &tree, len)? {
         ranks.push(place.rank)?;
     }
     Ok(ranks)
@@ -165,5 +175,69 @@ fn ranks_after_a_rebuild(rt: HostRuntime) -> Result<(), Fail> {
         let found = rebuild(&rt, rt.alloc(), ranks.len())?;
         assert_eq!(rt; found.as_slice(), ranks);
     }
+    Ok(())
+}
+
+/// Transfers all entries with generation 9. Answers the outcome, and how often the closure was called.
+fn transfer_all(tree: &mut Row, source: &mut Row) -> (Result<(), ReallocationError>, usize) {
+    let mut calls = 0usize;
+    let outcome = tree.transfer_canonical_reallocating(
+        9,
+        source,
+        |_from: P0, taken: InvalidationOption<()>, _to: P0| {
+            calls = calls.wrapping_add(1);
+            taken.allow()
+        },
+    );
+    (outcome, calls)
+}
+
+/// A tree of one entry that may hold `maximum`.
+fn small(rt: &impl Abort, alloc: Global, maximum: usize) -> Result<Row, Fail> {
+    let mut tree = Row::new(alloc);
+    assert_eq!(rt; tree.set_max_capacity(maximum), Ok(()));
+    assert!(rt; tree.is_empty());
+    tree.insert_reallocating(None, ())?;
+    Ok(tree)
+}
+
+/// A tree that took `len` entries from another one, as many as it may hold.
+fn taken(rt: &impl Abort, alloc: Global, len: usize) -> Result<Row, Fail> {
+    let mut source = row(rt, alloc, len)?;
+    let mut tree = small(rt, alloc, len)?;
+    assert_eq!(rt; transfer_all(&mut tree, &mut source), (Ok(()), len));
+    assert_eq!(rt; (source.len(), source.root()), (0, None));
+    Ok(tree)
+}
+
+#[test]
+fn transfers_at_the_limit(rt: HostRuntime) -> Result<(), Fail> {
+    for len in 1..40usize {
+        let tree = taken(&rt, rt.alloc(), len)?;
+        let _ = rebuilt_places(&rt, rt.alloc(), &tree, len)?;
+    }
+    Ok(())
+}
+
+/// The places of a tree of four entries that another one with three places refused to take.
+fn refused(rt: &impl Abort, alloc: Global) -> Result<Vec<Place>, Fail> {
+    let mut source = row(rt, alloc, 4)?;
+    let mut tree = small(rt, alloc, 3)?;
+    let refusal = Err(ReallocationError::BeyondMaxCapacity);
+    assert_eq!(rt; transfer_all(&mut tree, &mut source), (refusal, 0));
+    let _ = rebuilt_places(rt, alloc, &tree, 1)?;
+    assert_eq!(rt;
+        (tree.chain().generation(), source.chain().generation()),
+        (2, 2)
+    );
+    places(alloc, &source)
+}
+
+#[test]
+fn a_transfer_beyond_the_limit(rt: HostRuntime) -> Result<(), Fail> {
+    let source = row(&rt, rt.alloc(), 4)?;
+    let before = places(rt.alloc(), &source)?;
+    let after = refused(&rt, rt.alloc())?;
+    assert_eq!(rt; after.as_slice(), before.as_slice());
     Ok(())
 }
