@@ -3,11 +3,13 @@ use Rattle.std.proofs.Common.{◌≡◌, ◌≢◌, ℕ, zero, suc, ◌+◌, ◌
 use Rattle.std.proofs.lemmas.Bool.Decides.{eqb_tells}
 use Rattle.std.specs.Option.{option_map}
 use Rattle.chain_base.specs.Chain.{Entry, times, IsDistinct, entry_at, without, with_item, with_generation}
-use Rattle.chain_base.specs.Compression.{lesser, place_of, moved, numbered}
+use Rattle.chain_base.specs.Compression.{lesser, place_of, moved, at_place, numbered}
 -- the steps of a transfer, told of other items
 pub use Rattle.chain_base.proofs.Transferring.{steps-retold}
 -- a list in two parts
 pub use Rattle.chain_base.proofs.Lists.{option_or-none, times-append, last_or-append, link_between-append, link_between-absent}
+-- entries at their places by rising index have the items that they had
+pub use Rattle.chain_base.proofs.Canonical.{relocated-items}
 
 module _ {T : Type 0} where
   -- an index that no entry has finds none
@@ -186,4 +188,12 @@ module _ {T : Type 0} where
   generation-moved all g xs (f ∷ es) i e is = elim (eqb_tells (place_of all f.index) i) [
     | inl h ↦ let same : Some (g, slice_index_or xs (lesser all f.index) f.item) ≡ Some e = (rw h.0 at is) in cc
     | inr h ↦ generation-moved all g xs es i e (rw h.0 at is)
+  ]
+
+  -- and so have entries at their places by rising index
+  pub generation-relocated : (all : List (Entry T)) (g : ℕ) (es : List (Entry T)) (i : ℕ) (e : ℕ × T) → entry_at (map (at_place all g) es) i ≡ Some e → e.0 ≡ g
+  generation-relocated all g [] i e is = absurd cc
+  generation-relocated all g (f ∷ es) i e is = elim (eqb_tells (place_of all f.index) i) [
+    | inl h ↦ let same : Some (g, f.item) ≡ Some e = (rw h.0 at is) in cc
+    | inr h ↦ generation-relocated all g es i e (rw h.0 at is)
   ]

@@ -180,7 +180,7 @@ module _ {T : Type 0} where
   relocated-eras [] es g = refl
   relocated-eras (f ∷ fs) es g = ap (λ rest. g ∷ rest) (relocated-eras fs es g)
 
-  relocated-items : (fs : List (Entry T)) (es : List (Entry T)) (g : ℕ) → map (λ e. e.item) (map (at_place es g) fs) ≡ map (λ e. e.item) fs
+  pub relocated-items : (fs : List (Entry T)) (es : List (Entry T)) (g : ℕ) → map (λ e. e.item) (map (at_place es g) fs) ≡ map (λ e. e.item) fs
   relocated-items [] es g = refl
   relocated-items (f ∷ fs) es g = ap (λ rest. f.item ∷ rest) (relocated-items fs es g)
 

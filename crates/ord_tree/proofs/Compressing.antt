@@ -4,11 +4,11 @@ use Rattle.std.proofs.lemmas.List.{length-map, map_push}
 use Rattle.std.specs.List.{FoldsTo}
 use Rattle.arena_base.specs.Compression.{CompressionStep}
 use Rattle.chain_base.specs.Chain.{Entry, Chain, entry_at}
-use Rattle.chain_base.specs.Compression.{lesser, entry_before, rising_among, entries_rising, refilled, moved, compressed, numbered, canonical, replaced, left_empty, IsCompression, Transferring, IsTransfer}
+use Rattle.chain_base.specs.Compression.{lesser, entry_before, rising_among, entries_rising, refilled, moved, compressed, at_place, relocated, numbered, canonical, replaced, left_empty, IsCompression, Transferring, IsTransfer}
 use Rattle.arena_base.specs.declared.invalidation.InvalidationOption.{InvalidationOption}
 use Rattle.chain_base.proofs.CallerLemmas.{steps-retold}
 use Rattle.ord_tree.specs.MapNode.{MapsTaken}
-use Rattle.arena_base.proofs.CallerLemmas.{calls-retold, compressed-same}
+use Rattle.arena_base.proofs.CallerLemmas.{calls-retold}
 use Rattle.ord_tree.specs.declared.node.SimpleOrdArenaNode.{SimpleOrdArenaNode}
 use Rattle.ord_tree.specs.Node.{bare_entry, bare, entry_in}
 use Rattle.ord_tree.proofs.Trees.{entry_at-bare, vacant_among-bare}
@@ -55,6 +55,15 @@ module _ {P T I G : Type 0} where
   lesser-bare [] i = refl
   lesser-bare (e ∷ es) i = ap (λ n. (if nat_lt e.index i then 1 else 0) + n) (lesser-bare es i)
 
+  at_place-bare : (g : ℕ) (all es : List (Entry (SimpleOrdArenaNode P T I G))) → map bare_entry (map (at_place all g) es) ≡ map (at_place (map bare_entry all) g) (map bare_entry es)
+  at_place-bare g all [] = refl
+  at_place-bare g all (e ∷ es) =
+      rw (lesser-bare all e.index) (ap (λ rest. bare_entry (at_place all g e) ∷ rest) (at_place-bare g all es))
+
+  pub bare-relocated : (c : Chain (SimpleOrdArenaNode P T I G)) (g : ℕ) → bare (relocated c g) ≡ relocated (bare c) g
+  bare-relocated c g =
+      bare-refilled c g (map (at_place c.entries g) c.entries) ∙ ap (λ es. refilled (bare c) g es) (at_place-bare g c.entries c.entries)
+
   item-at : (nodes : List (SimpleOrdArenaNode P T I G)) (k : ℕ) (n : SimpleOrdArenaNode P T I G) → slice_index_or (items_in nodes) k n.t ≡ (slice_index_or nodes k n).t
   item-at [] k n = refl
   item-at (m ∷ nodes) zero n = refl
@@ -90,12 +99,6 @@ module _ {P T I G : Type 0} where
       calls = rw (rising-bare old.entries 1 old.capacity) (calls-retold index era outer step g inner (λ n. n.t) calls (entries_rising old) s h.last [] h.items h.calls);
       after = ap bare h.after ∙ bare-compressed old g h.items;
     }
-
--- a compression by a closure that gives each item back
-pub compressed-given_back : {P F T : Type 0} (index era : P → ℕ) (step : F → P → T → P → T → F → Type 0) (g : ℕ) → ((f : F) (p : P) (item : T) (q : P) (new : T) (f' : F) → step f p item q new f' → new ≡ item)
-    → (f : F) (old new : Chain T) → IsCompression index era step g f old new → new ≡ compressed old g (map (λ e. e.2) (entries_rising old))
-compressed-given_back index era step g answers f old new h =
-    h.after ∙ ap (λ items. compressed old g items) (compressed-same index era step g answers (entries_rising old) f h.last h.items [] h.calls)
 
 -- where the closure that was called on the source's nodes calls f on their items
 module _ {P T I G Q U J H S F : Type 0} (index_from era_from : Q → ℕ) (index_to era_to : P → ℕ) (greatest : Option ℕ)

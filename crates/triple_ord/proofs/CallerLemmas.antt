@@ -7,11 +7,11 @@ use Rattle.arena_base.specs.Generation.{next_generation}
 use Rattle.arena_base.specs.Arena.{item_if}
 use Rattle.chain_base.specs.Chain.{Entry, Chain, times, IsDistinct, entry_at as entry_among, removed, renewed, with_room, with_capacity, grown_capacity, inserted_at, next_index}
 use Rattle.chain_base.specs.Insert.{IsInsertion}
-use Rattle.chain_base.specs.Compression.{moved, numbered, Transferring, TransferStep, IsTransfer}
+use Rattle.chain_base.specs.Compression.{moved, at_place, numbered, Transferring, TransferStep, IsTransfer}
 use Rattle.arena_base.specs.declared.invalidation.InvalidationOption.{InvalidationOption}
 use Rattle.std.specs.List.{FoldsTo}
 use Rattle.std.proofs.lemmas.List.{length-map}
-use Rattle.chain_base.proofs.CallerLemmas.{entry_at-absent, entry_at-without_other, entry_at-without, length-without, entry_at-with_item_other, entry_at-with_item, length-with_item, entry_at-with_generation_other, entry_at-with_generation, length-with_generation, entry_at-between_other, entry_at-between, length-between, entry_at-numbered, entry_at-numbered_before, generation-numbered, items-numbered, generation-moved}
+use Rattle.chain_base.proofs.CallerLemmas.{entry_at-absent, entry_at-without_other, entry_at-without, length-without, entry_at-with_item_other, entry_at-with_item, length-with_item, entry_at-with_generation_other, entry_at-with_generation, length-with_generation, entry_at-between_other, entry_at-between, length-between, entry_at-numbered, entry_at-numbered_before, generation-numbered, items-numbered, generation-moved, generation-relocated}
 use Rattle.ord_tree.specs.Tree.{Tree, with_item_in}
 use Rattle.triple_ord.specs.Gap.{Gap, with_between}
 use Rattle.std.specs.declared.cmp.Ordering.TheVariants.{Equal}
@@ -312,6 +312,9 @@ module _ {T : Type 0} (a : Tree T) (g : ℕ) where
 
   pub ended-moved : (all es : List (Entry T)) (xs : List T) → a.list.entries ≡ map (moved all g xs) es → IsOfGeneration a g
   ended-moved all es xs is = ended-of (λ i e found. generation-moved all g xs es i e (ap (λ (es : List (Entry T)). entry_among es i) (sym is) ∙ found))
+
+  pub ended-relocated : (all es : List (Entry T)) → a.list.entries ≡ map (at_place all g) es → IsOfGeneration a g
+  ended-relocated all es is = ended-of (λ i e found. generation-relocated all g es i e (ap (λ (es : List (Entry T)). entry_among es i) (sym is) ∙ found))
 
   pub found-numbered : (xs : List T) → a.list.entries ≡ numbered g 1 xs → IsNumbered a g xs
   found-numbered xs is = record {

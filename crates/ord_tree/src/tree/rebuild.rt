@@ -1,12 +1,12 @@
 //! Moving all entries, and building the tree anew over the list.
 
-ghost use Rattle.std.specs.Prelude.{◌≡◌, ◌<◌, ◌↔◌, OnOk, OnErr, length, map};
+ghost use Rattle.std.specs.Prelude.{◌≡◌, ◌<◌, ◌↔◌, OnOk, OnErr, length};
 ghost use Rattle.std.specs.Option.{option_map};
 ghost use Rattle.arena_base.specs.Compression.{compressed_generation, compression_overflows};
 ghost use Rattle.arena_base.specs.Generation.{IsLawfulGeneration};
 ghost use Rattle.arena_base.specs.Invalidation.{is_overflow};
 ghost use Rattle.chain_base.specs.Chain.{chain_limit};
-ghost use Rattle.chain_base.specs.Compression.{canonical, compressed, entries_rising, IsCompression, IsTransfer};
+ghost use Rattle.chain_base.specs.Compression.{canonical, relocated, IsCompression, IsTransfer};
 ghost use Rattle.ord_tree.specs.Shape.{Shape, missing};
 ghost use Rattle.ord_tree.specs.Half.{IsRebuilt};
 ghost use Rattle.ord_tree.specs.Node.{bare};
@@ -47,13 +47,14 @@ impl<P: Ptr, T, A: Allocator> OrdTree<P, T, A> {
 
     /// Moves all entries to the indexes from 1 on as `compress_with` does, each with the item that it has.
     pub fn compress(&mut self, reset: bool) -> InvalidationOption<()>
-        ensures after { self.new.list ≡ compressed self.old.list
-            (compressed_generation P.Gen.greatest reset self.old.list.generation)
-            (map (λ e. e.2) (entries_rising self.old.list)) }
+        ensures after { self.new.list ≡ relocated self.old.list
+            (compressed_generation P.Gen.greatest reset self.old.list.generation) }
         ensures shape { IsRebuilt self.new.shape }
         ensures overflow { is_overflow result ≡ compression_overflows P.Gen.greatest reset self.old.list.generation }
     {
-        self.compress_with(reset, |_old, item, _new| item)
+        let overflow = self.chain.compress(reset);
+        rebuild_over(&mut self.chain, &mut self.root);
+        overflow
     }
 
     /// Gives the entries the indexes from 1 on in the order of the list, and one generation as `compress_with` does. Then the

@@ -1,11 +1,11 @@
 //! Moving all entries: to the least indexes, or over from another arena. Afterwards the tree is the rebuilt one, in which no search
 //! visits more entries than their number has binary digits.
-ghost use Rattle.std.specs.Prelude.{◌≡◌, ◌<◌, ◌↔◌, OnOk, OnErr, map};
+ghost use Rattle.std.specs.Prelude.{◌≡◌, ◌<◌, ◌↔◌, OnOk, OnErr};
 ghost use Rattle.arena_base.specs.Compression.{compressed_generation, compression_overflows};
 ghost use Rattle.arena_base.specs.Generation.{IsLawfulGeneration};
 ghost use Rattle.arena_base.specs.Invalidation.{is_overflow};
 ghost use Rattle.chain_base.specs.Chain.{chain_limit};
-ghost use Rattle.chain_base.specs.Compression.{canonical, compressed, entries_rising, IsCompression, IsTransfer};
+ghost use Rattle.chain_base.specs.Compression.{canonical, relocated, IsCompression, IsTransfer};
 ghost use Rattle.ord_tree.specs.Half.{IsRebuilt};
 ghost use Rattle.ord_tree.specs.Shape.{missing};
 ghost use Rattle.triple_ord.specs.Arena.{items, count, IsOfGeneration, IsNumbered, FindsNothing};
@@ -42,12 +42,12 @@ impl<P: Ptr, T, A: Allocator> SimpleOrdArena<P, T, A> {
 
     /// Moves all entries to the indexes from 1 on as `compress_with` does, each with the item that it has.
     pub fn compress(&mut self, reset: bool) -> InvalidationOption<()>
+        ensures items { items self.new ≡ items self.old }
         ensures count { count self.new ≡ count self.old }
         ensures ended { IsOfGeneration self.new
             (compressed_generation P.Gen.greatest reset self.old.list.generation) }
-        ensures after { self.new.list ≡ compressed self.old.list
-            (compressed_generation P.Gen.greatest reset self.old.list.generation)
-            (map (λ e. e.2) (entries_rising self.old.list)) }
+        ensures after { self.new.list ≡ relocated self.old.list
+            (compressed_generation P.Gen.greatest reset self.old.list.generation) }
         ensures shape { IsRebuilt self.new.shape }
         ensures overflow { is_overflow result ≡ compression_overflows P.Gen.greatest reset self.old.list.generation }
     {

@@ -1,8 +1,13 @@
-use Rattle.std.proofs.Common.{ap, length, ◌∙◌}
+use Rattle.std.proofs.Common.{ap, length, map, ◌∙◌}
 use Rattle.std.proofs.lemmas.List.{length-map}
 use Rattle.chain_base.specs.Chain.{Chain}
-use Rattle.triple_ord.proofs.CallerLemmas.{ended-moved}
+use Rattle.chain_base.proofs.CallerLemmas.{relocated-items}
+use Rattle.triple_ord.proofs.CallerLemmas.{ended-relocated}
 use Rattle.triple_ord.proofs.arena.SimpleOrdArena.compress.Goals as goal
+
+pub returns-clause-items : goal.returns-clause-items
+returns-clause-items g c =
+    rw (← c.self.view_is) (ap (λ (c : Chain _). map (λ e. e.item) c.entries) c.compress.ensures.after ∙ relocated-items c.self.inside.tree.list.entries c.self.inside.tree.list.entries _)
 
 pub returns-clause-count : goal.returns-clause-count
 returns-clause-count g c =
@@ -10,7 +15,7 @@ returns-clause-count g c =
 
 pub returns-clause-ended : goal.returns-clause-ended
 returns-clause-ended g c =
-    rw (← c.self.view_is) (ended-moved c.compress.new.self _ _ _ _ (ap (λ (c : Chain _). c.entries) c.compress.ensures.after))
+    rw (← c.self.view_is) (ended-relocated c.compress.new.self _ _ _ (ap (λ (c : Chain _). c.entries) c.compress.ensures.after))
 
 pub returns-clause-after : goal.returns-clause-after
 returns-clause-after g c = rw (← c.self.view_is) c.compress.ensures.after
