@@ -109,8 +109,23 @@ impl<P: Ptr, T, A: Allocator> Arena<P, T, A> {
         ensures within { IfSome result (λ place. place < arena_capacity self.now) }
         ensures none { IfNone result (slot self.now (P.Inx.number i) ≡ None) }
     {
-        match i.try_into_usize() {
-            Some(n) if n <= self.slots.len() => Some(n - 1),
+        // For index 0 this is the greatest number: one test tells that it is beyond the slots too.
+        let place = i.try_into_usize().unwrap_or(0).wrapping_sub(1);
+        if place < self.slots.len() {
+            Some(place)
+        } else {
+            None
+        }
+    }
+
+    // The place of the entry that the pointer names.
+    pub(super) fn place_of(&self, p: P) -> Option<usize>
+        ensures number { IfSome result (λ place. P.index p ≡ place + 1) }
+        ensures named { is_some result ≡ is_some (item_of self.now (P.index p) (P.era p)) }
+    {
+        let place = self.place(p.inx())?;
+        match self.generation_at(place) {
+            Some(generation) if generation == p.generation() => Some(place),
             _ => None,
         }
     }

@@ -105,8 +105,9 @@ impl<P: Ptr, T, A: Allocator> Arena<P, T, A> {
         ensures after { self.new ≡ freed self.old (P.Inx.number i) }
     {
         let place = self.place_of_entry(i);
-        self.vacant.push_reserved(i);
         let slot = &mut self.slots[place];
-        slot.take()
+        let entry = slot.take();
+        self.vacant.push_reserved(i);
+        entry
     }
 }

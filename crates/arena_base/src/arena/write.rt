@@ -20,11 +20,8 @@ impl<P: Ptr, T, A: Allocator> Arena<P, T, A> {
             self.entry (P.index p) result) }
         ensures value { option_copied_mut result ≡ item_of self.old (P.index p) (P.era p) }
     {
-        if self.contains(p) {
-            self.item_at_mut(p.inx())
-        } else {
-            None
-        }
+        let place = self.place_of(p)?;
+        Some(self.item_mut(place))
     }
 
     /// Generation and item of the entry at the index; the item may be written.

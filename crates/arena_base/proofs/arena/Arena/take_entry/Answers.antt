@@ -3,8 +3,8 @@ use Rattle.arena_base.proofs.Occupied.{is_some-slot_entry, entry_in-slot_entry}
 use Rattle.arena_base.proofs.Steps.{slot-of, numbers-pushed, take-view, take-sound}
 use Rattle.arena_base.proofs.arena.Arena.take_entry.Goals as goal
 
-pub take-requires : goal.take-requires
-take-requires g c =
+pub take-entry-requires : goal.take-entry-requires
+take-entry-requires g c =
     let s = c.self.inside in
     let number = g.P.Gen.PtrGen.number in
     let found = c.place_of_entry-place.ensures in
@@ -18,7 +18,7 @@ invariant_of-self g c =
     let number = g.P.Gen.PtrGen.number in
     let found = c.place_of_entry-place.ensures in (
       take-sound number g.P.Inx.PtrInx.most g.P.Gen.PtrGen.greatest s.slots.items s.generation s.maximum (map g.P.Inx.PtrInx.number s.vacant.items) c.args.self.now c.place_of_entry-place.result (g.P.Inx.PtrInx.number c.args.i)
-          c.self.view_is found.number (map g.P.Inx.PtrInx.number c.push_reserved.new.self.items) c.take.new.self c.take.ensures.after (numbers-pushed g.P.Inx.PtrInx.number _ _ _ c.push_reserved.ensures.items) c.self.invariant.0 c.requires,
+          c.self.view_is found.number (map g.P.Inx.PtrInx.number c.push_reserved.new.self.items) c.take-entry.new.self c.take-entry.ensures.after (numbers-pushed g.P.Inx.PtrInx.number _ _ _ c.push_reserved.ensures.items) c.self.invariant.0 c.requires,
       omega (arith, c.self.invariant.1),
     )
 
@@ -29,7 +29,7 @@ returns-clause-value g c =
     let found = c.place_of_entry-place.ensures in
     slot-of number s.slots.items s.generation s.maximum (map g.P.Inx.PtrInx.number s.vacant.items) c.args.self.now c.place_of_entry-place.result (g.P.Inx.PtrInx.number c.args.i) c.index_mut-slot.result.now
     c.self.view_is found.number found.within c.index_mut-slot.ensures.value
-    ∙ entry_in-slot_entry number c.index_mut-slot.result.now c.take.result c.take.ensures.value
+    ∙ entry_in-slot_entry number c.index_mut-slot.result.now c.take-entry.result c.take-entry.ensures.value
 
 pub returns-clause-after : goal.returns-clause-after
 returns-clause-after g c =
@@ -37,4 +37,4 @@ returns-clause-after g c =
     let number = g.P.Gen.PtrGen.number in
     let found = c.place_of_entry-place.ensures in
     take-view number g.P.Inx.PtrInx.most g.P.Gen.PtrGen.greatest s.slots.items s.generation s.maximum (map g.P.Inx.PtrInx.number s.vacant.items) c.args.self.now c.place_of_entry-place.result (g.P.Inx.PtrInx.number c.args.i)
-    c.self.view_is found.number (map g.P.Inx.PtrInx.number c.push_reserved.new.self.items) c.take.new.self c.take.ensures.after (numbers-pushed g.P.Inx.PtrInx.number _ _ _ c.push_reserved.ensures.items)
+    c.self.view_is found.number (map g.P.Inx.PtrInx.number c.push_reserved.new.self.items) c.take-entry.new.self c.take-entry.ensures.after (numbers-pushed g.P.Inx.PtrInx.number _ _ _ c.push_reserved.ensures.items)
