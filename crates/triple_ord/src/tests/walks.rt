@@ -5,6 +5,7 @@ use crate::{Advancer, OrdPair, OrderedPtrAdvancer, SimpleOrdArena};
 use arena_base::{InvalidationOption, P0, P8, Ptr, Q0};
 use std::alloc::{AllocError, Global};
 use std::cmp::Ordering;
+use std::mem;
 use std::test::Fail;
 
 /// The indexes that a walk gives from now on.
@@ -97,6 +98,58 @@ fn drains_in_order(rt: HostRuntime) -> Result<(), Fail> {
     assert!(rt; drain.next().is_none());
     drop(drain);
     assert_eq!(rt; (a.len(), a.generation()), (0, 8));
+    Ok(())
+}
+
+/// The letters, drained of so many.
+fn drained_of(alloc: Global, taken: usize) -> Result<Letters<P0>, Fail> {
+    let mut a = letters(alloc)?;
+    let mut drain = a.drain_ordered();
+    for _ in 0..taken {
+        let _ = drain.next();
+    }
+    drain.keep_rest();
+    Ok(a)
+}
+
+/// The same, where the drain is forgotten.
+fn forgotten_after(alloc: Global, taken: usize) -> Result<Letters<P0>, Fail> {
+    let mut a = letters(alloc)?;
+    let mut drain = a.drain_ordered();
+    for _ in 0..taken {
+        let _ = drain.next();
+    }
+    mem::forget(drain);
+    Ok(a)
+}
+
+/// The same, where the drain is dropped.
+fn dropped_after(alloc: Global, taken: usize) -> Result<Letters<P0>, Fail> {
+    let mut a = letters(alloc)?;
+    let mut drain = a.drain_ordered();
+    for _ in 0..taken {
+        let _ = drain.next();
+    }
+    drop(drain);
+    Ok(a)
+}
+
+#[test]
+fn drains_end_early(rt: HostRuntime) -> Result<(), Fail> {
+    for (taken, generation) in [(0usize, 3u64), (1, 4), (3, 6), (4, 7), (5, 7)] {
+        let kept = drained_of(rt.alloc(), taken)?;
+        let forgotten = forgotten_after(rt.alloc(), taken)?;
+        assert_eq!(rt; kept.len(), 4usize.saturating_sub(taken));
+        assert_eq!(rt;
+            (kept.generation(), forgotten.generation()),
+            (generation, generation)
+        );
+        assert!(rt; kept.canonical_eq(&forgotten));
+    }
+    for (taken, generation) in [(0usize, 4u64), (1, 5), (3, 7), (5, 8)] {
+        let dropped = dropped_after(rt.alloc(), taken)?;
+        assert_eq!(rt; (dropped.len(), dropped.generation()), (0, generation));
+    }
     Ok(())
 }
 
