@@ -32,7 +32,19 @@ pub fn run<R: System>(rt: &R, n: usize) -> Result<()> {
     compare_hints(rt, "find beside the hint", &pairs, 1)?;
     compare_hints(rt, "find ten from the hint", &pairs, 10)?;
     compare_walking(rt, "go through in order", &pairs, &map)?;
-    compare_rebuilding(rt, &keys)?;
+    let sorted = pairs_of(rt.alloc(), keys.ascending.as_slice())?;
+    compare_rebuilding(
+        rt,
+        "rebuild random keys",
+        keys.random.as_slice(),
+        sorted.as_slice(),
+    )?;
+    compare_rebuilding(
+        rt,
+        "rebuild ascending keys",
+        keys.ascending.as_slice(),
+        sorted.as_slice(),
+    )?;
     let rebuilt: Pairs = rebuilt_of(rt.alloc(), keys.random.as_slice())?;
     compare_walking(rt, "go through rebuilt", &rebuilt, &map)?;
     compare_with_vectors(rt, &pairs)
@@ -207,16 +219,20 @@ fn building<R: System>(rt: &R, sorted: &[(u64, u64)]) -> Result<Lap> {
     Ok(Lap::since(rt, start, map.size() as u64)?)
 }
 
-fn compare_rebuilding<R: System>(rt: &R, keys: &Keys) -> Result<()> {
-    let n = keys.ascending.len();
-    let sorted = pairs_of(rt.alloc(), keys.ascending.as_slice())?;
-    let mut arena = rebuilding(rt, keys.random.as_slice())?;
-    let mut other = building(rt, sorted.as_slice())?;
+fn compare_rebuilding<R: System>(
+    rt: &R,
+    measure: &str,
+    keys: &[u64],
+    sorted: &[(u64, u64)],
+) -> Result<()> {
+    let n = keys.len();
+    let mut arena = rebuilding(rt, keys)?;
+    let mut other = building(rt, sorted)?;
     for _ in 1..rounds(n) {
-        arena = arena.or_quicker(rebuilding(rt, keys.random.as_slice())?);
-        other = other.or_quicker(building(rt, sorted.as_slice())?);
+        arena = arena.or_quicker(rebuilding(rt, keys)?);
+        other = other.or_quicker(building(rt, sorted)?);
     }
-    report(rt, n, "rebuild", arena, other, "BTreeMap")
+    report(rt, n, measure, arena, other, "BTreeMap")
 }
 
 fn compare_with_vectors<R: System>(rt: &R, pairs: &Pairs) -> Result<()> {

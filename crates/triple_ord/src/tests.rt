@@ -8,6 +8,7 @@ mod closures;
 mod each_call;
 mod every_order;
 mod hints;
+mod rebuild;
 mod removal;
 mod slots;
 mod walks;

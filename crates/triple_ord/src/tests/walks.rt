@@ -4,7 +4,10 @@ use super::{Keys, keys, numbers, order};
 use crate::{Advancer, OrdPair, OrderedPtrAdvancer, SimpleOrdArena};
 use arena_base::{InvalidationOption, P0, P8, Ptr, Q0};
 use std::alloc::{AllocError, Global};
+use std::cell::Cell;
 use std::cmp::Ordering;
+use std::mem;
+use std::process::Abort;
 use std::test::Fail;
 
 /// The indexes that a walk gives from now on.
@@ -98,6 +101,126 @@ fn drains_in_order(rt: HostRuntime) -> Result<(), Fail> {
     drop(drain);
     assert_eq!(rt; (a.len(), a.generation()), (0, 8));
     Ok(())
+}
+
+/// The letters, drained of so many.
+fn drained_of(alloc: Global, taken: usize) -> Result<Letters<P0>, Fail> {
+    let mut a = letters(alloc)?;
+    let mut drain = a.drain_ordered();
+    for _ in 0..taken {
+        let _ = drain.next();
+    }
+    drain.keep_rest();
+    Ok(a)
+}
+
+/// The same, where the drain is forgotten.
+fn forgotten_after(alloc: Global, taken: usize) -> Result<Letters<P0>, Fail> {
+    let mut a = letters(alloc)?;
+    let mut drain = a.drain_ordered();
+    for _ in 0..taken {
+        let _ = drain.next();
+    }
+    mem::forget(drain);
+    Ok(a)
+}
+
+/// The same, where the drain is dropped.
+fn dropped_after(alloc: Global, taken: usize) -> Result<Letters<P0>, Fail> {
+    let mut a = letters(alloc)?;
+    let mut drain = a.drain_ordered();
+    for _ in 0..taken {
+        let _ = drain.next();
+    }
+    drop(drain);
+    Ok(a)
+}
+
+#[test]
+fn drains_end_early(rt: HostRuntime) -> Result<(), Fail> {
+    for (taken, generation) in [(0usize, 3u64), (1, 4), (3, 6), (4, 7), (5, 7)] {
+        let kept = drained_of(rt.alloc(), taken)?;
+        let forgotten = forgotten_after(rt.alloc(), taken)?;
+        assert_eq!(rt; kept.len(), 4usize.saturating_sub(taken));
+        assert_eq!(rt;
+            (kept.generation(), forgotten.generation()),
+            (generation, generation)
+        );
+        assert!(rt; kept.canonical_eq(&forgotten));
+    }
+    for (taken, generation) in [(0usize, 4u64), (1, 5), (3, 7), (5, 8)] {
+        let dropped = dropped_after(rt.alloc(), taken)?;
+        assert_eq!(rt; (dropped.len(), dropped.generation()), (0, generation));
+    }
+    Ok(())
+}
+
+/// A key that counts how often it is dropped.
+struct Counted<'a> {
+    key: u64,
+    drops: &'a Cell<u64>,
+}
+
+impl Drop for Counted<'_> {
+    fn drop(self) {
+        let Counted { key: _, drops } = self;
+        drops.set(drops.get().wrapping_add(1));
+    }
+}
+
+impl crate::SimpleOrdItem for Counted<'_> {
+    type Key = u64;
+
+    ghost key_of = { λ c. c.key };
+
+    fn key(&self) -> &u64 {
+        &self.key
+    }
+}
+
+/// Puts five keys that count their drops into an arena without entries.
+fn put_five<'a>(rt: &impl Abort, a: &mut SimpleOrdArena<P0, Counted<'a>>, drops: &'a Cell<u64>) {
+    for key in [3u64, 1, 5, 2, 4] {
+        assert!(rt; a.insert(Counted { key, drops }).is_ok());
+    }
+}
+
+/// Takes so many by an owning iterator, which is then dropped. Answers the sum of their keys.
+fn own(rt: &impl Abort, alloc: Global, drops: &Cell<u64>, taken: usize) -> u64 {
+    let mut a = SimpleOrdArena::new(alloc);
+    put_five(rt, &mut a, drops);
+    let mut sum = 0u64;
+    let mut all = a.into_iter();
+    for _ in 0..taken {
+        if let Some((_, item)) = all.next() {
+            sum = sum.wrapping_add(item.key);
+        }
+    }
+    sum
+}
+
+/// Takes so many by a drain, which is then dropped. Answers how many are left.
+fn drain(rt: &impl Abort, alloc: Global, drops: &Cell<u64>, taken: usize) -> usize {
+    let mut a = SimpleOrdArena::new(alloc);
+    put_five(rt, &mut a, drops);
+    let mut drain = a.drain_ordered();
+    for _ in 0..taken {
+        let _ = drain.next();
+    }
+    drop(drain);
+    a.len()
+}
+
+/// Each item is dropped just once, wherever a drain or an owning iterator ends.
+#[test]
+fn items_are_dropped_once(rt: HostRuntime) {
+    let drops = Cell::new(0u64);
+    for (taken, sum) in [(0usize, 0u64), (1, 1), (3, 6), (5, 15), (6, 15)] {
+        assert_eq!(rt; own(&rt, rt.alloc(), &drops, taken), sum);
+        assert_eq!(rt; drops.replace(0), 5);
+        assert_eq!(rt; drain(&rt, rt.alloc(), &drops, taken), 0);
+        assert_eq!(rt; drops.replace(0), 5);
+    }
 }
 
 /// The generations of eight bits begin again in the middle of a drain.
