@@ -1,4 +1,5 @@
-//! Compressions, the canonical order and transfers. The letters A, B, C, E stand at the indexes 2, 4, 1, 3, generation 3.
+//! Compressions, the canonical order and transfers. The letters A, B, C, E stand at the indexes 2, 4, 1, 3, with
+//! generation 3.
 use super::{Keys, keys, numbers, ranks};
 use crate::{OrdPair, SimpleOrdArena};
 use arena_base::{InvalidationOption, P0, P8, Ptr, ReallocationError};
