@@ -5,6 +5,7 @@ pub mod Digits
 pub mod ScriptLemmas
 pub mod Words
 pub mod Lists
+pub mod Draining
 pub mod Ranking
 pub mod Marking
 pub mod Bounded

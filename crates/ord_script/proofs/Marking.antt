@@ -13,8 +13,8 @@ use Rattle.triple_ord.specs.declared.error.OrdInsertionError.TheVariants.{Failed
 use Rattle.ord_script.specs.declared.command.Command.{Command}
 use Rattle.ord_script.specs.declared.command.Command.TheVariants as commands
 use Rattle.ord_script.specs.declared.reply.Reply.{Reply}
-use Rattle.ord_script.specs.declared.reply.Reply.TheVariants.{Inserted, Refused, Item, Removed, Renewed, Changed}
-use Rattle.ord_script.specs.Machine.{Reading, Marks, AreTrue, settled, Inserts, Sets, Removes, RemovesAt, Renews, Changes, Rebuilds, Replies, Does, marks_kept, marks_after}
+use Rattle.ord_script.specs.declared.reply.Reply.TheVariants.{Inserted, Refused, Item, Removed, Renewed, Changed, Entries}
+use Rattle.ord_script.specs.Machine.{Reading, Marks, AreTrue, settled, Inserts, Sets, Removes, RemovesAt, Renews, Changes, Rebuilds, Drains, Replies, Does, marks_kept, marks_after}
 use Rattle.triple_ord.specs.ClosureSearch.{Shown}
 
 -- the shape without a node is rebuilt
@@ -114,6 +114,16 @@ module _ {P T I G A : Type 0} (old new : Tree T) (marks : Marks) (sound : IsSoun
   AreTrue-rebuilt greatest reset after (Changed result) rebuilds = AreTrue-settled new _ sound (record { only_inserted = λ e. cc; just_built = λ e. rebuilds.1 })
   AreTrue-rebuilt greatest reset after reply rebuilds = absurd rebuilds
 
+  -- after a drain no entry is left
+  AreTrue-drained : (greatest : Option ℕ) (pointer : P → ℕ × ℕ) (num : ℕ) (reply : Reply P T A I G) → Drains greatest pointer old num reply new → StaysTrue reply
+  AreTrue-drained greatest pointer num (Entries pairs) drains =
+      AreTrue-settled new marks sound (subst (λ (t : Tree T). AreTrue marks t.shape) (sym drains.1) (AreTrue-missing marks))
+  AreTrue-drained greatest pointer num (Refused AllocError) drains = AreTrue-still (Refused AllocError) drains.1
+  AreTrue-drained greatest pointer num (Refused BeyondMaxCapacity) drains = absurd drains
+  AreTrue-drained greatest pointer num (Refused NotWithinCapacity) drains = absurd drains
+  AreTrue-drained greatest pointer num (Refused FailedOrdRequirement) drains = absurd drains
+  AreTrue-drained greatest pointer num reply drains = absurd drains
+
   -- by the command
   AreTrue-step : {K : Type 0} (r : Reading P T I G K) (command : Command P T I G K) (reply : Reply P T A I G) → Replies r (record { tree = old; marks = marks }) command reply new → AreTrue (marks_after command reply new marks) new.shape
   AreTrue-step r (commands.Insert item) reply replies = AreTrue-inserted r item reply replies
@@ -138,6 +148,8 @@ module _ {P T I G A : Type 0} (old new : Tree T) (marks : Marks) (sound : IsSoun
   AreTrue-step r (commands.Neighbours i) reply replies = AreTrue-still reply replies.1
   AreTrue-step r commands.List reply replies = AreTrue-still reply replies.1
   AreTrue-step r commands.Ranks reply replies = AreTrue-still reply replies.1
+  AreTrue-step r commands.Check reply replies = AreTrue-still reply replies.1
+  AreTrue-step r (commands.DrainOrdered num) reply replies = AreTrue-drained r.greatest r.pointer num reply replies
   AreTrue-step r commands.Stats reply replies = AreTrue-still reply replies.1
 
   -- and with a closure

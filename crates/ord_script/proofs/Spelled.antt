@@ -5,7 +5,7 @@ use Rattle.std.proofs.lemmas.List.Elements.{recursion_from_All}
 use Rattle.ord_script.specs.declared.command.Command.TheVariants as commands
 use Rattle.ord_script.specs.declared.fault.FaultKind.{FaultKind}
 use Rattle.ord_script.specs.declared.fault.FaultKind.TheVariants.{BadNumber}
-use Rattle.ord_script.specs.Commands.{key_in, pointer_in, index_in, count_in, flag_in, pair_in, with_pair, with_pointer_and_pair, with_key, with_pointer, with_index, with_flag, from_pointer, from_index, alone, word_text, word_of, said_by}
+use Rattle.ord_script.specs.Commands.{key_in, pointer_in, index_in, count_in, flag_in, pair_in, with_pair, with_pointer_and_pair, with_key, with_pointer, with_index, with_count, with_flag, from_pointer, from_index, alone, word_text, word_of, said_by}
 use Rattle.ord_script.specs.Pairs.{Pair, Pointer, PairCommand}
 use Rattle.ord_script.specs.Spelling.{Argument, pair_arguments, key, value, index, count, pointer, flag, argument_text, IsInRange, saying_of, spelled, CanBeSaid}
 use Rattle.ord_script.proofs.NumberTexts.{key_of-text, pointer_of-text, index_of-text, value_of-text, flag_of-text}
@@ -55,6 +55,10 @@ with_index-text : (command : ℕ → PairCommand) (i : ℕ) → ReadsAs (with_in
 unfolding with_index
 with_index-text command i range = rw (index_in-text i range.0) refl
 
+with_count-text : (command : ℕ → PairCommand) (n : ℕ) → ReadsAs (with_count command) (count n ∷ []) (command n)
+unfolding with_count
+with_count-text command n range = rw (count_in-text n range.0) refl
+
 with_flag-text : (command : Bool → PairCommand) (b : Bool) → ReadsAs (with_flag command) (flag b ∷ []) (command b)
 unfolding with_flag
 with_flag-text command b range = rw (flag_in-text b) refl
@@ -89,6 +93,7 @@ said_by-spelled commands.SimilarWith sayable range = absurd sayable
 said_by-spelled (commands.Visits k) sayable range = ap Some (with_key-text commands.Visits k range)
 said_by-spelled (commands.Get p) sayable range = ap Some (with_pointer-text commands.Get p range)
 said_by-spelled (commands.Neighbours i) sayable range = ap Some (with_index-text commands.Neighbours i range)
+said_by-spelled (commands.DrainOrdered n) sayable range = ap Some (with_count-text commands.DrainOrdered n range)
 said_by-spelled command sayable range = ap Some (alone-text command tt)
 
 -- its numbers are in their ranges

@@ -30,6 +30,8 @@ word_text words.Last = codes "last"
 word_text words.Neighbours = codes "neighbours"
 word_text words.List = codes "list"
 word_text words.Ranks = codes "ranks"
+word_text words.Check = codes "check"
+word_text words.DrainOrdered = codes "drain"
 word_text words.Stats = codes "stats"
 
 -- all of them
@@ -38,7 +40,7 @@ all_words =
     words.Insert ∷ words.Set ∷ words.Remove ∷ words.RemoveInx ∷ words.Invalidate ∷ words.Clear ∷ words.IncGeneration
     ∷ words.Compress ∷ words.Canonical ∷ words.Find ∷ words.FindLinear ∷ words.Similar ∷ words.SimilarLinear
     ∷ words.Visits ∷ words.Get ∷ words.First ∷ words.Last ∷ words.Neighbours ∷ words.List ∷ words.Ranks
-    ∷ words.Stats ∷ []
+    ∷ words.Check ∷ words.DrainOrdered ∷ words.Stats ∷ []
 
 -- the one among them that has this text
 abbrev pub word_in : List Word → List ℕ → Option Word
@@ -68,7 +70,7 @@ abbrev pub three_arguments : List (List ℕ) → Result (List ℕ × List ℕ ×
 three_arguments (a ∷ b ∷ c ∷ []) = Ok (a, b, c)
 three_arguments arguments = Err WrongArguments
 
--- a word that is a key, a pointer, an index, a number of steps or a flag, or two that are a pair
+-- a word that is a key, a pointer, an index, a number of steps or of entries, or a flag, or two that are a pair
 abbrev pub key_in : List ℕ → Result ℤ FaultKind
 key_in word = ok_or (key_of word) BadNumber
 
@@ -104,7 +106,7 @@ with_pointer_and_pair command arguments = do
   pair ← pair_in three.1 three.2
   Ok (command pointer pair)
 
--- a command with a key, a pointer, an index or a flag, or without arguments
+-- a command with a key, a pointer, an index, a number or a flag, or without arguments
 unfoldable pub with_key : (ℤ → PairCommand) → List (List ℕ) → Result PairCommand FaultKind
 with_key command arguments = do
   one ← one_argument arguments
@@ -122,6 +124,12 @@ with_index command arguments = do
   one ← one_argument arguments
   index ← index_in one
   Ok (command index)
+
+unfoldable pub with_count : (ℕ → PairCommand) → List (List ℕ) → Result PairCommand FaultKind
+with_count command arguments = do
+  one ← one_argument arguments
+  count ← count_in one
+  Ok (command count)
 
 unfoldable pub with_flag : (Bool → PairCommand) → List (List ℕ) → Result PairCommand FaultKind
 with_flag command arguments = do
@@ -173,6 +181,8 @@ command_by words.Last arguments = alone commands.Last arguments
 command_by words.Neighbours arguments = with_index commands.Neighbours arguments
 command_by words.List arguments = alone commands.List arguments
 command_by words.Ranks arguments = alone commands.Ranks arguments
+command_by words.Check arguments = alone commands.Check arguments
+command_by words.DrainOrdered arguments = with_count commands.DrainOrdered arguments
 command_by words.Stats arguments = alone commands.Stats arguments
 
 -- the word that begins a command
@@ -200,6 +210,8 @@ word_of commands.Last = words.Last
 word_of (commands.Neighbours index) = words.Neighbours
 word_of commands.List = words.List
 word_of commands.Ranks = words.Ranks
+word_of commands.Check = words.Check
+word_of (commands.DrainOrdered num) = words.DrainOrdered
 word_of commands.Stats = words.Stats
 
 -- the faults in their order: the word, the number of arguments, and then each argument from the left

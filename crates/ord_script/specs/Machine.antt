@@ -1,5 +1,5 @@
 -- The list machine: what each command may answer on an ordered arena, and what it leaves.
-use Rattle.std.specs.Prelude.{◌≡◌, ℕ, ◌+◌, ◌^◌, ◌<◌, ◌≤◌, ◌==◌, Bool, true, false, if◌then◌else◌, List, [], ◌∷◌, length, map, Option, Some, None, IsSome, IfNone, MatchOption, Ok, Err}
+use Rattle.std.specs.Prelude.{◌≡◌, ℕ, ◌+◌, ◌^◌, ◌<◌, ◌≤◌, ◌==◌, ◌↔◌, Bool, true, false, if◌then◌else◌, List, [], ◌∷◌, length, map, take, Option, Some, None, IsSome, IfNone, MatchOption, Ok, Err}
 use Rattle.std.specs.Option.{option_map}
 use Rattle.std.specs.declared.cmp.Ordering.{Ordering}
 use Rattle.arena_base.specs.Compression.{compressed_generation, compression_overflows}
@@ -18,13 +18,14 @@ use Rattle.triple_ord.specs.Node.{IsPart}
 use Rattle.triple_ord.specs.Search.{FindsKey, FindsSimilar}
 use Rattle.triple_ord.specs.ClosureSearch.{Shown, FindsWith, FindsSimilarWith}
 use Rattle.triple_ord.specs.Hint.{IsNearHint}
+use Rattle.triple_ord.specs.Order.{IsInOrder}
 use Rattle.triple_ord.specs.Insertion as insertion
 use Rattle.triple_ord.specs.declared.entry_kind.OrdEntryKind.TheVariants.{New, Replacing}
 use Rattle.triple_ord.specs.declared.error.OrdInsertionError.TheVariants.{AllocError}
 use Rattle.ord_script.specs.declared.command.Command.{Command}
 use Rattle.ord_script.specs.declared.command.Command.TheVariants as commands
 use Rattle.ord_script.specs.declared.reply.Reply.{Reply}
-use Rattle.ord_script.specs.declared.reply.Reply.TheVariants.{Inserted, Refused, Found, Similar, Count, Item, Removed, Renewed, Changed, At, Links, Entries, Ranks, Stats}
+use Rattle.ord_script.specs.declared.reply.Reply.TheVariants.{Inserted, Refused, Found, Similar, Count, Item, Removed, Renewed, Changed, At, Links, Entries, Ranks, Sorted, Stats}
 
 -- how items and pointers are read
 pub record Reading (P T I G K : Type 0) : Type 0 where
@@ -88,6 +89,15 @@ pub record IsRemoval {T : Type 0} (greatest : Option ℕ) (old : Tree T) (i : �
   pub list : new.list ≡ removed greatest old.list i
   pub shape : IsShrunk old.shape new.shape
   pub begins_again : overflow ≡ overflows_after greatest old.list.generation
+
+-- the chain after these entries have been taken out one after another, each by a removal
+abbrev pub without_each : {T : Type 0} → Option ℕ → Chain T → List (Entry T) → Chain T
+without_each greatest c [] = c
+without_each greatest c (e ∷ es) = without_each greatest (removed greatest c e.index) es
+
+-- a pointer with an item, as an entry
+abbrev pub entry_of : {P T : Type 0} → (P → ℕ × ℕ) → P × T → Entry T
+entry_of pointer pair = record { index = (pointer pair.0).0; generation = (pointer pair.0).1; item = pair.1 }
 
 -- the node of index i has rank k in the shape
 abbrev pub HasRank : Shape → ℕ → ℕ → Type 0
@@ -214,8 +224,7 @@ module _ {P T I G A : Type 0} where
 
   -- the whole list, each entry as its pointer and its item; memory may be refused where there is an entry
   abbrev pub Lists : (P → ℕ × ℕ) → Tree T → Reply P T A I G → Type 0
-  Lists pointer t (Entries pairs) =
-      map (λ pair. record { index = (pointer pair.0).0; generation = (pointer pair.0).1; item = pair.1 }) pairs.items ≡ t.list.entries
+  Lists pointer t (Entries pairs) = map (entry_of pointer) pairs.items ≡ t.list.entries
   Lists pointer t (Refused AllocError) = 0 < length t.list.entries
   Lists pointer t reply = ⊥
 
@@ -224,6 +233,21 @@ module _ {P T I G A : Type 0} where
   Ranked t (Ranks ranks) = HaveRanks t.shape t.list.entries ranks.items
   Ranked t (Refused AllocError) = 0 < length t.list.entries
   Ranked t reply = ⊥
+
+  -- The first num entries are taken out one after another, each by a removal that raises the generation; then the others are dropped,
+  -- which raises it once more, and all slots count as never used. Memory may be refused where there is an entry to take; then none is.
+  abbrev pub Drains : Option ℕ → (P → ℕ × ℕ) → Tree T → ℕ → Reply P T A I G → Tree T → Type 0
+  Drains greatest pointer old num (Entries pairs) new =
+      let first = take num old.list.entries in
+      (map (entry_of pointer) pairs.items ≡ first)
+      × (new ≡ record { list = cleared greatest (without_each greatest old.list first); shape = missing })
+  Drains greatest pointer old num (Refused AllocError) new = (0 < length (take num old.list.entries)) × (new ≡ old)
+  Drains greatest pointer old num reply new = ⊥
+
+  -- whether no entry's key is greater than that of the entry directly after it
+  abbrev pub Checks : {K : Type 0} → (T → K) → (K → K → Ordering) → Tree T → Reply P T A I G → Type 0
+  Checks key cmp t (Sorted sorted) = (sorted ≡ true) ↔ IsInOrder key cmp t.list.entries
+  Checks key cmp t reply = ⊥
 
   -- length, capacity, generation and maximum
   abbrev pub Counts : (G → ℕ) → Tree T → Reply P T A I G → Type 0
@@ -259,6 +283,8 @@ module _ {P T I G A : Type 0} where
   Replies r old (commands.Neighbours i) reply new = HasNeighbours r.index old.tree i reply × (new ≡ old.tree)
   Replies r old commands.List reply new = Lists r.pointer old.tree reply × (new ≡ old.tree)
   Replies r old commands.Ranks reply new = Ranked old.tree reply × (new ≡ old.tree)
+  Replies r old commands.Check reply new = Checks r.key r.cmp old.tree reply × (new ≡ old.tree)
+  Replies r old (commands.DrainOrdered num) reply new = Drains r.greatest r.pointer old.tree num reply new
   Replies r old commands.Stats reply new = Counts r.generation old.tree reply × (new ≡ old.tree)
   Replies r old commands.FindWith reply new = ⊥
   Replies r old commands.SimilarWith reply new = ⊥

@@ -29,7 +29,7 @@ argument_text (count n) = decimal n
 argument_text (pointer p) = pointer_text p
 argument_text (flag b) = decimal (flag_number b)
 
--- a key has 64 bits with a sign; a value, a generation and a number of steps have 64 without one, an index 32
+-- a key has 64 bits with a sign; a value, a generation and a number of steps or of entries have 64 without one, an index 32
 abbrev pub IsInRange : Argument → Type 0
 IsInRange (key k) = (neg_ℤ (pos (2 ^ 63)) ≤ℤ k) × (k <ℤ pos (2 ^ 63))
 IsInRange (value v) = v < 2 ^ 64
@@ -72,6 +72,8 @@ saying_of commands.Last = record { word = codes "last"; arguments = [] }
 saying_of (commands.Neighbours i) = record { word = codes "neighbours"; arguments = index i ∷ [] }
 saying_of commands.List = record { word = codes "list"; arguments = [] }
 saying_of commands.Ranks = record { word = codes "ranks"; arguments = [] }
+saying_of commands.Check = record { word = codes "check"; arguments = [] }
+saying_of (commands.DrainOrdered n) = record { word = codes "drain"; arguments = count n ∷ [] }
 saying_of commands.Stats = record { word = codes "stats"; arguments = [] }
 
 -- the words of its line

@@ -10,7 +10,7 @@ use Rattle.triple_ord.specs.declared.error.OrdInsertionError.{OrdInsertionError}
 use Rattle.triple_ord.specs.declared.error.OrdInsertionError.TheVariants.{FailedOrdRequirement, NotWithinCapacity, BeyondMaxCapacity, AllocError}
 use Rattle.ord_script.specs.declared.word.Word.{Word}
 use Rattle.ord_script.specs.declared.word.Word.TheVariants as words
-use Rattle.ord_script.specs.declared.reply.Reply.TheVariants.{Inserted, Refused, Found, Similar, Count, Item, Removed, Renewed, Changed, At, Links, Entries, Ranks, Stats}
+use Rattle.ord_script.specs.declared.reply.Reply.TheVariants.{Inserted, Refused, Found, Similar, Count, Item, Removed, Renewed, Changed, At, Links, Entries, Ranks, Sorted, Stats}
 use Rattle.ord_script.specs.declared.fault.Fault.{Fault}
 use Rattle.ord_script.specs.declared.fault.FaultKind.{FaultKind}
 use Rattle.ord_script.specs.declared.fault.FaultKind.TheVariants.{UnknownCommand, WrongArguments, BadNumber}
@@ -151,6 +151,12 @@ abbrev pub ranks_line : {A : Type 0} → PairReply A → List ℕ
 ranks_line (Ranks ranks) = codes "ranks" ++ flat_map (λ k. codes " " ++ decimal k) ranks.items ++ 10 ∷ []
 ranks_line reply = refusal_line reply
 
+-- whether the keys are in order
+abbrev pub order_line : {A : Type 0} → PairReply A → List ℕ
+order_line (Sorted true) = codes "ok" ++ 10 ∷ []
+order_line (Sorted false) = codes "incorrect ordering" ++ 10 ∷ []
+order_line reply = refusal_line reply
+
 abbrev pub stats_line : {A : Type 0} → PairReply A → List ℕ
 stats_line (Stats len capacity generation maximum) =
     codes "len " ++ decimal len ++ codes " capacity " ++ decimal capacity ++ codes " generation " ++ decimal generation
@@ -179,6 +185,8 @@ reply_line words.Last reply = place_line reply
 reply_line words.Neighbours reply = neighbours_line reply
 reply_line words.List reply = entries_line (codes "list") reply
 reply_line words.Ranks reply = ranks_line reply
+reply_line words.Check reply = order_line reply
+reply_line words.DrainOrdered reply = entries_line (codes "drained") reply
 reply_line words.Stats reply = stats_line reply
 
 -- the lines of the replies to the commands, one each

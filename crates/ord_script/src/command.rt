@@ -50,6 +50,10 @@ pub enum Command<P: Ptr, T: SimpleOrdItem> {
     List,
     /// Asks for the ranks of all entries in the tree, in order.
     Ranks,
+    /// Asks whether no entry's key is greater than that of the entry after it.
+    Check,
+    /// Takes the first so many entries out, or all where there are no more, and then drops the others.
+    DrainOrdered(usize),
     /// Asks for the numbers that go with the entries.
     Stats,
 }

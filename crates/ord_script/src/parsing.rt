@@ -1,6 +1,6 @@
 // Reads the command that a line gives.
 ghost use Rattle.std.specs.Prelude.{◌≡◌, MatchResult};
-ghost use Rattle.ord_script.specs.Commands.{no_argument, one_argument, two_arguments, three_arguments, key_in, pointer_in, index_in, count_in, flag_in, pair_in, with_pair, with_pointer_and_pair, with_key, with_pointer, with_index, with_flag, from_pointer, from_index, alone, said_by};
+ghost use Rattle.ord_script.specs.Commands.{no_argument, one_argument, two_arguments, three_arguments, key_in, pointer_in, index_in, count_in, flag_in, pair_in, with_pair, with_pointer_and_pair, with_key, with_pointer, with_index, with_count, with_flag, from_pointer, from_index, alone, said_by};
 ghost use Rattle.ord_script.specs.Commands as spec;
 ghost use Rattle.ord_script.specs.Script.{words_of};
 
@@ -52,6 +52,8 @@ fn command_of(first: &[u8], arguments: Words<'_>) -> Result<PairCommand, FaultKi
         Word::Neighbours => neighbours_of(arguments),
         Word::List => alone(Command::List, arguments),
         Word::Ranks => alone(Command::Ranks, arguments),
+        Word::Check => alone(Command::Check, arguments),
+        Word::DrainOrdered => drain_of(arguments),
         Word::Stats => alone(Command::Stats, arguments),
     }
 }
@@ -201,6 +203,16 @@ fn neighbours_of(arguments: Words<'_>) -> Result<PairCommand, FaultKind>
     Ok(Command::Neighbours(index))
 }
 
+/// `drain N`
+#[tactic(auto, unfolding(crate::specs::Commands::with_count))]
+fn drain_of(arguments: Words<'_>) -> Result<PairCommand, FaultKind>
+    ensures { result ≡ with_count Command.DrainOrdered arguments.entry }
+{
+    let count = one(arguments)?;
+    let count = count_in(count)?;
+    Ok(Command::DrainOrdered(count))
+}
+
 /// A command without arguments.
 #[tactic(auto, unfolding(crate::specs::Commands::alone))]
 fn alone(command: PairCommand, arguments: Words<'_>) -> Result<PairCommand, FaultKind>
@@ -231,7 +243,7 @@ fn index_in(word: &[u8]) -> Result<u32, FaultKind>
     index_of(word).ok_or(FaultKind::BadNumber)
 }
 
-/// A word that is a number of steps.
+/// A word that is a number of steps or of entries.
 fn count_in(word: &[u8]) -> Result<usize, FaultKind>
     ensures { result ≡ count_in word.now }
 {

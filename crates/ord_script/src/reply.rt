@@ -32,10 +32,12 @@ pub enum Reply<P: Ptr, T, A: Allocator> {
     /// The indexes of the entries before and after the one at the index, each `None` at an end of the list; `None` where the index
     /// has no entry.
     Links(Option<(Option<P::Inx>, Option<P::Inx>)>),
-    /// The pointer of each entry and a clone of its item, in order.
+    /// The pointer of each entry and a clone of its item, in order; or those of the entries that were taken out, with the items themselves.
     Entries(Vec<(P, T), A>),
     /// The rank of each entry in the tree, in order.
     Ranks(Vec<u8, A>),
+    /// Whether the entries are in the order of their keys.
+    Sorted(bool),
     /// Length, capacity, the generation that the next entry gets, and the maximum of the capacity, if one is set.
     Stats(usize, usize, P::Gen, Option<usize>),
 }

@@ -121,6 +121,8 @@ where
         Command::Neighbours(i) => steps::neighbours(arena, i),
         Command::List => steps::list(alloc, arena),
         Command::Ranks => steps::ranks(alloc, arena),
+        Command::Check => steps::check(arena),
+        Command::DrainOrdered(num) => steps::drain_ordered(alloc, arena, num),
         Command::Stats => steps::stats(arena),
     }
 }

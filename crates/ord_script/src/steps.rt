@@ -1,10 +1,10 @@
 // What each command does, and what it answers.
-ghost use Rattle.std.specs.Prelude.{◌≡◌, ◌<◌, IfOk, OnErr, IfSome, is_some, length, map};
+ghost use Rattle.std.specs.Prelude.{◌≡◌, ◌<◌, IfOk, OnOk, OnErr, IfSome, is_some, length, map, take};
 ghost use Rattle.chain_base.specs.Chain.{link_at, first_pointer, last_pointer, cleared, raised};
 ghost use Rattle.chain_base.specs.Compression.{canonical, relocated};
 ghost use Rattle.ord_tree.specs.Shape.{missing};
 ghost use Rattle.triple_ord.specs.ClosureSearch.{Asks};
-ghost use Rattle.ord_script.specs.Machine.{Marks, AreTrue, Inserts, Sets, Removes, RemovesAt, Renews, Changes, Rebuilds, Finds, FindsFrom, FindsNear, FindsNearFrom, AnswersWith, AnswersSimilarWith, Visits, Gets, IsEnd, HasNeighbours, Lists, Ranked, HasRank, HaveRanks, Counts};
+ghost use Rattle.ord_script.specs.Machine.{Marks, AreTrue, Inserts, Sets, Removes, RemovesAt, Renews, Changes, Rebuilds, Finds, FindsFrom, FindsNear, FindsNearFrom, AnswersWith, AnswersSimilarWith, Visits, Gets, IsEnd, HasNeighbours, Lists, entry_of, Ranked, HasRank, HaveRanks, Drains, without_each, Checks, Counts};
 
 use crate::reply::Reply;
 use arena_base::Ptr;
@@ -289,6 +289,29 @@ pub fn ranks<P: Ptr, T, A: Allocator>(alloc: A, arena: &SimpleOrdArena<P, T, A>)
     }
 }
 
+/// `Command::Check`
+pub fn check<P: Ptr, T: SimpleOrdItem, A: Allocator>(
+    arena: &SimpleOrdArena<P, T, A>,
+) -> Reply<P, T, A>
+    ensures { Checks T.key_of T.Key.cmp arena.now result }
+{
+    Reply::Sorted(SimpleOrdArena::_check_invariants(arena).is_ok())
+}
+
+/// `Command::DrainOrdered`
+pub fn drain_ordered<P: Ptr, T: Drop, A: Allocator>(
+    alloc: A,
+    arena: &mut SimpleOrdArena<P, T, A>,
+    num: usize,
+) -> Reply<P, T, A>
+    ensures { Drains P.Gen.greatest (λ p. (P.index p, P.era p)) arena.old num result arena.new }
+{
+    match drained(alloc, arena, num) {
+        Ok(entries) => Reply::Entries(entries),
+        Err(AllocError) => Reply::Refused(OrdInsertionError::AllocError),
+    }
+}
+
 /// `Command::Stats`
 pub fn stats<P: Ptr, T, A: Allocator>(arena: &SimpleOrdArena<P, T, A>) -> Reply<P, T, A>
     ensures { Counts P.Gen.number arena.now result }
@@ -307,8 +330,7 @@ fn entries<P: Ptr, T: Clone, A: Allocator>(
     arena: &SimpleOrdArena<P, T, A>,
 ) -> Result<Vec<(P, T), A>, AllocError>
     requires { (x y : T) → T.is_clone x y → y ≡ x }
-    ensures pairs { IfOk result (λ pairs. map
-        (λ pair. record { index = P.index pair.0; generation = P.era pair.0; item = pair.1 })
+    ensures pairs { IfOk result (λ pairs. map (entry_of (λ p. (P.index p, P.era p)))
         pairs.items ≡ arena.now.list.entries) }
     ensures refused { OnErr result (0 < length arena.now.list.entries) }
 {
@@ -316,6 +338,33 @@ fn entries<P: Ptr, T: Clone, A: Allocator>(
     for (p, item) in arena {
         pairs.push((p, item.clone()?))?;
     }
+    Ok(pairs)
+}
+
+// The first entries in order, taken out; then the others are dropped. The room for them is asked for before.
+fn drained<P: Ptr, T: Drop, A: Allocator>(
+    alloc: A,
+    arena: &mut SimpleOrdArena<P, T, A>,
+    num: usize,
+) -> Result<Vec<(P, T), A>, AllocError>
+    ensures pairs { IfOk result (λ pairs. map (entry_of (λ p. (P.index p, P.era p)))
+        pairs.items ≡ take num arena.old.list.entries) }
+    ensures drained { OnOk result (arena.new ≡ record {
+      list = cleared P.Gen.greatest
+          (without_each P.Gen.greatest arena.old.list (take num arena.old.list.entries));
+      shape = missing;
+    }) }
+    ensures refused { OnErr result (0 < length (take num arena.old.list.entries)) }
+    ensures err { OnErr result (arena.new ≡ arena.old) }
+{
+    let count = num.min(arena.len());
+    let mut pairs = Vec::with_capacity(alloc, count)?;
+    let mut drain = arena.drain_ordered();
+    for _ in 0..count {
+        let taken = drain.next().unwrap();
+        pairs.push(taken.allow()).unwrap();
+    }
+    drop(drain);
     Ok(pairs)
 }
 

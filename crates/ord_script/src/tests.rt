@@ -7,7 +7,7 @@ use crate::{FaultKind, ScriptEnd, Watched, serve};
 use std::process::Abort;
 
 /// Scripts that are done, each with its answer.
-const ANSWERS: [(&[u8], &str); 32] = [
+const ANSWERS: [(&[u8], &str); 35] = [
     // the commands
     (
         b"insert 50 1\ninsert 30 2\nfind 30\nlist\n",
@@ -107,6 +107,19 @@ const ANSWERS: [(&[u8], &str); 32] = [
         b"compress 00\nstats\ninsert 5 0\ncompress 01\nlist\nremove 1.2\ncompress 0\nstats\ninsert 6 0\n",
         "ok\nlen 0 capacity 0 generation 3 max none\nnew 1.3\nok\nlist 1.2=5:0\nremoved 5:0\nok\nlen 0 capacity 4 generation 4 max none\nnew 1.4\n",
     ),
+    // drains, and the check of the order
+    (
+        b"insert 3 0\ninsert 1 0\ninsert 2 0\ndrain 2\nstats\n",
+        "new 1.2\nnew 2.2\nnew 3.2\ndrained 2.2=1:0 3.2=2:0\nlen 0 capacity 4 generation 5 max none\n",
+    ),
+    (
+        b"check\ninsert 2 5\ninsert 1 4\ncheck\ndrain 18446744073709551615\ninsert 3 6\ndrain 0\nlist\ndrain 1\nstats\n",
+        "ok\nnew 1.2\nnew 2.2\nok\ndrained 2.2=1:4 1.2=2:5\nnew 1.5\ndrained\nlist\ndrained\nlen 0 capacity 4 generation 7 max none\n",
+    ),
+    (
+        b"insert 1 0\ninsert 2 0\nset 1.2 2 9\ncheck\nset 1.2 9 0\ncheck\n",
+        "new 1.2\nnew 2.2\nold 1:0\nok\nold 2:9\nincorrect ordering\n",
+    ),
     // lines: CR before LF, blank lines and comments, which are counted
     (b"insert 007 01\r\n", "new 1.2\n"),
     (b"\r\nlist\r\n", "list\n"),
@@ -167,7 +180,7 @@ const FAULTS: [(&[u8], &str, usize, FaultKind); 6] = [
 ];
 
 /// Lines that are a fault of this kind.
-const BAD_LINES: [(&[u8], FaultKind); 87] = [
+const BAD_LINES: [(&[u8], FaultKind); 93] = [
     // the tree, and what stands around the entries
     (b"visits", FaultKind::WrongArguments),
     (b"get 1.2 3", FaultKind::WrongArguments),
@@ -230,6 +243,13 @@ const BAD_LINES: [(&[u8], FaultKind); 87] = [
     (b"canonical 10", FaultKind::BadNumber),
     (b"canonical true", FaultKind::BadNumber),
     (b"compact 0", FaultKind::UnknownCommand),
+    // drains, and the check of the order
+    (b"check 1", FaultKind::WrongArguments),
+    (b"drain", FaultKind::WrongArguments),
+    (b"drain 1 2", FaultKind::WrongArguments),
+    (b"drain -1", FaultKind::BadNumber),
+    (b"drain 18446744073709551616", FaultKind::BadNumber),
+    (b"drained 1", FaultKind::UnknownCommand),
     // a fault ends the script
     (b"insert 1", FaultKind::WrongArguments),
     (b"insert", FaultKind::WrongArguments),

@@ -1,6 +1,6 @@
 // Writes the lines that a script answers.
 ghost use Rattle.std.specs.Prelude.{◌≡◌, ◌++◌, [], ◌∷◌, IfOk, string_bytes, codes};
-ghost use Rattle.ord_script.specs.Text.{Adds, reply_lines, reply_line, fault_line, refusal_line, insertion_line, pointer_text, pair_text, old_line, taken_line, removal_line, now_line, renewal_line, change_line, place_text, search_line, similar_text, similar_line, order_text, count_line, item_line, place_line, links_text, neighbours_line, entries_line, ranks_line, stats_line, refusal_text};
+ghost use Rattle.ord_script.specs.Text.{Adds, reply_lines, reply_line, fault_line, refusal_line, insertion_line, pointer_text, pair_text, old_line, taken_line, removal_line, now_line, renewal_line, change_line, place_text, search_line, similar_text, similar_line, order_text, count_line, item_line, place_line, links_text, neighbours_line, entries_line, ranks_line, order_line, stats_line, refusal_text};
 
 use crate::fault::Fault;
 use crate::pairs::{
@@ -69,6 +69,8 @@ fn push_reply<A: Allocator>(
         Word::Neighbours => push_neighbours(text, reply),
         Word::List => push_entries(text, "list", reply),
         Word::Ranks => push_ranks(text, reply),
+        Word::Check => push_order(text, reply),
+        Word::DrainOrdered => push_entries(text, "drained", reply),
         Word::Stats => push_stats(text, reply),
     }
 }
@@ -349,6 +351,16 @@ fn push_ranks<A: Allocator>(text: &mut String<A>, reply: &PairReply<A>) -> Resul
         write!(text, " {rank}")?;
     }
     write!(text, "\n")
+}
+
+fn push_order<A: Allocator>(text: &mut String<A>, reply: &PairReply<A>) -> Result<(), AllocError>
+    ensures { Adds result text.old text.new (order_line reply.now) }
+{
+    match reply {
+        Reply::Sorted(true) => write!(text, "ok\n"),
+        Reply::Sorted(false) => write!(text, "incorrect ordering\n"),
+        _ => push_refusal(text, reply),
+    }
 }
 
 fn push_stats<A: Allocator>(text: &mut String<A>, reply: &PairReply<A>) -> Result<(), AllocError>

@@ -29,11 +29,13 @@ pub enum Word {
     Neighbours,
     List,
     Ranks,
+    Check,
+    DrainOrdered,
     Stats,
 }
 
 /// All words.
-const WORDS: [Word; 21] = [
+const WORDS: [Word; 23] = [
     Word::Insert,
     Word::Set,
     Word::Remove,
@@ -54,6 +56,8 @@ const WORDS: [Word; 21] = [
     Word::Neighbours,
     Word::List,
     Word::Ranks,
+    Word::Check,
+    Word::DrainOrdered,
     Word::Stats,
 ];
 
@@ -83,6 +87,8 @@ impl Word {
             Word::Neighbours => "neighbours",
             Word::List => "list",
             Word::Ranks => "ranks",
+            Word::Check => "check",
+            Word::DrainOrdered => "drain",
             Word::Stats => "stats",
         }
     }
@@ -141,6 +147,8 @@ fn word_of(command: &PairCommand) -> Word
         Command::Neighbours(_) => Word::Neighbours,
         Command::List => Word::List,
         Command::Ranks => Word::Ranks,
+        Command::Check => Word::Check,
+        Command::DrainOrdered(_) => Word::DrainOrdered,
         Command::Stats => Word::Stats,
     }
 }

@@ -4,12 +4,12 @@ use linked_list_allocator::LocalHeap;
 use std::fmt::Write;
 use std::test::Fail;
 
-/// A script whose first and fifth entries make the arena grow, and whose lists copy it.
+/// A script whose first and fifth entries make the arena grow, and whose lists and drain ask for room.
 const GROWING: &[u8] =
-    b"insert 9 1\ninsert 8 2\ninsert 7 3\ninsert 6 4\nlist\nranks\ninsert 5 5\nget 1.2\nlist\nranks\n";
+    b"insert 9 1\ninsert 8 2\ninsert 7 3\ninsert 6 4\nlist\nranks\ninsert 5 5\nget 1.2\nlist\nranks\ndrain 2\n";
 
 /// What each of its lines may be: a command that is refused memory says so, and the script goes on.
-const LINES: [&[&str]; 10] = [
+const LINES: [&[&str]; 11] = [
     &["refused memory", "new 1.2"],
     &["refused memory", "new 2.2"],
     &["refused memory", "new 3.2"],
@@ -34,11 +34,17 @@ const LINES: [&[&str]; 10] = [
         "ranks 1 2 3 1",
         "ranks 1 2 1 3 1",
     ],
+    &[
+        "refused memory",
+        "drained",
+        "drained 4.2=6:4 3.2=7:3",
+        "drained 5.2=5:5 4.2=6:4",
+    ],
 ];
 
 /// The answer where no memory is refused.
 const WHOLE: &str =
-    "new 1.2\nnew 2.2\nnew 3.2\nnew 4.2\nlist 4.2=6:4 3.2=7:3 2.2=8:2 1.2=9:1\nranks 1 2 3 1\nnew 5.2\nitem 9:1\nlist 5.2=5:5 4.2=6:4 3.2=7:3 2.2=8:2 1.2=9:1\nranks 1 2 1 3 1\n";
+    "new 1.2\nnew 2.2\nnew 3.2\nnew 4.2\nlist 4.2=6:4 3.2=7:3 2.2=8:2 1.2=9:1\nranks 1 2 3 1\nnew 5.2\nitem 9:1\nlist 5.2=5:5 4.2=6:4 3.2=7:3 2.2=8:2 1.2=9:1\nranks 1 2 1 3 1\ndrained 5.2=5:5 4.2=6:4\n";
 
 /// Whether the answer has these lines.
 fn is_possible(answer: &str) -> bool {

@@ -146,7 +146,7 @@ fn run_lists<P: Ptr, R: Abort + AllocGlobal>(
     Ok(())
 }
 
-/// The last run: it writes one entry, and takes the others out.
+/// The fourth run: it writes one entry, and takes the others out.
 fn run_changes<P: Ptr, R: Abort + AllocGlobal>(
     rt: &R,
     arena: &mut SimpleOrdArena<P, Letter>,
@@ -168,6 +168,24 @@ fn run_changes<P: Ptr, R: Abort + AllocGlobal>(
         matches!(&replies[2], Reply::Removed(InvalidationResult::Success((p, l))) if *p == b && *l == item(20, 'B'))
     );
     assert_eq!(rt; arena.len(), 1);
+    run_drain(rt, arena, c)
+}
+
+/// And one that takes out what is left, where the order is right.
+fn run_drain<P: Ptr, R: Abort + AllocGlobal>(
+    rt: &R,
+    arena: &mut SimpleOrdArena<P, Letter>,
+    c: P,
+) -> Result<(), AllocError> {
+    let mut commands = Vec::new(rt.alloc());
+    commands.push(Command::Check)?;
+    commands.push(Command::DrainOrdered(2))?;
+    let replies = answers(rt.alloc(), arena, commands)?;
+    assert_eq!(rt; replies.len(), 2);
+    assert!(rt; matches!(&replies[0], Reply::Sorted(true)));
+    assert_eq!(rt; entry_at(&replies[1], 0), Some((c, item(35, 'C'))));
+    assert_eq!(rt; entry_at(&replies[1], 1), None);
+    assert_eq!(rt; arena.len(), 0);
     Ok(())
 }
 
