@@ -109,12 +109,9 @@ impl<P: Ptr, T, A: Allocator> Arena<P, T, A> {
         ensures within { IfSome result (λ place. place < arena_capacity self.now) }
         ensures none { IfNone result (slot self.now (P.Inx.number i) ≡ None) }
     {
-        // For index 0 this is the greatest number: one test tells that it is beyond the slots too.
-        let place = i.try_into_usize().unwrap_or(0).wrapping_sub(1);
-        if place < self.slots.len() {
-            Some(place)
-        } else {
-            None
+        match i.try_into_usize() {
+            Some(n) if n <= self.slots.len() => Some(n - 1),
+            _ => None,
         }
     }
 
