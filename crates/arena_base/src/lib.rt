@@ -11,8 +11,6 @@ mod opt_inx;
 mod ptr;
 mod recast;
 mod slot;
-#[cfg(test)]
-mod tests;
 mod traits;
 
 pub use advancer::Advancer;

@@ -4,8 +4,6 @@
 mod chain;
 mod link;
 mod map_taken;
-#[cfg(test)]
-mod tests;
 
 pub use chain::ChainArena;
 pub use chain::insert::LinkInsertKind;

@@ -30,6 +30,3 @@ pub use running::run;
 pub use script_end::ScriptEnd;
 pub use serving::serve;
 pub use watched::Watched;
-
-#[cfg(test)]
-mod tests;

@@ -10,8 +10,6 @@ pub mod laws;
 mod pair;
 mod probe;
 mod steps;
-#[cfg(test)]
-mod tests;
 mod visits;
 
 pub use arena::{CapacityDrain, Iter, OrderedDrain, OrderedPtrAdvancer, SimpleOrdArena};

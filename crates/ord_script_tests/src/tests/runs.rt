@@ -1,5 +1,5 @@
 // `run` on arenas of any pointers and items.
-use crate::{Command, Reply, run};
+use ord_script::{Command, Reply, run};
 use arena_base::{InvalidationOption, InvalidationResult, P0, P8, PN, Ptr, PtrInx};
 use linked_list_allocator::LocalHeap;
 use std::alloc::{AllocError, Allocator, Global};

@@ -3,7 +3,7 @@ ghost use Rattle.std.specs.Prelude.{◌<◌};
 
 use super::removal::{moved, parents};
 use super::{Keys, keys, order};
-use crate::{OrdPair, SimpleOrdArena};
+use triple_ord::{OrdPair, SimpleOrdArena};
 use arena_base::Ptr;
 use std::alloc::{AllocError, Global};
 use std::process::Abort;

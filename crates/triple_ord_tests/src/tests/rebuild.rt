@@ -1,7 +1,7 @@
 //! Compressions, the canonical order and transfers. The letters A, B, C, E stand at the indexes 2, 4, 1, 3, with
 //! generation 3.
 use super::{Keys, keys, numbers, ranks};
-use crate::{OrdPair, SimpleOrdArena};
+use triple_ord::{OrdPair, SimpleOrdArena};
 use arena_base::{InvalidationOption, P0, P8, Ptr, ReallocationError};
 use linked_list_allocator::LocalHeap;
 use std::alloc::{Allocator, Global};

@@ -1,7 +1,7 @@
 // Devices that go slowly, that fail in one call and go well again, and that count their calls: nothing is tried again.
 ghost use Rattle.std.specs.Prelude.{◌≤◌, IfOk};
 
-use crate::{FaultKind, ScriptEnd, Watched, serve};
+use ord_script::{FaultKind, ScriptEnd, Watched, serve};
 use std::alloc::AllocError;
 use std::io;
 use std::io::{ErrorKind, Read, Write};

@@ -3,7 +3,7 @@ mod devices;
 mod memory;
 mod runs;
 
-use crate::{FaultKind, ScriptEnd, Watched, serve};
+use ord_script::{FaultKind, ScriptEnd, Watched, serve};
 use std::process::Abort;
 
 /// Scripts that are done, each with its answer.

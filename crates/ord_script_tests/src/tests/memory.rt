@@ -1,5 +1,5 @@
 // Memory: where it is refused, and that it is enough where it is there.
-use crate::{ScriptEnd, Watched, serve};
+use ord_script::{ScriptEnd, Watched, serve};
 use linked_list_allocator::LocalHeap;
 use std::fmt::Write;
 use std::test::Fail;

@@ -1,7 +1,7 @@
 // Trees of small keys, kept in order by hand, seen through the chain's nodes.
 mod rebuild;
 
-use crate::{OrdTree, SimpleOrdArenaNode};
+use ord_tree::{OrdTree, SimpleOrdArenaNode};
 use arena_base::{
     Advancer, InsertionError, InvalidationOption, InvalidationResult, P0, P8, PN, Ptr,
     ReallocationError,

@@ -1,5 +1,5 @@
 //! Rebuilt trees, compared place by place with a recursive function of the length.
-use crate::OrdTree;
+use ord_tree::OrdTree;
 use arena_base::{InvalidationOption, P0, Ptr, ReallocationError};
 use std::alloc::{AllocError, Global};
 use std::cmp::Ordering;

@@ -1,7 +1,7 @@
 //! Walks along the list, drains, comparisons, and the check of the order. Five keys stand at the indexes 5, 2, 1, 4, 3, in the order of the
 //! list 10, 30, 50, 60, 70.
 use super::{Keys, keys, numbers, order};
-use crate::{Advancer, OrdPair, OrderedPtrAdvancer, SimpleOrdArena};
+use triple_ord::{Advancer, OrdPair, OrderedPtrAdvancer, SimpleOrdArena};
 use arena_base::{InvalidationOption, P0, P8, Ptr, Q0};
 use std::alloc::{AllocError, Global};
 use std::cell::Cell;
@@ -168,7 +168,7 @@ impl Drop for Counted<'_> {
     }
 }
 
-impl crate::SimpleOrdItem for Counted<'_> {
+impl triple_ord::SimpleOrdItem for Counted<'_> {
     type Key = u64;
 
     ghost key_of = { λ c. c.key };

@@ -1,6 +1,10 @@
 ghost use Rattle.std.specs.Prelude.{◌≡◌, IfErr, IsTrue};
 
-use super::*;
+use arena_base::{
+    Advancer, Arena, ArenaTrait, CompactArenaTrait, InsertionError, InvalidationOption, InvalidationResult,
+    MaxCapacityReductionError, P0, P8, PN, Ptr, PtrAdvancer, PtrGen, PtrInx, Q0, ReallocationError, Recast, Recaster,
+    SetMaxCapacity, laws,
+};
 use linked_list_allocator::LocalHeap;
 use std::alloc::{AllocError, Allocator, Global};
 use std::mem;
@@ -307,40 +311,60 @@ where
     none.advance(first).is_none() && none.advance(second).is_none()
 }
 
+/// Two walks, and what they give next.
+struct Walks {
+    up: PtrAdvancer<P0>,
+    down: PtrAdvancer<P0>,
+}
+
+impl Walks {
+    fn give(&mut self, rt: &impl Abort, arena: &Arena<P0, u64>, up: Option<P0>, down: Option<P0>) {
+        assert_eq!(rt; (self.up.advance(arena), self.down.advance(arena)), (up, down));
+    }
+}
+
+/// Inserts an item, which has to get this pointer.
+fn insert_at(
+    rt: &impl Abort,
+    arena: &mut Arena<P0, u64>,
+    item: u64,
+    p: P0,
+) -> Result<(), InsertionError> {
+    assert_eq!(rt; arena.insert_reallocating(item)?, p);
+    Ok(())
+}
+
 #[test]
 fn a_walk_goes_on_with_later_entries(rt: HostRuntime) -> Result<(), Fail> {
     let mut arena: Arena<P0, u64> = Arena::new(rt.alloc());
-    let (mut up, mut down) = (arena.advancer(), arena.advancer_inx(3, true));
-    let mut none: PtrAdvancer<P0> = Advancer::<Arena<P0, u64>>::empty();
-    let empty: Arena<P0, u64> = Arena::new(rt.alloc());
-    assert_eq!(rt; (up.advance(&arena), down.advance(&arena)), (None, None));
-    for item in 0..3u64 {
-        arena.insert_reallocating(item)?;
+    let mut walks = Walks {
+        up: arena.advancer(),
+        down: arena.advancer_inx(3, true),
+    };
+    walks.give(&rt, &arena, None, None);
+    for inx in 1..4u32 {
+        insert_at(&rt, &mut arena, 0, p0(inx, 2))?;
     }
-    assert_eq!(rt;
-        (up.advance(&arena), up.advance(&arena)),
-        (Some(p0(1, 2)), Some(p0(2, 2)))
-    );
-    assert_eq!(rt;
-        (down.advance(&arena), down.advance(&arena)),
-        (Some(p0(3, 2)), Some(p0(2, 2)))
-    );
+    walks.give(&rt, &arena, Some(p0(1, 2)), Some(p0(3, 2)));
+    walks.give(&rt, &arena, Some(p0(2, 2)), Some(p0(2, 2)));
     let _ = (arena.remove_inx(1), arena.remove_inx(3));
-    assert_eq!(rt; (up.advance(&arena), down.advance(&arena)), (None, None));
-    assert_eq!(rt;
-        (arena.insert_reallocating(3)?, arena.insert_reallocating(1)?),
-        (p0(3, 4), p0(1, 4))
-    );
-    assert_eq!(rt;
-        (up.advance(&arena), down.advance(&arena)),
-        (Some(p0(3, 4)), Some(p0(1, 4)))
-    );
-    let _ = arena.insert_reallocating(4)?;
-    assert_eq!(rt;
-        (up.advance(&arena), down.advance(&arena)),
-        (Some(p0(4, 4)), None)
-    );
-    assert_eq!(rt; (up.advance(&arena), none.advance(&arena)), (None, None));
+    walks.give(&rt, &arena, None, None);
+    insert_at(&rt, &mut arena, 3, p0(3, 4))?;
+    insert_at(&rt, &mut arena, 1, p0(1, 4))?;
+    walks.give(&rt, &arena, Some(p0(3, 4)), Some(p0(1, 4)));
+    insert_at(&rt, &mut arena, 4, p0(4, 4))?;
+    walks.give(&rt, &arena, Some(p0(4, 4)), None);
+    walks.give(&rt, &arena, None, None);
+    Ok(())
+}
+
+#[test]
+fn an_empty_walk_gives_nothing(rt: HostRuntime) -> Result<(), Fail> {
+    let empty: Arena<P0, u64> = Arena::new(rt.alloc());
+    let mut arena: Arena<P0, u64> = Arena::new(rt.alloc());
+    insert_at(&rt, &mut arena, 0, p0(1, 2))?;
+    let mut none: PtrAdvancer<P0> = Advancer::<Arena<P0, u64>>::empty();
+    assert_eq!(rt; none.advance(&arena), None);
     assert!(rt; gives_nothing::<Arena<P0, u64>, PtrAdvancer<P0>>(&empty, &arena));
     Ok(())
 }

@@ -13,7 +13,7 @@ mod removal;
 mod slots;
 mod walks;
 
-use crate::{OrdEntryKind, OrdInsertionError, OrdPair, SimpleOrdArena, SimpleOrdItem, laws};
+use triple_ord::{OrdEntryKind, OrdInsertionError, OrdPair, SimpleOrdArena, SimpleOrdItem, laws};
 use arena_base::{P0, P8, PN, Ptr};
 use linked_list_allocator::LocalHeap;
 use std::alloc::{AllocError, Allocator, Global};

@@ -1,7 +1,7 @@
 // Chains as a program makes them.
 ghost use Rattle.std.specs.Prelude.{[], ◌≡◌};
 
-use crate::{ChainArena, ChainPtrAdvancer, LinkInsertKind, LinkNoGen};
+use chain_base::{ChainArena, ChainPtrAdvancer, LinkInsertKind, LinkNoGen};
 use arena_base::{
     Advancer, InsertionError, InvalidationOption, InvalidationResult, P0, P8, PN, Ptr,
     ReallocationError,

@@ -1,5 +1,5 @@
 //! Each call's answer over five keys, at each kind of pointer and two kinds of items.
-use crate::{OrdInsertionError, OrdPair, SimpleOrdArena, SimpleOrdItem};
+use triple_ord::{OrdInsertionError, OrdPair, SimpleOrdArena, SimpleOrdItem};
 use arena_base::{P0, P8, PN, Ptr, PtrGen, PtrInx};
 use std::alloc::{AllocError, Global};
 use std::cmp::Ordering;

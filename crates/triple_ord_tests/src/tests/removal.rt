@@ -1,6 +1,6 @@
 //! Removals, seen through the nodes.
 use super::{Keys, keys, numbers, order, ranks};
-use crate::{OrdInsertionError, OrdPair, SimpleOrdArena};
+use triple_ord::{OrdInsertionError, OrdPair, SimpleOrdArena};
 use arena_base::{InvalidationOption, InvalidationResult, P0, P8, Ptr};
 use linked_list_allocator::LocalHeap;
 use std::alloc::{AllocError, Allocator, Global};
