@@ -43,8 +43,10 @@ impl<P: Ptr, T, A: Allocator> ChainArena<P, T, A> {
     /// It is refused where `n` is beyond the maximum or the greatest index, or where the capacity would grow and memory is
     /// refused. Nothing changes then.
     pub fn reallocate_min_capacity(&mut self, n: usize) -> Result<(), ReallocationError>
-        ensures ok { OnOk result (self.new ≡ with_capacity self.old (max n (greatest_index self.old.entries))) }
-        ensures beyond { (result ≡ Err ReallocationError.BeyondMaxCapacity) ↔ (chain_limit P.Inx.most self.old < n) }
+        ensures ok { OnOk result
+            (self.new ≡ with_capacity self.old (max n (greatest_index self.old.entries))) }
+        ensures beyond { (result ≡ Err ReallocationError.BeyondMaxCapacity)
+            ↔ (chain_limit P.Inx.most self.old < n) }
         ensures memory { result ≡ Err ReallocationError.AllocError → self.old.capacity < n }
         ensures err { OnErr result (self.new ≡ self.old) }
     {
