@@ -26,7 +26,8 @@ impl<P: Ptr, T, A: Allocator> OrdTree<P, T, A> {
     pub fn with_min_capacity(alloc: A, n: usize) -> Result<Self, AllocError>
     where
         A: Copy,
-        ensures ok { IfOk result (λ t. t ≡ record { list = with_capacity (new_chain P.Gen.greatest) n; shape = missing }) }
+        ensures ok { IfOk result
+            (λ t. t ≡ record { list = with_capacity (new_chain P.Gen.greatest) n; shape = missing }) }
         ensures beyond { P.Inx.most < n → IsErr result }
         ensures none { n ≡ 0 → IsOk result }
     {
@@ -44,7 +45,8 @@ impl<P: Ptr, T, A: Allocator> OrdTree<P, T, A> {
         ensures ok { OnOk result (self.new ≡ record self.old {
           list = with_capacity self.old.list (max n (greatest_index self.old.list.entries));
         }) }
-        ensures beyond { (result ≡ Err ReallocationError.BeyondMaxCapacity) ↔ (chain_limit P.Inx.most self.old.list < n) }
+        ensures beyond { (result ≡ Err ReallocationError.BeyondMaxCapacity)
+            ↔ (chain_limit P.Inx.most self.old.list < n) }
         ensures memory { result ≡ Err ReallocationError.AllocError → self.old.list.capacity < n }
         ensures err { OnErr result (self.new ≡ self.old) }
     {
@@ -53,7 +55,8 @@ impl<P: Ptr, T, A: Allocator> OrdTree<P, T, A> {
 
     /// Sets a maximum of the capacity. It is refused where the capacity is already greater, and nothing changes then.
     pub fn set_max_capacity(&mut self, n: usize) -> Result<(), MaxCapacityReductionError>
-        ensures ok { OnOk result (self.new ≡ record self.old { list = record self.old.list { maximum = Some n } }) }
+        ensures ok { OnOk result
+            (self.new ≡ record self.old { list = record self.old.list { maximum = Some n } }) }
         ensures refused { IsErr result ↔ (n < self.old.list.capacity) }
         ensures err { OnErr result (self.new ≡ self.old) }
     {

@@ -37,7 +37,8 @@ impl<P: Ptr, T, A: Allocator> OrdTree<P, T, A> {
         ensures after { IsCompression P.index P.era F.step
             (compressed_generation P.Gen.greatest reset self.old.list.generation) f self.old.list self.new.list }
         ensures shape { IsRebuilt self.new.shape }
-        ensures overflow { is_overflow result ≡ compression_overflows P.Gen.greatest reset self.old.list.generation }
+        ensures overflow { is_overflow result
+            ≡ compression_overflows P.Gen.greatest reset self.old.list.generation }
     {
         let map = MapNode { map: Calls { f } };
         let overflow = self.chain.compress_by(reset, map);
@@ -50,7 +51,8 @@ impl<P: Ptr, T, A: Allocator> OrdTree<P, T, A> {
         ensures after { self.new.list ≡ relocated self.old.list
             (compressed_generation P.Gen.greatest reset self.old.list.generation) }
         ensures shape { IsRebuilt self.new.shape }
-        ensures overflow { is_overflow result ≡ compression_overflows P.Gen.greatest reset self.old.list.generation }
+        ensures overflow { is_overflow result
+            ≡ compression_overflows P.Gen.greatest reset self.old.list.generation }
     {
         let overflow = self.chain.compress(reset);
         rebuild_over(&mut self.chain, &mut self.root);
@@ -65,7 +67,8 @@ impl<P: Ptr, T, A: Allocator> OrdTree<P, T, A> {
         ensures after { self.new.list ≡ canonical self.old.list
             (compressed_generation P.Gen.greatest reset self.old.list.generation) }
         ensures shape { IsRebuilt self.new.shape }
-        ensures overflow { is_overflow result ≡ compression_overflows P.Gen.greatest reset self.old.list.generation }
+        ensures overflow { is_overflow result
+            ≡ compression_overflows P.Gen.greatest reset self.old.list.generation }
     {
         let overflow = self.chain.compress_canonical(reset);
         rebuild_over(&mut self.chain, &mut self.root);
