@@ -1,18 +1,18 @@
 -- What the calls of a chain arena owe: from what the arena's calls ensure to the step on the list.
-use Rattle.std.proofs.Common.{◌≡◌, ◌≢◌, ℕ, zero, suc, ◌+◌, ◌-◌, ◌<◌, ◌≤◌, Bool, true, false, List, [], ◌∷◌, ◌++◌, length, Option, Some, None, IsSome, is_some, refl, sym, ap, subst, ◌∙◌, arith, if◌then◌else◌, inl, inr, ◌⊎◌, get_or, max, OnSome, IfNone, IfSome, Result, Ok, Err, OnOk, OnErr, slice_get, length-set}
+use Rattle.std.proofs.Common.{◌≡◌, ◌≢◌, ℕ, zero, suc, ◌+◌, ◌-◌, ◌<◌, ◌≤◌, List, [], ◌∷◌, ◌++◌, length, Option, Some, None, IsSome, is_some, refl, sym, ap, subst, ◌∙◌, arith, if◌then◌else◌, inl, inr, ◌⊎◌, get_or, max, OnSome, IfNone, IfSome, Result, Ok, Err, OnOk, OnErr, length-set}
 use Rattle.std.proofs.lemmas.Bool.Decides.{eqb_tells}
 use Rattle.std.specs.Option.{option_map}
-use Rattle.arena_base.specs.Arena.{Arena, slot, with_entry_at, arena_capacity, limit_of, new_arena, with_capacity as arena_with_capacity, with_room as arena_with_room, without as arena_without, renewed as arena_renewed, greatest_occupied, IsSound as IsSoundArena, IsInsertion as IsArenaInsertion}
+use Rattle.arena_base.specs.Arena.{Arena, slot, with_entry_at, arena_capacity, limit_of, new_arena, with_capacity as arena_with_capacity, without as arena_without, renewed as arena_renewed, greatest_occupied, IsSound as IsSoundArena, IsInsertion as IsArenaInsertion}
 use Rattle.arena_base.specs.Pointer.{named_of}
 use Rattle.chain_base.specs.Link.{Link}
-use Rattle.chain_base.specs.Chain.{Entry, Chain, times, first_or, last_or, link_at, new_chain, with_capacity, with_room, grown_capacity, greatest_index, renewed}
-use Rattle.chain_base.specs.Insert.{IsInsertion, IsPlace}
+use Rattle.chain_base.specs.Chain.{Entry, times, first_or, last_or, link_at, new_chain, with_capacity, greatest_index, renewed}
+use Rattle.chain_base.specs.Insert.{IsPlace}
 use Rattle.chain_base.specs.Layout.{chain_of, linked_next, linked_prev, IsLaidOut}
 use Rattle.chain_base.proofs.Lists.{times-append, times-here, times-last, times-first, times-unlinked, other_index, Stands, Stands-occurs}
 use Rattle.chain_base.proofs.LaidOut.{slot-filled, slot-emptied, slot-within, slot-laid_out}
 use Rattle.chain_base.proofs.Vacancy.{below-greatest, greatest-links}
 use Rattle.chain_base.proofs.Sound.{occupied-within}
-use Rattle.chain_base.proofs.Steps.{next-first, occurs-held, Inserts, Inserts-joined, Rooms, Rooms-roomed, Removes, Removes-joined, Renews-at, IsLaidOut-walked, IsLaidOut-resized, chain_of-resized}
+use Rattle.chain_base.proofs.Steps.{next-first, occurs-held, Inserts, Inserts-joined, Removes, Removes-joined, Renews-at, IsLaidOut-walked, IsLaidOut-resized, chain_of-resized}
 
 -- an index within reach names what it says
 pub named_of-within : (most : ℕ) (o : Option ℕ) → ((k : ℕ) → o ≡ Some k → k ≤ most) → named_of most o ≡ o
@@ -163,47 +163,6 @@ module _ {T : Type 0} where
         let size = max n (greatest_occupied a.slots) in
         let same : size ≡ max n (greatest_index (chain_of a first).entries) = ap (max n) (greatest-links a.slots (chain_of a first).entries laid.links) in
         rw ok (chain_of-resized a first last size (λ k far. beyond-greatest n k _ refl far) laid ∙ ap (with_capacity (chain_of a first)) same)
-
-  -- what an insertion into a chain that grew first says of the chain as it was
-  with_room-entries : (most : ℕ) (c : Chain T) → (with_room most c).entries ≡ c.entries
-  with_room-entries most c = chosen (is_some (slice_get c.vacant 0))
-    where
-      chosen : (b : Bool) → (if b then c else with_capacity c (grown_capacity most c)).entries ≡ c.entries
-      chosen true = refl
-      chosen false = refl
-
-  -- what the arena made room for, before the insertion
-  module _ (most : ℕ) (a : Arena (Link T)) (first last : Option ℕ) (laid : IsLaidOut a.slots first last (chain_of a first).entries) (a1 : Arena (Link T)) (link : Link T) (j g : ℕ) (room : arena_capacity a ≤ arena_capacity a1) (ins : IsArenaInsertion (arena_with_room most a) a1 link j g) where
-    roomy : arena_capacity a ≤ arena_capacity (arena_with_room most a)
-    roomy =
-        let before : Arena (Link T) = arena_with_room most a in
-        let head = next-first before.vacant j ins.next in
-        let after : a1 ≡ with_entry_at before (j ∷ head.0) link = ins.after ∙ ap (λ is. with_entry_at before is link) head.1 in
-        let size : arena_capacity a1 ≡ arena_capacity before = ap arena_capacity after ∙ ap (λ n. n - 1) (length-set before.slots j _) in
-        omega arith
-
-    rooms : Rooms a (arena_with_room most a) (with_room most (chain_of a first)) first last
-    rooms = Rooms-roomed most a first last roomy laid
-
-    same-entries : (chain_of a first).entries ≡ (chain_of (arena_with_room most a) first).entries
-    same-entries = sym (ap (λ c. c.entries) rooms.chain ∙ with_room-entries most (chain_of a first))
-
-    module _ (place : Entry T → List (Entry T)) (prev next : Option ℕ) (at : IsPlace (chain_of a first).entries place prev next) where
-      at-roomed : IsPlace (chain_of (arena_with_room most a) first).entries place prev next
-      at-roomed = subst (λ (es : List (Entry T)). IsPlace es place prev next) same-entries at
-
-      pub prev-held_roomed : (k : ℕ) → prev ≡ Some k → IsSome (slot a1 k)
-      prev-held_roomed k is = prev-held (arena_with_room most a) first last rooms.laid a1 link j g place prev next at-roomed ins k is
-
-      pub next-held_roomed : (k : ℕ) → next ≡ Some k → IsSome (slot a1 k)
-      next-held_roomed k is = next-held (arena_with_room most a) first last rooms.laid a1 link j g place prev next at-roomed ins k is
-
-      pub Inserts-roomed : (greatest : Option ℕ) (b : Arena (Link T)) (first2 last2 : Option ℕ) (item : T) → link.item ≡ item → link.prev ≡ named_of most prev → link.next ≡ named_of most next → IsSoundArena most greatest a1 → b ≡ linked_prev (linked_next a1 prev (named_of most (Some j))) next (named_of most (Some j)) → first2 ≡ (if is_some prev then first else Some j) → last2 ≡ (if is_some next then last else Some j) → Inserts (arena_with_room most a) b first first2 last2 place item j g
-      Inserts-roomed greatest b first2 last2 item item_is prev_is next_is sound joined first_is last_is =
-          Inserts-linked (arena_with_room most a) first last rooms.laid most greatest a1 b first2 last2 place prev next link item j g at-roomed item_is prev_is next_is ins sound joined first_is last_is
-
-      pub IsInsertion-roomed : (b : Arena (Link T)) (first2 last2 : Option ℕ) (item : T) → Inserts (arena_with_room most a) b first first2 last2 place item j g → IsInsertion (with_room most (chain_of a first)) (chain_of b first2) place item j g
-      IsInsertion-roomed b first2 last2 item inserts = subst (λ (c : Chain T). IsInsertion c (chain_of b first2) place item j g) rooms.chain inserts.insertion
 
   -- an arena without entries
   new-laid_out : (greatest : Option ℕ) → IsLaidOut {T = T} (new_arena greatest).slots None None []

@@ -1,12 +1,12 @@
 -- What each call does to the chain that lies in the arena.
-use Rattle.std.proofs.Common.{◌≡◌, ℕ, zero, suc, ◌+◌, ◌-◌, ◌<◌, ◌≤◌, Bool, true, false, List, [], ◌∷◌, ◌++◌, length, Option, Some, None, IsSome, is_some, refl, sym, ap, subst, ◌∙◌, arith, if◌then◌else◌, inl, inr, get_or, set, slice_get, length-set, replicate}
+use Rattle.std.proofs.Common.{◌≡◌, ℕ, zero, suc, ◌+◌, ◌-◌, ◌<◌, ◌≤◌, true, List, [], ◌∷◌, ◌++◌, length, Option, Some, None, IsSome, is_some, refl, sym, ap, subst, ◌∙◌, arith, if◌then◌else◌, inl, inr, get_or, set, slice_get, length-set, replicate}
 use Rattle.std.proofs.lemmas.Bool.Decides.{eqb_tells}
-use Rattle.std.proofs.lemmas.List.{length-replicate, get_or_past}
+use Rattle.std.proofs.lemmas.List.{length-replicate}
 use Rattle.std.specs.Option.{option_map}
 use Rattle.arena_base.specs.Generation.{next_generation}
-use Rattle.arena_base.specs.Arena.{Arena, slot, with_entry_at, arena_capacity, next_index as next_slot, with_capacity as arena_with_capacity, with_room as arena_with_room, grown_capacity as arena_grown, without as arena_without, renewed as arena_renewed, cleared as arena_cleared, resized, vacant_from, vacant_indexes as slots_vacant, IsInsertion as IsArenaInsertion}
+use Rattle.arena_base.specs.Arena.{Arena, slot, with_entry_at, arena_capacity, with_capacity as arena_with_capacity, without as arena_without, renewed as arena_renewed, cleared as arena_cleared, resized, vacant_from, vacant_indexes as slots_vacant, IsInsertion as IsArenaInsertion}
 use Rattle.chain_base.specs.Link.{Link}
-use Rattle.chain_base.specs.Chain.{Entry, Chain, times, first_or, last_or, link_at, IsOccupied, inserted_at, with_capacity, with_room, vacant_indexes, without, removed, renewed, cleared, with_item_at}
+use Rattle.chain_base.specs.Chain.{Entry, Chain, times, first_or, last_or, link_at, IsOccupied, inserted_at, with_capacity, vacant_indexes, without, removed, renewed, cleared, with_item_at}
 use Rattle.chain_base.specs.Insert.{IsInsertion, IsPlace}
 use Rattle.chain_base.specs.Layout.{chain_of, rewritten, with_next, with_prev, linked_next, linked_prev, IsLaidOut}
 use Rattle.chain_base.proofs.Lists.{link_between-absent, entry_at-link, last_or-append, Stands, Stands-occurs, without-split}
@@ -182,24 +182,6 @@ module _ {T : Type 0} where
       let size : length (resized (n + 1) a.slots) - 1 ≡ n = omega (arith, length-resized (n + 1) a.slots) in
       chain_of-laid_out (arena_with_capacity a n) first last (with_capacity (chain_of a first) n) laid2 size
       (vacant-links (resized (n + 1) a.slots) es laid2.links ∙ ap (vacant_indexes es) size) refl refl
-
-  -- a chain that has grown, where it had no vacant slot
-  pub record Rooms (a b : Arena (Link T)) (c : Chain T) (first last : Option ℕ) : Type 0 where
-    pub laid : IsLaidOut b.slots first last (chain_of b first).entries
-    pub chain : chain_of b first ≡ c
-
-  Rooms-chosen : (has_room : Bool) (n : ℕ) (a : Arena (Link T)) (first last : Option ℕ) → arena_capacity a ≤ arena_capacity (if has_room then a else arena_with_capacity a n) → IsLaidOut a.slots first last (chain_of a first).entries → Rooms a (if has_room then a else arena_with_capacity a n) (if has_room then chain_of a first else with_capacity (chain_of a first) n) first last
-  Rooms-chosen true n a first last room laid = record { laid = laid; chain = refl }
-  Rooms-chosen false n a first last room laid =
-      let size = length-resized (n + 1) a.slots in
-      let beyond : (k : ℕ) → n < k → slot a k ≡ None = λ k far. get_or_past a.slots k None (omega arith) in
-      record {
-        laid = IsLaidOut-walked (arena_with_capacity a n) first last _ (IsLaidOut-resized a first last _ n beyond laid);
-        chain = chain_of-resized a first last n beyond laid;
-      }
-
-  pub Rooms-roomed : (most : ℕ) (a : Arena (Link T)) (first last : Option ℕ) → arena_capacity a ≤ arena_capacity (arena_with_room most a) → IsLaidOut a.slots first last (chain_of a first).entries → Rooms a (arena_with_room most a) (with_room most (chain_of a first)) first last
-  Rooms-roomed most a first last room laid = Rooms-chosen (is_some (next_slot a)) (arena_grown most a) a first last room laid
 
   -- a chain that is cleared
   pub IsLaidOut-cleared : (n : ℕ) → IsLaidOut {T = T} (replicate n None) None None []

@@ -76,22 +76,8 @@ impl<P: Ptr, T: Drop, A: Allocator> ChainArena<P, T, A> {
         ensures room { self.old.capacity ≤ self.new.capacity }
         ensures err { OnErr result (self.new ≡ self.old) }
     {
-        let (prev, next) = self.neighbours(kind);
-        let p = self
-            .arena
-            .insert_reallocating(LinkNoGen::new((prev, next), t))?;
-        let new = Some(p.inx());
-        let ends = relink(
-            &mut self.arena,
-            prev,
-            new,
-            new,
-            next,
-            (self.first, self.last),
-        );
-        self.first = ends.0;
-        self.last = ends.1;
-        Ok(p)
+        self.make_room()?;
+        self.insert_within_capacity(kind, t)
     }
 
     // The neighbours of a new entry.
