@@ -75,17 +75,8 @@ impl<P: Ptr, T: Drop, A: Allocator> OrdTree<P, T, A> {
             (λ e. (e ≡ InsertionError.BeyondMaxCapacity) ⊎ (e ≡ InsertionError.AllocError)) }
         ensures err { OnErr result (self.new ≡ self.old) }
     {
-        let place = place_at(&self.chain, at);
-        let node = SimpleOrdArenaNode::leaf(parent_in(place), t);
-        let p = self.chain.insert_reallocating(kind_of(at), node)?;
-        prove!(self.chain.len() <= self.chain.capacity());
-        grow(
-            &mut self.chain,
-            &mut self.root,
-            place,
-            NodeInx::new(p.inx()),
-        );
-        Ok(p)
+        self.make_room()?;
+        self.insert_within_capacity(at, t)
     }
 }
 
