@@ -5,19 +5,23 @@ use Rattle.std.proofs.lemmas.Option.{slice_get_cases, slice_get_within, get_or_f
 use Rattle.std.specs.Option.{option_map}
 use Rattle.chain_base.specs.Chain.{Entry, times, IsDistinct, entry_at, without, with_item, with_generation}
 use Rattle.chain_base.specs.Compression.{lesser, place_of, moved, at_place, numbered}
-use Rattle.chain_base.proofs.Lists.{times-here}
+use Rattle.chain_base.proofs.Lists.{times-here, with_item-changed_at, with_generation-changed_at, entry_at-changed_at_other, entry_at-changed_at, length-changed_at}
 use Rattle.chain_base.proofs.Canonical.{entry-absent}
 use Rattle.chain_base.proofs.Ranking.{place-injective}
 use Rattle.chain_base.proofs.Renumbering.{times-source}
 -- the steps of a transfer, told of other items
 pub use Rattle.chain_base.proofs.Transferring.{steps-retold}
 -- a list in two parts
-pub use Rattle.chain_base.proofs.Lists.{option_or-none, times-append, last_or-append, link_between-append, link_between-absent}
+pub use Rattle.chain_base.proofs.Lists.{option_or-none, times-append, entry_at-split, last_or-append, link_between-append, link_between-absent}
+-- an entry is its link without the neighbours
+pub use Rattle.chain_base.proofs.Lists.{entry_at-link}
 -- the places of indexes by rising index
 pub use Rattle.chain_base.proofs.Ranking.{lesser-zero, lesser-next, compressed-at, compressed-length, length-entries}
 pub use Rattle.chain_base.proofs.Canonical.{occurs-entry}
 -- the greatest index with an entry
 pub use Rattle.chain_base.proofs.Vacancy.{below-greatest, greatest-or_none, times-greatest, below-greatest_index}
+-- a growth keeps the entries, an insertion the capacity
+pub use Rattle.chain_base.proofs.Room.{with_room-entries, inserted-capacity}
 -- entries at their places by rising index have the items that they had
 pub use Rattle.chain_base.proofs.Canonical.{relocated-items}
 
@@ -70,61 +74,25 @@ module _ {T : Type 0} where
 
   -- with another item at an index, every other index finds what it found
   pub entry_at-with_item_other : (es : List (Entry T)) (i j : ℕ) (item : T) → j ≢ i → entry_at (with_item es i item) j ≡ entry_at es j
-  entry_at-with_item_other [] i j item other = refl
-  entry_at-with_item_other (e ∷ es) i j item other = elim (eqb_tells e.index i) [
-    | inl h ↦ elim (eqb_tells e.index j) [
-      | inl same ↦ absurd (other (sym same.1 ∙ h.1))
-      | inr apart ↦ rw (h.0, apart.0) refl
-    ]
-    | inr h ↦ elim (eqb_tells e.index j) [
-      | inl same ↦ rw (h.0, same.0) refl
-      | inr apart ↦ rw (h.0, apart.0) (entry_at-with_item_other es i j item other)
-    ]
-  ]
+  entry_at-with_item_other es i j item other = rw (with_item-changed_at es i item) (entry_at-changed_at_other (λ p. (p.0, item)) es i j other)
 
   -- and the index itself finds the new item, under the generation that it had
   pub entry_at-with_item : (es : List (Entry T)) (i : ℕ) (item : T) → entry_at (with_item es i item) i ≡ option_map (λ e. (e.0, item)) (entry_at es i)
-  entry_at-with_item [] i item = refl
-  entry_at-with_item (e ∷ es) i item = elim (eqb_tells e.index i) [
-    | inl h ↦ rw (h.0, h.0) refl
-    | inr h ↦ rw (h.0, h.0) (entry_at-with_item es i item)
-  ]
+  entry_at-with_item es i item = rw (with_item-changed_at es i item) (entry_at-changed_at (λ p. (p.0, item)) es i)
 
   pub length-with_item : (es : List (Entry T)) (i : ℕ) (item : T) → length (with_item es i item) ≡ length es
-  length-with_item [] i item = refl
-  length-with_item (e ∷ es) i item = elim (eqb_tells e.index i) [
-    | inl h ↦ rw h.0 refl
-    | inr h ↦ rw h.0 (ap suc (length-with_item es i item))
-  ]
+  length-with_item es i item = rw (with_item-changed_at es i item) (length-changed_at (λ p. (p.0, item)) es i)
 
   -- with another generation at an index, every other index finds what it found
   pub entry_at-with_generation_other : (es : List (Entry T)) (i j g : ℕ) → j ≢ i → entry_at (with_generation es i g) j ≡ entry_at es j
-  entry_at-with_generation_other [] i j g other = refl
-  entry_at-with_generation_other (e ∷ es) i j g other = elim (eqb_tells e.index i) [
-    | inl h ↦ elim (eqb_tells e.index j) [
-      | inl same ↦ absurd (other (sym same.1 ∙ h.1))
-      | inr apart ↦ rw (h.0, apart.0) refl
-    ]
-    | inr h ↦ elim (eqb_tells e.index j) [
-      | inl same ↦ rw (h.0, same.0) refl
-      | inr apart ↦ rw (h.0, apart.0) (entry_at-with_generation_other es i j g other)
-    ]
-  ]
+  entry_at-with_generation_other es i j g other = rw (with_generation-changed_at es i g) (entry_at-changed_at_other (λ p. (g, p.1)) es i j other)
 
   -- and the index itself finds its item, under the new generation
   pub entry_at-with_generation : (es : List (Entry T)) (i g : ℕ) → entry_at (with_generation es i g) i ≡ option_map (λ e. (g, e.1)) (entry_at es i)
-  entry_at-with_generation [] i g = refl
-  entry_at-with_generation (e ∷ es) i g = elim (eqb_tells e.index i) [
-    | inl h ↦ rw (h.0, h.0) refl
-    | inr h ↦ rw (h.0, h.0) (entry_at-with_generation es i g)
-  ]
+  entry_at-with_generation es i g = rw (with_generation-changed_at es i g) (entry_at-changed_at (λ p. (g, p.1)) es i)
 
   pub length-with_generation : (es : List (Entry T)) (i g : ℕ) → length (with_generation es i g) ≡ length es
-  length-with_generation [] i g = refl
-  length-with_generation (e ∷ es) i g = elim (eqb_tells e.index i) [
-    | inl h ↦ rw h.0 refl
-    | inr h ↦ rw h.0 (ap suc (length-with_generation es i g))
-  ]
+  length-with_generation es i g = rw (with_generation-changed_at es i g) (length-changed_at (λ p. (g, p.1)) es i)
 
   -- with a new entry between two stretches, every other index finds what it found
   pub entry_at-between_other : (front : List (Entry T)) (new : Entry T) (back : List (Entry T)) (j : ℕ) → j ≢ new.index → entry_at (front ++ new ∷ back) j ≡ entry_at (front ++ back) j

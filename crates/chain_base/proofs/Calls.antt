@@ -1,18 +1,19 @@
 -- What the calls of a chain arena owe: from what the arena's calls ensure to the step on the list.
-use Rattle.std.proofs.Common.{◌≡◌, ◌≢◌, ℕ, zero, suc, ◌+◌, ◌-◌, ◌<◌, ◌≤◌, Bool, true, false, List, [], ◌∷◌, ◌++◌, length, Option, Some, None, IsSome, is_some, refl, sym, ap, subst, ◌∙◌, arith, if◌then◌else◌, inl, inr, ◌⊎◌, get_or, max, OnSome, IfNone, IfSome, Result, Ok, Err, OnOk, OnErr, slice_get, length-set}
+use Rattle.std.proofs.Common.{◌≡◌, ◌≢◌, ℕ, zero, suc, ◌+◌, ◌-◌, ◌<◌, ◌≤◌, List, [], ◌∷◌, ◌++◌, length, Option, Some, None, IsSome, refl, sym, ap, subst, ◌∙◌, arith, inl, inr, ◌⊎◌, get_or, max, OnSome, IfNone, IfSome, Result, Ok, Err, OnOk, OnErr, length-set}
 use Rattle.std.proofs.lemmas.Bool.Decides.{eqb_tells}
 use Rattle.std.specs.Option.{option_map}
-use Rattle.arena_base.specs.Arena.{Arena, slot, with_entry_at, arena_capacity, limit_of, new_arena, with_capacity as arena_with_capacity, with_room as arena_with_room, without as arena_without, renewed as arena_renewed, greatest_occupied, IsSound as IsSoundArena, IsInsertion as IsArenaInsertion}
+use Rattle.arena_base.specs.Arena.{Arena, slot, with_entry_at, arena_capacity, new_arena, with_capacity as arena_with_capacity, without as arena_without, renewed as arena_renewed, greatest_occupied, IsSound as IsSoundArena, IsInsertion as IsArenaInsertion}
 use Rattle.arena_base.specs.Pointer.{named_of}
 use Rattle.chain_base.specs.Link.{Link}
-use Rattle.chain_base.specs.Chain.{Entry, Chain, times, first_or, last_or, link_at, new_chain, with_capacity, with_room, grown_capacity, greatest_index, renewed}
-use Rattle.chain_base.specs.Insert.{IsInsertion, IsPlace}
-use Rattle.chain_base.specs.Layout.{chain_of, linked_next, linked_prev, IsLaidOut}
+use Rattle.chain_base.specs.Chain.{Entry, times, first_or, last_or, link_at, new_chain, with_capacity, greatest_index, renewed}
+use Rattle.chain_base.specs.Insert.{IsPlace}
+use Rattle.chain_base.specs.Layout.{chain_of, IsLaidOut}
 use Rattle.chain_base.proofs.Lists.{times-append, times-here, times-last, times-first, times-unlinked, other_index, Stands, Stands-occurs}
-use Rattle.chain_base.proofs.LaidOut.{slot-filled, slot-emptied, slot-within, slot-laid_out}
+use Rattle.arena_base.proofs.CallerLemmas.{limit_of-below}
+use Rattle.chain_base.proofs.LaidOut.{bridged, end_beside, slot-filled, slot-emptied, slot-within, slot-laid_out}
 use Rattle.chain_base.proofs.Vacancy.{below-greatest, greatest-links}
 use Rattle.chain_base.proofs.Sound.{occupied-within}
-use Rattle.chain_base.proofs.Steps.{next-first, occurs-held, Inserts, Inserts-joined, Rooms, Rooms-roomed, Removes, Removes-joined, Renews-at, IsLaidOut-walked, IsLaidOut-resized, chain_of-resized}
+use Rattle.chain_base.proofs.Steps.{next-first, occurs-held, Inserts, Inserts-joined, Removes, Removes-joined, Renews-at, IsLaidOut-walked, IsLaidOut-resized, chain_of-resized}
 
 -- an index within reach names what it says
 pub named_of-within : (most : ℕ) (o : Option ℕ) → ((k : ℕ) → o ≡ Some k → k ≤ most) → named_of most o ≡ o
@@ -20,11 +21,6 @@ named_of-within most None within = refl
 named_of-within most (Some k) within =
     let far : k ≢ most + 1 = λ same. omega (arith, within k refl) in
     rw (other_index k (most + 1) far) refl
-
--- a limit is within what pointers can name
-limit_of-most : (most : ℕ) (maximum : Option ℕ) → limit_of most maximum ≤ most
-limit_of-most most None = omega arith
-limit_of-most most (Some m) = omega arith
 
 -- a fact that is owed where a value is there
 pub on_some : {A B : Type 0} {P : Type 0} (f : A → B) (o : Option A) (p : Option B) (x : B) → option_map f o ≡ p → p ≡ Some x → OnSome o P → P
@@ -66,34 +62,41 @@ module _ {T : Type 0} where
         let there = times-first at.back k (sym at.next_is ∙ is) in
         rw at.split (omega (arith, times-append k at.front at.back, there))
 
-    -- the neighbours of a place have entries after an insertion too
-    pub prev-held : (a1 : Arena (Link T)) (link : Link T) (j g : ℕ) (place : Entry T → List (Entry T)) (prev next : Option ℕ) → IsPlace (chain_of a first).entries place prev next → IsArenaInsertion a a1 link j g → (k : ℕ) → prev ≡ Some k → IsSome (slot a1 k)
-    prev-held a1 link j g place prev next at ins k is =
-        held-inserted a a1 link j g ins k (held-occurs a (chain_of a first).entries k _ refl (laid.links k) (prev-occurs place prev next at k is))
+    -- an insertion into the arena, for an entry beside these two neighbours
+    module _ (a1 : Arena (Link T)) (link : Link T) (j g : ℕ) (ins : IsArenaInsertion a a1 link j g)
+        (place : Entry T → List (Entry T)) (prev next : Option ℕ) (at : IsPlace (chain_of a first).entries place prev next) where
+      -- the neighbours have entries after it too
+      pub prev-held : (k : ℕ) → prev ≡ Some k → IsSome (slot a1 k)
+      prev-held k is = held-inserted a a1 link j g ins k (held-occurs a (chain_of a first).entries k _ refl (laid.links k) (prev-occurs place prev next at k is))
 
-    pub next-held : (a1 : Arena (Link T)) (link : Link T) (j g : ℕ) (place : Entry T → List (Entry T)) (prev next : Option ℕ) → IsPlace (chain_of a first).entries place prev next → IsArenaInsertion a a1 link j g → (k : ℕ) → next ≡ Some k → IsSome (slot a1 k)
-    next-held a1 link j g place prev next at ins k is =
-        held-inserted a a1 link j g ins k (held-occurs a (chain_of a first).entries k _ refl (laid.links k) (next-occurs place prev next at k is))
+      pub next-held : (k : ℕ) → next ≡ Some k → IsSome (slot a1 k)
+      next-held k is = held-inserted a a1 link j g ins k (held-occurs a (chain_of a first).entries k _ refl (laid.links k) (next-occurs place prev next at k is))
 
-    -- an index of the list is within reach where the arena after an insertion is sound
-    within-most : (most : ℕ) (greatest : Option ℕ) (a1 : Arena (Link T)) (link : Link T) (j g : ℕ) → IsArenaInsertion a a1 link j g → IsSoundArena most greatest a1 → arena_capacity a ≤ most
-    within-most most greatest a1 link j g ins sound =
-        let head = next-first a.vacant j ins.next in
-        let after : a1 ≡ with_entry_at a (j ∷ head.0) link = ins.after ∙ ap (λ is. with_entry_at a is link) head.1 in
-        let size : arena_capacity a1 ≡ arena_capacity a = ap arena_capacity after ∙ ap (λ n. n - 1) (length-set a.slots j _) in
-        omega (arith, sound.within_limit, limit_of-most most a1.maximum)
+      module _ (most : ℕ) (greatest : Option ℕ) (sound : IsSoundArena most greatest a1) where
+        -- an index of the list is within reach where the arena after an insertion is sound
+        within-most : arena_capacity a ≤ most
+        within-most =
+            let head = next-first a.vacant j ins.next in
+            let after : a1 ≡ with_entry_at a (j ∷ head.0) link = ins.after ∙ ap (λ is. with_entry_at a is link) head.1 in
+            let size : arena_capacity a1 ≡ arena_capacity a = ap arena_capacity after ∙ ap (λ n. n - 1) (length-set a.slots j _) in
+            omega (arith, sound.within_limit, limit_of-below most a1.maximum)
 
-    -- an insertion, from what the arena's insertion and the writes of links ensure
-    pub Inserts-linked : (most : ℕ) (greatest : Option ℕ) (a1 b : Arena (Link T)) (first2 last2 : Option ℕ) (place : Entry T → List (Entry T)) (prev next : Option ℕ) (link : Link T) (item : T) (j g : ℕ) → IsPlace (chain_of a first).entries place prev next → link.item ≡ item → link.prev ≡ named_of most prev → link.next ≡ named_of most next → IsArenaInsertion a a1 link j g → IsSoundArena most greatest a1 → b ≡ linked_prev (linked_next a1 prev (named_of most (Some j))) next (named_of most (Some j)) → first2 ≡ (if is_some prev then first else Some j) → last2 ≡ (if is_some next then last else Some j) → Inserts a b first first2 last2 place item j g
-    Inserts-linked most greatest a1 b first2 last2 place prev next link item j g at item_is prev_is next_is ins sound joined first_is last_is =
-        let room = within-most most greatest a1 link j g ins sound in
-        let es = (chain_of a first).entries in
-        let named_prev : named_of most prev ≡ prev = named_of-within most prev (λ k is. omega (arith, occupied-within a es k _ refl (laid.links k) (prev-occurs place prev next at k is))) in
-        let named_next : named_of most next ≡ next = named_of-within most next (λ k is. omega (arith, occupied-within a es k _ refl (laid.links k) (next-occurs place prev next at k is))) in
-        let named_new : named_of most (Some j) ≡ Some j = named_of-within most (Some j) (λ k is. let same : j ≡ k = cc in omega (arith, ins.vacant.within)) in
-        let whole : link ≡ record { item = item; prev = prev; next = next } = rw (← item_is, ← named_prev, ← named_next, ← prev_is, ← next_is) refl in
-        let ins2 = subst (λ (l : Link T). IsArenaInsertion a a1 l j g) whole ins in
-        rw (joined, first_is, last_is, named_new) (Inserts-joined a a1 first last place prev next item j g laid at ins2)
+        named-occurs : (o : Option ℕ) → ((k : ℕ) → o ≡ Some k → 1 ≤ times k (chain_of a first).entries) → named_of most o ≡ o
+        named-occurs o there =
+            named_of-within most o (λ k is. omega (arith, within-most, occupied-within a (chain_of a first).entries k _ refl (laid.links k) (there k is)))
+
+        -- the chain after it, from what the writes of links ensure
+        pub Inserts-linked : (item : T) → link.item ≡ item → link.prev ≡ named_of most prev → link.next ≡ named_of most next
+            → (b : Arena (Link T)) (first2 last2 : Option ℕ) → b ≡ bridged a1 prev (named_of most (Some j)) next (named_of most (Some j))
+            → first2 ≡ end_beside prev first (Some j) → last2 ≡ end_beside next last (Some j) → Inserts a b first first2 last2 place item j g
+        Inserts-linked item item_is prev_is next_is b first2 last2 joined first_is last_is =
+            let named_prev = named-occurs prev (prev-occurs place prev next at) in
+            let named_next = named-occurs next (next-occurs place prev next at) in
+            let named_new : named_of most (Some j) ≡ Some j
+            = named_of-within most (Some j) (λ k is. let same : j ≡ k = cc in omega (arith, within-most, ins.vacant.within)) in
+            let whole : link ≡ record { item = item; prev = prev; next = next } = rw (← item_is, ← named_prev, ← named_next, ← prev_is, ← next_is) refl in
+            let ins2 = subst (λ (l : Link T). IsArenaInsertion a a1 l j g) whole ins in
+            rw (joined, first_is, last_is, named_new) (Inserts-joined a a1 first last place prev next item j g laid at ins2)
 
     -- the writes of links after a removal find their entries
     module _ (greatest : Option ℕ) (i : ℕ) (e : ℕ × Link T) (held : slot a i ≡ Some e) where
@@ -132,9 +135,13 @@ module _ {T : Type 0} where
           beside-held k s.0 s.1
 
       -- a removal, from what the arena's removal and the writes of links ensure
-      pub Removes-linked : (most : ℕ) (a1 b : Arena (Link T)) (first2 last2 prev next : Option ℕ) → prev ≡ e.1.prev → next ≡ e.1.next → named_of most e.1.prev ≡ e.1.prev → named_of most e.1.next ≡ e.1.next → a1 ≡ arena_without greatest a i → b ≡ linked_prev (linked_next a1 prev (named_of most next)) next (named_of most prev) → first2 ≡ (if is_some prev then first else next) → last2 ≡ (if is_some next then last else prev) → Removes greatest a b first first2 last2 i
-      Removes-linked most a1 b first2 last2 prev next prev_is next_is named_prev named_next without joined first_is last_is =
-          rw (joined, first_is, last_is, without, prev_is, next_is, named_prev, named_next) (Removes-joined greatest a first last i e laid held)
+      module _ (most : ℕ) (prev next : Option ℕ) (prev_is : prev ≡ e.1.prev) (next_is : next ≡ e.1.next)
+          (named_prev : named_of most e.1.prev ≡ e.1.prev) (named_next : named_of most e.1.next ≡ e.1.next) where
+        pub Removes-linked : (a1 b : Arena (Link T)) (first2 last2 : Option ℕ) → a1 ≡ arena_without greatest a i
+            → b ≡ bridged a1 prev (named_of most next) next (named_of most prev)
+            → first2 ≡ end_beside prev first next → last2 ≡ end_beside next last prev → Removes greatest a b first first2 last2 i
+        Removes-linked a1 b first2 last2 without joined first_is last_is =
+            rw (joined, first_is, last_is, without, prev_is, next_is, named_prev, named_next) (Removes-joined greatest a first last i e laid held)
 
     -- a call that renews an entry, or changes nothing
     pub renewed-or_kept : {X : Type 0} (greatest : Option ℕ) (b : Arena (Link T)) (i : ℕ) (o : Option X) → OnSome o (b ≡ arena_renewed greatest a i) → IfNone o (b ≡ a) → IsLaidOut b.slots first last (chain_of b first).entries
@@ -157,53 +164,13 @@ module _ {T : Type 0} where
         let size = max n (greatest_occupied a.slots) in
         rw ok (IsLaidOut-walked (arena_with_capacity a size) first last _ (IsLaidOut-resized a first last _ size (λ k far. beyond-greatest n k _ refl far) laid))
 
-    pub resized-chain : {X E : Type 0} (b : Arena (Link T)) (n : ℕ) (r : Result X E) → OnOk r (b ≡ arena_with_capacity a (max n (greatest_occupied a.slots))) → OnOk r (chain_of b first ≡ with_capacity (chain_of a first) (max n (greatest_index (chain_of a first).entries)))
+    pub resized-chain : {X E : Type 0} (b : Arena (Link T)) (n : ℕ) (r : Result X E) → OnOk r (b ≡ arena_with_capacity a (max n (greatest_occupied a.slots)))
+        → OnOk r (chain_of b first ≡ with_capacity (chain_of a first) (max n (greatest_index (chain_of a first).entries)))
     resized-chain b n (Err e) ok = tt
     resized-chain b n (Ok x) ok =
         let size = max n (greatest_occupied a.slots) in
         let same : size ≡ max n (greatest_index (chain_of a first).entries) = ap (max n) (greatest-links a.slots (chain_of a first).entries laid.links) in
         rw ok (chain_of-resized a first last size (λ k far. beyond-greatest n k _ refl far) laid ∙ ap (with_capacity (chain_of a first)) same)
-
-  -- what an insertion into a chain that grew first says of the chain as it was
-  with_room-entries : (most : ℕ) (c : Chain T) → (with_room most c).entries ≡ c.entries
-  with_room-entries most c = chosen (is_some (slice_get c.vacant 0))
-    where
-      chosen : (b : Bool) → (if b then c else with_capacity c (grown_capacity most c)).entries ≡ c.entries
-      chosen true = refl
-      chosen false = refl
-
-  -- what the arena made room for, before the insertion
-  module _ (most : ℕ) (a : Arena (Link T)) (first last : Option ℕ) (laid : IsLaidOut a.slots first last (chain_of a first).entries) (a1 : Arena (Link T)) (link : Link T) (j g : ℕ) (room : arena_capacity a ≤ arena_capacity a1) (ins : IsArenaInsertion (arena_with_room most a) a1 link j g) where
-    roomy : arena_capacity a ≤ arena_capacity (arena_with_room most a)
-    roomy =
-        let before : Arena (Link T) = arena_with_room most a in
-        let head = next-first before.vacant j ins.next in
-        let after : a1 ≡ with_entry_at before (j ∷ head.0) link = ins.after ∙ ap (λ is. with_entry_at before is link) head.1 in
-        let size : arena_capacity a1 ≡ arena_capacity before = ap arena_capacity after ∙ ap (λ n. n - 1) (length-set before.slots j _) in
-        omega arith
-
-    rooms : Rooms a (arena_with_room most a) (with_room most (chain_of a first)) first last
-    rooms = Rooms-roomed most a first last roomy laid
-
-    same-entries : (chain_of a first).entries ≡ (chain_of (arena_with_room most a) first).entries
-    same-entries = sym (ap (λ c. c.entries) rooms.chain ∙ with_room-entries most (chain_of a first))
-
-    module _ (place : Entry T → List (Entry T)) (prev next : Option ℕ) (at : IsPlace (chain_of a first).entries place prev next) where
-      at-roomed : IsPlace (chain_of (arena_with_room most a) first).entries place prev next
-      at-roomed = subst (λ (es : List (Entry T)). IsPlace es place prev next) same-entries at
-
-      pub prev-held_roomed : (k : ℕ) → prev ≡ Some k → IsSome (slot a1 k)
-      prev-held_roomed k is = prev-held (arena_with_room most a) first last rooms.laid a1 link j g place prev next at-roomed ins k is
-
-      pub next-held_roomed : (k : ℕ) → next ≡ Some k → IsSome (slot a1 k)
-      next-held_roomed k is = next-held (arena_with_room most a) first last rooms.laid a1 link j g place prev next at-roomed ins k is
-
-      pub Inserts-roomed : (greatest : Option ℕ) (b : Arena (Link T)) (first2 last2 : Option ℕ) (item : T) → link.item ≡ item → link.prev ≡ named_of most prev → link.next ≡ named_of most next → IsSoundArena most greatest a1 → b ≡ linked_prev (linked_next a1 prev (named_of most (Some j))) next (named_of most (Some j)) → first2 ≡ (if is_some prev then first else Some j) → last2 ≡ (if is_some next then last else Some j) → Inserts (arena_with_room most a) b first first2 last2 place item j g
-      Inserts-roomed greatest b first2 last2 item item_is prev_is next_is sound joined first_is last_is =
-          Inserts-linked (arena_with_room most a) first last rooms.laid most greatest a1 b first2 last2 place prev next link item j g at-roomed item_is prev_is next_is ins sound joined first_is last_is
-
-      pub IsInsertion-roomed : (b : Arena (Link T)) (first2 last2 : Option ℕ) (item : T) → Inserts (arena_with_room most a) b first first2 last2 place item j g → IsInsertion (with_room most (chain_of a first)) (chain_of b first2) place item j g
-      IsInsertion-roomed b first2 last2 item inserts = subst (λ (c : Chain T). IsInsertion c (chain_of b first2) place item j g) rooms.chain inserts.insertion
 
   -- an arena without entries
   new-laid_out : (greatest : Option ℕ) → IsLaidOut {T = T} (new_arena greatest).slots None None []

@@ -1,16 +1,15 @@
 -- A chain gets its canonical order: once its entries have the least indexes, each in turn is exchanged to that of its place.
-use Rattle.std.proofs.Common.{◌≡◌, ◌≢◌, ℕ, zero, suc, ◌+◌, ◌-◌, ◌<◌, ◌≤◌, ◌==◌, Bool, true, false, List, [], ◌∷◌, ◌++◌, length, map, replicate, slice_get, Option, Some, None, is_some, refl, sym, ap, ◌∙◌, subst, arith, if◌then◌else◌, inl, inr, length-append}
+use Rattle.std.proofs.Common.{◌≡◌, ◌≢◌, ℕ, zero, suc, ◌+◌, ◌-◌, ◌<◌, ◌≤◌, ◌==◌, true, false, List, [], ◌∷◌, ◌++◌, length, map, replicate, slice_get, Option, Some, None, is_some, refl, sym, ap, ◌∙◌, subst, arith, inl, inr, length-append}
 use Rattle.std.proofs.lemmas.Bool.{false≢true}
 use Rattle.std.proofs.lemmas.Bool.Decides.{eqb_tells, leb_tells, nat_tests}
 use Rattle.std.proofs.lemmas.Option.{none-some, same_Some, slice_get-map, get_or_from_slice_get}
 use Rattle.std.proofs.lemmas.List.{map-append, map-id, append_assoc, append-nil, length-map}
 use Rattle.std.specs.Option.{option_map, option_and_then, ForSome}
-use Rattle.chain_base.specs.Link.{Link}
-use Rattle.chain_base.specs.Chain.{Entry, Chain, IsDistinct, IsSound, times, entry_at, first_or, link_at, vacant_among, vacant_indexes}
+use Rattle.chain_base.specs.Chain.{Entry, Chain, IsDistinct, IsSound, times, entry_at, first_or, vacant_among, vacant_indexes}
 use Rattle.chain_base.specs.Walk.{index_after}
-use Rattle.chain_base.specs.Compression.{lesser, place_of, entry_before, rising_among, entries_rising, moved, compressed, at_place, relocated, numbered, canonical, IsCompression}
+use Rattle.chain_base.specs.Compression.{lesser, place_of, entry_before, rising_among, entries_rising, moved, at_place, relocated, numbered, canonical, IsCompression}
 use Rattle.chain_base.specs.Exchange.{exchanged_index, in_exchange, exchanged}
-use Rattle.chain_base.proofs.Lists.{same_index, other_index, times-append, times-here, times-there, times-unlinked, entry_at-absent, entry_at-link, entry_at-split, Stands-occurs}
+use Rattle.chain_base.proofs.Lists.{times-append, times-here, entry_at-absent, entry_at-split, Stands-occurs}
 use Rattle.chain_base.proofs.Renumbering.{link_at-split, times-changed, times-source, distinct-renumbered}
 use Rattle.chain_base.proofs.Ranking.{lesser-zero, lesser-next, lesser-more, lesser-below, place-injective}
 use Rattle.chain_base.proofs.Exchanging.{other-first, other-same, other-twice, other-injective, other-holds}
@@ -196,7 +195,8 @@ module _ {T : Type 0} where
   entry-of : ℕ → ℕ → T → Entry T
   entry-of i g item = record { index = i; generation = g; item = item }
 
-  numbered-push : (g from : ℕ) (xs : List T) (x : T) → numbered g from (xs ++ x ∷ []) ≡ numbered g from xs ++ record { index = from + length xs; generation = g; item = x } ∷ []
+  -- entries numbered in a row, and one more
+  pub numbered-push : (g from : ℕ) (xs : List T) (x : T) → numbered g from (xs ++ x ∷ []) ≡ numbered g from xs ++ record { index = from + length xs; generation = g; item = x } ∷ []
   numbered-push g from [] x = let at : from + 0 ≡ from = omega arith in rw at refl
   numbered-push g from (y ∷ xs) x =
       let at : (from + 1) + length xs ≡ from + suc (length xs) = omega arith in

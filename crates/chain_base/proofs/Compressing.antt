@@ -1,25 +1,23 @@
 -- A chain is compressed: its entries learn their places, the arena is compressed, and the places are linked back.
-use Rattle.std.proofs.Common.{◌≡◌, ◌≢◌, ℕ, zero, suc, ◌+◌, ◌-◌, ◌<◌, ◌≤◌, true, false, List, [], ◌∷◌, ◌++◌, length, map, take, drop, slice_get, Option, Some, None, IsSome, is_some, count_by, cond, get_or, refl, sym, ap, ◌∙◌, subst, arith, inl, inr, add-one}
+use Rattle.std.proofs.Common.{◌≡◌, ◌≢◌, ℕ, zero, suc, ◌+◌, ◌-◌, ◌<◌, ◌≤◌, true, false, List, [], ◌∷◌, ◌++◌, length, map, take, slice_get, Option, Some, None, is_some, count_by, cond, get_or, refl, sym, ap, ◌∙◌, subst, arith, inl, inr, add-one}
 use Rattle.std.proofs.lemmas.Bool.{false≢true}
 use Rattle.std.proofs.lemmas.Bool.Decides.{eqb_tells}
 use Rattle.std.proofs.lemmas.Option.{none-some, same_Some, slice_get-map, slice_get_within, get_or_from_slice_get}
 use Rattle.std.proofs.lemmas.List.{length-map}
 use Rattle.std.proofs.lemmas.List.Sums.{sum_by-cons, count_by-le-length}
 use Rattle.std.specs.Option.{option_map, option_and_then}
-use Rattle.std.specs.List.{FoldsTo}
-use Rattle.arena_base.specs.Arena.{Arena, slot, arena_capacity, vacant_from, vacant_indexes as slots_vacant, IsFresh}
-use Rattle.arena_base.specs.Compression.{CompressionStep}
+use Rattle.arena_base.specs.Arena.{Arena, slot, arena_capacity, vacant_indexes as slots_vacant, IsFresh}
 use Rattle.arena_base.specs.Walk.{entries_from, entries_rising as slots_rising}
 use Rattle.chain_base.specs.Link.{Link}
-use Rattle.chain_base.specs.Chain.{Entry, Chain, IsDistinct, times, entry_at, first_or, last_or, link_at, vacant_indexes}
+use Rattle.chain_base.specs.Chain.{Entry, Chain, times, entry_at, first_or, last_or, link_at, vacant_indexes}
 use Rattle.chain_base.specs.Layout.{chain_of, IsLaidOut}
-use Rattle.chain_base.specs.Compression.{lesser, place_of, rising_among, entries_rising, moved, compressed, IsCompression}
-use Rattle.chain_base.specs.Naming.{neighbour_on, with_facing, named, place_in, bare, IsPaired, NamesPlaces, CompressesItems}
+use Rattle.chain_base.specs.Compression.{lesser, place_of, rising_among, moved, compressed, IsCompression}
+use Rattle.chain_base.specs.Naming.{with_facing, named, place_in, bare, IsPaired, NamesPlaces, CompressesItems}
 use Rattle.chain_base.specs.declared.chain.compress.Side.TheVariants.{Before, After}
 use Rattle.chain_base.proofs.Lists.{times-last, link_between-absent, entry_at-link, Stands-occurs}
 use Rattle.chain_base.proofs.LaidOut.{walk-laid_out}
 use Rattle.chain_base.proofs.Vacancy.{vacant-links}
-use Rattle.chain_base.proofs.Renumbering.{link_at-split, prev_at, next_at, linked-occurs, named-occurs, next-of_prev, prev-of_next, first-unnamed, last-unnamed, unnamed-first, unnamed-last, last_or-nothing, times-changed, IsLaidOut-renumbered}
+use Rattle.chain_base.proofs.Renumbering.{link_at-split, prev_at, next_at, linked-occurs, named-occurs, next-of_prev, prev-of_next, first-unnamed, last-unnamed, unnamed-last, last_or-nothing, times-changed, IsLaidOut-renumbered}
 use Rattle.chain_base.proofs.Ranking.{place-injective, place-slots, length-entries, entry-placed, placed-entry, compressed-at, compressed-first, compressed-place, compressed-count, compressed-length, with_era, count-alike, counts-alike, vacant-alike, rising-slots}
 
 pub renamed : (f : ℕ → ℕ) (o : Option ℕ) (k : ℕ) → option_map f o ≡ Some k → (y : ℕ) × (o ≡ Some y) × (f y ≡ k)
@@ -62,10 +60,10 @@ module _ {T : Type 0} where
     named-before i = ap (option_and_then (λ e. e.1.prev)) (laid.links i)
 
     -- what has a slot stands in the list, and the other way round
-    held-occurs : (i : ℕ) → is_some (slot a0 i) ≡ true → 1 ≤ times i es
+    pub held-occurs : (i : ℕ) → is_some (slot a0 i) ≡ true → 1 ≤ times i es
     held-occurs i held = let e = held-some (slot a0 i) held in linked-occurs es i e.0 (sym (laid.links i) ∙ e.1)
 
-    occurs-held : (i : ℕ) → 1 ≤ times i es → is_some (slot a0 i) ≡ true
+    pub occurs-held : (i : ℕ) → 1 ≤ times i es → is_some (slot a0 i) ≡ true
     occurs-held i occurs = let s = Stands-occurs es i occurs in ap is_some (laid.links i ∙ link_at-split es s.front s.entry s.back s.split laid.distinct i s.here)
 
     pub paired-before : IsPaired Before a0

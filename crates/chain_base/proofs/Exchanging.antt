@@ -1,22 +1,21 @@
 -- Two entries of a chain change their indexes with each other: a swap in the arena, and the links that named them.
-use Rattle.std.proofs.Common.{◌≡◌, ◌≢◌, ℕ, ◌+◌, ◌<◌, ◌≤◌, ◌==◌, Bool, true, false, List, ◌∷◌, ◌++◌, length, map, Option, Some, None, is_some, count_by, get_or, refl, sym, ap, ◌∙◌, subst, arith, if◌then◌else◌, inl, inr, length-set}
+use Rattle.std.proofs.Common.{◌≡◌, ◌≢◌, ℕ, ◌<◌, ◌≤◌, Bool, true, false, List, length, map, Option, Some, None, is_some, refl, sym, ap, ◌∙◌, subst, arith, if◌then◌else◌, inl, inr, length-set}
 use Rattle.std.proofs.lemmas.Bool.{false≢true}
 use Rattle.std.proofs.lemmas.Bool.Decides.{eqb_tells}
-use Rattle.std.proofs.lemmas.Option.{none-some, same_Some}
 use Rattle.std.specs.Option.{option_map, option_and_then, ForSome}
 use Rattle.arena_base.specs.Pointer.{named_of}
 use Rattle.arena_base.specs.Arena.{Arena, slot, with_slot, with_item_of, swapped}
 use Rattle.chain_base.specs.Link.{Link}
-use Rattle.chain_base.specs.Chain.{Entry, Chain, times, entry_at, first_or, last_or, link_at, IsSound}
+use Rattle.chain_base.specs.Chain.{Entry, Chain, times, entry_at, link_at, IsSound}
 use Rattle.chain_base.specs.Layout.{chain_of, names, with_next, with_prev, linked_next, linked_prev, IsLaidOut}
 use Rattle.chain_base.specs.Exchange.{exchanged_index, in_exchange, exchanged}
-use Rattle.chain_base.proofs.Lists.{entry_at-link, entry_at-absent, names_tells, same_index, other_index, Stands-occurs}
+use Rattle.chain_base.proofs.Lists.{entry_at-link, entry_at-absent, names_tells, same_index, other_index}
 use Rattle.chain_base.proofs.LaidOut.{slot-with_other, slot-with_same, slot-within, slot-linked_next, slot-linked_prev, walk-laid_out}
-use Rattle.chain_base.proofs.Renumbering.{link_at-split, prev_at, next_at, linked-occurs, named-occurs, next-of_prev, prev-of_next, times-changed, IsLaidOut-renumbered}
+use Rattle.chain_base.proofs.Renumbering.{link_at-split, prev_at, next_at, named-occurs, next-of_prev, prev-of_next, times-changed, IsLaidOut-renumbered}
 use Rattle.chain_base.proofs.Ranking.{counts-alike}
 use Rattle.arena_base.proofs.CallerLemmas.{limit_of-below}
 use Rattle.chain_base.proofs.Naming.{neighbour-within}
-use Rattle.chain_base.proofs.Compressing.{held-some, renamed}
+use Rattle.chain_base.proofs.Compressing.{held-some, renamed, held-occurs, occurs-held}
 
 module _ (i j : ℕ) where
   abbrev pub other : ℕ → ℕ
@@ -191,17 +190,11 @@ module _ {T : Type 0} where
           kept = refl;
         }
 
-    held-occurs : (k : ℕ) → is_some (slot a0 k) ≡ true → 1 ≤ times k es
-    held-occurs k held = let e = held-some (slot a0 k) held in linked-occurs es k e.0 (sym (laid.links k) ∙ e.1)
-
-    occurs-held : (k : ℕ) → 1 ≤ times k es → is_some (slot a0 k) ≡ true
-    occurs-held k occurs = let s = Stands-occurs es k occurs in ap is_some (laid.links k ∙ link_at-split es s.front s.entry s.back s.split laid.distinct k s.here)
-
     -- an index that a link names, or its other, has an entry
     pub neighbour-held : (o : Option ℕ) → ((y : ℕ) → o ≡ Some y → 1 ≤ times y es) → (k : ℕ) → option_map (other i j) o ≡ Some k → is_some (slot a0 k) ≡ true
     neighbour-held o there k is =
         let y = renamed (other i j) o k is in
-        subst (λ n. is_some (slot a0 n) ≡ true) y.2 (other-holds i j (λ n. is_some (slot a0 n) ≡ true) at_i at_j y.0 (occurs-held y.0 (there y.0 y.1)))
+        subst (λ n. is_some (slot a0 n) ≡ true) y.2 (other-holds i j (λ n. is_some (slot a0 n) ≡ true) at_i at_j y.0 (occurs-held a0 first last es laid y.0 (there y.0 y.1)))
 
     pub before-there : (x y : ℕ) → prev_at es x ≡ Some y → 1 ≤ times y es
     before-there x y is = named-occurs es y x (λ e. e.1.next) (next-of_prev es laid.distinct x y is)
@@ -285,7 +278,7 @@ module _ {T : Type 0} where
         by None at = at
         by (Some e) at =
             let held = sym (alike-linked.held k) ∙ ap is_some at in
-            let there : 1 ≤ times (other i j k) es = held-occurs (other i j k) (other-holds i j (λ n. is_some (slot a0 n) ≡ true) at_i at_j k held) in
+            let there : 1 ≤ times (other i j k) es = held-occurs a0 first last es laid (other i j k) (other-holds i j (λ n. is_some (slot a0 n) ≡ true) at_i at_j k held) in
             let count = times-changed (in_exchange i j) (other i j) (λ e. refl) es laid.distinct (λ x y there_x there_y same. other-injective i j x y same) (other i j k) there in
             let same : times (other i j (other i j k)) (map (in_exchange i j) es) ≡ 0 = ap (λ n. times n (map (in_exchange i j) es)) (other-twice i j k) ∙ absent in
             absurd (omega (arith, count, same, there))

@@ -8,7 +8,11 @@ use Rattle.arena_base.specs.Arena.{Arena, slot, with_slot, with_entry_at, arena_
 use Rattle.chain_base.specs.Link.{Link}
 use Rattle.chain_base.specs.Chain.{Entry, times, first_or, last_or, link_at, with_item, with_generation}
 use Rattle.chain_base.specs.Layout.{walk, names, with_next, with_prev, linked_next, linked_prev, relinked, IsLaidOut}
-use Rattle.chain_base.proofs.Lists.{names_tells, same_index, times-append, times-inserted, times-here, times-there, times-last, times-first, first_or-append, last_or-append, link_between-append, link_between-absent, times-unlinked, seam-relinked, IsRow-links, walk-row, link_between-with_item, times-with_item, first_or-with_item, last_or-with_item, length-with_item, link_between-with_generation, times-with_generation, first_or-with_generation, last_or-with_generation, length-with_generation}
+use Rattle.chain_base.proofs.Lists.{names_tells, same_index, times-append, times-inserted, times-here, times-there, times-last, times-first, first_or-append, last_or-append, link_between-append, link_between-absent, times-unlinked, seam-relinked, IsRow-links, walk-row, changed_at, changed_link, with_item-changed_at, with_generation-changed_at, link_between-changed_at, times-changed_at, first_or-changed_at, last_or-changed_at, length-changed_at}
+
+-- an end of the list where an entry comes or goes: the old one where an entry stands on that side, else the new one
+abbrev pub end_beside : Option ℕ → Option ℕ → Option ℕ → Option ℕ
+end_beside beside old new = if is_some beside then old else new
 
 module _ {T : Type 0} where
   -- a slot beside one that is written stays
@@ -119,66 +123,88 @@ module _ {T : Type 0} where
   arena_len-emptied : (a : Arena (Link T)) (i : ℕ) (e : ℕ × Link T) → i < length a.slots → slot a i ≡ Some e → arena_len (with_slot a i None) + 1 ≡ arena_len a
   arena_len-emptied a i e within held = let moved = rw held at (sum_by-set (λ x. cond (is_some x) 1 0) a.slots i None None within) in omega arith
 
-  -- the arena of a chain after an insertion between two neighbours
+  -- the arena once `left`, if there is one, leads on to `next`, and `right` back to `prev`
+  abbrev pub bridged : Arena (Link T) → Option ℕ → Option ℕ → Option ℕ → Option ℕ → Arena (Link T)
+  bridged a left next right prev = linked_prev (linked_next a left next) right prev
+
+  -- the link of an item between two stretches
+  abbrev pub link_amid : List (Entry T) → T → List (Entry T) → Link T
+  link_amid xs item ys = record { item = item; prev = last_or None xs; next = first_or None ys }
+
+  -- the arena of a chain after an insertion between two stretches
   abbrev pub joined : Arena (Link T) → ℕ → List (Entry T) → List (Entry T) → Arena (Link T)
-  joined a j xs ys = linked_prev (linked_next a (last_or None xs) (Some j)) (first_or None ys) (Some j)
+  joined a j xs ys = bridged a (last_or None xs) (Some j) (first_or None ys) (Some j)
+
+  -- and after a removal
+  abbrev pub closed : Arena (Link T) → List (Entry T) → List (Entry T) → Arena (Link T)
+  closed a xs ys = bridged a (last_or None xs) (first_or None ys) (first_or None ys) (last_or None xs)
 
   -- what the slots hold after an insertion between two stretches
-  slots-inserted : (xs ys : List (Entry T)) (new : Entry T) (k : ℕ) (o : Option (ℕ × Link T)) → times new.index xs ≡ 0 → times new.index ys ≡ 0 → times k xs + times k ys ≤ 1 → o ≡ link_at (xs ++ ys) k → relinked (last_or None xs) (Some new.index) (first_or None ys) (Some new.index) k (if new.index == k then Some (new.generation, record { item = new.item; prev = last_or None xs; next = first_or None ys }) else o) ≡ link_at (xs ++ new ∷ ys) k
-  slots-inserted xs ys new k o left right once was =
-      rw (link_between-append None None xs (new ∷ ys) k)
-      (elim (eqb_tells new.index k) [
-        | inl h ↦
-            let left_k : times k xs ≡ 0 = rw (← h.1) left in
-            let right_k : times k ys ≡ 0 = rw (← h.1) right in
-            rw (h.0, link_between-absent None (Some new.index) xs k left_k) (relinked-apart xs ys (Some new.index) (Some new.index) k _ left_k right_k)
-        | inr h ↦
-            rw (h.0, was, link_between-append None None xs ys k) (sym (seam-relinked xs ys (first_or None ys) (last_or None xs) (Some new.index) (Some new.index) k once))
-      ])
+  module _ (xs ys : List (Entry T)) (new : Entry T) (k : ℕ) (o : Option (ℕ × Link T)) where
+    slots-inserted : times new.index xs ≡ 0 → times new.index ys ≡ 0 → times k xs + times k ys ≤ 1 → o ≡ link_at (xs ++ ys) k
+        → relinked (last_or None xs) (Some new.index) (first_or None ys) (Some new.index) k
+        (if new.index == k then Some (new.generation, link_amid xs new.item ys) else o) ≡ link_at (xs ++ new ∷ ys) k
+    slots-inserted left right once was =
+        rw (link_between-append None None xs (new ∷ ys) k)
+        (elim (eqb_tells new.index k) [
+          | inl h ↦
+              let left_k : times k xs ≡ 0 = rw (← h.1) left in
+              let right_k : times k ys ≡ 0 = rw (← h.1) right in
+              rw (h.0, link_between-absent None (Some new.index) xs k left_k) (relinked-apart xs ys (Some new.index) (Some new.index) k _ left_k right_k)
+          | inr h ↦
+              rw (h.0, was, link_between-append None None xs ys k) (sym (seam-relinked xs ys (first_or None ys) (last_or None xs) (Some new.index) (Some new.index) k once))
+        ])
 
   -- a new entry between two stretches of the list
-  pub IsLaidOut-inserted : (a : Arena (Link T)) (first last : Option ℕ) (xs ys : List (Entry T)) (j : ℕ) (rest : List ℕ) (item : T) → IsLaidOut a.slots first last (xs ++ ys) → slot a j ≡ None → j < length a.slots → IsLaidOut (joined (with_entry_at a (j ∷ rest) (record { item = item; prev = last_or None xs; next = first_or None ys })) j xs ys).slots (first_or (Some j) xs) (last_or (Some j) ys) (xs ++ record { index = j; generation = a.generation; item = item } ∷ ys)
-  IsLaidOut-inserted a first last xs ys j rest item laid vacant within =
-      let new : Entry T = record { index = j; generation = a.generation; item = item } in
-      let link : Link T = record { item = item; prev = last_or None xs; next = first_or None ys } in
-      let a1 : Arena (Link T) = with_entry_at a (j ∷ rest) link in
-      let absent : times j (xs ++ ys) ≡ 0 = times-vacant a first last (xs ++ ys) j laid vacant in
-      let parts : times j xs + times j ys ≡ 0 = sym (times-append j xs ys) ∙ absent in
-      record {
-        links = λ k. slot-relinked a1 (last_or None xs) (Some j) (first_or None ys) (Some j) k
-            ∙ ap (relinked (last_or None xs) (Some j) (first_or None ys) (Some j) k) (slot-filled a j k (a.generation, link) within)
-            ∙ slots-inserted xs ys new k (slot a k) (omega arith) (omega arith) (omega (arith, times-append k xs ys, laid.distinct k)) (laid.links k);
-        distinct = λ k. times-inserted k xs new ys absent (laid.distinct k);
-        first_is = sym (first_or-append None xs (new ∷ ys));
-        last_is = sym (last_or-append None xs (new ∷ ys));
-        counted =
-            arena_len-linked_prev (linked_next a1 (last_or None xs) (Some j)) (first_or None ys) (Some j)
-            ∙ arena_len-linked_next a1 (last_or None xs) (Some j)
-            ∙ arena_len-filled a j (a.generation, link) within vacant
-            ∙ omega (arith, laid.counted, length-append xs (new ∷ ys), length-append xs ys);
-      }
+  module _ (a : Arena (Link T)) (first last : Option ℕ) (xs ys : List (Entry T)) (j : ℕ) (rest : List ℕ) (item : T) where
+    pub IsLaidOut-inserted : IsLaidOut a.slots first last (xs ++ ys) → slot a j ≡ None → j < length a.slots
+        → IsLaidOut (joined (with_entry_at a (j ∷ rest) (link_amid xs item ys)) j xs ys).slots
+        (first_or (Some j) xs) (last_or (Some j) ys) (xs ++ record { index = j; generation = a.generation; item = item } ∷ ys)
+    IsLaidOut-inserted laid vacant within =
+        let new : Entry T = record { index = j; generation = a.generation; item = item } in
+        let link : Link T = record { item = item; prev = last_or None xs; next = first_or None ys } in
+        let a1 : Arena (Link T) = with_entry_at a (j ∷ rest) link in
+        let absent : times j (xs ++ ys) ≡ 0 = times-vacant a first last (xs ++ ys) j laid vacant in
+        let parts : times j xs + times j ys ≡ 0 = sym (times-append j xs ys) ∙ absent in
+        record {
+          links = λ k. slot-relinked a1 (last_or None xs) (Some j) (first_or None ys) (Some j) k
+              ∙ ap (relinked (last_or None xs) (Some j) (first_or None ys) (Some j) k) (slot-filled a j k (a.generation, link) within)
+              ∙ slots-inserted xs ys new k (slot a k) (omega arith) (omega arith) (omega (arith, times-append k xs ys, laid.distinct k)) (laid.links k);
+          distinct = λ k. times-inserted k xs new ys absent (laid.distinct k);
+          first_is = sym (first_or-append None xs (new ∷ ys));
+          last_is = sym (last_or-append None xs (new ∷ ys));
+          counted =
+              arena_len-linked_prev (linked_next a1 (last_or None xs) (Some j)) (first_or None ys) (Some j)
+              ∙ arena_len-linked_next a1 (last_or None xs) (Some j)
+              ∙ arena_len-filled a j (a.generation, link) within vacant
+              ∙ omega (arith, laid.counted, length-append xs (new ∷ ys), length-append xs ys);
+        }
 
   -- what the slots hold after the entry between two stretches is taken out
-  slots-removed : (xs : List (Entry T)) (e : Entry T) (ys : List (Entry T)) (k : ℕ) (o : Option (ℕ × Link T)) → times k (xs ++ e ∷ ys) ≤ 1 → o ≡ link_at (xs ++ e ∷ ys) k → relinked (last_or None xs) (first_or None ys) (first_or None ys) (last_or None xs) k (if e.index == k then None else o) ≡ link_at (xs ++ ys) k
-  slots-removed xs e ys k o once was =
-      rw (link_between-append None None xs ys k)
-      (elim (eqb_tells e.index k) [
-        | inl h ↦
-            let parts : times k xs + times k ys ≡ 0 = omega (arith, times-append k xs (e ∷ ys), times-here k e ys h.1) in
-            let left_k : times k xs ≡ 0 = omega arith in
-            let right_k : times k ys ≡ 0 = omega arith in
-            rw (h.0, link_between-absent None (first_or None ys) xs k left_k, link_between-absent (last_or None xs) None ys k right_k) (relinked-apart xs ys (first_or None ys) (last_or None xs) k None left_k right_k)
-        | inr h ↦
-            let parts : times k xs + times k ys ≤ 1 = omega (arith, times-append k xs (e ∷ ys), times-there k e ys h.1) in
-            rw (h.0, was, link_between-append None None xs (e ∷ ys) k, h.0) (sym (seam-relinked xs ys (Some e.index) (Some e.index) (first_or None ys) (last_or None xs) k parts))
-      ])
+  module _ (xs : List (Entry T)) (e : Entry T) (ys : List (Entry T)) (k : ℕ) (o : Option (ℕ × Link T)) where
+    slots-removed : times k (xs ++ e ∷ ys) ≤ 1 → o ≡ link_at (xs ++ e ∷ ys) k
+        → relinked (last_or None xs) (first_or None ys) (first_or None ys) (last_or None xs) k (if e.index == k then None else o)
+        ≡ link_at (xs ++ ys) k
+    slots-removed once was =
+        rw (link_between-append None None xs ys k)
+        (elim (eqb_tells e.index k) [
+          | inl h ↦
+              let parts : times k xs + times k ys ≡ 0 = omega (arith, times-append k xs (e ∷ ys), times-here k e ys h.1) in
+              let left_k : times k xs ≡ 0 = omega arith in
+              let right_k : times k ys ≡ 0 = omega arith in
+              rw (h.0, link_between-absent None (first_or None ys) xs k left_k, link_between-absent (last_or None xs) None ys k right_k) (relinked-apart xs ys (first_or None ys) (last_or None xs) k None left_k right_k)
+          | inr h ↦
+              let parts : times k xs + times k ys ≤ 1 = omega (arith, times-append k xs (e ∷ ys), times-there k e ys h.1) in
+              rw (h.0, was, link_between-append None None xs (e ∷ ys) k, h.0) (sym (seam-relinked xs ys (Some e.index) (Some e.index) (first_or None ys) (last_or None xs) k parts))
+        ])
 
   -- an entry stands in its slot
-  pub slot-laid_out : (a : Arena (Link T)) (first last : Option ℕ) (xs : List (Entry T)) (e : Entry T) (ys : List (Entry T)) → IsLaidOut a.slots first last (xs ++ e ∷ ys) → slot a e.index ≡ Some (e.generation, record { item = e.item; prev = last_or None xs; next = first_or None ys })
-  slot-laid_out a first last xs e ys laid =
-      let once = laid.distinct e.index in
-      let gone : times e.index xs ≡ 0 = omega (arith, times-append e.index xs (e ∷ ys), times-here e.index e ys refl) in
-      laid.links e.index ∙ rw (link_between-append None None xs (e ∷ ys) e.index, link_between-absent None (Some e.index) xs e.index gone, same_index e.index) refl
+  module _ (a : Arena (Link T)) (first last : Option ℕ) (xs : List (Entry T)) (e : Entry T) (ys : List (Entry T)) where
+    pub slot-laid_out : IsLaidOut a.slots first last (xs ++ e ∷ ys) → slot a e.index ≡ Some (e.generation, link_amid xs e.item ys)
+    slot-laid_out laid =
+        let once = laid.distinct e.index in
+        let gone : times e.index xs ≡ 0 = omega (arith, times-append e.index xs (e ∷ ys), times-here e.index e ys refl) in
+        laid.links e.index ∙ rw (link_between-append None None xs (e ∷ ys) e.index, link_between-absent None (Some e.index) xs e.index gone, same_index e.index) refl
 
   -- a slot that holds something is within the arena
   pub slot-within : (a : Arena (Link T)) (i : ℕ) (e : ℕ × Link T) → slot a i ≡ Some e → i < length a.slots
@@ -189,42 +215,46 @@ module _ {T : Type 0} where
       ]
 
   -- the entry between two stretches of the list is taken out
-  pub IsLaidOut-removed : (greatest : Option ℕ) (a : Arena (Link T)) (first last : Option ℕ) (xs : List (Entry T)) (e : Entry T) (ys : List (Entry T)) → IsLaidOut a.slots first last (xs ++ e ∷ ys) → IsLaidOut (linked_prev (linked_next (arena_without greatest a e.index) (last_or None xs) (first_or None ys)) (first_or None ys) (last_or None xs)).slots (first_or (first_or None ys) xs) (last_or (last_or None xs) ys) (xs ++ ys)
-  IsLaidOut-removed greatest a first last xs e ys laid =
-      let held = slot-laid_out a first last xs e ys laid in
-      let within = slot-within a e.index _ held in
-      let a1 : Arena (Link T) = arena_without greatest a e.index in
-      record {
-        links = λ k. slot-relinked a1 (last_or None xs) (first_or None ys) (first_or None ys) (last_or None xs) k
-            ∙ ap (relinked (last_or None xs) (first_or None ys) (first_or None ys) (last_or None xs) k) (slot-emptied a e.index k within)
-            ∙ slots-removed xs e ys k (slot a k) (laid.distinct k) (laid.links k);
-        distinct = λ k. omega (arith, times-append k xs ys, times-append k xs (e ∷ ys), laid.distinct k);
-        first_is = sym (first_or-append None xs ys);
-        last_is = sym (last_or-append None xs ys);
-        counted =
-            let less = arena_len-emptied a e.index _ within held in
-            let same = arena_len-linked_prev (linked_next a1 (last_or None xs) (first_or None ys)) (first_or None ys) (last_or None xs) ∙ arena_len-linked_next a1 (last_or None xs) (first_or None ys) in
-            same ∙ omega (arith, laid.counted, length-append xs (e ∷ ys), length-append xs ys);
-      }
+  module _ (greatest : Option ℕ) (a : Arena (Link T)) (first last : Option ℕ) (xs : List (Entry T)) (e : Entry T) (ys : List (Entry T)) where
+    pub IsLaidOut-removed : IsLaidOut a.slots first last (xs ++ e ∷ ys)
+        → IsLaidOut (closed (arena_without greatest a e.index) xs ys).slots
+        (first_or (first_or None ys) xs) (last_or (last_or None xs) ys) (xs ++ ys)
+    IsLaidOut-removed laid =
+        let held = slot-laid_out a first last xs e ys laid in
+        let within = slot-within a e.index _ held in
+        let a1 : Arena (Link T) = arena_without greatest a e.index in
+        record {
+          links = λ k. slot-relinked a1 (last_or None xs) (first_or None ys) (first_or None ys) (last_or None xs) k
+              ∙ ap (relinked (last_or None xs) (first_or None ys) (first_or None ys) (last_or None xs) k) (slot-emptied a e.index k within)
+              ∙ slots-removed xs e ys k (slot a k) (laid.distinct k) (laid.links k);
+          distinct = λ k. omega (arith, times-append k xs ys, times-append k xs (e ∷ ys), laid.distinct k);
+          first_is = sym (first_or-append None xs ys);
+          last_is = sym (last_or-append None xs ys);
+          counted =
+              let less = arena_len-emptied a e.index _ within held in
+              let same = arena_len-linked_prev (linked_next a1 (last_or None xs) (first_or None ys)) (first_or None ys) (last_or None xs) ∙ arena_len-linked_next a1 (last_or None xs) (first_or None ys) in
+              same ∙ omega (arith, laid.counted, length-append xs (e ∷ ys), length-append xs ys);
+        }
 
-  -- an item is written
-  pub IsLaidOut-with_item : (a : Arena (Link T)) (first last : Option ℕ) (es : List (Entry T)) (i : ℕ) (item : T) → IsLaidOut a.slots first last es → IsLaidOut (with_slot a i (option_map (λ e. (e.0, record e.1 { item = item })) (slot a i))).slots first last (with_item es i item)
-  IsLaidOut-with_item a first last es i item laid =
-      record {
-        links = λ k. slot-mapped a i k _ ∙ rw (laid.links k) (sym (link_between-with_item None None es i item k));
-        distinct = λ k. omega (arith, times-with_item k es i item, laid.distinct k);
-        first_is = laid.first_is ∙ sym (first_or-with_item None es i item);
-        last_is = laid.last_is ∙ sym (last_or-with_item None es i item);
-        counted = arena_len-mapped a i _ ∙ laid.counted ∙ sym (length-with_item es i item);
-      }
+  module _ (a : Arena (Link T)) (first last : Option ℕ) (es : List (Entry T)) (i : ℕ) where
+    -- an entry is changed, but for its neighbours
+    IsLaidOut-changed_at : (f : ℕ × T → ℕ × T) → IsLaidOut a.slots first last es
+        → IsLaidOut (with_slot a i (option_map (changed_link f) (slot a i))).slots first last (changed_at f es i)
+    IsLaidOut-changed_at f laid =
+        record {
+          links = λ k. slot-mapped a i k _ ∙ rw (laid.links k) (sym (link_between-changed_at f None None es i k));
+          distinct = λ k. omega (arith, times-changed_at f k es i, laid.distinct k);
+          first_is = laid.first_is ∙ sym (first_or-changed_at f None es i);
+          last_is = laid.last_is ∙ sym (last_or-changed_at f None es i);
+          counted = arena_len-mapped a i _ ∙ laid.counted ∙ sym (length-changed_at f es i);
+        }
 
-  -- an entry gets another generation
-  pub IsLaidOut-with_generation : (a : Arena (Link T)) (first last : Option ℕ) (es : List (Entry T)) (i g : ℕ) → IsLaidOut a.slots first last es → IsLaidOut (with_slot a i (option_map (λ e. (g, e.1)) (slot a i))).slots first last (with_generation es i g)
-  IsLaidOut-with_generation a first last es i g laid =
-      record {
-        links = λ k. slot-mapped a i k _ ∙ rw (laid.links k) (sym (link_between-with_generation None None es i g k));
-        distinct = λ k. omega (arith, times-with_generation k es i g, laid.distinct k);
-        first_is = laid.first_is ∙ sym (first_or-with_generation None es i g);
-        last_is = laid.last_is ∙ sym (last_or-with_generation None es i g);
-        counted = arena_len-mapped a i _ ∙ laid.counted ∙ sym (length-with_generation es i g);
-      }
+    -- an item is written
+    pub IsLaidOut-with_item : (item : T) → IsLaidOut a.slots first last es
+        → IsLaidOut (with_slot a i (option_map (λ e. (e.0, record e.1 { item = item })) (slot a i))).slots first last (with_item es i item)
+    IsLaidOut-with_item item laid = rw (with_item-changed_at es i item) (IsLaidOut-changed_at (λ p. (p.0, item)) laid)
+
+    -- an entry gets another generation
+    pub IsLaidOut-with_generation : (g : ℕ) → IsLaidOut a.slots first last es
+        → IsLaidOut (with_slot a i (option_map (λ e. (g, e.1)) (slot a i))).slots first last (with_generation es i g)
+    IsLaidOut-with_generation g laid = rw (with_generation-changed_at es i g) (IsLaidOut-changed_at (λ p. (g, p.1)) laid)

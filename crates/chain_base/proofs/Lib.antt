@@ -1,6 +1,7 @@
 pub mod Lists
 pub mod LaidOut
 pub mod Vacancy
+pub mod Room
 pub mod Sound
 pub mod Naming
 pub mod Kept

@@ -253,66 +253,83 @@ module _ {T : Type 0} where
   walk-row at before (e ∷ es) zero fits row = absurd (omega arith)
   walk-row at before (e ∷ es) (suc n) fits row = rw row.0 (ap (λ xs. e ∷ xs) (walk-row at (Some e.index) es n (omega arith) row.1))
 
-  pub first_or-with_item : (after : Option ℕ) (es : List (Entry T)) (i : ℕ) (item : T) → first_or after (with_item es i item) ≡ first_or after es
-  first_or-with_item after [] i item = refl
-  first_or-with_item after (e ∷ es) i item = elim (eqb_tells e.index i) [ inl h ↦ rw h.0 refl | inr h ↦ rw h.0 refl ]
+  -- the list with another generation and another item at this index, by a map of the two
+  abbrev pub changed_at : (ℕ × T → ℕ × T) → List (Entry T) → ℕ → List (Entry T)
+  changed_at f [] i = []
+  changed_at f (e ∷ es) i = let p = f (e.generation, e.item) in
+      if e.index == i then record e { generation = p.0; item = p.1 } ∷ es else e ∷ changed_at f es i
 
-  pub last_or-with_item : (before : Option ℕ) (es : List (Entry T)) (i : ℕ) (item : T) → last_or before (with_item es i item) ≡ last_or before es
-  last_or-with_item before [] i item = refl
-  last_or-with_item before (e ∷ es) i item = elim (eqb_tells e.index i) [ inl h ↦ rw h.0 refl | inr h ↦ rw h.0 (last_or-with_item (Some e.index) es i item) ]
+  pub with_item-changed_at : (es : List (Entry T)) (i : ℕ) (item : T) → with_item es i item ≡ changed_at (λ p. (p.0, item)) es i
+  with_item-changed_at [] i item = refl
+  with_item-changed_at (e ∷ es) i item =
+      elim (eqb_tells e.index i) [ inl h ↦ rw h.0 refl | inr h ↦ rw h.0 (ap (λ xs. e ∷ xs) (with_item-changed_at es i item)) ]
 
-  pub times-with_item : (k : ℕ) (es : List (Entry T)) (i : ℕ) (item : T) → times k (with_item es i item) ≡ times k es
-  times-with_item k [] i item = refl
-  times-with_item k (e ∷ es) i item = elim (eqb_tells e.index i) [ inl h ↦ rw h.0 refl | inr h ↦ rw h.0 (ap (λ n. (if e.index == k then 1 else 0) + n) (times-with_item k es i item)) ]
+  pub with_generation-changed_at : (es : List (Entry T)) (i g : ℕ) → with_generation es i g ≡ changed_at (λ p. (g, p.1)) es i
+  with_generation-changed_at [] i g = refl
+  with_generation-changed_at (e ∷ es) i g =
+      elim (eqb_tells e.index i) [ inl h ↦ rw h.0 refl | inr h ↦ rw h.0 (ap (λ xs. e ∷ xs) (with_generation-changed_at es i g)) ]
 
-  pub length-with_item : (es : List (Entry T)) (i : ℕ) (item : T) → length (with_item es i item) ≡ length es
-  length-with_item [] i item = refl
-  length-with_item (e ∷ es) i item = elim (eqb_tells e.index i) [ inl h ↦ rw h.0 refl | inr h ↦ rw h.0 (ap suc (length-with_item es i item)) ]
+  module _ (f : ℕ × T → ℕ × T) where
+    pub first_or-changed_at : (after : Option ℕ) (es : List (Entry T)) (i : ℕ) → first_or after (changed_at f es i) ≡ first_or after es
+    first_or-changed_at after [] i = refl
+    first_or-changed_at after (e ∷ es) i = elim (eqb_tells e.index i) [ inl h ↦ rw h.0 refl | inr h ↦ rw h.0 refl ]
 
-  -- a write of one item changes that item, and no link
-  pub link_between-with_item : (before after : Option ℕ) (es : List (Entry T)) (i : ℕ) (item : T) (k : ℕ) → link_between before after (with_item es i item) k ≡ (if i == k then option_map (λ e. (e.0, record e.1 { item = item })) (link_between before after es k) else link_between before after es k)
-  link_between-with_item before after [] i item k = elim (eqb_tells i k) [ inl h ↦ rw h.0 refl | inr h ↦ rw h.0 refl ]
-  link_between-with_item before after (e ∷ es) i item k =
-      elim (eqb_tells e.index i) [
-        | inl h ↦ rw h.0 (elim (eqb_tells e.index k) [
-          | inl h2 ↦ let same : (i == k) ≡ true = rw (sym h.1) h2.0 in rw (h2.0, same) refl
-          | inr h2 ↦ let other : (i == k) ≡ false = rw (sym h.1) h2.0 in rw (h2.0, other) refl
-        ])
-        | inr h ↦ rw h.0 (elim (eqb_tells e.index k) [
-          | inl h2 ↦ let other = other_index i k (λ same. h.1 (h2.1 ∙ sym same)) in
-              rw (h2.0, other, first_or-with_item after es i item) refl
-          | inr h2 ↦ rw h2.0 (link_between-with_item (Some e.index) after es i item k)
-        ])
+    pub last_or-changed_at : (before : Option ℕ) (es : List (Entry T)) (i : ℕ) → last_or before (changed_at f es i) ≡ last_or before es
+    last_or-changed_at before [] i = refl
+    last_or-changed_at before (e ∷ es) i =
+        elim (eqb_tells e.index i) [ inl h ↦ rw h.0 refl | inr h ↦ rw h.0 (last_or-changed_at (Some e.index) es i) ]
+
+    pub times-changed_at : (k : ℕ) (es : List (Entry T)) (i : ℕ) → times k (changed_at f es i) ≡ times k es
+    times-changed_at k [] i = refl
+    times-changed_at k (e ∷ es) i = elim (eqb_tells e.index i) [
+      | inl h ↦ rw h.0 refl
+      | inr h ↦ rw h.0 (ap (λ n. (if e.index == k then 1 else 0) + n) (times-changed_at k es i))
+    ]
+
+    pub length-changed_at : (es : List (Entry T)) (i : ℕ) → length (changed_at f es i) ≡ length es
+    length-changed_at [] i = refl
+    length-changed_at (e ∷ es) i = elim (eqb_tells e.index i) [ inl h ↦ rw h.0 refl | inr h ↦ rw h.0 (ap suc (length-changed_at es i)) ]
+
+    -- every other index finds what it found
+    pub entry_at-changed_at_other : (es : List (Entry T)) (i j : ℕ) → j ≢ i → entry_at (changed_at f es i) j ≡ entry_at es j
+    entry_at-changed_at_other [] i j other = refl
+    entry_at-changed_at_other (e ∷ es) i j other = elim (eqb_tells e.index i) [
+      | inl h ↦ elim (eqb_tells e.index j) [
+        | inl same ↦ absurd (other (sym same.1 ∙ h.1))
+        | inr apart ↦ rw (h.0, apart.0) refl
       ]
-
-  pub first_or-with_generation : (after : Option ℕ) (es : List (Entry T)) (i : ℕ) (g : ℕ) → first_or after (with_generation es i g) ≡ first_or after es
-  first_or-with_generation after [] i g = refl
-  first_or-with_generation after (e ∷ es) i g = elim (eqb_tells e.index i) [ inl h ↦ rw h.0 refl | inr h ↦ rw h.0 refl ]
-
-  pub last_or-with_generation : (before : Option ℕ) (es : List (Entry T)) (i : ℕ) (g : ℕ) → last_or before (with_generation es i g) ≡ last_or before es
-  last_or-with_generation before [] i g = refl
-  last_or-with_generation before (e ∷ es) i g = elim (eqb_tells e.index i) [ inl h ↦ rw h.0 refl | inr h ↦ rw h.0 (last_or-with_generation (Some e.index) es i g) ]
-
-  pub times-with_generation : (k : ℕ) (es : List (Entry T)) (i : ℕ) (g : ℕ) → times k (with_generation es i g) ≡ times k es
-  times-with_generation k [] i g = refl
-  times-with_generation k (e ∷ es) i g = elim (eqb_tells e.index i) [ inl h ↦ rw h.0 refl | inr h ↦ rw h.0 (ap (λ n. (if e.index == k then 1 else 0) + n) (times-with_generation k es i g)) ]
-
-  pub length-with_generation : (es : List (Entry T)) (i : ℕ) (g : ℕ) → length (with_generation es i g) ≡ length es
-  length-with_generation [] i g = refl
-  length-with_generation (e ∷ es) i g = elim (eqb_tells e.index i) [ inl h ↦ rw h.0 refl | inr h ↦ rw h.0 (ap suc (length-with_generation es i g)) ]
-
-  -- another generation of one entry changes that generation, and no link
-  pub link_between-with_generation : (before after : Option ℕ) (es : List (Entry T)) (i : ℕ) (g : ℕ) (k : ℕ) → link_between before after (with_generation es i g) k ≡ (if i == k then option_map (λ e. (g, e.1)) (link_between before after es k) else link_between before after es k)
-  link_between-with_generation before after [] i g k = elim (eqb_tells i k) [ inl h ↦ rw h.0 refl | inr h ↦ rw h.0 refl ]
-  link_between-with_generation before after (e ∷ es) i g k =
-      elim (eqb_tells e.index i) [
-        | inl h ↦ rw h.0 (elim (eqb_tells e.index k) [
-          | inl h2 ↦ let same : (i == k) ≡ true = rw (sym h.1) h2.0 in rw (h2.0, same) refl
-          | inr h2 ↦ let other : (i == k) ≡ false = rw (sym h.1) h2.0 in rw (h2.0, other) refl
-        ])
-        | inr h ↦ rw h.0 (elim (eqb_tells e.index k) [
-          | inl h2 ↦ let other = other_index i k (λ same. h.1 (h2.1 ∙ sym same)) in
-              rw (h2.0, other, first_or-with_generation after es i g) refl
-          | inr h2 ↦ rw h2.0 (link_between-with_generation (Some e.index) after es i g k)
-        ])
+      | inr h ↦ elim (eqb_tells e.index j) [
+        | inl same ↦ rw (h.0, same.0) refl
+        | inr apart ↦ rw (h.0, apart.0) (entry_at-changed_at_other es i j other)
       ]
+    ]
+
+    -- and the index itself the changed entry
+    pub entry_at-changed_at : (es : List (Entry T)) (i : ℕ) → entry_at (changed_at f es i) i ≡ option_map f (entry_at es i)
+    entry_at-changed_at [] i = refl
+    entry_at-changed_at (e ∷ es) i = elim (eqb_tells e.index i) [
+      | inl h ↦ rw (h.0, h.0) refl
+      | inr h ↦ rw (h.0, h.0) (entry_at-changed_at es i)
+    ]
+
+    -- the change of an entry, as one of its link
+    abbrev pub changed_link : ℕ × Link T → ℕ × Link T
+    changed_link e = let p = f (e.0, e.1.item) in (p.0, record e.1 { item = p.1 })
+
+    -- it changes no neighbour
+    pub link_between-changed_at : (before after : Option ℕ) (es : List (Entry T)) (i k : ℕ)
+        → link_between before after (changed_at f es i) k
+        ≡ (if i == k then option_map changed_link (link_between before after es k) else link_between before after es k)
+    link_between-changed_at before after [] i k = elim (eqb_tells i k) [ inl h ↦ rw h.0 refl | inr h ↦ rw h.0 refl ]
+    link_between-changed_at before after (e ∷ es) i k =
+        elim (eqb_tells e.index i) [
+          | inl h ↦ rw h.0 (elim (eqb_tells e.index k) [
+            | inl h2 ↦ let same : (i == k) ≡ true = rw (sym h.1) h2.0 in rw (h2.0, same) refl
+            | inr h2 ↦ let other : (i == k) ≡ false = rw (sym h.1) h2.0 in rw (h2.0, other) refl
+          ])
+          | inr h ↦ rw h.0 (elim (eqb_tells e.index k) [
+            | inl h2 ↦ let other = other_index i k (λ same. h.1 (h2.1 ∙ sym same)) in
+                rw (h2.0, other, first_or-changed_at after es i) refl
+            | inr h2 ↦ rw h2.0 (link_between-changed_at (Some e.index) after es i k)
+          ])
+        ]

@@ -1,5 +1,5 @@
 -- How far the entries have learnt the places of their neighbours.
-use Rattle.std.proofs.Common.{◌≡◌, ◌≢◌, ℕ, zero, suc, ◌+◌, ◌<◌, ◌≤◌, ◌==◌, true, false, List, [], ◌∷◌, length, Option, Some, None, IsSome, IfSome, ◌↔◌, is_some, count_by, take, get_or, refl, sym, ap, ◌∙◌, subst, arith, if◌then◌else◌, inl, inr, length-set}
+use Rattle.std.proofs.Common.{◌≡◌, ◌≢◌, ℕ, zero, suc, ◌+◌, ◌<◌, ◌≤◌, ◌==◌, true, false, List, [], ◌∷◌, length, Option, Some, None, IsSome, IfSome, ◌↔◌, is_some, count_by, take, get_or, refl, sym, ap, ◌∙◌, arith, if◌then◌else◌, inl, inr, length-set}
 use Rattle.std.proofs.lemmas.Bool.Decides.{eqb_tells}
 use Rattle.std.proofs.lemmas.Bool.{false≢true}
 use Rattle.std.proofs.lemmas.Option.{none-some, same_Some}

@@ -17,10 +17,20 @@ module _ {T : Type 0} where
       ]
 
   -- the link of an entry names the neighbours
-  link_at-split : (front : List (Entry T)) (e : Entry T) (back : List (Entry T)) (l : Link T) → times e.index front ≡ 0 → option_map (λ e. e.1) (link_at (front ++ e ∷ back) e.index) ≡ Some l → (l.prev ≡ last_or None front) × (l.next ≡ first_or None back)
+  link_at-split : (front : List (Entry T)) (e : Entry T) (back : List (Entry T)) (l : Link T) → times e.index front ≡ 0
+      → option_map (λ e. e.1) (link_at (front ++ e ∷ back) e.index) ≡ Some l → (l.prev ≡ last_or None front) × (l.next ≡ first_or None back)
   link_at-split front e back l unmet linked =
       let found = rw (link_between-append None None front (e ∷ back) e.index, link_between-absent None (Some e.index) front e.index unmet, same_index e.index) at linked in
       (cc, cc)
+
+  -- the neighbours of the entry at an index, where the list is split there
+  link_at-ends : (es : List (Entry T)) (i : ℕ) (l : Link T) → option_map (λ e. e.1) (link_at es i) ≡ Some l → (s : Stands es i)
+      → (l.prev ≡ last_or None s.front) × (l.next ≡ first_or None s.back)
+  link_at-ends es i l linked s =
+      let whole = s.front ++ s.entry ∷ s.back in
+      let unmet : times s.entry.index s.front ≡ 0 = ap (λ k. times k s.front) s.here ∙ s.unmet in
+      link_at-split s.front s.entry s.back l unmet
+      (ap (λ k. option_map (λ e. e.1) (link_at whole k)) s.here ∙ ap (λ xs. option_map (λ e. e.1) (link_at xs i)) (sym s.split) ∙ linked)
 
   -- directly after an entry
   pub IsPlace-after : (es : List (Entry T)) (i : ℕ) (l : Link T) → option_map (λ e. e.1) (link_at es i) ≡ Some l → IsPlace es (λ new. insert_after i new es) (Some i) l.next
@@ -28,9 +38,7 @@ module _ {T : Type 0} where
     where
       from_place : Stands es i → IsPlace es (λ new. insert_after i new es) (Some i) l.next
       from_place s =
-          let unmet : times s.entry.index s.front ≡ 0 = ap (λ k. times k s.front) s.here ∙ s.unmet in
-          let linked2 : option_map (λ e. e.1) (link_at (s.front ++ s.entry ∷ s.back) s.entry.index) ≡ Some l = ap (λ k. option_map (λ e. e.1) (link_at (s.front ++ s.entry ∷ s.back) k)) s.here ∙ ap (λ xs. option_map (λ e. e.1) (link_at xs i)) (sym s.split) ∙ linked in
-          let ends = link_at-split s.front s.entry s.back l unmet linked2 in
+          let ends = link_at-ends es i l linked s in
           record {
             front = s.front ++ s.entry ∷ [];
             back = s.back;
@@ -46,9 +54,7 @@ module _ {T : Type 0} where
     where
       from_place : Stands es i → IsPlace es (λ new. insert_before i new es) l.prev (Some i)
       from_place s =
-          let unmet : times s.entry.index s.front ≡ 0 = ap (λ k. times k s.front) s.here ∙ s.unmet in
-          let linked2 : option_map (λ e. e.1) (link_at (s.front ++ s.entry ∷ s.back) s.entry.index) ≡ Some l = ap (λ k. option_map (λ e. e.1) (link_at (s.front ++ s.entry ∷ s.back) k)) s.here ∙ ap (λ xs. option_map (λ e. e.1) (link_at xs i)) (sym s.split) ∙ linked in
-          let ends = link_at-split s.front s.entry s.back l unmet linked2 in
+          let ends = link_at-ends es i l linked s in
           record {
             front = s.front;
             back = s.entry ∷ s.back;

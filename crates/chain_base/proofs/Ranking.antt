@@ -1,6 +1,6 @@
 -- The places of indexes among those with an entry, counted by rising index.
-use Rattle.std.proofs.Common.{◌≡◌, ◌≢◌, ℕ, zero, suc, ◌+◌, ◌-◌, ◌<◌, ◌≤◌, ◌==◌, nat_lt, true, false, List, [], ◌∷◌, ◌++◌, length, map, take, replicate, slice_get, Option, Some, None, is_some, count_by, cond, get_or, refl, sym, ap, ◌∙◌, subst, arith, if◌then◌else◌, inl, inr, ◌⊎◌, add-one, zero-add}
-use Rattle.std.proofs.lemmas.Bool.Decides.{eqb_tells, leb_tells, nat_tests}
+use Rattle.std.proofs.Common.{◌≡◌, ◌≢◌, ℕ, zero, suc, ◌+◌, ◌-◌, ◌<◌, ◌≤◌, true, false, List, [], ◌∷◌, ◌++◌, length, map, take, replicate, slice_get, Option, Some, None, is_some, count_by, cond, get_or, refl, sym, ap, ◌∙◌, subst, arith, inl, inr, add-one, zero-add}
+use Rattle.std.proofs.lemmas.Bool.Decides.{leb_tells, nat_tests}
 use Rattle.std.proofs.lemmas.Bool.{false≢true}
 use Rattle.std.proofs.lemmas.Option.{none-some, same_Some}
 use Rattle.std.proofs.lemmas.List.{take_all, get_or_past, length-map, length-append, length-replicate}
@@ -12,7 +12,7 @@ use Rattle.chain_base.specs.Link.{Link}
 use Rattle.chain_base.specs.Chain.{Entry, IsDistinct, times, entry_at, link_at}
 use Rattle.chain_base.specs.Compression.{lesser, place_of, entry_before, rising_among}
 use Rattle.chain_base.specs.Naming.{bare}
-use Rattle.chain_base.proofs.Lists.{times-here, times-there, times-unlinked, entry_at-link}
+use Rattle.chain_base.proofs.Lists.{times-unlinked}
 use Rattle.chain_base.proofs.Vacancy.{get_or-vacant}
 use Rattle.chain_base.proofs.Renumbering.{linked-occurs}
 

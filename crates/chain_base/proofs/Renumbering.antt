@@ -1,5 +1,5 @@
 -- A chain whose entries get other indexes: the links follow.
-use Rattle.std.proofs.Common.{◌≡◌, ◌≢◌, ℕ, zero, suc, ◌+◌, ◌<◌, ◌≤◌, ◌==◌, true, false, List, [], ◌∷◌, ◌++◌, length, map, Option, Some, None, is_some, count_by, get_or, refl, sym, ap, ◌∙◌, subst, arith, if◌then◌else◌, inl, inr, ◌⊎◌}
+use Rattle.std.proofs.Common.{◌≡◌, ◌≢◌, ℕ, ◌+◌, ◌≤◌, List, [], ◌∷◌, ◌++◌, length, map, Option, Some, None, is_some, count_by, get_or, refl, sym, ap, ◌∙◌, subst, arith, inl, inr}
 use Rattle.std.proofs.lemmas.Bool.Decides.{eqb_tells}
 use Rattle.std.proofs.lemmas.Option.{none-some, same_Some}
 use Rattle.std.proofs.lemmas.List.{map-append, append_assoc, length-map}
@@ -7,7 +7,7 @@ use Rattle.std.specs.Option.{option_map, option_and_then}
 use Rattle.chain_base.specs.Link.{Link}
 use Rattle.chain_base.specs.Chain.{Entry, IsDistinct, times, first_or, last_or, link_at}
 use Rattle.chain_base.specs.Layout.{IsLaidOut}
-use Rattle.chain_base.proofs.Lists.{same_index, other_index, times-append, times-here, times-there, first_or-append, last_or-append, link_between-append, link_between-absent, Stands-occurs}
+use Rattle.chain_base.proofs.Lists.{same_index, times-append, times-here, times-there, last_or-append, link_between-append, link_between-absent, Stands-occurs}
 
 module _ {T : Type 0} where
   -- the link of an entry at its place

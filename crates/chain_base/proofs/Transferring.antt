@@ -1,5 +1,5 @@
 -- The steps of a transfer.
-use Rattle.std.proofs.Common.{◌≡◌, ◌≢◌, ℕ, zero, suc, ◌+◌, ◌-◌, ◌<◌, ◌≤◌, max, List, [], ◌∷◌, ◌++◌, map, length, length-append, append_assoc, Option, Some, None, OnSome, OnOk, IsOk, IsErr, Result, Ok, Err, IsSome, is_some, true, slice_get, if◌then◌else◌, refl, sym, ap, subst, ◌∙◌, arith, inl, inr}
+use Rattle.std.proofs.Common.{◌≡◌, ℕ, zero, suc, ◌+◌, ◌-◌, ◌<◌, ◌≤◌, max, List, [], ◌∷◌, ◌++◌, map, length, length-append, append_assoc, Option, Some, None, OnSome, OnOk, IsOk, IsErr, Result, Ok, Err, is_some, true, slice_get, refl, sym, ap, ◌∙◌, arith, inl, inr}
 use Rattle.std.proofs.lemmas.Bool.Decides.{eqb_tells}
 use Rattle.std.specs.List.{FoldsTo}
 use Rattle.std.proofs.lemmas.Fn.{FoldsTo-push}
@@ -15,6 +15,7 @@ use Rattle.chain_base.specs.Insert.{placed, CanPlace}
 use Rattle.chain_base.specs.Compression.{numbered, refilled, Transferring, TransferStep, IsTransfer}
 use Rattle.chain_base.specs.Transfer.{filled_with, last_of, place_behind, TakesOut, HasTaken}
 use Rattle.chain_base.proofs.Vacancy.{times-greatest}
+use Rattle.chain_base.proofs.Canonical.{numbered-push}
 
 -- what is there is said
 pub on_taken : {X Y : Type 0} (f : X → Y) (y : Y) (o : Option X) (A : Type 0) → option_map f o ≡ Some y → OnSome o A → A
@@ -71,14 +72,6 @@ module _ {T : Type 0} where
               raised = ap (λ (c : Chain T). c.generation) gone;
             }
       ]
-
-  -- entries numbered in a row, and one more
-  numbered-push : (g from : ℕ) (xs : List T) (x : T) → numbered g from (xs ++ x ∷ []) ≡ numbered g from xs ++ record { index = from + length xs; generation = g; item = x } ∷ []
-  numbered-push g from [] x = let same : from ≡ from + 0 = omega arith in ap (λ (i : ℕ). record { index = i; generation = g; item = x } ∷ []) same
-  numbered-push g from (y ∷ ys) x =
-      let later : from + 1 + length ys ≡ from + suc (length ys) = omega arith in
-      ap (λ (es : List (Entry T)). record { index = from; generation = g; item = y } ∷ es)
-      (numbered-push g (from + 1) ys x ∙ ap (λ (i : ℕ). numbered g (from + 1) ys ++ record { index = i; generation = g; item = x } ∷ []) later)
 
   insert_after-last : (g from : ℕ) (x : T) (xs : List T) (new : Entry T) → insert_after (from + length xs) new (numbered g from (x ∷ xs)) ≡ numbered g from (x ∷ xs) ++ new ∷ []
   insert_after-last g from x [] new = elim (eqb_tells from (from + 0)) [

@@ -1,10 +1,10 @@
 -- An insertion: from the chain's new entry to the tree with it.
-use Rattle.std.proofs.Common.{◌≡◌, ◌≢◌, ℕ, ◌+◌, ◌<◌, ◌^◌, Option, Some, None, List, [], ◌∷◌, map, length, arith, refl, sym, ◌∙◌, ap, subst, inl, is_some, true, false, option_map, MatchOption, slice_get, cond, Bool}
+use Rattle.std.proofs.Common.{◌≡◌, ◌≢◌, ℕ, ◌+◌, ◌<◌, ◌^◌, Option, Some, None, List, [], ◌∷◌, map, length, arith, refl, sym, ◌∙◌, ap, subst, inl, is_some, true, option_map, MatchOption, slice_get}
 use Rattle.std.proofs.lemmas.Bool.{eq-eqb}
 use Rattle.std.proofs.lemmas.List.{length-map}
 use Rattle.std.specs.declared.cmp.Ordering.{Ordering}
 use Rattle.std.specs.declared.cmp.Ordering.TheVariants.{Less, Equal, Greater}
-use Rattle.chain_base.specs.Chain.{Entry, Chain, entry_at, times as entry_times, IsFresh, IsSound, IsDistinct, next_index, inserted, with_room, with_capacity, grown_capacity}
+use Rattle.chain_base.specs.Chain.{Entry, Chain, entry_at, times as entry_times, IsFresh, IsSound, IsDistinct, inserted}
 use Rattle.chain_base.specs.Insert.{placed, CanPlace, IsInsertion}
 use Rattle.chain_base.specs.declared.chain.insert.LinkInsertKind.{LinkInsertKind}
 use Rattle.ord_tree.specs.declared.links.Place.{Place}
@@ -23,7 +23,7 @@ use Rattle.ord_tree.proofs.Slack.{IsRanked-balanced, IsBalanced-ranked, IsTight-
 use Rattle.ord_tree.proofs.Forks.{times-walk, apart-from}
 use Rattle.ord_tree.proofs.Frames.{Holds-frame}
 use Rattle.ord_tree.proofs.Views.{MovesAtMost-backs}
-use Rattle.ord_tree.proofs.Trees.{times-bare, indexes-bare, vacant_among-bare, bare-with_capacity, shape_in-held, is_some-bare, limit_of-le}
+use Rattle.ord_tree.proofs.Trees.{times-bare, indexes-bare, vacant_among-bare, shape_in-held, is_some-bare, limit_of-le}
 use Rattle.ord_tree.proofs.Planting.{times-indexes, IsOnce-distinct, within-occupied}
 use Rattle.ord_tree.proofs.Spots.{times-beside-ge, length-beside_in}
 use Rattle.ord_tree.proofs.Puts.{put-same, put-other, put-indexes, put-bare}
@@ -61,21 +61,7 @@ module _ {T : Type 0} where
           ap (λ (c : Chain T). c.entries) after ∙ ap (λ (j : ℕ). place (record { index = j; generation = old.generation; item = item })) same
           ∙ ap (λ (g : ℕ). place (record { index = i; generation = g; item = item })) (sym h.generation)
 
-  pub with_room-entries : (most : ℕ) (c : Chain T) → (with_room most c).entries ≡ c.entries
-  with_room-entries most c = go (is_some (next_index c))
-    where
-      go : (b : Bool) → (cond b c (with_capacity c (grown_capacity most c))).entries ≡ c.entries
-      go true = refl
-      go false = refl
-
 module _ {P T I G : Type 0} where
-  pub bare-with_room : (most : ℕ) (c : Chain (SimpleOrdArenaNode P T I G)) → bare (with_room most c) ≡ with_room most (bare c)
-  bare-with_room most c = go (is_some (next_index c))
-    where
-      go : (b : Bool) → bare (cond b c (with_capacity c (grown_capacity most c))) ≡ cond b (bare c) (with_capacity (bare c) (grown_capacity most (bare c)))
-      go true = refl
-      go false = bare-with_capacity c (grown_capacity most c)
-
   IsFresh-bare : (c : Chain (SimpleOrdArenaNode P T I G)) → IsFresh (bare c) → IsFresh c
   IsFresh-bare c h = h ∙ vacant_among-bare c.entries 1 c.capacity
 
@@ -286,26 +272,26 @@ mapped-twice number None = refl
 mapped-twice number (Some p) = refl
 
 -- the call of an insertion, from what its steps ensure
-module _ {P T I G : Type 0} (number : I → ℕ) (room c d : Chain (SimpleOrdArenaNode P T I G)) (root : Option ℕ) (at : Option (I × Ordering)) (place : Option (Place I)) (kind : LinkInsertKind P I G)
+module _ {P T I G : Type 0} (number : I → ℕ) (c d : Chain (SimpleOrdArenaNode P T I G)) (root : Option ℕ) (at : Option (I × Ordering)) (place : Option (Place I)) (kind : LinkInsertKind P I G)
     (back : Option I) (t : T) (leaf : SimpleOrdArenaNode P T I G) (index era : ℕ) (x : I)
-    (laid : IsLaidOut c root (shape_in c root)) (can : CanPutAt number at c) (same_room : room.entries ≡ c.entries)
+    (laid : IsLaidOut c root (shape_in c root)) (can : CanPutAt number at c)
     (place_is : (root : Option ℕ) (s : Shape) → IsLaidOut c root s → IsDistinct c.entries → IsBudAt number at (slots_of c) (indexes c.entries) place)
     (back_is : back ≡ option_map (λ (p : Place I). p.parent) place) (leaf_is : leaf ≡ record { p_tree0 = None; p_tree1 = None; t = t; p_back = option_map number back; rank = 1 }) (kind_is : kind ≡ kind_at at)
-    (insertion : IsInsertion room d (placed number kind c.entries) leaf index era) (x_is : number x ≡ index)
+    (insertion : IsInsertion c d (placed number kind c.entries) leaf index era) (x_is : number x ≡ index)
     (most : ℕ) (greatest : Option ℕ) (sound : IsSound most greatest d) (fits : most + 1 < 2 ^ 64) where
   put_is : (e : Entry (SimpleOrdArenaNode P T I G)) → placed number kind c.entries e ≡ put_at number at c.entries e
   put_is e = ap (λ (kind : LinkInsertKind P I G). placed number kind c.entries e) kind_is ∙ placed-put P G number at c.entries e
 
   entries_are : d.entries ≡ put_at number at c.entries (record { index = number x; generation = era; item = leaf })
   entries_are =
-      inserted-entries room d (placed number kind c.entries) leaf index era insertion ∙ put_is (record { index = index; generation = era; item = leaf })
+      inserted-entries c d (placed number kind c.entries) leaf index era insertion ∙ put_is (record { index = index; generation = era; item = leaf })
       ∙ ap (λ (i : ℕ). put_at number at c.entries (record { index = i; generation = era; item = leaf })) (sym x_is)
 
   links_are : links_in leaf ≡ leaf_links (option_map (λ (p : Place I). number p.parent) place)
   links_are = ap (links_in) leaf_is ∙ ap (λ (b : Option I). leaf_links (option_map number b)) back_is ∙ ap leaf_links (mapped-twice number place)
 
   x_free : entry_times (number x) c.entries ≡ 0
-  x_free = ap (λ (i : ℕ). entry_times i c.entries) x_is ∙ ap (entry_times index) (sym same_room) ∙ insertion.vacant.free
+  x_free = ap (λ (i : ℕ). entry_times i c.entries) x_is ∙ insertion.vacant.free
 
   pub call_allowed : MatchOption place (Unit {0}) (λ p. (order : List ℕ) × (slack : ℕ) × IsBudding (slots_of d) root p.side (number p.parent) (number x) order slack)
   call_allowed = grow_allowed number c d root (number x) era leaf laid x_free most greatest sound fits at place can place_is entries_are links_are
@@ -316,8 +302,8 @@ module _ {P T I G : Type 0} (number : I → ℕ) (room c d : Chain (SimpleOrdAre
     pub call_grown : IsLaidOut new (option_map number root') (shape_in new (option_map number root')) × IsGrown (shape_in c root) (shape_in new (option_map number root'))
     call_grown = grown_whole number c d root (number x) era leaf laid x_free most greatest sound fits at place can place_is entries_are links_are new root' x refl kept grown
 
-    pub call_listed : IsInsertion (bare room) (bare new) (put_at number at (map bare_entry c.entries)) t index era
+    pub call_listed : IsInsertion (bare c) (bare new) (put_at number at (map bare_entry c.entries)) t index era
     call_listed =
-        let L : T → Type 0 = λ t. IsInsertion (bare room) (bare new) (put_at number at (map bare_entry c.entries)) t index era in
+        let L : T → Type 0 = λ t. IsInsertion (bare c) (bare new) (put_at number at (map bare_entry c.entries)) t index era in
         subst L (ap (λ (n : SimpleOrdArenaNode P T I G). n.t) leaf_is)
-        (IsInsertion-bare room d new (placed number kind c.entries) (put_at number at (map bare_entry c.entries)) leaf index era (λ e. ap (λ (es : List (Entry (SimpleOrdArenaNode P T I G))). map bare_entry es) (put_is e) ∙ put_at-bare number at c.entries e) kept insertion)
+        (IsInsertion-bare c d new (placed number kind c.entries) (put_at number at (map bare_entry c.entries)) leaf index era (λ e. ap (λ (es : List (Entry (SimpleOrdArenaNode P T I G))). map bare_entry es) (put_is e) ∙ put_at-bare number at c.entries e) kept insertion)

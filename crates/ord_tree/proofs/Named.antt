@@ -1,7 +1,8 @@
 -- Indexes of entries name something: none of them is that of pointers that name nothing.
-use Rattle.std.proofs.Common.{◌≡◌, ◌≢◌, ℕ, ◌+◌, ◌≤◌, Option, Some, List, [], ◌∷◌, arith, refl, sym, is_some, true}
+use Rattle.std.proofs.Common.{◌≡◌, ◌≢◌, ℕ, ◌+◌, ◌≤◌, Option, List, arith, refl, is_some, true}
 use Rattle.chain_base.specs.Chain.{Entry, Chain, entry_at, times, inserted_at, IsSound}
 use Rattle.chain_base.specs.Insert.{IsInsertion}
+use Rattle.chain_base.proofs.CallerLemmas.{inserted-capacity}
 use Rattle.ord_tree.proofs.Trees.{limit_of-le}
 use Rattle.ord_tree.proofs.Planting.{times-indexes, within-occupied}
 
@@ -11,10 +12,6 @@ module _ {T : Type 0} (most : ℕ) (greatest : Option ℕ) (c : Chain T) (sound 
   index-named i there = λ e.
       let once : 1 ≤ times i c.entries = omega (arith, within-occupied c.entries i there, times-indexes c.entries i) in
       omega (arith, (sound.within i once).1, sound.within_limit, limit_of-le most c.maximum, e)
-
-  inserted-capacity : (room : Chain T) (place : Entry T → List (Entry T)) (item : T) (vacant : List ℕ) → (inserted_at room place item vacant).capacity ≡ room.capacity
-  inserted-capacity room place item [] = refl
-  inserted-capacity room place item (i ∷ rest) = refl
 
   -- the index of a new entry
   pub inserted-named : (room : Chain T) (place : Entry T → List (Entry T)) (item : T) (i era : ℕ) → IsInsertion room c place item i era → i ≢ most + 1

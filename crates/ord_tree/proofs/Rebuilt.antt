@@ -51,18 +51,19 @@ module _ {P T I G : Type 0} (c : Chain (SimpleOrdArenaNode P T I G)) where
       let inside = sound.within i (omega (arith, times-indexes c.entries i, within-occupied c.entries i (entry-occupied i some))) in
       (inside.0, omega (arith, inside.1, sound.within_limit, limit_of-le most c.maximum))
 
--- what a rebuild owes of the chain: the nodes spell a rebuilt shape along it
+-- what a rebuild owes of the chain: the nodes spell a rebuilt shape along it, and so the tree's shape is a rebuilt one
 module _ {P T I G : Type 0} (c new : Chain (SimpleOrdArenaNode P T I G)) (kept : bare new ≡ bare c) where
-  pub laid_rebuilt : (root : Option ℕ) (s : Shape) → walk s ≡ indexes (map bare_entry c.entries) → IsRebuilt s → Holds (slots_of new) None root s → IsLaidOut new root s
+  laid_rebuilt : (root : Option ℕ) (s : Shape) → walk s ≡ indexes (map bare_entry c.entries) → IsRebuilt s → Holds (slots_of new) None root s → IsLaidOut new root s
   laid_rebuilt root s listed rebuilt held = record {
     held = held;
     listed = listed ∙ ap (λ (b : Chain T). indexes b.entries) (sym kept) ∙ indexes-bare new.entries;
     ranked = IsRanked-from_rebuilt s rebuilt;
   }
 
--- a shape along a chain is the tree's
-pub shape_in-laid : {P T I G : Type 0} (c : Chain (SimpleOrdArenaNode P T I G)) (root : Option ℕ) (s : Shape) → IsLaidOut c root s → IsLaidOut c root (shape_in c root) × (shape_in c root ≡ s)
-shape_in-laid c root s laid =
-    let same = shape_in-held c root s laid.held laid.listed in
-    let L : Shape → Type 0 = λ s. IsLaidOut c root s in
-    (subst L (sym same) laid, same)
+  pub rebuilt-shape_in : (root : Option ℕ)
+      → (s : Shape) × (walk s ≡ indexes (map bare_entry c.entries)) × IsRebuilt s × Holds (slots_of new) None root s
+      → IsLaidOut new root (shape_in new root) × IsRebuilt (shape_in new root)
+  rebuilt-shape_in root r =
+      let laid = laid_rebuilt root r.0 r.1 r.2 r.3 in
+      let P : Shape → Type 0 = λ s. IsLaidOut new root s × IsRebuilt s in
+      subst P (sym (shape_in-held new root r.0 laid.held laid.listed)) (laid, r.2)

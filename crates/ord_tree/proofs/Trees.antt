@@ -1,8 +1,8 @@
 -- A tree that lies in a chain: what its view is, and what changes of the chain keep it.
-use Rattle.std.proofs.Common.{◌≡◌, ◌≢◌, ℕ, zero, suc, ◌+◌, ◌≤◌, Option, Some, None, List, [], ◌∷◌, map, length, arith, refl, sym, ◌∙◌, ap, subst, ⊎_elim, is_some, option_map, max, Result, Ok, Err, OnOk, OnErr, OnSome, IfNone, true}
+use Rattle.std.proofs.Common.{◌≡◌, ◌≢◌, ℕ, zero, suc, ◌+◌, ◌≤◌, Option, Some, None, List, [], ◌∷◌, map, length, arith, refl, sym, ◌∙◌, ap, subst, ⊎_elim, is_some, option_map, max, Result, Ok, Err, OnOk, OnErr, OnSome, IfNone, true, false, cond, Bool}
 use Rattle.std.proofs.lemmas.Bool.{cases_eq, eq-eqb, ne_eqb}
 use Rattle.std.proofs.lemmas.List.{length-map}
-use Rattle.chain_base.specs.Chain.{Entry, Chain, entry_at, times, with_item, with_item_at, vacant_among, with_capacity, greatest_index, IsSound}
+use Rattle.chain_base.specs.Chain.{Entry, Chain, entry_at, times, with_item, with_item_at, vacant_among, with_capacity, with_room, grown_capacity, next_index, greatest_index, IsSound}
 use Rattle.std.specs.Option.{ForSome}
 use Rattle.arena_base.specs.Arena.{how_often, limit_of}
 use Rattle.arena_base.specs.Generation.{IsLawfulGeneration}
@@ -153,6 +153,16 @@ module _ {P T I G : Type 0} where
   tree_of-with_capacity c root n =
       ap (λ (l : Chain T). record { list = l; shape = shape_in c root })
       (bare-with_capacity c (max n (greatest_index c.entries)) ∙ ap (λ (k : ℕ). with_capacity (bare c) (max n k)) (sym (greatest_index-bare c.entries)))
+
+  -- a growth that makes room
+  pub tree_of-with_room : (most : ℕ) (c : Chain (SimpleOrdArenaNode P T I G)) (root : Option ℕ)
+      → tree_of (with_room most c) root ≡ record (tree_of c root) { list = with_room most (bare c) }
+  tree_of-with_room most c root = go (is_some (next_index c))
+    where
+      go : (b : Bool) → tree_of (cond b c (with_capacity c (grown_capacity most c))) root
+          ≡ record (tree_of c root) { list = cond b (bare c) (with_capacity (bare c) (grown_capacity most (bare c))) }
+      go true = refl
+      go false = ap (λ (l : Chain T). record { list = l; shape = shape_in c root }) (bare-with_capacity c (grown_capacity most c))
 
   -- the shape depends on the links and the order of the nodes alone
   module _ (c d : Chain (SimpleOrdArenaNode P T I G)) (root : Option ℕ) (links : (j : ℕ) → slots_of d j ≡ slots_of c j) (order : indexes d.entries ≡ indexes c.entries)

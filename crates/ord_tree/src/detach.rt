@@ -64,7 +64,8 @@ pub fn substitute<N: Nodes>(nodes: &mut N, root: &mut Option<N::Inx>, z: N::Inx,
 /// A place once v stands for z.
 fn place_with<N: Nodes>(place: Option<Place<N::Inx>>, z: N::Inx, v: N::Inx) -> Option<Place<N::Inx>>
     ensures { MatchOption place (result ≡ None) (λ p. IsSomeAnd result
-        (λ q. (N.number q.parent ≡ stand_in (N.number z) (N.number v) (N.number p.parent)) × (q.side ≡ p.side))) }
+        (λ q. (N.number q.parent ≡ stand_in (N.number z) (N.number v) (N.number p.parent))
+        × (q.side ≡ p.side))) }
 {
     let Place { parent, side } = place?;
     let parent = if N::is_same(parent, z) { v } else { parent };
@@ -82,15 +83,18 @@ pub fn displace<N: Nodes>(
     before: Option<N::Inx>,
 ) -> Option<Place<N::Inx>>
     requires { (order : List ℕ)
-        × IsDetachable (N.at nodes.old) (option_map N.number root.old) (N.number z) (option_map N.number before) order }
+        × IsDetachable (N.at nodes.old) (option_map N.number root.old)
+        (N.number z) (option_map N.number before) order }
     ensures fallen { (order : List ℕ)
-        → IsDetachable (N.at nodes.old) (option_map N.number root.old) (N.number z) (option_map N.number before) order
+        → IsDetachable (N.at nodes.old) (option_map N.number root.old)
+        (N.number z) (option_map N.number before) order
         → MatchOption result
         (IsBuilt (N.at nodes.new) (option_map N.number root.new) (without (N.number z) order) 1)
         (λ place. IsFallen (N.at nodes.new) (option_map N.number root.new)
         (N.number place.parent) place.side (without (N.number z) order)) }
     ensures backs { (order : List ℕ)
-        → IsDetachable (N.at nodes.old) (option_map N.number root.old) (N.number z) (option_map N.number before) order
+        → IsDetachable (N.at nodes.old) (option_map N.number root.old)
+        (N.number z) (option_map N.number before) order
         → MovesBacks 4 (N.at nodes.old) (N.at nodes.new) }
     ensures kept { N.list nodes.new ≡ N.list nodes.old }
 {
@@ -106,12 +110,15 @@ pub fn displace<N: Nodes>(
 /// Takes z out of the tree, and repairs the ranks above; `before` is the entry directly before it in the list.
 pub fn detach<N: Nodes>(nodes: &mut N, root: &mut Option<N::Inx>, z: N::Inx, before: Option<N::Inx>)
     requires { (order : List ℕ)
-        × IsDetachable (N.at nodes.old) (option_map N.number root.old) (N.number z) (option_map N.number before) order }
+        × IsDetachable (N.at nodes.old) (option_map N.number root.old)
+        (N.number z) (option_map N.number before) order }
     ensures built { (order : List ℕ)
-        → IsDetachable (N.at nodes.old) (option_map N.number root.old) (N.number z) (option_map N.number before) order
+        → IsDetachable (N.at nodes.old) (option_map N.number root.old)
+        (N.number z) (option_map N.number before) order
         → IsBuilt (N.at nodes.new) (option_map N.number root.new) (without (N.number z) order) 1 }
     ensures backs { (order : List ℕ)
-        → IsDetachable (N.at nodes.old) (option_map N.number root.old) (N.number z) (option_map N.number before) order
+        → IsDetachable (N.at nodes.old) (option_map N.number root.old)
+        (N.number z) (option_map N.number before) order
         → MovesBacks 9 (N.at nodes.old) (N.at nodes.new) }
     ensures kept { N.list nodes.new ≡ N.list nodes.old }
 {

@@ -30,7 +30,13 @@ impl<P: Ptr, T> SimpleOrdArenaNode<P, T> {
 
     /// A node without children.
     pub(crate) fn leaf(p_back: Option<NodeInx<P::Inx>>, t: T) -> Self
-        ensures { result ≡ record { p_tree0 = None; p_tree1 = None; t = t; p_back = option_map P.Inx.number p_back; rank = 1 } }
+        ensures { result ≡ record {
+          p_tree0 = None;
+          p_tree1 = None;
+          t = t;
+          p_back = option_map P.Inx.number p_back;
+          rank = 1;
+        } }
     {
         SimpleOrdArenaNode {
             p_tree0: OptInx::none(),
@@ -43,7 +49,8 @@ impl<P: Ptr, T> SimpleOrdArenaNode<P, T> {
 
     /// Keeps another root of a side from now on.
     pub(crate) fn set_child(&mut self, side: Side, child: Option<NodeInx<P::Inx>>)
-        ensures links { links_in self.new ≡ with_child_at side (option_map P.Inx.number child) (links_in self.old) }
+        ensures links { links_in self.new
+            ≡ with_child_at side (option_map P.Inx.number child) (links_in self.old) }
         ensures item { self.new.t ≡ self.old.t }
     {
         match side {

@@ -132,7 +132,8 @@ pub fn close_one<N: Nodes>(
         → MatchOption result
         (IsReady (N.at nodes.new) stack.new.items s (option_map N.number greater) todo)
         (λ m. IsFinished (N.at nodes.new) stack.new.items s (Some (N.number m)) todo) }
-    ensures fewer { MatchOption result (stack.new ≡ stack.old) (λ m. array_vec_len stack.new < array_vec_len stack.old) }
+    ensures fewer { MatchOption result (stack.new ≡ stack.old)
+        (λ m. array_vec_len stack.new < array_vec_len stack.old) }
     ensures kept { N.list nodes.new ≡ N.list nodes.old }
 {
     let found = stack.last()?.middle?;
@@ -194,7 +195,8 @@ pub fn pass<N: Nodes>(
 pub fn rebuild<N: Nodes>(nodes: &mut N, len: usize) -> Option<N::Inx>
     requires len { len ≡ length (indexes (N.list nodes.old).entries) }
     requires once { IsOnce (indexes (N.list nodes.old).entries) }
-    requires there { (j : ℕ) → 0 < times j (indexes (N.list nodes.old).entries) → IsSome (N.at nodes.old j) }
+    requires there { (j : ℕ) → 0 < times j (indexes (N.list nodes.old).entries)
+        → IsSome (N.at nodes.old j) }
     ensures rebuilt { (s : Shape) × (walk s ≡ indexes (N.list nodes.old).entries) × IsRebuilt s
         × Holds (N.at nodes.new) None (option_map N.number result) s }
     ensures kept { N.list nodes.new ≡ N.list nodes.old }

@@ -45,7 +45,8 @@ impl<P: Ptr, T, A: Allocator> Model for OrdTree<P, T, A> {
 
     ghost view = { λ t. tree_of t.chain (option_map P.Inx.number t.root) };
 
-    ghost invariant = { λ t. IsLaidOut t.chain (option_map P.Inx.number t.root) (shape_in t.chain (option_map P.Inx.number t.root)) };
+    ghost invariant = { λ t. IsLaidOut t.chain (option_map P.Inx.number t.root)
+        (shape_in t.chain (option_map P.Inx.number t.root)) };
 }
 
 impl<P: Ptr, T, A: Allocator> OrdTree<P, T, A> {

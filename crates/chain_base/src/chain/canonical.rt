@@ -21,7 +21,8 @@ impl<P: Ptr, T, A: Allocator> ChainArena<P, T, A> {
     /// The answer says whether the generations began again because the next one comes after the greatest. The capacity stays,
     /// and all vacant slots count as never used. It takes no memory, and goes through the list once more than `compress`.
     pub fn compress_canonical(&mut self, reset: bool) -> InvalidationOption<()>
-        ensures after { self.new ≡ canonical self.old (compressed_generation P.Gen.greatest reset self.old.generation) }
+        ensures after { self.new
+            ≡ canonical self.old (compressed_generation P.Gen.greatest reset self.old.generation) }
         ensures overflow { is_overflow result ≡ compression_overflows P.Gen.greatest reset self.old.generation }
     {
         let len = self.len();
@@ -74,7 +75,8 @@ impl<P: Ptr, T, A: Allocator> ChainArena<P, T, A> {
 
 // The index that an entry has once those at i and j have changed theirs.
 fn exchanged_inx<P: Ptr>(at: Option<P::Inx>, i: P::Inx, j: P::Inx) -> Option<P::Inx>
-    ensures { option_map P.Inx.number result ≡ option_map (exchanged_index (P.Inx.number i) (P.Inx.number j)) (option_map P.Inx.number at) }
+    ensures { option_map P.Inx.number result
+        ≡ option_map (exchanged_index (P.Inx.number i) (P.Inx.number j)) (option_map P.Inx.number at) }
 {
     match at {
         Some(k) if k == i => Some(j),

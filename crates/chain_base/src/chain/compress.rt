@@ -37,7 +37,8 @@ impl<P: Ptr, T, A: Allocator> ChainArena<P, T, A> {
 
     /// Moves all entries to the indexes from 1 on as `compress_with` does, each with the item that it has.
     pub fn compress(&mut self, reset: bool) -> InvalidationOption<()>
-        ensures after { self.new ≡ relocated self.old (compressed_generation P.Gen.greatest reset self.old.generation) }
+        ensures after { self.new
+            ≡ relocated self.old (compressed_generation P.Gen.greatest reset self.old.generation) }
         ensures overflow { is_overflow result ≡ compression_overflows P.Gen.greatest reset self.old.generation }
     {
         // The invariant of the list is needed: each of its indexes is within the capacity.

@@ -33,7 +33,8 @@ impl<P: Ptr, T, A: Allocator> ChainArena<P, T, A> {
 
     /// Generation and item of the entry at the index.
     pub fn get_inx(&self, i: P::Inx) -> Option<(P::Gen, &T)>
-        ensures { option_map (λ e. (P.Gen.number e.0, e.1.now)) result ≡ entry_at self.now.entries (P.Inx.number i) }
+        ensures { option_map (λ e. (P.Gen.number e.0, e.1.now)) result
+            ≡ entry_at self.now.entries (P.Inx.number i) }
     {
         let entry = self.arena.get_inx(i)?;
         let link = entry.1;
@@ -60,7 +61,10 @@ impl<P: Ptr, T, A: Allocator> ChainArena<P, T, A> {
 
     /// Generation, item and neighbours of the entry at the index.
     pub fn get_inx_link_no_gen(&self, i: P::Inx) -> Option<(P::Gen, LinkNoGen<P, &T>)>
-        ensures { option_map (λ e. (P.Gen.number e.0, (record { item = e.1.item.now; prev = e.1.prev; next = e.1.next }))) result ≡ link_at self.now.entries (P.Inx.number i) }
+        ensures { option_map
+            (λ e. (P.Gen.number e.0, record { item = e.1.item.now; prev = e.1.prev; next = e.1.next }))
+            result
+            ≡ link_at self.now.entries (P.Inx.number i) }
     {
         let entry = self.arena.get_inx(i)?;
         let link = entry.1;
@@ -99,7 +103,8 @@ impl<P: Ptr, T, A: Allocator> ChainArena<P, T, A> {
 
     // The pointer of the entry at the index.
     pub(super) fn ptr_at(&self, i: P::Inx) -> Option<P>
-        ensures { option_map (λ p. (P.index p, P.era p)) result ≡ pointed (P.Inx.number i) (entry_at self.now.entries (P.Inx.number i)) }
+        ensures { option_map (λ p. (P.index p, P.era p)) result
+            ≡ pointed (P.Inx.number i) (entry_at self.now.entries (P.Inx.number i)) }
     {
         let entry = self.arena.get_inx(i)?;
         Some(P::_from_raw(i, entry.0))

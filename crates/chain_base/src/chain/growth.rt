@@ -1,11 +1,14 @@
 //! Making a chain arena, and changing its capacity.
-ghost use Rattle.std.specs.Prelude.{◌≡◌, ◌<◌, ◌↔◌, max, IsOk, IsErr, IfOk, OnOk, OnErr};
+ghost use Rattle.std.specs.Prelude.{◌≡◌, ◌<◌, ◌≤◌, ◌↔◌, ◌⊎◌, max, length, IsSome, IsOk, IsErr, IfOk, OnOk, IfErr, OnErr};
 ghost use Rattle.arena_base.specs.Generation.{overflows_after};
 ghost use Rattle.arena_base.specs.Invalidation.{is_overflow};
-ghost use Rattle.chain_base.specs.Chain.{new_chain, with_capacity, cleared, greatest_index, chain_limit};
+ghost use Rattle.chain_base.specs.Chain.{new_chain, with_capacity, with_room, cleared, greatest_index, next_index, chain_limit};
 
 use super::ChainArena;
-use arena_base::{Arena, InvalidationOption, MaxCapacityReductionError, Ptr, ReallocationError};
+use arena_base::{
+    Arena, InsertionError, InvalidationOption, MaxCapacityReductionError, Ptr, PtrInx,
+    ReallocationError,
+};
 use std::alloc::{AllocError, Allocator};
 
 impl<P: Ptr, T, A: Allocator> ChainArena<P, T, A> {
@@ -43,12 +46,58 @@ impl<P: Ptr, T, A: Allocator> ChainArena<P, T, A> {
     /// It is refused where `n` is beyond the maximum or the greatest index, or where the capacity would grow and memory is
     /// refused. Nothing changes then.
     pub fn reallocate_min_capacity(&mut self, n: usize) -> Result<(), ReallocationError>
-        ensures ok { OnOk result (self.new ≡ with_capacity self.old (max n (greatest_index self.old.entries))) }
-        ensures beyond { (result ≡ Err ReallocationError.BeyondMaxCapacity) ↔ (chain_limit P.Inx.most self.old < n) }
+        ensures ok { OnOk result
+            (self.new ≡ with_capacity self.old (max n (greatest_index self.old.entries))) }
+        ensures beyond { (result ≡ Err ReallocationError.BeyondMaxCapacity)
+            ↔ (chain_limit P.Inx.most self.old < n) }
         ensures memory { result ≡ Err ReallocationError.AllocError → self.old.capacity < n }
         ensures err { OnErr result (self.new ≡ self.old) }
     {
         self.arena.reallocate_min_capacity(n)
+    }
+
+    /// Sees to it that a slot is vacant: where none is, it grows. The next insertion takes the slot that it would have taken after
+    /// growing by itself, and needs no memory.
+    ///
+    /// A growth makes the capacity twice as great, at least 4, and at most its limit, in O(capacity). It is refused with
+    /// `BeyondMaxCapacity` where no slot is vacant and the capacity is at the limit, and with `AllocError` where none is and memory
+    /// is refused. Nothing changes then.
+    pub fn make_room(&mut self) -> Result<(), InsertionError>
+        ensures ok { OnOk result (self.new ≡ with_room P.Inx.most self.old) }
+        ensures room { OnOk result (length self.new.entries < self.new.capacity) }
+        ensures next { OnOk result (IsSome (next_index self.new)) }
+        ensures kept { self.new.entries ≡ self.old.entries }
+        ensures capacity { self.old.capacity ≤ self.new.capacity }
+        ensures beyond { (result ≡ Err InsertionError.BeyondMaxCapacity)
+            ↔ (length self.old.entries ≡ chain_limit P.Inx.most self.old) }
+        ensures memory { result ≡ Err InsertionError.AllocError
+            → length self.old.entries ≡ self.old.capacity }
+        ensures refusal { IfErr result
+            (λ e. (e ≡ InsertionError.BeyondMaxCapacity) ⊎ (e ≡ InsertionError.AllocError)) }
+        ensures err { OnErr result (self.new ≡ self.old) }
+    {
+        let capacity = self.capacity();
+        if self.len() < capacity {
+            return Ok(());
+        }
+        let limit = self.limit();
+        if capacity >= limit {
+            return Err(InsertionError::BeyondMaxCapacity);
+        }
+        match self.reallocate_min_capacity(limit.min(capacity.saturating_mul(2).max(4))) {
+            Ok(()) => Ok(()),
+            Err(_) => Err(InsertionError::AllocError),
+        }
+    }
+
+    // How far the capacity may grow.
+    fn limit(&self) -> usize
+        ensures { result ≡ chain_limit P.Inx.most self.now }
+    {
+        match self.max_capacity() {
+            Some(maximum) => maximum.min(P::Inx::limit()),
+            None => P::Inx::limit(),
+        }
     }
 
     /// Sets a maximum of the capacity. It is refused where the capacity is already greater, and nothing changes then.

@@ -31,7 +31,8 @@ impl<P: Ptr, T: Drop, A: Allocator> ChainArena<P, T, A> {
         t: T,
     ) -> Result<P, InsertionError>
         requires { CanPlace P.Inx.number kind self.old }
-        ensures ok { IfOk result (λ p. IsInsertion self.old self.new (placed P.Inx.number kind self.old.entries) t (P.index p) (P.era p)) }
+        ensures ok { IfOk result (λ p. IsInsertion self.old self.new
+            (placed P.Inx.number kind self.old.entries) t (P.index p) (P.era p)) }
         ensures full { IsErr result ↔ (length self.old.entries ≡ self.old.capacity) }
         ensures refusal { IfErr result (λ e. e ≡ InsertionError.NotWithinCapacity) }
         ensures err { OnErr result (self.new ≡ self.old) }
@@ -64,35 +65,26 @@ impl<P: Ptr, T: Drop, A: Allocator> ChainArena<P, T, A> {
         t: T,
     ) -> Result<P, InsertionError>
         requires { CanPlace P.Inx.number kind self.old }
-        ensures ok { IfOk result (λ p. IsInsertion (with_room P.Inx.most self.old) self.new (placed P.Inx.number kind self.old.entries) t (P.index p) (P.era p)) }
-        ensures beyond { (result ≡ Err InsertionError.BeyondMaxCapacity) ↔ (length self.old.entries ≡ chain_limit P.Inx.most self.old) }
-        ensures memory { result ≡ Err InsertionError.AllocError → length self.old.entries ≡ self.old.capacity }
-        ensures refusal { IfErr result (λ e. (e ≡ InsertionError.BeyondMaxCapacity) ⊎ (e ≡ InsertionError.AllocError)) }
+        ensures ok { IfOk result (λ p. IsInsertion (with_room P.Inx.most self.old) self.new
+            (placed P.Inx.number kind self.old.entries) t (P.index p) (P.era p)) }
+        ensures beyond { (result ≡ Err InsertionError.BeyondMaxCapacity)
+            ↔ (length self.old.entries ≡ chain_limit P.Inx.most self.old) }
+        ensures memory { result ≡ Err InsertionError.AllocError
+            → length self.old.entries ≡ self.old.capacity }
+        ensures refusal { IfErr result
+            (λ e. (e ≡ InsertionError.BeyondMaxCapacity) ⊎ (e ≡ InsertionError.AllocError)) }
         ensures room { self.old.capacity ≤ self.new.capacity }
         ensures err { OnErr result (self.new ≡ self.old) }
     {
-        let (prev, next) = self.neighbours(kind);
-        let p = self
-            .arena
-            .insert_reallocating(LinkNoGen::new((prev, next), t))?;
-        let new = Some(p.inx());
-        let ends = relink(
-            &mut self.arena,
-            prev,
-            new,
-            new,
-            next,
-            (self.first, self.last),
-        );
-        self.first = ends.0;
-        self.last = ends.1;
-        Ok(p)
+        self.make_room()?;
+        self.insert_within_capacity(kind, t)
     }
 
     // The neighbours of a new entry.
     fn neighbours(&self, kind: LinkInsertKind<P>) -> (Option<P::Inx>, Option<P::Inx>)
         requires { CanPlace P.Inx.number kind self.now }
-        ensures { IsPlace self.now.entries (placed P.Inx.number kind self.now.entries) (option_map P.Inx.number result.0) (option_map P.Inx.number result.1) }
+        ensures { IsPlace self.now.entries (placed P.Inx.number kind self.now.entries)
+            (option_map P.Inx.number result.0) (option_map P.Inx.number result.1) }
     {
         match kind {
             LinkInsertKind::Disconnected => (None, None),

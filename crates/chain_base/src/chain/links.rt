@@ -25,9 +25,11 @@ pub(super) fn relink<P: Ptr, T, A: Allocator>(
         (linked_next arena.old (option_map P.Inx.number left) (named_of P.Inx.most (option_map P.Inx.number next)))
         (option_map P.Inx.number right) (named_of P.Inx.most (option_map P.Inx.number prev)) }
     ensures first { option_map P.Inx.number result.0 ≡
-        (if is_some (option_map P.Inx.number left) then option_map P.Inx.number ends.0 else option_map P.Inx.number next) }
+        (if is_some (option_map P.Inx.number left)
+        then option_map P.Inx.number ends.0 else option_map P.Inx.number next) }
     ensures last { option_map P.Inx.number result.1 ≡
-        (if is_some (option_map P.Inx.number right) then option_map P.Inx.number ends.1 else option_map P.Inx.number prev) }
+        (if is_some (option_map P.Inx.number right)
+        then option_map P.Inx.number ends.1 else option_map P.Inx.number prev) }
 {
     set_next(arena, left, next);
     set_prev(arena, right, prev);
@@ -43,7 +45,8 @@ pub(super) fn set_next<P: Ptr, T, A: Allocator>(
     next: Option<P::Inx>,
 )
     requires { ForSome at (λ i. IsOccupied arena.old (P.Inx.number i)) }
-    ensures { arena.new ≡ linked_next arena.old (option_map P.Inx.number at) (named_of P.Inx.most (option_map P.Inx.number next)) }
+    ensures { arena.new ≡ linked_next arena.old
+        (option_map P.Inx.number at) (named_of P.Inx.most (option_map P.Inx.number next)) }
 {
     if let Some(i) = at {
         let pair = arena.pair_mut(i);
@@ -59,7 +62,8 @@ pub(super) fn set_prev<P: Ptr, T, A: Allocator>(
     prev: Option<P::Inx>,
 )
     requires { ForSome at (λ i. IsOccupied arena.old (P.Inx.number i)) }
-    ensures { arena.new ≡ linked_prev arena.old (option_map P.Inx.number at) (named_of P.Inx.most (option_map P.Inx.number prev)) }
+    ensures { arena.new ≡ linked_prev arena.old
+        (option_map P.Inx.number at) (named_of P.Inx.most (option_map P.Inx.number prev)) }
 {
     if let Some(i) = at {
         let pair = arena.pair_mut(i);

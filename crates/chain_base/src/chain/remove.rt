@@ -20,9 +20,12 @@ impl<P: Ptr, T, A: Allocator> ChainArena<P, T, A> {
         &mut self,
         i: P::Inx,
     ) -> InvalidationResult<(P::Gen, LinkNoGen<P, T>)>
-        ensures value { option_map (λ e. (P.Gen.number e.0, e.1)) (valid_value result) ≡ link_at self.old.entries (P.Inx.number i) }
-        ensures overflow { OnSome (valid_value result) (has_overflowed result ≡ overflows_after P.Gen.greatest self.old.generation) }
-        ensures removed { OnSome (valid_value result) (self.new ≡ removed P.Gen.greatest self.old (P.Inx.number i)) }
+        ensures value { option_map (λ e. (P.Gen.number e.0, e.1)) (valid_value result)
+            ≡ link_at self.old.entries (P.Inx.number i) }
+        ensures overflow { OnSome (valid_value result)
+            (has_overflowed result ≡ overflows_after P.Gen.greatest self.old.generation) }
+        ensures removed { OnSome (valid_value result)
+            (self.new ≡ removed P.Gen.greatest self.old (P.Inx.number i)) }
         ensures invalid { IfNone (valid_value result) (self.new ≡ self.old) }
     {
         if !self.contains_inx(i) {
@@ -35,7 +38,8 @@ impl<P: Ptr, T, A: Allocator> ChainArena<P, T, A> {
     /// other, and raises the generation. The next insertion takes its slot. It takes no memory.
     pub fn remove_entry(&mut self, i: P::Inx) -> InvalidationOption<(P::Gen, LinkNoGen<P, T>)>
         requires { IsOccupied self.old (P.Inx.number i) }
-        ensures value { link_at self.old.entries (P.Inx.number i) ≡ Some (P.Gen.number (allowed_value result).0, (allowed_value result).1) }
+        ensures value { link_at self.old.entries (P.Inx.number i)
+            ≡ Some (P.Gen.number (allowed_value result).0, (allowed_value result).1) }
         ensures overflow { is_overflow result ≡ overflows_after P.Gen.greatest self.old.generation }
         ensures removed { self.new ≡ removed P.Gen.greatest self.old (P.Inx.number i) }
     {
@@ -60,8 +64,10 @@ impl<P: Ptr, T, A: Allocator> ChainArena<P, T, A> {
     pub fn invalidate(&mut self, p: P) -> InvalidationResult<P>
         ensures valid { is_some (valid_value result) ≡ is_some (item_of self.old.entries (P.index p) (P.era p)) }
         ensures index { IfSome (valid_value result) (λ q. P.index q ≡ P.index p) }
-        ensures era { IfSome (valid_value result) (λ q. P.era q ≡ next_generation P.Gen.greatest self.old.generation) }
-        ensures overflow { OnSome (valid_value result) (has_overflowed result ≡ overflows_after P.Gen.greatest self.old.generation) }
+        ensures era { IfSome (valid_value result)
+            (λ q. P.era q ≡ next_generation P.Gen.greatest self.old.generation) }
+        ensures overflow { OnSome (valid_value result)
+            (has_overflowed result ≡ overflows_after P.Gen.greatest self.old.generation) }
         ensures renewed { OnSome (valid_value result) (self.new ≡ renewed P.Gen.greatest self.old (P.index p)) }
         ensures invalid { IfNone (valid_value result) (self.new ≡ self.old) }
     {

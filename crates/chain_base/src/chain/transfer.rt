@@ -44,7 +44,8 @@ impl<P: Ptr, T, A: Allocator> ChainArena<P, T, A> {
             (P.Gen.number new_generation) f source.old source.new self.old self.new) }
         ensures beyond { (result ≡ Err ReallocationError.BeyondMaxCapacity)
             ↔ (chain_limit P.Inx.most self.old < length source.old.entries) }
-        ensures memory { result ≡ Err ReallocationError.AllocError → self.old.capacity < length source.old.entries }
+        ensures memory { result ≡ Err ReallocationError.AllocError
+            → self.old.capacity < length source.old.entries }
         ensures err { OnErr result (self.new ≡ self.old) }
         ensures err_source { OnErr result (source.new ≡ source.old) }
     {
@@ -66,7 +67,8 @@ impl<P: Ptr, T, A: Allocator> ChainArena<P, T, A> {
             (P.Gen.number new_generation) map source.old source.new self.old self.new) }
         ensures beyond { (result ≡ Err ReallocationError.BeyondMaxCapacity)
             ↔ (chain_limit P.Inx.most self.old < length source.old.entries) }
-        ensures memory { result ≡ Err ReallocationError.AllocError → self.old.capacity < length source.old.entries }
+        ensures memory { result ≡ Err ReallocationError.AllocError
+            → self.old.capacity < length source.old.entries }
         ensures err { OnErr result (self.new ≡ self.old) }
         ensures err_source { OnErr result (source.new ≡ source.old) }
     {
@@ -86,7 +88,8 @@ fn raise_capacity<P: Ptr, T, A: Allocator>(
 ) -> Result<(), ReallocationError>
     ensures capacity { OnOk result (chain.new.capacity ≡ max chain.old.capacity n) }
     ensures maximum { OnOk result (chain.new.maximum ≡ chain.old.maximum) }
-    ensures beyond { (result ≡ Err ReallocationError.BeyondMaxCapacity) ↔ (chain_limit P.Inx.most chain.old < n) }
+    ensures beyond { (result ≡ Err ReallocationError.BeyondMaxCapacity)
+        ↔ (chain_limit P.Inx.most chain.old < n) }
     ensures memory { result ≡ Err ReallocationError.AllocError → chain.old.capacity < n }
     ensures err { OnErr result (chain.new ≡ chain.old) }
 {
@@ -106,7 +109,8 @@ fn take_all<P: Ptr, T: Drop, A: Allocator, Q: Ptr, U, B: Allocator, M: MapTaken<
     requires callable { M.callable map }
     requires empty { chain.old ≡ filled_with chain.old [] }
     requires room { length source.old.entries ≤ chain.old.capacity }
-    ensures taken { (n : M) × HasTaken Q.index Q.era P.index P.era Q.Gen.greatest M.step map source.old source.new chain.old chain.new n }
+    ensures taken { (n : M) × HasTaken Q.index Q.era P.index P.era Q.Gen.greatest M.step map
+        source.old source.new chain.old chain.new n }
     ensures all { source.new.entries ≡ [] }
 {
     let mut last = None;
@@ -150,7 +154,8 @@ fn put_last<P: Ptr, T: Drop, A: Allocator>(
     requires { (c : Chain T) × (items : List T) × (chain.old ≡ filled_with c items) × (length items < c.capacity)
         × (option_map P.Inx.number last ≡ last_of (length items)) }
     ensures { (c : Chain T) (items : List T) → chain.old ≡ filled_with c items → length items < c.capacity
-        → option_map P.Inx.number last ≡ last_of (length items) → chain.new ≡ filled_with c (items ++ item ∷ []) }
+        → option_map P.Inx.number last ≡ last_of (length items)
+        → chain.new ≡ filled_with c (items ++ item ∷ []) }
 {
     chain
         .insert_within_capacity(kind_behind(last), item)

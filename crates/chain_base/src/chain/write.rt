@@ -35,7 +35,8 @@ impl<P: Ptr, T, A: Allocator> ChainArena<P, T, A> {
             P.Inx.PtrInx.own P.Inx.PartialEq P.Inx.Ord.own P.Inx.PartialOrd.own P.Inx.Hash.own P.Inx.Debug
             P.Gen.PtrGen.own P.Gen.PartialEq P.Gen.Debug A.Allocator
             self.entry (P.Inx.number i) result) }
-        ensures value { option_copied_mut result ≡ option_map (λ e. e.1) (entry_at self.old.entries (P.Inx.number i)) }
+        ensures value { option_copied_mut result
+            ≡ option_map (λ e. e.1) (entry_at self.old.entries (P.Inx.number i)) }
     {
         if self.contains_inx(i) {
             Some(self.pair_mut(i).1)
@@ -49,7 +50,8 @@ impl<P: Ptr, T, A: Allocator> ChainArena<P, T, A> {
     /// Its clause says what it gives, and can't say what it leaves. It calls `pair_mut`, whose clause says that, where
     /// `contains_inx` is true, and does nothing else.
     pub fn get_inx_mut(&mut self, i: P::Inx) -> Option<(P::Gen, &mut T)>
-        ensures value { option_map (λ e. (P.Gen.number e.0, e.1.now)) result ≡ entry_at self.old.entries (P.Inx.number i) }
+        ensures value { option_map (λ e. (P.Gen.number e.0, e.1.now)) result
+            ≡ entry_at self.old.entries (P.Inx.number i) }
     {
         if self.contains_inx(i) {
             Some(self.pair_mut(i))

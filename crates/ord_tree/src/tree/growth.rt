@@ -1,11 +1,11 @@
 //! Making a tree, and changing its capacity.
 
-ghost use Rattle.std.specs.Prelude.{◌≡◌, ◌<◌, ◌↔◌, max, IsOk, IsErr, IfOk, OnOk, OnErr};
-ghost use Rattle.chain_base.specs.Chain.{new_chain, with_capacity, greatest_index, chain_limit};
+ghost use Rattle.std.specs.Prelude.{◌≡◌, ◌<◌, ◌↔◌, ◌⊎◌, max, length, IsSome, IsOk, IsErr, IfOk, OnOk, IfErr, OnErr};
+ghost use Rattle.chain_base.specs.Chain.{new_chain, with_capacity, with_room, greatest_index, next_index, chain_limit};
 ghost use Rattle.ord_tree.specs.Shape.{missing};
 
 use super::OrdTree;
-use arena_base::{MaxCapacityReductionError, Ptr, ReallocationError};
+use arena_base::{InsertionError, MaxCapacityReductionError, Ptr, ReallocationError};
 use chain_base::ChainArena;
 use std::alloc::{AllocError, Allocator};
 
@@ -26,7 +26,8 @@ impl<P: Ptr, T, A: Allocator> OrdTree<P, T, A> {
     pub fn with_min_capacity(alloc: A, n: usize) -> Result<Self, AllocError>
     where
         A: Copy,
-        ensures ok { IfOk result (λ t. t ≡ record { list = with_capacity (new_chain P.Gen.greatest) n; shape = missing }) }
+        ensures ok { IfOk result
+            (λ t. t ≡ record { list = with_capacity (new_chain P.Gen.greatest) n; shape = missing }) }
         ensures beyond { P.Inx.most < n → IsErr result }
         ensures none { n ≡ 0 → IsOk result }
     {
@@ -44,16 +45,42 @@ impl<P: Ptr, T, A: Allocator> OrdTree<P, T, A> {
         ensures ok { OnOk result (self.new ≡ record self.old {
           list = with_capacity self.old.list (max n (greatest_index self.old.list.entries));
         }) }
-        ensures beyond { (result ≡ Err ReallocationError.BeyondMaxCapacity) ↔ (chain_limit P.Inx.most self.old.list < n) }
+        ensures beyond { (result ≡ Err ReallocationError.BeyondMaxCapacity)
+            ↔ (chain_limit P.Inx.most self.old.list < n) }
         ensures memory { result ≡ Err ReallocationError.AllocError → self.old.list.capacity < n }
         ensures err { OnErr result (self.new ≡ self.old) }
     {
         self.chain.reallocate_min_capacity(n)
     }
 
+    /// Sees to it that a slot is vacant: where none is, it grows. The next insertion takes the slot that it would have taken after
+    /// growing by itself, and needs no memory.
+    ///
+    /// A growth makes the capacity twice as great, at least 4, and at most its limit, in O(capacity). It is refused with
+    /// `BeyondMaxCapacity` where no slot is vacant and the capacity is at the limit, and with `AllocError` where none is and memory
+    /// is refused. Nothing changes then.
+    pub fn make_room(&mut self) -> Result<(), InsertionError>
+        ensures ok { OnOk result
+            (self.new ≡ record self.old { list = with_room P.Inx.most self.old.list }) }
+        ensures room { OnOk result (length self.new.list.entries < self.new.list.capacity) }
+        ensures next { OnOk result (IsSome (next_index self.new.list)) }
+        ensures entries { self.new.list.entries ≡ self.old.list.entries }
+        ensures shape { self.new.shape ≡ self.old.shape }
+        ensures beyond { (result ≡ Err InsertionError.BeyondMaxCapacity)
+            ↔ (length self.old.list.entries ≡ chain_limit P.Inx.most self.old.list) }
+        ensures memory { result ≡ Err InsertionError.AllocError
+            → length self.old.list.entries ≡ self.old.list.capacity }
+        ensures refusal { IfErr result
+            (λ e. (e ≡ InsertionError.BeyondMaxCapacity) ⊎ (e ≡ InsertionError.AllocError)) }
+        ensures err { OnErr result (self.new ≡ self.old) }
+    {
+        self.chain.make_room()
+    }
+
     /// Sets a maximum of the capacity. It is refused where the capacity is already greater, and nothing changes then.
     pub fn set_max_capacity(&mut self, n: usize) -> Result<(), MaxCapacityReductionError>
-        ensures ok { OnOk result (self.new ≡ record self.old { list = record self.old.list { maximum = Some n } }) }
+        ensures ok { OnOk result
+            (self.new ≡ record self.old { list = record self.old.list { maximum = Some n } }) }
         ensures refused { IsErr result ↔ (n < self.old.list.capacity) }
         ensures err { OnErr result (self.new ≡ self.old) }
     {

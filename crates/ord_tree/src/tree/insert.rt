@@ -69,21 +69,14 @@ impl<P: Ptr, T: Drop, A: Allocator> OrdTree<P, T, A> {
         ensures shape { OnOk result (IsGrown self.old.shape self.new.shape) }
         ensures beyond { (result ≡ Err InsertionError.BeyondMaxCapacity)
             ↔ (length self.old.list.entries ≡ chain_limit P.Inx.most self.old.list) }
-        ensures memory { result ≡ Err InsertionError.AllocError → length self.old.list.entries ≡ self.old.list.capacity }
-        ensures refusal { IfErr result (λ e. (e ≡ InsertionError.BeyondMaxCapacity) ⊎ (e ≡ InsertionError.AllocError)) }
+        ensures memory { result ≡ Err InsertionError.AllocError
+            → length self.old.list.entries ≡ self.old.list.capacity }
+        ensures refusal { IfErr result
+            (λ e. (e ≡ InsertionError.BeyondMaxCapacity) ⊎ (e ≡ InsertionError.AllocError)) }
         ensures err { OnErr result (self.new ≡ self.old) }
     {
-        let place = place_at(&self.chain, at);
-        let node = SimpleOrdArenaNode::leaf(parent_in(place), t);
-        let p = self.chain.insert_reallocating(kind_of(at), node)?;
-        prove!(self.chain.len() <= self.chain.capacity());
-        grow(
-            &mut self.chain,
-            &mut self.root,
-            place,
-            NodeInx::new(p.inx()),
-        );
-        Ok(p)
+        self.make_room()?;
+        self.insert_within_capacity(at, t)
     }
 }
 
@@ -122,7 +115,8 @@ pub(super) fn neighbour<P: Ptr, T, A: Allocator>(
     side: Side,
 ) -> Option<NodeInx<P::Inx>>
     requires { IsOccupied chain.now (P.Inx.number i) }
-    ensures { option_map P.Inx.number result ≡ neighbour_in side (P.Inx.number i) (indexes chain.now.entries) }
+    ensures { option_map P.Inx.number result
+        ≡ neighbour_in side (P.Inx.number i) (indexes chain.now.entries) }
 {
     let link = chain.link(i.get());
     match side {

@@ -7,10 +7,10 @@ ghost use Rattle.arena_base.specs.Generation.{IsLawfulGeneration};
 ghost use Rattle.arena_base.specs.Invalidation.{is_overflow};
 ghost use Rattle.chain_base.specs.Chain.{chain_limit};
 ghost use Rattle.chain_base.specs.Compression.{canonical, relocated, IsCompression, IsTransfer};
-ghost use Rattle.ord_tree.specs.Shape.{Shape, missing};
+ghost use Rattle.ord_tree.specs.Shape.{missing};
 ghost use Rattle.ord_tree.specs.Half.{IsRebuilt};
 ghost use Rattle.ord_tree.specs.Node.{bare};
-ghost use Rattle.ord_tree.specs.Layout.{IsLaidOut};
+ghost use Rattle.ord_tree.specs.Layout.{shape_in, IsLaidOut};
 
 use super::OrdTree;
 use crate::node::SimpleOrdArenaNode;
@@ -37,7 +37,8 @@ impl<P: Ptr, T, A: Allocator> OrdTree<P, T, A> {
         ensures after { IsCompression P.index P.era F.step
             (compressed_generation P.Gen.greatest reset self.old.list.generation) f self.old.list self.new.list }
         ensures shape { IsRebuilt self.new.shape }
-        ensures overflow { is_overflow result ≡ compression_overflows P.Gen.greatest reset self.old.list.generation }
+        ensures overflow { is_overflow result
+            ≡ compression_overflows P.Gen.greatest reset self.old.list.generation }
     {
         let map = MapNode { map: Calls { f } };
         let overflow = self.chain.compress_by(reset, map);
@@ -50,7 +51,8 @@ impl<P: Ptr, T, A: Allocator> OrdTree<P, T, A> {
         ensures after { self.new.list ≡ relocated self.old.list
             (compressed_generation P.Gen.greatest reset self.old.list.generation) }
         ensures shape { IsRebuilt self.new.shape }
-        ensures overflow { is_overflow result ≡ compression_overflows P.Gen.greatest reset self.old.list.generation }
+        ensures overflow { is_overflow result
+            ≡ compression_overflows P.Gen.greatest reset self.old.list.generation }
     {
         let overflow = self.chain.compress(reset);
         rebuild_over(&mut self.chain, &mut self.root);
@@ -65,7 +67,8 @@ impl<P: Ptr, T, A: Allocator> OrdTree<P, T, A> {
         ensures after { self.new.list ≡ canonical self.old.list
             (compressed_generation P.Gen.greatest reset self.old.list.generation) }
         ensures shape { IsRebuilt self.new.shape }
-        ensures overflow { is_overflow result ≡ compression_overflows P.Gen.greatest reset self.old.list.generation }
+        ensures overflow { is_overflow result
+            ≡ compression_overflows P.Gen.greatest reset self.old.list.generation }
     {
         let overflow = self.chain.compress_canonical(reset);
         rebuild_over(&mut self.chain, &mut self.root);
@@ -171,8 +174,9 @@ pub(super) fn rebuild_over<P: Ptr, T, A: Allocator>(
     chain: &mut ChainArena<P, SimpleOrdArenaNode<P, T>, A>,
     root: &mut Option<NodeInx<P::Inx>>,
 )
-    ensures rebuilt { (s : Shape) × IsRebuilt s
-        × IsLaidOut chain.new (option_map P.Inx.number root.new) s }
+    ensures laid { IsLaidOut chain.new (option_map P.Inx.number root.new)
+        (shape_in chain.new (option_map P.Inx.number root.new)) }
+    ensures rebuilt { IsRebuilt (shape_in chain.new (option_map P.Inx.number root.new)) }
     ensures kept { bare chain.new ≡ bare chain.old }
 {
     let len = chain.len();

@@ -64,7 +64,8 @@ impl<P: Ptr, T, A: Allocator> OrdTree<P, T, A> {
     ///
     /// For a pointer that names no entry the answer is `InvalidPtr`, and nothing changes.
     pub fn invalidate(&mut self, p: P) -> InvalidationResult<P>
-        ensures valid { is_some (valid_value result) ≡ is_some (item_of self.old.list.entries (P.index p) (P.era p)) }
+        ensures valid { is_some (valid_value result)
+            ≡ is_some (item_of self.old.list.entries (P.index p) (P.era p)) }
         ensures index { IfSome (valid_value result) (λ q. P.index q ≡ P.index p) }
         ensures era { IfSome (valid_value result)
             (λ q. P.era q ≡ next_generation P.Gen.greatest self.old.list.generation) }

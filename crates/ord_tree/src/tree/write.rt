@@ -24,7 +24,8 @@ impl<P: Ptr, T, A: Allocator> OrdTree<P, T, A> {
             P.Inx.PtrInx.own P.Inx.PartialEq P.Inx.Ord.own P.Inx.PartialOrd.own P.Inx.Hash.own P.Inx.Debug
             P.Gen.PtrGen.own P.Gen.PartialEq P.Gen.Debug A.Allocator
             self.entry (P.Inx.number i) result.1) }
-        ensures value { entry_at self.old.list.entries (P.Inx.number i) ≡ Some (P.Gen.number result.0, result.1.now) }
+        ensures value { entry_at self.old.list.entries (P.Inx.number i)
+            ≡ Some (P.Gen.number result.0, result.1.now) }
     {
         node_item_mut(&mut self.chain, i)
     }
@@ -36,7 +37,8 @@ impl<P: Ptr, T, A: Allocator> OrdTree<P, T, A> {
             P.Inx.PtrInx.own P.Inx.PartialEq P.Inx.Ord.own P.Inx.PartialOrd.own P.Inx.Hash.own P.Inx.Debug
             P.Gen.PtrGen.own P.Gen.PartialEq P.Gen.Debug A.Allocator
             self.entry (P.Inx.number i) result) }
-        ensures value { option_copied_mut result ≡ option_map (λ e. e.1) (entry_at self.old.list.entries (P.Inx.number i)) }
+        ensures value { option_copied_mut result
+            ≡ option_map (λ e. e.1) (entry_at self.old.list.entries (P.Inx.number i)) }
     {
         if self.contains_inx(i) {
             Some(self.pair_mut(i).1)

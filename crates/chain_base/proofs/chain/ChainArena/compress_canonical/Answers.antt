@@ -5,7 +5,7 @@ use Rattle.chain_base.specs.Chain.{entry_at, first_or}
 use Rattle.chain_base.specs.Exchange.{exchanged}
 use Rattle.chain_base.specs.Walk.{index_after}
 use Rattle.chain_base.specs.Compression.{relocated}
-use Rattle.chain_base.proofs.Canonical.{canonical-begins, canonical-even, canonical-step, canonical-ends, met, met-at, met-occurs, next-occurs, occurs-entry, chosen, chosen-is}
+use Rattle.chain_base.proofs.Canonical.{canonical-begins, canonical-even, canonical-step, canonical-ends, met-at, met-occurs, next-occurs, occurs-entry, chosen, chosen-is}
 use Rattle.chain_base.proofs.chain.ChainArena.compress_canonical.Goals as goal
 
 pub loop-place-init : goal.loop-place-init

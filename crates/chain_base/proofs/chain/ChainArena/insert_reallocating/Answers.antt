@@ -1,32 +1,8 @@
-use Rattle.std.proofs.Common.{ap}
-use Rattle.std.specs.Option.{option_map}
-use Rattle.chain_base.proofs.Calls.{prev-held_roomed, next-held_roomed, Inserts-roomed, IsInsertion-roomed}
+use Rattle.std.proofs.Common.{arith}
+use Rattle.chain_base.proofs.Room.{capacity-kept}
 use Rattle.chain_base.proofs.chain.ChainArena.insert_reallocating.Goals as goal
 
-pub relink-ends-requires-clause-left : goal.relink-ends-requires-clause-left
-relink-ends-requires-clause-left g c = λ x is.
-    let at = rw (← c.self.view_is) at c.neighbours.ensures in
-    prev-held_roomed _ c.self.inside.arena _ _ c.self.invariant _ _ _ _ c.in_ok-p.ensures.room c.in_ok-p.ensures.ok _ _ _ at _ (ap (option_map g.P.Inx.PtrInx.number) is)
-
-pub relink-ends-requires-clause-right : goal.relink-ends-requires-clause-right
-relink-ends-requires-clause-right g c = λ x is.
-    let at = rw (← c.self.view_is) at c.neighbours.ensures in
-    next-held_roomed _ c.self.inside.arena _ _ c.self.invariant _ _ _ _ c.in_ok-p.ensures.room c.in_ok-p.ensures.ok _ _ _ at _ (ap (option_map g.P.Inx.PtrInx.number) is)
-
-pub invariant_of-self-2 : goal.invariant_of-self-2
-invariant_of-self-2 g c =
-    let at = rw (← c.self.view_is) at c.neighbours.ensures in
-    let joined = rw c.inx.ensures at c.relink-ends.ensures.arena in
-    let first = rw c.inx.ensures at c.relink-ends.ensures.first in
-    let last = rw c.inx.ensures at c.relink-ends.ensures.last in
-    let inserts = Inserts-roomed _ c.self.inside.arena _ _ c.self.invariant _ _ _ _ c.in_ok-p.ensures.room c.in_ok-p.ensures.ok _ _ _ at _ c.relink-ends.new.arena _ _ _ c.new.ensures.item c.new.ensures.prev c.new.ensures.next c.in_ok-p.ensures.sound joined first last in
-    inserts.laid
-
-pub returns-clause-ok : goal.returns-clause-ok
-returns-clause-ok g c =
-    let at = rw (← c.self.view_is) at c.neighbours.ensures in
-    let joined = rw c.inx.ensures at c.relink-ends.ensures.arena in
-    let first = rw c.inx.ensures at c.relink-ends.ensures.first in
-    let last = rw c.inx.ensures at c.relink-ends.ensures.last in
-    let inserts = Inserts-roomed _ c.self.inside.arena _ _ c.self.invariant _ _ _ _ c.in_ok-p.ensures.room c.in_ok-p.ensures.ok _ _ _ at _ c.relink-ends.new.arena _ _ _ c.new.ensures.item c.new.ensures.prev c.new.ensures.next c.in_ok-p.ensures.sound joined first last in
-    rw (← c.self.view_is) (IsInsertion-roomed _ c.self.inside.arena _ _ c.self.invariant _ _ _ _ c.in_ok-p.ensures.room c.in_ok-p.ensures.ok _ _ _ at c.relink-ends.new.arena _ _ _ inserts)
+pub returns-clause-room : goal.returns-clause-room
+returns-clause-room g c =
+    let i = c.insert_within_capacity in
+    omega (arith, c.make_room.ensures.capacity, capacity-kept c.make_room.new.self i.new.self _ _ g.P.Ptr.index g.P.Ptr.era i.result i.ensures.ok i.ensures.err)

@@ -6,27 +6,27 @@ use Rattle.chain_base.proofs.chain.ChainArena.insert_within_capacity.Goals as go
 pub relink-ends-requires-clause-left : goal.relink-ends-requires-clause-left
 relink-ends-requires-clause-left g c = λ x is.
     let at = rw (← c.self.view_is) at c.neighbours.ensures in
-    prev-held c.self.inside.arena _ _ c.self.invariant _ _ _ _ _ _ _ at c.in_ok-p.ensures.ok _ (ap (option_map g.P.Inx.PtrInx.number) is)
+    prev-held c.self.inside.arena _ _ c.self.invariant _ _ _ _ c.in_ok-p.ensures.ok _ _ _ at _ (ap (option_map g.P.Inx.PtrInx.number) is)
 
 pub relink-ends-requires-clause-right : goal.relink-ends-requires-clause-right
 relink-ends-requires-clause-right g c = λ x is.
     let at = rw (← c.self.view_is) at c.neighbours.ensures in
-    next-held c.self.inside.arena _ _ c.self.invariant _ _ _ _ _ _ _ at c.in_ok-p.ensures.ok _ (ap (option_map g.P.Inx.PtrInx.number) is)
+    next-held c.self.inside.arena _ _ c.self.invariant _ _ _ _ c.in_ok-p.ensures.ok _ _ _ at _ (ap (option_map g.P.Inx.PtrInx.number) is)
 
 pub invariant_of-self-2 : goal.invariant_of-self-2
 invariant_of-self-2 g c =
     let at = rw (← c.self.view_is) at c.neighbours.ensures in
-    let joined = rw c.inx.ensures at c.relink-ends.ensures.arena in
-    let first = rw c.inx.ensures at c.relink-ends.ensures.first in
-    let last = rw c.inx.ensures at c.relink-ends.ensures.last in
-    let inserts = Inserts-linked c.self.inside.arena _ _ c.self.invariant _ _ _ c.relink-ends.new.arena _ _ _ _ _ _ _ _ _ at c.new.ensures.item c.new.ensures.prev c.new.ensures.next c.in_ok-p.ensures.ok c.in_ok-p.ensures.sound joined first last in
+    let ends = rw c.inx.ensures at c.relink-ends.ensures in
+    let new = c.new.ensures in
+    let inserts = Inserts-linked c.self.inside.arena _ _ c.self.invariant _ _ _ _ c.in_ok-p.ensures.ok _ _ _ at _ _ c.in_ok-p.ensures.sound
+    _ new.item new.prev new.next c.relink-ends.new.arena _ _ ends.arena ends.first ends.last in
     inserts.laid
 
 pub returns-clause-ok : goal.returns-clause-ok
 returns-clause-ok g c =
     let at = rw (← c.self.view_is) at c.neighbours.ensures in
-    let joined = rw c.inx.ensures at c.relink-ends.ensures.arena in
-    let first = rw c.inx.ensures at c.relink-ends.ensures.first in
-    let last = rw c.inx.ensures at c.relink-ends.ensures.last in
-    let inserts = Inserts-linked c.self.inside.arena _ _ c.self.invariant _ _ _ c.relink-ends.new.arena _ _ _ _ _ _ _ _ _ at c.new.ensures.item c.new.ensures.prev c.new.ensures.next c.in_ok-p.ensures.ok c.in_ok-p.ensures.sound joined first last in
+    let ends = rw c.inx.ensures at c.relink-ends.ensures in
+    let new = c.new.ensures in
+    let inserts = Inserts-linked c.self.inside.arena _ _ c.self.invariant _ _ _ _ c.in_ok-p.ensures.ok _ _ _ at _ _ c.in_ok-p.ensures.sound
+    _ new.item new.prev new.next c.relink-ends.new.arena _ _ ends.arena ends.first ends.last in
     rw (← c.self.view_is) inserts.insertion

@@ -12,15 +12,22 @@ remove_entry-taken-requires g c = let held = rw (← c.self.view_is) at c.requir
 
 pub relink-ends-requires-clause-left : goal.relink-ends-requires-clause-left
 relink-ends-requires-clause-left g c = λ x is.
-    rw c.remove_entry-taken.ensures.removed (left-held c.self.inside.arena _ _ c.self.invariant g.P.Gen.PtrGen.greatest (g.P.Inx.PtrInx.number c.args.i) _ c.entry.ensures _ (sym c.prev_next.ensures.prev ∙ ap (option_map g.P.Inx.PtrInx.number) is))
+    let number = g.P.Inx.PtrInx.number in
+    let held = left-held c.self.inside.arena _ _ c.self.invariant g.P.Gen.PtrGen.greatest (number c.args.i) _ c.entry.ensures in
+    rw c.remove_entry-taken.ensures.removed (held _ (sym c.prev_next.ensures.prev ∙ ap (option_map number) is))
 
 pub relink-ends-requires-clause-right : goal.relink-ends-requires-clause-right
 relink-ends-requires-clause-right g c = λ x is.
-    rw c.remove_entry-taken.ensures.removed (right-held c.self.inside.arena _ _ c.self.invariant g.P.Gen.PtrGen.greatest (g.P.Inx.PtrInx.number c.args.i) _ c.entry.ensures _ (sym c.prev_next.ensures.next ∙ ap (option_map g.P.Inx.PtrInx.number) is))
+    let number = g.P.Inx.PtrInx.number in
+    let held = right-held c.self.inside.arena _ _ c.self.invariant g.P.Gen.PtrGen.greatest (number c.args.i) _ c.entry.ensures in
+    rw c.remove_entry-taken.ensures.removed (held _ (sym c.prev_next.ensures.next ∙ ap (option_map number) is))
 
 pub invariant_of-self : goal.invariant_of-self
 invariant_of-self g c =
-    let removes = Removes-linked c.self.inside.arena _ _ c.self.invariant g.P.Gen.PtrGen.greatest _ _ c.entry.ensures _ _ c.relink-ends.new.arena _ _ _ _ c.prev_next.ensures.prev c.prev_next.ensures.next c.prev_next.ensures.named_prev c.prev_next.ensures.named_next c.remove_entry-taken.ensures.removed c.relink-ends.ensures.arena c.relink-ends.ensures.first c.relink-ends.ensures.last in
+    let ends = c.relink-ends.ensures in
+    let beside = c.prev_next.ensures in
+    let removes = Removes-linked c.self.inside.arena _ _ c.self.invariant g.P.Gen.PtrGen.greatest _ _ c.entry.ensures
+    _ _ _ beside.prev beside.next beside.named_prev beside.named_next _ c.relink-ends.new.arena _ _ c.remove_entry-taken.ensures.removed ends.arena ends.first ends.last in
     removes.laid
 
 pub returns-clause-value : goal.returns-clause-value
@@ -28,5 +35,8 @@ returns-clause-value g c = rw (← c.self.view_is) (link_at-laid_out c.self.insi
 
 pub returns-clause-removed : goal.returns-clause-removed
 returns-clause-removed g c =
-    let removes = Removes-linked c.self.inside.arena _ _ c.self.invariant g.P.Gen.PtrGen.greatest _ _ c.entry.ensures _ _ c.relink-ends.new.arena _ _ _ _ c.prev_next.ensures.prev c.prev_next.ensures.next c.prev_next.ensures.named_prev c.prev_next.ensures.named_next c.remove_entry-taken.ensures.removed c.relink-ends.ensures.arena c.relink-ends.ensures.first c.relink-ends.ensures.last in
+    let ends = c.relink-ends.ensures in
+    let beside = c.prev_next.ensures in
+    let removes = Removes-linked c.self.inside.arena _ _ c.self.invariant g.P.Gen.PtrGen.greatest _ _ c.entry.ensures
+    _ _ _ beside.prev beside.next beside.named_prev beside.named_next _ c.relink-ends.new.arena _ _ c.remove_entry-taken.ensures.removed ends.arena ends.first ends.last in
     rw (← c.self.view_is) removes.chain

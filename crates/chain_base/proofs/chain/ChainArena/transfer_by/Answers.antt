@@ -1,4 +1,4 @@
-use Rattle.std.proofs.Common.{◌≡◌, max, length, ap, ◌∙◌}
+use Rattle.std.proofs.Common.{max, ap, ◌∙◌}
 use Rattle.chain_base.specs.Chain.{Chain}
 use Rattle.chain_base.proofs.Transferring.{transferred}
 use Rattle.chain_base.proofs.chain.ChainArena.transfer_by.Goals as goal

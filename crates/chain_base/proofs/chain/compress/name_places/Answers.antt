@@ -1,9 +1,9 @@
-use Rattle.std.proofs.Common.{◌≡◌, ℕ, ◌+◌, ◌<◌, ◌≤◌, ◌↔◌, length, Option, Some, None, IsSome, IfSome, refl, sym, ap, ◌∙◌, rules, arith, subst}
+use Rattle.std.proofs.Common.{◌≡◌, ℕ, ◌+◌, ◌<◌, ◌≤◌, length, Option, Some, None, sym, ap, ◌∙◌, rules, arith}
 use Rattle.std.specs.Option.{option_map}
 use Rattle.arena_base.specs.Arena.{slot}
 use Rattle.arena_base.specs.Pointer.{named_of}
 use Rattle.chain_base.specs.Naming.{linked_facing}
-use Rattle.chain_base.proofs.Naming.{NamedBelow, named-begins, named-vacant, named-step_end, named-step_more, named-target, named-ends, index-made, neighbour-within}
+use Rattle.chain_base.proofs.Naming.{named-begins, named-vacant, named-step_end, named-step_more, named-target, named-ends, index-made, neighbour-within}
 use Rattle.chain_base.proofs.chain.compress.name_places.Goals.{in-Some, then-is_none, else-is_none, in_default}
 use Rattle.chain_base.proofs.chain.compress.name_places.Goals as goal
 

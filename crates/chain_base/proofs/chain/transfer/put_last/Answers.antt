@@ -1,4 +1,4 @@
-use Rattle.std.proofs.Common.{◌≡◌, ◌∙◌}
+use Rattle.std.proofs.Common.{◌∙◌}
 use Rattle.chain_base.proofs.Transferring.{can_place-behind, placed-behind, filled-more, has-room}
 use Rattle.chain_base.proofs.chain.transfer.put_last.Goals as goal
 

@@ -1,4 +1,4 @@
-use Rattle.std.proofs.Common.{◌≡◌, ◌<◌, [], ◌∷◌, length, length-append, refl, sym, ap, ◌∙◌, arith}
+use Rattle.std.proofs.Common.{◌<◌, [], ◌∷◌, length, length-append, refl, ap, ◌∙◌, arith}
 use Rattle.chain_base.specs.Chain.{Chain}
 use Rattle.chain_base.proofs.Transferring.{taken-none, taken-more, next-some, next-at, last-more}
 use Rattle.chain_base.proofs.chain.transfer.take_all.Goals as goal

@@ -1,4 +1,4 @@
-use Rattle.ord_tree.proofs.Rebuilt.{laid_rebuilt, IsOnce-bare, slots-within_bare}
+use Rattle.ord_tree.proofs.Rebuilt.{rebuilt-shape_in, IsOnce-bare, slots-within_bare}
 use Rattle.ord_tree.proofs.tree.rebuild.rebuild_over.Goals as goal
 
 pub rebuild-requires-clause-once : goal.rebuild-requires-clause-once
@@ -7,7 +7,8 @@ rebuild-requires-clause-once g c = IsOnce-bare c.args.chain.now _ _ c.len-len.en
 pub rebuild-requires-clause-there : goal.rebuild-requires-clause-there
 rebuild-requires-clause-there g c = slots-within_bare c.args.chain.now
 
+pub returns-clause-laid : goal.returns-clause-laid
+returns-clause-laid g c = (rebuilt-shape_in c.args.chain.now c.rebuild.new.nodes c.rebuild.ensures.kept _ c.rebuild.ensures.rebuilt).0
+
 pub returns-clause-rebuilt : goal.returns-clause-rebuilt
-returns-clause-rebuilt g c =
-    let r = c.rebuild.ensures.rebuilt in
-    (r.0, r.2, laid_rebuilt c.args.chain.now c.rebuild.new.nodes c.rebuild.ensures.kept _ r.0 r.1 r.2 r.3)
+returns-clause-rebuilt g c = (rebuilt-shape_in c.args.chain.now c.rebuild.new.nodes c.rebuild.ensures.kept _ c.rebuild.ensures.rebuilt).1
