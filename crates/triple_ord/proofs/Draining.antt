@@ -1,11 +1,13 @@
 -- A removal, by what a walk by index still gives.
-use Rattle.std.proofs.Common.{◌≡◌, ℕ, zero, suc, ◌+◌, ◌-◌, ◌≤◌, Option, Some, None, List, [], ◌∷◌, Bool, true, false, set, take, drop, reverse, sym, ap, refl, ◌∙◌, arith}
+use Rattle.std.proofs.Common.{◌≡◌, ℕ, zero, suc, ◌+◌, ◌-◌, ◌≤◌, Option, Some, None, List, [], ◌∷◌, Bool, true, false, set, take, drop, reverse, get_or, sym, ap, refl, ◌∙◌, arith}
 use Rattle.std.proofs.lemmas.List.{take-set-le, drop-set-lt}
+use Rattle.arena_base.specs.Arena.{item_if}
 use Rattle.arena_base.specs.Walk.{Walk, pointers_from, pointers, walk_rest, walk_from}
 use Rattle.chain_base.specs.Chain.{IsSound, removed}
 use Rattle.ord_tree.specs.Tree.{Tree}
+use Rattle.triple_ord.specs.Arena.{FindsNothing}
 use Rattle.triple_ord.specs.Content.{content_of}
-use Rattle.triple_ord.specs.ContentLaws.{content_removed}
+use Rattle.triple_ord.specs.ContentLaws.{item_is, content_removed}
 
 module _ {T : Type 0} where
   -- no pointer has an index before the first slot's
@@ -25,6 +27,18 @@ module _ {T : Type 0} where
   others-left from (suc k) i g (Some e ∷ slots) rest at is =
       let same : ◌≡◌ {A = ℕ × ℕ} (from, e.0) (i, g) = cc in
       absurd (omega (arith, at, ap (λ (q : ℕ × ℕ). q.0) same))
+
+  -- where there is no pointer, no slot has an entry
+  none-there : (from : ℕ) (slots : List (Option (ℕ × T))) (k : ℕ) → pointers_from from slots ≡ [] → get_or slots k None ≡ None
+  none-there from [] k is = refl
+  none-there from (None ∷ slots) zero is = refl
+  none-there from (None ∷ slots) (suc k) is = none-there (from + 1) slots k is
+  none-there from (Some e ∷ slots) k is = absurd (cc)
+
+  -- a walk that had all entries to give, and has none, goes over an arena without entries
+  pub nothing-left : (most : ℕ) (greatest : Option ℕ) (t : Tree T) (rest : List (ℕ × ℕ)) → IsSound most greatest t.list → rest ≡ [] → rest ≡ pointers (content_of t) → FindsNothing t
+  nothing-left most greatest t rest sound none whole p =
+      sym (item_is most greatest t sound p.0 p.1) ∙ ap (item_if p.1) (none-there 0 (content_of t).slots p.0 (sym whole ∙ none))
 
   module _ (most : ℕ) (greatest : Option ℕ) (t u : Tree T) (i : ℕ) (sound : IsSound most greatest t.list) (removal : u.list ≡ removed greatest t.list i) where
     slots-removed : (content_of u).slots ≡ set (content_of t).slots i None

@@ -7,7 +7,7 @@ use Rattle.arena_base.specs.Walk.{pointers, walk_rest}
 use Rattle.arena_base.specs.declared.invalidation.InvalidationOption.{InvalidationOption}
 use Rattle.chain_base.specs.Chain.{removed}
 use Rattle.ord_tree.specs.Tree.{Tree, IsShrunk}
-use Rattle.triple_ord.specs.Arena.{item_of, Updates}
+use Rattle.triple_ord.specs.Arena.{item_of, Updates, FindsNothing}
 use Rattle.triple_ord.specs.Content.{content_of}
 use Rattle.triple_ord.specs.declared.arena.slot_drain.Drain.{Drain}
 
@@ -38,7 +38,13 @@ module _ {P T A Inx Gen : Type 0} where
     pub found : item_of (drain_arena s) (index (allowed_value x).0, era (allowed_value x).0) ≡ Some (allowed_value x).1
     pub updates : Updates (drain_arena s) (drain_arena t) (index (allowed_value x).0, era (allowed_value x).0) None
 
+  -- nothing of s is still to come, and t is s; where every entry of the arena was, there is none
+  pub record GivesNothing (s t : Drain P T A Inx Gen) : Type 0 where
+    pub none_left : drain_rest s ≡ []
+    pub stays : t ≡ s
+    pub empty : ComesWhole s → FindsNothing (drain_arena s)
+
   -- `next` took s to t, and returned r: the entries go by rising index, each by a removal of its own
   abbrev pub DrainSteps : Option ℕ → (P → ℕ) → (P → ℕ) → Drain P T A Inx Gen → Option (InvalidationOption (P × T)) → Drain P T A Inx Gen → Type 0
   DrainSteps greatest index era s r t =
-      (drain_lender t ≡ drain_lender s) × MatchOption r ((drain_rest s ≡ []) × (t ≡ s)) (λ x. IsDrainedByIndex greatest index era s x t)
+      (drain_lender t ≡ drain_lender s) × MatchOption r (GivesNothing s t) (λ x. IsDrainedByIndex greatest index era s x t)

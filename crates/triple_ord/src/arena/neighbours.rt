@@ -41,10 +41,9 @@ impl<P: Ptr, T, A: Allocator> SimpleOrdArena<P, T, A> {
         &self,
         p: P::Inx,
     ) -> Option<(P::Gen, &LinkNoGen<P, SimpleOrdArenaNode<P, T>>)>
-        ensures entry { option_map (λ e. (
-          P.Gen.number e.0,
-          (record { item = e.1.now.item.t; prev = e.1.now.prev; next = e.1.now.next }),
-        )) result
+        ensures entry { option_map
+            (λ e. (P.Gen.number e.0, (record { item = e.1.now.item.t; prev = e.1.now.prev; next = e.1.now.next })))
+            result
             ≡ link_at self.now.list.entries (P.Inx.number p) }
         ensures node { IfSome result (λ e. IsNodeIn self.now.shape (P.Inx.number p) e.1.now.item.p_back
             e.1.now.item.p_tree0 e.1.now.item.p_tree1 e.1.now.item.rank) }

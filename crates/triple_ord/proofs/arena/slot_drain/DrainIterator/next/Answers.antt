@@ -1,12 +1,25 @@
-use Rattle.std.proofs.Common.{◌≡◌, ◌+◌, Option, None, Some, ◌∷◌, OnSome, length, rules, refl, sym, ap, ◌∙◌, subst, arith}
+use Rattle.std.proofs.Common.{◌≡◌, ◌∷◌, OnSome, length, rules, refl, sym, ap, ◌∙◌, subst, arith}
 use Rattle.arena_base.specs.Generation.{overflows_after}
 use Rattle.arena_base.specs.Invalidation.{allowed_value, has_overflowed}
-use Rattle.arena_base.specs.Walk.{walk_rest}
+use Rattle.arena_base.specs.Walk.{Walk, walk_rest}
 use Rattle.chain_base.specs.Chain.{removed}
 use Rattle.ord_tree.specs.Tree.{IsShrunk}
 use Rattle.triple_ord.specs.Content.{content_of}
-use Rattle.triple_ord.proofs.Draining.{rest-removed, whole-removed}
+use Rattle.triple_ord.proofs.Draining.{rest-removed, whole-removed, nothing-left}
 use Rattle.triple_ord.proofs.arena.slot_drain.DrainIterator.next.Goals as goal
+
+pub returns-in_err-p-clause-steps : goal.returns-in_err-p-clause-steps
+returns-in_err-p-clause-steps g c =
+    let s = c.args.self.now in
+    let walk = c.in_err-p.ensures.step.step in
+    rw c.from_residual.ensures (
+      refl,
+      record {
+        none_left = walk.none_left;
+        stays = ap (λ (w : Walk). record s { walk = w }) walk.stays;
+        empty = nothing-left _ _ s.arena.now _ c.len.ensures.sound walk.none_left;
+      },
+    )
 
 pub returns-clause-steps : goal.returns-clause-steps
 returns-clause-steps g c =
