@@ -30,6 +30,7 @@ fn drains_by_index(rt: HostRuntime) -> Result<(), Fail> {
 }
 
 /// How a drain ends.
+#[derive(Drop)]
 enum End {
     Kept,
     Forgotten,
