@@ -1,10 +1,10 @@
 -- One step of a walk by index.
-use Rattle.std.proofs.Common.{◌≡◌, ℕ, cond, suc, ◌+◌, ◌<◌, Option, Some, None, List, [], ◌∷◌, ◌++◌, length, get_or, take, drop, reverse, refl, sym, ap, ◌∙◌, arith}
+use Rattle.std.proofs.Common.{◌≡◌, ℕ, cond, suc, ◌+◌, ◌<◌, Option, Some, None, List, [], ◌∷◌, ◌++◌, length, get_or, take, drop, reverse, IsSome, is_some, refl, sym, ap, ◌∙◌, arith}
 use Rattle.std.specs.Option.{option_map}
 use Rattle.std.proofs.lemmas.Option.{none-some, same_Some}
 use Rattle.std.proofs.lemmas.List.{get_or-drop, drop-set-lt, append-nil, take_more, reverse-append, length-take-le}
 use Rattle.std.proofs.lemmas.Bool.{eq-eqb}
-use Rattle.arena_base.specs.Arena.{Arena, slot, item_if, item_of, without}
+use Rattle.arena_base.specs.Arena.{Arena, slot, generation_at, item_if, item_of, without}
 use Rattle.arena_base.specs.Walk.{pointers_from, entries_from, entries_rising}
 use Rattle.arena_base.proofs.Occupied.{entry-from_generation}
 
@@ -60,6 +60,16 @@ module _ {T : Type 0} where
   -- what stands at an index is what its pointer names
   pub item_of-there : (a : Arena T) (i g : ℕ) (item : T) → slot a i ≡ Some (g, item) → item_of a i g ≡ Some item
   item_of-there a i g item is = ap (item_if g) is ∙ ap (λ b. cond b (Some item) None) (eq-eqb g g refl)
+
+  -- where an index has an entry of this generation, the pointer to it finds an item
+  item-there : (a : Arena T) (i g : ℕ) → generation_at a i ≡ Some g → IsSome (item_of a i g)
+  item-there a i g is =
+      let found = entry-from_generation (slot a i) g is in
+      let same : found.0.0 ≡ g = same_Some found.0.0 g (ap (option_map (λ (e : ℕ × T). e.0)) (sym found.1) ∙ is) in
+      ap is_some (item_of-there a i g found.0.1 (found.1 ∙ ap (λ n. Some (n, found.0.1)) same))
+
+  pub item-pointed : (a : Arena T) (i g j h : ℕ) → generation_at a i ≡ Some g → j ≡ i → h ≡ g → IsSome (item_of a j h)
+  item-pointed a i g j h is index era = rw (index, era) (item-there a i g is)
 
   -- a removal leaves the entries that come later
   pub entries_rising-without : (greatest : Option ℕ) (a : Arena T) (i : ℕ) → entries_rising (without greatest a i) (i + 1) ≡ entries_rising a (i + 1)

@@ -1,6 +1,6 @@
 -- Walks over an arena by index: the pointers that an advancer still gives, and the entries that a drain still takes.
-use Rattle.std.specs.Prelude.{◌≡◌, ℕ, ◌+◌, ◌-◌, Bool, true, false, Option, Some, None, List, [], ◌∷◌, if◌then◌else◌, take, drop, reverse, MatchOption}
-use Rattle.arena_base.specs.Arena.{Arena}
+use Rattle.std.specs.Prelude.{◌≡◌, ℕ, ◌+◌, ◌-◌, Bool, true, false, Option, Some, None, List, [], ◌∷◌, if◌then◌else◌, take, drop, reverse, MatchOption, IsSome}
+use Rattle.arena_base.specs.Arena.{Arena, item_of}
 
 -- an advancer stands between the indexes `at` and `at + 1`, and goes up or down from there
 pub record Walk : Type 0 where
@@ -57,8 +57,9 @@ module _ {T : Type 0} where
   walk_rest w a = if w.falling then falling_from a w.at else rising_from a (w.at + 1)
 
   -- a step over the arena as it is now took the walk `old` to `new`, and gave the next entry on its way, with index i and
-  -- generation g
+  -- generation g, which is there
   pub record GivesEntry (old new : Walk) (a : Arena T) (i g : ℕ) : Type 0 where
+    pub there : IsSome (item_of a i g)
     pub first : walk_rest old a ≡ (i, g) ∷ walk_rest new a
     pub stands : new ≡ walk_from old i
 

@@ -1,5 +1,5 @@
 -- The finite map that an ordered arena is, after changes of its capacity and compressions, and its first and last indexes.
-use Rattle.std.proofs.Common.{◌≡◌, ℕ, zero, suc, ◌+◌, ◌-◌, ◌<◌, ◌≤◌, ◌↔◌, Option, Some, None, Result, Ok, Err, List, [], ◌∷◌, ◌++◌, length, map, get_or, take, drop, reverse, replicate, slice_get, is_some, count_by, Bool, true, false, max, refl, sym, ap, subst, ◌∙◌, add-one, arith, inl, inr}
+use Rattle.std.proofs.Common.{◌≡◌, ℕ, zero, suc, ◌+◌, ◌-◌, ◌<◌, ◌≤◌, ◌↔◌, Option, Some, None, Result, Ok, Err, List, [], ◌∷◌, ◌++◌, length, map, get_or, take, drop, reverse, replicate, slice_get, is_some, count_by, Bool, true, false, max, IsSome, refl, sym, ap, subst, ◌∙◌, add-one, arith, inl, inr}
 use Rattle.std.specs.Option.{option_map, IfSome, IsNone}
 use Rattle.std.specs.Result.{OnOk}
 use Rattle.std.specs.List.{FoldsTo}
@@ -7,7 +7,7 @@ use Rattle.std.proofs.lemmas.Bool.Decides.{eqb_tells, leb_tells}
 use Rattle.std.proofs.lemmas.Bool.{false≢true}
 use Rattle.std.proofs.lemmas.List.{same_lists, get_or_default, length-append}
 use Rattle.std.proofs.lemmas.Option.{slice_get_past, none-some, same_Some}
-use Rattle.arena_base.specs.Arena.{Arena, HoldsSame, slot, greatest_occupied, with_capacity, resized, IsFirstEntry, IsLastEntry, arena_len}
+use Rattle.arena_base.specs.Arena.{Arena, HoldsSame, slot, item_if, item_of, greatest_occupied, with_capacity, resized, IsFirstEntry, IsLastEntry, arena_len}
 use Rattle.arena_base.specs.Walk.{Walk, pointers_from, entries_from, entries_rising as arena_rising, walk_rest, WalkSteps}
 use Rattle.arena_base.specs.Compression.{CompressionStep, IsCompression, compressed}
 use Rattle.chain_base.specs.Chain.{Entry, Chain, entry_at, times, IsSound, greatest_index, IsFirstIndex, IsLastIndex, IsArenaOf, with_capacity as chain_with_capacity}
@@ -17,7 +17,8 @@ use Rattle.chain_base.specs.Link.{Link}
 use Rattle.ord_tree.specs.declared.node.SimpleOrdArenaNode.{SimpleOrdArenaNode}
 use Rattle.ord_tree.specs.Tree.{Tree, IsChainOf}
 use Rattle.triple_ord.specs.Content.{slots_from, content_of}
-use Rattle.triple_ord.specs.ContentLaws.{slot_is, len_is, length-slots, slots-within, slots-beyond, outside}
+use Rattle.triple_ord.specs.SlotWalk.{SlotWalkSteps}
+use Rattle.triple_ord.specs.ContentLaws.{slot_is, item_is, len_is, length-slots, slots-within, slots-beyond, outside}
 use Rattle.triple_ord.proofs.Bare.{link_generation-under, capacity-under}
 
 -- slots that are as many and show the same are the same
@@ -224,19 +225,30 @@ module _ {X Y : Type 0} where
       go true = ap reverse (pointers-alike 0 (take (w.at + 1) a.slots) (take (w.at + 1) b.slots) (alike-take (w.at + 1) a.slots b.slots alike))
       go false = pointers-alike (w.at + 1) (drop (w.at + 1) a.slots) (drop (w.at + 1) b.slots) (alike-drop (w.at + 1) a.slots b.slots alike)
 
+  -- a pointer that finds an item in the one finds an item in the other
+  there-alike : (g : ℕ) (x : Option (ℕ × X)) (y : Option (ℕ × Y)) → option_map (λ e. e.0) x ≡ option_map (λ e. e.0) y → IsSome (item_if g x) → IsSome (item_if g y)
+  there-alike g None None alike some = some
+  there-alike g None (Some y) alike some = absurd (none-some y.0 alike)
+  there-alike g (Some x) None alike some = absurd (none-some x.0 (sym alike))
+  there-alike g (Some x) (Some y) alike some = elim (eqb_tells y.0 g) [
+    | inl h ↦ rw h.0 refl
+    | inr h ↦ absurd (let none = rw (same_Some x.0 y.0 alike, h.0) at some in cc)
+  ]
+
   -- a step over the one is a step over the other
   steps-alike : {P : Type 0} (index era : P → ℕ) (a : Arena X) (b : Arena Y) → ((w : Walk) → walk_rest w a ≡ walk_rest w b)
+      → ((i g : ℕ) → IsSome (item_of a i g) → IsSome (item_of b i g))
       → (old new : Walk) (r : Option P) → WalkSteps index era old a r new → WalkSteps index era old b r new
-  steps-alike index era a b same old new None step = record { none_left = sym (same old) ∙ step.none_left; stays = step.stays }
-  steps-alike index era a b same old new (Some p) step =
-      record { first = sym (same old) ∙ (step.first ∙ ap (λ rest. (index p, era p) ∷ rest) (same new)); stands = step.stands }
+  steps-alike index era a b same there old new None step = record { none_left = sym (same old) ∙ step.none_left; stays = step.stays }
+  steps-alike index era a b same there old new (Some p) step =
+      record { there = there (index p) (era p) step.there; first = sym (same old) ∙ (step.first ∙ ap (λ rest. (index p, era p) ∷ rest) (same new)); stands = step.stands }
 
 -- A walk over the arena under the chain under a tree is one over the tree's entries.
 module _ {P T I G : Type 0} (most : ℕ) (greatest : Option ℕ) (t : Tree T) (sound : IsSound most greatest t.list) where
   pub steps-under : {Q : Type 0} (index era : Q → ℕ) (c : Chain (SimpleOrdArenaNode P T I G)) (a : Arena (Link (SimpleOrdArenaNode P T I G))) → IsChainOf t c → IsArenaOf c a → take 1 a.slots ≡ None ∷ []
-      → (old new : Walk) (r : Option Q) → WalkSteps index era old a r new → WalkSteps index era old (content_of t) r new
-  steps-under index era c a under laid begins old new r =
-      steps-alike index era a (content_of t) (rest-alike a (content_of t) (alike-by_index a.slots (content_of t).slots long same)) old new r
+      → (old new : Walk) (r : Option Q) → WalkSteps index era old a r new → SlotWalkSteps index era old t r new
+  steps-under {Q = Q} index era c a under laid begins old new r step =
+      told r (steps-alike index era a (content_of t) (rest-alike a (content_of t) (alike-by_index a.slots (content_of t).slots long same)) there old new r step)
     where
       some-slots : (slots : List (Option (ℕ × Link (SimpleOrdArenaNode P T I G)))) → take 1 slots ≡ None ∷ [] → 1 ≤ length slots
       some-slots [] none = absurd (cc)
@@ -247,3 +259,10 @@ module _ {P T I G : Type 0} (most : ℕ) (greatest : Option ℕ) (t : Tree T) (s
 
       same : (k : ℕ) → option_map (λ e. e.0) (get_or a.slots k None) ≡ option_map (λ e. e.0) (get_or (content_of t).slots k None)
       same k = ap (option_map (λ e. e.0)) (laid.slots k) ∙ (link_generation-under t c under k ∙ ap (option_map (λ e. e.0)) (sym (slot_is most greatest t sound k)))
+
+      there : (i g : ℕ) → IsSome (item_of a i g) → IsSome (item_of (content_of t) i g)
+      there i g = there-alike g (slot a i) (slot (content_of t) i) (same i)
+
+      told : (r : Option Q) → WalkSteps index era old (content_of t) r new → SlotWalkSteps index era old t r new
+      told None step = record { step = step; there = tt }
+      told (Some p) step = record { step = step; there = rw (item_is most greatest t sound (index p) (era p)) at step.there }

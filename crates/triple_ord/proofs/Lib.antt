@@ -7,6 +7,7 @@ pub mod Holding
 pub mod Bounds
 pub mod Bare
 pub mod Content
+pub mod Draining
 pub mod Walking
 pub mod Reversed
 pub mod Inserting

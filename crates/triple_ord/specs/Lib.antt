@@ -14,6 +14,8 @@ pub mod Node
 pub mod Walk
 pub mod OrderedWalk
 pub mod OrderedDrain
+pub mod SlotWalk
+pub mod SlotDrain
 pub mod Descent
 pub mod Steps
 pub mod Lends

@@ -12,7 +12,7 @@ mod probe;
 mod steps;
 mod visits;
 
-pub use arena::{CapacityDrain, Iter, OrderedDrain, OrderedPtrAdvancer, SimpleOrdArena};
+pub use arena::{CapacityDrain, Drain, Iter, OrderedDrain, OrderedPtrAdvancer, SimpleOrdArena};
 pub use arena_base::{
     Advancer, ArenaTrait, CompactArenaTrait, InvalidationOption, InvalidationResult, P0, P8, PN,
     Ptr, PtrAdvancer, PtrGen, PtrInx, Q0, SetMaxCapacity,

@@ -10,6 +10,7 @@ mod every_order;
 mod hints;
 mod rebuild;
 mod removal;
+mod slot_drain;
 mod slots;
 mod walks;
 

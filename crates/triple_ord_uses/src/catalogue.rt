@@ -108,7 +108,8 @@ pub fn renumber(
     p: BookPtr,
     number: u64,
 ) -> Result<Option<BookPtr>, OrdInsertionError>
-    ensures finds { IfOk result (λ o. IfSome o (λ q. item_of catalogue.new q ≡ option_map (λ b. record { number = number; pages = b.pages }) (item_of catalogue.old p))) }
+    ensures finds { IfOk result (λ o. IfSome o (λ q. item_of catalogue.new q
+        ≡ option_map (λ b. record { number = number; pages = b.pages }) (item_of catalogue.old p))) }
     ensures none { IfOk result (λ o. is_some o ≡ is_some (item_of catalogue.old p)) }
 {
     let Some(book) = catalogue.remove(p).allow() else {

@@ -1,7 +1,9 @@
 //! The scheduler and the catalogue, run.
 
 use crate::catalogue::{Book, Catalogue, find, pages, put, renumber, take_first};
-use crate::rounds::{first_of_drain, last_job, next_of_round, round_from};
+use crate::rounds::{
+    first_of_drain, last_job, least_job, least_of_drain, next_by_index, next_of_round, round_from,
+};
 use crate::scheduler::{Jobs, cancel, cancel_all, next, pop, replace, schedule};
 use std::alloc::Global;
 use std::test::Fail;
@@ -44,6 +46,28 @@ fn rounds_go_on_over_changes(rt: HostRuntime) -> Result<(), Fail> {
     assert_eq!(rt; last_job(&mut jobs), Some((30, 3)));
     assert_eq!(rt;
         (first_of_drain(&mut jobs), last_job(&mut jobs)),
+        (None, None)
+    );
+    Ok(())
+}
+
+#[test]
+fn jobs_are_met_by_index(rt: HostRuntime) -> Result<(), Fail> {
+    let mut jobs = Jobs::new(rt.alloc());
+    let late = schedule(&mut jobs, 90, 1)?;
+    let early = schedule(&mut jobs, 30, 2)?;
+    let middle = schedule(&mut jobs, 60, 3)?;
+    let mut walk = jobs.advancer();
+    assert_eq!(rt; next_by_index(&mut walk, &jobs), Some((late, 90, 1)));
+    assert!(rt; cancel(&mut jobs, early));
+    assert_eq!(rt; next_by_index(&mut walk, &jobs), Some((middle, 60, 3)));
+    assert_eq!(rt; next_by_index(&mut walk, &jobs), None);
+    assert_eq!(rt; least_of_drain(&mut jobs), Some((late, 90, 1)));
+    assert_eq!(rt; next(&jobs), Some((middle, 60, 3)));
+    let last = schedule(&mut jobs, 10, 4)?;
+    assert_eq!(rt; least_job(&mut jobs), Some((last, 10, 4)));
+    assert_eq!(rt;
+        (least_of_drain(&mut jobs), least_job(&mut jobs)),
         (None, None)
     );
     Ok(())

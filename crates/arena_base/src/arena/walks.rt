@@ -1,5 +1,6 @@
 //! Going through the entries by index.
-ghost use Rattle.std.specs.Prelude.{◌≡◌, ◌+◌, ◌<◌, ◌≤◌, [], ◌∷◌, true, false, if◌then◌else◌, IfSome, MatchOption};
+ghost use Rattle.std.specs.Prelude.{◌≡◌, ◌+◌, ◌<◌, ◌≤◌, [], ◌∷◌, true, false, if◌then◌else◌, IfSome, IsSome, MatchOption};
+ghost use Rattle.arena_base.specs.Arena.{item_of};
 ghost use Rattle.arena_base.specs.Walk.{pointers, entries_rising, rising_from, falling_from, rising_walk, falling_walk, walk_rest, HasEnded, WalkSteps};
 
 use super::Arena;
@@ -95,6 +96,7 @@ impl<P: Ptr, T, A: Allocator> Arena<P, T, A> {
             (entries_rising self.now (from + 1) ≡ [])
             (λ e. (item : T) × (entries_rising self.now (from + 1)
             ≡ (P.index e.1, P.era e.1, item) ∷ entries_rising self.now (e.0 + 1))) }
+        ensures there { IfSome result (λ e. IsSome (item_of self.now (P.index e.1) (P.era e.1))) }
         ensures next { IfSome result (λ e. e.0 ≡ P.index e.1) }
     {
         for place in from..self.capacity() {
@@ -110,6 +112,7 @@ impl<P: Ptr, T, A: Allocator> Arena<P, T, A> {
         ensures pointers { MatchOption result
             (falling_from self.now end ≡ [])
             (λ e. falling_from self.now end ≡ (P.index e.1, P.era e.1) ∷ falling_from self.now e.0) }
+        ensures there { IfSome result (λ e. IsSome (item_of self.now (P.index e.1) (P.era e.1))) }
         ensures next { IfSome result (λ e. e.0 + 1 ≡ P.index e.1) }
         ensures before { IfSome result (λ e. e.0 < end) }
     {

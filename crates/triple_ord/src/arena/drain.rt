@@ -42,7 +42,8 @@ impl<'a, P: Ptr, T: Drop, A: Allocator> OrderedDrain<'a, P, T, A> {
 
 impl<'a, P: Ptr, T: Drop, A: Allocator> Drop for OrderedDrain<'a, P, T, A> {
     fn drop(self)
-        ensures { self.exit.0.now ≡ record { list = cleared P.Gen.greatest (ordered_drain_arena self.entry).list; shape = missing } }
+        ensures { self.exit.0.now
+            ≡ record { list = cleared P.Gen.greatest (ordered_drain_arena self.entry).list; shape = missing } }
     {
         let OrderedDrain { arena } = self;
         let _ = arena.clear();
@@ -89,7 +90,8 @@ impl<P: Ptr, T, A: Allocator> Model for CapacityDrain<P, T, A> {
 impl<P: Ptr, T: Drop, A: Allocator> Iterator for CapacityDrain<P, T, A> {
     type Item = (P, T);
 
-    ghost next_gives = { YieldsFirstBy (λ x. record { index = P.index x.0; generation = P.era x.0; item = x.1 }) (λ left. left) };
+    ghost next_gives = { YieldsFirstBy
+        (λ x. record { index = P.index x.0; generation = P.era x.0; item = x.1 }) (λ left. left) };
 
     ghost remaining = { item_count (λ left. left) };
 

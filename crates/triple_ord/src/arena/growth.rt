@@ -25,7 +25,8 @@ impl<P: Ptr, T, A: Allocator> SimpleOrdArena<P, T, A> {
     pub fn with_min_capacity(alloc: A, n: usize) -> Result<Self, AllocError>
     where
         A: Copy,
-        ensures ok { IfOk result (λ a. a ≡ record { list = with_capacity (new_chain P.Gen.greatest) n; shape = missing }) }
+        ensures ok { IfOk result
+            (λ a. a ≡ record { list = with_capacity (new_chain P.Gen.greatest) n; shape = missing }) }
         ensures beyond { P.Inx.most < n → IsErr result }
         ensures none { n ≡ 0 → IsOk result }
     {
@@ -45,7 +46,8 @@ impl<P: Ptr, T, A: Allocator> SimpleOrdArena<P, T, A> {
         ensures ok { OnOk result (self.new ≡ record self.old {
           list = with_capacity self.old.list (max n (greatest_index self.old.list.entries));
         }) }
-        ensures beyond { (result ≡ Err ReallocationError.BeyondMaxCapacity) ↔ (chain_limit P.Inx.most self.old.list < n) }
+        ensures beyond { (result ≡ Err ReallocationError.BeyondMaxCapacity)
+            ↔ (chain_limit P.Inx.most self.old.list < n) }
         ensures memory { result ≡ Err ReallocationError.AllocError → self.old.list.capacity < n }
         ensures err { OnErr result (self.new ≡ self.old) }
     {

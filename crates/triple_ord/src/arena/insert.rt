@@ -30,7 +30,8 @@ impl<P: Ptr, T: SimpleOrdItem + Drop, A: Allocator> SimpleOrdArena<P, T, A> {
         ensures inserts { Inserts T.key_of T.Key.cmp P.Inx.most (λ p. (P.index p, P.era p)) self.old t result self.new }
         ensures updates { IfOk result (λ a. Updates self.old self.new (P.index a.0, P.era a.0) (Some t)) }
         ensures before { IfOk result (λ a. a.1 ≡ item_of self.old (P.index a.0, P.era a.0)) }
-        ensures count { IfOk result (λ a. count self.new ≡ (if is_some a.1 then count self.old else count self.old + 1)) }
+        ensures count { IfOk result
+            (λ a. count self.new ≡ (if is_some a.1 then count self.old else count self.old + 1)) }
         ensures refused { OnErr result (self.new ≡ self.old) }
     {
         prove!(self.len() <= self.capacity());
@@ -49,7 +50,8 @@ impl<P: Ptr, T: SimpleOrdItem + Drop, A: Allocator> SimpleOrdArena<P, T, A> {
         ensures inserts { Inserts T.key_of T.Key.cmp P.Inx.most (λ p. (P.index p, P.era p)) self.old t result self.new }
         ensures updates { IfOk result (λ a. Updates self.old self.new (P.index a.0, P.era a.0) (Some t)) }
         ensures before { IfOk result (λ a. a.1 ≡ item_of self.old (P.index a.0, P.era a.0)) }
-        ensures count { IfOk result (λ a. count self.new ≡ (if is_some a.1 then count self.old else count self.old + 1)) }
+        ensures count { IfOk result
+            (λ a. count self.new ≡ (if is_some a.1 then count self.old else count self.old + 1)) }
         ensures refused { OnErr result (self.new ≡ self.old) }
     {
         self.insert_reallocating(t)

@@ -24,7 +24,8 @@ impl<P: Ptr, T, A: Allocator> SimpleOrdArena<P, T, A> {
             (has_overflowed result ≡ overflows_after P.Gen.greatest self.old.list.generation) }
         ensures updates { Updates self.old self.new (P.index p, P.era p) None }
         ensures count { OnSome (valid_value result) (count self.old ≡ count self.new + 1) }
-        ensures removed { OnSome (valid_value result) (self.new.list ≡ removed P.Gen.greatest self.old.list (P.index p)) }
+        ensures removed { OnSome (valid_value result)
+            (self.new.list ≡ removed P.Gen.greatest self.old.list (P.index p)) }
         ensures shape { OnSome (valid_value result) (IsShrunk self.old.shape self.new.shape) }
         ensures invalid { IfNone (valid_value result) (self.new ≡ self.old) }
     {

@@ -1,9 +1,10 @@
 //! Going through the entries by index, in the order of the slots.
 ghost use Rattle.std.specs.Prelude.{◌≡◌, ◌↔◌, true, false, if◌then◌else◌, IfSome, IsNone};
-ghost use Rattle.arena_base.specs.Walk.{pointers, rising_from, falling_from, rising_walk, falling_walk, walk_rest, HasEnded, WalkSteps};
+ghost use Rattle.arena_base.specs.Walk.{pointers, rising_from, falling_from, rising_walk, falling_walk, walk_rest, HasEnded};
 ghost use Rattle.chain_base.specs.Chain.{IsFirstIndex, IsLastIndex};
 ghost use Rattle.triple_ord.specs.Arena.{count};
 ghost use Rattle.triple_ord.specs.Content.{content_of};
+ghost use Rattle.triple_ord.specs.SlotWalk.{SlotWalkSteps};
 
 use super::SimpleOrdArena;
 use arena_base::{Advancer, Arena, Ptr, PtrAdvancer};
@@ -40,8 +41,10 @@ impl<P: Ptr, T, A: Allocator> SimpleOrdArena<P, T, A> {
     pub fn advancer_inx(&self, i: P::Inx, rev: bool) -> PtrAdvancer<P>
         ensures begins { result
             ≡ (if rev then falling_walk (P.Inx.number i) else rising_walk (P.Inx.number i)) }
-        ensures rising { rev ≡ false → walk_rest result (content_of self.now) ≡ rising_from (content_of self.now) (P.Inx.number i) }
-        ensures falling { rev ≡ true → walk_rest result (content_of self.now) ≡ falling_from (content_of self.now) (P.Inx.number i) }
+        ensures rising { rev ≡ false → walk_rest result (content_of self.now)
+            ≡ rising_from (content_of self.now) (P.Inx.number i) }
+        ensures falling { rev ≡ true → walk_rest result (content_of self.now)
+            ≡ falling_from (content_of self.now) (P.Inx.number i) }
     {
         self.tree.chain().arena().advancer_inx(i, rev)
     }
@@ -53,7 +56,7 @@ type Nodes<P, T, A> = Arena<P, LinkNoGen<P, SimpleOrdArenaNode<P, T>>, A>;
 impl<P: Ptr, T, A: Allocator> Advancer<SimpleOrdArena<P, T, A>> for PtrAdvancer<P> {
     type Item = P;
 
-    ghost advance_gives = { λ old a result new. WalkSteps P.index P.era old (content_of a) result new };
+    ghost advance_gives = { SlotWalkSteps P.index P.era };
 
     ghost has_ended = { HasEnded };
 

@@ -73,10 +73,10 @@ fn walks_meet_changes(rt: HostRuntime) -> Result<(), Fail> {
     Ok(())
 }
 
-type Letters<P> = SimpleOrdArena<P, OrdPair<char, ()>>;
+pub(super) type Letters<P> = SimpleOrdArena<P, OrdPair<char, ()>>;
 
 /// The letters A, B, C, E at the indexes 2, 4, 1, 3, generation 3.
-fn letters(alloc: Global) -> Result<Letters<P0>, Fail> {
+pub(super) fn letters(alloc: Global) -> Result<Letters<P0>, Fail> {
     let mut a = SimpleOrdArena::new(alloc);
     for letter in ['C', 'A', 'D', 'B'] {
         let _ = a.insert(OrdPair::new(letter, ()))?;
@@ -156,7 +156,7 @@ fn drains_end_early(rt: HostRuntime) -> Result<(), Fail> {
 }
 
 /// A key that counts how often it is dropped.
-struct Counted<'a> {
+pub(super) struct Counted<'a> {
     key: u64,
     drops: &'a Cell<u64>,
 }
@@ -179,7 +179,11 @@ impl triple_ord::SimpleOrdItem for Counted<'_> {
 }
 
 /// Puts five keys that count their drops into an arena without entries.
-fn put_five<'a>(rt: &impl Abort, a: &mut SimpleOrdArena<P0, Counted<'a>>, drops: &'a Cell<u64>) {
+pub(super) fn put_five<'a>(
+    rt: &impl Abort,
+    a: &mut SimpleOrdArena<P0, Counted<'a>>,
+    drops: &'a Cell<u64>,
+) {
     for key in [3u64, 1, 5, 2, 4] {
         assert!(rt; a.insert(Counted { key, drops }).is_ok());
     }

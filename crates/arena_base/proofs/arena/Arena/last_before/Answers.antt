@@ -2,7 +2,7 @@ use Rattle.std.proofs.Common.{◌≡◌, ◌+◌, ◌-◌, ℕ, None, ◌∷◌,
 use Rattle.std.specs.Option.{option_map}
 use Rattle.arena_base.specs.Arena.{generation_at}
 use Rattle.arena_base.specs.Walk.{falling_from}
-use Rattle.arena_base.proofs.Walks.{falling-none, falling-some}
+use Rattle.arena_base.proofs.Walks.{falling-none, falling-some, item-pointed}
 use Rattle.arena_base.proofs.arena.Arena.last_before.Goals as goal
 
 pub returns-in-Some-clause-pointers : goal.returns-in-Some-clause-pointers
@@ -15,6 +15,10 @@ returns-in-Some-clause-pointers g c =
     ∙ (falling-some a.slots n (n - 1) (g.P.Gen.PtrGen.number c.in-Some.generation) next (omega arith) (rw (← next) at (sym c.in-Some.ensures))
     ∙ (ap (λ (i : ℕ). (i, g.P.Gen.PtrGen.number c.in-Some.generation) ∷ falling_from a (n - 1)) index
     ∙ ap (λ (e : ℕ). (g.P.Ptr.index c.pointer.result, e) ∷ falling_from a (n - 1)) (sym c.pointer.ensures.era)))
+
+pub returns-in-Some-clause-there : goal.returns-in-Some-clause-there
+returns-in-Some-clause-there g c =
+    item-pointed c.args.self.now (c.loop-place.place - 1 + 1) (g.P.Gen.PtrGen.number c.in-Some.generation) _ _ (sym c.in-Some.ensures) c.pointer.ensures.index c.pointer.ensures.era
 
 pub loop-place-preserved : goal.loop-place-preserved
 loop-place-preserved g c =

@@ -1,0 +1,52 @@
+use Rattle.std.proofs.Common.{◌≡◌, ◌∷◌, OnSome, length, rules, refl, sym, ap, ◌∙◌, subst, arith}
+use Rattle.arena_base.specs.Generation.{overflows_after}
+use Rattle.arena_base.specs.Invalidation.{allowed_value, has_overflowed}
+use Rattle.arena_base.specs.Walk.{Walk, walk_rest}
+use Rattle.chain_base.specs.Chain.{removed}
+use Rattle.ord_tree.specs.Tree.{IsShrunk}
+use Rattle.triple_ord.specs.Content.{content_of}
+use Rattle.triple_ord.proofs.Draining.{rest-removed, whole-removed, nothing-left}
+use Rattle.triple_ord.proofs.arena.slot_drain.DrainIterator.next.Goals as goal
+
+pub returns-in_err-p-clause-steps : goal.returns-in_err-p-clause-steps
+returns-in_err-p-clause-steps g c =
+    let s = c.args.self.now in
+    let walk = c.in_err-p.ensures.step.step in
+    rw c.from_residual.ensures (
+      refl,
+      record {
+        none_left = walk.none_left;
+        stays = ap (λ (w : Walk). record s { walk = w }) walk.stays;
+        empty = nothing-left _ _ s.arena.now _ c.len.ensures.sound walk.none_left;
+      },
+    )
+
+pub returns-clause-steps : goal.returns-clause-steps
+returns-clause-steps g c =
+    let a = c.args.self.now.arena.now in
+    let p = c.in_ok-p.p in
+    let i = g.P.Ptr.index p in
+    let walk = c.in_ok-p.ensures.step in
+    let valid = c.unwrap-taken.ensures.value in
+    let removal = subst (λ o. OnSome o (c.remove.new.self.list ≡ removed g.P.Gen.PtrGen.greatest a.list i)) valid c.remove.ensures.removed in
+    let first : walk_rest c.args.self.now.walk (content_of a) ≡ (i, g.P.Ptr.era p) ∷ walk_rest c.advance.new.self (content_of c.remove.new.self) =
+    walk.step.first ∙ ap (λ rest. (i, g.P.Ptr.era p) ∷ rest)
+    (rw walk.step.stands (rest-removed _ _ a c.remove.new.self i c.len.ensures.sound removal c.args.self.now.walk)) in
+    let made : allowed_value c.map.result ≡ (p, allowed_value c.unwrap-taken.result) = let value = c.map.ensures.value in search rules in (
+      refl,
+      record {
+        first = rw made first;
+        whole = whole-removed _ _ a c.remove.new.self i c.len.ensures.sound removal (g.P.Ptr.era p) _ _ first;
+        removed_list = rw made removal;
+        shape = subst (λ o. OnSome o (IsShrunk a.shape c.remove.new.self.shape)) valid c.remove.ensures.shape;
+        overflow = c.map.ensures.overflow ∙ (c.unwrap-taken.ensures.overflow
+            ∙ subst (λ o. OnSome o (has_overflowed c.remove.result ≡ overflows_after g.P.Gen.PtrGen.greatest a.list.generation)) valid c.remove.ensures.overflow);
+        found = rw made (sym c.remove.ensures.value ∙ valid);
+        updates = rw made c.remove.ensures.updates;
+      },
+    )
+
+pub returns-clause-goes : goal.returns-clause-goes
+returns-clause-goes g c =
+    let shorter = ap length (returns-clause-steps g c).1.first in
+    record { on = λ _. (tt, tt, omega (arith, shorter)); keeps = tt; rests = λ _. tt }

@@ -1,0 +1,50 @@
+-- What a contract sees of a drain of an ordered arena by index.
+use Rattle.std.specs.Prelude.{◌≡◌, ℕ, Option, Some, None, List, [], ◌∷◌, MatchOption}
+use Rattle.std.specs.Borrow.{GName}
+use Rattle.arena_base.specs.Generation.{overflows_after}
+use Rattle.arena_base.specs.Invalidation.{allowed_value, is_overflow}
+use Rattle.arena_base.specs.Walk.{pointers, walk_rest}
+use Rattle.arena_base.specs.declared.invalidation.InvalidationOption.{InvalidationOption}
+use Rattle.chain_base.specs.Chain.{removed}
+use Rattle.ord_tree.specs.Tree.{Tree, IsShrunk}
+use Rattle.triple_ord.specs.Arena.{item_of, Updates, FindsNothing}
+use Rattle.triple_ord.specs.Content.{content_of}
+use Rattle.triple_ord.specs.declared.arena.slot_drain.Drain.{Drain}
+
+module _ {P T A Inx Gen : Type 0} where
+  -- the arena, as it is now
+  abbrev pub drain_arena : Drain P T A Inx Gen → Tree T
+  drain_arena d = d.arena.now
+
+  -- the ghost name of the reference to the arena
+  abbrev pub drain_lender : Drain P T A Inx Gen → GName
+  drain_lender d = d.arena.ghost_name
+
+  -- the pointers of the entries that are still to come, by rising index
+  abbrev pub drain_rest : Drain P T A Inx Gen → List (ℕ × ℕ)
+  drain_rest d = walk_rest d.walk (content_of d.arena.now)
+
+  -- every entry of the arena is still to come
+  abbrev pub ComesWhole : Drain P T A Inx Gen → Type 0
+  ComesWhole d = drain_rest d ≡ pointers (content_of d.arena.now)
+
+  -- x is the first entry of s that is still to come, which has been removed, and the others are still to come in t
+  pub record IsDrainedByIndex (greatest : Option ℕ) (index era : P → ℕ) (s : Drain P T A Inx Gen) (x : InvalidationOption (P × T)) (t : Drain P T A Inx Gen) : Type 0 where
+    pub first : drain_rest s ≡ (index (allowed_value x).0, era (allowed_value x).0) ∷ drain_rest t
+    pub whole : ComesWhole s → ComesWhole t
+    pub removed_list : (drain_arena t).list ≡ removed greatest (drain_arena s).list (index (allowed_value x).0)
+    pub shape : IsShrunk (drain_arena s).shape (drain_arena t).shape
+    pub overflow : is_overflow x ≡ overflows_after greatest (drain_arena s).list.generation
+    pub found : item_of (drain_arena s) (index (allowed_value x).0, era (allowed_value x).0) ≡ Some (allowed_value x).1
+    pub updates : Updates (drain_arena s) (drain_arena t) (index (allowed_value x).0, era (allowed_value x).0) None
+
+  -- nothing of s is still to come, and t is s; where every entry of the arena was, there is none
+  pub record GivesNothing (s t : Drain P T A Inx Gen) : Type 0 where
+    pub none_left : drain_rest s ≡ []
+    pub stays : t ≡ s
+    pub empty : ComesWhole s → FindsNothing (drain_arena s)
+
+  -- `next` took s to t, and returned r: the entries go by rising index, each by a removal of its own
+  abbrev pub DrainSteps : Option ℕ → (P → ℕ) → (P → ℕ) → Drain P T A Inx Gen → Option (InvalidationOption (P × T)) → Drain P T A Inx Gen → Type 0
+  DrainSteps greatest index era s r t =
+      (drain_lender t ≡ drain_lender s) × MatchOption r (GivesNothing s t) (λ x. IsDrainedByIndex greatest index era s x t)

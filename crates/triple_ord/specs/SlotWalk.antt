@@ -1,0 +1,12 @@
+-- A walk over an ordered arena by index, whatever the order of its list.
+use Rattle.std.specs.Prelude.{ℕ, Option, IfSome, IsSome}
+use Rattle.arena_base.specs.Walk.{Walk, WalkSteps}
+use Rattle.ord_tree.specs.Tree.{Tree}
+use Rattle.triple_ord.specs.Arena.{item_of}
+use Rattle.triple_ord.specs.Content.{content_of}
+
+-- a step over the arena took the walk `old` to `new`, and gave this pointer or nothing: it is a step over the finite map that the
+-- arena is, and the pointer finds an item
+pub record SlotWalkSteps {P T : Type 0} (index era : P → ℕ) (old : Walk) (a : Tree T) (result : Option P) (new : Walk) : Type 0 where
+  pub step : WalkSteps index era old (content_of a) result new
+  pub there : IfSome result (λ p. IsSome (item_of a (index p, era p)))

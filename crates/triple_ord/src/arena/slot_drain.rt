@@ -1,0 +1,71 @@
+//! Taking all entries out of an arena in the order of their indexes.
+ghost use Rattle.std.specs.Prelude.{◌≡◌};
+ghost use Rattle.std.specs.Iterator.{item_count};
+ghost use Rattle.arena_base.specs.Walk.{pointers};
+ghost use Rattle.chain_base.specs.Chain.{cleared};
+ghost use Rattle.ord_tree.specs.Shape.{missing};
+ghost use Rattle.triple_ord.specs.Content.{content_of};
+ghost use Rattle.triple_ord.specs.SlotDrain.{drain_arena, drain_lender, drain_rest, DrainSteps};
+
+use super::SimpleOrdArena;
+use arena_base::{Advancer, InvalidationOption, Ptr, PtrAdvancer};
+use std::alloc::{Allocator, Global};
+
+/// Takes the entries out of an arena by rising index, each by a removal of its own. When it is dropped it clears the arena.
+pub struct Drain<'a, P: Ptr, T: Drop, A: Allocator = Global> {
+    arena: &'a mut SimpleOrdArena<P, T, A>,
+    walk: PtrAdvancer<P>,
+}
+
+impl<P: Ptr, T: Drop, A: Allocator> SimpleOrdArena<P, T, A> {
+    /// Takes all entries out, by rising index, whatever the order of the list.
+    ///
+    /// Each is removed, and raises the generation, as it is given, in O(log n) time; to come to them takes O(capacity) in all. When the
+    /// drain is dropped, the arena is cleared of the rest, which raises the generation once more. After a drain that is forgotten the
+    /// rest is still there.
+    pub fn drain(&mut self) -> Drain<'_, P, T, A>
+        ensures arena { drain_arena result ≡ self.old }
+        ensures rest { drain_rest result ≡ pointers (content_of self.old) }
+        ensures same_reference { drain_lender result ≡ self.entry.ghost_name }
+    {
+        let walk = self.advancer();
+        Drain { arena: self, walk }
+    }
+}
+
+impl<'a, P: Ptr, T: Drop, A: Allocator> Drain<'a, P, T, A> {
+    /// Ends the drain, and leaves the arena as it is: the entries that haven't been given stay.
+    ///
+    /// `mem::forget` does the same, but says nothing to a caller of what is left.
+    pub fn keep_rest(self)
+        ensures { self.exit.0.now ≡ drain_arena self.entry }
+    {
+        let Drain { arena: _, walk: _ } = self;
+    }
+}
+
+impl<'a, P: Ptr, T: Drop, A: Allocator> Drop for Drain<'a, P, T, A> {
+    fn drop(self)
+        ensures { self.exit.0.now
+            ≡ record { list = cleared P.Gen.greatest (drain_arena self.entry).list; shape = missing } }
+    {
+        let Drain { arena, walk: _ } = self;
+        let _ = arena.clear();
+    }
+}
+
+impl<'a, P: Ptr, T: Drop, A: Allocator> Iterator for Drain<'a, P, T, A> {
+    type Item = InvalidationOption<(P, T)>;
+
+    ghost next_gives = { DrainSteps P.Gen.greatest P.index P.era };
+
+    ghost remaining = { item_count drain_rest };
+
+    fn next(&mut self) -> Option<InvalidationOption<(P, T)>> {
+        // with its length an arena tells what holds of every list
+        let _ = self.arena.len();
+        let p = self.walk.advance(self.arena)?;
+        let taken = self.arena.remove(p).unwrap();
+        Some(taken.map(|item| (p, item)))
+    }
+}

@@ -1,0 +1,123 @@
+//! Drains by index. The letters A, B, C, E stand at the indexes 2, 4, 1, 3.
+use super::numbers;
+use super::walks::{Letters, letters, put_five};
+use triple_ord::{OrdPair, SimpleOrdArena};
+use arena_base::{InvalidationOption, P0, P8, Ptr};
+use std::alloc::Global;
+use std::cell::Cell;
+use std::mem;
+use std::process::Abort;
+use std::test::Fail;
+
+#[test]
+fn drains_by_index(rt: HostRuntime) -> Result<(), Fail> {
+    let mut a = letters(rt.alloc())?;
+    let mut drain = a.drain();
+    for (letter, index, generation) in [('C', 1u32, 2u64), ('A', 2, 2), ('E', 3, 3), ('B', 4, 2)] {
+        let taken = drain.next().ok_or("an entry")?;
+        let InvalidationOption::Success((p, pair)) = taken else {
+            return Err(Fail::from("an overflow"));
+        };
+        assert_eq!(rt; *pair.k(), letter);
+        assert_eq!(rt; numbers(Some(p)), Some((index, generation)));
+    }
+    assert!(rt; drain.next().is_none());
+    drop(drain);
+    assert_eq!(rt; (a.len(), a.generation()), (0, 8));
+    let (p, _) = a.insert(OrdPair::new('Z', ()))?;
+    assert_eq!(rt; numbers(Some(p)), Some((1, 8)));
+    Ok(())
+}
+
+/// How a drain ends.
+#[derive(Drop)]
+enum End {
+    Kept,
+    Forgotten,
+    Dropped,
+}
+
+/// The letters, drained of so many.
+fn letters_after(alloc: Global, taken: usize, end: End) -> Result<Letters<P0>, Fail> {
+    let mut a = letters(alloc)?;
+    let mut drain = a.drain();
+    for _ in 0..taken {
+        let _ = drain.next();
+    }
+    match end {
+        End::Kept => drain.keep_rest(),
+        End::Forgotten => mem::forget(drain),
+        End::Dropped => drop(drain),
+    }
+    Ok(a)
+}
+
+#[test]
+fn drains_by_index_end_early(rt: HostRuntime) -> Result<(), Fail> {
+    for (taken, generation) in [(0usize, 3u64), (1, 4), (3, 6), (4, 7), (5, 7)] {
+        let kept = letters_after(rt.alloc(), taken, End::Kept)?;
+        let forgotten = letters_after(rt.alloc(), taken, End::Forgotten)?;
+        let dropped = letters_after(rt.alloc(), taken, End::Dropped)?;
+        assert_eq!(rt; kept.len(), 4usize.saturating_sub(taken));
+        assert!(rt; kept.canonical_eq(&forgotten));
+        assert_eq!(rt; SimpleOrdArena::_check_invariants(&kept), Ok(()));
+        assert_eq!(rt;
+            (kept.generation(), forgotten.generation()),
+            (generation, generation)
+        );
+        assert_eq!(rt;
+            (dropped.len(), dropped.generation()),
+            (0, generation.wrapping_add(1))
+        );
+    }
+    // A, B and E are left in the order of the list
+    let mut left = letters_after(rt.alloc(), 1, End::Kept)?.into_iter();
+    for letter in ['A', 'B', 'E'] {
+        assert_eq!(rt; left.next().map(|entry| *entry.1.k()), Some(letter));
+    }
+    Ok(())
+}
+
+/// Takes so many by a drain, which is then dropped. Answers how many items were dropped before that, and how many are left.
+fn drain(rt: &impl Abort, alloc: Global, drops: &Cell<u64>, taken: usize) -> (u64, usize) {
+    let mut a = SimpleOrdArena::new(alloc);
+    put_five(rt, &mut a, drops);
+    let mut drain = a.drain();
+    for _ in 0..taken {
+        let _ = drain.next();
+    }
+    let before = drops.get();
+    drop(drain);
+    (before, a.len())
+}
+
+/// Each item is dropped just once, wherever the drain ends.
+#[test]
+fn items_drained_by_index_are_dropped_once(rt: HostRuntime) {
+    let drops = Cell::new(0u64);
+    for (taken, before) in [(0usize, 0u64), (1, 1), (3, 3), (5, 5), (6, 5)] {
+        assert_eq!(rt; drain(&rt, rt.alloc(), &drops, taken), (before, 0));
+        assert_eq!(rt; drops.replace(0), 5);
+    }
+}
+
+/// The generations of eight bits begin again in the middle of a drain, at the second index, which isn't the second of the list.
+#[test]
+fn a_drain_by_index_overflows(rt: HostRuntime) -> Result<(), Fail> {
+    let mut a: SimpleOrdArena<P8, OrdPair<u64, ()>> = SimpleOrdArena::new(rt.alloc());
+    for key in [1u64, 3, 2] {
+        let _ = a.insert(OrdPair::new(key, ()))?;
+    }
+    for _ in 2..254u64 {
+        let _ = a.inc_generation();
+    }
+    let mut overflows = 0u64;
+    for taken in a.drain() {
+        if let InvalidationOption::GenerationOverflow((p, pair)) = taken {
+            assert_eq!(rt; (p.inx(), *pair.k()), (2, 3));
+            overflows = overflows.wrapping_add(1);
+        }
+    }
+    assert_eq!(rt; (overflows, a.generation()), (1, 4));
+    Ok(())
+}
