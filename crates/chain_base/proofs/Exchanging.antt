@@ -55,14 +55,16 @@ module _ (i j : ℕ) where
       ]
 
 module _ {T : Type 0} where
-  slot-next : (a : Arena (Link T)) (at v : Option ℕ) (k : ℕ) (e : ℕ × Link T) → slot a k ≡ Some e → slot (linked_next a at v) k ≡ Some (e.0, record { item = e.1.item; prev = e.1.prev; next = if names at k then v else e.1.next })
+  slot-next : (a : Arena (Link T)) (at v : Option ℕ) (k : ℕ) (e : ℕ × Link T) → slot a k ≡ Some e
+      → slot (linked_next a at v) k ≡ Some (e.0, record { item = e.1.item; prev = e.1.prev; next = if names at k then v else e.1.next })
   slot-next a at v k e held = slot-linked_next a at v k ∙ by (names at k)
     where
       by : (b : Bool) → (if b then option_map (with_next v) (slot a k) else slot a k) ≡ Some (e.0, record { item = e.1.item; prev = e.1.prev; next = if b then v else e.1.next })
       by true = ap (option_map (with_next v)) held
       by false = held
 
-  slot-prev : (a : Arena (Link T)) (at v : Option ℕ) (k : ℕ) (e : ℕ × Link T) → slot a k ≡ Some e → slot (linked_prev a at v) k ≡ Some (e.0, record { item = e.1.item; prev = if names at k then v else e.1.prev; next = e.1.next })
+  slot-prev : (a : Arena (Link T)) (at v : Option ℕ) (k : ℕ) (e : ℕ × Link T) → slot a k ≡ Some e
+      → slot (linked_prev a at v) k ≡ Some (e.0, record { item = e.1.item; prev = if names at k then v else e.1.prev; next = e.1.next })
   slot-prev a at v k e held = slot-linked_prev a at v k ∙ by (names at k)
     where
       by : (b : Bool) → (if b then option_map (with_prev v) (slot a k) else slot a k) ≡ Some (e.0, record { item = e.1.item; prev = if b then v else e.1.prev; next = e.1.next })
@@ -257,7 +259,8 @@ module _ {T : Type 0} where
     pub alike-linked : Alike linked a0
     alike-linked = alike-prev linked3 a0 (option_map (other i j) (next_at es j)) (Some i) alike3
 
-    linked-slot : (x : ℕ) (e : ℕ × Link T) → slot a0 x ≡ Some e → slot linked (other i j x) ≡ Some (e.0, record { item = e.1.item; prev = option_map (other i j) (prev_at es x); next = option_map (other i j) (next_at es x) })
+    linked-slot : (x : ℕ) (e : ℕ × Link T) → slot a0 x ≡ Some e
+        → slot linked (other i j x) ≡ Some (e.0, record { item = e.1.item; prev = option_map (other i j) (prev_at es x); next = option_map (other i j) (next_at es x) })
     linked-slot x e held =
         let is : link_at es x ≡ Some e = sym (laid.links x) ∙ held in
         let prev : prev_at es x ≡ e.1.prev = ap (option_and_then (λ e. e.1.prev)) is in

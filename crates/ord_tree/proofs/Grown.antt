@@ -52,7 +52,8 @@ module _ (P G : Type 0) {T I : Type 0} (number : I → ℕ) where
 -- an insertion's chain
 module _ {T : Type 0} where
   -- the entry that an insertion puts into the list
-  pub inserted-entries : (old new : Chain T) (place : Entry T → List (Entry T)) (item : T) (i g : ℕ) → IsInsertion old new place item i g → new.entries ≡ place (record { index = i; generation = g; item = item })
+  pub inserted-entries : (old new : Chain T) (place : Entry T → List (Entry T)) (item : T) (i g : ℕ) → IsInsertion old new place item i g
+      → new.entries ≡ place (record { index = i; generation = g; item = item })
   inserted-entries old new place item i g h = go old.vacant h.next h.after
     where
       go : (vacant : List ℕ) → slice_get vacant 0 ≡ Some i → new ≡ inserted (record old { vacant = vacant }) place item → new.entries ≡ place (record { index = i; generation = g; item = item })
@@ -264,7 +265,8 @@ module _ {P T I G : Type 0} (number : I → ℕ) where
   CanPutAt-bare None c h = bare_empty c.entries h
   CanPutAt-bare (Some at) c h = (sym (is_some-bare c.entries (number at.0)) ∙ h.0, h.1)
 
-put_at-bare : {P T I G : Type 0} (number : I → ℕ) (at : Option (I × Ordering)) (es : List (Entry (SimpleOrdArenaNode P T I G))) (e : Entry (SimpleOrdArenaNode P T I G)) → map bare_entry (put_at number at es e) ≡ put_at number at (map bare_entry es) (bare_entry e)
+put_at-bare : {P T I G : Type 0} (number : I → ℕ) (at : Option (I × Ordering)) (es : List (Entry (SimpleOrdArenaNode P T I G))) (e : Entry (SimpleOrdArenaNode P T I G))
+    → map bare_entry (put_at number at es e) ≡ put_at number at (map bare_entry es) (bare_entry e)
 put_at-bare number None es e = refl
 put_at-bare number (Some at) es e = put-bare at.1 es (number at.0) e
 

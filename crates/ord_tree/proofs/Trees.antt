@@ -122,7 +122,8 @@ module _ {P T I G : Type 0} where
     | inr other ↦ rw other.0 (ap (λ ys. a ∷ ys) (below-written es i e x (rw other.0 at h)))
   ]
 
-  pub below-written_chain : (c : Chain (SimpleOrdArenaNode P T I G)) (i : ℕ) (e : ℕ × SimpleOrdArenaNode P T I G) (x : T) → entry_at c.entries i ≡ Some e → with_item_at c i (record (e.1) { t = x }) ≡ with_node_item c i x
+  pub below-written_chain : (c : Chain (SimpleOrdArenaNode P T I G)) (i : ℕ) (e : ℕ × SimpleOrdArenaNode P T I G) (x : T)
+      → entry_at c.entries i ≡ Some e → with_item_at c i (record (e.1) { t = x }) ≡ with_node_item c i x
   below-written_chain c i e x h = ap (λ (es : List (Entry (SimpleOrdArenaNode P T I G))). record c { entries = es }) (below-written c.entries i e x h)
 
   indexes-below : (es : List (Entry (SimpleOrdArenaNode P T I G))) (i : ℕ) (x : T) → indexes (with_item_below es i x) ≡ indexes es
