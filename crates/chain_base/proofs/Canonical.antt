@@ -254,7 +254,7 @@ module _ {T : Type 0} where
         era = refl;
       })
 
-  module _ (c : Chain T) (g n : ℕ) (items : List T) (now : Chain T) (at : Option ℕ) (k : ℕ) (b : CanonicalBelow c g n items now at k) (more : k < n) where
+  module _ {c : Chain T} {g n : ℕ} {items : List T} {now : Chain T} {at : Option ℕ} {k : ℕ} (b : CanonicalBelow c g n items now at k) (more : k < n) where
     -- the entry that is met
     pub record Met : Type 0 where
       pub entry : Entry T
