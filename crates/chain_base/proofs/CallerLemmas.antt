@@ -106,7 +106,8 @@ module _ {T : Type 0} where
   ]
 
   -- and its own index finds it, where no other entry has that
-  pub entry_at-between : (front : List (Entry T)) (new : Entry T) (back : List (Entry T)) → times new.index (front ++ back) ≡ 0 → entry_at (front ++ new ∷ back) new.index ≡ Some (new.generation, new.item)
+  pub entry_at-between : (front : List (Entry T)) (new : Entry T) (back : List (Entry T)) → times new.index (front ++ back) ≡ 0
+      → entry_at (front ++ new ∷ back) new.index ≡ Some (new.generation, new.item)
   entry_at-between [] new back never = elim (eqb_tells new.index new.index) [
     | inl h ↦ rw h.0 refl
     | inr h ↦ absurd (h.1 refl)

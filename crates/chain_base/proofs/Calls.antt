@@ -144,11 +144,13 @@ module _ {T : Type 0} where
             rw (joined, first_is, last_is, without, prev_is, next_is, named_prev, named_next) (Removes-joined greatest a first last i e laid held)
 
     -- a call that renews an entry, or changes nothing
-    pub renewed-or_kept : {X : Type 0} (greatest : Option ℕ) (b : Arena (Link T)) (i : ℕ) (o : Option X) → OnSome o (b ≡ arena_renewed greatest a i) → IfNone o (b ≡ a) → IsLaidOut b.slots first last (chain_of b first).entries
+    pub renewed-or_kept : {X : Type 0} (greatest : Option ℕ) (b : Arena (Link T)) (i : ℕ) (o : Option X) → OnSome o (b ≡ arena_renewed greatest a i)
+        → IfNone o (b ≡ a) → IsLaidOut b.slots first last (chain_of b first).entries
     renewed-or_kept greatest b i None renews keeps = rw keeps laid
     renewed-or_kept greatest b i (Some x) renews keeps = rw renews (Renews-at greatest a first last i laid).laid
 
-    pub renewed-chain : {X : Type 0} (greatest : Option ℕ) (b : Arena (Link T)) (i : ℕ) (o : Option X) → OnSome o (b ≡ arena_renewed greatest a i) → OnSome o (chain_of b first ≡ renewed greatest (chain_of a first) i)
+    pub renewed-chain : {X : Type 0} (greatest : Option ℕ) (b : Arena (Link T)) (i : ℕ) (o : Option X) → OnSome o (b ≡ arena_renewed greatest a i)
+        → OnSome o (chain_of b first ≡ renewed greatest (chain_of a first) i)
     renewed-chain greatest b i None renews = tt
     renewed-chain greatest b i (Some x) renews = rw renews (Renews-at greatest a first last i laid).chain
 
@@ -158,7 +160,9 @@ module _ {T : Type 0} where
     beyond-greatest n k (Some e) held far = absurd (omega (arith, below-greatest a.slots k e held))
 
     -- a call that makes the capacity n or what is needed, or changes nothing
-    pub resized-or_kept : {X E : Type 0} (b : Arena (Link T)) (n : ℕ) (r : Result X E) → OnOk r (b ≡ arena_with_capacity a (max n (greatest_occupied a.slots))) → OnErr r (b ≡ a) → IsLaidOut b.slots first last (chain_of b first).entries
+    pub resized-or_kept : {X E : Type 0} (b : Arena (Link T)) (n : ℕ) (r : Result X E)
+        → OnOk r (b ≡ arena_with_capacity a (max n (greatest_occupied a.slots))) → OnErr r (b ≡ a)
+        → IsLaidOut b.slots first last (chain_of b first).entries
     resized-or_kept b n (Err e) ok err = rw err laid
     resized-or_kept b n (Ok x) ok err =
         let size = max n (greatest_occupied a.slots) in

@@ -29,7 +29,8 @@ module _ {T : Type 0} where
       ]
 
   -- an entry stands at its place among those by rising index
-  rising-at : (es : List (Entry T)) → IsDistinct es → (count from x k : ℕ) (e : ℕ × T) → entry_at es x ≡ Some e → from ≤ x → x < from + count → lesser es from + k ≡ lesser es x → slice_get (rising_among es from count) k ≡ Some (x, e.0, e.1)
+  rising-at : (es : List (Entry T)) → IsDistinct es → (count from x k : ℕ) (e : ℕ × T) → entry_at es x ≡ Some e → from ≤ x → x < from + count
+      → lesser es from + k ≡ lesser es x → slice_get (rising_among es from count) k ≡ Some (x, e.0, e.1)
   rising-at es distinct zero from x k e is above below same = absurd (omega arith)
   rising-at es distinct (suc n) from x k e is above below same =
       elim (eqb_tells from x) [
@@ -47,7 +48,9 @@ module _ {T : Type 0} where
       behind f zero some xs more = absurd (omega arith)
       behind f (suc m) some xs more = let less : suc m - 1 ≡ m = omega arith in rw less at more
 
-      there : from + 1 ≤ x → ((m : ℕ) → from + 1 ≤ x → lesser es (from + 1) + m ≡ lesser es x → slice_get (rising_among es (from + 1) n) m ≡ Some (x, e.0, e.1)) → (o : Option (ℕ × T)) → entry_at es from ≡ o
+      there : from + 1 ≤ x
+          → ((m : ℕ) → from + 1 ≤ x → lesser es (from + 1) + m ≡ lesser es x → slice_get (rising_among es (from + 1) n) m ≡ Some (x, e.0, e.1))
+          → (o : Option (ℕ × T)) → entry_at es from ≡ o
           → slice_get (entry_before from (entry_at es from) (rising_among es (from + 1) n)) k ≡ Some (x, e.0, e.1)
       there apart ih None at = rw at (ih k apart (omega (arith, lesser-next es from, entry-absent es from at, same)))
       there apart ih (Some f) at =
@@ -62,13 +65,15 @@ module _ {T : Type 0} where
           single (suc t) some = let most = distinct from in omega (arith, some)
 
   -- lists whose parts are the same at each entry
-  map-alike : {B : Type 0} (f h : Entry T → B) (es front fs : List (Entry T)) → es ≡ front ++ fs → ((xs : List (Entry T)) (e : Entry T) (ys : List (Entry T)) → es ≡ xs ++ e ∷ ys → f e ≡ h e) → map f fs ≡ map h fs
+  map-alike : {B : Type 0} (f h : Entry T → B) (es front fs : List (Entry T)) → es ≡ front ++ fs
+      → ((xs : List (Entry T)) (e : Entry T) (ys : List (Entry T)) → es ≡ xs ++ e ∷ ys → f e ≡ h e) → map f fs ≡ map h fs
   map-alike f h es front [] split same = refl
   map-alike f h es front (e ∷ fs) split same =
       rw (same front e fs split) (ap (λ rest. h e ∷ rest) (map-alike f h es (front ++ e ∷ []) fs (split ∙ sym (append_assoc front (e ∷ []) fs)) same))
 
   -- a compression whose calls give each item back
-  pub compression-relocates : {P F : Type 0} (index era : P → ℕ) (step : F → P → T → P → T → F → Type 0) (g most : ℕ) (greatest : Option ℕ) → ((f : F) (p : P) (x : T) (q : P) (y : T) (h : F) → step f p x q y h → y ≡ x)
+  pub compression-relocates : {P F : Type 0} (index era : P → ℕ) (step : F → P → T → P → T → F → Type 0) (g most : ℕ) (greatest : Option ℕ)
+      → ((f : F) (p : P) (x : T) (q : P) (y : T) (h : F) → step f p x q y h → y ≡ x)
       → (f : F) (old new : Chain T) → IsSound most greatest old → IsCompression index era step g f old new → new ≡ relocated old g
   compression-relocates {P} {F} index era step g most greatest back f old new sound c =
       c.after ∙ ap (λ es. record { entries = es; capacity = old.capacity; vacant = vacant_indexes es old.capacity; generation = g; maximum = old.maximum }) (map-alike (moved old.entries g c.items) (at_place old.entries g) old.entries [] old.entries refl same)
@@ -249,7 +254,7 @@ module _ {T : Type 0} where
         era = refl;
       })
 
-  module _ (c : Chain T) (g n : ℕ) (items : List T) (now : Chain T) (at : Option ℕ) (k : ℕ) (b : CanonicalBelow c g n items now at k) (more : k < n) where
+  module _ {c : Chain T} {g n : ℕ} {items : List T} {now : Chain T} {at : Option ℕ} {k : ℕ} (b : CanonicalBelow c g n items now at k) (more : k < n) where
     -- the entry that is met
     pub record Met : Type 0 where
       pub entry : Entry T

@@ -84,7 +84,8 @@ module _ {T : Type 0} where
 
     module _ (a1 : Arena (Link T)) (end1 : Option ℕ) (n1 : NamesPlaces Before a0 a1 end1) where
       -- an entry's link names the place of the next one
-      after1 : (xs : List (Entry T)) (e : Entry T) (ys : List (Entry T)) → es ≡ xs ++ e ∷ ys → slot a1 e.index ≡ Some (e.generation, record { item = e.item; prev = last_or None xs; next = option_map place (first_or None ys) })
+      after1 : (xs : List (Entry T)) (e : Entry T) (ys : List (Entry T)) → es ≡ xs ++ e ∷ ys
+          → slot a1 e.index ≡ Some (e.generation, record { item = e.item; prev = last_or None xs; next = option_map place (first_or None ys) })
       after1 xs e ys split = by ys split refl
         where
           at : (ys : List (Entry T)) → es ≡ xs ++ e ∷ ys → slot a0 e.index ≡ Some (e.generation, record { item = e.item; prev = last_or None xs; next = first_or None ys })
@@ -141,7 +142,8 @@ module _ {T : Type 0} where
             bound : (xs : List (Option (ℕ × Link T))) → count_by is_some xs ≤ length xs
             bound xs = count_by-le-length is_some xs
 
-            fewer : (xs ys : List (Option (ℕ × Link T))) → length xs ≡ length ys → ((k : ℕ) → is_some (get_or xs k None) ≡ is_some (get_or ys k None)) → take 1 ys ≡ None ∷ [] → count_by is_some xs < length xs
+            fewer : (xs ys : List (Option (ℕ × Link T))) → length xs ≡ length ys → ((k : ℕ) → is_some (get_or xs k None) ≡ is_some (get_or ys k None))
+                → take 1 ys ≡ None ∷ [] → count_by is_some xs < length xs
             fewer [] [] long alike first = absurd (cc)
             fewer [] (y ∷ ys) long alike first = absurd (omega arith)
             fewer (x ∷ xs) [] long alike first = absurd (omega arith)
@@ -154,7 +156,8 @@ module _ {T : Type 0} where
         at2 k = ap (λ ss. get_or ss (suc k) None) c.after.slots ∙ compressed-at (length a1.slots) g c.links k fits
 
         -- an entry's link has come to its place
-        after2 : (x : ℕ) → 1 ≤ times x es → (l : Link T) × (slot a2 (place x) ≡ Some (g, l)) × (l.prev ≡ prev_at es x) × (l.next ≡ option_map place (next_at es x)) × (slice_get c.links (lesser es x) ≡ Some l)
+        after2 : (x : ℕ) → 1 ≤ times x es
+            → (l : Link T) × (slot a2 (place x) ≡ Some (g, l)) × (l.prev ≡ prev_at es x) × (l.next ≡ option_map place (next_at es x)) × (slice_get c.links (lesser es x) ≡ Some l)
         after2 x occurs =
             let s = Stands-occurs es x occurs in
             let link : Link T = record { item = s.entry.item; prev = last_or None s.front; next = option_map place (first_or None s.back) } in
@@ -230,7 +233,8 @@ module _ {T : Type 0} where
           abbrev change : Entry T → Entry T
           change e = moved es g items e
 
-          after3 : (xs : List (Entry T)) (e : Entry T) (ys : List (Entry T)) → es ≡ xs ++ e ∷ ys → slot a3 (place e.index) ≡ Some ((change e).generation, record { item = (change e).item; prev = option_map place (last_or None xs); next = option_map place (first_or None ys) })
+          after3 : (xs : List (Entry T)) (e : Entry T) (ys : List (Entry T)) → es ≡ xs ++ e ∷ ys
+              → slot a3 (place e.index) ≡ Some ((change e).generation, record { item = (change e).item; prev = option_map place (last_or None xs); next = option_map place (first_or None ys) })
           after3 xs e ys split =
               let is = link_at-split es xs e ys split laid.distinct e.index refl in
               let occurs = linked-occurs es e.index _ is in
@@ -243,7 +247,8 @@ module _ {T : Type 0} where
               link-is : (l : Link T) (item : T) (prev next : Option ℕ) → item ≡ l.item → l.prev ≡ prev → l.next ≡ next → l ≡ record { item = item; prev = prev; next = next }
               link-is l item prev next i p n = rw (i, ← p, ← n) refl
 
-              by : (before : Option ℕ) → 1 ≤ times e.index es → (l : Link T) → slot a2 (place e.index) ≡ Some (g, l) → (change e).item ≡ l.item → l.prev ≡ before → l.next ≡ option_map place (first_or None ys) → l.prev ≡ prev_at es e.index
+              by : (before : Option ℕ) → 1 ≤ times e.index es → (l : Link T) → slot a2 (place e.index) ≡ Some (g, l) → (change e).item ≡ l.item
+                  → l.prev ≡ before → l.next ≡ option_map place (first_or None ys) → l.prev ≡ prev_at es e.index
                   → slot a3 (place e.index) ≡ Some (g, record { item = (change e).item; prev = option_map place before; next = option_map place (first_or None ys) })
               by None occurs l held item prev next is =
                   let gone_by : (i : ℕ) → named After a2 i ≢ Some (place e.index) = λ i names.
@@ -326,7 +331,9 @@ module _ {T : Type 0} where
               above : (slots : List (Option (ℕ × Link T))) → take 1 slots ≡ None ∷ [] → 0 < length a1.slots
               above slots first = let less = fits in omega arith
 
-              by : (slots : List (Option (ℕ × Link T))) → is_some (get_or slots 0 None) ≡ false → 0 < length slots → ((x : ℕ) → option_map (λ e. (e.0, e.1.item)) (get_or slots x None) ≡ entry_at es x) → map (bare index era step g) (entries_from 0 slots) ≡ rising_among es 1 (length slots - 1)
+              by : (slots : List (Option (ℕ × Link T))) → is_some (get_or slots 0 None) ≡ false → 0 < length slots
+                  → ((x : ℕ) → option_map (λ e. (e.0, e.1.item)) (get_or slots x None) ≡ entry_at es x)
+                  → map (bare index era step g) (entries_from 0 slots) ≡ rising_among es 1 (length slots - 1)
               by [] none some same = absurd (omega arith)
               by (Some e ∷ slots) none some same = absurd (false≢true (sym none))
               by (None ∷ slots) none some same =
@@ -361,6 +368,7 @@ module _ {T : Type 0} where
           laid-again = subst (λ es. IsLaidOut a3.slots end1 end2 es) (sym (walk-laid_out a3 end1 end2 (map change es) laid-compressed)) laid-compressed
 
 -- a compression of a chain that is seen in another way
-pub compression-of : {P T M : Type 0} (index era : P → ℕ) (step : M → P → T → P → T → M → Type 0) (m : M) (seen old new : Chain T) (g h : ℕ) → seen ≡ old → g ≡ h → IsCompression index era step g m seen new → IsCompression index era step h m old new
+pub compression-of : {P T M : Type 0} (index era : P → ℕ) (step : M → P → T → P → T → M → Type 0) (m : M) (seen old new : Chain T) (g h : ℕ)
+    → seen ≡ old → g ≡ h → IsCompression index era step g m seen new → IsCompression index era step h m old new
 compression-of index era step m seen old new g h is same c =
     subst (λ k. IsCompression index era step k m old new) same (subst (λ v. IsCompression index era step g m v new) is c)

@@ -113,20 +113,23 @@ module _ {T : Type 0} where
   pub item-missing : (o : Option (Link T)) → None ≡ o → None ≡ option_map (λ l. l.item) o
   item-missing o missing = rw (← missing) refl
 
-  pub entry-found : (o : Option (ℕ × Link T)) (g : ℕ) (l : Link T) (item : T) → ◌≡◌ {A = Option (ℕ × Link T)} (Some (g, l)) o → item ≡ l.item → ◌≡◌ {A = Option (ℕ × T)} (Some (g, item)) (option_map (λ e. (e.0, e.1.item)) o)
+  pub entry-found : (o : Option (ℕ × Link T)) (g : ℕ) (l : Link T) (item : T) → ◌≡◌ {A = Option (ℕ × Link T)} (Some (g, l)) o → item ≡ l.item
+      → ◌≡◌ {A = Option (ℕ × T)} (Some (g, item)) (option_map (λ e. (e.0, e.1.item)) o)
   entry-found o g l item found same = rw (← found, same) refl
 
   pub entry-missing : (o : Option (ℕ × Link T)) → None ≡ o → None ≡ option_map {U = ℕ × T} (λ e. (e.0, e.1.item)) o
   entry-missing o missing = rw (← missing) refl
 
-  pub pointed-found : (o : Option (ℕ × Link T)) (i g : ℕ) (l : Link T) → ◌≡◌ {A = Option (ℕ × Link T)} (Some (g, l)) o → ◌≡◌ {A = Option (ℕ × ℕ)} (Some (i, g)) (pointed i (option_map {U = ℕ × T} (λ e. (e.0, e.1.item)) o))
+  pub pointed-found : (o : Option (ℕ × Link T)) (i g : ℕ) (l : Link T) → ◌≡◌ {A = Option (ℕ × Link T)} (Some (g, l)) o
+      → ◌≡◌ {A = Option (ℕ × ℕ)} (Some (i, g)) (pointed i (option_map {U = ℕ × T} (λ e. (e.0, e.1.item)) o))
   pointed-found o i g l found = rw (← found) refl
 
   pub pointed-missing : (o : Option (ℕ × Link T)) (i : ℕ) → None ≡ o → None ≡ pointed i (option_map {U = ℕ × T} (λ e. (e.0, e.1.item)) o)
   pointed-missing o i missing = rw (← missing) refl
 
   -- the pointer to the last index of a chain that lies in an arena
-  pub last-found : (a : Arena (Link T)) (first last : Option ℕ) (i : ℕ) → IsLaidOut a.slots first last (chain_of a first).entries → last ≡ Some i → pointed i (entry_at (chain_of a first).entries i) ≡ last_pointer (chain_of a first).entries
+  pub last-found : (a : Arena (Link T)) (first last : Option ℕ) (i : ℕ) → IsLaidOut a.slots first last (chain_of a first).entries → last ≡ Some i
+      → pointed i (entry_at (chain_of a first).entries i) ≡ last_pointer (chain_of a first).entries
   last-found a first last i laid is = pointed-last (chain_of a first).entries i (laid.distinct i) (sym laid.last_is ∙ is)
 
   pub last-missing : (a : Arena (Link T)) (first last : Option ℕ) → IsLaidOut a.slots first last (chain_of a first).entries → last ≡ None → None ≡ last_pointer (chain_of a first).entries

@@ -6,9 +6,10 @@ use Rattle.std.specs.Option.{option_map, option_and_then, ForSome}
 use Rattle.arena_base.specs.Pointer.{named_of}
 use Rattle.arena_base.specs.Arena.{Arena, slot, with_slot, with_item_of, swapped}
 use Rattle.chain_base.specs.Link.{Link}
-use Rattle.chain_base.specs.Chain.{Entry, Chain, times, entry_at, link_at, IsSound}
+use Rattle.chain_base.specs.Chain.{Entry, Chain, times, entry_at, link_at, IsOccupied, IsSound}
 use Rattle.chain_base.specs.Layout.{chain_of, names, with_next, with_prev, linked_next, linked_prev, IsLaidOut}
-use Rattle.chain_base.specs.Exchange.{exchanged_index, in_exchange, exchanged}
+use Rattle.chain_base.specs.Exchange.{exchanged_index, in_exchange, exchanged, index_before, IsEven}
+use Rattle.chain_base.specs.Walk.{index_after}
 use Rattle.chain_base.proofs.Lists.{entry_at-link, entry_at-absent, names_tells, same_index, other_index}
 use Rattle.chain_base.proofs.LaidOut.{slot-with_other, slot-with_same, slot-within, slot-linked_next, slot-linked_prev, walk-laid_out}
 use Rattle.chain_base.proofs.Renumbering.{link_at-split, prev_at, next_at, named-occurs, next-of_prev, prev-of_next, times-changed, IsLaidOut-renumbered}
@@ -55,14 +56,16 @@ module _ (i j : ℕ) where
       ]
 
 module _ {T : Type 0} where
-  slot-next : (a : Arena (Link T)) (at v : Option ℕ) (k : ℕ) (e : ℕ × Link T) → slot a k ≡ Some e → slot (linked_next a at v) k ≡ Some (e.0, record { item = e.1.item; prev = e.1.prev; next = if names at k then v else e.1.next })
+  slot-next : (a : Arena (Link T)) (at v : Option ℕ) (k : ℕ) (e : ℕ × Link T) → slot a k ≡ Some e
+      → slot (linked_next a at v) k ≡ Some (e.0, record { item = e.1.item; prev = e.1.prev; next = if names at k then v else e.1.next })
   slot-next a at v k e held = slot-linked_next a at v k ∙ by (names at k)
     where
       by : (b : Bool) → (if b then option_map (with_next v) (slot a k) else slot a k) ≡ Some (e.0, record { item = e.1.item; prev = e.1.prev; next = if b then v else e.1.next })
       by true = ap (option_map (with_next v)) held
       by false = held
 
-  slot-prev : (a : Arena (Link T)) (at v : Option ℕ) (k : ℕ) (e : ℕ × Link T) → slot a k ≡ Some e → slot (linked_prev a at v) k ≡ Some (e.0, record { item = e.1.item; prev = if names at k then v else e.1.prev; next = e.1.next })
+  slot-prev : (a : Arena (Link T)) (at v : Option ℕ) (k : ℕ) (e : ℕ × Link T) → slot a k ≡ Some e
+      → slot (linked_prev a at v) k ≡ Some (e.0, record { item = e.1.item; prev = if names at k then v else e.1.prev; next = e.1.next })
   slot-prev a at v k e held = slot-linked_prev a at v k ∙ by (names at k)
     where
       by : (b : Bool) → (if b then option_map (with_prev v) (slot a k) else slot a k) ≡ Some (e.0, record { item = e.1.item; prev = if b then v else e.1.prev; next = e.1.next })
@@ -125,8 +128,51 @@ module _ {T : Type 0} where
         kept = kept-prev a at v ∙ ap (λ c. with_slots c (linked_prev a at v).slots) same.kept;
       }
 
-  module _ (a0 : Arena (Link T)) (first last : Option ℕ) (es : List (Entry T)) (laid : IsLaidOut a0.slots first last es) (i j : ℕ) (at_i : is_some (slot a0 i) ≡ true) (at_j : is_some (slot a0 j) ≡ true)
-      (even : (x y : ℕ) (e f : ℕ × Link T) → slot a0 x ≡ Some e → slot a0 y ≡ Some f → e.0 ≡ f.0) where
+  -- equal generations, as slots have them
+  even-slots : (a : Arena (Link T)) (first last : Option ℕ) (es : List (Entry T)) → IsLaidOut a.slots first last es → (g : ℕ) → ((i : ℕ) → ForSome (entry_at es i) (λ e. e.0 ≡ g))
+      → (x y : ℕ) (e f : ℕ × Link T) → slot a x ≡ Some e → slot a y ≡ Some f → e.0 ≡ f.0
+  even-slots a first last es laid g even x y e f held_x held_y = at x e held_x ∙ sym (at y f held_y)
+    where
+      at : (x : ℕ) (e : ℕ × Link T) → slot a x ≡ Some e → e.0 ≡ g
+      at x e held = even x (e.0, e.1.item) (entry_at-link None None es x ∙ ap (option_map (λ e. (e.0, e.1.item))) (sym (laid.links x) ∙ held))
+
+  -- both indexes have entries, and all entries have one generation
+  pub record CanExchange (es : List (Entry T)) (i j : ℕ) : Type 0 where
+    pub first : is_some (entry_at es i) ≡ true
+    pub second : is_some (entry_at es j) ≡ true
+    pub generation : ℕ
+    pub even : (k : ℕ) → ForSome (entry_at es k) (λ e. e.0 ≡ generation)
+
+  pub can_exchange : (c d : Chain T) → c ≡ d → (i j : ℕ) → IsOccupied d i → IsOccupied d j → IsEven d → CanExchange c.entries i j
+  can_exchange c d same i j first second even =
+      subst (λ (e : Chain T). CanExchange e.entries i j) (sym same) (record { first = first; second = second; generation = d.generation; even = even })
+
+  -- the indexes beside an entry of the list, exchanged too
+  pub before-exchanged : (c d : Chain T) → c ≡ d → (f : ℕ → ℕ) (k : ℕ) (o p : Option ℕ) → o ≡ option_map f p → p ≡ index_before d.entries k
+      → o ≡ option_map f (prev_at c.entries k)
+  before-exchanged c d same f k o p is at = is ∙ ap (option_map f) (at ∙ ap (λ (e : Chain T). index_before e.entries k) (sym same))
+
+  pub behind-exchanged : (c d : Chain T) → c ≡ d → (f : ℕ → ℕ) (k : ℕ) (o p : Option ℕ) → o ≡ option_map f p → p ≡ index_after d.entries k
+      → o ≡ option_map f (next_at c.entries k)
+  behind-exchanged c d same f k o p is at = is ∙ ap (option_map f) (at ∙ ap (λ (e : Chain T). index_after e.entries k) (sym same))
+
+  held-entry : (es : List (Entry T)) (k : ℕ) (o : Option (ℕ × Link T)) → o ≡ link_at es k → is_some (entry_at es k) ≡ true → is_some o ≡ true
+  held-entry es k o is there = mapped o (ap is_some (sym (entry_at-link None None es k ∙ ap (option_map (λ e. (e.0, e.1.item))) (sym is))) ∙ there)
+    where
+      mapped : (o : Option (ℕ × Link T)) → is_some {T = ℕ × T} (option_map (λ e. (e.0, e.1.item)) o) ≡ true → is_some o ≡ true
+      mapped None there = absurd (cc)
+      mapped (Some e) there = refl
+
+  module _ (a0 : Arena (Link T)) (first last : Option ℕ) (es : List (Entry T)) (laid : IsLaidOut a0.slots first last es) (i j : ℕ) (can : CanExchange es i j) where
+    at_i : is_some (slot a0 i) ≡ true
+    at_i = held-entry es i (slot a0 i) (laid.links i) can.first
+
+    at_j : is_some (slot a0 j) ≡ true
+    at_j = held-entry es j (slot a0 j) (laid.links j) can.second
+
+    even : (x y : ℕ) (e f : ℕ × Link T) → slot a0 x ≡ Some e → slot a0 y ≡ Some f → e.0 ≡ f.0
+    even = even-slots a0 first last es laid can.generation can.even
+
     abbrev swap : Arena (Link T)
     swap = swapped a0 i j
 
@@ -257,7 +303,8 @@ module _ {T : Type 0} where
     pub alike-linked : Alike linked a0
     alike-linked = alike-prev linked3 a0 (option_map (other i j) (next_at es j)) (Some i) alike3
 
-    linked-slot : (x : ℕ) (e : ℕ × Link T) → slot a0 x ≡ Some e → slot linked (other i j x) ≡ Some (e.0, record { item = e.1.item; prev = option_map (other i j) (prev_at es x); next = option_map (other i j) (next_at es x) })
+    linked-slot : (x : ℕ) (e : ℕ × Link T) → slot a0 x ≡ Some e
+        → slot linked (other i j x) ≡ Some (e.0, record { item = e.1.item; prev = option_map (other i j) (prev_at es x); next = option_map (other i j) (next_at es x) })
     linked-slot x e held =
         let is : link_at es x ≡ Some e = sym (laid.links x) ∙ held in
         let prev : prev_at es x ≡ e.1.prev = ap (option_and_then (λ e. e.1.prev)) is in
@@ -330,14 +377,6 @@ module _ {T : Type 0} where
 
         pub chain-again : chain_of b4 end1 ≡ exchanged (chain_of a0 first) i j
         chain-again = rw (is-linked made1 made2 made3 made4, is_first) chain-exchanged
-
-  -- equal generations, as slots have them
-  pub even-slots : (a : Arena (Link T)) (first last : Option ℕ) (es : List (Entry T)) → IsLaidOut a.slots first last es → (g : ℕ) → ((i : ℕ) → ForSome (entry_at es i) (λ e. e.0 ≡ g))
-      → (x y : ℕ) (e f : ℕ × Link T) → slot a x ≡ Some e → slot a y ≡ Some f → e.0 ≡ f.0
-  even-slots a first last es laid g even x y e f held_x held_y = at x e held_x ∙ sym (at y f held_y)
-    where
-      at : (x : ℕ) (e : ℕ × Link T) → slot a x ≡ Some e → e.0 ≡ g
-      at x e held = even x (e.0, e.1.item) (entry_at-link None None es x ∙ ap (option_map (λ e. (e.0, e.1.item))) (sym (laid.links x) ∙ held))
 
   -- an index with an entry can be named in a link
   pub occupied-named : (most : ℕ) (greatest : Option ℕ) (c : Chain T) (i : ℕ) → IsSound most greatest c → is_some (entry_at c.entries i) ≡ true → named_of most (Some i) ≡ Some i

@@ -29,7 +29,8 @@ module _ {T : Type 0} where
   pointers_from-none c i none = ap pointers (from_index-absent c.entries i (times-unlinked None None c.entries i (sym none)))
 
   -- what stands behind an entry is what its link leads to
-  behind : (c : Chain T) (front : List (Entry T)) (e : Entry T) (back : List (Entry T)) → IsDistinct (front ++ e ∷ back) → c.entries ≡ front ++ e ∷ back → pointers_from (first_or None back) c ≡ pointers back
+  behind : (c : Chain T) (front : List (Entry T)) (e : Entry T) (back : List (Entry T)) → IsDistinct (front ++ e ∷ back)
+      → c.entries ≡ front ++ e ∷ back → pointers_from (first_or None back) c ≡ pointers back
   behind c front e [] distinct split = refl
   behind c front e (f ∷ back) distinct split =
       let same : c.entries ≡ (front ++ e ∷ []) ++ f ∷ back = split ∙ sym (append_assoc front (e ∷ []) (f ∷ back)) in

@@ -13,7 +13,8 @@ use Rattle.chain_base.specs.Naming.{MapsItem, CompressesItems}
 
 module _ {P X M B : Type 0} (index era : P → ℕ) (step : M → P → X → P → X → M → Type 0) (g : ℕ) (part : X → B) (keeps : (m : M) (p : P) (x : X) (q : P) (y : X) (n : M) → step m p x q y n → part y ≡ part x) where
   -- a part that each call keeps
-  pub calls-keep : (es : List (ℕ × ℕ × X)) (m n : M) (xs ys : List X) → FoldsTo {P = M × List X} (CompressionStep index era step g) (m, xs) es (n, ys) → map part ys ≡ map part xs ++ map (λ (e : ℕ × ℕ × X). part e.2) es
+  pub calls-keep : (es : List (ℕ × ℕ × X)) (m n : M) (xs ys : List X) → FoldsTo {P = M × List X} (CompressionStep index era step g) (m, xs) es (n, ys)
+      → map part ys ≡ map part xs ++ map (λ (e : ℕ × ℕ × X). part e.2) es
   calls-keep [] m n xs ys same = ap (λ (s : M × List X). map part s.1) (sym same) ∙ sym (append-nil (map part xs))
   calls-keep (e ∷ es) m n xs ys calls =
       let s = calls.1 in

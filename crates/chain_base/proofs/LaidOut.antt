@@ -103,7 +103,8 @@ module _ {T : Type 0} where
         | inr h ↦ count-mapped a.slots i f (slot a i) h.1 refl
       ]
     where
-      count-mapped : (xs : List (Option (ℕ × Link T))) (i : ℕ) (f : ℕ × Link T → ℕ × Link T) (o : Option (ℕ × Link T)) → i < length xs → get_or xs i None ≡ o → count_by is_some (set xs i (option_map f o)) ≡ count_by is_some xs
+      count-mapped : (xs : List (Option (ℕ × Link T))) (i : ℕ) (f : ℕ × Link T → ℕ × Link T) (o : Option (ℕ × Link T)) → i < length xs
+          → get_or xs i None ≡ o → count_by is_some (set xs i (option_map f o)) ≡ count_by is_some xs
       count-mapped xs i f None within read = let moved = rw read at (sum_by-set (λ x. cond (is_some x) 1 0) xs i None None within) in omega arith
       count-mapped xs i f (Some e) within read = let moved = rw read at (sum_by-set (λ x. cond (is_some x) 1 0) xs i (Some (f e)) None within) in omega arith
 

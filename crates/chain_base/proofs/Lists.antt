@@ -56,7 +56,8 @@ module _ {T : Type 0} where
   last_or-append before (x ∷ xs) ys = last_or-append (Some x.index) xs ys
 
   -- a stretch of a chain in two parts
-  pub link_between-append : (before after : Option ℕ) (xs ys : List (Entry T)) (i : ℕ) → link_between before after (xs ++ ys) i ≡ option_or (link_between before (first_or after ys) xs i) (link_between (last_or before xs) after ys i)
+  pub link_between-append : (before after : Option ℕ) (xs ys : List (Entry T)) (i : ℕ)
+      → link_between before after (xs ++ ys) i ≡ option_or (link_between before (first_or after ys) xs i) (link_between (last_or before xs) after ys i)
   link_between-append before after [] ys i = refl
   link_between-append before after (x ∷ xs) ys i =
       rw (first_or-append after xs ys, link_between-append (Some x.index) after xs ys i) (sym (option_or-if (x.index == i) _ _ _))
@@ -109,7 +110,8 @@ module _ {T : Type 0} where
       rw (link_between-other_after (Some e.index) after other (f ∷ es) i unlast) refl
 
   -- the last index sees the new far end
-  pub link_between-last : (before after other : Option ℕ) (es : List (Entry T)) (i : ℕ) → times i es ≤ 1 → last_or None es ≡ Some i → link_between before other es i ≡ option_map (with_next other) (link_between before after es i)
+  pub link_between-last : (before after other : Option ℕ) (es : List (Entry T)) (i : ℕ) → times i es ≤ 1 → last_or None es ≡ Some i
+      → link_between before other es i ≡ option_map (with_next other) (link_between before after es i)
   link_between-last before after other [] i once last = refl
   link_between-last before after other (e ∷ []) i once last =
       elim (eqb_tells e.index i) [ inl h ↦ rw h.0 refl | inr h ↦ rw h.0 refl ]
@@ -126,7 +128,8 @@ module _ {T : Type 0} where
       elim (eqb_tells e.index i) [ inl h ↦ absurd (unfirst (ap Some h.1)) | inr h ↦ rw h.0 refl ]
 
   -- the first index sees the new near end
-  pub link_between-first : (before other after : Option ℕ) (es : List (Entry T)) (i : ℕ) → first_or None es ≡ Some i → link_between other after es i ≡ option_map (with_prev other) (link_between before after es i)
+  pub link_between-first : (before other after : Option ℕ) (es : List (Entry T)) (i : ℕ) → first_or None es ≡ Some i
+      → link_between other after es i ≡ option_map (with_prev other) (link_between before after es i)
   link_between-first before other after [] i first = refl
   link_between-first before other after (e ∷ es) i first =
       let same : e.index ≡ i = cc in
@@ -179,7 +182,8 @@ module _ {T : Type 0} where
         | inr h ↦ rw h.0 (entry_at-absent es i (omega (arith, times-there i e es h.1)))
       ]
 
-  pub insert_after-split : (front : List (Entry T)) (e new : Entry T) (back : List (Entry T)) (i : ℕ) → e.index ≡ i → times i front ≡ 0 → insert_after i new (front ++ e ∷ back) ≡ front ++ e ∷ new ∷ back
+  pub insert_after-split : (front : List (Entry T)) (e new : Entry T) (back : List (Entry T)) (i : ℕ) → e.index ≡ i → times i front ≡ 0
+      → insert_after i new (front ++ e ∷ back) ≡ front ++ e ∷ new ∷ back
   insert_after-split [] e new back i here unmet = elim (eqb_tells e.index i) [ inl h ↦ rw h.0 refl | inr h ↦ absurd (h.1 here) ]
   insert_after-split (f ∷ front) e new back i here unmet =
       elim (eqb_tells f.index i) [
@@ -187,7 +191,8 @@ module _ {T : Type 0} where
         | inr h ↦ rw h.0 (ap (λ xs. f ∷ xs) (insert_after-split front e new back i here (omega (arith, times-there i f front h.1))))
       ]
 
-  pub insert_before-split : (front : List (Entry T)) (e new : Entry T) (back : List (Entry T)) (i : ℕ) → e.index ≡ i → times i front ≡ 0 → insert_before i new (front ++ e ∷ back) ≡ front ++ new ∷ e ∷ back
+  pub insert_before-split : (front : List (Entry T)) (e new : Entry T) (back : List (Entry T)) (i : ℕ) → e.index ≡ i → times i front ≡ 0
+      → insert_before i new (front ++ e ∷ back) ≡ front ++ new ∷ e ∷ back
   insert_before-split [] e new back i here unmet = elim (eqb_tells e.index i) [ inl h ↦ rw h.0 refl | inr h ↦ absurd (h.1 here) ]
   insert_before-split (f ∷ front) e new back i here unmet =
       elim (eqb_tells f.index i) [
@@ -208,7 +213,8 @@ module _ {T : Type 0} where
   seam xs after before ys i = option_or (link_between None after xs i) (link_between before None ys i)
 
   -- the seam of two stretches is moved by two writes
-  pub seam-relinked : (xs ys : List (Entry T)) (after before next prev : Option ℕ) (i : ℕ) → times i xs + times i ys ≤ 1 → seam xs next prev ys i ≡ relinked (last_or None xs) next (first_or None ys) prev i (seam xs after before ys i)
+  pub seam-relinked : (xs ys : List (Entry T)) (after before next prev : Option ℕ) (i : ℕ) → times i xs + times i ys ≤ 1
+      → seam xs next prev ys i ≡ relinked (last_or None xs) next (first_or None ys) prev i (seam xs after before ys i)
   seam-relinked xs ys after before next prev i once =
       elim (names_tells (last_or None xs) i) [
         | inl l ↦ elim (names_tells (first_or None ys) i) [
@@ -235,7 +241,8 @@ module _ {T : Type 0} where
       (at e.index ≡ Some (e.generation, record { item = e.item; prev = before; next = first_or None es }))
       × IsRow at (Some e.index) es
 
-  pub IsRow-links : (at : ℕ → Option (ℕ × Link T)) (before : Option ℕ) (es : List (Entry T)) → ((i : ℕ) → times i es ≤ 1) → ((i : ℕ) → 1 ≤ times i es → at i ≡ link_between before None es i) → IsRow at before es
+  pub IsRow-links : (at : ℕ → Option (ℕ × Link T)) (before : Option ℕ) (es : List (Entry T)) → ((i : ℕ) → times i es ≤ 1)
+      → ((i : ℕ) → 1 ≤ times i es → at i ≡ link_between before None es i) → IsRow at before es
   IsRow-links at before [] once holds = tt
   IsRow-links at before (e ∷ es) once holds =
       let found = holds e.index (omega (arith, times-here e.index e es refl)) in

@@ -52,7 +52,8 @@ module _ {T : Type 0} where
       unheld o none held = let there : is_some o ≡ true = held in cc
 
   -- a slot once the entry at index k has another neighbour
-  slot-facing : (side : Side) (a : Arena (Link T)) (k : ℕ) (other : Option ℕ) (j : ℕ) → slot (linked_facing side a (Some k) other) j ≡ (if k == j then option_map (with_facing side other) (slot a j) else slot a j)
+  slot-facing : (side : Side) (a : Arena (Link T)) (k : ℕ) (other : Option ℕ) (j : ℕ)
+      → slot (linked_facing side a (Some k) other) j ≡ (if k == j then option_map (with_facing side other) (slot a j) else slot a j)
   slot-facing Before a k other j = slot-mapped a k j (with_facing Before other)
   slot-facing After a k other j = slot-mapped a k j (with_facing After other)
 
@@ -69,7 +70,8 @@ module _ {T : Type 0} where
   facing-length After a k other = length-set a.slots k _
 
   -- the neighbour on this side stays
-  names-facing : (side : Side) (other : Option ℕ) (o : Option (ℕ × Link T)) → option_and_then (λ (e : ℕ × Link T). neighbour_on side e.1) (option_map (with_facing side other) o) ≡ option_and_then (λ (e : ℕ × Link T). neighbour_on side e.1) o
+  names-facing : (side : Side) (other : Option ℕ) (o : Option (ℕ × Link T))
+      → option_and_then (λ (e : ℕ × Link T). neighbour_on side e.1) (option_map (with_facing side other) o) ≡ option_and_then (λ (e : ℕ × Link T). neighbour_on side e.1) o
   names-facing Before other None = refl
   names-facing Before other (Some e) = refl
   names-facing After other None = refl
@@ -178,11 +180,13 @@ module _ {T : Type 0} where
           held-if j k = elim (eqb_tells k j) [ inl h ↦ rw h.0 (held-mapped (with_facing side (Some (count + 1))) (slot now j)) | inr h ↦ rw h.0 refl ]
 
       -- one and the other, by whether there is a neighbour
-      pub named-step_end : IsPaired side old → (o : Option ℕ) → o ≡ neighbour_on side e.1 → is_some o ≡ false → (next : Arena (Link T)) → next ≡ linked_facing side now o (Some (count + 1)) → NamedBelow side old next (count + 1) (Some (count + 1)) (c + 1)
+      pub named-step_end : IsPaired side old → (o : Option ℕ) → o ≡ neighbour_on side e.1 → is_some o ≡ false → (next : Arena (Link T))
+          → next ≡ linked_facing side now o (Some (count + 1)) → NamedBelow side old next (count + 1) (Some (count + 1)) (c + 1)
       named-step_end paired None is none next linked = rw (linked, facing-none side now (Some (count + 1))) (named-end paired (sym is))
       named-step_end paired (Some k) is none next linked = absurd (false≢true (sym none))
 
-      pub named-step_more : IsPaired side old → (o : Option ℕ) → o ≡ neighbour_on side e.1 → is_some o ≡ true → (next : Arena (Link T)) → next ≡ linked_facing side now o (Some (count + 1)) → NamedBelow side old next (count + 1) end (c + 1)
+      pub named-step_more : IsPaired side old → (o : Option ℕ) → o ≡ neighbour_on side e.1 → is_some o ≡ true → (next : Arena (Link T))
+          → next ≡ linked_facing side now o (Some (count + 1)) → NamedBelow side old next (count + 1) end (c + 1)
       named-step_more paired None is some next linked = absurd (false≢true some)
       named-step_more paired (Some k) is some next linked = rw linked (named-more paired k (sym is))
 
@@ -201,7 +205,8 @@ module _ {T : Type 0} where
       is_named (Some e) is = refl
 
   -- at last all have
-  pub named-ends : (side : Side) (old now : Arena (Link T)) (count : ℕ) (end : Option ℕ) (c : ℕ) → NamedBelow side old now count end c → length old.slots ≤ c → take 1 old.slots ≡ None ∷ [] → NamesPlaces side old now end
+  pub named-ends : (side : Side) (old now : Arena (Link T)) (count : ℕ) (end : Option ℕ) (c : ℕ) → NamedBelow side old now count end c
+      → length old.slots ≤ c → take 1 old.slots ≡ None ∷ [] → NamesPlaces side old now end
   named-ends side old now count end c b past begins =
       record {
         met = λ i k is. let within = named-within side old i k is in b.met i k (omega arith) is;

@@ -48,7 +48,8 @@ module _ {T : Type 0} where
       ]
 
   -- the slots count as the list does
-  pub place-slots : (slots : List (Option (ℕ × Link T))) (es : List (Entry T)) → IsDistinct es → ((i : ℕ) → get_or slots i None ≡ link_at es i) → (i : ℕ) → count_by is_some (take i slots) ≡ lesser es i
+  pub place-slots : (slots : List (Option (ℕ × Link T))) (es : List (Entry T)) → IsDistinct es → ((i : ℕ) → get_or slots i None ≡ link_at es i)
+      → (i : ℕ) → count_by is_some (take i slots) ≡ lesser es i
   place-slots slots es distinct links zero = sym (lesser-zero es)
   place-slots slots es distinct links (suc i) = let more = step (place-slots slots es distinct links i) (get_or slots i None) refl in rw add-one at more
     where
@@ -74,7 +75,8 @@ module _ {X : Type 0} where
   length-entries from (None ∷ slots) = length-entries (from + 1) slots ∙ sym (sum_by-cons (λ o. cond (is_some o) 1 0) None slots ∙ zero-add (count_by is_some slots))
   length-entries from (Some e ∷ slots) = omega (arith, length-entries (from + 1) slots, sum_by-cons (λ o. cond (is_some o) 1 0) (Some e) slots)
 
-  pub entry-placed : (from : ℕ) (slots : List (Option (ℕ × X))) (x : ℕ) (e : ℕ × X) → get_or slots x None ≡ Some e → slice_get (entries_from from slots) (count_by is_some (take x slots)) ≡ Some (from + x, e.0, e.1)
+  pub entry-placed : (from : ℕ) (slots : List (Option (ℕ × X))) (x : ℕ) (e : ℕ × X) → get_or slots x None ≡ Some e
+      → slice_get (entries_from from slots) (count_by is_some (take x slots)) ≡ Some (from + x, e.0, e.1)
   entry-placed from [] x e is = absurd (none-some e is)
   entry-placed from (None ∷ slots) zero e is = absurd (none-some e is)
   entry-placed from (Some f ∷ slots) zero e is =
@@ -93,7 +95,8 @@ module _ {X : Type 0} where
       rw (count, ← at) more
 
   -- an entry of the list stands in its slot
-  pub placed-entry : (from : ℕ) (slots : List (Option (ℕ × X))) (k : ℕ) (t : ℕ × ℕ × X) → slice_get (entries_from from slots) k ≡ Some t → (x : ℕ) × (t.0 ≡ from + x) × (get_or slots x None ≡ Some (t.1, t.2)) × (count_by is_some (take x slots) ≡ k)
+  pub placed-entry : (from : ℕ) (slots : List (Option (ℕ × X))) (k : ℕ) (t : ℕ × ℕ × X) → slice_get (entries_from from slots) k ≡ Some t
+      → (x : ℕ) × (t.0 ≡ from + x) × (get_or slots x None ≡ Some (t.1, t.2)) × (count_by is_some (take x slots) ≡ k)
   placed-entry from [] k t is = absurd (none-some t is)
   placed-entry from (None ∷ slots) k t is =
       let more = placed-entry (from + 1) slots k t is in
@@ -180,7 +183,8 @@ module _ {X : Type 0} where
       rw (compact-is n g xs fits) (sum_by-cons (λ (o : Option (ℕ × X)). cond (is_some o) 1 0) None all ∙ (zero-add (count_by is_some all) ∙ filled-counts g xs m))
 
   -- slots that are occupied alike count alike
-  pub count-alike : (xs ys : List (Option X)) → length xs ≡ length ys → ((k : ℕ) → is_some (get_or xs k None) ≡ is_some (get_or ys k None)) → (n : ℕ) → count_by is_some (take n xs) ≡ count_by is_some (take n ys)
+  pub count-alike : (xs ys : List (Option X)) → length xs ≡ length ys → ((k : ℕ) → is_some (get_or xs k None) ≡ is_some (get_or ys k None)) → (n : ℕ)
+      → count_by is_some (take n xs) ≡ count_by is_some (take n ys)
   count-alike xs ys long alike zero = refl
   count-alike [] [] long alike (suc n) = refl
   count-alike [] (y ∷ ys) long alike (suc n) = absurd (omega arith)
@@ -213,7 +217,8 @@ module _ {T : Type 0} where
       let more = rising-slots index era step g es (from + 1) slots (λ k within. let here = same (suc k) (omega arith) in let at : from + suc k ≡ (from + 1) + k = omega arith in here ∙ ap (entry_at es) at) in
       head o first more
     where
-      head : (o : Option (ℕ × Link T)) → option_map (λ e. (e.0, e.1.item)) o ≡ entry_at es from → map (bare index era step g) (entries_from (from + 1) slots) ≡ rising_among es (from + 1) (length slots)
+      head : (o : Option (ℕ × Link T)) → option_map (λ e. (e.0, e.1.item)) o ≡ entry_at es from
+          → map (bare index era step g) (entries_from (from + 1) slots) ≡ rising_among es (from + 1) (length slots)
           → map (bare index era step g) (entries_from from (o ∷ slots)) ≡ entry_before from (entry_at es from) (rising_among es (from + 1) (length slots))
       head None first more = rw (← first) more
       head (Some e) first more = rw (← first) (ap (λ rest. (from, e.0, e.1.item) ∷ rest) more)

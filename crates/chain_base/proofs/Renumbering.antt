@@ -11,7 +11,8 @@ use Rattle.chain_base.proofs.Lists.{same_index, times-append, times-here, times-
 
 module _ {T : Type 0} where
   -- the link of an entry at its place
-  pub link_at-split : (es xs : List (Entry T)) (e : Entry T) (ys : List (Entry T)) → es ≡ xs ++ e ∷ ys → IsDistinct es → (i : ℕ) → e.index ≡ i → link_at es i ≡ Some (e.generation, record { item = e.item; prev = last_or None xs; next = first_or None ys })
+  pub link_at-split : (es xs : List (Entry T)) (e : Entry T) (ys : List (Entry T)) → es ≡ xs ++ e ∷ ys → IsDistinct es → (i : ℕ) → e.index ≡ i
+      → link_at es i ≡ Some (e.generation, record { item = e.item; prev = last_or None xs; next = first_or None ys })
   link_at-split es xs e ys split distinct i here =
       let gone : times e.index xs ≡ 0 =
       let once : times e.index (xs ++ e ∷ ys) ≤ 1 = rw (← split) (distinct e.index) in

@@ -33,14 +33,16 @@ module _ {T : Type 0} where
       ]
 
   -- a lawful slot has a lawful entry
-  lawful-entry : (greatest : Option ℕ) (o : Option (ℕ × Link T)) → ForSome o (λ e. IsLawfulGeneration greatest e.0) → ForSome {T = ℕ × T} (option_map (λ e. (e.0, e.1.item)) o) (λ e. IsLawfulGeneration greatest e.0)
+  lawful-entry : (greatest : Option ℕ) (o : Option (ℕ × Link T)) → ForSome o (λ e. IsLawfulGeneration greatest e.0)
+      → ForSome {T = ℕ × T} (option_map (λ e. (e.0, e.1.item)) o) (λ e. IsLawfulGeneration greatest e.0)
   lawful-entry greatest None lawful = λ x is. absurd (cc)
   lawful-entry greatest (Some e) lawful = λ x is.
       let entry : ℕ × T = (e.0, e.1.item) in
       let same : entry ≡ x = cc in
       subst (λ (y : ℕ × T). IsLawfulGeneration greatest y.0) same (lawful e refl)
 
-  pub IsSound-laid_out : (most : ℕ) (greatest : Option ℕ) (a : Arena (Link T)) (first last : Option ℕ) → IsLaidOut a.slots first last (chain_of a first).entries → IsSoundArena most greatest a → IsSound most greatest (chain_of a first)
+  pub IsSound-laid_out : (most : ℕ) (greatest : Option ℕ) (a : Arena (Link T)) (first last : Option ℕ)
+      → IsLaidOut a.slots first last (chain_of a first).entries → IsSoundArena most greatest a → IsSound most greatest (chain_of a first)
   IsSound-laid_out most greatest a first last laid sound =
       let es = (chain_of a first).entries in
       record {

@@ -98,7 +98,8 @@ module _ {T : Type 0} where
       some-mapped (Some e) some = some
 
   -- the vacant slots are those of the list
-  fresh-slots : (a : Arena (Link T)) (first last : Option ℕ) → IsLaidOut a.slots first last (chain_of a first).entries → slots_vacant a.slots ≡ vacant_indexes (chain_of a first).entries (arena_capacity a)
+  fresh-slots : (a : Arena (Link T)) (first last : Option ℕ) → IsLaidOut a.slots first last (chain_of a first).entries
+      → slots_vacant a.slots ≡ vacant_indexes (chain_of a first).entries (arena_capacity a)
   fresh-slots a first last laid = vacant-links a.slots (chain_of a first).entries laid.links
 
   pub slots_vacant-linked_next : (a : Arena (Link T)) (at next : Option ℕ) → slots_vacant (linked_next a at next).slots ≡ slots_vacant a.slots
@@ -175,7 +176,8 @@ module _ {T : Type 0} where
         })
 
   -- where all slots beyond n are vacant, a capacity of n keeps the list
-  pub IsLaidOut-resized : (a : Arena (Link T)) (first last : Option ℕ) (es : List (Entry T)) (n : ℕ) → ((k : ℕ) → n < k → slot a k ≡ None) → IsLaidOut a.slots first last es → IsLaidOut (resized (n + 1) a.slots) first last es
+  pub IsLaidOut-resized : (a : Arena (Link T)) (first last : Option ℕ) (es : List (Entry T)) (n : ℕ) → ((k : ℕ) → n < k → slot a k ≡ None)
+      → IsLaidOut a.slots first last es → IsLaidOut (resized (n + 1) a.slots) first last es
   IsLaidOut-resized a first last es n rest laid =
       let beyond : (k : ℕ) → n + 1 ≤ k → get_or a.slots k None ≡ None = λ k far. rest k (omega arith) in
       record {

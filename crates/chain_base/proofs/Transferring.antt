@@ -38,7 +38,8 @@ module _ {T : Type 0} where
   capacity-raised most greatest c new n (Err e) sound less is = tt
 
   -- the item in a link, under a generation or its number
-  pub item-numbered : {G : Type 0} (number : G → ℕ) (o : Option (G × Link T)) → option_map (λ (e : ℕ × Link T). e.1.item) (option_map (λ (e : G × Link T). (number e.0, e.1)) o) ≡ option_map (λ (e : G × Link T). e.1.item) o
+  pub item-numbered : {G : Type 0} (number : G → ℕ) (o : Option (G × Link T))
+      → option_map (λ (e : ℕ × Link T). e.1.item) (option_map (λ (e : G × Link T). (number e.0, e.1)) o) ≡ option_map (λ (e : G × Link T). e.1.item) o
   item-numbered number None = refl
   item-numbered number (Some e) = refl
 
@@ -99,7 +100,8 @@ module _ {T : Type 0} where
   ]
 
   module _ (P G : Type 0) {I : Type 0} (number : I → ℕ) where
-    pub can_place-behind : (last : Option I) (c : Chain T) (items : List T) → option_map number last ≡ last_of (length items) → CanPlace {P = P} {I = I} {G = G} number (place_behind last) (filled_with c items)
+    pub can_place-behind : (last : Option I) (c : Chain T) (items : List T) → option_map number last ≡ last_of (length items)
+        → CanPlace {P = P} {I = I} {G = G} number (place_behind last) (filled_with c items)
     can_place-behind None c [] is = refl
     can_place-behind None c (x ∷ xs) is = absurd cc
     can_place-behind (Some i) c [] is = absurd cc

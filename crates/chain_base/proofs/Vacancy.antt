@@ -36,7 +36,9 @@ module _ {X : Type 0} where
   below-greatest (x ∷ xs) (suc i) e held = rw (any-held xs i e held) (omega (arith, below-greatest xs i e held))
 
   -- the greatest occupied index has an entry, where one is occupied
-  greatest-held_step : (x : Option X) (xs : List (Option X)) (b : Bool) → list_any is_some xs ≡ b → (b ≡ true → is_some (get_or xs (greatest_occupied xs) None) ≡ true) → list_any is_some (x ∷ xs) ≡ true → is_some (get_or (x ∷ xs) (greatest_occupied (x ∷ xs)) None) ≡ true
+  greatest-held_step : (x : Option X) (xs : List (Option X)) (b : Bool) → list_any is_some xs ≡ b
+      → (b ≡ true → is_some (get_or xs (greatest_occupied xs) None) ≡ true) → list_any is_some (x ∷ xs) ≡ true
+      → is_some (get_or (x ∷ xs) (greatest_occupied (x ∷ xs)) None) ≡ true
   greatest-held_step x xs true is behind some = rw (is, add-one) (behind refl)
   greatest-held_step None xs false is behind some = absurd (let bad : list_any is_some xs ≡ true = some in cc)
   greatest-held_step (Some y) xs false is behind some = rw is refl
@@ -46,7 +48,8 @@ module _ {X : Type 0} where
   greatest-held (x ∷ xs) some = greatest-held_step x xs (list_any is_some xs) refl (λ behind. greatest-held xs behind) some
 
   -- the greatest occupied index has an entry, or is 0
-  greatest-or_step : (x : Option X) (xs : List (Option X)) (b : Bool) → list_any is_some xs ≡ b → (greatest_occupied (x ∷ xs) ≡ 0) ⊎ (is_some (get_or (x ∷ xs) (greatest_occupied (x ∷ xs)) None) ≡ true)
+  greatest-or_step : (x : Option X) (xs : List (Option X)) (b : Bool) → list_any is_some xs ≡ b
+      → (greatest_occupied (x ∷ xs) ≡ 0) ⊎ (is_some (get_or (x ∷ xs) (greatest_occupied (x ∷ xs)) None) ≡ true)
   greatest-or_step x xs true is = inr (rw (is, add-one) (greatest-held xs is))
   greatest-or_step x xs false is = inl (rw is refl)
 
@@ -82,13 +85,16 @@ module _ {X : Type 0} where
 
 module _ {T : Type 0} where
   -- a link at one index further on
-  links-behind : (xs : List (Option (ℕ × Link T))) (x : Option (ℕ × Link T)) (es : List (Entry T)) (from : ℕ) → ((k : ℕ) → k < length (x ∷ xs) → get_or (x ∷ xs) k None ≡ link_at es (from + k)) → (k : ℕ) → k < length xs → get_or xs k None ≡ link_at es (from + 1 + k)
+  links-behind : (xs : List (Option (ℕ × Link T))) (x : Option (ℕ × Link T)) (es : List (Entry T)) (from : ℕ)
+      → ((k : ℕ) → k < length (x ∷ xs) → get_or (x ∷ xs) k None ≡ link_at es (from + k)) → (k : ℕ) → k < length xs
+      → get_or xs k None ≡ link_at es (from + 1 + k)
   links-behind xs x es from links k within =
       let same : from + suc k ≡ from + 1 + k = omega arith in
       links (suc k) (omega arith) ∙ ap (link_at es) same
 
   -- the vacant indexes of slots that hold the links of a list
-  pub vacant_from-links : (xs : List (Option (ℕ × Link T))) (es : List (Entry T)) (from : ℕ) → ((k : ℕ) → k < length xs → get_or xs k None ≡ link_at es (from + k)) → vacant_from from xs ≡ vacant_among es from (length xs)
+  pub vacant_from-links : (xs : List (Option (ℕ × Link T))) (es : List (Entry T)) (from : ℕ)
+      → ((k : ℕ) → k < length xs → get_or xs k None ≡ link_at es (from + k)) → vacant_from from xs ≡ vacant_among es from (length xs)
   vacant_from-links [] es from links = refl
   vacant_from-links (None ∷ xs) es from links =
       let here : None ≡ link_at es from = links 0 (omega arith) ∙ ap (link_at es) (add-zero from) in
@@ -142,7 +148,8 @@ module _ {T : Type 0} where
       ]
 
   -- an index that occurs in the list has a slot that holds a link
-  held-links : (slots : List (Option (ℕ × Link T))) (es : List (Entry T)) → ((i : ℕ) → get_or slots i None ≡ link_at es i) → (i : ℕ) (o : Option (ℕ × Link T)) → get_or slots i None ≡ o → 1 ≤ times i es → i ≤ greatest_occupied slots
+  held-links : (slots : List (Option (ℕ × Link T))) (es : List (Entry T)) → ((i : ℕ) → get_or slots i None ≡ link_at es i)
+      → (i : ℕ) (o : Option (ℕ × Link T)) → get_or slots i None ≡ o → 1 ≤ times i es → i ≤ greatest_occupied slots
   held-links slots es links i None held occurs = absurd (omega (arith, times-unlinked None None es i (sym (links i) ∙ held)))
   held-links slots es links i (Some e) held occurs = below-greatest slots i e held
 

@@ -48,7 +48,8 @@ module _ {at : Slots} {root : Option ℕ} {side : Side} {y x : ℕ} {order : Lis
       in_way : (j : ℕ) → times j a.before + times j a.behind ≡ times_way j spot.way
       in_way j = omega (arith, ap (times j) (a.is missing), times-append j a.before a.behind, times-walk j (plug spot.way missing), times_in-plug j spot.way missing)
 
-      go : (side : Side) → order ≡ walk (plug spot.way (fork side missing y spot.rank spot.far)) → walk (plug spot.way (fork side (node missing x 1 missing) y spot.rank spot.far)) ≡ beside side y x order
+      go : (side : Side) → order ≡ walk (plug spot.way (fork side missing y spot.rank spot.far))
+          → walk (plug spot.way (fork side (node missing x 1 missing) y spot.rank spot.far)) ≡ beside side y x order
       go Lesser e =
           a.is (node (node missing x 1 missing) y spot.rank spot.far)
           ∙ sym (beside-split Lesser y x a.before (walk spot.far ++ a.behind) (omega (arith, in_way y, total y, here-same y, bud.once y)))

@@ -157,7 +157,8 @@ module _ {old : Slots} {root : Option ℕ} {v : ℕ} {side : Side} {order : List
           once_less : IsOnce (without v order)
           once_less j = omega (arith, times-without v j order, loose.once j)
 
-          go : (w : Way) → HoldsWay old root w (Some v) → HoldsWay new root' w (child_at (other_side side) nv) → Holds new (above w) (child_at (other_side side) nv) spot.far → walk (plug w spot.far) ≡ without v order
+          go : (w : Way) → HoldsWay old root w (Some v) → HoldsWay new root' w (child_at (other_side side) nv)
+              → Holds new (above w) (child_at (other_side side) nv) spot.far → walk (plug w spot.far) ≡ without v order
               → IsBalancedWay 1 w (rank_of spot.far + 1) → (result : Option (Place I)) → option_map (λ (p : Place I). number p.parent) result ≡ above w
               → IfSome result (λ place. (p : Links ℕ) (s : Side) → old (number place.parent) ≡ Some p → child_at s p ≡ Some v → child_at (other_side s) p ≢ Some v → place.side ≡ s)
               → ((j : ℕ) → times_way j w + here j v ≤ 1)

@@ -105,7 +105,8 @@ module _ {old : Slots} {old_root : Option ℕ} {side : Side} {z y : ℕ} (site :
         (ForkAt-holds old (Some y) (child_at (other_side side) ny) (other_side side) middle.near x middle.rank middle.far nx d (subst P middle.is (fork_at_low old old_root side z y site ny e).far_held)).rank
 
     -- the ranks and the balance of what stood between y and z
-    pub middle_over : (slack : ℕ) → IsBalanced slack site.inner → (rank_of site.inner ≡ middle.rank) × IsOver slack middle.rank (rank_of middle.near) (rank_of middle.far) × IsBalanced slack middle.near × IsBalanced slack middle.far
+    pub middle_over : (slack : ℕ) → IsBalanced slack site.inner
+        → (rank_of site.inner ≡ middle.rank) × IsOver slack middle.rank (rank_of middle.near) (rank_of middle.far) × IsBalanced slack middle.near × IsBalanced slack middle.far
     middle_over slack h =
         let P : Shape → Type 0 = λ s. IsBalanced slack s in
         let inner = fork_balanced slack (other_side side) middle.near middle.far x middle.rank (subst P middle.is h) in

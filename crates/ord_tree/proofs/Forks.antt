@@ -100,11 +100,13 @@ Holds-plug at root (up side i k far rest) s link w h =
 pub IsOver-turned : {slack k l r : ℕ} → IsOver slack k l r → IsOver slack k r l
 IsOver-turned h = record { lesser = h.greater; greater = h.lesser; leaf = λ a b. h.leaf b a; tight = omega (arith, h.tight) }
 
-pub IsBalanced-fork : (slack : ℕ) (side : Side) (near far : Shape) (i k : ℕ) → IsOver slack k (rank_of near) (rank_of far) → IsBalanced slack near → IsBalanced slack far → IsBalanced slack (fork side near i k far)
+pub IsBalanced-fork : (slack : ℕ) (side : Side) (near far : Shape) (i k : ℕ) → IsOver slack k (rank_of near) (rank_of far) → IsBalanced slack near
+    → IsBalanced slack far → IsBalanced slack (fork side near i k far)
 IsBalanced-fork slack Lesser near far i k o n f = (o, n, f)
 IsBalanced-fork slack Greater near far i k o n f = (IsOver-turned o, f, n)
 
-pub fork_balanced : (slack : ℕ) (side : Side) (near far : Shape) (i k : ℕ) → IsBalanced slack (fork side near i k far) → IsOver slack k (rank_of near) (rank_of far) × IsBalanced slack near × IsBalanced slack far
+pub fork_balanced : (slack : ℕ) (side : Side) (near far : Shape) (i k : ℕ) → IsBalanced slack (fork side near i k far)
+    → IsOver slack k (rank_of near) (rank_of far) × IsBalanced slack near × IsBalanced slack far
 fork_balanced slack Lesser near far i k h = h
 fork_balanced slack Greater near far i k h = (IsOver-turned h.0, h.2, h.1)
 

@@ -109,7 +109,9 @@ Holds-reranked old new over link side near far i k rank written elsewhere not_ne
     )
 
 -- a write of a rank moves no parent
-pub backs-ranked : (old new : Slots) (i rank : ℕ) (n : Links ℕ) → old i ≡ Some n → ((n : Links ℕ) → old i ≡ Some n → new i ≡ Some (record n { rank = rank })) → ((j : ℕ) → j ≢ i → new j ≡ old j) → (j : ℕ) → back_at old j ≡ back_at new j
+pub backs-ranked : (old new : Slots) (i rank : ℕ) (n : Links ℕ) → old i ≡ Some n
+    → ((n : Links ℕ) → old i ≡ Some n → new i ≡ Some (record n { rank = rank })) → ((j : ℕ) → j ≢ i → new j ≡ old j) → (j : ℕ)
+    → back_at old j ≡ back_at new j
 backs-ranked old new i rank n e written elsewhere j =
     ⊎_elim (λ (same : j ≡ i). rw (same, e, written n e) refl)
     (λ other. ap (λ (o : Option (Links ℕ)). option_map (λ (n : Links ℕ). n.back) o) (sym (elsewhere j other))) (cases_eq j i)

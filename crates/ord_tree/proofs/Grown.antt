@@ -19,11 +19,12 @@ use Rattle.ord_tree.specs.Node.{bare_entry, bare, links_in, slots_of, indexes}
 use Rattle.ord_tree.specs.Tree.{put_on, put_at, CanPutAt, IsGrown}
 use Rattle.ord_tree.specs.Layout.{shape_in, IsLaidOut}
 use Rattle.ord_tree.specs.Plant.{side_at, kind_on, kind_at, IsBud, IsBudAt}
+use Rattle.arena_base.proofs.CallerLemmas.{limit_of-below}
 use Rattle.ord_tree.proofs.Slack.{IsRanked-balanced, IsBalanced-ranked, IsTight-balanced, IsBalanced-tight}
 use Rattle.ord_tree.proofs.Forks.{times-walk, apart-from}
 use Rattle.ord_tree.proofs.Frames.{Holds-frame}
 use Rattle.ord_tree.proofs.Views.{MovesAtMost-backs}
-use Rattle.ord_tree.proofs.Trees.{times-bare, indexes-bare, vacant_among-bare, shape_in-held, is_some-bare, limit_of-le}
+use Rattle.ord_tree.proofs.Trees.{times-bare, indexes-bare, vacant_among-bare, shape_in-held, is_some-bare}
 use Rattle.ord_tree.proofs.Planting.{times-indexes, IsOnce-distinct, within-occupied}
 use Rattle.ord_tree.proofs.Spots.{times-beside-ge, length-beside_in}
 use Rattle.ord_tree.proofs.Puts.{put-same, put-other, put-indexes, put-bare}
@@ -51,7 +52,8 @@ module _ (P G : Type 0) {T I : Type 0} (number : I → ℕ) where
 -- an insertion's chain
 module _ {T : Type 0} where
   -- the entry that an insertion puts into the list
-  pub inserted-entries : (old new : Chain T) (place : Entry T → List (Entry T)) (item : T) (i g : ℕ) → IsInsertion old new place item i g → new.entries ≡ place (record { index = i; generation = g; item = item })
+  pub inserted-entries : (old new : Chain T) (place : Entry T → List (Entry T)) (item : T) (i g : ℕ) → IsInsertion old new place item i g
+      → new.entries ≡ place (record { index = i; generation = g; item = item })
   inserted-entries old new place item i g h = go old.vacant h.next h.after
     where
       go : (vacant : List ℕ) → slice_get vacant 0 ≡ Some i → new ≡ inserted (record old { vacant = vacant }) place item → new.entries ≡ place (record { index = i; generation = g; item = item })
@@ -134,7 +136,7 @@ module _ {P T I G : Type 0} (number : I → ℕ) (c d : Chain (SimpleOrdArenaNod
         length-map d.entries (λ (e : Entry (SimpleOrdArenaNode P T I G)). e.index),
         sound.counted,
         sound.within_limit,
-        limit_of-le most d.maximum,
+        limit_of-below most d.maximum,
         fits,
       )
 
@@ -263,7 +265,8 @@ module _ {P T I G : Type 0} (number : I → ℕ) where
   CanPutAt-bare None c h = bare_empty c.entries h
   CanPutAt-bare (Some at) c h = (sym (is_some-bare c.entries (number at.0)) ∙ h.0, h.1)
 
-put_at-bare : {P T I G : Type 0} (number : I → ℕ) (at : Option (I × Ordering)) (es : List (Entry (SimpleOrdArenaNode P T I G))) (e : Entry (SimpleOrdArenaNode P T I G)) → map bare_entry (put_at number at es e) ≡ put_at number at (map bare_entry es) (bare_entry e)
+put_at-bare : {P T I G : Type 0} (number : I → ℕ) (at : Option (I × Ordering)) (es : List (Entry (SimpleOrdArenaNode P T I G))) (e : Entry (SimpleOrdArenaNode P T I G))
+    → map bare_entry (put_at number at es e) ≡ put_at number at (map bare_entry es) (bare_entry e)
 put_at-bare number None es e = refl
 put_at-bare number (Some at) es e = put-bare at.1 es (number at.0) e
 
@@ -272,11 +275,13 @@ mapped-twice number None = refl
 mapped-twice number (Some p) = refl
 
 -- the call of an insertion, from what its steps ensure
-module _ {P T I G : Type 0} (number : I → ℕ) (c d : Chain (SimpleOrdArenaNode P T I G)) (root : Option ℕ) (at : Option (I × Ordering)) (place : Option (Place I)) (kind : LinkInsertKind P I G)
-    (back : Option I) (t : T) (leaf : SimpleOrdArenaNode P T I G) (index era : ℕ) (x : I)
+module _ {P T I G : Type 0} (number : I → ℕ) (c : Chain (SimpleOrdArenaNode P T I G)) (root : Option ℕ) (at : Option (I × Ordering)) (place : Option (Place I))
+    {d : Chain (SimpleOrdArenaNode P T I G)} {kind : LinkInsertKind P I G}
+    {back : Option I} {t : T} {leaf : SimpleOrdArenaNode P T I G} {index era : ℕ} {x : I}
     (laid : IsLaidOut c root (shape_in c root)) (can : CanPutAt number at c)
     (place_is : (root : Option ℕ) (s : Shape) → IsLaidOut c root s → IsDistinct c.entries → IsBudAt number at (slots_of c) (indexes c.entries) place)
-    (back_is : back ≡ option_map (λ (p : Place I). p.parent) place) (leaf_is : leaf ≡ record { p_tree0 = None; p_tree1 = None; t = t; p_back = option_map number back; rank = 1 }) (kind_is : kind ≡ kind_at at)
+    (back_is : back ≡ option_map (λ (p : Place I). p.parent) place)
+    (leaf_is : leaf ≡ record { p_tree0 = None; p_tree1 = None; t = t; p_back = option_map number back; rank = 1 }) (kind_is : kind ≡ kind_at at)
     (insertion : IsInsertion c d (placed number kind c.entries) leaf index era) (x_is : number x ≡ index)
     (most : ℕ) (greatest : Option ℕ) (sound : IsSound most greatest d) (fits : most + 1 < 2 ^ 64) where
   put_is : (e : Entry (SimpleOrdArenaNode P T I G)) → placed number kind c.entries e ≡ put_at number at c.entries e
@@ -298,7 +303,8 @@ module _ {P T I G : Type 0} (number : I → ℕ) (c d : Chain (SimpleOrdArenaNod
 
   module _ (new : Chain (SimpleOrdArenaNode P T I G)) (root' : Option I) (kept : bare new ≡ bare d)
       (grown : MatchOption place ((new ≡ d) × (root' ≡ Some x))
-      (λ p. (order : List ℕ) (slack : ℕ) → IsBudding (slots_of d) root p.side (number p.parent) (number x) order slack → IsRepaired (slots_of d) (slots_of new) (option_map number root') (beside p.side (number p.parent) (number x) order) slack)) where
+      (λ p. (order : List ℕ) (slack : ℕ) → IsBudding (slots_of d) root p.side (number p.parent) (number x) order slack
+      → IsRepaired (slots_of d) (slots_of new) (option_map number root') (beside p.side (number p.parent) (number x) order) slack)) where
     pub call_grown : IsLaidOut new (option_map number root') (shape_in new (option_map number root')) × IsGrown (shape_in c root) (shape_in new (option_map number root'))
     call_grown = grown_whole number c d root (number x) era leaf laid x_free most greatest sound fits at place can place_is entries_are links_are new root' x refl kept grown
 
@@ -306,4 +312,5 @@ module _ {P T I G : Type 0} (number : I → ℕ) (c d : Chain (SimpleOrdArenaNod
     call_listed =
         let L : T → Type 0 = λ t. IsInsertion (bare c) (bare new) (put_at number at (map bare_entry c.entries)) t index era in
         subst L (ap (λ (n : SimpleOrdArenaNode P T I G). n.t) leaf_is)
-        (IsInsertion-bare c d new (placed number kind c.entries) (put_at number at (map bare_entry c.entries)) leaf index era (λ e. ap (λ (es : List (Entry (SimpleOrdArenaNode P T I G))). map bare_entry es) (put_is e) ∙ put_at-bare number at c.entries e) kept insertion)
+        (IsInsertion-bare c d new (placed number kind c.entries) (put_at number at (map bare_entry c.entries)) leaf index era
+        (λ e. ap (λ (es : List (Entry (SimpleOrdArenaNode P T I G))). map bare_entry es) (put_is e) ∙ put_at-bare number at c.entries e) kept insertion)

@@ -91,7 +91,8 @@ module _ {old : Slots} {old_root : Option ℕ} {side : Side} {y s : ℕ} {order 
         Holds-reranked mid new (above lean.site.way) (Some y) side lowered lean.site.far y lean.site.high (lean.site.high - 1) written_y elsewhere_y
         (omega (arith, total y, here-same y, times_in-fork y side lean.site.outer lean.site.inner s (lean.site.low - 1))) (omega (arith, total y, here-same y)) held_lowered
 
-    pub IsDemoted-both : rank_of lean.site.outer + 2 ≡ lean.site.low → rank_of lean.site.inner + 2 ≡ lean.site.low → is_some (old s) ≡ true → is_some (old y) ≡ true → IsDemoted old new old_root y order
+    pub IsDemoted-both : rank_of lean.site.outer + 2 ≡ lean.site.low → rank_of lean.site.inner + 2 ≡ lean.site.low → is_some (old s) ≡ true
+        → is_some (old y) ≡ true → IsDemoted old new old_root y order
     IsDemoted-both outer inner some_s some_y =
         let site = lean.site in
         let whole = fork side lowered y (site.high - 1) site.far in

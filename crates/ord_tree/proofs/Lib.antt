@@ -10,6 +10,7 @@ pub mod Raising
 pub mod Removing
 pub mod Leaning
 pub mod Sinking
+pub mod Reading
 pub mod Spots
 pub mod Budding
 pub mod Views
@@ -28,3 +29,4 @@ pub mod Displacing
 pub mod Rebuilding
 pub mod Rebuilt
 pub mod Compressing
+pub mod CallerLemmas

@@ -3,7 +3,7 @@ use Rattle.std.proofs.Common.{◌≡◌, ◌≢◌, ℕ, ◌+◌, ◌≤◌, Opt
 use Rattle.chain_base.specs.Chain.{Entry, Chain, entry_at, times, inserted_at, IsSound}
 use Rattle.chain_base.specs.Insert.{IsInsertion}
 use Rattle.chain_base.proofs.CallerLemmas.{inserted-capacity}
-use Rattle.ord_tree.proofs.Trees.{limit_of-le}
+use Rattle.arena_base.proofs.CallerLemmas.{limit_of-below}
 use Rattle.ord_tree.proofs.Planting.{times-indexes, within-occupied}
 
 module _ {T : Type 0} (most : ℕ) (greatest : Option ℕ) (c : Chain T) (sound : IsSound most greatest c) where
@@ -11,10 +11,10 @@ module _ {T : Type 0} (most : ℕ) (greatest : Option ℕ) (c : Chain T) (sound 
   pub index-named : (i : ℕ) → is_some (entry_at c.entries i) ≡ true → i ≢ most + 1
   index-named i there = λ e.
       let once : 1 ≤ times i c.entries = omega (arith, within-occupied c.entries i there, times-indexes c.entries i) in
-      omega (arith, (sound.within i once).1, sound.within_limit, limit_of-le most c.maximum, e)
+      omega (arith, (sound.within i once).1, sound.within_limit, limit_of-below most c.maximum, e)
 
   -- the index of a new entry
   pub inserted-named : (room : Chain T) (place : Entry T → List (Entry T)) (item : T) (i era : ℕ) → IsInsertion room c place item i era → i ≢ most + 1
   inserted-named room place item i era insertion = λ e.
       let same : c.capacity ≡ (inserted_at room place item room.vacant).capacity = rw insertion.after refl in
-      omega (arith, insertion.vacant.within, same, inserted-capacity room place item room.vacant, sound.within_limit, limit_of-le most c.maximum, e)
+      omega (arith, insertion.vacant.within, same, inserted-capacity room place item room.vacant, sound.within_limit, limit_of-below most c.maximum, e)

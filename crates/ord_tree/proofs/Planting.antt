@@ -38,7 +38,8 @@ module _ {T : Type 0} where
   head-first_or [] = refl
   head-first_or (e ∷ es) = refl
 
-  pub neighbours-linked : (before : Option ℕ) (es : List (Entry T)) (i g : ℕ) (l : Link T) → link_between before None es i ≡ Some (g, l) → (l.prev ≡ previous before i (indexes es)) × (l.next ≡ following i (indexes es))
+  pub neighbours-linked : (before : Option ℕ) (es : List (Entry T)) (i g : ℕ) (l : Link T) → link_between before None es i ≡ Some (g, l)
+      → (l.prev ≡ previous before i (indexes es)) × (l.next ≡ following i (indexes es))
   neighbours-linked before [] i g l h = absurd cc
   neighbours-linked before (e ∷ es) i g l h =
       ⊎_elim (λ (same : e.index ≡ i).
@@ -66,7 +67,8 @@ pub record NextBud (side : Side) (i : ℕ) (slots : Slots) (order : List ℕ) : 
   pub bare : (n : Links ℕ) → slots index ≡ Some n → child_at (other_side side) n ≡ None
   pub put : (x : ℕ) → beside (other_side side) index x order ≡ beside side i x order
 
-pub next_bud : (slots : Slots) (root : Option ℕ) (s : Shape) (order : List ℕ) → Holds slots None root s → walk s ≡ order → IsOnce order → (i : ℕ) → 0 < times i order → (n : Links ℕ) → slots i ≡ Some n → (side : Side) (j : ℕ) → child_at side n ≡ Some j → NextBud side i slots order
+pub next_bud : (slots : Slots) (root : Option ℕ) (s : Shape) (order : List ℕ) → Holds slots None root s → walk s ≡ order → IsOnce order → (i : ℕ)
+    → 0 < times i order → (n : Links ℕ) → slots i ≡ Some n → (side : Side) (j : ℕ) → child_at side n ≡ Some j → NextBud side i slots order
 next_bud slots root s order held listed once i within n e Lesser j some =
     let b = before_in slots root s order held listed i within n e j some in
     record {
@@ -86,7 +88,8 @@ next_bud slots root s order held listed once i within n e Greater j some =
       put = λ x. sym (between order b.front b.back i b.index once b.is x);
     }
 
-pub IsBud-next : {I : Type 0} (number : I → ℕ) {side : Side} {i : ℕ} {slots : Slots} {order : List ℕ} (bud : NextBud side i slots order) (place : Place I) → number place.parent ≡ bud.index → place.side ≡ other_side side → IsBud number i side slots order place
+pub IsBud-next : {I : Type 0} (number : I → ℕ) {side : Side} {i : ℕ} {slots : Slots} {order : List ℕ} (bud : NextBud side i slots order) (place : Place I)
+    → number place.parent ≡ bud.index → place.side ≡ other_side side → IsBud number i side slots order place
 IsBud-next number {side} {i} {slots} {order} bud place parent_is side_is = record {
   within = rw parent_is bud.within;
   bare = λ n e. rw side_is (bud.bare n (ap slots (sym parent_is) ∙ e));

@@ -18,7 +18,8 @@ module _ {T : Type 0} where
       ⊎_elim (λ (same : a.index ≡ i). let one = rw (eq-eqb a.index i same) at none in absurd (omega arith))
       (λ (other : a.index ≢ i). let rest = rw (ne_eqb a.index i other) at none in (other, omega arith)) (cases_eq a.index i)
 
-  after-same : (es : List (Entry T)) (i : ℕ) (new : Entry T) → is_some (entry_at es i) ≡ true → entry_times new.index es ≡ 0 → entry_at (insert_after i new es) new.index ≡ Some (new.generation, new.item)
+  after-same : (es : List (Entry T)) (i : ℕ) (new : Entry T) → is_some (entry_at es i) ≡ true → entry_times new.index es ≡ 0
+      → entry_at (insert_after i new es) new.index ≡ Some (new.generation, new.item)
   after-same [] i new h none = absurd cc
   after-same (a ∷ es) i new h none =
       let apart = apart-entry a es new.index none in
@@ -31,7 +32,8 @@ module _ {T : Type 0} where
       ⊎_elim (λ (same : a.index ≡ i). rw (eq-eqb a.index i same, ne_eqb new.index j (λ e. ne (sym e))) refl)
       (λ (other : a.index ≢ i). rw (ne_eqb a.index i other) (⊎_elim (λ (here : a.index ≡ j). rw (eq-eqb a.index j here) refl) (λ (there : a.index ≢ j). rw (ne_eqb a.index j there) (after-other es i j new ne)) (cases_eq a.index j))) (cases_eq a.index i)
 
-  before-same : (es : List (Entry T)) (i : ℕ) (new : Entry T) → is_some (entry_at es i) ≡ true → entry_times new.index es ≡ 0 → entry_at (insert_before i new es) new.index ≡ Some (new.generation, new.item)
+  before-same : (es : List (Entry T)) (i : ℕ) (new : Entry T) → is_some (entry_at es i) ≡ true → entry_times new.index es ≡ 0
+      → entry_at (insert_before i new es) new.index ≡ Some (new.generation, new.item)
   before-same [] i new h none = absurd cc
   before-same (a ∷ es) i new h none =
       let apart = apart-entry a es new.index none in
@@ -57,7 +59,8 @@ module _ {T : Type 0} where
       (λ (other : a.index ≢ i). rw (ne_eqb a.index i other) (ap (λ ys. a.index ∷ ys) (before-indexes es i new))) (cases_eq a.index i)
 
   -- on either side
-  pub put-same : (o : Ordering) (es : List (Entry T)) (i : ℕ) (new : Entry T) → is_some (entry_at es i) ≡ true → entry_times new.index es ≡ 0 → entry_at (put_on o i es new) new.index ≡ Some (new.generation, new.item)
+  pub put-same : (o : Ordering) (es : List (Entry T)) (i : ℕ) (new : Entry T) → is_some (entry_at es i) ≡ true → entry_times new.index es ≡ 0
+      → entry_at (put_on o i es new) new.index ≡ Some (new.generation, new.item)
   put-same Less es i new = before-same es i new
   put-same Equal es i new = after-same es i new
   put-same Greater es i new = after-same es i new
@@ -73,19 +76,22 @@ module _ {T : Type 0} where
   put-indexes Greater es i new = after-indexes es i new
 
 module _ {P T I G : Type 0} where
-  after-bare : (es : List (Entry (SimpleOrdArenaNode P T I G))) (i : ℕ) (new : Entry (SimpleOrdArenaNode P T I G)) → map bare_entry (insert_after i new es) ≡ insert_after i (bare_entry new) (map bare_entry es)
+  after-bare : (es : List (Entry (SimpleOrdArenaNode P T I G))) (i : ℕ) (new : Entry (SimpleOrdArenaNode P T I G))
+      → map bare_entry (insert_after i new es) ≡ insert_after i (bare_entry new) (map bare_entry es)
   after-bare [] i new = refl
   after-bare (a ∷ es) i new =
       ⊎_elim (λ (same : a.index ≡ i). rw (eq-eqb a.index i same) refl)
       (λ (other : a.index ≢ i). rw (ne_eqb a.index i other) (ap (λ ys. bare_entry a ∷ ys) (after-bare es i new))) (cases_eq a.index i)
 
-  before-bare : (es : List (Entry (SimpleOrdArenaNode P T I G))) (i : ℕ) (new : Entry (SimpleOrdArenaNode P T I G)) → map bare_entry (insert_before i new es) ≡ insert_before i (bare_entry new) (map bare_entry es)
+  before-bare : (es : List (Entry (SimpleOrdArenaNode P T I G))) (i : ℕ) (new : Entry (SimpleOrdArenaNode P T I G))
+      → map bare_entry (insert_before i new es) ≡ insert_before i (bare_entry new) (map bare_entry es)
   before-bare [] i new = refl
   before-bare (a ∷ es) i new =
       ⊎_elim (λ (same : a.index ≡ i). rw (eq-eqb a.index i same) refl)
       (λ (other : a.index ≢ i). rw (ne_eqb a.index i other) (ap (λ ys. bare_entry a ∷ ys) (before-bare es i new))) (cases_eq a.index i)
 
-  pub put-bare : (o : Ordering) (es : List (Entry (SimpleOrdArenaNode P T I G))) (i : ℕ) (new : Entry (SimpleOrdArenaNode P T I G)) → map bare_entry (put_on o i es new) ≡ put_on o i (map bare_entry es) (bare_entry new)
+  pub put-bare : (o : Ordering) (es : List (Entry (SimpleOrdArenaNode P T I G))) (i : ℕ) (new : Entry (SimpleOrdArenaNode P T I G))
+      → map bare_entry (put_on o i es new) ≡ put_on o i (map bare_entry es) (bare_entry new)
   put-bare Less es i new = before-bare es i new
   put-bare Equal es i new = after-bare es i new
   put-bare Greater es i new = after-bare es i new

@@ -68,7 +68,8 @@ module _ {at : Slots} {root : Option ℕ} {y : ℕ} {order : List ℕ} {slack : 
   pub rising_under : (z : ℕ) → above rising.way ≡ Some z → IsRisingUnder at root z y order slack
   rising_under z = go rising.way rising.held_way rising.held rising.listed rising.balanced_way
     where
-      go : (way : Way) → HoldsWay at root way (Some y) → Holds at (above way) (Some y) rising.shape → walk (plug way rising.shape) ≡ order → IsBalancedWay slack way rising.low → above way ≡ Some z → IsRisingUnder at root z y order slack
+      go : (way : Way) → HoldsWay at root way (Some y) → Holds at (above way) (Some y) rising.shape → walk (plug way rising.shape) ≡ order
+          → IsBalancedWay slack way rising.low → above way ≡ Some z → IsRisingUnder at root z y order slack
       go top w h l b e = absurd cc
       go (up side i k far rest) w h l b e =
           let same : i ≡ z = cc in
@@ -242,5 +243,6 @@ module _ {at : Slots} {root : Option ℕ} {z y : ℕ} {order : List ℕ} {slack 
         }
 
 -- a repair that follows steps that move no parent
-pub IsRepaired-after : {first old new : Slots} {root : Option ℕ} {order : List ℕ} {slack : ℕ} → ((j : ℕ) → back_at first j ≡ back_at old j) → IsRepaired old new root order slack → IsRepaired first new root order slack
+pub IsRepaired-after : {first old new : Slots} {root : Option ℕ} {order : List ℕ} {slack : ℕ} → ((j : ℕ) → back_at first j ≡ back_at old j)
+    → IsRepaired old new root order slack → IsRepaired first new root order slack
 IsRepaired-after same r = record { built = r.built; backs = (r.backs.0, r.backs.1, λ j. ⊎_elim (λ e. inl e) (λ e. inr (same j ∙ e)) (r.backs.2 j)) }

@@ -117,7 +117,8 @@ module _ where
 
   -- what the frames say stays where no write touches the nodes that are met
   module _ (old new : Slots) where
-    IsMiddle-frame : (side : Side) (i k : ℕ) (far : Shape) (middle : Option ℕ) → ((j : ℕ) → 0 < here j i + times_in j far → new j ≡ old j) → IsMiddle old side i k far middle → IsMiddle new side i k far middle
+    IsMiddle-frame : (side : Side) (i k : ℕ) (far : Shape) (middle : Option ℕ) → ((j : ℕ) → 0 < here j i + times_in j far → new j ≡ old j)
+        → IsMiddle old side i k far middle → IsMiddle new side i k far middle
     IsMiddle-frame Lesser i k far middle same h = h
     IsMiddle-frame Greater i k far middle same h =
         (h.0, h.1, same i (omega (arith, here-same i)) ∙ h.2, h.3, h.4, Holds-frame old new far (Some i) h.1.lesser (λ j inside. same j (omega arith)) h.5)
@@ -133,7 +134,8 @@ module _ where
 
   module _ {at : Slots} {q : ℕ} {s : Shape} (plan : IsPlan at q s) {todo : List ℕ} where
     -- one frame more
-    pub opened-more : {frames : List Frame} {start len : ℕ} → IsUnopened at frames s start len todo → 0 < len → (length frames < 64) × IsOpening at (frames ++ frame_over start len ∷ []) s start (len / 2) todo
+    pub opened-more : {frames : List Frame} {start len : ℕ} → IsUnopened at frames s start len todo → 0 < len
+        → (length frames < 64) × IsOpening at (frames ++ frame_over start len ∷ []) s start (len / 2) todo
     opened-more {frames} {start} {len} u some = go u.way u.run u.whole u.stack u.size u.place u.todo_is
       where
         go : (way : Way) (run : Shape) → plug way run ≡ s → IsStack at way (size_of run) frames → len ≡ size_of run → start ≡ behind way → walk run ++ ahead way ≡ todo
@@ -158,7 +160,8 @@ module _ where
             )
 
     -- nothing is left to open
-    pub IsReady-empty : {frames : List Frame} {start len : ℕ} (u : IsUnopened at frames s start len todo) → len ≡ 0 → IsFinished at frames s None todo × (IsFacing u.way → IsReady at frames s None todo)
+    pub IsReady-empty : {frames : List Frame} {start len : ℕ} (u : IsUnopened at frames s start len todo) → len ≡ 0
+        → IsFinished at frames s None todo × (IsFacing u.way → IsReady at frames s None todo)
     IsReady-empty {frames} {start} {len} u none = go u.way u.run u.whole u.stack u.size u.todo_is
       where
         go : (way : Way) (run : Shape) → plug way run ≡ s → IsStack at way (size_of run) frames → len ≡ size_of run → walk run ++ ahead way ≡ todo

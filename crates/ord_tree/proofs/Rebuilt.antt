@@ -6,8 +6,9 @@ use Rattle.chain_base.specs.Chain.{Entry, Chain, entry_at, first_pointer, IsSoun
 use Rattle.ord_tree.specs.declared.node.SimpleOrdArenaNode.{SimpleOrdArenaNode}
 use Rattle.ord_tree.specs.Slots.{times}
 use Rattle.ord_tree.specs.Node.{bare_entry, bare, links_in, slots_of, indexes}
+use Rattle.arena_base.proofs.CallerLemmas.{limit_of-below}
 use Rattle.ord_tree.proofs.Planting.{is_some-mapped, times-indexes, within-occupied, IsOnce-distinct}
-use Rattle.ord_tree.proofs.Trees.{limit_of-le, indexes-bare, shape_in-held}
+use Rattle.ord_tree.proofs.Trees.{indexes-bare, shape_in-held}
 use Rattle.ord_tree.specs.Shape.{Shape, walk}
 use Rattle.ord_tree.specs.Slots.{Holds, IsOnce}
 use Rattle.ord_tree.specs.Half.{IsRebuilt}
@@ -49,7 +50,7 @@ module _ {P T I G : Type 0} (c : Chain (SimpleOrdArenaNode P T I G)) where
   pub number-within : (most : ℕ) (greatest : Option ℕ) → IsSound most greatest c → (i : ℕ) → is_some (slots_of c i) ≡ true → (0 < i) × (i ≤ most)
   number-within most greatest sound i some =
       let inside = sound.within i (omega (arith, times-indexes c.entries i, within-occupied c.entries i (entry-occupied i some))) in
-      (inside.0, omega (arith, inside.1, sound.within_limit, limit_of-le most c.maximum))
+      (inside.0, omega (arith, inside.1, sound.within_limit, limit_of-below most c.maximum))
 
 -- what a rebuild owes of the chain: the nodes spell a rebuilt shape along it, and so the tree's shape is a rebuilt one
 module _ {P T I G : Type 0} (c new : Chain (SimpleOrdArenaNode P T I G)) (kept : bare new ≡ bare c) where

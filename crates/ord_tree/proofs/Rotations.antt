@@ -16,7 +16,8 @@ pub child-numbered : {I : Type 0} (number : I → ℕ) (side : Side) (n : Links 
 child-numbered number Lesser n = refl
 child-numbered number Greater n = refl
 
-pub numbered-with_child : {I : Type 0} (number : I → ℕ) (side : Side) (child : Option I) (n : Links I) → numbered number (with_child_at side child n) ≡ with_child_at side (option_map number child) (numbered number n)
+pub numbered-with_child : {I : Type 0} (number : I → ℕ) (side : Side) (child : Option I) (n : Links I)
+    → numbered number (with_child_at side child n) ≡ with_child_at side (option_map number child) (numbered number n)
 numbered-with_child number Lesser child n = refl
 numbered-with_child number Greater child n = refl
 
@@ -35,7 +36,8 @@ pub record ForkAt (at : Slots) (over : Option ℕ) (side : Side) (near : Shape) 
   pub near_held : Holds at (Some i) (child_at side n) near
   pub far_held : Holds at (Some i) (child_at (other_side side) n) far
 
-pub ForkAt-holds : (at : Slots) (over link : Option ℕ) (side : Side) (near : Shape) (i k : ℕ) (far : Shape) (n : Links ℕ) → at i ≡ Some n → Holds at over link (fork side near i k far) → ForkAt at over side near i k far n
+pub ForkAt-holds : (at : Slots) (over link : Option ℕ) (side : Side) (near : Shape) (i k : ℕ) (far : Shape) (n : Links ℕ) → at i ≡ Some n
+    → Holds at over link (fork side near i k far) → ForkAt at over side near i k far n
 ForkAt-holds at over link side near i k far n e h =
     let f = HoldsFork-holds at over link side near far i k h in
     let same : f.0 ≡ n = cc in
@@ -58,7 +60,8 @@ fork_at_low at root side z y site ny e =
     ForkAt-holds at (Some z) (child_at side f.0) side site.outer y site.low site.inner ny e f.5
 
 -- the link to what stands between the two nodes of a rotation leads to a node
-pub occupied-inner : (at : Slots) (root : Option ℕ) (side : Side) (z y : ℕ) (ny : Links ℕ) (i : ℕ) → Site at root side z y → at y ≡ Some ny → child_at (other_side side) ny ≡ Some i → is_some (at i) ≡ true
+pub occupied-inner : (at : Slots) (root : Option ℕ) (side : Side) (z y : ℕ) (ny : Links ℕ) (i : ℕ) → Site at root side z y → at y ≡ Some ny
+    → child_at (other_side side) ny ≡ Some i → is_some (at i) ≡ true
 occupied-inner at root side z y ny i site e link = occupied-link at (Some y) (child_at (other_side side) ny) site.inner i (fork_at_low at root side z y site ny e).far_held link
 
 -- whether a link leads to an index

@@ -2,7 +2,7 @@
 use Rattle.std.proofs.Common.{◌≡◌, ◌≢◌, ℕ, ◌+◌, ◌<◌, ◌≤◌, ◌^◌, Option, Some, None, List, [], ◌∷◌, map, length, arith, refl, sym, ◌∙◌, ap, subst, ⊎_elim, is_some, true, option_map}
 use Rattle.std.proofs.lemmas.Bool.{cases_eq, eq-eqb, ne_eqb}
 use Rattle.std.proofs.lemmas.List.{length-map}
-use Rattle.chain_base.specs.Chain.{Entry, Chain, entry_at, link_between, link_at, IsSound, removed, without as entries_without}
+use Rattle.chain_base.specs.Chain.{Entry, Chain, entry_at, link_at, IsSound, removed, without as entries_without}
 use Rattle.chain_base.specs.Link.{Link}
 use Rattle.ord_tree.specs.declared.node.SimpleOrdArenaNode.{SimpleOrdArenaNode}
 use Rattle.ord_tree.specs.Shape.{Shape, walk}
@@ -13,11 +13,13 @@ use Rattle.ord_tree.specs.Detach.{without, IsDetachable}
 use Rattle.ord_tree.specs.Node.{bare_entry, bare, entry_in, links_in, slots_of, indexes}
 use Rattle.ord_tree.specs.Tree.{IsShrunk}
 use Rattle.ord_tree.specs.Layout.{shape_in, IsLaidOut}
+use Rattle.arena_base.proofs.CallerLemmas.{limit_of-below}
+use Rattle.chain_base.proofs.CallerLemmas.{entry_at-link, entry_at-without_other}
 use Rattle.ord_tree.proofs.Slack.{IsRanked-balanced, IsBalanced-ranked}
 use Rattle.ord_tree.proofs.Forks.{here-same, here-other, times-walk, apart-from}
 use Rattle.ord_tree.proofs.Frames.{Holds-frame}
 use Rattle.ord_tree.proofs.Views.{MovesAtMost-backs}
-use Rattle.ord_tree.proofs.Trees.{entry_at-bare, is_some-bare, indexes-bare, limit_of-le, shape_in-held}
+use Rattle.ord_tree.proofs.Trees.{entry_at-bare, is_some-bare, indexes-bare, shape_in-held}
 use Rattle.ord_tree.proofs.Planting.{IsOnce-distinct, within-occupied}
 
 -- a list without one of its indexes
@@ -29,25 +31,11 @@ times-without_same i (x ∷ xs) once =
 
 -- the entries without one
 module _ {T : Type 0} where
-  pub entry_at-without_other : (es : List (Entry T)) (i j : ℕ) → j ≢ i → entry_at (entries_without i es) j ≡ entry_at es j
-  entry_at-without_other [] i j ne = refl
-  entry_at-without_other (e ∷ es) i j ne =
-      ⊎_elim (λ (same : e.index ≡ i). rw (eq-eqb e.index i same, ne_eqb e.index j (λ d. ne (sym d ∙ same))) refl)
-      (λ (other : e.index ≢ i). rw (ne_eqb e.index i other) (⊎_elim (λ (here : e.index ≡ j). rw (eq-eqb e.index j here) refl) (λ (there : e.index ≢ j). rw (ne_eqb e.index j there) (entry_at-without_other es i j ne)) (cases_eq e.index j)))
-      (cases_eq e.index i)
-
   pub indexes-without : (es : List (Entry T)) (i : ℕ) → indexes (entries_without i es) ≡ without i (indexes es)
   indexes-without [] i = refl
   indexes-without (e ∷ es) i =
       ⊎_elim (λ (same : e.index ≡ i). rw (eq-eqb e.index i same) refl)
       (λ (other : e.index ≢ i). rw (ne_eqb e.index i other) (ap (λ is. e.index ∷ is) (indexes-without es i))) (cases_eq e.index i)
-
-  -- an entry without its neighbours
-  pub entry_at-linked : (before after : Option ℕ) (es : List (Entry T)) (i : ℕ) → entry_at es i ≡ option_map (λ (e : ℕ × Link T). (e.0, e.1.item)) (link_between before after es i)
-  entry_at-linked before after [] i = refl
-  entry_at-linked before after (e ∷ es) i =
-      ⊎_elim (λ (same : e.index ≡ i). rw (eq-eqb e.index i same) refl)
-      (λ (other : e.index ≢ i). rw (ne_eqb e.index i other) (entry_at-linked (Some e.index) after es i)) (cases_eq e.index i)
 
 module _ {P T I G : Type 0} where
   pub bare-without : (es : List (Entry (SimpleOrdArenaNode P T I G))) (i : ℕ) → map bare_entry (entries_without i es) ≡ entries_without i (map bare_entry es)
@@ -57,12 +45,13 @@ module _ {P T I G : Type 0} where
       (λ (other : e.index ≢ i). rw (ne_eqb e.index i other) (ap (λ bs. bare_entry e ∷ bs) (bare-without es i))) (cases_eq e.index i)
 
   -- what the list says of an entry, from the link in the chain of nodes
-  pub entry_at-link : (c d : Chain (SimpleOrdArenaNode P T I G)) (x : ℕ) → bare d ≡ bare c
+  pub entry_at-bare_link : (c d : Chain (SimpleOrdArenaNode P T I G)) (x : ℕ) → bare d ≡ bare c
       → entry_at (map bare_entry c.entries) x ≡ option_map (λ (e : ℕ × Link (SimpleOrdArenaNode P T I G)). (e.0, e.1.item.t)) (link_at d.entries x)
-  entry_at-link c d x kept =
-      ap (λ (b : Chain T). entry_at b.entries x) (sym kept) ∙ entry_at-bare d.entries x ∙ ap (option_map entry_in) (entry_at-linked None None d.entries x) ∙ over (link_at d.entries x)
+  entry_at-bare_link c d x kept =
+      ap (λ (b : Chain T). entry_at b.entries x) (sym kept) ∙ entry_at-bare d.entries x ∙ ap (option_map entry_in) (entry_at-link None None d.entries x) ∙ over (link_at d.entries x)
     where
-      over : (o : Option (ℕ × Link (SimpleOrdArenaNode P T I G))) → option_map entry_in (option_map (λ (e : ℕ × Link (SimpleOrdArenaNode P T I G)). (e.0, e.1.item)) o) ≡ option_map (λ (e : ℕ × Link (SimpleOrdArenaNode P T I G)). (e.0, e.1.item.t)) o
+      over : (o : Option (ℕ × Link (SimpleOrdArenaNode P T I G))) → option_map entry_in (option_map (λ (e : ℕ × Link (SimpleOrdArenaNode P T I G)). (e.0, e.1.item)) o)
+          ≡ option_map (λ (e : ℕ × Link (SimpleOrdArenaNode P T I G)). (e.0, e.1.item.t)) o
       over None = refl
       over (Some e) = refl
 
@@ -84,7 +73,7 @@ module _ {P T I G : Type 0} (c : Chain (SimpleOrdArenaNode P T I G)) (root : Opt
   once = IsOnce-distinct c.entries sound.distinct
 
   few : length order < 2 ^ 64
-  few = omega (arith, length-map c.entries (λ (e : Entry (SimpleOrdArenaNode P T I G)). e.index), sound.counted, sound.within_limit, limit_of-le most c.maximum, fits)
+  few = omega (arith, length-map c.entries (λ (e : Entry (SimpleOrdArenaNode P T I G)). e.index), sound.counted, sound.within_limit, limit_of-below most c.maximum, fits)
 
   pub detachable : (before : Option ℕ) → before ≡ previous None x order → IsDetachable (slots_of c) root x before order
   detachable before is = record {
@@ -157,6 +146,6 @@ module _ {P T I G : Type 0} (c : Chain (SimpleOrdArenaNode P T I G)) (root : Opt
             listed = ap bare new_is ∙ bare_removed;
             shrunk = subst Shrunk (sym new_is) IsShrunk-removed;
             value =
-                entry_at-link c d x kept ∙ ap (option_map {U = ℕ × T} (λ (e : ℕ × Link (SimpleOrdArenaNode P T I G)). (e.0, e.1.item.t))) value
+                entry_at-bare_link c d x kept ∙ ap (option_map {U = ℕ × T} (λ (e : ℕ × Link (SimpleOrdArenaNode P T I G)). (e.0, e.1.item.t))) value
                 ∙ ap (λ (e : G × T). Some (gen e.0, e.1)) (sym answer_is);
           }

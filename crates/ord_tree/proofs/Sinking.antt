@@ -184,7 +184,8 @@ module _ {old new : Slots} {root : Option ℕ} {y : ℕ} {order : List ℕ} (dem
       shape : Shape
       shape = demoted.sunk.shape
 
-      under : (side : Side) (i k : ℕ) (far : Shape) (rest : Way) → HoldsWay new root (up side i k far rest) (Some y) → Holds new (Some i) (Some y) demoted.sunk.shape → walk (plug rest (fork side demoted.sunk.shape i k far)) ≡ order
+      under : (side : Side) (i k : ℕ) (far : Shape) (rest : Way) → HoldsWay new root (up side i k far rest) (Some y)
+          → Holds new (Some i) (Some y) demoted.sunk.shape → walk (plug rest (fork side demoted.sunk.shape i k far)) ≡ order
           → IsBalancedWay 1 (up side i k far rest) (rank_of demoted.sunk.shape + 1) → i ≡ z → HasSunk old new root y i side order
       under side i k far rest h held listed balanced same =
           let P : Option ℕ → Type 0 = λ link. Holds new (Some i) link demoted.sunk.shape in
@@ -209,7 +210,8 @@ module _ {old new : Slots} {root : Option ℕ} {y : ℕ} {order : List ℕ} (dem
             backs = demoted.backs;
           }
 
-      go : (w : Way) → HoldsWay new root w (Some y) → Holds new (above w) (Some y) demoted.sunk.shape → walk (plug w demoted.sunk.shape) ≡ order → IsBalancedWay 1 w (rank_of demoted.sunk.shape + 1) → above w ≡ Some z → HasSunk old new root y z d order
+      go : (w : Way) → HoldsWay new root w (Some y) → Holds new (above w) (Some y) demoted.sunk.shape → walk (plug w demoted.sunk.shape) ≡ order
+          → IsBalancedWay 1 w (rank_of demoted.sunk.shape + 1) → above w ≡ Some z → HasSunk old new root y z d order
       go top h held listed balanced a = absurd cc
       go (up side i k far rest) h held listed balanced a =
           let same : i ≡ z = cc in

@@ -23,14 +23,16 @@ pub record Spot (at : Slots) (root : Option ℕ) (side : Side) (y : ℕ) (whole 
   pub holds : ForkAt at (above way) side near y rank far links
   pub is : plug way (fork side near y rank far) ≡ whole
 
-spot_here : (at : Slots) (root : Option ℕ) (side : Side) (way : Way) (l r : Shape) (i k : ℕ) (link : Option ℕ) → HoldsWay at root way link → Holds at (above way) link (node l i k r) → Spot at root side i (plug way (node l i k r))
+spot_here : (at : Slots) (root : Option ℕ) (side : Side) (way : Way) (l r : Shape) (i k : ℕ) (link : Option ℕ) → HoldsWay at root way link
+    → Holds at (above way) link (node l i k r) → Spot at root side i (plug way (node l i k r))
 spot_here at root Lesser way l r i k link w h =
     record { way = way; near = l; rank = k; far = r; links = h.0; held_way = (let P : Option ℕ → Type 0 = λ link. HoldsWay at root way link in subst P h.1 w); at_y = h.2; holds = record { back = h.3; rank = h.4; near_held = h.5; far_held = h.6 }; is = refl }
 spot_here at root Greater way l r i k link w h =
     record { way = way; near = r; rank = k; far = l; links = h.0; held_way = (let P : Option ℕ → Type 0 = λ link. HoldsWay at root way link in subst P h.1 w); at_y = h.2; holds = record { back = h.3; rank = h.4; near_held = h.6; far_held = h.5 }; is = refl }
 
 -- each index of a tree has its spot
-pub spot_in : (at : Slots) (root : Option ℕ) (side : Side) (y : ℕ) (s : Shape) (way : Way) (link : Option ℕ) → HoldsWay at root way link → Holds at (above way) link s → 0 < times_in y s → Spot at root side y (plug way s)
+pub spot_in : (at : Slots) (root : Option ℕ) (side : Side) (y : ℕ) (s : Shape) (way : Way) (link : Option ℕ) → HoldsWay at root way link
+    → Holds at (above way) link s → 0 < times_in y s → Spot at root side y (plug way s)
 spot_in at root side y missing way link w h b = absurd (omega (arith, b))
 spot_in at root side y (node l i k r) way link w h b =
     let P : Option ℕ → Type 0 = λ link. HoldsWay at root way link in

@@ -1,10 +1,12 @@
 -- A tree that lies in a chain: what its view is, and what changes of the chain keep it.
-use Rattle.std.proofs.Common.{◌≡◌, ◌≢◌, ℕ, zero, suc, ◌+◌, ◌≤◌, Option, Some, None, List, [], ◌∷◌, map, length, arith, refl, sym, ◌∙◌, ap, subst, ⊎_elim, is_some, option_map, max, Result, Ok, Err, OnOk, OnErr, OnSome, IfNone, true, false, cond, Bool}
+use Rattle.std.proofs.Common.{◌≡◌, ◌≢◌, ℕ, zero, suc, ◌+◌, ◌≤◌, Option, Some, None, List, [], ◌∷◌, map, length, arith, refl, sym, ◌∙◌, ap, subst, ⊎_elim, inl, inr, is_some, option_map, max, Result, Ok, Err, OnOk, OnErr, OnSome, IfNone, true, false, cond, Bool}
 use Rattle.std.proofs.lemmas.Bool.{cases_eq, eq-eqb, ne_eqb}
+use Rattle.std.proofs.lemmas.Bool.Decides.{eqb_tells}
+use Rattle.std.proofs.lemmas.Option.{same_Some}
 use Rattle.std.proofs.lemmas.List.{length-map}
 use Rattle.chain_base.specs.Chain.{Entry, Chain, entry_at, times, with_item, with_item_at, vacant_among, with_capacity, with_room, grown_capacity, next_index, greatest_index, IsSound}
 use Rattle.std.specs.Option.{ForSome}
-use Rattle.arena_base.specs.Arena.{how_often, limit_of}
+use Rattle.arena_base.specs.Arena.{how_often}
 use Rattle.arena_base.specs.Generation.{IsLawfulGeneration}
 use Rattle.ord_tree.specs.declared.node.SimpleOrdArenaNode.{SimpleOrdArenaNode}
 use Rattle.ord_tree.specs.Shape.{Shape, missing, node, size_of, height, walk}
@@ -59,12 +61,8 @@ pub not_none : {X : Type 0} (o : Option X) (A : Type 0) → is_some o ≡ true �
 not_none None A there = absurd cc
 not_none (Some x) A there = tt
 
--- a limit is within what pointers can name
-pub limit_of-le : (most : ℕ) (maximum : Option ℕ) → limit_of most maximum ≤ most
-limit_of-le most None = omega arith
-limit_of-le most (Some m) = omega arith
-
-height-le-size : (s : Shape) → height s ≤ size_of s
+-- no shape is higher than it has nodes
+pub height-le-size : (s : Shape) → height s ≤ size_of s
 height-le-size missing = omega arith
 height-le-size (node l i k r) = omega (arith, height-le-size l, height-le-size r)
 
@@ -113,13 +111,19 @@ module _ {P T I G : Type 0} where
   bare-below (e ∷ es) i x =
       ⊎_elim (λ (same : e.index ≡ i). rw (eq-eqb e.index i same) refl) (λ (other : e.index ≢ i). rw (ne_eqb e.index i other) (ap (λ ys. bare_entry e ∷ ys) (bare-below es i x))) (cases_eq e.index i)
 
-  pub below-written : (es : List (Entry (SimpleOrdArenaNode P T I G))) (i : ℕ) (e : ℕ × SimpleOrdArenaNode P T I G) (x : T) → entry_at es i ≡ Some e → with_item es i (record (e.1) { t = x }) ≡ with_item_below es i x
+  pub below-written : (es : List (Entry (SimpleOrdArenaNode P T I G))) (i : ℕ) (e : ℕ × SimpleOrdArenaNode P T I G) (x : T)
+      → entry_at es i ≡ Some e → with_item es i (record (e.1) { t = x }) ≡ with_item_below es i x
   below-written [] i e x h = refl
-  below-written (a ∷ es) i e x h =
-      ⊎_elim (λ (same : a.index ≡ i). let first = rw (eq-eqb a.index i same) at h in rw (eq-eqb a.index i same) (ap (λ (n : SimpleOrdArenaNode P T I G). record { index = a.index; generation = a.generation; item = record n { t = x } } ∷ es) (let f : e ≡ (a.generation, a.item) = cc in ap (λ (p : ℕ × SimpleOrdArenaNode P T I G). p.1) f)))
-      (λ (other : a.index ≢ i). rw (ne_eqb a.index i other) (ap (λ ys. a ∷ ys) (below-written es i e x (rw (ne_eqb a.index i other) at h)))) (cases_eq a.index i)
+  below-written (a ∷ es) i e x h = elim (eqb_tells a.index i) [
+    | inl same ↦
+        let found : Some (a.generation, a.item) ≡ Some e = rw same.0 at h in
+        let item : a.item ≡ e.1 = ap (λ (p : ℕ × SimpleOrdArenaNode P T I G). p.1) (same_Some (a.generation, a.item) e found) in
+        rw same.0 (ap (λ (n : SimpleOrdArenaNode P T I G). record { index = a.index; generation = a.generation; item = record n { t = x } } ∷ es) (sym item))
+    | inr other ↦ rw other.0 (ap (λ ys. a ∷ ys) (below-written es i e x (rw other.0 at h)))
+  ]
 
-  pub below-written_chain : (c : Chain (SimpleOrdArenaNode P T I G)) (i : ℕ) (e : ℕ × SimpleOrdArenaNode P T I G) (x : T) → entry_at c.entries i ≡ Some e → with_item_at c i (record (e.1) { t = x }) ≡ with_node_item c i x
+  pub below-written_chain : (c : Chain (SimpleOrdArenaNode P T I G)) (i : ℕ) (e : ℕ × SimpleOrdArenaNode P T I G) (x : T)
+      → entry_at c.entries i ≡ Some e → with_item_at c i (record (e.1) { t = x }) ≡ with_node_item c i x
   below-written_chain c i e x h = ap (λ (es : List (Entry (SimpleOrdArenaNode P T I G))). record c { entries = es }) (below-written c.entries i e x h)
 
   indexes-below : (es : List (Entry (SimpleOrdArenaNode P T I G))) (i : ℕ) (x : T) → indexes (with_item_below es i x) ≡ indexes es

@@ -1,10 +1,8 @@
-use Rattle.std.proofs.Common.{◌≡◌, ◌+◌, ◌<◌, None, length, map, is_some, true, sym, ap, ◌∙◌, rules, arith, subst}
+use Rattle.std.proofs.Common.{◌≡◌, ◌+◌, ◌<◌, None, length, is_some, true, sym, ap, ◌∙◌, rules, arith, subst}
 use Rattle.std.specs.Option.{option_map}
-use Rattle.arena_base.specs.Compression.{compressed_generation}
 use Rattle.chain_base.specs.Chain.{entry_at, first_or}
 use Rattle.chain_base.specs.Exchange.{exchanged}
 use Rattle.chain_base.specs.Walk.{index_after}
-use Rattle.chain_base.specs.Compression.{relocated}
 use Rattle.chain_base.proofs.Canonical.{canonical-begins, canonical-even, canonical-step, canonical-ends, met-at, met-occurs, next-occurs, occurs-entry, chosen, chosen-is}
 use Rattle.chain_base.proofs.chain.ChainArena.compress_canonical.Goals as goal
 
@@ -16,62 +14,37 @@ loop-place-init g c =
 pub unwrap-requires : goal.unwrap-requires
 unwrap-requires g c =
     let at = c.loop-place in
-    let number = g.P.Inx.PtrInx.number in
-    let old = c.args.self.now in
-    let generation = compressed_generation g.P.Gen.PtrGen.greatest c.args.reset old.generation in
-    let more : at.place < length old.entries = omega (arith, c.len-len.ensures.value) in
-    let chain = relocated old generation in
-    let items = map (λ e. e.item) old.entries in
-    chosen number at.at _ (met-at chain generation (length old.entries) items at.self (option_map number at.at) at.place at.invariant more)
+    let more : at.place < length c.args.self.now.entries = omega (arith, c.len-len.ensures.value) in
+    chosen g.P.Inx.PtrInx.number at.at _ (met-at at.invariant more)
 
 pub exchange-requires-clause-first : goal.exchange-requires-clause-first
 exchange-requires-clause-first g c =
     let at = c.loop-place in
-    let number = g.P.Inx.PtrInx.number in
-    let old = c.args.self.now in
-    let generation = compressed_generation g.P.Gen.PtrGen.greatest c.args.reset old.generation in
-    let more : at.place < length old.entries = omega (arith, c.len-len.ensures.value) in
-    let chain = relocated old generation in
-    let items = map (λ e. e.item) old.entries in
-    let same = chosen-is number at.at _ c.unwrap.result (met-at chain generation (length old.entries) items at.self (option_map number at.at) at.place at.invariant more) c.unwrap.ensures in
-    subst (λ k. is_some (entry_at at.self.entries k) ≡ true) (sym same) (occurs-entry at.self.entries _ (met-occurs chain generation (length old.entries) items at.self (option_map number at.at) at.place at.invariant more))
+    let more : at.place < length c.args.self.now.entries = omega (arith, c.len-len.ensures.value) in
+    let same = chosen-is g.P.Inx.PtrInx.number at.at _ c.unwrap.result (met-at at.invariant more) c.unwrap.ensures in
+    subst (λ k. is_some (entry_at at.self.entries k) ≡ true) (sym same) (occurs-entry at.self.entries _ (met-occurs at.invariant more))
 
 pub exchange-requires-clause-second : goal.exchange-requires-clause-second
 exchange-requires-clause-second g c =
     let at = c.loop-place in
-    let number = g.P.Inx.PtrInx.number in
-    let old = c.args.self.now in
-    let generation = compressed_generation g.P.Gen.PtrGen.greatest c.args.reset old.generation in
-    let more : at.place < length old.entries = omega (arith, c.len-len.ensures.value) in
-    let chain = relocated old generation in
-    let items = map (λ e. e.item) old.entries in
-    let same : number c.unwrap-index.result ≡ at.place + 1 = search rules in
-    subst (λ k. is_some (entry_at at.self.entries k) ≡ true) (sym same) (occurs-entry at.self.entries _ (next-occurs chain generation (length old.entries) items at.self (option_map number at.at) at.place at.invariant more))
+    let more : at.place < length c.args.self.now.entries = omega (arith, c.len-len.ensures.value) in
+    let same : g.P.Inx.PtrInx.number c.unwrap-index.result ≡ at.place + 1 = search rules in
+    subst (λ k. is_some (entry_at at.self.entries k) ≡ true) (sym same) (occurs-entry at.self.entries _ (next-occurs at.invariant more))
 
 pub exchange-requires-clause-even : goal.exchange-requires-clause-even
 exchange-requires-clause-even g c =
     let at = c.loop-place in
-    let number = g.P.Inx.PtrInx.number in
-    let old = c.args.self.now in
-    let generation = compressed_generation g.P.Gen.PtrGen.greatest c.args.reset old.generation in
-    let more : at.place < length old.entries = omega (arith, c.len-len.ensures.value) in
-    let chain = relocated old generation in
-    let items = map (λ e. e.item) old.entries in
-    canonical-even chain generation (length old.entries) items at.self (option_map number at.at) at.place at.invariant more
+    let more : at.place < length c.args.self.now.entries = omega (arith, c.len-len.ensures.value) in
+    canonical-even at.invariant more
 
 pub loop-place-preserved : goal.loop-place-preserved
 loop-place-preserved g c =
     let at = c.loop-place in
-    let number = g.P.Inx.PtrInx.number in
-    let old = c.args.self.now in
-    let generation = compressed_generation g.P.Gen.PtrGen.greatest c.args.reset old.generation in
-    let more : at.place < length old.entries = omega (arith, c.len-len.ensures.value) in
-    let chain = relocated old generation in
-    let items = map (λ e. e.item) old.entries in
-    let first = chosen-is number at.at _ c.unwrap.result (met-at chain generation (length old.entries) items at.self (option_map number at.at) at.place at.invariant more) c.unwrap.ensures in
-    let second : number c.unwrap-index.result ≡ at.place + 1 = search rules in
-    canonical-step chain generation (length old.entries) items at.self (option_map number at.at) at.place at.invariant more c.exchange.new.self (option_map number c.next_after-at.result)
-    (c.exchange.ensures ∙ (ap (λ k. exchanged at.self k (number c.unwrap-index.result)) first ∙ ap (exchanged at.self _) second))
+    let more : at.place < length c.args.self.now.entries = omega (arith, c.len-len.ensures.value) in
+    let first = chosen-is g.P.Inx.PtrInx.number at.at _ c.unwrap.result (met-at at.invariant more) c.unwrap.ensures in
+    let second : g.P.Inx.PtrInx.number c.unwrap-index.result ≡ at.place + 1 = search rules in
+    canonical-step at.invariant more c.exchange.new.self (option_map g.P.Inx.PtrInx.number c.next_after-at.result)
+    (c.exchange.ensures ∙ (ap (λ k. exchanged at.self k (g.P.Inx.PtrInx.number c.unwrap-index.result)) first ∙ ap (exchanged at.self _) second))
     (c.next_after-at.ensures ∙ ap (index_after c.exchange.new.self.entries) second)
 
 pub returns-clause-after : goal.returns-clause-after

@@ -8,27 +8,49 @@ place_at-place-requires g c = CanPutAt-bare g.P.Inx.PtrInx.number c.args.at c.se
 
 pub insert_within_capacity-requires : goal.insert_within_capacity-requires
 insert_within_capacity-requires g c =
-    rw c.kind_of.ensures (CanPlace-put _ _ g.P.Inx.PtrInx.number c.args.at c.self.inside.chain (CanPutAt-bare g.P.Inx.PtrInx.number c.args.at c.self.inside.chain (rw (← c.self.view_is) at c.requires)))
+    let number = g.P.Inx.PtrInx.number in
+    let can = CanPutAt-bare number c.args.at c.self.inside.chain (rw (← c.self.view_is) at c.requires) in
+    rw c.kind_of.ensures (CanPlace-put _ _ number c.args.at c.self.inside.chain can)
 
 pub new-requires : goal.new-requires
-new-requires g c = rw c.inx.ensures (inserted-named g.P.Inx.PtrInx.most g.P.Gen.PtrGen.greatest c.insert_within_capacity.new.self c.len.ensures.sound _ _ _ _ _ c.in_ok-p.ensures.ok)
+new-requires g c =
+    rw c.inx.ensures (inserted-named g.P.Inx.PtrInx.most g.P.Gen.PtrGen.greatest c.insert_within_capacity.new.self c.len.ensures.sound _ _ _ _ _ c.in_ok-p.ensures.ok)
 
 pub grow-requires : goal.grow-requires
-grow-requires g c = call_allowed g.P.Inx.PtrInx.number c.self.inside.chain c.insert_within_capacity.new.self (option_map g.P.Inx.PtrInx.number c.self.inside.root) c.args.at c.place_at-place.result c.kind_of.result c.parent_in.result c.args.t c.leaf-node.result _ _ c.new.result
-    c.self.invariant (CanPutAt-bare g.P.Inx.PtrInx.number c.args.at c.self.inside.chain (rw (← c.self.view_is) at c.requires)) c.place_at-place.ensures c.parent_in.ensures c.leaf-node.ensures c.kind_of.ensures c.in_ok-p.ensures.ok (ap g.P.Inx.PtrInx.number c.new.ensures ∙ c.inx.ensures)
-    g.P.Inx.PtrInx.most g.P.Gen.PtrGen.greatest c.len.ensures.sound g.met.P.Inx.PtrInx.fits
+grow-requires g c =
+    let number = g.P.Inx.PtrInx.number in
+    let can = CanPutAt-bare number c.args.at c.self.inside.chain (rw (← c.self.view_is) at c.requires) in
+    let root = option_map number c.self.inside.root in
+    let x_is = ap number c.new.ensures ∙ c.inx.ensures in
+    call_allowed number c.self.inside.chain root c.args.at _ c.self.invariant can c.place_at-place.ensures c.parent_in.ensures c.leaf-node.ensures c.kind_of.ensures
+    c.in_ok-p.ensures.ok x_is g.P.Inx.PtrInx.most g.P.Gen.PtrGen.greatest c.len.ensures.sound g.met.P.Inx.PtrInx.fits
 
 pub invariant_of-self-2 : goal.invariant_of-self-2
-invariant_of-self-2 g c = (call_grown g.P.Inx.PtrInx.number c.self.inside.chain c.insert_within_capacity.new.self (option_map g.P.Inx.PtrInx.number c.self.inside.root) c.args.at c.place_at-place.result c.kind_of.result c.parent_in.result c.args.t c.leaf-node.result _ _ c.new.result
-    c.self.invariant (CanPutAt-bare g.P.Inx.PtrInx.number c.args.at c.self.inside.chain (rw (← c.self.view_is) at c.requires)) c.place_at-place.ensures c.parent_in.ensures c.leaf-node.ensures c.kind_of.ensures c.in_ok-p.ensures.ok (ap g.P.Inx.PtrInx.number c.new.ensures ∙ c.inx.ensures)
-    g.P.Inx.PtrInx.most g.P.Gen.PtrGen.greatest c.len.ensures.sound g.met.P.Inx.PtrInx.fits c.grow.new.chain c.grow.new.root c.grow.ensures.kept c.grow.ensures.grown).0
+invariant_of-self-2 g c =
+    let number = g.P.Inx.PtrInx.number in
+    let can = CanPutAt-bare number c.args.at c.self.inside.chain (rw (← c.self.view_is) at c.requires) in
+    let root = option_map number c.self.inside.root in
+    let x_is = ap number c.new.ensures ∙ c.inx.ensures in
+    (call_grown number c.self.inside.chain root c.args.at _ c.self.invariant can c.place_at-place.ensures c.parent_in.ensures c.leaf-node.ensures c.kind_of.ensures
+    c.in_ok-p.ensures.ok x_is g.P.Inx.PtrInx.most g.P.Gen.PtrGen.greatest c.len.ensures.sound g.met.P.Inx.PtrInx.fits
+    c.grow.new.chain c.grow.new.root c.grow.ensures.kept c.grow.ensures.grown).0
 
 pub returns-clause-ok : goal.returns-clause-ok
-returns-clause-ok g c = rw (← c.self.view_is) (call_listed g.P.Inx.PtrInx.number c.self.inside.chain c.insert_within_capacity.new.self (option_map g.P.Inx.PtrInx.number c.self.inside.root) c.args.at c.place_at-place.result c.kind_of.result c.parent_in.result c.args.t c.leaf-node.result _ _ c.new.result
-    c.self.invariant (CanPutAt-bare g.P.Inx.PtrInx.number c.args.at c.self.inside.chain (rw (← c.self.view_is) at c.requires)) c.place_at-place.ensures c.parent_in.ensures c.leaf-node.ensures c.kind_of.ensures c.in_ok-p.ensures.ok (ap g.P.Inx.PtrInx.number c.new.ensures ∙ c.inx.ensures)
-    g.P.Inx.PtrInx.most g.P.Gen.PtrGen.greatest c.len.ensures.sound g.met.P.Inx.PtrInx.fits c.grow.new.chain c.grow.new.root c.grow.ensures.kept c.grow.ensures.grown)
+returns-clause-ok g c =
+    let number = g.P.Inx.PtrInx.number in
+    let can = CanPutAt-bare number c.args.at c.self.inside.chain (rw (← c.self.view_is) at c.requires) in
+    let root = option_map number c.self.inside.root in
+    let x_is = ap number c.new.ensures ∙ c.inx.ensures in
+    rw (← c.self.view_is) (call_listed number c.self.inside.chain root c.args.at _ c.self.invariant can c.place_at-place.ensures c.parent_in.ensures c.leaf-node.ensures c.kind_of.ensures
+    c.in_ok-p.ensures.ok x_is g.P.Inx.PtrInx.most g.P.Gen.PtrGen.greatest c.len.ensures.sound g.met.P.Inx.PtrInx.fits
+    c.grow.new.chain c.grow.new.root c.grow.ensures.kept c.grow.ensures.grown)
 
 pub returns-clause-shape : goal.returns-clause-shape
-returns-clause-shape g c = rw (← c.self.view_is) (call_grown g.P.Inx.PtrInx.number c.self.inside.chain c.insert_within_capacity.new.self (option_map g.P.Inx.PtrInx.number c.self.inside.root) c.args.at c.place_at-place.result c.kind_of.result c.parent_in.result c.args.t c.leaf-node.result _ _ c.new.result
-    c.self.invariant (CanPutAt-bare g.P.Inx.PtrInx.number c.args.at c.self.inside.chain (rw (← c.self.view_is) at c.requires)) c.place_at-place.ensures c.parent_in.ensures c.leaf-node.ensures c.kind_of.ensures c.in_ok-p.ensures.ok (ap g.P.Inx.PtrInx.number c.new.ensures ∙ c.inx.ensures)
-    g.P.Inx.PtrInx.most g.P.Gen.PtrGen.greatest c.len.ensures.sound g.met.P.Inx.PtrInx.fits c.grow.new.chain c.grow.new.root c.grow.ensures.kept c.grow.ensures.grown).1
+returns-clause-shape g c =
+    let number = g.P.Inx.PtrInx.number in
+    let can = CanPutAt-bare number c.args.at c.self.inside.chain (rw (← c.self.view_is) at c.requires) in
+    let root = option_map number c.self.inside.root in
+    let x_is = ap number c.new.ensures ∙ c.inx.ensures in
+    rw (← c.self.view_is) (call_grown number c.self.inside.chain root c.args.at _ c.self.invariant can c.place_at-place.ensures c.parent_in.ensures c.leaf-node.ensures c.kind_of.ensures
+    c.in_ok-p.ensures.ok x_is g.P.Inx.PtrInx.most g.P.Gen.PtrGen.greatest c.len.ensures.sound g.met.P.Inx.PtrInx.fits
+    c.grow.new.chain c.grow.new.root c.grow.ensures.kept c.grow.ensures.grown).1
