@@ -9,7 +9,7 @@ use Rattle.ord_script.specs.declared.command.Command.TheVariants as commands
 use Rattle.ord_script.specs.declared.reply.Reply.TheVariants.{Inserted, Refused, Ranks}
 use Rattle.ord_script.specs.declared.word.Word.{Word}
 use Rattle.ord_script.specs.declared.word.Word.TheVariants as words
-use Rattle.ord_script.specs.Commands.{with_pair, pair_in, alone}
+use Rattle.ord_script.specs.Arguments.{arguments_in}
 use Rattle.ord_script.specs.Machine.{State, Inserts, Runs}
 use Rattle.ord_script.specs.Pairs.{Pair, Pointer, PairCommand, PairReply, reading, beginning, answers_equal}
 use Rattle.ord_script.specs.Script.{Script, script_of}
@@ -20,7 +20,7 @@ use Rattle.ord_script.proofs.FirstRank.{first_rank}
 
 -- the script, read
 two_lines : script_of (codes "insert 5 1\nranks\n") ≡ record { commands = commands.Insert (pos 5, 1) ∷ commands.Ranks ∷ []; fault = None }
-unfolding with_pair pair_in alone
+unfolding arguments_in
 two_lines = refl
 
 -- the pointer of the first entry

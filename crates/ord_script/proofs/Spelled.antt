@@ -1,100 +1,78 @@
 -- What a script says for a command, read: by the kinds of its arguments, and then for each command.
-use Rattle.std.proofs.Common.{◌≡◌, ℕ, ℤ, Bool, List, [], ◌∷◌, map, Some, Result, Ok, ok_or, refl, ap}
+use Rattle.std.proofs.Common.{◌≡◌, ℕ, ℤ, Bool, List, [], ◌∷◌, ◌++◌, map, Option, Some, Ok, refl, sym, ◌∙◌, ap, append-nil}
 use Rattle.std.specs.List.{All, AllByRecursion}
 use Rattle.std.proofs.lemmas.List.Elements.{recursion_from_All}
 use Rattle.ord_script.specs.declared.command.Command.TheVariants as commands
-use Rattle.ord_script.specs.declared.fault.FaultKind.{FaultKind}
-use Rattle.ord_script.specs.declared.fault.FaultKind.TheVariants.{BadNumber}
-use Rattle.ord_script.specs.Commands.{key_in, pointer_in, index_in, count_in, flag_in, pair_in, with_pair, with_pointer_and_pair, with_key, with_pointer, with_index, with_count, with_flag, from_pointer, from_index, alone, word_text, word_of, said_by}
+use Rattle.ord_script.specs.Arguments.{Reader, nothing, one, both, key_and_value, none_left, arguments_in}
+use Rattle.ord_script.specs.Commands.{◌>>=◌, taking, word_text, word_of, said_by}
+use Rattle.ord_script.specs.Numbers.{key_of, value_of, index_of, flag_of, pointer_of}
 use Rattle.ord_script.specs.Pairs.{Pair, Pointer, PairCommand}
 use Rattle.ord_script.specs.Spelling.{Argument, pair_arguments, key, value, index, count, pointer, flag, argument_text, IsInRange, saying_of, spelled, CanBeSaid}
 use Rattle.ord_script.proofs.NumberTexts.{key_of-text, pointer_of-text, index_of-text, value_of-text, flag_of-text}
 
+-- a reader reads the texts of these arguments as this, where they are in their ranges, and leaves what stands behind them
+record Reads {X : Type 0} (reader : Reader X) (arguments : List Argument) (x : X) : Type 0 where
+  reads : AllByRecursion IsInRange arguments → (rest : List (List ℕ)) → reader (map argument_text arguments ++ rest) ≡ Some (Some x, rest)
+
+-- none, one, and another after it
+nothing-reads : Reads nothing [] tt
+nothing-reads = record { reads = λ range rest. refl }
+
+one-reads : {X : Type 0} (of : List ℕ → Option X) (a : Argument) (x : X) → (IsInRange a → of (argument_text a) ≡ Some x) → Reads (one of) (a ∷ []) x
+one-reads of a x text = record { reads = λ range rest. ap (λ read. Some (read, rest)) (text range.0) }
+
+both-reads : {X Y : Type 0} {first : Reader X} {second : Reader Y} {a : Argument} {arguments : List Argument} {x : X} {y : Y} → Reads first (a ∷ []) x → Reads second arguments y → Reads (both first second) (a ∷ arguments) (x, y)
+both-reads front back = record { reads = λ range rest. rw (front.reads (range.0, tt) _, back.reads range.1 rest) refl }
+
 -- each kind of argument
-key_in-text : (k : ℤ) → IsInRange (key k) → key_in (argument_text (key k)) ≡ Ok k
-key_in-text k range = ap (λ read. ok_or read BadNumber) (key_of-text k range)
+key-reads : (k : ℤ) → Reads (one key_of) (key k ∷ []) k
+key-reads k = one-reads key_of (key k) k (key_of-text k)
 
-pointer_in-text : (p : Pointer) → IsInRange (pointer p) → pointer_in (argument_text (pointer p)) ≡ Ok p
-pointer_in-text p range = ap (λ read. ok_or read BadNumber) (pointer_of-text p range)
+value-reads : (v : ℕ) → Reads (one value_of) (value v ∷ []) v
+value-reads v = one-reads value_of (value v) v (value_of-text v)
 
-index_in-text : (i : ℕ) → IsInRange (index i) → index_in (argument_text (index i)) ≡ Ok i
-index_in-text i range = ap (λ read. ok_or read BadNumber) (index_of-text i range)
+index-reads : (i : ℕ) → Reads (one index_of) (index i ∷ []) i
+index-reads i = one-reads index_of (index i) i (index_of-text i)
 
-count_in-text : (n : ℕ) → IsInRange (count n) → count_in (argument_text (count n)) ≡ Ok n
-count_in-text n range = ap (λ read. ok_or read BadNumber) (value_of-text n range)
+count-reads : (n : ℕ) → Reads (one value_of) (count n ∷ []) n
+count-reads n = one-reads value_of (count n) n (value_of-text n)
 
-flag_in-text : (b : Bool) → flag_in (argument_text (flag b)) ≡ Ok b
-flag_in-text b = ap (λ read. ok_or read BadNumber) (flag_of-text b)
+pointer-reads : (p : Pointer) → Reads (one pointer_of) (pointer p ∷ []) p
+pointer-reads p = one-reads pointer_of (pointer p) p (pointer_of-text p)
 
-pair_in-text : (pair : Pair) → IsInRange (key pair.0) → IsInRange (value pair.1) → pair_in (argument_text (key pair.0)) (argument_text (value pair.1)) ≡ Ok pair
-unfolding pair_in
-pair_in-text pair keyed valued = rw (key_in-text pair.0 keyed, value_of-text pair.1 valued) refl
+flag-reads : (b : Bool) → Reads (one flag_of) (flag b ∷ []) b
+flag-reads b = one-reads flag_of (flag b) b (λ _. flag_of-text b)
 
--- a parser of arguments reads these as this command, where they are in their ranges
-abbrev ReadsAs : (List (List ℕ) → Result PairCommand FaultKind) → List Argument → PairCommand → Type 0
-ReadsAs parse arguments command = AllByRecursion IsInRange arguments → parse (map argument_text arguments) ≡ Ok command
+pair-reads : (p : Pair) → Reads key_and_value (pair_arguments p) p
+pair-reads p = both-reads (key-reads p.0) (value-reads p.1)
 
--- each kind of arguments
-with_pair-text : (command : Pair → PairCommand) (pair : Pair) → ReadsAs (with_pair command) (pair_arguments pair) (command pair)
-unfolding with_pair
-with_pair-text command pair range = rw (pair_in-text pair range.0 range.1.0) refl
-
-with_pointer_and_pair-text : (command : Pointer → Pair → PairCommand) (p : Pointer) (pair : Pair) → ReadsAs (with_pointer_and_pair command) (pointer p ∷ pair_arguments pair) (command p pair)
-unfolding with_pointer_and_pair
-with_pointer_and_pair-text command p pair range = rw (pointer_in-text p range.0, pair_in-text pair range.1.0 range.1.1.0) refl
-
-with_key-text : (command : ℤ → PairCommand) (k : ℤ) → ReadsAs (with_key command) (key k ∷ []) (command k)
-unfolding with_key
-with_key-text command k range = rw (key_in-text k range.0) refl
-
-with_pointer-text : (command : Pointer → PairCommand) (p : Pointer) → ReadsAs (with_pointer command) (pointer p ∷ []) (command p)
-unfolding with_pointer
-with_pointer-text command p range = rw (pointer_in-text p range.0) refl
-
-with_index-text : (command : ℕ → PairCommand) (i : ℕ) → ReadsAs (with_index command) (index i ∷ []) (command i)
-unfolding with_index
-with_index-text command i range = rw (index_in-text i range.0) refl
-
-with_count-text : (command : ℕ → PairCommand) (n : ℕ) → ReadsAs (with_count command) (count n ∷ []) (command n)
-unfolding with_count
-with_count-text command n range = rw (count_in-text n range.0) refl
-
-with_flag-text : (command : Bool → PairCommand) (b : Bool) → ReadsAs (with_flag command) (flag b ∷ []) (command b)
-unfolding with_flag
-with_flag-text command b range = rw (flag_in-text b) refl
-
-from_pointer-text : (command : Pointer → ℕ → ℤ → PairCommand) (p : Pointer) (n : ℕ) (k : ℤ) → ReadsAs (from_pointer command) (pointer p ∷ count n ∷ key k ∷ []) (command p n k)
-unfolding from_pointer
-from_pointer-text command p n k range = rw (pointer_in-text p range.0, count_in-text n range.1.0, key_in-text k range.1.1.0) refl
-
-from_index-text : (command : ℕ → ℕ → ℤ → PairCommand) (i n : ℕ) (k : ℤ) → ReadsAs (from_index command) (index i ∷ count n ∷ key k ∷ []) (command i n k)
-unfolding from_index
-from_index-text command i n k range = rw (index_in-text i range.0, count_in-text n range.1.0, key_in-text k range.1.1.0) refl
-
-alone-text : (command : PairCommand) → ReadsAs (alone command) [] command
-unfolding alone
-alone-text command range = refl
+-- the command that takes them
+taken : {X : Type 0} {reader : Reader X} {arguments : List Argument} {x : X} (command : X → PairCommand) → Reads reader arguments x → AllByRecursion IsInRange arguments → Some (taking reader command (map argument_text arguments)) ≡ Some (Ok (command x))
+unfolding arguments_in
+taken {reader = reader} {arguments = arguments} command read range =
+    ap (λ words. Some (taking reader command words)) (sym (append-nil (map argument_text arguments)))
+    ∙ ap (λ found. Some (none_left found >>= λ x. Ok (command x))) (read.reads range [])
 
 -- each command
 said_by-spelled : (command : PairCommand) → CanBeSaid command → AllByRecursion IsInRange (saying_of command).arguments → said_by (spelled command) ≡ Some (Ok command)
-said_by-spelled (commands.Insert pair) sayable range = ap Some (with_pair-text commands.Insert pair range)
-said_by-spelled (commands.Set p pair) sayable range = ap Some (with_pointer_and_pair-text commands.Set p pair range)
-said_by-spelled (commands.Remove p) sayable range = ap Some (with_pointer-text commands.Remove p range)
-said_by-spelled (commands.RemoveInx i) sayable range = ap Some (with_index-text commands.RemoveInx i range)
-said_by-spelled (commands.Invalidate p) sayable range = ap Some (with_pointer-text commands.Invalidate p range)
-said_by-spelled (commands.Compress b) sayable range = ap Some (with_flag-text commands.Compress b range)
-said_by-spelled (commands.Canonical b) sayable range = ap Some (with_flag-text commands.Canonical b range)
-said_by-spelled (commands.Find k) sayable range = ap Some (with_key-text commands.Find k range)
-said_by-spelled (commands.FindLinear p n k) sayable range = ap Some (from_pointer-text commands.FindLinear p n k range)
-said_by-spelled (commands.Similar k) sayable range = ap Some (with_key-text commands.Similar k range)
-said_by-spelled (commands.SimilarLinear i n k) sayable range = ap Some (from_index-text commands.SimilarLinear i n k range)
+said_by-spelled (commands.Insert p) sayable range = taken commands.Insert (pair-reads p) range
+said_by-spelled (commands.Set p item) sayable range = taken (λ a. commands.Set a.0 a.1) (both-reads (pointer-reads p) (pair-reads item)) range
+said_by-spelled (commands.Remove p) sayable range = taken commands.Remove (pointer-reads p) range
+said_by-spelled (commands.RemoveInx i) sayable range = taken commands.RemoveInx (index-reads i) range
+said_by-spelled (commands.Invalidate p) sayable range = taken commands.Invalidate (pointer-reads p) range
+said_by-spelled (commands.Compress b) sayable range = taken commands.Compress (flag-reads b) range
+said_by-spelled (commands.Canonical b) sayable range = taken commands.Canonical (flag-reads b) range
+said_by-spelled (commands.Find k) sayable range = taken commands.Find (key-reads k) range
+said_by-spelled (commands.FindLinear p n k) sayable range = taken (λ a. commands.FindLinear a.0 a.1.0 a.1.1) (both-reads (pointer-reads p) (both-reads (count-reads n) (key-reads k))) range
+said_by-spelled (commands.Similar k) sayable range = taken commands.Similar (key-reads k) range
+said_by-spelled (commands.SimilarLinear i n k) sayable range = taken (λ a. commands.SimilarLinear a.0 a.1.0 a.1.1) (both-reads (index-reads i) (both-reads (count-reads n) (key-reads k))) range
 said_by-spelled commands.FindWith sayable range = absurd sayable
 said_by-spelled commands.SimilarWith sayable range = absurd sayable
-said_by-spelled (commands.Visits k) sayable range = ap Some (with_key-text commands.Visits k range)
-said_by-spelled (commands.Get p) sayable range = ap Some (with_pointer-text commands.Get p range)
-said_by-spelled (commands.Neighbours i) sayable range = ap Some (with_index-text commands.Neighbours i range)
-said_by-spelled (commands.DrainOrdered n) sayable range = ap Some (with_count-text commands.DrainOrdered n range)
-said_by-spelled command sayable range = ap Some (alone-text command tt)
+said_by-spelled (commands.Visits k) sayable range = taken commands.Visits (key-reads k) range
+said_by-spelled (commands.Get p) sayable range = taken commands.Get (pointer-reads p) range
+said_by-spelled (commands.Neighbours i) sayable range = taken commands.Neighbours (index-reads i) range
+said_by-spelled (commands.DrainOrdered n) sayable range = taken commands.DrainOrdered (count-reads n) range
+said_by-spelled command sayable range = taken (λ _. command) nothing-reads tt
 
 -- its numbers are in their ranges
 pub in_range : (command : PairCommand) → CanBeSaid command → All IsInRange (saying_of command).arguments

@@ -1,12 +1,13 @@
 -- Commands as the words of a line spell them.
-use Rattle.std.specs.Prelude.{ℕ, ℤ, Bool, List, [], ◌∷◌, ◌==◌, ok_or, Option, Some, None, Result, Ok, Err, codes, bytes_eq, slice_index, if◌then◌else◌}
+use Rattle.std.specs.Prelude.{ℕ, List, [], ◌∷◌, ◌==◌, ok_or, Option, Some, None, Result, Ok, Err, codes, bytes_eq, slice_index, if◌then◌else◌}
 use Rattle.ord_script.specs.declared.fault.FaultKind.{FaultKind}
-use Rattle.ord_script.specs.declared.fault.FaultKind.TheVariants.{UnknownCommand, WrongArguments, BadNumber}
+use Rattle.ord_script.specs.declared.fault.FaultKind.TheVariants.{UnknownCommand}
 use Rattle.ord_script.specs.declared.command.Command.TheVariants as commands
 use Rattle.ord_script.specs.declared.word.Word.{Word}
 use Rattle.ord_script.specs.declared.word.Word.TheVariants as words
 use Rattle.ord_script.specs.Numbers.{key_of, value_of, index_of, flag_of, pointer_of}
-use Rattle.ord_script.specs.Pairs.{Pair, Pointer, PairCommand}
+use Rattle.ord_script.specs.Arguments.{Reader, nothing, one, both, key_and_value, arguments_in}
+use Rattle.ord_script.specs.Pairs.{PairCommand}
 
 -- how a script writes the words that begin a command
 abbrev pub word_text : Word → List ℕ
@@ -53,137 +54,39 @@ abbrev pub ◌>>=◌ : {A B : Type 0} → Result A FaultKind → (A → Result B
 (Ok x) >>= f = f x
 (Err kind) >>= f = Err kind
 
--- exactly so many arguments
-abbrev pub no_argument : List (List ℕ) → Result (Unit {0}) FaultKind
-no_argument [] = Ok tt
-no_argument arguments = Err WrongArguments
+-- a command with what all of the arguments are read as
+abbrev pub taking : {X : Type 0} → Reader X → (X → PairCommand) → List (List ℕ) → Result PairCommand FaultKind
+taking reader command arguments = arguments_in reader arguments >>= λ x. Ok (command x)
 
-abbrev pub one_argument : List (List ℕ) → Result (List ℕ) FaultKind
-one_argument (a ∷ []) = Ok a
-one_argument arguments = Err WrongArguments
-
-abbrev pub two_arguments : List (List ℕ) → Result (List ℕ × List ℕ) FaultKind
-two_arguments (a ∷ b ∷ []) = Ok (a, b)
-two_arguments arguments = Err WrongArguments
-
-abbrev pub three_arguments : List (List ℕ) → Result (List ℕ × List ℕ × List ℕ) FaultKind
-three_arguments (a ∷ b ∷ c ∷ []) = Ok (a, b, c)
-three_arguments arguments = Err WrongArguments
-
--- a word that is a key, a pointer, an index, a number of steps or of entries, or a flag, or two that are a pair
-abbrev pub key_in : List ℕ → Result ℤ FaultKind
-key_in word = ok_or (key_of word) BadNumber
-
-abbrev pub pointer_in : List ℕ → Result Pointer FaultKind
-pointer_in word = ok_or (pointer_of word) BadNumber
-
-abbrev pub index_in : List ℕ → Result ℕ FaultKind
-index_in word = ok_or (index_of word) BadNumber
-
-abbrev pub count_in : List ℕ → Result ℕ FaultKind
-count_in word = ok_or (value_of word) BadNumber
-
-abbrev pub flag_in : List ℕ → Result Bool FaultKind
-flag_in word = ok_or (flag_of word) BadNumber
-
-unfoldable pub pair_in : List ℕ → List ℕ → Result Pair FaultKind
-pair_in first second = do
-  key ← key_in first
-  value ← ok_or (value_of second) BadNumber
-  Ok (key, value)
-
--- a command with a pair, or with a pointer and a pair
-unfoldable pub with_pair : (Pair → PairCommand) → List (List ℕ) → Result PairCommand FaultKind
-with_pair command arguments = do
-  two ← two_arguments arguments
-  pair ← pair_in two.0 two.1
-  Ok (command pair)
-
-unfoldable pub with_pointer_and_pair : (Pointer → Pair → PairCommand) → List (List ℕ) → Result PairCommand FaultKind
-with_pointer_and_pair command arguments = do
-  three ← three_arguments arguments
-  pointer ← pointer_in three.0
-  pair ← pair_in three.1 three.2
-  Ok (command pointer pair)
-
--- a command with a key, a pointer, an index, a number or a flag, or without arguments
-unfoldable pub with_key : (ℤ → PairCommand) → List (List ℕ) → Result PairCommand FaultKind
-with_key command arguments = do
-  one ← one_argument arguments
-  key ← key_in one
-  Ok (command key)
-
-unfoldable pub with_pointer : (Pointer → PairCommand) → List (List ℕ) → Result PairCommand FaultKind
-with_pointer command arguments = do
-  one ← one_argument arguments
-  pointer ← pointer_in one
-  Ok (command pointer)
-
-unfoldable pub with_index : (ℕ → PairCommand) → List (List ℕ) → Result PairCommand FaultKind
-with_index command arguments = do
-  one ← one_argument arguments
-  index ← index_in one
-  Ok (command index)
-
-unfoldable pub with_count : (ℕ → PairCommand) → List (List ℕ) → Result PairCommand FaultKind
-with_count command arguments = do
-  one ← one_argument arguments
-  count ← count_in one
-  Ok (command count)
-
-unfoldable pub with_flag : (Bool → PairCommand) → List (List ℕ) → Result PairCommand FaultKind
-with_flag command arguments = do
-  one ← one_argument arguments
-  flag ← flag_in one
-  Ok (command flag)
-
--- a command with a hint, a number of steps and a key: the hint is a pointer or an index
-unfoldable pub from_pointer : (Pointer → ℕ → ℤ → PairCommand) → List (List ℕ) → Result PairCommand FaultKind
-from_pointer command arguments = do
-  three ← three_arguments arguments
-  pointer ← pointer_in three.0
-  count ← count_in three.1
-  key ← key_in three.2
-  Ok (command pointer count key)
-
-unfoldable pub from_index : (ℕ → ℕ → ℤ → PairCommand) → List (List ℕ) → Result PairCommand FaultKind
-from_index command arguments = do
-  three ← three_arguments arguments
-  index ← index_in three.0
-  count ← count_in three.1
-  key ← key_in three.2
-  Ok (command index count key)
-
-unfoldable pub alone : PairCommand → List (List ℕ) → Result PairCommand FaultKind
-alone command arguments = do
-  none ← no_argument arguments
-  Ok command
+-- a command without arguments
+abbrev pub alone : PairCommand → List (List ℕ) → Result PairCommand FaultKind
+alone command = taking nothing (λ _. command)
 
 -- the command that a word begins
 abbrev pub command_by : Word → List (List ℕ) → Result PairCommand FaultKind
-command_by words.Insert arguments = with_pair commands.Insert arguments
-command_by words.Set arguments = with_pointer_and_pair commands.Set arguments
-command_by words.Remove arguments = with_pointer commands.Remove arguments
-command_by words.RemoveInx arguments = with_index commands.RemoveInx arguments
-command_by words.Invalidate arguments = with_pointer commands.Invalidate arguments
-command_by words.Clear arguments = alone commands.Clear arguments
-command_by words.IncGeneration arguments = alone commands.IncGeneration arguments
-command_by words.Compress arguments = with_flag commands.Compress arguments
-command_by words.Canonical arguments = with_flag commands.Canonical arguments
-command_by words.Find arguments = with_key commands.Find arguments
-command_by words.FindLinear arguments = from_pointer commands.FindLinear arguments
-command_by words.Similar arguments = with_key commands.Similar arguments
-command_by words.SimilarLinear arguments = from_index commands.SimilarLinear arguments
-command_by words.Visits arguments = with_key commands.Visits arguments
-command_by words.Get arguments = with_pointer commands.Get arguments
-command_by words.First arguments = alone commands.First arguments
-command_by words.Last arguments = alone commands.Last arguments
-command_by words.Neighbours arguments = with_index commands.Neighbours arguments
-command_by words.List arguments = alone commands.List arguments
-command_by words.Ranks arguments = alone commands.Ranks arguments
-command_by words.Check arguments = alone commands.Check arguments
-command_by words.DrainOrdered arguments = with_count commands.DrainOrdered arguments
-command_by words.Stats arguments = alone commands.Stats arguments
+command_by words.Insert = taking key_and_value commands.Insert
+command_by words.Set = taking (both (one pointer_of) key_and_value) (λ a. commands.Set a.0 a.1)
+command_by words.Remove = taking (one pointer_of) commands.Remove
+command_by words.RemoveInx = taking (one index_of) commands.RemoveInx
+command_by words.Invalidate = taking (one pointer_of) commands.Invalidate
+command_by words.Clear = alone commands.Clear
+command_by words.IncGeneration = alone commands.IncGeneration
+command_by words.Compress = taking (one flag_of) commands.Compress
+command_by words.Canonical = taking (one flag_of) commands.Canonical
+command_by words.Find = taking (one key_of) commands.Find
+command_by words.FindLinear = taking (both (one pointer_of) (both (one value_of) (one key_of))) (λ a. commands.FindLinear a.0 a.1.0 a.1.1)
+command_by words.Similar = taking (one key_of) commands.Similar
+command_by words.SimilarLinear = taking (both (one index_of) (both (one value_of) (one key_of))) (λ a. commands.SimilarLinear a.0 a.1.0 a.1.1)
+command_by words.Visits = taking (one key_of) commands.Visits
+command_by words.Get = taking (one pointer_of) commands.Get
+command_by words.First = alone commands.First
+command_by words.Last = alone commands.Last
+command_by words.Neighbours = taking (one index_of) commands.Neighbours
+command_by words.List = alone commands.List
+command_by words.Ranks = alone commands.Ranks
+command_by words.Check = alone commands.Check
+command_by words.DrainOrdered = taking (one value_of) commands.DrainOrdered
+command_by words.Stats = alone commands.Stats
 
 -- the word that begins a command
 abbrev pub word_of : PairCommand → Word

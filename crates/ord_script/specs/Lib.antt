@@ -4,6 +4,7 @@ pub mod Machine
 pub mod Pairs
 pub mod Text
 pub mod Numbers
+pub mod Arguments
 pub mod Commands
 pub mod Script
 pub mod Service

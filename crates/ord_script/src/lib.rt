@@ -4,6 +4,7 @@
 //! arena of pairs, and writes a line for each reply. `laws` has facts about every run and every script.
 #![tactic(auto)]
 
+mod arguments;
 mod command;
 mod cutting;
 mod fault;
