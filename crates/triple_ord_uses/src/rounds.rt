@@ -4,7 +4,7 @@ ghost use Rattle.std.specs.Prelude.{◌≡◌, false, Some, None, IfSome, is_som
 ghost use Rattle.triple_ord.specs.Arena.{item_of, count, Updates, FindsNothing};
 
 use crate::scheduler::Jobs;
-use triple_ord::{Advancer, InvalidationOption, OrderedPtrAdvancer, P0, PtrAdvancer};
+use triple_ord::{Advancer, OrderedPtrAdvancer, P0, PtrAdvancer};
 
 /// A round over the jobs from one of them on; `None` where the pointer names none.
 pub fn round_from(jobs: &Jobs, p: P0) -> Option<OrderedPtrAdvancer<P0>>
@@ -41,8 +41,7 @@ pub fn first_of_drain(jobs: &mut Jobs) -> Option<(P0, u64, u64)>
     let mut drain = jobs.drain_ordered();
     let taken = drain.next();
     drain.keep_rest();
-    let (InvalidationOption::Success((p, pair))
-    | InvalidationOption::GenerationOverflow((p, pair))) = taken?;
+    let (p, pair) = taken?.allow();
     Some((p, *pair.k(), *pair.v()))
 }
 
@@ -52,8 +51,7 @@ pub fn last_job(jobs: &mut Jobs) -> Option<(u64, u64)>
     ensures count { count jobs.new ≡ 0 }
 {
     let mut drain = jobs.drain_ordered();
-    let (InvalidationOption::Success((_, pair))
-    | InvalidationOption::GenerationOverflow((_, pair))) = drain.next()?;
+    let (_, pair) = drain.next()?.allow();
     Some((*pair.k(), *pair.v()))
 }
 
