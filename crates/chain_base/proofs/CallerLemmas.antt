@@ -1,11 +1,11 @@
 -- For callers: what an index finds in the list, and how many entries there are, after each change.
-use Rattle.std.proofs.Common.{◌≡◌, ◌≢◌, ℕ, zero, suc, ◌+◌, ◌<◌, ◌≤◌, List, [], ◌∷◌, ◌++◌, length, map, slice_get, slice_index_or, Option, Some, None, IsSome, refl, sym, ap, ◌∙◌, arith, inl, inr}
+use Rattle.std.proofs.Common.{◌≡◌, ◌≢◌, ℕ, zero, suc, ◌+◌, ◌<◌, ◌≤◌, List, [], ◌∷◌, ◌++◌, length, map, slice_get, slice_index_or, Option, Some, None, IsSome, is_some, append_assoc, refl, sym, ap, ◌∙◌, arith, inl, inr}
 use Rattle.std.proofs.lemmas.Bool.Decides.{eqb_tells, leb_tells}
 use Rattle.std.proofs.lemmas.Option.{slice_get_cases, slice_get_within, get_or_from_slice_get}
 use Rattle.std.specs.Option.{option_map}
-use Rattle.chain_base.specs.Chain.{Entry, times, IsDistinct, entry_at, without, with_item, with_generation}
+use Rattle.chain_base.specs.Chain.{Entry, times, IsDistinct, entry_at, insert_after, insert_before, without, with_item, with_generation}
 use Rattle.chain_base.specs.Compression.{lesser, place_of, moved, at_place, numbered}
-use Rattle.chain_base.proofs.Lists.{times-here, with_item-changed_at, with_generation-changed_at, entry_at-changed_at_other, entry_at-changed_at, length-changed_at}
+use Rattle.chain_base.proofs.Lists.{times-here, Stands-occurs, insert_after-split, insert_before-split, with_item-changed_at, with_generation-changed_at, entry_at-changed_at_other, entry_at-changed_at, length-changed_at}
 use Rattle.chain_base.proofs.Canonical.{entry-absent}
 use Rattle.chain_base.proofs.Ranking.{place-injective}
 use Rattle.chain_base.proofs.Renumbering.{times-source}
@@ -36,6 +36,13 @@ module _ {T : Type 0} where
     | inr h ↦
         let there : times i (e ∷ es) ≡ 0 + times i es = rw h.0 refl in
         rw h.0 (entry_at-absent es i (omega (arith, there, never)))
+  ]
+
+  -- an index that finds an entry stands in the list
+  pub entry-occurs : (es : List (Entry T)) (i : ℕ) → IsSome (entry_at es i) → 1 ≤ times i es
+  entry-occurs es i there = elim (eqb_tells (times i es) 0) [
+    | inl h ↦ absurd (let none = ap is_some (entry_at-absent es i h.1) in cc)
+    | inr h ↦ omega (arith, h.1)
   ]
 
   -- without the entry of an index, every other index finds what it found
@@ -124,6 +131,24 @@ module _ {T : Type 0} where
   pub length-between : (front : List (Entry T)) (new : Entry T) (back : List (Entry T)) → length (front ++ new ∷ back) ≡ length (front ++ back) + 1
   length-between [] new back = omega arith
   length-between (f ∷ front) new back = omega (arith, length-between front new back)
+
+  -- a new entry directly after one that is there stands between two stretches
+  pub insert_after-between : (es : List (Entry T)) (i : ℕ) → IsSome (entry_at es i)
+      → (front : List (Entry T)) × (back : List (Entry T)) × (es ≡ front ++ back) × ((new : Entry T) → insert_after i new es ≡ front ++ new ∷ back)
+  insert_after-between es i there =
+      let s = Stands-occurs es i (entry-occurs es i there) in (
+        s.front ++ s.entry ∷ [],
+        s.back,
+        s.split ∙ sym (append_assoc s.front (s.entry ∷ []) s.back),
+        λ new. ap (insert_after i new) s.split ∙ insert_after-split s.front s.entry new s.back i s.here s.unmet ∙ sym (append_assoc s.front (s.entry ∷ []) (new ∷ s.back)),
+      )
+
+  -- and so directly before it
+  pub insert_before-between : (es : List (Entry T)) (i : ℕ) → IsSome (entry_at es i)
+      → (front : List (Entry T)) × (back : List (Entry T)) × (es ≡ front ++ back) × ((new : Entry T) → insert_before i new es ≡ front ++ new ∷ back)
+  insert_before-between es i there =
+      let s = Stands-occurs es i (entry-occurs es i there) in
+      (s.front, s.entry ∷ s.back, s.split, λ new. ap (insert_before i new) s.split ∙ insert_before-split s.front s.entry new s.back i s.here s.unmet)
 
 module _ {T : Type 0} where
   -- among entries numbered in a row, each number finds the item of its place

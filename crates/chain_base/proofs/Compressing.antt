@@ -11,7 +11,7 @@ use Rattle.arena_base.specs.Walk.{entries_from, entries_rising as slots_rising}
 use Rattle.chain_base.specs.Link.{Link}
 use Rattle.chain_base.specs.Chain.{Entry, Chain, times, entry_at, first_or, last_or, link_at, vacant_indexes}
 use Rattle.chain_base.specs.Layout.{chain_of, IsLaidOut}
-use Rattle.chain_base.specs.Compression.{lesser, place_of, rising_among, moved, compressed, IsCompression}
+use Rattle.chain_base.specs.Compression.{lesser, place_of, rising_among, moved, IsCompression}
 use Rattle.chain_base.specs.Naming.{with_facing, named, place_in, bare, IsPaired, NamesPlaces, CompressesItems}
 use Rattle.chain_base.specs.declared.chain.compress.Side.TheVariants.{Before, After}
 use Rattle.chain_base.proofs.Lists.{times-last, link_between-absent, entry_at-link, Stands-occurs}

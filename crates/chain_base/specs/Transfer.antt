@@ -1,5 +1,5 @@
 -- The steps of a transfer. No public clause cites this file.
-use Rattle.std.specs.Prelude.{◌≡◌, ℕ, zero, suc, ◌+◌, List, [], ◌∷◌, ◌++◌, length, Option, Some, None}
+use Rattle.std.specs.Prelude.{◌≡◌, ℕ, zero, suc, List, [], ◌∷◌, ◌++◌, length, Option, Some, None}
 use Rattle.std.specs.List.{FoldsTo}
 use Rattle.arena_base.specs.Generation.{next_generation, overflows_after}
 use Rattle.arena_base.specs.Invalidation.{allowed_value, is_overflow}
@@ -7,7 +7,7 @@ use Rattle.arena_base.specs.declared.invalidation.InvalidationOption.{Invalidati
 use Rattle.chain_base.specs.declared.chain.insert.LinkInsertKind.{LinkInsertKind}
 use Rattle.chain_base.specs.declared.chain.insert.LinkInsertKind.TheVariants.{Disconnected, NextToInx}
 use Rattle.chain_base.specs.Chain.{Entry, Chain}
-use Rattle.chain_base.specs.Compression.{numbered, refilled, Transferring, TransferStep}
+use Rattle.chain_base.specs.Compression.{numbered, refilled, TransferStep}
 
 -- c with entries of these items alone, at the indexes from 1 on
 abbrev pub filled_with : {T : Type 0} → Chain T → List T → Chain T

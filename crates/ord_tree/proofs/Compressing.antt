@@ -1,8 +1,6 @@
 -- A chain of nodes in which all entries are moved, as the list without the nodes sees it.
-use Rattle.std.proofs.Common.{◌≡◌, ℕ, zero, suc, ◌+◌, Option, Some, None, List, [], ◌∷◌, ◌++◌, map, length, arith, refl, sym, ◌∙◌, ap, subst, option_map, max, slice_index_or, nat_lt, if◌then◌else◌, Bool}
-use Rattle.std.proofs.lemmas.List.{length-map, map_push}
-use Rattle.std.specs.List.{FoldsTo}
-use Rattle.arena_base.specs.Compression.{CompressionStep}
+use Rattle.std.proofs.Common.{◌≡◌, ℕ, zero, suc, ◌+◌, Option, Some, None, List, [], ◌∷◌, map, length, refl, sym, ◌∙◌, ap, option_map, max, slice_index_or, nat_lt, if◌then◌else◌}
+use Rattle.std.proofs.lemmas.List.{length-map}
 use Rattle.chain_base.specs.Chain.{Entry, Chain, entry_at}
 use Rattle.chain_base.specs.Compression.{lesser, entry_before, rising_among, entries_rising, refilled, moved, compressed, at_place, relocated, numbered, canonical, replaced, left_empty, IsCompression, Transferring, IsTransfer}
 use Rattle.arena_base.specs.declared.invalidation.InvalidationOption.{InvalidationOption}

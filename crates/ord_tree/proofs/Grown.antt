@@ -106,7 +106,7 @@ module _ {P T I G : Type 0} (number : I → ℕ) (c d : Chain (SimpleOrdArenaNod
   slots_other : (j : ℕ) → j ≢ x → slots_of d j ≡ slots_of c j
   slots_other j ne =
       ap (λ (es : List (Entry (SimpleOrdArenaNode P T I G))). option_map (λ (e : ℕ × SimpleOrdArenaNode P T I G). links_in e.1) (entry_at es j)) entries
-      ∙ ap (option_map (λ (e : ℕ × SimpleOrdArenaNode P T I G). links_in e.1)) (put-other at.1 c.entries (number at.0) j (record { index = x; generation = g; item = leaf }) ne)
+      ∙ ap (option_map (λ (e : ℕ × SimpleOrdArenaNode P T I G). links_in e.1)) (put-other at.1 c.entries (number at.0) j (record { index = x; generation = g; item = leaf }) occupied ne)
 
   slots_x : slots_of d x ≡ Some (links_in leaf)
   slots_x =

@@ -3,6 +3,7 @@ use Rattle.std.proofs.Common.{◌≡◌, ◌≢◌, ℕ, ◌<◌, Option, Some, 
 use Rattle.std.proofs.lemmas.Bool.{cases_eq, eq-eqb, ne_eqb}
 use Rattle.chain_base.specs.Chain.{Entry, entry_at, times as entry_times, link_between, first_or, IsDistinct}
 use Rattle.chain_base.specs.Link.{Link}
+use Rattle.chain_base.proofs.CallerLemmas.{entry-occurs}
 use Rattle.ord_tree.specs.declared.links.Side.{Side}
 use Rattle.ord_tree.specs.declared.links.Side.TheVariants.{Lesser, Greater}
 use Rattle.ord_tree.specs.declared.links.Links.{Links}
@@ -13,7 +14,6 @@ use Rattle.ord_tree.specs.Slots.{Slots, Holds, times, IsOnce}
 use Rattle.ord_tree.specs.Node.{indexes}
 use Rattle.ord_tree.specs.Bud.{list_head, previous, following, neighbour_in, beside}
 use Rattle.ord_tree.specs.Plant.{IsBud}
-use Rattle.ord_tree.proofs.Forks.{here-same}
 use Rattle.ord_tree.proofs.Neighbours.{before_in, after_in, previous-neighbour, following-neighbour, between, first-within, second-within}
 
 module _ {T : Type 0} where
@@ -28,10 +28,7 @@ module _ {T : Type 0} where
   IsOnce-distinct es h j = omega (arith, h j, times-indexes es j)
 
   pub within-occupied : (es : List (Entry T)) (i : ℕ) → is_some (entry_at es i) ≡ true → 0 < times i (indexes es)
-  within-occupied [] i h = absurd cc
-  within-occupied (e ∷ es) i h =
-      ⊎_elim (λ (same : e.index ≡ i). rw (same) (omega (arith, here-same i)))
-      (λ (other : e.index ≢ i). omega (arith, within-occupied es i (rw (ne_eqb e.index i other) at h))) (cases_eq e.index i)
+  within-occupied es i there = omega (arith, entry-occurs es i there, times-indexes es i)
 
   -- the links of an entry lead to its neighbours
   head-first_or : (es : List (Entry T)) → first_or None es ≡ list_head (indexes es)

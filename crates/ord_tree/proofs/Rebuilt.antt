@@ -1,8 +1,9 @@
 -- A rebuild over a chain of nodes: what it asks of the chain, and what it makes of the tree.
-use Rattle.std.proofs.Common.{◌≡◌, ◌≢◌, ℕ, ◌<◌, ◌≤◌, Option, Some, None, List, [], ◌∷◌, map, arith, refl, sym, ◌∙◌, ap, subst, ⊎_elim, is_some, true}
-use Rattle.std.proofs.lemmas.Bool.{cases_eq, eq-eqb, ne_eqb}
+use Rattle.std.proofs.Common.{◌≡◌, ℕ, ◌<◌, ◌≤◌, Option, Some, None, List, [], ◌∷◌, map, arith, refl, sym, ◌∙◌, ap, subst, is_some, true}
+use Rattle.std.proofs.lemmas.Bool.{eq-eqb, ne_eqb}
 use Rattle.arena_base.specs.Pointer.{index_number}
 use Rattle.chain_base.specs.Chain.{Entry, Chain, entry_at, first_pointer, IsSound}
+use Rattle.chain_base.proofs.CallerLemmas.{occurs-entry}
 use Rattle.ord_tree.specs.declared.node.SimpleOrdArenaNode.{SimpleOrdArenaNode}
 use Rattle.ord_tree.specs.Slots.{times}
 use Rattle.ord_tree.specs.Node.{bare_entry, bare, links_in, slots_of, indexes}
@@ -19,13 +20,6 @@ use Rattle.ord_tree.proofs.Halves.{IsRanked-from_rebuilt}
 pub index-some : (n : ℕ) → 0 < n → is_some (index_number n) ≡ true
 index-some n some = rw (ne_eqb n 0 (λ e. omega arith)) refl
 
--- an index in the list has an entry
-occupied-within : {T : Type 0} (es : List (Entry T)) (i : ℕ) → 0 < times i (indexes es) → is_some (entry_at es i) ≡ true
-occupied-within [] i some = absurd (omega (arith, some))
-occupied-within (e ∷ es) i some =
-    ⊎_elim (λ (same : e.index ≡ i). rw (eq-eqb e.index i same) refl)
-    (λ (other : e.index ≢ i). rw (ne_eqb e.index i other) (occupied-within es i (omega (arith, (rw (ne_eqb i e.index (λ d. other (sym d))) at some))))) (cases_eq e.index i)
-
 -- the first pointer is that of an entry
 pub first-occupied : {T : Type 0} (es : List (Entry T)) (i g : ℕ) → Some (i, g) ≡ first_pointer es → is_some (entry_at es i) ≡ true
 first-occupied [] i g first = absurd (cc)
@@ -38,7 +32,7 @@ module _ {P T I G : Type 0} (c : Chain (SimpleOrdArenaNode P T I G)) where
   entry-occupied i some = sym (is_some-mapped (λ (e : ℕ × SimpleOrdArenaNode P T I G). links_in e.1) (entry_at c.entries i)) ∙ some
 
   pub slots-within : (i : ℕ) → 0 < times i (indexes c.entries) → is_some (slots_of c i) ≡ true
-  slots-within i some = is_some-mapped (λ (e : ℕ × SimpleOrdArenaNode P T I G). links_in e.1) (entry_at c.entries i) ∙ occupied-within c.entries i some
+  slots-within i some = is_some-mapped (λ (e : ℕ × SimpleOrdArenaNode P T I G). links_in e.1) (entry_at c.entries i) ∙ occurs-entry c.entries i (omega (arith, some, times-indexes c.entries i))
 
   -- so in the bare list
   pub slots-within_bare : (i : ℕ) → 0 < times i (indexes (map bare_entry c.entries)) → is_some (slots_of c i) ≡ true
