@@ -7,8 +7,8 @@ use Rattle.triple_ord.specs.declared.error.OrdInsertionError.TheVariants.{Failed
 use Rattle.ord_tree.specs.Tree.{Tree}
 use Rattle.ord_script.specs.declared.command.Command.TheVariants as commands
 use Rattle.ord_script.specs.declared.reply.Reply.TheVariants.{Inserted, Refused, Ranks}
-use Rattle.ord_script.specs.declared.word.Word.{Word}
-use Rattle.ord_script.specs.declared.word.Word.TheVariants as words
+use Rattle.ord_script.specs.declared.form.Form.{Form}
+use Rattle.ord_script.specs.declared.form.Form.TheVariants.{Plain}
 use Rattle.ord_script.specs.Arguments.{arguments_in}
 use Rattle.ord_script.specs.Machine.{State, Inserts, Runs}
 use Rattle.ord_script.specs.Pairs.{Pair, Pointer, PairCommand, PairReply, reading, beginning, answers_equal}
@@ -30,9 +30,9 @@ first_pointer item p new inserts =
     let index : 1 ≡ p.0 = cc in
     (sym index, inserts.inserted.generation)
 
--- their words, and the commands
-abbrev both_words : List Word
-both_words = words.Insert ∷ words.Ranks ∷ []
+-- the forms of their replies, and the commands
+abbrev both_forms : List Form
+both_forms = Plain ∷ Plain ∷ []
 
 abbrev both_commands : List PairCommand
 both_commands = commands.Insert (pos 5, 1) ∷ commands.Ranks ∷ []
@@ -44,7 +44,7 @@ module _ {A : Type 0} where
 
   -- these replies, as lines, are one of the answers
   abbrev AreAnswer : List (PairReply A) → Type 0
-  AreAnswer replies = Contains first_answers (reply_lines both_words replies)
+  AreAnswer replies = Contains first_answers (reply_lines both_forms replies)
 
   -- both replies, as lines
   first_lines : (item : Pair) (first second : PairReply A) (new : Tree Pair) → InsertsFirst item first new → AreFirstReplies (first ∷ second ∷ []) → AreAnswer (first ∷ second ∷ [])

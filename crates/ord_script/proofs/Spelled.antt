@@ -84,7 +84,7 @@ in_range command sayable = sayable
 pub command_text : (command : PairCommand) → CanBeSaid command → said_by (spelled command) ≡ Some (Ok command)
 command_text command sayable = said_by-spelled command sayable (recursion_from_All IsInRange (saying_of command).arguments (in_range command sayable))
 
--- the word of its reply
+-- the word that begins it
 pub command_word : (command : PairCommand) → word_text (word_of command) ≡ (saying_of command).word
 command_word (commands.Insert pair) = refl
 command_word command = refl

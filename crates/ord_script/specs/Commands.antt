@@ -103,7 +103,7 @@ word_of (commands.Find key) = words.Find
 word_of (commands.FindLinear pointer count key) = words.FindLinear
 word_of (commands.Similar key) = words.Similar
 word_of (commands.SimilarLinear index count key) = words.SimilarLinear
--- no line says these two; their replies are told as those of a search by key
+-- no line says these two; they stand with the searches by key
 word_of commands.FindWith = words.Find
 word_of commands.SimilarWith = words.Similar
 word_of (commands.Visits key) = words.Visits

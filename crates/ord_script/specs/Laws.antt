@@ -50,7 +50,7 @@ PointerTextLaw = (p : Pointer) → IsInRange (pointer p) → pointer_of (argumen
 abbrev pub CommandTextLaw : Type 0
 CommandTextLaw = (command : PairCommand) → CanBeSaid command → said_by (spelled command) ≡ Some (Ok command)
 
--- and the reply to it is told as that to a command of this word
+-- the word that begins a command is the one that a script says for it
 abbrev pub CommandWordLaw : Type 0
 CommandWordLaw = (command : PairCommand) → word_text (word_of command) ≡ (saying_of command).word
 

@@ -53,6 +53,20 @@ pub record Marks : Type 0 where
   -- no entry has come or gone since there was none, or since the last rebuild
   pub just_built : Bool
 
+-- what a step does to the entries: one more comes, one goes, the tree over them is built anew, or none of these
+pub data Effect : Type 0 where
+  adds : Effect
+  removes : Effect
+  rebuilds : Effect
+  keeps : Effect
+
+-- the marks that it leaves
+abbrev pub marked_by : Effect → Marks → Marks
+marked_by adds marks = record { only_inserted = marks.only_inserted; just_built = false }
+marked_by removes marks = record { only_inserted = false; just_built = false }
+marked_by rebuilds marks = record { only_inserted = false; just_built = true }
+marked_by keeps marks = marks
+
 -- the state of the machine
 pub record State (T : Type 0) : Type 0 where
   pub tree : Tree T
@@ -255,6 +269,23 @@ module _ {P T I G A : Type 0} where
       (len ≡ length t.list.entries) × (capacity ≡ t.list.capacity) × (generation g ≡ t.list.generation) × (maximum ≡ t.list.maximum)
   Counts generation t reply = ⊥
 
+  -- what a command that only asks may be told
+  abbrev pub Tells : {K : Type 0} → Reading P T I G K → State T → Command P T I G K → Reply P T A I G → Type 0
+  Tells r s (commands.Find k) reply = Finds r.key r.cmp r.pointer s k reply
+  Tells r s (commands.FindLinear p num k) reply = FindsFrom r.key r.cmp r.pointer s p num k reply
+  Tells r s (commands.Similar k) reply = FindsNear r.key r.cmp r.pointer s k reply
+  Tells r s (commands.SimilarLinear i num k) reply = FindsNearFrom r.key r.cmp r.pointer s (r.index i) num k reply
+  Tells r s (commands.Visits k) reply = Visits r.key r.cmp s k reply
+  Tells r s (commands.Get p) reply = Gets r.pointer s.tree p reply
+  Tells r s commands.First reply = IsEnd r.pointer (first_pointer s.tree.list.entries) reply
+  Tells r s commands.Last reply = IsEnd r.pointer (last_pointer s.tree.list.entries) reply
+  Tells r s (commands.Neighbours i) reply = HasNeighbours r.index s.tree i reply
+  Tells r s commands.List reply = Lists r.pointer s.tree reply
+  Tells r s commands.Ranks reply = Ranked s.tree reply
+  Tells r s commands.Check reply = Checks r.key r.cmp s.tree reply
+  Tells r s commands.Stats reply = Counts r.generation s.tree reply
+  Tells r s command reply = ⊥
+
   -- From the state old, the reply to the command may be this one, and the tree goes on to new. Of a search by a closure nothing is
   -- said here.
   abbrev pub Replies : {K : Type 0} → Reading P T I G K → State T → Command P T I G K → Reply P T A I G → Tree T → Type 0
@@ -270,39 +301,24 @@ module _ {P T I G A : Type 0} where
       Changes r.greatest old.tree (record old.tree { list = raised r.greatest old.tree.list }) reply new
   Replies r old (commands.Compress reset) reply new = Rebuilds r.greatest reset old.tree (relocated old.tree.list) reply new
   Replies r old (commands.Canonical reset) reply new = Rebuilds r.greatest reset old.tree (canonical old.tree.list) reply new
-  Replies r old (commands.Find k) reply new = Finds r.key r.cmp r.pointer old k reply × (new ≡ old.tree)
-  Replies r old (commands.FindLinear p num k) reply new =
-      FindsFrom r.key r.cmp r.pointer old p num k reply × (new ≡ old.tree)
-  Replies r old (commands.Similar k) reply new = FindsNear r.key r.cmp r.pointer old k reply × (new ≡ old.tree)
-  Replies r old (commands.SimilarLinear i num k) reply new =
-      FindsNearFrom r.key r.cmp r.pointer old (r.index i) num k reply × (new ≡ old.tree)
-  Replies r old (commands.Visits k) reply new = Visits r.key r.cmp old k reply × (new ≡ old.tree)
-  Replies r old (commands.Get p) reply new = Gets r.pointer old.tree p reply × (new ≡ old.tree)
-  Replies r old commands.First reply new = IsEnd r.pointer (first_pointer old.tree.list.entries) reply × (new ≡ old.tree)
-  Replies r old commands.Last reply new = IsEnd r.pointer (last_pointer old.tree.list.entries) reply × (new ≡ old.tree)
-  Replies r old (commands.Neighbours i) reply new = HasNeighbours r.index old.tree i reply × (new ≡ old.tree)
-  Replies r old commands.List reply new = Lists r.pointer old.tree reply × (new ≡ old.tree)
-  Replies r old commands.Ranks reply new = Ranked old.tree reply × (new ≡ old.tree)
-  Replies r old commands.Check reply new = Checks r.key r.cmp old.tree reply × (new ≡ old.tree)
   Replies r old (commands.DrainOrdered num) reply new = Drains r.greatest r.pointer old.tree num reply new
-  Replies r old commands.Stats reply new = Counts r.generation old.tree reply × (new ≡ old.tree)
-  Replies r old commands.FindWith reply new = ⊥
-  Replies r old commands.SimilarWith reply new = ⊥
+  Replies r old command reply new = Tells r old command reply × (new ≡ old.tree)
 
-  -- the marks that a reply leaves: a new entry keeps the first and ends the second, a removal ends both, and any other reply, also a
-  -- refusal, keeps both
-  abbrev pub marks_kept : Reply P T A I G → Marks → Marks
-  marks_kept (Inserted (New p) before) marks = record { only_inserted = marks.only_inserted; just_built = false }
-  marks_kept (Removed (Success taken)) marks = record { only_inserted = false; just_built = false }
-  marks_kept (Removed (GenerationOverflow taken)) marks = record { only_inserted = false; just_built = false }
-  marks_kept reply marks = marks
+  -- what a reply tells of the entries: a refusal keeps them
+  abbrev pub told_effect : Reply P T A I G → Effect
+  told_effect (Inserted (New p) before) = adds
+  told_effect (Removed (Success taken)) = removes
+  told_effect (Removed (GenerationOverflow taken)) = removes
+  told_effect reply = keeps
 
-  -- the marks after a command and its reply. Where no entry is left, both are true; else a rebuild ends the first and makes the second
-  -- true, and every other command leaves what its reply does.
+  abbrev pub effect_of : {K : Type 0} → Command P T I G K → Reply P T A I G → Effect
+  effect_of (commands.Compress reset) reply = rebuilds
+  effect_of (commands.Canonical reset) reply = rebuilds
+  effect_of command reply = told_effect reply
+
+  -- the marks after a command and its reply; where no entry is left, both are true
   abbrev pub marks_after : {K : Type 0} → Command P T I G K → Reply P T A I G → Tree T → Marks → Marks
-  marks_after (commands.Compress reset) reply new marks = settled new (record { only_inserted = false; just_built = true })
-  marks_after (commands.Canonical reset) reply new marks = settled new (record { only_inserted = false; just_built = true })
-  marks_after command reply new marks = settled new (marks_kept reply marks)
+  marks_after command reply new marks = settled new (marked_by (effect_of command reply) marks)
 
 -- The same with a closure, which searches by closure call: `asks f s g` where f is shown the entry of s, gives the answer of s and
 -- is left as g.

@@ -5,18 +5,17 @@ use Rattle.ord_script.specs.declared.fault.Fault.{Fault}
 use Rattle.ord_script.specs.declared.script_end.ScriptEnd.{ScriptEnd}
 use Rattle.ord_script.specs.declared.script_end.ScriptEnd.TheVariants as ends
 use Rattle.ord_script.specs.Devices.{limit}
-use Rattle.ord_script.specs.Commands.{word_of}
 use Rattle.ord_script.specs.Machine.{State, Runs}
 use Rattle.ord_script.specs.Pairs.{Pair, PairReply, reading, beginning, answers_equal}
 use Rattle.ord_script.specs.Script.{Script, script_of}
-use Rattle.ord_script.specs.Text.{reply_lines, fault_line}
+use Rattle.ord_script.specs.Text.{form_of, reply_lines, fault_line}
 
 -- The text answers the script: the replies of a run over its commands from an empty arena, and then its fault.
 pub record Answers (A : Type 0) (script : Script) (text : List ℕ) : Type 0 where
   pub replies : List (PairReply A)
   pub end : State Pair
   pub run : Runs reading answers_equal beginning tt script.commands replies end tt
-  pub lines : text ≡ reply_lines (map word_of script.commands) replies ++ fault_line script.fault
+  pub lines : text ≡ reply_lines (map form_of script.commands) replies ++ fault_line script.fault
 
 -- how a script ends where all goes well
 abbrev pub end_of : Option Fault → ScriptEnd

@@ -62,7 +62,7 @@ saying_of (commands.Find k) = record { word = codes "find"; arguments = key k �
 saying_of (commands.FindLinear p n k) = record { word = codes "find-linear"; arguments = pointer p ∷ count n ∷ key k ∷ [] }
 saying_of (commands.Similar k) = record { word = codes "similar"; arguments = key k ∷ [] }
 saying_of (commands.SimilarLinear i n k) = record { word = codes "similar-linear"; arguments = index i ∷ count n ∷ key k ∷ [] }
--- it says nothing for these two; their replies are told as those of a search by key
+-- it says nothing for these two; they stand with the searches by key
 saying_of commands.FindWith = record { word = codes "find"; arguments = [] }
 saying_of commands.SimilarWith = record { word = codes "similar"; arguments = [] }
 saying_of (commands.Visits k) = record { word = codes "visits"; arguments = key k ∷ [] }

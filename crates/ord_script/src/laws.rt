@@ -33,7 +33,7 @@ pub fn command_text_law()
     ensures { CommandTextLaw }
 {}
 
-/// The reply to a command is told as that to a command of the word that a script says for it.
+/// The word that begins a command is the one that a script says for it.
 pub fn command_word_law()
     ensures { CommandWordLaw }
 {}

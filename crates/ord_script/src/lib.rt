@@ -8,6 +8,7 @@ mod arguments;
 mod command;
 mod cutting;
 mod fault;
+mod form;
 pub mod laws;
 mod numbers;
 mod pairs;

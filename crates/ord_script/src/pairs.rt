@@ -50,6 +50,27 @@ impl fmt::Display for ShownPair {
     }
 }
 
+/// The pair that was there before, behind a space, if there was one.
+#[derive(Clone, Copy)]
+pub struct ShownBefore(pub Option<Pair>);
+
+impl fmt::Display for ShownBefore {
+    ghost use Rattle.std.specs.Prelude.{Some};
+    ghost use Rattle.ord_script.specs.Text.{before_text};
+
+    ghost output = { λ shown. Some (before_text shown.0) };
+
+    fn fmt<W: fmt::Write>(&self, f: &mut fmt::Formatter<W>) -> fmt::Result {
+        match self.0 {
+            Some(before) => {
+                let pair = ShownPair(before);
+                write!(f, " {pair}")
+            }
+            None => Ok(()),
+        }
+    }
+}
+
 /// A neighbour's index, or `-` for none.
 #[derive(Clone, Copy)]
 pub struct ShownNeighbour(pub Option<u32>);

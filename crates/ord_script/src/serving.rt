@@ -6,6 +6,7 @@ ghost use Rattle.ord_script.specs.Pairs.{Pair, reading, beginning, answers_equal
 ghost use Rattle.ord_script.specs.Script.{script_of};
 ghost use Rattle.ord_script.specs.Service.{Answers, Serves, end_of, is_answered, is_read_failed, is_write_failed};
 
+use crate::form::forms_of;
 use crate::pairs::{Pair, PairArena, PairCommand, PairReply};
 use crate::reading::{ReadError, read_all};
 use crate::running::run;
@@ -13,7 +14,6 @@ use crate::script::{Script, parse};
 use crate::script_end::ScriptEnd;
 use crate::text::text_of;
 use crate::watched::Watched;
-use crate::word::words_of;
 use crate::writing::write_all;
 use arena_base::P0;
 use std::alloc::{AllocError, Allocator};
@@ -73,9 +73,9 @@ fn answer_to<A: Allocator + Copy>(alloc: A, bytes: &[u8]) -> Result<Answer<A>, A
     ensures end { IfOk result (λ answer. answer.end ≡ end_of (script_of bytes.now).fault) }
 {
     let Script { commands, fault } = parse(alloc, bytes)?;
-    let words = words_of(alloc, &commands)?;
+    let forms = forms_of(alloc, &commands)?;
     let replies = replies_to(alloc, commands)?;
-    let text = text_of(alloc, &words, &replies, fault)?;
+    let text = text_of(alloc, &forms, &replies, fault)?;
     let end = match fault {
         None => ScriptEnd::Done,
         Some(fault) => ScriptEnd::Fault(fault.line, fault.kind),

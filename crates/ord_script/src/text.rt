@@ -1,30 +1,32 @@
 // Writes the lines that a script answers.
-ghost use Rattle.std.specs.Prelude.{◌≡◌, ◌++◌, [], ◌∷◌, IfOk, string_bytes, codes};
-ghost use Rattle.ord_script.specs.Text.{Adds, reply_lines, reply_line, fault_line, refusal_line, insertion_line, pointer_text, pair_text, old_line, taken_line, removal_line, now_line, renewal_line, change_line, place_text, search_line, similar_text, similar_line, order_text, count_line, item_line, place_line, links_text, neighbours_line, entries_line, ranks_line, order_line, stats_line, refusal_text};
+ghost use Rattle.std.specs.Prelude.{◌≡◌, ◌++◌, [], ◌∷◌, IfOk, string_bytes, codes, flat_map, decimal};
+ghost use Rattle.ord_script.specs.Text.{Adds, reply_lines, reply_text, fault_line, insertion_text, place_text, similar_text, order_text, item_word, item_text, taken_text, pointer_text, overflow_text, valid_text, change_word, links_text, entries_word, entry_text, sorted_text, stats_text, refusal_text};
+ghost use Rattle.arena_base.specs.Invalidation.{is_overflow};
 
 use crate::fault::Fault;
+use crate::form::Form;
 use crate::pairs::{
-    Pair, PairReply, ShownMaximum, ShownNeighbour, ShownOverflow, ShownPair, ShownPointer,
+    Pair, PairReply, ShownBefore, ShownMaximum, ShownNeighbour, ShownOverflow, ShownPair,
+    ShownPointer,
 };
 use crate::reply::Reply;
-use crate::word::Word;
 use arena_base::{InvalidationOption, InvalidationResult, P0};
 use std::alloc::{AllocError, Allocator};
 use std::cmp::Ordering;
 use std::fmt::Write;
 use triple_ord::{OrdEntryKind, OrdInsertionError};
 
-/// A line for each reply, and one for the fault, if there is one. Beside the replies stand the words of their commands.
+/// A line for each reply, and one for the fault, if there is one. Beside the replies stand their forms.
 pub fn text_of<A: Allocator>(
     alloc: A,
-    words: &[Word],
+    forms: &[Form],
     replies: &[PairReply<A>],
     fault: Option<Fault>,
 ) -> Result<String<A>, AllocError>
     ensures { IfOk result (λ text.
-        string_bytes text ≡ reply_lines words.now replies.now ++ fault_line fault) }
+        string_bytes text ≡ reply_lines forms.now replies.now ++ fault_line fault) }
 {
-    let mut text = lines_of(alloc, words, replies)?;
+    let mut text = lines_of(alloc, forms, replies)?;
     if let Some(fault) = fault {
         write!(text, "{fault}\n")?;
     }
@@ -33,197 +35,102 @@ pub fn text_of<A: Allocator>(
 
 fn lines_of<A: Allocator>(
     alloc: A,
-    words: &[Word],
+    forms: &[Form],
     replies: &[PairReply<A>],
 ) -> Result<String<A>, AllocError>
-    ensures { IfOk result (λ text. string_bytes text ≡ reply_lines words.now replies.now) }
+    ensures { IfOk result (λ text. string_bytes text ≡ reply_lines forms.now replies.now) }
 {
     let mut text = String::new(alloc);
-    for (word, reply) in words.iter().zip(replies) {
-        push_reply(&mut text, *word, reply)?;
+    for (form, reply) in forms.iter().zip(replies) {
+        push_reply(&mut text, *form, reply)?;
     }
     Ok(text)
 }
 
-/// The line of a reply. The same kind of reply is told differently for different commands.
+/// The line of a reply.
 fn push_reply<A: Allocator>(
     text: &mut String<A>,
-    word: Word,
+    form: Form,
     reply: &PairReply<A>,
 ) -> Result<(), AllocError>
-    ensures { Adds result text.old text.new (reply_line word reply.now) }
+    ensures { Adds result text.old text.new (reply_text form reply.now ++ 10 ∷ []) }
 {
-    match word {
-        Word::Insert => push_insertion(text, reply),
-        Word::Set => push_old(text, reply),
-        Word::Remove => push_removal(text, reply),
-        Word::RemoveInx => push_removal_at(text, reply),
-        Word::Invalidate => push_renewal(text, reply),
-        Word::Clear => push_change(text, "cleared", reply),
-        Word::IncGeneration | Word::Compress | Word::Canonical => push_change(text, "ok", reply),
-        Word::Find | Word::FindLinear => push_search(text, reply),
-        Word::Similar | Word::SimilarLinear => push_similar(text, reply),
-        Word::Visits => push_count(text, reply),
-        Word::Get => push_item(text, reply),
-        Word::First | Word::Last => push_end(text, reply),
-        Word::Neighbours => push_neighbours(text, reply),
-        Word::List => push_entries(text, "list", reply),
-        Word::Ranks => push_ranks(text, reply),
-        Word::Check => push_order(text, reply),
-        Word::DrainOrdered => push_entries(text, "drained", reply),
-        Word::Stats => push_stats(text, reply),
+    match reply {
+        Reply::Inserted(kind, before) => push_insertion(text, *kind, *before),
+        Reply::Refused(refusal) => push_refusal(text, *refusal),
+        Reply::Found(found, _) => push_place(text, *found),
+        Reply::Similar(found, _) => push_similar(text, *found),
+        Reply::Count(visits) => write!(text, "visits {visits}\n"),
+        Reply::Item(item) => push_item(text, item_word(form), *item),
+        Reply::Removed(removed) => push_removal(text, form, *removed),
+        Reply::Renewed(renewed) => push_renewal(text, *renewed),
+        Reply::Changed(changed) => push_change(text, change_word(form), *changed),
+        Reply::At(place) => push_place(text, *place),
+        Reply::Links(links) => push_links(text, *links),
+        Reply::Entries(entries) => push_entries(text, entries_word(form), entries),
+        Reply::Ranks(ranks) => push_ranks(text, ranks),
+        Reply::Sorted(sorted) => push_sorted(text, *sorted),
+        Reply::Stats(len, capacity, generation, maximum) => {
+            push_stats(text, *len, *capacity, *generation, *maximum)
+        }
     }
 }
 
 fn push_insertion<A: Allocator>(
     text: &mut String<A>,
-    reply: &PairReply<A>,
+    kind: OrdEntryKind<P0>,
+    before: Option<Pair>,
 ) -> Result<(), AllocError>
-    ensures { Adds result text.old text.new (insertion_line reply.now) }
+    ensures { Adds result text.old text.new (insertion_text kind before ++ 10 ∷ []) }
 {
-    match reply {
-        Reply::Inserted(OrdEntryKind::New(p), None) => {
-            let pointer = ShownPointer(*p);
-            write!(text, "new {pointer}\n")
+    let before = ShownBefore(before);
+    match kind {
+        OrdEntryKind::New(p) => {
+            let pointer = ShownPointer(p);
+            write!(text, "new {pointer}{before}\n")
         }
-        Reply::Inserted(OrdEntryKind::Replacing(p), Some(before)) => {
-            let pointer = ShownPointer(*p);
-            let pair = ShownPair(*before);
-            write!(text, "replaced {pointer} {pair}\n")
+        OrdEntryKind::Replacing(p) => {
+            let pointer = ShownPointer(p);
+            write!(text, "replaced {pointer}{before}\n")
         }
-        _ => push_refusal(text, reply),
     }
 }
 
-fn push_old<A: Allocator>(text: &mut String<A>, reply: &PairReply<A>) -> Result<(), AllocError>
-    ensures { Adds result text.old text.new (old_line reply.now) }
-{
-    match reply {
-        Reply::Item(Some(item)) => {
-            let pair = ShownPair(*item);
-            write!(text, "old {pair}\n")
-        }
-        Reply::Item(None) => write!(text, "none\n"),
-        _ => push_refusal(text, reply),
-    }
-}
-
-fn push_removal<A: Allocator>(text: &mut String<A>, reply: &PairReply<A>) -> Result<(), AllocError>
-    ensures { Adds result text.old text.new (removal_line (λ taken. pair_text taken.1) reply.now) }
-{
-    match reply {
-        Reply::Removed(InvalidationResult::Success(taken)) => push_item_taken(text, taken.1, false),
-        Reply::Removed(InvalidationResult::GenerationOverflow(taken)) => {
-            push_item_taken(text, taken.1, true)
-        }
-        Reply::Removed(InvalidationResult::InvalidPtr) => write!(text, "invalid\n"),
-        _ => push_refusal(text, reply),
-    }
-}
-
-fn push_item_taken<A: Allocator>(
+fn push_refusal<A: Allocator>(
     text: &mut String<A>,
-    item: Pair,
-    overflow: bool,
+    refusal: OrdInsertionError,
 ) -> Result<(), AllocError>
-    ensures { Adds result text.old text.new (taken_line (pair_text item) overflow) }
+    ensures { Adds result text.old text.new (codes "refused " ++ refusal_text refusal ++ 10 ∷ []) }
 {
-    let pair = ShownPair(item);
-    let overflow = ShownOverflow(overflow);
-    write!(text, "removed {pair}{overflow}\n")
+    let why = reason(refusal);
+    write!(text, "refused {why}\n")
 }
 
-fn push_removal_at<A: Allocator>(
-    text: &mut String<A>,
-    reply: &PairReply<A>,
-) -> Result<(), AllocError>
-    ensures { Adds result text.old text.new
-        (removal_line (λ taken. pointer_text taken.0 ++ codes " " ++ pair_text taken.1) reply.now) }
+/// Why a command was refused, in a word.
+fn reason(refusal: OrdInsertionError) -> &'static str
+    ensures { result.now ≡ refusal_text refusal }
 {
-    match reply {
-        Reply::Removed(InvalidationResult::Success(taken)) => {
-            push_entry_taken(text, taken.0, taken.1, false)
+    match refusal {
+        OrdInsertionError::FailedOrdRequirement => "order",
+        OrdInsertionError::NotWithinCapacity => "capacity",
+        OrdInsertionError::BeyondMaxCapacity => "maximum",
+        OrdInsertionError::AllocError => "memory",
+    }
+}
+
+fn push_place<A: Allocator>(text: &mut String<A>, place: Option<P0>) -> Result<(), AllocError>
+    ensures { Adds result text.old text.new (place_text place ++ 10 ∷ []) }
+{
+    match place {
+        Some(p) => {
+            let pointer = ShownPointer(p);
+            write!(text, "at {pointer}\n")
         }
-        Reply::Removed(InvalidationResult::GenerationOverflow(taken)) => {
-            push_entry_taken(text, taken.0, taken.1, true)
-        }
-        Reply::Removed(InvalidationResult::InvalidPtr) => write!(text, "invalid\n"),
-        _ => push_refusal(text, reply),
+        None => write!(text, "none\n"),
     }
 }
 
-fn push_entry_taken<A: Allocator>(
-    text: &mut String<A>,
-    p: P0,
-    item: Pair,
-    overflow: bool,
-) -> Result<(), AllocError>
-    ensures { Adds result text.old text.new
-        (taken_line (pointer_text p ++ codes " " ++ pair_text item) overflow) }
-{
-    let pointer = ShownPointer(p);
-    let pair = ShownPair(item);
-    let overflow = ShownOverflow(overflow);
-    write!(text, "removed {pointer} {pair}{overflow}\n")
-}
-
-fn push_renewal<A: Allocator>(text: &mut String<A>, reply: &PairReply<A>) -> Result<(), AllocError>
-    ensures { Adds result text.old text.new (renewal_line reply.now) }
-{
-    match reply {
-        Reply::Renewed(InvalidationResult::Success(p)) => push_now(text, *p, false),
-        Reply::Renewed(InvalidationResult::GenerationOverflow(p)) => push_now(text, *p, true),
-        Reply::Renewed(InvalidationResult::InvalidPtr) => write!(text, "invalid\n"),
-        _ => push_refusal(text, reply),
-    }
-}
-
-fn push_now<A: Allocator>(text: &mut String<A>, p: P0, overflow: bool) -> Result<(), AllocError>
-    ensures { Adds result text.old text.new (now_line p overflow) }
-{
-    let pointer = ShownPointer(p);
-    let overflow = ShownOverflow(overflow);
-    write!(text, "now {pointer}{overflow}\n")
-}
-
-fn push_change<A: Allocator>(
-    text: &mut String<A>,
-    word: &str,
-    reply: &PairReply<A>,
-) -> Result<(), AllocError>
-    ensures { Adds result text.old text.new (change_line word.now reply.now) }
-{
-    match reply {
-        Reply::Changed(result) => {
-            let overflow = ShownOverflow(matches!(
-                result,
-                InvalidationOption::GenerationOverflow(())
-            ));
-            write!(text, "{word}{overflow}\n")
-        }
-        _ => push_refusal(text, reply),
-    }
-}
-
-fn push_search<A: Allocator>(text: &mut String<A>, reply: &PairReply<A>) -> Result<(), AllocError>
-    ensures { Adds result text.old text.new (search_line reply.now) }
-{
-    match reply {
-        Reply::Found(found, _) => push_place(text, *found),
-        _ => push_refusal(text, reply),
-    }
-}
-
-fn push_similar<A: Allocator>(text: &mut String<A>, reply: &PairReply<A>) -> Result<(), AllocError>
-    ensures { Adds result text.old text.new (similar_line reply.now) }
-{
-    match reply {
-        Reply::Similar(found, _) => push_similar_place(text, *found),
-        _ => push_refusal(text, reply),
-    }
-}
-
-fn push_similar_place<A: Allocator>(
+fn push_similar<A: Allocator>(
     text: &mut String<A>,
     found: Option<(P0, Ordering)>,
 ) -> Result<(), AllocError>
@@ -250,58 +157,105 @@ fn order_word(order: Ordering) -> &'static str
     }
 }
 
-fn push_end<A: Allocator>(text: &mut String<A>, reply: &PairReply<A>) -> Result<(), AllocError>
-    ensures { Adds result text.old text.new (place_line reply.now) }
+fn push_item<A: Allocator>(
+    text: &mut String<A>,
+    word: &str,
+    item: Option<Pair>,
+) -> Result<(), AllocError>
+    ensures { Adds result text.old text.new (item_text word.now item ++ 10 ∷ []) }
 {
-    match reply {
-        Reply::At(place) => push_place(text, *place),
-        _ => push_refusal(text, reply),
-    }
-}
-
-fn push_place<A: Allocator>(text: &mut String<A>, place: Option<P0>) -> Result<(), AllocError>
-    ensures { Adds result text.old text.new (place_text place ++ 10 ∷ []) }
-{
-    match place {
-        Some(p) => {
-            let pointer = ShownPointer(p);
-            write!(text, "at {pointer}\n")
+    match item {
+        Some(item) => {
+            let pair = ShownPair(item);
+            write!(text, "{word} {pair}\n")
         }
         None => write!(text, "none\n"),
     }
 }
 
-fn push_count<A: Allocator>(text: &mut String<A>, reply: &PairReply<A>) -> Result<(), AllocError>
-    ensures { Adds result text.old text.new (count_line reply.now) }
+fn item_word(form: Form) -> &'static str
+    ensures { result.now ≡ item_word form }
 {
-    match reply {
-        Reply::Count(visits) => write!(text, "visits {visits}\n"),
-        _ => push_refusal(text, reply),
+    match form {
+        Form::Replaced => "old",
+        _ => "item",
     }
 }
 
-fn push_item<A: Allocator>(text: &mut String<A>, reply: &PairReply<A>) -> Result<(), AllocError>
-    ensures { Adds result text.old text.new (item_line reply.now) }
-{
-    match reply {
-        Reply::Item(Some(item)) => {
-            let pair = ShownPair(*item);
-            write!(text, "item {pair}\n")
-        }
-        Reply::Item(None) => write!(text, "none\n"),
-        _ => push_refusal(text, reply),
-    }
-}
-
-fn push_neighbours<A: Allocator>(
+fn push_removal<A: Allocator>(
     text: &mut String<A>,
-    reply: &PairReply<A>,
+    form: Form,
+    removed: InvalidationResult<(P0, Pair)>,
 ) -> Result<(), AllocError>
-    ensures { Adds result text.old text.new (neighbours_line reply.now) }
+    ensures { Adds result text.old text.new
+        (valid_text (λ taken. codes "removed " ++ taken_text form taken) removed ++ 10 ∷ []) }
 {
-    match reply {
-        Reply::Links(links) => push_links(text, *links),
-        _ => push_refusal(text, reply),
+    match removed {
+        InvalidationResult::Success(taken) => push_taken(text, form, taken, false),
+        InvalidationResult::GenerationOverflow(taken) => push_taken(text, form, taken, true),
+        InvalidationResult::InvalidPtr => write!(text, "invalid\n"),
+    }
+}
+
+fn push_taken<A: Allocator>(
+    text: &mut String<A>,
+    form: Form,
+    taken: (P0, Pair),
+    overflow: bool,
+) -> Result<(), AllocError>
+    ensures { Adds result text.old text.new
+        (codes "removed " ++ taken_text form taken ++ overflow_text overflow ++ 10 ∷ []) }
+{
+    let pointer = ShownPointer(taken.0);
+    let pair = ShownPair(taken.1);
+    let overflow = ShownOverflow(overflow);
+    match form {
+        Form::WithPointer => write!(text, "removed {pointer} {pair}{overflow}\n"),
+        _ => write!(text, "removed {pair}{overflow}\n"),
+    }
+}
+
+fn push_renewal<A: Allocator>(
+    text: &mut String<A>,
+    renewed: InvalidationResult<P0>,
+) -> Result<(), AllocError>
+    ensures { Adds result text.old text.new
+        (valid_text (λ p. codes "now " ++ pointer_text p) renewed ++ 10 ∷ []) }
+{
+    match renewed {
+        InvalidationResult::Success(p) => push_now(text, p, false),
+        InvalidationResult::GenerationOverflow(p) => push_now(text, p, true),
+        InvalidationResult::InvalidPtr => write!(text, "invalid\n"),
+    }
+}
+
+fn push_now<A: Allocator>(text: &mut String<A>, p: P0, overflow: bool) -> Result<(), AllocError>
+    ensures { Adds result text.old text.new
+        (codes "now " ++ pointer_text p ++ overflow_text overflow ++ 10 ∷ []) }
+{
+    let pointer = ShownPointer(p);
+    let overflow = ShownOverflow(overflow);
+    write!(text, "now {pointer}{overflow}\n")
+}
+
+fn push_change<A: Allocator>(
+    text: &mut String<A>,
+    word: &str,
+    changed: InvalidationOption<()>,
+) -> Result<(), AllocError>
+    ensures { Adds result text.old text.new
+        (word.now ++ overflow_text (is_overflow changed) ++ 10 ∷ []) }
+{
+    let overflow = ShownOverflow(matches!(changed, InvalidationOption::GenerationOverflow(())));
+    write!(text, "{word}{overflow}\n")
+}
+
+fn change_word(form: Form) -> &'static str
+    ensures { result.now ≡ change_word form }
+{
+    match form {
+        Form::Cleared => "cleared",
+        _ => "ok",
     }
 }
 
@@ -324,13 +278,11 @@ fn push_links<A: Allocator>(
 fn push_entries<A: Allocator>(
     text: &mut String<A>,
     word: &str,
-    reply: &PairReply<A>,
+    entries: &[(P0, Pair)],
 ) -> Result<(), AllocError>
-    ensures { Adds result text.old text.new (entries_line word.now reply.now) }
+    ensures { Adds result text.old text.new
+        (word.now ++ flat_map (λ e. codes " " ++ entry_text e) entries.now ++ 10 ∷ []) }
 {
-    let Reply::Entries(entries) = reply else {
-        return push_refusal(text, reply);
-    };
     text.push_str(word)?;
     for (p, item) in entries {
         let pointer = ShownPointer(*p);
@@ -340,12 +292,19 @@ fn push_entries<A: Allocator>(
     write!(text, "\n")
 }
 
-fn push_ranks<A: Allocator>(text: &mut String<A>, reply: &PairReply<A>) -> Result<(), AllocError>
-    ensures { Adds result text.old text.new (ranks_line reply.now) }
+fn entries_word(form: Form) -> &'static str
+    ensures { result.now ≡ entries_word form }
 {
-    let Reply::Ranks(ranks) = reply else {
-        return push_refusal(text, reply);
-    };
+    match form {
+        Form::Drained => "drained",
+        _ => "list",
+    }
+}
+
+fn push_ranks<A: Allocator>(text: &mut String<A>, ranks: &[u8]) -> Result<(), AllocError>
+    ensures { Adds result text.old text.new
+        (codes "ranks" ++ flat_map (λ k. codes " " ++ decimal k) ranks.now ++ 10 ∷ []) }
+{
     text.push_str("ranks")?;
     for rank in ranks {
         write!(text, " {rank}")?;
@@ -353,51 +312,29 @@ fn push_ranks<A: Allocator>(text: &mut String<A>, reply: &PairReply<A>) -> Resul
     write!(text, "\n")
 }
 
-fn push_order<A: Allocator>(text: &mut String<A>, reply: &PairReply<A>) -> Result<(), AllocError>
-    ensures { Adds result text.old text.new (order_line reply.now) }
+fn push_sorted<A: Allocator>(text: &mut String<A>, sorted: bool) -> Result<(), AllocError>
+    ensures { Adds result text.old text.new (sorted_text sorted ++ 10 ∷ []) }
 {
-    match reply {
-        Reply::Sorted(true) => write!(text, "ok\n"),
-        Reply::Sorted(false) => write!(text, "incorrect ordering\n"),
-        _ => push_refusal(text, reply),
+    if sorted {
+        write!(text, "ok\n")
+    } else {
+        write!(text, "incorrect ordering\n")
     }
 }
 
-fn push_stats<A: Allocator>(text: &mut String<A>, reply: &PairReply<A>) -> Result<(), AllocError>
-    ensures { Adds result text.old text.new (stats_line reply.now) }
+fn push_stats<A: Allocator>(
+    text: &mut String<A>,
+    len: usize,
+    capacity: usize,
+    generation: u64,
+    maximum: Option<usize>,
+) -> Result<(), AllocError>
+    ensures { Adds result text.old text.new
+        (stats_text len capacity generation maximum ++ 10 ∷ []) }
 {
-    match reply {
-        Reply::Stats(len, capacity, generation, maximum) => {
-            let maximum = ShownMaximum(*maximum);
-            write!(
-                text,
-                "len {len} capacity {capacity} generation {generation} max {maximum}\n"
-            )
-        }
-        _ => push_refusal(text, reply),
-    }
-}
-
-fn push_refusal<A: Allocator>(text: &mut String<A>, reply: &PairReply<A>) -> Result<(), AllocError>
-    ensures { Adds result text.old text.new (refusal_line reply.now) }
-{
-    match reply {
-        Reply::Refused(refusal) => {
-            let why = reason(*refusal);
-            write!(text, "refused {why}\n")
-        }
-        _ => Ok(()),
-    }
-}
-
-/// Why a command was refused, in a word.
-fn reason(refusal: OrdInsertionError) -> &'static str
-    ensures { result.now ≡ refusal_text refusal }
-{
-    match refusal {
-        OrdInsertionError::FailedOrdRequirement => "order",
-        OrdInsertionError::NotWithinCapacity => "capacity",
-        OrdInsertionError::BeyondMaxCapacity => "maximum",
-        OrdInsertionError::AllocError => "memory",
-    }
+    let maximum = ShownMaximum(maximum);
+    write!(
+        text,
+        "len {len} capacity {capacity} generation {generation} max {maximum}\n"
+    )
 }

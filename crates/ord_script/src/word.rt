@@ -1,10 +1,6 @@
 // The words that begin a command.
-ghost use Rattle.std.specs.Prelude.{◌≡◌, IfOk, map};
-ghost use Rattle.ord_script.specs.Commands.{word_text, all_words, word_in, word_of};
-
-use crate::command::Command;
-use crate::pairs::PairCommand;
-use std::alloc::{AllocError, Allocator};
+ghost use Rattle.std.specs.Prelude.{◌≡◌};
+ghost use Rattle.ord_script.specs.Commands.{word_text, all_words, word_in};
 
 /// The first word of a command.
 #[derive(Clone, Copy, Debug)]
@@ -104,51 +100,4 @@ pub fn word_in(text: &[u8]) -> Option<Word>
         }
     }
     None
-}
-
-/// The words that begin the commands.
-pub fn words_of<A: Allocator>(
-    alloc: A,
-    commands: &[PairCommand],
-) -> Result<Vec<Word, A>, AllocError>
-    ensures { IfOk result (λ words. words.items ≡ map word_of commands.now) }
-{
-    commands
-        .iter()
-        .map(|command| word_of(command))
-        .collect(alloc)
-}
-
-/// The word that begins a command.
-fn word_of(command: &PairCommand) -> Word
-    ensures { result ≡ word_of command.now }
-{
-    match command {
-        Command::Insert(_) => Word::Insert,
-        Command::Set(_, _) => Word::Set,
-        Command::Remove(_) => Word::Remove,
-        Command::RemoveInx(_) => Word::RemoveInx,
-        Command::Invalidate(_) => Word::Invalidate,
-        Command::Clear => Word::Clear,
-        Command::IncGeneration => Word::IncGeneration,
-        Command::Compress(_) => Word::Compress,
-        Command::Canonical(_) => Word::Canonical,
-        Command::Find(_) => Word::Find,
-        Command::FindLinear(_, _, _) => Word::FindLinear,
-        Command::Similar(_) => Word::Similar,
-        Command::SimilarLinear(_, _, _) => Word::SimilarLinear,
-        // no line says these two; their replies are told as those of a search by key
-        Command::FindWith => Word::Find,
-        Command::SimilarWith => Word::Similar,
-        Command::Visits(_) => Word::Visits,
-        Command::Get(_) => Word::Get,
-        Command::First => Word::First,
-        Command::Last => Word::Last,
-        Command::Neighbours(_) => Word::Neighbours,
-        Command::List => Word::List,
-        Command::Ranks => Word::Ranks,
-        Command::Check => Word::Check,
-        Command::DrainOrdered(_) => Word::DrainOrdered,
-        Command::Stats => Word::Stats,
-    }
 }

@@ -2,20 +2,20 @@ use Rattle.std.proofs.Common.{◌≡◌, ◌++◌, ◌⊎◌, inl, inr, List, []
 use Rattle.std.proofs.lemmas.Slice.Zip.{either_empty_from_Zip}
 use Rattle.std.specs.Iterator.Adapters.{zip_first, zip_second}
 use Rattle.std.specs.Slice.Iter.{iter_rest}
-use Rattle.ord_script.specs.declared.word.Word.{Word}
+use Rattle.ord_script.specs.declared.form.Form.{Form}
 use Rattle.ord_script.specs.Pairs.{PairReply}
 use Rattle.ord_script.specs.Text.{reply_lines}
 use Rattle.ord_script.proofs.text.lines_of.Goals as goal
 
--- no line is left where words or replies have ended
-reply_lines_none : {A : Type 0} (words : List Word) (replies : List (PairReply A)) → (words ≡ []) ⊎ (replies ≡ []) → reply_lines words replies ≡ []
+-- no line is left where forms or replies have ended
+reply_lines_none : {A : Type 0} (forms : List Form) (replies : List (PairReply A)) → (forms ≡ []) ⊎ (replies ≡ []) → reply_lines forms replies ≡ []
 reply_lines_none [] replies ended = refl
-reply_lines_none (w ∷ words) [] ended = refl
-reply_lines_none (w ∷ words) (r ∷ replies) (inl none) = cc
-reply_lines_none (w ∷ words) (r ∷ replies) (inr none) = cc
+reply_lines_none (f ∷ forms) [] ended = refl
+reply_lines_none (f ∷ forms) (r ∷ replies) (inl none) = cc
+reply_lines_none (f ∷ forms) (r ∷ replies) (inr none) = cc
 
 pub returns : goal.returns
 returns g c =
-    let left = c.loop-word.word-iterator in
+    let left = c.loop-form.form-iterator in
     let none = reply_lines_none (iter_rest (zip_first left)) (iter_rest (zip_second left)) (either_empty_from_Zip left c.next.new.self c.next.result c.in-None.is c.next.ensures.steps) in
-    sym (append-nil (string_bytes c.loop-word.text)) ∙ ap (λ lines. string_bytes c.loop-word.text ++ lines) (sym none) ∙ c.loop-word.invariant
+    sym (append-nil (string_bytes c.loop-form.text)) ∙ ap (λ lines. string_bytes c.loop-form.text ++ lines) (sym none) ∙ c.loop-form.invariant

@@ -5,6 +5,6 @@ use Rattle.ord_script.specs.Text.{reply_lines}
 use Rattle.ord_script.proofs.text.lines_of.Given as goal
 
 -- the lines so far, and then those of what is left
-abbrev pub invariant-loop-word : goal.invariant-loop-word
-invariant-loop-word g l =
-    string_bytes l.text ++ reply_lines (iter_rest (zip_first l.word-iterator)) (iter_rest (zip_second l.word-iterator)) ≡ reply_lines l.words l.replies
+abbrev pub invariant-loop-form : goal.invariant-loop-form
+invariant-loop-form g l =
+    string_bytes l.text ++ reply_lines (iter_rest (zip_first l.form-iterator)) (iter_rest (zip_second l.form-iterator)) ≡ reply_lines l.forms l.replies

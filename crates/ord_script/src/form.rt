@@ -1,0 +1,47 @@
+// How the reply to a command is told.
+ghost use Rattle.std.specs.Prelude.{◌≡◌, IfOk, map};
+ghost use Rattle.ord_script.specs.Text.{form_of};
+
+use crate::command::Command;
+use crate::pairs::PairCommand;
+use std::alloc::{AllocError, Allocator};
+
+/// How a reply is told: like each of its kind, unless its command is named here.
+#[derive(Clone, Copy, Debug)]
+pub enum Form {
+    Plain,
+    /// `Command::Set`: the item is the old one.
+    Replaced,
+    /// `Command::RemoveInx`: the item's pointer is told too.
+    WithPointer,
+    /// `Command::Clear`: no entry is left.
+    Cleared,
+    /// `Command::DrainOrdered`: the entries were taken out.
+    Drained,
+}
+
+/// The forms of the replies to these commands.
+pub fn forms_of<A: Allocator>(
+    alloc: A,
+    commands: &[PairCommand],
+) -> Result<Vec<Form, A>, AllocError>
+    ensures { IfOk result (λ forms. forms.items ≡ map form_of commands.now) }
+{
+    commands
+        .iter()
+        .map(|command| form_of(command))
+        .collect(alloc)
+}
+
+/// The form of the reply to a command.
+fn form_of(command: &PairCommand) -> Form
+    ensures { result ≡ form_of command.now }
+{
+    match command {
+        Command::Set(_, _) => Form::Replaced,
+        Command::RemoveInx(_) => Form::WithPointer,
+        Command::Clear => Form::Cleared,
+        Command::DrainOrdered(_) => Form::Drained,
+        _ => Form::Plain,
+    }
+}
