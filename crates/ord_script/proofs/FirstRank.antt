@@ -11,7 +11,7 @@ use Rattle.triple_ord.specs.Node.{IsPart}
 use Rattle.triple_ord.specs.Insertion.{InsertsNew}
 use Rattle.triple_ord.specs.declared.entry_kind.OrdEntryKind.TheVariants.{New, Replacing}
 use Rattle.triple_ord.specs.declared.error.OrdInsertionError.{OrdInsertionError}
-use Rattle.triple_ord.specs.declared.error.OrdInsertionError.TheVariants.{FailedOrdRequirement, NotWithinCapacity, BeyondMaxCapacity, AllocError}
+use Rattle.triple_ord.specs.declared.error.OrdInsertionError.TheVariants.{BeyondMaxCapacity, AllocError}
 use Rattle.ord_script.specs.declared.reply.Reply.{Reply}
 use Rattle.ord_script.specs.declared.reply.Reply.TheVariants.{Inserted, Refused, Ranks}
 use Rattle.ord_script.specs.Machine.{Reading, HasRank, HaveRanks, Inserts, Ranked}
@@ -77,18 +77,12 @@ module _ {P T I G A K : Type 0} (r : Reading P T I G K) (old new : Tree T) (none
       let first = new_alone r.key r.cmp r.most old new item (r.pointer p) none inserts in
       one_rank new.shape first.0 ranks.items (sound.listed ∙ ap (map (λ e. e.index)) first.1) sound.ranked (subst (λ (es : List (Entry T)). HaveRanks new.shape es ranks.items) first.1 ranked)
   ranks_of_new item p (Refused AllocError) inserts ranked = tt
-  ranks_of_new item p (Refused BeyondMaxCapacity) inserts ranked = absurd ranked
-  ranks_of_new item p (Refused NotWithinCapacity) inserts ranked = absurd ranked
-  ranks_of_new item p (Refused FailedOrdRequirement) inserts ranked = absurd ranked
   ranks_of_new item p second inserts ranked = absurd ranked
 
   -- the ranks after a refusal
   ranks_of_none : (refusal : OrdInsertionError) (second : Reply P T A I G) → new ≡ old → Ranked new second → AreFirstReplies (Refused refusal ∷ second ∷ [])
   ranks_of_none refusal (Ranks ranks) same ranked = no_ranks new.shape new.list.entries ranks.items (ap (λ t. t.list.entries) same ∙ none) ranked
   ranks_of_none refusal (Refused AllocError) same ranked = absurd (omega (arith, ranked, ap length (ap (λ t. t.list.entries) same ∙ none)))
-  ranks_of_none refusal (Refused BeyondMaxCapacity) same ranked = absurd ranked
-  ranks_of_none refusal (Refused NotWithinCapacity) same ranked = absurd ranked
-  ranks_of_none refusal (Refused FailedOrdRequirement) same ranked = absurd ranked
   ranks_of_none refusal second same ranked = absurd ranked
 
   -- both replies, from the first
@@ -97,10 +91,6 @@ module _ {P T I G A K : Type 0} (r : Reading P T I G K) (old new : Tree T) (none
   first_and_ranks item (Inserted (Replacing p) (Some before)) second inserts ranked = absurd (omega (arith, inserts.met.within.1, ap length none))
   first_and_ranks item (Refused BeyondMaxCapacity) second inserts ranked = ranks_of_none BeyondMaxCapacity second inserts.after ranked
   first_and_ranks item (Refused AllocError) second inserts ranked = ranks_of_none AllocError second inserts.after ranked
-  first_and_ranks item (Inserted (New p) (Some before)) second inserts ranked = absurd inserts
-  first_and_ranks item (Inserted (Replacing p) None) second inserts ranked = absurd inserts
-  first_and_ranks item (Refused FailedOrdRequirement) second inserts ranked = absurd inserts
-  first_and_ranks item (Refused NotWithinCapacity) second inserts ranked = absurd inserts
   first_and_ranks item first second inserts ranked = absurd inserts
 
 -- a run over both commands

@@ -21,8 +21,9 @@ nothing-reads = record { reads = λ range rest. refl }
 one-reads : {X : Type 0} (of : List ℕ → Option X) (a : Argument) (x : X) → (IsInRange a → of (argument_text a) ≡ Some x) → Reads (one of) (a ∷ []) x
 one-reads of a x text = record { reads = λ range rest. ap (λ read. Some (read, rest)) (text range.0) }
 
-both-reads : {X Y : Type 0} {first : Reader X} {second : Reader Y} {a : Argument} {arguments : List Argument} {x : X} {y : Y} → Reads first (a ∷ []) x → Reads second arguments y → Reads (both first second) (a ∷ arguments) (x, y)
-both-reads front back = record { reads = λ range rest. rw (front.reads (range.0, tt) _, back.reads range.1 rest) refl }
+module _ {Y : Type 0} {second : Reader Y} {arguments : List Argument} {y : Y} where
+  both-reads : {X : Type 0} {first : Reader X} {a : Argument} {x : X} → Reads first (a ∷ []) x → Reads second arguments y → Reads (both first second) (a ∷ arguments) (x, y)
+  both-reads front back = record { reads = λ range rest. rw (front.reads (range.0, tt) _, back.reads range.1 rest) refl }
 
 -- each kind of argument
 key-reads : (k : ℤ) → Reads (one key_of) (key k ∷ []) k
@@ -47,11 +48,12 @@ pair-reads : (p : Pair) → Reads key_and_value (pair_arguments p) p
 pair-reads p = both-reads (key-reads p.0) (value-reads p.1)
 
 -- the command that takes them
-taken : {X : Type 0} {reader : Reader X} {arguments : List Argument} {x : X} (command : X → PairCommand) → Reads reader arguments x → AllByRecursion IsInRange arguments → Some (taking reader command (map argument_text arguments)) ≡ Some (Ok (command x))
-unfolding arguments_in
-taken {reader = reader} {arguments = arguments} command read range =
-    ap (λ words. Some (taking reader command words)) (sym (append-nil (map argument_text arguments)))
-    ∙ ap (λ found. Some (none_left found >>= λ x. Ok (command x))) (read.reads range [])
+module _ {X : Type 0} {reader : Reader X} {arguments : List Argument} {x : X} where
+  taken : (command : X → PairCommand) → Reads reader arguments x → AllByRecursion IsInRange arguments → Some (taking reader command (map argument_text arguments)) ≡ Some (Ok (command x))
+  unfolding arguments_in
+  taken command read range =
+      ap (λ words. Some (taking reader command words)) (sym (append-nil (map argument_text arguments)))
+      ∙ ap (λ found. Some (none_left found >>= λ x. Ok (command x))) (read.reads range [])
 
 -- each command
 said_by-spelled : (command : PairCommand) → CanBeSaid command → AllByRecursion IsInRange (saying_of command).arguments → said_by (spelled command) ≡ Some (Ok command)

@@ -76,7 +76,8 @@ command_by words.Canonical = taking (one flag_of) commands.Canonical
 command_by words.Find = taking (one key_of) commands.Find
 command_by words.FindLinear = taking (both (one pointer_of) (both (one value_of) (one key_of))) (λ a. commands.FindLinear a.0 a.1.0 a.1.1)
 command_by words.Similar = taking (one key_of) commands.Similar
-command_by words.SimilarLinear = taking (both (one index_of) (both (one value_of) (one key_of))) (λ a. commands.SimilarLinear a.0 a.1.0 a.1.1)
+command_by words.SimilarLinear =
+    taking (both (one index_of) (both (one value_of) (one key_of))) (λ a. commands.SimilarLinear a.0 a.1.0 a.1.1)
 command_by words.Visits = taking (one key_of) commands.Visits
 command_by words.Get = taking (one pointer_of) commands.Get
 command_by words.First = alone commands.First

@@ -48,28 +48,18 @@ pub record Serves (A : Type 0) (end : ScriptEnd) (unread unread' contents conten
 
 -- the whole input was read and answered, at least in part
 abbrev pub is_answered : ScriptEnd → Bool
-is_answered ends.Done = true
-is_answered (ends.Fault line kind) = true
-is_answered ends.WriteFailed = true
 is_answered ends.TooLong = false
 is_answered ends.Memory = false
 is_answered ends.ReadFailed = false
+is_answered end = true
 
 abbrev pub is_read_failed : ScriptEnd → Bool
 is_read_failed ends.ReadFailed = true
-is_read_failed ends.Done = false
-is_read_failed (ends.Fault line kind) = false
-is_read_failed ends.WriteFailed = false
-is_read_failed ends.TooLong = false
-is_read_failed ends.Memory = false
+is_read_failed end = false
 
 abbrev pub is_write_failed : ScriptEnd → Bool
 is_write_failed ends.WriteFailed = true
-is_write_failed ends.Done = false
-is_write_failed (ends.Fault line kind) = false
-is_write_failed ends.TooLong = false
-is_write_failed ends.Memory = false
-is_write_failed ends.ReadFailed = false
+is_write_failed end = false
 
 -- the exit status of a program that ends so
 abbrev pub status_of : ScriptEnd → ℕ
