@@ -312,6 +312,7 @@ where
 }
 
 /// Two walks, and what they give next.
+#[derive(Drop)]
 struct Walks {
     up: PtrAdvancer<P0>,
     down: PtrAdvancer<P0>,
