@@ -1,9 +1,9 @@
 ghost use Rattle.std.specs.Prelude.{◌≡◌, IfErr, IsTrue};
 
 use arena_base::{
-    Advancer, Arena, ArenaTrait, CompactArenaTrait, InsertionError, InvalidationOption, InvalidationResult,
-    MaxCapacityReductionError, P0, P8, PN, Ptr, PtrAdvancer, PtrGen, PtrInx, Q0, ReallocationError, Recast, Recaster,
-    SetMaxCapacity, laws,
+    Advancer, Arena, ArenaTrait, CompactArenaTrait, InsertionError, InvalidationOption,
+    InvalidationResult, MaxCapacityReductionError, P0, P8, PN, Ptr, PtrAdvancer, PtrGen, PtrInx,
+    Q0, ReallocationError, Recast, Recaster, SetMaxCapacity, laws,
 };
 use linked_list_allocator::LocalHeap;
 use std::alloc::{AllocError, Allocator, Global};
@@ -320,7 +320,10 @@ struct Walks {
 
 impl Walks {
     fn give(&mut self, rt: &impl Abort, arena: &Arena<P0, u64>, up: Option<P0>, down: Option<P0>) {
-        assert_eq!(rt; (self.up.advance(arena), self.down.advance(arena)), (up, down));
+        assert_eq!(rt;
+            (self.up.advance(arena), self.down.advance(arena)),
+            (up, down)
+        );
     }
 }
 

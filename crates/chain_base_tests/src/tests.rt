@@ -1,11 +1,11 @@
 // Chains as a program makes them.
 ghost use Rattle.std.specs.Prelude.{[], ◌≡◌};
 
-use chain_base::{ChainArena, ChainPtrAdvancer, LinkInsertKind, LinkNoGen};
 use arena_base::{
     Advancer, InsertionError, InvalidationOption, InvalidationResult, P0, P8, PN, Ptr,
     ReallocationError,
 };
+use chain_base::{ChainArena, ChainPtrAdvancer, LinkInsertKind, LinkNoGen};
 use linked_list_allocator::LocalHeap;
 use std::alloc::{AllocError, Allocator, Global};
 use std::process::Abort;

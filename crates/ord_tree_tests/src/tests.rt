@@ -1,13 +1,13 @@
 // Trees of small keys, kept in order by hand, seen through the chain's nodes.
 mod rebuild;
 
-use ord_tree::{OrdTree, SimpleOrdArenaNode};
 use arena_base::{
     Advancer, InsertionError, InvalidationOption, InvalidationResult, P0, P8, PN, Ptr,
     ReallocationError,
 };
 use chain_base::{ChainArena, LinkNoGen};
 use linked_list_allocator::LocalHeap;
+use ord_tree::{OrdTree, SimpleOrdArenaNode};
 use std::alloc::{Allocator, Global};
 use std::cmp::Ordering;
 use std::process::Abort;

@@ -14,7 +14,6 @@ mod slot_drain;
 mod slots;
 mod walks;
 
-use triple_ord::{OrdEntryKind, OrdInsertionError, OrdPair, SimpleOrdArena, SimpleOrdItem, laws};
 use arena_base::{P0, P8, PN, Ptr};
 use linked_list_allocator::LocalHeap;
 use std::alloc::{AllocError, Allocator, Global};
@@ -22,6 +21,7 @@ use std::cell::Cell;
 use std::cmp::Ordering;
 use std::hash::{DefaultHasher, Hasher};
 use std::test::Fail;
+use triple_ord::{OrdEntryKind, OrdInsertionError, OrdPair, SimpleOrdArena, SimpleOrdItem, laws};
 
 type Keys<A = Global> = SimpleOrdArena<P0, OrdPair<u64, ()>, A>;
 

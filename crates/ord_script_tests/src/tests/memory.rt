@@ -1,6 +1,6 @@
 // Memory: where it is refused, and that it is enough where it is there.
-use ord_script::{ScriptEnd, Watched, serve};
 use linked_list_allocator::LocalHeap;
+use ord_script::{ScriptEnd, Watched, serve};
 use std::fmt::Write;
 use std::test::Fail;
 

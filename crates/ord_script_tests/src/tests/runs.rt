@@ -1,7 +1,7 @@
 // `run` on arenas of any pointers and items.
-use ord_script::{Command, Reply, run};
 use arena_base::{InvalidationOption, InvalidationResult, P0, P8, PN, Ptr, PtrInx};
 use linked_list_allocator::LocalHeap;
+use ord_script::{Command, Reply, run};
 use std::alloc::{AllocError, Allocator, Global};
 use std::cmp::Ordering;
 use std::process::Abort;

@@ -1,6 +1,6 @@
 //! Rebuilt trees, compared place by place with a recursive function of the length.
-use ord_tree::OrdTree;
 use arena_base::{InvalidationOption, P0, Ptr, ReallocationError};
+use ord_tree::OrdTree;
 use std::alloc::{AllocError, Global};
 use std::cmp::Ordering;
 use std::process::Abort;

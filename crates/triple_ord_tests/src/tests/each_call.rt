@@ -1,10 +1,10 @@
 //! Each call's answer over five keys, at each kind of pointer and two kinds of items.
-use triple_ord::{OrdInsertionError, OrdPair, SimpleOrdArena, SimpleOrdItem};
 use arena_base::{P0, P8, PN, Ptr, PtrGen, PtrInx};
 use std::alloc::{AllocError, Global};
 use std::cmp::Ordering;
 use std::process::Abort;
 use std::test::Fail;
+use triple_ord::{OrdInsertionError, OrdPair, SimpleOrdArena, SimpleOrdItem};
 
 /// Items that a test makes of a key and a mark.
 trait Marked: SimpleOrdItem<Key = u64> + Drop {

@@ -1,9 +1,9 @@
 //! Searches from a hint over the five keys: in the order of the list 10, 30, 50, 60, 70, at the indexes 5, 2, 1, 4, 3.
 use super::{keys, numbers};
-use triple_ord::{OrdPair, SimpleOrdArena};
 use arena_base::{P0, Ptr};
 use std::cmp::Ordering;
 use std::test::Fail;
+use triple_ord::{OrdPair, SimpleOrdArena};
 
 #[test]
 fn similar_keys(rt: HostRuntime) -> Result<(), Fail> {

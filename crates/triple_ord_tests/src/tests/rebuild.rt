@@ -1,12 +1,12 @@
 //! Compressions, the canonical order and transfers. The letters A, B, C, E stand at the indexes 2, 4, 1, 3, with
 //! generation 3.
 use super::{Keys, keys, numbers, ranks};
-use triple_ord::{OrdPair, SimpleOrdArena};
 use arena_base::{InvalidationOption, P0, P8, Ptr, ReallocationError};
 use linked_list_allocator::LocalHeap;
 use std::alloc::{Allocator, Global};
 use std::process::Abort;
 use std::test::Fail;
+use triple_ord::{OrdPair, SimpleOrdArena};
 
 /// The place of a call among all, and the pointers that it was shown.
 type Call = (u8, P0, P0);

@@ -1,11 +1,11 @@
 //! Removals, seen through the nodes.
 use super::{Keys, keys, numbers, order, ranks};
-use triple_ord::{OrdInsertionError, OrdPair, SimpleOrdArena};
 use arena_base::{InvalidationOption, InvalidationResult, P0, P8, Ptr};
 use linked_list_allocator::LocalHeap;
 use std::alloc::{AllocError, Allocator, Global};
 use std::process::Abort;
 use std::test::Fail;
+use triple_ord::{OrdInsertionError, OrdPair, SimpleOrdArena};
 
 /// The parent of each entry of an arena, by its index.
 pub fn parents<A: Allocator>(

@@ -1,13 +1,13 @@
 //! Drains by index. The letters A, B, C, E stand at the indexes 2, 4, 1, 3.
 use super::numbers;
 use super::walks::{Letters, letters, put_five};
-use triple_ord::{OrdPair, SimpleOrdArena};
 use arena_base::{InvalidationOption, P0, P8, Ptr};
 use std::alloc::Global;
 use std::cell::Cell;
 use std::mem;
 use std::process::Abort;
 use std::test::Fail;
+use triple_ord::{OrdPair, SimpleOrdArena};
 
 #[test]
 fn drains_by_index(rt: HostRuntime) -> Result<(), Fail> {

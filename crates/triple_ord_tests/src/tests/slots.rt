@@ -1,10 +1,10 @@
 //! Going through an arena by index, its capacity, and an ordered arena as an arena among others. Five keys stand at the indexes 5, 2, 1,
 //! 4, 3, in the order of the list 10, 30, 50, 60, 70.
 use super::{Keys, keys, numbers};
-use triple_ord::{Advancer, ArenaTrait, OrdPair, PtrAdvancer};
 use arena_base::{MaxCapacityReductionError, P0, Ptr, ReallocationError, laws};
 use std::alloc::{AllocError, Global};
 use std::test::Fail;
+use triple_ord::{Advancer, ArenaTrait, OrdPair, PtrAdvancer};
 
 /// The indexes that a walk gives from now on.
 fn rest(alloc: Global, walk: &mut PtrAdvancer<P0>, a: &Keys) -> Result<Vec<u32>, AllocError> {

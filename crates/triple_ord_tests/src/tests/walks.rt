@@ -1,7 +1,6 @@
 //! Walks along the list, drains, comparisons, and the check of the order. Five keys stand at the indexes 5, 2, 1, 4, 3, in the order of the
 //! list 10, 30, 50, 60, 70.
 use super::{Keys, keys, numbers, order};
-use triple_ord::{Advancer, OrdPair, OrderedPtrAdvancer, SimpleOrdArena};
 use arena_base::{InvalidationOption, P0, P8, Ptr, Q0};
 use std::alloc::{AllocError, Global};
 use std::cell::Cell;
@@ -9,6 +8,7 @@ use std::cmp::Ordering;
 use std::mem;
 use std::process::Abort;
 use std::test::Fail;
+use triple_ord::{Advancer, OrdPair, OrderedPtrAdvancer, SimpleOrdArena};
 
 /// The indexes that a walk gives from now on.
 fn rest(
