@@ -9,14 +9,14 @@ use Rattle.arena_base.specs.Slot.{entry_in, slot_entry, arena_of, vacant_slots}
 use Rattle.arena_base.specs.Walk.{entries_from, entries_rising}
 use Rattle.arena_base.specs.Generation.{IsLawfulGeneration}
 use Rattle.arena_base.specs.Arena.{Arena, HoldsSame, IsSound, IsFresh, vacant_from, resized}
-use Rattle.arena_base.proofs.Places.{entries}
+use Rattle.arena_base.proofs.Positions.{entries}
 use Rattle.arena_base.proofs.Steps.{list-view}
 use Rattle.arena_base.proofs.Vacancies.{length-vacant_from}
 use Rattle.std.proofs.lemmas.List.Sums.{sum_by-cons}
 use Rattle.arena_base.specs.Compression.{CompressionStep, IsCompression, compressed, items_rising}
 use Rattle.arena_base.specs.CompressionSlots.{CompressesSlots}
 
-module _ {P T G F : Type 0} (index era : P → ℕ) (number : G → ℕ) (step : F → P → T → P → T → F → Type 0) (generation : G) where
+module _ {P T G F : Type 0} (numbers : P → ℕ × ℕ) (number : G → ℕ) (step : F → P → T → P → T → F → Type 0) (generation : G) where
   abbrev filled : List T → List (Slot T G)
   filled items = map (λ item. Occupied item generation) items
 
@@ -25,7 +25,7 @@ module _ {P T G F : Type 0} (index era : P → ℕ) (number : G → ℕ) (step :
   parts items gap rest = filled items ++ (replicate gap Vacant ++ rest)
 
   abbrev Calls : F × List T → List (ℕ × ℕ × T) → F × List T → Type 0
-  Calls s entries t = FoldsTo (CompressionStep index era step (number generation)) s entries t
+  Calls s entries t = FoldsTo (CompressionStep numbers step (number generation)) s entries t
 
   abbrev entries_of : ℕ → List (Slot T G) → List (ℕ × ℕ × T)
   entries_of i slots = entries_from i (map (entry_in number) slots)
@@ -101,15 +101,15 @@ module _ {P T G F : Type 0} (index era : P → ℕ) (number : G → ℕ) (step :
         get_or_read (set slots from Vacant) to x within read Vacant ∙ (ap (λ xs. get_or xs to Vacant) emptied ∙ get_or_at (filled b.items) Vacant (replicate b.gap Vacant ++ drop (from + 1) old) Vacant to (length-map b.items (λ item. Occupied item generation) ∙ b.answers))
 
     pub compressed-filled : (now : Slot T G) (e : G) (old_item new : T) (p q : P) (next : F) → now ≡ get_or slots from now → slot_entry now ≡ Some (e, old_item)
-        → index p ≡ from + 1 → era p ≡ number e → index q ≡ to + 1 → era q ≡ number generation → step f p old_item q new next
+        → (numbers p).0 ≡ from + 1 → (numbers p).1 ≡ number e → (numbers q).0 ≡ to + 1 → (numbers q).1 ≡ number generation → step f p old_item q new next
         → CompressedBelow first old next (set (set slots from Vacant) to (Occupied new generation)) (from + 1) (to + 1)
     compressed-filled now e old_item new p q next read is p_index p_era q_index q_era called =
         let head : get_or old from Vacant ≡ Occupied old_item e = at_from now read ∙ entry-some now e old_item is in
         let more = replicate b.gap Vacant ++ drop (from + 1) old in
         let put : set (set slots from Vacant) to (Occupied new generation) ≡ filled b.items ++ (Occupied new generation ∷ more) =
         ap (λ xs. set xs to (Occupied new generation)) emptied ∙ set_at (filled b.items) Vacant more (Occupied new generation) to (length-map b.items (λ item. Occupied item generation) ∙ b.answers) in
-        let stepped : CompressionStep index era step (number generation) (f, b.items) (from + 1, number e, old_item) (next, b.items ++ new ∷ []) =
-        record { from = p; to = q; item = new; from_index = p_index; from_era = p_era; to_index = q_index ∙ ap (λ n. n + 1) (sym b.answers); to_era = q_era; called = called; behind = refl } in
+        let stepped : CompressionStep numbers step (number generation) (f, b.items) (from + 1, number e, old_item) (next, b.items ++ new ∷ []) =
+        record { from = p; to = q; item = new; from_index = p_index; from_generation = p_era; to_index = q_index ∙ ap (λ n. n + 1) (sym b.answers); to_generation = q_era; called = called; behind = refl } in
         record {
           items = b.items ++ new ∷ [];
           gap = b.gap;
@@ -120,7 +120,7 @@ module _ {P T G F : Type 0} (index era : P → ℕ) (number : G → ℕ) (step :
           calls = λ s c. b.calls s (rw (drop_more old from Vacant inside, head) ((next, b.items ++ new ∷ []), stepped, c));
         }
 
-  pub compressed-ends : (first : F) (old : List (Slot T G)) (f : F) (slots : List (Slot T G)) (from to : ℕ) → CompressedBelow first old f slots from to → length old ≤ from → from ≤ length old → CompressesSlots index era number step generation first old slots
+  pub compressed-ends : (first : F) (old : List (Slot T G)) (f : F) (slots : List (Slot T G)) (from to : ℕ) → CompressedBelow first old f slots from to → length old ≤ from → from ≤ length old → CompressesSlots numbers number step generation first old slots
   compressed-ends first old f slots from to b past upto =
       let none : drop from old ≡ [] = drop_all from old past in
       let gap : b.gap ≡ length old - length b.items = omega (arith, b.answers, b.visited) in
@@ -133,14 +133,14 @@ module _ {P T G F : Type 0} (index era : P → ℕ) (number : G → ℕ) (step :
       }
 
 -- Calls of one kind are calls of another: `state` and `item` give the other's states and items.
-module _ {P X T M F : Type 0} (index era : P → ℕ) (below : M → P → X → P → X → M → Type 0) (above : F → P → T → P → T → F → Type 0) (g : ℕ) (state : M → F) (item : X → T)
+module _ {P X T M F : Type 0} (numbers : P → ℕ × ℕ) (below : M → P → X → P → X → M → Type 0) (above : F → P → T → P → T → F → Type 0) (g : ℕ) (state : M → F) (item : X → T)
     (like : (m : M) (p : P) (x : X) (q : P) (y : X) (n : M) → below m p x q y n → above (state m) p (item x) q (item y) (state n)) where
   -- an entry with the other's item
   abbrev pub retold : ℕ × ℕ × X → ℕ × ℕ × T
   retold e = (e.0, e.1, item e.2)
 
-  pub calls-retold : (es : List (ℕ × ℕ × X)) (m n : M) (xs ys : List X) → FoldsTo {P = M × List X} (CompressionStep index era below g) (m, xs) es (n, ys)
-      → FoldsTo {P = F × List T} (CompressionStep index era above g) (state m, map item xs) (map retold es) (state n, map item ys)
+  pub calls-retold : (es : List (ℕ × ℕ × X)) (m n : M) (xs ys : List X) → FoldsTo {P = M × List X} (CompressionStep numbers below g) (m, xs) es (n, ys)
+      → FoldsTo {P = F × List T} (CompressionStep numbers above g) (state m, map item xs) (map retold es) (state n, map item ys)
   calls-retold [] m n xs ys same = ap (λ (s : M × List X). (state s.0, map item s.1)) same
   calls-retold (e ∷ es) m n xs ys calls =
       let s = calls.1 in (
@@ -150,9 +150,9 @@ module _ {P X T M F : Type 0} (index era : P → ℕ) (below : M → P → X →
           to = s.to;
           item = item s.item;
           from_index = s.from_index;
-          from_era = s.from_era;
+          from_generation = s.from_generation;
           to_index = s.to_index ∙ ap (λ n. n + 1) (sym (length-map xs item));
-          to_era = s.to_era;
+          to_generation = s.to_generation;
           called = like m s.from e.2 s.to s.item calls.0.0 s.called;
           behind = ap (map item) s.behind ∙ map_push item xs s.item;
         },
@@ -164,12 +164,12 @@ map-itself f itself [] = refl
 map-itself f itself (x ∷ xs) = rw (itself x, map-itself f itself xs) refl
 
 -- the same items, in other states
-pub compression-retold : {P T M F : Type 0} (index era : P → ℕ) (below : M → P → T → P → T → M → Type 0) (above : F → P → T → P → T → F → Type 0) (g : ℕ) (state : M → F)
+pub compression-retold : {P T M F : Type 0} (numbers : P → ℕ × ℕ) (below : M → P → T → P → T → M → Type 0) (above : F → P → T → P → T → F → Type 0) (g : ℕ) (state : M → F)
     → ((m : M) (p : P) (x : T) (q : P) (y : T) (n : M) → below m p x q y n → above (state m) p x q y (state n))
-    → (m : M) (old new : Arena T) → IsCompression index era below g m old new → IsCompression index era above g (state m) old new
-compression-retold {P} {T} index era below above g state like m old new c =
+    → (m : M) (old new : Arena T) → IsCompression numbers below g m old new → IsCompression numbers above g (state m) old new
+compression-retold {P} {T} numbers below above g state like m old new c =
     let es = entries_rising old 0 in
-    let calls = calls-retold index era below above g state (λ x. x) like es m c.last [] c.items c.calls in
+    let calls = calls-retold numbers below above g state (λ x. x) like es m c.last [] c.items c.calls in
     record {
       items = c.items;
       last = state c.last;
@@ -177,10 +177,10 @@ compression-retold {P} {T} index era below above g state like m old new c =
       after = c.after;
     }
 
-module _ {P T F : Type 0} (index era : P → ℕ) (step : F → P → T → P → T → F → Type 0) (g : ℕ) where
+module _ {P T F : Type 0} (numbers : P → ℕ × ℕ) (step : F → P → T → P → T → F → Type 0) (g : ℕ) where
   -- what is made where each answer is the item that was shown
   pub compressed-same : ((f : F) (p : P) (item : T) (q : P) (new : T) (f' : F) → step f p item q new f' → new ≡ item)
-      → (es : List (ℕ × ℕ × T)) (f last : F) (items before : List T) → FoldsTo {P = F × List T} (CompressionStep index era step g) (f, before) es (last, items)
+      → (es : List (ℕ × ℕ × T)) (f last : F) (items before : List T) → FoldsTo {P = F × List T} (CompressionStep numbers step g) (f, before) es (last, items)
       → items ≡ before ++ map (λ (e : ℕ × ℕ × T). e.2) es
   compressed-same answers [] f last items before calls = sym (ap (λ (s : F × List T). s.1) calls) ∙ sym (append-nil before)
   compressed-same answers (e ∷ es) f last items before calls =
@@ -190,10 +190,10 @@ module _ {P T F : Type 0} (index era : P → ℕ) (step : F → P → T → P �
       compressed-same answers es calls.0.0 last items calls.0.1 calls.2
       ∙ (ap (λ xs. xs ++ more) s.behind ∙ (append_assoc before (s.item ∷ []) more ∙ ap (λ x. before ++ x ∷ more) same))
 
-pub compressed-given_back : {P F T : Type 0} (index era : P → ℕ) (step : F → P → T → P → T → F → Type 0) (g : ℕ) → ((f : F) (p : P) (item : T) (q : P) (new : T) (f' : F) → step f p item q new f' → new ≡ item)
-    → (f : F) (old new : Arena T) → IsCompression index era step g f old new → HoldsSame new (compressed old g (items_rising old))
-compressed-given_back index era step g answers f old new h =
-    subst (λ items. HoldsSame new (compressed old g items)) (compressed-same index era step g answers (entries_rising old 0) f h.last h.items [] h.calls) h.after
+pub compressed-given_back : {P F T : Type 0} (numbers : P → ℕ × ℕ) (step : F → P → T → P → T → F → Type 0) (g : ℕ) → ((f : F) (p : P) (item : T) (q : P) (new : T) (f' : F) → step f p item q new f' → new ≡ item)
+    → (f : F) (old new : Arena T) → IsCompression numbers step g f old new → HoldsSame new (compressed old g (items_rising old))
+compressed-given_back numbers step g answers f old new h =
+    subst (λ items. HoldsSame new (compressed old g items)) (compressed-same numbers step g answers (entries_rising old 0) f h.last h.items [] h.calls) h.after
 
 get_or-compressed : {T : Type 0} (g m : ℕ) (items : List T) (k : ℕ) (e : ℕ × T) → get_or (map (λ item. Some (g, item)) items ++ replicate m None) k None ≡ Some e → e.0 ≡ g
 get_or-compressed g zero [] k e is = absurd (none-some e is)
@@ -250,10 +250,10 @@ module _ {T G : Type 0} (number : G → ℕ) (most : ℕ) (greatest : Option ℕ
       lawful (suc k) e at = subst (λ n. IsLawfulGeneration greatest n) (sym (get_or-compressed (number generation) (length slots - length items) items k e at)) sound.generation_lawful
 
 -- the arena of the compressed slots
-pub compressed-after : {P T G F : Type 0} (index era : P → ℕ) (number : G → ℕ) (most : ℕ) (greatest : Option ℕ) (step : F → P → T → P → T → F → Type 0) (slots next : List (Slot T G)) (generation : G) (maximum : Option ℕ) (stack listed : List ℕ)
+pub compressed-after : {P T G F : Type 0} (numbers : P → ℕ × ℕ) (number : G → ℕ) (most : ℕ) (greatest : Option ℕ) (step : F → P → T → P → T → F → Type 0) (slots next : List (Slot T G)) (generation : G) (maximum : Option ℕ) (stack listed : List ℕ)
     → listed ≡ reverse (vacant_slots 1 next) → (f : F) (a : Arena T) (g : ℕ) → None ∷ entries number slots ≡ a.slots → maximum ≡ a.maximum → number generation ≡ g
-    → CompressesSlots index era number step generation f slots next → IsCompression index era step g f a (arena_of number next listed generation maximum)
-compressed-after {P} {T} {G} {F} index era number most greatest step slots next generation maximum stack listed all f a g same limit named p =
+    → CompressesSlots numbers number step generation f slots next → IsCompression numbers step g f a (arena_of number next listed generation maximum)
+compressed-after {P} {T} {G} {F} numbers number most greatest step slots next generation maximum stack listed all f a g same limit named p =
     let m = length p.items in
     let n = length slots in
     let view = compressed-view number most greatest slots next generation maximum stack listed all p.items p.fits p.after in

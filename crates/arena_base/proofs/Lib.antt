@@ -1,7 +1,7 @@
 pub mod CallerLemmas
 pub mod Compressing
 pub mod Occupied
-pub mod Places
+pub mod Positions
 pub mod Resizing
 pub mod Soundness
 pub mod Steps

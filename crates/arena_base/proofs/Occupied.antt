@@ -7,7 +7,7 @@ use Rattle.std.proofs.lemmas.List.Sums.{sum_by-cons}
 use Rattle.std.proofs.lemmas.Option.{none-some, same_Some}
 use Rattle.arena_base.specs.declared.slot.Slot.{Slot}
 use Rattle.arena_base.specs.declared.slot.Slot.TheVariants.{Occupied, Vacant}
-use Rattle.arena_base.specs.Slot.{entry_in, slot_entry, with_slot_item, with_era}
+use Rattle.arena_base.specs.Slot.{entry_in, slot_entry, with_slot_item, with_slot_generation}
 use Rattle.arena_base.specs.Pointer.{index_number}
 use Rattle.arena_base.specs.Arena.{greatest_occupied}
 
@@ -119,9 +119,9 @@ module _ {T G : Type 0} (number : G → ℕ) where
   entry_in-slot_entry Vacant e is = absurd (none-some e is)
 
   -- the entry of a slot after a write
-  pub entry_in-with_era : (s : Slot T G) (era : G) → entry_in number (with_era s era) ≡ option_map (λ e. (number era, e.1)) (entry_in number s)
-  entry_in-with_era (Occupied item old) era = refl
-  entry_in-with_era Vacant era = refl
+  pub entry_in-with_slot_generation : (s : Slot T G) (era : G) → entry_in number (with_slot_generation s era) ≡ option_map (λ e. (number era, e.1)) (entry_in number s)
+  entry_in-with_slot_generation (Occupied item old) era = refl
+  entry_in-with_slot_generation Vacant era = refl
 
   pub entry_in-with_slot_item : (s : Slot T G) (item : T) → entry_in number (with_slot_item s item) ≡ option_map (λ e. (e.0, item)) (entry_in number s)
   entry_in-with_slot_item (Occupied old era) item = refl

@@ -9,7 +9,7 @@ use Rattle.arena_base.specs.Slot.{entry_in, vacant_slots, arena_of, AllVacantFro
 use Rattle.arena_base.specs.Generation.{IsLawfulGeneration, first_generation}
 use Rattle.arena_base.specs.Arena.{Arena, slot, arena_capacity, IsSound, vacant_from, vacant_indexes, limit_of, resized, new_arena, with_capacity, emptied, greatest_occupied}
 use Rattle.arena_base.proofs.Occupied.{greatest_occupied-above}
-use Rattle.arena_base.proofs.Places.{entries}
+use Rattle.arena_base.proofs.Positions.{entries}
 use Rattle.arena_base.proofs.Vacancies.{length-vacant_from-padded}
 use Rattle.arena_base.proofs.Steps.{arena_capacity-of, entry-at, entry-within, list-view, list-sound}
 use Rattle.arena_base.proofs.Soundness.{arena, sound-new}

@@ -5,8 +5,8 @@ use Rattle.std.proofs.lemmas.List.{length-set, get_or-set_same, get_or-set_other
 use Rattle.std.proofs.lemmas.List.Sums.{sum_by-cons}
 use Rattle.std.proofs.lemmas.Option.{none-some, same_Some}
 use Rattle.arena_base.specs.Generation.{IsLawfulGeneration, next_generation, first_generation}
-use Rattle.arena_base.specs.Arena.{Arena, IsSound, vacant_from, how_often, limit_of}
-use Rattle.arena_base.proofs.Vacancies.{how_often-cons, length-vacant_from, vacant_from-vacant, how_often-freed, how_often-filled, vacant_from-written, count_by-written, within_from_some}
+use Rattle.arena_base.specs.Arena.{Arena, IsSound, vacant_from, times, limit_of}
+use Rattle.arena_base.proofs.Vacancies.{times-cons, length-vacant_from, vacant_from-vacant, times-freed, times-filled, vacant_from-written, count_by-written, within_from_some}
 
 -- after a lawful generation comes a lawful one
 pub next_generation-lawful : (greatest : Option ℕ) (g : ℕ) → IsLawfulGeneration greatest (first_generation greatest) → IsLawfulGeneration greatest g → IsLawfulGeneration greatest (next_generation greatest g)
@@ -82,7 +82,7 @@ module _ {T : Type 0} where
       within_limit = rw (length-set slots k (Some new)) sound.within_limit;
       generation_lawful = sound.generation_lawful;
       entries_lawful = written;
-      vacant_listed = λ i. sound.vacant_listed i ∙ ap (λ ns. how_often ns i) (sym (vacant_from-written 1 slots k old new is));
+      vacant_listed = λ i. sound.vacant_listed i ∙ ap (λ ns. times i ns) (sym (vacant_from-written 1 slots k old new is));
       counted =
           let count : count_by is_some (set slots k (Some new)) + 1 ≡ count_by is_some slots + 1 = count_by-written slots k (Some old) (Some new) (within_from_some slots k old is) is in
           omega (arith, counted, count, count_by-none (set slots k (Some new)), length-set slots k (Some new));
@@ -107,7 +107,7 @@ module _ {T : Type 0} where
       generation_lawful = sound.generation_lawful;
       entries_lawful = freed;
       vacant_listed = λ i.
-          how_often-cons (k + 1) vacant i ∙ (ap (λ n. cond (eqb (k + 1) i) 1 0 + n) (sound.vacant_listed i) ∙ sym (how_often-freed 1 slots k (k + 1) i old (omega arith) is));
+          times-cons (k + 1) vacant i ∙ (ap (λ n. cond (eqb (k + 1) i) 1 0 + n) (sound.vacant_listed i) ∙ sym (times-freed 1 slots k (k + 1) i old (omega arith) is));
       counted =
           let count : count_by is_some (set slots k None) + 1 ≡ count_by is_some slots + 0 = count_by-written slots k (Some old) None (within_from_some slots k old is) is in
           omega (arith, counted, count, count_by-none (set slots k None), length-set slots k None);
@@ -125,16 +125,16 @@ module _ {T : Type 0} where
 
   module _ (most : ℕ) (greatest : Option ℕ) (slots : List (Option (ℕ × T))) (i : ℕ) (vacant : List ℕ) (generation : ℕ) (maximum : Option ℕ) (sound : IsSound most greatest (arena slots (i ∷ vacant) generation maximum)) where
     -- the index that is taken next is that of a vacant slot
-    pub first-place : (k : ℕ) × (i ≡ 1 + k) × (k < length slots) × (get_or slots k None ≡ None)
-    first-place =
-        let listed : 0 < how_often (vacant_from 1 slots) i = subst (λ n. 0 < n) (sym (how_often-cons i vacant i) ∙ sound.vacant_listed i) (rw (eq-eqb i i refl) (omega arith)) in
+    pub first-position : (k : ℕ) × (i ≡ 1 + k) × (k < length slots) × (get_or slots k None ≡ None)
+    first-position =
+        let listed : 0 < times i (vacant_from 1 slots) = subst (λ n. 0 < n) (sym (times-cons i vacant i) ∙ sound.vacant_listed i) (rw (eq-eqb i i refl) (omega arith)) in
         vacant_from-vacant 1 slots i listed
 
   module _ (most : ℕ) (greatest : Option ℕ) (slots : List (Option (ℕ × T))) (k : ℕ) (vacant : List ℕ) (generation : ℕ) (maximum : Option ℕ) (sound : IsSound most greatest (arena slots ((k + 1) ∷ vacant) generation maximum)) where
     -- the same of an index that is known to have a place
     pub first-vacant : (k < length slots) × (get_or slots k None ≡ None)
     first-vacant =
-        let found = first-place most greatest slots (k + 1) vacant generation maximum sound in
+        let found = first-position most greatest slots (k + 1) vacant generation maximum sound in
         let same : found.0 ≡ k = omega (arith, found.1) in
         (subst (λ n. n < length slots) same found.2, subst (λ n. get_or slots n None ≡ None) same found.3)
 
@@ -145,7 +145,7 @@ module _ {T : Type 0} where
       within_limit = rw (length-set slots k (Some (generation, item))) sound.within_limit;
       generation_lawful = sound.generation_lawful;
       entries_lawful = filled;
-      vacant_listed = λ i. add_cancel _ _ _ (sym (how_often-cons (k + 1) vacant i) ∙ (sound.vacant_listed i ∙ how_often-filled 1 slots k (k + 1) i (generation, item) (omega arith) first-vacant.0 first-vacant.1));
+      vacant_listed = λ i. add_cancel _ _ _ (sym (times-cons (k + 1) vacant i) ∙ (sound.vacant_listed i ∙ times-filled 1 slots k (k + 1) i (generation, item) (omega arith) first-vacant.0 first-vacant.1));
       counted =
           let count : count_by is_some (set slots k (Some (generation, item))) + 0 ≡ count_by is_some slots + 1 = count_by-written slots k None (Some (generation, item)) first-vacant.0 first-vacant.1 in
           omega (arith, counted most greatest slots ((k + 1) ∷ vacant) generation maximum sound, count, count_by-none (set slots k (Some (generation, item))), length-set slots k (Some (generation, item)));

@@ -9,9 +9,9 @@ use Rattle.arena_base.specs.declared.slot.Slot.TheVariants.{Occupied, Vacant}
 use Rattle.arena_base.specs.Slot.{entry_in, vacant_slots, arena_of}
 use Rattle.arena_base.specs.Generation.{IsLawfulGeneration}
 use Rattle.arena_base.specs.Arena.{Arena, slot, arena_capacity, with_slot, freed, IsSound, IsInsertion, IsVacant, vacant_from, limit_of}
-use Rattle.arena_base.proofs.Places.{entries, slot-read, slots-written, vacant_slots-from}
+use Rattle.arena_base.proofs.Positions.{entries, slot-read, slots-written, vacant_slots-from}
 use Rattle.arena_base.proofs.Vacancies.{within_from_some, vacant_from-least, vacant_from-filled_first}
-use Rattle.arena_base.proofs.Soundness.{arena, sound-listed, sound-written, sound-freed, sound-filled, first-place}
+use Rattle.arena_base.proofs.Soundness.{arena, sound-listed, sound-written, sound-freed, sound-filled, first-position}
 
 -- the top of the stack of indexes is the first that is taken
 top-first : (stack : List ℕ) (i : ℕ) → reverse (stack ++ i ∷ []) ≡ i ∷ reverse stack
@@ -39,7 +39,7 @@ module _ {T G : Type 0} (number : G → ℕ) (slots : List (Slot T G)) (generati
 
   -- what stands at an index stands in the slot at its place
   pub entry-at : (stack : List ℕ) (a : Arena T) (k i : ℕ) → arena_of number slots stack generation maximum ≡ a → i ≡ k + 1 → (e : Option (ℕ × T)) → slot a i ≡ e → get_or (entries number slots) k None ≡ e
-  entry-at stack a k i seen place e is = rw (← seen, place, add-one) at is
+  entry-at stack a k i seen position e is = rw (← seen, position, add-one) at is
 
   -- an index with an entry is not 0
   pub entry-positive : (stack : List ℕ) (a : Arena T) (i : ℕ) → arena_of number slots stack generation maximum ≡ a → is_some (slot a i) ≡ true → (k : ℕ) × (i ≡ k + 1)
@@ -48,9 +48,9 @@ module _ {T G : Type 0} (number : G → ℕ) (slots : List (Slot T G)) (generati
 
   -- an index with an entry is within the capacity
   pub entry-within : (stack : List ℕ) (a : Arena T) (k i : ℕ) → arena_of number slots stack generation maximum ≡ a → i ≡ k + 1 → is_some (slot a i) ≡ true → k < arena_capacity a
-  entry-within stack a k i seen place there =
+  entry-within stack a k i seen position there =
       let found = some_of (slot a i) there in
-      let inside : k < length (entries number slots) = within_from_some (entries number slots) k found.0 (entry-at stack a k i seen place (Some found.0) found.1) in
+      let inside : k < length (entries number slots) = within_from_some (entries number slots) k found.0 (entry-at stack a k i seen position (Some found.0) found.1) in
       subst (λ n. k < n) (sym (arena_capacity-of stack) ∙ ap arena_capacity seen) (omega (arith, length-map slots (entry_in number)))
 
 module _ {T G : Type 0} (number : G → ℕ) (most : ℕ) (greatest : Option ℕ) (slots : List (Slot T G)) (generation : G) (maximum : Option ℕ) where
@@ -58,14 +58,14 @@ module _ {T G : Type 0} (number : G → ℕ) (most : ℕ) (greatest : Option ℕ
   abbrev Sound : List (Slot T G) → List ℕ → Type 0
   Sound slots stack = IsSound most greatest (arena_of number slots stack generation maximum)
 
-  module _ (stack : List ℕ) (a : Arena T) (k i : ℕ) (seen : arena_of number slots stack generation maximum ≡ a) (place : i ≡ k + 1) where
+  module _ (stack : List ℕ) (a : Arena T) (k i : ℕ) (seen : arena_of number slots stack generation maximum ≡ a) (position : i ≡ k + 1) where
     was : (e : Option (ℕ × T)) → slot a i ≡ e → get_or (entries number slots) k None ≡ e
-    was e is = entry-at number slots generation maximum stack a k i seen place e is
+    was e is = entry-at number slots generation maximum stack a k i seen position e is
 
     -- a slot is written
     pub set-view : (s : Slot T G) (e : Option (ℕ × T)) → entry_in number s ≡ e → arena_of number (set slots k s) stack generation maximum ≡ with_slot a i e
     set-view s e is =
-        rw (← seen, place, ← is) (ap (λ ss. record { slots = ss; vacant = reverse stack; generation = number generation; maximum = maximum }) (slots-written number slots k s))
+        rw (← seen, position, ← is) (ap (λ ss. record { slots = ss; vacant = reverse stack; generation = number generation; maximum = maximum }) (slots-written number slots k s))
 
     -- an entry is written over an entry
     pub set-sound : (s : Slot T G) (f : ℕ × T → ℕ × T) → Sound slots stack → is_some (slot a i) ≡ true → entry_in number s ≡ option_map f (slot a i)
@@ -80,7 +80,7 @@ module _ {T G : Type 0} (number : G → ℕ) (most : ℕ) (greatest : Option ℕ
     module _ (freed_stack : List ℕ) (s : Slot T G) (emptied : s ≡ Vacant) (pushed : freed_stack ≡ stack ++ i ∷ []) where
       pub take-view : arena_of number (set slots k s) freed_stack generation maximum ≡ freed a i
       take-view =
-          rw (← seen, emptied, pushed, place)
+          rw (← seen, emptied, pushed, position)
           (ap (λ ss. record { slots = ss; vacant = reverse (stack ++ (k + 1) ∷ []); generation = number generation; maximum = maximum }) (slots-written number slots k Vacant)
           ∙ ap (λ ns. record { slots = set (None ∷ entries number slots) (k + 1) None; vacant = ns; generation = number generation; maximum = maximum }) (top-first stack (k + 1)))
 
@@ -88,7 +88,7 @@ module _ {T G : Type 0} (number : G → ℕ) (most : ℕ) (greatest : Option ℕ
       take-sound sound there =
           let old = some_of (slot a i) there in
           let taken = sound-freed most greatest (entries number slots) (reverse stack) (number generation) maximum sound k old.0 (was (Some old.0) old.1) in
-          rw (emptied, pushed, place, top-first, map-set) taken
+          rw (emptied, pushed, position, top-first, map-set) taken
 
   -- the vacant indexes are listed anew
   module _ (stack listed : List ℕ) (next : List (Slot T G)) (all : listed ≡ reverse (vacant_slots 1 next)) where
@@ -115,7 +115,7 @@ module _ {T G : Type 0} (number : G → ℕ) (most : ℕ) (greatest : Option ℕ
     indexes = ap reverse top ∙ top-first below i
 
     first : (k : ℕ) × (i ≡ 1 + k) × (k < length (entries number slots)) × (get_or (entries number slots) k None ≡ None)
-    first = first-place most greatest (entries number slots) i rest (number generation) maximum (subst (λ ns. IsSound most greatest (arena (entries number slots) ns (number generation) maximum)) indexes sound)
+    first = first-position most greatest (entries number slots) i rest (number generation) maximum (subst (λ ns. IsSound most greatest (arena (entries number slots) ns (number generation) maximum)) indexes sound)
 
     -- it is not 0
     pub top-above : 0 < i
@@ -129,9 +129,9 @@ module _ {T G : Type 0} (number : G → ℕ) (most : ℕ) (greatest : Option ℕ
         record { above = omega arith; within = omega (arith, first.2); free = first.3 } in
         subst (λ n. IsVacant a n) (sym (same ∙ next)) (subst (λ v. IsVacant v (suc first.0)) seen there)
 
-    module _ (k : ℕ) (place : i ≡ k + 1) where
+    module _ (k : ℕ) (position : i ≡ k + 1) where
       indexes' : reverse stack ≡ (k + 1) ∷ rest
-      indexes' = indexes ∙ ap (λ n. n ∷ rest) place
+      indexes' = indexes ∙ ap (λ n. n ∷ rest) position
 
       seen' : arena (entries number slots) ((k + 1) ∷ rest) (number generation) maximum ≡ a
       seen' = sym (ap (λ ns. arena (entries number slots) ns (number generation) maximum) indexes') ∙ seen
@@ -141,7 +141,7 @@ module _ {T G : Type 0} (number : G → ℕ) (most : ℕ) (greatest : Option ℕ
 
       -- its place is one of the slots
       pub top-within : k < length slots
-      top-within = omega (arith, place, first.1, first.2, length-map slots (entry_in number))
+      top-within = omega (arith, position, first.1, first.2, length-map slots (entry_in number))
 
       -- an entry is put in its slot
       pub sound-put : (item : T) → Sound (set slots k (Occupied item generation)) below
@@ -167,7 +167,7 @@ module _ {T G : Type 0} (number : G → ℕ) (most : ℕ) (greatest : Option ℕ
 
       -- which is an insertion
       pub insertion : (item : T) (j g : ℕ) → j ≡ i → g ≡ number generation → IsInsertion a (arena_of number (set slots k (Occupied item generation)) below generation maximum) item j g
-      insertion item j g same is = inserted item j g (same ∙ place) is a seen' (top-vacant j same)
+      insertion item j g same is = inserted item j g (same ∙ position) is a seen' (top-vacant j same)
 
 -- the top of a stack, and the stack below it
 pub stack-top : {X : Type 0} (xs : List X) (k : X) → slice_get xs (length xs - 1) ≡ Some k → xs ≡ take (length xs - 1) xs ++ k ∷ []

@@ -6,7 +6,7 @@ use Rattle.std.proofs.lemmas.List.{set-set, set_comm, get_or-set_same, get_or-se
 use Rattle.std.proofs.lemmas.Option.{none-some, same_Some}
 use Rattle.arena_base.specs.declared.slot.Slot.{Slot}
 use Rattle.arena_base.specs.declared.slot.Slot.TheVariants.{Occupied, Vacant}
-use Rattle.arena_base.specs.Slot.{entry_in, slot_entry, with_era, arena_of}
+use Rattle.arena_base.specs.Slot.{entry_in, slot_entry, with_slot_generation, arena_of}
 use Rattle.std.specs.Option.{ForSome}
 use Rattle.arena_base.specs.Generation.{IsLawfulGeneration}
 use Rattle.arena_base.specs.Arena.{Arena, slot, arena_capacity, with_slot, with_item_of, swapped, IsSound}
@@ -28,14 +28,14 @@ module _ {X : Type 0} where
 module _ {T G : Type 0} (number : G → ℕ) where
   -- an entry's generation beside another's item
   entry_in-exchanged : (s other : Slot T G) (era : G) → is_some (slot_entry other) ≡ true → option_map (λ (e : G × T). e.0) (slot_entry s) ≡ Some era
-      → entry_in number (with_era other era) ≡ with_item_of (entry_in number s) (entry_in number other)
+      → entry_in number (with_slot_generation other era) ≡ with_item_of (entry_in number s) (entry_in number other)
   entry_in-exchanged (Occupied item old) (Occupied item' old') era there is = ap (λ g. Some (number g, item')) (sym (same_Some old era is))
   entry_in-exchanged (Occupied item old) Vacant era there is = absurd (false≢true there)
   entry_in-exchanged Vacant other era there is = absurd (none-some era is)
 
-  with_era-twice : (s : Slot T G) (first second : G) → with_era (with_era s first) second ≡ with_era s second
-  with_era-twice (Occupied item old) first second = refl
-  with_era-twice Vacant first second = refl
+  with_slot_generation-twice : (s : Slot T G) (first second : G) → with_slot_generation (with_slot_generation s first) second ≡ with_slot_generation s second
+  with_slot_generation-twice (Occupied item old) first second = refl
+  with_slot_generation-twice Vacant first second = refl
 
 -- an entry beside an entry
 with_item_of-is : {T : Type 0} (o other : Option (ℕ × T)) (e : ℕ × T) → other ≡ Some e → with_item_of o other ≡ option_map (λ (x : ℕ × T). (x.0, e.1)) o
@@ -57,29 +57,29 @@ pub record IsExchange {T G : Type 0} (xs ys : List (Slot T G)) (p q : ℕ) (sp s
   pub q_after : (d : Slot T G) → get_or ys q d ≡ get_or xs p d
   pub after : (d : Slot T G) → ys ≡ set (set xs p (get_or xs q d)) q (get_or xs p d)
   pub first_old : y1 ≡ get_or ys p y1
-  pub first : s1 ≡ with_era y1 gp
+  pub first : s1 ≡ with_slot_generation y1 gp
   pub second_old : y2 ≡ get_or (set ys p s1) q y2
-  pub second : s2 ≡ with_era y2 gq
+  pub second : s2 ≡ with_slot_generation y2 gq
 
 module _ {T G : Type 0} (number : G → ℕ) (xs ys : List (Slot T G)) (p q : ℕ) (sp sq y1 y2 s1 s2 : Slot T G) (gp gq : G) (h : IsExchange xs ys p q sp sq y1 y2 s1 s2 gp gq) where
   pub exchanged-slots : set (set ys p s1) q s2 ≡ set (set xs p s1) q s2
   exchanged-slots = ap (λ ss. set (set ss p s1) q s2) (h.after sp) ∙ set-twice xs p q (get_or xs q sp) (get_or xs p sp) s1 s2
 
-  first-is : s1 ≡ with_era sq gp
+  first-is : s1 ≡ with_slot_generation sq gp
   first-is =
       let old : y1 ≡ sq = h.first_old ∙ (h.p_after y1 ∙ (get_or_default xs q y1 sq h.q_within ∙ sym h.q_is)) in
-      h.first ∙ ap (λ s. with_era s gp) old
+      h.first ∙ ap (λ s. with_slot_generation s gp) old
 
-  second-is : s2 ≡ with_era sp gq
+  second-is : s2 ≡ with_slot_generation sp gq
   second-is =
       elim (cases_eq q p) [
         | inl same ↦
             let old : y2 ≡ s1 = h.second_old ∙ (ap (λ k. get_or (set ys p s1) k y2) same ∙ get_or-set_same ys p s1 y2 (omega (arith, h.p_within, h.same_len))) in
             let one : sq ≡ sp = h.q_is ∙ (ap (λ k. get_or xs k sq) same ∙ (get_or_default xs p sq sp h.p_within ∙ sym h.p_is)) in
-            h.second ∙ (ap (λ s. with_era s gq) (old ∙ first-is) ∙ (with_era-twice number sq gp gq ∙ ap (λ s. with_era s gq) one))
+            h.second ∙ (ap (λ s. with_slot_generation s gq) (old ∙ first-is) ∙ (with_slot_generation-twice number sq gp gq ∙ ap (λ s. with_slot_generation s gq) one))
         | inr other ↦
             let old : y2 ≡ sp = h.second_old ∙ (get_or-set_other ys p q s1 y2 other ∙ (h.q_after y2 ∙ (get_or_default xs p y2 sp h.p_within ∙ sym h.p_is))) in
-            h.second ∙ ap (λ s. with_era s gq) old
+            h.second ∙ ap (λ s. with_slot_generation s gq) old
       ]
 
   pub first-entry : entry_in number s1 ≡ with_item_of (entry_in number sp) (entry_in number sq)

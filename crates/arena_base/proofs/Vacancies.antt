@@ -3,21 +3,21 @@ use Rattle.std.proofs.Common.{◌==◌, subst, zero-add, inl, inr, ◌≡◌, �
 use Rattle.std.proofs.lemmas.Bool.{cases_eq, ne_eqb}
 use Rattle.std.proofs.lemmas.List.Sums.{sum_by-cons, sum_by-set}
 use Rattle.std.proofs.lemmas.Option.{none-some}
-use Rattle.arena_base.specs.Arena.{vacant_from, how_often}
+use Rattle.arena_base.specs.Arena.{vacant_from, times}
 
 -- a number in front is counted if it is the one
-pub how_often-cons : (m : ℕ) (ns : List ℕ) (n : ℕ) → how_often (m ∷ ns) n ≡ cond (eqb m n) 1 0 + how_often ns n
-how_often-cons m ns n = sum_by-cons (λ x. cond (x == n) 1 0) m ns
+pub times-cons : (m : ℕ) (ns : List ℕ) (n : ℕ) → times n (m ∷ ns) ≡ cond (eqb m n) 1 0 + times n ns
+times-cons m ns n = sum_by-cons (λ x. cond (x == n) 1 0) m ns
 
 swap_first : (a b c : ℕ) → a + (b + c) ≡ b + (a + c)
 swap_first a b c = omega arith
 
-one_more : (m : ℕ) (ns ms : List ℕ) (n c : ℕ) → how_often ns n ≡ c + how_often ms n → how_often (m ∷ ns) n ≡ c + how_often (m ∷ ms) n
+one_more : (m : ℕ) (ns ms : List ℕ) (n c : ℕ) → times n ns ≡ c + times n ms → times n (m ∷ ns) ≡ c + times n (m ∷ ms)
 one_more m ns ms n c h =
-    how_often-cons m ns n ∙ (ap (λ x. cond (eqb m n) 1 0 + x) h ∙ (swap_first (cond (eqb m n) 1 0) c (how_often ms n) ∙ ap (λ x. c + x) (sym (how_often-cons m ms n))))
+    times-cons m ns n ∙ (ap (λ x. cond (eqb m n) 1 0 + x) h ∙ (swap_first (cond (eqb m n) 1 0) c (times n ms) ∙ ap (λ x. c + x) (sym (times-cons m ms n))))
 
-how_often-cons_other : (m : ℕ) (ns : List ℕ) (n : ℕ) → (n ≡ m → ⊥) → how_often (m ∷ ns) n ≡ how_often ns n
-how_often-cons_other m ns n h = how_often-cons m ns n ∙ ap (λ b. cond b 1 0 + how_often ns n) (ne_eqb m n (λ e. h (sym e))) ∙ zero-add (how_often ns n)
+times-cons_other : (m : ℕ) (ns : List ℕ) (n : ℕ) → (n ≡ m → ⊥) → times n (m ∷ ns) ≡ times n ns
+times-cons_other m ns n h = times-cons m ns n ∙ ap (λ b. cond b 1 0 + times n ns) (ne_eqb m n (λ e. h (sym e))) ∙ zero-add (times n ns)
 
 module _ {X : Type 0} where
   -- slots are vacant or have entries
@@ -38,11 +38,11 @@ module _ {X : Type 0} where
   length-vacant_from-padded from more (Some e ∷ slots) = length-vacant_from-padded (from + 1) more slots
 
   -- an index that is listed as vacant is one
-  pub vacant_from-vacant : (from : ℕ) (slots : List (Option X)) (i : ℕ) → 0 < how_often (vacant_from from slots) i
+  pub vacant_from-vacant : (from : ℕ) (slots : List (Option X)) (i : ℕ) → 0 < times i (vacant_from from slots)
       → (k : ℕ) × (i ≡ from + k) × (k < length slots) × (get_or slots k None ≡ None)
   vacant_from-vacant from [] i h = absurd (omega arith)
   vacant_from-vacant from (None ∷ slots) i h =
-      elim (cases_eq i from) [ inl e ↦ (0, omega arith, omega arith, refl) | inr n ↦ later (vacant_from-vacant (from + 1) slots i (subst (λ m. 0 < m) (how_often-cons_other from (vacant_from (from + 1) slots) i n) h)) ]
+      elim (cases_eq i from) [ inl e ↦ (0, omega arith, omega arith, refl) | inr n ↦ later (vacant_from-vacant (from + 1) slots i (subst (λ m. 0 < m) (times-cons_other from (vacant_from (from + 1) slots) i n) h)) ]
     where
       later : (k : ℕ) × (i ≡ from + 1 + k) × (k < length slots) × (get_or slots k None ≡ None) → (k : ℕ) × (i ≡ from + k) × (k < suc (length slots)) × (get_or (None ∷ slots) k None ≡ None)
       later p = (suc p.0, omega (arith, p.1), omega (arith, p.2), p.3)
@@ -58,24 +58,24 @@ module _ {X : Type 0} where
   vacant_from-above from (Some s ∷ slots) i rest e = let ih = vacant_from-above (from + 1) slots i rest e in omega arith
 
   -- freeing a slot adds its index
-  pub how_often-freed : (from : ℕ) (slots : List (Option X)) (k i n : ℕ) (entry : X) → i ≡ from + k → get_or slots k None ≡ Some entry
-      → how_often (vacant_from from (set slots k None)) n ≡ cond (eqb i n) 1 0 + how_often (vacant_from from slots) n
-  how_often-freed from [] k i n entry place is = absurd (none-some entry is)
-  how_often-freed from (None ∷ slots) zero i n entry place is = absurd (none-some entry is)
-  how_often-freed from (Some e ∷ slots) zero i n entry place is = let same : i ≡ from = omega arith in rw same (how_often-cons from (vacant_from (from + 1) slots) n)
-  how_often-freed from (None ∷ slots) (suc k) i n entry place is =
-      one_more from (vacant_from (from + 1) (set slots k None)) (vacant_from (from + 1) slots) n (cond (eqb i n) 1 0) (how_often-freed (from + 1) slots k i n entry (omega arith) is)
-  how_often-freed from (Some e ∷ slots) (suc k) i n entry place is = how_often-freed (from + 1) slots k i n entry (omega arith) is
+  pub times-freed : (from : ℕ) (slots : List (Option X)) (k i n : ℕ) (entry : X) → i ≡ from + k → get_or slots k None ≡ Some entry
+      → times n (vacant_from from (set slots k None)) ≡ cond (eqb i n) 1 0 + times n (vacant_from from slots)
+  times-freed from [] k i n entry position is = absurd (none-some entry is)
+  times-freed from (None ∷ slots) zero i n entry position is = absurd (none-some entry is)
+  times-freed from (Some e ∷ slots) zero i n entry position is = let same : i ≡ from = omega arith in rw same (times-cons from (vacant_from (from + 1) slots) n)
+  times-freed from (None ∷ slots) (suc k) i n entry position is =
+      one_more from (vacant_from (from + 1) (set slots k None)) (vacant_from (from + 1) slots) n (cond (eqb i n) 1 0) (times-freed (from + 1) slots k i n entry (omega arith) is)
+  times-freed from (Some e ∷ slots) (suc k) i n entry position is = times-freed (from + 1) slots k i n entry (omega arith) is
 
   -- filling a slot takes its index away
-  pub how_often-filled : (from : ℕ) (slots : List (Option X)) (k i n : ℕ) (entry : X) → i ≡ from + k → k < length slots → get_or slots k None ≡ None
-      → how_often (vacant_from from slots) n ≡ cond (eqb i n) 1 0 + how_often (vacant_from from (set slots k (Some entry))) n
-  how_often-filled from [] k i n entry place within is = absurd (omega arith)
-  how_often-filled from (None ∷ slots) zero i n entry place within is = let same : i ≡ from = omega arith in rw same (how_often-cons from (vacant_from (from + 1) slots) n)
-  how_often-filled from (Some e ∷ slots) zero i n entry place within is = absurd (none-some e (sym is))
-  how_often-filled from (None ∷ slots) (suc k) i n entry place within is =
-      one_more from (vacant_from (from + 1) slots) (vacant_from (from + 1) (set slots k (Some entry))) n (cond (eqb i n) 1 0) (how_often-filled (from + 1) slots k i n entry (omega arith) (omega arith) is)
-  how_often-filled from (Some e ∷ slots) (suc k) i n entry place within is = how_often-filled (from + 1) slots k i n entry (omega arith) (omega arith) is
+  pub times-filled : (from : ℕ) (slots : List (Option X)) (k i n : ℕ) (entry : X) → i ≡ from + k → k < length slots → get_or slots k None ≡ None
+      → times n (vacant_from from slots) ≡ cond (eqb i n) 1 0 + times n (vacant_from from (set slots k (Some entry)))
+  times-filled from [] k i n entry position within is = absurd (omega arith)
+  times-filled from (None ∷ slots) zero i n entry position within is = let same : i ≡ from = omega arith in rw same (times-cons from (vacant_from (from + 1) slots) n)
+  times-filled from (Some e ∷ slots) zero i n entry position within is = absurd (none-some e (sym is))
+  times-filled from (None ∷ slots) (suc k) i n entry position within is =
+      one_more from (vacant_from (from + 1) slots) (vacant_from (from + 1) (set slots k (Some entry))) n (cond (eqb i n) 1 0) (times-filled (from + 1) slots k i n entry (omega arith) (omega arith) is)
+  times-filled from (Some e ∷ slots) (suc k) i n entry position within is = times-filled (from + 1) slots k i n entry (omega arith) (omega arith) is
 
   -- writing an entry over an entry leaves them
   pub vacant_from-written : (from : ℕ) (slots : List (Option X)) (k : ℕ) (old new : X) → get_or slots k None ≡ Some old → vacant_from from (set slots k (Some new)) ≡ vacant_from from slots
@@ -94,11 +94,11 @@ module _ {X : Type 0} where
 
   -- filling the first that is listed leaves the others, in their order
   pub vacant_from-filled_first : (from : ℕ) (slots : List (Option X)) (k i : ℕ) (rest : List ℕ) (entry : X) → i ≡ from + k → vacant_from from slots ≡ i ∷ rest → vacant_from from (set slots k (Some entry)) ≡ rest
-  vacant_from-filled_first from [] k i rest entry place e = absurd (cc)
-  vacant_from-filled_first from (None ∷ slots) zero i rest entry place e = cc
-  vacant_from-filled_first from (None ∷ slots) (suc k) i rest entry place e = absurd (let same : from ≡ i = cc in omega arith)
-  vacant_from-filled_first from (Some s ∷ slots) zero i rest entry place e = absurd (let above = vacant_from-above (from + 1) slots i rest e in omega arith)
-  vacant_from-filled_first from (Some s ∷ slots) (suc k) i rest entry place e = vacant_from-filled_first (from + 1) slots k i rest entry (omega arith) e
+  vacant_from-filled_first from [] k i rest entry position e = absurd (cc)
+  vacant_from-filled_first from (None ∷ slots) zero i rest entry position e = cc
+  vacant_from-filled_first from (None ∷ slots) (suc k) i rest entry position e = absurd (let same : from ≡ i = cc in omega arith)
+  vacant_from-filled_first from (Some s ∷ slots) zero i rest entry position e = absurd (let above = vacant_from-above (from + 1) slots i rest e in omega arith)
+  vacant_from-filled_first from (Some s ∷ slots) (suc k) i rest entry position e = vacant_from-filled_first (from + 1) slots k i rest entry (omega arith) e
 
   -- a write changes the number of entries by the two slots
   pub count_by-written : (slots : List (Option X)) (k : ℕ) (old new : Option X) → k < length slots → get_or slots k None ≡ old

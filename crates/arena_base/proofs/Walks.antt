@@ -4,7 +4,7 @@ use Rattle.std.specs.Option.{option_map}
 use Rattle.std.proofs.lemmas.Option.{none-some, same_Some}
 use Rattle.std.proofs.lemmas.List.{get_or-drop, drop-set-lt, append-nil, take_more, reverse-append, length-take-le}
 use Rattle.std.proofs.lemmas.Bool.{eq-eqb}
-use Rattle.arena_base.specs.Arena.{Arena, slot, generation_at, item_if, item_of, without}
+use Rattle.arena_base.specs.Arena.{Arena, slot, generation_at, item_if, item_of, removed}
 use Rattle.arena_base.specs.Walk.{pointers_from, entries_from, entries_rising}
 use Rattle.arena_base.proofs.Occupied.{entry-from_generation}
 
@@ -58,28 +58,28 @@ module _ {T : Type 0} where
       ap (λ n. get_or a.slots n None) first.1 ∙ (sym (get_or-drop i a.slots first.0 None) ∙ first.2)
 
   -- what stands at an index is what its pointer names
-  pub item_of-there : (a : Arena T) (i g : ℕ) (item : T) → slot a i ≡ Some (g, item) → item_of a i g ≡ Some item
-  item_of-there a i g item is = ap (item_if g) is ∙ ap (λ b. cond b (Some item) None) (eq-eqb g g refl)
+  pub item_of-there : (a : Arena T) (p : ℕ × ℕ) (item : T) → slot a p.0 ≡ Some (p.1, item) → item_of a p ≡ Some item
+  item_of-there a p item is = ap (item_if p.1) is ∙ ap (λ b. cond b (Some item) None) (eq-eqb p.1 p.1 refl)
 
   -- where an index has an entry of this generation, the pointer to it finds an item
-  item-there : (a : Arena T) (i g : ℕ) → generation_at a i ≡ Some g → IsSome (item_of a i g)
+  item-there : (a : Arena T) (i g : ℕ) → generation_at a i ≡ Some g → IsSome (item_of a (i, g))
   item-there a i g is =
       let found = entry-from_generation (slot a i) g is in
       let same : found.0.0 ≡ g = same_Some found.0.0 g (ap (option_map (λ (e : ℕ × T). e.0)) (sym found.1) ∙ is) in
-      ap is_some (item_of-there a i g found.0.1 (found.1 ∙ ap (λ n. Some (n, found.0.1)) same))
+      ap is_some (item_of-there a (i, g) found.0.1 (found.1 ∙ ap (λ n. Some (n, found.0.1)) same))
 
-  pub item-pointed : (a : Arena T) (i g j h : ℕ) → generation_at a i ≡ Some g → j ≡ i → h ≡ g → IsSome (item_of a j h)
+  pub item-pointed : (a : Arena T) (i g j h : ℕ) → generation_at a i ≡ Some g → j ≡ i → h ≡ g → IsSome (item_of a (j, h))
   item-pointed a i g j h is index era = rw (index, era) (item-there a i g is)
 
   -- a removal leaves the entries that come later
-  pub entries_rising-without : (greatest : Option ℕ) (a : Arena T) (i : ℕ) → entries_rising (without greatest a i) (i + 1) ≡ entries_rising a (i + 1)
-  entries_rising-without greatest a i = ap (entries_from (i + 1)) (drop-set-lt (i + 1) a.slots i None (omega arith))
+  pub entries_rising-behind : (greatest : Option ℕ) (a : Arena T) (i : ℕ) → entries_rising (removed greatest a i) (i + 1) ≡ entries_rising a (i + 1)
+  entries_rising-behind greatest a i = ap (entries_from (i + 1)) (drop-set-lt (i + 1) a.slots i None (omega arith))
 
   -- the first entry that comes has been removed
-  pub entries_rising-removed : (greatest : Option ℕ) (a b : Arena T) (i n j g : ℕ) (item x : T) → entries_rising a i ≡ (j, g, x) ∷ entries_rising a (n + 1) → n ≡ j → item_of a j g ≡ Some item → b ≡ without greatest a j
+  pub entries_rising-removed : (greatest : Option ℕ) (a b : Arena T) (i n j g : ℕ) (item x : T) → entries_rising a i ≡ (j, g, x) ∷ entries_rising a (n + 1) → n ≡ j → item_of a (j, g) ≡ Some item → b ≡ removed greatest a j
       → entries_rising a i ≡ (j, g, item) ∷ entries_rising b (n + 1)
   entries_rising-removed greatest a b i n j g item x is next there removed =
-      let named = item_of-there a j g x (entries_rising-first a i (j, g, x) (entries_rising a (n + 1)) is) in
+      let named = item_of-there a (j, g) x (entries_rising-first a i (j, g, x) (entries_rising a (n + 1)) is) in
       let same : x ≡ item = same_Some x item (sym named ∙ there) in
       is ∙ (ap (λ t. (j, g, t) ∷ entries_rising a (n + 1)) same
-      ∙ ap (λ (rest : List (ℕ × ℕ × T)). (j, g, item) ∷ rest) (ap (λ m. entries_rising a (m + 1)) next ∙ (sym (entries_rising-without greatest a j) ∙ (ap (λ v. entries_rising v (j + 1)) (sym removed) ∙ ap (λ m. entries_rising b (m + 1)) (sym next)))))
+      ∙ ap (λ (rest : List (ℕ × ℕ × T)). (j, g, item) ∷ rest) (ap (λ m. entries_rising a (m + 1)) next ∙ (sym (entries_rising-behind greatest a j) ∙ (ap (λ v. entries_rising v (j + 1)) (sym removed) ∙ ap (λ m. entries_rising b (m + 1)) (sym next)))))

@@ -33,8 +33,8 @@ module _ {X : Type 0} where
   resized n slots = take n slots ++ replicate (n - length slots) None
 
 -- how often n stands in the list
-abbrev pub how_often : List ℕ → ℕ → ℕ
-how_often ns n = count_by (λ m. m == n) ns
+abbrev pub times : ℕ → List ℕ → ℕ
+times n ns = count_by (λ m. m == n) ns
 
 -- the lesser of the maximum, if one is set, and the greatest index of an entry
 abbrev pub limit_of : ℕ → Option ℕ → ℕ
@@ -52,16 +52,16 @@ module _ {T : Type 0} where
   item_if g (Some e) = if e.0 == g then Some e.1 else None
 
   -- the item of the entry with this index and generation
-  abbrev pub item_of : Arena T → ℕ → ℕ → Option T
-  item_of a i g = item_if g (slot a i)
+  abbrev pub item_of : Arena T → ℕ × ℕ → Option T
+  item_of a p = item_if p.1 (slot a p.0)
 
   -- every pointer finds the same in both
   abbrev pub FindSame : Arena T → Arena T → Type 0
-  FindSame a b = (i g : ℕ) → item_of a i g ≡ item_of b i g
+  FindSame a b = (p : ℕ × ℕ) → item_of a p ≡ item_of b p
 
-  -- every pointer finds the same in both, but the one with index i and generation g
-  abbrev pub FindSameBut : ℕ → ℕ → Arena T → Arena T → Type 0
-  FindSameBut i g a b = (j h : ℕ) → (j ≢ i) ⊎ (h ≢ g) → item_of a j h ≡ item_of b j h
+  -- every pointer finds the same in both, but this one
+  abbrev pub FindSameBut : ℕ × ℕ → Arena T → Arena T → Type 0
+  FindSameBut p a b = (q : ℕ × ℕ) → (q.0 ≢ p.0) ⊎ (q.1 ≢ p.1) → item_of a q ≡ item_of b q
 
   -- how many entries there are
   abbrev pub arena_len : Arena T → ℕ
@@ -108,7 +108,7 @@ module _ {T : Type 0} where
     pub within_limit : arena_capacity a ≤ arena_limit most a
     pub generation_lawful : IsLawfulGeneration greatest a.generation
     pub entries_lawful : (i : ℕ) → ForSome (slot a i) (λ e. IsLawfulGeneration greatest e.0)
-    pub vacant_listed : (i : ℕ) → how_often a.vacant i ≡ how_often (vacant_indexes a.slots) i
+    pub vacant_listed : (i : ℕ) → times i a.vacant ≡ times i (vacant_indexes a.slots)
     pub counted : arena_len a + length a.vacant ≡ arena_capacity a
 
   -- the generation of the entry at index i
@@ -155,8 +155,8 @@ module _ {T : Type 0} where
   freed a i = record a { slots = slice_set a.slots i None; vacant = i ∷ a.vacant }
 
   -- a with the next generation and without the entry at index i, which the next insertion takes
-  abbrev pub without : Option ℕ → Arena T → ℕ → Arena T
-  without greatest a i = raised greatest (freed a i)
+  abbrev pub removed : Option ℕ → Arena T → ℕ → Arena T
+  removed greatest a i = raised greatest (freed a i)
 
   -- a with the next generation, which the entry at index i gets too
   abbrev pub renewed : Option ℕ → Arena T → ℕ → Arena T

@@ -19,17 +19,17 @@ compressed a g items = let slots = resized (length a.slots) (None ∷ map (λ it
     record a { slots = slots; vacant = vacant_indexes slots; generation = g }
 
 -- P reads pointers as index and generation; `step` is what a call of the closure may do; g is the new generation
-module _ {P T F : Type 0} (index era : P → ℕ) (step : F → P → T → P → T → F → Type 0) (g : ℕ) where
-  -- The closure was called with the entry's pointer, its item and its new pointer, and its answer came behind the items so far.
+module _ {P T F : Type 0} (numbers : P → ℕ × ℕ) (step : F → P → T → P → T → F → Type 0) (g : ℕ) where
+  -- The closure was called with the entry's pointer, its item and its new pointer, and what it returned came behind the items so far.
   -- A state is the closure with the items so far.
   pub record CompressionStep (s : F × List T) (e : ℕ × ℕ × T) (t : F × List T) : Type 0 where
     pub from : P
     pub to : P
     pub item : T
-    pub from_index : index from ≡ e.0
-    pub from_era : era from ≡ e.1
-    pub to_index : index to ≡ length s.1 + 1
-    pub to_era : era to ≡ g
+    pub from_index : (numbers from).0 ≡ e.0
+    pub from_generation : (numbers from).1 ≡ e.1
+    pub to_index : (numbers to).0 ≡ length s.1 + 1
+    pub to_generation : (numbers to).1 ≡ g
     pub called : step s.0 from e.2 to item t.0
     pub behind : t.1 ≡ s.1 ++ item ∷ []
 

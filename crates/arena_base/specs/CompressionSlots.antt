@@ -7,11 +7,11 @@ use Rattle.arena_base.specs.Slot.{entry_in}
 use Rattle.arena_base.specs.Walk.{entries_from}
 use Rattle.arena_base.specs.Compression.{CompressionStep}
 
-module _ {P T G F : Type 0} (index era : P → ℕ) (number : G → ℕ) (step : F → P → T → P → T → F → Type 0) (generation : G) where
+module _ {P T G F : Type 0} (numbers : P → ℕ × ℕ) (number : G → ℕ) (step : F → P → T → P → T → F → Type 0) (generation : G) where
   -- the entries of all slots came to the first ones, the others are vacant
   pub record CompressesSlots (f : F) (old new : List (Slot T G)) : Type 0 where
     pub items : List T
     pub last : F
-    pub calls : FoldsTo (CompressionStep index era step (number generation)) (f, []) (entries_from 1 (map (entry_in number) old)) (last, items)
+    pub calls : FoldsTo (CompressionStep numbers step (number generation)) (f, []) (entries_from 1 (map (entry_in number) old)) (last, items)
     pub fits : length items ≤ length old
     pub after : new ≡ map (λ item. Occupied item generation) items ++ replicate (length old - length items) Vacant

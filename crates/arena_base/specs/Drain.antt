@@ -1,7 +1,7 @@
 -- What a contract sees of a drain of an arena.
 use Rattle.std.specs.Prelude.{◌≡◌, ℕ, ◌+◌, Option, List, [], ◌∷◌, MatchOption}
 use Rattle.std.specs.Borrow.{GName}
-use Rattle.arena_base.specs.Arena.{Arena, without}
+use Rattle.arena_base.specs.Arena.{Arena, removed}
 use Rattle.arena_base.specs.Generation.{overflows_after}
 use Rattle.arena_base.specs.Walk.{entries_rising}
 use Rattle.arena_base.specs.Invalidation.{allowed_value, is_overflow}
@@ -22,12 +22,12 @@ module _ {P T A Inx Gen : Type 0} where
   drain_rest d = entries_rising d.arena.now (d.at + 1)
 
   -- x is the first entry of s, which has been removed, and t has the others
-  pub record IsDrained (greatest : Option ℕ) (index era : P → ℕ) (s : Drain P T A Inx Gen) (x : InvalidationOption (P × T)) (t : Drain P T A Inx Gen) : Type 0 where
-    pub first : drain_rest s ≡ (index (allowed_value x).0, era (allowed_value x).0, (allowed_value x).1) ∷ drain_rest t
-    pub removed : drain_arena t ≡ without greatest (drain_arena s) (index (allowed_value x).0)
+  pub record IsDrained (greatest : Option ℕ) (numbers : P → ℕ × ℕ) (s : Drain P T A Inx Gen) (x : InvalidationOption (P × T)) (t : Drain P T A Inx Gen) : Type 0 where
+    pub first : drain_rest s ≡ ((numbers (allowed_value x).0).0, (numbers (allowed_value x).0).1, (allowed_value x).1) ∷ drain_rest t
+    pub removed : drain_arena t ≡ removed greatest (drain_arena s) (numbers (allowed_value x).0).0
     pub overflow : is_overflow x ≡ overflows_after greatest (drain_arena s).generation
 
   -- `next` took s to t, and returned r: the entries go by rising index, each by a removal of its own
-  abbrev pub DrainSteps : Option ℕ → (P → ℕ) → (P → ℕ) → Drain P T A Inx Gen → Option (InvalidationOption (P × T)) → Drain P T A Inx Gen → Type 0
-  DrainSteps greatest index era s r t =
-      (drain_lender t ≡ drain_lender s) × MatchOption r ((drain_rest s ≡ []) × (t ≡ s)) (λ x. IsDrained greatest index era s x t)
+  abbrev pub DrainSteps : Option ℕ → (P → ℕ × ℕ) → Drain P T A Inx Gen → Option (InvalidationOption (P × T)) → Drain P T A Inx Gen → Type 0
+  DrainSteps greatest numbers s r t =
+      (drain_lender t ≡ drain_lender s) × MatchOption r ((drain_rest s ≡ []) × (t ≡ s)) (λ x. IsDrained greatest numbers s x t)

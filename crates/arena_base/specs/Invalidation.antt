@@ -1,4 +1,4 @@
--- What a call answers that ends or renews a pointer.
+-- What a call returns that ends or renews a pointer.
 use Rattle.std.specs.Prelude.{Bool, true, false, Option, Some, None}
 use Rattle.arena_base.specs.declared.invalidation.InvalidationResult.{InvalidationResult}
 use Rattle.arena_base.specs.declared.invalidation.InvalidationResult.TheVariants.{Success, GenerationOverflow, InvalidPtr}

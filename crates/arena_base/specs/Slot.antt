@@ -6,7 +6,7 @@ use Rattle.arena_base.specs.declared.slot.Slot.TheVariants.{Occupied, Vacant}
 
 -- the entry in a slot, its generation as a number
 abbrev pub entry_in : {T G : Type 0} → (G → ℕ) → Slot T G → Option (ℕ × T)
-entry_in number (Occupied item era) = Some (number era, item)
+entry_in number (Occupied item generation) = Some (number generation, item)
 entry_in number Vacant = None
 
 -- the arena of these slots, where the top of the stack of vacant indexes is taken next
@@ -19,7 +19,7 @@ module _ {T G : Type 0} where
   abbrev pub vacant_slots : ℕ → List (Slot T G) → List ℕ
   vacant_slots from [] = []
   vacant_slots from (Vacant ∷ slots) = from ∷ vacant_slots (from + 1) slots
-  vacant_slots from (Occupied item era ∷ slots) = vacant_slots (from + 1) slots
+  vacant_slots from (Occupied item generation ∷ slots) = vacant_slots (from + 1) slots
 
   -- the slots from place n on are vacant
   abbrev pub AllVacantFrom : ℕ → List (Slot T G) → Type 0
@@ -27,15 +27,15 @@ module _ {T G : Type 0} where
 
   -- generation and item
   abbrev pub slot_entry : Slot T G → Option (G × T)
-  slot_entry (Occupied item era) = Some (era, item)
+  slot_entry (Occupied item generation) = Some (generation, item)
   slot_entry Vacant = None
 
   -- the slot with another item in its entry
   abbrev pub with_slot_item : Slot T G → T → Slot T G
-  with_slot_item (Occupied item era) new = Occupied new era
+  with_slot_item (Occupied item generation) new = Occupied new generation
   with_slot_item Vacant new = Vacant
 
   -- the slot with another generation in its entry
-  abbrev pub with_era : Slot T G → G → Slot T G
-  with_era (Occupied item era) new = Occupied item new
-  with_era Vacant new = Vacant
+  abbrev pub with_slot_generation : Slot T G → G → Slot T G
+  with_slot_generation (Occupied item generation) new = Occupied item new
+  with_slot_generation Vacant new = Vacant

@@ -59,7 +59,7 @@ module _ {T : Type 0} where
   -- a step over the arena as it is now took the walk `old` to `new`, and gave the next entry on its way, with index i and
   -- generation g, which is there
   pub record GivesEntry (old new : Walk) (a : Arena T) (i g : ℕ) : Type 0 where
-    pub there : IsSome (item_of a i g)
+    pub there : IsSome (item_of a (i, g))
     pub first : walk_rest old a ≡ (i, g) ∷ walk_rest new a
     pub stands : new ≡ walk_from old i
 
@@ -69,5 +69,5 @@ module _ {T : Type 0} where
     pub stays : new ≡ old
 
   -- a step over the arena took the walk `old` to `new`, and gave this pointer or nothing
-  abbrev pub WalkSteps : {P : Type 0} → (P → ℕ) → (P → ℕ) → Walk → Arena T → Option P → Walk → Type 0
-  WalkSteps index era old a result new = MatchOption result (GivesNothing old new a) (λ p. GivesEntry old new a (index p) (era p))
+  abbrev pub WalkSteps : {P : Type 0} → (P → ℕ × ℕ) → Walk → Arena T → Option P → Walk → Type 0
+  WalkSteps numbers old a result new = MatchOption result (GivesNothing old new a) (λ p. GivesEntry old new a (numbers p).0 (numbers p).1)

@@ -1,8 +1,8 @@
-//! The answers of calls that end or renew a pointer, and so raise the arena's generation.
+//! The results of calls that end or renew a pointer, and so raise the arena's generation.
 ghost use Rattle.std.specs.Prelude.{◌≡◌, ◌↔◌, IsSome, MatchOption, IfSome, Some};
 ghost use Rattle.std.specs.Option.{ForSome};
 
-/// The answer of a call that was given a pointer.
+/// The result of a call that was given a pointer.
 #[derive(Debug, Clone, Copy, PartialEq, Eq, Drop)]
 pub enum InvalidationResult<T> {
     /// The pointer was valid, and its generation won't come again yet.
@@ -13,7 +13,7 @@ pub enum InvalidationResult<T> {
     InvalidPtr,
 }
 
-/// The answer of a call that always succeeds.
+/// The result of a call that always succeeds.
 #[derive(Debug, Clone, Copy, PartialEq, Eq, Drop)]
 pub enum InvalidationOption<T> {
     /// The old generation won't come again yet.
@@ -37,7 +37,7 @@ impl<T> InvalidationResult<T> {
         }
     }
 
-    /// The same answer of another value.
+    /// The same result of another value.
     pub fn map<U, F: FnOnce(T) -> U + Drop>(self, f: F) -> InvalidationResult<U>
         requires { ForSome (valid_value self) (F.pre f) }
         ensures value { MatchOption (valid_value self) (result ≡ InvalidationResult.InvalidPtr)
@@ -54,7 +54,7 @@ impl<T> InvalidationResult<T> {
         }
     }
 
-    /// The answer for a pointer that is known to have been valid.
+    /// The result for a pointer that is known to have been valid.
     pub fn unwrap(self) -> InvalidationOption<T>
         requires { IsSome (valid_value self) }
         ensures value { valid_value self ≡ Some (allowed_value result) }
@@ -73,7 +73,7 @@ impl<T> InvalidationResult<T> {
 impl<T> InvalidationOption<T> {
     ghost use Rattle.arena_base.specs.Invalidation.{valid_value, has_overflowed, allowed_value, is_overflow};
 
-    /// The same answer, as that of a call that was given a valid pointer.
+    /// The same result, as that of a call that was given a valid pointer.
     pub fn valid(self) -> InvalidationResult<T>
         ensures value { valid_value result ≡ Some (allowed_value self) }
         ensures overflow { has_overflowed result ≡ is_overflow self }
@@ -97,7 +97,7 @@ impl<T> InvalidationOption<T> {
         }
     }
 
-    /// The same answer of another value.
+    /// The same result of another value.
     pub fn map<U, F: FnOnce(T) -> U>(self, f: F) -> InvalidationOption<U>
         requires { F.pre f (allowed_value self) }
         ensures value { F.post f (allowed_value self) (allowed_value result) }

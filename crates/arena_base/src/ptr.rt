@@ -91,34 +91,29 @@ pub trait Ptr: Copy + Eq + Ord + Hash + Debug {
     /// The type of its generation.
     type Gen: PtrGen;
 
-    // the number of its index
-    ghost index: { Self → ℕ };
-
-    // the number of its generation
-    ghost era: { Self → ℕ };
+    // the numbers of its index and of its generation
+    ghost numbers: { Self → ℕ × ℕ };
 
     /// The index of the entry that it names.
     fn inx(self) -> Self::Inx
-        ensures { Self.Inx.number result ≡ index self };
+        ensures { Self.Inx.number result ≡ (numbers self).0 };
 
     /// The generation that the entry has to have.
     fn generation(self) -> Self::Gen
-        ensures { Self.Gen.number result ≡ era self };
+        ensures { Self.Gen.number result ≡ (numbers self).1 };
 
     /// A pointer that names no entry of any arena.
     fn invalid() -> Self
-        ensures index { index result ≡ Self.Inx.most + 1 }
-        ensures era { era result ≡ invalid_generation Self.Gen.greatest };
+        ensures { numbers result ≡ (Self.Inx.most + 1, invalid_generation Self.Gen.greatest) };
 
     /// The pointer of these numbers, whether they name an entry or not.
     #[doc(hidden)]
     fn _from_raw(inx: Self::Inx, generation: Self::Gen) -> Self
-        ensures index { index result ≡ Self.Inx.number inx }
-        ensures era { era result ≡ Self.Gen.number generation };
+        ensures { numbers result ≡ (Self.Inx.number inx, Self.Gen.number generation) };
 
     // pointers with the same numbers are one pointer
-    ghost one_each: { (p q : Self) → index p ≡ index q → era p ≡ era q → p ≡ q };
+    ghost one_each: { (p q : Self) → numbers p ≡ numbers q → p ≡ q };
 
     // `==` compares both numbers
-    ghost eq_is: { (p q : Self) → Self.PartialEq.eq p q ≡ ((index p == index q) && (era p == era q)) };
+    ghost eq_is: { (p q : Self) → Self.PartialEq.eq p q ≡ (((numbers p).0 == (numbers q).0) && ((numbers p).1 == (numbers q).1)) };
 }

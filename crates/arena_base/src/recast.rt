@@ -6,17 +6,17 @@ pub trait Recaster {
     /// What it replaces.
     type Item;
 
-    // what an item may be afterwards, and what is answered of it
+    // what an item may be afterwards, and what is returned of it
     ghost item_gives: { Self → Self.Item → Result (Unit {0}) Self.Item → Self.Item → Type 0 };
 
-    /// Replaces the item, or answers it as the error.
+    /// Replaces the item, or returns it as the error.
     fn recast_item(&self, item: &mut Self::Item) -> Result<(), Self::Item>
         ensures { item_gives self.now item.old result item.new };
 }
 
 /// Something with items `I` in it, each of which a recaster can replace.
 pub trait Recast<I> {
-    // what the value may be afterwards and what is answered, by what the recaster may do to an item
+    // what the value may be afterwards and what is returned, by what the recaster may do to an item
     ghost recast_gives: { (I → Result (Unit {0}) I → I → Type 0) → Self → Result (Unit {0}) I → Self → Type 0 };
 
     /// Replaces each item, up to the first that the recaster refuses, which is then the error.

@@ -17,7 +17,7 @@ pub enum Slot<T, G> {
 const _: () = prove!(size_of::<Slot<u64, u64>>() <= 24);
 
 impl<T, G> Slot<T, G> {
-    ghost use Rattle.arena_base.specs.Slot.{slot_entry, with_slot_item, with_era};
+    ghost use Rattle.arena_base.specs.Slot.{slot_entry, with_slot_item, with_slot_generation};
     ghost use Rattle.arena_base.specs.contracts.slot.Slot.{the_row};
 
     // Takes the entry out, with its generation.
@@ -83,7 +83,7 @@ impl<T, G> Slot<T, G> {
     pub(crate) fn renew(&mut self, generation: G)
     where
         G: Copy,
-        ensures { self.new ≡ with_era self.old generation }
+        ensures { self.new ≡ with_slot_generation self.old generation }
     {
         if let Slot::Occupied(_, old) = self {
             *old = generation;

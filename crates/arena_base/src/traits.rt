@@ -1,27 +1,25 @@
 //! `ArenaTrait`: what every arena is, as a finite map from pointers to items with at most one pointer for an index.
 ghost use Rattle.std.specs.Prelude.{◌≡◌, ◌==◌, ◌<◌, ◌≤◌, ◌↔◌, ℕ, Some, None, max, is_some, IsSome, IsNone, IsOk, IsErr, IfOk, OnOk, OnErr, IfSome, IfNone, OnSome};
 ghost use Rattle.std.specs.Option.{option_copied, option_copied_mut, option_map};
-ghost use Rattle.std.specs.Borrow.{sem, Lends, LendsIf};
-ghost use Rattle.arena_base.specs.Arena.{Arena as Content, HoldsSame, slot, item_of, arena_len, arena_capacity, arena_limit, new_arena, with_capacity, with_item, without, renewed, cleared, greatest_occupied, IsLawful, IsOccupied, IsFirstEntry, IsLastEntry};
+ghost use Rattle.std.specs.Borrow.{sem, LendsIf};
+ghost use Rattle.arena_base.specs.Arena.{Arena as Content, HoldsSame, slot, item_of, arena_len, arena_capacity, arena_limit, new_arena, with_capacity, with_item, removed, renewed, cleared, greatest_occupied, IsLawful, IsOccupied, IsFirstEntry, IsLastEntry};
 ghost use Rattle.arena_base.specs.Compression.{compressed, compressed_generation, compression_overflows, items_rising, IsCompression};
 ghost use Rattle.arena_base.specs.Generation.{next_generation, overflows_after};
 ghost use Rattle.arena_base.specs.Invalidation.{valid_value, has_overflowed, is_overflow};
 
 use crate::error::{MaxCapacityReductionError, ReallocationError};
 use crate::invalidation::{InvalidationOption, InvalidationResult};
+use crate::items_mut::ItemsMut;
 use crate::ptr::{Ptr, PtrGen, PtrInx};
 use std::alloc::{AllocError, Allocator};
 
 /// The calls that all arenas have.
-pub trait ArenaTrait<P: Ptr, T> {
+pub trait ArenaTrait<P: Ptr, T>: ItemsMut<P, T> {
     /// The handle that the arena's memory comes from.
     type Alloc: Allocator + Copy;
 
     // what the arena holds; the order in which vacant slots are taken is not told
     ghost content: { Self → Content T };
-
-    // the arena with another item in the entry at an index
-    ghost written: { Self → ℕ → T → Self };
 
     /// An empty arena, which takes no memory until it grows.
     fn new(alloc: Self::Alloc) -> Self
@@ -65,11 +63,8 @@ pub trait ArenaTrait<P: Ptr, T> {
 
     /// Whether the pointer is a key of the map.
     fn contains(&self, p: P) -> bool
-        ensures { result ≡ is_some (item_of (content self.now) (P.index p) (P.era p)) };
-
-    /// Whether there is an entry at the index.
-    fn contains_inx(&self, i: P::Inx) -> bool
-        ensures { result ≡ is_some (slot (content self.now) (P.Inx.number i)) };
+        ensures value { result ≡ is_some (item_of (content self.now) (P.numbers p)) }
+        ensures entries { (i : ℕ) → Self.entry_at self.now i ≡ slot (content self.now) i };
 
     /// The generation of the next entry, where all entries share one count of generations.
     fn singular_generation(&self) -> Option<P::Gen>
@@ -77,58 +72,48 @@ pub trait ArenaTrait<P: Ptr, T> {
 
     /// The item that the pointer names.
     fn get(&self, p: P) -> Option<&T>
-        ensures { option_copied result ≡ item_of (content self.now) (P.index p) (P.era p) };
+        ensures { option_copied result ≡ item_of (content self.now) (P.numbers p) };
 
     /// The item that the pointer names, to be written.
     fn get_mut(&mut self, p: P) -> Option<&mut T>
         ensures* writes_back { sem 𝓛
-            (LendsIf Self.row T.row self.entry result (written self.old (P.index p)) self.old) }
-        ensures value { option_copied_mut result ≡ item_of (content self.old) (P.index p) (P.era p) };
+            (LendsIf Self.row T.row self.entry result
+            (Self.written self.old (P.numbers p).0) self.old) }
+        ensures value { option_copied_mut result ≡ item_of (content self.old) (P.numbers p) };
 
     /// Generation and item of the entry at the index.
     fn get_inx(&self, i: P::Inx) -> Option<(P::Gen, &T)>
         ensures { option_map (λ e. (P.Gen.number e.0, e.1.now)) result ≡ slot (content self.now) (P.Inx.number i) };
 
-    /// Generation and item of the entry at the index; the item may be written. No clause says what it leaves; that of `pair_mut`
-    /// does.
-    fn get_inx_mut(&mut self, i: P::Inx) -> Option<(P::Gen, &mut T)>
-        ensures { option_map (λ e. (P.Gen.number e.0, e.1.now)) result ≡ slot (content self.old) (P.Inx.number i) };
-
-    /// Generation and item of the entry at an index that has one; the item may be written.
-    fn pair_mut(&mut self, i: P::Inx) -> (P::Gen, &mut T)
-        requires { IsOccupied (content self.old) (P.Inx.number i) }
-        ensures* writes_back { sem 𝓛 (Lends Self.row T.row self.entry result.1 (written self.old (P.Inx.number i))) }
-        ensures value { slot (content self.old) (P.Inx.number i) ≡ Some (P.Gen.number result.0, result.1.now) };
-
     /// The pointer of the entry with the least index.
     fn find_first_inx_ptr(&self) -> Option<P>
-        ensures first { IfSome result (λ p. IsFirstEntry (content self.now) (P.index p) (P.era p)) }
+        ensures first { IfSome result (λ p. IsFirstEntry (content self.now) (P.numbers p).0 (P.numbers p).1) }
         ensures empty { IsNone result ↔ (arena_len (content self.now) ≡ 0) };
 
     /// The pointer of the entry with the greatest index.
     fn find_last_inx_ptr(&self) -> Option<P>
-        ensures last { IfSome result (λ p. IsLastEntry (content self.now) (P.index p) (P.era p)) }
+        ensures last { IfSome result (λ p. IsLastEntry (content self.now) (P.numbers p).0 (P.numbers p).1) }
         ensures empty { IsNone result ↔ (arena_len (content self.now) ≡ 0) };
 
     /// Gives the entry that the pointer names a new pointer, at the same index and with the raised generation.
     fn invalidate(&mut self, p: P) -> InvalidationResult<P>
-        ensures valid { is_some (valid_value result) ≡ is_some (item_of (content self.old) (P.index p) (P.era p)) }
-        ensures index { IfSome (valid_value result) (λ q. P.index q ≡ P.index p) }
-        ensures era { IfSome (valid_value result)
-            (λ q. P.era q ≡ next_generation P.Gen.greatest (content self.old).generation) }
+        ensures valid { is_some (valid_value result) ≡ is_some (item_of (content self.old) (P.numbers p)) }
+        ensures index { IfSome (valid_value result) (λ q. (P.numbers q).0 ≡ (P.numbers p).0) }
+        ensures generation { IfSome (valid_value result)
+            (λ q. (P.numbers q).1 ≡ next_generation P.Gen.greatest (content self.old).generation) }
         ensures overflow { OnSome (valid_value result)
             (has_overflowed result ≡ overflows_after P.Gen.greatest (content self.old).generation) }
         ensures renewed { OnSome (valid_value result)
-            (HoldsSame (content self.new) (renewed P.Gen.greatest (content self.old) (P.index p))) }
+            (HoldsSame (content self.new) (renewed P.Gen.greatest (content self.old) (P.numbers p).0)) }
         ensures invalid { IfNone (valid_value result) (HoldsSame (content self.new) (content self.old)) };
 
     /// Takes the entry out that the pointer names, and raises the generation.
     fn remove(&mut self, p: P) -> InvalidationResult<T>
-        ensures value { valid_value result ≡ item_of (content self.old) (P.index p) (P.era p) }
+        ensures value { valid_value result ≡ item_of (content self.old) (P.numbers p) }
         ensures overflow { OnSome (valid_value result)
             (has_overflowed result ≡ overflows_after P.Gen.greatest (content self.old).generation) }
         ensures removed { OnSome (valid_value result)
-            (HoldsSame (content self.new) (without P.Gen.greatest (content self.old) (P.index p))) }
+            (HoldsSame (content self.new) (removed P.Gen.greatest (content self.old) (P.numbers p).0)) }
         ensures invalid { IfNone (valid_value result) (HoldsSame (content self.new) (content self.old)) };
 
     /// Takes the entry at the index out, with its generation, and raises the arena's.
@@ -138,7 +123,7 @@ pub trait ArenaTrait<P: Ptr, T> {
         ensures overflow { OnSome (valid_value result)
             (has_overflowed result ≡ overflows_after P.Gen.greatest (content self.old).generation) }
         ensures removed { OnSome (valid_value result)
-            (HoldsSame (content self.new) (without P.Gen.greatest (content self.old) (P.Inx.number i))) }
+            (HoldsSame (content self.new) (removed P.Gen.greatest (content self.old) (P.Inx.number i))) }
         ensures invalid { IfNone (valid_value result) (HoldsSame (content self.new) (content self.old)) };
 
     /// Drops all entries, and raises the generation once.
@@ -157,7 +142,7 @@ pub trait ArenaTrait<P: Ptr, T> {
         f: F,
     ) -> InvalidationOption<()>
         requires { F.IsAlwaysCallable f }
-        ensures after { IsCompression P.index P.era F.step
+        ensures after { IsCompression P.numbers F.step
             (compressed_generation P.Gen.greatest reset (content self.old).generation) f
             (content self.old) (content self.new) }
         ensures overflow { is_overflow result
@@ -176,7 +161,7 @@ pub trait ArenaTrait<P: Ptr, T> {
 
     // a written item is the map's
     ghost written_content: { (s : Self) (i : ℕ) (item : T)
-        → content (written s i item) ≡ with_item (content s) i item };
+        → content (Self.written s i item) ≡ with_item (content s) i item };
 }
 
 /// Marks arenas whose entries lie in the slots that their indexes name.

@@ -2,8 +2,8 @@ ghost use Rattle.std.specs.Prelude.{◌≡◌, IfErr, IsTrue};
 
 use arena_base::{
     Advancer, Arena, ArenaTrait, CompactArenaTrait, InsertionError, InvalidationOption,
-    InvalidationResult, MaxCapacityReductionError, P0, P8, PN, Ptr, PtrAdvancer, PtrGen, PtrInx,
-    Q0, ReallocationError, Recast, Recaster, SetMaxCapacity, laws,
+    InvalidationResult, ItemsMut, MaxCapacityReductionError, P0, P8, PN, Ptr, PtrAdvancer, PtrGen,
+    PtrInx, Q0, ReallocationError, Recast, Recaster, SetMaxCapacity, laws,
 };
 use linked_list_allocator::LocalHeap;
 use std::alloc::{AllocError, Allocator, Global};

@@ -3,9 +3,9 @@ use Rattle.std.proofs.Common.{◌≡◌, ◌≢◌, ℕ, zero, suc, ◌+◌, ◌
 use Rattle.std.proofs.lemmas.Bool.Decides.{eqb_tells, leb_tells}
 use Rattle.std.proofs.lemmas.Option.{slice_get_cases, slice_get_within, get_or_from_slice_get}
 use Rattle.std.specs.Option.{option_map}
-use Rattle.chain_base.specs.Chain.{Entry, times, IsDistinct, entry_at, insert_after, insert_before, without, with_item, with_generation}
-use Rattle.chain_base.specs.Compression.{lesser, place_of, moved, at_place, numbered}
-use Rattle.chain_base.proofs.Lists.{times-here, Stands-occurs, insert_after-split, insert_before-split, with_item-changed_at, with_generation-changed_at, entry_at-changed_at_other, entry_at-changed_at, length-changed_at}
+use Rattle.chain_base.specs.Chain.{Entry, times, IsDistinct, entry_at, insert_after, insert_before, without, with_item_among, with_generation}
+use Rattle.chain_base.specs.Compression.{lesser, compressed_index, moved, at_compressed_index, numbered}
+use Rattle.chain_base.proofs.Lists.{times-here, Stands-occurs, insert_after-split, insert_before-split, with_item_among-changed_at, with_generation-changed_at, entry_at-changed_at_other, entry_at-changed_at, length-changed_at}
 use Rattle.chain_base.proofs.Canonical.{entry-absent}
 use Rattle.chain_base.proofs.Ranking.{place-injective}
 use Rattle.chain_base.proofs.Renumbering.{times-source}
@@ -80,15 +80,15 @@ module _ {T : Type 0} where
   ]
 
   -- with another item at an index, every other index finds what it found
-  pub entry_at-with_item_other : (es : List (Entry T)) (i j : ℕ) (item : T) → j ≢ i → entry_at (with_item es i item) j ≡ entry_at es j
-  entry_at-with_item_other es i j item other = rw (with_item-changed_at es i item) (entry_at-changed_at_other (λ p. (p.0, item)) es i j other)
+  pub entry_at-with_item_among_other : (es : List (Entry T)) (i j : ℕ) (item : T) → j ≢ i → entry_at (with_item_among es i item) j ≡ entry_at es j
+  entry_at-with_item_among_other es i j item other = rw (with_item_among-changed_at es i item) (entry_at-changed_at_other (λ p. (p.0, item)) es i j other)
 
   -- and the index itself finds the new item, under the generation that it had
-  pub entry_at-with_item : (es : List (Entry T)) (i : ℕ) (item : T) → entry_at (with_item es i item) i ≡ option_map (λ e. (e.0, item)) (entry_at es i)
-  entry_at-with_item es i item = rw (with_item-changed_at es i item) (entry_at-changed_at (λ p. (p.0, item)) es i)
+  pub entry_at-with_item_among : (es : List (Entry T)) (i : ℕ) (item : T) → entry_at (with_item_among es i item) i ≡ option_map (λ e. (e.0, item)) (entry_at es i)
+  entry_at-with_item_among es i item = rw (with_item_among-changed_at es i item) (entry_at-changed_at (λ p. (p.0, item)) es i)
 
-  pub length-with_item : (es : List (Entry T)) (i : ℕ) (item : T) → length (with_item es i item) ≡ length es
-  length-with_item es i item = rw (with_item-changed_at es i item) (length-changed_at (λ p. (p.0, item)) es i)
+  pub length-with_item_among : (es : List (Entry T)) (i : ℕ) (item : T) → length (with_item_among es i item) ≡ length es
+  length-with_item_among es i item = rw (with_item_among-changed_at es i item) (length-changed_at (λ p. (p.0, item)) es i)
 
   -- with another generation at an index, every other index finds what it found
   pub entry_at-with_generation_other : (es : List (Entry T)) (i j g : ℕ) → j ≢ i → entry_at (with_generation es i g) j ≡ entry_at es j
@@ -189,15 +189,15 @@ module _ {T : Type 0} where
   -- entries that were moved have this generation
   pub generation-moved : (all : List (Entry T)) (g : ℕ) (xs : List T) (es : List (Entry T)) (i : ℕ) (e : ℕ × T) → entry_at (map (moved all g xs) es) i ≡ Some e → e.0 ≡ g
   generation-moved all g xs [] i e is = absurd cc
-  generation-moved all g xs (f ∷ es) i e is = elim (eqb_tells (place_of all f.index) i) [
+  generation-moved all g xs (f ∷ es) i e is = elim (eqb_tells (compressed_index all f.index) i) [
     | inl h ↦ let same : Some (g, slice_index_or xs (lesser all f.index) f.item) ≡ Some e = (rw h.0 at is) in cc
     | inr h ↦ generation-moved all g xs es i e (rw h.0 at is)
   ]
 
   -- and so have entries at their places by rising index
-  pub generation-relocated : (all : List (Entry T)) (g : ℕ) (es : List (Entry T)) (i : ℕ) (e : ℕ × T) → entry_at (map (at_place all g) es) i ≡ Some e → e.0 ≡ g
+  pub generation-relocated : (all : List (Entry T)) (g : ℕ) (es : List (Entry T)) (i : ℕ) (e : ℕ × T) → entry_at (map (at_compressed_index all g) es) i ≡ Some e → e.0 ≡ g
   generation-relocated all g [] i e is = absurd cc
-  generation-relocated all g (f ∷ es) i e is = elim (eqb_tells (place_of all f.index) i) [
+  generation-relocated all g (f ∷ es) i e is = elim (eqb_tells (compressed_index all f.index) i) [
     | inl h ↦ let same : Some (g, f.item) ≡ Some e = (rw h.0 at is) in cc
     | inr h ↦ generation-relocated all g es i e (rw h.0 at is)
   ]
@@ -230,28 +230,28 @@ module _ {T : Type 0} where
       ]
 
   -- an index below m has place k + 1, where there are more than k lesser than m
-  pub index-at_place : (es : List (Entry T)) → IsDistinct es → (m k : ℕ) → k < lesser es m → (i : ℕ) × (i < m) × (lesser es i ≡ k) × (1 ≤ times i es)
-  index-at_place es distinct zero k more = absurd (omega (arith, more, lesser-zero es))
-  index-at_place es distinct (suc m) k more =
+  pub index-at_compressed_index : (es : List (Entry T)) → IsDistinct es → (m k : ℕ) → k < lesser es m → (i : ℕ) × (i < m) × (lesser es i ≡ k) × (1 ≤ times i es)
+  index-at_compressed_index es distinct zero k more = absurd (omega (arith, more, lesser-zero es))
+  index-at_compressed_index es distinct (suc m) k more =
       let next : lesser es (suc m) ≡ lesser es m + times m es = ap (lesser es) (let e : suc m ≡ m + 1 = omega arith in e) ∙ lesser-next es m in
       elim (leb_tells (suc k) (lesser es m)) [
-        | inl h ↦ let found = index-at_place es distinct m k (omega (arith, h.1)) in (found.0, omega (arith, found.1), found.2, found.3)
+        | inl h ↦ let found = index-at_compressed_index es distinct m k (omega (arith, h.1)) in (found.0, omega (arith, found.1), found.2, found.3)
         | inr h ↦ (m, omega arith, omega (arith, h.1, more, next, distinct m), omega (arith, h.1, more, next))
       ]
 
   -- a moved list has at the place of an index what it had there, with the item of that place
   pub entry_at-moved : (all : List (Entry T)) (g : ℕ) (items : List T) (es : List (Entry T)) (i : ℕ)
-      → ((y : ℕ) → 1 ≤ times y es → place_of all y ≡ place_of all i → y ≡ i)
-      → entry_at (map (moved all g items) es) (place_of all i) ≡ option_map (λ e. (g, slice_index_or items (lesser all i) e.1)) (entry_at es i)
+      → ((y : ℕ) → 1 ≤ times y es → compressed_index all y ≡ compressed_index all i → y ≡ i)
+      → entry_at (map (moved all g items) es) (compressed_index all i) ≡ option_map (λ e. (g, slice_index_or items (lesser all i) e.1)) (entry_at es i)
   entry_at-moved all g items [] i apart = refl
   entry_at-moved all g items (e ∷ es) i apart =
       let more = entry_at-moved all g items es i (λ y there same. apart y (omega (arith, there)) same) in
       elim (eqb_tells e.index i) [
-        | inl h ↦ elim (eqb_tells (place_of all e.index) (place_of all i)) [
+        | inl h ↦ elim (eqb_tells (compressed_index all e.index) (compressed_index all i)) [
           | inl k ↦ rw (h.0, k.0, h.1) refl
-          | inr k ↦ absurd (k.1 (ap (place_of all) h.1))
+          | inr k ↦ absurd (k.1 (ap (compressed_index all) h.1))
         ]
-        | inr h ↦ elim (eqb_tells (place_of all e.index) (place_of all i)) [
+        | inr h ↦ elim (eqb_tells (compressed_index all e.index) (compressed_index all i)) [
           | inl k ↦ absurd (h.1 (apart e.index (omega (arith, times-here e.index e es refl)) k.1))
           | inr k ↦ rw (h.0, k.0) more
         ]
@@ -272,13 +272,13 @@ module _ {T : Type 0} (es : List (Entry T)) (distinct : IsDistinct es) (g : ℕ)
       go None is = elim (eqb_tells (times (k + 1) (map (moved es g items) es)) 0) [
         | inl z ↦ entry_at-absent (map (moved es g items) es) (k + 1) z.1
         | inr z ↦
-            let source = times-source (moved es g items) (place_of es) (λ e. refl) es (k + 1) (omega (arith, z.1)) in
+            let source = times-source (moved es g items) (compressed_index es) (λ e. refl) es (k + 1) (omega (arith, z.1)) in
             let place : lesser es source.0 ≡ k = let at : lesser es source.0 + 1 ≡ k + 1 = source.1 in omega (arith, at) in
             absurd (let past = past-end items k is in omega (arith, place, lesser-next es source.0, lesser-most es (source.0 + 1), source.2, long, past))
       ]
       go (Some item) is =
-          let found = index-at_place es distinct m k (omega (arith, lesser-all es m below, long, slice_get_within items k item is)) in
-          let at : place_of es found.0 ≡ k + 1 = ap (λ n. n + 1) found.2 in
+          let found = index-at_compressed_index es distinct m k (omega (arith, lesser-all es m below, long, slice_get_within items k item is)) in
+          let at : compressed_index es found.0 ≡ k + 1 = ap (λ n. n + 1) found.2 in
           ap (entry_at (map (moved es g items) es)) (sym at)
           ∙ (entry_at-moved es g items es found.0 (λ y there same. place-injective es y found.0 there found.3 same)
           ∙ met (entry_at es found.0) found.0 item refl found.3 found.2 is)

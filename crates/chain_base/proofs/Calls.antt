@@ -2,7 +2,7 @@
 use Rattle.std.proofs.Common.{◌≡◌, ◌≢◌, ℕ, zero, suc, ◌+◌, ◌-◌, ◌<◌, ◌≤◌, List, [], ◌∷◌, ◌++◌, length, Option, Some, None, IsSome, refl, sym, ap, subst, ◌∙◌, arith, inl, inr, ◌⊎◌, get_or, max, OnSome, IfNone, IfSome, Result, Ok, Err, OnOk, OnErr, length-set}
 use Rattle.std.proofs.lemmas.Bool.Decides.{eqb_tells}
 use Rattle.std.specs.Option.{option_map}
-use Rattle.arena_base.specs.Arena.{Arena, slot, with_entry_at, arena_capacity, new_arena, with_capacity as arena_with_capacity, without as arena_without, renewed as arena_renewed, greatest_occupied, IsSound as IsSoundArena, IsInsertion as IsArenaInsertion}
+use Rattle.arena_base.specs.Arena.{Arena, slot, with_entry_at, arena_capacity, new_arena, with_capacity as arena_with_capacity, removed as arena_removed, renewed as arena_renewed, greatest_occupied, IsSound as IsSoundArena, IsInsertion as IsArenaInsertion}
 use Rattle.arena_base.specs.Pointer.{named_of}
 use Rattle.chain_base.specs.Link.{Link}
 use Rattle.chain_base.specs.Chain.{Entry, times, first_or, last_or, link_at, new_chain, with_capacity, greatest_index, renewed}
@@ -101,7 +101,7 @@ module _ {T : Type 0} where
     -- the writes of links after a removal find their entries
     module _ (greatest : Option ℕ) (i : ℕ) (e : ℕ × Link T) (held : slot a i ≡ Some e) where
       -- an entry beside the one that is taken out has its slot still
-      beside-held : (k : ℕ) → i ≢ k → 1 ≤ times k (chain_of a first).entries → IsSome (slot (arena_without greatest a i) k)
+      beside-held : (k : ℕ) → i ≢ k → 1 ≤ times k (chain_of a first).entries → IsSome (slot (arena_removed greatest a i) k)
       beside-held k other occurs =
           let there = held-occurs a (chain_of a first).entries k _ refl (laid.links k) occurs in
           rw (slot-emptied a i k (slot-within a i e held), other_index i k other) there
@@ -124,12 +124,12 @@ module _ {T : Type 0} where
                 (λ is. omega (arith, times-here k s.entry s.back (s.here ∙ is)), omega arith)
           ]
 
-      pub left-held : (k : ℕ) → e.1.prev ≡ Some k → IsSome (slot (arena_without greatest a i) k)
+      pub left-held : (k : ℕ) → e.1.prev ≡ Some k → IsSome (slot (arena_removed greatest a i) k)
       left-held k is =
           let s = stretches (Stands-occurs (chain_of a first).entries i (occurs-held a (chain_of a first).entries i e held (laid.links i))) k (inl is) in
           beside-held k s.0 s.1
 
-      pub right-held : (k : ℕ) → e.1.next ≡ Some k → IsSome (slot (arena_without greatest a i) k)
+      pub right-held : (k : ℕ) → e.1.next ≡ Some k → IsSome (slot (arena_removed greatest a i) k)
       right-held k is =
           let s = stretches (Stands-occurs (chain_of a first).entries i (occurs-held a (chain_of a first).entries i e held (laid.links i))) k (inr is) in
           beside-held k s.0 s.1
@@ -137,7 +137,7 @@ module _ {T : Type 0} where
       -- a removal, from what the arena's removal and the writes of links ensure
       module _ (most : ℕ) (prev next : Option ℕ) (prev_is : prev ≡ e.1.prev) (next_is : next ≡ e.1.next)
           (named_prev : named_of most e.1.prev ≡ e.1.prev) (named_next : named_of most e.1.next ≡ e.1.next) where
-        pub Removes-linked : (a1 b : Arena (Link T)) (first2 last2 : Option ℕ) → a1 ≡ arena_without greatest a i
+        pub Removes-linked : (a1 b : Arena (Link T)) (first2 last2 : Option ℕ) → a1 ≡ arena_removed greatest a i
             → b ≡ bridged a1 prev (named_of most next) next (named_of most prev)
             → first2 ≡ end_beside prev first next → last2 ≡ end_beside next last prev → Removes greatest a b first first2 last2 i
         Removes-linked a1 b first2 last2 without joined first_is last_is =

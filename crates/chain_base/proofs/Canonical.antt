@@ -7,7 +7,7 @@ use Rattle.std.proofs.lemmas.List.{map-append, map-id, append_assoc, append-nil,
 use Rattle.std.specs.Option.{option_map, option_and_then, ForSome}
 use Rattle.chain_base.specs.Chain.{Entry, Chain, IsDistinct, IsSound, times, entry_at, first_or, vacant_among, vacant_indexes}
 use Rattle.chain_base.specs.Walk.{index_after}
-use Rattle.chain_base.specs.Compression.{lesser, place_of, entry_before, rising_among, entries_rising, moved, at_place, relocated, numbered, canonical, IsCompression}
+use Rattle.chain_base.specs.Compression.{lesser, compressed_index, entry_before, rising_among, entries_rising, moved, at_compressed_index, relocated, numbered, canonical, IsCompression}
 use Rattle.chain_base.specs.Exchange.{exchanged_index, in_exchange, exchanged}
 use Rattle.chain_base.proofs.Lists.{times-append, times-here, entry_at-absent, entry_at-split, Stands-occurs}
 use Rattle.chain_base.proofs.Renumbering.{link_at-split, times-changed, times-source, distinct-renumbered}
@@ -72,14 +72,14 @@ module _ {T : Type 0} where
       rw (same front e fs split) (ap (λ rest. h e ∷ rest) (map-alike f h es (front ++ e ∷ []) fs (split ∙ sym (append_assoc front (e ∷ []) fs)) same))
 
   -- a compression whose calls give each item back
-  pub compression-relocates : {P F : Type 0} (index era : P → ℕ) (step : F → P → T → P → T → F → Type 0) (g most : ℕ) (greatest : Option ℕ)
+  pub compression-relocates : {P F : Type 0} (numbers : P → ℕ × ℕ) (step : F → P → T → P → T → F → Type 0) (g most : ℕ) (greatest : Option ℕ)
       → ((f : F) (p : P) (x : T) (q : P) (y : T) (h : F) → step f p x q y h → y ≡ x)
-      → (f : F) (old new : Chain T) → IsSound most greatest old → IsCompression index era step g f old new → new ≡ relocated old g
-  compression-relocates {P} {F} index era step g most greatest back f old new sound c =
-      c.after ∙ ap (λ es. record { entries = es; capacity = old.capacity; vacant = vacant_indexes es old.capacity; generation = g; maximum = old.maximum }) (map-alike (moved old.entries g c.items) (at_place old.entries g) old.entries [] old.entries refl same)
+      → (f : F) (old new : Chain T) → IsSound most greatest old → IsCompression numbers step g f old new → new ≡ relocated old g
+  compression-relocates {P} {F} numbers step g most greatest back f old new sound c =
+      c.after ∙ ap (λ es. record { entries = es; capacity = old.capacity; vacant = vacant_indexes es old.capacity; generation = g; maximum = old.maximum }) (map-alike (moved old.entries g c.items) (at_compressed_index old.entries g) old.entries [] old.entries refl same)
     where
       items : c.items ≡ map (λ (e : ℕ × ℕ × T). e.2) (entries_rising old)
-      items = sym (map-id c.items) ∙ calls-keep index era step g (λ (x : T). x) back (entries_rising old) f c.last [] c.items c.calls
+      items = sym (map-id c.items) ∙ calls-keep numbers step g (λ (x : T). x) back (entries_rising old) f c.last [] c.items c.calls
 
       begins : lesser old.entries 1 ≡ 0
       begins =
@@ -88,7 +88,7 @@ module _ {T : Type 0} where
             | inr h ↦ absurd (let within = sound.within 0 (omega (arith, h.1)) in omega (arith, within.0))
           ]
 
-      same : (xs : List (Entry T)) (e : Entry T) (ys : List (Entry T)) → old.entries ≡ xs ++ e ∷ ys → moved old.entries g c.items e ≡ at_place old.entries g e
+      same : (xs : List (Entry T)) (e : Entry T) (ys : List (Entry T)) → old.entries ≡ xs ++ e ∷ ys → moved old.entries g c.items e ≡ at_compressed_index old.entries g e
       same xs e ys split =
           let occurs : 1 ≤ times e.index old.entries = ap-le (sym (ap (times e.index) split)) (omega (arith, times-append e.index xs (e ∷ ys), times-here e.index e ys refl)) in
           let within = sound.within e.index occurs in
@@ -97,7 +97,7 @@ module _ {T : Type 0} where
           let at = rising-at old.entries sound.distinct old.capacity 1 e.index (lesser old.entries e.index) (e.generation, e.item) found (omega (arith, within.0)) (omega (arith, within.1)) (omega (arith, begins)) in
           let item : slice_get c.items (lesser old.entries e.index) ≡ Some e.item =
           ap (λ xs. slice_get xs (lesser old.entries e.index)) items ∙ (slice_get-map (λ (e : ℕ × ℕ × T). e.2) (entries_rising old) (lesser old.entries e.index) ∙ ap (option_map (λ (e : ℕ × ℕ × T). e.2)) at) in
-          ap (λ x. record { index = place_of old.entries e.index; generation = g; item = x }) (get_or_from_slice_get c.items (lesser old.entries e.index) e.item e.item item)
+          ap (λ x. record { index = compressed_index old.entries e.index; generation = g; item = x }) (get_or_from_slice_get c.items (lesser old.entries e.index) e.item e.item item)
         where
           ap-le : {m n : ℕ} → m ≡ n → 1 ≤ m → 1 ≤ n
           ap-le same le = omega arith
@@ -130,7 +130,7 @@ module _ {T : Type 0} where
     pub all : (i : ℕ) → 0 < i → i ≤ n → 1 ≤ times i es
     pub only : (i : ℕ) → 1 ≤ times i es → (0 < i) × (i ≤ n)
 
-  relocated-dense : (most : ℕ) (greatest : Option ℕ) (c : Chain T) (g : ℕ) → IsSound most greatest c → Dense (map (at_place c.entries g) c.entries) (length c.entries)
+  relocated-dense : (most : ℕ) (greatest : Option ℕ) (c : Chain T) (g : ℕ) → IsSound most greatest c → Dense (map (at_compressed_index c.entries g) c.entries) (length c.entries)
   relocated-dense most greatest c g sound =
       let es = c.entries in
       let whole : lesser es (c.capacity + 1) ≡ length es = lesser-all es (c.capacity + 1) (λ y there. let within = sound.within y there in omega (arith, within.1)) in
@@ -138,13 +138,13 @@ module _ {T : Type 0} where
         all = λ i above within.
             let bound : i - 1 < lesser es (0 + (c.capacity + 1)) = let same : 0 + (c.capacity + 1) ≡ c.capacity + 1 = omega arith in let level = ap (lesser es) same in omega (arith, whole, level) in
             let x = place-found es sound.distinct (i - 1) (c.capacity + 1) 0 (omega (arith, lesser-zero es)) bound in
-            let at : place_of es x.0 ≡ i = let level = x.1 in omega (arith, level) in
-            let count = times-changed (at_place es g) (place_of es) (λ e. refl) es sound.distinct (place-injective es) x.0 x.2 in
-            let same = ap (λ k. times k (map (at_place es g) es)) at in
+            let at : compressed_index es x.0 ≡ i = let level = x.1 in omega (arith, level) in
+            let count = times-changed (at_compressed_index es g) (compressed_index es) (λ e. refl) es sound.distinct (place-injective es) x.0 x.2 in
+            let same = ap (λ k. times k (map (at_compressed_index es g) es)) at in
             let there = x.2 in
             omega (arith, count, same, there);
         only = λ i occurs.
-            let x = times-source (at_place es g) (place_of es) (λ e. refl) es i occurs in
+            let x = times-source (at_compressed_index es g) (compressed_index es) (λ e. refl) es i occurs in
             let within = sound.within x.0 x.2 in
             let below = lesser-below es x.0 (c.capacity + 1) x.2 (omega (arith, within.1)) in
             let at = x.1 in
@@ -180,11 +180,11 @@ module _ {T : Type 0} where
         | inr h ↦ era-at es n g i x rest (rw h.0 at is)
       ]
 
-  relocated-eras : (fs : List (Entry T)) (es : List (Entry T)) (g : ℕ) → eras (map (at_place es g) fs) ≡ replicate (length fs) g
+  relocated-eras : (fs : List (Entry T)) (es : List (Entry T)) (g : ℕ) → eras (map (at_compressed_index es g) fs) ≡ replicate (length fs) g
   relocated-eras [] es g = refl
   relocated-eras (f ∷ fs) es g = ap (λ rest. g ∷ rest) (relocated-eras fs es g)
 
-  pub relocated-items : (fs : List (Entry T)) (es : List (Entry T)) (g : ℕ) → map (λ e. e.item) (map (at_place es g) fs) ≡ map (λ e. e.item) fs
+  pub relocated-items : (fs : List (Entry T)) (es : List (Entry T)) (g : ℕ) → map (λ e. e.item) (map (at_compressed_index es g) fs) ≡ map (λ e. e.item) fs
   relocated-items [] es g = refl
   relocated-items (f ∷ fs) es g = ap (λ rest. f.item ∷ rest) (relocated-items fs es g)
 
@@ -241,12 +241,12 @@ module _ {T : Type 0} where
   canonical-begins most greatest c c1 g at sound is first =
       rw is (record {
         done = [];
-        rest = map (at_place c.entries g) c.entries;
+        rest = map (at_compressed_index c.entries g) c.entries;
         so_far = refl;
         split = refl;
         left = sym (relocated-items c.entries c.entries g);
         number = length-map c.entries (λ e. e.item);
-        distinct = distinct-renumbered (at_place c.entries g) (place_of c.entries) (λ e. refl) c.entries sound.distinct (place-injective c.entries);
+        distinct = distinct-renumbered (at_compressed_index c.entries g) (compressed_index c.entries) (λ e. refl) c.entries sound.distinct (place-injective c.entries);
         dense = relocated-dense most greatest c g sound;
         even = relocated-eras c.entries c.entries g;
         at_is = first ∙ ap (λ (d : Chain T). first_or None d.entries) is;
@@ -347,8 +347,8 @@ module _ {T : Type 0} where
       let all : items ≡ b.done = b.left ∙ (ap (λ fs. b.done ++ map (λ e. e.item) fs) none ∙ append-nil b.done) in
       let entries : now.entries ≡ numbered g 1 items = b.split ∙ (ap (λ fs. numbered g 1 b.done ++ fs) none ∙ (append-nil (numbered g 1 b.done) ∙ ap (numbered g 1) (sym all))) in
       let first = relocated-dense most greatest c g sound in
-      let vacant : vacant_indexes (map (at_place c.entries g) c.entries) c.capacity ≡ vacant_indexes (numbered g 1 items) c.capacity =
-      vacant-same (map (at_place c.entries g) c.entries) now.entries (λ m. alike m first b.dense) c.capacity 1 ∙ ap (λ fs. vacant_indexes fs c.capacity) entries in
+      let vacant : vacant_indexes (map (at_compressed_index c.entries g) c.entries) c.capacity ≡ vacant_indexes (numbered g 1 items) c.capacity =
+      vacant-same (map (at_compressed_index c.entries g) c.entries) now.entries (λ m. alike m first b.dense) c.capacity 1 ∙ ap (λ fs. vacant_indexes fs c.capacity) entries in
       b.kept ∙ rw (entries, vacant) refl
     where
       nothing : (fs : List (Entry T)) → length fs ≡ 0 → fs ≡ []

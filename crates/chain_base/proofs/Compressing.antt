@@ -11,8 +11,8 @@ use Rattle.arena_base.specs.Walk.{entries_from, entries_rising as slots_rising}
 use Rattle.chain_base.specs.Link.{Link}
 use Rattle.chain_base.specs.Chain.{Entry, Chain, times, entry_at, first_or, last_or, link_at, vacant_indexes}
 use Rattle.chain_base.specs.Layout.{chain_of, IsLaidOut}
-use Rattle.chain_base.specs.Compression.{lesser, place_of, rising_among, moved, IsCompression}
-use Rattle.chain_base.specs.Naming.{with_facing, named, place_in, bare, IsPaired, NamesPlaces, CompressesItems}
+use Rattle.chain_base.specs.Compression.{lesser, compressed_index, rising_among, moved, IsCompression}
+use Rattle.chain_base.specs.Naming.{with_facing, named, compressed_index_in, bare, IsPaired, NamesCompressedIndexes, CompressesItems}
 use Rattle.chain_base.specs.declared.chain.compress.Side.TheVariants.{Before, After}
 use Rattle.chain_base.proofs.Lists.{times-last, link_between-absent, entry_at-link, Stands-occurs}
 use Rattle.chain_base.proofs.LaidOut.{walk-laid_out}
@@ -51,9 +51,9 @@ module _ {T : Type 0} where
 
   module _ (a0 : Arena (Link T)) (first last : Option ℕ) (es : List (Entry T)) (laid : IsLaidOut a0.slots first last es) where
     abbrev place : ℕ → ℕ
-    place i = place_of es i
+    place i = compressed_index es i
 
-    place-first : (i : ℕ) → place_in a0 i ≡ place i
+    place-first : (i : ℕ) → compressed_index_in a0 i ≡ place i
     place-first i = ap (λ n. n + 1) (place-slots a0.slots es laid.distinct laid.links i)
 
     named-before : (i : ℕ) → named Before a0 i ≡ prev_at es i
@@ -82,7 +82,7 @@ module _ {T : Type 0} where
               same_Some i j (sym at_i ∙ at_j);
         }
 
-    module _ (a1 : Arena (Link T)) (end1 : Option ℕ) (n1 : NamesPlaces Before a0 a1 end1) where
+    module _ (a1 : Arena (Link T)) (end1 : Option ℕ) (n1 : NamesCompressedIndexes Before a0 a1 end1) where
       -- an entry's link names the place of the next one
       after1 : (xs : List (Entry T)) (e : Entry T) (ys : List (Entry T)) → es ≡ xs ++ e ∷ ys
           → slot a1 e.index ≡ Some (e.generation, record { item = e.item; prev = last_or None xs; next = option_map place (first_or None ys) })
@@ -126,7 +126,7 @@ module _ {T : Type 0} where
       occurs1 : (x : ℕ) (e : ℕ × Link T) → slot a1 x ≡ Some e → 1 ≤ times x es
       occurs1 x e is = held-occurs x (sym (n1.held x) ∙ ap is_some is)
 
-      module _ {P M : Type 0} (index era : P → ℕ) (step : M → P → T → P → T → M → Type 0) (g : ℕ) (m : M) (a2 : Arena (Link T)) (c : CompressesItems index era step g m a1 a2) (begins : take 1 a0.slots ≡ None ∷ []) where
+      module _ {P M : Type 0} (numbers : P → ℕ × ℕ) (step : M → P → T → P → T → M → Type 0) (g : ℕ) (m : M) (a2 : Arena (Link T)) (c : CompressesItems numbers step g m a1 a2) (begins : take 1 a0.slots ≡ None ∷ []) where
         abbrev ranked : List (ℕ × ℕ × Link T)
         ranked = slots_rising a1 0
 
@@ -223,13 +223,13 @@ module _ {T : Type 0} where
             }
 
         -- the places are the indexes now
-        place-second : (x : ℕ) → 1 ≤ times x es → place_in a2 (place x) ≡ place x
+        place-second : (x : ℕ) → 1 ≤ times x es → compressed_index_in a2 (place x) ≡ place x
         place-second x occurs =
             let l = after2 x occurs in
             let within = slice_get_within c.links (lesser es x) l.0 l.4 in
             ap (λ n. n + 1) (ap (λ ss. count_by is_some (take (place x) ss)) c.after.slots ∙ compressed-place (length a1.slots) g c.links (lesser es x) fits (omega arith))
 
-        module _ (a3 : Arena (Link T)) (end2 : Option ℕ) (n2 : NamesPlaces After a2 a3 end2) where
+        module _ (a3 : Arena (Link T)) (end2 : Option ℕ) (n2 : NamesCompressedIndexes After a2 a3 end2) where
           abbrev change : Entry T → Entry T
           change e = moved es g items e
 
@@ -321,7 +321,7 @@ module _ {T : Type 0} where
           capacity = ap (λ n. n - 1) long
 
           -- the entries by rising index, as the list has them
-          rising : map (bare index era step g) ranked ≡ rising_among es 1 (arena_capacity a0)
+          rising : map (bare numbers step g) ranked ≡ rising_among es 1 (arena_capacity a0)
           rising = by a1.slots (n1.held 0 ∙ ap is_some (first-none a0.slots begins)) (above a0.slots begins) items1 ∙ ap (λ n. rising_among es 1 (n - 1)) n1.within
             where
               first-none : (slots : List (Option (ℕ × Link T))) → take 1 slots ≡ None ∷ [] → get_or slots 0 None ≡ None
@@ -333,14 +333,14 @@ module _ {T : Type 0} where
 
               by : (slots : List (Option (ℕ × Link T))) → is_some (get_or slots 0 None) ≡ false → 0 < length slots
                   → ((x : ℕ) → option_map (λ e. (e.0, e.1.item)) (get_or slots x None) ≡ entry_at es x)
-                  → map (bare index era step g) (entries_from 0 slots) ≡ rising_among es 1 (length slots - 1)
+                  → map (bare numbers step g) (entries_from 0 slots) ≡ rising_among es 1 (length slots - 1)
               by [] none some same = absurd (omega arith)
               by (Some e ∷ slots) none some same = absurd (false≢true (sym none))
               by (None ∷ slots) none some same =
                   let count : suc (length slots) - 1 ≡ length slots = omega arith in
-                  rising-slots index era step g es 1 slots (λ k within. same (suc k) ∙ (let at : suc k ≡ 1 + k = omega arith in ap (entry_at es) at)) ∙ ap (rising_among es 1) (sym count)
+                  rising-slots numbers step g es 1 slots (λ k within. same (suc k) ∙ (let at : suc k ≡ 1 + k = omega arith in ap (entry_at es) at)) ∙ ap (rising_among es 1) (sym count)
 
-          pub chain-compressed : IsFresh a2 → IsCompression index era step g m (chain_of a0 first) (chain_of a3 end1)
+          pub chain-compressed : IsFresh a2 → IsCompression numbers step g m (chain_of a0 first) (chain_of a3 end1)
           chain-compressed fresh =
               let was : (chain_of a0 first).entries ≡ es = walk-laid_out a0 first last es laid in
               let now : (chain_of a3 end1).entries ≡ map change es = walk-laid_out a3 end1 end2 (map change es) laid-compressed in
@@ -368,7 +368,7 @@ module _ {T : Type 0} where
           laid-again = subst (λ es. IsLaidOut a3.slots end1 end2 es) (sym (walk-laid_out a3 end1 end2 (map change es) laid-compressed)) laid-compressed
 
 -- a compression of a chain that is seen in another way
-pub compression-of : {P T M : Type 0} (index era : P → ℕ) (step : M → P → T → P → T → M → Type 0) (m : M) (seen old new : Chain T) (g h : ℕ)
-    → seen ≡ old → g ≡ h → IsCompression index era step g m seen new → IsCompression index era step h m old new
-compression-of index era step m seen old new g h is same c =
-    subst (λ k. IsCompression index era step k m old new) same (subst (λ v. IsCompression index era step g m v new) is c)
+pub compression-of : {P T M : Type 0} (numbers : P → ℕ × ℕ) (step : M → P → T → P → T → M → Type 0) (m : M) (seen old new : Chain T) (g h : ℕ)
+    → seen ≡ old → g ≡ h → IsCompression numbers step g m seen new → IsCompression numbers step h m old new
+compression-of numbers step m seen old new g h is same c =
+    subst (λ k. IsCompression numbers step k m old new) same (subst (λ v. IsCompression numbers step g m v new) is c)

@@ -47,8 +47,8 @@ module _ {T : Type 0} where
   item_if-link g None = refl
   item_if-link g (Some e) = elim (eqb_tells e.0 g) [ inl h ↦ rw h.0 refl | inr h ↦ rw h.0 refl ]
 
-  pub item_of-link : (es : List (Entry T)) (i g : ℕ) (o : Option (ℕ × Link T)) → o ≡ link_at es i → item_of es i g ≡ option_map (λ l. l.item) (item_if g o)
-  item_of-link es i g o links = rw (entry_at-link None None es i, ← links) (item_if-link g o)
+  pub item_of-link : (es : List (Entry T)) (p : ℕ × ℕ) (o : Option (ℕ × Link T)) → o ≡ link_at es p.0 → item_of es p ≡ option_map (λ l. l.item) (item_if p.1 o)
+  item_of-link es p o links = rw (entry_at-link None None es p.0, ← links) (item_if-link p.1 o)
 
   -- where there is no entry there is no link
   pub link_at-none : (es : List (Entry T)) (i : ℕ) → is_some (entry_at es i) ≡ false → None ≡ link_at es i
@@ -88,11 +88,11 @@ module _ {T : Type 0} where
     pub entry_at-laid_out : (i : ℕ) → entry_at (chain_of a first).entries i ≡ option_map (λ e. (e.0, e.1.item)) (slot a i)
     entry_at-laid_out i = rw (entry_at-link None None (chain_of a first).entries i, link_at-laid_out i) refl
 
-    pub item_of-laid_out : (i g : ℕ) → item_of (chain_of a first).entries i g ≡ option_map (λ l. l.item) (slot_item a i g)
-    item_of-laid_out i g = item_of-link (chain_of a first).entries i g (slot a i) (laid.links i)
+    pub item_of-laid_out : (p : ℕ × ℕ) → item_of (chain_of a first).entries p ≡ option_map (λ l. l.item) (slot_item a p)
+    item_of-laid_out p = item_of-link (chain_of a first).entries p (slot a p.0) (laid.links p.0)
 
-    pub contains-laid_out : (i g : ℕ) → is_some (slot_item a i g) ≡ is_some (item_of (chain_of a first).entries i g)
-    contains-laid_out i g = rw (item_of-laid_out i g) (mapped (slot_item a i g))
+    pub contains-laid_out : (p : ℕ × ℕ) → is_some (slot_item a p) ≡ is_some (item_of (chain_of a first).entries p)
+    contains-laid_out p = rw (item_of-laid_out p) (mapped (slot_item a p))
       where
         mapped : (o : Option (Link T)) → is_some o ≡ is_some (option_map (λ l. l.item) o)
         mapped None = refl

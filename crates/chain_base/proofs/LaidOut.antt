@@ -4,11 +4,11 @@ use Rattle.std.proofs.lemmas.List.{get_or-set_same, get_or-set_other, get_or_pas
 use Rattle.std.proofs.lemmas.List.Sums.{sum_by-set, count_by-le-length}
 use Rattle.std.proofs.lemmas.Bool.Decides.{eqb_tells, leb_tells}
 use Rattle.std.specs.Option.{option_map}
-use Rattle.arena_base.specs.Arena.{Arena, slot, with_slot, with_entry_at, arena_len, without as arena_without}
+use Rattle.arena_base.specs.Arena.{Arena, slot, with_slot, with_entry_at, arena_len, removed as arena_removed}
 use Rattle.chain_base.specs.Link.{Link}
-use Rattle.chain_base.specs.Chain.{Entry, times, first_or, last_or, link_at, with_item, with_generation}
+use Rattle.chain_base.specs.Chain.{Entry, times, first_or, last_or, link_at, with_item_among, with_generation}
 use Rattle.chain_base.specs.Layout.{walk, names, with_next, with_prev, linked_next, linked_prev, relinked, IsLaidOut}
-use Rattle.chain_base.proofs.Lists.{names_tells, same_index, times-append, times-inserted, times-here, times-there, times-last, times-first, first_or-append, last_or-append, link_between-append, link_between-absent, times-unlinked, seam-relinked, IsRow-links, walk-row, changed_at, changed_link, with_item-changed_at, with_generation-changed_at, link_between-changed_at, times-changed_at, first_or-changed_at, last_or-changed_at, length-changed_at}
+use Rattle.chain_base.proofs.Lists.{names_tells, same_index, times-append, times-inserted, times-here, times-there, times-last, times-first, first_or-append, last_or-append, link_between-append, link_between-absent, times-unlinked, seam-relinked, IsRow-links, walk-row, changed_at, changed_link, with_item_among-changed_at, with_generation-changed_at, link_between-changed_at, times-changed_at, first_or-changed_at, last_or-changed_at, length-changed_at}
 
 -- an end of the list where an entry comes or goes: the old one where an entry stands on that side, else the new one
 abbrev pub end_beside : Option ℕ → Option ℕ → Option ℕ → Option ℕ
@@ -218,12 +218,12 @@ module _ {T : Type 0} where
   -- the entry between two stretches of the list is taken out
   module _ (greatest : Option ℕ) (a : Arena (Link T)) (first last : Option ℕ) (xs : List (Entry T)) (e : Entry T) (ys : List (Entry T)) where
     pub IsLaidOut-removed : IsLaidOut a.slots first last (xs ++ e ∷ ys)
-        → IsLaidOut (closed (arena_without greatest a e.index) xs ys).slots
+        → IsLaidOut (closed (arena_removed greatest a e.index) xs ys).slots
         (first_or (first_or None ys) xs) (last_or (last_or None xs) ys) (xs ++ ys)
     IsLaidOut-removed laid =
         let held = slot-laid_out a first last xs e ys laid in
         let within = slot-within a e.index _ held in
-        let a1 : Arena (Link T) = arena_without greatest a e.index in
+        let a1 : Arena (Link T) = arena_removed greatest a e.index in
         record {
           links = λ k. slot-relinked a1 (last_or None xs) (first_or None ys) (first_or None ys) (last_or None xs) k
               ∙ ap (relinked (last_or None xs) (first_or None ys) (first_or None ys) (last_or None xs) k) (slot-emptied a e.index k within)
@@ -251,9 +251,9 @@ module _ {T : Type 0} where
         }
 
     -- an item is written
-    pub IsLaidOut-with_item : (item : T) → IsLaidOut a.slots first last es
-        → IsLaidOut (with_slot a i (option_map (λ e. (e.0, record e.1 { item = item })) (slot a i))).slots first last (with_item es i item)
-    IsLaidOut-with_item item laid = rw (with_item-changed_at es i item) (IsLaidOut-changed_at (λ p. (p.0, item)) laid)
+    pub IsLaidOut-with_item_among : (item : T) → IsLaidOut a.slots first last es
+        → IsLaidOut (with_slot a i (option_map (λ e. (e.0, record e.1 { item = item })) (slot a i))).slots first last (with_item_among es i item)
+    IsLaidOut-with_item_among item laid = rw (with_item_among-changed_at es i item) (IsLaidOut-changed_at (λ p. (p.0, item)) laid)
 
     -- an entry gets another generation
     pub IsLaidOut-with_generation : (g : ℕ) → IsLaidOut a.slots first last es

@@ -4,7 +4,7 @@ use Rattle.std.proofs.lemmas.Bool.Decides.{nat_tests, eqb_tells}
 use Rattle.std.specs.Option.{option_or, option_map}
 use Rattle.chain_base.specs.Link.{Link}
 use Rattle.chain_base.specs.Layout.{walk, names, with_next, with_prev, relinked}
-use Rattle.chain_base.specs.Chain.{Entry, times, entry_at, first_or, last_or, link_between, insert_after, insert_before, without, with_item, with_generation}
+use Rattle.chain_base.specs.Chain.{Entry, times, entry_at, first_or, last_or, link_between, insert_after, insert_before, without, with_item_among, with_generation}
 
 -- a choice in the first of two options
 pub option_or-if : {A : Type 0} (b : Bool) (x : A) (o p : Option A) → option_or (if b then Some x else o) p ≡ (if b then Some x else option_or o p)
@@ -266,10 +266,10 @@ module _ {T : Type 0} where
   changed_at f (e ∷ es) i = let p = f (e.generation, e.item) in
       if e.index == i then record e { generation = p.0; item = p.1 } ∷ es else e ∷ changed_at f es i
 
-  pub with_item-changed_at : (es : List (Entry T)) (i : ℕ) (item : T) → with_item es i item ≡ changed_at (λ p. (p.0, item)) es i
-  with_item-changed_at [] i item = refl
-  with_item-changed_at (e ∷ es) i item =
-      elim (eqb_tells e.index i) [ inl h ↦ rw h.0 refl | inr h ↦ rw h.0 (ap (λ xs. e ∷ xs) (with_item-changed_at es i item)) ]
+  pub with_item_among-changed_at : (es : List (Entry T)) (i : ℕ) (item : T) → with_item_among es i item ≡ changed_at (λ p. (p.0, item)) es i
+  with_item_among-changed_at [] i item = refl
+  with_item_among-changed_at (e ∷ es) i item =
+      elim (eqb_tells e.index i) [ inl h ↦ rw h.0 refl | inr h ↦ rw h.0 (ap (λ xs. e ∷ xs) (with_item_among-changed_at es i item)) ]
 
   pub with_generation-changed_at : (es : List (Entry T)) (i g : ℕ) → with_generation es i g ≡ changed_at (λ p. (g, p.1)) es i
   with_generation-changed_at [] i g = refl

@@ -8,7 +8,7 @@ use Rattle.std.specs.Option.{option_map, option_and_then}
 use Rattle.arena_base.specs.Arena.{Arena, slot}
 use Rattle.arena_base.specs.Pointer.{named_of}
 use Rattle.chain_base.specs.Link.{Link}
-use Rattle.chain_base.specs.Naming.{neighbour_on, with_facing, linked_facing, named, place_in, IsPaired, NamesPlaces}
+use Rattle.chain_base.specs.Naming.{neighbour_on, with_facing, linked_facing, named, compressed_index_in, IsPaired, NamesCompressedIndexes}
 use Rattle.chain_base.specs.declared.chain.compress.Side.{Side}
 use Rattle.chain_base.specs.declared.chain.compress.Side.TheVariants.{Before, After}
 use Rattle.chain_base.proofs.LaidOut.{slot-mapped}
@@ -16,9 +16,9 @@ use Rattle.chain_base.proofs.LaidOut.{slot-mapped}
 module _ {T : Type 0} where
   -- the indexes below c have told their places; so many of them have an entry
   pub record NamedBelow (side : Side) (old now : Arena (Link T)) (count : ℕ) (end : Option ℕ) (c : ℕ) : Type 0 where
-    pub met : (i k : ℕ) → i < c → named side old i ≡ Some k → slot now k ≡ option_map (with_facing side (Some (place_in old i))) (slot old k)
+    pub met : (i k : ℕ) → i < c → named side old i ≡ Some k → slot now k ≡ option_map (with_facing side (Some (compressed_index_in old i))) (slot old k)
     pub unmet : (k : ℕ) → ((i : ℕ) → i < c → named side old i ≢ Some k) → slot now k ≡ slot old k
-    pub end_is : (i : ℕ) → i < c → IsSome (slot old i) → named side old i ≡ None → end ≡ Some (place_in old i)
+    pub end_is : (i : ℕ) → i < c → IsSome (slot old i) → named side old i ≡ None → end ≡ Some (compressed_index_in old i)
     pub no_end : ((i : ℕ) → i < c → IsSome (slot old i) → named side old i ≢ None) → end ≡ None
     pub kept : now ≡ record old { slots = now.slots }
     pub within : length now.slots ≡ length old.slots
@@ -114,7 +114,7 @@ module _ {T : Type 0} where
       more : count + 1 ≡ count_by is_some (take (c + 1) old.slots)
       more = ap (λ n. n + 1) b.counted ∙ sym (count_by_more_yes is_some old.slots c None inside is_held)
 
-      place : Some (count + 1) ≡ Some (place_in old c)
+      place : Some (count + 1) ≡ Some (compressed_index_in old c)
       place = ap (λ n. Some (n + 1)) b.counted
 
       -- the neighbour that the entry at c has is an entry
@@ -206,7 +206,7 @@ module _ {T : Type 0} where
 
   -- at last all have
   pub named-ends : (side : Side) (old now : Arena (Link T)) (count : ℕ) (end : Option ℕ) (c : ℕ) → NamedBelow side old now count end c
-      → length old.slots ≤ c → take 1 old.slots ≡ None ∷ [] → NamesPlaces side old now end
+      → length old.slots ≤ c → take 1 old.slots ≡ None ∷ [] → NamesCompressedIndexes side old now end
   named-ends side old now count end c b past begins =
       record {
         met = λ i k is. let within = named-within side old i k is in b.met i k (omega arith) is;

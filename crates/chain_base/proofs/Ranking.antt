@@ -10,7 +10,7 @@ use Rattle.arena_base.specs.Arena.{resized, vacant_from}
 use Rattle.arena_base.specs.Walk.{entries_from}
 use Rattle.chain_base.specs.Link.{Link}
 use Rattle.chain_base.specs.Chain.{Entry, IsDistinct, times, entry_at, link_at}
-use Rattle.chain_base.specs.Compression.{lesser, place_of, entry_before, rising_among}
+use Rattle.chain_base.specs.Compression.{lesser, compressed_index, entry_before, rising_among}
 use Rattle.chain_base.specs.Naming.{bare}
 use Rattle.chain_base.proofs.Lists.{times-unlinked}
 use Rattle.chain_base.proofs.Vacancy.{get_or-vacant}
@@ -37,7 +37,7 @@ module _ {T : Type 0} where
       let there : lesser es (i + 1) ≤ lesser es j = subst (λ k. lesser es (i + 1) ≤ lesser es k) reach more in
       omega (arith, lesser-next es i)
 
-  pub place-injective : (es : List (Entry T)) (x y : ℕ) → 1 ≤ times x es → 1 ≤ times y es → place_of es x ≡ place_of es y → x ≡ y
+  pub place-injective : (es : List (Entry T)) (x y : ℕ) → 1 ≤ times x es → 1 ≤ times y es → compressed_index es x ≡ compressed_index es y → x ≡ y
   place-injective es x y there_x there_y same =
       elim (leb_tells (x + 1) y) [
         | inl h ↦ absurd (omega (arith, lesser-below es x y there_x (omega (arith, h.1))))
@@ -209,16 +209,16 @@ module _ {X : Type 0} where
 
 -- the entries by rising index, from slots and from the list
 module _ {T : Type 0} where
-  pub rising-slots : {P M : Type 0} (index era : P → ℕ) (step : M → P → T → P → T → M → Type 0) (g : ℕ) (es : List (Entry T)) (from : ℕ) (slots : List (Option (ℕ × Link T)))
-      → ((k : ℕ) → k < length slots → option_map (λ e. (e.0, e.1.item)) (get_or slots k None) ≡ entry_at es (from + k)) → map (bare index era step g) (entries_from from slots) ≡ rising_among es from (length slots)
-  rising-slots index era step g es from [] same = refl
-  rising-slots index era step g es from (o ∷ slots) same =
+  pub rising-slots : {P M : Type 0} (numbers : P → ℕ × ℕ) (step : M → P → T → P → T → M → Type 0) (g : ℕ) (es : List (Entry T)) (from : ℕ) (slots : List (Option (ℕ × Link T)))
+      → ((k : ℕ) → k < length slots → option_map (λ e. (e.0, e.1.item)) (get_or slots k None) ≡ entry_at es (from + k)) → map (bare numbers step g) (entries_from from slots) ≡ rising_among es from (length slots)
+  rising-slots numbers step g es from [] same = refl
+  rising-slots numbers step g es from (o ∷ slots) same =
       let first : option_map (λ e. (e.0, e.1.item)) o ≡ entry_at es from = let here = same 0 (omega arith) in let at : from + 0 ≡ from = omega arith in here ∙ ap (entry_at es) at in
-      let more = rising-slots index era step g es (from + 1) slots (λ k within. let here = same (suc k) (omega arith) in let at : from + suc k ≡ (from + 1) + k = omega arith in here ∙ ap (entry_at es) at) in
+      let more = rising-slots numbers step g es (from + 1) slots (λ k within. let here = same (suc k) (omega arith) in let at : from + suc k ≡ (from + 1) + k = omega arith in here ∙ ap (entry_at es) at) in
       head o first more
     where
       head : (o : Option (ℕ × Link T)) → option_map (λ e. (e.0, e.1.item)) o ≡ entry_at es from
-          → map (bare index era step g) (entries_from (from + 1) slots) ≡ rising_among es (from + 1) (length slots)
-          → map (bare index era step g) (entries_from from (o ∷ slots)) ≡ entry_before from (entry_at es from) (rising_among es (from + 1) (length slots))
+          → map (bare numbers step g) (entries_from (from + 1) slots) ≡ rising_among es (from + 1) (length slots)
+          → map (bare numbers step g) (entries_from from (o ∷ slots)) ≡ entry_before from (entry_at es from) (rising_among es (from + 1) (length slots))
       head None first more = rw (← first) more
       head (Some e) first more = rw (← first) (ap (λ rest. (from, e.0, e.1.item) ∷ rest) more)

@@ -28,10 +28,10 @@ module _ {T : Type 0} where
   inserted-capacity c place item [] = refl
   inserted-capacity c place item (i ∷ rest) = refl
 
-  pub capacity-kept : {P E : Type 0} (old new : Chain T) (place : Entry T → List (Entry T)) (item : T) (index era : P → ℕ) (r : Result P E)
-      → IfOk r (λ p. IsInsertion old new place item (index p) (era p)) → OnErr r (new ≡ old) → new.capacity ≡ old.capacity
-  capacity-kept old new place item index era (Ok p) ok err = ap (λ (c : Chain T). c.capacity) ok.after ∙ inserted-capacity old place item old.vacant
-  capacity-kept old new place item index era (Err e) ok err = ap (λ (c : Chain T). c.capacity) err
+  pub capacity-kept : {P E : Type 0} (old new : Chain T) (place : Entry T → List (Entry T)) (item : T) (numbers : P → ℕ × ℕ) (r : Result P E)
+      → IfOk r (λ p. IsInsertion old new place item (numbers p).0 (numbers p).1) → OnErr r (new ≡ old) → new.capacity ≡ old.capacity
+  capacity-kept old new place item numbers (Ok p) ok err = ap (λ (c : Chain T). c.capacity) ok.after ∙ inserted-capacity old place item old.vacant
+  capacity-kept old new place item numbers (Err e) ok err = ap (λ (c : Chain T). c.capacity) err
 
   -- an index that no entry has is among the vacant ones, so that there is a first of them
   vacant_among-some : (es : List (Entry T)) (from count k : ℕ) → from ≤ k → k < from + count → times k es ≡ 0 → IsSome (slice_get (vacant_among es from count) 0)

@@ -3,7 +3,7 @@ use Rattle.std.proofs.Common.{◌≡◌, ℕ, ◌<◌, ◌≤◌, List, [], ◌�
 use Rattle.std.proofs.lemmas.Bool.Decides.{eqb_tells}
 use Rattle.std.specs.Option.{option_map, ForSome}
 use Rattle.arena_base.specs.Generation.{IsLawfulGeneration}
-use Rattle.arena_base.specs.Arena.{Arena, slot, arena_capacity, how_often, IsSound as IsSoundArena}
+use Rattle.arena_base.specs.Arena.{Arena, slot, arena_capacity, times as times_among, IsSound as IsSoundArena}
 use Rattle.chain_base.specs.Link.{Link}
 use Rattle.chain_base.specs.Chain.{Entry, times, link_at, IsSound}
 use Rattle.chain_base.specs.Layout.{chain_of, IsLaidOut}
@@ -51,7 +51,7 @@ module _ {T : Type 0} where
         within_limit = sound.within_limit;
         generation_lawful = sound.generation_lawful;
         entries_lawful = λ i. rw (entry_at-link None None es i, ← laid.links i) (lawful-entry greatest (slot a i) (sound.entries_lawful i));
-        vacant_listed = λ i. sound.vacant_listed i ∙ ap (λ is. how_often is i) (vacant-links a.slots es laid.links);
+        vacant_listed = λ i. sound.vacant_listed i ∙ ap (λ is. times_among i is) (vacant-links a.slots es laid.links);
         counted = omega (arith, laid.counted, sound.counted);
       }
 

@@ -4,13 +4,13 @@ use Rattle.std.proofs.lemmas.Bool.Decides.{eqb_tells}
 use Rattle.std.proofs.lemmas.List.{length-replicate}
 use Rattle.std.specs.Option.{option_map}
 use Rattle.arena_base.specs.Generation.{next_generation}
-use Rattle.arena_base.specs.Arena.{Arena, slot, with_entry_at, arena_capacity, with_capacity as arena_with_capacity, without as arena_without, renewed as arena_renewed, cleared as arena_cleared, resized, vacant_from, vacant_indexes as slots_vacant, IsInsertion as IsArenaInsertion}
+use Rattle.arena_base.specs.Arena.{Arena, slot, with_entry_at, arena_capacity, with_capacity as arena_with_capacity, removed as arena_removed, renewed as arena_renewed, cleared as arena_cleared, resized, vacant_from, vacant_indexes as slots_vacant, IsInsertion as IsArenaInsertion}
 use Rattle.chain_base.specs.Link.{Link}
-use Rattle.chain_base.specs.Chain.{Entry, Chain, times, first_or, last_or, link_at, IsOccupied, inserted_at, with_capacity, vacant_indexes, without, removed, renewed, cleared, with_item_at}
+use Rattle.chain_base.specs.Chain.{Entry, Chain, times, first_or, last_or, link_at, IsOccupied, inserted_at, with_capacity, vacant_indexes, without, removed, renewed, cleared, with_item}
 use Rattle.chain_base.specs.Insert.{IsInsertion, IsPlace}
 use Rattle.chain_base.specs.Layout.{chain_of, rewritten, with_next, with_prev, linked_next, linked_prev, IsLaidOut}
 use Rattle.chain_base.proofs.Lists.{link_between-absent, entry_at-link, last_or-append, Stands-occurs, without-split}
-use Rattle.chain_base.proofs.LaidOut.{bridged, end_beside, link_amid, closed, walk-laid_out, slot-laid_out, times-vacant, joined, IsLaidOut-inserted, IsLaidOut-removed, IsLaidOut-with_item, IsLaidOut-with_generation}
+use Rattle.chain_base.proofs.LaidOut.{bridged, end_beside, link_amid, closed, walk-laid_out, slot-laid_out, times-vacant, joined, IsLaidOut-inserted, IsLaidOut-removed, IsLaidOut-with_item_among, IsLaidOut-with_generation}
 use Rattle.chain_base.proofs.Vacancy.{vacant-links, get_or-resized, count-resized, length-resized, get_or-vacant, count-vacant}
 
 -- the list of vacant indexes begins with the next one
@@ -225,7 +225,7 @@ module _ {T : Type 0} where
   -- so where it stood between these two neighbours, which are linked to each other
   abbrev pub Unlinks : Option ℕ → Arena (Link T) → Option ℕ → Option ℕ → ℕ → Option ℕ → Option ℕ → Type 0
   Unlinks greatest a first last i prev next =
-      Removes greatest a (bridged (arena_without greatest a i) prev next next prev) first (end_beside prev first next) (end_beside next last prev) i
+      Removes greatest a (bridged (arena_removed greatest a i) prev next next prev) first (end_beside prev first next) (end_beside next last prev) i
 
   -- the list and the layout after the entry between two stretches is taken out
   record Cuts (greatest : Option ℕ) (a b : Arena (Link T)) (first2 last2 : Option ℕ) (front : List (Entry T)) (e : Entry T) (back : List (Entry T)) : Type 0 where
@@ -234,10 +234,10 @@ module _ {T : Type 0} where
 
   module _ (greatest : Option ℕ) (a : Arena (Link T)) (first last : Option ℕ) (front : List (Entry T)) (e : Entry T) (back : List (Entry T)) where
     Removes-between : IsLaidOut a.slots first last (front ++ e ∷ back)
-        → Cuts greatest a (closed (arena_without greatest a e.index) front back) (end_beside (last_or None front) first (first_or None back))
+        → Cuts greatest a (closed (arena_removed greatest a e.index) front back) (end_beside (last_or None front) first (first_or None back))
         (end_beside (first_or None back) last (last_or None front)) front e back
     Removes-between laid =
-        let emptied : Arena (Link T) = arena_without greatest a e.index in
+        let emptied : Arena (Link T) = arena_removed greatest a e.index in
         let left = last_or None front in
         let right = first_or None back in
         let b : Arena (Link T) = linked_prev (linked_next emptied left right) right left in
@@ -267,7 +267,7 @@ module _ {T : Type 0} where
         let laid2 = subst (λ (xs : List (Entry T)). IsLaidOut a.slots first last xs) split laid in
         let kept = Removes-between greatest a first last front x back laid2 in
         let list : without x.index (chain_of a first).entries ≡ front ++ back = ap (without x.index) split ∙ without-split front x back x.index refl unmet in
-        let b : Arena (Link T) = closed (arena_without greatest a x.index) front back in
+        let b : Arena (Link T) = closed (arena_removed greatest a x.index) front back in
         record {
           laid = IsLaidOut-walked b _ _ _ kept.laid;
           chain = kept.chain ∙ ap (λ xs. record { entries = xs; capacity = arena_capacity a; vacant = x.index ∷ a.vacant; generation = next_generation greatest a.generation; maximum = a.maximum }) (sym list);
@@ -302,12 +302,12 @@ module _ {T : Type 0} where
   -- an item that is written
   pub record Writes (a : Arena (Link T)) (first last : Option ℕ) (i : ℕ) (item : T) : Type 0 where
     pub laid : IsLaidOut (rewritten a i item).slots first last (chain_of (rewritten a i item) first).entries
-    pub chain : chain_of (rewritten a i item) first ≡ with_item_at (chain_of a first) i item
+    pub chain : chain_of (rewritten a i item) first ≡ with_item (chain_of a first) i item
 
   pub Writes-at : (a : Arena (Link T)) (first last : Option ℕ) (i : ℕ) (item : T) → IsLaidOut a.slots first last (chain_of a first).entries → Writes a first last i item
   Writes-at a first last i item laid =
-      let lies = IsLaidOut-with_item a first last (chain_of a first).entries i item laid in
+      let lies = IsLaidOut-with_item_among a first last (chain_of a first).entries i item laid in
       record {
         laid = IsLaidOut-walked (rewritten a i item) first last _ lies;
-        chain = chain_of-laid_out (rewritten a i item) first last (with_item_at (chain_of a first) i item) lies (ap (λ n. n - 1) (length-set a.slots i _)) refl refl refl;
+        chain = chain_of-laid_out (rewritten a i item) first last (with_item (chain_of a first) i item) lies (ap (λ n. n - 1) (length-set a.slots i _)) refl refl refl;
       }

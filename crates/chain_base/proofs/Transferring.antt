@@ -44,27 +44,27 @@ module _ {T : Type 0} where
   item-numbered number (Some e) = refl
 
   -- the first entry is taken out
-  pub takes-out : {Q : Type 0} (index era : Q → ℕ) (greatest : Option ℕ) (old new : Chain T) (from : Q) (taken : InvalidationOption T)
-      → Some (index from, era from) ≡ first_pointer old.entries → Some (allowed_value taken) ≡ option_map (λ e. e.1.item) (link_at old.entries (index from))
-      → is_overflow taken ≡ overflows_after greatest old.generation → new ≡ removed greatest old (index from) → TakesOut index era greatest old new from taken
-  takes-out index era greatest old new from taken head value overflow gone = go old.entries refl
+  pub takes-out : {Q : Type 0} (numbers : Q → ℕ × ℕ) (greatest : Option ℕ) (old new : Chain T) (from : Q) (taken : InvalidationOption T)
+      → Some (numbers from) ≡ first_pointer old.entries → Some (allowed_value taken) ≡ option_map (λ e. e.1.item) (link_at old.entries (numbers from).0)
+      → is_overflow taken ≡ overflows_after greatest old.generation → new ≡ removed greatest old (numbers from).0 → TakesOut numbers greatest old new from taken
+  takes-out numbers greatest old new from taken head value overflow gone = go old.entries refl
     where
-      go : (es : List (Entry T)) → old.entries ≡ es → TakesOut index era greatest old new from taken
-      go [] is = let none : Some (index from, era from) ≡ None = rw is at head in absurd cc
+      go : (es : List (Entry T)) → old.entries ≡ es → TakesOut numbers greatest old new from taken
+      go [] is = let none : Some (numbers from) ≡ None = rw is at head in absurd cc
       go (e ∷ rest) is = elim (eqb_tells e.index e.index) [
         | inr h ↦ absurd (h.1 refl)
         | inl h ↦
-            let first : Some (index from, era from) ≡ Some (e.index, e.generation) = rw is at head in
-            let pair : ◌≡◌ {A = ℕ × ℕ} (index from, era from) (e.index, e.generation) = same_Some (index from, era from) (e.index, e.generation) first in
-            let at : index from ≡ e.index = ap (λ (p : ℕ × ℕ). p.0) pair in
-            let of : era from ≡ e.generation = ap (λ (p : ℕ × ℕ). p.1) pair in
+            let first : Some (numbers from) ≡ Some (e.index, e.generation) = rw is at head in
+            let pair : ◌≡◌ {A = ℕ × ℕ} (numbers from) (e.index, e.generation) = same_Some (numbers from) (e.index, e.generation) first in
+            let at : (numbers from).0 ≡ e.index = ap (λ (p : ℕ × ℕ). p.0) pair in
+            let of : (numbers from).1 ≡ e.generation = ap (λ (p : ℕ × ℕ). p.1) pair in
             let shown : Some (allowed_value taken) ≡ Some e.item = rw (is, at, h.0) at value in
             record {
               entry = e;
               rest = rest;
               split = is;
               from_index = at;
-              from_era = of;
+              from_generation = of;
               taken_item = same_Some (allowed_value taken) e.item shown;
               taken_overflow = overflow;
               left = ap (λ (c : Chain T). c.entries) gone ∙ rw (is, at, h.0) refl;
@@ -188,35 +188,35 @@ module _ {T : Type 0} where
       let now : c.capacity ≡ length items + suc (c.capacity - length items - 1) = omega (arith, less) in
       ap (λ n. slice_get (vacant_among (numbered c.generation 1 items) 1 n) 0) now ∙ ap (λ is. slice_get is 0) (vacant-numbered c.generation items (suc (c.capacity - length items - 1)))
 
-  module _ {P : Type 0} (index : P → ℕ) (c chain : Chain T) (items : List T) (less : length items < c.capacity) (put : chain ≡ filled_with c items) where
-    next-is : (o : Option P) (vacant : List ℕ) → vacant ≡ chain.vacant → option_map index o ≡ slice_get vacant 0 → option_map index o ≡ Some (1 + length items)
+  module _ {P : Type 0} (numbers : P → ℕ × ℕ) (c chain : Chain T) (items : List T) (less : length items < c.capacity) (put : chain ≡ filled_with c items) where
+    next-is : (o : Option P) (vacant : List ℕ) → vacant ≡ chain.vacant → option_map (λ p. (numbers p).0) o ≡ slice_get vacant 0 → option_map (λ p. (numbers p).0) o ≡ Some (1 + length items)
     next-is o vacant same is = is ∙ ap (λ is. slice_get is 0) (same ∙ ap (λ (c : Chain T). c.vacant) put) ∙ vacant-first c items less
 
-    pub next-some : (o : Option P) (vacant : List ℕ) → vacant ≡ chain.vacant → option_map index o ≡ slice_get vacant 0 → is_some o ≡ true
+    pub next-some : (o : Option P) (vacant : List ℕ) → vacant ≡ chain.vacant → option_map (λ p. (numbers p).0) o ≡ slice_get vacant 0 → is_some o ≡ true
     next-some None vacant same is = absurd (let none = next-is None vacant same is in cc)
     next-some (Some p) vacant same is = refl
 
-    pub next-at : (p : P) (o : Option P) (vacant : List ℕ) → o ≡ Some p → vacant ≡ chain.vacant → option_map index o ≡ slice_get vacant 0 → index p ≡ length items + 1
+    pub next-at : (p : P) (o : Option P) (vacant : List ℕ) → o ≡ Some p → vacant ≡ chain.vacant → option_map (λ p. (numbers p).0) o ≡ slice_get vacant 0 → (numbers p).0 ≡ length items + 1
     next-at p o vacant found same is =
-        let at : ◌≡◌ {A = ℕ} (index p) (1 + length items) = same_Some (index p) (1 + length items) (ap (option_map index) (sym found) ∙ next-is o vacant same is) in omega (arith, at)
+        let at : ◌≡◌ {A = ℕ} (numbers p).0 (1 + length items) = same_Some (numbers p).0 (1 + length items) (ap (option_map (λ p. (numbers p).0)) (sym found) ∙ next-is o vacant same is) in omega (arith, at)
 
 -- one entry more has gone over
-module _ {P Q T U M : Type 0} (index_from era_from : Q → ℕ) (index_to era_to : P → ℕ) (greatest : Option ℕ) (step : M → Q → InvalidationOption U → P → T → M → Type 0) (m : M) (source : Chain U) (c : Chain T) where
+module _ {P Q T U M : Type 0} (numbers_from : Q → ℕ × ℕ) (numbers_to : P → ℕ × ℕ) (greatest : Option ℕ) (step : M → Q → InvalidationOption U → P → T → M → Type 0) (m : M) (source : Chain U) (c : Chain T) where
   abbrev Taken : Chain U → Chain T → M → Type 0
-  Taken rest now n = HasTaken index_from era_from index_to era_to greatest step m source rest c now n
+  Taken rest now n = HasTaken numbers_from numbers_to greatest step m source rest c now n
 
   abbrev pub taken-none : c ≡ filled_with c [] → Taken source c m
   taken-none empty = record { gone = []; items = []; split = refl; calls = refl; count = refl; put = empty; capacity = refl; maximum = refl }
 
   abbrev pub taken-more : (rest after : Chain U) (now then_now : Chain T) (n n' : M) (from : Q) (taken : InvalidationOption U) (to : P) (item : T) (h : Taken rest now n)
-      → TakesOut index_from era_from greatest rest after from taken → index_to to ≡ length h.items + 1 → era_to to ≡ c.generation → step n from taken to item n'
+      → TakesOut numbers_from greatest rest after from taken → (numbers_to to).0 ≡ length h.items + 1 → (numbers_to to).1 ≡ c.generation → step n from taken to item n'
       → then_now ≡ filled_with c (h.items ++ item ∷ []) → Taken after then_now n'
   taken-more rest after now then_now n n' from taken to item h t at of called put = record {
     gone = h.gone ++ t.entry ∷ [];
     items = h.items ++ item ∷ [];
     split = h.split ∙ ap (λ es. h.gone ++ es) (t.split ∙ ap (λ es. t.entry ∷ es) (sym t.left)) ∙ sym (append_assoc h.gone (t.entry ∷ []) after.entries);
     calls =
-        FoldsTo-push (TransferStep index_from era_from index_to era_to greatest step c.generation) (record { closure = m; items = []; generation = source.generation }) h.gone
+        FoldsTo-push (TransferStep numbers_from numbers_to greatest step c.generation) (record { closure = m; items = []; generation = source.generation }) h.gone
         (record { closure = n; items = h.items; generation = rest.generation }) t.entry (record { closure = n'; items = h.items ++ item ∷ []; generation = after.generation }) h.calls
         (record {
           from = from;
@@ -224,11 +224,11 @@ module _ {P Q T U M : Type 0} (index_from era_from : Q → ℕ) (index_to era_to
           to = to;
           item = item;
           from_index = t.from_index;
-          from_era = t.from_era;
+          from_generation = t.from_generation;
           taken_item = t.taken_item;
           taken_overflow = t.taken_overflow;
           to_index = at;
-          to_era = of;
+          to_generation = of;
           called = called;
           behind = refl;
           raised = t.raised;
@@ -257,15 +257,15 @@ last-more number i items item at =
     ap Some same ∙ ap last_of (sym count)
 
 -- a whole transfer
-module _ {P Q T U M : Type 0} (index_from era_from : Q → ℕ) (index_to era_to : P → ℕ) (greatest : Option ℕ) (step : M → Q → InvalidationOption U → P → T → M → Type 0) where
+module _ {P Q T U M : Type 0} (numbers_from : Q → ℕ × ℕ) (numbers_to : P → ℕ × ℕ) (greatest : Option ℕ) (step : M → Q → InvalidationOption U → P → T → M → Type 0) where
   refilled-same : (c d : Chain T) (g : ℕ) (es : List (Entry T)) → c.capacity ≡ d.capacity → c.maximum ≡ d.maximum → refilled c g es ≡ refilled d g es
   refilled-same c d g es capacity maximum = rw (capacity, maximum) refl
 
   pub transferred : {X E : Type 0} (g : ℕ) (m n : M) (source rest source_after : Chain U) (old base new : Chain T) (r : Result X E) (x : X)
       → base.generation ≡ g → base.capacity ≡ max old.capacity (length source.entries) → base.maximum ≡ old.maximum
-      → HasTaken index_from era_from index_to era_to greatest step m source rest base new n → rest.entries ≡ []
+      → HasTaken numbers_from numbers_to greatest step m source rest base new n → rest.entries ≡ []
       → r ≡ Ok x → OnOk r (source_after ≡ with_capacity rest (max rest.capacity (greatest_index rest.entries)))
-      → IsTransfer index_from era_from index_to era_to greatest step g m source source_after old new
+      → IsTransfer numbers_from numbers_to greatest step g m source source_after old new
   transferred g m n source rest source_after old base new r x era capacity maximum h all is sized =
       let whole : source.entries ≡ h.gone = h.split ∙ ap (λ es. h.gone ++ es) all ∙ append-nil h.gone in
       let shrunk : source_after ≡ with_capacity rest (max rest.capacity (greatest_index rest.entries)) = rw is at sized in
@@ -280,7 +280,7 @@ module _ {P Q T U M : Type 0} (index_from era_from : Q → ℕ) (index_to era_to
       }
 
 -- Calls of one kind are calls of another: `state`, `item` and `part` give the other's states and items.
-module _ {P Q S F X T V U : Type 0} (index_from era_from : Q → ℕ) (index_to era_to : P → ℕ) (greatest : Option ℕ)
+module _ {P Q S F X T V U : Type 0} (numbers_from : Q → ℕ × ℕ) (numbers_to : P → ℕ × ℕ) (greatest : Option ℕ)
     (below : S → Q → InvalidationOption V → P → X → S → Type 0) (above : F → Q → InvalidationOption U → P → T → F → Type 0) (state : S → F) (item : X → T) (part : V → U)
     (like : (s : S) (q : Q) (taken : InvalidationOption V) (p : P) (x : X) (t : S) → below s q taken p x t
     → (plain : InvalidationOption U) × (allowed_value plain ≡ part (allowed_value taken)) × (is_overflow plain ≡ is_overflow taken) × above (state s) q plain p (item x) (state t)) where
@@ -291,8 +291,8 @@ module _ {P Q S F X T V U : Type 0} (index_from era_from : Q → ℕ) (index_to 
   abbrev pub part_entry : Entry V → Entry U
   part_entry e = record { index = e.index; generation = e.generation; item = part e.item }
 
-  pub steps-retold : (g : ℕ) (es : List (Entry V)) (s t : Transferring S X) → FoldsTo (TransferStep index_from era_from index_to era_to greatest below g) s es t
-      → FoldsTo (TransferStep index_from era_from index_to era_to greatest above g) (retold s) (map part_entry es) (retold t)
+  pub steps-retold : (g : ℕ) (es : List (Entry V)) (s t : Transferring S X) → FoldsTo (TransferStep numbers_from numbers_to greatest below g) s es t
+      → FoldsTo (TransferStep numbers_from numbers_to greatest above g) (retold s) (map part_entry es) (retold t)
   steps-retold g [] s t h = ap retold h
   steps-retold g (e ∷ es) s t h =
       let one = h.1 in
@@ -304,11 +304,11 @@ module _ {P Q S F X T V U : Type 0} (index_from era_from : Q → ℕ) (index_to 
           to = one.to;
           item = item one.item;
           from_index = one.from_index;
-          from_era = one.from_era;
+          from_generation = one.from_generation;
           taken_item = call.1 ∙ ap part one.taken_item;
           taken_overflow = call.2 ∙ one.taken_overflow;
           to_index = one.to_index ∙ ap (λ n. n + 1) (sym (length-map s.items item));
-          to_era = one.to_era;
+          to_generation = one.to_generation;
           called = call.3;
           behind = ap (map item) one.behind ∙ map_push item s.items one.item;
           raised = one.raised;
@@ -321,13 +321,13 @@ map-itself f itself [] = refl
 map-itself f itself (x ∷ xs) = rw (itself x, map-itself f itself xs) refl
 
 -- the same items, in other states
-pub transfer-retold : {P Q S F T U X E : Type 0} (index_from era_from : Q → ℕ) (index_to era_to : P → ℕ) (greatest : Option ℕ)
+pub transfer-retold : {P Q S F T U X E : Type 0} (numbers_from : Q → ℕ × ℕ) (numbers_to : P → ℕ × ℕ) (greatest : Option ℕ)
     (below : S → Q → InvalidationOption U → P → T → S → Type 0) (above : F → Q → InvalidationOption U → P → T → F → Type 0) (state : S → F)
     → ((s : S) (q : Q) (taken : InvalidationOption U) (p : P) (x : T) (t : S) → below s q taken p x t → above (state s) q taken p x (state t))
-    → (g : ℕ) (s : S) (source source_after : Chain U) (old new : Chain T) (r : Result X E) → OnOk r (IsTransfer index_from era_from index_to era_to greatest below g s source source_after old new)
-    → OnOk r (IsTransfer index_from era_from index_to era_to greatest above g (state s) source source_after old new)
-transfer-retold {T = T} {U = U} index_from era_from index_to era_to greatest below above state like g s source source_after old new (Ok x) h =
-    let steps = steps-retold index_from era_from index_to era_to greatest below above state (λ x. x) (λ x. x) (λ s q taken p x t called. (taken, refl, refl, like s q taken p x t called)) g source.entries
+    → (g : ℕ) (s : S) (source source_after : Chain U) (old new : Chain T) (r : Result X E) → OnOk r (IsTransfer numbers_from numbers_to greatest below g s source source_after old new)
+    → OnOk r (IsTransfer numbers_from numbers_to greatest above g (state s) source source_after old new)
+transfer-retold {T = T} {U = U} numbers_from numbers_to greatest below above state like g s source source_after old new (Ok x) h =
+    let steps = steps-retold numbers_from numbers_to greatest below above state (λ x. x) (λ x. x) (λ s q taken p x t called. (taken, refl, refl, like s q taken p x t called)) g source.entries
     (record { closure = s; items = []; generation = source.generation }) h.last h.calls in
     record {
       last = record { closure = state h.last.closure; items = h.last.items; generation = h.last.generation };
@@ -335,4 +335,4 @@ transfer-retold {T = T} {U = U} index_from era_from index_to era_to greatest bel
       left = h.left;
       after = h.after;
     }
-transfer-retold index_from era_from index_to era_to greatest below above state like g s source source_after old new (Err e) h = tt
+transfer-retold numbers_from numbers_to greatest below above state like g s source source_after old new (Err e) h = tt

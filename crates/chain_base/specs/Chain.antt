@@ -2,7 +2,7 @@
 use Rattle.std.specs.Prelude.{◌≡◌, ℕ, zero, suc, ◌+◌, ◌*◌, ◌<◌, ◌≤◌, ◌==◌, if◌then◌else◌, min, max, List, [], ◌∷◌, length, Option, Some, None, IsSome, is_some, slice_get}
 use Rattle.std.specs.Option.{option_map, ForSome}
 use Rattle.arena_base.specs.Generation.{first_generation, next_generation, IsLawfulGeneration}
-use Rattle.arena_base.specs.Arena.{Arena, how_often, limit_of, slot, item_if, arena_capacity}
+use Rattle.arena_base.specs.Arena.{Arena, times as times_among, limit_of, slot, item_if, arena_capacity}
 use Rattle.chain_base.specs.Link.{Link}
 
 -- an entry: its index and generation, which make its pointer, and its item
@@ -73,9 +73,9 @@ module _ {T : Type 0} where
   without i (e ∷ es) = if e.index == i then es else e ∷ without i es
 
   -- the list with another item at this index
-  abbrev pub with_item : List (Entry T) → ℕ → T → List (Entry T)
-  with_item [] i item = []
-  with_item (e ∷ es) i item = if e.index == i then record e { item = item } ∷ es else e ∷ with_item es i item
+  abbrev pub with_item_among : List (Entry T) → ℕ → T → List (Entry T)
+  with_item_among [] i item = []
+  with_item_among (e ∷ es) i item = if e.index == i then record e { item = item } ∷ es else e ∷ with_item_among es i item
 
   -- the greatest index, or 0
   abbrev pub greatest_index : List (Entry T) → ℕ
@@ -120,7 +120,7 @@ module _ {T : Type 0} where
     pub within_limit : c.capacity ≤ chain_limit most c
     pub generation_lawful : IsLawfulGeneration greatest c.generation
     pub entries_lawful : (i : ℕ) → ForSome (entry_at c.entries i) (λ e. IsLawfulGeneration greatest e.0)
-    pub vacant_listed : (i : ℕ) → how_often c.vacant i ≡ how_often (vacant_indexes c.entries c.capacity) i
+    pub vacant_listed : (i : ℕ) → times_among i c.vacant ≡ times_among i (vacant_indexes c.entries c.capacity)
     pub counted : length c.entries + length c.vacant ≡ c.capacity
 
   -- a chain arena without entries and without room
@@ -166,8 +166,8 @@ module _ {T : Type 0} where
       record c { entries = []; vacant = vacant_indexes [] c.capacity; generation = next_generation greatest c.generation }
 
   -- c with another item at this index
-  abbrev pub with_item_at : Chain T → ℕ → T → Chain T
-  with_item_at c i item = record c { entries = with_item c.entries i item }
+  abbrev pub with_item : Chain T → ℕ → T → Chain T
+  with_item c i item = record c { entries = with_item_among c.entries i item }
 
   -- the arena under the chain: each entry stands at its index with its neighbours' indexes
   pub record IsArenaOf (c : Chain T) (a : Arena (Link T)) : Type 0 where
@@ -178,8 +178,8 @@ module _ {T : Type 0} where
     pub maximum : a.maximum ≡ c.maximum
 
   -- the item of the entry with this index and generation
-  abbrev pub item_of : List (Entry T) → ℕ → ℕ → Option T
-  item_of es i g = item_if g (entry_at es i)
+  abbrev pub item_of : List (Entry T) → ℕ × ℕ → Option T
+  item_of es p = item_if p.1 (entry_at es p.0)
 
   -- the index and the generation of the first entry
   abbrev pub first_pointer : List (Entry T) → Option (ℕ × ℕ)

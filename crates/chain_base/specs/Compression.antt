@@ -13,9 +13,9 @@ module _ {T : Type 0} where
   lesser [] i = 0
   lesser (e ∷ es) i = (if nat_lt e.index i then 1 else 0) + lesser es i
 
-  -- the place of an index among those of the entries by rising index, counted from 1
-  abbrev pub place_of : List (Entry T) → ℕ → ℕ
-  place_of es i = lesser es i + 1
+  -- the index of an entry after a compression: its number among the indexes of the entries by rising index, counted from 1
+  abbrev pub compressed_index : List (Entry T) → ℕ → ℕ
+  compressed_index es i = lesser es i + 1
 
   -- the entry at index i, if there is one, before these
   abbrev pub entry_before : ℕ → Option (ℕ × T) → List (ℕ × ℕ × T) → List (ℕ × ℕ × T)
@@ -35,29 +35,29 @@ module _ {T : Type 0} where
   abbrev pub refilled : Chain T → ℕ → List (Entry T) → Chain T
   refilled c g es = record c { entries = es; vacant = vacant_indexes es c.capacity; generation = g }
 
-  -- Each entry gets its place by rising index for its index, the generation g, and the item of that place; there is one for each.
+  -- Each entry gets its compressed index, the generation g, and the item of that number; there is one for each.
   abbrev pub moved : List (Entry T) → ℕ → List T → Entry T → Entry T
   moved es g items e =
-      record { index = place_of es e.index; generation = g; item = slice_index_or items (lesser es e.index) e.item }
+      record { index = compressed_index es e.index; generation = g; item = slice_index_or items (lesser es e.index) e.item }
 
   -- c in the order in which it stands, its entries moved to the indexes from 1 on by rising index, with these items
   abbrev pub compressed : Chain T → ℕ → List T → Chain T
   compressed c g items = refilled c g (map (moved c.entries g items) c.entries)
 
-  -- the entry with its place by rising index for its index, and generation g
-  abbrev pub at_place : List (Entry T) → ℕ → Entry T → Entry T
-  at_place es g e = record { index = place_of es e.index; generation = g; item = e.item }
+  -- the entry at its compressed index, with generation g
+  abbrev pub at_compressed_index : List (Entry T) → ℕ → Entry T → Entry T
+  at_compressed_index es g e = record { index = compressed_index es e.index; generation = g; item = e.item }
 
   -- c compressed, with the items that it has
   abbrev pub relocated : Chain T → ℕ → Chain T
-  relocated c g = refilled c g (map (at_place c.entries g) c.entries)
+  relocated c g = refilled c g (map (at_compressed_index c.entries g) c.entries)
 
   -- entries of these items in this order, with the indexes from `from` on and generation g
   abbrev pub numbered : ℕ → ℕ → List T → List (Entry T)
   numbered g from [] = []
   numbered g from (item ∷ items) = record { index = from; generation = g; item = item } ∷ numbered g (from + 1) items
 
-  -- c with indexes in the order in which it stands: the entry at place i, counted from 0, has index i + 1
+  -- c with indexes in the order in which it stands: the entry at position i, counted from 0, has index i + 1
   abbrev pub canonical : Chain T → ℕ → Chain T
   canonical c g = refilled c g (numbered g 1 (map (λ e. e.item) c.entries))
 
@@ -70,12 +70,12 @@ module _ {T : Type 0} where
   left_empty c g = refilled c g []
 
 -- P reads pointers as index and generation; `step` is what a call of the closure may do; g is the new generation
-module _ {P T F : Type 0} (index era : P → ℕ) (step : F → P → T → P → T → F → Type 0) (g : ℕ) where
+module _ {P T F : Type 0} (numbers : P → ℕ × ℕ) (step : F → P → T → P → T → F → Type 0) (g : ℕ) where
   -- the closure was called at each entry by rising index, each time in the state in which the call before had left it
   pub record IsCompression (f : F) (old new : Chain T) : Type 0 where
     pub items : List T
     pub last : F
-    pub calls : FoldsTo (CompressionStep index era step g) (f, []) (entries_rising old) (last, items)
+    pub calls : FoldsTo (CompressionStep numbers step g) (f, []) (entries_rising old) (last, items)
     pub after : new ≡ compressed old g items
 
 -- how far a transfer has come: the closure, the items so far, and the source's generation
@@ -85,20 +85,20 @@ pub record Transferring (F T : Type 0) : Type 0 where
   pub generation : ℕ
 
 -- Q reads the source's pointers, P the receiver's; `greatest` stands for the source's generations
-module _ {P Q T U F : Type 0} (index_from era_from : Q → ℕ) (index_to era_to : P → ℕ) (greatest : Option ℕ) (step : F → Q → InvalidationOption U → P → T → F → Type 0) (g : ℕ) where
+module _ {P Q T U F : Type 0} (numbers_from : Q → ℕ × ℕ) (numbers_to : P → ℕ × ℕ) (greatest : Option ℕ) (step : F → Q → InvalidationOption U → P → T → F → Type 0) (g : ℕ) where
   -- An entry was removed from the source, and the closure called with the pointer that it had, what its removal gave, and its
-  -- new pointer; the answer came behind the items so far.
+  -- new pointer; what it returned came behind the items so far.
   pub record TransferStep (s : Transferring F T) (e : Entry U) (t : Transferring F T) : Type 0 where
     pub from : Q
     pub taken : InvalidationOption U
     pub to : P
     pub item : T
-    pub from_index : index_from from ≡ e.index
-    pub from_era : era_from from ≡ e.generation
+    pub from_index : (numbers_from from).0 ≡ e.index
+    pub from_generation : (numbers_from from).1 ≡ e.generation
     pub taken_item : allowed_value taken ≡ e.item
     pub taken_overflow : is_overflow taken ≡ overflows_after greatest s.generation
-    pub to_index : index_to to ≡ length s.items + 1
-    pub to_era : era_to to ≡ g
+    pub to_index : (numbers_to to).0 ≡ length s.items + 1
+    pub to_generation : (numbers_to to).1 ≡ g
     pub called : step s.closure from taken to item t.closure
     pub behind : t.items ≡ s.items ++ item ∷ []
     pub raised : t.generation ≡ next_generation greatest s.generation

@@ -6,6 +6,4 @@ pub mod Compression
 pub mod Exchange
 pub mod Insert
 pub mod Layout
-pub mod Lends
-pub mod LinkLends
 pub mod Transfer

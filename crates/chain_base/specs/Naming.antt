@@ -30,9 +30,9 @@ module _ {T : Type 0} where
   abbrev pub named : Side → Arena (Link T) → ℕ → Option ℕ
   named side a i = option_and_then (λ e. neighbour_on side e.1) (slot a i)
 
-  -- the place of index i among those with an entry, counted from 1
-  abbrev pub place_in : Arena (Link T) → ℕ → ℕ
-  place_in a i = count_by is_some (take i a.slots) + 1
+  -- the compressed index of the entry at index i: its number among the indexes with an entry, counted from 1
+  abbrev pub compressed_index_in : Arena (Link T) → ℕ → ℕ
+  compressed_index_in a i = count_by is_some (take i a.slots) + 1
 
   -- the names on a side name entries, each at most one, and at most one entry names none
   pub record IsPaired (side : Side) (a : Arena (Link T)) : Type 0 where
@@ -40,12 +40,12 @@ module _ {T : Type 0} where
     pub once : (i j k : ℕ) → named side a i ≡ Some k → named side a j ≡ Some k → i ≡ j
     pub alone : (i j : ℕ) → IsSome (slot a i) → IsSome (slot a j) → named side a i ≡ None → named side a j ≡ None → i ≡ j
 
-  -- Each entry that one names on this side names that one's place on the other side. `end` is the place of the entry that
+  -- Each entry that one names on this side names that one's compressed index on the other side. `end` is that of the entry that
   -- names none.
-  pub record NamesPlaces (side : Side) (old new : Arena (Link T)) (end : Option ℕ) : Type 0 where
-    pub met : (i k : ℕ) → named side old i ≡ Some k → slot new k ≡ option_map (with_facing side (Some (place_in old i))) (slot old k)
+  pub record NamesCompressedIndexes (side : Side) (old new : Arena (Link T)) (end : Option ℕ) : Type 0 where
+    pub met : (i k : ℕ) → named side old i ≡ Some k → slot new k ≡ option_map (with_facing side (Some (compressed_index_in old i))) (slot old k)
     pub unmet : (k : ℕ) → ((i : ℕ) → named side old i ≢ Some k) → slot new k ≡ slot old k
-    pub end_is : (i : ℕ) → IsSome (slot old i) → named side old i ≡ None → end ≡ Some (place_in old i)
+    pub end_is : (i : ℕ) → IsSome (slot old i) → named side old i ≡ None → end ≡ Some (compressed_index_in old i)
     pub no_end : ((i : ℕ) → IsSome (slot old i) → named side old i ≢ None) → end ≡ None
     pub kept : new ≡ record old { slots = new.slots }
     pub begins : take 1 old.slots ≡ None ∷ []
@@ -59,7 +59,7 @@ pub record MapsItem {P T M : Type 0} (step : M → P → T → P → T → M →
   pub behind : answer.next ≡ link.next
 
 -- P reads pointers as index and generation; `step` is what making a new item may do; g is the new generation
-module _ {P T M : Type 0} (index era : P → ℕ) (step : M → P → T → P → T → M → Type 0) (g : ℕ) where
+module _ {P T M : Type 0} (numbers : P → ℕ × ℕ) (step : M → P → T → P → T → M → Type 0) (g : ℕ) where
   -- an entry without its neighbours
   abbrev pub bare : ℕ × ℕ × Link T → ℕ × ℕ × T
   bare e = (e.0, e.1, e.2.item)
@@ -68,7 +68,7 @@ module _ {P T M : Type 0} (index era : P → ℕ) (step : M → P → T → P �
   pub record CompressesItems (m : M) (old new : Arena (Link T)) : Type 0 where
     pub links : List (Link T)
     pub last : M
-    pub calls : FoldsTo (CompressionStep index era step g) (m, []) (map bare (entries_rising old 0)) (last, map (λ l. l.item) links)
+    pub calls : FoldsTo (CompressionStep numbers step g) (m, []) (map bare (entries_rising old 0)) (last, map (λ l. l.item) links)
     pub before : map (λ l. l.prev) links ≡ map (λ e. e.2.prev) (entries_rising old 0)
     pub behind : map (λ l. l.next) links ≡ map (λ e. e.2.next) (entries_rising old 0)
     pub after : HoldsSame new (compressed old g links)

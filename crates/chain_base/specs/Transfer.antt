@@ -24,12 +24,12 @@ place_behind None = Disconnected
 place_behind (Some i) = NextToInx i
 
 -- the first entry was taken out
-pub record TakesOut {Q U : Type 0} (index era : Q → ℕ) (greatest : Option ℕ) (old new : Chain U) (from : Q) (taken : InvalidationOption U) : Type 0 where
+pub record TakesOut {Q U : Type 0} (numbers : Q → ℕ × ℕ) (greatest : Option ℕ) (old new : Chain U) (from : Q) (taken : InvalidationOption U) : Type 0 where
   pub entry : Entry U
   pub rest : List (Entry U)
   pub split : old.entries ≡ entry ∷ rest
-  pub from_index : index from ≡ entry.index
-  pub from_era : era from ≡ entry.generation
+  pub from_index : (numbers from).0 ≡ entry.index
+  pub from_generation : (numbers from).1 ≡ entry.generation
   pub taken_item : allowed_value taken ≡ entry.item
   pub taken_overflow : is_overflow taken ≡ overflows_after greatest old.generation
   pub left : new.entries ≡ rest
@@ -37,13 +37,13 @@ pub record TakesOut {Q U : Type 0} (index era : Q → ℕ) (greatest : Option �
   pub maximum : new.maximum ≡ old.maximum
   pub raised : new.generation ≡ next_generation greatest old.generation
 
-module _ {P Q T U M : Type 0} (index_from era_from : Q → ℕ) (index_to era_to : P → ℕ) (greatest : Option ℕ) (step : M → Q → InvalidationOption U → P → T → M → Type 0) where
+module _ {P Q T U M : Type 0} (numbers_from : Q → ℕ × ℕ) (numbers_to : P → ℕ × ℕ) (greatest : Option ℕ) (step : M → Q → InvalidationOption U → P → T → M → Type 0) where
   -- some entries went from the source to c, which had none
   pub record HasTaken (m : M) (source source_now : Chain U) (c now : Chain T) (n : M) : Type 0 where
     pub gone : List (Entry U)
     pub items : List T
     pub split : source.entries ≡ gone ++ source_now.entries
-    pub calls : FoldsTo (TransferStep index_from era_from index_to era_to greatest step c.generation)
+    pub calls : FoldsTo (TransferStep numbers_from numbers_to greatest step c.generation)
         (record { closure = m; items = []; generation = source.generation }) gone
         (record { closure = n; items = items; generation = source_now.generation })
     pub count : length items ≡ length gone

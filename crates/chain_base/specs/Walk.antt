@@ -30,5 +30,5 @@ module _ {T : Type 0} where
     pub ends : new ≡ None
 
   -- a step over the chain took the walk from `old` to `new`, and gave this pointer or nothing
-  abbrev pub WalkSteps : {P : Type 0} → (P → ℕ) → (P → ℕ) → Option ℕ → Chain T → Option P → Option ℕ → Type 0
-  WalkSteps index era old c result new = MatchOption result (GivesNothing old new c) (λ p. GivesEntry old new c (index p) (era p))
+  abbrev pub WalkSteps : {P : Type 0} → (P → ℕ × ℕ) → Option ℕ → Chain T → Option P → Option ℕ → Type 0
+  WalkSteps numbers old c result new = MatchOption result (GivesNothing old new c) (λ p. GivesEntry old new c (numbers p).0 (numbers p).1)

@@ -107,7 +107,7 @@ impl<P: Ptr, T, A: Allocator> ChainArena<P, T, A> {
         self.arena.set_generation(generation);
     }
 
-    /// Raises the generation, and leaves each entry its own. The answer says whether the generations began again.
+    /// Raises the generation, and leaves each entry its own. The result says whether the generations began again.
     pub fn inc_generation(&mut self) -> InvalidationOption<()>
         ensures after { self.new ≡ raised P.Gen.greatest self.old }
         ensures overflow { is_overflow result ≡ overflows_after P.Gen.greatest self.old.generation }

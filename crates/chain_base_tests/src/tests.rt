@@ -2,7 +2,7 @@
 ghost use Rattle.std.specs.Prelude.{[], ◌≡◌};
 
 use arena_base::{
-    Advancer, InsertionError, InvalidationOption, InvalidationResult, P0, P8, PN, Ptr,
+    Advancer, InsertionError, InvalidationOption, InvalidationResult, ItemsMut, P0, P8, PN, Ptr,
     ReallocationError,
 };
 use chain_base::{ChainArena, ChainPtrAdvancer, LinkInsertKind, LinkNoGen};

@@ -3,13 +3,13 @@ use Rattle.std.proofs.Common.{◌≡◌, ℕ, ◌<◌, min, List, [], ◌∷◌,
 use Rattle.std.proofs.lemmas.List.{take_min, map-append}
 use Rattle.std.proofs.Math.Seq.{take-append_seam}
 use Rattle.chain_base.specs.Chain.{Entry, Chain, removed}
-use Rattle.ord_script.specs.Machine.{without_each, entry_of}
+use Rattle.ord_script.specs.Machine.{removed_each, entry_of}
 use Rattle.ord_script.proofs.Lists.{cut_more}
 
 -- one more
-without_each-more : {T : Type 0} (greatest : Option ℕ) (c : Chain T) (es : List (Entry T)) (e : Entry T) → without_each greatest c (es ++ e ∷ []) ≡ removed greatest (without_each greatest c es) e.index
-without_each-more greatest c [] e = refl
-without_each-more greatest c (f ∷ es) e = without_each-more greatest (removed greatest c f.index) es e
+removed_each-more : {T : Type 0} (greatest : Option ℕ) (c : Chain T) (es : List (Entry T)) (e : Entry T) → removed_each greatest c (es ++ e ∷ []) ≡ removed greatest (removed_each greatest c es) e.index
+removed_each-more greatest c [] e = refl
+removed_each-more greatest c (f ∷ es) e = removed_each-more greatest (removed greatest c f.index) es e
 
 -- the entries so far, in front of those of the chain as it is now; and then one more
 module _ {P T : Type 0} (greatest : Option ℕ) (pointer : P → ℕ × ℕ) (c now next : Chain T) (pairs : List (P × T)) (x : P × T) (after : List (P × T)) (more : after ≡ pairs ++ x ∷ []) where
@@ -20,9 +20,9 @@ module _ {P T : Type 0} (greatest : Option ℕ) (pointer : P → ℕ × ℕ) (c 
   cut_drained cut first =
       ap (λ es. es ++ next.entries) entries_more ∙ cut_more c.entries (map (entry_of pointer) pairs) now.entries next.entries (entry_of pointer x) cut first
 
-  pub taken_drained : now ≡ without_each greatest c (map (entry_of pointer) pairs) → next ≡ removed greatest now (pointer x.0).0 → next ≡ without_each greatest c (map (entry_of pointer) after)
+  pub taken_drained : now ≡ removed_each greatest c (map (entry_of pointer) pairs) → next ≡ removed greatest now (pointer x.0).0 → next ≡ removed_each greatest c (map (entry_of pointer) after)
   taken_drained taken out =
-      out ∙ ap (λ d. removed greatest d (pointer x.0).0) taken ∙ sym (without_each-more greatest c (map (entry_of pointer) pairs) (entry_of pointer x)) ∙ ap (without_each greatest c) (sym entries_more)
+      out ∙ ap (λ d. removed greatest d (pointer x.0).0) taken ∙ sym (removed_each-more greatest c (map (entry_of pointer) pairs) (entry_of pointer x)) ∙ ap (removed_each greatest c) (sym entries_more)
 
 module _ {X : Type 0} where
   -- so many elements before a rest are the first ones

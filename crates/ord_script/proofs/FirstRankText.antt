@@ -1,7 +1,8 @@
 -- The script of two lines, an insertion and `ranks`, from its bytes to those of its answers.
 use Rattle.std.proofs.Common.{◌≡◌, ℕ, pos, List, [], ◌∷◌, Contains, codes, Some, None, refl, sym, ◌∙◌, subst, arith, append-nil}
 use Rattle.std.proofs.lemmas.Fmt.{decimal_digit}
-use Rattle.triple_ord.specs.Insertion.{InsertsNew}
+use Rattle.triple_ord.specs.Insertion.{reallocating, InsertsNew}
+use Rattle.triple_ord.specs.Place.{at_key}
 use Rattle.triple_ord.specs.declared.entry_kind.OrdEntryKind.TheVariants.{New}
 use Rattle.triple_ord.specs.declared.error.OrdInsertionError.TheVariants.{FailedOrdRequirement, NotWithinCapacity, BeyondMaxCapacity, AllocError}
 use Rattle.ord_tree.specs.Tree.{Tree}
@@ -24,7 +25,7 @@ unfolding arguments_in
 two_lines = refl
 
 -- the pointer of the first entry
-first_pointer : (item : Pair) (p : Pointer) (new : Tree Pair) → InsertsNew reading.key reading.cmp reading.most beginning.tree item (reading.pointer p) new → (p.0 ≡ 1) × (p.1 ≡ 2)
+first_pointer : (item : Pair) (p : Pointer) (new : Tree Pair) → InsertsNew reading.key reading.cmp reading.most reallocating (at_key (reading.key item)) beginning.tree item (reading.pointer p) new → (p.0 ≡ 1) × (p.1 ≡ 2)
 first_pointer item p new inserts =
     let next : Some 1 ≡ Some p.0 = inserts.inserted.next in
     let index : 1 ≡ p.0 = cc in
@@ -40,7 +41,7 @@ both_commands = commands.Insert (pos 5, 1) ∷ commands.Ranks ∷ []
 module _ {A : Type 0} where
   -- what the insertion does first
   abbrev InsertsFirst : Pair → PairReply A → Tree Pair → Type 0
-  InsertsFirst item reply new = Inserts reading.key reading.cmp reading.most reading.pointer beginning.tree item reply new
+  InsertsFirst item reply new = Inserts reading.key reading.cmp reading.most reallocating (at_key (reading.key item)) reading.pointer beginning.tree item reply new
 
   -- these replies, as lines, are one of the answers
   abbrev AreAnswer : List (PairReply A) → Type 0
@@ -55,9 +56,9 @@ module _ {A : Type 0} where
       let is = first_pointer item p new inserts in
       (1, omega arith, sym (rw (is.0, is.1, decimal_digit 1 (omega arith), decimal_digit 2 (omega arith)) refl))
   first_lines item (Refused AllocError) (Ranks ranks) new inserts replies = (2, omega arith, sym (rw replies refl))
-  first_lines item (Refused BeyondMaxCapacity) second new inserts replies = absurd (omega (arith, inserts.full))
-  first_lines item (Refused FailedOrdRequirement) second new inserts replies = absurd inserts
-  first_lines item (Refused NotWithinCapacity) second new inserts replies = absurd inserts
+  first_lines item (Refused BeyondMaxCapacity) second new inserts replies = absurd (omega (arith, inserts.refused.2))
+  first_lines item (Refused FailedOrdRequirement) second new inserts replies = absurd inserts.refused
+  first_lines item (Refused NotWithinCapacity) second new inserts replies = absurd inserts.refused.2
   first_lines item first second new inserts replies = absurd replies
 
   -- all replies

@@ -7,6 +7,7 @@ pub mod Words
 pub mod Lists
 pub mod Draining
 pub mod Ranking
+pub mod Insertions
 pub mod Marking
 pub mod Bounded
 pub mod Runs

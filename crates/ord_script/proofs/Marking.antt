@@ -9,13 +9,15 @@ use Rattle.ord_tree.specs.Shape.{Shape, missing, node, walk}
 use Rattle.ord_tree.specs.Half.{IsRebuilt}
 use Rattle.ord_tree.specs.Ranks.{IsTight}
 use Rattle.ord_tree.specs.Tree.{Tree, IsSoundTree}
+use Rattle.triple_ord.specs.Insertion.{Growth, within, reallocating}
+use Rattle.triple_ord.specs.Place.{Aim, at_key, aim_of}
 use Rattle.triple_ord.specs.declared.entry_kind.OrdEntryKind.TheVariants.{New, Replacing}
 use Rattle.triple_ord.specs.declared.error.OrdInsertionError.TheVariants.{BeyondMaxCapacity, AllocError}
 use Rattle.ord_script.specs.declared.command.Command.{Command}
 use Rattle.ord_script.specs.declared.command.Command.TheVariants as commands
 use Rattle.ord_script.specs.declared.reply.Reply.{Reply}
-use Rattle.ord_script.specs.declared.reply.Reply.TheVariants.{Inserted, Refused, Item, Removed, Renewed, Changed, Entries}
-use Rattle.ord_script.specs.Machine.{Reading, Marks, Effect, adds, removes, rebuilds, keeps, marked_by, AreTrue, settled, Inserts, Sets, Removes, RemovesAt, Renews, Changes, Rebuilds, Drains, Replies, Does, told_effect, effect_of, marks_after}
+use Rattle.ord_script.specs.declared.reply.Reply.TheVariants.{Inserted, Refused, Item, Removed, Renewed, Changed, Entries, Done, ReductionRefused}
+use Rattle.ord_script.specs.Machine.{Reading, Marks, Effect, adds, removes, rebuilds, keeps, marked_by, AreTrue, settled, Inserts, Sets, Removes, RemovesAt, Renews, Changes, Rebuilds, Reserves, SetsMaximum, Drains, Replies, Does, told_effect, effect_of, marks_after}
 use Rattle.triple_ord.specs.ClosureSearch.{Shown}
 
 -- the shape without a node is rebuilt
@@ -74,12 +76,11 @@ module _ {P T I G A : Type 0} (old new : Tree T) where
   still : (reply : Reply P T A I G) → new ≡ old → Affected reply
   still reply same = alike reply (ap (λ t. t.shape) same)
 
-  inserted : {K : Type 0} (r : Reading P T I G K) (item : T) (reply : Reply P T A I G) → Inserts r.key r.cmp r.most r.pointer old item reply new → Affected reply
-  inserted r item (Inserted (New p) None) inserts = inserts.grown.tight
-  inserted r item (Inserted (Replacing p) (Some before)) inserts = inl (ap (λ t. t.shape) inserts.after)
-  inserted r item (Refused BeyondMaxCapacity) inserts = inl (ap (λ t. t.shape) inserts.after)
-  inserted r item (Refused AllocError) inserts = inl (ap (λ t. t.shape) inserts.after)
-  inserted r item reply inserts = absurd inserts
+  inserted : {K : Type 0} (r : Reading P T I G K) (growth : Growth) (aim : Aim K) (item : T) (reply : Reply P T A I G) → Inserts r.key r.cmp r.most growth aim r.pointer old item reply new → Affected reply
+  inserted r growth aim item (Inserted (New p) None) inserts = inserts.grown.tight
+  inserted r growth aim item (Inserted (Replacing p) (Some before)) inserts = inl (ap (λ t. t.shape) inserts.after)
+  inserted r growth aim item (Refused refusal) inserts = inl (ap (λ t. t.shape) inserts.after)
+  inserted r growth aim item reply inserts = absurd inserts
 
   set : (pointer : P → ℕ × ℕ) (p : P) (item : T) (reply : Reply P T A I G) → Sets pointer old p item reply new → Affected reply
   set pointer p item (Item None) sets = inl (ap (λ t. t.shape) sets.1)
@@ -115,9 +116,23 @@ module _ {P T I G A : Type 0} (old new : Tree T) where
   drained greatest pointer num (Refused AllocError) drains = inl (ap (λ t. t.shape) drains.1)
   drained greatest pointer num reply drains = absurd drains
 
+  reserved : (most n : ℕ) (reply : Reply P T A I G) → Reserves most old n reply new → Affected reply
+  reserved most n Done says = inl (ap (λ t. t.shape) says.1)
+  reserved most n (Refused BeyondMaxCapacity) says = inl (ap (λ t. t.shape) says.1)
+  reserved most n (Refused AllocError) says = inl (ap (λ t. t.shape) says.2)
+  reserved most n reply says = absurd says
+
+  limited : (n : ℕ) (reply : Reply P T A I G) → SetsMaximum old n reply new → Affected reply
+  limited n Done says = inl (ap (λ t. t.shape) says.1)
+  limited n ReductionRefused says = inl (ap (λ t. t.shape) says.1)
+  limited n reply says = absurd says
+
   -- by the command
   affected : {K : Type 0} (r : Reading P T I G K) (marks : Marks) (command : Command P T I G K) (reply : Reply P T A I G) → Replies r (record { tree = old; marks = marks }) command reply new → Affects (effect_of command reply) old.shape new.shape
-  affected r marks (commands.Insert item) reply replies = inserted r item reply replies
+  affected r marks (commands.Insert item) reply replies = inserted r reallocating (at_key (r.key item)) item reply replies
+  affected r marks (commands.InsertWithin item) reply replies = inserted r within (at_key (r.key item)) item reply replies
+  affected r marks (commands.Entry kind item) reply replies = inserted r reallocating (aim_of r.index kind) item reply replies
+  affected r marks (commands.EntryWithin kind item) reply replies = inserted r within (aim_of r.index kind) item reply replies
   affected r marks (commands.Set p item) reply replies = set r.pointer p item reply replies
   affected r marks (commands.Remove p) reply replies = removed r.greatest r.pointer p reply replies
   affected r marks (commands.RemoveInx i) reply replies = removed_at r.greatest r.pointer (r.index i) reply replies
@@ -126,6 +141,8 @@ module _ {P T I G A : Type 0} (old new : Tree T) where
   affected r marks commands.IncGeneration reply replies = changed r.greatest _ reply (inl refl) replies
   affected r marks (commands.Compress reset) reply replies = rebuilt r.greatest reset (relocated old.list) reply replies
   affected r marks (commands.Canonical reset) reply replies = rebuilt r.greatest reset (canonical old.list) reply replies
+  affected r marks (commands.Reserve n) reply replies = reserved r.most n reply replies
+  affected r marks (commands.SetMax n) reply replies = limited n reply replies
   affected r marks (commands.DrainOrdered num) reply replies = drained r.greatest r.pointer num reply replies
   affected r marks command reply replies = still reply replies.1
 

@@ -8,6 +8,8 @@ use Rattle.std.proofs.lemmas.Int.{ints}
 use Rattle.std.proofs.lemmas.List.Elements.{All-from_recursion, recursion_from_All, All-nil, All-cons, All-head, All-tail, All-append, All-map, All-weaker, All-get_or}
 use Rattle.std.proofs.lemmas.List.Recursion.{and_at}
 use Rattle.std.proofs.lemmas.List.Splits.{slice_split_none, slice_split_at}
+use Rattle.std.specs.declared.cmp.Ordering.TheVariants.{Less, Equal, Greater}
+use Rattle.triple_ord.specs.declared.insert_kind.OrdInsertKind.TheVariants as kinds
 use Rattle.ord_script.specs.declared.command.Command.TheVariants as commands
 use Rattle.ord_script.specs.Pairs.{PairCommand}
 use Rattle.ord_script.specs.Script.{is_blank, words_of, and_then, script_from, script_of}
@@ -51,6 +53,14 @@ argument_whole (flag false) range = number_whole 0 (omega arith)
 -- the words that begin a line
 word_test : (command : PairCommand) → nat_lt 0 (length (saying_of command).word) && list_all (nat_lt 32) (saying_of command).word ≡ true
 word_test (commands.Insert pair) = refl
+word_test (commands.Entry kinds.Empty pair) = refl
+word_test (commands.Entry (kinds.Normal k) pair) = refl
+word_test (commands.Entry (kinds.Nonhereditary k) pair) = refl
+word_test (commands.Entry (kinds.Linear i n k) pair) = refl
+word_test (commands.Entry (kinds.NonhereditaryLinear i n k) pair) = refl
+word_test (commands.Entry (kinds.Manual i Less) pair) = refl
+word_test (commands.Entry (kinds.Manual i Equal) pair) = refl
+word_test (commands.Entry (kinds.Manual i Greater) pair) = refl
 word_test command = refl
 
 both_true : (a b : Bool) → a && b ≡ true → (a ≡ true) × (b ≡ true)

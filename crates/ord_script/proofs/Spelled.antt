@@ -2,12 +2,15 @@
 use Rattle.std.proofs.Common.{◌≡◌, ℕ, ℤ, Bool, List, [], ◌∷◌, ◌++◌, map, Option, Some, Ok, refl, sym, ◌∙◌, ap, append-nil}
 use Rattle.std.specs.List.{All, AllByRecursion}
 use Rattle.std.proofs.lemmas.List.Elements.{recursion_from_All}
+use Rattle.std.specs.declared.cmp.Ordering.TheVariants.{Less, Equal, Greater}
+use Rattle.triple_ord.specs.declared.insert_kind.OrdInsertKind.{OrdInsertKind}
+use Rattle.triple_ord.specs.declared.insert_kind.OrdInsertKind.TheVariants as kinds
 use Rattle.ord_script.specs.declared.command.Command.TheVariants as commands
 use Rattle.ord_script.specs.Arguments.{Reader, nothing, one, both, key_and_value, none_left, arguments_in}
-use Rattle.ord_script.specs.Commands.{◌>>=◌, taking, word_text, word_of, said_by}
+use Rattle.ord_script.specs.Commands.{◌>>=◌, taking, word_text, word_of, said_by, nonhereditary, linear, nonhereditary_linear, beside, hint_and_pair}
 use Rattle.ord_script.specs.Numbers.{key_of, value_of, index_of, flag_of, pointer_of}
 use Rattle.ord_script.specs.Pairs.{Pair, Pointer, PairCommand}
-use Rattle.ord_script.specs.Spelling.{Argument, pair_arguments, key, value, index, count, pointer, flag, argument_text, IsInRange, saying_of, spelled, CanBeSaid}
+use Rattle.ord_script.specs.Spelling.{Argument, pair_arguments, key, value, index, count, pointer, flag, argument_text, IsInRange, saying_of, spelled, GoesBy, CanBeSaid}
 use Rattle.ord_script.proofs.NumberTexts.{key_of-text, pointer_of-text, index_of-text, value_of-text, flag_of-text}
 
 -- a reader reads the texts of these arguments as this, where they are in their ranges, and leaves what stands behind them
@@ -47,6 +50,9 @@ flag-reads b = one-reads flag_of (flag b) b (λ _. flag_of-text b)
 pair-reads : (p : Pair) → Reads key_and_value (pair_arguments p) p
 pair-reads p = both-reads (key-reads p.0) (value-reads p.1)
 
+hint-reads : (i n : ℕ) (p : Pair) → Reads hint_and_pair (index i ∷ count n ∷ pair_arguments p) (i, (n, p))
+hint-reads i n p = both-reads (index-reads i) (both-reads (count-reads n) (pair-reads p))
+
 -- the command that takes them
 module _ {X : Type 0} {reader : Reader X} {arguments : List Argument} {x : X} where
   taken : (command : X → PairCommand) → Reads reader arguments x → AllByRecursion IsInRange arguments → Some (taking reader command (map argument_text arguments)) ≡ Some (Ok (command x))
@@ -55,9 +61,27 @@ module _ {X : Type 0} {reader : Reader X} {arguments : List Argument} {x : X} wh
       ap (λ words. Some (taking reader command words)) (sym (append-nil (map argument_text arguments)))
       ∙ ap (λ found. Some (none_left found >>= λ x. Ok (command x))) (read.reads range [])
 
+-- an insertion at a place that a line names, by the pair's own key if by one
+said_by-entry : (kind : OrdInsertKind Pointer ℤ ℕ ℕ) (pair : Pair) → GoesBy kind pair → AllByRecursion IsInRange (saying_of (commands.Entry kind pair)).arguments
+    → said_by (spelled (commands.Entry kind pair)) ≡ Some (Ok (commands.Entry kind pair))
+said_by-entry kinds.Empty pair by range = taken (commands.Entry kinds.Empty) (pair-reads pair) range
+said_by-entry (kinds.Normal k) pair by range = absurd by
+said_by-entry (kinds.Nonhereditary k) pair by range =
+    taken nonhereditary (pair-reads pair) range ∙ ap (λ key. Some (Ok (commands.Entry (kinds.Nonhereditary key) pair))) by
+said_by-entry (kinds.Linear i n k) pair by range =
+    taken linear (hint-reads i n pair) range ∙ ap (λ key. Some (Ok (commands.Entry (kinds.Linear i n key) pair))) by
+said_by-entry (kinds.NonhereditaryLinear i n k) pair by range =
+    taken nonhereditary_linear (hint-reads i n pair) range ∙ ap (λ key. Some (Ok (commands.Entry (kinds.NonhereditaryLinear i n key) pair))) by
+said_by-entry (kinds.Manual i Less) pair by range = taken (beside Less) (both-reads (index-reads i) (pair-reads pair)) range
+said_by-entry (kinds.Manual i Equal) pair by range = taken (beside Equal) (both-reads (index-reads i) (pair-reads pair)) range
+said_by-entry (kinds.Manual i Greater) pair by range = taken (beside Greater) (both-reads (index-reads i) (pair-reads pair)) range
+
 -- each command
 said_by-spelled : (command : PairCommand) → CanBeSaid command → AllByRecursion IsInRange (saying_of command).arguments → said_by (spelled command) ≡ Some (Ok command)
 said_by-spelled (commands.Insert p) sayable range = taken commands.Insert (pair-reads p) range
+said_by-spelled (commands.InsertWithin p) sayable range = taken commands.InsertWithin (pair-reads p) range
+said_by-spelled (commands.Entry kind pair) sayable range = said_by-entry kind pair sayable.0 range
+said_by-spelled (commands.EntryWithin kind pair) sayable range = absurd sayable
 said_by-spelled (commands.Set p item) sayable range = taken (λ a. commands.Set a.0 a.1) (both-reads (pointer-reads p) (pair-reads item)) range
 said_by-spelled (commands.Remove p) sayable range = taken commands.Remove (pointer-reads p) range
 said_by-spelled (commands.RemoveInx i) sayable range = taken commands.RemoveInx (index-reads i) range
@@ -73,6 +97,8 @@ said_by-spelled commands.SimilarWith sayable range = absurd sayable
 said_by-spelled (commands.Visits k) sayable range = taken commands.Visits (key-reads k) range
 said_by-spelled (commands.Get p) sayable range = taken commands.Get (pointer-reads p) range
 said_by-spelled (commands.Neighbours i) sayable range = taken commands.Neighbours (index-reads i) range
+said_by-spelled (commands.Reserve n) sayable range = taken commands.Reserve (count-reads n) range
+said_by-spelled (commands.SetMax n) sayable range = taken commands.SetMax (count-reads n) range
 said_by-spelled (commands.DrainOrdered n) sayable range = taken commands.DrainOrdered (count-reads n) range
 said_by-spelled command sayable range = taken (λ _. command) nothing-reads tt
 
@@ -81,6 +107,8 @@ pub in_range : (command : PairCommand) → CanBeSaid command → All IsInRange (
 in_range commands.FindWith sayable = absurd sayable
 in_range commands.SimilarWith sayable = absurd sayable
 in_range (commands.Insert pair) sayable = sayable
+in_range (commands.Entry kind pair) sayable = sayable.1
+in_range (commands.EntryWithin kind pair) sayable = absurd sayable
 in_range command sayable = sayable
 
 pub command_text : (command : PairCommand) → CanBeSaid command → said_by (spelled command) ≡ Some (Ok command)
@@ -89,4 +117,12 @@ command_text command sayable = said_by-spelled command sayable (recursion_from_A
 -- the word that begins it
 pub command_word : (command : PairCommand) → word_text (word_of command) ≡ (saying_of command).word
 command_word (commands.Insert pair) = refl
+command_word (commands.Entry kinds.Empty pair) = refl
+command_word (commands.Entry (kinds.Normal k) pair) = refl
+command_word (commands.Entry (kinds.Nonhereditary k) pair) = refl
+command_word (commands.Entry (kinds.Linear i n k) pair) = refl
+command_word (commands.Entry (kinds.NonhereditaryLinear i n k) pair) = refl
+command_word (commands.Entry (kinds.Manual i Less) pair) = refl
+command_word (commands.Entry (kinds.Manual i Equal) pair) = refl
+command_word (commands.Entry (kinds.Manual i Greater) pair) = refl
 command_word command = refl

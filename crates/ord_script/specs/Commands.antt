@@ -1,5 +1,8 @@
 -- Commands as the words of a line spell them.
 use Rattle.std.specs.Prelude.{ℕ, List, [], ◌∷◌, ◌==◌, ok_or, Option, Some, None, Result, Ok, Err, codes, bytes_eq, slice_index, if◌then◌else◌}
+use Rattle.std.specs.declared.cmp.Ordering.{Ordering}
+use Rattle.std.specs.declared.cmp.Ordering.TheVariants.{Less, Equal, Greater}
+use Rattle.triple_ord.specs.declared.insert_kind.OrdInsertKind.TheVariants as kinds
 use Rattle.ord_script.specs.declared.fault.FaultKind.{FaultKind}
 use Rattle.ord_script.specs.declared.fault.FaultKind.TheVariants.{UnknownCommand}
 use Rattle.ord_script.specs.declared.command.Command.TheVariants as commands
@@ -7,11 +10,19 @@ use Rattle.ord_script.specs.declared.word.Word.{Word}
 use Rattle.ord_script.specs.declared.word.Word.TheVariants as words
 use Rattle.ord_script.specs.Numbers.{key_of, value_of, index_of, flag_of, pointer_of}
 use Rattle.ord_script.specs.Arguments.{Reader, nothing, one, both, key_and_value, arguments_in}
-use Rattle.ord_script.specs.Pairs.{PairCommand}
+use Rattle.ord_script.specs.Pairs.{Pair, PairCommand}
 
 -- how a script writes the words that begin a command
 abbrev pub word_text : Word → List ℕ
 word_text words.Insert = codes "insert"
+word_text words.Within = codes "within"
+word_text words.Empty = codes "empty"
+word_text words.Nonhereditary = codes "nonhereditary"
+word_text words.Linear = codes "linear"
+word_text words.NonhereditaryLinear = codes "nonhereditary-linear"
+word_text words.Before = codes "before"
+word_text words.At = codes "at"
+word_text words.After = codes "after"
 word_text words.Set = codes "set"
 word_text words.Remove = codes "remove"
 word_text words.RemoveInx = codes "remove-index"
@@ -32,16 +43,19 @@ word_text words.Neighbours = codes "neighbours"
 word_text words.List = codes "list"
 word_text words.Ranks = codes "ranks"
 word_text words.Check = codes "check"
+word_text words.Reserve = codes "reserve"
+word_text words.SetMax = codes "max"
 word_text words.DrainOrdered = codes "drain"
 word_text words.Stats = codes "stats"
 
 -- all of them
 abbrev pub all_words : List Word
 all_words =
-    words.Insert ∷ words.Set ∷ words.Remove ∷ words.RemoveInx ∷ words.Invalidate ∷ words.Clear ∷ words.IncGeneration
+    words.Insert ∷ words.Within ∷ words.Empty ∷ words.Nonhereditary ∷ words.Linear ∷ words.NonhereditaryLinear
+    ∷ words.Before ∷ words.At ∷ words.After ∷ words.Set ∷ words.Remove ∷ words.RemoveInx ∷ words.Invalidate ∷ words.Clear ∷ words.IncGeneration
     ∷ words.Compress ∷ words.Canonical ∷ words.Find ∷ words.FindLinear ∷ words.Similar ∷ words.SimilarLinear
     ∷ words.Visits ∷ words.Get ∷ words.First ∷ words.Last ∷ words.Neighbours ∷ words.List ∷ words.Ranks
-    ∷ words.Check ∷ words.DrainOrdered ∷ words.Stats ∷ []
+    ∷ words.Check ∷ words.Reserve ∷ words.SetMax ∷ words.DrainOrdered ∷ words.Stats ∷ []
 
 -- the one among them that has this text
 abbrev pub word_in : List Word → List ℕ → Option Word
@@ -62,9 +76,38 @@ taking reader command arguments = arguments_in reader arguments >>= λ x. Ok (co
 abbrev pub alone : PairCommand → List (List ℕ) → Result PairCommand FaultKind
 alone command = taking nothing (λ _. command)
 
+-- insertions at a place that the line names: as a new entry beside those with the pair's key; from a hint, an index and a number of
+-- steps; and before, at or after the entry with an index
+abbrev pub nonhereditary : Pair → PairCommand
+nonhereditary pair = commands.Entry (kinds.Nonhereditary pair.0) pair
+
+abbrev pub linear : ℕ × (ℕ × Pair) → PairCommand
+linear a = commands.Entry (kinds.Linear a.0 a.1.0 a.1.1.0) a.1.1
+
+abbrev pub nonhereditary_linear : ℕ × (ℕ × Pair) → PairCommand
+nonhereditary_linear a = commands.Entry (kinds.NonhereditaryLinear a.0 a.1.0 a.1.1.0) a.1.1
+
+abbrev pub beside : Ordering → ℕ × Pair → PairCommand
+beside order a = commands.Entry (kinds.Manual a.0 order) a.1
+
+-- an index and a pair, and from a hint too
+abbrev pub index_and_pair : Reader (ℕ × Pair)
+index_and_pair = both (one index_of) key_and_value
+
+abbrev pub hint_and_pair : Reader (ℕ × (ℕ × Pair))
+hint_and_pair = both (one index_of) (both (one value_of) key_and_value)
+
 -- the command that a word begins
 abbrev pub command_by : Word → List (List ℕ) → Result PairCommand FaultKind
 command_by words.Insert = taking key_and_value commands.Insert
+command_by words.Within = taking key_and_value commands.InsertWithin
+command_by words.Empty = taking key_and_value (commands.Entry kinds.Empty)
+command_by words.Nonhereditary = taking key_and_value nonhereditary
+command_by words.Linear = taking hint_and_pair linear
+command_by words.NonhereditaryLinear = taking hint_and_pair nonhereditary_linear
+command_by words.Before = taking index_and_pair (beside Less)
+command_by words.At = taking index_and_pair (beside Equal)
+command_by words.After = taking index_and_pair (beside Greater)
 command_by words.Set = taking (both (one pointer_of) key_and_value) (λ a. commands.Set a.0 a.1)
 command_by words.Remove = taking (one pointer_of) commands.Remove
 command_by words.RemoveInx = taking (one index_of) commands.RemoveInx
@@ -86,12 +129,25 @@ command_by words.Neighbours = taking (one index_of) commands.Neighbours
 command_by words.List = alone commands.List
 command_by words.Ranks = alone commands.Ranks
 command_by words.Check = alone commands.Check
+command_by words.Reserve = taking (one value_of) commands.Reserve
+command_by words.SetMax = taking (one value_of) commands.SetMax
 command_by words.DrainOrdered = taking (one value_of) commands.DrainOrdered
 command_by words.Stats = alone commands.Stats
 
 -- the word that begins a command
 abbrev pub word_of : PairCommand → Word
 word_of (commands.Insert pair) = words.Insert
+word_of (commands.InsertWithin pair) = words.Within
+word_of (commands.Entry kinds.Empty pair) = words.Empty
+word_of (commands.Entry (kinds.Nonhereditary key) pair) = words.Nonhereditary
+word_of (commands.Entry (kinds.Linear index count key) pair) = words.Linear
+word_of (commands.Entry (kinds.NonhereditaryLinear index count key) pair) = words.NonhereditaryLinear
+word_of (commands.Entry (kinds.Manual index Less) pair) = words.Before
+word_of (commands.Entry (kinds.Manual index Equal) pair) = words.At
+word_of (commands.Entry (kinds.Manual index Greater) pair) = words.After
+-- no line says these two; they stand with the insertions by key
+word_of (commands.Entry (kinds.Normal key) pair) = words.Insert
+word_of (commands.EntryWithin kind pair) = words.Within
 word_of (commands.Set pointer pair) = words.Set
 word_of (commands.Remove pointer) = words.Remove
 word_of (commands.RemoveInx index) = words.RemoveInx
@@ -115,6 +171,8 @@ word_of (commands.Neighbours index) = words.Neighbours
 word_of commands.List = words.List
 word_of commands.Ranks = words.Ranks
 word_of commands.Check = words.Check
+word_of (commands.Reserve n) = words.Reserve
+word_of (commands.SetMax n) = words.SetMax
 word_of (commands.DrainOrdered num) = words.DrainOrdered
 word_of commands.Stats = words.Stats
 

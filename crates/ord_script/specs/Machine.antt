@@ -1,5 +1,5 @@
 -- The list machine: what each command may answer on an ordered arena, and what it leaves.
-use Rattle.std.specs.Prelude.{◌≡◌, ℕ, ◌+◌, ◌^◌, ◌<◌, ◌≤◌, ◌==◌, ◌↔◌, Bool, true, false, if◌then◌else◌, List, [], ◌∷◌, length, map, take, Option, Some, None, IsSome, IfNone, MatchOption, Ok, Err}
+use Rattle.std.specs.Prelude.{◌≡◌, ℕ, ◌+◌, ◌^◌, ◌<◌, ◌≤◌, ◌==◌, ◌↔◌, Bool, true, false, if◌then◌else◌, List, [], ◌∷◌, length, map, take, max, Option, Some, None, IsSome, IfNone, MatchOption, Result, Ok, Err}
 use Rattle.std.specs.Option.{option_map}
 use Rattle.std.specs.declared.cmp.Ordering.{Ordering}
 use Rattle.arena_base.specs.Compression.{compressed_generation, compression_overflows}
@@ -7,25 +7,28 @@ use Rattle.arena_base.specs.Generation.{next_generation, overflows_after}
 use Rattle.arena_base.specs.Invalidation.{valid_value, has_overflowed, is_overflow}
 use Rattle.arena_base.specs.declared.invalidation.InvalidationResult.TheVariants.{Success, GenerationOverflow}
 use Rattle.chain_base.specs.Link.{Link}
-use Rattle.chain_base.specs.Chain.{Entry, Chain, IsSound, entry_at, item_of, link_at, first_pointer, last_pointer, removed, renewed, cleared, raised}
+use Rattle.chain_base.specs.Chain.{Entry, Chain, IsSound, entry_at, item_of, link_at, first_pointer, last_pointer, removed, renewed, cleared, raised, chain_limit, greatest_index, with_capacity}
 use Rattle.chain_base.specs.Compression.{relocated, canonical}
 use Rattle.ord_tree.specs.Shape.{Shape, missing, node}
 use Rattle.ord_tree.specs.Ranks.{IsTight}
 use Rattle.ord_tree.specs.Half.{IsRebuilt}
 use Rattle.ord_tree.specs.Numbers.{fib, HasDigits}
-use Rattle.ord_tree.specs.Tree.{Tree, IsSoundTree, IsShrunk, with_item_in}
+use Rattle.ord_tree.specs.Tree.{Tree, IsSoundTree, IsShrunk, with_item}
 use Rattle.triple_ord.specs.Node.{IsPart}
 use Rattle.triple_ord.specs.Search.{FindsKey, FindsSimilar}
 use Rattle.triple_ord.specs.ClosureSearch.{Shown, FindsWith, FindsSimilarWith}
 use Rattle.triple_ord.specs.Hint.{IsNearHint}
 use Rattle.triple_ord.specs.Order.{IsInOrder}
-use Rattle.triple_ord.specs.Insertion as insertion
-use Rattle.triple_ord.specs.declared.entry_kind.OrdEntryKind.TheVariants.{New, Replacing}
-use Rattle.triple_ord.specs.declared.error.OrdInsertionError.TheVariants.{AllocError}
+use Rattle.triple_ord.specs.Insertion.{Growth, within, reallocating, InsertsBy}
+use Rattle.triple_ord.specs.Place.{Aim, at_key, aim_of}
+use Rattle.triple_ord.specs.declared.entry_kind.OrdEntryKind.{OrdEntryKind}
+use Rattle.triple_ord.specs.declared.entry_kind.OrdEntryKind.TheVariants.{New}
+use Rattle.triple_ord.specs.declared.error.OrdInsertionError.{OrdInsertionError}
+use Rattle.triple_ord.specs.declared.error.OrdInsertionError.TheVariants.{BeyondMaxCapacity, AllocError}
 use Rattle.ord_script.specs.declared.command.Command.{Command}
 use Rattle.ord_script.specs.declared.command.Command.TheVariants as commands
 use Rattle.ord_script.specs.declared.reply.Reply.{Reply}
-use Rattle.ord_script.specs.declared.reply.Reply.TheVariants.{Inserted, Refused, Found, Similar, Count, Item, Removed, Renewed, Changed, At, Links, Entries, Ranks, Sorted, Stats}
+use Rattle.ord_script.specs.declared.reply.Reply.TheVariants.{Inserted, Refused, Found, Similar, Count, Item, Removed, Renewed, Changed, At, Links, Entries, Ranks, Done, ReductionRefused, Sorted, Stats}
 
 -- how items and pointers are read
 pub record Reading (P T I G K : Type 0) : Type 0 where
@@ -42,9 +45,9 @@ pub record Reading (P T I G K : Type 0) : Type 0 where
   pub generation : G → ℕ
 
 -- the reading of these; a pointer is read by its index and its generation
-abbrev pub reading_by : {P T I G K : Type 0} → (T → K) → (K → K → Ordering) → ℕ → Option ℕ → (P → ℕ) → (P → ℕ) → (I → ℕ) → (G → ℕ) → Reading P T I G K
-reading_by key cmp most greatest inx era index generation =
-    record { key = key; cmp = cmp; most = most; greatest = greatest; pointer = λ p. (inx p, era p); index = index; generation = generation }
+abbrev pub reading_by : {P T I G K : Type 0} → (T → K) → (K → K → Ordering) → ℕ → Option ℕ → (P → ℕ × ℕ) → (I → ℕ) → (G → ℕ) → Reading P T I G K
+reading_by key cmp most greatest pointer index generation =
+    record { key = key; cmp = cmp; most = most; greatest = greatest; pointer = pointer; index = index; generation = generation }
 
 -- what is known of how a shape came about
 pub record Marks : Type 0 where
@@ -82,7 +85,7 @@ abbrev pub settled : {T : Type 0} → Tree T → Marks → Marks
 settled t marks = if length t.list.entries == 0 then record { only_inserted = true; just_built = true } else marks
 
 -- how few entries a search is shown: c of the n entries of the state
-pub record IsWithinBounds {T : Type 0} (s : State T) (c : ℕ) : Type 0 where
+pub record IsWithinBoundsByMarks {T : Type 0} (s : State T) (c : ℕ) : Type 0 where
   pub always : let n = length s.tree.list.entries in 0 < n → 2 ^ (c + 1) ≤ (n + 1) ^ 2
   pub inserted : let n = length s.tree.list.entries in s.marks.only_inserted ≡ true → fib (c + 2) ≤ n + 1
   pub built : let n = length s.tree.list.entries in s.marks.just_built ≡ true → (digits : ℕ) → HasDigits n digits → c ≤ digits
@@ -90,13 +93,13 @@ pub record IsWithinBounds {T : Type 0} (s : State T) (c : ℕ) : Type 0 where
 
 -- how few entries a search is shown that first makes at most num steps from a hint: to the steps, of which there are no more than
 -- entries, it adds a whole search, or none
-pub record IsWithinHintedBounds {T : Type 0} (s : State T) (num c : ℕ) : Type 0 where
+pub record IsWithinHintedBoundsByMarks {T : Type 0} (s : State T) (num c : ℕ) : Type 0 where
   pub steps : ℕ
   pub search : ℕ
   pub sum : c ≡ steps + search
   pub few : steps ≤ num
   pub within : steps ≤ length s.tree.list.entries
-  pub bounded : IsWithinBounds s search
+  pub bounded : IsWithinBoundsByMarks s search
 
 -- the entry at index i is taken out, and the generation raised: with an overflow where it begins again
 pub record IsRemoval {T : Type 0} (greatest : Option ℕ) (old : Tree T) (i : ℕ) (overflow : Bool) (new : Tree T) : Type 0 where
@@ -105,9 +108,9 @@ pub record IsRemoval {T : Type 0} (greatest : Option ℕ) (old : Tree T) (i : �
   pub begins_again : overflow ≡ overflows_after greatest old.list.generation
 
 -- the chain after these entries have been taken out one after another, each by a removal
-abbrev pub without_each : {T : Type 0} → Option ℕ → Chain T → List (Entry T) → Chain T
-without_each greatest c [] = c
-without_each greatest c (e ∷ es) = without_each greatest (removed greatest c e.index) es
+abbrev pub removed_each : {T : Type 0} → Option ℕ → Chain T → List (Entry T) → Chain T
+removed_each greatest c [] = c
+removed_each greatest c (e ∷ es) = removed_each greatest (removed greatest c e.index) es
 
 -- a pointer with an item, as an entry
 abbrev pub entry_of : {P T : Type 0} → (P → ℕ × ℕ) → P × T → Entry T
@@ -133,61 +136,65 @@ abbrev pub both_numbers : {I : Type 0} → (I → ℕ) → Option I × Option I 
 both_numbers index l = (option_map index l.0, option_map index l.1)
 
 module _ {P T I G A : Type 0} where
-  -- an insertion, as the ordered arena says it
-  abbrev pub Inserts : {K : Type 0} → (T → K) → (K → K → Ordering) → ℕ → (P → ℕ × ℕ) → Tree T → T → Reply P T A I G → Tree T → Type 0
-  Inserts key cmp most pointer old item (Inserted (New p) None) new = insertion.Inserts key cmp most pointer old item (Ok (p, None)) new
-  Inserts key cmp most pointer old item (Inserted (Replacing p) (Some before)) new = insertion.Inserts key cmp most pointer old item (Ok (p, Some before)) new
-  Inserts key cmp most pointer old item (Refused refusal) new = insertion.Inserts key cmp most pointer old item (Err refusal) new
-  Inserts key cmp most pointer old item reply new = ⊥
+  -- what is said of an insertion
+  abbrev pub insertion_reply : Result (OrdEntryKind P × Option T) OrdInsertionError → Reply P T A I G
+  insertion_reply (Ok inserted) = Inserted inserted.0 inserted.1
+  insertion_reply (Err refusal) = Refused refusal
+
+  -- an insertion, as the ordered arena says it: how it gets its slot, and what it goes by
+  abbrev pub Inserts : {K : Type 0} → (T → K) → (K → K → Ordering) → ℕ → Growth → Aim K → (P → ℕ × ℕ) → Tree T → T → Reply P T A I G → Tree T → Type 0
+  Inserts key cmp most growth aim pointer old item (Inserted kind before) new = InsertsBy key cmp most growth aim pointer old item (Ok (kind, before)) new
+  Inserts key cmp most growth aim pointer old item (Refused refusal) new = InsertsBy key cmp most growth aim pointer old item (Err refusal) new
+  Inserts key cmp most growth aim pointer old item reply new = ⊥
 
   -- a search for an equal key
   abbrev pub Finds : {K : Type 0} → (T → K) → (K → K → Ordering) → (P → ℕ × ℕ) → State T → K → Reply P T A I G → Type 0
-  Finds key cmp pointer s k (Found p c) = FindsKey key cmp s.tree.list.entries k (option_map pointer p) c × IsWithinBounds s c
+  Finds key cmp pointer s k (Found p c) = FindsKey key cmp s.tree.list.entries k (option_map pointer p) c × IsWithinBoundsByMarks s c
   Finds key cmp pointer s k reply = ⊥
 
   -- the same from the entry under a pointer, by at most num steps; a pointer that names no entry adds none
   abbrev pub FindsFrom : {K : Type 0} → (T → K) → (K → K → Ordering) → (P → ℕ × ℕ) → State T → P → ℕ → K → Reply P T A I G → Type 0
   FindsFrom key cmp pointer s p num k (Found q c) =
-      FindsKey key cmp s.tree.list.entries k (option_map pointer q) c × IsWithinHintedBounds s num c
-      × IfNone (item_of s.tree.list.entries (pointer p).0 (pointer p).1) (IsWithinBounds s c)
+      FindsKey key cmp s.tree.list.entries k (option_map pointer q) c × IsWithinHintedBoundsByMarks s num c
+      × IfNone (item_of s.tree.list.entries (pointer p)) (IsWithinBoundsByMarks s c)
   FindsFrom key cmp pointer s p num k reply = ⊥
 
   -- a search for a similar key
   abbrev pub FindsNear : {K : Type 0} → (T → K) → (K → K → Ordering) → (P → ℕ × ℕ) → State T → K → Reply P T A I G → Type 0
   FindsNear key cmp pointer s k (Similar found c) =
-      FindsSimilar key cmp s.tree.list.entries k (option_map (λ a. (pointer a.0, a.1)) found) c × IsWithinBounds s c
+      FindsSimilar key cmp s.tree.list.entries k (option_map (λ a. (pointer a.0, a.1)) found) c × IsWithinBoundsByMarks s c
   FindsNear key cmp pointer s k reply = ⊥
 
   -- the same from the entry at an index, by at most num steps; an index without an entry adds none, and on a list in the order of
   -- its keys a near one makes few
   abbrev pub FindsNearFrom : {K : Type 0} → (T → K) → (K → K → Ordering) → (P → ℕ × ℕ) → State T → ℕ → ℕ → K → Reply P T A I G → Type 0
   FindsNearFrom key cmp pointer s i num k (Similar found c) =
-      FindsSimilar key cmp s.tree.list.entries k (option_map (λ a. (pointer a.0, a.1)) found) c × IsWithinHintedBounds s num c
-      × IfNone (entry_at s.tree.list.entries i) (IsWithinBounds s c) × IsNearHint key cmp s.tree.list.entries k i num c
+      FindsSimilar key cmp s.tree.list.entries k (option_map (λ a. (pointer a.0, a.1)) found) c × IsWithinHintedBoundsByMarks s num c
+      × IfNone (entry_at s.tree.list.entries i) (IsWithinBoundsByMarks s c) × IsNearHint key cmp s.tree.list.entries k i num c
   FindsNearFrom key cmp pointer s i num k reply = ⊥
 
   -- the visits that a search for an equal key may have
   abbrev pub Visits : {K : Type 0} → (T → K) → (K → K → Ordering) → State T → K → Reply P T A I G → Type 0
-  Visits key cmp s k (Count c) = ((found : Option (ℕ × ℕ)) × FindsKey key cmp s.tree.list.entries k found c) × IsWithinBounds s c
+  Visits key cmp s k (Count c) = ((found : Option (ℕ × ℕ)) × FindsKey key cmp s.tree.list.entries k found c) × IsWithinBoundsByMarks s c
   Visits key cmp s k reply = ⊥
 
   -- the item under a pointer; memory may be refused to its clone alone
   abbrev pub Gets : (P → ℕ × ℕ) → Tree T → P → Reply P T A I G → Type 0
-  Gets pointer t p (Item item) = item ≡ item_of t.list.entries (pointer p).0 (pointer p).1
-  Gets pointer t p (Refused AllocError) = IsSome (item_of t.list.entries (pointer p).0 (pointer p).1)
+  Gets pointer t p (Item item) = item ≡ item_of t.list.entries (pointer p)
+  Gets pointer t p (Refused AllocError) = IsSome (item_of t.list.entries (pointer p))
   Gets pointer t p reply = ⊥
 
   -- the item under a pointer, in the place of which another is put; the shape stays
   abbrev pub Sets : (P → ℕ × ℕ) → Tree T → P → T → Reply P T A I G → Tree T → Type 0
   Sets pointer old p item (Item before) new =
-      (before ≡ item_of old.list.entries (pointer p).0 (pointer p).1)
-      × MatchOption before (new ≡ old) (λ _. new ≡ with_item_in old (pointer p).0 item)
+      (before ≡ item_of old.list.entries (pointer p))
+      × MatchOption before (new ≡ old) (λ _. new ≡ with_item old (pointer p).0 item)
   Sets pointer old p item reply new = ⊥
 
   -- the entry under a pointer, taken out
   abbrev pub Removes : Option ℕ → (P → ℕ × ℕ) → Tree T → P → Reply P T A I G → Tree T → Type 0
   Removes greatest pointer old p (Removed result) new =
-      let item = item_of old.list.entries (pointer p).0 (pointer p).1 in
+      let item = item_of old.list.entries (pointer p) in
       MatchOption (valid_value result) ((item ≡ None) × (new ≡ old))
       (λ taken. (taken.0 ≡ p) × (item ≡ Some taken.1) × IsRemoval greatest old (pointer p).0 (has_overflowed result) new)
   Removes greatest pointer old p reply new = ⊥
@@ -203,7 +210,7 @@ module _ {P T I G A : Type 0} where
   -- the entry under a pointer, under a new one of the same index and the raised generation; the shape stays
   abbrev pub Renews : Option ℕ → (P → ℕ × ℕ) → Tree T → P → Reply P T A I G → Tree T → Type 0
   Renews greatest pointer old p (Renewed result) new =
-      let item = item_of old.list.entries (pointer p).0 (pointer p).1 in
+      let item = item_of old.list.entries (pointer p) in
       MatchOption (valid_value result) ((item ≡ None) × (new ≡ old))
       (λ q. IsSome item × (pointer q ≡ ((pointer p).0, next_generation greatest old.list.generation))
       × (has_overflowed result ≡ overflows_after greatest old.list.generation)
@@ -254,9 +261,27 @@ module _ {P T I G A : Type 0} where
   Drains greatest pointer old num (Entries pairs) new =
       let first = take num old.list.entries in
       (map (entry_of pointer) pairs.items ≡ first)
-      × (new ≡ record { list = cleared greatest (without_each greatest old.list first); shape = missing })
+      × (new ≡ record { list = cleared greatest (removed_each greatest old.list first); shape = missing })
   Drains greatest pointer old num (Refused AllocError) new = (0 < length (take num old.list.entries)) × (new ≡ old)
   Drains greatest pointer old num reply new = ⊥
+
+  -- The capacity becomes the greater of n and the greatest index of an entry, and all vacant slots count as never used. It is refused
+  -- where n is beyond the limit; memory may be refused to a greater capacity.
+  abbrev pub Reserves : ℕ → Tree T → ℕ → Reply P T A I G → Tree T → Type 0
+  Reserves most old n Done new =
+      (n ≤ chain_limit most old.list)
+      × (new ≡ record old { list = with_capacity old.list (max n (greatest_index old.list.entries)) })
+  Reserves most old n (Refused BeyondMaxCapacity) new = (chain_limit most old.list < n) × (new ≡ old)
+  Reserves most old n (Refused AllocError) new =
+      (n ≤ chain_limit most old.list) × (old.list.capacity < n) × (new ≡ old)
+  Reserves most old n reply new = ⊥
+
+  -- the maximum of the capacity becomes n; it is refused where the capacity is greater
+  abbrev pub SetsMaximum : Tree T → ℕ → Reply P T A I G → Tree T → Type 0
+  SetsMaximum old n Done new =
+      (old.list.capacity ≤ n) × (new ≡ record old { list = record old.list { maximum = Some n } })
+  SetsMaximum old n ReductionRefused new = (n < old.list.capacity) × (new ≡ old)
+  SetsMaximum old n reply new = ⊥
 
   -- whether no entry's key is greater than that of the entry directly after it
   abbrev pub Checks : {K : Type 0} → (T → K) → (K → K → Ordering) → Tree T → Reply P T A I G → Type 0
@@ -289,7 +314,14 @@ module _ {P T I G A : Type 0} where
   -- From the state old, the reply to the command may be this one, and the tree goes on to new. Of a search by a closure nothing is
   -- said here.
   abbrev pub Replies : {K : Type 0} → Reading P T I G K → State T → Command P T I G K → Reply P T A I G → Tree T → Type 0
-  Replies r old (commands.Insert item) reply new = Inserts r.key r.cmp r.most r.pointer old.tree item reply new
+  Replies r old (commands.Insert item) reply new =
+      Inserts r.key r.cmp r.most reallocating (at_key (r.key item)) r.pointer old.tree item reply new
+  Replies r old (commands.InsertWithin item) reply new =
+      Inserts r.key r.cmp r.most within (at_key (r.key item)) r.pointer old.tree item reply new
+  Replies r old (commands.Entry kind item) reply new =
+      Inserts r.key r.cmp r.most reallocating (aim_of r.index kind) r.pointer old.tree item reply new
+  Replies r old (commands.EntryWithin kind item) reply new =
+      Inserts r.key r.cmp r.most within (aim_of r.index kind) r.pointer old.tree item reply new
   Replies r old (commands.Set p item) reply new = Sets r.pointer old.tree p item reply new
   Replies r old (commands.Remove p) reply new = Removes r.greatest r.pointer old.tree p reply new
   Replies r old (commands.RemoveInx i) reply new = RemovesAt r.greatest r.pointer old.tree (r.index i) reply new
@@ -301,6 +333,8 @@ module _ {P T I G A : Type 0} where
       Changes r.greatest old.tree (record old.tree { list = raised r.greatest old.tree.list }) reply new
   Replies r old (commands.Compress reset) reply new = Rebuilds r.greatest reset old.tree (relocated old.tree.list) reply new
   Replies r old (commands.Canonical reset) reply new = Rebuilds r.greatest reset old.tree (canonical old.tree.list) reply new
+  Replies r old (commands.Reserve n) reply new = Reserves r.most old.tree n reply new
+  Replies r old (commands.SetMax n) reply new = SetsMaximum old.tree n reply new
   Replies r old (commands.DrainOrdered num) reply new = Drains r.greatest r.pointer old.tree num reply new
   Replies r old command reply new = Tells r old command reply × (new ≡ old.tree)
 
@@ -325,13 +359,13 @@ module _ {P T I G A : Type 0} where
 module _ {P T I G A F : Type 0} where
   -- a search by the closure, which goes on from f to g
   abbrev pub AnswersWith : (F → Shown T → F → Type 0) → (P → ℕ × ℕ) → State T → F → Reply P T A I G → F → Type 0
-  AnswersWith asks pointer s f (Found p c) g = FindsWith asks s.tree.list.entries f g (option_map pointer p) c × IsWithinBounds s c
+  AnswersWith asks pointer s f (Found p c) g = FindsWith asks s.tree.list.entries f g (option_map pointer p) c × IsWithinBoundsByMarks s c
   AnswersWith asks pointer s f reply g = ⊥
 
   -- the same for a similar entry
   abbrev pub AnswersSimilarWith : (F → Shown T → F → Type 0) → (P → ℕ × ℕ) → State T → F → Reply P T A I G → F → Type 0
   AnswersSimilarWith asks pointer s f (Similar found c) g =
-      FindsSimilarWith asks s.tree.list.entries f g (option_map (λ a. (pointer a.0, a.1)) found) c × IsWithinBounds s c
+      FindsSimilarWith asks s.tree.list.entries f g (option_map (λ a. (pointer a.0, a.1)) found) c × IsWithinBoundsByMarks s c
   AnswersSimilarWith asks pointer s f reply g = ⊥
 
   -- From the state old and the closure f, the reply to the command may be this one, and tree and closure go on to new and g. A

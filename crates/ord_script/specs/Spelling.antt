@@ -1,7 +1,10 @@
 -- How a script says each command: the words of its line.
-use Rattle.std.specs.Prelude.{Bool, true, false, ℕ, ◌^◌, ◌<◌, ℤ, pos, neg_ℤ, ◌≤ℤ◌, ◌<ℤ◌, List, [], ◌∷◌, ◌++◌, All, map, flat_map, codes, decimal}
+use Rattle.std.specs.Prelude.{◌≡◌, Bool, true, false, ℕ, ◌^◌, ◌<◌, ℤ, pos, neg_ℤ, ◌≤ℤ◌, ◌<ℤ◌, List, [], ◌∷◌, ◌++◌, All, map, flat_map, codes, decimal}
+use Rattle.std.specs.declared.cmp.Ordering.TheVariants.{Less, Equal, Greater}
 use Rattle.std.specs.Fmt.{signed_decimal}
 use Rattle.std.specs.List.{join_with_byte}
+use Rattle.triple_ord.specs.declared.insert_kind.OrdInsertKind.{OrdInsertKind}
+use Rattle.triple_ord.specs.declared.insert_kind.OrdInsertKind.TheVariants as kinds
 use Rattle.ord_script.specs.declared.command.Command.TheVariants as commands
 use Rattle.ord_script.specs.Pairs.{Pair, Pointer, PairCommand}
 use Rattle.ord_script.specs.Text.{pointer_text}
@@ -29,7 +32,7 @@ argument_text (count n) = decimal n
 argument_text (pointer p) = pointer_text p
 argument_text (flag b) = decimal (flag_number b)
 
--- a key has 64 bits with a sign; a value, a generation and a number of steps or of entries have 64 without one, an index 32
+-- a key has 64 bits with a sign; a value, a generation and a number of steps, of entries or of slots have 64 without one, an index 32
 abbrev pub IsInRange : Argument → Type 0
 IsInRange (key k) = (neg_ℤ (pos (2 ^ 63)) ≤ℤ k) × (k <ℤ pos (2 ^ 63))
 IsInRange (value v) = v < 2 ^ 64
@@ -50,6 +53,19 @@ pair_arguments pair = key pair.0 ∷ value pair.1 ∷ []
 -- what a script says for each command
 abbrev pub saying_of : PairCommand → Saying
 saying_of (commands.Insert pair) = record { word = codes "insert"; arguments = pair_arguments pair }
+saying_of (commands.InsertWithin pair) = record { word = codes "within"; arguments = pair_arguments pair }
+saying_of (commands.Entry kinds.Empty pair) = record { word = codes "empty"; arguments = pair_arguments pair }
+saying_of (commands.Entry (kinds.Nonhereditary k) pair) = record { word = codes "nonhereditary"; arguments = pair_arguments pair }
+saying_of (commands.Entry (kinds.Linear i n k) pair) =
+    record { word = codes "linear"; arguments = index i ∷ count n ∷ pair_arguments pair }
+saying_of (commands.Entry (kinds.NonhereditaryLinear i n k) pair) =
+    record { word = codes "nonhereditary-linear"; arguments = index i ∷ count n ∷ pair_arguments pair }
+saying_of (commands.Entry (kinds.Manual i Less) pair) = record { word = codes "before"; arguments = index i ∷ pair_arguments pair }
+saying_of (commands.Entry (kinds.Manual i Equal) pair) = record { word = codes "at"; arguments = index i ∷ pair_arguments pair }
+saying_of (commands.Entry (kinds.Manual i Greater) pair) = record { word = codes "after"; arguments = index i ∷ pair_arguments pair }
+-- it says nothing for these two; they stand with the insertions by key
+saying_of (commands.Entry (kinds.Normal k) pair) = record { word = codes "insert"; arguments = [] }
+saying_of (commands.EntryWithin kind pair) = record { word = codes "within"; arguments = [] }
 saying_of (commands.Set p pair) = record { word = codes "set"; arguments = pointer p ∷ pair_arguments pair }
 saying_of (commands.Remove p) = record { word = codes "remove"; arguments = pointer p ∷ [] }
 saying_of (commands.RemoveInx i) = record { word = codes "remove-index"; arguments = index i ∷ [] }
@@ -73,6 +89,8 @@ saying_of (commands.Neighbours i) = record { word = codes "neighbours"; argument
 saying_of commands.List = record { word = codes "list"; arguments = [] }
 saying_of commands.Ranks = record { word = codes "ranks"; arguments = [] }
 saying_of commands.Check = record { word = codes "check"; arguments = [] }
+saying_of (commands.Reserve n) = record { word = codes "reserve"; arguments = count n ∷ [] }
+saying_of (commands.SetMax n) = record { word = codes "max"; arguments = count n ∷ [] }
 saying_of (commands.DrainOrdered n) = record { word = codes "drain"; arguments = count n ∷ [] }
 saying_of commands.Stats = record { word = codes "stats"; arguments = [] }
 
@@ -80,10 +98,22 @@ saying_of commands.Stats = record { word = codes "stats"; arguments = [] }
 abbrev pub spelled : PairCommand → List (List ℕ)
 spelled command = (saying_of command).word ∷ map argument_text (saying_of command).arguments
 
--- a script can say it: it isn't a search by a closure, and its numbers are within their ranges
+-- a line says where a pair goes: by its own key, if by one
+abbrev pub GoesBy : OrdInsertKind Pointer ℤ ℕ ℕ → Pair → Type 0
+GoesBy kinds.Empty pair = Unit {0}
+GoesBy (kinds.Normal k) pair = ⊥
+GoesBy (kinds.Nonhereditary k) pair = pair.0 ≡ k
+GoesBy (kinds.Linear i n k) pair = pair.0 ≡ k
+GoesBy (kinds.NonhereditaryLinear i n k) pair = pair.0 ≡ k
+GoesBy (kinds.Manual i order) pair = Unit {0}
+
+-- a script can say it: it isn't a search by a closure nor an insertion that a line can't ask for, and its numbers are within their
+-- ranges
 abbrev pub CanBeSaid : PairCommand → Type 0
 CanBeSaid commands.FindWith = ⊥
 CanBeSaid commands.SimilarWith = ⊥
+CanBeSaid (commands.EntryWithin kind pair) = ⊥
+CanBeSaid (commands.Entry kind pair) = GoesBy kind pair × All IsInRange (saying_of (commands.Entry kind pair)).arguments
 CanBeSaid command = All IsInRange (saying_of command).arguments
 
 -- a line for each command, the words joined by a space

@@ -13,7 +13,7 @@ use Rattle.triple_ord.specs.declared.error.OrdInsertionError.TheVariants.{Failed
 use Rattle.ord_script.specs.declared.command.Command.TheVariants as commands
 use Rattle.ord_script.specs.declared.form.Form.{Form}
 use Rattle.ord_script.specs.declared.form.Form.TheVariants.{Plain, Replaced, WithPointer, Cleared, Drained}
-use Rattle.ord_script.specs.declared.reply.Reply.TheVariants.{Inserted, Refused, Found, Similar, Count, Item, Removed, Renewed, Changed, At, Links, Entries, Ranks, Sorted, Stats}
+use Rattle.ord_script.specs.declared.reply.Reply.TheVariants.{Inserted, Refused, Found, Similar, Count, Item, Removed, Renewed, Changed, At, Links, Entries, Ranks, Done, ReductionRefused, Sorted, Stats}
 use Rattle.ord_script.specs.declared.fault.Fault.{Fault}
 use Rattle.ord_script.specs.declared.fault.FaultKind.{FaultKind}
 use Rattle.ord_script.specs.declared.fault.FaultKind.TheVariants.{UnknownCommand, WrongArguments, BadNumber}
@@ -41,7 +41,7 @@ abbrev pub maximum_text : Option ℕ → List ℕ
 maximum_text (Some maximum) = decimal maximum
 maximum_text None = codes "none"
 
--- why a command was refused; the first two aren't asked of a script's arena
+-- why a command was refused
 abbrev pub refusal_text : OrdInsertionError → List ℕ
 refusal_text FailedOrdRequirement = codes "order"
 refusal_text NotWithinCapacity = codes "capacity"
@@ -152,6 +152,8 @@ reply_text form (At place) = place_text place
 reply_text form (Links links) = links_text links
 reply_text form (Entries entries) = entries_word form ++ flat_map (λ e. codes " " ++ entry_text e) entries.items
 reply_text form (Ranks ranks) = codes "ranks" ++ flat_map (λ k. codes " " ++ decimal k) ranks.items
+reply_text form Done = codes "ok"
+reply_text form ReductionRefused = codes "refused reduction"
 reply_text form (Sorted sorted) = sorted_text sorted
 reply_text form (Stats len capacity generation maximum) = stats_text len capacity generation maximum
 

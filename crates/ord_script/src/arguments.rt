@@ -1,4 +1,4 @@
-// Reads the arguments of a command.
+//! Reads the arguments of a command.
 ghost use Rattle.std.specs.Prelude.{◌≡◌, None, Some, MatchOption};
 ghost use Rattle.ord_script.specs.Arguments.{arguments_in};
 

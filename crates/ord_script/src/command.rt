@@ -1,12 +1,18 @@
-// What an arena can be asked.
+//! What an arena can be asked.
 use arena_base::Ptr;
-use triple_ord::SimpleOrdItem;
+use triple_ord::{OrdInsertKind, SimpleOrdItem};
 
 /// A command to an ordered arena of items `T` under pointers `P`.
 #[derive(Drop)]
 pub enum Command<P: Ptr, T: SimpleOrdItem> {
     /// Inserts the item by its key.
     Insert(T),
+    /// Inserts the item by its key, within the capacity.
+    InsertWithin(T),
+    /// Inserts the item at the place that the kind names, whatever the item's own key.
+    Entry(OrdInsertKind<P, T::Key>, T),
+    /// The same, within the capacity.
+    EntryWithin(OrdInsertKind<P, T::Key>, T),
     /// Gives the entry that the pointer names another item, whatever its key.
     Set(P, T),
     /// Takes the entry that the pointer names out.
@@ -52,6 +58,10 @@ pub enum Command<P: Ptr, T: SimpleOrdItem> {
     Ranks,
     /// Asks whether no entry's key is greater than that of the entry after it.
     Check,
+    /// Makes the capacity at least this, and at least the greatest index with an entry.
+    Reserve(usize),
+    /// Sets the maximum of the capacity.
+    SetMax(usize),
     /// Takes the first so many entries out, or all where there are no more, and then drops the others.
     DrainOrdered(usize),
     /// Asks for the numbers that go with the entries.

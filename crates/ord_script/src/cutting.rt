@@ -1,4 +1,4 @@
-// Cuts a script into lines, and a line into words.
+//! Cuts a script into lines, and a line into words.
 ghost use Rattle.std.specs.Prelude.{◌≡◌, ◌==◌, [], ◌∷◌, ◌<◌, not, length, IfSome, MatchOption, position};
 ghost use Rattle.std.specs.Str.Lines.{lines, strip_carriage_return};
 ghost use Rattle.ord_script.specs.Script.{is_blank, words_of};

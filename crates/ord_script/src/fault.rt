@@ -1,4 +1,4 @@
-// What is wrong with a line of a script.
+//! What is wrong with a line of a script.
 use std::fmt;
 
 /// Why a line is no command.

@@ -1,4 +1,4 @@
-// How the reply to a command is told.
+//! How the reply to a command is told.
 ghost use Rattle.std.specs.Prelude.{◌≡◌, IfOk, map};
 ghost use Rattle.ord_script.specs.Text.{form_of};
 

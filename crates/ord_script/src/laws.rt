@@ -10,7 +10,7 @@ use triple_ord::SimpleOrdItem;
 
 /// An insertion where there is no entry, and then `ranks`: the ranks are 1 and nothing else, unless something is refused.
 pub fn first_rank_law<P: Ptr, T: SimpleOrdItem, F: FnMut(P, &T) -> Ordering, A: Allocator>()
-    ensures { FirstRankLaw P T P.Inx P.Gen A T.Key (Asks (λ p. (P.index p, P.era p)) F.step) }
+    ensures { FirstRankLaw P T P.Inx P.Gen A T.Key (Asks P.numbers F.step) }
 {}
 
 /// The script of two lines, `insert 5 1` and `ranks`, is answered by `new 1.2` and `ranks 1`, unless memory is refused.

@@ -1,4 +1,4 @@
-// Reads the numbers and pointers of a script.
+//! Reads the numbers and pointers of a script.
 ghost use Rattle.std.specs.Prelude.{◌≡◌, position};
 ghost use Rattle.ord_script.specs.Numbers.{number_up_to, key_of, value_of, index_of, flag_of, pointer_of, is_point};
 

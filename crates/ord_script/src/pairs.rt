@@ -1,4 +1,4 @@
-// What a script's arena holds: pairs of a key and a value under pointers. How they are written.
+//! What a script's arena holds: pairs of a key and a value under pointers. How they are written.
 use crate::command::Command;
 use crate::reply::Reply;
 use arena_base::{P0, Ptr};

@@ -1,6 +1,6 @@
-// Reads the command that a line gives.
+//! Reads the command that a line gives.
 ghost use Rattle.std.specs.Prelude.{◌≡◌};
-ghost use Rattle.ord_script.specs.Commands.{alone, command_by, said_by};
+ghost use Rattle.ord_script.specs.Commands.{alone, command_by, said_by, nonhereditary, linear, nonhereditary_linear, beside};
 ghost use Rattle.ord_script.specs.Commands as spec;
 ghost use Rattle.ord_script.specs.Script.{words_of};
 
@@ -8,8 +8,10 @@ use crate::arguments::arguments_in;
 use crate::command::Command;
 use crate::cutting::Words;
 use crate::fault::FaultKind;
-use crate::pairs::PairCommand;
+use crate::pairs::{Pair, PairCommand};
 use crate::word::{Word, word_in};
+use std::cmp::Ordering;
+use triple_ord::OrdInsertKind;
 
 /// What a line says: nothing, where it has no words or begins with `#`; else a command, or what is
 /// wrong with it. The first word is looked at first, then the number of words, then each argument
@@ -38,6 +40,14 @@ fn command_by(word: Word, arguments: Words<'_>) -> Result<PairCommand, FaultKind
 {
     match word {
         Word::Insert => Ok(Command::Insert(arguments_in(arguments)?)),
+        Word::Within => Ok(Command::InsertWithin(arguments_in(arguments)?)),
+        Word::Empty => Ok(Command::Entry(OrdInsertKind::Empty, arguments_in(arguments)?)),
+        Word::Nonhereditary => Ok(nonhereditary(arguments_in(arguments)?)),
+        Word::Linear => Ok(linear(arguments_in(arguments)?)),
+        Word::NonhereditaryLinear => Ok(nonhereditary_linear(arguments_in(arguments)?)),
+        Word::Before => Ok(beside(Ordering::Less, arguments_in(arguments)?)),
+        Word::At => Ok(beside(Ordering::Equal, arguments_in(arguments)?)),
+        Word::After => Ok(beside(Ordering::Greater, arguments_in(arguments)?)),
         Word::Set => {
             let (p, pair) = arguments_in(arguments)?;
             Ok(Command::Set(p, pair))
@@ -67,9 +77,50 @@ fn command_by(word: Word, arguments: Words<'_>) -> Result<PairCommand, FaultKind
         Word::List => alone(Command::List, arguments),
         Word::Ranks => alone(Command::Ranks, arguments),
         Word::Check => alone(Command::Check, arguments),
+        Word::Reserve => Ok(Command::Reserve(arguments_in(arguments)?)),
+        Word::SetMax => Ok(Command::SetMax(arguments_in(arguments)?)),
         Word::DrainOrdered => Ok(Command::DrainOrdered(arguments_in(arguments)?)),
         Word::Stats => alone(Command::Stats, arguments),
     }
+}
+
+/// A pair beside those with an equal key, as a new entry.
+fn nonhereditary(pair: Pair) -> PairCommand
+    ensures { result ≡ nonhereditary pair }
+{
+    Command::Entry(OrdInsertKind::Nonhereditary(*pair.k()), pair)
+}
+
+/// A pair by its key, from a hint: an index and a number of steps.
+fn linear(arguments: (u32, (usize, Pair))) -> PairCommand
+    ensures { result ≡ linear arguments }
+{
+    let (p_init, (num, pair)) = arguments;
+    let k = *pair.k();
+    Command::Entry(OrdInsertKind::Linear { p_init, num, k }, pair)
+}
+
+/// The same, as a new entry beside those with an equal key.
+fn nonhereditary_linear(arguments: (u32, (usize, Pair))) -> PairCommand
+    ensures { result ≡ nonhereditary_linear arguments }
+{
+    let (p_init, (num, pair)) = arguments;
+    let k = *pair.k();
+    Command::Entry(OrdInsertKind::NonhereditaryLinear { p_init, num, k }, pair)
+}
+
+/// A pair before, at or after the entry with an index.
+fn beside(direction: Ordering, arguments: (u32, Pair)) -> PairCommand
+    ensures { result ≡ beside direction arguments }
+{
+    let (p_target, pair) = arguments;
+    Command::Entry(
+        OrdInsertKind::Manual {
+            p_target,
+            direction,
+        },
+        pair,
+    )
 }
 
 /// A command without arguments.

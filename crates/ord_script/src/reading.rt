@@ -1,4 +1,4 @@
-// Reads a whole input, up to a limit, and tries nothing again.
+//! Reads a whole input, up to a limit, and tries nothing again.
 ghost use Rattle.std.specs.Prelude.{◌≡◌, ◌||◌, ◌≤◌, ◌+◌, vec_len, is_ok};
 ghost use Rattle.std.specs.Result.{result_map_both};
 ghost use Rattle.ord_script.specs.Devices.{limit, is_failure, is_end, ReadsSome, ReadsAll};

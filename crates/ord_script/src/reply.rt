@@ -1,4 +1,4 @@
-// What an arena answers.
+//! What an arena answers.
 use arena_base::{InvalidationOption, InvalidationResult, Ptr};
 use std::alloc::Allocator;
 use std::cmp::Ordering;
@@ -7,9 +7,10 @@ use triple_ord::{OrdEntryKind, OrdInsertionError};
 /// A reply to a command.
 #[derive(Drop)]
 pub enum Reply<P: Ptr, T, A: Allocator> {
-    /// The item is in a new entry, or replaces the item that an entry with an equal key had, which stands beside.
+    /// The item is in a new entry, or replaces the item that an entry had, which stands beside.
     Inserted(OrdEntryKind<P>, Option<T>),
-    /// The command was refused, and changed nothing. A command other than an insertion is refused for want of memory alone.
+    /// The command was refused, and changed nothing. `Reserve` is refused as a growth is, beyond the limit or for want of memory; a
+    /// command that is no insertion else for want of memory alone.
     Refused(OrdInsertionError),
     /// The pointer of an entry with an equal key, `None` where the search stopped at a gap that fits the key; and how many
     /// entries the search was shown.
@@ -36,6 +37,10 @@ pub enum Reply<P: Ptr, T, A: Allocator> {
     Entries(Vec<(P, T), A>),
     /// The rank of each entry in the tree, in order.
     Ranks(Vec<u8, A>),
+    /// The capacity is as it was asked for, or the maximum is set.
+    Done,
+    /// The maximum isn't set, since the capacity is already greater.
+    ReductionRefused,
     /// Whether the entries are in the order of their keys.
     Sorted(bool),
     /// Length, capacity, the generation that the next entry gets, and the maximum of the capacity, if one is set.

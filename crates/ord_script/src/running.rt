@@ -1,4 +1,4 @@
-// Runs commands on an ordered arena.
+//! Runs commands on an ordered arena.
 ghost use Rattle.std.specs.Prelude.{◌≡◌, ◌<◌, IfOk, OnErr, length};
 ghost use Rattle.chain_base.specs.Chain.{IsSound};
 ghost use Rattle.ord_tree.specs.Tree.{IsSoundTree};
@@ -36,7 +36,7 @@ where
     requires callable { F.IsAlwaysCallable closure.old }
     ensures run { IfOk result (λ replies. RunsBetween
         (reading_by T.key_of T.Key.cmp P.Inx.most P.Gen.greatest
-        P.index P.era P.Inx.number P.Gen.number) (Asks (λ p. (P.index p, P.era p)) F.step)
+        P.numbers P.Inx.number P.Gen.number) (Asks P.numbers F.step)
         arena.old closure.old commands.items replies.items arena.new closure.new) }
     ensures err { OnErr result (arena.new ≡ arena.old) }
     ensures refused { OnErr result (0 < length commands.items) }
@@ -64,7 +64,7 @@ where
     requires callable { F.IsAlwaysCallable closure.old }
     ensures does { (marks : Marks) → AreTrue marks arena.old.shape
         → Does (reading_by T.key_of T.Key.cmp P.Inx.most P.Gen.greatest
-        P.index P.era P.Inx.number P.Gen.number) (Asks (λ p. (P.index p, P.era p)) F.step)
+        P.numbers P.Inx.number P.Gen.number) (Asks P.numbers F.step)
         (record { tree = arena.old; marks = marks }) closure.old command result arena.new closure.new }
     ensures callable { F.IsAlwaysCallable closure.new }
     ensures lawful { IsSound P.Inx.most P.Gen.greatest arena.new.list }
@@ -94,12 +94,15 @@ where
     requires callable { F.IsAlwaysCallable closure.old }
     ensures does { (marks : Marks) → AreTrue marks arena.old.shape
         → Does (reading_by T.key_of T.Key.cmp P.Inx.most P.Gen.greatest
-        P.index P.era P.Inx.number P.Gen.number) (Asks (λ p. (P.index p, P.era p)) F.step)
+        P.numbers P.Inx.number P.Gen.number) (Asks P.numbers F.step)
         (record { tree = arena.old; marks = marks }) closure.old command result arena.new closure.new }
     ensures callable { F.IsAlwaysCallable closure.new }
 {
     match command {
         Command::Insert(item) => steps::insert(arena, item),
+        Command::InsertWithin(item) => steps::insert_within(arena, item),
+        Command::Entry(kind, item) => steps::entry(arena, &kind, item),
+        Command::EntryWithin(kind, item) => steps::entry_within(arena, &kind, item),
         Command::Set(p, item) => steps::set(arena, p, item),
         Command::Remove(p) => steps::remove(arena, p),
         Command::RemoveInx(i) => steps::remove_inx(arena, i),
@@ -122,6 +125,8 @@ where
         Command::List => steps::list(alloc, arena),
         Command::Ranks => steps::ranks(alloc, arena),
         Command::Check => steps::check(arena),
+        Command::Reserve(n) => steps::reserve(arena, n),
+        Command::SetMax(n) => steps::set_max(arena, n),
         Command::DrainOrdered(num) => steps::drain_ordered(alloc, arena, num),
         Command::Stats => steps::stats(arena),
     }

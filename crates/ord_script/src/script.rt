@@ -1,4 +1,4 @@
-// Reads a whole script.
+//! Reads a whole script.
 ghost use Rattle.std.specs.Prelude.{◌≡◌, IfOk};
 ghost use Rattle.ord_script.specs.Script.{script_of};
 

@@ -1,4 +1,4 @@
-// How a script ends.
+//! How a script ends.
 ghost use Rattle.std.specs.Prelude.{◌≡◌};
 ghost use Rattle.ord_script.specs.Service.{status_of, message_of};
 

@@ -1,4 +1,4 @@
-// Reads a script, runs it, and writes its answer.
+//! Reads a script, runs it, and writes its answer.
 ghost use Rattle.std.specs.Prelude.{◌≡◌, ◌||◌, true, false, IfOk, string_bytes};
 ghost use Rattle.std.specs.Io.KnownBytes.{IsAtEnd};
 ghost use Rattle.ord_script.specs.Machine.{State, Runs};

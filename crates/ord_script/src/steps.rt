@@ -1,27 +1,49 @@
-// What each command does, and what it answers.
+//! What each command does, and what it answers.
 ghost use Rattle.std.specs.Prelude.{◌≡◌, ◌<◌, IfOk, OnOk, OnErr, IfSome, is_some, length, map, take};
 ghost use Rattle.chain_base.specs.Chain.{link_at, first_pointer, last_pointer, cleared, raised};
 ghost use Rattle.chain_base.specs.Compression.{canonical, relocated};
 ghost use Rattle.ord_tree.specs.Shape.{missing};
 ghost use Rattle.triple_ord.specs.ClosureSearch.{Asks};
-ghost use Rattle.ord_script.specs.Machine.{Marks, AreTrue, Inserts, Sets, Removes, RemovesAt, Renews, Changes, Rebuilds, Finds, FindsFrom, FindsNear, FindsNearFrom, AnswersWith, AnswersSimilarWith, Visits, Gets, IsEnd, HasNeighbours, Lists, entry_of, Ranked, HasRank, HaveRanks, Drains, without_each, Checks, Counts};
+ghost use Rattle.triple_ord.specs.Insertion.{within, reallocating, told};
+ghost use Rattle.triple_ord.specs.Place.{at_key, aim_of};
+ghost use Rattle.ord_script.specs.Machine.{Marks, AreTrue, Inserts, insertion_reply, Sets, Removes, RemovesAt, Renews, Changes, Rebuilds, Reserves, SetsMaximum, Finds, FindsFrom, FindsNear, FindsNearFrom, AnswersWith, AnswersSimilarWith, Visits, Gets, IsEnd, HasNeighbours, Lists, entry_of, Ranked, HasRank, HaveRanks, Drains, removed_each, Checks, Counts};
 
 use crate::reply::Reply;
-use arena_base::Ptr;
+use arena_base::{ItemsMut, Ptr, ReallocationError};
 use std::alloc::{AllocError, Allocator};
 use std::cmp::Ordering;
 use std::mem;
-use triple_ord::{OrdEntryKind, OrdInsertionError, SimpleOrdArena, SimpleOrdItem};
+use triple_ord::{OrdEntryKind, OrdInsertKind, OrdInsertionError, SimpleOrdArena, SimpleOrdItem};
 
 /// `Command::Insert`
 pub fn insert<P: Ptr, T: SimpleOrdItem + Drop, A: Allocator>(
     arena: &mut SimpleOrdArena<P, T, A>,
     item: T,
 ) -> Reply<P, T, A>
-    ensures { Inserts T.key_of T.Key.cmp P.Inx.most (λ p. (P.index p, P.era p))
+    ensures { Inserts T.key_of T.Key.cmp P.Inx.most reallocating (at_key (T.key_of item)) P.numbers
         arena.old item result arena.new }
 {
-    match arena.insert(item) {
+    reply_to_insertion(arena.insert(item))
+}
+
+/// `Command::InsertWithin`
+pub fn insert_within<P: Ptr, T: SimpleOrdItem + Drop, A: Allocator>(
+    arena: &mut SimpleOrdArena<P, T, A>,
+    item: T,
+) -> Reply<P, T, A>
+    ensures { Inserts T.key_of T.Key.cmp P.Inx.most within (at_key (T.key_of item)) P.numbers
+        arena.old item result arena.new }
+{
+    reply_to_insertion(arena.insert_within_capacity(item))
+}
+
+/// The reply to an insertion by the item's key.
+fn reply_to_insertion<P: Ptr, T, A: Allocator>(
+    inserted: Result<(P, Option<T>), OrdInsertionError>,
+) -> Reply<P, T, A>
+    ensures { result ≡ insertion_reply (told inserted) }
+{
+    match inserted {
         Ok((p, before)) => {
             let kind = match before {
                 None => OrdEntryKind::New(p),
@@ -33,13 +55,55 @@ pub fn insert<P: Ptr, T: SimpleOrdItem + Drop, A: Allocator>(
     }
 }
 
+/// `Command::Entry`
+pub fn entry<P: Ptr, T: SimpleOrdItem + Drop, A: Allocator>(
+    arena: &mut SimpleOrdArena<P, T, A>,
+    kind: &OrdInsertKind<P, T::Key>,
+    item: T,
+) -> Reply<P, T, A>
+    ensures { Inserts T.key_of T.Key.cmp P.Inx.most reallocating (aim_of P.Inx.number kind.now) P.numbers
+        arena.old item result arena.new }
+{
+    // with its length an arena tells that its pointers are different
+    let _ = arena.len();
+    match arena.entry_insert(kind.as_ref()) {
+        Ok(entry) => {
+            let shown = entry.ptr();
+            let before = entry.insert(item);
+            Reply::Inserted(shown, before)
+        }
+        Err(refusal) => Reply::Refused(refusal),
+    }
+}
+
+/// `Command::EntryWithin`
+pub fn entry_within<P: Ptr, T: SimpleOrdItem + Drop, A: Allocator>(
+    arena: &mut SimpleOrdArena<P, T, A>,
+    kind: &OrdInsertKind<P, T::Key>,
+    item: T,
+) -> Reply<P, T, A>
+    ensures { Inserts T.key_of T.Key.cmp P.Inx.most within (aim_of P.Inx.number kind.now) P.numbers
+        arena.old item result arena.new }
+{
+    // with its length an arena tells that its pointers are different
+    let _ = arena.len();
+    match arena.entry_insert_within_capacity(kind.as_ref()) {
+        Ok(entry) => {
+            let shown = entry.ptr();
+            let before = entry.insert(item);
+            Reply::Inserted(shown, before)
+        }
+        Err(refusal) => Reply::Refused(refusal),
+    }
+}
+
 /// `Command::Set`
 pub fn set<P: Ptr, T: Drop, A: Allocator>(
     arena: &mut SimpleOrdArena<P, T, A>,
     p: P,
     item: T,
 ) -> Reply<P, T, A>
-    ensures { Sets (λ p. (P.index p, P.era p)) arena.old p item result arena.new }
+    ensures { Sets P.numbers arena.old p item result arena.new }
 {
     if !arena.contains(p) {
         return Reply::Item(None);
@@ -54,7 +118,7 @@ pub fn remove<P: Ptr, T: Drop, A: Allocator>(
     arena: &mut SimpleOrdArena<P, T, A>,
     p: P,
 ) -> Reply<P, T, A>
-    ensures { Removes P.Gen.greatest (λ p. (P.index p, P.era p)) arena.old p result arena.new }
+    ensures { Removes P.Gen.greatest P.numbers arena.old p result arena.new }
 {
     Reply::Removed(arena.remove(p).map(|item| (p, item)))
 }
@@ -64,7 +128,7 @@ pub fn remove_inx<P: Ptr, T: Drop, A: Allocator>(
     arena: &mut SimpleOrdArena<P, T, A>,
     i: P::Inx,
 ) -> Reply<P, T, A>
-    ensures { RemovesAt P.Gen.greatest (λ p. (P.index p, P.era p))
+    ensures { RemovesAt P.Gen.greatest P.numbers
         arena.old (P.Inx.number i) result arena.new }
 {
     Reply::Removed(
@@ -79,7 +143,7 @@ pub fn invalidate<P: Ptr, T, A: Allocator>(
     arena: &mut SimpleOrdArena<P, T, A>,
     p: P,
 ) -> Reply<P, T, A>
-    ensures { Renews P.Gen.greatest (λ p. (P.index p, P.era p)) arena.old p result arena.new }
+    ensures { Renews P.Gen.greatest P.numbers arena.old p result arena.new }
 {
     Reply::Renewed(arena.invalidate(p))
 }
@@ -129,7 +193,7 @@ pub fn find<P: Ptr, T: SimpleOrdItem, A: Allocator>(
     key: &T::Key,
 ) -> Reply<P, T, A>
     ensures { (marks : Marks) → AreTrue marks arena.now.shape
-        → Finds T.key_of T.Key.cmp (λ p. (P.index p, P.era p))
+        → Finds T.key_of T.Key.cmp P.numbers
         (record { tree = arena.now; marks = marks }) key.now result }
 {
     let (found, visits) = arena.find_key_counted(key);
@@ -144,7 +208,7 @@ pub fn find_linear<P: Ptr, T: SimpleOrdItem, A: Allocator>(
     key: &T::Key,
 ) -> Reply<P, T, A>
     ensures { (marks : Marks) → AreTrue marks arena.now.shape
-        → FindsFrom T.key_of T.Key.cmp (λ p. (P.index p, P.era p))
+        → FindsFrom T.key_of T.Key.cmp P.numbers
         (record { tree = arena.now; marks = marks }) p num key.now result }
 {
     let (found, visits) = arena.find_key_linear_counted(p, num, key);
@@ -157,7 +221,7 @@ pub fn similar<P: Ptr, T: SimpleOrdItem, A: Allocator>(
     key: &T::Key,
 ) -> Reply<P, T, A>
     ensures { (marks : Marks) → AreTrue marks arena.now.shape
-        → FindsNear T.key_of T.Key.cmp (λ p. (P.index p, P.era p))
+        → FindsNear T.key_of T.Key.cmp P.numbers
         (record { tree = arena.now; marks = marks }) key.now result }
 {
     let (found, visits) = arena.find_similar_key_counted(key);
@@ -172,7 +236,7 @@ pub fn similar_linear<P: Ptr, T: SimpleOrdItem, A: Allocator>(
     key: &T::Key,
 ) -> Reply<P, T, A>
     ensures { (marks : Marks) → AreTrue marks arena.now.shape
-        → FindsNearFrom T.key_of T.Key.cmp (λ p. (P.index p, P.era p))
+        → FindsNearFrom T.key_of T.Key.cmp P.numbers
         (record { tree = arena.now; marks = marks }) (P.Inx.number i) num key.now result }
 {
     let (found, visits) = arena.find_similar_key_linear_counted(i, num, key);
@@ -186,7 +250,7 @@ pub fn find_with<P: Ptr, T, F: FnMut(P, &T) -> Ordering, A: Allocator>(
 ) -> Reply<P, T, A>
     requires { F.IsAlwaysCallable closure.old }
     ensures answer { (marks : Marks) → AreTrue marks arena.now.shape
-        → AnswersWith (Asks (λ p. (P.index p, P.era p)) F.step) (λ p. (P.index p, P.era p))
+        → AnswersWith (Asks P.numbers F.step) P.numbers
         (record { tree = arena.now; marks = marks }) closure.old result closure.new }
     ensures callable { F.IsAlwaysCallable closure.new }
 {
@@ -201,7 +265,7 @@ pub fn similar_with<P: Ptr, T, F: FnMut(P, &T) -> Ordering, A: Allocator>(
 ) -> Reply<P, T, A>
     requires { F.IsAlwaysCallable closure.old }
     ensures answer { (marks : Marks) → AreTrue marks arena.now.shape
-        → AnswersSimilarWith (Asks (λ p. (P.index p, P.era p)) F.step) (λ p. (P.index p, P.era p))
+        → AnswersSimilarWith (Asks P.numbers F.step) P.numbers
         (record { tree = arena.now; marks = marks }) closure.old result closure.new }
     ensures callable { F.IsAlwaysCallable closure.new }
 {
@@ -224,7 +288,7 @@ pub fn visits<P: Ptr, T: SimpleOrdItem, A: Allocator>(
 /// `Command::Get`
 pub fn get<P: Ptr, T: Clone, A: Allocator>(arena: &SimpleOrdArena<P, T, A>, p: P) -> Reply<P, T, A>
     requires { (x y : T) → T.is_clone x y → y ≡ x }
-    ensures { Gets (λ p. (P.index p, P.era p)) arena.now p result }
+    ensures { Gets P.numbers arena.now p result }
 {
     match arena.get(p) {
         None => Reply::Item(None),
@@ -237,14 +301,14 @@ pub fn get<P: Ptr, T: Clone, A: Allocator>(arena: &SimpleOrdArena<P, T, A>, p: P
 
 /// `Command::First`
 pub fn first<P: Ptr, T, A: Allocator>(arena: &SimpleOrdArena<P, T, A>) -> Reply<P, T, A>
-    ensures { IsEnd (λ p. (P.index p, P.era p)) (first_pointer arena.now.list.entries) result }
+    ensures { IsEnd P.numbers (first_pointer arena.now.list.entries) result }
 {
     Reply::At(arena.first())
 }
 
 /// `Command::Last`
 pub fn last<P: Ptr, T, A: Allocator>(arena: &SimpleOrdArena<P, T, A>) -> Reply<P, T, A>
-    ensures { IsEnd (λ p. (P.index p, P.era p)) (last_pointer arena.now.list.entries) result }
+    ensures { IsEnd P.numbers (last_pointer arena.now.list.entries) result }
 {
     Reply::At(arena.last())
 }
@@ -271,7 +335,7 @@ pub fn list<P: Ptr, T: Clone, A: Allocator>(
     arena: &SimpleOrdArena<P, T, A>,
 ) -> Reply<P, T, A>
     requires { (x y : T) → T.is_clone x y → y ≡ x }
-    ensures { Lists (λ p. (P.index p, P.era p)) arena.now result }
+    ensures { Lists P.numbers arena.now result }
 {
     match entries(alloc, arena) {
         Ok(entries) => Reply::Entries(entries),
@@ -298,13 +362,42 @@ pub fn check<P: Ptr, T: SimpleOrdItem, A: Allocator>(
     Reply::Sorted(SimpleOrdArena::_check_invariants(arena).is_ok())
 }
 
+/// `Command::Reserve`
+pub fn reserve<P: Ptr, T, A: Allocator>(
+    arena: &mut SimpleOrdArena<P, T, A>,
+    n: usize,
+) -> Reply<P, T, A>
+    ensures { Reserves P.Inx.most arena.old n result arena.new }
+{
+    match arena.reallocate_min_capacity(n) {
+        Ok(()) => Reply::Done,
+        Err(ReallocationError::BeyondMaxCapacity) => {
+            Reply::Refused(OrdInsertionError::BeyondMaxCapacity)
+        }
+        Err(ReallocationError::AllocError) => Reply::Refused(OrdInsertionError::AllocError),
+    }
+}
+
+/// `Command::SetMax`
+pub fn set_max<P: Ptr, T, A: Allocator>(
+    arena: &mut SimpleOrdArena<P, T, A>,
+    n: usize,
+) -> Reply<P, T, A>
+    ensures { SetsMaximum arena.old n result arena.new }
+{
+    match arena.set_max_capacity(n) {
+        Ok(()) => Reply::Done,
+        Err(_) => Reply::ReductionRefused,
+    }
+}
+
 /// `Command::DrainOrdered`
 pub fn drain_ordered<P: Ptr, T: Drop, A: Allocator>(
     alloc: A,
     arena: &mut SimpleOrdArena<P, T, A>,
     num: usize,
 ) -> Reply<P, T, A>
-    ensures { Drains P.Gen.greatest (λ p. (P.index p, P.era p)) arena.old num result arena.new }
+    ensures { Drains P.Gen.greatest P.numbers arena.old num result arena.new }
 {
     match drained(alloc, arena, num) {
         Ok(entries) => Reply::Entries(entries),
@@ -330,7 +423,7 @@ fn entries<P: Ptr, T: Clone, A: Allocator>(
     arena: &SimpleOrdArena<P, T, A>,
 ) -> Result<Vec<(P, T), A>, AllocError>
     requires { (x y : T) → T.is_clone x y → y ≡ x }
-    ensures pairs { IfOk result (λ pairs. map (entry_of (λ p. (P.index p, P.era p)))
+    ensures pairs { IfOk result (λ pairs. map (entry_of P.numbers)
         pairs.items ≡ arena.now.list.entries) }
     ensures refused { OnErr result (0 < length arena.now.list.entries) }
 {
@@ -347,11 +440,11 @@ fn drained<P: Ptr, T: Drop, A: Allocator>(
     arena: &mut SimpleOrdArena<P, T, A>,
     num: usize,
 ) -> Result<Vec<(P, T), A>, AllocError>
-    ensures pairs { IfOk result (λ pairs. map (entry_of (λ p. (P.index p, P.era p)))
+    ensures pairs { IfOk result (λ pairs. map (entry_of P.numbers)
         pairs.items ≡ take num arena.old.list.entries) }
     ensures drained { OnOk result (arena.new ≡ record {
       list = cleared P.Gen.greatest
-          (without_each P.Gen.greatest arena.old.list (take num arena.old.list.entries));
+          (removed_each P.Gen.greatest arena.old.list (take num arena.old.list.entries));
       shape = missing;
     }) }
     ensures refused { OnErr result (0 < length (take num arena.old.list.entries)) }

@@ -1,4 +1,4 @@
-// Writes the lines that a script answers.
+//! Writes the lines that a script answers.
 ghost use Rattle.std.specs.Prelude.{◌≡◌, ◌++◌, [], ◌∷◌, IfOk, string_bytes, codes, flat_map, decimal};
 ghost use Rattle.ord_script.specs.Text.{Adds, reply_lines, reply_text, fault_line, insertion_text, place_text, similar_text, order_text, item_word, item_text, taken_text, pointer_text, overflow_text, valid_text, change_word, links_text, entries_word, entry_text, sorted_text, stats_text, refusal_text};
 ghost use Rattle.arena_base.specs.Invalidation.{is_overflow};
@@ -69,6 +69,8 @@ fn push_reply<A: Allocator>(
         Reply::Links(links) => push_links(text, *links),
         Reply::Entries(entries) => push_entries(text, entries_word(form), entries),
         Reply::Ranks(ranks) => push_ranks(text, ranks),
+        Reply::Done => text.push_str("ok\n"),
+        Reply::ReductionRefused => text.push_str("refused reduction\n"),
         Reply::Sorted(sorted) => push_sorted(text, *sorted),
         Reply::Stats(len, capacity, generation, maximum) => {
             push_stats(text, *len, *capacity, *generation, *maximum)

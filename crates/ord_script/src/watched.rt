@@ -1,4 +1,4 @@
-// Devices that remember whether they failed and whether they ended.
+//! Devices that remember whether they failed and whether they ended.
 ghost use Rattle.std.specs.Prelude.{◌≡◌, ◌||◌, false, is_err, length};
 ghost use Rattle.std.specs.Io.{ReadsAtMost, WritesAtMost};
 ghost use Rattle.std.specs.Io.KnownBytes.{Keeps, ReadConsumes, WriteAppends};

@@ -1,4 +1,4 @@
-// The words that begin a command.
+//! The words that begin a command.
 ghost use Rattle.std.specs.Prelude.{◌≡◌};
 ghost use Rattle.ord_script.specs.Commands.{word_text, all_words, word_in};
 
@@ -6,6 +6,14 @@ ghost use Rattle.ord_script.specs.Commands.{word_text, all_words, word_in};
 #[derive(Clone, Copy, Debug)]
 pub enum Word {
     Insert,
+    Within,
+    Empty,
+    Nonhereditary,
+    Linear,
+    NonhereditaryLinear,
+    Before,
+    At,
+    After,
     Set,
     Remove,
     RemoveInx,
@@ -26,13 +34,23 @@ pub enum Word {
     List,
     Ranks,
     Check,
+    Reserve,
+    SetMax,
     DrainOrdered,
     Stats,
 }
 
 /// All words.
-const WORDS: [Word; 23] = [
+const WORDS: [Word; 33] = [
     Word::Insert,
+    Word::Within,
+    Word::Empty,
+    Word::Nonhereditary,
+    Word::Linear,
+    Word::NonhereditaryLinear,
+    Word::Before,
+    Word::At,
+    Word::After,
     Word::Set,
     Word::Remove,
     Word::RemoveInx,
@@ -53,6 +71,8 @@ const WORDS: [Word; 23] = [
     Word::List,
     Word::Ranks,
     Word::Check,
+    Word::Reserve,
+    Word::SetMax,
     Word::DrainOrdered,
     Word::Stats,
 ];
@@ -64,6 +84,14 @@ impl Word {
     {
         match self {
             Word::Insert => "insert",
+            Word::Within => "within",
+            Word::Empty => "empty",
+            Word::Nonhereditary => "nonhereditary",
+            Word::Linear => "linear",
+            Word::NonhereditaryLinear => "nonhereditary-linear",
+            Word::Before => "before",
+            Word::At => "at",
+            Word::After => "after",
             Word::Set => "set",
             Word::Remove => "remove",
             Word::RemoveInx => "remove-index",
@@ -84,6 +112,8 @@ impl Word {
             Word::List => "list",
             Word::Ranks => "ranks",
             Word::Check => "check",
+            Word::Reserve => "reserve",
+            Word::SetMax => "max",
             Word::DrainOrdered => "drain",
             Word::Stats => "stats",
         }

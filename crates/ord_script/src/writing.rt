@@ -1,4 +1,4 @@
-// Writes a whole text, and tries nothing again.
+//! Writes a whole text, and tries nothing again.
 ghost use Rattle.std.specs.Prelude.{◌≡◌, ◌||◌, is_err};
 ghost use Rattle.ord_script.specs.Devices.{WritesAll};
 

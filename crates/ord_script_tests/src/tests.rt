@@ -1,4 +1,4 @@
-// Scripts through `serve`, and runs of commands, as a program sees them.
+//! Scripts through `serve`, and runs of commands, as a program sees them.
 mod devices;
 mod memory;
 mod runs;
@@ -7,7 +7,7 @@ use ord_script::{FaultKind, ScriptEnd, Watched, serve};
 use std::process::Abort;
 
 /// Scripts that are done, each with its answer.
-const ANSWERS: [(&[u8], &str); 35] = [
+const ANSWERS: [(&[u8], &str); 43] = [
     // the commands
     (
         b"insert 50 1\ninsert 30 2\nfind 30\nlist\n",
@@ -55,6 +55,40 @@ const ANSWERS: [(&[u8], &str); 35] = [
     (
         b"first\nlast\nget 1.2\nneighbours 1\nlist\nranks\nvisits 0\nfind 0\nstats\n",
         "none\nnone\nnone\nnone\nlist\nranks\nvisits 0\nnone\nlen 0 capacity 0 generation 2 max none\n",
+    ),
+    // insertions by kind
+    (
+        b"max 2\ninsert 1 10\ninsert 2 20\nwithin 1 11\nwithin 3 30\ninsert 3 30\nlist\nmax 1\n",
+        "ok\nnew 1.2\nnew 2.2\nreplaced 1.2 1:10\nrefused capacity\nrefused maximum\nlist 1.2=1:11 2.2=2:20\nrefused reduction\n",
+    ),
+    (
+        b"before 1 5 0\ninsert 1 0\ninsert 2 0\ninsert 3 0\nempty 4 0\nbefore 2 9 0\ncheck\nlist\nfind 9\nvisits 9\nranks\n",
+        "refused order\nnew 1.2\nnew 2.2\nnew 3.2\nrefused order\nnew 4.2\nincorrect ordering\nlist 1.2=1:0 4.2=9:0 2.2=2:0 3.2=3:0\nnone\nvisits 2\nranks 2 1 3 1\n",
+    ),
+    (
+        b"nonhereditary 5 1\nnonhereditary 5 2\nnonhereditary 5 3\nnonhereditary 5 4\nlist\nranks\n",
+        "new 1.2\nnew 2.2\nnew 3.2\nnew 4.2\nlist 2.2=5:2 4.2=5:4 3.2=5:3 1.2=5:1\nranks 2 1 3 1\n",
+    ),
+    (
+        b"insert 50 0\ninsert 30 0\ninsert 70 0\ninsert 60 0\ninsert 10 0\nlinear 5 1 20 7\nnonhereditary-linear 4 2 60 8\nlist\nranks\nat 9 1 1\nat 3 71 5\n",
+        "new 1.2\nnew 2.2\nnew 3.2\nnew 4.2\nnew 5.2\nnew 6.2\nnew 7.2\nlist 5.2=10:0 6.2=20:7 2.2=30:0 1.2=50:0 7.2=60:8 4.2=60:0 3.2=70:0\nranks 1 2 1 3 1 2 1\nrefused order\nreplaced 3.2 70:0\n",
+    ),
+    (
+        b"within 1 0\nempty 1 5\nempty 1 6\nlinear 1 9 1 7\nnonhereditary-linear 0 0 1 8\nafter 1 0 9\nbefore 0 0 0\nafter 2 0 0\nat 1 4 4\nlist\n",
+        "refused capacity\nnew 1.2\nrefused order\nreplaced 1.2 1:5\nnew 2.2\nnew 3.2\nrefused order\nnew 4.2\nreplaced 1.2 1:7\nlist 2.2=1:8 4.2=0:0 1.2=4:4 3.2=0:9\n",
+    ),
+    // the capacity
+    (
+        b"max 5\ninsert 1 0\ninsert 2 0\ninsert 3 0\ninsert 4 0\ninsert 5 0\ninsert 6 0\nstats\nreserve 6\nreserve 4294967295\n",
+        "ok\nnew 1.2\nnew 2.2\nnew 3.2\nnew 4.2\nnew 5.2\nrefused maximum\nlen 5 capacity 5 generation 2 max 5\nrefused maximum\nrefused maximum\n",
+    ),
+    (
+        b"reserve 3\nstats\nmax 2\nmax 3\ninsert 5 0\ninsert 6 0\nremove 1.2\nreserve 0\nstats\ninsert 7 0\nreserve 3\nstats\nlist\n",
+        "ok\nlen 0 capacity 3 generation 2 max none\nrefused reduction\nok\nnew 1.2\nnew 2.2\nremoved 5:0\nok\nlen 1 capacity 2 generation 3 max 3\nnew 1.3\nok\nlen 2 capacity 3 generation 3 max 3\nlist 2.2=6:0 1.3=7:0\n",
+    ),
+    (
+        b"max 18446744073709551615\nstats\nreserve 4294967295\nmax 0\ninsert 1 0\nreserve 18446744073709551615\n",
+        "ok\nlen 0 capacity 0 generation 2 max 18446744073709551615\nrefused maximum\nok\nrefused maximum\nrefused maximum\n",
     ),
     // searches from a hint
     (

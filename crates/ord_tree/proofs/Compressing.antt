@@ -2,7 +2,7 @@
 use Rattle.std.proofs.Common.{◌≡◌, ℕ, zero, suc, ◌+◌, Option, Some, None, List, [], ◌∷◌, map, length, refl, sym, ◌∙◌, ap, option_map, max, slice_index_or, nat_lt, if◌then◌else◌}
 use Rattle.std.proofs.lemmas.List.{length-map}
 use Rattle.chain_base.specs.Chain.{Entry, Chain, entry_at}
-use Rattle.chain_base.specs.Compression.{lesser, entry_before, rising_among, entries_rising, refilled, moved, compressed, at_place, relocated, numbered, canonical, replaced, left_empty, IsCompression, Transferring, IsTransfer}
+use Rattle.chain_base.specs.Compression.{lesser, entry_before, rising_among, entries_rising, refilled, moved, compressed, at_compressed_index, relocated, numbered, canonical, replaced, left_empty, IsCompression, Transferring, IsTransfer}
 use Rattle.arena_base.specs.declared.invalidation.InvalidationOption.{InvalidationOption}
 use Rattle.chain_base.proofs.CallerLemmas.{steps-retold}
 use Rattle.ord_tree.specs.MapNode.{MapsTaken}
@@ -53,14 +53,14 @@ module _ {P T I G : Type 0} where
   lesser-bare [] i = refl
   lesser-bare (e ∷ es) i = ap (λ n. (if nat_lt e.index i then 1 else 0) + n) (lesser-bare es i)
 
-  at_place-bare : (g : ℕ) (all es : List (Entry (SimpleOrdArenaNode P T I G))) → map bare_entry (map (at_place all g) es) ≡ map (at_place (map bare_entry all) g) (map bare_entry es)
-  at_place-bare g all [] = refl
-  at_place-bare g all (e ∷ es) =
-      rw (lesser-bare all e.index) (ap (λ rest. bare_entry (at_place all g e) ∷ rest) (at_place-bare g all es))
+  at_compressed_index-bare : (g : ℕ) (all es : List (Entry (SimpleOrdArenaNode P T I G))) → map bare_entry (map (at_compressed_index all g) es) ≡ map (at_compressed_index (map bare_entry all) g) (map bare_entry es)
+  at_compressed_index-bare g all [] = refl
+  at_compressed_index-bare g all (e ∷ es) =
+      rw (lesser-bare all e.index) (ap (λ rest. bare_entry (at_compressed_index all g e) ∷ rest) (at_compressed_index-bare g all es))
 
   pub bare-relocated : (c : Chain (SimpleOrdArenaNode P T I G)) (g : ℕ) → bare (relocated c g) ≡ relocated (bare c) g
   bare-relocated c g =
-      bare-refilled c g (map (at_place c.entries g) c.entries) ∙ ap (λ es. refilled (bare c) g es) (at_place-bare g c.entries c.entries)
+      bare-refilled c g (map (at_compressed_index c.entries g) c.entries) ∙ ap (λ es. refilled (bare c) g es) (at_compressed_index-bare g c.entries c.entries)
 
   item-at : (nodes : List (SimpleOrdArenaNode P T I G)) (k : ℕ) (n : SimpleOrdArenaNode P T I G) → slice_index_or (items_in nodes) k n.t ≡ (slice_index_or nodes k n).t
   item-at [] k n = refl
@@ -88,29 +88,29 @@ module _ {P T I G : Type 0} where
       rw (entry_at-bare es from, rising-bare es (from + 1) count) (before-bare from (entry_at es from) (rising_among es (from + 1) count))
 
   -- where the closure that was called on nodes calls f on their items
-  module _ {S F : Type 0} (index era : P → ℕ) (outer : S → P → SimpleOrdArenaNode P T I G → P → SimpleOrdArenaNode P T I G → S → Type 0) (step : F → P → T → P → T → F → Type 0) (inner : S → F)
+  module _ {S F : Type 0} (numbers : P → ℕ × ℕ) (outer : S → P → SimpleOrdArenaNode P T I G → P → SimpleOrdArenaNode P T I G → S → Type 0) (step : F → P → T → P → T → F → Type 0) (inner : S → F)
       (calls : (s : S) (p : P) (n : SimpleOrdArenaNode P T I G) (q : P) (m : SimpleOrdArenaNode P T I G) (t : S) → outer s p n q m t → step (inner s) p n.t q m.t (inner t)) where
-    pub IsCompression-bare : (g : ℕ) (s : S) (old new : Chain (SimpleOrdArenaNode P T I G)) → IsCompression index era outer g s old new → IsCompression index era step g (inner s) (bare old) (bare new)
+    pub IsCompression-bare : (g : ℕ) (s : S) (old new : Chain (SimpleOrdArenaNode P T I G)) → IsCompression numbers outer g s old new → IsCompression numbers step g (inner s) (bare old) (bare new)
     IsCompression-bare g s old new h = record {
       items = items_in h.items;
       last = inner h.last;
-      calls = rw (rising-bare old.entries 1 old.capacity) (calls-retold index era outer step g inner (λ n. n.t) calls (entries_rising old) s h.last [] h.items h.calls);
+      calls = rw (rising-bare old.entries 1 old.capacity) (calls-retold numbers outer step g inner (λ n. n.t) calls (entries_rising old) s h.last [] h.items h.calls);
       after = ap bare h.after ∙ bare-compressed old g h.items;
     }
 
 -- where the closure that was called on the source's nodes calls f on their items
-module _ {P T I G Q U J H S F : Type 0} (index_from era_from : Q → ℕ) (index_to era_to : P → ℕ) (greatest : Option ℕ)
+module _ {P T I G Q U J H S F : Type 0} (numbers_from : Q → ℕ × ℕ) (numbers_to : P → ℕ × ℕ) (greatest : Option ℕ)
     (outer : S → Q → InvalidationOption (SimpleOrdArenaNode Q U J H) → P → SimpleOrdArenaNode P T I G → S → Type 0) (step : F → Q → InvalidationOption U → P → T → F → Type 0) (inner : S → F)
     (calls : (s : S) (q : Q) (taken : InvalidationOption (SimpleOrdArenaNode Q U J H)) (p : P) (n : SimpleOrdArenaNode P T I G) (t : S) → outer s q taken p n t
     → MapsTaken step (inner s) q taken p n (inner t)) where
   pub IsTransfer-bare : (g : ℕ) (s : S) (source source_after : Chain (SimpleOrdArenaNode Q U J H)) (old new : Chain (SimpleOrdArenaNode P T I G))
-      → IsTransfer index_from era_from index_to era_to greatest outer g s source source_after old new → (after : Chain T) → after ≡ bare new
-      → IsTransfer index_from era_from index_to era_to greatest step g (inner s) (bare source) (bare source_after) (bare old) after
+      → IsTransfer numbers_from numbers_to greatest outer g s source source_after old new → (after : Chain T) → after ≡ bare new
+      → IsTransfer numbers_from numbers_to greatest step g (inner s) (bare source) (bare source_after) (bare old) after
   IsTransfer-bare g s source source_after old new h after is =
       let start : Transferring S (SimpleOrdArenaNode P T I G) = record { closure = s; items = []; generation = source.generation } in
       record {
         last = record { closure = inner h.last.closure; items = items_in h.last.items; generation = h.last.generation };
-        calls = steps-retold index_from era_from index_to era_to greatest outer step inner (λ n. n.t) (λ n. n.t)
+        calls = steps-retold numbers_from numbers_to greatest outer step inner (λ n. n.t) (λ n. n.t)
             (λ s q taken p n t called. let c = calls s q taken p n t called in (c.plain, c.item, c.overflow, c.called)) g source.entries start h.last h.calls;
         left = ap bare h.left ∙ bare-left_empty source h.last.generation;
         after = is ∙ ap bare h.after ∙ bare-replaced old g h.last.items;

@@ -2,22 +2,22 @@
 use Rattle.std.proofs.Common.{◌≡◌, ◌≢◌, ℕ, ◌+◌, ◌<◌, ◌≤◌, ◌^◌, Option, Some, None, List, [], ◌∷◌, ◌++◌, length, arith, refl, sym, ◌∙◌, ap, subst, inl, inr, ⊎_elim, option_map, is_some, true, append_assoc, length-append, MatchOption}
 use Rattle.std.specs.Option.{IfSome, option_to_list}
 use Rattle.std.proofs.lemmas.Bool.{cases_eq, cases_lt, eq-eqb, ne_eqb}
-use Rattle.ord_tree.specs.declared.links.Side.{Side}
-use Rattle.ord_tree.specs.declared.links.Side.TheVariants.{Lesser, Greater}
-use Rattle.ord_tree.specs.declared.links.Links.{Links}
-use Rattle.ord_tree.specs.declared.links.Place.{Place}
-use Rattle.ord_tree.specs.Links.{other_side, child_at, with_child_at}
+use Rattle.ord_tree.specs.declared.tree_links.Side.{Side}
+use Rattle.ord_tree.specs.declared.tree_links.Side.TheVariants.{Lesser, Greater}
+use Rattle.ord_tree.specs.declared.tree_links.TreeLinks.{TreeLinks}
+use Rattle.ord_tree.specs.declared.tree_links.Branch.{Branch}
+use Rattle.ord_tree.specs.TreeLinks.{other_side, child_at, with_child_at}
 use Rattle.ord_tree.specs.Shape.{Shape, missing, node, fork, rank_of, root_of, walk}
 use Rattle.ord_tree.specs.Slots.{Slots, Holds, Way, top, up, plug, above, HoldsWay, here, times, times_in, times_way, IsOnce, back_at, MovesBacks}
 use Rattle.ord_tree.specs.Balance.{IsOver, IsBalanced, IsBalancedWay}
-use Rattle.ord_tree.specs.Raise.{IsBuilt}
-use Rattle.ord_tree.specs.Sink.{IsFallen}
+use Rattle.ord_tree.specs.Promote.{IsBuilt}
+use Rattle.ord_tree.specs.Demote.{IsFallen}
 use Rattle.ord_tree.specs.Detach.{without, IsLoose}
 use Rattle.ord_tree.proofs.Forks.{Holds-fork, Holds-plug, link-root, fork_balanced, here-same, times-append, times-walk, times_in-plug, times_in-fork, rank-fork}
 use Rattle.ord_tree.proofs.Frames.{root-in, Holds-frame, HoldsWay-frame, Holds-rehung, HoldsWay-replaced}
 use Rattle.ord_tree.proofs.Rotations.{above-in, occupied-link, cases_link}
 use Rattle.ord_tree.proofs.Spots.{Spot, spot_in, plug_balanced, Around, around}
-use Rattle.ord_tree.proofs.Budding.{rootless}
+use Rattle.ord_tree.proofs.NewLeaf.{rootless}
 use Rattle.ord_tree.proofs.Doubles.{Among-root, length-root}
 
 -- lists without an index
@@ -85,18 +85,18 @@ module _ {old : Slots} {root : Option ℕ} {v : ℕ} {side : Side} {order : List
       let Q : ℕ → Type 0 = λ rank. IsBalancedWay 1 spot.way rank in
       (subst Q (rank-fork side missing spot.far v spot.rank ∙ bare_rank spot.rank (rank_of spot.far) fork.0) below.0, fork.2)
 
-  module _ (nv : Links ℕ) (e : old v ≡ Some nv) where
+  module _ (nv : TreeLinks ℕ) (e : old v ≡ Some nv) where
     nv_is : spot.links ≡ nv
     nv_is = let f = spot.at_y in cc
 
     back_is : nv.back ≡ above spot.way
-    back_is = ap (λ (n : Links ℕ). n.back) (sym nv_is) ∙ spot.holds.back
+    back_is = ap (λ (n : TreeLinks ℕ). n.back) (sym nv_is) ∙ spot.holds.back
 
     pub rest_root : child_at (other_side side) nv ≡ root_of spot.far
     rest_root = ap (child_at (other_side side)) (sym nv_is) ∙ link-root old (Some v) (child_at (other_side side) spot.links) spot.far spot.holds.far_held
 
     rest_held : Holds old (Some v) (child_at (other_side side) nv) spot.far
-    rest_held = let P : Links ℕ → Type 0 = λ n. Holds old (Some v) (child_at (other_side side) n) spot.far in subst P nv_is spot.holds.far_held
+    rest_held = let P : TreeLinks ℕ → Type 0 = λ n. Holds old (Some v) (child_at (other_side side) n) spot.far in subst P nv_is spot.holds.far_held
 
     pub rest_occupied : (i : ℕ) → child_at (other_side side) nv ≡ Some i → is_some (old i) ≡ true
     rest_occupied i link = occupied-link old (Some v) (child_at (other_side side) nv) spot.far i rest_held link
@@ -110,10 +110,10 @@ module _ {old : Slots} {root : Option ℕ} {v : ℕ} {side : Side} {order : List
 
     module _ (replaced new : Slots) (root' : Option ℕ)
         (at_top : nv.back ≡ None → root' ≡ child_at (other_side side) nv) (root_stays : (p : ℕ) → nv.back ≡ Some p → root' ≡ root)
-        (parent : (p : ℕ) (n : Links ℕ) (s : Side) → nv.back ≡ Some p → old p ≡ Some n → child_at s n ≡ Some v → child_at (other_side s) n ≢ Some v → replaced p ≡ Some (with_child_at s (child_at (other_side side) nv) n))
+        (parent : (p : ℕ) (n : TreeLinks ℕ) (s : Side) → nv.back ≡ Some p → old p ≡ Some n → child_at s n ≡ Some v → child_at (other_side s) n ≢ Some v → replaced p ≡ Some (with_child_at s (child_at (other_side side) nv) n))
         (but_parent : (j : ℕ) → nv.back ≢ Some j → replaced j ≡ old j)
         (backs : (j : ℕ) → back_at old j ≡ back_at replaced j)
-        (hung : (i : ℕ) (n : Links ℕ) → child_at (other_side side) nv ≡ Some i → replaced i ≡ Some n → new i ≡ Some (record n { back = nv.back }))
+        (hung : (i : ℕ) (n : TreeLinks ℕ) → child_at (other_side side) nv ≡ Some i → replaced i ≡ Some n → new i ≡ Some (record n { back = nv.back }))
         (but_hung : (j : ℕ) → child_at (other_side side) nv ≢ Some j → new j ≡ replaced j) where
       in_far : (j : ℕ) → child_at (other_side side) nv ≡ Some j → 0 < times_in j spot.far
       in_far j link = root-in spot.far j (sym rest_root ∙ link)
@@ -142,13 +142,13 @@ module _ {old : Slots} {root : Option ℕ} {v : ℕ} {side : Side} {order : List
         option_to_list (root_of spot.far) ++ [],
         omega (arith, length-append (option_to_list (root_of spot.far)) [], length-root (root_of spot.far)),
         λ j. ⊎_elim (λ link. inl (Among-root spot.far j [] (sym rest_root ∙ link)))
-            (λ other. inr (backs j ∙ ap (λ (o : Option (Links ℕ)). option_map (λ (n : Links ℕ). n.back) o) (sym (but_hung j other)))) (cases_link (child_at (other_side side) nv) j),
+            (λ other. inr (backs j ∙ ap (λ (o : Option (TreeLinks ℕ)). option_map (λ (n : TreeLinks ℕ). n.back) o) (sym (but_hung j other)))) (cases_link (child_at (other_side side) nv) j),
       )
 
-      pub cut_place : {I : Type 0} (number : I → ℕ) (result : Option (Place I)) → option_map (λ (p : Place I). number p.parent) result ≡ nv.back
-          → IfSome result (λ place. (p : Links ℕ) (s : Side) → old (number place.parent) ≡ Some p → child_at s p ≡ Some v → child_at (other_side s) p ≢ Some v → place.side ≡ s)
-          → MatchOption result (IsBuilt new root' (without v order) 1) (λ place. IsFallen new root' (number place.parent) place.side (without v order))
-      cut_place {I} number result b sides =
+      pub cut_branch : {I : Type 0} (number : I → ℕ) (result : Option (Branch I)) → option_map (λ (p : Branch I). number p.parent) result ≡ nv.back
+          → IfSome result (λ branch. (p : TreeLinks ℕ) (s : Side) → old (number branch.parent) ≡ Some p → child_at s p ≡ Some v → child_at (other_side s) p ≢ Some v → branch.side ≡ s)
+          → MatchOption result (IsBuilt new root' (without v order) 1) (λ branch. IsFallen new root' (number branch.parent) branch.side (without v order))
+      cut_branch {I} number result b sides =
           go spot.way spot.held_way way_held far_held listed_without parts.0 result (b ∙ back_is) sides (λ j. omega (arith, total j, loose.once j))
         where
           fewer : length (without v order) < 2 ^ 64
@@ -159,20 +159,20 @@ module _ {old : Slots} {root : Option ℕ} {v : ℕ} {side : Side} {order : List
 
           go : (w : Way) → HoldsWay old root w (Some v) → HoldsWay new root' w (child_at (other_side side) nv)
               → Holds new (above w) (child_at (other_side side) nv) spot.far → walk (plug w spot.far) ≡ without v order
-              → IsBalancedWay 1 w (rank_of spot.far + 1) → (result : Option (Place I)) → option_map (λ (p : Place I). number p.parent) result ≡ above w
-              → IfSome result (λ place. (p : Links ℕ) (s : Side) → old (number place.parent) ≡ Some p → child_at s p ≡ Some v → child_at (other_side s) p ≢ Some v → place.side ≡ s)
+              → IsBalancedWay 1 w (rank_of spot.far + 1) → (result : Option (Branch I)) → option_map (λ (p : Branch I). number p.parent) result ≡ above w
+              → IfSome result (λ branch. (p : TreeLinks ℕ) (s : Side) → old (number branch.parent) ≡ Some p → child_at s p ≡ Some v → child_at (other_side s) p ≢ Some v → branch.side ≡ s)
               → ((j : ℕ) → times_way j w + here j v ≤ 1)
-              → MatchOption result (IsBuilt new root' (without v order) 1) (λ place. IsFallen new root' (number place.parent) place.side (without v order))
+              → MatchOption result (IsBuilt new root' (without v order) 1) (λ branch. IsFallen new root' (number branch.parent) branch.side (without v order))
           go top was w h listed balanced None a sides alone =
               record { shape = spot.far; held = Holds-plug new root' top spot.far (child_at (other_side side) nv) w h; listed = listed; balanced = parts.1 }
-          go top was w h listed balanced (Some place) a sides alone = absurd cc
+          go top was w h listed balanced (Some branch) a sides alone = absurd cc
           go (up d i k far rest) was w h listed balanced None a sides alone = absurd cc
-          go (up d i k far rest) was w h listed balanced (Some place) a sides alone =
-              let same : number place.parent ≡ i = cc in
+          go (up d i k far rest) was w h listed balanced (Some branch) a sides alone =
+              let same : number branch.parent ≡ i = cc in
               let not_far : child_at (other_side d) was.0 ≢ Some v = λ f. let inside = root-in far v (sym (link-root old (Some i) (child_at (other_side d) was.0) far was.5) ∙ f) in omega (arith, alone v, here-same v) in
-              let d_is : place.side ≡ d = sides was.0 d (rw same was.1) was.4 not_far in
+              let d_is : branch.side ≡ d = sides was.0 d (rw same was.1) was.4 not_far in
               let P : Option ℕ → Type 0 = λ link. Holds new (Some i) link spot.far in
-              let Q : ℕ → Type 0 = λ p. IsFallen new root' p place.side (without v order) in
+              let Q : ℕ → Type 0 = λ p. IsFallen new root' p branch.side (without v order) in
               let R : Side → Type 0 = λ d. IsFallen new root' i d (without v order) in
               subst Q (sym same) (subst R (sym d_is) (record {
                 way = rest;

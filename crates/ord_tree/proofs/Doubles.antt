@@ -1,15 +1,15 @@
 -- Single and double rotations: their sites, what they keep, and how many parents they move.
 use Rattle.std.proofs.Common.{◌≡◌, ℕ, ◌<◌, ◌≤◌, Option, Some, None, List, [], ◌∷◌, ◌++◌, length, arith, refl, sym, ◌∙◌, ap, subst, inl, inr, ⊎_elim, is_some, true, length-append}
 use Rattle.std.specs.Option.{option_to_list}
-use Rattle.ord_tree.specs.declared.links.Side.{Side}
-use Rattle.ord_tree.specs.declared.links.Side.TheVariants.{Lesser, Greater}
-use Rattle.ord_tree.specs.declared.links.Links.{Links}
-use Rattle.ord_tree.specs.Links.{other_side, child_at}
+use Rattle.ord_tree.specs.declared.tree_links.Side.{Side}
+use Rattle.ord_tree.specs.declared.tree_links.Side.TheVariants.{Lesser, Greater}
+use Rattle.ord_tree.specs.declared.tree_links.TreeLinks.{TreeLinks}
+use Rattle.ord_tree.specs.TreeLinks.{other_side, child_at}
 use Rattle.ord_tree.specs.Shape.{Shape, missing, node, fork, rank_of, root_of, walk}
 use Rattle.ord_tree.specs.Slots.{Slots, Holds, up, plug, above, HoldsWay, times_in, IsApart, Among, rank_at, MovesBacks}
 use Rattle.ord_tree.specs.Balance.{IsOver, IsBalanced, IsBalancedWay}
 use Rattle.ord_tree.specs.Rotate.{Site, IsRotated}
-use Rattle.ord_tree.specs.Raise.{IsBuilt}
+use Rattle.ord_tree.specs.Promote.{IsBuilt}
 use Rattle.ord_tree.proofs.Rotations.{ForkAt-holds, fork_at_low}
 use Rattle.ord_tree.proofs.Forks.{fork-other, rank-fork, walk-rotated, walk-fork_near, walk-plug, HoldsFork, HoldsFork-holds, Holds-fork, link-root, Holds-plug, IsBalanced-fork, fork_balanced, IsBalanced-plug, times_in-fork}
 
@@ -53,19 +53,19 @@ length-root (Some i) = omega arith
 
 module _ {old : Slots} {old_root : Option ℕ} {side : Side} {z y : ℕ} (site : Site old old_root side z y) where
   -- what y holds
-  pub low_rank : (ny : Links ℕ) → old y ≡ Some ny → ny.rank ≡ site.low
+  pub low_rank : (ny : TreeLinks ℕ) → old y ≡ Some ny → ny.rank ≡ site.low
   low_rank ny e = (fork_at_low old old_root side z y site ny e).rank
 
-  pub outer_rank : (ny : Links ℕ) → old y ≡ Some ny → rank_at old (child_at side ny) ≡ rank_of site.outer
+  pub outer_rank : (ny : TreeLinks ℕ) → old y ≡ Some ny → rank_at old (child_at side ny) ≡ rank_of site.outer
   outer_rank ny e = rank_at-held old (Some y) (child_at side ny) site.outer (fork_at_low old old_root side z y site ny e).near_held
 
-  pub inner_rank : (ny : Links ℕ) → old y ≡ Some ny → rank_at old (child_at (other_side side) ny) ≡ rank_of site.inner
+  pub inner_rank : (ny : TreeLinks ℕ) → old y ≡ Some ny → rank_at old (child_at (other_side side) ny) ≡ rank_of site.inner
   inner_rank ny e = rank_at-held old (Some y) (child_at (other_side side) ny) site.inner (fork_at_low old old_root side z y site ny e).far_held
 
-  pub high_rank : (nz : Links ℕ) → old z ≡ Some nz → nz.rank ≡ site.high
+  pub high_rank : (nz : TreeLinks ℕ) → old z ≡ Some nz → nz.rank ≡ site.high
   high_rank nz e = (ForkAt-holds old (above site.way) (Some z) side (fork side site.outer y site.low site.inner) z site.high site.far nz e site.held).rank
 
-  pub inner_root : (ny : Links ℕ) → old y ≡ Some ny → child_at (other_side side) ny ≡ root_of site.inner
+  pub inner_root : (ny : TreeLinks ℕ) → old y ≡ Some ny → child_at (other_side side) ny ≡ root_of site.inner
   inner_root ny e = link-root old (Some y) (child_at (other_side side) ny) site.inner (fork_at_low old old_root side z y site ny e).far_held
 
   -- a single rotation moves three parents at most
@@ -99,7 +99,7 @@ module _ {old : Slots} {old_root : Option ℕ} {side : Side} {z y : ℕ} (site :
     abbrev pub middle : Forked (other_side side) site.inner x
     middle = fork_of (other_side side) site.inner x root_is
 
-    pub middle_rank : (ny nx : Links ℕ) → old y ≡ Some ny → old x ≡ Some nx → nx.rank ≡ middle.rank
+    pub middle_rank : (ny nx : TreeLinks ℕ) → old y ≡ Some ny → old x ≡ Some nx → nx.rank ≡ middle.rank
     middle_rank ny nx e d =
         let P : Shape → Type 0 = λ s. Holds old (Some y) (child_at (other_side side) ny) s in
         (ForkAt-holds old (Some y) (child_at (other_side side) ny) (other_side side) middle.near x middle.rank middle.far nx d (subst P middle.is (fork_at_low old old_root side z y site ny e).far_held)).rank

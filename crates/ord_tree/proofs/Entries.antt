@@ -3,23 +3,23 @@ use Rattle.std.proofs.Common.{◌≡◌, ◌≢◌, ℕ, Option, Some, List, [],
 use Rattle.std.proofs.lemmas.Bool.{cases_eq}
 use Rattle.std.proofs.lemmas.Bool.Decides.{eqb_tells}
 use Rattle.std.proofs.lemmas.Option.{same_Some}
-use Rattle.chain_base.specs.Chain.{Entry, Chain, entry_at, with_item, with_item_at}
-use Rattle.chain_base.proofs.CallerLemmas.{entry_at-with_item, entry_at-with_item_other}
+use Rattle.chain_base.specs.Chain.{Entry, Chain, entry_at, with_item_among, with_item as chain_with_item}
+use Rattle.chain_base.proofs.CallerLemmas.{entry_at-with_item_among, entry_at-with_item_among_other}
 use Rattle.ord_tree.specs.declared.node.SimpleOrdArenaNode.{SimpleOrdArenaNode}
-use Rattle.ord_tree.specs.declared.links.Links.{Links}
-use Rattle.ord_tree.specs.declared.links.Side.{Side}
-use Rattle.ord_tree.specs.declared.links.Side.TheVariants.{Lesser, Greater}
-use Rattle.ord_tree.specs.Links.{with_child_at}
+use Rattle.ord_tree.specs.declared.tree_links.TreeLinks.{TreeLinks}
+use Rattle.ord_tree.specs.declared.tree_links.Side.{Side}
+use Rattle.ord_tree.specs.declared.tree_links.Side.TheVariants.{Lesser, Greater}
+use Rattle.ord_tree.specs.TreeLinks.{with_child_at}
 use Rattle.ord_tree.specs.Node.{bare_entry, bare, links_in, slots_of}
 
 -- a write of a side keeps the parent
-pub back-with_child : {I : Type 0} (side : Side) (child : Option I) (l : Links I) → (with_child_at side child l).back ≡ l.back
+pub back-with_child : {I : Type 0} (side : Side) (child : Option I) (l : TreeLinks I) → (with_child_at side child l).back ≡ l.back
 back-with_child Lesser child l = refl
 back-with_child Greater child l = refl
 
 module _ {P T I G : Type 0} where
   pub bare-with_item : (es : List (Entry (SimpleOrdArenaNode P T I G))) (i : ℕ) (e : ℕ × SimpleOrdArenaNode P T I G) (x : SimpleOrdArenaNode P T I G)
-      → entry_at es i ≡ Some e → x.t ≡ e.1.t → map bare_entry (with_item es i x) ≡ map bare_entry es
+      → entry_at es i ≡ Some e → x.t ≡ e.1.t → map bare_entry (with_item_among es i x) ≡ map bare_entry es
   bare-with_item [] i e x h t = refl
   bare-with_item (a ∷ es) i e x h t = elim (eqb_tells a.index i) [
     | inl same ↦
@@ -31,26 +31,26 @@ module _ {P T I G : Type 0} where
 
   -- the same of a whole chain
   module _ (c : Chain (SimpleOrdArenaNode P T I G)) (i : ℕ) (e : ℕ × SimpleOrdArenaNode P T I G) (x : SimpleOrdArenaNode P T I G) (there : entry_at c.entries i ≡ Some e) where
-    pub slots_of-written : slots_of (with_item_at c i x) i ≡ Some (links_in x)
-    slots_of-written = ap (option_map (λ (e : ℕ × SimpleOrdArenaNode P T I G). links_in e.1)) (entry_at-with_item c.entries i x ∙ ap (option_map (λ d. (d.0, x))) there)
+    pub slots_of-written : slots_of (chain_with_item c i x) i ≡ Some (links_in x)
+    slots_of-written = ap (option_map (λ (e : ℕ × SimpleOrdArenaNode P T I G). links_in e.1)) (entry_at-with_item_among c.entries i x ∙ ap (option_map (λ d. (d.0, x))) there)
 
-    pub slots_of-linked : (n : Links ℕ) → x.p_back ≡ n.back → x.p_tree0 ≡ n.lesser → x.p_tree1 ≡ n.greater → x.rank ≡ n.rank → slots_of (with_item_at c i x) i ≡ Some n
+    pub slots_of-linked : (n : TreeLinks ℕ) → x.p_back ≡ n.back → x.p_tree0 ≡ n.lesser → x.p_tree1 ≡ n.greater → x.rank ≡ n.rank → slots_of (chain_with_item c i x) i ≡ Some n
     slots_of-linked n back lesser greater rank =
         let same : links_in x ≡ n = rw (back, lesser, greater, rank) refl in
         slots_of-written ∙ ap Some same
 
     -- links that are changed in part
-    pub slots_of-changed : (change : Links ℕ → Links ℕ) → links_in x ≡ change (links_in e.1) → (n : Links ℕ) → slots_of c i ≡ Some n → slots_of (with_item_at c i x) i ≡ Some (change n)
+    pub slots_of-changed : (change : TreeLinks ℕ → TreeLinks ℕ) → links_in x ≡ change (links_in e.1) → (n : TreeLinks ℕ) → slots_of c i ≡ Some n → slots_of (chain_with_item c i x) i ≡ Some (change n)
     slots_of-changed change made n is =
         let read : slots_of c i ≡ Some (links_in e.1) = ap (option_map (λ (e : ℕ × SimpleOrdArenaNode P T I G). links_in e.1)) there in
-        slots_of-written ∙ (ap (λ (m : Links ℕ). Some m) made ∙ ap (λ (m : Links ℕ). Some (change m)) (same_Some (links_in e.1) n (sym read ∙ is)))
+        slots_of-written ∙ (ap (λ (m : TreeLinks ℕ). Some m) made ∙ ap (λ (m : TreeLinks ℕ). Some (change m)) (same_Some (links_in e.1) n (sym read ∙ is)))
 
-    pub slots_of-elsewhere : (j : ℕ) → j ≢ i → slots_of (with_item_at c i x) j ≡ slots_of c j
-    slots_of-elsewhere j ne = ap (option_map (λ (e : ℕ × SimpleOrdArenaNode P T I G). links_in e.1)) (entry_at-with_item_other c.entries i j x ne)
+    pub slots_of-elsewhere : (j : ℕ) → j ≢ i → slots_of (chain_with_item c i x) j ≡ slots_of c j
+    slots_of-elsewhere j ne = ap (option_map (λ (e : ℕ × SimpleOrdArenaNode P T I G). links_in e.1)) (entry_at-with_item_among_other c.entries i j x ne)
 
-    pub slots_of-occupied : (j : ℕ) → is_some (slots_of (with_item_at c i x) j) ≡ is_some (slots_of c j)
+    pub slots_of-occupied : (j : ℕ) → is_some (slots_of (chain_with_item c i x) j) ≡ is_some (slots_of c j)
     slots_of-occupied j =
         ⊎_elim (λ (same : j ≡ i). rw (same, slots_of-written, there) refl) (λ (other : j ≢ i). ap is_some (slots_of-elsewhere j other)) (cases_eq j i)
 
-    pub bare-written : x.t ≡ e.1.t → bare (with_item_at c i x) ≡ bare c
+    pub bare-written : x.t ≡ e.1.t → bare (chain_with_item c i x) ≡ bare c
     bare-written t = ap (λ (es : List (Entry T)). record { entries = es; capacity = c.capacity; vacant = c.vacant; generation = c.generation; maximum = c.maximum }) (bare-with_item c.entries i e x there t)

@@ -1,10 +1,10 @@
 -- Forks told from a side, ways, and what nodes hold: facts that are the same for both mirror images.
 use Rattle.std.proofs.Common.{◌≡◌, ◌≢◌, ℕ, ◌+◌, ◌<◌, Option, Some, None, List, [], ◌∷◌, ◌++◌, arith, refl, sym, ◌∙◌, ap, subst, append_assoc}
 use Rattle.std.proofs.lemmas.Bool.{eq-eqb, ne_eqb}
-use Rattle.ord_tree.specs.declared.links.Side.{Side}
-use Rattle.ord_tree.specs.declared.links.Side.TheVariants.{Lesser, Greater}
-use Rattle.ord_tree.specs.declared.links.Links.{Links}
-use Rattle.ord_tree.specs.Links.{other_side, child_at, with_child_at}
+use Rattle.ord_tree.specs.declared.tree_links.Side.{Side}
+use Rattle.ord_tree.specs.declared.tree_links.Side.TheVariants.{Lesser, Greater}
+use Rattle.ord_tree.specs.declared.tree_links.TreeLinks.{TreeLinks}
+use Rattle.ord_tree.specs.TreeLinks.{other_side, child_at, with_child_at}
 use Rattle.ord_tree.specs.Shape.{Shape, missing, node, fork, rank_of, root_of, size_of, walk}
 use Rattle.ord_tree.specs.Slots.{Slots, Holds, Way, top, up, plug, above, HoldsWay, here, times, times_in, times_way, IsOnce, IsApart}
 use Rattle.ord_tree.specs.Balance.{IsOver, IsBalanced, IsBalancedWay}
@@ -18,27 +18,27 @@ pub fork-other : (side : Side) (near far : Shape) (i k : ℕ) → fork (other_si
 fork-other Lesser near far i k = refl
 fork-other Greater near far i k = refl
 
-pub child-with_child : (side : Side) (child : Option ℕ) (n : Links ℕ) → child_at side (with_child_at side child n) ≡ child
+pub child-with_child : (side : Side) (child : Option ℕ) (n : TreeLinks ℕ) → child_at side (with_child_at side child n) ≡ child
 child-with_child Lesser child n = refl
 child-with_child Greater child n = refl
 
-pub other_child-with_child : (side : Side) (child : Option ℕ) (n : Links ℕ) → child_at (other_side side) (with_child_at side child n) ≡ child_at (other_side side) n
+pub other_child-with_child : (side : Side) (child : Option ℕ) (n : TreeLinks ℕ) → child_at (other_side side) (with_child_at side child n) ≡ child_at (other_side side) n
 other_child-with_child Lesser child n = refl
 other_child-with_child Greater child n = refl
 
-pub child-with_other : (side : Side) (child : Option ℕ) (n : Links ℕ) → child_at side (with_child_at (other_side side) child n) ≡ child_at side n
+pub child-with_other : (side : Side) (child : Option ℕ) (n : TreeLinks ℕ) → child_at side (with_child_at (other_side side) child n) ≡ child_at side n
 child-with_other Lesser child n = refl
 child-with_other Greater child n = refl
 
-pub other_child-with_other : (side : Side) (child : Option ℕ) (n : Links ℕ) → child_at (other_side side) (with_child_at (other_side side) child n) ≡ child
+pub other_child-with_other : (side : Side) (child : Option ℕ) (n : TreeLinks ℕ) → child_at (other_side side) (with_child_at (other_side side) child n) ≡ child
 other_child-with_other Lesser child n = refl
 other_child-with_other Greater child n = refl
 
-pub back-with_child : (side : Side) (child : Option ℕ) (n : Links ℕ) → (with_child_at side child n).back ≡ n.back
+pub back-with_child : (side : Side) (child : Option ℕ) (n : TreeLinks ℕ) → (with_child_at side child n).back ≡ n.back
 back-with_child Lesser child n = refl
 back-with_child Greater child n = refl
 
-pub rank-with_child : (side : Side) (child : Option ℕ) (n : Links ℕ) → (with_child_at side child n).rank ≡ n.rank
+pub rank-with_child : (side : Side) (child : Option ℕ) (n : TreeLinks ℕ) → (with_child_at side child n).rank ≡ n.rank
 rank-with_child Lesser child n = refl
 rank-with_child Greater child n = refl
 
@@ -72,7 +72,7 @@ walk-plug (up side i k far rest) s t e = walk-plug rest (fork side s i k far) (f
 -- what nodes hold, told from a side
 abbrev pub HoldsFork : Slots → Option ℕ → Option ℕ → Side → Shape → ℕ → ℕ → Shape → Type 0
 HoldsFork at over link side near i k far =
-    (n : Links ℕ) × (link ≡ Some i) × (at i ≡ Some n) × (n.back ≡ over) × (n.rank ≡ k)
+    (n : TreeLinks ℕ) × (link ≡ Some i) × (at i ≡ Some n) × (n.back ≡ over) × (n.rank ≡ k)
     × Holds at (Some i) (child_at side n) near × Holds at (Some i) (child_at (other_side side) n) far
 
 pub HoldsFork-holds : (at : Slots) (over link : Option ℕ) (side : Side) (near far : Shape) (i k : ℕ) → Holds at over link (fork side near i k far) → HoldsFork at over link side near i k far

@@ -1,10 +1,10 @@
 -- What nodes hold stays where no write touches them, and what a write of one link makes of it.
 use Rattle.std.proofs.Common.{◌≡◌, ◌≢◌, ℕ, ◌<◌, ◌≤◌, Option, Some, None, arith, refl, sym, ◌∙◌, ap, subst, ⊎_elim, option_map}
 use Rattle.std.proofs.lemmas.Bool.{cases_eq}
-use Rattle.ord_tree.specs.declared.links.Side.{Side}
-use Rattle.ord_tree.specs.declared.links.Side.TheVariants.{Lesser, Greater}
-use Rattle.ord_tree.specs.declared.links.Links.{Links}
-use Rattle.ord_tree.specs.Links.{other_side, child_at, with_child_at}
+use Rattle.ord_tree.specs.declared.tree_links.Side.{Side}
+use Rattle.ord_tree.specs.declared.tree_links.Side.TheVariants.{Lesser, Greater}
+use Rattle.ord_tree.specs.declared.tree_links.TreeLinks.{TreeLinks}
+use Rattle.ord_tree.specs.TreeLinks.{other_side, child_at, with_child_at}
 use Rattle.ord_tree.specs.Shape.{Shape, missing, node, fork, root_of}
 use Rattle.ord_tree.specs.Slots.{Slots, Holds, Way, top, up, above, HoldsWay, times_in, times_way, back_at}
 use Rattle.ord_tree.proofs.Forks.{HoldsFork-holds, Holds-fork, here-same, apart-from, link-root, child-with_child, other_child-with_child, back-with_child, rank-with_child}
@@ -44,7 +44,7 @@ module _ (old new : Slots) where
 
   -- the root of a shape gets another parent
   pub Holds-rehung : (s : Shape) (over over' link : Option ℕ)
-      → ((j : ℕ) (n : Links ℕ) → link ≡ Some j → old j ≡ Some n → new j ≡ Some (record n { back = over' }))
+      → ((j : ℕ) (n : TreeLinks ℕ) → link ≡ Some j → old j ≡ Some n → new j ≡ Some (record n { back = over' }))
       → ((j : ℕ) → link ≢ Some j → 0 < times_in j s → new j ≡ old j)
       → ((j : ℕ) → times_in j s ≤ 1) → Holds old over link s → Holds new over' link s
   Holds-rehung missing over over' link written same once h = h
@@ -65,7 +65,7 @@ module _ (old new : Slots) where
   pub HoldsWay-replaced : (way : Way) (root root' link' : Option ℕ) (y : ℕ)
       → (above way ≡ None → root' ≡ link')
       → ((p : ℕ) → above way ≡ Some p → root' ≡ root)
-      → ((p : ℕ) (n : Links ℕ) (side : Side) → above way ≡ Some p → old p ≡ Some n → child_at side n ≡ Some y → child_at (other_side side) n ≢ Some y → new p ≡ Some (with_child_at side link' n))
+      → ((p : ℕ) (n : TreeLinks ℕ) (side : Side) → above way ≡ Some p → old p ≡ Some n → child_at side n ≡ Some y → child_at (other_side side) n ≢ Some y → new p ≡ Some (with_child_at side link' n))
       → ((j : ℕ) → above way ≢ Some j → new j ≡ old j)
       → ((j : ℕ) → times_way j way ≤ 1) → times_way y way ≡ 0 → HoldsWay old root way (Some y) → HoldsWay new root' way link'
   HoldsWay-replaced top root root' link' y at_top below written same once absent h = at_top refl
@@ -86,13 +86,13 @@ module _ (old new : Slots) where
         (let P : Option ℕ → Type 0 = λ r. HoldsWay new r rest (Some i) in subst P (sym root_is) rest_held),
       )
 
-child-ranked : (side : Side) (rank : ℕ) (n : Links ℕ) → child_at side (record n { rank = rank }) ≡ child_at side n
+child-ranked : (side : Side) (rank : ℕ) (n : TreeLinks ℕ) → child_at side (record n { rank = rank }) ≡ child_at side n
 child-ranked Lesser rank n = refl
 child-ranked Greater rank n = refl
 
 -- the root of a shape gets another rank
 pub Holds-reranked : (old new : Slots) (over link : Option ℕ) (side : Side) (near far : Shape) (i k rank : ℕ)
-    → ((n : Links ℕ) → old i ≡ Some n → new i ≡ Some (record n { rank = rank })) → ((j : ℕ) → j ≢ i → new j ≡ old j)
+    → ((n : TreeLinks ℕ) → old i ≡ Some n → new i ≡ Some (record n { rank = rank })) → ((j : ℕ) → j ≢ i → new j ≡ old j)
     → times_in i near ≡ 0 → times_in i far ≡ 0 → Holds old over link (fork side near i k far) → Holds new over link (fork side near i rank far)
 Holds-reranked old new over link side near far i k rank written elsewhere not_near not_far h =
     let f = HoldsFork-holds old over link side near far i k h in
@@ -109,9 +109,9 @@ Holds-reranked old new over link side near far i k rank written elsewhere not_ne
     )
 
 -- a write of a rank moves no parent
-pub backs-ranked : (old new : Slots) (i rank : ℕ) (n : Links ℕ) → old i ≡ Some n
-    → ((n : Links ℕ) → old i ≡ Some n → new i ≡ Some (record n { rank = rank })) → ((j : ℕ) → j ≢ i → new j ≡ old j) → (j : ℕ)
+pub backs-ranked : (old new : Slots) (i rank : ℕ) (n : TreeLinks ℕ) → old i ≡ Some n
+    → ((n : TreeLinks ℕ) → old i ≡ Some n → new i ≡ Some (record n { rank = rank })) → ((j : ℕ) → j ≢ i → new j ≡ old j) → (j : ℕ)
     → back_at old j ≡ back_at new j
 backs-ranked old new i rank n e written elsewhere j =
     ⊎_elim (λ (same : j ≡ i). rw (same, e, written n e) refl)
-    (λ other. ap (λ (o : Option (Links ℕ)). option_map (λ (n : Links ℕ). n.back) o) (sym (elsewhere j other))) (cases_eq j i)
+    (λ other. ap (λ (o : Option (TreeLinks ℕ)). option_map (λ (n : TreeLinks ℕ). n.back) o) (sym (elsewhere j other))) (cases_eq j i)

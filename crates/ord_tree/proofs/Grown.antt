@@ -7,25 +7,25 @@ use Rattle.std.specs.declared.cmp.Ordering.TheVariants.{Less, Equal, Greater}
 use Rattle.chain_base.specs.Chain.{Entry, Chain, entry_at, times as entry_times, IsFresh, IsSound, IsDistinct, inserted}
 use Rattle.chain_base.specs.Insert.{placed, CanPlace, IsInsertion}
 use Rattle.chain_base.specs.declared.chain.insert.LinkInsertKind.{LinkInsertKind}
-use Rattle.ord_tree.specs.declared.links.Place.{Place}
+use Rattle.ord_tree.specs.declared.tree_links.Branch.{Branch}
 use Rattle.ord_tree.specs.declared.node.SimpleOrdArenaNode.{SimpleOrdArenaNode}
 use Rattle.ord_tree.specs.Shape.{Shape, missing, node, walk}
 use Rattle.ord_tree.specs.Ranks.{IsRanked}
 use Rattle.ord_tree.specs.Slots.{Holds, times, IsOnce, shape_under}
 use Rattle.ord_tree.specs.Balance.{IsBalanced}
-use Rattle.ord_tree.specs.Raise.{IsRepaired}
-use Rattle.ord_tree.specs.Bud.{beside, leaf_links, IsBudding}
+use Rattle.ord_tree.specs.Promote.{IsRepaired}
+use Rattle.ord_tree.specs.Leaf.{beside, leaf_links, IsNewLeaf}
 use Rattle.ord_tree.specs.Node.{bare_entry, bare, links_in, slots_of, indexes}
 use Rattle.ord_tree.specs.Tree.{put_on, put_at, CanPutAt, IsGrown}
 use Rattle.ord_tree.specs.Layout.{shape_in, IsLaidOut}
-use Rattle.ord_tree.specs.Plant.{side_at, kind_on, kind_at, IsBud, IsBudAt}
+use Rattle.ord_tree.specs.LeafBranch.{side_at, kind_on, kind_at, IsLeafBranch, IsLeafBranchAt}
 use Rattle.arena_base.proofs.CallerLemmas.{limit_of-below}
 use Rattle.ord_tree.proofs.Slack.{IsRanked-balanced, IsBalanced-ranked, IsTight-balanced, IsBalanced-tight}
 use Rattle.ord_tree.proofs.Forks.{times-walk, apart-from}
 use Rattle.ord_tree.proofs.Frames.{Holds-frame}
 use Rattle.ord_tree.proofs.Views.{MovesAtMost-backs}
 use Rattle.ord_tree.proofs.Trees.{times-bare, indexes-bare, vacant_among-bare, shape_in-held, is_some-bare}
-use Rattle.ord_tree.proofs.Planting.{times-indexes, IsOnce-distinct, within-occupied}
+use Rattle.ord_tree.proofs.LeafBranches.{times-indexes, IsOnce-distinct, within-occupied}
 use Rattle.ord_tree.proofs.Spots.{times-beside-ge, length-beside_in}
 use Rattle.ord_tree.proofs.Puts.{put-same, put-other, put-indexes, put-bare}
 
@@ -145,21 +145,21 @@ module _ {P T I G : Type 0} (number : I → ℕ) (c d : Chain (SimpleOrdArenaNod
       Holds-frame (slots_of c) (slots_of d) before None root
       (λ j inside. slots_other j (apart-from x j (λ j. times j order) fresh (omega (arith, inside, times-walk j before, ap (times j) laid.listed)))) laid.held
 
-  pub budding : (slack : ℕ) (place : Place I) → IsBalanced slack before → IsBud number (number at.0) (side_at at.1) (slots_of c) order place → links_in leaf ≡ leaf_links (Some (number place.parent))
-      → IsBudding (slots_of d) root place.side (number place.parent) x order slack
-  budding slack place balanced bud leaf_is = record {
+  pub new_leaf : (slack : ℕ) (branch : Branch I) → IsBalanced slack before → IsLeafBranch number (number at.0) (side_at at.1) (slots_of c) order branch → links_in leaf ≡ leaf_links (Some (number branch.parent))
+      → IsNewLeaf (slots_of d) root branch.side (number branch.parent) x order slack
+  new_leaf slack branch balanced bud leaf_is = record {
     built = record { shape = before; held = held_d; listed = laid.listed; balanced = balanced };
     within = bud.within;
-    bare = λ n e. bud.bare n (sym (slots_other (number place.parent) (apart-from x (number place.parent) (λ j. times j order) fresh bud.within)) ∙ e);
+    bare = λ n e. bud.bare n (sym (slots_other (number branch.parent) (apart-from x (number branch.parent) (λ j. times j order) fresh bud.within)) ∙ e);
     leaf = slots_x ∙ ap Some leaf_is;
     fresh = fresh;
     once = once;
     few = few;
   }
 
-  module _ (new : Chain (SimpleOrdArenaNode P T I G)) (root' : Option ℕ) (place : Place I) (bud : IsBud number (number at.0) (side_at at.1) (slots_of c) order place) (kept : bare new ≡ bare d)
-      (repaired : (slack : ℕ) → IsBalanced slack before → IsRepaired (slots_of d) (slots_of new) root' (beside place.side (number place.parent) x order) slack) where
-    listed_new : beside place.side (number place.parent) x order ≡ indexes new.entries
+  module _ (new : Chain (SimpleOrdArenaNode P T I G)) (root' : Option ℕ) (branch : Branch I) (bud : IsLeafBranch number (number at.0) (side_at at.1) (slots_of c) order branch) (kept : bare new ≡ bare d)
+      (repaired : (slack : ℕ) → IsBalanced slack before → IsRepaired (slots_of d) (slots_of new) root' (beside branch.side (number branch.parent) x order) slack) where
+    listed_new : beside branch.side (number branch.parent) x order ≡ indexes new.entries
     listed_new = bud.put x ∙ sym order_is ∙ sym (indexes-bare d.entries) ∙ ap (λ (c : Chain T). indexes c.entries) (sym kept) ∙ indexes-bare new.entries
 
     shape_is : (slack : ℕ) (balanced : IsBalanced slack before) → shape_in new root' ≡ (repaired slack balanced).built.shape
@@ -220,22 +220,22 @@ module _ {P T I G : Type 0} (c d : Chain (SimpleOrdArenaNode P T I G)) (root : O
 module _ {P T I G : Type 0} (number : I → ℕ) (c d : Chain (SimpleOrdArenaNode P T I G)) (root : Option ℕ) (x g : ℕ) (leaf : SimpleOrdArenaNode P T I G)
     (laid : IsLaidOut c root (shape_in c root)) (free : entry_times x c.entries ≡ 0)
     (most : ℕ) (greatest : Option ℕ) (sound : IsSound most greatest d) (fits : most + 1 < 2 ^ 64) where
-  pub grow_allowed : (at : Option (I × Ordering)) (place : Option (Place I)) → CanPutAt number at c
-      → ((root : Option ℕ) (s : Shape) → IsLaidOut c root s → IsDistinct c.entries → IsBudAt number at (slots_of c) (indexes c.entries) place)
-      → d.entries ≡ put_at number at c.entries (record { index = x; generation = g; item = leaf }) → links_in leaf ≡ leaf_links (option_map (λ (p : Place I). number p.parent) place)
-      → MatchOption place (Unit {0}) (λ p. (order : List ℕ) × (slack : ℕ) × IsBudding (slots_of d) root p.side (number p.parent) x order slack)
+  pub grow_allowed : (at : Option (I × Ordering)) (branch : Option (Branch I)) → CanPutAt number at c
+      → ((root : Option ℕ) (s : Shape) → IsLaidOut c root s → IsDistinct c.entries → IsLeafBranchAt number at (slots_of c) (indexes c.entries) branch)
+      → d.entries ≡ put_at number at c.entries (record { index = x; generation = g; item = leaf }) → links_in leaf ≡ leaf_links (option_map (λ (p : Branch I). number p.parent) branch)
+      → MatchOption branch (Unit {0}) (λ p. (order : List ℕ) × (slack : ℕ) × IsNewLeaf (slots_of d) root p.side (number p.parent) x order slack)
   grow_allowed at None can bud entries leaf_is = tt
-  grow_allowed None (Some place) can bud entries leaf_is = absurd (let none = bud root (shape_in c root) laid (λ i. let e = ap (entry_times i) can in omega arith) in cc)
-  grow_allowed (Some at) (Some place) can bud entries leaf_is =
+  grow_allowed None (Some branch) can bud entries leaf_is = absurd (let none = bud root (shape_in c root) laid (λ i. let e = ap (entry_times i) can in omega arith) in cc)
+  grow_allowed (Some at) (Some branch) can bud entries leaf_is =
       let apart = distinct number c d root at x g leaf laid can.0 free entries most greatest sound fits in
-      (indexes c.entries, 1, budding number c d root at x g leaf laid can.0 free entries most greatest sound fits 1 place (IsBalanced-ranked (shape_in c root) laid.ranked) (bud root (shape_in c root) laid apart) leaf_is)
+      (indexes c.entries, 1, new_leaf number c d root at x g leaf laid can.0 free entries most greatest sound fits 1 branch (IsBalanced-ranked (shape_in c root) laid.ranked) (bud root (shape_in c root) laid apart) leaf_is)
 
-  pub grown_whole : (at : Option (I × Ordering)) (place : Option (Place I)) → CanPutAt number at c
-      → ((root : Option ℕ) (s : Shape) → IsLaidOut c root s → IsDistinct c.entries → IsBudAt number at (slots_of c) (indexes c.entries) place)
-      → d.entries ≡ put_at number at c.entries (record { index = x; generation = g; item = leaf }) → links_in leaf ≡ leaf_links (option_map (λ (p : Place I). number p.parent) place)
+  pub grown_whole : (at : Option (I × Ordering)) (branch : Option (Branch I)) → CanPutAt number at c
+      → ((root : Option ℕ) (s : Shape) → IsLaidOut c root s → IsDistinct c.entries → IsLeafBranchAt number at (slots_of c) (indexes c.entries) branch)
+      → d.entries ≡ put_at number at c.entries (record { index = x; generation = g; item = leaf }) → links_in leaf ≡ leaf_links (option_map (λ (p : Branch I). number p.parent) branch)
       → (new : Chain (SimpleOrdArenaNode P T I G)) (root' : Option I) (y : I) → number y ≡ x → bare new ≡ bare d
-      → MatchOption place ((new ≡ d) × (root' ≡ Some y))
-      (λ p. (order : List ℕ) (slack : ℕ) → IsBudding (slots_of d) root p.side (number p.parent) x order slack → IsRepaired (slots_of d) (slots_of new) (option_map number root') (beside p.side (number p.parent) x order) slack)
+      → MatchOption branch ((new ≡ d) × (root' ≡ Some y))
+      (λ p. (order : List ℕ) (slack : ℕ) → IsNewLeaf (slots_of d) root p.side (number p.parent) x order slack → IsRepaired (slots_of d) (slots_of new) (option_map number root') (beside p.side (number p.parent) x order) slack)
       → IsLaidOut new (option_map number root') (shape_in new (option_map number root')) × IsGrown (shape_in c root) (shape_in new (option_map number root'))
   grown_whole None None can bud entries leaf_is new root' y y_is kept same =
       let e : List (Entry (SimpleOrdArenaNode P T I G)) = record { index = x; generation = g; item = leaf } ∷ [] in
@@ -246,13 +246,13 @@ module _ {P T I G : Type 0} (number : I → ℕ) (c d : Chain (SimpleOrdArenaNod
       subst R (sym named) (subst N (sym same.0) (IsLaidOut-alone c d root x g leaf can alone leaf_is, IsGrown-alone c d root x g leaf can alone leaf_is))
   grown_whole (Some at) None can bud entries leaf_is new root' y y_is kept same =
       absurd (elim (bud root (shape_in c root) laid (distinct number c d root at x g leaf laid can.0 free entries most greatest sound fits)) [ ])
-  grown_whole None (Some place) can bud entries leaf_is new root' y y_is kept repaired = absurd (let none = bud root (shape_in c root) laid (λ i. let e = ap (entry_times i) can in omega arith) in cc)
-  grown_whole (Some at) (Some place) can bud entries leaf_is new root' y y_is kept repaired =
+  grown_whole None (Some branch) can bud entries leaf_is new root' y y_is kept repaired = absurd (let none = bud root (shape_in c root) laid (λ i. let e = ap (entry_times i) can in omega arith) in cc)
+  grown_whole (Some at) (Some branch) can bud entries leaf_is new root' y y_is kept repaired =
       let here = bud root (shape_in c root) laid (distinct number c d root at x g leaf laid can.0 free entries most greatest sound fits) in
-      let again : (slack : ℕ) → IsBalanced slack (shape_in c root) → IsRepaired (slots_of d) (slots_of new) (option_map number root') (beside place.side (number place.parent) x (indexes c.entries)) slack
-      = λ slack balanced. repaired (indexes c.entries) slack (budding number c d root at x g leaf laid can.0 free entries most greatest sound fits slack place balanced here leaf_is) in (
-        IsLaidOut-planted number c d root at x g leaf laid can.0 free entries most greatest sound fits new (option_map number root') place here kept again,
-        IsGrown-planted number c d root at x g leaf laid can.0 free entries most greatest sound fits new (option_map number root') place here kept again,
+      let again : (slack : ℕ) → IsBalanced slack (shape_in c root) → IsRepaired (slots_of d) (slots_of new) (option_map number root') (beside branch.side (number branch.parent) x (indexes c.entries)) slack
+      = λ slack balanced. repaired (indexes c.entries) slack (new_leaf number c d root at x g leaf laid can.0 free entries most greatest sound fits slack branch balanced here leaf_is) in (
+        IsLaidOut-planted number c d root at x g leaf laid can.0 free entries most greatest sound fits new (option_map number root') branch here kept again,
+        IsGrown-planted number c d root at x g leaf laid can.0 free entries most greatest sound fits new (option_map number root') branch here kept again,
       )
 
 -- small steps of an insertion's call
@@ -270,17 +270,17 @@ put_at-bare : {P T I G : Type 0} (number : I → ℕ) (at : Option (I × Orderin
 put_at-bare number None es e = refl
 put_at-bare number (Some at) es e = put-bare at.1 es (number at.0) e
 
-mapped-twice : {I : Type 0} (number : I → ℕ) (place : Option (Place I)) → option_map number (option_map (λ (p : Place I). p.parent) place) ≡ option_map (λ (p : Place I). number p.parent) place
+mapped-twice : {I : Type 0} (number : I → ℕ) (branch : Option (Branch I)) → option_map number (option_map (λ (p : Branch I). p.parent) branch) ≡ option_map (λ (p : Branch I). number p.parent) branch
 mapped-twice number None = refl
 mapped-twice number (Some p) = refl
 
 -- the call of an insertion, from what its steps ensure
-module _ {P T I G : Type 0} (number : I → ℕ) (c : Chain (SimpleOrdArenaNode P T I G)) (root : Option ℕ) (at : Option (I × Ordering)) (place : Option (Place I))
+module _ {P T I G : Type 0} (number : I → ℕ) (c : Chain (SimpleOrdArenaNode P T I G)) (root : Option ℕ) (at : Option (I × Ordering)) (branch : Option (Branch I))
     {d : Chain (SimpleOrdArenaNode P T I G)} {kind : LinkInsertKind P I G}
     {back : Option I} {t : T} {leaf : SimpleOrdArenaNode P T I G} {index era : ℕ} {x : I}
     (laid : IsLaidOut c root (shape_in c root)) (can : CanPutAt number at c)
-    (place_is : (root : Option ℕ) (s : Shape) → IsLaidOut c root s → IsDistinct c.entries → IsBudAt number at (slots_of c) (indexes c.entries) place)
-    (back_is : back ≡ option_map (λ (p : Place I). p.parent) place)
+    (branch_is : (root : Option ℕ) (s : Shape) → IsLaidOut c root s → IsDistinct c.entries → IsLeafBranchAt number at (slots_of c) (indexes c.entries) branch)
+    (back_is : back ≡ option_map (λ (p : Branch I). p.parent) branch)
     (leaf_is : leaf ≡ record { p_tree0 = None; p_tree1 = None; t = t; p_back = option_map number back; rank = 1 }) (kind_is : kind ≡ kind_at at)
     (insertion : IsInsertion c d (placed number kind c.entries) leaf index era) (x_is : number x ≡ index)
     (most : ℕ) (greatest : Option ℕ) (sound : IsSound most greatest d) (fits : most + 1 < 2 ^ 64) where
@@ -292,21 +292,21 @@ module _ {P T I G : Type 0} (number : I → ℕ) (c : Chain (SimpleOrdArenaNode 
       inserted-entries c d (placed number kind c.entries) leaf index era insertion ∙ put_is (record { index = index; generation = era; item = leaf })
       ∙ ap (λ (i : ℕ). put_at number at c.entries (record { index = i; generation = era; item = leaf })) (sym x_is)
 
-  links_are : links_in leaf ≡ leaf_links (option_map (λ (p : Place I). number p.parent) place)
-  links_are = ap (links_in) leaf_is ∙ ap (λ (b : Option I). leaf_links (option_map number b)) back_is ∙ ap leaf_links (mapped-twice number place)
+  links_are : links_in leaf ≡ leaf_links (option_map (λ (p : Branch I). number p.parent) branch)
+  links_are = ap (links_in) leaf_is ∙ ap (λ (b : Option I). leaf_links (option_map number b)) back_is ∙ ap leaf_links (mapped-twice number branch)
 
   x_free : entry_times (number x) c.entries ≡ 0
   x_free = ap (λ (i : ℕ). entry_times i c.entries) x_is ∙ insertion.vacant.free
 
-  pub call_allowed : MatchOption place (Unit {0}) (λ p. (order : List ℕ) × (slack : ℕ) × IsBudding (slots_of d) root p.side (number p.parent) (number x) order slack)
-  call_allowed = grow_allowed number c d root (number x) era leaf laid x_free most greatest sound fits at place can place_is entries_are links_are
+  pub call_allowed : MatchOption branch (Unit {0}) (λ p. (order : List ℕ) × (slack : ℕ) × IsNewLeaf (slots_of d) root p.side (number p.parent) (number x) order slack)
+  call_allowed = grow_allowed number c d root (number x) era leaf laid x_free most greatest sound fits at branch can branch_is entries_are links_are
 
   module _ (new : Chain (SimpleOrdArenaNode P T I G)) (root' : Option I) (kept : bare new ≡ bare d)
-      (grown : MatchOption place ((new ≡ d) × (root' ≡ Some x))
-      (λ p. (order : List ℕ) (slack : ℕ) → IsBudding (slots_of d) root p.side (number p.parent) (number x) order slack
+      (grown : MatchOption branch ((new ≡ d) × (root' ≡ Some x))
+      (λ p. (order : List ℕ) (slack : ℕ) → IsNewLeaf (slots_of d) root p.side (number p.parent) (number x) order slack
       → IsRepaired (slots_of d) (slots_of new) (option_map number root') (beside p.side (number p.parent) (number x) order) slack)) where
     pub call_grown : IsLaidOut new (option_map number root') (shape_in new (option_map number root')) × IsGrown (shape_in c root) (shape_in new (option_map number root'))
-    call_grown = grown_whole number c d root (number x) era leaf laid x_free most greatest sound fits at place can place_is entries_are links_are new root' x refl kept grown
+    call_grown = grown_whole number c d root (number x) era leaf laid x_free most greatest sound fits at branch can branch_is entries_are links_are new root' x refl kept grown
 
     pub call_listed : IsInsertion (bare c) (bare new) (put_at number at (map bare_entry c.entries)) t index era
     call_listed =

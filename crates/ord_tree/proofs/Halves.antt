@@ -140,7 +140,7 @@ pub size_of-walk : (s : Shape) → size_of s ≡ length (walk s)
 size_of-walk missing = refl
 size_of-walk (node l i k r) = rw (length-append (walk l) (i ∷ walk r)) (omega (arith, size_of-walk l, size_of-walk r))
 
--- a list is split at a place
+-- a list is split at a position
 split_at : (xs : List ℕ) (m : ℕ) → m < length xs → (front : List ℕ) × (x : ℕ) × (back : List ℕ) × (xs ≡ front ++ x ∷ back) × (length front ≡ m)
 split_at [] m b = absurd (omega (arith, b))
 split_at (x ∷ xs) zero b = ([], x, xs, refl, refl)

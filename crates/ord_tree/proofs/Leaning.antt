@@ -1,29 +1,29 @@
--- The restructurings after a removal, where the sibling is one below.
+-- The rotations after a removal, where the sibling is one below.
 use Rattle.std.proofs.Common.{◌≡◌, ◌≢◌, ℕ, ◌+◌, ◌-◌, ◌<◌, ◌≤◌, Option, Some, None, List, length, ◌^◌, arith, refl, sym, ◌∙◌, ap, subst, is_some, true}
-use Rattle.ord_tree.specs.declared.links.Side.{Side}
-use Rattle.ord_tree.specs.declared.links.Links.{Links}
-use Rattle.ord_tree.specs.Links.{other_side, child_at}
+use Rattle.ord_tree.specs.declared.tree_links.Side.{Side}
+use Rattle.ord_tree.specs.declared.tree_links.TreeLinks.{TreeLinks}
+use Rattle.ord_tree.specs.TreeLinks.{other_side, child_at}
 use Rattle.ord_tree.specs.Shape.{Shape, fork, rank_of, root_of, size_of}
 use Rattle.ord_tree.specs.Slots.{Slots, Holds, plug, above, here, times_in, times_way, rank_at}
 use Rattle.ord_tree.specs.Balance.{IsOver, IsBalancedWay}
 use Rattle.ord_tree.specs.Rotate.{IsRotated}
-use Rattle.ord_tree.specs.Raise.{IsRepaired}
-use Rattle.ord_tree.specs.Sink.{IsDemoted, IsLeaning}
+use Rattle.ord_tree.specs.Promote.{IsRepaired}
+use Rattle.ord_tree.specs.Demote.{IsDemoted, IsLeaning}
 use Rattle.ord_tree.proofs.Slack.{IsRanked-balanced, rank-small}
 use Rattle.ord_tree.proofs.Halves.{size_of-walk}
 use Rattle.ord_tree.proofs.Forks.{rank-fork, size-fork, walk-ranked, walk-fork_near, walk-plug, HoldsFork-holds, Holds-fork, IsBalanced-fork, here-same, times_in-fork, apart-from}
 use Rattle.ord_tree.proofs.Frames.{Holds-frame, HoldsWay-frame, Holds-reranked, backs-ranked}
-use Rattle.ord_tree.proofs.Raising.{size-plug}
+use Rattle.ord_tree.proofs.Promoting.{size-plug}
 use Rattle.ord_tree.proofs.Doubles.{root-some, rank_at-held, inner_root, backs_single, IsBuilt-single, site_below, site_above, middle_over, backs_double, IsBuilt-double}
 
 -- what stands in a Some
-pub some_of : (o : Option (Links ℕ)) → is_some o ≡ true → (n : Links ℕ) × (o ≡ Some n)
+pub some_of : (o : Option (TreeLinks ℕ)) → is_some o ≡ true → (n : TreeLinks ℕ) × (o ≡ Some n)
 some_of None e = absurd cc
 some_of (Some n) e = (n, refl)
 
 module _ {old : Slots} {old_root : Option ℕ} {side : Side} {y s : ℕ} {order : List ℕ} (lean : IsLeaning old old_root side y s order) where
   -- where the outer child isn't one below s, and the inner one isn't two below, a node stands there
-  pub inner_some : (ns : Links ℕ) → old s ≡ Some ns → rank_of lean.site.inner + 2 ≢ lean.site.low → is_some (child_at (other_side side) ns) ≡ true
+  pub inner_some : (ns : TreeLinks ℕ) → old s ≡ Some ns → rank_of lean.site.inner + 2 ≢ lean.site.low → is_some (child_at (other_side side) ns) ≡ true
   inner_some ns e not_two = rw (inner_root lean.site ns e) (root-some lean.site.inner (omega (arith, lean.over, lean.low, lean.sibling)))
 
   -- s takes the place of y
@@ -60,10 +60,10 @@ module _ {old : Slots} {old_root : Option ℕ} {side : Side} {y s : ℕ} {order 
       let balanced = IsBalanced-fork 1 side lean.site.outer lean.site.inner s lean.site.low lean.over lean.balanced_outer lean.balanced_inner in
       omega (arith, rank-fork side lean.site.outer lean.site.inner s lean.site.low, rank-small t (IsRanked-balanced 1 t balanced) few)
 
-  -- both sink
+  -- both are demoted
   module _ (mid new : Slots) (rank_y : ℕ)
-      (written_s : (n : Links ℕ) → old s ≡ Some n → mid s ≡ Some (record n { rank = lean.site.low - 1 })) (elsewhere_s : (j : ℕ) → j ≢ s → mid j ≡ old j)
-      (written_y : (n : Links ℕ) → mid y ≡ Some n → new y ≡ Some (record n { rank = lean.site.high - 1 })) (elsewhere_y : (j : ℕ) → j ≢ y → new j ≡ mid j) where
+      (written_s : (n : TreeLinks ℕ) → old s ≡ Some n → mid s ≡ Some (record n { rank = lean.site.low - 1 })) (elsewhere_s : (j : ℕ) → j ≢ s → mid j ≡ old j)
+      (written_y : (n : TreeLinks ℕ) → mid y ≡ Some n → new y ≡ Some (record n { rank = lean.site.high - 1 })) (elsewhere_y : (j : ℕ) → j ≢ y → new j ≡ mid j) where
     total : (j : ℕ) → times_way j lean.site.way + times_in j lean.site.outer + here j s + times_in j lean.site.inner + here j y + times_in j lean.site.far ≤ 1
     total j = omega (arith, lean.site.apart j, times_in-fork j side (fork side lean.site.outer s lean.site.low lean.site.inner) lean.site.far y lean.site.high, times_in-fork j side lean.site.outer lean.site.inner s lean.site.low)
 
@@ -102,7 +102,7 @@ module _ {old : Slots} {old_root : Option ℕ} {side : Side} {y s : ℕ} {order 
         let P : ℕ → Type 0 = λ rank. IsBalancedWay 1 site.way rank in
         let Q : ℕ → Type 0 = λ rank. IsOver 1 (site.high - 1) rank (rank_of site.far) in
         record {
-          sunk = record {
+          demoted = record {
             way = site.way;
             shape = whole;
             held_way = HoldsWay-frame old new site.way old_root (Some y)

@@ -4,7 +4,7 @@ use Rattle.chain_base.specs.Chain.{Entry, Chain, entry_at, times, inserted_at, I
 use Rattle.chain_base.specs.Insert.{IsInsertion}
 use Rattle.chain_base.proofs.CallerLemmas.{inserted-capacity}
 use Rattle.arena_base.proofs.CallerLemmas.{limit_of-below}
-use Rattle.ord_tree.proofs.Planting.{times-indexes, within-occupied}
+use Rattle.ord_tree.proofs.LeafBranches.{times-indexes, within-occupied}
 
 module _ {T : Type 0} (most : ℕ) (greatest : Option ℕ) (c : Chain T) (sound : IsSound most greatest c) where
   -- the index of an entry

@@ -1,11 +1,11 @@
 -- The ends of a walk, and the neighbours of an index in a list.
 use Rattle.std.proofs.Common.{◌≡◌, ◌≢◌, ℕ, ◌+◌, ◌<◌, ◌≤◌, Option, Some, None, List, [], ◌∷◌, ◌++◌, arith, refl, sym, ◌∙◌, ap, append_assoc}
 use Rattle.std.proofs.lemmas.Bool.{eq-eqb, ne_eqb}
-use Rattle.ord_tree.specs.declared.links.Side.TheVariants.{Lesser, Greater}
-use Rattle.ord_tree.specs.declared.links.Links.{Links}
+use Rattle.ord_tree.specs.declared.tree_links.Side.TheVariants.{Lesser, Greater}
+use Rattle.ord_tree.specs.declared.tree_links.TreeLinks.{TreeLinks}
 use Rattle.ord_tree.specs.Shape.{Shape, missing, node, root_of, walk}
 use Rattle.ord_tree.specs.Slots.{Slots, Holds, here, times}
-use Rattle.ord_tree.specs.Bud.{previous, following, beside}
+use Rattle.ord_tree.specs.Leaf.{previous, following, beside}
 use Rattle.ord_tree.specs.Slots.{top, IsOnce}
 use Rattle.ord_tree.proofs.Forks.{here-same, times-append, times-walk, link-root}
 use Rattle.ord_tree.proofs.Spots.{Spot, spot_in, around, beside-split}
@@ -15,11 +15,11 @@ pub record LastOf (s : Shape) : Type 0 where
   pub last : ℕ
   pub front : List ℕ
   pub is : walk s ≡ front ++ last ∷ []
-  pub bare : (at : Slots) (over link : Option ℕ) → Holds at over link s → (n : Links ℕ) → at last ≡ Some n → n.greater ≡ None
+  pub bare : (at : Slots) (over link : Option ℕ) → Holds at over link s → (n : TreeLinks ℕ) → at last ≡ Some n → n.greater ≡ None
 
 pub last_of : (s : Shape) (i : ℕ) → root_of s ≡ Some i → LastOf s
 last_of missing i e = absurd cc
-last_of (node l i k missing) j e = record { last = i; front = walk l; is = refl; bare = λ at over link h n d. let same : h.0 ≡ n = (let f = h.2 in cc) in sym (ap (λ (n : Links ℕ). n.greater) same) ∙ h.6 }
+last_of (node l i k missing) j e = record { last = i; front = walk l; is = refl; bare = λ at over link h n d. let same : h.0 ≡ n = (let f = h.2 in cc) in sym (ap (λ (n : TreeLinks ℕ). n.greater) same) ∙ h.6 }
 last_of (node l i k (node a b c d)) j e =
     let r = last_of (node a b c d) b refl in
     record {
@@ -43,11 +43,11 @@ pub record FirstOf (s : Shape) : Type 0 where
   pub first : ℕ
   pub back : List ℕ
   pub is : walk s ≡ first ∷ back
-  pub bare : (at : Slots) (over link : Option ℕ) → Holds at over link s → (n : Links ℕ) → at first ≡ Some n → n.lesser ≡ None
+  pub bare : (at : Slots) (over link : Option ℕ) → Holds at over link s → (n : TreeLinks ℕ) → at first ≡ Some n → n.lesser ≡ None
 
 pub first_of : (s : Shape) (i : ℕ) → root_of s ≡ Some i → FirstOf s
 first_of missing i e = absurd cc
-first_of (node missing i k r) j e = record { first = i; back = walk r; is = refl; bare = λ at over link h n d. let same : h.0 ≡ n = (let f = h.2 in cc) in sym (ap (λ (n : Links ℕ). n.lesser) same) ∙ h.5 }
+first_of (node missing i k r) j e = record { first = i; back = walk r; is = refl; bare = λ at over link h n d. let same : h.0 ≡ n = (let f = h.2 in cc) in sym (ap (λ (n : TreeLinks ℕ). n.lesser) same) ∙ h.5 }
 first_of (node (node a b c d) i k r) j e =
     let l = first_of (node a b c d) b refl in
     record {
@@ -69,7 +69,7 @@ pub record BeforeIn (at : Slots) (z : ℕ) (order : List ℕ) : Type 0 where
   pub front : List ℕ
   pub back : List ℕ
   pub is : order ≡ front ++ index ∷ z ∷ back
-  pub bare : (n : Links ℕ) → at index ≡ Some n → n.greater ≡ None
+  pub bare : (n : TreeLinks ℕ) → at index ≡ Some n → n.greater ≡ None
 
 -- v stands directly after z, and nothing hangs on its lesser side
 pub record AfterIn (at : Slots) (z : ℕ) (order : List ℕ) : Type 0 where
@@ -77,9 +77,9 @@ pub record AfterIn (at : Slots) (z : ℕ) (order : List ℕ) : Type 0 where
   pub front : List ℕ
   pub back : List ℕ
   pub is : order ≡ front ++ z ∷ index ∷ back
-  pub bare : (n : Links ℕ) → at index ≡ Some n → n.lesser ≡ None
+  pub bare : (n : TreeLinks ℕ) → at index ≡ Some n → n.lesser ≡ None
 
-module _ (at : Slots) (root : Option ℕ) (s : Shape) (order : List ℕ) (held : Holds at None root s) (listed : walk s ≡ order) (z : ℕ) (within : 0 < times z order) (nz : Links ℕ) (e : at z ≡ Some nz) where
+module _ (at : Slots) (root : Option ℕ) (s : Shape) (order : List ℕ) (held : Holds at None root s) (listed : walk s ≡ order) (z : ℕ) (within : 0 < times z order) (nz : TreeLinks ℕ) (e : at z ≡ Some nz) where
   spot : Spot at root Lesser z s
   spot = spot_in at root Lesser z s top root refl held (omega (arith, within, times-walk z s, ap (times z) listed))
 
@@ -91,7 +91,7 @@ module _ (at : Slots) (root : Option ℕ) (s : Shape) (order : List ℕ) (held :
 
   pub before_in : (j : ℕ) → nz.lesser ≡ Some j → BeforeIn at z order
   before_in j some =
-      let l = last_of spot.near j (sym (link-root at (Some z) spot.links.lesser spot.near spot.holds.near_held) ∙ ap (λ (n : Links ℕ). n.lesser) nz_is ∙ some) in
+      let l = last_of spot.near j (sym (link-root at (Some z) spot.links.lesser spot.near spot.holds.near_held) ∙ ap (λ (n : TreeLinks ℕ). n.lesser) nz_is ∙ some) in
       let a = around spot.way in
       record {
         index = l.last;
@@ -103,7 +103,7 @@ module _ (at : Slots) (root : Option ℕ) (s : Shape) (order : List ℕ) (held :
 
   pub after_in : (j : ℕ) → nz.greater ≡ Some j → AfterIn at z order
   after_in j some =
-      let f = first_of spot.far j (sym (link-root at (Some z) spot.links.greater spot.far spot.holds.far_held) ∙ ap (λ (n : Links ℕ). n.greater) nz_is ∙ some) in
+      let f = first_of spot.far j (sym (link-root at (Some z) spot.links.greater spot.far spot.holds.far_held) ∙ ap (λ (n : TreeLinks ℕ). n.greater) nz_is ∙ some) in
       let a = around spot.way in
       record {
         index = f.first;

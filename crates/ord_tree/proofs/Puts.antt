@@ -5,12 +5,12 @@ use Rattle.std.specs.declared.cmp.Ordering.{Ordering}
 use Rattle.std.specs.declared.cmp.Ordering.TheVariants.{Less, Equal, Greater}
 use Rattle.chain_base.specs.Chain.{Entry, entry_at, times as entry_times, insert_after, insert_before}
 use Rattle.chain_base.proofs.CallerLemmas.{entry_at-between, entry_at-between_other, insert_after-between, insert_before-between}
-use Rattle.ord_tree.specs.declared.links.Side.TheVariants.{Lesser, Greater as OnGreater}
+use Rattle.ord_tree.specs.declared.tree_links.Side.TheVariants.{Lesser, Greater as OnGreater}
 use Rattle.ord_tree.specs.declared.node.SimpleOrdArenaNode.{SimpleOrdArenaNode}
 use Rattle.ord_tree.specs.Node.{indexes, bare_entry}
-use Rattle.ord_tree.specs.Bud.{beside}
+use Rattle.ord_tree.specs.Leaf.{beside}
 use Rattle.ord_tree.specs.Tree.{put_on}
-use Rattle.ord_tree.specs.Plant.{side_at}
+use Rattle.ord_tree.specs.LeafBranch.{side_at}
 
 module _ {T : Type 0} where
   after-indexes : (es : List (Entry T)) (i : ℕ) (new : Entry T) → indexes (insert_after i new es) ≡ beside OnGreater i new.index (indexes es)

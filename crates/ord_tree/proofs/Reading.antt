@@ -1,30 +1,30 @@
 -- What the reads before a change say of the shapes that stand there.
 use Rattle.std.proofs.Common.{◌≡◌, ◌≢◌, ℕ, ◌+◌, Option, Some, List, sym, ◌∙◌, ap, option_map, is_some, true}
-use Rattle.ord_tree.specs.declared.links.Side.{Side}
-use Rattle.ord_tree.specs.declared.links.Links.{Links}
-use Rattle.ord_tree.specs.Links.{other_side, child_at, numbered}
+use Rattle.ord_tree.specs.declared.tree_links.Side.{Side}
+use Rattle.ord_tree.specs.declared.tree_links.TreeLinks.{TreeLinks}
+use Rattle.ord_tree.specs.TreeLinks.{other_side, child_at, numbered}
 use Rattle.ord_tree.specs.Shape.{rank_of, root_of}
 use Rattle.ord_tree.specs.Slots.{Slots, rank_at}
 use Rattle.ord_tree.specs.Rotate.{Site}
-use Rattle.ord_tree.specs.Sink.{IsFallen}
+use Rattle.ord_tree.specs.Demote.{IsFallen}
 use Rattle.ord_tree.proofs.Rotations.{child-numbered}
-use Rattle.ord_tree.proofs.Planting.{is_some-mapped}
+use Rattle.ord_tree.proofs.LeafBranches.{is_some-mapped}
 use Rattle.ord_tree.proofs.Doubles.{high_rank, low_rank as site_low, outer_rank, inner_rank, inner_root}
-use Rattle.ord_tree.proofs.Sinking.{y_rank as fallen_rank, low_rank as fallen_low, far_root, far_rank}
-use Rattle.ord_tree.proofs.Raising.{IsRisingUnder, z_rank, y_rank as risen_rank, z_child, z_not_far, sibling_rank, sibling_occupied}
+use Rattle.ord_tree.proofs.Demoting.{y_rank as fallen_rank, low_rank as fallen_low, far_root, far_rank}
+use Rattle.ord_tree.proofs.Promoting.{IsRisingUnder, z_rank, y_rank as risen_rank, z_child, z_not_far, sibling_rank, sibling_occupied}
 
 module _ {I : Type 0} (number : I → ℕ) where
   -- what a link leads to, as a number
-  child-read : (side : Side) (n : Links I) (link : Option I) → link ≡ child_at side n → option_map number link ≡ child_at side (numbered number n)
+  child-read : (side : Side) (n : TreeLinks I) (link : Option I) → link ≡ child_at side n → option_map number link ≡ child_at side (numbered number n)
   child-read side n link is = ap (option_map number) is ∙ child-numbered number side n
 
-  child_other-read : (side other : Side) → other ≡ other_side side → (n : Links I) (link : Option I) → link ≡ child_at other n
+  child_other-read : (side other : Side) → other ≡ other_side side → (n : TreeLinks I) (link : Option I) → link ≡ child_at other n
       → option_map number link ≡ child_at (other_side side) (numbered number n)
   child_other-read side other other_is n link is = child-read (other_side side) n link (is ∙ ap (λ s. child_at s n) other_is)
 
-  -- at the site of a restructuring: the nodes y and s, and the ranks under s
+  -- at the site of a single or double rotation: the nodes y and s, and the ranks under s
   module _ {at : Slots} {root : Option ℕ} {side : Side} {y s : ℕ} (site : Site at root side y s) (other : Side) (other_is : other ≡ other_side side)
-      (high low : Links I) (at_y : at y ≡ Some (numbered number high)) (at_s : at s ≡ Some (numbered number low)) where
+      (high low : TreeLinks I) (at_y : at y ≡ Some (numbered number high)) (at_s : at s ≡ Some (numbered number low)) where
     pub record SiteRead (outer inner : ℕ) : Type 0 where
       pub outer_is : outer ≡ rank_of site.outer
       pub inner_is : inner ≡ rank_of site.inner
@@ -50,7 +50,7 @@ module _ {I : Type 0} (number : I → ℕ) where
 
   -- under y, a side of which has fallen
   module _ {at : Slots} {root : Option ℕ} {y : ℕ} {side : Side} {order : List ℕ} (fallen : IsFallen at root y side order) (other : Side) (other_is : other ≡ other_side side)
-      (links : Links I) (at_y : at y ≡ Some (numbered number links)) where
+      (links : TreeLinks I) (at_y : at y ≡ Some (numbered number links)) where
     pub low-read : (a : Option I) → a ≡ child_at side links → (low : ℕ) → low ≡ rank_at at (option_map number a) → low ≡ rank_of fallen.low
     low-read a a_is low is = is ∙ ap (rank_at at) (child-read side links a a_is) ∙ fallen_low fallen (numbered number links) at_y
 
@@ -61,14 +61,14 @@ module _ {I : Type 0} (number : I → ℕ) where
       pub far-read : root_of fallen.far ≡ option_map number b
       far-read = sym (far_root fallen (numbered number links) at_y) ∙ sym (child_other-read _ other other_is links b b_is)
 
-      pub sibling-read : (s : I) → b ≡ Some s → (sibling : Links I) → at (number s) ≡ Some (numbered number sibling) → sibling.rank ≡ rank_of fallen.far
+      pub sibling-read : (s : I) → b ≡ Some s → (sibling : TreeLinks I) → at (number s) ≡ Some (numbered number sibling) → sibling.rank ≡ rank_of fallen.far
       sibling-read s is sibling at_s =
           far_rank fallen (numbered number links) at_y (number s) (numbered number sibling)
           (sym (child_other-read _ other other_is links b b_is) ∙ ap (option_map number) is) at_s
 
   -- over y, which has risen under z
   module _ {at : Slots} {root : Option ℕ} {z y : ℕ} {order : List ℕ} {slack : ℕ} (u : IsRisingUnder at root z y order slack)
-      (low high : Links I) (at_y : at y ≡ Some (numbered number low)) (at_z : at z ≡ Some (numbered number high)) where
+      (low high : TreeLinks I) (at_y : at y ≡ Some (numbered number low)) (at_z : at z ≡ Some (numbered number high)) where
     pub ranks-read : (high.rank ≡ u.high) × (low.rank ≡ u.low + 1)
     ranks-read = (z_rank u (numbered number high) at_z, risen_rank u (numbered number low) at_y)
 

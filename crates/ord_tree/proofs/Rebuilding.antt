@@ -6,15 +6,15 @@ use Rattle.std.proofs.lemmas.Bool.{cases_lt, eq-eqb, ne_eqb}
 use Rattle.std.proofs.lemmas.Nat.{leading_length}
 use Rattle.std.specs.Int.Count.{count_leading_zeros}
 use Rattle.std.proofs.lemmas.List.{append-nil}
-use Rattle.ord_tree.specs.declared.links.Side.{Side}
-use Rattle.ord_tree.specs.declared.links.Side.TheVariants.{Lesser, Greater}
-use Rattle.ord_tree.specs.declared.links.Links.{Links}
+use Rattle.ord_tree.specs.declared.tree_links.Side.{Side}
+use Rattle.ord_tree.specs.declared.tree_links.Side.TheVariants.{Lesser, Greater}
+use Rattle.ord_tree.specs.declared.tree_links.TreeLinks.{TreeLinks}
 use Rattle.ord_tree.specs.declared.rebuild.Frame.{Frame}
 use Rattle.ord_tree.specs.Shape.{Shape, missing, node, fork, size_of, walk}
 use Rattle.ord_tree.specs.Slots.{Slots, Holds, Way, top, up, plug, here, times, times_in, times_way, IsOnce}
 use Rattle.ord_tree.specs.Half.{half_rank, IsHalf, IsRebuilt}
 use Rattle.ord_tree.specs.Numbers.{IsTop}
-use Rattle.ord_tree.specs.Bud.{list_head, following}
+use Rattle.ord_tree.specs.Leaf.{list_head, following}
 use Rattle.ord_tree.specs.Rebuild.{ahead, behind, IsFacing, IsFew, IsPlan, IsMiddle, IsStack, IsUnopened, IsFinished, IsReady, IsOpening, IsPassing}
 use Rattle.ord_tree.proofs.Forks.{here-same, times-append, times-walk, times_in-plug, link-root, apart-from}
 use Rattle.ord_tree.proofs.Halves.{rebuilt_exists, size_of-walk}
@@ -136,7 +136,7 @@ module _ where
     -- one frame more
     pub opened-more : {frames : List Frame} {start len : ℕ} → IsUnopened at frames s start len todo → 0 < len
         → (length frames < 64) × IsOpening at (frames ++ frame_over start len ∷ []) s start (len / 2) todo
-    opened-more {frames} {start} {len} u some = go u.way u.run u.whole u.stack u.size u.place u.todo_is
+    opened-more {frames} {start} {len} u some = go u.way u.run u.whole u.stack u.size u.position u.todo_is
       where
         go : (way : Way) (run : Shape) → plug way run ≡ s → IsStack at way (size_of run) frames → len ≡ size_of run → start ≡ behind way → walk run ++ ahead way ≡ todo
             → (length frames < 64) × IsOpening at (frames ++ frame_over start len ∷ []) s start (len / 2) todo
@@ -152,7 +152,7 @@ module _ where
                   whole = whole;
                   stack = (frames, frame_over start len, refl, refl, size, inside, stack);
                   size = omega (arith, half.0, size);
-                  place = inside;
+                  position = inside;
                   todo_is = sym (append_assoc (walk l) (i ∷ walk r) (ahead way)) ∙ todo_is;
                 };
                 facing = inr tt;
@@ -249,7 +249,7 @@ module _ where
     -- the entry is met
     module _ (written new : Slots) (rank : ℕ) (rank_is : rank ≡ half_rank f.len (q - length below))
         (here_is : written x ≡ Some (record { back = None; lesser = link; greater = None; rank = rank })) (but_x : (j : ℕ) → j ≢ x → written j ≡ at j)
-        (hung : (i : ℕ) (n : Links ℕ) → link ≡ Some i → written i ≡ Some n → new i ≡ Some (record n { back = Some x }))
+        (hung : (i : ℕ) (n : TreeLinks ℕ) → link ≡ Some i → written i ≡ Some n → new i ≡ Some (record n { back = Some x }))
         (but_hung : (j : ℕ) → link ≢ Some j → new j ≡ written j) where
       not_x : (j : ℕ) → 0 < times_way j next.rest + times_in j next.l → j ≢ x
       not_x j some = apart-from x j (λ j. times_way j next.rest + times_in j next.l) (omega (arith, alone x, here-same x)) some
@@ -291,7 +291,7 @@ module _ where
               subst P turned (IsStack-frame at new next.rest (size_of next.l + 1 + size_of next.r) below (λ j inside. but_hung j (not_hung j (omega (arith, alone j))) ∙ but_x j (not_x j (omega arith))) next.stack),
             );
             size = omega (arith, next.len, half.0);
-            place = omega (arith, next.start, half.0);
+            position = omega (arith, next.start, half.0);
             todo_is = next.todo_is;
           }
 
@@ -312,7 +312,7 @@ module _ where
       pub l : Shape
       pub k : ℕ
       pub r : Shape
-      pub n : Links ℕ
+      pub n : TreeLinks ℕ
       pub whole : plug rest (node l m k r) ≡ s
       pub stack : IsStack at rest (size_of l + 1 + size_of r) below
       pub found : at m ≡ Some n
@@ -364,8 +364,8 @@ module _ where
       pub ending-link-there : (i : ℕ) → link ≡ Some i → is_some (at i) ≡ true
       ending-link-there i e = occupied-link at None link ending.r i ending.greater e
 
-      module _ (written new : Slots) (here_is : (n : Links ℕ) → at m ≡ Some n → written m ≡ Some (record n { greater = link })) (but_m : (j : ℕ) → j ≢ m → written j ≡ at j)
-          (hung : (i : ℕ) (n : Links ℕ) → link ≡ Some i → written i ≡ Some n → new i ≡ Some (record n { back = Some m }))
+      module _ (written new : Slots) (here_is : (n : TreeLinks ℕ) → at m ≡ Some n → written m ≡ Some (record n { greater = link })) (but_m : (j : ℕ) → j ≢ m → written j ≡ at j)
+          (hung : (i : ℕ) (n : TreeLinks ℕ) → link ≡ Some i → written i ≡ Some n → new i ≡ Some (record n { back = Some m }))
           (but_hung : (j : ℕ) → link ≢ Some j → new j ≡ written j) where
         not_m : (j : ℕ) → 0 < times_way j ending.rest + times_in j ending.l + times_in j ending.r → j ≢ m
         not_m j some = apart-from m j (λ j. times_way j ending.rest + times_in j ending.l + times_in j ending.r) (omega (arith, alone-ending m, here-same m)) some
@@ -452,11 +452,11 @@ module _ {at : Slots} {s : Shape} {order : List ℕ} where
   IsOpening-start walked n len frames none =
       let size : n ≡ size_of s = omega (arith, len, size_of-walk s, ap length walked) in
       record {
-        unopened = record { way = top; run = s; whole = refl; stack = none; size = size; place = refl; todo_is = append-nil (walk s) ∙ walked };
+        unopened = record { way = top; run = s; whole = refl; stack = none; size = size; position = refl; todo_is = append-nil (walk s) ∙ walked };
         facing = inr tt;
       }
 
-  module _ {frames : List Frame} {link target : Option ℕ} {place : ℕ} (passing : IsPassing at frames s order link place target) where
+  module _ {frames : List Frame} {link target : Option ℕ} {position : ℕ} (passing : IsPassing at frames s order link position target) where
     -- the next entry
     pub record IsTarget (x : ℕ) : Type 0 where
       pub rest : List ℕ
@@ -478,7 +478,7 @@ module _ {at : Slots} {s : Shape} {order : List ℕ} where
     target-there {q} {x} plan walked is =
         plan.there x (omega (arith, times-walk x s, ap (times x) walked, ap (times x) is.split, times-append x passing.met (x ∷ is.rest), here-same x))
 
-    pub target-some : place < length order → is_some target ≡ true
+    pub target-some : position < length order → is_some target ≡ true
     target-some less = go passing.todo passing.split passing.target_is
       where
         go : (todo : List ℕ) → order ≡ passing.met ++ todo → target ≡ list_head todo → is_some target ≡ true
@@ -486,7 +486,7 @@ module _ {at : Slots} {s : Shape} {order : List ℕ} where
         go (y ∷ rest) split h = rw h refl
 
     -- at the end all hangs on the link
-    pub Holds-passed : length order ≤ place → Holds at None link s
+    pub Holds-passed : length order ≤ position → Holds at None link s
     Holds-passed all = go passing.ready.finished.way passing.ready.facing passing.ready.finished.whole (passing.ready.finished.todo_is ∙ none passing.todo passing.split) passing.ready.finished.held
       where
         none : (todo : List ℕ) → order ≡ passing.met ++ todo → todo ≡ []
@@ -499,9 +499,9 @@ module _ {at : Slots} {s : Shape} {order : List ℕ} where
         go (up Greater i k far rest) facing whole e held = absurd facing
 
 -- one entry more is met
-pub IsPassing-next : {at new : Slots} {s : Shape} {order : List ℕ} {frames frames' : List Frame} {link link' target target' : Option ℕ} {place x : ℕ}
-    (passing : IsPassing at frames s order link place target) (is : IsTarget passing x) → IsOnce order → target' ≡ following x order → IsReady new frames' s link' is.rest
-    → IsPassing new frames' s order link' (place + 1) target'
+pub IsPassing-next : {at new : Slots} {s : Shape} {order : List ℕ} {frames frames' : List Frame} {link link' target target' : Option ℕ} {position x : ℕ}
+    (passing : IsPassing at frames s order link position target) (is : IsTarget passing x) → IsOnce order → target' ≡ following x order → IsReady new frames' s link' is.rest
+    → IsPassing new frames' s order link' (position + 1) target'
 IsPassing-next {x = x} passing is once next ready = record {
   met = passing.met ++ x ∷ [];
   todo = is.rest;

@@ -8,7 +8,7 @@ use Rattle.ord_tree.specs.declared.node.SimpleOrdArenaNode.{SimpleOrdArenaNode}
 use Rattle.ord_tree.specs.Slots.{times}
 use Rattle.ord_tree.specs.Node.{bare_entry, bare, links_in, slots_of, indexes}
 use Rattle.arena_base.proofs.CallerLemmas.{limit_of-below}
-use Rattle.ord_tree.proofs.Planting.{is_some-mapped, times-indexes, within-occupied, IsOnce-distinct}
+use Rattle.ord_tree.proofs.LeafBranches.{is_some-mapped, times-indexes, within-occupied, IsOnce-distinct}
 use Rattle.ord_tree.proofs.Trees.{indexes-bare, shape_in-held}
 use Rattle.ord_tree.specs.Shape.{Shape, walk}
 use Rattle.ord_tree.specs.Slots.{Holds, IsOnce}

@@ -2,15 +2,15 @@
 use Rattle.std.proofs.Common.{◌≡◌, ℕ, ◌+◌, ◌≤◌, Option, Some, None, List, [], ◌∷◌, ◌++◌, map, arith, refl, sym, ◌∙◌, ap, subst, option_map, is_some, true, append_assoc, MatchOption}
 use Rattle.std.specs.Option.{IsSomeAnd}
 use Rattle.std.proofs.lemmas.List.{map-append}
-use Rattle.ord_tree.specs.declared.links.Side.{Side}
-use Rattle.ord_tree.specs.declared.links.Side.TheVariants.{Lesser, Greater}
-use Rattle.ord_tree.specs.declared.links.Links.{Links}
-use Rattle.ord_tree.specs.declared.links.Place.{Place}
+use Rattle.ord_tree.specs.declared.tree_links.Side.{Side}
+use Rattle.ord_tree.specs.declared.tree_links.Side.TheVariants.{Lesser, Greater}
+use Rattle.ord_tree.specs.declared.tree_links.TreeLinks.{TreeLinks}
+use Rattle.ord_tree.specs.declared.tree_links.Branch.{Branch}
 use Rattle.ord_tree.specs.Shape.{Shape, fork, rank_of, walk}
 use Rattle.ord_tree.specs.Slots.{Slots, Holds, Way, top, plug, above, HoldsWay, here, times, MovesBacks}
 use Rattle.ord_tree.specs.Balance.{IsOver}
-use Rattle.ord_tree.specs.Raise.{IsBuilt}
-use Rattle.ord_tree.specs.Sink.{IsFallen}
+use Rattle.ord_tree.specs.Promote.{IsBuilt}
+use Rattle.ord_tree.specs.Demote.{IsFallen}
 use Rattle.ord_tree.specs.Detach.{without, stand_in, renamed, IsLoose, CanStandIn, IsDetachable}
 use Rattle.ord_tree.proofs.Forks.{Holds-plug, HoldsFork-holds, here-same, times-append, times-walk}
 use Rattle.ord_tree.proofs.Spots.{Spot, spot_in}
@@ -29,9 +29,9 @@ module _ {old : Slots} {root : Option ℕ} {z : ℕ} {before : Option ℕ} {orde
   pub z_occupied : is_some (old z) ≡ true
   z_occupied = ap is_some spot.at_y
 
-  module _ (nz : Links ℕ) (e : old z ≡ Some nz) where
+  module _ (nz : TreeLinks ℕ) (e : old z ≡ Some nz) where
     pub loose_z : nz.lesser ≡ None → IsLoose old root z Lesser order
-    loose_z none = record { built = can.built; within = can.within; bare = λ n d. (let same : n ≡ nz = cc in ap (λ (n : Links ℕ). n.lesser) same ∙ none); once = can.once; few = can.few }
+    loose_z none = record { built = can.built; within = can.within; bare = λ n d. (let same : n ≡ nz = cc in ap (λ (n : TreeLinks ℕ). n.lesser) same ∙ none); once = can.once; few = can.few }
 
     module _ (j : ℕ) (some : nz.lesser ≡ Some j) where
       abbrev b : BeforeIn old z order
@@ -49,7 +49,7 @@ module _ {old : Slots} {root : Option ℕ} {z : ℕ} {before : Option ℕ} {orde
 
         pub loose_v : IsLoose old root v Greater order
         loose_v =
-            let P : ℕ → Type 0 = λ v. (n : Links ℕ) → old v ≡ Some n → n.greater ≡ None in
+            let P : ℕ → Type 0 = λ v. (n : TreeLinks ℕ) → old v ≡ Some n → n.greater ≡ None in
             record { built = can.built; within = first-within order b.front b.back v z can.once listed; bare = subst P same b.bare; once = can.once; few = can.few }
 
         counts : (i : ℕ) → times i b.front + (here i v + (here i z + times i b.back)) ≤ 1
@@ -85,7 +85,7 @@ module _ {old : Slots} {root : Option ℕ} {z : ℕ} {before : Option ℕ} {orde
           fallen_stands : {y : ℕ} {side : Side} (fallen : IsFallen mid root' y side (without v order)) → CanStandIn mid root' z v (plug fallen.way (fork side fallen.low y fallen.rank fallen.far))
           fallen_stands {y} {side} fallen = stands (plug fallen.way (fork side fallen.low y fallen.rank fallen.far)) (Holds-plug mid root' fallen.way (fork side fallen.low y fallen.rank fallen.far) (Some y) fallen.held_way fallen.held) fallen.listed
 
-          pub can_stand : {I : Type 0} (number : I → ℕ) (cut : Option (Place I))
+          pub can_stand : {I : Type 0} (number : I → ℕ) (cut : Option (Branch I))
               → MatchOption cut (IsBuilt mid root' (without v order) 1) (λ p. IsFallen mid root' (number p.parent) p.side (without v order))
               → (s : Shape) × CanStandIn mid root' z v s
           can_stand number None h = (h.shape, built_stands h)
@@ -150,7 +150,7 @@ module _ {old : Slots} {root : Option ℕ} {z : ℕ} {before : Option ℕ} {orde
                       few = omega (arith, length-without z order, can.few);
                     }
 
-            pub displaced : {I : Type 0} (number : I → ℕ) (cut result : Option (Place I))
+            pub displaced : {I : Type 0} (number : I → ℕ) (cut result : Option (Branch I))
                 → MatchOption cut (result ≡ None) (λ p. IsSomeAnd result (λ q. (number q.parent ≡ stand_in z v (number p.parent)) × (q.side ≡ p.side)))
                 → MatchOption cut (IsBuilt mid root' (without v order) 1) (λ p. IsFallen mid root' (number p.parent) p.side (without v order))
                 → MatchOption result (IsBuilt new root'' (without z order) 1) (λ p. IsFallen new root'' (number p.parent) p.side (without z order))

@@ -19,8 +19,8 @@ module _ {P T I G : Type 0} where
       go true = refl
       go false = refl
 
-  pub item_of-bare : (es : List (Entry (SimpleOrdArenaNode P T I G))) (i g : ℕ) → is_some (item_of (map bare_entry es) i g) ≡ is_some (item_of es i g)
-  item_of-bare es i g = ap (λ (o : Option (ℕ × T)). is_some (item_if g o)) (entry_at-bare es i) ∙ is_some-item_if g (entry_at es i)
+  pub item_of-bare : (es : List (Entry (SimpleOrdArenaNode P T I G))) (p : ℕ × ℕ) → is_some (item_of (map bare_entry es) p) ≡ is_some (item_of es p)
+  item_of-bare es p = ap (λ (o : Option (ℕ × T)). is_some (item_if p.1 o)) (entry_at-bare es p.0) ∙ is_some-item_if p.1 (entry_at es p.0)
 
   -- another generation of an entry
   links-renewed : (es : List (Entry (SimpleOrdArenaNode P T I G))) (i g j : ℕ)

@@ -1,10 +1,10 @@
 -- What the four writes of a rotation come to.
 use Rattle.std.proofs.Common.{◌≡◌, ◌≢◌, ℕ, ◌+◌, ◌<◌, ◌≤◌, Option, Some, None, arith, refl, sym, ◌∙◌, ap, subst, inl, inr, ⊎_elim, ◌⊎◌, option_map, is_some, true}
 use Rattle.std.proofs.lemmas.Bool.{cases_eq}
-use Rattle.ord_tree.specs.declared.links.Side.{Side}
-use Rattle.ord_tree.specs.declared.links.Side.TheVariants.{Lesser, Greater}
-use Rattle.ord_tree.specs.declared.links.Links.{Links}
-use Rattle.ord_tree.specs.Links.{other_side, child_at, with_child_at, numbered}
+use Rattle.ord_tree.specs.declared.tree_links.Side.{Side}
+use Rattle.ord_tree.specs.declared.tree_links.Side.TheVariants.{Lesser, Greater}
+use Rattle.ord_tree.specs.declared.tree_links.TreeLinks.{TreeLinks}
+use Rattle.ord_tree.specs.TreeLinks.{other_side, child_at, with_child_at, numbered}
 use Rattle.ord_tree.specs.Shape.{Shape, missing, node, fork, root_of}
 use Rattle.ord_tree.specs.Slots.{Slots, Holds, Way, top, up, above, HoldsWay, here, times_in, times_way, back_at}
 use Rattle.ord_tree.specs.Rotate.{Site, IsRotated}
@@ -12,36 +12,36 @@ use Rattle.ord_tree.proofs.Forks.{HoldsFork-holds, Holds-fork, here-same, times_
 use Rattle.ord_tree.proofs.Frames.{root-in, Holds-frame, HoldsWay-frame, Holds-rehung, HoldsWay-replaced}
 
 -- the numbers of links
-pub child-numbered : {I : Type 0} (number : I → ℕ) (side : Side) (n : Links I) → option_map number (child_at side n) ≡ child_at side (numbered number n)
+pub child-numbered : {I : Type 0} (number : I → ℕ) (side : Side) (n : TreeLinks I) → option_map number (child_at side n) ≡ child_at side (numbered number n)
 child-numbered number Lesser n = refl
 child-numbered number Greater n = refl
 
-pub numbered-with_child : {I : Type 0} (number : I → ℕ) (side : Side) (child : Option I) (n : Links I)
+pub numbered-with_child : {I : Type 0} (number : I → ℕ) (side : Side) (child : Option I) (n : TreeLinks I)
     → numbered number (with_child_at side child n) ≡ with_child_at side (option_map number child) (numbered number n)
 numbered-with_child number Lesser child n = refl
 numbered-with_child number Greater child n = refl
 
 -- links with another parent and rank
-abbrev pub placed : Option ℕ → ℕ → Links ℕ → Links ℕ
+abbrev pub placed : Option ℕ → ℕ → TreeLinks ℕ → TreeLinks ℕ
 placed back rank n = record n { back = back; rank = rank }
 
-pub child-placed : (side : Side) (back : Option ℕ) (rank : ℕ) (n : Links ℕ) → child_at side (placed back rank n) ≡ child_at side n
+pub child-placed : (side : Side) (back : Option ℕ) (rank : ℕ) (n : TreeLinks ℕ) → child_at side (placed back rank n) ≡ child_at side n
 child-placed Lesser back rank n = refl
 child-placed Greater back rank n = refl
 
 -- what a node at the root of a fork holds
-pub record ForkAt (at : Slots) (over : Option ℕ) (side : Side) (near : Shape) (i k : ℕ) (far : Shape) (n : Links ℕ) : Type 0 where
+pub record ForkAt (at : Slots) (over : Option ℕ) (side : Side) (near : Shape) (i k : ℕ) (far : Shape) (n : TreeLinks ℕ) : Type 0 where
   pub back : n.back ≡ over
   pub rank : n.rank ≡ k
   pub near_held : Holds at (Some i) (child_at side n) near
   pub far_held : Holds at (Some i) (child_at (other_side side) n) far
 
-pub ForkAt-holds : (at : Slots) (over link : Option ℕ) (side : Side) (near : Shape) (i k : ℕ) (far : Shape) (n : Links ℕ) → at i ≡ Some n
+pub ForkAt-holds : (at : Slots) (over link : Option ℕ) (side : Side) (near : Shape) (i k : ℕ) (far : Shape) (n : TreeLinks ℕ) → at i ≡ Some n
     → Holds at over link (fork side near i k far) → ForkAt at over side near i k far n
 ForkAt-holds at over link side near i k far n e h =
     let f = HoldsFork-holds at over link side near far i k h in
     let same : f.0 ≡ n = cc in
-    let P : Links ℕ → Type 0 = λ m. ForkAt at over side near i k far m in
+    let P : TreeLinks ℕ → Type 0 = λ m. ForkAt at over side near i k far m in
     subst P same (record { back = f.3; rank = f.4; near_held = f.5; far_held = f.6 })
 
 pub above-in : (way : Way) (p : ℕ) → above way ≡ Some p → 0 < times_way p way
@@ -54,13 +54,13 @@ occupied-link at over link missing i h e = absurd cc
 occupied-link at over link (node l j k r) i h e = let same : i ≡ j = cc in rw (same, h.2) refl
 
 -- what the lower node of a rotation holds
-pub fork_at_low : (at : Slots) (root : Option ℕ) (side : Side) (z y : ℕ) (site : Site at root side z y) (ny : Links ℕ) → at y ≡ Some ny → ForkAt at (Some z) side site.outer y site.low site.inner ny
+pub fork_at_low : (at : Slots) (root : Option ℕ) (side : Side) (z y : ℕ) (site : Site at root side z y) (ny : TreeLinks ℕ) → at y ≡ Some ny → ForkAt at (Some z) side site.outer y site.low site.inner ny
 fork_at_low at root side z y site ny e =
     let f = HoldsFork-holds at (above site.way) (Some z) side (fork side site.outer y site.low site.inner) site.far z site.high site.held in
     ForkAt-holds at (Some z) (child_at side f.0) side site.outer y site.low site.inner ny e f.5
 
 -- the link to what stands between the two nodes of a rotation leads to a node
-pub occupied-inner : (at : Slots) (root : Option ℕ) (side : Side) (z y : ℕ) (ny : Links ℕ) (i : ℕ) → Site at root side z y → at y ≡ Some ny
+pub occupied-inner : (at : Slots) (root : Option ℕ) (side : Side) (z y : ℕ) (ny : TreeLinks ℕ) (i : ℕ) → Site at root side z y → at y ≡ Some ny
     → child_at (other_side side) ny ≡ Some i → is_some (at i) ≡ true
 occupied-inner at root side z y ny i site e link = occupied-link at (Some y) (child_at (other_side side) ny) site.inner i (fork_at_low at root side z y site ny e).far_held link
 
@@ -69,17 +69,17 @@ pub cases_link : (link : Option ℕ) (j : ℕ) → (link ≡ Some j) ⊎ (link �
 cases_link None j = inr (λ e. absurd cc)
 cases_link (Some i) j = ⊎_elim (λ same. inl (ap Some same)) (λ other. inr (λ e. other cc)) (cases_eq i j)
 
-module _ (old replaced hung below new : Slots) (root root' : Option ℕ) (side : Side) (z y : ℕ) (rank_z rank_y : ℕ) (ny nz : Links ℕ)
+module _ (old replaced hung below new : Slots) (root root' : Option ℕ) (side : Side) (z y : ℕ) (rank_z rank_y : ℕ) (ny nz : TreeLinks ℕ)
     (site : Site old root side z y) (is_y : old y ≡ Some ny) (is_z : old z ≡ Some nz)
     (at_top : nz.back ≡ None → root' ≡ Some y) (root_stays : (p : ℕ) → nz.back ≡ Some p → root' ≡ root)
-    (parent : (p : ℕ) (n : Links ℕ) (s : Side) → nz.back ≡ Some p → old p ≡ Some n → child_at s n ≡ Some z → child_at (other_side s) n ≢ Some z → replaced p ≡ Some (with_child_at s (Some y) n))
+    (parent : (p : ℕ) (n : TreeLinks ℕ) (s : Side) → nz.back ≡ Some p → old p ≡ Some n → child_at s n ≡ Some z → child_at (other_side s) n ≢ Some z → replaced p ≡ Some (with_child_at s (Some y) n))
     (but_parent : (j : ℕ) → nz.back ≢ Some j → replaced j ≡ old j)
     (backs : (j : ℕ) → back_at old j ≡ back_at replaced j)
-    (middle : (i : ℕ) (n : Links ℕ) → child_at (other_side side) ny ≡ Some i → replaced i ≡ Some n → hung i ≡ Some (record n { back = Some z }))
+    (middle : (i : ℕ) (n : TreeLinks ℕ) → child_at (other_side side) ny ≡ Some i → replaced i ≡ Some n → hung i ≡ Some (record n { back = Some z }))
     (but_middle : (j : ℕ) → child_at (other_side side) ny ≢ Some j → hung j ≡ replaced j)
-    (at_z : (n : Links ℕ) → hung z ≡ Some n → below z ≡ Some (placed (Some y) rank_z (with_child_at side (child_at (other_side side) ny) n)))
+    (at_z : (n : TreeLinks ℕ) → hung z ≡ Some n → below z ≡ Some (placed (Some y) rank_z (with_child_at side (child_at (other_side side) ny) n)))
     (but_z : (j : ℕ) → j ≢ z → below j ≡ hung j)
-    (at_y : (n : Links ℕ) → below y ≡ Some n → new y ≡ Some (placed nz.back rank_y (with_child_at (other_side side) (Some z) n)))
+    (at_y : (n : TreeLinks ℕ) → below y ≡ Some n → new y ≡ Some (placed nz.back rank_y (with_child_at (other_side side) (Some z) n)))
     (but_y : (j : ℕ) → j ≢ y → new j ≡ below j) where
   fork_z : ForkAt old (above site.way) side (fork side site.outer y site.low site.inner) z site.high site.far nz
   fork_z = ForkAt-holds old (above site.way) (Some z) side (fork side site.outer y site.low site.inner) z site.high site.far nz is_z site.held
@@ -153,7 +153,7 @@ module _ (old replaced hung below new : Slots) (root root' : Option ℕ) (side :
   backs_held : (j : ℕ) → (j ≡ z) ⊎ (j ≡ y) ⊎ (root_of site.inner ≡ Some j) ⊎ (back_at old j ≡ back_at new j)
   backs_held j =
       ⊎_elim (λ e. inl e) (λ not_z. inr (⊎_elim (λ e. inl e) (λ not_y. inr (⊎_elim (λ e. inl e)
-      (λ not_middle. inr (backs j ∙ ap (λ (o : Option (Links ℕ)). option_map (λ (n : Links ℕ). n.back) o) (sym (but_y j not_y ∙ but_z j not_z ∙ but_middle j (λ e. not_middle (sym middle_is ∙ e))))))
+      (λ not_middle. inr (backs j ∙ ap (λ (o : Option (TreeLinks ℕ)). option_map (λ (n : TreeLinks ℕ). n.back) o) (sym (but_y j not_y ∙ but_z j not_z ∙ but_middle j (λ e. not_middle (sym middle_is ∙ e))))))
       (cases_link (root_of site.inner) j))) (cases_eq j y))) (cases_eq j z)
 
   held_z : (link : Option ℕ) → link ≡ Some z → Holds new (Some y) link (fork side site.inner z rank_z site.far)

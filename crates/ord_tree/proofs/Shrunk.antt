@@ -7,8 +7,8 @@ use Rattle.chain_base.specs.Link.{Link}
 use Rattle.ord_tree.specs.declared.node.SimpleOrdArenaNode.{SimpleOrdArenaNode}
 use Rattle.ord_tree.specs.Shape.{Shape, walk}
 use Rattle.ord_tree.specs.Slots.{Holds, times, IsOnce, MovesBacks}
-use Rattle.ord_tree.specs.Raise.{IsBuilt}
-use Rattle.ord_tree.specs.Bud.{previous}
+use Rattle.ord_tree.specs.Promote.{IsBuilt}
+use Rattle.ord_tree.specs.Leaf.{previous}
 use Rattle.ord_tree.specs.Detach.{without, IsDetachable}
 use Rattle.ord_tree.specs.Node.{bare_entry, bare, entry_in, links_in, slots_of, indexes}
 use Rattle.ord_tree.specs.Tree.{IsShrunk}
@@ -20,7 +20,7 @@ use Rattle.ord_tree.proofs.Forks.{here-same, here-other, times-walk, apart-from}
 use Rattle.ord_tree.proofs.Frames.{Holds-frame}
 use Rattle.ord_tree.proofs.Views.{MovesAtMost-backs}
 use Rattle.ord_tree.proofs.Trees.{entry_at-bare, is_some-bare, indexes-bare, shape_in-held}
-use Rattle.ord_tree.proofs.Planting.{IsOnce-distinct, within-occupied}
+use Rattle.ord_tree.proofs.LeafBranches.{IsOnce-distinct, within-occupied}
 
 -- a list without one of its indexes
 pub times-without_same : (i : ℕ) (xs : List ℕ) → times i xs ≤ 1 → times i (without i xs) ≡ 0

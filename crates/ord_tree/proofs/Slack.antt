@@ -2,8 +2,8 @@
 use Rattle.std.proofs.Common.{◌≡◌, ℕ, ◌+◌, ◌*◌, ◌^◌, ◌<◌, ◌≤◌, arith, inl, inr, ⊎_elim, ◌⊎◌}
 use Rattle.std.proofs.Math.Nat.{mul-le-mul}
 use Rattle.std.proofs.lemmas.Bool.{cases_lt}
-use Rattle.ord_tree.specs.declared.links.Side.{Side}
-use Rattle.ord_tree.specs.declared.links.Side.TheVariants.{Lesser, Greater}
+use Rattle.ord_tree.specs.declared.tree_links.Side.{Side}
+use Rattle.ord_tree.specs.declared.tree_links.Side.TheVariants.{Lesser, Greater}
 use Rattle.ord_tree.specs.Shape.{Shape, missing, node, fork, rank_of, size_of}
 use Rattle.ord_tree.specs.Ranks.{IsRanked, IsTight}
 use Rattle.ord_tree.specs.Balance.{IsBalanced, IsUneven}

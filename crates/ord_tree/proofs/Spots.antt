@@ -1,13 +1,13 @@
 -- Where an index stands in a tree, and what stands before and behind it.
 use Rattle.std.proofs.Common.{◌≡◌, ◌≢◌, ℕ, ◌+◌, ◌<◌, ◌≤◌, Option, Some, List, [], ◌∷◌, ◌++◌, length, arith, refl, sym, ◌∙◌, ap, subst, ⊎_elim, append_assoc}
 use Rattle.std.proofs.lemmas.Bool.{cases_eq, cases_lt, eq-eqb, ne_eqb}
-use Rattle.ord_tree.specs.declared.links.Side.{Side}
-use Rattle.ord_tree.specs.declared.links.Side.TheVariants.{Lesser, Greater}
-use Rattle.ord_tree.specs.declared.links.Links.{Links}
+use Rattle.ord_tree.specs.declared.tree_links.Side.{Side}
+use Rattle.ord_tree.specs.declared.tree_links.Side.TheVariants.{Lesser, Greater}
+use Rattle.ord_tree.specs.declared.tree_links.TreeLinks.{TreeLinks}
 use Rattle.ord_tree.specs.Shape.{Shape, missing, node, fork, rank_of, walk}
 use Rattle.ord_tree.specs.Slots.{Slots, Holds, Way, top, up, plug, above, HoldsWay, here, times, times_in}
 use Rattle.ord_tree.specs.Balance.{IsBalanced, IsBalancedWay}
-use Rattle.ord_tree.specs.Bud.{paired, beside}
+use Rattle.ord_tree.specs.Leaf.{paired, beside}
 use Rattle.ord_tree.proofs.Forks.{rank-fork, here-same, here-other, fork_balanced}
 use Rattle.ord_tree.proofs.Rotations.{ForkAt}
 
@@ -17,7 +17,7 @@ pub record Spot (at : Slots) (root : Option ℕ) (side : Side) (y : ℕ) (whole 
   pub near : Shape
   pub rank : ℕ
   pub far : Shape
-  pub links : Links ℕ
+  pub links : TreeLinks ℕ
   pub held_way : HoldsWay at root way (Some y)
   pub at_y : at y ≡ Some links
   pub holds : ForkAt at (above way) side near y rank far links

@@ -2,10 +2,10 @@
 use Rattle.std.proofs.Common.{◌≡◌, ◌≢◌, ℕ, ◌+◌, ◌<◌, Option, Some, None, [], ◌∷◌, ◌++◌, arith, refl, sym, ◌∙◌, ap, subst, inl, inr, ⊎_elim, option_map, is_some, true, length-append}
 use Rattle.std.specs.Option.{option_to_list}
 use Rattle.std.proofs.lemmas.Bool.{cases_eq, eq-eqb, ne_eqb}
-use Rattle.ord_tree.specs.declared.links.Side.{Side}
-use Rattle.ord_tree.specs.declared.links.Side.TheVariants.{Lesser, Greater}
-use Rattle.ord_tree.specs.declared.links.Links.{Links}
-use Rattle.ord_tree.specs.Links.{other_side, child_at, with_child_at}
+use Rattle.ord_tree.specs.declared.tree_links.Side.{Side}
+use Rattle.ord_tree.specs.declared.tree_links.Side.TheVariants.{Lesser, Greater}
+use Rattle.ord_tree.specs.declared.tree_links.TreeLinks.{TreeLinks}
+use Rattle.ord_tree.specs.TreeLinks.{other_side, child_at, with_child_at}
 use Rattle.ord_tree.specs.Shape.{Shape, missing, node, root_of}
 use Rattle.ord_tree.specs.Slots.{Slots, Holds, Way, top, up, plug, above, HoldsWay, here, times_in, times_way, back_at, MovesBacks}
 use Rattle.ord_tree.specs.Detach.{stand_in, renamed, CanStandIn}
@@ -60,21 +60,21 @@ module _ {old : Slots} {root : Option ℕ} {z v : ℕ} {s : Shape} (can : CanSta
       ap (renamed z v) (sym spot.is) ∙ renamed-plug z v spot.way (node l z spot.rank r) (omega (arith, total z, here-same z, can.apart z))
       ∙ rw (renamed-absent z v l (omega (arith, total z, here-same z, can.apart z)), renamed-absent z v r (omega (arith, total z, here-same z, can.apart z)), stand_in-same z v) refl
 
-  module _ (nz : Links ℕ) (e : old z ≡ Some nz) where
+  module _ (nz : TreeLinks ℕ) (e : old z ≡ Some nz) where
     nz_is : spot.links ≡ nz
     nz_is = let f = spot.at_y in cc
 
     back_is : nz.back ≡ above spot.way
-    back_is = ap (λ (n : Links ℕ). n.back) (sym nz_is) ∙ spot.holds.back
+    back_is = ap (λ (n : TreeLinks ℕ). n.back) (sym nz_is) ∙ spot.holds.back
 
     rank_is : nz.rank ≡ spot.rank
-    rank_is = ap (λ (n : Links ℕ). n.rank) (sym nz_is) ∙ spot.holds.rank
+    rank_is = ap (λ (n : TreeLinks ℕ). n.rank) (sym nz_is) ∙ spot.holds.rank
 
     l_held : Holds old (Some z) nz.lesser l
-    l_held = let P : Links ℕ → Type 0 = λ n. Holds old (Some z) n.lesser l in subst P nz_is spot.holds.near_held
+    l_held = let P : TreeLinks ℕ → Type 0 = λ n. Holds old (Some z) n.lesser l in subst P nz_is spot.holds.near_held
 
     r_held : Holds old (Some z) nz.greater r
-    r_held = let P : Links ℕ → Type 0 = λ n. Holds old (Some z) n.greater r in subst P nz_is spot.holds.far_held
+    r_held = let P : TreeLinks ℕ → Type 0 = λ n. Holds old (Some z) n.greater r in subst P nz_is spot.holds.far_held
 
     pub lesser_occupied : (i : ℕ) → nz.lesser ≡ Some i → is_some (old i) ≡ true
     lesser_occupied i link = occupied-link old (Some z) nz.lesser l i l_held link
@@ -100,12 +100,12 @@ module _ {old : Slots} {root : Option ℕ} {z v : ℕ} {s : Shape} (can : CanSta
 
     module _ (replaced hung both new : Slots) (root' : Option ℕ)
         (at_top : nz.back ≡ None → root' ≡ Some v) (root_stays : (p : ℕ) → nz.back ≡ Some p → root' ≡ root)
-        (parent : (p : ℕ) (n : Links ℕ) (s : Side) → nz.back ≡ Some p → old p ≡ Some n → child_at s n ≡ Some z → child_at (other_side s) n ≢ Some z → replaced p ≡ Some (with_child_at s (Some v) n))
+        (parent : (p : ℕ) (n : TreeLinks ℕ) (s : Side) → nz.back ≡ Some p → old p ≡ Some n → child_at s n ≡ Some z → child_at (other_side s) n ≢ Some z → replaced p ≡ Some (with_child_at s (Some v) n))
         (but_parent : (j : ℕ) → nz.back ≢ Some j → replaced j ≡ old j)
         (backs : (j : ℕ) → back_at old j ≡ back_at replaced j)
-        (lesser : (i : ℕ) (n : Links ℕ) → nz.lesser ≡ Some i → replaced i ≡ Some n → hung i ≡ Some (record n { back = Some v }))
+        (lesser : (i : ℕ) (n : TreeLinks ℕ) → nz.lesser ≡ Some i → replaced i ≡ Some n → hung i ≡ Some (record n { back = Some v }))
         (but_lesser : (j : ℕ) → nz.lesser ≢ Some j → hung j ≡ replaced j)
-        (greater : (i : ℕ) (n : Links ℕ) → nz.greater ≡ Some i → hung i ≡ Some n → both i ≡ Some (record n { back = Some v }))
+        (greater : (i : ℕ) (n : TreeLinks ℕ) → nz.greater ≡ Some i → hung i ≡ Some n → both i ≡ Some (record n { back = Some v }))
         (but_greater : (j : ℕ) → nz.greater ≢ Some j → both j ≡ hung j)
         (at_v : new v ≡ Some nz) (but_v : (j : ℕ) → j ≢ v → new j ≡ both j) where
       not_v : (j : ℕ) → 0 < times_in j s → j ≢ v
@@ -145,6 +145,6 @@ module _ {old : Slots} {root : Option ℕ} {z v : ℕ} {s : Shape} (can : CanSta
         omega (arith, length-append (option_to_list (root_of l)) (option_to_list (root_of r) ++ []), length-append (option_to_list (root_of r)) [], length-root (root_of l), length-root (root_of r)),
         λ j. ⊎_elim (λ same. inl (inl same)) (λ not_v'. ⊎_elim (λ link. inl (inr (Among-root l j (option_to_list (root_of r) ++ []) (sym (link-root old (Some z) nz.lesser l l_held) ∙ link))))
             (λ not_l. ⊎_elim (λ link. inl (inr (Among-behind (option_to_list (root_of l)) (option_to_list (root_of r) ++ []) j (Among-root r j [] (sym (link-root old (Some z) nz.greater r r_held) ∙ link)))))
-            (λ not_r. inr (backs j ∙ ap (λ (o : Option (Links ℕ)). option_map (λ (n : Links ℕ). n.back) o) (sym (but_v j not_v' ∙ but_greater j not_r ∙ but_lesser j not_l))))
+            (λ not_r. inr (backs j ∙ ap (λ (o : Option (TreeLinks ℕ)). option_map (λ (n : TreeLinks ℕ). n.back) o) (sym (but_v j not_v' ∙ but_greater j not_r ∙ but_lesser j not_l))))
             (cases_link nz.greater j)) (cases_link nz.lesser j)) (cases_eq j v),
       )

@@ -4,15 +4,15 @@ use Rattle.std.proofs.lemmas.Bool.{cases_eq, eq-eqb, ne_eqb}
 use Rattle.std.proofs.lemmas.Bool.Decides.{eqb_tells}
 use Rattle.std.proofs.lemmas.Option.{same_Some}
 use Rattle.std.proofs.lemmas.List.{length-map}
-use Rattle.chain_base.specs.Chain.{Entry, Chain, entry_at, times, with_item, with_item_at, vacant_among, with_capacity, with_room, grown_capacity, next_index, greatest_index, IsSound}
+use Rattle.chain_base.specs.Chain.{Entry, Chain, entry_at, times, with_item_among, with_item as chain_with_item, vacant_among, with_capacity, with_room, grown_capacity, next_index, greatest_index, IsSound}
 use Rattle.std.specs.Option.{ForSome}
-use Rattle.arena_base.specs.Arena.{how_often}
+use Rattle.arena_base.specs.Arena.{times as times_among}
 use Rattle.arena_base.specs.Generation.{IsLawfulGeneration}
 use Rattle.ord_tree.specs.declared.node.SimpleOrdArenaNode.{SimpleOrdArenaNode}
 use Rattle.ord_tree.specs.Shape.{Shape, missing, node, size_of, height, walk}
 use Rattle.ord_tree.specs.Slots.{Slots, Holds, shape_under}
 use Rattle.ord_tree.specs.Node.{bare_entry, bare, entry_in, links_in, slots_of, indexes}
-use Rattle.ord_tree.specs.Tree.{IsSoundTree, with_item_in}
+use Rattle.ord_tree.specs.Tree.{IsSoundTree, with_item}
 use Rattle.ord_tree.specs.Layout.{shape_in, tree_of, IsLaidOut, with_item_below, with_node_item}
 use Rattle.ord_tree.proofs.Halves.{size_of-walk}
 use Rattle.ord_tree.specs.Ranks.{IsRanked}
@@ -106,13 +106,13 @@ module _ {P T I G : Type 0} where
       (λ (other : e.index ≢ i). rw (ne_eqb e.index i other) (⊎_elim (λ (here : e.index ≡ j). rw (eq-eqb e.index j here) refl) (λ (there : e.index ≢ j). rw (ne_eqb e.index j there) (entry_at-below es i j x)) (cases_eq e.index j)))
       (cases_eq e.index i)
 
-  pub bare-below : (es : List (Entry (SimpleOrdArenaNode P T I G))) (i : ℕ) (x : T) → map bare_entry (with_item_below es i x) ≡ with_item (map bare_entry es) i x
+  pub bare-below : (es : List (Entry (SimpleOrdArenaNode P T I G))) (i : ℕ) (x : T) → map bare_entry (with_item_below es i x) ≡ with_item_among (map bare_entry es) i x
   bare-below [] i x = refl
   bare-below (e ∷ es) i x =
       ⊎_elim (λ (same : e.index ≡ i). rw (eq-eqb e.index i same) refl) (λ (other : e.index ≢ i). rw (ne_eqb e.index i other) (ap (λ ys. bare_entry e ∷ ys) (bare-below es i x))) (cases_eq e.index i)
 
   pub below-written : (es : List (Entry (SimpleOrdArenaNode P T I G))) (i : ℕ) (e : ℕ × SimpleOrdArenaNode P T I G) (x : T)
-      → entry_at es i ≡ Some e → with_item es i (record (e.1) { t = x }) ≡ with_item_below es i x
+      → entry_at es i ≡ Some e → with_item_among es i (record (e.1) { t = x }) ≡ with_item_below es i x
   below-written [] i e x h = refl
   below-written (a ∷ es) i e x h = elim (eqb_tells a.index i) [
     | inl same ↦
@@ -123,7 +123,7 @@ module _ {P T I G : Type 0} where
   ]
 
   pub below-written_chain : (c : Chain (SimpleOrdArenaNode P T I G)) (i : ℕ) (e : ℕ × SimpleOrdArenaNode P T I G) (x : T)
-      → entry_at c.entries i ≡ Some e → with_item_at c i (record (e.1) { t = x }) ≡ with_node_item c i x
+      → entry_at c.entries i ≡ Some e → chain_with_item c i (record (e.1) { t = x }) ≡ with_node_item c i x
   below-written_chain c i e x h = ap (λ (es : List (Entry (SimpleOrdArenaNode P T I G))). record c { entries = es }) (below-written c.entries i e x h)
 
   indexes-below : (es : List (Entry (SimpleOrdArenaNode P T I G))) (i : ℕ) (x : T) → indexes (with_item_below es i x) ≡ indexes es
@@ -188,11 +188,11 @@ module _ {P T I G : Type 0} where
   IsLaidOut-below c root i x h = IsLaidOut-linked c (with_node_item c i x) root (λ j. entry_at-below c.entries i j x) (indexes-below c.entries i x) h
 
   pub tree_of-below : (c : Chain (SimpleOrdArenaNode P T I G)) (root : Option ℕ) (i : ℕ) (x : T) → IsLaidOut c root (shape_in c root)
-      → tree_of (with_node_item c i x) root ≡ with_item_in (tree_of c root) i x
+      → tree_of (with_node_item c i x) root ≡ with_item (tree_of c root) i x
   tree_of-below c root i x h =
       let same = shape_in-linked c (with_node_item c i x) root (λ j. entry_at-below c.entries i j x) (indexes-below c.entries i x) h in
       ap (λ (es : List (Entry T)). record { list = record { entries = es; capacity = c.capacity; vacant = c.vacant; generation = c.generation; maximum = c.maximum }; shape = shape_in (with_node_item c i x) root }) (bare-below c.entries i x)
-      ∙ ap (λ (t : Shape). record { list = with_item_at (bare c) i x; shape = t }) same
+      ∙ ap (λ (t : Shape). record { list = chain_with_item (bare c) i x; shape = t }) same
 
   -- what chain arenas promise holds of the bare chain too
   entries_lawful-bare : (Q : ℕ → Type 0) (o : Option (ℕ × SimpleOrdArenaNode P T I G)) (b : Option (ℕ × T)) → b ≡ option_map entry_in o → ForSome o (λ e. Q e.0) → ForSome b (λ e. Q e.0)
@@ -209,6 +209,6 @@ module _ {P T I G : Type 0} where
     within_limit = h.within_limit;
     generation_lawful = h.generation_lawful;
     entries_lawful = λ i. entries_lawful-bare (λ g. IsLawfulGeneration greatest g) (entry_at c.entries i) (entry_at (map bare_entry c.entries) i) (entry_at-bare c.entries i) (h.entries_lawful i);
-    vacant_listed = λ i. h.vacant_listed i ∙ ap (λ vs. how_often vs i) (sym (vacant_among-bare c.entries 1 c.capacity));
+    vacant_listed = λ i. h.vacant_listed i ∙ ap (λ vs. times_among i vs) (sym (vacant_among-bare c.entries 1 c.capacity));
     counted = omega (arith, h.counted, length-map c.entries (λ (e : Entry (SimpleOrdArenaNode P T I G)). bare_entry e));
   }

@@ -1,12 +1,12 @@
 -- Taking a node out: the list without it, and what takes its place.
 use Rattle.std.specs.Prelude.{◌≡◌, ℕ, ◌^◌, ◌<◌, ◌≤◌, ◌==◌, if◌then◌else◌, Option, None, Some, List, [], ◌∷◌, length, IsSome}
-use Rattle.ord_tree.specs.declared.links.Side.{Side}
-use Rattle.ord_tree.specs.declared.links.Links.{Links}
-use Rattle.ord_tree.specs.Links.{child_at}
+use Rattle.ord_tree.specs.declared.tree_links.Side.{Side}
+use Rattle.ord_tree.specs.declared.tree_links.TreeLinks.{TreeLinks}
+use Rattle.ord_tree.specs.TreeLinks.{child_at}
 use Rattle.ord_tree.specs.Shape.{Shape, missing, node}
 use Rattle.ord_tree.specs.Slots.{Slots, Holds, times, times_in, IsOnce}
-use Rattle.ord_tree.specs.Bud.{previous}
-use Rattle.ord_tree.specs.Raise.{IsBuilt}
+use Rattle.ord_tree.specs.Leaf.{previous}
+use Rattle.ord_tree.specs.Promote.{IsBuilt}
 
 -- the list without this index
 abbrev pub without : ℕ → List ℕ → List ℕ
@@ -26,7 +26,7 @@ renamed z v (node l i k r) = node (renamed z v l) (stand_in z v i) k (renamed z 
 pub record IsLoose (at : Slots) (root : Option ℕ) (v : ℕ) (side : Side) (order : List ℕ) : Type 0 where
   pub built : IsBuilt at root order 1
   pub within : 0 < times v order
-  pub bare : (n : Links ℕ) → at v ≡ Some n → child_at side n ≡ None
+  pub bare : (n : TreeLinks ℕ) → at v ≡ Some n → child_at side n ≡ None
   pub once : IsOnce order
   pub few : length order < 2 ^ 64
 

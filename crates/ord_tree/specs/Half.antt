@@ -7,7 +7,7 @@ use Rattle.ord_tree.specs.Numbers.{IsTop}
 abbrev pub half_rank : ℕ → ℕ → ℕ
 half_rank n q = if nat_le n 2 then n else (if nat_le n 4 then 3 else q)
 
--- the root of a run of n nodes is at place n / 2, counted from 0, and its sides are halves one rank below
+-- the root of a run of n nodes is at position n / 2, counted from 0, and its sides are halves one rank below
 abbrev pub IsHalf : ℕ → Shape → Type 0
 IsHalf q missing = Unit {0}
 IsHalf q (node l i k r) =

@@ -2,7 +2,7 @@
 use Rattle.std.specs.Prelude.{ℕ, List, map}
 use Rattle.std.specs.Option.{option_map}
 use Rattle.chain_base.specs.Chain.{Entry, Chain, entry_at}
-use Rattle.ord_tree.specs.declared.links.Links.{Links}
+use Rattle.ord_tree.specs.declared.tree_links.TreeLinks.{TreeLinks}
 use Rattle.ord_tree.specs.declared.node.SimpleOrdArenaNode.{SimpleOrdArenaNode}
 use Rattle.ord_tree.specs.Slots.{Slots}
 
@@ -24,7 +24,7 @@ module _ {P T I G : Type 0} where
   bare c = record { entries = map bare_entry c.entries; capacity = c.capacity; vacant = c.vacant; generation = c.generation; maximum = c.maximum }
 
   -- the links that a node holds, as numbers
-  abbrev pub links_in : SimpleOrdArenaNode P T I G → Links ℕ
+  abbrev pub links_in : SimpleOrdArenaNode P T I G → TreeLinks ℕ
   links_in n = record { back = n.p_back; lesser = n.p_tree0; greater = n.p_tree1; rank = n.rank }
 
   -- the links at each index of a chain

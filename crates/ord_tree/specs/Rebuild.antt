@@ -1,14 +1,14 @@
 -- The states of a rebuild: what the stack of open runs says of the shape that is being built.
 use Rattle.std.specs.Prelude.{◌≡◌, ℕ, ◌+◌, ◌^◌, ◌<◌, ◌≤◌, ◌⊎◌, Option, None, Some, List, [], ◌∷◌, ◌++◌, length, IsSome}
-use Rattle.ord_tree.specs.declared.links.Side.{Side}
-use Rattle.ord_tree.specs.declared.links.Side.TheVariants.{Lesser, Greater}
-use Rattle.ord_tree.specs.declared.links.Links.{Links}
+use Rattle.ord_tree.specs.declared.tree_links.Side.{Side}
+use Rattle.ord_tree.specs.declared.tree_links.Side.TheVariants.{Lesser, Greater}
+use Rattle.ord_tree.specs.declared.tree_links.TreeLinks.{TreeLinks}
 use Rattle.ord_tree.specs.declared.rebuild.Frame.{Frame}
 use Rattle.ord_tree.specs.Shape.{Shape, size_of, walk}
 use Rattle.ord_tree.specs.Slots.{Slots, Holds, Way, top, up, plug, times_in}
 use Rattle.ord_tree.specs.Numbers.{HasDigits}
 use Rattle.ord_tree.specs.Half.{IsHalf}
-use Rattle.ord_tree.specs.Bud.{list_head}
+use Rattle.ord_tree.specs.Leaf.{list_head}
 
 -- what comes behind the end of a way, in order
 abbrev pub ahead : Way → List ℕ
@@ -45,7 +45,7 @@ module _ (at : Slots) where
   abbrev pub IsMiddle : Side → ℕ → ℕ → Shape → Option ℕ → Type 0
   IsMiddle Lesser i k far middle = middle ≡ None
   IsMiddle Greater i k far middle =
-      (middle ≡ Some i) × (n : Links ℕ) × (at i ≡ Some n) × (n.back ≡ None) × (n.rank ≡ k) × Holds at (Some i) n.lesser far
+      (middle ≡ Some i) × (n : TreeLinks ℕ) × (at i ≡ Some n) × (n.back ≡ None) × (n.rank ≡ k) × Holds at (Some i) n.lesser far
 
   -- the frames are those of the runs on a way, the innermost last, where n nodes stand at its end
   abbrev pub IsStack : Way → ℕ → List Frame → Type 0
@@ -54,14 +54,14 @@ module _ (at : Slots) where
       (below : List Frame) × (f : Frame) × (frames ≡ below ++ f ∷ []) × IsMiddle side i k far f.middle
       × (f.len ≡ n + 1 + size_of far) × (f.start ≡ behind rest) × IsStack rest (n + 1 + size_of far) below
 
--- at the end of the way stands a run that no frame and no link knows yet, from this place on
+-- at the end of the way stands a run that no frame and no link knows yet, from this position on
 pub record IsUnopened (at : Slots) (frames : List Frame) (s : Shape) (start len : ℕ) (todo : List ℕ) : Type 0 where
   pub way : Way
   pub run : Shape
   pub whole : plug way run ≡ s
   pub stack : IsStack at way (size_of run) frames
   pub size : len ≡ size_of run
-  pub place : start ≡ behind way
+  pub position : start ≡ behind way
   pub todo_is : walk run ++ ahead way ≡ todo
 
 -- what stands at the end of the way is finished, and hangs on the link
@@ -84,10 +84,10 @@ pub record IsOpening (at : Slots) (frames : List Frame) (s : Shape) (start len :
   pub facing : (0 < len) ⊎ IsFacing unopened.way
 
 -- so many entries of the list are met, and the target is the next one
-pub record IsPassing (at : Slots) (frames : List Frame) (s : Shape) (order : List ℕ) (link : Option ℕ) (place : ℕ) (target : Option ℕ) : Type 0 where
+pub record IsPassing (at : Slots) (frames : List Frame) (s : Shape) (order : List ℕ) (link : Option ℕ) (position : ℕ) (target : Option ℕ) : Type 0 where
   pub met : List ℕ
   pub todo : List ℕ
   pub split : order ≡ met ++ todo
-  pub count : length met ≡ place
+  pub count : length met ≡ position
   pub target_is : target ≡ list_head todo
   pub ready : IsReady at frames s link todo

@@ -1,6 +1,6 @@
 -- What a rotation finds and what it leaves.
 use Rattle.std.specs.Prelude.{◌≡◌, ℕ, ◌⊎◌, Option, Some}
-use Rattle.ord_tree.specs.declared.links.Side.{Side}
+use Rattle.ord_tree.specs.declared.tree_links.Side.{Side}
 use Rattle.ord_tree.specs.Shape.{Shape, fork, root_of}
 use Rattle.ord_tree.specs.Slots.{Slots, Holds, Way, above, HoldsWay, back_at, IsApart}
 

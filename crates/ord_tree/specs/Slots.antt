@@ -1,22 +1,22 @@
 -- What nodes hold together: slots as a function from index to links, and the shape that they spell.
 use Rattle.std.specs.Prelude.{◌≡◌, ℕ, zero, suc, ◌+◌, ◌≤◌, ◌==◌, ◌⊎◌, if◌then◌else◌, Option, None, Some, option_map, unwrap_or, List, [], ◌∷◌, length}
-use Rattle.ord_tree.specs.declared.links.Side.{Side}
-use Rattle.ord_tree.specs.declared.links.Links.{Links}
-use Rattle.ord_tree.specs.Links.{other_side, child_at}
+use Rattle.ord_tree.specs.declared.tree_links.Side.{Side}
+use Rattle.ord_tree.specs.declared.tree_links.TreeLinks.{TreeLinks}
+use Rattle.ord_tree.specs.TreeLinks.{other_side, child_at}
 use Rattle.ord_tree.specs.Shape.{Shape, missing, node, fork}
 
 -- the links at each index, None where no node is
 abbrev pub Slots : Type 0
-Slots = ℕ → Option (Links ℕ)
+Slots = ℕ → Option (TreeLinks ℕ)
 
 -- under this parent, this link leads to nodes that spell the shape
 abbrev pub Holds : Slots → Option ℕ → Option ℕ → Shape → Type 0
 Holds at above link missing = link ≡ None
 Holds at above link (node l i k r) =
-    (n : Links ℕ) × (link ≡ Some i) × (at i ≡ Some n) × (n.back ≡ above) × (n.rank ≡ k)
+    (n : TreeLinks ℕ) × (link ≡ Some i) × (at i ≡ Some n) × (n.back ≡ above) × (n.rank ≡ k)
     × Holds at (Some i) n.lesser l × Holds at (Some i) n.greater r
 
--- the way from a place in a tree up to the root: at each step the side that it comes from, the node, and what hangs on its other side
+-- the way from a branch of a tree up to the root: at each step the side that it comes from, the node, and what hangs on its other side
 pub data Way : Type 0 where
   top : Way
   up : Side → ℕ → ℕ → Shape → Way → Way
@@ -35,7 +35,7 @@ above (up side i k far rest) = Some i
 abbrev pub HoldsWay : Slots → Option ℕ → Way → Option ℕ → Type 0
 HoldsWay at root top link = root ≡ link
 HoldsWay at root (up side i k far rest) link =
-    (n : Links ℕ) × (at i ≡ Some n) × (n.back ≡ above rest) × (n.rank ≡ k) × (child_at side n ≡ link)
+    (n : TreeLinks ℕ) × (at i ≡ Some n) × (n.back ≡ above rest) × (n.rank ≡ k) × (child_at side n ≡ link)
     × Holds at (Some i) (child_at (other_side side) n) far × HoldsWay at root rest (Some i)
 
 -- 1 where both are one index, else 0
@@ -80,10 +80,10 @@ MovesBacks m old new =
 -- the rank that the node holds to which a link leads, 0 where it leads to none
 abbrev pub rank_at : Slots → Option ℕ → ℕ
 rank_at at None = 0
-rank_at at (Some i) = unwrap_or (option_map (λ (n : Links ℕ). n.rank) (at i)) 0
+rank_at at (Some i) = unwrap_or (option_map (λ (n : TreeLinks ℕ). n.rank) (at i)) 0
 
 -- the node i with these links, over the shapes below its links
-abbrev pub node_with : ℕ → Option (Links ℕ) → (Option ℕ → Shape) → Shape
+abbrev pub node_with : ℕ → Option (TreeLinks ℕ) → (Option ℕ → Shape) → Shape
 node_with i None below = missing
 node_with i (Some n) below = node (below n.lesser) i n.rank (below n.greater)
 

@@ -3,7 +3,7 @@ use Rattle.std.specs.Prelude.{◌≡◌, ◌≢◌, ℕ, Option, None, Some, Lis
 use Rattle.std.specs.declared.cmp.Ordering.{Ordering}
 use Rattle.std.specs.declared.cmp.Ordering.TheVariants.{Less, Equal, Greater}
 use Rattle.std.specs.Coded.{Coded, code_by, coded×, coded_ℕ, coded_list, coded_option}
-use Rattle.chain_base.specs.Chain.{Entry, Chain, insert_after, insert_before, with_item_at, IsOccupied}
+use Rattle.chain_base.specs.Chain.{Entry, Chain, insert_after, insert_before, with_item as chain_with_item, IsOccupied}
 use Rattle.ord_tree.specs.Shape.{Shape, root_of, walk}
 use Rattle.ord_tree.specs.ShapeCode.{shape_code}
 use Rattle.ord_tree.specs.Ranks.{IsRanked, IsTight}
@@ -72,5 +72,5 @@ pub record IsShrunk (old new : Shape) : Type 0 where
   pub moved : MovesAtMost 9 old new
 
 -- the tree with another item at this index
-abbrev pub with_item_in : {T : Type 0} → Tree T → ℕ → T → Tree T
-with_item_in t i item = record t { list = with_item_at t.list i item }
+abbrev pub with_item : {T : Type 0} → Tree T → ℕ → T → Tree T
+with_item t i item = record t { list = chain_with_item t.list i item }

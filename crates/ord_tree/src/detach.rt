@@ -3,31 +3,31 @@
 ghost use Rattle.std.specs.Prelude.{◌≡◌, ℕ, None, Some, List, option_map, is_some, IsSomeAnd, MatchOption};
 ghost use Rattle.ord_tree.specs.Shape.{Shape};
 ghost use Rattle.ord_tree.specs.Slots.{Holds, MovesBacks};
-ghost use Rattle.ord_tree.specs.Raise.{IsBuilt};
-ghost use Rattle.ord_tree.specs.Sink.{IsFallen};
+ghost use Rattle.ord_tree.specs.Promote.{IsBuilt};
+ghost use Rattle.ord_tree.specs.Demote.{IsFallen};
 ghost use Rattle.ord_tree.specs.Detach.{without, stand_in, renamed, IsLoose, CanStandIn, IsDetachable};
 
-use crate::links::{Place, Side};
-use crate::nodes::{Nodes, hang, place_of, replace_child};
-use crate::sink::sink_all;
+use crate::demote::demote_all;
+use crate::nodes::{Nodes, branch_of, hang, replace_child};
+use crate::tree_links::{Branch, Side};
 
 /// Takes v out of the tree, where nothing hangs on that side of it: what hangs on its other side takes its place.
 ///
-/// Answers the place, which has fallen by one, or None where it is the root's.
+/// Returns the branch, which has fallen by one, or None where it is the root's.
 pub fn cut<N: Nodes>(
     nodes: &mut N,
     root: &mut Option<N::Inx>,
     v: N::Inx,
     bare: Side,
-) -> Option<Place<N::Inx>>
+) -> Option<Branch<N::Inx>>
     requires { (order : List ℕ)
         × IsLoose (N.at nodes.old) (option_map N.number root.old) (N.number v) bare order }
     ensures fallen { (order : List ℕ)
         → IsLoose (N.at nodes.old) (option_map N.number root.old) (N.number v) bare order
         → MatchOption result
         (IsBuilt (N.at nodes.new) (option_map N.number root.new) (without (N.number v) order) 1)
-        (λ place. IsFallen (N.at nodes.new) (option_map N.number root.new)
-        (N.number place.parent) place.side (without (N.number v) order)) }
+        (λ branch. IsFallen (N.at nodes.new) (option_map N.number root.new)
+        (N.number branch.parent) branch.side (without (N.number v) order)) }
     ensures backs { (order : List ℕ)
         → IsLoose (N.at nodes.old) (option_map N.number root.old) (N.number v) bare order
         → MovesBacks 1 (N.at nodes.old) (N.at nodes.new) }
@@ -35,11 +35,11 @@ pub fn cut<N: Nodes>(
     ensures kept { N.list nodes.new ≡ N.list nodes.old }
 {
     let links = nodes.links(v);
-    let place = place_of(nodes, v);
+    let branch = branch_of(nodes, v);
     let rest = links.child(bare.other());
     replace_child(nodes, root, links.back, v, rest);
     hang(nodes, rest, links.back);
-    place
+    branch
 }
 
 /// Lets v, which stands nowhere, stand in the place of z, with the links and the rank of z.
@@ -61,18 +61,22 @@ pub fn substitute<N: Nodes>(nodes: &mut N, root: &mut Option<N::Inx>, z: N::Inx,
     nodes.set_links(v, links);
 }
 
-/// A place once v stands for z.
-fn place_with<N: Nodes>(place: Option<Place<N::Inx>>, z: N::Inx, v: N::Inx) -> Option<Place<N::Inx>>
-    ensures { MatchOption place (result ≡ None) (λ p. IsSomeAnd result
+/// A branch once v stands for z.
+fn branch_with<N: Nodes>(
+    branch: Option<Branch<N::Inx>>,
+    z: N::Inx,
+    v: N::Inx,
+) -> Option<Branch<N::Inx>>
+    ensures { MatchOption branch (result ≡ None) (λ p. IsSomeAnd result
         (λ q. (N.number q.parent ≡ stand_in (N.number z) (N.number v) (N.number p.parent))
         × (q.side ≡ p.side))) }
 {
-    let Place { parent, side } = place?;
+    let Branch { parent, side } = branch?;
     let parent = if N::is_same(parent, z) { v } else { parent };
-    Some(Place { parent, side })
+    Some(Branch { parent, side })
 }
 
-/// Takes z out of the tree; `before` is the entry directly before it in the list. Answers the place that has fallen by one, if any.
+/// Takes z out of the tree; `before` is the entry directly before it in the list. Returns the branch that has fallen by one, if any.
 ///
 /// Where nothing hangs on the lesser side of z, what hangs on its greater side takes its place. Otherwise the entry before it,
 /// on whose greater side nothing hangs, is taken out first and then stands for z.
@@ -81,7 +85,7 @@ pub fn displace<N: Nodes>(
     root: &mut Option<N::Inx>,
     z: N::Inx,
     before: Option<N::Inx>,
-) -> Option<Place<N::Inx>>
+) -> Option<Branch<N::Inx>>
     requires { (order : List ℕ)
         × IsDetachable (N.at nodes.old) (option_map N.number root.old)
         (N.number z) (option_map N.number before) order }
@@ -90,8 +94,8 @@ pub fn displace<N: Nodes>(
         (N.number z) (option_map N.number before) order
         → MatchOption result
         (IsBuilt (N.at nodes.new) (option_map N.number root.new) (without (N.number z) order) 1)
-        (λ place. IsFallen (N.at nodes.new) (option_map N.number root.new)
-        (N.number place.parent) place.side (without (N.number z) order)) }
+        (λ branch. IsFallen (N.at nodes.new) (option_map N.number root.new)
+        (N.number branch.parent) branch.side (without (N.number z) order)) }
     ensures backs { (order : List ℕ)
         → IsDetachable (N.at nodes.old) (option_map N.number root.old)
         (N.number z) (option_map N.number before) order
@@ -102,9 +106,9 @@ pub fn displace<N: Nodes>(
         return cut(nodes, root, z, Side::Lesser);
     }
     let v = before.unwrap();
-    let place = cut(nodes, root, v, Side::Greater);
+    let branch = cut(nodes, root, v, Side::Greater);
     substitute(nodes, root, z, v);
-    place_with::<N>(place, z, v)
+    branch_with::<N>(branch, z, v)
 }
 
 /// Takes z out of the tree, and repairs the ranks above; `before` is the entry directly before it in the list.
@@ -122,7 +126,7 @@ pub fn detach<N: Nodes>(nodes: &mut N, root: &mut Option<N::Inx>, z: N::Inx, bef
         → MovesBacks 9 (N.at nodes.old) (N.at nodes.new) }
     ensures kept { N.list nodes.new ≡ N.list nodes.old }
 {
-    if let Some(place) = displace(nodes, root, z, before) {
-        sink_all(nodes, root, place);
+    if let Some(branch) = displace(nodes, root, z, before) {
+        demote_all(nodes, root, branch);
     }
 }

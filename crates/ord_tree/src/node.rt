@@ -2,8 +2,8 @@
 
 ghost use Rattle.std.specs.Prelude.{◌≡◌, None, option_map};
 
-use crate::links::Side;
 use crate::node_inx::{NodeInx, kept};
+use crate::tree_links::Side;
 use arena_base::{OptInx, Ptr};
 
 /// What the chain holds of an entry of a tree: the item, and the links and the rank of its node.
@@ -25,7 +25,7 @@ pub struct SimpleOrdArenaNode<P: Ptr, T> {
 }
 
 impl<P: Ptr, T> SimpleOrdArenaNode<P, T> {
-    ghost use Rattle.ord_tree.specs.Links.{with_child_at};
+    ghost use Rattle.ord_tree.specs.TreeLinks.{with_child_at};
     ghost use Rattle.ord_tree.specs.Node.{links_in};
 
     /// A node without children.

@@ -9,14 +9,14 @@ ghost use Rattle.ord_tree.specs.Numbers.{IsTop};
 ghost use Rattle.ord_tree.specs.Half.{half_rank, IsHalf, IsRebuilt};
 ghost use Rattle.ord_tree.specs.Rebuild.{IsFew, IsPlan, IsUnopened, IsOpening, IsFinished, IsReady};
 
-use crate::links::{Links, Side};
 use crate::nodes::{Nodes, hang};
+use crate::tree_links::{Side, TreeLinks};
 use arrayvec::ArrayVec;
 
 /// A run of the list over which a tree is being built: some entries in a row, of which the one in the middle becomes the root.
 #[derive(Clone, Copy, Debug, Default)]
 pub struct Frame {
-    /// The place of its first entry, counted from 0.
+    /// The position of its first entry, counted from 0.
     pub start: usize,
     /// How many entries it has.
     pub len: usize,
@@ -24,7 +24,7 @@ pub struct Frame {
     pub middle: Option<usize>,
 }
 
-/// The frames of the runs around a place in the list, the innermost last. Each is at most half as long as the one around it, so
+/// The frames of the runs around a position in the list, the innermost last. Each is at most half as long as the one around it, so
 /// that no more frames ever stand than the length of the list has binary digits.
 pub type Stack = ArrayVec<Frame, 64>;
 
@@ -78,7 +78,7 @@ pub fn open(stack: &mut Stack, start: usize, len: usize)
     }
 }
 
-/// Meets the entry in the middle of the innermost run, whose lesser side is finished and hangs on `lesser`. Answers where its
+/// Meets the entry in the middle of the innermost run, whose lesser side is finished and hangs on `lesser`. Returns where its
 /// greater side starts, and how many entries that has.
 pub fn meet<N: Nodes>(
     nodes: &mut N,
@@ -100,7 +100,7 @@ pub fn meet<N: Nodes>(
     let rank = rank_over(frame.len, top.saturating_sub(stack.len() as u8));
     nodes.set_links(
         x,
-        Links {
+        TreeLinks {
             back: None,
             lesser,
             greater: None,
@@ -118,7 +118,7 @@ pub fn meet<N: Nodes>(
 }
 
 /// Where the middle of the innermost run was met, its greater side is finished and hangs on `greater`: this ends the run, and
-/// answers its middle.
+/// returns its middle.
 pub fn close_one<N: Nodes>(
     nodes: &mut N,
     stack: &mut Stack,
@@ -144,7 +144,7 @@ pub fn close_one<N: Nodes>(
     Some(middle)
 }
 
-/// Ends each run that is finished, from the innermost on. Answers what hangs on the lesser side of the next entry, or the root.
+/// Ends each run that is finished, from the innermost on. Returns what hangs on the lesser side of the next entry, or the root.
 pub fn close<N: Nodes>(nodes: &mut N, stack: &mut Stack) -> Option<N::Inx>
     requires { (s : Shape) × (top : ℕ) × (todo : List ℕ) × IsPlan (N.at nodes.old) top s
         × IsFinished (N.at nodes.old) stack.old.items s None todo }
@@ -162,7 +162,7 @@ pub fn close<N: Nodes>(nodes: &mut N, stack: &mut Stack) -> Option<N::Inx>
     finished
 }
 
-/// One step of a rebuild, at the next entry. Answers what hangs on the lesser side of the entry after it, or the root.
+/// One step of a rebuild, at the next entry. Returns what hangs on the lesser side of the entry after it, or the root.
 pub fn pass<N: Nodes>(
     nodes: &mut N,
     stack: &mut Stack,
@@ -189,7 +189,7 @@ pub fn pass<N: Nodes>(
     close(nodes, stack)
 }
 
-/// Builds the tree anew over the list, whatever the links say. Answers the root.
+/// Builds the tree anew over the list, whatever the links say. Returns the root.
 ///
 /// Each entry is met once, in order. It takes no memory.
 pub fn rebuild<N: Nodes>(nodes: &mut N, len: usize) -> Option<N::Inx>

@@ -96,7 +96,7 @@ impl<P: Ptr, T, A: Allocator> OrdTree<P, T, A> {
         self.chain.set_generation(generation);
     }
 
-    /// Raises the generation that the next entry gets, and leaves each entry its own. The answer says whether the generations
+    /// Raises the generation that the next entry gets, and leaves each entry its own. The result says whether the generations
     /// began again.
     pub fn inc_generation(&mut self) -> InvalidationOption<()>
         ensures after { self.new ≡ record self.old { list = raised P.Gen.greatest self.old.list } }

@@ -1,14 +1,14 @@
-// Trees of small keys, kept in order by hand, seen through the chain's nodes.
+//! Trees of small keys, kept in order by hand, seen through the chain's nodes.
 mod rebuild;
 
 use arena_base::{
-    Advancer, InsertionError, InvalidationOption, InvalidationResult, P0, P8, PN, Ptr,
+    Advancer, InsertionError, InvalidationOption, InvalidationResult, ItemsMut, P0, P8, PN, Ptr,
     ReallocationError,
 };
 use chain_base::{ChainArena, LinkNoGen};
 use linked_list_allocator::LocalHeap;
 use ord_tree::{OrdTree, SimpleOrdArenaNode};
-use std::alloc::{Allocator, Global};
+use std::alloc::{AllocError, Allocator, Global};
 use std::cmp::Ordering;
 use std::process::Abort;
 use std::test::Fail;
@@ -150,6 +150,17 @@ fn moved(old: &[Place], new: &[Place]) -> usize {
     moved
 }
 
+/// The tree makes this text.
+fn text_is(rt: &impl Abort, alloc: Global, tree: &Keys, expected: &str) -> Result<(), Fail> {
+    assert_eq!(rt; text(alloc, tree)?.as_str(), expected);
+    Ok(())
+}
+
+/// How many entries of a tree have another parent than before.
+fn moved_since(alloc: Global, old: &[Place], tree: &Keys) -> Result<usize, Fail> {
+    Ok(moved(old, &places(alloc, tree)?))
+}
+
 /// The rank of a child.
 fn rank_at(places: &[Place], index: Option<u32>) -> u8 {
     match places.iter().find(|place| Some(place.index) == index) {
@@ -193,6 +204,12 @@ fn is_ranked(places: &[Place], root: Option<u32>) -> bool {
     true
 }
 
+/// Whether a tree has just these keys in order, and keeps the rules of the balance.
+fn is_balanced(places: &[Place], root: Option<u32>, sorted: &[u8]) -> bool {
+    let keys = places.iter().map(|place| place.key);
+    keys.eq(sorted.iter().copied()) && is_ranked(places, root)
+}
+
 #[test]
 fn repairs_by_the_table(rt: HostRuntime) -> Result<(), Fail> {
     let cases: [(&[u8], &str, usize); 16] = [
@@ -205,7 +222,7 @@ fn repairs_by_the_table(rt: HostRuntime) -> Result<(), Fail> {
         // promotions
         (&[2, 1, 4, 3], "1:1^2 2:3^0 3:1^4 4:2^2 ", 0),
         (&[3, 4, 1, 2], "1:2^3 2:1^1 3:3^0 4:1^3 ", 0),
-        // a single restructuring
+        // a single rotation
         (&[1, 2, 3], "1:1^2 2:2^0 3:1^2 ", 2),
         (&[3, 2, 1], "1:1^2 2:2^0 3:1^2 ", 2),
         // a double one
@@ -250,8 +267,8 @@ fn repairs_by_the_table(rt: HostRuntime) -> Result<(), Fail> {
         let mut tree = tree_of(&rt, rt.alloc(), before)?;
         let old = places(rt.alloc(), &tree)?;
         let _ = insert(&rt, rt.alloc(), &mut tree, *last)?;
-        assert_eq!(rt; text(rt.alloc(), &tree)?.as_str(), expected);
-        assert_eq!(rt; moved(&old, &places(rt.alloc(), &tree)?), moves, "{keys:?}");
+        text_is(&rt, rt.alloc(), &tree, expected)?;
+        assert_eq!(rt; moved_since(rt.alloc(), &old, &tree)?, moves, "{keys:?}");
     }
     Ok(())
 }
@@ -274,86 +291,126 @@ fn order_of(alloc: Global, count: u8, number: usize) -> Result<Vec<u8>, Fail> {
     Ok(order)
 }
 
+/// Inserts a key in the tree and in a plain vector; both must agree then, and at most five entries have moved.
+fn insert_in_both(
+    rt: &impl Abort,
+    alloc: Global,
+    tree: &mut Keys,
+    sorted: &mut Vec<u8>,
+    key: u8,
+) -> Result<(), Fail> {
+    let old = places(alloc, tree)?;
+    let p = insert(rt, alloc, tree, key)?;
+    sorted.push(key)?;
+    sorted.sort()?;
+    let new = places(alloc, tree)?;
+    assert!(rt;
+        is_balanced(&new, tree.root(), sorted.as_slice()) && is_tight(&new),
+        "{new:?}"
+    );
+    assert!(rt; moved(&old, &new) <= 5);
+    assert_eq!(rt; usize::try_from(p.inx()).ok(), Some(sorted.len()));
+    Ok(())
+}
+
+/// Inserts the keys from 1 to `count` in the order that has this number.
+fn insert_in_order(rt: &impl Abort, alloc: Global, count: u8, number: usize) -> Result<(), Fail> {
+    let mut tree = Keys::new(alloc);
+    let mut sorted: Vec<u8> = Vec::new(alloc);
+    for key in order_of(alloc, count, number)? {
+        insert_in_both(rt, alloc, &mut tree, &mut sorted, key)?;
+    }
+    Ok(())
+}
+
 #[test]
 fn keeps_the_balance_in_every_order(rt: HostRuntime) -> Result<(), Fail> {
     let mut orders: usize = 1;
     for count in 1..=7u8 {
         orders = orders.saturating_mul(usize::from(count));
         for number in 0..orders {
-            let mut tree = Keys::new(rt.alloc());
-            let mut sorted: Vec<u8> = Vec::new(rt.alloc());
-            let mut old = Vec::new(rt.alloc());
-            for key in order_of(rt.alloc(), count, number)? {
-                let p = insert(&rt, rt.alloc(), &mut tree, key)?;
-                sorted.push(key)?;
-                sorted.sort()?;
-                let new = places(rt.alloc(), &tree)?;
-                assert!(rt; new.iter().map(|place| place.key).eq(sorted.iter().copied()));
-                assert!(rt; is_ranked(&new, tree.root()) && is_tight(&new), "{new:?}");
-                assert!(rt; moved(&old, &new) <= 5);
-                assert_eq!(rt; usize::try_from(p.inx()).ok(), Some(sorted.len()));
-                old = new;
-            }
+            insert_in_order(&rt, rt.alloc(), count, number)?;
         }
     }
     Ok(())
 }
 
-#[test]
-fn inserts_within_capacity_and_writes(rt: HostRuntime) -> Result<(), Fail> {
-    let mut tree: OrdTree<P8, char> = OrdTree::with_min_capacity(rt.alloc(), 2)?;
+/// Trees of letters under small pointers.
+type Letters = OrdTree<P8, char>;
+
+/// The letters b and a at the indexes 1 and 2, which have no more room.
+fn two_letters(rt: &impl Abort, alloc: Global) -> Result<Letters, Fail> {
+    let mut tree = Letters::with_min_capacity(alloc, 2)?;
     assert!(rt; tree.is_empty());
     let p = tree.insert_within_capacity(None, 'b')?;
     assert!(rt; tree.contains_inx(1));
     let q = tree.insert_within_capacity(Some((1, Ordering::Less)), 'a')?;
+    assert_eq!(rt; (p, q), (P8::_from_raw(1, 2), P8::_from_raw(2, 2)));
+    assert_eq!(rt; tree.root(), Some(1));
+    Ok(tree)
+}
+
+/// A tree of this length and capacity, with this generation.
+fn counts_are<P: Ptr, T>(rt: &impl Abort, tree: &OrdTree<P, T>, wanted: (usize, usize, P::Gen)) {
+    let chain = tree.chain();
+    assert!(rt; (chain.len(), chain.capacity(), chain.generation()) == wanted);
+}
+
+/// The entry of a pointer has this letter, rank and parent.
+fn node_is(rt: &impl Abort, tree: &Letters, p: P8, wanted: (char, u8, Option<u8>)) {
+    let node = tree.chain().get(p);
     assert_eq!(rt;
-        (p, q, tree.root()),
-        (P8::_from_raw(1, 2), P8::_from_raw(2, 2), Some(1))
+        node.map(|node| (node.t, node.rank, node.p_back.get())),
+        Some(wanted)
     );
+}
+
+#[test]
+fn inserts_within_capacity(rt: HostRuntime) -> Result<(), Fail> {
+    let mut tree = two_letters(&rt, rt.alloc())?;
     assert!(rt; tree.contains_inx(2));
     let refused = tree.insert_within_capacity(Some((2, Ordering::Greater)), 'c');
-    assert_eq!(rt;
-        (refused, tree.chain().len()),
-        (Err(InsertionError::NotWithinCapacity), 2)
-    );
+    assert_eq!(rt; refused, Err(InsertionError::NotWithinCapacity));
+    counts_are(&rt, &tree, (2, 2, 2));
+    Ok(())
+}
 
+#[test]
+fn writes_letters(rt: HostRuntime) -> Result<(), Fail> {
+    let mut tree = two_letters(&rt, rt.alloc())?;
     let (_, letter) = tree.get_inx_mut(2).ok_or("2 has an entry")?;
     *letter = 'x';
     if let Some(letter) = tree.item_at_mut(1) {
         *letter = 'y';
     }
-    let node = tree.chain().get(q).ok_or("its node")?;
-    assert_eq!(rt; (node.t, node.rank, node.p_back.get()), ('x', 1, Some(1)));
-    assert_eq!(rt; tree.chain().get(p).ok_or("its node")?.t, 'y');
+    node_is(&rt, &tree, P8::_from_raw(2, 2), ('x', 1, Some(1)));
+    node_is(&rt, &tree, P8::_from_raw(1, 2), ('y', 2, None));
+    Ok(())
+}
 
-    assert_eq!(rt;
-        (
-            tree.set_max_capacity(1).is_err(),
-            tree.set_max_capacity(2).is_ok()
-        ),
-        (true, true)
-    );
+#[test]
+fn nothing_goes_beyond_the_limit(rt: HostRuntime) -> Result<(), Fail> {
+    let mut tree = two_letters(&rt, rt.alloc())?;
+    assert!(rt; tree.set_max_capacity(1).is_err());
+    assert!(rt; tree.set_max_capacity(2).is_ok());
     assert!(rt; tree.contains_inx(2));
     let refused = tree.insert_reallocating(Some((2, Ordering::Greater)), 'c');
-    assert_eq!(rt;
-        (refused, tree.chain().len()),
-        (Err(InsertionError::BeyondMaxCapacity), 2)
-    );
-    assert_eq!(rt;
-        tree.reallocate_min_capacity(3),
-        Err(ReallocationError::BeyondMaxCapacity)
-    );
-    assert_eq!(rt;
-        (tree.reallocate_min_capacity(0), tree.chain().capacity()),
-        (Ok(()), 2)
-    );
-    tree.set_generation(7);
-    assert_eq!(rt;
-        (tree.inc_generation(), tree.chain().generation()),
-        (InvalidationOption::Success(()), 8)
-    );
+    assert_eq!(rt; refused, Err(InsertionError::BeyondMaxCapacity));
+    let refused = tree.reallocate_min_capacity(3);
+    assert_eq!(rt; refused, Err(ReallocationError::BeyondMaxCapacity));
+    assert_eq!(rt; tree.reallocate_min_capacity(0), Ok(()));
+    counts_are(&rt, &tree, (2, 2, 2));
+    Ok(())
+}
 
+#[test]
+fn generations_are_set(rt: HostRuntime) -> Result<(), Fail> {
+    let mut tree = two_letters(&rt, rt.alloc())?;
+    tree.set_generation(7);
+    assert_eq!(rt; tree.inc_generation(), InvalidationOption::Success(()));
+    counts_are(&rt, &tree, (2, 2, 8));
     let ageless: OrdTree<PN, u8> = OrdTree::new(rt.alloc());
+    counts_are(&rt, &ageless, (0, 0, ()));
     assert_eq!(rt; (ageless.root(), ageless.len()), (None, 0));
     Ok(())
 }
@@ -386,6 +443,20 @@ fn look_at(alloc: Global, tree: &Keys) -> Result<Seen, Fail> {
     })
 }
 
+/// A tree that looks like this.
+fn looks_like(rt: &impl Abort, alloc: Global, tree: &Keys, expected: &Seen) -> Result<(), Fail> {
+    assert_eq!(rt; look_at(alloc, tree)?, *expected);
+    Ok(())
+}
+
+/// What is expected where another key is written into the root, 40 at the index 1.
+fn expect_root(rt: &impl Abort, expected: &mut Seen, key: u8) -> Result<(), &'static str> {
+    let written = expected.places.get_mut(3).ok_or("40 was the fourth")?;
+    assert_eq!(rt; (written.index, written.key), (1, 40));
+    written.key = key;
+    Ok(())
+}
+
 #[test]
 fn get_inx_mut_leaves_all_but_the_item(rt: HostRuntime) -> Result<(), Fail> {
     let mut tree = tree_of(&rt, rt.alloc(), &[40, 20, 60, 10, 30, 50, 70])?;
@@ -394,46 +465,62 @@ fn get_inx_mut_leaves_all_but_the_item(rt: HostRuntime) -> Result<(), Fail> {
     let mut expected = look_at(rt.alloc(), &tree)?;
     for i in [0, 3, 8, 9, u32::MAX] {
         assert!(rt; tree.get_inx_mut(i).is_none());
-        assert_eq!(rt; look_at(rt.alloc(), &tree)?, expected);
+        looks_like(&rt, rt.alloc(), &tree, &expected)?;
     }
     let (generation, key) = tree.get_inx_mut(1).ok_or("1 has an entry")?;
     assert_eq!(rt; (generation, *key), (2, 40));
-    assert_eq!(rt; look_at(rt.alloc(), &tree)?, expected);
+    looks_like(&rt, rt.alloc(), &tree, &expected)?;
     let (_, key) = tree.get_inx_mut(1).ok_or("1 has an entry")?;
     *key = 99;
-    let written = expected.places.get_mut(3).ok_or("40 was the fourth")?;
-    assert_eq!(rt; (written.index, written.key), (1, 40));
-    written.key = 99;
-    assert_eq!(rt; look_at(rt.alloc(), &tree)?, expected);
+    expect_root(&rt, &mut expected, 99)?;
+    looks_like(&rt, rt.alloc(), &tree, &expected)
+}
+
+/// The places of a tree are these.
+fn places_are<A: Allocator>(
+    rt: &impl Abort,
+    alloc: Global,
+    tree: &Keys<A>,
+    expected: &[Place],
+) -> Result<(), Fail> {
+    assert_eq!(rt; places(alloc, tree)?.as_slice(), expected);
     Ok(())
+}
+
+/// Inserts nine keys on a heap of so many units, until memory is refused. Answers how many are there.
+fn inserted(rt: &impl Abort, alloc: Global, units: usize) -> Result<usize, Fail> {
+    let heap = LocalHeap::new(alloc, units.saturating_mul(16))?;
+    let mut tree = Keys::new(&heap);
+    let mut old = Vec::new(alloc);
+    for key in 1..=9 {
+        if insert_at(rt, &mut tree, place_of(&old, key), key).is_err() {
+            places_are(rt, alloc, &tree, &old)?;
+            let chain = tree.chain();
+            assert_eq!(rt; (chain.capacity(), chain.generation()), (old.len(), 2));
+            break;
+        }
+        old = places(alloc, &tree)?;
+    }
+    Ok(old.len())
+}
+
+/// Marks which of these lengths was met.
+fn meet(met: &mut [bool], lens: &[usize], len: usize) {
+    for (is_met, known) in met.iter_mut().zip(lens) {
+        if len == *known {
+            *is_met = true;
+        }
+    }
 }
 
 #[test]
 fn keeps_all_where_memory_is_refused(rt: HostRuntime) -> Result<(), Fail> {
-    let mut lens = [false; 3];
-    for size in 1..120 {
-        let heap = LocalHeap::new(rt.alloc(), 16 * size)?;
-        let mut tree = Keys::new(&heap);
-        let mut old = Vec::new(rt.alloc());
-        for key in 1..=9 {
-            let at = place_of(&old, key);
-            if insert_at(&rt, &mut tree, at, key).is_err() {
-                assert!(rt; places(rt.alloc(), &tree)? == old);
-                assert_eq!(rt;
-                    (tree.chain().capacity(), tree.chain().generation()),
-                    (old.len(), 2)
-                );
-                break;
-            }
-            old = places(rt.alloc(), &tree)?;
-        }
-        for (i, known) in [0, 4, 8].iter().enumerate() {
-            if old.len() == *known {
-                lens[i] = true;
-            }
-        }
+    let mut met = [false; 3];
+    for units in 1..120 {
+        let len = inserted(&rt, rt.alloc(), units)?;
+        meet(&mut met, &[0, 4, 8], len);
     }
-    assert_eq!(rt; lens, [true; 3]);
+    assert_eq!(rt; met, [true; 3]);
     Ok(())
 }
 
@@ -486,7 +573,7 @@ fn repairs_removals_by_the_table(rt: HostRuntime) -> Result<(), Fail> {
             "1:2^3 2:1^1 3:4^0 4:1^5 5:2^3 ",
             0,
         ),
-        // the sibling's outer child is one below it: a single restructuring
+        // the sibling's outer child is one below it: a single rotation
         (&[1, 2, 3, 4], &[1], "2:1^3 3:3^0 4:1^3 ", 2),
         (&[2, 3, 4, 1], &[4], "1:1^2 2:3^0 3:1^2 ", 2),
         (&[1, 2, 3, 4, 5], &[1], "2:2^4 3:1^2 4:3^0 5:1^4 ", 3),
@@ -517,7 +604,7 @@ fn repairs_removals_by_the_table(rt: HostRuntime) -> Result<(), Fail> {
             "1:1^3 3:2^5 4:1^3 5:3^0 6:1^5 ",
             0,
         ),
-        // its inner child alone is one below it: a double restructuring
+        // its inner child alone is one below it: a double rotation
         (&[1, 2, 4, 3], &[1], "2:1^3 3:3^0 4:1^3 ", 3),
         (&[1, 3, 4, 2], &[4], "1:1^2 2:3^0 3:1^2 ", 3),
         // the same further up, with both inner subtrees
@@ -552,12 +639,9 @@ fn repairs_removals_by_the_table(rt: HostRuntime) -> Result<(), Fail> {
         }
         let old = places(rt.alloc(), &tree)?;
         remove(&rt, rt.alloc(), &mut tree, *last)?;
-        assert_eq!(rt; text(rt.alloc(), &tree)?.as_str(), expected);
-        assert_eq!(rt;
-            moved(&old, &places(rt.alloc(), &tree)?),
-            moves,
-            "{keys:?} without {removed:?}"
-        );
+        text_is(&rt, rt.alloc(), &tree, expected)?;
+        let moved = moved_since(rt.alloc(), &old, &tree)?;
+        assert_eq!(rt; moved, moves, "{keys:?} without {removed:?}");
     }
     Ok(())
 }
@@ -585,9 +669,28 @@ fn toggle(
         }
     };
     let new = places(alloc, tree)?;
-    assert!(rt; new.iter().map(|place| place.key).eq(sorted.iter().copied()));
-    assert!(rt; is_ranked(&new, tree.root()), "{new:?}");
+    assert!(rt;
+        is_balanced(&new, tree.root(), sorted.as_slice()),
+        "{new:?}"
+    );
     assert!(rt; moved(&old, &new) <= most);
+    Ok(())
+}
+
+/// Removes the keys of a tree in the order that has this number, until none is left.
+fn remove_in_order(
+    rt: &impl Abort,
+    alloc: Global,
+    keys: &[u8],
+    count: u8,
+    number: usize,
+) -> Result<(), Fail> {
+    let mut tree = tree_of(rt, alloc, keys)?;
+    let mut sorted = order_of(alloc, count, 0)?;
+    for key in order_of(alloc, count, number)? {
+        toggle(rt, alloc, &mut tree, &mut sorted, key)?;
+    }
+    assert!(rt; tree.is_empty());
     Ok(())
 }
 
@@ -605,12 +708,7 @@ fn removes_in_every_order(rt: HostRuntime) -> Result<(), Fail> {
                 continue;
             }
             for removed in 0..orders {
-                let mut tree = tree_of(&rt, rt.alloc(), keys.as_slice())?;
-                let mut sorted = order_of(rt.alloc(), count, 0)?;
-                for key in order_of(rt.alloc(), count, removed)? {
-                    toggle(&rt, rt.alloc(), &mut tree, &mut sorted, key)?;
-                }
-                assert!(rt; tree.is_empty());
+                remove_in_order(&rt, rt.alloc(), keys.as_slice(), count, removed)?;
             }
             seen.push(shape)?;
         }
@@ -618,53 +716,84 @@ fn removes_in_every_order(rt: HostRuntime) -> Result<(), Fail> {
     Ok(())
 }
 
+/// Inserts and removes keys by the seven digits of a word in base 5.
+fn toggle_by_digits(rt: &impl Abort, alloc: Global, word: usize) -> Result<(), Fail> {
+    let mut tree = Keys::new(alloc);
+    let mut sorted: Vec<u8> = Vec::new(alloc);
+    let mut rest = word;
+    for _ in 0..7 {
+        let key = [1, 2, 3, 4, 5][rest % 5];
+        toggle(rt, alloc, &mut tree, &mut sorted, key)?;
+        rest /= 5;
+    }
+    Ok(())
+}
+
 #[test]
 fn inserts_and_removes_in_every_mix(rt: HostRuntime) -> Result<(), Fail> {
     for word in 0..78_125usize {
-        let mut tree = Keys::new(rt.alloc());
-        let mut sorted: Vec<u8> = Vec::new(rt.alloc());
-        let mut rest = word;
-        for _ in 0..7 {
-            let key = [1, 2, 3, 4, 5][rest % 5];
-            toggle(&rt, rt.alloc(), &mut tree, &mut sorted, key)?;
-            rest /= 5;
-        }
+        toggle_by_digits(&rt, rt.alloc(), word)?;
     }
     Ok(())
+}
+
+/// A removal of what stands at an index answers this.
+fn removes_inx(
+    rt: &impl Abort,
+    tree: &mut Keys,
+    index: u32,
+    wanted: InvalidationResult<(u64, u8)>,
+) {
+    assert_eq!(rt; tree.remove_inx(index), wanted);
+}
+
+/// A pointer is replaced with this answer.
+fn invalidates(rt: &impl Abort, tree: &mut Keys, p: P0, wanted: InvalidationResult<P0>) {
+    assert_eq!(rt; tree.invalidate(p), wanted);
+}
+
+#[test]
+fn what_names_no_entry_changes_nothing(rt: HostRuntime) -> Result<(), Fail> {
+    let mut tree = tree_of(&rt, rt.alloc(), &[2, 1, 3])?;
+    let old = places(rt.alloc(), &tree)?;
+    for index in [0, 4, u32::MAX] {
+        removes_inx(&rt, &mut tree, index, InvalidationResult::InvalidPtr);
+    }
+    for p in [P0::invalid(), P0::_from_raw(1, 3), P0::_from_raw(4, 2)] {
+        invalidates(&rt, &mut tree, p, InvalidationResult::InvalidPtr);
+    }
+    places_are(&rt, rt.alloc(), &tree, &old)?;
+    counts_are(&rt, &tree, (3, 4, 2));
+    Ok(())
+}
+
+/// A new pointer takes the place of an old one, which names nothing then.
+fn renews(rt: &impl Abort, tree: &mut Keys, old: P0, new: P0) {
+    invalidates(rt, tree, old, InvalidationResult::Success(new));
+    invalidates(rt, tree, old, InvalidationResult::InvalidPtr);
+    assert!(rt; tree.chain().contains(new) && !tree.chain().contains(old));
+}
+
+/// A tree is cleared, twice.
+fn clears(rt: &impl Abort, tree: &mut Keys) {
+    assert_eq!(rt; tree.clear(), InvalidationOption::Success(()));
+    assert_eq!(rt; tree.clear(), InvalidationOption::Success(()));
+    assert_eq!(rt; (tree.len(), tree.root()), (0, None));
 }
 
 #[test]
 fn ends_and_renews_pointers(rt: HostRuntime) -> Result<(), Fail> {
     let mut tree = tree_of(&rt, rt.alloc(), &[2, 1, 3])?;
     let old = places(rt.alloc(), &tree)?;
-    for index in [0, 4, u32::MAX] {
-        assert_eq!(rt; tree.remove_inx(index), InvalidationResult::InvalidPtr);
-    }
-    for p in [P0::invalid(), P0::_from_raw(1, 3), P0::_from_raw(4, 2)] {
-        assert_eq!(rt; tree.invalidate(p), InvalidationResult::InvalidPtr);
-    }
-    assert!(rt; places(rt.alloc(), &tree)? == old);
-    assert_eq!(rt;
-        (tree.chain().generation(), tree.chain().capacity()),
-        (2, 4)
-    );
-
-    let (p, q) = (P0::_from_raw(1, 2), P0::_from_raw(1, 3));
-    assert_eq!(rt; tree.invalidate(p), InvalidationResult::Success(q));
-    assert_eq!(rt; tree.invalidate(p), InvalidationResult::InvalidPtr);
-    assert!(rt; tree.chain().contains(q) && !tree.chain().contains(p));
-    assert!(rt; places(rt.alloc(), &tree)? == old);
-    assert_eq!(rt; tree.remove_inx(1), InvalidationResult::Success((3, 2)));
-    assert_eq!(rt; tree.remove_inx(1), InvalidationResult::InvalidPtr);
-    assert_eq!(rt; text(rt.alloc(), &tree)?.as_str(), "1:2^0 3:1^1 ");
+    renews(&rt, &mut tree, P0::_from_raw(1, 2), P0::_from_raw(1, 3));
+    places_are(&rt, rt.alloc(), &tree, &old)?;
+    removes_inx(&rt, &mut tree, 1, InvalidationResult::Success((3, 2)));
+    removes_inx(&rt, &mut tree, 1, InvalidationResult::InvalidPtr);
+    text_is(&rt, rt.alloc(), &tree, "1:2^0 3:1^1 ")?;
     assert_eq!(rt; insert(&rt, rt.alloc(), &mut tree, 5)?, P0::_from_raw(1, 4));
 
-    assert_eq!(rt; tree.clear(), InvalidationOption::Success(()));
-    assert_eq!(rt; tree.clear(), InvalidationOption::Success(()));
-    assert_eq!(rt;
-        (tree.len(), tree.root(), tree.chain().capacity()),
-        (0, None, 4)
-    );
+    clears(&rt, &mut tree);
+    counts_are(&rt, &tree, (0, 4, 6));
     assert_eq!(rt; insert(&rt, rt.alloc(), &mut tree, 7)?, P0::_from_raw(1, 6));
     assert_eq!(rt; tree.root(), Some(1));
     Ok(())
@@ -672,7 +801,7 @@ fn ends_and_renews_pointers(rt: HostRuntime) -> Result<(), Fail> {
 
 #[test]
 fn tells_where_the_generations_begin_again(rt: HostRuntime) -> Result<(), Fail> {
-    let mut tree: OrdTree<P8, char> = OrdTree::with_min_capacity(rt.alloc(), 2)?;
+    let mut tree = Letters::with_min_capacity(rt.alloc(), 2)?;
     tree.set_generation(255);
     let p = tree.insert_within_capacity(None, 'a')?;
     assert_eq!(rt;
@@ -687,7 +816,11 @@ fn tells_where_the_generations_begin_again(rt: HostRuntime) -> Result<(), Fail> 
     assert_eq!(rt; tree.chain().generation(), 2);
     tree.set_generation(255);
     assert_eq!(rt; tree.clear(), InvalidationOption::GenerationOverflow(()));
+    Ok(())
+}
 
+#[test]
+fn without_generations_a_pointer_is_renewed_by_itself(rt: HostRuntime) -> Result<(), Fail> {
     let mut ageless: OrdTree<PN, u8> = OrdTree::with_min_capacity(rt.alloc(), 1)?;
     let p = ageless.insert_within_capacity(None, 7)?;
     assert_eq!(rt; ageless.invalidate(p), InvalidationResult::Success(p));
@@ -695,23 +828,41 @@ fn tells_where_the_generations_begin_again(rt: HostRuntime) -> Result<(), Fail> 
     Ok(())
 }
 
-#[test]
-fn takes_no_memory_to_end_entries(rt: HostRuntime) -> Result<(), Fail> {
-    let heap = LocalHeap::new(rt.alloc(), 4096)?;
-    let mut tree = Keys::new(&heap);
-    let mut old = Vec::new(rt.alloc());
+/// Nine keys on a heap.
+fn nine_keys<'a>(
+    rt: &impl Abort,
+    alloc: Global,
+    heap: &'a LocalHeap,
+) -> Result<Keys<&'a LocalHeap>, Fail> {
+    let mut tree = Keys::new(heap);
     for key in 1..=9 {
-        let _ = insert_at(&rt, &mut tree, place_of(&old, key), key)?;
-        old = places(rt.alloc(), &tree)?;
+        let _ = insert(rt, alloc, &mut tree, key)?;
     }
-    let mut taken: Vec<Vec<u8, &LocalHeap>> = Vec::new(rt.alloc());
+    Ok(tree)
+}
+
+/// Takes all that is left of a heap, in single bytes.
+fn drained<'a>(
+    rt: &impl Abort,
+    alloc: Global,
+    heap: &'a LocalHeap,
+) -> Result<Vec<Vec<u8, &'a LocalHeap>>, AllocError> {
+    let mut taken = Vec::new(alloc);
     for _ in 0..4096 {
-        match Vec::with_capacity(&heap, 1) {
+        match Vec::with_capacity(heap, 1) {
             Ok(room) => taken.push(room)?,
             Err(_) => break,
         }
     }
-    assert!(rt; Vec::<u8, &LocalHeap>::with_capacity(&heap, 1).is_err());
+    assert!(rt; Vec::<u8, &LocalHeap>::with_capacity(heap, 1).is_err());
+    Ok(taken)
+}
+
+#[test]
+fn takes_no_memory_to_end_entries(rt: HostRuntime) -> Result<(), Fail> {
+    let heap = LocalHeap::new(rt.alloc(), 4096)?;
+    let mut tree = nine_keys(&rt, rt.alloc(), &heap)?;
+    let _taken = drained(&rt, rt.alloc(), &heap)?;
     for key in [4, 8, 1, 9] {
         remove(&rt, rt.alloc(), &mut tree, key)?;
     }

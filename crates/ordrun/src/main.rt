@@ -1,4 +1,4 @@
-// Runs the script on standard input, and answers it on standard output.
+//! Runs the script on standard input, and answers it on standard output.
 #![tactic(auto)]
 
 use ord_script::{Watched, serve};

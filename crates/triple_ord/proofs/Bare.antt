@@ -1,12 +1,12 @@
 -- A chain of nodes and the list of its items: each look-up in the one reads what the other has.
-use Rattle.std.proofs.Common.{◌≡◌, ℕ, ◌+◌, ◌<◌, ◌==◌, ◌↔◌, if◌then◌else◌, length, arith, List, [], ◌∷◌, ◌++◌, Option, Some, None, IsSome, IfSome, is_some, refl, sym, ap, subst, ◌∙◌, inl, inr, ◌⊎◌, map}
+use Rattle.std.proofs.Common.{◌≡◌, ℕ, ◌↔◌, length, arith, List, [], ◌∷◌, ◌++◌, Option, Some, None, IsSome, IfSome, is_some, refl, sym, ap, subst, ◌∙◌, inl, inr, ◌⊎◌, map}
 use Rattle.std.proofs.lemmas.Bool.Decides.{eqb_tells}
 use Rattle.std.proofs.lemmas.List.{length-map}
 use Rattle.std.specs.Option.{option_map}
 use Rattle.arena_base.specs.Arena.{Arena, slot, item_if}
 use Rattle.chain_base.specs.Link.{Link}
 use Rattle.chain_base.specs.Chain.{Entry, Chain, entry_at, item_of, first_or, link_between, link_at, first_pointer, last_pointer, times, generation_at, IsFirstIndex, IsLastIndex, IsArenaOf}
-use Rattle.ord_tree.specs.declared.links.Links.{Links}
+use Rattle.ord_tree.specs.declared.tree_links.TreeLinks.{TreeLinks}
 use Rattle.ord_tree.specs.declared.node.SimpleOrdArenaNode.{SimpleOrdArenaNode}
 use Rattle.ord_tree.specs.Shape.{Shape, missing, node, root_of, walk}
 use Rattle.ord_tree.specs.Parents.{HasParentUnder}
@@ -14,7 +14,9 @@ use Rattle.ord_tree.specs.Slots.{Slots, Holds, Among}
 use Rattle.ord_tree.specs.Node.{bare_entry, links_in, slots_of, indexes}
 use Rattle.ord_tree.specs.Tree.{Tree, IsChainOf, IsSoundTree}
 use Rattle.triple_ord.specs.Node.{IsPart, IsNodeIn}
-use Rattle.triple_ord.proofs.Holding.{held-root, entry_at-bare}
+use Rattle.chain_base.proofs.CallerLemmas.{entry_at-link}
+use Rattle.ord_tree.proofs.CallerLemmas.{entry_at-bare, times-bare, indexes-bare}
+use Rattle.triple_ord.proofs.Holding.{held-root}
 
 -- the option of a mapped value
 pub is_some-map : {A B : Type 0} (f : A → B) (o : Option A) → is_some (option_map f o) ≡ is_some o
@@ -25,12 +27,6 @@ is_some-map f (Some x) = refl
 pub option_map-twice : {A B C : Type 0} (f : A → B) (g : B → C) (o : Option A) → option_map (λ x. g (f x)) o ≡ option_map g (option_map f o)
 option_map-twice f g None = refl
 option_map-twice f g (Some x) = refl
-
--- the entry of an index is its link, without the neighbours
-pub entry_at-link : {X : Type 0} (before after : Option ℕ) (es : List (Entry X)) (i : ℕ) → entry_at es i ≡ option_map (λ e. (e.0, e.1.item)) (link_between before after es i)
-entry_at-link before after [] i = refl
-entry_at-link before after (e ∷ es) i =
-    elim (eqb_tells e.index i) [ inl h ↦ rw h.0 refl | inr h ↦ rw h.0 (entry_at-link (Some e.index) after es i) ]
 
 module _ {P T I G : Type 0} where
   item_if-bare : (g : ℕ) (o : Option (ℕ × SimpleOrdArenaNode P T I G)) → item_if g (option_map {U = ℕ × T} (λ e. (e.0, e.1.t)) o) ≡ option_map (λ n. n.t) (item_if g o)
@@ -49,10 +45,6 @@ module _ {P T I G : Type 0} where
   first_or-bare : (after : Option ℕ) (es : List (Entry (SimpleOrdArenaNode P T I G))) → first_or after (map bare_entry es) ≡ first_or after es
   first_or-bare after [] = refl
   first_or-bare after (e ∷ es) = refl
-
-  times-bare : (es : List (Entry (SimpleOrdArenaNode P T I G))) (i : ℕ) → times i (map bare_entry es) ≡ times i es
-  times-bare [] i = refl
-  times-bare (e ∷ es) i = ap (λ n. (if e.index == i then 1 else 0) + n) (times-bare es i)
 
   generation_at-link : (es : List (Entry (SimpleOrdArenaNode P T I G))) (i : ℕ) → generation_at es i ≡ option_map (λ e. e.0) (link_at es i)
   generation_at-link es i =
@@ -76,12 +68,12 @@ module _ {P T I G : Type 0} where
 
   -- what the chain of nodes under a tree says of the tree's list
   module _ (t : Tree T) (c : Chain (SimpleOrdArenaNode P T I G)) (under : IsChainOf t c) where
-    pub item_of-under : (i g : ℕ) → item_of t.list.entries i g ≡ option_map (λ n. n.t) (item_of c.entries i g)
-    item_of-under i g =
-        ap (λ (l : Chain T). item_of l.entries i g) (sym under.list) ∙ ap (item_if g) (entry_at-bare c.entries i) ∙ item_if-bare g (entry_at c.entries i)
+    pub item_of-under : (p : ℕ × ℕ) → item_of t.list.entries p ≡ option_map (λ n. n.t) (item_of c.entries p)
+    item_of-under p =
+        ap (λ (l : Chain T). item_of l.entries p) (sym under.list) ∙ ap (item_if p.1) (entry_at-bare c.entries p.0) ∙ item_if-bare p.1 (entry_at c.entries p.0)
 
-    pub contains-under : (i g : ℕ) → is_some (item_of c.entries i g) ≡ is_some (item_of t.list.entries i g)
-    contains-under i g = sym (is_some-map _ (item_of c.entries i g)) ∙ ap is_some (sym (item_of-under i g))
+    pub contains-under : (p : ℕ × ℕ) → is_some (item_of c.entries p) ≡ is_some (item_of t.list.entries p)
+    contains-under p = sym (is_some-map _ (item_of c.entries p)) ∙ ap is_some (sym (item_of-under p))
 
     times-under : (i : ℕ) → times i c.entries ≡ times i t.list.entries
     times-under i = sym (times-bare c.entries i) ∙ ap (λ (l : Chain T). times i l.entries) under.list
@@ -94,11 +86,11 @@ module _ {P T I G : Type 0} where
     length-under : length c.entries ≡ length t.list.entries
     length-under = sym (length-map c.entries bare_entry) ∙ ap (λ (l : Chain T). length l.entries) under.list
 
-    pub item_found-under : (i g : ℕ) (n : SimpleOrdArenaNode P T I G) → Some n ≡ item_of c.entries i g → Some n.t ≡ item_of t.list.entries i g
-    item_found-under i g n is = sym (item_of-under i g ∙ rw (← is) refl)
+    pub item_found-under : (p : ℕ × ℕ) (n : SimpleOrdArenaNode P T I G) → Some n ≡ item_of c.entries p → Some n.t ≡ item_of t.list.entries p
+    item_found-under p n is = sym (item_of-under p ∙ rw (← is) refl)
 
-    pub item_missing-under : (i g : ℕ) → None ≡ item_of c.entries i g → None ≡ item_of t.list.entries i g
-    item_missing-under i g is = sym (item_of-under i g ∙ rw (← is) refl)
+    pub item_missing-under : (p : ℕ × ℕ) → None ≡ item_of c.entries p → None ≡ item_of t.list.entries p
+    item_missing-under p is = sym (item_of-under p ∙ rw (← is) refl)
 
     pub first_pointer-under : first_pointer c.entries ≡ first_pointer t.list.entries
     first_pointer-under = sym (first_pointer-bare c.entries) ∙ ap (λ (l : Chain T). first_pointer l.entries) under.list
@@ -113,15 +105,15 @@ module _ {P T I G : Type 0} where
     link_generation-under i = sym (generation_at-link c.entries i) ∙ generation_at-under i
 
     -- the entries with the least and the greatest index
-    pub first_index-under : {X : Type 0} (o : Option X) (index era : X → ℕ) → IfSome o (λ p. IsFirstIndex c.entries (index p) (era p)) → IfSome o (λ p. IsFirstIndex t.list.entries (index p) (era p))
-    first_index-under None index era h = h
-    first_index-under (Some p) index era h =
-        record { entry = sym (generation_at-under (index p)) ∙ h.entry; least = λ k below. sym (times-under k) ∙ h.least k below }
+    pub first_index-under : {X : Type 0} (o : Option X) (numbers : X → ℕ × ℕ) → IfSome o (λ p. IsFirstIndex c.entries (numbers p).0 (numbers p).1) → IfSome o (λ p. IsFirstIndex t.list.entries (numbers p).0 (numbers p).1)
+    first_index-under None numbers h = h
+    first_index-under (Some p) numbers h =
+        record { entry = sym (generation_at-under (numbers p).0) ∙ h.entry; least = λ k below. sym (times-under k) ∙ h.least k below }
 
-    pub last_index-under : {X : Type 0} (o : Option X) (index era : X → ℕ) → IfSome o (λ p. IsLastIndex c.entries (index p) (era p)) → IfSome o (λ p. IsLastIndex t.list.entries (index p) (era p))
-    last_index-under None index era h = h
-    last_index-under (Some p) index era h =
-        record { entry = sym (generation_at-under (index p)) ∙ h.entry; greatest = λ k above. sym (times-under k) ∙ h.greatest k above }
+    pub last_index-under : {X : Type 0} (o : Option X) (numbers : X → ℕ × ℕ) → IfSome o (λ p. IsLastIndex c.entries (numbers p).0 (numbers p).1) → IfSome o (λ p. IsLastIndex t.list.entries (numbers p).0 (numbers p).1)
+    last_index-under None numbers h = h
+    last_index-under (Some p) numbers h =
+        record { entry = sym (generation_at-under (numbers p).0) ∙ h.entry; greatest = λ k above. sym (times-under k) ∙ h.greatest k above }
 
     pub none-under : (N : Type 0) → N ↔ (c.entries ≡ []) → N ↔ (length t.list.entries ≡ 0)
     none-under N h = (λ n. sym length-under ∙ ap length (h.0 n), λ z. h.1 (no-entries c.entries (length-under ∙ z)))
@@ -131,7 +123,7 @@ module _ {P T I G : Type 0} where
 
 -- a node that stands in a shape which nodes hold
 module _ (at : Slots) where
-  record IsNodeUnder (above : Option ℕ) (s : Shape) (i : ℕ) (n : Links ℕ) : Type 0 where
+  record IsNodeUnder (above : Option ℕ) (s : Shape) (i : ℕ) (n : TreeLinks ℕ) : Type 0 where
     lesser_side : Shape
     greater_side : Shape
     part : IsPart (node lesser_side i n.rank greater_side) s
@@ -146,7 +138,7 @@ module _ (at : Slots) where
     | inr rest ↦ elim (Among-append j xs ys rest) [ inl p ↦ inl (inr p) | inr q ↦ inr q ]
   ]
 
-  node-under : (above link : Option ℕ) (s : Shape) (i : ℕ) (n : Links ℕ) → Holds at above link s → at i ≡ Some n → Among i (walk s) → IsNodeUnder above s i n
+  node-under : (above link : Option ℕ) (s : Shape) (i : ℕ) (n : TreeLinks ℕ) → Holds at above link s → at i ≡ Some n → Among i (walk s) → IsNodeUnder above s i n
   node-under above link missing i n h is there = absurd there
   node-under above link (node l j k r) i n h is there = elim (Among-append i (walk l) (j ∷ walk r) there) [
     | inl low ↦
@@ -162,8 +154,8 @@ module _ (at : Slots) where
             greater_side = r;
             part = inl (rw (here, rank) refl);
             has_parent = inl (here, back);
-            lesser_root = ap (λ (m : Links ℕ). m.lesser) same ∙ held-root at (Some j) h.0.lesser l h.5;
-            greater_root = ap (λ (m : Links ℕ). m.greater) same ∙ held-root at (Some j) h.0.greater r h.6;
+            lesser_root = ap (λ (m : TreeLinks ℕ). m.lesser) same ∙ held-root at (Some j) h.0.lesser l h.5;
+            greater_root = ap (λ (m : TreeLinks ℕ). m.greater) same ∙ held-root at (Some j) h.0.greater r h.6;
           }
       | inr rest ↦
           let found = node-under (Some j) h.0.greater r i n h.6 is rest in
@@ -194,14 +186,10 @@ module _ {P T I G : Type 0} (t : Tree T) (c : Chain (SimpleOrdArenaNode P T I G)
   node-shown : (i : ℕ) (e : ℕ × Link (SimpleOrdArenaNode P T I G)) → slot a i ≡ Some e → IsNodeIn t.shape i e.1.item.p_back e.1.item.p_tree0 e.1.item.p_tree1 e.1.item.rank
   node-shown i e is =
       let entry : entry_at c.entries i ≡ Some (e.0, e.1.item) = entry_at-link None None c.entries i ∙ rw (← lies.slots i, is) refl in
-      let listed : indexes c.entries ≡ walk t.shape = indexes-bare c.entries ∙ ap (λ (l : Chain T). indexes l.entries) under.list ∙ sym sound.listed in
+      let listed : indexes c.entries ≡ walk t.shape = sym (indexes-bare c.entries) ∙ ap (λ (l : Chain T). indexes l.entries) under.list ∙ sym sound.listed in
       let there : Among i (walk t.shape) = subst (λ (js : List ℕ). Among i js) listed (among-entries c.entries i (e.0, e.1.item) entry) in
       let found = node-under (slots_of c) None (root_of t.shape) t.shape i (links_in e.1.item) under.held (rw entry refl) there in
       record { lesser_side = found.lesser_side; greater_side = found.greater_side; part = found.part; has_parent = found.has_parent; lesser_root = found.lesser_root; greater_root = found.greater_root }
-    where
-      indexes-bare : (es : List (Entry (SimpleOrdArenaNode P T I G))) → indexes es ≡ indexes (map bare_entry es)
-      indexes-bare [] = refl
-      indexes-bare (x ∷ es) = rw (← indexes-bare es) refl
 
   -- where the tree's list has an entry, the arena has a link
   pub slot-occupied : (i : ℕ) → IsSome (entry_at t.list.entries i) → IsSome (slot a i)

@@ -1,23 +1,15 @@
 -- A search that goes down once stays within the bounds on its visits.
-use Rattle.std.proofs.Common.{◌≡◌, ℕ, zero, suc, ◌+◌, ◌-◌, ◌^◌, ◌<◌, ◌≤◌, ◌∷◌, length, Option, Some, None, refl, sym, ap, ◌∙◌, arith, length-append}
+use Rattle.std.proofs.Common.{◌≡◌, ℕ, zero, suc, ◌+◌, ◌-◌, ◌^◌, ◌<◌, ◌≤◌, length, Option, Some, None, ap, ◌∙◌, arith}
 use Rattle.std.proofs.lemmas.List.{length-map}
 use Rattle.std.proofs.Math.Pow.{pow_mono}
 use Rattle.arena_base.specs.Arena.{limit_of}
 use Rattle.chain_base.specs.Chain.{IsSound}
-use Rattle.ord_tree.specs.Shape.{Shape, missing, node, size_of, rank_of, walk, height}
+use Rattle.ord_tree.specs.Shape.{size_of, rank_of, height}
 use Rattle.ord_tree.specs.Numbers.{fib}
 use Rattle.ord_tree.specs.Tree.{Tree, IsSoundTree}
 use Rattle.ord_tree.specs.Laws.{HeightLaw, RankSquareLaw, TightRankLaw, RebuiltHeightLaw}
+use Rattle.ord_tree.proofs.CallerLemmas.{size_of-walk, height-le-size}
 use Rattle.triple_ord.specs.VisitBounds.{IsWithinBounds, VisitsLaw}
-
--- the walk passes each node once
-length-walk : (s : Shape) → length (walk s) ≡ size_of s
-length-walk missing = refl
-length-walk (node l i k r) = omega (arith, length-append (walk l) (i ∷ walk r), length-walk l, length-walk r)
-
-pub height-le-size : (s : Shape) → height s ≤ size_of s
-height-le-size missing = omega arith
-height-le-size (node l i k r) = omega (arith, height-le-size l, height-le-size r)
 
 -- the Fibonacci numbers don't fall
 fib-step : (n : ℕ) → fib n ≤ fib (suc n)
@@ -56,7 +48,7 @@ visits-bounded height_law square_law tight_law rebuilt_law s c ranked few =
 
 module _ {T : Type 0} (t : Tree T) (sound : IsSoundTree t) where
   pub size-listed : size_of t.shape ≡ length t.list.entries
-  size-listed = sym (length-walk t.shape) ∙ ap length sound.listed ∙ length-map t.list.entries (λ e. e.index)
+  size-listed = size_of-walk t.shape ∙ ap length sound.listed ∙ length-map t.list.entries (λ e. e.index)
 
   -- no way down is as long as a machine's number can say
   pub height-fits : (most : ℕ) (greatest : Option ℕ) → IsSound most greatest t.list → most + 1 < 2 ^ 64 → height t.shape < 2 ^ 64

@@ -1,25 +1,29 @@
 -- For callers: what pointers find after each change of an ordered arena.
-use Rattle.std.proofs.Common.{◌≡◌, ◌≢◌, ℕ, suc, ◌+◌, ◌≤◌, true, false, List, [], ◌∷◌, ◌++◌, length, Option, Some, None, IsSome, is_some, Bool, slice_get, map, length-append, IfSome, IfNone, OnSome, IfOk, OnErr, Result, Ok, Err, refl, sym, ap, subst, ◌∙◌, arith, inl, inr, if◌then◌else◌}
+use Rattle.std.proofs.Common.{◌≡◌, ◌≢◌, ℕ, ◌+◌, true, false, List, [], ◌∷◌, ◌++◌, length, Option, Some, None, IsSome, is_some, Bool, slice_get, map, length-append, IfSome, IfNone, OnSome, Ok, refl, sym, ap, subst, ◌∙◌, arith, inl, inr, if◌then◌else◌}
 use Rattle.std.proofs.lemmas.Bool.Decides.{eqb_tells}
 use Rattle.std.specs.Option.{option_map}
 use Rattle.std.specs.declared.cmp.Ordering.{Ordering}
 use Rattle.arena_base.specs.Generation.{next_generation}
 use Rattle.arena_base.specs.Arena.{item_if}
-use Rattle.chain_base.specs.Chain.{Entry, Chain, times, IsDistinct, entry_at as entry_among, removed, renewed, with_room, with_capacity, grown_capacity, inserted_at, next_index}
+use Rattle.chain_base.specs.Chain.{Entry, Chain, times, IsDistinct, entry_at as entry_among, removed, renewed, with_capacity, grown_capacity, inserted_at, next_index}
 use Rattle.chain_base.specs.Insert.{IsInsertion}
-use Rattle.chain_base.specs.Compression.{moved, at_place, numbered, Transferring, TransferStep, IsTransfer}
+use Rattle.chain_base.specs.Compression.{moved, at_compressed_index, numbered, Transferring, TransferStep, IsTransfer}
 use Rattle.arena_base.specs.declared.invalidation.InvalidationOption.{InvalidationOption}
 use Rattle.std.specs.List.{FoldsTo}
 use Rattle.std.proofs.lemmas.List.{length-map}
-use Rattle.chain_base.proofs.CallerLemmas.{entry_at-absent, entry_at-without_other, entry_at-without, length-without, entry_at-with_item_other, entry_at-with_item, length-with_item, entry_at-with_generation_other, entry_at-with_generation, length-with_generation, entry_at-between_other, entry_at-between, length-between, entry_at-numbered, entry_at-numbered_before, generation-numbered, items-numbered, generation-moved, generation-relocated}
-use Rattle.ord_tree.specs.Tree.{Tree, with_item_in}
+use Rattle.chain_base.proofs.CallerLemmas.{entry_at-absent, entry_at-without_other, entry_at-without, length-without, entry_at-with_item_among_other, entry_at-with_item_among, length-with_item_among, entry_at-with_generation_other, entry_at-with_generation, length-with_generation, entry_at-between_other, entry_at-between, length-between, entry_at-numbered, entry_at-numbered_before, generation-numbered, items-numbered, generation-moved, generation-relocated}
+use Rattle.ord_tree.specs.Tree.{Tree, IsGrown, with_item}
 use Rattle.triple_ord.specs.Gap.{Gap, with_between}
-use Rattle.std.specs.declared.cmp.Ordering.TheVariants.{Equal}
-use Rattle.triple_ord.specs.Search.{pointer, IsMet, FindsKey, FindsSimilar}
-use Rattle.triple_ord.specs.declared.error.OrdInsertionError.{OrdInsertionError}
-use Rattle.triple_ord.specs.declared.error.OrdInsertionError.TheVariants.{FailedOrdRequirement, NotWithinCapacity, BeyondMaxCapacity, AllocError}
-use Rattle.triple_ord.specs.Insertion.{Inserts}
-use Rattle.triple_ord.proofs.Inserting.{entry_at-contained, similar-here}
+use Rattle.std.specs.declared.cmp.Ordering.TheVariants.{Less, Equal, Greater}
+use Rattle.triple_ord.specs.Search.{pointer, FindsKey, FindsSimilar}
+use Rattle.triple_ord.specs.Place.{Aim, alone, at_key, before_key, beside, Place, into, over, nowhere, IsPlace, aim_of}
+use Rattle.triple_ord.specs.Insertion.{Growth, within, reallocating, with_slot, InsertsBy, told}
+use Rattle.triple_ord.specs.EntryKind.{pointer_of}
+use Rattle.triple_ord.specs.Entry.{InsertsThere, Awaits, IsEntryFor}
+use Rattle.triple_ord.specs.declared.entry_kind.OrdEntryKind.{OrdEntryKind}
+use Rattle.triple_ord.specs.declared.entry_kind.OrdEntryKind.TheVariants.{New, Replacing}
+use Rattle.triple_ord.specs.declared.insert_kind.OrdInsertKind.{OrdInsertKind}
+use Rattle.triple_ord.proofs.Inserting.{entry_at-contained, similar-here, IsInsertion-same}
 use Rattle.triple_ord.specs.Arena.{item_of, entry_at, items, count, Updates, Renews, FindsBy, IsOfGeneration, IsNumbered, FindsNothing}
 
 module _ {T : Type 0} where
@@ -64,7 +68,7 @@ module _ {T : Type 0} where
   count-removed greatest old new p there is = rw is (length-without old.list.entries p.0 (occupied old p there))
 
   -- a write in place
-  pub updates-written : (a : Tree T) (p : ℕ × ℕ) (item : T) → IsSome (item_of a p) → Updates a (with_item_in a p.0 item) p (Some item)
+  pub updates-written : (a : Tree T) (p : ℕ × ℕ) (item : T) → IsSome (item_of a p) → Updates a (with_item a p.0 item) p (Some item)
   updates-written a p item there = go (entry_at a p.0) refl
     where
       elsewhere : (e : ℕ × T) (q p : ℕ × ℕ) → e.0 ≡ p.1 → q.0 ≡ p.0 → q ≢ p → item_if q.1 (Some (e.0, item)) ≡ None
@@ -73,24 +77,24 @@ module _ {T : Type 0} where
         | inr k ↦ rw k.0 refl
       ]
 
-      go : (o : Option (ℕ × T)) → entry_at a p.0 ≡ o → Updates a (with_item_in a p.0 item) p (Some item)
+      go : (o : Option (ℕ × T)) → entry_at a p.0 ≡ o → Updates a (with_item a p.0 item) p (Some item)
       go None is = absurd (let none : item_of a p ≡ None = rw is refl in cc)
       go (Some e) is = elim (eqb_tells e.0 p.1) [
         | inl h ↦
             record {
-              changed = rw (entry_at-with_item a.list.entries p.0 item, is, h.0) refl;
+              changed = rw (entry_at-with_item_among a.list.entries p.0 item, is, h.0) refl;
               others = λ q apart. elim (eqb_tells q.0 p.0) [
                 | inl same ↦
-                    rw (item_of-same a p q there same.1 apart, same.1, entry_at-with_item a.list.entries p.0 item, is)
+                    rw (item_of-same a p q there same.1 apart, same.1, entry_at-with_item_among a.list.entries p.0 item, is)
                     (elsewhere e q p h.1 same.1 apart)
-                | inr other ↦ rw (entry_at-with_item_other a.list.entries p.0 q.0 item other.1) refl
+                | inr other ↦ rw (entry_at-with_item_among_other a.list.entries p.0 q.0 item other.1) refl
               ];
             }
         | inr h ↦ absurd (let none : item_of a p ≡ None = rw (is, h.0) refl in cc)
       ]
 
-  pub count-written : (a : Tree T) (i : ℕ) (item : T) → count (with_item_in a i item) ≡ count a
-  count-written a i item = length-with_item a.list.entries i item
+  pub count-written : (a : Tree T) (i : ℕ) (item : T) → count (with_item a i item) ≡ count a
+  count-written a i item = length-with_item_among a.list.entries i item
 
   -- a renewal
   pub updates-renewed : (greatest : Option ℕ) (old : Tree T) (p : ℕ × ℕ) → IsSome (item_of old p) → let new : Tree T = record old { list = renewed greatest old.list p.0 } in Renews old new p (p.0, new.list.generation)
@@ -130,23 +134,16 @@ module _ {T : Type 0} where
         | inr h ↦ absurd (let none : item_of old p ≡ None = rw (is, h.0) refl in cc)
       ]
 
-  -- an insertion of a new entry
-  module _ (most : ℕ) (old new : Tree T) (gap : Gap old.list.entries) (item : T) (p : ℕ × ℕ) (inserted : IsInsertion (with_room most old.list) new.list (with_between gap) item p.0 p.1) where
-    roomy : (with_room most old.list).entries ≡ old.list.entries
-    roomy = go (is_some (next_index old.list))
-      where
-        go : (b : Bool) → (if b then old.list else with_capacity old.list (grown_capacity most old.list)).entries ≡ old.list.entries
-        go true = refl
-        go false = refl
-
+  -- an insertion of a new entry, where the list was grown for it or not
+  module _ (old new : Tree T) (room : Chain T) (roomy : room.entries ≡ old.list.entries) (gap : Gap old.list.entries) (item : T) (p : ℕ × ℕ) (inserted : IsInsertion room new.list (with_between gap) item p.0 p.1) where
     abbrev entry : Entry T
     entry = record { index = p.0; generation = p.1; item = item }
 
     -- the list afterwards
     listed : new.list.entries ≡ gap.front ++ entry ∷ gap.back
-    listed = ap (λ (c : Chain T). c.entries) inserted.after ∙ first (with_room most old.list).vacant inserted.next ∙ ap (λ g. gap.front ++ record { index = p.0; generation = g; item = item } ∷ gap.back) (sym inserted.generation)
+    listed = ap (λ (c : Chain T). c.entries) inserted.after ∙ first room.vacant inserted.next ∙ ap (λ g. gap.front ++ record { index = p.0; generation = g; item = item } ∷ gap.back) (sym inserted.generation)
       where
-        first : (vacant : List ℕ) → slice_get vacant 0 ≡ Some p.0 → (inserted_at (with_room most old.list) (with_between gap) item vacant).entries ≡ gap.front ++ record { index = p.0; generation = (with_room most old.list).generation; item = item } ∷ gap.back
+        first : (vacant : List ℕ) → slice_get vacant 0 ≡ Some p.0 → (inserted_at room (with_between gap) item vacant).entries ≡ gap.front ++ record { index = p.0; generation = room.generation; item = item } ∷ gap.back
         first [] next = absurd (cc)
         first (i ∷ rest) next = let same : i ≡ p.0 = cc in rw same refl
 
@@ -216,8 +213,8 @@ module _ {T : Type 0} where
       count-taken_at (Some e) value after = count-removed greatest old new (i, number e.0) (found_there e value) after
 
   -- of a renewal
-  module _ {P : Type 0} (index era : P → ℕ) (greatest : Option ℕ) (old new : Tree T) (p : ℕ × ℕ) where
-    pub renews-renewed : (o : Option P) → is_some o ≡ is_some (item_of old p) → IfSome o (λ q. index q ≡ p.0) → IfSome o (λ q. era q ≡ next_generation greatest old.list.generation) → OnSome o (new ≡ record old { list = renewed greatest old.list p.0 }) → IfSome o (λ q. Renews old new p (index q, era q))
+  module _ {P : Type 0} (numbers : P → ℕ × ℕ) (greatest : Option ℕ) (old new : Tree T) (p : ℕ × ℕ) where
+    pub renews-renewed : (o : Option P) → is_some o ≡ is_some (item_of old p) → IfSome o (λ q. (numbers q).0 ≡ p.0) → IfSome o (λ q. (numbers q).1 ≡ next_generation greatest old.list.generation) → OnSome o (new ≡ record old { list = renewed greatest old.list p.0 }) → IfSome o (λ q. Renews old new p (numbers q))
     renews-renewed None valid at raised after = tt
     renews-renewed (Some q) valid at raised after = rw (at, raised, after) (updates-renewed greatest old p (sym valid))
 
@@ -225,46 +222,76 @@ module _ {T : Type 0} where
     count-renewed None after same = ap count same
     count-renewed (Some q) after same = ap count after ∙ length-with_generation old.list.entries p.0 (next_generation greatest old.list.generation)
 
--- of an insertion by key
-module _ {P T K : Type 0} (key : T → K) (cmp : K → K → Ordering) (most : ℕ) (numbers : P → ℕ × ℕ) (old : Tree T) (item : T) (new : Tree T) (distinct : IsDistinct old.list.entries) where
-  -- the entry that was met is the one that its pointer finds
-  met_there : (e : Entry T) → IsMet key cmp old.list.entries (key item) e → item_of old (pointer e) ≡ Some e.item
-  met_there e met = elim (eqb_tells e.generation e.generation) [
-    | inl k ↦ rw (entry_at-contained old.list.entries e distinct met.within, k.0) refl
-    | inr k ↦ absurd (k.1 refl)
+-- growing leaves the entries
+pub entries-with_slot : {T : Type 0} (growth : Growth) (most : ℕ) (c : Chain T) → (with_slot growth most c).entries ≡ c.entries
+entries-with_slot within most c = refl
+entries-with_slot reallocating most c = go (is_some (next_index c))
+  where
+    go : (b : Bool) → (if b then c else with_capacity c (grown_capacity most c)).entries ≡ c.entries
+    go true = refl
+    go false = refl
+
+-- an insertion through an entry that was asked for is one step over its place
+module _ {T K : Type 0} (key : T → K) (cmp : K → K → Ordering) where
+  -- the entry whose item is to be replaced is found by its index
+  over-here : (es : List (Entry T)) → IsDistinct es → (aim : Aim K) (e : Entry T) → IsPlace key cmp {entries = es} aim (over e) → entry_among es e.index ≡ Some (e.generation, e.item)
+  over-here es distinct alone e at = absurd at
+  over-here es distinct (at_key k) e at = entry_at-contained es e distinct at.within
+  over-here es distinct (before_key k) e at = absurd at
+  over-here es distinct (beside i Less) e at = absurd at
+  over-here es distinct (beside i Equal) e at = ap (entry_among es) at.0 ∙ at.1
+  over-here es distinct (beside i Greater) e at = absurd at
+
+  over-found : (old : Tree T) → IsDistinct old.list.entries → (aim : Aim K) (e : Entry T) → IsPlace key cmp {entries = old.list.entries} aim (over e) → item_of old (pointer e) ≡ Some e.item
+  over-found old distinct aim e at = elim (eqb_tells e.generation e.generation) [
+    | inl h ↦ rw (over-here old.list.entries distinct aim e at, h.0) refl
+    | inr h ↦ absurd (h.1 refl)
   ]
 
-  pub inserts-updates : (result : Result (P × Option T) OrdInsertionError) → Inserts key cmp most numbers old item result new → IfOk result (λ a. Updates old new (numbers a.0) (Some item))
-  inserts-updates (Ok (p, None)) ins = updates-inserted most old new ins.gap item (numbers p) ins.inserted
-  inserts-updates (Ok (p, Some before)) ins =
-      rw (ins.named, ins.after) (updates-written old (pointer ins.entry) item (rw (met_there ins.entry ins.met) refl))
-  inserts-updates (Err e) ins = tt
+  module _ {P : Type 0} (numbers : P → ℕ × ℕ) (growth : Growth) (most : ℕ) (aim : Aim K) (old arena new : Tree T) (distinct : IsDistinct old.list.entries) (put : Entry T → List (Entry T)) (item : T) where
+    awaited-inserts : (place : Place old.list.entries) (shown : OrdEntryKind P) (before : Option T) → IsPlace key cmp aim place → Awaits numbers growth most old arena place put shown
+        → InsertsThere numbers shown put arena item before new → InsertsBy key cmp most growth aim numbers old item (Ok (shown, before)) new
+    awaited-inserts (into gap) (New p) None at awaits there = record {
+      gap = gap;
+      place = at;
+      inserted = subst (λ (c : Chain T). IsInsertion c new.list (with_between gap) item (numbers p).0 (numbers p).1) (ap (λ (t : Tree T). t.list) awaits.room) (IsInsertion-same _ _ _ _ item _ _ awaits.puts there.0);
+      grown = subst (λ (t : Tree T). IsGrown t.shape new.shape) awaits.room there.1;
+    }
+    awaited-inserts (into gap) (New p) (Some before) at awaits there = absurd there
+    awaited-inserts (into gap) (Replacing p) before at awaits there = absurd awaits
+    awaited-inserts (over e) (New p) before at awaits there = absurd awaits
+    awaited-inserts (over e) (Replacing p) None at awaits there = absurd there
+    awaited-inserts (over e) (Replacing p) (Some before) at awaits there =
+        let had : item_of arena (numbers p) ≡ Some e.item = ap (λ (t : Tree T). item_of t (numbers p)) awaits.1 ∙ ap (item_of old) awaits.0 ∙ over-found old distinct aim e at in
+        record {
+          entry = e;
+          place = at;
+          named = awaits.0;
+          taken = cc;
+          after = there.1 ∙ ap (λ (t : Tree T). with_item t (numbers p).0 item) awaits.1 ∙ ap (λ (q : ℕ × ℕ). with_item old q.0 item) awaits.0;
+        }
+    awaited-inserts nowhere shown before at awaits there = absurd awaits
 
-  pub inserts-before : (result : Result (P × Option T) OrdInsertionError) → Inserts key cmp most numbers old item result new → IfOk result (λ a. a.1 ≡ item_of old (numbers a.0))
-  inserts-before (Ok (p, None)) ins = sym (named_nothing most old new ins.gap item (numbers p) ins.inserted)
-  inserts-before (Ok (p, Some before)) ins = rw (ins.named, ins.taken, met_there ins.entry ins.met) refl
-  inserts-before (Err e) ins = tt
+  -- what an entry of an insertion inserts
+  pub entry-inserts : {P I G : Type 0} (numbers : P → ℕ × ℕ) (number : I → ℕ) (growth : Growth) (most : ℕ) (kind : OrdInsertKind P K I G) (old arena new : Tree T) → IsDistinct old.list.entries
+      → (shown : OrdEntryKind P) (put : Entry T → List (Entry T)) (visits : ℕ) (item : T) (before : Option T)
+      → IsEntryFor numbers key cmp number growth most kind old shown put visits arena → InsertsThere numbers shown put arena item before new
+      → InsertsBy key cmp most growth (aim_of number kind) numbers old item (Ok (shown, before)) new
+  entry-inserts numbers number growth most kind old arena new distinct shown put visits item before entry there =
+      awaited-inserts numbers growth most (aim_of number kind) old arena new distinct put item entry.place shown before entry.chosen entry.awaits there
 
-  pub inserts-count : (result : Result (P × Option T) OrdInsertionError) → Inserts key cmp most numbers old item result new → IfOk result (λ a. count new ≡ (if is_some a.1 then count old else count old + 1))
-  inserts-count (Ok (p, None)) ins = count-inserted most old new ins.gap item (numbers p) ins.inserted
-  inserts-count (Ok (p, Some before)) ins = rw ins.after (count-written old ins.entry.index item)
-  inserts-count (Err e) ins = tt
-
-  pub inserts-refused : (result : Result (P × Option T) OrdInsertionError) → Inserts key cmp most numbers old item result new → OnErr result (new ≡ old)
-  inserts-refused (Ok a) ins = tt
-  inserts-refused (Err BeyondMaxCapacity) ins = ins.after
-  inserts-refused (Err AllocError) ins = ins.after
-  inserts-refused (Err FailedOrdRequirement) ins = absurd ins
-  inserts-refused (Err NotWithinCapacity) ins = absurd ins
-
-  -- what an insertion says, by what it does
-  pub inserts-said : (result : Result (P × Option T) OrdInsertionError) → Inserts key cmp most numbers old item result new → record { inserts : Inserts key cmp most numbers old item result new; updates : IfOk result (λ a. Updates old new (numbers a.0) (Some item)); before : IfOk result (λ a. a.1 ≡ item_of old (numbers a.0)); count : IfOk result (λ a. count new ≡ (if is_some a.1 then count old else count old + 1)); refused : OnErr result (new ≡ old) }
-  inserts-said result ins = record { inserts = ins; updates = inserts-updates result ins; before = inserts-before result ins; count = inserts-count result ins; refused = inserts-refused result ins }
+  -- the same, told by the item that was replaced
+  pub inserts-told : {P : Type 0} (numbers : P → ℕ × ℕ) (growth : Growth) (most : ℕ) (aim : Aim K) (old new : Tree T) (item : T) (shown : OrdEntryKind P) (before : Option T)
+      → InsertsBy key cmp most growth aim numbers old item (Ok (shown, before)) new → InsertsBy key cmp most growth aim numbers old item (told (Ok (pointer_of shown, before))) new
+  inserts-told numbers growth most aim old new item (New p) None ins = ins
+  inserts-told numbers growth most aim old new item (New p) (Some before) ins = absurd ins
+  inserts-told numbers growth most aim old new item (Replacing p) None ins = absurd ins
+  inserts-told numbers growth most aim old new item (Replacing p) (Some before) ins = ins
 
 -- a write through a reference that went out, by what pointers find
 module _ {T : Type 0} (a : Tree T) (p : ℕ × ℕ) (item : T) where
-  pub found-written : item_of (with_item_in a p.0 item) p ≡ option_map (λ old. item) (item_of a p)
-  found-written = rw (entry_at-with_item a.list.entries p.0 item) (go (entry_at a p.0))
+  pub found-written : item_of (with_item a p.0 item) p ≡ option_map (λ old. item) (item_of a p)
+  found-written = rw (entry_at-with_item_among a.list.entries p.0 item) (go (entry_at a p.0))
     where
       go : (o : Option (ℕ × T)) → item_if p.1 (option_map (λ e. (e.0, item)) o) ≡ option_map (λ old. item) (item_if p.1 o)
       go None = refl
@@ -273,7 +300,7 @@ module _ {T : Type 0} (a : Tree T) (p : ℕ × ℕ) (item : T) where
         | inr h ↦ rw h.0 refl
       ]
 
-  pub others-written : IsSome (item_of a p) → (q : ℕ × ℕ) → q ≢ p → item_of (with_item_in a p.0 item) q ≡ item_of a q
+  pub others-written : IsSome (item_of a p) → (q : ℕ × ℕ) → q ≢ p → item_of (with_item a p.0 item) q ≡ item_of a q
   others-written there q apart = (updates-written a p item there).others q apart
 
 -- what pointers find after a write, for a caller to cite
@@ -313,7 +340,7 @@ module _ {T : Type 0} (a : Tree T) (g : ℕ) where
   pub ended-moved : (all es : List (Entry T)) (xs : List T) → a.list.entries ≡ map (moved all g xs) es → IsOfGeneration a g
   ended-moved all es xs is = ended-of (λ i e found. generation-moved all g xs es i e (ap (λ (es : List (Entry T)). entry_among es i) (sym is) ∙ found))
 
-  pub ended-relocated : (all es : List (Entry T)) → a.list.entries ≡ map (at_place all g) es → IsOfGeneration a g
+  pub ended-relocated : (all es : List (Entry T)) → a.list.entries ≡ map (at_compressed_index all g) es → IsOfGeneration a g
   ended-relocated all es is = ended-of (λ i e found. generation-relocated all g es i e (ap (λ (es : List (Entry T)). entry_among es i) (sym is) ∙ found))
 
   pub found-numbered : (xs : List T) → a.list.entries ≡ numbered g 1 xs → IsNumbered a g xs
@@ -331,13 +358,13 @@ module _ {T : Type 0} (a : Tree T) (g : ℕ) where
       ]
 
 -- what pointers find after a transfer
-module _ {P Q T U F : Type 0} (index_from era_from : Q → ℕ) (index_to era_to : P → ℕ) (greatest : Option ℕ) (step : F → Q → InvalidationOption U → P → T → F → Type 0) (g : ℕ) where
-  items-counted : (es : List (Entry U)) (s t : Transferring F T) → FoldsTo (TransferStep index_from era_from index_to era_to greatest step g) s es t → length t.items ≡ length s.items + length es
+module _ {P Q T U F : Type 0} (numbers_from : Q → ℕ × ℕ) (numbers_to : P → ℕ × ℕ) (greatest : Option ℕ) (step : F → Q → InvalidationOption U → P → T → F → Type 0) (g : ℕ) where
+  items-counted : (es : List (Entry U)) (s t : Transferring F T) → FoldsTo (TransferStep numbers_from numbers_to greatest step g) s es t → length t.items ≡ length s.items + length es
   items-counted [] s t same = omega (arith, ap (λ (s : Transferring F T). length s.items) same)
   items-counted (e ∷ es) s t calls =
       omega (arith, items-counted es calls.0 t calls.2, ap length calls.1.behind, length-append s.items (calls.1.item ∷ []))
 
-  module _ (f : F) (source left : Tree U) (old new : Tree T) (h : IsTransfer index_from era_from index_to era_to greatest step g f source.list left.list old.list new.list) where
+  module _ (f : F) (source left : Tree U) (old new : Tree T) (h : IsTransfer numbers_from numbers_to greatest step g f source.list left.list old.list new.list) where
     entries-transferred : new.list.entries ≡ numbered g 1 h.last.items
     entries-transferred = ap (λ (c : Chain T). c.entries) h.after
 

@@ -1,13 +1,12 @@
 -- What a search by a closure says where its calls compare a key, and where only an equal entry is asked for.
-use Rattle.std.proofs.Common.{Bor, ◌≡◌, ◌≢◌, ℕ, true, false, ◌+◌, ◌≤◌, List, [], ◌∷◌, Option, Some, None, IfSome, refl, sym, ap, subst, ◌∙◌, arith, inl, inr, ◌⊎◌, Contains, length, MatchOption}
+use Rattle.std.proofs.Common.{Bor, ◌≡◌, ℕ, ◌+◌, ◌≤◌, List, [], ◌∷◌, Option, Some, None, IfSome, refl, sym, ap, subst, ◌∙◌, arith, inl, inr, ◌⊎◌, Contains, length, MatchOption}
 use Rattle.std.specs.List.{All, FoldsTo, AllByRecursion as ByRecursion}
-use Rattle.std.specs.Ordering.{is_eq}
 use Rattle.std.specs.declared.cmp.Ordering.{Ordering}
 use Rattle.std.specs.declared.cmp.Ordering.TheVariants.{Less, Equal, Greater}
 use Rattle.std.proofs.lemmas.List.Elements.{All-nil, All-cons, All-contains, All-from_recursion, Contains-append_right, Contains-push}
 use Rattle.chain_base.specs.Chain.{Entry}
 use Rattle.triple_ord.specs.Gap.{Gap, before, after, last_or, present}
-use Rattle.triple_ord.specs.Search.{order_to, pointer, IsMet, StopsAt, IsBeside, FindsSimilar}
+use Rattle.triple_ord.specs.Search.{order_to, pointer, IsMet, IsBeside, FindsSimilar}
 use Rattle.triple_ord.specs.ClosureSearch.{Shown, Asks, Searches, StopsAfter, where_equal, similar_of, FindsWith, FindsSimilarWith}
 use Rattle.triple_ord.proofs.Descending.{IfSome-map, where_equal-map}
 

@@ -1,6 +1,6 @@
 -- The finite map that an ordered arena is, after changes of its capacity and compressions, and its first and last indexes.
-use Rattle.std.proofs.Common.{◌≡◌, ℕ, zero, suc, ◌+◌, ◌-◌, ◌<◌, ◌≤◌, ◌↔◌, Option, Some, None, Result, Ok, Err, List, [], ◌∷◌, ◌++◌, length, map, get_or, take, drop, reverse, replicate, slice_get, is_some, count_by, Bool, true, false, max, IsSome, refl, sym, ap, subst, ◌∙◌, add-one, arith, inl, inr}
-use Rattle.std.specs.Option.{option_map, IfSome, IsNone}
+use Rattle.std.proofs.Common.{◌≡◌, ℕ, zero, suc, ◌+◌, ◌-◌, ◌<◌, ◌≤◌, ◌↔◌, Option, Some, None, Result, Ok, Err, List, [], ◌∷◌, ◌++◌, length, map, get_or, take, drop, reverse, replicate, slice_get, is_some, Bool, true, false, max, IsSome, refl, sym, ap, subst, ◌∙◌, add-one, arith, inl, inr}
+use Rattle.std.specs.Option.{option_map, IfSome}
 use Rattle.std.specs.Result.{OnOk}
 use Rattle.std.specs.List.{FoldsTo}
 use Rattle.std.proofs.lemmas.Bool.Decides.{eqb_tells, leb_tells}
@@ -78,17 +78,17 @@ module _ {T : Type 0} where
     beyond k above = outside most greatest t sound k (λ first within. omega (arith, above, within))
 
     -- the least and the greatest index
-    pub first-found : {X : Type 0} (o : Option X) (index era : X → ℕ) → IfSome o (λ p. IsFirstIndex t.list.entries (index p) (era p)) → IfSome o (λ p. IsFirstEntry (content_of t) (index p) (era p))
-    first-found None index era h = h
-    first-found (Some p) index era h = record {
-      entry = ap (option_map (λ (e : ℕ × T). e.0)) (slot_is most greatest t sound (index p)) ∙ h.entry;
+    pub first-found : {X : Type 0} (o : Option X) (numbers : X → ℕ × ℕ) → IfSome o (λ p. IsFirstIndex t.list.entries (numbers p).0 (numbers p).1) → IfSome o (λ p. IsFirstEntry (content_of t) (numbers p).0 (numbers p).1)
+    first-found None numbers h = h
+    first-found (Some p) numbers h = record {
+      entry = ap (option_map (λ (e : ℕ × T). e.0)) (slot_is most greatest t sound (numbers p).0) ∙ h.entry;
       least = λ k below. slot_is most greatest t sound k ∙ entry_at-absent t.list.entries k (h.least k below);
     }
 
-    pub last-found : {X : Type 0} (o : Option X) (index era : X → ℕ) → IfSome o (λ p. IsLastIndex t.list.entries (index p) (era p)) → IfSome o (λ p. IsLastEntry (content_of t) (index p) (era p))
-    last-found None index era h = h
-    last-found (Some p) index era h = record {
-      entry = ap (option_map (λ (e : ℕ × T). e.0)) (slot_is most greatest t sound (index p)) ∙ h.entry;
+    pub last-found : {X : Type 0} (o : Option X) (numbers : X → ℕ × ℕ) → IfSome o (λ p. IsLastIndex t.list.entries (numbers p).0 (numbers p).1) → IfSome o (λ p. IsLastEntry (content_of t) (numbers p).0 (numbers p).1)
+    last-found None numbers h = h
+    last-found (Some p) numbers h = record {
+      entry = ap (option_map (λ (e : ℕ × T). e.0)) (slot_is most greatest t sound (numbers p).0) ∙ h.entry;
       greatest = λ k above. slot_is most greatest t sound k ∙ entry_at-absent t.list.entries k (h.greatest k above);
     }
 
@@ -161,16 +161,16 @@ module _ {T : Type 0} where
           }
 
 -- the closure of a compression was called once for each entry
-module _ {P T F : Type 0} (index era : P → ℕ) (step : F → P → T → P → T → F → Type 0) (g : ℕ) where
-  items-counted : (es : List (ℕ × ℕ × T)) (s t : F × List T) → FoldsTo (CompressionStep index era step g) s es t → length t.1 ≡ length s.1 + length es
+module _ {P T F : Type 0} (numbers : P → ℕ × ℕ) (step : F → P → T → P → T → F → Type 0) (g : ℕ) where
+  items-counted : (es : List (ℕ × ℕ × T)) (s t : F × List T) → FoldsTo (CompressionStep numbers step g) s es t → length t.1 ≡ length s.1 + length es
   items-counted [] s t same = omega (arith, ap (λ (s : F × List T). length s.1) same)
   items-counted (e ∷ es) s t calls = omega (arith, items-counted es calls.0 t calls.2, ap length calls.1.behind, length-append s.1 (calls.1.item ∷ []))
 
-  pub content-compression : (most : ℕ) (greatest : Option ℕ) (t u : Tree T) (f : F) → IsSound most greatest t.list → IsChainCompression index era step g f t.list u.list → IsCompression index era step g f (content_of t) (content_of u)
+  pub content-compression : (most : ℕ) (greatest : Option ℕ) (t u : Tree T) (f : F) → IsSound most greatest t.list → IsChainCompression numbers step g f t.list u.list → IsCompression numbers step g f (content_of t) (content_of u)
   content-compression most greatest t u f sound is =
       let rising : arena_rising (content_of t) 0 ≡ entries_rising t.list = rising-is t.list.entries 1 t.list.capacity in
       let many : length (arena_rising (content_of t) 0) ≡ length t.list.entries = length-entries 0 (content_of t).slots ∙ len_is most greatest t sound in
-      let calls : FoldsTo (CompressionStep index era step g) (f, []) (arena_rising (content_of t) 0) (is.last, is.items) = rw rising is.calls in
+      let calls : FoldsTo (CompressionStep numbers step g) (f, []) (arena_rising (content_of t) 0) (is.last, is.items) = rw rising is.calls in
       record {
         items = is.items;
         last = is.last;
@@ -236,19 +236,19 @@ module _ {X Y : Type 0} where
   ]
 
   -- a step over the one is a step over the other
-  steps-alike : {P : Type 0} (index era : P → ℕ) (a : Arena X) (b : Arena Y) → ((w : Walk) → walk_rest w a ≡ walk_rest w b)
-      → ((i g : ℕ) → IsSome (item_of a i g) → IsSome (item_of b i g))
-      → (old new : Walk) (r : Option P) → WalkSteps index era old a r new → WalkSteps index era old b r new
-  steps-alike index era a b same there old new None step = record { none_left = sym (same old) ∙ step.none_left; stays = step.stays }
-  steps-alike index era a b same there old new (Some p) step =
-      record { there = there (index p) (era p) step.there; first = sym (same old) ∙ (step.first ∙ ap (λ rest. (index p, era p) ∷ rest) (same new)); stands = step.stands }
+  steps-alike : {P : Type 0} (numbers : P → ℕ × ℕ) (a : Arena X) (b : Arena Y) → ((w : Walk) → walk_rest w a ≡ walk_rest w b)
+      → ((p : ℕ × ℕ) → IsSome (item_of a p) → IsSome (item_of b p))
+      → (old new : Walk) (r : Option P) → WalkSteps numbers old a r new → WalkSteps numbers old b r new
+  steps-alike numbers a b same there old new None step = record { none_left = sym (same old) ∙ step.none_left; stays = step.stays }
+  steps-alike numbers a b same there old new (Some p) step =
+      record { there = there (numbers p) step.there; first = sym (same old) ∙ (step.first ∙ ap (λ rest. (numbers p) ∷ rest) (same new)); stands = step.stands }
 
 -- A walk over the arena under the chain under a tree is one over the tree's entries.
 module _ {P T I G : Type 0} (most : ℕ) (greatest : Option ℕ) (t : Tree T) (sound : IsSound most greatest t.list) where
-  pub steps-under : {Q : Type 0} (index era : Q → ℕ) (c : Chain (SimpleOrdArenaNode P T I G)) (a : Arena (Link (SimpleOrdArenaNode P T I G))) → IsChainOf t c → IsArenaOf c a → take 1 a.slots ≡ None ∷ []
-      → (old new : Walk) (r : Option Q) → WalkSteps index era old a r new → SlotWalkSteps index era old t r new
-  steps-under {Q = Q} index era c a under laid begins old new r step =
-      told r (steps-alike index era a (content_of t) (rest-alike a (content_of t) (alike-by_index a.slots (content_of t).slots long same)) there old new r step)
+  pub steps-under : {Q : Type 0} (numbers : Q → ℕ × ℕ) (c : Chain (SimpleOrdArenaNode P T I G)) (a : Arena (Link (SimpleOrdArenaNode P T I G))) → IsChainOf t c → IsArenaOf c a → take 1 a.slots ≡ None ∷ []
+      → (old new : Walk) (r : Option Q) → WalkSteps numbers old a r new → SlotWalkSteps numbers old t r new
+  steps-under {Q = Q} numbers c a under laid begins old new r step =
+      told r (steps-alike numbers a (content_of t) (rest-alike a (content_of t) (alike-by_index a.slots (content_of t).slots long same)) there old new r step)
     where
       some-slots : (slots : List (Option (ℕ × Link (SimpleOrdArenaNode P T I G)))) → take 1 slots ≡ None ∷ [] → 1 ≤ length slots
       some-slots [] none = absurd (cc)
@@ -260,9 +260,9 @@ module _ {P T I G : Type 0} (most : ℕ) (greatest : Option ℕ) (t : Tree T) (s
       same : (k : ℕ) → option_map (λ e. e.0) (get_or a.slots k None) ≡ option_map (λ e. e.0) (get_or (content_of t).slots k None)
       same k = ap (option_map (λ e. e.0)) (laid.slots k) ∙ (link_generation-under t c under k ∙ ap (option_map (λ e. e.0)) (sym (slot_is most greatest t sound k)))
 
-      there : (i g : ℕ) → IsSome (item_of a i g) → IsSome (item_of (content_of t) i g)
-      there i g = there-alike g (slot a i) (slot (content_of t) i) (same i)
+      there : (p : ℕ × ℕ) → IsSome (item_of a p) → IsSome (item_of (content_of t) p)
+      there p = there-alike p.1 (slot a p.0) (slot (content_of t) p.0) (same p.0)
 
-      told : (r : Option Q) → WalkSteps index era old (content_of t) r new → SlotWalkSteps index era old t r new
+      told : (r : Option Q) → WalkSteps numbers old (content_of t) r new → SlotWalkSteps numbers old t r new
       told None step = record { step = step; there = tt }
-      told (Some p) step = record { step = step; there = rw (item_is most greatest t sound (index p) (era p)) at step.there }
+      told (Some p) step = record { step = step; there = rw (item_is most greatest t sound (numbers p)) at step.there }

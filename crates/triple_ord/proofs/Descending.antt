@@ -9,11 +9,11 @@ use Rattle.std.specs.declared.cmp.Ordering.{Ordering}
 use Rattle.std.specs.declared.cmp.Ordering.TheVariants.{Less, Equal, Greater}
 use Rattle.chain_base.specs.Chain.{Entry, times, IsDistinct, entry_at}
 use Rattle.ord_tree.specs.Shape.{Shape, missing, node, root_of, walk, height}
-use Rattle.triple_ord.specs.Gap.{Gap, first_of, last_or, present}
+use Rattle.triple_ord.specs.Gap.{Gap, first_of, last_or}
 use Rattle.triple_ord.specs.Search.{order_to, pointer, IsMet, StopsAt, IsBeside, FindsKey, FindsSimilar}
 use Rattle.ord_tree.specs.Tree.{Tree}
 use Rattle.triple_ord.specs.Node.{IsPart}
-use Rattle.triple_ord.specs.ClosureSearch.{Shown, entries_of, but_last, IsSearch, StopsAfter, where_equal, similar_of, FindsSimilarWith, Searches}
+use Rattle.triple_ord.specs.ClosureSearch.{Shown, entries_of, but_last, IsSearch, where_equal, similar_of, FindsSimilarWith}
 use Rattle.triple_ord.specs.Descent.{IsShown, IsDescending, HasDescended}
 use Rattle.std.specs.List.{All, FoldsTo, AllByRecursion as ByRecursion}
 use Rattle.std.proofs.lemmas.List.Elements.{All-nil, All-push, All-from_recursion, recursion_from_All, Contains-append_left, Contains-push}

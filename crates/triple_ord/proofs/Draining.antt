@@ -38,7 +38,7 @@ module _ {T : Type 0} where
   -- a walk that had all entries to give, and has none, goes over an arena without entries
   pub nothing-left : (most : ℕ) (greatest : Option ℕ) (t : Tree T) (rest : List (ℕ × ℕ)) → IsSound most greatest t.list → rest ≡ [] → rest ≡ pointers (content_of t) → FindsNothing t
   nothing-left most greatest t rest sound none whole p =
-      sym (item_is most greatest t sound p.0 p.1) ∙ ap (item_if p.1) (none-there 0 (content_of t).slots p.0 (sym whole ∙ none))
+      sym (item_is most greatest t sound p) ∙ ap (item_if p.1) (none-there 0 (content_of t).slots p.0 (sym whole ∙ none))
 
   module _ (most : ℕ) (greatest : Option ℕ) (t u : Tree T) (i : ℕ) (sound : IsSound most greatest t.list) (removal : u.list ≡ removed greatest t.list i) where
     slots-removed : (content_of u).slots ≡ set (content_of t).slots i None

@@ -1,14 +1,14 @@
 -- What nodes that hold a shape say of each node: its sides are the shape's.
-use Rattle.std.proofs.Common.{◌≡◌, ℕ, List, [], ◌∷◌, Option, Some, None, IsSome, refl, sym, ap, ◌∙◌, inl, inr, map}
-use Rattle.std.proofs.lemmas.Bool.Decides.{eqb_tells}
+use Rattle.std.proofs.Common.{◌≡◌, ℕ, Option, Some, None, IsSome, refl, sym, ap, ◌∙◌, inl, inr}
 use Rattle.std.specs.Option.{option_map}
-use Rattle.chain_base.specs.Chain.{Entry, Chain, entry_at}
-use Rattle.ord_tree.specs.declared.links.Links.{Links}
+use Rattle.chain_base.specs.Chain.{Chain, entry_at}
+use Rattle.ord_tree.specs.declared.tree_links.TreeLinks.{TreeLinks}
 use Rattle.ord_tree.specs.declared.node.SimpleOrdArenaNode.{SimpleOrdArenaNode}
 use Rattle.ord_tree.specs.Shape.{Shape, missing, node, root_of}
 use Rattle.ord_tree.specs.Slots.{Slots, Holds}
-use Rattle.ord_tree.specs.Node.{bare_entry, links_in, slots_of}
+use Rattle.ord_tree.specs.Node.{links_in, slots_of}
 use Rattle.ord_tree.specs.Tree.{Tree, IsChainOf}
+use Rattle.ord_tree.proofs.CallerLemmas.{entry_at-bare}
 use Rattle.triple_ord.specs.Node.{IsPart}
 use Rattle.triple_ord.specs.Descent.{IsShown}
 
@@ -18,7 +18,7 @@ held-root at back link missing h = h
 held-root at back link (node l i k r) h = h.1
 
 -- the links that nodes hold at i, in the tree that they spell
-held-part : (at : Slots) (back link : Option ℕ) (s l r : Shape) (i k : ℕ) (n : Links ℕ) → Holds at back link s → IsPart (node l i k r) s → at i ≡ Some n → (n.lesser ≡ root_of l) × (n.greater ≡ root_of r)
+held-part : (at : Slots) (back link : Option ℕ) (s l r : Shape) (i k : ℕ) (n : TreeLinks ℕ) → Holds at back link s → IsPart (node l i k r) s → at i ≡ Some n → (n.lesser ≡ root_of l) × (n.greater ≡ root_of r)
 held-part at back link missing l r i k n h part is = absurd (cc)
 held-part at back link (node l' i' k' r') l r i k n h part is = elim part [
   | inl same ↦
@@ -26,7 +26,7 @@ held-part at back link (node l' i' k' r') l r i k n h part is = elim part [
       let links : n ≡ h.0 = let both : Some n ≡ Some h.0 = sym is ∙ ap at here ∙ h.2 in cc in
       let lesser : l' ≡ l = cc in
       let greater : r' ≡ r = cc in
-      (ap (λ (m : Links ℕ). m.lesser) links ∙ held-root at (Some i') h.0.lesser l' h.5 ∙ ap root_of lesser, ap (λ (m : Links ℕ). m.greater) links ∙ held-root at (Some i') h.0.greater r' h.6 ∙ ap root_of greater)
+      (ap (λ (m : TreeLinks ℕ). m.lesser) links ∙ held-root at (Some i') h.0.lesser l' h.5 ∙ ap root_of lesser, ap (λ (m : TreeLinks ℕ). m.greater) links ∙ held-root at (Some i') h.0.greater r' h.6 ∙ ap root_of greater)
   | inr rest ↦ elim rest [
     | inl p ↦ held-part at (Some i') h.0.lesser l' l r i k n h.5 p is
     | inr p ↦ held-part at (Some i') h.0.greater r' l r i k n h.6 p is
@@ -38,11 +38,6 @@ pub read-found : {X Y : Type 0} (f : X → Y) (o : Option X) (x : X) (p : Option
 read-found f o x p is found = sym is ∙ rw found refl
 
 module _ {P T I G : Type 0} where
-  -- the entry of an index, without its node
-  pub entry_at-bare : (es : List (Entry (SimpleOrdArenaNode P T I G))) (i : ℕ) → entry_at (map bare_entry es) i ≡ option_map (λ e. (e.0, e.1.t)) (entry_at es i)
-  entry_at-bare [] i = refl
-  entry_at-bare (e ∷ es) i = elim (eqb_tells e.index i) [ inl h ↦ rw h.0 refl | inr h ↦ rw h.0 (entry_at-bare es i) ]
-
   -- what the chain of nodes under a tree says of the entry at i
   module _ (t : Tree T) (c : Chain (SimpleOrdArenaNode P T I G)) (under : IsChainOf t c) (i : ℕ) where
     pub entry_at-under : entry_at t.list.entries i ≡ option_map (λ e. (e.0, e.1.t)) (entry_at c.entries i)

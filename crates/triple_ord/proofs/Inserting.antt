@@ -1,19 +1,14 @@
 -- Where an insertion by key puts its entry: from what the search answers to the gap in the list.
-use Rattle.std.proofs.Common.{◌≡◌, ◌≢◌, ℕ, zero, suc, ◌+◌, ◌<◌, ◌≤◌, true, false, List, [], ◌∷◌, ◌++◌, length, Option, Some, None, IsSome, Result, Ok, Err, refl, sym, ap, subst, ◌∙◌, arith, inl, inr, append_assoc, Contains, get_or}
+use Rattle.std.proofs.Common.{◌≡◌, ◌≢◌, ℕ, zero, suc, ◌+◌, ◌<◌, ◌≤◌, true, false, List, [], ◌∷◌, ◌++◌, length, Option, Some, None, IsSome, refl, sym, ap, subst, ◌∙◌, arith, inl, inr, append_assoc, Contains, get_or}
 use Rattle.std.proofs.lemmas.Bool.Decides.{eqb_tells}
-use Rattle.std.specs.Option.{option_map}
 use Rattle.std.specs.Ordering.{is_eq}
 use Rattle.std.specs.declared.cmp.Ordering.{Ordering}
 use Rattle.std.specs.declared.cmp.Ordering.TheVariants.{Less, Equal, Greater}
 use Rattle.chain_base.specs.Chain.{Entry, Chain, times, IsDistinct, entry_at, insert_after, insert_before, inserted_at}
 use Rattle.chain_base.specs.Insert.{IsInsertion}
-use Rattle.ord_tree.specs.Tree.{Tree, put_on, put_at, with_item_in}
-use Rattle.triple_ord.specs.Gap.{Gap, first_of, last_or, before, after, with_between}
-use Rattle.triple_ord.specs.Search.{order_to, Fits, IsMet, IsBeside, FindsSimilar}
-use Rattle.triple_ord.specs.declared.error.OrdInsertionError.{OrdInsertionError}
-use Rattle.triple_ord.specs.declared.error.OrdInsertionError.TheVariants.{FailedOrdRequirement, NotWithinCapacity, BeyondMaxCapacity, AllocError}
-use Rattle.triple_ord.specs.Insertion.{Replaces, Inserts}
-use Rattle.triple_ord.specs.Placing.{InsertsAt}
+use Rattle.ord_tree.specs.Tree.{put_on}
+use Rattle.triple_ord.specs.Gap.{Gap, first_of, last_or, before, after, present, with_between}
+use Rattle.triple_ord.specs.Search.{order_to, StopsAt, IsMet, IsBeside, FindsSimilar}
 use Rattle.triple_ord.proofs.Descending.{entry_at-here, times-back, met-of_equal, stop-of_other}
 
 module _ {T : Type 0} where
@@ -36,7 +31,7 @@ module _ {T : Type 0} where
   times-here e es = elim (eqb_tells e.index e.index) [ inl h ↦ rw h.0 refl | inr h ↦ absurd (h.1 refl) ]
 
   -- an insertion beside an entry, where its index stands once
-  insert_before-here : (new : Entry T) (front : List (Entry T)) (e : Entry T) (back : List (Entry T)) → IsDistinct (front ++ e ∷ back) → insert_before e.index new (front ++ e ∷ back) ≡ front ++ new ∷ e ∷ back
+  pub insert_before-here : (new : Entry T) (front : List (Entry T)) (e : Entry T) (back : List (Entry T)) → IsDistinct (front ++ e ∷ back) → insert_before e.index new (front ++ e ∷ back) ≡ front ++ new ∷ e ∷ back
   insert_before-here new [] e back distinct = elim (eqb_tells e.index e.index) [ inl h ↦ rw h.0 refl | inr h ↦ absurd (h.1 refl) ]
   insert_before-here new (f ∷ front) e back distinct = elim (eqb_tells f.index e.index) [
     | inl h ↦
@@ -45,7 +40,7 @@ module _ {T : Type 0} where
     | inr h ↦ rw h.0 (ap (λ xs. f ∷ xs) (insert_before-here new front e back (λ j. omega (arith, distinct j))))
   ]
 
-  insert_after-here : (new : Entry T) (front : List (Entry T)) (e : Entry T) (back : List (Entry T)) → IsDistinct (front ++ e ∷ back) → insert_after e.index new (front ++ e ∷ back) ≡ front ++ e ∷ new ∷ back
+  pub insert_after-here : (new : Entry T) (front : List (Entry T)) (e : Entry T) (back : List (Entry T)) → IsDistinct (front ++ e ∷ back) → insert_after e.index new (front ++ e ∷ back) ≡ front ++ e ∷ new ∷ back
   insert_after-here new [] e back distinct = elim (eqb_tells e.index e.index) [ inl h ↦ rw h.0 refl | inr h ↦ absurd (h.1 refl) ]
   insert_after-here new (f ∷ front) e back distinct = elim (eqb_tells f.index e.index) [
     | inl h ↦
@@ -80,7 +75,7 @@ module _ {T : Type 0} where
   inserted_at-same c place other item [] same = refl
   inserted_at-same c place other item (i ∷ rest) same = rw (same (record { index = i; generation = c.generation; item = item })) refl
 
-  IsInsertion-same : (c d : Chain T) (place other : Entry T → List (Entry T)) (item : T) (i g : ℕ) → ((new : Entry T) → place new ≡ other new) → IsInsertion c d place item i g → IsInsertion c d other item i g
+  pub IsInsertion-same : (c d : Chain T) (place other : Entry T → List (Entry T)) (item : T) (i g : ℕ) → ((new : Entry T) → place new ≡ other new) → IsInsertion c d place item i g → IsInsertion c d other item i g
   IsInsertion-same c d place other item i g same ins =
       record {
         next = ins.next;
@@ -97,22 +92,22 @@ not_equal o test same = let yes : is_eq o ≡ true = ap is_eq same in cc
 
 -- the place that a search found for a new entry is a gap that fits
 module _ {T K : Type 0} (key : T → K) (cmp : K → K → Ordering) (es : List (Entry T)) (k : K) where
-  pub record HasPlace (put : Entry T → List (Entry T)) : Type 0 where
+  pub record HasPlace (c : ℕ) (put : Entry T → List (Entry T)) : Type 0 where
     pub gap : Gap es
-    pub fits : Fits key cmp gap k
+    pub stops : StopsAt key cmp gap k c
     pub puts : (new : Entry T) → put new ≡ with_between gap new
 
-  pub place-alone : es ≡ [] → HasPlace (λ new. new ∷ es)
-  place-alone empty =
+  pub place-alone : es ≡ [] → (c : ℕ) → HasPlace c (λ new. new ∷ es)
+  place-alone empty c =
       let gap : Gap es = record { front = []; back = []; cut = empty } in
-      record { gap = gap; fits = record { lesser_before = tt; greater_after = tt }; puts = λ new. ap (λ xs. new ∷ xs) empty }
+      record { gap = gap; stops = record { fits = record { lesser_before = tt; greater_after = tt }; seen = omega arith }; puts = λ new. ap (λ xs. new ∷ xs) empty }
 
-  module _ (distinct : IsDistinct es) (e : Entry T) (gap : Gap es) (fits : Fits key cmp gap k) where
+  module _ (distinct : IsDistinct es) (e : Entry T) (c : ℕ) (gap : Gap es) (stops : StopsAt key cmp gap k c) where
     -- before an entry with a greater key
-    place-before : after gap ≡ Some e → HasPlace (put_on Less e.index es)
+    place-before : after gap ≡ Some e → HasPlace c (put_on Less e.index es)
     place-before is = split gap.back refl is
       where
-        split : (back : List (Entry T)) → gap.back ≡ back → first_of back ≡ Some e → HasPlace (put_on Less e.index es)
+        split : (back : List (Entry T)) → gap.back ≡ back → first_of back ≡ Some e → HasPlace c (put_on Less e.index es)
         split [] same first = absurd (cc)
         split (x ∷ back) same first =
             let cut : es ≡ gap.front ++ x ∷ back = gap.cut ∙ ap (λ ys. gap.front ++ ys) same in
@@ -120,26 +115,26 @@ module _ {T K : Type 0} (key : T → K) (cmp : K → K → Ordering) (es : List 
             let distinct2 = subst (λ (xs : List (Entry T)). IsDistinct xs) cut distinct in
             record {
               gap = gap;
-              fits = fits;
+              stops = stops;
               puts = λ new.
                   ap (λ (i : ℕ). insert_before i new es) (ap (λ (y : Entry T). y.index) (sym here)) ∙ ap (insert_before x.index new) cut ∙ insert_before-here new gap.front x back distinct2 ∙ ap (λ ys. gap.front ++ new ∷ ys) (sym same);
             }
 
     -- after an entry with a lesser key
-    place-after : before gap ≡ Some e → HasPlace (put_on Greater e.index es)
+    place-after : before gap ≡ Some e → HasPlace c (put_on Greater e.index es)
     place-after is =
         let last = ends gap.front e is in
         let cut : es ≡ last.front ++ e ∷ gap.back = gap.cut ∙ ap (λ xs. xs ++ gap.back) last.cut ∙ simp append_assoc in
         let distinct2 = subst (λ (xs : List (Entry T)). IsDistinct xs) cut distinct in
         record {
           gap = gap;
-          fits = fits;
+          stops = stops;
           puts = λ new.
               ap (insert_after e.index new) cut ∙ insert_after-here new last.front e gap.back distinct2 ∙ (let whole : last.front ++ e ∷ new ∷ gap.back ≡ (last.front ++ e ∷ []) ++ new ∷ gap.back = simp append_assoc in whole) ∙ ap (λ xs. xs ++ new ∷ gap.back) (sym last.cut);
         }
 
   module _ (distinct : IsDistinct es) (p : ℕ × ℕ) (o : Ordering) (c : ℕ) (found : FindsSimilar key cmp es k (Some (p, o)) c) where
-    named : found.0.index ≡ p.0
+    pub named : found.0.index ≡ p.0
     named = sym (ap (λ a. a.0.0) found.1)
 
     ordered : order_to key cmp k found.0 ≡ o
@@ -163,6 +158,16 @@ module _ {T K : Type 0} (key : T → K) (cmp : K → K → Ordering) (es : List 
             let here : x ≡ e = cc in
             at_cut b.0.front back (b.0.cut ∙ ap (λ ys. b.0.front ++ ys) (same ∙ ap (λ y. y ∷ back) here))
 
+    -- the search saw an entry
+    pub similar-seen : 1 ≤ c
+    similar-seen = elim found.2 [
+      | inl met ↦ met.1
+      | inr beside ↦ elim beside.2 [
+        | inl low ↦ let two : present (before beside.0) ≡ 1 = ap present low in omega (arith, two, beside.1.seen)
+        | inr high ↦ let two : present (after beside.0) ≡ 1 = ap present high in omega (arith, two, beside.1.seen)
+      ]
+    ]
+
     -- the entry that was returned is found by its index
     pub similar-here : entry_at es found.0.index ≡ Some (found.0.generation, found.0.item)
     similar-here = elim found.2 [
@@ -173,56 +178,27 @@ module _ {T K : Type 0} (key : T → K) (cmp : K → K → Ordering) (es : List 
     pub similar-occupied : IsSome (entry_at es p.0)
     similar-occupied = rw (← named, similar-here) refl
 
-    beside_placed : (b : IsBeside key cmp es k c found.0) (o2 : Ordering) → o ≡ o2 → o2 ≢ Equal → HasPlace (put_on o2 found.0.index es)
+    beside_placed : (b : IsBeside key cmp es k c found.0) (o2 : Ordering) → o ≡ o2 → o2 ≢ Equal → HasPlace c (put_on o2 found.0.index es)
     beside_placed b Equal same other = absurd (other refl)
     beside_placed b Less same other = elim b.2 [
       | inl low ↦ absurd (let more = rw low at b.1.fits.lesser_before in let less = ordered ∙ same in cc)
-      | inr high ↦ place-before distinct found.0 b.0 b.1.fits high
+      | inr high ↦ place-before distinct found.0 c b.0 b.1 high
     ]
     beside_placed b Greater same other = elim b.2 [
-      | inl low ↦ place-after distinct found.0 b.0 b.1.fits low
+      | inl low ↦ place-after distinct found.0 c b.0 b.1 low
       | inr high ↦ absurd (let less = rw high at b.1.fits.greater_after in let more = ordered ∙ same in cc)
     ]
 
     -- beside it a new entry stands in a gap that fits
-    pub similar-placed : (i : ℕ) → i ≡ p.0 → is_eq o ≡ false → HasPlace (put_on o i es)
+    pub similar-placed : (i : ℕ) → i ≡ p.0 → is_eq o ≡ false → HasPlace c (put_on o i es)
     similar-placed i at test =
         let beside = stop-of_other key cmp es k c found.0 found.2 (λ same. not_equal o test (sym ordered ∙ same)) in
         rw (at, ← named) (beside_placed beside o refl (not_equal o test))
 
-    similar-met : is_eq o ≡ true → IsMet key cmp es k found.0
+    pub similar-met : is_eq o ≡ true → IsMet key cmp es k found.0
     similar-met test = (met-of_equal key cmp es k c found.0 found.2 (ordered ∙ equal o test)).0
       where
         equal : (o : Ordering) → is_eq o ≡ true → o ≡ Equal
         equal Less test = absurd (cc)
         equal Greater test = absurd (cc)
         equal Equal test = refl
-
-    similar-found : is_eq o ≡ true → entry_at es p.0 ≡ Some (found.0.generation, found.0.item)
-    similar-found test = rw (← named) (entry_at-contained es found.0 distinct (similar-met test).within)
-
--- a replacement of the item of the entry that the search met
-pub similar-replaced : {T K : Type 0} (key : T → K) (cmp : K → K → Ordering) (most : ℕ) (old : Tree T) (item : T) (distinct : IsDistinct old.list.entries) (p : ℕ × ℕ) (o : Ordering) (c : ℕ) (found : FindsSimilar key cmp old.list.entries (key item) (Some (p, o)) c) → is_eq o ≡ true → (i : ℕ) (before : T) (new : Tree T) → i ≡ p.0 → option_map (λ e. e.1) (entry_at old.list.entries i) ≡ Some before → new ≡ with_item_in old i item → Replaces key cmp most old item p before new
-similar-replaced key cmp most old item distinct p o c found test i before new at had after =
-    let es = old.list.entries in
-    let there = similar-found key cmp es (key item) distinct p o c found test in
-    let taken : Some found.0.item ≡ Some before = sym (ap (option_map (λ e. e.1)) there) ∙ ap (λ j. option_map (λ e. e.1) (entry_at es j)) (sym at) ∙ had in
-    record {
-      entry = found.0;
-      met = similar-met key cmp es (key item) distinct p o c found test;
-      named = ap (λ a. a.0) found.1;
-      taken = cc;
-      after = after ∙ ap (λ j. with_item_in old j item) (at ∙ sym (named key cmp es (key item) distinct p o c found));
-    }
-
--- an insertion at a place that fits is one by key
-pub inserts-placed : {P T K I : Type 0} (key : T → K) (cmp : K → K → Ordering) (number : I → ℕ) (most : ℕ) (numbers : P → ℕ × ℕ) (at : Option (I × Ordering)) (old : Tree T) (item : T) (answer : Result (P × Option T) OrdInsertionError) (new : Tree T) → HasPlace key cmp old.list.entries (key item) (put_at number at old.list.entries) → InsertsAt number most numbers at old item answer new → Inserts key cmp most numbers old item answer new
-inserts-placed key cmp number most numbers at old item (Ok (p, None)) new place ins =
-    record { gap = place.gap; fits = place.fits; inserted = IsInsertion-same _ _ _ _ item _ _ place.puts ins.0; grown = ins.1 }
-inserts-placed key cmp number most numbers at old item (Ok (p, Some before)) new place ins = absurd ins
-inserts-placed key cmp number most numbers at old item (Err BeyondMaxCapacity) new place ins =
-    record { gap = place.gap; fits = place.fits; full = ins.0; after = ins.1 }
-inserts-placed key cmp number most numbers at old item (Err AllocError) new place ins =
-    record { gap = place.gap; fits = place.fits; below = ins.0; full = ins.1; after = ins.2 }
-inserts-placed key cmp number most numbers at old item (Err FailedOrdRequirement) new place ins = absurd ins
-inserts-placed key cmp number most numbers at old item (Err NotWithinCapacity) new place ins = absurd ins

@@ -11,4 +11,5 @@ pub mod Draining
 pub mod Walking
 pub mod Reversed
 pub mod Inserting
+pub mod Places
 pub mod CallerLemmas

@@ -1,5 +1,5 @@
 -- A list of entries from its end: each entry's neighbours change places. So a walk back along a list is one along the list from its end.
-use Rattle.std.proofs.Common.{◌≡◌, ℕ, ◌+◌, ◌≤◌, Bool, true, false, List, [], ◌∷◌, ◌++◌, map, reverse, Option, Some, None, IsSome, refl, sym, ap, subst, ◌∙◌, arith, inl, inr}
+use Rattle.std.proofs.Common.{◌≡◌, ℕ, Bool, true, false, List, [], ◌∷◌, map, reverse, Option, Some, None, IsSome, refl, sym, ap, ◌∙◌, arith, inl, inr}
 use Rattle.std.proofs.lemmas.List.{reverse-append}
 use Rattle.std.proofs.lemmas.Bool.Decides.{eqb_tells}
 use Rattle.std.specs.Option.{option_map, option_or, option_and_then}
@@ -9,10 +9,9 @@ use Rattle.chain_base.proofs.CallerLemmas.{option_or-none, last_or-append, link_
 use Rattle.ord_tree.specs.Tree.{Tree}
 use Rattle.triple_ord.specs.Search.{pointer}
 use Rattle.triple_ord.specs.Arena.{item_of}
-use Rattle.triple_ord.specs.Walk.{entries_from}
 use Rattle.triple_ord.specs.OrderedWalk.{ordered_rest, GivesEntry}
 use Rattle.triple_ord.proofs.Walking.{walk-step, walk-end}
-use Rattle.triple_ord.proofs.Bare.{entry_at-link}
+use Rattle.chain_base.proofs.CallerLemmas.{entry_at-link}
 
 module _ {T : Type 0} where
   -- an entry in the list from its end

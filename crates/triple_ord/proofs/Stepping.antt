@@ -1,5 +1,5 @@
 -- Steps from a hint: how they begin, go on, and end.
-use Rattle.std.proofs.Common.{◌≡◌, ◌≢◌, ℕ, suc, true, false, not, ◌==◌, ◌+◌, ◌-◌, ◌<◌, ◌≤◌, List, [], ◌∷◌, ◌++◌, Option, Some, None, IsSome, IfSome, length, refl, sym, ap, subst, ◌∙◌, arith, inl, inr, ◌⊎◌, append_assoc, length-append, Contains}
+use Rattle.std.proofs.Common.{◌≡◌, ◌≢◌, ℕ, suc, true, false, not, ◌==◌, ◌+◌, ◌<◌, ◌≤◌, List, [], ◌∷◌, ◌++◌, Option, Some, None, IsSome, IfSome, length, refl, sym, ap, subst, ◌∙◌, arith, inl, inr, ◌⊎◌, append_assoc, length-append, Contains}
 use Rattle.std.proofs.lemmas.Bool.Decides.{eqb_tells, leb_tells}
 use Rattle.std.specs.Option.{option_map}
 use Rattle.std.specs.Cmp.{IsTotalOrder}
@@ -8,13 +8,13 @@ use Rattle.std.specs.declared.cmp.Ordering.{Ordering}
 use Rattle.std.specs.declared.cmp.Ordering.TheVariants.{Less, Equal, Greater}
 use Rattle.chain_base.specs.Link.{Link}
 use Rattle.chain_base.specs.Chain.{Entry, times, IsDistinct, entry_at, first_or, link_between, link_at}
-use Rattle.triple_ord.specs.Gap.{Gap, first_of, last_or, before, after, present}
+use Rattle.triple_ord.specs.Gap.{Gap, first_of, last_or, present}
 use Rattle.triple_ord.specs.Search.{order_to, pointer, Fits, FindsSimilar}
 use Rattle.triple_ord.specs.Order.{IsInOrder}
-use Rattle.triple_ord.specs.Hint.{place_of, way_length}
+use Rattle.triple_ord.specs.Hint.{position_of, way_length}
 use Rattle.triple_ord.specs.Steps.{neighbour_towards, CameFrom, IsStepping}
 use Rattle.triple_ord.proofs.Descending.{Contains-here, entry_at-here, last_or-append, times-back}
-use Rattle.triple_ord.proofs.Inserting.{EndsWith, ends}
+use Rattle.triple_ord.proofs.Inserting.{ends}
 use Rattle.triple_ord.proofs.Ordered.{Greater-before, Less-behind}
 
 module _ {T : Type 0} where
@@ -25,7 +25,7 @@ module _ {T : Type 0} where
     pub back : List (Entry T)
     pub cut : es ≡ front ++ entry ∷ back
     pub here : entry.index ≡ i
-    pub place : length front ≡ place_of es i
+    pub place : length front ≡ position_of es i
 
   stands : (es : List (Entry T)) (i : ℕ) → IsSome (entry_at es i) → StandsAt es i
   stands [] i some = absurd (cc)
@@ -76,7 +76,7 @@ read_index (Some e) j is = (e, refl, cc)
 
 -- where steps begin, and one step more
 module _ {T K : Type 0} (key : T → K) (cmp : K → K → Ordering) (es : List (Entry T)) (k : K) (distinct : IsDistinct es) where
-  pub stepping-begins : (i : ℕ) → IsSome (entry_at es i) → IsStepping key cmp es k (place_of es i) i 0 Equal
+  pub stepping-begins : (i : ℕ) → IsSome (entry_at es i) → IsStepping key cmp es k (position_of es i) i 0 Equal
   stepping-begins i some =
       let s = stands es i some in
       record { front = s.front; entry = s.entry; back = s.back; cut = s.cut; here = s.here; from = (refl, s.place); within = let n = ap length s.cut in omega (arith, n, s.place, length-append s.front (s.entry ∷ s.back)) }

@@ -1,6 +1,6 @@
 -- An ordered arena as its callers see it: what pointers find in it, and its entries in order. A pointer is the pair of its
 -- index and its generation.
-use Rattle.std.specs.Prelude.{◌≡◌, ◌≢◌, ℕ, ◌+◌, List, Option, Some, None, IsSomeAnd, length, map, slice_get}
+use Rattle.std.specs.Prelude.{◌≡◌, ◌≢◌, ℕ, ◌+◌, List, Option, None, IsSomeAnd, length, map, slice_get}
 use Rattle.std.specs.declared.cmp.Ordering.{Ordering}
 use Rattle.chain_base.specs.Chain.{entry_at as entry_among, item_of as item_among}
 use Rattle.ord_tree.specs.Tree.{Tree}
@@ -9,7 +9,7 @@ use Rattle.triple_ord.specs.Search.{pointer}
 module _ {T : Type 0} where
   -- the item that the pointer names; none where it names no entry
   abbrev pub item_of : Tree T → ℕ × ℕ → Option T
-  item_of a p = item_among a.list.entries p.0 p.1
+  item_of a p = item_among a.list.entries p
 
   -- the generation and the item of the entry at the index
   abbrev pub entry_at : Tree T → ℕ → Option (ℕ × T)

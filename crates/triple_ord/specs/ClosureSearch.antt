@@ -1,4 +1,4 @@
--- What a search by a closure answers on a list of entries: the entries that it showed to the closure, and what the closure said.
+-- What a search by a closure returns on a list of entries: the entries that it showed to the closure, and what the closure said.
 use Rattle.std.specs.Prelude.{◌≡◌, ◌≢◌, ℕ, ◌⊎◌, if◌then◌else◌, List, [], ◌∷◌, Option, Some, None, IfSome, MatchOption, Contains, length, map}
 use Rattle.std.specs.List.{All, FoldsTo}
 use Rattle.std.specs.Option.{option_map}
@@ -59,12 +59,12 @@ module _ {T F : Type 0} (asks : F → Shown T → F → Type 0) where
     pub last_is : last ≡ last_or None shown
     pub count : c ≡ length shown
 
-  -- a search by a closure: it answers the pointer of the entry that was answered Equal, or none
+  -- a search by a closure: it returns the pointer of the entry that was answered Equal, or none
   abbrev pub FindsWith : List (Entry T) → F → F → Option (ℕ × ℕ) → ℕ → Type 0
   FindsWith entries f g found c =
       (last : Option (Shown T)) × Searches entries f g last c × (found ≡ option_map pointer (where_equal last))
 
-  -- a search for a similar entry: it answers the pointer of the entry that was shown last with its answer, and none in an empty
+  -- a search for a similar entry: it returns the pointer of the entry that was shown last with its answer, and none in an empty
   -- list alone
   abbrev pub FindsSimilarWith : List (Entry T) → F → F → Option ((ℕ × ℕ) × Ordering) → ℕ → Type 0
   FindsSimilarWith entries f g found c =

@@ -1,15 +1,15 @@
 -- What the calls of an ordered arena do to the finite map that it is. The impl of `ArenaTrait` cites these laws; no public clause
 -- does.
-use Rattle.std.proofs.Common.{◌≡◌, ◌≢◌, ℕ, zero, suc, ◌+◌, ◌-◌, ◌<◌, ◌≤◌, length, count_by, is_some, cond, replicate, ◌⊎◌, Option, Some, None, List, [], ◌∷◌, get_or, set, refl, sym, ap, zero-add, subst, ◌∙◌, arith, inl, inr}
+use Rattle.std.proofs.Common.{◌≡◌, ◌≢◌, ℕ, zero, suc, ◌+◌, ◌<◌, ◌≤◌, length, count_by, is_some, cond, replicate, Option, Some, None, List, [], ◌∷◌, get_or, set, refl, sym, ap, subst, ◌∙◌, arith, inl, inr}
 use Rattle.std.proofs.lemmas.Bool.Decides.{eqb_tells, leb_tells}
 use Rattle.std.proofs.lemmas.List.Sums.{sum_by-cons}
 use Rattle.std.specs.Option.{option_map}
 use Rattle.arena_base.specs.Generation.{next_generation}
-use Rattle.arena_base.specs.Arena.{Arena, HoldsSame, arena_len, arena_capacity, without as arena_without, renewed as arena_renewed, cleared as arena_cleared, with_item, slot, item_of, item_if, limit_of, IsLawful}
-use Rattle.chain_base.specs.Chain.{Entry, Chain, entry_at, times, IsSound, IsDistinct, without, with_generation, removed, renewed, cleared, item_of as item_among, with_item as list_with_item}
+use Rattle.arena_base.specs.Arena.{HoldsSame, arena_len, arena_capacity, removed as arena_removed, renewed as arena_renewed, cleared as arena_cleared, with_item as arena_with_item, slot, item_of, item_if, limit_of, IsLawful}
+use Rattle.chain_base.specs.Chain.{Entry, Chain, entry_at, times, IsSound, IsDistinct, without, with_generation, removed, renewed, cleared, item_of as item_among, with_item_among}
 use Rattle.chain_base.specs.Compression.{lesser}
-use Rattle.chain_base.proofs.CallerLemmas.{entry_at-absent, entry_at-with_item, entry_at-with_item_other, entry_at-without, entry_at-without_other, entry_at-with_generation, entry_at-with_generation_other, lesser-zero, lesser-next, lesser-all}
-use Rattle.ord_tree.specs.Tree.{Tree, with_item_in}
+use Rattle.chain_base.proofs.CallerLemmas.{entry_at-absent, entry_at-with_item_among, entry_at-with_item_among_other, entry_at-without, entry_at-without_other, entry_at-with_generation, entry_at-with_generation_other, lesser-zero, lesser-next, lesser-all}
+use Rattle.ord_tree.specs.Tree.{Tree, with_item}
 use Rattle.triple_ord.specs.Content.{slots_from, content_of}
 
 module _ {T : Type 0} where
@@ -61,13 +61,13 @@ module _ {T : Type 0} where
   slots-changed h none (suc k) es fs change n = ap (λ ss. None ∷ ss) (slots-changed_from h (suc k) es fs change 1 n k (omega arith))
 
   -- a written item
-  pub content-written : (t : Tree T) (i : ℕ) (item : T) → content_of (with_item_in t i item) ≡ with_item (content_of t) i item
+  pub content-written : (t : Tree T) (i : ℕ) (item : T) → content_of (with_item t i item) ≡ arena_with_item (content_of t) i item
   content-written t i item =
       let es = t.list.entries in
-      let change : ChangesAt (option_map (λ (e : ℕ × T). (e.0, item))) i es (list_with_item es i item) =
-      record { here = entry_at-with_item es i item; others = λ k other. entry_at-with_item_other es i k item other } in
+      let change : ChangesAt (option_map (λ (e : ℕ × T). (e.0, item))) i es (with_item_among es i item) =
+      record { here = entry_at-with_item_among es i item; others = λ k other. entry_at-with_item_among_other es i k item other } in
       ap (λ slots. record { slots = slots; vacant = t.list.vacant; generation = t.list.generation; maximum = t.list.maximum })
-      (slots-changed (option_map (λ (e : ℕ × T). (e.0, item))) refl i es (list_with_item es i item) change t.list.capacity)
+      (slots-changed (option_map (λ (e : ℕ × T). (e.0, item))) refl i es (with_item_among es i item) change t.list.capacity)
 
   pub capacity_is : (t : Tree T) → arena_capacity (content_of t) ≡ t.list.capacity
   capacity_is t = omega (arith, length-slots t.list.entries 1 t.list.capacity)
@@ -87,8 +87,8 @@ module _ {T : Type 0} where
     | inr h ↦ slots-beyond t.list.entries 1 t.list.capacity k (omega (arith, h.1)) ∙ sym (outside most greatest t sound (suc k) (λ above within. omega (arith, h.1, within)))
   ]
 
-  pub item_is : (most : ℕ) (greatest : Option ℕ) (t : Tree T) → IsSound most greatest t.list → (i g : ℕ) → item_of (content_of t) i g ≡ item_among t.list.entries i g
-  item_is most greatest t sound i g = ap (item_if g) (slot_is most greatest t sound i)
+  pub item_is : (most : ℕ) (greatest : Option ℕ) (t : Tree T) → IsSound most greatest t.list → (p : ℕ × ℕ) → item_of (content_of t) p ≡ item_among t.list.entries p
+  item_is most greatest t sound p = ap (item_if p.1) (slot_is most greatest t sound p.0)
 
   pub content_renewed : (greatest : Option ℕ) (t u : Tree T) (i : ℕ) → u ≡ record t { list = renewed greatest t.list i } → HoldsSame (content_of u) (arena_renewed greatest (content_of t) i)
   content_renewed greatest t u i is =
@@ -103,7 +103,7 @@ module _ {T : Type 0} where
       } in
       subst (λ v. HoldsSame (content_of v) (arena_renewed greatest (content_of t) i)) (sym is) there
 
-  pub content_removed : (most : ℕ) (greatest : Option ℕ) (t u : Tree T) (i : ℕ) → IsSound most greatest t.list → u.list ≡ removed greatest t.list i → HoldsSame (content_of u) (arena_without greatest (content_of t) i)
+  pub content_removed : (most : ℕ) (greatest : Option ℕ) (t u : Tree T) (i : ℕ) → IsSound most greatest t.list → u.list ≡ removed greatest t.list i → HoldsSame (content_of u) (arena_removed greatest (content_of t) i)
   content_removed most greatest t u i sound is =
       let es = t.list.entries in
       let change : ChangesAt (λ s. None) i es (without i es) =

@@ -8,9 +8,9 @@ use Rattle.triple_ord.specs.Order.{IsInOrder}
 
 module _ {T : Type 0} where
   -- how many entries stand before the one with this index
-  abbrev pub place_of : List (Entry T) → ℕ → ℕ
-  place_of [] i = 0
-  place_of (e ∷ es) i = if e.index == i then 0 else place_of es i + 1
+  abbrev pub position_of : List (Entry T) → ℕ → ℕ
+  position_of [] i = 0
+  position_of (e ∷ es) i = if e.index == i then 0 else position_of es i + 1
 
   -- How many entries there are from the one at this place to the far neighbour of a gap, both counted: from a place before the gap
   -- to the entry after it, from a place behind the gap to the entry before it, and to the end of the list where there is none.
@@ -24,4 +24,4 @@ module _ {T : Type 0} where
 abbrev pub IsNearHint : {T K : Type 0} → (T → K) → (K → K → Ordering) → List (Entry T) → K → ℕ → ℕ → ℕ → Type 0
 IsNearHint key cmp entries k i num c =
     IsInOrder key cmp entries → IsSome (entry_at entries i) → (gap : Gap entries) → Fits key cmp gap k
-    → way_length gap (place_of entries i) ≤ num → c ≤ way_length gap (place_of entries i)
+    → way_length gap (position_of entries i) ≤ num → c ≤ way_length gap (position_of entries i)

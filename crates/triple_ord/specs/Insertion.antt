@@ -1,53 +1,98 @@
--- What an insertion by key does: it replaces the item of an equal entry, or puts a new entry into a gap that fits the key.
+-- What an insertion does: one step over its place.
 use Rattle.std.specs.Prelude.{◌≡◌, ◌≢◌, ℕ, Option, Some, None, Result, Ok, Err, length}
 use Rattle.std.specs.declared.cmp.Ordering.{Ordering}
-use Rattle.chain_base.specs.Chain.{Entry, chain_limit, with_room}
+use Rattle.std.specs.declared.cmp.Ordering.TheVariants.{Equal}
+use Rattle.chain_base.specs.Chain.{Entry, Chain, chain_limit, with_room}
 use Rattle.chain_base.specs.Insert.{IsInsertion}
-use Rattle.ord_tree.specs.Tree.{Tree, IsGrown, with_item_in}
+use Rattle.ord_tree.specs.Tree.{Tree, IsGrown, with_item}
 use Rattle.triple_ord.specs.Gap.{Gap, with_between}
-use Rattle.triple_ord.specs.Search.{pointer, Fits, IsMet}
+use Rattle.triple_ord.specs.Search.{pointer}
+use Rattle.triple_ord.specs.Place.{Aim, at_key, beside, into, over, nowhere, IsPlace}
+use Rattle.triple_ord.specs.declared.entry_kind.OrdEntryKind.{OrdEntryKind}
+use Rattle.triple_ord.specs.declared.entry_kind.OrdEntryKind.TheVariants.{New, Replacing}
 use Rattle.triple_ord.specs.declared.error.OrdInsertionError.{OrdInsertionError}
 use Rattle.triple_ord.specs.declared.error.OrdInsertionError.TheVariants.{FailedOrdRequirement, NotWithinCapacity, BeyondMaxCapacity, AllocError}
 
--- the key of an item, the order of keys, and the greatest index that an entry may have
-module _ {T K : Type 0} (key : T → K) (cmp : K → K → Ordering) (most : ℕ) where
-  -- a new entry goes into a gap that fits the item's key, under the next pointer and after a growth if that is needed; the
-  -- shape takes it up
+-- whether an insertion keeps within the capacity, or grows where no slot is vacant
+pub data Growth : Type 0 where
+  within : Growth
+  reallocating : Growth
+
+module _ {T : Type 0} where
+  -- the list as an insertion finds it that needs a slot: grown, where it may grow and no slot is vacant
+  abbrev pub with_slot : Growth → ℕ → Chain T → Chain T
+  with_slot within most c = c
+  with_slot reallocating most c = with_room most c
+
+  -- no slot is to be had: none is vacant within the capacity; the length is at the limit; or memory is refused to a growth that is
+  -- needed and allowed
+  abbrev pub LacksSlot : Growth → ℕ → Chain T → OrdInsertionError → Type 0
+  LacksSlot within most c NotWithinCapacity = length c.entries ≡ c.capacity
+  LacksSlot reallocating most c BeyondMaxCapacity = length c.entries ≡ chain_limit most c
+  LacksSlot reallocating most c AllocError = (length c.entries ≢ chain_limit most c) × (length c.entries ≡ c.capacity)
+  LacksSlot growth most c refusal = ⊥
+
+-- the key of an item, the order of keys, the greatest index that an entry may have; how the insertion gets its slot, and what it
+-- goes by
+module _ {T K : Type 0} (key : T → K) (cmp : K → K → Ordering) (most : ℕ) (growth : Growth) (aim : Aim K) where
+  -- a new entry goes into the gap that is its place, under the next pointer; the shape takes it up
   pub record InsertsNew (old : Tree T) (item : T) (p : ℕ × ℕ) (new : Tree T) : Type 0 where
     pub gap : Gap old.list.entries
-    pub fits : Fits key cmp gap (key item)
-    pub inserted : IsInsertion (with_room most old.list) new.list (with_between gap) item p.0 p.1
+    pub place : IsPlace key cmp aim (into gap)
+    pub inserted : IsInsertion (with_slot growth most old.list) new.list (with_between gap) item p.0 p.1
     pub grown : IsGrown old.shape new.shape
 
-  -- an entry with an equal key keeps its pointer and its place and gets the item; all else stays
+  -- the entry that is the place keeps its pointer and its place in the list, and gets the item; all else stays
   pub record Replaces (old : Tree T) (item : T) (p : ℕ × ℕ) (before : T) (new : Tree T) : Type 0 where
     pub entry : Entry T
-    pub met : IsMet key cmp old.list.entries (key item) entry
+    pub place : IsPlace key cmp {entries = old.list.entries} aim (over entry)
     pub named : p ≡ pointer entry
     pub taken : before ≡ entry.item
-    pub after : new ≡ with_item_in old entry.index item
+    pub after : new ≡ with_item old entry.index item
 
-  -- a new entry, for which a gap fits, is refused since the length is at the limit; nothing changes
-  pub record RefusesBeyond (old : Tree T) (item : T) (new : Tree T) : Type 0 where
-    pub gap : Gap old.list.entries
-    pub fits : Fits key cmp gap (key item)
-    pub full : length old.list.entries ≡ chain_limit most old.list
+  -- there is no place, or its place is a gap and no slot is to be had
+  abbrev pub IsRefused : Tree T → OrdInsertionError → Type 0
+  IsRefused old FailedOrdRequirement = IsPlace key cmp {entries = old.list.entries} aim nowhere
+  IsRefused old refusal = (gap : Gap old.list.entries) × IsPlace key cmp aim (into gap) × LacksSlot growth most old.list refusal
+
+  -- a refusal changes nothing
+  pub record Refuses (old : Tree T) (refusal : OrdInsertionError) (new : Tree T) : Type 0 where
+    pub refused : IsRefused old refusal
     pub after : new ≡ old
 
-  -- a new entry, for which a gap fits, is refused the memory of a growth, which it needs and may have; nothing changes
-  pub record RefusesMemory (old : Tree T) (item : T) (new : Tree T) : Type 0 where
-    pub gap : Gap old.list.entries
-    pub fits : Fits key cmp gap (key item)
-    pub below : length old.list.entries ≢ chain_limit most old.list
-    pub full : length old.list.entries ≡ old.list.capacity
-    pub after : new ≡ old
+  -- An insertion, by its result: whether the entry is new, its pointer, of which `numbers` reads index and generation, and the item
+  -- that was replaced. A replacement is never refused.
+  abbrev pub InsertsBy : {P : Type 0} → (P → ℕ × ℕ) → Tree T → T → Result (OrdEntryKind P × Option T) OrdInsertionError → Tree T → Type 0
+  InsertsBy numbers old item (Ok (New p, None)) new = InsertsNew old item (numbers p) new
+  InsertsBy numbers old item (Ok (Replacing p, Some before)) new = Replaces old item (numbers p) before new
+  InsertsBy numbers old item (Ok answer) new = ⊥
+  InsertsBy numbers old item (Err refusal) new = Refuses old refusal new
 
--- An insertion that may grow, by its answer: the pointer, of which `numbers` reads index and generation, and the item that was
--- replaced. A replacement is never refused.
-abbrev pub Inserts : {P T K : Type 0} → (T → K) → (K → K → Ordering) → ℕ → (P → ℕ × ℕ) → Tree T → T → Result (P × Option T) OrdInsertionError → Tree T → Type 0
-Inserts key cmp most numbers old item (Ok (p, None)) new = InsertsNew key cmp most old item (numbers p) new
-Inserts key cmp most numbers old item (Ok (p, Some before)) new = Replaces key cmp most old item (numbers p) before new
-Inserts key cmp most numbers old item (Err BeyondMaxCapacity) new = RefusesBeyond key cmp most old item new
-Inserts key cmp most numbers old item (Err AllocError) new = RefusesMemory key cmp most old item new
-Inserts key cmp most numbers old item (Err FailedOrdRequirement) new = ⊥
-Inserts key cmp most numbers old item (Err NotWithinCapacity) new = ⊥
+-- a result that tells by the item that was replaced whether the entry is new
+abbrev pub told : {P T : Type 0} → Result (P × Option T) OrdInsertionError → Result (OrdEntryKind P × Option T) OrdInsertionError
+told (Ok (p, None)) = Ok (New p, None)
+told (Ok (p, Some before)) = Ok (Replacing p, Some before)
+told (Err refusal) = Err refusal
+
+module _ {T K : Type 0} (key : T → K) (cmp : K → K → Ordering) (most : ℕ) where
+  -- an insertion by the item's key that may grow, and one that keeps within the capacity
+  abbrev pub Inserts : {P : Type 0} → (P → ℕ × ℕ) → Tree T → T → Result (P × Option T) OrdInsertionError → Tree T → Type 0
+  Inserts numbers old item answer new = InsertsBy key cmp most reallocating (at_key (key item)) numbers old item (told answer) new
+
+  abbrev pub InsertsWithin : {P : Type 0} → (P → ℕ × ℕ) → Tree T → T → Result (P × Option T) OrdInsertionError → Tree T → Type 0
+  InsertsWithin numbers old item answer new = InsertsBy key cmp most within (at_key (key item)) numbers old item (told answer) new
+
+-- an item without a key, as an insertion that compares none sees it
+abbrev keyless : {T : Type 0} → T → Unit {0}
+keyless item = tt
+
+abbrev alike : Unit {0} → Unit {0} → Ordering
+alike k l = Equal
+
+-- An insertion beside the entry with an index, or in its place, that may grow: by the item that was replaced. No key is compared.
+module _ {T : Type 0} (most : ℕ) (i : ℕ) (order : Ordering) where
+  abbrev pub InsertsBeside : Tree T → T → Result (Option T) OrdInsertionError → Tree T → Type 0
+  InsertsBeside old item (Ok None) new = (p : ℕ × ℕ) × InsertsNew keyless alike most reallocating (beside i order) old item p new
+  InsertsBeside old item (Ok (Some before)) new =
+      (p : ℕ × ℕ) × Replaces keyless alike most reallocating (beside i order) old item p before new
+  InsertsBeside old item (Err refusal) new = Refuses keyless alike most reallocating (beside i order) old refusal new

@@ -8,8 +8,13 @@ pub mod ClosureSearch
 pub mod Order
 pub mod Hint
 pub mod VisitBounds
+pub mod Refusal
+pub mod Place
 pub mod Insertion
-pub mod Placing
+pub mod EntryVisits
+pub mod Entry
+pub mod Prepared
+pub mod InsertEntry
 pub mod Node
 pub mod Walk
 pub mod OrderedWalk
@@ -18,4 +23,3 @@ pub mod SlotWalk
 pub mod SlotDrain
 pub mod Descent
 pub mod Steps
-pub mod Lends

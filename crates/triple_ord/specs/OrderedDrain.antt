@@ -23,15 +23,15 @@ module _ {P T A Inx Gen : Type 0} where
   ordered_drain_rest d = d.arena.now.list.entries
 
   -- x is the first entry of s, which has been removed, and t has the others
-  pub record IsDrainedInOrder (greatest : Option ℕ) (index era : P → ℕ) (s : OrderedDrain P T A Inx Gen) (x : InvalidationOption (P × T)) (t : OrderedDrain P T A Inx Gen) : Type 0 where
-    pub first : ordered_drain_rest s ≡ record { index = index (allowed_value x).0; generation = era (allowed_value x).0; item = (allowed_value x).1 } ∷ ordered_drain_rest t
-    pub removed_list : (ordered_drain_arena t).list ≡ removed greatest (ordered_drain_arena s).list (index (allowed_value x).0)
+  pub record IsDrainedInOrder (greatest : Option ℕ) (numbers : P → ℕ × ℕ) (s : OrderedDrain P T A Inx Gen) (x : InvalidationOption (P × T)) (t : OrderedDrain P T A Inx Gen) : Type 0 where
+    pub first : ordered_drain_rest s ≡ record { index = (numbers (allowed_value x).0).0; generation = (numbers (allowed_value x).0).1; item = (allowed_value x).1 } ∷ ordered_drain_rest t
+    pub removed_list : (ordered_drain_arena t).list ≡ removed greatest (ordered_drain_arena s).list (numbers (allowed_value x).0).0
     pub shape : IsShrunk (ordered_drain_arena s).shape (ordered_drain_arena t).shape
     pub overflow : is_overflow x ≡ overflows_after greatest (ordered_drain_arena s).list.generation
-    pub found : item_of (ordered_drain_arena s) (index (allowed_value x).0, era (allowed_value x).0) ≡ Some (allowed_value x).1
-    pub updates : Updates (ordered_drain_arena s) (ordered_drain_arena t) (index (allowed_value x).0, era (allowed_value x).0) None
+    pub found : item_of (ordered_drain_arena s) (numbers (allowed_value x).0) ≡ Some (allowed_value x).1
+    pub updates : Updates (ordered_drain_arena s) (ordered_drain_arena t) (numbers (allowed_value x).0) None
 
   -- `next` took s to t, and returned r: the entries go in order, each by a removal of its own
-  abbrev pub OrderedDrainSteps : Option ℕ → (P → ℕ) → (P → ℕ) → OrderedDrain P T A Inx Gen → Option (InvalidationOption (P × T)) → OrderedDrain P T A Inx Gen → Type 0
-  OrderedDrainSteps greatest index era s r t =
-      (ordered_drain_lender t ≡ ordered_drain_lender s) × MatchOption r ((ordered_drain_rest s ≡ []) × (t ≡ s)) (λ x. IsDrainedInOrder greatest index era s x t)
+  abbrev pub OrderedDrainSteps : Option ℕ → (P → ℕ × ℕ) → OrderedDrain P T A Inx Gen → Option (InvalidationOption (P × T)) → OrderedDrain P T A Inx Gen → Type 0
+  OrderedDrainSteps greatest numbers s r t =
+      (ordered_drain_lender t ≡ ordered_drain_lender s) × MatchOption r ((ordered_drain_rest s ≡ []) × (t ≡ s)) (λ x. IsDrainedInOrder greatest numbers s x t)

@@ -1,7 +1,7 @@
 -- A walk along the list of an arena that borrows nothing: it stands at the index of the entry that it gives next, or at none.
 use Rattle.std.specs.Prelude.{◌≡◌, ℕ, Bool, Option, Some, None, List, [], ◌∷◌, if◌then◌else◌, map, reverse, MatchOption, IsSome}
 use Rattle.std.specs.Option.{option_and_then}
-use Rattle.chain_base.specs.Chain.{Entry, link_at}
+use Rattle.chain_base.specs.Chain.{link_at}
 use Rattle.ord_tree.specs.Tree.{Tree}
 use Rattle.triple_ord.specs.Search.{pointer}
 use Rattle.triple_ord.specs.Walk.{entries_from}
@@ -35,5 +35,5 @@ module _ {T : Type 0} where
     pub ends : new ≡ record old { at = None }
 
   -- a step over the arena took the walk from `old` to `new`, and gave this pointer or nothing
-  abbrev pub OrderedWalkSteps : {P : Type 0} → (P → ℕ) → (P → ℕ) → OrderedWalk → Tree T → Option P → OrderedWalk → Type 0
-  OrderedWalkSteps index era old a result new = MatchOption result (GivesNothing old new a) (λ p. GivesEntry old new a (index p) (era p))
+  abbrev pub OrderedWalkSteps : {P : Type 0} → (P → ℕ × ℕ) → OrderedWalk → Tree T → Option P → OrderedWalk → Type 0
+  OrderedWalkSteps numbers old a result new = MatchOption result (GivesNothing old new a) (λ p. GivesEntry old new a (numbers p).0 (numbers p).1)

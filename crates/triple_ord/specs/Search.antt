@@ -1,4 +1,4 @@
--- What a search by key answers on a list of entries: an equal entry that it met, or a gap that fits the key.
+-- What a search by key returns on a list of entries: an equal entry that it met, or a gap that fits the key.
 use Rattle.std.specs.Prelude.{◌≡◌, ℕ, ◌≤◌, ◌⊎◌, List, [], Option, Some, None, IfSome, Contains}
 use Rattle.std.specs.declared.cmp.Ordering.{Ordering}
 use Rattle.std.specs.declared.cmp.Ordering.TheVariants.{Less, Equal, Greater}
@@ -33,12 +33,12 @@ module _ {T K : Type 0} (key : T → K) (cmp : K → K → Ordering) where
   abbrev pub IsBeside : List (Entry T) → K → ℕ → Entry T → Type 0
   IsBeside entries k c e = (gap : Gap entries) × StopsAt gap k c × ((before gap ≡ Some e) ⊎ (after gap ≡ Some e))
 
-  -- a search for an equal key with c visits: it answers the pointer of one that it met, or none where it stops at a gap that fits
+  -- a search for an equal key with c visits: it returns the pointer of one that it met, or none where it stops at a gap that fits
   abbrev pub FindsKey : List (Entry T) → K → Option (ℕ × ℕ) → ℕ → Type 0
   FindsKey entries k None c = (gap : Gap entries) × StopsAt gap k c
   FindsKey entries k (Some p) c = (e : Entry T) × (p ≡ pointer e) × IsMet entries k e × (1 ≤ c)
 
-  -- a search for a similar key: it answers the pointer of an equal entry that it met, or of an entry beside a gap that fits,
+  -- a search for a similar key: it returns the pointer of an equal entry that it met, or of an entry beside a gap that fits,
   -- each with the order of k to its key, and none in an empty list alone
   abbrev pub FindsSimilar : List (Entry T) → K → Option ((ℕ × ℕ) × Ordering) → ℕ → Type 0
   FindsSimilar entries k None c = entries ≡ []

@@ -29,14 +29,14 @@ module _ {P T A Inx Gen : Type 0} where
   ComesWhole d = drain_rest d ≡ pointers (content_of d.arena.now)
 
   -- x is the first entry of s that is still to come, which has been removed, and the others are still to come in t
-  pub record IsDrainedByIndex (greatest : Option ℕ) (index era : P → ℕ) (s : Drain P T A Inx Gen) (x : InvalidationOption (P × T)) (t : Drain P T A Inx Gen) : Type 0 where
-    pub first : drain_rest s ≡ (index (allowed_value x).0, era (allowed_value x).0) ∷ drain_rest t
+  pub record IsDrainedByIndex (greatest : Option ℕ) (numbers : P → ℕ × ℕ) (s : Drain P T A Inx Gen) (x : InvalidationOption (P × T)) (t : Drain P T A Inx Gen) : Type 0 where
+    pub first : drain_rest s ≡ (numbers (allowed_value x).0) ∷ drain_rest t
     pub whole : ComesWhole s → ComesWhole t
-    pub removed_list : (drain_arena t).list ≡ removed greatest (drain_arena s).list (index (allowed_value x).0)
+    pub removed_list : (drain_arena t).list ≡ removed greatest (drain_arena s).list (numbers (allowed_value x).0).0
     pub shape : IsShrunk (drain_arena s).shape (drain_arena t).shape
     pub overflow : is_overflow x ≡ overflows_after greatest (drain_arena s).list.generation
-    pub found : item_of (drain_arena s) (index (allowed_value x).0, era (allowed_value x).0) ≡ Some (allowed_value x).1
-    pub updates : Updates (drain_arena s) (drain_arena t) (index (allowed_value x).0, era (allowed_value x).0) None
+    pub found : item_of (drain_arena s) (numbers (allowed_value x).0) ≡ Some (allowed_value x).1
+    pub updates : Updates (drain_arena s) (drain_arena t) (numbers (allowed_value x).0) None
 
   -- nothing of s is still to come, and t is s; where every entry of the arena was, there is none
   pub record GivesNothing (s t : Drain P T A Inx Gen) : Type 0 where
@@ -45,6 +45,6 @@ module _ {P T A Inx Gen : Type 0} where
     pub empty : ComesWhole s → FindsNothing (drain_arena s)
 
   -- `next` took s to t, and returned r: the entries go by rising index, each by a removal of its own
-  abbrev pub DrainSteps : Option ℕ → (P → ℕ) → (P → ℕ) → Drain P T A Inx Gen → Option (InvalidationOption (P × T)) → Drain P T A Inx Gen → Type 0
-  DrainSteps greatest index era s r t =
-      (drain_lender t ≡ drain_lender s) × MatchOption r (GivesNothing s t) (λ x. IsDrainedByIndex greatest index era s x t)
+  abbrev pub DrainSteps : Option ℕ → (P → ℕ × ℕ) → Drain P T A Inx Gen → Option (InvalidationOption (P × T)) → Drain P T A Inx Gen → Type 0
+  DrainSteps greatest numbers s r t =
+      (drain_lender t ≡ drain_lender s) × MatchOption r (GivesNothing s t) (λ x. IsDrainedByIndex greatest numbers s x t)

@@ -7,6 +7,6 @@ use Rattle.triple_ord.specs.Content.{content_of}
 
 -- a step over the arena took the walk `old` to `new`, and gave this pointer or nothing: it is a step over the finite map that the
 -- arena is, and the pointer finds an item
-pub record SlotWalkSteps {P T : Type 0} (index era : P → ℕ) (old : Walk) (a : Tree T) (result : Option P) (new : Walk) : Type 0 where
-  pub step : WalkSteps index era old (content_of a) result new
-  pub there : IfSome result (λ p. IsSome (item_of a (index p, era p)))
+pub record SlotWalkSteps {P T : Type 0} (numbers : P → ℕ × ℕ) (old : Walk) (a : Tree T) (result : Option P) (new : Walk) : Type 0 where
+  pub step : WalkSteps numbers old (content_of a) result new
+  pub there : IfSome result (λ p. IsSome (item_of a (numbers p)))

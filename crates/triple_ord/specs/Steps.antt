@@ -5,7 +5,7 @@ use Rattle.std.specs.declared.cmp.Ordering.TheVariants.{Less, Equal, Greater}
 use Rattle.chain_base.specs.Chain.{Entry}
 use Rattle.chain_base.specs.Link.{Link}
 use Rattle.triple_ord.specs.Gap.{Gap, first_of, last_or}
-use Rattle.triple_ord.specs.Hint.{place_of, way_length}
+use Rattle.triple_ord.specs.Hint.{position_of, way_length}
 use Rattle.triple_ord.specs.Order.{IsInOrder}
 use Rattle.triple_ord.specs.Search.{order_to, Fits, FindsSimilar}
 
@@ -16,16 +16,16 @@ neighbour_towards link Equal = None
 neighbour_towards link Greater = link.next
 
 module _ {T K : Type 0} (key : T → K) (cmp : K → K → Ordering) (entries : List (Entry T)) (k : K) where
-  -- what the steps answer, if anything, is the answer of a search for a similar key
+  -- what the steps return, if anything, is the result of a search for a similar key
   abbrev pub Settles : Option ((ℕ × ℕ) × Ordering) → ℕ → Type 0
   Settles found visits = IfSome found (λ answer. FindsSimilar key cmp entries k (Some answer) visits)
 
-  -- from the index i, on a list in order with a gap that fits k: the steps answer after no more visits than there are entries on the
+  -- from the index i, on a list in order with a gap that fits k: the steps return after no more visits than there are entries on the
   -- way to the gap, and leave it open only where there are more than num
   abbrev pub IsNear : {X : Type 0} → ℕ → ℕ → Option X → ℕ → Type 0
   IsNear i num found visits =
       IsInOrder key cmp entries → (gap : Gap entries) → Fits key cmp gap k
-      → MatchOption found (num < way_length gap (place_of entries i)) (λ answer. visits ≤ way_length gap (place_of entries i))
+      → MatchOption found (num < way_length gap (position_of entries i)) (λ answer. visits ≤ way_length gap (position_of entries i))
 
   -- the steps went so many entries from a place: to the one with `front` before it and `back` behind it; the entry that they came
   -- from was answered `came`, Equal where they begin

@@ -10,13 +10,17 @@ mod check;
 mod compare;
 mod debug;
 mod drain;
+mod entry;
 mod find;
 mod find_linear;
 mod find_with;
 mod growth;
 mod insert;
+mod insert_entry;
 mod iter;
 mod neighbours;
+mod place;
+mod prepare;
 mod rebuild;
 mod remove;
 mod slot_drain;
@@ -27,6 +31,7 @@ mod write;
 
 use arena_base::{InvalidationOption, Ptr};
 pub use drain::{CapacityDrain, OrderedDrain};
+pub use insert_entry::SimpleOrdArenaInsertEntry;
 pub use iter::Iter;
 use ord_tree::OrdTree;
 pub use slot_drain::Drain;
@@ -102,7 +107,7 @@ impl<P: Ptr, T, A: Allocator> SimpleOrdArena<P, T, A> {
         self.tree.set_generation(generation);
     }
 
-    /// Raises the generation that the next entry gets, and leaves each entry its own. The answer says whether the generations
+    /// Raises the generation that the next entry gets, and leaves each entry its own. The result says whether the generations
     /// began again.
     pub fn inc_generation(&mut self) -> InvalidationOption<()>
         ensures after { self.new ≡ record self.old { list = raised P.Gen.greatest self.old.list } }

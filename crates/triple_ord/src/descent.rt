@@ -12,7 +12,7 @@ use ord_tree::laws::{height_law, rank_square_law, rebuilt_height_law, tight_rank
 use std::alloc::Allocator;
 use std::cmp::Ordering;
 
-/// Goes down from the root by the closure's answers, and answers the entry that it showed last with the answer that it got.
+/// Goes down from the root by the closure's answers, and returns the entry that it showed last with the answer that it got.
 ///
 /// Both sides of a node are read before one is chosen: so the choice is a selection, and no branch.
 pub(crate) fn descend<P: Ptr, T, F: FnMut(P, &T) -> Ordering, A: Allocator>(
@@ -21,9 +21,9 @@ pub(crate) fn descend<P: Ptr, T, F: FnMut(P, &T) -> Ordering, A: Allocator>(
 ) -> Option<(P, Ordering)>
     requires room { probe.old.visits < 2 ^ 64 }
     requires callable { F.IsAlwaysCallable f.old }
-    ensures found { FindsSimilarWith (Asks (λ p. (P.index p, P.era p)) F.step)
+    ensures found { FindsSimilarWith (Asks P.numbers F.step)
         probe.old.tree.now.list.entries f.old f.new
-        (option_map (λ a. ((P.index a.0, P.era a.0), a.1)) result) (probe.new.visits - probe.old.visits) }
+        (option_map (λ a. (P.numbers a.0, a.1)) result) (probe.new.visits - probe.old.visits) }
     ensures callable { F.IsAlwaysCallable f.new }
     ensures visits { IsWithinBounds (length probe.old.tree.now.list.entries) probe.old.tree.now.shape
         (probe.new.visits - probe.old.visits) }
@@ -54,7 +54,7 @@ pub(crate) fn descend_by_key<P: Ptr, T: SimpleOrdItem, A: Allocator>(
 ) -> Option<(P, Ordering)>
     requires { probe.old.visits < 2 ^ 64 }
     ensures found { FindsSimilar T.key_of T.Key.cmp probe.old.tree.now.list.entries k.now
-        (option_map (λ a. ((P.index a.0, P.era a.0), a.1)) result) (probe.new.visits - probe.old.visits) }
+        (option_map (λ a. (P.numbers a.0, a.1)) result) (probe.new.visits - probe.old.visits) }
     ensures visits { IsWithinBounds (length probe.old.tree.now.list.entries) probe.old.tree.now.shape
         (probe.new.visits - probe.old.visits) }
     ensures counted { probe.old.visits ≤ probe.new.visits }

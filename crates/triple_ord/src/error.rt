@@ -2,7 +2,7 @@
 use arena_base::InsertionError;
 use thiserror::Error;
 
-/// Why an insertion was refused. Nothing has changed then, and the item is dropped.
+/// Why an insertion was refused. Nothing has changed then, and an item that was handed in is dropped.
 #[derive(Debug, Clone, Copy, PartialEq, Eq, Drop, Error)]
 pub enum OrdInsertionError {
     /// The place that was named isn't there: the arena was to be empty and isn't, or an index has no entry.
@@ -21,7 +21,7 @@ pub enum OrdInsertionError {
 
 impl From<InsertionError> for OrdInsertionError {
     ghost use Rattle.std.specs.Prelude.{◌≡◌};
-    ghost use Rattle.triple_ord.specs.Placing.{refusal_of};
+    ghost use Rattle.triple_ord.specs.Refusal.{refusal_of};
 
     ghost from_gives = { λ refusal result. result ≡ refusal_of refusal };
 

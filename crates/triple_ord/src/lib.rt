@@ -5,21 +5,27 @@ mod arena;
 mod descent;
 mod entry_kind;
 mod error;
+mod insert_kind;
 mod item;
 pub mod laws;
 mod pair;
+mod prepared;
 mod probe;
 mod steps;
 mod visits;
 
-pub use arena::{CapacityDrain, Drain, Iter, OrderedDrain, OrderedPtrAdvancer, SimpleOrdArena};
+pub use arena::{
+    CapacityDrain, Drain, Iter, OrderedDrain, OrderedPtrAdvancer, SimpleOrdArena,
+    SimpleOrdArenaInsertEntry,
+};
 pub use arena_base::{
-    Advancer, ArenaTrait, CompactArenaTrait, InvalidationOption, InvalidationResult, P0, P8, PN,
-    Ptr, PtrAdvancer, PtrGen, PtrInx, Q0, SetMaxCapacity,
+    Advancer, ArenaTrait, CompactArenaTrait, InvalidationOption, InvalidationResult, ItemsMut, P0,
+    P8, PN, Ptr, PtrAdvancer, PtrGen, PtrInx, Q0, SetMaxCapacity,
 };
 pub use chain_base::LinkNoGen;
 pub use entry_kind::OrdEntryKind;
 pub use error::OrdInsertionError;
+pub use insert_kind::OrdInsertKind;
 pub use item::SimpleOrdItem;
 pub use ord_tree::SimpleOrdArenaNode;
 pub use pair::OrdPair;

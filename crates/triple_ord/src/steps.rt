@@ -11,11 +11,11 @@ use chain_base::LinkNoGen;
 use std::alloc::Allocator;
 use std::cmp::Ordering;
 
-/// Steps along the list from the entry at an index to where the key lies, and answers as a search for a similar key does, or
+/// Steps along the list from the entry at an index to where the key lies, and returns as a search for a similar key does, or
 /// `None` where the steps leave that open.
 ///
 /// Each step compares the key with an entry's: Less leads to the previous entry, Greater to the next. An equal key ends the steps
-/// with an answer; so does an entry at which the order turns, and an end of the list. After `num` comparisons they end without.
+/// with a result; so does an entry at which the order turns, and an end of the list. After `num` comparisons they end without.
 pub(crate) fn step_along<P: Ptr, T: SimpleOrdItem, A: Allocator>(
     probe: &mut Probe<'_, P, T, A>,
     p_init: P::Inx,
@@ -26,7 +26,7 @@ pub(crate) fn step_along<P: Ptr, T: SimpleOrdItem, A: Allocator>(
     requires distinct { IsDistinct probe.old.tree.now.list.entries }
     requires occupied { IsSome (entry_at probe.old.tree.now.list.entries (P.Inx.number p_init)) }
     ensures settled { Settles T.key_of T.Key.cmp probe.old.tree.now.list.entries k.now
-        (option_map (λ a. ((P.index a.0, P.era a.0), a.1)) result) probe.new.visits }
+        (option_map (λ a. (P.numbers a.0, a.1)) result) probe.new.visits }
     ensures few { probe.new.visits ≤ num }
     ensures within { probe.new.visits ≤ length probe.old.tree.now.list.entries }
     ensures near { IsNear T.key_of T.Key.cmp probe.old.tree.now.list.entries k.now (P.Inx.number p_init) num

@@ -6,6 +6,7 @@ ghost use Rattle.std.specs.Ordering.{nat_cmp, on, as_partial_cmp};
 
 mod closures;
 mod each_call;
+mod entries;
 mod every_order;
 mod hints;
 mod rebuild;
@@ -20,6 +21,7 @@ use std::alloc::{AllocError, Allocator, Global};
 use std::cell::Cell;
 use std::cmp::Ordering;
 use std::hash::{DefaultHasher, Hasher};
+use std::process::Abort;
 use std::test::Fail;
 use triple_ord::{OrdEntryKind, OrdInsertionError, OrdPair, SimpleOrdArena, SimpleOrdItem, laws};
 
@@ -46,47 +48,81 @@ fn ranks(alloc: Global, a: &Keys) -> Result<Vec<(u32, u8)>, AllocError> {
     Ok(ranks)
 }
 
+/// The entries in order stand at these indexes, each with this rank.
+fn ranks_are(
+    rt: &impl Abort,
+    alloc: Global,
+    a: &Keys,
+    wanted: &[(u32, u8)],
+) -> Result<(), AllocError> {
+    assert_eq!(rt; ranks(alloc, a)?.as_slice(), wanted);
+    Ok(())
+}
+
 /// Index and generation of a pointer.
 fn numbers(p: Option<P0>) -> Option<(u32, u64)> {
     let p = p?;
     Some((p.inx(), p.generation()))
 }
 
+/// The keys of an arena in order.
+fn order_is<A: Allocator>(
+    rt: &impl Abort,
+    alloc: Global,
+    a: &Keys<A>,
+    wanted: &[u64],
+) -> Result<(), AllocError> {
+    assert_eq!(rt; order(alloc, a)?.as_slice(), wanted);
+    Ok(())
+}
+
+/// A search finds the entry with these numbers under a key, or none.
+fn key_finds(rt: &impl Abort, a: &Keys, key: u64, wanted: Option<(u32, u64)>) {
+    assert_eq!(rt; numbers(a.find_key(&key)), wanted);
+}
+
+/// An arena of this length and capacity, with this generation.
+fn counts_are<A: Allocator>(rt: &impl Abort, a: &Keys<A>, wanted: (usize, usize, u64)) {
+    assert_eq!(rt; (a.len(), a.capacity(), a.generation()), wanted);
+}
+
+/// The first and the last pointer.
+fn ends_are(rt: &impl Abort, a: &Keys, first: Option<(u32, u64)>, last: Option<(u32, u64)>) {
+    assert_eq!(rt; (numbers(a.first()), numbers(a.last())), (first, last));
+}
+
+/// A search for a key ends at this index and at this order, after so many visits.
+fn similar_key_is(rt: &impl Abort, a: &Keys, key: u64, wanted: (u32, Ordering), visits: u128) {
+    let (similar, counted) = a.find_similar_key_counted(&key);
+    assert_eq!(rt; similar.map(|a| (a.0.inx(), a.1)), Some(wanted));
+    assert_eq!(rt; counted.count(), visits);
+}
+
 #[test]
 fn five_keys(rt: HostRuntime) -> Result<(), Fail> {
     let a = keys(rt.alloc(), &[50, 30, 70, 60, 10])?;
-    assert_eq!(rt; a.len(), 5);
-    assert_eq!(rt; a.capacity(), 8);
+    counts_are(&rt, &a, (5, 8, 2));
     assert_eq!(rt; a.max_capacity(), None);
-    assert_eq!(rt; a.generation(), 2);
-    assert_eq!(rt; numbers(a.first()), Some((5, 2)));
-    assert_eq!(rt; numbers(a.last()), Some((3, 2)));
-    assert_eq!(rt; numbers(a.find_key(&50)), Some((1, 2)));
-    let (similar, visits) = a.find_similar_key_counted(&53);
-    assert_eq!(rt;
-        similar.map(|a| (a.0.inx(), a.1)),
-        Some((4, Ordering::Less))
-    );
-    assert_eq!(rt; visits.count(), 3);
-    let (similar, visits) = a.find_similar_key_counted(&40);
-    assert_eq!(rt;
-        similar.map(|a| (a.0.inx(), a.1)),
-        Some((2, Ordering::Greater))
-    );
-    assert_eq!(rt; visits.count(), 2);
-    let order = [(5u32, 1u8), (2, 2), (1, 3), (4, 1), (3, 2)];
-    assert_eq!(rt; ranks(rt.alloc(), &a)?.as_slice(), order.as_slice());
+    ends_are(&rt, &a, Some((5, 2)), Some((3, 2)));
+    key_finds(&rt, &a, 50, Some((1, 2)));
+    similar_key_is(&rt, &a, 53, (4, Ordering::Less), 3);
+    similar_key_is(&rt, &a, 40, (2, Ordering::Greater), 2);
+    ranks_are(
+        &rt,
+        rt.alloc(),
+        &a,
+        &[(5, 1), (2, 2), (1, 3), (4, 1), (3, 2)],
+    )?;
     Ok(())
 }
 
 #[test]
 fn keys_in_order(rt: HostRuntime) -> Result<(), Fail> {
     let three = keys(rt.alloc(), &[1, 2, 3])?;
-    let of_three = [(1u32, 1u8), (2, 2), (3, 1)];
-    assert_eq!(rt; ranks(rt.alloc(), &three)?.as_slice(), of_three.as_slice());
+    ranks_are(&rt, rt.alloc(), &three, &[(1, 1), (2, 2), (3, 1)])?;
     let seven = keys(rt.alloc(), &[1, 2, 3, 4, 5, 6, 7])?;
-    let of_seven = [(1u32, 1u8), (2, 2), (3, 1), (4, 3), (5, 1), (6, 2), (7, 1)];
-    assert_eq!(rt; ranks(rt.alloc(), &seven)?.as_slice(), of_seven.as_slice());
+    let of_seven = [(1, 1), (2, 2), (3, 1), (4, 3), (5, 1), (6, 2), (7, 1)];
+    ranks_are(&rt, rt.alloc(), &seven, of_seven.as_slice())?;
     Ok(())
 }
 
@@ -145,60 +181,101 @@ fn taken(comparisons: &Cell<u128>) -> u128 {
     comparisons.replace(0)
 }
 
+/// Keys that count their comparisons.
+type CountingKeys<'a> = SimpleOrdArena<PN, Sole<'a>>;
+
+/// Inserts a key, and tells whether that went well.
+fn is_inserted<'a>(a: &mut CountingKeys<'a>, key: Counting<'a>) -> bool {
+    a.insert(Sole { key }).is_ok()
+}
+
+/// Five keys, none of whose comparisons is counted yet.
+fn five_counting_keys<'a>(
+    rt: &impl Abort,
+    alloc: Global,
+    comparisons: &'a Cell<u128>,
+) -> CountingKeys<'a> {
+    let mut a = SimpleOrdArena::new(alloc);
+    for key in [50u64, 30, 70, 60, 10] {
+        assert!(rt; is_inserted(&mut a, Counting { key, comparisons }));
+    }
+    let _ = taken(comparisons);
+    a
+}
+
+/// A search for a key compares once a visit. Answers how often.
+fn find_key_compares(rt: &impl Abort, a: &CountingKeys, wanted: &Counting) -> u128 {
+    let (found, visits) = a.find_key_counted(wanted);
+    assert_eq!(rt; taken(wanted.comparisons), visits.count());
+    assert_eq!(rt; a.find_key(wanted), found);
+    assert_eq!(rt; taken(wanted.comparisons), visits.count());
+    visits.count()
+}
+
+/// The same of a search for a similar key.
+fn find_similar_key_compares(rt: &impl Abort, a: &CountingKeys, wanted: &Counting) -> u128 {
+    let (similar, visits) = a.find_similar_key_counted(wanted);
+    assert_eq!(rt; taken(wanted.comparisons), visits.count());
+    assert_eq!(rt; a.find_similar_key(wanted).is_some(), similar.is_some());
+    assert_eq!(rt; taken(wanted.comparisons), visits.count());
+    visits.count()
+}
+
 #[test]
 fn visits_are_comparisons(rt: HostRuntime) -> Result<(), Fail> {
     let made = Cell::new(0u128);
     let comparisons = &made;
-    let mut a: SimpleOrdArena<PN, Sole> = SimpleOrdArena::new(rt.alloc());
-    for key in [50u64, 30, 70, 60, 10] {
-        let inserted = a.insert(Sole {
-            key: Counting { key, comparisons },
-        });
-        assert!(rt; inserted.is_ok());
-    }
+    let mut a = five_counting_keys(&rt, rt.alloc(), comparisons);
     for key in [50u64, 30, 70, 60, 10, 53, 40, 5, 99] {
         let wanted = Counting { key, comparisons };
-        let _ = taken(comparisons);
-        let (found, visits) = a.find_key_counted(&wanted);
-        assert_eq!(rt; taken(comparisons), visits.count());
-        assert_eq!(rt; a.find_key(&wanted), found);
-        assert_eq!(rt; taken(comparisons), visits.count());
-        let (similar, similar_visits) = a.find_similar_key_counted(&wanted);
-        assert_eq!(rt; taken(comparisons), similar_visits.count());
-        assert_eq!(rt; similar_visits.count(), visits.count());
-        assert_eq!(rt; a.find_similar_key(&wanted).is_some(), similar.is_some());
-        assert_eq!(rt; taken(comparisons), visits.count());
-        assert!(rt; a.insert(Sole { key: wanted }).is_ok());
-        assert_eq!(rt; taken(comparisons), visits.count());
+        let visits = find_key_compares(&rt, &a, &wanted);
+        assert_eq!(rt; find_similar_key_compares(&rt, &a, &wanted), visits);
+        assert!(rt; is_inserted(&mut a, wanted));
+        assert_eq!(rt; taken(comparisons), visits);
     }
     Ok(())
+}
+
+/// A search for a key from a hint compares once a visit.
+fn find_key_linear_compares(
+    rt: &impl Abort,
+    a: &CountingKeys,
+    hint: u32,
+    num: usize,
+    wanted: &Counting,
+) {
+    let p = PN::_from_raw(hint, ());
+    let (found, visits) = a.find_key_linear_counted(p, num, wanted);
+    assert_eq!(rt; taken(wanted.comparisons), visits.count());
+    assert_eq!(rt; a.find_key_linear(p, num, wanted), found);
+    assert_eq!(rt; taken(wanted.comparisons), visits.count());
+}
+
+/// The same of a search for a similar key.
+fn find_similar_key_linear_compares(
+    rt: &impl Abort,
+    a: &CountingKeys,
+    hint: u32,
+    num: usize,
+    wanted: &Counting,
+) {
+    let (similar, visits) = a.find_similar_key_linear_counted(hint, num, wanted);
+    assert_eq!(rt; taken(wanted.comparisons), visits.count());
+    assert_eq!(rt; a.find_similar_key_linear(hint, num, wanted), similar);
+    assert_eq!(rt; taken(wanted.comparisons), visits.count());
 }
 
 #[test]
 fn steps_are_comparisons(rt: HostRuntime) -> Result<(), Fail> {
     let made = Cell::new(0u128);
     let comparisons = &made;
-    let mut a: SimpleOrdArena<PN, Sole> = SimpleOrdArena::new(rt.alloc());
-    for key in [50u64, 30, 70, 60, 10] {
-        let inserted = a.insert(Sole {
-            key: Counting { key, comparisons },
-        });
-        assert!(rt; inserted.is_ok());
-    }
+    let a = five_counting_keys(&rt, rt.alloc(), comparisons);
     for key in [50u64, 30, 70, 60, 10, 53, 40, 5, 99] {
         let wanted = Counting { key, comparisons };
         for hint in 0u32..7 {
             for num in [0, 1, 2, 3, usize::MAX] {
-                let _ = taken(comparisons);
-                let p = PN::_from_raw(hint, ());
-                let (found, visits) = a.find_key_linear_counted(p, num, &wanted);
-                assert_eq!(rt; taken(comparisons), visits.count());
-                assert_eq!(rt; a.find_key_linear(p, num, &wanted), found);
-                assert_eq!(rt; taken(comparisons), visits.count());
-                let (similar, visits) = a.find_similar_key_linear_counted(hint, num, &wanted);
-                assert_eq!(rt; taken(comparisons), visits.count());
-                assert_eq!(rt; a.find_similar_key_linear(hint, num, &wanted), similar);
-                assert_eq!(rt; taken(comparisons), visits.count());
+                find_key_linear_compares(&rt, &a, hint, num, &wanted);
+                find_similar_key_linear_compares(&rt, &a, hint, num, &wanted);
             }
         }
     }
@@ -216,7 +293,7 @@ fn room_beyond_the_indexes_is_refused(rt: HostRuntime) {
 }
 
 #[test]
-fn pointers_and_items(rt: HostRuntime) -> Result<(), Fail> {
+fn pointers_name_entries(rt: HostRuntime) -> Result<(), Fail> {
     let mut a: SimpleOrdArena<P0, OrdPair<i64, u8>> = SimpleOrdArena::new(rt.alloc());
     let (p, _) = a.insert(OrdPair::new(-3, 8))?;
     assert!(rt; a.contains(p));
@@ -225,6 +302,11 @@ fn pointers_and_items(rt: HostRuntime) -> Result<(), Fail> {
     let found = a.get_inx(p.inx()).ok_or("index")?;
     assert_eq!(rt; found.0, 2);
     assert_eq!(rt; *found.1.k(), -3);
+    Ok(())
+}
+
+#[test]
+fn pairs_are_made_and_taken_apart(rt: HostRuntime) -> Result<(), Fail> {
     let mut pair = OrdPair::new(1u8, 2u8);
     *pair.v_mut() = 5;
     assert_eq!(rt; format!(in rt.alloc(); "{pair:?}")?.as_str(), "(1, 5)");
@@ -295,29 +377,61 @@ fn order<A: Allocator>(alloc: Global, a: &Keys<A>) -> Result<Vec<u64>, AllocErro
     Ok(order)
 }
 
-#[test]
-fn keeps_all_where_memory_is_refused(rt: HostRuntime) -> Result<(), Fail> {
-    let mut lens = [false; 3];
-    for size in 1..120 {
-        let heap = LocalHeap::new(rt.alloc(), 16 * size)?;
-        let mut a: Keys<&LocalHeap> = SimpleOrdArena::new(&heap);
-        let mut old = Vec::new(rt.alloc());
-        for key in [50u64, 30, 70, 60, 10, 20, 90, 80, 40] {
-            if let Err(refusal) = a.insert(OrdPair::new(key, ())) {
-                assert_eq!(rt; refusal, OrdInsertionError::AllocError);
-                assert_eq!(rt; (a.capacity(), a.generation()), (a.len(), 2));
-                assert!(rt; a.find_key(&key).is_none());
-                assert!(rt; order(rt.alloc(), &a)? == old);
-                break;
-            }
-            old = order(rt.alloc(), &a)?;
-        }
-        for (i, known) in [0, 4, 8].iter().enumerate() {
-            if old.len() == *known {
-                lens[i] = true;
-            }
+/// Inserts a key, and tells whether it was refused memory.
+fn is_refused_memory<A: Allocator>(rt: &impl Abort, a: &mut Keys<A>, key: u64) -> bool {
+    match a.insert(OrdPair::new(key, ())) {
+        Ok(_) => false,
+        Err(refusal) => {
+            assert_eq!(rt; refusal, OrdInsertionError::AllocError);
+            true
         }
     }
-    assert_eq!(rt; lens, [true; 3]);
+}
+
+/// An arena whose room is full, with the keys of old in order, and not this one.
+fn is_full_of(
+    rt: &impl Abort,
+    alloc: Global,
+    a: &Keys<&LocalHeap>,
+    old: &[u64],
+    key: u64,
+) -> Result<(), AllocError> {
+    assert_eq!(rt; (a.capacity(), a.generation()), (a.len(), 2));
+    assert!(rt; a.find_key(&key).is_none());
+    order_is(rt, alloc, a, old)
+}
+
+/// Inserts nine keys on a heap of so many units, until memory is refused. Answers how many are there.
+fn inserted(rt: &impl Abort, alloc: Global, units: usize) -> Result<usize, AllocError> {
+    let heap = LocalHeap::new(alloc, units.saturating_mul(16))?;
+    let mut a: Keys<&LocalHeap> = SimpleOrdArena::new(&heap);
+    let mut old = Vec::new(alloc);
+    for key in [50u64, 30, 70, 60, 10, 20, 90, 80, 40] {
+        if is_refused_memory(rt, &mut a, key) {
+            is_full_of(rt, alloc, &a, old.as_slice(), key)?;
+            break;
+        }
+        old = order(alloc, &a)?;
+    }
+    Ok(old.len())
+}
+
+/// Marks which of these lengths was met.
+fn meet(met: &mut [bool], lens: &[usize], len: usize) {
+    for (is_met, known) in met.iter_mut().zip(lens) {
+        if len == *known {
+            *is_met = true;
+        }
+    }
+}
+
+#[test]
+fn keeps_all_where_memory_is_refused(rt: HostRuntime) -> Result<(), Fail> {
+    let mut met = [false; 3];
+    for units in 1..120 {
+        let len = inserted(&rt, rt.alloc(), units)?;
+        meet(&mut met, &[0, 4, 8], len);
+    }
+    assert_eq!(rt; met, [true; 3]);
     Ok(())
 }

@@ -2,7 +2,6 @@
 
 ghost use Rattle.std.specs.Prelude.{◌≡◌, ◌≢◌, ◌+◌, ℕ, false, Some, IfOk, OnErr, IfSome, IsSomeAnd, is_some, refl, if◌then◌else◌};
 ghost use Rattle.std.specs.Option.{option_map};
-ghost use Rattle.std.proofs.Common.{ap, ◌∙◌};
 ghost use Rattle.triple_ord.specs.Arena.{item_of, count};
 
 use std::alloc::Global;
@@ -29,11 +28,9 @@ impl Ptr for BookPtr {
 
     type Gen = u64;
 
-    ghost index = { λ p. p.0 };
+    ghost numbers = { λ p. p };
 
-    ghost era = { λ p. p.1 };
-
-    ghost one_each = { λ p q i g. ap (λ a. (a, p.1)) i ∙ ap (λ b. (q.0, b)) g };
+    ghost one_each = { λ p q e. e };
 
     ghost eq_is = { λ p q. refl };
 

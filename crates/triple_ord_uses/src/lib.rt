@@ -2,6 +2,7 @@
 #![tactic(auto)]
 
 pub mod catalogue;
+pub mod entries;
 pub mod rounds;
 pub mod scheduler;
 #[cfg(test)]

@@ -1,12 +1,14 @@
-//! The scheduler and the catalogue, run.
+//! The scheduler, the catalogue and the entries, run.
 
 use crate::catalogue::{Book, Catalogue, find, pages, put, renumber, take_first};
+use crate::entries::{add, add_near, put_behind, schedule_within, would_replace};
 use crate::rounds::{
     first_of_drain, last_job, least_job, least_of_drain, next_by_index, next_of_round, round_from,
 };
 use crate::scheduler::{Jobs, cancel, cancel_all, next, pop, replace, schedule};
 use std::alloc::Global;
 use std::test::Fail;
+use triple_ord::{OrdInsertionError, OrdPair, P0, Ptr};
 
 #[test]
 fn jobs_come_by_deadline_and_leave_when_they_are_cancelled(rt: HostRuntime) -> Result<(), Fail> {
@@ -112,5 +114,31 @@ fn books_are_found_by_number_and_by_pointer(rt: HostRuntime) -> Result<(), Fail>
         })
     );
     assert_eq!(rt; take_first(&mut catalogue), None);
+    Ok(())
+}
+
+#[test]
+fn jobs_come_back_where_they_are_refused(rt: HostRuntime) -> Result<(), Fail> {
+    let mut jobs = Jobs::new(rt.alloc());
+    let first = add(&mut jobs, OrdPair::new(30, 1)).ok().ok_or("a job")?;
+    let second = add(&mut jobs, OrdPair::new(30, 2)).ok().ok_or("a job")?;
+    assert!(rt; first != second);
+    assert_eq!(rt; next(&jobs), Some((second, 30, 2)));
+    assert!(rt; would_replace(&mut jobs, 30)? && !would_replace(&mut jobs, 40)?);
+    assert!(rt; put_behind(&mut jobs, second, OrdPair::new(5, 3))?);
+    assert!(rt; !put_behind(&mut jobs, P0::invalid(), OrdPair::new(5, 3))?);
+    let third = schedule_within(&mut jobs, 90, 4)?;
+    let replaced = add_near(&mut jobs, third, OrdPair::new(90, 5))?;
+    assert_eq!(rt; replaced, (third, Some(OrdPair::new(90, 4))));
+    jobs.set_max_capacity(4)?;
+    assert_eq!(rt;
+        add(&mut jobs, OrdPair::new(7, 7)).err(),
+        Some((OrdPair::new(7, 7), OrdInsertionError::BeyondMaxCapacity))
+    );
+    assert_eq!(rt;
+        schedule_within(&mut jobs, 8, 8).err(),
+        Some(OrdInsertionError::NotWithinCapacity)
+    );
+    assert_eq!(rt; jobs.len(), 4);
     Ok(())
 }

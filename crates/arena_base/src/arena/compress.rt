@@ -18,7 +18,7 @@ impl<P: Ptr, T, A: Allocator> Arena<P, T, A> {
     /// Moves all entries to the indexes from 1 on, in the order of their indexes, and gives them all one generation, which
     /// becomes the arena's: the first where `reset` is true, else the next one.
     ///
-    /// The answer says whether the generations began again because the next one comes after the greatest. For each entry, by
+    /// The result says whether the generations began again because the next one comes after the greatest. For each entry, by
     /// rising index, `f` is called with its old pointer, its item and its new pointer, and gives the item that the entry has
     /// then. The capacity stays, and all vacant slots count as never used. It takes no memory, and goes through the slots once.
     pub fn compress_with<F: FnMut(P, T, P) -> T + Drop>(
@@ -27,7 +27,7 @@ impl<P: Ptr, T, A: Allocator> Arena<P, T, A> {
         f: F,
     ) -> InvalidationOption<()>
         requires { F.IsAlwaysCallable f }
-        ensures after { IsCompression P.index P.era F.step
+        ensures after { IsCompression P.numbers F.step
             (compressed_generation P.Gen.greatest reset self.old.generation) f self.old self.new }
         ensures fresh { IsFresh self.new }
         ensures overflow { is_overflow result ≡ compression_overflows P.Gen.greatest reset self.old.generation }
@@ -42,7 +42,7 @@ impl<P: Ptr, T, A: Allocator> Arena<P, T, A> {
         map: M,
     ) -> InvalidationOption<()>
         requires { M.callable map }
-        ensures after { IsCompression P.index P.era M.step
+        ensures after { IsCompression P.numbers M.step
             (compressed_generation P.Gen.greatest reset self.old.generation) map self.old self.new }
         ensures fresh { IsFresh self.new }
         ensures overflow { is_overflow result ≡ compression_overflows P.Gen.greatest reset self.old.generation }
@@ -87,7 +87,7 @@ fn move_down<P: Ptr, T, A: Allocator, M: MapEntry<P, T> + Drop>(
 )
     requires callable { M.callable map }
     requires named { vec_len slots.old ≤ P.Inx.most }
-    ensures items { CompressesSlots P.index P.era P.Gen.number M.step generation map slots.old.items slots.new.items }
+    ensures items { CompressesSlots P.numbers P.Gen.number M.step generation map slots.old.items slots.new.items }
     ensures capacity { vec_capacity slots.new ≡ vec_capacity slots.old }
     ensures len { vec_len slots.new ≡ vec_len slots.old }
 {

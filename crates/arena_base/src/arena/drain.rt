@@ -13,7 +13,7 @@ use std::alloc::{Allocator, Global};
 /// Takes the entries out of an arena by rising index, each by a removal of its own. When it is dropped it clears the arena.
 pub struct Drain<'a, P: Ptr, T: Drop, A: Allocator = Global> {
     arena: &'a mut Arena<P, T, A>,
-    // the place of the slot that it looks at next
+    // the position of the slot that it looks at next
     at: usize,
 }
 
@@ -44,7 +44,7 @@ impl<'a, P: Ptr, T: Drop, A: Allocator> Drop for Drain<'a, P, T, A> {
 impl<'a, P: Ptr, T: Drop, A: Allocator> Iterator for Drain<'a, P, T, A> {
     type Item = InvalidationOption<(P, T)>;
 
-    ghost next_gives = { DrainSteps P.Gen.greatest P.index P.era };
+    ghost next_gives = { DrainSteps P.Gen.greatest P.numbers };
 
     ghost remaining = { item_count drain_rest };
 

@@ -11,7 +11,7 @@ use std::alloc::Allocator;
 impl<P: Ptr, T, A: Allocator> Arena<P, T, A> {
     /// Whether the pointer names an entry.
     pub fn contains(&self, p: P) -> bool
-        ensures { result ≡ is_some (item_of self.now (P.index p) (P.era p)) }
+        ensures { result ≡ is_some (item_of self.now (P.numbers p)) }
     {
         self.get(p).is_some()
     }
@@ -25,7 +25,7 @@ impl<P: Ptr, T, A: Allocator> Arena<P, T, A> {
 
     /// The item that the pointer names.
     pub fn get(&self, p: P) -> Option<&T>
-        ensures { option_copied result ≡ item_of self.now (P.index p) (P.era p) }
+        ensures { option_copied result ≡ item_of self.now (P.numbers p) }
     {
         match self.get_inx(p.inx()) {
             Some((generation, item)) if generation == p.generation() => Some(item),
@@ -37,8 +37,8 @@ impl<P: Ptr, T, A: Allocator> Arena<P, T, A> {
     pub fn get_inx(&self, i: P::Inx) -> Option<(P::Gen, &T)>
         ensures { option_map (λ e. (P.Gen.number e.0, e.1.now)) result ≡ slot self.now (P.Inx.number i) }
     {
-        let place = self.place(i)?;
-        match &self.slots[place] {
+        let position = self.position(i)?;
+        match &self.slots[position] {
             Slot::Occupied(item, generation) => Some((*generation, item)),
             Slot::Vacant => None,
         }
@@ -49,7 +49,7 @@ impl<P: Ptr, T, A: Allocator> Arena<P, T, A> {
         requires { IsOccupied self.now (P.Inx.number i) }
         ensures { slot self.now (P.Inx.number i) ≡ Some (P.Gen.number result.0, result.1.now) }
     {
-        match &self.slots[self.place_of_entry(i)] {
+        match &self.slots[self.position_of_entry(i)] {
             Slot::Occupied(item, generation) => (*generation, item),
             Slot::Vacant => unreachable!(),
         }
@@ -57,9 +57,9 @@ impl<P: Ptr, T, A: Allocator> Arena<P, T, A> {
 
     /// The pointer that the next insertion gives, where a slot is vacant.
     pub fn next_insertion_ptr(&self) -> Option<P>
-        ensures index { option_map P.index result ≡ next_index self.now }
-        ensures generation { IfSome result (λ p. P.era p ≡ self.now.generation) }
-        ensures vacant { IfSome result (λ p. IsVacant self.now (P.index p)) }
+        ensures index { option_map (λ p. (P.numbers p).0) result ≡ next_index self.now }
+        ensures generation { IfSome result (λ p. (P.numbers p).1 ≡ self.now.generation) }
+        ensures vacant { IfSome result (λ p. IsVacant self.now (P.numbers p).0) }
         ensures full { IsNone result ↔ (arena_len self.now ≡ arena_capacity self.now) }
     {
         let i = *self.vacant.last()?;
@@ -68,12 +68,12 @@ impl<P: Ptr, T, A: Allocator> Arena<P, T, A> {
 
     /// The pointer of the entry with the least index.
     pub fn find_first_inx_ptr(&self) -> Option<P>
-        ensures first { IfSome result (λ p. IsFirstEntry self.now (P.index p) (P.era p)) }
+        ensures first { IfSome result (λ p. IsFirstEntry self.now (P.numbers p).0 (P.numbers p).1) }
         ensures empty { IsNone result ↔ (arena_len self.now ≡ 0) }
     {
-        for place in 0..self.capacity() {
-            if let Some(generation) = self.generation_at(place) {
-                return Some(pointer(place, generation));
+        for position in 0..self.capacity() {
+            if let Some(generation) = self.generation_at(position) {
+                return Some(pointer(position, generation));
             }
         }
         None
@@ -81,32 +81,32 @@ impl<P: Ptr, T, A: Allocator> Arena<P, T, A> {
 
     /// The pointer of the entry with the greatest index.
     pub fn find_last_inx_ptr(&self) -> Option<P>
-        ensures last { IfSome result (λ p. IsLastEntry self.now (P.index p) (P.era p)) }
+        ensures last { IfSome result (λ p. IsLastEntry self.now (P.numbers p).0 (P.numbers p).1) }
         ensures empty { IsNone result ↔ (arena_len self.now ≡ 0) }
     {
-        for place in (0..self.capacity()).rev() {
-            if let Some(generation) = self.generation_at(place) {
-                return Some(pointer(place, generation));
+        for position in (0..self.capacity()).rev() {
+            if let Some(generation) = self.generation_at(position) {
+                return Some(pointer(position, generation));
             }
         }
         None
     }
 
-    // The generation of the entry at the place.
-    pub(super) fn generation_at(&self, place: usize) -> Option<P::Gen>
-        requires { place < arena_capacity self.now }
-        ensures { option_map P.Gen.number result ≡ generation_at self.now (place + 1) }
+    // The generation of the entry at the position.
+    pub(super) fn generation_at(&self, position: usize) -> Option<P::Gen>
+        requires { position < arena_capacity self.now }
+        ensures { option_map P.Gen.number result ≡ generation_at self.now (position + 1) }
     {
-        match &self.slots[place] {
+        match &self.slots[position] {
             Slot::Occupied(_, generation) => Some(*generation),
             Slot::Vacant => None,
         }
     }
 
-    // The place of the slot at an index within the capacity.
-    fn place(&self, i: P::Inx) -> Option<usize>
-        ensures number { IfSome result (λ place. P.Inx.number i ≡ place + 1) }
-        ensures within { IfSome result (λ place. place < arena_capacity self.now) }
+    // The position of the slot at an index within the capacity.
+    fn position(&self, i: P::Inx) -> Option<usize>
+        ensures number { IfSome result (λ position. P.Inx.number i ≡ position + 1) }
+        ensures within { IfSome result (λ position. position < arena_capacity self.now) }
         ensures none { IfNone result (slot self.now (P.Inx.number i) ≡ None) }
     {
         match i.try_into_usize() {
@@ -115,49 +115,38 @@ impl<P: Ptr, T, A: Allocator> Arena<P, T, A> {
         }
     }
 
-    // The place of the entry that the pointer names.
-    pub(super) fn place_of(&self, p: P) -> Option<usize>
-        ensures number { IfSome result (λ place. P.index p ≡ place + 1) }
-        ensures named { is_some result ≡ is_some (item_of self.now (P.index p) (P.era p)) }
-    {
-        let place = self.place(p.inx())?;
-        match self.generation_at(place) {
-            Some(generation) if generation == p.generation() => Some(place),
-            _ => None,
-        }
-    }
-
-    // The place of the slot at an index that has an entry.
-    pub(super) fn place_of_entry(&self, i: P::Inx) -> usize
+    // The position of the slot at an index that has an entry.
+    pub(super) fn position_of_entry(&self, i: P::Inx) -> usize
         requires { IsOccupied self.now (P.Inx.number i) }
         ensures number { P.Inx.number i ≡ result + 1 }
         ensures within { result < arena_capacity self.now }
     {
         // Where the slots are in sight, the index is known to be within them: so nothing is tested.
         let _ = self.slots.len();
-        place_at(i)
+        position_at(i)
     }
 }
 
-// The pointer with this generation to the slot at the place.
-pub(super) fn pointer<P: Ptr>(place: usize, generation: P::Gen) -> P
-    requires { place < P.Inx.most }
-    ensures index { P.index result ≡ place + 1 }
-    ensures era { P.era result ≡ P.Gen.number generation }
+// The pointer with this generation to the slot at the position.
+pub(super) fn pointer<P: Ptr>(position: usize, generation: P::Gen) -> P
+    requires { position < P.Inx.most }
+    ensures numbers { P.numbers result ≡ (position + 1, P.Gen.number generation) }
+    ensures index { (P.numbers result).0 ≡ position + 1 }
+    ensures generation { (P.numbers result).1 ≡ P.Gen.number generation }
 {
-    P::_from_raw(inx_at(place), generation)
+    P::_from_raw(inx_at(position), generation)
 }
 
-// The index of the slot at the place.
-pub(super) fn inx_at<I: PtrInx>(place: usize) -> I
-    requires { place < I.most }
-    ensures { I.number result ≡ place + 1 }
+// The index of the slot at the position.
+pub(super) fn inx_at<I: PtrInx>(position: usize) -> I
+    requires { position < I.most }
+    ensures { I.number result ≡ position + 1 }
 {
-    I::try_from_usize(place + 1).unwrap()
+    I::try_from_usize(position + 1).unwrap()
 }
 
-// The place of the slot at the index.
-pub(super) fn place_at<I: PtrInx>(i: I) -> usize
+// The position of the slot at the index.
+pub(super) fn position_at<I: PtrInx>(i: I) -> usize
     requires { 0 < I.number i }
     ensures { I.number i ≡ result + 1 }
 {

@@ -133,7 +133,7 @@ impl<P: Ptr, T, A: Allocator> Arena<P, T, A> {
     }
 
     // How many slots from the first on are known to have entries without a look at them: all, where none is vacant.
-    fn full_places(&self) -> usize
+    fn full_positions(&self) -> usize
         ensures { (i : ℕ) → 0 < i → i ≤ result → IsOccupied self.now i }
     {
         if self.vacant.is_empty() {
@@ -151,7 +151,7 @@ impl<P: Ptr, T, A: Allocator> Arena<P, T, A> {
         ensures memory { IsErr result → arena_capacity self.old < n }
         ensures err { OnErr result (self.new ≡ self.old) }
     {
-        let full = self.full_places();
+        let full = self.full_positions();
         self.slots
             .reserve_exact(n.saturating_sub(self.slots.len()))?;
         self.vacant
@@ -201,9 +201,9 @@ pub(super) fn list_vacant<T, G, I: PtrInx, A: Allocator>(
     ensures capacity { vec_capacity vacant.new ≡ vec_capacity vacant.old }
 {
     vacant.clear();
-    for place in (full..slots.len()).rev() {
-        if let Slot::Vacant = slots[place] {
-            vacant.push_reserved(inx_at(place));
+    for position in (full..slots.len()).rev() {
+        if let Slot::Vacant = slots[position] {
+            vacant.push_reserved(inx_at(position));
         }
     }
 }

@@ -1,10 +1,11 @@
 //! Indexing by pointers that are known to be valid, and the text of an arena.
 ghost use Rattle.std.specs.Prelude.{◌≡◌, Some, IsSome};
-ghost use Rattle.std.specs.Borrow.{sem};
-ghost use Rattle.arena_base.specs.Arena.{item_of};
+ghost use Rattle.std.specs.Borrow.{sem, Lends};
+ghost use Rattle.arena_base.specs.Arena.{item_of, with_item};
 
 use super::Arena;
 use super::get::pointer;
+use crate::items_mut::ItemsMut;
 use crate::ptr::Ptr;
 use std::alloc::Allocator;
 use std::fmt;
@@ -13,9 +14,9 @@ use std::ops::{Index, IndexMut};
 impl<P: Ptr, T, A: Allocator> Index<P> for Arena<P, T, A> {
     type Output = T;
 
-    ghost can_index = { λ a p. IsSome (item_of a (P.index p) (P.era p)) };
+    ghost can_index = { λ a p. IsSome (item_of a (P.numbers p)) };
 
-    ghost index_gives = { λ a p item. item_of a (P.index p) (P.era p) ≡ Some item };
+    ghost index_gives = { λ a p item. item_of a (P.numbers p) ≡ Some item };
 
     fn index(&self, p: P) -> &T {
         self.get(p).unwrap()
@@ -23,16 +24,16 @@ impl<P: Ptr, T, A: Allocator> Index<P> for Arena<P, T, A> {
 }
 
 impl<P: Ptr, T, A: Allocator> IndexMut<P> for Arena<P, T, A> {
-    ghost use Rattle.arena_base.specs.Lends.{lends_item};
+    ghost use Rattle.arena_base.specs.contracts.arena.Arena.{the_row};
 
     fn index_mut(&mut self, p: P) -> &mut T
-        requires { IsSome (item_of self.old (P.index p) (P.era p)) }
-        ensures* writes_back { sem 𝓛 (lends_item P.row T.row A.row P.Inx.row P.Gen.row
+        requires { IsSome (item_of self.old (P.numbers p)) }
+        ensures* writes_back { sem 𝓛 (Lends (the_row P.row T.row A.row P.Inx.row P.Gen.row
             P.Ptr.own P.PartialEq P.Ord.own P.PartialOrd.own P.Hash.own P.Debug
             P.Inx.PtrInx.own P.Inx.PartialEq P.Inx.Ord.own P.Inx.PartialOrd.own P.Inx.Hash.own P.Inx.Debug
-            P.Gen.PtrGen.own P.Gen.PartialEq P.Gen.Debug A.Allocator
-            self.entry (P.index p) result) }
-        ensures value { item_of self.old (P.index p) (P.era p) ≡ Some result.now }
+            P.Gen.PtrGen.own P.Gen.PartialEq P.Gen.Debug A.Allocator)
+            T.row self.entry result (with_item self.old (P.numbers p).0)) }
+        ensures value { item_of self.old (P.numbers p) ≡ Some result.now }
     {
         self.pair_mut(p.inx()).1
     }
@@ -41,9 +42,9 @@ impl<P: Ptr, T, A: Allocator> IndexMut<P> for Arena<P, T, A> {
 impl<P: Ptr, T: fmt::Debug, A: Allocator> fmt::Debug for Arena<P, T, A> {
     fn fmt<W: fmt::Write>(&self, f: &mut fmt::Formatter<W>) -> fmt::Result {
         let mut out = f.debug_map();
-        for place in 0..self.capacity() {
-            if let Some(generation) = self.generation_at(place) {
-                let p: P = pointer(place, generation);
+        for position in 0..self.capacity() {
+            if let Some(generation) = self.generation_at(position) {
+                let p: P = pointer(position, generation);
                 if let Some(item) = self.get(p) {
                     out.entry(&p, item);
                 }

@@ -3,7 +3,7 @@ ghost use Rattle.std.specs.Prelude.{◌≡◌, ◌<◌, ◌≤◌, ◌↔◌, �
 ghost use Rattle.arena_base.specs.Arena.{arena_len, arena_capacity, arena_limit, next_index, grown_capacity, with_room, IsInsertion, IsSound};
 
 use super::Arena;
-use super::get::place_at;
+use super::get::position_at;
 use crate::error::InsertionError;
 use crate::ptr::{Ptr, PtrInx};
 use crate::slot::Slot;
@@ -14,7 +14,7 @@ impl<P: Ptr, T: Drop, A: Allocator> Arena<P, T, A> {
     ///
     /// Its generation is the arena's. It is refused where no slot is vacant; the item is then dropped, and nothing else changes.
     pub fn insert_within_capacity(&mut self, item: T) -> Result<P, InsertionError>
-        ensures ok { IfOk result (λ p. IsInsertion self.old self.new item (P.index p) (P.era p)) }
+        ensures ok { IfOk result (λ p. IsInsertion self.old self.new item (P.numbers p).0 (P.numbers p).1) }
         ensures full { IsErr result ↔ (arena_len self.old ≡ arena_capacity self.old) }
         ensures refusal { IfErr result (λ e. e ≡ InsertionError.NotWithinCapacity) }
         ensures err { OnErr result (self.new ≡ self.old) }
@@ -33,7 +33,7 @@ impl<P: Ptr, T: Drop, A: Allocator> Arena<P, T, A> {
     /// limit or memory is refused; the item is then dropped, and nothing else changes.
     pub fn insert_reallocating(&mut self, item: T) -> Result<P, InsertionError>
         ensures ok { IfOk result
-            (λ p. IsInsertion (with_room P.Inx.most self.old) self.new item (P.index p) (P.era p)) }
+            (λ p. IsInsertion (with_room P.Inx.most self.old) self.new item (P.numbers p).0 (P.numbers p).1) }
         ensures beyond { (result ≡ Err InsertionError.BeyondMaxCapacity)
             ↔ (arena_len self.old ≡ arena_limit P.Inx.most self.old) }
         ensures memory { result ≡ Err InsertionError.AllocError → arena_len self.old ≡ arena_capacity self.old }
@@ -72,12 +72,12 @@ impl<P: Ptr, T: Drop, A: Allocator> Arena<P, T, A> {
     // Inserts an item where a slot is vacant.
     fn insert_next(&mut self, item: T) -> P
         requires { 0 < length self.old.vacant }
-        ensures inserted { IsInsertion self.old self.new item (P.index result) (P.era result) }
+        ensures inserted { IsInsertion self.old self.new item (P.numbers result).0 (P.numbers result).1 }
         ensures sound { IsSound P.Inx.most P.Gen.greatest self.new }
     {
         let generation = self.generation;
         let i = self.vacant.take_last();
-        self.slots[place_at(i)] = Slot::Occupied(item, generation);
+        self.slots[position_at(i)] = Slot::Occupied(item, generation);
         P::_from_raw(i, generation)
     }
 }

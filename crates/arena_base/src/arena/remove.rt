@@ -1,7 +1,7 @@
 //! Ending entries and their pointers.
 ghost use Rattle.std.specs.Prelude.{◌≡◌, ◌<◌, ◌&&◌, Some, None, is_some, IsSome, IfSome, IfNone, OnSome};
 ghost use Rattle.std.specs.Option.{option_map};
-ghost use Rattle.arena_base.specs.Arena.{slot, item_of, freed, with_slot, without, renewed, IsOccupied};
+ghost use Rattle.arena_base.specs.Arena.{slot, item_of, freed, with_slot, removed, renewed, IsOccupied};
 ghost use Rattle.arena_base.specs.Generation.{next_generation, overflows_after};
 ghost use Rattle.arena_base.specs.Invalidation.{valid_value, has_overflowed, allowed_value, is_overflow};
 
@@ -14,10 +14,10 @@ use std::alloc::Allocator;
 impl<P: Ptr, T, A: Allocator> Arena<P, T, A> {
     /// Takes the entry out that the pointer names, and raises the generation. The next insertion takes its slot.
     pub fn remove(&mut self, p: P) -> InvalidationResult<T>
-        ensures value { valid_value result ≡ item_of self.old (P.index p) (P.era p) }
+        ensures value { valid_value result ≡ item_of self.old (P.numbers p) }
         ensures overflow { OnSome (valid_value result)
             (has_overflowed result ≡ overflows_after P.Gen.greatest self.old.generation) }
-        ensures removed { OnSome (valid_value result) (self.new ≡ without P.Gen.greatest self.old (P.index p)) }
+        ensures removed { OnSome (valid_value result) (self.new ≡ removed P.Gen.greatest self.old (P.numbers p).0) }
         ensures invalid { IfNone (valid_value result) (self.new ≡ self.old) }
     {
         if self.contains(p) {
@@ -35,7 +35,7 @@ impl<P: Ptr, T, A: Allocator> Arena<P, T, A> {
             ≡ slot self.old (P.Inx.number i) }
         ensures overflow { OnSome (valid_value result)
             (has_overflowed result ≡ overflows_after P.Gen.greatest self.old.generation) }
-        ensures removed { OnSome (valid_value result) (self.new ≡ without P.Gen.greatest self.old (P.Inx.number i)) }
+        ensures removed { OnSome (valid_value result) (self.new ≡ removed P.Gen.greatest self.old (P.Inx.number i)) }
         ensures invalid { IfNone (valid_value result) (self.new ≡ self.old) }
     {
         if !self.contains_inx(i) {
@@ -51,7 +51,7 @@ impl<P: Ptr, T, A: Allocator> Arena<P, T, A> {
         ensures value { slot self.old (P.Inx.number i)
             ≡ Some (P.Gen.number (allowed_value result).0, (allowed_value result).1) }
         ensures overflow { is_overflow result ≡ overflows_after P.Gen.greatest self.old.generation }
-        ensures removed { self.new ≡ without P.Gen.greatest self.old (P.Inx.number i) }
+        ensures removed { self.new ≡ removed P.Gen.greatest self.old (P.Inx.number i) }
     {
         let entry = self.take_entry(i);
         match self.inc_generation() {
@@ -64,12 +64,12 @@ impl<P: Ptr, T, A: Allocator> Arena<P, T, A> {
 
     /// Gives the entry that the pointer names a new pointer, at the same index and with the raised generation.
     pub fn invalidate(&mut self, p: P) -> InvalidationResult<P>
-        ensures valid { is_some (valid_value result) ≡ is_some (item_of self.old (P.index p) (P.era p)) }
-        ensures index { IfSome (valid_value result) (λ q. P.index q ≡ P.index p) }
-        ensures era { IfSome (valid_value result) (λ q. P.era q ≡ next_generation P.Gen.greatest self.old.generation) }
+        ensures valid { is_some (valid_value result) ≡ is_some (item_of self.old (P.numbers p)) }
+        ensures index { IfSome (valid_value result) (λ q. (P.numbers q).0 ≡ (P.numbers p).0) }
+        ensures generation { IfSome (valid_value result) (λ q. (P.numbers q).1 ≡ next_generation P.Gen.greatest self.old.generation) }
         ensures overflow { OnSome (valid_value result)
             (has_overflowed result ≡ overflows_after P.Gen.greatest self.old.generation) }
-        ensures renewed { OnSome (valid_value result) (self.new ≡ renewed P.Gen.greatest self.old (P.index p)) }
+        ensures renewed { OnSome (valid_value result) (self.new ≡ renewed P.Gen.greatest self.old (P.numbers p).0) }
         ensures invalid { IfNone (valid_value result) (self.new ≡ self.old) }
     {
         if !self.contains(p) {
@@ -92,9 +92,9 @@ impl<P: Ptr, T, A: Allocator> Arena<P, T, A> {
         ensures { self.new ≡ with_slot self.old (P.Inx.number i)
             (option_map (λ e. (self.old.generation, e.1)) (slot self.old (P.Inx.number i))) }
     {
-        let place = self.place_of_entry(i);
+        let position = self.position_of_entry(i);
         let generation = self.generation;
-        let slot = &mut self.slots[place];
+        let slot = &mut self.slots[position];
         slot.renew(generation);
     }
 
@@ -104,8 +104,8 @@ impl<P: Ptr, T, A: Allocator> Arena<P, T, A> {
         ensures value { slot self.old (P.Inx.number i) ≡ Some (P.Gen.number result.0, result.1) }
         ensures after { self.new ≡ freed self.old (P.Inx.number i) }
     {
-        let place = self.place_of_entry(i);
-        let slot = &mut self.slots[place];
+        let position = self.position_of_entry(i);
+        let slot = &mut self.slots[position];
         let entry = slot.take();
         self.vacant.push_reserved(i);
         entry

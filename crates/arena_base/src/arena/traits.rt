@@ -1,6 +1,5 @@
 //! `Arena` as an arena among others.
 ghost use Rattle.std.specs.Prelude.{refl};
-ghost use Rattle.arena_base.specs.Arena.{with_item};
 
 use super::Arena;
 use crate::error::{MaxCapacityReductionError, ReallocationError};
@@ -13,8 +12,6 @@ impl<P: Ptr, T, A: Allocator + Copy> ArenaTrait<P, T> for Arena<P, T, A> {
     type Alloc = A;
 
     ghost content = { λ a. a };
-
-    ghost written = { with_item };
 
     ghost written_content = { λ s i item. refl };
 
@@ -50,10 +47,6 @@ impl<P: Ptr, T, A: Allocator + Copy> ArenaTrait<P, T> for Arena<P, T, A> {
         self.contains(p)
     }
 
-    fn contains_inx(&self, i: P::Inx) -> bool {
-        self.contains_inx(i)
-    }
-
     fn singular_generation(&self) -> Option<P::Gen> {
         Some(self.generation())
     }
@@ -68,14 +61,6 @@ impl<P: Ptr, T, A: Allocator + Copy> ArenaTrait<P, T> for Arena<P, T, A> {
 
     fn get_inx(&self, i: P::Inx) -> Option<(P::Gen, &T)> {
         self.get_inx(i)
-    }
-
-    fn get_inx_mut(&mut self, i: P::Inx) -> Option<(P::Gen, &mut T)> {
-        self.get_inx_mut(i)
-    }
-
-    fn pair_mut(&mut self, i: P::Inx) -> (P::Gen, &mut T) {
-        self.pair_mut(i)
     }
 
     fn find_first_inx_ptr(&self) -> Option<P> {

@@ -17,7 +17,7 @@ use std::marker::{Model, PhantomData};
 /// that come behind it later. It has ended where it goes down from index 0, and nowhere else.
 #[derive(Drop)]
 pub struct PtrAdvancer<P: Ptr> {
-    // the place of the slot that it stands before
+    // the position of the slot that it stands before
     at: usize,
     falling: bool,
     of: PhantomData<P>,
@@ -34,7 +34,7 @@ impl<P: Ptr> Model for PtrAdvancer<P> {
 impl<P: Ptr, T, A: Allocator> Advancer<Arena<P, T, A>> for PtrAdvancer<P> {
     type Item = P;
 
-    ghost advance_gives = { WalkSteps P.index P.era };
+    ghost advance_gives = { WalkSteps P.numbers };
 
     ghost has_ended = { HasEnded };
 
@@ -87,38 +87,38 @@ impl<P: Ptr, T, A: Allocator> Arena<P, T, A> {
         }
     }
 
-    // The pointer of the first entry from a place on, and the place after it.
+    // The pointer of the first entry from a position on, and the position after it.
     pub(super) fn first_from(&self, from: usize) -> Option<(usize, P)>
         ensures pointers { MatchOption result
             (rising_from self.now (from + 1) ≡ [])
-            (λ e. rising_from self.now (from + 1) ≡ (P.index e.1, P.era e.1) ∷ rising_from self.now (e.0 + 1)) }
+            (λ e. rising_from self.now (from + 1) ≡ (P.numbers e.1) ∷ rising_from self.now (e.0 + 1)) }
         ensures entries { MatchOption result
             (entries_rising self.now (from + 1) ≡ [])
             (λ e. (item : T) × (entries_rising self.now (from + 1)
-            ≡ (P.index e.1, P.era e.1, item) ∷ entries_rising self.now (e.0 + 1))) }
-        ensures there { IfSome result (λ e. IsSome (item_of self.now (P.index e.1) (P.era e.1))) }
-        ensures next { IfSome result (λ e. e.0 ≡ P.index e.1) }
+            ≡ ((P.numbers e.1).0, (P.numbers e.1).1, item) ∷ entries_rising self.now (e.0 + 1))) }
+        ensures there { IfSome result (λ e. IsSome (item_of self.now (P.numbers e.1))) }
+        ensures next { IfSome result (λ e. e.0 ≡ (P.numbers e.1).0) }
     {
-        for place in from..self.capacity() {
-            if let Some(generation) = self.generation_at(place) {
-                return Some((place + 1, pointer(place, generation)));
+        for position in from..self.capacity() {
+            if let Some(generation) = self.generation_at(position) {
+                return Some((position + 1, pointer(position, generation)));
             }
         }
         None
     }
 
-    // The pointer of the last entry before a place, and its own place.
+    // The pointer of the last entry before a position, and its own.
     pub(super) fn last_before(&self, end: usize) -> Option<(usize, P)>
         ensures pointers { MatchOption result
             (falling_from self.now end ≡ [])
-            (λ e. falling_from self.now end ≡ (P.index e.1, P.era e.1) ∷ falling_from self.now e.0) }
-        ensures there { IfSome result (λ e. IsSome (item_of self.now (P.index e.1) (P.era e.1))) }
-        ensures next { IfSome result (λ e. e.0 + 1 ≡ P.index e.1) }
+            (λ e. falling_from self.now end ≡ (P.numbers e.1) ∷ falling_from self.now e.0) }
+        ensures there { IfSome result (λ e. IsSome (item_of self.now (P.numbers e.1))) }
+        ensures next { IfSome result (λ e. e.0 + 1 ≡ (P.numbers e.1).0) }
         ensures before { IfSome result (λ e. e.0 < end) }
     {
-        for place in (0..end.min(self.capacity())).rev() {
-            if let Some(generation) = self.generation_at(place) {
-                return Some((place, pointer(place, generation)));
+        for position in (0..end.min(self.capacity())).rev() {
+            if let Some(generation) = self.generation_at(position) {
+                return Some((position, pointer(position, generation)));
             }
         }
         None

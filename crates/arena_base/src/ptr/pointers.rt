@@ -1,6 +1,6 @@
 //! The pointer types. In contracts a pointer is the pair of its index and its generation, one without generations its index.
 ghost use Rattle.std.specs.Prelude.{refl};
-ghost use Rattle.std.proofs.Common.{ap, ◌∙◌};
+ghost use Rattle.std.proofs.Common.{ap};
 
 use super::Ptr;
 use crate::recast::{Recast, Recaster};
@@ -29,11 +29,9 @@ impl Ptr for P0 {
 
     type Gen = u64;
 
-    ghost index = { λ p. p.0 };
+    ghost numbers = { λ p. p };
 
-    ghost era = { λ p. p.1 };
-
-    ghost one_each = { λ p q i g. ap (λ a. (a, p.1)) i ∙ ap (λ b. (q.0, b)) g };
+    ghost one_each = { λ p q e. e };
 
     ghost eq_is = { λ p q. refl };
 
@@ -93,11 +91,9 @@ impl Ptr for Q0 {
 
     type Gen = u64;
 
-    ghost index = { λ p. p.0 };
+    ghost numbers = { λ p. p };
 
-    ghost era = { λ p. p.1 };
-
-    ghost one_each = { λ p q i g. ap (λ a. (a, p.1)) i ∙ ap (λ b. (q.0, b)) g };
+    ghost one_each = { λ p q e. e };
 
     ghost eq_is = { λ p q. refl };
 
@@ -157,11 +153,9 @@ impl Ptr for P8 {
 
     type Gen = u8;
 
-    ghost index = { λ p. p.0 };
+    ghost numbers = { λ p. p };
 
-    ghost era = { λ p. p.1 };
-
-    ghost one_each = { λ p q i g. ap (λ a. (a, p.1)) i ∙ ap (λ b. (q.0, b)) g };
+    ghost one_each = { λ p q e. e };
 
     ghost eq_is = { λ p q. refl };
 
@@ -221,11 +215,9 @@ impl Ptr for PN {
 
     type Gen = ();
 
-    ghost index = { λ p. p };
+    ghost numbers = { λ p. (p, 0) };
 
-    ghost era = { λ p. 0 };
-
-    ghost one_each = { λ p q i g. i };
+    ghost one_each = { λ p q e. ap (λ n. n.0) e };
 
     ghost eq_is = { λ p q. refl };
 

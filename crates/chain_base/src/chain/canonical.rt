@@ -1,4 +1,4 @@
-//! Giving the entries the indexes of their places in the list.
+//! Giving the entries the indexes of their positions in the list.
 ghost use Rattle.std.specs.Prelude.{◌≡◌};
 ghost use Rattle.std.specs.Option.{option_map};
 ghost use Rattle.arena_base.specs.Compression.{compressed_generation, compression_overflows};
@@ -15,10 +15,10 @@ use std::alloc::Allocator;
 
 impl<P: Ptr, T, A: Allocator> ChainArena<P, T, A> {
     /// Moves all entries to the indexes from 1 on, in the order of the list, and gives them all one generation, which becomes
-    /// the arena's: the first where `reset` is true, else the next one. The entry at place i of the list, counted from 0, has
+    /// the arena's: the first where `reset` is true, else the next one. The entry at position i of the list, counted from 0, has
     /// index i + 1 then.
     ///
-    /// The answer says whether the generations began again because the next one comes after the greatest. The capacity stays,
+    /// The result says whether the generations began again because the next one comes after the greatest. The capacity stays,
     /// and all vacant slots count as never used. It takes no memory, and goes through the list once more than `compress`.
     pub fn compress_canonical(&mut self, reset: bool) -> InvalidationOption<()>
         ensures after { self.new
@@ -28,8 +28,8 @@ impl<P: Ptr, T, A: Allocator> ChainArena<P, T, A> {
         let len = self.len();
         let overflow = self.compress(reset);
         let mut at = self.first;
-        for place in 0..len {
-            let index = P::Inx::try_from_usize(place + 1).unwrap();
+        for position in 0..len {
+            let index = P::Inx::try_from_usize(position + 1).unwrap();
             self.exchange(at.unwrap(), index);
             at = self.next_after(index);
         }

@@ -6,7 +6,7 @@ ghost use Rattle.arena_base.specs.Compression.{compressed_generation, compressio
 ghost use Rattle.arena_base.specs.Invalidation.{is_overflow};
 ghost use Rattle.arena_base.specs.Pointer.{named_of};
 ghost use Rattle.chain_base.specs.Compression.{relocated, IsCompression};
-ghost use Rattle.chain_base.specs.Naming.{CompressesItems, neighbour_on, linked_facing, IsPaired, NamesPlaces};
+ghost use Rattle.chain_base.specs.Naming.{CompressesItems, neighbour_on, linked_facing, IsPaired, NamesCompressedIndexes};
 
 use super::ChainArena;
 use super::links::{set_next, set_prev};
@@ -18,7 +18,7 @@ impl<P: Ptr, T, A: Allocator> ChainArena<P, T, A> {
     /// Moves all entries to the indexes from 1 on, in the order of their indexes, and gives them all one generation, which
     /// becomes the arena's: the first where `reset` is true, else the next one. The list keeps its order.
     ///
-    /// The answer says whether the generations began again because the next one comes after the greatest. For each entry, by
+    /// The result says whether the generations began again because the next one comes after the greatest. For each entry, by
     /// rising index, `f` is called with its old pointer, its item and its new pointer, and gives the item that the entry has
     /// then. The capacity stays, and all vacant slots count as never used. It takes no memory, and goes through the slots three
     /// times.
@@ -28,7 +28,7 @@ impl<P: Ptr, T, A: Allocator> ChainArena<P, T, A> {
         f: F,
     ) -> InvalidationOption<()>
         requires { F.IsAlwaysCallable f }
-        ensures after { IsCompression P.index P.era F.step
+        ensures after { IsCompression P.numbers F.step
             (compressed_generation P.Gen.greatest reset self.old.generation) f self.old self.new }
         ensures overflow { is_overflow result ≡ compression_overflows P.Gen.greatest reset self.old.generation }
     {
@@ -53,13 +53,13 @@ impl<P: Ptr, T, A: Allocator> ChainArena<P, T, A> {
         map: M,
     ) -> InvalidationOption<()>
         requires { M.callable map }
-        ensures after { IsCompression P.index P.era M.step
+        ensures after { IsCompression P.numbers M.step
             (compressed_generation P.Gen.greatest reset self.old.generation) map self.old self.new }
         ensures overflow { is_overflow result ≡ compression_overflows P.Gen.greatest reset self.old.generation }
     {
-        let first = name_places(&mut self.arena, Side::Before);
+        let first = name_compressed_indexes(&mut self.arena, Side::Before);
         let overflow = compress_items(&mut self.arena, reset, map);
-        self.last = name_places(&mut self.arena, Side::After);
+        self.last = name_compressed_indexes(&mut self.arena, Side::After);
         self.first = first;
         overflow
     }
@@ -72,7 +72,7 @@ fn compress_items<P: Ptr, T, A: Allocator, M: MapEntry<P, T> + Drop>(
     map: M,
 ) -> InvalidationOption<()>
     requires { M.callable map }
-    ensures after { CompressesItems P.index P.era M.step
+    ensures after { CompressesItems P.numbers M.step
         (compressed_generation P.Gen.greatest reset arena.old.generation) map arena.old arena.new }
     ensures fresh { IsFresh arena.new }
     ensures overflow { is_overflow result ≡ compression_overflows P.Gen.greatest reset arena.old.generation }
@@ -108,22 +108,22 @@ pub enum Side {
     After,
 }
 
-// For each entry, by rising index, lets its neighbour on a side name the entry's place among all, counted from 1. Answers the
-// place of the entry that has no such neighbour.
+// For each entry, by rising index, lets its neighbour on a side name the entry's compressed index: its number among all, counted
+// from 1. Returns that of the entry that has no such neighbour.
 //
-// Before a compression the places are the indexes to come: an entry is met at its old index, its neighbour's link not
+// Before a compression these are the indexes to come: an entry is met at its old index, its neighbour's link not
 // yet changed on this side. After it they are the indexes.
-fn name_places<P: Ptr, T, A: Allocator>(
+fn name_compressed_indexes<P: Ptr, T, A: Allocator>(
     arena: &mut Arena<P, LinkNoGen<P, T>, A>,
     side: Side,
 ) -> Option<P::Inx>
     requires { IsPaired side arena.old }
-    ensures { NamesPlaces side arena.old arena.new (option_map P.Inx.number result) }
+    ensures { NamesCompressedIndexes side arena.old arena.new (option_map P.Inx.number result) }
 {
     let mut end = None;
     let mut count = 0;
-    for place in 0..arena.capacity() {
-        let index = P::Inx::try_from_usize(place + 1).unwrap();
+    for position in 0..arena.capacity() {
+        let index = P::Inx::try_from_usize(position + 1).unwrap();
         if let Some(entry) = arena.get_inx(index) {
             let neighbour = neighbour_on(entry.1, side);
             count += 1;

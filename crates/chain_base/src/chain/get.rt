@@ -11,7 +11,7 @@ use std::alloc::Allocator;
 impl<P: Ptr, T, A: Allocator> ChainArena<P, T, A> {
     /// Whether the pointer names an entry.
     pub fn contains(&self, p: P) -> bool
-        ensures { result ≡ is_some (item_of self.now.entries (P.index p) (P.era p)) }
+        ensures { result ≡ is_some (item_of self.now.entries (P.numbers p)) }
     {
         self.arena.contains(p)
     }
@@ -25,7 +25,7 @@ impl<P: Ptr, T, A: Allocator> ChainArena<P, T, A> {
 
     /// The item that the pointer names.
     pub fn get(&self, p: P) -> Option<&T>
-        ensures { option_copied result ≡ item_of self.now.entries (P.index p) (P.era p) }
+        ensures { option_copied result ≡ item_of self.now.entries (P.numbers p) }
     {
         let link = self.arena.get(p)?;
         Some(&link.t)
@@ -73,21 +73,21 @@ impl<P: Ptr, T, A: Allocator> ChainArena<P, T, A> {
 
     /// The pointer of the first entry of the list.
     pub fn first(&self) -> Option<P>
-        ensures { option_map (λ p. (P.index p, P.era p)) result ≡ first_pointer self.now.entries }
+        ensures { option_map P.numbers result ≡ first_pointer self.now.entries }
     {
         self.ptr_at(self.first?)
     }
 
     /// The pointer of the last entry of the list.
     pub fn last(&self) -> Option<P>
-        ensures { option_map (λ p. (P.index p, P.era p)) result ≡ last_pointer self.now.entries }
+        ensures { option_map P.numbers result ≡ last_pointer self.now.entries }
     {
         self.ptr_at(self.last?)
     }
 
     /// The pointer of the entry with the least index.
     pub fn find_first_inx_ptr(&self) -> Option<P>
-        ensures first { IfSome result (λ p. IsFirstIndex self.now.entries (P.index p) (P.era p)) }
+        ensures first { IfSome result (λ p. IsFirstIndex self.now.entries (P.numbers p).0 (P.numbers p).1) }
         ensures empty { IsNone result ↔ (self.now.entries ≡ []) }
     {
         self.arena.find_first_inx_ptr()
@@ -95,7 +95,7 @@ impl<P: Ptr, T, A: Allocator> ChainArena<P, T, A> {
 
     /// The pointer of the entry with the greatest index.
     pub fn find_last_inx_ptr(&self) -> Option<P>
-        ensures last { IfSome result (λ p. IsLastIndex self.now.entries (P.index p) (P.era p)) }
+        ensures last { IfSome result (λ p. IsLastIndex self.now.entries (P.numbers p).0 (P.numbers p).1) }
         ensures empty { IsNone result ↔ (self.now.entries ≡ []) }
     {
         self.arena.find_last_inx_ptr()
@@ -103,7 +103,7 @@ impl<P: Ptr, T, A: Allocator> ChainArena<P, T, A> {
 
     // The pointer of the entry at the index.
     pub(super) fn ptr_at(&self, i: P::Inx) -> Option<P>
-        ensures { option_map (λ p. (P.index p, P.era p)) result
+        ensures { option_map P.numbers result
             ≡ pointed (P.Inx.number i) (entry_at self.now.entries (P.Inx.number i)) }
     {
         let entry = self.arena.get_inx(i)?;

@@ -32,7 +32,7 @@ impl<P: Ptr, T: Drop, A: Allocator> ChainArena<P, T, A> {
     ) -> Result<P, InsertionError>
         requires { CanPlace P.Inx.number kind self.old }
         ensures ok { IfOk result (λ p. IsInsertion self.old self.new
-            (placed P.Inx.number kind self.old.entries) t (P.index p) (P.era p)) }
+            (placed P.Inx.number kind self.old.entries) t (P.numbers p).0 (P.numbers p).1) }
         ensures full { IsErr result ↔ (length self.old.entries ≡ self.old.capacity) }
         ensures refusal { IfErr result (λ e. e ≡ InsertionError.NotWithinCapacity) }
         ensures err { OnErr result (self.new ≡ self.old) }
@@ -66,7 +66,7 @@ impl<P: Ptr, T: Drop, A: Allocator> ChainArena<P, T, A> {
     ) -> Result<P, InsertionError>
         requires { CanPlace P.Inx.number kind self.old }
         ensures ok { IfOk result (λ p. IsInsertion (with_room P.Inx.most self.old) self.new
-            (placed P.Inx.number kind self.old.entries) t (P.index p) (P.era p)) }
+            (placed P.Inx.number kind self.old.entries) t (P.numbers p).0 (P.numbers p).1) }
         ensures beyond { (result ≡ Err InsertionError.BeyondMaxCapacity)
             ↔ (length self.old.entries ≡ chain_limit P.Inx.most self.old) }
         ensures memory { result ≡ Err InsertionError.AllocError

@@ -6,11 +6,11 @@ ghost use Rattle.arena_base.specs.Pointer.{named_of};
 ghost use Rattle.chain_base.specs.Layout.{linked_next, linked_prev};
 
 use crate::link::LinkNoGen;
-use arena_base::{Arena, Ptr};
+use arena_base::{Arena, ItemsMut, Ptr};
 use std::alloc::Allocator;
 
 // Lets `left`, if there is one, lead on to `next`, and `right`, if there is one, back to `prev`. Where one is missing that end
-// of the list is new. Answers the first and the last index of the list.
+// of the list is new. Returns the first and the last index of the list.
 pub(super) fn relink<P: Ptr, T, A: Allocator>(
     arena: &mut Arena<P, LinkNoGen<P, T>, A>,
     left: Option<P::Inx>,

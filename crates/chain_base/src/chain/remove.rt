@@ -15,7 +15,7 @@ impl<P: Ptr, T, A: Allocator> ChainArena<P, T, A> {
     /// Takes the entry at the index out, with its generation and the link that it had, links its neighbours to each other,
     /// and raises the generation. The next insertion takes its slot. It takes no memory.
     ///
-    /// At an index without an entry the answer is `InvalidPtr`, and nothing changes.
+    /// At an index without an entry it returns `InvalidPtr`, and nothing changes.
     pub fn remove_inx_link_no_gen(
         &mut self,
         i: P::Inx,
@@ -60,15 +60,15 @@ impl<P: Ptr, T, A: Allocator> ChainArena<P, T, A> {
 
     /// Gives the entry that the pointer names a new pointer, at the same index and place and with the raised generation.
     ///
-    /// For a pointer that names no entry the answer is `InvalidPtr`, and nothing changes.
+    /// For a pointer that names no entry it returns `InvalidPtr`, and nothing changes.
     pub fn invalidate(&mut self, p: P) -> InvalidationResult<P>
-        ensures valid { is_some (valid_value result) ≡ is_some (item_of self.old.entries (P.index p) (P.era p)) }
-        ensures index { IfSome (valid_value result) (λ q. P.index q ≡ P.index p) }
-        ensures era { IfSome (valid_value result)
-            (λ q. P.era q ≡ next_generation P.Gen.greatest self.old.generation) }
+        ensures valid { is_some (valid_value result) ≡ is_some (item_of self.old.entries (P.numbers p)) }
+        ensures index { IfSome (valid_value result) (λ q. (P.numbers q).0 ≡ (P.numbers p).0) }
+        ensures generation { IfSome (valid_value result)
+            (λ q. (P.numbers q).1 ≡ next_generation P.Gen.greatest self.old.generation) }
         ensures overflow { OnSome (valid_value result)
             (has_overflowed result ≡ overflows_after P.Gen.greatest self.old.generation) }
-        ensures renewed { OnSome (valid_value result) (self.new ≡ renewed P.Gen.greatest self.old (P.index p)) }
+        ensures renewed { OnSome (valid_value result) (self.new ≡ renewed P.Gen.greatest self.old (P.numbers p).0) }
         ensures invalid { IfNone (valid_value result) (self.new ≡ self.old) }
     {
         self.arena.invalidate(p)

@@ -40,7 +40,7 @@ impl<P: Ptr, T, A: Allocator> ChainArena<P, T, A> {
         T: Drop,
         requires lawful { IsLawfulGeneration P.Gen.greatest (P.Gen.number new_generation) }
         requires callable { F.IsAlwaysCallable f }
-        ensures ok { OnOk result (IsTransfer Q.index Q.era P.index P.era Q.Gen.greatest F.step
+        ensures ok { OnOk result (IsTransfer Q.numbers P.numbers Q.Gen.greatest F.step
             (P.Gen.number new_generation) f source.old source.new self.old self.new) }
         ensures beyond { (result ≡ Err ReallocationError.BeyondMaxCapacity)
             ↔ (chain_limit P.Inx.most self.old < length source.old.entries) }
@@ -63,7 +63,7 @@ impl<P: Ptr, T, A: Allocator> ChainArena<P, T, A> {
         T: Drop,
         requires lawful { IsLawfulGeneration P.Gen.greatest (P.Gen.number new_generation) }
         requires callable { M.callable map }
-        ensures ok { OnOk result (IsTransfer Q.index Q.era P.index P.era Q.Gen.greatest M.step
+        ensures ok { OnOk result (IsTransfer Q.numbers P.numbers Q.Gen.greatest M.step
             (P.Gen.number new_generation) map source.old source.new self.old self.new) }
         ensures beyond { (result ≡ Err ReallocationError.BeyondMaxCapacity)
             ↔ (chain_limit P.Inx.most self.old < length source.old.entries) }
@@ -109,7 +109,7 @@ fn take_all<P: Ptr, T: Drop, A: Allocator, Q: Ptr, U, B: Allocator, M: MapTaken<
     requires callable { M.callable map }
     requires empty { chain.old ≡ filled_with chain.old [] }
     requires room { length source.old.entries ≤ chain.old.capacity }
-    ensures taken { (n : M) × HasTaken Q.index Q.era P.index P.era Q.Gen.greatest M.step map
+    ensures taken { (n : M) × HasTaken Q.numbers P.numbers Q.Gen.greatest M.step map
         source.old source.new chain.old chain.new n }
     ensures all { source.new.entries ≡ [] }
 {
@@ -128,14 +128,14 @@ fn take_first<Q: Ptr, U, B: Allocator>(
     source: &mut ChainArena<Q, U, B>,
 ) -> (Q, InvalidationOption<U>)
     requires { 0 < length source.old.entries }
-    ensures { TakesOut Q.index Q.era Q.Gen.greatest source.old source.new result.0 result.1 }
+    ensures { TakesOut Q.numbers Q.Gen.greatest source.old source.new result.0 result.1 }
 {
     let from = source.first().unwrap();
     let taken = item_taken(source.remove_inx_link_no_gen(from.inx()));
     (from, taken.unwrap())
 }
 
-// The answer of a removal, with the item alone.
+// The result of a removal, with the item alone.
 fn item_taken<Q: Ptr, U>(
     taken: InvalidationResult<(Q::Gen, LinkNoGen<Q, U>)>,
 ) -> InvalidationResult<U>

@@ -31,7 +31,7 @@ impl<P: Ptr> Model for ChainPtrAdvancer<P> {
 impl<P: Ptr, T, A: Allocator> Advancer<ChainArena<P, T, A>> for ChainPtrAdvancer<P> {
     type Item = P;
 
-    ghost advance_gives = { WalkSteps P.index P.era };
+    ghost advance_gives = { WalkSteps P.numbers };
 
     ghost has_ended = { λ s. s ≡ None };
 
@@ -51,8 +51,8 @@ impl<P: Ptr, T, A: Allocator> Advancer<ChainArena<P, T, A>> for ChainPtrAdvancer
 impl<P: Ptr, T, A: Allocator> ChainArena<P, T, A> {
     /// Goes through the pointers from an entry on, which is the first to be given; `None` where the pointer names no entry.
     pub fn advancer_chain(&self, p: P) -> Option<ChainPtrAdvancer<P>>
-        ensures valid { is_some result ≡ is_some (item_of self.now.entries (P.index p) (P.era p)) }
-        ensures begins { IfSome result (λ s. s ≡ Some (P.index p)) }
+        ensures valid { is_some result ≡ is_some (item_of self.now.entries (P.numbers p)) }
+        ensures begins { IfSome result (λ s. s ≡ Some (P.numbers p).0) }
     {
         if self.contains(p) {
             Some(ChainPtrAdvancer { at: Some(p.inx()) })
@@ -66,7 +66,7 @@ impl<P: Ptr, T, A: Allocator> ChainArena<P, T, A> {
         ensures { MatchOption result
             (pointers_from (Some (P.Inx.number i)) self.now ≡ [])
             (λ e. GivesEntry (Some (P.Inx.number i)) (option_map P.Inx.number e.1) self.now
-            (P.index e.0) (P.era e.0)) }
+            (P.numbers e.0).0 (P.numbers e.0).1) }
     {
         let entry = self.arena.get_inx(i)?;
         Some((P::_from_raw(i, entry.0), entry.1.next()))

@@ -1,4 +1,4 @@
-// Devices that go slowly, that fail in one call and go well again, and that count their calls: nothing is tried again.
+//! Devices that go slowly, that fail in one call and go well again, and that count their calls: nothing is tried again.
 ghost use Rattle.std.specs.Prelude.{◌≤◌, IfOk};
 
 use ord_script::{FaultKind, ScriptEnd, Watched, serve};

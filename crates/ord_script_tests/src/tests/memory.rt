@@ -1,4 +1,4 @@
-// Memory: where it is refused, and that it is enough where it is there.
+//! Memory: where it is refused, and that it is enough where it is there.
 use linked_list_allocator::LocalHeap;
 use ord_script::{ScriptEnd, Watched, serve};
 use std::fmt::Write;

@@ -1,4 +1,4 @@
-// `run` on arenas of any pointers and items.
+//! `run` on arenas of any pointers and items.
 use arena_base::{InvalidationOption, InvalidationResult, P0, P8, PN, Ptr, PtrInx};
 use linked_list_allocator::LocalHeap;
 use ord_script::{Command, Reply, run};
@@ -40,6 +40,31 @@ fn answers<P: Ptr, A: Allocator + Copy>(
     run(alloc, arena, commands, &mut closure)
 }
 
+/// A reply from the global heap.
+type Answer<P> = Reply<P, Letter, Global>;
+
+/// Commands for one run.
+type Commands<P> = Vec<Command<P, Letter>>;
+
+/// Adds a command to a run.
+fn add<P: Ptr>(commands: &mut Commands<P>, command: Command<P, Letter>) -> Result<(), AllocError> {
+    commands.push(command)?;
+    Ok(())
+}
+
+/// Runs these commands, each of which is answered.
+fn replies_to<P: Ptr>(
+    rt: &impl Abort,
+    alloc: Global,
+    arena: &mut SimpleOrdArena<P, Letter>,
+    commands: Commands<P>,
+) -> Result<Vec<Answer<P>>, AllocError> {
+    let count = commands.len();
+    let replies = answers(alloc, arena, commands)?;
+    assert_eq!(rt; replies.len(), count);
+    Ok(replies)
+}
+
 /// The pointer of an entry that is told as new.
 fn new_pointer<P: Ptr, A: Allocator>(reply: &Reply<P, Letter, A>) -> Option<P> {
     match reply {
@@ -48,210 +73,267 @@ fn new_pointer<P: Ptr, A: Allocator>(reply: &Reply<P, Letter, A>) -> Option<P> {
     }
 }
 
-/// The entry at this place of a list that was answered.
-fn entry_at<P: Ptr, A: Allocator>(
-    reply: &Reply<P, Letter, A>,
+/// The pointer of an entry that the reply at this place tells as new, at this index.
+fn new_at<P: Ptr>(rt: &impl Abort, replies: &[Answer<P>], place: usize, index: usize) -> P {
+    let reply = replies.get(place).expect(rt, "a reply");
+    let p = new_pointer(reply).expect(rt, "a new entry");
+    assert_eq!(rt; p.inx().try_into_usize(), Some(index));
+    p
+}
+
+/// Whether the reply at this place tells that the entry of a pointer had this item.
+fn is_replaced<P: Ptr>(replies: &[Answer<P>], place: usize, p: P, old: Letter) -> bool {
+    match replies.get(place) {
+        Some(Reply::Inserted(OrdEntryKind::Replacing(q), Some(l))) => *q == p && *l == old,
+        _ => false,
+    }
+}
+
+/// Whether the reply at this place tells that an entry was taken out.
+fn is_removed<P: Ptr>(replies: &[Answer<P>], place: usize, p: P, old: Letter) -> bool {
+    match replies.get(place) {
+        Some(Reply::Removed(InvalidationResult::Success((q, l)))) => *q == p && *l == old,
+        _ => false,
+    }
+}
+
+/// Whether the reply at this place is that a search found a pointer, or none, after so many visits.
+fn is_found<P: Ptr>(replies: &[Answer<P>], place: usize, p: Option<P>, visits: u128) -> bool {
+    match replies.get(place) {
+        Some(Reply::Found(found, counted)) => *found == p && *counted == visits,
+        _ => false,
+    }
+}
+
+/// Whether the reply at this place is that a search ended at a pointer, in this order to it, after so many visits.
+fn is_similar<P: Ptr>(
+    replies: &[Answer<P>],
     place: usize,
-) -> Option<(P, Letter)> {
-    match reply {
+    similar: (P, Ordering),
+    visits: u128,
+) -> bool {
+    match replies.get(place) {
+        Some(Reply::Similar(found, counted)) => *found == Some(similar) && *counted == visits,
+        _ => false,
+    }
+}
+
+/// Whether the reply at this place gives an item.
+fn is_item<P: Ptr>(replies: &[Answer<P>], place: usize, item: Letter) -> bool {
+    matches!(replies.get(place), Some(Reply::Item(Some(l))) if *l == item)
+}
+
+/// Whether the reply at this place gives a pointer.
+fn is_at<P: Ptr>(replies: &[Answer<P>], place: usize, p: P) -> bool {
+    matches!(replies.get(place), Some(Reply::At(Some(q))) if *q == p)
+}
+
+/// Whether the reply at this place is that the generation changed so.
+fn is_changed<P: Ptr>(
+    replies: &[Answer<P>],
+    place: usize,
+    overflow: InvalidationOption<()>,
+) -> bool {
+    matches!(replies.get(place), Some(Reply::Changed(told)) if *told == overflow)
+}
+
+/// The entry at this place of a list that the reply at `at` gives.
+fn entry_at<P: Ptr>(replies: &[Answer<P>], at: usize, place: usize) -> Option<(P, Letter)> {
+    match replies.get(at)? {
         Reply::Entries(entries) => Some(*entries.get(place)?),
         _ => None,
     }
 }
 
-/// The rank at this place of those that were answered.
-fn rank_at<P: Ptr, A: Allocator>(reply: &Reply<P, Letter, A>, place: usize) -> Option<u8> {
-    match reply {
-        Reply::Ranks(ranks) => Some(*ranks.get(place)?),
-        _ => None,
+/// The reply at this place gives just these ranks.
+fn ranks_are<P: Ptr>(rt: &impl Abort, replies: &[Answer<P>], place: usize, wanted: &[u8]) {
+    match replies.get(place) {
+        Some(Reply::Ranks(ranks)) => assert_eq!(rt; ranks.as_slice(), wanted),
+        _ => assert!(rt; false, "no ranks"),
     }
 }
 
-/// Runs commands on an empty arena, and then others on what they left.
-fn run_twice<P: Ptr, R: Abort + AllocGlobal>(rt: &R) -> Result<(), AllocError> {
-    let mut arena = SimpleOrdArena::new(rt.alloc());
-    let mut first = Vec::new(rt.alloc());
-    first.push(Command::Insert(item(20, 'b')))?;
-    first.push(Command::Insert(item(10, 'a')))?;
-    first.push(Command::Insert(item(30, 'c')))?;
-    first.push(Command::Insert(item(20, 'B')))?;
-    first.push(Command::Find(30))?;
-    first.push(Command::Find(25))?;
-    first.push(Command::Visits(10))?;
-    let replies = answers::<P, Global>(rt.alloc(), &mut arena, first)?;
-    assert_eq!(rt; replies.len(), 7);
-    let b = new_pointer(&replies[0]).expect(rt, "b is new");
-    let a = new_pointer(&replies[1]).expect(rt, "a is new");
-    let c = new_pointer(&replies[2]).expect(rt, "c is new");
-    assert_eq!(rt; b.inx().try_into_usize(), Some(1));
-    assert_eq!(rt; a.inx().try_into_usize(), Some(2));
-    assert_eq!(rt; c.inx().try_into_usize(), Some(3));
-    assert!(rt;
-        matches!(&replies[3], Reply::Inserted(OrdEntryKind::Replacing(p), Some(l)) if *p == b && *l == item(20, 'b'))
-    );
-    assert!(rt; matches!(&replies[4], Reply::Found(Some(p), 2) if *p == c));
-    assert!(rt; matches!(&replies[5], Reply::Found(None, 2)));
-    assert!(rt; matches!(&replies[6], Reply::Count(2)));
-    run_on(rt, &mut arena, a, b, c)
-}
-
-/// The second run, on the entries a, b and c: it only asks.
-fn run_on<P: Ptr, R: Abort + AllocGlobal>(
-    rt: &R,
-    arena: &mut SimpleOrdArena<P, Letter>,
+/// The pointers of three entries, in order.
+#[derive(Clone, Copy)]
+struct Three<P: Ptr> {
     a: P,
     b: P,
     c: P,
+}
+
+/// The first run, on an empty arena: it inserts three entries, and searches.
+fn run_insertions<P: Ptr>(
+    rt: &impl Abort,
+    alloc: Global,
+    arena: &mut SimpleOrdArena<P, Letter>,
+) -> Result<Three<P>, AllocError> {
+    let mut commands = Vec::new(alloc);
+    add(&mut commands, Command::Insert(item(20, 'b')))?;
+    add(&mut commands, Command::Insert(item(10, 'a')))?;
+    add(&mut commands, Command::Insert(item(30, 'c')))?;
+    add(&mut commands, Command::Insert(item(20, 'B')))?;
+    add(&mut commands, Command::Find(30))?;
+    add(&mut commands, Command::Find(25))?;
+    add(&mut commands, Command::Visits(10))?;
+    let replies = replies_to(rt, alloc, arena, commands)?;
+    let b = new_at(rt, &replies, 0, 1);
+    let a = new_at(rt, &replies, 1, 2);
+    let c = new_at(rt, &replies, 2, 3);
+    assert!(rt; is_replaced(&replies, 3, b, item(20, 'b')));
+    assert!(rt; is_found(&replies, 4, Some(c), 2));
+    assert!(rt; is_found(&replies, 5, None, 2));
+    assert!(rt; matches!(replies.get(6), Some(Reply::Count(2))));
+    Ok(Three { a, b, c })
+}
+
+/// The second run only asks.
+fn run_questions<P: Ptr>(
+    rt: &impl Abort,
+    alloc: Global,
+    arena: &mut SimpleOrdArena<P, Letter>,
+    three: Three<P>,
 ) -> Result<(), AllocError> {
-    let mut commands = Vec::new(rt.alloc());
-    commands.push(Command::Get(b))?;
-    commands.push(Command::First)?;
-    commands.push(Command::Last)?;
-    commands.push(Command::Neighbours(b.inx()))?;
-    commands.push(Command::Stats)?;
-    let replies = answers(rt.alloc(), arena, commands)?;
-    assert_eq!(rt; replies.len(), 5);
-    assert!(rt; matches!(&replies[0], Reply::Item(Some(l)) if *l == item(20, 'B')));
-    assert!(rt; matches!(&replies[1], Reply::At(Some(p)) if *p == a));
-    assert!(rt; matches!(&replies[2], Reply::At(Some(p)) if *p == c));
+    let Three { a, b, c } = three;
+    let mut commands = Vec::new(alloc);
+    add(&mut commands, Command::Get(b))?;
+    add(&mut commands, Command::First)?;
+    add(&mut commands, Command::Last)?;
+    add(&mut commands, Command::Neighbours(b.inx()))?;
+    add(&mut commands, Command::Stats)?;
+    let replies = replies_to(rt, alloc, arena, commands)?;
+    assert!(rt; is_item(&replies, 0, item(20, 'B')));
+    assert!(rt; is_at(&replies, 1, a));
+    assert!(rt; is_at(&replies, 2, c));
     assert!(rt;
-        matches!(&replies[3], Reply::Links(Some((Some(i), Some(j)))) if *i == a.inx() && *j == c.inx())
+        matches!(replies.get(3), Some(Reply::Links(Some((Some(i), Some(j))))) if *i == a.inx() && *j == c.inx())
     );
-    assert!(rt; matches!(&replies[4], Reply::Stats(3, 4, g, None) if *g == b.generation()));
-    run_lists(rt, arena, a, b, c)?;
-    run_changes(rt, arena, a, b, c)
+    assert!(rt;
+        matches!(replies.get(4), Some(Reply::Stats(3, 4, g, None)) if *g == b.generation())
+    );
+    Ok(())
 }
 
 /// The third run: lists of all entries.
-fn run_lists<P: Ptr, R: Abort + AllocGlobal>(
-    rt: &R,
+fn run_lists<P: Ptr>(
+    rt: &impl Abort,
+    alloc: Global,
     arena: &mut SimpleOrdArena<P, Letter>,
-    a: P,
-    b: P,
-    c: P,
+    three: Three<P>,
 ) -> Result<(), AllocError> {
-    let mut commands = Vec::new(rt.alloc());
-    commands.push(Command::List)?;
-    commands.push(Command::Ranks)?;
-    let replies = answers(rt.alloc(), arena, commands)?;
-    assert_eq!(rt; replies.len(), 2);
-    assert_eq!(rt; entry_at(&replies[0], 0), Some((a, item(10, 'a'))));
-    assert_eq!(rt; entry_at(&replies[0], 1), Some((b, item(20, 'B'))));
-    assert_eq!(rt; entry_at(&replies[0], 2), Some((c, item(30, 'c'))));
-    assert_eq!(rt; entry_at(&replies[0], 3), None);
-    assert_eq!(rt; rank_at(&replies[1], 0), Some(1));
-    assert_eq!(rt; rank_at(&replies[1], 1), Some(2));
-    assert_eq!(rt; rank_at(&replies[1], 2), Some(1));
-    assert_eq!(rt; rank_at(&replies[1], 3), None);
+    let mut commands = Vec::new(alloc);
+    add(&mut commands, Command::List)?;
+    add(&mut commands, Command::Ranks)?;
+    let replies = replies_to(rt, alloc, arena, commands)?;
+    assert_eq!(rt; entry_at(&replies, 0, 0), Some((three.a, item(10, 'a'))));
+    assert_eq!(rt; entry_at(&replies, 0, 1), Some((three.b, item(20, 'B'))));
+    assert_eq!(rt; entry_at(&replies, 0, 2), Some((three.c, item(30, 'c'))));
+    assert_eq!(rt; entry_at(&replies, 0, 3), None);
+    ranks_are(rt, &replies, 1, &[1, 2, 1]);
     Ok(())
 }
 
 /// The fourth run: it writes one entry, and takes the others out.
-fn run_changes<P: Ptr, R: Abort + AllocGlobal>(
-    rt: &R,
+fn run_changes<P: Ptr>(
+    rt: &impl Abort,
+    alloc: Global,
     arena: &mut SimpleOrdArena<P, Letter>,
-    a: P,
-    b: P,
-    c: P,
+    three: Three<P>,
 ) -> Result<(), AllocError> {
-    let mut commands = Vec::new(rt.alloc());
-    commands.push(Command::Set(c, item(35, 'C')))?;
-    commands.push(Command::RemoveInx(a.inx()))?;
-    commands.push(Command::Remove(b))?;
-    let replies = answers(rt.alloc(), arena, commands)?;
-    assert_eq!(rt; replies.len(), 3);
-    assert!(rt; matches!(&replies[0], Reply::Item(Some(l)) if *l == item(30, 'c')));
-    assert!(rt;
-        matches!(&replies[1], Reply::Removed(InvalidationResult::Success((p, l))) if *p == a && *l == item(10, 'a'))
-    );
-    assert!(rt;
-        matches!(&replies[2], Reply::Removed(InvalidationResult::Success((p, l))) if *p == b && *l == item(20, 'B'))
-    );
+    let mut commands = Vec::new(alloc);
+    add(&mut commands, Command::Set(three.c, item(35, 'C')))?;
+    add(&mut commands, Command::RemoveInx(three.a.inx()))?;
+    add(&mut commands, Command::Remove(three.b))?;
+    let replies = replies_to(rt, alloc, arena, commands)?;
+    assert!(rt; is_item(&replies, 0, item(30, 'c')));
+    assert!(rt; is_removed(&replies, 1, three.a, item(10, 'a')));
+    assert!(rt; is_removed(&replies, 2, three.b, item(20, 'B')));
     assert_eq!(rt; arena.len(), 1);
-    run_drain(rt, arena, c)
+    Ok(())
 }
 
 /// And one that takes out what is left, where the order is right.
-fn run_drain<P: Ptr, R: Abort + AllocGlobal>(
-    rt: &R,
+fn run_drain<P: Ptr>(
+    rt: &impl Abort,
+    alloc: Global,
     arena: &mut SimpleOrdArena<P, Letter>,
     c: P,
 ) -> Result<(), AllocError> {
-    let mut commands = Vec::new(rt.alloc());
-    commands.push(Command::Check)?;
-    commands.push(Command::DrainOrdered(2))?;
-    let replies = answers(rt.alloc(), arena, commands)?;
-    assert_eq!(rt; replies.len(), 2);
-    assert!(rt; matches!(&replies[0], Reply::Sorted(true)));
-    assert_eq!(rt; entry_at(&replies[1], 0), Some((c, item(35, 'C'))));
-    assert_eq!(rt; entry_at(&replies[1], 1), None);
+    let mut commands = Vec::new(alloc);
+    add(&mut commands, Command::Check)?;
+    add(&mut commands, Command::DrainOrdered(2))?;
+    let replies = replies_to(rt, alloc, arena, commands)?;
+    assert!(rt; matches!(replies.get(0), Some(Reply::Sorted(true))));
+    assert_eq!(rt; entry_at(&replies, 1, 0), Some((c, item(35, 'C'))));
+    assert_eq!(rt; entry_at(&replies, 1, 1), None);
     assert_eq!(rt; arena.len(), 0);
     Ok(())
 }
 
+/// Runs commands on an empty arena, and then others on what each run left.
+fn run_all<P: Ptr>(rt: &impl Abort, alloc: Global) -> Result<(), AllocError> {
+    let mut arena = SimpleOrdArena::new(alloc);
+    let three = run_insertions::<P>(rt, alloc, &mut arena)?;
+    run_questions(rt, alloc, &mut arena, three)?;
+    run_lists(rt, alloc, &mut arena, three)?;
+    run_changes(rt, alloc, &mut arena, three)?;
+    run_drain(rt, alloc, &mut arena, three.c)
+}
+
 #[test]
 fn runs_at_each_pointer_type(rt: HostRuntime) -> Result<(), Fail> {
-    run_twice::<P0, HostRuntime>(&rt)?;
-    run_twice::<P8, HostRuntime>(&rt)?;
-    run_twice::<PN, HostRuntime>(&rt)?;
+    run_all::<P0>(&rt, rt.alloc())?;
+    run_all::<P8>(&rt, rt.alloc())?;
+    run_all::<PN>(&rt, rt.alloc())?;
     Ok(())
+}
+
+/// How a raised generation is told, and one that begins again.
+const RAISED: InvalidationOption<()> = InvalidationOption::Success(());
+
+const BEGUN_AGAIN: InvalidationOption<()> = InvalidationOption::GenerationOverflow(());
+
+/// An arena of one entry, at the greatest generation of eight bits. And the entry's pointer.
+fn at_last_generation(
+    rt: &impl Abort,
+    alloc: Global,
+) -> Result<(SimpleOrdArena<P8, Letter>, P8), AllocError> {
+    let mut arena = SimpleOrdArena::new(alloc);
+    let mut commands = Vec::new(alloc);
+    commands.push(Command::Insert(item(1, 'a')))?;
+    for _ in 2u8..255 {
+        commands.push(Command::IncGeneration)?;
+    }
+    let replies = answers(alloc, &mut arena, commands)?;
+    assert_eq!(rt; replies.len(), 254);
+    assert!(rt; is_changed(&replies, 253, RAISED));
+    let p = new_at(rt, &replies, 0, 1);
+    Ok((arena, p))
 }
 
 #[test]
 fn generations_of_eight_bits_begin_again(rt: HostRuntime) -> Result<(), Fail> {
-    let mut arena: SimpleOrdArena<P8, Letter> = SimpleOrdArena::new(rt.alloc());
-    let (p, _) = arena.insert(item(1, 'a'))?;
+    let (mut arena, p) = at_last_generation(&rt, rt.alloc())?;
     let mut commands = Vec::new(rt.alloc());
-    for _ in 2u8..255 {
-        commands.push(Command::IncGeneration)?;
-    }
-    commands.push(Command::Invalidate(p))?;
-    commands.push(Command::Clear)?;
-    let replies = answers(rt.alloc(), &mut arena, commands)?;
-    assert_eq!(rt; replies.len(), 255);
+    add(&mut commands, Command::Invalidate(p))?;
+    add(&mut commands, Command::Clear)?;
+    let replies = replies_to(&rt, rt.alloc(), &mut arena, commands)?;
     assert!(rt;
-        matches!(
-            &replies[252],
-            Reply::Changed(InvalidationOption::Success(()))
-        )
+        matches!(replies.get(0), Some(Reply::Renewed(InvalidationResult::GenerationOverflow(q))) if q.generation() == 2)
     );
-    assert!(rt;
-        matches!(&replies[253], Reply::Renewed(InvalidationResult::GenerationOverflow(q)) if q.generation() == 2)
-    );
-    assert!(rt;
-        matches!(
-            &replies[254],
-            Reply::Changed(InvalidationOption::Success(()))
-        )
-    );
+    assert!(rt; is_changed(&replies, 1, RAISED));
     assert_eq!(rt; arena.generation(), 3);
     Ok(())
 }
 
 #[test]
 fn a_compression_begins_the_generations_again(rt: HostRuntime) -> Result<(), Fail> {
-    let mut arena: SimpleOrdArena<P8, Letter> = SimpleOrdArena::new(rt.alloc());
+    let (mut arena, _) = at_last_generation(&rt, rt.alloc())?;
     let mut commands = Vec::new(rt.alloc());
-    commands.push(Command::Insert(item(1, 'a')))?;
-    for _ in 2u8..255 {
-        commands.push(Command::IncGeneration)?;
-    }
-    commands.push(Command::Compress(false))?;
-    commands.push(Command::Canonical(false))?;
-    let replies = answers(rt.alloc(), &mut arena, commands)?;
-    assert_eq!(rt; replies.len(), 256);
-    assert!(rt;
-        matches!(
-            &replies[254],
-            Reply::Changed(InvalidationOption::GenerationOverflow(()))
-        )
-    );
-    assert!(rt;
-        matches!(
-            &replies[255],
-            Reply::Changed(InvalidationOption::Success(()))
-        )
-    );
+    add(&mut commands, Command::Compress(false))?;
+    add(&mut commands, Command::Canonical(false))?;
+    let replies = replies_to(&rt, rt.alloc(), &mut arena, commands)?;
+    assert!(rt; is_changed(&replies, 0, BEGUN_AGAIN));
+    assert!(rt; is_changed(&replies, 1, RAISED));
     assert_eq!(rt; arena.generation(), 3);
     Ok(())
 }
@@ -265,57 +347,85 @@ fn indexes_of_eight_bits_run_out(rt: HostRuntime) -> Result<(), Fail> {
     }
     let replies = answers(rt.alloc(), &mut arena, commands)?;
     assert_eq!(rt; replies.len(), 255);
-    assert!(rt; new_pointer(&replies[253]).is_some());
+    let _ = new_at(&rt, &replies, 253, 254);
     assert!(rt;
         matches!(
-            &replies[254],
-            Reply::Refused(OrdInsertionError::BeyondMaxCapacity)
+            replies.get(254),
+            Some(Reply::Refused(OrdInsertionError::BeyondMaxCapacity))
         )
     );
     assert_eq!(rt; arena.len(), 254);
     Ok(())
 }
 
+/// How far an insertion comes on a heap.
+#[derive(Clone, Copy, PartialEq, Eq)]
+enum Outcome {
+    NoCommand,
+    Refused,
+    Inserted,
+    NotInserted,
+}
+
+/// Runs an insertion on a heap of so many units. A run that is refused changes nothing.
+fn outcome_on(rt: &impl Abort, alloc: Global, units: usize) -> Result<Outcome, AllocError> {
+    let heap = LocalHeap::new(alloc, units.saturating_mul(16))?;
+    let mut arena: SimpleOrdArena<P0, Letter, _> = SimpleOrdArena::new(&heap);
+    let mut commands = Vec::new(&heap);
+    if commands.push(Command::Insert(item(1, 'a'))).is_err() {
+        return Ok(Outcome::NoCommand);
+    }
+    match answers(&heap, &mut arena, commands) {
+        Err(AllocError) => {
+            assert_eq!(rt; (arena.len(), arena.capacity()), (0, 0));
+            Ok(Outcome::Refused)
+        }
+        Ok(replies) => {
+            assert_eq!(rt; replies.len(), 1);
+            match replies.get(0).and_then(new_pointer) {
+                Some(_) => Ok(Outcome::Inserted),
+                None => Ok(Outcome::NotInserted),
+            }
+        }
+    }
+}
+
 #[test]
 fn a_run_that_is_refused_its_replies_changes_nothing(rt: HostRuntime) -> Result<(), Fail> {
     let mut is_refused = false;
     let mut is_run = false;
-    for size in 0..100 {
-        let heap = LocalHeap::new(rt.alloc(), 16 * size)?;
-        let mut arena: SimpleOrdArena<P0, Letter, _> = SimpleOrdArena::new(&heap);
-        let mut commands = Vec::new(&heap);
-        if commands.push(Command::Insert(item(1, 'a'))).is_err() {
-            continue;
-        }
-        match answers(&heap, &mut arena, commands) {
-            Err(AllocError) => {
-                is_refused = true;
-                assert_eq!(rt; arena.len(), 0);
-                assert_eq!(rt; arena.capacity(), 0);
-            }
-            Ok(replies) => {
-                assert_eq!(rt; replies.len(), 1);
-                is_run = new_pointer(&replies[0]).is_some();
-            }
+    for units in 0..100 {
+        match outcome_on(&rt, rt.alloc(), units)? {
+            Outcome::NoCommand => {}
+            Outcome::Refused => is_refused = true,
+            Outcome::Inserted => is_run = true,
+            Outcome::NotInserted => is_run = false,
         }
     }
     assert!(rt; is_refused && is_run);
     Ok(())
 }
 
-/// Searches by a closure that says one order after another, whatever it is shown; and searches from a hint.
-#[test]
-fn searches_by_a_closure(rt: HostRuntime) -> Result<(), Fail> {
-    let mut arena: SimpleOrdArena<P0, Letter> = SimpleOrdArena::new(rt.alloc());
-    let mut commands = Vec::new(rt.alloc());
+/// An arena of the numbers 50, 30, 70, 60 and 10, at the indexes from 1 on.
+fn five_numbers(rt: &impl Abort, alloc: Global) -> Result<SimpleOrdArena<P0, Letter>, AllocError> {
+    let mut arena = SimpleOrdArena::new(alloc);
+    let mut commands = Vec::new(alloc);
     for number in [50u16, 30, 70, 60, 10] {
         commands.push(Command::Insert(item(number, 'x')))?;
     }
-    commands.push(Command::SimilarWith)?;
-    commands.push(Command::FindWith)?;
-    commands.push(Command::Similar(53))?;
-    commands.push(Command::SimilarLinear(2, 2, 40))?;
-    commands.push(Command::FindLinear(P0::_from_raw(5, 2), 2, 60))?;
+    let replies = answers(alloc, &mut arena, commands)?;
+    assert_eq!(rt; replies.len(), 5);
+    let _ = new_at(rt, &replies, 4, 5);
+    Ok(arena)
+}
+
+/// Searches by a closure that says one order after another, whatever it is shown.
+#[test]
+fn searches_by_a_closure(rt: HostRuntime) -> Result<(), Fail> {
+    let mut arena = five_numbers(&rt, rt.alloc())?;
+    let mut commands = Vec::new(rt.alloc());
+    add(&mut commands, Command::SimilarWith)?;
+    add(&mut commands, Command::FindWith)?;
     let mut calls = 0u8;
     let mut closure = |_p: P0, _l: &Letter| {
         calls = calls.wrapping_add(1);
@@ -327,18 +437,28 @@ fn searches_by_a_closure(rt: HostRuntime) -> Result<(), Fail> {
     };
     let replies = run(rt.alloc(), &mut arena, commands, &mut closure)?;
     assert_eq!(rt; calls, 5);
-    assert_eq!(rt; replies.len(), 10);
+    assert_eq!(rt; replies.len(), 2);
     // 50, 70, 60; then 50, 30
-    assert!(rt;
-        matches!(&replies[5], Reply::Similar(Some((p, Ordering::Greater)), 3) if p.inx() == 4)
-    );
-    assert!(rt; matches!(&replies[6], Reply::Found(Some(p), 2) if p.inx() == 2));
-    assert!(rt;
-        matches!(&replies[7], Reply::Similar(Some((p, Ordering::Less)), 3) if p.inx() == 4)
-    );
-    assert!(rt;
-        matches!(&replies[8], Reply::Similar(Some((p, Ordering::Less)), 2) if p.inx() == 1)
-    );
-    assert!(rt; matches!(&replies[9], Reply::Found(Some(p), 5) if p.inx() == 4));
+    let p60 = P0::_from_raw(4, 2);
+    let p30 = P0::_from_raw(2, 2);
+    assert!(rt; is_similar(&replies, 0, (p60, Ordering::Greater), 3));
+    assert!(rt; is_found(&replies, 1, Some(p30), 2));
+    Ok(())
+}
+
+#[test]
+fn searches_from_a_hint(rt: HostRuntime) -> Result<(), Fail> {
+    let mut arena = five_numbers(&rt, rt.alloc())?;
+    let mut commands = Vec::new(rt.alloc());
+    add(&mut commands, Command::Similar(53))?;
+    add(&mut commands, Command::SimilarLinear(2, 2, 40))?;
+    let from = P0::_from_raw(5, 2);
+    add(&mut commands, Command::FindLinear(from, 2, 60))?;
+    let replies = replies_to(&rt, rt.alloc(), &mut arena, commands)?;
+    let p50 = P0::_from_raw(1, 2);
+    let p60 = P0::_from_raw(4, 2);
+    assert!(rt; is_similar(&replies, 0, (p60, Ordering::Less), 3));
+    assert!(rt; is_similar(&replies, 1, (p50, Ordering::Less), 2));
+    assert!(rt; is_found(&replies, 2, Some(p60), 5));
     Ok(())
 }

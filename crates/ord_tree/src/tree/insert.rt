@@ -5,18 +5,18 @@ ghost use Rattle.chain_base.specs.Chain.{IsDistinct, IsOccupied, chain_limit, wi
 ghost use Rattle.chain_base.specs.Insert.{IsInsertion};
 ghost use Rattle.ord_tree.specs.Shape.{Shape};
 ghost use Rattle.ord_tree.specs.Node.{indexes, bare, slots_of};
-ghost use Rattle.ord_tree.specs.Bud.{neighbour_in, beside, IsBudding};
-ghost use Rattle.ord_tree.specs.Raise.{IsRepaired};
+ghost use Rattle.ord_tree.specs.Leaf.{neighbour_in, beside, IsNewLeaf};
+ghost use Rattle.ord_tree.specs.Promote.{IsRepaired};
 ghost use Rattle.ord_tree.specs.Tree.{put_at, CanPutAt, IsGrown};
 ghost use Rattle.ord_tree.specs.Layout.{IsLaidOut};
-ghost use Rattle.ord_tree.specs.Plant.{side_at, kind_at, IsBud, IsBudAt};
+ghost use Rattle.ord_tree.specs.LeafBranch.{side_at, kind_at, IsLeafBranch, IsLeafBranchAt};
 
 use super::OrdTree;
-use crate::attach::attach;
-use crate::links::{Place, Side};
+use crate::leaf::add_leaf;
 use crate::node::SimpleOrdArenaNode;
 use crate::node_inx::{NodeInx, as_link, node_at};
 use crate::nodes::Nodes;
+use crate::tree_links::{Branch, Side};
 use arena_base::{InsertionError, Ptr};
 use chain_base::{ChainArena, LinkInsertKind};
 use std::alloc::Allocator;
@@ -35,20 +35,20 @@ impl<P: Ptr, T: Drop, A: Allocator> OrdTree<P, T, A> {
     ) -> Result<P, InsertionError>
         requires { CanPutAt P.Inx.number at self.old.list }
         ensures ok { IfOk result (λ p. IsInsertion self.old.list self.new.list
-            (put_at P.Inx.number at self.old.list.entries) t (P.index p) (P.era p)) }
+            (put_at P.Inx.number at self.old.list.entries) t (P.numbers p).0 (P.numbers p).1) }
         ensures shape { OnOk result (IsGrown self.old.shape self.new.shape) }
         ensures full { IsErr result ↔ (length self.old.list.entries ≡ self.old.list.capacity) }
         ensures refusal { IfErr result (λ e. e ≡ InsertionError.NotWithinCapacity) }
         ensures err { OnErr result (self.new ≡ self.old) }
     {
-        let place = place_at(&self.chain, at);
-        let node = SimpleOrdArenaNode::leaf(parent_in(place), t);
+        let branch = branch_at(&self.chain, at);
+        let node = SimpleOrdArenaNode::leaf(parent_in(branch), t);
         let p = self.chain.insert_within_capacity(kind_of(at), node)?;
         prove!(self.chain.len() <= self.chain.capacity());
         grow(
             &mut self.chain,
             &mut self.root,
-            place,
+            branch,
             NodeInx::new(p.inx()),
         );
         Ok(p)
@@ -65,7 +65,7 @@ impl<P: Ptr, T: Drop, A: Allocator> OrdTree<P, T, A> {
     ) -> Result<P, InsertionError>
         requires { CanPutAt P.Inx.number at self.old.list }
         ensures ok { IfOk result (λ p. IsInsertion (with_room P.Inx.most self.old.list) self.new.list
-            (put_at P.Inx.number at self.old.list.entries) t (P.index p) (P.era p)) }
+            (put_at P.Inx.number at self.old.list.entries) t (P.numbers p).0 (P.numbers p).1) }
         ensures shape { OnOk result (IsGrown self.old.shape self.new.shape) }
         ensures beyond { (result ≡ Err InsertionError.BeyondMaxCapacity)
             ↔ (length self.old.list.entries ≡ chain_limit P.Inx.most self.old.list) }
@@ -80,11 +80,11 @@ impl<P: Ptr, T: Drop, A: Allocator> OrdTree<P, T, A> {
     }
 }
 
-// The node at a place.
-fn parent_in<I: Copy>(place: Option<Place<I>>) -> Option<I>
-    ensures { result ≡ option_map (λ p. p.parent) place }
+// The node of a branch.
+fn parent_in<I: Copy>(branch: Option<Branch<I>>) -> Option<I>
+    ensures { result ≡ option_map (λ p. p.parent) branch }
 {
-    Some(place?.parent)
+    Some(branch?.parent)
 }
 
 // The place in the chain that is named.
@@ -125,68 +125,68 @@ pub(super) fn neighbour<P: Ptr, T, A: Allocator>(
     }
 }
 
-// The place in the tree of a new leaf that is to stand on that side of the entry at an index that has one: there where nothing
+// The branch of a new leaf that is to stand on that side of the entry at an index that has one: there where nothing
 // hangs, else under its neighbour on that side, of which the facing side is free then.
-fn place_on<P: Ptr, T, A: Allocator>(
+fn branch_on<P: Ptr, T, A: Allocator>(
     chain: &ChainArena<P, SimpleOrdArenaNode<P, T>, A>,
     i: NodeInx<P::Inx>,
     side: Side,
-) -> Option<Place<NodeInx<P::Inx>>>
+) -> Option<Branch<NodeInx<P::Inx>>>
     requires { IsOccupied chain.now (P.Inx.number i) }
     ensures { (root : Option ℕ) (s : Shape) → IsLaidOut chain.now root s → IsDistinct chain.now.entries
-        → IsSomeAnd result (IsBud P.Inx.number (P.Inx.number i) side (slots_of chain.now)
+        → IsSomeAnd result (IsLeafBranch P.Inx.number (P.Inx.number i) side (slots_of chain.now)
         (indexes chain.now.entries)) }
 {
     let links = chain.links(i);
     if links.child(side).is_none() {
-        return Some(Place { parent: i, side });
+        return Some(Branch { parent: i, side });
     }
     let Some(parent) = neighbour(chain, i, side) else {
         return None;
     };
-    Some(Place {
+    Some(Branch {
         parent,
         side: side.other(),
     })
 }
 
-// The place in the tree of a new leaf that is to stand before or after an entry, or alone.
-fn place_at<P: Ptr, T, A: Allocator>(
+// The branch of a new leaf that is to stand before or after an entry, or alone.
+fn branch_at<P: Ptr, T, A: Allocator>(
     chain: &ChainArena<P, SimpleOrdArenaNode<P, T>, A>,
     at: Option<(P::Inx, Ordering)>,
-) -> Option<Place<NodeInx<P::Inx>>>
+) -> Option<Branch<NodeInx<P::Inx>>>
     requires { CanPutAt P.Inx.number at chain.now }
     ensures { (root : Option ℕ) (s : Shape) → IsLaidOut chain.now root s → IsDistinct chain.now.entries
-        → IsBudAt P.Inx.number at (slots_of chain.now) (indexes chain.now.entries) result }
+        → IsLeafBranchAt P.Inx.number at (slots_of chain.now) (indexes chain.now.entries) result }
 {
     match at {
         None => None,
-        Some((i, ordering)) => place_on(chain, node_at(chain, i), side_of(ordering)),
+        Some((i, ordering)) => branch_on(chain, node_at(chain, i), side_of(ordering)),
     }
 }
 
-// Lets the tree over a chain have the new leaf x, at its place or alone.
+// Lets the tree over a chain have the new leaf x, on its branch or alone.
 fn grow<P: Ptr, T, A: Allocator>(
     chain: &mut ChainArena<P, SimpleOrdArenaNode<P, T>, A>,
     root: &mut Option<NodeInx<P::Inx>>,
-    place: Option<Place<NodeInx<P::Inx>>>,
+    branch: Option<Branch<NodeInx<P::Inx>>>,
     x: NodeInx<P::Inx>,
 )
-    requires { MatchOption place (Unit {0}) (λ p. (order : List ℕ) × (slack : ℕ)
-        × IsBudding (slots_of chain.old) (option_map P.Inx.number root.old) p.side
+    requires { MatchOption branch (Unit {0}) (λ p. (order : List ℕ) × (slack : ℕ)
+        × IsNewLeaf (slots_of chain.old) (option_map P.Inx.number root.old) p.side
         (P.Inx.number p.parent) (P.Inx.number x) order slack) }
-    ensures grown { MatchOption place
+    ensures grown { MatchOption branch
         ((chain.new ≡ chain.old) × (root.new ≡ Some x))
         (λ p. (order : List ℕ) (slack : ℕ)
-        → IsBudding (slots_of chain.old) (option_map P.Inx.number root.old) p.side
+        → IsNewLeaf (slots_of chain.old) (option_map P.Inx.number root.old) p.side
         (P.Inx.number p.parent) (P.Inx.number x) order slack
         → IsRepaired (slots_of chain.old) (slots_of chain.new)
         (option_map P.Inx.number root.new) (beside p.side (P.Inx.number p.parent) (P.Inx.number x) order)
         slack) }
     ensures kept { bare chain.new ≡ bare chain.old }
 {
-    match place {
+    match branch {
         None => *root = Some(x),
-        Some(place) => attach(chain, root, place.side, place.parent, x),
+        Some(branch) => add_leaf(chain, root, branch.side, branch.parent, x),
     }
 }

@@ -25,7 +25,7 @@ impl<P: Ptr, T, A: Allocator> OrdTree<P, T, A> {
     /// becomes the arena's: the first where `reset` is true, else the next one. Then the tree is built anew; the list keeps its
     /// order.
     ///
-    /// The answer says whether the generations began again because the next one comes after the greatest. For each entry, by
+    /// The result says whether the generations began again because the next one comes after the greatest. For each entry, by
     /// rising index, `f` is called with its old pointer, its item and its new pointer, and gives the item that the entry has
     /// then. The capacity stays, and all vacant slots count as never used. It takes O(capacity) time, and no memory.
     pub fn compress_with<F: FnMut(P, T, P) -> T + Drop>(
@@ -34,7 +34,7 @@ impl<P: Ptr, T, A: Allocator> OrdTree<P, T, A> {
         f: F,
     ) -> InvalidationOption<()>
         requires { F.IsAlwaysCallable f }
-        ensures after { IsCompression P.index P.era F.step
+        ensures after { IsCompression P.numbers F.step
             (compressed_generation P.Gen.greatest reset self.old.list.generation) f self.old.list self.new.list }
         ensures shape { IsRebuilt self.new.shape }
         ensures overflow { is_overflow result
@@ -100,7 +100,7 @@ impl<P: Ptr, T, A: Allocator> OrdTree<P, T, A> {
         T: Drop,
         requires lawful { IsLawfulGeneration P.Gen.greatest (P.Gen.number new_generation) }
         requires callable { F.IsAlwaysCallable f }
-        ensures ok { OnOk result (IsTransfer Q.index Q.era P.index P.era Q.Gen.greatest F.step
+        ensures ok { OnOk result (IsTransfer Q.numbers P.numbers Q.Gen.greatest F.step
             (P.Gen.number new_generation) f source.old.list source.new.list self.old.list self.new.list) }
         ensures shape { OnOk result (IsRebuilt self.new.shape) }
         ensures left { OnOk result (source.new.shape ≡ missing) }

@@ -11,9 +11,9 @@ ghost use Rattle.ord_tree.specs.Tree.{IsShrunk};
 use super::OrdTree;
 use super::insert::neighbour;
 use crate::detach::detach;
-use crate::links::Side;
 use crate::node::SimpleOrdArenaNode;
 use crate::node_inx::node_at;
+use crate::tree_links::Side;
 use arena_base::{InvalidationOption, InvalidationResult, Ptr};
 use chain_base::LinkNoGen;
 use std::alloc::Allocator;
@@ -22,7 +22,7 @@ impl<P: Ptr, T, A: Allocator> OrdTree<P, T, A> {
     /// Takes the entry at the index out, with its generation and its item, and raises the generation. The next insertion takes
     /// its slot. Every other entry keeps its pointer, its item and its order, and at most nine get another parent.
     ///
-    /// At an index without an entry the answer is `InvalidPtr`, and nothing changes. For n entries it takes O(log n) time, and
+    /// At an index without an entry it returns `InvalidPtr`, and nothing changes. For n entries it takes O(log n) time, and
     /// no memory.
     pub fn remove_inx(&mut self, i: P::Inx) -> InvalidationResult<(P::Gen, T)>
         ensures value { option_map (λ e. (P.Gen.number e.0, e.1)) (valid_value result)
@@ -62,17 +62,17 @@ impl<P: Ptr, T, A: Allocator> OrdTree<P, T, A> {
     /// Gives the entry that the pointer names a new pointer, at the same index and place and with the raised generation. The
     /// shape stays.
     ///
-    /// For a pointer that names no entry the answer is `InvalidPtr`, and nothing changes.
+    /// For a pointer that names no entry it returns `InvalidPtr`, and nothing changes.
     pub fn invalidate(&mut self, p: P) -> InvalidationResult<P>
         ensures valid { is_some (valid_value result)
-            ≡ is_some (item_of self.old.list.entries (P.index p) (P.era p)) }
-        ensures index { IfSome (valid_value result) (λ q. P.index q ≡ P.index p) }
-        ensures era { IfSome (valid_value result)
-            (λ q. P.era q ≡ next_generation P.Gen.greatest self.old.list.generation) }
+            ≡ is_some (item_of self.old.list.entries (P.numbers p)) }
+        ensures index { IfSome (valid_value result) (λ q. (P.numbers q).0 ≡ (P.numbers p).0) }
+        ensures generation { IfSome (valid_value result)
+            (λ q. (P.numbers q).1 ≡ next_generation P.Gen.greatest self.old.list.generation) }
         ensures overflow { OnSome (valid_value result)
             (has_overflowed result ≡ overflows_after P.Gen.greatest self.old.list.generation) }
         ensures renewed { OnSome (valid_value result)
-            (self.new ≡ record self.old { list = renewed P.Gen.greatest self.old.list (P.index p) }) }
+            (self.new ≡ record self.old { list = renewed P.Gen.greatest self.old.list (P.numbers p).0 }) }
         ensures invalid { IfNone (valid_value result) (self.new ≡ self.old) }
     {
         self.chain.invalidate(p)
@@ -91,7 +91,7 @@ impl<P: Ptr, T, A: Allocator> OrdTree<P, T, A> {
     }
 }
 
-// The answer of the chain, with the item alone in place of the node.
+// The result of the chain, with the item alone in place of the node.
 fn item_taken<P: Ptr, T>(
     taken: InvalidationOption<(P::Gen, LinkNoGen<P, SimpleOrdArenaNode<P, T>>)>,
 ) -> InvalidationOption<(P::Gen, T)>

@@ -1,83 +1,58 @@
 //! Writing items in place. The shape stays.
 
-ghost use Rattle.std.specs.Prelude.{◌≡◌, Some};
-ghost use Rattle.std.specs.Option.{option_copied_mut, option_map};
-ghost use Rattle.std.specs.Borrow.{sem};
-ghost use Rattle.chain_base.specs.Chain.{entry_at, IsOccupied};
+ghost use Rattle.std.specs.Prelude.{◌≡◌, ℕ, Option, Some, IsSome};
+ghost use Rattle.std.specs.Option.{option_map};
+ghost use Rattle.std.specs.Borrow.{sem, Lends};
+ghost use Rattle.chain_base.specs.Chain.{entry_at};
 ghost use Rattle.ord_tree.specs.Node.{entry_in};
-ghost use Rattle.ord_tree.specs.NodeLends.{lends_node_item};
+ghost use Rattle.ord_tree.specs.Tree.{with_item};
+ghost use Rattle.ord_tree.specs.Layout.{with_node_item};
 
 use super::OrdTree;
 use crate::node::SimpleOrdArenaNode;
-use arena_base::Ptr;
+use arena_base::{ItemsMut, Ptr};
 use chain_base::ChainArena;
 use std::alloc::Allocator;
 
-impl<P: Ptr, T, A: Allocator> OrdTree<P, T, A> {
-    ghost use Rattle.ord_tree.specs.Lends.{lends_item, lends_found};
+impl<P: Ptr, T, A: Allocator> ItemsMut<P, T> for OrdTree<P, T, A> {
+    ghost entry_at = { λ t. entry_at t.list.entries };
 
-    /// Generation and item of the entry at an index that has one; the item may be written.
-    pub fn pair_mut(&mut self, i: P::Inx) -> (P::Gen, &mut T)
-        requires { IsOccupied self.old.list (P.Inx.number i) }
-        ensures* writes_back { sem 𝓛 (lends_item P.row T.row A.row P.Inx.row P.Gen.row
-            P.Ptr.own P.PartialEq P.Ord.own P.PartialOrd.own P.Hash.own P.Debug
-            P.Inx.PtrInx.own P.Inx.PartialEq P.Inx.Ord.own P.Inx.PartialOrd.own P.Inx.Hash.own P.Inx.Debug
-            P.Gen.PtrGen.own P.Gen.PartialEq P.Gen.Debug A.Allocator
-            self.entry (P.Inx.number i) result.1) }
-        ensures value { entry_at self.old.list.entries (P.Inx.number i)
-            ≡ Some (P.Gen.number result.0, result.1.now) }
-    {
-        node_item_mut(&mut self.chain, i)
+    ghost written = { with_item };
+
+    fn contains_inx(&self, i: P::Inx) -> bool {
+        self.contains_inx(i)
     }
 
-    /// The item at the index, to be written.
-    pub fn item_at_mut(&mut self, i: P::Inx) -> Option<&mut T>
-        ensures* writes_back { sem 𝓛 (lends_found P.row T.row A.row P.Inx.row P.Gen.row
-            P.Ptr.own P.PartialEq P.Ord.own P.PartialOrd.own P.Hash.own P.Debug
-            P.Inx.PtrInx.own P.Inx.PartialEq P.Inx.Ord.own P.Inx.PartialOrd.own P.Inx.Hash.own P.Inx.Debug
-            P.Gen.PtrGen.own P.Gen.PartialEq P.Gen.Debug A.Allocator
-            self.entry (P.Inx.number i) result) }
-        ensures value { option_copied_mut result
-            ≡ option_map (λ e. e.1) (entry_at self.old.list.entries (P.Inx.number i)) }
-    {
-        if self.contains_inx(i) {
-            Some(self.pair_mut(i).1)
-        } else {
-            None
-        }
-    }
-
-    /// Generation and item of the entry at the index; the item may be written.
-    ///
-    /// Its clause says what it gives, and can't say what it leaves. It calls `pair_mut`, whose clause says that, where
-    /// `contains_inx` is true, and does nothing else.
-    pub fn get_inx_mut(&mut self, i: P::Inx) -> Option<(P::Gen, &mut T)>
-        ensures value { option_map (λ e. (P.Gen.number e.0, e.1.now)) result
-            ≡ entry_at self.old.list.entries (P.Inx.number i) }
-    {
-        if self.contains_inx(i) {
-            Some(self.pair_mut(i))
-        } else {
-            None
-        }
+    fn pair_mut(&mut self, i: P::Inx) -> (P::Gen, &mut T) {
+        self.chain.node_item_mut(i)
     }
 }
 
-// Generation and item of the node at an index that has one; the item may be written.
-fn node_item_mut<P: Ptr, T, A: Allocator>(
-    chain: &mut ChainArena<P, SimpleOrdArenaNode<P, T>, A>,
-    i: P::Inx,
-) -> (P::Gen, &mut T)
-    requires { IsOccupied chain.old (P.Inx.number i) }
-    ensures* writes_back { sem 𝓛 (lends_node_item P.row T.row A.row P.Inx.row P.Gen.row
-        P.Ptr.own P.PartialEq P.Ord.own P.PartialOrd.own P.Hash.own P.Debug
-        P.Inx.PtrInx.own P.Inx.PartialEq P.Inx.Ord.own P.Inx.PartialOrd.own P.Inx.Hash.own P.Inx.Debug
-        P.Gen.PtrGen.own P.Gen.PartialEq P.Gen.Debug A.Allocator
-        chain.entry (P.Inx.number i) result.1) }
-    ensures value { option_map entry_in (entry_at chain.old.entries (P.Inx.number i))
-        ≡ Some (P.Gen.number result.0, result.1.now) }
-{
-    let pair = chain.pair_mut(i);
-    let node = pair.1;
-    (pair.0, &mut node.t)
+// A chain of nodes, as what holds their items.
+trait NodeItemsMut<P: Ptr, T> {
+    // generation and item of the node at an index
+    ghost item_at: { Self → ℕ → Option (ℕ × T) };
+
+    // the nodes with another item in the one at an index
+    ghost written: { Self → ℕ → T → Self };
+
+    // Generation and item of the node at an index that has one; the item may be written.
+    fn node_item_mut(&mut self, i: P::Inx) -> (P::Gen, &mut T)
+        requires { IsSome (item_at self.old (P.Inx.number i)) }
+        ensures* writes_back { sem 𝓛
+            (Lends Self.row T.row self.entry result.1 (written self.old (P.Inx.number i))) }
+        ensures value { item_at self.old (P.Inx.number i)
+            ≡ Some (P.Gen.number result.0, result.1.now) };
+}
+
+impl<P: Ptr, T, A: Allocator> NodeItemsMut<P, T> for ChainArena<P, SimpleOrdArenaNode<P, T>, A> {
+    ghost item_at = { λ nodes i. option_map entry_in (entry_at nodes.entries i) };
+
+    ghost written = { with_node_item };
+
+    fn node_item_mut(&mut self, i: P::Inx) -> (P::Gen, &mut T) {
+        let pair = self.pair_mut(i);
+        let node = pair.1;
+        (pair.0, &mut node.t)
+    }
 }

@@ -1,5 +1,5 @@
 //! Rebuilt trees, compared place by place with a recursive function of the length.
-use arena_base::{InvalidationOption, P0, Ptr, ReallocationError};
+use arena_base::{InsertionError, InvalidationOption, P0, Ptr, ReallocationError};
 use ord_tree::OrdTree;
 use std::alloc::{AllocError, Global};
 use std::cmp::Ordering;
@@ -75,22 +75,27 @@ fn rebuilt(alloc: Global, len: usize) -> Result<Vec<Place>, AllocError> {
     Ok(places)
 }
 
+/// Inserts an entry behind the last one, which stands at this index. Answers its own.
+fn add_last(rt: &impl Abort, tree: &mut Row, last: Option<u32>) -> Result<u32, InsertionError> {
+    let place = match last {
+        None => {
+            assert!(rt; tree.is_empty());
+            None
+        }
+        Some(index) => {
+            assert!(rt; tree.contains_inx(index));
+            Some((index, Ordering::Greater))
+        }
+    };
+    Ok(tree.insert_reallocating(place, ())?.inx())
+}
+
 /// A tree of `len` entries, each inserted behind the last, so that the entry at place i has the index i + 1.
 fn row(rt: &impl Abort, alloc: Global, len: usize) -> Result<Row, Fail> {
     let mut tree = Row::new(alloc);
     let mut last = None;
     for _ in 0..len {
-        let p = match last {
-            None => {
-                assert!(rt; tree.is_empty());
-                tree.insert_reallocating(None, ())?
-            }
-            Some(index) => {
-                assert!(rt; tree.contains_inx(index));
-                tree.insert_reallocating(Some((index, Ordering::Greater)), ())?
-            }
-        };
-        last = Some(p.inx());
+        last = Some(add_last(rt, &mut tree, last)?);
     }
     Ok(tree)
 }
@@ -127,7 +132,8 @@ fn rebuilt_places(
     len: usize,
 ) -> Result<Vec<Place>, Fail> {
     let found = places(alloc, tree)?;
-    assert_eq!(rt; found.as_slice(), rebuilt(alloc, len)?.as_slice());
+    let wanted = rebuilt(alloc, len)?;
+    assert_eq!(rt; found.as_slice(), wanted.as_slice());
     assert_eq!(rt; place_of(tree.root()), middle_of(0, len));
     Ok(found)
 }
@@ -196,8 +202,7 @@ fn transfer_all(tree: &mut Row, source: &mut Row) -> (Result<(), ReallocationErr
 fn small(rt: &impl Abort, alloc: Global, maximum: usize) -> Result<Row, Fail> {
     let mut tree = Row::new(alloc);
     assert_eq!(rt; tree.set_max_capacity(maximum), Ok(()));
-    assert!(rt; tree.is_empty());
-    tree.insert_reallocating(None, ())?;
+    let _ = add_last(rt, &mut tree, None)?;
     Ok(tree)
 }
 

@@ -11,7 +11,7 @@ use std::ops::Index;
 impl<P: Ptr, T, A: Allocator> SimpleOrdArena<P, T, A> {
     /// Whether the pointer names an entry, in O(1).
     pub fn contains(&self, p: P) -> bool
-        ensures { result ≡ is_some (item_of self.now (P.index p, P.era p)) }
+        ensures { result ≡ is_some (item_of self.now (P.numbers p)) }
     {
         self.tree.chain().contains(p)
     }
@@ -25,7 +25,7 @@ impl<P: Ptr, T, A: Allocator> SimpleOrdArena<P, T, A> {
 
     /// The item that the pointer names, in O(1).
     pub fn get(&self, p: P) -> Option<&T>
-        ensures { option_copied result ≡ item_of self.now (P.index p, P.era p) }
+        ensures { option_copied result ≡ item_of self.now (P.numbers p) }
     {
         let node = self.tree.chain().get(p)?;
         Some(&node.t)
@@ -44,9 +44,9 @@ impl<P: Ptr, T, A: Allocator> SimpleOrdArena<P, T, A> {
 impl<P: Ptr, T, A: Allocator> Index<P> for SimpleOrdArena<P, T, A> {
     type Output = T;
 
-    ghost can_index = { λ a p. IsSome (item_of a (P.index p, P.era p)) };
+    ghost can_index = { λ a p. IsSome (item_of a (P.numbers p)) };
 
-    ghost index_gives = { λ a p item. item_of a (P.index p, P.era p) ≡ Some item };
+    ghost index_gives = { λ a p item. item_of a (P.numbers p) ≡ Some item };
 
     fn index(&self, p: P) -> &T {
         self.get(p).unwrap()

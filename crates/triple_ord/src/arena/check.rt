@@ -9,7 +9,7 @@ use std::alloc::Allocator;
 
 impl<P: Ptr, T: SimpleOrdItem, A: Allocator> SimpleOrdArena<P, T, A> {
     /// Whether the list is in the order of the keys: `Err("incorrect ordering")` exactly where some entry's key is greater than the
-    /// key of the entry after it. Links, ranks and pointers of an arena are in order always. It compares each key with the next one.
+    /// key of the entry after it. TreeLinks, ranks and pointers of an arena are in order always. It compares each key with the next one.
     pub fn _check_invariants(this: &Self) -> Result<(), &'static str>
         ensures in_order { IsOk result ↔ IsInOrder T.key_of T.Key.Ord.cmp this.now.list.entries }
         ensures text { IfErr result (λ text. text.now ≡ codes "incorrect ordering") }

@@ -53,7 +53,7 @@ impl<'a, P: Ptr, T: Drop, A: Allocator> Drop for OrderedDrain<'a, P, T, A> {
 impl<'a, P: Ptr, T: Drop, A: Allocator> Iterator for OrderedDrain<'a, P, T, A> {
     type Item = InvalidationOption<(P, T)>;
 
-    ghost next_gives = { OrderedDrainSteps P.Gen.greatest P.index P.era };
+    ghost next_gives = { OrderedDrainSteps P.Gen.greatest P.numbers };
 
     ghost remaining = { item_count ordered_drain_rest };
 
@@ -91,7 +91,7 @@ impl<P: Ptr, T: Drop, A: Allocator> Iterator for CapacityDrain<P, T, A> {
     type Item = (P, T);
 
     ghost next_gives = { YieldsFirstBy
-        (λ x. record { index = P.index x.0; generation = P.era x.0; item = x.1 }) (λ left. left) };
+        (λ x. record { index = (P.numbers x.0).0; generation = (P.numbers x.0).1; item = x.1 }) (λ left. left) };
 
     ghost remaining = { item_count (λ left. left) };
 

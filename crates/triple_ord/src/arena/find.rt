@@ -22,9 +22,9 @@ impl<P: Ptr, T: SimpleOrdItem, A: Allocator> SimpleOrdArena<P, T, A> {
     /// With `None` the search stopped at a gap of the list: the entry before it, if any, has a lesser key, and the one after it, if
     /// any, a greater one. So no entry has an equal key where the keys are in order. It takes O(log n) time for n entries.
     pub fn find_key(&self, k: &T::Key) -> Option<P>
-        ensures finds { IfSome result (λ p. FindsBy T.key_of T.Key.cmp self.now k.now (P.index p, P.era p) Equal) }
+        ensures finds { IfSome result (λ p. FindsBy T.key_of T.Key.cmp self.now k.now (P.numbers p) Equal) }
         ensures found { (visits : ℕ) × FindsKey T.key_of T.Key.cmp self.now.list.entries k.now
-            (option_map (λ p. (P.index p, P.era p)) result) visits }
+            (option_map P.numbers result) visits }
     {
         prove!(self.len() <= self.capacity());
         self.find_key_counted(k).0
@@ -34,7 +34,7 @@ impl<P: Ptr, T: SimpleOrdItem, A: Allocator> SimpleOrdArena<P, T, A> {
     /// `fib(c+2) <= n+1`.
     pub fn find_key_counted(&self, k: &T::Key) -> (Option<P>, Visits)
         ensures found { FindsKey T.key_of T.Key.cmp self.now.list.entries k.now
-            (option_map (λ p. (P.index p, P.era p)) result.0) result.1 }
+            (option_map P.numbers result.0) result.1 }
         ensures visits { IsWithinBounds (length self.now.list.entries) self.now.shape result.1 }
     {
         let (found, visits) = self.find_similar_key_counted(k);
@@ -47,9 +47,9 @@ impl<P: Ptr, T: SimpleOrdItem, A: Allocator> SimpleOrdArena<P, T, A> {
     /// A gap fits where the entry before it, if any, has a lesser key, and the one after it, if any, a greater one. It takes
     /// O(log n) time for n entries.
     pub fn find_similar_key(&self, k: &T::Key) -> Option<(P, Ordering)>
-        ensures finds { IfSome result (λ a. FindsBy T.key_of T.Key.cmp self.now k.now (P.index a.0, P.era a.0) a.1) }
+        ensures finds { IfSome result (λ a. FindsBy T.key_of T.Key.cmp self.now k.now (P.numbers a.0) a.1) }
         ensures found { (visits : ℕ) × FindsSimilar T.key_of T.Key.cmp self.now.list.entries k.now
-            (option_map (λ a. ((P.index a.0, P.era a.0), a.1)) result) visits }
+            (option_map (λ a. (P.numbers a.0, a.1)) result) visits }
     {
         prove!(self.len() <= self.capacity());
         self.find_similar_key_counted(k).0
@@ -58,7 +58,7 @@ impl<P: Ptr, T: SimpleOrdItem, A: Allocator> SimpleOrdArena<P, T, A> {
     /// `find_similar_key`, and how many entries it visited, within the bounds of `find_key_counted`.
     pub fn find_similar_key_counted(&self, k: &T::Key) -> (Option<(P, Ordering)>, Visits)
         ensures found { FindsSimilar T.key_of T.Key.cmp self.now.list.entries k.now
-            (option_map (λ a. ((P.index a.0, P.era a.0), a.1)) result.0) result.1 }
+            (option_map (λ a. (P.numbers a.0, a.1)) result.0) result.1 }
         ensures visits { IsWithinBounds (length self.now.list.entries) self.now.shape result.1 }
     {
         let mut probe = Probe::new(&self.tree);

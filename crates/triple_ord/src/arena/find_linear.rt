@@ -26,9 +26,9 @@ impl<P: Ptr, T: SimpleOrdItem, A: Allocator> SimpleOrdArena<P, T, A> {
     /// answer. Where the order turns, at an end of the list, and after `num` comparisons a whole search follows; so it does at once
     /// where `p_init` names no entry.
     pub fn find_key_linear(&self, p_init: P, num: usize, k: &T::Key) -> Option<P>
-        ensures finds { IfSome result (λ p. FindsBy T.key_of T.Key.cmp self.now k.now (P.index p, P.era p) Equal) }
+        ensures finds { IfSome result (λ p. FindsBy T.key_of T.Key.cmp self.now k.now (P.numbers p) Equal) }
         ensures found { (visits : ℕ) × FindsKey T.key_of T.Key.cmp self.now.list.entries k.now
-            (option_map (λ p. (P.index p, P.era p)) result) visits }
+            (option_map P.numbers result) visits }
     {
         prove!(self.len() <= self.capacity());
         self.find_key_linear_counted(p_init, num, k).0
@@ -38,9 +38,9 @@ impl<P: Ptr, T: SimpleOrdItem, A: Allocator> SimpleOrdArena<P, T, A> {
     /// entries more than a whole search may. A pointer that names no entry adds none.
     pub fn find_key_linear_counted(&self, p_init: P, num: usize, k: &T::Key) -> (Option<P>, Visits)
         ensures found { FindsKey T.key_of T.Key.cmp self.now.list.entries k.now
-            (option_map (λ p. (P.index p, P.era p)) result.0) result.1 }
+            (option_map P.numbers result.0) result.1 }
         ensures visits { IsWithinHintedBounds (length self.now.list.entries) self.now.shape num result.1 }
-        ensures unhinted { IfNone (item_of self.now.list.entries (P.index p_init) (P.era p_init))
+        ensures unhinted { IfNone (item_of self.now.list.entries (P.numbers p_init))
             (IsWithinBounds (length self.now.list.entries) self.now.shape result.1) }
     {
         if !self.contains(p_init) {
@@ -57,7 +57,7 @@ impl<P: Ptr, T: SimpleOrdItem, A: Allocator> SimpleOrdArena<P, T, A> {
 
     /// `find_similar_key`, after at most `num` steps along the list from the entry at the index, whatever its generation.
     ///
-    /// The steps are those of `find_key_linear`. An entry with an equal key is the answer, and so is the entry at which the order
+    /// The steps are those of `find_key_linear`. An entry with an equal key is the result, and so is the entry at which the order
     /// turns, and the one at the end of the list that was met. After `num` comparisons a whole search follows; so it does at once
     /// where the index has no entry.
     pub fn find_similar_key_linear(
@@ -66,9 +66,9 @@ impl<P: Ptr, T: SimpleOrdItem, A: Allocator> SimpleOrdArena<P, T, A> {
         num: usize,
         k: &T::Key,
     ) -> Option<(P, Ordering)>
-        ensures finds { IfSome result (λ a. FindsBy T.key_of T.Key.cmp self.now k.now (P.index a.0, P.era a.0) a.1) }
+        ensures finds { IfSome result (λ a. FindsBy T.key_of T.Key.cmp self.now k.now (P.numbers a.0) a.1) }
         ensures found { (visits : ℕ) × FindsSimilar T.key_of T.Key.cmp self.now.list.entries k.now
-            (option_map (λ a. ((P.index a.0, P.era a.0), a.1)) result) visits }
+            (option_map (λ a. (P.numbers a.0, a.1)) result) visits }
     {
         prove!(self.len() <= self.capacity());
         self.find_similar_key_linear_counted(p_init, num, k).0
@@ -86,7 +86,7 @@ impl<P: Ptr, T: SimpleOrdItem, A: Allocator> SimpleOrdArena<P, T, A> {
         k: &T::Key,
     ) -> (Option<(P, Ordering)>, Visits)
         ensures found { FindsSimilar T.key_of T.Key.cmp self.now.list.entries k.now
-            (option_map (λ a. ((P.index a.0, P.era a.0), a.1)) result.0) result.1 }
+            (option_map (λ a. (P.numbers a.0, a.1)) result.0) result.1 }
         ensures visits { IsWithinHintedBounds (length self.now.list.entries) self.now.shape num result.1 }
         ensures unhinted { IfNone (entry_at self.now.list.entries (P.Inx.number p_init))
             (IsWithinBounds (length self.now.list.entries) self.now.shape result.1) }

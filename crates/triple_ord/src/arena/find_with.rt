@@ -22,8 +22,8 @@ impl<P: Ptr, T, A: Allocator> SimpleOrdArena<P, T, A> {
     pub fn find_with<F: FnMut(P, &T) -> Ordering + Drop>(&self, f: F) -> Option<P>
         requires { F.IsAlwaysCallable f }
         ensures { (left : F) × (visits : ℕ)
-            × FindsWith (Asks (λ p. (P.index p, P.era p)) F.step) self.now.list.entries f left
-            (option_map (λ p. (P.index p, P.era p)) result) visits }
+            × FindsWith (Asks P.numbers F.step) self.now.list.entries f left
+            (option_map P.numbers result) visits }
     {
         let mut f = f;
         self.find_with_counted(&mut f).0
@@ -32,8 +32,8 @@ impl<P: Ptr, T, A: Allocator> SimpleOrdArena<P, T, A> {
     /// `find_with`, and how many entries it visited: so often was `f` called. The bounds are those of `find_key_counted`.
     pub fn find_with_counted<F: FnMut(P, &T) -> Ordering>(&self, f: &mut F) -> (Option<P>, Visits)
         requires { F.IsAlwaysCallable f.old }
-        ensures found { FindsWith (Asks (λ p. (P.index p, P.era p)) F.step) self.now.list.entries f.old f.new
-            (option_map (λ p. (P.index p, P.era p)) result.0) result.1 }
+        ensures found { FindsWith (Asks P.numbers F.step) self.now.list.entries f.old f.new
+            (option_map P.numbers result.0) result.1 }
         ensures callable { F.IsAlwaysCallable f.new }
         ensures visits { IsWithinBounds (length self.now.list.entries) self.now.shape result.1 }
     {
@@ -49,8 +49,8 @@ impl<P: Ptr, T, A: Allocator> SimpleOrdArena<P, T, A> {
     ) -> Option<(P, Ordering)>
         requires { F.IsAlwaysCallable f }
         ensures { (left : F) × (visits : ℕ)
-            × FindsSimilarWith (Asks (λ p. (P.index p, P.era p)) F.step) self.now.list.entries f left
-            (option_map (λ a. ((P.index a.0, P.era a.0), a.1)) result) visits }
+            × FindsSimilarWith (Asks P.numbers F.step) self.now.list.entries f left
+            (option_map (λ a. (P.numbers a.0, a.1)) result) visits }
     {
         let mut f = f;
         self.find_similar_with_counted(&mut f).0
@@ -62,8 +62,8 @@ impl<P: Ptr, T, A: Allocator> SimpleOrdArena<P, T, A> {
         f: &mut F,
     ) -> (Option<(P, Ordering)>, Visits)
         requires { F.IsAlwaysCallable f.old }
-        ensures found { FindsSimilarWith (Asks (λ p. (P.index p, P.era p)) F.step) self.now.list.entries f.old f.new
-            (option_map (λ a. ((P.index a.0, P.era a.0), a.1)) result.0) result.1 }
+        ensures found { FindsSimilarWith (Asks P.numbers F.step) self.now.list.entries f.old f.new
+            (option_map (λ a. (P.numbers a.0, a.1)) result.0) result.1 }
         ensures callable { F.IsAlwaysCallable f.new }
         ensures visits { IsWithinBounds (length self.now.list.entries) self.now.shape result.1 }
     {

@@ -59,7 +59,7 @@ impl<'a, P: Ptr, T, A: Allocator> Iterator for Iter<'a, P, T, A> {
     type Item = (P, &'a T);
 
     ghost next_gives = { YieldsFirstBy
-        (λ x. record { index = P.index x.0; generation = P.era x.0; item = x.1.now }) (λ left. left) };
+        (λ x. record { index = (P.numbers x.0).0; generation = (P.numbers x.0).1; item = x.1.now }) (λ left. left) };
 
     ghost remaining = { item_count (λ left. left) };
 

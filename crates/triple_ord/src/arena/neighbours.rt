@@ -13,14 +13,14 @@ use std::alloc::Allocator;
 impl<P: Ptr, T, A: Allocator> SimpleOrdArena<P, T, A> {
     /// The pointer of the first entry of the list, in O(1).
     pub fn first(&self) -> Option<P>
-        ensures { option_map (λ p. (P.index p, P.era p)) result ≡ first_pointer self.now.list.entries }
+        ensures { option_map P.numbers result ≡ first_pointer self.now.list.entries }
     {
         self.tree.chain().first()
     }
 
     /// The pointer of the last entry of the list, in O(1).
     pub fn last(&self) -> Option<P>
-        ensures { option_map (λ p. (P.index p, P.era p)) result ≡ last_pointer self.now.list.entries }
+        ensures { option_map P.numbers result ≡ last_pointer self.now.list.entries }
     {
         self.tree.chain().last()
     }

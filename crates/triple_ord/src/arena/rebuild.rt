@@ -19,7 +19,7 @@ impl<P: Ptr, T, A: Allocator> SimpleOrdArena<P, T, A> {
     /// becomes the arena's: the first where `reset` is true, else the next one. The order of the entries stays, and the tree is
     /// built anew.
     ///
-    /// The answer says whether the generations began again because the next one comes after the greatest. For each entry, by
+    /// The result says whether the generations began again because the next one comes after the greatest. For each entry, by
     /// rising index, `f` is called with its old pointer, its item and its new pointer, and gives the item that the entry has
     /// then; where it changes a key, the arena may be out of order. The capacity stays, and all vacant slots count as never used.
     /// It takes O(capacity) time, and no memory.
@@ -32,7 +32,7 @@ impl<P: Ptr, T, A: Allocator> SimpleOrdArena<P, T, A> {
         ensures count { count self.new ≡ count self.old }
         ensures ended { IsOfGeneration self.new
             (compressed_generation P.Gen.greatest reset self.old.list.generation) }
-        ensures after { IsCompression P.index P.era F.step
+        ensures after { IsCompression P.numbers F.step
             (compressed_generation P.Gen.greatest reset self.old.list.generation) f self.old.list self.new.list }
         ensures shape { IsRebuilt self.new.shape }
         ensures overflow { is_overflow result ≡ compression_overflows P.Gen.greatest reset self.old.list.generation }
@@ -99,7 +99,7 @@ impl<P: Ptr, T, A: Allocator> SimpleOrdArena<P, T, A> {
         ensures found { OnOk result (IsNumbered self.new (P.Gen.number new_generation) (items self.new)) }
         ensures count { OnOk result (count self.new ≡ count source.old) }
         ensures emptied { OnOk result (FindsNothing source.new) }
-        ensures ok { OnOk result (IsTransfer Q.index Q.era P.index P.era Q.Gen.greatest F.step
+        ensures ok { OnOk result (IsTransfer Q.numbers P.numbers Q.Gen.greatest F.step
             (P.Gen.number new_generation) f source.old.list source.new.list self.old.list self.new.list) }
         ensures shape { OnOk result (IsRebuilt self.new.shape) }
         ensures left { OnOk result (source.new.shape ≡ missing) }

@@ -13,19 +13,19 @@ use arena_base::{InvalidationOption, InvalidationResult, Ptr};
 use std::alloc::Allocator;
 
 impl<P: Ptr, T, A: Allocator> SimpleOrdArena<P, T, A> {
-    /// Takes the entry that the pointer names out, answers its item, and raises the generation. The next insertion takes its slot.
+    /// Takes the entry that the pointer names out, returns its item, and raises the generation. The next insertion takes its slot.
     /// Every other entry keeps its pointer, its item and its place in the order, and at most nine get another parent in the tree.
     ///
-    /// For a pointer that names no entry the answer is `InvalidPtr`, and nothing changes. It compares no keys, and takes
+    /// For a pointer that names no entry it returns `InvalidPtr`, and nothing changes. It compares no keys, and takes
     /// O(log n) time for n entries: O(1) for the list, and the repair of the ranks.
     pub fn remove(&mut self, p: P) -> InvalidationResult<T>
-        ensures value { valid_value result ≡ item_of self.old (P.index p, P.era p) }
+        ensures value { valid_value result ≡ item_of self.old (P.numbers p) }
         ensures overflow { OnSome (valid_value result)
             (has_overflowed result ≡ overflows_after P.Gen.greatest self.old.list.generation) }
-        ensures updates { Updates self.old self.new (P.index p, P.era p) None }
+        ensures updates { Updates self.old self.new (P.numbers p) None }
         ensures count { OnSome (valid_value result) (count self.old ≡ count self.new + 1) }
         ensures removed { OnSome (valid_value result)
-            (self.new.list ≡ removed P.Gen.greatest self.old.list (P.index p)) }
+            (self.new.list ≡ removed P.Gen.greatest self.old.list (P.numbers p).0) }
         ensures shape { OnSome (valid_value result) (IsShrunk self.old.shape self.new.shape) }
         ensures invalid { IfNone (valid_value result) (self.new ≡ self.old) }
     {
@@ -36,9 +36,9 @@ impl<P: Ptr, T, A: Allocator> SimpleOrdArena<P, T, A> {
         item_taken::<P, T>(self.tree.remove_entry(p.inx()).valid())
     }
 
-    /// Takes the entry at the index out, as `remove` does, and answers its generation and its item.
+    /// Takes the entry at the index out, as `remove` does, and returns its generation and its item.
     ///
-    /// At an index without an entry the answer is `InvalidPtr`, and nothing changes.
+    /// At an index without an entry it returns `InvalidPtr`, and nothing changes.
     pub fn remove_inx(&mut self, i: P::Inx) -> InvalidationResult<(P::Gen, T)>
         ensures value { option_map (λ e. (P.Gen.number e.0, e.1)) (valid_value result)
             ≡ entry_at self.old (P.Inx.number i) }
@@ -58,19 +58,19 @@ impl<P: Ptr, T, A: Allocator> SimpleOrdArena<P, T, A> {
 
     /// Ends the pointer and gives its entry a new one, at the same index and place and with the raised generation. The item stays.
     ///
-    /// For a pointer that names no entry the answer is `InvalidPtr`, and nothing changes. It takes O(1) time.
+    /// For a pointer that names no entry it returns `InvalidPtr`, and nothing changes. It takes O(1) time.
     pub fn invalidate(&mut self, p: P) -> InvalidationResult<P>
-        ensures valid { is_some (valid_value result) ≡ is_some (item_of self.old (P.index p, P.era p)) }
-        ensures index { IfSome (valid_value result) (λ q. P.index q ≡ P.index p) }
-        ensures era { IfSome (valid_value result)
-            (λ q. P.era q ≡ next_generation P.Gen.greatest self.old.list.generation) }
+        ensures valid { is_some (valid_value result) ≡ is_some (item_of self.old (P.numbers p)) }
+        ensures index { IfSome (valid_value result) (λ q. (P.numbers q).0 ≡ (P.numbers p).0) }
+        ensures generation { IfSome (valid_value result)
+            (λ q. (P.numbers q).1 ≡ next_generation P.Gen.greatest self.old.list.generation) }
         ensures overflow { OnSome (valid_value result)
             (has_overflowed result ≡ overflows_after P.Gen.greatest self.old.list.generation) }
         ensures renews { IfSome (valid_value result)
-            (λ q. Renews self.old self.new (P.index p, P.era p) (P.index q, P.era q)) }
+            (λ q. Renews self.old self.new (P.numbers p) (P.numbers q)) }
         ensures count { count self.new ≡ count self.old }
         ensures renewed { OnSome (valid_value result)
-            (self.new ≡ record self.old { list = renewed P.Gen.greatest self.old.list (P.index p) }) }
+            (self.new ≡ record self.old { list = renewed P.Gen.greatest self.old.list (P.numbers p).0 }) }
         ensures invalid { IfNone (valid_value result) (self.new ≡ self.old) }
     {
         self.tree.invalidate(p)
@@ -90,7 +90,7 @@ impl<P: Ptr, T, A: Allocator> SimpleOrdArena<P, T, A> {
     }
 }
 
-// The answer of the tree, without the generation.
+// The result of the tree, without the generation.
 fn item_taken<P: Ptr, T>(taken: InvalidationResult<(P::Gen, T)>) -> InvalidationResult<T>
     ensures value { valid_value result ≡ option_map (λ e. e.1) (valid_value taken) }
     ensures overflow { has_overflowed result ≡ has_overflowed taken }

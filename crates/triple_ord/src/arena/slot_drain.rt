@@ -57,7 +57,7 @@ impl<'a, P: Ptr, T: Drop, A: Allocator> Drop for Drain<'a, P, T, A> {
 impl<'a, P: Ptr, T: Drop, A: Allocator> Iterator for Drain<'a, P, T, A> {
     type Item = InvalidationOption<(P, T)>;
 
-    ghost next_gives = { DrainSteps P.Gen.greatest P.index P.era };
+    ghost next_gives = { DrainSteps P.Gen.greatest P.numbers };
 
     ghost remaining = { item_count drain_rest };
 

@@ -15,7 +15,7 @@ use std::alloc::Allocator;
 impl<P: Ptr, T, A: Allocator> SimpleOrdArena<P, T, A> {
     /// The pointer of the entry with the least index, in O(capacity).
     pub fn find_first_inx_ptr(&self) -> Option<P>
-        ensures first { IfSome result (λ p. IsFirstIndex self.now.list.entries (P.index p) (P.era p)) }
+        ensures first { IfSome result (λ p. IsFirstIndex self.now.list.entries (P.numbers p).0 (P.numbers p).1) }
         ensures empty { IsNone result ↔ (count self.now ≡ 0) }
     {
         self.tree.chain().find_first_inx_ptr()
@@ -23,7 +23,7 @@ impl<P: Ptr, T, A: Allocator> SimpleOrdArena<P, T, A> {
 
     /// The pointer of the entry with the greatest index, in O(capacity).
     pub fn find_last_inx_ptr(&self) -> Option<P>
-        ensures last { IfSome result (λ p. IsLastIndex self.now.list.entries (P.index p) (P.era p)) }
+        ensures last { IfSome result (λ p. IsLastIndex self.now.list.entries (P.numbers p).0 (P.numbers p).1) }
         ensures empty { IsNone result ↔ (count self.now ≡ 0) }
     {
         self.tree.chain().find_last_inx_ptr()
@@ -56,7 +56,7 @@ type Nodes<P, T, A> = Arena<P, LinkNoGen<P, SimpleOrdArenaNode<P, T>>, A>;
 impl<P: Ptr, T, A: Allocator> Advancer<SimpleOrdArena<P, T, A>> for PtrAdvancer<P> {
     type Item = P;
 
-    ghost advance_gives = { SlotWalkSteps P.index P.era };
+    ghost advance_gives = { SlotWalkSteps P.numbers };
 
     ghost has_ended = { HasEnded };
 

@@ -1,7 +1,6 @@
 //! `SimpleOrdArena` as an arena among others.
 ghost use Rattle.triple_ord.specs.Content.{content_of};
 ghost use Rattle.triple_ord.specs.ContentLaws.{content-written};
-ghost use Rattle.ord_tree.specs.Tree.{with_item_in};
 
 use super::SimpleOrdArena;
 use arena_base::{
@@ -17,8 +16,6 @@ impl<P: Ptr, T, A: Allocator + Copy> ArenaTrait<P, T> for SimpleOrdArena<P, T, A
     type Alloc = A;
 
     ghost content = { content_of };
-
-    ghost written = { with_item_in };
 
     ghost written_content = { content-written };
 
@@ -58,11 +55,6 @@ impl<P: Ptr, T, A: Allocator + Copy> ArenaTrait<P, T> for SimpleOrdArena<P, T, A
         self.contains(p)
     }
 
-    fn contains_inx(&self, i: P::Inx) -> bool {
-        let _ = self.len();
-        self.contains_inx(i)
-    }
-
     fn singular_generation(&self) -> Option<P::Gen> {
         Some(self.generation())
     }
@@ -80,16 +72,6 @@ impl<P: Ptr, T, A: Allocator + Copy> ArenaTrait<P, T> for SimpleOrdArena<P, T, A
     fn get_inx(&self, i: P::Inx) -> Option<(P::Gen, &T)> {
         let _ = self.len();
         self.get_inx(i)
-    }
-
-    fn get_inx_mut(&mut self, i: P::Inx) -> Option<(P::Gen, &mut T)> {
-        let _ = self.len();
-        self.get_inx_mut(i)
-    }
-
-    fn pair_mut(&mut self, i: P::Inx) -> (P::Gen, &mut T) {
-        let _ = self.len();
-        self.pair_mut(i)
     }
 
     fn find_first_inx_ptr(&self) -> Option<P> {

@@ -1,29 +1,44 @@
 //! Writing items in place. Each entry keeps its pointer and its place, and the shape stays.
 ghost use Rattle.std.specs.Prelude.{◌≡◌, Some, IsSome};
-ghost use Rattle.std.specs.Option.{option_copied_mut, option_map};
-ghost use Rattle.std.specs.Borrow.{sem};
-ghost use Rattle.chain_base.specs.Chain.{IsOccupied};
+ghost use Rattle.std.specs.Option.{option_copied_mut};
+ghost use Rattle.std.specs.Borrow.{sem, Lends, LendsIf};
+ghost use Rattle.ord_tree.specs.Tree.{with_item};
 ghost use Rattle.triple_ord.specs.Arena.{item_of, entry_at};
 
 use super::SimpleOrdArena;
-use arena_base::Ptr;
+use arena_base::{ItemsMut, Ptr};
 use std::alloc::Allocator;
 use std::ops::IndexMut;
 
+/// Writes by index take O(1). What `get_mut` says of an item's key holds here too.
+impl<P: Ptr, T, A: Allocator> ItemsMut<P, T> for SimpleOrdArena<P, T, A> {
+    ghost entry_at = { entry_at };
+
+    ghost written = { with_item };
+
+    fn contains_inx(&self, i: P::Inx) -> bool {
+        self.contains_inx(i)
+    }
+
+    fn pair_mut(&mut self, i: P::Inx) -> (P::Gen, &mut T) {
+        self.tree.pair_mut(i)
+    }
+}
+
 impl<P: Ptr, T, A: Allocator> SimpleOrdArena<P, T, A> {
-    ghost use Rattle.triple_ord.specs.Lends.{lends_item, lends_found};
+    ghost use Rattle.triple_ord.specs.contracts.arena.SimpleOrdArena.{the_row};
 
     /// The item that the pointer names, to be written, in O(1).
     ///
     /// Where its key is written too, the entry stays in its place: later searches may then miss it or others, and nothing else is
     /// harmed.
     pub fn get_mut(&mut self, p: P) -> Option<&mut T>
-        ensures* writes_back { sem 𝓛 (lends_found P.row T.row A.row P.Inx.row P.Gen.row
+        ensures* writes_back { sem 𝓛 (LendsIf (the_row P.row T.row A.row P.Inx.row P.Gen.row
             P.Ptr.own P.PartialEq P.Ord.own P.PartialOrd.own P.Hash.own P.Debug
             P.Inx.PtrInx.own P.Inx.PartialEq P.Inx.Ord.own P.Inx.PartialOrd.own P.Inx.Hash.own P.Inx.Debug
-            P.Gen.PtrGen.own P.Gen.PartialEq P.Gen.Debug A.Allocator
-            self.entry (P.index p) result) }
-        ensures value { option_copied_mut result ≡ item_of self.old (P.index p, P.era p) }
+            P.Gen.PtrGen.own P.Gen.PartialEq P.Gen.Debug A.Allocator)
+            T.row self.entry result (with_item self.old (P.numbers p).0) self.old) }
+        ensures value { option_copied_mut result ≡ item_of self.old (P.numbers p) }
     {
         if self.contains(p) {
             self.tree.item_at_mut(p.inx())
@@ -31,43 +46,19 @@ impl<P: Ptr, T, A: Allocator> SimpleOrdArena<P, T, A> {
             None
         }
     }
-
-    /// Generation and item of the entry at the index, in O(1); the item may be written, as with `get_mut`.
-    ///
-    /// Its clause says what it gives, and can't say what it leaves. It hands on to the tree's call of this name, which calls
-    /// `pair_mut` where there is an entry, and does nothing else.
-    pub fn get_inx_mut(&mut self, i: P::Inx) -> Option<(P::Gen, &mut T)>
-        ensures value { option_map (λ e. (P.Gen.number e.0, e.1.now)) result
-            ≡ entry_at self.old (P.Inx.number i) }
-    {
-        self.tree.get_inx_mut(i)
-    }
-
-    /// Generation and item of the entry at an index that has one, in O(1); the item may be written, as with `get_mut`.
-    pub fn pair_mut(&mut self, i: P::Inx) -> (P::Gen, &mut T)
-        requires { IsOccupied self.old.list (P.Inx.number i) }
-        ensures* writes_back { sem 𝓛 (lends_item P.row T.row A.row P.Inx.row P.Gen.row
-            P.Ptr.own P.PartialEq P.Ord.own P.PartialOrd.own P.Hash.own P.Debug
-            P.Inx.PtrInx.own P.Inx.PartialEq P.Inx.Ord.own P.Inx.PartialOrd.own P.Inx.Hash.own P.Inx.Debug
-            P.Gen.PtrGen.own P.Gen.PartialEq P.Gen.Debug A.Allocator
-            self.entry (P.Inx.number i) result.1) }
-        ensures value { entry_at self.old (P.Inx.number i) ≡ Some (P.Gen.number result.0, result.1.now) }
-    {
-        self.tree.pair_mut(i)
-    }
 }
 
 impl<P: Ptr, T, A: Allocator> IndexMut<P> for SimpleOrdArena<P, T, A> {
-    ghost use Rattle.triple_ord.specs.Lends.{lends_item};
+    ghost use Rattle.triple_ord.specs.contracts.arena.SimpleOrdArena.{the_row};
 
     fn index_mut(&mut self, p: P) -> &mut T
-        requires { IsSome (item_of self.old (P.index p, P.era p)) }
-        ensures* writes_back { sem 𝓛 (lends_item P.row T.row A.row P.Inx.row P.Gen.row
+        requires { IsSome (item_of self.old (P.numbers p)) }
+        ensures* writes_back { sem 𝓛 (Lends (the_row P.row T.row A.row P.Inx.row P.Gen.row
             P.Ptr.own P.PartialEq P.Ord.own P.PartialOrd.own P.Hash.own P.Debug
             P.Inx.PtrInx.own P.Inx.PartialEq P.Inx.Ord.own P.Inx.PartialOrd.own P.Inx.Hash.own P.Inx.Debug
-            P.Gen.PtrGen.own P.Gen.PartialEq P.Gen.Debug A.Allocator
-            self.entry (P.index p) result) }
-        ensures value { item_of self.old (P.index p, P.era p) ≡ Some result.now }
+            P.Gen.PtrGen.own P.Gen.PartialEq P.Gen.Debug A.Allocator)
+            T.row self.entry result (with_item self.old (P.numbers p).0)) }
+        ensures value { item_of self.old (P.numbers p) ≡ Some result.now }
     {
         self.tree.pair_mut(p.inx()).1
     }

@@ -1,13 +1,13 @@
 //! Searches by a closure over the five keys: in the order of the list 10, 30, 50, 60, 70, at the indexes 5, 2, 1, 4, 3.
-use super::{keys, numbers};
+use super::{Keys, keys, numbers};
 use arena_base::{P0, Ptr};
 use std::cell::Cell;
 use std::cmp::Ordering;
+use std::process::Abort;
 use std::test::Fail;
 
-#[test]
-fn always_less(rt: HostRuntime) -> Result<(), Fail> {
-    let a = keys(rt.alloc(), &[50, 30, 70, 60, 10])?;
+/// A closure that always says less is shown the keys 50, 30 and 10.
+fn shows_three_keys(rt: &impl Abort, a: &Keys) {
     let mut calls = 0u64;
     let mut shown = [0u64; 3];
     let (found, visits) = a.find_similar_with_counted(&mut |_p: P0, item| {
@@ -17,10 +17,14 @@ fn always_less(rt: HostRuntime) -> Result<(), Fail> {
         calls = calls.wrapping_add(1);
         Ordering::Less
     });
-    assert_eq!(rt; visits.count(), 3);
-    assert_eq!(rt; calls, 3);
-    assert_eq!(rt; shown, [50, 30, 10]);
+    assert_eq!(rt; (visits.count(), calls, shown), (3, 3, [50, 30, 10]));
     assert_eq!(rt; found.map(|a| (a.0.inx(), a.1)), Some((5, Ordering::Less)));
+}
+
+#[test]
+fn always_less(rt: HostRuntime) -> Result<(), Fail> {
+    let a = keys(rt.alloc(), &[50, 30, 70, 60, 10])?;
+    shows_three_keys(&rt, &a);
     assert_eq!(rt; numbers(a.find_with(|_p: P0, _item| Ordering::Less)), None);
     assert_eq!(rt;
         numbers(a.find_with(|p: P0, _item| p.inx().cmp(&1))),
@@ -53,36 +57,45 @@ fn taken(calls: &Cell<u128>) -> u128 {
     calls.replace(0)
 }
 
+/// A search for a key by a closure calls it once a visit, and finds what a search for the key does.
+fn find_with_calls(rt: &impl Abort, a: &Keys, calls: &Cell<u128>, key: u64) {
+    let (found, visits) = a.find_with_counted(&mut |_p: P0, item| {
+        calls.set(calls.get().wrapping_add(1));
+        key.cmp(item.k())
+    });
+    assert_eq!(rt; taken(calls), visits.count());
+    assert_eq!(rt; found, a.find_key(&key));
+    let plain = a.find_with(|_p: P0, item| {
+        calls.set(calls.get().wrapping_add(1));
+        key.cmp(item.k())
+    });
+    assert_eq!(rt; plain, found);
+    assert_eq!(rt; taken(calls), visits.count());
+}
+
+/// The same of a search for a similar key.
+fn find_similar_with_calls(rt: &impl Abort, a: &Keys, calls: &Cell<u128>, key: u64) {
+    let (similar, visits) = a.find_similar_with_counted(&mut |_p: P0, item| {
+        calls.set(calls.get().wrapping_add(1));
+        key.cmp(item.k())
+    });
+    assert_eq!(rt; taken(calls), visits.count());
+    assert_eq!(rt; similar, a.find_similar_key(&key));
+    let plain = a.find_similar_with(|_p: P0, item| {
+        calls.set(calls.get().wrapping_add(1));
+        key.cmp(item.k())
+    });
+    assert_eq!(rt; plain, similar);
+    assert_eq!(rt; taken(calls), visits.count());
+}
+
 #[test]
 fn visits_are_calls(rt: HostRuntime) -> Result<(), Fail> {
     let a = keys(rt.alloc(), &[50, 30, 70, 60, 10])?;
-    let made = Cell::new(0u128);
-    let calls = &made;
+    let calls = Cell::new(0u128);
     for key in [50u64, 30, 70, 60, 10, 53, 40, 5, 99] {
-        let (found, visits) = a.find_with_counted(&mut |_p: P0, item| {
-            calls.set(calls.get().wrapping_add(1));
-            key.cmp(item.k())
-        });
-        assert_eq!(rt; taken(calls), visits.count());
-        assert_eq!(rt; found, a.find_key(&key));
-        let plain = a.find_with(|_p: P0, item| {
-            calls.set(calls.get().wrapping_add(1));
-            key.cmp(item.k())
-        });
-        assert_eq!(rt; plain, found);
-        assert_eq!(rt; taken(calls), visits.count());
-        let (similar, visits) = a.find_similar_with_counted(&mut |_p: P0, item| {
-            calls.set(calls.get().wrapping_add(1));
-            key.cmp(item.k())
-        });
-        assert_eq!(rt; taken(calls), visits.count());
-        assert_eq!(rt; similar, a.find_similar_key(&key));
-        let plain = a.find_similar_with(|_p: P0, item| {
-            calls.set(calls.get().wrapping_add(1));
-            key.cmp(item.k())
-        });
-        assert_eq!(rt; plain, similar);
-        assert_eq!(rt; taken(calls), visits.count());
+        find_with_calls(&rt, &a, &calls, key);
+        find_similar_with_calls(&rt, &a, &calls, key);
     }
     Ok(())
 }

@@ -1,8 +1,8 @@
 //! Insertions and removals in every order of up to five keys, and of six keys in part, against a plain sorted vector.
 ghost use Rattle.std.specs.Prelude.{◌<◌};
 
-use super::removal::{moved, parents};
-use super::{Keys, keys, order};
+use super::removal::remove_key;
+use super::{Keys, keys, order_is};
 use arena_base::Ptr;
 use std::alloc::{AllocError, Global};
 use std::process::Abort;
@@ -92,20 +92,30 @@ fn without(alloc: Global, sorted: &[u64], key: u64) -> Result<Vec<u64>, AllocErr
     Ok(left)
 }
 
+/// An arena that keeps the rank rules, with just these keys of those from 1 to n.
+fn holds(
+    rt: &impl Abort,
+    alloc: Global,
+    a: &Keys,
+    n: u64,
+    sorted: &[u64],
+) -> Result<(), AllocError> {
+    order_is(rt, alloc, a, sorted)?;
+    assert!(rt; has_ranks(a));
+    assert!(rt; finds_exactly(a, n, sorted));
+    Ok(())
+}
+
 /// Inserts the keys in the first order and removes them in the second one.
 fn goes_through(rt: &impl Abort, alloc: Global, first: &[u64], second: &[u64]) -> Result<(), Fail> {
     let n = first.len() as u64;
     let mut a = keys(alloc, first)?;
     let mut sorted = keys_in_order_of(alloc, n, 0)?;
-    assert!(rt; order(alloc, &a)? == sorted && has_ranks(&a));
+    holds(rt, alloc, &a, n, sorted.as_slice())?;
     for key in second {
-        let before = parents(alloc, &a)?;
-        let p = a.find_key(key).ok_or("the key")?;
-        assert!(rt; a.remove(p).allow().is_some());
+        assert!(rt; remove_key(rt, alloc, &mut a, *key)? <= 9);
         sorted = without(alloc, sorted.as_slice(), *key)?;
-        assert!(rt; order(alloc, &a)? == sorted && has_ranks(&a));
-        assert!(rt; finds_exactly(&a, n, sorted.as_slice()));
-        assert!(rt; moved(before.as_slice(), parents(alloc, &a)?.as_slice()) <= 9);
+        holds(rt, alloc, &a, n, sorted.as_slice())?;
     }
     assert!(rt; a.is_empty());
     Ok(())

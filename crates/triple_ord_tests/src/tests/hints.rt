@@ -1,9 +1,40 @@
 //! Searches from a hint over the five keys: in the order of the list 10, 30, 50, 60, 70, at the indexes 5, 2, 1, 4, 3.
-use super::{keys, numbers};
+use super::{Keys, keys, numbers};
 use arena_base::{P0, Ptr};
 use std::cmp::Ordering;
+use std::process::Abort;
 use std::test::Fail;
-use triple_ord::{OrdPair, SimpleOrdArena};
+use triple_ord::OrdPair;
+
+/// A search for a similar key from an index, after so many steps at most, ends at this index and order, after so many visits.
+fn similar_key_from(
+    rt: &impl Abort,
+    a: &Keys,
+    (hint, num): (u32, usize),
+    key: u64,
+    wanted: Option<(u32, Ordering)>,
+    visits: u128,
+) {
+    let (found, counted) = a.find_similar_key_linear_counted(hint, num, &key);
+    assert_eq!(rt; found.map(|a| (a.0.inx(), a.1)), wanted);
+    assert_eq!(rt; counted.count(), visits);
+    assert_eq!(rt; a.find_similar_key_linear(hint, num, &key), found);
+}
+
+/// A search for an equal key from a pointer, after so many steps at most, finds this pointer, or none, after so many visits.
+fn equal_key_from(
+    rt: &impl Abort,
+    a: &Keys,
+    (p, num): (P0, usize),
+    key: u64,
+    wanted: Option<(u32, u64)>,
+    visits: u128,
+) {
+    let (found, counted) = a.find_key_linear_counted(p, num, &key);
+    assert_eq!(rt; numbers(found), wanted);
+    assert_eq!(rt; counted.count(), visits);
+    assert_eq!(rt; a.find_key_linear(p, num, &key), found);
+}
 
 #[test]
 fn similar_keys(rt: HostRuntime) -> Result<(), Fail> {
@@ -30,10 +61,7 @@ fn similar_keys(rt: HostRuntime) -> Result<(), Fail> {
         (3, usize::MAX, 5, 5, Ordering::Less, 5),
     ];
     for (hint, num, key, index, order, visits) in rows {
-        let (found, counted) = a.find_similar_key_linear_counted(hint, num, &key);
-        assert_eq!(rt; found.map(|a| (a.0.inx(), a.1)), Some((index, order)));
-        assert_eq!(rt; counted.count(), visits);
-        assert_eq!(rt; a.find_similar_key_linear(hint, num, &key), found);
+        similar_key_from(&rt, &a, (hint, num), key, Some((index, order)), visits);
     }
     Ok(())
 }
@@ -56,24 +84,17 @@ fn equal_keys(rt: HostRuntime) -> Result<(), Fail> {
     ];
     for ((index, generation), num, key, expected, visits) in rows {
         let p = P0::_from_raw(index, generation);
-        let (found, counted) = a.find_key_linear_counted(p, num, &key);
-        assert_eq!(rt; numbers(found), expected);
-        assert_eq!(rt; counted.count(), visits);
-        assert_eq!(rt; a.find_key_linear(p, num, &key), found);
+        equal_key_from(&rt, &a, (p, num), key, expected, visits);
     }
     Ok(())
 }
 
 #[test]
 fn no_entry(rt: HostRuntime) -> Result<(), Fail> {
-    let a: SimpleOrdArena<P0, OrdPair<u64, ()>> = SimpleOrdArena::new(rt.alloc());
+    let a = keys(rt.alloc(), &[])?;
     for num in [0, 1, usize::MAX] {
-        let (found, visits) = a.find_similar_key_linear_counted(1, num, &7);
-        assert_eq!(rt; found, None);
-        assert_eq!(rt; visits.count(), 0);
-        let (found, visits) = a.find_key_linear_counted(P0::_from_raw(1, 2), num, &7);
-        assert_eq!(rt; found, None);
-        assert_eq!(rt; visits.count(), 0);
+        similar_key_from(&rt, &a, (1, num), 7, None, 0);
+        equal_key_from(&rt, &a, (P0::_from_raw(1, 2), num), 7, None, 0);
     }
     assert!(rt;
         a.find_similar_with(|_p: P0, _item| Ordering::Less)
@@ -85,21 +106,11 @@ fn no_entry(rt: HostRuntime) -> Result<(), Fail> {
 /// Keys out of order: the hint leads to a gap that fits all the same.
 #[test]
 fn out_of_order(rt: HostRuntime) -> Result<(), Fail> {
-    let mut a: SimpleOrdArena<P0, OrdPair<u64, ()>> = SimpleOrdArena::new(rt.alloc());
-    for key in [1u64, 2, 3] {
-        let _ = a.insert(OrdPair::new(key, ()))?;
-    }
+    let mut a = keys(rt.alloc(), &[1, 2, 3])?;
     if let Some(pair) = a.get_mut(P0::_from_raw(2, 2)) {
         *pair = OrdPair::new(9, ());
     }
-    let (found, visits) = a.find_similar_key_linear_counted(3, 3, &5);
-    assert_eq!(rt;
-        found.map(|a| (a.0.inx(), a.1)),
-        Some((3, Ordering::Greater))
-    );
-    assert_eq!(rt; visits.count(), 1);
-    let (found, visits) = a.find_similar_key_linear_counted(1, 3, &5);
-    assert_eq!(rt; found.map(|a| (a.0.inx(), a.1)), Some((2, Ordering::Less)));
-    assert_eq!(rt; visits.count(), 2);
+    similar_key_from(&rt, &a, (3, 3), 5, Some((3, Ordering::Greater)), 1);
+    similar_key_from(&rt, &a, (1, 3), 5, Some((2, Ordering::Less)), 2);
     Ok(())
 }

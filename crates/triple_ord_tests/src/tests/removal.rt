@@ -1,5 +1,5 @@
 //! Removals, seen through the nodes.
-use super::{Keys, keys, numbers, order, ranks};
+use super::{Keys, is_refused_memory, keys, numbers, order_is, ranks_are};
 use arena_base::{InvalidationOption, InvalidationResult, P0, P8, Ptr};
 use linked_list_allocator::LocalHeap;
 use std::alloc::{AllocError, Allocator, Global};
@@ -34,13 +34,43 @@ pub fn moved(old: &[(u32, Option<u32>)], new: &[(u32, Option<u32>)]) -> usize {
     moved
 }
 
+/// How many entries have another parent than before.
+fn moved_since(
+    alloc: Global,
+    before: &[(u32, Option<u32>)],
+    a: &Keys,
+) -> Result<usize, AllocError> {
+    Ok(moved(before, parents(alloc, a)?.as_slice()))
+}
+
 /// Removes the entry of a key, and answers how many others got another parent.
-fn remove_key(rt: &impl Abort, alloc: Global, a: &mut Keys, key: u64) -> Result<usize, Fail> {
+pub fn remove_key(rt: &impl Abort, alloc: Global, a: &mut Keys, key: u64) -> Result<usize, Fail> {
     let before = parents(alloc, a)?;
     let p = a.find_key(&key).ok_or("the key")?;
     let taken = a.remove(p).allow().ok_or("the entry")?;
     assert_eq!(rt; *taken.k(), key);
-    Ok(moved(before.as_slice(), parents(alloc, a)?.as_slice()))
+    Ok(moved_since(alloc, before.as_slice(), a)?)
+}
+
+/// The pointers in order have these numbers.
+fn pointers_are(
+    rt: &impl Abort,
+    alloc: Global,
+    a: &Keys,
+    wanted: &[(u32, u64)],
+) -> Result<(), AllocError> {
+    let mut pointers = Vec::new(alloc);
+    for (p, _) in a {
+        pointers.push((p.inx(), p.generation()))?;
+    }
+    assert_eq!(rt; pointers.as_slice(), wanted);
+    Ok(())
+}
+
+/// What a removal answers, and the generation after it.
+fn removes(rt: &impl Abort, a: &mut Keys, p: P0, wanted: InvalidationResult<OrdPair<u64, ()>>) {
+    assert!(rt; a.remove(p) == wanted);
+    assert_eq!(rt; a.generation(), 3);
 }
 
 #[test]
@@ -48,23 +78,12 @@ fn five_keys_without_the_root(rt: HostRuntime) -> Result<(), Fail> {
     let mut a = keys(rt.alloc(), &[50, 30, 70, 60, 10])?;
     let p50 = a.find_key(&50).ok_or("50")?;
     let before = parents(rt.alloc(), &a)?;
-    let taken = a.remove(p50);
-    assert!(rt; taken == InvalidationResult::Success(OrdPair::new(50, ())));
-    assert_eq!(rt;
-        moved(before.as_slice(), parents(rt.alloc(), &a)?.as_slice()),
-        2
-    );
-    let mut pointers = Vec::new(rt.alloc());
-    for (p, _) in &a {
-        pointers.push((p.inx(), p.generation()))?;
-    }
-    let left = [(5u32, 2u64), (2, 2), (4, 2), (3, 2)];
-    assert_eq!(rt; pointers.as_slice(), left.as_slice());
-    let ranked = [(5u32, 1u8), (2, 3), (4, 1), (3, 2)];
-    assert_eq!(rt; ranks(rt.alloc(), &a)?.as_slice(), ranked.as_slice());
-    assert_eq!(rt; a.generation(), 3);
-    assert!(rt; a.remove(p50) == InvalidationResult::InvalidPtr);
-    assert_eq!(rt; a.generation(), 3);
+    let taken = InvalidationResult::Success(OrdPair::new(50, ()));
+    removes(&rt, &mut a, p50, taken);
+    assert_eq!(rt; moved_since(rt.alloc(), before.as_slice(), &a)?, 2);
+    pointers_are(&rt, rt.alloc(), &a, &[(5, 2), (2, 2), (4, 2), (3, 2)])?;
+    ranks_are(&rt, rt.alloc(), &a, &[(5, 1), (2, 3), (4, 1), (3, 2)])?;
+    removes(&rt, &mut a, p50, InvalidationResult::InvalidPtr);
     Ok(())
 }
 
@@ -72,15 +91,10 @@ fn five_keys_without_the_root(rt: HostRuntime) -> Result<(), Fail> {
 fn four_keys_without_the_first(rt: HostRuntime) -> Result<(), Fail> {
     let mut ascending = keys(rt.alloc(), &[1, 2, 3, 4])?;
     assert_eq!(rt; remove_key(&rt, rt.alloc(), &mut ascending, 1)?, 2);
-    let of_ascending = [(2u32, 1u8), (3, 3), (4, 1)];
-    assert_eq!(rt;
-        ranks(rt.alloc(), &ascending)?.as_slice(),
-        of_ascending.as_slice()
-    );
+    ranks_are(&rt, rt.alloc(), &ascending, &[(2, 1), (3, 3), (4, 1)])?;
     let mut other = keys(rt.alloc(), &[1, 2, 4, 3])?;
     let _ = remove_key(&rt, rt.alloc(), &mut other, 1)?;
-    let of_other = [(2u32, 1u8), (4, 3), (3, 1)];
-    assert_eq!(rt; ranks(rt.alloc(), &other)?.as_slice(), of_other.as_slice());
+    ranks_are(&rt, rt.alloc(), &other, &[(2, 1), (4, 3), (3, 1)])?;
     Ok(())
 }
 
@@ -91,26 +105,30 @@ fn nine_moved_parents(rt: HostRuntime) -> Result<(), Fail> {
     ];
     let mut a = keys(rt.alloc(), list.as_slice())?;
     let before = parents(rt.alloc(), &a)?;
-    assert!(rt; a.remove_inx(1) == InvalidationResult::Success((2, OrdPair::new(14, ()))));
-    assert_eq!(rt;
-        moved(before.as_slice(), parents(rt.alloc(), &a)?.as_slice()),
-        9
-    );
+    let taken = a.remove_inx(1);
+    assert!(rt; taken == InvalidationResult::Success((2, OrdPair::new(14, ()))));
+    assert_eq!(rt; moved_since(rt.alloc(), before.as_slice(), &a)?, 9);
     Ok(())
+}
+
+/// Inserts a key and removes its entry again. Answers what the removal said.
+fn put_and_take(
+    a: &mut SimpleOrdArena<P8, OrdPair<u64, ()>>,
+    key: u64,
+) -> Result<InvalidationResult<OrdPair<u64, ()>>, OrdInsertionError> {
+    let (p, _) = a.insert(OrdPair::new(key, ()))?;
+    Ok(a.remove(p))
 }
 
 #[test]
 fn generations_of_eight_bits_begin_again(rt: HostRuntime) -> Result<(), Fail> {
     let mut a: SimpleOrdArena<P8, OrdPair<u64, ()>> = SimpleOrdArena::new(rt.alloc());
-    for n in 1u64..=254 {
-        let (p, _) = a.insert(OrdPair::new(n, ()))?;
-        let pair = OrdPair::new(n, ());
-        if n < 254 {
-            assert!(rt; a.remove(p) == InvalidationResult::Success(pair));
-        } else {
-            assert!(rt; a.remove(p) == InvalidationResult::GenerationOverflow(pair));
-        }
+    for n in 1u64..254 {
+        let taken = put_and_take(&mut a, n)?;
+        assert!(rt; taken == InvalidationResult::Success(OrdPair::new(n, ())));
     }
+    let taken = put_and_take(&mut a, 254)?;
+    assert!(rt; taken == InvalidationResult::GenerationOverflow(OrdPair::new(254, ())));
     assert_eq!(rt; (a.generation(), a.len()), (2, 0));
     a.set_generation(255);
     assert!(rt; a.clear() == InvalidationOption::GenerationOverflow(()));
@@ -127,12 +145,11 @@ fn keys_out_of_order(rt: HostRuntime) -> Result<(), Fail> {
     *a.get_mut(p2).ok_or("2")? = OrdPair::new(9, ());
     let (found, visits) = a.find_key_counted(&3);
     assert!(rt; found.is_none() && visits.count() == 2);
-    assert_eq!(rt; order(rt.alloc(), &a)?.as_slice(), [1u64, 9, 3].as_slice());
+    order_is(&rt, rt.alloc(), &a, &[1, 9, 3])?;
     let first = a.first().ok_or("first")?;
     assert_eq!(rt; numbers(Some(first)), Some((1, 2)));
     assert!(rt; a.remove(first) == InvalidationResult::Success(OrdPair::new(1, ())));
-    let ranked = [(2u32, 2u8), (3, 1)];
-    assert_eq!(rt; ranks(rt.alloc(), &a)?.as_slice(), ranked.as_slice());
+    ranks_are(&rt, rt.alloc(), &a, &[(2, 2), (3, 1)])?;
     Ok(())
 }
 
@@ -147,28 +164,40 @@ fn drained(alloc: Global, heap: &LocalHeap) -> Result<Vec<Vec<u8, &LocalHeap>>, 
     Ok(blocks)
 }
 
+/// Removes the entry of a key.
+fn remove_from_heap(
+    rt: &impl Abort,
+    a: &mut Keys<&LocalHeap>,
+    key: u64,
+) -> Result<(), &'static str> {
+    let p = a.find_key(&key).ok_or("the key")?;
+    assert!(rt; a.remove(p).allow().is_some());
+    Ok(())
+}
+
+/// Gives the entry of a key another pointer.
+fn renew_on_heap(rt: &impl Abort, a: &mut Keys<&LocalHeap>, key: u64) -> Result<(), &'static str> {
+    let p = a.find_key(&key).ok_or("the key")?;
+    let new = a.invalidate(p).allow().ok_or("the entry")?;
+    assert!(rt; !a.contains(p) && a.contains(new));
+    Ok(())
+}
+
 #[test]
 fn removals_take_no_memory(rt: HostRuntime) -> Result<(), Fail> {
     let heap = LocalHeap::new(rt.alloc(), 4096)?;
     let mut a: Keys<&LocalHeap> = SimpleOrdArena::new(&heap);
     for key in [50u64, 30, 70, 60, 10, 20, 90, 80] {
-        let _ = a.insert(OrdPair::new(key, ()))?;
+        assert!(rt; !is_refused_memory(&rt, &mut a, key));
     }
     let _blocks = drained(rt.alloc(), &heap)?;
-    let refused = a.insert(OrdPair::new(40, ()));
-    assert_eq!(rt; refused.err(), Some(OrdInsertionError::AllocError));
+    assert!(rt; is_refused_memory(&rt, &mut a, 40));
     for key in [50u64, 30, 70] {
-        let p = a.find_key(&key).ok_or("the key")?;
-        assert!(rt; a.remove(p).allow().is_some());
+        remove_from_heap(&rt, &mut a, key)?;
     }
-    let p60 = a.find_key(&60).ok_or("60")?;
-    let new = a.invalidate(p60).allow().ok_or("60")?;
-    assert!(rt; !a.contains(p60) && a.contains(new));
-    assert_eq!(rt;
-        order(rt.alloc(), &a)?.as_slice(),
-        [10u64, 20, 60, 80, 90].as_slice()
-    );
-    let _ = a.insert(OrdPair::new(40, ()))?;
+    renew_on_heap(&rt, &mut a, 60)?;
+    order_is(&rt, rt.alloc(), &a, &[10, 20, 60, 80, 90])?;
+    assert!(rt; !is_refused_memory(&rt, &mut a, 40));
     a.clear().allow();
     assert_eq!(rt; (a.len(), a.capacity()), (0, 8));
     Ok(())

@@ -1,7 +1,7 @@
 //! Drains by index. The letters A, B, C, E stand at the indexes 2, 4, 1, 3.
 use super::numbers;
-use super::walks::{Letters, letters, put_five};
-use arena_base::{InvalidationOption, P0, P8, Ptr};
+use super::walks::{End, Letters, are_left, late_keys, letters, put_five};
+use arena_base::{InvalidationOption, P0, Ptr};
 use std::alloc::Global;
 use std::cell::Cell;
 use std::mem;
@@ -29,14 +29,6 @@ fn drains_by_index(rt: HostRuntime) -> Result<(), Fail> {
     Ok(())
 }
 
-/// How a drain ends.
-#[derive(Drop)]
-enum End {
-    Kept,
-    Forgotten,
-    Dropped,
-}
-
 /// The letters, drained of so many.
 fn letters_after(alloc: Global, taken: usize, end: End) -> Result<Letters<P0>, Fail> {
     let mut a = letters(alloc)?;
@@ -58,19 +50,19 @@ fn drains_by_index_end_early(rt: HostRuntime) -> Result<(), Fail> {
         let kept = letters_after(rt.alloc(), taken, End::Kept)?;
         let forgotten = letters_after(rt.alloc(), taken, End::Forgotten)?;
         let dropped = letters_after(rt.alloc(), taken, End::Dropped)?;
-        assert_eq!(rt; kept.len(), 4usize.saturating_sub(taken));
+        let left = 4usize.saturating_sub(taken);
+        are_left(&rt, &kept, left, generation);
+        are_left(&rt, &forgotten, left, generation);
         assert!(rt; kept.canonical_eq(&forgotten));
         assert_eq!(rt; SimpleOrdArena::_check_invariants(&kept), Ok(()));
-        assert_eq!(rt;
-            (kept.generation(), forgotten.generation()),
-            (generation, generation)
-        );
-        assert_eq!(rt;
-            (dropped.len(), dropped.generation()),
-            (0, generation.wrapping_add(1))
-        );
+        are_left(&rt, &dropped, 0, generation.wrapping_add(1));
     }
-    // A, B and E are left in the order of the list
+    Ok(())
+}
+
+/// After one, A, B and E are left in the order of the list.
+#[test]
+fn a_drain_by_index_leaves_the_order(rt: HostRuntime) -> Result<(), Fail> {
     let mut left = letters_after(rt.alloc(), 1, End::Kept)?.into_iter();
     for letter in ['A', 'B', 'E'] {
         assert_eq!(rt; left.next().map(|entry| *entry.1.k()), Some(letter));
@@ -104,13 +96,7 @@ fn items_drained_by_index_are_dropped_once(rt: HostRuntime) {
 /// The generations of eight bits begin again in the middle of a drain, at the second index, which isn't the second of the list.
 #[test]
 fn a_drain_by_index_overflows(rt: HostRuntime) -> Result<(), Fail> {
-    let mut a: SimpleOrdArena<P8, OrdPair<u64, ()>> = SimpleOrdArena::new(rt.alloc());
-    for key in [1u64, 3, 2] {
-        let _ = a.insert(OrdPair::new(key, ()))?;
-    }
-    for _ in 2..254u64 {
-        let _ = a.inc_generation();
-    }
+    let mut a = late_keys(rt.alloc(), &[1, 3, 2])?;
     let mut overflows = 0u64;
     for taken in a.drain() {
         if let InvalidationOption::GenerationOverflow((p, pair)) = taken {

@@ -1,37 +1,34 @@
 //! Going through an arena by index, its capacity, and an ordered arena as an arena among others. Five keys stand at the indexes 5, 2, 1,
 //! 4, 3, in the order of the list 10, 30, 50, 60, 70.
+use super::walks::{gives, gives_rest};
 use super::{Keys, keys, numbers};
 use arena_base::{MaxCapacityReductionError, P0, Ptr, ReallocationError, laws};
-use std::alloc::{AllocError, Global};
+use std::process::Abort;
 use std::test::Fail;
-use triple_ord::{Advancer, ArenaTrait, OrdPair, PtrAdvancer};
+use triple_ord::{ArenaTrait, OrdPair};
 
-/// The indexes that a walk gives from now on.
-fn rest(alloc: Global, walk: &mut PtrAdvancer<P0>, a: &Keys) -> Result<Vec<u32>, AllocError> {
-    let mut indexes = Vec::new(alloc);
-    for _ in 0..a.len() {
-        if let Some(p) = walk.advance(a) {
-            indexes.push(p.inx())?;
-        }
-    }
-    Ok(indexes)
+/// The first and the last pointer by index.
+fn inx_ends_are(rt: &impl Abort, a: &Keys, first: Option<(u32, u64)>, last: Option<(u32, u64)>) {
+    assert_eq!(rt; numbers(a.find_first_inx_ptr()), first);
+    assert_eq!(rt; numbers(a.find_last_inx_ptr()), last);
 }
 
 #[test]
 fn walks_by_index(rt: HostRuntime) -> Result<(), Fail> {
     let mut a = keys(rt.alloc(), &[50, 30, 70, 60, 10])?;
     let _ = a.remove(P0::_from_raw(2, 2));
-    assert_eq!(rt; numbers(a.find_first_inx_ptr()), Some((1, 2)));
-    assert_eq!(rt; numbers(a.find_last_inx_ptr()), Some((5, 2)));
-    let all = rest(rt.alloc(), &mut a.advancer(), &a)?;
-    assert_eq!(rt; all.as_slice(), [1, 3, 4, 5].as_slice());
-    let up = rest(rt.alloc(), &mut a.advancer_inx(2, false), &a)?;
-    assert_eq!(rt; up.as_slice(), [3, 4, 5].as_slice());
-    let down = rest(rt.alloc(), &mut a.advancer_inx(3, true), &a)?;
-    assert_eq!(rt; down.as_slice(), [3, 1].as_slice());
+    inx_ends_are(&rt, &a, Some((1, 2)), Some((5, 2)));
+    gives_rest(&rt, rt.alloc(), &mut a.advancer(), &a, &[1, 3, 4, 5])?;
+    gives_rest(
+        &rt,
+        rt.alloc(),
+        &mut a.advancer_inx(2, false),
+        &a,
+        &[3, 4, 5],
+    )?;
+    gives_rest(&rt, rt.alloc(), &mut a.advancer_inx(3, true), &a, &[3, 1])?;
     let _ = a.clear();
-    assert_eq!(rt; a.find_first_inx_ptr(), None);
-    assert_eq!(rt; a.find_last_inx_ptr(), None);
+    inx_ends_are(&rt, &a, None, None);
     Ok(())
 }
 
@@ -40,46 +37,70 @@ fn walks_by_index(rt: HostRuntime) -> Result<(), Fail> {
 fn walks_by_index_meet_changes(rt: HostRuntime) -> Result<(), Fail> {
     let mut a = keys(rt.alloc(), &[50, 30])?;
     let mut walk = a.advancer();
-    assert_eq!(rt; numbers(walk.advance(&a)), Some((1, 2)));
+    gives(&rt, &mut walk, &a, Some((1, 2)));
     let _ = a.remove(P0::_from_raw(2, 2));
-    assert_eq!(rt; walk.advance(&a), None);
+    gives(&rt, &mut walk, &a, None);
     let _ = a.insert(OrdPair::new(70, ()))?;
-    assert_eq!(rt; numbers(walk.advance(&a)), Some((2, 3)));
+    gives(&rt, &mut walk, &a, Some((2, 3)));
     Ok(())
+}
+
+/// A reallocation for so many ends so, and leaves this length and capacity.
+fn reallocates(
+    rt: &impl Abort,
+    a: &mut Keys,
+    n: usize,
+    outcome: Result<(), ReallocationError>,
+    wanted: (usize, usize),
+) {
+    assert_eq!(rt; a.reallocate_min_capacity(n), outcome);
+    assert_eq!(rt; (a.len(), a.capacity()), wanted);
+}
+
+/// The greatest capacity is set, or not.
+fn limits(
+    rt: &impl Abort,
+    a: &mut Keys,
+    maximum: usize,
+    outcome: Result<(), MaxCapacityReductionError>,
+) {
+    assert_eq!(rt; a.set_max_capacity(maximum), outcome);
 }
 
 #[test]
 fn the_capacity_is_changed(rt: HostRuntime) -> Result<(), Fail> {
     let mut a = keys(rt.alloc(), &[50, 30, 70])?;
-    assert_eq!(rt; a.reallocate_min_capacity(9), Ok(()));
-    assert_eq!(rt; a.capacity(), 9);
+    reallocates(&rt, &mut a, 9, Ok(()), (3, 9));
     let _ = a.remove(P0::_from_raw(2, 2));
     // no entry is lost
-    assert_eq!(rt; a.reallocate_min_capacity(0), Ok(()));
-    assert_eq!(rt; a.capacity(), 3);
-    assert_eq!(rt; a.set_max_capacity(2), Err(MaxCapacityReductionError));
-    assert_eq!(rt; a.set_max_capacity(5), Ok(()));
-    assert_eq!(rt;
-        a.reallocate_min_capacity(6),
-        Err(ReallocationError::BeyondMaxCapacity)
+    reallocates(&rt, &mut a, 0, Ok(()), (2, 3));
+    limits(&rt, &mut a, 2, Err(MaxCapacityReductionError));
+    limits(&rt, &mut a, 5, Ok(()));
+    reallocates(
+        &rt,
+        &mut a,
+        6,
+        Err(ReallocationError::BeyondMaxCapacity),
+        (2, 3),
     );
-    assert_eq!(rt; (a.capacity(), a.len()), (3, 2));
     Ok(())
+}
+
+/// 40 is written through the trait by a pointer, 45 is not by a stale one, and 40 is taken.
+fn is_put_and_taken(rt: &impl Abort, a: &mut Keys, p: P0, stale: P0) {
+    assert!(rt; laws::put(a, p, OrdPair::new(40, ())));
+    assert!(rt; !laws::put(a, stale, OrdPair::new(45, ())));
+    assert_eq!(rt; laws::take(a, p), Some(OrdPair::new(40, ())));
+    assert_eq!(rt; laws::take(a, p), None);
 }
 
 /// The laws of a finite map, at an ordered arena.
 #[test]
 fn an_arena_among_others(rt: HostRuntime) -> Result<(), Fail> {
     let mut a = keys(rt.alloc(), &[50, 30, 70])?;
-    let p = P0::_from_raw(2, 2);
-    assert!(rt; laws::put(&mut a, p, OrdPair::new(40, ())));
-    assert!(rt; !laws::put(&mut a, P0::_from_raw(2, 9), OrdPair::new(45, ())));
-    assert_eq!(rt; laws::take(&mut a, p), Some(OrdPair::new(40, ())));
-    assert_eq!(rt; laws::take(&mut a, p), None);
-    assert_eq!(rt;
-        numbers(laws::renew(&mut a, P0::_from_raw(3, 2))),
-        Some((3, 4))
-    );
+    is_put_and_taken(&rt, &mut a, P0::_from_raw(2, 2), P0::_from_raw(2, 9));
+    let renewed = laws::renew(&mut a, P0::_from_raw(3, 2));
+    assert_eq!(rt; numbers(renewed), Some((3, 4)));
     assert_eq!(rt;
         ArenaTrait::<P0, OrdPair<u64, ()>>::singular_generation(&a),
         Some(4)

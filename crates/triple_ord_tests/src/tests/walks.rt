@@ -1,6 +1,6 @@
 //! Walks along the list, drains, comparisons, and the check of the order. Five keys stand at the indexes 5, 2, 1, 4, 3, in the order of the
 //! list 10, 30, 50, 60, 70.
-use super::{Keys, keys, numbers, order};
+use super::{Keys, keys, numbers, order_is};
 use arena_base::{InvalidationOption, P0, P8, Ptr, Q0};
 use std::alloc::{AllocError, Global};
 use std::cell::Cell;
@@ -8,12 +8,12 @@ use std::cmp::Ordering;
 use std::mem;
 use std::process::Abort;
 use std::test::Fail;
-use triple_ord::{Advancer, OrdPair, OrderedPtrAdvancer, SimpleOrdArena};
+use triple_ord::{Advancer, OrdInsertionError, OrdPair, OrderedPtrAdvancer, SimpleOrdArena};
 
 /// The indexes that a walk gives from now on.
-fn rest(
+fn rest<W: Advancer<Keys, Item = P0>>(
     alloc: Global,
-    walk: &mut OrderedPtrAdvancer<P0>,
+    walk: &mut W,
     a: &Keys,
 ) -> Result<Vec<u32>, AllocError> {
     let mut indexes = Vec::new(alloc);
@@ -25,24 +25,59 @@ fn rest(
     Ok(indexes)
 }
 
+/// A step of a walk gives the pointer with these numbers, or nothing.
+pub(super) fn gives<W: Advancer<Keys, Item = P0>>(
+    rt: &impl Abort,
+    walk: &mut W,
+    a: &Keys,
+    wanted: Option<(u32, u64)>,
+) {
+    assert_eq!(rt; numbers(walk.advance(a)), wanted);
+}
+
+/// A walk gives these indexes from now on, and then nothing.
+pub(super) fn gives_rest<W: Advancer<Keys, Item = P0>>(
+    rt: &impl Abort,
+    alloc: Global,
+    walk: &mut W,
+    a: &Keys,
+    wanted: &[u32],
+) -> Result<(), AllocError> {
+    assert_eq!(rt; rest(alloc, walk, a)?.as_slice(), wanted);
+    gives(rt, walk, a, None);
+    Ok(())
+}
+
+/// A walk from 50, backwards or not.
+fn walk_from_50(a: &Keys, rev: bool) -> Result<OrderedPtrAdvancer<P0>, Fail> {
+    Ok(a.advancer_ordered(P0::_from_raw(1, 2), rev).ok_or("50")?)
+}
+
 #[test]
 fn walks_to_both_ends(rt: HostRuntime) -> Result<(), Fail> {
     let a = keys(rt.alloc(), &[50, 30, 70, 60, 10])?;
-    let p50 = P0::_from_raw(1, 2);
-    let mut back = a.advancer_ordered(p50, true).ok_or("50")?;
-    assert_eq!(rt;
-        rest(rt.alloc(), &mut back, &a)?.as_slice(),
-        [1, 2, 5].as_slice()
-    );
-    assert_eq!(rt; back.advance(&a), None);
-    let mut on = a.advancer_ordered(p50, false).ok_or("50")?;
-    assert_eq!(rt;
-        rest(rt.alloc(), &mut on, &a)?.as_slice(),
-        [1, 4, 3].as_slice()
-    );
-    assert_eq!(rt; on.advance(&a), None);
+    gives_rest(
+        &rt,
+        rt.alloc(),
+        &mut walk_from_50(&a, true)?,
+        &a,
+        &[1, 2, 5],
+    )?;
+    gives_rest(
+        &rt,
+        rt.alloc(),
+        &mut walk_from_50(&a, false)?,
+        &a,
+        &[1, 4, 3],
+    )?;
     assert!(rt; a.advancer_ordered(P0::_from_raw(1, 3), false).is_none());
     assert!(rt; a.advancer_ordered(P0::invalid(), true).is_none());
+    Ok(())
+}
+
+/// Inserts a key.
+fn put(a: &mut Keys, key: u64) -> Result<(), OrdInsertionError> {
+    let _ = a.insert(OrdPair::new(key, ()))?;
     Ok(())
 }
 
@@ -50,26 +85,26 @@ fn walks_to_both_ends(rt: HostRuntime) -> Result<(), Fail> {
 #[test]
 fn walks_meet_changes(rt: HostRuntime) -> Result<(), Fail> {
     let mut a = keys(rt.alloc(), &[50, 30, 70, 60, 10])?;
-    let mut ended = a.advancer_ordered(P0::_from_raw(1, 2), false).ok_or("50")?;
-    let mut goes_on = a.advancer_ordered(P0::_from_raw(1, 2), false).ok_or("50")?;
-    let mut renewed = a.advancer_ordered(P0::_from_raw(1, 2), true).ok_or("50")?;
-    assert_eq!(rt; numbers(ended.advance(&a)), Some((1, 2)));
-    assert_eq!(rt; numbers(goes_on.advance(&a)), Some((1, 2)));
-    assert_eq!(rt; numbers(renewed.advance(&a)), Some((1, 2)));
+    let mut ended = walk_from_50(&a, false)?;
+    let mut goes_on = walk_from_50(&a, false)?;
+    let mut renewed = walk_from_50(&a, true)?;
+    gives(&rt, &mut ended, &a, Some((1, 2)));
+    gives(&rt, &mut goes_on, &a, Some((1, 2)));
+    gives(&rt, &mut renewed, &a, Some((1, 2)));
     // the entry at which they stand goes, and another one takes its slot
     assert!(rt; a.remove(P0::_from_raw(4, 2)).allow().is_some());
-    assert_eq!(rt; numbers(ended.advance(&a)), None);
-    let _ = a.insert(OrdPair::new(55, ()))?;
-    assert_eq!(rt; numbers(ended.advance(&a)), None);
-    assert_eq!(rt; numbers(goes_on.advance(&a)), Some((4, 3)));
+    gives(&rt, &mut ended, &a, None);
+    put(&mut a, 55)?;
+    gives(&rt, &mut ended, &a, None);
+    gives(&rt, &mut goes_on, &a, Some((4, 3)));
     // an entry comes in between, and the next one gets another pointer
-    let _ = a.insert(OrdPair::new(65, ()))?;
-    assert_eq!(rt; numbers(goes_on.advance(&a)), Some((3, 2)));
-    assert_eq!(rt; numbers(goes_on.advance(&a)), None);
+    put(&mut a, 65)?;
+    gives(&rt, &mut goes_on, &a, Some((3, 2)));
+    gives(&rt, &mut goes_on, &a, None);
     let again = a.invalidate(P0::_from_raw(2, 2)).allow();
-    assert_eq!(rt; renewed.advance(&a), again);
+    gives(&rt, &mut renewed, &a, numbers(again));
     let mut none: OrderedPtrAdvancer<P0> = Advancer::<Keys>::empty();
-    assert_eq!(rt; none.advance(&a), None);
+    gives(&rt, &mut none, &a, None);
     Ok(())
 }
 
@@ -103,54 +138,51 @@ fn drains_in_order(rt: HostRuntime) -> Result<(), Fail> {
     Ok(())
 }
 
+/// How a drain ends.
+#[derive(Clone, Copy)]
+pub(super) enum End {
+    Kept,
+    Forgotten,
+    Dropped,
+}
+
 /// The letters, drained of so many.
-fn drained_of(alloc: Global, taken: usize) -> Result<Letters<P0>, Fail> {
+fn letters_after(alloc: Global, taken: usize, end: End) -> Result<Letters<P0>, Fail> {
     let mut a = letters(alloc)?;
     let mut drain = a.drain_ordered();
     for _ in 0..taken {
         let _ = drain.next();
     }
-    drain.keep_rest();
+    match end {
+        End::Kept => drain.keep_rest(),
+        End::Forgotten => mem::forget(drain),
+        End::Dropped => drop(drain),
+    }
     Ok(a)
 }
 
-/// The same, where the drain is forgotten.
-fn forgotten_after(alloc: Global, taken: usize) -> Result<Letters<P0>, Fail> {
-    let mut a = letters(alloc)?;
-    let mut drain = a.drain_ordered();
-    for _ in 0..taken {
-        let _ = drain.next();
-    }
-    mem::forget(drain);
-    Ok(a)
-}
-
-/// The same, where the drain is dropped.
-fn dropped_after(alloc: Global, taken: usize) -> Result<Letters<P0>, Fail> {
-    let mut a = letters(alloc)?;
-    let mut drain = a.drain_ordered();
-    for _ in 0..taken {
-        let _ = drain.next();
-    }
-    drop(drain);
-    Ok(a)
+/// What a drain that ended early left: so many letters, with this generation.
+pub(super) fn are_left(rt: &impl Abort, a: &Letters<P0>, len: usize, generation: u64) {
+    assert_eq!(rt; (a.len(), a.generation()), (len, generation));
 }
 
 #[test]
 fn drains_end_early(rt: HostRuntime) -> Result<(), Fail> {
     for (taken, generation) in [(0usize, 3u64), (1, 4), (3, 6), (4, 7), (5, 7)] {
-        let kept = drained_of(rt.alloc(), taken)?;
-        let forgotten = forgotten_after(rt.alloc(), taken)?;
-        assert_eq!(rt; kept.len(), 4usize.saturating_sub(taken));
-        assert_eq!(rt;
-            (kept.generation(), forgotten.generation()),
-            (generation, generation)
-        );
+        let kept = letters_after(rt.alloc(), taken, End::Kept)?;
+        let forgotten = letters_after(rt.alloc(), taken, End::Forgotten)?;
+        let left = 4usize.saturating_sub(taken);
+        are_left(&rt, &kept, left, generation);
+        are_left(&rt, &forgotten, left, generation);
         assert!(rt; kept.canonical_eq(&forgotten));
     }
     for (taken, generation) in [(0usize, 4u64), (1, 5), (3, 7), (5, 8)] {
-        let dropped = dropped_after(rt.alloc(), taken)?;
-        assert_eq!(rt; (dropped.len(), dropped.generation()), (0, generation));
+        are_left(
+            &rt,
+            &letters_after(rt.alloc(), taken, End::Dropped)?,
+            0,
+            generation,
+        );
     }
     Ok(())
 }
@@ -227,16 +259,25 @@ fn items_are_dropped_once(rt: HostRuntime) {
     }
 }
 
-/// The generations of eight bits begin again in the middle of a drain.
-#[test]
-fn a_drain_overflows(rt: HostRuntime) -> Result<(), Fail> {
-    let mut a: SimpleOrdArena<P8, OrdPair<u64, ()>> = SimpleOrdArena::new(rt.alloc());
-    for key in [1u64, 2, 3] {
-        let _ = a.insert(OrdPair::new(key, ()))?;
+/// An arena with these keys under pointers of eight bits, whose generation begins again after two steps.
+pub(super) fn late_keys(
+    alloc: Global,
+    list: &[u64],
+) -> Result<SimpleOrdArena<P8, OrdPair<u64, ()>>, OrdInsertionError> {
+    let mut a = SimpleOrdArena::new(alloc);
+    for k in list {
+        let _ = a.insert(OrdPair::new(*k, ()))?;
     }
     for _ in 2..254u64 {
         let _ = a.inc_generation();
     }
+    Ok(a)
+}
+
+/// The generations of eight bits begin again in the middle of a drain.
+#[test]
+fn a_drain_overflows(rt: HostRuntime) -> Result<(), Fail> {
+    let mut a = late_keys(rt.alloc(), &[1, 2, 3])?;
     let mut overflows = 0u64;
     for taken in a.drain_ordered() {
         if let InvalidationOption::GenerationOverflow((p, _)) = taken {
@@ -249,58 +290,81 @@ fn a_drain_overflows(rt: HostRuntime) -> Result<(), Fail> {
     Ok(())
 }
 
+/// Keys under pointers of another type.
+type OtherKeys = SimpleOrdArena<Q0, OrdPair<u64, ()>>;
+
+/// An arena of that type with these keys, inserted in this order.
+fn other_keys(alloc: Global, list: &[u64]) -> Result<OtherKeys, OrdInsertionError> {
+    let mut a = OtherKeys::new(alloc);
+    for k in list {
+        let _ = a.insert(OrdPair::new(*k, ()))?;
+    }
+    Ok(a)
+}
+
+/// One arena compares so with another one, and the other way round.
+fn compare_as<P: Ptr, Q: Ptr>(
+    rt: &impl Abort,
+    a: &SimpleOrdArena<P, OrdPair<u64, ()>>,
+    b: &SimpleOrdArena<Q, OrdPair<u64, ()>>,
+    order: Ordering,
+) {
+    assert_eq!(rt;
+        (a.canonical_eq(b), b.canonical_eq(a)),
+        (order.is_eq(), order.is_eq())
+    );
+    assert_eq!(rt;
+        (a.canonical_cmp(b), b.canonical_cmp(a)),
+        (order, order.reverse())
+    );
+    assert_eq!(rt; a.canonical_partial_cmp(b), Some(order));
+    assert_eq!(rt; b.canonical_partial_cmp(a), Some(order.reverse()));
+}
+
+/// A word that goes on is the greater one, one with a greater letter is greater still.
 #[test]
 fn arenas_compare_by_their_items(rt: HostRuntime) -> Result<(), Fail> {
-    let two = keys(rt.alloc(), &[2, 1])?;
-    let mut three: SimpleOrdArena<Q0, OrdPair<u64, ()>> = SimpleOrdArena::new(rt.alloc());
-    assert!(rt; !two.canonical_eq(&three));
-    assert_eq!(rt; two.canonical_cmp(&three), Ordering::Greater);
-    for key in [3u64, 1, 2] {
-        let _ = three.insert(OrdPair::new(key, ()))?;
-    }
-    assert!(rt; !two.canonical_eq(&three) && !three.canonical_eq(&two));
-    assert_eq!(rt; two.canonical_cmp(&three), Ordering::Less);
-    assert_eq!(rt; three.canonical_cmp(&two), Ordering::Greater);
-    assert_eq!(rt; two.canonical_partial_cmp(&three), Some(Ordering::Less));
-    assert!(rt; two.canonical_eq(&two));
-    assert_eq!(rt; two.canonical_cmp(&two), Ordering::Equal);
     let empty = keys(rt.alloc(), &[])?;
-    assert!(rt; empty.canonical_eq(&empty));
-    assert_eq!(rt; empty.canonical_cmp(&empty), Ordering::Equal);
-    // a word that goes on is the greater one, one with a greater letter is greater still
+    let two = keys(rt.alloc(), &[2, 1])?;
+    let three = other_keys(rt.alloc(), &[3, 1, 2])?;
+    let greatest = keys(rt.alloc(), &[1, 5])?;
+    compare_as(&rt, &empty, &empty, Ordering::Equal);
+    compare_as(&rt, &two, &two, Ordering::Equal);
+    compare_as(&rt, &two, &other_keys(rt.alloc(), &[])?, Ordering::Greater);
+    compare_as(&rt, &two, &three, Ordering::Less);
+    compare_as(&rt, &greatest, &three, Ordering::Greater);
+    Ok(())
+}
+
+#[test]
+fn no_order_of_items_is_told(rt: HostRuntime) -> Result<(), Fail> {
     let mut odd: SimpleOrdArena<P0, OrdPair<u64, f64>> = SimpleOrdArena::new(rt.alloc());
     let _ = odd.insert(OrdPair::new(1, f64::NAN))?;
     assert_eq!(rt; odd.canonical_partial_cmp(&odd), None);
     assert!(rt; !odd.canonical_eq(&odd));
-    let other = keys(rt.alloc(), &[1, 5])?;
-    assert_eq!(rt; other.canonical_cmp(&three), Ordering::Greater);
-    assert_eq!(rt; three.canonical_partial_cmp(&other), Some(Ordering::Less));
     Ok(())
+}
+
+/// Writes a key into the entry at the index 2, and asserts what the check of the order says then.
+fn write_key(rt: &impl Abort, a: &mut Keys, key: u64, checked: Result<(), &'static str>) {
+    if let Some(pair) = a.get_mut(P0::_from_raw(2, 2)) {
+        *pair = OrdPair::new(key, ());
+    }
+    assert_eq!(rt; SimpleOrdArena::_check_invariants(a), checked);
 }
 
 #[test]
 fn misplaced_keys_are_told(rt: HostRuntime) -> Result<(), Fail> {
     let mut a = keys(rt.alloc(), &[1, 2, 3])?;
     assert_eq!(rt; SimpleOrdArena::_check_invariants(&a), Ok(()));
-    if let Some(pair) = a.get_mut(P0::_from_raw(2, 2)) {
-        *pair = OrdPair::new(9, ());
-    }
-    assert_eq!(rt;
-        SimpleOrdArena::_check_invariants(&a),
-        Err("incorrect ordering")
-    );
+    write_key(&rt, &mut a, 9, Err("incorrect ordering"));
     let (found, visits) = a.find_key_counted(&3);
     assert_eq!(rt; (found, visits.count()), (None, 2));
-    assert_eq!(rt; order(rt.alloc(), &a)?.as_slice(), [1, 9, 3].as_slice());
+    order_is(&rt, rt.alloc(), &a, &[1, 9, 3])?;
     // equal keys are in order
-    if let Some(pair) = a.get_mut(P0::_from_raw(2, 2)) {
-        *pair = OrdPair::new(3, ());
-    }
-    assert_eq!(rt; SimpleOrdArena::_check_invariants(&a), Ok(()));
-    assert_eq!(rt;
-        SimpleOrdArena::_check_invariants(&keys(rt.alloc(), &[])?),
-        Ok(())
-    );
+    write_key(&rt, &mut a, 3, Ok(()));
+    let empty = keys(rt.alloc(), &[])?;
+    assert_eq!(rt; SimpleOrdArena::_check_invariants(&empty), Ok(()));
     Ok(())
 }
 

@@ -11,7 +11,7 @@ loop-command-init g c =
     record {
       cut = grind (arith, common_steps);
       runs = RunsBetween-none (reading_by g.T.SimpleOrdItem.key_of g.T.Key.Ord.cmp g.P.Inx.PtrInx.most g.P.Gen.PtrGen.greatest
-          g.P.Ptr.index g.P.Ptr.era g.P.Inx.PtrInx.number g.P.Gen.PtrGen.number) (Asks (λ p. (g.P.Ptr.index p, g.P.Ptr.era p)) (goal.F-step g)) _ _ _ c.in_ok-replies.ensures.items;
+          g.P.Ptr.numbers g.P.Inx.PtrInx.number g.P.Gen.PtrGen.number) (Asks g.P.Ptr.numbers (goal.F-step g)) _ _ _ c.in_ok-replies.ensures.items;
       callable = c.requires.callable;
       count = grind (arith, common_steps);
       room = grind (arith, common_steps);

@@ -4,7 +4,7 @@ use Rattle.std.proofs.lemmas.List.{length-map}
 use Rattle.arena_base.specs.Invalidation.{allowed_value}
 use Rattle.chain_base.specs.Chain.{cleared}
 use Rattle.ord_tree.specs.Shape.{missing}
-use Rattle.ord_script.specs.Machine.{entry_of, without_each}
+use Rattle.ord_script.specs.Machine.{entry_of, removed_each}
 use Rattle.ord_script.proofs.Draining.{cut_drained, taken_drained, first_are, next_there}
 use Rattle.ord_script.proofs.steps.drained.Goals as goal
 
@@ -24,10 +24,10 @@ loop-init g c =
 pub unwrap-taken-requires : goal.unwrap-taken-requires
 unwrap-taken-requires g c =
     let all = c.args.arena.now.list.entries in
-    let before = map (entry_of (λ p. (g.P.Ptr.index p, g.P.Ptr.era p))) c.loop.pairs.items in
+    let before = map (entry_of g.P.Ptr.numbers) c.loop.pairs.items in
     let least : c.min-count.result ≡ min c.args.num (length all) = grind (arith, common_steps) in
     let so_far = c.loop.invariant in
-    let short : length before < min c.args.num (length all) = omega (arith, least, so_far.count, c.loop-test.true, length-map c.loop.pairs.items (entry_of (λ p. (g.P.Ptr.index p, g.P.Ptr.era p)))) in
+    let short : length before < min c.args.num (length all) = omega (arith, least, so_far.count, c.loop-test.true, length-map c.loop.pairs.items (entry_of g.P.Ptr.numbers)) in
     next_there c.next.result c.args.num all before c.loop.drain.arena.now.list.entries so_far.cut short (λ none. (rw none at c.next.ensures.steps.1).0)
 
 pub loop-preserved : goal.loop-preserved
@@ -49,21 +49,21 @@ loop-preserved g c =
 pub returns-clause-pairs : goal.returns-clause-pairs
 returns-clause-pairs g c =
     let all = c.args.arena.now.list.entries in
-    let before = map (entry_of (λ p. (g.P.Ptr.index p, g.P.Ptr.era p))) c.loop.pairs.items in
+    let before = map (entry_of g.P.Ptr.numbers) c.loop.pairs.items in
     let least : c.min-count.result ≡ min c.args.num (length all) = grind (arith, common_steps) in
     let so_far = c.loop.invariant in
-    let reached : length before ≡ min c.args.num (length all) = omega (arith, least, so_far.count, so_far.within, c.loop-test.false, length-map c.loop.pairs.items (entry_of (λ p. (g.P.Ptr.index p, g.P.Ptr.era p)))) in
+    let reached : length before ≡ min c.args.num (length all) = omega (arith, least, so_far.count, so_far.within, c.loop-test.false, length-map c.loop.pairs.items (entry_of g.P.Ptr.numbers)) in
     sym (first_are c.args.num all before c.loop.drain.arena.now.list.entries so_far.cut reached)
 
 pub returns-clause-drained : goal.returns-clause-drained
 returns-clause-drained g c =
     let all = c.args.arena.now.list.entries in
-    let before = map (entry_of (λ p. (g.P.Ptr.index p, g.P.Ptr.era p))) c.loop.pairs.items in
+    let before = map (entry_of g.P.Ptr.numbers) c.loop.pairs.items in
     let least : c.min-count.result ≡ min c.args.num (length all) = grind (arith, common_steps) in
     let so_far = c.loop.invariant in
-    let reached : length before ≡ min c.args.num (length all) = omega (arith, least, so_far.count, so_far.within, c.loop-test.false, length-map c.loop.pairs.items (entry_of (λ p. (g.P.Ptr.index p, g.P.Ptr.era p)))) in
+    let reached : length before ≡ min c.args.num (length all) = omega (arith, least, so_far.count, so_far.within, c.loop-test.false, length-map c.loop.pairs.items (entry_of g.P.Ptr.numbers)) in
     let first : take c.args.num all ≡ before = first_are c.args.num all before c.loop.drain.arena.now.list.entries so_far.cut reached in
     let whole = c.args.arena.now.list in
-    let gone : c.drop.new.self.0 ≡ record { list = cleared g.P.Gen.PtrGen.greatest (without_each g.P.Gen.PtrGen.greatest whole (take c.args.num all)); shape = missing } = c.drop.ensures ∙ rw (so_far.taken, first) refl in
+    let gone : c.drop.new.self.0 ≡ record { list = cleared g.P.Gen.PtrGen.greatest (removed_each g.P.Gen.PtrGen.greatest whole (take c.args.num all)); shape = missing } = c.drop.ensures ∙ rw (so_far.taken, first) refl in
     let lender = so_far.lender in
     search (rules, gone, lender)

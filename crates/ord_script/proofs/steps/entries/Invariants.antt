@@ -5,4 +5,4 @@ use Rattle.ord_script.proofs.steps.entries.Given as goal
 -- the entries so far, and then those that are left
 abbrev pub invariant-loop-p : goal.invariant-loop-p
 invariant-loop-p g l =
-    map (entry_of (λ p. (g.P.Ptr.index p, g.P.Ptr.era p))) l.pairs.items ++ l.p-iterator ≡ l.arena.list.entries
+    map (entry_of g.P.Ptr.numbers) l.pairs.items ++ l.p-iterator ≡ l.arena.list.entries

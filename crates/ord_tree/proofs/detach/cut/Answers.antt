@@ -1,16 +1,16 @@
 use Rattle.std.proofs.Common.{◌≡◌, ◌≢◌, ℕ, Option, Some, sym, ◌∙◌, subst, option_map}
-use Rattle.ord_tree.specs.declared.links.Side.{Side}
-use Rattle.ord_tree.specs.declared.links.Links.{Links}
-use Rattle.ord_tree.specs.Links.{other_side, child_at, with_child_at, numbered}
+use Rattle.ord_tree.specs.declared.tree_links.Side.{Side}
+use Rattle.ord_tree.specs.declared.tree_links.TreeLinks.{TreeLinks}
+use Rattle.ord_tree.specs.TreeLinks.{other_side, child_at, with_child_at, numbered}
 use Rattle.ord_tree.proofs.Rotations.{child-numbered}
-use Rattle.ord_tree.proofs.Cutting.{v_occupied, rest_occupied, parent_occupied, moves_one, cut_place}
+use Rattle.ord_tree.proofs.Cutting.{v_occupied, rest_occupied, parent_occupied, moves_one, cut_branch}
 use Rattle.ord_tree.proofs.detach.cut.Goals as goal
 
 pub links-links-requires : goal.links-links-requires
 links-links-requires g c = v_occupied c.requires.1
 
-pub place_of-place-requires-clause-parent : goal.place_of-place-requires-clause-parent
-place_of-place-requires-clause-parent g c = λ n p e b. parent_occupied c.requires.1 n e p b
+pub branch_of-branch-requires-clause-parent : goal.branch_of-branch-requires-clause-parent
+branch_of-branch-requires-clause-parent g c = λ n p e b. parent_occupied c.requires.1 n e p b
 
 pub replace_child-requires : goal.replace_child-requires
 replace_child-requires g c = parent_occupied c.requires.1 (numbered g.N.Nodes.number c.links-links.result) c.links-links.ensures
@@ -29,12 +29,12 @@ returns-clause-fallen g c = λ order loose.
     let links = numbered number c.links-links.result in
     let rest_is : option_map number c.child-rest.result ≡ child_at (other_side c.args.bare) links
     = rw (c.child-rest.ensures, c.other.ensures) (child-numbered number (other_side c.args.bare) c.links-links.result) in
-    let P : Option ℕ → Type 0 = λ rest. (p : ℕ) (n : Links ℕ) (s : Side) → links.back ≡ Some p → at c.args.nodes.now p ≡ Some n → child_at s n ≡ Some (number c.args.v) → child_at (other_side s) n ≢ Some (number c.args.v)
+    let P : Option ℕ → Type 0 = λ rest. (p : ℕ) (n : TreeLinks ℕ) (s : Side) → links.back ≡ Some p → at c.args.nodes.now p ≡ Some n → child_at s n ≡ Some (number c.args.v) → child_at (other_side s) n ≢ Some (number c.args.v)
     → at c.replace_child.new.nodes p ≡ Some (with_child_at s rest n) in
-    cut_place loose links c.links-links.ensures (at c.replace_child.new.nodes) (at c.hang.new.nodes) (option_map number c.replace_child.new.root)
+    cut_branch loose links c.links-links.ensures (at c.replace_child.new.nodes) (at c.hang.new.nodes) (option_map number c.replace_child.new.root)
     (λ top. c.replace_child.ensures.at_top top ∙ rest_is) c.replace_child.ensures.below (subst P rest_is c.replace_child.ensures.here) c.replace_child.ensures.elsewhere c.replace_child.ensures.backs
     (λ i n link. c.hang.ensures.here i n (rest_is ∙ link)) (λ j other. c.hang.ensures.elsewhere j (λ link. other (sym rest_is ∙ link)))
-    number c.place_of-place.result (c.place_of-place.ensures.parent links c.links-links.ensures) c.place_of-place.ensures.side
+    number c.branch_of-branch.result (c.branch_of-branch.ensures.parent links c.links-links.ensures) c.branch_of-branch.ensures.side
 
 pub returns-clause-backs : goal.returns-clause-backs
 returns-clause-backs g c = λ order loose.
@@ -43,7 +43,7 @@ returns-clause-backs g c = λ order loose.
     let links = numbered number c.links-links.result in
     let rest_is : option_map number c.child-rest.result ≡ child_at (other_side c.args.bare) links
     = rw (c.child-rest.ensures, c.other.ensures) (child-numbered number (other_side c.args.bare) c.links-links.result) in
-    let P : Option ℕ → Type 0 = λ rest. (p : ℕ) (n : Links ℕ) (s : Side) → links.back ≡ Some p → at c.args.nodes.now p ≡ Some n → child_at s n ≡ Some (number c.args.v) → child_at (other_side s) n ≢ Some (number c.args.v)
+    let P : Option ℕ → Type 0 = λ rest. (p : ℕ) (n : TreeLinks ℕ) (s : Side) → links.back ≡ Some p → at c.args.nodes.now p ≡ Some n → child_at s n ≡ Some (number c.args.v) → child_at (other_side s) n ≢ Some (number c.args.v)
     → at c.replace_child.new.nodes p ≡ Some (with_child_at s rest n) in
     moves_one loose links c.links-links.ensures (at c.replace_child.new.nodes) (at c.hang.new.nodes) (option_map number c.replace_child.new.root)
     (λ top. c.replace_child.ensures.at_top top ∙ rest_is) c.replace_child.ensures.below (subst P rest_is c.replace_child.ensures.here) c.replace_child.ensures.elsewhere c.replace_child.ensures.backs

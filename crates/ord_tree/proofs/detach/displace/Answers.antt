@@ -1,5 +1,5 @@
 use Rattle.std.proofs.Common.{◌∙◌, ap, option_map}
-use Rattle.ord_tree.specs.Links.{numbered}
+use Rattle.ord_tree.specs.TreeLinks.{numbered}
 use Rattle.ord_tree.proofs.Cutting.{v_occupied}
 use Rattle.ord_tree.proofs.Displacing.{MovesBacks-then}
 use Rattle.ord_tree.proofs.Removing.{z_occupied, v_is, loose_v, can_stand, displaced, mapped, unmapped}
@@ -14,8 +14,8 @@ unwrap-v-requires g c =
     let some = mapped number c.links.result.lesser c.if-is_none.ensures in
     unmapped number c.args.before _ (v_is c.requires.1 (numbered number c.links.result) c.links.ensures some.0 some.1)
 
-pub cut-place-requires : goal.cut-place-requires
-cut-place-requires g c =
+pub cut-branch-requires : goal.cut-branch-requires
+cut-branch-requires g c =
     let number = g.N.Nodes.number in
     let some = mapped number c.links.result.lesser c.if-is_none.ensures in
     (c.requires.0, loose_v c.requires.1 (numbered number c.links.result) c.links.ensures some.0 some.1 (number c.unwrap-v.result) (ap (option_map number) c.unwrap-v.ensures))
@@ -29,8 +29,8 @@ substitute-requires g c =
     let some = mapped number c.links.result.lesser c.if-is_none.ensures in
     let is_v = ap (option_map number) c.unwrap-v.ensures in
     let loose = loose_v c.requires.1 links c.links.ensures some.0 some.1 v is_v in
-    can_stand c.requires.1 links c.links.ensures some.0 some.1 v is_v (at c.cut-place.new.nodes) (option_map number c.cut-place.new.root)
-    (c.cut-place.ensures.occupied v ∙ v_occupied loose) number c.cut-place.result (c.cut-place.ensures.fallen c.requires.0 loose)
+    can_stand c.requires.1 links c.links.ensures some.0 some.1 v is_v (at c.cut-branch.new.nodes) (option_map number c.cut-branch.new.root)
+    (c.cut-branch.ensures.occupied v ∙ v_occupied loose) number c.cut-branch.result (c.cut-branch.ensures.fallen c.requires.0 loose)
 
 pub returns-clause-fallen : goal.returns-clause-fallen
 returns-clause-fallen g c = λ order can.
@@ -41,9 +41,9 @@ returns-clause-fallen g c = λ order can.
     let some = mapped number c.links.result.lesser c.if-is_none.ensures in
     let is_v = ap (option_map number) c.unwrap-v.ensures in
     let loose = loose_v can links c.links.ensures some.0 some.1 v is_v in
-    displaced can links c.links.ensures some.0 some.1 v is_v (at c.cut-place.new.nodes) (option_map number c.cut-place.new.root)
-    (c.cut-place.ensures.occupied v ∙ v_occupied loose) (at c.substitute.new.nodes) (option_map number c.substitute.new.root) c.substitute.ensures.held
-    number c.cut-place.result c.place_with.result c.place_with.ensures (c.cut-place.ensures.fallen order loose)
+    displaced can links c.links.ensures some.0 some.1 v is_v (at c.cut-branch.new.nodes) (option_map number c.cut-branch.new.root)
+    (c.cut-branch.ensures.occupied v ∙ v_occupied loose) (at c.substitute.new.nodes) (option_map number c.substitute.new.root) c.substitute.ensures.held
+    number c.cut-branch.result c.branch_with.result c.branch_with.ensures (c.cut-branch.ensures.fallen order loose)
 
 pub returns-clause-backs : goal.returns-clause-backs
 returns-clause-backs g c = λ order can.
@@ -54,7 +54,7 @@ returns-clause-backs g c = λ order can.
     let some = mapped number c.links.result.lesser c.if-is_none.ensures in
     let is_v = ap (option_map number) c.unwrap-v.ensures in
     let loose = loose_v can links c.links.ensures some.0 some.1 v is_v in
-    let stands = can_stand can links c.links.ensures some.0 some.1 v is_v (at c.cut-place.new.nodes) (option_map number c.cut-place.new.root)
-    (c.cut-place.ensures.occupied v ∙ v_occupied loose) number c.cut-place.result (c.cut-place.ensures.fallen order loose) in
-    MovesBacks-then 1 3 (at c.args.nodes.now) (at c.cut-place.new.nodes) (at c.substitute.new.nodes) (c.cut-place.ensures.backs order loose)
+    let stands = can_stand can links c.links.ensures some.0 some.1 v is_v (at c.cut-branch.new.nodes) (option_map number c.cut-branch.new.root)
+    (c.cut-branch.ensures.occupied v ∙ v_occupied loose) number c.cut-branch.result (c.cut-branch.ensures.fallen order loose) in
+    MovesBacks-then 1 3 (at c.args.nodes.now) (at c.cut-branch.new.nodes) (at c.substitute.new.nodes) (c.cut-branch.ensures.backs order loose)
     (c.substitute.ensures.backs stands.0 stands.1)

@@ -1,5 +1,5 @@
 use Rattle.std.proofs.Common.{◌∙◌}
-use Rattle.ord_tree.specs.Links.{numbered}
+use Rattle.ord_tree.specs.TreeLinks.{numbered}
 use Rattle.ord_tree.proofs.Standing.{z_occupied, lesser_occupied, greater_occupied, parent_occupied, Holds-substituted, moves_three}
 use Rattle.ord_tree.proofs.detach.substitute.Goals as goal
 

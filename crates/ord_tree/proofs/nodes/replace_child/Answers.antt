@@ -1,6 +1,6 @@
 use Rattle.std.proofs.Common.{◌≡◌, ◌≢◌, Some, Option, ℕ, refl, sym, ap, option_map, ⊎_elim}
 use Rattle.std.proofs.lemmas.Bool.{cases_eq}
-use Rattle.ord_tree.specs.Links.{numbered}
+use Rattle.ord_tree.specs.TreeLinks.{numbered}
 use Rattle.ord_tree.proofs.Entries.{back-with_child}
 use Rattle.ord_tree.proofs.nodes.replace_child.Goals as goal
 

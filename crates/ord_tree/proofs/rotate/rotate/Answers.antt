@@ -1,6 +1,6 @@
 use Rattle.std.proofs.Common.{◌≡◌, ℕ, Option, Some, sym, ◌∙◌, ap, option_map, is_some}
-use Rattle.ord_tree.specs.declared.links.Side.{Side}
-use Rattle.ord_tree.specs.Links.{other_side, child_at, with_child_at, numbered}
+use Rattle.ord_tree.specs.declared.tree_links.Side.{Side}
+use Rattle.ord_tree.specs.TreeLinks.{other_side, child_at, with_child_at, numbered}
 use Rattle.ord_tree.proofs.Rotations.{placed, child-numbered, occupied-inner, IsRotated-written}
 use Rattle.ord_tree.proofs.rotate.rotate.Goals as goal
 
@@ -11,11 +11,11 @@ hang-requires g c =
     = rw (c.child-inner.ensures, c.other-other.ensures) (child-numbered number (other_side c.args.side) c.links-low.result) in
     λ i e. c.replace_child.ensures.occupied i ∙ occupied-inner _ _ c.args.side _ _ (numbered number c.links-low.result) i c.requires c.links-low.ensures (sym inner_is ∙ e)
 
-pub place-requires : goal.place-requires
-place-requires g c = c.hang.ensures.occupied _ ∙ c.replace_child.ensures.occupied _ ∙ ap is_some c.links-high.ensures
+pub relink-requires : goal.relink-requires
+relink-requires g c = c.hang.ensures.occupied _ ∙ c.replace_child.ensures.occupied _ ∙ ap is_some c.links-high.ensures
 
-pub place-requires-2 : goal.place-requires-2
-place-requires-2 g c = c.place.ensures.occupied _ ∙ c.hang.ensures.occupied _ ∙ c.replace_child.ensures.occupied _ ∙ ap is_some c.links-low.ensures
+pub relink-requires-2 : goal.relink-requires-2
+relink-requires-2 g c = c.relink.ensures.occupied _ ∙ c.hang.ensures.occupied _ ∙ c.replace_child.ensures.occupied _ ∙ ap is_some c.links-low.ensures
 
 pub returns-clause-rotated : goal.returns-clause-rotated
 returns-clause-rotated g c = λ site.
@@ -25,12 +25,12 @@ returns-clause-rotated g c = λ site.
     let high = numbered number c.links-high.result in
     let inner_is : option_map number c.child-inner.result ≡ child_at (other_side side) low
     = rw (c.child-inner.ensures, c.other-other.ensures) (child-numbered number (other_side side) c.links-low.result) in
-    IsRotated-written (g.N.Nodes.at c.args.nodes.now) (g.N.Nodes.at c.replace_child.new.nodes) (g.N.Nodes.at c.hang.new.nodes) (g.N.Nodes.at c.place.new.nodes) (g.N.Nodes.at c.place-2.new.nodes)
+    IsRotated-written (g.N.Nodes.at c.args.nodes.now) (g.N.Nodes.at c.replace_child.new.nodes) (g.N.Nodes.at c.hang.new.nodes) (g.N.Nodes.at c.relink.new.nodes) (g.N.Nodes.at c.relink-2.new.nodes)
     (option_map number c.args.root.now) (option_map number c.replace_child.new.root) side (number c.args.z) (number c.args.y) c.args.rank_z c.args.rank_y low high
     site c.links-low.ensures c.links-high.ensures
     c.replace_child.ensures.at_top c.replace_child.ensures.below c.replace_child.ensures.here c.replace_child.ensures.elsewhere c.replace_child.ensures.backs
     (λ i n e. c.hang.ensures.here i n (inner_is ∙ e)) (λ j e. c.hang.ensures.elsewhere j (λ m. e (sym inner_is ∙ m)))
-    (λ n is. c.place.ensures.here n is ∙ ap (λ (o : Option ℕ). Some (placed (Some (number c.args.y)) c.args.rank_z (with_child_at side o n))) inner_is)
-    c.place.ensures.elsewhere
-    (λ n is. c.place-2.ensures.here n is ∙ ap (λ (s : Side). Some (placed high.back c.args.rank_y (with_child_at s (Some (number c.args.z)) n))) c.other-other.ensures)
-    c.place-2.ensures.elsewhere
+    (λ n is. c.relink.ensures.here n is ∙ ap (λ (o : Option ℕ). Some (placed (Some (number c.args.y)) c.args.rank_z (with_child_at side o n))) inner_is)
+    c.relink.ensures.elsewhere
+    (λ n is. c.relink-2.ensures.here n is ∙ ap (λ (s : Side). Some (placed high.back c.args.rank_y (with_child_at s (Some (number c.args.z)) n))) c.other-other.ensures)
+    c.relink-2.ensures.elsewhere

@@ -1,8 +1,4 @@
-use Rattle.std.proofs.Common.{◌≡◌, ℕ, ◌+◌, Some, arith, refl, sym, ap, ◌∙◌, of_calls}
-use Rattle.std.specs.Option.{option_map}
-use Rattle.ord_tree.specs.Tree.{Tree}
-use Rattle.triple_ord.specs.ClosureSearch.{Asks, FindsSimilarWith}
-use Rattle.triple_ord.specs.Descent.{HasDescended, IsShown}
+use Rattle.std.proofs.Common.{◌≡◌, ℕ, arith, refl, sym, ◌∙◌, of_calls}
 use Rattle.triple_ord.proofs.Descending.{descent-begins, descent-ends, step-occupied, step-few, step-equal, step-less, step-greater, equal_by, less_by, greater_by}
 use Rattle.triple_ord.proofs.Bounds.{within_bounds}
 use Rattle.triple_ord.proofs.descent.descend.Goals as goal
@@ -23,7 +19,7 @@ returns-then-is_eq-clause-found g c =
     let d = rw c.in-Some.is at c.loop-at.invariant.descended in
     let shown = rw c.loop-at.invariant.tree at c.show-generation.ensures.shown in
     let equal = equal_by c.f-order.result (sym c.is_eq.ensures ∙ c.if-is_eq.true) in
-    let named : ◌≡◌ {A = ℕ × ℕ} (g.P.Ptr.index c._from_raw-p.result, g.P.Ptr.era c._from_raw-p.result) (g.P.Inx.PtrInx.number c.in-Some.i, g.P.Gen.PtrGen.number c.show-generation.result.0) = (cc) in
+    let named : ◌≡◌ {A = ℕ × ℕ} (g.P.Ptr.numbers c._from_raw-p.result) (g.P.Inx.PtrInx.number c.in-Some.i, g.P.Gen.PtrGen.number c.show-generation.result.0) = (cc) in
     rw (c.show-generation.ensures.counted, named)
     (step-equal _ c.args.probe.now.tree.now c.root-at.ensures.distinct _ _ _ _ _ _ d _ _ _ _ shown c.f-order.result c.f-order.new.self
     (λ e is item. record { named = c._from_raw-p.result; item = _; names = named ∙ sym is; shows = sym item; called = c.f-order.ensures }) equal)
@@ -33,7 +29,7 @@ loop-at-preserved-then-is_lt g c =
     let d = rw c.in-Some.is at c.loop-at.invariant.descended in
     let shown = rw c.loop-at.invariant.tree at c.show-generation.ensures.shown in
     let less = less_by c.f-order.result (sym c.is_lt.ensures ∙ c.if-is_lt.true) in
-    let named : ◌≡◌ {A = ℕ × ℕ} (g.P.Ptr.index c._from_raw-p.result, g.P.Ptr.era c._from_raw-p.result) (g.P.Inx.PtrInx.number c.in-Some.i, g.P.Gen.PtrGen.number c.show-generation.result.0) = (cc) in
+    let named : ◌≡◌ {A = ℕ × ℕ} (g.P.Ptr.numbers c._from_raw-p.result) (g.P.Inx.PtrInx.number c.in-Some.i, g.P.Gen.PtrGen.number c.show-generation.result.0) = (cc) in
     record {
       callable = search of_calls;
       tree = c.show-generation.ensures.tree ∙ c.loop-at.invariant.tree;
@@ -47,7 +43,7 @@ loop-at-preserved g c =
     let d = rw c.in-Some.is at c.loop-at.invariant.descended in
     let shown = rw c.loop-at.invariant.tree at c.show-generation.ensures.shown in
     let greater = greater_by c.f-order.result (sym c.is_eq.ensures ∙ c.if-is_eq.false) (sym c.is_lt.ensures ∙ c.if-is_lt.false) in
-    let named : ◌≡◌ {A = ℕ × ℕ} (g.P.Ptr.index c._from_raw-p.result, g.P.Ptr.era c._from_raw-p.result) (g.P.Inx.PtrInx.number c.in-Some.i, g.P.Gen.PtrGen.number c.show-generation.result.0) = (cc) in
+    let named : ◌≡◌ {A = ℕ × ℕ} (g.P.Ptr.numbers c._from_raw-p.result) (g.P.Inx.PtrInx.number c.in-Some.i, g.P.Gen.PtrGen.number c.show-generation.result.0) = (cc) in
     record {
       callable = search of_calls;
       tree = c.show-generation.ensures.tree ∙ c.loop-at.invariant.tree;

@@ -19,7 +19,7 @@ pub returns-in_default-clause-settled : goal.returns-in_default-clause-settled
 returns-in_default-clause-settled g c =
     let linked = rw c.loop-step.invariant.tree at c.show_link-generation.ensures.linked in
     let order = c.cmp-order.ensures ∙ ap (g.T.Key.Ord.cmp c.args.k.now) (c.key.ensures ∙ ap (λ l. g.T.SimpleOrdItem.key_of l.item.t) c.link.view_is) in
-    let named : ◌≡◌ {A = ℕ × ℕ} (g.P.Ptr.index c._from_raw.result, g.P.Ptr.era c._from_raw.result) (g.P.Inx.PtrInx.number c.loop-step.at, g.P.Gen.PtrGen.number c.show_link-generation.result.0) = (cc) in
+    let named : ◌≡◌ {A = ℕ × ℕ} (g.P.Ptr.numbers c._from_raw.result) (g.P.Inx.PtrInx.number c.loop-step.at, g.P.Gen.PtrGen.number c.show_link-generation.result.0) = (cc) in
     rw (c.show_link-generation.ensures.counted, named)
     (stepping-settles _ _ _ _ c.requires.distinct _ _ _ _ c.loop-step.invariant.stepping _ _ linked _ order
     (rw (← c.towards.ensures)

@@ -20,7 +20,7 @@ returns-clause-after g c =
     let inx = g.P.Inx.PtrInx.number in
     let all = c.list_vacant.ensures.items ∙ ap (λ ss. reverse (vacant_slots 1 ss)) c.as_slice.ensures.value in
     let seen = c.self.view_is ∙ c.restart-overflow.ensures.after in
-    compressed-after g.P.Ptr.index g.P.Ptr.era g.P.Gen.PtrGen.number g.P.Inx.PtrInx.most g.P.Gen.PtrGen.greatest _ s.slots.items c.move_down.new.slots.items s.generation s.maximum (map inx s.vacant.items)
+    compressed-after g.P.Ptr.numbers g.P.Gen.PtrGen.number g.P.Inx.PtrInx.most g.P.Gen.PtrGen.greatest _ s.slots.items c.move_down.new.slots.items s.generation s.maximum (map inx s.vacant.items)
     (map inx c.list_vacant.new.vacant.items) all c.args.map c.args.self.now _ (ap (λ v. v.slots) seen) (ap (λ v. v.maximum) seen) (ap (λ v. v.generation) seen) c.move_down.ensures.items
 
 pub returns-clause-fresh : goal.returns-clause-fresh

@@ -7,4 +7,4 @@ use Rattle.arena_base.proofs.arena.Arena.find_first_inx_ptr.Goals as goal
 pub returns-clause-empty : goal.returns-clause-empty
 returns-clause-empty g c =
     let slots = c.args.self.now.slots in
-    (λ h. counted_none slots (λ k. elim (cases_lt k (length slots)) [ inl within ↦ c.loop-place.invariant k (omega arith) | inr past ↦ get_or_past slots k None past ]), λ h. refl)
+    (λ h. counted_none slots (λ k. elim (cases_lt k (length slots)) [ inl within ↦ c.loop-position.invariant k (omega arith) | inr past ↦ get_or_past slots k None past ]), λ h. refl)

@@ -6,9 +6,9 @@ use Rattle.arena_base.proofs.arena.Arena.greatest_occupied.Goals as goal
 pub returns-in-Some-clause-value : goal.returns-in-Some-clause-value
 returns-in-Some-clause-value g c =
     let a = c.args.self.now in
-    let i = g.P.Ptr.index c.in-Some.p in
+    let i = (g.P.Ptr.numbers c.in-Some.p).0 in
     let last = c.in-Some.ensures.last in
-    let entry = entry-from_generation (slot a i) (g.P.Ptr.era c.in-Some.p) last.entry in
+    let entry = entry-from_generation (slot a i) (g.P.Ptr.numbers c.in-Some.p).1 last.entry in
     let number : c.unwrap_or.result ≡ i =
     c.unwrap_or.ensures ∙ (ap (λ o. unwrap_or o 0) c.try_into_usize.ensures ∙ (unwrap_or-index_number (g.P.Inx.PtrInx.number c.inx.result) ∙ c.inx.ensures)) in
     number ∙ sym (greatest_occupied-is a.slots i entry.0 entry.1 last.greatest)

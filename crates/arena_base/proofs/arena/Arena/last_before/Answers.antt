@@ -8,22 +8,22 @@ use Rattle.arena_base.proofs.arena.Arena.last_before.Goals as goal
 pub returns-in-Some-clause-pointers : goal.returns-in-Some-clause-pointers
 returns-in-Some-clause-pointers g c =
     let a = c.args.self.now in
-    let n = c.loop-place.place in
+    let n = c.loop-position.position in
     let next : n ≡ n - 1 + 1 = omega arith in
-    let index : n ≡ g.P.Ptr.index c.pointer.result = next ∙ sym c.pointer.ensures.index in
-    sym c.loop-place.invariant
+    let index : n ≡ (g.P.Ptr.numbers c.pointer.result).0 = next ∙ sym c.pointer.ensures.index in
+    sym c.loop-position.invariant
     ∙ (falling-some a.slots n (n - 1) (g.P.Gen.PtrGen.number c.in-Some.generation) next (omega arith) (rw (← next) at (sym c.in-Some.ensures))
     ∙ (ap (λ (i : ℕ). (i, g.P.Gen.PtrGen.number c.in-Some.generation) ∷ falling_from a (n - 1)) index
-    ∙ ap (λ (e : ℕ). (g.P.Ptr.index c.pointer.result, e) ∷ falling_from a (n - 1)) (sym c.pointer.ensures.era)))
+    ∙ ap (λ (e : ℕ). ((g.P.Ptr.numbers c.pointer.result).0, e) ∷ falling_from a (n - 1)) (sym c.pointer.ensures.generation)))
 
 pub returns-in-Some-clause-there : goal.returns-in-Some-clause-there
 returns-in-Some-clause-there g c =
-    item-pointed c.args.self.now (c.loop-place.place - 1 + 1) (g.P.Gen.PtrGen.number c.in-Some.generation) _ _ (sym c.in-Some.ensures) c.pointer.ensures.index c.pointer.ensures.era
+    item-pointed c.args.self.now (c.loop-position.position - 1 + 1) (g.P.Gen.PtrGen.number c.in-Some.generation) _ _ (sym c.in-Some.ensures) c.pointer.ensures.index c.pointer.ensures.generation
 
-pub loop-place-preserved : goal.loop-place-preserved
-loop-place-preserved g c =
+pub loop-position-preserved : goal.loop-position-preserved
+loop-position-preserved g c =
     let a = c.args.self.now in
-    let n = c.loop-place.place in
+    let n = c.loop-position.position in
     let next : n ≡ n - 1 + 1 = omega arith in
     let none : generation_at a (n - 1 + 1) ≡ None = sym c.generation_at.ensures ∙ ap (option_map g.P.Gen.PtrGen.number) c.in_default.is in
-    sym (falling-none a.slots n (n - 1) next (omega arith) (rw (← next) at none)) ∙ c.loop-place.invariant
+    sym (falling-none a.slots n (n - 1) next (omega arith) (rw (← next) at none)) ∙ c.loop-position.invariant

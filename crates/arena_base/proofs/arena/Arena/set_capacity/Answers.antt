@@ -22,8 +22,8 @@ list_vacant-requires-clause-full g c =
     let padded = c.add_vacant.new.slots.items in
     let is = padded-moved s.slots.items moved.items padded c.args.n moved.len c.add_vacant.ensures.items c.reserve_exact.ensures.items moved.ok.0 in
     rw c.as_slice.ensures.value
-    (resized-full g.P.Gen.PtrGen.number s.slots.items padded c.cut_vacant.new.slots.items s.generation s.maximum (map inx s.vacant.items) c.args.self.now c.args.n c.full_places-full.result c.self.view_is is
-    c.cut_vacant.ensures.items c.requires.entries c.full_places-full.ensures)
+    (resized-full g.P.Gen.PtrGen.number s.slots.items padded c.cut_vacant.new.slots.items s.generation s.maximum (map inx s.vacant.items) c.args.self.now c.args.n c.full_positions-full.result c.self.view_is is
+    c.cut_vacant.ensures.items c.requires.entries c.full_positions-full.ensures)
 
 pub invariant_of-self-2 : goal.invariant_of-self-2
 invariant_of-self-2 g c =

@@ -11,8 +11,8 @@ pub generation-kept_first-requires : goal.generation-kept_first-requires
 generation-kept_first-requires g c =
     let s = c.self.inside in
     let number = g.P.Gen.PtrGen.number in
-    let found = c.place_of_entry-first.ensures in
-    let was = slot-of number s.slots.items s.generation s.maximum (map g.P.Inx.PtrInx.number s.vacant.items) c.args.self.now c.place_of_entry-first.result (g.P.Inx.PtrInx.number c.args.i) c.index.result.now
+    let found = c.position_of_entry-first.ensures in
+    let was = slot-of number s.slots.items s.generation s.maximum (map g.P.Inx.PtrInx.number s.vacant.items) c.args.self.now c.position_of_entry-first.result (g.P.Inx.PtrInx.number c.args.i) c.index.result.now
     c.self.view_is found.number found.within c.index.ensures in
     is_some-slot_entry number c.index.result.now (ap is_some (sym was) ∙ c.requires.first)
 
@@ -20,28 +20,28 @@ pub generation-kept_second-requires : goal.generation-kept_second-requires
 generation-kept_second-requires g c =
     let s = c.self.inside in
     let number = g.P.Gen.PtrGen.number in
-    let found = c.place_of_entry-second.ensures in
-    let was = slot-of number s.slots.items s.generation s.maximum (map g.P.Inx.PtrInx.number s.vacant.items) c.args.self.now c.place_of_entry-second.result (g.P.Inx.PtrInx.number c.args.j) c.index-2.result.now
+    let found = c.position_of_entry-second.ensures in
+    let was = slot-of number s.slots.items s.generation s.maximum (map g.P.Inx.PtrInx.number s.vacant.items) c.args.self.now c.position_of_entry-second.result (g.P.Inx.PtrInx.number c.args.j) c.index-2.result.now
     c.self.view_is found.number found.within c.index-2.ensures in
     is_some-slot_entry number c.index-2.result.now (ap is_some (sym was) ∙ c.requires.second)
 
 exchange : (g : Over) (c : After-renew-2 g)
-    → IsExchange c.self.inside.slots.items c.swap.new.self.items c.place_of_entry-first.result c.place_of_entry-second.result c.index.result.now c.index-2.result.now
+    → IsExchange c.self.inside.slots.items c.swap.new.self.items c.position_of_entry-first.result c.position_of_entry-second.result c.index.result.now c.index-2.result.now
     c.index_mut-slot.result.now c.index_mut-slot-2.result.now c.renew.new.self c.renew-2.new.self c.generation-kept_first.result c.generation-kept_second.result
 exchange g c =
     let s = c.self.inside in
     let number = g.P.Gen.PtrGen.number in
     let a = c.args.self.now in
-    let first = c.place_of_entry-first.ensures in
-    let second = c.place_of_entry-second.ensures in
-    let at_first = slot-of number s.slots.items s.generation s.maximum (map g.P.Inx.PtrInx.number s.vacant.items) a c.place_of_entry-first.result (g.P.Inx.PtrInx.number c.args.i) c.index.result.now
+    let first = c.position_of_entry-first.ensures in
+    let second = c.position_of_entry-second.ensures in
+    let at_first = slot-of number s.slots.items s.generation s.maximum (map g.P.Inx.PtrInx.number s.vacant.items) a c.position_of_entry-first.result (g.P.Inx.PtrInx.number c.args.i) c.index.result.now
     c.self.view_is first.number first.within c.index.ensures in
-    let at_second = slot-of number s.slots.items s.generation s.maximum (map g.P.Inx.PtrInx.number s.vacant.items) a c.place_of_entry-second.result (g.P.Inx.PtrInx.number c.args.j) c.index-2.result.now
+    let at_second = slot-of number s.slots.items s.generation s.maximum (map g.P.Inx.PtrInx.number s.vacant.items) a c.position_of_entry-second.result (g.P.Inx.PtrInx.number c.args.j) c.index-2.result.now
     c.self.view_is second.number second.within c.index-2.ensures in
     let capacity = sym (ap arena_capacity c.self.view_is) ∙ arena_capacity-of number s.slots.items s.generation s.maximum (map g.P.Inx.PtrInx.number s.vacant.items) in
     record {
-      p_within = subst (λ n. c.place_of_entry-first.result < n) capacity first.within;
-      q_within = subst (λ n. c.place_of_entry-second.result < n) capacity second.within;
+      p_within = subst (λ n. c.position_of_entry-first.result < n) capacity first.within;
+      q_within = subst (λ n. c.position_of_entry-second.result < n) capacity second.within;
       p_is = c.index.ensures;
       q_is = c.index-2.ensures;
       p_occupied = is_some-slot_entry number c.index.result.now (ap is_some (sym at_first) ∙ c.requires.first);
@@ -61,17 +61,17 @@ exchange g c =
 pub invariant_of-self : goal.invariant_of-self
 invariant_of-self g c =
     let s = c.self.inside in (
-      swapped-sound g.P.Gen.PtrGen.number s.slots.items c.swap.new.self.items c.place_of_entry-first.result c.place_of_entry-second.result c.index.result.now c.index-2.result.now
+      swapped-sound g.P.Gen.PtrGen.number s.slots.items c.swap.new.self.items c.position_of_entry-first.result c.position_of_entry-second.result c.index.result.now c.index-2.result.now
           c.index_mut-slot.result.now c.index_mut-slot-2.result.now c.renew.new.self c.renew-2.new.self c.generation-kept_first.result c.generation-kept_second.result (exchange g (goal.at.invariant_of-self g c).After-renew-2)
           g.P.Inx.PtrInx.most g.P.Gen.PtrGen.greatest (map g.P.Inx.PtrInx.number s.vacant.items) s.generation s.maximum c.args.self.now c.self.view_is (g.P.Inx.PtrInx.number c.args.i) (g.P.Inx.PtrInx.number c.args.j)
-          c.place_of_entry-first.ensures.number c.place_of_entry-second.ensures.number c.self.invariant.0,
+          c.position_of_entry-first.ensures.number c.position_of_entry-second.ensures.number c.self.invariant.0,
       omega (arith, c.self.invariant.1, c.swap.ensures.len),
     )
 
 pub returns : goal.returns
 returns g c =
     let s = c.self.inside in
-    swapped-view g.P.Gen.PtrGen.number s.slots.items c.swap.new.self.items c.place_of_entry-first.result c.place_of_entry-second.result c.index.result.now c.index-2.result.now
+    swapped-view g.P.Gen.PtrGen.number s.slots.items c.swap.new.self.items c.position_of_entry-first.result c.position_of_entry-second.result c.index.result.now c.index-2.result.now
     c.index_mut-slot.result.now c.index_mut-slot-2.result.now c.renew.new.self c.renew-2.new.self c.generation-kept_first.result c.generation-kept_second.result (exchange g (goal.at.returns g c).After-renew-2)
     g.P.Inx.PtrInx.most g.P.Gen.PtrGen.greatest (map g.P.Inx.PtrInx.number s.vacant.items) s.generation s.maximum c.args.self.now c.self.view_is (g.P.Inx.PtrInx.number c.args.i) (g.P.Inx.PtrInx.number c.args.j)
-    c.place_of_entry-first.ensures.number c.place_of_entry-second.ensures.number
+    c.position_of_entry-first.ensures.number c.position_of_entry-second.ensures.number

@@ -7,8 +7,8 @@ pub take-entry-requires : goal.take-entry-requires
 take-entry-requires g c =
     let s = c.self.inside in
     let number = g.P.Gen.PtrGen.number in
-    let found = c.place_of_entry-place.ensures in
-    let was = slot-of number s.slots.items s.generation s.maximum (map g.P.Inx.PtrInx.number s.vacant.items) c.args.self.now c.place_of_entry-place.result (g.P.Inx.PtrInx.number c.args.i) c.index_mut-slot.result.now
+    let found = c.position_of_entry-position.ensures in
+    let was = slot-of number s.slots.items s.generation s.maximum (map g.P.Inx.PtrInx.number s.vacant.items) c.args.self.now c.position_of_entry-position.result (g.P.Inx.PtrInx.number c.args.i) c.index_mut-slot.result.now
     c.self.view_is found.number found.within c.index_mut-slot.ensures.value in
     is_some-slot_entry number c.index_mut-slot.result.now (ap is_some (sym was) ∙ c.requires)
 
@@ -16,8 +16,8 @@ pub invariant_of-self : goal.invariant_of-self
 invariant_of-self g c =
     let s = c.self.inside in
     let number = g.P.Gen.PtrGen.number in
-    let found = c.place_of_entry-place.ensures in (
-      take-sound number g.P.Inx.PtrInx.most g.P.Gen.PtrGen.greatest s.slots.items s.generation s.maximum (map g.P.Inx.PtrInx.number s.vacant.items) c.args.self.now c.place_of_entry-place.result (g.P.Inx.PtrInx.number c.args.i)
+    let found = c.position_of_entry-position.ensures in (
+      take-sound number g.P.Inx.PtrInx.most g.P.Gen.PtrGen.greatest s.slots.items s.generation s.maximum (map g.P.Inx.PtrInx.number s.vacant.items) c.args.self.now c.position_of_entry-position.result (g.P.Inx.PtrInx.number c.args.i)
           c.self.view_is found.number (map g.P.Inx.PtrInx.number c.push_reserved.new.self.items) c.take-entry.new.self c.take-entry.ensures.after (numbers-pushed g.P.Inx.PtrInx.number _ _ _ c.push_reserved.ensures.items) c.self.invariant.0 c.requires,
       omega (arith, c.self.invariant.1),
     )
@@ -26,8 +26,8 @@ pub returns-clause-value : goal.returns-clause-value
 returns-clause-value g c =
     let s = c.self.inside in
     let number = g.P.Gen.PtrGen.number in
-    let found = c.place_of_entry-place.ensures in
-    slot-of number s.slots.items s.generation s.maximum (map g.P.Inx.PtrInx.number s.vacant.items) c.args.self.now c.place_of_entry-place.result (g.P.Inx.PtrInx.number c.args.i) c.index_mut-slot.result.now
+    let found = c.position_of_entry-position.ensures in
+    slot-of number s.slots.items s.generation s.maximum (map g.P.Inx.PtrInx.number s.vacant.items) c.args.self.now c.position_of_entry-position.result (g.P.Inx.PtrInx.number c.args.i) c.index_mut-slot.result.now
     c.self.view_is found.number found.within c.index_mut-slot.ensures.value
     ∙ entry_in-slot_entry number c.index_mut-slot.result.now c.take-entry.result c.take-entry.ensures.value
 
@@ -35,6 +35,6 @@ pub returns-clause-after : goal.returns-clause-after
 returns-clause-after g c =
     let s = c.self.inside in
     let number = g.P.Gen.PtrGen.number in
-    let found = c.place_of_entry-place.ensures in
-    take-view number g.P.Inx.PtrInx.most g.P.Gen.PtrGen.greatest s.slots.items s.generation s.maximum (map g.P.Inx.PtrInx.number s.vacant.items) c.args.self.now c.place_of_entry-place.result (g.P.Inx.PtrInx.number c.args.i)
+    let found = c.position_of_entry-position.ensures in
+    take-view number g.P.Inx.PtrInx.most g.P.Gen.PtrGen.greatest s.slots.items s.generation s.maximum (map g.P.Inx.PtrInx.number s.vacant.items) c.args.self.now c.position_of_entry-position.result (g.P.Inx.PtrInx.number c.args.i)
     c.self.view_is found.number (map g.P.Inx.PtrInx.number c.push_reserved.new.self.items) c.take-entry.new.self c.take-entry.ensures.after (numbers-pushed g.P.Inx.PtrInx.number _ _ _ c.push_reserved.ensures.items)

@@ -1,19 +1,19 @@
 use Rattle.std.proofs.Common.{◌≡◌, ◌+◌, length, drop, reverse, ap, sym, ◌∙◌, arith}
 use Rattle.std.proofs.lemmas.List.{length-map, length-reverse, length-drop}
 use Rattle.arena_base.specs.Slot.{vacant_slots}
-use Rattle.arena_base.proofs.Places.{length-vacant_slots, vacant_slots-full}
+use Rattle.arena_base.proofs.Positions.{length-vacant_slots, vacant_slots-full}
 use Rattle.arena_base.proofs.arena.growth.list_vacant.Goals as goal
 
 pub returns-clause-items : goal.returns-clause-items
 returns-clause-items g c =
-    let place = c.loop-place.place in
-    let here : 1 + place ≡ place + 1 = omega arith in
-    let behind = vacant_slots-full 1 place c.args.slots.now (λ k below. c.requires.full k (omega (arith, below, c.loop-place-test.false))) in
-    c.loop-place.invariant.items ∙ ap reverse (sym (behind ∙ ap (λ n. vacant_slots n (drop place c.args.slots.now)) here))
+    let position = c.loop-position.position in
+    let here : 1 + position ≡ position + 1 = omega arith in
+    let behind = vacant_slots-full 1 position c.args.slots.now (λ k below. c.requires.full k (omega (arith, below, c.loop-position-test.false))) in
+    c.loop-position.invariant.items ∙ ap reverse (sym (behind ∙ ap (λ n. vacant_slots n (drop position c.args.slots.now)) here))
 
 pub push_reserved-requires : goal.push_reserved-requires
 push_reserved-requires g c =
-    let place = c.loop-place.place in
-    let rest = drop place c.args.slots.now in
-    let vacant = c.loop-place.vacant in
-    omega (arith, vacant.ok.0, length-map vacant.items g.I.PtrInx.number, ap length c.loop-place.invariant.items, length-reverse (vacant_slots (place + 1) rest), length-vacant_slots (place + 1) rest, length-drop place c.args.slots.now)
+    let position = c.loop-position.position in
+    let rest = drop position c.args.slots.now in
+    let vacant = c.loop-position.vacant in
+    omega (arith, vacant.ok.0, length-map vacant.items g.I.PtrInx.number, ap length c.loop-position.invariant.items, length-reverse (vacant_slots (position + 1) rest), length-vacant_slots (position + 1) rest, length-drop position c.args.slots.now)

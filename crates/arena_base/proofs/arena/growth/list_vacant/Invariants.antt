@@ -2,8 +2,8 @@ use Rattle.std.proofs.Common.{◌≡◌, ◌+◌, map, reverse, drop, vec_capaci
 use Rattle.arena_base.specs.Slot.{vacant_slots}
 use Rattle.arena_base.proofs.arena.growth.list_vacant.Given as goal
 
-abbrev pub invariant-loop-place : goal.invariant-loop-place
-invariant-loop-place g l = record {
-  items : map g.I.PtrInx.number l.vacant.items ≡ reverse (vacant_slots (l.place + 1) (drop l.place l.slots));
+abbrev pub invariant-loop-position : goal.invariant-loop-position
+invariant-loop-position g l = record {
+  items : map g.I.PtrInx.number l.vacant.items ≡ reverse (vacant_slots (l.position + 1) (drop l.position l.slots));
   capacity : vec_capacity l.vacant ≡ vec_capacity l.initial.vacant;
 }

@@ -3,27 +3,27 @@ use Rattle.arena_base.specs.Compression.{compressed_generation}
 use Rattle.chain_base.proofs.Compressing.{paired-before, paired-after, laid-again, chain-compressed, compression-of}
 use Rattle.chain_base.proofs.chain.ChainArena.compress_by.Goals as goal
 
-pub name_places-first-requires : goal.name_places-first-requires
-name_places-first-requires g c = paired-before c.self.inside.arena _ _ _ c.self.invariant
+pub name_compressed_indexes-first-requires : goal.name_compressed_indexes-first-requires
+name_compressed_indexes-first-requires g c = paired-before c.self.inside.arena _ _ _ c.self.invariant
 
-pub name_places-self-inside-requires : goal.name_places-self-inside-requires
-name_places-self-inside-requires g c =
-    let places = c.name_places-first.ensures in
-    paired-after c.self.inside.arena _ _ _ c.self.invariant c.name_places-first.new.arena _ places
-    g.P.Ptr.index g.P.Ptr.era g.M.MapEntry.step _ c.args.map c.compress_items-overflow.new.arena c.compress_items-overflow.ensures.after places.begins
+pub name_compressed_indexes-self-inside-requires : goal.name_compressed_indexes-self-inside-requires
+name_compressed_indexes-self-inside-requires g c =
+    let places = c.name_compressed_indexes-first.ensures in
+    paired-after c.self.inside.arena _ _ _ c.self.invariant c.name_compressed_indexes-first.new.arena _ places
+    g.P.Ptr.numbers g.M.MapEntry.step _ c.args.map c.compress_items-overflow.new.arena c.compress_items-overflow.ensures.after places.begins
 
 pub invariant_of-self : goal.invariant_of-self
 invariant_of-self g c =
-    let places = c.name_places-first.ensures in
-    laid-again c.self.inside.arena _ _ _ c.self.invariant c.name_places-first.new.arena _ places
-    g.P.Ptr.index g.P.Ptr.era g.M.MapEntry.step _ c.args.map c.compress_items-overflow.new.arena c.compress_items-overflow.ensures.after places.begins
-    c.name_places-self-inside.new.arena _ c.name_places-self-inside.ensures
+    let places = c.name_compressed_indexes-first.ensures in
+    laid-again c.self.inside.arena _ _ _ c.self.invariant c.name_compressed_indexes-first.new.arena _ places
+    g.P.Ptr.numbers g.M.MapEntry.step _ c.args.map c.compress_items-overflow.new.arena c.compress_items-overflow.ensures.after places.begins
+    c.name_compressed_indexes-self-inside.new.arena _ c.name_compressed_indexes-self-inside.ensures
 
 pub returns-clause-after : goal.returns-clause-after
 returns-clause-after g c =
-    let places = c.name_places-first.ensures in
-    let done = chain-compressed c.self.inside.arena _ _ _ c.self.invariant c.name_places-first.new.arena _ places
-    g.P.Ptr.index g.P.Ptr.era g.M.MapEntry.step _ c.args.map c.compress_items-overflow.new.arena c.compress_items-overflow.ensures.after places.begins
-    c.name_places-self-inside.new.arena _ c.name_places-self-inside.ensures c.compress_items-overflow.ensures.fresh in
+    let places = c.name_compressed_indexes-first.ensures in
+    let done = chain-compressed c.self.inside.arena _ _ _ c.self.invariant c.name_compressed_indexes-first.new.arena _ places
+    g.P.Ptr.numbers g.M.MapEntry.step _ c.args.map c.compress_items-overflow.new.arena c.compress_items-overflow.ensures.after places.begins
+    c.name_compressed_indexes-self-inside.new.arena _ c.name_compressed_indexes-self-inside.ensures c.compress_items-overflow.ensures.fresh in
     let generation = ap (λ a. a.generation) places.kept ∙ ap (λ v. v.generation) c.self.view_is in
-    compression-of g.P.Ptr.index g.P.Ptr.era g.M.MapEntry.step c.args.map _ c.args.self.now _ _ _ c.self.view_is (ap (compressed_generation g.P.Gen.PtrGen.greatest c.args.reset) generation) done
+    compression-of g.P.Ptr.numbers g.M.MapEntry.step c.args.map _ c.args.self.now _ _ _ c.self.view_is (ap (compressed_generation g.P.Gen.PtrGen.greatest c.args.reset) generation) done

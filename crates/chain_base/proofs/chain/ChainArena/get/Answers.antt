@@ -3,7 +3,7 @@ use Rattle.chain_base.proofs.Ends.{item_of-laid_out, item-found, item-missing}
 use Rattle.chain_base.proofs.chain.ChainArena.get.Goals as goal
 
 pub returns : goal.returns
-returns g c = rw (← c.self.view_is) (rw (item_of-laid_out c.self.inside.arena _ _ c.self.invariant _ _) (item-found _ _ _ (c.in_ok-link.ensures) (ap (λ l. l.item) c.link.view_is)))
+returns g c = rw (← c.self.view_is) (rw (item_of-laid_out c.self.inside.arena _ _ c.self.invariant _) (item-found _ _ _ (c.in_ok-link.ensures) (ap (λ l. l.item) c.link.view_is)))
 
 pub returns-in_err-link : goal.returns-in_err-link
-returns-in_err-link g c = rw (c.from_residual.ensures, ← c.self.view_is) (rw (item_of-laid_out c.self.inside.arena _ _ c.self.invariant _ _) (item-missing _ (c.in_err-link.ensures)))
+returns-in_err-link g c = rw (c.from_residual.ensures, ← c.self.view_is) (rw (item_of-laid_out c.self.inside.arena _ _ c.self.invariant _) (item-missing _ (c.in_err-link.ensures)))

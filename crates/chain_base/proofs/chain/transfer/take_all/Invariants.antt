@@ -7,5 +7,5 @@ use Rattle.chain_base.proofs.chain.transfer.take_all.Given as goal
 abbrev pub invariant-loop : goal.invariant-loop
 invariant-loop g l =
     g.M.MapTaken.callable l.map
-    × (h : HasTaken g.Q.Ptr.index g.Q.Ptr.era g.P.Ptr.index g.P.Ptr.era g.Q.Gen.PtrGen.greatest g.M.MapTaken.step l.fn.map l.fn.source l.source l.fn.chain l.chain l.map)
+    × (h : HasTaken g.Q.Ptr.numbers g.P.Ptr.numbers g.Q.Gen.PtrGen.greatest g.M.MapTaken.step l.fn.map l.fn.source l.source l.fn.chain l.chain l.map)
     × (length h.gone ≡ l.counter) × (option_map g.P.Inx.PtrInx.number l.last ≡ last_of (length h.items))

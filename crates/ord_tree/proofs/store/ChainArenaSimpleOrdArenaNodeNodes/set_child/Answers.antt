@@ -1,5 +1,5 @@
 use Rattle.std.proofs.Common.{option_map}
-use Rattle.ord_tree.specs.Links.{with_child_at}
+use Rattle.ord_tree.specs.TreeLinks.{with_child_at}
 use Rattle.ord_tree.proofs.Entries.{slots_of-changed, slots_of-elsewhere, slots_of-occupied, bare-written}
 use Rattle.ord_tree.proofs.store.ChainArenaSimpleOrdArenaNodeNodes.set_child.Goals as goal
 

@@ -1,5 +1,5 @@
 use Rattle.std.proofs.Common.{refl}
-use Rattle.ord_tree.specs.Links.{numbered}
+use Rattle.ord_tree.specs.TreeLinks.{numbered}
 use Rattle.ord_tree.proofs.Entries.{slots_of-linked, slots_of-elsewhere, slots_of-occupied, bare-written}
 use Rattle.ord_tree.proofs.store.ChainArenaSimpleOrdArenaNodeNodes.set_links.Goals as goal
 

@@ -3,8 +3,8 @@ use Rattle.ord_tree.proofs.Named.{inserted-named}
 use Rattle.ord_tree.proofs.Grown.{CanPutAt-bare, CanPlace-put, call_allowed, call_grown, call_listed}
 use Rattle.ord_tree.proofs.tree.OrdTree.insert_within_capacity.Goals as goal
 
-pub place_at-place-requires : goal.place_at-place-requires
-place_at-place-requires g c = CanPutAt-bare g.P.Inx.PtrInx.number c.args.at c.self.inside.chain (rw (← c.self.view_is) at c.requires)
+pub branch_at-branch-requires : goal.branch_at-branch-requires
+branch_at-branch-requires g c = CanPutAt-bare g.P.Inx.PtrInx.number c.args.at c.self.inside.chain (rw (← c.self.view_is) at c.requires)
 
 pub insert_within_capacity-requires : goal.insert_within_capacity-requires
 insert_within_capacity-requires g c =
@@ -22,7 +22,7 @@ grow-requires g c =
     let can = CanPutAt-bare number c.args.at c.self.inside.chain (rw (← c.self.view_is) at c.requires) in
     let root = option_map number c.self.inside.root in
     let x_is = ap number c.new.ensures ∙ c.inx.ensures in
-    call_allowed number c.self.inside.chain root c.args.at _ c.self.invariant can c.place_at-place.ensures c.parent_in.ensures c.leaf-node.ensures c.kind_of.ensures
+    call_allowed number c.self.inside.chain root c.args.at _ c.self.invariant can c.branch_at-branch.ensures c.parent_in.ensures c.leaf-node.ensures c.kind_of.ensures
     c.in_ok-p.ensures.ok x_is g.P.Inx.PtrInx.most g.P.Gen.PtrGen.greatest c.len.ensures.sound g.met.P.Inx.PtrInx.fits
 
 pub invariant_of-self-2 : goal.invariant_of-self-2
@@ -31,7 +31,7 @@ invariant_of-self-2 g c =
     let can = CanPutAt-bare number c.args.at c.self.inside.chain (rw (← c.self.view_is) at c.requires) in
     let root = option_map number c.self.inside.root in
     let x_is = ap number c.new.ensures ∙ c.inx.ensures in
-    (call_grown number c.self.inside.chain root c.args.at _ c.self.invariant can c.place_at-place.ensures c.parent_in.ensures c.leaf-node.ensures c.kind_of.ensures
+    (call_grown number c.self.inside.chain root c.args.at _ c.self.invariant can c.branch_at-branch.ensures c.parent_in.ensures c.leaf-node.ensures c.kind_of.ensures
     c.in_ok-p.ensures.ok x_is g.P.Inx.PtrInx.most g.P.Gen.PtrGen.greatest c.len.ensures.sound g.met.P.Inx.PtrInx.fits
     c.grow.new.chain c.grow.new.root c.grow.ensures.kept c.grow.ensures.grown).0
 
@@ -41,7 +41,7 @@ returns-clause-ok g c =
     let can = CanPutAt-bare number c.args.at c.self.inside.chain (rw (← c.self.view_is) at c.requires) in
     let root = option_map number c.self.inside.root in
     let x_is = ap number c.new.ensures ∙ c.inx.ensures in
-    rw (← c.self.view_is) (call_listed number c.self.inside.chain root c.args.at _ c.self.invariant can c.place_at-place.ensures c.parent_in.ensures c.leaf-node.ensures c.kind_of.ensures
+    rw (← c.self.view_is) (call_listed number c.self.inside.chain root c.args.at _ c.self.invariant can c.branch_at-branch.ensures c.parent_in.ensures c.leaf-node.ensures c.kind_of.ensures
     c.in_ok-p.ensures.ok x_is g.P.Inx.PtrInx.most g.P.Gen.PtrGen.greatest c.len.ensures.sound g.met.P.Inx.PtrInx.fits
     c.grow.new.chain c.grow.new.root c.grow.ensures.kept c.grow.ensures.grown)
 
@@ -51,6 +51,6 @@ returns-clause-shape g c =
     let can = CanPutAt-bare number c.args.at c.self.inside.chain (rw (← c.self.view_is) at c.requires) in
     let root = option_map number c.self.inside.root in
     let x_is = ap number c.new.ensures ∙ c.inx.ensures in
-    rw (← c.self.view_is) (call_grown number c.self.inside.chain root c.args.at _ c.self.invariant can c.place_at-place.ensures c.parent_in.ensures c.leaf-node.ensures c.kind_of.ensures
+    rw (← c.self.view_is) (call_grown number c.self.inside.chain root c.args.at _ c.self.invariant can c.branch_at-branch.ensures c.parent_in.ensures c.leaf-node.ensures c.kind_of.ensures
     c.in_ok-p.ensures.ok x_is g.P.Inx.PtrInx.most g.P.Gen.PtrGen.greatest c.len.ensures.sound g.met.P.Inx.PtrInx.fits
     c.grow.new.chain c.grow.new.root c.grow.ensures.kept c.grow.ensures.grown).1

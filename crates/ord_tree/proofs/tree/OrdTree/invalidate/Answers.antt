@@ -9,7 +9,7 @@ invariant_of-self g c =
     c.invalidate.ensures.renewed c.invalidate.ensures.invalid
 
 pub returns-clause-valid : goal.returns-clause-valid
-returns-clause-valid g c = rw (← c.self.view_is) (c.invalidate.ensures.valid ∙ sym (item_of-bare c.self.inside.chain.entries _ _))
+returns-clause-valid g c = rw (← c.self.view_is) (c.invalidate.ensures.valid ∙ sym (item_of-bare c.self.inside.chain.entries _))
 
 pub returns-clause-renewed : goal.returns-clause-renewed
 returns-clause-renewed g c =

@@ -4,5 +4,5 @@ use Rattle.ord_tree.proofs.tree.OrdTree.transfer_canonical_reallocating.Goals as
 pub returns-clause-ok : goal.returns-clause-ok
 returns-clause-ok g c =
     rw (← c.self.view_is, ← c.source.view_is)
-    (IsTransfer-bare g.Q.Ptr.index g.Q.Ptr.era g.P.Ptr.index g.P.Ptr.era g.Q.Gen.PtrGen.greatest _ _ (λ m. m.map.f) (λ s q taken p n t called. record { plain = called.plain; item = called.item; overflow = called.overflow; called = called.called }) _ _
+    (IsTransfer-bare g.Q.Ptr.numbers g.P.Ptr.numbers g.Q.Gen.PtrGen.greatest _ _ (λ m. m.map.f) (λ s q taken p n t called. record { plain = called.plain; item = called.item; overflow = called.overflow; called = called.called }) _ _
     c.source.inside.chain c.transfer_by.new.source c.self.inside.chain c.transfer_by.new.self c.in_ok-transfer_by.ensures.ok _ c.rebuild_over.ensures.kept)

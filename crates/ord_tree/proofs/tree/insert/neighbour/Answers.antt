@@ -1,5 +1,5 @@
 use Rattle.std.proofs.Common.{◌∙◌, None}
-use Rattle.ord_tree.proofs.Planting.{linked-some, neighbours-linked}
+use Rattle.ord_tree.proofs.LeafBranches.{linked-some, neighbours-linked}
 use Rattle.ord_tree.proofs.tree.insert.neighbour.Goals as goal
 
 pub returns-in-Lesser : goal.returns-in-Lesser

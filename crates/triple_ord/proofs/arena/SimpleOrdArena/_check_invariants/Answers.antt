@@ -1,5 +1,4 @@
-use Rattle.std.proofs.Common.{rules, ◌≡◌, ◌↔◌, ◌∷◌, refl, sym}
-use Rattle.triple_ord.specs.Order.{IsInOrder}
+use Rattle.std.proofs.Common.{refl, sym}
 use Rattle.triple_ord.proofs.Ordered.{in_order-one, in_order-step, in_order-not}
 use Rattle.triple_ord.proofs.arena.SimpleOrdArena._check_invariants.Goals as goal
 

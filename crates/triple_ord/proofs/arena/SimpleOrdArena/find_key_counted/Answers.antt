@@ -4,5 +4,5 @@ use Rattle.triple_ord.proofs.arena.SimpleOrdArena.find_key_counted.Goals as goal
 
 pub returns-clause-found : goal.returns-clause-found
 returns-clause-found g c =
-    rw (c.equal_alone.ensures, ← where_equal-map {Y = ℕ × ℕ} (λ p. (g.P.Ptr.index p, g.P.Ptr.era p)) c.find_similar_key_counted-found.result.0)
+    rw (c.equal_alone.ensures, ← where_equal-map {Y = ℕ × ℕ} g.P.Ptr.numbers c.find_similar_key_counted-found.result.0)
     (finds_key-similar g.T.SimpleOrdItem.key_of g.T.Key.Ord.cmp _ _ _ _ c.find_similar_key_counted-found.ensures.found)

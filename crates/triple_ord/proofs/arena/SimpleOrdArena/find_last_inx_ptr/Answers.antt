@@ -2,7 +2,7 @@ use Rattle.triple_ord.proofs.Bare.{last_index-under, none-under}
 use Rattle.triple_ord.proofs.arena.SimpleOrdArena.find_last_inx_ptr.Goals as goal
 
 pub returns-clause-last : goal.returns-clause-last
-returns-clause-last g c = rw (← c.self.view_is) (last_index-under _ _ c.chain.ensures.chain _ g.P.Ptr.index g.P.Ptr.era c.find_last_inx_ptr.ensures.last)
+returns-clause-last g c = rw (← c.self.view_is) (last_index-under _ _ c.chain.ensures.chain _ g.P.Ptr.numbers c.find_last_inx_ptr.ensures.last)
 
 pub returns-clause-empty : goal.returns-clause-empty
 returns-clause-empty g c = rw (← c.self.view_is) (none-under _ _ c.chain.ensures.chain _ c.find_last_inx_ptr.ensures.empty)

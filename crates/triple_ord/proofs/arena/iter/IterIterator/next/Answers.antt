@@ -12,7 +12,7 @@ pub returns-clause-steps : goal.returns-clause-steps
 returns-clause-steps g c =
     let item = ap (λ (l : Link (Bor g.row.T.Denot)). l.item) c.link.view_is in
     let next = c.next-self-inside.ensures.value in
-    sym c.self.view_is ∙ rw (c.in_ok-i.was, c._from_raw.ensures.index, c._from_raw.ensures.era, next, item) (walk-step _ _ _ _ c.self.invariant.distinct c.in_ok-entry.ensures)
+    sym c.self.view_is ∙ rw (c.in_ok-i.was, c._from_raw.ensures, next, item) (walk-step _ _ _ _ c.self.invariant.distinct c.in_ok-entry.ensures)
 
 pub returns-clause-goes : goal.returns-clause-goes
 returns-clause-goes g c =

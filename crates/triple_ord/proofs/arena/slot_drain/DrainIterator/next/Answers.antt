@@ -25,18 +25,18 @@ pub returns-clause-steps : goal.returns-clause-steps
 returns-clause-steps g c =
     let a = c.args.self.now.arena.now in
     let p = c.in_ok-p.p in
-    let i = g.P.Ptr.index p in
+    let i = (g.P.Ptr.numbers p).0 in
     let walk = c.in_ok-p.ensures.step in
     let valid = c.unwrap-taken.ensures.value in
     let removal = subst (λ o. OnSome o (c.remove.new.self.list ≡ removed g.P.Gen.PtrGen.greatest a.list i)) valid c.remove.ensures.removed in
-    let first : walk_rest c.args.self.now.walk (content_of a) ≡ (i, g.P.Ptr.era p) ∷ walk_rest c.advance.new.self (content_of c.remove.new.self) =
-    walk.step.first ∙ ap (λ rest. (i, g.P.Ptr.era p) ∷ rest)
+    let first : walk_rest c.args.self.now.walk (content_of a) ≡ (i, (g.P.Ptr.numbers p).1) ∷ walk_rest c.advance.new.self (content_of c.remove.new.self) =
+    walk.step.first ∙ ap (λ rest. (i, (g.P.Ptr.numbers p).1) ∷ rest)
     (rw walk.step.stands (rest-removed _ _ a c.remove.new.self i c.len.ensures.sound removal c.args.self.now.walk)) in
     let made : allowed_value c.map.result ≡ (p, allowed_value c.unwrap-taken.result) = let value = c.map.ensures.value in search rules in (
       refl,
       record {
         first = rw made first;
-        whole = whole-removed _ _ a c.remove.new.self i c.len.ensures.sound removal (g.P.Ptr.era p) _ _ first;
+        whole = whole-removed _ _ a c.remove.new.self i c.len.ensures.sound removal (g.P.Ptr.numbers p).1 _ _ first;
         removed_list = rw made removal;
         shape = subst (λ o. OnSome o (IsShrunk a.shape c.remove.new.self.shape)) valid c.remove.ensures.shape;
         overflow = c.map.ensures.overflow ∙ (c.unwrap-taken.ensures.overflow

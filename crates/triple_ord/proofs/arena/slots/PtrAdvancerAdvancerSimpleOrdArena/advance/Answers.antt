@@ -4,4 +4,4 @@ use Rattle.triple_ord.proofs.arena.slots.PtrAdvancerAdvancerSimpleOrdArena.advan
 pub returns-clause-step : goal.returns-clause-step
 returns-clause-step g c =
     let under = rw c.arena.view_is at c.chain.ensures.chain in
-    steps-under _ _ c.args.arena.now c.len.ensures.sound _ _ _ _ under c.arena-nodes.ensures c.capacity.ensures.sound.begins _ _ _ c.advance.ensures.step
+    steps-under _ _ c.args.arena.now c.len.ensures.sound _ _ _ under c.arena-nodes.ensures c.capacity.ensures.sound.begins _ _ _ c.advance.ensures.step

@@ -1,0 +1,232 @@
+-- One step of the repair after a removal, and the way from a node that has demoted to its parent.
+use Rattle.std.proofs.Common.{◌≡◌, ◌≢◌, ℕ, ◌+◌, ◌^◌, ◌<◌, ◌≤◌, Option, Some, None, List, [], length, arith, refl, inr, sym, ◌∙◌, ap, subst, is_some, true, option_map, MatchOption}
+use Rattle.std.specs.Option.{IfSome}
+use Rattle.ord_tree.specs.declared.tree_links.Side.{Side}
+use Rattle.ord_tree.specs.declared.tree_links.TreeLinks.{TreeLinks}
+use Rattle.ord_tree.specs.declared.tree_links.Branch.{Branch}
+use Rattle.ord_tree.specs.TreeLinks.{other_side, child_at}
+use Rattle.ord_tree.specs.Shape.{Shape, missing, node, fork, rank_of, root_of, size_of, walk}
+use Rattle.ord_tree.specs.Slots.{Slots, Holds, Way, top, up, plug, above, HoldsWay, here, times_in, times_way, IsApart, rank_at}
+use Rattle.ord_tree.specs.Balance.{IsOver, IsBalanced, IsBalancedWay}
+use Rattle.ord_tree.specs.Promote.{IsBuilt, IsRepaired}
+use Rattle.ord_tree.specs.Demote.{IsFallen, IsDemoted, IsLeaning, HasDemoted}
+use Rattle.ord_tree.proofs.Slack.{IsRanked-balanced, rank-small}
+use Rattle.ord_tree.proofs.Halves.{size_of-walk}
+use Rattle.ord_tree.proofs.Forks.{fork-other, rank-fork, size-fork, walk-ranked, walk-plug, link-root, Holds-fork, Holds-plug, fork_balanced, IsBalanced-fork, IsBalanced-plug, here-same, times_in-fork, IsApart-once, apart-from}
+use Rattle.ord_tree.proofs.Frames.{root-in, HoldsWay-frame, Holds-reranked, backs-ranked}
+use Rattle.ord_tree.proofs.Rotations.{ForkAt, ForkAt-holds, occupied-link}
+use Rattle.ord_tree.proofs.Promoting.{size-plug, root_holds}
+use Rattle.ord_tree.proofs.Leaning.{some_of}
+use Rattle.ord_tree.proofs.Doubles.{fork_of, rank_at-held}
+use Rattle.ord_tree.proofs.NewLeaf.{rootless}
+
+-- where a node is, a rank is
+rank-positive : (slack : ℕ) (s : Shape) (i : ℕ) → IsBalanced slack s → root_of s ≡ Some i → 0 < rank_of s
+rank-positive slack missing i h e = absurd cc
+rank-positive slack (node l j k r) i h e = omega (arith, h.0.lesser)
+
+module _ {at : Slots} {root : Option ℕ} {y : ℕ} {side : Side} {order : List ℕ} (fallen : IsFallen at root y side order) where
+  abbrev whole : Shape
+  whole = fork side fallen.low y fallen.rank fallen.far
+
+  pub y_occupied : is_some (at y) ≡ true
+  y_occupied = occupied-link at (above fallen.way) (Some y) whole y fallen.held refl
+
+  module _ (ny : TreeLinks ℕ) (e : at y ≡ Some ny) where
+    y_holds : ForkAt at (above fallen.way) side fallen.low y fallen.rank fallen.far ny
+    y_holds = ForkAt-holds at (above fallen.way) (Some y) side fallen.low y fallen.rank fallen.far ny e fallen.held
+
+    pub y_rank : ny.rank ≡ fallen.rank
+    y_rank = y_holds.rank
+
+    pub low_rank : rank_at at (child_at side ny) ≡ rank_of fallen.low
+    low_rank = rank_at-held at (Some y) (child_at side ny) fallen.low y_holds.near_held
+
+    pub low_occupied : (i : ℕ) → child_at side ny ≡ Some i → is_some (at i) ≡ true
+    low_occupied i link = occupied-link at (Some y) (child_at side ny) fallen.low i y_holds.near_held link
+
+    pub far_root : child_at (other_side side) ny ≡ root_of fallen.far
+    far_root = link-root at (Some y) (child_at (other_side side) ny) fallen.far y_holds.far_held
+
+    pub far_occupied : (i : ℕ) → child_at (other_side side) ny ≡ Some i → is_some (at i) ≡ true
+    far_occupied i link = occupied-link at (Some y) (child_at (other_side side) ny) fallen.far i y_holds.far_held link
+
+    pub far_rank : (s : ℕ) (ns : TreeLinks ℕ) → child_at (other_side side) ny ≡ Some s → at s ≡ Some ns → ns.rank ≡ rank_of fallen.far
+    far_rank s ns link d =
+        let P : Option ℕ → Type 0 = λ child. Holds at (Some y) child fallen.far in
+        (root_holds at (Some y) s fallen.far ns (subst P link y_holds.far_held) d).1
+
+  apart : IsApart fallen.way whole
+  apart = IsApart-once fallen.way whole order fallen.listed fallen.once
+
+  parts_apart : (j : ℕ) → times_way j fallen.way + times_in j fallen.low + here j y + times_in j fallen.far ≤ 1
+  parts_apart j = omega (arith, apart j, times_in-fork j side fallen.low fallen.far y fallen.rank)
+
+  -- y is high enough
+  pub IsRepaired-stop : fallen.rank ≤ rank_of fallen.low + 2 → (s : ℕ) → root_of fallen.far ≡ Some s → IsRepaired at at root order 1
+  IsRepaired-stop enough s far =
+      let positive = rank-positive 1 fallen.far s fallen.balanced_far far in
+      let over : IsOver 1 fallen.rank (rank_of fallen.low) (rank_of fallen.far) = record { lesser = omega (arith, fallen.over); greater = fallen.over.greater; leaf = λ a b. absurd (omega arith); tight = omega (arith, fallen.over.greater) } in
+      let P : ℕ → Type 0 = λ rank. IsBalancedWay 1 fallen.way rank in
+      record {
+        built = record {
+          shape = plug fallen.way whole;
+          held = Holds-plug at root fallen.way whole (Some y) fallen.held_way fallen.held;
+          listed = fallen.listed;
+          balanced = IsBalanced-plug 1 fallen.way whole (subst P (sym (rank-fork side fallen.low fallen.far y fallen.rank)) fallen.balanced_way)
+              (IsBalanced-fork 1 side fallen.low fallen.far y fallen.rank over fallen.balanced_low fallen.balanced_far);
+        };
+        backs = ([], omega arith, λ j. inr refl);
+      }
+
+  -- the rank stays small
+  rank-bound : fallen.rank < 256
+  rank-bound =
+      let few : size_of fallen.low < 2 ^ 64 = omega (arith, size-plug fallen.way whole, size-fork side fallen.low fallen.far y fallen.rank, size_of-walk (plug fallen.way whole), ap length fallen.listed, fallen.few) in
+      omega (arith, fallen.over.lesser, rank-small fallen.low (IsRanked-balanced 1 fallen.low fallen.balanced_low) few)
+
+  -- y gets the rank one lower
+  pub IsDemoted-written : (new : Slots) (rank : ℕ) → rank + 1 ≡ fallen.rank → IsOver 1 rank (rank_of fallen.low) (rank_of fallen.far)
+      → ((n : TreeLinks ℕ) → at y ≡ Some n → new y ≡ Some (record n { rank = rank })) → ((j : ℕ) → j ≢ y → new j ≡ at j) → (ny : TreeLinks ℕ) → at y ≡ Some ny → IsDemoted at new root y order
+  IsDemoted-written new rank lower over written elsewhere ny e =
+      let P : ℕ → Type 0 = λ k. IsBalancedWay 1 fallen.way k in
+      let rank_is = rank-fork side fallen.low fallen.far y rank in
+      let rank_was = rank_at-held at (above fallen.way) (Some y) whole fallen.held ∙ rank-fork side fallen.low fallen.far y fallen.rank in
+      record {
+        demoted = record {
+          way = fallen.way;
+          shape = fork side fallen.low y rank fallen.far;
+          held_way = HoldsWay-frame at new fallen.way root (Some y) (λ j in_way. elsewhere j (apart-from y j (λ j. times_way j fallen.way) (omega (arith, parts_apart y, here-same y)) in_way)) fallen.held_way;
+          held = Holds-reranked at new (above fallen.way) (Some y) side fallen.low fallen.far y fallen.rank rank written elsewhere (omega (arith, parts_apart y, here-same y)) (omega (arith, parts_apart y, here-same y)) fallen.held;
+          listed = walk-plug fallen.way (fork side fallen.low y rank fallen.far) whole (walk-ranked side fallen.low fallen.far y rank fallen.rank) ∙ fallen.listed;
+          balanced = IsBalanced-fork 1 side fallen.low fallen.far y rank over fallen.balanced_low fallen.balanced_far;
+          balanced_way = subst P (omega (arith, rank_is, lower)) fallen.balanced_way;
+          once = fallen.once;
+          few = fallen.few;
+        };
+        rank = omega (arith, rank_is, rank_was, lower);
+        fits = omega (arith, rank_was, rank-bound);
+        backs = backs-ranked at new y rank ny e written elsewhere;
+      }
+
+  -- where nothing hangs on the other side
+  pub IsOver-bare : root_of fallen.far ≡ None → (fallen.rank ≡ 2) × IsOver 1 1 (rank_of fallen.low) (rank_of fallen.far)
+  IsOver-bare bare = let none : rank_of fallen.far ≡ 0 = ap rank_of (rootless fallen.far bare) in (omega (arith, fallen.over), omega (arith, fallen.over))
+
+  -- where the sibling is one below
+  pub IsLeaning-fallen : (s : ℕ) → root_of fallen.far ≡ Some s → rank_of fallen.low + 3 ≡ fallen.rank → rank_of fallen.far + 1 ≡ fallen.rank → IsLeaning at root (other_side side) y s order
+  IsLeaning-fallen s far low sibling =
+      let forked = fork_of (other_side side) fallen.far s far in
+      let turned : whole ≡ fork (other_side side) (fork (other_side side) forked.near s forked.rank forked.far) y fallen.rank fallen.low
+      = sym (fork-other side fallen.far fallen.low y fallen.rank) ∙ ap (λ t. fork (other_side side) t y fallen.rank fallen.low) forked.is in
+      let P : Shape → Type 0 = λ t. Holds at (above fallen.way) (Some y) t in
+      let Q : Shape → Type 0 = λ t. IsApart fallen.way t in
+      let R : Shape → Type 0 = λ t. walk (plug fallen.way t) ≡ order in
+      let S : Shape → Type 0 = λ t. IsBalanced 1 t in
+      let rank_is : forked.rank ≡ rank_of fallen.far = sym (rank-fork (other_side side) forked.near forked.far s forked.rank) ∙ ap rank_of (sym forked.is) in
+      let parts = fork_balanced 1 (other_side side) forked.near forked.far s forked.rank (subst S forked.is fallen.balanced_far) in
+      record {
+        site = record {
+          way = fallen.way;
+          outer = forked.near;
+          inner = forked.far;
+          far = fallen.low;
+          low = forked.rank;
+          high = fallen.rank;
+          held_way = fallen.held_way;
+          held = subst P turned fallen.held;
+          apart = subst Q turned apart;
+        };
+        low = low;
+        sibling = omega (arith, rank_is, sibling);
+        over = parts.0;
+        balanced_outer = parts.1;
+        balanced_inner = parts.2;
+        balanced_low = fallen.balanced_low;
+        balanced_way = fallen.balanced_way;
+        listed = subst R turned fallen.listed;
+        once = fallen.once;
+        few = fallen.few;
+      }
+
+-- a node that has demoted, and its parent
+module _ {old new : Slots} {root : Option ℕ} {y : ℕ} {order : List ℕ} (demoted : IsDemoted old new root y order) where
+  abbrev way : Way
+  way = demoted.demoted.way
+
+  pub demoted_occupied : is_some (new y) ≡ true
+  demoted_occupied = occupied-link new (above way) (Some y) demoted.demoted.shape y demoted.demoted.held refl
+
+  demoted_back : (n : TreeLinks ℕ) → new y ≡ Some n → above way ≡ n.back
+  demoted_back n e = sym (root_holds new (above way) y demoted.demoted.shape n demoted.demoted.held e).0
+
+  pub parent_occupied : (n : TreeLinks ℕ) (p : ℕ) → new y ≡ Some n → n.back ≡ Some p → is_some (new p) ≡ true
+  parent_occupied n p e back = go way demoted.demoted.held_way (demoted_back n e ∙ back)
+    where
+      go : (w : Way) → HoldsWay new root w (Some y) → above w ≡ Some p → is_some (new p) ≡ true
+      go top h a = absurd cc
+      go (up side i k far rest) h a = let same : p ≡ i = cc in rw (same, h.1) refl
+
+  pub IsRepaired-top : (n : TreeLinks ℕ) → new y ≡ Some n → n.back ≡ None → IsRepaired old new root order 1
+  IsRepaired-top n e back = record {
+    built = go way demoted.demoted.held_way demoted.demoted.held demoted.demoted.listed (demoted_back n e ∙ back);
+    backs = ([], omega arith, λ j. inr (demoted.backs j));
+  }
+    where
+      go : (w : Way) → HoldsWay new root w (Some y) → Holds new (above w) (Some y) demoted.demoted.shape → walk (plug w demoted.demoted.shape) ≡ order → above w ≡ None → IsBuilt new root order 1
+      go top h held listed a = record { shape = demoted.demoted.shape; held = Holds-plug new root top demoted.demoted.shape (Some y) h held; listed = listed; balanced = demoted.demoted.balanced }
+      go (up side i k far rest) h held listed a = absurd cc
+
+  pub HasDemoted-up : (n : TreeLinks ℕ) (z : ℕ) (d : Side) → new y ≡ Some n → n.back ≡ Some z
+      → ((pz : TreeLinks ℕ) (side : Side) → new z ≡ Some pz → child_at side pz ≡ Some y → child_at (other_side side) pz ≢ Some y → d ≡ side) → HasDemoted old new root y z d order
+  HasDemoted-up n z d e back side_is = go way demoted.demoted.held_way demoted.demoted.held demoted.demoted.listed demoted.demoted.balanced_way (demoted_back n e ∙ back)
+    where
+      shape : Shape
+      shape = demoted.demoted.shape
+
+      under : (side : Side) (i k : ℕ) (far : Shape) (rest : Way) → HoldsWay new root (up side i k far rest) (Some y)
+          → Holds new (Some i) (Some y) demoted.demoted.shape → walk (plug rest (fork side demoted.demoted.shape i k far)) ≡ order
+          → IsBalancedWay 1 (up side i k far rest) (rank_of demoted.demoted.shape + 1) → i ≡ z → HasDemoted old new root y i side order
+      under side i k far rest h held listed balanced same =
+          let P : Option ℕ → Type 0 = λ link. Holds new (Some i) link demoted.demoted.shape in
+          record {
+            fallen = record {
+              way = rest;
+              low = demoted.demoted.shape;
+              far = far;
+              rank = k;
+              held_way = h.6;
+              held = Holds-fork new (above rest) (Some i) side demoted.demoted.shape far i k (h.0, refl, h.1, h.2, h.3, subst P (sym h.4) held, h.5);
+              listed = listed;
+              over = balanced.0;
+              balanced_low = demoted.demoted.balanced;
+              balanced_far = balanced.1;
+              balanced_way = balanced.2;
+              once = demoted.demoted.once;
+              few = demoted.demoted.few;
+            };
+            higher = rw h.1 (omega (arith, h.3, demoted.rank, balanced.0.lesser));
+            fits = demoted.fits;
+            backs = demoted.backs;
+          }
+
+      go : (w : Way) → HoldsWay new root w (Some y) → Holds new (above w) (Some y) demoted.demoted.shape → walk (plug w demoted.demoted.shape) ≡ order
+          → IsBalancedWay 1 w (rank_of demoted.demoted.shape + 1) → above w ≡ Some z → HasDemoted old new root y z d order
+      go top h held listed balanced a = absurd cc
+      go (up side i k far rest) h held listed balanced a =
+          let same : i ≡ z = cc in
+          let apart = IsApart-once (up side i k far rest) demoted.demoted.shape order listed demoted.demoted.once y in
+          let in_shape = root-in demoted.demoted.shape y (sym (link-root new (Some i) (Some y) demoted.demoted.shape held)) in
+          let not_far : child_at (other_side side) h.0 ≢ Some y = λ f. let in_far = root-in far y (sym (link-root new (Some i) (child_at (other_side side) h.0) far h.5) ∙ f) in omega arith in
+          let d_is : d ≡ side = side_is h.0 side (rw (← same) h.1) h.4 not_far in
+          let P : ℕ → Type 0 = λ z. HasDemoted old new root y z d order in
+          let Q : Side → Type 0 = λ d. HasDemoted old new root y i d order in
+          subst P same (subst Q (sym d_is) (under side i k far rest h held listed balanced same))
+
+  -- what the parent's branch says
+  pub demoted_branch : {I : Type 0} (number : I → ℕ) (result : Option (Branch I))
+      → ((n : TreeLinks ℕ) → new y ≡ Some n → option_map (λ (p : Branch I). number p.parent) result ≡ n.back)
+      → IfSome result (λ branch. (p : TreeLinks ℕ) (side : Side) → new (number branch.parent) ≡ Some p → child_at side p ≡ Some y → child_at (other_side side) p ≢ Some y → branch.side ≡ side)
+      → MatchOption result (IsRepaired old new root order 1) (λ branch. HasDemoted old new root y (number branch.parent) branch.side order)
+  demoted_branch number None back sides = let n = some_of (new y) demoted_occupied in IsRepaired-top n.0 n.1 (sym (back n.0 n.1))
+  demoted_branch number (Some branch) back sides = let n = some_of (new y) demoted_occupied in HasDemoted-up n.0 (number branch.parent) branch.side n.1 (sym (back n.0 n.1)) sides

@@ -1,0 +1,107 @@
+-- Where a new leaf hangs.
+use Rattle.std.proofs.Common.{◌≡◌, ◌≢◌, ℕ, ◌<◌, Option, Some, None, List, [], ◌∷◌, arith, refl, sym, ◌∙◌, ap, ⊎_elim, is_some, true, false, option_map}
+use Rattle.std.proofs.lemmas.Bool.{cases_eq, eq-eqb, ne_eqb}
+use Rattle.chain_base.specs.Chain.{Entry, entry_at, times as entry_times, link_between, first_or, IsDistinct}
+use Rattle.chain_base.specs.Link.{Link}
+use Rattle.chain_base.proofs.CallerLemmas.{entry-occurs}
+use Rattle.ord_tree.specs.declared.tree_links.Side.{Side}
+use Rattle.ord_tree.specs.declared.tree_links.Side.TheVariants.{Lesser, Greater}
+use Rattle.ord_tree.specs.declared.tree_links.TreeLinks.{TreeLinks}
+use Rattle.ord_tree.specs.declared.tree_links.Branch.{Branch}
+use Rattle.ord_tree.specs.TreeLinks.{other_side, child_at}
+use Rattle.ord_tree.specs.Shape.{Shape, walk}
+use Rattle.ord_tree.specs.Slots.{Slots, Holds, times, IsOnce}
+use Rattle.ord_tree.specs.Node.{indexes}
+use Rattle.ord_tree.specs.Leaf.{list_head, previous, following, neighbour_in, beside}
+use Rattle.ord_tree.specs.LeafBranch.{IsLeafBranch}
+use Rattle.ord_tree.proofs.Neighbours.{before_in, after_in, previous-neighbour, following-neighbour, between, first-within, second-within}
+
+module _ {T : Type 0} where
+  -- the indexes and the entries
+  pub times-indexes : (es : List (Entry T)) (i : ℕ) → times i (indexes es) ≡ entry_times i es
+  times-indexes [] i = refl
+  times-indexes (e ∷ es) i =
+      ⊎_elim (λ (same : e.index ≡ i). rw (eq-eqb e.index i same, eq-eqb i e.index (sym same)) (omega (arith, times-indexes es i)))
+      (λ (other : e.index ≢ i). rw (ne_eqb e.index i other, ne_eqb i e.index (λ d. other (sym d))) (omega (arith, times-indexes es i))) (cases_eq e.index i)
+
+  pub IsOnce-distinct : (es : List (Entry T)) → IsDistinct es → IsOnce (indexes es)
+  IsOnce-distinct es h j = omega (arith, h j, times-indexes es j)
+
+  pub within-occupied : (es : List (Entry T)) (i : ℕ) → is_some (entry_at es i) ≡ true → 0 < times i (indexes es)
+  within-occupied es i there = omega (arith, entry-occurs es i there, times-indexes es i)
+
+  -- the links of an entry lead to its neighbours
+  head-first_or : (es : List (Entry T)) → first_or None es ≡ list_head (indexes es)
+  head-first_or [] = refl
+  head-first_or (e ∷ es) = refl
+
+  pub neighbours-linked : (before : Option ℕ) (es : List (Entry T)) (i g : ℕ) (l : Link T) → link_between before None es i ≡ Some (g, l)
+      → (l.prev ≡ previous before i (indexes es)) × (l.next ≡ following i (indexes es))
+  neighbours-linked before [] i g l h = absurd cc
+  neighbours-linked before (e ∷ es) i g l h =
+      ⊎_elim (λ (same : e.index ≡ i).
+      let first = rw (eq-eqb e.index i same) at h in
+      let link : ◌≡◌ {A = Link T} (record { item = e.item; prev = before; next = first_or None es }) l = ap (λ (p : ℕ × Link T). p.1) (let d : (e.generation, (let r : Link T = record { item = e.item; prev = before; next = first_or None es } in r)) ≡ (g, l) = cc in d) in
+      rw (eq-eqb e.index i same) (sym (ap (λ (l : Link T). l.prev) link), sym (ap (λ (l : Link T). l.next) link) ∙ head-first_or es))
+      (λ (other : e.index ≢ i). rw (ne_eqb e.index i other) (neighbours-linked (Some e.index) es i g l (rw (ne_eqb e.index i other) at h))) (cases_eq e.index i)
+
+  -- what is linked to an entry is linked to it whatever its generation
+  pub linked-some : (o : Option (ℕ × Link T)) (l : Link T) → option_map (λ (e : ℕ × Link T). e.1) o ≡ Some l → (g : ℕ) × (o ≡ Some (g, l))
+  linked-some None l h = absurd cc
+  linked-some (Some e) l h = (e.0, let same : e.1 ≡ l = cc in ap (λ (l : Link T). Some (e.0, l)) same)
+
+  pub linked-occupied : (before : Option ℕ) (es : List (Entry T)) (i : ℕ) → is_some (entry_at es i) ≡ true → is_some (link_between before None es i) ≡ true
+  linked-occupied before [] i h = absurd cc
+  linked-occupied before (e ∷ es) i h =
+      ⊎_elim (λ (same : e.index ≡ i). rw (eq-eqb e.index i same) refl)
+      (λ (other : e.index ≢ i). rw (ne_eqb e.index i other) (linked-occupied (Some e.index) es i (rw (ne_eqb e.index i other) at h))) (cases_eq e.index i)
+
+-- the neighbour under which a new leaf hangs where that side of i is taken
+pub record NextLeafBranch (side : Side) (i : ℕ) (slots : Slots) (order : List ℕ) : Type 0 where
+  pub index : ℕ
+  pub is : neighbour_in side i order ≡ Some index
+  pub within : 0 < times index order
+  pub bare : (n : TreeLinks ℕ) → slots index ≡ Some n → child_at (other_side side) n ≡ None
+  pub put : (x : ℕ) → beside (other_side side) index x order ≡ beside side i x order
+
+pub next_bud : (slots : Slots) (root : Option ℕ) (s : Shape) (order : List ℕ) → Holds slots None root s → walk s ≡ order → IsOnce order → (i : ℕ)
+    → 0 < times i order → (n : TreeLinks ℕ) → slots i ≡ Some n → (side : Side) (j : ℕ) → child_at side n ≡ Some j → NextLeafBranch side i slots order
+next_bud slots root s order held listed once i within n e Lesser j some =
+    let b = before_in slots root s order held listed i within n e j some in
+    record {
+      index = b.index;
+      is = previous-neighbour order b.front b.back b.index i once b.is;
+      within = first-within order b.front b.back b.index i once b.is;
+      bare = b.bare;
+      put = between order b.front b.back b.index i once b.is;
+    }
+next_bud slots root s order held listed once i within n e Greater j some =
+    let b = after_in slots root s order held listed i within n e j some in
+    record {
+      index = b.index;
+      is = following-neighbour order b.front b.back i b.index once b.is;
+      within = second-within order b.front b.back i b.index once b.is;
+      bare = b.bare;
+      put = λ x. sym (between order b.front b.back i b.index once b.is x);
+    }
+
+pub IsLeafBranch-next : {I : Type 0} (number : I → ℕ) {side : Side} {i : ℕ} {slots : Slots} {order : List ℕ} (bud : NextLeafBranch side i slots order) (branch : Branch I)
+    → number branch.parent ≡ bud.index → branch.side ≡ other_side side → IsLeafBranch number i side slots order branch
+IsLeafBranch-next number {side} {i} {slots} {order} bud branch parent_is side_is = record {
+  within = rw parent_is bud.within;
+  bare = λ n e. rw side_is (bud.bare n (ap slots (sym parent_is) ∙ e));
+  put = λ x. rw (parent_is, side_is) (bud.put x);
+}
+
+-- options
+pub is_some-mapped : {A B : Type 0} (f : A → B) (o : Option A) → is_some (option_map f o) ≡ is_some o
+is_some-mapped f None = refl
+is_some-mapped f (Some x) = refl
+
+pub none_of : {A : Type 0} (o : Option A) → is_some o ≡ false → o ≡ None
+none_of None e = refl
+none_of (Some x) e = absurd cc
+
+pub some_in : {A : Type 0} (o : Option A) → is_some o ≡ true → (x : A) × (o ≡ Some x)
+some_in None e = absurd cc
+some_in (Some x) e = (x, refl)

@@ -1,0 +1,18 @@
+use Rattle.ord_tree.proofs.NewLeaf.{y_occupied, IsRising-attached, backs-attached}
+use Rattle.ord_tree.proofs.Promoting.{IsRepaired-after}
+use Rattle.ord_tree.specs.Leaf.{beside}
+use Rattle.ord_tree.proofs.leaf.add_leaf.Goals as goal
+
+pub set_child-requires : goal.set_child-requires
+set_child-requires g c = y_occupied c.requires.2
+
+pub promote_all-requires : goal.promote_all-requires
+promote_all-requires g c =
+    let r = c.requires in
+    (beside c.args.side (g.N.Nodes.number c.args.y) (g.N.Nodes.number c.args.x) r.0, r.1, IsRising-attached r.2 (g.N.Nodes.at c.set_child.new.self) c.set_child.ensures.here c.set_child.ensures.elsewhere)
+
+pub returns-clause-repaired : goal.returns-clause-repaired
+returns-clause-repaired g c = λ order slack bud.
+    let number = g.N.Nodes.number in
+    IsRepaired-after (backs-attached bud (g.N.Nodes.at c.set_child.new.self) c.set_child.ensures.here c.set_child.ensures.elsewhere)
+    (c.promote_all.ensures.repaired (beside c.args.side (number c.args.y) (number c.args.x) order) slack (IsRising-attached bud (g.N.Nodes.at c.set_child.new.self) c.set_child.ensures.here c.set_child.ensures.elsewhere))

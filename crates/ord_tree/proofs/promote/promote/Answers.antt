@@ -1,0 +1,82 @@
+use Rattle.std.proofs.Common.{◌≡◌, ℕ, ◌+◌, Some, [], refl, inr, sym, ◌∙◌, ap, subst, option_map, arith}
+use Rattle.ord_tree.specs.declared.tree_links.Side.{Side}
+use Rattle.ord_tree.specs.declared.tree_links.TreeLinks.{TreeLinks}
+use Rattle.ord_tree.specs.TreeLinks.{numbered}
+use Rattle.ord_tree.specs.Promote.{IsSteep}
+use Rattle.ord_tree.proofs.Promoting.{y_occupied, y_back, rising_under, IsBuilt-top, z_occupied, IsBuilt-stop, low-small, IsPromoted-promoted, IsSteep-rising}
+use Rattle.ord_tree.proofs.Reading.{ranks-read, side-read, beside-read, beside-occupied}
+use Rattle.ord_tree.proofs.promote.promote.Goals as goal
+
+pub links-low-requires : goal.links-low-requires
+links-low-requires g c = y_occupied c.requires.2
+
+pub links-high-requires : goal.links-high-requires
+links-high-requires g c =
+    let number = g.N.Nodes.number in
+    let u = rising_under c.requires.2 (number c.in-Some.z) (y_back c.requires.2 (numbered number c.links-low.result) c.links-low.ensures ∙ ap (option_map number) c.in-Some.is) in
+    z_occupied u
+
+pub returns-in_default-clause-promoted : goal.returns-in_default-clause-promoted
+returns-in_default-clause-promoted g c = λ order slack rising.
+    let number = g.N.Nodes.number in
+    let top = y_back rising (numbered number c.links-low.result) c.links-low.ensures ∙ ap (option_map number) c.in_default.is in
+    record { built = IsBuilt-top rising top; backs = ([], omega arith, λ j. inr refl) }
+
+pub returns-then-high-low-clause-promoted : goal.returns-then-high-low-clause-promoted
+returns-then-high-low-clause-promoted g c = λ order slack rising.
+    let number = g.N.Nodes.number in
+    let u = rising_under rising (number c.in-Some.z) (y_back rising (numbered number c.links-low.result) c.links-low.ensures ∙ ap (option_map number) c.in-Some.is) in
+    let ranks = ranks-read number u _ _ c.links-low.ensures c.links-high.ensures in
+    record { built = IsBuilt-stop u (omega (arith, ranks)); backs = ([], omega arith, λ j. inr refl) }
+
+pub rank_of-sibling-requires : goal.rank_of-sibling-requires
+rank_of-sibling-requires g c =
+    let number = g.N.Nodes.number in
+    let u = rising_under c.requires.2 (number c.in-Some.z) (y_back c.requires.2 (numbered number c.links-low.result) c.links-low.ensures ∙ ap (option_map number) c.in-Some.is) in
+    beside-occupied number u _ _ c.links-low.ensures c.links-high.ensures _ c.side_of-side.ensures _ c.other.ensures _ c.child.ensures
+
+pub overflow_sub-high : goal.overflow_sub-high
+overflow_sub-high g c =
+    let number = g.N.Nodes.number in
+    let u = rising_under c.requires.2 (number c.in-Some.z) (y_back c.requires.2 (numbered number c.links-low.result) c.links-low.ensures ∙ ap (option_map number) c.in-Some.is) in
+    let ranks = ranks-read number u _ _ c.links-low.ensures c.links-high.ensures in
+    let sibling_is = beside-read number u _ _ c.links-low.ensures c.links-high.ensures _ c.side_of-side.ensures _ c.other.ensures _ c.child.ensures _ c.rank_of-sibling.ensures in
+    omega (arith, ranks, sibling_is, u.over.greater)
+
+pub overflow_add-high : goal.overflow_add-high
+overflow_add-high g c =
+    let number = g.N.Nodes.number in
+    let u = rising_under c.requires.2 (number c.in-Some.z) (y_back c.requires.2 (numbered number c.links-low.result) c.links-low.ensures ∙ ap (option_map number) c.in-Some.is) in
+    let ranks = ranks-read number u _ _ c.links-low.ensures c.links-high.ensures in
+    record { fits = omega (arith, ranks, low-small u) }
+
+pub returns-then-high-sibling-eq1-clause-promoted : goal.returns-then-high-sibling-eq1-clause-promoted
+returns-then-high-sibling-eq1-clause-promoted g c = λ order slack rising.
+    let number = g.N.Nodes.number in
+    let u = rising_under rising (number c.in-Some.z) (y_back rising (numbered number c.links-low.result) c.links-low.ensures ∙ ap (option_map number) c.in-Some.is) in
+    let ranks = ranks-read number u _ _ c.links-low.ensures c.links-high.ensures in
+    let sibling_is = beside-read number u _ _ c.links-low.ensures c.links-high.ensures _ c.side_of-side.ensures _ c.other.ensures _ c.child.ensures _ c.rank_of-sibling.ensures in
+    let z = number c.in-Some.z in
+    let P : ℕ → Type 0 = λ k. (n : TreeLinks ℕ) → g.N.Nodes.at c.args.nodes.now z ≡ Some n → g.N.Nodes.at c.set_rank.new.self z ≡ Some (record n { rank = k + 1 }) in
+    IsPromoted-promoted u (g.N.Nodes.at c.set_rank.new.self) (subst P ranks.0 c.set_rank.ensures.here) c.set_rank.ensures.elsewhere
+    (omega (arith, ranks, u.over.lesser)) (omega (arith, ranks, sibling_is))
+
+pub rotate_once_or_twice-requires : goal.rotate_once_or_twice-requires
+rotate_once_or_twice-requires g c =
+    let number = g.N.Nodes.number in
+    let u = rising_under c.requires.2 (number c.in-Some.z) (y_back c.requires.2 (numbered number c.links-low.result) c.links-low.ensures ∙ ap (option_map number) c.in-Some.is) in
+    let ranks = ranks-read number u _ _ c.links-low.ensures c.links-high.ensures in
+    let side_is = side-read number u _ _ c.links-low.ensures c.links-high.ensures _ c.side_of-side.ensures in
+    let sibling_is = beside-read number u _ _ c.links-low.ensures c.links-high.ensures _ c.side_of-side.ensures _ c.other.ensures _ c.child.ensures _ c.rank_of-sibling.ensures in
+    let P : Side → Type 0 = λ side. IsSteep (g.N.Nodes.at c.args.nodes.now) (option_map number c.args.root.now) side (number c.in-Some.z) (number c.args.y) c.requires.0 c.requires.1 in
+    (c.requires.0, c.requires.1, subst P (sym side_is) (IsSteep-rising u (omega (arith, ranks, u.over.lesser)) (omega (arith, ranks, sibling_is))))
+
+pub returns-clause-promoted : goal.returns-clause-promoted
+returns-clause-promoted g c = λ order slack rising.
+    let number = g.N.Nodes.number in
+    let u = rising_under rising (number c.in-Some.z) (y_back rising (numbered number c.links-low.result) c.links-low.ensures ∙ ap (option_map number) c.in-Some.is) in
+    let ranks = ranks-read number u _ _ c.links-low.ensures c.links-high.ensures in
+    let side_is = side-read number u _ _ c.links-low.ensures c.links-high.ensures _ c.side_of-side.ensures in
+    let sibling_is = beside-read number u _ _ c.links-low.ensures c.links-high.ensures _ c.side_of-side.ensures _ c.other.ensures _ c.child.ensures _ c.rank_of-sibling.ensures in
+    let P : Side → Type 0 = λ side. IsSteep (g.N.Nodes.at c.args.nodes.now) (option_map number c.args.root.now) side (number c.in-Some.z) (number c.args.y) order slack in
+    c.rotate_once_or_twice.ensures.repaired order slack (subst P (sym side_is) (IsSteep-rising u (omega (arith, ranks, u.over.lesser)) (omega (arith, ranks, sibling_is))))

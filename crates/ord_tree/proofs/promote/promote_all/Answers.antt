@@ -1,0 +1,23 @@
+use Rattle.std.proofs.Common.{◌∙◌, arith}
+use Rattle.ord_tree.proofs.Promoting.{IsRepaired-after}
+use Rattle.ord_tree.proofs.promote.promote_all.Goals as goal
+
+pub loop-z-smaller : goal.loop-z-smaller
+loop-z-smaller g c =
+    let r = c.requires in
+    let promoted = c.in-Some.ensures.promoted r.0 r.1 (c.loop-z.invariant.rising r.0 r.1 r.2).0 in
+    omega (arith, promoted.higher, promoted.fits)
+
+pub loop-z-preserved : goal.loop-z-preserved
+loop-z-preserved g c = record {
+  rising = λ order slack rising.
+      let now = c.loop-z.invariant.rising order slack rising in
+      let next = c.in-Some.ensures.promoted order slack now.0 in
+      (next.rising, λ j. now.1 j ∙ next.backs j);
+  kept = cc;
+}
+
+pub returns-clause-repaired : goal.returns-clause-repaired
+returns-clause-repaired g c = λ order slack rising.
+    let now = c.loop-z.invariant.rising order slack rising in
+    IsRepaired-after now.1 (c.in_default.ensures.promoted order slack now.0)

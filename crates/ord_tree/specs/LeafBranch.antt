@@ -1,0 +1,41 @@
+-- Where a new entry is put, in the list and in the tree. No public clause cites this file.
+use Rattle.std.specs.Prelude.{◌≡◌, ℕ, ◌<◌, Option, None, Some, IsSomeAnd, List}
+use Rattle.std.specs.declared.cmp.Ordering.{Ordering}
+use Rattle.std.specs.declared.cmp.Ordering.TheVariants.{Less, Equal, Greater}
+use Rattle.chain_base.specs.declared.chain.insert.LinkInsertKind.{LinkInsertKind}
+use Rattle.chain_base.specs.declared.chain.insert.LinkInsertKind.TheVariants.{Disconnected, NextToInx, PrevToInx}
+use Rattle.ord_tree.specs.declared.tree_links.TreeLinks.{TreeLinks}
+use Rattle.ord_tree.specs.declared.tree_links.Branch.{Branch}
+use Rattle.ord_tree.specs.declared.tree_links.Side.{Side}
+use Rattle.ord_tree.specs.declared.tree_links.Side.TheVariants.{Lesser as OnLesser, Greater as OnGreater}
+use Rattle.ord_tree.specs.TreeLinks.{child_at}
+use Rattle.ord_tree.specs.Slots.{Slots, times}
+use Rattle.ord_tree.specs.Leaf.{beside}
+
+-- the side of an entry on which another stands
+abbrev pub side_at : Ordering → Side
+side_at Less = OnLesser
+side_at Equal = OnGreater
+side_at Greater = OnGreater
+
+-- the place in the chain before or after an entry
+abbrev pub kind_on : {P I G : Type 0} → Ordering → I → LinkInsertKind P I G
+kind_on Less i = PrevToInx i
+kind_on Equal i = NextToInx i
+kind_on Greater i = NextToInx i
+
+-- the place in the chain that is named
+abbrev pub kind_at : {P I G : Type 0} → Option (I × Ordering) → LinkInsertKind P I G
+kind_at None = Disconnected
+kind_at (Some at) = kind_on at.1 at.0
+
+-- a branch for a new entry on that side of i: nothing hangs there, and beside that node it stands where it is wanted
+pub record IsLeafBranch {I : Type 0} (number : I → ℕ) (i : ℕ) (side : Side) (slots : Slots) (order : List ℕ) (branch : Branch I) : Type 0 where
+  pub within : 0 < times (number branch.parent) order
+  pub bare : (n : TreeLinks ℕ) → slots (number branch.parent) ≡ Some n → child_at branch.side n ≡ None
+  pub put : (x : ℕ) → beside branch.side (number branch.parent) x order ≡ beside side i x order
+
+-- so where a place beside an entry is named
+abbrev pub IsLeafBranchAt : {I : Type 0} → (I → ℕ) → Option (I × Ordering) → Slots → List ℕ → Option (Branch I) → Type 0
+IsLeafBranchAt number None slots order branch = branch ≡ None
+IsLeafBranchAt number (Some at) slots order branch = IsSomeAnd branch (IsLeafBranch number (number at.0) (side_at at.1) slots order)

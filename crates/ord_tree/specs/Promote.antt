@@ -1,0 +1,52 @@
+-- The states of the repair after an insertion.
+use Rattle.std.specs.Prelude.{◌≡◌, ℕ, ◌+◌, ◌*◌, ◌^◌, ◌<◌, Option, None, Some, List, length}
+use Rattle.ord_tree.specs.declared.tree_links.Side.{Side}
+use Rattle.ord_tree.specs.Shape.{Shape, fork, rank_of, walk}
+use Rattle.ord_tree.specs.Slots.{Slots, Holds, Way, plug, above, HoldsWay, IsOnce, back_at, rank_at, MovesBacks}
+use Rattle.ord_tree.specs.Balance.{IsBalanced, IsBalancedWay, IsUneven}
+use Rattle.ord_tree.specs.Rotate.{Site}
+
+-- the nodes spell a balanced tree over this list
+pub record IsBuilt (at : Slots) (root : Option ℕ) (order : List ℕ) (slack : ℕ) : Type 0 where
+  pub shape : Shape
+  pub held : Holds at None root shape
+  pub listed : walk shape ≡ order
+  pub balanced : IsBalanced slack shape
+
+-- they would, if y's rank were lower by one: it has risen, and may be as great as its parent's
+pub record IsRising (at : Slots) (root : Option ℕ) (y : ℕ) (order : List ℕ) (slack : ℕ) : Type 0 where
+  pub way : Way
+  pub shape : Shape
+  pub low : ℕ
+  pub held_way : HoldsWay at root way (Some y)
+  pub held : Holds at (above way) (Some y) shape
+  pub listed : walk (plug way shape) ≡ order
+  pub balanced : IsBalanced slack shape
+  pub balanced_way : IsBalancedWay slack way low
+  pub risen : rank_of shape ≡ low + 1
+  pub uneven : IsUneven shape
+  pub once : IsOnce order
+  pub few : length order < 2 ^ 64
+
+-- y, on that side of z, has z's rank, and z's other side is two below
+pub record IsSteep (at : Slots) (root : Option ℕ) (side : Side) (z y : ℕ) (order : List ℕ) (slack : ℕ) : Type 0 where
+  pub site : Site at root side z y
+  pub equal : site.low ≡ site.high
+  pub sibling : rank_of site.far + 2 ≡ site.high
+  pub uneven : 2 * site.low ≡ rank_of site.outer + rank_of site.inner + 3
+  pub balanced : IsBalanced slack (fork side site.outer y site.low site.inner)
+  pub balanced_far : IsBalanced slack site.far
+  pub balanced_way : IsBalancedWay slack site.way site.high
+  pub listed : walk (plug site.way (fork side (fork side site.outer y site.low site.inner) z site.high site.far)) ≡ order
+
+-- a balanced tree again, and at most five nodes have another parent
+pub record IsRepaired (old new : Slots) (root : Option ℕ) (order : List ℕ) (slack : ℕ) : Type 0 where
+  pub built : IsBuilt new root order slack
+  pub backs : MovesBacks 5 old new
+
+-- z has risen now, above the rank of y; no node has another parent
+pub record IsPromoted (old new : Slots) (root : Option ℕ) (y z : ℕ) (order : List ℕ) (slack : ℕ) : Type 0 where
+  pub rising : IsRising new root z order slack
+  pub backs : (j : ℕ) → back_at old j ≡ back_at new j
+  pub higher : rank_at old (Some y) < rank_at new (Some z)
+  pub fits : rank_at old (Some y) < 256

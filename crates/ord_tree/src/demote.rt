@@ -1,0 +1,144 @@
+//! The repair after a removal: demotions upwards, then at most one single or double rotation.
+
+ghost use Rattle.std.specs.Prelude.{◌≡◌, ℕ, Option, Some, List, option_map, MatchBool, MatchOption};
+ghost use Rattle.ord_tree.specs.Promote.{IsRepaired};
+ghost use Rattle.ord_tree.specs.Demote.{IsFallen, IsLeaning, IsDemoted, HasDemoted};
+
+use crate::nodes::{Nodes, branch_of, rank_of};
+use crate::rotate::rotate;
+use crate::tree_links::{Branch, Side};
+
+/// Restores the rank rule at y, of rank r, where s on that side of it has rank r-1 and its other side r-3. Returns whether y was demoted.
+///
+/// If s has its higher child on the outer side, s takes the place of y.
+///
+/// ```text
+///        y r                        s r
+///       /   \                      /   \
+///    r-3     s r-1      ->    y a+1     r-2
+///           /   \             /   \
+///          a     r-2       r-3     a
+/// ```
+///
+/// If both children of s are two below it, s and y demote_next by one.
+///
+/// ```text
+///        y r                  y r-1
+///       /   \                /     \
+///    r-3     s r-1   ->   r-3       s r-2
+///           /   \                  /     \
+///        r-3     r-3            r-3       r-3
+/// ```
+///
+/// Otherwise the inner child of s takes the place of y.
+///
+/// ```text
+///        y r                          a r
+///       /   \                       /     \
+///    r-3     s r-1      ->      y r-2      s r-2
+///           /   \               /   \      /   \
+///      a r-2     r-3         r-3     b    c     r-3
+///       /  \
+///      b    c
+/// ```
+pub fn demote_or_rotate<N: Nodes>(
+    nodes: &mut N,
+    root: &mut Option<N::Inx>,
+    side: Side,
+    y: N::Inx,
+    s: N::Inx,
+) -> bool
+    requires { (order : List ℕ)
+        × IsLeaning (N.at nodes.old) (option_map N.number root.old) side (N.number y) (N.number s) order }
+    ensures mended { (order : List ℕ)
+        → IsLeaning (N.at nodes.old) (option_map N.number root.old) side (N.number y) (N.number s) order
+        → MatchBool result
+        (IsDemoted (N.at nodes.old) (N.at nodes.new) (option_map N.number root.new) (N.number y) order)
+        (IsRepaired (N.at nodes.old) (N.at nodes.new) (option_map N.number root.new) order 1) }
+    ensures kept { N.list nodes.new ≡ N.list nodes.old }
+{
+    let other = side.other();
+    let rank = nodes.links(y).rank;
+    let links = nodes.links(s);
+    let outer = rank_of(nodes, links.child(side));
+    let inner = rank_of(nodes, links.child(other));
+    if links.rank - outer == 1 {
+        rotate(nodes, root, side, y, s, inner + 1, rank);
+        return false;
+    }
+    if links.rank - inner == 2 {
+        nodes.set_rank(s, links.rank - 1);
+        nodes.set_rank(y, rank - 1);
+        return true;
+    }
+    let a = links.child(other).unwrap();
+    rotate(nodes, root, other, s, a, inner, rank);
+    rotate(nodes, root, side, y, a, inner, rank);
+    false
+}
+
+/// Restores the rank rule at y, a side of which has fallen by one. Returns whether y was demoted.
+pub fn demote<N: Nodes>(nodes: &mut N, root: &mut Option<N::Inx>, y: N::Inx, side: Side) -> bool
+    requires { (order : List ℕ)
+        × IsFallen (N.at nodes.old) (option_map N.number root.old) (N.number y) side order }
+    ensures mended { (order : List ℕ)
+        → IsFallen (N.at nodes.old) (option_map N.number root.old) (N.number y) side order
+        → MatchBool result
+        (IsDemoted (N.at nodes.old) (N.at nodes.new) (option_map N.number root.new) (N.number y) order)
+        (IsRepaired (N.at nodes.old) (N.at nodes.new) (option_map N.number root.new) order 1) }
+    ensures kept { N.list nodes.new ≡ N.list nodes.old }
+{
+    let links = nodes.links(y);
+    let low = rank_of(nodes, links.child(side));
+    let other = side.other();
+    let Some(s) = links.child(other) else {
+        nodes.set_rank(y, 1);
+        return true;
+    };
+    if links.rank - low <= 2 {
+        return false;
+    }
+    let sibling = nodes.links(s).rank;
+    if links.rank - sibling == 2 {
+        nodes.set_rank(y, links.rank - 1);
+        return true;
+    }
+    demote_or_rotate(nodes, root, other, y, s)
+}
+
+/// One step of the repair, where this side of a node has fallen by one: returns y's own branch where that has fallen now.
+pub fn demote_next<N: Nodes>(
+    nodes: &mut N,
+    root: &mut Option<N::Inx>,
+    branch: Branch<N::Inx>,
+) -> Option<Branch<N::Inx>>
+    requires { (order : List ℕ)
+        × IsFallen (N.at nodes.old) (option_map N.number root.old) (N.number branch.parent) branch.side order }
+    ensures demoted { (order : List ℕ)
+        → IsFallen (N.at nodes.old) (option_map N.number root.old) (N.number branch.parent) branch.side order
+        → MatchOption result
+        (IsRepaired (N.at nodes.old) (N.at nodes.new) (option_map N.number root.new) order 1)
+        (λ next. HasDemoted (N.at nodes.old) (N.at nodes.new) (option_map N.number root.new)
+        (N.number branch.parent) (N.number next.parent) next.side order) }
+    ensures kept { N.list nodes.new ≡ N.list nodes.old }
+{
+    if !demote(nodes, root, branch.parent, branch.side) {
+        return None;
+    }
+    branch_of(nodes, branch.parent)
+}
+
+/// The repair from a branch that has fallen by one.
+pub fn demote_all<N: Nodes>(nodes: &mut N, root: &mut Option<N::Inx>, fallen: Branch<N::Inx>)
+    requires { (order : List ℕ)
+        × IsFallen (N.at nodes.old) (option_map N.number root.old) (N.number fallen.parent) fallen.side order }
+    ensures repaired { (order : List ℕ)
+        → IsFallen (N.at nodes.old) (option_map N.number root.old) (N.number fallen.parent) fallen.side order
+        → IsRepaired (N.at nodes.old) (N.at nodes.new) (option_map N.number root.new) order 1 }
+    ensures kept { N.list nodes.new ≡ N.list nodes.old }
+{
+    let mut branch = fallen;
+    while let Some(next) = demote_next(nodes, root, branch) {
+        branch = next;
+    }
+}

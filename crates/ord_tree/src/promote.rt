@@ -1,0 +1,103 @@
+//! The repair after an insertion: promotions upwards, then at most one single or double rotation.
+
+ghost use Rattle.std.specs.Prelude.{◌≡◌, ℕ, Option, Some, List, option_map, MatchOption};
+ghost use Rattle.ord_tree.specs.Promote.{IsRising, IsSteep, IsRepaired, IsPromoted};
+
+use crate::nodes::{Nodes, rank_of, side_of};
+use crate::rotate::rotate;
+use crate::tree_links::Side;
+
+/// Lifts the higher child of y over z: y has z's rank r, and z's other side has rank r-2.
+///
+/// If the higher child stands on y's own side, y takes the place of z.
+///
+/// ```text
+///            z r                      y r
+///           /   \                    /   \
+///        y r    r-2     ->        r-1     z r-1
+///       /   \                            /     \
+///    r-1     r-2                       r-2     r-2
+/// ```
+///
+/// If it stands between them, it takes the place of z.
+///
+/// ```text
+///            z r                        x r
+///           /   \                      /   \
+///        y r    r-2     ->        y r-1     z r-1
+///       /   \                     /   \     /   \
+///    r-2     x r-1              r-2    a   b    r-2
+///           /  \
+///          a    b
+/// ```
+pub fn rotate_once_or_twice<N: Nodes>(
+    nodes: &mut N,
+    root: &mut Option<N::Inx>,
+    side: Side,
+    z: N::Inx,
+    y: N::Inx,
+)
+    requires { (order : List ℕ) × (slack : ℕ)
+        × IsSteep (N.at nodes.old) (option_map N.number root.old) side (N.number z) (N.number y) order slack }
+    ensures repaired { (order : List ℕ) (slack : ℕ)
+        → IsSteep (N.at nodes.old) (option_map N.number root.old) side (N.number z) (N.number y) order slack
+        → IsRepaired (N.at nodes.old) (N.at nodes.new) (option_map N.number root.new) order slack }
+    ensures kept { N.list nodes.new ≡ N.list nodes.old }
+{
+    let low = nodes.links(y);
+    let outer = rank_of(nodes, low.child(side));
+    if low.rank - outer == 1 {
+        rotate(nodes, root, side, z, y, outer, low.rank);
+        return;
+    }
+    let other = side.other();
+    let x = low.child(other).unwrap();
+    let rank = nodes.links(x).rank;
+    rotate(nodes, root, other, y, x, rank, low.rank);
+    rotate(nodes, root, side, z, x, rank, low.rank);
+}
+
+/// One step of the repair, where y has risen by one: returns the parent where that has risen now.
+pub fn promote<N: Nodes>(nodes: &mut N, root: &mut Option<N::Inx>, y: N::Inx) -> Option<N::Inx>
+    requires { (order : List ℕ) × (slack : ℕ)
+        × IsRising (N.at nodes.old) (option_map N.number root.old) (N.number y) order slack }
+    ensures promoted { (order : List ℕ) (slack : ℕ)
+        → IsRising (N.at nodes.old) (option_map N.number root.old) (N.number y) order slack
+        → MatchOption result
+        (IsRepaired (N.at nodes.old) (N.at nodes.new) (option_map N.number root.new) order slack)
+        (λ z. IsPromoted (N.at nodes.old) (N.at nodes.new) (option_map N.number root.new)
+        (N.number y) (N.number z) order slack) }
+    ensures kept { N.list nodes.new ≡ N.list nodes.old }
+{
+    let low = nodes.links(y);
+    let Some(z) = low.back else {
+        return None;
+    };
+    let high = nodes.links(z);
+    if high.rank > low.rank {
+        return None;
+    }
+    let side = side_of::<N>(&high, y);
+    let sibling = rank_of(nodes, high.child(side.other()));
+    if high.rank - sibling == 1 {
+        nodes.set_rank(z, high.rank + 1);
+        return Some(z);
+    }
+    rotate_once_or_twice(nodes, root, side, z, y);
+    None
+}
+
+/// The repair from a node that has risen by one.
+pub fn promote_all<N: Nodes>(nodes: &mut N, root: &mut Option<N::Inx>, y: N::Inx)
+    requires { (order : List ℕ) × (slack : ℕ)
+        × IsRising (N.at nodes.old) (option_map N.number root.old) (N.number y) order slack }
+    ensures repaired { (order : List ℕ) (slack : ℕ)
+        → IsRising (N.at nodes.old) (option_map N.number root.old) (N.number y) order slack
+        → IsRepaired (N.at nodes.old) (N.at nodes.new) (option_map N.number root.new) order slack }
+    ensures kept { N.list nodes.new ≡ N.list nodes.old }
+{
+    let mut rising = y;
+    while let Some(z) = promote(nodes, root, rising) {
+        rising = z;
+    }
+}

@@ -1,0 +1,12 @@
+use Rattle.std.proofs.Common.{◌≡◌, Err}
+use Rattle.triple_ord.specs.Insertion.{reallocating}
+use Rattle.triple_ord.proofs.Places.{new-refused, err-and}
+use Rattle.triple_ord.proofs.arena.SimpleOrdArena.prepare_reallocating.Goals as goal
+
+pub returns-in_err-make_room-in-New-clause-refused : goal.returns-in_err-make_room-in-New-clause-refused
+returns-in_err-make_room-in-New-clause-refused g c =
+    let found = rw c.in-New.is at c.in_ok-place.ensures.place in
+    let was : c.make_room.result ≡ Err c.in_err-make_room-in-New.field-0.0 = c.in_err-make_room-in-New.was in
+    let lacks = rw was at c.make_room.ensures.refused in
+    err-and c.from_residual-in_err-make_room-in-New.result c.from_residual-in_err-make_room-in-New.ensures.1
+    (λ e same. new-refused g.P.Ptr.numbers g.T.SimpleOrdItem.key_of g.T.Key.Ord.cmp g.P.Inx.PtrInx.number reallocating g.P.Inx.PtrInx.most c.args.self.now _ _ _ found e (rw same lacks))

@@ -1,0 +1,65 @@
+-- The place of an insertion: where in the list its item goes.
+use Rattle.std.specs.Prelude.{◌≡◌, ◌≢◌, ℕ, ◌⊎◌, List, [], Option, Some, None, IsSomeAnd}
+use Rattle.std.specs.Borrow.{Bor}
+use Rattle.std.specs.declared.cmp.Ordering.{Ordering}
+use Rattle.std.specs.declared.cmp.Ordering.TheVariants.{Less, Equal, Greater}
+use Rattle.chain_base.specs.Chain.{Entry, entry_at}
+use Rattle.triple_ord.specs.Gap.{Gap, before, after}
+use Rattle.triple_ord.specs.Search.{order_to, Fits, IsMet}
+use Rattle.triple_ord.specs.declared.insert_kind.OrdInsertKind.{OrdInsertKind}
+use Rattle.triple_ord.specs.declared.insert_kind.OrdInsertKind.TheVariants.{Empty, Normal, Nonhereditary, Linear, NonhereditaryLinear, Manual}
+
+-- What an insertion goes by: nothing, as the list is to be empty; a key, whose entry's item is to be replaced, or before whose entry a
+-- new one is to go; or a side of the entry with an index, or that entry itself.
+pub data Aim (K : Type 0) : Type 0 where
+  alone : Aim K
+  at_key : K → Aim K
+  before_key : K → Aim K
+  beside : ℕ → Ordering → Aim K
+
+-- what a kind of insertion goes by; a hint changes nothing in it
+abbrev pub aim_of : {P I G K : Type 0} → (I → ℕ) → OrdInsertKind P K I G → Aim K
+aim_of number Empty = alone
+aim_of number (Normal k) = at_key k
+aim_of number (Nonhereditary k) = before_key k
+aim_of number (Linear i num k) = at_key k
+aim_of number (NonhereditaryLinear i num k) = before_key k
+aim_of number (Manual i order) = beside (number i) order
+
+-- the kind with the key behind its reference
+abbrev pub kind_now : {P I G K : Type 0} → OrdInsertKind P (Bor K) I G → OrdInsertKind P K I G
+kind_now Empty = Empty
+kind_now (Normal k) = Normal k.now
+kind_now (Nonhereditary k) = Nonhereditary k.now
+kind_now (Linear i num k) = Linear i num k.now
+kind_now (NonhereditaryLinear i num k) = NonhereditaryLinear i num k.now
+kind_now (Manual i order) = Manual i order
+
+-- a place in a list: a gap, into which a new entry goes; an entry, whose item is replaced; or none
+pub data Place {T : Type 0} (entries : List (Entry T)) : Type 0 where
+  into : Gap entries → Place entries
+  over : Entry T → Place entries
+  nowhere : Place entries
+
+-- there is an entry, and it has this index
+abbrev pub HasIndex : {T : Type 0} → ℕ → Option (Entry T) → Type 0
+HasIndex i e = IsSomeAnd e (λ e. e.index ≡ i)
+
+module _ {T K : Type 0} (key : T → K) (cmp : K → K → Ordering) {entries : List (Entry T)} where
+  -- the gap is directly before an entry with an equal key
+  abbrev pub IsBeforeEqual : K → Gap entries → Type 0
+  IsBeforeEqual k gap = IsSomeAnd (after gap) (λ e. order_to key cmp k e ≡ Equal)
+
+  -- The place of an insertion, by what it goes by. A gap that fits a key is one where a search for it may stop, and an entry is met
+  -- where it has an equal key.
+  abbrev pub IsPlace : Aim K → Place entries → Type 0
+  IsPlace alone (into gap) = entries ≡ []
+  IsPlace alone nowhere = entries ≢ []
+  IsPlace (at_key k) (into gap) = Fits key cmp gap k
+  IsPlace (at_key k) (over e) = IsMet key cmp entries k e
+  IsPlace (before_key k) (into gap) = IsBeforeEqual k gap ⊎ Fits key cmp gap k
+  IsPlace (beside i Less) (into gap) = HasIndex i (after gap)
+  IsPlace (beside i Greater) (into gap) = HasIndex i (before gap)
+  IsPlace (beside i Equal) (over e) = (e.index ≡ i) × (entry_at entries i ≡ Some (e.generation, e.item))
+  IsPlace (beside i order) nowhere = entry_at entries i ≡ None
+  IsPlace aim place = ⊥

@@ -1,0 +1,73 @@
+-- The place of an insertion as the arena keeps it: beside an entry, or an entry's pointer. No public clause cites this file.
+use Rattle.std.specs.Prelude.{◌≡◌, ◌≢◌, ℕ, Option, Some, None, IsSome, length}
+use Rattle.std.specs.declared.cmp.Ordering.{Ordering}
+use Rattle.std.specs.declared.cmp.Ordering.TheVariants.{Equal}
+use Rattle.std.proofs.Props.{props}
+use Rattle.chain_base.specs.Chain.{Entry, Chain, entry_at, next_index}
+use Rattle.ord_tree.specs.Tree.{Tree, put_at}
+use Rattle.triple_ord.specs.Arena.{item_of}
+use Rattle.triple_ord.specs.Gap.{with_between}
+use Rattle.triple_ord.specs.Place.{Aim, Place, into, over, nowhere, IsPlace, aim_of}
+use Rattle.triple_ord.specs.Search.{pointer}
+use Rattle.triple_ord.specs.EntryVisits.{HasSeen, VisitsFor}
+use Rattle.triple_ord.specs.declared.entry_kind.OrdEntryKind.{OrdEntryKind}
+use Rattle.triple_ord.specs.declared.entry_kind.OrdEntryKind.TheVariants as shown
+use Rattle.triple_ord.specs.declared.insert_kind.OrdInsertKind.{OrdInsertKind}
+use Rattle.triple_ord.specs.declared.prepared.InsertPlace.{InsertPlace}
+use Rattle.triple_ord.specs.declared.prepared.InsertPlace.TheVariants.{New, Replacing}
+
+-- the index of a pointer
+abbrev pub index_in : {P : Type 0} → (P → ℕ × ℕ) → P → ℕ
+index_in numbers p = (numbers p).0
+
+-- a place beside an entry, by the number of what names the entry
+abbrev pub by_number : {I : Type 0} → (I → ℕ) → Option (I × Ordering) → Option (ℕ × Ordering)
+by_number number None = None
+by_number number (Some a) = Some (number a.0, a.1)
+
+module _ {P T : Type 0} (numbers : P → ℕ × ℕ) where
+  -- a new entry can stand there: alone, where there is none, or on a side of the entry that has the pointer's index
+  abbrev pub HasRoomAt : Option (P × Ordering) → Chain T → Type 0
+  HasRoomAt None c = length c.entries ≡ 0
+  HasRoomAt (Some at) c = IsSome (entry_at c.entries (index_in numbers at.0)) × (at.1 ≢ Equal)
+
+  -- this is how the place is kept
+  abbrev pub Keeps : (t : Tree T) → InsertPlace P → Place t.list.entries → Type 0
+  Keeps t (New at) (into gap) = HasRoomAt at t.list × ((x : Entry T) → put_at (index_in numbers) at t.list.entries x ≡ with_between gap x)
+  Keeps t (Replacing p) (over e) = (numbers p ≡ pointer e) × IsSome (item_of t (numbers p))
+  Keeps t kept place = ⊥
+
+  module _ {K : Type 0} (key : T → K) (cmp : K → K → Ordering) (t : Tree T) where
+    -- a place by a key, as a search with c visits found it
+    pub record IsFoundPlace (aim : Aim K) (k : K) (c : ℕ) (kept : InsertPlace P) : Type 0 where
+      pub place : Place t.list.entries
+      pub chosen : IsPlace key cmp aim place
+      pub keeps : Keeps t kept place
+      pub seen : HasSeen key cmp k place c
+
+    -- a place that needs no search, or none where there is no such place
+    abbrev pub IsPlaceBeside : Aim K → Option (InsertPlace P) → Type 0
+    IsPlaceBeside aim None = IsPlace key cmp {entries = t.list.entries} aim nowhere
+    IsPlaceBeside aim (Some kept) = (place : Place t.list.entries) × IsPlace key cmp aim place × Keeps t kept place
+
+    -- the place of an insertion of this kind, with the visits of its search
+    pub record IsPlaceFor {I G : Type 0} (number : I → ℕ) (kind : OrdInsertKind P K I G) (kept : InsertPlace P) (c : ℕ) : Type 0 where
+      pub place : Place t.list.entries
+      pub chosen : IsPlace key cmp (aim_of number kind) place
+      pub keeps : Keeps t kept place
+      pub visits : VisitsFor key cmp number kind t place c
+
+  -- an item can go there without memory: beside an entry, under the next pointer; or in the place of an item that the pointer finds
+  abbrev pub IsReady : OrdEntryKind P → Option (P × Ordering) → Tree T → Type 0
+  IsReady (shown.New p) at t =
+      HasRoomAt at t.list × (next_index t.list ≡ Some (numbers p).0) × ((numbers p).1 ≡ t.list.generation)
+  IsReady (shown.Replacing p) at t = IsSome (item_of t (numbers p))
+
+  -- each is a fact, and no datum
+  pub HasRoomAt-prop : (at : Option (P × Ordering)) (c : Chain T) → IsProp (HasRoomAt at c)
+  HasRoomAt-prop None c = hlevel props
+  HasRoomAt-prop (Some at) c = hlevel props
+
+  pub IsReady-prop : (kind : OrdEntryKind P) (at : Option (P × Ordering)) (t : Tree T) → IsProp (IsReady kind at t)
+  IsReady-prop (shown.New p) at t = hlevel (props, HasRoomAt-prop)
+  IsReady-prop (shown.Replacing p) at t = hlevel props

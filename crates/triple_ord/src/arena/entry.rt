@@ -1,0 +1,163 @@
+//! Asking for the place of an insertion, and what an entry can do.
+ghost use Rattle.std.specs.Prelude.{◌≡◌, ◌+◌, ◌<◌, ◌↔◌, Some, IsSome, IsNone, IfOk, IfErr, IfSome, OnErr, is_some, if◌then◌else◌, length};
+ghost use Rattle.std.specs.Option.{option_map};
+ghost use Rattle.std.specs.Borrow.{sem};
+ghost use Rattle.chain_base.specs.Chain.{next_index};
+ghost use Rattle.chain_base.specs.Insert.{IsInsertion};
+ghost use Rattle.ord_tree.specs.Tree.{CanPutAt, IsGrown, put_at};
+ghost use Rattle.triple_ord.specs.Arena.{item_of, count, Updates, FindSame};
+ghost use Rattle.triple_ord.specs.Entry.{InsertsThere, IsEntryFor};
+ghost use Rattle.triple_ord.specs.EntryKind.{pointer_of};
+ghost use Rattle.triple_ord.specs.Insertion.{within, reallocating, IsRefused};
+ghost use Rattle.triple_ord.specs.InsertEntry.{entry_arena, entry_shown, entry_put, entry_visits, entry_lender, rests_if_refused};
+ghost use Rattle.triple_ord.specs.Place.{aim_of, kind_now};
+ghost use Rattle.triple_ord.specs.Prepared.{IsReady};
+
+use super::SimpleOrdArena;
+use super::insert_entry::SimpleOrdArenaInsertEntry;
+use crate::entry_kind::OrdEntryKind;
+use crate::error::OrdInsertionError;
+use crate::insert_kind::OrdInsertKind;
+use crate::item::SimpleOrdItem;
+use crate::prepared::{InsertPlace, Prepared};
+use crate::visits::Visits;
+use arena_base::Ptr;
+use std::alloc::Allocator;
+use std::cmp::Ordering;
+
+impl<'a, P: Ptr, T: Drop, A: Allocator> SimpleOrdArenaInsertEntry<'a, P, T, A> {
+    /// The pointer of the entry: that of a new one, which finds nothing yet, or of the one whose item is to be replaced. In O(1).
+    pub fn ptr(&self) -> OrdEntryKind<P>
+        ensures { result ≡ entry_shown self.now }
+    {
+        self.prepared.shown
+    }
+
+    /// How many entries the search for the place visited: none for `OrdInsertKind::Empty` and `OrdInsertKind::Manual`, and for the
+    /// other kinds as many as the search for a similar key that they make.
+    pub fn visits(&self) -> Visits
+        ensures { result ≡ entry_visits self.now }
+    {
+        self.prepared.visits
+    }
+
+    /// Inserts the item, and returns the one that it replaced.
+    ///
+    /// No key is compared: an item whose key isn't that of the entry can break the order of the keys, never the tree. It takes no
+    /// memory, and O(log n) time for n entries; a new entry changes the parent of at most five others.
+    pub fn insert(self, t: T) -> Option<T>
+        ensures inserts { InsertsThere P.numbers (entry_shown self.entry)
+            (entry_put P.numbers self.entry) (entry_arena self.entry) t result self.exit.0.now }
+        ensures updates { Updates (entry_arena self.entry) self.exit.0.now
+            (P.numbers (pointer_of (entry_shown self.entry))) (Some t) }
+        ensures before { result ≡ item_of (entry_arena self.entry)
+            (P.numbers (pointer_of (entry_shown self.entry))) }
+        ensures count { count self.exit.0.now ≡ (if is_some result then count (entry_arena self.entry)
+            else count (entry_arena self.entry) + 1) }
+    {
+        let prepared = self.prepared;
+        self.arena.insert_prepared(prepared, t)
+    }
+}
+
+impl<P: Ptr, T: SimpleOrdItem + Drop, A: Allocator> SimpleOrdArena<P, T, A> {
+    /// Finds the place of an insertion, and keeps within the capacity.
+    ///
+    /// It is refused with `FailedOrdRequirement` where `kind` has no place, and with `NotWithinCapacity` where a new entry is needed and
+    /// no slot is vacant. Nothing changes then, nor before the entry inserts. It takes no memory, and as long as the search for a key
+    /// that `kind` makes: O(log n) time for n entries, near a hint less, and O(1) without a key.
+    pub fn entry_insert_within_capacity(
+        &mut self,
+        kind: OrdInsertKind<P, &T::Key>,
+    ) -> Result<SimpleOrdArenaInsertEntry<'_, P, T, A>, OrdInsertionError>
+        ensures* unchanged_at_err { sem 𝓛 (rests_if_refused P.row T.row A.row P.Inx.row P.Gen.row
+            P.Ptr.own P.PartialEq P.Ord.own P.PartialOrd.own P.Hash.own P.Debug
+            P.Inx.PtrInx.own P.Inx.PartialEq P.Inx.Ord.own P.Inx.PartialOrd.own P.Inx.Hash.own P.Inx.Debug
+            P.Gen.PtrGen.own P.Gen.PartialEq P.Gen.Debug A.Allocator
+            self.entry result) }
+        ensures place { IfOk result (λ e. IsEntryFor P.numbers T.key_of T.Key.cmp P.Inx.number
+            within P.Inx.most (kind_now kind.entry) self.old (entry_shown e) (entry_put P.numbers e) (entry_visits e)
+            (entry_arena e)) }
+        ensures found { IfOk result (λ e. FindSame self.old (entry_arena e)) }
+        ensures count { IfOk result (λ e. count (entry_arena e) ≡ count self.old) }
+        ensures refused { IfErr result (IsRefused T.key_of T.Key.cmp P.Inx.most within
+            (aim_of P.Inx.number (kind_now kind.entry)) self.old) }
+        ensures same_reference { IfOk result (λ e. entry_lender e ≡ self.entry.ghost_name) }
+    {
+        let prepared = self.prepare_within(kind)?;
+        Ok(SimpleOrdArenaInsertEntry {
+            arena: self,
+            prepared,
+        })
+    }
+
+    /// Finds the place of an insertion, and grows first where a new entry is needed and no slot is vacant.
+    ///
+    /// It is refused with `FailedOrdRequirement` where `kind` has no place, whatever the capacity; with `BeyondMaxCapacity` where a new
+    /// entry is needed and the length is at the limit; and with `AllocError` where memory is refused to a growth. Nothing changes then.
+    /// An equal entry is found before a slot is needed, so an arena that is full still replaces.
+    ///
+    /// Before the entry inserts nothing else has changed than the capacity, where it grew. It takes as long as
+    /// `entry_insert_within_capacity`, and O(n) where the arena grows.
+    pub fn entry_insert_reallocating(
+        &mut self,
+        kind: OrdInsertKind<P, &T::Key>,
+    ) -> Result<SimpleOrdArenaInsertEntry<'_, P, T, A>, OrdInsertionError>
+        ensures* unchanged_at_err { sem 𝓛 (rests_if_refused P.row T.row A.row P.Inx.row P.Gen.row
+            P.Ptr.own P.PartialEq P.Ord.own P.PartialOrd.own P.Hash.own P.Debug
+            P.Inx.PtrInx.own P.Inx.PartialEq P.Inx.Ord.own P.Inx.PartialOrd.own P.Inx.Hash.own P.Inx.Debug
+            P.Gen.PtrGen.own P.Gen.PartialEq P.Gen.Debug A.Allocator
+            self.entry result) }
+        ensures place { IfOk result (λ e. IsEntryFor P.numbers T.key_of T.Key.cmp P.Inx.number
+            reallocating P.Inx.most (kind_now kind.entry) self.old (entry_shown e) (entry_put P.numbers e) (entry_visits e)
+            (entry_arena e)) }
+        ensures found { IfOk result (λ e. FindSame self.old (entry_arena e)) }
+        ensures count { IfOk result (λ e. count (entry_arena e) ≡ count self.old) }
+        ensures refused { IfErr result (IsRefused T.key_of T.Key.cmp P.Inx.most reallocating
+            (aim_of P.Inx.number (kind_now kind.entry)) self.old) }
+        ensures same_reference { IfOk result (λ e. entry_lender e ≡ self.entry.ghost_name) }
+    {
+        let prepared = self.prepare_reallocating(kind)?;
+        Ok(SimpleOrdArenaInsertEntry {
+            arena: self,
+            prepared,
+        })
+    }
+
+    /// The same as `entry_insert_reallocating`.
+    ///
+    /// An item that is handed to a refused insertion is dropped. One that asks for an entry first is kept:
+    ///
+    /// ```text
+    /// fn put(jobs: &mut Jobs, job: Job) -> Result<P0, (Job, OrdInsertionError)> {
+    ///     match jobs.entry_insert(OrdInsertKind::Nonhereditary(job.key())) {
+    ///         Ok(entry) => {
+    ///             let p = entry.ptr().any();
+    ///             let _ = entry.insert(job);
+    ///             Ok(p)
+    ///         }
+    ///         Err(refusal) => Err((job, refusal)),
+    ///     }
+    /// }
+    /// ```
+    pub fn entry_insert(
+        &mut self,
+        kind: OrdInsertKind<P, &T::Key>,
+    ) -> Result<SimpleOrdArenaInsertEntry<'_, P, T, A>, OrdInsertionError>
+        ensures* unchanged_at_err { sem 𝓛 (rests_if_refused P.row T.row A.row P.Inx.row P.Gen.row
+            P.Ptr.own P.PartialEq P.Ord.own P.PartialOrd.own P.Hash.own P.Debug
+            P.Inx.PtrInx.own P.Inx.PartialEq P.Inx.Ord.own P.Inx.PartialOrd.own P.Inx.Hash.own P.Inx.Debug
+            P.Gen.PtrGen.own P.Gen.PartialEq P.Gen.Debug A.Allocator
+            self.entry result) }
+        ensures place { IfOk result (λ e. IsEntryFor P.numbers T.key_of T.Key.cmp P.Inx.number
+            reallocating P.Inx.most (kind_now kind.entry) self.old (entry_shown e) (entry_put P.numbers e) (entry_visits e)
+            (entry_arena e)) }
+        ensures found { IfOk result (λ e. FindSame self.old (entry_arena e)) }
+        ensures count { IfOk result (λ e. count (entry_arena e) ≡ count self.old) }
+        ensures refused { IfErr result (IsRefused T.key_of T.Key.cmp P.Inx.most reallocating
+            (aim_of P.Inx.number (kind_now kind.entry)) self.old) }
+        ensures same_reference { IfOk result (λ e. entry_lender e ≡ self.entry.ghost_name) }
+    {
+        self.entry_insert_reallocating(kind)
+    }
+}

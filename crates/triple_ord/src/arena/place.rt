@@ -1,0 +1,125 @@
+//! Where an insertion goes: the search for its place.
+ghost use Rattle.std.specs.Prelude.{◌≡◌, ℕ, IfOk, IfErr};
+ghost use Rattle.std.specs.Option.{option_map};
+ghost use Rattle.triple_ord.specs.Place.{alone, at_key, before_key, beside, nowhere, IsPlace, aim_of, kind_now};
+ghost use Rattle.triple_ord.specs.Prepared.{IsFoundPlace, IsPlaceBeside, IsPlaceFor};
+ghost use Rattle.triple_ord.specs.Search.{FindsSimilar};
+
+use super::SimpleOrdArena;
+use crate::error::OrdInsertionError;
+use crate::insert_kind::OrdInsertKind;
+use crate::item::SimpleOrdItem;
+use crate::prepared::InsertPlace;
+use crate::visits::Visits;
+use arena_base::Ptr;
+use std::alloc::Allocator;
+use std::cmp::Ordering;
+
+impl<P: Ptr, T: SimpleOrdItem, A: Allocator> SimpleOrdArena<P, T, A> {
+    // The place of an insertion, and how many entries the search for it visited; a refusal where it has none.
+    pub(super) fn place_for(
+        &self,
+        kind: OrdInsertKind<P, &T::Key>,
+    ) -> Result<(InsertPlace<P>, Visits), OrdInsertionError>
+        ensures place { IfOk result (λ r. IsPlaceFor P.numbers T.key_of T.Key.cmp
+            self.now P.Inx.number (kind_now kind.entry) r.0 r.1) }
+        ensures none { IfErr result (λ e. (e ≡ OrdInsertionError.FailedOrdRequirement)
+            × IsPlace T.key_of T.Key.cmp {entries = self.now.list.entries}
+            (aim_of P.Inx.number (kind_now kind.entry)) nowhere) }
+    {
+        match kind {
+            OrdInsertKind::Empty => {
+                let place = self
+                    .place_alone()
+                    .ok_or(OrdInsertionError::FailedOrdRequirement)?;
+                Ok((place, Visits::new(0)))
+            }
+            OrdInsertKind::Normal(k) => {
+                let (found, visits) = self.find_similar_key_counted(k);
+                Ok((self.place_over(found), visits))
+            }
+            OrdInsertKind::Nonhereditary(k) => {
+                let (found, visits) = self.find_similar_key_counted(k);
+                Ok((self.place_before(found), visits))
+            }
+            OrdInsertKind::Linear { p_init, num, k } => {
+                let (found, visits) = self.find_similar_key_linear_counted(p_init, num, k);
+                Ok((self.place_over(found), visits))
+            }
+            OrdInsertKind::NonhereditaryLinear { p_init, num, k } => {
+                let (found, visits) = self.find_similar_key_linear_counted(p_init, num, k);
+                Ok((self.place_before(found), visits))
+            }
+            OrdInsertKind::Manual {
+                p_target,
+                direction,
+            } => {
+                let place = self
+                    .place_beside(p_target, direction)
+                    .ok_or(OrdInsertionError::FailedOrdRequirement)?;
+                Ok((place, Visits::new(0)))
+            }
+        }
+    }
+
+    // Where a search for a key ended: an equal entry is to be replaced.
+    fn place_over(&self, found: Option<(P, Ordering)>) -> InsertPlace<P>
+        ensures { (k : T.Key) (c : ℕ)
+            → FindsSimilar T.key_of T.Key.cmp self.now.list.entries k
+            (option_map (λ a. ((P.numbers a.0), a.1)) found) c
+            → IsFoundPlace P.numbers T.key_of T.Key.cmp self.now (at_key k) k c result }
+    {
+        // with its length an arena tells what holds of its list
+        let _ = self.len();
+        match found {
+            None => InsertPlace::New(None),
+            Some(similar) if similar.1.is_eq() => InsertPlace::Replacing(similar.0),
+            Some(similar) => InsertPlace::New(Some(similar)),
+        }
+    }
+
+    // Where a search for a key ended: a new entry goes before an equal one.
+    fn place_before(&self, found: Option<(P, Ordering)>) -> InsertPlace<P>
+        ensures { (k : T.Key) (c : ℕ)
+            → FindsSimilar T.key_of T.Key.cmp self.now.list.entries k
+            (option_map (λ a. ((P.numbers a.0), a.1)) found) c
+            → IsFoundPlace P.numbers T.key_of T.Key.cmp self.now (before_key k) k c result }
+    {
+        // with its length an arena tells what holds of its list
+        let _ = self.len();
+        match found {
+            None => InsertPlace::New(None),
+            Some(similar) if similar.1.is_eq() => InsertPlace::New(Some((
+                similar.0,
+                Ordering::Less,
+            ))),
+            Some(similar) => InsertPlace::New(Some(similar)),
+        }
+    }
+
+    // The place alone, where there is no entry.
+    fn place_alone(&self) -> Option<InsertPlace<P>>
+        ensures { IsPlaceBeside P.numbers T.key_of T.Key.cmp self.now alone result }
+    {
+        if self.is_empty() {
+            Some(InsertPlace::New(None))
+        } else {
+            None
+        }
+    }
+
+    // The place beside the entry at an index, or in its place.
+    fn place_beside(&self, i: P::Inx, direction: Ordering) -> Option<InsertPlace<P>>
+        ensures { IsPlaceBeside P.numbers T.key_of T.Key.cmp self.now
+            (beside (P.Inx.number i) direction) result }
+    {
+        // with its length an arena tells what holds of its list
+        let _ = self.len();
+        let (generation, _item) = self.get_inx(i)?;
+        let p = P::_from_raw(i, generation);
+        match direction {
+            Ordering::Equal => Some(InsertPlace::Replacing(p)),
+            _ => Some(InsertPlace::New(Some((p, direction)))),
+        }
+    }
+}

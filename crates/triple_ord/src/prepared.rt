@@ -1,0 +1,24 @@
+//! The place of an insertion, before a pointer is known for it and after.
+use crate::entry_kind::OrdEntryKind;
+use crate::visits::Visits;
+use std::cmp::Ordering;
+
+/// Where an insertion puts its item.
+#[derive(Clone, Copy)]
+pub(crate) enum InsertPlace<P> {
+    /// As a new entry: directly before or after the entry of a pointer, or alone.
+    New(Option<(P, Ordering)>),
+    /// In the place of the item that the pointer finds.
+    Replacing(P),
+}
+
+/// What an entry of an insertion keeps beside its arena.
+#[derive(Clone, Copy)]
+pub(crate) struct Prepared<P> {
+    /// The pointer, and whether the entry is new.
+    pub shown: OrdEntryKind<P>,
+    /// Where a new entry goes: directly before or after the entry of a pointer, or alone.
+    pub at: Option<(P, Ordering)>,
+    /// How many entries the search for the place visited.
+    pub visits: Visits,
+}

@@ -1,0 +1,79 @@
+//! Jobs that come back where they are refused, several jobs of one deadline, and jobs beside a job.
+
+ghost use Rattle.std.specs.Prelude.{◌≡◌, ◌≢◌, ◌+◌, ℕ, Some, None, IfOk, OnOk, IfErr, OnErr, if◌then◌else◌};
+ghost use Rattle.triple_ord.specs.Arena.{item_of, count, FindSame};
+
+use crate::scheduler::Jobs;
+use std::cmp::Ordering;
+use triple_ord::{OrdEntryKind, OrdInsertKind, OrdInsertionError, OrdPair, P0, Ptr};
+
+/// Puts a job on the list beside those of the same deadline; where it is refused the job comes back.
+pub fn add(
+    jobs: &mut Jobs,
+    job: OrdPair<u64, u64>,
+) -> Result<P0, (OrdPair<u64, u64>, OrdInsertionError)>
+    ensures finds { IfOk result (λ p. item_of jobs.new p ≡ Some job) }
+    ensures others { IfOk result (λ p. (q : ℕ × ℕ) → q ≢ p → item_of jobs.new q ≡ item_of jobs.old q) }
+    ensures back { IfErr result (λ e. e.0 ≡ job) }
+    ensures refused { OnErr result (jobs.new ≡ jobs.old) }
+{
+    match jobs.entry_insert(OrdInsertKind::Nonhereditary(job.k())) {
+        Ok(entry) => {
+            let p = entry.ptr().any();
+            let _ = entry.insert(job);
+            Ok(p)
+        }
+        Err(refusal) => Err((job, refusal)),
+    }
+}
+
+/// Puts a job on the list where there is room, by a hint: the pointer of a job of about the same deadline.
+pub fn add_near(
+    jobs: &mut Jobs,
+    hint: P0,
+    job: OrdPair<u64, u64>,
+) -> Result<(P0, Option<OrdPair<u64, u64>>), OrdInsertionError>
+    ensures finds { IfOk result (λ a. item_of jobs.new a.0 ≡ Some job) }
+    ensures others { IfOk result (λ a. (q : ℕ × ℕ) → q ≢ a.0 → item_of jobs.new q ≡ item_of jobs.old q) }
+    ensures before { IfOk result (λ a. a.1 ≡ item_of jobs.old a.0) }
+    ensures refused { OnErr result (jobs.new ≡ jobs.old) }
+{
+    let entry = jobs.entry_insert_within_capacity(OrdInsertKind::Linear {
+        p_init: hint.inx(),
+        num: 8,
+        k: job.k(),
+    })?;
+    let p = entry.ptr().any();
+    Ok((p, entry.insert(job)))
+}
+
+/// Puts a job on the list where there is room.
+pub fn schedule_within(jobs: &mut Jobs, deadline: u64, job: u64) -> Result<P0, OrdInsertionError>
+    ensures finds { IfOk result (λ p. item_of jobs.new p ≡ Some (deadline, job)) }
+    ensures others { IfOk result (λ p. (q : ℕ × ℕ) → q ≢ p → item_of jobs.new q ≡ item_of jobs.old q) }
+    ensures refused { OnErr result (jobs.new ≡ jobs.old) }
+{
+    let (p, _) = jobs.insert_within_capacity(OrdPair::new(deadline, job))?;
+    Ok(p)
+}
+
+/// Whether a job of this deadline would replace one. Room for it is made, and nothing else changes.
+pub fn would_replace(jobs: &mut Jobs, deadline: u64) -> Result<bool, OrdInsertionError>
+    ensures found { FindSame jobs.old jobs.new }
+    ensures count { count jobs.new ≡ count jobs.old }
+{
+    let entry = jobs.entry_insert_reallocating(OrdInsertKind::Normal(&deadline))?;
+    Ok(matches!(entry.ptr(), OrdEntryKind::Replacing(_)))
+}
+
+/// Puts a job directly behind another, whatever their deadlines; returns whether the pointer's index has one.
+pub fn put_behind(jobs: &mut Jobs, p: P0, job: OrdPair<u64, u64>) -> Result<bool, OrdInsertionError>
+    ensures count { IfOk result (λ put. count jobs.new ≡ (if put then count jobs.old + 1 else count jobs.old)) }
+    ensures refused { OnErr result (jobs.new ≡ jobs.old) }
+{
+    if !jobs.contains_inx(p.inx()) {
+        return Ok(false);
+    }
+    let _ = jobs.insert_inx_manual_unwrap(p.inx(), Ordering::Greater, job)?;
+    Ok(true)
+}
