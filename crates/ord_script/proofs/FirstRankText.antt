@@ -6,18 +6,19 @@ use Rattle.triple_ord.specs.Place.{at_key}
 use Rattle.triple_ord.specs.declared.entry_kind.OrdEntryKind.TheVariants.{New}
 use Rattle.triple_ord.specs.declared.error.OrdInsertionError.TheVariants.{FailedOrdRequirement, NotWithinCapacity, BeyondMaxCapacity, AllocError}
 use Rattle.ord_tree.specs.Tree.{Tree}
-use Rattle.ord_script.specs.declared.command.Command.TheVariants as commands
-use Rattle.ord_script.specs.declared.reply.Reply.TheVariants.{Inserted, Refused, Ranks}
+use Rattle.ord_machine.specs.declared.command.Command.TheVariants as commands
+use Rattle.ord_machine.specs.declared.reply.Reply.TheVariants.{Inserted, Refused, Ranks}
 use Rattle.ord_script.specs.declared.form.Form.{Form}
 use Rattle.ord_script.specs.declared.form.Form.TheVariants.{Plain}
 use Rattle.ord_script.specs.Arguments.{arguments_in}
-use Rattle.ord_script.specs.Machine.{State, Inserts, Runs}
+use Rattle.ord_machine.specs.Machine.{State, Inserts, Runs}
 use Rattle.ord_script.specs.Pairs.{Pair, Pointer, PairCommand, PairReply, reading, beginning, answers_equal}
 use Rattle.ord_script.specs.Script.{Script, script_of}
 use Rattle.ord_script.specs.Service.{Answers}
 use Rattle.ord_script.specs.Text.{reply_lines}
-use Rattle.ord_script.specs.Laws.{AreFirstReplies, FirstRankTextLaw, first_answers}
-use Rattle.ord_script.proofs.FirstRank.{first_rank}
+use Rattle.ord_machine.specs.Laws.{AreFirstReplies}
+use Rattle.ord_script.specs.Laws.{FirstRankTextLaw, first_answers}
+use Rattle.ord_machine.proofs.FirstRank.{first_rank}
 
 -- the script, read
 two_lines : script_of (codes "insert 5 1\nranks\n") ≡ record { commands = commands.Insert (pos 5, 1) ∷ commands.Ranks ∷ []; fault = None }

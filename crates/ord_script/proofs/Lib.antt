@@ -4,15 +4,8 @@ pub mod Parts
 pub mod Digits
 pub mod ScriptLemmas
 pub mod Words
-pub mod Lists
-pub mod Draining
-pub mod Ranking
-pub mod Insertions
-pub mod Marking
-pub mod Bounded
-pub mod Runs
+pub mod Answered
 pub mod Endings
-pub mod FirstRank
 pub mod NumberTexts
 pub mod Spelled
 pub mod ScriptTexts

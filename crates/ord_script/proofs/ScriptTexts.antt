@@ -10,7 +10,7 @@ use Rattle.std.proofs.lemmas.List.Recursion.{and_at}
 use Rattle.std.proofs.lemmas.List.Splits.{slice_split_none, slice_split_at}
 use Rattle.std.specs.declared.cmp.Ordering.TheVariants.{Less, Equal, Greater}
 use Rattle.triple_ord.specs.declared.insert_kind.OrdInsertKind.TheVariants as kinds
-use Rattle.ord_script.specs.declared.command.Command.TheVariants as commands
+use Rattle.ord_machine.specs.declared.command.Command.TheVariants as commands
 use Rattle.ord_script.specs.Pairs.{PairCommand}
 use Rattle.ord_script.specs.Script.{is_blank, words_of, and_then, script_from, script_of}
 use Rattle.ord_script.specs.Commands.{said_by}

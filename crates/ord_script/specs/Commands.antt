@@ -1,16 +1,16 @@
 -- Commands as the words of a line spell them.
-use Rattle.std.specs.Prelude.{ℕ, List, [], ◌∷◌, ◌==◌, ok_or, Option, Some, None, Result, Ok, Err, codes, bytes_eq, slice_index, if◌then◌else◌}
+use Rattle.std.specs.Prelude.{ℕ, ℤ, List, [], ◌∷◌, ◌==◌, ok_or, Option, Some, None, Result, Ok, Err, codes, bytes_eq, slice_index, if◌then◌else◌}
 use Rattle.std.specs.declared.cmp.Ordering.{Ordering}
 use Rattle.std.specs.declared.cmp.Ordering.TheVariants.{Less, Equal, Greater}
 use Rattle.triple_ord.specs.declared.insert_kind.OrdInsertKind.TheVariants as kinds
 use Rattle.ord_script.specs.declared.fault.FaultKind.{FaultKind}
 use Rattle.ord_script.specs.declared.fault.FaultKind.TheVariants.{UnknownCommand}
-use Rattle.ord_script.specs.declared.command.Command.TheVariants as commands
+use Rattle.ord_machine.specs.declared.command.Command.TheVariants as commands
 use Rattle.ord_script.specs.declared.word.Word.{Word}
 use Rattle.ord_script.specs.declared.word.Word.TheVariants as words
 use Rattle.ord_script.specs.Numbers.{key_of, value_of, index_of, flag_of, pointer_of}
 use Rattle.ord_script.specs.Arguments.{Reader, nothing, one, both, key_and_value, arguments_in}
-use Rattle.ord_script.specs.Pairs.{Pair, PairCommand}
+use Rattle.ord_script.specs.Pairs.{Pair, Pointer, PairCommand}
 
 -- how a script writes the words that begin a command
 abbrev pub word_text : Word → List ℕ
@@ -90,6 +90,17 @@ nonhereditary_linear a = commands.Entry (kinds.NonhereditaryLinear a.0 a.1.0 a.1
 abbrev pub beside : Ordering → ℕ × Pair → PairCommand
 beside order a = commands.Entry (kinds.Manual a.0 order) a.1
 
+-- another item for the entry that a pointer names
+abbrev pub set : Pointer × Pair → PairCommand
+set a = commands.Set a.0 a.1
+
+-- searches from a hint: the entry that a pointer names, or the one at an index, and a number of steps
+abbrev pub find_linear : Pointer × (ℕ × ℤ) → PairCommand
+find_linear a = commands.FindLinear a.0 a.1.0 a.1.1
+
+abbrev pub similar_linear : ℕ × (ℕ × ℤ) → PairCommand
+similar_linear a = commands.SimilarLinear a.0 a.1.0 a.1.1
+
 -- an index and a pair, and from a hint too
 abbrev pub index_and_pair : Reader (ℕ × Pair)
 index_and_pair = both (one index_of) key_and_value
@@ -108,7 +119,7 @@ command_by words.NonhereditaryLinear = taking hint_and_pair nonhereditary_linear
 command_by words.Before = taking index_and_pair (beside Less)
 command_by words.At = taking index_and_pair (beside Equal)
 command_by words.After = taking index_and_pair (beside Greater)
-command_by words.Set = taking (both (one pointer_of) key_and_value) (λ a. commands.Set a.0 a.1)
+command_by words.Set = taking (both (one pointer_of) key_and_value) set
 command_by words.Remove = taking (one pointer_of) commands.Remove
 command_by words.RemoveInx = taking (one index_of) commands.RemoveInx
 command_by words.Invalidate = taking (one pointer_of) commands.Invalidate
@@ -117,10 +128,9 @@ command_by words.IncGeneration = alone commands.IncGeneration
 command_by words.Compress = taking (one flag_of) commands.Compress
 command_by words.Canonical = taking (one flag_of) commands.Canonical
 command_by words.Find = taking (one key_of) commands.Find
-command_by words.FindLinear = taking (both (one pointer_of) (both (one value_of) (one key_of))) (λ a. commands.FindLinear a.0 a.1.0 a.1.1)
+command_by words.FindLinear = taking (both (one pointer_of) (both (one value_of) (one key_of))) find_linear
 command_by words.Similar = taking (one key_of) commands.Similar
-command_by words.SimilarLinear =
-    taking (both (one index_of) (both (one value_of) (one key_of))) (λ a. commands.SimilarLinear a.0 a.1.0 a.1.1)
+command_by words.SimilarLinear = taking (both (one index_of) (both (one value_of) (one key_of))) similar_linear
 command_by words.Visits = taking (one key_of) commands.Visits
 command_by words.Get = taking (one pointer_of) commands.Get
 command_by words.First = alone commands.First

@@ -1,6 +1,5 @@
 -- The definitions that the contracts cite.
 pub mod Devices
-pub mod Machine
 pub mod Pairs
 pub mod Text
 pub mod Numbers

@@ -5,7 +5,7 @@ use Rattle.ord_script.specs.declared.fault.Fault.{Fault}
 use Rattle.ord_script.specs.declared.script_end.ScriptEnd.{ScriptEnd}
 use Rattle.ord_script.specs.declared.script_end.ScriptEnd.TheVariants as ends
 use Rattle.ord_script.specs.Devices.{limit}
-use Rattle.ord_script.specs.Machine.{State, Runs}
+use Rattle.ord_machine.specs.Machine.{State, Runs}
 use Rattle.ord_script.specs.Pairs.{Pair, PairReply, reading, beginning, answers_equal}
 use Rattle.ord_script.specs.Script.{Script, script_of}
 use Rattle.ord_script.specs.Text.{form_of, reply_lines, fault_line}

@@ -5,7 +5,7 @@ use Rattle.std.specs.Fmt.{signed_decimal}
 use Rattle.std.specs.List.{join_with_byte}
 use Rattle.triple_ord.specs.declared.insert_kind.OrdInsertKind.{OrdInsertKind}
 use Rattle.triple_ord.specs.declared.insert_kind.OrdInsertKind.TheVariants as kinds
-use Rattle.ord_script.specs.declared.command.Command.TheVariants as commands
+use Rattle.ord_machine.specs.declared.command.Command.TheVariants as commands
 use Rattle.ord_script.specs.Pairs.{Pair, Pointer, PairCommand}
 use Rattle.ord_script.specs.Text.{pointer_text}
 

@@ -10,10 +10,10 @@ use Rattle.triple_ord.specs.declared.entry_kind.OrdEntryKind.{OrdEntryKind}
 use Rattle.triple_ord.specs.declared.entry_kind.OrdEntryKind.TheVariants.{New, Replacing}
 use Rattle.triple_ord.specs.declared.error.OrdInsertionError.{OrdInsertionError}
 use Rattle.triple_ord.specs.declared.error.OrdInsertionError.TheVariants.{FailedOrdRequirement, NotWithinCapacity, BeyondMaxCapacity, AllocError}
-use Rattle.ord_script.specs.declared.command.Command.TheVariants as commands
+use Rattle.ord_machine.specs.declared.command.Command.TheVariants as commands
 use Rattle.ord_script.specs.declared.form.Form.{Form}
 use Rattle.ord_script.specs.declared.form.Form.TheVariants.{Plain, Replaced, WithPointer, Cleared, Drained}
-use Rattle.ord_script.specs.declared.reply.Reply.TheVariants.{Inserted, Refused, Found, Similar, Count, Item, Removed, Renewed, Changed, At, Links, Entries, Ranks, Done, ReductionRefused, Sorted, Stats}
+use Rattle.ord_machine.specs.declared.reply.Reply.TheVariants.{Inserted, Refused, Found, Similar, Count, Item, Removed, Renewed, Changed, At, Links, Entries, Ranks, Done, ReductionRefused, Sorted, Stats}
 use Rattle.ord_script.specs.declared.fault.Fault.{Fault}
 use Rattle.ord_script.specs.declared.fault.FaultKind.{FaultKind}
 use Rattle.ord_script.specs.declared.fault.FaultKind.TheVariants.{UnknownCommand, WrongArguments, BadNumber}
@@ -70,10 +70,10 @@ abbrev pub insertion_text : OrdEntryKind Pointer → Option Pair → List ℕ
 insertion_text (New p) before = codes "new " ++ pointer_text p ++ before_text before
 insertion_text (Replacing p) before = codes "replaced " ++ pointer_text p ++ before_text before
 
--- the pointer of an entry, if there is one
-abbrev pub place_text : Option Pointer → List ℕ
-place_text (Some p) = codes "at " ++ pointer_text p
-place_text None = codes "none"
+-- the pointer of an entry, if it is there
+abbrev pub optional_pointer_text : Option Pointer → List ℕ
+optional_pointer_text (Some p) = codes "at " ++ pointer_text p
+optional_pointer_text None = codes "none"
 
 -- how a key lies to an entry's
 abbrev pub order_text : Ordering → List ℕ
@@ -141,14 +141,14 @@ stats_text len capacity generation maximum =
 abbrev pub reply_text : {A : Type 0} → Form → PairReply A → List ℕ
 reply_text form (Inserted kind before) = insertion_text kind before
 reply_text form (Refused refusal) = codes "refused " ++ refusal_text refusal
-reply_text form (Found found visits) = place_text found
+reply_text form (Found found visits) = optional_pointer_text found
 reply_text form (Similar found visits) = similar_text found
 reply_text form (Count visits) = codes "visits " ++ decimal visits
 reply_text form (Item item) = item_text (item_word form) item
 reply_text form (Removed result) = valid_text (λ taken. codes "removed " ++ taken_text form taken) result
 reply_text form (Renewed result) = valid_text (λ p. codes "now " ++ pointer_text p) result
 reply_text form (Changed result) = change_word form ++ overflow_text (is_overflow result)
-reply_text form (At place) = place_text place
+reply_text form (At p) = optional_pointer_text p
 reply_text form (Links links) = links_text links
 reply_text form (Entries entries) = entries_word form ++ flat_map (λ e. codes " " ++ entry_text e) entries.items
 reply_text form (Ranks ranks) = codes "ranks" ++ flat_map (λ k. codes " " ++ decimal k) ranks.items

@@ -61,7 +61,7 @@ pub fn first_line(bytes: &[u8]) -> Option<(&[u8], &[u8])>
     }
 }
 
-/// The place of the first LF.
+/// The position of the first LF.
 fn newline(bytes: &[u8]) -> Option<usize>
     ensures { result ≡ position (λ b. b == 10) bytes.now }
 {
@@ -90,14 +90,14 @@ fn first_word(line: &[u8]) -> Option<(&[u8], &[u8])>
     }
 }
 
-/// The place of the first byte that is no blank.
+/// The position of the first byte that is no blank.
 fn word_start(bytes: &[u8]) -> Option<usize>
     ensures { result ≡ position (λ b. not (is_blank b)) bytes.now }
 {
     bytes.iter().position(|b| !is_blank(*b))
 }
 
-/// The place of the first blank.
+/// The position of the first blank.
 fn word_end(bytes: &[u8]) -> Option<usize>
     ensures { result ≡ position is_blank bytes.now }
 {

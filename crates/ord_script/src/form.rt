@@ -2,8 +2,8 @@
 ghost use Rattle.std.specs.Prelude.{◌≡◌, IfOk, map};
 ghost use Rattle.ord_script.specs.Text.{form_of};
 
-use crate::command::Command;
 use crate::pairs::PairCommand;
+use ord_machine::Command;
 use std::alloc::{AllocError, Allocator};
 
 /// How a reply is told: like each of its kind, unless its command is named here.

@@ -1,17 +1,9 @@
-//! Laws of runs and scripts. Each function here does nothing, and its contract is a law: a fact about every run, or about every script.
+//! Laws of scripts. Each function here does nothing, and its contract is a law: a fact about every script.
 
-ghost use Rattle.triple_ord.specs.ClosureSearch.{Asks};
-ghost use Rattle.ord_script.specs.Laws.{FirstRankLaw, FirstRankTextLaw, KeyTextLaw, PointerTextLaw, CommandTextLaw, CommandWordLaw, ScriptTextLaw};
+ghost use Rattle.ord_script.specs.Laws.{FirstRankTextLaw, KeyTextLaw, PointerTextLaw, CommandTextLaw, CommandWordLaw, ScriptTextLaw};
 
-use arena_base::Ptr;
+pub use ord_machine::laws::first_rank_law;
 use std::alloc::Allocator;
-use std::cmp::Ordering;
-use triple_ord::SimpleOrdItem;
-
-/// An insertion where there is no entry, and then `ranks`: the ranks are 1 and nothing else, unless something is refused.
-pub fn first_rank_law<P: Ptr, T: SimpleOrdItem, F: FnMut(P, &T) -> Ordering, A: Allocator>()
-    ensures { FirstRankLaw P T P.Inx P.Gen A T.Key (Asks P.numbers F.step) }
-{}
 
 /// The script of two lines, `insert 5 1` and `ranks`, is answered by `new 1.2` and `ranks 1`, unless memory is refused.
 pub fn first_rank_text_law<A: Allocator>()

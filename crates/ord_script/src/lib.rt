@@ -5,7 +5,6 @@
 #![tactic(auto)]
 
 mod arguments;
-mod command;
 mod cutting;
 mod fault;
 mod form;
@@ -14,21 +13,16 @@ mod numbers;
 mod pairs;
 mod parsing;
 mod reading;
-mod reply;
-mod running;
 mod script;
 mod script_end;
 mod serving;
-mod steps;
 mod text;
 mod watched;
 mod word;
 mod writing;
 
-pub use command::Command;
 pub use fault::FaultKind;
-pub use reply::Reply;
-pub use running::run;
+pub use ord_machine::{Command, Reply, run};
 pub use script_end::ScriptEnd;
 pub use serving::serve;
 pub use watched::Watched;

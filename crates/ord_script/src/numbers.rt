@@ -53,7 +53,7 @@ pub fn pointer_of(word: &[u8]) -> Option<P0>
     Some(P0::_from_raw(index, generation))
 }
 
-/// The place of the first point.
+/// The position of the first point.
 fn first_point(word: &[u8]) -> Option<usize>
     ensures { result ≡ position is_point word.now }
 {

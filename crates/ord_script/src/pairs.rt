@@ -1,7 +1,6 @@
 //! What a script's arena holds: pairs of a key and a value under pointers. How they are written.
-use crate::command::Command;
-use crate::reply::Reply;
 use arena_base::{P0, Ptr};
+use ord_machine::{Command, Reply};
 use std::fmt;
 use triple_ord::{OrdPair, SimpleOrdArena};
 

@@ -1,15 +1,16 @@
 //! Reads the command that a line gives.
 ghost use Rattle.std.specs.Prelude.{◌≡◌};
-ghost use Rattle.ord_script.specs.Commands.{alone, command_by, said_by, nonhereditary, linear, nonhereditary_linear, beside};
+ghost use Rattle.ord_script.specs.Commands.{alone, command_by, said_by, nonhereditary, linear, nonhereditary_linear, beside, set, find_linear, similar_linear};
 ghost use Rattle.ord_script.specs.Commands as spec;
 ghost use Rattle.ord_script.specs.Script.{words_of};
 
 use crate::arguments::arguments_in;
-use crate::command::Command;
 use crate::cutting::Words;
 use crate::fault::FaultKind;
 use crate::pairs::{Pair, PairCommand};
 use crate::word::{Word, word_in};
+use arena_base::P0;
+use ord_machine::Command;
 use std::cmp::Ordering;
 use triple_ord::OrdInsertKind;
 
@@ -48,10 +49,7 @@ fn command_by(word: Word, arguments: Words<'_>) -> Result<PairCommand, FaultKind
         Word::Before => Ok(beside(Ordering::Less, arguments_in(arguments)?)),
         Word::At => Ok(beside(Ordering::Equal, arguments_in(arguments)?)),
         Word::After => Ok(beside(Ordering::Greater, arguments_in(arguments)?)),
-        Word::Set => {
-            let (p, pair) = arguments_in(arguments)?;
-            Ok(Command::Set(p, pair))
-        }
+        Word::Set => Ok(set(arguments_in(arguments)?)),
         Word::Remove => Ok(Command::Remove(arguments_in(arguments)?)),
         Word::RemoveInx => Ok(Command::RemoveInx(arguments_in(arguments)?)),
         Word::Invalidate => Ok(Command::Invalidate(arguments_in(arguments)?)),
@@ -60,15 +58,9 @@ fn command_by(word: Word, arguments: Words<'_>) -> Result<PairCommand, FaultKind
         Word::Compress => Ok(Command::Compress(arguments_in(arguments)?)),
         Word::Canonical => Ok(Command::Canonical(arguments_in(arguments)?)),
         Word::Find => Ok(Command::Find(arguments_in(arguments)?)),
-        Word::FindLinear => {
-            let (p, (num, key)) = arguments_in(arguments)?;
-            Ok(Command::FindLinear(p, num, key))
-        }
+        Word::FindLinear => Ok(find_linear(arguments_in(arguments)?)),
         Word::Similar => Ok(Command::Similar(arguments_in(arguments)?)),
-        Word::SimilarLinear => {
-            let (i, (num, key)) = arguments_in(arguments)?;
-            Ok(Command::SimilarLinear(i, num, key))
-        }
+        Word::SimilarLinear => Ok(similar_linear(arguments_in(arguments)?)),
         Word::Visits => Ok(Command::Visits(arguments_in(arguments)?)),
         Word::Get => Ok(Command::Get(arguments_in(arguments)?)),
         Word::First => alone(Command::First, arguments),
@@ -121,6 +113,30 @@ fn beside(direction: Ordering, arguments: (u32, Pair)) -> PairCommand
         },
         pair,
     )
+}
+
+/// Another item for the entry that a pointer names.
+fn set(arguments: (P0, Pair)) -> PairCommand
+    ensures { result ≡ set arguments }
+{
+    let (p, pair) = arguments;
+    Command::Set(p, pair)
+}
+
+/// A search for a key from the entry that a pointer names.
+fn find_linear(arguments: (P0, (usize, i64))) -> PairCommand
+    ensures { result ≡ find_linear arguments }
+{
+    let (p, (num, key)) = arguments;
+    Command::FindLinear(p, num, key)
+}
+
+/// A search beside a key from the entry at an index.
+fn similar_linear(arguments: (u32, (usize, i64))) -> PairCommand
+    ensures { result ≡ similar_linear arguments }
+{
+    let (i, (num, key)) = arguments;
+    Command::SimilarLinear(i, num, key)
 }
 
 /// A command without arguments.

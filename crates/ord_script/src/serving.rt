@@ -1,7 +1,7 @@
 //! Reads a script, runs it, and writes its answer.
 ghost use Rattle.std.specs.Prelude.{◌≡◌, ◌||◌, true, false, IfOk, string_bytes};
 ghost use Rattle.std.specs.Io.KnownBytes.{IsAtEnd};
-ghost use Rattle.ord_script.specs.Machine.{State, Runs};
+ghost use Rattle.ord_machine.specs.Machine.{State, Runs};
 ghost use Rattle.ord_script.specs.Pairs.{Pair, reading, beginning, answers_equal};
 ghost use Rattle.ord_script.specs.Script.{script_of};
 ghost use Rattle.ord_script.specs.Service.{Answers, Serves, end_of, is_answered, is_read_failed, is_write_failed};
@@ -9,13 +9,13 @@ ghost use Rattle.ord_script.specs.Service.{Answers, Serves, end_of, is_answered,
 use crate::form::forms_of;
 use crate::pairs::{Pair, PairArena, PairCommand, PairReply};
 use crate::reading::{ReadError, read_all};
-use crate::running::run;
 use crate::script::{Script, parse};
 use crate::script_end::ScriptEnd;
 use crate::text::text_of;
 use crate::watched::Watched;
 use crate::writing::write_all;
 use arena_base::P0;
+use ord_machine::run;
 use std::alloc::{AllocError, Allocator};
 use std::cmp::Ordering;
 use std::io::{Read, Write};

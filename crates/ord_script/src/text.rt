@@ -1,6 +1,6 @@
 //! Writes the lines that a script answers.
 ghost use Rattle.std.specs.Prelude.{◌≡◌, ◌++◌, [], ◌∷◌, IfOk, string_bytes, codes, flat_map, decimal};
-ghost use Rattle.ord_script.specs.Text.{Adds, reply_lines, reply_text, fault_line, insertion_text, place_text, similar_text, order_text, item_word, item_text, taken_text, pointer_text, overflow_text, valid_text, change_word, links_text, entries_word, entry_text, sorted_text, stats_text, refusal_text};
+ghost use Rattle.ord_script.specs.Text.{Adds, reply_lines, reply_text, fault_line, insertion_text, optional_pointer_text, similar_text, order_text, item_word, item_text, taken_text, pointer_text, overflow_text, valid_text, change_word, links_text, entries_word, entry_text, sorted_text, stats_text, refusal_text};
 ghost use Rattle.arena_base.specs.Invalidation.{is_overflow};
 
 use crate::fault::Fault;
@@ -9,8 +9,8 @@ use crate::pairs::{
     Pair, PairReply, ShownBefore, ShownMaximum, ShownNeighbour, ShownOverflow, ShownPair,
     ShownPointer,
 };
-use crate::reply::Reply;
 use arena_base::{InvalidationOption, InvalidationResult, P0};
+use ord_machine::Reply;
 use std::alloc::{AllocError, Allocator};
 use std::cmp::Ordering;
 use std::fmt::Write;
@@ -58,14 +58,14 @@ fn push_reply<A: Allocator>(
     match reply {
         Reply::Inserted(kind, before) => push_insertion(text, *kind, *before),
         Reply::Refused(refusal) => push_refusal(text, *refusal),
-        Reply::Found(found, _) => push_place(text, *found),
+        Reply::Found(found, _) => push_optional_pointer(text, *found),
         Reply::Similar(found, _) => push_similar(text, *found),
         Reply::Count(visits) => write!(text, "visits {visits}\n"),
         Reply::Item(item) => push_item(text, item_word(form), *item),
         Reply::Removed(removed) => push_removal(text, form, *removed),
         Reply::Renewed(renewed) => push_renewal(text, *renewed),
         Reply::Changed(changed) => push_change(text, change_word(form), *changed),
-        Reply::At(place) => push_place(text, *place),
+        Reply::At(p) => push_optional_pointer(text, *p),
         Reply::Links(links) => push_links(text, *links),
         Reply::Entries(entries) => push_entries(text, entries_word(form), entries),
         Reply::Ranks(ranks) => push_ranks(text, ranks),
@@ -120,10 +120,13 @@ fn reason(refusal: OrdInsertionError) -> &'static str
     }
 }
 
-fn push_place<A: Allocator>(text: &mut String<A>, place: Option<P0>) -> Result<(), AllocError>
-    ensures { Adds result text.old text.new (place_text place ++ 10 ∷ []) }
+fn push_optional_pointer<A: Allocator>(
+    text: &mut String<A>,
+    p: Option<P0>,
+) -> Result<(), AllocError>
+    ensures { Adds result text.old text.new (optional_pointer_text p ++ 10 ∷ []) }
 {
-    match place {
+    match p {
         Some(p) => {
             let pointer = ShownPointer(p);
             write!(text, "at {pointer}\n")

@@ -6,7 +6,7 @@ use std::alloc::{AllocError, Allocator, Global};
 use std::cmp::Ordering;
 use std::process::Abort;
 use std::test::Fail;
-use triple_ord::{OrdEntryKind, OrdInsertionError, SimpleOrdArena, SimpleOrdItem};
+use triple_ord::{OrdEntryKind, OrdInsertKind, OrdInsertionError, SimpleOrdArena, SimpleOrdItem};
 
 /// An item of the tests' own: a letter, found by its number.
 #[derive(Clone, Copy, Debug, PartialEq, Eq)]
@@ -284,6 +284,60 @@ fn runs_at_each_pointer_type(rt: HostRuntime) -> Result<(), Fail> {
     run_all::<P0>(&rt, rt.alloc())?;
     run_all::<P8>(&rt, rt.alloc())?;
     run_all::<PN>(&rt, rt.alloc())?;
+    Ok(())
+}
+
+/// Insertions by an entry, of items with other keys than the entry's, within a capacity of three and beyond it.
+fn entry_commands(alloc: Global) -> Result<Commands<P0>, AllocError> {
+    let behind_the_first = OrdInsertKind::Manual {
+        p_target: 1,
+        direction: Ordering::Greater,
+    };
+    let again = OrdInsertKind::Manual {
+        p_target: 1,
+        direction: Ordering::Greater,
+    };
+    let mut commands = Vec::new(alloc);
+    add(&mut commands, Command::Reserve(3))?;
+    add(
+        &mut commands,
+        Command::EntryWithin(OrdInsertKind::Empty, item(20, 'b')),
+    )?;
+    add(
+        &mut commands,
+        Command::EntryWithin(OrdInsertKind::Normal(20), item(90, 'B')),
+    )?;
+    add(
+        &mut commands,
+        Command::Entry(OrdInsertKind::Normal(10), item(95, 'a')),
+    )?;
+    add(
+        &mut commands,
+        Command::EntryWithin(behind_the_first, item(1, 'c')),
+    )?;
+    add(&mut commands, Command::EntryWithin(again, item(2, 'd')))?;
+    add(&mut commands, Command::List)?;
+    Ok(commands)
+}
+
+#[test]
+fn an_entry_goes_by_its_own_key(rt: HostRuntime) -> Result<(), Fail> {
+    let mut arena = SimpleOrdArena::new(rt.alloc());
+    let replies = replies_to(&rt, rt.alloc(), &mut arena, entry_commands(rt.alloc())?)?;
+    let b = new_at(&rt, &replies, 1, 1);
+    assert!(rt; is_replaced(&replies, 2, b, item(20, 'b')));
+    let a = new_at(&rt, &replies, 3, 2);
+    let c = new_at(&rt, &replies, 4, 3);
+    assert!(rt;
+        matches!(
+            replies.get(5),
+            Some(Reply::Refused(OrdInsertionError::NotWithinCapacity))
+        )
+    );
+    assert_eq!(rt; entry_at(&replies, 6, 0), Some((a, item(95, 'a'))));
+    assert_eq!(rt; entry_at(&replies, 6, 1), Some((b, item(90, 'B'))));
+    assert_eq!(rt; entry_at(&replies, 6, 2), Some((c, item(1, 'c'))));
+    assert_eq!(rt; entry_at(&replies, 6, 3), None);
     Ok(())
 }
 

@@ -1,5 +1,5 @@
 use Rattle.std.proofs.Common.{rules}
-use Rattle.ord_script.proofs.Runs.{answered}
+use Rattle.ord_script.proofs.Answered.{answered}
 use Rattle.ord_script.proofs.serving.replies_to.Goals as goal
 
 pub returns : goal.returns

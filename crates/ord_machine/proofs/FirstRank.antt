@@ -1,0 +1,104 @@
+-- The first entry of an arena, and its rank.
+use Rattle.std.proofs.Common.{◌≡◌, ℕ, inl, inr, List, [], ◌∷◌, ◌++◌, length, map, Some, None, refl, sym, ap, subst, ◌∙◌, arith, length-append}
+use Rattle.std.specs.declared.cmp.Ordering.{Ordering}
+use Rattle.chain_base.specs.Chain.{Entry, Chain, next_index, inserted, with_room}
+use Rattle.ord_tree.specs.Shape.{Shape, missing, node, walk}
+use Rattle.ord_tree.specs.Ranks.{IsRanked}
+use Rattle.ord_tree.specs.Tree.{Tree, IsSoundTree}
+use Rattle.triple_ord.specs.ClosureSearch.{Shown}
+use Rattle.triple_ord.specs.Gap.{with_between}
+use Rattle.triple_ord.specs.Node.{IsPart}
+use Rattle.triple_ord.specs.Insertion.{reallocating, InsertsNew}
+use Rattle.triple_ord.specs.Place.{at_key}
+use Rattle.triple_ord.specs.declared.entry_kind.OrdEntryKind.TheVariants.{New, Replacing}
+use Rattle.triple_ord.specs.declared.error.OrdInsertionError.{OrdInsertionError}
+use Rattle.triple_ord.specs.declared.error.OrdInsertionError.TheVariants.{AllocError}
+use Rattle.ord_machine.specs.declared.reply.Reply.{Reply}
+use Rattle.ord_machine.specs.declared.reply.Reply.TheVariants.{Inserted, Refused, Ranks}
+use Rattle.ord_machine.specs.Machine.{Reading, HasRank, HaveRanks, Inserts, Ranked}
+use Rattle.ord_machine.specs.Laws.{AreFirstReplies, FirstRankLaw}
+
+-- where nothing is cut in two, both parts are nothing
+no_parts : {X : Type 0} (front back : List X) → [] ≡ front ++ back → (front ≡ []) × (back ≡ [])
+no_parts [] back cut = (refl, sym cut)
+no_parts (x ∷ front) back cut = cc
+
+-- the only node has a single rank
+same_rank : (lesser greater : Shape) (i j k m : ℕ) → IsPart (node lesser i k greater) (node missing j m missing) → k ≡ m
+same_rank lesser greater i j k m (inl whole) = cc
+same_rank lesser greater i j k m (inr (inl part)) = cc
+same_rank lesser greater i j k m (inr (inr part)) = cc
+
+-- which is 1
+only_rank : (shape : Shape) (i k : ℕ) → walk shape ≡ i ∷ [] → IsRanked shape → HasRank shape i k → k ≡ 1
+only_rank missing i k listed ranked has = cc
+only_rank (node missing j m missing) i k listed ranked has = same_rank has.0 has.1 i j k m has.2 ∙ ranked.0.leaf refl refl
+only_rank (node (node a b c d) j m r) i k listed ranked has =
+    absurd (omega (arith, ap length listed, length-append (walk a ++ b ∷ walk d) (j ∷ walk r), length-append (walk a) (b ∷ walk d)))
+only_rank (node missing j m (node a b c d)) i k listed ranked has = absurd (omega (arith, ap length listed, length-append (walk a) (b ∷ walk d)))
+
+-- the list after an insertion into a gap where there was no entry
+module _ {T : Type 0} (c : Chain T) (place : Entry T → List (Entry T)) (item : T) (alone : (e : Entry T) → place e ≡ e ∷ []) where
+  first_entries : (i : ℕ) → next_index c ≡ Some i → (e : Entry T) × ((inserted c place item).entries ≡ e ∷ [])
+  first_entries i next =
+      (elim c.vacant as (λ vacant. next_index (record c { vacant = vacant }) ≡ Some i → (e : Entry T) × ((inserted (record c { vacant = vacant }) place item).entries ≡ e ∷ []))
+      [ [] ↦ λ none. cc | (j ∷ rest) ↦ λ _. (record { index = j; generation = c.generation; item = item }, alone _) ]) next
+
+module _ {T : Type 0} where
+  -- the ranks of no entry, and of a single one
+  no_ranks : (shape : Shape) (entries : List (Entry T)) (ranks : List ℕ) → entries ≡ [] → HaveRanks shape entries ranks → ranks ≡ []
+  no_ranks shape [] [] none have = refl
+  no_ranks shape [] (k ∷ ranks) none have = absurd have
+  no_ranks shape (e ∷ entries) ranks none have = cc
+
+  one_rank : (shape : Shape) (e : Entry T) (ranks : List ℕ) → walk shape ≡ e.index ∷ [] → IsRanked shape → HaveRanks shape (e ∷ []) ranks → ranks ≡ 1 ∷ []
+  one_rank shape e [] listed ranked have = absurd have
+  one_rank shape e (k ∷ []) listed ranked have = ap (λ r. r ∷ []) (only_rank shape e.index k listed ranked have.0)
+  one_rank shape e (k ∷ m ∷ ranks) listed ranked have = absurd have.1
+
+  -- between two parts that are nothing stands the entry alone
+  alone : (front back : List (Entry T)) (e : Entry T) → (front ≡ []) × (back ≡ []) → front ++ e ∷ back ≡ e ∷ []
+  alone [] [] e none = refl
+  alone [] (f ∷ back) e none = absurd (omega (arith, ap length none.1))
+  alone (f ∷ front) back e none = absurd (omega (arith, ap length none.0))
+
+module _ {T K : Type 0} (key : T → K) (cmp : K → K → Ordering) (most : ℕ) where
+  -- what an insertion of a new entry leaves where there was none
+  new_alone : (old new : Tree T) (item : T) (p : ℕ × ℕ) → old.list.entries ≡ [] → InsertsNew key cmp most reallocating (at_key (key item)) old item p new → (e : Entry T) × (new.list.entries ≡ e ∷ [])
+  new_alone old new item p none inserts =
+      let gap = inserts.gap in
+      let parts = no_parts gap.front gap.back (sym none ∙ gap.cut) in
+      let first = first_entries (with_room most old.list) (with_between gap) item (λ e. alone gap.front gap.back e parts) p.0 inserts.inserted.next in
+      (first.0, ap (λ c. c.entries) inserts.inserted.after ∙ first.1)
+
+module _ {P T I G A K : Type 0} (r : Reading P T I G K) (old new : Tree T) (none : old.list.entries ≡ []) (sound : IsSoundTree new) where
+  -- the ranks after a new entry
+  ranks_of_new : (item : T) (p : P) (second : Reply P T A I G) → InsertsNew r.key r.cmp r.most reallocating (at_key (r.key item)) old item (r.pointer p) new → Ranked new second → AreFirstReplies (Inserted (New p) None ∷ second ∷ [])
+  ranks_of_new item p (Ranks ranks) inserts ranked =
+      let first = new_alone r.key r.cmp r.most old new item (r.pointer p) none inserts in
+      one_rank new.shape first.0 ranks.items (sound.listed ∙ ap (map (λ e. e.index)) first.1) sound.ranked (subst (λ (es : List (Entry T)). HaveRanks new.shape es ranks.items) first.1 ranked)
+  ranks_of_new item p (Refused AllocError) inserts ranked = tt
+  ranks_of_new item p second inserts ranked = absurd ranked
+
+  -- the ranks after a refusal
+  ranks_of_none : (refusal : OrdInsertionError) (second : Reply P T A I G) → new ≡ old → Ranked new second → AreFirstReplies (Refused refusal ∷ second ∷ [])
+  ranks_of_none refusal (Ranks ranks) same ranked = no_ranks new.shape new.list.entries ranks.items (ap (λ t. t.list.entries) same ∙ none) ranked
+  ranks_of_none refusal (Refused AllocError) same ranked = absurd (omega (arith, ranked, ap length (ap (λ t. t.list.entries) same ∙ none)))
+  ranks_of_none refusal second same ranked = absurd ranked
+
+  -- both replies, from the first
+  first_and_ranks : (item : T) (first second : Reply P T A I G) → Inserts r.key r.cmp r.most reallocating (at_key (r.key item)) r.pointer old item first new → Ranked new second → AreFirstReplies (first ∷ second ∷ [])
+  first_and_ranks item (Inserted (New p) None) second inserts ranked = ranks_of_new item p second inserts ranked
+  first_and_ranks item (Inserted (Replacing p) (Some before)) second inserts ranked = absurd (omega (arith, inserts.place.within.1, ap length none))
+  first_and_ranks item (Refused refusal) second inserts ranked = ranks_of_none refusal second inserts.after ranked
+  first_and_ranks item first second inserts ranked = absurd inserts
+
+-- a run over both commands
+pub first_rank : (P T I G A K : Type 0) {F : Type 0} (asks : F → Shown T → F → Type 0) → FirstRankLaw P T I G A K asks
+first_rank P T I G A K asks r old new f g item [] none run = absurd run
+first_rank P T I G A K asks r old new f g item (first ∷ []) none run = absurd run.3
+first_rank P T I G A K asks r old new f g item (first ∷ second ∷ []) none run =
+    let step = run.2 in
+    let next = run.3.2 in
+    first_and_ranks r old.tree run.0.tree none step.sound item first second step.does.0 next.does.0.0
+first_rank P T I G A K asks r old new f g item (first ∷ second ∷ third ∷ replies) none run = absurd run.3.3

@@ -1,0 +1,133 @@
+//! Runs commands on an ordered arena.
+ghost use Rattle.std.specs.Prelude.{◌≡◌, ◌<◌, IfOk, OnErr, length};
+ghost use Rattle.chain_base.specs.Chain.{IsSound};
+ghost use Rattle.ord_tree.specs.Tree.{IsSoundTree};
+ghost use Rattle.triple_ord.specs.ClosureSearch.{Asks};
+ghost use Rattle.ord_machine.specs.Machine.{reading_by, Marks, AreTrue, Does, RunsBetween};
+
+use crate::command::Command;
+use crate::reply::Reply;
+use crate::steps;
+use arena_base::Ptr;
+use std::alloc::{AllocError, Allocator};
+use std::cmp::Ordering;
+use triple_ord::{SimpleOrdArena, SimpleOrdItem};
+
+/// Runs the commands in order, and answers one reply to each.
+///
+/// Memory for the replies is asked for first, on `alloc`: where that is refused, nothing has changed; no commands need none. What the
+/// replies hold stands on `alloc` too. A command that is refused, also memory, says so in its reply, changes nothing, and the others go
+/// on. A clone of an item has to equal it. `FindWith` and `SimilarWith` call the closure, and its state passes from one to the next; it
+/// may answer anything, differently each time, and has to be one that may be called at every pointer and item, again and again.
+pub fn run<
+    P: Ptr,
+    T: SimpleOrdItem + Clone + Drop,
+    F: FnMut(P, &T) -> Ordering,
+    A: Allocator + Copy,
+>(
+    alloc: A,
+    arena: &mut SimpleOrdArena<P, T, A>,
+    commands: Vec<Command<P, T>, A>,
+    closure: &mut F,
+) -> Result<Vec<Reply<P, T, A>, A>, AllocError>
+where
+    T::Key: Drop,
+    requires clones { (x y : T) → T.is_clone x y → y ≡ x }
+    requires callable { F.IsAlwaysCallable closure.old }
+    ensures run { IfOk result (λ replies. RunsBetween
+        (reading_by T.key_of T.Key.cmp P.Inx.most P.Gen.greatest
+        P.numbers P.Inx.number P.Gen.number) (Asks P.numbers F.step)
+        arena.old closure.old commands.items replies.items arena.new closure.new) }
+    ensures err { OnErr result (arena.new ≡ arena.old) }
+    ensures refused { OnErr result (0 < length commands.items) }
+    ensures closure_err { OnErr result (closure.new ≡ closure.old) }
+    ensures callable { F.IsAlwaysCallable closure.new }
+{
+    let mut replies = Vec::with_capacity(alloc, commands.len())?;
+    for command in commands {
+        let reply = step(alloc, arena, command, closure);
+        replies.push(reply).unwrap();
+    }
+    Ok(replies)
+}
+
+// One step.
+fn step<P: Ptr, T: SimpleOrdItem + Clone + Drop, F: FnMut(P, &T) -> Ordering, A: Allocator + Copy>(
+    alloc: A,
+    arena: &mut SimpleOrdArena<P, T, A>,
+    command: Command<P, T>,
+    closure: &mut F,
+) -> Reply<P, T, A>
+where
+    T::Key: Drop,
+    requires clones { (x y : T) → T.is_clone x y → y ≡ x }
+    requires callable { F.IsAlwaysCallable closure.old }
+    ensures does { (marks : Marks) → AreTrue marks arena.old.shape
+        → Does (reading_by T.key_of T.Key.cmp P.Inx.most P.Gen.greatest
+        P.numbers P.Inx.number P.Gen.number) (Asks P.numbers F.step)
+        (record { tree = arena.old; marks = marks }) closure.old command result arena.new closure.new }
+    ensures callable { F.IsAlwaysCallable closure.new }
+    ensures lawful { IsSound P.Inx.most P.Gen.greatest arena.new.list }
+    ensures sound { IsSoundTree arena.new }
+{
+    let reply = reply_to(alloc, arena, command, closure);
+    // with its length an arena tells what holds of its list and its shape
+    let _ = arena.len();
+    reply
+}
+
+// What a command does, and what it answers.
+fn reply_to<
+    P: Ptr,
+    T: SimpleOrdItem + Clone + Drop,
+    F: FnMut(P, &T) -> Ordering,
+    A: Allocator + Copy,
+>(
+    alloc: A,
+    arena: &mut SimpleOrdArena<P, T, A>,
+    command: Command<P, T>,
+    closure: &mut F,
+) -> Reply<P, T, A>
+where
+    T::Key: Drop,
+    requires clones { (x y : T) → T.is_clone x y → y ≡ x }
+    requires callable { F.IsAlwaysCallable closure.old }
+    ensures does { (marks : Marks) → AreTrue marks arena.old.shape
+        → Does (reading_by T.key_of T.Key.cmp P.Inx.most P.Gen.greatest
+        P.numbers P.Inx.number P.Gen.number) (Asks P.numbers F.step)
+        (record { tree = arena.old; marks = marks }) closure.old command result arena.new closure.new }
+    ensures callable { F.IsAlwaysCallable closure.new }
+{
+    match command {
+        Command::Insert(item) => steps::insert(arena, item),
+        Command::InsertWithin(item) => steps::insert_within(arena, item),
+        Command::Entry(kind, item) => steps::entry(arena, &kind, item),
+        Command::EntryWithin(kind, item) => steps::entry_within(arena, &kind, item),
+        Command::Set(p, item) => steps::set(arena, p, item),
+        Command::Remove(p) => steps::remove(arena, p),
+        Command::RemoveInx(i) => steps::remove_inx(arena, i),
+        Command::Invalidate(p) => steps::invalidate(arena, p),
+        Command::Clear => steps::clear(arena),
+        Command::IncGeneration => steps::inc_generation(arena),
+        Command::Compress(reset) => steps::compress(arena, reset),
+        Command::Canonical(reset) => steps::canonical(arena, reset),
+        Command::Find(key) => steps::find(arena, &key),
+        Command::FindLinear(p, num, key) => steps::find_linear(arena, p, num, &key),
+        Command::Similar(key) => steps::similar(arena, &key),
+        Command::SimilarLinear(i, num, key) => steps::similar_linear(arena, i, num, &key),
+        Command::FindWith => steps::find_with(arena, closure),
+        Command::SimilarWith => steps::similar_with(arena, closure),
+        Command::Visits(key) => steps::visits(arena, &key),
+        Command::Get(p) => steps::get(arena, p),
+        Command::First => steps::first(arena),
+        Command::Last => steps::last(arena),
+        Command::Neighbours(i) => steps::neighbours(arena, i),
+        Command::List => steps::list(alloc, arena),
+        Command::Ranks => steps::ranks(alloc, arena),
+        Command::Check => steps::check(arena),
+        Command::Reserve(n) => steps::reserve(arena, n),
+        Command::SetMax(n) => steps::set_max(arena, n),
+        Command::DrainOrdered(num) => steps::drain_ordered(alloc, arena, num),
+        Command::Stats => steps::stats(arena),
+    }
+}

@@ -1,0 +1,489 @@
+//! What each command does, and what it answers.
+ghost use Rattle.std.specs.Prelude.{◌≡◌, ◌<◌, IfOk, OnOk, OnErr, IfSome, is_some, length, map, take};
+ghost use Rattle.chain_base.specs.Chain.{link_at, first_pointer, last_pointer, cleared, raised};
+ghost use Rattle.chain_base.specs.Compression.{canonical, relocated};
+ghost use Rattle.ord_tree.specs.Shape.{missing};
+ghost use Rattle.triple_ord.specs.ClosureSearch.{Asks};
+ghost use Rattle.triple_ord.specs.Insertion.{within, reallocating, told};
+ghost use Rattle.triple_ord.specs.Place.{at_key, aim_of};
+ghost use Rattle.ord_machine.specs.Machine.{Marks, AreTrue, Inserts, insertion_reply, Sets, Removes, RemovesAt, Renews, Changes, Rebuilds, Reserves, SetsMaximum, Finds, FindsFrom, FindsNear, FindsNearFrom, AnswersWith, AnswersSimilarWith, Visits, Gets, IsEnd, HasNeighbours, Lists, entry_of, Ranked, HasRank, HaveRanks, Drains, removed_each, Checks, Counts};
+
+use crate::reply::Reply;
+use arena_base::{ItemsMut, Ptr, ReallocationError};
+use std::alloc::{AllocError, Allocator};
+use std::cmp::Ordering;
+use std::mem;
+use triple_ord::{OrdEntryKind, OrdInsertKind, OrdInsertionError, SimpleOrdArena, SimpleOrdItem};
+
+/// `Command::Insert`
+pub fn insert<P: Ptr, T: SimpleOrdItem + Drop, A: Allocator>(
+    arena: &mut SimpleOrdArena<P, T, A>,
+    item: T,
+) -> Reply<P, T, A>
+    ensures { Inserts T.key_of T.Key.cmp P.Inx.most reallocating (at_key (T.key_of item)) P.numbers
+        arena.old item result arena.new }
+{
+    reply_to_insertion(arena.insert(item))
+}
+
+/// `Command::InsertWithin`
+pub fn insert_within<P: Ptr, T: SimpleOrdItem + Drop, A: Allocator>(
+    arena: &mut SimpleOrdArena<P, T, A>,
+    item: T,
+) -> Reply<P, T, A>
+    ensures { Inserts T.key_of T.Key.cmp P.Inx.most within (at_key (T.key_of item)) P.numbers
+        arena.old item result arena.new }
+{
+    reply_to_insertion(arena.insert_within_capacity(item))
+}
+
+/// The reply to an insertion by the item's key.
+fn reply_to_insertion<P: Ptr, T, A: Allocator>(
+    inserted: Result<(P, Option<T>), OrdInsertionError>,
+) -> Reply<P, T, A>
+    ensures { result ≡ insertion_reply (told inserted) }
+{
+    match inserted {
+        Ok((p, before)) => {
+            let kind = match before {
+                None => OrdEntryKind::New(p),
+                Some(_) => OrdEntryKind::Replacing(p),
+            };
+            Reply::Inserted(kind, before)
+        }
+        Err(refusal) => Reply::Refused(refusal),
+    }
+}
+
+/// `Command::Entry`
+pub fn entry<P: Ptr, T: SimpleOrdItem + Drop, A: Allocator>(
+    arena: &mut SimpleOrdArena<P, T, A>,
+    kind: &OrdInsertKind<P, T::Key>,
+    item: T,
+) -> Reply<P, T, A>
+    ensures { Inserts T.key_of T.Key.cmp P.Inx.most reallocating (aim_of P.Inx.number kind.now) P.numbers
+        arena.old item result arena.new }
+{
+    // with its length an arena tells that its pointers are different
+    let _ = arena.len();
+    match arena.entry_insert(kind.as_ref()) {
+        Ok(entry) => {
+            let shown = entry.ptr();
+            let before = entry.insert(item);
+            Reply::Inserted(shown, before)
+        }
+        Err(refusal) => Reply::Refused(refusal),
+    }
+}
+
+/// `Command::EntryWithin`
+pub fn entry_within<P: Ptr, T: SimpleOrdItem + Drop, A: Allocator>(
+    arena: &mut SimpleOrdArena<P, T, A>,
+    kind: &OrdInsertKind<P, T::Key>,
+    item: T,
+) -> Reply<P, T, A>
+    ensures { Inserts T.key_of T.Key.cmp P.Inx.most within (aim_of P.Inx.number kind.now) P.numbers
+        arena.old item result arena.new }
+{
+    // with its length an arena tells that its pointers are different
+    let _ = arena.len();
+    match arena.entry_insert_within_capacity(kind.as_ref()) {
+        Ok(entry) => {
+            let shown = entry.ptr();
+            let before = entry.insert(item);
+            Reply::Inserted(shown, before)
+        }
+        Err(refusal) => Reply::Refused(refusal),
+    }
+}
+
+/// `Command::Set`
+pub fn set<P: Ptr, T: Drop, A: Allocator>(
+    arena: &mut SimpleOrdArena<P, T, A>,
+    p: P,
+    item: T,
+) -> Reply<P, T, A>
+    ensures { Sets P.numbers arena.old p item result arena.new }
+{
+    if !arena.contains(p) {
+        return Reply::Item(None);
+    }
+    let pair = arena.pair_mut(p.inx());
+    let held = pair.1;
+    Reply::Item(Some(mem::replace(held, item)))
+}
+
+/// `Command::Remove`
+pub fn remove<P: Ptr, T: Drop, A: Allocator>(
+    arena: &mut SimpleOrdArena<P, T, A>,
+    p: P,
+) -> Reply<P, T, A>
+    ensures { Removes P.Gen.greatest P.numbers arena.old p result arena.new }
+{
+    Reply::Removed(arena.remove(p).map(|item| (p, item)))
+}
+
+/// `Command::RemoveInx`
+pub fn remove_inx<P: Ptr, T: Drop, A: Allocator>(
+    arena: &mut SimpleOrdArena<P, T, A>,
+    i: P::Inx,
+) -> Reply<P, T, A>
+    ensures { RemovesAt P.Gen.greatest P.numbers
+        arena.old (P.Inx.number i) result arena.new }
+{
+    Reply::Removed(
+        arena
+            .remove_inx(i)
+            .map(|taken| (P::_from_raw(i, taken.0), taken.1)),
+    )
+}
+
+/// `Command::Invalidate`
+pub fn invalidate<P: Ptr, T, A: Allocator>(
+    arena: &mut SimpleOrdArena<P, T, A>,
+    p: P,
+) -> Reply<P, T, A>
+    ensures { Renews P.Gen.greatest P.numbers arena.old p result arena.new }
+{
+    Reply::Renewed(arena.invalidate(p))
+}
+
+/// `Command::Clear`
+pub fn clear<P: Ptr, T: Drop, A: Allocator>(arena: &mut SimpleOrdArena<P, T, A>) -> Reply<P, T, A>
+    ensures { Changes P.Gen.greatest arena.old
+        (record { list = cleared P.Gen.greatest arena.old.list; shape = missing })
+        result arena.new }
+{
+    Reply::Changed(arena.clear())
+}
+
+/// `Command::IncGeneration`
+pub fn inc_generation<P: Ptr, T, A: Allocator>(
+    arena: &mut SimpleOrdArena<P, T, A>,
+) -> Reply<P, T, A>
+    ensures { Changes P.Gen.greatest arena.old
+        (record arena.old { list = raised P.Gen.greatest arena.old.list }) result arena.new }
+{
+    Reply::Changed(arena.inc_generation())
+}
+
+/// `Command::Compress`
+pub fn compress<P: Ptr, T, A: Allocator>(
+    arena: &mut SimpleOrdArena<P, T, A>,
+    reset: bool,
+) -> Reply<P, T, A>
+    ensures { Rebuilds P.Gen.greatest reset arena.old (relocated arena.old.list) result arena.new }
+{
+    Reply::Changed(arena.compress(reset))
+}
+
+/// `Command::Canonical`
+pub fn canonical<P: Ptr, T, A: Allocator>(
+    arena: &mut SimpleOrdArena<P, T, A>,
+    reset: bool,
+) -> Reply<P, T, A>
+    ensures { Rebuilds P.Gen.greatest reset arena.old (canonical arena.old.list) result arena.new }
+{
+    Reply::Changed(arena.compress_canonical(reset))
+}
+
+/// `Command::Find`
+pub fn find<P: Ptr, T: SimpleOrdItem, A: Allocator>(
+    arena: &SimpleOrdArena<P, T, A>,
+    key: &T::Key,
+) -> Reply<P, T, A>
+    ensures { (marks : Marks) → AreTrue marks arena.now.shape
+        → Finds T.key_of T.Key.cmp P.numbers
+        (record { tree = arena.now; marks = marks }) key.now result }
+{
+    let (found, visits) = arena.find_key_counted(key);
+    Reply::Found(found, visits.count())
+}
+
+/// `Command::FindLinear`
+pub fn find_linear<P: Ptr, T: SimpleOrdItem, A: Allocator>(
+    arena: &SimpleOrdArena<P, T, A>,
+    p: P,
+    num: usize,
+    key: &T::Key,
+) -> Reply<P, T, A>
+    ensures { (marks : Marks) → AreTrue marks arena.now.shape
+        → FindsFrom T.key_of T.Key.cmp P.numbers
+        (record { tree = arena.now; marks = marks }) p num key.now result }
+{
+    let (found, visits) = arena.find_key_linear_counted(p, num, key);
+    Reply::Found(found, visits.count())
+}
+
+/// `Command::Similar`
+pub fn similar<P: Ptr, T: SimpleOrdItem, A: Allocator>(
+    arena: &SimpleOrdArena<P, T, A>,
+    key: &T::Key,
+) -> Reply<P, T, A>
+    ensures { (marks : Marks) → AreTrue marks arena.now.shape
+        → FindsNear T.key_of T.Key.cmp P.numbers
+        (record { tree = arena.now; marks = marks }) key.now result }
+{
+    let (found, visits) = arena.find_similar_key_counted(key);
+    Reply::Similar(found, visits.count())
+}
+
+/// `Command::SimilarLinear`
+pub fn similar_linear<P: Ptr, T: SimpleOrdItem, A: Allocator>(
+    arena: &SimpleOrdArena<P, T, A>,
+    i: P::Inx,
+    num: usize,
+    key: &T::Key,
+) -> Reply<P, T, A>
+    ensures { (marks : Marks) → AreTrue marks arena.now.shape
+        → FindsNearFrom T.key_of T.Key.cmp P.numbers
+        (record { tree = arena.now; marks = marks }) (P.Inx.number i) num key.now result }
+{
+    let (found, visits) = arena.find_similar_key_linear_counted(i, num, key);
+    Reply::Similar(found, visits.count())
+}
+
+/// `Command::FindWith`
+pub fn find_with<P: Ptr, T, F: FnMut(P, &T) -> Ordering, A: Allocator>(
+    arena: &SimpleOrdArena<P, T, A>,
+    closure: &mut F,
+) -> Reply<P, T, A>
+    requires { F.IsAlwaysCallable closure.old }
+    ensures answer { (marks : Marks) → AreTrue marks arena.now.shape
+        → AnswersWith (Asks P.numbers F.step) P.numbers
+        (record { tree = arena.now; marks = marks }) closure.old result closure.new }
+    ensures callable { F.IsAlwaysCallable closure.new }
+{
+    let (found, visits) = arena.find_with_counted(closure);
+    Reply::Found(found, visits.count())
+}
+
+/// `Command::SimilarWith`
+pub fn similar_with<P: Ptr, T, F: FnMut(P, &T) -> Ordering, A: Allocator>(
+    arena: &SimpleOrdArena<P, T, A>,
+    closure: &mut F,
+) -> Reply<P, T, A>
+    requires { F.IsAlwaysCallable closure.old }
+    ensures answer { (marks : Marks) → AreTrue marks arena.now.shape
+        → AnswersSimilarWith (Asks P.numbers F.step) P.numbers
+        (record { tree = arena.now; marks = marks }) closure.old result closure.new }
+    ensures callable { F.IsAlwaysCallable closure.new }
+{
+    let (found, visits) = arena.find_similar_with_counted(closure);
+    Reply::Similar(found, visits.count())
+}
+
+/// `Command::Visits`
+pub fn visits<P: Ptr, T: SimpleOrdItem, A: Allocator>(
+    arena: &SimpleOrdArena<P, T, A>,
+    key: &T::Key,
+) -> Reply<P, T, A>
+    ensures { (marks : Marks) → AreTrue marks arena.now.shape
+        → Visits T.key_of T.Key.cmp (record { tree = arena.now; marks = marks }) key.now result }
+{
+    let (_, visits) = arena.find_key_counted(key);
+    Reply::Count(visits.count())
+}
+
+/// `Command::Get`
+pub fn get<P: Ptr, T: Clone, A: Allocator>(arena: &SimpleOrdArena<P, T, A>, p: P) -> Reply<P, T, A>
+    requires { (x y : T) → T.is_clone x y → y ≡ x }
+    ensures { Gets P.numbers arena.now p result }
+{
+    match arena.get(p) {
+        None => Reply::Item(None),
+        Some(item) => match item.clone() {
+            Ok(item) => Reply::Item(Some(item)),
+            Err(_) => Reply::Refused(OrdInsertionError::AllocError),
+        },
+    }
+}
+
+/// `Command::First`
+pub fn first<P: Ptr, T, A: Allocator>(arena: &SimpleOrdArena<P, T, A>) -> Reply<P, T, A>
+    ensures { IsEnd P.numbers (first_pointer arena.now.list.entries) result }
+{
+    Reply::At(arena.first())
+}
+
+/// `Command::Last`
+pub fn last<P: Ptr, T, A: Allocator>(arena: &SimpleOrdArena<P, T, A>) -> Reply<P, T, A>
+    ensures { IsEnd P.numbers (last_pointer arena.now.list.entries) result }
+{
+    Reply::At(arena.last())
+}
+
+/// `Command::Neighbours`
+pub fn neighbours<P: Ptr, T, A: Allocator>(
+    arena: &SimpleOrdArena<P, T, A>,
+    i: P::Inx,
+) -> Reply<P, T, A>
+    ensures { HasNeighbours P.Inx.number arena.now i result }
+{
+    match arena.get_inx_link_no_gen(i) {
+        None => Reply::Links(None),
+        Some(entry) => {
+            let link = entry.1;
+            Reply::Links(Some(link.prev_next()))
+        }
+    }
+}
+
+/// `Command::List`
+pub fn list<P: Ptr, T: Clone, A: Allocator>(
+    alloc: A,
+    arena: &SimpleOrdArena<P, T, A>,
+) -> Reply<P, T, A>
+    requires { (x y : T) → T.is_clone x y → y ≡ x }
+    ensures { Lists P.numbers arena.now result }
+{
+    match entries(alloc, arena) {
+        Ok(entries) => Reply::Entries(entries),
+        Err(AllocError) => Reply::Refused(OrdInsertionError::AllocError),
+    }
+}
+
+/// `Command::Ranks`
+pub fn ranks<P: Ptr, T, A: Allocator>(alloc: A, arena: &SimpleOrdArena<P, T, A>) -> Reply<P, T, A>
+    ensures { Ranked arena.now result }
+{
+    match ranks_of(alloc, arena) {
+        Ok(ranks) => Reply::Ranks(ranks),
+        Err(AllocError) => Reply::Refused(OrdInsertionError::AllocError),
+    }
+}
+
+/// `Command::Check`
+pub fn check<P: Ptr, T: SimpleOrdItem, A: Allocator>(
+    arena: &SimpleOrdArena<P, T, A>,
+) -> Reply<P, T, A>
+    ensures { Checks T.key_of T.Key.cmp arena.now result }
+{
+    Reply::Sorted(SimpleOrdArena::_check_invariants(arena).is_ok())
+}
+
+/// `Command::Reserve`
+pub fn reserve<P: Ptr, T, A: Allocator>(
+    arena: &mut SimpleOrdArena<P, T, A>,
+    n: usize,
+) -> Reply<P, T, A>
+    ensures { Reserves P.Inx.most arena.old n result arena.new }
+{
+    match arena.reallocate_min_capacity(n) {
+        Ok(()) => Reply::Done,
+        Err(ReallocationError::BeyondMaxCapacity) => {
+            Reply::Refused(OrdInsertionError::BeyondMaxCapacity)
+        }
+        Err(ReallocationError::AllocError) => Reply::Refused(OrdInsertionError::AllocError),
+    }
+}
+
+/// `Command::SetMax`
+pub fn set_max<P: Ptr, T, A: Allocator>(
+    arena: &mut SimpleOrdArena<P, T, A>,
+    n: usize,
+) -> Reply<P, T, A>
+    ensures { SetsMaximum arena.old n result arena.new }
+{
+    match arena.set_max_capacity(n) {
+        Ok(()) => Reply::Done,
+        Err(_) => Reply::ReductionRefused,
+    }
+}
+
+/// `Command::DrainOrdered`
+pub fn drain_ordered<P: Ptr, T: Drop, A: Allocator>(
+    alloc: A,
+    arena: &mut SimpleOrdArena<P, T, A>,
+    num: usize,
+) -> Reply<P, T, A>
+    ensures { Drains P.Gen.greatest P.numbers arena.old num result arena.new }
+{
+    match drained(alloc, arena, num) {
+        Ok(entries) => Reply::Entries(entries),
+        Err(AllocError) => Reply::Refused(OrdInsertionError::AllocError),
+    }
+}
+
+/// `Command::Stats`
+pub fn stats<P: Ptr, T, A: Allocator>(arena: &SimpleOrdArena<P, T, A>) -> Reply<P, T, A>
+    ensures { Counts P.Gen.number arena.now result }
+{
+    Reply::Stats(
+        arena.len(),
+        arena.capacity(),
+        arena.generation(),
+        arena.max_capacity(),
+    )
+}
+
+// The pointer of each entry and a clone of its item, in order.
+fn entries<P: Ptr, T: Clone, A: Allocator>(
+    alloc: A,
+    arena: &SimpleOrdArena<P, T, A>,
+) -> Result<Vec<(P, T), A>, AllocError>
+    requires { (x y : T) → T.is_clone x y → y ≡ x }
+    ensures pairs { IfOk result (λ pairs. map (entry_of P.numbers)
+        pairs.items ≡ arena.now.list.entries) }
+    ensures refused { OnErr result (0 < length arena.now.list.entries) }
+{
+    let mut pairs = Vec::with_capacity(alloc, arena.len())?;
+    for (p, item) in arena {
+        pairs.push((p, item.clone()?))?;
+    }
+    Ok(pairs)
+}
+
+// The first entries in order, taken out; then the others are dropped. The room for them is asked for before.
+fn drained<P: Ptr, T: Drop, A: Allocator>(
+    alloc: A,
+    arena: &mut SimpleOrdArena<P, T, A>,
+    num: usize,
+) -> Result<Vec<(P, T), A>, AllocError>
+    ensures pairs { IfOk result (λ pairs. map (entry_of P.numbers)
+        pairs.items ≡ take num arena.old.list.entries) }
+    ensures drained { OnOk result (arena.new ≡ record {
+      list = cleared P.Gen.greatest
+          (removed_each P.Gen.greatest arena.old.list (take num arena.old.list.entries));
+      shape = missing;
+    }) }
+    ensures refused { OnErr result (0 < length (take num arena.old.list.entries)) }
+    ensures err { OnErr result (arena.new ≡ arena.old) }
+{
+    let count = num.min(arena.len());
+    let mut pairs = Vec::with_capacity(alloc, count)?;
+    let mut drain = arena.drain_ordered();
+    for _ in 0..count {
+        let taken = drain.next().unwrap();
+        pairs.push(taken.allow()).unwrap();
+    }
+    drop(drain);
+    Ok(pairs)
+}
+
+// The rank of each entry's node, in order.
+fn ranks_of<P: Ptr, T, A: Allocator>(
+    alloc: A,
+    arena: &SimpleOrdArena<P, T, A>,
+) -> Result<Vec<u8, A>, AllocError>
+    ensures ranks { IfOk result
+        (λ ranks. HaveRanks arena.now.shape arena.now.list.entries ranks.items) }
+    ensures refused { OnErr result (0 < length arena.now.list.entries) }
+{
+    let mut ranks = Vec::with_capacity(alloc, arena.len())?;
+    for (p, _) in arena {
+        let rank = rank_at(arena, p.inx()).unwrap();
+        ranks.push(rank)?;
+    }
+    Ok(ranks)
+}
+
+// The rank of the node at the index.
+fn rank_at<P: Ptr, T, A: Allocator>(arena: &SimpleOrdArena<P, T, A>, i: P::Inx) -> Option<u8>
+    ensures there { is_some result ≡ is_some (link_at arena.now.list.entries (P.Inx.number i)) }
+    ensures rank { IfSome result (λ rank. HasRank arena.now.shape (P.Inx.number i) rank) }
+{
+    let entry = arena.get_inx_node(i)?;
+    let node = entry.1;
+    Some(node.t.rank)
+}

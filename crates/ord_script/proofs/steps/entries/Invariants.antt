@@ -1,8 +1,0 @@
-use Rattle.std.proofs.Common.{◌≡◌, ◌++◌, map}
-use Rattle.ord_script.specs.Machine.{entry_of}
-use Rattle.ord_script.proofs.steps.entries.Given as goal
-
--- the entries so far, and then those that are left
-abbrev pub invariant-loop-p : goal.invariant-loop-p
-invariant-loop-p g l =
-    map (entry_of g.P.Ptr.numbers) l.pairs.items ++ l.p-iterator ≡ l.arena.list.entries

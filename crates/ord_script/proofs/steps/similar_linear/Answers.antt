@@ -1,7 +1,0 @@
-use Rattle.ord_script.proofs.Bounded.{within_hinted, within_unhinted}
-use Rattle.ord_script.proofs.steps.similar_linear.Goals as goal
-
-pub returns : goal.returns
-returns g c = λ marks holds.
-    let search = c.find_similar_key_linear_counted-found.ensures in
-    rw c.count.ensures (search.found, within_hinted _ marks holds _ _ search.visits, within_unhinted _ marks holds _ _ search.unhinted, search.near)
