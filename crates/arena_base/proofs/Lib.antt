@@ -1,4 +1,5 @@
 pub mod CallerLemmas
+pub mod Cloning
 pub mod Compressing
 pub mod Occupied
 pub mod Positions
