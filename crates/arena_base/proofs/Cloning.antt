@@ -6,13 +6,12 @@ use Rattle.std.proofs.lemmas.Option.{none-some, same_Some}
 use Rattle.std.specs.List.{FoldsTo}
 use Rattle.std.specs.Result.{OnOk, OnErr}
 use Rattle.std.specs.declared.alloc.AllocError.{AllocError}
-use Rattle.arena_base.specs.declared.error.ReallocationError.{ReallocationError}
 use Rattle.arena_base.specs.declared.slot.Slot.{Slot}
 use Rattle.arena_base.specs.declared.slot.Slot.TheVariants.{Occupied, Vacant}
 use Rattle.arena_base.specs.Slot.{entry_in, arena_of, vacant_slots}
 use Rattle.arena_base.specs.Walk.{entries_from, entries_rising}
 use Rattle.arena_base.specs.Generation.{IsLawfulGeneration}
-use Rattle.arena_base.specs.Arena.{Arena, HoldsSame, IsFresh, IsLawful, IsSound, arena_capacity, greatest_occupied, resized, vacant_from}
+use Rattle.arena_base.specs.Arena.{Arena, IsFresh, IsLawful, IsSound, arena_capacity, greatest_occupied, resized, vacant_from}
 use Rattle.arena_base.specs.Clone.{CloneStep, IsClone, IsRefusedClone, StopsAtRefusal, Grants, with_items, replaced}
 use Rattle.arena_base.specs.CloneSlots.{ClonesSlots}
 use Rattle.arena_base.proofs.Occupied.{greatest_occupied-above}
@@ -23,9 +22,6 @@ use Rattle.arena_base.proofs.Steps.{list-view, arena_capacity-of}
 use Rattle.arena_base.proofs.Vacancies.{length-vacant_from}
 
 module _ {X : Type 0} where
-  AllVacant : List (Option X) → Type 0
-  AllVacant slots = (k : ℕ) → get_or slots k None ≡ None
-
   -- where no slot has an entry, none is cloned
   entries-none : (i : ℕ) (slots : List (Option (ℕ × X))) → ((k : ℕ) → get_or slots k None ≡ None) → entries_from i slots ≡ []
   entries-none i [] none = refl
@@ -244,100 +240,3 @@ module _ {P T U G F : Type 0} (numbers : P → ℕ × ℕ) (number : G → ℕ) 
     where
       long : length now ≡ length slots
       long = length-append (entries number copies) (replicate (length slots - length copies) None) ∙ rw (length-map copies (entry_in number), length-replicate) (omega (arith, within))
-
--- Calls of one kind are calls of another: `state`, `from` and `to` give the other's states, the items that it is shown and those
--- that it makes.
-module _ {P W X U T M F : Type 0} (numbers : P → ℕ × ℕ) (below : M → P → W → X → M → Type 0) (above : F → P → U → T → F → Type 0) (state : M → F) (from : W → U) (to : X → T)
-    (like : (m : M) (p : P) (w : W) (x : X) (n : M) → below m p w x n → above (state m) p (from w) (to x) (state n)) where
-  -- an entry with the item that the other is shown
-  abbrev pub reshown : ℕ × ℕ × W → ℕ × ℕ × U
-  reshown e = (e.0, e.1, from e.2)
-
-  pub clones-retold : (es : List (ℕ × ℕ × W)) (m n : M) (xs ys : List X) → FoldsTo {P = M × List X} (CloneStep numbers below) (m, xs) es (n, ys)
-      → FoldsTo {P = F × List T} (CloneStep numbers above) (state m, map to xs) (map reshown es) (state n, map to ys)
-  clones-retold [] m n xs ys same = ap (λ (s : M × List X). (state s.0, map to s.1)) same
-  clones-retold (e ∷ es) m n xs ys calls =
-      let s = calls.1 in (
-        (state calls.0.0, map to calls.0.1),
-        record {
-          pointer = s.pointer;
-          item = to s.item;
-          index = s.index;
-          generation = s.generation;
-          called = like m s.pointer e.2 s.item calls.0.0 s.called;
-          behind = ap (map to) s.behind ∙ map_push to xs s.item;
-        },
-        clones-retold es calls.0.0 n calls.0.1 ys calls.2,
-      )
-
-map-itself : {X : Type 0} (f : X → X) → ((x : X) → f x ≡ x) → (xs : List X) → map f xs ≡ xs
-map-itself f itself [] = refl
-map-itself f itself (x ∷ xs) = rw (itself x, map-itself f itself xs) refl
-
-module _ {P U T M F : Type 0} (numbers : P → ℕ × ℕ) (below : M → P → U → T → M → Type 0) (above : F → P → U → T → F → Type 0) (state : M → F)
-    (like : (m : M) (p : P) (u : U) (x : T) (n : M) → below m p u x n → above (state m) p u x (state n)) where
-  calls-restated : (es : List (ℕ × ℕ × U)) (m n : M) (ys : List T) → FoldsTo {P = M × List T} (CloneStep numbers below) (m, []) es (n, ys) → FoldsTo {P = F × List T} (CloneStep numbers above) (state m, []) es (state n, ys)
-  calls-restated es m n ys calls =
-      let told = clones-retold numbers below above state (λ u. u) (λ x. x) like es m n [] ys calls in
-      rw (map-itself (λ (e : ℕ × ℕ × U). (e.0, e.1, e.2)) (λ e. refl) es, map-itself (λ (x : T). x) (λ x. refl) ys) at told
-
-  -- the same items, in other states
-  pub clone-restated : (m : M) (source : Arena U) (old new : Arena T) → IsClone numbers below m source old new → IsClone numbers above (state m) source old new
-  clone-restated m source old new c = record {
-    items = c.items;
-    last = state c.last;
-    calls = calls-restated (entries_rising source 0) m c.last c.items c.calls;
-    after = c.after;
-  }
-
-  pub clone-restated_ok : (r : Result (Unit {0}) ReallocationError) (m : M) (source : Arena U) (old new : Arena T) → OnOk r (IsClone numbers below m source old new) → OnOk r (IsClone numbers above (state m) source old new)
-  clone-restated_ok (Ok x) m source old new c = clone-restated m source old new c
-  clone-restated_ok (Err e) m source old new c = tt
-
--- the same of a refusal
-pub refusal-restated : {P U T M F : Type 0} (numbers : P → ℕ × ℕ) (below : M → P → U → Result T AllocError → M → Type 0) (above : F → P → U → Result T AllocError → F → Type 0) (state : M → F)
-    → ((m : M) (p : P) (u : U) (r : Result T AllocError) (n : M) → below m p u r n → above (state m) p u r (state n))
-    → (m : M) (source : Arena U) (old new : Arena T) → IsRefusedClone numbers below m source old new → IsRefusedClone numbers above (state m) source old new
-refusal-restated numbers below above state like m source old new c =
-    let s = c.stops in
-    record {
-      stops = record {
-        before = s.before;
-        refused = s.refused;
-        behind = s.behind;
-        split = s.split;
-        items = s.items;
-        reached = state s.reached;
-        calls = calls-restated numbers (Grants numbers below) (Grants numbers above) state (λ m p u x n called. like m p u (Ok x) n called) s.before m s.reached s.items s.calls;
-        pointer = s.pointer;
-        index = s.index;
-        generation = s.generation;
-        refusal = s.refusal;
-        last = state s.last;
-        called = like s.reached s.pointer s.refused.2 (Err s.refusal) s.last s.called;
-      };
-      after = c.after;
-    }
-
-module _ {P U T F : Type 0} (numbers : P → ℕ × ℕ) (step : F → P → U → T → F → Type 0) (h : U → T) (answers : (f : F) (p : P) (u : U) (x : T) (g : F) → step f p u x g → x ≡ h u) where
-  -- what is made where each answer is `h` of the item that was shown
-  clones-mapped : (es : List (ℕ × ℕ × U)) (f last : F) (items before : List T) → FoldsTo {P = F × List T} (CloneStep numbers step) (f, before) es (last, items) → items ≡ before ++ map (λ (e : ℕ × ℕ × U). h e.2) es
-  clones-mapped [] f last items before calls = sym (ap (λ (s : F × List T). s.1) calls) ∙ sym (append-nil before)
-  clones-mapped (e ∷ es) f last items before calls =
-      let s = calls.1 in
-      let same : s.item ≡ h e.2 = answers f s.pointer e.2 s.item calls.0.0 s.called in
-      let more = map (λ (e : ℕ × ℕ × U). h e.2) es in
-      clones-mapped es calls.0.0 last items calls.0.1 calls.2
-      ∙ (ap (λ xs. xs ++ more) s.behind ∙ (append_assoc before (s.item ∷ []) more ∙ ap (λ x. before ++ x ∷ more) same))
-
-with_items-same : {U : Type 0} (i : ℕ) (slots : List (Option (ℕ × U))) → with_items slots (map (λ e. e.2) (entries_from i slots)) ≡ slots
-with_items-same i [] = refl
-with_items-same i (None ∷ slots) = ap (λ rest. None ∷ rest) (with_items-same (i + 1) slots)
-with_items-same i (Some e ∷ slots) = ap (λ rest. Some e ∷ rest) (with_items-same (i + 1) slots)
-
--- a clone by a closure that answers the item that it is shown has the source's slots
-pub clone-given_back : {P U F : Type 0} (numbers : P → ℕ × ℕ) (step : F → P → U → U → F → Type 0) → ((f : F) (p : P) (u : U) (x : U) (g : F) → step f p u x g → x ≡ u)
-    → (f : F) (source old new : Arena U) → IsClone numbers step f source old new → HoldsSame new (replaced source old source.slots)
-clone-given_back numbers step answers f source old new c =
-    let same = clones-mapped numbers step (λ u. u) answers (entries_rising source 0) f c.last c.items [] c.calls in
-    subst (λ slots. HoldsSame new (replaced source old slots)) (ap (with_items source.slots) same ∙ with_items-same 0 source.slots) c.after

@@ -1,12 +1,16 @@
 -- What a clone of one arena into another is: the source's pointers, with items that are made of the source's.
-use Rattle.std.specs.Prelude.{◌≡◌, ℕ, ◌+◌, Option, Some, None, Result, Ok, Err, List, [], ◌∷◌, ◌++◌, max}
+use Rattle.std.specs.Prelude.{◌≡◌, ℕ, ◌+◌, Option, Some, None, Result, Ok, Err, List, [], ◌∷◌, ◌++◌, max, is_some}
 use Rattle.std.specs.Borrow.{Bor}
 use Rattle.std.specs.List.{FoldsTo}
 use Rattle.std.specs.declared.alloc.AllocError.{AllocError}
-use Rattle.arena_base.specs.Arena.{Arena, HoldsSame, arena_capacity, greatest_occupied, resized, vacant_indexes}
+use Rattle.arena_base.specs.Arena.{Arena, HoldsSame, arena_capacity, greatest_occupied, item_of, resized, vacant_indexes}
 use Rattle.arena_base.specs.Walk.{entries_rising}
 
 module _ {T U : Type 0} where
+  -- the same pointers find something in both
+  abbrev pub HasSamePointers : Arena T → Arena U → Type 0
+  HasSamePointers a b = (p : ℕ × ℕ) → is_some (item_of a p) ≡ is_some (item_of b p)
+
   -- the slots, with these items in their entries, one after another
   abbrev pub with_items : List (Option (ℕ × U)) → List T → List (Option (ℕ × T))
   with_items [] items = []

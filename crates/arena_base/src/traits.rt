@@ -3,7 +3,7 @@ ghost use Rattle.std.specs.Prelude.{◌≡◌, ◌==◌, ◌<◌, ◌≤◌, ◌
 ghost use Rattle.std.specs.Option.{option_copied, option_copied_mut, option_map};
 ghost use Rattle.std.specs.Borrow.{sem, LendsIf};
 ghost use Rattle.arena_base.specs.Arena.{Arena as Content, HoldsSame, slot, item_of, arena_len, arena_capacity, arena_limit, new_arena, with_capacity, with_item, removed, renewed, cleared, greatest_occupied, IsLawful, IsOccupied, IsFirstEntry, IsLastEntry};
-ghost use Rattle.arena_base.specs.Clone.{IsClone, IsShown};
+ghost use Rattle.arena_base.specs.Clone.{HasSamePointers, IsClone, IsShown};
 ghost use Rattle.arena_base.specs.Compression.{compressed, compressed_generation, compression_overflows, items_rising, IsCompression};
 ghost use Rattle.arena_base.specs.Generation.{next_generation, overflows_after};
 ghost use Rattle.arena_base.specs.Invalidation.{valid_value, has_overflowed, is_overflow};
@@ -197,6 +197,7 @@ pub trait ArenaCloneFromWith<P: Ptr, T>: ArenaTrait<P, T> {
         requires { F.IsAlwaysCallable map }
         ensures ok { OnOk result (IsClone P.numbers (IsShown F.step) map
             (S.content source.now) (Self.content self.old) (Self.content self.new)) }
+        ensures pointers { OnOk result (HasSamePointers (Self.content self.new) (S.content source.now)) }
         ensures beyond { (result ≡ Err ReallocationError.BeyondMaxCapacity)
             ↔ (arena_limit P.Inx.most (Self.content self.old) < greatest_occupied (S.content source.now).slots) }
         ensures memory { result ≡ Err ReallocationError.AllocError

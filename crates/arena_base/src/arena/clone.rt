@@ -1,7 +1,7 @@
 //! Taking over the pointers of another arena.
 ghost use Rattle.std.specs.Prelude.{◌≡◌, ◌<◌, ◌≤◌, ◌↔◌, ◌⊎◌, [], max, vec_len, vec_capacity, OnOk, OnErr};
 ghost use Rattle.arena_base.specs.Arena.{arena_limit, arena_capacity, greatest_occupied, IsFresh};
-ghost use Rattle.arena_base.specs.Clone.{Grants, IsClone, IsRefusedClone, IsShown, StopsAtRefusal};
+ghost use Rattle.arena_base.specs.Clone.{Grants, HasSamePointers, IsClone, IsRefusedClone, IsShown, StopsAtRefusal};
 ghost use Rattle.arena_base.specs.CloneSlots.{ClonesSlots};
 ghost use Rattle.arena_base.specs.Walk.{entries_rising};
 
@@ -34,6 +34,7 @@ impl<P: Ptr, T: Drop, A: Allocator> Arena<P, T, A> {
         requires { F.IsAlwaysCallable map }
         ensures ok { OnOk result
             (IsClone P.numbers (IsShown F.step) map (S.content source.now) self.old self.new) }
+        ensures pointers { OnOk result (HasSamePointers self.new (S.content source.now)) }
         ensures fresh { OnOk result (IsFresh self.new) }
         ensures beyond { (result ≡ Err ReallocationError.BeyondMaxCapacity)
             ↔ (arena_limit P.Inx.most self.old < greatest_occupied (S.content source.now).slots) }
@@ -56,6 +57,7 @@ impl<P: Ptr, T: Drop, A: Allocator> Arena<P, T, A> {
         requires { F.IsAlwaysCallable map }
         ensures ok { OnOk result (IsClone P.numbers (Grants P.numbers (IsShown F.step)) map
             (S.content source.now) self.old self.new) }
+        ensures pointers { OnOk result (HasSamePointers self.new (S.content source.now)) }
         ensures fresh { OnOk result (IsFresh self.new) }
         ensures beyond { (result ≡ Err ReallocationError.BeyondMaxCapacity)
             ↔ (arena_limit P.Inx.most self.old < greatest_occupied (S.content source.now).slots) }
@@ -76,6 +78,7 @@ impl<P: Ptr, T: Drop, A: Allocator> Arena<P, T, A> {
         requires { M.callable map }
         ensures ok { OnOk result (IsClone P.numbers (Grants P.numbers M.step) map
             (S.content source.now) self.old self.new) }
+        ensures pointers { OnOk result (HasSamePointers self.new (S.content source.now)) }
         ensures fresh { OnOk result (IsFresh self.new) }
         ensures beyond { (result ≡ Err ReallocationError.BeyondMaxCapacity)
             ↔ (arena_limit P.Inx.most self.old < greatest_occupied (S.content source.now).slots) }

@@ -1,4 +1,4 @@
-use Rattle.arena_base.proofs.Cloning.{clone-restated_ok}
+use Rattle.arena_base.proofs.CloneFacts.{clone-restated_ok}
 use Rattle.arena_base.proofs.arena.Arena.clone_from_with.Goals as goal
 
 pub returns-clause-ok : goal.returns-clause-ok

@@ -1,5 +1,5 @@
 use Rattle.std.proofs.Common.{inl, inr}
-use Rattle.arena_base.proofs.Cloning.{clone-restated_ok, refusal-restated}
+use Rattle.arena_base.proofs.CloneFacts.{clone-restated_ok, refusal-restated}
 use Rattle.arena_base.proofs.arena.Arena.try_clone_from_with.Goals as goal
 
 pub returns-clause-ok : goal.returns-clause-ok
