@@ -65,7 +65,8 @@ where
     ensures does { (marks : Marks) → AreTrue marks arena.old.shape
         → Does (reading_by T.key_of T.Key.cmp P.Inx.most P.Gen.greatest
         P.numbers P.Inx.number P.Gen.number) (Asks P.numbers F.step)
-        (record { tree = arena.old; marks = marks }) closure.old command result arena.new closure.new }
+        (record { tree = arena.old; marks = marks }) closure.old command result arena.new
+        closure.new }
     ensures callable { F.IsAlwaysCallable closure.new }
     ensures lawful { IsSound P.Inx.most P.Gen.greatest arena.new.list }
     ensures sound { IsSoundTree arena.new }
@@ -95,7 +96,8 @@ where
     ensures does { (marks : Marks) → AreTrue marks arena.old.shape
         → Does (reading_by T.key_of T.Key.cmp P.Inx.most P.Gen.greatest
         P.numbers P.Inx.number P.Gen.number) (Asks P.numbers F.step)
-        (record { tree = arena.old; marks = marks }) closure.old command result arena.new closure.new }
+        (record { tree = arena.old; marks = marks }) closure.old command result arena.new
+        closure.new }
     ensures callable { F.IsAlwaysCallable closure.new }
 {
     match command {

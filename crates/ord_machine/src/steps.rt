@@ -61,7 +61,8 @@ pub fn entry<P: Ptr, T: SimpleOrdItem + Drop, A: Allocator>(
     kind: &OrdInsertKind<P, T::Key>,
     item: T,
 ) -> Reply<P, T, A>
-    ensures { Inserts T.key_of T.Key.cmp P.Inx.most reallocating (aim_of P.Inx.number kind.now) P.numbers
+    ensures { Inserts T.key_of T.Key.cmp P.Inx.most reallocating (aim_of P.Inx.number kind.now)
+        P.numbers
         arena.old item result arena.new }
 {
     // with its length an arena tells that its pointers are different
