@@ -1,5 +1,7 @@
 ghost use Rattle.std.specs.Prelude.{◌≡◌, IfErr, IsTrue};
 
+mod clones;
+
 use arena_base::{
     Advancer, Arena, ArenaTrait, CompactArenaTrait, InsertionError, InvalidationOption,
     InvalidationResult, ItemsMut, MaxCapacityReductionError, P0, P8, PN, Ptr, PtrAdvancer, PtrGen,

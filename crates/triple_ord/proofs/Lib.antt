@@ -9,6 +9,7 @@ pub mod Bare
 pub mod Content
 pub mod Draining
 pub mod Walking
+pub mod Recasting
 pub mod Reversed
 pub mod Inserting
 pub mod Places

@@ -8,6 +8,7 @@ pub mod ClosureSearch
 pub mod Order
 pub mod Hint
 pub mod VisitBounds
+pub mod Recasting
 pub mod Refusal
 pub mod Place
 pub mod Insertion

@@ -22,6 +22,7 @@ mod neighbours;
 mod place;
 mod prepare;
 mod rebuild;
+mod recast;
 mod remove;
 mod slot_drain;
 mod slots;

@@ -19,8 +19,9 @@ pub use arena::{
     SimpleOrdArenaInsertEntry,
 };
 pub use arena_base::{
-    Advancer, ArenaTrait, CompactArenaTrait, InvalidationOption, InvalidationResult, ItemsMut, P0,
-    P8, PN, Ptr, PtrAdvancer, PtrGen, PtrInx, Q0, SetMaxCapacity,
+    Advancer, Arena, ArenaCloneFromWith, ArenaTrait, CompactArenaTrait, InvalidationOption,
+    InvalidationResult, ItemsMut, P0, P8, PN, Ptr, PtrAdvancer, PtrGen, PtrInx, Q0,
+    ReallocationError, Recast, Recaster, SetMaxCapacity,
 };
 pub use chain_base::LinkNoGen;
 pub use entry_kind::OrdEntryKind;

@@ -3,6 +3,7 @@ ghost use Rattle.std.specs.Prelude.{◌≡◌};
 ghost use Rattle.std.specs.Borrow.{Lends, sem};
 
 use crate::item::SimpleOrdItem;
+use arena_base::{Recast, Recaster};
 use std::fmt;
 use std::marker::Model;
 
@@ -94,5 +95,14 @@ impl<K, V> OrdPair<K, V> {
 impl<K: fmt::Debug, V: fmt::Debug> fmt::Debug for OrdPair<K, V> {
     fn fmt<W: fmt::Write>(&self, f: &mut fmt::Formatter<W>) -> fmt::Result {
         f.debug_tuple("").field(&self.k).field(&self.v).finish()
+    }
+}
+
+/// The value is recast; the key stays.
+impl<I, K, V: Recast<I>> Recast<I> for OrdPair<K, V> {
+    ghost recast_gives = { λ gives old result new. (new.0 ≡ old.0) × V.recast_gives gives old.1 result new.1 };
+
+    fn recast<R: Recaster<Item = I>>(&mut self, recaster: &R) -> Result<(), I> {
+        self.v.recast(recaster)
     }
 }

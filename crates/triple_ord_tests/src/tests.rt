@@ -10,6 +10,7 @@ mod entries;
 mod every_order;
 mod hints;
 mod rebuild;
+mod recasting;
 mod removal;
 mod slot_drain;
 mod slots;

@@ -1,0 +1,6 @@
+use Rattle.std.proofs.Common.{◌+◌}
+use Rattle.triple_ord.proofs.Recasting.{RecastBelow}
+use Rattle.triple_ord.proofs.arena.recast.SimpleOrdArenaRecast.recast.Given as goal
+
+abbrev pub invariant-loop-position : goal.invariant-loop-position
+invariant-loop-position g l = RecastBelow (g.T.Recast.recast_gives (g.R.Recaster.item_gives l.fn.recaster)) l.fn.self l.self (l.position + 1)

@@ -1,0 +1,42 @@
+//! Recasting the items of an arena.
+ghost use Rattle.std.specs.Prelude.{IsSome};
+ghost use Rattle.triple_ord.specs.Arena.{entry_at};
+ghost use Rattle.triple_ord.specs.Recasting.{RecastsItem};
+
+use super::SimpleOrdArena;
+use arena_base::{ItemsMut, Ptr, PtrInx, Recast, Recaster};
+use std::alloc::Allocator;
+
+/// The items are recast by rising index, up to the first whose recast fails, in O(capacity) time. The items before that one stay
+/// recast, it stays as its own recast left it, and the others as they were. Where keys change, the arena may be out of order.
+impl<I, P: Ptr, T: Recast<I>, A: Allocator> Recast<I> for SimpleOrdArena<P, T, A> {
+    ghost use Rattle.triple_ord.specs.Recasting.{RecastsItems};
+
+    ghost recast_gives = { λ gives old result new. RecastsItems (T.recast_gives gives) old result new };
+
+    fn recast<R: Recaster<Item = I>>(&mut self, recaster: &R) -> Result<(), I> {
+        // With its length an arena tells what holds of every list.
+        let _ = self.len();
+        for position in 0..self.capacity() {
+            let i = P::Inx::try_from_usize(position + 1).unwrap();
+            if self.contains_inx(i) {
+                recast_at(self, i, recaster)?;
+            }
+        }
+        Ok(())
+    }
+}
+
+// Recasts the item of the entry at an index that has one.
+fn recast_at<I, P: Ptr, T: Recast<I>, A: Allocator, R: Recaster<Item = I>>(
+    arena: &mut SimpleOrdArena<P, T, A>,
+    i: P::Inx,
+    recaster: &R,
+) -> Result<(), I>
+    requires { IsSome (entry_at arena.old (P.Inx.number i)) }
+    ensures { RecastsItem (T.recast_gives (R.item_gives recaster.now)) result arena.old (P.Inx.number i) arena.new }
+{
+    let pair = arena.pair_mut(i);
+    let item = pair.1;
+    item.recast(recaster)
+}
