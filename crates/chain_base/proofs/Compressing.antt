@@ -1,5 +1,6 @@
 -- A chain is compressed: its entries learn their places, the arena is compressed, and the places are linked back.
 use Rattle.std.proofs.Common.{◌≡◌, ◌≢◌, ℕ, zero, suc, ◌+◌, ◌-◌, ◌<◌, ◌≤◌, true, false, List, [], ◌∷◌, ◌++◌, length, map, take, slice_get, Option, Some, None, is_some, count_by, cond, get_or, refl, sym, ap, ◌∙◌, subst, arith, inl, inr, add-one}
+use Rattle.std.proofs.lemmas.Grind.{common_steps}
 use Rattle.std.proofs.lemmas.Bool.{false≢true}
 use Rattle.std.proofs.lemmas.Bool.Decides.{eqb_tells}
 use Rattle.std.proofs.lemmas.Option.{none-some, same_Some, slice_get-map, slice_get_within, get_or_from_slice_get}
@@ -370,5 +371,4 @@ module _ {T : Type 0} where
 -- a compression of a chain that is seen in another way
 pub compression-of : {P T M : Type 0} (numbers : P → ℕ × ℕ) (step : M → P → T → P → T → M → Type 0) (m : M) (seen old new : Chain T) (g h : ℕ)
     → seen ≡ old → g ≡ h → IsCompression numbers step g m seen new → IsCompression numbers step h m old new
-compression-of numbers step m seen old new g h is same c =
-    subst (λ k. IsCompression numbers step k m old new) same (subst (λ v. IsCompression numbers step g m v new) is c)
+compression-of numbers step m seen old new g h is same c = grind (arith, common_steps)

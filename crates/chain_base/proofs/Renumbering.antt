@@ -1,5 +1,6 @@
 -- A chain whose entries get other indexes: the links follow.
-use Rattle.std.proofs.Common.{◌≡◌, ◌≢◌, ℕ, ◌+◌, ◌≤◌, List, [], ◌∷◌, ◌++◌, length, map, Option, Some, None, is_some, count_by, get_or, refl, sym, ap, ◌∙◌, subst, arith, inl, inr}
+use Rattle.std.proofs.Common.{◌≡◌, ℕ, ◌≤◌, List, [], ◌∷◌, ◌++◌, length, map, Option, Some, None, is_some, count_by, get_or, refl, sym, ap, ◌∙◌, subst, arith, inl, inr}
+use Rattle.std.proofs.lemmas.Grind.{common_steps}
 use Rattle.std.proofs.lemmas.Bool.Decides.{eqb_tells}
 use Rattle.std.proofs.lemmas.Option.{none-some, same_Some}
 use Rattle.std.proofs.lemmas.List.{map-append, append_assoc, length-map}
@@ -7,7 +8,7 @@ use Rattle.std.specs.Option.{option_map, option_and_then}
 use Rattle.chain_base.specs.Link.{Link}
 use Rattle.chain_base.specs.Chain.{Entry, IsDistinct, times, first_or, last_or, link_at}
 use Rattle.chain_base.specs.Layout.{IsLaidOut}
-use Rattle.chain_base.proofs.Lists.{same_index, times-append, times-here, times-there, last_or-append, link_between-append, link_between-absent, Stands-occurs}
+use Rattle.chain_base.proofs.Lists.{same_index, times-append, times-here, last_or-append, link_between-append, link_between-absent, Stands-occurs}
 
 module _ {T : Type 0} where
   -- the link of an entry at its place
@@ -116,27 +117,12 @@ module _ {T : Type 0} where
     -- an index that no other becomes stands as often
     pub times-renumbered : (es : List (Entry T)) (x : ℕ) → ((y : ℕ) → 1 ≤ times y es → renumber y ≡ renumber x → y ≡ x) → times (renumber x) (map change es) ≡ times x es
     times-renumbered [] x apart = refl
-    times-renumbered (e ∷ es) x apart =
-        let more = times-renumbered es x (λ y there same. apart y (omega arith) same) in
-        elim (eqb_tells e.index x) [
-          | inl h ↦
-              let same : (change e).index ≡ renumber x = follows e ∙ ap renumber h.1 in
-              times-here (renumber x) (change e) (map change es) same ∙ (ap (λ n. 1 + n) more ∙ sym (times-here x e es h.1))
-          | inr h ↦
-              let other : (change e).index ≢ renumber x = λ same. h.1 (apart e.index (omega (arith, times-here e.index e es refl)) (sym (follows e) ∙ same)) in
-              times-there (renumber x) (change e) (map change es) other ∙ (more ∙ sym (times-there x e es h.1))
-        ]
+    times-renumbered (e ∷ es) x apart = grind (arith, common_steps, times-renumbered es x)
 
     -- an index of the new list was another of the old one
     pub times-source : (es : List (Entry T)) (k : ℕ) → 1 ≤ times k (map change es) → (x : ℕ) × (renumber x ≡ k) × (1 ≤ times x es)
     times-source [] k occurs = absurd (omega arith)
-    times-source (e ∷ es) k occurs =
-        elim (eqb_tells (change e).index k) [
-          | inl h ↦ (e.index, sym (follows e) ∙ h.1, omega (arith, times-here e.index e es refl))
-          | inr h ↦
-              let more = times-source es k (omega (arith, times-there k (change e) (map change es) h.1)) in
-              (more.0, more.1, let behind = more.2 in omega arith)
-        ]
+    times-source (e ∷ es) k occurs = grind (arith, common_steps, times-source es k)
 
     module _ (es : List (Entry T)) (distinct : IsDistinct es) (apart : (x y : ℕ) → 1 ≤ times x es → 1 ≤ times y es → renumber x ≡ renumber y → x ≡ y) where
       pub times-changed : (x : ℕ) → 1 ≤ times x es → times (renumber x) (map change es) ≡ times x es

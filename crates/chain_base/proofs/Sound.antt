@@ -1,5 +1,6 @@
 -- What is true of every arena, said of the chain that lies in it.
-use Rattle.std.proofs.Common.{◌≡◌, ℕ, ◌<◌, ◌≤◌, List, [], ◌∷◌, Option, Some, None, refl, sym, ap, subst, ◌∙◌, arith, inl, inr, get_or, take, Result, Ok, Err, OnOk, OnErr}
+use Rattle.std.proofs.Common.{◌≡◌, ℕ, ◌<◌, ◌≤◌, List, [], ◌∷◌, Option, Some, None, refl, sym, ap, ◌∙◌, arith, inl, inr, get_or, take, Result, Ok, Err, OnOk, OnErr}
+use Rattle.std.proofs.lemmas.Grind.{common_steps}
 use Rattle.std.proofs.lemmas.Bool.Decides.{eqb_tells}
 use Rattle.std.specs.Option.{option_map, ForSome}
 use Rattle.arena_base.specs.Generation.{IsLawfulGeneration}
@@ -36,10 +37,7 @@ module _ {T : Type 0} where
   lawful-entry : (greatest : Option ℕ) (o : Option (ℕ × Link T)) → ForSome o (λ e. IsLawfulGeneration greatest e.0)
       → ForSome {T = ℕ × T} (option_map (λ e. (e.0, e.1.item)) o) (λ e. IsLawfulGeneration greatest e.0)
   lawful-entry greatest None lawful = λ x is. absurd (cc)
-  lawful-entry greatest (Some e) lawful = λ x is.
-      let entry : ℕ × T = (e.0, e.1.item) in
-      let same : entry ≡ x = cc in
-      subst (λ (y : ℕ × T). IsLawfulGeneration greatest y.0) same (lawful e refl)
+  lawful-entry greatest (Some e) lawful = grind (arith, common_steps)
 
   pub IsSound-laid_out : (most : ℕ) (greatest : Option ℕ) (a : Arena (Link T)) (first last : Option ℕ)
       → IsLaidOut a.slots first last (chain_of a first).entries → IsSoundArena most greatest a → IsSound most greatest (chain_of a first)

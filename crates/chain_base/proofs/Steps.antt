@@ -1,5 +1,6 @@
 -- What each call does to the chain that lies in the arena.
 use Rattle.std.proofs.Common.{◌≡◌, ℕ, zero, suc, ◌+◌, ◌-◌, ◌<◌, ◌≤◌, true, List, [], ◌∷◌, ◌++◌, length, Option, Some, None, IsSome, is_some, refl, sym, ap, subst, ◌∙◌, arith, if◌then◌else◌, inl, inr, get_or, set, slice_get, length-set, replicate}
+use Rattle.std.proofs.lemmas.Grind.{common_steps}
 use Rattle.std.proofs.lemmas.Bool.Decides.{eqb_tells}
 use Rattle.std.proofs.lemmas.List.{length-replicate}
 use Rattle.std.specs.Option.{option_map}
@@ -11,7 +12,7 @@ use Rattle.chain_base.specs.Insert.{IsInsertion, IsPlace}
 use Rattle.chain_base.specs.Layout.{chain_of, rewritten, with_next, with_prev, linked_next, linked_prev, IsLaidOut}
 use Rattle.chain_base.proofs.Lists.{link_between-absent, entry_at-link, last_or-append, Stands-occurs, without-split}
 use Rattle.chain_base.proofs.LaidOut.{bridged, end_beside, link_amid, closed, walk-laid_out, slot-laid_out, times-vacant, joined, IsLaidOut-inserted, IsLaidOut-removed, IsLaidOut-with_item_among, IsLaidOut-with_generation}
-use Rattle.chain_base.proofs.Vacancy.{vacant-links, get_or-resized, count-resized, length-resized, get_or-vacant, count-vacant}
+use Rattle.chain_base.proofs.Vacancy.{vacant-links, get_or-resized, count-resized, length-resized}
 
 -- the list of vacant indexes begins with the next one
 pub next-first : (is : List ℕ) (i : ℕ) → slice_get is 0 ≡ Some i → (rest : List ℕ) × (is ≡ i ∷ rest)
@@ -60,15 +61,7 @@ module _ {T : Type 0} where
   SameAside-linked_prev a (Some i) prev = record { capacity = ap (λ n. n - 1) (length-set a.slots i _); vacant = refl; generation = refl; maximum = refl }
 
   pub SameAside-both : (a : Arena (Link T)) (left next right prev : Option ℕ) → SameAside a (linked_prev (linked_next a left next) right prev)
-  SameAside-both a left next right prev =
-      let one = SameAside-linked_next a left next in
-      let two = SameAside-linked_prev (linked_next a left next) right prev in
-      record {
-        capacity = two.capacity ∙ one.capacity;
-        vacant = two.vacant ∙ one.vacant;
-        generation = two.generation ∙ one.generation;
-        maximum = two.maximum ∙ one.maximum;
-      }
+  SameAside-both a left next right prev = grind (arith, common_steps)
 
   -- the first of a list that goes on, or another first where there is nothing before
   pub first_or-end : (xs zs : List (Entry T)) (d : Option ℕ) → (if is_some (last_or None xs) then first_or None (xs ++ zs) else d) ≡ first_or d xs
@@ -91,11 +84,7 @@ module _ {T : Type 0} where
 
   -- the entries of a chain where a slot holds something
   IsOccupied-slot : (a : Arena (Link T)) (first : Option ℕ) (k : ℕ) (o : Option (ℕ × Link T)) → slot a k ≡ o → link_at (chain_of a first).entries k ≡ o → IsSome o → IsOccupied (chain_of a first) k
-  IsOccupied-slot a first k o held links some = rw (entry_at-link None None (chain_of a first).entries k, links) (some-mapped o some)
-    where
-      some-mapped : (o : Option (ℕ × Link T)) → IsSome o → IsSome {T = ℕ × T} (option_map (λ e. (e.0, e.1.item)) o)
-      some-mapped None some = some
-      some-mapped (Some e) some = some
+  IsOccupied-slot a first k o held links some = grind (arith, common_steps, entry_at-link None None (chain_of a first).entries k, first)
 
   -- the vacant slots are those of the list
   fresh-slots : (a : Arena (Link T)) (first last : Option ℕ) → IsLaidOut a.slots first last (chain_of a first).entries
@@ -200,14 +189,7 @@ module _ {T : Type 0} where
 
   -- a chain that is cleared
   pub IsLaidOut-cleared : (n : ℕ) → IsLaidOut {T = T} (replicate n None) None None []
-  IsLaidOut-cleared n =
-      record {
-        links = λ i. get_or-vacant n i;
-        distinct = λ i. omega arith;
-        first_is = refl;
-        last_is = refl;
-        counted = count-vacant (replicate n None) (get_or-vacant n);
-      }
+  IsLaidOut-cleared n = grind (arith, common_steps)
 
   pub chain_of-cleared : (greatest : Option ℕ) (a : Arena (Link T)) (first : Option ℕ) → chain_of (arena_cleared greatest a) None ≡ cleared greatest (chain_of a first)
   chain_of-cleared greatest a first =

@@ -1,5 +1,6 @@
 -- The steps of a transfer.
 use Rattle.std.proofs.Common.{◌≡◌, ℕ, zero, suc, ◌+◌, ◌-◌, ◌<◌, ◌≤◌, max, List, [], ◌∷◌, ◌++◌, map, length, length-append, append_assoc, Option, Some, None, OnSome, OnOk, IsOk, IsErr, Result, Ok, Err, is_some, true, slice_get, refl, sym, ap, ◌∙◌, arith, inl, inr}
+use Rattle.std.proofs.lemmas.Grind.{common_steps}
 use Rattle.std.proofs.lemmas.Bool.Decides.{eqb_tells}
 use Rattle.std.specs.List.{FoldsTo}
 use Rattle.std.proofs.lemmas.Fn.{FoldsTo-push}
@@ -75,10 +76,7 @@ module _ {T : Type 0} where
       ]
 
   insert_after-last : (g from : ℕ) (x : T) (xs : List T) (new : Entry T) → insert_after (from + length xs) new (numbered g from (x ∷ xs)) ≡ numbered g from (x ∷ xs) ++ new ∷ []
-  insert_after-last g from x [] new = elim (eqb_tells from (from + 0)) [
-    | inl h ↦ rw h.0 refl
-    | inr h ↦ absurd (h.1 (omega arith))
-  ]
+  insert_after-last g from x [] new = grind (arith, common_steps)
   insert_after-last g from x (y ∷ ys) new = elim (eqb_tells from (from + suc (length ys))) [
     | inl h ↦ absurd (omega (arith, h.1))
     | inr h ↦
@@ -88,10 +86,7 @@ module _ {T : Type 0} where
   ]
 
   entry_at-last : (g from : ℕ) (x : T) (xs : List T) → is_some (entry_at (numbered g from (x ∷ xs)) (from + length xs)) ≡ true
-  entry_at-last g from x [] = elim (eqb_tells from (from + 0)) [
-    | inl h ↦ rw h.0 refl
-    | inr h ↦ absurd (h.1 (omega arith))
-  ]
+  entry_at-last g from x [] = grind (arith, common_steps)
   entry_at-last g from x (y ∷ ys) = elim (eqb_tells from (from + suc (length ys))) [
     | inl h ↦ absurd (omega (arith, h.1))
     | inr h ↦
@@ -243,18 +238,11 @@ module _ {P Q T U M : Type 0} (numbers_from : Q → ℕ × ℕ) (numbers_to : P 
   rest-some rest now n h less = omega (arith, less, ap length h.split, length-append h.gone rest.entries)
 
   pub rest-none : (rest : Chain U) (now : Chain T) (n : M) (h : Taken rest now n) → length source.entries ≤ length h.gone → rest.entries ≡ []
-  rest-none rest now n h all = go rest.entries (omega (arith, all, ap length h.split, length-append h.gone rest.entries))
-    where
-      go : (es : List (Entry U)) → length es ≡ 0 → es ≡ []
-      go [] none = refl
-      go (e ∷ es) none = absurd (omega (arith, none))
+  rest-none rest now n h all = grind (arith, common_steps)
 
 -- the last index is one more
 pub last-more : {I T : Type 0} (number : I → ℕ) (i : I) (items : List T) (item : T) → number i ≡ length items + 1 → Some (number i) ≡ last_of (length (items ++ item ∷ []))
-last-more number i items item at =
-    let count : length (items ++ item ∷ []) ≡ suc (length items) = omega (arith, length-append items (item ∷ [])) in
-    let same : number i ≡ suc (length items) = omega (arith, at) in
-    ap Some same ∙ ap last_of (sym count)
+last-more number i items item at = grind (arith, common_steps)
 
 -- a whole transfer
 module _ {P Q T U M : Type 0} (numbers_from : Q → ℕ × ℕ) (numbers_to : P → ℕ × ℕ) (greatest : Option ℕ) (step : M → Q → InvalidationOption U → P → T → M → Type 0) where
