@@ -1,5 +1,5 @@
 -- For callers: what an index finds in the list, and how many entries there are, after each change.
-use Rattle.std.proofs.Common.{◌≡◌, ◌≢◌, ℕ, zero, suc, ◌+◌, ◌<◌, ◌≤◌, List, [], ◌∷◌, ◌++◌, length, map, slice_get, slice_index_or, Option, Some, None, IsSome, is_some, append_assoc, refl, sym, ap, ◌∙◌, arith, inl, inr}
+use Rattle.std.proofs.Common.{◌≡◌, ◌≢◌, ℕ, zero, suc, ◌+◌, ◌<◌, ◌≤◌, List, [], ◌∷◌, ◌++◌, length, map, slice_get, slice_index_or, Option, Some, None, IsSome, append_assoc, refl, sym, ap, ◌∙◌, arith, inl, inr}
 use Rattle.std.proofs.lemmas.Grind.{common_steps}
 use Rattle.std.proofs.lemmas.Bool.Decides.{eqb_tells, leb_tells}
 use Rattle.std.proofs.lemmas.Option.{slice_get_cases, slice_get_within, get_or_from_slice_get}
@@ -34,10 +34,7 @@ module _ {T : Type 0} where
 
   -- an index that finds an entry stands in the list
   pub entry-occurs : (es : List (Entry T)) (i : ℕ) → IsSome (entry_at es i) → 1 ≤ times i es
-  entry-occurs es i there = elim (eqb_tells (times i es) 0) [
-    | inl h ↦ absurd (let none = ap is_some (entry_at-absent es i h.1) in cc)
-    | inr h ↦ omega (arith, h.1)
-  ]
+  entry-occurs es i there = grind (arith, common_steps, i, entry_at-absent)
 
   -- without the entry of an index, every other index finds what it found
   pub entry_at-without_other : (es : List (Entry T)) (i j : ℕ) → j ≢ i → entry_at (without i es) j ≡ entry_at es j
@@ -47,12 +44,7 @@ module _ {T : Type 0} where
   -- and the index itself finds none, where the indexes are pairwise different
   pub entry_at-without : (es : List (Entry T)) (i : ℕ) → IsDistinct es → entry_at (without i es) i ≡ None
   entry_at-without [] i distinct = refl
-  entry_at-without (e ∷ es) i distinct = elim (eqb_tells e.index i) [
-    | inl h ↦
-        let here : times i (e ∷ es) ≡ 1 + times i es = rw h.0 refl in
-        rw h.0 (entry_at-absent es i (omega (arith, here, distinct i)))
-    | inr h ↦ rw (h.0, h.0) (entry_at-without es i (λ k. omega (arith, distinct k)))
-  ]
+  entry_at-without (e ∷ es) i distinct = grind (arith, common_steps, entry_at-without es i, i, entry_at-absent, distinct)
 
   -- there is one entry less, where the index has one
   pub length-without : (es : List (Entry T)) (i : ℕ) → IsSome (entry_at es i) → length es ≡ length (without i es) + 1
@@ -149,10 +141,7 @@ module _ {T : Type 0} where
 -- the entries of a compressed list, by their places
 module _ {T : Type 0} where
   past-end : (items : List T) (k : ℕ) → slice_get items k ≡ None → length items ≤ k
-  past-end items k none = elim (slice_get_cases items k).1 [
-    | inl there ↦ absurd (let some = there.2 in cc)
-    | inr past ↦ past.0
-  ]
+  past-end items k none = grind (arith, common_steps, slice_get_cases, items)
 
   -- no index has more lesser ones than there are entries
   pub lesser-most : (es : List (Entry T)) (i : ℕ) → lesser es i ≤ length es

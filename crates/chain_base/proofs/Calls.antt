@@ -87,9 +87,7 @@ module _ {T : Type 0} where
     module _ (greatest : Option ℕ) (i : ℕ) (e : ℕ × Link T) (held : slot a i ≡ Some e) where
       -- an entry beside the one that is taken out has its slot still
       beside-held : (k : ℕ) → i ≢ k → 1 ≤ times k (chain_of a first).entries → IsSome (slot (arena_removed greatest a i) k)
-      beside-held k other occurs =
-          let there = held-occurs a (chain_of a first).entries k _ refl (laid.links k) occurs in
-          rw (slot-emptied a i k (slot-within a i e held), other_index i k other) there
+      beside-held k other occurs = grind (arith, common_steps, held-occurs, first, occurs, slot-emptied, i, slot-within, held, other_index, other)
 
       stretches : Stands (chain_of a first).entries i → (k : ℕ) → ((e.1.prev ≡ Some k) ⊎ (e.1.next ≡ Some k)) → (i ≢ k) × (1 ≤ times k (chain_of a first).entries)
       stretches s k named =

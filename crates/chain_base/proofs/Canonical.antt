@@ -2,7 +2,7 @@
 use Rattle.std.proofs.Common.{◌≡◌, ◌≢◌, ℕ, zero, suc, ◌+◌, ◌-◌, ◌<◌, ◌≤◌, ◌==◌, true, List, [], ◌∷◌, ◌++◌, length, map, replicate, slice_get, Option, Some, None, is_some, refl, sym, ap, ◌∙◌, subst, arith, inl, inr, length-append}
 use Rattle.std.proofs.lemmas.Grind.{common_steps}
 use Rattle.std.proofs.lemmas.Bool.{false≢true}
-use Rattle.std.proofs.lemmas.Bool.Decides.{eqb_tells, leb_tells, nat_tests}
+use Rattle.std.proofs.lemmas.Bool.Decides.{eqb_tells, nat_tests}
 use Rattle.std.proofs.lemmas.Option.{none-some, same_Some, slice_get-map, get_or_from_slice_get}
 use Rattle.std.proofs.lemmas.List.{map-append, map-id, append_assoc, append-nil, length-map}
 use Rattle.std.specs.Option.{option_map, option_and_then, ForSome}
@@ -103,14 +103,7 @@ module _ {T : Type 0} where
   -- each number below is some entry's place
   place-found : (es : List (Entry T)) → IsDistinct es → (n m i : ℕ) → lesser es i ≤ n → n < lesser es (i + m) → (x : ℕ) × (lesser es x ≡ n) × (1 ≤ times x es)
   place-found es distinct n zero i low high = let same : i + 0 ≡ i = omega arith in absurd (let level = ap (lesser es) same in omega (arith, level))
-  place-found es distinct n (suc m) i low high =
-      let next = lesser-next es i in
-      let at : i + suc m ≡ (i + 1) + m = omega arith in
-      let high' : n < lesser es ((i + 1) + m) = let level = ap (lesser es) at in omega (arith, level) in
-      elim (leb_tells (lesser es (i + 1)) n) [
-        | inl h ↦ place-found es distinct n m (i + 1) h.1 high'
-        | inr h ↦ (i, omega (arith, h.1, next, distinct i), omega (arith, h.1, next))
-      ]
+  place-found es distinct n (suc m) i low high = grind (arith, common_steps, place-found es distinct n m (i + 1), lesser-next, i, distinct)
 
   -- the indexes of entries are just those from 1 to n
   pub record Dense (es : List (Entry T)) (n : ℕ) : Type 0 where

@@ -225,10 +225,7 @@ module _ {T : Type 0} where
 
         -- the places are the indexes now
         place-second : (x : ℕ) → 1 ≤ times x es → compressed_index_in a2 (place x) ≡ place x
-        place-second x occurs =
-            let l = after2 x occurs in
-            let within = slice_get_within c.links (lesser es x) l.0 l.4 in
-            ap (λ n. n + 1) (ap (λ ss. count_by is_some (take (place x) ss)) c.after.slots ∙ compressed-place (length a1.slots) g c.links (lesser es x) fits (omega arith))
+        place-second x occurs = grind (arith, common_steps, after2 x occurs, occurs, slice_get_within c.links (lesser es x), place x, compressed-place (length a1.slots) g c.links (lesser es x) fits, fits)
 
         module _ (a3 : Arena (Link T)) (end2 : Option ℕ) (n2 : NamesCompressedIndexes After a2 a3 end2) where
           abbrev change : Entry T → Entry T

@@ -28,11 +28,7 @@ module _ {T : Type 0} where
   pub pointed-last : (es : List (Entry T)) (i : ℕ) → times i es ≤ 1 → last_or None es ≡ Some i → pointed i (entry_at es i) ≡ last_pointer es
   pointed-last [] i once last = absurd (cc)
   pointed-last (e ∷ []) i once last = grind (arith, common_steps)
-  pointed-last (e ∷ f ∷ es) i once last =
-      elim (eqb_tells e.index i) [
-        | inl h ↦ absurd (omega (arith, times-here i e (f ∷ es) h.1, times-last (f ∷ es) i last))
-        | inr h ↦ rw h.0 (pointed-last (f ∷ es) i (omega (arith, times-there i e (f ∷ es) h.1)) last)
-      ]
+  pointed-last (e ∷ f ∷ es) i once last = grind (arith, common_steps, pointed-last (f ∷ es) i, i, times-here, times-last, times-there)
 
   pub last_pointer-none : (es : List (Entry T)) → last_or None es ≡ None → last_pointer es ≡ None
   last_pointer-none [] none = refl

@@ -1,7 +1,6 @@
 -- Two entries of a chain change their indexes with each other: a swap in the arena, and the links that named them.
 use Rattle.std.proofs.Common.{◌≡◌, ◌≢◌, ℕ, ◌<◌, ◌≤◌, Bool, true, false, List, length, map, Option, Some, None, is_some, refl, sym, ap, ◌∙◌, subst, arith, if◌then◌else◌, inl, inr, length-set}
 use Rattle.std.proofs.lemmas.Grind.{common_steps}
-use Rattle.std.proofs.lemmas.Bool.{false≢true}
 use Rattle.std.proofs.lemmas.Bool.Decides.{eqb_tells}
 use Rattle.std.specs.Option.{option_map, option_and_then, ForSome}
 use Rattle.arena_base.specs.Pointer.{named_of}
@@ -326,12 +325,4 @@ module _ {T : Type 0} where
 
   -- an index with an entry can be named in a link
   pub occupied-named : (most : ℕ) (greatest : Option ℕ) (c : Chain T) (i : ℕ) → IsSound most greatest c → is_some (entry_at c.entries i) ≡ true → named_of most (Some i) ≡ Some i
-  occupied-named most greatest c i sound occupied =
-      elim (eqb_tells (times i c.entries) 0) [
-        | inl h ↦ absurd (false≢true (sym (ap is_some (entry_at-absent c.entries i h.1)) ∙ occupied))
-        | inr h ↦
-            let within = sound.within i (omega (arith, h.1)) in
-            let limit = limit_of-below most c.maximum in
-            let below = sound.within_limit in
-            neighbour-within most i (omega (arith, within.1))
-      ]
+  occupied-named most greatest c i sound occupied = grind (arith, common_steps, i, entry_at-absent, limit_of-below, neighbour-within)

@@ -3,7 +3,6 @@ use Rattle.std.proofs.Common.{◌≡◌, ◌≢◌, ℕ, ◌+◌, ◌<◌, ◌�
 use Rattle.std.proofs.lemmas.Grind.{common_steps}
 use Rattle.std.proofs.lemmas.List.{get_or-set_same, get_or-set_other}
 use Rattle.std.proofs.lemmas.List.Sums.{sum_by-set, count_by-le-length}
-use Rattle.std.proofs.lemmas.Bool.Decides.{eqb_tells}
 use Rattle.std.specs.Option.{option_map}
 use Rattle.arena_base.specs.Arena.{Arena, slot, with_slot, with_entry_at, arena_len, removed as arena_removed}
 use Rattle.chain_base.specs.Link.{Link}
@@ -115,16 +114,7 @@ module _ {T : Type 0} where
     slots-inserted : times new.index xs ≡ 0 → times new.index ys ≡ 0 → times k xs + times k ys ≤ 1 → o ≡ link_at (xs ++ ys) k
         → relinked (last_or None xs) (Some new.index) (first_or None ys) (Some new.index) k
         (if new.index == k then Some (new.generation, link_amid xs new.item ys) else o) ≡ link_at (xs ++ new ∷ ys) k
-    slots-inserted left right once was =
-        rw (link_between-append None None xs (new ∷ ys) k)
-        (elim (eqb_tells new.index k) [
-          | inl h ↦
-              let left_k : times k xs ≡ 0 = rw (← h.1) left in
-              let right_k : times k ys ≡ 0 = rw (← h.1) right in
-              rw (h.0, link_between-absent None (Some new.index) xs k left_k) (relinked-apart xs ys (Some new.index) (Some new.index) k _ left_k right_k)
-          | inr h ↦
-              rw (h.0, was, link_between-append None None xs ys k) (sym (seam-relinked xs ys (first_or None ys) (last_or None xs) (Some new.index) (Some new.index) k once))
-        ])
+    slots-inserted left right once was = grind (arith, common_steps, link_between-append, left, link_between-absent, relinked-apart, seam-relinked)
 
   -- a new entry between two stretches of the list
   module _ (a : Arena (Link T)) (first last : Option ℕ) (xs ys : List (Entry T)) (j : ℕ) (rest : List ℕ) (item : T) where
@@ -156,26 +146,12 @@ module _ {T : Type 0} where
     slots-removed : times k (xs ++ e ∷ ys) ≤ 1 → o ≡ link_at (xs ++ e ∷ ys) k
         → relinked (last_or None xs) (first_or None ys) (first_or None ys) (last_or None xs) k (if e.index == k then None else o)
         ≡ link_at (xs ++ ys) k
-    slots-removed once was =
-        rw (link_between-append None None xs ys k)
-        (elim (eqb_tells e.index k) [
-          | inl h ↦
-              let parts : times k xs + times k ys ≡ 0 = omega (arith, times-append k xs (e ∷ ys), times-here k e ys h.1) in
-              let left_k : times k xs ≡ 0 = omega arith in
-              let right_k : times k ys ≡ 0 = omega arith in
-              rw (h.0, link_between-absent None (first_or None ys) xs k left_k, link_between-absent (last_or None xs) None ys k right_k) (relinked-apart xs ys (first_or None ys) (last_or None xs) k None left_k right_k)
-          | inr h ↦
-              let parts : times k xs + times k ys ≤ 1 = omega (arith, times-append k xs (e ∷ ys), times-there k e ys h.1) in
-              rw (h.0, was, link_between-append None None xs (e ∷ ys) k, h.0) (sym (seam-relinked xs ys (Some e.index) (Some e.index) (first_or None ys) (last_or None xs) k parts))
-        ])
+    slots-removed once was = grind (arith, common_steps, link_between-append, times-append, times-here, link_between-absent, relinked-apart, times-there, seam-relinked)
 
   -- an entry stands in its slot
   module _ (a : Arena (Link T)) (first last : Option ℕ) (xs : List (Entry T)) (e : Entry T) (ys : List (Entry T)) where
     pub slot-laid_out : IsLaidOut a.slots first last (xs ++ e ∷ ys) → slot a e.index ≡ Some (e.generation, link_amid xs e.item ys)
-    slot-laid_out laid =
-        let once = laid.distinct e.index in
-        let gone : times e.index xs ≡ 0 = omega (arith, times-append e.index xs (e ∷ ys), times-here e.index e ys refl) in
-        laid.links e.index ∙ rw (link_between-append None None xs (e ∷ ys) e.index, link_between-absent None (Some e.index) xs e.index gone, same_index e.index) refl
+    slot-laid_out laid = grind (arith, common_steps, times-append, times-here, link_between-append, link_between-absent, same_index)
 
   -- a slot that holds something is within the arena
   pub slot-within : (a : Arena (Link T)) (i : ℕ) (e : ℕ × Link T) → slot a i ≡ Some e → i < length a.slots

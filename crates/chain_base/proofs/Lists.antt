@@ -1,5 +1,5 @@
 -- Lists of entries: where an index stands, and what an insertion or a removal there does to the links.
-use Rattle.std.proofs.Common.{◌≡◌, ◌≢◌, ℕ, zero, suc, ◌+◌, ◌≤◌, ◌==◌, Bool, true, false, List, [], ◌∷◌, ◌++◌, length, Option, Some, None, refl, sym, ap, arith, if◌then◌else◌, inl, inr, ◌⊎◌}
+use Rattle.std.proofs.Common.{◌≡◌, ◌≢◌, ℕ, zero, suc, ◌+◌, ◌≤◌, ◌==◌, Bool, true, false, List, [], ◌∷◌, ◌++◌, length, Option, Some, None, refl, ap, arith, if◌then◌else◌, inl, inr, ◌⊎◌}
 use Rattle.std.proofs.lemmas.Grind.{common_steps}
 use Rattle.std.proofs.lemmas.Bool.Decides.{nat_tests, eqb_tells}
 use Rattle.std.specs.Option.{option_or, option_map}
@@ -18,8 +18,7 @@ option_or-none (Some x) = refl
 
 pub names_tells : (o : Option ℕ) (i : ℕ) → ((names o i ≡ true) × (o ≡ Some i)) ⊎ ((names o i ≡ false) × (o ≢ Some i))
 names_tells None i = inr (refl, λ h. cc)
-names_tells (Some j) i =
-    elim (eqb_tells j i) [ inl h ↦ inl (h.0, ap Some h.1) | inr h ↦ inr (h.0, λ same. h.1 (let e : j ≡ i = cc in e)) ]
+names_tells (Some j) i = grind (arith, common_steps, i)
 
 -- an index is itself
 pub same_index : (i : ℕ) → (i == i) ≡ true
@@ -55,8 +54,7 @@ module _ {T : Type 0} where
   pub link_between-append : (before after : Option ℕ) (xs ys : List (Entry T)) (i : ℕ)
       → link_between before after (xs ++ ys) i ≡ option_or (link_between before (first_or after ys) xs i) (link_between (last_or before xs) after ys i)
   link_between-append before after [] ys i = refl
-  link_between-append before after (x ∷ xs) ys i =
-      rw (first_or-append after xs ys, link_between-append (Some x.index) after xs ys i) (sym (option_or-if (x.index == i) _ _ _))
+  link_between-append before after (x ∷ xs) ys i = grind (arith, common_steps, link_between-append (Some x.index) after xs ys i)
 
   -- the last index stands in the list
   pub times-last : (es : List (Entry T)) (i : ℕ) → last_or None es ≡ Some i → 1 ≤ times i es

@@ -1,7 +1,7 @@
 -- The places of indexes among those with an entry, counted by rising index.
-use Rattle.std.proofs.Common.{◌≡◌, ℕ, zero, suc, ◌+◌, ◌-◌, ◌<◌, ◌≤◌, List, [], ◌∷◌, ◌++◌, length, map, take, replicate, slice_get, Option, Some, None, is_some, count_by, cond, get_or, refl, sym, ap, ◌∙◌, arith, inl, inr, add-one, zero-add}
+use Rattle.std.proofs.Common.{◌≡◌, ℕ, zero, suc, ◌+◌, ◌-◌, ◌<◌, ◌≤◌, List, [], ◌∷◌, ◌++◌, length, map, take, replicate, slice_get, Option, Some, None, is_some, count_by, cond, get_or, refl, sym, ap, ◌∙◌, arith, add-one, zero-add}
 use Rattle.std.proofs.lemmas.Grind.{common_steps}
-use Rattle.std.proofs.lemmas.Bool.Decides.{leb_tells, nat_tests}
+use Rattle.std.proofs.lemmas.Bool.Decides.{nat_tests}
 use Rattle.std.proofs.lemmas.Bool.{false≢true}
 use Rattle.std.proofs.lemmas.Option.{none-some, same_Some}
 use Rattle.std.proofs.lemmas.List.{take_all, get_or_past}
@@ -44,19 +44,8 @@ module _ {T : Type 0} where
   place-slots slots es distinct links (suc i) = let more = step (place-slots slots es distinct links i) (get_or slots i None) refl in rw add-one at more
     where
       step : count_by is_some (take i slots) ≡ lesser es i → (o : Option (ℕ × Link T)) → get_or slots i None ≡ o → count_by is_some (take (i + 1) slots) ≡ lesser es (i + 1)
-      step ih None here =
-          let absent : times i es ≡ 0 = times-unlinked None None es i (sym (links i) ∙ here) in
-          elim (leb_tells (i + 1) (length slots)) [
-            | inl h ↦ count_by_more_no is_some slots i None (omega (arith, h.1)) (ap is_some here) ∙ omega (arith, ih, lesser-next es i)
-            | inr h ↦
-                let whole : take (i + 1) slots ≡ take i slots = take_all (i + 1) slots (omega (arith, h.1)) ∙ sym (take_all i slots (omega (arith, h.1))) in
-                ap (count_by is_some) whole ∙ omega (arith, ih, lesser-next es i)
-          ]
-      step ih (Some e) here =
-          elim (leb_tells (i + 1) (length slots)) [
-            | inl h ↦ count_by_more_yes is_some slots i None (omega (arith, h.1)) (ap is_some here) ∙ omega (arith, ih, lesser-next es i, distinct i, linked-occurs es i e (sym (links i) ∙ here))
-            | inr h ↦ absurd (none-some e (sym (get_or_past slots i None (omega (arith, h.1))) ∙ here))
-          ]
+      step ih None here = grind (arith, common_steps, i, times-unlinked, here, count_by_more_no, lesser-next, take_all)
+      step ih (Some e) here = grind (arith, common_steps, i, count_by_more_yes, here, lesser-next, distinct, linked-occurs, get_or_past)
 
 -- the entries of slots by rising index, and their places
 module _ {X : Type 0} where

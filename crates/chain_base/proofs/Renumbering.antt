@@ -14,11 +14,7 @@ module _ {T : Type 0} where
   -- the link of an entry at its place
   pub link_at-split : (es xs : List (Entry T)) (e : Entry T) (ys : List (Entry T)) → es ≡ xs ++ e ∷ ys → IsDistinct es → (i : ℕ) → e.index ≡ i
       → link_at es i ≡ Some (e.generation, record { item = e.item; prev = last_or None xs; next = first_or None ys })
-  link_at-split es xs e ys split distinct i here =
-      let gone : times e.index xs ≡ 0 =
-      let once : times e.index (xs ++ e ∷ ys) ≤ 1 = rw (← split) (distinct e.index) in
-      omega (arith, times-append e.index xs (e ∷ ys), times-here e.index e ys refl) in
-      rw (split, ← here, link_between-append None None xs (e ∷ ys) e.index, link_between-absent None (Some e.index) xs e.index gone, same_index e.index) refl
+  link_at-split es xs e ys split distinct i here = grind (arith, common_steps, split, distinct, times-append, times-here, here, link_between-append, link_between-absent, same_index)
 
   -- the neighbours that the links name
   abbrev pub prev_at : List (Entry T) → ℕ → Option ℕ
@@ -39,18 +35,10 @@ module _ {T : Type 0} where
 
   -- an index with a link stands in the list
   pub linked-occurs : (es : List (Entry T)) (i : ℕ) (e : ℕ × Link T) → link_at es i ≡ Some e → 1 ≤ times i es
-  linked-occurs es i e is =
-      elim (eqb_tells (times i es) 0) [
-        | inl h ↦ absurd (none-some e (sym (link_between-absent None None es i h.1) ∙ is))
-        | inr h ↦ omega (arith, h.1)
-      ]
+  linked-occurs es i e is = grind (arith, common_steps, i, link_between-absent)
 
   pub named-occurs : (es : List (Entry T)) (i k : ℕ) (read : ℕ × Link T → Option ℕ) → option_and_then read (link_at es i) ≡ Some k → 1 ≤ times i es
-  named-occurs es i k read is =
-      elim (eqb_tells (times i es) 0) [
-        | inl h ↦ absurd (none-some k (sym (ap (option_and_then read) (link_between-absent None None es i h.1)) ∙ is))
-        | inr h ↦ omega (arith, h.1)
-      ]
+  named-occurs es i k read is = grind (arith, common_steps, i, link_between-absent)
 
   -- neighbours name each other
   pub next-of_prev : (es : List (Entry T)) → IsDistinct es → (i x : ℕ) → prev_at es i ≡ Some x → next_at es x ≡ Some i
@@ -129,15 +117,7 @@ module _ {T : Type 0} where
       times-changed x occurs = times-renumbered es x (λ y there same. apart y x there occurs same)
 
       pub distinct-renumbered : IsDistinct (map change es)
-      distinct-renumbered k =
-          elim (eqb_tells (times k (map change es)) 0) [
-            | inl h ↦ omega (arith, h.1)
-            | inr h ↦
-                let s = times-source es k (omega (arith, h.1)) in
-                let once = distinct s.0 in
-                let same : times k (map change es) ≡ times s.0 es = ap (λ i. times i (map change es)) (sym s.1) ∙ times-changed s.0 s.2 in
-                omega arith
-          ]
+      distinct-renumbered k = grind (arith, common_steps, change, times-source, distinct, times-changed)
 
       -- Slots that hold each changed entry with its neighbours renumbered, and nothing else, hold the changed list.
       pub IsLaidOut-renumbered : (slots : List (Option (ℕ × Link T))) (first last : Option ℕ)

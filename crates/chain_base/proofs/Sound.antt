@@ -1,7 +1,6 @@
 -- What is true of every arena, said of the chain that lies in it.
-use Rattle.std.proofs.Common.{◌≡◌, ℕ, ◌<◌, ◌≤◌, List, [], ◌∷◌, Option, Some, None, refl, sym, ap, ◌∙◌, arith, inl, inr, get_or, take, Result, Ok, Err, OnOk, OnErr}
+use Rattle.std.proofs.Common.{◌≡◌, ℕ, ◌<◌, ◌≤◌, List, [], ◌∷◌, Option, Some, None, refl, sym, ap, ◌∙◌, arith, get_or, take, Result, Ok, Err, OnOk, OnErr}
 use Rattle.std.proofs.lemmas.Grind.{common_steps}
-use Rattle.std.proofs.lemmas.Bool.Decides.{eqb_tells}
 use Rattle.std.specs.Option.{option_map, ForSome}
 use Rattle.arena_base.specs.Generation.{IsLawfulGeneration}
 use Rattle.arena_base.specs.Arena.{Arena, slot, arena_capacity, times as times_among, IsSound as IsSoundArena}
@@ -25,13 +24,7 @@ module _ {T : Type 0} where
 
   -- an index of the list is above 0
   occupied-above : (a : Arena (Link T)) (es : List (Entry T)) (i : ℕ) → take 1 a.slots ≡ None ∷ [] → slot a i ≡ link_at es i → 1 ≤ times i es → 0 < i
-  occupied-above a es i begins links occurs =
-      elim (eqb_tells i 0) [
-        | inl h ↦
-            let vacant : slot a i ≡ None = ap (slot a) h.1 ∙ first-vacant a.slots begins in
-            absurd (omega (arith, times-unlinked None None es i (sym links ∙ vacant)))
-        | inr h ↦ omega arith
-      ]
+  occupied-above a es i begins links occurs = grind (arith, common_steps, i, first-vacant, begins, times-unlinked)
 
   -- a lawful slot has a lawful entry
   lawful-entry : (greatest : Option ℕ) (o : Option (ℕ × Link T)) → ForSome o (λ e. IsLawfulGeneration greatest e.0)

@@ -1,7 +1,6 @@
 -- What each call does to the chain that lies in the arena.
-use Rattle.std.proofs.Common.{◌≡◌, ℕ, zero, suc, ◌+◌, ◌-◌, ◌<◌, ◌≤◌, true, List, [], ◌∷◌, ◌++◌, length, Option, Some, None, IsSome, is_some, refl, sym, ap, subst, ◌∙◌, arith, if◌then◌else◌, inl, inr, get_or, set, slice_get, length-set, replicate}
+use Rattle.std.proofs.Common.{◌≡◌, ℕ, zero, suc, ◌+◌, ◌-◌, ◌<◌, ◌≤◌, true, List, [], ◌∷◌, ◌++◌, length, Option, Some, None, IsSome, is_some, refl, sym, ap, subst, ◌∙◌, arith, if◌then◌else◌, get_or, set, slice_get, length-set, replicate}
 use Rattle.std.proofs.lemmas.Grind.{common_steps}
-use Rattle.std.proofs.lemmas.Bool.Decides.{eqb_tells}
 use Rattle.std.proofs.lemmas.List.{length-replicate}
 use Rattle.std.specs.Option.{option_map}
 use Rattle.arena_base.specs.Generation.{next_generation}
@@ -192,12 +191,7 @@ module _ {T : Type 0} where
   IsLaidOut-cleared n = grind (arith, common_steps)
 
   pub chain_of-cleared : (greatest : Option ℕ) (a : Arena (Link T)) (first : Option ℕ) → chain_of (arena_cleared greatest a) None ≡ cleared greatest (chain_of a first)
-  chain_of-cleared greatest a first =
-      let n = length a.slots in
-      let laid = IsLaidOut-cleared n in
-      let size : length (replicate n (let none : Option (ℕ × Link T) = None in none)) - 1 ≡ n - 1 = ap (λ m. m - 1) (length-replicate n _) in
-      chain_of-laid_out (arena_cleared greatest a) None None (cleared greatest (chain_of a first)) laid size
-      (vacant-links (replicate n None) [] laid.links ∙ ap (vacant_indexes {T = T} []) size) refl refl
+  chain_of-cleared greatest a first = grind (arith, common_steps, IsLaidOut-cleared, length-replicate, chain_of-laid_out (arena_cleared greatest a) None None (cleared greatest (chain_of a first)), first, vacant-links)
 
   -- a chain without one entry
   pub record Removes (greatest : Option ℕ) (a b : Arena (Link T)) (first first2 last2 : Option ℕ) (i : ℕ) : Type 0 where
@@ -235,11 +229,7 @@ module _ {T : Type 0} where
 
   -- a slot that holds a link has its index in the list
   pub occurs-held : (a : Arena (Link T)) (es : List (Entry T)) (i : ℕ) (e : ℕ × Link T) → slot a i ≡ Some e → slot a i ≡ link_at es i → 1 ≤ times i es
-  occurs-held a es i e held links =
-      elim (eqb_tells (times i es) 0) [
-        | inl h ↦ absurd (let none = link_between-absent None None es i h.1 in cc)
-        | inr h ↦ omega arith
-      ]
+  occurs-held a es i e held links = grind (arith, common_steps, i, link_between-absent)
 
   -- the entry at a known place is taken out
   module _ (greatest : Option ℕ) (a : Arena (Link T)) (first last : Option ℕ) (front : List (Entry T)) (x : Entry T) (back : List (Entry T)) where

@@ -146,11 +146,4 @@ module _ {T : Type 0} where
 
   -- the greatest occupied index of an arena whose slots hold the links of a list
   pub greatest-links : (slots : List (Option (ℕ × Link T))) (es : List (Entry T)) → ((i : ℕ) → get_or slots i None ≡ link_at es i) → greatest_occupied slots ≡ greatest_index es
-  greatest-links slots es links =
-      let up : greatest_index es ≤ greatest_occupied slots = greatest-below slots es links in
-      elim (greatest-or_none slots) [
-        | inl h ↦ omega arith
-        | inr h ↦
-            let occurs = occurs-links slots es links (greatest_occupied slots) h in
-            omega (arith, below-greatest_index es (greatest_occupied slots) occurs)
-      ]
+  greatest-links slots es links = grind (arith, common_steps, greatest-below slots es links, greatest-or_none slots, occurs-links slots es links (greatest_occupied slots), below-greatest_index es (greatest_occupied slots))
