@@ -21,8 +21,8 @@ pub use Rattle.chain_base.proofs.Ranking.{lesser-zero, lesser-next, compressed-a
 pub use Rattle.chain_base.proofs.Canonical.{occurs-entry}
 -- the greatest index with an entry
 pub use Rattle.chain_base.proofs.Vacancy.{below-greatest, greatest-or_none, times-greatest, below-greatest_index}
--- a growth keeps the entries, an insertion the capacity
-pub use Rattle.chain_base.proofs.Room.{with_room-entries, inserted-capacity}
+-- an insertion keeps the capacity
+pub use Rattle.chain_base.proofs.Room.{inserted-capacity}
 -- entries at their places by rising index have the items that they had
 pub use Rattle.chain_base.proofs.Canonical.{relocated-items}
 

@@ -170,10 +170,6 @@ module _ {T : Type 0} where
   exchanged-items [] i j = refl
   exchanged-items (e ∷ es) i j = ap (λ rest. e.item ∷ rest) (exchanged-items es i j)
 
-  -- numbered entries
-  entry-of : ℕ → ℕ → T → Entry T
-  entry-of i g item = record { index = i; generation = g; item = item }
-
   -- entries numbered in a row, and one more
   pub numbered-push : (g from : ℕ) (xs : List T) (x : T) → numbered g from (xs ++ x ∷ []) ≡ numbered g from xs ++ record { index = from + length xs; generation = g; item = x } ∷ []
   numbered-push g from [] x = let at : from + 0 ≡ from = omega arith in rw at refl

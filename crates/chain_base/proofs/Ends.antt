@@ -5,7 +5,7 @@ use Rattle.std.proofs.lemmas.Bool.Decides.{eqb_tells}
 use Rattle.std.specs.Option.{option_map}
 use Rattle.arena_base.specs.Arena.{Arena, slot, item_if, item_of as slot_item, IsFirstEntry, IsLastEntry}
 use Rattle.chain_base.specs.Link.{Link}
-use Rattle.chain_base.specs.Chain.{Entry, times, entry_at, link_at, first_or, last_or, first_pointer, last_pointer, pointed, item_of, generation_at, IsFirstIndex, IsLastIndex}
+use Rattle.chain_base.specs.Chain.{Entry, times, entry_at, link_at, last_or, last_pointer, pointed, item_of, generation_at, IsFirstIndex, IsLastIndex}
 use Rattle.chain_base.specs.Layout.{chain_of, IsLaidOut}
 use Rattle.chain_base.proofs.Lists.{times-here, times-there, times-last, times-unlinked, entry_at-link}
 
@@ -15,15 +15,6 @@ some-of f None p same some = rw (← same) at some
 some-of f (Some x) p same some = refl
 
 module _ {T : Type 0} where
-  -- the pointer to the first index is the first pointer
-  pub pointed-first : (es : List (Entry T)) (i : ℕ) → first_or None es ≡ Some i → pointed i (entry_at es i) ≡ first_pointer es
-  pointed-first [] i first = absurd (cc)
-  pointed-first (e ∷ es) i first = grind (arith, common_steps)
-
-  pub first_pointer-none : (es : List (Entry T)) → first_or None es ≡ None → first_pointer es ≡ None
-  first_pointer-none [] none = refl
-  first_pointer-none (e ∷ es) none = absurd (cc)
-
   -- the pointer to the last index is the last pointer
   pub pointed-last : (es : List (Entry T)) (i : ℕ) → times i es ≤ 1 → last_or None es ≡ Some i → pointed i (entry_at es i) ≡ last_pointer es
   pointed-last [] i once last = absurd (cc)

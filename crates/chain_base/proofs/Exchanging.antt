@@ -7,11 +7,11 @@ use Rattle.arena_base.specs.Pointer.{named_of}
 use Rattle.arena_base.specs.Arena.{Arena, slot, with_slot, with_item_of, swapped}
 use Rattle.chain_base.specs.Link.{Link}
 use Rattle.chain_base.specs.Chain.{Entry, Chain, times, entry_at, link_at, IsOccupied, IsSound}
-use Rattle.chain_base.specs.Layout.{chain_of, names, with_next, with_prev, linked_next, linked_prev, IsLaidOut}
+use Rattle.chain_base.specs.Layout.{chain_of, names, linked_next, linked_prev, IsLaidOut}
 use Rattle.chain_base.specs.Exchange.{exchanged_index, in_exchange, exchanged, index_before, IsEven}
 use Rattle.chain_base.specs.Walk.{index_after}
 use Rattle.chain_base.proofs.Lists.{entry_at-link, entry_at-absent, same_index, other_index}
-use Rattle.chain_base.proofs.LaidOut.{slot-with_other, slot-with_same, slot-within, slot-linked_next, slot-linked_prev, walk-laid_out}
+use Rattle.chain_base.proofs.LaidOut.{slot-with_other, slot-with_same, slot-within, walk-laid_out}
 use Rattle.chain_base.proofs.Renumbering.{link_at-split, prev_at, next_at, named-occurs, next-of_prev, prev-of_next, times-changed, IsLaidOut-renumbered}
 use Rattle.chain_base.proofs.Ranking.{counts-alike}
 use Rattle.arena_base.proofs.CallerLemmas.{limit_of-below}
@@ -55,31 +55,9 @@ module _ {T : Type 0} where
   held-if f true (Some e) = refl
   held-if f false o = refl
 
-  held-next : (a : Arena (Link T)) (at v : Option ℕ) (k : ℕ) → is_some (slot (linked_next a at v) k) ≡ is_some (slot a k)
-  held-next a at v k = ap is_some (slot-linked_next a at v k) ∙ held-if (with_next v) (names at k) (slot a k)
-
-  held-prev : (a : Arena (Link T)) (at v : Option ℕ) (k : ℕ) → is_some (slot (linked_prev a at v) k) ≡ is_some (slot a k)
-  held-prev a at v k = ap is_some (slot-linked_prev a at v k) ∙ held-if (with_prev v) (names at k) (slot a k)
-
-  long-next : (a : Arena (Link T)) (at v : Option ℕ) → length (linked_next a at v).slots ≡ length a.slots
-  long-next a None v = refl
-  long-next a (Some k) v = length-set a.slots k _
-
-  long-prev : (a : Arena (Link T)) (at v : Option ℕ) → length (linked_prev a at v).slots ≡ length a.slots
-  long-prev a None v = refl
-  long-prev a (Some k) v = length-set a.slots k _
-
   -- a with other slots
   abbrev with_slots : Arena (Link T) → List (Option (ℕ × Link T)) → Arena (Link T)
   with_slots a slots = record a { slots = slots }
-
-  kept-next : (a : Arena (Link T)) (at v : Option ℕ) → linked_next a at v ≡ with_slots a (linked_next a at v).slots
-  kept-next a None v = refl
-  kept-next a (Some k) v = refl
-
-  kept-prev : (a : Arena (Link T)) (at v : Option ℕ) → linked_prev a at v ≡ with_slots a (linked_prev a at v).slots
-  kept-prev a None v = refl
-  kept-prev a (Some k) v = refl
 
   -- two arenas hold entries at the same indexes, and differ in their slots alone
   pub record Alike (a b : Arena (Link T)) : Type 0 where

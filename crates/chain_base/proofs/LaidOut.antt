@@ -23,10 +23,6 @@ module _ {T : Type 0} where
   pub slot-with_same : (a : Arena (Link T)) (i : ℕ) (s : Option (ℕ × Link T)) → i < length a.slots → slot (with_slot a i s) i ≡ s
   slot-with_same a i s within = get_or-set_same a.slots i s None within
 
-  -- a slot whose content is mapped holds the mapped content
-  slot-mapped_same : (a : Arena (Link T)) (i : ℕ) (f : ℕ × Link T → ℕ × Link T) → slot (with_slot a i (option_map f (slot a i))) i ≡ option_map f (slot a i)
-  slot-mapped_same a i f = grind (arith, common_steps)
-
   -- what the slots hold once one is filled
   pub slot-filled : (a : Arena (Link T)) (j k : ℕ) (e : ℕ × Link T) → j < length a.slots → slot (with_slot a j (Some e)) k ≡ (if j == k then Some e else slot a k)
   slot-filled a j k e within = grind (arith, common_steps)
@@ -38,14 +34,6 @@ module _ {T : Type 0} where
   -- a map of what a slot holds
   pub slot-mapped : (a : Arena (Link T)) (i k : ℕ) (f : ℕ × Link T → ℕ × Link T) → slot (with_slot a i (option_map f (slot a i))) k ≡ (if i == k then option_map f (slot a k) else slot a k)
   slot-mapped a i k f = grind (arith, common_steps)
-
-  pub slot-linked_next : (a : Arena (Link T)) (at next : Option ℕ) (k : ℕ) → slot (linked_next a at next) k ≡ (if names at k then option_map (with_next next) (slot a k) else slot a k)
-  slot-linked_next a None next k = refl
-  slot-linked_next a (Some i) next k = slot-mapped a i k (with_next next)
-
-  pub slot-linked_prev : (a : Arena (Link T)) (at prev : Option ℕ) (k : ℕ) → slot (linked_prev a at prev) k ≡ (if names at k then option_map (with_prev prev) (slot a k) else slot a k)
-  slot-linked_prev a None prev k = refl
-  slot-linked_prev a (Some i) prev k = slot-mapped a i k (with_prev prev)
 
   -- what the slots hold after both writes of a seam
   pub slot-relinked : (a : Arena (Link T)) (left next right prev : Option ℕ) (k : ℕ) → slot (linked_prev (linked_next a left next) right prev) k ≡ relinked left next right prev k (slot a k)

@@ -1,16 +1,11 @@
 -- Lists of entries: where an index stands, and what an insertion or a removal there does to the links.
-use Rattle.std.proofs.Common.{◌≡◌, ◌≢◌, ℕ, zero, suc, ◌+◌, ◌≤◌, ◌==◌, Bool, true, false, List, [], ◌∷◌, ◌++◌, length, Option, Some, None, refl, ap, arith, if◌then◌else◌, inl, inr, ◌⊎◌}
+use Rattle.std.proofs.Common.{◌≡◌, ◌≢◌, ℕ, zero, suc, ◌+◌, ◌≤◌, ◌==◌, true, false, List, [], ◌∷◌, ◌++◌, length, Option, Some, None, refl, ap, arith, if◌then◌else◌, inl, inr, ◌⊎◌}
 use Rattle.std.proofs.lemmas.Grind.{common_steps}
 use Rattle.std.proofs.lemmas.Bool.Decides.{nat_tests, eqb_tells}
 use Rattle.std.specs.Option.{option_or, option_map}
 use Rattle.chain_base.specs.Link.{Link}
 use Rattle.chain_base.specs.Layout.{walk, names, with_next, with_prev, relinked}
 use Rattle.chain_base.specs.Chain.{Entry, times, entry_at, first_or, last_or, link_between, insert_after, insert_before, without, with_item_among, with_generation}
-
--- a choice in the first of two options
-pub option_or-if : {A : Type 0} (b : Bool) (x : A) (o p : Option A) → option_or (if b then Some x else o) p ≡ (if b then Some x else option_or o p)
-option_or-if true x o p = refl
-option_or-if false x o p = refl
 
 pub option_or-none : {A : Type 0} (o : Option A) → option_or o None ≡ o
 option_or-none None = refl

@@ -83,10 +83,6 @@ module _ {T : Type 0} where
       at front e [] split here first = ap (last_or None) split ∙ (last_or-append None front (e ∷ []) ∙ ap Some here)
       at front e (f ∷ back) split here first = absurd (none-some f.index (sym first))
 
-  -- the first has no neighbour before it, the last none behind it
-  pub unnamed-first : (e : Entry T) (es : List (Entry T)) → IsDistinct (e ∷ es) → prev_at (e ∷ es) e.index ≡ None
-  unnamed-first e es distinct = ap (option_and_then (λ e. e.1.prev)) (link_at-split (e ∷ es) [] e es refl distinct e.index refl)
-
   pub unnamed-last : (es : List (Entry T)) → IsDistinct es → (i : ℕ) → last_or None es ≡ Some i → next_at es i ≡ None
   unnamed-last es distinct i last =
       let f = last_or-some es i last in

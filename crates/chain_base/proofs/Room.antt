@@ -1,24 +1,15 @@
 -- Room for one more entry: where a chain has it, and what a growth makes of it.
-use Rattle.std.proofs.Common.{◌≡◌, ℕ, zero, suc, ◌+◌, ◌<◌, ◌≤◌, true, false, List, [], ◌∷◌, length, Option, IsSome, is_some, slice_get, Result, Ok, Err, IfOk, OnErr, max, refl, ap, ◌∙◌, arith}
+use Rattle.std.proofs.Common.{◌≡◌, ℕ, zero, suc, ◌+◌, ◌<◌, ◌≤◌, false, List, [], ◌∷◌, length, Option, IsSome, is_some, slice_get, Result, Ok, Err, IfOk, OnErr, max, refl, ap, ◌∙◌, arith}
 use Rattle.std.proofs.lemmas.Grind.{common_steps}
 use Rattle.chain_base.specs.Chain.{Entry, Chain, times, inserted_at, greatest_index, vacant_among, next_index, grown_capacity, with_capacity, with_room, IsSound}
 use Rattle.chain_base.specs.Insert.{IsInsertion}
 use Rattle.chain_base.proofs.Vacancy.{times-greatest}
-
--- a list has a first where it isn't empty
-head-there : (is : List ℕ) → 0 < length is → is_some (slice_get is 0) ≡ true
-head-there [] some = absurd (omega arith)
-head-there (i ∷ is) some = refl
 
 head-absent : (is : List ℕ) → length is ≡ 0 → is_some (slice_get is 0) ≡ false
 head-absent [] none = refl
 head-absent (i ∷ is) none = absurd (omega arith)
 
 module _ {T : Type 0} where
-  -- a growth that makes room keeps the entries
-  pub with_room-entries : (most : ℕ) (c : Chain T) → (with_room most c).entries ≡ c.entries
-  with_room-entries most c = grind (arith, common_steps)
-
   -- an insertion keeps the capacity
   pub inserted-capacity : (c : Chain T) (place : Entry T → List (Entry T)) (item : T) (vacant : List ℕ) → (inserted_at c place item vacant).capacity ≡ c.capacity
   inserted-capacity c place item [] = refl
@@ -39,12 +30,6 @@ module _ {T : Type 0} where
     greatest-within : (es : List (Entry T)) → c.entries ≡ es → greatest_index es ≤ c.capacity
     greatest-within [] is = omega arith
     greatest-within (e ∷ es) is = (sound.within (greatest_index (e ∷ es)) (rw is (times-greatest e es))).1
-
-    pub next-vacant : length c.entries < c.capacity → IsSome (next_index c)
-    next-vacant room = head-there c.vacant (omega (arith, sound.counted))
-
-    pub with_room-vacant : length c.entries < c.capacity → c ≡ with_room most c
-    with_room-vacant room = rw (next-vacant room) refl
 
     -- where no slot is vacant, a capacity above the present one has a vacant index
     module _ (full : c.capacity ≤ length c.entries) (n : ℕ) (more : c.capacity < n) where

@@ -51,14 +51,6 @@ module _ {T : Type 0} where
     pub generation : new.generation ≡ old.generation
     pub maximum : new.maximum ≡ old.maximum
 
-  pub SameAside-linked_next : (a : Arena (Link T)) (at next : Option ℕ) → SameAside a (linked_next a at next)
-  SameAside-linked_next a None next = record { capacity = refl; vacant = refl; generation = refl; maximum = refl }
-  SameAside-linked_next a (Some i) next = record { capacity = ap (λ n. n - 1) (length-set a.slots i _); vacant = refl; generation = refl; maximum = refl }
-
-  pub SameAside-linked_prev : (a : Arena (Link T)) (at prev : Option ℕ) → SameAside a (linked_prev a at prev)
-  SameAside-linked_prev a None prev = record { capacity = refl; vacant = refl; generation = refl; maximum = refl }
-  SameAside-linked_prev a (Some i) prev = record { capacity = ap (λ n. n - 1) (length-set a.slots i _); vacant = refl; generation = refl; maximum = refl }
-
   pub SameAside-both : (a : Arena (Link T)) (left next right prev : Option ℕ) → SameAside a (linked_prev (linked_next a left next) right prev)
   SameAside-both a left next right prev = grind (arith, common_steps)
 

@@ -207,12 +207,6 @@ module _ {P Q T U M : Type 0} (numbers_from : Q → ℕ × ℕ) (numbers_to : P 
     maximum = t.maximum ∙ h.maximum;
   }
 
-  pub rest-some : (rest : Chain U) (now : Chain T) (n : M) (h : Taken rest now n) → length h.gone < length source.entries → 0 < length rest.entries
-  rest-some rest now n h less = omega (arith, less, ap length h.split, length-append h.gone rest.entries)
-
-  pub rest-none : (rest : Chain U) (now : Chain T) (n : M) (h : Taken rest now n) → length source.entries ≤ length h.gone → rest.entries ≡ []
-  rest-none rest now n h all = grind (arith, common_steps)
-
 -- the last index is one more
 pub last-more : {I T : Type 0} (number : I → ℕ) (i : I) (items : List T) (item : T) → number i ≡ length items + 1 → Some (number i) ≡ last_of (length (items ++ item ∷ []))
 last-more number i items item at = grind (arith, common_steps)

@@ -113,9 +113,6 @@ module _ {T : Type 0} where
   pub vacant-links : (slots : List (Option (ℕ × Link T))) (es : List (Entry T)) → ((i : ℕ) → get_or slots i None ≡ link_at es i) → slots_vacant slots ≡ vacant_indexes es (length slots - 1)
   vacant-links slots es links = grind (arith, common_steps, vacant_from-links (drop 1 slots) es 1, get_or_after_one slots, length-drop 1 slots)
 
-  occurs-more : (i : ℕ) (e : Entry T) (es : List (Entry T)) → 1 ≤ times i es → 1 ≤ times i (e ∷ es)
-  occurs-more i e es occurs = omega arith
-
   -- the greatest index of a list occurs in it
   pub times-greatest : (e : Entry T) (es : List (Entry T)) → 1 ≤ times (greatest_index (e ∷ es)) (e ∷ es)
   times-greatest e [] = let same : e.index ≡ max e.index 0 = omega arith in omega (arith, times-here (max e.index 0) e [] same)
