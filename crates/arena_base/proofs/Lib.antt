@@ -1,4 +1,6 @@
 pub mod CallerLemmas
+pub mod CloneFacts
+pub mod Cloning
 pub mod Compressing
 pub mod Occupied
 pub mod Positions

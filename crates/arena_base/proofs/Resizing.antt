@@ -14,11 +14,11 @@ use Rattle.arena_base.proofs.Vacancies.{length-vacant_from-padded}
 use Rattle.arena_base.proofs.Steps.{arena_capacity-of, entry-at, entry-within, list-view, list-sound}
 use Rattle.arena_base.proofs.Soundness.{arena, sound-new}
 
-map-replicate : {X Y : Type 0} (f : X → Y) (n : ℕ) (x : X) → map f (replicate n x) ≡ replicate n (f x)
+pub map-replicate : {X Y : Type 0} (f : X → Y) (n : ℕ) (x : X) → map f (replicate n x) ≡ replicate n (f x)
 map-replicate f zero x = refl
 map-replicate f (suc n) x = ap (λ rest. f x ∷ rest) (map-replicate f n x)
 
-get_or-all_default : {X : Type 0} (n k : ℕ) (x : X) → get_or (replicate n x) k x ≡ x
+pub get_or-all_default : {X : Type 0} (n k : ℕ) (x : X) → get_or (replicate n x) k x ≡ x
 get_or-all_default zero k x = refl
 get_or-all_default (suc n) zero x = refl
 get_or-all_default (suc n) (suc k) x = get_or-all_default n k x
@@ -36,12 +36,12 @@ module _ {X : Type 0} where
             ∙ (sym (append-nil (take n slots)) ∙ ap (λ m. take n slots ++ replicate m None) (sym none_more))
       ]
 
-  resized-cons : (n : ℕ) (slots : List (Option X)) → resized (n + 1) (None ∷ slots) ≡ None ∷ (take n slots ++ replicate (n - length slots) None)
+  pub resized-cons : (n : ℕ) (slots : List (Option X)) → resized (n + 1) (None ∷ slots) ≡ None ∷ (take n slots ++ replicate (n - length slots) None)
   resized-cons n slots =
       let less : n + 1 - suc (length slots) ≡ n - length slots = omega arith in
       rw (less, add-one) refl
 
-  get_or-pad : (n m : ℕ) (slots : List (Option X)) (k : ℕ) (e : X) → get_or (take n slots ++ replicate m None) k None ≡ Some e → get_or slots k None ≡ Some e
+  pub get_or-pad : (n m : ℕ) (slots : List (Option X)) (k : ℕ) (e : X) → get_or (take n slots ++ replicate m None) k None ≡ Some e → get_or slots k None ≡ Some e
   get_or-pad zero m slots k e is = absurd (none-some e (sym (get_or-all_default m k None) ∙ is))
   get_or-pad (suc n) m [] k e is = absurd (none-some e (sym (get_or-all_default m k None) ∙ is))
   get_or-pad (suc n) m (s ∷ slots) zero e is = is

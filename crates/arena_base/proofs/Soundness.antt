@@ -24,7 +24,7 @@ limit_of-below most (Some n) = omega arith
 
 module _ {T : Type 0} where
   -- a slot before others is counted with them
-  count_by-none : (slots : List (Option (ℕ × T))) → count_by is_some (None ∷ slots) ≡ count_by is_some slots
+  pub count_by-none : (slots : List (Option (ℕ × T))) → count_by is_some (None ∷ slots) ≡ count_by is_some slots
   count_by-none slots = sum_by-cons (λ x. cond (is_some x) 1 0) None slots ∙ zero-add (count_by is_some slots)
 
   -- the arena of these slots from index 1 on

@@ -1,4 +1,6 @@
 pub mod Arena
+pub mod Clone
+pub mod CloneSlots
 pub mod Compression
 pub mod CompressionSlots
 pub mod Drain

@@ -4,12 +4,14 @@ ghost use Rattle.arena_base.specs.Generation.{IsLawfulGeneration, overflows_afte
 ghost use Rattle.arena_base.specs.Invalidation.{is_overflow};
 ghost use Rattle.arena_base.specs.Arena.{arena_len, arena_capacity, arena_limit, raised, IsSound};
 
+mod clone;
 mod compress;
 mod drain;
 mod get;
 mod growth;
 mod index;
 mod insert;
+mod recast;
 mod remove;
 mod traits;
 mod walks;

@@ -1,10 +1,11 @@
 //! The laws of a finite map, of every arena: a call on one pointer leaves every other pointer what it finds.
-ghost use Rattle.std.specs.Prelude.{◌≡◌, ◌≢◌, ◌⊎◌, ℕ, IsTrue, true, false, Some, None, is_some, IfSome, IfNone};
+ghost use Rattle.std.specs.Prelude.{◌≡◌, ◌≢◌, ◌⊎◌, ℕ, IsTrue, true, false, Some, None, is_some, IfSome, IfNone, OnOk, OnErr};
 ghost use Rattle.arena_base.specs.Arena.{item_of, FindSame, FindSameBut};
 ghost use Rattle.arena_base.specs.Generation.{next_generation};
 
+use crate::error::ReallocationError;
 use crate::ptr::Ptr;
-use crate::traits::ArenaTrait;
+use crate::traits::{ArenaCloneFromWith, ArenaTrait};
 
 /// Takes out what the pointer names. Afterwards it names nothing. Where it named nothing, nothing changes.
 pub fn take<P: Ptr, T, A: ArenaTrait<P, T>>(arena: &mut A, p: P) -> Option<T>
@@ -59,4 +60,16 @@ pub fn empty<P: Ptr, T: Drop, A: ArenaTrait<P, T>>(arena: &mut A)
     ensures { (p : ℕ × ℕ) → item_of (A.content arena.new) p ≡ None }
 {
     let _ = arena.clear();
+}
+
+/// Copies the source into another arena, whose own entries are dropped. Afterwards every pointer finds in it what it finds in
+/// the source. Where that is refused, nothing changes.
+pub fn copy<P: Ptr, T: Copy + Drop, S: ArenaTrait<P, T>, A: ArenaCloneFromWith<P, T>>(
+    source: &S,
+    arena: &mut A,
+) -> Result<(), ReallocationError>
+    ensures found { OnOk result (FindSame (A.content arena.new) (S.content source.now)) }
+    ensures nothing { OnErr result (FindSame (A.content arena.new) (A.content arena.old)) }
+{
+    arena.clone_from_with(source, |_p, item| *item)
 }

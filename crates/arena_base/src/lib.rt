@@ -3,6 +3,7 @@
 
 mod advancer;
 mod arena;
+mod clone_entry;
 mod error;
 mod invalidation;
 mod items_mut;
@@ -16,6 +17,7 @@ mod traits;
 
 pub use advancer::Advancer;
 pub use arena::{Arena, Drain, PtrAdvancer};
+pub use clone_entry::{CloneEntry, TryCalls};
 pub use error::{InsertionError, MaxCapacityReductionError, ReallocationError};
 pub use invalidation::{InvalidationOption, InvalidationResult};
 pub use items_mut::ItemsMut;
@@ -26,4 +28,4 @@ pub use recast::{Recast, Recaster};
 // A crate can name an arena in a contract only if the types of its fields are exported.
 #[doc(hidden)]
 pub use slot::Slot;
-pub use traits::{ArenaTrait, CompactArenaTrait, SetMaxCapacity};
+pub use traits::{ArenaCloneFromWith, ArenaTrait, CompactArenaTrait, SetMaxCapacity};

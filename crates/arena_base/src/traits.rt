@@ -3,6 +3,7 @@ ghost use Rattle.std.specs.Prelude.{◌≡◌, ◌==◌, ◌<◌, ◌≤◌, ◌
 ghost use Rattle.std.specs.Option.{option_copied, option_copied_mut, option_map};
 ghost use Rattle.std.specs.Borrow.{sem, LendsIf};
 ghost use Rattle.arena_base.specs.Arena.{Arena as Content, HoldsSame, slot, item_of, arena_len, arena_capacity, arena_limit, new_arena, with_capacity, with_item, removed, renewed, cleared, greatest_occupied, IsLawful, IsOccupied, IsFirstEntry, IsLastEntry};
+ghost use Rattle.arena_base.specs.Clone.{HasSamePointers, IsClone, IsShown};
 ghost use Rattle.arena_base.specs.Compression.{compressed, compressed_generation, compression_overflows, items_rising, IsCompression};
 ghost use Rattle.arena_base.specs.Generation.{next_generation, overflows_after};
 ghost use Rattle.arena_base.specs.Invalidation.{valid_value, has_overflowed, is_overflow};
@@ -174,5 +175,32 @@ pub trait SetMaxCapacity<P: Ptr, T>: ArenaTrait<P, T> {
         ensures ok { OnOk result
             (HoldsSame (Self.content self.new) (record (Self.content self.old) { maximum = Some n })) }
         ensures refused { IsErr result ↔ (n < arena_capacity (Self.content self.old)) }
+        ensures err { OnErr result (HoldsSame (Self.content self.new) (Self.content self.old)) };
+}
+
+/// Arenas that can become a clone of another arena.
+pub trait ArenaCloneFromWith<P: Ptr, T>: ArenaTrait<P, T> {
+    /// Makes this arena a clone of the source, with items that `map` makes: it has the source's pointers and generation, and its
+    /// own old entries are dropped. For each entry of the source, by rising index, `map` is called with its pointer and a
+    /// reference to its item. The capacity grows to the source's greatest index with an entry, where it is less, before anything
+    /// else changes; the maximum stays.
+    ///
+    /// It is refused with `BeyondMaxCapacity` where that index is beyond this arena's limit, and with `AllocError` where the
+    /// capacity would grow and memory is refused. Nothing changes then, and `map` isn't called.
+    fn clone_from_with<U, S: ArenaTrait<P, U>, F: FnMut(P, &U) -> T + Drop>(
+        &mut self,
+        source: &S,
+        map: F,
+    ) -> Result<(), ReallocationError>
+    where
+        T: Drop,
+        requires { F.IsAlwaysCallable map }
+        ensures ok { OnOk result (IsClone P.numbers (IsShown F.step) map
+            (S.content source.now) (Self.content self.old) (Self.content self.new)) }
+        ensures pointers { OnOk result (HasSamePointers (Self.content self.new) (S.content source.now)) }
+        ensures beyond { (result ≡ Err ReallocationError.BeyondMaxCapacity)
+            ↔ (arena_limit P.Inx.most (Self.content self.old) < greatest_occupied (S.content source.now).slots) }
+        ensures memory { result ≡ Err ReallocationError.AllocError
+            → arena_capacity (Self.content self.old) < greatest_occupied (S.content source.now).slots }
         ensures err { OnErr result (HoldsSame (Self.content self.new) (Self.content self.old)) };
 }

@@ -164,7 +164,7 @@ impl<P: Ptr, T, A: Allocator> Arena<P, T, A> {
 }
 
 // Adds vacant slots until there are `n`.
-fn add_vacant<T, G, A: Allocator>(slots: &mut Vec<Slot<T, G>, A>, n: usize)
+pub(super) fn add_vacant<T, G, A: Allocator>(slots: &mut Vec<Slot<T, G>, A>, n: usize)
     requires { n ≤ vec_capacity slots.old }
     ensures items { slots.new.items ≡ slots.old.items ++ replicate (n - vec_len slots.old) Slot.Vacant }
     ensures capacity { vec_capacity slots.new ≡ vec_capacity slots.old }

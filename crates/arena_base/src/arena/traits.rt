@@ -5,7 +5,7 @@ use super::Arena;
 use crate::error::{MaxCapacityReductionError, ReallocationError};
 use crate::invalidation::{InvalidationOption, InvalidationResult};
 use crate::ptr::{Ptr, PtrGen, PtrInx};
-use crate::traits::{ArenaTrait, CompactArenaTrait, SetMaxCapacity};
+use crate::traits::{ArenaCloneFromWith, ArenaTrait, CompactArenaTrait, SetMaxCapacity};
 use std::alloc::{AllocError, Allocator};
 
 impl<P: Ptr, T, A: Allocator + Copy> ArenaTrait<P, T> for Arena<P, T, A> {
@@ -104,5 +104,18 @@ impl<P: Ptr, T, A: Allocator> CompactArenaTrait for Arena<P, T, A> {}
 impl<P: Ptr, T, A: Allocator + Copy> SetMaxCapacity<P, T> for Arena<P, T, A> {
     fn set_max_capacity(&mut self, n: usize) -> Result<(), MaxCapacityReductionError> {
         self.set_max_capacity(n)
+    }
+}
+
+impl<P: Ptr, T, A: Allocator + Copy> ArenaCloneFromWith<P, T> for Arena<P, T, A> {
+    fn clone_from_with<U, S: ArenaTrait<P, U>, F: FnMut(P, &U) -> T + Drop>(
+        &mut self,
+        source: &S,
+        map: F,
+    ) -> Result<(), ReallocationError>
+    where
+        T: Drop,
+    {
+        self.clone_from_with(source, map)
     }
 }

@@ -1,0 +1,189 @@
+-- What follows of a clone: its calls, told of another closure; its pointers; and a clone with the same items.
+use Rattle.std.proofs.Common.{Bool, true, false, cond, eqb, is_some, add-zero, ◌≡◌, ◌⊎◌, inl, inr, ℕ, zero, suc, ◌+◌, ◌-◌, ◌≤◌, ◌<◌, max, List, [], ◌∷◌, ◌++◌, length, map, Option, Some, None, Result, Ok, Err, replicate, take, get_or, refl, sym, ap, ◌∙◌, arith, subst}
+use Rattle.std.proofs.lemmas.Bool.{cases_lt}
+use Rattle.std.proofs.lemmas.List.{append_assoc, map_push, length_push, append-nil}
+use Rattle.std.proofs.lemmas.Option.{none-some, same_Some}
+use Rattle.std.specs.List.{FoldsTo}
+use Rattle.std.specs.Option.{option_map}
+use Rattle.std.specs.Result.{OnOk}
+use Rattle.std.specs.declared.alloc.AllocError.{AllocError}
+use Rattle.arena_base.specs.declared.error.ReallocationError.{ReallocationError}
+use Rattle.arena_base.specs.Walk.{entries_from, entries_rising}
+use Rattle.arena_base.specs.Arena.{Arena, FindSame, HoldsSame, item_if, arena_capacity, greatest_occupied, resized}
+use Rattle.arena_base.specs.Clone.{CloneStep, HasSamePointers, IsClone, IsRefusedClone, Grants, with_items, replaced}
+use Rattle.arena_base.proofs.Occupied.{greatest_occupied-above}
+use Rattle.arena_base.proofs.Resizing.{get_or-all_default, get_or-pad}
+
+-- Calls of one kind are calls of another: `state`, `from` and `to` give the other's states, the items that it is shown and those
+-- that it makes.
+module _ {P W X U T M F : Type 0} (numbers : P → ℕ × ℕ) (below : M → P → W → X → M → Type 0) (above : F → P → U → T → F → Type 0) (state : M → F) (from : W → U) (to : X → T)
+    (like : (m : M) (p : P) (w : W) (x : X) (n : M) → below m p w x n → above (state m) p (from w) (to x) (state n)) where
+  -- an entry with the item that the other is shown
+  abbrev pub reshown : ℕ × ℕ × W → ℕ × ℕ × U
+  reshown e = (e.0, e.1, from e.2)
+
+  pub clones-retold : (es : List (ℕ × ℕ × W)) (m n : M) (xs ys : List X) → FoldsTo {P = M × List X} (CloneStep numbers below) (m, xs) es (n, ys)
+      → FoldsTo {P = F × List T} (CloneStep numbers above) (state m, map to xs) (map reshown es) (state n, map to ys)
+  clones-retold [] m n xs ys same = ap (λ (s : M × List X). (state s.0, map to s.1)) same
+  clones-retold (e ∷ es) m n xs ys calls =
+      let s = calls.1 in (
+        (state calls.0.0, map to calls.0.1),
+        record {
+          pointer = s.pointer;
+          item = to s.item;
+          index = s.index;
+          generation = s.generation;
+          called = like m s.pointer e.2 s.item calls.0.0 s.called;
+          behind = ap (map to) s.behind ∙ map_push to xs s.item;
+        },
+        clones-retold es calls.0.0 n calls.0.1 ys calls.2,
+      )
+
+map-itself : {X : Type 0} (f : X → X) → ((x : X) → f x ≡ x) → (xs : List X) → map f xs ≡ xs
+map-itself f itself [] = refl
+map-itself f itself (x ∷ xs) = rw (itself x, map-itself f itself xs) refl
+
+module _ {P U T M F : Type 0} (numbers : P → ℕ × ℕ) (below : M → P → U → T → M → Type 0) (above : F → P → U → T → F → Type 0) (state : M → F)
+    (like : (m : M) (p : P) (u : U) (x : T) (n : M) → below m p u x n → above (state m) p u x (state n)) where
+  calls-restated : (es : List (ℕ × ℕ × U)) (m n : M) (ys : List T) → FoldsTo {P = M × List T} (CloneStep numbers below) (m, []) es (n, ys) → FoldsTo {P = F × List T} (CloneStep numbers above) (state m, []) es (state n, ys)
+  calls-restated es m n ys calls =
+      let told = clones-retold numbers below above state (λ u. u) (λ x. x) like es m n [] ys calls in
+      rw (map-itself (λ (e : ℕ × ℕ × U). (e.0, e.1, e.2)) (λ e. refl) es, map-itself (λ (x : T). x) (λ x. refl) ys) at told
+
+  -- the same items, in other states
+  pub clone-restated : (m : M) (source : Arena U) (old new : Arena T) → IsClone numbers below m source old new → IsClone numbers above (state m) source old new
+  clone-restated m source old new c = record {
+    items = c.items;
+    last = state c.last;
+    calls = calls-restated (entries_rising source 0) m c.last c.items c.calls;
+    after = c.after;
+  }
+
+  pub clone-restated_ok : (r : Result (Unit {0}) ReallocationError) (m : M) (source : Arena U) (old new : Arena T) → OnOk r (IsClone numbers below m source old new) → OnOk r (IsClone numbers above (state m) source old new)
+  clone-restated_ok (Ok x) m source old new c = clone-restated m source old new c
+  clone-restated_ok (Err e) m source old new c = tt
+
+-- the same of a refusal
+pub refusal-restated : {P U T M F : Type 0} (numbers : P → ℕ × ℕ) (below : M → P → U → Result T AllocError → M → Type 0) (above : F → P → U → Result T AllocError → F → Type 0) (state : M → F)
+    → ((m : M) (p : P) (u : U) (r : Result T AllocError) (n : M) → below m p u r n → above (state m) p u r (state n))
+    → (m : M) (source : Arena U) (old new : Arena T) → IsRefusedClone numbers below m source old new → IsRefusedClone numbers above (state m) source old new
+refusal-restated numbers below above state like m source old new c =
+    let s = c.stops in
+    record {
+      stops = record {
+        before = s.before;
+        refused = s.refused;
+        behind = s.behind;
+        split = s.split;
+        items = s.items;
+        reached = state s.reached;
+        calls = calls-restated numbers (Grants numbers below) (Grants numbers above) state (λ m p u x n called. like m p u (Ok x) n called) s.before m s.reached s.items s.calls;
+        pointer = s.pointer;
+        index = s.index;
+        generation = s.generation;
+        refusal = s.refusal;
+        last = state s.last;
+        called = like s.reached s.pointer s.refused.2 (Err s.refusal) s.last s.called;
+      };
+      after = c.after;
+    }
+
+module _ {P U T F : Type 0} (numbers : P → ℕ × ℕ) (step : F → P → U → T → F → Type 0) (h : U → T) (answers : (f : F) (p : P) (u : U) (x : T) (g : F) → step f p u x g → x ≡ h u) where
+  -- what is made where each answer is `h` of the item that was shown
+  clones-mapped : (es : List (ℕ × ℕ × U)) (f last : F) (items before : List T) → FoldsTo {P = F × List T} (CloneStep numbers step) (f, before) es (last, items) → items ≡ before ++ map (λ (e : ℕ × ℕ × U). h e.2) es
+  clones-mapped [] f last items before calls = sym (ap (λ (s : F × List T). s.1) calls) ∙ sym (append-nil before)
+  clones-mapped (e ∷ es) f last items before calls =
+      let s = calls.1 in
+      let same : s.item ≡ h e.2 = answers f s.pointer e.2 s.item calls.0.0 s.called in
+      let more = map (λ (e : ℕ × ℕ × U). h e.2) es in
+      clones-mapped es calls.0.0 last items calls.0.1 calls.2
+      ∙ (ap (λ xs. xs ++ more) s.behind ∙ (append_assoc before (s.item ∷ []) more ∙ ap (λ x. before ++ x ∷ more) same))
+
+with_items-same : {U : Type 0} (i : ℕ) (slots : List (Option (ℕ × U))) → with_items slots (map (λ e. e.2) (entries_from i slots)) ≡ slots
+with_items-same i [] = refl
+with_items-same i (None ∷ slots) = ap (λ rest. None ∷ rest) (with_items-same (i + 1) slots)
+with_items-same i (Some e ∷ slots) = ap (λ rest. Some e ∷ rest) (with_items-same (i + 1) slots)
+
+-- a clone by a closure that answers the item that it is shown has the source's slots
+pub clone-given_back : {P U F : Type 0} (numbers : P → ℕ × ℕ) (step : F → P → U → U → F → Type 0) → ((f : F) (p : P) (u : U) (x : U) (g : F) → step f p u x g → x ≡ u)
+    → (f : F) (source old new : Arena U) → IsClone numbers step f source old new → HoldsSame new (replaced source old source.slots)
+clone-given_back numbers step answers f source old new c =
+    let same = clones-mapped numbers step (λ u. u) answers (entries_rising source 0) f c.last c.items [] c.calls in
+    subst (λ slots. HoldsSame new (replaced source old slots)) (ap (with_items source.slots) same ∙ with_items-same 0 source.slots) c.after
+
+-- slots, made so many that no entry is lost, have the same entries
+resized-same : {X : Type 0} (n : ℕ) (slots : List (Option X)) → ((k : ℕ) → n ≤ k → get_or slots k None ≡ None) → (i : ℕ) → get_or (resized n slots) i None ≡ get_or slots i None
+resized-same {X} n slots none i = here (cases_lt i n)
+  where
+    kept : (n m i : ℕ) (slots : List (Option X)) → i < n → get_or (take n slots ++ replicate m None) i None ≡ get_or slots i None
+    kept zero m i slots below = absurd (omega arith)
+    kept (suc n) m i [] below = get_or-all_default m i None
+    kept (suc n) m zero (s ∷ slots) below = refl
+    kept (suc n) m (suc i) (s ∷ slots) below = kept n m i slots (omega arith)
+
+    beyond : (s : Option X) → get_or (resized n slots) i None ≡ s → get_or slots i None ≡ None → s ≡ None
+    beyond None _ free = refl
+    beyond (Some e) is free = absurd (none-some e (sym free ∙ get_or-pad n (n - length slots) slots i e is))
+
+    here : (i < n) ⊎ (n ≤ i) → get_or (resized n slots) i None ≡ get_or slots i None
+    here (inl below) = kept n (n - length slots) i slots below
+    here (inr past) = beyond (get_or (resized n slots) i None) refl (none i past) ∙ sym (none i past)
+
+-- so every pointer finds the same in both
+pub clone-finds : {U : Type 0} (source old new : Arena U) → HoldsSame new (replaced source old source.slots) → FindSame new source
+clone-finds source old new same = λ p.
+    ap (item_if p.1) (ap (λ ss. get_or ss p.0 None) same.slots
+    ∙ resized-same (max (arena_capacity old) (greatest_occupied source.slots) + 1) source.slots (λ k past. greatest_occupied-above source.slots k (omega arith)) p.0)
+
+module _ {P U T F : Type 0} (numbers : P → ℕ × ℕ) (step : F → P → U → T → F → Type 0) where
+  -- an item is made for each entry
+  clones-counted : (es : List (ℕ × ℕ × U)) (f last : F) (items before : List T) → FoldsTo {P = F × List T} (CloneStep numbers step) (f, before) es (last, items) → length items ≡ length before + length es
+  clones-counted [] f last items before calls = sym (ap (λ (s : F × List T). length s.1) calls) ∙ sym (add-zero (length before))
+  clones-counted (e ∷ es) f last items before calls =
+      let s = calls.1 in
+      let ih = clones-counted es calls.0.0 last items calls.0.1 calls.2 in
+      omega (arith, ih, ap length s.behind, length_push before s.item)
+
+  -- with as many items as entries, each entry has one
+  with_items-generations : (i : ℕ) (slots : List (Option (ℕ × U))) (items : List T) → length items ≡ length (entries_from i slots) → (k : ℕ)
+      → option_map (λ (e : ℕ × T). e.0) (get_or (with_items slots items) k None) ≡ option_map (λ (e : ℕ × U). e.0) (get_or slots k None)
+  with_items-generations i [] items count k = refl
+  with_items-generations i (None ∷ slots) items count zero = refl
+  with_items-generations i (None ∷ slots) items count (suc k) = with_items-generations (i + 1) slots items count k
+  with_items-generations i (Some e ∷ slots) [] count k = absurd (omega arith)
+  with_items-generations i (Some e ∷ slots) (item ∷ items) count zero = refl
+  with_items-generations i (Some e ∷ slots) (item ∷ items) count (suc k) = with_items-generations (i + 1) slots items (omega arith) k
+
+is_some-item_if : {T U : Type 0} (g : ℕ) (s : Option (ℕ × T)) (t : Option (ℕ × U)) → option_map (λ (e : ℕ × T). e.0) s ≡ option_map (λ (e : ℕ × U). e.0) t → is_some (item_if g s) ≡ is_some (item_if g t)
+is_some-item_if g None None same = refl
+is_some-item_if g None (Some e) same = absurd (none-some e.0 same)
+is_some-item_if g (Some e) None same = absurd (none-some e.0 (sym same))
+is_some-item_if g (Some e) (Some d) same =
+    same_test (eqb e.0 g) (eqb d.0 g) (ap (λ n. eqb n g) (same_Some e.0 d.0 same))
+  where
+    same_test : (b c : Bool) → b ≡ c → is_some (cond b (Some e.1) None) ≡ is_some (cond c (Some d.1) None)
+    same_test true true is = refl
+    same_test false false is = refl
+    same_test true false is = absurd (cc)
+    same_test false true is = absurd (cc)
+
+-- its pointers are the source's
+pub clone-pointers : {P U T F : Type 0} (numbers : P → ℕ × ℕ) (step : F → P → U → T → F → Type 0) (f : F) (source : Arena U) (old new : Arena T) → IsClone numbers step f source old new → HasSamePointers new source
+clone-pointers numbers step f source old new c =
+    let n = max (arena_capacity old) (greatest_occupied source.slots) + 1 in
+    let made = with_items source.slots c.items in
+    let count = clones-counted numbers step (entries_rising source 0) f c.last c.items [] c.calls in
+    let told = with_items-generations numbers step 0 source.slots c.items (omega (arith, count)) in
+    λ p.
+    let free : (k : ℕ) → n ≤ k → get_or made k None ≡ None =
+    λ k past. no_generation (get_or made k None) (told k ∙ ap (option_map (λ e. e.0)) (greatest_occupied-above source.slots k (omega arith))) in
+    is_some-item_if p.1 _ _ (ap (option_map (λ e. e.0)) (ap (λ ss. get_or ss p.0 None) c.after.slots ∙ resized-same n made free p.0) ∙ told p.0)
+  where
+    no_generation : {X : Type 0} (s : Option (ℕ × X)) → option_map (λ e. e.0) s ≡ None → s ≡ None
+    no_generation None is = refl
+    no_generation (Some e) is = absurd (none-some e.0 (sym is))
+
+pub copy-found : {P U F E : Type 0} (numbers : P → ℕ × ℕ) (step : F → P → U → U → F → Type 0) → ((f : F) (p : P) (u : U) (x : U) (g : F) → step f p u x g → x ≡ u)
+    → (r : Result (Unit {0}) E) (f : F) (source old new : Arena U) → OnOk r (IsClone numbers step f source old new) → OnOk r (FindSame new source)
+copy-found numbers step answers (Ok x) f source old new c = clone-finds source old new (clone-given_back numbers step answers f source old new c)
+copy-found numbers step answers (Err e) f source old new c = tt

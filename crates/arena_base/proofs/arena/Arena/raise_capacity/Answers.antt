@@ -1,0 +1,6 @@
+use Rattle.std.proofs.Common.{arith}
+use Rattle.arena_base.proofs.Occupied.{greatest_occupied-below}
+use Rattle.arena_base.proofs.arena.Arena.raise_capacity.Goals as goal
+
+pub set_capacity-requires-clause-entries : goal.set_capacity-requires-clause-entries
+set_capacity-requires-clause-entries g c = omega (arith, greatest_occupied-below c.args.self.now.slots)

@@ -1,0 +1,12 @@
+use Rattle.std.proofs.Common.{◌≡◌, ◌+◌, vec_len, vec_capacity}
+use Rattle.arena_base.specs.Clone.{Grants}
+use Rattle.arena_base.proofs.Cloning.{ClonedBelow}
+use Rattle.arena_base.proofs.arena.clone.clone_slots.Given as goal
+
+abbrev pub invariant-loop-position : goal.invariant-loop-position
+invariant-loop-position g l = record {
+  callable : g.M.CloneEntry.callable l.map;
+  cloned : ClonedBelow g.P.Ptr.numbers g.P.Gen.PtrGen.number (Grants g.P.Ptr.numbers g.M.CloneEntry.step) l.fn.map (g.S.ArenaTrait.content l.fn.source).slots l.map l.slots.items (l.position + 1);
+  count : vec_len l.slots ≡ l.position;
+  capacity : vec_capacity l.slots ≡ vec_capacity l.fn.slots;
+}

@@ -1,0 +1,191 @@
+//! Taking over the pointers of another arena.
+ghost use Rattle.std.specs.Prelude.{◌≡◌, ◌<◌, ◌≤◌, ◌↔◌, ◌⊎◌, [], max, vec_len, vec_capacity, OnOk, OnErr};
+ghost use Rattle.arena_base.specs.Arena.{arena_limit, arena_capacity, greatest_occupied, IsFresh};
+ghost use Rattle.arena_base.specs.Clone.{Grants, HasSamePointers, IsClone, IsRefusedClone, IsShown, StopsAtRefusal};
+ghost use Rattle.arena_base.specs.CloneSlots.{ClonesSlots};
+ghost use Rattle.arena_base.specs.Walk.{entries_rising};
+
+use super::Arena;
+use super::get::inx_at;
+use super::growth::{add_vacant, list_vacant};
+use crate::clone_entry::{CloneEntry, TryCalls};
+use crate::error::ReallocationError;
+use crate::map_entry::Calls;
+use crate::ptr::{Ptr, PtrGen, PtrInx};
+use crate::slot::Slot;
+use crate::traits::ArenaTrait;
+use std::alloc::{AllocError, Allocator};
+
+impl<P: Ptr, T: Drop, A: Allocator> Arena<P, T, A> {
+    /// Makes this arena a clone of the source, with items that `map` makes: it has the source's pointers and generation, and its
+    /// own old entries are dropped.
+    ///
+    /// For each entry of the source, by rising index, `map` is called with its pointer and a reference to its item. The capacity
+    /// grows to the source's greatest index with an entry, where it is less, before anything else changes; the maximum stays, and
+    /// all vacant slots count as never used. It goes through the slots of both arenas once.
+    ///
+    /// It is refused with `BeyondMaxCapacity` where that index is beyond this arena's limit, and with `AllocError` where the
+    /// capacity would grow and memory is refused. Nothing changes then, and `map` isn't called.
+    pub fn clone_from_with<U, S: ArenaTrait<P, U>, F: FnMut(P, &U) -> T + Drop>(
+        &mut self,
+        source: &S,
+        map: F,
+    ) -> Result<(), ReallocationError>
+        requires { F.IsAlwaysCallable map }
+        ensures ok { OnOk result
+            (IsClone P.numbers (IsShown F.step) map (S.content source.now) self.old self.new) }
+        ensures pointers { OnOk result (HasSamePointers self.new (S.content source.now)) }
+        ensures fresh { OnOk result (IsFresh self.new) }
+        ensures beyond { (result ≡ Err ReallocationError.BeyondMaxCapacity)
+            ↔ (arena_limit P.Inx.most self.old < greatest_occupied (S.content source.now).slots) }
+        ensures memory { result ≡ Err ReallocationError.AllocError
+            → arena_capacity self.old < greatest_occupied (S.content source.now).slots }
+        ensures err { OnErr result (self.new ≡ self.old) }
+    {
+        self.clone_by(source, Calls { f: map })
+    }
+
+    /// Makes this arena a clone of the source as `clone_from_with` does, where `map` may be refused memory for an item.
+    ///
+    /// The first item that is refused ends the call with `AllocError`. The arena is empty then, with the source's generation and
+    /// the capacity of a clone. Where the growth is refused, or the index is beyond the limit, nothing changes.
+    pub fn try_clone_from_with<
+        U,
+        S: ArenaTrait<P, U>,
+        F: FnMut(P, &U) -> Result<T, AllocError> + Drop,
+    >(&mut self, source: &S, map: F) -> Result<(), ReallocationError>
+        requires { F.IsAlwaysCallable map }
+        ensures ok { OnOk result (IsClone P.numbers (Grants P.numbers (IsShown F.step)) map
+            (S.content source.now) self.old self.new) }
+        ensures pointers { OnOk result (HasSamePointers self.new (S.content source.now)) }
+        ensures fresh { OnOk result (IsFresh self.new) }
+        ensures beyond { (result ≡ Err ReallocationError.BeyondMaxCapacity)
+            ↔ (arena_limit P.Inx.most self.old < greatest_occupied (S.content source.now).slots) }
+        ensures beyond_kept { result ≡ Err ReallocationError.BeyondMaxCapacity → self.new ≡ self.old }
+        ensures memory { result ≡ Err ReallocationError.AllocError
+            → ((arena_capacity self.old < greatest_occupied (S.content source.now).slots) × (self.new ≡ self.old))
+            ⊎ IsRefusedClone P.numbers (IsShown F.step) map (S.content source.now) self.old self.new }
+    {
+        self.clone_by(source, TryCalls { f: map })
+    }
+
+    /// Makes this arena a clone of the source as `try_clone_from_with` does, where `map` has the place of the closure.
+    pub fn clone_by<U, S: ArenaTrait<P, U>, M: CloneEntry<P, U, T> + Drop>(
+        &mut self,
+        source: &S,
+        map: M,
+    ) -> Result<(), ReallocationError>
+        requires { M.callable map }
+        ensures ok { OnOk result (IsClone P.numbers (Grants P.numbers M.step) map
+            (S.content source.now) self.old self.new) }
+        ensures pointers { OnOk result (HasSamePointers self.new (S.content source.now)) }
+        ensures fresh { OnOk result (IsFresh self.new) }
+        ensures beyond { (result ≡ Err ReallocationError.BeyondMaxCapacity)
+            ↔ (arena_limit P.Inx.most self.old < greatest_occupied (S.content source.now).slots) }
+        ensures beyond_kept { result ≡ Err ReallocationError.BeyondMaxCapacity → self.new ≡ self.old }
+        ensures memory { result ≡ Err ReallocationError.AllocError
+            → ((arena_capacity self.old < greatest_occupied (S.content source.now).slots) × (self.new ≡ self.old))
+            ⊎ IsRefusedClone P.numbers M.step map (S.content source.now) self.old self.new }
+    {
+        let needed = greatest_occupied(source);
+        self.raise_capacity(needed)?;
+        match self.take_over(source, needed, map) {
+            Ok(()) => Ok(()),
+            Err(_) => Err(ReallocationError::AllocError),
+        }
+    }
+
+    // Makes the capacity `n`, where it is less.
+    fn raise_capacity(&mut self, n: usize) -> Result<(), ReallocationError>
+        ensures capacity { OnOk result (arena_capacity self.new ≡ max (arena_capacity self.old) n) }
+        ensures maximum { OnOk result (self.new.maximum ≡ self.old.maximum) }
+        ensures beyond { (result ≡ Err ReallocationError.BeyondMaxCapacity) ↔ (arena_limit P.Inx.most self.old < n) }
+        ensures memory { result ≡ Err ReallocationError.AllocError → arena_capacity self.old < n }
+        ensures err { OnErr result (self.new ≡ self.old) }
+    {
+        if n > self.limit() {
+            return Err(ReallocationError::BeyondMaxCapacity);
+        }
+        if n > self.capacity() && self.set_capacity(n).is_err() {
+            return Err(ReallocationError::AllocError);
+        }
+        Ok(())
+    }
+
+    // Replaces the slots with clones of those of the source, whose greatest index with an entry is `n`. Where an item is refused,
+    // all are vacant.
+    fn take_over<U, S: ArenaTrait<P, U>, M: CloneEntry<P, U, T> + Drop>(
+        &mut self,
+        source: &S,
+        n: usize,
+        map: M,
+    ) -> Result<(), AllocError>
+        requires callable { M.callable map }
+        requires greatest { n ≡ greatest_occupied (S.content source.now).slots }
+        requires room { n ≤ arena_capacity self.old }
+        ensures ok { OnOk result (IsClone P.numbers (Grants P.numbers M.step) map
+            (S.content source.now) self.old self.new) }
+        ensures fresh { IsFresh self.new }
+        ensures refused { OnErr result (IsRefusedClone P.numbers M.step map (S.content source.now) self.old self.new) }
+    {
+        // With its capacity an arena tells what holds of every arena.
+        let _ = source.capacity();
+        let capacity = self.slots.len();
+        self.slots.clear();
+        let granted = clone_slots::<P, T, A, U, S, M>(&mut self.slots, source, n, map);
+        add_vacant(&mut self.slots, capacity);
+        list_vacant(self.slots.as_slice(), 0, &mut self.vacant);
+        self.generation = source.singular_generation().unwrap();
+        granted
+    }
+}
+
+// The greatest index with an entry, or 0.
+fn greatest_occupied<P: Ptr, U, S: ArenaTrait<P, U>>(source: &S) -> usize
+    ensures value { result ≡ greatest_occupied (S.content source.now).slots }
+{
+    match source.find_last_inx_ptr() {
+        Some(p) => p.inx().try_into_usize().unwrap_or(0),
+        None => 0,
+    }
+}
+
+// Fills the slots with clones of those of the source, whose greatest index with an entry is `n`. Where an item is refused, none is
+// left.
+fn clone_slots<
+    P: Ptr,
+    T: Drop,
+    A: Allocator,
+    U,
+    S: ArenaTrait<P, U>,
+    M: CloneEntry<P, U, T> + Drop,
+>(slots: &mut Vec<Slot<T, P::Gen>, A>, source: &S, n: usize, mut map: M) -> Result<(), AllocError>
+    requires callable { M.callable map }
+    requires empty { slots.old.items ≡ [] }
+    requires room { n ≤ vec_capacity slots.old }
+    requires greatest { n ≡ greatest_occupied (S.content source.now).slots }
+    ensures ok { OnOk result (ClonesSlots P.numbers P.Gen.number (Grants P.numbers M.step) map
+        (S.content source.now).slots slots.new.items) }
+    ensures refused { OnErr result
+        (StopsAtRefusal P.numbers M.step map (entries_rising (S.content source.now) 0)) }
+    ensures none_left { OnErr result (slots.new.items ≡ []) }
+    ensures within { vec_len slots.new ≤ n }
+    ensures capacity { vec_capacity slots.new ≡ vec_capacity slots.old }
+{
+    // With its capacity an arena tells what holds of every arena.
+    let _ = source.capacity();
+    for position in 0..n {
+        let i = inx_at(position);
+        match source.get_inx(i) {
+            Some(entry) => match map.clone_entry(P::_from_raw(i, entry.0), entry.1) {
+                Ok(item) => slots.push_reserved(Slot::Occupied(item, entry.0)),
+                Err(refusal) => {
+                    slots.clear();
+                    return Err(refusal);
+                }
+            },
+            None => slots.push_reserved(Slot::Vacant),
+        }
+    }
+    Ok(())
+}
