@@ -129,7 +129,7 @@ module _ {X : Type 0} where
   compressed-count (suc n) g xs fits = grind (arith, common_steps, with_era g, compact-is n g xs fits, fits, sum_by-cons, zero-add, filled-counts g xs)
 
   -- slots that are occupied alike count alike
-  pub count-alike : (xs ys : List (Option X)) → length xs ≡ length ys → ((k : ℕ) → is_some (get_or xs k None) ≡ is_some (get_or ys k None)) → (n : ℕ)
+  pub count-alike : {Y : Type 0} (xs : List (Option X)) (ys : List (Option Y)) → length xs ≡ length ys → ((k : ℕ) → is_some (get_or xs k None) ≡ is_some (get_or ys k None)) → (n : ℕ)
       → count_by is_some (take n xs) ≡ count_by is_some (take n ys)
   count-alike xs ys long alike zero = refl
   count-alike [] [] long alike (suc n) = refl
@@ -139,7 +139,7 @@ module _ {X : Type 0} where
       let ih = count-alike xs ys (omega arith) (λ k. alike (suc k)) n in
       sum_by-cons (λ o. cond (is_some o) 1 0) x (take n xs) ∙ (ap (λ b. cond b 1 0 + count_by is_some (take n xs)) (alike 0) ∙ (ap (λ c. cond (is_some y) 1 0 + c) ih ∙ sym (sum_by-cons (λ o. cond (is_some o) 1 0) y (take n ys))))
 
-  pub counts-alike : (xs ys : List (Option X)) → length xs ≡ length ys → ((k : ℕ) → is_some (get_or xs k None) ≡ is_some (get_or ys k None)) → count_by is_some xs ≡ count_by is_some ys
+  pub counts-alike : {Y : Type 0} (xs : List (Option X)) (ys : List (Option Y)) → length xs ≡ length ys → ((k : ℕ) → is_some (get_or xs k None) ≡ is_some (get_or ys k None)) → count_by is_some xs ≡ count_by is_some ys
   counts-alike xs ys long alike =
       let at = count-alike xs ys long alike (length xs) in
       ap (count_by is_some) (sym (take_all (length xs) xs (omega arith))) ∙ (at ∙ ap (count_by is_some) (take_all (length xs) ys (omega (arith, long))))
