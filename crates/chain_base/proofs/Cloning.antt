@@ -1,5 +1,5 @@
 -- A clone of a chain: its slots hold the source's links with other items, so it is the source's list with these items.
-use Rattle.std.proofs.Common.{◌≡◌, ℕ, zero, suc, ◌+◌, ◌-◌, ◌<◌, ◌≤◌, max, List, [], ◌∷◌, ◌++◌, length, map, take, get_or, slice_get, Option, Some, None, Result, Err, MatchResult, is_some, count_by, refl, sym, ap, ◌∙◌, subst, arith, inl, inr, ◌⊎◌, ◌==◌, true, false}
+use Rattle.std.proofs.Common.{OnOk, Ok, ◌≡◌, ℕ, zero, suc, ◌+◌, ◌-◌, ◌<◌, ◌≤◌, max, List, [], ◌∷◌, ◌++◌, length, map, take, get_or, slice_get, Option, Some, None, Result, Err, MatchResult, is_some, count_by, refl, sym, ap, ◌∙◌, subst, arith, inl, inr, ◌⊎◌, ◌==◌, true, false}
 use Rattle.std.proofs.lemmas.Grind.{common_steps}
 use Rattle.std.proofs.lemmas.Bool.{false≢true}
 use Rattle.std.proofs.lemmas.Bool.Decides.{eqb_tells}
@@ -15,10 +15,10 @@ use Rattle.arena_base.specs.Walk.{entries_from, entries_rising}
 use Rattle.arena_base.specs.Clone.{CloneStep, Grants, with_items, IsClone as IsArenaClone, StopsAtRefusal, replaced}
 use Rattle.arena_base.proofs.CallerLemmas.{clones-retold}
 use Rattle.chain_base.specs.Link.{Link}
-use Rattle.chain_base.specs.Chain.{Entry, times, first_or, last_or, link_at, link_between, greatest_index, vacant_indexes, IsSound}
+use Rattle.chain_base.specs.Chain.{Entry, Chain, times, first_or, last_or, link_at, link_between, greatest_index, vacant_indexes, IsSound}
 use Rattle.chain_base.specs.Compression.{lesser, entry_before}
 use Rattle.chain_base.specs.Walk.{pointers}
-use Rattle.chain_base.specs.Clone.{links_among, links_rising, HasItems, taken_over, ClonesLink, IsClone}
+use Rattle.chain_base.specs.Clone.{links_among, links_rising, HasItems, taken_over, ClonesLink, IsClone, IsRefusedClone}
 use Rattle.chain_base.specs.Layout.{chain_of, met, IsLaidOut}
 use Rattle.chain_base.proofs.Lists.{IsRow, IsRow-links, link_between-absent, entry_at-link}
 use Rattle.chain_base.proofs.LaidOut.{walk-laid_out}
@@ -360,3 +360,42 @@ module _ {T U : Type 0} (a0 : Arena (Link U)) (a b : Arena (Link T)) (first last
   kept-chain kept empty =
       let ends = no-ends (sym (ap (λ (x : Arena (Link T)). arena_len x) kept) ∙ counts-none empty) in
       rw (kept, ends.0) refl
+
+-- A clone in states of one kind is one in those of another.
+module _ {P T U M F : Type 0} (numbers : P → ℕ × ℕ) (below : M → P → Link U → T → M → Type 0) (above : F → P → Link U → T → F → Type 0) (state : M → F)
+    (like : (m : M) (p : P) (u : Link U) (x : T) (n : M) → below m p u x n → above (state m) p u x (state n)) where
+  calls-restated : (es : List (ℕ × ℕ × Link U)) (m n : M) (ys : List T) → FoldsTo {P = M × List T} (CloneStep numbers below) (m, []) es (n, ys)
+      → FoldsTo {P = F × List T} (CloneStep numbers above) (state m, []) es (state n, ys)
+  calls-restated es m n ys calls =
+      let told = clones-retold numbers below above state (λ u. u) (λ x. x) like es m n [] ys calls in
+      rw (map-id es, map-id ys) at told
+
+  pub clone-restated : {E : Type 0} (r : Result (Unit {0}) E) (m : M) (source : Chain U) (old new : Chain T) → OnOk r (IsClone numbers below m source old new) → OnOk r (IsClone numbers above (state m) source old new)
+  clone-restated (Ok x) m source old new c =
+      record { items = c.items; last = state c.last; calls = calls-restated (links_rising source) m c.last c.items c.calls; entries = c.entries; after = c.after }
+  clone-restated (Err e) m source old new c = tt
+
+-- the same of a refusal
+pub refusal-restated : {P T U M F : Type 0} (numbers : P → ℕ × ℕ) (below : M → P → Link U → Result T AllocError → M → Type 0) (above : F → P → Link U → Result T AllocError → F → Type 0) (state : M → F)
+    → ((m : M) (p : P) (u : Link U) (r : Result T AllocError) (n : M) → below m p u r n → above (state m) p u r (state n))
+    → (m : M) (source : Chain U) (old new : Chain T) → IsRefusedClone numbers below m source old new → IsRefusedClone numbers above (state m) source old new
+refusal-restated numbers below above state like m source old new c =
+    let s = c.stops in
+    record {
+      stops = record {
+        before = s.before;
+        refused = s.refused;
+        behind = s.behind;
+        split = s.split;
+        items = s.items;
+        reached = state s.reached;
+        calls = calls-restated numbers (Grants numbers below) (Grants numbers above) state (λ m p u x n called. like m p u (Ok x) n called) s.before m s.reached s.items s.calls;
+        pointer = s.pointer;
+        index = s.index;
+        generation = s.generation;
+        refusal = s.refusal;
+        last = state s.last;
+        called = like s.reached s.pointer s.refused.2 (Err s.refusal) s.last s.called;
+      };
+      after = c.after;
+    }

@@ -1,5 +1,6 @@
 -- What a clone of one chain into another is: the source's pointers in its order, with items that are made of the source's.
-use Rattle.std.specs.Prelude.{◌≡◌, ℕ, zero, suc, ◌+◌, ◌≤◌, max, List, [], Result, Ok, slice_get}
+use Rattle.std.specs.Prelude.{◌≡◌, ℕ, zero, suc, ◌+◌, ◌≤◌, max, List, [], Option, Result, Ok, slice_get}
+use Rattle.std.specs.Borrow.{Bor}
 use Rattle.std.specs.List.{FoldsTo}
 use Rattle.std.specs.Option.{option_map}
 use Rattle.std.specs.declared.alloc.AllocError.{AllocError}
@@ -35,6 +36,15 @@ pub record ClonesLink {P T U M : Type 0} (step : M → P → Link U → Result T
   pub called : step m p link (Ok new.item) n
   pub before : new.prev ≡ link.prev
   pub behind : new.next ≡ link.next
+
+-- a call by which a closure was shown a link: its item and the indexes of its neighbours
+pub record ShowsLink {P I U R F : Type 0} (number : I → ℕ) (step : F → P → Bor U → Option I × Option I → R → F → Type 0) (f : F) (p : P) (link : Link U) (answer : R) (g : F) : Type 0 where
+  pub shown : Bor U
+  pub neighbours : Option I × Option I
+  pub item : shown.now ≡ link.item
+  pub before : option_map number neighbours.0 ≡ link.prev
+  pub behind : option_map number neighbours.1 ≡ link.next
+  pub called : step f p shown neighbours answer g
 
 -- P reads pointers as index and generation; `step` is what a call of the closure may do
 module _ {P T U F : Type 0} (numbers : P → ℕ × ℕ) (step : F → P → Link U → T → F → Type 0) where
