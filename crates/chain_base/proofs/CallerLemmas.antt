@@ -1,5 +1,6 @@
 -- For callers: what an index finds in the list, and how many entries there are, after each change.
-use Rattle.std.proofs.Common.{◌≡◌, ◌≢◌, ℕ, zero, suc, ◌+◌, ◌<◌, ◌≤◌, List, [], ◌∷◌, ◌++◌, length, map, slice_get, slice_index_or, Option, Some, None, IsSome, is_some, append_assoc, refl, sym, ap, ◌∙◌, arith, inl, inr}
+use Rattle.std.proofs.Common.{◌≡◌, ◌≢◌, ℕ, zero, suc, ◌+◌, ◌<◌, ◌≤◌, List, [], ◌∷◌, ◌++◌, length, map, slice_get, slice_index_or, Option, Some, None, IsSome, append_assoc, refl, sym, ap, ◌∙◌, arith, inl, inr}
+use Rattle.std.proofs.lemmas.Grind.{common_steps}
 use Rattle.std.proofs.lemmas.Bool.Decides.{eqb_tells, leb_tells}
 use Rattle.std.proofs.lemmas.Option.{slice_get_cases, slice_get_within, get_or_from_slice_get}
 use Rattle.std.specs.Option.{option_map}
@@ -20,8 +21,8 @@ pub use Rattle.chain_base.proofs.Ranking.{lesser-zero, lesser-next, compressed-a
 pub use Rattle.chain_base.proofs.Canonical.{occurs-entry}
 -- the greatest index with an entry
 pub use Rattle.chain_base.proofs.Vacancy.{below-greatest, greatest-or_none, times-greatest, below-greatest_index}
--- a growth keeps the entries, an insertion the capacity
-pub use Rattle.chain_base.proofs.Room.{with_room-entries, inserted-capacity}
+-- an insertion keeps the capacity
+pub use Rattle.chain_base.proofs.Room.{inserted-capacity}
 -- entries at their places by rising index have the items that they had
 pub use Rattle.chain_base.proofs.Canonical.{relocated-items}
 
@@ -29,55 +30,26 @@ module _ {T : Type 0} where
   -- an index that no entry has finds none
   pub entry_at-absent : (es : List (Entry T)) (i : ℕ) → times i es ≡ 0 → entry_at es i ≡ None
   entry_at-absent [] i never = refl
-  entry_at-absent (e ∷ es) i never = elim (eqb_tells e.index i) [
-    | inl h ↦
-        let here : times i (e ∷ es) ≡ 1 + times i es = rw h.0 refl in
-        absurd (omega (arith, here, never))
-    | inr h ↦
-        let there : times i (e ∷ es) ≡ 0 + times i es = rw h.0 refl in
-        rw h.0 (entry_at-absent es i (omega (arith, there, never)))
-  ]
+  entry_at-absent (e ∷ es) i never = grind (arith, common_steps, entry_at-absent es i)
 
   -- an index that finds an entry stands in the list
   pub entry-occurs : (es : List (Entry T)) (i : ℕ) → IsSome (entry_at es i) → 1 ≤ times i es
-  entry-occurs es i there = elim (eqb_tells (times i es) 0) [
-    | inl h ↦ absurd (let none = ap is_some (entry_at-absent es i h.1) in cc)
-    | inr h ↦ omega (arith, h.1)
-  ]
+  entry-occurs es i there = grind (arith, common_steps, i, entry_at-absent)
 
   -- without the entry of an index, every other index finds what it found
   pub entry_at-without_other : (es : List (Entry T)) (i j : ℕ) → j ≢ i → entry_at (without i es) j ≡ entry_at es j
   entry_at-without_other [] i j other = refl
-  entry_at-without_other (e ∷ es) i j other = elim (eqb_tells e.index i) [
-    | inl h ↦ elim (eqb_tells e.index j) [
-      | inl same ↦ absurd (other (sym same.1 ∙ h.1))
-      | inr apart ↦ rw (h.0, apart.0) refl
-    ]
-    | inr h ↦ elim (eqb_tells e.index j) [
-      | inl same ↦ rw (h.0, same.0) refl
-      | inr apart ↦ rw (h.0, apart.0) (entry_at-without_other es i j other)
-    ]
-  ]
+  entry_at-without_other (e ∷ es) i j other = grind (arith, common_steps, entry_at-without_other es i j other)
 
   -- and the index itself finds none, where the indexes are pairwise different
   pub entry_at-without : (es : List (Entry T)) (i : ℕ) → IsDistinct es → entry_at (without i es) i ≡ None
   entry_at-without [] i distinct = refl
-  entry_at-without (e ∷ es) i distinct = elim (eqb_tells e.index i) [
-    | inl h ↦
-        let here : times i (e ∷ es) ≡ 1 + times i es = rw h.0 refl in
-        rw h.0 (entry_at-absent es i (omega (arith, here, distinct i)))
-    | inr h ↦ rw (h.0, h.0) (entry_at-without es i (λ k. omega (arith, distinct k)))
-  ]
+  entry_at-without (e ∷ es) i distinct = grind (arith, common_steps, entry_at-without es i, i, entry_at-absent, distinct)
 
   -- there is one entry less, where the index has one
   pub length-without : (es : List (Entry T)) (i : ℕ) → IsSome (entry_at es i) → length es ≡ length (without i es) + 1
   length-without [] i there = absurd (cc)
-  length-without (e ∷ es) i there = elim (eqb_tells e.index i) [
-    | inl h ↦ rw h.0 (omega arith)
-    | inr h ↦
-        let less = length-without es i (rw h.0 at there) in
-        rw h.0 (omega (arith, less))
-  ]
+  length-without (e ∷ es) i there = grind (arith, common_steps, length-without es i)
 
   -- with another item at an index, every other index finds what it found
   pub entry_at-with_item_among_other : (es : List (Entry T)) (i j : ℕ) (item : T) → j ≢ i → entry_at (with_item_among es i item) j ≡ entry_at es j
@@ -103,30 +75,14 @@ module _ {T : Type 0} where
 
   -- with a new entry between two stretches, every other index finds what it found
   pub entry_at-between_other : (front : List (Entry T)) (new : Entry T) (back : List (Entry T)) (j : ℕ) → j ≢ new.index → entry_at (front ++ new ∷ back) j ≡ entry_at (front ++ back) j
-  entry_at-between_other [] new back j other = elim (eqb_tells new.index j) [
-    | inl h ↦ absurd (other (sym h.1))
-    | inr h ↦ rw h.0 refl
-  ]
-  entry_at-between_other (f ∷ front) new back j other = elim (eqb_tells f.index j) [
-    | inl h ↦ rw h.0 refl
-    | inr h ↦ rw h.0 (entry_at-between_other front new back j other)
-  ]
+  entry_at-between_other [] new back j other = grind (arith, common_steps)
+  entry_at-between_other (f ∷ front) new back j other = grind (arith, common_steps, entry_at-between_other front new back j other)
 
   -- and its own index finds it, where no other entry has that
   pub entry_at-between : (front : List (Entry T)) (new : Entry T) (back : List (Entry T)) → times new.index (front ++ back) ≡ 0
       → entry_at (front ++ new ∷ back) new.index ≡ Some (new.generation, new.item)
-  entry_at-between [] new back never = elim (eqb_tells new.index new.index) [
-    | inl h ↦ rw h.0 refl
-    | inr h ↦ absurd (h.1 refl)
-  ]
-  entry_at-between (f ∷ front) new back never = elim (eqb_tells f.index new.index) [
-    | inl h ↦
-        let here : times new.index (f ∷ front ++ back) ≡ 1 + times new.index (front ++ back) = rw h.0 refl in
-        absurd (omega (arith, here, never))
-    | inr h ↦
-        let there : times new.index (f ∷ front ++ back) ≡ 0 + times new.index (front ++ back) = rw h.0 refl in
-        rw h.0 (entry_at-between front new back (omega (arith, there, never)))
-  ]
+  entry_at-between [] new back never = grind (arith, common_steps)
+  entry_at-between (f ∷ front) new back never = grind (arith, common_steps, entry_at-between front new back)
 
   pub length-between : (front : List (Entry T)) (new : Entry T) (back : List (Entry T)) → length (front ++ new ∷ back) ≡ length (front ++ back) + 1
   length-between [] new back = omega arith
@@ -154,32 +110,18 @@ module _ {T : Type 0} where
   -- among entries numbered in a row, each number finds the item of its place
   pub entry_at-numbered : (g from : ℕ) (xs : List T) (k : ℕ) → entry_at (numbered g from xs) (from + k) ≡ option_map (λ x. (g, x)) (slice_get xs k)
   entry_at-numbered g from [] k = refl
-  entry_at-numbered g from (x ∷ xs) zero = elim (eqb_tells from (from + 0)) [
-    | inl h ↦ rw h.0 refl
-    | inr h ↦ absurd (h.1 (omega arith))
-  ]
-  entry_at-numbered g from (x ∷ xs) (suc k) = elim (eqb_tells from (from + suc k)) [
-    | inl h ↦ absurd (omega (arith, h.1))
-    | inr h ↦
-        let later : from + suc k ≡ from + 1 + k = omega arith in
-        rw h.0 (ap (entry_at (numbered g (from + 1) xs)) later ∙ entry_at-numbered g (from + 1) xs k)
-  ]
+  entry_at-numbered g from (x ∷ xs) zero = grind (arith, common_steps)
+  entry_at-numbered g from (x ∷ xs) (suc k) = grind (arith, common_steps, entry_at-numbered g (from + 1) xs k)
 
   -- and a number before them none
   pub entry_at-numbered_before : (g from : ℕ) (xs : List T) (i : ℕ) → i < from → entry_at (numbered g from xs) i ≡ None
   entry_at-numbered_before g from [] i before = refl
-  entry_at-numbered_before g from (x ∷ xs) i before = elim (eqb_tells from i) [
-    | inl h ↦ absurd (omega (arith, h.1, before))
-    | inr h ↦ rw h.0 (entry_at-numbered_before g (from + 1) xs i (omega (arith, before)))
-  ]
+  entry_at-numbered_before g from (x ∷ xs) i before = grind (arith, common_steps, entry_at-numbered_before g (from + 1) xs i)
 
   -- they have this generation
   pub generation-numbered : (g from : ℕ) (xs : List T) (i : ℕ) (e : ℕ × T) → entry_at (numbered g from xs) i ≡ Some e → e.0 ≡ g
   generation-numbered g from [] i e is = absurd cc
-  generation-numbered g from (x ∷ xs) i e is = elim (eqb_tells from i) [
-    | inl h ↦ let same : Some (g, x) ≡ Some e = (rw h.0 at is) in cc
-    | inr h ↦ generation-numbered g (from + 1) xs i e (rw h.0 at is)
-  ]
+  generation-numbered g from (x ∷ xs) i e is = grind (arith, common_steps, generation-numbered g (from + 1) xs i e)
 
   -- and these items
   pub items-numbered : (g from : ℕ) (xs : List T) → map (λ (e : Entry T). e.item) (numbered g from xs) ≡ xs
@@ -189,45 +131,27 @@ module _ {T : Type 0} where
   -- entries that were moved have this generation
   pub generation-moved : (all : List (Entry T)) (g : ℕ) (xs : List T) (es : List (Entry T)) (i : ℕ) (e : ℕ × T) → entry_at (map (moved all g xs) es) i ≡ Some e → e.0 ≡ g
   generation-moved all g xs [] i e is = absurd cc
-  generation-moved all g xs (f ∷ es) i e is = elim (eqb_tells (compressed_index all f.index) i) [
-    | inl h ↦ let same : Some (g, slice_index_or xs (lesser all f.index) f.item) ≡ Some e = (rw h.0 at is) in cc
-    | inr h ↦ generation-moved all g xs es i e (rw h.0 at is)
-  ]
+  generation-moved all g xs (f ∷ es) i e is = grind (arith, common_steps, generation-moved all g xs es i e)
 
   -- and so have entries at their places by rising index
   pub generation-relocated : (all : List (Entry T)) (g : ℕ) (es : List (Entry T)) (i : ℕ) (e : ℕ × T) → entry_at (map (at_compressed_index all g) es) i ≡ Some e → e.0 ≡ g
   generation-relocated all g [] i e is = absurd cc
-  generation-relocated all g (f ∷ es) i e is = elim (eqb_tells (compressed_index all f.index) i) [
-    | inl h ↦ let same : Some (g, f.item) ≡ Some e = (rw h.0 at is) in cc
-    | inr h ↦ generation-relocated all g es i e (rw h.0 at is)
-  ]
+  generation-relocated all g (f ∷ es) i e is = grind (arith, common_steps, generation-relocated all g es i e)
 
 -- the entries of a compressed list, by their places
 module _ {T : Type 0} where
   past-end : (items : List T) (k : ℕ) → slice_get items k ≡ None → length items ≤ k
-  past-end items k none = elim (slice_get_cases items k).1 [
-    | inl there ↦ absurd (let some = there.2 in cc)
-    | inr past ↦ past.0
-  ]
+  past-end items k none = grind (arith, common_steps, slice_get_cases, items)
 
   -- no index has more lesser ones than there are entries
   pub lesser-most : (es : List (Entry T)) (i : ℕ) → lesser es i ≤ length es
   lesser-most [] i = omega arith
-  lesser-most (e ∷ es) i = elim (leb_tells (suc e.index) i) [
-    | inl h ↦ rw h.0 (omega (arith, lesser-most es i))
-    | inr h ↦ rw h.0 (omega (arith, lesser-most es i))
-  ]
+  lesser-most (e ∷ es) i = grind (arith, common_steps, lesser-most es i)
 
   -- all indexes are lesser than one above them
   pub lesser-all : (es : List (Entry T)) (m : ℕ) → ((i : ℕ) → 1 ≤ times i es → i < m) → lesser es m ≡ length es
   lesser-all [] m below = refl
-  lesser-all (e ∷ es) m below =
-      let here : e.index < m = below e.index (omega (arith, times-here e.index e es refl)) in
-      let rest = lesser-all es m (λ i there. below i (omega (arith, there))) in
-      elim (leb_tells (suc e.index) m) [
-        | inl h ↦ rw h.0 (omega (arith, rest))
-        | inr h ↦ absurd (omega (arith, here, h.1))
-      ]
+  lesser-all (e ∷ es) m below = grind (arith, common_steps, lesser-all es m, below e.index, times-here e.index e es, below)
 
   -- an index below m has place k + 1, where there are more than k lesser than m
   pub index-at_compressed_index : (es : List (Entry T)) → IsDistinct es → (m k : ℕ) → k < lesser es m → (i : ℕ) × (i < m) × (lesser es i ≡ k) × (1 ≤ times i es)
@@ -244,18 +168,7 @@ module _ {T : Type 0} where
       → ((y : ℕ) → 1 ≤ times y es → compressed_index all y ≡ compressed_index all i → y ≡ i)
       → entry_at (map (moved all g items) es) (compressed_index all i) ≡ option_map (λ e. (g, slice_index_or items (lesser all i) e.1)) (entry_at es i)
   entry_at-moved all g items [] i apart = refl
-  entry_at-moved all g items (e ∷ es) i apart =
-      let more = entry_at-moved all g items es i (λ y there same. apart y (omega (arith, there)) same) in
-      elim (eqb_tells e.index i) [
-        | inl h ↦ elim (eqb_tells (compressed_index all e.index) (compressed_index all i)) [
-          | inl k ↦ rw (h.0, k.0, h.1) refl
-          | inr k ↦ absurd (k.1 (ap (compressed_index all) h.1))
-        ]
-        | inr h ↦ elim (eqb_tells (compressed_index all e.index) (compressed_index all i)) [
-          | inl k ↦ absurd (h.1 (apart e.index (omega (arith, times-here e.index e es refl)) k.1))
-          | inr k ↦ rw (h.0, k.0) more
-        ]
-      ]
+  entry_at-moved all g items (e ∷ es) i apart = grind (arith, common_steps, entry_at-moved all g items es i)
 
 -- A compression of a list: the entry of a place has the item of that place, and there are no others.
 module _ {T : Type 0} (es : List (Entry T)) (distinct : IsDistinct es) (g : ℕ) (items : List T) (long : length items ≡ length es) where

@@ -1,26 +1,23 @@
 -- What the calls of a chain arena owe: from what the arena's calls ensure to the step on the list.
-use Rattle.std.proofs.Common.{◌≡◌, ◌≢◌, ℕ, zero, suc, ◌+◌, ◌-◌, ◌<◌, ◌≤◌, List, [], ◌∷◌, ◌++◌, length, Option, Some, None, IsSome, refl, sym, ap, subst, ◌∙◌, arith, inl, inr, ◌⊎◌, get_or, max, OnSome, IfNone, IfSome, Result, Ok, Err, OnOk, OnErr, length-set}
-use Rattle.std.proofs.lemmas.Bool.Decides.{eqb_tells}
+use Rattle.std.proofs.Common.{◌≡◌, ◌≢◌, ℕ, zero, suc, ◌<◌, ◌≤◌, List, [], ◌∷◌, ◌++◌, Option, Some, None, IsSome, refl, sym, ap, subst, ◌∙◌, arith, inl, inr, ◌⊎◌, max, OnSome, IfNone, IfSome, Result, Ok, Err, OnOk, OnErr}
+use Rattle.std.proofs.lemmas.Grind.{common_steps}
 use Rattle.std.specs.Option.{option_map}
-use Rattle.arena_base.specs.Arena.{Arena, slot, with_entry_at, arena_capacity, new_arena, with_capacity as arena_with_capacity, removed as arena_removed, renewed as arena_renewed, greatest_occupied, IsSound as IsSoundArena, IsInsertion as IsArenaInsertion}
+use Rattle.arena_base.specs.Arena.{Arena, slot, arena_capacity, new_arena, with_capacity as arena_with_capacity, removed as arena_removed, renewed as arena_renewed, greatest_occupied, IsSound as IsSoundArena, IsInsertion as IsArenaInsertion}
 use Rattle.arena_base.specs.Pointer.{named_of}
 use Rattle.chain_base.specs.Link.{Link}
 use Rattle.chain_base.specs.Chain.{Entry, times, first_or, last_or, link_at, new_chain, with_capacity, greatest_index, renewed}
 use Rattle.chain_base.specs.Insert.{IsPlace}
 use Rattle.chain_base.specs.Layout.{chain_of, IsLaidOut}
 use Rattle.chain_base.proofs.Lists.{times-append, times-here, times-last, times-first, times-unlinked, other_index, Stands, Stands-occurs}
-use Rattle.arena_base.proofs.CallerLemmas.{limit_of-below}
-use Rattle.chain_base.proofs.LaidOut.{bridged, end_beside, slot-filled, slot-emptied, slot-within, slot-laid_out}
+use Rattle.chain_base.proofs.LaidOut.{bridged, end_beside, slot-emptied, slot-within, slot-laid_out}
 use Rattle.chain_base.proofs.Vacancy.{below-greatest, greatest-links}
 use Rattle.chain_base.proofs.Sound.{occupied-within}
-use Rattle.chain_base.proofs.Steps.{next-first, occurs-held, Inserts, Inserts-joined, Removes, Removes-joined, Renews-at, IsLaidOut-walked, IsLaidOut-resized, chain_of-resized}
+use Rattle.chain_base.proofs.Steps.{occurs-held, Inserts, Inserts-joined, Removes, Removes-joined, Renews-at, IsLaidOut-walked, IsLaidOut-resized, chain_of-resized}
 
 -- an index within reach names what it says
 pub named_of-within : (most : ℕ) (o : Option ℕ) → ((k : ℕ) → o ≡ Some k → k ≤ most) → named_of most o ≡ o
 named_of-within most None within = refl
-named_of-within most (Some k) within =
-    let far : k ≢ most + 1 = λ same. omega (arith, within k refl) in
-    rw (other_index k (most + 1) far) refl
+named_of-within most (Some k) within = grind (arith, common_steps)
 
 -- a fact that is owed where a value is there
 pub on_some : {A B : Type 0} {P : Type 0} (f : A → B) (o : Option A) (p : Option B) (x : B) → option_map f o ≡ p → p ≡ Some x → OnSome o P → P
@@ -44,23 +41,15 @@ module _ {T : Type 0} where
 
   -- what was held is held after an insertion
   held-inserted : (a a1 : Arena (Link T)) (link : Link T) (j g : ℕ) → IsArenaInsertion a a1 link j g → (k : ℕ) → IsSome (slot a k) → IsSome (slot a1 k)
-  held-inserted a a1 link j g ins k held =
-      let head = next-first a.vacant j ins.next in
-      let within : j < length a.slots = omega (arith, ins.vacant.within, ins.vacant.above) in
-      let after : a1 ≡ with_entry_at a (j ∷ head.0) link = ins.after ∙ ap (λ is. with_entry_at a is link) head.1 in
-      rw (after, slot-filled a j k (a.generation, link) within) (elim (eqb_tells j k) [ inl h ↦ rw h.0 refl | inr h ↦ rw h.0 held ])
+  held-inserted a a1 link j g ins k held = grind (arith, common_steps)
 
   module _ (a : Arena (Link T)) (first last : Option ℕ) (laid : IsLaidOut a.slots first last (chain_of a first).entries) where
     -- the neighbours of a place occur in the list
     prev-occurs : (place : Entry T → List (Entry T)) (prev next : Option ℕ) → IsPlace (chain_of a first).entries place prev next → (k : ℕ) → prev ≡ Some k → 1 ≤ times k (chain_of a first).entries
-    prev-occurs place prev next at k is =
-        let there = times-last at.front k (sym at.prev_is ∙ is) in
-        rw at.split (omega (arith, times-append k at.front at.back, there))
+    prev-occurs place prev next at k is = grind (arith, common_steps, times-last at.front k, at.split, times-append k at.front at.back)
 
     next-occurs : (place : Entry T → List (Entry T)) (prev next : Option ℕ) → IsPlace (chain_of a first).entries place prev next → (k : ℕ) → next ≡ Some k → 1 ≤ times k (chain_of a first).entries
-    next-occurs place prev next at k is =
-        let there = times-first at.back k (sym at.next_is ∙ is) in
-        rw at.split (omega (arith, times-append k at.front at.back, there))
+    next-occurs place prev next at k is = grind (arith, common_steps, times-first at.back k, at.split, times-append k at.front at.back)
 
     -- an insertion into the arena, for an entry beside these two neighbours
     module _ (a1 : Arena (Link T)) (link : Link T) (j g : ℕ) (ins : IsArenaInsertion a a1 link j g)
@@ -75,11 +64,7 @@ module _ {T : Type 0} where
       module _ (most : ℕ) (greatest : Option ℕ) (sound : IsSoundArena most greatest a1) where
         -- an index of the list is within reach where the arena after an insertion is sound
         within-most : arena_capacity a ≤ most
-        within-most =
-            let head = next-first a.vacant j ins.next in
-            let after : a1 ≡ with_entry_at a (j ∷ head.0) link = ins.after ∙ ap (λ is. with_entry_at a is link) head.1 in
-            let size : arena_capacity a1 ≡ arena_capacity a = ap arena_capacity after ∙ ap (λ n. n - 1) (length-set a.slots j _) in
-            omega (arith, sound.within_limit, limit_of-below most a1.maximum)
+        within-most = grind (arith, common_steps)
 
         named-occurs : (o : Option ℕ) → ((k : ℕ) → o ≡ Some k → 1 ≤ times k (chain_of a first).entries) → named_of most o ≡ o
         named-occurs o there =
@@ -102,9 +87,7 @@ module _ {T : Type 0} where
     module _ (greatest : Option ℕ) (i : ℕ) (e : ℕ × Link T) (held : slot a i ≡ Some e) where
       -- an entry beside the one that is taken out has its slot still
       beside-held : (k : ℕ) → i ≢ k → 1 ≤ times k (chain_of a first).entries → IsSome (slot (arena_removed greatest a i) k)
-      beside-held k other occurs =
-          let there = held-occurs a (chain_of a first).entries k _ refl (laid.links k) occurs in
-          rw (slot-emptied a i k (slot-within a i e held), other_index i k other) there
+      beside-held k other occurs = grind (arith, common_steps, held-occurs, first, occurs, slot-emptied, i, slot-within, held, other_index, other)
 
       stretches : Stands (chain_of a first).entries i → (k : ℕ) → ((e.1.prev ≡ Some k) ⊎ (e.1.next ≡ Some k)) → (i ≢ k) × (1 ≤ times k (chain_of a first).entries)
       stretches s k named =
@@ -178,19 +161,14 @@ module _ {T : Type 0} where
 
   -- an arena without entries
   new-laid_out : (greatest : Option ℕ) → IsLaidOut {T = T} (new_arena greatest).slots None None []
-  new-laid_out greatest = record { links = vacant; distinct = λ i. omega arith; first_is = refl; last_is = refl; counted = refl }
-    where
-      vacant : (i : ℕ) → get_or {A = Option (ℕ × Link T)} (None ∷ []) i None ≡ link_at {T = T} [] i
-      vacant zero = refl
-      vacant (suc i) = refl
+  new-laid_out greatest = grind (arith, common_steps)
 
   new-vacant : (greatest : Option ℕ) (n k : ℕ) → n < k → slot {T = Link T} (new_arena greatest) k ≡ None
   new-vacant greatest n zero far = refl
   new-vacant greatest n (suc k) far = refl
 
   pub made-laid_out : (greatest : Option ℕ) (a : Arena (Link T)) (n : ℕ) → a ≡ arena_with_capacity (new_arena greatest) n → IsLaidOut a.slots None None (chain_of a None).entries
-  made-laid_out greatest a n made =
-      rw made (IsLaidOut-walked (arena_with_capacity (new_arena greatest) n) None None [] (IsLaidOut-resized (new_arena greatest) None None [] n (new-vacant greatest n) (new-laid_out greatest)))
+  made-laid_out greatest a n made = grind (arith, common_steps)
 
   pub made-chain : (greatest : Option ℕ) (a : Arena (Link T)) (n : ℕ) → a ≡ arena_with_capacity (new_arena greatest) n → chain_of a None ≡ with_capacity (new_chain greatest) n
   made-chain greatest a n made =

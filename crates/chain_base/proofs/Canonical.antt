@@ -1,7 +1,8 @@
 -- A chain gets its canonical order: once its entries have the least indexes, each in turn is exchanged to that of its place.
 use Rattle.std.proofs.Common.{◌≡◌, ◌≢◌, ℕ, zero, suc, ◌+◌, ◌-◌, ◌<◌, ◌≤◌, ◌==◌, true, List, [], ◌∷◌, ◌++◌, length, map, replicate, slice_get, Option, Some, None, is_some, refl, sym, ap, ◌∙◌, subst, arith, inl, inr, length-append}
+use Rattle.std.proofs.lemmas.Grind.{common_steps}
 use Rattle.std.proofs.lemmas.Bool.{false≢true}
-use Rattle.std.proofs.lemmas.Bool.Decides.{eqb_tells, leb_tells, nat_tests}
+use Rattle.std.proofs.lemmas.Bool.Decides.{eqb_tells, nat_tests}
 use Rattle.std.proofs.lemmas.Option.{none-some, same_Some, slice_get-map, get_or_from_slice_get}
 use Rattle.std.proofs.lemmas.List.{map-append, map-id, append_assoc, append-nil, length-map}
 use Rattle.std.specs.Option.{option_map, option_and_then, ForSome}
@@ -39,10 +40,7 @@ module _ {T : Type 0} where
       ]
     where
       here : from ≡ x → slice_get (entry_before from (entry_at es from) (rising_among es (from + 1) n)) k ≡ Some (x, e.0, e.1)
-      here at =
-          let first : k ≡ 0 = let level = ap (lesser es) at in omega (arith, level) in
-          let found : entry_at es from ≡ Some e = ap (entry_at es) at ∙ is in
-          rw (found, first, at) refl
+      here at = grind (arith, common_steps)
 
       behind : (f : ℕ × T) (m : ℕ) → 1 ≤ m → (xs : List (ℕ × ℕ × T)) → slice_get xs (m - 1) ≡ Some (x, e.0, e.1) → slice_get (entry_before from (Some f) xs) m ≡ Some (x, e.0, e.1)
       behind f zero some xs more = absurd (omega arith)
@@ -68,8 +66,7 @@ module _ {T : Type 0} where
   map-alike : {B : Type 0} (f h : Entry T → B) (es front fs : List (Entry T)) → es ≡ front ++ fs
       → ((xs : List (Entry T)) (e : Entry T) (ys : List (Entry T)) → es ≡ xs ++ e ∷ ys → f e ≡ h e) → map f fs ≡ map h fs
   map-alike f h es front [] split same = refl
-  map-alike f h es front (e ∷ fs) split same =
-      rw (same front e fs split) (ap (λ rest. h e ∷ rest) (map-alike f h es (front ++ e ∷ []) fs (split ∙ sym (append_assoc front (e ∷ []) fs)) same))
+  map-alike f h es front (e ∷ fs) split same = grind (arith, common_steps, map-alike f h es (front ++ e ∷ []) fs)
 
   -- a compression whose calls give each item back
   pub compression-relocates : {P F : Type 0} (numbers : P → ℕ × ℕ) (step : F → P → T → P → T → F → Type 0) (g most : ℕ) (greatest : Option ℕ)
@@ -82,11 +79,7 @@ module _ {T : Type 0} where
       items = sym (map-id c.items) ∙ calls-keep numbers step g (λ (x : T). x) back (entries_rising old) f c.last [] c.items c.calls
 
       begins : lesser old.entries 1 ≡ 0
-      begins =
-          elim (eqb_tells (times 0 old.entries) 0) [
-            | inl h ↦ let next = lesser-next old.entries 0 in omega (arith, next, lesser-zero old.entries, h.1)
-            | inr h ↦ absurd (let within = sound.within 0 (omega (arith, h.1)) in omega (arith, within.0))
-          ]
+      begins = grind (arith, common_steps, lesser-next old.entries 0, lesser-zero old.entries, sound.within 0)
 
       same : (xs : List (Entry T)) (e : Entry T) (ys : List (Entry T)) → old.entries ≡ xs ++ e ∷ ys → moved old.entries g c.items e ≡ at_compressed_index old.entries g e
       same xs e ys split =
@@ -105,25 +98,12 @@ module _ {T : Type 0} where
   -- the greatest place is the number of entries
   lesser-all : (es : List (Entry T)) (b : ℕ) → ((y : ℕ) → 1 ≤ times y es → y < b) → lesser es b ≡ length es
   lesser-all [] b below = refl
-  lesser-all (e ∷ es) b below =
-      let first = below e.index (omega (arith, times-here e.index e es refl)) in
-      let ih = lesser-all es b (λ y there. below y (omega arith)) in
-      counted first ih
-    where
-      counted : e.index < b → lesser es b ≡ length es → lesser (e ∷ es) b ≡ suc (length es)
-      counted first ih = grind (arith, nat_tests)
+  lesser-all (e ∷ es) b below = grind (arith, common_steps, lesser-all es b, below e.index, times-here e.index e es, below, nat_tests)
 
   -- each number below is some entry's place
   place-found : (es : List (Entry T)) → IsDistinct es → (n m i : ℕ) → lesser es i ≤ n → n < lesser es (i + m) → (x : ℕ) × (lesser es x ≡ n) × (1 ≤ times x es)
   place-found es distinct n zero i low high = let same : i + 0 ≡ i = omega arith in absurd (let level = ap (lesser es) same in omega (arith, level))
-  place-found es distinct n (suc m) i low high =
-      let next = lesser-next es i in
-      let at : i + suc m ≡ (i + 1) + m = omega arith in
-      let high' : n < lesser es ((i + 1) + m) = let level = ap (lesser es) at in omega (arith, level) in
-      elim (leb_tells (lesser es (i + 1)) n) [
-        | inl h ↦ place-found es distinct n m (i + 1) h.1 high'
-        | inr h ↦ (i, omega (arith, h.1, next, distinct i), omega (arith, h.1, next))
-      ]
+  place-found es distinct n (suc m) i low high = grind (arith, common_steps, place-found es distinct n m (i + 1), lesser-next, i, distinct)
 
   -- the indexes of entries are just those from 1 to n
   pub record Dense (es : List (Entry T)) (n : ℕ) : Type 0 where
@@ -172,13 +152,7 @@ module _ {T : Type 0} where
   era-at : (es : List (Entry T)) (n g i : ℕ) (x : ℕ × T) → eras es ≡ replicate n g → entry_at es i ≡ Some x → x.0 ≡ g
   era-at [] n g i x all is = absurd (none-some x is)
   era-at (e ∷ es) zero g i x all is = absurd (cc)
-  era-at (e ∷ es) (suc n) g i x all is =
-      let first : e.generation ≡ g = cc in
-      let rest : eras es ≡ replicate n g = cc in
-      elim (eqb_tells e.index i) [
-        | inl h ↦ let same : ◌≡◌ {A = ℕ × T} (e.generation, e.item) x = same_Some (e.generation, e.item) x (rw h.0 at is) in sym (ap (λ (p : ℕ × T). p.0) same) ∙ first
-        | inr h ↦ era-at es n g i x rest (rw h.0 at is)
-      ]
+  era-at (e ∷ es) (suc n) g i x all is = grind (arith, common_steps, era-at es n g i x)
 
   relocated-eras : (fs : List (Entry T)) (es : List (Entry T)) (g : ℕ) → eras (map (at_compressed_index es g) fs) ≡ replicate (length fs) g
   relocated-eras [] es g = refl
@@ -196,24 +170,14 @@ module _ {T : Type 0} where
   exchanged-items [] i j = refl
   exchanged-items (e ∷ es) i j = ap (λ rest. e.item ∷ rest) (exchanged-items es i j)
 
-  -- numbered entries
-  entry-of : ℕ → ℕ → T → Entry T
-  entry-of i g item = record { index = i; generation = g; item = item }
-
   -- entries numbered in a row, and one more
   pub numbered-push : (g from : ℕ) (xs : List T) (x : T) → numbered g from (xs ++ x ∷ []) ≡ numbered g from xs ++ record { index = from + length xs; generation = g; item = x } ∷ []
   numbered-push g from [] x = let at : from + 0 ≡ from = omega arith in rw at refl
-  numbered-push g from (y ∷ xs) x =
-      let at : (from + 1) + length xs ≡ from + suc (length xs) = omega arith in
-      rw (← at) (ap (λ rest. record { index = from; generation = g; item = y } ∷ rest) (numbered-push g (from + 1) xs x))
+  numbered-push g from (y ∷ xs) x = grind (arith, common_steps, numbered-push g (from + 1) xs x)
 
   numbered-times : (g from : ℕ) (xs : List T) (i : ℕ) → from ≤ i → i < from + length xs → 1 ≤ times i (numbered g from xs)
   numbered-times g from [] i above below = absurd (omega arith)
-  numbered-times g from (x ∷ xs) i above below =
-      elim (eqb_tells from i) [
-        | inl h ↦ omega (arith, times-here i (record { index = from; generation = g; item = x }) (numbered g (from + 1) xs) h.1)
-        | inr h ↦ omega (arith, numbered-times g (from + 1) xs i (omega (arith, h.1)) (omega arith))
-      ]
+  numbered-times g from (x ∷ xs) i above below = grind (arith, common_steps, numbered-times g (from + 1) xs i)
 
   numbered-apart : (g from : ℕ) (xs : List T) (i j : ℕ) → ((m : ℕ) → from ≤ m → m < from + length xs → (m ≢ i) × (m ≢ j)) → map (in_exchange i j) (numbered g from xs) ≡ numbered g from xs
   numbered-apart g from [] i j apart = refl
@@ -356,17 +320,7 @@ module _ {T : Type 0} where
       nothing (f ∷ fs) none = absurd (omega arith)
 
       alike : (m : ℕ) → {xs ys : List (Entry T)} {n : ℕ} → Dense xs n → Dense ys n → (times m xs == 0) ≡ (times m ys == 0)
-      alike m {xs} {ys} {n} dense_x dense_y =
-          elim (eqb_tells (times m xs) 0) [
-            | inl h ↦ elim (eqb_tells (times m ys) 0) [
-              | inl l ↦ rw (h.0, l.0) refl
-              | inr l ↦ let within = dense_y.only m (omega (arith, l.1)) in let there = dense_x.all m within.0 within.1 in absurd (omega (arith, h.1, there))
-            ]
-            | inr h ↦ elim (eqb_tells (times m ys) 0) [
-              | inl l ↦ let within = dense_x.only m (omega (arith, h.1)) in let there = dense_y.all m within.0 within.1 in absurd (omega (arith, l.1, there))
-              | inr l ↦ rw (h.0, l.0) refl
-            ]
-          ]
+      alike m {xs} {ys} {n} dense_x dense_y = grind (arith, common_steps)
 
       vacant-same : (xs ys : List (Entry T)) → ((m : ℕ) → (times m xs == 0) ≡ (times m ys == 0)) → (n from : ℕ) → vacant_among xs from n ≡ vacant_among ys from n
       vacant-same xs ys same zero from = refl

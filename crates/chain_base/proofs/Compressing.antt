@@ -1,5 +1,6 @@
 -- A chain is compressed: its entries learn their places, the arena is compressed, and the places are linked back.
 use Rattle.std.proofs.Common.{◌≡◌, ◌≢◌, ℕ, zero, suc, ◌+◌, ◌-◌, ◌<◌, ◌≤◌, true, false, List, [], ◌∷◌, ◌++◌, length, map, take, slice_get, Option, Some, None, is_some, count_by, cond, get_or, refl, sym, ap, ◌∙◌, subst, arith, inl, inr, add-one}
+use Rattle.std.proofs.lemmas.Grind.{common_steps}
 use Rattle.std.proofs.lemmas.Bool.{false≢true}
 use Rattle.std.proofs.lemmas.Bool.Decides.{eqb_tells}
 use Rattle.std.proofs.lemmas.Option.{none-some, same_Some, slice_get-map, slice_get_within, get_or_from_slice_get}
@@ -224,10 +225,7 @@ module _ {T : Type 0} where
 
         -- the places are the indexes now
         place-second : (x : ℕ) → 1 ≤ times x es → compressed_index_in a2 (place x) ≡ place x
-        place-second x occurs =
-            let l = after2 x occurs in
-            let within = slice_get_within c.links (lesser es x) l.0 l.4 in
-            ap (λ n. n + 1) (ap (λ ss. count_by is_some (take (place x) ss)) c.after.slots ∙ compressed-place (length a1.slots) g c.links (lesser es x) fits (omega arith))
+        place-second x occurs = grind (arith, common_steps, after2 x occurs, occurs, slice_get_within c.links (lesser es x), place x, compressed-place (length a1.slots) g c.links (lesser es x) fits, fits)
 
         module _ (a3 : Arena (Link T)) (end2 : Option ℕ) (n2 : NamesCompressedIndexes After a2 a3 end2) where
           abbrev change : Entry T → Entry T
@@ -370,5 +368,4 @@ module _ {T : Type 0} where
 -- a compression of a chain that is seen in another way
 pub compression-of : {P T M : Type 0} (numbers : P → ℕ × ℕ) (step : M → P → T → P → T → M → Type 0) (m : M) (seen old new : Chain T) (g h : ℕ)
     → seen ≡ old → g ≡ h → IsCompression numbers step g m seen new → IsCompression numbers step h m old new
-compression-of numbers step m seen old new g h is same c =
-    subst (λ k. IsCompression numbers step k m old new) same (subst (λ v. IsCompression numbers step g m v new) is c)
+compression-of numbers step m seen old new g h is same c = grind (arith, common_steps)

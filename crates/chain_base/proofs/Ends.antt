@@ -1,12 +1,13 @@
 -- What the calls that look up an entry find, read off the list.
-use Rattle.std.proofs.Common.{◌≡◌, ℕ, ◌≤◌, List, [], ◌∷◌, Option, Some, None, IsSome, is_some, false, refl, sym, ap, ◌∙◌, arith, inl, inr}
+use Rattle.std.proofs.Common.{◌≡◌, ℕ, ◌≤◌, List, [], ◌∷◌, Option, Some, None, IsSome, is_some, false, refl, sym, ◌∙◌, arith, inl, inr}
+use Rattle.std.proofs.lemmas.Grind.{common_steps}
 use Rattle.std.proofs.lemmas.Bool.Decides.{eqb_tells}
 use Rattle.std.specs.Option.{option_map}
 use Rattle.arena_base.specs.Arena.{Arena, slot, item_if, item_of as slot_item, IsFirstEntry, IsLastEntry}
 use Rattle.chain_base.specs.Link.{Link}
-use Rattle.chain_base.specs.Chain.{Entry, times, entry_at, link_at, first_or, last_or, first_pointer, last_pointer, pointed, item_of, generation_at, IsFirstIndex, IsLastIndex}
+use Rattle.chain_base.specs.Chain.{Entry, times, entry_at, link_at, last_or, last_pointer, pointed, item_of, generation_at, IsFirstIndex, IsLastIndex}
 use Rattle.chain_base.specs.Layout.{chain_of, IsLaidOut}
-use Rattle.chain_base.proofs.Lists.{times-here, times-there, times-last, times-unlinked, entry_at-link, same_index}
+use Rattle.chain_base.proofs.Lists.{times-here, times-there, times-last, times-unlinked, entry_at-link}
 
 -- an option is there where what it is mapped to is there
 pub some-of : {A B : Type 0} (f : A → B) (o : Option A) (p : Option B) → option_map f o ≡ p → IsSome p → IsSome o
@@ -14,28 +15,11 @@ some-of f None p same some = rw (← same) at some
 some-of f (Some x) p same some = refl
 
 module _ {T : Type 0} where
-  -- the pointer to the first index is the first pointer
-  pub pointed-first : (es : List (Entry T)) (i : ℕ) → first_or None es ≡ Some i → pointed i (entry_at es i) ≡ first_pointer es
-  pointed-first [] i first = absurd (cc)
-  pointed-first (e ∷ es) i first =
-      let same : e.index ≡ i = cc in
-      rw (← same, same_index e.index) refl
-
-  pub first_pointer-none : (es : List (Entry T)) → first_or None es ≡ None → first_pointer es ≡ None
-  first_pointer-none [] none = refl
-  first_pointer-none (e ∷ es) none = absurd (cc)
-
   -- the pointer to the last index is the last pointer
   pub pointed-last : (es : List (Entry T)) (i : ℕ) → times i es ≤ 1 → last_or None es ≡ Some i → pointed i (entry_at es i) ≡ last_pointer es
   pointed-last [] i once last = absurd (cc)
-  pointed-last (e ∷ []) i once last =
-      let same : e.index ≡ i = cc in
-      rw (← same, same_index e.index) refl
-  pointed-last (e ∷ f ∷ es) i once last =
-      elim (eqb_tells e.index i) [
-        | inl h ↦ absurd (omega (arith, times-here i e (f ∷ es) h.1, times-last (f ∷ es) i last))
-        | inr h ↦ rw h.0 (pointed-last (f ∷ es) i (omega (arith, times-there i e (f ∷ es) h.1)) last)
-      ]
+  pointed-last (e ∷ []) i once last = grind (arith, common_steps)
+  pointed-last (e ∷ f ∷ es) i once last = grind (arith, common_steps, pointed-last (f ∷ es) i, i, times-here, times-last, times-there)
 
   pub last_pointer-none : (es : List (Entry T)) → last_or None es ≡ None → last_pointer es ≡ None
   last_pointer-none [] none = refl
@@ -52,19 +36,11 @@ module _ {T : Type 0} where
 
   -- where there is no entry there is no link
   pub link_at-none : (es : List (Entry T)) (i : ℕ) → is_some (entry_at es i) ≡ false → None ≡ link_at es i
-  link_at-none es i none = mapped (link_at es i) (ap is_some (sym (entry_at-link None None es i)) ∙ none)
-    where
-      mapped : (o : Option (ℕ × Link T)) → is_some {T = ℕ × T} (option_map (λ e. (e.0, e.1.item)) o) ≡ false → None ≡ o
-      mapped None h = refl
-      mapped (Some e) h = absurd (cc)
+  link_at-none es i none = grind (arith, common_steps, i, entry_at-link None None es i)
 
   -- an entry's generation is that of its slot
   pub generation_at-link : (es : List (Entry T)) (i : ℕ) (o : Option (ℕ × Link T)) → o ≡ link_at es i → generation_at es i ≡ option_map (λ e. e.0) o
-  generation_at-link es i o links = rw (entry_at-link None None es i, ← links) (mapped o)
-    where
-      mapped : (o : Option (ℕ × Link T)) → option_map {T = ℕ × T} (λ e. e.0) (option_map (λ e. (e.0, e.1.item)) o) ≡ option_map (λ e. e.0) o
-      mapped None = refl
-      mapped (Some e) = refl
+  generation_at-link es i o links = grind (arith, common_steps, entry_at-link None None es i, i)
 
   pub IsFirstIndex-slot : (a : Arena (Link T)) (es : List (Entry T)) (i g : ℕ) → ((k : ℕ) → slot a k ≡ link_at es k) → IsFirstEntry a i g → IsFirstIndex es i g
   IsFirstIndex-slot a es i g links first =
@@ -92,11 +68,7 @@ module _ {T : Type 0} where
     item_of-laid_out p = item_of-link (chain_of a first).entries p (slot a p.0) (laid.links p.0)
 
     pub contains-laid_out : (p : ℕ × ℕ) → is_some (slot_item a p) ≡ is_some (item_of (chain_of a first).entries p)
-    contains-laid_out p = rw (item_of-laid_out p) (mapped (slot_item a p))
-      where
-        mapped : (o : Option (Link T)) → is_some o ≡ is_some (option_map (λ l. l.item) o)
-        mapped None = refl
-        mapped (Some l) = refl
+    contains-laid_out p = grind (arith, common_steps, item_of-laid_out p)
 
     -- an occupied index of the chain has a link in its slot
     pub occupied-laid_out : (i : ℕ) → IsSome (entry_at (chain_of a first).entries i) → IsSome (slot a i)

@@ -1,17 +1,17 @@
 -- Two entries of a chain change their indexes with each other: a swap in the arena, and the links that named them.
 use Rattle.std.proofs.Common.{◌≡◌, ◌≢◌, ℕ, ◌<◌, ◌≤◌, Bool, true, false, List, length, map, Option, Some, None, is_some, refl, sym, ap, ◌∙◌, subst, arith, if◌then◌else◌, inl, inr, length-set}
-use Rattle.std.proofs.lemmas.Bool.{false≢true}
+use Rattle.std.proofs.lemmas.Grind.{common_steps}
 use Rattle.std.proofs.lemmas.Bool.Decides.{eqb_tells}
 use Rattle.std.specs.Option.{option_map, option_and_then, ForSome}
 use Rattle.arena_base.specs.Pointer.{named_of}
 use Rattle.arena_base.specs.Arena.{Arena, slot, with_slot, with_item_of, swapped}
 use Rattle.chain_base.specs.Link.{Link}
 use Rattle.chain_base.specs.Chain.{Entry, Chain, times, entry_at, link_at, IsOccupied, IsSound}
-use Rattle.chain_base.specs.Layout.{chain_of, names, with_next, with_prev, linked_next, linked_prev, IsLaidOut}
+use Rattle.chain_base.specs.Layout.{chain_of, names, linked_next, linked_prev, IsLaidOut}
 use Rattle.chain_base.specs.Exchange.{exchanged_index, in_exchange, exchanged, index_before, IsEven}
 use Rattle.chain_base.specs.Walk.{index_after}
-use Rattle.chain_base.proofs.Lists.{entry_at-link, entry_at-absent, names_tells, same_index, other_index}
-use Rattle.chain_base.proofs.LaidOut.{slot-with_other, slot-with_same, slot-within, slot-linked_next, slot-linked_prev, walk-laid_out}
+use Rattle.chain_base.proofs.Lists.{entry_at-link, entry_at-absent, same_index, other_index}
+use Rattle.chain_base.proofs.LaidOut.{slot-with_other, slot-with_same, slot-within, walk-laid_out}
 use Rattle.chain_base.proofs.Renumbering.{link_at-split, prev_at, next_at, named-occurs, next-of_prev, prev-of_next, times-changed, IsLaidOut-renumbered}
 use Rattle.chain_base.proofs.Ranking.{counts-alike}
 use Rattle.arena_base.proofs.CallerLemmas.{limit_of-below}
@@ -32,76 +32,32 @@ module _ (i j : ℕ) where
   other-same k not_i not_j = rw (other_index k i not_i, other_index k j not_j) refl
 
   pub other-twice : (k : ℕ) → other (other k) ≡ k
-  other-twice k =
-      elim (eqb_tells k i) [
-        | inl h ↦ ap other (ap other h.1 ∙ other-first) ∙ (other-second ∙ sym h.1)
-        | inr h ↦ elim (eqb_tells k j) [
-          | inl l ↦ ap other (ap other l.1 ∙ other-second) ∙ (other-first ∙ sym l.1)
-          | inr l ↦ ap other (other-same k h.1 l.1) ∙ other-same k h.1 l.1
-        ]
-      ]
+  other-twice k = grind (arith, common_steps)
 
   pub other-injective : (x y : ℕ) → other x ≡ other y → x ≡ y
   other-injective x y same = sym (other-twice x) ∙ (ap other same ∙ other-twice y)
 
   -- what holds of both holds of the other of each that it holds of
   pub other-holds : (Q : ℕ → Type 0) → Q i → Q j → (k : ℕ) → Q k → Q (other k)
-  other-holds Q of_i of_j k of_k =
-      elim (eqb_tells k i) [
-        | inl h ↦ subst Q (sym (ap other h.1 ∙ other-first)) of_j
-        | inr h ↦ elim (eqb_tells k j) [
-          | inl l ↦ subst Q (sym (ap other l.1 ∙ other-second)) of_i
-          | inr l ↦ subst Q (sym (other-same k h.1 l.1)) of_k
-        ]
-      ]
+  other-holds Q of_i of_j k of_k = grind (arith, common_steps)
 
 module _ {T : Type 0} where
   slot-next : (a : Arena (Link T)) (at v : Option ℕ) (k : ℕ) (e : ℕ × Link T) → slot a k ≡ Some e
       → slot (linked_next a at v) k ≡ Some (e.0, record { item = e.1.item; prev = e.1.prev; next = if names at k then v else e.1.next })
-  slot-next a at v k e held = slot-linked_next a at v k ∙ by (names at k)
-    where
-      by : (b : Bool) → (if b then option_map (with_next v) (slot a k) else slot a k) ≡ Some (e.0, record { item = e.1.item; prev = e.1.prev; next = if b then v else e.1.next })
-      by true = ap (option_map (with_next v)) held
-      by false = held
+  slot-next a at v k e held = grind (arith, common_steps)
 
   slot-prev : (a : Arena (Link T)) (at v : Option ℕ) (k : ℕ) (e : ℕ × Link T) → slot a k ≡ Some e
       → slot (linked_prev a at v) k ≡ Some (e.0, record { item = e.1.item; prev = if names at k then v else e.1.prev; next = e.1.next })
-  slot-prev a at v k e held = slot-linked_prev a at v k ∙ by (names at k)
-    where
-      by : (b : Bool) → (if b then option_map (with_prev v) (slot a k) else slot a k) ≡ Some (e.0, record { item = e.1.item; prev = if b then v else e.1.prev; next = e.1.next })
-      by true = ap (option_map (with_prev v)) held
-      by false = held
+  slot-prev a at v k e held = grind (arith, common_steps)
 
   held-if : (f : ℕ × Link T → ℕ × Link T) (b : Bool) (o : Option (ℕ × Link T)) → is_some (if b then option_map f o else o) ≡ is_some o
   held-if f true None = refl
   held-if f true (Some e) = refl
   held-if f false o = refl
 
-  held-next : (a : Arena (Link T)) (at v : Option ℕ) (k : ℕ) → is_some (slot (linked_next a at v) k) ≡ is_some (slot a k)
-  held-next a at v k = ap is_some (slot-linked_next a at v k) ∙ held-if (with_next v) (names at k) (slot a k)
-
-  held-prev : (a : Arena (Link T)) (at v : Option ℕ) (k : ℕ) → is_some (slot (linked_prev a at v) k) ≡ is_some (slot a k)
-  held-prev a at v k = ap is_some (slot-linked_prev a at v k) ∙ held-if (with_prev v) (names at k) (slot a k)
-
-  long-next : (a : Arena (Link T)) (at v : Option ℕ) → length (linked_next a at v).slots ≡ length a.slots
-  long-next a None v = refl
-  long-next a (Some k) v = length-set a.slots k _
-
-  long-prev : (a : Arena (Link T)) (at v : Option ℕ) → length (linked_prev a at v).slots ≡ length a.slots
-  long-prev a None v = refl
-  long-prev a (Some k) v = length-set a.slots k _
-
   -- a with other slots
   abbrev with_slots : Arena (Link T) → List (Option (ℕ × Link T)) → Arena (Link T)
   with_slots a slots = record a { slots = slots }
-
-  kept-next : (a : Arena (Link T)) (at v : Option ℕ) → linked_next a at v ≡ with_slots a (linked_next a at v).slots
-  kept-next a None v = refl
-  kept-next a (Some k) v = refl
-
-  kept-prev : (a : Arena (Link T)) (at v : Option ℕ) → linked_prev a at v ≡ with_slots a (linked_prev a at v).slots
-  kept-prev a None v = refl
-  kept-prev a (Some k) v = refl
 
   -- two arenas hold entries at the same indexes, and differ in their slots alone
   pub record Alike (a b : Arena (Link T)) : Type 0 where
@@ -113,20 +69,10 @@ module _ {T : Type 0} where
   alike-is a b c is same = subst (λ d. Alike d c) (sym is) same
 
   pub alike-next : (a b : Arena (Link T)) (at v : Option ℕ) → Alike a b → Alike (linked_next a at v) b
-  alike-next a b at v same =
-      record {
-        held = λ k. held-next a at v k ∙ same.held k;
-        long = long-next a at v ∙ same.long;
-        kept = kept-next a at v ∙ ap (λ c. with_slots c (linked_next a at v).slots) same.kept;
-      }
+  alike-next a b at v same = grind (arith, common_steps)
 
   pub alike-prev : (a b : Arena (Link T)) (at v : Option ℕ) → Alike a b → Alike (linked_prev a at v) b
-  alike-prev a b at v same =
-      record {
-        held = λ k. held-prev a at v k ∙ same.held k;
-        long = long-prev a at v ∙ same.long;
-        kept = kept-prev a at v ∙ ap (λ c. with_slots c (linked_prev a at v).slots) same.kept;
-      }
+  alike-prev a b at v same = grind (arith, common_steps)
 
   -- equal generations, as slots have them
   even-slots : (a : Arena (Link T)) (first last : Option ℕ) (es : List (Entry T)) → IsLaidOut a.slots first last es → (g : ℕ) → ((i : ℕ) → ForSome (entry_at es i) (λ e. e.0 ≡ g))
@@ -157,11 +103,7 @@ module _ {T : Type 0} where
   behind-exchanged c d same f k o p is at = is ∙ ap (option_map f) (at ∙ ap (λ (e : Chain T). index_after e.entries k) (sym same))
 
   held-entry : (es : List (Entry T)) (k : ℕ) (o : Option (ℕ × Link T)) → o ≡ link_at es k → is_some (entry_at es k) ≡ true → is_some o ≡ true
-  held-entry es k o is there = mapped o (ap is_some (sym (entry_at-link None None es k ∙ ap (option_map (λ e. (e.0, e.1.item))) (sym is))) ∙ there)
-    where
-      mapped : (o : Option (ℕ × Link T)) → is_some {T = ℕ × T} (option_map (λ e. (e.0, e.1.item)) o) ≡ true → is_some o ≡ true
-      mapped None there = absurd (cc)
-      mapped (Some e) there = refl
+  held-entry es k o is there = grind (arith, common_steps, entry_at-link None None es k, there)
 
   module _ (a0 : Arena (Link T)) (first last : Option ℕ) (es : List (Entry T)) (laid : IsLaidOut a0.slots first last es) (i j : ℕ) (can : CanExchange es i j) where
     at_i : is_some (slot a0 i) ≡ true
@@ -195,8 +137,7 @@ module _ {T : Type 0} where
         ∙ slot-with_same a0 i (with_item_of (slot a0 i) (slot a0 j)) (slot-within a0 i ei.0 ei.1)
 
     swap-other : (k : ℕ) → k ≢ i → k ≢ j → slot swap k ≡ slot a0 k
-    swap-other k not_i not_j =
-        slot-with_other (with_slot a0 i (with_item_of (slot a0 i) (slot a0 j))) j k _ (λ same. not_j (sym same)) ∙ slot-with_other a0 i k _ (λ same. not_i (sym same))
+    swap-other k not_i not_j = grind (arith, common_steps)
 
     taken : (e f : ℕ × Link T) → f.0 ≡ e.0 → (o p : Option (ℕ × Link T)) → o ≡ Some f → p ≡ Some e → with_item_of o p ≡ Some e
     taken e f same o p is_f is_e = rw (is_f, is_e, same) refl
@@ -259,25 +200,7 @@ module _ {T : Type 0} where
     facing : (named_i named_j : Option ℕ) (x : ℕ) (o : Option ℕ)
         → (named_i ≡ Some x → o ≡ Some i) → (named_j ≡ Some x → o ≡ Some j) → (o ≡ Some i → named_i ≡ Some x) → (o ≡ Some j → named_j ≡ Some x)
         → (if names (option_map (other i j) named_j) (other i j x) then Some i else (if names (option_map (other i j) named_i) (other i j x) then Some j else o)) ≡ option_map (other i j) o
-    facing named_i named_j x o from_i from_j to_i to_j =
-        elim (names_tells (option_map (other i j) named_j) (other i j x)) [
-          | inl h ↦
-              let y = renamed (other i j) named_j (other i j x) h.1 in
-              let is : o ≡ Some j = from_j (y.1 ∙ ap Some (other-injective i j y.0 x y.2)) in
-              rw h.0 (sym (ap (option_map (other i j)) is ∙ ap Some (other-second i j)))
-          | inr h ↦ elim (names_tells (option_map (other i j) named_i) (other i j x)) [
-            | inl l ↦
-                let y = renamed (other i j) named_i (other i j x) l.1 in
-                let is : o ≡ Some i = from_i (y.1 ∙ ap Some (other-injective i j y.0 x y.2)) in
-                rw (h.0, l.0) (sym (ap (option_map (other i j)) is ∙ ap Some (other-first i j)))
-            | inr l ↦
-                rw (h.0, l.0) (stays o (λ is. l.1 (ap (option_map (other i j)) (to_i is))) (λ is. h.1 (ap (option_map (other i j)) (to_j is))))
-          ]
-        ]
-      where
-        stays : (o : Option ℕ) → o ≢ Some i → o ≢ Some j → o ≡ option_map (other i j) o
-        stays None not_i not_j = refl
-        stays (Some y) not_i not_j = ap Some (sym (other-same i j y (λ same. not_i (ap Some same)) (λ same. not_j (ap Some same))))
+    facing named_i named_j x o from_i from_j to_i to_j = grind (arith, common_steps)
 
     abbrev linked1 : Arena (Link T)
     linked1 = linked_next swap (option_map (other i j) (prev_at es i)) (Some j)
@@ -380,12 +303,4 @@ module _ {T : Type 0} where
 
   -- an index with an entry can be named in a link
   pub occupied-named : (most : ℕ) (greatest : Option ℕ) (c : Chain T) (i : ℕ) → IsSound most greatest c → is_some (entry_at c.entries i) ≡ true → named_of most (Some i) ≡ Some i
-  occupied-named most greatest c i sound occupied =
-      elim (eqb_tells (times i c.entries) 0) [
-        | inl h ↦ absurd (false≢true (sym (ap is_some (entry_at-absent c.entries i h.1)) ∙ occupied))
-        | inr h ↦
-            let within = sound.within i (omega (arith, h.1)) in
-            let limit = limit_of-below most c.maximum in
-            let below = sound.within_limit in
-            neighbour-within most i (omega (arith, within.1))
-      ]
+  occupied-named most greatest c i sound occupied = grind (arith, common_steps, i, entry_at-absent, limit_of-below, neighbour-within)

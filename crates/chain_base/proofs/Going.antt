@@ -1,28 +1,21 @@
 -- One step along a chain.
 use Rattle.std.proofs.Common.{◌≡◌, ℕ, ◌≤◌, List, [], ◌∷◌, ◌++◌, Option, Some, None, refl, sym, ap, subst, ◌∙◌, arith, inl, inr, append_assoc}
+use Rattle.std.proofs.lemmas.Grind.{common_steps}
 use Rattle.std.proofs.lemmas.Bool.Decides.{eqb_tells}
 use Rattle.std.specs.Option.{option_and_then}
 use Rattle.chain_base.specs.Link.{Link}
 use Rattle.chain_base.specs.Chain.{Entry, Chain, times, IsDistinct, link_at, first_or, last_or, from_index}
 use Rattle.chain_base.specs.Walk.{pointers, pointers_from, GivesEntry}
-use Rattle.chain_base.proofs.Lists.{link_between-append, link_between-absent, times-unlinked, times-append, times-here, times-there, same_index, Stands, Stands-occurs}
+use Rattle.chain_base.proofs.Lists.{link_between-append, link_between-absent, times-unlinked, times-append, times-here, same_index, Stands, Stands-occurs}
 
 module _ {T : Type 0} where
   from_index-split : (front : List (Entry T)) (e : Entry T) (back : List (Entry T)) (i : ℕ) → e.index ≡ i → times i front ≡ 0 → from_index (front ++ e ∷ back) i ≡ e ∷ back
   from_index-split [] e back i here unmet = elim (eqb_tells e.index i) [ inl h ↦ rw h.0 refl | inr h ↦ absurd (h.1 here) ]
-  from_index-split (f ∷ front) e back i here unmet =
-      elim (eqb_tells f.index i) [
-        | inl h ↦ absurd (omega (arith, times-here i f front h.1))
-        | inr h ↦ rw h.0 (from_index-split front e back i here (omega (arith, times-there i f front h.1)))
-      ]
+  from_index-split (f ∷ front) e back i here unmet = grind (arith, common_steps, from_index-split front e back i here)
 
   from_index-absent : (es : List (Entry T)) (i : ℕ) → times i es ≡ 0 → from_index es i ≡ []
   from_index-absent [] i absent = refl
-  from_index-absent (e ∷ es) i absent =
-      elim (eqb_tells e.index i) [
-        | inl h ↦ absurd (omega (arith, times-here i e es h.1))
-        | inr h ↦ rw h.0 (from_index-absent es i (omega (arith, times-there i e es h.1)))
-      ]
+  from_index-absent (e ∷ es) i absent = grind (arith, common_steps, from_index-absent es i)
 
   -- no entry has the index
   pub pointers_from-none : (c : Chain T) (i : ℕ) → None ≡ link_at c.entries i → pointers_from (Some i) c ≡ []

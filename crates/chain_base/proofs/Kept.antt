@@ -1,6 +1,7 @@
 -- What the calls of a compression keep of the links.
-use Rattle.std.proofs.Common.{◌≡◌, ℕ, List, [], ◌∷◌, ◌++◌, map, sym, ap, ◌∙◌}
-use Rattle.std.proofs.lemmas.List.{map_push, map-id, append_assoc, append-nil}
+use Rattle.std.proofs.Common.{◌≡◌, ℕ, List, [], ◌∷◌, ◌++◌, map, sym, ap, ◌∙◌, arith}
+use Rattle.std.proofs.lemmas.Grind.{common_steps}
+use Rattle.std.proofs.lemmas.List.{map-id, append-nil}
 use Rattle.std.specs.List.{FoldsTo}
 use Rattle.arena_base.specs.Arena.{Arena}
 use Rattle.arena_base.specs.Walk.{entries_rising}
@@ -16,14 +17,7 @@ module _ {P X M B : Type 0} (numbers : P → ℕ × ℕ) (step : M → P → X �
   pub calls-keep : (es : List (ℕ × ℕ × X)) (m n : M) (xs ys : List X) → FoldsTo {P = M × List X} (CompressionStep numbers step g) (m, xs) es (n, ys)
       → map part ys ≡ map part xs ++ map (λ (e : ℕ × ℕ × X). part e.2) es
   calls-keep [] m n xs ys same = ap (λ (s : M × List X). map part s.1) (sym same) ∙ sym (append-nil (map part xs))
-  calls-keep (e ∷ es) m n xs ys calls =
-      let s = calls.1 in
-      let kept : part s.item ≡ part e.2 = keeps m s.from e.2 s.to s.item calls.0.0 s.called in
-      let rest = map (λ (e : ℕ × ℕ × X). part e.2) es in
-      calls-keep es calls.0.0 n calls.0.1 ys calls.2
-      ∙ (ap (λ zs. map part zs ++ rest) s.behind
-      ∙ (ap (λ zs. zs ++ rest) (map_push part xs s.item)
-      ∙ (append_assoc (map part xs) (part s.item ∷ []) rest ∙ ap (λ b. map part xs ++ b ∷ rest) kept)))
+  calls-keep (e ∷ es) m n xs ys calls = grind (arith, common_steps, calls-keep es calls.0.0 n calls.0.1 ys calls.2)
 
 pub compresses-items : {P T M N : Type 0} (numbers : P → ℕ × ℕ) (step : M → P → T → P → T → M → Type 0) (g : ℕ) (inner : N → M) (n : N) (old new : Arena (Link T))
     → IsCompression numbers (λ m p x q y m'. MapsItem step (inner m) p x q y (inner m')) g n old new → CompressesItems numbers step g (inner n) old new

@@ -1,8 +1,8 @@
 -- How each step of a chain keeps its list laid out in the arena.
-use Rattle.std.proofs.Common.{◌≡◌, ◌≢◌, ℕ, ◌+◌, ◌<◌, ◌≤◌, ◌==◌, false, List, ◌∷◌, ◌++◌, length, Option, Some, None, is_some, count_by, cond, refl, sym, ap, ◌∙◌, arith, if◌then◌else◌, inl, inr, get_or, set, length-append, length-set}
-use Rattle.std.proofs.lemmas.List.{get_or-set_same, get_or-set_other, get_or_past, set-get_or}
+use Rattle.std.proofs.Common.{◌≡◌, ◌≢◌, ℕ, ◌+◌, ◌<◌, ◌≤◌, ◌==◌, false, List, ◌∷◌, ◌++◌, length, Option, Some, None, is_some, cond, refl, sym, ap, ◌∙◌, arith, if◌then◌else◌, inl, inr, length-append}
+use Rattle.std.proofs.lemmas.Grind.{common_steps}
+use Rattle.std.proofs.lemmas.List.{get_or-set_same, get_or-set_other}
 use Rattle.std.proofs.lemmas.List.Sums.{sum_by-set, count_by-le-length}
-use Rattle.std.proofs.lemmas.Bool.Decides.{eqb_tells, leb_tells}
 use Rattle.std.specs.Option.{option_map}
 use Rattle.arena_base.specs.Arena.{Arena, slot, with_slot, with_entry_at, arena_len, removed as arena_removed}
 use Rattle.chain_base.specs.Link.{Link}
@@ -23,52 +23,21 @@ module _ {T : Type 0} where
   pub slot-with_same : (a : Arena (Link T)) (i : ℕ) (s : Option (ℕ × Link T)) → i < length a.slots → slot (with_slot a i s) i ≡ s
   slot-with_same a i s within = get_or-set_same a.slots i s None within
 
-  -- a slot whose content is mapped holds the mapped content
-  slot-mapped_same : (a : Arena (Link T)) (i : ℕ) (f : ℕ × Link T → ℕ × Link T) → slot (with_slot a i (option_map f (slot a i))) i ≡ option_map f (slot a i)
-  slot-mapped_same a i f =
-      elim (leb_tells (length a.slots) i) [
-        | inl h ↦
-            let past : slot a i ≡ None = get_or_past a.slots i None h.1 in
-            rw past (get_or_past (set a.slots i None) i None (omega (arith, length-set a.slots i None)))
-        | inr h ↦ slot-with_same a i _ h.1
-      ]
-
   -- what the slots hold once one is filled
   pub slot-filled : (a : Arena (Link T)) (j k : ℕ) (e : ℕ × Link T) → j < length a.slots → slot (with_slot a j (Some e)) k ≡ (if j == k then Some e else slot a k)
-  slot-filled a j k e within =
-      elim (eqb_tells j k) [
-        | inl h ↦ rw (h.0, ← h.1) (slot-with_same a j (Some e) within)
-        | inr h ↦ rw h.0 (slot-with_other a j k _ h.1)
-      ]
+  slot-filled a j k e within = grind (arith, common_steps)
 
   -- what the slots hold once one is emptied
   pub slot-emptied : (a : Arena (Link T)) (j k : ℕ) → j < length a.slots → slot (with_slot a j None) k ≡ (if j == k then None else slot a k)
-  slot-emptied a j k within =
-      elim (eqb_tells j k) [
-        | inl h ↦ rw (h.0, ← h.1) (slot-with_same a j None within)
-        | inr h ↦ rw h.0 (slot-with_other a j k _ h.1)
-      ]
+  slot-emptied a j k within = grind (arith, common_steps)
 
   -- a map of what a slot holds
   pub slot-mapped : (a : Arena (Link T)) (i k : ℕ) (f : ℕ × Link T → ℕ × Link T) → slot (with_slot a i (option_map f (slot a i))) k ≡ (if i == k then option_map f (slot a k) else slot a k)
-  slot-mapped a i k f =
-      elim (eqb_tells i k) [
-        | inl h ↦ rw (h.0, ← h.1) (slot-mapped_same a i f)
-        | inr h ↦ rw h.0 (slot-with_other a i k _ h.1)
-      ]
-
-  pub slot-linked_next : (a : Arena (Link T)) (at next : Option ℕ) (k : ℕ) → slot (linked_next a at next) k ≡ (if names at k then option_map (with_next next) (slot a k) else slot a k)
-  slot-linked_next a None next k = refl
-  slot-linked_next a (Some i) next k = slot-mapped a i k (with_next next)
-
-  pub slot-linked_prev : (a : Arena (Link T)) (at prev : Option ℕ) (k : ℕ) → slot (linked_prev a at prev) k ≡ (if names at k then option_map (with_prev prev) (slot a k) else slot a k)
-  slot-linked_prev a None prev k = refl
-  slot-linked_prev a (Some i) prev k = slot-mapped a i k (with_prev prev)
+  slot-mapped a i k f = grind (arith, common_steps)
 
   -- what the slots hold after both writes of a seam
   pub slot-relinked : (a : Arena (Link T)) (left next right prev : Option ℕ) (k : ℕ) → slot (linked_prev (linked_next a left next) right prev) k ≡ relinked left next right prev k (slot a k)
-  slot-relinked a left next right prev k =
-      rw (slot-linked_prev (linked_next a left next) right prev k, slot-linked_next a left next k) refl
+  slot-relinked a left next right prev k = grind (arith, common_steps)
 
   -- the walk from the first index meets just the entries
   pub walk-laid_out : (a : Arena (Link T)) (first last : Option ℕ) (es : List (Entry T)) → IsLaidOut a.slots first last es → walk (slot a) (length a.slots) first ≡ es
@@ -94,19 +63,7 @@ module _ {T : Type 0} where
 
   -- a map of what one slot holds keeps the number of entries
   arena_len-mapped : (a : Arena (Link T)) (i : ℕ) (f : ℕ × Link T → ℕ × Link T) → arena_len (with_slot a i (option_map f (slot a i))) ≡ arena_len a
-  arena_len-mapped a i f =
-      elim (leb_tells (length a.slots) i) [
-        | inl h ↦
-            let past : slot a i ≡ None = get_or_past a.slots i None h.1 in
-            let same : set a.slots i None ≡ a.slots = ap (set a.slots i) (sym past) ∙ set-get_or a.slots i None in
-            rw (past, same) refl
-        | inr h ↦ count-mapped a.slots i f (slot a i) h.1 refl
-      ]
-    where
-      count-mapped : (xs : List (Option (ℕ × Link T))) (i : ℕ) (f : ℕ × Link T → ℕ × Link T) (o : Option (ℕ × Link T)) → i < length xs
-          → get_or xs i None ≡ o → count_by is_some (set xs i (option_map f o)) ≡ count_by is_some xs
-      count-mapped xs i f None within read = let moved = rw read at (sum_by-set (λ x. cond (is_some x) 1 0) xs i None None within) in omega arith
-      count-mapped xs i f (Some e) within read = let moved = rw read at (sum_by-set (λ x. cond (is_some x) 1 0) xs i (Some (f e)) None within) in omega arith
+  arena_len-mapped a i f = grind (arith, common_steps)
 
   arena_len-linked_next : (a : Arena (Link T)) (at next : Option ℕ) → arena_len (linked_next a at next) ≡ arena_len a
   arena_len-linked_next a None next = refl
@@ -145,16 +102,7 @@ module _ {T : Type 0} where
     slots-inserted : times new.index xs ≡ 0 → times new.index ys ≡ 0 → times k xs + times k ys ≤ 1 → o ≡ link_at (xs ++ ys) k
         → relinked (last_or None xs) (Some new.index) (first_or None ys) (Some new.index) k
         (if new.index == k then Some (new.generation, link_amid xs new.item ys) else o) ≡ link_at (xs ++ new ∷ ys) k
-    slots-inserted left right once was =
-        rw (link_between-append None None xs (new ∷ ys) k)
-        (elim (eqb_tells new.index k) [
-          | inl h ↦
-              let left_k : times k xs ≡ 0 = rw (← h.1) left in
-              let right_k : times k ys ≡ 0 = rw (← h.1) right in
-              rw (h.0, link_between-absent None (Some new.index) xs k left_k) (relinked-apart xs ys (Some new.index) (Some new.index) k _ left_k right_k)
-          | inr h ↦
-              rw (h.0, was, link_between-append None None xs ys k) (sym (seam-relinked xs ys (first_or None ys) (last_or None xs) (Some new.index) (Some new.index) k once))
-        ])
+    slots-inserted left right once was = grind (arith, common_steps, link_between-append, left, link_between-absent, relinked-apart, seam-relinked)
 
   -- a new entry between two stretches of the list
   module _ (a : Arena (Link T)) (first last : Option ℕ) (xs ys : List (Entry T)) (j : ℕ) (rest : List ℕ) (item : T) where
@@ -186,34 +134,16 @@ module _ {T : Type 0} where
     slots-removed : times k (xs ++ e ∷ ys) ≤ 1 → o ≡ link_at (xs ++ e ∷ ys) k
         → relinked (last_or None xs) (first_or None ys) (first_or None ys) (last_or None xs) k (if e.index == k then None else o)
         ≡ link_at (xs ++ ys) k
-    slots-removed once was =
-        rw (link_between-append None None xs ys k)
-        (elim (eqb_tells e.index k) [
-          | inl h ↦
-              let parts : times k xs + times k ys ≡ 0 = omega (arith, times-append k xs (e ∷ ys), times-here k e ys h.1) in
-              let left_k : times k xs ≡ 0 = omega arith in
-              let right_k : times k ys ≡ 0 = omega arith in
-              rw (h.0, link_between-absent None (first_or None ys) xs k left_k, link_between-absent (last_or None xs) None ys k right_k) (relinked-apart xs ys (first_or None ys) (last_or None xs) k None left_k right_k)
-          | inr h ↦
-              let parts : times k xs + times k ys ≤ 1 = omega (arith, times-append k xs (e ∷ ys), times-there k e ys h.1) in
-              rw (h.0, was, link_between-append None None xs (e ∷ ys) k, h.0) (sym (seam-relinked xs ys (Some e.index) (Some e.index) (first_or None ys) (last_or None xs) k parts))
-        ])
+    slots-removed once was = grind (arith, common_steps, link_between-append, times-append, times-here, link_between-absent, relinked-apart, times-there, seam-relinked)
 
   -- an entry stands in its slot
   module _ (a : Arena (Link T)) (first last : Option ℕ) (xs : List (Entry T)) (e : Entry T) (ys : List (Entry T)) where
     pub slot-laid_out : IsLaidOut a.slots first last (xs ++ e ∷ ys) → slot a e.index ≡ Some (e.generation, link_amid xs e.item ys)
-    slot-laid_out laid =
-        let once = laid.distinct e.index in
-        let gone : times e.index xs ≡ 0 = omega (arith, times-append e.index xs (e ∷ ys), times-here e.index e ys refl) in
-        laid.links e.index ∙ rw (link_between-append None None xs (e ∷ ys) e.index, link_between-absent None (Some e.index) xs e.index gone, same_index e.index) refl
+    slot-laid_out laid = grind (arith, common_steps, times-append, times-here, link_between-append, link_between-absent, same_index)
 
   -- a slot that holds something is within the arena
   pub slot-within : (a : Arena (Link T)) (i : ℕ) (e : ℕ × Link T) → slot a i ≡ Some e → i < length a.slots
-  slot-within a i e held =
-      elim (leb_tells (length a.slots) i) [
-        | inl h ↦ absurd (let past : slot a i ≡ None = get_or_past a.slots i None h.1 in cc)
-        | inr h ↦ h.1
-      ]
+  slot-within a i e held = grind (arith, common_steps)
 
   -- the entry between two stretches of the list is taken out
   module _ (greatest : Option ℕ) (a : Arena (Link T)) (first last : Option ℕ) (xs : List (Entry T)) (e : Entry T) (ys : List (Entry T)) where

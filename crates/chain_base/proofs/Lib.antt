@@ -17,3 +17,4 @@ pub mod Calls
 pub mod Going
 pub mod CallerLemmas
 pub mod Transferring
+pub mod Cloning

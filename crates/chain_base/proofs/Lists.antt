@@ -1,15 +1,11 @@
 -- Lists of entries: where an index stands, and what an insertion or a removal there does to the links.
-use Rattle.std.proofs.Common.{◌≡◌, ◌≢◌, ℕ, zero, suc, ◌+◌, ◌≤◌, ◌==◌, Bool, true, false, List, [], ◌∷◌, ◌++◌, length, Option, Some, None, refl, sym, ap, ◌∙◌, arith, if◌then◌else◌, inl, inr, ◌⊎◌}
+use Rattle.std.proofs.Common.{◌≡◌, ◌≢◌, ℕ, zero, suc, ◌+◌, ◌≤◌, ◌==◌, true, false, List, [], ◌∷◌, ◌++◌, length, Option, Some, None, refl, ap, arith, if◌then◌else◌, inl, inr, ◌⊎◌}
+use Rattle.std.proofs.lemmas.Grind.{common_steps}
 use Rattle.std.proofs.lemmas.Bool.Decides.{nat_tests, eqb_tells}
 use Rattle.std.specs.Option.{option_or, option_map}
 use Rattle.chain_base.specs.Link.{Link}
 use Rattle.chain_base.specs.Layout.{walk, names, with_next, with_prev, relinked}
 use Rattle.chain_base.specs.Chain.{Entry, times, entry_at, first_or, last_or, link_between, insert_after, insert_before, without, with_item_among, with_generation}
-
--- a choice in the first of two options
-pub option_or-if : {A : Type 0} (b : Bool) (x : A) (o p : Option A) → option_or (if b then Some x else o) p ≡ (if b then Some x else option_or o p)
-option_or-if true x o p = refl
-option_or-if false x o p = refl
 
 pub option_or-none : {A : Type 0} (o : Option A) → option_or o None ≡ o
 option_or-none None = refl
@@ -17,15 +13,14 @@ option_or-none (Some x) = refl
 
 pub names_tells : (o : Option ℕ) (i : ℕ) → ((names o i ≡ true) × (o ≡ Some i)) ⊎ ((names o i ≡ false) × (o ≢ Some i))
 names_tells None i = inr (refl, λ h. cc)
-names_tells (Some j) i =
-    elim (eqb_tells j i) [ inl h ↦ inl (h.0, ap Some h.1) | inr h ↦ inr (h.0, λ same. h.1 (let e : j ≡ i = cc in e)) ]
+names_tells (Some j) i = grind (arith, common_steps, i)
 
 -- an index is itself
 pub same_index : (i : ℕ) → (i == i) ≡ true
-same_index i = elim (eqb_tells i i) [ inl h ↦ h.0 | inr h ↦ absurd (h.1 refl) ]
+same_index i = grind (arith, nat_tests)
 
 pub other_index : (i j : ℕ) → i ≢ j → (i == j) ≡ false
-other_index i j other = elim (eqb_tells i j) [ inl h ↦ absurd (other h.1) | inr h ↦ h.0 ]
+other_index i j other = grind (arith, nat_tests)
 
 module _ {T : Type 0} where
   pub times-here : (i : ℕ) (e : Entry T) (es : List (Entry T)) → e.index ≡ i → times i (e ∷ es) ≡ 1 + times i es
@@ -40,12 +35,7 @@ module _ {T : Type 0} where
 
   -- an index that was in no entry keeps the indexes pairwise different
   pub times-inserted : (k : ℕ) (xs : List (Entry T)) (new : Entry T) (ys : List (Entry T)) → times new.index (xs ++ ys) ≡ 0 → times k (xs ++ ys) ≤ 1 → times k (xs ++ new ∷ ys) ≤ 1
-  times-inserted k xs new ys absent once =
-      elim (eqb_tells new.index k) [
-        | inl h ↦ let gone : times k (xs ++ ys) ≡ 0 = rw (← h.1) absent in
-            omega (arith, times-append k xs ys, times-append k xs (new ∷ ys), times-here k new ys h.1)
-        | inr h ↦ omega (arith, times-append k xs ys, times-append k xs (new ∷ ys), times-there k new ys h.1)
-      ]
+  times-inserted k xs new ys absent once = grind (arith, nat_tests, times-append k xs ys, times-append k xs (new ∷ ys), times-append new.index xs ys)
 
   pub first_or-append : (after : Option ℕ) (xs ys : List (Entry T)) → first_or after (xs ++ ys) ≡ first_or (first_or after ys) xs
   first_or-append after [] ys = refl
@@ -59,81 +49,57 @@ module _ {T : Type 0} where
   pub link_between-append : (before after : Option ℕ) (xs ys : List (Entry T)) (i : ℕ)
       → link_between before after (xs ++ ys) i ≡ option_or (link_between before (first_or after ys) xs i) (link_between (last_or before xs) after ys i)
   link_between-append before after [] ys i = refl
-  link_between-append before after (x ∷ xs) ys i =
-      rw (first_or-append after xs ys, link_between-append (Some x.index) after xs ys i) (sym (option_or-if (x.index == i) _ _ _))
+  link_between-append before after (x ∷ xs) ys i = grind (arith, common_steps, link_between-append (Some x.index) after xs ys i)
 
   -- the last index stands in the list
   pub times-last : (es : List (Entry T)) (i : ℕ) → last_or None es ≡ Some i → 1 ≤ times i es
   times-last [] i last = absurd (cc)
-  times-last (e ∷ []) i last =
-      let same : e.index ≡ i = cc in
-      omega (arith, times-here i e [] same)
+  times-last (e ∷ []) i last = grind (arith, common_steps)
   times-last (e ∷ f ∷ es) i last = omega (arith, times-last (f ∷ es) i last)
 
   -- the first index stands in the list
   pub times-first : (es : List (Entry T)) (i : ℕ) → first_or None es ≡ Some i → 1 ≤ times i es
   times-first [] i first = absurd (cc)
-  times-first (e ∷ es) i first =
-      let same : e.index ≡ i = cc in
-      omega (arith, times-here i e es same)
+  times-first (e ∷ es) i first = grind (arith, common_steps)
 
   -- an index that stands nowhere in a stretch names nothing there
   pub link_between-absent : (before after : Option ℕ) (es : List (Entry T)) (i : ℕ) → times i es ≡ 0 → link_between before after es i ≡ None
   link_between-absent before after [] i absent = refl
-  link_between-absent before after (e ∷ es) i absent =
-      elim (eqb_tells e.index i) [
-        | inl h ↦ absurd (omega (arith, times-here i e es h.1))
-        | inr h ↦ rw h.0 (link_between-absent (Some e.index) after es i (omega (arith, times-there i e es h.1)))
-      ]
+  link_between-absent before after (e ∷ es) i absent = grind (arith, common_steps, link_between-absent (Some e.index) after es i)
 
   -- an index that names nothing in a stretch stands nowhere in it
   pub times-unlinked : (before after : Option ℕ) (es : List (Entry T)) (i : ℕ) → link_between before after es i ≡ None → times i es ≡ 0
   times-unlinked before after [] i unlinked = refl
-  times-unlinked before after (e ∷ es) i unlinked =
-      elim (eqb_tells e.index i) [
-        | inl h ↦ absurd (let found = rw h.0 at unlinked in cc)
-        | inr h ↦ let rest = rw h.0 at unlinked in times-there i e es h.1 ∙ times-unlinked (Some e.index) after es i rest
-      ]
+  times-unlinked before after (e ∷ es) i unlinked = grind (arith, common_steps, times-unlinked (Some e.index) after es i)
 
   -- an entry is its link without the neighbours
   pub entry_at-link : (before after : Option ℕ) (es : List (Entry T)) (i : ℕ) → entry_at es i ≡ option_map (λ e. (e.0, e.1.item)) (link_between before after es i)
   entry_at-link before after [] i = refl
-  entry_at-link before after (e ∷ es) i =
-      elim (eqb_tells e.index i) [ inl h ↦ rw h.0 refl | inr h ↦ rw h.0 (entry_at-link (Some e.index) after es i) ]
+  entry_at-link before after (e ∷ es) i = grind (arith, common_steps, entry_at-link (Some e.index) after es i)
 
   -- an index that is not the last sees no change at the far end
   pub link_between-other_after : (before after other : Option ℕ) (es : List (Entry T)) (i : ℕ) → last_or None es ≢ Some i → link_between before other es i ≡ link_between before after es i
   link_between-other_after before after other [] i unlast = refl
-  link_between-other_after before after other (e ∷ []) i unlast =
-      elim (eqb_tells e.index i) [ inl h ↦ absurd (unlast (ap Some h.1)) | inr h ↦ rw h.0 refl ]
-  link_between-other_after before after other (e ∷ f ∷ es) i unlast =
-      rw (link_between-other_after (Some e.index) after other (f ∷ es) i unlast) refl
+  link_between-other_after before after other (e ∷ []) i unlast = grind (arith, common_steps)
+  link_between-other_after before after other (e ∷ f ∷ es) i unlast = grind (arith, common_steps, link_between-other_after (Some e.index) after other (f ∷ es) i unlast)
 
   -- the last index sees the new far end
   pub link_between-last : (before after other : Option ℕ) (es : List (Entry T)) (i : ℕ) → times i es ≤ 1 → last_or None es ≡ Some i
       → link_between before other es i ≡ option_map (with_next other) (link_between before after es i)
   link_between-last before after other [] i once last = refl
-  link_between-last before after other (e ∷ []) i once last =
-      elim (eqb_tells e.index i) [ inl h ↦ rw h.0 refl | inr h ↦ rw h.0 refl ]
-  link_between-last before after other (e ∷ f ∷ es) i once last =
-      elim (eqb_tells e.index i) [
-        | inl h ↦ absurd (omega (arith, times-here i e (f ∷ es) h.1, times-last (f ∷ es) i last))
-        | inr h ↦ rw h.0 (link_between-last (Some e.index) after other (f ∷ es) i (omega (arith, times-there i e (f ∷ es) h.1)) last)
-      ]
+  link_between-last before after other (e ∷ []) i once last = grind (arith, common_steps)
+  link_between-last before after other (e ∷ f ∷ es) i once last = grind (arith, common_steps, link_between-last (Some e.index) after other (f ∷ es) i, times-last (f ∷ es) i last)
 
   -- an index that is not the first sees no change at the near end
   pub link_between-other_before : (before other after : Option ℕ) (es : List (Entry T)) (i : ℕ) → first_or None es ≢ Some i → link_between other after es i ≡ link_between before after es i
   link_between-other_before before other after [] i unfirst = refl
-  link_between-other_before before other after (e ∷ es) i unfirst =
-      elim (eqb_tells e.index i) [ inl h ↦ absurd (unfirst (ap Some h.1)) | inr h ↦ rw h.0 refl ]
+  link_between-other_before before other after (e ∷ es) i unfirst = grind (arith, common_steps)
 
   -- the first index sees the new near end
   pub link_between-first : (before other after : Option ℕ) (es : List (Entry T)) (i : ℕ) → first_or None es ≡ Some i
       → link_between other after es i ≡ option_map (with_prev other) (link_between before after es i)
   link_between-first before other after [] i first = refl
-  link_between-first before other after (e ∷ es) i first =
-      let same : e.index ≡ i = cc in
-      elim (eqb_tells e.index i) [ inl h ↦ rw h.0 refl | inr h ↦ absurd (h.1 same) ]
+  link_between-first before other after (e ∷ es) i first = grind (arith, common_steps)
 
   -- where an index stands in a list, for the first time
   pub record Stands (es : List (Entry T)) (i : ℕ) : Type 0 where
@@ -167,46 +133,26 @@ module _ {T : Type 0} where
 
   -- what stands at the place of an index
   pub entry_at-split : (front : List (Entry T)) (e : Entry T) (back : List (Entry T)) (i : ℕ) → e.index ≡ i → times i front ≡ 0 → entry_at (front ++ e ∷ back) i ≡ Some (e.generation, e.item)
-  entry_at-split [] e back i here unmet = elim (eqb_tells e.index i) [ inl h ↦ rw h.0 refl | inr h ↦ absurd (h.1 here) ]
-  entry_at-split (f ∷ front) e back i here unmet =
-      elim (eqb_tells f.index i) [
-        | inl h ↦ absurd (omega (arith, times-here i f front h.1))
-        | inr h ↦ rw h.0 (entry_at-split front e back i here (omega (arith, times-there i f front h.1)))
-      ]
+  entry_at-split [] e back i here unmet = grind (arith, common_steps)
+  entry_at-split (f ∷ front) e back i here unmet = grind (arith, common_steps, entry_at-split front e back i here)
 
   pub entry_at-absent : (es : List (Entry T)) (i : ℕ) → times i es ≡ 0 → entry_at es i ≡ None
   entry_at-absent [] i absent = refl
-  entry_at-absent (e ∷ es) i absent =
-      elim (eqb_tells e.index i) [
-        | inl h ↦ absurd (omega (arith, times-here i e es h.1))
-        | inr h ↦ rw h.0 (entry_at-absent es i (omega (arith, times-there i e es h.1)))
-      ]
+  entry_at-absent (e ∷ es) i absent = grind (arith, common_steps, entry_at-absent es i)
 
   pub insert_after-split : (front : List (Entry T)) (e new : Entry T) (back : List (Entry T)) (i : ℕ) → e.index ≡ i → times i front ≡ 0
       → insert_after i new (front ++ e ∷ back) ≡ front ++ e ∷ new ∷ back
-  insert_after-split [] e new back i here unmet = elim (eqb_tells e.index i) [ inl h ↦ rw h.0 refl | inr h ↦ absurd (h.1 here) ]
-  insert_after-split (f ∷ front) e new back i here unmet =
-      elim (eqb_tells f.index i) [
-        | inl h ↦ absurd (omega (arith, times-here i f front h.1))
-        | inr h ↦ rw h.0 (ap (λ xs. f ∷ xs) (insert_after-split front e new back i here (omega (arith, times-there i f front h.1))))
-      ]
+  insert_after-split [] e new back i here unmet = grind (arith, common_steps)
+  insert_after-split (f ∷ front) e new back i here unmet = grind (arith, common_steps, insert_after-split front e new back i here)
 
   pub insert_before-split : (front : List (Entry T)) (e new : Entry T) (back : List (Entry T)) (i : ℕ) → e.index ≡ i → times i front ≡ 0
       → insert_before i new (front ++ e ∷ back) ≡ front ++ new ∷ e ∷ back
-  insert_before-split [] e new back i here unmet = elim (eqb_tells e.index i) [ inl h ↦ rw h.0 refl | inr h ↦ absurd (h.1 here) ]
-  insert_before-split (f ∷ front) e new back i here unmet =
-      elim (eqb_tells f.index i) [
-        | inl h ↦ absurd (omega (arith, times-here i f front h.1))
-        | inr h ↦ rw h.0 (ap (λ xs. f ∷ xs) (insert_before-split front e new back i here (omega (arith, times-there i f front h.1))))
-      ]
+  insert_before-split [] e new back i here unmet = grind (arith, common_steps)
+  insert_before-split (f ∷ front) e new back i here unmet = grind (arith, common_steps, insert_before-split front e new back i here)
 
   pub without-split : (front : List (Entry T)) (e : Entry T) (back : List (Entry T)) (i : ℕ) → e.index ≡ i → times i front ≡ 0 → without i (front ++ e ∷ back) ≡ front ++ back
-  without-split [] e back i here unmet = elim (eqb_tells e.index i) [ inl h ↦ rw h.0 refl | inr h ↦ absurd (h.1 here) ]
-  without-split (f ∷ front) e back i here unmet =
-      elim (eqb_tells f.index i) [
-        | inl h ↦ absurd (omega (arith, times-here i f front h.1))
-        | inr h ↦ rw h.0 (ap (λ xs. f ∷ xs) (without-split front e back i here (omega (arith, times-there i f front h.1))))
-      ]
+  without-split [] e back i here unmet = grind (arith, common_steps)
+  without-split (f ∷ front) e back i here unmet = grind (arith, common_steps, without-split front e back i here)
 
   -- two stretches of a chain, of which the first ends at `after` and the second begins at `before`
   abbrev pub seam : List (Entry T) → Option ℕ → Option ℕ → List (Entry T) → ℕ → Option (ℕ × Link T)
@@ -268,56 +214,38 @@ module _ {T : Type 0} where
 
   pub with_item_among-changed_at : (es : List (Entry T)) (i : ℕ) (item : T) → with_item_among es i item ≡ changed_at (λ p. (p.0, item)) es i
   with_item_among-changed_at [] i item = refl
-  with_item_among-changed_at (e ∷ es) i item =
-      elim (eqb_tells e.index i) [ inl h ↦ rw h.0 refl | inr h ↦ rw h.0 (ap (λ xs. e ∷ xs) (with_item_among-changed_at es i item)) ]
+  with_item_among-changed_at (e ∷ es) i item = grind (arith, common_steps, with_item_among-changed_at es i item)
 
   pub with_generation-changed_at : (es : List (Entry T)) (i g : ℕ) → with_generation es i g ≡ changed_at (λ p. (g, p.1)) es i
   with_generation-changed_at [] i g = refl
-  with_generation-changed_at (e ∷ es) i g =
-      elim (eqb_tells e.index i) [ inl h ↦ rw h.0 refl | inr h ↦ rw h.0 (ap (λ xs. e ∷ xs) (with_generation-changed_at es i g)) ]
+  with_generation-changed_at (e ∷ es) i g = grind (arith, common_steps, with_generation-changed_at es i g)
 
   module _ (f : ℕ × T → ℕ × T) where
     pub first_or-changed_at : (after : Option ℕ) (es : List (Entry T)) (i : ℕ) → first_or after (changed_at f es i) ≡ first_or after es
     first_or-changed_at after [] i = refl
-    first_or-changed_at after (e ∷ es) i = elim (eqb_tells e.index i) [ inl h ↦ rw h.0 refl | inr h ↦ rw h.0 refl ]
+    first_or-changed_at after (e ∷ es) i = grind (arith, common_steps)
 
     pub last_or-changed_at : (before : Option ℕ) (es : List (Entry T)) (i : ℕ) → last_or before (changed_at f es i) ≡ last_or before es
     last_or-changed_at before [] i = refl
-    last_or-changed_at before (e ∷ es) i =
-        elim (eqb_tells e.index i) [ inl h ↦ rw h.0 refl | inr h ↦ rw h.0 (last_or-changed_at (Some e.index) es i) ]
+    last_or-changed_at before (e ∷ es) i = grind (arith, common_steps, last_or-changed_at (Some e.index) es i)
 
     pub times-changed_at : (k : ℕ) (es : List (Entry T)) (i : ℕ) → times k (changed_at f es i) ≡ times k es
     times-changed_at k [] i = refl
-    times-changed_at k (e ∷ es) i = elim (eqb_tells e.index i) [
-      | inl h ↦ rw h.0 refl
-      | inr h ↦ rw h.0 (ap (λ n. (if e.index == k then 1 else 0) + n) (times-changed_at k es i))
-    ]
+    times-changed_at k (e ∷ es) i = grind (arith, common_steps, times-changed_at k es i)
 
     pub length-changed_at : (es : List (Entry T)) (i : ℕ) → length (changed_at f es i) ≡ length es
     length-changed_at [] i = refl
-    length-changed_at (e ∷ es) i = elim (eqb_tells e.index i) [ inl h ↦ rw h.0 refl | inr h ↦ rw h.0 (ap suc (length-changed_at es i)) ]
+    length-changed_at (e ∷ es) i = grind (arith, common_steps, length-changed_at es i)
 
     -- every other index finds what it found
     pub entry_at-changed_at_other : (es : List (Entry T)) (i j : ℕ) → j ≢ i → entry_at (changed_at f es i) j ≡ entry_at es j
     entry_at-changed_at_other [] i j other = refl
-    entry_at-changed_at_other (e ∷ es) i j other = elim (eqb_tells e.index i) [
-      | inl h ↦ elim (eqb_tells e.index j) [
-        | inl same ↦ absurd (other (sym same.1 ∙ h.1))
-        | inr apart ↦ rw (h.0, apart.0) refl
-      ]
-      | inr h ↦ elim (eqb_tells e.index j) [
-        | inl same ↦ rw (h.0, same.0) refl
-        | inr apart ↦ rw (h.0, apart.0) (entry_at-changed_at_other es i j other)
-      ]
-    ]
+    entry_at-changed_at_other (e ∷ es) i j other = grind (arith, common_steps, entry_at-changed_at_other es i j other)
 
     -- and the index itself the changed entry
     pub entry_at-changed_at : (es : List (Entry T)) (i : ℕ) → entry_at (changed_at f es i) i ≡ option_map f (entry_at es i)
     entry_at-changed_at [] i = refl
-    entry_at-changed_at (e ∷ es) i = elim (eqb_tells e.index i) [
-      | inl h ↦ rw (h.0, h.0) refl
-      | inr h ↦ rw (h.0, h.0) (entry_at-changed_at es i)
-    ]
+    entry_at-changed_at (e ∷ es) i = grind (arith, common_steps, entry_at-changed_at es i)
 
     -- the change of an entry, as one of its link
     abbrev pub changed_link : ℕ × Link T → ℕ × Link T
@@ -327,16 +255,5 @@ module _ {T : Type 0} where
     pub link_between-changed_at : (before after : Option ℕ) (es : List (Entry T)) (i k : ℕ)
         → link_between before after (changed_at f es i) k
         ≡ (if i == k then option_map changed_link (link_between before after es k) else link_between before after es k)
-    link_between-changed_at before after [] i k = elim (eqb_tells i k) [ inl h ↦ rw h.0 refl | inr h ↦ rw h.0 refl ]
-    link_between-changed_at before after (e ∷ es) i k =
-        elim (eqb_tells e.index i) [
-          | inl h ↦ rw h.0 (elim (eqb_tells e.index k) [
-            | inl h2 ↦ let same : (i == k) ≡ true = rw (sym h.1) h2.0 in rw (h2.0, same) refl
-            | inr h2 ↦ let other : (i == k) ≡ false = rw (sym h.1) h2.0 in rw (h2.0, other) refl
-          ])
-          | inr h ↦ rw h.0 (elim (eqb_tells e.index k) [
-            | inl h2 ↦ let other = other_index i k (λ same. h.1 (h2.1 ∙ sym same)) in
-                rw (h2.0, other, first_or-changed_at after es i) refl
-            | inr h2 ↦ rw h2.0 (link_between-changed_at (Some e.index) after es i k)
-          ])
-        ]
+    link_between-changed_at before after [] i k = grind (arith, common_steps)
+    link_between-changed_at before after (e ∷ es) i k = grind (arith, common_steps, first_or-changed_at after es i, link_between-changed_at (Some e.index) after es i k)

@@ -1,5 +1,6 @@
 -- How far the entries have learnt the places of their neighbours.
 use Rattle.std.proofs.Common.{◌≡◌, ◌≢◌, ℕ, zero, suc, ◌+◌, ◌<◌, ◌≤◌, ◌==◌, true, false, List, [], ◌∷◌, length, Option, Some, None, IsSome, IfSome, ◌↔◌, is_some, count_by, take, get_or, refl, sym, ap, ◌∙◌, arith, if◌then◌else◌, inl, inr, length-set}
+use Rattle.std.proofs.lemmas.Grind.{common_steps}
 use Rattle.std.proofs.lemmas.Bool.Decides.{eqb_tells}
 use Rattle.std.proofs.lemmas.Bool.{false≢true}
 use Rattle.std.proofs.lemmas.Option.{none-some, same_Some}
@@ -29,27 +30,7 @@ module _ {T : Type 0} where
 
   -- at first: slot 0 has nothing
   pub named-begins : (side : Side) (a : Arena (Link T)) → take 1 a.slots ≡ None ∷ [] → NamedBelow side a a 0 None 1
-  named-begins side a begins =
-      let nothing : (i : ℕ) → i < 1 → slot a i ≡ None = λ i below. let first : i ≡ 0 = omega arith in rw first (vacant a.slots begins) in
-      record {
-        met = λ i k below is. absurd (none-some k (sym (ap (option_and_then (λ e. neighbour_on side e.1)) (nothing i below)) ∙ is));
-        unmet = λ k no. refl;
-        end_is = λ i below held is. absurd (unheld (slot a i) (nothing i below) held);
-        no_end = λ no. refl;
-        kept = refl;
-        within = refl;
-        counted = rw begins refl;
-        fewer = omega arith;
-        names_same = λ i. refl;
-        held_same = λ i. refl;
-      }
-    where
-      vacant : (slots : List (Option (ℕ × Link T))) → take 1 slots ≡ None ∷ [] → get_or slots 0 None ≡ None
-      vacant [] begins = refl
-      vacant (x ∷ xs) begins = cc
-
-      unheld : (o : Option (ℕ × Link T)) → o ≡ None → IsSome o → ⊥
-      unheld o none held = let there : is_some o ≡ true = held in cc
+  named-begins side a begins = grind (arith, common_steps)
 
   -- a slot once the entry at index k has another neighbour
   slot-facing : (side : Side) (a : Arena (Link T)) (k : ℕ) (other : Option ℕ) (j : ℕ)
@@ -198,11 +179,7 @@ module _ {T : Type 0} where
 
   -- an index that is named lies within the slots
   named-within : (side : Side) (a : Arena (Link T)) (i k : ℕ) → named side a i ≡ Some k → i < length a.slots
-  named-within side a i k is = held-inside a.slots i (is_named (slot a i) is)
-    where
-      is_named : (o : Option (ℕ × Link T)) → option_and_then (λ e. neighbour_on side e.1) o ≡ Some k → is_some o ≡ true
-      is_named None is = absurd (none-some k is)
-      is_named (Some e) is = refl
+  named-within side a i k is = grind (arith, common_steps)
 
   -- at last all have
   pub named-ends : (side : Side) (old now : Arena (Link T)) (count : ℕ) (end : Option ℕ) (c : ℕ) → NamedBelow side old now count end c

@@ -1,5 +1,6 @@
 -- Where a new entry stands: the two stretches of the list that an insertion parts.
 use Rattle.std.proofs.Common.{◌≡◌, ℕ, ◌≤◌, List, [], ◌∷◌, ◌++◌, Some, None, sym, ap, ◌∙◌, arith, inl, inr, append_assoc}
+use Rattle.std.proofs.lemmas.Grind.{common_steps}
 use Rattle.std.proofs.lemmas.Bool.Decides.{eqb_tells}
 use Rattle.std.specs.Option.{option_map}
 use Rattle.chain_base.specs.Link.{Link}
@@ -26,11 +27,7 @@ module _ {T : Type 0} where
   -- the neighbours of the entry at an index, where the list is split there
   link_at-ends : (es : List (Entry T)) (i : ℕ) (l : Link T) → option_map (λ e. e.1) (link_at es i) ≡ Some l → (s : Stands es i)
       → (l.prev ≡ last_or None s.front) × (l.next ≡ first_or None s.back)
-  link_at-ends es i l linked s =
-      let whole = s.front ++ s.entry ∷ s.back in
-      let unmet : times s.entry.index s.front ≡ 0 = ap (λ k. times k s.front) s.here ∙ s.unmet in
-      link_at-split s.front s.entry s.back l unmet
-      (ap (λ k. option_map (λ e. e.1) (link_at whole k)) s.here ∙ ap (λ xs. option_map (λ e. e.1) (link_at xs i)) (sym s.split) ∙ linked)
+  link_at-ends es i l linked s = grind (arith, common_steps, s.here, s.unmet, link_at-split s.front s.entry s.back l, i, s.split, linked)
 
   -- directly after an entry
   pub IsPlace-after : (es : List (Entry T)) (i : ℕ) (l : Link T) → option_map (λ e. e.1) (link_at es i) ≡ Some l → IsPlace es (λ new. insert_after i new es) (Some i) l.next

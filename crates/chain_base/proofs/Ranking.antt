@@ -1,9 +1,10 @@
 -- The places of indexes among those with an entry, counted by rising index.
-use Rattle.std.proofs.Common.{◌≡◌, ℕ, zero, suc, ◌+◌, ◌-◌, ◌<◌, ◌≤◌, List, [], ◌∷◌, ◌++◌, length, map, take, replicate, slice_get, Option, Some, None, is_some, count_by, cond, get_or, refl, sym, ap, ◌∙◌, subst, arith, inl, inr, add-one, zero-add}
-use Rattle.std.proofs.lemmas.Bool.Decides.{leb_tells, nat_tests}
+use Rattle.std.proofs.Common.{◌≡◌, ℕ, zero, suc, ◌+◌, ◌-◌, ◌<◌, ◌≤◌, List, [], ◌∷◌, ◌++◌, length, map, take, replicate, slice_get, Option, Some, None, is_some, count_by, cond, get_or, refl, sym, ap, ◌∙◌, arith, add-one, zero-add}
+use Rattle.std.proofs.lemmas.Grind.{common_steps}
+use Rattle.std.proofs.lemmas.Bool.Decides.{nat_tests}
 use Rattle.std.proofs.lemmas.Bool.{false≢true}
 use Rattle.std.proofs.lemmas.Option.{none-some, same_Some}
-use Rattle.std.proofs.lemmas.List.{take_all, get_or_past, length-map, length-append, length-replicate}
+use Rattle.std.proofs.lemmas.List.{take_all, get_or_past}
 use Rattle.std.proofs.lemmas.List.Sums.{count_by_more_no, count_by_more_yes, sum_by-cons}
 use Rattle.std.specs.Option.{option_map}
 use Rattle.arena_base.specs.Arena.{resized, vacant_from}
@@ -31,21 +32,10 @@ module _ {T : Type 0} where
 
   -- of two indexes with an entry the lesser has the lesser place
   pub lesser-below : (es : List (Entry T)) (i j : ℕ) → 1 ≤ times i es → i < j → lesser es i < lesser es j
-  lesser-below es i j occurs below =
-      let more = lesser-more es (i + 1) (j - (i + 1)) in
-      let reach : (i + 1) + (j - (i + 1)) ≡ j = omega arith in
-      let there : lesser es (i + 1) ≤ lesser es j = subst (λ k. lesser es (i + 1) ≤ lesser es k) reach more in
-      omega (arith, lesser-next es i)
+  lesser-below es i j occurs below = grind (arith, common_steps, lesser-more es (i + 1) (j - (i + 1)), i, lesser-next es i)
 
   pub place-injective : (es : List (Entry T)) (x y : ℕ) → 1 ≤ times x es → 1 ≤ times y es → compressed_index es x ≡ compressed_index es y → x ≡ y
-  place-injective es x y there_x there_y same =
-      elim (leb_tells (x + 1) y) [
-        | inl h ↦ absurd (omega (arith, lesser-below es x y there_x (omega (arith, h.1))))
-        | inr h ↦ elim (leb_tells (y + 1) x) [
-          | inl k ↦ absurd (omega (arith, lesser-below es y x there_y (omega (arith, k.1))))
-          | inr k ↦ omega (arith, h.1, k.1)
-        ]
-      ]
+  place-injective es x y there_x there_y same = grind (arith, common_steps, lesser-below es x y there_x, lesser-below es y x there_y)
 
   -- the slots count as the list does
   pub place-slots : (slots : List (Option (ℕ × Link T))) (es : List (Entry T)) → IsDistinct es → ((i : ℕ) → get_or slots i None ≡ link_at es i)
@@ -54,19 +44,8 @@ module _ {T : Type 0} where
   place-slots slots es distinct links (suc i) = let more = step (place-slots slots es distinct links i) (get_or slots i None) refl in rw add-one at more
     where
       step : count_by is_some (take i slots) ≡ lesser es i → (o : Option (ℕ × Link T)) → get_or slots i None ≡ o → count_by is_some (take (i + 1) slots) ≡ lesser es (i + 1)
-      step ih None here =
-          let absent : times i es ≡ 0 = times-unlinked None None es i (sym (links i) ∙ here) in
-          elim (leb_tells (i + 1) (length slots)) [
-            | inl h ↦ count_by_more_no is_some slots i None (omega (arith, h.1)) (ap is_some here) ∙ omega (arith, ih, lesser-next es i)
-            | inr h ↦
-                let whole : take (i + 1) slots ≡ take i slots = take_all (i + 1) slots (omega (arith, h.1)) ∙ sym (take_all i slots (omega (arith, h.1))) in
-                ap (count_by is_some) whole ∙ omega (arith, ih, lesser-next es i)
-          ]
-      step ih (Some e) here =
-          elim (leb_tells (i + 1) (length slots)) [
-            | inl h ↦ count_by_more_yes is_some slots i None (omega (arith, h.1)) (ap is_some here) ∙ omega (arith, ih, lesser-next es i, distinct i, linked-occurs es i e (sym (links i) ∙ here))
-            | inr h ↦ absurd (none-some e (sym (get_or_past slots i None (omega (arith, h.1))) ∙ here))
-          ]
+      step ih None here = grind (arith, common_steps, i, times-unlinked, here, count_by_more_no, lesser-next, take_all)
+      step ih (Some e) here = grind (arith, common_steps, i, count_by_more_yes, here, lesser-next, distinct, linked-occurs, get_or_past)
 
 -- the entries of slots by rising index, and their places
 module _ {X : Type 0} where
@@ -79,20 +58,9 @@ module _ {X : Type 0} where
       → slice_get (entries_from from slots) (count_by is_some (take x slots)) ≡ Some (from + x, e.0, e.1)
   entry-placed from [] x e is = absurd (none-some e is)
   entry-placed from (None ∷ slots) zero e is = absurd (none-some e is)
-  entry-placed from (Some f ∷ slots) zero e is =
-      let same : f ≡ e = same_Some f e is in
-      let first : from + 0 ≡ from = omega arith in
-      rw (same, first) refl
-  entry-placed from (None ∷ slots) (suc x) e is =
-      let more = entry-placed (from + 1) slots x e is in
-      let at : (from + 1) + x ≡ from + suc x = omega arith in
-      let count : count_by is_some (None ∷ take x slots) ≡ count_by is_some (take x slots) = sum_by-cons (λ o. cond (is_some o) 1 0) None (take x slots) ∙ zero-add (count_by is_some (take x slots)) in
-      rw (count, ← at) more
-  entry-placed from (Some f ∷ slots) (suc x) e is =
-      let more = entry-placed (from + 1) slots x e is in
-      let at : (from + 1) + x ≡ from + suc x = omega arith in
-      let count : count_by is_some (Some f ∷ take x slots) ≡ suc (count_by is_some (take x slots)) = sum_by-cons (λ o. cond (is_some o) 1 0) (Some f) (take x slots) ∙ omega arith in
-      rw (count, ← at) more
+  entry-placed from (Some f ∷ slots) zero e is = grind (arith, common_steps)
+  entry-placed from (None ∷ slots) (suc x) e is = grind (arith, common_steps, entry-placed (from + 1) slots x e is)
+  entry-placed from (Some f ∷ slots) (suc x) e is = grind (arith, common_steps, entry-placed (from + 1) slots x e is)
 
   -- an entry of the list stands in its slot
   pub placed-entry : (from : ℕ) (slots : List (Option (ℕ × X))) (k : ℕ) (t : ℕ × ℕ × X) → slice_get (entries_from from slots) k ≡ Some t
@@ -127,21 +95,11 @@ module _ {X : Type 0} where
   compact n g xs = resized n (None ∷ map (λ x. Some (with_era g x)) xs)
 
   compact-is : (n g : ℕ) (xs : List X) → length xs < suc n → compact (suc n) g xs ≡ None ∷ (map (λ x. Some (with_era g x)) xs ++ replicate (n - length xs) None)
-  compact-is n g xs fits =
-      let all : List (Option (ℕ × X)) = map (λ x. Some (with_era g x)) xs in
-      let long : length all ≡ length xs = length-map {B = Option (ℕ × X)} xs (λ x. Some (with_era g x)) in
-      let less : suc n - suc (length xs) ≡ n - length xs = omega arith in
-      rw (long, less) (ap (λ front. None ∷ (front ++ replicate (n - length xs) None)) (take_all n all (omega (arith, long, fits))))
+  compact-is n g xs fits = grind (arith, common_steps)
 
   pub compressed-length : (n g : ℕ) (xs : List X) → length xs < n → length (compact n g xs) ≡ n
   compressed-length zero g xs fits = absurd (omega arith)
-  compressed-length (suc n) g xs fits =
-      let none : Option (ℕ × X) = None in
-      let all : List (Option (ℕ × X)) = map (λ x. Some (with_era g x)) xs in
-      let parts = length-append all (replicate (n - length xs) none) in
-      let front : length all ≡ length xs = length-map {B = Option (ℕ × X)} xs (λ x. Some (with_era g x)) in
-      let back = length-replicate {A = Option (ℕ × X)} (n - length xs) none in
-      ap length (compact-is n g xs fits) ∙ omega (arith, parts, front, back, fits)
+  compressed-length (suc n) g xs fits = grind (arith, common_steps)
 
   pub compressed-at : (n g : ℕ) (xs : List X) (k : ℕ) → length xs < n → get_or (compact n g xs) (suc k) None ≡ option_map (with_era g) (slice_get xs k)
   compressed-at zero g xs k fits = absurd (omega arith)
@@ -155,35 +113,23 @@ module _ {X : Type 0} where
   filled-count : (g : ℕ) (xs : List X) (n k : ℕ) → k ≤ length xs → count_by is_some (take k (map (λ x. Some (with_era g x)) xs ++ replicate n None)) ≡ k
   filled-count g xs n zero within = refl
   filled-count g [] n (suc k) within = absurd (omega arith)
-  filled-count g (x ∷ xs) n (suc k) within =
-      sum_by-cons (λ o. cond (is_some o) 1 0) (Some (with_era g x)) (take k (map (λ x. Some (with_era g x)) xs ++ replicate n None))
-      ∙ (let ih = filled-count g xs n k (omega arith) in omega arith)
+  filled-count g (x ∷ xs) n (suc k) within = grind (arith, common_steps, filled-count g xs n k)
 
   filled-counts : (g : ℕ) (xs : List X) (n : ℕ) → count_by is_some (map (λ x. Some (with_era g x)) xs ++ replicate n None) ≡ length xs
   filled-counts g [] zero = refl
-  filled-counts g [] (suc n) =
-      let none : Option (ℕ × X) = None in
-      sum_by-cons (λ (o : Option (ℕ × X)). cond (is_some o) 1 0) none (replicate n none) ∙ (let ih = filled-counts g [] n in omega arith)
-  filled-counts g (x ∷ xs) n =
-      sum_by-cons (λ o. cond (is_some o) 1 0) (Some (with_era g x)) (map (λ x. Some (with_era g x)) xs ++ replicate n None)
-      ∙ (let ih = filled-counts g xs n in omega arith)
+  filled-counts g [] (suc n) = grind (arith, common_steps)
+  filled-counts g (x ∷ xs) n = grind (arith, common_steps, filled-counts g xs n)
 
   pub compressed-place : (n g : ℕ) (xs : List X) (k : ℕ) → length xs < n → k ≤ length xs → count_by is_some (take (k + 1) (compact n g xs)) ≡ k
   compressed-place zero g xs k fits within = absurd (omega arith)
-  compressed-place (suc n) g xs k fits within =
-      let m = n - length xs in
-      let front = take k (map (λ x. Some (with_era g x)) xs ++ replicate m None) in
-      rw (compact-is n g xs fits, add-one) (sum_by-cons (λ (o : Option (ℕ × X)). cond (is_some o) 1 0) None front ∙ (zero-add (count_by is_some front) ∙ filled-count g xs m k within))
+  compressed-place (suc n) g xs k fits within = grind (arith, common_steps, with_era g, compact-is n g xs fits, fits, add-one, sum_by-cons, zero-add, filled-count g xs, within)
 
   pub compressed-count : (n g : ℕ) (xs : List X) → length xs < n → count_by is_some (compact n g xs) ≡ length xs
   compressed-count zero g xs fits = absurd (omega arith)
-  compressed-count (suc n) g xs fits =
-      let m = n - length xs in
-      let all = map (λ x. Some (with_era g x)) xs ++ replicate m None in
-      rw (compact-is n g xs fits) (sum_by-cons (λ (o : Option (ℕ × X)). cond (is_some o) 1 0) None all ∙ (zero-add (count_by is_some all) ∙ filled-counts g xs m))
+  compressed-count (suc n) g xs fits = grind (arith, common_steps, with_era g, compact-is n g xs fits, fits, sum_by-cons, zero-add, filled-counts g xs)
 
   -- slots that are occupied alike count alike
-  pub count-alike : (xs ys : List (Option X)) → length xs ≡ length ys → ((k : ℕ) → is_some (get_or xs k None) ≡ is_some (get_or ys k None)) → (n : ℕ)
+  pub count-alike : {Y : Type 0} (xs : List (Option X)) (ys : List (Option Y)) → length xs ≡ length ys → ((k : ℕ) → is_some (get_or xs k None) ≡ is_some (get_or ys k None)) → (n : ℕ)
       → count_by is_some (take n xs) ≡ count_by is_some (take n ys)
   count-alike xs ys long alike zero = refl
   count-alike [] [] long alike (suc n) = refl
@@ -193,7 +139,7 @@ module _ {X : Type 0} where
       let ih = count-alike xs ys (omega arith) (λ k. alike (suc k)) n in
       sum_by-cons (λ o. cond (is_some o) 1 0) x (take n xs) ∙ (ap (λ b. cond b 1 0 + count_by is_some (take n xs)) (alike 0) ∙ (ap (λ c. cond (is_some y) 1 0 + c) ih ∙ sym (sum_by-cons (λ o. cond (is_some o) 1 0) y (take n ys))))
 
-  pub counts-alike : (xs ys : List (Option X)) → length xs ≡ length ys → ((k : ℕ) → is_some (get_or xs k None) ≡ is_some (get_or ys k None)) → count_by is_some xs ≡ count_by is_some ys
+  pub counts-alike : {Y : Type 0} (xs : List (Option X)) (ys : List (Option Y)) → length xs ≡ length ys → ((k : ℕ) → is_some (get_or xs k None) ≡ is_some (get_or ys k None)) → count_by is_some xs ≡ count_by is_some ys
   counts-alike xs ys long alike =
       let at = count-alike xs ys long alike (length xs) in
       ap (count_by is_some) (sym (take_all (length xs) xs (omega arith))) ∙ (at ∙ ap (count_by is_some) (take_all (length xs) ys (omega (arith, long))))

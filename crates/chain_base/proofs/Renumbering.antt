@@ -1,5 +1,6 @@
 -- A chain whose entries get other indexes: the links follow.
-use Rattle.std.proofs.Common.{◌≡◌, ◌≢◌, ℕ, ◌+◌, ◌≤◌, List, [], ◌∷◌, ◌++◌, length, map, Option, Some, None, is_some, count_by, get_or, refl, sym, ap, ◌∙◌, subst, arith, inl, inr}
+use Rattle.std.proofs.Common.{◌≡◌, ℕ, ◌≤◌, List, [], ◌∷◌, ◌++◌, length, map, Option, Some, None, is_some, count_by, get_or, refl, sym, ap, ◌∙◌, subst, arith, inl, inr}
+use Rattle.std.proofs.lemmas.Grind.{common_steps}
 use Rattle.std.proofs.lemmas.Bool.Decides.{eqb_tells}
 use Rattle.std.proofs.lemmas.Option.{none-some, same_Some}
 use Rattle.std.proofs.lemmas.List.{map-append, append_assoc, length-map}
@@ -7,17 +8,13 @@ use Rattle.std.specs.Option.{option_map, option_and_then}
 use Rattle.chain_base.specs.Link.{Link}
 use Rattle.chain_base.specs.Chain.{Entry, IsDistinct, times, first_or, last_or, link_at}
 use Rattle.chain_base.specs.Layout.{IsLaidOut}
-use Rattle.chain_base.proofs.Lists.{same_index, times-append, times-here, times-there, last_or-append, link_between-append, link_between-absent, Stands-occurs}
+use Rattle.chain_base.proofs.Lists.{same_index, times-append, times-here, last_or-append, link_between-append, link_between-absent, Stands-occurs}
 
 module _ {T : Type 0} where
   -- the link of an entry at its place
   pub link_at-split : (es xs : List (Entry T)) (e : Entry T) (ys : List (Entry T)) → es ≡ xs ++ e ∷ ys → IsDistinct es → (i : ℕ) → e.index ≡ i
       → link_at es i ≡ Some (e.generation, record { item = e.item; prev = last_or None xs; next = first_or None ys })
-  link_at-split es xs e ys split distinct i here =
-      let gone : times e.index xs ≡ 0 =
-      let once : times e.index (xs ++ e ∷ ys) ≤ 1 = rw (← split) (distinct e.index) in
-      omega (arith, times-append e.index xs (e ∷ ys), times-here e.index e ys refl) in
-      rw (split, ← here, link_between-append None None xs (e ∷ ys) e.index, link_between-absent None (Some e.index) xs e.index gone, same_index e.index) refl
+  link_at-split es xs e ys split distinct i here = grind (arith, common_steps, split, distinct, times-append, times-here, here, link_between-append, link_between-absent, same_index)
 
   -- the neighbours that the links name
   abbrev pub prev_at : List (Entry T) → ℕ → Option ℕ
@@ -38,18 +35,10 @@ module _ {T : Type 0} where
 
   -- an index with a link stands in the list
   pub linked-occurs : (es : List (Entry T)) (i : ℕ) (e : ℕ × Link T) → link_at es i ≡ Some e → 1 ≤ times i es
-  linked-occurs es i e is =
-      elim (eqb_tells (times i es) 0) [
-        | inl h ↦ absurd (none-some e (sym (link_between-absent None None es i h.1) ∙ is))
-        | inr h ↦ omega (arith, h.1)
-      ]
+  linked-occurs es i e is = grind (arith, common_steps, i, link_between-absent)
 
   pub named-occurs : (es : List (Entry T)) (i k : ℕ) (read : ℕ × Link T → Option ℕ) → option_and_then read (link_at es i) ≡ Some k → 1 ≤ times i es
-  named-occurs es i k read is =
-      elim (eqb_tells (times i es) 0) [
-        | inl h ↦ absurd (none-some k (sym (ap (option_and_then read) (link_between-absent None None es i h.1)) ∙ is))
-        | inr h ↦ omega (arith, h.1)
-      ]
+  named-occurs es i k read is = grind (arith, common_steps, i, link_between-absent)
 
   -- neighbours name each other
   pub next-of_prev : (es : List (Entry T)) → IsDistinct es → (i x : ℕ) → prev_at es i ≡ Some x → next_at es x ≡ Some i
@@ -94,10 +83,6 @@ module _ {T : Type 0} where
       at front e [] split here first = ap (last_or None) split ∙ (last_or-append None front (e ∷ []) ∙ ap Some here)
       at front e (f ∷ back) split here first = absurd (none-some f.index (sym first))
 
-  -- the first has no neighbour before it, the last none behind it
-  pub unnamed-first : (e : Entry T) (es : List (Entry T)) → IsDistinct (e ∷ es) → prev_at (e ∷ es) e.index ≡ None
-  unnamed-first e es distinct = ap (option_and_then (λ e. e.1.prev)) (link_at-split (e ∷ es) [] e es refl distinct e.index refl)
-
   pub unnamed-last : (es : List (Entry T)) → IsDistinct es → (i : ℕ) → last_or None es ≡ Some i → next_at es i ≡ None
   unnamed-last es distinct i last =
       let f = last_or-some es i last in
@@ -116,42 +101,19 @@ module _ {T : Type 0} where
     -- an index that no other becomes stands as often
     pub times-renumbered : (es : List (Entry T)) (x : ℕ) → ((y : ℕ) → 1 ≤ times y es → renumber y ≡ renumber x → y ≡ x) → times (renumber x) (map change es) ≡ times x es
     times-renumbered [] x apart = refl
-    times-renumbered (e ∷ es) x apart =
-        let more = times-renumbered es x (λ y there same. apart y (omega arith) same) in
-        elim (eqb_tells e.index x) [
-          | inl h ↦
-              let same : (change e).index ≡ renumber x = follows e ∙ ap renumber h.1 in
-              times-here (renumber x) (change e) (map change es) same ∙ (ap (λ n. 1 + n) more ∙ sym (times-here x e es h.1))
-          | inr h ↦
-              let other : (change e).index ≢ renumber x = λ same. h.1 (apart e.index (omega (arith, times-here e.index e es refl)) (sym (follows e) ∙ same)) in
-              times-there (renumber x) (change e) (map change es) other ∙ (more ∙ sym (times-there x e es h.1))
-        ]
+    times-renumbered (e ∷ es) x apart = grind (arith, common_steps, times-renumbered es x)
 
     -- an index of the new list was another of the old one
     pub times-source : (es : List (Entry T)) (k : ℕ) → 1 ≤ times k (map change es) → (x : ℕ) × (renumber x ≡ k) × (1 ≤ times x es)
     times-source [] k occurs = absurd (omega arith)
-    times-source (e ∷ es) k occurs =
-        elim (eqb_tells (change e).index k) [
-          | inl h ↦ (e.index, sym (follows e) ∙ h.1, omega (arith, times-here e.index e es refl))
-          | inr h ↦
-              let more = times-source es k (omega (arith, times-there k (change e) (map change es) h.1)) in
-              (more.0, more.1, let behind = more.2 in omega arith)
-        ]
+    times-source (e ∷ es) k occurs = grind (arith, common_steps, times-source es k)
 
     module _ (es : List (Entry T)) (distinct : IsDistinct es) (apart : (x y : ℕ) → 1 ≤ times x es → 1 ≤ times y es → renumber x ≡ renumber y → x ≡ y) where
       pub times-changed : (x : ℕ) → 1 ≤ times x es → times (renumber x) (map change es) ≡ times x es
       times-changed x occurs = times-renumbered es x (λ y there same. apart y x there occurs same)
 
       pub distinct-renumbered : IsDistinct (map change es)
-      distinct-renumbered k =
-          elim (eqb_tells (times k (map change es)) 0) [
-            | inl h ↦ omega (arith, h.1)
-            | inr h ↦
-                let s = times-source es k (omega (arith, h.1)) in
-                let once = distinct s.0 in
-                let same : times k (map change es) ≡ times s.0 es = ap (λ i. times i (map change es)) (sym s.1) ∙ times-changed s.0 s.2 in
-                omega arith
-          ]
+      distinct-renumbered k = grind (arith, common_steps, change, times-source, distinct, times-changed)
 
       -- Slots that hold each changed entry with its neighbours renumbered, and nothing else, hold the changed list.
       pub IsLaidOut-renumbered : (slots : List (Option (ℕ × Link T))) (first last : Option ℕ)

@@ -1,28 +1,15 @@
 -- Room for one more entry: where a chain has it, and what a growth makes of it.
-use Rattle.std.proofs.Common.{◌≡◌, ℕ, zero, suc, ◌+◌, ◌<◌, ◌≤◌, Bool, true, false, List, [], ◌∷◌, length, Option, IsSome, is_some, slice_get, Result, Ok, Err, IfOk, OnErr, max, if◌then◌else◌, refl, ap, ◌∙◌, arith, inl, inr}
-use Rattle.std.proofs.lemmas.Bool.Decides.{eqb_tells}
+use Rattle.std.proofs.Common.{◌≡◌, ℕ, zero, suc, ◌+◌, ◌<◌, ◌≤◌, false, List, [], ◌∷◌, length, Option, IsSome, is_some, slice_get, Result, Ok, Err, IfOk, OnErr, max, refl, ap, ◌∙◌, arith}
+use Rattle.std.proofs.lemmas.Grind.{common_steps}
 use Rattle.chain_base.specs.Chain.{Entry, Chain, times, inserted_at, greatest_index, vacant_among, next_index, grown_capacity, with_capacity, with_room, IsSound}
 use Rattle.chain_base.specs.Insert.{IsInsertion}
 use Rattle.chain_base.proofs.Vacancy.{times-greatest}
-
--- a list has a first where it isn't empty
-head-there : (is : List ℕ) → 0 < length is → is_some (slice_get is 0) ≡ true
-head-there [] some = absurd (omega arith)
-head-there (i ∷ is) some = refl
 
 head-absent : (is : List ℕ) → length is ≡ 0 → is_some (slice_get is 0) ≡ false
 head-absent [] none = refl
 head-absent (i ∷ is) none = absurd (omega arith)
 
 module _ {T : Type 0} where
-  -- a growth that makes room keeps the entries
-  pub with_room-entries : (most : ℕ) (c : Chain T) → (with_room most c).entries ≡ c.entries
-  with_room-entries most c = chosen (is_some (next_index c))
-    where
-      chosen : (b : Bool) → (if b then c else with_capacity c (grown_capacity most c)).entries ≡ c.entries
-      chosen true = refl
-      chosen false = refl
-
   -- an insertion keeps the capacity
   pub inserted-capacity : (c : Chain T) (place : Entry T → List (Entry T)) (item : T) (vacant : List ℕ) → (inserted_at c place item vacant).capacity ≡ c.capacity
   inserted-capacity c place item [] = refl
@@ -36,13 +23,7 @@ module _ {T : Type 0} where
   -- an index that no entry has is among the vacant ones, so that there is a first of them
   vacant_among-some : (es : List (Entry T)) (from count k : ℕ) → from ≤ k → k < from + count → times k es ≡ 0 → IsSome (slice_get (vacant_among es from count) 0)
   vacant_among-some es from zero k above below free = absurd (omega arith)
-  vacant_among-some es from (suc count) k above below free = elim (eqb_tells (times from es) 0) [
-    | inl h ↦ rw h.0 refl
-    | inr h ↦ rw h.0 (elim (eqb_tells from k) [
-      | inl same ↦ absurd (h.1 (ap (λ i. times i es) same.1 ∙ free))
-      | inr other ↦ vacant_among-some es (from + 1) count k (omega arith) (omega arith) free
-    ])
-  ]
+  vacant_among-some es from (suc count) k above below free = grind (arith, common_steps, vacant_among-some es (from + 1) count k)
 
   module _ (most : ℕ) (greatest : Option ℕ) (c : Chain T) (sound : IsSound most greatest c) where
     -- the greatest index is within the capacity
@@ -50,24 +31,10 @@ module _ {T : Type 0} where
     greatest-within [] is = omega arith
     greatest-within (e ∷ es) is = (sound.within (greatest_index (e ∷ es)) (rw is (times-greatest e es))).1
 
-    pub next-vacant : length c.entries < c.capacity → IsSome (next_index c)
-    next-vacant room = head-there c.vacant (omega (arith, sound.counted))
-
-    pub with_room-vacant : length c.entries < c.capacity → c ≡ with_room most c
-    with_room-vacant room = rw (next-vacant room) refl
-
     -- where no slot is vacant, a capacity above the present one has a vacant index
     module _ (full : c.capacity ≤ length c.entries) (n : ℕ) (more : c.capacity < n) where
       pub next-grown : IsSome (next_index (with_capacity c (max n (greatest_index c.entries))))
-      next-grown =
-          let free : times n c.entries ≡ 0 = elim (eqb_tells (times n c.entries) 0) [
-            | inl h ↦ h.1
-            | inr h ↦ absurd (omega (arith, sound.within n (omega arith)))
-          ] in
-          vacant_among-some c.entries 1 (max n (greatest_index c.entries)) n (omega arith) (omega arith) free
+      next-grown = grind (arith, common_steps, sound.within n, vacant_among-some c.entries 1 (max n (greatest_index c.entries)) n)
 
       pub with_room-full : n ≡ grown_capacity most c → with_capacity c (max n (greatest_index c.entries)) ≡ with_room most c
-      with_room-full is =
-          let none = head-absent c.vacant (omega (arith, sound.counted)) in
-          let wanted : max n (greatest_index c.entries) ≡ grown_capacity most c = omega (arith, is, greatest-within c.entries refl) in
-          rw (none, wanted) refl
+      with_room-full is = grind (arith, common_steps, head-absent c.vacant, sound.counted, greatest-within c.entries)

@@ -1,6 +1,6 @@
 -- What is true of every arena, said of the chain that lies in it.
-use Rattle.std.proofs.Common.{◌≡◌, ℕ, ◌<◌, ◌≤◌, List, [], ◌∷◌, Option, Some, None, refl, sym, ap, subst, ◌∙◌, arith, inl, inr, get_or, take, Result, Ok, Err, OnOk, OnErr}
-use Rattle.std.proofs.lemmas.Bool.Decides.{eqb_tells}
+use Rattle.std.proofs.Common.{◌≡◌, ℕ, ◌<◌, ◌≤◌, List, [], ◌∷◌, Option, Some, None, refl, sym, ap, ◌∙◌, arith, get_or, take, Result, Ok, Err, OnOk, OnErr}
+use Rattle.std.proofs.lemmas.Grind.{common_steps}
 use Rattle.std.specs.Option.{option_map, ForSome}
 use Rattle.arena_base.specs.Generation.{IsLawfulGeneration}
 use Rattle.arena_base.specs.Arena.{Arena, slot, arena_capacity, times as times_among, IsSound as IsSoundArena}
@@ -24,22 +24,13 @@ module _ {T : Type 0} where
 
   -- an index of the list is above 0
   occupied-above : (a : Arena (Link T)) (es : List (Entry T)) (i : ℕ) → take 1 a.slots ≡ None ∷ [] → slot a i ≡ link_at es i → 1 ≤ times i es → 0 < i
-  occupied-above a es i begins links occurs =
-      elim (eqb_tells i 0) [
-        | inl h ↦
-            let vacant : slot a i ≡ None = ap (slot a) h.1 ∙ first-vacant a.slots begins in
-            absurd (omega (arith, times-unlinked None None es i (sym links ∙ vacant)))
-        | inr h ↦ omega arith
-      ]
+  occupied-above a es i begins links occurs = grind (arith, common_steps, i, first-vacant, begins, times-unlinked)
 
   -- a lawful slot has a lawful entry
   lawful-entry : (greatest : Option ℕ) (o : Option (ℕ × Link T)) → ForSome o (λ e. IsLawfulGeneration greatest e.0)
       → ForSome {T = ℕ × T} (option_map (λ e. (e.0, e.1.item)) o) (λ e. IsLawfulGeneration greatest e.0)
   lawful-entry greatest None lawful = λ x is. absurd (cc)
-  lawful-entry greatest (Some e) lawful = λ x is.
-      let entry : ℕ × T = (e.0, e.1.item) in
-      let same : entry ≡ x = cc in
-      subst (λ (y : ℕ × T). IsLawfulGeneration greatest y.0) same (lawful e refl)
+  lawful-entry greatest (Some e) lawful = grind (arith, common_steps)
 
   pub IsSound-laid_out : (most : ℕ) (greatest : Option ℕ) (a : Arena (Link T)) (first last : Option ℕ)
       → IsLaidOut a.slots first last (chain_of a first).entries → IsSoundArena most greatest a → IsSound most greatest (chain_of a first)

@@ -1,6 +1,6 @@
 -- What each call does to the chain that lies in the arena.
-use Rattle.std.proofs.Common.{◌≡◌, ℕ, zero, suc, ◌+◌, ◌-◌, ◌<◌, ◌≤◌, true, List, [], ◌∷◌, ◌++◌, length, Option, Some, None, IsSome, is_some, refl, sym, ap, subst, ◌∙◌, arith, if◌then◌else◌, inl, inr, get_or, set, slice_get, length-set, replicate}
-use Rattle.std.proofs.lemmas.Bool.Decides.{eqb_tells}
+use Rattle.std.proofs.Common.{◌≡◌, ℕ, zero, suc, ◌+◌, ◌-◌, ◌<◌, ◌≤◌, true, List, [], ◌∷◌, ◌++◌, length, Option, Some, None, IsSome, is_some, refl, sym, ap, subst, ◌∙◌, arith, if◌then◌else◌, get_or, set, slice_get, length-set, replicate}
+use Rattle.std.proofs.lemmas.Grind.{common_steps}
 use Rattle.std.proofs.lemmas.List.{length-replicate}
 use Rattle.std.specs.Option.{option_map}
 use Rattle.arena_base.specs.Generation.{next_generation}
@@ -11,7 +11,7 @@ use Rattle.chain_base.specs.Insert.{IsInsertion, IsPlace}
 use Rattle.chain_base.specs.Layout.{chain_of, rewritten, with_next, with_prev, linked_next, linked_prev, IsLaidOut}
 use Rattle.chain_base.proofs.Lists.{link_between-absent, entry_at-link, last_or-append, Stands-occurs, without-split}
 use Rattle.chain_base.proofs.LaidOut.{bridged, end_beside, link_amid, closed, walk-laid_out, slot-laid_out, times-vacant, joined, IsLaidOut-inserted, IsLaidOut-removed, IsLaidOut-with_item_among, IsLaidOut-with_generation}
-use Rattle.chain_base.proofs.Vacancy.{vacant-links, get_or-resized, count-resized, length-resized, get_or-vacant, count-vacant}
+use Rattle.chain_base.proofs.Vacancy.{vacant-links, get_or-resized, count-resized, length-resized}
 
 -- the list of vacant indexes begins with the next one
 pub next-first : (is : List ℕ) (i : ℕ) → slice_get is 0 ≡ Some i → (rest : List ℕ) × (is ≡ i ∷ rest)
@@ -51,24 +51,8 @@ module _ {T : Type 0} where
     pub generation : new.generation ≡ old.generation
     pub maximum : new.maximum ≡ old.maximum
 
-  pub SameAside-linked_next : (a : Arena (Link T)) (at next : Option ℕ) → SameAside a (linked_next a at next)
-  SameAside-linked_next a None next = record { capacity = refl; vacant = refl; generation = refl; maximum = refl }
-  SameAside-linked_next a (Some i) next = record { capacity = ap (λ n. n - 1) (length-set a.slots i _); vacant = refl; generation = refl; maximum = refl }
-
-  pub SameAside-linked_prev : (a : Arena (Link T)) (at prev : Option ℕ) → SameAside a (linked_prev a at prev)
-  SameAside-linked_prev a None prev = record { capacity = refl; vacant = refl; generation = refl; maximum = refl }
-  SameAside-linked_prev a (Some i) prev = record { capacity = ap (λ n. n - 1) (length-set a.slots i _); vacant = refl; generation = refl; maximum = refl }
-
   pub SameAside-both : (a : Arena (Link T)) (left next right prev : Option ℕ) → SameAside a (linked_prev (linked_next a left next) right prev)
-  SameAside-both a left next right prev =
-      let one = SameAside-linked_next a left next in
-      let two = SameAside-linked_prev (linked_next a left next) right prev in
-      record {
-        capacity = two.capacity ∙ one.capacity;
-        vacant = two.vacant ∙ one.vacant;
-        generation = two.generation ∙ one.generation;
-        maximum = two.maximum ∙ one.maximum;
-      }
+  SameAside-both a left next right prev = grind (arith, common_steps)
 
   -- the first of a list that goes on, or another first where there is nothing before
   pub first_or-end : (xs zs : List (Entry T)) (d : Option ℕ) → (if is_some (last_or None xs) then first_or None (xs ++ zs) else d) ≡ first_or d xs
@@ -91,11 +75,7 @@ module _ {T : Type 0} where
 
   -- the entries of a chain where a slot holds something
   IsOccupied-slot : (a : Arena (Link T)) (first : Option ℕ) (k : ℕ) (o : Option (ℕ × Link T)) → slot a k ≡ o → link_at (chain_of a first).entries k ≡ o → IsSome o → IsOccupied (chain_of a first) k
-  IsOccupied-slot a first k o held links some = rw (entry_at-link None None (chain_of a first).entries k, links) (some-mapped o some)
-    where
-      some-mapped : (o : Option (ℕ × Link T)) → IsSome o → IsSome {T = ℕ × T} (option_map (λ e. (e.0, e.1.item)) o)
-      some-mapped None some = some
-      some-mapped (Some e) some = some
+  IsOccupied-slot a first k o held links some = grind (arith, common_steps, entry_at-link None None (chain_of a first).entries k, first)
 
   -- the vacant slots are those of the list
   fresh-slots : (a : Arena (Link T)) (first last : Option ℕ) → IsLaidOut a.slots first last (chain_of a first).entries
@@ -200,22 +180,10 @@ module _ {T : Type 0} where
 
   -- a chain that is cleared
   pub IsLaidOut-cleared : (n : ℕ) → IsLaidOut {T = T} (replicate n None) None None []
-  IsLaidOut-cleared n =
-      record {
-        links = λ i. get_or-vacant n i;
-        distinct = λ i. omega arith;
-        first_is = refl;
-        last_is = refl;
-        counted = count-vacant (replicate n None) (get_or-vacant n);
-      }
+  IsLaidOut-cleared n = grind (arith, common_steps)
 
   pub chain_of-cleared : (greatest : Option ℕ) (a : Arena (Link T)) (first : Option ℕ) → chain_of (arena_cleared greatest a) None ≡ cleared greatest (chain_of a first)
-  chain_of-cleared greatest a first =
-      let n = length a.slots in
-      let laid = IsLaidOut-cleared n in
-      let size : length (replicate n (let none : Option (ℕ × Link T) = None in none)) - 1 ≡ n - 1 = ap (λ m. m - 1) (length-replicate n _) in
-      chain_of-laid_out (arena_cleared greatest a) None None (cleared greatest (chain_of a first)) laid size
-      (vacant-links (replicate n None) [] laid.links ∙ ap (vacant_indexes {T = T} []) size) refl refl
+  chain_of-cleared greatest a first = grind (arith, common_steps, IsLaidOut-cleared, length-replicate, chain_of-laid_out (arena_cleared greatest a) None None (cleared greatest (chain_of a first)), first, vacant-links)
 
   -- a chain without one entry
   pub record Removes (greatest : Option ℕ) (a b : Arena (Link T)) (first first2 last2 : Option ℕ) (i : ℕ) : Type 0 where
@@ -253,11 +221,7 @@ module _ {T : Type 0} where
 
   -- a slot that holds a link has its index in the list
   pub occurs-held : (a : Arena (Link T)) (es : List (Entry T)) (i : ℕ) (e : ℕ × Link T) → slot a i ≡ Some e → slot a i ≡ link_at es i → 1 ≤ times i es
-  occurs-held a es i e held links =
-      elim (eqb_tells (times i es) 0) [
-        | inl h ↦ absurd (let none = link_between-absent None None es i h.1 in cc)
-        | inr h ↦ omega arith
-      ]
+  occurs-held a es i e held links = grind (arith, common_steps, i, link_between-absent)
 
   -- the entry at a known place is taken out
   module _ (greatest : Option ℕ) (a : Arena (Link T)) (first last : Option ℕ) (front : List (Entry T)) (x : Entry T) (back : List (Entry T)) where

@@ -1,5 +1,6 @@
 -- The steps of a transfer.
 use Rattle.std.proofs.Common.{◌≡◌, ℕ, zero, suc, ◌+◌, ◌-◌, ◌<◌, ◌≤◌, max, List, [], ◌∷◌, ◌++◌, map, length, length-append, append_assoc, Option, Some, None, OnSome, OnOk, IsOk, IsErr, Result, Ok, Err, is_some, true, slice_get, refl, sym, ap, ◌∙◌, arith, inl, inr}
+use Rattle.std.proofs.lemmas.Grind.{common_steps}
 use Rattle.std.proofs.lemmas.Bool.Decides.{eqb_tells}
 use Rattle.std.specs.List.{FoldsTo}
 use Rattle.std.proofs.lemmas.Fn.{FoldsTo-push}
@@ -33,8 +34,7 @@ module _ {T : Type 0} where
 
   pub capacity-raised : {X E : Type 0} (most : ℕ) (greatest : Option ℕ) (c new : Chain T) (n : ℕ) (r : Result X E) → IsSound most greatest c → c.capacity < n
       → OnOk r (new ≡ with_capacity c (max n (greatest_index c.entries))) → OnOk r (new.capacity ≡ max c.capacity n)
-  capacity-raised most greatest c new n (Ok x) sound less is =
-      ap (λ (c : Chain T). c.capacity) is ∙ omega (arith, greatest-within most greatest c sound, less)
+  capacity-raised most greatest c new n (Ok x) sound less is = grind (arith, common_steps, greatest-within most greatest)
   capacity-raised most greatest c new n (Err e) sound less is = tt
 
   -- the item in a link, under a generation or its number
@@ -75,29 +75,12 @@ module _ {T : Type 0} where
       ]
 
   insert_after-last : (g from : ℕ) (x : T) (xs : List T) (new : Entry T) → insert_after (from + length xs) new (numbered g from (x ∷ xs)) ≡ numbered g from (x ∷ xs) ++ new ∷ []
-  insert_after-last g from x [] new = elim (eqb_tells from (from + 0)) [
-    | inl h ↦ rw h.0 refl
-    | inr h ↦ absurd (h.1 (omega arith))
-  ]
-  insert_after-last g from x (y ∷ ys) new = elim (eqb_tells from (from + suc (length ys))) [
-    | inl h ↦ absurd (omega (arith, h.1))
-    | inr h ↦
-        let later : from + suc (length ys) ≡ from + 1 + length ys = omega arith in
-        rw h.0 (ap (λ (es : List (Entry T)). record { index = from; generation = g; item = x } ∷ es)
-        (ap (λ i. insert_after i new (numbered g (from + 1) (y ∷ ys))) later ∙ insert_after-last g (from + 1) y ys new))
-  ]
+  insert_after-last g from x [] new = grind (arith, common_steps)
+  insert_after-last g from x (y ∷ ys) new = grind (arith, common_steps, insert_after-last g (from + 1) y ys new)
 
   entry_at-last : (g from : ℕ) (x : T) (xs : List T) → is_some (entry_at (numbered g from (x ∷ xs)) (from + length xs)) ≡ true
-  entry_at-last g from x [] = elim (eqb_tells from (from + 0)) [
-    | inl h ↦ rw h.0 refl
-    | inr h ↦ absurd (h.1 (omega arith))
-  ]
-  entry_at-last g from x (y ∷ ys) = elim (eqb_tells from (from + suc (length ys))) [
-    | inl h ↦ absurd (omega (arith, h.1))
-    | inr h ↦
-        let later : from + suc (length ys) ≡ from + 1 + length ys = omega arith in
-        rw h.0 (ap (λ i. is_some (entry_at (numbered g (from + 1) (y ∷ ys)) i)) later ∙ entry_at-last g (from + 1) y ys)
-  ]
+  entry_at-last g from x [] = grind (arith, common_steps)
+  entry_at-last g from x (y ∷ ys) = grind (arith, common_steps, entry_at-last g (from + 1) y ys)
 
   module _ (P G : Type 0) {I : Type 0} (number : I → ℕ) where
     pub can_place-behind : (last : Option I) (c : Chain T) (items : List T) → option_map number last ≡ last_of (length items)
@@ -105,40 +88,27 @@ module _ {T : Type 0} where
     can_place-behind None c [] is = refl
     can_place-behind None c (x ∷ xs) is = absurd cc
     can_place-behind (Some i) c [] is = absurd cc
-    can_place-behind (Some i) c (x ∷ xs) is =
-        let at : number i ≡ 1 + length xs = let same : number i ≡ suc (length xs) = cc in omega (arith, same) in
-        rw at (entry_at-last c.generation 1 x xs)
+    can_place-behind (Some i) c (x ∷ xs) is = grind (arith, common_steps, number i, i, entry_at-last c.generation 1 x xs)
 
     pub placed-behind : (last : Option I) (g : ℕ) (items : List T) (new : Entry T) → option_map number last ≡ last_of (length items)
         → placed {P = P} {I = I} {G = G} number (place_behind last) (numbered g 1 items) new ≡ numbered g 1 items ++ new ∷ []
     placed-behind None g [] new is = refl
     placed-behind None g (x ∷ xs) new is = absurd cc
     placed-behind (Some i) g [] new is = absurd cc
-    placed-behind (Some i) g (x ∷ xs) new is =
-        let at : number i ≡ 1 + length xs = let same : number i ≡ suc (length xs) = cc in omega (arith, same) in
-        ap (λ k. insert_after k new (numbered g 1 (x ∷ xs))) at ∙ insert_after-last g 1 x xs new
+    placed-behind (Some i) g (x ∷ xs) new is = grind (arith, common_steps, number i, i, insert_after-last g 1 x xs new)
 
   -- the vacant indexes beside them
   times-before : (g from : ℕ) (xs : List T) (j : ℕ) → j < from → times j (numbered g from xs) ≡ 0
   times-before g from [] j less = refl
-  times-before g from (x ∷ xs) j less = elim (eqb_tells from j) [
-    | inl h ↦ absurd (omega (arith, h.1, less))
-    | inr h ↦ rw h.0 (omega (arith, times-before g (from + 1) xs j (omega (arith, less))))
-  ]
+  times-before g from (x ∷ xs) j less = grind (arith, common_steps, times-before g (from + 1) xs j)
 
   times-among : (g from : ℕ) (xs : List T) (j : ℕ) → from ≤ j → j < from + length xs → times j (numbered g from xs) ≡ 1
   times-among g from [] j more less = absurd (omega (arith, more, less))
-  times-among g from (x ∷ xs) j more less = elim (eqb_tells from j) [
-    | inl h ↦ rw h.0 (omega (arith, times-before g (from + 1) xs j (omega (arith, h.1))))
-    | inr h ↦ rw h.0 (omega (arith, times-among g (from + 1) xs j (omega (arith, more, h.1)) (omega (arith, less))))
-  ]
+  times-among g from (x ∷ xs) j more less = grind (arith, common_steps, times-among g (from + 1) xs j, times-before g (from + 1) xs j, more)
 
   times-behind : (g from : ℕ) (xs : List T) (j : ℕ) → from + length xs ≤ j → times j (numbered g from xs) ≡ 0
   times-behind g from [] j more = refl
-  times-behind g from (x ∷ xs) j more = elim (eqb_tells from j) [
-    | inl h ↦ absurd (omega (arith, h.1, more))
-    | inr h ↦ rw h.0 (omega (arith, times-behind g (from + 1) xs j (omega (arith, more))))
-  ]
+  times-behind g from (x ∷ xs) j more = grind (arith, common_steps, times-behind g (from + 1) xs j)
 
   vacant-all : (es : List (Entry T)) (from count : ℕ) → ((j : ℕ) → from ≤ j → times j es ≡ 0) → vacant_among es from count ≡ vacant_among {T = T} [] from count
   vacant-all es from zero none = refl
@@ -153,8 +123,7 @@ module _ {T : Type 0} where
       ∙ rw (all from (omega arith) (omega arith)) (vacant-none es (from + 1) n m (λ j more less. all j (omega (arith, more)) (omega (arith, less))) ∙ ap (λ i. vacant_among es i m) later)
 
   vacant-numbered : (g : ℕ) (xs : List T) (m : ℕ) → vacant_among (numbered g 1 xs) 1 (length xs + m) ≡ vacant_among {T = T} [] (1 + length xs) m
-  vacant-numbered g xs m =
-      vacant-none (numbered g 1 xs) 1 (length xs) m (times-among g 1 xs) ∙ vacant-all (numbered g 1 xs) (1 + length xs) m (times-behind g 1 xs)
+  vacant-numbered g xs m = grind (arith, common_steps, vacant-none, times-among, vacant-all, times-behind)
 
   pub vacant-next : (c : Chain T) (items : List T) (x : T) → length items < c.capacity → (filled_with c items).vacant ≡ (1 + length items) ∷ (filled_with c (items ++ x ∷ [])).vacant
   vacant-next c items x less =
@@ -197,8 +166,7 @@ module _ {T : Type 0} where
     next-some (Some p) vacant same is = refl
 
     pub next-at : (p : P) (o : Option P) (vacant : List ℕ) → o ≡ Some p → vacant ≡ chain.vacant → option_map (λ p. (numbers p).0) o ≡ slice_get vacant 0 → (numbers p).0 ≡ length items + 1
-    next-at p o vacant found same is =
-        let at : ◌≡◌ {A = ℕ} (numbers p).0 (1 + length items) = same_Some (numbers p).0 (1 + length items) (ap (option_map (λ p. (numbers p).0)) (sym found) ∙ next-is o vacant same is) in omega (arith, at)
+    next-at p o vacant found same is = grind (arith, common_steps, items, found, next-is, vacant, same)
 
 -- one entry more has gone over
 module _ {P Q T U M : Type 0} (numbers_from : Q → ℕ × ℕ) (numbers_to : P → ℕ × ℕ) (greatest : Option ℕ) (step : M → Q → InvalidationOption U → P → T → M → Type 0) (m : M) (source : Chain U) (c : Chain T) where
@@ -239,22 +207,9 @@ module _ {P Q T U M : Type 0} (numbers_from : Q → ℕ × ℕ) (numbers_to : P 
     maximum = t.maximum ∙ h.maximum;
   }
 
-  pub rest-some : (rest : Chain U) (now : Chain T) (n : M) (h : Taken rest now n) → length h.gone < length source.entries → 0 < length rest.entries
-  rest-some rest now n h less = omega (arith, less, ap length h.split, length-append h.gone rest.entries)
-
-  pub rest-none : (rest : Chain U) (now : Chain T) (n : M) (h : Taken rest now n) → length source.entries ≤ length h.gone → rest.entries ≡ []
-  rest-none rest now n h all = go rest.entries (omega (arith, all, ap length h.split, length-append h.gone rest.entries))
-    where
-      go : (es : List (Entry U)) → length es ≡ 0 → es ≡ []
-      go [] none = refl
-      go (e ∷ es) none = absurd (omega (arith, none))
-
 -- the last index is one more
 pub last-more : {I T : Type 0} (number : I → ℕ) (i : I) (items : List T) (item : T) → number i ≡ length items + 1 → Some (number i) ≡ last_of (length (items ++ item ∷ []))
-last-more number i items item at =
-    let count : length (items ++ item ∷ []) ≡ suc (length items) = omega (arith, length-append items (item ∷ [])) in
-    let same : number i ≡ suc (length items) = omega (arith, at) in
-    ap Some same ∙ ap last_of (sym count)
+last-more number i items item at = grind (arith, common_steps)
 
 -- a whole transfer
 module _ {P Q T U M : Type 0} (numbers_from : Q → ℕ × ℕ) (numbers_to : P → ℕ × ℕ) (greatest : Option ℕ) (step : M → Q → InvalidationOption U → P → T → M → Type 0) where

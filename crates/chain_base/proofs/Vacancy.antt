@@ -1,14 +1,15 @@
 -- The vacant indexes and the greatest occupied one: what an arena's slots say, said of the chain's list.
-use Rattle.std.proofs.Common.{◌≡◌, ℕ, zero, suc, ◌+◌, ◌-◌, ◌<◌, ◌≤◌, ◌==◌, Bool, true, false, List, [], ◌∷◌, length, drop, replicate, Option, Some, None, is_some, count_by, cond, max, refl, sym, ap, subst, ◌∙◌, arith, inl, inr, ◌⊎◌, get_or, add-one, add-zero}
+use Rattle.std.proofs.Common.{◌≡◌, ℕ, zero, suc, ◌+◌, ◌-◌, ◌<◌, ◌≤◌, ◌==◌, Bool, true, false, List, [], ◌∷◌, length, drop, replicate, Option, Some, None, is_some, count_by, cond, max, refl, sym, ap, ◌∙◌, arith, inl, inr, ◌⊎◌, get_or, add-one, add-zero}
+use Rattle.std.proofs.lemmas.Grind.{common_steps}
 use Rattle.std.proofs.lemmas.List.{length-replicate, length-drop}
 use Rattle.std.proofs.lemmas.Grind.{get_or_after_one}
 use Rattle.std.proofs.lemmas.List.Sums.{sum_by-cons}
-use Rattle.std.proofs.lemmas.Bool.Decides.{eqb_tells, leb_tells}
+use Rattle.std.proofs.lemmas.Bool.Decides.{eqb_tells}
 use Rattle.std.specs.List.{list_any}
 use Rattle.arena_base.specs.Arena.{vacant_from, vacant_indexes as slots_vacant, greatest_occupied, resized}
 use Rattle.chain_base.specs.Link.{Link}
 use Rattle.chain_base.specs.Chain.{Entry, times, link_at, vacant_among, vacant_indexes, greatest_index}
-use Rattle.chain_base.proofs.Lists.{times-here, times-there, times-unlinked, link_between-absent}
+use Rattle.chain_base.proofs.Lists.{times-here, times-unlinked, link_between-absent}
 
 module _ {X : Type 0} where
   -- slots that are vacant one and all
@@ -110,34 +111,17 @@ module _ {T : Type 0} where
 
   -- the vacant indexes of an arena whose slots hold the links of a list
   pub vacant-links : (slots : List (Option (ℕ × Link T))) (es : List (Entry T)) → ((i : ℕ) → get_or slots i None ≡ link_at es i) → slots_vacant slots ≡ vacant_indexes es (length slots - 1)
-  vacant-links slots es links =
-      vacant_from-links (drop 1 slots) es 1 (λ k within. get_or_after_one slots k None ∙ links (1 + k))
-      ∙ ap (vacant_among es 1) (length-drop 1 slots)
-
-  occurs-more : (i : ℕ) (e : Entry T) (es : List (Entry T)) → 1 ≤ times i es → 1 ≤ times i (e ∷ es)
-  occurs-more i e es occurs = omega arith
+  vacant-links slots es links = grind (arith, common_steps, vacant_from-links (drop 1 slots) es 1, get_or_after_one slots, length-drop 1 slots)
 
   -- the greatest index of a list occurs in it
   pub times-greatest : (e : Entry T) (es : List (Entry T)) → 1 ≤ times (greatest_index (e ∷ es)) (e ∷ es)
   times-greatest e [] = let same : e.index ≡ max e.index 0 = omega arith in omega (arith, times-here (max e.index 0) e [] same)
-  times-greatest e (f ∷ es) =
-      let g = greatest_index (f ∷ es) in
-      let behind : 1 ≤ times g (f ∷ es) = times-greatest f es in
-      elim (leb_tells g e.index) [
-        | inl h ↦ omega (arith, times-here (max e.index g) e (f ∷ es) (omega arith))
-        | inr h ↦
-            let same : g ≡ max e.index g = omega arith in
-            subst (λ (n : ℕ). 1 ≤ times n (e ∷ f ∷ es)) same (occurs-more g e (f ∷ es) behind)
-      ]
+  times-greatest e (f ∷ es) = grind (arith, common_steps, times-greatest f es)
 
   -- no index of a list is beyond the greatest
   pub below-greatest_index : (es : List (Entry T)) (i : ℕ) → 1 ≤ times i es → i ≤ greatest_index es
   below-greatest_index [] i occurs = absurd (omega arith)
-  below-greatest_index (e ∷ es) i occurs =
-      elim (eqb_tells e.index i) [
-        | inl h ↦ omega arith
-        | inr h ↦ omega (arith, below-greatest_index es i (omega (arith, times-there i e es h.1)))
-      ]
+  below-greatest_index (e ∷ es) i occurs = grind (arith, common_steps, below-greatest_index es i)
 
   -- an index whose slot holds a link occurs in the list
   occurs-links : (slots : List (Option (ℕ × Link T))) (es : List (Entry T)) → ((i : ℕ) → get_or slots i None ≡ link_at es i) → (i : ℕ) → is_some (get_or slots i None) ≡ true → 1 ≤ times i es
@@ -159,11 +143,4 @@ module _ {T : Type 0} where
 
   -- the greatest occupied index of an arena whose slots hold the links of a list
   pub greatest-links : (slots : List (Option (ℕ × Link T))) (es : List (Entry T)) → ((i : ℕ) → get_or slots i None ≡ link_at es i) → greatest_occupied slots ≡ greatest_index es
-  greatest-links slots es links =
-      let up : greatest_index es ≤ greatest_occupied slots = greatest-below slots es links in
-      elim (greatest-or_none slots) [
-        | inl h ↦ omega arith
-        | inr h ↦
-            let occurs = occurs-links slots es links (greatest_occupied slots) h in
-            omega (arith, below-greatest_index es (greatest_occupied slots) occurs)
-      ]
+  greatest-links slots es links = grind (arith, common_steps, greatest-below slots es links, greatest-or_none slots, occurs-links slots es links (greatest_occupied slots), below-greatest_index es (greatest_occupied slots))

@@ -2,6 +2,7 @@ pub mod Link
 pub mod Naming
 pub mod Walk
 pub mod Chain
+pub mod Clone
 pub mod Compression
 pub mod Exchange
 pub mod Insert

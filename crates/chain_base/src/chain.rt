@@ -5,6 +5,7 @@ ghost use Rattle.arena_base.specs.Invalidation.{is_overflow};
 ghost use Rattle.chain_base.specs.Chain.{raised, IsSound, IsArenaOf};
 
 mod canonical;
+mod clone;
 mod compress;
 mod get;
 mod growth;

@@ -650,3 +650,64 @@ fn a_transfer_without_memory_changes_nothing(rt: HostRuntime) -> Result<(), Fail
     assert_eq!(rt; met, [true; 2]);
     Ok(())
 }
+
+/// The place of a call among all, the pointer and the neighbours that it was shown, and the letter.
+type Shown = (u8, P0, (Option<u32>, Option<u32>), char);
+
+#[test]
+fn a_clone_has_the_pointers_in_order(rt: HostRuntime) -> Result<(), Fail> {
+    let source = scattered(&rt, rt.alloc())?;
+    let mut chain: ChainArena<P0, Shown> = ChainArena::new(rt.alloc());
+    let mut calls = 0u8;
+    let cloned = chain.clone_from_with(
+        &source,
+        |p: P0, letter: &char, neighbours: (Option<u32>, Option<u32>)| {
+            calls = calls.wrapping_add(1);
+            (calls, p, neighbours, *letter)
+        },
+    );
+    assert_eq!(rt; cloned, Ok(()));
+    let (a, c, d) = (
+        P0::_from_raw(1, 2),
+        P0::_from_raw(2, 2),
+        P0::_from_raw(4, 2),
+    );
+    assert_eq!(rt; chain.get(a).copied(), Some((1, a, (Some(4), None), 'a')));
+    assert_eq!(rt; chain.get(c).copied(), Some((2, c, (None, Some(4)), 'c')));
+    assert_eq!(rt;
+        chain.get(d).copied(),
+        Some((3, d, (Some(2), Some(1)), 'd'))
+    );
+    assert_eq!(rt;
+        (chain.first(), chain.last(), chain.len()),
+        (Some(c), Some(a), 3)
+    );
+    assert_eq!(rt; (chain.capacity(), chain.generation()), (4, 3));
+    Ok(())
+}
+
+#[test]
+fn a_clone_beyond_the_limit_changes_nothing(rt: HostRuntime) -> Result<(), Fail> {
+    let source = scattered(&rt, rt.alloc())?;
+    let mut chain = small(&rt, rt.alloc())?;
+    let cloned = chain.clone_from_with(&source, |_p, letter: &char, _neighbours| *letter);
+    assert_eq!(rt; cloned, Err(ReallocationError::BeyondMaxCapacity));
+    assert_laid_out(&rt, rt.alloc(), &chain, "1.2x ", 2)
+}
+
+#[test]
+fn a_refused_item_leaves_no_entry(rt: HostRuntime) -> Result<(), Fail> {
+    let source = scattered(&rt, rt.alloc())?;
+    let mut chain = Letters::new(rt.alloc());
+    begin(&rt, &mut chain, 'x')?;
+    let cloned = chain.try_clone_from_with(&source, |p: P0, letter: &char, _neighbours| {
+        if p.inx() == 2 {
+            return Err(AllocError);
+        }
+        Ok(*letter)
+    });
+    assert_eq!(rt; cloned, Err(ReallocationError::AllocError));
+    assert_eq!(rt; (chain.first(), chain.last(), chain.len()), (None, None, 0));
+    assert_eq!(rt; (chain.capacity(), chain.generation()), (4, 3));
+    Ok(())
+}
