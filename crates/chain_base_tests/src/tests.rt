@@ -1,9 +1,10 @@
-// Chains as a program makes them.
-ghost use Rattle.std.specs.Prelude.{[], ◌≡◌};
+//! Chains as a program makes them.
+mod clones;
+mod rebuild;
 
 use arena_base::{
-    Advancer, InsertionError, InvalidationOption, InvalidationResult, ItemsMut, P0, P8, PN, Ptr,
-    ReallocationError,
+    Advancer, InsertionError, InvalidationOption, InvalidationResult, ItemsMut,
+    MaxCapacityReductionError, P0, P8, PN, Ptr, ReallocationError,
 };
 use chain_base::{ChainArena, ChainPtrAdvancer, LinkInsertKind, LinkNoGen};
 use linked_list_allocator::LocalHeap;
@@ -70,135 +71,237 @@ fn neighbours(chain: &Letters, i: u32) -> Option<(Option<u32>, Option<u32>)> {
     Some(link.prev_next())
 }
 
+/// The numbers of a pointer.
+fn numbers(p: Option<P0>) -> Option<(u32, u64)> {
+    let p = p?;
+    Some((p.inx(), p.generation()))
+}
+
+/// The letters in order make this text.
+fn text_is<A: Allocator>(
+    rt: &impl Abort,
+    alloc: Global,
+    chain: &Letters<A>,
+    wanted: &str,
+) -> Result<(), Fail> {
+    assert_eq!(rt; text(rt, alloc, chain)?.as_str(), wanted);
+    Ok(())
+}
+
+/// The neighbours of the entry at an index, if there is one.
+fn neighbours_are(
+    rt: &impl Abort,
+    chain: &Letters,
+    i: u32,
+    wanted: Option<(Option<u32>, Option<u32>)>,
+) {
+    assert_eq!(rt; neighbours(chain, i), wanted);
+}
+
+/// Length, capacity and generation of a chain.
+fn counts_are<P: Ptr, T>(
+    rt: &impl Abort,
+    chain: &ChainArena<P, T>,
+    wanted: (usize, usize, P::Gen),
+) {
+    assert!(rt; (chain.len(), chain.capacity(), chain.generation()) == wanted);
+}
+
+/// The next new entry gets this pointer.
+fn next_is(rt: &impl Abort, chain: &Letters, wanted: (u32, u64)) {
+    assert_eq!(rt; numbers(chain.arena().next_insertion_ptr()), Some(wanted));
+}
+
+/// The first and the last pointer of the list.
+fn ends_are(rt: &impl Abort, chain: &Letters, first: Option<(u32, u64)>, last: Option<(u32, u64)>) {
+    assert_eq!(rt;
+        (numbers(chain.first()), numbers(chain.last())),
+        (first, last)
+    );
+}
+
+/// The first and the last pointer by index.
+fn inx_ends_are(rt: &impl Abort, chain: &Letters, first: (u32, u64), last: (u32, u64)) {
+    assert_eq!(rt; numbers(chain.find_first_inx_ptr()), Some(first));
+    assert_eq!(rt; numbers(chain.find_last_inx_ptr()), Some(last));
+}
+
+/// Inserts the letters a, b after it and c between them, each of which has to get its pointer.
+fn a_c_b(rt: &impl Abort, alloc: Global) -> Result<Letters, InsertionError> {
+    let mut chain = Letters::new(alloc);
+    assert!(rt; begin(rt, &mut chain, 'a')? == P0::_from_raw(1, 2));
+    assert!(rt; after(rt, &mut chain, 1, 'b')? == P0::_from_raw(2, 2));
+    assert!(rt; before(rt, &mut chain, 2, 'c')? == P0::_from_raw(3, 2));
+    Ok(chain)
+}
+
+/// The letter c is removed from between the indexes 1 and 2.
+fn removes_c(rt: &impl Abort, chain: &mut Letters) -> Result<(), &'static str> {
+    let removed = chain.remove_inx_link_no_gen(3).allow();
+    let (generation, link) = removed.ok_or("3 has an entry")?;
+    assert_eq!(rt; (generation, link.t), (2, 'c'));
+    assert_eq!(rt; (link.prev(), link.next()), (Some(1), Some(2)));
+    Ok(())
+}
+
 #[test]
 fn links_before_and_after(rt: HostRuntime) -> Result<(), Fail> {
-    let mut chain = Letters::new(rt.alloc());
-    assert_eq!(rt; begin(&rt, &mut chain, 'a')?, P0::_from_raw(1, 2));
-    assert_eq!(rt; after(&rt, &mut chain, 1, 'b')?, P0::_from_raw(2, 2));
-    assert_eq!(rt; before(&rt, &mut chain, 2, 'c')?, P0::_from_raw(3, 2));
-    assert_eq!(rt; text(&rt, rt.alloc(), &chain)?.as_str(), "acb");
-    assert_eq!(rt; neighbours(&chain, 3), Some((Some(1), Some(2))));
+    let mut chain = a_c_b(&rt, rt.alloc())?;
+    text_is(&rt, rt.alloc(), &chain, "acb")?;
+    neighbours_are(&rt, &chain, 3, Some((Some(1), Some(2))));
+    removes_c(&rt, &mut chain)?;
+    neighbours_are(&rt, &chain, 1, Some((None, Some(2))));
+    neighbours_are(&rt, &chain, 2, Some((Some(1), None)));
+    neighbours_are(&rt, &chain, 3, None);
+    counts_are(&rt, &chain, (2, 4, 3));
+    next_is(&rt, &chain, (3, 3));
+    Ok(())
+}
 
-    let removed = chain
-        .remove_inx_link_no_gen(3)
-        .allow()
-        .ok_or("3 has an entry")?;
-    let (generation, link) = removed;
-    assert_eq!(rt;
-        (generation, link.t, link.prev(), link.next()),
-        (2, 'c', Some(1), Some(2))
-    );
-    assert_eq!(rt; neighbours(&chain, 1), Some((None, Some(2))));
-    assert_eq!(rt; neighbours(&chain, 2), Some((Some(1), None)));
-    assert_eq!(rt; neighbours(&chain, 3), None);
-    assert_eq!(rt;
-        (chain.generation(), chain.len(), chain.capacity()),
-        (3, 2, 4)
-    );
-    assert_eq!(rt;
-        chain.arena().next_insertion_ptr(),
-        Some(P0::_from_raw(3, 3))
-    );
+/// The letters f, m, l at the indexes 2, 1, 3.
+fn f_m_l(rt: &impl Abort, alloc: Global) -> Result<Letters, InsertionError> {
+    let mut chain = Letters::new(alloc);
+    begin(rt, &mut chain, 'm')?;
+    before(rt, &mut chain, 1, 'f')?;
+    after(rt, &mut chain, 1, 'l')?;
+    Ok(chain)
+}
+
+/// Removes the entry at an index, if there is one. Tells whether there was.
+fn is_removed(chain: &mut Letters, i: u32) -> bool {
+    chain.remove_inx_link_no_gen(i).allow().is_some()
+}
+
+/// A chain that has lost its last entry begins again at the index 1, with generation 5.
+fn begins_again(rt: &impl Abort, chain: &mut Letters) -> Result<(), InsertionError> {
+    assert!(rt; chain.is_empty());
+    ends_are(rt, chain, None, None);
+    begin(rt, chain, 'n')?;
+    ends_are(rt, chain, Some((1, 5)), Some((1, 5)));
     Ok(())
 }
 
 #[test]
-fn inserts_and_removes_at_the_ends(rt: HostRuntime) -> Result<(), Fail> {
-    let mut chain = Letters::new(rt.alloc());
-    let middle = begin(&rt, &mut chain, 'm')?;
-    let first = before(&rt, &mut chain, 1, 'f')?;
-    let last = after(&rt, &mut chain, 1, 'l')?;
-    assert_eq!(rt; text(&rt, rt.alloc(), &chain)?.as_str(), "fml");
-    assert_eq!(rt; (chain.first(), chain.last()), (Some(first), Some(last)));
-    assert_eq!(rt;
-        (chain.find_first_inx_ptr(), chain.find_last_inx_ptr()),
-        (Some(middle), Some(last))
-    );
-
-    assert!(rt; chain.remove_inx_link_no_gen(first.inx()).allow().is_some());
-    assert_eq!(rt;
-        (
-            text(&rt, rt.alloc(), &chain)?.as_str(),
-            chain.first(),
-            neighbours(&chain, 1)
-        ),
-        ("ml", Some(middle), Some((None, Some(3))))
-    );
-    assert!(rt; chain.remove_inx_link_no_gen(last.inx()).allow().is_some());
-    assert_eq!(rt;
-        (
-            text(&rt, rt.alloc(), &chain)?.as_str(),
-            chain.last(),
-            neighbours(&chain, 1)
-        ),
-        ("m", Some(middle), Some((None, None)))
-    );
-    assert!(rt; chain.remove_inx_link_no_gen(middle.inx()).allow().is_some());
-    assert_eq!(rt;
-        (chain.is_empty(), chain.first(), chain.last()),
-        (true, None, None)
-    );
-    assert!(rt; chain.remove_inx_link_no_gen(1).allow().is_none());
-    assert_eq!(rt;
-        (begin(&rt, &mut chain, 'n')?, chain.first()),
-        (P0::_from_raw(1, 5), Some(P0::_from_raw(1, 5)))
-    );
+fn inserts_at_the_ends(rt: HostRuntime) -> Result<(), Fail> {
+    let chain = f_m_l(&rt, rt.alloc())?;
+    text_is(&rt, rt.alloc(), &chain, "fml")?;
+    ends_are(&rt, &chain, Some((2, 2)), Some((3, 2)));
+    inx_ends_are(&rt, &chain, (1, 2), (3, 2));
     Ok(())
 }
 
 #[test]
-fn renews_clears_and_writes(rt: HostRuntime) -> Result<(), Fail> {
-    let mut chain = Letters::with_min_capacity(rt.alloc(), 3)?;
-    let p = begin(&rt, &mut chain, 'a')?;
-    let _ = after(&rt, &mut chain, 1, 'b')?;
-    assert_eq!(rt;
-        chain.invalidate(p),
-        InvalidationResult::Success(P0::_from_raw(1, 3))
-    );
-    assert_eq!(rt;
-        (chain.contains(p), chain.invalidate(p)),
-        (false, InvalidationResult::InvalidPtr)
-    );
-    assert_eq!(rt; text(&rt, rt.alloc(), &chain)?.as_str(), "ab");
+fn removes_at_the_ends(rt: HostRuntime) -> Result<(), Fail> {
+    let mut chain = f_m_l(&rt, rt.alloc())?;
+    assert!(rt; is_removed(&mut chain, 2));
+    text_is(&rt, rt.alloc(), &chain, "ml")?;
+    ends_are(&rt, &chain, Some((1, 2)), Some((3, 2)));
+    neighbours_are(&rt, &chain, 1, Some((None, Some(3))));
+    assert!(rt; is_removed(&mut chain, 3));
+    text_is(&rt, rt.alloc(), &chain, "m")?;
+    ends_are(&rt, &chain, Some((1, 2)), Some((1, 2)));
+    neighbours_are(&rt, &chain, 1, Some((None, None)));
+    assert!(rt; is_removed(&mut chain, 1) && !is_removed(&mut chain, 1));
+    begins_again(&rt, &mut chain)?;
+    Ok(())
+}
 
-    let (_, letter) = chain.get_inx_mut(2).ok_or("2 has an entry")?;
-    *letter = 'x';
-    if let Some(letter) = chain.item_at_mut(1) {
-        *letter = 'y';
+/// The letters a and b at the indexes 1 and 2, in a chain of capacity 3.
+fn a_b(rt: &impl Abort, alloc: Global) -> Result<Letters, Fail> {
+    let mut chain = Letters::with_min_capacity(alloc, 3)?;
+    begin(rt, &mut chain, 'a')?;
+    after(rt, &mut chain, 1, 'b')?;
+    Ok(chain)
+}
+
+/// The entry at the index 1 gets another pointer, and the old one names nothing.
+fn renews_the_first(rt: &impl Abort, chain: &mut Letters) {
+    let (old, new) = (P0::_from_raw(1, 2), P0::_from_raw(1, 3));
+    assert!(rt; chain.invalidate(old) == InvalidationResult::Success(new));
+    assert!(rt; !chain.contains(old));
+    assert!(rt; chain.invalidate(old) == InvalidationResult::InvalidPtr);
+}
+
+#[test]
+fn renews_pointers(rt: HostRuntime) -> Result<(), Fail> {
+    let mut chain = a_b(&rt, rt.alloc())?;
+    renews_the_first(&rt, &mut chain);
+    text_is(&rt, rt.alloc(), &chain, "ab")
+}
+
+/// Writes a letter at an index.
+fn write_at(chain: &mut Letters, i: u32, letter: char) -> Result<(), &'static str> {
+    let (_, place) = chain.get_inx_mut(i).ok_or("an entry")?;
+    *place = letter;
+    Ok(())
+}
+
+/// Writes a letter through the one way that all containers have.
+fn write_item(chain: &mut Letters, i: u32, letter: char) {
+    if let Some(place) = chain.item_at_mut(i) {
+        *place = letter;
     }
-    assert!(rt; chain.get_inx_mut(3).is_none());
-    assert_eq!(rt; text(&rt, rt.alloc(), &chain)?.as_str(), "yx");
-    assert_eq!(rt; chain.get_inx(2), Some((2, &'x')));
+}
 
-    assert_eq!(rt;
-        (chain.set_max_capacity(2).is_err(), chain.max_capacity()),
-        (true, None)
-    );
-    assert_eq!(rt;
-        (chain.set_max_capacity(3).is_ok(), chain.max_capacity()),
-        (true, Some(3))
-    );
-    assert_eq!(rt;
-        chain.reallocate_min_capacity(4),
-        Err(ReallocationError::BeyondMaxCapacity)
-    );
-    assert_eq!(rt;
-        (chain.reallocate_min_capacity(0), chain.capacity()),
-        (Ok(()), 2)
-    );
+/// No place to write to is given for an index.
+fn gives_no_place(rt: &impl Abort, chain: &mut Letters, i: u32) {
+    assert!(rt; chain.get_inx_mut(i).is_none());
+}
+
+#[test]
+fn writes_letters(rt: HostRuntime) -> Result<(), Fail> {
+    let mut chain = a_b(&rt, rt.alloc())?;
+    write_at(&mut chain, 2, 'x')?;
+    write_item(&mut chain, 1, 'y');
+    gives_no_place(&rt, &mut chain, 3);
+    text_is(&rt, rt.alloc(), &chain, "yx")?;
+    assert_eq!(rt; chain.get_inx(2), Some((2, &'x')));
+    Ok(())
+}
+
+/// The greatest capacity can be set to this, or can't, and is this then.
+fn limits(
+    rt: &impl Abort,
+    chain: &mut Letters,
+    n: usize,
+    outcome: Result<(), MaxCapacityReductionError>,
+    maximum: Option<usize>,
+) {
+    assert_eq!(rt; chain.set_max_capacity(n), outcome);
+    assert_eq!(rt; chain.max_capacity(), maximum);
+}
+
+/// A reallocation for so many ends so.
+fn reallocates(
+    rt: &impl Abort,
+    chain: &mut Letters,
+    n: usize,
+    outcome: Result<(), ReallocationError>,
+) {
+    assert_eq!(rt; chain.reallocate_min_capacity(n), outcome);
+}
+
+#[test]
+fn the_capacity_is_changed(rt: HostRuntime) -> Result<(), Fail> {
+    let mut chain = a_b(&rt, rt.alloc())?;
+    limits(&rt, &mut chain, 2, Err(MaxCapacityReductionError), None);
+    limits(&rt, &mut chain, 3, Ok(()), Some(3));
+    let beyond = Err(ReallocationError::BeyondMaxCapacity);
+    reallocates(&rt, &mut chain, 4, beyond);
+    reallocates(&rt, &mut chain, 0, Ok(()));
+    counts_are(&rt, &chain, (2, 2, 2));
+    Ok(())
+}
+
+#[test]
+fn clears_and_sets_the_generation(rt: HostRuntime) -> Result<(), Fail> {
+    let mut chain = a_b(&rt, rt.alloc())?;
     chain.set_generation(9);
-    assert_eq!(rt;
-        (chain.inc_generation(), chain.generation()),
-        (InvalidationOption::Success(()), 10)
-    );
-    assert_eq!(rt;
-        (chain.clear(), chain.generation()),
-        (InvalidationOption::Success(()), 11)
-    );
-    assert_eq!(rt;
-        (chain.len(), chain.capacity(), chain.first()),
-        (0, 2, None)
-    );
+    assert!(rt; chain.inc_generation() == InvalidationOption::Success(()));
+    assert_eq!(rt; chain.generation(), 10);
+    assert!(rt; chain.clear() == InvalidationOption::Success(()));
+    counts_are(&rt, &chain, (0, 3, 11));
+    ends_are(&rt, &chain, None, None);
     Ok(())
 }
 
@@ -234,31 +337,62 @@ fn look_at(alloc: Global, chain: &Letters) -> Result<Seen, AllocError> {
     })
 }
 
+/// A chain that looks like this.
+fn looks_like(
+    rt: &impl Abort,
+    alloc: Global,
+    chain: &Letters,
+    expected: &Seen,
+) -> Result<(), AllocError> {
+    assert_eq!(rt; look_at(alloc, chain)?, *expected);
+    Ok(())
+}
+
+/// The letters a, c, d at the indexes 3, 4, 2, of at most five.
+fn a_c_d(rt: &impl Abort, alloc: Global) -> Result<Letters, InsertionError> {
+    let mut chain = Letters::new(alloc);
+    begin(rt, &mut chain, 'b')?;
+    after(rt, &mut chain, 1, 'd')?;
+    before(rt, &mut chain, 1, 'a')?;
+    after(rt, &mut chain, 1, 'c')?;
+    assert!(rt; is_removed(&mut chain, 1));
+    limits(rt, &mut chain, 5, Ok(()), Some(5));
+    Ok(chain)
+}
+
+/// A place is given for an index, which has this generation and letter.
+fn gives_a_place(
+    rt: &impl Abort,
+    chain: &mut Letters,
+    i: u32,
+    wanted: (u64, char),
+) -> Result<(), &'static str> {
+    let (generation, letter) = chain.get_inx_mut(i).ok_or("an entry")?;
+    assert_eq!(rt; (generation, *letter), wanted);
+    Ok(())
+}
+
+/// What is expected where another letter is written at the index 4.
+fn expect_written(expected: &mut Seen, letter: char) -> Result<(), &'static str> {
+    let standing = expected.at.get_mut(4).ok_or("seven were seen")?;
+    *standing = Some((2, letter, Some(3), Some(2)));
+    Ok(())
+}
+
 #[test]
 fn get_inx_mut_leaves_all_but_the_item(rt: HostRuntime) -> Result<(), Fail> {
-    let mut chain = Letters::new(rt.alloc());
-    let _ = begin(&rt, &mut chain, 'b')?;
-    let _ = (
-        after(&rt, &mut chain, 1, 'd')?,
-        before(&rt, &mut chain, 1, 'a')?,
-    );
-    let _ = after(&rt, &mut chain, 1, 'c')?;
-    let _ = chain.remove_inx_link_no_gen(1);
-    assert!(rt; chain.set_max_capacity(5).is_ok());
+    let mut chain = a_c_d(&rt, rt.alloc())?;
     let mut expected = look_at(rt.alloc(), &chain)?;
     for i in [0, 1, 5, u32::MAX] {
-        assert!(rt; chain.get_inx_mut(i).is_none());
-        assert_eq!(rt; look_at(rt.alloc(), &chain)?, expected);
+        gives_no_place(&rt, &mut chain, i);
+        looks_like(&rt, rt.alloc(), &chain, &expected)?;
     }
-    let (generation, letter) = chain.get_inx_mut(4).ok_or("4 has an entry")?;
-    assert_eq!(rt; (generation, *letter), (2, 'c'));
-    assert_eq!(rt; look_at(rt.alloc(), &chain)?, expected);
-    let (_, letter) = chain.get_inx_mut(4).ok_or("4 has an entry")?;
-    *letter = 'x';
-    *expected.at.get_mut(4).ok_or("seven were seen")? = Some((2, 'x', Some(3), Some(2)));
-    assert_eq!(rt; look_at(rt.alloc(), &chain)?, expected);
-    assert_eq!(rt; text(&rt, rt.alloc(), &chain)?.as_str(), "axd");
-    Ok(())
+    gives_a_place(&rt, &mut chain, 4, (2, 'c'))?;
+    looks_like(&rt, rt.alloc(), &chain, &expected)?;
+    write_at(&mut chain, 4, 'x')?;
+    expect_written(&mut expected, 'x')?;
+    looks_like(&rt, rt.alloc(), &chain, &expected)?;
+    text_is(&rt, rt.alloc(), &chain, "axd")
 }
 
 /// A step of a walk gives the pointer with these numbers, or nothing.
@@ -313,31 +447,49 @@ fn a_walk_ends_where_its_entry_is_gone(rt: HostRuntime) -> Result<(), Fail> {
     Ok(())
 }
 
+/// Inserts the number after the one at its index, in a chain of pointers of eight bits. Answers the refusal, if it is one.
+fn refused_after(rt: &impl Abort, chain: &mut ChainArena<P8, u8>, i: u8) -> Option<InsertionError> {
+    assert!(rt; chain.contains_inx(i));
+    let item = i.wrapping_add(1);
+    chain
+        .insert_reallocating(LinkInsertKind::NextToInx(i), item)
+        .err()
+}
+
+/// The number 1 alone, under pointers of eight bits.
+fn one(rt: &impl Abort, alloc: Global) -> Result<ChainArena<P8, u8>, InsertionError> {
+    let mut chain: ChainArena<P8, u8> = ChainArena::new(alloc);
+    assert!(rt; chain.is_empty());
+    let _ = chain.insert_reallocating(LinkInsertKind::Disconnected, 1)?;
+    Ok(chain)
+}
+
 #[test]
 fn fills_small_pointers(rt: HostRuntime) -> Result<(), Fail> {
-    let mut chain: ChainArena<P8, u8> = ChainArena::new(rt.alloc());
-    assert!(rt; chain.is_empty());
-    let _ = chain.insert_reallocating(LinkInsertKind::Disconnected, 0)?;
-    for item in 1..254 {
-        assert!(rt; chain.contains_inx(item));
-        let _ = chain.insert_reallocating(LinkInsertKind::NextToInx(item), item)?;
+    let mut chain = one(&rt, rt.alloc())?;
+    for i in 1..254 {
+        assert_eq!(rt; refused_after(&rt, &mut chain, i), None);
     }
-    assert_eq!(rt; (chain.len(), chain.capacity()), (254, 254));
-    assert!(rt; chain.contains_inx(254));
-    let refused = chain.insert_reallocating(LinkInsertKind::NextToInx(254), 255);
-    assert_eq!(rt;
-        (refused, chain.len()),
-        (Err(InsertionError::BeyondMaxCapacity), 254)
-    );
+    counts_are(&rt, &chain, (254, 254, 2));
+    let refused = refused_after(&rt, &mut chain, 254);
+    assert_eq!(rt; refused, Some(InsertionError::BeyondMaxCapacity));
+    counts_are(&rt, &chain, (254, 254, 2));
     assert_eq!(rt; chain.last(), Some(P8::_from_raw(254, 2)));
+    Ok(())
+}
 
+#[test]
+fn a_fresh_chain_has_no_slot(rt: HostRuntime) {
     let mut ageless: ChainArena<PN, u8> = ChainArena::new(rt.alloc());
     assert!(rt; ageless.is_empty());
     let refused = ageless.insert_within_capacity(LinkInsertKind::Disconnected, 0);
     assert_eq!(rt; refused, Err(InsertionError::NotWithinCapacity));
+}
+
+#[test]
+fn a_link_has_no_index_beyond_the_last(rt: HostRuntime) {
     let link: LinkNoGen<P8, u8> = LinkNoGen::new((Some(7), Some(255)), 1);
     assert_eq!(rt; link.prev_next(), (Some(7), None));
-    Ok(())
 }
 
 /// Inserts ten letters, each after the last, until memory is refused.
@@ -351,363 +503,38 @@ fn fill<A: Allocator>(rt: &impl Abort, chain: &mut Letters<A>) -> Result<(), Ins
     Ok(())
 }
 
+/// Marks which of these lengths was met.
+fn meet(met: &mut [bool], lens: &[usize], len: usize) {
+    for (is_met, known) in met.iter_mut().zip(lens) {
+        if len == *known {
+            *is_met = true;
+        }
+    }
+}
+
+/// Inserts letters on a heap of so many units, until memory is refused. Answers how many are there.
+fn filled(rt: &impl Abort, alloc: Global, units: usize) -> Result<usize, Fail> {
+    let heap = LocalHeap::new(alloc, units.saturating_mul(16))?;
+    let mut chain = Letters::new(&heap);
+    let outcome = fill(rt, &mut chain);
+    let len = chain.len();
+    if let Err(error) = outcome {
+        assert_eq!(rt; error, InsertionError::AllocError);
+        assert_eq!(rt; (chain.capacity(), chain.generation()), (len, 2));
+    } else {
+        assert_eq!(rt; len, 10);
+    }
+    assert!(rt; "abcdefghij".starts_with(text(rt, alloc, &chain)?.as_str()));
+    Ok(len)
+}
+
 #[test]
 fn keeps_all_where_memory_is_refused(rt: HostRuntime) -> Result<(), Fail> {
     let mut is_refused = [false; 3];
-    for size in 1..80 {
-        let heap = LocalHeap::new(rt.alloc(), 16 * size)?;
-        let mut chain = Letters::new(&heap);
-        let outcome = fill(&rt, &mut chain);
-        let len = chain.len();
-        match outcome {
-            Ok(()) => assert_eq!(rt; len, 10),
-            Err(error) => {
-                assert_eq!(rt; error, InsertionError::AllocError);
-                assert_eq!(rt; (chain.capacity(), chain.generation()), (len, 2));
-            }
-        }
-        for (i, known) in [0, 4, 8].iter().enumerate() {
-            if len == *known {
-                is_refused[i] = true;
-            }
-        }
-        assert!(rt; "abcdefghij".starts_with(text(&rt, rt.alloc(), &chain)?.as_str()));
+    for units in 1..80 {
+        let len = filled(&rt, rt.alloc(), units)?;
+        meet(&mut is_refused, &[0, 4, 8], len);
     }
     assert_eq!(rt; is_refused, [true; 3]);
-    Ok(())
-}
-
-/// The letters in order, each behind its index and its generation.
-fn layout(rt: &impl Abort, alloc: Global, chain: &Letters) -> Result<String, Fail> {
-    let mut text = String::new(alloc);
-    let Some(first) = chain.first() else {
-        return Ok(text);
-    };
-    let mut advancer = chain
-        .advancer_chain(first)
-        .ok_or("the first names an entry")?;
-    for _ in 0..chain.len() {
-        let p = advancer.advance(chain).ok_or("an entry for each")?;
-        let letter = *chain.get(p).ok_or("its letter")?;
-        let entry = format!(in alloc; "{}.{}{} ", p.inx(), p.generation(), letter)?;
-        text.push_str(entry.as_str())?;
-    }
-    assert_eq!(rt; advancer.advance(chain), None);
-    Ok(text)
-}
-
-/// The list c, d, a with the indexes 2, 4, 1, the index 3 being vacant.
-fn scattered(rt: &impl Abort, alloc: Global) -> Result<Letters, Fail> {
-    let mut chain = Letters::new(alloc);
-    begin(rt, &mut chain, 'a')?;
-    before(rt, &mut chain, 1, 'c')?;
-    after(rt, &mut chain, 1, 'e')?;
-    after(rt, &mut chain, 2, 'd')?;
-    let _ = chain.remove_inx_link_no_gen(3);
-    Ok(chain)
-}
-
-#[test]
-fn a_compression_keeps_the_order(rt: HostRuntime) -> Result<(), Fail> {
-    let mut chain = scattered(&rt, rt.alloc())?;
-    assert_eq!(rt;
-        layout(&rt, rt.alloc(), &chain)?.as_str(),
-        "2.2c 4.2d 1.2a "
-    );
-    assert_eq!(rt; chain.compress(false), InvalidationOption::Success(()));
-    assert_eq!(rt;
-        layout(&rt, rt.alloc(), &chain)?.as_str(),
-        "2.4c 3.4d 1.4a "
-    );
-    assert_eq!(rt; neighbours(&chain, 3), Some((Some(2), Some(1))));
-    assert_eq!(rt; (chain.capacity(), chain.generation()), (4, 4));
-    assert_eq!(rt;
-        chain.arena().next_insertion_ptr(),
-        Some(P0::_from_raw(4, 4))
-    );
-
-    assert_eq!(rt;
-        chain.compress_canonical(false),
-        InvalidationOption::Success(())
-    );
-    assert_eq!(rt;
-        layout(&rt, rt.alloc(), &chain)?.as_str(),
-        "1.5c 2.5d 3.5a "
-    );
-    assert_eq!(rt; neighbours(&chain, 2), Some((Some(1), Some(3))));
-    assert_eq!(rt;
-        chain.compress_canonical(true),
-        InvalidationOption::Success(())
-    );
-    assert_eq!(rt;
-        layout(&rt, rt.alloc(), &chain)?.as_str(),
-        "1.2c 2.2d 3.2a "
-    );
-    Ok(())
-}
-
-#[test]
-fn compressions_overflow(rt: HostRuntime) -> Result<(), Fail> {
-    let mut chain: ChainArena<P8, char> = ChainArena::new(rt.alloc());
-    assert_eq!(rt;
-        chain.compress_canonical(false),
-        InvalidationOption::Success(())
-    );
-    assert_eq!(rt; chain.compress(true), InvalidationOption::Success(()));
-    assert_eq!(rt; (chain.is_empty(), chain.generation()), (true, 2));
-    chain.insert_reallocating(LinkInsertKind::Disconnected, 'a')?;
-    chain.set_generation(255);
-    assert_eq!(rt;
-        chain.compress(false),
-        InvalidationOption::GenerationOverflow(())
-    );
-    chain.set_generation(255);
-    assert_eq!(rt;
-        chain.compress_canonical(false),
-        InvalidationOption::GenerationOverflow(())
-    );
-    assert_eq!(rt; chain.first(), Some(P8::_from_raw(1, 2)));
-    Ok(())
-}
-
-/// The pointer that an entry had, its letter, and the pointer that it gets.
-type Moved = (P0, char, P8);
-
-#[test]
-fn a_transfer_takes_all_in_order(rt: HostRuntime) -> Result<(), Fail> {
-    let mut source = scattered(&rt, rt.alloc())?;
-    let mut chain: ChainArena<P8, Moved> = ChainArena::new(rt.alloc());
-    let old = (P0::invalid(), 'z', P8::invalid());
-    chain.insert_reallocating(LinkInsertKind::Disconnected, old)?;
-    assert_eq!(rt; chain.set_max_capacity(4), Ok(()));
-    let moved = |from: P0, taken: InvalidationOption<char>, to: P8| (from, taken.allow(), to);
-    assert_eq!(rt;
-        chain.transfer_canonical_reallocating(7, &mut source, moved),
-        Ok(())
-    );
-    for (i, from, letter) in [(1u8, (2u32, 2u64), 'c'), (2, (4, 2), 'd'), (3, (1, 2), 'a')] {
-        let p = P8::_from_raw(i, 7);
-        assert_eq!(rt;
-            chain.get(p).copied(),
-            Some((P0::_from_raw(from.0, from.1), letter, p))
-        );
-    }
-    assert_eq!(rt;
-        (chain.len(), chain.capacity(), chain.generation()),
-        (3, 4, 7)
-    );
-    assert_eq!(rt; chain.first(), Some(P8::_from_raw(1, 7)));
-    assert_eq!(rt;
-        (source.len(), source.capacity(), source.generation()),
-        (0, 4, 6)
-    );
-    assert_eq!(rt;
-        source.arena().next_insertion_ptr(),
-        Some(P0::_from_raw(1, 6))
-    );
-
-    // The source is empty now.
-    assert_eq!(rt;
-        chain.transfer_canonical_reallocating(9, &mut source, moved),
-        Ok(())
-    );
-    assert_eq!(rt;
-        (chain.len(), chain.capacity(), chain.generation()),
-        (0, 4, 9)
-    );
-    assert_eq!(rt; source.generation(), 6);
-    Ok(())
-}
-
-/// The place of a call among all, the pointers that it was shown, and the letter.
-type Call = (u8, P0, P0, char);
-
-/// The list d, c, a with the indexes 4, 3, 1, before any call.
-fn uncalled(rt: &impl Abort, alloc: Global) -> Result<ChainArena<P0, Call>, Fail> {
-    let mut chain: ChainArena<P0, Call> = ChainArena::new(alloc);
-    for letter in ['a', 'b', 'c', 'd'] {
-        let item: Call = (0, P0::invalid(), P0::invalid(), letter);
-        let kind = match chain.first() {
-            None => {
-                assert!(rt; chain.is_empty());
-                LinkInsertKind::Disconnected
-            }
-            Some(first) => {
-                assert!(rt; chain.contains_inx(first.inx()));
-                LinkInsertKind::PrevToInx(first.inx())
-            }
-        };
-        chain.insert_reallocating(kind, item)?;
-    }
-    let _ = chain.remove_inx_link_no_gen(2);
-    Ok(chain)
-}
-
-#[test]
-fn a_compression_calls_by_rising_index(rt: HostRuntime) -> Result<(), Fail> {
-    let mut chain = uncalled(&rt, rt.alloc())?;
-    let mut calls = 0u8;
-    let overflow = chain.compress_with(true, |old: P0, item: Call, new: P0| {
-        calls = calls.wrapping_add(1);
-        let letter = item.3;
-        (calls, old, new, letter)
-    });
-    assert_eq!(rt; overflow, InvalidationOption::Success(()));
-    let (p1, p2, p3) = (
-        P0::_from_raw(1, 2),
-        P0::_from_raw(2, 2),
-        P0::_from_raw(3, 2),
-    );
-    assert_eq!(rt; chain.get(p1).copied(), Some((1, p1, p1, 'a')));
-    assert_eq!(rt; chain.get(p2).copied(), Some((2, p3, p2, 'c')));
-    assert_eq!(rt;
-        chain.get(p3).copied(),
-        Some((3, P0::_from_raw(4, 2), p3, 'd'))
-    );
-    assert_eq!(rt; (chain.first(), chain.last()), (Some(p3), Some(p1)));
-    Ok(())
-}
-
-/// Transfers all letters with generation 5. Answers the outcome, and how often the closure was called.
-fn transfer_all<A: Allocator>(
-    chain: &mut Letters<A>,
-    source: &mut Letters,
-) -> (Result<(), ReallocationError>, u8) {
-    let mut calls = 0u8;
-    let outcome = chain.transfer_canonical_reallocating(
-        5,
-        source,
-        |_from: P0, taken: InvalidationOption<char>, _to: P0| {
-            calls = calls.wrapping_add(1);
-            taken.allow()
-        },
-    );
-    (outcome, calls)
-}
-
-/// Says that a chain has this layout and this generation.
-fn assert_laid_out(
-    rt: &impl Abort,
-    alloc: Global,
-    chain: &Letters,
-    wanted: &str,
-    generation: u64,
-) -> Result<(), Fail> {
-    let found = layout(rt, alloc, chain)?;
-    assert_eq!(rt; (found.as_str(), chain.generation()), (wanted, generation));
-    Ok(())
-}
-
-/// The chain of the letter x alone, which may hold two.
-fn small(rt: &impl Abort, alloc: Global) -> Result<Letters, Fail> {
-    let mut chain = Letters::new(alloc);
-    assert_eq!(rt; chain.set_max_capacity(2), Ok(()));
-    begin(rt, &mut chain, 'x')?;
-    Ok(chain)
-}
-
-#[test]
-fn a_transfer_beyond_the_limit_changes_nothing(rt: HostRuntime) -> Result<(), Fail> {
-    let mut source = scattered(&rt, rt.alloc())?;
-    let mut chain = small(&rt, rt.alloc())?;
-    assert_eq!(rt;
-        transfer_all(&mut chain, &mut source),
-        (Err(ReallocationError::BeyondMaxCapacity), 0)
-    );
-    assert_laid_out(&rt, rt.alloc(), &chain, "1.2x ", 2)?;
-    assert_laid_out(&rt, rt.alloc(), &source, "2.2c 4.2d 1.2a ", 3)
-}
-
-/// Transfers three letters into a chain on a heap of so many units. Answers how many are there.
-fn transferred(rt: &impl Abort, alloc: Global, units: usize) -> Result<usize, Fail> {
-    let heap = LocalHeap::new(alloc, units.saturating_mul(16))?;
-    let mut source = scattered(rt, alloc)?;
-    let mut chain = Letters::new(&heap);
-    let (outcome, calls) = transfer_all(&mut chain, &mut source);
-    let seen = (chain.len(), chain.capacity(), chain.generation(), calls);
-    match outcome {
-        Ok(()) => assert_eq!(rt; seen, (3, 3, 5, 3)),
-        Err(refusal) => {
-            assert_eq!(rt; refusal, ReallocationError::AllocError);
-            assert_eq!(rt; seen, (0, 0, 2, 0));
-            assert_laid_out(rt, alloc, &source, "2.2c 4.2d 1.2a ", 3)?;
-        }
-    }
-    Ok(seen.0)
-}
-
-#[test]
-fn a_transfer_without_memory_changes_nothing(rt: HostRuntime) -> Result<(), Fail> {
-    let mut met = [false; 2];
-    for units in 1..40 {
-        let len = transferred(&rt, rt.alloc(), units)?;
-        for (i, known) in [0, 3].iter().enumerate() {
-            if len == *known {
-                met[i] = true;
-            }
-        }
-    }
-    assert_eq!(rt; met, [true; 2]);
-    Ok(())
-}
-
-/// The place of a call among all, the pointer and the neighbours that it was shown, and the letter.
-type Shown = (u8, P0, (Option<u32>, Option<u32>), char);
-
-#[test]
-fn a_clone_has_the_pointers_in_order(rt: HostRuntime) -> Result<(), Fail> {
-    let source = scattered(&rt, rt.alloc())?;
-    let mut chain: ChainArena<P0, Shown> = ChainArena::new(rt.alloc());
-    let mut calls = 0u8;
-    let cloned = chain.clone_from_with(
-        &source,
-        |p: P0, letter: &char, neighbours: (Option<u32>, Option<u32>)| {
-            calls = calls.wrapping_add(1);
-            (calls, p, neighbours, *letter)
-        },
-    );
-    assert_eq!(rt; cloned, Ok(()));
-    let (a, c, d) = (
-        P0::_from_raw(1, 2),
-        P0::_from_raw(2, 2),
-        P0::_from_raw(4, 2),
-    );
-    assert_eq!(rt; chain.get(a).copied(), Some((1, a, (Some(4), None), 'a')));
-    assert_eq!(rt; chain.get(c).copied(), Some((2, c, (None, Some(4)), 'c')));
-    assert_eq!(rt;
-        chain.get(d).copied(),
-        Some((3, d, (Some(2), Some(1)), 'd'))
-    );
-    assert_eq!(rt;
-        (chain.first(), chain.last(), chain.len()),
-        (Some(c), Some(a), 3)
-    );
-    assert_eq!(rt; (chain.capacity(), chain.generation()), (4, 3));
-    Ok(())
-}
-
-#[test]
-fn a_clone_beyond_the_limit_changes_nothing(rt: HostRuntime) -> Result<(), Fail> {
-    let source = scattered(&rt, rt.alloc())?;
-    let mut chain = small(&rt, rt.alloc())?;
-    let cloned = chain.clone_from_with(&source, |_p, letter: &char, _neighbours| *letter);
-    assert_eq!(rt; cloned, Err(ReallocationError::BeyondMaxCapacity));
-    assert_laid_out(&rt, rt.alloc(), &chain, "1.2x ", 2)
-}
-
-#[test]
-fn a_refused_item_leaves_no_entry(rt: HostRuntime) -> Result<(), Fail> {
-    let source = scattered(&rt, rt.alloc())?;
-    let mut chain = Letters::new(rt.alloc());
-    begin(&rt, &mut chain, 'x')?;
-    let cloned = chain.try_clone_from_with(&source, |p: P0, letter: &char, _neighbours| {
-        if p.inx() == 2 {
-            return Err(AllocError);
-        }
-        Ok(*letter)
-    });
-    assert_eq!(rt; cloned, Err(ReallocationError::AllocError));
-    assert_eq!(rt; (chain.first(), chain.last(), chain.len()), (None, None, 0));
-    assert_eq!(rt; (chain.capacity(), chain.generation()), (4, 3));
     Ok(())
 }
