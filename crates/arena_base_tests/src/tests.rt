@@ -1,9 +1,8 @@
 //! Arenas as a program sees them.
 mod any_arena;
+mod clones;
 mod compress;
 mod walks;
-
-mod clones;
 
 use arena_base::{
     Arena, InsertionError, InvalidationOption, InvalidationResult, ItemsMut,

@@ -21,7 +21,10 @@ fn a_recast_stops_at_the_first_error(rt: HostRuntime) -> Result<(), Fail> {
     let mut recaster: Arena<P0, P0> = Arena::new(rt.alloc());
     assert_eq!(rt; recaster.insert_reallocating(p0(5, 7))?, p0(1, 2));
     assert_eq!(rt; arena.recast(&recaster), Err(p0(9, 9)));
-    assert_eq!(rt; values(&arena), [Some(p0(5, 7)), Some(p0(9, 9)), Some(p0(1, 2))]);
+    assert_eq!(rt;
+        values(&arena),
+        [Some(p0(5, 7)), Some(p0(9, 9)), Some(p0(1, 2))]
+    );
 
     // By index, and not in the order of the keys: a lesser key comes at index 4, behind the failing one.
     let _ = arena.insert(OrdPair::new(0, p0(1, 2)))?;
@@ -29,7 +32,10 @@ fn a_recast_stops_at_the_first_error(rt: HostRuntime) -> Result<(), Fail> {
         *pair = OrdPair::new(2, p0(1, 2));
     }
     assert_eq!(rt; arena.recast(&recaster), Err(p0(5, 7)));
-    assert_eq!(rt; values(&arena), [Some(p0(5, 7)), Some(p0(1, 2)), Some(p0(1, 2))]);
+    assert_eq!(rt;
+        values(&arena),
+        [Some(p0(5, 7)), Some(p0(1, 2)), Some(p0(1, 2))]
+    );
     if let Some(pair) = arena.get_mut(p0(1, 2)) {
         *pair = OrdPair::new(1, p0(1, 2));
     }
