@@ -13,10 +13,9 @@ impl<P: Ptr, T: Drop, A: Allocator> ChainArena<P, T, A> {
     /// Makes this chain a clone of the source, with items that `map` makes: it has the source's pointers in the source's order,
     /// and its generation, and its own old entries are dropped.
     ///
-    /// For each entry of the source, by rising index, `map` is called with its pointer, a reference to its item, and the indexes of the
-    /// entries before and after it. The capacity
-    /// grows to the source's greatest index, where it is less, before anything else changes; the maximum stays, and all vacant
-    /// slots count as never used. It goes through the slots of both once.
+    /// For each entry of the source, by rising index, `map` is called with its pointer, a reference to its item, and the indexes of
+    /// the entries before and after it. The capacity grows to the source's greatest index, where it is less, before anything else
+    /// changes; the maximum stays, and all vacant slots count as never used. It goes through the slots of both once.
     ///
     /// It is refused with `BeyondMaxCapacity` where that index is beyond this chain's limit, and with `AllocError` where the
     /// capacity would grow and memory is refused. Nothing changes then, and `map` isn't called.
