@@ -323,49 +323,70 @@ fn hash_of(pair: &OrdPair<u8, u64>) -> u64 {
     state.finish()
 }
 
+/// One pair compares so with another one, and hashes alike where they are equal.
+fn compare_as(rt: &impl Abort, a: &OrdPair<u8, u64>, b: &OrdPair<u8, u64>, order: Ordering) {
+    assert!(rt; laws::pairs_cmp(a, b) == order);
+    assert!(rt; laws::pairs_partial_cmp(a, b) == Some(order));
+    assert!(rt; laws::pairs_equal(a, b) == order.is_eq());
+    assert!(rt; laws::pairs_hash_alike(a, b) == order.is_eq());
+    assert!(rt; (hash_of(a) == hash_of(b)) == order.is_eq());
+}
+
 #[test]
 fn pairs_compare_by_key_then_by_value(rt: HostRuntime) -> Result<(), Fail> {
-    let pairs = [(1u8, 9u64), (2, 0), (2, 7)];
-    for (i, (k, v)) in pairs.iter().enumerate() {
-        let a = OrdPair::new(*k, *v);
-        for (j, (k, v)) in pairs.iter().enumerate() {
-            let b = OrdPair::new(*k, *v);
-            assert_eq!(rt; laws::pairs_cmp(&a, &b), i.cmp(&j));
-            assert_eq!(rt; laws::pairs_partial_cmp(&a, &b), Some(i.cmp(&j)));
-            assert_eq!(rt;
-                (laws::pairs_equal(&a, &b), laws::pairs_hash_alike(&a, &b)),
-                (i == j, i == j)
-            );
-            assert_eq!(rt; hash_of(&a) == hash_of(&b), i == j);
+    let pairs = [
+        OrdPair::new(1u8, 9u64),
+        OrdPair::new(2, 0),
+        OrdPair::new(2, 7),
+    ];
+    for (i, a) in pairs.iter().enumerate() {
+        for (j, b) in pairs.iter().enumerate() {
+            compare_as(&rt, a, b, i.cmp(&j));
         }
     }
+    Ok(())
+}
+
+#[test]
+fn a_pair_hashes_as_its_parts(rt: HostRuntime) {
     let mut state = DefaultHasher::new();
     state.write_u8(2);
     state.write_u64(7);
     assert_eq!(rt; hash_of(&OrdPair::new(2, 7)), state.finish());
-    Ok(())
 }
 
-/// Pointers of eight bits name 254 entries.
-#[test]
-fn eight_bit_pointers_run_out(rt: HostRuntime) -> Result<(), Fail> {
-    let mut a: SimpleOrdArena<P8, OrdPair<u64, ()>> = SimpleOrdArena::new(rt.alloc());
-    let mut capacities = Vec::new(rt.alloc());
+/// Keys under pointers of eight bits, which name 254 entries.
+type SmallKeys = SimpleOrdArena<P8, OrdPair<u64, ()>>;
+
+/// Inserts a key. Tells whether it replaced one, or the refusal.
+fn is_replaced(a: &mut SmallKeys, key: u64) -> Result<bool, OrdInsertionError> {
+    let (_, before) = a.insert(OrdPair::new(key, ()))?;
+    Ok(before.is_some())
+}
+
+/// Inserts 254 keys, each of which is new. Answers each capacity on the way.
+fn fill(rt: &impl Abort, alloc: Global, a: &mut SmallKeys) -> Result<Vec<usize>, Fail> {
+    let mut capacities = Vec::new(alloc);
     for n in 0u64..254 {
-        let (_, before) = a.insert(OrdPair::new(n * 77 % 254, ()))?;
-        assert!(rt; before.is_none());
+        assert!(rt; !is_replaced(a, n * 77 % 254)?);
         if capacities.last() != Some(&a.capacity()) {
             capacities.push(a.capacity())?;
         }
     }
+    Ok(capacities)
+}
+
+#[test]
+fn eight_bit_pointers_run_out(rt: HostRuntime) -> Result<(), Fail> {
+    let mut a = SmallKeys::new(rt.alloc());
+    let capacities = fill(&rt, rt.alloc(), &mut a)?;
     let doubled = [4usize, 8, 16, 32, 64, 128, 254];
-    assert_eq!(rt; capacities.as_slice(), doubled.as_slice());
-    assert_eq!(rt; a.len(), 254);
-    let refused = a.insert(OrdPair::new(999, ()));
-    assert_eq!(rt; refused.err(), Some(OrdInsertionError::BeyondMaxCapacity));
-    assert_eq!(rt; a.len(), 254);
-    let (_, before) = a.insert(OrdPair::new(9, ()))?;
-    assert!(rt; before.is_some());
+    assert!(rt; capacities.as_slice() == doubled.as_slice());
+    assert!(rt; a.len() == 254);
+    let refused = is_replaced(&mut a, 999);
+    assert!(rt; refused == Err(OrdInsertionError::BeyondMaxCapacity));
+    assert!(rt; a.len() == 254);
+    assert!(rt; is_replaced(&mut a, 9) == Ok(true));
     Ok(())
 }
 

@@ -61,22 +61,60 @@ struct Five<P: Ptr, T: Drop> {
     p70: P,
 }
 
+/// Inserts a key, marked by its tenth. Answers its pointer.
+fn inserted<P: Ptr, T: Marked>(
+    a: &mut SimpleOrdArena<P, T>,
+    key: u64,
+) -> Result<P, OrdInsertionError> {
+    let (p, _) = a.insert(T::marked(key, key / 10))?;
+    Ok(p)
+}
+
+/// The same by `insert_reallocating`.
+fn inserted_reallocating<P: Ptr, T: Marked>(
+    a: &mut SimpleOrdArena<P, T>,
+    key: u64,
+) -> Result<P, OrdInsertionError> {
+    let (p, _) = a.insert_reallocating(T::marked(key, key / 10))?;
+    Ok(p)
+}
+
+/// Inserts a key. Answers its pointer, or the invalid one where it was refused.
+fn put<P: Ptr, T: Marked>(a: &mut SimpleOrdArena<P, T>, key: u64) -> P {
+    inserted(a, key).unwrap_or(P::invalid())
+}
+
+/// The same by `insert_reallocating`.
+fn put_reallocating<P: Ptr, T: Marked>(a: &mut SimpleOrdArena<P, T>, key: u64) -> P {
+    inserted_reallocating(a, key).unwrap_or(P::invalid())
+}
+
 /// The five keys, each marked by its tenth.
-fn with_five_keys<P: Ptr, T: Marked>(alloc: Global) -> Result<Five<P, T>, OrdInsertionError> {
+fn with_five_keys<P: Ptr, T: Marked>(alloc: Global) -> Five<P, T> {
     let mut arena = SimpleOrdArena::new(alloc);
-    let (p50, _) = arena.insert(T::marked(50, 5))?;
-    let (p30, _) = arena.insert(T::marked(30, 3))?;
-    let (p70, _) = arena.insert(T::marked(70, 7))?;
-    let (p60, _) = arena.insert_reallocating(T::marked(60, 6))?;
-    let (p10, _) = arena.insert_reallocating(T::marked(10, 1))?;
-    Ok(Five {
+    let p50 = put(&mut arena, 50);
+    let p30 = put(&mut arena, 30);
+    let p70 = put(&mut arena, 70);
+    let p60 = put_reallocating(&mut arena, 60);
+    let p10 = put_reallocating(&mut arena, 10);
+    Five {
         arena,
         p10,
         p30,
         p50,
         p60,
         p70,
-    })
+    }
+}
+
+/// A number that was found is the one that is wanted.
+fn same(rt: &impl Abort, found: u64, wanted: u64) {
+    assert_eq!(rt; found, wanted);
+}
+
+/// The same of two numbers.
+fn both_same(rt: &impl Abort, found: (usize, usize), wanted: (usize, usize)) {
+    assert_eq!(rt; found, wanted);
 }
 
 /// An arena of this length and capacity.
@@ -85,21 +123,42 @@ fn counts_are<P: Ptr, T: Marked>(
     a: &SimpleOrdArena<P, T>,
     wanted: (usize, usize),
 ) {
-    assert_eq!(rt; (a.len(), a.capacity()), wanted);
+    both_same(rt, (a.len(), a.capacity()), wanted);
+}
+
+/// Whether an arena has no ends.
+fn is_bare<P: Ptr, T: Marked>(a: &SimpleOrdArena<P, T>) -> bool {
+    a.is_empty() && a.first().is_none() && a.last().is_none()
+}
+
+/// Whether a search finds nothing, and visits nothing.
+fn is_searched_in_vain<P: Ptr, T: Marked>(a: &SimpleOrdArena<P, T>) -> bool {
+    let (found, visits) = a.find_similar_key_counted(&1);
+    found.is_none() && visits.count() == 0
+}
+
+/// Whether a walk gives nothing.
+fn is_walked_in_vain<P: Ptr, T: Marked>(a: &SimpleOrdArena<P, T>) -> bool {
+    a.iter_ordered().next().is_none()
 }
 
 /// An arena in which nothing is found.
 fn has_no_entry<P: Ptr, T: Marked>(rt: &impl Abort, a: &SimpleOrdArena<P, T>) {
-    assert!(rt; a.is_empty() && a.iter_ordered().next().is_none());
-    assert!(rt; a.first().is_none() && a.last().is_none());
-    let (found, visits) = a.find_similar_key_counted(&1);
-    assert!(rt; found.is_none() && visits.count() == 0);
+    assert!(rt; is_bare(a));
+    assert!(rt; is_searched_in_vain(a));
+    assert!(rt; is_walked_in_vain(a));
 }
 
-/// An arena with no limit, at its first generation.
-fn is_unused<P: Ptr, T: Marked>(rt: &impl Abort, a: &SimpleOrdArena<P, T>) {
-    assert!(rt; a.max_capacity().is_none());
-    assert!(rt; a.generation() == <P::Gen as PtrGen>::two());
+/// Whether an arena has no limit, and its first generation.
+fn is_unused<P: Ptr, T: Marked>(a: &SimpleOrdArena<P, T>) -> bool {
+    a.max_capacity().is_none() && a.generation() == <P::Gen as PtrGen>::two()
+}
+
+/// A new arena of this capacity.
+fn is_new<P: Ptr, T: Marked>(rt: &impl Abort, a: &SimpleOrdArena<P, T>, capacity: usize) {
+    counts_are(rt, a, (0, capacity));
+    has_no_entry(rt, a);
+    assert!(rt; is_unused(a));
 }
 
 fn new_arenas_are_empty<P: Ptr, T: Marked>(
@@ -107,71 +166,59 @@ fn new_arenas_are_empty<P: Ptr, T: Marked>(
     alloc: Global,
 ) -> Result<(), AllocError> {
     let new: SimpleOrdArena<P, T> = SimpleOrdArena::new(alloc);
-    counts_are(rt, &new, (0, 0));
-    has_no_entry(rt, &new);
-    is_unused(rt, &new);
+    is_new(rt, &new, 0);
     let spare: SimpleOrdArena<P, T> = SimpleOrdArena::with_min_capacity(alloc, 3)?;
-    counts_are(rt, &spare, (0, 3));
-    has_no_entry(rt, &spare);
-    is_unused(rt, &spare);
+    is_new(rt, &spare, 3);
     Ok(())
 }
 
-/// The item of a pointer has this mark.
-fn has_mark<P: Ptr, T: Marked>(
-    rt: &impl Abort,
-    a: &SimpleOrdArena<P, T>,
-    p: P,
-    mark: u64,
-) -> Result<(), &'static str> {
-    assert_eq!(rt; a.get(p).ok_or("the item")?.mark(), mark);
-    Ok(())
+/// The mark of a pointer's item, or 0.
+fn mark_of<P: Ptr, T: Marked>(a: &SimpleOrdArena<P, T>, p: P) -> u64 {
+    match a.get(p) {
+        Some(item) => item.mark(),
+        None => 0,
+    }
 }
 
-/// The index of a pointer finds its generation and this key.
-fn index_finds<P: Ptr, T: Marked>(
-    rt: &impl Abort,
-    a: &SimpleOrdArena<P, T>,
-    p: P,
-    key: u64,
-) -> Result<(), &'static str> {
-    let (generation, item) = a.get_inx(p.inx()).ok_or("the index")?;
-    assert!(rt; generation == p.generation());
-    assert_eq!(rt; *item.key(), key);
-    Ok(())
+/// The key at the index of a pointer: 0 where there is none, 1 where its generation is another one.
+fn key_at_index<P: Ptr, T: Marked>(a: &SimpleOrdArena<P, T>, p: P) -> u64 {
+    let Some((generation, item)) = a.get_inx(p.inx()) else {
+        return 0;
+    };
+    if generation == p.generation() {
+        *item.key()
+    } else {
+        1
+    }
 }
 
+/// The key of a pointer, read in its place, or 0.
+fn key_in_place<P: Ptr, T: Marked>(a: &SimpleOrdArena<P, T>, p: P) -> u64 {
+    if a.contains(p) { *a[p].key() } else { 0 }
+}
+
+/// A pointer finds this key and mark.
 fn pointer_finds<P: Ptr, T: Marked>(
     rt: &impl Abort,
     a: &SimpleOrdArena<P, T>,
     p: P,
     key: u64,
-) -> Result<(), &'static str> {
-    assert!(rt; a.contains(p));
-    assert_eq!(rt; *a[p].key(), key);
-    has_mark(rt, a, p, key / 10)?;
-    index_finds(rt, a, p, key)
+    mark: u64,
+) {
+    same(rt, key_in_place(a, p), key);
+    same(rt, mark_of(a, p), mark);
+    same(rt, key_at_index(a, p), key);
 }
 
-/// A pointer, and its index, that find nothing.
-fn finds_nothing<P: Ptr, T: Marked>(rt: &impl Abort, a: &SimpleOrdArena<P, T>, p: P) {
-    assert!(rt; !a.contains(p) && a.get(p).is_none());
-    assert!(rt; a.get_inx(p.inx()).is_none());
-}
-
-fn pointers_find_items<P: Ptr, T: Marked>(
-    rt: &impl Abort,
-    five: &Five<P, T>,
-) -> Result<(), &'static str> {
+fn pointers_find_items<P: Ptr, T: Marked>(rt: &impl Abort, five: &Five<P, T>) {
     let a = &five.arena;
     counts_are(rt, a, (5, 8));
-    pointer_finds(rt, a, five.p10, 10)?;
-    pointer_finds(rt, a, five.p30, 30)?;
-    pointer_finds(rt, a, five.p50, 50)?;
-    pointer_finds(rt, a, five.p60, 60)?;
-    pointer_finds(rt, a, five.p70, 70)?;
-    finds_nothing(rt, a, P::invalid());
-    Ok(())
+    pointer_finds(rt, a, five.p10, 10, 1);
+    pointer_finds(rt, a, five.p30, 30, 3);
+    pointer_finds(rt, a, five.p50, 50, 5);
+    pointer_finds(rt, a, five.p60, 60, 6);
+    pointer_finds(rt, a, five.p70, 70, 7);
+    pointer_finds(rt, a, P::invalid(), 0, 0);
 }
 
 /// The first and the last pointer.
@@ -179,21 +226,39 @@ fn ends_are<P: Ptr, T: Marked>(rt: &impl Abort, a: &SimpleOrdArena<P, T>, first:
     assert!(rt; a.first() == Some(first) && a.last() == Some(last));
 }
 
-/// 60 stands between 50 and 70 in the list.
-fn is_linked<P: Ptr, T: Marked>(rt: &impl Abort, five: &Five<P, T>) -> Result<(), &'static str> {
-    let (_, link) = five.arena.get_inx_link_no_gen(five.p60.inx()).ok_or("60")?;
-    assert!(rt; link.prev() == Some(five.p50.inx()) && link.next() == Some(five.p70.inx()));
-    assert_eq!(rt; *link.t.key(), 60);
-    Ok(())
+/// Whether the entry of a pointer has this key, and stands between two others in the list.
+fn is_between<P: Ptr, T: Marked>(
+    a: &SimpleOrdArena<P, T>,
+    p: P,
+    key: u64,
+    (before, after): (P, P),
+) -> bool {
+    let Some((_, link)) = a.get_inx_link_no_gen(p.inx()) else {
+        return false;
+    };
+    *link.t.key() == key && link.prev() == Some(before.inx()) && link.next() == Some(after.inx())
 }
 
-/// 50 is the root, above 30 and 70.
-fn has_root<P: Ptr, T: Marked>(rt: &impl Abort, five: &Five<P, T>) -> Result<(), &'static str> {
-    let (_, top) = five.arena.get_inx_node(five.p50.inx()).ok_or("50")?;
-    assert!(rt; top.t.p_back.get().is_none() && top.t.rank == 3);
-    assert!(rt; top.t.p_tree0.get() == Some(five.p30.inx()));
-    assert!(rt; top.t.p_tree1.get() == Some(five.p70.inx()));
-    Ok(())
+/// Whether the entry of a pointer is a root of rank 3 above two others.
+fn is_root_above<P: Ptr, T: Marked>(
+    a: &SimpleOrdArena<P, T>,
+    p: P,
+    (lesser, greater): (P, P),
+) -> bool {
+    let Some((_, top)) = a.get_inx_node(p.inx()) else {
+        return false;
+    };
+    let node = &top.t;
+    node.rank == 3
+        && node.p_back.get().is_none()
+        && node.p_tree0.get() == Some(lesser.inx())
+        && node.p_tree1.get() == Some(greater.inx())
+}
+
+/// 60 stands between 50 and 70 in the list; 50 is the root, above 30 and 70.
+fn is_linked<P: Ptr, T: Marked>(rt: &impl Abort, five: &Five<P, T>) {
+    assert!(rt; is_between(&five.arena, five.p60, 60, (five.p50, five.p70)));
+    assert!(rt; is_root_above(&five.arena, five.p50, (five.p30, five.p70)));
 }
 
 /// A search for a key finds this pointer, or none, after so many visits.
@@ -254,56 +319,89 @@ fn find_key_names<P: Ptr, T: Marked>(rt: &impl Abort, a: &SimpleOrdArena<P, T>, 
     assert!(rt; a.find_key(&key) == Some(p));
 }
 
-/// A walk along the list gives each key, with the pointer that a search finds, and counts them.
-fn a_walk_gives_all<P: Ptr, T: Marked>(
+/// A step of a walk gives this key, with the pointer that a search finds.
+fn step_gives<P: Ptr, T: Marked>(
     rt: &impl Abort,
-    five: &Five<P, T>,
-) -> Result<(), &'static str> {
-    let mut walk = five.arena.iter_ordered();
-    assert_eq!(rt; walk.size_hint(), (5, Some(5)));
-    for key in [10u64, 30, 50, 60, 70] {
-        let (p, item) = walk.next().ok_or("an entry for each")?;
-        assert_eq!(rt; *item.key(), key);
-        find_key_names(rt, &five.arena, key, p);
+    a: &SimpleOrdArena<P, T>,
+    step: Option<(P, &T)>,
+    key: u64,
+) {
+    match step {
+        Some((p, item)) => {
+            same(rt, *item.key(), key);
+            find_key_names(rt, a, key, p);
+        }
+        None => same(rt, 0, key),
     }
-    assert_eq!(rt; walk.len(), 0);
+}
+
+/// So many items are left.
+fn are_left(rt: &impl Abort, left: (usize, Option<usize>), wanted: usize) {
+    assert_eq!(rt; left, (wanted, Some(wanted)));
+}
+
+/// A walk along the list gives each key, with the pointer that a search finds, and counts them.
+fn a_walk_gives_all<P: Ptr, T: Marked>(rt: &impl Abort, a: &SimpleOrdArena<P, T>) {
+    let mut walk = a.iter_ordered();
+    are_left(rt, walk.size_hint(), 5);
+    for key in [10u64, 30, 50, 60, 70] {
+        step_gives(rt, a, walk.next(), key);
+    }
+    are_left(rt, (walk.len(), Some(0)), 0);
     assert!(rt; walk.next().is_none());
-    Ok(())
 }
 
 /// A loop over the arena meets rising keys up to 70.
-fn a_loop_meets_all<P: Ptr, T: Marked>(rt: &impl Abort, five: &Five<P, T>) {
+fn a_loop_meets_all<P: Ptr, T: Marked>(rt: &impl Abort, a: &SimpleOrdArena<P, T>) {
     let mut last = 0;
-    for (_, item) in &five.arena {
-        assert!(rt; last < *item.key());
-        last = *item.key();
+    for (_, item) in a {
+        let key = *item.key();
+        assert!(rt; last < key);
+        last = key;
     }
-    assert_eq!(rt; last, 70);
+    same(rt, last, 70);
 }
 
-fn equal_keys_replace<P: Ptr, T: Marked>(
-    rt: &impl Abort,
-    five: &mut Five<P, T>,
-) -> Result<(), Fail> {
-    let (p, before) = five.arena.insert(T::marked(60, 8))?;
-    assert!(rt; p == five.p60);
-    assert_eq!(rt; before.ok_or("replaced")?.mark(), 6);
-    has_mark(rt, &five.arena, five.p60, 8)?;
-    counts_are(rt, &five.arena, (5, 8));
-    Ok(())
+/// The mark of an item that was replaced, or 0.
+fn mark_before<T: Marked>(before: Option<T>) -> u64 {
+    match before {
+        Some(item) => item.mark(),
+        None => 0,
+    }
 }
 
-/// Writes an item by its index.
-fn write_at_index<P: Ptr, T: Marked>(
-    rt: &impl Abort,
+/// Inserts an item in the place of a pointer's. Answers the mark that it replaced, 0 if none.
+fn mark_replaced<P: Ptr, T: Marked>(
     a: &mut SimpleOrdArena<P, T>,
-    p: P,
     item: T,
-) -> Result<(), &'static str> {
-    let (generation, place) = a.get_inx_mut(p.inx()).ok_or("its index")?;
-    assert!(rt; generation == p.generation());
+    p: P,
+) -> Result<u64, OrdInsertionError> {
+    let (q, before) = a.insert(item)?;
+    let mark = mark_before(before);
+    Ok(if p == q { mark } else { 0 })
+}
+
+fn equal_keys_replace<P: Ptr, T: Marked>(rt: &impl Abort, five: &mut Five<P, T>) {
+    let p = five.p60;
+    assert!(rt; mark_replaced(&mut five.arena, T::marked(60, 8), p) == Ok(6));
+    same(rt, mark_of(&five.arena, p), 8);
+    counts_are(rt, &five.arena, (5, 8));
+}
+
+/// Writes an item by its pointer, if there is one.
+fn write_by_pointer<P: Ptr, T: Marked>(a: &mut SimpleOrdArena<P, T>, p: P, item: T) {
+    if let Some(place) = a.get_mut(p) {
+        *place = item;
+    }
+}
+
+/// Writes an item by its index, if there is one. Tells whether there is, with the pointer's generation.
+fn is_written_at_index<P: Ptr, T: Marked>(a: &mut SimpleOrdArena<P, T>, p: P, item: T) -> bool {
+    let Some((generation, place)) = a.get_inx_mut(p.inx()) else {
+        return false;
+    };
     *place = item;
-    Ok(())
+    generation == p.generation()
 }
 
 /// Writes an item in the place of one that is there.
@@ -312,27 +410,20 @@ fn write_in_place<P: Ptr, T: Marked>(rt: &impl Abort, a: &mut SimpleOrdArena<P, 
     a[p] = item;
 }
 
-/// No place to write to is given for a pointer and for its index.
-fn gives_no_place<P: Ptr, T: Marked>(rt: &impl Abort, a: &mut SimpleOrdArena<P, T>, p: P) {
-    assert!(rt; a.get_mut(p).is_none());
-    assert!(rt; a.get_inx_mut(p.inx()).is_none());
+/// Whether a pointer and its index give no place to write to.
+fn gives_no_place<P: Ptr, T: Marked>(a: &mut SimpleOrdArena<P, T>, p: P) -> bool {
+    a.get_mut(p).is_none() && a.get_inx_mut(p.inx()).is_none()
 }
 
-fn writes_reach_items<P: Ptr, T: Marked>(
-    rt: &impl Abort,
-    five: &mut Five<P, T>,
-) -> Result<(), &'static str> {
-    let a = &mut five.arena;
-    let p = five.p30;
-    *a.get_mut(p).ok_or("30")? = T::marked(30, 11);
-    has_mark(rt, a, p, 11)?;
-    write_at_index(rt, a, p, T::marked(30, 12))?;
-    has_mark(rt, a, p, 12)?;
+fn writes_reach_items<P: Ptr, T: Marked>(rt: &impl Abort, a: &mut SimpleOrdArena<P, T>, p: P) {
+    write_by_pointer(a, p, T::marked(30, 11));
+    same(rt, mark_of(a, p), 11);
+    assert!(rt; is_written_at_index(a, p, T::marked(30, 12)));
+    same(rt, mark_of(a, p), 12);
     write_in_place(rt, a, p, T::marked(30, 13));
-    has_mark(rt, a, p, 13)?;
-    gives_no_place(rt, a, P::invalid());
+    same(rt, mark_of(a, p), 13);
+    assert!(rt; gives_no_place(a, P::invalid()));
     counts_are(rt, a, (5, 8));
-    Ok(())
 }
 
 /// What stands at an index: the generation, key and mark, the neighbours in the list, and in the tree parent, sides and rank.
@@ -408,139 +499,165 @@ fn expect_written<P: Ptr>(rt: &impl Abort, expected: &mut Seen<P>, item: (u64, u
     }
 }
 
+/// Whether an index gives no place to write to.
+fn gives_no_place_at<P: Ptr, T: Marked>(a: &mut SimpleOrdArena<P, T>, i: P::Inx) -> bool {
+    a.get_inx_mut(i).is_none()
+}
+
+/// The key at the index of a pointer, read through a reference that may write: 0 where there is none, 1 where its generation is
+/// another one.
+fn key_to_write<P: Ptr, T: Marked>(a: &mut SimpleOrdArena<P, T>, p: P) -> u64 {
+    let Some((generation, item)) = a.get_inx_mut(p.inx()) else {
+        return 0;
+    };
+    if generation == p.generation() {
+        *item.key()
+    } else {
+        1
+    }
+}
+
+/// Indexes without an entry give no place to write to, and nothing changes.
+fn vacant_index_leaves_all<P: Ptr, T: Marked>(
+    rt: &impl Abort,
+    alloc: Global,
+    a: &mut SimpleOrdArena<P, T>,
+    expected: &Seen<P>,
+    i: P::Inx,
+) -> Result<(), AllocError> {
+    assert!(rt; gives_no_place_at(a, i));
+    looks_like(rt, alloc, a, expected)
+}
+
+fn vacant_indexes_leave_all<P: Ptr, T: Marked>(
+    rt: &impl Abort,
+    alloc: Global,
+    a: &mut SimpleOrdArena<P, T>,
+    expected: &Seen<P>,
+) -> Result<(), AllocError> {
+    let beyond = P::invalid().inx();
+    let vacant = P::Inx::try_from_usize(6);
+    assert!(rt; vacant.is_some());
+    vacant_index_leaves_all(rt, alloc, a, expected, vacant.unwrap_or(beyond))?;
+    vacant_index_leaves_all(rt, alloc, a, expected, beyond)
+}
+
 fn get_inx_mut_leaves_all_but_the_item<P: Ptr, T: Marked>(
     rt: &impl Abort,
     alloc: Global,
-    five: &mut Five<P, T>,
-) -> Result<(), Fail> {
-    let a = &mut five.arena;
-    let mut expected = look_at(alloc, a)?;
-    let vacant = P::Inx::try_from_usize(6).ok_or("an index")?;
-    assert!(rt; a.get_inx_mut(vacant).is_none());
-    looks_like(rt, alloc, a, &expected)?;
-    assert!(rt; a.get_inx_mut(P::invalid().inx()).is_none());
-    looks_like(rt, alloc, a, &expected)?;
-    let (generation, item) = a.get_inx_mut(five.p30.inx()).ok_or("30")?;
-    assert!(rt; generation == five.p30.generation() && *item.key() == 30);
-    looks_like(rt, alloc, a, &expected)?;
-    write_at_index(rt, a, five.p30, T::marked(99, 12))?;
-    expect_written(rt, &mut expected, (99, 12));
-    looks_like(rt, alloc, a, &expected)?;
-    write_at_index(rt, a, five.p30, T::marked(30, 12))?;
-    Ok(())
-}
-
-fn generations_are_set<P: Ptr, T: Marked>(rt: &impl Abort, five: &mut Five<P, T>) {
-    let a = &mut five.arena;
-    let two = <P::Gen as PtrGen>::two();
-    let (three, _) = two.generational_inc();
-    let _ = a.inc_generation();
-    assert!(rt; a.generation() == three);
-    a.set_generation(two);
-    assert!(rt; a.generation() == two);
-    assert!(rt; a.contains(five.p10) && a.len() == 5);
-}
-
-/// What a removal by a pointer takes out has this key.
-fn remove_takes<P: Ptr, T: Marked>(
-    rt: &impl Abort,
     a: &mut SimpleOrdArena<P, T>,
     p: P,
-    key: u64,
-) -> Result<(), &'static str> {
-    let taken = a.remove(p).allow().ok_or("an entry")?;
-    assert_eq!(rt; *taken.key(), key);
+) -> Result<(), AllocError> {
+    let mut expected = look_at(alloc, a)?;
+    vacant_indexes_leave_all(rt, alloc, a, &expected)?;
+    same(rt, key_to_write(a, p), 30);
+    looks_like(rt, alloc, a, &expected)?;
+    assert!(rt; is_written_at_index(a, p, T::marked(99, 12)));
+    expect_written(rt, &mut expected, (99, 12));
+    looks_like(rt, alloc, a, &expected)?;
+    assert!(rt; is_written_at_index(a, p, T::marked(30, 12)));
     Ok(())
+}
+
+/// The generation goes on from two to three, and is set to two again.
+fn generations_are_set<P: Ptr, T: Marked>(rt: &impl Abort, a: &mut SimpleOrdArena<P, T>, p: P) {
+    let two = <P::Gen as PtrGen>::two();
+    let _ = a.inc_generation();
+    assert!(rt; a.generation() == two.generational_inc().0);
+    a.set_generation(two);
+    assert!(rt; a.generation() == two);
+    assert!(rt; a.contains(p) && a.len() == 5);
+}
+
+/// Removes an entry by its pointer. Answers its key, or 0.
+fn key_removed<P: Ptr, T: Marked>(a: &mut SimpleOrdArena<P, T>, p: P) -> u64 {
+    match a.remove(p).allow() {
+        Some(item) => *item.key(),
+        None => 0,
+    }
 }
 
 /// 50 is removed by its pointer, which then finds nothing.
-fn remove_takes_50<P: Ptr, T: Marked>(
-    rt: &impl Abort,
-    five: &mut Five<P, T>,
-) -> Result<(), &'static str> {
-    remove_takes(rt, &mut five.arena, five.p50, 50)?;
-    finds_nothing(rt, &five.arena, five.p50);
-    assert!(rt; five.arena.find_key(&50).is_none());
-    assert!(rt; five.arena.remove(five.p50).allow().is_none());
-    Ok(())
+fn remove_takes_50<P: Ptr, T: Marked>(rt: &impl Abort, a: &mut SimpleOrdArena<P, T>, p: P) {
+    same(rt, key_removed(a, p), 50);
+    pointer_finds(rt, a, p, 0, 0);
+    assert!(rt; a.find_key(&50).is_none());
+    same(rt, key_removed(a, p), 0);
 }
 
-/// 60 is removed by its index.
-fn remove_inx_takes_60<P: Ptr, T: Marked>(
-    rt: &impl Abort,
-    five: &mut Five<P, T>,
-) -> Result<(), &'static str> {
-    let taken = five.arena.remove_inx(five.p60.inx()).allow();
-    let (generation, item) = taken.ok_or("60")?;
-    assert!(rt; generation == five.p60.generation() && item.mark() == 8);
-    Ok(())
+/// Removes the entry at the index of a pointer. Answers its mark: 0 where there is none, 1 where its generation is another one.
+fn mark_removed_at_index<P: Ptr, T: Marked>(a: &mut SimpleOrdArena<P, T>, p: P) -> u64 {
+    let Some((generation, item)) = a.remove_inx(p.inx()).allow() else {
+        return 0;
+    };
+    if generation == p.generation() {
+        item.mark()
+    } else {
+        1
+    }
 }
 
-/// 30 gets another pointer, and the invalid one none.
-fn invalidate_renews_30<P: Ptr, T: Marked>(
-    rt: &impl Abort,
-    five: &mut Five<P, T>,
-) -> Result<(), &'static str> {
-    let renewed = five.arena.invalidate(five.p30).allow().ok_or("30")?;
-    assert!(rt; renewed.inx() == five.p30.inx() && five.arena.contains(renewed));
-    assert!(rt; five.arena.invalidate(P::invalid()).allow().is_none());
-    Ok(())
+/// Whether a pointer gets another one for its index, which finds an entry.
+fn is_renewed<P: Ptr, T: Marked>(a: &mut SimpleOrdArena<P, T>, p: P) -> bool {
+    match a.invalidate(p).allow() {
+        Some(q) => q.inx() == p.inx() && a.contains(q),
+        None => false,
+    }
+}
+
+/// The invalid pointer is not renewed.
+fn invalid_is_not_renewed<P: Ptr, T: Marked>(rt: &impl Abort, a: &mut SimpleOrdArena<P, T>) {
+    assert!(rt; a.invalidate(P::invalid()).allow().is_none());
 }
 
 /// What is cleared is empty, and takes a key again.
-fn clear_leaves_none<P: Ptr, T: Marked>(
-    rt: &impl Abort,
-    five: &mut Five<P, T>,
-) -> Result<(), OrdInsertionError> {
-    five.arena.clear().allow();
-    counts_are(rt, &five.arena, (0, 8));
-    has_no_entry(rt, &five.arena);
-    assert!(rt; !five.arena.contains(five.p10));
-    let (p, _) = five.arena.insert(T::marked(80, 8))?;
-    find_key_names(rt, &five.arena, 80, p);
-    ends_are(rt, &five.arena, p, p);
-    Ok(())
+fn clear_leaves_none<P: Ptr, T: Marked>(rt: &impl Abort, a: &mut SimpleOrdArena<P, T>, p10: P) {
+    a.clear().allow();
+    counts_are(rt, a, (0, 8));
+    has_no_entry(rt, a);
+    assert!(rt; !a.contains(p10));
+    let p = put(a, 80);
+    find_key_names(rt, a, 80, p);
+    ends_are(rt, a, p, p);
 }
 
 /// Ends the entries one way after another, until none is left.
-fn pointers_end<P: Ptr, T: Marked>(rt: &impl Abort, five: &mut Five<P, T>) -> Result<(), Fail> {
-    remove_takes_50(rt, five)?;
-    remove_inx_takes_60(rt, five)?;
-    invalidate_renews_30(rt, five)?;
-    counts_are(rt, &five.arena, (3, 8));
-    assert!(rt; five.arena.contains(five.p10) && five.arena.contains(five.p70));
-    clear_leaves_none(rt, five)?;
-    Ok(())
+fn pointers_end<P: Ptr, T: Marked>(rt: &impl Abort, five: Five<P, T>) {
+    let mut a = five.arena;
+    remove_takes_50(rt, &mut a, five.p50);
+    same(rt, mark_removed_at_index(&mut a, five.p60), 8);
+    assert!(rt; is_renewed(&mut a, five.p30));
+    invalid_is_not_renewed(rt, &mut a);
+    counts_are(rt, &a, (3, 8));
+    assert!(rt; a.contains(five.p10) && a.contains(five.p70));
+    clear_leaves_none(rt, &mut a, five.p10);
 }
 
 /// The calls that only ask.
-fn questions_are_answered<P: Ptr, T: Marked>(
-    rt: &impl Abort,
-    five: &Five<P, T>,
-) -> Result<(), &'static str> {
-    pointers_find_items(rt, five)?;
+fn questions_are_answered<P: Ptr, T: Marked>(rt: &impl Abort, five: &Five<P, T>) {
+    pointers_find_items(rt, five);
     ends_are(rt, &five.arena, five.p10, five.p70);
-    is_linked(rt, five)?;
-    has_root(rt, five)?;
+    is_linked(rt, five);
     keys_find_pointers(rt, five);
-    a_walk_gives_all(rt, five)?;
-    a_loop_meets_all(rt, five);
+    a_walk_gives_all(rt, &five.arena);
+    a_loop_meets_all(rt, &five.arena);
+}
+
+fn each_call_answers<P: Ptr, T: Marked>(rt: &impl Abort, alloc: Global) -> Result<(), AllocError> {
+    new_arenas_are_empty::<P, T>(rt, alloc)?;
+    let mut five = with_five_keys::<P, T>(alloc);
+    questions_are_answered(rt, &five);
+    equal_keys_replace(rt, &mut five);
+    let (p10, p30) = (five.p10, five.p30);
+    writes_reach_items(rt, &mut five.arena, p30);
+    get_inx_mut_leaves_all_but_the_item(rt, alloc, &mut five.arena, p30)?;
+    generations_are_set(rt, &mut five.arena, p10);
+    pointers_end(rt, five);
     Ok(())
 }
 
-fn each_call_answers<P: Ptr, T: Marked>(rt: &impl Abort, alloc: Global) -> Result<(), Fail> {
-    new_arenas_are_empty::<P, T>(rt, alloc)?;
-    let mut five = with_five_keys::<P, T>(alloc)?;
-    questions_are_answered(rt, &five)?;
-    equal_keys_replace(rt, &mut five)?;
-    writes_reach_items(rt, &mut five)?;
-    get_inx_mut_leaves_all_but_the_item(rt, alloc, &mut five)?;
-    generations_are_set(rt, &mut five);
-    pointers_end(rt, &mut five)
-}
-
 /// Each call at one kind of pointers and both kinds of items.
-fn each_item_is_answered<P: Ptr>(rt: &impl Abort, alloc: Global) -> Result<(), Fail> {
+fn each_item_is_answered<P: Ptr>(rt: &impl Abort, alloc: Global) -> Result<(), AllocError> {
     each_call_answers::<P, OrdPair<u64, u64>>(rt, alloc)?;
     each_call_answers::<P, Job>(rt, alloc)
 }
@@ -549,5 +666,6 @@ fn each_item_is_answered<P: Ptr>(rt: &impl Abort, alloc: Global) -> Result<(), F
 fn each_call_at_each_type(rt: HostRuntime) -> Result<(), Fail> {
     each_item_is_answered::<P0>(&rt, rt.alloc())?;
     each_item_is_answered::<P8>(&rt, rt.alloc())?;
-    each_item_is_answered::<PN>(&rt, rt.alloc())
+    each_item_is_answered::<PN>(&rt, rt.alloc())?;
+    Ok(())
 }

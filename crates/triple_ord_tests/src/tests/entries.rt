@@ -1,6 +1,8 @@
 //! Insertions by kind, and entries that are asked for first.
-use super::removal::{moved, parents};
-use super::{Counting, CountingKeys, Keys, Sole, keys, order, ranks, taken};
+use super::removal::{moved_since, parents};
+use super::{
+    Counting, CountingKeys, Keys, Sole, five_counting_keys, keys, order_is, ranks_are, taken,
+};
 use arena_base::{P0, PN, Ptr};
 use linked_list_allocator::LocalHeap;
 use std::alloc::{AllocError, Allocator, Global};
@@ -76,11 +78,7 @@ fn put<A: Allocator>(
 
 /// The five keys, each marked 0, at the indexes 5, 2, 1, 4, 3 in the order of the list.
 fn five(alloc: Global) -> Result<Marks, OrdInsertionError> {
-    let mut a = SimpleOrdArena::new(alloc);
-    for key in [50u64, 30, 70, 60, 10] {
-        let _ = a.insert(OrdPair::new(key, 0))?;
-    }
-    Ok(a)
+    marked(alloc, &[50, 30, 70, 60, 10])
 }
 
 /// Index, key and mark of each entry, in the order of the list.
@@ -103,31 +101,56 @@ fn ranked(alloc: Global, a: &Marks) -> Result<Vec<u8>, AllocError> {
     Ok(ranked)
 }
 
+/// The entries in order are these, each by index, key and mark.
+fn list_is(rt: &impl Abort, alloc: Global, a: &Marks, wanted: &str) -> Result<(), AllocError> {
+    let listed = listed(alloc, a)?;
+    assert_eq!(rt; format!(in alloc; "{listed:?}")?.as_str(), wanted);
+    Ok(())
+}
+
+/// The ranks in order are these.
+fn ranked_as(rt: &impl Abort, alloc: Global, a: &Marks, wanted: &[u8]) -> Result<(), AllocError> {
+    assert_eq!(rt; ranked(alloc, a)?.as_slice(), wanted);
+    Ok(())
+}
+
+/// Puts a key and a mark through an entry. It is new or not, has this index, and replaces this mark.
+fn puts(
+    rt: &impl Abort,
+    a: &mut Marks,
+    row: Row,
+    (key, mark): (u64, u64),
+    wanted: (bool, u32, Option<u64>),
+) -> Result<(), OrdInsertionError> {
+    let answer = put(a, row, key, mark)?;
+    assert_eq!(rt; (answer.new, answer.index, answer.before), wanted);
+    Ok(())
+}
+
 #[test]
 fn hints_and_sides(rt: HostRuntime) -> Result<(), Fail> {
     let mut a = five(rt.alloc())?;
-    let linear = put(&mut a, Row::Linear(5, 1, 20), 20, 7)?;
-    assert_eq!(rt; (linear.new, linear.index), (true, 6));
-    let beside = put(&mut a, Row::NonhereditaryLinear(4, 2, 60), 60, 8)?;
-    assert_eq!(rt; (beside.new, beside.index), (true, 7));
-    let list = [
-        (5u32, 10u64, 0u64),
-        (6, 20, 7),
-        (2, 30, 0),
-        (1, 50, 0),
-        (7, 60, 8),
-        (4, 60, 0),
-        (3, 70, 0),
-    ];
-    assert_eq!(rt; listed(rt.alloc(), &a)?.as_slice(), list.as_slice());
-    assert_eq!(rt;
-        ranked(rt.alloc(), &a)?.as_slice(),
-        [1u8, 2, 1, 3, 1, 2, 1].as_slice()
-    );
+    let linear = Row::Linear(5, 1, 20);
+    puts(&rt, &mut a, linear, (20, 7), (true, 6, None))?;
+    let beside = Row::NonhereditaryLinear(4, 2, 60);
+    puts(&rt, &mut a, beside, (60, 8), (true, 7, None))?;
+    list_is(
+        &rt,
+        rt.alloc(),
+        &a,
+        "[(5, 10, 0), (6, 20, 7), (2, 30, 0), (1, 50, 0), (7, 60, 8), (4, 60, 0), (3, 70, 0)]",
+    )?;
+    ranked_as(&rt, rt.alloc(), &a, &[1, 2, 1, 3, 1, 2, 1])?;
+    Ok(())
+}
+
+#[test]
+fn an_index_with_and_without_an_entry(rt: HostRuntime) -> Result<(), Fail> {
+    let mut a = five(rt.alloc())?;
     let none = put(&mut a, Row::Manual(9, Ordering::Equal), 1, 1);
-    assert_eq!(rt; none, Err(OrdInsertionError::FailedOrdRequirement));
-    let at = put(&mut a, Row::Manual(3, Ordering::Equal), 71, 5)?;
-    assert_eq!(rt; (at.new, at.index, at.before), (false, 3, Some(0)));
+    assert!(rt; none == Err(OrdInsertionError::FailedOrdRequirement));
+    let at = Row::Manual(3, Ordering::Equal);
+    puts(&rt, &mut a, at, (71, 5), (false, 3, Some(0)))?;
     Ok(())
 }
 
@@ -137,12 +160,20 @@ fn equal_keys_stand_before_the_one_that_was_met(rt: HostRuntime) -> Result<(), F
     for mark in 1u64..5 {
         let _ = put(&mut a, Row::Nonhereditary(5), 5, mark)?;
     }
-    let list = [(2u32, 5u64, 2u64), (4, 5, 4), (3, 5, 3), (1, 5, 1)];
-    assert_eq!(rt; listed(rt.alloc(), &a)?.as_slice(), list.as_slice());
-    assert_eq!(rt;
-        ranked(rt.alloc(), &a)?.as_slice(),
-        [2u8, 1, 3, 1].as_slice()
-    );
+    list_is(
+        &rt,
+        rt.alloc(),
+        &a,
+        "[(2, 5, 2), (4, 5, 4), (3, 5, 3), (1, 5, 1)]",
+    )?;
+    ranked_as(&rt, rt.alloc(), &a, &[2, 1, 3, 1])?;
+    Ok(())
+}
+
+/// An entry that was asked for by the key 5 inserts the key 20.
+fn put_20_for_5(rt: &impl Abort, a: &mut Keys) -> Result<(), OrdInsertionError> {
+    let entry = a.entry_insert(OrdInsertKind::Normal(&5))?;
+    assert_eq!(rt; entry.insert(OrdPair::new(20, ())), None);
     Ok(())
 }
 
@@ -151,72 +182,101 @@ fn equal_keys_stand_before_the_one_that_was_met(rt: HostRuntime) -> Result<(), F
 fn another_key_than_that_of_the_entry(rt: HostRuntime) -> Result<(), Fail> {
     let mut a = keys(rt.alloc(), &[1, 9])?;
     let before = parents(rt.alloc(), &a)?;
-    let entry = a.entry_insert(OrdInsertKind::Normal(&5))?;
-    assert_eq!(rt; entry.insert(OrdPair::new(20, ())), None);
-    assert_eq!(rt; order(rt.alloc(), &a)?.as_slice(), [1u64, 20, 9].as_slice());
-    assert_eq!(rt;
-        ranks(rt.alloc(), &a)?.as_slice(),
-        [(1u32, 1u8), (3, 2), (2, 1)].as_slice()
-    );
-    assert_eq!(rt;
-        moved(before.as_slice(), parents(rt.alloc(), &a)?.as_slice()),
-        2
-    );
+    put_20_for_5(&rt, &mut a)?;
+    order_is(&rt, rt.alloc(), &a, &[1, 20, 9])?;
+    ranks_are(&rt, rt.alloc(), &a, &[(1, 1), (3, 2), (2, 1)])?;
+    assert_eq!(rt; moved_since(rt.alloc(), before.as_slice(), &a)?, 2);
     Ok(())
 }
 
-/// Rows of a table over five keys: the kind, whether the entry is new, its index and its visits.
+/// Puts the key 55 through an entry over the five keys.
+fn put_over_five(alloc: Global, row: Row) -> Result<(Marks, Answer), OrdInsertionError> {
+    let mut a = five(alloc)?;
+    let answer = put(&mut a, row, 55, 1)?;
+    Ok((a, answer))
+}
+
+/// An entry over five keys is new or not, and has this index and so many visits.
+fn entry_is(
+    rt: &impl Abort,
+    alloc: Global,
+    row: Row,
+    (new, index, visits): (bool, u32, u128),
+) -> Result<(), OrdInsertionError> {
+    let (_, answer) = put_over_five(alloc, row)?;
+    let wanted = Answer {
+        new,
+        index,
+        before: if new { None } else { Some(0) },
+        visits,
+    };
+    assert_eq!(rt; answer, wanted);
+    Ok(())
+}
+
 #[test]
 fn entries_over_five_keys(rt: HostRuntime) -> Result<(), Fail> {
-    let rows = [
-        (Row::Normal(53), true, 6u32, 3u128),
-        (Row::Normal(50), false, 1, 1),
-        (Row::Nonhereditary(50), true, 6, 1),
-        (Row::Linear(2, 3, 40), true, 6, 2),
-        (Row::Linear(2, 0, 70), false, 3, 2),
-        (Row::NonhereditaryLinear(4, 1, 60), true, 6, 1),
-        (Row::Manual(4, Ordering::Less), true, 6, 0),
-        (Row::Manual(4, Ordering::Greater), true, 6, 0),
-        (Row::Manual(4, Ordering::Equal), false, 4, 0),
-    ];
-    for (row, new, index, visits) in rows {
-        let mut a = five(rt.alloc())?;
-        let answer = put(&mut a, row, 55, 1)?;
-        let before = if new { None } else { Some(0) };
-        assert_eq!(rt;
-            answer,
-            Answer {
-                new,
-                index,
-                before,
-                visits
-            }
-        );
+    entry_is(&rt, rt.alloc(), Row::Normal(53), (true, 6, 3))?;
+    entry_is(&rt, rt.alloc(), Row::Normal(50), (false, 1, 1))?;
+    entry_is(&rt, rt.alloc(), Row::Nonhereditary(50), (true, 6, 1))?;
+    entry_is(&rt, rt.alloc(), Row::Linear(2, 3, 40), (true, 6, 2))?;
+    entry_is(&rt, rt.alloc(), Row::Linear(2, 0, 70), (false, 3, 2))?;
+    let beside = Row::NonhereditaryLinear(4, 1, 60);
+    entry_is(&rt, rt.alloc(), beside, (true, 6, 1))?;
+    Ok(())
+}
+
+#[test]
+fn entries_by_index_over_five_keys(rt: HostRuntime) -> Result<(), Fail> {
+    for (side, new, index) in [
+        (Ordering::Less, true, 6u32),
+        (Ordering::Greater, true, 6),
+        (Ordering::Equal, false, 4),
+    ] {
+        entry_is(&rt, rt.alloc(), Row::Manual(4, side), (new, index, 0))?;
     }
     Ok(())
 }
 
-/// Where each kind puts an item of key 55, by the indexes in the order of the list.
+/// After an insertion over five keys the indexes in the order of the list are these.
+fn goes_among(rt: &impl Abort, alloc: Global, row: Row, wanted: &[u32]) -> Result<(), Fail> {
+    let (a, _) = put_over_five(alloc, row)?;
+    let mut found = Vec::new(alloc);
+    for (p, _) in &a {
+        found.push(p.inx())?;
+    }
+    assert_eq!(rt; found.as_slice(), wanted);
+    Ok(())
+}
+
+/// Where each kind that has a key puts an item of key 55.
 #[test]
 fn places_over_five_keys(rt: HostRuntime) -> Result<(), Fail> {
-    let rows = [
-        (Row::Normal(53), [5u32, 2, 1, 6, 4, 3]),
-        (Row::Nonhereditary(50), [5, 2, 6, 1, 4, 3]),
-        (Row::NonhereditaryLinear(4, 1, 60), [5, 2, 1, 6, 4, 3]),
-        (Row::Manual(4, Ordering::Less), [5, 2, 1, 6, 4, 3]),
-        (Row::Manual(4, Ordering::Greater), [5, 2, 1, 4, 6, 3]),
-        (Row::Manual(5, Ordering::Less), [6, 5, 2, 1, 4, 3]),
-        (Row::Manual(3, Ordering::Greater), [5, 2, 1, 4, 3, 6]),
-    ];
-    for (row, indexes) in rows {
-        let mut a = five(rt.alloc())?;
-        let _ = put(&mut a, row, 55, 1)?;
-        let mut found = Vec::new(rt.alloc());
-        for (p, _) in &a {
-            found.push(p.inx())?;
-        }
-        assert_eq!(rt; found.as_slice(), indexes.as_slice());
-    }
+    goes_among(&rt, rt.alloc(), Row::Normal(53), &[5, 2, 1, 6, 4, 3])?;
+    goes_among(&rt, rt.alloc(), Row::Nonhereditary(50), &[5, 2, 6, 1, 4, 3])?;
+    let beside = Row::NonhereditaryLinear(4, 1, 60);
+    goes_among(&rt, rt.alloc(), beside, &[5, 2, 1, 6, 4, 3])?;
+    Ok(())
+}
+
+/// Where an index and a side put it.
+#[test]
+fn places_beside_five_keys(rt: HostRuntime) -> Result<(), Fail> {
+    let (less, greater) = (Ordering::Less, Ordering::Greater);
+    goes_among(&rt, rt.alloc(), Row::Manual(4, less), &[5, 2, 1, 6, 4, 3])?;
+    goes_among(
+        &rt,
+        rt.alloc(),
+        Row::Manual(4, greater),
+        &[5, 2, 1, 4, 6, 3],
+    )?;
+    goes_among(&rt, rt.alloc(), Row::Manual(5, less), &[6, 5, 2, 1, 4, 3])?;
+    goes_among(
+        &rt,
+        rt.alloc(),
+        Row::Manual(3, greater),
+        &[5, 2, 1, 4, 3, 6],
+    )?;
     Ok(())
 }
 
@@ -232,40 +292,59 @@ fn each_kind() -> [Row; 6] {
     ]
 }
 
+/// An entry of an empty arena is the first one, or is refused where an index is named.
+fn is_first(rt: &impl Abort, alloc: Global, row: Row) {
+    let mut a = Marks::new(alloc);
+    let answer = put(&mut a, row, 5, 1);
+    let wanted = if matches!(row, Row::Manual(_, _)) {
+        Err(OrdInsertionError::FailedOrdRequirement)
+    } else {
+        Ok(Answer {
+            new: true,
+            index: 1,
+            before: None,
+            visits: 0,
+        })
+    };
+    assert!(rt; answer == wanted);
+    assert_eq!(rt; a.capacity(), if wanted.is_ok() { 4 } else { 0 });
+}
+
 #[test]
-fn each_kind_without_an_entry(rt: HostRuntime) -> Result<(), Fail> {
+fn each_kind_without_an_entry(rt: HostRuntime) {
     for row in each_kind() {
-        let mut a = Marks::new(rt.alloc());
-        let answer = put(&mut a, row, 5, 1);
-        if matches!(row, Row::Manual(_, _)) {
-            assert_eq!(rt; answer, Err(OrdInsertionError::FailedOrdRequirement));
-            assert_eq!(rt; a.capacity(), 0);
-        } else {
-            let alone = Answer {
-                new: true,
-                index: 1,
-                before: None,
-                visits: 0,
-            };
-            assert_eq!(rt; answer, Ok(alone));
-        }
+        is_first(&rt, rt.alloc(), row);
     }
-    Ok(())
+}
+
+/// Keys in an arena, each marked 0, inserted in this order.
+fn marked(alloc: Global, list: &[u64]) -> Result<Marks, OrdInsertionError> {
+    let mut a = SimpleOrdArena::new(alloc);
+    for key in list {
+        let _ = a.insert(OrdPair::new(*key, 0))?;
+    }
+    Ok(a)
+}
+
+/// An entry over four keys that is dropped, and whether the arena has grown for it.
+fn has_grown_for_nothing(rt: &impl Abort, a: &mut Marks, row: Row) {
+    let grows = matches!(reallocating(a, row), Ok(OrdEntryKind::New(_)));
+    assert_eq!(rt; a.capacity(), if grows { 8 } else { 4 });
+    assert_eq!(rt; (a.len(), a.generation()), (4, 2));
 }
 
 /// An entry that is dropped inserts nothing; the capacity has grown for a new one.
 #[test]
 fn entries_that_are_dropped(rt: HostRuntime) -> Result<(), Fail> {
     for row in each_kind() {
-        let mut a = Marks::new(rt.alloc());
-        for key in [5u64, 6, 7, 8] {
-            let _ = a.insert(OrdPair::new(key, 0))?;
-        }
-        let old = listed(rt.alloc(), &a)?;
-        let grows = matches!(reallocating(&mut a, row), Ok(OrdEntryKind::New(_)));
-        assert_eq!(rt; a.capacity(), if grows { 8 } else { 4 });
-        assert_eq!(rt; (a.len(), a.generation()), (4, 2));
-        assert_eq!(rt; listed(rt.alloc(), &a)?.as_slice(), old.as_slice());
+        let mut a = marked(rt.alloc(), &[5, 6, 7, 8])?;
+        has_grown_for_nothing(&rt, &mut a, row);
+        list_is(
+            &rt,
+            rt.alloc(),
+            &a,
+            "[(1, 5, 0), (2, 6, 0), (3, 7, 0), (4, 8, 0)]",
+        )?;
     }
     Ok(())
 }
@@ -282,64 +361,87 @@ fn reallocating(a: &mut Marks, row: Row) -> Result<OrdEntryKind<P0>, OrdInsertio
     Ok(entry.ptr())
 }
 
-#[test]
-fn full_and_at_the_limit(rt: HostRuntime) -> Result<(), Fail> {
-    let mut a = Marks::new(rt.alloc());
+/// The keys 1 and 2 at the indexes 1 and 2, marked 11 and 20, which is all that may be.
+fn full(rt: &impl Abort, alloc: Global) -> Result<Marks, Fail> {
+    let mut a = Marks::new(alloc);
     a.set_max_capacity(2)?;
     let (p1, _) = a.insert(OrdPair::new(1, 10))?;
-    let (p2, _) = a.insert_reallocating(OrdPair::new(2, 20))?;
+    let _ = a.insert_reallocating(OrdPair::new(2, 20))?;
     let before = a.insert_within_capacity(OrdPair::new(1, 11))?;
     assert_eq!(rt; before, (p1, Some(OrdPair::new(1, 10))));
-    let rows = [
-        (Row::Empty, OrdInsertionError::FailedOrdRequirement),
-        (
-            Row::Manual(9, Ordering::Less),
-            OrdInsertionError::FailedOrdRequirement,
-        ),
-        (Row::Normal(3), OrdInsertionError::BeyondMaxCapacity),
-        (Row::Nonhereditary(1), OrdInsertionError::BeyondMaxCapacity),
-        (
-            Row::Manual(1, Ordering::Greater),
-            OrdInsertionError::BeyondMaxCapacity,
-        ),
-    ];
-    for (row, refusal) in rows {
-        assert_eq!(rt; reallocating(&mut a, row), Err(refusal));
-        let inside = match refusal {
-            OrdInsertionError::BeyondMaxCapacity => OrdInsertionError::NotWithinCapacity,
-            _ => refusal,
-        };
-        assert_eq!(rt; within(&mut a, row), Err(inside));
-    }
-    for row in [Row::Normal(2), Row::Manual(2, Ordering::Equal)] {
-        assert_eq!(rt; reallocating(&mut a, row), Ok(OrdEntryKind::Replacing(p2)));
-        assert_eq!(rt; within(&mut a, row), Ok(OrdEntryKind::Replacing(p2)));
-    }
+    Ok(a)
+}
+
+/// An entry that may grow is refused so, and one within the capacity so.
+fn refuses(
+    rt: &impl Abort,
+    a: &mut Marks,
+    row: Row,
+    refusal: OrdInsertionError,
+    inside: OrdInsertionError,
+) {
+    assert!(rt; reallocating(a, row) == Err(refusal));
+    assert!(rt; within(a, row) == Err(inside));
+}
+
+/// There is no place for an entry.
+fn has_no_place(rt: &impl Abort, a: &mut Marks, row: Row) {
+    let refusal = OrdInsertionError::FailedOrdRequirement;
+    refuses(rt, a, row, refusal, refusal);
+}
+
+/// There is no room for an entry.
+fn has_no_room(rt: &impl Abort, a: &mut Marks, row: Row) {
+    let refusal = OrdInsertionError::BeyondMaxCapacity;
+    refuses(rt, a, row, refusal, OrdInsertionError::NotWithinCapacity);
+}
+
+/// An entry stands for the second one.
+fn names_the_second(rt: &impl Abort, a: &mut Marks, row: Row) {
+    let wanted = Ok(OrdEntryKind::Replacing(P0::_from_raw(2, 2)));
+    assert!(rt; reallocating(a, row) == wanted);
+    assert!(rt; within(a, row) == wanted);
+}
+
+/// An insertion of another key within the capacity is refused.
+fn is_not_within(rt: &impl Abort, a: &mut Marks) {
     let refused = a.insert_within_capacity(OrdPair::new(3, 0)).err();
     assert_eq!(rt; refused, Some(OrdInsertionError::NotWithinCapacity));
-    let list = [(1u32, 1u64, 11u64), (2, 2, 20)];
-    assert_eq!(rt; listed(rt.alloc(), &a)?.as_slice(), list.as_slice());
+}
+
+#[test]
+fn full_and_at_the_limit(rt: HostRuntime) -> Result<(), Fail> {
+    let mut a = full(&rt, rt.alloc())?;
+    has_no_place(&rt, &mut a, Row::Empty);
+    has_no_place(&rt, &mut a, Row::Manual(9, Ordering::Less));
+    has_no_room(&rt, &mut a, Row::Normal(3));
+    has_no_room(&rt, &mut a, Row::Nonhereditary(1));
+    has_no_room(&rt, &mut a, Row::Manual(1, Ordering::Greater));
+    names_the_second(&rt, &mut a, Row::Normal(2));
+    names_the_second(&rt, &mut a, Row::Manual(2, Ordering::Equal));
+    is_not_within(&rt, &mut a);
+    list_is(&rt, rt.alloc(), &a, "[(1, 1, 11), (2, 2, 20)]")?;
     Ok(())
 }
 
 #[test]
-fn a_fresh_arena_has_no_slot(rt: HostRuntime) -> Result<(), Fail> {
+fn a_fresh_arena_has_no_slot(rt: HostRuntime) {
     let mut a = Marks::new(rt.alloc());
-    let refused = a.insert_within_capacity(OrdPair::new(3, 0)).err();
-    assert_eq!(rt; refused, Some(OrdInsertionError::NotWithinCapacity));
-    assert_eq!(rt;
-        within(&mut a, Row::Empty),
-        Err(OrdInsertionError::NotWithinCapacity)
-    );
+    is_not_within(&rt, &mut a);
+    let refused = within(&mut a, Row::Empty);
+    assert!(rt; refused == Err(OrdInsertionError::NotWithinCapacity));
     assert_eq!(rt; a.capacity(), 0);
+}
+
+#[test]
+fn an_entry_makes_room(rt: HostRuntime) -> Result<(), Fail> {
+    let mut a = Marks::new(rt.alloc());
     let p = reallocating(&mut a, Row::Normal(5))?;
-    assert_eq!(rt; p, OrdEntryKind::New(P0::_from_raw(1, 2)));
+    assert!(rt; p == OrdEntryKind::New(P0::_from_raw(1, 2)));
     assert_eq!(rt; (a.capacity(), a.len()), (4, 0));
     let _ = a.insert_within_capacity(OrdPair::new(3, 0))?;
-    assert_eq!(rt;
-        within(&mut a, Row::Empty),
-        Err(OrdInsertionError::FailedOrdRequirement)
-    );
+    let refused = within(&mut a, Row::Empty);
+    assert!(rt; refused == Err(OrdInsertionError::FailedOrdRequirement));
     Ok(())
 }
 
@@ -356,69 +458,102 @@ fn beside(
     a.insert_inx_manual_unwrap(index, direction, OrdPair::new(key, ()))
 }
 
-#[test]
-fn beside_an_entry_with_little_room(rt: HostRuntime) -> Result<(), Fail> {
-    let mut a: Keys = SimpleOrdArena::with_min_capacity(rt.alloc(), 1)?;
-    let (p, _) = a.insert(OrdPair::new(1, ()))?;
-    assert_eq!(rt; (p.inx(), a.capacity()), (1, 1));
-    let before = beside(&mut a, 1, Ordering::Greater, 2)?;
-    assert_eq!(rt; (before, a.capacity()), (None, 4));
-    for (key, index) in [(3u64, 3u32), (4, 4), (5, 5)] {
-        let (p, _) = a.insert(OrdPair::new(key, ()))?;
-        assert_eq!(rt; p.inx(), index);
-    }
-    assert_eq!(rt; a.capacity(), 8);
-    a.reallocate_min_capacity(9)?;
-    assert_eq!(rt; a.capacity(), 9);
-    let before = beside(&mut a, 2, Ordering::Equal, 7)?;
-    assert_eq!(rt; before, Some(OrdPair::new(2, ())));
-    let before = beside(&mut a, 2, Ordering::Less, 6)?;
-    assert_eq!(rt; before, None);
-    assert_eq!(rt;
-        order(rt.alloc(), &a)?.as_slice(),
-        [1u64, 6, 7, 3, 4, 5].as_slice()
-    );
+/// A key goes beside an index, replaces this key if it is one, and leaves this capacity.
+fn goes_beside(
+    rt: &impl Abort,
+    a: &mut Keys,
+    (index, direction): (u32, Ordering),
+    key: u64,
+    (before, capacity): (Option<u64>, usize),
+) -> Result<(), OrdInsertionError> {
+    let replaced = beside(a, index, direction, key)?;
+    assert_eq!(rt; replaced.map(|pair| *pair.k()), before);
+    assert_eq!(rt; a.capacity(), capacity);
     Ok(())
 }
 
-/// A slot that a removal left is taken by the next new entry, and a vacant index has no entry beside it.
+/// Inserts a key, which gets this index, and leaves this capacity.
+fn inserts_at(
+    rt: &impl Abort,
+    a: &mut Keys,
+    key: u64,
+    wanted: (u32, usize),
+) -> Result<(), OrdInsertionError> {
+    let (p, _) = a.insert(OrdPair::new(key, ()))?;
+    assert_eq!(rt; (p.inx(), a.capacity()), wanted);
+    Ok(())
+}
+
 #[test]
-fn a_vacant_index(rt: HostRuntime) -> Result<(), Fail> {
-    let mut a = five(rt.alloc())?;
-    assert!(rt; a.remove(P0::_from_raw(2, 2)).allow().is_some());
-    for direction in [Ordering::Less, Ordering::Equal, Ordering::Greater] {
-        assert_eq!(rt;
-            within(&mut a, Row::Manual(2, direction)),
-            Err(OrdInsertionError::FailedOrdRequirement)
-        );
-    }
-    for row in [
-        Row::Normal(55),
-        Row::Nonhereditary(50),
-        Row::Linear(2, 3, 55),
-        Row::Manual(4, Ordering::Less),
-    ] {
-        let next = P0::_from_raw(2, 3);
-        assert_eq!(rt; within(&mut a, row), Ok(OrdEntryKind::New(next)));
+fn beside_an_entry_with_little_room(rt: HostRuntime) -> Result<(), Fail> {
+    let mut a: Keys = SimpleOrdArena::with_min_capacity(rt.alloc(), 1)?;
+    inserts_at(&rt, &mut a, 1, (1, 1))?;
+    goes_beside(&rt, &mut a, (1, Ordering::Greater), 2, (None, 4))?;
+    for (key, index, capacity) in [(3u64, 3u32, 4usize), (4, 4, 4), (5, 5, 8)] {
+        inserts_at(&rt, &mut a, key, (index, capacity))?;
     }
     Ok(())
+}
+
+#[test]
+fn beside_an_entry_with_room(rt: HostRuntime) -> Result<(), Fail> {
+    let mut a = keys(rt.alloc(), &[1, 2, 3, 4, 5])?;
+    a.reallocate_min_capacity(9)?;
+    goes_beside(&rt, &mut a, (2, Ordering::Equal), 7, (Some(2), 9))?;
+    goes_beside(&rt, &mut a, (2, Ordering::Less), 6, (None, 9))?;
+    order_is(&rt, rt.alloc(), &a, &[1, 6, 7, 3, 4, 5])?;
+    Ok(())
+}
+
+/// The five keys without 30, whose index 2 is vacant.
+fn four(rt: &impl Abort, alloc: Global) -> Result<Marks, OrdInsertionError> {
+    let mut a = five(alloc)?;
+    assert!(rt; a.remove(P0::_from_raw(2, 2)).allow().is_some());
+    Ok(a)
+}
+
+/// A vacant index has no entry beside it.
+#[test]
+fn beside_a_vacant_index(rt: HostRuntime) -> Result<(), Fail> {
+    let mut a = four(&rt, rt.alloc())?;
+    for direction in [Ordering::Less, Ordering::Equal, Ordering::Greater] {
+        has_no_place(&rt, &mut a, Row::Manual(2, direction));
+    }
+    Ok(())
+}
+
+/// A new entry gets the slot at the index 2, with the generation 3.
+fn takes_the_slot(rt: &impl Abort, a: &mut Marks, row: Row) {
+    let next = P0::_from_raw(2, 3);
+    assert!(rt; within(a, row) == Ok(OrdEntryKind::New(next)));
+}
+
+/// A slot that a removal left is taken by the next new entry.
+#[test]
+fn a_vacant_index(rt: HostRuntime) -> Result<(), Fail> {
+    let mut a = four(&rt, rt.alloc())?;
+    takes_the_slot(&rt, &mut a, Row::Normal(55));
+    takes_the_slot(&rt, &mut a, Row::Nonhereditary(50));
+    takes_the_slot(&rt, &mut a, Row::Linear(2, 3, 55));
+    takes_the_slot(&rt, &mut a, Row::Manual(4, Ordering::Less));
+    Ok(())
+}
+
+/// The keys 1, 9 and 3 in this order, at the indexes 1, 2 and 3.
+fn out_of_order(alloc: Global) -> Result<Marks, OrdInsertionError> {
+    let mut a = marked(alloc, &[1, 2, 3])?;
+    let _ = put(&mut a, Row::Manual(2, Ordering::Equal), 9, 0)?;
+    Ok(a)
 }
 
 /// Keys out of order: each kind finds a place all the same.
 #[test]
 fn keys_out_of_order(rt: HostRuntime) -> Result<(), Fail> {
     for row in each_kind() {
-        let mut a = Marks::new(rt.alloc());
-        for key in [1u64, 2, 3] {
-            let _ = a.insert(OrdPair::new(key, 0))?;
-        }
-        let _ = put(&mut a, Row::Manual(2, Ordering::Equal), 9, 0)?;
-        let answer = put(&mut a, row, 5, 1);
-        let count = if answer.is_ok() { 4 } else { 3 };
-        assert_eq!(rt;
-            (a.len(), answer.is_ok()),
-            (count, !matches!(row, Row::Empty))
-        );
+        let mut a = out_of_order(rt.alloc())?;
+        let has_place = put(&mut a, row, 5, 1).is_ok();
+        assert_eq!(rt; has_place, !matches!(row, Row::Empty));
+        assert_eq!(rt; a.len(), if has_place { 4 } else { 3 });
     }
     Ok(())
 }
@@ -441,36 +576,53 @@ fn keyed<'k, 'c>(which: u64, k: &'k Counting<'c>) -> OrdInsertKind<PN, &'k Count
     }
 }
 
-/// An entry's visits, by its kind, as many as comparisons.
+/// An entry of a kind visits as many entries as it makes comparisons, one at least.
+fn entry_compares<'a>(
+    rt: &impl Abort,
+    a: &mut CountingKeys<'a>,
+    which: u64,
+    wanted: &Counting<'a>,
+) {
+    let _ = taken(wanted.comparisons);
+    let visits = match a.entry_insert(keyed(which, wanted)) {
+        Ok(entry) => entry.visits().count(),
+        Err(_) => 0,
+    };
+    assert_eq!(rt; taken(wanted.comparisons), visits);
+    assert!(rt; visits > 0);
+}
+
+/// An insertion of a key compares as often as an entry for it visits.
+fn insertion_compares<'a>(
+    rt: &impl Abort,
+    a: &mut CountingKeys<'a>,
+    key: Counting<'a>,
+    is_within: bool,
+) {
+    let visits = visits_of_an_insertion(a, &key);
+    let _ = taken(key.comparisons);
+    let comparisons = key.comparisons;
+    let is_well = if is_within {
+        a.insert_within_capacity(Sole { key }).is_ok()
+    } else {
+        a.insert_reallocating(Sole { key }).is_ok()
+    };
+    assert!(rt; is_well);
+    assert_eq!(rt; taken(comparisons), visits);
+}
+
 #[test]
 fn visits_of_entries_are_comparisons(rt: HostRuntime) -> Result<(), Fail> {
     let made = Cell::new(0u128);
     let comparisons = &made;
-    let mut a: CountingKeys = SimpleOrdArena::new(rt.alloc());
-    for key in [50u64, 30, 70, 60, 10] {
-        let key = Counting { key, comparisons };
-        assert!(rt; a.insert(Sole { key }).is_ok());
-    }
+    let mut a = five_counting_keys(&rt, rt.alloc(), comparisons);
     for key in [50u64, 30, 70, 10, 53, 40, 5, 99] {
         let wanted = Counting { key, comparisons };
         for which in 0u64..4 {
-            let _ = taken(comparisons);
-            let visits = match a.entry_insert(keyed(which, &wanted)) {
-                Ok(entry) => entry.visits().count(),
-                Err(_) => 0,
-            };
-            assert_eq!(rt; taken(comparisons), visits);
-            assert!(rt; visits > 0);
+            entry_compares(&rt, &mut a, which, &wanted);
         }
-        let visits = visits_of_an_insertion(&mut a, &wanted);
-        let _ = taken(comparisons);
-        assert!(rt; a.insert_within_capacity(Sole { key: wanted }).is_ok());
-        assert_eq!(rt; taken(comparisons), visits);
-        let wanted = Counting { key, comparisons };
-        let visits = visits_of_an_insertion(&mut a, &wanted);
-        let _ = taken(comparisons);
-        assert!(rt; a.insert_reallocating(Sole { key: wanted }).is_ok());
-        assert_eq!(rt; taken(comparisons), visits);
+        insertion_compares(&rt, &mut a, wanted, true);
+        insertion_compares(&rt, &mut a, wanted, false);
     }
     Ok(())
 }
@@ -483,21 +635,36 @@ fn visits_of_an_insertion<'a>(a: &mut CountingKeys<'a>, key: &Counting<'a>) -> u
     }
 }
 
-/// Puts four items through entries on a heap of so many units. Answers how many are there; a refusal leaves the others.
+/// Puts a key through an entry, and tells whether it was refused memory.
+fn is_put_refused_memory(rt: &impl Abort, a: &mut Marks<&LocalHeap>, key: u64) -> bool {
+    match put(a, Row::Normal(key), key, 0) {
+        Ok(answer) => {
+            assert!(rt; answer.new);
+            false
+        }
+        Err(refusal) => {
+            assert!(rt; refusal == OrdInsertionError::AllocError);
+            true
+        }
+    }
+}
+
+/// An arena that memory was refused has so many entries, no room, and still replaces the first item, if there is one.
+fn is_kept(rt: &impl Abort, a: &mut Marks<&LocalHeap>, held: usize) {
+    assert_eq!(rt; (a.len(), a.capacity()), (held, held));
+    let again = put(a, Row::Manual(1, Ordering::Equal), 1, 7);
+    assert_eq!(rt; again.is_ok(), held > 0);
+}
+
+/// Puts nine items through entries on a heap of so many units. Answers how many are there; a refusal leaves the others.
 fn put_on_heap(rt: &impl Abort, alloc: Global, units: usize) -> Result<usize, Fail> {
     let heap = LocalHeap::new(alloc, units.saturating_mul(16))?;
     let mut a = Marks::new(&heap);
     for key in 1u64..10 {
         let held = a.len();
-        match put(&mut a, Row::Normal(key), key, 0) {
-            Ok(answer) => assert!(rt; answer.new),
-            Err(refusal) => {
-                assert_eq!(rt; refusal, OrdInsertionError::AllocError);
-                assert_eq!(rt; (a.len(), a.capacity()), (held, held));
-                let again = put(&mut a, Row::Manual(1, Ordering::Equal), 1, 7);
-                assert_eq!(rt; again.is_ok(), held > 0);
-                return Ok(held);
-            }
+        if is_put_refused_memory(rt, &mut a, key) {
+            is_kept(rt, &mut a, held);
+            return Ok(held);
         }
     }
     Ok(a.len())

@@ -42,20 +42,20 @@ fn look_at<A: Allocator>(alloc: Global, a: &Letters<A>) -> Result<Vec<Seen>, Fai
     Ok(seen)
 }
 
-/// An entry whose new pointer the call was shown.
-fn seen(letter: char, rank: u8, call: u8, old: (u32, u64), new: (u32, u64)) -> Seen {
-    let p = P0::_from_raw(new.0, new.1);
-    (letter, p, rank, (call, P0::_from_raw(old.0, old.1), p))
+/// The entries in order, as a text.
+fn printed<A: Allocator>(alloc: Global, a: &Letters<A>) -> Result<String, Fail> {
+    let seen = look_at(alloc, a)?;
+    Ok(format!(in alloc; "{seen:?}")?)
 }
 
-/// The entries in order are these.
+/// The entries in order make this text.
 fn entries_are<A: Allocator>(
     rt: &impl Abort,
     alloc: Global,
     a: &Letters<A>,
-    wanted: &[Seen],
+    wanted: &str,
 ) -> Result<(), Fail> {
-    assert_eq!(rt; look_at(alloc, a)?.as_slice(), wanted);
+    assert_eq!(rt; printed(alloc, a)?.as_str(), wanted);
     Ok(())
 }
 
@@ -64,23 +64,26 @@ fn counts_are<A: Allocator>(rt: &impl Abort, a: &Letters<A>, wanted: (usize, usi
     assert_eq!(rt; (a.len(), a.capacity(), a.generation()), wanted);
 }
 
-#[test]
-fn shows_each_entry_by_rising_index(rt: HostRuntime) -> Result<(), Fail> {
-    let mut a = letters(rt.alloc())?;
+/// A compression that writes into each item the call that met it.
+fn compress_calling(a: &mut Letters) -> InvalidationOption<()> {
     let mut calls = 0u8;
-    let overflow = a.compress_with(false, |old: P0, pair: OrdPair<char, Call>, new: P0| {
+    a.compress_with(false, |old: P0, pair: OrdPair<char, Call>, new: P0| {
         calls = calls.wrapping_add(1);
         let letter = *pair.k();
         OrdPair::new(letter, (calls, old, new))
-    });
-    assert_eq!(rt; overflow, InvalidationOption::Success(()));
-    let wanted = [
-        seen('A', 1, 2, (2, 2), (2, 4)),
-        seen('B', 2, 4, (4, 2), (4, 4)),
-        seen('C', 3, 1, (1, 2), (1, 4)),
-        seen('E', 1, 3, (3, 3), (3, 4)),
-    ];
-    entries_are(&rt, rt.alloc(), &a, wanted.as_slice())?;
+    })
+}
+
+#[test]
+fn shows_each_entry_by_rising_index(rt: HostRuntime) -> Result<(), Fail> {
+    let mut a = letters(rt.alloc())?;
+    assert!(rt; compress_calling(&mut a) == InvalidationOption::Success(()));
+    entries_are(
+        &rt,
+        rt.alloc(),
+        &a,
+        "[('A', P0[2](4), 1, (2, P0[2](2), P0[2](4))), ('B', P0[4](4), 2, (4, P0[4](2), P0[4](4))), ('C', P0[1](4), 3, (1, P0[1](2), P0[1](4))), ('E', P0[3](4), 1, (3, P0[3](3), P0[3](4)))]",
+    )?;
     counts_are(&rt, &a, (4, 4, 4));
     Ok(())
 }
@@ -103,26 +106,50 @@ fn transfer_all<A: Allocator>(
     (outcome, calls)
 }
 
+/// A transfer of all letters ends well, after so many calls.
+fn transfers(rt: &impl Abort, a: &mut Letters, source: &mut Letters, calls: u8) {
+    assert_eq!(rt; transfer_all(a, source), (Ok(()), calls));
+}
+
 #[test]
 fn takes_all_in_order(rt: HostRuntime) -> Result<(), Fail> {
     let mut source = letters(rt.alloc())?;
     let mut a = Letters::new(rt.alloc());
-    assert_eq!(rt; transfer_all(&mut a, &mut source), (Ok(()), 4));
-    let wanted = [
-        seen('A', 1, 1, (2, 2), (1, 4)),
-        seen('B', 2, 2, (4, 2), (2, 4)),
-        seen('C', 3, 3, (1, 2), (3, 4)),
-        seen('E', 1, 4, (3, 3), (4, 4)),
-    ];
-    entries_are(&rt, rt.alloc(), &a, wanted.as_slice())?;
+    transfers(&rt, &mut a, &mut source, 4);
+    entries_are(
+        &rt,
+        rt.alloc(),
+        &a,
+        "[('A', P0[1](4), 1, (1, P0[2](2), P0[1](4))), ('B', P0[2](4), 2, (2, P0[4](2), P0[2](4))), ('C', P0[3](4), 3, (3, P0[1](2), P0[3](4))), ('E', P0[4](4), 1, (4, P0[3](3), P0[4](4)))]",
+    )?;
     counts_are(&rt, &a, (4, 4, 4));
     counts_are(&rt, &source, (0, 4, 7));
     assert!(rt; source.first().is_none());
-    // the source is empty now
-    assert_eq!(rt; transfer_all(&mut a, &mut source), (Ok(()), 0));
+    Ok(())
+}
+
+#[test]
+fn takes_none_from_an_empty_source(rt: HostRuntime) -> Result<(), Fail> {
+    let mut source = letters(rt.alloc())?;
+    let mut a = Letters::new(rt.alloc());
+    transfers(&rt, &mut a, &mut source, 4);
+    transfers(&rt, &mut a, &mut source, 0);
     counts_are(&rt, &source, (0, 4, 7));
     assert!(rt; a.is_empty() && a.first().is_none());
     Ok(())
+}
+
+/// A refused transfer changed nothing.
+fn is_refused_memory(
+    rt: &impl Abort,
+    alloc: Global,
+    a: &Letters<&LocalHeap>,
+    source: &Letters,
+    old: &str,
+) -> Result<(), Fail> {
+    counts_are(rt, a, (0, 0, 2));
+    assert_eq!(rt; source.generation(), 3);
+    entries_are(rt, alloc, source, old)
 }
 
 /// Transfers the letters into an arena on a heap of so many units. Answers how many are there.
@@ -130,13 +157,11 @@ fn transferred(rt: &impl Abort, alloc: Global, units: usize) -> Result<usize, Fa
     let heap = LocalHeap::new(alloc, units.saturating_mul(16))?;
     let mut source = letters(alloc)?;
     let mut a = Letters::new(&heap);
-    let old = look_at(alloc, &source)?;
+    let old = printed(alloc, &source)?;
     let (outcome, calls) = transfer_all(&mut a, &mut source);
     if let Err(refusal) = outcome {
         assert_eq!(rt; (refusal, calls), (ReallocationError::AllocError, 0));
-        counts_are(rt, &a, (0, 0, 2));
-        assert_eq!(rt; source.generation(), 3);
-        entries_are(rt, alloc, &source, old.as_slice())?;
+        is_refused_memory(rt, alloc, &a, &source, old.as_str())?;
     }
     Ok(a.len())
 }
@@ -228,19 +253,37 @@ fn eight_bit_pointers_take_no_more(rt: HostRuntime) -> Result<(), Fail> {
     Ok(())
 }
 
-/// How a rebuild is told that begins the generations again.
-const OVERFLOW: InvalidationOption<()> = InvalidationOption::GenerationOverflow(());
+/// The key 1 under a pointer of eight bits, with the greatest generation.
+fn oldest(alloc: Global) -> Result<SmallKeys, Fail> {
+    let shrunk = shrink(alloc, 1)?;
+    Ok(shrunk.small)
+}
+
+/// A compression, canonical or not, with the greatest generation begins the generations again, or does not where it resets them.
+fn compresses(
+    rt: &impl Abort,
+    a: &mut SmallKeys,
+    (is_canonical, reset): (bool, bool),
+    overflow: InvalidationOption<()>,
+) {
+    a.set_generation(255);
+    let told = if is_canonical {
+        a.compress_canonical(reset)
+    } else {
+        a.compress(reset)
+    };
+    assert!(rt; told == overflow);
+    assert!(rt; a.find_key(&1) == Some(P8::_from_raw(1, 2)));
+    assert!(rt; a.first() == Some(P8::_from_raw(1, 2)));
+}
 
 #[test]
 fn compressions_overflow(rt: HostRuntime) -> Result<(), Fail> {
-    let mut small = shrink(rt.alloc(), 1)?.small;
-    assert_eq!(rt; small.compress(false), OVERFLOW);
-    assert_eq!(rt; small.find_key(&1), Some(P8::_from_raw(1, 2)));
-    small.set_generation(255);
-    assert_eq!(rt; small.compress_canonical(false), OVERFLOW);
-    assert_eq!(rt; small.first(), Some(P8::_from_raw(1, 2)));
-    small.set_generation(255);
-    assert_eq!(rt; small.compress(true), InvalidationOption::Success(()));
-    assert_eq!(rt; small.generation(), 2);
+    let mut a = oldest(rt.alloc())?;
+    let overflow = InvalidationOption::GenerationOverflow(());
+    compresses(&rt, &mut a, (false, false), overflow);
+    compresses(&rt, &mut a, (true, false), overflow);
+    compresses(&rt, &mut a, (false, true), InvalidationOption::Success(()));
+    assert_eq!(rt; a.generation(), 2);
     Ok(())
 }

@@ -35,7 +35,7 @@ pub fn moved(old: &[(u32, Option<u32>)], new: &[(u32, Option<u32>)]) -> usize {
 }
 
 /// How many entries have another parent than before.
-fn moved_since(
+pub fn moved_since(
     alloc: Global,
     before: &[(u32, Option<u32>)],
     a: &Keys,
@@ -76,7 +76,7 @@ fn removes(rt: &impl Abort, a: &mut Keys, p: P0, wanted: InvalidationResult<OrdP
 #[test]
 fn five_keys_without_the_root(rt: HostRuntime) -> Result<(), Fail> {
     let mut a = keys(rt.alloc(), &[50, 30, 70, 60, 10])?;
-    let p50 = a.find_key(&50).ok_or("50")?;
+    let p50 = P0::_from_raw(1, 2);
     let before = parents(rt.alloc(), &a)?;
     let taken = InvalidationResult::Success(OrdPair::new(50, ()));
     removes(&rt, &mut a, p50, taken);
@@ -121,7 +121,7 @@ fn put_and_take(
 }
 
 #[test]
-fn generations_of_eight_bits_begin_again(rt: HostRuntime) -> Result<(), Fail> {
+fn removals_begin_the_generations_again(rt: HostRuntime) -> Result<(), Fail> {
     let mut a: SimpleOrdArena<P8, OrdPair<u64, ()>> = SimpleOrdArena::new(rt.alloc());
     for n in 1u64..254 {
         let taken = put_and_take(&mut a, n)?;
@@ -130,25 +130,37 @@ fn generations_of_eight_bits_begin_again(rt: HostRuntime) -> Result<(), Fail> {
     let taken = put_and_take(&mut a, 254)?;
     assert!(rt; taken == InvalidationResult::GenerationOverflow(OrdPair::new(254, ())));
     assert_eq!(rt; (a.generation(), a.len()), (2, 0));
+    Ok(())
+}
+
+#[test]
+fn generations_of_eight_bits_begin_again(rt: HostRuntime) {
+    let mut a: SimpleOrdArena<P8, OrdPair<u64, ()>> = SimpleOrdArena::new(rt.alloc());
     a.set_generation(255);
     assert!(rt; a.clear() == InvalidationOption::GenerationOverflow(()));
     a.set_generation(255);
     assert!(rt; a.inc_generation() == InvalidationOption::GenerationOverflow(()));
     assert_eq!(rt; a.generation(), 2);
-    Ok(())
+}
+
+/// The keys 1, 9 and 3 in this order, at the indexes 1, 2 and 3.
+fn out_of_order(alloc: Global) -> Result<Keys, OrdInsertionError> {
+    let mut a = keys(alloc, &[1, 2, 3])?;
+    if let Some(pair) = a.get_mut(P0::_from_raw(2, 2)) {
+        *pair = OrdPair::new(9, ());
+    }
+    Ok(a)
 }
 
 #[test]
 fn keys_out_of_order(rt: HostRuntime) -> Result<(), Fail> {
-    let mut a = keys(rt.alloc(), &[1, 2, 3])?;
-    let p2 = a.find_key(&2).ok_or("2")?;
-    *a.get_mut(p2).ok_or("2")? = OrdPair::new(9, ());
+    let mut a = out_of_order(rt.alloc())?;
     let (found, visits) = a.find_key_counted(&3);
     assert!(rt; found.is_none() && visits.count() == 2);
     order_is(&rt, rt.alloc(), &a, &[1, 9, 3])?;
-    let first = a.first().ok_or("first")?;
-    assert_eq!(rt; numbers(Some(first)), Some((1, 2)));
-    assert!(rt; a.remove(first) == InvalidationResult::Success(OrdPair::new(1, ())));
+    assert_eq!(rt; numbers(a.first()), Some((1, 2)));
+    let taken = a.remove(P0::_from_raw(1, 2));
+    assert!(rt; taken == InvalidationResult::Success(OrdPair::new(1, ())));
     ranks_are(&rt, rt.alloc(), &a, &[(2, 2), (3, 1)])?;
     Ok(())
 }
@@ -183,13 +195,25 @@ fn renew_on_heap(rt: &impl Abort, a: &mut Keys<&LocalHeap>, key: u64) -> Result<
     Ok(())
 }
 
+/// Eight keys on a heap, which fill the arena.
+fn eight<'a>(rt: &impl Abort, heap: &'a LocalHeap) -> Keys<&'a LocalHeap> {
+    let mut a: Keys<&LocalHeap> = SimpleOrdArena::new(heap);
+    for key in [50u64, 30, 70, 60, 10, 20, 90, 80] {
+        assert!(rt; !is_refused_memory(rt, &mut a, key));
+    }
+    a
+}
+
+/// A heap arena is cleared.
+fn is_cleared(rt: &impl Abort, a: &mut Keys<&LocalHeap>) {
+    a.clear().allow();
+    assert_eq!(rt; (a.len(), a.capacity()), (0, 8));
+}
+
 #[test]
 fn removals_take_no_memory(rt: HostRuntime) -> Result<(), Fail> {
     let heap = LocalHeap::new(rt.alloc(), 4096)?;
-    let mut a: Keys<&LocalHeap> = SimpleOrdArena::new(&heap);
-    for key in [50u64, 30, 70, 60, 10, 20, 90, 80] {
-        assert!(rt; !is_refused_memory(&rt, &mut a, key));
-    }
+    let mut a = eight(&rt, &heap);
     let _blocks = drained(rt.alloc(), &heap)?;
     assert!(rt; is_refused_memory(&rt, &mut a, 40));
     for key in [50u64, 30, 70] {
@@ -198,7 +222,6 @@ fn removals_take_no_memory(rt: HostRuntime) -> Result<(), Fail> {
     renew_on_heap(&rt, &mut a, 60)?;
     order_is(&rt, rt.alloc(), &a, &[10, 20, 60, 80, 90])?;
     assert!(rt; !is_refused_memory(&rt, &mut a, 40));
-    a.clear().allow();
-    assert_eq!(rt; (a.len(), a.capacity()), (0, 8));
+    is_cleared(&rt, &mut a);
     Ok(())
 }

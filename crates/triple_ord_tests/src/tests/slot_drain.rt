@@ -1,6 +1,6 @@
 //! Drains by index. The letters A, B, C, E stand at the indexes 2, 4, 1, 3.
 use super::numbers;
-use super::walks::{End, Letters, are_left, late_keys, letters, put_five};
+use super::walks::{End, Letters, are_left, late_keys, letters, put_five, takes};
 use arena_base::{InvalidationOption, P0, Ptr};
 use std::alloc::Global;
 use std::cell::Cell;
@@ -14,16 +14,11 @@ fn drains_by_index(rt: HostRuntime) -> Result<(), Fail> {
     let mut a = letters(rt.alloc())?;
     let mut drain = a.drain();
     for (letter, index, generation) in [('C', 1u32, 2u64), ('A', 2, 2), ('E', 3, 3), ('B', 4, 2)] {
-        let taken = drain.next().ok_or("an entry")?;
-        let InvalidationOption::Success((p, pair)) = taken else {
-            return Err(Fail::from("an overflow"));
-        };
-        assert_eq!(rt; *pair.k(), letter);
-        assert_eq!(rt; numbers(Some(p)), Some((index, generation)));
+        takes(&rt, drain.next(), (letter, index, generation));
     }
     assert!(rt; drain.next().is_none());
     drop(drain);
-    assert_eq!(rt; (a.len(), a.generation()), (0, 8));
+    are_left(&rt, &a, 0, 8);
     let (p, _) = a.insert(OrdPair::new('Z', ()))?;
     assert_eq!(rt; numbers(Some(p)), Some((1, 8)));
     Ok(())
@@ -44,17 +39,28 @@ fn letters_after(alloc: Global, taken: usize, end: End) -> Result<Letters<P0>, F
     Ok(a)
 }
 
+/// A drain of so many leaves the rest where it is kept or forgotten, with this generation, and nothing where it is dropped.
+fn leaves_the_rest(
+    rt: &impl Abort,
+    alloc: Global,
+    taken: usize,
+    generation: u64,
+) -> Result<(), Fail> {
+    let kept = letters_after(alloc, taken, End::Kept)?;
+    let forgotten = letters_after(alloc, taken, End::Forgotten)?;
+    let left = 4usize.saturating_sub(taken);
+    are_left(rt, &kept, left, generation);
+    are_left(rt, &forgotten, left, generation);
+    assert!(rt; kept.canonical_eq(&forgotten));
+    assert_eq!(rt; SimpleOrdArena::_check_invariants(&kept), Ok(()));
+    Ok(())
+}
+
 #[test]
 fn drains_by_index_end_early(rt: HostRuntime) -> Result<(), Fail> {
     for (taken, generation) in [(0usize, 3u64), (1, 4), (3, 6), (4, 7), (5, 7)] {
-        let kept = letters_after(rt.alloc(), taken, End::Kept)?;
-        let forgotten = letters_after(rt.alloc(), taken, End::Forgotten)?;
+        leaves_the_rest(&rt, rt.alloc(), taken, generation)?;
         let dropped = letters_after(rt.alloc(), taken, End::Dropped)?;
-        let left = 4usize.saturating_sub(taken);
-        are_left(&rt, &kept, left, generation);
-        are_left(&rt, &forgotten, left, generation);
-        assert!(rt; kept.canonical_eq(&forgotten));
-        assert_eq!(rt; SimpleOrdArena::_check_invariants(&kept), Ok(()));
         are_left(&rt, &dropped, 0, generation.wrapping_add(1));
     }
     Ok(())

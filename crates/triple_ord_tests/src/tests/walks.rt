@@ -53,23 +53,24 @@ fn walk_from_50(a: &Keys, rev: bool) -> Result<OrderedPtrAdvancer<P0>, Fail> {
     Ok(a.advancer_ordered(P0::_from_raw(1, 2), rev).ok_or("50")?)
 }
 
+/// A walk from 50 gives these indexes.
+fn goes_from_50(
+    rt: &impl Abort,
+    alloc: Global,
+    a: &Keys,
+    rev: bool,
+    wanted: &[u32],
+) -> Result<(), Fail> {
+    let mut walk = walk_from_50(a, rev)?;
+    gives_rest(rt, alloc, &mut walk, a, wanted)?;
+    Ok(())
+}
+
 #[test]
 fn walks_to_both_ends(rt: HostRuntime) -> Result<(), Fail> {
     let a = keys(rt.alloc(), &[50, 30, 70, 60, 10])?;
-    gives_rest(
-        &rt,
-        rt.alloc(),
-        &mut walk_from_50(&a, true)?,
-        &a,
-        &[1, 2, 5],
-    )?;
-    gives_rest(
-        &rt,
-        rt.alloc(),
-        &mut walk_from_50(&a, false)?,
-        &a,
-        &[1, 4, 3],
-    )?;
+    goes_from_50(&rt, rt.alloc(), &a, true, &[1, 2, 5])?;
+    goes_from_50(&rt, rt.alloc(), &a, false, &[1, 4, 3])?;
     assert!(rt; a.advancer_ordered(P0::_from_raw(1, 3), false).is_none());
     assert!(rt; a.advancer_ordered(P0::invalid(), true).is_none());
     Ok(())
@@ -81,28 +82,54 @@ fn put(a: &mut Keys, key: u64) -> Result<(), OrdInsertionError> {
     Ok(())
 }
 
-/// An arena is changed between two steps of a walk.
-#[test]
-fn walks_meet_changes(rt: HostRuntime) -> Result<(), Fail> {
-    let mut a = keys(rt.alloc(), &[50, 30, 70, 60, 10])?;
-    let mut ended = walk_from_50(&a, false)?;
-    let mut goes_on = walk_from_50(&a, false)?;
-    let mut renewed = walk_from_50(&a, true)?;
-    gives(&rt, &mut ended, &a, Some((1, 2)));
-    gives(&rt, &mut goes_on, &a, Some((1, 2)));
-    gives(&rt, &mut renewed, &a, Some((1, 2)));
-    // the entry at which they stand goes, and another one takes its slot
+/// The entry of 60 goes, at the index 4.
+fn remove_60(rt: &impl Abort, a: &mut Keys) {
     assert!(rt; a.remove(P0::_from_raw(4, 2)).allow().is_some());
-    gives(&rt, &mut ended, &a, None);
+}
+
+/// The entry at which a walk stands goes, and another one takes its slot.
+#[test]
+fn a_walk_ends_where_its_entry_is_gone(rt: HostRuntime) -> Result<(), Fail> {
+    let mut a = keys(rt.alloc(), &[50, 30, 70, 60, 10])?;
+    let mut walk = walk_from_50(&a, false)?;
+    gives(&rt, &mut walk, &a, Some((1, 2)));
+    remove_60(&rt, &mut a);
+    gives(&rt, &mut walk, &a, None);
     put(&mut a, 55)?;
-    gives(&rt, &mut ended, &a, None);
-    gives(&rt, &mut goes_on, &a, Some((4, 3)));
-    // an entry comes in between, and the next one gets another pointer
+    gives(&rt, &mut walk, &a, None);
+    Ok(())
+}
+
+/// The slot at which a walk stands has another entry, and then one comes in between.
+#[test]
+fn a_walk_goes_on_with_another_entry(rt: HostRuntime) -> Result<(), Fail> {
+    let mut a = keys(rt.alloc(), &[50, 30, 70, 60, 10])?;
+    let mut walk = walk_from_50(&a, false)?;
+    gives(&rt, &mut walk, &a, Some((1, 2)));
+    remove_60(&rt, &mut a);
+    put(&mut a, 55)?;
+    gives(&rt, &mut walk, &a, Some((4, 3)));
     put(&mut a, 65)?;
-    gives(&rt, &mut goes_on, &a, Some((3, 2)));
-    gives(&rt, &mut goes_on, &a, None);
-    let again = a.invalidate(P0::_from_raw(2, 2)).allow();
-    gives(&rt, &mut renewed, &a, numbers(again));
+    gives(&rt, &mut walk, &a, Some((3, 2)));
+    gives(&rt, &mut walk, &a, None);
+    Ok(())
+}
+
+/// The entry at which a walk stands gets another pointer.
+#[test]
+fn a_walk_goes_on_with_a_renewed_entry(rt: HostRuntime) -> Result<(), Fail> {
+    let mut a = keys(rt.alloc(), &[50, 30, 70, 60, 10])?;
+    let mut walk = walk_from_50(&a, true)?;
+    gives(&rt, &mut walk, &a, Some((1, 2)));
+    let again = numbers(a.invalidate(P0::_from_raw(2, 2)).allow());
+    assert_eq!(rt; again, Some((2, 3)));
+    gives(&rt, &mut walk, &a, again);
+    Ok(())
+}
+
+#[test]
+fn an_empty_walk_gives_nothing(rt: HostRuntime) -> Result<(), Fail> {
+    let a = keys(rt.alloc(), &[50, 30])?;
     let mut none: OrderedPtrAdvancer<P0> = Advancer::<Keys>::empty();
     gives(&rt, &mut none, &a, None);
     Ok(())
@@ -121,20 +148,30 @@ pub(super) fn letters(alloc: Global) -> Result<Letters<P0>, Fail> {
     Ok(a)
 }
 
+/// A step of a drain, which takes out this letter, with its index and generation, and overflows nothing.
+pub(super) fn takes(
+    rt: &impl Abort,
+    step: Option<InvalidationOption<(P0, OrdPair<char, ()>)>>,
+    wanted: (char, u32, u64),
+) {
+    let taken = match step {
+        Some(InvalidationOption::Success((p, pair))) => (*pair.k(), p.inx(), p.generation()),
+        Some(InvalidationOption::GenerationOverflow(_)) => ('-', 0, 0),
+        None => ('-', 0, 0),
+    };
+    assert_eq!(rt; taken, wanted);
+}
+
 #[test]
 fn drains_in_order(rt: HostRuntime) -> Result<(), Fail> {
     let mut a = letters(rt.alloc())?;
     let mut drain = a.drain_ordered();
-    for (letter, index) in [('A', 2u32), ('B', 4), ('C', 1), ('E', 3)] {
-        let taken = drain.next().ok_or("an entry")?;
-        let InvalidationOption::Success((p, pair)) = taken else {
-            return Err(Fail::from("an overflow"));
-        };
-        assert_eq!(rt; (*pair.k(), p.inx()), (letter, index));
+    for (letter, index, generation) in [('A', 2u32, 2u64), ('B', 4, 2), ('C', 1, 2), ('E', 3, 3)] {
+        takes(&rt, drain.next(), (letter, index, generation));
     }
     assert!(rt; drain.next().is_none());
     drop(drain);
-    assert_eq!(rt; (a.len(), a.generation()), (0, 8));
+    are_left(&rt, &a, 0, 8);
     Ok(())
 }
 
@@ -166,23 +203,35 @@ pub(super) fn are_left(rt: &impl Abort, a: &Letters<P0>, len: usize, generation:
     assert_eq!(rt; (a.len(), a.generation()), (len, generation));
 }
 
+/// A drain of so many that is kept or forgotten leaves the rest, with this generation.
+fn leaves_the_rest(
+    rt: &impl Abort,
+    alloc: Global,
+    taken: usize,
+    generation: u64,
+) -> Result<(), Fail> {
+    let kept = letters_after(alloc, taken, End::Kept)?;
+    let forgotten = letters_after(alloc, taken, End::Forgotten)?;
+    let left = 4usize.saturating_sub(taken);
+    are_left(rt, &kept, left, generation);
+    are_left(rt, &forgotten, left, generation);
+    assert!(rt; kept.canonical_eq(&forgotten));
+    Ok(())
+}
+
 #[test]
 fn drains_end_early(rt: HostRuntime) -> Result<(), Fail> {
     for (taken, generation) in [(0usize, 3u64), (1, 4), (3, 6), (4, 7), (5, 7)] {
-        let kept = letters_after(rt.alloc(), taken, End::Kept)?;
-        let forgotten = letters_after(rt.alloc(), taken, End::Forgotten)?;
-        let left = 4usize.saturating_sub(taken);
-        are_left(&rt, &kept, left, generation);
-        are_left(&rt, &forgotten, left, generation);
-        assert!(rt; kept.canonical_eq(&forgotten));
+        leaves_the_rest(&rt, rt.alloc(), taken, generation)?;
     }
+    Ok(())
+}
+
+#[test]
+fn dropped_drains_leave_nothing(rt: HostRuntime) -> Result<(), Fail> {
     for (taken, generation) in [(0usize, 4u64), (1, 5), (3, 7), (5, 8)] {
-        are_left(
-            &rt,
-            &letters_after(rt.alloc(), taken, End::Dropped)?,
-            0,
-            generation,
-        );
+        let dropped = letters_after(rt.alloc(), taken, End::Dropped)?;
+        are_left(&rt, &dropped, 0, generation);
     }
     Ok(())
 }
@@ -302,37 +351,46 @@ fn other_keys(alloc: Global, list: &[u64]) -> Result<OtherKeys, OrdInsertionErro
     Ok(a)
 }
 
-/// One arena compares so with another one, and the other way round.
-fn compare_as<P: Ptr, Q: Ptr>(
-    rt: &impl Abort,
+/// What one arena answers of another: whether it is equal, its order, and its order as it may be lacking.
+fn compared<P: Ptr, Q: Ptr>(
     a: &SimpleOrdArena<P, OrdPair<u64, ()>>,
     b: &SimpleOrdArena<Q, OrdPair<u64, ()>>,
+) -> (bool, Ordering, Option<Ordering>) {
+    (
+        a.canonical_eq(b),
+        a.canonical_cmp(b),
+        a.canonical_partial_cmp(b),
+    )
+}
+
+/// All of this is the same order.
+fn answers_are(rt: &impl Abort, answers: (bool, Ordering, Option<Ordering>), order: Ordering) {
+    assert_eq!(rt; answers, (order.is_eq(), order, Some(order)));
+}
+
+/// One arena compares so with another one, and the other way round.
+fn compare_as(
+    rt: &impl Abort,
+    alloc: Global,
+    first: &[u64],
+    second: &[u64],
     order: Ordering,
-) {
-    assert_eq!(rt;
-        (a.canonical_eq(b), b.canonical_eq(a)),
-        (order.is_eq(), order.is_eq())
-    );
-    assert_eq!(rt;
-        (a.canonical_cmp(b), b.canonical_cmp(a)),
-        (order, order.reverse())
-    );
-    assert_eq!(rt; a.canonical_partial_cmp(b), Some(order));
-    assert_eq!(rt; b.canonical_partial_cmp(a), Some(order.reverse()));
+) -> Result<(), OrdInsertionError> {
+    let a = keys(alloc, first)?;
+    let b = other_keys(alloc, second)?;
+    answers_are(rt, compared(&a, &b), order);
+    answers_are(rt, compared(&b, &a), order.reverse());
+    Ok(())
 }
 
 /// A word that goes on is the greater one, one with a greater letter is greater still.
 #[test]
 fn arenas_compare_by_their_items(rt: HostRuntime) -> Result<(), Fail> {
-    let empty = keys(rt.alloc(), &[])?;
-    let two = keys(rt.alloc(), &[2, 1])?;
-    let three = other_keys(rt.alloc(), &[3, 1, 2])?;
-    let greatest = keys(rt.alloc(), &[1, 5])?;
-    compare_as(&rt, &empty, &empty, Ordering::Equal);
-    compare_as(&rt, &two, &two, Ordering::Equal);
-    compare_as(&rt, &two, &other_keys(rt.alloc(), &[])?, Ordering::Greater);
-    compare_as(&rt, &two, &three, Ordering::Less);
-    compare_as(&rt, &greatest, &three, Ordering::Greater);
+    compare_as(&rt, rt.alloc(), &[], &[], Ordering::Equal)?;
+    compare_as(&rt, rt.alloc(), &[2, 1], &[1, 2], Ordering::Equal)?;
+    compare_as(&rt, rt.alloc(), &[2, 1], &[], Ordering::Greater)?;
+    compare_as(&rt, rt.alloc(), &[2, 1], &[3, 1, 2], Ordering::Less)?;
+    compare_as(&rt, rt.alloc(), &[1, 5], &[3, 1, 2], Ordering::Greater)?;
     Ok(())
 }
 
@@ -353,18 +411,21 @@ fn write_key(rt: &impl Abort, a: &mut Keys, key: u64, checked: Result<(), &'stat
     assert_eq!(rt; SimpleOrdArena::_check_invariants(a), checked);
 }
 
+/// The check of the order says this.
+fn is_checked(rt: &impl Abort, a: &Keys, checked: Result<(), &'static str>) {
+    assert_eq!(rt; SimpleOrdArena::_check_invariants(a), checked);
+}
+
 #[test]
 fn misplaced_keys_are_told(rt: HostRuntime) -> Result<(), Fail> {
     let mut a = keys(rt.alloc(), &[1, 2, 3])?;
-    assert_eq!(rt; SimpleOrdArena::_check_invariants(&a), Ok(()));
+    is_checked(&rt, &a, Ok(()));
     write_key(&rt, &mut a, 9, Err("incorrect ordering"));
-    let (found, visits) = a.find_key_counted(&3);
-    assert_eq!(rt; (found, visits.count()), (None, 2));
     order_is(&rt, rt.alloc(), &a, &[1, 9, 3])?;
     // equal keys are in order
     write_key(&rt, &mut a, 3, Ok(()));
     let empty = keys(rt.alloc(), &[])?;
-    assert_eq!(rt; SimpleOrdArena::_check_invariants(&empty), Ok(()));
+    is_checked(&rt, &empty, Ok(()));
     Ok(())
 }
 
