@@ -25,6 +25,9 @@ pub use Rattle.chain_base.proofs.Vacancy.{below-greatest, greatest-or_none, time
 pub use Rattle.chain_base.proofs.Room.{inserted-capacity}
 -- entries at their places by rising index have the items that they had
 pub use Rattle.chain_base.proofs.Canonical.{relocated-items}
+-- lists of the same pointers, and what the calls of a clone keep of the items
+pub use Rattle.chain_base.proofs.Cloning.{Alike, alike-pointers}
+pub use Rattle.chain_base.proofs.CloneKept.{clone-kept, same_entries}
 
 module _ {T : Type 0} where
   -- an index that no entry has finds none

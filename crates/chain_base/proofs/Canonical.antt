@@ -30,7 +30,7 @@ module _ {T : Type 0} where
       ]
 
   -- an entry stands at its place among those by rising index
-  rising-at : (es : List (Entry T)) → IsDistinct es → (count from x k : ℕ) (e : ℕ × T) → entry_at es x ≡ Some e → from ≤ x → x < from + count
+  pub rising-at : (es : List (Entry T)) → IsDistinct es → (count from x k : ℕ) (e : ℕ × T) → entry_at es x ≡ Some e → from ≤ x → x < from + count
       → lesser es from + k ≡ lesser es x → slice_get (rising_among es from count) k ≡ Some (x, e.0, e.1)
   rising-at es distinct zero from x k e is above below same = absurd (omega arith)
   rising-at es distinct (suc n) from x k e is above below same =

@@ -37,13 +37,13 @@ frame o = option_map (λ e. (e.0, e.1.prev, e.1.next)) o
 
 module _ {T U : Type 0} where
   -- lists of the same pointers
-  record Alike (es : List (Entry T)) (fs : List (Entry U)) : Type 0 where
-    first : (d : Option ℕ) → first_or d es ≡ first_or d fs
-    last : (d : Option ℕ) → last_or d es ≡ last_or d fs
-    count : (i : ℕ) → times i es ≡ times i fs
-    long : length es ≡ length fs
+  pub record Alike (es : List (Entry T)) (fs : List (Entry U)) : Type 0 where
+    pub first : (d : Option ℕ) → first_or d es ≡ first_or d fs
+    pub last : (d : Option ℕ) → last_or d es ≡ last_or d fs
+    pub count : (i : ℕ) → times i es ≡ times i fs
+    pub long : length es ≡ length fs
 
-  alike-pointers : (es : List (Entry T)) (fs : List (Entry U)) → pointers es ≡ pointers fs → Alike es fs
+  pub alike-pointers : (es : List (Entry T)) (fs : List (Entry U)) → pointers es ≡ pointers fs → Alike es fs
   alike-pointers [] [] same = record { first = λ d. refl; last = λ d. refl; count = λ i. refl; long = refl }
   alike-pointers [] (f ∷ fs) same = absurd cc
   alike-pointers (e ∷ es) [] same = absurd cc
@@ -163,20 +163,20 @@ module _ {U : Type 0} where
       let count : suc (length slots) - 1 ≡ length slots = omega arith in
       links-slots es 1 slots (λ k within. links (suc k) ∙ (let at : suc k ≡ 1 + k = omega arith in ap (link_at es) at)) ∙ ap (links_among es 1) (sym count)
 
--- each call keeps the neighbours
-module _ {P F T U : Type 0} (numbers : P → ℕ × ℕ) (step : F → P → Link U → Link T → F → Type 0)
-    (keeps : (f : F) (p : P) (u : Link U) (x : Link T) (g : F) → step f p u x g → ends_of x ≡ ends_of u) where
-  clones-keep : (es : List (ℕ × ℕ × Link U)) (f g : F) (xs ys : List (Link T)) → FoldsTo {P = F × List (Link T)} (CloneStep numbers step) (f, xs) es (g, ys)
-      → map ends_of ys ≡ map ends_of xs ++ map (λ (e : ℕ × ℕ × Link U). ends_of e.2) es
-  clones-keep [] f g xs ys same = ap (λ (s : F × List (Link T)). map ends_of s.1) (sym same) ∙ sym (append-nil (map ends_of xs))
+-- each call keeps something of what it is shown
+module _ {P F W X K : Type 0} (numbers : P → ℕ × ℕ) (step : F → P → W → X → F → Type 0) (see : W → K) (keep : X → K)
+    (keeps : (f : F) (p : P) (u : W) (x : X) (g : F) → step f p u x g → keep x ≡ see u) where
+  pub clones-keep : (es : List (ℕ × ℕ × W)) (f g : F) (xs ys : List X) → FoldsTo {P = F × List X} (CloneStep numbers step) (f, xs) es (g, ys)
+      → map keep ys ≡ map keep xs ++ map (λ (e : ℕ × ℕ × W). see e.2) es
+  clones-keep [] f g xs ys same = ap (λ (s : F × List X). map keep s.1) (sym same) ∙ sym (append-nil (map keep xs))
   clones-keep (e ∷ es) f g xs ys calls =
       let s = calls.1 in
-      let kept : ends_of s.item ≡ ends_of e.2 = keeps f s.pointer e.2 s.item calls.0.0 s.called in
-      let rest = map (λ (e : ℕ × ℕ × Link U). ends_of e.2) es in
+      let kept : keep s.item ≡ see e.2 = keeps f s.pointer e.2 s.item calls.0.0 s.called in
+      let rest = map (λ (e : ℕ × ℕ × W). see e.2) es in
       clones-keep es calls.0.0 g calls.0.1 ys calls.2
-      ∙ (ap (λ zs. map ends_of zs ++ rest) s.behind
-      ∙ (ap (λ zs. zs ++ rest) (map_push ends_of xs s.item)
-      ∙ (append_assoc (map ends_of xs) (ends_of s.item ∷ []) rest ∙ ap (λ b. map ends_of xs ++ b ∷ rest) kept)))
+      ∙ (ap (λ zs. map keep zs ++ rest) s.behind
+      ∙ (ap (λ zs. zs ++ rest) (map_push keep xs s.item)
+      ∙ (append_assoc (map keep xs) (keep s.item ∷ []) rest ∙ ap (λ b. map keep xs ++ b ∷ rest) kept)))
 
 -- slots that are vacant one and all
 resized-laid : {T : Type 0} (n : ℕ) → IsLaidOut {T = T} (resized n []) None None []
@@ -244,7 +244,7 @@ module _ {P T U M N : Type 0} (numbers : P → ℕ × ℕ) (step : M → P → L
     module _ (c : IsArenaClone numbers (Grants numbers (link_step step inner)) m a0 a b) where
       frames : (i : ℕ) → frame (get_or (with_items a0.slots c.items) i None) ≡ frame (slot a0 i)
       frames = with_items-frame 0 a0.slots c.items
-          (clones-keep numbers (Grants numbers (link_step step inner)) (λ f p u x g made. (let before = made.before in let behind = made.behind in cc)) (entries_rising a0 0) m c.last [] c.items c.calls)
+          (clones-keep numbers (Grants numbers (link_step step inner)) ends_of ends_of (λ f p u x g made. (let before = made.before in let behind = made.behind in cc)) (entries_rising a0 0) m c.last [] c.items c.calls)
 
       past : (k : ℕ) → size + 1 ≤ k → get_or (with_items a0.slots c.items) k None ≡ None
       past k far = unframed (get_or (with_items a0.slots c.items) k None) (frames k ∙ ap frame (beyond k (omega arith)))

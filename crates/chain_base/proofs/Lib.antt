@@ -18,3 +18,4 @@ pub mod Going
 pub mod CallerLemmas
 pub mod Transferring
 pub mod Cloning
+pub mod CloneKept

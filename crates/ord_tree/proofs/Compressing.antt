@@ -21,7 +21,7 @@ module _ {P T I G : Type 0} where
   shown_in e = (e.0, e.1, e.2.t)
 
   -- a chain with other entries
-  bare-refilled : (c : Chain (SimpleOrdArenaNode P T I G)) (g : ℕ) (es : List (Entry (SimpleOrdArenaNode P T I G))) → bare (refilled c g es) ≡ refilled (bare c) g (map bare_entry es)
+  pub bare-refilled : (c : Chain (SimpleOrdArenaNode P T I G)) (g : ℕ) (es : List (Entry (SimpleOrdArenaNode P T I G))) → bare (refilled c g es) ≡ refilled (bare c) g (map bare_entry es)
   bare-refilled c g es =
       ap (λ (vacant : List ℕ). record { entries = map bare_entry es; capacity = c.capacity; vacant = vacant; generation = g; maximum = c.maximum }) (sym (vacant_among-bare es 1 c.capacity))
 
@@ -49,7 +49,7 @@ module _ {P T I G : Type 0} where
   bare-left_empty c g = bare-refilled c g []
 
   -- entries by rising index
-  lesser-bare : (es : List (Entry (SimpleOrdArenaNode P T I G))) (i : ℕ) → lesser (map bare_entry es) i ≡ lesser es i
+  pub lesser-bare : (es : List (Entry (SimpleOrdArenaNode P T I G))) (i : ℕ) → lesser (map bare_entry es) i ≡ lesser es i
   lesser-bare [] i = refl
   lesser-bare (e ∷ es) i = ap (λ n. (if nat_lt e.index i then 1 else 0) + n) (lesser-bare es i)
 

@@ -29,4 +29,5 @@ pub mod Displacing
 pub mod Rebuilding
 pub mod Rebuilt
 pub mod Compressing
+pub mod Cloning
 pub mod CallerLemmas

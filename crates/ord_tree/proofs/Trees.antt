@@ -169,7 +169,7 @@ module _ {P T I G : Type 0} where
       go false = ap (λ (l : Chain T). record { list = l; shape = shape_in c root }) (bare-with_capacity c (grown_capacity most c))
 
   -- the shape depends on the links and the order of the nodes alone
-  module _ (c d : Chain (SimpleOrdArenaNode P T I G)) (root : Option ℕ) (links : (j : ℕ) → slots_of d j ≡ slots_of c j) (order : indexes d.entries ≡ indexes c.entries)
+  module _ {U : Type 0} (c : Chain (SimpleOrdArenaNode P U I G)) (d : Chain (SimpleOrdArenaNode P T I G)) (root : Option ℕ) (links : (j : ℕ) → slots_of d j ≡ slots_of c j) (order : indexes d.entries ≡ indexes c.entries)
       (h : IsLaidOut c root (shape_in c root)) where
     held-linked : Holds (slots_of d) None root (shape_in c root)
     held-linked = Holds-same (slots_of c) (slots_of d) links (shape_in c root) None root h.held

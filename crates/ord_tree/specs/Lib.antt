@@ -19,3 +19,5 @@ pub mod Layout
 pub mod LeafBranch
 pub mod Rebuild
 pub mod MapNode
+pub mod Clone
+pub mod CloneNode

@@ -47,6 +47,25 @@ impl<P: Ptr, T> SimpleOrdArenaNode<P, T> {
         }
     }
 
+    /// A node at the same place of the tree, with this item.
+    pub(crate) fn with_item<U>(&self, t: U) -> SimpleOrdArenaNode<P, U>
+        ensures { result ≡ record {
+          p_tree0 = self.now.p_tree0;
+          p_tree1 = self.now.p_tree1;
+          t = t;
+          p_back = self.now.p_back;
+          rank = self.now.rank;
+        } }
+    {
+        SimpleOrdArenaNode {
+            p_tree0: OptInx::new(self.p_tree0.get()),
+            p_tree1: OptInx::new(self.p_tree1.get()),
+            t,
+            p_back: OptInx::new(self.p_back.get()),
+            rank: self.rank,
+        }
+    }
+
     /// Keeps another root of a side from now on.
     pub(crate) fn set_child(&mut self, side: Side, child: Option<NodeInx<P::Inx>>)
         ensures links { links_in self.new

@@ -1,0 +1,83 @@
+-- What each call of a clone keeps of its item is found at the index of its entry.
+use Rattle.std.proofs.Common.{◌≡◌, ℕ, zero, suc, ◌+◌, ◌≤◌, List, [], ◌∷◌, map, slice_get, Option, Some, None, refl, sym, ap, ◌∙◌, arith, inl, inr}
+use Rattle.std.proofs.lemmas.Grind.{common_steps}
+use Rattle.std.proofs.lemmas.Bool.Decides.{eqb_tells}
+use Rattle.std.proofs.lemmas.Option.{none-some, slice_get-map}
+use Rattle.std.specs.Option.{option_map}
+use Rattle.chain_base.specs.Link.{Link}
+use Rattle.chain_base.specs.Chain.{Entry, Chain, IsDistinct, IsSound, times, entry_at, link_at}
+use Rattle.chain_base.specs.Compression.{lesser, entry_before, rising_among, entries_rising}
+use Rattle.chain_base.specs.Walk.{pointers}
+use Rattle.chain_base.specs.Clone.{links_among, links_rising, IsClone}
+use Rattle.chain_base.proofs.Lists.{times-here, entry_at-link, entry_at-absent}
+use Rattle.chain_base.proofs.Ranking.{lesser-zero, lesser-next}
+use Rattle.chain_base.proofs.Canonical.{entry-absent, rising-at}
+use Rattle.chain_base.proofs.Cloning.{alike-pointers, clones-keep}
+
+-- the links by rising index are the entries by rising index
+links-entries : {U K : Type 0} (see : U → K) (es : List (Entry U)) (from count : ℕ)
+    → map (λ (e : ℕ × ℕ × Link U). see e.2.item) (links_among es from count) ≡ map (λ (e : ℕ × ℕ × U). see e.2) (rising_among es from count)
+links-entries see es from zero = refl
+links-entries see es from (suc count) =
+    by (link_at es from) (entry_at es from) (entry_at-link None None es from) (links-entries see es (from + 1) count)
+  where
+    by : (o : Option (ℕ × Link _)) (p : Option (ℕ × _)) → p ≡ option_map (λ e. (e.0, e.1.item)) o
+        → map (λ (e : ℕ × ℕ × Link _). see e.2.item) (links_among es (from + 1) count) ≡ map (λ (e : ℕ × ℕ × _). see e.2) (rising_among es (from + 1) count)
+        → map (λ (e : ℕ × ℕ × Link _). see e.2.item) (entry_before from o (links_among es (from + 1) count)) ≡ map (λ (e : ℕ × ℕ × _). see e.2) (entry_before from p (rising_among es (from + 1) count))
+    by None p is more = rw is more
+    by (Some e) p is more = rw is (ap (λ rest. see e.1.item ∷ rest) more)
+
+module _ {P T U F K : Type 0} (numbers : P → ℕ × ℕ) (step : F → P → Link U → T → F → Type 0) (see : U → K) (keep : T → K)
+    (keeps : (f : F) (p : P) (u : Link U) (x : T) (g : F) → step f p u x g → keep x ≡ see u.item) where
+  pub clone-kept : (most : ℕ) (greatest : Option ℕ) (f : F) (source : Chain U) → IsSound most greatest source → (old new : Chain T) → IsClone numbers step f source old new
+      → (i : ℕ) → option_map (λ e. keep e.1) (entry_at new.entries i) ≡ option_map (λ e. see e.1) (entry_at source.entries i)
+  clone-kept most greatest f source sound old new c i = by (entry_at source.entries i) refl
+    where
+      items : map keep c.items ≡ map (λ (e : ℕ × ℕ × U). see e.2) (entries_rising source)
+      items = clones-keep numbers step (λ (u : Link U). see u.item) keep keeps (links_rising source) f c.last [] c.items c.calls ∙ links-entries see source.entries 1 source.capacity
+
+      count : times i new.entries ≡ times i source.entries
+      count = (alike-pointers new.entries source.entries c.entries.order).count i
+
+      begins : lesser source.entries 1 ≡ 0
+      begins = grind (arith, common_steps, lesser-next source.entries 0, lesser-zero source.entries, sound.within 0)
+
+      twice : (o : Option (ℕ × T)) → option_map (λ e. keep e.1) o ≡ option_map keep (option_map {U = T} (λ e. e.1) o)
+      twice None = refl
+      twice (Some e) = refl
+
+      by : (o : Option (ℕ × U)) → entry_at source.entries i ≡ o → option_map (λ e. keep e.1) (entry_at new.entries i) ≡ option_map (λ e. see e.1) o
+      by None is = ap (option_map (λ (e : ℕ × T). keep e.1)) (entry_at-absent new.entries i (count ∙ entry-absent source.entries i is))
+      by (Some e) is =
+          let there : 1 ≤ times i source.entries = elim (eqb_tells (times i source.entries) 0) [
+            | inl h ↦ absurd (none-some e (sym (entry_at-absent source.entries i h.1) ∙ is))
+            | inr h ↦ omega (arith, h.1)
+          ] in
+          let within = sound.within i there in
+          let at = rising-at source.entries sound.distinct source.capacity 1 i (lesser source.entries i) e is (omega (arith, within.0)) (omega (arith, within.1)) (omega (arith, begins)) in
+          twice (entry_at new.entries i)
+          ∙ (ap (option_map keep) (c.entries.made i there)
+          ∙ (sym (slice_get-map keep c.items (lesser source.entries i))
+          ∙ (ap (λ ks. slice_get ks (lesser source.entries i)) items
+          ∙ (slice_get-map (λ (e : ℕ × ℕ × U). see e.2) (entries_rising source) (lesser source.entries i) ∙ ap (option_map (λ (e : ℕ × ℕ × U). see e.2)) at))))
+
+-- lists of the same pointers whose indexes find the same items
+pub same_entries : {T : Type 0} (es fs : List (Entry T)) → IsDistinct es → pointers fs ≡ pointers es
+    → ((i : ℕ) → option_map (λ e. e.1) (entry_at fs i) ≡ option_map (λ e. e.1) (entry_at es i)) → fs ≡ es
+same_entries [] [] distinct order items = refl
+same_entries [] (f ∷ fs) distinct order items = absurd cc
+same_entries (e ∷ es) [] distinct order items = absurd cc
+same_entries {T} (e ∷ es) (f ∷ fs) distinct order items =
+    let pair : ◌≡◌ {A = ℕ × ℕ} (f.index, f.generation) (e.index, e.generation) = cc in
+    let index : f.index ≡ e.index = ap (λ (p : ℕ × ℕ). p.0) pair in
+    let era : f.generation ≡ e.generation = ap (λ (p : ℕ × ℕ). p.1) pair in
+    let rest : pointers fs ≡ pointers es = cc in
+    let alike = alike-pointers fs es rest in
+    let item : f.item ≡ e.item = let here = items e.index in grind (arith, common_steps) in
+    let more = same_entries es fs (λ i. omega (arith, distinct i)) rest (λ i. elim (eqb_tells e.index i) [
+      | inl h ↦
+          let gone : times i es ≡ 0 = omega (arith, distinct i, times-here i e es h.1) in
+          ap (option_map (λ (e : ℕ × T). e.1)) (entry_at-absent fs i (alike.count i ∙ gone) ∙ sym (entry_at-absent es i gone))
+      | inr h ↦ let here = items i in rw (index, h.0) at here
+    ]) in
+    rw (← more, ← index, ← era, ← item) refl

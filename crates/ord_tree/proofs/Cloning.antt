@@ -1,0 +1,167 @@
+-- A clone of a chain of nodes is one of the list of its items, and lies in a tree of the same shape.
+use Rattle.std.proofs.Common.{◌≡◌, ℕ, zero, suc, ◌+◌, inl, inr, max, Option, Some, None, List, [], ◌∷◌, map, length, Result, Ok, Err, MatchResult, OnOk, refl, sym, ◌∙◌, ap, option_map, ⊎_elim, ◌==◌, true, ◌≢◌}
+use Rattle.std.proofs.lemmas.Bool.{cases_eq, eq-eqb, ne_eqb, false≢true}
+use Rattle.std.proofs.lemmas.Bool.Decides.{eqb_tells}
+use Rattle.std.proofs.lemmas.List.{map-append}
+use Rattle.std.proofs.lemmas.Option.{slice_get-map}
+use Rattle.std.specs.Borrow.{Bor}
+use Rattle.std.specs.List.{FoldsTo}
+use Rattle.std.specs.declared.alloc.AllocError.{AllocError}
+use Rattle.arena_base.specs.Clone.{CloneStep, Grants, IsShown, StopsAtRefusal}
+use Rattle.arena_base.proofs.CallerLemmas.{clones-retold}
+use Rattle.chain_base.specs.Link.{Link}
+use Rattle.chain_base.specs.Chain.{Entry, Chain, entry_at, first_or, link_between, link_at, greatest_index, IsSound}
+use Rattle.chain_base.specs.Compression.{lesser, entry_before, refilled}
+use Rattle.chain_base.specs.Walk.{pointers}
+use Rattle.chain_base.specs.Clone.{links_among, links_rising, taken_over, IsClone as IsClonedList, IsRefusedClone as IsRefusedList}
+use Rattle.chain_base.proofs.CallerLemmas.{clone-kept}
+use Rattle.ord_tree.specs.declared.node.SimpleOrdArenaNode.{SimpleOrdArenaNode}
+use Rattle.ord_tree.specs.Node.{bare_entry, bare, entry_in, links_in, slots_of, indexes}
+use Rattle.ord_tree.specs.Tree.{Tree}
+use Rattle.ord_tree.specs.Layout.{shape_in, tree_of, IsLaidOut}
+use Rattle.ord_tree.specs.Clone.{ShowsItem, IsClone, IsRefusedClone}
+use Rattle.ord_tree.specs.CloneNode.{ClonesNode}
+use Rattle.ord_tree.proofs.Trees.{entry_at-bare, times-bare, greatest_index-bare, shape_in-linked, IsLaidOut-linked}
+use Rattle.ord_tree.proofs.Compressing.{bare-refilled, lesser-bare}
+
+module _ {P T I G : Type 0} where
+  -- a link without its node
+  abbrev pub bare_link : Link (SimpleOrdArenaNode P T I G) → Link T
+  bare_link l = record { item = l.item.t; prev = l.prev; next = l.next }
+
+  -- index, generation and link of an entry, without its node
+  abbrev pub linked_in : ℕ × ℕ × Link (SimpleOrdArenaNode P T I G) → ℕ × ℕ × Link T
+  linked_in e = (e.0, e.1, bare_link e.2)
+
+  first_or-bare : (after : Option ℕ) (es : List (Entry (SimpleOrdArenaNode P T I G))) → first_or after (map bare_entry es) ≡ first_or after es
+  first_or-bare after [] = refl
+  first_or-bare after (e ∷ es) = refl
+
+  link_between-bare : (before after : Option ℕ) (es : List (Entry (SimpleOrdArenaNode P T I G))) (i : ℕ)
+      → link_between before after (map bare_entry es) i ≡ option_map (λ e. (e.0, bare_link e.1)) (link_between before after es i)
+  link_between-bare before after [] i = refl
+  link_between-bare before after (e ∷ es) i =
+      ⊎_elim (λ (same : e.index ≡ i). rw (eq-eqb e.index i same, first_or-bare after es) refl)
+      (λ (other : e.index ≢ i). rw (ne_eqb e.index i other) (link_between-bare (Some e.index) after es i)) (cases_eq e.index i)
+
+  links_among-bare : (es : List (Entry (SimpleOrdArenaNode P T I G))) (from count : ℕ) → links_among (map bare_entry es) from count ≡ map linked_in (links_among es from count)
+  links_among-bare es from zero = refl
+  links_among-bare es from (suc count) =
+      rw (link_between-bare None None es from, links_among-bare es (from + 1) count) (before (link_at es from) (links_among es (from + 1) count))
+    where
+      before : (o : Option (ℕ × Link (SimpleOrdArenaNode P T I G))) (rest : List (ℕ × ℕ × Link (SimpleOrdArenaNode P T I G)))
+          → entry_before from (option_map (λ e. (e.0, bare_link e.1)) o) (map linked_in rest) ≡ map linked_in (entry_before from o rest)
+      before None rest = refl
+      before (Some e) rest = refl
+
+  pointers-bare : (es : List (Entry (SimpleOrdArenaNode P T I G))) → pointers (map bare_entry es) ≡ pointers es
+  pointers-bare [] = refl
+  pointers-bare (e ∷ es) = ap (λ ps. (e.index, e.generation) ∷ ps) (pointers-bare es)
+
+  indexes-pointers : (es : List (Entry (SimpleOrdArenaNode P T I G))) → indexes es ≡ map (λ (p : ℕ × ℕ). p.0) (pointers es)
+  indexes-pointers [] = refl
+  indexes-pointers (e ∷ es) = ap (λ ps. e.index ∷ ps) (indexes-pointers es)
+
+  -- a tree without entries has no root
+  pub no-root : (c : Chain (SimpleOrdArenaNode P T I G)) (root : Option ℕ) → IsLaidOut c root (shape_in c root) → length c.entries ≡ 0 → root ≡ None
+  no-root c root laid none = by c.entries refl none
+    where
+      by : (es : List (Entry (SimpleOrdArenaNode P T I G))) → c.entries ≡ es → length es ≡ 0 → root ≡ None
+      by [] is none = let held = laid.held in rw is at held
+      by (e ∷ es) is none = absurd cc
+
+module _ {P T U I G : Type 0} where
+  bare-taken_over : (source : Chain (SimpleOrdArenaNode P U I G)) (old : Chain (SimpleOrdArenaNode P T I G)) (es : List (Entry (SimpleOrdArenaNode P T I G)))
+      → bare (taken_over source old es) ≡ taken_over (bare source) (bare old) (map bare_entry es)
+  bare-taken_over source old es =
+      bare-refilled (record old { capacity = max old.capacity (greatest_index source.entries) }) source.generation es
+      ∙ ap (λ n. refilled (record (bare old) { capacity = max old.capacity n }) source.generation (map bare_entry es)) (sym (greatest_index-bare source.entries))
+
+-- The step of a clone of nodes, from that of their items.
+abbrev pub node_step : {P T U I G M N : Type 0} → (M → P → U → Result T AllocError → M → Type 0) → (N → M)
+    → N → P → Link (SimpleOrdArenaNode P U I G) → Result (SimpleOrdArenaNode P T I G) AllocError → N → Type 0
+node_step below wrapped m p link answer n =
+    MatchResult answer (λ new. ClonesNode below (wrapped m) p link.item new (wrapped n)) (λ refusal. below (wrapped m) p link.item.t (Err refusal) (wrapped n))
+
+-- where what makes the items calls a closure
+module _ {P T U I G M N F : Type 0} (numbers : P → ℕ × ℕ) (below : M → P → U → Result T AllocError → M → Type 0) (wrapped : N → M) (step : F → P → Bor U → Result T AllocError → F → Type 0) (closure : M → F)
+    (like : (m : M) (p : P) (u : U) (r : Result T AllocError) (n : M) → below m p u r n → IsShown step (closure m) p u r (closure n)) where
+  abbrev outer : N → P → Link (SimpleOrdArenaNode P U I G) → Result (SimpleOrdArenaNode P T I G) AllocError → N → Type 0
+  outer = node_step below wrapped
+
+  calls-bare : (es : List (ℕ × ℕ × Link (SimpleOrdArenaNode P U I G))) (s t : N) (ys : List (SimpleOrdArenaNode P T I G)) → FoldsTo {P = N × List (SimpleOrdArenaNode P T I G)} (CloneStep numbers (Grants numbers outer)) (s, []) es (t, ys)
+      → FoldsTo {P = F × List T} (CloneStep numbers (Grants numbers (ShowsItem numbers step))) (closure (wrapped s), []) (map linked_in es) (closure (wrapped t), map (λ n. n.t) ys)
+  calls-bare es s t ys calls =
+      clones-retold numbers (Grants numbers outer) (Grants numbers (ShowsItem numbers step)) (λ n. closure (wrapped n)) bare_link (λ n. n.t) (λ s p l x t made. like (wrapped s) p l.item.t (Ok x.t) (wrapped t) made.called) es s t [] ys calls
+
+  stops-bare : (source : Chain (SimpleOrdArenaNode P U I G)) (s : N) → StopsAtRefusal {T = SimpleOrdArenaNode P T I G} numbers outer s (links_rising source)
+      → StopsAtRefusal numbers (ShowsItem numbers step) (closure (wrapped s)) (links_rising (bare source))
+  stops-bare source s h = record {
+    before = map linked_in h.before;
+    refused = linked_in h.refused;
+    behind = map linked_in h.behind;
+    split = links_among-bare source.entries 1 source.capacity ∙ (ap (map linked_in) h.split ∙ map-append linked_in h.before (h.refused ∷ h.behind));
+    items = map (λ n. n.t) h.items;
+    reached = closure (wrapped h.reached);
+    calls = calls-bare h.before s h.reached h.items h.calls;
+    pointer = h.pointer;
+    index = h.index;
+    generation = h.generation;
+    refusal = h.refusal;
+    last = closure (wrapped h.last);
+    called = like (wrapped h.reached) h.pointer h.refused.2.item.t (Err h.refusal) (wrapped h.last) h.called;
+  }
+
+  module _ (s : N) (source : Chain (SimpleOrdArenaNode P U I G)) (old new : Chain (SimpleOrdArenaNode P T I G)) where
+    list-bare : IsClonedList numbers (Grants numbers outer) s source old new
+        → IsClonedList numbers (Grants numbers (ShowsItem numbers step)) (closure (wrapped s)) (bare source) (bare old) (bare new)
+    list-bare h = record {
+      items = map (λ n. n.t) h.items;
+      last = closure (wrapped h.last);
+      calls = rw (links_among-bare source.entries 1 source.capacity) (calls-bare (links_rising source) s h.last h.items h.calls);
+      entries = record {
+        order = pointers-bare new.entries ∙ (h.entries.order ∙ sym (pointers-bare source.entries));
+        made = λ i there. rw (entry_at-bare new.entries i, lesser-bare source.entries i, slice_get-map (λ (n : SimpleOrdArenaNode P T I G). n.t) h.items (lesser source.entries i))
+            (twice (entry_at new.entries i) ∙ ap (option_map (λ (n : SimpleOrdArenaNode P T I G). n.t)) (h.entries.made i (rw (times-bare source.entries i) at there)));
+      };
+      after = ap bare h.after ∙ bare-taken_over source old new.entries;
+    }
+      where
+        twice : (o : Option (ℕ × SimpleOrdArenaNode P T I G)) → option_map (λ e. e.1) (option_map entry_in o) ≡ option_map (λ n. n.t) (option_map {U = SimpleOrdArenaNode P T I G} (λ e. e.1) o)
+        twice None = refl
+        twice (Some e) = refl
+
+    pub refused-tree : (root before : Option ℕ) (x : Tree U) (y : Tree T) → tree_of source root ≡ x → tree_of old before ≡ y → IsRefusedList numbers outer s source old new
+        → IsRefusedClone numbers step (closure (wrapped s)) x y (tree_of new None)
+    refused-tree root before x y is_x is_y h = record {
+      list = rw (← is_x, ← is_y) (record { stops = stops-bare source s h.stops; after = ap bare h.after ∙ bare-taken_over source old [] });
+      shape = rw h.after refl;
+    }
+
+    module _ (most : ℕ) (greatest : Option ℕ) (sound : IsSound most greatest source) (root : Option ℕ) (laid : IsLaidOut source root (shape_in source root))
+        (h : IsClonedList numbers (Grants numbers outer) s source old new) where
+      links : (j : ℕ) → slots_of new j ≡ slots_of source j
+      links = clone-kept numbers (Grants numbers outer) links_in links_in (λ s p l x t made. made.links) most greatest s source sound old new h
+
+      order : indexes new.entries ≡ indexes source.entries
+      order = indexes-pointers new.entries ∙ (ap (map (λ (p : ℕ × ℕ). p.0)) h.entries.order ∙ sym (indexes-pointers source.entries))
+
+      pub laid-cloned : IsLaidOut new root (shape_in new root)
+      laid-cloned = IsLaidOut-linked source new root links order laid
+
+      tree-cloned : (before : Option ℕ) → IsClone numbers step (closure (wrapped s)) (tree_of source root) (tree_of old before) (tree_of new root)
+      tree-cloned before = record { list = list-bare h; shape = shape_in-linked source new root links order laid }
+
+    pub clone-told : {E : Type 0} (r : Result (Unit {0}) E) (most : ℕ) (greatest : Option ℕ) → IsSound most greatest source → (root before : Option ℕ) → IsLaidOut source root (shape_in source root)
+        → (x : Tree U) (y : Tree T) → tree_of source root ≡ x → tree_of old before ≡ y → OnOk r (IsClonedList numbers (Grants numbers outer) s source old new)
+        → OnOk r (IsClone numbers step (closure (wrapped s)) x y (tree_of new root))
+    clone-told (Ok done) most greatest sound root before laid x y is_x is_y h = rw (← is_x, ← is_y) (tree-cloned most greatest sound root laid h before)
+    clone-told (Err e) most greatest sound root before laid x y is_x is_y h = tt
+
+-- a chain that was kept, and has no entry, is the tree that it was without a root
+pub kept-tree : {P T I G : Type 0} (old new : Chain (SimpleOrdArenaNode P T I G)) (root : Option ℕ) → IsLaidOut old root (shape_in old root) → new ≡ old
+    → (length new.entries == 0) ≡ true → tree_of new None ≡ tree_of old root
+kept-tree old new root laid kept empty =
+    let gone : length new.entries ≡ 0 = elim (eqb_tells (length new.entries) 0) [ inl h ↦ h.1 | inr h ↦ absurd (false≢true (sym h.0 ∙ empty)) ] in
+    let none = rw kept at gone in
+    rw (kept, no-root old root laid none) refl

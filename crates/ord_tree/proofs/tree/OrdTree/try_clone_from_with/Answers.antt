@@ -1,0 +1,47 @@
+use Rattle.std.proofs.Common.{inl, inr, sym, ap, ◌∙◌, option_map}
+use Rattle.std.proofs.lemmas.Bool.{false≢true}
+use Rattle.chain_base.specs.Chain.{Chain}
+use Rattle.ord_tree.specs.Layout.{tree_of}
+use Rattle.ord_tree.proofs.Trees.{greatest_index-bare}
+use Rattle.ord_tree.proofs.Cloning.{laid-cloned, clone-told, refused-tree, kept-tree}
+use Rattle.ord_tree.proofs.tree.OrdTree.try_clone_from_with.Goals as goal
+
+pub invariant_of-self : goal.invariant_of-self
+invariant_of-self g c =
+    laid-cloned g.P.Ptr.numbers _ (λ m. m.map) _ (λ m. m.f) (λ m p u r n called. called) _
+    c.source.inside.chain c.self.inside.chain c.clone_by-cloned.new.self _ _ c.len.ensures.sound _ c.source.invariant c.in-Ok.ensures.ok
+
+pub returns-in-Ok-clause-ok : goal.returns-in-Ok-clause-ok
+returns-in-Ok-clause-ok g c =
+    clone-told g.P.Ptr.numbers _ (λ m. m.map) _ (λ m. m.f) (λ m p u r n called. called) _
+    c.source.inside.chain c.self.inside.chain c.clone_by-cloned.new.self c.clone_by-cloned.result _ _ c.len.ensures.sound _ _ c.source.invariant _ _ c.source.view_is c.self.view_is c.clone_by-cloned.ensures.ok
+
+pub returns-in-Ok-clause-beyond : goal.returns-in-Ok-clause-beyond
+returns-in-Ok-clause-beyond g c = rw (← c.self.view_is, ← c.source.view_is, greatest_index-bare c.source.inside.chain.entries) c.clone_by-cloned.ensures.beyond
+
+pub returns-then-is_empty-clause-beyond : goal.returns-then-is_empty-clause-beyond
+returns-then-is_empty-clause-beyond g c = rw (← c.self.view_is, ← c.source.view_is, greatest_index-bare c.source.inside.chain.entries) c.clone_by-cloned.ensures.beyond
+
+pub returns-else-is_empty-clause-beyond : goal.returns-else-is_empty-clause-beyond
+returns-else-is_empty-clause-beyond g c = rw (← c.self.view_is, ← c.source.view_is, greatest_index-bare c.source.inside.chain.entries) c.clone_by-cloned.ensures.beyond
+
+pub returns-then-is_empty-clause-memory : goal.returns-then-is_empty-clause-memory
+returns-then-is_empty-clause-memory g c = λ is.
+    elim (c.clone_by-cloned.ensures.memory is) [
+      | inl kept ↦ inl (
+        rw (← c.self.view_is, ← c.source.view_is, greatest_index-bare c.source.inside.chain.entries) kept.0,
+        kept-tree c.self.inside.chain c.clone_by-cloned.new.self _ c.self.invariant kept.1 (sym c.is_empty.ensures ∙ c.if-is_empty.true) ∙ c.self.view_is,
+      )
+      | inr refused ↦ inr (refused-tree g.P.Ptr.numbers _ (λ m. m.map) _ (λ m. m.f) (λ m p u r n called. called) _
+          c.source.inside.chain c.self.inside.chain c.clone_by-cloned.new.self _ _ _ _ c.source.view_is c.self.view_is refused)
+    ]
+
+pub returns-else-is_empty-clause-memory : goal.returns-else-is_empty-clause-memory
+returns-else-is_empty-clause-memory g c = λ is.
+    elim (c.clone_by-cloned.ensures.memory is) [
+      | inl kept ↦ inl (
+        rw (← c.self.view_is, ← c.source.view_is, greatest_index-bare c.source.inside.chain.entries) kept.0,
+        ap (λ (d : Chain _). tree_of d (option_map g.P.Inx.PtrInx.number c.self.inside.root)) kept.1 ∙ c.self.view_is,
+      )
+      | inr refused ↦ absurd (let empty = ap (λ (d : Chain _). d.entries) refused.after in let some = sym c.is_empty.ensures ∙ c.if-is_empty.false in let bad = rw empty at some in false≢true (sym bad))
+    ]

@@ -1,0 +1,26 @@
+-- What a clone of one tree into another is: the source's pointers in its order, in a tree of its shape, with items that are made of
+-- the source's.
+use Rattle.std.specs.Prelude.{◌≡◌, ℕ, Result}
+use Rattle.std.specs.Borrow.{Bor}
+use Rattle.std.specs.declared.alloc.AllocError.{AllocError}
+use Rattle.arena_base.specs.Clone.{Grants, IsShown}
+use Rattle.chain_base.specs.Link.{Link}
+use Rattle.chain_base.specs.Clone.{IsClone as IsClonedList, IsRefusedClone as IsRefusedList}
+use Rattle.ord_tree.specs.Shape.{missing}
+use Rattle.ord_tree.specs.Tree.{Tree}
+
+-- P reads pointers as index and generation; `step` is what a call of the closure may do
+module _ {P T U F : Type 0} (numbers : P → ℕ × ℕ) (step : F → P → Bor U → Result T AllocError → F → Type 0) where
+  -- a call by which the closure was shown the item at a link
+  abbrev pub ShowsItem : F → P → Link U → Result T AllocError → F → Type 0
+  ShowsItem f p link answer g = IsShown step f p link.item answer g
+
+  -- the list is a clone of the source's by calls that made an item each, and the shape is the source's
+  pub record IsClone (f : F) (source : Tree U) (old new : Tree T) : Type 0 where
+    pub list : IsClonedList numbers (Grants numbers ShowsItem) f source.list old.list new.list
+    pub shape : new.shape ≡ source.shape
+
+  -- an item was refused, and the tree is empty, with the generation and the capacity of a clone
+  pub record IsRefusedClone (f : F) (source : Tree U) (old new : Tree T) : Type 0 where
+    pub list : IsRefusedList numbers ShowsItem f source.list old.list new.list
+    pub shape : new.shape ≡ missing

@@ -1,0 +1,87 @@
+//! Taking over the pointers, the order and the shape of another tree.
+
+ghost use Rattle.std.specs.Prelude.{◌≡◌, ◌<◌, ◌↔◌, ◌⊎◌, OnOk};
+ghost use Rattle.chain_base.specs.Chain.{chain_limit, greatest_index};
+ghost use Rattle.ord_tree.specs.Clone.{IsClone, IsRefusedClone};
+
+use super::OrdTree;
+use crate::node::SimpleOrdArenaNode;
+use arena_base::{CloneEntry, Ptr, ReallocationError, TryCalls};
+use chain_base::LinkNoGen;
+use std::alloc::{AllocError, Allocator};
+
+impl<P: Ptr, T: Drop, A: Allocator> OrdTree<P, T, A> {
+    /// Makes this tree a clone of the source, with items that `map` makes: it has the source's pointers in the source's order, the
+    /// source's shape and its generation, and its own old entries are dropped.
+    ///
+    /// For each entry of the source, by rising index, `map` is called with its pointer and a reference to its item. The capacity
+    /// grows to the source's greatest index, where it is less, before anything else changes; the maximum stays, and all vacant slots
+    /// count as never used. It goes through the slots of both once.
+    ///
+    /// It is refused with `BeyondMaxCapacity` where that index is beyond this tree's limit, and with `AllocError` where the capacity
+    /// would grow and memory is refused. Nothing changes then, and `map` isn't called. The first item for which `map` is refused
+    /// memory ends the call with `AllocError`: the tree is empty then, with the source's generation and the capacity of a clone.
+    pub fn try_clone_from_with<
+        U,
+        B: Allocator + Copy,
+        F: FnMut(P, &U) -> Result<T, AllocError> + Drop,
+    >(&mut self, source: &OrdTree<P, U, B>, map: F) -> Result<(), ReallocationError>
+        requires { F.IsAlwaysCallable map }
+        ensures ok { OnOk result (IsClone P.numbers F.step map source.now self.old self.new) }
+        ensures beyond { (result ≡ Err ReallocationError.BeyondMaxCapacity)
+            ↔ (chain_limit P.Inx.most self.old.list < greatest_index source.now.list.entries) }
+        ensures beyond_kept { result ≡ Err ReallocationError.BeyondMaxCapacity → self.new ≡ self.old }
+        ensures memory { result ≡ Err ReallocationError.AllocError
+            → ((self.old.list.capacity < greatest_index source.now.list.entries) × (self.new ≡ self.old))
+            ⊎ IsRefusedClone P.numbers F.step map source.now self.old self.new }
+    {
+        // The invariant of the source's list is needed: each of its indexes is above 0.
+        let _ = source.chain.len();
+        let cloned = self.chain.clone_by(
+            &source.chain,
+            CloneNode {
+                map: TryCalls { f: map },
+            },
+        );
+        match cloned {
+            Ok(()) => self.root = source.root,
+            // An item was refused, or nothing changed.
+            Err(_) => if self.chain.is_empty() {
+                self.root = None;
+            },
+        }
+        cloned
+    }
+}
+
+/// Makes the node of a clone, which has the links and the rank of the source's.
+#[doc(hidden)]
+#[derive(Drop)]
+pub struct CloneNode<M> {
+    map: M,
+}
+
+impl<P: Ptr, U, T, M: CloneEntry<P, U, T>> CloneEntry<
+    P,
+    LinkNoGen<P, SimpleOrdArenaNode<P, U>>,
+    SimpleOrdArenaNode<P, T>,
+> for CloneNode<M> {
+    ghost use Rattle.std.specs.Prelude.{MatchResult, Err};
+    ghost use Rattle.ord_tree.specs.CloneNode.{ClonesNode};
+
+    ghost callable = { λ m. M.callable m.map };
+
+    ghost step = { λ m p link answer n. MatchResult answer
+        (λ new. ClonesNode M.step m.map p link.item new n.map)
+        (λ refusal. M.step m.map p link.item.t (Err refusal) n.map) };
+
+    fn clone_entry(
+        &mut self,
+        p: P,
+        link: &LinkNoGen<P, SimpleOrdArenaNode<P, U>>,
+    ) -> Result<SimpleOrdArenaNode<P, T>, AllocError> {
+        let node = &link.t;
+        let t = self.map.clone_entry(p, &node.t)?;
+        Ok(node.with_item(t))
+    }
+}
