@@ -33,9 +33,10 @@ fn was_told(
     i: u32,
     wanted: (u8, (Option<u32>, Option<u32>), char),
 ) {
+    let (call, neighbours, letter) = wanted;
     let p = P0::_from_raw(i, 2);
     let found = chain.get(p).copied();
-    assert!(rt; found == Some((wanted.0, p, wanted.1, wanted.2)));
+    assert!(rt; found == Some((call, p, neighbours, letter)));
 }
 
 #[test]
