@@ -27,7 +27,7 @@ pub use Rattle.chain_base.proofs.Room.{inserted-capacity}
 pub use Rattle.chain_base.proofs.Canonical.{relocated-items}
 -- lists of the same pointers, and what the calls of a clone keep of the items
 pub use Rattle.chain_base.proofs.Cloning.{Alike, alike-pointers}
-pub use Rattle.chain_base.proofs.CloneKept.{clone-kept, same_entries}
+pub use Rattle.chain_base.proofs.CloneKept.{clone-kept, clone-same, refused-some}
 
 module _ {T : Type 0} where
   -- an index that no entry has finds none

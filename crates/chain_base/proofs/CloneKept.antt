@@ -1,14 +1,15 @@
 -- What each call of a clone keeps of its item is found at the index of its entry.
-use Rattle.std.proofs.Common.{◌≡◌, ℕ, zero, suc, ◌+◌, ◌≤◌, List, [], ◌∷◌, map, slice_get, Option, Some, None, refl, sym, ap, ◌∙◌, arith, inl, inr}
+use Rattle.std.proofs.Common.{◌≡◌, ℕ, zero, suc, ◌+◌, ◌<◌, ◌≤◌, List, [], ◌∷◌, ◌++◌, length, length-append, map, slice_get, Option, Some, None, Result, refl, sym, ap, ◌∙◌, arith, inl, inr}
 use Rattle.std.proofs.lemmas.Grind.{common_steps}
 use Rattle.std.proofs.lemmas.Bool.Decides.{eqb_tells}
 use Rattle.std.proofs.lemmas.Option.{none-some, slice_get-map}
 use Rattle.std.specs.Option.{option_map}
+use Rattle.std.specs.declared.alloc.AllocError.{AllocError}
 use Rattle.chain_base.specs.Link.{Link}
 use Rattle.chain_base.specs.Chain.{Entry, Chain, IsDistinct, IsSound, times, entry_at, link_at}
 use Rattle.chain_base.specs.Compression.{lesser, entry_before, rising_among, entries_rising}
 use Rattle.chain_base.specs.Walk.{pointers}
-use Rattle.chain_base.specs.Clone.{links_among, links_rising, IsClone}
+use Rattle.chain_base.specs.Clone.{links_among, links_rising, taken_over, IsClone, IsRefusedClone}
 use Rattle.chain_base.proofs.Lists.{times-here, entry_at-link, entry_at-absent}
 use Rattle.chain_base.proofs.Ranking.{lesser-zero, lesser-next}
 use Rattle.chain_base.proofs.Canonical.{entry-absent, rising-at}
@@ -81,3 +82,24 @@ same_entries {T} (e ∷ es) (f ∷ fs) distinct order items =
       | inr h ↦ let here = items i in rw (index, h.0) at here
     ]) in
     rw (← more, ← index, ← era, ← item) refl
+
+-- a clone by calls that each answer the item that they are shown
+pub clone-same : {P U F : Type 0} (numbers : P → ℕ × ℕ) (step : F → P → Link U → U → F → Type 0) → ((f : F) (p : P) (u : Link U) (x : U) (g : F) → step f p u x g → x ≡ u.item)
+    → (most : ℕ) (greatest : Option ℕ) (f : F) (source : Chain U) → IsSound most greatest source → (old new : Chain U) → IsClone numbers step f source old new → new ≡ taken_over source old source.entries
+clone-same {U = U} numbers step answers most greatest f source sound old new c =
+    c.after
+    ∙ ap (taken_over source old) (same_entries source.entries new.entries sound.distinct c.entries.order (clone-kept numbers step (λ (u : U). u) (λ (u : U). u) answers most greatest f source sound old new c))
+
+-- no links are shown of a list without entries
+links-none : {U : Type 0} (from count : ℕ) → links_among {U = U} [] from count ≡ []
+links-none from zero = refl
+links-none from (suc count) = links-none (from + 1) count
+
+-- where an item was refused, there are entries
+pub refused-some : {P T U F : Type 0} (numbers : P → ℕ × ℕ) (step : F → P → Link U → Result T AllocError → F → Type 0) (f : F) (source : Chain U) (old new : Chain T) → IsRefusedClone numbers step f source old new
+    → 0 < length source.entries
+refused-some {U = U} numbers step f source old new c = by source.entries refl c.stops.split
+  where
+    by : (es : List (Entry U)) → source.entries ≡ es → links_among es 1 source.capacity ≡ c.stops.before ++ c.stops.refused ∷ c.stops.behind → 0 < length source.entries
+    by [] is split = absurd (omega (arith, ap length split, length-append c.stops.before (c.stops.refused ∷ c.stops.behind), ap length (links-none {U = U} 1 source.capacity)))
+    by (e ∷ es) is split = rw is (omega arith)

@@ -14,3 +14,4 @@ pub mod Reversed
 pub mod Inserting
 pub mod Places
 pub mod CallerLemmas
+pub mod Cloning

@@ -24,3 +24,4 @@ pub mod SlotWalk
 pub mod SlotDrain
 pub mod Descent
 pub mod Steps
+pub mod Clone

@@ -7,6 +7,7 @@ ghost use Rattle.ord_tree.specs.Tree.{IsSoundTree};
 
 mod access;
 mod check;
+mod clone;
 mod compare;
 mod debug;
 mod drain;
