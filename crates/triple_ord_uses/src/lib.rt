@@ -3,6 +3,7 @@
 
 pub mod catalogue;
 pub mod entries;
+pub mod notes;
 pub mod rounds;
 pub mod scheduler;
 #[cfg(test)]
