@@ -2,7 +2,7 @@
 use Rattle.std.proofs.Common.{◌≡◌, ℕ, zero, suc, ◌+◌, inl, inr, max, Option, Some, None, List, [], ◌∷◌, map, length, Result, Ok, Err, MatchResult, OnOk, refl, sym, ◌∙◌, ap, option_map, ⊎_elim, ◌==◌, true, ◌≢◌}
 use Rattle.std.proofs.lemmas.Bool.{cases_eq, eq-eqb, ne_eqb, false≢true}
 use Rattle.std.proofs.lemmas.Bool.Decides.{eqb_tells}
-use Rattle.std.proofs.lemmas.List.{map-append}
+use Rattle.std.proofs.lemmas.List.{map-append, map-id}
 use Rattle.std.proofs.lemmas.Option.{slice_get-map}
 use Rattle.std.specs.Borrow.{Bor}
 use Rattle.std.specs.List.{FoldsTo}
@@ -77,6 +77,24 @@ module _ {P T U I G : Type 0} where
       bare-refilled (record old { capacity = max old.capacity (greatest_index source.entries) }) source.generation es
       ∙ ap (λ n. refilled (record (bare old) { capacity = max old.capacity n }) source.generation (map bare_entry es)) (sym (greatest_index-bare source.entries))
 
+-- A clone into a chain of other items, by calls that are shown the nodes' items, is one of the list of these items.
+module _ {P T U I G M F : Type 0} (numbers : P → ℕ × ℕ) (below : M → P → Link (SimpleOrdArenaNode P U I G) → T → M → Type 0) (above : F → P → Link U → T → F → Type 0) (state : M → F)
+    (like : (m : M) (p : P) (l : Link (SimpleOrdArenaNode P U I G)) (x : T) (n : M) → below m p l x n → above (state m) p (bare_link l) x (state n)) where
+  pub list-told : {E : Type 0} (r : Result (Unit {0}) E) (m : M) (source : Chain (SimpleOrdArenaNode P U I G)) (old new : Chain T) (list : Chain U) → bare source ≡ list
+      → OnOk r (IsClonedList numbers below m source old new) → OnOk r (IsClonedList numbers above (state m) list old new)
+  list-told (Err e) m source old new list is h = tt
+  list-told (Ok x) m source old new list is h = rw (← is) (record {
+    items = h.items;
+    last = state h.last;
+    calls = rw (links_among-bare source.entries 1 source.capacity)
+        (let told = clones-retold numbers below above state bare_link (λ x. x) like (links_rising source) m h.last [] h.items h.calls in rw (map-id h.items) at told);
+    entries = record {
+      order = h.entries.order ∙ sym (pointers-bare source.entries);
+      made = λ i there. rw (lesser-bare source.entries i) (h.entries.made i (rw (times-bare source.entries i) at there));
+    };
+    after = h.after ∙ ap (λ n. refilled (record old { capacity = max old.capacity n }) source.generation new.entries) (sym (greatest_index-bare source.entries));
+  })
+
 -- The step of a clone of nodes, from that of their items.
 abbrev pub node_step : {P T U I G M N : Type 0} → (M → P → U → Result T AllocError → M → Type 0) → (N → M)
     → N → P → Link (SimpleOrdArenaNode P U I G) → Result (SimpleOrdArenaNode P T I G) AllocError → N → Type 0
@@ -90,12 +108,12 @@ module _ {P T U I G M N F : Type 0} (numbers : P → ℕ × ℕ) (below : M → 
   outer = node_step below wrapped
 
   calls-bare : (es : List (ℕ × ℕ × Link (SimpleOrdArenaNode P U I G))) (s t : N) (ys : List (SimpleOrdArenaNode P T I G)) → FoldsTo {P = N × List (SimpleOrdArenaNode P T I G)} (CloneStep numbers (Grants numbers outer)) (s, []) es (t, ys)
-      → FoldsTo {P = F × List T} (CloneStep numbers (Grants numbers (ShowsItem numbers step))) (closure (wrapped s), []) (map linked_in es) (closure (wrapped t), map (λ n. n.t) ys)
+      → FoldsTo {P = F × List T} (CloneStep numbers (Grants numbers (ShowsItem step))) (closure (wrapped s), []) (map linked_in es) (closure (wrapped t), map (λ n. n.t) ys)
   calls-bare es s t ys calls =
-      clones-retold numbers (Grants numbers outer) (Grants numbers (ShowsItem numbers step)) (λ n. closure (wrapped n)) bare_link (λ n. n.t) (λ s p l x t made. like (wrapped s) p l.item.t (Ok x.t) (wrapped t) made.called) es s t [] ys calls
+      clones-retold numbers (Grants numbers outer) (Grants numbers (ShowsItem step)) (λ n. closure (wrapped n)) bare_link (λ n. n.t) (λ s p l x t made. like (wrapped s) p l.item.t (Ok x.t) (wrapped t) made.called) es s t [] ys calls
 
   stops-bare : (source : Chain (SimpleOrdArenaNode P U I G)) (s : N) → StopsAtRefusal {T = SimpleOrdArenaNode P T I G} numbers outer s (links_rising source)
-      → StopsAtRefusal numbers (ShowsItem numbers step) (closure (wrapped s)) (links_rising (bare source))
+      → StopsAtRefusal numbers (ShowsItem step) (closure (wrapped s)) (links_rising (bare source))
   stops-bare source s h = record {
     before = map linked_in h.before;
     refused = linked_in h.refused;
@@ -114,7 +132,7 @@ module _ {P T U I G M N F : Type 0} (numbers : P → ℕ × ℕ) (below : M → 
 
   module _ (s : N) (source : Chain (SimpleOrdArenaNode P U I G)) (old new : Chain (SimpleOrdArenaNode P T I G)) where
     list-bare : IsClonedList numbers (Grants numbers outer) s source old new
-        → IsClonedList numbers (Grants numbers (ShowsItem numbers step)) (closure (wrapped s)) (bare source) (bare old) (bare new)
+        → IsClonedList numbers (Grants numbers (ShowsItem step)) (closure (wrapped s)) (bare source) (bare old) (bare new)
     list-bare h = record {
       items = map (λ n. n.t) h.items;
       last = closure (wrapped h.last);

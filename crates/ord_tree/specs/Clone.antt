@@ -9,18 +9,18 @@ use Rattle.chain_base.specs.Clone.{IsClone as IsClonedList, IsRefusedClone as Is
 use Rattle.ord_tree.specs.Shape.{missing}
 use Rattle.ord_tree.specs.Tree.{Tree}
 
+-- a call by which a closure was shown the item at a link
+abbrev pub ShowsItem : {P U R F : Type 0} → (F → P → Bor U → R → F → Type 0) → F → P → Link U → R → F → Type 0
+ShowsItem step f p link answer g = IsShown step f p link.item answer g
+
 -- P reads pointers as index and generation; `step` is what a call of the closure may do
 module _ {P T U F : Type 0} (numbers : P → ℕ × ℕ) (step : F → P → Bor U → Result T AllocError → F → Type 0) where
-  -- a call by which the closure was shown the item at a link
-  abbrev pub ShowsItem : F → P → Link U → Result T AllocError → F → Type 0
-  ShowsItem f p link answer g = IsShown step f p link.item answer g
-
   -- the list is a clone of the source's by calls that made an item each, and the shape is the source's
   pub record IsClone (f : F) (source : Tree U) (old new : Tree T) : Type 0 where
-    pub list : IsClonedList numbers (Grants numbers ShowsItem) f source.list old.list new.list
+    pub list : IsClonedList numbers (Grants numbers (ShowsItem step)) f source.list old.list new.list
     pub shape : new.shape ≡ source.shape
 
   -- an item was refused, and the tree is empty, with the generation and the capacity of a clone
   pub record IsRefusedClone (f : F) (source : Tree U) (old new : Tree T) : Type 0 where
-    pub list : IsRefusedList numbers ShowsItem f source.list old.list new.list
+    pub list : IsRefusedList numbers (ShowsItem step) f source.list old.list new.list
     pub shape : new.shape ≡ missing

@@ -17,7 +17,7 @@ module _ {P T F : Type 0} (numbers : P → ℕ × ℕ) (step : F → P → Bor T
   tree-same : (most : ℕ) (greatest : Option ℕ) (f : F) (source : Tree T) → IsSound most greatest source.list → (old new : Tree T) → IsClone numbers step f source old new → new ≡ cloned source old
   tree-same most greatest f source sound old new h =
       ap (λ (l : Chain T). record { list = l; shape = new.shape })
-      (clone-same numbers (Grants numbers (ShowsItem numbers step)) (λ f p u x g called. answers f p called.0 x g called.2 ∙ called.1) most greatest f source.list sound old.list new.list h.list)
+      (clone-same numbers (Grants numbers (ShowsItem step)) (λ f p u x g called. answers f p called.0 x g called.2 ∙ called.1) most greatest f source.list sound old.list new.list h.list)
       ∙ ap (λ (s : Shape). record { list = taken_over source.list old.list source.list.entries; shape = s }) h.shape
 
   pub clone-cloned : {E : Type 0} (r : Result (Unit {0}) E) (most : ℕ) (greatest : Option ℕ) (f : F) (source : Tree T) → IsSound most greatest source.list → (old new x y : Tree T) → source ≡ x → old ≡ y
@@ -30,7 +30,7 @@ pub clone-emptied : {P T F : Type 0} (numbers : P → ℕ × ℕ) (step : F → 
 clone-emptied numbers step f source old new x y is_x is_y h =
     rw (← is_x, ← is_y)
     ((
-      refused-some numbers (ShowsItem numbers step) f source.list old.list new.list h.list,
+      refused-some numbers (ShowsItem step) f source.list old.list new.list h.list,
       ap (λ (l : Chain _). record { list = l; shape = new.shape }) h.list.after ∙ ap (λ (s : Shape). record { list = taken_over source.list old.list []; shape = s }) h.shape,
     ))
 

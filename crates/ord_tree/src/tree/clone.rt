@@ -1,13 +1,14 @@
 //! Taking over the pointers, the order and the shape of another tree.
 
-ghost use Rattle.std.specs.Prelude.{◌≡◌, ◌<◌, ◌↔◌, ◌⊎◌, OnOk};
+ghost use Rattle.std.specs.Prelude.{◌≡◌, ◌<◌, ◌↔◌, ◌⊎◌, OnOk, OnErr};
 ghost use Rattle.chain_base.specs.Chain.{chain_limit, greatest_index};
-ghost use Rattle.ord_tree.specs.Clone.{IsClone, IsRefusedClone};
+ghost use Rattle.chain_base.specs.Clone.{IsClone as IsClonedList};
+ghost use Rattle.ord_tree.specs.Clone.{IsClone, IsRefusedClone, ShowsItem};
 
 use super::OrdTree;
 use crate::node::SimpleOrdArenaNode;
-use arena_base::{CloneEntry, Ptr, ReallocationError, TryCalls};
-use chain_base::LinkNoGen;
+use arena_base::{Calls, CloneEntry, Ptr, ReallocationError, TryCalls};
+use chain_base::{ChainArena, LinkNoGen};
 use std::alloc::{AllocError, Allocator};
 
 impl<P: Ptr, T: Drop, A: Allocator> OrdTree<P, T, A> {
@@ -51,6 +52,62 @@ impl<P: Ptr, T: Drop, A: Allocator> OrdTree<P, T, A> {
             },
         }
         cloned
+    }
+}
+
+impl<P: Ptr, T, A: Allocator + Copy> OrdTree<P, T, A> {
+    /// Makes a chain a clone of the list, with items that `map` makes: it has the tree's pointers in their order and its generation,
+    /// and its own old entries are dropped.
+    ///
+    /// For each entry, by rising index, `map` is called with its pointer and a reference to its item. The chain's capacity grows to
+    /// the tree's greatest index, where it is less, before anything else changes; its maximum stays, and all its vacant slots count as
+    /// never used. It goes through the slots of both once.
+    ///
+    /// It is refused with `BeyondMaxCapacity` where that index is beyond the chain's limit, and with `AllocError` where its capacity
+    /// would grow and memory is refused. Nothing changes then, and `map` isn't called.
+    pub fn clone_to_chain_arena<U: Drop, B: Allocator, F: FnMut(P, &T) -> U + Drop>(
+        &self,
+        chain: &mut ChainArena<P, U, B>,
+        map: F,
+    ) -> Result<(), ReallocationError>
+        requires { F.IsAlwaysCallable map }
+        ensures ok { OnOk result
+            (IsClonedList P.numbers (ShowsItem F.step) map self.now.list chain.old chain.new) }
+        ensures beyond { (result ≡ Err ReallocationError.BeyondMaxCapacity)
+            ↔ (chain_limit P.Inx.most chain.old < greatest_index self.now.list.entries) }
+        ensures memory { result ≡ Err ReallocationError.AllocError
+            → chain.old.capacity < greatest_index self.now.list.entries }
+        ensures err { OnErr result (chain.new ≡ chain.old) }
+    {
+        chain.clone_by(
+            &self.chain,
+            ShowItem {
+                map: Calls { f: map },
+            },
+        )
+    }
+}
+
+/// Makes what the items of a clone are made by, where it is shown the items of nodes.
+#[doc(hidden)]
+#[derive(Drop)]
+pub struct ShowItem<M> {
+    map: M,
+}
+
+impl<P: Ptr, T, U, M: CloneEntry<P, T, U>> CloneEntry<P, LinkNoGen<P, SimpleOrdArenaNode<P, T>>, U>
+    for ShowItem<M> {
+    ghost callable = { λ m. M.callable m.map };
+
+    ghost step = { λ m p link answer n. M.step m.map p link.item.t answer n.map };
+
+    fn clone_entry(
+        &mut self,
+        p: P,
+        link: &LinkNoGen<P, SimpleOrdArenaNode<P, T>>,
+    ) -> Result<U, AllocError> {
+        let node = &link.t;
+        self.map.clone_entry(p, &node.t)
     }
 }
 
