@@ -8,6 +8,7 @@ ghost use Rattle.ord_tree.specs.Tree.{IsSoundTree};
 mod access;
 mod check;
 mod clone;
+mod clone_to;
 mod compare;
 mod debug;
 mod drain;

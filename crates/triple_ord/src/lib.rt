@@ -23,7 +23,7 @@ pub use arena_base::{
     InvalidationResult, ItemsMut, P0, P8, PN, Ptr, PtrAdvancer, PtrGen, PtrInx, Q0,
     ReallocationError, Recast, Recaster, SetMaxCapacity,
 };
-pub use chain_base::LinkNoGen;
+pub use chain_base::{ChainArena, LinkNoGen};
 pub use entry_kind::OrdEntryKind;
 pub use error::OrdInsertionError;
 pub use insert_kind::OrdInsertKind;
