@@ -1,9 +1,11 @@
 -- A clone of an ordered arena whose calls each give the item that they are shown.
-use Rattle.std.proofs.Common.{◌≡◌, ℕ, ◌<◌, Option, Result, Ok, Err, OnOk, [], refl, ap, ◌∙◌}
+use Rattle.std.proofs.Common.{◌≡◌, ℕ, ◌<◌, Option, Result, Ok, Err, OnOk, [], refl, ap, ◌∙◌, List, ◌∷◌, length, ◌⊎◌, inl, inr, arith}
 use Rattle.std.specs.Borrow.{Bor}
 use Rattle.std.specs.declared.alloc.AllocError.{AllocError}
 use Rattle.arena_base.specs.Clone.{Grants}
-use Rattle.chain_base.specs.Chain.{Chain, IsSound}
+use Rattle.arena_base.specs.declared.error.ReallocationError.{ReallocationError}
+use Rattle.arena_base.specs.declared.error.ReallocationError.TheVariants.{BeyondMaxCapacity, AllocError as NoMemory}
+use Rattle.chain_base.specs.Chain.{Entry, Chain, IsSound, greatest_index}
 use Rattle.chain_base.specs.Clone.{taken_over}
 use Rattle.chain_base.proofs.CallerLemmas.{clone-same, refused-some}
 use Rattle.ord_tree.specs.Shape.{Shape}
@@ -38,3 +40,19 @@ clone-emptied numbers step f source old new x y is_x is_y h =
 pub cloned-found : {T E : Type 0} (r : Result (Unit {0}) E) (source old new : Tree T) → OnOk r (new ≡ cloned source old) → OnOk r (FindSame source new)
 cloned-found (Ok done) source old new is = λ p. rw is refl
 cloned-found (Err e) source old new is = tt
+
+-- nothing refuses a clone of an arena without entries
+pub empty-unrefused : {T A B : Type 0} (r : Result (Unit {0}) ReallocationError) (e : ReallocationError) → r ≡ Err e → (source : Tree T) (limit capacity : ℕ) → (r ≡ Err BeyondMaxCapacity → limit < greatest_index source.list.entries)
+    → (r ≡ Err NoMemory → ((capacity < greatest_index source.list.entries) × A) ⊎ ((0 < count source) × B)) → count source ≡ 0 → ⊥
+empty-unrefused {T} r e is source limit capacity beyond memory none = by e is
+  where
+    least : (es : List (Entry T)) → length es ≡ 0 → greatest_index es ≡ 0
+    least [] gone = refl
+    least (e ∷ es) gone = absurd (omega arith)
+
+    by : (e : ReallocationError) → r ≡ Err e → ⊥
+    by BeyondMaxCapacity is = let far = beyond is in omega (arith, least source.list.entries none)
+    by NoMemory is = elim (memory is) [
+      | inl kept ↦ let far = kept.0 in omega (arith, least source.list.entries none)
+      | inr refused ↦ let some = refused.0 in omega arith
+    ]
