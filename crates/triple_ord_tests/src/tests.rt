@@ -5,6 +5,7 @@ ghost use Rattle.std.specs.Cmp.Rules.{comparing};
 ghost use Rattle.std.specs.Ordering.{nat_cmp, on, as_partial_cmp};
 
 mod clones;
+mod clones_refused;
 mod clones_to;
 mod closures;
 mod each_call;
