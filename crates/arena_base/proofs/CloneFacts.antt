@@ -1,7 +1,8 @@
 -- What follows of a clone: its calls, told of another closure; its pointers; and a clone with the same items.
-use Rattle.std.proofs.Common.{Bool, true, false, cond, eqb, is_some, add-zero, ◌≡◌, ◌⊎◌, inl, inr, ℕ, zero, suc, ◌+◌, ◌-◌, ◌≤◌, ◌<◌, max, List, [], ◌∷◌, ◌++◌, length, map, Option, Some, None, Result, Ok, Err, replicate, take, get_or, refl, sym, ap, ◌∙◌, arith, subst}
+use Rattle.std.proofs.Common.{Bool, true, false, cond, eqb, is_some, add-zero, ◌≡◌, ◌⊎◌, inl, inr, ℕ, zero, suc, ◌+◌, ◌-◌, ◌≤◌, ◌<◌, max, List}
+use Rattle.std.proofs.Common.{[], ◌∷◌, ◌++◌, length, map, Option, Some, None, Result, Ok, Err, replicate, take, get_or, refl, sym, ap, ◌∙◌, arith, subst}
 use Rattle.std.proofs.lemmas.Bool.{cases_lt}
-use Rattle.std.proofs.lemmas.List.{append_assoc, map_push, length_push, append-nil}
+use Rattle.std.proofs.lemmas.List.{append_assoc, append-nil, length-map, map-append, map-id, map_push}
 use Rattle.std.proofs.lemmas.Option.{none-some, same_Some}
 use Rattle.std.specs.List.{FoldsTo}
 use Rattle.std.specs.Option.{option_map}
@@ -10,7 +11,7 @@ use Rattle.std.specs.declared.alloc.AllocError.{AllocError}
 use Rattle.arena_base.specs.declared.error.ReallocationError.{ReallocationError}
 use Rattle.arena_base.specs.Walk.{entries_from, entries_rising}
 use Rattle.arena_base.specs.Arena.{Arena, FindSame, HoldsSame, item_if, arena_capacity, greatest_occupied, resized}
-use Rattle.arena_base.specs.Clone.{CloneStep, HasSamePointers, IsClone, IsRefusedClone, Grants, with_items, replaced}
+use Rattle.arena_base.specs.Clone.{CloneStep, HasSamePointers, IsClone, IsRefusedClone, StopsAtRefusal, Grants, with_items, replaced}
 use Rattle.arena_base.proofs.Occupied.{greatest_occupied-above}
 use Rattle.arena_base.proofs.Resizing.{get_or-all_default, get_or-pad}
 
@@ -39,23 +40,42 @@ module _ {P W X U T M F : Type 0} (numbers : P → ℕ × ℕ) (below : M → P 
         clones-retold es calls.0.0 n calls.0.1 ys calls.2,
       )
 
-map-itself : {X : Type 0} (f : X → X) → ((x : X) → f x ≡ x) → (xs : List X) → map f xs ≡ xs
-map-itself f itself [] = refl
-map-itself f itself (x ∷ xs) = rw (itself x, map-itself f itself xs) refl
+-- The same of calls the last of which was refused.
+module _ {P W X U T M F : Type 0} (numbers : P → ℕ × ℕ) (below : M → P → W → Result X AllocError → M → Type 0) (above : F → P → U → Result T AllocError → F → Type 0) (state : M → F) (from : W → U) (to : X → T)
+    (grants : (m : M) (p : P) (w : W) (x : X) (n : M) → below m p w (Ok x) n → above (state m) p (from w) (Ok (to x)) (state n))
+    (refuses : (m : M) (p : P) (w : W) (e : AllocError) (n : M) → below m p w (Err e) n → above (state m) p (from w) (Err e) (state n)) where
+  pub stops-retold : (m : M) (es : List (ℕ × ℕ × W)) → StopsAtRefusal {T = X} numbers below m es → StopsAtRefusal {T = T} numbers above (state m) (map (λ (e : ℕ × ℕ × W). (e.0, e.1, from e.2)) es)
+  stops-retold m es s =
+      let told : ℕ × ℕ × W → ℕ × ℕ × U = λ e. (e.0, e.1, from e.2) in
+      record {
+        before = map told s.before;
+        refused = told s.refused;
+        behind = map told s.behind;
+        split = ap (map told) s.split ∙ map-append told s.before (s.refused ∷ s.behind);
+        items = map to s.items;
+        reached = state s.reached;
+        calls = clones-retold numbers (Grants numbers below) (Grants numbers above) state from to grants s.before m s.reached [] s.items s.calls;
+        pointer = s.pointer;
+        index = s.index;
+        generation = s.generation;
+        refusal = s.refusal;
+        last = state s.last;
+        called = refuses s.reached s.pointer s.refused.2 s.refusal s.last s.called;
+      }
 
+-- the same items, in other states
 module _ {P U T M F : Type 0} (numbers : P → ℕ × ℕ) (below : M → P → U → T → M → Type 0) (above : F → P → U → T → F → Type 0) (state : M → F)
     (like : (m : M) (p : P) (u : U) (x : T) (n : M) → below m p u x n → above (state m) p u x (state n)) where
-  calls-restated : (es : List (ℕ × ℕ × U)) (m n : M) (ys : List T) → FoldsTo {P = M × List T} (CloneStep numbers below) (m, []) es (n, ys) → FoldsTo {P = F × List T} (CloneStep numbers above) (state m, []) es (state n, ys)
-  calls-restated es m n ys calls =
+  pub clones-restated : (es : List (ℕ × ℕ × U)) (m n : M) (ys : List T) → FoldsTo {P = M × List T} (CloneStep numbers below) (m, []) es (n, ys) → FoldsTo {P = F × List T} (CloneStep numbers above) (state m, []) es (state n, ys)
+  clones-restated es m n ys calls =
       let told = clones-retold numbers below above state (λ u. u) (λ x. x) like es m n [] ys calls in
-      rw (map-itself (λ (e : ℕ × ℕ × U). (e.0, e.1, e.2)) (λ e. refl) es, map-itself (λ (x : T). x) (λ x. refl) ys) at told
+      rw (map-id es, map-id ys) at told
 
-  -- the same items, in other states
   pub clone-restated : (m : M) (source : Arena U) (old new : Arena T) → IsClone numbers below m source old new → IsClone numbers above (state m) source old new
   clone-restated m source old new c = record {
     items = c.items;
     last = state c.last;
-    calls = calls-restated (entries_rising source 0) m c.last c.items c.calls;
+    calls = clones-restated (entries_rising source 0) m c.last c.items c.calls;
     after = c.after;
   }
 
@@ -64,40 +84,30 @@ module _ {P U T M F : Type 0} (numbers : P → ℕ × ℕ) (below : M → P → 
   clone-restated_ok (Err e) m source old new c = tt
 
 -- the same of a refusal
-pub refusal-restated : {P U T M F : Type 0} (numbers : P → ℕ × ℕ) (below : M → P → U → Result T AllocError → M → Type 0) (above : F → P → U → Result T AllocError → F → Type 0) (state : M → F)
-    → ((m : M) (p : P) (u : U) (r : Result T AllocError) (n : M) → below m p u r n → above (state m) p u r (state n))
-    → (m : M) (source : Arena U) (old new : Arena T) → IsRefusedClone numbers below m source old new → IsRefusedClone numbers above (state m) source old new
-refusal-restated numbers below above state like m source old new c =
-    let s = c.stops in
-    record {
-      stops = record {
-        before = s.before;
-        refused = s.refused;
-        behind = s.behind;
-        split = s.split;
-        items = s.items;
-        reached = state s.reached;
-        calls = calls-restated numbers (Grants numbers below) (Grants numbers above) state (λ m p u x n called. like m p u (Ok x) n called) s.before m s.reached s.items s.calls;
-        pointer = s.pointer;
-        index = s.index;
-        generation = s.generation;
-        refusal = s.refusal;
-        last = state s.last;
-        called = like s.reached s.pointer s.refused.2 (Err s.refusal) s.last s.called;
-      };
-      after = c.after;
-    }
+module _ {P U T M F : Type 0} (numbers : P → ℕ × ℕ) (below : M → P → U → Result T AllocError → M → Type 0) (above : F → P → U → Result T AllocError → F → Type 0) (state : M → F)
+    (like : (m : M) (p : P) (u : U) (r : Result T AllocError) (n : M) → below m p u r n → above (state m) p u r (state n)) where
+  pub stops-restated : (m : M) (es : List (ℕ × ℕ × U)) → StopsAtRefusal numbers below m es → StopsAtRefusal numbers above (state m) es
+  stops-restated m es s =
+      let told = stops-retold numbers below above state (λ u. u) (λ x. x) (λ m p u x n. like m p u (Ok x) n) (λ m p u e n. like m p u (Err e) n) m es s in
+      rw (map-id es) at told
 
-module _ {P U T F : Type 0} (numbers : P → ℕ × ℕ) (step : F → P → U → T → F → Type 0) (h : U → T) (answers : (f : F) (p : P) (u : U) (x : T) (g : F) → step f p u x g → x ≡ h u) where
-  -- what is made where each answer is `h` of the item that was shown
-  clones-mapped : (es : List (ℕ × ℕ × U)) (f last : F) (items before : List T) → FoldsTo {P = F × List T} (CloneStep numbers step) (f, before) es (last, items) → items ≡ before ++ map (λ (e : ℕ × ℕ × U). h e.2) es
-  clones-mapped [] f last items before calls = sym (ap (λ (s : F × List T). s.1) calls) ∙ sym (append-nil before)
-  clones-mapped (e ∷ es) f last items before calls =
+  pub refusal-restated : (m : M) (source : Arena U) (old new : Arena T) → IsRefusedClone numbers below m source old new → IsRefusedClone numbers above (state m) source old new
+  refusal-restated m source old new c = record { stops = stops-restated m (entries_rising source 0) c.stops; after = c.after }
+
+-- each call keeps something of what it is shown
+module _ {P F W X K : Type 0} (numbers : P → ℕ × ℕ) (step : F → P → W → X → F → Type 0) (see : W → K) (keep : X → K)
+    (keeps : (f : F) (p : P) (u : W) (x : X) (g : F) → step f p u x g → keep x ≡ see u) where
+  pub clones-keep : (es : List (ℕ × ℕ × W)) (f g : F) (xs ys : List X) → FoldsTo {P = F × List X} (CloneStep numbers step) (f, xs) es (g, ys)
+      → map keep ys ≡ map keep xs ++ map (λ (e : ℕ × ℕ × W). see e.2) es
+  clones-keep [] f g xs ys same = ap (λ (s : F × List X). map keep s.1) (sym same) ∙ sym (append-nil (map keep xs))
+  clones-keep (e ∷ es) f g xs ys calls =
       let s = calls.1 in
-      let same : s.item ≡ h e.2 = answers f s.pointer e.2 s.item calls.0.0 s.called in
-      let more = map (λ (e : ℕ × ℕ × U). h e.2) es in
-      clones-mapped es calls.0.0 last items calls.0.1 calls.2
-      ∙ (ap (λ xs. xs ++ more) s.behind ∙ (append_assoc before (s.item ∷ []) more ∙ ap (λ x. before ++ x ∷ more) same))
+      let kept : keep s.item ≡ see e.2 = keeps f s.pointer e.2 s.item calls.0.0 s.called in
+      let rest = map (λ (e : ℕ × ℕ × W). see e.2) es in
+      clones-keep es calls.0.0 g calls.0.1 ys calls.2
+      ∙ (ap (λ zs. map keep zs ++ rest) s.behind
+      ∙ (ap (λ zs. zs ++ rest) (map_push keep xs s.item)
+      ∙ (append_assoc (map keep xs) (keep s.item ∷ []) rest ∙ ap (λ b. map keep xs ++ b ∷ rest) kept)))
 
 with_items-same : {U : Type 0} (i : ℕ) (slots : List (Option (ℕ × U))) → with_items slots (map (λ e. e.2) (entries_from i slots)) ≡ slots
 with_items-same i [] = refl
@@ -108,7 +118,8 @@ with_items-same i (Some e ∷ slots) = ap (λ rest. Some e ∷ rest) (with_items
 pub clone-given_back : {P U F : Type 0} (numbers : P → ℕ × ℕ) (step : F → P → U → U → F → Type 0) → ((f : F) (p : P) (u : U) (x : U) (g : F) → step f p u x g → x ≡ u)
     → (f : F) (source old new : Arena U) → IsClone numbers step f source old new → HoldsSame new (replaced source old source.slots)
 clone-given_back numbers step answers f source old new c =
-    let same = clones-mapped numbers step (λ u. u) answers (entries_rising source 0) f c.last c.items [] c.calls in
+    let kept = clones-keep numbers step (λ u. u) (λ x. x) answers (entries_rising source 0) f c.last [] c.items c.calls in
+    let same = rw (map-id c.items) at kept in
     subst (λ slots. HoldsSame new (replaced source old slots)) (ap (with_items source.slots) same ∙ with_items-same 0 source.slots) c.after
 
 -- slots, made so many that no entry is lost, have the same entries
@@ -137,12 +148,10 @@ clone-finds source old new same = λ p.
 
 module _ {P U T F : Type 0} (numbers : P → ℕ × ℕ) (step : F → P → U → T → F → Type 0) where
   -- an item is made for each entry
-  clones-counted : (es : List (ℕ × ℕ × U)) (f last : F) (items before : List T) → FoldsTo {P = F × List T} (CloneStep numbers step) (f, before) es (last, items) → length items ≡ length before + length es
-  clones-counted [] f last items before calls = sym (ap (λ (s : F × List T). length s.1) calls) ∙ sym (add-zero (length before))
-  clones-counted (e ∷ es) f last items before calls =
-      let s = calls.1 in
-      let ih = clones-counted es calls.0.0 last items calls.0.1 calls.2 in
-      omega (arith, ih, ap length s.behind, length_push before s.item)
+  clones-counted : (es : List (ℕ × ℕ × U)) (f last : F) (items : List T) → FoldsTo {P = F × List T} (CloneStep numbers step) (f, []) es (last, items) → length items ≡ length es
+  clones-counted es f last items calls =
+      let kept = clones-keep {K = ℕ} numbers step (λ u. 0) (λ x. 0) (λ f p u x g called. refl) es f last [] items calls in
+      sym (length-map items (λ x. 0)) ∙ (ap length kept ∙ length-map es (λ e. 0))
 
   -- with as many items as entries, each entry has one
   with_items-generations : (i : ℕ) (slots : List (Option (ℕ × U))) (items : List T) → length items ≡ length (entries_from i slots) → (k : ℕ)
@@ -172,7 +181,7 @@ pub clone-pointers : {P U T F : Type 0} (numbers : P → ℕ × ℕ) (step : F �
 clone-pointers numbers step f source old new c =
     let n = max (arena_capacity old) (greatest_occupied source.slots) + 1 in
     let made = with_items source.slots c.items in
-    let count = clones-counted numbers step (entries_rising source 0) f c.last c.items [] c.calls in
+    let count = clones-counted numbers step (entries_rising source 0) f c.last c.items c.calls in
     let told = with_items-generations numbers step 0 source.slots c.items (omega (arith, count)) in
     λ p.
     let free : (k : ℕ) → n ≤ k → get_or made k None ≡ None =

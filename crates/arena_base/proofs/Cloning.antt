@@ -158,8 +158,10 @@ resized-nil : {X : Type 0} (n : ℕ) → resized {X = X} (n + 1) [] ≡ None ∷
 resized-nil n = rw add-one (let more : suc n - 0 ≡ suc n = omega arith in ap (λ m. replicate m None) more)
 
 -- The slots that a clone leaves in memory, and the arena that they are: vacant ones come behind those that were cloned.
-module _ {P T U G F : Type 0} (numbers : P → ℕ × ℕ) (number : G → ℕ) (step : F → P → U → Result T AllocError → F → Type 0) (most : ℕ) (greatest : Option ℕ) (slots copies next : List (Slot T G)) (generation own : G) (maximum : Option ℕ) (stack listed : List ℕ)
-    (all : listed ≡ reverse (vacant_slots 1 next)) (a : Arena T) (seen : arena_of number slots stack own maximum ≡ a) (source : Arena U) (named : number generation ≡ source.generation) (room : greatest_occupied source.slots ≤ arena_capacity a)
+module _ {P T U G F : Type 0} (numbers : P → ℕ × ℕ) (number : G → ℕ) (step : F → P → U → Result T AllocError → F → Type 0) (most : ℕ)
+    (greatest : Option ℕ) (slots copies next : List (Slot T G)) (generation own : G) (maximum : Option ℕ) (stack listed : List ℕ)
+    (all : listed ≡ reverse (vacant_slots 1 next)) (a : Arena T) (seen : arena_of number slots stack own maximum ≡ a)
+    (source : Arena U) (named : number generation ≡ source.generation) (room : greatest_occupied source.slots ≤ arena_capacity a)
     (within : length copies ≤ length slots) (padded : next ≡ copies ++ replicate (length slots - length copies) Vacant) (f : F) where
   abbrev now : List (Option (ℕ × T))
   now = entries number copies ++ replicate (length slots - length copies) None
@@ -214,7 +216,8 @@ module _ {P T U G F : Type 0} (numbers : P → ℕ × ℕ) (number : G → ℕ) 
   clone-refused (Ok x) stops none = tt
   clone-refused (Err e) stops none = record { stops = stops; after = replaced-view [] (made-none none) }
 
-  lawful-made : (r : Result (Unit {0}) AllocError) → OnOk r (ClonesSlots numbers number (Grants numbers step) f source.slots copies) → OnErr r (copies ≡ []) → ((k : ℕ) (e : ℕ × U) → get_or source.slots k None ≡ Some e → IsLawfulGeneration greatest e.0)
+  lawful-made : (r : Result (Unit {0}) AllocError) → OnOk r (ClonesSlots numbers number (Grants numbers step) f source.slots copies)
+      → OnErr r (copies ≡ []) → ((k : ℕ) (e : ℕ × U) → get_or source.slots k None ≡ Some e → IsLawfulGeneration greatest e.0)
       → (k : ℕ) (e : ℕ × T) → get_or (None ∷ now) k None ≡ Some e → IsLawfulGeneration greatest e.0
   lawful-made (Ok x) p none lawful k e there =
       let made = with_items source.slots p.items in

@@ -98,7 +98,8 @@ module _ {P T G F : Type 0} (numbers : P → ℕ × ℕ) (number : G → ℕ) (s
     pub compressed-free : (x : Slot T G) → x ≡ get_or (set slots from Vacant) to x → x ≡ Vacant
     compressed-free x read =
         let within : to < length (set slots from Vacant) = omega (arith, length-set slots from Vacant, b.within, b.visited, inside) in
-        get_or_read (set slots from Vacant) to x within read Vacant ∙ (ap (λ xs. get_or xs to Vacant) emptied ∙ get_or_at (filled b.items) Vacant (replicate b.gap Vacant ++ drop (from + 1) old) Vacant to (length-map b.items (λ item. Occupied item generation) ∙ b.answers))
+        get_or_read (set slots from Vacant) to x within read Vacant ∙ (ap (λ xs. get_or xs to Vacant) emptied
+        ∙ get_or_at (filled b.items) Vacant (replicate b.gap Vacant ++ drop (from + 1) old) Vacant to (length-map b.items (λ item. Occupied item generation) ∙ b.answers))
 
     pub compressed-filled : (now : Slot T G) (e : G) (old_item new : T) (p q : P) (next : F) → now ≡ get_or slots from now → slot_entry now ≡ Some (e, old_item)
         → (numbers p).0 ≡ from + 1 → (numbers p).1 ≡ number e → (numbers q).0 ≡ to + 1 → (numbers q).1 ≡ number generation → step f p old_item q new next
@@ -120,7 +121,8 @@ module _ {P T G F : Type 0} (numbers : P → ℕ × ℕ) (number : G → ℕ) (s
           calls = λ s c. b.calls s (rw (drop_more old from Vacant inside, head) ((next, b.items ++ new ∷ []), stepped, c));
         }
 
-  pub compressed-ends : (first : F) (old : List (Slot T G)) (f : F) (slots : List (Slot T G)) (from to : ℕ) → CompressedBelow first old f slots from to → length old ≤ from → from ≤ length old → CompressesSlots numbers number step generation first old slots
+  pub compressed-ends : (first : F) (old : List (Slot T G)) (f : F) (slots : List (Slot T G)) (from to : ℕ) → CompressedBelow first old f slots from to
+      → length old ≤ from → from ≤ length old → CompressesSlots numbers number step generation first old slots
   compressed-ends first old f slots from to b past upto =
       let none : drop from old ≡ [] = drop_all from old past in
       let gap : b.gap ≡ length old - length b.items = omega (arith, b.answers, b.visited) in
@@ -229,7 +231,8 @@ module _ {T G : Type 0} (number : G → ℕ) (most : ℕ) (greatest : Option ℕ
   compressed-fresh = subst (λ (a : Arena T). IsFresh a) (sym compressed-view) refl
 
   length-now : length now ≡ length slots
-  length-now = length-append (map (λ item. Some (number generation, item)) items) (replicate (length slots - length items) None) ∙ rw (length-map {B = Option (ℕ × T)} items (λ item. Some (number generation, item)), length-replicate) (omega (arith, fits))
+  length-now = length-append (map (λ item. Some (number generation, item)) items) (replicate (length slots - length items) None)
+      ∙ rw (length-map {B = Option (ℕ × T)} items (λ item. Some (number generation, item)), length-replicate) (omega (arith, fits))
 
   pub compressed-sound : IsSound most greatest (arena_of number slots stack generation maximum) → IsSound most greatest (arena_of number next listed generation maximum)
   compressed-sound sound =
@@ -250,7 +253,8 @@ module _ {T G : Type 0} (number : G → ℕ) (most : ℕ) (greatest : Option ℕ
       lawful (suc k) e at = subst (λ n. IsLawfulGeneration greatest n) (sym (get_or-compressed (number generation) (length slots - length items) items k e at)) sound.generation_lawful
 
 -- the arena of the compressed slots
-pub compressed-after : {P T G F : Type 0} (numbers : P → ℕ × ℕ) (number : G → ℕ) (most : ℕ) (greatest : Option ℕ) (step : F → P → T → P → T → F → Type 0) (slots next : List (Slot T G)) (generation : G) (maximum : Option ℕ) (stack listed : List ℕ)
+pub compressed-after : {P T G F : Type 0} (numbers : P → ℕ × ℕ) (number : G → ℕ) (most : ℕ) (greatest : Option ℕ)
+    (step : F → P → T → P → T → F → Type 0) (slots next : List (Slot T G)) (generation : G) (maximum : Option ℕ) (stack listed : List ℕ)
     → listed ≡ reverse (vacant_slots 1 next) → (f : F) (a : Arena T) (g : ℕ) → None ∷ entries number slots ≡ a.slots → maximum ≡ a.maximum → number generation ≡ g
     → CompressesSlots numbers number step generation f slots next → IsCompression numbers step g f a (arena_of number next listed generation maximum)
 compressed-after {P} {T} {G} {F} numbers number most greatest step slots next generation maximum stack listed all f a g same limit named p =

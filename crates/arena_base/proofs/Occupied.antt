@@ -94,11 +94,6 @@ module _ {X : Type 0} where
   counted_none (None ∷ slots) free = sum_by-cons (λ x. cond (is_some x) 1 0) None slots ∙ (zero-add (count_by is_some slots) ∙ counted_none slots (λ k. free (suc k)))
   counted_none (Some e ∷ slots) free = absurd (none-some e (sym (free 0)))
 
-  -- where there is an entry, one is counted
-  pub counted_some : (slots : List (Option X)) (k : ℕ) (e : X) → get_or slots k None ≡ Some e → 0 < count_by is_some slots
-  counted_some slots k e is =
-      elim (count_by is_some slots) as (λ n. count_by is_some slots ≡ n → 0 < n) [ zero ↦ λ h. absurd (none-some e (sym (none_counted slots k h) ∙ is)) | suc n ↦ λ h. omega arith ] refl
-
 -- the number of an index, or 0
 pub unwrap_or-index_number : (n : ℕ) → unwrap_or (index_number n) 0 ≡ n
 unwrap_or-index_number zero = refl

@@ -73,7 +73,8 @@ module _ {T G : Type 0} (number : G → ℕ) where
       let read : entry_in number (get_or slots k Vacant) ≡ slot a (k + 1) = sym (get_or-map (entry_in number) slots k Vacant None inside) ∙ entry-at number slots generation maximum stack a k (k + 1) seen refl (slot a (k + 1)) refl in
       elim (cases_lt k n) [
         | inl within ↦
-            let same : get_or next k Vacant ≡ get_or slots k Vacant = ap (λ ss. get_or ss k Vacant) cut ∙ get_or-take n padded k Vacant within ∙ ap (λ ss. get_or ss k Vacant) is ∙ get_or_append_left slots (replicate (n - length slots) Vacant) Vacant k inside in
+            let same : get_or next k Vacant ≡ get_or slots k Vacant = ap (λ ss. get_or ss k Vacant) cut ∙ get_or-take n padded k Vacant within
+            ∙ ap (λ ss. get_or ss k Vacant) is ∙ get_or_append_left slots (replicate (n - length slots) Vacant) Vacant k inside in
             let none : None ≡ slot a (k + 1) = ap (entry_in number) (sym vacant ∙ same) ∙ read in
             false≢true (ap is_some none ∙ there)
         | inr beyond ↦

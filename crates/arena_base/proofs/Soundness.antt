@@ -8,15 +8,6 @@ use Rattle.arena_base.specs.Generation.{IsLawfulGeneration, next_generation, fir
 use Rattle.arena_base.specs.Arena.{Arena, IsSound, vacant_from, times, limit_of}
 use Rattle.arena_base.proofs.Vacancies.{times-cons, length-vacant_from, vacant_from-vacant, times-freed, times-filled, vacant_from-written, count_by-written, within_from_some}
 
--- after a lawful generation comes a lawful one
-pub next_generation-lawful : (greatest : Option ℕ) (g : ℕ) → IsLawfulGeneration greatest (first_generation greatest) → IsLawfulGeneration greatest g → IsLawfulGeneration greatest (next_generation greatest g)
-next_generation-lawful None g first h = h
-next_generation-lawful (Some m) g first h =
-    elim (cases_eq g m) [
-      | inl e ↦ subst (λ b. IsLawfulGeneration (Some m) (cond b 2 (g + 1))) (sym (eq-eqb g m e)) first
-      | inr n ↦ subst (λ b. IsLawfulGeneration (Some m) (cond b 2 (g + 1))) (sym (ne_eqb g m n)) (omega (arith, h.0), omega (arith, h.1))
-    ]
-
 -- the limit is an index of an entry
 pub limit_of-below : (most : ℕ) (maximum : Option ℕ) → limit_of most maximum ≤ most
 limit_of-below most None = omega arith
@@ -45,17 +36,6 @@ module _ {T : Type 0} where
 
     lawful : Lawful greatest slots
     lawful k e is = sound.entries_lawful (suc k) e is
-
-    -- another generation
-    pub sound-generation : (next : ℕ) → IsLawfulGeneration greatest next → IsSound most greatest (arena slots vacant next maximum)
-    sound-generation next is = record { begins = refl; within_limit = sound.within_limit; generation_lawful = is; entries_lawful = sound.entries_lawful; vacant_listed = sound.vacant_listed; counted = sound.counted }
-
-    -- another maximum
-    pub sound-maximum : (next : ℕ) → length slots ≤ next → IsSound most greatest (arena slots vacant generation (Some next))
-    sound-maximum next is =
-        let within = within_limit in
-        let below = limit_of-below most maximum in
-        record { begins = refl; within_limit = omega arith; generation_lawful = sound.generation_lawful; entries_lawful = sound.entries_lawful; vacant_listed = sound.vacant_listed; counted = sound.counted }
 
     -- other slots, which are no more than the limit, with their vacant indexes in ascending order
     pub sound-listed : (next : List (Option (ℕ × T))) → length next ≤ limit_of most maximum

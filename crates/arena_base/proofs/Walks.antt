@@ -82,4 +82,5 @@ module _ {T : Type 0} where
       let named = item_of-there a (j, g) x (entries_rising-first a i (j, g, x) (entries_rising a (n + 1)) is) in
       let same : x ≡ item = same_Some x item (sym named ∙ there) in
       is ∙ (ap (λ t. (j, g, t) ∷ entries_rising a (n + 1)) same
-      ∙ ap (λ (rest : List (ℕ × ℕ × T)). (j, g, item) ∷ rest) (ap (λ m. entries_rising a (m + 1)) next ∙ (sym (entries_rising-behind greatest a j) ∙ (ap (λ v. entries_rising v (j + 1)) (sym removed) ∙ ap (λ m. entries_rising b (m + 1)) (sym next)))))
+      ∙ ap (λ (rest : List (ℕ × ℕ × T)). (j, g, item) ∷ rest)
+      (ap (λ m. entries_rising a (m + 1)) next ∙ (sym (entries_rising-behind greatest a j) ∙ (ap (λ v. entries_rising v (j + 1)) (sym removed) ∙ ap (λ m. entries_rising b (m + 1)) (sym next)))))

@@ -59,10 +59,12 @@ impl<P: Ptr, T, A: Allocator> Model for Arena<P, T, A> {
     ghost use Rattle.arena_base.specs.Arena.{IsSound};
     ghost use Rattle.arena_base.specs.Slot.{arena_of};
 
-    ghost view = { λ a. arena_of P.Gen.number a.slots.items (map P.Inx.number a.vacant.items) a.generation a.maximum };
+    ghost view = { λ a. arena_of P.Gen.number a.slots.items
+        (map P.Inx.number a.vacant.items) a.generation a.maximum };
 
     ghost invariant = { λ a. IsSound P.Inx.most P.Gen.greatest
-        (arena_of P.Gen.number a.slots.items (map P.Inx.number a.vacant.items) a.generation a.maximum)
+        (arena_of P.Gen.number a.slots.items
+        (map P.Inx.number a.vacant.items) a.generation a.maximum)
         × (vec_len a.slots ≤ vec_capacity a.vacant) };
 }
 

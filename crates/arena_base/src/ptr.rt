@@ -115,5 +115,6 @@ pub trait Ptr: Copy + Eq + Ord + Hash + Debug {
     ghost one_each: { (p q : Self) → numbers p ≡ numbers q → p ≡ q };
 
     // `==` compares both numbers
-    ghost eq_is: { (p q : Self) → Self.PartialEq.eq p q ≡ (((numbers p).0 == (numbers q).0) && ((numbers p).1 == (numbers q).1)) };
+    ghost eq_is: { (p q : Self) → Self.PartialEq.eq p q
+        ≡ (((numbers p).0 == (numbers q).0) && ((numbers p).1 == (numbers q).1)) };
 }

@@ -17,7 +17,8 @@ pub trait Recaster {
 /// Something with items `I` in it, each of which a recaster can replace.
 pub trait Recast<I> {
     // what the value may be afterwards and what is returned, by what the recaster may do to an item
-    ghost recast_gives: { (I → Result (Unit {0}) I → I → Type 0) → Self → Result (Unit {0}) I → Self → Type 0 };
+    ghost recast_gives: { (I → Result (Unit {0}) I → I → Type 0)
+        → Self → Result (Unit {0}) I → Self → Type 0 };
 
     /// Replaces each item, up to the first that the recaster refuses, which is then the error.
     fn recast<R: Recaster<Item = I>>(&mut self, recaster: &R) -> Result<(), I>

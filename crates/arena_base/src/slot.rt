@@ -57,7 +57,8 @@ impl<T, G> Slot<T, G> {
     // The item of the entry, to be written.
     pub(crate) fn item_mut(&mut self) -> &mut T
         requires { IsSome (slot_entry self.old) }
-        ensures* writes_back { sem 𝓛 (Lends (the_row T.row G.row) T.row self.entry result (with_slot_item self.old)) }
+        ensures* writes_back { sem 𝓛
+            (Lends (the_row T.row G.row) T.row self.entry result (with_slot_item self.old)) }
         ensures value { option_map (λ e. e.1) (slot_entry self.old) ≡ Some result.now }
     {
         match self {

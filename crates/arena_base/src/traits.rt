@@ -30,7 +30,8 @@ pub trait ArenaTrait<P: Ptr, T>: ItemsMut<P, T> {
     fn with_min_capacity(alloc: Self::Alloc, n: usize) -> Result<Self, AllocError>
     where
         Self: Sized,
-        ensures ok { IfOk result (λ a. HoldsSame (content a) (with_capacity (new_arena P.Gen.greatest) n)) }
+        ensures ok { IfOk result
+            (λ a. HoldsSame (content a) (with_capacity (new_arena P.Gen.greatest) n)) }
         ensures beyond { P.Inx.most < n → IsErr result }
         ensures none { n ≡ 0 → IsOk result };
 
@@ -56,10 +57,12 @@ pub trait ArenaTrait<P: Ptr, T>: ItemsMut<P, T> {
     /// Makes the capacity the greater of `n` and the greatest index with an entry. A refusal changes nothing.
     fn reallocate_min_capacity(&mut self, n: usize) -> Result<(), ReallocationError>
         ensures ok { OnOk result (HoldsSame (content self.new)
-            (with_capacity (content self.old) (max n (greatest_occupied (content self.old).slots)))) }
+            (with_capacity (content self.old)
+            (max n (greatest_occupied (content self.old).slots)))) }
         ensures beyond { (result ≡ Err ReallocationError.BeyondMaxCapacity)
             ↔ (arena_limit P.Inx.most (content self.old) < n) }
-        ensures memory { result ≡ Err ReallocationError.AllocError → arena_capacity (content self.old) < n }
+        ensures memory { result ≡ Err ReallocationError.AllocError
+            → arena_capacity (content self.old) < n }
         ensures err { OnErr result (HoldsSame (content self.new) (content self.old)) };
 
     /// Whether the pointer is a key of the map.
@@ -84,29 +87,35 @@ pub trait ArenaTrait<P: Ptr, T>: ItemsMut<P, T> {
 
     /// Generation and item of the entry at the index.
     fn get_inx(&self, i: P::Inx) -> Option<(P::Gen, &T)>
-        ensures { option_map (λ e. (P.Gen.number e.0, e.1.now)) result ≡ slot (content self.now) (P.Inx.number i) };
+        ensures { option_map (λ e. (P.Gen.number e.0, e.1.now)) result
+            ≡ slot (content self.now) (P.Inx.number i) };
 
     /// The pointer of the entry with the least index.
     fn find_first_inx_ptr(&self) -> Option<P>
-        ensures first { IfSome result (λ p. IsFirstEntry (content self.now) (P.numbers p).0 (P.numbers p).1) }
+        ensures first { IfSome result
+            (λ p. IsFirstEntry (content self.now) (P.numbers p).0 (P.numbers p).1) }
         ensures empty { IsNone result ↔ (arena_len (content self.now) ≡ 0) };
 
     /// The pointer of the entry with the greatest index.
     fn find_last_inx_ptr(&self) -> Option<P>
-        ensures last { IfSome result (λ p. IsLastEntry (content self.now) (P.numbers p).0 (P.numbers p).1) }
+        ensures last { IfSome result
+            (λ p. IsLastEntry (content self.now) (P.numbers p).0 (P.numbers p).1) }
         ensures empty { IsNone result ↔ (arena_len (content self.now) ≡ 0) };
 
     /// Gives the entry that the pointer names a new pointer, at the same index and with the raised generation.
     fn invalidate(&mut self, p: P) -> InvalidationResult<P>
-        ensures valid { is_some (valid_value result) ≡ is_some (item_of (content self.old) (P.numbers p)) }
+        ensures valid { is_some (valid_value result)
+            ≡ is_some (item_of (content self.old) (P.numbers p)) }
         ensures index { IfSome (valid_value result) (λ q. (P.numbers q).0 ≡ (P.numbers p).0) }
         ensures generation { IfSome (valid_value result)
             (λ q. (P.numbers q).1 ≡ next_generation P.Gen.greatest (content self.old).generation) }
         ensures overflow { OnSome (valid_value result)
             (has_overflowed result ≡ overflows_after P.Gen.greatest (content self.old).generation) }
         ensures renewed { OnSome (valid_value result)
-            (HoldsSame (content self.new) (renewed P.Gen.greatest (content self.old) (P.numbers p).0)) }
-        ensures invalid { IfNone (valid_value result) (HoldsSame (content self.new) (content self.old)) };
+            (HoldsSame (content self.new)
+            (renewed P.Gen.greatest (content self.old) (P.numbers p).0)) }
+        ensures invalid { IfNone (valid_value result)
+            (HoldsSame (content self.new) (content self.old)) };
 
     /// Takes the entry out that the pointer names, and raises the generation.
     fn remove(&mut self, p: P) -> InvalidationResult<T>
@@ -114,8 +123,10 @@ pub trait ArenaTrait<P: Ptr, T>: ItemsMut<P, T> {
         ensures overflow { OnSome (valid_value result)
             (has_overflowed result ≡ overflows_after P.Gen.greatest (content self.old).generation) }
         ensures removed { OnSome (valid_value result)
-            (HoldsSame (content self.new) (removed P.Gen.greatest (content self.old) (P.numbers p).0)) }
-        ensures invalid { IfNone (valid_value result) (HoldsSame (content self.new) (content self.old)) };
+            (HoldsSame (content self.new)
+            (removed P.Gen.greatest (content self.old) (P.numbers p).0)) }
+        ensures invalid { IfNone (valid_value result)
+            (HoldsSame (content self.new) (content self.old)) };
 
     /// Takes the entry at the index out, with its generation, and raises the arena's.
     fn remove_inx(&mut self, i: P::Inx) -> InvalidationResult<(P::Gen, T)>
@@ -124,15 +135,18 @@ pub trait ArenaTrait<P: Ptr, T>: ItemsMut<P, T> {
         ensures overflow { OnSome (valid_value result)
             (has_overflowed result ≡ overflows_after P.Gen.greatest (content self.old).generation) }
         ensures removed { OnSome (valid_value result)
-            (HoldsSame (content self.new) (removed P.Gen.greatest (content self.old) (P.Inx.number i))) }
-        ensures invalid { IfNone (valid_value result) (HoldsSame (content self.new) (content self.old)) };
+            (HoldsSame (content self.new)
+            (removed P.Gen.greatest (content self.old) (P.Inx.number i))) }
+        ensures invalid { IfNone (valid_value result)
+            (HoldsSame (content self.new) (content self.old)) };
 
     /// Drops all entries, and raises the generation once.
     fn clear(&mut self) -> InvalidationOption<()>
     where
         T: Drop,
         ensures after { HoldsSame (content self.new) (cleared P.Gen.greatest (content self.old)) }
-        ensures overflow { is_overflow result ≡ overflows_after P.Gen.greatest (content self.old).generation };
+        ensures overflow { is_overflow result
+            ≡ overflows_after P.Gen.greatest (content self.old).generation };
 
     /// Moves all entries to the indexes from 1 on, in the order of their indexes, and gives them all one generation, which
     /// becomes the arena's: the first where `reset` is true, else the next one. For each entry, by rising index, `f` is called
@@ -173,7 +187,8 @@ pub trait SetMaxCapacity<P: Ptr, T>: ArenaTrait<P, T> {
     /// Sets a maximum of the capacity. It is refused, and nothing changes, where the capacity is already greater.
     fn set_max_capacity(&mut self, n: usize) -> Result<(), MaxCapacityReductionError>
         ensures ok { OnOk result
-            (HoldsSame (Self.content self.new) (record (Self.content self.old) { maximum = Some n })) }
+            (HoldsSame (Self.content self.new)
+            (record (Self.content self.old) { maximum = Some n })) }
         ensures refused { IsErr result ↔ (n < arena_capacity (Self.content self.old)) }
         ensures err { OnErr result (HoldsSame (Self.content self.new) (Self.content self.old)) };
 }
@@ -197,10 +212,13 @@ pub trait ArenaCloneFromWith<P: Ptr, T>: ArenaTrait<P, T> {
         requires { F.IsAlwaysCallable map }
         ensures ok { OnOk result (IsClone P.numbers (IsShown F.step) map
             (S.content source.now) (Self.content self.old) (Self.content self.new)) }
-        ensures pointers { OnOk result (HasSamePointers (Self.content self.new) (S.content source.now)) }
+        ensures pointers { OnOk result
+            (HasSamePointers (Self.content self.new) (S.content source.now)) }
         ensures beyond { (result ≡ Err ReallocationError.BeyondMaxCapacity)
-            ↔ (arena_limit P.Inx.most (Self.content self.old) < greatest_occupied (S.content source.now).slots) }
+            ↔ (arena_limit P.Inx.most (Self.content self.old)
+            < greatest_occupied (S.content source.now).slots) }
         ensures memory { result ≡ Err ReallocationError.AllocError
-            → arena_capacity (Self.content self.old) < greatest_occupied (S.content source.now).slots }
+            → arena_capacity (Self.content self.old)
+            < greatest_occupied (S.content source.now).slots }
         ensures err { OnErr result (HoldsSame (Self.content self.new) (Self.content self.old)) };
 }

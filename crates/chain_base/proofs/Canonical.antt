@@ -73,7 +73,8 @@ module _ {T : Type 0} where
       → ((f : F) (p : P) (x : T) (q : P) (y : T) (h : F) → step f p x q y h → y ≡ x)
       → (f : F) (old new : Chain T) → IsSound most greatest old → IsCompression numbers step g f old new → new ≡ relocated old g
   compression-relocates {P} {F} numbers step g most greatest back f old new sound c =
-      c.after ∙ ap (λ es. record { entries = es; capacity = old.capacity; vacant = vacant_indexes es old.capacity; generation = g; maximum = old.maximum }) (map-alike (moved old.entries g c.items) (at_compressed_index old.entries g) old.entries [] old.entries refl same)
+      c.after ∙ ap (λ es. record { entries = es; capacity = old.capacity; vacant = vacant_indexes es old.capacity; generation = g; maximum = old.maximum })
+      (map-alike (moved old.entries g c.items) (at_compressed_index old.entries g) old.entries [] old.entries refl same)
     where
       items : c.items ≡ map (λ (e : ℕ × ℕ × T). e.2) (entries_rising old)
       items = sym (map-id c.items) ∙ calls-keep numbers step g (λ (x : T). x) back (entries_rising old) f c.last [] c.items c.calls
@@ -281,14 +282,17 @@ module _ {T : Type 0} where
         let tail : List (Entry T) = map (in_exchange met.entry.index j) met.behind in
         let there : map (in_exchange met.entry.index j) now.entries ≡ numbered g 1 b.done ++ record { index = 1 + length b.done; generation = g; item = met.entry.item } ∷ tail =
         ap (map (in_exchange met.entry.index j)) whole ∙ (map-append (in_exchange met.entry.index j) (numbered g 1 b.done) (met.entry ∷ met.behind) ∙ rw (front, moved_entry) refl) in
-        let distinct : IsDistinct next.entries = rw entries (distinct-renumbered (in_exchange met.entry.index j) (exchanged_index met.entry.index j) (λ e. refl) now.entries b.distinct (λ x y there_x there_y same. other-injective met.entry.index j x y same)) in
+        let distinct : IsDistinct next.entries = rw entries (distinct-renumbered (in_exchange met.entry.index j) (exchanged_index met.entry.index j)
+        (λ e. refl) now.entries b.distinct (λ x y there_x there_y same. other-injective met.entry.index j x y same)) in
         let spot : 1 + length b.done ≡ j = let far = b.so_far in omega arith in
         record {
           done = b.done ++ met.entry.item ∷ [];
           rest = tail;
           so_far = length-append b.done (met.entry.item ∷ []) ∙ (let far = b.so_far in omega arith);
-          split = entries ∙ (there ∙ (sym (append_assoc (numbered g 1 b.done) (record { index = 1 + length b.done; generation = g; item = met.entry.item } ∷ []) tail) ∙ ap (λ fs. fs ++ tail) (sym (numbered-push g 1 b.done met.entry.item))));
-          left = b.left ∙ (ap (λ fs. b.done ++ map (λ e. e.item) fs) met.here ∙ (ap (λ xs. b.done ++ met.entry.item ∷ xs) (sym (exchanged-items met.behind met.entry.index j)) ∙ sym (append_assoc b.done (met.entry.item ∷ []) (map (λ e. e.item) tail))));
+          split = entries ∙ (there ∙ (sym (append_assoc (numbered g 1 b.done) (record { index = 1 + length b.done; generation = g; item = met.entry.item } ∷ []) tail)
+              ∙ ap (λ fs. fs ++ tail) (sym (numbered-push g 1 b.done met.entry.item))));
+          left = b.left ∙ (ap (λ fs. b.done ++ map (λ e. e.item) fs) met.here
+              ∙ (ap (λ xs. b.done ++ met.entry.item ∷ xs) (sym (exchanged-items met.behind met.entry.index j)) ∙ sym (append_assoc b.done (met.entry.item ∷ []) (map (λ e. e.item) tail))));
           number = b.number;
           distinct = distinct;
           dense = rw entries (exchanged-dense now.entries b.distinct n met.entry.index j met-occurs next-occurs b.dense);

@@ -4,6 +4,7 @@ use Rattle.std.proofs.lemmas.Grind.{common_steps}
 use Rattle.std.proofs.lemmas.Bool.Decides.{eqb_tells}
 use Rattle.std.proofs.lemmas.Option.{none-some, slice_get-map}
 use Rattle.std.specs.Option.{option_map}
+use Rattle.arena_base.proofs.CallerLemmas.{clones-keep}
 use Rattle.std.specs.declared.alloc.AllocError.{AllocError}
 use Rattle.chain_base.specs.Link.{Link}
 use Rattle.chain_base.specs.Chain.{Entry, Chain, IsDistinct, IsSound, times, entry_at, link_at}
@@ -13,7 +14,7 @@ use Rattle.chain_base.specs.Clone.{links_among, links_rising, taken_over, IsClon
 use Rattle.chain_base.proofs.Lists.{times-here, entry_at-link, entry_at-absent}
 use Rattle.chain_base.proofs.Ranking.{lesser-zero, lesser-next}
 use Rattle.chain_base.proofs.Canonical.{entry-absent, rising-at}
-use Rattle.chain_base.proofs.Cloning.{alike-pointers, clones-keep}
+use Rattle.chain_base.proofs.Cloning.{alike-pointers}
 
 -- the links by rising index are the entries by rising index
 links-entries : {U K : Type 0} (see : U → K) (es : List (Entry U)) (from count : ℕ)

@@ -1,5 +1,6 @@
 -- A clone of a chain: its slots hold the source's links with other items, so it is the source's list with these items.
-use Rattle.std.proofs.Common.{OnOk, Ok, ◌≡◌, ℕ, zero, suc, ◌+◌, ◌-◌, ◌<◌, ◌≤◌, max, List, [], ◌∷◌, ◌++◌, length, map, take, get_or, slice_get, Option, Some, None, Result, Err, MatchResult, is_some, count_by, refl, sym, ap, ◌∙◌, subst, arith, inl, inr, ◌⊎◌, ◌==◌, true, false}
+use Rattle.std.proofs.Common.{OnOk, Ok, ◌≡◌, ℕ, zero, suc, ◌+◌, ◌-◌, ◌<◌, ◌≤◌, max, List, [], ◌∷◌, ◌++◌, length, map, take, get_or, slice_get}
+use Rattle.std.proofs.Common.{Option, Some, None, Result, Err, MatchResult, is_some, count_by, refl, sym, ap, ◌∙◌, subst, arith, inl, inr, ◌⊎◌, ◌==◌, true, false}
 use Rattle.std.proofs.lemmas.Grind.{common_steps}
 use Rattle.std.proofs.lemmas.Bool.{false≢true}
 use Rattle.std.proofs.lemmas.Bool.Decides.{eqb_tells}
@@ -13,7 +14,7 @@ use Rattle.arena_base.specs.declared.error.ReallocationError.{ReallocationError}
 use Rattle.arena_base.specs.declared.error.ReallocationError.TheVariants.{BeyondMaxCapacity, AllocError as NoMemory}
 use Rattle.arena_base.specs.Walk.{entries_from, entries_rising}
 use Rattle.arena_base.specs.Clone.{CloneStep, Grants, with_items, IsClone as IsArenaClone, StopsAtRefusal, replaced}
-use Rattle.arena_base.proofs.CallerLemmas.{clones-retold}
+use Rattle.arena_base.proofs.CallerLemmas.{clones-retold, clones-restated, clones-keep, stops-retold, stops-restated}
 use Rattle.chain_base.specs.Link.{Link}
 use Rattle.chain_base.specs.Chain.{Entry, Chain, times, first_or, last_or, link_at, link_between, greatest_index, vacant_indexes, IsSound}
 use Rattle.chain_base.specs.Compression.{lesser, entry_before}
@@ -163,21 +164,6 @@ module _ {U : Type 0} where
       let count : suc (length slots) - 1 ≡ length slots = omega arith in
       links-slots es 1 slots (λ k within. links (suc k) ∙ (let at : suc k ≡ 1 + k = omega arith in ap (link_at es) at)) ∙ ap (links_among es 1) (sym count)
 
--- each call keeps something of what it is shown
-module _ {P F W X K : Type 0} (numbers : P → ℕ × ℕ) (step : F → P → W → X → F → Type 0) (see : W → K) (keep : X → K)
-    (keeps : (f : F) (p : P) (u : W) (x : X) (g : F) → step f p u x g → keep x ≡ see u) where
-  pub clones-keep : (es : List (ℕ × ℕ × W)) (f g : F) (xs ys : List X) → FoldsTo {P = F × List X} (CloneStep numbers step) (f, xs) es (g, ys)
-      → map keep ys ≡ map keep xs ++ map (λ (e : ℕ × ℕ × W). see e.2) es
-  clones-keep [] f g xs ys same = ap (λ (s : F × List X). map keep s.1) (sym same) ∙ sym (append-nil (map keep xs))
-  clones-keep (e ∷ es) f g xs ys calls =
-      let s = calls.1 in
-      let kept : keep s.item ≡ see e.2 = keeps f s.pointer e.2 s.item calls.0.0 s.called in
-      let rest = map (λ (e : ℕ × ℕ × W). see e.2) es in
-      clones-keep es calls.0.0 g calls.0.1 ys calls.2
-      ∙ (ap (λ zs. map keep zs ++ rest) s.behind
-      ∙ (ap (λ zs. zs ++ rest) (map_push keep xs s.item)
-      ∙ (append_assoc (map keep xs) (keep s.item ∷ []) rest ∙ ap (λ b. map keep xs ++ b ∷ rest) kept)))
-
 -- slots that are vacant one and all
 resized-laid : {T : Type 0} (n : ℕ) → IsLaidOut {T = T} (resized n []) None None []
 resized-laid zero = IsLaidOut-cleared (0 - 0)
@@ -197,21 +183,9 @@ module _ {P T U M N : Type 0} (numbers : P → ℕ × ℕ) (step : M → P → L
 
   -- the same of a refusal
   stops-told : (m : N) (es : List (ℕ × ℕ × Link U)) → StopsAtRefusal {T = Link T} numbers (link_step step inner) m es → StopsAtRefusal numbers step (inner m) es
-  stops-told m es s = record {
-    before = s.before;
-    refused = s.refused;
-    behind = s.behind;
-    split = s.split;
-    items = map (λ l. l.item) s.items;
-    reached = inner s.reached;
-    calls = items-told s.before m s.reached s.items s.calls;
-    pointer = s.pointer;
-    index = s.index;
-    generation = s.generation;
-    refusal = s.refusal;
-    last = inner s.last;
-    called = s.called;
-  }
+  stops-told m es s =
+      let told = stops-retold numbers (link_step step inner) step inner (λ u. u) (λ l. l.item) (λ m p u x n made. made.called) (λ m p u e n called. called) m es s in
+      rw (map-id es) at told
 
   module _ (most : ℕ) (greatest : Option ℕ) (a0 : Arena (Link U)) (first last : Option ℕ) (laid : IsLaidOut a0.slots first last (chain_of a0 first).entries)
       (sound : IsSound most greatest (chain_of a0 first)) (a b : Arena (Link T)) (m : N) where
@@ -293,7 +267,8 @@ module _ {P T U M N : Type 0} (numbers : P → ℕ × ℕ) (step : M → P → L
       pub clone-chain : (first1 : Option ℕ) → IsFresh b → IsClone numbers (Grants numbers step) (inner m) (chain_of a0 first) (chain_of a first1) (chain_of b first)
       clone-chain first1 fresh =
           let top = greatest-links a0.slots es laid.links in
-          let capacity : arena_capacity b ≡ max (arena_capacity a) (greatest_index es) = ap (λ n. n - 1) (ap length c.after.slots ∙ length-resized (size + 1) (with_items a0.slots c.items)) ∙ (let less : size + 1 - 1 ≡ size = omega arith in less ∙ ap (max (arena_capacity a)) top) in
+          let capacity : arena_capacity b ≡ max (arena_capacity a) (greatest_index es) = ap (λ n. n - 1) (ap length c.after.slots ∙ length-resized (size + 1) (with_items a0.slots c.items))
+          ∙ (let less : size + 1 - 1 ≡ size = omega arith in less ∙ ap (max (arena_capacity a)) top) in
           let vacant = fresh ∙ vacant-links b.slots list lies.links in
           record {
             items = map (λ l. l.item) c.items;
@@ -339,40 +314,23 @@ module _ {T U : Type 0} (a0 : Arena (Link U)) (a b : Arena (Link T)) (first last
   counts-none empty = elim (eqb_tells (arena_len b) 0) [ inl h ↦ h.1 | inr h ↦ absurd (false≢true (sym h.0 ∙ empty)) ]
 
   pub empty-laid : (arena_len b == 0) ≡ true → IsLaidOut b.slots None None (chain_of b None).entries
-  empty-laid empty = elim left [
-    | inl kept ↦
-        let ends = no-ends (sym (ap (λ (x : Arena (Link T)). arena_len x) kept) ∙ counts-none empty) in
-        let begins : IsLaidOut a.slots None last (chain_of a None).entries = subst (λ (f : Option ℕ). IsLaidOut a.slots f last (chain_of a f).entries) ends.0 laid in
-        rw kept (subst (λ (l : Option ℕ). IsLaidOut a.slots None l (chain_of a None).entries) ends.1 begins)
-    | inr gone ↦ rw gone (IsLaidOut-walked (replaced a0 a []) None None [] (resized-laid (max (arena_capacity a) (greatest_occupied a0.slots) + 1)))
-  ]
+  empty-laid empty = grind (arith, common_steps, IsLaidOut-walked, counts-none, left, no-ends, resized-laid)
 
   pub unrefused : (arena_len b == 0) ≡ false → b ≡ replaced a0 a [] → ⊥
-  unrefused some gone =
-      let none : arena_len b ≡ 0 = rw gone (resized-laid {T = T} (max (arena_capacity a) (greatest_occupied a0.slots) + 1)).counted in
-      let bad : (arena_len b == 0) ≡ true = rw none refl in
-      false≢true (sym some ∙ bad)
+  unrefused some gone = grind (arith, common_steps, false≢true, resized-laid)
 
   pub filled-laid : (arena_len b == 0) ≡ false → IsLaidOut b.slots first last (chain_of b first).entries
   filled-laid some = elim left [ inl kept ↦ rw kept laid | inr gone ↦ absurd (unrefused some gone) ]
 
   pub kept-chain : b ≡ a → (arena_len b == 0) ≡ true → chain_of b None ≡ chain_of a first
-  kept-chain kept empty =
-      let ends = no-ends (sym (ap (λ (x : Arena (Link T)). arena_len x) kept) ∙ counts-none empty) in
-      rw (kept, ends.0) refl
+  kept-chain kept empty = grind (arith, common_steps, counts-none, no-ends)
 
 -- A clone in states of one kind is one in those of another.
 module _ {P T U M F : Type 0} (numbers : P → ℕ × ℕ) (below : M → P → Link U → T → M → Type 0) (above : F → P → Link U → T → F → Type 0) (state : M → F)
     (like : (m : M) (p : P) (u : Link U) (x : T) (n : M) → below m p u x n → above (state m) p u x (state n)) where
-  calls-restated : (es : List (ℕ × ℕ × Link U)) (m n : M) (ys : List T) → FoldsTo {P = M × List T} (CloneStep numbers below) (m, []) es (n, ys)
-      → FoldsTo {P = F × List T} (CloneStep numbers above) (state m, []) es (state n, ys)
-  calls-restated es m n ys calls =
-      let told = clones-retold numbers below above state (λ u. u) (λ x. x) like es m n [] ys calls in
-      rw (map-id es, map-id ys) at told
-
   pub clone-restated : {E : Type 0} (r : Result (Unit {0}) E) (m : M) (source : Chain U) (old new : Chain T) → OnOk r (IsClone numbers below m source old new) → OnOk r (IsClone numbers above (state m) source old new)
   clone-restated (Ok x) m source old new c =
-      record { items = c.items; last = state c.last; calls = calls-restated (links_rising source) m c.last c.items c.calls; entries = c.entries; after = c.after }
+      record { items = c.items; last = state c.last; calls = clones-restated numbers below above state like (links_rising source) m c.last c.items c.calls; entries = c.entries; after = c.after }
   clone-restated (Err e) m source old new c = tt
 
 -- the same of a refusal
@@ -380,22 +338,4 @@ pub refusal-restated : {P T U M F : Type 0} (numbers : P → ℕ × ℕ) (below 
     → ((m : M) (p : P) (u : Link U) (r : Result T AllocError) (n : M) → below m p u r n → above (state m) p u r (state n))
     → (m : M) (source : Chain U) (old new : Chain T) → IsRefusedClone numbers below m source old new → IsRefusedClone numbers above (state m) source old new
 refusal-restated numbers below above state like m source old new c =
-    let s = c.stops in
-    record {
-      stops = record {
-        before = s.before;
-        refused = s.refused;
-        behind = s.behind;
-        split = s.split;
-        items = s.items;
-        reached = state s.reached;
-        calls = calls-restated numbers (Grants numbers below) (Grants numbers above) state (λ m p u x n called. like m p u (Ok x) n called) s.before m s.reached s.items s.calls;
-        pointer = s.pointer;
-        index = s.index;
-        generation = s.generation;
-        refusal = s.refusal;
-        last = state s.last;
-        called = like s.reached s.pointer s.refused.2 (Err s.refusal) s.last s.called;
-      };
-      after = c.after;
-    }
+    record { stops = stops-restated numbers below above state like m (links_rising source) c.stops; after = c.after }

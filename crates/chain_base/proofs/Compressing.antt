@@ -1,5 +1,6 @@
 -- A chain is compressed: its entries learn their places, the arena is compressed, and the places are linked back.
-use Rattle.std.proofs.Common.{◌≡◌, ◌≢◌, ℕ, zero, suc, ◌+◌, ◌-◌, ◌<◌, ◌≤◌, true, false, List, [], ◌∷◌, ◌++◌, length, map, take, slice_get, Option, Some, None, is_some, count_by, cond, get_or, refl, sym, ap, ◌∙◌, subst, arith, inl, inr, add-one}
+use Rattle.std.proofs.Common.{◌≡◌, ◌≢◌, ℕ, zero, suc, ◌+◌, ◌-◌, ◌<◌, ◌≤◌, true, false, List, [], ◌∷◌, ◌++◌, length, map}
+use Rattle.std.proofs.Common.{take, slice_get, Option, Some, None, is_some, count_by, cond, get_or, refl, sym, ap, ◌∙◌, subst, arith, inl, inr, add-one}
 use Rattle.std.proofs.lemmas.Grind.{common_steps}
 use Rattle.std.proofs.lemmas.Bool.{false≢true}
 use Rattle.std.proofs.lemmas.Bool.Decides.{eqb_tells}
@@ -19,7 +20,8 @@ use Rattle.chain_base.proofs.Lists.{times-last, link_between-absent, entry_at-li
 use Rattle.chain_base.proofs.LaidOut.{walk-laid_out}
 use Rattle.chain_base.proofs.Vacancy.{vacant-links}
 use Rattle.chain_base.proofs.Renumbering.{link_at-split, prev_at, next_at, linked-occurs, named-occurs, next-of_prev, prev-of_next, first-unnamed, last-unnamed, unnamed-last, last_or-nothing, times-changed, IsLaidOut-renumbered}
-use Rattle.chain_base.proofs.Ranking.{place-injective, place-slots, length-entries, entry-placed, placed-entry, compressed-at, compressed-first, compressed-place, compressed-count, compressed-length, with_era, count-alike, counts-alike, vacant-alike, rising-slots}
+use Rattle.chain_base.proofs.Ranking.{place-injective, place-slots, length-entries, entry-placed, placed-entry, compressed-at, compressed-first}
+use Rattle.chain_base.proofs.Ranking.{compressed-place, compressed-count, compressed-length, with_era, count-alike, counts-alike, vacant-alike, rising-slots}
 
 pub renamed : (f : ℕ → ℕ) (o : Option ℕ) (k : ℕ) → option_map f o ≡ Some k → (y : ℕ) × (o ≡ Some y) × (f y ≡ k)
 renamed f None k is = absurd (none-some k is)
@@ -112,7 +114,8 @@ module _ {T : Type 0} where
                 ap (option_map (λ e. (e.0, e.1.item))) gone ∙ sym (entry_at-link None None es x ∙ ap (option_map (λ e. (e.0, e.1.item))) (link_between-absent None None es x h.1))
             | inr h ↦
                 let s = Stands-occurs es x (omega (arith, h.1)) in
-                let now : slot a1 x ≡ Some (s.entry.generation, record { item = s.entry.item; prev = last_or None s.front; next = option_map place (first_or None s.back) }) = ap (slot a1) (sym s.here) ∙ after1 s.front s.entry s.back s.split in
+                let now : slot a1 x ≡ Some (s.entry.generation, record { item = s.entry.item; prev = last_or None s.front; next = option_map place (first_or None s.back) }) =
+                ap (slot a1) (sym s.here) ∙ after1 s.front s.entry s.back s.split in
                 let is = link_at-split es s.front s.entry s.back s.split laid.distinct x s.here in
                 ap (option_map (λ e. (e.0, e.1.item))) now ∙ sym (entry_at-link None None es x ∙ ap (option_map (λ e. (e.0, e.1.item))) is)
           ]

@@ -8,7 +8,8 @@ use Rattle.arena_base.specs.Arena.{Arena, slot, with_slot, with_entry_at, arena_
 use Rattle.chain_base.specs.Link.{Link}
 use Rattle.chain_base.specs.Chain.{Entry, times, first_or, last_or, link_at, with_item_among, with_generation}
 use Rattle.chain_base.specs.Layout.{walk, names, with_next, with_prev, linked_next, linked_prev, relinked, IsLaidOut}
-use Rattle.chain_base.proofs.Lists.{names_tells, same_index, times-append, times-inserted, times-here, times-there, times-last, times-first, first_or-append, last_or-append, link_between-append, link_between-absent, times-unlinked, seam-relinked, IsRow-links, walk-row, changed_at, changed_link, with_item_among-changed_at, with_generation-changed_at, link_between-changed_at, times-changed_at, first_or-changed_at, last_or-changed_at, length-changed_at}
+use Rattle.chain_base.proofs.Lists.{names_tells, same_index, times-append, times-inserted, times-here, times-there, times-last, times-first, first_or-append, last_or-append, link_between-append, link_between-absent}
+use Rattle.chain_base.proofs.Lists.{times-unlinked, seam-relinked, IsRow-links, walk-row, changed_at, changed_link, with_item_among-changed_at, with_generation-changed_at, link_between-changed_at, times-changed_at, first_or-changed_at, last_or-changed_at, length-changed_at}
 
 -- an end of the list where an entry comes or goes: the old one where an entry stands on that side, else the new one
 abbrev pub end_beside : Option ℕ → Option ℕ → Option ℕ → Option ℕ

@@ -191,14 +191,7 @@ module _ {T : Type 0} where
       → ((i : ℕ) → 1 ≤ times i es → at i ≡ link_between before None es i) → IsRow at before es
   IsRow-links at before [] once holds = tt
   IsRow-links at before (e ∷ es) once holds =
-      let found = holds e.index (omega (arith, times-here e.index e es refl)) in
-      let first = rw (same_index e.index) at found in
-      let other : (i : ℕ) → 1 ≤ times i es → e.index ≢ i = λ i there same. omega (arith, times-here i e es same, once i) in (
-        first,
-        IsRow-links at (Some e.index) es
-            (λ i. omega (arith, once i))
-            (λ i there. let step = holds i (omega arith) in rw (other_index e.index i (other i there)) at step),
-      )
+      grind (arith, common_steps, IsRow-links at (Some e.index) es, other_index, same_index, times-here)
 
   pub walk-row : (at : ℕ → Option (ℕ × Link T)) (before : Option ℕ) (es : List (Entry T)) (n : ℕ) → length es ≤ n → IsRow at before es → walk at n (first_or None es) ≡ es
   walk-row at before [] zero fits row = refl

@@ -1,5 +1,6 @@
 -- How far the entries have learnt the places of their neighbours.
-use Rattle.std.proofs.Common.{◌≡◌, ◌≢◌, ℕ, zero, suc, ◌+◌, ◌<◌, ◌≤◌, ◌==◌, true, false, List, [], ◌∷◌, length, Option, Some, None, IsSome, IfSome, ◌↔◌, is_some, count_by, take, get_or, refl, sym, ap, ◌∙◌, arith, if◌then◌else◌, inl, inr, length-set}
+use Rattle.std.proofs.Common.{◌≡◌, ◌≢◌, ℕ, zero, suc, ◌+◌, ◌<◌, ◌≤◌, ◌==◌, true, false, List, [], ◌∷◌, length, Option, Some}
+use Rattle.std.proofs.Common.{None, IsSome, IfSome, ◌↔◌, is_some, count_by, take, get_or, refl, sym, ap, ◌∙◌, arith, if◌then◌else◌, inl, inr, length-set}
 use Rattle.std.proofs.lemmas.Grind.{common_steps}
 use Rattle.std.proofs.lemmas.Bool.Decides.{eqb_tells}
 use Rattle.std.proofs.lemmas.Bool.{false≢true}
@@ -131,7 +132,8 @@ module _ {T : Type 0} where
                 let first : named side old c ≡ Some j = rw (← same) names in
                 let target : k ≡ j = same_Some k j (sym here ∙ first) in
                 let fresh : slot now k ≡ slot old k = b.unmet k (λ i less is'. let clash : i ≡ c = paired.once i c k is' here in absurd (omega arith)) in
-                rw (same, ← target) (at k ∙ (if-same k (option_map (with_facing side (Some (count + 1))) (slot now k)) (slot now k) ∙ (ap (option_map (with_facing side (Some (count + 1)))) fresh ∙ ap (λ o. option_map (with_facing side o) (slot old k)) place))))
+                rw (same, ← target) (at k ∙ (if-same k (option_map (with_facing side (Some (count + 1))) (slot now k)) (slot now k)
+                ∙ (ap (option_map (with_facing side (Some (count + 1)))) fresh ∙ ap (λ o. option_map (with_facing side o) (slot old k)) place))))
                 (λ less.
                 let apart : k ≢ j = λ target. let clash : i ≡ c = paired.once i c j names (here ∙ ap Some target) in absurd (omega arith) in
                 at j ∙ (if-other k j apart _ _ ∙ b.met i j less names));

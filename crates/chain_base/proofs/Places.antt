@@ -11,18 +11,12 @@ use Rattle.chain_base.proofs.Lists.{link_between-append, link_between-absent, la
 module _ {T : Type 0} where
   -- an index that has a link occurs in the list
   occurs-linked : (es : List (Entry T)) (i : ℕ) (l : Link T) → option_map (λ e. e.1) (link_at es i) ≡ Some l → 1 ≤ times i es
-  occurs-linked es i l linked =
-      elim (eqb_tells (times i es) 0) [
-        | inl h ↦ absurd (let none = link_between-absent None None es i h.1 in let bad = rw none at linked in cc)
-        | inr h ↦ omega arith
-      ]
+  occurs-linked es i l linked = grind (arith, common_steps, eqb_tells, link_between-absent)
 
   -- the link of an entry names the neighbours
   link_at-split : (front : List (Entry T)) (e : Entry T) (back : List (Entry T)) (l : Link T) → times e.index front ≡ 0
       → option_map (λ e. e.1) (link_at (front ++ e ∷ back) e.index) ≡ Some l → (l.prev ≡ last_or None front) × (l.next ≡ first_or None back)
-  link_at-split front e back l unmet linked =
-      let found = rw (link_between-append None None front (e ∷ back) e.index, link_between-absent None (Some e.index) front e.index unmet, same_index e.index) at linked in
-      (cc, cc)
+  link_at-split front e back l unmet linked = grind (arith, common_steps, link_between-absent, link_between-append, same_index)
 
   -- the neighbours of the entry at an index, where the list is split there
   link_at-ends : (es : List (Entry T)) (i : ℕ) (l : Link T) → option_map (λ e. e.1) (link_at es i) ≡ Some l → (s : Stands es i)

@@ -70,9 +70,7 @@ module _ {X : Type 0} where
       let more = placed-entry (from + 1) slots k t is in
       let count : count_by is_some (None ∷ take more.0 slots) ≡ count_by is_some (take more.0 slots) = sum_by-cons (λ o. cond (is_some o) 1 0) None (take more.0 slots) ∙ zero-add (count_by is_some (take more.0 slots)) in
       (suc more.0, let at = more.1 in omega arith, more.2, count ∙ more.3)
-  placed-entry from (Some e ∷ slots) zero t is =
-      let same : ◌≡◌ {A = ℕ × ℕ × X} (from, e.0, e.1) t = same_Some (from, e.0, e.1) t is in
-      (zero, let at : from ≡ t.0 = ap (λ (u : ℕ × ℕ × X). u.0) same in omega arith, ap (λ (u : ℕ × ℕ × X). Some (u.1, u.2)) same, refl)
+  placed-entry from (Some e ∷ slots) zero t is = grind (arith, common_steps, same_Some)
   placed-entry from (Some e ∷ slots) (suc k) t is =
       let more = placed-entry (from + 1) slots k t is in
       let count : count_by is_some (Some e ∷ take more.0 slots) ≡ suc (count_by is_some (take more.0 slots)) = sum_by-cons (λ o. cond (is_some o) 1 0) (Some e) (take more.0 slots) ∙ omega arith in

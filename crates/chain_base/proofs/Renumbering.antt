@@ -117,7 +117,8 @@ module _ {T : Type 0} where
 
       -- Slots that hold each changed entry with its neighbours renumbered, and nothing else, hold the changed list.
       pub IsLaidOut-renumbered : (slots : List (Option (ℕ × Link T))) (first last : Option ℕ)
-          → ((xs : List (Entry T)) (e : Entry T) (ys : List (Entry T)) → es ≡ xs ++ e ∷ ys → get_or slots (renumber e.index) None ≡ Some ((change e).generation, record { item = (change e).item; prev = option_map renumber (last_or None xs); next = option_map renumber (first_or None ys) }))
+          → ((xs : List (Entry T)) (e : Entry T) (ys : List (Entry T)) → es ≡ xs ++ e ∷ ys → get_or slots (renumber e.index) None ≡ Some
+          ((change e).generation, record { item = (change e).item; prev = option_map renumber (last_or None xs); next = option_map renumber (first_or None ys) }))
           → ((k : ℕ) → times k (map change es) ≡ 0 → get_or slots k None ≡ None)
           → first ≡ option_map renumber (first_or None es) → last ≡ option_map renumber (last_or None es) → count_by is_some slots ≡ length es
           → IsLaidOut slots first last (map change es)

@@ -4,7 +4,8 @@ use Rattle.std.proofs.lemmas.Grind.{common_steps}
 use Rattle.std.proofs.lemmas.List.{length-replicate}
 use Rattle.std.specs.Option.{option_map}
 use Rattle.arena_base.specs.Generation.{next_generation}
-use Rattle.arena_base.specs.Arena.{Arena, slot, with_entry_at, arena_capacity, with_capacity as arena_with_capacity, removed as arena_removed, renewed as arena_renewed, cleared as arena_cleared, resized, vacant_from, vacant_indexes as slots_vacant, IsInsertion as IsArenaInsertion}
+use Rattle.arena_base.specs.Arena.{Arena, slot, with_entry_at, arena_capacity, with_capacity as arena_with_capacity, removed as arena_removed}
+use Rattle.arena_base.specs.Arena.{renewed as arena_renewed, cleared as arena_cleared, resized, vacant_from, vacant_indexes as slots_vacant, IsInsertion as IsArenaInsertion}
 use Rattle.chain_base.specs.Link.{Link}
 use Rattle.chain_base.specs.Chain.{Entry, Chain, times, first_or, last_or, link_at, IsOccupied, inserted_at, with_capacity, vacant_indexes, without, removed, renewed, cleared, with_item}
 use Rattle.chain_base.specs.Insert.{IsInsertion, IsPlace}
@@ -158,15 +159,7 @@ module _ {T : Type 0} where
   -- where all slots beyond n are vacant, a capacity of n keeps the list
   pub IsLaidOut-resized : (a : Arena (Link T)) (first last : Option ℕ) (es : List (Entry T)) (n : ℕ) → ((k : ℕ) → n < k → slot a k ≡ None)
       → IsLaidOut a.slots first last es → IsLaidOut (resized (n + 1) a.slots) first last es
-  IsLaidOut-resized a first last es n rest laid =
-      let beyond : (k : ℕ) → n + 1 ≤ k → get_or a.slots k None ≡ None = λ k far. rest k (omega arith) in
-      record {
-        links = λ i. get_or-resized (n + 1) a.slots i beyond ∙ laid.links i;
-        distinct = laid.distinct;
-        first_is = laid.first_is;
-        last_is = laid.last_is;
-        counted = count-resized (n + 1) a.slots beyond ∙ laid.counted;
-      }
+  IsLaidOut-resized a first last es n rest laid = grind (arith, common_steps, count-resized, get_or-resized)
 
   module _ (a : Arena (Link T)) (first last : Option ℕ) (n : ℕ) where
     pub chain_of-resized : ((k : ℕ) → n < k → slot a k ≡ None) → IsLaidOut a.slots first last (chain_of a first).entries

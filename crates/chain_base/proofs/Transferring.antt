@@ -1,5 +1,6 @@
 -- The steps of a transfer.
-use Rattle.std.proofs.Common.{◌≡◌, ℕ, zero, suc, ◌+◌, ◌-◌, ◌<◌, ◌≤◌, max, List, [], ◌∷◌, ◌++◌, map, length, length-append, append_assoc, Option, Some, None, OnSome, OnOk, IsOk, IsErr, Result, Ok, Err, is_some, true, slice_get, refl, sym, ap, ◌∙◌, arith, inl, inr}
+use Rattle.std.proofs.Common.{◌≡◌, ℕ, zero, suc, ◌+◌, ◌-◌, ◌<◌, ◌≤◌, max, List, [], ◌∷◌, ◌++◌, map, length, length-append, append_assoc, Option}
+use Rattle.std.proofs.Common.{Some, None, OnSome, OnOk, IsOk, IsErr, Result, Ok, Err, is_some, true, slice_get, refl, sym, ap, ◌∙◌, arith, inl, inr}
 use Rattle.std.proofs.lemmas.Grind.{common_steps}
 use Rattle.std.proofs.lemmas.Bool.Decides.{eqb_tells}
 use Rattle.std.specs.List.{FoldsTo}

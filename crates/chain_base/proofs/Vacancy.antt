@@ -1,5 +1,6 @@
 -- The vacant indexes and the greatest occupied one: what an arena's slots say, said of the chain's list.
-use Rattle.std.proofs.Common.{◌≡◌, ℕ, zero, suc, ◌+◌, ◌-◌, ◌<◌, ◌≤◌, ◌==◌, Bool, true, false, List, [], ◌∷◌, length, drop, replicate, Option, Some, None, is_some, count_by, cond, max, refl, sym, ap, ◌∙◌, arith, inl, inr, ◌⊎◌, get_or, add-one, add-zero}
+use Rattle.std.proofs.Common.{◌≡◌, ℕ, zero, suc, ◌+◌, ◌-◌, ◌<◌, ◌≤◌, ◌==◌, Bool, true, false, List, [], ◌∷◌, length, drop, replicate}
+use Rattle.std.proofs.Common.{Option, Some, None, is_some, count_by, cond, max, refl, sym, ap, ◌∙◌, arith, inl, inr, ◌⊎◌, get_or, add-one, add-zero}
 use Rattle.std.proofs.lemmas.Grind.{common_steps}
 use Rattle.std.proofs.lemmas.List.{length-replicate, length-drop}
 use Rattle.std.proofs.lemmas.Grind.{get_or_after_one}
@@ -125,11 +126,7 @@ module _ {T : Type 0} where
 
   -- an index whose slot holds a link occurs in the list
   occurs-links : (slots : List (Option (ℕ × Link T))) (es : List (Entry T)) → ((i : ℕ) → get_or slots i None ≡ link_at es i) → (i : ℕ) → is_some (get_or slots i None) ≡ true → 1 ≤ times i es
-  occurs-links slots es links i held =
-      elim (eqb_tells (times i es) 0) [
-        | inl h ↦ absurd (let none = links i ∙ link_between-absent None None es i h.1 in let bad = rw none at held in cc)
-        | inr h ↦ omega arith
-      ]
+  occurs-links slots es links i held = grind (arith, common_steps, eqb_tells, link_between-absent)
 
   -- an index that occurs in the list has a slot that holds a link
   held-links : (slots : List (Option (ℕ × Link T))) (es : List (Entry T)) → ((i : ℕ) → get_or slots i None ≡ link_at es i)

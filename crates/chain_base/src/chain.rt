@@ -43,7 +43,8 @@ impl<P: Ptr, T, A: Allocator> Model for ChainArena<P, T, A> {
     ghost view = { λ c. chain_of c.arena (option_map P.Inx.number c.first) };
 
     ghost invariant = { λ c. IsLaidOut c.arena.slots (option_map P.Inx.number c.first)
-        (option_map P.Inx.number c.last) (chain_of c.arena (option_map P.Inx.number c.first)).entries };
+        (option_map P.Inx.number c.last)
+        (chain_of c.arena (option_map P.Inx.number c.first)).entries };
 }
 
 impl<P: Ptr, T, A: Allocator> ChainArena<P, T, A> {

@@ -67,14 +67,16 @@ impl<P: Ptr, T> LinkNoGen<P, T> {
 
     // Links this entry to another previous one.
     pub(crate) fn set_prev(&mut self, prev: Option<P::Inx>)
-        ensures { self.new ≡ record self.old { prev = named_of P.Inx.most (option_map P.Inx.number prev) } }
+        ensures { self.new
+            ≡ record self.old { prev = named_of P.Inx.most (option_map P.Inx.number prev) } }
     {
         self.prev = OptInx::new(prev);
     }
 
     // Links this entry to another next one.
     pub(crate) fn set_next(&mut self, next: Option<P::Inx>)
-        ensures { self.new ≡ record self.old { next = named_of P.Inx.most (option_map P.Inx.number next) } }
+        ensures { self.new
+            ≡ record self.old { next = named_of P.Inx.most (option_map P.Inx.number next) } }
     {
         self.next = OptInx::new(next);
     }

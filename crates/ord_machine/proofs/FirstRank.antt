@@ -89,7 +89,7 @@ module _ {P T I G A K : Type 0} (r : Reading P T I G K) (old new : Tree T) (none
   -- both replies, from the first
   first_and_ranks : (item : T) (first second : Reply P T A I G) → Inserts r.key r.cmp r.most reallocating (at_key (r.key item)) r.pointer old item first new → Ranked new second → AreFirstReplies (first ∷ second ∷ [])
   first_and_ranks item (Inserted (New p) None) second inserts ranked = ranks_of_new item p second inserts ranked
-  first_and_ranks item (Inserted (Replacing p) (Some before)) second inserts ranked = absurd (omega (arith, inserts.place.within.1, ap length none))
+  first_and_ranks item (Inserted (Replacing p) (Some before)) second inserts ranked = absurd (let gap = inserts.place.gap in let here = rw (no_parts gap.front gap.back (sym none ∙ gap.cut)).1 at inserts.place.here in cc)
   first_and_ranks item (Refused refusal) second inserts ranked = ranks_of_none refusal second inserts.after ranked
   first_and_ranks item first second inserts ranked = absurd inserts
 

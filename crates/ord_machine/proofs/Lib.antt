@@ -8,3 +8,5 @@ pub mod Marking
 pub mod Bounded
 pub mod Runs
 pub mod FirstRank
+pub mod Ended
+pub mod Ascending

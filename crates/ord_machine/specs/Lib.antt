@@ -1,3 +1,5 @@
 -- The definitions that the contracts cite.
 pub mod Machine
 pub mod Laws
+pub mod Pointers
+pub mod Ascending

@@ -30,11 +30,11 @@ pub enum Command<P: Ptr, T: SimpleOrdItem> {
     Compress(bool),
     /// Gives the entries the indexes from 1 on in their order, with one generation as `Compress` does. The tree is built anew.
     Canonical(bool),
-    /// Searches an entry with an equal key.
+    /// Searches the first of the entries with an equal key.
     Find(T::Key),
-    /// Searches an entry with an equal key, after at most so many steps along the list from the entry that the pointer names.
+    /// Searches it after at most so many steps along the list from the entry that the pointer names.
     FindLinear(P, usize, T::Key),
-    /// Searches an entry with an equal key, or one beside a gap that fits the key.
+    /// Searches the first of the entries with an equal key, or one beside a gap that fits the key.
     Similar(T::Key),
     /// Searches so after at most so many steps along the list from the entry at the index.
     SimilarLinear(P::Inx, usize, T::Key),
@@ -42,7 +42,7 @@ pub enum Command<P: Ptr, T: SimpleOrdItem> {
     FindWith,
     /// Searches by the closure, and asks for the entry that it was shown last.
     SimilarWith,
-    /// Searches an entry with an equal key, and asks how many entries the search was shown.
+    /// Searches the first of the entries with an equal key, and asks how many entries the search was shown.
     Visits(T::Key),
     /// Asks for the item that the pointer names.
     Get(P),

@@ -1,7 +1,9 @@
-//! A law of runs. The function here does nothing, and its contract is the law: a fact about every run.
+//! Laws of runs. The functions here do nothing, and the contract of each is the law: a fact about every run.
 
 ghost use Rattle.triple_ord.specs.ClosureSearch.{Asks};
+ghost use Rattle.ord_machine.specs.Ascending.{AscendingKeysLaw};
 ghost use Rattle.ord_machine.specs.Laws.{FirstRankLaw};
+ghost use Rattle.ord_machine.specs.Pointers.{EndedPointerLaw};
 
 use arena_base::Ptr;
 use std::alloc::Allocator;
@@ -11,4 +13,16 @@ use triple_ord::SimpleOrdItem;
 /// An insertion where there is no entry, and then `ranks`: the ranks are 1 and nothing else, unless something is refused.
 pub fn first_rank_law<P: Ptr, T: SimpleOrdItem, F: FnMut(P, &T) -> Ordering, A: Allocator>()
     ensures { FirstRankLaw P T P.Inx P.Gen A T.Key (Asks P.numbers F.step) }
+{}
+
+/// A pointer that ceased to name an entry names none ever again, as long as no entry's generation is above the arena's at the
+/// beginning, the generations are counted, they are never set back, and they don't begin again after the greatest.
+pub fn ended_pointer_law<P: Ptr, T: SimpleOrdItem, F: FnMut(P, &T) -> Ordering, A: Allocator>()
+    ensures { EndedPointerLaw P T P.Inx P.Gen A T.Key (Asks P.numbers F.step) }
+{}
+
+/// Keys are strictly ascending after any run from an arena without entries, as long as an entry's item is replaced only by an insertion,
+/// and each insertion is by the item's key, or of the kind `Normal` or `Linear` with a key that the item's is equal to.
+pub fn ascending_keys_law<P: Ptr, T: SimpleOrdItem, F: FnMut(P, &T) -> Ordering, A: Allocator>()
+    ensures { AscendingKeysLaw P T P.Inx P.Gen A T.Key (Asks P.numbers F.step) }
 {}

@@ -12,11 +12,11 @@ pub enum Reply<P: Ptr, T, A: Allocator> {
     /// The command was refused, and changed nothing. `Reserve` is refused as a growth is, beyond the limit or for want of memory; a
     /// command that is no insertion else for want of memory alone.
     Refused(OrdInsertionError),
-    /// The pointer of an entry with an equal key, `None` where the search stopped at a gap that fits the key; and how many
-    /// entries the search was shown.
+    /// The pointer of an entry with an equal key whose previous entry, if any, has a lesser one, `None` where the search stopped at a gap
+    /// that fits the key; and how many entries the search was shown.
     Found(Option<P>, u128),
-    /// The pointer of the entry that a search was shown last, with the order of the key to its key, or with the closure's answer;
-    /// `None` where there is no entry. And how many entries the search was shown.
+    /// The pointer of such an entry, or else of the one that a search was shown last, with the order of the key to its key, or with the
+    /// closure's answer; `None` where there is no entry. And how many entries the search was shown.
     Similar(Option<(P, Ordering)>, u128),
     /// How many entries the search was shown.
     Count(u128),

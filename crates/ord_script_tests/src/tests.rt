@@ -7,7 +7,7 @@ use ord_script::{FaultKind, ScriptEnd, Watched, serve};
 use std::process::Abort;
 
 /// Scripts that are done, each with its answer.
-const ANSWERS: [(&[u8], &str); 43] = [
+const ANSWERS: [(&[u8], &str); 44] = [
     // the commands
     (
         b"insert 50 1\ninsert 30 2\nfind 30\nlist\n",
@@ -34,7 +34,7 @@ const ANSWERS: [(&[u8], &str); 43] = [
     ),
     (
         b"insert 1 0\ninsert 2 0\ninsert 3 0\ninsert 4 0\ninsert 5 0\ninsert 6 0\ninsert 7 0\nranks\nvisits 4\nvisits 2\nvisits 7\nvisits 8\n",
-        "new 1.2\nnew 2.2\nnew 3.2\nnew 4.2\nnew 5.2\nnew 6.2\nnew 7.2\nranks 1 2 1 3 1 2 1\nvisits 1\nvisits 2\nvisits 3\nvisits 3\n",
+        "new 1.2\nnew 2.2\nnew 3.2\nnew 4.2\nnew 5.2\nnew 6.2\nnew 7.2\nranks 1 2 1 3 1 2 1\nvisits 3\nvisits 3\nvisits 3\nvisits 3\n",
     ),
     (
         b"insert 50 5\ninsert 30 3\ninsert 70 7\nfirst\nlast\nget 1.2\nget 2.2\nget 3.2\nget 003.0002\n",
@@ -66,16 +66,20 @@ const ANSWERS: [(&[u8], &str); 43] = [
         "refused order\nnew 1.2\nnew 2.2\nnew 3.2\nrefused order\nnew 4.2\nincorrect ordering\nlist 1.2=1:0 4.2=9:0 2.2=2:0 3.2=3:0\nnone\nvisits 2\nranks 2 1 3 1\n",
     ),
     (
-        b"nonhereditary 5 1\nnonhereditary 5 2\nnonhereditary 5 3\nnonhereditary 5 4\nlist\nranks\n",
-        "new 1.2\nnew 2.2\nnew 3.2\nnew 4.2\nlist 2.2=5:2 4.2=5:4 3.2=5:3 1.2=5:1\nranks 2 1 3 1\n",
+        b"nonhereditary 5 1\nnonhereditary 5 2\nnonhereditary 5 3\nnonhereditary 5 4\nlist\nranks\nfind 5\nvisits 5\n",
+        "new 1.2\nnew 2.2\nnew 3.2\nnew 4.2\nlist 1.2=5:1 2.2=5:2 3.2=5:3 4.2=5:4\nranks 1 3 2 1\nat 1.2\nvisits 2\n",
+    ),
+    (
+        b"nonhereditary 5 1\nnonhereditary 3 2\nnonhereditary 5 3\nnonhereditary 3 4\ninsert 5 9\nlist\nfind 3\n",
+        "new 1.2\nnew 2.2\nnew 3.2\nnew 4.2\nreplaced 1.2 5:1\nlist 2.2=3:2 4.2=3:4 1.2=5:9 3.2=5:3\nat 2.2\n",
     ),
     (
         b"insert 50 0\ninsert 30 0\ninsert 70 0\ninsert 60 0\ninsert 10 0\nlinear 5 1 20 7\nnonhereditary-linear 4 2 60 8\nlist\nranks\nat 9 1 1\nat 3 71 5\n",
-        "new 1.2\nnew 2.2\nnew 3.2\nnew 4.2\nnew 5.2\nnew 6.2\nnew 7.2\nlist 5.2=10:0 6.2=20:7 2.2=30:0 1.2=50:0 7.2=60:8 4.2=60:0 3.2=70:0\nranks 1 2 1 3 1 2 1\nrefused order\nreplaced 3.2 70:0\n",
+        "new 1.2\nnew 2.2\nnew 3.2\nnew 4.2\nnew 5.2\nnew 6.2\nnew 7.2\nlist 5.2=10:0 6.2=20:7 2.2=30:0 1.2=50:0 4.2=60:0 7.2=60:8 3.2=70:0\nranks 1 2 1 3 1 2 1\nrefused order\nreplaced 3.2 70:0\n",
     ),
     (
         b"within 1 0\nempty 1 5\nempty 1 6\nlinear 1 9 1 7\nnonhereditary-linear 0 0 1 8\nafter 1 0 9\nbefore 0 0 0\nafter 2 0 0\nat 1 4 4\nlist\n",
-        "refused capacity\nnew 1.2\nrefused order\nreplaced 1.2 1:5\nnew 2.2\nnew 3.2\nrefused order\nnew 4.2\nreplaced 1.2 1:7\nlist 2.2=1:8 4.2=0:0 1.2=4:4 3.2=0:9\n",
+        "refused capacity\nnew 1.2\nrefused order\nreplaced 1.2 1:5\nnew 2.2\nnew 3.2\nrefused order\nnew 4.2\nreplaced 1.2 1:7\nlist 1.2=4:4 3.2=0:9 2.2=1:8 4.2=0:0\n",
     ),
     // the capacity
     (

@@ -8,7 +8,7 @@ use Rattle.std.specs.Borrow.{Bor}
 use Rattle.std.specs.List.{FoldsTo}
 use Rattle.std.specs.declared.alloc.AllocError.{AllocError}
 use Rattle.arena_base.specs.Clone.{CloneStep, Grants, IsShown, StopsAtRefusal}
-use Rattle.arena_base.proofs.CallerLemmas.{clones-retold}
+use Rattle.arena_base.proofs.CallerLemmas.{clones-retold, stops-retold}
 use Rattle.chain_base.specs.Link.{Link}
 use Rattle.chain_base.specs.Chain.{Entry, Chain, entry_at, first_or, link_between, link_at, greatest_index, IsSound}
 use Rattle.chain_base.specs.Compression.{lesser, entry_before, refilled}
@@ -114,21 +114,10 @@ module _ {P T U I G M N F : Type 0} (numbers : P → ℕ × ℕ) (below : M → 
 
   stops-bare : (source : Chain (SimpleOrdArenaNode P U I G)) (s : N) → StopsAtRefusal {T = SimpleOrdArenaNode P T I G} numbers outer s (links_rising source)
       → StopsAtRefusal numbers (ShowsItem step) (closure (wrapped s)) (links_rising (bare source))
-  stops-bare source s h = record {
-    before = map linked_in h.before;
-    refused = linked_in h.refused;
-    behind = map linked_in h.behind;
-    split = links_among-bare source.entries 1 source.capacity ∙ (ap (map linked_in) h.split ∙ map-append linked_in h.before (h.refused ∷ h.behind));
-    items = map (λ n. n.t) h.items;
-    reached = closure (wrapped h.reached);
-    calls = calls-bare h.before s h.reached h.items h.calls;
-    pointer = h.pointer;
-    index = h.index;
-    generation = h.generation;
-    refusal = h.refusal;
-    last = closure (wrapped h.last);
-    called = like (wrapped h.reached) h.pointer h.refused.2.item.t (Err h.refusal) (wrapped h.last) h.called;
-  }
+  stops-bare source s h =
+      rw (links_among-bare source.entries 1 source.capacity)
+      (stops-retold numbers outer (ShowsItem step) (λ n. closure (wrapped n)) bare_link (λ n. n.t) (λ s p l x t made. like (wrapped s) p l.item.t (Ok x.t) (wrapped t) made.called)
+      (λ s p l e t called. like (wrapped s) p l.item.t (Err e) (wrapped t) called) s (links_rising source) h)
 
   module _ (s : N) (source : Chain (SimpleOrdArenaNode P U I G)) (old new : Chain (SimpleOrdArenaNode P T I G)) where
     list-bare : IsClonedList numbers (Grants numbers outer) s source old new

@@ -56,7 +56,8 @@ module _ {old : Slots} {root : Option ℕ} {v : ℕ} {side : Side} {order : List
   whole = ap (λ s. plug spot.way (fork side s v spot.rank spot.far)) (sym near_missing) ∙ spot.is
 
   total : (j : ℕ) → times j order ≡ times_way j spot.way + here j v + times_in j spot.far
-  total j = ap (times j) (sym loose.built.listed) ∙ times-walk j loose.built.shape ∙ ap (times_in j) (sym whole) ∙ times_in-plug j spot.way (fork side missing v spot.rank spot.far) ∙ omega (arith, times_in-fork j side missing spot.far v spot.rank)
+  total j = ap (times j) (sym loose.built.listed) ∙ times-walk j loose.built.shape ∙ ap (times_in j) (sym whole)
+      ∙ times_in-plug j spot.way (fork side missing v spot.rank spot.far) ∙ omega (arith, times_in-fork j side missing spot.far v spot.rank)
 
   pub listed_without : walk (plug spot.way spot.far) ≡ without v order
   listed_without = go side (sym loose.built.listed ∙ ap walk (sym whole))
@@ -134,7 +135,8 @@ module _ {old : Slots} {root : Option ℕ} {v : ℕ} {side : Side} {order : List
       way_held : HoldsWay new root' spot.way (child_at (other_side side) nv)
       way_held =
           HoldsWay-frame replaced new spot.way root' (child_at (other_side side) nv) (λ j inside. but_hung j (λ link. omega (arith, inside, in_far j link, total j, loose.once j)))
-          (HoldsWay-replaced old replaced spot.way root root' (child_at (other_side side) nv) v (λ a. at_top (back_is ∙ a)) (λ p a. root_stays p (back_is ∙ a)) (λ p n s a. parent p n s (back_is ∙ a)) (λ j a. but_parent j (λ b. a (sym back_is ∙ b)))
+          (HoldsWay-replaced old replaced spot.way root root' (child_at (other_side side) nv) v (λ a. at_top (back_is ∙ a))
+          (λ p a. root_stays p (back_is ∙ a)) (λ p n s a. parent p n s (back_is ∙ a)) (λ j a. but_parent j (λ b. a (sym back_is ∙ b)))
           (λ j. omega (arith, total j, loose.once j)) (omega (arith, total v, here-same v, loose.once v)) spot.held_way)
 
       pub moves_one : MovesBacks 1 old new

@@ -42,14 +42,8 @@ module _ {at : Slots} {root : Option ℕ} {y : ℕ} {side : Side} {order : List 
     pub low_rank : rank_at at (child_at side ny) ≡ rank_of fallen.low
     low_rank = rank_at-held at (Some y) (child_at side ny) fallen.low y_holds.near_held
 
-    pub low_occupied : (i : ℕ) → child_at side ny ≡ Some i → is_some (at i) ≡ true
-    low_occupied i link = occupied-link at (Some y) (child_at side ny) fallen.low i y_holds.near_held link
-
     pub far_root : child_at (other_side side) ny ≡ root_of fallen.far
     far_root = link-root at (Some y) (child_at (other_side side) ny) fallen.far y_holds.far_held
-
-    pub far_occupied : (i : ℕ) → child_at (other_side side) ny ≡ Some i → is_some (at i) ≡ true
-    far_occupied i link = occupied-link at (Some y) (child_at (other_side side) ny) fallen.far i y_holds.far_held link
 
     pub far_rank : (s : ℕ) (ns : TreeLinks ℕ) → child_at (other_side side) ny ≡ Some s → at s ≡ Some ns → ns.rank ≡ rank_of fallen.far
     far_rank s ns link d =
@@ -66,7 +60,8 @@ module _ {at : Slots} {root : Option ℕ} {y : ℕ} {side : Side} {order : List 
   pub IsRepaired-stop : fallen.rank ≤ rank_of fallen.low + 2 → (s : ℕ) → root_of fallen.far ≡ Some s → IsRepaired at at root order 1
   IsRepaired-stop enough s far =
       let positive = rank-positive 1 fallen.far s fallen.balanced_far far in
-      let over : IsOver 1 fallen.rank (rank_of fallen.low) (rank_of fallen.far) = record { lesser = omega (arith, fallen.over); greater = fallen.over.greater; leaf = λ a b. absurd (omega arith); tight = omega (arith, fallen.over.greater) } in
+      let over : IsOver 1 fallen.rank (rank_of fallen.low) (rank_of fallen.far) =
+      record { lesser = omega (arith, fallen.over); greater = fallen.over.greater; leaf = λ a b. absurd (omega arith); tight = omega (arith, fallen.over.greater) } in
       let P : ℕ → Type 0 = λ rank. IsBalancedWay 1 fallen.way rank in
       record {
         built = record {

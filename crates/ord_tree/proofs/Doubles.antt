@@ -203,7 +203,14 @@ module _ {old : Slots} {old_root : Option ℕ} {side : Side} {z y : ℕ} (site :
       pub backs_double : (new : Slots) (root : Option ℕ) (rank_z rank_x : ℕ) → IsRotated site_above new root rank_z rank_x → MovesBacks 5 old new
       backs_double new root rank_z rank_x t = (
         z ∷ y ∷ x ∷ (option_to_list (root_of middle.near) ++ (option_to_list (root_of middle.far) ++ [])),
-        omega (arith, length-append (option_to_list (root_of middle.near)) (option_to_list (root_of middle.far) ++ []), length-append (option_to_list (root_of middle.far)) [], length-root (root_of middle.near), length-root (root_of middle.far)),
+        omega (
+          arith,
+          length-append (option_to_list (root_of middle.near)) (option_to_list (root_of middle.far) ++ []),
+          length-append
+              (option_to_list (root_of middle.far)) [],
+          length-root (root_of middle.near),
+          length-root (root_of middle.far),
+        ),
         λ j. ⊎_elim (λ e. inl (inr (inl e))) (⊎_elim (λ e. inl (inr (inr (inl e))))
             (⊎_elim (λ e. inl (inr (inr (inr (Among-behind (option_to_list (root_of middle.near)) (option_to_list (root_of middle.far) ++ []) j (Among-root middle.far j [] e))))))
             (λ first. ⊎_elim (λ e. inl (inl e)) (⊎_elim (λ e. inl (inr (inr (inl e))))

@@ -79,7 +79,8 @@ module _ {P T I G : Type 0} where
       go (i ∷ rest) = ap (λ (es : List (Entry T)). record { entries = es; capacity = c.capacity; vacant = rest; generation = c.generation; maximum = c.maximum }) (same (record { index = i; generation = c.generation; item = item }))
 
   -- the insertion as the list sees it
-  pub IsInsertion-bare : (old new last : Chain (SimpleOrdArenaNode P T I G)) (place : Entry (SimpleOrdArenaNode P T I G) → List (Entry (SimpleOrdArenaNode P T I G))) (put : Entry T → List (Entry T)) (item : SimpleOrdArenaNode P T I G) (i g : ℕ)
+  pub IsInsertion-bare : (old new last : Chain (SimpleOrdArenaNode P T I G)) (place : Entry (SimpleOrdArenaNode P T I G) → List (Entry (SimpleOrdArenaNode P T I G)))
+      (put : Entry T → List (Entry T)) (item : SimpleOrdArenaNode P T I G) (i g : ℕ)
       → ((e : Entry (SimpleOrdArenaNode P T I G)) → map bare_entry (place e) ≡ put (bare_entry e)) → bare last ≡ bare new → IsInsertion old new place item i g → IsInsertion (bare old) (bare last) put item.t i g
   IsInsertion-bare old new last place put item i g same kept h =
       let Fresh : Chain T → Type 0 = λ c. IsFresh (bare old) → IsFresh c in

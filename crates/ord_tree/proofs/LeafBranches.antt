@@ -41,7 +41,8 @@ module _ {T : Type 0} where
   neighbours-linked before (e ∷ es) i g l h =
       ⊎_elim (λ (same : e.index ≡ i).
       let first = rw (eq-eqb e.index i same) at h in
-      let link : ◌≡◌ {A = Link T} (record { item = e.item; prev = before; next = first_or None es }) l = ap (λ (p : ℕ × Link T). p.1) (let d : (e.generation, (let r : Link T = record { item = e.item; prev = before; next = first_or None es } in r)) ≡ (g, l) = cc in d) in
+      let link : ◌≡◌ {A = Link T} (record { item = e.item; prev = before; next = first_or None es }) l =
+      ap (λ (p : ℕ × Link T). p.1) (let d : (e.generation, (let r : Link T = record { item = e.item; prev = before; next = first_or None es } in r)) ≡ (g, l) = cc in d) in
       rw (eq-eqb e.index i same) (sym (ap (λ (l : Link T). l.prev) link), sym (ap (λ (l : Link T). l.next) link) ∙ head-first_or es))
       (λ (other : e.index ≢ i). rw (ne_eqb e.index i other) (neighbours-linked (Some e.index) es i g l (rw (ne_eqb e.index i other) at h))) (cases_eq e.index i)
 

@@ -106,10 +106,12 @@ module _ {old : Slots} {old_root : Option ℕ} {side : Side} {y s : ℕ} {order 
             way = site.way;
             shape = whole;
             held_way = HoldsWay-frame old new site.way old_root (Some y)
-                (λ j in_way. elsewhere_y j (apart-from y j (λ j. times_way j site.way) (omega (arith, total y, here-same y)) in_way) ∙ elsewhere_s j (apart-from s j (λ j. times_way j site.way) (omega (arith, total s, here-same s)) in_way)) site.held_way;
+                (λ j in_way. elsewhere_y j (apart-from y j (λ j. times_way j site.way) (omega (arith, total y, here-same y)) in_way)
+                ∙ elsewhere_s j (apart-from s j (λ j. times_way j site.way) (omega (arith, total s, here-same s)) in_way)) site.held_way;
             held = held_both;
             listed = walk-plug site.way whole before
-                (walk-ranked side lowered site.far y (site.high - 1) site.high ∙ walk-fork_near side lowered (fork side site.outer s site.low site.inner) site.far y site.high (walk-ranked side site.outer site.inner s (site.low - 1) site.low)) ∙ lean.listed;
+                (walk-ranked side lowered site.far y (site.high - 1) site.high
+                ∙ walk-fork_near side lowered (fork side site.outer s site.low site.inner) site.far y site.high (walk-ranked side site.outer site.inner s (site.low - 1) site.low)) ∙ lean.listed;
             balanced = IsBalanced-fork 1 side lowered site.far y (site.high - 1) (subst Q (sym (rank-fork side site.outer site.inner s (site.low - 1))) (omega (arith, lean.low, lean.sibling, lean.over)))
                 (IsBalanced-fork 1 side site.outer site.inner s (site.low - 1) (omega (arith, lean.low, lean.sibling, lean.over)) lean.balanced_outer lean.balanced_inner) lean.balanced_low;
             balanced_way = subst P (omega (arith, rank_is, lean.sibling)) lean.balanced_way;

@@ -33,7 +33,8 @@ module _ {at : Slots} {root : Option ℕ} {side : Side} {y x : ℕ} {order : Lis
 
   -- no index twice, and x nowhere
   total : (j : ℕ) → times j order ≡ times_way j spot.way + here j y + times_in j spot.far
-  total j = ap (times j) (sym bud.built.listed) ∙ times-walk j bud.built.shape ∙ ap (times_in j) (sym whole) ∙ times_in-plug j spot.way (fork side missing y spot.rank spot.far) ∙ omega (arith, times_in-fork j side missing spot.far y spot.rank)
+  total j = ap (times j) (sym bud.built.listed) ∙ times-walk j bud.built.shape ∙ ap (times_in j) (sym whole)
+      ∙ times_in-plug j spot.way (fork side missing y spot.rank spot.far) ∙ omega (arith, times_in-fork j side missing spot.far y spot.rank)
 
   x≢y : x ≢ y
   x≢y e = let same = ap (here x) e in omega (arith, bud.fresh, total x, here-same x)
@@ -80,7 +81,8 @@ module _ {at : Slots} {root : Option ℕ} {side : Side} {y x : ℕ} {order : Lis
             back-with_child side (Some x) spot.links ∙ spot.holds.back,
             rank-with_child side (Some x) spot.links ∙ spot.holds.rank,
             child-with_child side (Some x) spot.links,
-            rw (other_child-with_child side (Some x) spot.links) (Holds-frame at new spot.far (Some y) (child_at (other_side side) spot.links) (λ j in_far. elsewhere j (apart-from y j (λ j. times_in j spot.far) (omega (arith, total y, here-same y)) in_far)) spot.holds.far_held),
+            rw (other_child-with_child side (Some x) spot.links) (Holds-frame at new spot.far (Some y) (child_at (other_side side) spot.links)
+                (λ j in_far. elsewhere j (apart-from y j (λ j. times_in j spot.far) (omega (arith, total y, here-same y)) in_far)) spot.holds.far_held),
             HoldsWay-frame at new spot.way root (Some y) (λ j in_way. elsewhere j (apart-from y j (λ j. times_way j spot.way) (omega (arith, total y, here-same y)) in_way)) spot.held_way,
           );
           held = (leaf_links (Some y), refl, elsewhere x x≢y ∙ bud.leaf, refl, refl, refl, refl);
@@ -89,7 +91,8 @@ module _ {at : Slots} {root : Option ℕ} {side : Side} {y x : ℕ} {order : Lis
           balanced_way = (fork.0, fork.2, subst P (rank-fork side missing spot.far y spot.rank) parts.0);
           risen = refl;
           uneven = inl refl;
-          once = λ j. ⊎_elim (λ (same : j ≡ x). omega (arith, times-beside side y x j order, ap (λ i. times i order) same, bud.fresh, here-same x, ap (λ i. here i x) same)) (λ (other : j ≢ x). omega (arith, times-beside side y x j order, here-other j x other, bud.once j)) (cases_eq j x);
+          once = λ j. ⊎_elim (λ (same : j ≡ x). omega (arith, times-beside side y x j order, ap (λ i. times i order) same, bud.fresh, here-same x, ap (λ i. here i x) same))
+              (λ (other : j ≢ x). omega (arith, times-beside side y x j order, here-other j x other, bud.once j)) (cases_eq j x);
           few = omega (arith, length-beside side y x order, bud.few);
         }
 

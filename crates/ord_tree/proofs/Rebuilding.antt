@@ -216,14 +216,6 @@ module _ where
             todo_is = tail;
           }
 
-  -- there is one
-  pub ready-some : {at : Slots} {s : Shape} {frames : List Frame} {link : Option ℕ} {x : ℕ} {todo : List ℕ} → IsReady at frames s link (x ∷ todo) → 0 < length frames
-  ready-some {at} {s} {frames} {link} {x} {todo} ready = go ready.finished.way ready.finished.stack ready.finished.todo_is
-    where
-      go : (way : Way) → IsStack at way (size_of ready.finished.done) frames → ahead way ≡ x ∷ todo → 0 < length frames
-      go top stack e = absurd cc
-      go (up side i k far rest) stack e = omega (arith, ap length stack.2, length-append stack.0 (stack.1 ∷ []))
-
   module _ {at : Slots} {q : ℕ} {s : Shape} {plan : IsPlan at q s} {below : List Frame} {f : Frame} {link : Option ℕ} {x : ℕ} {todo : List ℕ} (next : IsNext plan below f link x todo) where
     pub next-room : length below < 64
     next-room = omega (arith, length-stack at next.rest (size_of next.l + 1 + size_of next.r) below next.stack, few-steps next.rest (node next.l x next.k next.r) plan next.whole (omega arith) 64 plan.few)

@@ -19,9 +19,6 @@ use Rattle.ord_tree.proofs.Neighbours.{BeforeIn, before_in, previous-neighbour, 
 use Rattle.ord_tree.proofs.Standing.{stand_in-same}
 use Rattle.ord_tree.proofs.Displacing.{renamed_way, renamed-fork, renamed-plug, rank-renamed, IsBalanced-renamed, IsBalancedWay-renamed, walk-renamed, map-absent, plug_held}
 
-pub MovesBacks-more : (m n : ℕ) (old new : Slots) → m ≤ n → MovesBacks m old new → MovesBacks n old new
-MovesBacks-more m n old new b h = (h.0, omega (arith, b, h.1), h.2)
-
 module _ {old : Slots} {root : Option ℕ} {z : ℕ} {before : Option ℕ} {order : List ℕ} (can : IsDetachable old root z before order) where
   spot : Spot old root Lesser z can.built.shape
   spot = spot_in old root Lesser z can.built.shape top root refl can.built.held (omega (arith, can.within, times-walk z can.built.shape, ap (times z) can.built.listed))
@@ -30,9 +27,6 @@ module _ {old : Slots} {root : Option ℕ} {z : ℕ} {before : Option ℕ} {orde
   z_occupied = ap is_some spot.at_y
 
   module _ (nz : TreeLinks ℕ) (e : old z ≡ Some nz) where
-    pub loose_z : nz.lesser ≡ None → IsLoose old root z Lesser order
-    loose_z none = record { built = can.built; within = can.within; bare = λ n d. (let same : n ≡ nz = cc in ap (λ (n : TreeLinks ℕ). n.lesser) same ∙ none); once = can.once; few = can.few }
-
     module _ (j : ℕ) (some : nz.lesser ≡ Some j) where
       abbrev b : BeforeIn old z order
       b = before_in old root can.built.shape order can.built.held can.built.listed z can.within nz e j some
@@ -83,7 +77,8 @@ module _ {old : Slots} {root : Option ℕ} {z : ℕ} {before : Option ℕ} {orde
           built_stands built = stands built.shape built.held built.listed
 
           fallen_stands : {y : ℕ} {side : Side} (fallen : IsFallen mid root' y side (without v order)) → CanStandIn mid root' z v (plug fallen.way (fork side fallen.low y fallen.rank fallen.far))
-          fallen_stands {y} {side} fallen = stands (plug fallen.way (fork side fallen.low y fallen.rank fallen.far)) (Holds-plug mid root' fallen.way (fork side fallen.low y fallen.rank fallen.far) (Some y) fallen.held_way fallen.held) fallen.listed
+          fallen_stands {y} {side} fallen = stands (plug fallen.way (fork side fallen.low y fallen.rank fallen.far))
+              (Holds-plug mid root' fallen.way (fork side fallen.low y fallen.rank fallen.far) (Some y) fallen.held_way fallen.held) fallen.listed
 
           pub can_stand : {I : Type 0} (number : I → ℕ) (cut : Option (Branch I))
               → MatchOption cut (IsBuilt mid root' (without v order) 1) (λ p. IsFallen mid root' (number p.parent) p.side (without v order))

@@ -16,11 +16,6 @@ pub child-numbered : {I : Type 0} (number : I → ℕ) (side : Side) (n : TreeLi
 child-numbered number Lesser n = refl
 child-numbered number Greater n = refl
 
-pub numbered-with_child : {I : Type 0} (number : I → ℕ) (side : Side) (child : Option I) (n : TreeLinks I)
-    → numbered number (with_child_at side child n) ≡ with_child_at side (option_map number child) (numbered number n)
-numbered-with_child number Lesser child n = refl
-numbered-with_child number Greater child n = refl
-
 -- links with another parent and rank
 abbrev pub placed : Option ℕ → ℕ → TreeLinks ℕ → TreeLinks ℕ
 placed back rank n = record n { back = back; rank = rank }

@@ -26,9 +26,29 @@ pub record Spot (at : Slots) (root : Option ℕ) (side : Side) (y : ℕ) (whole 
 spot_here : (at : Slots) (root : Option ℕ) (side : Side) (way : Way) (l r : Shape) (i k : ℕ) (link : Option ℕ) → HoldsWay at root way link
     → Holds at (above way) link (node l i k r) → Spot at root side i (plug way (node l i k r))
 spot_here at root Lesser way l r i k link w h =
-    record { way = way; near = l; rank = k; far = r; links = h.0; held_way = (let P : Option ℕ → Type 0 = λ link. HoldsWay at root way link in subst P h.1 w); at_y = h.2; holds = record { back = h.3; rank = h.4; near_held = h.5; far_held = h.6 }; is = refl }
+    record {
+      way = way;
+      near = l;
+      rank = k;
+      far = r;
+      links = h.0;
+      held_way = (let P : Option ℕ → Type 0 = λ link. HoldsWay at root way link in subst P h.1 w);
+      at_y = h.2;
+      holds = record { back = h.3; rank = h.4; near_held = h.5; far_held = h.6 };
+      is = refl;
+    }
 spot_here at root Greater way l r i k link w h =
-    record { way = way; near = r; rank = k; far = l; links = h.0; held_way = (let P : Option ℕ → Type 0 = λ link. HoldsWay at root way link in subst P h.1 w); at_y = h.2; holds = record { back = h.3; rank = h.4; near_held = h.6; far_held = h.5 }; is = refl }
+    record {
+      way = way;
+      near = r;
+      rank = k;
+      far = l;
+      links = h.0;
+      held_way = (let P : Option ℕ → Type 0 = λ link. HoldsWay at root way link in subst P h.1 w);
+      at_y = h.2;
+      holds = record { back = h.3; rank = h.4; near_held = h.6; far_held = h.5 };
+      is = refl;
+    }
 
 -- each index of a tree has its spot
 pub spot_in : (at : Slots) (root : Option ℕ) (side : Side) (y : ℕ) (s : Shape) (way : Way) (link : Option ℕ) → HoldsWay at root way link

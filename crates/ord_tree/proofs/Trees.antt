@@ -1,5 +1,6 @@
 -- A tree that lies in a chain: what its view is, and what changes of the chain keep it.
-use Rattle.std.proofs.Common.{◌≡◌, ◌≢◌, ℕ, zero, suc, ◌+◌, ◌≤◌, Option, Some, None, List, [], ◌∷◌, map, length, arith, refl, sym, ◌∙◌, ap, subst, ⊎_elim, inl, inr, is_some, option_map, max, Result, Ok, Err, OnOk, OnErr, OnSome, IfNone, true, false, cond, Bool}
+use Rattle.std.proofs.Common.{◌≡◌, ◌≢◌, ℕ, zero, suc, ◌+◌, ◌≤◌, Option, Some, None, List, [], ◌∷◌, map, length, arith, refl, sym, ◌∙◌}
+use Rattle.std.proofs.Common.{ap, subst, ⊎_elim, inl, inr, is_some, option_map, max, Result, Ok, Err, OnOk, OnErr, OnSome, IfNone, true, false, cond, Bool}
 use Rattle.std.proofs.lemmas.Bool.{cases_eq, eq-eqb, ne_eqb}
 use Rattle.std.proofs.lemmas.Bool.Decides.{eqb_tells}
 use Rattle.std.proofs.lemmas.Option.{same_Some}
@@ -48,18 +49,6 @@ on_some (Some x) A B some f = f some
 pub if_none : {X : Type 0} (o : Option X) (A B : Type 0) → IfNone o A → (A → B) → IfNone o B
 if_none None A B none f = f none
 if_none (Some x) A B none f = none
-
-pub on_there : {X : Type 0} (o : Option X) (A : Type 0) → is_some o ≡ true → OnSome o A → A
-on_there None A there some = absurd cc
-on_there (Some x) A there some = some
-
-pub owed_some : {X : Type 0} (o : Option X) (A : Type 0) → A → OnSome o A
-owed_some None A a = tt
-owed_some (Some x) A a = a
-
-pub not_none : {X : Type 0} (o : Option X) (A : Type 0) → is_some o ≡ true → IfNone o A
-not_none None A there = absurd cc
-not_none (Some x) A there = tt
 
 -- no shape is higher than it has nodes
 pub height-le-size : (s : Shape) → height s ≤ size_of s

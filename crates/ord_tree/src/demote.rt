@@ -49,11 +49,14 @@ pub fn demote_or_rotate<N: Nodes>(
     s: N::Inx,
 ) -> bool
     requires { (order : List ℕ)
-        × IsLeaning (N.at nodes.old) (option_map N.number root.old) side (N.number y) (N.number s) order }
+        × IsLeaning (N.at nodes.old) (option_map N.number root.old) side
+        (N.number y) (N.number s) order }
     ensures mended { (order : List ℕ)
-        → IsLeaning (N.at nodes.old) (option_map N.number root.old) side (N.number y) (N.number s) order
+        → IsLeaning (N.at nodes.old) (option_map N.number root.old) side
+        (N.number y) (N.number s) order
         → MatchBool result
-        (IsDemoted (N.at nodes.old) (N.at nodes.new) (option_map N.number root.new) (N.number y) order)
+        (IsDemoted (N.at nodes.old) (N.at nodes.new)
+        (option_map N.number root.new) (N.number y) order)
         (IsRepaired (N.at nodes.old) (N.at nodes.new) (option_map N.number root.new) order 1) }
     ensures kept { N.list nodes.new ≡ N.list nodes.old }
 {
@@ -84,7 +87,8 @@ pub fn demote<N: Nodes>(nodes: &mut N, root: &mut Option<N::Inx>, y: N::Inx, sid
     ensures mended { (order : List ℕ)
         → IsFallen (N.at nodes.old) (option_map N.number root.old) (N.number y) side order
         → MatchBool result
-        (IsDemoted (N.at nodes.old) (N.at nodes.new) (option_map N.number root.new) (N.number y) order)
+        (IsDemoted (N.at nodes.old) (N.at nodes.new)
+        (option_map N.number root.new) (N.number y) order)
         (IsRepaired (N.at nodes.old) (N.at nodes.new) (option_map N.number root.new) order 1) }
     ensures kept { N.list nodes.new ≡ N.list nodes.old }
 {
@@ -113,9 +117,11 @@ pub fn demote_next<N: Nodes>(
     branch: Branch<N::Inx>,
 ) -> Option<Branch<N::Inx>>
     requires { (order : List ℕ)
-        × IsFallen (N.at nodes.old) (option_map N.number root.old) (N.number branch.parent) branch.side order }
+        × IsFallen (N.at nodes.old) (option_map N.number root.old)
+        (N.number branch.parent) branch.side order }
     ensures demoted { (order : List ℕ)
-        → IsFallen (N.at nodes.old) (option_map N.number root.old) (N.number branch.parent) branch.side order
+        → IsFallen (N.at nodes.old) (option_map N.number root.old)
+        (N.number branch.parent) branch.side order
         → MatchOption result
         (IsRepaired (N.at nodes.old) (N.at nodes.new) (option_map N.number root.new) order 1)
         (λ next. HasDemoted (N.at nodes.old) (N.at nodes.new) (option_map N.number root.new)
@@ -131,9 +137,11 @@ pub fn demote_next<N: Nodes>(
 /// The repair from a branch that has fallen by one.
 pub fn demote_all<N: Nodes>(nodes: &mut N, root: &mut Option<N::Inx>, fallen: Branch<N::Inx>)
     requires { (order : List ℕ)
-        × IsFallen (N.at nodes.old) (option_map N.number root.old) (N.number fallen.parent) fallen.side order }
+        × IsFallen (N.at nodes.old) (option_map N.number root.old)
+        (N.number fallen.parent) fallen.side order }
     ensures repaired { (order : List ℕ)
-        → IsFallen (N.at nodes.old) (option_map N.number root.old) (N.number fallen.parent) fallen.side order
+        → IsFallen (N.at nodes.old) (option_map N.number root.old)
+        (N.number fallen.parent) fallen.side order
         → IsRepaired (N.at nodes.old) (N.at nodes.new) (option_map N.number root.new) order 1 }
     ensures kept { N.list nodes.new ≡ N.list nodes.old }
 {

@@ -48,7 +48,8 @@ pub fn substitute<N: Nodes>(nodes: &mut N, root: &mut Option<N::Inx>, z: N::Inx,
         × CanStandIn (N.at nodes.old) (option_map N.number root.old) (N.number z) (N.number v) s }
     ensures held { (s : Shape)
         → CanStandIn (N.at nodes.old) (option_map N.number root.old) (N.number z) (N.number v) s
-        → Holds (N.at nodes.new) None (option_map N.number root.new) (renamed (N.number z) (N.number v) s) }
+        → Holds (N.at nodes.new) None (option_map N.number root.new)
+        (renamed (N.number z) (N.number v) s) }
     ensures backs { (s : Shape)
         → CanStandIn (N.at nodes.old) (option_map N.number root.old) (N.number z) (N.number v) s
         → MovesBacks 3 (N.at nodes.old) (N.at nodes.new) }

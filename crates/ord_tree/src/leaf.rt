@@ -17,9 +17,11 @@ pub fn add_leaf<N: Nodes>(
     x: N::Inx,
 )
     requires { (order : List ℕ) × (slack : ℕ)
-        × IsNewLeaf (N.at nodes.old) (option_map N.number root.old) side (N.number y) (N.number x) order slack }
+        × IsNewLeaf (N.at nodes.old) (option_map N.number root.old) side
+        (N.number y) (N.number x) order slack }
     ensures repaired { (order : List ℕ) (slack : ℕ)
-        → IsNewLeaf (N.at nodes.old) (option_map N.number root.old) side (N.number y) (N.number x) order slack
+        → IsNewLeaf (N.at nodes.old) (option_map N.number root.old) side
+        (N.number y) (N.number x) order slack
         → IsRepaired (N.at nodes.old) (N.at nodes.new) (option_map N.number root.new)
         (beside side (N.number y) (N.number x) order) slack }
     ensures kept { N.list nodes.new ≡ N.list nodes.old }

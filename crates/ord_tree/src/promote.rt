@@ -38,9 +38,11 @@ pub fn rotate_once_or_twice<N: Nodes>(
     y: N::Inx,
 )
     requires { (order : List ℕ) × (slack : ℕ)
-        × IsSteep (N.at nodes.old) (option_map N.number root.old) side (N.number z) (N.number y) order slack }
+        × IsSteep (N.at nodes.old) (option_map N.number root.old) side
+        (N.number z) (N.number y) order slack }
     ensures repaired { (order : List ℕ) (slack : ℕ)
-        → IsSteep (N.at nodes.old) (option_map N.number root.old) side (N.number z) (N.number y) order slack
+        → IsSteep (N.at nodes.old) (option_map N.number root.old) side
+        (N.number z) (N.number y) order slack
         → IsRepaired (N.at nodes.old) (N.at nodes.new) (option_map N.number root.new) order slack }
     ensures kept { N.list nodes.new ≡ N.list nodes.old }
 {

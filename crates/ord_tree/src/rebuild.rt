@@ -88,10 +88,12 @@ pub fn meet<N: Nodes>(
     lesser: Option<N::Inx>,
 ) -> (usize, usize)
     requires { (s : Shape) × (todo : List ℕ) × IsPlan (N.at nodes.old) top s
-        × IsReady (N.at nodes.old) stack.old.items s (option_map N.number lesser) (N.number x ∷ todo) }
+        × IsReady (N.at nodes.old) stack.old.items s
+        (option_map N.number lesser) (N.number x ∷ todo) }
     ensures plan { (s : Shape) → IsPlan (N.at nodes.old) top s → IsPlan (N.at nodes.new) top s }
     ensures met { (s : Shape) (todo : List ℕ) → IsPlan (N.at nodes.old) top s
-        → IsReady (N.at nodes.old) stack.old.items s (option_map N.number lesser) (N.number x ∷ todo)
+        → IsReady (N.at nodes.old) stack.old.items s
+        (option_map N.number lesser) (N.number x ∷ todo)
         → IsUnopened (N.at nodes.new) stack.new.items s (result.0) (result.1) todo }
     ensures few { array_vec_len stack.new ≡ array_vec_len stack.old }
     ensures kept { N.list nodes.new ≡ N.list nodes.old }
@@ -126,7 +128,8 @@ pub fn close_one<N: Nodes>(
 ) -> Option<N::Inx>
     requires { (s : Shape) × (top : ℕ) × (todo : List ℕ) × IsPlan (N.at nodes.old) top s
         × IsFinished (N.at nodes.old) stack.old.items s (option_map N.number greater) todo }
-    ensures plan { (s : Shape) (top : ℕ) → IsPlan (N.at nodes.old) top s → IsPlan (N.at nodes.new) top s }
+    ensures plan { (s : Shape) (top : ℕ) → IsPlan (N.at nodes.old) top s
+        → IsPlan (N.at nodes.new) top s }
     ensures closed { (s : Shape) (top : ℕ) (todo : List ℕ) → IsPlan (N.at nodes.old) top s
         → IsFinished (N.at nodes.old) stack.old.items s (option_map N.number greater) todo
         → MatchOption result
@@ -148,7 +151,8 @@ pub fn close_one<N: Nodes>(
 pub fn close<N: Nodes>(nodes: &mut N, stack: &mut Stack) -> Option<N::Inx>
     requires { (s : Shape) × (top : ℕ) × (todo : List ℕ) × IsPlan (N.at nodes.old) top s
         × IsFinished (N.at nodes.old) stack.old.items s None todo }
-    ensures plan { (s : Shape) (top : ℕ) → IsPlan (N.at nodes.old) top s → IsPlan (N.at nodes.new) top s }
+    ensures plan { (s : Shape) (top : ℕ) → IsPlan (N.at nodes.old) top s
+        → IsPlan (N.at nodes.new) top s }
     ensures closed { (s : Shape) (top : ℕ) (todo : List ℕ) → IsPlan (N.at nodes.old) top s
         → IsFinished (N.at nodes.old) stack.old.items s None todo
         → IsReady (N.at nodes.new) stack.new.items s (option_map N.number result) todo }
@@ -171,13 +175,16 @@ pub fn pass<N: Nodes>(
     lesser: Option<N::Inx>,
 ) -> Option<N::Inx>
     requires { (s : Shape) × (todo : List ℕ) × IsPlan (N.at nodes.old) top s
-        × IsReady (N.at nodes.old) stack.old.items s (option_map N.number lesser) (N.number x ∷ todo) }
+        × IsReady (N.at nodes.old) stack.old.items s
+        (option_map N.number lesser) (N.number x ∷ todo) }
     ensures plan { (s : Shape) → IsPlan (N.at nodes.old) top s → IsPlan (N.at nodes.new) top s }
     ensures passed { (s : Shape) (todo : List ℕ) → IsPlan (N.at nodes.old) top s
-        → IsReady (N.at nodes.old) stack.old.items s (option_map N.number lesser) (N.number x ∷ todo)
+        → IsReady (N.at nodes.old) stack.old.items s
+        (option_map N.number lesser) (N.number x ∷ todo)
         → IsReady (N.at nodes.new) stack.new.items s (option_map N.number result) todo }
     ensures few { (s : Shape) (todo : List ℕ) → IsPlan (N.at nodes.old) top s
-        → IsReady (N.at nodes.old) stack.old.items s (option_map N.number lesser) (N.number x ∷ todo)
+        → IsReady (N.at nodes.old) stack.old.items s
+        (option_map N.number lesser) (N.number x ∷ todo)
         → IsFew stack.new.items s }
     ensures kept { N.list nodes.new ≡ N.list nodes.old }
 {

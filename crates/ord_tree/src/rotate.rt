@@ -27,7 +27,8 @@ pub fn rotate<N: Nodes>(
     rank_y: u8,
 )
     requires { Site (N.at nodes.old) (option_map N.number root.old) side (N.number z) (N.number y) }
-    ensures rotated { (site : Site (N.at nodes.old) (option_map N.number root.old) side (N.number z) (N.number y))
+    ensures rotated { (site : Site (N.at nodes.old)
+        (option_map N.number root.old) side (N.number z) (N.number y))
         → IsRotated site (N.at nodes.new) (option_map N.number root.new) rank_z rank_y }
     ensures kept { N.list nodes.new ≡ N.list nodes.old }
 {

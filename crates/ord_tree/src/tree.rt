@@ -92,7 +92,9 @@ impl<P: Ptr, T, A: Allocator> OrdTree<P, T, A> {
     /// Sets the generation that the next entry gets, and leaves each entry its own.
     pub fn set_generation(&mut self, generation: P::Gen)
         requires { IsLawfulGeneration P.Gen.greatest (P.Gen.number generation) }
-        ensures { self.new ≡ record self.old { list = record self.old.list { generation = P.Gen.number generation } } }
+        ensures { self.new ≡ record self.old {
+          list = record self.old.list { generation = P.Gen.number generation };
+        } }
     {
         self.chain.set_generation(generation);
     }
@@ -101,7 +103,8 @@ impl<P: Ptr, T, A: Allocator> OrdTree<P, T, A> {
     /// began again.
     pub fn inc_generation(&mut self) -> InvalidationOption<()>
         ensures after { self.new ≡ record self.old { list = raised P.Gen.greatest self.old.list } }
-        ensures overflow { is_overflow result ≡ overflows_after P.Gen.greatest self.old.list.generation }
+        ensures overflow { is_overflow result
+            ≡ overflows_after P.Gen.greatest self.old.list.generation }
     {
         self.chain.inc_generation()
     }

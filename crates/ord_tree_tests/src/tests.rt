@@ -1,4 +1,5 @@
 //! Trees of small keys, kept in order by hand, seen through the chain's nodes.
+mod clones;
 mod rebuild;
 
 use arena_base::{

@@ -16,14 +16,14 @@ use Rattle.ord_tree.specs.Tree.{Tree, IsGrown, with_item}
 use Rattle.triple_ord.specs.Gap.{Gap, with_between}
 use Rattle.std.specs.declared.cmp.Ordering.TheVariants.{Less, Equal, Greater}
 use Rattle.triple_ord.specs.Search.{pointer, FindsKey, FindsSimilar}
-use Rattle.triple_ord.specs.Place.{Aim, alone, at_key, before_key, beside, Place, into, over, nowhere, IsPlace, aim_of}
+use Rattle.triple_ord.specs.Place.{Aim, alone, at_key, behind_key, beside, Place, into, over, nowhere, IsPlace, aim_of}
 use Rattle.triple_ord.specs.Insertion.{Growth, within, reallocating, with_slot, InsertsBy, told}
 use Rattle.triple_ord.specs.EntryKind.{pointer_of}
 use Rattle.triple_ord.specs.Entry.{InsertsThere, Awaits, IsEntryFor}
 use Rattle.triple_ord.specs.declared.entry_kind.OrdEntryKind.{OrdEntryKind}
 use Rattle.triple_ord.specs.declared.entry_kind.OrdEntryKind.TheVariants.{New, Replacing}
 use Rattle.triple_ord.specs.declared.insert_kind.OrdInsertKind.{OrdInsertKind}
-use Rattle.triple_ord.proofs.Inserting.{entry_at-contained, similar-here, IsInsertion-same}
+use Rattle.triple_ord.proofs.Inserting.{entry_at-after, similar-here, IsInsertion-same}
 use Rattle.triple_ord.specs.Arena.{item_of, entry_at, items, count, Updates, Renews, FindsBy, IsOfGeneration, IsNumbered, FindsNothing}
 
 module _ {T : Type 0} where
@@ -236,8 +236,8 @@ module _ {T K : Type 0} (key : T → K) (cmp : K → K → Ordering) where
   -- the entry whose item is to be replaced is found by its index
   over-here : (es : List (Entry T)) → IsDistinct es → (aim : Aim K) (e : Entry T) → IsPlace key cmp {entries = es} aim (over e) → entry_among es e.index ≡ Some (e.generation, e.item)
   over-here es distinct alone e at = absurd at
-  over-here es distinct (at_key k) e at = entry_at-contained es e distinct at.within
-  over-here es distinct (before_key k) e at = absurd at
+  over-here es distinct (at_key k) e at = entry_at-after es e distinct at.gap at.here
+  over-here es distinct (behind_key k) e at = absurd at
   over-here es distinct (beside i Less) e at = absurd at
   over-here es distinct (beside i Equal) e at = ap (entry_among es) at.0 ∙ at.1
   over-here es distinct (beside i Greater) e at = absurd at
@@ -323,7 +323,7 @@ module _ {T K : Type 0} (key : T → K) (cmp : K → K → Ordering) (t : Tree T
     pub finds-key : (o : Option P) (c : ℕ) → FindsKey key cmp t.list.entries k (option_map numbers o) c → IfSome o (λ p. FindsBy key cmp t k (numbers p) Equal)
     finds-key None c found = tt
     finds-key (Some p) c found =
-        finds_here found.0 (entry_at-contained t.list.entries found.0 distinct found.2.within) p found.1 Equal found.2.equal
+        finds_here found.0 (entry_at-after t.list.entries found.0 distinct found.2.gap found.2.here) p found.1 Equal found.2.equal
 
 -- what pointers find where all entries were moved
 module _ {T : Type 0} (a : Tree T) (g : ℕ) where

@@ -1,5 +1,5 @@
 -- A descent from the root: how it begins, goes down, and ends.
-use Rattle.std.proofs.Common.{◌≡◌, ◌≢◌, ℕ, true, false, ◌+◌, ◌-◌, ◌≤◌, List, [], ◌∷◌, ◌++◌, Option, Some, None, IsSome, IfSome, refl, sym, ap, subst, ◌∙◌, arith, inl, inr, ◌⊎◌, max, map, append_assoc, Contains, length, MatchOption}
+use Rattle.std.proofs.Common.{◌≡◌, ◌≢◌, ℕ, true, false, if◌then◌else◌, ◌+◌, ◌-◌, ◌≤◌, List, [], ◌∷◌, ◌++◌, Option, Some, None, IsSome, IfSome, refl, sym, ap, subst, ◌∙◌, arith, inl, inr, ◌⊎◌, max, map, append_assoc, Contains, length, MatchOption}
 use Rattle.std.proofs.lemmas.List.{append-nil}
 use Rattle.std.proofs.lemmas.List.Elements.{Contains-append_right}
 use Rattle.std.proofs.lemmas.Bool.Decides.{eqb_tells}
@@ -10,11 +10,11 @@ use Rattle.std.specs.declared.cmp.Ordering.TheVariants.{Less, Equal, Greater}
 use Rattle.chain_base.specs.Chain.{Entry, times, IsDistinct, entry_at}
 use Rattle.ord_tree.specs.Shape.{Shape, missing, node, root_of, walk, height}
 use Rattle.triple_ord.specs.Gap.{Gap, first_of, last_or}
-use Rattle.triple_ord.specs.Search.{order_to, pointer, IsMet, StopsAt, IsBeside, FindsKey, FindsSimilar}
+use Rattle.triple_ord.specs.Search.{order_to, pointer, IsFirstEqual, StopsAt, IsBeside, FindsKey, FindsSimilar}
 use Rattle.ord_tree.specs.Tree.{Tree}
 use Rattle.triple_ord.specs.Node.{IsPart}
-use Rattle.triple_ord.specs.ClosureSearch.{Shown, entries_of, but_last, IsSearch, where_equal, similar_of, FindsSimilarWith}
-use Rattle.triple_ord.specs.Descent.{IsShown, IsDescending, HasDescended}
+use Rattle.triple_ord.specs.ClosureSearch.{Shown, entries_of, but_last, IsSearch, where_equal, similar_of, FindsWith, FindsSimilarWith}
+use Rattle.triple_ord.specs.Descent.{IsShown, last_less, IsDescending, HasDescended}
 use Rattle.std.specs.List.{All, FoldsTo, AllByRecursion as ByRecursion}
 use Rattle.std.proofs.lemmas.List.Elements.{All-nil, All-push, All-from_recursion, recursion_from_All, Contains-append_left, Contains-push}
 use Rattle.std.proofs.lemmas.List.{length_push}
@@ -95,7 +95,7 @@ by_parts-but_last P (x ∷ (y ∷ ys)) all = (all.0, by_parts-but_last P (y ∷ 
 All-but_last : {X : Type 0} (P : X → Type 0) (xs : List X) → All P xs → All P (but_last xs)
 All-but_last P xs all = All-from_recursion P (but_last xs) (by_parts-but_last P xs (recursion_from_All P xs all))
 
-last_or-push : {X : Type 0} (other : Option X) (xs : List X) (x : X) → last_or other (xs ++ x ∷ []) ≡ Some x
+pub last_or-push : {X : Type 0} (other : Option X) (xs : List X) (x : X) → last_or other (xs ++ x ∷ []) ≡ Some x
 last_or-push other xs x = last_or-append other xs x []
 
 pub IfSome-map : {X : Type 0} (P Q : X → Type 0) (o : Option X) → ((x : X) → P x → Q x) → IfSome o P → IfSome o Q
@@ -110,6 +110,24 @@ module _ {T : Type 0} where
   entries_of-push : (shown : List (Shown T)) (s : Shown T) → entries_of (shown ++ s ∷ []) ≡ entries_of shown ++ s.0 ∷ []
   entries_of-push [] s = refl
   entries_of-push (x ∷ shown) s = ap (λ l. x.0 ∷ l) (entries_of-push shown s)
+
+  pub last_less-push : (other : Option (Entry T)) (shown : List (Shown T)) (s : Shown T) → last_less other (shown ++ s ∷ []) ≡ (if is_lt s.1 then Some s.0 else last_less other shown)
+  last_less-push other [] s = refl
+  last_less-push other (x ∷ shown) s = last_less-push (if is_lt x.1 then Some x.0 else other) shown s
+
+  -- it was answered Less
+  last_less-in : (other : Option (Entry T)) (shown : List (Shown T)) (e : Entry T) → last_less other shown ≡ Some e → (other ≡ Some e) ⊎ Contains shown (e, Less)
+  last_less-in other [] e is = inl is
+  last_less-in other ((x, Less) ∷ shown) e is = elim (last_less-in (Some x) shown e is) [
+    | inl same ↦ let here : x ≡ e = cc in inr (subst (λ (y : Entry T). Contains ((x, Less) ∷ shown) (y, Less)) here (Contains-append_left ((x, Less) ∷ []) shown (x, Less) (Contains-push [] (x, Less))))
+    | inr there ↦ inr (Contains-append_right ((x, Less) ∷ []) shown (e, Less) there)
+  ]
+  last_less-in other ((x, Equal) ∷ shown) e is = elim (last_less-in other shown e is) [ inl same ↦ inl same | inr there ↦ inr (Contains-append_right ((x, Equal) ∷ []) shown (e, Less) there) ]
+  last_less-in other ((x, Greater) ∷ shown) e is = elim (last_less-in other shown e is) [ inl same ↦ inl same | inr there ↦ inr (Contains-append_right ((x, Greater) ∷ []) shown (e, Less) there) ]
+
+  pub less_shown : (shown : List (Shown T)) (o : Option (Entry T)) → o ≡ last_less None shown → IfSome o (λ e. Contains shown (e, Less))
+  less_shown shown None is = tt
+  less_shown shown (Some e) is = elim (last_less-in None shown e (sym is)) [ inl none ↦ absurd (cc) | inr there ↦ there ]
 
   times-push : (j : ℕ) (shown : List (Shown T)) (s : Shown T) → times j (entries_of (shown ++ s ∷ [])) ≡ times j (entries_of shown) + times j (s.0 ∷ [])
   times-push j shown s = rw (entries_of-push shown s) (times-append j (entries_of shown) (s.0 ∷ []))
@@ -128,7 +146,7 @@ module _ {T : Type 0} (es : List (Entry T)) (shape : Shape) where
         cut = sym (append-nil es);
         left = listed;
         greater_before = tt;
-        less_after = tt;
+        after_is = refl;
         last_beside = (refl, refl);
         few = omega arith;
         new = λ j. omega (arith, distinct j);
@@ -152,7 +170,7 @@ module _ {T : Type 0} (es : List (Entry T)) (shape : Shape) where
     pub low_is : map (λ e. e.index) low ≡ walk lesser_side
     pub high_is : map (λ e. e.index) high ≡ walk greater_side
     pub greater_before : IfSome (last_or None front) (λ e. Contains shown (e, Greater))
-    pub less_after : IfSome (first_of back) (λ e. Contains shown (e, Less))
+    pub after_is : first_of back ≡ last_less None shown
     pub few : length shown + (max (height lesser_side) (height greater_side) + 1) ≤ height shape
     pub new : (j : ℕ) → times j (entries_of shown) + (times j low + (times j (entry ∷ []) + times j high)) ≤ 1
     pub inside : All (λ s. Contains es s.0) shown
@@ -179,7 +197,7 @@ module _ {T : Type 0} (es : List (Entry T)) (shape : Shape) where
         low_is = cut.low_is;
         high_is = cut.high_is;
         greater_before = d.greater_before;
-        less_after = d.less_after;
+        after_is = d.after_is;
         few = let h = ap height is in omega (arith, d.few, h);
         new = λ j. let h = ap (times j) cut.cut in omega (arith, d.new j, h, times-append j cut.front (cut.entry ∷ cut.back));
         inside = d.inside;
@@ -225,7 +243,7 @@ module _ {T : Type 0} (es : List (Entry T)) (shape : Shape) where
           cut = f.cut ∙ simp append_assoc;
           left = f.low_is;
           greater_before = IfSome-map (λ e. Contains shown (e, Greater)) (λ e. Contains (shown ++ (f.entry, Less) ∷ []) (e, Greater)) (last_or None f.front) (λ e there. kept Less e Greater there) f.greater_before;
-          less_after = Contains-push shown (f.entry, Less);
+          after_is = sym (last_less-push None shown (f.entry, Less));
           last_beside = rw last (inr refl);
           few = omega (arith, f.few, counted Less);
           new = λ j. omega (arith, f.new j, times-push j shown (f.entry, Less));
@@ -248,7 +266,7 @@ module _ {T : Type 0} (es : List (Entry T)) (shape : Shape) where
           cut = f.cut ∙ simp append_assoc;
           left = f.high_is;
           greater_before = rw before (Contains-push shown (f.entry, Greater));
-          less_after = IfSome-map (λ e. Contains shown (e, Less)) (λ e. Contains (shown ++ (f.entry, Greater) ∷ []) (e, Less)) (first_of f.back) (λ e there. kept Greater e Less there) f.less_after;
+          after_is = f.after_is ∙ sym (last_less-push None shown (f.entry, Greater));
           last_beside = rw (last, before) (inl refl);
           few = omega (arith, f.few, counted Greater);
           new = λ j. omega (arith, f.new j, times-push j shown (f.entry, Greater));
@@ -275,10 +293,10 @@ module _ {T : Type 0} (es : List (Entry T)) (shape : Shape) where
       no_index (x ∷ xs) same = absurd (cc)
   none_left shown d (node l i m r) is = absurd (let none : None ≡ Some i = d.led ∙ ap root_of is in cc)
 
-  cut_there : (shown : List (Shown T)) (d : IsDescending es shape shown None) → es ≡ d.front ++ d.back
+  pub cut_there : (shown : List (Shown T)) (d : IsDescending es shape shown None) → es ≡ d.front ++ d.back
   cut_there shown d = d.cut ∙ ap (λ xs. d.front ++ (xs ++ d.back)) (none_left shown d d.part refl)
 
-  beside : (low high : Option (Entry T)) (last : Option (Shown T)) → MatchOption last ((low ≡ None) × (high ≡ None)) (λ s. (low ≡ Some s.0) ⊎ (high ≡ Some s.0)) → IfSome last (λ s. (low ≡ Some s.0) ⊎ (high ≡ Some s.0))
+  pub beside : (low high : Option (Entry T)) (last : Option (Shown T)) → MatchOption last ((low ≡ None) × (high ≡ None)) (λ s. (low ≡ Some s.0) ⊎ (high ≡ Some s.0)) → IfSome last (λ s. (low ≡ Some s.0) ⊎ (high ≡ Some s.0))
   beside low high None h = tt
   beside low high (Some s) h = h
 
@@ -289,7 +307,7 @@ module _ {T : Type 0} (es : List (Entry T)) (shape : Shape) where
         within = d.inside;
         different = λ j. omega (arith, d.new j);
         equal_last = All-but_last (λ (s : Shown T). s.1 ≢ Equal) shown d.no_equal;
-        ends = inr (gap, record { greater_before = d.greater_before; less_after = d.less_after; last_beside = beside (last_or None d.front) (first_of d.back) (last_or None shown) d.last_beside });
+        ends = inr (gap, record { greater_before = d.greater_before; less_after = less_shown shown (first_of d.back) d.after_is; last_beside = beside (last_or None d.front) (first_of d.back) (last_or None shown) d.last_beside });
       }
 
   -- nothing was shown in an empty list alone
@@ -311,6 +329,42 @@ module _ {T : Type 0} (es : List (Entry T)) (shape : Shape) where
       empty_back (x ∷ xs) same = absurd (cc)
   descent-empty shown (Some s) is d = tt
 
+-- a descent in a tree that has come to a link: the entry there
+module _ {T : Type 0} (t : Tree T) (distinct : IsDistinct t.list.entries) (shown : List (Shown T)) (i : ℕ) (d : IsDescending t.list.entries t.shape shown (Some i)) where
+  pub face : IsFacing t.list.entries t.shape shown i
+  face = facing t.list.entries t.shape shown i d
+
+  face-found : entry_at t.list.entries i ≡ Some (face.entry.generation, face.entry.item)
+  face-found = facing-found t.list.entries t.shape shown i face distinct
+
+  -- an entry stands at the link
+  pub step-occupied : IsSome (entry_at t.list.entries i)
+  step-occupied = rw face-found refl
+
+  -- so there is a step left
+  pub step-few : length shown + 1 ≤ height t.shape
+  step-few = let few = face.few in omega (arith, few)
+
+  module _ (generation : ℕ) (item : T) (lesser greater : Option ℕ) (there : IsShown t i generation item lesser greater) where
+    step-entry : ◌≡◌ {A = ℕ × T} (face.entry.generation, face.entry.item) (generation, item)
+    step-entry = let h = face-found in let s = there.entry in cc
+
+    pub step-pointer : pointer face.entry ≡ (i, generation)
+    step-pointer = let e : face.entry.generation ≡ generation = ap (λ e. e.0) step-entry in let h = face.here in cc
+
+    pub step-item : face.entry.item ≡ item
+    step-item = ap (λ e. e.1) step-entry
+
+    pub step-lesser : IsDescending t.list.entries t.shape (shown ++ (face.entry, Less) ∷ []) lesser
+    step-lesser =
+        let f = face in
+        rw (there.lesser_root f.lesser_side f.greater_side f.rank f.within) (facing-lesser t.list.entries t.shape shown i f)
+
+    pub step-greater : IsDescending t.list.entries t.shape (shown ++ (face.entry, Greater) ∷ []) greater
+    step-greater =
+        let f = face in
+        rw (there.greater_root f.lesser_side f.greater_side f.rank f.within) (facing-greater t.list.entries t.shape shown i f)
+
 -- One step of a descent in a tree: the entry at the link is shown to the closure.
 module _ {T F : Type 0} (asks : F → Shown T → F → Type 0) (t : Tree T) (distinct : IsDistinct t.list.entries) (f : F) (before : ℕ) where
   pub descent-begins : map (λ e. e.index) t.list.entries ≡ walk t.shape → HasDescended asks t.list.entries t.shape before f f (root_of t.shape) before None
@@ -325,44 +379,29 @@ module _ {T F : Type 0} (asks : F → Shown T → F → Type 0) (t : Tree T) (di
   )
 
   module _ (g : F) (i visits : ℕ) (last : Option ((ℕ × ℕ) × Ordering)) (d : HasDescended asks t.list.entries t.shape before f g (Some i) visits last) where
-    face : IsFacing t.list.entries t.shape d.shown i
-    face = facing t.list.entries t.shape d.shown i d.descending
-
-    -- an entry stands at the link
-    pub step-occupied : IsSome (entry_at t.list.entries i)
-    step-occupied = rw (facing-found t.list.entries t.shape d.shown i face distinct) refl
-
-    -- so there is a step left
-    pub step-few : visits + 1 ≤ before + height t.shape
-    step-few = let few = face.few in omega (arith, few, d.count)
-
-    module _ (generation : ℕ) (item : T) (lesser greater : Option ℕ) (shown : IsShown t i generation item lesser greater) where
-      step-entry : ◌≡◌ {A = ℕ × T} (face.entry.generation, face.entry.item) (generation, item)
-      step-entry = let h = facing-found t.list.entries t.shape d.shown i face distinct in let s = shown.entry in cc
-
-      step-pointer : pointer face.entry ≡ (i, generation)
-      step-pointer = let e : face.entry.generation ≡ generation = ap (λ e. e.0) step-entry in let h = face.here in cc
-
-      step-item : face.entry.item ≡ item
-      step-item = ap (λ e. e.1) step-entry
+    module _ (generation : ℕ) (item : T) (lesser greater : Option ℕ) (there : IsShown t i generation item lesser greater) where
+      abbrev entry : Entry T
+      entry = (face t distinct d.shown i d.descending).entry
 
       module _ (o : Ordering) (h : F) (asked : (e : Entry T) → pointer e ≡ (i, generation) → e.item ≡ item → asks g (e, o) h) where
-        calls_more : FoldsTo asks f (d.shown ++ (face.entry, o) ∷ []) h
-        calls_more = FoldsTo-push asks f d.shown g (face.entry, o) h d.calls (asked face.entry step-pointer step-item)
+        calls_more : FoldsTo asks f (d.shown ++ (entry, o) ∷ []) h
+        calls_more =
+            FoldsTo-push asks f d.shown g (entry, o) h d.calls
+            (asked entry (step-pointer t distinct d.shown i d.descending generation item lesser greater there) (step-item t distinct d.shown i d.descending generation item lesser greater there))
 
-        last_more : Some ((i, generation), o) ≡ similar_of (last_or None (d.shown ++ (face.entry, o) ∷ []))
-        last_more = rw (last_or-push None d.shown (face.entry, o), step-pointer) refl
+        last_more : Some ((i, generation), o) ≡ similar_of (last_or None (d.shown ++ (entry, o) ∷ []))
+        last_more = rw (last_or-push None d.shown (entry, o), step-pointer t distinct d.shown i d.descending generation item lesser greater there) refl
 
-        count_more : visits + 1 ≡ before + length (d.shown ++ (face.entry, o) ∷ [])
-        count_more = omega (arith, d.count, length_push d.shown (face.entry, o))
+        count_more : visits + 1 ≡ before + length (d.shown ++ (entry, o) ∷ [])
+        count_more = omega (arith, d.count, length_push d.shown (entry, o))
 
         pub step-equal : o ≡ Equal → FindsSimilarWith asks t.list.entries f h (Some ((i, generation), o)) (visits + 1 - before)
         step-equal is = (
-          last_or None (d.shown ++ (face.entry, o) ∷ []),
+          last_or None (d.shown ++ (entry, o) ∷ []),
           record {
-            shown = d.shown ++ (face.entry, o) ∷ [];
+            shown = d.shown ++ (entry, o) ∷ [];
             calls = calls_more;
-            search = rw is (facing-equal t.list.entries t.shape d.shown i face);
+            search = rw is (facing-equal t.list.entries t.shape d.shown i (face t distinct d.shown i d.descending));
             last_is = refl;
             count = let more = count_more in omega (arith, more);
           },
@@ -371,28 +410,22 @@ module _ {T F : Type 0} (asks : F → Shown T → F → Type 0) (t : Tree T) (di
         )
 
         pub step-less : o ≡ Less → HasDescended asks t.list.entries t.shape before f h lesser (visits + 1) (Some ((i, generation), o))
-        step-less is =
-            let fa = face in
-            let link = shown.lesser_root fa.lesser_side fa.greater_side fa.rank fa.within in
-            record {
-              shown = d.shown ++ (face.entry, o) ∷ [];
-              calls = calls_more;
-              descending = rw (link, is) (facing-lesser t.list.entries t.shape d.shown i face);
-              count = count_more;
-              last_is = last_more;
-            }
+        step-less is = record {
+          shown = d.shown ++ (entry, o) ∷ [];
+          calls = calls_more;
+          descending = rw is (step-lesser t distinct d.shown i d.descending generation item lesser greater there);
+          count = count_more;
+          last_is = last_more;
+        }
 
-        pub step-greater : o ≡ Greater → HasDescended asks t.list.entries t.shape before f h greater (visits + 1) (Some ((i, generation), o))
-        step-greater is =
-            let fa = face in
-            let link = shown.greater_root fa.lesser_side fa.greater_side fa.rank fa.within in
-            record {
-              shown = d.shown ++ (face.entry, o) ∷ [];
-              calls = calls_more;
-              descending = rw (link, is) (facing-greater t.list.entries t.shape d.shown i face);
-              count = count_more;
-              last_is = last_more;
-            }
+        pub step-more : o ≡ Greater → HasDescended asks t.list.entries t.shape before f h greater (visits + 1) (Some ((i, generation), o))
+        step-more is = record {
+          shown = d.shown ++ (entry, o) ∷ [];
+          calls = calls_more;
+          descending = rw is (step-greater t distinct d.shown i d.descending generation item lesser greater there);
+          count = count_more;
+          last_is = last_more;
+        }
 
 -- the answer, by its tests
 pub equal_by : (o : Ordering) → is_eq o ≡ true → o ≡ Equal
@@ -418,17 +451,17 @@ module _ {T K : Type 0} (key : T → K) (cmp : K → K → Ordering) (es : List 
     | inr high ↦ inl (rw high at b.1.fits.greater_after)
   ]
 
-  -- an entry that compares equal was met
-  pub met-of_equal : (e : Entry T) → (IsMet key cmp es k e × (1 ≤ c)) ⊎ IsBeside key cmp es k c e → order_to key cmp k e ≡ Equal → IsMet key cmp es k e × (1 ≤ c)
-  met-of_equal e found equal = elim found [
-    | inl met ↦ met
+  -- an entry that compares equal is the first of its group
+  pub first-of_equal : (e : Entry T) → (IsFirstEqual key cmp es k e × (1 ≤ c)) ⊎ IsBeside key cmp es k c e → order_to key cmp k e ≡ Equal → IsFirstEqual key cmp es k e × (1 ≤ c)
+  first-of_equal e found equal = elim found [
+    | inl first ↦ first
     | inr beside ↦ absurd (elim (beside-order e beside) [ inl less ↦ (cc) | inr more ↦ (cc) ])
   ]
 
   -- an entry that doesn't compare equal stands beside a gap that fits
-  pub stop-of_other : (e : Entry T) → (IsMet key cmp es k e × (1 ≤ c)) ⊎ IsBeside key cmp es k c e → order_to key cmp k e ≢ Equal → IsBeside key cmp es k c e
+  pub stop-of_other : (e : Entry T) → (IsFirstEqual key cmp es k e × (1 ≤ c)) ⊎ IsBeside key cmp es k c e → order_to key cmp k e ≢ Equal → IsBeside key cmp es k c e
   stop-of_other e found other = elim found [
-    | inl met ↦ absurd (other met.0.equal)
+    | inl first ↦ absurd (other first.0.equal)
     | inr beside ↦ beside
   ]
 
@@ -438,13 +471,13 @@ module _ {T K : Type 0} (key : T → K) (cmp : K → K → Ordering) (es : List 
       let gap : Gap es = record { front = []; back = []; cut = empty } in
       (gap, record { fits = record { lesser_before = tt; greater_after = tt }; seen = omega arith })
 
-  -- the search met an equal entry, or stopped at a gap that fits
-  finds_key-met : (p : ℕ × ℕ) (o : Ordering) → FindsSimilar key cmp es k (Some (p, o)) c → is_eq o ≡ true → FindsKey key cmp es k (Some p) c
-  finds_key-met p Less found test = absurd (cc)
-  finds_key-met p Greater found test = absurd (cc)
-  finds_key-met p Equal found test =
-      let met = met-of_equal found.0 found.2 (sym (ap (λ a. a.1) found.1)) in
-      (found.0, ap (λ a. a.0) found.1, met.0, met.1)
+  -- the search found an equal entry, or stopped at a gap that fits
+  finds_key-first : (p : ℕ × ℕ) (o : Ordering) → FindsSimilar key cmp es k (Some (p, o)) c → is_eq o ≡ true → FindsKey key cmp es k (Some p) c
+  finds_key-first p Less found test = absurd (cc)
+  finds_key-first p Greater found test = absurd (cc)
+  finds_key-first p Equal found test =
+      let first = first-of_equal found.0 found.2 (sym (ap (λ a. a.1) found.1)) in
+      (found.0, ap (λ a. a.0) found.1, first.0, first.1)
 
   finds_key-stopped : (p : ℕ × ℕ) (o : Ordering) → FindsSimilar key cmp es k (Some (p, o)) c → is_eq o ≡ false → FindsKey key cmp es k None c
   finds_key-stopped p o found test =
@@ -458,7 +491,7 @@ module _ {T K : Type 0} (key : T → K) (cmp : K → K → Ordering) (es : List 
     where
       by_order : (p : ℕ × ℕ) (o : Ordering) → FindsSimilar key cmp es k (Some (p, o)) c → FindsKey key cmp es k (where_equal (Some (p, o))) c
       by_order p Less found = finds_key-stopped p Less found refl
-      by_order p Equal found = finds_key-met p Equal found refl
+      by_order p Equal found = finds_key-first p Equal found refl
       by_order p Greater found = finds_key-stopped p Greater found refl
 
 -- what came with Equal, mapped
@@ -470,3 +503,7 @@ where_equal-map {X} f (Some a) = by_order a.0 a.1
     by_order x Less = refl
     by_order x Equal = refl
     by_order x Greater = refl
+
+-- what a search for a similar entry says of one for an equal one
+pub finds_with-similar : {T F : Type 0} (asks : F → Shown T → F → Type 0) (es : List (Entry T)) (f g : F) (c : ℕ) (found : Option ((ℕ × ℕ) × Ordering)) → FindsSimilarWith asks es f g found c → FindsWith asks es f g (where_equal found) c
+finds_with-similar asks es f g c found search = (search.0, search.1, ap where_equal search.2 ∙ where_equal-map pointer search.0)

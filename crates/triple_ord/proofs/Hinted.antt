@@ -5,12 +5,10 @@ use Rattle.std.specs.Option.{option_map}
 use Rattle.std.specs.declared.cmp.Ordering.{Ordering}
 use Rattle.chain_base.specs.Chain.{Entry}
 use Rattle.ord_tree.specs.Shape.{Shape}
-use Rattle.triple_ord.specs.Search.{IsMet, IsBeside, FindsKey, FindsSimilar}
-use Rattle.triple_ord.specs.ClosureSearch.{where_equal}
+use Rattle.triple_ord.specs.Search.{IsFirstEqual, IsBeside, FindsSimilar}
 use Rattle.triple_ord.specs.VisitBounds.{IsWithinBounds, IsWithinHintedBounds}
 use Rattle.triple_ord.specs.Hint.{IsNearHint}
 use Rattle.triple_ord.specs.Steps.{Settles, IsNear}
-use Rattle.triple_ord.proofs.Descending.{finds_key-similar, where_equal-map}
 
 module _ {T K : Type 0} (key : T → K) (cmp : K → K → Ordering) (es : List (Entry T)) (k : K) where
   -- a search that visits more has seen no less
@@ -18,8 +16,8 @@ module _ {T K : Type 0} (key : T → K) (cmp : K → K → Ordering) (es : List 
   FindsSimilar-more None c d more empty = empty
   FindsSimilar-more (Some a) c d more found = (found.0, found.1, seen found.2)
     where
-      seen : (IsMet key cmp es k found.0 × (1 ≤ c)) ⊎ IsBeside key cmp es k c found.0 → (IsMet key cmp es k found.0 × (1 ≤ d)) ⊎ IsBeside key cmp es k d found.0
-      seen (inl met) = inl (met.0, omega (arith, met.1, more))
+      seen : (IsFirstEqual key cmp es k found.0 × (1 ≤ c)) ⊎ IsBeside key cmp es k c found.0 → (IsFirstEqual key cmp es k found.0 × (1 ≤ d)) ⊎ IsBeside key cmp es k d found.0
+      seen (inl first) = inl (first.0, omega (arith, first.1, more))
       seen (inr beside) = let stop = beside.1 in inr (beside.0, record { fits = stop.fits; seen = omega (arith, stop.seen, more) }, beside.2)
 
   module _ {P : Type 0} (pointer_of : P → ℕ × ℕ) (visits : ℕ) where
@@ -27,11 +25,6 @@ module _ {T K : Type 0} (key : T → K) (cmp : K → K → Ordering) (es : List 
     pub settled-similar : (found : Option (P × Ordering)) → Settles key cmp es k (option_map (λ a. (pointer_of a.0, a.1)) found) visits → is_some found ≡ true → FindsSimilar key cmp es k (option_map (λ a. (pointer_of a.0, a.1)) found) visits
     settled-similar None settled some = absurd (cc)
     settled-similar (Some a) settled some = settled
-
-    pub settled-key : (found : Option (P × Ordering)) → Settles key cmp es k (option_map (λ a. (pointer_of a.0, a.1)) found) visits → is_some (where_equal found) ≡ true → FindsKey key cmp es k (option_map pointer_of (where_equal found)) visits
-    settled-key None settled some = absurd (cc)
-    settled-key (Some a) settled some =
-        rw (← where_equal-map {Y = ℕ × ℕ} pointer_of (Some a)) (finds_key-similar key cmp es k visits (Some (pointer_of a.0, a.1)) settled)
 
   -- the steps leave it open only where the hint is too far away
   module _ {X : Type 0} (i num visits : ℕ) where

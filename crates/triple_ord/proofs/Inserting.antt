@@ -1,5 +1,5 @@
 -- Where an insertion by key puts its entry: from what the search answers to the gap in the list.
-use Rattle.std.proofs.Common.{◌≡◌, ◌≢◌, ℕ, zero, suc, ◌+◌, ◌<◌, ◌≤◌, true, false, List, [], ◌∷◌, ◌++◌, length, Option, Some, None, IsSome, refl, sym, ap, subst, ◌∙◌, arith, inl, inr, append_assoc, Contains, get_or}
+use Rattle.std.proofs.Common.{◌≡◌, ◌≢◌, ℕ, ◌+◌, ◌≤◌, true, false, List, [], ◌∷◌, ◌++◌, Option, Some, None, IsSome, refl, sym, ap, subst, ◌∙◌, arith, inl, inr, append_assoc}
 use Rattle.std.proofs.lemmas.Bool.Decides.{eqb_tells}
 use Rattle.std.specs.Ordering.{is_eq}
 use Rattle.std.specs.declared.cmp.Ordering.{Ordering}
@@ -8,8 +8,8 @@ use Rattle.chain_base.specs.Chain.{Entry, Chain, times, IsDistinct, entry_at, in
 use Rattle.chain_base.specs.Insert.{IsInsertion}
 use Rattle.ord_tree.specs.Tree.{put_on}
 use Rattle.triple_ord.specs.Gap.{Gap, first_of, last_or, before, after, present, with_between}
-use Rattle.triple_ord.specs.Search.{order_to, StopsAt, IsMet, IsBeside, FindsSimilar}
-use Rattle.triple_ord.proofs.Descending.{entry_at-here, times-back, met-of_equal, stop-of_other}
+use Rattle.triple_ord.specs.Search.{order_to, StopsAt, IsFirstEqual, IsBeside, FindsSimilar}
+use Rattle.triple_ord.proofs.Descending.{entry_at-here, times-back, equal_by, first-of_equal, stop-of_other}
 
 module _ {T : Type 0} where
   -- a list with a last entry ends with it
@@ -49,26 +49,16 @@ module _ {T : Type 0} where
     | inr h ↦ rw h.0 (ap (λ xs. f ∷ xs) (insert_after-here new front e back (λ j. omega (arith, distinct j))))
   ]
 
-  -- an entry of the list is found by its index
-  entry_at-among : (es : List (Entry T)) (e : Entry T) (k : ℕ) → IsDistinct es → k < length es → get_or es k e ≡ e → entry_at es e.index ≡ Some (e.generation, e.item)
-  entry_at-among [] e k distinct within is = absurd (omega (arith, within))
-  entry_at-among (f ∷ es) e zero distinct within is = rw is (elim (eqb_tells e.index e.index) [ inl h ↦ rw h.0 refl | inr h ↦ absurd (h.1 refl) ])
-  entry_at-among (f ∷ es) e (suc k) distinct within is =
-      elim (eqb_tells f.index e.index) [
-        | inl h ↦
-            let there = occurs es e k (omega (arith, within)) is in
-            let twice : times e.index (f ∷ es) ≡ 1 + times e.index es = rw h.0 refl in
-            absurd (omega (arith, there, twice, distinct e.index))
-        | inr h ↦ rw h.0 (entry_at-among es e k (λ j. omega (arith, distinct j)) (omega (arith, within)) is)
-      ]
+  -- the entry behind a gap is found by its index
+  pub entry_at-after : (es : List (Entry T)) (e : Entry T) → IsDistinct es → (gap : Gap es) → after gap ≡ Some e → entry_at es e.index ≡ Some (e.generation, e.item)
+  entry_at-after es e distinct gap here = go gap.back refl here
     where
-      occurs : (es : List (Entry T)) (e : Entry T) (k : ℕ) → k < length es → get_or es k e ≡ e → 1 ≤ times e.index es
-      occurs [] e k within is = absurd (omega (arith, within))
-      occurs (f ∷ es) e zero within is = rw is (omega (arith, times-here e es))
-      occurs (f ∷ es) e (suc k) within is = omega (arith, occurs es e k (omega (arith, within)) is)
-
-  pub entry_at-contained : (es : List (Entry T)) (e : Entry T) → IsDistinct es → Contains es e → entry_at es e.index ≡ Some (e.generation, e.item)
-  entry_at-contained es e distinct there = entry_at-among es e there.0 distinct there.1 there.2
+      go : (back : List (Entry T)) → gap.back ≡ back → first_of back ≡ Some e → entry_at es e.index ≡ Some (e.generation, e.item)
+      go [] same first = absurd (cc)
+      go (x ∷ back) same first =
+          let is : x ≡ e = cc in
+          let cut : es ≡ gap.front ++ e ∷ back = gap.cut ∙ ap (λ ys. gap.front ++ ys) (same ∙ ap (λ y. y ∷ back) is) in
+          ap (λ xs. entry_at xs e.index) cut ∙ entry_at-here gap.front e back (subst (λ (xs : List (Entry T)). IsDistinct xs) cut distinct)
 
   -- an insertion by another word for the same place
   inserted_at-same : (c : Chain T) (place other : Entry T → List (Entry T)) (item : T) (vacant : List ℕ) → ((new : Entry T) → place new ≡ other new) → inserted_at c place item vacant ≡ inserted_at c other item vacant
@@ -145,23 +135,14 @@ module _ {T K : Type 0} (key : T → K) (cmp : K → K → Ordering) (es : List 
       | inl low ↦
           let last = ends b.0.front e low in
           let cut : es ≡ last.front ++ e ∷ b.0.back = b.0.cut ∙ ap (λ xs. xs ++ b.0.back) last.cut ∙ simp append_assoc in
-          at_cut last.front b.0.back cut
-      | inr high ↦ split b.0.back refl high
+          ap (λ xs. entry_at xs e.index) cut ∙ entry_at-here last.front e b.0.back (subst (λ (xs : List (Entry T)). IsDistinct xs) cut distinct)
+      | inr high ↦ entry_at-after es e distinct b.0 high
     ]
-      where
-        at_cut : (front back : List (Entry T)) → es ≡ front ++ e ∷ back → entry_at es e.index ≡ Some (e.generation, e.item)
-        at_cut front back cut = ap (λ xs. entry_at xs e.index) cut ∙ entry_at-here front e back (subst (λ (xs : List (Entry T)). IsDistinct xs) cut distinct)
-
-        split : (back : List (Entry T)) → b.0.back ≡ back → first_of back ≡ Some e → entry_at es e.index ≡ Some (e.generation, e.item)
-        split [] same first = absurd (cc)
-        split (x ∷ back) same first =
-            let here : x ≡ e = cc in
-            at_cut b.0.front back (b.0.cut ∙ ap (λ ys. b.0.front ++ ys) (same ∙ ap (λ y. y ∷ back) here))
 
     -- the search saw an entry
     pub similar-seen : 1 ≤ c
     similar-seen = elim found.2 [
-      | inl met ↦ met.1
+      | inl first ↦ first.1
       | inr beside ↦ elim beside.2 [
         | inl low ↦ let two : present (before beside.0) ≡ 1 = ap present low in omega (arith, two, beside.1.seen)
         | inr high ↦ let two : present (after beside.0) ≡ 1 = ap present high in omega (arith, two, beside.1.seen)
@@ -171,7 +152,7 @@ module _ {T K : Type 0} (key : T → K) (cmp : K → K → Ordering) (es : List 
     -- the entry that was returned is found by its index
     pub similar-here : entry_at es found.0.index ≡ Some (found.0.generation, found.0.item)
     similar-here = elim found.2 [
-      | inl met ↦ entry_at-contained es found.0 distinct met.0.within
+      | inl first ↦ entry_at-after es found.0 distinct first.0.gap first.0.here
       | inr beside ↦ beside_here found.0 beside
     ]
 
@@ -195,10 +176,5 @@ module _ {T K : Type 0} (key : T → K) (cmp : K → K → Ordering) (es : List 
         let beside = stop-of_other key cmp es k c found.0 found.2 (λ same. not_equal o test (sym ordered ∙ same)) in
         rw (at, ← named) (beside_placed beside o refl (not_equal o test))
 
-    pub similar-met : is_eq o ≡ true → IsMet key cmp es k found.0
-    similar-met test = (met-of_equal key cmp es k c found.0 found.2 (ordered ∙ equal o test)).0
-      where
-        equal : (o : Ordering) → is_eq o ≡ true → o ≡ Equal
-        equal Less test = absurd (cc)
-        equal Greater test = absurd (cc)
-        equal Equal test = refl
+    pub similar-first : is_eq o ≡ true → IsFirstEqual key cmp es k found.0
+    similar-first test = (first-of_equal key cmp es k c found.0 found.2 (ordered ∙ equal_by o test)).0

@@ -1,8 +1,9 @@
 pub mod Descending
 pub mod Ordered
+pub mod Taken
 pub mod Stepping
 pub mod Hinted
-pub mod Calling
+pub mod DescendingByKey
 pub mod Holding
 pub mod Bounds
 pub mod Bare
@@ -15,3 +16,6 @@ pub mod Inserting
 pub mod Places
 pub mod CallerLemmas
 pub mod Cloning
+pub mod OrderLaws
+pub mod KeptOrder
+pub mod Answered

@@ -31,7 +31,7 @@ module _ {K : Type 0} (cmp : K → K → Ordering) (total : IsTotalOrder cmp) wh
   greater_after k a b Greater is not_greater less = absurd (not_greater refl)
 
 module _ {T K : Type 0} (key : T → K) (cmp : K → K → Ordering) where
-  IsInOrder-rest : (e : Entry T) (es : List (Entry T)) → IsInOrder key cmp (e ∷ es) → IsInOrder key cmp es
+  pub IsInOrder-rest : (e : Entry T) (es : List (Entry T)) → IsInOrder key cmp (e ∷ es) → IsInOrder key cmp es
   IsInOrder-rest e es order front back f g cut = order (e ∷ front) back f g (ap (λ xs. e ∷ xs) cut)
 
   -- a list of one entry is in order; one of more, where its first two are and the list from the second on is
@@ -40,7 +40,7 @@ module _ {T K : Type 0} (key : T → K) (cmp : K → K → Ordering) where
   in_order-one e (x ∷ []) back f g cut = absurd (cc)
   in_order-one e (x ∷ y ∷ front) back f g cut = absurd (cc)
 
-  in_order-more : (e f : Entry T) (es : List (Entry T)) → cmp (key e.item) (key f.item) ≢ Greater → IsInOrder key cmp (f ∷ es) → IsInOrder key cmp (e ∷ f ∷ es)
+  pub in_order-more : (e f : Entry T) (es : List (Entry T)) → cmp (key e.item) (key f.item) ≢ Greater → IsInOrder key cmp (f ∷ es) → IsInOrder key cmp (e ∷ f ∷ es)
   in_order-more e f es two rest [] back x y cut =
       let first : e ≡ x = cc in
       let second : f ≡ y = cc in
@@ -63,19 +63,19 @@ module _ {T K : Type 0} (key : T → K) (cmp : K → K → Ordering) where
         told Equal more = absurd (cc)
         told Greater more = refl
 
-  IsInOrder-back : (front back : List (Entry T)) → IsInOrder key cmp (front ++ back) → IsInOrder key cmp back
+  pub IsInOrder-back : (front back : List (Entry T)) → IsInOrder key cmp (front ++ back) → IsInOrder key cmp back
   IsInOrder-back [] back order = order
   IsInOrder-back (e ∷ front) back order = IsInOrder-back front back (IsInOrder-rest e (front ++ back) order)
 
   module _ (total : IsTotalOrder cmp) (k : K) where
-    all_greater : (front back : List (Entry T)) → IsInOrder key cmp (front ++ back) → IfSome (last_or None front) (λ e. order_to key cmp k e ≡ Greater) → ByRecursion (λ e. order_to key cmp k e ≡ Greater) front
+    pub all_greater : (front back : List (Entry T)) → IsInOrder key cmp (front ++ back) → IfSome (last_or None front) (λ e. order_to key cmp k e ≡ Greater) → ByRecursion (λ e. order_to key cmp k e ≡ Greater) front
     all_greater [] back order last = tt
     all_greater (e ∷ []) back order last = (last, tt)
     all_greater (e ∷ (f ∷ front)) back order last =
         let rest = all_greater (f ∷ front) back (IsInOrder-rest e (f ∷ front ++ back) order) last in
         (lesser_before cmp total k (key e.item) (key f.item) _ refl (order [] (front ++ back) e f refl) rest.0, rest)
 
-    all_less : (back : List (Entry T)) → IsInOrder key cmp back → IfSome (first_of back) (λ e. order_to key cmp k e ≡ Less) → ByRecursion (λ e. order_to key cmp k e ≡ Less) back
+    pub all_less : (back : List (Entry T)) → IsInOrder key cmp back → IfSome (first_of back) (λ e. order_to key cmp k e ≡ Less) → ByRecursion (λ e. order_to key cmp k e ≡ Less) back
     all_less [] order first = tt
     all_less (e ∷ []) order first = (first, tt)
     all_less (e ∷ (f ∷ back)) order first =
@@ -96,25 +96,23 @@ module _ {T K : Type 0} (key : T → K) (cmp : K → K → Ordering) where
   in_back P (x ∷ low) high [] back e cut within all = absurd (omega arith)
   in_back P (x ∷ low) high (y ∷ front) back e cut within all = in_back P low high front back e (cc) (omega (arith, within)) all
 
-  -- an entry to which k lies Greater stands before the gap, one to which it lies Less behind it
+  -- an entry to which k doesn't lie Less stands before the gap, one to which it doesn't lie Greater behind it
   module _ (total : IsTotalOrder cmp) (k : K) (es : List (Entry T)) (order : IsInOrder key cmp es) (gap : Gap es) (fits : Fits key cmp gap k) (front back : List (Entry T)) (e : Entry T) (cut : es ≡ front ++ e ∷ back) where
     ordered : IsInOrder key cmp (gap.front ++ gap.back)
     ordered = rw gap.cut at order
 
-    pub Greater-before : order_to key cmp k e ≡ Greater → length front < length gap.front
-    Greater-before more = elim (leb_tells (length gap.front) (length front)) [
+    pub stands-before : order_to key cmp k e ≢ Less → length front < length gap.front
+    stands-before more = elim (leb_tells (length gap.front) (length front)) [
       | inl h ↦
           let all = all_less total k gap.back (IsInOrder-back gap.front gap.back ordered) fits.greater_after in
-          let less = in_back (λ x. order_to key cmp k x ≡ Less) gap.front gap.back front back e (sym gap.cut ∙ cut) h.1 all in
-          absurd (cc)
+          absurd (more (in_back (λ x. order_to key cmp k x ≡ Less) gap.front gap.back front back e (sym gap.cut ∙ cut) h.1 all))
       | inr h ↦ h.1
     ]
 
-    pub Less-behind : order_to key cmp k e ≡ Less → length gap.front ≤ length front
-    Less-behind less = elim (leb_tells (length gap.front) (length front)) [
+    pub stands-behind : order_to key cmp k e ≢ Greater → length gap.front ≤ length front
+    stands-behind less = elim (leb_tells (length gap.front) (length front)) [
       | inl h ↦ h.1
       | inr h ↦
           let all = all_greater total k gap.front gap.back ordered fits.lesser_before in
-          let more = in_front (λ x. order_to key cmp k x ≡ Greater) gap.front gap.back front back e (sym gap.cut ∙ cut) h.1 all in
-          absurd (cc)
+          absurd (less (in_front (λ x. order_to key cmp k x ≡ Greater) gap.front gap.back front back e (sym gap.cut ∙ cut) h.1 all))
     ]

@@ -10,9 +10,15 @@ use Rattle.chain_base.specs.Chain.{Entry, Chain, entry_at, next_index, IsDistinc
 use Rattle.chain_base.specs.Insert.{IsInsertion}
 use Rattle.ord_tree.specs.Tree.{Tree, IsGrown, put_on, put_at, with_item}
 use Rattle.triple_ord.specs.Arena.{item_of, count, Updates}
-use Rattle.triple_ord.specs.Gap.{Gap, last_or, with_between}
-use Rattle.triple_ord.specs.Search.{Fits, FindsSimilar}
-use Rattle.triple_ord.specs.Place.{Aim, alone, at_key, before_key, beside, Place, into, over, nowhere, HasIndex, IsPlace, aim_of}
+use Rattle.triple_ord.specs.EntryVisits.{HasSeen}
+use Rattle.triple_ord.specs.Gap.{Gap, last_or, before, after, with_between}
+use Rattle.triple_ord.specs.Search.{order_to, Fits, FindsSimilar}
+use Rattle.triple_ord.specs.Ties.{taken}
+use Rattle.triple_ord.specs.declared.ties.Ties.TheVariants.{Passed}
+use Rattle.triple_ord.specs.declared.prepared.InsertPlace.{InsertPlace}
+use Rattle.triple_ord.proofs.Descending.{IfSome-map}
+use Rattle.triple_ord.proofs.Taken.{taken-less, taken-greater, passed-unequal}
+use Rattle.triple_ord.specs.Place.{Aim, alone, at_key, behind_key, beside, Place, into, over, nowhere, HasIndex, IsPlace, aim_of}
 use Rattle.triple_ord.specs.Prepared.{Keeps, IsFoundPlace, IsPlaceBeside, IsPlaceFor, HasRoomAt}
 use Rattle.triple_ord.specs.Insertion.{Growth, within, reallocating, with_slot, LacksSlot, IsRefused, InsertsBeside}
 use Rattle.triple_ord.specs.declared.insert_kind.OrdInsertKind.{OrdInsertKind}
@@ -20,7 +26,7 @@ use Rattle.triple_ord.specs.declared.error.OrdInsertionError.{OrdInsertionError}
 use Rattle.triple_ord.specs.declared.error.OrdInsertionError.TheVariants.{FailedOrdRequirement, NotWithinCapacity, BeyondMaxCapacity, AllocError}
 use Rattle.triple_ord.proofs.CallerLemmas.{entries-with_slot, updates-written, updates-inserted, count-inserted}
 use Rattle.triple_ord.specs.declared.prepared.InsertPlace.TheVariants.{New, Replacing}
-use Rattle.triple_ord.proofs.Inserting.{HasPlace, place-alone, similar-placed, similar-occupied, similar-met, similar-seen, not_equal, IsInsertion-same, insert_before-here, insert_after-here, entry_at-contained}
+use Rattle.triple_ord.proofs.Inserting.{HasPlace, place-alone, similar-placed, similar-occupied, similar-here, similar-first, similar-seen, not_equal, IsInsertion-same, insert_before-here, insert_after-here}
 
 module _ {T : Type 0} where
   -- the list around the entry that has an index
@@ -86,56 +92,53 @@ module _ {P T K : Type 0} (numbers : P → ℕ × ℕ) (key : T → K) (cmp : K 
     -- a gap where a search stops is a place by a key, whichever
     pub found-gap : (aim : Aim K) → ((gap : Gap t.list.entries) → Fits key cmp gap k → IsPlace key cmp aim (into gap)) → (at : Option (P × Ordering))
         → HasRoomAt numbers at t.list → HasPlace key cmp t.list.entries k c (put_at (λ p. (numbers p).0) at t.list.entries) → (t.list.entries ≢ [] → 1 ≤ c)
-        → IsFoundPlace numbers key cmp t aim k c (New at)
+        → IsFoundPlace numbers key cmp t aim c (New at)
     found-gap aim lift at can place some = record {
       place = into place.gap;
       chosen = lift place.gap place.stops.fits;
       keeps = (can, place.puts);
-      seen = record { some = some; beside = λ fits. place.stops.seen };
+      seen = record { some = some; beside = place.stops.seen };
     }
 
-    pub found-alone : (aim : Aim K) → ((gap : Gap t.list.entries) → Fits key cmp gap k → IsPlace key cmp aim (into gap)) → t.list.entries ≡ [] → IsFoundPlace numbers key cmp t aim k c (New None)
+    pub found-alone : (aim : Aim K) → ((gap : Gap t.list.entries) → Fits key cmp gap k → IsPlace key cmp aim (into gap)) → t.list.entries ≡ [] → IsFoundPlace numbers key cmp t aim c (New None)
     found-alone aim lift empty = found-gap aim lift None (ap length empty) (place-alone key cmp t.list.entries k empty c) (λ some. absurd (some empty))
 
     module _ (distinct : IsDistinct t.list.entries) (p : P) (o : Ordering) (found : FindsSimilar key cmp t.list.entries k (Some (numbers p, o)) c) where
-      pub found-beside : (aim : Aim K) → ((gap : Gap t.list.entries) → Fits key cmp gap k → IsPlace key cmp aim (into gap)) → is_eq o ≡ false → IsFoundPlace numbers key cmp t aim k c (New (Some (p, o)))
+      pub found-beside : (aim : Aim K) → ((gap : Gap t.list.entries) → Fits key cmp gap k → IsPlace key cmp aim (into gap)) → is_eq o ≡ false → IsFoundPlace numbers key cmp t aim c (New (Some (p, o)))
       found-beside aim lift test =
           found-gap aim lift (Some (p, o)) (similar-occupied key cmp t.list.entries k distinct (numbers p) o c found, not_equal o test)
           (similar-placed key cmp t.list.entries k distinct (numbers p) o c found (numbers p).0 refl test)
           (λ some. similar-seen key cmp t.list.entries k distinct (numbers p) o c found)
 
-      pub found-over : is_eq o ≡ true → IsFoundPlace numbers key cmp t (at_key k) k c (Replacing p)
+      pub found-over : is_eq o ≡ true → IsFoundPlace numbers key cmp t (at_key k) c (Replacing p)
       found-over test = record {
         place = over found.0;
-        chosen = similar-met key cmp t.list.entries k distinct (numbers p) o c found test;
+        chosen = similar-first key cmp t.list.entries k distinct (numbers p) o c found test;
         keeps = (ap (λ a. a.0) found.1, here);
         seen = record { some = λ some. similar-seen key cmp t.list.entries k distinct (numbers p) o c found; beside = tt };
       }
         where
           here : IsSome (item_of t (numbers p))
           here =
-              let there = item_here t found.0.index (found.0.generation, found.0.item) (entry_at-contained t.list.entries found.0 distinct (similar-met key cmp t.list.entries k distinct (numbers p) o c found test).within) in
+              let there = item_here t found.0.index (found.0.generation, found.0.item) (similar-here key cmp t.list.entries k distinct (numbers p) o c found) in
               rw (ap (λ a. a.0) found.1) there
 
-      pub found-before : is_eq o ≡ true → IsFoundPlace numbers key cmp t (before_key k) k c (New (Some (p, Less)))
-      found-before test =
-          let met = similar-met key cmp t.list.entries k distinct (numbers p) o c found test in
-          let e = found.0 in
-          let cuts = around t.list.entries e.index (e.generation, e.item) (entry_at-contained t.list.entries e distinct met.within) in
-          let gap : Gap t.list.entries = record { front = cuts.front; back = e ∷ cuts.back; cut = cuts.cut } in
-          let index : (numbers p).0 ≡ e.index = ap (λ a. a.0.0) found.1 in
-          record {
-            place = into gap;
-            chosen = inl met.equal;
-            keeps = ((similar-occupied key cmp t.list.entries k distinct (numbers p) o c found, λ same. cc), λ new. puts cuts.front cuts.back cuts.cut new index);
-            seen = record { some = λ some. similar-seen key cmp t.list.entries k distinct (numbers p) o c found; beside = λ fits. absurd (let less = fits.greater_after in let equal = met.equal in cc) };
-          }
-        where
-          puts : (front back : List (Entry T)) → t.list.entries ≡ front ++ found.0 ∷ back → (new : Entry T) → (numbers p).0 ≡ found.0.index
-              → put_at (λ p. (numbers p).0) (Some (p, Less)) t.list.entries new ≡ front ++ new ∷ found.0 ∷ back
-          puts front back cut new index =
-              ap (λ (i : ℕ). insert_before i new t.list.entries) index ∙ ap (insert_before found.0.index new) cut
-              ∙ insert_before-here new front found.0 back (subst (λ (xs : List (Entry T)). IsDistinct xs) cut distinct)
+  -- a place by the order in which equal keys count as lesser lies behind the key
+  pub found-behind : (k : K) (c : ℕ) (kept : InsertPlace P) → IsFoundPlace numbers key (taken Passed cmp) t (at_key k) c kept → IsFoundPlace numbers key cmp t (behind_key k) c kept
+  found-behind k c kept found = go found.place found.chosen found.keeps found.seen
+    where
+      go : (place : Place t.list.entries) → IsPlace key (taken Passed cmp) (at_key k) place → Keeps numbers t kept place → HasSeen place c → IsFoundPlace numbers key cmp t (behind_key k) c kept
+      go (into gap) chosen keeps seen = record {
+        place = into gap;
+        chosen = record {
+          at_most_before = IfSome-map (λ e. order_to key (taken Passed cmp) k e ≡ Greater) (λ e. order_to key cmp k e ≢ Less) (before gap) (λ e lesser. taken-greater cmp k (key e.item) Passed lesser) chosen.lesser_before;
+          greater_after = IfSome-map (λ e. order_to key (taken Passed cmp) k e ≡ Less) (λ e. order_to key cmp k e ≡ Less) (after gap) (λ e more. taken-less cmp k (key e.item) Passed more) chosen.greater_after;
+        };
+        keeps = keeps;
+        seen = seen;
+      }
+      go (over e) chosen keeps seen = absurd (passed-unequal cmp k (key e.item) chosen.equal)
+      go nowhere chosen keeps seen = absurd chosen
 
   -- the entry that has an index: beside it, or in its place
   module _ (distinct : IsDistinct t.list.entries) (p : P) (g : ℕ) (item : T) (named_is : numbers p ≡ ((numbers p).0, g)) (there : entry_at t.list.entries (numbers p).0 ≡ Some (g, item)) where

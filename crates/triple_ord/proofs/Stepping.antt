@@ -1,9 +1,9 @@
 -- Steps from a hint: how they begin, go on, and end.
-use Rattle.std.proofs.Common.{◌≡◌, ◌≢◌, ℕ, suc, true, false, not, ◌==◌, ◌+◌, ◌<◌, ◌≤◌, List, [], ◌∷◌, ◌++◌, Option, Some, None, IsSome, IfSome, length, refl, sym, ap, subst, ◌∙◌, arith, inl, inr, ◌⊎◌, append_assoc, length-append, Contains}
+use Rattle.std.proofs.Common.{◌≡◌, ◌≢◌, ℕ, suc, true, false, not, ◌==◌, ◌+◌, ◌<◌, ◌≤◌, List, [], ◌∷◌, ◌++◌, Option, Some, None, IsSome, IfSome, length, refl, sym, ap, subst, ◌∙◌, arith, inl, inr, ◌⊎◌, append_assoc, length-append}
 use Rattle.std.proofs.lemmas.Bool.Decides.{eqb_tells, leb_tells}
 use Rattle.std.specs.Option.{option_map}
 use Rattle.std.specs.Cmp.{IsTotalOrder}
-use Rattle.std.specs.Ordering.{ordering_index, ordering_reverse}
+use Rattle.std.specs.Ordering.{is_eq, ordering_index, ordering_reverse}
 use Rattle.std.specs.declared.cmp.Ordering.{Ordering}
 use Rattle.std.specs.declared.cmp.Ordering.TheVariants.{Less, Equal, Greater}
 use Rattle.chain_base.specs.Link.{Link}
@@ -13,9 +13,9 @@ use Rattle.triple_ord.specs.Search.{order_to, pointer, Fits, FindsSimilar}
 use Rattle.triple_ord.specs.Order.{IsInOrder}
 use Rattle.triple_ord.specs.Hint.{position_of, way_length}
 use Rattle.triple_ord.specs.Steps.{neighbour_towards, CameFrom, IsStepping}
-use Rattle.triple_ord.proofs.Descending.{Contains-here, entry_at-here, last_or-append, times-back}
+use Rattle.triple_ord.proofs.Descending.{entry_at-here, last_or-append, times-back}
 use Rattle.triple_ord.proofs.Inserting.{ends}
-use Rattle.triple_ord.proofs.Ordered.{Greater-before, Less-behind}
+use Rattle.triple_ord.proofs.Ordered.{stands-before, stands-behind}
 
 module _ {T : Type 0} where
   -- an entry that is there stands at its place
@@ -138,8 +138,8 @@ module _ {T K : Type 0} (key : T → K) (cmp : K → K → Ordering) (es : List 
       next-is : option_map (λ e. e.index) (first_of s.back) ≡ l.next
       next-is = ap (λ x. x.1.next) read
 
-      order-is : (o : Ordering) → o ≡ cmp k (key l.item) → order_to key cmp k s.entry ≡ o
-      order-is o order = ap (λ t. cmp k (key t)) item-is ∙ sym order
+      pub stepping-order : (o : Ordering) → o ≡ cmp k (key l.item) → order_to key cmp k s.entry ≡ o
+      stepping-order o order = ap (λ t. cmp k (key t)) item-is ∙ sym order
 
       -- a step to a neighbour
       pub stepping-goes : (o : Ordering) → o ≡ cmp k (key l.item) → (j : ℕ) → neighbour_towards l o ≡ Some j → o ≢ ordering_reverse came → IsStepping key cmp es k start j (visits + 1) o
@@ -153,7 +153,7 @@ module _ {T K : Type 0} (key : T → K) (cmp : K → K → Ordering) (es : List 
             back = s.entry ∷ s.back;
             cut = s.cut ∙ (ap (λ (xs : List (Entry T)). xs ++ s.entry ∷ s.back) end.cut ∙ simp append_assoc);
             here = n.2;
-            from = (s.entry, refl, order-is Less order, omega arith, omega (arith, place, ap length end.cut, length-append end.front (n.0 ∷ [])));
+            from = (s.entry, refl, stepping-order Less order, omega arith, omega (arith, place, ap length end.cut, length-append end.front (n.0 ∷ [])));
             within = s.within;
           }
       stepping-goes Equal order j next ahead = absurd (cc)
@@ -167,7 +167,7 @@ module _ {T K : Type 0} (key : T → K) (cmp : K → K → Ordering) (es : List 
             back = begin.0;
             cut = s.cut ∙ (ap (λ (xs : List (Entry T)). s.front ++ s.entry ∷ xs) begin.1 ∙ simp append_assoc);
             here = n.2;
-            from = (s.entry, last_or-append None s.front s.entry [], order-is Greater order, omega arith, omega (arith, place, length-append s.front (s.entry ∷ [])));
+            from = (s.entry, last_or-append None s.front s.entry [], stepping-order Greater order, omega arith, omega (arith, place, length-append s.front (s.entry ∷ [])));
             within = s.within;
           }
 
@@ -175,22 +175,29 @@ module _ {T K : Type 0} (key : T → K) (cmp : K → K → Ordering) (es : List 
       named = let g : s.entry.generation ≡ generation = ap (λ x. x.0) read in let h = s.here in cc
 
       -- the steps end with an answer
-      pub stepping-settles : (o : Ordering) → o ≡ cmp k (key l.item) → IfSome (neighbour_towards l o) (λ j. o ≡ ordering_reverse came) → FindsSimilar key cmp es k (Some ((i, generation), o)) (visits + 1)
-      stepping-settles Less order turned =
+      pub stepping-settles : (o : Ordering) → o ≡ cmp k (key l.item) → is_eq o ≡ false → IfSome (neighbour_towards l o) (λ j. o ≡ ordering_reverse came) → FindsSimilar key cmp es k (Some ((i, generation), o)) (visits + 1)
+      stepping-settles Less order other turned =
           let low = low-answered start visits s.front s.back came s.from (last_or None s.front) refl (rw (← prev-is) at turned) in
           let gap : Gap es = record { front = s.front; back = s.entry ∷ s.back; cut = s.cut } in
-          (s.entry, rw (named, order-is Less order) refl, inr (gap, record { fits = record { lesser_before = low.0; greater_after = order-is Less order }; seen = omega (arith, low.1) }, inr refl))
-      stepping-settles Equal order turned =
-          (s.entry, rw (named, order-is Equal order) refl, inl (record { within = let P : List (Entry T) → Type 0 = λ xs. Contains xs s.entry in subst P (sym s.cut) (Contains-here s.front s.entry s.back); equal = order-is Equal order }, omega arith))
-      stepping-settles Greater order turned =
+          (s.entry, rw (named, stepping-order Less order) refl, inr (gap, record { fits = record { lesser_before = low.0; greater_after = stepping-order Less order }; seen = omega (arith, low.1) }, inr refl))
+      stepping-settles Equal order other turned = absurd (cc)
+      stepping-settles Greater order other turned =
           let high = high-answered start visits s.front s.back came s.from (first_of s.back) refl (rw (← next-is) at turned) in
           let last = last_or-append None s.front s.entry [] in
           let gap : Gap es = record { front = s.front ++ s.entry ∷ []; back = s.back; cut = s.cut ∙ simp append_assoc } in
-          (s.entry, rw (named, order-is Greater order) refl, inr (gap, record { fits = record { lesser_before = rw last (order-is Greater order); greater_after = high.0 }; seen = rw last (omega (arith, high.1)) }, inl last))
+          (s.entry, rw (named, stepping-order Greater order) refl, inr (gap, record { fits = record { lesser_before = rw last (stepping-order Greater order); greater_after = high.0 }; seen = rw last (omega (arith, high.1)) }, inl last))
 
-    -- on a list in order the steps go towards the gap, and this one not beyond its far neighbour
-    pub stepping-near : IsTotalOrder cmp → IsInOrder key cmp es → (gap : Gap es) → Fits key cmp gap k → visits + 1 ≤ way_length gap start
-    stepping-near total ordered gap fits = by_way came s.from
+    -- on a list in the order of its keys, with a gap that fits, no entry is equal
+    pub stepping-unequal : (real : K → K → Ordering) → IsTotalOrder real → IsInOrder key real es → (gap : Gap es) → Fits key real gap k → order_to key real k s.entry ≢ Equal
+    stepping-unequal real total ordered gap fits equal =
+        let low = stands-before key real total k es ordered gap fits s.front s.back s.entry s.cut (λ less. let both = equal in cc) in
+        let high = stands-behind key real total k es ordered gap fits s.front s.back s.entry s.cut (λ greater. let both = equal in cc) in
+        absurd (omega (arith, low, high))
+
+    -- the steps go towards that gap, and this one not beyond its far neighbour, where an order that is taken is not the contrary
+    pub stepping-near : (real : K → K → Ordering) → ((other : K) → cmp k other ≡ Less → real k other ≡ Less) → ((other : K) → cmp k other ≡ Greater → real k other ≢ Less)
+        → IsTotalOrder real → IsInOrder key real es → (gap : Gap es) → Fits key real gap k → visits + 1 ≤ way_length gap start
+    stepping-near real lesser greater total ordered gap fits = by_way came s.from
       where
         cut-gap : length es ≡ length gap.front + length gap.back
         cut-gap = ap length gap.cut ∙ length-append gap.front gap.back
@@ -214,7 +221,7 @@ module _ {T K : Type 0} (key : T → K) (cmp : K → K → Ordering) (es : List 
         by_way Less from =
             let begin = begins s.back from.0 from.1 in
             let cut : es ≡ (s.front ++ s.entry ∷ []) ++ from.0 ∷ begin.0 = s.cut ∙ (ap (λ (xs : List (Entry T)). s.front ++ s.entry ∷ xs) begin.1 ∙ simp append_assoc) in
-            let behind = Less-behind key cmp total k es ordered gap fits (s.front ++ s.entry ∷ []) begin.0 from.0 cut from.2 in
+            let behind = stands-behind key real total k es ordered gap fits (s.front ++ s.entry ∷ []) begin.0 from.0 cut (λ more. let less = lesser _ from.2 in cc) in
             let reach : length gap.front ≤ length s.front + 1 = omega (arith, behind, length-append s.front (s.entry ∷ [])) in
             down from.4 reach (omega (arith, reach, from.3, from.4))
         by_way Equal from = elim (leb_tells (suc start) (length gap.front)) [
@@ -224,7 +231,7 @@ module _ {T K : Type 0} (key : T → K) (cmp : K → K → Ordering) (es : List 
         by_way Greater from =
             let end = ends s.front from.0 from.1 in
             let cut : es ≡ end.front ++ from.0 ∷ (s.entry ∷ s.back) = s.cut ∙ (ap (λ (xs : List (Entry T)). xs ++ s.entry ∷ s.back) end.cut ∙ simp append_assoc) in
-            let before = Greater-before key cmp total k es ordered gap fits end.front (s.entry ∷ s.back) from.0 cut from.2 in
+            let before = stands-before key real total k es ordered gap fits end.front (s.entry ∷ s.back) from.0 cut (greater _ from.2) in
             let reach : length s.front ≤ length gap.front = omega (arith, before, ap length end.cut, length-append end.front (from.0 ∷ [])) in
             up from.4 reach (omega (arith, reach, from.3, from.4))
 

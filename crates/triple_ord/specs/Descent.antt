@@ -1,6 +1,8 @@
 -- How far a descent from the root of a tree has come. No public clause cites this file.
-use Rattle.std.specs.Prelude.{◌≡◌, ◌≢◌, ℕ, ◌+◌, ◌≤◌, ◌⊎◌, List, ◌++◌, Option, Some, None, IfSome, MatchOption, Contains, length, map}
+use Rattle.std.specs.Prelude.{◌≡◌, ◌≢◌, ℕ, ◌+◌, ◌-◌, ◌≤◌, ◌⊎◌, if◌then◌else◌, List, [], ◌∷◌, ◌++◌, Option, Some, None, IfSome, MatchOption, Contains, length, map}
 use Rattle.std.specs.List.{All, FoldsTo}
+use Rattle.std.specs.Option.{option_map}
+use Rattle.std.specs.Ordering.{is_lt, ordering_then}
 use Rattle.std.specs.declared.cmp.Ordering.{Ordering}
 use Rattle.std.specs.declared.cmp.Ordering.TheVariants.{Less, Equal, Greater}
 use Rattle.chain_base.specs.Chain.{Entry, times, entry_at}
@@ -8,7 +10,8 @@ use Rattle.ord_tree.specs.Shape.{Shape, node, root_of, walk, height}
 use Rattle.ord_tree.specs.Tree.{Tree}
 use Rattle.triple_ord.specs.Node.{IsPart}
 use Rattle.triple_ord.specs.Gap.{first_of, last_or}
-use Rattle.triple_ord.specs.ClosureSearch.{Shown, entries_of, similar_of}
+use Rattle.triple_ord.specs.Search.{order_to, pointer, FindsSimilar}
+use Rattle.triple_ord.specs.ClosureSearch.{Shown, entries_of, where_equal, similar_of}
 
 -- the entry at index i, with the roots of its sides
 pub record IsShown {T : Type 0} (t : Tree T) (i generation : ℕ) (item : T) (lesser greater : Option ℕ) : Type 0 where
@@ -16,9 +19,20 @@ pub record IsShown {T : Type 0} (t : Tree T) (i generation : ℕ) (item : T) (le
   pub lesser_root : (l r : Shape) (k : ℕ) → IsPart (node l i k r) t.shape → lesser ≡ root_of l
   pub greater_root : (l r : Shape) (k : ℕ) → IsPart (node l i k r) t.shape → greater ≡ root_of r
 
+-- an equal entry behind all that is left, after one that was answered so
+abbrev pub met_next : {X : Type 0} → Option X → X → Ordering → Option X
+met_next met x Less = None
+met_next met x Equal = Some x
+met_next met x Greater = met
+
 module _ {T : Type 0} where
+  -- the entry that was answered Less last, or this where none was
+  abbrev pub last_less : Option (Entry T) → List (Shown T) → Option (Entry T)
+  last_less other [] = other
+  last_less other (s ∷ shown) = last_less (if is_lt s.1 then Some s.0 else other) shown
+
   -- a descent has come to this link, after these answers: what hangs there is all that is left, the entry before it was answered
-  -- Greater and the one after it Less, and nothing that is left was shown yet
+  -- Greater and the one after it was answered Less last, and nothing that is left was shown yet
   pub record IsDescending (entries : List (Entry T)) (shape : Shape) (shown : List (Shown T)) (link : Option ℕ) : Type 0 where
     pub part : Shape
     pub within : IsPart part shape
@@ -29,7 +43,7 @@ module _ {T : Type 0} where
     pub cut : entries ≡ front ++ (middle ++ back)
     pub left : map (λ e. e.index) middle ≡ walk part
     pub greater_before : IfSome (last_or None front) (λ e. Contains shown (e, Greater))
-    pub less_after : IfSome (first_of back) (λ e. Contains shown (e, Less))
+    pub after_is : first_of back ≡ last_less None shown
     pub last_beside : MatchOption (last_or None shown) ((last_or None front ≡ None) × (first_of back ≡ None)) (λ s. (last_or None front ≡ Some s.0) ⊎ (first_of back ≡ Some s.0))
     pub few : length shown + height part ≤ height shape
     pub new : (j : ℕ) → times j (entries_of shown) + times j middle ≤ 1
@@ -43,3 +57,19 @@ module _ {T : Type 0} where
     pub descending : IsDescending entries shape shown link
     pub count : visits ≡ before + length shown
     pub last_is : last ≡ similar_of (last_or None shown)
+
+  -- The comparisons with k so far have led to this link, after so many visits, added to those from before; where k is equal the way led
+  -- to the lesser side. The entry that was shown last, with the order of k to its key, and
+  -- the one behind all that is left, where it is equal.
+  pub record HasDescendedByKey {K : Type 0} (key : T → K) (cmp : K → K → Ordering) (entries : List (Entry T)) (shape : Shape) (k : K) (before : ℕ) (link : Option ℕ) (visits : ℕ) (last : Option ((ℕ × ℕ) × Ordering)) (met : Option (ℕ × ℕ)) : Type 0 where
+    pub shown : List (Shown T)
+    pub turned : All (λ s. s.1 ≡ ordering_then (order_to key cmp k s.0) Less) shown
+    pub descending : IsDescending entries shape shown link
+    pub count : visits ≡ before + length shown
+    pub last_is : last ≡ option_map (λ s. (pointer s.0, order_to key cmp k s.0)) (last_or None shown)
+    pub met_is : met ≡ where_equal (option_map (λ e. (pointer e, order_to key cmp k e)) (last_less None shown))
+
+  -- a search for k from the root, begun after so many visits, has come to this end
+  pub record HasEndedByKey {K : Type 0} (key : T → K) (cmp : K → K → Ordering) (t : Tree T) (k : K) (before : ℕ) (found : Option ((ℕ × ℕ) × Ordering)) (visits : ℕ) : Type 0 where
+    pub similar : FindsSimilar key cmp t.list.entries k found (visits - before)
+    pub few : visits ≤ before + height t.shape

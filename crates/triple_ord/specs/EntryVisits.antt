@@ -5,32 +5,32 @@ use Rattle.chain_base.specs.Chain.{Entry, entry_at}
 use Rattle.ord_tree.specs.Tree.{Tree}
 use Rattle.triple_ord.specs.Gap.{neighbour_count}
 use Rattle.triple_ord.specs.Hint.{IsNearHint}
-use Rattle.triple_ord.specs.Search.{Fits}
 use Rattle.triple_ord.specs.Place.{Place, into}
 use Rattle.triple_ord.specs.VisitBounds.{IsWithinBounds, IsWithinHintedBounds}
 use Rattle.triple_ord.specs.declared.insert_kind.OrdInsertKind.{OrdInsertKind}
 use Rattle.triple_ord.specs.declared.insert_kind.OrdInsertKind.TheVariants.{Empty, Normal, Nonhereditary, Linear, NonhereditaryLinear, Manual}
 
-module _ {T K : Type 0} (key : T → K) (cmp : K → K → Ordering) where
-  -- the neighbours of a place are seen that is a gap which fits
-  abbrev pub SeesGap : {entries : List (Entry T)} → K → Place entries → ℕ → Type 0
-  SeesGap k (into gap) c = Fits key cmp gap k → neighbour_count gap ≤ c
-  SeesGap k place c = ⊤
+module _ {T : Type 0} where
+  -- the neighbours of a place are seen that is a gap
+  abbrev pub SeesGap : {entries : List (Entry T)} → Place entries → ℕ → Type 0
+  SeesGap (into gap) c = neighbour_count gap ≤ c
+  SeesGap place c = ⊤
 
-  -- the search that came to a place saw an entry, if there is one, and the neighbours of a gap that fits
-  pub record HasSeen {entries : List (Entry T)} (k : K) (place : Place entries) (c : ℕ) : Type 0 where
+  -- the search that came to a place saw an entry, if there is one, and the neighbours of a gap
+  pub record HasSeen {entries : List (Entry T)} (place : Place entries) (c : ℕ) : Type 0 where
     pub some : entries ≢ [] → 1 ≤ c
-    pub beside : SeesGap k place c
+    pub beside : SeesGap place c
 
   -- a search by a key without a hint
-  pub record VisitsByKey (old : Tree T) (k : K) (place : Place old.list.entries) (c : ℕ) : Type 0 where
-    pub seen : HasSeen k place c
+  pub record VisitsByKey (old : Tree T) (place : Place old.list.entries) (c : ℕ) : Type 0 where
+    pub seen : HasSeen place c
     pub bounded : IsWithinBounds (length old.list.entries) old.shape c
 
+module _ {T K : Type 0} (key : T → K) (cmp : K → K → Ordering) where
   -- a search by a key that makes at most num steps from the index i first; an index without an entry adds none, and on a list in the
   -- order of its keys a near one makes few
   pub record VisitsFromHint (old : Tree T) (i num : ℕ) (k : K) (place : Place old.list.entries) (c : ℕ) : Type 0 where
-    pub seen : HasSeen k place c
+    pub seen : HasSeen place c
     pub bounded : IsWithinHintedBounds (length old.list.entries) old.shape num c
     pub unhinted : IfNone (entry_at old.list.entries i) (IsWithinBounds (length old.list.entries) old.shape c)
     pub near : IsNearHint key cmp old.list.entries k i num c
@@ -38,8 +38,8 @@ module _ {T K : Type 0} (key : T → K) (cmp : K → K → Ordering) where
   -- the visits c of the search for the place of an insertion, by its kind
   abbrev pub VisitsFor : {P I G : Type 0} → (I → ℕ) → OrdInsertKind P K I G → (old : Tree T) → Place old.list.entries → ℕ → Type 0
   VisitsFor number Empty old place c = c ≡ 0
-  VisitsFor number (Normal k) old place c = VisitsByKey old k place c
-  VisitsFor number (Nonhereditary k) old place c = VisitsByKey old k place c
+  VisitsFor number (Normal k) old place c = VisitsByKey old place c
+  VisitsFor number (Nonhereditary k) old place c = VisitsByKey old place c
   VisitsFor number (Linear i num k) old place c = VisitsFromHint old (number i) num k place c
   VisitsFor number (NonhereditaryLinear i num k) old place c = VisitsFromHint old (number i) num k place c
   VisitsFor number (Manual i order) old place c = c ≡ 0

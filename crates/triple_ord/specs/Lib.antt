@@ -10,6 +10,7 @@ pub mod Hint
 pub mod VisitBounds
 pub mod Recasting
 pub mod Refusal
+pub mod Ties
 pub mod Place
 pub mod Insertion
 pub mod EntryVisits
@@ -25,3 +26,4 @@ pub mod SlotDrain
 pub mod Descent
 pub mod Steps
 pub mod Clone
+pub mod OrderLaws

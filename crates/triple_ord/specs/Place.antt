@@ -1,29 +1,29 @@
 -- The place of an insertion: where in the list its item goes.
-use Rattle.std.specs.Prelude.{◌≡◌, ◌≢◌, ℕ, ◌⊎◌, List, [], Option, Some, None, IsSomeAnd}
+use Rattle.std.specs.Prelude.{◌≡◌, ◌≢◌, ℕ, List, [], Option, Some, None, IfSome, IsSomeAnd}
 use Rattle.std.specs.Borrow.{Bor}
 use Rattle.std.specs.declared.cmp.Ordering.{Ordering}
 use Rattle.std.specs.declared.cmp.Ordering.TheVariants.{Less, Equal, Greater}
 use Rattle.chain_base.specs.Chain.{Entry, entry_at}
 use Rattle.triple_ord.specs.Gap.{Gap, before, after}
-use Rattle.triple_ord.specs.Search.{order_to, Fits, IsMet}
+use Rattle.triple_ord.specs.Search.{order_to, Fits, IsFirstEqual}
 use Rattle.triple_ord.specs.declared.insert_kind.OrdInsertKind.{OrdInsertKind}
 use Rattle.triple_ord.specs.declared.insert_kind.OrdInsertKind.TheVariants.{Empty, Normal, Nonhereditary, Linear, NonhereditaryLinear, Manual}
 
--- What an insertion goes by: nothing, as the list is to be empty; a key, whose entry's item is to be replaced, or before whose entry a
--- new one is to go; or a side of the entry with an index, or that entry itself.
+-- What an insertion goes by: nothing, as the list is to be empty; a key, whose entry's item is to be replaced, or behind whose entries
+-- a new one is to go; or a side of the entry with an index, or that entry itself.
 pub data Aim (K : Type 0) : Type 0 where
   alone : Aim K
   at_key : K → Aim K
-  before_key : K → Aim K
+  behind_key : K → Aim K
   beside : ℕ → Ordering → Aim K
 
 -- what a kind of insertion goes by; a hint changes nothing in it
 abbrev pub aim_of : {P I G K : Type 0} → (I → ℕ) → OrdInsertKind P K I G → Aim K
 aim_of number Empty = alone
 aim_of number (Normal k) = at_key k
-aim_of number (Nonhereditary k) = before_key k
+aim_of number (Nonhereditary k) = behind_key k
 aim_of number (Linear i num k) = at_key k
-aim_of number (NonhereditaryLinear i num k) = before_key k
+aim_of number (NonhereditaryLinear i num k) = behind_key k
 aim_of number (Manual i order) = beside (number i) order
 
 -- the kind with the key behind its reference
@@ -46,18 +46,19 @@ abbrev pub HasIndex : {T : Type 0} → ℕ → Option (Entry T) → Type 0
 HasIndex i e = IsSomeAnd e (λ e. e.index ≡ i)
 
 module _ {T K : Type 0} (key : T → K) (cmp : K → K → Ordering) {entries : List (Entry T)} where
-  -- the gap is directly before an entry with an equal key
-  abbrev pub IsBeforeEqual : K → Gap entries → Type 0
-  IsBeforeEqual k gap = IsSomeAnd (after gap) (λ e. order_to key cmp k e ≡ Equal)
+  -- a gap lies behind a key where the entry before it, if any, has a key at most k, and the entry after it, if any, a greater one
+  pub record LiesBehind (gap : Gap entries) (k : K) : Type 0 where
+    pub at_most_before : IfSome (before gap) (λ e. order_to key cmp k e ≢ Less)
+    pub greater_after : IfSome (after gap) (λ e. order_to key cmp k e ≡ Less)
 
-  -- The place of an insertion, by what it goes by. A gap that fits a key is one where a search for it may stop, and an entry is met
-  -- where it has an equal key.
+  -- The place of an insertion, by what it goes by. A gap that fits a key is one where a search for it may stop, and the first of the
+  -- entries with an equal key is one that it may return.
   abbrev pub IsPlace : Aim K → Place entries → Type 0
   IsPlace alone (into gap) = entries ≡ []
   IsPlace alone nowhere = entries ≢ []
   IsPlace (at_key k) (into gap) = Fits key cmp gap k
-  IsPlace (at_key k) (over e) = IsMet key cmp entries k e
-  IsPlace (before_key k) (into gap) = IsBeforeEqual k gap ⊎ Fits key cmp gap k
+  IsPlace (at_key k) (over e) = IsFirstEqual key cmp entries k e
+  IsPlace (behind_key k) (into gap) = LiesBehind gap k
   IsPlace (beside i Less) (into gap) = HasIndex i (after gap)
   IsPlace (beside i Greater) (into gap) = HasIndex i (before gap)
   IsPlace (beside i Equal) (over e) = (e.index ≡ i) × (entry_at entries i ≡ Some (e.generation, e.item))

@@ -39,11 +39,11 @@ module _ {P T : Type 0} (numbers : P → ℕ × ℕ) where
 
   module _ {K : Type 0} (key : T → K) (cmp : K → K → Ordering) (t : Tree T) where
     -- a place by a key, as a search with c visits found it
-    pub record IsFoundPlace (aim : Aim K) (k : K) (c : ℕ) (kept : InsertPlace P) : Type 0 where
+    pub record IsFoundPlace (aim : Aim K) (c : ℕ) (kept : InsertPlace P) : Type 0 where
       pub place : Place t.list.entries
       pub chosen : IsPlace key cmp aim place
       pub keeps : Keeps t kept place
-      pub seen : HasSeen key cmp k place c
+      pub seen : HasSeen place c
 
     -- a place that needs no search, or none where there is no such place
     abbrev pub IsPlaceBeside : Aim K → Option (InsertPlace P) → Type 0

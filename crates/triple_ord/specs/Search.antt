@@ -1,5 +1,5 @@
--- What a search by key returns on a list of entries: an equal entry that it met, or a gap that fits the key.
-use Rattle.std.specs.Prelude.{◌≡◌, ℕ, ◌≤◌, ◌⊎◌, List, [], Option, Some, None, IfSome, Contains}
+-- What a search by key returns on a list of entries: an equal entry that is the first of its group, or a gap that fits the key.
+use Rattle.std.specs.Prelude.{◌≡◌, ℕ, ◌≤◌, ◌⊎◌, List, [], Option, Some, None, IfSome}
 use Rattle.std.specs.declared.cmp.Ordering.{Ordering}
 use Rattle.std.specs.declared.cmp.Ordering.TheVariants.{Less, Equal, Greater}
 use Rattle.chain_base.specs.Chain.{Entry}
@@ -19,9 +19,11 @@ module _ {T K : Type 0} (key : T → K) (cmp : K → K → Ordering) where
     pub lesser_before : IfSome (before gap) (λ e. order_to k e ≡ Greater)
     pub greater_after : IfSome (after gap) (λ e. order_to k e ≡ Less)
 
-  -- e is an entry of the list and has an equal key
-  pub record IsMet (entries : List (Entry T)) (k : K) (e : Entry T) : Type 0 where
-    pub within : Contains entries e
+  -- e is an entry of the list that has an equal key, and the entry before it, if any, has a lesser one
+  pub record IsFirstEqual (entries : List (Entry T)) (k : K) (e : Entry T) : Type 0 where
+    pub gap : Gap entries
+    pub here : after gap ≡ Some e
+    pub lesser_before : IfSome (before gap) (λ e. order_to k e ≡ Greater)
     pub equal : order_to k e ≡ Equal
 
   -- a search stops at a gap that fits the key, and has seen the gap's neighbours: its visits c are no fewer
@@ -33,14 +35,15 @@ module _ {T K : Type 0} (key : T → K) (cmp : K → K → Ordering) where
   abbrev pub IsBeside : List (Entry T) → K → ℕ → Entry T → Type 0
   IsBeside entries k c e = (gap : Gap entries) × StopsAt gap k c × ((before gap ≡ Some e) ⊎ (after gap ≡ Some e))
 
-  -- a search for an equal key with c visits: it returns the pointer of one that it met, or none where it stops at a gap that fits
+  -- A search for an equal key with c visits: it returns the pointer of an entry that has one, before which there is a lesser one or
+  -- none, or nothing where it stops at a gap that fits.
   abbrev pub FindsKey : List (Entry T) → K → Option (ℕ × ℕ) → ℕ → Type 0
   FindsKey entries k None c = (gap : Gap entries) × StopsAt gap k c
-  FindsKey entries k (Some p) c = (e : Entry T) × (p ≡ pointer e) × IsMet entries k e × (1 ≤ c)
+  FindsKey entries k (Some p) c = (e : Entry T) × (p ≡ pointer e) × IsFirstEqual entries k e × (1 ≤ c)
 
-  -- a search for a similar key: it returns the pointer of an equal entry that it met, or of an entry beside a gap that fits,
-  -- each with the order of k to its key, and none in an empty list alone
+  -- A search for a similar key: it returns the pointer of such an equal entry, or of an entry beside a gap that fits, each with the
+  -- order of k to its key, and nothing in an empty list alone.
   abbrev pub FindsSimilar : List (Entry T) → K → Option ((ℕ × ℕ) × Ordering) → ℕ → Type 0
   FindsSimilar entries k None c = entries ≡ []
   FindsSimilar entries k (Some answer) c =
-      (e : Entry T) × (answer ≡ (pointer e, order_to k e)) × (IsMet entries k e × (1 ≤ c) ⊎ IsBeside entries k c e)
+      (e : Entry T) × (answer ≡ (pointer e, order_to k e)) × (IsFirstEqual entries k e × (1 ≤ c) ⊎ IsBeside entries k c e)

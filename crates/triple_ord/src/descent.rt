@@ -1,12 +1,17 @@
 //! The way down from the root.
-ghost use Rattle.std.specs.Prelude.{◌≡◌, ◌-◌, ◌^◌, ◌<◌, ◌≤◌, length};
+ghost use Rattle.std.specs.Prelude.{◌≡◌, ℕ, Some, ◌-◌, ◌^◌, ◌<◌, ◌≤◌, length};
 ghost use Rattle.std.specs.Option.{option_map};
+ghost use Rattle.chain_base.specs.Chain.{IsDistinct};
+ghost use Rattle.ord_tree.specs.Shape.{height};
 ghost use Rattle.triple_ord.specs.ClosureSearch.{Asks, FindsSimilarWith};
+ghost use Rattle.triple_ord.specs.Descent.{met_next, HasDescendedByKey, HasEndedByKey};
 ghost use Rattle.triple_ord.specs.Search.{FindsSimilar};
+ghost use Rattle.triple_ord.specs.Ties.{taken};
 ghost use Rattle.triple_ord.specs.VisitBounds.{IsWithinBounds, VisitsLaw};
 
 use crate::item::SimpleOrdItem;
 use crate::probe::Probe;
+use crate::ties::Ties;
 use arena_base::Ptr;
 use ord_tree::laws::{height_law, rank_square_law, rebuilt_height_law, tight_rank_law};
 use std::alloc::Allocator;
@@ -47,19 +52,94 @@ pub(crate) fn descend<P: Ptr, T, F: FnMut(P, &T) -> Ordering, A: Allocator>(
     last
 }
 
-/// Goes down from the root by a key.
+/// Goes down from the root by a key: to the lesser side at an equal key that is sought, so that the entry behind the gap where the way
+/// ends is the first of its group. Where that entry is equal, it is the result, else the one that was shown last.
+///
+/// Up to the first equal entry the side is a selection, and no branch.
+#[inline(always)]
 pub(crate) fn descend_by_key<P: Ptr, T: SimpleOrdItem, A: Allocator>(
     probe: &mut Probe<'_, P, T, A>,
+    ties: Ties,
     k: &T::Key,
 ) -> Option<(P, Ordering)>
     requires { probe.old.visits < 2 ^ 64 }
-    ensures found { FindsSimilar T.key_of T.Key.cmp probe.old.tree.now.list.entries k.now
+    ensures found { FindsSimilar T.key_of (taken ties T.Key.cmp) probe.old.tree.now.list.entries k.now
         (option_map (λ a. (P.numbers a.0, a.1)) result) (probe.new.visits - probe.old.visits) }
     ensures visits { IsWithinBounds (length probe.old.tree.now.list.entries) probe.old.tree.now.shape
         (probe.new.visits - probe.old.visits) }
     ensures counted { probe.old.visits ≤ probe.new.visits }
 {
-    descend(probe, &mut |_p: P, item: &T| k.cmp(item.key()))
+    visits_law();
+    let mut last = None;
+    let mut at = probe.root();
+    while let Some(i) = at {
+        let (generation, node) = probe.show(i);
+        let order = ties.order(k, node.t.key());
+        let p = P::_from_raw(i, generation);
+        let lesser = node.p_tree0.get();
+        let greater = node.p_tree1.get();
+        if order.is_eq() {
+            return descend_in_group(probe, ties, k, p, lesser);
+        }
+        last = Some((p, order));
+        at = if order.is_lt() { lesser } else { greater };
+    }
+    last
+}
+
+// Goes on to the lesser side of an equal entry, for the first of its group.
+#[inline(always)]
+fn descend_in_group<P: Ptr, T: SimpleOrdItem, A: Allocator>(
+    probe: &mut Probe<'_, P, T, A>,
+    ties: Ties,
+    k: &T::Key,
+    p: P,
+    lesser: Option<P::Inx>,
+) -> Option<(P, Ordering)>
+    requires descended { (before : ℕ) × HasDescendedByKey T.key_of (taken ties T.Key.cmp)
+        probe.old.tree.now.list.entries probe.old.tree.now.shape k.now before
+        (option_map P.Inx.number lesser) probe.old.visits (Some (P.numbers p, Ordering.Equal)) (Some (P.numbers p)) }
+    requires distinct { IsDistinct probe.old.tree.now.list.entries }
+    requires few { height probe.old.tree.now.shape < 2 ^ 64 }
+    requires room { probe.old.visits < 2 ^ 65 }
+    ensures ended { (before : ℕ) → HasDescendedByKey T.key_of (taken ties T.Key.cmp)
+        probe.old.tree.now.list.entries probe.old.tree.now.shape k.now before
+        (option_map P.Inx.number lesser) probe.old.visits (Some (P.numbers p, Ordering.Equal)) (Some (P.numbers p))
+        → HasEndedByKey T.key_of (taken ties T.Key.cmp) probe.old.tree.now k.now before
+        (option_map (λ a. (P.numbers a.0, a.1)) result) probe.new.visits }
+    ensures counted { probe.old.visits ≤ probe.new.visits }
+{
+    let mut last = Some((p, Ordering::Equal));
+    // the entry behind all that is left, where it is equal
+    let mut met = Some(p);
+    let mut at = lesser;
+    while let Some(i) = at {
+        let (generation, node) = probe.show(i);
+        let order = ties.order(k, node.t.key());
+        let p = P::_from_raw(i, generation);
+        last = Some((p, order));
+        met = met_behind(met, p, order);
+        at = if order.is_gt() {
+            node.p_tree1.get()
+        } else {
+            node.p_tree0.get()
+        };
+    }
+    match met {
+        Some(p) => Some((p, Ordering::Equal)),
+        None => last,
+    }
+}
+
+// The equal entry behind all that is left, if any, after one step more: an entry that was answered Greater stands before it.
+fn met_behind<P: Copy>(met: Option<P>, p: P, order: Ordering) -> Option<P>
+    ensures { result ≡ met_next met p order }
+{
+    match order {
+        Ordering::Less => None,
+        Ordering::Equal => Some(p),
+        Ordering::Greater => met,
+    }
 }
 
 // The laws of balance bound a search by the longest way down. It does nothing; its contract is the law.

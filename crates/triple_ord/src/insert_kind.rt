@@ -10,9 +10,11 @@ use std::cmp::Ordering;
 pub enum OrdInsertKind<P: Ptr, K> {
     /// Into an arena without entries. It is refused where there is an entry.
     Empty,
-    /// By a key: the item of an entry with an equal key that the search met is replaced; else a new entry goes into a gap that fits.
+    /// By a key: the item of an entry with an equal key whose previous entry, if any, has a lesser one is replaced; else a new entry goes
+    /// into a gap that fits.
     Normal(K),
-    /// By a key, always as a new entry: directly before one with an equal key that the search met, else into a gap that fits.
+    /// By a key, always as a new entry: into a gap whose entry before, if any, has a key at most this one, and whose entry after, if
+    /// any, a greater one. So with the keys in order, entries with equal keys stay in the order of their insertion.
     Nonhereditary(K),
     /// `Normal`, with a search that makes at most `num` steps from the entry at the index `p_init` first.
     Linear {

@@ -8,10 +8,12 @@ mod error;
 mod insert_kind;
 mod item;
 pub mod laws;
+pub mod order_laws;
 mod pair;
 mod prepared;
 mod probe;
 mod steps;
+mod ties;
 mod visits;
 
 pub use arena::{

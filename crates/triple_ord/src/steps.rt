@@ -3,9 +3,11 @@ ghost use Rattle.std.specs.Prelude.{◌≡◌, ◌≤◌, IsSome, length};
 ghost use Rattle.std.specs.Option.{option_map};
 ghost use Rattle.chain_base.specs.Chain.{entry_at, IsDistinct};
 ghost use Rattle.triple_ord.specs.Steps.{neighbour_towards, Settles, IsNear};
+ghost use Rattle.triple_ord.specs.Ties.{taken};
 
 use crate::item::SimpleOrdItem;
 use crate::probe::Probe;
+use crate::ties::Ties;
 use arena_base::Ptr;
 use chain_base::LinkNoGen;
 use std::alloc::Allocator;
@@ -14,10 +16,12 @@ use std::cmp::Ordering;
 /// Steps along the list from the entry at an index to where the key lies, and returns as a search for a similar key does, or
 /// `None` where the steps leave that open.
 ///
-/// Each step compares the key with an entry's: Less leads to the previous entry, Greater to the next. An equal key ends the steps
-/// with a result; so does an entry at which the order turns, and an end of the list. After `num` comparisons they end without.
+/// Each step compares the key with an entry's: Less leads to the previous entry, Greater to the next. An entry at which the order turns
+/// ends the steps with a result, and so does an end of the list. At an equal key that is sought, which may not be the first of its
+/// group, and after `num` comparisons they end without.
 pub(crate) fn step_along<P: Ptr, T: SimpleOrdItem, A: Allocator>(
     probe: &mut Probe<'_, P, T, A>,
+    ties: Ties,
     p_init: P::Inx,
     num: usize,
     k: &T::Key,
@@ -25,7 +29,7 @@ pub(crate) fn step_along<P: Ptr, T: SimpleOrdItem, A: Allocator>(
     requires fresh { probe.old.visits ≡ 0 }
     requires distinct { IsDistinct probe.old.tree.now.list.entries }
     requires occupied { IsSome (entry_at probe.old.tree.now.list.entries (P.Inx.number p_init)) }
-    ensures settled { Settles T.key_of T.Key.cmp probe.old.tree.now.list.entries k.now
+    ensures settled { Settles T.key_of (taken ties T.Key.cmp) probe.old.tree.now.list.entries k.now
         (option_map (λ a. (P.numbers a.0, a.1)) result) probe.new.visits }
     ensures few { probe.new.visits ≤ num }
     ensures within { probe.new.visits ≤ length probe.old.tree.now.list.entries }
@@ -39,7 +43,10 @@ pub(crate) fn step_along<P: Ptr, T: SimpleOrdItem, A: Allocator>(
     for _step in 0..num {
         let (generation, link) = probe.show_link(at);
         let node = &link.t;
-        let order = k.cmp(node.t.key());
+        let order = ties.order(k, node.t.key());
+        if order.is_eq() {
+            return None;
+        }
         match towards(link, order) {
             Some(next) if order != came.reverse() => at = next,
             _ => return Some((P::_from_raw(at, generation), order)),

@@ -123,7 +123,7 @@ fn jobs_come_back_where_they_are_refused(rt: HostRuntime) -> Result<(), Fail> {
     let first = add(&mut jobs, OrdPair::new(30, 1)).ok().ok_or("a job")?;
     let second = add(&mut jobs, OrdPair::new(30, 2)).ok().ok_or("a job")?;
     assert!(rt; first != second);
-    assert_eq!(rt; next(&jobs), Some((second, 30, 2)));
+    assert_eq!(rt; next(&jobs), Some((first, 30, 1)));
     assert!(rt; would_replace(&mut jobs, 30)? && !would_replace(&mut jobs, 40)?);
     assert!(rt; put_behind(&mut jobs, second, OrdPair::new(5, 3))?);
     assert!(rt; !put_behind(&mut jobs, P0::invalid(), OrdPair::new(5, 3))?);

@@ -61,10 +61,13 @@ impl<P: Ptr, T: Drop, A: Allocator> Arena<P, T, A> {
         ensures fresh { OnOk result (IsFresh self.new) }
         ensures beyond { (result ≡ Err ReallocationError.BeyondMaxCapacity)
             ↔ (arena_limit P.Inx.most self.old < greatest_occupied (S.content source.now).slots) }
-        ensures beyond_kept { result ≡ Err ReallocationError.BeyondMaxCapacity → self.new ≡ self.old }
+        ensures beyond_kept { result ≡ Err ReallocationError.BeyondMaxCapacity
+            → self.new ≡ self.old }
         ensures memory { result ≡ Err ReallocationError.AllocError
-            → ((arena_capacity self.old < greatest_occupied (S.content source.now).slots) × (self.new ≡ self.old))
-            ⊎ IsRefusedClone P.numbers (IsShown F.step) map (S.content source.now) self.old self.new }
+            → ((arena_capacity self.old < greatest_occupied (S.content source.now).slots)
+            × (self.new ≡ self.old))
+            ⊎ IsRefusedClone P.numbers (IsShown F.step) map
+            (S.content source.now) self.old self.new }
     {
         self.clone_by(source, TryCalls { f: map })
     }
@@ -82,9 +85,11 @@ impl<P: Ptr, T: Drop, A: Allocator> Arena<P, T, A> {
         ensures fresh { OnOk result (IsFresh self.new) }
         ensures beyond { (result ≡ Err ReallocationError.BeyondMaxCapacity)
             ↔ (arena_limit P.Inx.most self.old < greatest_occupied (S.content source.now).slots) }
-        ensures beyond_kept { result ≡ Err ReallocationError.BeyondMaxCapacity → self.new ≡ self.old }
+        ensures beyond_kept { result ≡ Err ReallocationError.BeyondMaxCapacity
+            → self.new ≡ self.old }
         ensures memory { result ≡ Err ReallocationError.AllocError
-            → ((arena_capacity self.old < greatest_occupied (S.content source.now).slots) × (self.new ≡ self.old))
+            → ((arena_capacity self.old < greatest_occupied (S.content source.now).slots)
+            × (self.new ≡ self.old))
             ⊎ IsRefusedClone P.numbers M.step map (S.content source.now) self.old self.new }
     {
         let needed = greatest_occupied(source);
@@ -99,7 +104,8 @@ impl<P: Ptr, T: Drop, A: Allocator> Arena<P, T, A> {
     fn raise_capacity(&mut self, n: usize) -> Result<(), ReallocationError>
         ensures capacity { OnOk result (arena_capacity self.new ≡ max (arena_capacity self.old) n) }
         ensures maximum { OnOk result (self.new.maximum ≡ self.old.maximum) }
-        ensures beyond { (result ≡ Err ReallocationError.BeyondMaxCapacity) ↔ (arena_limit P.Inx.most self.old < n) }
+        ensures beyond { (result ≡ Err ReallocationError.BeyondMaxCapacity)
+            ↔ (arena_limit P.Inx.most self.old < n) }
         ensures memory { result ≡ Err ReallocationError.AllocError → arena_capacity self.old < n }
         ensures err { OnErr result (self.new ≡ self.old) }
     {
@@ -126,7 +132,8 @@ impl<P: Ptr, T: Drop, A: Allocator> Arena<P, T, A> {
         ensures ok { OnOk result (IsClone P.numbers (Grants P.numbers M.step) map
             (S.content source.now) self.old self.new) }
         ensures fresh { IsFresh self.new }
-        ensures refused { OnErr result (IsRefusedClone P.numbers M.step map (S.content source.now) self.old self.new) }
+        ensures refused { OnErr result
+            (IsRefusedClone P.numbers M.step map (S.content source.now) self.old self.new) }
     {
         // With its capacity an arena tells what holds of every arena.
         let _ = source.capacity();

@@ -30,7 +30,8 @@ impl<P: Ptr, T, A: Allocator> Arena<P, T, A> {
         ensures after { IsCompression P.numbers F.step
             (compressed_generation P.Gen.greatest reset self.old.generation) f self.old self.new }
         ensures fresh { IsFresh self.new }
-        ensures overflow { is_overflow result ≡ compression_overflows P.Gen.greatest reset self.old.generation }
+        ensures overflow { is_overflow result
+            ≡ compression_overflows P.Gen.greatest reset self.old.generation }
     {
         self.compress_by(reset, Calls { f })
     }
@@ -45,7 +46,8 @@ impl<P: Ptr, T, A: Allocator> Arena<P, T, A> {
         ensures after { IsCompression P.numbers M.step
             (compressed_generation P.Gen.greatest reset self.old.generation) map self.old self.new }
         ensures fresh { IsFresh self.new }
-        ensures overflow { is_overflow result ≡ compression_overflows P.Gen.greatest reset self.old.generation }
+        ensures overflow { is_overflow result
+            ≡ compression_overflows P.Gen.greatest reset self.old.generation }
     {
         let overflow = self.restart(reset);
         move_down::<P, T, A, M>(&mut self.slots, self.generation, map);
@@ -56,9 +58,11 @@ impl<P: Ptr, T, A: Allocator> Arena<P, T, A> {
     /// Moves all entries to the indexes from 1 on as `compress_with` does, each with the item that it has.
     pub fn compress(&mut self, reset: bool) -> InvalidationOption<()>
         ensures after { HoldsSame self.new (compressed self.old
-            (compressed_generation P.Gen.greatest reset self.old.generation) (items_rising self.old)) }
+            (compressed_generation P.Gen.greatest reset self.old.generation)
+            (items_rising self.old)) }
         ensures fresh { IsFresh self.new }
-        ensures overflow { is_overflow result ≡ compression_overflows P.Gen.greatest reset self.old.generation }
+        ensures overflow { is_overflow result
+            ≡ compression_overflows P.Gen.greatest reset self.old.generation }
     {
         self.compress_with(reset, |_old, item, _new| item)
     }
@@ -68,7 +72,8 @@ impl<P: Ptr, T, A: Allocator> Arena<P, T, A> {
         ensures after { self.new ≡ record self.old {
           generation = compressed_generation P.Gen.greatest reset self.old.generation;
         } }
-        ensures overflow { is_overflow result ≡ compression_overflows P.Gen.greatest reset self.old.generation }
+        ensures overflow { is_overflow result
+            ≡ compression_overflows P.Gen.greatest reset self.old.generation }
     {
         if reset {
             self.set_generation(P::Gen::two());
@@ -87,7 +92,8 @@ fn move_down<P: Ptr, T, A: Allocator, M: MapEntry<P, T> + Drop>(
 )
     requires callable { M.callable map }
     requires named { vec_len slots.old ≤ P.Inx.most }
-    ensures items { CompressesSlots P.numbers P.Gen.number M.step generation map slots.old.items slots.new.items }
+    ensures items { CompressesSlots P.numbers P.Gen.number M.step generation map
+        slots.old.items slots.new.items }
     ensures capacity { vec_capacity slots.new ≡ vec_capacity slots.old }
     ensures len { vec_len slots.new ≡ vec_len slots.old }
 {

@@ -35,7 +35,8 @@ impl<P: Ptr, T, A: Allocator> Arena<P, T, A> {
 
     /// Generation and item of the entry at the index.
     pub fn get_inx(&self, i: P::Inx) -> Option<(P::Gen, &T)>
-        ensures { option_map (λ e. (P.Gen.number e.0, e.1.now)) result ≡ slot self.now (P.Inx.number i) }
+        ensures { option_map (λ e. (P.Gen.number e.0, e.1.now)) result
+            ≡ slot self.now (P.Inx.number i) }
     {
         let position = self.position(i)?;
         match &self.slots[position] {
@@ -130,7 +131,6 @@ impl<P: Ptr, T, A: Allocator> Arena<P, T, A> {
 // The pointer with this generation to the slot at the position.
 pub(super) fn pointer<P: Ptr>(position: usize, generation: P::Gen) -> P
     requires { position < P.Inx.most }
-    ensures numbers { P.numbers result ≡ (position + 1, P.Gen.number generation) }
     ensures index { (P.numbers result).0 ≡ position + 1 }
     ensures generation { (P.numbers result).1 ≡ P.Gen.number generation }
 {

@@ -57,8 +57,10 @@ impl<P: Ptr, T, A: Allocator> Arena<P, T, A> {
     ///
     /// It is refused where `n` is beyond the maximum or the greatest index, or where the capacity would grow and memory is refused.
     pub fn reallocate_min_capacity(&mut self, n: usize) -> Result<(), ReallocationError>
-        ensures ok { OnOk result (self.new ≡ with_capacity self.old (max n (greatest_occupied self.old.slots))) }
-        ensures beyond { (result ≡ Err ReallocationError.BeyondMaxCapacity) ↔ (arena_limit P.Inx.most self.old < n) }
+        ensures ok { OnOk result
+            (self.new ≡ with_capacity self.old (max n (greatest_occupied self.old.slots))) }
+        ensures beyond { (result ≡ Err ReallocationError.BeyondMaxCapacity)
+            ↔ (arena_limit P.Inx.most self.old < n) }
         ensures memory { result ≡ Err ReallocationError.AllocError → arena_capacity self.old < n }
         ensures err { OnErr result (self.new ≡ self.old) }
     {
@@ -166,7 +168,8 @@ impl<P: Ptr, T, A: Allocator> Arena<P, T, A> {
 // Adds vacant slots until there are `n`.
 pub(super) fn add_vacant<T, G, A: Allocator>(slots: &mut Vec<Slot<T, G>, A>, n: usize)
     requires { n ≤ vec_capacity slots.old }
-    ensures items { slots.new.items ≡ slots.old.items ++ replicate (n - vec_len slots.old) Slot.Vacant }
+    ensures items { slots.new.items
+        ≡ slots.old.items ++ replicate (n - vec_len slots.old) Slot.Vacant }
     ensures capacity { vec_capacity slots.new ≡ vec_capacity slots.old }
 {
     while slots.len() < n {

@@ -30,8 +30,8 @@ impl<P: Ptr, T, A: Allocator> IndexMut<P> for Arena<P, T, A> {
         requires { IsSome (item_of self.old (P.numbers p)) }
         ensures* writes_back { sem 𝓛 (Lends (the_row P.row T.row A.row P.Inx.row P.Gen.row
             P.Ptr.own P.PartialEq P.Ord.own P.PartialOrd.own P.Hash.own P.Debug
-            P.Inx.PtrInx.own P.Inx.PartialEq P.Inx.Ord.own P.Inx.PartialOrd.own P.Inx.Hash.own P.Inx.Debug
-            P.Gen.PtrGen.own P.Gen.PartialEq P.Gen.Debug A.Allocator)
+            P.Inx.PtrInx.own P.Inx.PartialEq P.Inx.Ord.own P.Inx.PartialOrd.own P.Inx.Hash.own
+            P.Inx.Debug P.Gen.PtrGen.own P.Gen.PartialEq P.Gen.Debug A.Allocator)
             T.row self.entry result (with_item self.old (P.numbers p).0)) }
         ensures value { item_of self.old (P.numbers p) ≡ Some result.now }
     {

@@ -14,7 +14,8 @@ impl<P: Ptr, T: Drop, A: Allocator> Arena<P, T, A> {
     ///
     /// Its generation is the arena's. It is refused where no slot is vacant; the item is then dropped, and nothing else changes.
     pub fn insert_within_capacity(&mut self, item: T) -> Result<P, InsertionError>
-        ensures ok { IfOk result (λ p. IsInsertion self.old self.new item (P.numbers p).0 (P.numbers p).1) }
+        ensures ok { IfOk result
+            (λ p. IsInsertion self.old self.new item (P.numbers p).0 (P.numbers p).1) }
         ensures full { IsErr result ↔ (arena_len self.old ≡ arena_capacity self.old) }
         ensures refusal { IfErr result (λ e. e ≡ InsertionError.NotWithinCapacity) }
         ensures err { OnErr result (self.new ≡ self.old) }
@@ -33,11 +34,14 @@ impl<P: Ptr, T: Drop, A: Allocator> Arena<P, T, A> {
     /// limit or memory is refused; the item is then dropped, and nothing else changes.
     pub fn insert_reallocating(&mut self, item: T) -> Result<P, InsertionError>
         ensures ok { IfOk result
-            (λ p. IsInsertion (with_room P.Inx.most self.old) self.new item (P.numbers p).0 (P.numbers p).1) }
+            (λ p. IsInsertion (with_room P.Inx.most self.old) self.new item
+            (P.numbers p).0 (P.numbers p).1) }
         ensures beyond { (result ≡ Err InsertionError.BeyondMaxCapacity)
             ↔ (arena_len self.old ≡ arena_limit P.Inx.most self.old) }
-        ensures memory { result ≡ Err InsertionError.AllocError → arena_len self.old ≡ arena_capacity self.old }
-        ensures refusal { IfErr result (λ e. (e ≡ InsertionError.BeyondMaxCapacity) ⊎ (e ≡ InsertionError.AllocError)) }
+        ensures memory { result ≡ Err InsertionError.AllocError
+            → arena_len self.old ≡ arena_capacity self.old }
+        ensures refusal { IfErr result
+            (λ e. (e ≡ InsertionError.BeyondMaxCapacity) ⊎ (e ≡ InsertionError.AllocError)) }
         ensures err { OnErr result (self.new ≡ self.old) }
         ensures sound { IsSound P.Inx.most P.Gen.greatest self.new }
         ensures room { arena_capacity self.old ≤ arena_capacity self.new }
@@ -55,7 +59,8 @@ impl<P: Ptr, T: Drop, A: Allocator> Arena<P, T, A> {
         ensures room { OnOk result (0 < length self.new.vacant) }
         ensures beyond { (result ≡ Err InsertionError.BeyondMaxCapacity)
             ↔ (arena_len self.old ≡ arena_limit P.Inx.most self.old) }
-        ensures refusal { IfErr result (λ e. (e ≡ InsertionError.BeyondMaxCapacity) ⊎ (e ≡ InsertionError.AllocError)) }
+        ensures refusal { IfErr result
+            (λ e. (e ≡ InsertionError.BeyondMaxCapacity) ⊎ (e ≡ InsertionError.AllocError)) }
         ensures err { OnErr result (self.new ≡ self.old) }
     {
         let capacity = self.capacity();
@@ -72,7 +77,8 @@ impl<P: Ptr, T: Drop, A: Allocator> Arena<P, T, A> {
     // Inserts an item where a slot is vacant.
     fn insert_next(&mut self, item: T) -> P
         requires { 0 < length self.old.vacant }
-        ensures inserted { IsInsertion self.old self.new item (P.numbers result).0 (P.numbers result).1 }
+        ensures inserted { IsInsertion self.old self.new item
+            (P.numbers result).0 (P.numbers result).1 }
         ensures sound { IsSound P.Inx.most P.Gen.greatest self.new }
     {
         let generation = self.generation;

@@ -17,7 +17,8 @@ impl<P: Ptr, T, A: Allocator> Arena<P, T, A> {
         ensures value { valid_value result ≡ item_of self.old (P.numbers p) }
         ensures overflow { OnSome (valid_value result)
             (has_overflowed result ≡ overflows_after P.Gen.greatest self.old.generation) }
-        ensures removed { OnSome (valid_value result) (self.new ≡ removed P.Gen.greatest self.old (P.numbers p).0) }
+        ensures removed { OnSome (valid_value result)
+            (self.new ≡ removed P.Gen.greatest self.old (P.numbers p).0) }
         ensures invalid { IfNone (valid_value result) (self.new ≡ self.old) }
     {
         if self.contains(p) {
@@ -35,7 +36,8 @@ impl<P: Ptr, T, A: Allocator> Arena<P, T, A> {
             ≡ slot self.old (P.Inx.number i) }
         ensures overflow { OnSome (valid_value result)
             (has_overflowed result ≡ overflows_after P.Gen.greatest self.old.generation) }
-        ensures removed { OnSome (valid_value result) (self.new ≡ removed P.Gen.greatest self.old (P.Inx.number i)) }
+        ensures removed { OnSome (valid_value result)
+            (self.new ≡ removed P.Gen.greatest self.old (P.Inx.number i)) }
         ensures invalid { IfNone (valid_value result) (self.new ≡ self.old) }
     {
         if !self.contains_inx(i) {
@@ -66,10 +68,12 @@ impl<P: Ptr, T, A: Allocator> Arena<P, T, A> {
     pub fn invalidate(&mut self, p: P) -> InvalidationResult<P>
         ensures valid { is_some (valid_value result) ≡ is_some (item_of self.old (P.numbers p)) }
         ensures index { IfSome (valid_value result) (λ q. (P.numbers q).0 ≡ (P.numbers p).0) }
-        ensures generation { IfSome (valid_value result) (λ q. (P.numbers q).1 ≡ next_generation P.Gen.greatest self.old.generation) }
+        ensures generation { IfSome (valid_value result)
+            (λ q. (P.numbers q).1 ≡ next_generation P.Gen.greatest self.old.generation) }
         ensures overflow { OnSome (valid_value result)
             (has_overflowed result ≡ overflows_after P.Gen.greatest self.old.generation) }
-        ensures renewed { OnSome (valid_value result) (self.new ≡ renewed P.Gen.greatest self.old (P.numbers p).0) }
+        ensures renewed { OnSome (valid_value result)
+            (self.new ≡ renewed P.Gen.greatest self.old (P.numbers p).0) }
         ensures invalid { IfNone (valid_value result) (self.new ≡ self.old) }
     {
         if !self.contains(p) {

@@ -75,8 +75,10 @@ impl<P: Ptr, T, A: Allocator> Arena<P, T, A> {
     pub fn advancer_inx(&self, i: P::Inx, rev: bool) -> PtrAdvancer<P>
         ensures begins { result
             ≡ (if rev then falling_walk (P.Inx.number i) else rising_walk (P.Inx.number i)) }
-        ensures rising { rev ≡ false → walk_rest result self.now ≡ rising_from self.now (P.Inx.number i) }
-        ensures falling { rev ≡ true → walk_rest result self.now ≡ falling_from self.now (P.Inx.number i) }
+        ensures rising { rev ≡ false
+            → walk_rest result self.now ≡ rising_from self.now (P.Inx.number i) }
+        ensures falling { rev ≡ true
+            → walk_rest result self.now ≡ falling_from self.now (P.Inx.number i) }
     {
         let _ = self.capacity();
         let index = i.try_into_usize().unwrap_or(0);
@@ -91,7 +93,8 @@ impl<P: Ptr, T, A: Allocator> Arena<P, T, A> {
     pub(super) fn first_from(&self, from: usize) -> Option<(usize, P)>
         ensures pointers { MatchOption result
             (rising_from self.now (from + 1) ≡ [])
-            (λ e. rising_from self.now (from + 1) ≡ (P.numbers e.1) ∷ rising_from self.now (e.0 + 1)) }
+            (λ e. rising_from self.now (from + 1)
+            ≡ (P.numbers e.1) ∷ rising_from self.now (e.0 + 1)) }
         ensures entries { MatchOption result
             (entries_rising self.now (from + 1) ≡ [])
             (λ e. (item : T) × (entries_rising self.now (from + 1)

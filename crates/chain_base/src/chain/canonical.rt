@@ -23,7 +23,8 @@ impl<P: Ptr, T, A: Allocator> ChainArena<P, T, A> {
     pub fn compress_canonical(&mut self, reset: bool) -> InvalidationOption<()>
         ensures after { self.new
             ≡ canonical self.old (compressed_generation P.Gen.greatest reset self.old.generation) }
-        ensures overflow { is_overflow result ≡ compression_overflows P.Gen.greatest reset self.old.generation }
+        ensures overflow { is_overflow result
+            ≡ compression_overflows P.Gen.greatest reset self.old.generation }
     {
         let len = self.len();
         let overflow = self.compress(reset);
@@ -66,8 +67,10 @@ impl<P: Ptr, T, A: Allocator> ChainArena<P, T, A> {
     // The neighbours of an entry.
     fn neighbours_at(&self, i: P::Inx) -> (Option<P::Inx>, Option<P::Inx>)
         requires { IsOccupied self.now (P.Inx.number i) }
-        ensures before { option_map P.Inx.number result.0 ≡ index_before self.now.entries (P.Inx.number i) }
-        ensures behind { option_map P.Inx.number result.1 ≡ index_after self.now.entries (P.Inx.number i) }
+        ensures before { option_map P.Inx.number result.0
+            ≡ index_before self.now.entries (P.Inx.number i) }
+        ensures behind { option_map P.Inx.number result.1
+            ≡ index_after self.now.entries (P.Inx.number i) }
     {
         self.arena.get_inx(i).unwrap().1.prev_next()
     }
@@ -76,7 +79,8 @@ impl<P: Ptr, T, A: Allocator> ChainArena<P, T, A> {
 // The index that an entry has once those at i and j have changed theirs.
 fn exchanged_inx<P: Ptr>(at: Option<P::Inx>, i: P::Inx, j: P::Inx) -> Option<P::Inx>
     ensures { option_map P.Inx.number result
-        ≡ option_map (exchanged_index (P.Inx.number i) (P.Inx.number j)) (option_map P.Inx.number at) }
+        ≡ option_map (exchanged_index (P.Inx.number i) (P.Inx.number j))
+        (option_map P.Inx.number at) }
 {
     match at {
         Some(k) if k == i => Some(j),

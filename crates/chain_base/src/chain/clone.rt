@@ -25,7 +25,8 @@ impl<P: Ptr, T: Drop, A: Allocator> ChainArena<P, T, A> {
         F: FnMut(P, &U, (Option<P::Inx>, Option<P::Inx>)) -> T + Drop,
     >(&mut self, source: &ChainArena<P, U, B>, map: F) -> Result<(), ReallocationError>
         requires { F.IsAlwaysCallable map }
-        ensures ok { OnOk result (IsClone P.numbers (ShowsLink P.Inx.number F.step) map source.now self.old self.new) }
+        ensures ok { OnOk result
+            (IsClone P.numbers (ShowsLink P.Inx.number F.step) map source.now self.old self.new) }
         ensures beyond { (result ≡ Err ReallocationError.BeyondMaxCapacity)
             ↔ (chain_limit P.Inx.most self.old < greatest_index source.now.entries) }
         ensures memory { result ≡ Err ReallocationError.AllocError
@@ -45,14 +46,17 @@ impl<P: Ptr, T: Drop, A: Allocator> ChainArena<P, T, A> {
         F: FnMut(P, &U, (Option<P::Inx>, Option<P::Inx>)) -> Result<T, AllocError> + Drop,
     >(&mut self, source: &ChainArena<P, U, B>, map: F) -> Result<(), ReallocationError>
         requires { F.IsAlwaysCallable map }
-        ensures ok { OnOk result (IsClone P.numbers (Grants P.numbers (ShowsLink P.Inx.number F.step)) map
+        ensures ok { OnOk result
+            (IsClone P.numbers (Grants P.numbers (ShowsLink P.Inx.number F.step)) map
             source.now self.old self.new) }
         ensures beyond { (result ≡ Err ReallocationError.BeyondMaxCapacity)
             ↔ (chain_limit P.Inx.most self.old < greatest_index source.now.entries) }
-        ensures beyond_kept { result ≡ Err ReallocationError.BeyondMaxCapacity → self.new ≡ self.old }
+        ensures beyond_kept { result ≡ Err ReallocationError.BeyondMaxCapacity
+            → self.new ≡ self.old }
         ensures memory { result ≡ Err ReallocationError.AllocError
             → ((self.old.capacity < greatest_index source.now.entries) × (self.new ≡ self.old))
-            ⊎ IsRefusedClone P.numbers (ShowsLink P.Inx.number F.step) map source.now self.old self.new }
+            ⊎ IsRefusedClone P.numbers
+            (ShowsLink P.Inx.number F.step) map source.now self.old self.new }
     {
         self.clone_by(source, TryShowLink { f: map })
     }
@@ -68,7 +72,8 @@ impl<P: Ptr, T: Drop, A: Allocator> ChainArena<P, T, A> {
             source.now self.old self.new) }
         ensures beyond { (result ≡ Err ReallocationError.BeyondMaxCapacity)
             ↔ (chain_limit P.Inx.most self.old < greatest_index source.now.entries) }
-        ensures beyond_kept { result ≡ Err ReallocationError.BeyondMaxCapacity → self.new ≡ self.old }
+        ensures beyond_kept { result ≡ Err ReallocationError.BeyondMaxCapacity
+            → self.new ≡ self.old }
         ensures memory { result ≡ Err ReallocationError.AllocError
             → ((self.old.capacity < greatest_index source.now.entries) × (self.new ≡ self.old))
             ⊎ IsRefusedClone P.numbers M.step map source.now self.old self.new }
@@ -109,7 +114,8 @@ impl<P: Ptr, T, U, M: CloneEntry<P, LinkNoGen<P, U>, T>> CloneEntry<
     ghost callable = { λ m. M.callable m.map };
 
     ghost step = { λ m p link answer n. MatchResult answer
-        (λ new. ClonesLink M.step m.map p link new n.map) (λ refusal. M.step m.map p link (Err refusal) n.map) };
+        (λ new. ClonesLink M.step m.map p link new n.map)
+        (λ refusal. M.step m.map p link (Err refusal) n.map) };
 
     fn clone_entry(&mut self, p: P, link: &LinkNoGen<P, U>) -> Result<LinkNoGen<P, T>, AllocError> {
         let item = self.map.clone_entry(p, link)?;
@@ -135,7 +141,8 @@ impl<P: Ptr, U, T, F: FnMut(P, &U, (Option<P::Inx>, Option<P::Inx>)) -> T> Clone
     ghost callable = { λ c. F.IsAlwaysCallable c.f };
 
     ghost step = { λ c p link answer d.
-        MatchResult answer (λ made. ShowsLink P.Inx.number F.step c.f p link made d.f) (λ refusal. ⊥) };
+        MatchResult answer (λ made. ShowsLink P.Inx.number F.step c.f p link made d.f)
+        (λ refusal. ⊥) };
 
     fn clone_entry(&mut self, p: P, link: &LinkNoGen<P, U>) -> Result<T, AllocError> {
         let neighbours = link.prev_next();

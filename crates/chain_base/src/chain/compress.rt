@@ -30,7 +30,8 @@ impl<P: Ptr, T, A: Allocator> ChainArena<P, T, A> {
         requires { F.IsAlwaysCallable f }
         ensures after { IsCompression P.numbers F.step
             (compressed_generation P.Gen.greatest reset self.old.generation) f self.old self.new }
-        ensures overflow { is_overflow result ≡ compression_overflows P.Gen.greatest reset self.old.generation }
+        ensures overflow { is_overflow result
+            ≡ compression_overflows P.Gen.greatest reset self.old.generation }
     {
         self.compress_by(reset, Calls { f })
     }
@@ -39,7 +40,8 @@ impl<P: Ptr, T, A: Allocator> ChainArena<P, T, A> {
     pub fn compress(&mut self, reset: bool) -> InvalidationOption<()>
         ensures after { self.new
             ≡ relocated self.old (compressed_generation P.Gen.greatest reset self.old.generation) }
-        ensures overflow { is_overflow result ≡ compression_overflows P.Gen.greatest reset self.old.generation }
+        ensures overflow { is_overflow result
+            ≡ compression_overflows P.Gen.greatest reset self.old.generation }
     {
         // The invariant of the list is needed: each of its indexes is within the capacity.
         let _ = self.len();
@@ -55,7 +57,8 @@ impl<P: Ptr, T, A: Allocator> ChainArena<P, T, A> {
         requires { M.callable map }
         ensures after { IsCompression P.numbers M.step
             (compressed_generation P.Gen.greatest reset self.old.generation) map self.old self.new }
-        ensures overflow { is_overflow result ≡ compression_overflows P.Gen.greatest reset self.old.generation }
+        ensures overflow { is_overflow result
+            ≡ compression_overflows P.Gen.greatest reset self.old.generation }
     {
         let first = name_compressed_indexes(&mut self.arena, Side::Before);
         let overflow = compress_items(&mut self.arena, reset, map);
@@ -75,7 +78,8 @@ fn compress_items<P: Ptr, T, A: Allocator, M: MapEntry<P, T> + Drop>(
     ensures after { CompressesItems P.numbers M.step
         (compressed_generation P.Gen.greatest reset arena.old.generation) map arena.old arena.new }
     ensures fresh { IsFresh arena.new }
-    ensures overflow { is_overflow result ≡ compression_overflows P.Gen.greatest reset arena.old.generation }
+    ensures overflow { is_overflow result
+        ≡ compression_overflows P.Gen.greatest reset arena.old.generation }
 {
     arena.compress_by(reset, MapItem { map })
 }

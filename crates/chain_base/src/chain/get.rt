@@ -44,7 +44,8 @@ impl<P: Ptr, T, A: Allocator> ChainArena<P, T, A> {
     /// Generation and item of the entry at an index that has one.
     pub fn entry(&self, i: P::Inx) -> (P::Gen, &T)
         requires { IsOccupied self.now (P.Inx.number i) }
-        ensures { entry_at self.now.entries (P.Inx.number i) ≡ Some (P.Gen.number result.0, result.1.now) }
+        ensures { entry_at self.now.entries (P.Inx.number i)
+            ≡ Some (P.Gen.number result.0, result.1.now) }
     {
         let pair = self.arena.entry(i);
         let link = pair.1;
@@ -54,7 +55,8 @@ impl<P: Ptr, T, A: Allocator> ChainArena<P, T, A> {
     /// Item and neighbours of the entry at an index that has one.
     pub fn link(&self, i: P::Inx) -> &LinkNoGen<P, T>
         requires { IsOccupied self.now (P.Inx.number i) }
-        ensures { option_map (λ e. e.1) (link_at self.now.entries (P.Inx.number i)) ≡ Some result.now }
+        ensures { option_map (λ e. e.1) (link_at self.now.entries (P.Inx.number i))
+            ≡ Some result.now }
     {
         self.arena.entry(i).1
     }
@@ -62,8 +64,10 @@ impl<P: Ptr, T, A: Allocator> ChainArena<P, T, A> {
     /// Generation, item and neighbours of the entry at the index.
     pub fn get_inx_link_no_gen(&self, i: P::Inx) -> Option<(P::Gen, LinkNoGen<P, &T>)>
         ensures { option_map
-            (λ e. (P.Gen.number e.0, record { item = e.1.item.now; prev = e.1.prev; next = e.1.next }))
-            result
+            (λ e. (
+              P.Gen.number e.0,
+              record { item = e.1.item.now; prev = e.1.prev; next = e.1.next },
+            )) result
             ≡ link_at self.now.entries (P.Inx.number i) }
     {
         let entry = self.arena.get_inx(i)?;
@@ -87,7 +91,8 @@ impl<P: Ptr, T, A: Allocator> ChainArena<P, T, A> {
 
     /// The pointer of the entry with the least index.
     pub fn find_first_inx_ptr(&self) -> Option<P>
-        ensures first { IfSome result (λ p. IsFirstIndex self.now.entries (P.numbers p).0 (P.numbers p).1) }
+        ensures first { IfSome result
+            (λ p. IsFirstIndex self.now.entries (P.numbers p).0 (P.numbers p).1) }
         ensures empty { IsNone result ↔ (self.now.entries ≡ []) }
     {
         self.arena.find_first_inx_ptr()
@@ -95,7 +100,8 @@ impl<P: Ptr, T, A: Allocator> ChainArena<P, T, A> {
 
     /// The pointer of the entry with the greatest index.
     pub fn find_last_inx_ptr(&self) -> Option<P>
-        ensures last { IfSome result (λ p. IsLastIndex self.now.entries (P.numbers p).0 (P.numbers p).1) }
+        ensures last { IfSome result
+            (λ p. IsLastIndex self.now.entries (P.numbers p).0 (P.numbers p).1) }
         ensures empty { IsNone result ↔ (self.now.entries ≡ []) }
     {
         self.arena.find_last_inx_ptr()

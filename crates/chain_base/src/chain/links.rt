@@ -22,7 +22,8 @@ pub(super) fn relink<P: Ptr, T, A: Allocator>(
     requires left { ForSome left (λ i. IsOccupied arena.old (P.Inx.number i)) }
     requires right { ForSome right (λ i. IsOccupied arena.old (P.Inx.number i)) }
     ensures arena { arena.new ≡ linked_prev
-        (linked_next arena.old (option_map P.Inx.number left) (named_of P.Inx.most (option_map P.Inx.number next)))
+        (linked_next arena.old (option_map P.Inx.number left)
+        (named_of P.Inx.most (option_map P.Inx.number next)))
         (option_map P.Inx.number right) (named_of P.Inx.most (option_map P.Inx.number prev)) }
     ensures first { option_map P.Inx.number result.0 ≡
         (if is_some (option_map P.Inx.number left)

@@ -62,13 +62,15 @@ impl<P: Ptr, T, A: Allocator> ChainArena<P, T, A> {
     ///
     /// For a pointer that names no entry it returns `InvalidPtr`, and nothing changes.
     pub fn invalidate(&mut self, p: P) -> InvalidationResult<P>
-        ensures valid { is_some (valid_value result) ≡ is_some (item_of self.old.entries (P.numbers p)) }
+        ensures valid { is_some (valid_value result)
+            ≡ is_some (item_of self.old.entries (P.numbers p)) }
         ensures index { IfSome (valid_value result) (λ q. (P.numbers q).0 ≡ (P.numbers p).0) }
         ensures generation { IfSome (valid_value result)
             (λ q. (P.numbers q).1 ≡ next_generation P.Gen.greatest self.old.generation) }
         ensures overflow { OnSome (valid_value result)
             (has_overflowed result ≡ overflows_after P.Gen.greatest self.old.generation) }
-        ensures renewed { OnSome (valid_value result) (self.new ≡ renewed P.Gen.greatest self.old (P.numbers p).0) }
+        ensures renewed { OnSome (valid_value result)
+            (self.new ≡ renewed P.Gen.greatest self.old (P.numbers p).0) }
         ensures invalid { IfNone (valid_value result) (self.new ≡ self.old) }
     {
         self.arena.invalidate(p)

@@ -151,9 +151,11 @@ fn put_last<P: Ptr, T: Drop, A: Allocator>(
     last: Option<P::Inx>,
     item: T,
 )
-    requires { (c : Chain T) × (items : List T) × (chain.old ≡ filled_with c items) × (length items < c.capacity)
+    requires { (c : Chain T) × (items : List T)
+        × (chain.old ≡ filled_with c items) × (length items < c.capacity)
         × (option_map P.Inx.number last ≡ last_of (length items)) }
-    ensures { (c : Chain T) (items : List T) → chain.old ≡ filled_with c items → length items < c.capacity
+    ensures { (c : Chain T) (items : List T)
+        → chain.old ≡ filled_with c items → length items < c.capacity
         → option_map P.Inx.number last ≡ last_of (length items)
         → chain.new ≡ filled_with c (items ++ item ∷ []) }
 {

@@ -31,9 +31,11 @@ impl<P: Ptr, T: Drop, A: Allocator> OrdTree<P, T, A> {
         ensures ok { OnOk result (IsClone P.numbers F.step map source.now self.old self.new) }
         ensures beyond { (result ≡ Err ReallocationError.BeyondMaxCapacity)
             ↔ (chain_limit P.Inx.most self.old.list < greatest_index source.now.list.entries) }
-        ensures beyond_kept { result ≡ Err ReallocationError.BeyondMaxCapacity → self.new ≡ self.old }
+        ensures beyond_kept { result ≡ Err ReallocationError.BeyondMaxCapacity
+            → self.new ≡ self.old }
         ensures memory { result ≡ Err ReallocationError.AllocError
-            → ((self.old.list.capacity < greatest_index source.now.list.entries) × (self.new ≡ self.old))
+            → ((self.old.list.capacity < greatest_index source.now.list.entries)
+            × (self.new ≡ self.old))
             ⊎ IsRefusedClone P.numbers F.step map source.now self.old self.new }
     {
         // The invariant of the source's list is needed: each of its indexes is above 0.

@@ -27,7 +27,11 @@ impl<P: Ptr, T, A: Allocator> OrdTree<P, T, A> {
     where
         A: Copy,
         ensures ok { IfOk result
-            (λ t. t ≡ record { list = with_capacity (new_chain P.Gen.greatest) n; shape = missing }) }
+            (λ t. t ≡ record {
+              list = with_capacity
+                  (new_chain P.Gen.greatest) n;
+              shape = missing;
+            }) }
         ensures beyond { P.Inx.most < n → IsErr result }
         ensures none { n ≡ 0 → IsOk result }
     {

@@ -64,7 +64,8 @@ impl<P: Ptr, T: Drop, A: Allocator> OrdTree<P, T, A> {
         t: T,
     ) -> Result<P, InsertionError>
         requires { CanPutAt P.Inx.number at self.old.list }
-        ensures ok { IfOk result (λ p. IsInsertion (with_room P.Inx.most self.old.list) self.new.list
+        ensures ok { IfOk result
+            (λ p. IsInsertion (with_room P.Inx.most self.old.list) self.new.list
             (put_at P.Inx.number at self.old.list.entries) t (P.numbers p).0 (P.numbers p).1) }
         ensures shape { OnOk result (IsGrown self.old.shape self.new.shape) }
         ensures beyond { (result ≡ Err InsertionError.BeyondMaxCapacity)
@@ -133,7 +134,8 @@ fn branch_on<P: Ptr, T, A: Allocator>(
     side: Side,
 ) -> Option<Branch<NodeInx<P::Inx>>>
     requires { IsOccupied chain.now (P.Inx.number i) }
-    ensures { (root : Option ℕ) (s : Shape) → IsLaidOut chain.now root s → IsDistinct chain.now.entries
+    ensures { (root : Option ℕ) (s : Shape)
+        → IsLaidOut chain.now root s → IsDistinct chain.now.entries
         → IsSomeAnd result (IsLeafBranch P.Inx.number (P.Inx.number i) side (slots_of chain.now)
         (indexes chain.now.entries)) }
 {
@@ -156,7 +158,8 @@ fn branch_at<P: Ptr, T, A: Allocator>(
     at: Option<(P::Inx, Ordering)>,
 ) -> Option<Branch<NodeInx<P::Inx>>>
     requires { CanPutAt P.Inx.number at chain.now }
-    ensures { (root : Option ℕ) (s : Shape) → IsLaidOut chain.now root s → IsDistinct chain.now.entries
+    ensures { (root : Option ℕ) (s : Shape)
+        → IsLaidOut chain.now root s → IsDistinct chain.now.entries
         → IsLeafBranchAt P.Inx.number at (slots_of chain.now) (indexes chain.now.entries) result }
 {
     match at {
@@ -181,7 +184,8 @@ fn grow<P: Ptr, T, A: Allocator>(
         → IsNewLeaf (slots_of chain.old) (option_map P.Inx.number root.old) p.side
         (P.Inx.number p.parent) (P.Inx.number x) order slack
         → IsRepaired (slots_of chain.old) (slots_of chain.new)
-        (option_map P.Inx.number root.new) (beside p.side (P.Inx.number p.parent) (P.Inx.number x) order)
+        (option_map P.Inx.number root.new)
+        (beside p.side (P.Inx.number p.parent) (P.Inx.number x) order)
         slack) }
     ensures kept { bare chain.new ≡ bare chain.old }
 {

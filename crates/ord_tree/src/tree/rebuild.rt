@@ -35,7 +35,8 @@ impl<P: Ptr, T, A: Allocator> OrdTree<P, T, A> {
     ) -> InvalidationOption<()>
         requires { F.IsAlwaysCallable f }
         ensures after { IsCompression P.numbers F.step
-            (compressed_generation P.Gen.greatest reset self.old.list.generation) f self.old.list self.new.list }
+            (compressed_generation P.Gen.greatest reset self.old.list.generation) f
+            self.old.list self.new.list }
         ensures shape { IsRebuilt self.new.shape }
         ensures overflow { is_overflow result
             ≡ compression_overflows P.Gen.greatest reset self.old.list.generation }
@@ -101,7 +102,8 @@ impl<P: Ptr, T, A: Allocator> OrdTree<P, T, A> {
         requires lawful { IsLawfulGeneration P.Gen.greatest (P.Gen.number new_generation) }
         requires callable { F.IsAlwaysCallable f }
         ensures ok { OnOk result (IsTransfer Q.numbers P.numbers Q.Gen.greatest F.step
-            (P.Gen.number new_generation) f source.old.list source.new.list self.old.list self.new.list) }
+            (P.Gen.number new_generation) f
+            source.old.list source.new.list self.old.list self.new.list) }
         ensures shape { OnOk result (IsRebuilt self.new.shape) }
         ensures left { OnOk result (source.new.shape ≡ missing) }
         ensures beyond { (result ≡ Err ReallocationError.BeyondMaxCapacity)

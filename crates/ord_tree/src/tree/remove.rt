@@ -48,7 +48,8 @@ impl<P: Ptr, T, A: Allocator> OrdTree<P, T, A> {
         requires { IsOccupied self.old.list (P.Inx.number i) }
         ensures value { entry_at self.old.list.entries (P.Inx.number i)
             ≡ Some (P.Gen.number (allowed_value result).0, (allowed_value result).1) }
-        ensures overflow { is_overflow result ≡ overflows_after P.Gen.greatest self.old.list.generation }
+        ensures overflow { is_overflow result
+            ≡ overflows_after P.Gen.greatest self.old.list.generation }
         ensures removed { self.new.list ≡ removed P.Gen.greatest self.old.list (P.Inx.number i) }
         ensures shape { IsShrunk self.old.shape self.new.shape }
     {
@@ -72,7 +73,10 @@ impl<P: Ptr, T, A: Allocator> OrdTree<P, T, A> {
         ensures overflow { OnSome (valid_value result)
             (has_overflowed result ≡ overflows_after P.Gen.greatest self.old.list.generation) }
         ensures renewed { OnSome (valid_value result)
-            (self.new ≡ record self.old { list = renewed P.Gen.greatest self.old.list (P.numbers p).0 }) }
+            (self.new ≡ record self.old {
+              list = renewed P.Gen.greatest self.old.list
+                  (P.numbers p).0;
+            }) }
         ensures invalid { IfNone (valid_value result) (self.new ≡ self.old) }
     {
         self.chain.invalidate(p)
@@ -83,8 +87,10 @@ impl<P: Ptr, T, A: Allocator> OrdTree<P, T, A> {
     pub fn clear(&mut self) -> InvalidationOption<()>
     where
         T: Drop,
-        ensures after { self.new ≡ record { list = cleared P.Gen.greatest self.old.list; shape = missing } }
-        ensures overflow { is_overflow result ≡ overflows_after P.Gen.greatest self.old.list.generation }
+        ensures after { self.new
+            ≡ record { list = cleared P.Gen.greatest self.old.list; shape = missing } }
+        ensures overflow { is_overflow result
+            ≡ overflows_after P.Gen.greatest self.old.list.generation }
     {
         self.root = None;
         self.chain.clear()
@@ -95,7 +101,8 @@ impl<P: Ptr, T, A: Allocator> OrdTree<P, T, A> {
 fn item_taken<P: Ptr, T>(
     taken: InvalidationOption<(P::Gen, LinkNoGen<P, SimpleOrdArenaNode<P, T>>)>,
 ) -> InvalidationOption<(P::Gen, T)>
-    ensures value { allowed_value result ≡ ((allowed_value taken).0, (allowed_value taken).1.item.t) }
+    ensures value { allowed_value result
+        ≡ ((allowed_value taken).0, (allowed_value taken).1.item.t) }
     ensures overflow { is_overflow result ≡ is_overflow taken }
 {
     taken.map(|(generation, link)| (generation, link.t.t))

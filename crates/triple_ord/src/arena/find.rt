@@ -5,19 +5,22 @@ ghost use Rattle.triple_ord.specs.ClosureSearch.{where_equal};
 ghost use Rattle.std.specs.declared.cmp.Ordering.TheVariants.{Equal};
 ghost use Rattle.triple_ord.specs.Arena.{FindsBy};
 ghost use Rattle.triple_ord.specs.Search.{FindsKey, FindsSimilar};
+ghost use Rattle.triple_ord.specs.Ties.{taken};
 ghost use Rattle.triple_ord.specs.VisitBounds.{IsWithinBounds};
 
 use super::SimpleOrdArena;
 use crate::descent::descend_by_key;
 use crate::item::SimpleOrdItem;
 use crate::probe::Probe;
+use crate::ties::Ties;
 use crate::visits::Visits;
 use arena_base::Ptr;
 use std::alloc::Allocator;
 use std::cmp::Ordering;
 
 impl<P: Ptr, T: SimpleOrdItem, A: Allocator> SimpleOrdArena<P, T, A> {
-    /// The pointer of an entry with an equal key that the search met.
+    /// The pointer of an entry with an equal key whose previous entry, if any, has a lesser one: with the keys in order, the first that
+    /// has an equal key.
     ///
     /// With `None` the search stopped at a gap of the list: the entry before it, if any, has a lesser key, and the one after it, if
     /// any, a greater one. So no entry has an equal key where the keys are in order. It takes O(log n) time for n entries.
@@ -41,8 +44,8 @@ impl<P: Ptr, T: SimpleOrdItem, A: Allocator> SimpleOrdArena<P, T, A> {
         (equal_alone(found), visits)
     }
 
-    /// The pointer of the entry that the search met last, with the order of `k` to its key: an entry with an equal key, or one
-    /// beside a gap of the list that fits `k`. `None` only where there is no entry.
+    /// The pointer of an entry with the order of `k` to its key: of one as `find_key` returns it, or else of the entry that the search
+    /// met last, which is beside a gap of the list that fits `k`. `None` only where there is no entry.
     ///
     /// A gap fits where the entry before it, if any, has a lesser key, and the one after it, if any, a greater one. It takes
     /// O(log n) time for n entries.
@@ -61,8 +64,18 @@ impl<P: Ptr, T: SimpleOrdItem, A: Allocator> SimpleOrdArena<P, T, A> {
             (option_map (λ a. (P.numbers a.0, a.1)) result.0) result.1 }
         ensures visits { IsWithinBounds (length self.now.list.entries) self.now.shape result.1 }
     {
+        self.search(Ties::Sought, k)
+    }
+
+    // A search from the root, by what it makes of equal keys.
+    #[inline(always)]
+    pub(super) fn search(&self, ties: Ties, k: &T::Key) -> (Option<(P, Ordering)>, Visits)
+        ensures found { FindsSimilar T.key_of (taken ties T.Key.cmp) self.now.list.entries k.now
+            (option_map (λ a. (P.numbers a.0, a.1)) result.0) result.1 }
+        ensures visits { IsWithinBounds (length self.now.list.entries) self.now.shape result.1 }
+    {
         let mut probe = Probe::new(&self.tree);
-        let found = descend_by_key(&mut probe, k);
+        let found = descend_by_key(&mut probe, ties, k);
         (found, probe.visits())
     }
 }

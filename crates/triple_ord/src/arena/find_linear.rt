@@ -6,6 +6,7 @@ ghost use Rattle.triple_ord.specs.Hint.{IsNearHint};
 ghost use Rattle.std.specs.declared.cmp.Ordering.TheVariants.{Equal};
 ghost use Rattle.triple_ord.specs.Arena.{FindsBy};
 ghost use Rattle.triple_ord.specs.Search.{FindsKey, FindsSimilar};
+ghost use Rattle.triple_ord.specs.Ties.{taken};
 ghost use Rattle.triple_ord.specs.VisitBounds.{IsWithinBounds, IsWithinHintedBounds};
 
 use super::SimpleOrdArena;
@@ -14,6 +15,7 @@ use crate::descent::descend_by_key;
 use crate::item::SimpleOrdItem;
 use crate::probe::Probe;
 use crate::steps::step_along;
+use crate::ties::Ties;
 use crate::visits::Visits;
 use arena_base::Ptr;
 use std::alloc::Allocator;
@@ -22,9 +24,10 @@ use std::cmp::Ordering;
 impl<P: Ptr, T: SimpleOrdItem, A: Allocator> SimpleOrdArena<P, T, A> {
     /// `find_key`, after at most `num` steps along the list from the entry that `p_init` names.
     ///
-    /// Each step compares `k` with an entry's key: Less leads to the previous entry, Greater to the next. An equal key is the
-    /// answer. Where the order turns, at an end of the list, and after `num` comparisons a whole search follows; so it does at once
-    /// where `p_init` names no entry.
+    /// Each step compares `k` with an entry's key: Less leads to the previous entry, Greater to the next. They end at an equal key,
+    /// where the order turns, at an end of the list, and after `num` comparisons. Then a whole search follows, since an equal entry
+    /// that steps meet needn't be the first of its group; so it does at once where `p_init` names no entry. A hint saves such a search
+    /// nothing: where keys are near, `find_similar_key_linear` is the call that does.
     pub fn find_key_linear(&self, p_init: P, num: usize, k: &T::Key) -> Option<P>
         ensures finds { IfSome result (λ p. FindsBy T.key_of T.Key.cmp self.now k.now (P.numbers p) Equal) }
         ensures found { (visits : ℕ) × FindsKey T.key_of T.Key.cmp self.now.list.entries k.now
@@ -47,19 +50,16 @@ impl<P: Ptr, T: SimpleOrdItem, A: Allocator> SimpleOrdArena<P, T, A> {
             return self.find_key_counted(k);
         }
         let mut probe = Probe::new(&self.tree);
-        let near = equal_alone(step_along(&mut probe, p_init.inx(), num, k));
-        if near.is_some() {
-            return (near, probe.visits());
-        }
-        let found = equal_alone(descend_by_key(&mut probe, k));
-        (found, probe.visits())
+        let _near = step_along(&mut probe, Ties::Sought, p_init.inx(), num, k);
+        let found = descend_by_key(&mut probe, Ties::Sought, k);
+        (equal_alone(found), probe.visits())
     }
 
     /// `find_similar_key`, after at most `num` steps along the list from the entry at the index, whatever its generation.
     ///
-    /// The steps are those of `find_key_linear`. An entry with an equal key is the result, and so is the entry at which the order
-    /// turns, and the one at the end of the list that was met. After `num` comparisons a whole search follows; so it does at once
-    /// where the index has no entry.
+    /// The steps are those of `find_key_linear`. The entry at which the order turns is the result, and so is the one at the end of the
+    /// list that was met. After an equal key, and after `num` comparisons, a whole search follows; so it does at once where the index
+    /// has no entry.
     pub fn find_similar_key_linear(
         &self,
         p_init: P::Inx,
@@ -92,15 +92,33 @@ impl<P: Ptr, T: SimpleOrdItem, A: Allocator> SimpleOrdArena<P, T, A> {
             (IsWithinBounds (length self.now.list.entries) self.now.shape result.1) }
         ensures near { IsNearHint T.key_of T.Key.cmp self.now.list.entries k.now (P.Inx.number p_init) num result.1 }
     {
+        self.search_from(Ties::Sought, p_init, num, k)
+    }
+
+    // A search from a hint, by what it makes of equal keys.
+    pub(super) fn search_from(
+        &self,
+        ties: Ties,
+        p_init: P::Inx,
+        num: usize,
+        k: &T::Key,
+    ) -> (Option<(P, Ordering)>, Visits)
+        ensures found { FindsSimilar T.key_of (taken ties T.Key.cmp) self.now.list.entries k.now
+            (option_map (λ a. (P.numbers a.0, a.1)) result.0) result.1 }
+        ensures visits { IsWithinHintedBounds (length self.now.list.entries) self.now.shape num result.1 }
+        ensures unhinted { IfNone (entry_at self.now.list.entries (P.Inx.number p_init))
+            (IsWithinBounds (length self.now.list.entries) self.now.shape result.1) }
+        ensures near { IsNearHint T.key_of T.Key.cmp self.now.list.entries k.now (P.Inx.number p_init) num result.1 }
+    {
         if !self.tree.contains_inx(p_init) {
-            return self.find_similar_key_counted(k);
+            return self.search(ties, k);
         }
         let mut probe = Probe::new(&self.tree);
-        let near = step_along(&mut probe, p_init, num, k);
+        let near = step_along(&mut probe, ties, p_init, num, k);
         if near.is_some() {
             return (near, probe.visits());
         }
-        let found = descend_by_key(&mut probe, k);
+        let found = descend_by_key(&mut probe, ties, k);
         (found, probe.visits())
     }
 }

@@ -1,7 +1,7 @@
 //! Where an insertion goes: the search for its place.
 ghost use Rattle.std.specs.Prelude.{◌≡◌, ℕ, IfOk, IfErr};
 ghost use Rattle.std.specs.Option.{option_map};
-ghost use Rattle.triple_ord.specs.Place.{alone, at_key, before_key, beside, nowhere, IsPlace, aim_of, kind_now};
+ghost use Rattle.triple_ord.specs.Place.{alone, at_key, beside, nowhere, IsPlace, aim_of, kind_now};
 ghost use Rattle.triple_ord.specs.Prepared.{IsFoundPlace, IsPlaceBeside, IsPlaceFor};
 ghost use Rattle.triple_ord.specs.Search.{FindsSimilar};
 
@@ -10,6 +10,7 @@ use crate::error::OrdInsertionError;
 use crate::insert_kind::OrdInsertKind;
 use crate::item::SimpleOrdItem;
 use crate::prepared::InsertPlace;
+use crate::ties::Ties;
 use crate::visits::Visits;
 use arena_base::Ptr;
 use std::alloc::Allocator;
@@ -35,20 +36,20 @@ impl<P: Ptr, T: SimpleOrdItem, A: Allocator> SimpleOrdArena<P, T, A> {
                 Ok((place, Visits::new(0)))
             }
             OrdInsertKind::Normal(k) => {
-                let (found, visits) = self.find_similar_key_counted(k);
-                Ok((self.place_over(found), visits))
+                let (found, visits) = self.search(Ties::Sought, k);
+                Ok((self.place_found(found), visits))
             }
             OrdInsertKind::Nonhereditary(k) => {
-                let (found, visits) = self.find_similar_key_counted(k);
-                Ok((self.place_before(found), visits))
+                let (found, visits) = self.search(Ties::Passed, k);
+                Ok((self.place_found(found), visits))
             }
             OrdInsertKind::Linear { p_init, num, k } => {
-                let (found, visits) = self.find_similar_key_linear_counted(p_init, num, k);
-                Ok((self.place_over(found), visits))
+                let (found, visits) = self.search_from(Ties::Sought, p_init, num, k);
+                Ok((self.place_found(found), visits))
             }
             OrdInsertKind::NonhereditaryLinear { p_init, num, k } => {
-                let (found, visits) = self.find_similar_key_linear_counted(p_init, num, k);
-                Ok((self.place_before(found), visits))
+                let (found, visits) = self.search_from(Ties::Passed, p_init, num, k);
+                Ok((self.place_found(found), visits))
             }
             OrdInsertKind::Manual {
                 p_target,
@@ -62,37 +63,18 @@ impl<P: Ptr, T: SimpleOrdItem, A: Allocator> SimpleOrdArena<P, T, A> {
         }
     }
 
-    // Where a search for a key ended: an equal entry is to be replaced.
-    fn place_over(&self, found: Option<(P, Ordering)>) -> InsertPlace<P>
-        ensures { (k : T.Key) (c : ℕ)
-            → FindsSimilar T.key_of T.Key.cmp self.now.list.entries k
+    // Where a search by a key ended: an equal entry is to be replaced, and a gap is to be filled.
+    fn place_found(&self, found: Option<(P, Ordering)>) -> InsertPlace<P>
+        ensures { (cmp : T.Key → T.Key → Ordering) (k : T.Key) (c : ℕ)
+            → FindsSimilar T.key_of cmp self.now.list.entries k
             (option_map (λ a. ((P.numbers a.0), a.1)) found) c
-            → IsFoundPlace P.numbers T.key_of T.Key.cmp self.now (at_key k) k c result }
+            → IsFoundPlace P.numbers T.key_of cmp self.now (at_key k) c result }
     {
         // with its length an arena tells what holds of its list
         let _ = self.len();
         match found {
             None => InsertPlace::New(None),
             Some(similar) if similar.1.is_eq() => InsertPlace::Replacing(similar.0),
-            Some(similar) => InsertPlace::New(Some(similar)),
-        }
-    }
-
-    // Where a search for a key ended: a new entry goes before an equal one.
-    fn place_before(&self, found: Option<(P, Ordering)>) -> InsertPlace<P>
-        ensures { (k : T.Key) (c : ℕ)
-            → FindsSimilar T.key_of T.Key.cmp self.now.list.entries k
-            (option_map (λ a. ((P.numbers a.0), a.1)) found) c
-            → IsFoundPlace P.numbers T.key_of T.Key.cmp self.now (before_key k) k c result }
-    {
-        // with its length an arena tells what holds of its list
-        let _ = self.len();
-        match found {
-            None => InsertPlace::New(None),
-            Some(similar) if similar.1.is_eq() => InsertPlace::New(Some((
-                similar.0,
-                Ordering::Less,
-            ))),
             Some(similar) => InsertPlace::New(Some(similar)),
         }
     }

@@ -121,8 +121,8 @@ impl<P: Ptr, T: Drop, A: Allocator> SimpleOrdArena<P, T, A> {
     fn put(&mut self, at: Option<(P, Ordering)>, t: T) -> P
         requires can { HasRoomAt P.numbers at self.old.list }
         requires vacant { IsSome (next_index self.old.list) }
-        ensures inserted { IsInsertion self.old.list self.new.list (put_at (λ p. (P.numbers p).0) at self.old.list.entries) t
-            (P.numbers result).0 (P.numbers result).1 }
+        ensures inserted { IsInsertion self.old.list self.new.list
+            (put_at (λ p. (P.numbers p).0) at self.old.list.entries) t (P.numbers result).0 (P.numbers result).1 }
         ensures grown { IsGrown self.old.shape self.new.shape }
     {
         // with its length an arena tells what holds of its list
@@ -144,7 +144,8 @@ impl<P: Ptr, T: Drop, A: Allocator> SimpleOrdArena<P, T, A> {
 
     // Sees to it that a slot is vacant.
     fn make_room(&mut self) -> Result<(), OrdInsertionError>
-        ensures ok { OnOk result (self.new ≡ record self.old { list = with_slot reallocating P.Inx.most self.old.list }) }
+        ensures ok { OnOk result
+            (self.new ≡ record self.old { list = with_slot reallocating P.Inx.most self.old.list }) }
         ensures next { OnOk result (IsSome (next_index self.new.list)) }
         ensures entries { self.new.list.entries ≡ self.old.list.entries }
         ensures refused { IfErr result (LacksSlot reallocating P.Inx.most self.old.list) }

@@ -305,9 +305,9 @@ fn key_finds<P: Ptr, T: Marked>(
 
 fn keys_find_pointers<P: Ptr, T: Marked>(rt: &impl Abort, five: &Five<P, T>) {
     let a = &five.arena;
-    key_finds(rt, a, 50, (five.p50, Ordering::Equal), 1);
-    key_finds(rt, a, 30, (five.p30, Ordering::Equal), 2);
-    key_finds(rt, a, 70, (five.p70, Ordering::Equal), 2);
+    key_finds(rt, a, 50, (five.p50, Ordering::Equal), 2);
+    key_finds(rt, a, 30, (five.p30, Ordering::Equal), 3);
+    key_finds(rt, a, 70, (five.p70, Ordering::Equal), 3);
     key_finds(rt, a, 10, (five.p10, Ordering::Equal), 3);
     key_finds(rt, a, 53, (five.p60, Ordering::Less), 3);
     key_finds(rt, a, 40, (five.p30, Ordering::Greater), 2);

@@ -50,10 +50,10 @@ fn similar_keys(rt: HostRuntime) -> Result<(), Fail> {
         (2, 0, 40, 2, Ordering::Greater, 2),
         (9, 3, 40, 2, Ordering::Greater, 2),
         (0, 3, 40, 2, Ordering::Greater, 2),
-        // an equal key
-        (5, 9, 50, 1, Ordering::Equal, 3),
-        (3, 3, 50, 1, Ordering::Equal, 3),
-        (1, 1, 50, 1, Ordering::Equal, 1),
+        // an equal key ends the steps, and a whole search follows
+        (5, 9, 50, 1, Ordering::Equal, 5),
+        (3, 3, 50, 1, Ordering::Equal, 5),
+        (1, 1, 50, 1, Ordering::Equal, 3),
         // both ends
         (5, 1, 5, 5, Ordering::Less, 1),
         (3, 1, 100, 3, Ordering::Greater, 1),
@@ -76,8 +76,8 @@ fn equal_keys(rt: HostRuntime) -> Result<(), Fail> {
         ((9, 2), 3, 40, None, 2),
         ((5, 2), 2, 60, Some((4u32, 2u64)), 5),
         ((5, 2), 0, 60, Some((4, 2)), 3),
-        ((5, 2), 3, 50, Some((1, 2)), 3),
-        ((4, 2), 1, 60, Some((4, 2)), 1),
+        ((5, 2), 3, 50, Some((1, 2)), 5),
+        ((4, 2), 1, 60, Some((4, 2)), 4),
         ((4, 3), 1, 60, Some((4, 2)), 3),
         ((5, 2), usize::MAX, 100, None, 7),
         ((3, 2), usize::MAX, 5, None, 8),

@@ -1,5 +1,5 @@
 use Rattle.std.proofs.Common.{◌≡◌, ℕ, arith, refl, sym, ◌∙◌, of_calls}
-use Rattle.triple_ord.proofs.Descending.{descent-begins, descent-ends, step-occupied, step-few, step-equal, step-less, step-greater, equal_by, less_by, greater_by}
+use Rattle.triple_ord.proofs.Descending.{descent-begins, descent-ends, step-occupied, step-few, step-equal, step-less, step-more, equal_by, less_by, greater_by}
 use Rattle.triple_ord.proofs.Bounds.{within_bounds}
 use Rattle.triple_ord.proofs.descent.descend.Goals as goal
 
@@ -12,7 +12,8 @@ loop-at-init g c = record {
 
 pub show-generation-requires-clause-occupied : goal.show-generation-requires-clause-occupied
 show-generation-requires-clause-occupied g c =
-    rw c.loop-at.invariant.tree (step-occupied _ c.args.probe.now.tree.now c.root-at.ensures.distinct _ _ _ _ _ _ (rw c.in-Some.is at c.loop-at.invariant.descended))
+    let d = rw c.in-Some.is at c.loop-at.invariant.descended in
+    rw c.loop-at.invariant.tree (step-occupied c.args.probe.now.tree.now c.root-at.ensures.distinct _ _ d.descending)
 
 pub returns-then-is_eq-clause-found : goal.returns-then-is_eq-clause-found
 returns-then-is_eq-clause-found g c =
@@ -48,7 +49,7 @@ loop-at-preserved g c =
       callable = search of_calls;
       tree = c.show-generation.ensures.tree ∙ c.loop-at.invariant.tree;
       descended = rw (c.get-greater.ensures.value, c.show-generation.ensures.counted, named)
-          (step-greater _ c.args.probe.now.tree.now c.root-at.ensures.distinct _ _ _ _ _ _ d _ _ _ _ shown c.f-order.result c.f-order.new.self
+          (step-more _ c.args.probe.now.tree.now c.root-at.ensures.distinct _ _ _ _ _ _ d _ _ _ _ shown c.f-order.result c.f-order.new.self
           (λ e is item. record { named = c._from_raw-p.result; item = _; names = named ∙ sym is; shows = sym item; called = c.f-order.ensures }) greater);
     }
 
@@ -57,8 +58,9 @@ returns-clause-found g c = descent-ends _ c.args.probe.now.tree.now c.root-at.en
 
 pub returns-then-is_eq-clause-visits : goal.returns-then-is_eq-clause-visits
 returns-then-is_eq-clause-visits g c =
-    let few = step-few _ c.args.probe.now.tree.now c.root-at.ensures.distinct _ _ _ _ _ _ (rw c.in-Some.is at c.loop-at.invariant.descended) in
-    within_bounds _ c.root-at.ensures.sound c.visits_law.ensures _ (omega (arith, few, c.show-generation.ensures.counted))
+    let d = rw c.in-Some.is at c.loop-at.invariant.descended in
+    let few = step-few c.args.probe.now.tree.now c.root-at.ensures.distinct _ _ d.descending in
+    within_bounds _ c.root-at.ensures.sound c.visits_law.ensures _ (omega (arith, few, d.count, c.show-generation.ensures.counted))
 
 pub returns-clause-visits : goal.returns-clause-visits
 returns-clause-visits g c =

@@ -1,8 +1,90 @@
-use Rattle.std.proofs.Common.{rules}
-use Rattle.triple_ord.proofs.Calling.{similar_by_calls}
+use Rattle.std.proofs.Common.{◌≡◌, ℕ, arith, refl, sym, ap, ◌∙◌}
+use Rattle.std.specs.declared.cmp.Ordering.TheVariants.{Less, Equal, Greater}
+use Rattle.triple_ord.specs.Ties.{taken}
+use Rattle.triple_ord.proofs.Descending.{step-occupied, equal_by, less_by, greater_by}
+use Rattle.triple_ord.proofs.DescendingByKey.{by_key-begins, by_key-lesser, by_key-greater, by_key-other}
+use Rattle.triple_ord.proofs.Bounds.{within_bounds}
 use Rattle.triple_ord.proofs.descent.descend_by_key.Goals as goal
+
+pub loop-at-init : goal.loop-at-init
+loop-at-init g c = record {
+  tree = refl;
+  descended = rw c.root-at.ensures.root (by_key-begins _ _ c.args.probe.now.tree.now c.root-at.ensures.distinct _ _ (sym c.root-at.ensures.sound.listed));
+}
+
+pub show-generation-requires-clause-occupied : goal.show-generation-requires-clause-occupied
+show-generation-requires-clause-occupied g c =
+    let d = rw c.in-Some.is at c.loop-at.invariant.descended in
+    rw c.loop-at.invariant.tree (step-occupied c.args.probe.now.tree.now c.root-at.ensures.distinct _ _ d.descending)
+
+pub descend_in_group-requires-clause-descended : goal.descend_in_group-requires-clause-descended
+descend_in_group-requires-clause-descended g c =
+    let d = rw c.in-Some.is at c.loop-at.invariant.descended in
+    let shown = rw c.loop-at.invariant.tree at c.show-generation.ensures.shown in
+    let named : ◌≡◌ {A = ℕ × ℕ} (g.P.Ptr.numbers c._from_raw-p.result) (g.P.Inx.PtrInx.number c.in-Some.i, g.P.Gen.PtrGen.number c.show-generation.result.0) = (cc) in
+    let order = c.order-order.ensures ∙ ap (taken c.args.ties g.T.Key.Ord.cmp c.args.k.now) c.key.ensures in
+    let equal = equal_by c.order-order.result (sym c.is_eq.ensures ∙ c.if-is_eq.true) in
+    let next = by_key-lesser _ _ c.args.probe.now.tree.now c.root-at.ensures.distinct _ _ _ _ _ _ d _ _ _ _ shown Equal (sym equal ∙ order) refl in
+    let tree = c.show-generation.ensures.tree ∙ c.loop-at.invariant.tree in
+    (c.args.probe.now.visits, rw (tree, c.get-lesser.ensures.value, c.show-generation.ensures.counted, named) next)
+
+pub returns-then-is_eq-clause-found : goal.returns-then-is_eq-clause-found
+returns-then-is_eq-clause-found g c =
+    let d = rw c.in-Some.is at c.loop-at.invariant.descended in
+    let shown = rw c.loop-at.invariant.tree at c.show-generation.ensures.shown in
+    let named : ◌≡◌ {A = ℕ × ℕ} (g.P.Ptr.numbers c._from_raw-p.result) (g.P.Inx.PtrInx.number c.in-Some.i, g.P.Gen.PtrGen.number c.show-generation.result.0) = (cc) in
+    let order = c.order-order.ensures ∙ ap (taken c.args.ties g.T.Key.Ord.cmp c.args.k.now) c.key.ensures in
+    let equal = equal_by c.order-order.result (sym c.is_eq.ensures ∙ c.if-is_eq.true) in
+    let next = by_key-lesser _ _ c.args.probe.now.tree.now c.root-at.ensures.distinct _ _ _ _ _ _ d _ _ _ _ shown Equal (sym equal ∙ order) refl in
+    let tree = c.show-generation.ensures.tree ∙ c.loop-at.invariant.tree in
+    let ended = rw tree at (c.descend_in_group.ensures.ended c.args.probe.now.visits (rw (tree, c.get-lesser.ensures.value, c.show-generation.ensures.counted, named) next)) in
+    ended.similar
+
+pub returns-then-is_eq-clause-visits : goal.returns-then-is_eq-clause-visits
+returns-then-is_eq-clause-visits g c =
+    let d = rw c.in-Some.is at c.loop-at.invariant.descended in
+    let shown = rw c.loop-at.invariant.tree at c.show-generation.ensures.shown in
+    let named : ◌≡◌ {A = ℕ × ℕ} (g.P.Ptr.numbers c._from_raw-p.result) (g.P.Inx.PtrInx.number c.in-Some.i, g.P.Gen.PtrGen.number c.show-generation.result.0) = (cc) in
+    let order = c.order-order.ensures ∙ ap (taken c.args.ties g.T.Key.Ord.cmp c.args.k.now) c.key.ensures in
+    let equal = equal_by c.order-order.result (sym c.is_eq.ensures ∙ c.if-is_eq.true) in
+    let next = by_key-lesser _ _ c.args.probe.now.tree.now c.root-at.ensures.distinct _ _ _ _ _ _ d _ _ _ _ shown Equal (sym equal ∙ order) refl in
+    let tree = c.show-generation.ensures.tree ∙ c.loop-at.invariant.tree in
+    let ended = rw tree at (c.descend_in_group.ensures.ended c.args.probe.now.visits (rw (tree, c.get-lesser.ensures.value, c.show-generation.ensures.counted, named) next)) in
+    within_bounds _ c.root-at.ensures.sound c.visits_law.ensures _ (let few = ended.few in omega (arith, few))
+
+pub loop-at-preserved-then-is_lt : goal.loop-at-preserved-then-is_lt
+loop-at-preserved-then-is_lt g c =
+    let d = rw c.in-Some.is at c.loop-at.invariant.descended in
+    let shown = rw c.loop-at.invariant.tree at c.show-generation.ensures.shown in
+    let named : ◌≡◌ {A = ℕ × ℕ} (g.P.Ptr.numbers c._from_raw-p.result) (g.P.Inx.PtrInx.number c.in-Some.i, g.P.Gen.PtrGen.number c.show-generation.result.0) = (cc) in
+    let order = c.order-order.ensures ∙ ap (taken c.args.ties g.T.Key.Ord.cmp c.args.k.now) c.key.ensures in
+    let less = less_by c.order-order.result (sym c.is_lt.ensures ∙ c.if-is_lt.true) in
+    record {
+      tree = c.show-generation.ensures.tree ∙ c.loop-at.invariant.tree;
+      descended = rw (c.get-lesser.ensures.value, c.show-generation.ensures.counted, named, less)
+          (by_key-lesser _ _ c.args.probe.now.tree.now c.root-at.ensures.distinct _ _ _ _ _ _ d _ _ _ _ shown Less (sym less ∙ order) refl);
+    }
+
+pub loop-at-preserved : goal.loop-at-preserved
+loop-at-preserved g c =
+    let d = rw c.in-Some.is at c.loop-at.invariant.descended in
+    let shown = rw c.loop-at.invariant.tree at c.show-generation.ensures.shown in
+    let named : ◌≡◌ {A = ℕ × ℕ} (g.P.Ptr.numbers c._from_raw-p.result) (g.P.Inx.PtrInx.number c.in-Some.i, g.P.Gen.PtrGen.number c.show-generation.result.0) = (cc) in
+    let order = c.order-order.ensures ∙ ap (taken c.args.ties g.T.Key.Ord.cmp c.args.k.now) c.key.ensures in
+    let greater = greater_by c.order-order.result (sym c.is_eq.ensures ∙ c.if-is_eq.false) (sym c.is_lt.ensures ∙ c.if-is_lt.false) in
+    record {
+      tree = c.show-generation.ensures.tree ∙ c.loop-at.invariant.tree;
+      descended = rw (c.get-greater.ensures.value, c.show-generation.ensures.counted, named, greater)
+          (by_key-greater _ _ c.args.probe.now.tree.now c.root-at.ensures.distinct _ _ _ _ _ _ d _ _ _ _ shown Greater (sym greater ∙ order) refl);
+    }
 
 pub returns-clause-found : goal.returns-clause-found
 returns-clause-found g c =
-    similar_by_calls g.T.SimpleOrdItem.key_of g.T.Key.Ord.cmp g.P.Ptr.numbers _ c.args.probe.now.tree.now.list.entries c.args.k.now _ _ _ _ c.descend.ensures.found
-    (λ p item o h call. search rules)
+    let d = rw c.in_default.is at c.loop-at.invariant.descended in
+    by_key-other _ _ c.args.probe.now.tree.now c.root-at.ensures.distinct _ _ _ _ _ d refl
+
+pub returns-clause-visits : goal.returns-clause-visits
+returns-clause-visits g c =
+    let d = c.loop-at.invariant.descended in
+    let few = d.descending.few in
+    within_bounds _ c.root-at.ensures.sound c.visits_law.ensures _ (omega (arith, few, d.count))

@@ -1,6 +1,9 @@
 use Rattle.std.proofs.Common.{◌≡◌, ℕ, refl, sym, ap, ◌∙◌, arith}
 use Rattle.std.specs.Option.{option_map}
-use Rattle.triple_ord.proofs.Stepping.{stepping-begins, stepping-occupied, stepping-goes, stepping-settles, stepping-near, apart, alike}
+use Rattle.triple_ord.specs.Ties.{taken}
+use Rattle.triple_ord.proofs.Descending.{equal_by}
+use Rattle.triple_ord.proofs.Stepping.{stepping-begins, stepping-occupied, stepping-goes, stepping-order, stepping-settles, stepping-unequal, stepping-near, apart, alike}
+use Rattle.triple_ord.proofs.Taken.{taken-less, taken-greater, taken-equal}
 use Rattle.triple_ord.proofs.steps.step_along.Goals as goal
 use Rattle.triple_ord.proofs.steps.step_along.Goals.{in_default-via-in-Some+else-ne, in_default-via-in_default}
 
@@ -18,10 +21,10 @@ show_link-generation-requires-clause-occupied g c =
 pub returns-in_default-clause-settled : goal.returns-in_default-clause-settled
 returns-in_default-clause-settled g c =
     let linked = rw c.loop-step.invariant.tree at c.show_link-generation.ensures.linked in
-    let order = c.cmp-order.ensures ∙ ap (g.T.Key.Ord.cmp c.args.k.now) (c.key.ensures ∙ ap (λ l. g.T.SimpleOrdItem.key_of l.item.t) c.link.view_is) in
+    let order = c.order-order.ensures ∙ ap (taken c.args.ties g.T.Key.Ord.cmp c.args.k.now) (c.key.ensures ∙ ap (λ l. g.T.SimpleOrdItem.key_of l.item.t) c.link.view_is) in
     let named : ◌≡◌ {A = ℕ × ℕ} (g.P.Ptr.numbers c._from_raw.result) (g.P.Inx.PtrInx.number c.loop-step.at, g.P.Gen.PtrGen.number c.show_link-generation.result.0) = (cc) in
     rw (c.show_link-generation.ensures.counted, named)
-    (stepping-settles _ _ _ _ c.requires.distinct _ _ _ _ c.loop-step.invariant.stepping _ _ linked _ order
+    (stepping-settles _ _ _ _ c.requires.distinct _ _ _ _ c.loop-step.invariant.stepping _ _ linked _ order (sym c.is_eq.ensures ∙ c.if-is_eq.false)
     (rw (← c.towards.ensures)
     (elim c.in_default.branch [
       | in_default-via-in-Some+else-ne w ↦ rw w.in-Some.is (alike _ _ (rw w.reverse.ensures at (sym w.ne.ensures ∙ w.if-ne.false)))
@@ -31,12 +34,12 @@ returns-in_default-clause-settled g c =
 pub returns-in_default-clause-near : goal.returns-in_default-clause-near
 returns-in_default-clause-near g c = λ ordered gap fits.
     rw c.show_link-generation.ensures.counted
-    (stepping-near _ _ _ _ c.requires.distinct _ _ _ _ c.loop-step.invariant.stepping g.met.T.Key.Ord.total ordered gap fits)
+    (stepping-near _ _ _ _ c.requires.distinct _ _ _ _ c.loop-step.invariant.stepping _ (λ o. taken-less _ _ o c.args.ties) (λ o. taken-greater _ _ o c.args.ties) g.met.T.Key.Ord.total ordered gap fits)
 
 pub loop-step-preserved : goal.loop-step-preserved
 loop-step-preserved g c =
     let linked = rw c.loop-step.invariant.tree at c.show_link-generation.ensures.linked in
-    let order = c.cmp-order.ensures ∙ ap (g.T.Key.Ord.cmp c.args.k.now) (c.key.ensures ∙ ap (λ l. g.T.SimpleOrdItem.key_of l.item.t) c.link.view_is) in
+    let order = c.order-order.ensures ∙ ap (taken c.args.ties g.T.Key.Ord.cmp c.args.k.now) (c.key.ensures ∙ ap (λ l. g.T.SimpleOrdItem.key_of l.item.t) c.link.view_is) in
     record {
       tree = c.show_link-generation.ensures.tree ∙ c.loop-step.invariant.tree;
       counted = omega (arith, c.show_link-generation.ensures.counted, c.loop-step.invariant.counted);
@@ -47,5 +50,12 @@ loop-step-preserved g c =
 
 pub returns-clause-near : goal.returns-clause-near
 returns-clause-near g c = λ ordered gap fits.
-    let near = stepping-near _ _ _ _ c.requires.distinct _ _ _ _ c.loop-step.invariant.stepping g.met.T.Key.Ord.total ordered gap fits in
+    let near = stepping-near _ _ _ _ c.requires.distinct _ _ _ _ c.loop-step.invariant.stepping _ (λ o. taken-less _ _ o c.args.ties) (λ o. taken-greater _ _ o c.args.ties) g.met.T.Key.Ord.total ordered gap fits in
     omega (arith, near, c.loop-step-test.false, c.loop-step.invariant.counted)
+
+pub returns-then-is_eq-clause-near : goal.returns-then-is_eq-clause-near
+returns-then-is_eq-clause-near g c = λ ordered gap fits.
+    let linked = rw c.loop-step.invariant.tree at c.show_link-generation.ensures.linked in
+    let order = c.order-order.ensures ∙ ap (taken c.args.ties g.T.Key.Ord.cmp c.args.k.now) (c.key.ensures ∙ ap (λ l. g.T.SimpleOrdItem.key_of l.item.t) c.link.view_is) in
+    let equal = stepping-order _ _ _ _ c.requires.distinct _ _ _ _ c.loop-step.invariant.stepping _ _ linked _ order ∙ equal_by _ (sym c.is_eq.ensures ∙ c.if-is_eq.true) in
+    absurd (stepping-unequal _ _ _ _ c.requires.distinct _ _ _ _ c.loop-step.invariant.stepping _ g.met.T.Key.Ord.total ordered gap fits (taken-equal _ _ _ c.args.ties equal))

@@ -18,7 +18,8 @@ invariant_of-self g c =
     let number = g.P.Gen.PtrGen.number in
     let found = c.position_of_entry-position.ensures in (
       take-sound number g.P.Inx.PtrInx.most g.P.Gen.PtrGen.greatest s.slots.items s.generation s.maximum (map g.P.Inx.PtrInx.number s.vacant.items) c.args.self.now c.position_of_entry-position.result (g.P.Inx.PtrInx.number c.args.i)
-          c.self.view_is found.number (map g.P.Inx.PtrInx.number c.push_reserved.new.self.items) c.take-entry.new.self c.take-entry.ensures.after (numbers-pushed g.P.Inx.PtrInx.number _ _ _ c.push_reserved.ensures.items) c.self.invariant.0 c.requires,
+          c.self.view_is found.number (map g.P.Inx.PtrInx.number c.push_reserved.new.self.items) c.take-entry.new.self c.take-entry.ensures.after
+          (numbers-pushed g.P.Inx.PtrInx.number _ _ _ c.push_reserved.ensures.items) c.self.invariant.0 c.requires,
       omega (arith, c.self.invariant.1),
     )
 

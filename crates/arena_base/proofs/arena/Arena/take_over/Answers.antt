@@ -31,7 +31,16 @@ invariant_of-self g c =
       clone-sound g.P.Ptr.numbers g.P.Gen.PtrGen.number g.M.CloneEntry.step g.P.Inx.PtrInx.most g.P.Gen.PtrGen.greatest s.slots.items copies.items next.items c.unwrap-self-inside.result s.generation s.maximum
           (map inx s.vacant.items) (map inx c.list_vacant.new.vacant.items) all c.args.self.now c.self.view_is source named room within padded c.args.map
           c.self.invariant.0 c.capacity.ensures.lawful c.clone_slots-granted.result c.clone_slots-granted.ensures.ok c.clone_slots-granted.ensures.none_left,
-      omega (arith, next.ok.0, s.slots.ok.0, ap length padded, length-append copies.items (replicate (length s.slots.items - length copies.items) Vacant), length-replicate {A = Slot g.row.T.Denot g.row.P-Gen.Denot} (length s.slots.items - length copies.items) Vacant, within, c.self.invariant.1),
+      omega (
+        arith,
+        next.ok.0,
+        s.slots.ok.0,
+        ap length padded,
+        length-append copies.items (replicate (length s.slots.items - length copies.items) Vacant),
+        length-replicate {A = Slot g.row.T.Denot g.row.P-Gen.Denot} (length s.slots.items - length copies.items) Vacant,
+        within,
+        c.self.invariant.1,
+      ),
     )
 
 pub returns : goal.returns

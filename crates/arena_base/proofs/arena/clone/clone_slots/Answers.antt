@@ -27,7 +27,8 @@ returns-in-Err-clause-refused g c =
     let inside : i < length a.slots = omega (arith, greatest_occupied-below a.slots) in
     let shown = sym (c.get_inx.ensures ∙ ap (slot a) c.inx_at-i.ensures) in
     cloned-refused g.P.Ptr.numbers g.P.Gen.PtrGen.number g.M.CloneEntry.step c.args.map a.slots at.map at.slots.items i at.invariant.cloned inside
-    (g.P.Gen.PtrGen.number c.in-Some.entry.0) c.in-Some.entry.1.now c._from_raw.result c.in-Err.refusal c.clone_entry.new.self (shown ∙ rw c.in-Some.is refl) (ap (λ (n : ℕ × ℕ). n.0) c._from_raw.ensures ∙ c.inx_at-i.ensures) (ap (λ (n : ℕ × ℕ). n.1) c._from_raw.ensures)
+    (g.P.Gen.PtrGen.number c.in-Some.entry.0) c.in-Some.entry.1.now c._from_raw.result c.in-Err.refusal c.clone_entry.new.self
+    (shown ∙ rw c.in-Some.is refl) (ap (λ (n : ℕ × ℕ). n.0) c._from_raw.ensures ∙ c.inx_at-i.ensures) (ap (λ (n : ℕ × ℕ). n.1) c._from_raw.ensures)
     (c.in-Err.ensures.step)
 
 pub loop-position-preserved : goal.loop-position-preserved
@@ -42,7 +43,8 @@ loop-position-preserved g c =
           rw (w.slots-is, w.map-is, w.push_reserved.ensures.items) (record {
             callable = w.clone_entry.ensures.callable;
             cloned = cloned-entry g.P.Ptr.numbers g.P.Gen.PtrGen.number (Grants g.P.Ptr.numbers g.M.CloneEntry.step) c.args.map a.slots at.map at.slots.items i at.invariant.cloned inside
-                w.in-Some.entry.0 w.in-Some.entry.1.now w._from_raw.result w.in-Ok.item w.clone_entry.new.self (shown ∙ rw w.in-Some.is refl) (ap (λ (n : ℕ × ℕ). n.0) w._from_raw.ensures ∙ c.inx_at-i.ensures) (ap (λ (n : ℕ × ℕ). n.1) w._from_raw.ensures) w.in-Ok.ensures.step;
+                w.in-Some.entry.0 w.in-Some.entry.1.now w._from_raw.result w.in-Ok.item w.clone_entry.new.self (shown ∙ rw w.in-Some.is refl)
+                (ap (λ (n : ℕ × ℕ). n.0) w._from_raw.ensures ∙ c.inx_at-i.ensures) (ap (λ (n : ℕ × ℕ). n.1) w._from_raw.ensures) w.in-Ok.ensures.step;
             count = omega (arith, w.push_reserved.ensures.len, at.invariant.count);
             capacity = w.push_reserved.ensures.capacity ∙ at.invariant.capacity;
           })

@@ -27,7 +27,8 @@ loop-from-preserved g c =
           rw (w.slots-is, w.map-is, w.to-is, w.fill.ensures, c.vacate.ensures.after) (
             w.map_entry-answer.ensures.callable,
             compressed-filled g.P.Ptr.numbers g.P.Gen.PtrGen.number g.M.MapEntry.step c.args.generation c.args.map c.args.slots.now.items at.map at.slots.items at.from at.to b inside
-                now w.in-Some.entry.0 w.in-Some.entry.1 w.map_entry-answer.result w.pointer.result w.pointer-in-Some.result w.map_entry-answer.new.self read (sym c.vacate.ensures.value ∙ w.in-Some.is) w.pointer.ensures.index w.pointer.ensures.generation w.pointer-in-Some.ensures.index w.pointer-in-Some.ensures.generation w.map_entry-answer.ensures.step,
+                now w.in-Some.entry.0 w.in-Some.entry.1 w.map_entry-answer.result w.pointer.result w.pointer-in-Some.result w.map_entry-answer.new.self read (sym c.vacate.ensures.value
+                ∙ w.in-Some.is) w.pointer.ensures.index w.pointer.ensures.generation w.pointer-in-Some.ensures.index w.pointer-in-Some.ensures.generation w.map_entry-answer.ensures.step,
             at.invariant.2,
           )
       | in_default w ↦

@@ -16,4 +16,13 @@ push_reserved-requires g c =
     let position = c.loop-position.position in
     let rest = drop position c.args.slots.now in
     let vacant = c.loop-position.vacant in
-    omega (arith, vacant.ok.0, length-map vacant.items g.I.PtrInx.number, ap length c.loop-position.invariant.items, length-reverse (vacant_slots (position + 1) rest), length-vacant_slots (position + 1) rest, length-drop position c.args.slots.now)
+    omega (
+      arith,
+      vacant.ok.0,
+      length-map vacant.items g.I.PtrInx.number,
+      ap length c.loop-position.invariant.items,
+      length-reverse
+          (vacant_slots (position + 1) rest),
+      length-vacant_slots (position + 1) rest,
+      length-drop position c.args.slots.now,
+    )

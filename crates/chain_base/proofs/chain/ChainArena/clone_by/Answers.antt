@@ -7,20 +7,24 @@ use Rattle.chain_base.proofs.chain.ChainArena.clone_by.Goals as goal
 
 pub invariant_of-self : goal.invariant_of-self
 invariant_of-self g c =
-    clone-laid g.P.Ptr.numbers g.M.CloneEntry.step (λ m. m.map) g.P.Inx.PtrInx.most g.P.Gen.PtrGen.greatest c.source.inside.arena _ _ c.source.invariant (rw c.source.view_is c.len.ensures.sound) c.self.inside.arena c.clone_by-cloned.new.self _ c.in-Ok.ensures.ok
+    clone-laid g.P.Ptr.numbers g.M.CloneEntry.step (λ m. m.map) g.P.Inx.PtrInx.most g.P.Gen.PtrGen.greatest c.source.inside.arena _ _ c.source.invariant
+    (rw c.source.view_is c.len.ensures.sound) c.self.inside.arena c.clone_by-cloned.new.self _ c.in-Ok.ensures.ok
 
 pub invariant_of-self-then-is_empty : goal.invariant_of-self-then-is_empty
 invariant_of-self-then-is_empty g c =
-    empty-laid c.source.inside.arena c.self.inside.arena c.clone_by-cloned.new.self _ _ c.self.invariant c.clone_by-cloned.result c.in-Err.field-0 c.in-Err.is c.clone_by-cloned.ensures.beyond_kept (λ refused. refused.after) c.clone_by-cloned.ensures.memory (sym c.is_empty.ensures ∙ c.if-is_empty.true)
+    empty-laid c.source.inside.arena c.self.inside.arena c.clone_by-cloned.new.self _ _ c.self.invariant c.clone_by-cloned.result c.in-Err.field-0 c.in-Err.is c.clone_by-cloned.ensures.beyond_kept
+    (λ refused. refused.after) c.clone_by-cloned.ensures.memory (sym c.is_empty.ensures ∙ c.if-is_empty.true)
 
 pub invariant_of-self-else-is_empty : goal.invariant_of-self-else-is_empty
 invariant_of-self-else-is_empty g c =
-    filled-laid c.source.inside.arena c.self.inside.arena c.clone_by-cloned.new.self _ _ c.self.invariant c.clone_by-cloned.result c.in-Err.field-0 c.in-Err.is c.clone_by-cloned.ensures.beyond_kept (λ refused. refused.after) c.clone_by-cloned.ensures.memory (sym c.is_empty.ensures ∙ c.if-is_empty.false)
+    filled-laid c.source.inside.arena c.self.inside.arena c.clone_by-cloned.new.self _ _ c.self.invariant c.clone_by-cloned.result c.in-Err.field-0 c.in-Err.is c.clone_by-cloned.ensures.beyond_kept
+    (λ refused. refused.after) c.clone_by-cloned.ensures.memory (sym c.is_empty.ensures ∙ c.if-is_empty.false)
 
 pub returns-in-Ok-clause-ok : goal.returns-in-Ok-clause-ok
 returns-in-Ok-clause-ok g c =
     rw (c.in-Ok.is, ← c.self.view_is, ← c.source.view_is)
-    (clone-chain g.P.Ptr.numbers g.M.CloneEntry.step (λ m. m.map) g.P.Inx.PtrInx.most g.P.Gen.PtrGen.greatest c.source.inside.arena _ _ c.source.invariant (rw c.source.view_is c.len.ensures.sound) c.self.inside.arena c.clone_by-cloned.new.self _ c.in-Ok.ensures.ok _ c.in-Ok.ensures.fresh)
+    (clone-chain g.P.Ptr.numbers g.M.CloneEntry.step (λ m. m.map) g.P.Inx.PtrInx.most g.P.Gen.PtrGen.greatest c.source.inside.arena _ _ c.source.invariant
+    (rw c.source.view_is c.len.ensures.sound) c.self.inside.arena c.clone_by-cloned.new.self _ c.in-Ok.ensures.ok _ c.in-Ok.ensures.fresh)
 
 pub returns-in-Ok-clause-beyond : goal.returns-in-Ok-clause-beyond
 returns-in-Ok-clause-beyond g c =
@@ -39,10 +43,12 @@ returns-then-is_empty-clause-memory g c = λ is.
     elim (c.clone_by-cloned.ensures.memory is) [
       | inl kept ↦ inl (
         rw (← c.self.view_is, ← c.source.view_is, ← greatest-links c.source.inside.arena.slots _ c.source.invariant.links) kept.0,
-        kept-chain c.source.inside.arena c.self.inside.arena c.clone_by-cloned.new.self _ _ c.self.invariant c.clone_by-cloned.result c.in-Err.field-0 c.in-Err.is c.clone_by-cloned.ensures.beyond_kept (λ refused. refused.after) c.clone_by-cloned.ensures.memory kept.1 (sym c.is_empty.ensures ∙ c.if-is_empty.true) ∙ c.self.view_is,
+        kept-chain c.source.inside.arena c.self.inside.arena c.clone_by-cloned.new.self _ _ c.self.invariant c.clone_by-cloned.result c.in-Err.field-0 c.in-Err.is c.clone_by-cloned.ensures.beyond_kept
+            (λ refused. refused.after) c.clone_by-cloned.ensures.memory kept.1 (sym c.is_empty.ensures ∙ c.if-is_empty.true) ∙ c.self.view_is,
       )
       | inr refused ↦ inr (rw (← c.self.view_is, ← c.source.view_is) (record {
-        stops = rising-told g.P.Ptr.numbers g.M.CloneEntry.step (λ m. m.map) g.P.Inx.PtrInx.most g.P.Gen.PtrGen.greatest c.source.inside.arena _ _ c.source.invariant (rw c.source.view_is c.len.ensures.sound) c.self.inside.arena c.clone_by-cloned.new.self _ refused.stops;
+        stops = rising-told g.P.Ptr.numbers g.M.CloneEntry.step (λ m. m.map) g.P.Inx.PtrInx.most g.P.Gen.PtrGen.greatest c.source.inside.arena _ _ c.source.invariant
+            (rw c.source.view_is c.len.ensures.sound) c.self.inside.arena c.clone_by-cloned.new.self _ refused.stops;
         after = refused-chain c.source.inside.arena _ _ c.source.invariant c.self.inside.arena c.clone_by-cloned.new.self (option_map g.P.Inx.PtrInx.number c.self.inside.first) refused.after;
       }))
     ]
@@ -54,5 +60,6 @@ returns-else-is_empty-clause-memory g c = λ is.
         rw (← c.self.view_is, ← c.source.view_is, ← greatest-links c.source.inside.arena.slots _ c.source.invariant.links) kept.0,
         ap (λ a. chain_of a (option_map g.P.Inx.PtrInx.number c.self.inside.first)) kept.1 ∙ c.self.view_is,
       )
-      | inr refused ↦ absurd (unrefused c.source.inside.arena c.self.inside.arena c.clone_by-cloned.new.self _ _ c.self.invariant c.clone_by-cloned.result c.in-Err.field-0 c.in-Err.is c.clone_by-cloned.ensures.beyond_kept (λ refused. refused.after) c.clone_by-cloned.ensures.memory (sym c.is_empty.ensures ∙ c.if-is_empty.false) refused.after)
+      | inr refused ↦ absurd (unrefused c.source.inside.arena c.self.inside.arena c.clone_by-cloned.new.self _ _ c.self.invariant c.clone_by-cloned.result c.in-Err.field-0 c.in-Err.is c.clone_by-cloned.ensures.beyond_kept
+          (λ refused. refused.after) c.clone_by-cloned.ensures.memory (sym c.is_empty.ensures ∙ c.if-is_empty.false) refused.after)
     ]

@@ -8,7 +8,8 @@ use Rattle.chain_base.proofs.chain.ChainArena.step.Goals as goal
 pub returns : goal.returns
 returns g c =
     rw (c._from_raw.ensures, c.next.ensures.value, ← c.self.view_is)
-    (gives-from_link (chain_of c.self.inside.arena (option_map g.P.Inx.PtrInx.number c.self.inside.first)) _ _ c.in_ok-entry.entry.1.now c.self.invariant.distinct (c.in_ok-entry.ensures ∙ sym (link_at-laid_out c.self.inside.arena _ _ c.self.invariant _)))
+    (gives-from_link (chain_of c.self.inside.arena (option_map g.P.Inx.PtrInx.number c.self.inside.first)) _ _ c.in_ok-entry.entry.1.now c.self.invariant.distinct
+    (c.in_ok-entry.ensures ∙ sym (link_at-laid_out c.self.inside.arena _ _ c.self.invariant _)))
 
 pub returns-in_err-entry : goal.returns-in_err-entry
 returns-in_err-entry g c =

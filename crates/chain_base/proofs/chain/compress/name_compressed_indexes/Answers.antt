@@ -15,7 +15,8 @@ overflow_add-count g c =
     omega (arith, c.loop-position.invariant.fewer, c.try_from_usize.ensures.variant, c.capacity-position-end.ensures.limit, c.capacity-position-end.ensures.value)
 
 -- what stands at the index that is met
-found : {I G X L : Type 0} (number : I → ℕ) (era : G → ℕ) (seen : X → L) (a : _) (i : I) (n : ℕ) → number i ≡ n → (r : Option (G × X)) → option_map (λ (e : G × X). (era e.0, seen e.1)) r ≡ slot a (number i) → (e : G × X) → r ≡ Some e → slot a n ≡ Some (era e.0, seen e.1)
+found : {I G X L : Type 0} (number : I → ℕ) (era : G → ℕ) (seen : X → L) (a : _) (i : I) (n : ℕ) → number i ≡ n → (r : Option (G × X))
+    → option_map (λ (e : G × X). (era e.0, seen e.1)) r ≡ slot a (number i) → (e : G × X) → r ≡ Some e → slot a n ≡ Some (era e.0, seen e.1)
 found number era seen a i n at r is e some = ap (slot a) (sym at) ∙ (sym is ∙ ap (option_map (λ e. (era e.0, seen e.1))) some)
 
 missing : {I G X L : Type 0} (number : I → ℕ) (era : G → ℕ) (seen : X → L) (a : _) (i : I) (n : ℕ) → number i ≡ n → (r : Option (G × X)) → option_map (λ (e : G × X). (era e.0, seen e.1)) r ≡ slot a (number i) → r ≡ None → slot a n ≡ None
@@ -40,8 +41,10 @@ loop-position-preserved g c =
           let e = w.in-Some.entry in
           let held = found number g.P.Gen.PtrGen.number _ at.arena c.unwrap-index.result (at.position + 1) (search rules) c.get_inx.result c.get_inx.ensures e w.in-Some.is in
           let within : at.count + 1 ≤ g.P.Inx.PtrInx.most = omega (arith, at.invariant.fewer, c.capacity-position-end.ensures.limit, c.capacity-position-end.ensures.value) in
-          let made : option_map number w.try_from_usize-here.result ≡ Some (at.count + 1) = index-made number g.P.Inx.PtrInx.most (at.count + 1) w.try_from_usize-here.result w.try_from_usize-here.ensures.variant w.try_from_usize-here.ensures.value (omega arith) within in
-          let linked = w.link_facing.ensures ∙ ap (linked_facing c.args.side at.arena (option_map number w.neighbour_on-neighbour.result)) (ap (named_of g.P.Inx.PtrInx.most) made ∙ neighbour-within g.P.Inx.PtrInx.most (at.count + 1) within) in
+          let made : option_map number w.try_from_usize-here.result ≡ Some (at.count + 1) =
+          index-made number g.P.Inx.PtrInx.most (at.count + 1) w.try_from_usize-here.result w.try_from_usize-here.ensures.variant w.try_from_usize-here.ensures.value (omega arith) within in
+          let linked = w.link_facing.ensures ∙ ap (linked_facing c.args.side at.arena (option_map number w.neighbour_on-neighbour.result))
+          (ap (named_of g.P.Inx.PtrInx.most) made ∙ neighbour-within g.P.Inx.PtrInx.most (at.count + 1) within) in
           elim w.if-is_none.branch [
             | then-is_none v ↦
                 rw (w.arena-is, w.end-is, v.end-is, w.count-is, made)
@@ -58,4 +61,5 @@ loop-position-preserved g c =
 
 pub returns : goal.returns
 returns g c =
-    named-ends c.args.side c.args.arena.now c.loop-position.arena c.loop-position.count _ (c.loop-position.position + 1) c.loop-position.invariant (omega (arith, c.capacity-position-end.ensures.value)) c.capacity-position-end.ensures.sound.begins
+    named-ends c.args.side c.args.arena.now c.loop-position.arena c.loop-position.count _ (c.loop-position.position + 1) c.loop-position.invariant
+    (omega (arith, c.capacity-position-end.ensures.value)) c.capacity-position-end.ensures.sound.begins

@@ -6,7 +6,8 @@ use Rattle.ord_tree.proofs.store.ChainArenaSimpleOrdArenaNodeNodes.set_back.Goal
 pub returns-clause-here : goal.returns-clause-here
 returns-clause-here g c =
     let was = links_in c.pair_mut-pair.result.1.now in
-    rw (← c.get.ensures.value) (slots_of-changed c.args.self.now _ _ _ c.pair_mut-pair.ensures.value (λ m. record m { back = option_map g.P.Inx.PtrInx.number c.args.back }) (ap (λ (b : Option ℕ). record was { back = b }) c.kept-node.ensures))
+    rw (← c.get.ensures.value) (slots_of-changed c.args.self.now _ _ _ c.pair_mut-pair.ensures.value
+    (λ m. record m { back = option_map g.P.Inx.PtrInx.number c.args.back }) (ap (λ (b : Option ℕ). record was { back = b }) c.kept-node.ensures))
 
 pub returns-clause-elsewhere : goal.returns-clause-elsewhere
 returns-clause-elsewhere g c = rw (← c.get.ensures.value) (slots_of-elsewhere c.args.self.now _ _ _ c.pair_mut-pair.ensures.value)

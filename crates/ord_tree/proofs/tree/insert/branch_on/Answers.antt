@@ -27,7 +27,8 @@ returns-in_default g c = λ root s laid distinct.
     = sym (child-numbered number c.args.side c.links-links.result) ∙ ap (option_map number) (sym c.child.ensures) in
     let within = within-occupied entries (number c.args.i) c.requires in
     let child = some_in c.child.result c.if-is_none.ensures in
-    let bud = next_bud (slots_of c.args.chain.now) root s (indexes entries) laid.held laid.listed (IsOnce-distinct entries distinct) (number c.args.i) within (numbered number c.links-links.result) c.links-links.ensures c.args.side (number child.0) (child_is ∙ ap (option_map number) child.1) in
+    let bud = next_bud (slots_of c.args.chain.now) root s (indexes entries) laid.held laid.listed (IsOnce-distinct entries distinct) (number c.args.i) within
+    (numbered number c.links-links.result) c.links-links.ensures c.args.side (number child.0) (child_is ∙ ap (option_map number) child.1) in
     let none = rw c.in_default.is at c.neighbour.ensures in
     let some = bud.is in
     absurd cc
@@ -40,7 +41,8 @@ returns g c = λ root s laid distinct.
     = sym (child-numbered number c.args.side c.links-links.result) ∙ ap (option_map number) (sym c.child.ensures) in
     let within = within-occupied entries (number c.args.i) c.requires in
     let child = some_in c.child.result c.if-is_none.ensures in
-    let bud = next_bud (slots_of c.args.chain.now) root s (indexes entries) laid.held laid.listed (IsOnce-distinct entries distinct) (number c.args.i) within (numbered number c.links-links.result) c.links-links.ensures c.args.side (number child.0) (child_is ∙ ap (option_map number) child.1) in
+    let bud = next_bud (slots_of c.args.chain.now) root s (indexes entries) laid.held laid.listed (IsOnce-distinct entries distinct) (number c.args.i) within
+    (numbered number c.links-links.result) c.links-links.ensures c.args.side (number child.0) (child_is ∙ ap (option_map number) child.1) in
     let named = rw c.in-Some.is at c.neighbour.ensures in
     let some = bud.is in
     IsLeafBranch-next number bud (record { parent = c.in-Some.parent; side = c.other.result }) (cc) c.other.ensures

@@ -1,0 +1,4 @@
+-- Lemmas of this crate.
+pub mod Leaving
+pub mod Deadlines
+pub mod Putting

@@ -1,0 +1,140 @@
+//! `Agenda`: jobs by deadline.
+
+ghost use Rattle.std.specs.Prelude.{◌≡◌, ◌==◌, ◌↔◌, [], Err, None, IfOk, IfErr, OnErr, IfSome, IfNone, OnSome, is_some, length};
+ghost use Rattle.agenda.specs.Agenda.{most_jobs, job_of, without, first_deadline, first_due, behind_first, IsSound, with_left, Schedules};
+
+use crate::jobs::{Jobs, put, put_within};
+use crate::ticket::Ticket;
+use std::alloc::{Allocator, Global};
+use std::marker::Model;
+use triple_ord::{ReallocationError, SimpleOrdArena};
+
+/// Jobs with their deadlines, in the order in which they leave: by deadline, and where deadlines are equal in the order of scheduling.
+///
+/// A deadline is a number in whatever unit the program counts its time. A job is named by the ticket that scheduling it gave. In
+/// contracts an agenda is one list of jobs, each with its ticket and its deadline, and the generation of the next ticket.
+///
+/// The generation of tickets rises with each job that leaves or is moved, so a ticket that named one names nothing more, until after
+/// some 2 to the 64th of them the generations begin again.
+///
+/// Only `schedule` takes memory. n is the number of jobs in what is said of time.
+#[derive(Drop)]
+pub struct Agenda<J, A: Allocator = Global> {
+    jobs: Jobs<J, A>,
+}
+
+impl<J, A: Allocator> Model for Agenda<J, A> {
+    ghost use Rattle.agenda.specs.Agenda.{Agenda};
+
+    ghost Value = { Agenda J };
+
+    ghost use Rattle.agenda.specs.Layout.{agenda_of, IsArenaOfJobs};
+
+    ghost view = { λ a. agenda_of a.jobs };
+
+    ghost invariant = { λ a. IsArenaOfJobs a.jobs };
+}
+
+impl<J, A: Allocator> Agenda<J, A> {
+    /// An agenda without jobs. It takes no memory until a job is scheduled.
+    pub fn new(alloc: A) -> Self
+    where
+        A: Copy,
+        ensures jobs { result.jobs ≡ [] }
+        ensures generation { result.generation ≡ 2 }
+    {
+        Agenda {
+            jobs: SimpleOrdArena::new(alloc),
+        }
+    }
+
+    /// How many jobs there are.
+    pub fn len(&self) -> usize
+        ensures value { result ≡ length self.now.jobs }
+        ensures sound { IsSound self.now }
+    {
+        self.jobs.len()
+    }
+
+    /// Whether there is no job.
+    pub fn is_empty(&self) -> bool
+        ensures { result ≡ (length self.now.jobs == 0) }
+    {
+        self.jobs.is_empty()
+    }
+
+    /// The deadline of the job that leaves first, in O(1).
+    pub fn next_deadline(&self) -> Option<u64>
+        ensures { result ≡ first_deadline self.now.jobs }
+    {
+        let first = self.jobs.first()?;
+        let pair = self.jobs.get(first)?;
+        Some(*pair.k())
+    }
+
+    /// Takes the job that the ticket names off the agenda, and returns it with its deadline, in O(log n).
+    ///
+    /// For a ticket that names no job it returns `None`, and nothing changes.
+    pub fn cancel(&mut self, ticket: Ticket) -> Option<(u64, J)>
+        ensures value { result ≡ job_of self.old.jobs ticket }
+        ensures gone { OnSome result (self.new ≡ with_left self.old (without self.old.jobs ticket)) }
+        ensures none { IfNone result (self.new ≡ self.old) }
+    {
+        // with its length an arena tells what holds of its list
+        let _ = self.jobs.len();
+        let pair = self.jobs.remove(ticket.pointer).allow()?;
+        Some(pair.into_k_v())
+    }
+
+    /// Takes the first job off the agenda and returns it with its deadline, where that is at most `now`, in O(log n).
+    ///
+    /// Where no job is due it returns `None`, and nothing changes.
+    pub fn pop_due(&mut self, now: u64) -> Option<(u64, J)>
+        ensures value { result ≡ first_due now self.old.jobs }
+        ensures gone { OnSome result (self.new ≡ with_left self.old (behind_first self.old.jobs)) }
+        ensures none { IfNone result (self.new ≡ self.old) }
+    {
+        let first = self.jobs.first()?;
+        let deadline = *self.jobs.get(first)?.k();
+        if deadline > now {
+            return None;
+        }
+        self.cancel(Ticket { pointer: first })
+    }
+}
+
+impl<J: Drop, A: Allocator> Agenda<J, A> {
+    /// Puts a job on the agenda, behind all whose deadline is at most its own, and returns its ticket, in O(log n), and O(n) where the
+    /// agenda grows.
+    ///
+    /// It is refused with `BeyondMaxCapacity` where there are as many jobs as tickets have indexes, 4,294,967,294, and with `AllocError`
+    /// where memory is refused to a growth. The job comes back then, and nothing else has changed.
+    pub fn schedule(&mut self, deadline: u64, job: J) -> Result<Ticket, (J, ReallocationError)>
+        ensures ok { IfOk result (λ ticket. Schedules self.old ticket deadline job self.new) }
+        ensures back { IfErr result (λ e. e.0 ≡ job) }
+        ensures full { (result ≡ Err (job, ReallocationError.BeyondMaxCapacity)) ↔ (length self.old.jobs ≡ most_jobs) }
+        ensures err { OnErr result (self.new ≡ self.old) }
+    {
+        let pointer = put(&mut self.jobs, deadline, job)?;
+        Ok(Ticket { pointer })
+    }
+
+    /// Gives the job that the ticket names another deadline, and a new ticket, which is returned, in O(log n). It counts as newly
+    /// scheduled: it stands behind all jobs whose deadline is at most its own, also where its deadline is what it was.
+    ///
+    /// It takes no memory. For a ticket that names no job it returns `None`, and nothing changes.
+    pub fn move_to(&mut self, ticket: Ticket, deadline: u64) -> Option<Ticket>
+        ensures value { is_some result ≡ is_some (job_of self.old.jobs ticket) }
+        ensures moved { IfSome result (λ new. IfSome (job_of self.old.jobs ticket) (λ job.
+            Schedules (with_left self.old (without self.old.jobs ticket)) new deadline job.1 self.new)) }
+        ensures none { IfNone result (self.new ≡ self.old) }
+    {
+        // with its length an arena tells what holds of its list
+        let _ = self.jobs.len();
+        let moved = self.jobs.remove(ticket.pointer).allow()?;
+        let (_, job) = moved.into_k_v();
+        // the job that was taken out has left its slot
+        let pointer = put_within(&mut self.jobs, deadline, job);
+        Some(Ticket { pointer })
+    }
+}

@@ -1,0 +1,69 @@
+//! The arena of an agenda: a new entry goes behind all whose deadline is at most its own.
+
+ghost use Rattle.std.specs.Prelude.{◌≡◌, ◌<◌, ◌↔◌, Err, IfOk, IfErr, OnErr, length};
+ghost use Rattle.std.specs.Ordering.{nat_cmp};
+ghost use Rattle.chain_base.specs.Chain.{chain_limit, IsSound};
+ghost use Rattle.triple_ord.specs.Insertion.{within, reallocating, InsertsNew};
+ghost use Rattle.triple_ord.specs.Place.{behind_key};
+ghost use Rattle.agenda.specs.Agenda.{most_jobs};
+ghost use Rattle.agenda.specs.Layout.{deadline_of, greatest_generation};
+
+use std::alloc::Allocator;
+use triple_ord::{
+    OrdInsertKind, OrdInsertionError, OrdPair, P0, ReallocationError, SimpleOrdArena,
+};
+
+/// Jobs by deadline.
+pub(crate) type Jobs<J, A> = SimpleOrdArena<P0, OrdPair<u64, J>, A>;
+
+/// Puts a job into the arena, which grows where it has no slot. A job that is refused comes back.
+pub(crate) fn put<J: Drop, A: Allocator>(
+    jobs: &mut Jobs<J, A>,
+    deadline: u64,
+    job: J,
+) -> Result<P0, (J, ReallocationError)>
+    ensures ok { IfOk result (λ p. InsertsNew deadline_of nat_cmp most_jobs reallocating
+        (behind_key deadline) jobs.old (deadline, job) p jobs.new) }
+    ensures back { IfErr result (λ e. e.0 ≡ job) }
+    ensures full { (result ≡ Err (job, ReallocationError.BeyondMaxCapacity))
+        ↔ (length jobs.old.list.entries ≡ chain_limit most_jobs jobs.old.list) }
+    ensures err { OnErr result (jobs.new ≡ jobs.old) }
+    ensures sound { IsSound most_jobs greatest_generation jobs.old.list }
+{
+    // with its length an arena tells what holds of its list
+    let _ = jobs.len();
+    match jobs.entry_insert(OrdInsertKind::Nonhereditary(&deadline)) {
+        Ok(entry) => {
+            let p = entry.ptr().any();
+            let _ = entry.insert(OrdPair::new(deadline, job));
+            let _ = jobs.len();
+            Ok(p)
+        }
+        Err(OrdInsertionError::BeyondMaxCapacity) => {
+            Err((job, ReallocationError::BeyondMaxCapacity))
+        }
+        Err(OrdInsertionError::AllocError) => Err((job, ReallocationError::AllocError)),
+        // a key has a place, and the arena may grow
+        Err(_) => unreachable!(),
+    }
+}
+
+/// Puts a job into the arena, which has a vacant slot.
+pub(crate) fn put_within<J: Drop, A: Allocator>(jobs: &mut Jobs<J, A>, deadline: u64, job: J) -> P0
+    requires { length jobs.old.list.entries < jobs.old.list.capacity }
+    ensures inserted { InsertsNew deadline_of nat_cmp most_jobs within
+        (behind_key deadline) jobs.old (deadline, job) result jobs.new }
+    ensures sound { IsSound most_jobs greatest_generation jobs.old.list }
+{
+    // with its length an arena tells what holds of its list
+    let _ = jobs.len();
+    match jobs.entry_insert_within_capacity(OrdInsertKind::Nonhereditary(&deadline)) {
+        Ok(entry) => {
+            let p = entry.ptr().any();
+            let _ = entry.insert(OrdPair::new(deadline, job));
+            p
+        }
+        // a key has a place, and a slot is vacant
+        Err(_) => unreachable!(),
+    }
+}

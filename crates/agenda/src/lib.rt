@@ -1,0 +1,11 @@
+//! An agenda: jobs that leave by deadline, and by the order of scheduling among equal ones. Each is named by a ticket, by which it
+//! can be cancelled or moved.
+#![tactic(auto)]
+
+mod agenda;
+mod jobs;
+mod ticket;
+
+pub use agenda::Agenda;
+pub use ticket::Ticket;
+pub use triple_ord::ReallocationError;

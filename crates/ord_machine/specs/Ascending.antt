@@ -1,0 +1,35 @@
+-- When keys stay apart along a run.
+use Rattle.std.specs.Prelude.{◌≡◌, List, [], map}
+use Rattle.std.specs.List.{AllByRecursion}
+use Rattle.std.specs.List.Sorted.{IsStrictlySortedBy}
+use Rattle.std.specs.Cmp.{IsTotalOrder}
+use Rattle.std.specs.declared.cmp.Ordering.TheVariants.{Equal}
+use Rattle.triple_ord.specs.ClosureSearch.{Shown}
+use Rattle.triple_ord.specs.declared.insert_kind.OrdInsertKind.{OrdInsertKind}
+use Rattle.triple_ord.specs.declared.insert_kind.OrdInsertKind.TheVariants.{Normal, Linear}
+use Rattle.ord_machine.specs.declared.command.Command.{Command}
+use Rattle.ord_machine.specs.declared.command.Command.TheVariants as commands
+use Rattle.ord_machine.specs.declared.reply.Reply.{Reply}
+use Rattle.ord_machine.specs.Machine.{Reading, State, Runs}
+
+module _ {P T I G K : Type 0} (r : Reading P T I G K) where
+  -- an item goes in the place of an entry with an equal key, if there is one, and has an equal key itself
+  abbrev pub IsPlacedByKey : OrdInsertKind P K I G → T → Type 0
+  IsPlacedByKey (Normal k) item = r.cmp k (r.key item) ≡ Equal
+  IsPlacedByKey (Linear i num k) item = r.cmp k (r.key item) ≡ Equal
+  IsPlacedByKey kind item = ⊥
+
+  -- a command that lets no two entries have equal keys, and no two change places: any but `Set` and an insertion by another kind
+  abbrev pub KeepsApart : Command P T I G K → Type 0
+  KeepsApart (commands.Entry kind item) = IsPlacedByKey kind item
+  KeepsApart (commands.EntryWithin kind item) = IsPlacedByKey kind item
+  KeepsApart (commands.Set p item) = ⊥
+  KeepsApart command = Unit {0}
+
+-- After a run of such commands from a state without entries, each key is less than those after it.
+abbrev pub AscendingKeysLaw : (P T I G A K : Type 0) {F : Type 0} → (F → Shown T → F → Type 0) → Type 0
+AscendingKeysLaw P T I G A K {F} asks =
+    (r : Reading P T I G K) (old new : State T) (f g : F) (asked : List (Command P T I G K)) (told : List (Reply P T A I G))
+    → IsTotalOrder r.cmp → old.tree.list.entries ≡ []
+    → AllByRecursion (KeepsApart r) asked → Runs r asks old f asked told new g
+    → IsStrictlySortedBy r.cmp (map (λ e. r.key e.item) new.tree.list.entries)

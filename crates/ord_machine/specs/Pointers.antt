@@ -1,0 +1,70 @@
+-- What pointers name along a run: that an entry keeps its pointer while others come and go, and that a pointer which ended stays so.
+use Rattle.std.specs.Prelude.{◌≡◌, ◌≢◌, ℕ, ◌+◌, ◌≤◌, Bool, true, false, List, [], ◌∷◌, length, Option, Some, None, IsSome}
+use Rattle.std.specs.List.{AllByRecursion}
+use Rattle.std.specs.Option.{ForSome}
+use Rattle.arena_base.specs.declared.invalidation.InvalidationResult.TheVariants.{Success, GenerationOverflow}
+use Rattle.chain_base.specs.Chain.{IsSound, entry_at, item_of}
+use Rattle.triple_ord.specs.ClosureSearch.{Shown}
+use Rattle.triple_ord.specs.declared.entry_kind.OrdEntryKind.TheVariants.{Replacing}
+use Rattle.ord_machine.specs.declared.command.Command.{Command}
+use Rattle.ord_machine.specs.declared.command.Command.TheVariants as commands
+use Rattle.ord_machine.specs.declared.reply.Reply.{Reply}
+use Rattle.ord_machine.specs.declared.reply.Reply.TheVariants.{Inserted, Removed, Renewed, Changed, Entries}
+use Rattle.ord_machine.specs.Machine.{Reading, State, Runs}
+
+-- the command sets the generation back to the first
+abbrev pub resets : {P T I G K : Type 0} → Command P T I G K → Bool
+resets (commands.Compress reset) = reset
+resets (commands.Canonical reset) = reset
+resets command = false
+
+module _ {P T I G A : Type 0} where
+  -- how often the generation is raised, by the reply to a call that raises it for each entry, or once
+  abbrev pub raises_by : Reply P T A I G → ℕ
+  raises_by (Removed (Success taken)) = 1
+  raises_by (Removed (GenerationOverflow taken)) = 1
+  raises_by (Renewed (Success q)) = 1
+  raises_by (Renewed (GenerationOverflow q)) = 1
+  raises_by (Changed result) = 1
+  raises_by (Entries pairs) = length pairs.items + 1
+  raises_by reply = 0
+
+  -- how often a command raises the generation: one that takes an entry out or renews its pointer, or that changes all pointers,
+  -- once; a drain once for each entry that it took, and once more for the others
+  abbrev pub raises : {K : Type 0} → Command P T I G K → Reply P T A I G → ℕ
+  raises (commands.Remove p) reply = raises_by reply
+  raises (commands.RemoveInx i) reply = raises_by reply
+  raises (commands.Invalidate p) reply = raises_by reply
+  raises commands.Clear reply = raises_by reply
+  raises commands.IncGeneration reply = raises_by reply
+  raises (commands.Compress reset) reply = raises_by reply
+  raises (commands.Canonical reset) reply = raises_by reply
+  raises (commands.DrainOrdered num) reply = raises_by reply
+  raises command reply = 0
+
+  -- and all of them together
+  abbrev pub raises_among : {K : Type 0} → List (Command P T I G K) → List (Reply P T A I G) → ℕ
+  raises_among (command ∷ commands) (reply ∷ replies) = raises command reply + raises_among commands replies
+  raises_among commands replies = 0
+
+-- a part of a run, in which no command sets the generation back, and which raises it so often
+pub record Part {P T I G K F : Type 0} (A : Type 0) (r : Reading P T I G K) (asks : F → Shown T → F → Type 0) (old : State T) (f : F) (raised : ℕ) (new : State T) (g : F) : Type 0 where
+  pub commands : List (Command P T I G K)
+  pub replies : List (Reply P T A I G)
+  pub run : Runs r asks old f commands replies new g
+  pub never_back : AllByRecursion (λ command. resets command ≡ false) commands
+  pub count : raised ≡ raises_among commands replies
+
+-- An arena goes through a run in three parts. No entry's generation is above the arena's at its beginning, the generation is never set
+-- back, and all raises together don't go beyond the greatest generation. Then a pointer that names an entry after the first part, and
+-- none after the second, names none after the third.
+abbrev pub EndedPointerLaw : (P T I G A K : Type 0) {F : Type 0} → (F → Shown T → F → Type 0) → Type 0
+EndedPointerLaw P T I G A K {F} asks =
+    (r : Reading P T I G K) (greatest : ℕ) (s0 s1 s2 s3 : State T) (f0 f1 f2 f3 : F) (k l m : ℕ)
+    → r.greatest ≡ Some greatest
+    → IsSound r.most r.greatest s0.tree.list
+    → ((i : ℕ) → ForSome (entry_at s0.tree.list.entries i) (λ e. e.0 ≤ s0.tree.list.generation))
+    → Part A r asks s0 f0 k s1 f1 → Part A r asks s1 f1 l s2 f2 → Part A r asks s2 f2 m s3 f3
+    → s0.tree.list.generation + k + l + m ≤ greatest
+    → (p : ℕ × ℕ) → IsSome (item_of s1.tree.list.entries p) → item_of s2.tree.list.entries p ≡ None
+    → item_of s3.tree.list.entries p ≡ None

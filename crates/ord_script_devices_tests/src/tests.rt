@@ -1,0 +1,66 @@
+//! Scripts that are cut, that no one would write, or that ask for too much; devices and heaps that fail.
+mod bytes;
+mod cuts;
+mod devices;
+mod memory;
+mod runs;
+
+use ord_script::{FaultKind, ScriptEnd, Watched, serve};
+use std::alloc::Global;
+use std::process::Abort;
+
+/// Scripts with their whole answers. That of the fifth is `EQUAL_KEYS`.
+const SCRIPTS: [(&str, &str); 6] = [
+    (
+        "insert -9223372036854775808 18446744073709551615\nlist\ninsert 9223372036854775808 0\n",
+        "new 1.2\nlist 1.2=-9223372036854775808:18446744073709551615\nline 3: bad number\n",
+    ),
+    (
+        "max 2\ninsert 1 10\ninsert 2 20\nwithin 1 11\nwithin 3 30\ninsert 3 30\nlist\nmax 1\n",
+        "ok\nnew 1.2\nnew 2.2\nreplaced 1.2 1:10\nrefused capacity\nrefused maximum\nlist 1.2=1:11 2.2=2:20\nrefused reduction\n",
+    ),
+    (
+        "before 1 5 0\ninsert 1 0\ninsert 2 0\ninsert 3 0\nempty 4 0\nbefore 2 9 0\ncheck\nlist\nfind 9\nvisits 9\nranks\n",
+        "refused order\nnew 1.2\nnew 2.2\nnew 3.2\nrefused order\nnew 4.2\nincorrect ordering\nlist 1.2=1:0 4.2=9:0 2.2=2:0 3.2=3:0\nnone\nvisits 2\nranks 2 1 3 1\n",
+    ),
+    (
+        "insert 7 0\nremove 1.2\nremove 1.2\ninsert 7 1\nget 1.2\nget 1.3\nremove-index 0\n",
+        "new 1.2\nremoved 7:0\ninvalid\nnew 1.3\nnone\nitem 7:1\ninvalid\n",
+    ),
+    (
+        "nonhereditary 5 1\nnonhereditary 5 2\nnonhereditary 5 3\nnonhereditary 5 4\nlist\nranks\n",
+        EQUAL_KEYS,
+    ),
+    (
+        "insert 30 0\ninsert 10 0\ninsert 40 0\ninsert 20 0\nremove 3.2\ncompress 0\nlist\nranks\ncanonical 0\nlist\ncanonical 1\nlist\n",
+        "new 1.2\nnew 2.2\nnew 3.2\nnew 4.2\nremoved 40:0\nok\nlist 2.4=10:0 3.4=20:0 1.4=30:0\nranks 1 3 1\nok\nlist 1.5=10:0 2.5=20:0 3.5=30:0\nok\nlist 1.2=10:0 2.2=20:0 3.2=30:0\n",
+    ),
+];
+
+/// Where entries with equal keys go.
+const EQUAL_KEYS: &str =
+    "new 1.2\nnew 2.2\nnew 3.2\nnew 4.2\nlist 1.2=5:1 2.2=5:2 3.2=5:3 4.2=5:4\nranks 1 3 2 1\n";
+
+/// What a script answers, and how it ends.
+fn served(alloc: Global, script: &[u8]) -> (Vec<u8>, ScriptEnd) {
+    let mut output = Vec::new(alloc);
+    let mut reader = Watched::new(script);
+    let end = serve(alloc, &mut reader, &mut Watched::new(&mut output));
+    (output, end)
+}
+
+/// The script answers this.
+fn answers(rt: &impl Abort, alloc: Global, script: &[u8], answer: &str) {
+    let (output, end) = served(alloc, script);
+    assert_eq!(rt; end, ScriptEnd::Done);
+    assert_eq!(rt; output.as_slice(), answer.as_bytes());
+}
+
+/// The words of a fault.
+fn words_of(kind: FaultKind) -> &'static str {
+    match kind {
+        FaultKind::UnknownCommand => "unknown command",
+        FaultKind::WrongArguments => "wrong arguments",
+        FaultKind::BadNumber => "bad number",
+    }
+}

@@ -1,0 +1,221 @@
+//! Bytes where no one puts them, numbers at and beyond their limits, and lines as long as an input may be.
+use super::{answers, served, words_of};
+use ord_script::{FaultKind, ScriptEnd};
+use std::alloc::Global;
+use std::process::Abort;
+
+/// The longest input.
+const LONGEST: usize = 1_048_576;
+
+/// The script ends at its first line with this fault.
+fn is_fault(rt: &impl Abort, alloc: Global, script: &[u8], kind: FaultKind) {
+    let (output, end) = served(alloc, script);
+    assert_eq!(rt; end, ScriptEnd::Fault(1, kind), "{script:?}");
+    let fault = format!(in alloc; "line 1: {}\n", words_of(kind)).expect(rt, "memory");
+    assert_eq!(rt; output.as_slice(), fault.as_bytes());
+}
+
+/// A byte between two texts.
+fn between(rt: &impl Abort, alloc: Global, before: &[u8], byte: u8, after: &[u8]) -> Vec<u8> {
+    let mut script = Vec::new(alloc);
+    script.extend_from_slice(before).expect(rt, "memory");
+    script.push(byte).expect(rt, "memory");
+    script.extend_from_slice(after).expect(rt, "memory");
+    script
+}
+
+#[test]
+fn each_byte_as_a_first_word(rt: HostRuntime) {
+    for byte in 0u8..=255 {
+        let script = between(&rt, rt.alloc(), b"", byte, b"\n");
+        match byte {
+            b'\n' | b'\r' | b' ' | b'\t' | b'#' => answers(&rt, rt.alloc(), &script, ""),
+            _ => is_fault(&rt, rt.alloc(), &script, FaultKind::UnknownCommand),
+        }
+    }
+}
+
+#[test]
+fn each_byte_inside_a_word(rt: HostRuntime) {
+    for byte in 0u8..=255 {
+        let script = between(&rt, rt.alloc(), b"ran", byte, b"ks\n");
+        is_fault(&rt, rt.alloc(), &script, FaultKind::UnknownCommand);
+    }
+}
+
+#[test]
+fn each_byte_before_a_number(rt: HostRuntime) {
+    for byte in 0u8..=255 {
+        let script = between(&rt, rt.alloc(), b"find ", byte, b"2\n");
+        match byte {
+            b'0'..=b'9' | b'-' | b' ' | b'\t' => answers(&rt, rt.alloc(), &script, "none\n"),
+            b'\n' => is_fault(&rt, rt.alloc(), &script, FaultKind::WrongArguments),
+            _ => is_fault(&rt, rt.alloc(), &script, FaultKind::BadNumber),
+        }
+    }
+}
+
+#[test]
+fn each_byte_inside_a_number(rt: HostRuntime) {
+    for byte in 0u8..=255 {
+        let script = between(&rt, rt.alloc(), b"find 1", byte, b"2\n");
+        match byte {
+            b'0'..=b'9' => answers(&rt, rt.alloc(), &script, "none\n"),
+            b' ' | b'\t' => is_fault(&rt, rt.alloc(), &script, FaultKind::WrongArguments),
+            b'\n' => {
+                let (output, end) = served(rt.alloc(), &script);
+                assert_eq!(rt; end, ScriptEnd::Fault(2, FaultKind::UnknownCommand));
+                assert_eq!(rt;
+                    output.as_slice(),
+                    b"none\nline 2: unknown command\n".as_slice()
+                );
+            }
+            _ => is_fault(&rt, rt.alloc(), &script, FaultKind::BadNumber),
+        }
+    }
+}
+
+/// Numbers at their limits, each with the next one, and with what stands before and after them in a line.
+const LIMITS: [(&str, &str, &str, &str); 15] = [
+    ("find ", "9223372036854775807", "9223372036854775808", ""),
+    ("find -", "9223372036854775808", "9223372036854775809", ""),
+    (
+        "insert -",
+        "9223372036854775808",
+        "9223372036854775809",
+        " 0",
+    ),
+    (
+        "insert 5 ",
+        "18446744073709551615",
+        "18446744073709551616",
+        "",
+    ),
+    ("neighbours ", "4294967295", "4294967296", ""),
+    ("remove-index ", "4294967295", "4294967296", ""),
+    ("get ", "4294967295", "4294967296", ".2"),
+    ("get 1.", "18446744073709551615", "18446744073709551616", ""),
+    ("max ", "18446744073709551615", "18446744073709551616", ""),
+    ("drain ", "18446744073709551615", "18446744073709551616", ""),
+    (
+        "find-linear 1.2 ",
+        "18446744073709551615",
+        "18446744073709551616",
+        " 4",
+    ),
+    ("similar-linear ", "4294967295", "4294967296", " 1 4"),
+    (
+        "similar-linear 1 ",
+        "18446744073709551615",
+        "18446744073709551616",
+        " 4",
+    ),
+    ("compress ", "1", "2", ""),
+    ("canonical ", "1", "2", ""),
+];
+
+/// So many equal bytes between two texts.
+fn filled(
+    rt: &impl Abort,
+    alloc: Global,
+    before: &str,
+    byte: u8,
+    count: usize,
+    after: &str,
+) -> Vec<u8> {
+    let mut line = Vec::new(alloc);
+    line.extend_from_slice(before.as_bytes())
+        .expect(rt, "memory");
+    for _ in 0..count {
+        line.push(byte).expect(rt, "memory");
+    }
+    line.extend_from_slice(after.as_bytes())
+        .expect(rt, "memory");
+    line
+}
+
+/// The line is a command, and answered by one line.
+fn is_command(rt: &impl Abort, alloc: Global, line: &[u8]) {
+    let (output, end) = served(alloc, line);
+    assert_eq!(rt; end, ScriptEnd::Done);
+    assert_eq!(rt; output.iter().filter(|byte| **byte == b'\n').count(), 1);
+}
+
+/// A number at its limit, with zeros in front, and the next one.
+fn is_limit(rt: &impl Abort, alloc: Global, row: (&str, &str, &str, &str), count: usize) {
+    let (before, most, next, after) = row;
+    let most = format!(in alloc; "{most}{after}").expect(rt, "memory");
+    let at = filled(rt, alloc, before, b'0', count, most.as_str());
+    is_command(rt, alloc, &at);
+    let next = format!(in alloc; "{next}{after}").expect(rt, "memory");
+    let above = filled(rt, alloc, before, b'0', count, next.as_str());
+    is_fault(rt, alloc, &above, FaultKind::BadNumber);
+    let before = format!(in alloc; "{before}9").expect(rt, "memory");
+    let far = filled(rt, alloc, before.as_str(), b'0', count, next.as_str());
+    is_fault(rt, alloc, &far, FaultKind::BadNumber);
+}
+
+#[test]
+fn numbers_at_and_beyond_their_limits(rt: HostRuntime) {
+    for row in LIMITS {
+        for count in [0usize, 1, 50, 3000] {
+            is_limit(&rt, rt.alloc(), row, count);
+        }
+    }
+}
+
+/// A line of the greatest length: so many equal bytes between two texts.
+fn longest(rt: &impl Abort, alloc: Global, before: &str, byte: u8, after: &str) -> Vec<u8> {
+    let count = LONGEST.saturating_sub(before.len().saturating_add(after.len()));
+    filled(rt, alloc, before, byte, count, after)
+}
+
+/// The longest line answers this.
+fn longest_answers(rt: &impl Abort, alloc: Global, line: (&str, u8, &str), answer: &str) {
+    let script = longest(rt, alloc, line.0, line.1, line.2);
+    assert_eq!(rt; script.len(), LONGEST);
+    answers(rt, alloc, &script, answer);
+}
+
+/// The longest line is a fault.
+fn longest_is_fault(rt: &impl Abort, alloc: Global, line: (&str, u8, &str), kind: FaultKind) {
+    let script = longest(rt, alloc, line.0, line.1, line.2);
+    assert_eq!(rt; script.len(), LONGEST);
+    is_fault(rt, alloc, &script, kind);
+}
+
+#[test]
+fn lines_of_a_megabyte(rt: HostRuntime) {
+    let answered = [
+        (("#", b'x', ""), ""),
+        (("", b'\n', ""), ""),
+        (("", b' ', "list"), "list\n"),
+        (("insert -", b'0', "5 7\nlist"), "new 1.2\nlist 1.2=-5:7\n"),
+    ];
+    for (line, answer) in answered {
+        longest_answers(&rt, rt.alloc(), line, answer);
+    }
+    let faults = [
+        (("", b'x', ""), FaultKind::UnknownCommand),
+        (("list", b'\r', "\n"), FaultKind::UnknownCommand),
+        (("find 1 2", b'\t', "3"), FaultKind::WrongArguments),
+        (("find ", b'9', ""), FaultKind::BadNumber),
+    ];
+    for (line, kind) in faults {
+        longest_is_fault(&rt, rt.alloc(), line, kind);
+    }
+}
+
+#[test]
+fn one_byte_more_and_the_last_line(rt: HostRuntime) {
+    let more = filled(&rt, rt.alloc(), "", b'\n', LONGEST, "\n");
+    let (output, end) = served(rt.alloc(), &more);
+    assert_eq!(rt; (end, output.len()), (ScriptEnd::TooLong, 0));
+    let last = longest(&rt, rt.alloc(), "", b'\n', "x");
+    let (output, end) = served(rt.alloc(), &last);
+    assert_eq!(rt; end, ScriptEnd::Fault(LONGEST, FaultKind::UnknownCommand));
+    assert_eq!(rt;
+        output.as_slice(),
+        b"line 1048576: unknown command\n".as_slice()
+    );
+}

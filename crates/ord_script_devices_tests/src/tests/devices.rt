@@ -1,0 +1,183 @@
+//! Devices that fail after each number of bytes.
+ghost use Rattle.std.specs.Prelude.{◌≡◌, IfOk};
+
+use super::SCRIPTS;
+use ord_script::{ScriptEnd, Watched, serve};
+use std::alloc::Global;
+use std::io;
+use std::io::{ErrorKind, Read, Write};
+use std::process::Abort;
+
+/// How a device goes: so many bytes a call, until so many have gone; then each call fails.
+#[derive(Clone, Copy)]
+struct Pace {
+    step: usize,
+    left: usize,
+    failure: Failure,
+}
+
+/// How a call fails.
+#[derive(Clone, Copy)]
+enum Failure {
+    /// By an error.
+    Broken,
+    /// By an interruption, which is an error like any other.
+    Interrupted,
+    /// It moves no byte.
+    Nothing,
+}
+
+impl Failure {
+    /// What the call answers.
+    fn answer(self) -> io::Result<usize>
+        ensures { IfOk result (λ count. count ≡ 0) }
+    {
+        match self {
+            Failure::Broken => Err(io::Error::from(ErrorKind::BrokenPipe)),
+            Failure::Interrupted => Err(io::Error::from(ErrorKind::Interrupted)),
+            Failure::Nothing => Ok(0),
+        }
+    }
+}
+
+/// A reader over memory.
+#[derive(Drop)]
+struct Source<'a> {
+    bytes: &'a [u8],
+    pace: Pace,
+}
+
+impl Read for Source<'_> {
+    fn read(&mut self, buf: &mut [u8]) -> io::Result<usize> {
+        if self.pace.left == 0 {
+            return self.pace.failure.answer();
+        }
+        let all = self.bytes;
+        let count = all
+            .len()
+            .min(buf.len())
+            .min(self.pace.step)
+            .min(self.pace.left);
+        buf[..count].copy_from_slice(&all[..count]);
+        self.bytes = &all[count..];
+        self.pace.left -= count;
+        Ok(count)
+    }
+}
+
+/// A writer into memory.
+#[derive(Drop)]
+struct Sink {
+    bytes: Vec<u8>,
+    pace: Pace,
+}
+
+impl Write for Sink {
+    fn write(&mut self, buf: &[u8]) -> io::Result<usize> {
+        if self.pace.left == 0 {
+            return self.pace.failure.answer();
+        }
+        let count = buf.len().min(self.pace.step).min(self.pace.left);
+        self.bytes.extend_from_slice(&buf[..count])?;
+        self.pace.left -= count;
+        Ok(count)
+    }
+
+    fn flush(&mut self) -> io::Result<()> {
+        Ok(())
+    }
+}
+
+/// A device that goes on.
+const WELL: Pace = Pace {
+    step: usize::MAX,
+    left: usize::MAX,
+    failure: Failure::Broken,
+};
+
+/// Serves a script with devices that go so: the end, and what is written.
+fn serve_with(
+    rt: &impl Abort,
+    alloc: Global,
+    script: &str,
+    reading: Pace,
+    writing: Pace,
+) -> (ScriptEnd, Vec<u8>) {
+    let mut sink = Sink {
+        bytes: Vec::new(alloc),
+        pace: writing,
+    };
+    let mut reader = Watched::new(Source {
+        bytes: script.as_bytes(),
+        pace: reading,
+    });
+    let mut writer = Watched::new(&mut sink);
+    let end = serve(alloc, &mut reader, &mut writer);
+    assert_eq!(rt; reader.failed(), end == ScriptEnd::ReadFailed);
+    assert_eq!(rt; writer.failed(), end == ScriptEnd::WriteFailed);
+    assert_eq!(rt; reader.ended(), end != ScriptEnd::ReadFailed);
+    (end, sink.bytes)
+}
+
+/// Reads fail after so many bytes, and nothing is written.
+fn read_fails(rt: &impl Abort, alloc: Global, script: &str, left: usize) {
+    for failure in [Failure::Broken, Failure::Interrupted] {
+        for step in [1, 5, usize::MAX] {
+            let pace = Pace {
+                step,
+                left,
+                failure,
+            };
+            let (end, written) = serve_with(rt, alloc, script, pace, WELL);
+            assert_eq!(rt; end, ScriptEnd::ReadFailed);
+            assert!(rt; written.is_empty());
+        }
+    }
+}
+
+#[test]
+fn reads_that_fail_after_each_byte(rt: HostRuntime) {
+    for (script, _) in SCRIPTS {
+        for left in 0..=script.len() {
+            read_fails(&rt, rt.alloc(), script, left);
+        }
+    }
+}
+
+/// Writes fail after so many bytes, which are a beginning of the answer.
+fn write_fails(rt: &impl Abort, alloc: Global, script: &str, answer: &str, left: usize) {
+    for failure in [Failure::Broken, Failure::Interrupted, Failure::Nothing] {
+        for step in [1, 5, usize::MAX] {
+            let pace = Pace {
+                step,
+                left,
+                failure,
+            };
+            let (end, written) = serve_with(rt, alloc, script, WELL, pace);
+            assert_eq!(rt; end, ScriptEnd::WriteFailed);
+            assert_eq!(rt; Some(written.as_slice()), answer.as_bytes().get(..left));
+        }
+    }
+}
+
+#[test]
+fn writes_that_fail_after_each_byte(rt: HostRuntime) {
+    for (script, answer) in SCRIPTS {
+        for left in 0..answer.len() {
+            write_fails(&rt, rt.alloc(), script, answer, left);
+        }
+    }
+}
+
+#[test]
+fn slow_devices(rt: HostRuntime) {
+    for (script, answer) in SCRIPTS {
+        for step in [1usize, 2, 3, 7] {
+            let pace = Pace { step, ..WELL };
+            let (end, written) = serve_with(&rt, rt.alloc(), script, pace, pace);
+            let is_well = matches!(end, ScriptEnd::Done | ScriptEnd::Fault(..));
+            assert!(rt; is_well);
+            assert_eq!(rt; written.as_slice(), answer.as_bytes());
+        }
+    }
+}

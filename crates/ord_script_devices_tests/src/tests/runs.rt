@@ -1,0 +1,251 @@
+//! Runs of commands on heaps of little room, beside a plain sorted vector that does what the replies say.
+use linked_list_allocator::LocalHeap;
+use ord_script::{Command, Reply, run};
+use std::alloc::{AllocError, Global};
+use std::cmp::Ordering;
+use std::process::Abort;
+use triple_ord::{OrdEntryKind, OrdInsertionError, OrdPair, P0, SimpleOrdArena};
+
+type Item = OrdPair<u64, u64>;
+
+type Numbers<'h> = SimpleOrdArena<P0, Item, &'h LocalHeap>;
+
+/// One command of the run.
+#[derive(Clone, Copy)]
+enum Line {
+    Insert(u64),
+    Find(u64),
+    List,
+    Ranks,
+    Drain(usize),
+}
+
+use Line::{Drain, Find, Insert, List, Ranks};
+
+/// Thirty commands: the arena grows at the first, the fifth and the ninth entry, and begins again after a drain.
+const LINES: [Line; 30] = [
+    Ranks,
+    Insert(50),
+    Insert(30),
+    Insert(70),
+    List,
+    Insert(60),
+    Ranks,
+    Insert(10),
+    Find(60),
+    List,
+    Insert(20),
+    Insert(90),
+    Insert(80),
+    Ranks,
+    Insert(40),
+    List,
+    Find(45),
+    Insert(45),
+    Ranks,
+    Drain(3),
+    List,
+    Insert(7),
+    Insert(5),
+    List,
+    Insert(6),
+    Ranks,
+    Drain(9),
+    Find(7),
+    Insert(1),
+    List,
+];
+
+fn command(line: Line) -> Command<P0, Item> {
+    match line {
+        Insert(key) => Command::Insert(OrdPair::new(key, 0)),
+        Find(key) => Command::Find(key),
+        List => Command::List,
+        Ranks => Command::Ranks,
+        Drain(count) => Command::DrainOrdered(count),
+    }
+}
+
+/// The entries as a plain vector, in the order of their keys.
+type Plain = Vec<(P0, u64)>;
+
+/// Where a key is, or belongs.
+fn place_of(plain: &Plain, key: u64) -> usize {
+    plain.iter().filter(|entry| entry.1 < key).count()
+}
+
+/// The pointer of a key.
+fn pointer_of(plain: &Plain, key: u64) -> Option<P0> {
+    let entry = plain.iter().find(|entry| entry.1 == key)?;
+    Some(entry.0)
+}
+
+/// Whether these are the first so many entries.
+fn are_first(plain: &Plain, entries: &[(P0, Item)], count: usize) -> bool {
+    let wanted = plain.iter().take(count);
+    entries.len() == plain.len().min(count)
+        && wanted.zip(entries).all(|(entry, told)| entry.0 == told.0 && entry.1 == *told.1.k())
+}
+
+/// Does to the vector what an insertion did.
+fn insert(rt: &impl Abort, plain: &mut Plain, key: u64, p: P0) -> bool {
+    let place = place_of(plain, key);
+    let is_new = pointer_of(plain, key).is_none();
+    if place <= plain.len() {
+        plain.insert(place, (p, key)).expect(rt, "memory");
+    }
+    is_new
+}
+
+/// Whether a reply is that of a command over these entries, and does the same to them.
+fn is_reply(
+    rt: &impl Abort,
+    plain: &mut Plain,
+    line: Line,
+    reply: &Reply<P0, Item, &LocalHeap>,
+) -> bool {
+    match (line, reply) {
+        (Insert(key), Reply::Inserted(OrdEntryKind::New(p), None)) => insert(rt, plain, key, *p),
+        (Find(key), Reply::Found(found, _)) => *found == pointer_of(plain, key),
+        (List, Reply::Entries(entries)) => are_first(plain, entries, usize::MAX),
+        (Ranks, Reply::Ranks(ranks)) => ranks.len() == plain.len(),
+        (Drain(count), Reply::Entries(entries)) => {
+            let is_told = are_first(plain, entries, count);
+            plain.clear();
+            is_told
+        }
+        (Insert(key), Reply::Refused(OrdInsertionError::AllocError)) => {
+            pointer_of(plain, key).is_none()
+        }
+        (List | Ranks | Drain(_), Reply::Refused(OrdInsertionError::AllocError)) => {
+            !plain.is_empty()
+        }
+        _ => false,
+    }
+}
+
+/// What was refused in a run.
+#[derive(Clone, Copy, Debug, PartialEq, Eq)]
+struct Refusals {
+    replies: bool,
+    insertion: bool,
+    list: bool,
+    ranks: bool,
+    drain: bool,
+    nothing: bool,
+}
+
+const NONE: Refusals = Refusals {
+    replies: false,
+    insertion: false,
+    list: false,
+    ranks: false,
+    drain: false,
+    nothing: false,
+};
+
+/// Marks a refusal.
+fn mark(met: &mut Refusals, line: Line) {
+    match line {
+        Insert(_) => met.insertion = true,
+        List => met.list = true,
+        Ranks => met.ranks = true,
+        Drain(_) => met.drain = true,
+        Find(_) => {}
+    }
+}
+
+/// The commands of the run, on a heap.
+fn commands<'h>(rt: &impl Abort, heap: &'h LocalHeap) -> Vec<Command<P0, Item>, &'h LocalHeap> {
+    let mut commands = Vec::with_capacity(heap, LINES.len()).expect(rt, "memory");
+    for line in LINES {
+        commands.push(command(line)).expect(rt, "memory");
+    }
+    commands
+}
+
+/// Whether the replies are those of the commands over no entry; the vector is then what the arena has to be.
+fn are_replies(
+    rt: &impl Abort,
+    plain: &mut Plain,
+    replies: &[Reply<P0, Item, &LocalHeap>],
+    met: &mut Refusals,
+) -> bool {
+    let mut is_refused = false;
+    for (line, reply) in LINES.iter().zip(replies) {
+        if !is_reply(rt, plain, *line, reply) {
+            return false;
+        }
+        if matches!(reply, Reply::Refused(_)) {
+            mark(met, *line);
+            is_refused = true;
+        }
+    }
+    met.nothing = met.nothing || !is_refused;
+    replies.len() == 30
+}
+
+/// Whether the arena has these entries, in order.
+fn has(arena: &Numbers, plain: &Plain) -> bool {
+    let mut wanted = plain.iter();
+    for (p, pair) in arena {
+        match wanted.next() {
+            Some(entry) if entry.0 == p && entry.1 == *pair.k() => {}
+            _ => return false,
+        }
+    }
+    wanted.next().is_none() && arena.len() == plain.len()
+}
+
+/// Runs the commands on an arena without an entry.
+fn run_on<'h>(
+    rt: &impl Abort,
+    alloc: Global,
+    heap: &'h LocalHeap,
+    commands: Vec<Command<P0, Item>, &'h LocalHeap>,
+    met: &mut Refusals,
+) {
+    let mut arena: Numbers<'h> = SimpleOrdArena::new(heap);
+    let mut closure = |_p: P0, _item: &Item| Ordering::Equal;
+    match run(heap, &mut arena, commands, &mut closure) {
+        Ok(replies) => {
+            let mut plain = Vec::new(alloc);
+            assert!(rt; are_replies(rt, &mut plain, &replies, met));
+            assert!(rt; has(&arena, &plain));
+        }
+        Err(AllocError) => {
+            assert_eq!(rt; (arena.len(), arena.capacity()), (0, 0));
+            met.replies = true;
+        }
+    }
+}
+
+/// Runs the commands where so many units of room are left beside them; and where something was refused once more, with memory.
+fn run_with(rt: &impl Abort, alloc: Global, units: usize, met: &mut Refusals) {
+    let heap = LocalHeap::new(alloc, 1 << 14).expect(rt, "a heap");
+    let first = commands(rt, &heap);
+    let room = heap.free().saturating_sub(units.saturating_mul(16));
+    let taken: Vec<u8, &LocalHeap> = Vec::with_capacity(&heap, room).expect(rt, "room");
+    run_on(rt, alloc, &heap, first, met);
+    drop(taken);
+    let mut again = NONE;
+    run_on(rt, alloc, &heap, commands(rt, &heap), &mut again);
+    assert!(rt; again.nothing);
+}
+
+#[test]
+fn each_request_of_a_run(rt: HostRuntime) {
+    let mut met = NONE;
+    for units in 0usize..400 {
+        run_with(&rt, rt.alloc(), units, &mut met);
+    }
+    let all = Refusals {
+        replies: true,
+        insertion: true,
+        list: true,
+        ranks: true,
+        drain: true,
+        nothing: true,
+    };
+    assert_eq!(rt; met, all);
+}

@@ -1,0 +1,7 @@
+use Rattle.std.proofs.Common.{◌≡◌, ◌-◌, arith}
+use Rattle.triple_ord.proofs.arena.SimpleOrdArena.search.Goals as goal
+
+pub returns-clause-found : goal.returns-clause-found
+returns-clause-found g c =
+    let all : c.descend_by_key-found.new.probe.visits - c.new-probe.result.visits ≡ c.descend_by_key-found.new.probe.visits = omega (arith, c.new-probe.ensures.none) in
+    rw (← c.self.view_is, ← c.new-probe.ensures.tree, c.visits.ensures) (rw all at c.descend_by_key-found.ensures.found)

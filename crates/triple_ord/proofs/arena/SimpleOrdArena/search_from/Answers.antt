@@ -1,0 +1,38 @@
+use Rattle.std.proofs.Common.{◌-◌, sym, subst, ◌∙◌, arith}
+use Rattle.ord_tree.specs.Tree.{Tree}
+use Rattle.triple_ord.specs.Hint.{IsNearHint}
+use Rattle.triple_ord.specs.Ties.{taken}
+use Rattle.triple_ord.proofs.Hinted.{FindsSimilar-more, settled-similar, settled-near, open-near, hinted-steps, hinted-whole}
+use Rattle.triple_ord.proofs.arena.SimpleOrdArena.search_from.Goals as goal
+
+pub returns-then-is_some-clause-found : goal.returns-then-is_some-clause-found
+returns-then-is_some-clause-found g c =
+    rw (← c.self.view_is, ← c.new-probe.ensures.tree, c.visits.ensures)
+    (settled-similar g.T.SimpleOrdItem.key_of (taken c.args.ties g.T.Key.Ord.cmp) _ _ _ _ _ c.step_along-near.ensures.settled (sym c.is_some.ensures ∙ c.if-is_some.true))
+
+pub returns-then-is_some-clause-visits : goal.returns-then-is_some-clause-visits
+returns-then-is_some-clause-visits g c =
+    rw (← c.self.view_is, ← c.new-probe.ensures.tree, c.visits.ensures) (hinted-steps _ _ _ _ c.step_along-near.ensures.few c.step_along-near.ensures.within)
+
+pub returns-then-is_some-clause-near : goal.returns-then-is_some-clause-near
+returns-then-is_some-clause-near g c =
+    subst (λ (t : Tree g.row.T.Denot). IsNearHint g.T.SimpleOrdItem.key_of g.T.Key.Ord.cmp t.list.entries c.args.k.now (g.P.Inx.PtrInx.number c.args.p_init) c.args.num c.visits.result)
+    (c.new-probe.ensures.tree ∙ c.self.view_is)
+    (rw c.visits.ensures (settled-near _ _ _ _ _ _ _ _ c.step_along-near.ensures.near (sym c.is_some.ensures ∙ c.if-is_some.true)))
+
+pub returns-clause-found : goal.returns-clause-found
+returns-clause-found g c =
+    let found = rw c.step_along-near.ensures.tree at c.descend_by_key-found.ensures.found in
+    rw (← c.self.view_is, ← c.new-probe.ensures.tree, c.visits-2.ensures) (FindsSimilar-more g.T.SimpleOrdItem.key_of (taken c.args.ties g.T.Key.Ord.cmp) _ _ _ (c.descend_by_key-found.new.probe.visits - c.step_along-near.new.probe.visits) _ (omega arith) found)
+
+pub returns-clause-visits : goal.returns-clause-visits
+returns-clause-visits g c =
+    let near = c.step_along-near.ensures in
+    let bounded = rw near.tree at c.descend_by_key-found.ensures.visits in
+    rw (← c.self.view_is, ← c.new-probe.ensures.tree, c.visits-2.ensures) (hinted-whole _ _ _ _ _ near.few near.within c.descend_by_key-found.ensures.counted bounded)
+
+pub returns-clause-near : goal.returns-clause-near
+returns-clause-near g c =
+    subst (λ (t : Tree g.row.T.Denot). IsNearHint g.T.SimpleOrdItem.key_of g.T.Key.Ord.cmp t.list.entries c.args.k.now (g.P.Inx.PtrInx.number c.args.p_init) c.args.num c.visits-2.result)
+    (c.new-probe.ensures.tree ∙ c.self.view_is)
+    (open-near _ _ _ _ _ _ _ _ _ c.step_along-near.ensures.near (sym c.is_some.ensures ∙ c.if-is_some.false))
