@@ -5,7 +5,6 @@ ghost use Rattle.std.specs.Cmp.Rules.{comparing};
 ghost use Rattle.std.specs.Ordering.{nat_cmp, on, as_partial_cmp};
 
 mod clones;
-mod clones_refused;
 mod clones_to;
 mod closures;
 mod each_call;
@@ -22,7 +21,6 @@ mod slots;
 mod walks;
 
 use arena_base::{P0, P8, PN, Ptr};
-use linked_list_allocator::LocalHeap;
 use std::alloc::{AllocError, Allocator, Global};
 use std::cell::Cell;
 use std::cmp::Ordering;
@@ -88,7 +86,7 @@ fn key_finds(rt: &impl Abort, a: &Keys, key: u64, wanted: Option<(u32, u64)>) {
 }
 
 /// An arena of this length and capacity, with this generation.
-fn counts_are<A: Allocator>(rt: &impl Abort, a: &Keys<A>, wanted: (usize, usize, u64)) {
+fn counts_are(rt: &impl Abort, a: &Keys, wanted: (usize, usize, u64)) {
     assert_eq!(rt; (a.len(), a.capacity(), a.generation()), wanted);
 }
 
@@ -402,63 +400,4 @@ fn order<A: Allocator>(alloc: Global, a: &Keys<A>) -> Result<Vec<u64>, AllocErro
         order.push(*pair.k())?;
     }
     Ok(order)
-}
-
-/// Inserts a key, and tells whether it was refused memory.
-fn is_refused_memory<A: Allocator>(rt: &impl Abort, a: &mut Keys<A>, key: u64) -> bool {
-    match a.insert(OrdPair::new(key, ())) {
-        Ok(_) => false,
-        Err(refusal) => {
-            assert_eq!(rt; refusal, OrdInsertionError::AllocError);
-            true
-        }
-    }
-}
-
-/// An arena whose room is full, with the keys of old in order, and not this one.
-fn is_full_of(
-    rt: &impl Abort,
-    alloc: Global,
-    a: &Keys<&LocalHeap>,
-    old: &[u64],
-    key: u64,
-) -> Result<(), AllocError> {
-    assert_eq!(rt; (a.capacity(), a.generation()), (a.len(), 2));
-    assert!(rt; a.find_key(&key).is_none());
-    order_is(rt, alloc, a, old)
-}
-
-/// Inserts nine keys on a heap of so many units, until memory is refused. Answers how many are there.
-fn inserted(rt: &impl Abort, alloc: Global, units: usize) -> Result<usize, AllocError> {
-    let heap = LocalHeap::new(alloc, units.saturating_mul(16))?;
-    let mut a: Keys<&LocalHeap> = SimpleOrdArena::new(&heap);
-    let mut old = Vec::new(alloc);
-    for key in [50u64, 30, 70, 60, 10, 20, 90, 80, 40] {
-        if is_refused_memory(rt, &mut a, key) {
-            is_full_of(rt, alloc, &a, old.as_slice(), key)?;
-            break;
-        }
-        old = order(alloc, &a)?;
-    }
-    Ok(old.len())
-}
-
-/// Marks which of these lengths was met.
-fn meet(met: &mut [bool], lens: &[usize], len: usize) {
-    for (is_met, known) in met.iter_mut().zip(lens) {
-        if len == *known {
-            *is_met = true;
-        }
-    }
-}
-
-#[test]
-fn keeps_all_where_memory_is_refused(rt: HostRuntime) -> Result<(), Fail> {
-    let mut met = [false; 3];
-    for units in 1..120 {
-        let len = inserted(&rt, rt.alloc(), units)?;
-        meet(&mut met, &[0, 4, 8], len);
-    }
-    assert_eq!(rt; met, [true; 3]);
-    Ok(())
 }

@@ -4,15 +4,14 @@ use super::{
     Counting, CountingKeys, Keys, Sole, five_counting_keys, keys, order_is, ranks_are, taken,
 };
 use arena_base::{P0, PN, Ptr};
-use linked_list_allocator::LocalHeap;
-use std::alloc::{AllocError, Allocator, Global};
+use std::alloc::{AllocError, Global};
 use std::cell::Cell;
 use std::cmp::Ordering;
 use std::process::Abort;
 use std::test::Fail;
 use triple_ord::{OrdEntryKind, OrdInsertKind, OrdInsertionError, OrdPair, SimpleOrdArena};
 
-type Marks<A = Global> = SimpleOrdArena<P0, OrdPair<u64, u64>, A>;
+type Marks = SimpleOrdArena<P0, OrdPair<u64, u64>>;
 
 /// A kind of insertion, as a row of a table names it.
 #[derive(Clone, Copy)]
@@ -58,12 +57,7 @@ struct Answer {
 }
 
 /// Asks for an entry and inserts an item.
-fn put<A: Allocator>(
-    a: &mut Marks<A>,
-    row: Row,
-    key: u64,
-    mark: u64,
-) -> Result<Answer, OrdInsertionError> {
+fn put(a: &mut Marks, row: Row, key: u64, mark: u64) -> Result<Answer, OrdInsertionError> {
     let entry = a.entry_insert(kind_in(&row))?;
     let shown = entry.ptr();
     let visits = entry.visits().count();
@@ -82,7 +76,7 @@ fn five(alloc: Global) -> Result<Marks, OrdInsertionError> {
 }
 
 /// Index, key and mark of each entry, in the order of the list.
-fn listed<A: Allocator>(alloc: Global, a: &Marks<A>) -> Result<Vec<(u32, u64, u64)>, AllocError> {
+fn listed(alloc: Global, a: &Marks) -> Result<Vec<(u32, u64, u64)>, AllocError> {
     let mut listed = Vec::new(alloc);
     for (p, pair) in a {
         listed.push((p.inx(), *pair.k(), *pair.v()))?;
@@ -633,53 +627,4 @@ fn visits_of_an_insertion<'a>(a: &mut CountingKeys<'a>, key: &Counting<'a>) -> u
         Ok(entry) => entry.visits().count(),
         Err(_) => 0,
     }
-}
-
-/// Puts a key through an entry, and tells whether it was refused memory.
-fn is_put_refused_memory(rt: &impl Abort, a: &mut Marks<&LocalHeap>, key: u64) -> bool {
-    match put(a, Row::Normal(key), key, 0) {
-        Ok(answer) => {
-            assert!(rt; answer.new);
-            false
-        }
-        Err(refusal) => {
-            assert!(rt; refusal == OrdInsertionError::AllocError);
-            true
-        }
-    }
-}
-
-/// An arena that memory was refused has so many entries, no room, and still replaces the first item, if there is one.
-fn is_kept(rt: &impl Abort, a: &mut Marks<&LocalHeap>, held: usize) {
-    assert_eq!(rt; (a.len(), a.capacity()), (held, held));
-    let again = put(a, Row::Manual(1, Ordering::Equal), 1, 7);
-    assert_eq!(rt; again.is_ok(), held > 0);
-}
-
-/// Puts nine items through entries on a heap of so many units. Answers how many are there; a refusal leaves the others.
-fn put_on_heap(rt: &impl Abort, alloc: Global, units: usize) -> Result<usize, Fail> {
-    let heap = LocalHeap::new(alloc, units.saturating_mul(16))?;
-    let mut a = Marks::new(&heap);
-    for key in 1u64..10 {
-        let held = a.len();
-        if is_put_refused_memory(rt, &mut a, key) {
-            is_kept(rt, &mut a, held);
-            return Ok(held);
-        }
-    }
-    Ok(a.len())
-}
-
-#[test]
-fn keeps_all_where_an_entry_is_refused_memory(rt: HostRuntime) -> Result<(), Fail> {
-    let mut met = [false; 10];
-    for units in 1..120 {
-        let held = put_on_heap(&rt, rt.alloc(), units)?;
-        if let Some(place) = met.get_mut(held) {
-            *place = true;
-        }
-    }
-    // each growth was refused in turn: from nothing, from 4, from 8
-    assert_eq!(rt; (met[0], met[4], met[8], met[9]), (true, true, true, true));
-    Ok(())
 }

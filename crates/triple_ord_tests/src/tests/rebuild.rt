@@ -1,9 +1,8 @@
 //! Compressions, the canonical order and transfers. The letters A, B, C, E stand at the indexes 2, 4, 1, 3, with
 //! generation 3.
-use super::{Keys, key_finds, keys, meet, ranks_are};
+use super::{Keys, key_finds, keys, ranks_are};
 use arena_base::{InvalidationOption, P0, P8, Ptr, ReallocationError};
-use linked_list_allocator::LocalHeap;
-use std::alloc::{Allocator, Global};
+use std::alloc::Global;
 use std::process::Abort;
 use std::test::Fail;
 use triple_ord::{OrdPair, SimpleOrdArena};
@@ -12,7 +11,7 @@ use triple_ord::{OrdPair, SimpleOrdArena};
 type Call = (u8, P0, P0);
 
 /// Letters, each with the last call that met it.
-type Letters<A = Global> = SimpleOrdArena<P0, OrdPair<char, Call>, A>;
+type Letters = SimpleOrdArena<P0, OrdPair<char, Call>>;
 
 /// A letter that no call has met.
 fn unmet(letter: char) -> OrdPair<char, Call> {
@@ -33,7 +32,7 @@ fn letters(alloc: Global) -> Result<Letters, Fail> {
 type Seen = (char, P0, u8, Call);
 
 /// All entries in order.
-fn look_at<A: Allocator>(alloc: Global, a: &Letters<A>) -> Result<Vec<Seen>, Fail> {
+fn look_at(alloc: Global, a: &Letters) -> Result<Vec<Seen>, Fail> {
     let mut seen = Vec::new(alloc);
     for (p, pair) in a {
         let (_, node) = a.get_inx_node(p.inx()).ok_or("its node")?;
@@ -43,24 +42,19 @@ fn look_at<A: Allocator>(alloc: Global, a: &Letters<A>) -> Result<Vec<Seen>, Fai
 }
 
 /// The entries in order, as a text.
-fn printed<A: Allocator>(alloc: Global, a: &Letters<A>) -> Result<String, Fail> {
+fn printed(alloc: Global, a: &Letters) -> Result<String, Fail> {
     let seen = look_at(alloc, a)?;
     Ok(format!(in alloc; "{seen:?}")?)
 }
 
 /// The entries in order make this text.
-fn entries_are<A: Allocator>(
-    rt: &impl Abort,
-    alloc: Global,
-    a: &Letters<A>,
-    wanted: &str,
-) -> Result<(), Fail> {
+fn entries_are(rt: &impl Abort, alloc: Global, a: &Letters, wanted: &str) -> Result<(), Fail> {
     assert_eq!(rt; printed(alloc, a)?.as_str(), wanted);
     Ok(())
 }
 
 /// An arena of this length and capacity, with this generation.
-fn counts_are<A: Allocator>(rt: &impl Abort, a: &Letters<A>, wanted: (usize, usize, u64)) {
+fn counts_are(rt: &impl Abort, a: &Letters, wanted: (usize, usize, u64)) {
     assert_eq!(rt; (a.len(), a.capacity(), a.generation()), wanted);
 }
 
@@ -89,10 +83,7 @@ fn shows_each_entry_by_rising_index(rt: HostRuntime) -> Result<(), Fail> {
 }
 
 /// Transfers all letters with generation 4. Answers the outcome, and how often the closure was called.
-fn transfer_all<A: Allocator>(
-    a: &mut Letters<A>,
-    source: &mut Letters,
-) -> (Result<(), ReallocationError>, u8) {
+fn transfer_all(a: &mut Letters, source: &mut Letters) -> (Result<(), ReallocationError>, u8) {
     let mut calls = 0u8;
     let outcome = a.transfer_canonical_reallocating(
         4,
@@ -136,44 +127,6 @@ fn takes_none_from_an_empty_source(rt: HostRuntime) -> Result<(), Fail> {
     transfers(&rt, &mut a, &mut source, 0);
     counts_are(&rt, &source, (0, 4, 7));
     assert!(rt; a.is_empty() && a.first().is_none());
-    Ok(())
-}
-
-/// A refused transfer changed nothing.
-fn is_refused_memory(
-    rt: &impl Abort,
-    alloc: Global,
-    a: &Letters<&LocalHeap>,
-    source: &Letters,
-    old: &str,
-) -> Result<(), Fail> {
-    counts_are(rt, a, (0, 0, 2));
-    assert_eq!(rt; source.generation(), 3);
-    entries_are(rt, alloc, source, old)
-}
-
-/// Transfers the letters into an arena on a heap of so many units. Answers how many are there.
-fn transferred(rt: &impl Abort, alloc: Global, units: usize) -> Result<usize, Fail> {
-    let heap = LocalHeap::new(alloc, units.saturating_mul(16))?;
-    let mut source = letters(alloc)?;
-    let mut a = Letters::new(&heap);
-    let old = printed(alloc, &source)?;
-    let (outcome, calls) = transfer_all(&mut a, &mut source);
-    if let Err(refusal) = outcome {
-        assert_eq!(rt; (refusal, calls), (ReallocationError::AllocError, 0));
-        is_refused_memory(rt, alloc, &a, &source, old.as_str())?;
-    }
-    Ok(a.len())
-}
-
-#[test]
-fn keeps_both_where_memory_is_refused(rt: HostRuntime) -> Result<(), Fail> {
-    let mut met = [false; 2];
-    for units in 1..80 {
-        let len = transferred(&rt, rt.alloc(), units)?;
-        meet(&mut met, &[0, 4], len);
-    }
-    assert_eq!(rt; met, [true; 2]);
     Ok(())
 }
 

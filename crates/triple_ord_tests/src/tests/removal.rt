@@ -1,17 +1,14 @@
 //! Removals, seen through the nodes.
-use super::{Keys, is_refused_memory, keys, numbers, order_is, ranks_are};
+use super::{Keys, keys, numbers, order_is, ranks_are};
 use arena_base::{InvalidationOption, InvalidationResult, P0, P8, Ptr};
 use linked_list_allocator::LocalHeap;
-use std::alloc::{AllocError, Allocator, Global};
+use std::alloc::{AllocError, Global};
 use std::process::Abort;
 use std::test::Fail;
 use triple_ord::{OrdInsertionError, OrdPair, SimpleOrdArena};
 
 /// The parent of each entry of an arena, by its index.
-pub fn parents<A: Allocator>(
-    alloc: Global,
-    a: &Keys<A>,
-) -> Result<Vec<(u32, Option<u32>)>, AllocError> {
+pub(super) fn parents(alloc: Global, a: &Keys) -> Result<Vec<(u32, Option<u32>)>, AllocError> {
     let mut parents = Vec::new(alloc);
     for (p, _) in a {
         if let Some((_, node)) = a.get_inx_node(p.inx()) {
@@ -22,7 +19,7 @@ pub fn parents<A: Allocator>(
 }
 
 /// How many indexes of the first list have another parent in the second.
-pub fn moved(old: &[(u32, Option<u32>)], new: &[(u32, Option<u32>)]) -> usize {
+pub(super) fn moved(old: &[(u32, Option<u32>)], new: &[(u32, Option<u32>)]) -> usize {
     let mut moved = 0usize;
     for before in old {
         for after in new {
@@ -35,7 +32,7 @@ pub fn moved(old: &[(u32, Option<u32>)], new: &[(u32, Option<u32>)]) -> usize {
 }
 
 /// How many entries have another parent than before.
-pub fn moved_since(
+pub(super) fn moved_since(
     alloc: Global,
     before: &[(u32, Option<u32>)],
     a: &Keys,
@@ -44,7 +41,12 @@ pub fn moved_since(
 }
 
 /// Removes the entry of a key, and answers how many others got another parent.
-pub fn remove_key(rt: &impl Abort, alloc: Global, a: &mut Keys, key: u64) -> Result<usize, Fail> {
+pub(super) fn remove_key(
+    rt: &impl Abort,
+    alloc: Global,
+    a: &mut Keys,
+    key: u64,
+) -> Result<usize, Fail> {
     let before = parents(alloc, a)?;
     let p = a.find_key(&key).ok_or("the key")?;
     let taken = a.remove(p).allow().ok_or("the entry")?;
@@ -193,6 +195,17 @@ fn renew_on_heap(rt: &impl Abort, a: &mut Keys<&LocalHeap>, key: u64) -> Result<
     let new = a.invalidate(p).allow().ok_or("the entry")?;
     assert!(rt; !a.contains(p) && a.contains(new));
     Ok(())
+}
+
+/// Inserts a key, and tells whether it was refused memory.
+fn is_refused_memory(rt: &impl Abort, a: &mut Keys<&LocalHeap>, key: u64) -> bool {
+    match a.insert(OrdPair::new(key, ())) {
+        Ok(_) => false,
+        Err(refusal) => {
+            assert_eq!(rt; refusal, OrdInsertionError::AllocError);
+            true
+        }
+    }
 }
 
 /// Eight keys on a heap, which fill the arena.
