@@ -46,7 +46,7 @@ pub record IsSpent {T : Type 0} (c : Chain T) (p : ℕ × ℕ) : Type 0 where
 
 module _ {T : Type 0} where
   -- what a pointer finds is at its index, with its generation
-  found-there : (es : List (Entry T)) (p : ℕ × ℕ) → IsSome (item_of es p) → (x : T) × (entry_at es p.0 ≡ Some (p.1, x))
+  pub found-there : (es : List (Entry T)) (p : ℕ × ℕ) → IsSome (item_of es p) → (x : T) × (entry_at es p.0 ≡ Some (p.1, x))
   found-there es p there = go (entry_at es p.0) refl
     where
       go : (o : Option (ℕ × T)) → entry_at es p.0 ≡ o → (x : T) × (entry_at es p.0 ≡ Some (p.1, x))
@@ -56,7 +56,7 @@ module _ {T : Type 0} where
         | inr h ↦ absurd (let none : item_of es p ≡ None = rw (is, h.0) refl in cc)
       ]
 
-  there-found : (es : List (Entry T)) (p : ℕ × ℕ) (x : T) → entry_at es p.0 ≡ Some (p.1, x) → item_of es p ≡ Some x
+  pub there-found : (es : List (Entry T)) (p : ℕ × ℕ) (x : T) → entry_at es p.0 ≡ Some (p.1, x) → item_of es p ≡ Some x
   there-found es p x is = elim (eqb_tells p.1 p.1) [
     | inl h ↦ rw (is, h.0) refl
     | inr h ↦ absurd (h.1 refl)
@@ -200,10 +200,10 @@ module _ {T : Type 0} where
         go [] next es gs = absurd (cc)
         go (j ∷ rest) next es gs = let here : j ≡ i = cc in (es ∙ ap (λ k. gap.front ++ record { index = k; generation = room.generation; item = item } ∷ gap.back) here, gs)
 
-    unused : times i (gap.front ++ gap.back) ≡ 0
+    pub unused : times i (gap.front ++ gap.back) ≡ 0
     unused = ap (times i) (sym gap.cut) ∙ ap (times i) (sym roomy) ∙ inserted.vacant.free
 
-    elsewhere : (j : ℕ) → j ≢ i → entry_at new.entries j ≡ entry_at old.entries j
+    pub elsewhere : (j : ℕ) → j ≢ i → entry_at new.entries j ≡ entry_at old.entries j
     elsewhere j other = ap (λ es. entry_at es j) after-insertion.0 ∙ entry_at-between_other gap.front new_entry gap.back j other ∙ ap (λ es. entry_at es j) (sym gap.cut)
 
     goes-inserted : Goes old 0 new
@@ -226,7 +226,7 @@ module _ {T : Type 0} where
         ]
 
   -- an arena that may grow for a new entry
-  generation-with_slot : (growth : Growth) (most : ℕ) (c : Chain T) → (with_slot growth most c).generation ≡ c.generation
+  pub generation-with_slot : (growth : Growth) (most : ℕ) (c : Chain T) → (with_slot growth most c).generation ≡ c.generation
   generation-with_slot within most c = refl
   generation-with_slot reallocating most c = go (is_some (next_index c))
     where
