@@ -1,14 +1,12 @@
 -- Pointers that ended stay so: how generations go along a run.
-use Rattle.std.proofs.Common.{◌≡◌, ◌≢◌, ℕ, ◌+◌, ◌<◌, ◌≤◌, ◌⊎◌, inl, inr, Bool, true, false, List, [], ◌∷◌, ◌++◌, length, map, take, max, Option, Some, None, IsSome, is_some, slice_get, refl, sym, ap, subst, ◌∙◌, arith, if◌then◌else◌}
-use Rattle.std.proofs.lemmas.Grind.{common_steps}
+use Rattle.std.proofs.Common.{◌≡◌, ◌≢◌, ℕ, ◌+◌, ◌<◌, ◌≤◌, ◌⊎◌, inl, inr, Bool, true, false, List, [], ◌∷◌, ◌++◌, length, map, take, Option, Some, None, IsSome, is_some, slice_get, refl, sym, ap, ◌∙◌, arith, if◌then◌else◌}
 use Rattle.std.proofs.lemmas.Bool.Decides.{eqb_tells}
 use Rattle.std.proofs.lemmas.List.{length-map}
 use Rattle.std.specs.List.{AllByRecursion}
 use Rattle.std.specs.Option.{ForSome, option_map}
-use Rattle.arena_base.specs.Arena.{item_if}
 use Rattle.arena_base.specs.Generation.{next_generation}
 use Rattle.arena_base.specs.declared.invalidation.InvalidationResult.TheVariants.{Success, GenerationOverflow, InvalidPtr}
-use Rattle.chain_base.specs.Chain.{Entry, Chain, renewed, cleared, raised, times, next_index, with_capacity, grown_capacity, IsSound, IsDistinct, entry_at, item_of, removed, without, with_item_among, with_generation, inserted_at}
+use Rattle.chain_base.specs.Chain.{Entry, Chain, renewed, cleared, raised, times, next_index, with_capacity, grown_capacity, IsSound, IsDistinct, entry_at, item_of, removed, with_item_among, with_generation, inserted_at}
 use Rattle.chain_base.specs.Compression.{relocated, canonical}
 use Rattle.chain_base.specs.Insert.{IsInsertion}
 use Rattle.chain_base.proofs.CallerLemmas.{entry_at-absent, entry_at-without, entry_at-without_other, entry_at-with_item_among, entry_at-with_item_among_other, entry_at-with_generation, entry_at-with_generation_other, entry_at-between, entry_at-between_other, generation-relocated, generation-numbered}
@@ -16,7 +14,7 @@ use Rattle.ord_tree.specs.Shape.{missing}
 use Rattle.ord_tree.specs.Tree.{Tree}
 use Rattle.triple_ord.specs.ClosureSearch.{Shown}
 use Rattle.triple_ord.specs.Gap.{Gap, with_between}
-use Rattle.triple_ord.specs.Insertion.{Growth, within, reallocating, with_slot, InsertsBy}
+use Rattle.triple_ord.specs.Insertion.{Growth, within, reallocating, with_slot}
 use Rattle.triple_ord.specs.Place.{Aim, at_key, aim_of}
 use Rattle.triple_ord.specs.declared.entry_kind.OrdEntryKind.TheVariants.{New, Replacing}
 use Rattle.triple_ord.specs.declared.error.OrdInsertionError.TheVariants.{BeyondMaxCapacity, AllocError}

@@ -1,6 +1,5 @@
 -- A pointer keeps its entry while commands are to others.
-use Rattle.std.proofs.Common.{◌≡◌, ◌≢◌, ℕ, inl, inr, List, [], ◌∷◌, Option, Some, None, IsSome, is_some, refl, sym, ap, ◌∙◌}
-use Rattle.std.proofs.lemmas.Bool.Decides.{eqb_tells}
+use Rattle.std.proofs.Common.{◌≡◌, ◌≢◌, ℕ, List, [], ◌∷◌, Option, Some, None, IsSome, is_some, sym, ap, ◌∙◌}
 use Rattle.arena_base.specs.Arena.{item_if}
 use Rattle.arena_base.specs.declared.invalidation.InvalidationResult.TheVariants.{Success, GenerationOverflow, InvalidPtr}
 use Rattle.chain_base.specs.Chain.{Entry, raised, times, IsSound, IsDistinct, entry_at, item_of, without, with_item_among, with_generation}
@@ -27,7 +26,8 @@ module _ {T : Type 0} (es : List (Entry T)) where
   same_era : (p q : ℕ × ℕ) (x y : T) → entry_at es q.0 ≡ Some (q.1, x) → entry_at es p.0 ≡ Some (p.1, y) → q.0 ≡ p.0 → q.1 ≡ p.1
   same_era p q x y there here same =
       let both : ◌≡◌ {A = Option (ℕ × T)} (Some (q.1, x)) (Some (p.1, y)) = sym there ∙ ap (entry_at es) same ∙ here in
-      cc
+      let pair : ◌≡◌ {A = ℕ × T} (q.1, x) (p.1, y) = cc in
+      ap (λ (e : ℕ × T). e.0) pair
 
   -- so two that differ have different indexes
   other_index : (p q : ℕ × ℕ) → q ≢ p → IsSome (item_of es q) → IsSome (item_of es p) → p.0 ≢ q.0
