@@ -1,5 +1,5 @@
 -- The jobs of an agenda and the entries of its arena: what a ticket names, and what a removal leaves.
-use Rattle.std.proofs.Common.{◌≡◌, ℕ, ◌≤◌, List, [], ◌∷◌, map, Option, Some, None, IsSome, IfNone, OnSome, is_some, refl, sym, ap, ◌+◌, length, subst, ◌∙◌, arith, inl, inr, true, false, if◌then◌else◌}
+use Rattle.std.proofs.Common.{◌≡◌, ℕ, ◌≤◌, List, [], ◌∷◌, map, Option, Some, None, IsSome, IfNone, OnSome, is_some, refl, sym, ap, ◌+◌, subst, ◌∙◌, arith, inl, inr, true, false, if◌then◌else◌}
 use Rattle.std.proofs.lemmas.Grind.{common_steps}
 use Rattle.std.proofs.lemmas.Bool.Decides.{eqb_tells}
 use Rattle.std.specs.List.{All, AllByRecursion}

@@ -1,10 +1,8 @@
 -- What tickets name after each change of an agenda.
-use Rattle.std.proofs.Common.{◌≡◌, ◌≢◌, ℕ, ◌+◌, ◌≤◌, ◌⊎◌, List, [], ◌∷◌, ◌++◌, length, length-append, Option, Some, None, IsSome, IfSome, IfNone, true, false, refl, sym, ap, subst, ◌∙◌, arith, inl, inr, if◌then◌else◌}
+use Rattle.std.proofs.Common.{◌≡◌, ◌≢◌, ℕ, ◌+◌, ◌≤◌, ◌⊎◌, List, [], ◌∷◌, ◌++◌, length, length-append, Option, Some, None, IsSome, IfSome, IfNone, refl, sym, ap, subst, ◌∙◌, arith, inl, inr, if◌then◌else◌}
 use Rattle.std.proofs.lemmas.Bool.Decides.{eqb_tells, leb_tells}
-use Rattle.std.specs.List.{All, AllByRecursion}
 use Rattle.std.specs.Option.{option_map}
-use Rattle.std.proofs.lemmas.List.Elements.{recursion_from_All}
-use Rattle.agenda.specs.Agenda.{Scheduled, Agenda, is_named_by, job_of, count, without, with_left, first_deadline, first_due, IsInOrder, IsDistinct, Schedules, Reschedules, Updates, Moves, NoneBefore}
+use Rattle.agenda.specs.Agenda.{Scheduled, Agenda, is_named_by, job_of, count, without, with_left, first_deadline, first_due, IsDistinct, Schedules, Reschedules, Updates, Moves}
 
 -- two tickets are one or differ
 one_or_other : (t u : ℕ × ℕ) → (t ≡ u) ⊎ (t ≢ u)
@@ -93,61 +91,18 @@ module _ {J : Type 0} where
     | inr n ↦ job_of-behind z (xs ++ x ∷ ys) x.ticket n ∙ job_of-between xs x ys (sym (job_of-behind z (xs ++ ys) x.ticket n) ∙ unused)
   ]
 
-  -- jobs none of which is due before a deadline, by ticket
-  none_before : (d : ℕ) (xs : List (Scheduled J)) → AllByRecursion (λ x. d ≤ x.deadline) xs → (t : ℕ × ℕ) → IfSome (job_of xs t) (λ job. d ≤ job.0)
-  none_before d [] all t = tt
-  none_before d (x ∷ xs) all t = elim (is_named_by t x) as (λ b. IfSome (if b then Some (x.deadline, x.job) else job_of xs t) (λ job. d ≤ job.0)) [
-    | true ↦ all.0
-    | false ↦ none_before d xs all.1 t
-  ]
-
-  -- the first of jobs in order is the least
-  least-first : (x : Scheduled J) (xs : List (Scheduled J)) (d : ℕ) → d ≤ x.deadline → IsInOrder (x ∷ xs) → (t : ℕ × ℕ) → IfSome (job_of (x ∷ xs) t) (λ job. d ≤ job.0)
-  least-first x xs d least sorted = none_before d (x ∷ xs) (least, at_least xs (recursion_from_All (λ y. x.deadline ≤ y.deadline) xs sorted.0))
-    where
-      at_least : (ys : List (Scheduled J)) → AllByRecursion (λ y. x.deadline ≤ y.deadline) ys → AllByRecursion (λ y. d ≤ y.deadline) ys
-      at_least [] all = tt
-      at_least (y ∷ ys) all = (omega (arith, least, all.0), at_least ys all.1)
-
-  -- what the first job's deadline says of all jobs
-  pub least-deadline : (a : Agenda J) → IsInOrder a.jobs → IfSome (first_deadline a.jobs) (λ d. NoneBefore a d)
-  least-deadline a sorted = go a.jobs sorted
-    where
-      go : (xs : List (Scheduled J)) → IsInOrder xs → IfSome (first_deadline xs) (λ d. (t : ℕ × ℕ) → IfSome (job_of xs t) (λ job. d ≤ job.0))
-      go [] sorted = tt
-      go (x ∷ xs) sorted = least-first x xs x.deadline (omega arith) sorted
-
+  -- without a first deadline there is no job
   pub none-deadline : (xs : List (Scheduled J)) → IfNone (first_deadline xs) (length xs ≡ 0)
   none-deadline [] = refl
   none-deadline (x ∷ xs) = tt
 
-  -- the first due is due; no job is before it; and where none is due, all are later
+  -- the first due is due
   pub due-first : (now : ℕ) (xs : List (Scheduled J)) → IfSome (first_due now xs) (λ due. due.0 ≤ now)
   due-first now [] = tt
   due-first now (x ∷ xs) = elim (leb_tells x.deadline now) [
     | inl h ↦ rw h.0 h.1
     | inr h ↦ rw h.0 tt
   ]
-
-  pub least-due : (now : ℕ) (a : Agenda J) → IsInOrder a.jobs → IfSome (first_due now a.jobs) (λ due. NoneBefore a due.0)
-  least-due now a sorted = go a.jobs sorted
-    where
-      go : (xs : List (Scheduled J)) → IsInOrder xs → IfSome (first_due now xs) (λ due. (t : ℕ × ℕ) → IfSome (job_of xs t) (λ job. due.0 ≤ job.0))
-      go [] sorted = tt
-      go (x ∷ xs) sorted = elim (leb_tells x.deadline now) [
-        | inl h ↦ rw h.0 (least-first x xs x.deadline (omega arith) sorted)
-        | inr h ↦ rw h.0 tt
-      ]
-
-  pub later-due : (now : ℕ) (a : Agenda J) → IsInOrder a.jobs → IfNone (first_due now a.jobs) (NoneBefore a (now + 1))
-  later-due now a sorted = go a.jobs sorted
-    where
-      go : (xs : List (Scheduled J)) → IsInOrder xs → IfNone (first_due now xs) ((t : ℕ × ℕ) → IfSome (job_of xs t) (λ job. now + 1 ≤ job.0))
-      go [] sorted = λ t. tt
-      go (x ∷ xs) sorted = elim (leb_tells x.deadline now) [
-        | inl h ↦ rw h.0 tt
-        | inr h ↦ rw h.0 (least-first x xs (now + 1) (omega (arith, h.1)) sorted)
-      ]
 
   -- what tickets name where a ticket's job has left
   module _ (a : Agenda J) (t : ℕ × ℕ) where

@@ -1,5 +1,5 @@
 -- What an agenda is: one list of jobs, each with its ticket and its deadline, in the order in which they leave.
-use Rattle.std.specs.Prelude.{◌≡◌, ◌≢◌, ℕ, ◌≤◌, ◌<◌, ◌*◌, min, max, ◌==◌, ◌&&◌, leb, nat_lt, if◌then◌else◌, Bool, List, [], ◌∷◌, ◌++◌, length, Option, Some, None, IfSome}
+use Rattle.std.specs.Prelude.{◌≡◌, ◌≢◌, ℕ, ◌≤◌, ◌<◌, ◌*◌, min, max, ◌==◌, ◌&&◌, leb, nat_lt, if◌then◌else◌, Bool, List, [], ◌∷◌, ◌++◌, length, Option, Some, None}
 use Rattle.std.specs.List.{All}
 use Rattle.std.specs.Option.{option_map}
 use Rattle.arena_base.specs.Generation.{next_generation}
@@ -122,7 +122,3 @@ module _ {J : Type 0} where
     pub ended : u ≢ t → job_of new.jobs t ≡ None
     pub unused : u ≢ t → job_of old.jobs u ≡ None
     pub others : (v : ℕ × ℕ) → v ≢ t → v ≢ u → job_of new.jobs v ≡ job_of old.jobs v
-
-  -- no ticket names a job whose deadline is below this
-  abbrev pub NoneBefore : Agenda J → ℕ → Type 0
-  NoneBefore a deadline = (t : ℕ × ℕ) → IfSome (job_of a.jobs t) (λ job. deadline ≤ job.0)
