@@ -1,7 +1,7 @@
 -- Setting a value step by step: the changes in between are taken out, then the value comes, then what held at the end.
-use Rattle.std.proofs.Common.{◌≡◌, ◌≢◌, ℕ, ◌<◌, ◌≤◌, ◌⊎◌, inl, inr, List, ◌++◌, Option, None, sym, ap, subst, ◌∙◌, arith}
+use Rattle.std.proofs.Common.{◌≡◌, ◌≢◌, ℕ, ◌<◌, ◌≤◌, inl, inr, List, ◌++◌, Option, None, sym, ap, subst, ◌∙◌, arith}
 use Rattle.std.specs.List.{AllByRecursion}
-use Rattle.timeline.specs.Timeline.{Change, value_at, IsRising, IsTimeline}
+use Rattle.timeline.specs.Timeline.{Change, value_at, IsRising, IsTimeline, IsSet}
 use Rattle.timeline.specs.Layout.{earlier, later, last_value, Brings, IsChanged}
 use Rattle.timeline.proofs.Cutting.{AreBefore, AreAfter, all-append, all-weaker, earlier-before, later-after, cut-before, cut-after, cut-earlier, cut-later, rising-front, rising-back, rising-append, last-append, last-brings, rising-brings, all-brings}
 use Rattle.timeline.proofs.Lying.{append-assoc}
@@ -77,14 +77,14 @@ module _ {V : Type 0} (old left : List (Change V)) (lawful : IsTimeline old) (fr
       new-is : new ≡ low ++ (first.put ++ (second.put ++ high))
       new-is = second.after ∙ ap (λ zs. zs ++ (second.put ++ later until mid)) early-mid ∙ ap (λ zs. (low ++ first.put) ++ (second.put ++ zs)) late-mid ∙ append-assoc low first.put (second.put ++ high)
 
-      pub set-within : (t : ℕ) → from ≤ t → t < until → value_at new t ≡ value
-      set-within t past sooner = ap (λ cs. value_at cs t) new-is ∙ value-within old lawful from until value ordered first.put second.put brings-first brings-second t past sooner
-
-      pub set-outside : (t : ℕ) → (t < from) ⊎ (until ≤ t) → value_at new t ≡ value_at old t
-      set-outside t out = ap (λ cs. value_at cs t) new-is ∙ (elim out [
-        | inl sooner ↦ value-outside-before old lawful from until value ordered first.put second.put brings-first brings-second t sooner
-        | inr past ↦ value-outside-after old lawful from until value ordered first.put second.put brings-first brings-second t past
-      ])
+      pub set-is : IsSet old from until value new
+      set-is = record {
+        within = λ t past sooner. ap (λ cs. value_at cs t) new-is ∙ value-within old lawful from until value ordered first.put second.put brings-first brings-second t past sooner;
+        outside = λ t out. ap (λ cs. value_at cs t) new-is ∙ (elim out [
+          | inl sooner ↦ value-outside-before old lawful from until value ordered first.put second.put brings-first brings-second t sooner
+          | inr past ↦ value-outside-after old lawful from until value ordered first.put second.put brings-first brings-second t past
+        ]);
+      }
 
       pub set-timeline : IsTimeline new
       set-timeline = subst (λ (cs : List (Change V)). IsTimeline cs) (sym new-is) (timeline-set old lawful from until value ordered first.put second.put brings-first brings-second)

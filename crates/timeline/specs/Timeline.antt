@@ -1,5 +1,5 @@
 -- What a timeline is: the value that holds at each time, told by the times at which it changes.
-use Rattle.std.specs.Prelude.{◌≢◌, ℕ, ◌<◌, leb, if◌then◌else◌, List, [], ◌∷◌, Option, None}
+use Rattle.std.specs.Prelude.{◌≡◌, ◌≢◌, ℕ, ◌<◌, ◌≤◌, ◌⊎◌, leb, if◌then◌else◌, List, [], ◌∷◌, Option, None}
 use Rattle.std.specs.List.{AllByRecursion}
 
 -- a change: from this time on the value is this one, or there is none
@@ -31,3 +31,8 @@ module _ {V : Type 0} where
   pub record IsTimeline (cs : List (Change V)) : Type 0 where
     pub rising : IsRising cs
     pub joined : IsJoinedAfter None cs
+
+  -- from one time until before another the value is this one, or none, and at every other time it is what it was
+  pub record IsSet (old : List (Change V)) (from until : ℕ) (value : Option V) (new : List (Change V)) : Type 0 where
+    pub within : (t : ℕ) → from ≤ t → t < until → value_at new t ≡ value
+    pub outside : (t : ℕ) → (t < from) ⊎ (until ≤ t) → value_at new t ≡ value_at old t

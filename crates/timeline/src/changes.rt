@@ -24,7 +24,8 @@ fn index_until<V: Copy, A: Allocator>(
     p: P0,
     order: Ordering,
 ) -> Option<u32>
-    ensures before { order ≡ Ordering.Less → IfSome (link_at changes.now.list.entries p.0) (λ l. result ≡ l.1.prev) }
+    ensures before { order ≡ Ordering.Less
+        → IfSome (link_at changes.now.list.entries p.0) (λ l. result ≡ l.1.prev) }
     ensures here { order ≢ Ordering.Less → result ≡ Some p.0 }
 {
     match order {
@@ -90,9 +91,10 @@ pub(crate) fn make_room<V: Copy, A: Allocator>(
 // Takes out the last change at or before one time, where it is at or after another. Tells whether there was one.
 fn take_last<V: Copy, A: Allocator>(changes: &mut Changes<V, A>, from: u64, until: u64) -> bool
     requires { IsRising (changes_of changes.old) × (from ≤ until) }
-    ensures taken { IsTrue result → IsTakenOut (changes_of changes.old) from until (changes_of changes.new) }
-    ensures left { result ≡ false → (changes.new ≡ changes.old)
-        × (changes_of changes.new ≡ earlier from (changes_of changes.new) ++ later until (changes_of changes.new)) }
+    ensures taken { IsTrue result
+        → IsTakenOut (changes_of changes.old) from until (changes_of changes.new) }
+    ensures left { result ≡ false → (changes.new ≡ changes.old) × (changes_of changes.new
+        ≡ earlier from (changes_of changes.new) ++ later until (changes_of changes.new)) }
     ensures room { KeepsRoom changes.old changes.new }
 {
     // with its length an arena tells what holds of its list
@@ -109,7 +111,8 @@ fn take_last<V: Copy, A: Allocator>(changes: &mut Changes<V, A>, from: u64, unti
 /// Takes out all changes from one time until another, both included.
 pub(crate) fn take_all<V: Copy, A: Allocator>(changes: &mut Changes<V, A>, from: u64, until: u64)
     requires { IsRising (changes_of changes.old) × (from ≤ until) }
-    ensures left { changes_of changes.new ≡ earlier from (changes_of changes.old) ++ later until (changes_of changes.old) }
+    ensures left { changes_of changes.new
+        ≡ earlier from (changes_of changes.old) ++ later until (changes_of changes.old) }
     ensures room { KeepsRoom changes.old changes.new }
 {
     while take_last(changes, from, until) {}

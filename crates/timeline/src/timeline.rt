@@ -1,7 +1,7 @@
 //! `Timeline`: which value holds at which time.
 
-ghost use Rattle.std.specs.Prelude.{◌≡◌, ◌≤◌, ◌<◌, ◌+◌, ◌⊎◌, ◌↔◌, ℕ, [], Some, None, Err, OnOk, OnErr, length};
-ghost use Rattle.timeline.specs.Timeline.{value_at, IsTimeline};
+ghost use Rattle.std.specs.Prelude.{◌≡◌, ◌<◌, ◌+◌, ◌↔◌, [], Some, None, Err, OnOk, OnErr, length};
+ghost use Rattle.timeline.specs.Timeline.{value_at, IsTimeline, IsSet};
 ghost use Rattle.timeline.specs.Layout.{most_changes};
 
 use crate::changes::{Changes, change_at, held_at, make_room, take_all};
@@ -68,8 +68,7 @@ impl<V: TimelineValue, A: Allocator> Timeline<V, A> {
     /// more changes is made first: it is refused with `BeyondMaxCapacity` where those would be more than 4,294,967,294, and with
     /// `AllocError` where memory is refused. Nothing has changed then.
     pub fn set(&mut self, from: u64, until: u64, value: V) -> Result<(), ReallocationError>
-        ensures within { OnOk result ((t : ℕ) → from ≤ t → t < until → value_at self.new t ≡ Some value) }
-        ensures outside { OnOk result ((t : ℕ) → (t < from) ⊎ (until ≤ t) → value_at self.new t ≡ value_at self.old t) }
+        ensures set { OnOk result (IsSet self.old from until (Some value) self.new) }
         ensures full { (result ≡ Err ReallocationError.BeyondMaxCapacity)
             ↔ ((from < until) × (most_changes < length self.old + 2)) }
         ensures err { OnErr result (self.new ≡ self.old) }
@@ -81,8 +80,7 @@ impl<V: TimelineValue, A: Allocator> Timeline<V, A> {
     /// Ends all values from one time until before another; at all other times the value is what it was. Cost and refusals are those of
     /// `set`.
     pub fn clear(&mut self, from: u64, until: u64) -> Result<(), ReallocationError>
-        ensures within { OnOk result ((t : ℕ) → from ≤ t → t < until → value_at self.new t ≡ None) }
-        ensures outside { OnOk result ((t : ℕ) → (t < from) ⊎ (until ≤ t) → value_at self.new t ≡ value_at self.old t) }
+        ensures set { OnOk result (IsSet self.old from until None self.new) }
         ensures full { (result ≡ Err ReallocationError.BeyondMaxCapacity)
             ↔ ((from < until) × (most_changes < length self.old + 2)) }
         ensures err { OnErr result (self.new ≡ self.old) }
@@ -93,8 +91,7 @@ impl<V: TimelineValue, A: Allocator> Timeline<V, A> {
 
     // Makes this the value, or makes it none.
     fn put(&mut self, from: u64, until: u64, value: Option<V>) -> Result<(), ReallocationError>
-        ensures within { OnOk result ((t : ℕ) → from ≤ t → t < until → value_at self.new t ≡ value) }
-        ensures outside { OnOk result ((t : ℕ) → (t < from) ⊎ (until ≤ t) → value_at self.new t ≡ value_at self.old t) }
+        ensures set { OnOk result (IsSet self.old from until value self.new) }
         ensures full { (result ≡ Err ReallocationError.BeyondMaxCapacity)
             ↔ ((from < until) × (most_changes < length self.old + 2)) }
         ensures err { OnErr result (self.new ≡ self.old) }
