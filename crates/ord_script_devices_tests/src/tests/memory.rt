@@ -46,7 +46,7 @@ struct Case<'a> {
 }
 
 /// Serves a script on a heap of this size. Tells whether that was refused, which writes nothing, and whether the answer is whole.
-fn ends_on(rt: &impl Abort, alloc: Global, case: Case, size: usize) -> (bool, bool) {
+fn ends_on(rt: &impl Abort, alloc: Global, case: &Case, size: usize) -> (bool, bool) {
     let (output, end) = served_on(rt, alloc, case.script.as_bytes(), size);
     let told = std::str::from_utf8(&output).expect(rt, "text");
     let is_refused = end == ScriptEnd::Memory;
@@ -60,7 +60,7 @@ fn ends_on(rt: &impl Abort, alloc: Global, case: Case, size: usize) -> (bool, bo
 }
 
 /// Serves a script on heaps of growing size: it is refused on some, and whole on the last.
-fn each_request_of(rt: &impl Abort, alloc: Global, case: Case) {
+fn each_request_of(rt: &impl Abort, alloc: Global, case: &Case) {
     let mut was_refused = false;
     let mut is_whole = false;
     for size in 0usize..180 {
@@ -80,7 +80,7 @@ fn each_request_of_a_script(rt: HostRuntime) {
         whole,
         bare,
     };
-    each_request_of(&rt, rt.alloc(), short);
+    each_request_of(&rt, rt.alloc(), &short);
     let (script, whole) = SCRIPTS[5];
     let bare =
         "refused memory\nrefused memory\nrefused memory\nrefused memory\ninvalid\nok\nlist\nranks\nok\nlist\nok\nlist\n";
@@ -89,7 +89,7 @@ fn each_request_of_a_script(rt: HostRuntime) {
         whole,
         bare,
     };
-    each_request_of(&rt, rt.alloc(), long);
+    each_request_of(&rt, rt.alloc(), &long);
 }
 
 /// How many entries are inserted.

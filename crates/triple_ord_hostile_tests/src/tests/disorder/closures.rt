@@ -102,8 +102,11 @@ fn is_last(words: &Words, row: Option<Row>) -> bool {
 fn stops(rows: &[Row], words: &Words, gap: usize) -> bool {
     let before = row_before(rows, gap);
     let after = row_after(rows, gap);
-    let is_beside = is_last(words, before) || is_last(words, after);
-    is_told(words, before, Ordering::Greater) && is_told(words, after, Ordering::Less) && is_beside
+    let is_right = is_told(words, before, Ordering::Greater);
+    let is_left = is_told(words, after, Ordering::Less);
+    let is_after_last = is_last(words, before);
+    let is_before_last = is_last(words, after);
+    is_right && is_left && (is_after_last || is_before_last)
 }
 
 /// Whether a search by these words is one: it ends at Equal, or at a gap.

@@ -59,29 +59,29 @@ fn similar(a: &Numbers, start: Start, k: u64) -> Option<(P0, Ordering)> {
 }
 
 /// The searches for an equal key.
-fn equal_holds(rt: &impl Abort, a: &Numbers, rows: &[Row], start: Start, k: u64) {
-    let (found, c) = equal_counted(a, start, k);
-    let is_short = c <= most_visits(rows.len(), start);
+fn equal_holds(rt: &impl Abort, a: &Numbers, rows: &[Row], start: &Start, k: u64) {
+    let (found, c) = equal_counted(a, *start, k);
+    let is_short = c <= most_visits(rows.len(), *start);
     assert!(rt;
         may_find(rows, k, found, c) && is_short,
         "{k} from {start:?} in {rows:?}"
     );
-    assert!(rt; equal(a, start, k) == found);
+    assert!(rt; equal(a, *start, k) == found);
 }
 
 /// The searches for a similar key.
-fn similar_holds(rt: &impl Abort, a: &Numbers, rows: &[Row], start: Start, k: u64) {
-    let (found, c) = similar_counted(a, start, k);
-    let is_short = c <= most_visits(rows.len(), start);
+fn similar_holds(rt: &impl Abort, a: &Numbers, rows: &[Row], start: &Start, k: u64) {
+    let (found, c) = similar_counted(a, *start, k);
+    let is_short = c <= most_visits(rows.len(), *start);
     assert!(rt;
         may_be_similar(rows, k, found, c) && is_short,
         "{k} from {start:?} in {rows:?}"
     );
-    assert!(rt; similar(a, start, k) == found);
+    assert!(rt; similar(a, *start, k) == found);
 }
 
 /// The four searches that begin so.
-fn from(rt: &impl Abort, a: &Numbers, rows: &[Row], start: Start, k: u64) {
+fn all_hold(rt: &impl Abort, a: &Numbers, rows: &[Row], start: &Start, k: u64) {
     equal_holds(rt, a, rows, start, k);
     similar_holds(rt, a, rows, start, k);
 }
@@ -90,12 +90,14 @@ fn from(rt: &impl Abort, a: &Numbers, rows: &[Row], start: Start, k: u64) {
 pub(super) fn hold(rt: &impl Abort, a: &Numbers, rows: &[Row]) {
     let most = rows.len() as u64;
     for k in 0..=most.saturating_add(1) {
-        from(rt, a, rows, Start::Root, k);
+        all_hold(rt, a, rows, &Start::Root, k);
         for i in 0u32..=7 {
             for num in [0usize, 1, 2, 3, usize::MAX] {
-                from(rt, a, rows, Start::Hint(P0::_from_raw(i, 2), num), k);
+                let start = Start::Hint(P0::_from_raw(i, 2), num);
+                all_hold(rt, a, rows, &start, k);
             }
         }
-        from(rt, a, rows, Start::Hint(P0::_from_raw(1, 9), 3), k);
+        let stale = Start::Hint(P0::_from_raw(1, 9), 3);
+        all_hold(rt, a, rows, &stale, k);
     }
 }
