@@ -82,7 +82,7 @@ fn are_shown(rows: &[Row], words: &Words) -> bool {
 }
 
 /// Whether the entry beside a gap, if there is one, was told this word.
-fn is_told(words: &Words, row: Option<Row>, word: Ordering) -> bool {
+fn is_told(words: &Words, row: &Option<Row>, word: Ordering) -> bool {
     match row {
         None => true,
         Some(row) => words.said_to(row.p) == Some(word),
@@ -90,7 +90,7 @@ fn is_told(words: &Words, row: Option<Row>, word: Ordering) -> bool {
 }
 
 /// Whether this entry was shown last; where there is none, whether none was shown.
-fn is_last(words: &Words, row: Option<Row>) -> bool {
+fn is_last(words: &Words, row: &Option<Row>) -> bool {
     match (words.last(), row) {
         (Some((p, _)), Some(row)) => p == row.p,
         (None, None) => true,
@@ -102,10 +102,10 @@ fn is_last(words: &Words, row: Option<Row>) -> bool {
 fn stops(rows: &[Row], words: &Words, gap: usize) -> bool {
     let before = row_before(rows, gap);
     let after = row_after(rows, gap);
-    let is_right = is_told(words, before, Ordering::Greater);
-    let is_left = is_told(words, after, Ordering::Less);
-    let is_after_last = is_last(words, before);
-    let is_before_last = is_last(words, after);
+    let is_right = is_told(words, &before, Ordering::Greater);
+    let is_left = is_told(words, &after, Ordering::Less);
+    let is_after_last = is_last(words, &before);
+    let is_before_last = is_last(words, &after);
     is_right && is_left && (is_after_last || is_before_last)
 }
 
