@@ -1,14 +1,17 @@
 -- The jobs of an agenda and the entries of its arena: what a ticket names, and what a removal leaves.
-use Rattle.std.proofs.Common.{◌≡◌, ℕ, ◌≤◌, List, [], ◌∷◌, map, Option, Some, None, IsSome, refl, subst, ◌∙◌, arith, inl, inr, true, false, if◌then◌else◌}
+use Rattle.std.proofs.Common.{◌≡◌, ℕ, ◌≤◌, List, [], ◌∷◌, map, Option, Some, None, IsSome, IfNone, OnSome, is_some, refl, sym, ap, ◌+◌, subst, ◌∙◌, arith, inl, inr, true, false, if◌then◌else◌}
 use Rattle.std.proofs.lemmas.Grind.{common_steps}
 use Rattle.std.proofs.lemmas.Bool.Decides.{eqb_tells}
 use Rattle.std.specs.List.{All, AllByRecursion}
+use Rattle.std.proofs.lemmas.List.{length-map}
 use Rattle.std.proofs.lemmas.List.Elements.{All-from_recursion, recursion_from_All}
-use Rattle.chain_base.specs.Chain.{Entry, removed, IsDistinct as AreDistinct, entry_at, item_of, without as without_index}
+use Rattle.arena_base.specs.Arena.{limit_of}
+use Rattle.chain_base.specs.Chain.{Entry, removed, IsSound as IsSoundChain, IsDistinct as AreDistinct, entry_at, item_of, without as without_index}
 use Rattle.chain_base.proofs.CallerLemmas.{entry_at-absent}
 use Rattle.ord_tree.specs.Tree.{Tree}
-use Rattle.agenda.specs.Agenda.{Scheduled, with_left, is_named_by, job_of, without, IsInOrder, IsDistinct}
-use Rattle.agenda.specs.Layout.{scheduled, agenda_of, IsArenaOfJobs}
+use Rattle.agenda.specs.Agenda.{Scheduled, Agenda, most_jobs, count, Updates, with_left, is_named_by, job_of, without, IsInOrder, IsDistinct, IsSound}
+use Rattle.agenda.proofs.Naming.{length-without, updates-none, updates-left}
+use Rattle.agenda.specs.Layout.{greatest_generation, scheduled, agenda_of, IsArenaOfJobs}
 
 module _ {J : Type 0} where
   -- the entries behind the first have pairwise different indexes too, and none has the first's
@@ -65,32 +68,35 @@ module _ {J : Type 0} where
     | false ↦ (All-without (λ y. x.deadline ≤ y.deadline) xs t sorted.0, in_order-without xs t sorted.1)
   ]
 
-  -- the first job's ticket names it
-  pub job_of-first : (x : Scheduled J) (xs : List (Scheduled J)) → job_of (x ∷ xs) x.ticket ≡ Some (x.deadline, x.job)
-  job_of-first x xs = elim (eqb_tells x.ticket.0 x.ticket.0) [
-    | inl h ↦ elim (eqb_tells x.ticket.1 x.ticket.1) [
-      | inl k ↦ rw (h.0, k.0) refl
-      | inr k ↦ absurd (k.1 refl)
-    ]
-    | inr h ↦ absurd (h.1 refl)
-  ]
-
-  pub without-first : (x : Scheduled J) (xs : List (Scheduled J)) → without (x ∷ xs) x.ticket ≡ xs
-  without-first x xs = elim (eqb_tells x.ticket.0 x.ticket.0) [
-    | inl h ↦ elim (eqb_tells x.ticket.1 x.ticket.1) [
-      | inl k ↦ rw (h.0, k.0) refl
-      | inr k ↦ absurd (k.1 refl)
-    ]
-    | inr h ↦ absurd (h.1 refl)
-  ]
+  -- what is true of an arena's list is true of its agenda
+  pub sound-found : (a : Tree (ℕ × J)) → IsSoundChain most_jobs greatest_generation a.list → IsArenaOfJobs a → IsSound (agenda_of a)
+  sound-found a sound holds = record {
+    in_order = holds.in_order;
+    distinct = distinct-found a.list.entries sound.distinct;
+    within = omega (arith, length-map a.list.entries (scheduled {J = J}), sound.counted);
+    limited = omega (arith, sound.within_limit, ap (limit_of most_jobs) holds.unlimited);
+  }
 
   -- what the removal of a ticket's entry leaves
-  module _ (old new : Tree (ℕ × J)) (t : ℕ × ℕ) (distinct : AreDistinct old.list.entries) (there : IsSome (item_of old.list.entries t)) (after : new.list ≡ removed (Some 18446744073709551615) old.list t.0) where
-    pub agenda-removed : agenda_of new ≡ with_left (agenda_of old) (without (agenda_of old).jobs t)
-    agenda-removed = rw (after, without-found old.list.entries distinct t there) refl
+  module _ (old new : Tree (ℕ × J)) (t : ℕ × ℕ) (distinct : AreDistinct old.list.entries) where
+    module _ (there : IsSome (item_of old.list.entries t)) (after : new.list ≡ removed greatest_generation old.list t.0) where
+      pub agenda-removed : agenda_of new ≡ with_left (agenda_of old) (without (agenda_of old).jobs t)
+      agenda-removed = rw (after, without-found old.list.entries distinct t there) refl
 
-    pub arena-removed : IsArenaOfJobs old → IsArenaOfJobs new
-    arena-removed holds = record {
-      in_order = rw (after, ← without-found old.list.entries distinct t there) (in_order-without (agenda_of old).jobs t holds.in_order);
-      unlimited = rw after holds.unlimited;
-    }
+      pub arena-removed : IsArenaOfJobs old → IsArenaOfJobs new
+      arena-removed holds = record {
+        in_order = rw (after, ← without-found old.list.entries distinct t there) (in_order-without (agenda_of old).jobs t holds.in_order);
+        unlimited = rw after holds.unlimited;
+      }
+
+      pub count-removed : count (agenda_of old) ≡ count (agenda_of new) + 1
+      count-removed =
+          omega (arith, ap count agenda-removed, length-without (agenda_of old).jobs t (subst (λ (o : Option (ℕ × J)). IsSome o) (sym (job_of-found old.list.entries distinct t)) there))
+
+    -- what tickets name afterwards, whether the ticket had an entry or none
+    pub updates-removed : (o : Option (ℕ × J)) → o ≡ item_of old.list.entries t → OnSome o (new.list ≡ removed greatest_generation old.list t.0) → IfNone o (new ≡ old)
+        → Updates (agenda_of old) (agenda_of new) t None
+    updates-removed None value taken none = subst (λ (a : Tree (ℕ × J)). Updates (agenda_of old) (agenda_of a) t None) (sym none)
+        (updates-none (agenda_of old) t (job_of-found old.list.entries distinct t ∙ sym value))
+    updates-removed (Some item) value taken none = subst (λ (a : Agenda J). Updates (agenda_of old) a t None) (sym (agenda-removed (ap is_some (sym value)) taken))
+        (updates-left (agenda_of old) t (distinct-found old.list.entries distinct))

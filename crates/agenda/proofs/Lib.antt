@@ -1,4 +1,6 @@
 -- Lemmas of this crate.
+pub mod Naming
 pub mod Leaving
 pub mod Deadlines
 pub mod Putting
+pub mod Moving

@@ -1,11 +1,12 @@
 -- A new entry behind all whose key is at most its own: the job is put on the agenda.
-use Rattle.std.proofs.Common.{◌≡◌, ◌≢◌, ℕ, Bool, true, false, List, [], ◌∷◌, ◌++◌, map, Option, Some, None, IfSome, is_some, Ok, slice_get, refl, sym, ap, ◌∙◌, if◌then◌else◌}
-use Rattle.std.proofs.lemmas.List.{map-append}
+use Rattle.std.proofs.Common.{◌≡◌, ◌≢◌, ℕ, Bool, true, false, List, [], ◌∷◌, ◌++◌, map, Option, Some, None, IfSome, is_some, Ok, slice_get, refl, sym, ap, ◌∙◌, ◌+◌, ◌*◌, min, max, nat_lt, length, arith, if◌then◌else◌}
+use Rattle.std.proofs.lemmas.Bool.{lt-ltb, le-ltb}
+use Rattle.std.proofs.lemmas.List.{map-append, length-map}
 use Rattle.std.proofs.lemmas.List.Elements.{All-from_recursion}
 use Rattle.std.specs.Ordering.{nat_cmp}
 use Rattle.std.specs.declared.cmp.Ordering.{Ordering}
 use Rattle.std.specs.declared.cmp.Ordering.TheVariants.{Less}
-use Rattle.chain_base.specs.Chain.{Entry, Chain, times, IsDistinct as AreDistinct, inserted_at, next_index, with_capacity, grown_capacity}
+use Rattle.chain_base.specs.Chain.{Entry, Chain, times, IsSound, inserted_at, next_index, with_capacity, grown_capacity}
 use Rattle.chain_base.specs.Insert.{IsInsertion}
 use Rattle.chain_base.proofs.CallerLemmas.{entry_at-absent}
 use Rattle.ord_tree.specs.Tree.{Tree}
@@ -16,8 +17,8 @@ use Rattle.triple_ord.specs.Place.{behind_key}
 use Rattle.triple_ord.specs.declared.entry_kind.OrdEntryKind.{OrdEntryKind}
 use Rattle.triple_ord.specs.declared.entry_kind.OrdEntryKind.TheVariants.{New, Replacing}
 use Rattle.triple_ord.proofs.CallerLemmas.{entries-with_slot}
-use Rattle.agenda.specs.Agenda.{Schedules, IsInOrder, most_jobs}
-use Rattle.agenda.specs.Layout.{scheduled, deadline_of, agenda_of, IsArenaOfJobs}
+use Rattle.agenda.specs.Agenda.{Schedules, IsInOrder, most_jobs, grown, count}
+use Rattle.agenda.specs.Layout.{greatest_generation, scheduled, deadline_of, agenda_of, IsArenaOfJobs}
 use Rattle.agenda.proofs.Leaving.{job_of-found}
 use Rattle.agenda.proofs.Deadlines.{in_order-between, in_order-back, none-later, all-later}
 
@@ -30,42 +31,68 @@ numbers-with_slot reallocating most c = go (is_some (next_index c))
     go true = (refl, refl)
     go false = (refl, refl)
 
-module _ {J : Type 0} (growth : Growth) (most : ℕ) (old new : Tree (ℕ × J)) (d : ℕ) (job : J) (p : ℕ × ℕ) (gap : Gap old.list.entries) where
+-- The capacity of a list with a slot for one entry more: it grew where there was none.
+module _ {T : Type 0} (most : ℕ) (c : Chain T) (counted : length c.entries + length c.vacant ≡ c.capacity) (unlimited : c.maximum ≡ None) where
+  abbrev wanted : ℕ
+  wanted = if nat_lt (length c.entries) c.capacity then c.capacity else min most (max 4 (2 * c.capacity))
+
+  roomy : (vacant : List ℕ) → length c.entries + length vacant ≡ c.capacity → is_some (slice_get vacant 0) ≡ true → c.capacity ≡ wanted
+  roomy [] all some = absurd (cc)
+  roomy (j ∷ rest) all some = rw (lt-ltb (length c.entries) c.capacity (omega (arith, all))) refl
+
+  full : (vacant : List ℕ) → length c.entries + length vacant ≡ c.capacity → is_some (slice_get vacant 0) ≡ false → grown_capacity most c ≡ wanted
+  full [] all none = rw (le-ltb (length c.entries) c.capacity (omega (arith, all)), unlimited) refl
+  full (j ∷ rest) all none = absurd (cc)
+
+  capacity-with_slot : (growth : Growth) (i : ℕ) → next_index (with_slot growth most c) ≡ Some i → (with_slot growth most c).capacity ≡ wanted
+  capacity-with_slot within i next = roomy c.vacant counted (ap is_some next)
+  capacity-with_slot reallocating i next = go (is_some (next_index c)) refl
+    where
+      go : (b : Bool) → is_some (next_index c) ≡ b → (if b then c else with_capacity c (grown_capacity most c)).capacity ≡ wanted
+      go true some = roomy c.vacant counted some
+      go false none = full c.vacant counted none
+
+module _ {J : Type 0} (growth : Growth) (old new : Tree (ℕ × J)) (d : ℕ) (job : J) (p : ℕ × ℕ) (gap : Gap old.list.entries) where
   abbrev entry : Entry (ℕ × J)
   entry = record { index = p.0; generation = p.1; item = (d, job) }
 
-  module _ (at_most_before : IfSome (before gap) (λ e. nat_cmp d e.item.0 ≢ Less)) (greater_after : IfSome (after gap) (λ e. nat_cmp d e.item.0 ≡ Less))
-      (inserted : IsInsertion (with_slot growth most old.list) new.list (with_between gap) (d, job) p.0 p.1) (distinct : AreDistinct old.list.entries) (holds : IsArenaOfJobs old) where
-    -- the arena afterwards
-    after-put : (new.list.entries ≡ gap.front ++ entry ∷ gap.back) × (new.list.generation ≡ old.list.generation) × (new.list.maximum ≡ old.list.maximum)
-    after-put = go (with_slot growth most old.list).vacant inserted.next (ap (λ (c : Chain (ℕ × J)). c.entries) inserted.after) (ap (λ (c : Chain (ℕ × J)). c.generation) inserted.after) (ap (λ (c : Chain (ℕ × J)). c.maximum) inserted.after)
-      where
-        room : Chain (ℕ × J)
-        room = with_slot growth most old.list
+  -- the list with an entry in the gap, under this index and generation
+  abbrev put_list : List ℕ → ℕ → ℕ → Chain (ℕ × J)
+  put_list vacant i g = record (with_slot growth most_jobs old.list) { entries = gap.front ++ record { index = i; generation = g; item = (d, job) } ∷ gap.back; vacant = vacant }
 
-        go : (vacant : List ℕ) → slice_get vacant 0 ≡ Some p.0 → new.list.entries ≡ (inserted_at (with_slot growth most old.list) (with_between gap) (d, job) vacant).entries
-            → new.list.generation ≡ (inserted_at (with_slot growth most old.list) (with_between gap) (d, job) vacant).generation
-            → new.list.maximum ≡ (inserted_at (with_slot growth most old.list) (with_between gap) (d, job) vacant).maximum
-            → (new.list.entries ≡ gap.front ++ entry ∷ gap.back) × (new.list.generation ≡ old.list.generation) × (new.list.maximum ≡ old.list.maximum)
-        go [] next es gs ms = absurd (cc)
-        go (j ∷ rest) next es gs ms =
+  module _ (at_most_before : IfSome (before gap) (λ e. nat_cmp d e.item.0 ≢ Less)) (greater_after : IfSome (after gap) (λ e. nat_cmp d e.item.0 ≡ Less))
+      (inserted : IsInsertion (with_slot growth most_jobs old.list) new.list (with_between gap) (d, job) p.0 p.1)
+      (sound : IsSound most_jobs greatest_generation old.list) (holds : IsArenaOfJobs old) where
+    -- the list afterwards
+    after-put : (rest : List ℕ) × (new.list ≡ put_list rest p.0 p.1)
+    after-put = go (with_slot growth most_jobs old.list).vacant inserted.next inserted.after
+      where
+        go : (vacant : List ℕ) → slice_get vacant 0 ≡ Some p.0 → new.list ≡ inserted_at (with_slot growth most_jobs old.list) (with_between gap) (d, job) vacant
+            → (rest : List ℕ) × (new.list ≡ put_list rest p.0 p.1)
+        go [] next after = absurd (cc)
+        go (j ∷ rest) next after =
             let here : j ≡ p.0 = cc in
-            let numbers = numbers-with_slot growth most old.list in (
-              es ∙ ap (λ i. gap.front ++ record { index = i; generation = (with_slot growth most old.list).generation; item = (d, job) } ∷ gap.back) here
-                  ∙ ap (λ g. gap.front ++ record { index = p.0; generation = g; item = (d, job) } ∷ gap.back) (sym inserted.generation),
-              gs ∙ numbers.0,
-              ms ∙ numbers.1,
-            )
+            (rest, after ∙ ap (λ i. put_list rest i (with_slot growth most_jobs old.list).generation) here ∙ ap (λ g. put_list rest p.0 g) (sym inserted.generation))
+
+    numbers-put : (new.list.generation ≡ old.list.generation) × (new.list.maximum ≡ old.list.maximum)
+    numbers-put = let numbers = numbers-with_slot growth most_jobs old.list in
+        (ap (λ (c : Chain (ℕ × J)). c.generation) after-put.1 ∙ numbers.0, ap (λ (c : Chain (ℕ × J)). c.maximum) after-put.1 ∙ numbers.1)
 
     -- the jobs before and afterwards
     jobs-before : map scheduled old.list.entries ≡ map scheduled gap.front ++ map scheduled gap.back
     jobs-before = ap (map scheduled) gap.cut ∙ map-append scheduled gap.front gap.back
 
     jobs-after : map scheduled new.list.entries ≡ map scheduled gap.front ++ scheduled entry ∷ map scheduled gap.back
-    jobs-after = ap (map scheduled) after-put.0 ∙ map-append scheduled gap.front (entry ∷ gap.back)
+    jobs-after = ap (λ (c : Chain (ℕ × J)). map scheduled c.entries) after-put.1 ∙ map-append scheduled gap.front (entry ∷ gap.back)
 
     in_order : IsInOrder (map scheduled gap.front ++ map scheduled gap.back)
     in_order = rw (← jobs-before) holds.in_order
+
+    -- the capacity grows where there was no room
+    capacity-put : new.list.capacity ≡ (if nat_lt (count (agenda_of old)) old.list.capacity then old.list.capacity else grown old.list.capacity)
+    capacity-put =
+        ap (λ (c : Chain (ℕ × J)). c.capacity) after-put.1 ∙ capacity-with_slot most_jobs old.list sound.counted holds.unlimited growth p.0 inserted.next
+        ∙ ap (λ n. if nat_lt n old.list.capacity then old.list.capacity else grown old.list.capacity) (sym (length-map old.list.entries (scheduled {J = J})))
 
     schedules-put : Schedules (agenda_of old) p d job (agenda_of new)
     schedules-put = record {
@@ -75,30 +102,35 @@ module _ {J : Type 0} (growth : Growth) (most : ℕ) (old new : Tree (ℕ × J))
       after = jobs-after;
       no_later_before = All-from_recursion _ _ (none-later d gap.front gap.back in_order at_most_before);
       later_behind = All-from_recursion _ _ (all-later d gap.back (in_order-back _ _ in_order) greater_after);
-      unused = job_of-found old.list.entries distinct p ∙ rw (entry_at-absent old.list.entries p.0 (ap (times p.0) (sym (entries-with_slot growth most old.list)) ∙ inserted.vacant.free)) refl;
-      of_generation = inserted.generation ∙ (numbers-with_slot growth most old.list).0;
-      generation = after-put.1;
+      unused = job_of-found old.list.entries sound.distinct p ∙ rw (entry_at-absent old.list.entries p.0 (ap (times p.0) (sym (entries-with_slot growth most_jobs old.list)) ∙ inserted.vacant.free)) refl;
+      of_generation = inserted.generation ∙ (numbers-with_slot growth most_jobs old.list).0;
+      generation = numbers-put.0;
+      capacity = capacity-put;
     }
 
     arena-put : IsArenaOfJobs new
     arena-put = record {
       in_order = rw jobs-after (in_order-between (map scheduled gap.front) (scheduled entry) (map scheduled gap.back) in_order
           (none-later d gap.front gap.back in_order at_most_before) (all-later d gap.back (in_order-back _ _ in_order) greater_after));
-      unlimited = after-put.2 ∙ holds.unlimited;
+      unlimited = numbers-put.1 ∙ holds.unlimited;
     }
 
 -- an insertion behind a key makes a new entry
-pub inserts-new : {P T K : Type 0} (key : T → K) (cmp : K → K → Ordering) (most : ℕ) (growth : Growth) (k : K) (numbers : P → ℕ × ℕ) (old : Tree T) (item : T) (shown : OrdEntryKind P) (before : Option T) (new : Tree T)
-    → InsertsBy key cmp most growth (behind_key k) numbers old item (Ok (shown, before)) new → InsertsNew key cmp most growth (behind_key k) old item (numbers (pointer_of shown)) new
+pub inserts-new : {P T K : Type 0} (key : T → K) (cmp : K → K → Ordering) (most : ℕ) (growth : Growth) (k : K) (numbers : P → ℕ × ℕ)
+    (old : Tree T) (item : T) (shown : OrdEntryKind P) (before : Option T) (new : Tree T)
+    → InsertsBy key cmp most growth (behind_key k) numbers old item (Ok (shown, before)) new
+    → InsertsNew key cmp most growth (behind_key k) old item (numbers (pointer_of shown)) new
 inserts-new key cmp most growth k numbers old item (New p) None new inserts = inserts
 inserts-new key cmp most growth k numbers old item (New p) (Some before) new inserts = absurd inserts
 inserts-new key cmp most growth k numbers old item (Replacing p) None new inserts = absurd inserts
 inserts-new key cmp most growth k numbers old item (Replacing p) (Some before) new inserts = absurd inserts.place
 
 -- what an insertion behind its deadline makes of an agenda
-module _ {J : Type 0} (growth : Growth) (old new : Tree (ℕ × J)) (d : ℕ) (job : J) (p : ℕ × ℕ) (inserts : InsertsNew deadline_of nat_cmp most_jobs growth (behind_key d) old (d, job) p new) (distinct : AreDistinct old.list.entries) (holds : IsArenaOfJobs old) where
+module _ {J : Type 0} (growth : Growth) (old new : Tree (ℕ × J)) (d : ℕ) (job : J) (p : ℕ × ℕ)
+    (inserts : InsertsNew deadline_of nat_cmp most_jobs growth (behind_key d) old (d, job) p new)
+    (sound : IsSound most_jobs greatest_generation old.list) (holds : IsArenaOfJobs old) where
   pub schedules-inserted : Schedules (agenda_of old) p d job (agenda_of new)
-  schedules-inserted = schedules-put growth most_jobs old new d job p inserts.gap inserts.place.at_most_before inserts.place.greater_after inserts.inserted distinct holds
+  schedules-inserted = schedules-put growth old new d job p inserts.gap inserts.place.at_most_before inserts.place.greater_after inserts.inserted sound holds
 
   pub arena-inserted : IsArenaOfJobs new
-  arena-inserted = arena-put growth most_jobs old new d job p inserts.gap inserts.place.at_most_before inserts.place.greater_after inserts.inserted distinct holds
+  arena-inserted = arena-put growth old new d job p inserts.gap inserts.place.at_most_before inserts.place.greater_after inserts.inserted sound holds

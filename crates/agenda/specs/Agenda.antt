@@ -1,6 +1,7 @@
 -- What an agenda is: one list of jobs, each with its ticket and its deadline, in the order in which they leave.
-use Rattle.std.specs.Prelude.{◌≡◌, ℕ, ◌≤◌, ◌<◌, ◌==◌, ◌&&◌, leb, if◌then◌else◌, Bool, List, [], ◌∷◌, ◌++◌, Option, Some, None}
+use Rattle.std.specs.Prelude.{◌≡◌, ◌≢◌, ℕ, ◌≤◌, ◌<◌, ◌*◌, min, max, ◌==◌, ◌&&◌, leb, nat_lt, if◌then◌else◌, Bool, List, [], ◌∷◌, ◌++◌, length, Option, Some, None}
 use Rattle.std.specs.List.{All}
+use Rattle.std.specs.Option.{option_map}
 use Rattle.arena_base.specs.Generation.{next_generation}
 
 -- a job on the agenda: the ticket that names it, which is an index and a generation; its deadline; and the job itself
@@ -9,14 +10,20 @@ pub record Scheduled (J : Type 0) : Type 0 where
   pub deadline : ℕ
   pub job : J
 
--- An agenda: its jobs in the order in which they leave, and the generation of the next ticket.
+-- An agenda: its jobs in the order in which they leave, the generation of the next ticket, and how many jobs there is room for before it
+-- has to grow.
 pub record Agenda (J : Type 0) : Type 0 where
   pub jobs : List (Scheduled J)
   pub generation : ℕ
+  pub capacity : ℕ
 
 -- how many jobs an agenda can have
 abbrev pub most_jobs : ℕ
 most_jobs = 4294967294
+
+-- the capacity after a growth: twice as much, at least 4, and at most as many jobs as there can be
+abbrev pub grown : ℕ → ℕ
+grown capacity = min most_jobs (max 4 (2 * capacity))
 
 -- the generation after g: one more, and 2 after the greatest number of 64 bits
 abbrev pub generation_after : ℕ → ℕ
@@ -31,6 +38,10 @@ module _ {J : Type 0} where
   abbrev pub job_of : List (Scheduled J) → ℕ × ℕ → Option (ℕ × J)
   job_of [] t = None
   job_of (x ∷ xs) t = if is_named_by t x then Some (x.deadline, x.job) else job_of xs t
+
+  -- how many jobs there are
+  abbrev pub count : Agenda J → ℕ
+  count a = length a.jobs
 
   -- the jobs without the one that a ticket names
   abbrev pub without : List (Scheduled J) → ℕ × ℕ → List (Scheduled J)
@@ -66,13 +77,15 @@ module _ {J : Type 0} where
   pub record IsSound (a : Agenda J) : Type 0 where
     pub in_order : IsInOrder a.jobs
     pub distinct : IsDistinct a.jobs
+    pub within : count a ≤ a.capacity
+    pub limited : a.capacity ≤ most_jobs
 
   -- the agenda with these jobs after one has left: the generation is the next one
   abbrev pub with_left : Agenda J → List (Scheduled J) → Agenda J
-  with_left a jobs = record { jobs = jobs; generation = generation_after a.generation }
+  with_left a jobs = record a { jobs = jobs; generation = generation_after a.generation }
 
   -- A job is put on the agenda: behind every job whose deadline is at most its own, and before every other. Its ticket is new, with the
-  -- agenda's generation.
+  -- agenda's generation. The agenda grows only where there is no room.
   pub record Schedules (old : Agenda J) (ticket : ℕ × ℕ) (deadline : ℕ) (job : J) (new : Agenda J) : Type 0 where
     pub earlier : List (Scheduled J)
     pub later : List (Scheduled J)
@@ -83,3 +96,29 @@ module _ {J : Type 0} where
     pub unused : job_of old.jobs ticket ≡ None
     pub of_generation : ticket.1 ≡ old.generation
     pub generation : new.generation ≡ old.generation
+    pub capacity : new.capacity ≡ (if nat_lt (count old) old.capacity then old.capacity else grown old.capacity)
+
+  -- a ticket's job leaves and is scheduled again, at this deadline and under the ticket u
+  pub record Reschedules (old : Agenda J) (t u : ℕ × ℕ) (deadline : ℕ) (new : Agenda J) : Type 0 where
+    pub left : ℕ × J
+    pub named : job_of old.jobs t ≡ Some left
+    pub put : Schedules (with_left old (without old.jobs t)) u deadline left.1 new
+
+  -- from old to new, a ticket names this now, and every other ticket names what it named
+  pub record Updates (old new : Agenda J) (t : ℕ × ℕ) (named : Option (ℕ × J)) : Type 0 where
+    pub changed : job_of new.jobs t ≡ named
+    pub others : (u : ℕ × ℕ) → u ≢ t → job_of new.jobs u ≡ job_of old.jobs u
+
+  -- from old to new, a job with its deadline has left: the ticket that named it names nothing, and every other names what it named
+  pub record Leaves (old new : Agenda J) (left : ℕ × J) : Type 0 where
+    pub ticket : ℕ × ℕ
+    pub named : job_of old.jobs ticket ≡ Some left
+    pub updates : Updates old new ticket None
+
+  -- From old to new, the ticket u names the job of t, at this deadline; unless they are one, t names nothing more, and u named nothing
+  -- before; and every third ticket names what it named.
+  pub record Moves (old new : Agenda J) (t u : ℕ × ℕ) (deadline : ℕ) : Type 0 where
+    pub found : job_of new.jobs u ≡ option_map (λ job. (deadline, job.1)) (job_of old.jobs t)
+    pub ended : u ≢ t → job_of new.jobs t ≡ None
+    pub unused : u ≢ t → job_of old.jobs u ≡ None
+    pub others : (v : ℕ × ℕ) → v ≢ t → v ≢ u → job_of new.jobs v ≡ job_of old.jobs v

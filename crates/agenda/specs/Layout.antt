@@ -19,7 +19,7 @@ module _ {J : Type 0} where
 
   -- the agenda that an arena holds
   abbrev pub agenda_of : Tree (ℕ × J) → Agenda J
-  agenda_of a = record { jobs = map scheduled a.list.entries; generation = a.list.generation }
+  agenda_of a = record { jobs = map scheduled a.list.entries; generation = a.list.generation; capacity = a.list.capacity }
 
   -- the arena of an agenda: its jobs are in order, and no maximum is set
   pub record IsArenaOfJobs (a : Tree (ℕ × J)) : Type 0 where

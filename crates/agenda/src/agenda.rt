@@ -1,7 +1,9 @@
 //! `Agenda`: jobs by deadline.
 
-ghost use Rattle.std.specs.Prelude.{◌≡◌, ◌==◌, ◌↔◌, [], Err, None, IfOk, IfErr, OnErr, IfSome, IfNone, OnSome, is_some, length};
-ghost use Rattle.agenda.specs.Agenda.{most_jobs, job_of, without, first_deadline, first_due, behind_first, IsSound, with_left, Schedules};
+ghost use Rattle.std.specs.Prelude.{◌≡◌, ◌==◌, ◌↔◌, ◌+◌, ◌≤◌, [], Err, Some, None};
+ghost use Rattle.std.specs.Prelude.{IfOk, OnOk, IfErr, OnErr, IfSome, IfNone, OnSome, is_some};
+ghost use Rattle.agenda.specs.Agenda.{most_jobs, count, job_of, without, with_left, first_deadline, first_due, behind_first};
+ghost use Rattle.agenda.specs.Agenda.{IsSound, Schedules, Reschedules, Updates, Leaves, Moves};
 
 use crate::jobs::{Jobs, put, put_within};
 use crate::ticket::Ticket;
@@ -12,7 +14,8 @@ use triple_ord::{ReallocationError, SimpleOrdArena};
 /// Jobs with their deadlines, in the order in which they leave: by deadline, and where deadlines are equal in the order of scheduling.
 ///
 /// A deadline is a number in whatever unit the program counts its time. A job is named by the ticket that scheduling it gave. In
-/// contracts an agenda is one list of jobs, each with its ticket and its deadline, and the generation of the next ticket.
+/// contracts an agenda is one list of jobs, each with its ticket and its deadline, the generation of the next ticket, and the capacity.
+/// `len` tells what is true of every agenda: the list is in order, no ticket names two jobs, and there is room for all.
 ///
 /// The generation of tickets rises with each job that leaves or is moved, so a ticket that named one names nothing more, until after
 /// some 2 to the 64th of them the generations begin again.
@@ -42,15 +45,23 @@ impl<J, A: Allocator> Agenda<J, A> {
         A: Copy,
         ensures jobs { result.jobs ≡ [] }
         ensures generation { result.generation ≡ 2 }
+        ensures capacity { result.capacity ≡ 0 }
     {
         Agenda {
             jobs: SimpleOrdArena::new(alloc),
         }
     }
 
+    /// How many jobs there is room for before the agenda has to grow.
+    pub fn capacity(&self) -> usize
+        ensures { result ≡ self.now.capacity }
+    {
+        self.jobs.capacity()
+    }
+
     /// How many jobs there are.
     pub fn len(&self) -> usize
-        ensures value { result ≡ length self.now.jobs }
+        ensures value { result ≡ count self.now }
         ensures sound { IsSound self.now }
     {
         self.jobs.len()
@@ -58,14 +69,15 @@ impl<J, A: Allocator> Agenda<J, A> {
 
     /// Whether there is no job.
     pub fn is_empty(&self) -> bool
-        ensures { result ≡ (length self.now.jobs == 0) }
+        ensures { result ≡ (count self.now == 0) }
     {
         self.jobs.is_empty()
     }
 
     /// The deadline of the job that leaves first, in O(1).
     pub fn next_deadline(&self) -> Option<u64>
-        ensures { result ≡ first_deadline self.now.jobs }
+        ensures value { result ≡ first_deadline self.now.jobs }
+        ensures none { IfNone result (count self.now ≡ 0) }
     {
         let first = self.jobs.first()?;
         let pair = self.jobs.get(first)?;
@@ -77,6 +89,8 @@ impl<J, A: Allocator> Agenda<J, A> {
     /// For a ticket that names no job it returns `None`, and nothing changes.
     pub fn cancel(&mut self, ticket: Ticket) -> Option<(u64, J)>
         ensures value { result ≡ job_of self.old.jobs ticket }
+        ensures updates { Updates self.old self.new ticket None }
+        ensures count { OnSome result (count self.old ≡ count self.new + 1) }
         ensures gone { OnSome result (self.new ≡ with_left self.old (without self.old.jobs ticket)) }
         ensures none { IfNone result (self.new ≡ self.old) }
     {
@@ -91,6 +105,9 @@ impl<J, A: Allocator> Agenda<J, A> {
     /// Where no job is due it returns `None`, and nothing changes.
     pub fn pop_due(&mut self, now: u64) -> Option<(u64, J)>
         ensures value { result ≡ first_due now self.old.jobs }
+        ensures due { IfSome result (λ due. due.0 ≤ now) }
+        ensures leaves { IfSome result (λ due. Leaves self.old self.new due) }
+        ensures count { OnSome result (count self.old ≡ count self.new + 1) }
         ensures gone { OnSome result (self.new ≡ with_left self.old (behind_first self.old.jobs)) }
         ensures none { IfNone result (self.new ≡ self.old) }
     {
@@ -108,11 +125,17 @@ impl<J: Drop, A: Allocator> Agenda<J, A> {
     /// agenda grows.
     ///
     /// It is refused with `BeyondMaxCapacity` where there are as many jobs as tickets have indexes, 4,294,967,294, and with `AllocError`
-    /// where memory is refused to a growth. The job comes back then, and nothing else has changed.
+    /// where there is no room for one more and memory is refused to the growth. The job comes back then, and nothing else has changed.
     pub fn schedule(&mut self, deadline: u64, job: J) -> Result<Ticket, (J, ReallocationError)>
         ensures ok { IfOk result (λ ticket. Schedules self.old ticket deadline job self.new) }
+        ensures updates { IfOk result
+            (λ ticket. Updates self.old self.new ticket (Some (deadline, job))) }
+        ensures count { OnOk result (count self.new ≡ count self.old + 1) }
         ensures back { IfErr result (λ e. e.0 ≡ job) }
-        ensures full { (result ≡ Err (job, ReallocationError.BeyondMaxCapacity)) ↔ (length self.old.jobs ≡ most_jobs) }
+        ensures full { (result ≡ Err (job, ReallocationError.BeyondMaxCapacity))
+            ↔ (count self.old ≡ most_jobs) }
+        ensures memory { result ≡ Err (job, ReallocationError.AllocError)
+            → count self.old ≡ self.old.capacity }
         ensures err { OnErr result (self.new ≡ self.old) }
     {
         let pointer = put(&mut self.jobs, deadline, job)?;
@@ -125,8 +148,9 @@ impl<J: Drop, A: Allocator> Agenda<J, A> {
     /// It takes no memory. For a ticket that names no job it returns `None`, and nothing changes.
     pub fn move_to(&mut self, ticket: Ticket, deadline: u64) -> Option<Ticket>
         ensures value { is_some result ≡ is_some (job_of self.old.jobs ticket) }
-        ensures moved { IfSome result (λ new. IfSome (job_of self.old.jobs ticket) (λ job.
-            Schedules (with_left self.old (without self.old.jobs ticket)) new deadline job.1 self.new)) }
+        ensures moved { IfSome result (λ new. Reschedules self.old ticket new deadline self.new) }
+        ensures moves { IfSome result (λ new. Moves self.old self.new ticket new deadline) }
+        ensures count { count self.new ≡ count self.old }
         ensures none { IfNone result (self.new ≡ self.old) }
     {
         // with its length an arena tells what holds of its list

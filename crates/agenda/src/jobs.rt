@@ -27,6 +27,8 @@ pub(crate) fn put<J: Drop, A: Allocator>(
     ensures back { IfErr result (λ e. e.0 ≡ job) }
     ensures full { (result ≡ Err (job, ReallocationError.BeyondMaxCapacity))
         ↔ (length jobs.old.list.entries ≡ chain_limit most_jobs jobs.old.list) }
+    ensures memory { result ≡ Err (job, ReallocationError.AllocError)
+        → length jobs.old.list.entries ≡ jobs.old.list.capacity }
     ensures err { OnErr result (jobs.new ≡ jobs.old) }
     ensures sound { IsSound most_jobs greatest_generation jobs.old.list }
 {

@@ -1,14 +1,12 @@
 -- Pointers that ended stay so: how generations go along a run.
-use Rattle.std.proofs.Common.{◌≡◌, ◌≢◌, ℕ, ◌+◌, ◌<◌, ◌≤◌, ◌⊎◌, inl, inr, Bool, true, false, List, [], ◌∷◌, ◌++◌, length, map, take, max, Option, Some, None, IsSome, is_some, slice_get, refl, sym, ap, subst, ◌∙◌, arith, if◌then◌else◌}
-use Rattle.std.proofs.lemmas.Grind.{common_steps}
+use Rattle.std.proofs.Common.{◌≡◌, ◌≢◌, ℕ, ◌+◌, ◌<◌, ◌≤◌, ◌⊎◌, inl, inr, Bool, true, false, List, [], ◌∷◌, ◌++◌, length, map, take, Option, Some, None, IsSome, is_some, slice_get, refl, sym, ap, ◌∙◌, arith, if◌then◌else◌}
 use Rattle.std.proofs.lemmas.Bool.Decides.{eqb_tells}
 use Rattle.std.proofs.lemmas.List.{length-map}
 use Rattle.std.specs.List.{AllByRecursion}
 use Rattle.std.specs.Option.{ForSome, option_map}
-use Rattle.arena_base.specs.Arena.{item_if}
 use Rattle.arena_base.specs.Generation.{next_generation}
 use Rattle.arena_base.specs.declared.invalidation.InvalidationResult.TheVariants.{Success, GenerationOverflow, InvalidPtr}
-use Rattle.chain_base.specs.Chain.{Entry, Chain, renewed, cleared, raised, times, next_index, with_capacity, grown_capacity, IsSound, IsDistinct, entry_at, item_of, removed, without, with_item_among, with_generation, inserted_at}
+use Rattle.chain_base.specs.Chain.{Entry, Chain, renewed, cleared, raised, times, next_index, with_capacity, grown_capacity, IsSound, IsDistinct, entry_at, item_of, removed, with_item_among, with_generation, inserted_at}
 use Rattle.chain_base.specs.Compression.{relocated, canonical}
 use Rattle.chain_base.specs.Insert.{IsInsertion}
 use Rattle.chain_base.proofs.CallerLemmas.{entry_at-absent, entry_at-without, entry_at-without_other, entry_at-with_item_among, entry_at-with_item_among_other, entry_at-with_generation, entry_at-with_generation_other, entry_at-between, entry_at-between_other, generation-relocated, generation-numbered}
@@ -16,7 +14,7 @@ use Rattle.ord_tree.specs.Shape.{missing}
 use Rattle.ord_tree.specs.Tree.{Tree}
 use Rattle.triple_ord.specs.ClosureSearch.{Shown}
 use Rattle.triple_ord.specs.Gap.{Gap, with_between}
-use Rattle.triple_ord.specs.Insertion.{Growth, within, reallocating, with_slot, InsertsBy}
+use Rattle.triple_ord.specs.Insertion.{Growth, within, reallocating, with_slot}
 use Rattle.triple_ord.specs.Place.{Aim, at_key, aim_of}
 use Rattle.triple_ord.specs.declared.entry_kind.OrdEntryKind.TheVariants.{New, Replacing}
 use Rattle.triple_ord.specs.declared.error.OrdInsertionError.TheVariants.{BeyondMaxCapacity, AllocError}
@@ -46,7 +44,7 @@ pub record IsSpent {T : Type 0} (c : Chain T) (p : ℕ × ℕ) : Type 0 where
 
 module _ {T : Type 0} where
   -- what a pointer finds is at its index, with its generation
-  found-there : (es : List (Entry T)) (p : ℕ × ℕ) → IsSome (item_of es p) → (x : T) × (entry_at es p.0 ≡ Some (p.1, x))
+  pub found-there : (es : List (Entry T)) (p : ℕ × ℕ) → IsSome (item_of es p) → (x : T) × (entry_at es p.0 ≡ Some (p.1, x))
   found-there es p there = go (entry_at es p.0) refl
     where
       go : (o : Option (ℕ × T)) → entry_at es p.0 ≡ o → (x : T) × (entry_at es p.0 ≡ Some (p.1, x))
@@ -56,7 +54,7 @@ module _ {T : Type 0} where
         | inr h ↦ absurd (let none : item_of es p ≡ None = rw (is, h.0) refl in cc)
       ]
 
-  there-found : (es : List (Entry T)) (p : ℕ × ℕ) (x : T) → entry_at es p.0 ≡ Some (p.1, x) → item_of es p ≡ Some x
+  pub there-found : (es : List (Entry T)) (p : ℕ × ℕ) (x : T) → entry_at es p.0 ≡ Some (p.1, x) → item_of es p ≡ Some x
   there-found es p x is = elim (eqb_tells p.1 p.1) [
     | inl h ↦ rw (is, h.0) refl
     | inr h ↦ absurd (h.1 refl)
@@ -200,10 +198,10 @@ module _ {T : Type 0} where
         go [] next es gs = absurd (cc)
         go (j ∷ rest) next es gs = let here : j ≡ i = cc in (es ∙ ap (λ k. gap.front ++ record { index = k; generation = room.generation; item = item } ∷ gap.back) here, gs)
 
-    unused : times i (gap.front ++ gap.back) ≡ 0
+    pub unused : times i (gap.front ++ gap.back) ≡ 0
     unused = ap (times i) (sym gap.cut) ∙ ap (times i) (sym roomy) ∙ inserted.vacant.free
 
-    elsewhere : (j : ℕ) → j ≢ i → entry_at new.entries j ≡ entry_at old.entries j
+    pub elsewhere : (j : ℕ) → j ≢ i → entry_at new.entries j ≡ entry_at old.entries j
     elsewhere j other = ap (λ es. entry_at es j) after-insertion.0 ∙ entry_at-between_other gap.front new_entry gap.back j other ∙ ap (λ es. entry_at es j) (sym gap.cut)
 
     goes-inserted : Goes old 0 new
@@ -226,7 +224,7 @@ module _ {T : Type 0} where
         ]
 
   -- an arena that may grow for a new entry
-  generation-with_slot : (growth : Growth) (most : ℕ) (c : Chain T) → (with_slot growth most c).generation ≡ c.generation
+  pub generation-with_slot : (growth : Growth) (most : ℕ) (c : Chain T) → (with_slot growth most c).generation ≡ c.generation
   generation-with_slot within most c = refl
   generation-with_slot reallocating most c = go (is_some (next_index c))
     where

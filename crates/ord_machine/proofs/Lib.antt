@@ -9,4 +9,5 @@ pub mod Bounded
 pub mod Runs
 pub mod FirstRank
 pub mod Ended
+pub mod Kept
 pub mod Ascending

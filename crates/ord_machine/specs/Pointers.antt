@@ -1,5 +1,5 @@
 -- What pointers name along a run: that an entry keeps its pointer while others come and go, and that a pointer which ended stays so.
-use Rattle.std.specs.Prelude.{◌≡◌, ◌≢◌, ℕ, ◌+◌, ◌≤◌, Bool, true, false, List, [], ◌∷◌, length, Option, Some, None, IsSome}
+use Rattle.std.specs.Prelude.{◌≡◌, ◌≢◌, ℕ, ◌+◌, ◌≤◌, Bool, false, List, ◌∷◌, length, Some, None, IsSome}
 use Rattle.std.specs.List.{AllByRecursion}
 use Rattle.std.specs.Option.{ForSome}
 use Rattle.arena_base.specs.declared.invalidation.InvalidationResult.TheVariants.{Success, GenerationOverflow}
@@ -68,3 +68,38 @@ EndedPointerLaw P T I G A K {F} asks =
     → s0.tree.list.generation + k + l + m ≤ greatest
     → (p : ℕ × ℕ) → IsSome (item_of s1.tree.list.entries p) → item_of s2.tree.list.entries p ≡ None
     → item_of s3.tree.list.entries p ≡ None
+
+module _ {P T I G A K : Type 0} (r : Reading P T I G K) (p : ℕ × ℕ) where
+  -- an insertion that replaces no item, or that of an entry with another pointer
+  abbrev pub ReplacesAnother : Reply P T A I G → Type 0
+  ReplacesAnother (Inserted (Replacing q) before) = r.pointer q ≢ p
+  ReplacesAnother reply = Unit {0}
+
+  -- a command, with its reply, that is to other entries than that of the pointer: it writes, takes out and renews none or another,
+  -- and it doesn't take all out or give all another pointer
+  abbrev pub IsOfOthers : Command P T I G K → Reply P T A I G → Type 0
+  IsOfOthers (commands.Insert item) reply = ReplacesAnother reply
+  IsOfOthers (commands.InsertWithin item) reply = ReplacesAnother reply
+  IsOfOthers (commands.Entry kind item) reply = ReplacesAnother reply
+  IsOfOthers (commands.EntryWithin kind item) reply = ReplacesAnother reply
+  IsOfOthers (commands.Set q item) reply = r.pointer q ≢ p
+  IsOfOthers (commands.Remove q) reply = r.pointer q ≢ p
+  IsOfOthers (commands.RemoveInx i) reply = r.index i ≢ p.0
+  IsOfOthers (commands.Invalidate q) reply = r.pointer q ≢ p
+  IsOfOthers commands.Clear reply = ⊥
+  IsOfOthers (commands.Compress reset) reply = ⊥
+  IsOfOthers (commands.Canonical reset) reply = ⊥
+  IsOfOthers (commands.DrainOrdered num) reply = ⊥
+  IsOfOthers command reply = Unit {0}
+
+  -- and all of them
+  abbrev pub AreOfOthers : List (Command P T I G K) → List (Reply P T A I G) → Type 0
+  AreOfOthers (command ∷ commands) (reply ∷ replies) = IsOfOthers command reply × AreOfOthers commands replies
+  AreOfOthers commands replies = Unit {0}
+
+-- A pointer that names an entry names the same item after any run of commands to other entries.
+abbrev pub KeptPointerLaw : (P T I G A K : Type 0) {F : Type 0} → (F → Shown T → F → Type 0) → Type 0
+KeptPointerLaw P T I G A K {F} asks =
+    (r : Reading P T I G K) (old new : State T) (f g : F) (asked : List (Command P T I G K)) (told : List (Reply P T A I G)) (p : ℕ × ℕ)
+    → IsSound r.most r.greatest old.tree.list → AreOfOthers r p asked told → Runs r asks old f asked told new g
+    → IsSome (item_of old.tree.list.entries p) → item_of new.tree.list.entries p ≡ item_of old.tree.list.entries p

@@ -3,7 +3,7 @@
 ghost use Rattle.triple_ord.specs.ClosureSearch.{Asks};
 ghost use Rattle.ord_machine.specs.Ascending.{AscendingKeysLaw};
 ghost use Rattle.ord_machine.specs.Laws.{FirstRankLaw};
-ghost use Rattle.ord_machine.specs.Pointers.{EndedPointerLaw};
+ghost use Rattle.ord_machine.specs.Pointers.{EndedPointerLaw, KeptPointerLaw};
 
 use arena_base::Ptr;
 use std::alloc::Allocator;
@@ -13,6 +13,12 @@ use triple_ord::SimpleOrdItem;
 /// An insertion where there is no entry, and then `ranks`: the ranks are 1 and nothing else, unless something is refused.
 pub fn first_rank_law<P: Ptr, T: SimpleOrdItem, F: FnMut(P, &T) -> Ordering, A: Allocator>()
     ensures { FirstRankLaw P T P.Inx P.Gen A T.Key (Asks P.numbers F.step) }
+{}
+
+/// A pointer names the same item through every insertion, replacement, removal and renewal of other entries, and through all that only
+/// asks or changes the capacity or the generation: only a call to its own entry, or to all entries, ends or renews it.
+pub fn kept_pointer_law<P: Ptr, T: SimpleOrdItem, F: FnMut(P, &T) -> Ordering, A: Allocator>()
+    ensures { KeptPointerLaw P T P.Inx P.Gen A T.Key (Asks P.numbers F.step) }
 {}
 
 /// A pointer that ceased to name an entry names none ever again, as long as no entry's generation is above the arena's at the

@@ -110,18 +110,17 @@ fn replaces_the_first(rt: &impl Abort, alloc: Global, beside: &mut Beside) -> Re
     Ok(())
 }
 
-/// The same from each hint.
+/// The same from each hint, and from some that name no entry.
 fn replaces_the_first_from_hints(
     rt: &impl Abort,
     alloc: Global,
     counts: [usize; 3],
 ) -> Result<(), Fail> {
-    let total = counts[0].wrapping_add(counts[1]).wrapping_add(counts[2]);
-    for i in 0..total {
+    for p_init in 0u32..12 {
         let mut beside = group(alloc, counts)?;
         let wanted = first_mark(beside.pairs.as_slice(), 5);
         let kind = OrdInsertKind::Linear {
-            p_init: i.wrapping_add(1) as u32,
+            p_init,
             num: 2,
             k: &5,
         };
@@ -132,13 +131,12 @@ fn replaces_the_first_from_hints(
     Ok(())
 }
 
-/// An insertion from each hint goes behind the last of its group.
+/// An insertion from each of these hints goes behind the last of its group.
 fn goes_behind_from_hints(rt: &impl Abort, alloc: Global, counts: [usize; 3]) -> Result<(), Fail> {
-    let total = counts[0].wrapping_add(counts[1]).wrapping_add(counts[2]);
-    for i in 0..total {
+    for p_init in 0u32..12 {
         let mut beside = group(alloc, counts)?;
         let kind = OrdInsertKind::NonhereditaryLinear {
-            p_init: i.wrapping_add(1) as u32,
+            p_init,
             num: 2,
             k: &5,
         };

@@ -135,6 +135,44 @@ fn removals_begin_the_generations_again(rt: HostRuntime) -> Result<(), Fail> {
     Ok(())
 }
 
+/// Inserts a key and removes its entry again. Returns the pointer that ended, and whether the generations begin again.
+fn end_one(
+    a: &mut SimpleOrdArena<P8, OrdPair<u64, ()>>,
+    key: u64,
+) -> Result<(P8, bool), OrdInsertionError> {
+    let (p, _) = a.insert(OrdPair::new(key, ()))?;
+    let taken = a.remove(p);
+    Ok((
+        p,
+        matches!(taken, InvalidationResult::GenerationOverflow(_)),
+    ))
+}
+
+/// The first pointer names an entry, and none of the others does.
+fn have_ended(rt: &impl Abort, a: &SimpleOrdArena<P8, OrdPair<u64, ()>>, kept: P8, ended: &[P8]) {
+    assert!(rt; a.contains(kept));
+    for p in ended {
+        assert!(rt; !a.contains(*p));
+    }
+}
+
+#[test]
+fn ended_pointers_stay_so_up_to_the_overflow(rt: HostRuntime) -> Result<(), Fail> {
+    let mut a: SimpleOrdArena<P8, OrdPair<u64, ()>> = SimpleOrdArena::new(rt.alloc());
+    let (kept, _) = a.insert(OrdPair::new(0, ()))?;
+    let mut ended = Vec::new(rt.alloc());
+    for n in 1u64..255 {
+        let (p, begins_again) = end_one(&mut a, n)?;
+        assert!(rt; begins_again == (n == 254));
+        ended.push(p)?;
+        have_ended(&rt, &a, kept, ended.as_slice());
+    }
+    // the next entry has the index and the generation of the first that ended
+    let (again, _) = a.insert(OrdPair::new(1, ()))?;
+    assert!(rt; ended.first() == Some(&again));
+    Ok(())
+}
+
 #[test]
 fn generations_of_eight_bits_begin_again(rt: HostRuntime) {
     let mut a: SimpleOrdArena<P8, OrdPair<u64, ()>> = SimpleOrdArena::new(rt.alloc());

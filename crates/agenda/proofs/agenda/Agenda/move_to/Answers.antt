@@ -1,7 +1,6 @@
 use Rattle.std.proofs.Common.{◌∙◌, sym, ap, is_some}
-use Rattle.triple_ord.specs.Insertion.{within}
-use Rattle.agenda.proofs.Leaving.{job_of-found, agenda-removed, arena-removed}
-use Rattle.agenda.proofs.Putting.{schedules-inserted, arena-inserted}
+use Rattle.agenda.proofs.Leaving.{job_of-found}
+use Rattle.agenda.proofs.Moving.{arena-moved, rescheduled, moves-moved, count-moved}
 use Rattle.agenda.proofs.agenda.Agenda.move_to.Goals as goal
 
 pub returns-in_err-moved-clause-value : goal.returns-in_err-moved-clause-value
@@ -12,8 +11,9 @@ returns-in_err-moved-clause-value g c =
 pub invariant_of-self-2 : goal.invariant_of-self-2
 invariant_of-self-2 g c =
     let some = sym c.allow.ensures ∙ c.in_ok-moved.was in
-    let left = arena-removed c.self.inside.jobs c.remove.new.self c.ticket.inside.pointer c.len.ensures.sound.distinct (ap is_some (sym c.remove.ensures.value ∙ some)) (rw some at c.remove.ensures.removed) c.self.invariant in
-    arena-inserted within c.remove.new.self c.put_within-pointer.new.jobs c.args.deadline c.into_k_v-job.result.1 c.put_within-pointer.result c.put_within-pointer.ensures.inserted c.put_within-pointer.ensures.sound.distinct left
+    arena-moved c.self.inside.jobs c.remove.new.self c.put_within-pointer.new.jobs c.ticket.inside.pointer c.put_within-pointer.result c.args.deadline c.in_ok-moved.moved
+    c.len.ensures.sound c.self.invariant (sym c.remove.ensures.value ∙ some) (rw some at c.remove.ensures.removed) c.put_within-pointer.ensures.sound
+    (rw c.into_k_v-job.ensures at c.put_within-pointer.ensures.inserted)
 
 pub returns-clause-value : goal.returns-clause-value
 returns-clause-value g c =
@@ -23,10 +23,20 @@ returns-clause-value g c =
 pub returns-clause-moved : goal.returns-clause-moved
 returns-clause-moved g c =
     let some = sym c.allow.ensures ∙ c.in_ok-moved.was in
-    let there = ap is_some (sym c.remove.ensures.value ∙ some) in
-    let removed = rw some at c.remove.ensures.removed in
-    let left = arena-removed c.self.inside.jobs c.remove.new.self c.ticket.inside.pointer c.len.ensures.sound.distinct there removed c.self.invariant in
-    let put = schedules-inserted within c.remove.new.self c.put_within-pointer.new.jobs c.args.deadline c.into_k_v-job.result.1 c.put_within-pointer.result c.put_within-pointer.ensures.inserted c.put_within-pointer.ensures.sound.distinct left in
-    let gone = agenda-removed c.self.inside.jobs c.remove.new.self c.ticket.inside.pointer c.len.ensures.sound.distinct there removed in
-    let named = job_of-found _ c.len.ensures.sound.distinct c.ticket.inside.pointer ∙ sym c.remove.ensures.value ∙ some in
-    rw (← c.self.view_is, ← c.ticket.view_is, named, ← gone) (rw c.into_k_v-job.ensures at put)
+    rw (← c.self.view_is, ← c.ticket.view_is) (rescheduled c.self.inside.jobs c.remove.new.self c.put_within-pointer.new.jobs c.ticket.inside.pointer c.put_within-pointer.result c.args.deadline c.in_ok-moved.moved
+    c.len.ensures.sound c.self.invariant (sym c.remove.ensures.value ∙ some) (rw some at c.remove.ensures.removed) c.put_within-pointer.ensures.sound
+    (rw c.into_k_v-job.ensures at c.put_within-pointer.ensures.inserted))
+
+pub returns-clause-moves : goal.returns-clause-moves
+returns-clause-moves g c =
+    let some = sym c.allow.ensures ∙ c.in_ok-moved.was in
+    rw (← c.self.view_is, ← c.ticket.view_is) (moves-moved c.self.inside.jobs c.remove.new.self c.put_within-pointer.new.jobs c.ticket.inside.pointer c.put_within-pointer.result c.args.deadline c.in_ok-moved.moved
+    c.len.ensures.sound c.self.invariant (sym c.remove.ensures.value ∙ some) (rw some at c.remove.ensures.removed) c.put_within-pointer.ensures.sound
+    (rw c.into_k_v-job.ensures at c.put_within-pointer.ensures.inserted))
+
+pub returns-clause-count : goal.returns-clause-count
+returns-clause-count g c =
+    let some = sym c.allow.ensures ∙ c.in_ok-moved.was in
+    rw (← c.self.view_is) (count-moved c.self.inside.jobs c.remove.new.self c.put_within-pointer.new.jobs c.ticket.inside.pointer c.put_within-pointer.result c.args.deadline c.in_ok-moved.moved
+    c.len.ensures.sound c.self.invariant (sym c.remove.ensures.value ∙ some) (rw some at c.remove.ensures.removed) c.put_within-pointer.ensures.sound
+    (rw c.into_k_v-job.ensures at c.put_within-pointer.ensures.inserted))

@@ -1,11 +1,22 @@
 use Rattle.triple_ord.specs.Insertion.{reallocating}
+use Rattle.agenda.proofs.Naming.{updates-scheduled, count-scheduled}
 use Rattle.agenda.proofs.Putting.{schedules-inserted, arena-inserted}
 use Rattle.agenda.proofs.agenda.Agenda.schedule.Goals as goal
 
 pub invariant_of-self-2 : goal.invariant_of-self-2
 invariant_of-self-2 g c =
-    arena-inserted reallocating c.self.inside.jobs c.put.new.jobs c.args.deadline c.args.job c.in_ok-pointer.pointer c.in_ok-pointer.ensures.ok c.put.ensures.sound.distinct c.self.invariant
+    arena-inserted reallocating c.self.inside.jobs c.put.new.jobs c.args.deadline c.args.job c.in_ok-pointer.pointer c.in_ok-pointer.ensures.ok c.put.ensures.sound c.self.invariant
 
 pub returns-clause-ok : goal.returns-clause-ok
 returns-clause-ok g c =
-    rw (← c.self.view_is) (schedules-inserted reallocating c.self.inside.jobs c.put.new.jobs c.args.deadline c.args.job c.in_ok-pointer.pointer c.in_ok-pointer.ensures.ok c.put.ensures.sound.distinct c.self.invariant)
+    rw (← c.self.view_is) (schedules-inserted reallocating c.self.inside.jobs c.put.new.jobs c.args.deadline c.args.job c.in_ok-pointer.pointer c.in_ok-pointer.ensures.ok c.put.ensures.sound c.self.invariant)
+
+pub returns-clause-updates : goal.returns-clause-updates
+returns-clause-updates g c =
+    let put = schedules-inserted reallocating c.self.inside.jobs c.put.new.jobs c.args.deadline c.args.job c.in_ok-pointer.pointer c.in_ok-pointer.ensures.ok c.put.ensures.sound c.self.invariant in
+    rw (← c.self.view_is) (updates-scheduled _ _ _ _ _ put)
+
+pub returns-clause-count : goal.returns-clause-count
+returns-clause-count g c =
+    let put = schedules-inserted reallocating c.self.inside.jobs c.put.new.jobs c.args.deadline c.args.job c.in_ok-pointer.pointer c.in_ok-pointer.ensures.ok c.put.ensures.sound c.self.invariant in
+    rw (← c.self.view_is) (count-scheduled _ _ _ _ _ put)

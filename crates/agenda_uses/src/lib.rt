@@ -1,0 +1,4 @@
+//! Uses of `agenda`, as a caller writes them: each with the clauses that its user wants, proved from the contracts alone.
+#![tactic(auto)]
+
+pub mod reminders;

@@ -1,0 +1,86 @@
+//! Reminders: notes by the time at which they are to be shown.
+
+ghost use Rattle.std.specs.Prelude.{◌≡◌, ◌≢◌, ◌+◌, ◌-◌, ◌≤◌, ℕ};
+ghost use Rattle.std.specs.Prelude.{Some, None, IfOk, OnOk, IfErr, OnErr, IfSome, IfNone, OnSome, is_some};
+ghost use Rattle.std.specs.Option.{option_map};
+ghost use Rattle.agenda.specs.Agenda.{job_of, count, first_deadline};
+
+use agenda::{Agenda, Ticket};
+
+/// Notes by time.
+pub type Reminders = Agenda<String>;
+
+/// Puts a note down for a time. One that is refused comes back.
+pub fn remind(reminders: &mut Reminders, time: u64, note: String) -> Result<Ticket, String>
+    ensures names { IfOk result (λ ticket. job_of reminders.new.jobs ticket ≡ Some (time, note)) }
+    ensures others { IfOk result (λ ticket. (t : ℕ × ℕ) → t ≢ ticket
+        → job_of reminders.new.jobs t ≡ job_of reminders.old.jobs t) }
+    ensures unused { IfOk result (λ ticket. job_of reminders.old.jobs ticket ≡ None) }
+    ensures count { OnOk result (count reminders.new ≡ count reminders.old + 1) }
+    ensures back { IfErr result (λ refused. refused ≡ note) }
+    ensures refused { OnErr result (reminders.new ≡ reminders.old) }
+{
+    match reminders.schedule(time, note) {
+        Ok(ticket) => Ok(ticket),
+        Err((note, _)) => Err(note),
+    }
+}
+
+/// Takes a note off again. `None` where the ticket names none.
+pub fn forget(reminders: &mut Reminders, ticket: Ticket) -> Option<String>
+    ensures note { result ≡ option_map (λ reminder. reminder.1) (job_of reminders.old.jobs ticket) }
+    ensures gone { job_of reminders.new.jobs ticket ≡ None }
+    ensures others { (t : ℕ × ℕ) → t ≢ ticket
+        → job_of reminders.new.jobs t ≡ job_of reminders.old.jobs t }
+    ensures count { OnSome result (count reminders.old ≡ count reminders.new + 1) }
+    ensures none { IfNone result (reminders.new ≡ reminders.old) }
+{
+    let (_, note) = reminders.cancel(ticket)?;
+    Some(note)
+}
+
+/// Puts a note down and takes it off again: it comes back with its time. `None` where it was refused.
+pub fn try_out(reminders: &mut Reminders, time: u64, note: String) -> Option<(u64, String)>
+    ensures back { IfSome result (λ reminder. reminder ≡ (time, note)) }
+    ensures count { count reminders.new ≡ count reminders.old }
+    ensures refused { IfNone result (reminders.new ≡ reminders.old) }
+{
+    let ticket = reminders.schedule(time, note).ok()?;
+    reminders.cancel(ticket)
+}
+
+/// Puts a note off to another time, and returns its new ticket. `None` where the ticket names none.
+pub fn put_off(reminders: &mut Reminders, ticket: Ticket, time: u64) -> Option<Ticket>
+    ensures named { is_some result ≡ is_some (job_of reminders.old.jobs ticket) }
+    ensures names { IfSome result (λ later. job_of reminders.new.jobs later
+        ≡ option_map (λ reminder. (time, reminder.1)) (job_of reminders.old.jobs ticket)) }
+    ensures ended { IfSome result (λ later. later ≢ ticket
+        → job_of reminders.new.jobs ticket ≡ None) }
+    ensures others { IfSome result (λ later. (t : ℕ × ℕ) → t ≢ ticket → t ≢ later
+        → job_of reminders.new.jobs t ≡ job_of reminders.old.jobs t) }
+    ensures count { count reminders.new ≡ count reminders.old }
+    ensures none { IfNone result (reminders.new ≡ reminders.old) }
+{
+    reminders.move_to(ticket, time)
+}
+
+/// Takes off the note that is to be shown now, if there is one: its time has come.
+pub fn next_due(reminders: &mut Reminders, now: u64) -> Option<(u64, String)>
+    ensures due { IfSome result (λ reminder. reminder.0 ≤ now) }
+    ensures gone { IfSome result (λ reminder. (ticket : ℕ × ℕ)
+        × (job_of reminders.old.jobs ticket ≡ Some reminder)
+        × (job_of reminders.new.jobs ticket ≡ None)) }
+    ensures count { OnSome result (count reminders.old ≡ count reminders.new + 1) }
+    ensures none { IfNone result (reminders.new ≡ reminders.old) }
+{
+    reminders.pop_due(now)
+}
+
+/// How long no note is to be shown: 0 where one is due, and `None` where there is none.
+pub fn idle_for(reminders: &Reminders, now: u64) -> Option<u64>
+    ensures wait { result ≡ option_map (λ time. time - now) (first_deadline reminders.now.jobs) }
+    ensures none { IfNone result (count reminders.now ≡ 0) }
+{
+    let time = reminders.next_deadline()?;
+    Some(time.saturating_sub(now))
+}

@@ -1,0 +1,38 @@
+-- What a timeline is: the value that holds at each time, told by the times at which it changes.
+use Rattle.std.specs.Prelude.{◌≡◌, ◌≢◌, ℕ, ◌<◌, ◌≤◌, ◌⊎◌, leb, if◌then◌else◌, List, [], ◌∷◌, Option, None}
+use Rattle.std.specs.List.{AllByRecursion}
+
+-- a change: from this time on the value is this one, or there is none
+pub record Change (V : Type 0) : Type 0 where
+  pub time : ℕ
+  pub value : Option V
+
+module _ {V : Type 0} where
+  -- the value at a time, where `held` is the one before these changes: that of the last change at or before the time
+  abbrev pub value_after : Option V → List (Change V) → ℕ → Option V
+  value_after held [] t = held
+  value_after held (c ∷ cs) t = if leb c.time t then value_after c.value cs t else held
+
+  -- the value at a time; before the first change there is none
+  abbrev pub value_at : List (Change V) → ℕ → Option V
+  value_at cs t = value_after None cs t
+
+  -- each change is later than those before it
+  abbrev pub IsRising : List (Change V) → Type 0
+  IsRising [] = Unit {0}
+  IsRising (c ∷ cs) = AllByRecursion (λ d. c.time < d.time) cs × IsRising cs
+
+  -- each change brings another value than the one before it, which is `held` before the first
+  abbrev pub IsJoinedAfter : Option V → List (Change V) → Type 0
+  IsJoinedAfter held [] = Unit {0}
+  IsJoinedAfter held (c ∷ cs) = (c.value ≢ held) × IsJoinedAfter c.value cs
+
+  -- what is true of every timeline: no two changes have one time, and no two neighbours have equal values
+  pub record IsTimeline (cs : List (Change V)) : Type 0 where
+    pub rising : IsRising cs
+    pub joined : IsJoinedAfter None cs
+
+  -- from one time until before another the value is this one, or none, and at every other time it is what it was
+  pub record IsSet (old : List (Change V)) (from until : ℕ) (value : Option V) (new : List (Change V)) : Type 0 where
+    pub within : (t : ℕ) → from ≤ t → t < until → value_at new t ≡ value
+    pub outside : (t : ℕ) → (t < from) ⊎ (until ≤ t) → value_at new t ≡ value_at old t

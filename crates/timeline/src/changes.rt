@@ -1,0 +1,145 @@
+//! The arena of a timeline: its changes by their times.
+
+ghost use Rattle.std.specs.Prelude.{◌≡◌, ◌≢◌, ◌≤◌, ◌<◌, ◌+◌, ◌++◌, ◌∷◌, ◌↔◌, ℕ, List, Some, None, Err, IsTrue, false, IfSome, OnOk, OnErr, length};
+ghost use Rattle.std.specs.List.{AllByRecursion};
+ghost use Rattle.chain_base.specs.Chain.{link_at};
+ghost use Rattle.timeline.specs.Timeline.{Change, IsRising, value_at};
+ghost use Rattle.timeline.specs.Layout.{most_changes, changes_of, earlier, later, IsLastUntil, IsTakenOut, IsChanged, KeepsRoom};
+
+use crate::value::{TimelineValue, is_same};
+use std::alloc::Allocator;
+use std::cmp::Ordering;
+use triple_ord::{OrdPair, P0, Ptr, ReallocationError, SimpleOrdArena};
+
+/// Changes by time, each with the value that holds from then on, or none.
+pub(crate) type Changes<V, A> = SimpleOrdArena<P0, OrdPair<u64, Option<V>>, A>;
+
+/// How many changes there can be: so many indexes pointers have.
+const MOST_CHANGES: usize = 4_294_967_294;
+
+// The index of the last change at or before a time, by what a search for the time returned: that of the entry itself, or where the
+// time is less that of the one before it.
+fn index_until<V: Copy, A: Allocator>(
+    changes: &Changes<V, A>,
+    p: P0,
+    order: Ordering,
+) -> Option<u32>
+    ensures before { order ≡ Ordering.Less
+        → IfSome (link_at changes.now.list.entries p.0) (λ l. result ≡ l.1.prev) }
+    ensures here { order ≢ Ordering.Less → result ≡ Some p.0 }
+{
+    match order {
+        Ordering::Less => {
+            let (_, link) = changes.get_inx_link_no_gen(p.inx())?;
+            link.prev()
+        }
+        _ => Some(p.inx()),
+    }
+}
+
+/// Index, time and value of the last change at or before a time.
+pub(crate) fn last_until<V: Copy, A: Allocator>(
+    changes: &Changes<V, A>,
+    time: u64,
+) -> Option<(u32, u64, Option<V>)>
+    requires { IsRising (changes_of changes.now) }
+    ensures { IsLastUntil changes.now.list.entries time result }
+{
+    // with its length an arena tells what holds of its list
+    let _ = changes.len();
+    let (p, order) = changes.find_similar_key(&time)?;
+    let i = index_until(changes, p, order)?;
+    let (_, pair) = changes.get_inx(i)?;
+    Some((i, *pair.k(), *pair.v()))
+}
+
+/// The value that holds at a time.
+pub(crate) fn held_at<V: Copy, A: Allocator>(changes: &Changes<V, A>, time: u64) -> Option<V>
+    requires { IsRising (changes_of changes.now) }
+    ensures { result ≡ value_at (changes_of changes.now) time }
+{
+    let (_, _, value) = last_until(changes, time)?;
+    value
+}
+
+/// Makes room for two more changes, in O(n) where the arena grows.
+///
+/// It is refused with `BeyondMaxCapacity` where two more would be more than there can be, and with `AllocError` where memory is
+/// refused; then nothing has changed.
+pub(crate) fn make_room<V: Copy, A: Allocator>(
+    changes: &mut Changes<V, A>,
+) -> Result<(), ReallocationError>
+    requires { changes.old.list.maximum ≡ None }
+    ensures kept { changes_of changes.new ≡ changes_of changes.old }
+    ensures unlimited { changes.new.list.maximum ≡ None }
+    ensures room { OnOk result (length changes.new.list.entries + 2 ≤ changes.new.list.capacity) }
+    ensures full { (result ≡ Err ReallocationError.BeyondMaxCapacity)
+        ↔ (most_changes < length (changes_of changes.old) + 2) }
+    ensures err { OnErr result (changes.new ≡ changes.old) }
+{
+    let needed = changes.len() + 2;
+    if needed > MOST_CHANGES {
+        return Err(ReallocationError::BeyondMaxCapacity);
+    }
+    if needed <= changes.capacity() {
+        return Ok(());
+    }
+    let doubled = (changes.capacity() * 2).min(MOST_CHANGES);
+    changes.reallocate_min_capacity(needed.max(doubled))
+}
+
+// Takes out the last change at or before one time, where it is at or after another. Tells whether there was one.
+fn take_last<V: Copy, A: Allocator>(changes: &mut Changes<V, A>, from: u64, until: u64) -> bool
+    requires { IsRising (changes_of changes.old) × (from ≤ until) }
+    ensures taken { IsTrue result
+        → IsTakenOut (changes_of changes.old) from until (changes_of changes.new) }
+    ensures left { result ≡ false → (changes.new ≡ changes.old) × (changes_of changes.new
+        ≡ earlier from (changes_of changes.new) ++ later until (changes_of changes.new)) }
+    ensures room { KeepsRoom changes.old changes.new }
+{
+    // with its length an arena tells what holds of its list
+    let _ = changes.len();
+    match last_until(changes, until) {
+        Some((i, time, _)) if time >= from => {
+            let _ = changes.remove_inx(i);
+            true
+        }
+        _ => false,
+    }
+}
+
+/// Takes out all changes from one time until another, both included.
+pub(crate) fn take_all<V: Copy, A: Allocator>(changes: &mut Changes<V, A>, from: u64, until: u64)
+    requires { IsRising (changes_of changes.old) × (from ≤ until) }
+    ensures left { changes_of changes.new
+        ≡ earlier from (changes_of changes.old) ++ later until (changes_of changes.old) }
+    ensures room { KeepsRoom changes.old changes.new }
+{
+    while take_last(changes, from, until) {}
+}
+
+/// Makes the value another one from a time on, at which there is no change yet.
+pub(crate) fn change_at<V: TimelineValue, A: Allocator>(
+    changes: &mut Changes<V, A>,
+    time: u64,
+    value: Option<V>,
+)
+    requires rising { IsRising (changes_of changes.old) }
+    requires unmet { AllByRecursion (λ c. c.time ≢ time) (changes_of changes.old) }
+    requires room { length changes.old.list.entries < changes.old.list.capacity }
+    ensures changed { IsChanged (changes_of changes.old) time value (changes_of changes.new) }
+    ensures capacity { changes.new.list.capacity ≡ changes.old.list.capacity }
+    ensures maximum { changes.new.list.maximum ≡ changes.old.list.maximum }
+    ensures count { length changes.new.list.entries ≤ length changes.old.list.entries + 1 }
+{
+    // with its length an arena tells what holds of its list
+    let _ = changes.len();
+    if is_same(held_at(changes, time), value) {
+        return;
+    }
+    match changes.insert_within_capacity(OrdPair::new(time, value)) {
+        Ok(_) => {}
+        // a key has a place, and a slot is vacant
+        Err(_) => unreachable!(),
+    }
+}

@@ -1,0 +1,10 @@
+//! Values over time: a value holds from one time until the next change.
+#![tactic(auto)]
+
+mod changes;
+mod timeline;
+mod value;
+
+pub use timeline::Timeline;
+pub use triple_ord::ReallocationError;
+pub use value::TimelineValue;

@@ -1,0 +1,112 @@
+//! `Timeline`: which value holds at which time.
+
+ghost use Rattle.std.specs.Prelude.{◌≡◌, ◌<◌, ◌+◌, ◌↔◌, [], Some, None, Err, OnOk, OnErr, length};
+ghost use Rattle.timeline.specs.Timeline.{value_at, IsTimeline, IsSet};
+ghost use Rattle.timeline.specs.Layout.{most_changes};
+
+use crate::changes::{Changes, change_at, held_at, make_room, take_all};
+use crate::value::TimelineValue;
+use std::alloc::{Allocator, Global};
+use std::marker::Model;
+use triple_ord::{ReallocationError, SimpleOrdArena};
+
+/// A function from times to values, in which a value holds over a stretch of time.
+///
+/// A time is a number in whatever unit the program counts it. In contracts a timeline is the list of its changes: each time at which
+/// another value begins to hold, or none.
+#[derive(Drop)]
+pub struct Timeline<V: Copy, A: Allocator = Global> {
+    changes: Changes<V, A>,
+}
+
+impl<V: Copy, A: Allocator> Model for Timeline<V, A> {
+    ghost use Rattle.std.specs.Prelude.{List};
+    ghost use Rattle.timeline.specs.Timeline.{Change};
+
+    ghost Value = { List (Change V) };
+
+    ghost use Rattle.timeline.specs.Layout.{changes_of, IsArenaOfChanges};
+
+    ghost view = { λ t. changes_of t.changes };
+
+    ghost invariant = { λ t. IsArenaOfChanges t.changes };
+}
+
+impl<V: Copy, A: Allocator> Timeline<V, A> {
+    /// A timeline without a value at any time. It takes no memory until a value is set.
+    pub fn new(alloc: A) -> Self
+    where
+        A: Copy,
+        ensures { result ≡ [] }
+    {
+        Timeline {
+            changes: SimpleOrdArena::new(alloc),
+        }
+    }
+
+    /// At how many times the value changes.
+    pub fn len(&self) -> usize
+        ensures value { result ≡ length self.now }
+        ensures lawful { IsTimeline self.now }
+    {
+        self.changes.len()
+    }
+
+    /// The value that holds at a time, if there is one, in O(log n) for n changes.
+    pub fn get(&self, time: u64) -> Option<V>
+        ensures { result ≡ value_at self.now time }
+    {
+        held_at(&self.changes, time)
+    }
+}
+
+impl<V: TimelineValue, A: Allocator> Timeline<V, A> {
+    /// Makes the value hold from one time until before another; at all other times the value is what it was. Where `until` isn't
+    /// later than `from`, nothing changes.
+    ///
+    /// It takes O((k + 1) log n) time for n changes, k of them from `from` until `until`, and O(n) where memory is taken. Room for two
+    /// more changes is made first: it is refused with `BeyondMaxCapacity` where those would be more than 4,294,967,294, and with
+    /// `AllocError` where memory is refused. Nothing has changed then.
+    pub fn set(&mut self, from: u64, until: u64, value: V) -> Result<(), ReallocationError>
+        ensures set { OnOk result (IsSet self.old from until (Some value) self.new) }
+        ensures full { (result ≡ Err ReallocationError.BeyondMaxCapacity)
+            ↔ ((from < until) × (most_changes < length self.old + 2)) }
+        ensures err { OnErr result (self.new ≡ self.old) }
+        ensures lawful { IsTimeline self.new }
+    {
+        self.put(from, until, Some(value))
+    }
+
+    /// Ends all values from one time until before another; at all other times the value is what it was. Cost and refusals are those of
+    /// `set`.
+    pub fn clear(&mut self, from: u64, until: u64) -> Result<(), ReallocationError>
+        ensures set { OnOk result (IsSet self.old from until None self.new) }
+        ensures full { (result ≡ Err ReallocationError.BeyondMaxCapacity)
+            ↔ ((from < until) × (most_changes < length self.old + 2)) }
+        ensures err { OnErr result (self.new ≡ self.old) }
+        ensures lawful { IsTimeline self.new }
+    {
+        self.put(from, until, None)
+    }
+
+    // Makes this the value, or makes it none.
+    fn put(&mut self, from: u64, until: u64, value: Option<V>) -> Result<(), ReallocationError>
+        ensures set { OnOk result (IsSet self.old from until value self.new) }
+        ensures full { (result ≡ Err ReallocationError.BeyondMaxCapacity)
+            ↔ ((from < until) × (most_changes < length self.old + 2)) }
+        ensures err { OnErr result (self.new ≡ self.old) }
+        ensures lawful { IsTimeline self.new }
+    {
+        if from >= until {
+            // with its length a timeline tells what holds of it
+            let _ = self.len();
+            return Ok(());
+        }
+        make_room(&mut self.changes)?;
+        let after = held_at(&self.changes, until);
+        take_all(&mut self.changes, from, until);
+        change_at(&mut self.changes, from, value);
+        change_at(&mut self.changes, until, after);
+        Ok(())
+    }
+}
