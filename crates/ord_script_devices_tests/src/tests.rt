@@ -49,11 +49,16 @@ fn served(alloc: Global, script: &[u8]) -> (Vec<u8>, ScriptEnd) {
     (output, end)
 }
 
-/// The script answers this.
-fn answers(rt: &impl Abort, alloc: Global, script: &[u8], answer: &str) {
+/// The script answers this, and ends so.
+fn ends(rt: &impl Abort, alloc: Global, script: &[u8], answer: &str, wanted: ScriptEnd) {
     let (output, end) = served(alloc, script);
-    assert_eq!(rt; end, ScriptEnd::Done);
+    assert_eq!(rt; end, wanted, "{script:?}");
     assert_eq!(rt; output.as_slice(), answer.as_bytes());
+}
+
+/// The script is answered so to its last line.
+fn answers(rt: &impl Abort, alloc: Global, script: &[u8], answer: &str) {
+    ends(rt, alloc, script, answer, ScriptEnd::Done);
 }
 
 /// The words of a fault.

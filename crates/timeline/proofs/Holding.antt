@@ -39,7 +39,7 @@ module _ {V : Type 0} where
       go d (e ∷ es) = go e es
 
   -- the changes of a list that is cut
-  changes-cut : (es : List (Entry (ℕ × Option V))) (gap : Gap es) → map change es ≡ map change gap.front ++ map change gap.back
+  pub changes-cut : (es : List (Entry (ℕ × Option V))) (gap : Gap es) → map change es ≡ map change gap.front ++ map change gap.back
   changes-cut es gap = ap (map change) gap.cut ∙ map-append change gap.front gap.back
 
   -- the value at a time is that of the last change at or before it

@@ -66,6 +66,10 @@ module _ {T : Type 0} where
       go d [] = refl
       go d (e ∷ es) = go e es
 
+  first-index : (es : List (Entry T)) → first_or None es ≡ option_map (λ e. e.index) (first_of es)
+  first-index [] = refl
+  first-index (e ∷ es) = refl
+
   -- the link of an entry names its neighbours
   link-here : (prev next : Option ℕ) (front : List (Entry T)) (e : Entry T) (back : List (Entry T)) → times e.index front ≡ 0
       → link_between prev next (front ++ e ∷ back) e.index ≡ Some (e.generation, record { item = e.item; prev = last_index_or prev front; next = first_or next back })
@@ -83,6 +87,15 @@ module _ {T : Type 0} where
       let cut : es ≡ gap.front ++ e ∷ back.0 = gap.cut ∙ ap (λ ys. gap.front ++ ys) back.1 in
       let unmet = unmet-before gap.front e back.0 (subst (λ (xs : List (Entry T)). IsDistinct xs) cut distinct) in
       ap (λ xs. option_map (λ l. l.1.prev) (link_at xs e.index)) cut ∙ ap (option_map (λ l. l.1.prev)) (link-here None None gap.front e back.0 unmet) ∙ ap Some (last-index gap.front)
+
+  -- the entry behind the cut of a list, by the link of the entry before it
+  pub link-before : (es : List (Entry T)) (gap : Gap es) (e : Entry T) → IsDistinct es → before gap ≡ Some e
+      → option_map (λ l. l.1.next) (link_at es e.index) ≡ Some (option_map (λ d. d.index) (after gap))
+  link-before es gap e distinct here =
+      let front = ends-with gap.front e here in
+      let cut : es ≡ front.0 ++ e ∷ gap.back = gap.cut ∙ ap (λ xs. xs ++ gap.back) front.1 ∙ append-assoc front.0 (e ∷ []) gap.back in
+      let unmet = unmet-before front.0 e gap.back (subst (λ (xs : List (Entry T)). IsDistinct xs) cut distinct) in
+      ap (λ xs. option_map (λ l. l.1.next) (link_at xs e.index)) cut ∙ ap (option_map (λ l. l.1.next)) (link-here None None front.0 e gap.back unmet) ∙ ap Some (first-index gap.back)
 
   -- the entry before a gap is found by its index
   pub entry-before : (es : List (Entry T)) (gap : Gap es) (e : Entry T) → IsDistinct es → before gap ≡ Some e → entry_at es e.index ≡ Some (e.generation, e.item)

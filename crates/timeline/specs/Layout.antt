@@ -1,11 +1,11 @@
 -- How a timeline lies in its arena, and what its private calls leave (layout).
-use Rattle.std.specs.Prelude.{◌≡◌, ◌≢◌, ℕ, ◌≤◌, ◌<◌, leb, if◌then◌else◌, List, [], ◌∷◌, ◌++◌, length, map, Option, None, ◌⊎◌}
+use Rattle.std.specs.Prelude.{◌≡◌, ◌≢◌, ℕ, ◌≤◌, ◌<◌, leb, if◌then◌else◌, List, [], ◌∷◌, ◌++◌, length, map, Option, Some, None, IsSome, ◌⊎◌}
 use Rattle.std.specs.List.{AllByRecursion}
 use Rattle.std.specs.Option.{option_map}
 use Rattle.chain_base.specs.Chain.{Entry}
 use Rattle.ord_tree.specs.Tree.{Tree}
 use Rattle.triple_ord.specs.Gap.{Gap, before}
-use Rattle.timeline.specs.Timeline.{Change, IsTimeline}
+use Rattle.timeline.specs.Timeline.{Change, value_at, IsTimeline}
 
 -- how many changes there can be
 abbrev pub most_changes : ℕ
@@ -76,3 +76,20 @@ module _ {V : Type 0} where
     pub capacity : new.list.capacity ≡ old.list.capacity
     pub maximum : new.list.maximum ≡ old.list.maximum
     pub fewer : length new.list.entries ≤ length old.list.entries
+
+  -- how long the value at a time holds: until the next change, or for ever
+  abbrev pub HoldsUntil : List (Change V) → ℕ → Option ℕ → Type 0
+  HoldsUntil cs t None = (u : ℕ) → t ≤ u → value_at cs u ≡ value_at cs t
+  HoldsUntil cs t (Some n) = (t < n) × ((u : ℕ) → t ≤ u → u < n → value_at cs u ≡ value_at cs t) × (value_at cs n ≢ value_at cs t)
+
+  -- the first time from this one on at which a value holds; none where none does any more
+  abbrev pub IsFirstHeld : List (Change V) → ℕ → Option ℕ → Type 0
+  IsFirstHeld cs from None = (t : ℕ) → from ≤ t → value_at cs t ≡ None
+  IsFirstHeld cs from (Some n) = (from ≤ n) × ((t : ℕ) → from ≤ t → t < n → value_at cs t ≡ None) × IsSome (value_at cs n)
+
+  -- the time at which the value of a time ends, or this one where it holds so long
+  pub record IsEnd (cs : List (Change V)) (from until n : ℕ) : Type 0 where
+    pub later : from < n
+    pub within : n ≤ until
+    pub holds : (t : ℕ) → from ≤ t → t < n → value_at cs t ≡ value_at cs from
+    pub another_after : n < until → value_at cs n ≢ value_at cs from

@@ -1,6 +1,7 @@
 -- What a timeline is: the value that holds at each time, told by the times at which it changes.
-use Rattle.std.specs.Prelude.{◌≡◌, ◌≢◌, ℕ, ◌<◌, ◌≤◌, ◌⊎◌, leb, if◌then◌else◌, List, [], ◌∷◌, Option, None}
+use Rattle.std.specs.Prelude.{◌≡◌, ◌≢◌, ℕ, ◌<◌, ◌≤◌, ◌⊎◌, leb, if◌then◌else◌, List, [], ◌∷◌, Option, Some, None}
 use Rattle.std.specs.List.{AllByRecursion}
+use Rattle.timeline.specs.declared.span.Span.{Span}
 
 -- a change: from this time on the value is this one, or there is none
 pub record Change (V : Type 0) : Type 0 where
@@ -36,3 +37,17 @@ module _ {V : Type 0} where
   pub record IsSet (old : List (Change V)) (from until : ℕ) (value : Option V) (new : List (Change V)) : Type 0 where
     pub within : (t : ℕ) → from ≤ t → t < until → value_at new t ≡ value
     pub outside : (t : ℕ) → (t < from) ⊎ (until ≤ t) → value_at new t ≡ value_at old t
+
+  -- The first stretch of a value from one time until another: before it none holds, over it its value does, and where it ends another
+  -- value or none begins, unless that is the end of the time that was asked for.
+  pub record IsNextSpan (cs : List (Change V)) (from until : ℕ) (span : Span V) : Type 0 where
+    pub begins : from ≤ span.from
+    pub lasts : span.from < span.until
+    pub ends : span.until ≤ until
+    pub none_before : (t : ℕ) → from ≤ t → t < span.from → value_at cs t ≡ None
+    pub holds : (t : ℕ) → span.from ≤ t → t < span.until → value_at cs t ≡ Some span.value
+    pub another_after : span.until < until → value_at cs span.until ≢ Some span.value
+
+  -- no value holds from one time until another
+  abbrev pub HasNone : List (Change V) → ℕ → ℕ → Type 0
+  HasNone cs from until = (t : ℕ) → from ≤ t → t < until → value_at cs t ≡ None

@@ -2,9 +2,11 @@
 
 ghost use Rattle.std.specs.Prelude.{◌≡◌, ◌≢◌, ◌≤◌, ◌<◌, ◌+◌, ◌++◌, ◌∷◌, ◌↔◌, ℕ, List, Some, None, Err, IsTrue, false, IfSome, OnOk, OnErr, length};
 ghost use Rattle.std.specs.List.{AllByRecursion};
+ghost use Rattle.std.specs.Option.{option_map};
 ghost use Rattle.chain_base.specs.Chain.{link_at};
-ghost use Rattle.timeline.specs.Timeline.{Change, IsRising, value_at};
-ghost use Rattle.timeline.specs.Layout.{most_changes, changes_of, earlier, later, IsLastUntil, IsTakenOut, IsChanged, KeepsRoom};
+ghost use Rattle.triple_ord.specs.Gap.{after};
+ghost use Rattle.timeline.specs.Timeline.{Change, IsRising, IsTimeline, value_at};
+ghost use Rattle.timeline.specs.Layout.{most_changes, changes_of, earlier, later, IsLastUntil, HoldsUntil, IsFirstHeld, IsEnd, IsTakenOut, IsChanged, KeepsRoom};
 
 use crate::value::{TimelineValue, is_same};
 use std::alloc::Allocator;
@@ -60,6 +62,59 @@ pub(crate) fn held_at<V: Copy, A: Allocator>(changes: &Changes<V, A>, time: u64)
 {
     let (_, _, value) = last_until(changes, time)?;
     value
+}
+
+// The index of the entry behind the last change at or before a time.
+fn index_behind<V: Copy, A: Allocator>(
+    changes: &Changes<V, A>,
+    last: Option<(u32, u64, Option<V>)>,
+) -> Option<u32>
+    ensures { (t : ℕ) (found : IsLastUntil changes.now.list.entries t last)
+        → result ≡ option_map (λ e. e.index) (after found.gap) }
+{
+    // with its length an arena tells what holds of its list
+    let _ = changes.len();
+    match last {
+        Some((i, _, _)) => {
+            let (_, link) = changes.get_inx_link_no_gen(i)?;
+            link.next()
+        }
+        None => Some(changes.first()?.inx()),
+    }
+}
+
+/// The time of the first change after a time.
+pub(crate) fn next_after<V: Copy, A: Allocator>(changes: &Changes<V, A>, time: u64) -> Option<u64>
+    requires { IsTimeline (changes_of changes.now) }
+    ensures { HoldsUntil (changes_of changes.now) time result }
+{
+    // with its length an arena tells what holds of its list
+    let _ = changes.len();
+    let i = index_behind(changes, last_until(changes, time))?;
+    let (_, pair) = changes.get_inx(i)?;
+    Some(*pair.k())
+}
+
+/// The first time from this one on at which a value holds.
+pub(crate) fn first_held<V: Copy, A: Allocator>(changes: &Changes<V, A>, from: u64) -> Option<u64>
+    requires { IsTimeline (changes_of changes.now) }
+    ensures { IsFirstHeld (changes_of changes.now) from result }
+{
+    match held_at(changes, from) {
+        Some(_) => Some(from),
+        None => next_after(changes, from),
+    }
+}
+
+/// The time at which the value of a time ends, at most `until`.
+pub(crate) fn end_of<V: Copy, A: Allocator>(changes: &Changes<V, A>, from: u64, until: u64) -> u64
+    requires { IsTimeline (changes_of changes.now) × (from < until) }
+    ensures { IsEnd (changes_of changes.now) from until result }
+{
+    match next_after(changes, from) {
+        Some(end) if end < until => end,
+        _ => until,
+    }
 }
 
 /// Makes room for two more changes, in O(n) where the arena grows.

@@ -2,9 +2,11 @@
 #![tactic(auto)]
 
 mod changes;
+mod span;
 mod timeline;
 mod value;
 
+pub use span::Span;
 pub use timeline::Timeline;
 pub use triple_ord::ReallocationError;
 pub use value::TimelineValue;

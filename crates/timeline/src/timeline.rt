@@ -1,10 +1,11 @@
 //! `Timeline`: which value holds at which time.
 
-ghost use Rattle.std.specs.Prelude.{◌≡◌, ◌<◌, ◌+◌, ◌↔◌, [], Some, None, Err, OnOk, OnErr, length};
-ghost use Rattle.timeline.specs.Timeline.{value_at, IsTimeline, IsSet};
+ghost use Rattle.std.specs.Prelude.{◌≡◌, ◌<◌, ◌+◌, ◌↔◌, [], Some, None, Err, OnOk, OnErr, IfSome, IfNone, length};
+ghost use Rattle.timeline.specs.Timeline.{value_at, IsTimeline, IsSet, IsNextSpan, HasNone};
 ghost use Rattle.timeline.specs.Layout.{most_changes};
 
-use crate::changes::{Changes, change_at, held_at, make_room, take_all};
+use crate::changes::{Changes, change_at, end_of, first_held, held_at, make_room, take_all};
+use crate::span::Span;
 use crate::value::TimelineValue;
 use std::alloc::{Allocator, Global};
 use std::marker::Model;
@@ -57,6 +58,25 @@ impl<V: Copy, A: Allocator> Timeline<V, A> {
         ensures { result ≡ value_at self.now time }
     {
         held_at(&self.changes, time)
+    }
+
+    /// The first stretch of a value from one time until another, in O(log n). It ends where another value begins, or none, at the latest
+    /// at `until`. `None` where no value holds in that time. Asked again from the end of each stretch on, it gives all of them in turn.
+    pub fn next_span(&self, from: u64, until: u64) -> Option<Span<V>>
+        ensures span { IfSome result (λ span. IsNextSpan self.now from until span) }
+        ensures none { IfNone result (HasNone self.now from until) }
+    {
+        let start = first_held(&self.changes, from)?;
+        if start >= until {
+            return None;
+        }
+        let value = held_at(&self.changes, start)?;
+        let end = end_of(&self.changes, start, until);
+        Some(Span {
+            from: start,
+            until: end,
+            value,
+        })
     }
 }
 

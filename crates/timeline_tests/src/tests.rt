@@ -3,7 +3,7 @@ use linked_list_allocator::LocalHeap;
 use std::alloc::{AllocError, Allocator, Global};
 use std::process::Abort;
 use std::test::Fail;
-use timeline::{ReallocationError, Timeline};
+use timeline::{ReallocationError, Span, Timeline};
 
 type Numbers<A = Global> = Timeline<u8, A>;
 
@@ -17,6 +17,24 @@ fn put<A: Allocator>(
         Some(value) => numbers.set(from, until, value),
         None => numbers.clear(from, until),
     }
+}
+
+/// The stretches from 0 until before a time, of which there are at most eight.
+fn spans_of(alloc: Global, numbers: &Numbers, until: u64) -> Result<Vec<Span<u8>>, AllocError> {
+    let mut spans = Vec::new(alloc);
+    let mut from = 0u64;
+    for _ in 0..8u64 {
+        if let Some(span) = numbers.next_span(from, until) {
+            from = span.until;
+            spans.push(span)?;
+        }
+    }
+    Ok(spans)
+}
+
+/// A stretch.
+fn span(from: u64, until: u64, value: u8) -> Span<u8> {
+    Span { from, until, value }
 }
 
 /// The values at the times from 0 on are these.
@@ -45,6 +63,13 @@ fn a_day_with_a_meeting(rt: HostRuntime) -> Result<(), Fail> {
         (Some(2), Some(1), Some(1))
     );
     assert_eq!(rt; (day.get(17), day.get(u64::MAX)), (None, None));
+    let spans = spans_of(rt.alloc(), &day, 24)?;
+    assert_eq!(&rt;
+        spans.as_slice(),
+        [span(9, 12, 1), span(12, 13, 2), span(13, 17, 1)].as_slice()
+    );
+    assert_eq!(&rt; day.next_span(10, 11), Some(span(10, 11, 1)));
+    assert_eq!(&rt; (day.next_span(17, 24), day.next_span(9, 9)), (None, None));
     // no lunch: the neighbours are one again
     put(&mut day, (12, 13), Some(1))?;
     assert_eq!(rt; (day.len(), day.get(12)), (2, Some(1)));
@@ -93,12 +118,46 @@ fn changes_in(values: &[Option<u8>]) -> usize {
     changes
 }
 
+/// The stretches of these values.
+fn spans_in(alloc: Global, values: &[Option<u8>]) -> Result<Vec<Span<u8>>, AllocError> {
+    let mut spans: Vec<Span<u8>> = Vec::new(alloc);
+    let mut time = 0u64;
+    for held in values {
+        let next = time.wrapping_add(1);
+        if let Some(value) = held {
+            match spans.pop() {
+                Some(last) if last.until == time && last.value == *value => {
+                    spans.push(span(last.from, next, *value))?;
+                }
+                Some(last) => {
+                    spans.push(last)?;
+                    spans.push(span(time, next, *value))?;
+                }
+                None => spans.push(span(time, next, *value))?,
+            }
+        }
+        time = next;
+    }
+    Ok(spans)
+}
+
+/// A timeline has the stretches of these values.
+fn spans_are(
+    rt: &impl Abort,
+    alloc: Global,
+    numbers: &Numbers,
+    values: &[Option<u8>],
+) -> Result<(), AllocError> {
+    assert!(rt; spans_of(alloc, numbers, 7)?.as_slice() == spans_in(alloc, values)?.as_slice());
+    Ok(())
+}
+
 /// A timeline of these settings is what they make of a plain list.
 fn is_plain(
     rt: &impl Abort,
     alloc: Global,
     settings: &[((u64, u64), Option<u8>)],
-) -> Result<(), ReallocationError> {
+) -> Result<(), Fail> {
     let mut numbers = Numbers::new(alloc);
     for (times, value) in settings {
         put(&mut numbers, *times, *value)?;
@@ -106,6 +165,7 @@ fn is_plain(
     let wanted = plain(settings);
     values_are(rt, &numbers, wanted.as_slice());
     assert_eq!(rt; numbers.len(), changes_in(wanted.as_slice()));
+    spans_are(rt, alloc, &numbers, wanted.as_slice())?;
     Ok(())
 }
 

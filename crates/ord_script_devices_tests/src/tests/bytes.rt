@@ -1,5 +1,5 @@
 //! Bytes where no one puts them, numbers at and beyond their limits, and lines as long as an input may be.
-use super::{answers, served, words_of};
+use super::{answers, ends, served, words_of};
 use ord_script::{FaultKind, ScriptEnd};
 use std::alloc::Global;
 use std::process::Abort;
@@ -9,10 +9,8 @@ const LONGEST: usize = 1_048_576;
 
 /// The script ends at its first line with this fault.
 fn is_fault(rt: &impl Abort, alloc: Global, script: &[u8], kind: FaultKind) {
-    let (output, end) = served(alloc, script);
-    assert_eq!(rt; end, ScriptEnd::Fault(1, kind), "{script:?}");
     let fault = format!(in alloc; "line 1: {}\n", words_of(kind)).expect(rt, "memory");
-    assert_eq!(rt; output.as_slice(), fault.as_bytes());
+    ends(rt, alloc, script, fault.as_str(), ScriptEnd::Fault(1, kind));
 }
 
 /// A byte between two texts.
@@ -63,12 +61,9 @@ fn each_byte_inside_a_number(rt: HostRuntime) {
             b'0'..=b'9' => answers(&rt, rt.alloc(), &script, "none\n"),
             b' ' | b'\t' => is_fault(&rt, rt.alloc(), &script, FaultKind::WrongArguments),
             b'\n' => {
-                let (output, end) = served(rt.alloc(), &script);
-                assert_eq!(rt; end, ScriptEnd::Fault(2, FaultKind::UnknownCommand));
-                assert_eq!(rt;
-                    output.as_slice(),
-                    b"none\nline 2: unknown command\n".as_slice()
-                );
+                let end = ScriptEnd::Fault(2, FaultKind::UnknownCommand);
+                let answer = "none\nline 2: unknown command\n";
+                ends(&rt, rt.alloc(), &script, answer, end);
             }
             _ => is_fault(&rt, rt.alloc(), &script, FaultKind::BadNumber),
         }
@@ -141,81 +136,89 @@ fn is_command(rt: &impl Abort, alloc: Global, line: &[u8]) {
     assert_eq!(rt; output.iter().filter(|byte| **byte == b'\n').count(), 1);
 }
 
-/// A number at its limit, with zeros in front, and the next one.
+/// A line with a number, and so many zeros in front of it.
+fn numbered(
+    rt: &impl Abort,
+    alloc: Global,
+    before: &str,
+    count: usize,
+    number: &str,
+    after: &str,
+) -> Vec<u8> {
+    let mut line = filled(rt, alloc, before, b'0', count, number);
+    line.extend_from_slice(after.as_bytes())
+        .expect(rt, "memory");
+    line
+}
+
+/// A number at its limit, with zeros in front, the next one, and one far above.
 fn is_limit(rt: &impl Abort, alloc: Global, row: (&str, &str, &str, &str), count: usize) {
     let (before, most, next, after) = row;
-    let most = format!(in alloc; "{most}{after}").expect(rt, "memory");
-    let at = filled(rt, alloc, before, b'0', count, most.as_str());
-    is_command(rt, alloc, &at);
-    let next = format!(in alloc; "{next}{after}").expect(rt, "memory");
-    let above = filled(rt, alloc, before, b'0', count, next.as_str());
+    is_command(rt, alloc, &numbered(rt, alloc, before, count, most, after));
+    let above = numbered(rt, alloc, before, count, next, after);
     is_fault(rt, alloc, &above, FaultKind::BadNumber);
-    let before = format!(in alloc; "{before}9").expect(rt, "memory");
-    let far = filled(rt, alloc, before.as_str(), b'0', count, next.as_str());
+    let nine = format!(in alloc; "{before}9").expect(rt, "memory");
+    let far = numbered(rt, alloc, nine.as_str(), count, next, after);
     is_fault(rt, alloc, &far, FaultKind::BadNumber);
 }
 
 #[test]
 fn numbers_at_and_beyond_their_limits(rt: HostRuntime) {
-    for row in LIMITS {
+    for row in &LIMITS {
         for count in [0usize, 1, 50, 3000] {
-            is_limit(&rt, rt.alloc(), row, count);
+            is_limit(&rt, rt.alloc(), *row, count);
         }
     }
 }
 
-/// A line of the greatest length: so many equal bytes between two texts.
-fn longest(rt: &impl Abort, alloc: Global, before: &str, byte: u8, after: &str) -> Vec<u8> {
+/// A script of the greatest length: so many equal bytes between two texts.
+fn longest(rt: &impl Abort, alloc: Global, parts: (&str, u8, &str)) -> Vec<u8> {
+    let (before, byte, after) = parts;
     let count = LONGEST.saturating_sub(before.len().saturating_add(after.len()));
-    filled(rt, alloc, before, byte, count, after)
+    let script = filled(rt, alloc, before, byte, count, after);
+    assert!(rt; script.len() == LONGEST);
+    script
 }
 
-/// The longest line answers this.
-fn longest_answers(rt: &impl Abort, alloc: Global, line: (&str, u8, &str), answer: &str) {
-    let script = longest(rt, alloc, line.0, line.1, line.2);
-    assert_eq!(rt; script.len(), LONGEST);
-    answers(rt, alloc, &script, answer);
-}
+/// The longest scripts that are answered.
+const ANSWERED: [((&str, u8, &str), &str); 4] = [
+    (("#", b'x', ""), ""),
+    (("", b'\n', ""), ""),
+    (("", b' ', "list"), "list\n"),
+    (("insert -", b'0', "5 7\nlist"), "new 1.2\nlist 1.2=-5:7\n"),
+];
 
-/// The longest line is a fault.
-fn longest_is_fault(rt: &impl Abort, alloc: Global, line: (&str, u8, &str), kind: FaultKind) {
-    let script = longest(rt, alloc, line.0, line.1, line.2);
-    assert_eq!(rt; script.len(), LONGEST);
-    is_fault(rt, alloc, &script, kind);
-}
+/// The longest scripts that are faults.
+const FAULTS: [((&str, u8, &str), FaultKind); 4] = [
+    (("", b'x', ""), FaultKind::UnknownCommand),
+    (("list", b'\r', "\n"), FaultKind::UnknownCommand),
+    (("find 1 2", b'\t', "3"), FaultKind::WrongArguments),
+    (("find ", b'9', ""), FaultKind::BadNumber),
+];
 
 #[test]
 fn lines_of_a_megabyte(rt: HostRuntime) {
-    let answered = [
-        (("#", b'x', ""), ""),
-        (("", b'\n', ""), ""),
-        (("", b' ', "list"), "list\n"),
-        (("insert -", b'0', "5 7\nlist"), "new 1.2\nlist 1.2=-5:7\n"),
-    ];
-    for (line, answer) in answered {
-        longest_answers(&rt, rt.alloc(), line, answer);
+    for (parts, answer) in &ANSWERED {
+        let script = longest(&rt, rt.alloc(), *parts);
+        answers(&rt, rt.alloc(), &script, *answer);
     }
-    let faults = [
-        (("", b'x', ""), FaultKind::UnknownCommand),
-        (("list", b'\r', "\n"), FaultKind::UnknownCommand),
-        (("find 1 2", b'\t', "3"), FaultKind::WrongArguments),
-        (("find ", b'9', ""), FaultKind::BadNumber),
-    ];
-    for (line, kind) in faults {
-        longest_is_fault(&rt, rt.alloc(), line, kind);
+    for (parts, kind) in &FAULTS {
+        let script = longest(&rt, rt.alloc(), *parts);
+        is_fault(&rt, rt.alloc(), &script, *kind);
     }
 }
 
 #[test]
 fn one_byte_more_and_the_last_line(rt: HostRuntime) {
     let more = filled(&rt, rt.alloc(), "", b'\n', LONGEST, "\n");
-    let (output, end) = served(rt.alloc(), &more);
-    assert_eq!(rt; (end, output.len()), (ScriptEnd::TooLong, 0));
-    let last = longest(&rt, rt.alloc(), "", b'\n', "x");
-    let (output, end) = served(rt.alloc(), &last);
-    assert_eq!(rt; end, ScriptEnd::Fault(LONGEST, FaultKind::UnknownCommand));
-    assert_eq!(rt;
-        output.as_slice(),
-        b"line 1048576: unknown command\n".as_slice()
+    ends(&rt, rt.alloc(), &more, "", ScriptEnd::TooLong);
+    let last = longest(&rt, rt.alloc(), ("", b'\n', "x"));
+    let end = ScriptEnd::Fault(LONGEST, FaultKind::UnknownCommand);
+    ends(
+        &rt,
+        rt.alloc(),
+        &last,
+        "line 1048576: unknown command\n",
+        end,
     );
 }

@@ -52,9 +52,9 @@ fn is_any_argument(text: &str, letter: u8) -> bool {
 
 /// The letters of a command's arguments.
 fn letters_of(word: &str) -> Option<&'static str> {
-    for (known, letters) in COMMANDS {
-        if known == word {
-            return Some(letters);
+    for (known, letters) in &COMMANDS {
+        if *known == word {
+            return Some(*letters);
         }
     }
     None
@@ -156,14 +156,19 @@ fn is_cut_answered(
     is_answered(rt, alloc, &c) && (told.is_empty() || told.ends_with('\n'))
 }
 
+/// Each beginning of a script, and the whole one.
+fn each_beginning(rt: &impl Abort, alloc: Global, script: &str, answer: &str) {
+    for count in 0..=script.len() {
+        let is_answered = is_cut_answered(rt, alloc, script, answer, count);
+        assert!(rt; is_answered, "{script} cut after {count}");
+    }
+    let (output, _) = served(alloc, script.as_bytes());
+    assert_eq!(rt; output.as_slice(), answer.as_bytes());
+}
+
 #[test]
 fn each_beginning_of_a_script(rt: HostRuntime) {
-    for (script, answer) in SCRIPTS {
-        for count in 0..=script.len() {
-            let is_answered = is_cut_answered(&rt, rt.alloc(), script, answer, count);
-            assert!(rt; is_answered, "{script} cut after {count}");
-        }
-        let (output, _) = served(rt.alloc(), script.as_bytes());
-        assert_eq!(rt; output.as_slice(), answer.as_bytes());
+    for (script, answer) in &SCRIPTS {
+        each_beginning(&rt, rt.alloc(), *script, *answer);
     }
 }

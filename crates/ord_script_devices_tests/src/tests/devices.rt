@@ -95,6 +95,13 @@ const WELL: Pace = Pace {
     failure: Failure::Broken,
 };
 
+/// Whether a reader and a writer say of themselves what the end says.
+fn is_told(end: ScriptEnd, read_failed: bool, read_ended: bool, write_failed: bool) -> bool {
+    read_failed == (end == ScriptEnd::ReadFailed)
+        && read_ended != read_failed
+        && write_failed == (end == ScriptEnd::WriteFailed)
+}
+
 /// Serves a script with devices that go so: the end, and what is written.
 fn serve_with(
     rt: &impl Abort,
@@ -113,9 +120,10 @@ fn serve_with(
     });
     let mut writer = Watched::new(&mut sink);
     let end = serve(alloc, &mut reader, &mut writer);
-    assert_eq!(rt; reader.failed(), end == ScriptEnd::ReadFailed);
-    assert_eq!(rt; writer.failed(), end == ScriptEnd::WriteFailed);
-    assert_eq!(rt; reader.ended(), end != ScriptEnd::ReadFailed);
+    assert!(rt;
+        is_told(end, reader.failed(), reader.ended(), writer.failed()),
+        "{end:?}"
+    );
     (end, sink.bytes)
 }
 
@@ -137,9 +145,9 @@ fn read_fails(rt: &impl Abort, alloc: Global, script: &str, left: usize) {
 
 #[test]
 fn reads_that_fail_after_each_byte(rt: HostRuntime) {
-    for (script, _) in SCRIPTS {
+    for (script, _) in &SCRIPTS {
         for left in 0..=script.len() {
-            read_fails(&rt, rt.alloc(), script, left);
+            read_fails(&rt, rt.alloc(), *script, left);
         }
     }
 }
@@ -162,22 +170,27 @@ fn write_fails(rt: &impl Abort, alloc: Global, script: &str, answer: &str, left:
 
 #[test]
 fn writes_that_fail_after_each_byte(rt: HostRuntime) {
-    for (script, answer) in SCRIPTS {
+    for (script, answer) in &SCRIPTS {
         for left in 0..answer.len() {
-            write_fails(&rt, rt.alloc(), script, answer, left);
+            write_fails(&rt, rt.alloc(), *script, *answer, left);
         }
     }
 }
 
+/// Devices that go on, by so many bytes a call.
+fn is_served_slowly(rt: &impl Abort, alloc: Global, script: &str, answer: &str, step: usize) {
+    let pace = Pace { step, ..WELL };
+    let (end, written) = serve_with(rt, alloc, script, pace, pace);
+    let is_well = matches!(end, ScriptEnd::Done | ScriptEnd::Fault(..));
+    assert!(rt; is_well);
+    assert_eq!(rt; written.as_slice(), answer.as_bytes());
+}
+
 #[test]
 fn slow_devices(rt: HostRuntime) {
-    for (script, answer) in SCRIPTS {
+    for (script, answer) in &SCRIPTS {
         for step in [1usize, 2, 3, 7] {
-            let pace = Pace { step, ..WELL };
-            let (end, written) = serve_with(&rt, rt.alloc(), script, pace, pace);
-            let is_well = matches!(end, ScriptEnd::Done | ScriptEnd::Fault(..));
-            assert!(rt; is_well);
-            assert_eq!(rt; written.as_slice(), answer.as_bytes());
+            is_served_slowly(&rt, rt.alloc(), *script, *answer, step);
         }
     }
 }

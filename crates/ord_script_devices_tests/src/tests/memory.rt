@@ -17,6 +17,12 @@ fn served_on(rt: &impl Abort, alloc: Global, script: &[u8], size: usize) -> (Vec
     (output, end)
 }
 
+/// Whether a line may stand where this one is wanted: it is the same, or a list or ranks that were refused memory.
+fn may_stand(line: &str, wanted: &str) -> bool {
+    let is_list = wanted.starts_with("list ") || wanted.starts_with("ranks ");
+    line == wanted || (is_list && line == "refused memory")
+}
+
 /// Whether an answer is this one, but that some lists and ranks were refused memory.
 fn is_but_for_lists(told: &str, whole: &str) -> bool {
     let mut lines = whole.lines();
@@ -24,8 +30,7 @@ fn is_but_for_lists(told: &str, whole: &str) -> bool {
         let Some(wanted) = lines.next() else {
             return false;
         };
-        let is_list = wanted.starts_with("list ") || wanted.starts_with("ranks ");
-        if line != wanted && !(is_list && line == "refused memory") {
+        if !may_stand(line, wanted) {
             return false;
         }
     }
@@ -33,35 +38,58 @@ fn is_but_for_lists(told: &str, whole: &str) -> bool {
 }
 
 /// A script with what it answers where there is memory, and where no entry finds room.
-fn each_request_of(rt: &impl Abort, alloc: Global, script: &str, whole: &str, bare: &str) {
-    let mut is_refused = false;
+#[derive(Clone, Copy)]
+struct Case<'a> {
+    script: &'a str,
+    whole: &'a str,
+    bare: &'a str,
+}
+
+/// Serves a script on a heap of this size. Tells whether that was refused, which writes nothing, and whether the answer is whole.
+fn ends_on(rt: &impl Abort, alloc: Global, case: &Case, size: usize) -> (bool, bool) {
+    let (output, end) = served_on(rt, alloc, case.script.as_bytes(), size);
+    let told = std::str::from_utf8(&output).expect(rt, "text");
+    let is_refused = end == ScriptEnd::Memory;
+    let is_right = if is_refused {
+        told.is_empty()
+    } else {
+        told == case.bare || is_but_for_lists(told, case.whole)
+    };
+    assert!(rt; is_right, "{size}: {told}");
+    (is_refused, told == case.whole)
+}
+
+/// Serves a script on heaps of growing size: it is refused on some, and whole on the last.
+fn each_request_of(rt: &impl Abort, alloc: Global, case: &Case) {
+    let mut was_refused = false;
     let mut is_whole = false;
     for size in 0usize..180 {
-        let (output, end) = served_on(rt, alloc, script.as_bytes(), 16 * size);
-        let told = std::str::from_utf8(&output).expect(rt, "text");
-        is_whole = told == whole;
-        if end == ScriptEnd::Memory {
-            assert!(rt; told.is_empty());
-            is_refused = true;
-        } else {
-            assert!(rt;
-                told == bare || is_but_for_lists(told, whole),
-                "{size}: {told}"
-            );
-        }
+        let (is_refused, is_whole_here) = ends_on(rt, alloc, case, 16 * size);
+        was_refused = was_refused || is_refused;
+        is_whole = is_whole_here;
     }
-    assert!(rt; is_refused && is_whole, "{script}");
+    assert!(rt; was_refused && is_whole, "{}", case.script);
 }
 
 #[test]
 fn each_request_of_a_script(rt: HostRuntime) {
-    let (short, whole) = SCRIPTS[0];
+    let (script, whole) = SCRIPTS[0];
     let bare = "refused memory\nlist\nline 3: bad number\n";
-    each_request_of(&rt, rt.alloc(), short, whole, bare);
-    let (long, whole) = SCRIPTS[5];
+    let short = Case {
+        script,
+        whole,
+        bare,
+    };
+    each_request_of(&rt, rt.alloc(), &short);
+    let (script, whole) = SCRIPTS[5];
     let bare =
         "refused memory\nrefused memory\nrefused memory\nrefused memory\ninvalid\nok\nlist\nranks\nok\nlist\nok\nlist\n";
-    each_request_of(&rt, rt.alloc(), long, whole, bare);
+    let long = Case {
+        script,
+        whole,
+        bare,
+    };
+    each_request_of(&rt, rt.alloc(), &long);
 }
 
 /// How many entries are inserted.
@@ -89,26 +117,65 @@ fn whole_list(rt: &impl Abort, alloc: Global) -> String {
     list
 }
 
+/// How many lines of an answer begin so.
+fn count_beginning(told: &str, start: &str) -> usize {
+    let mut count = 0usize;
+    for line in told.lines() {
+        if line.starts_with(start) {
+            count = count.saturating_add(1);
+        }
+    }
+    count
+}
+
+/// How many lines of an answer are this one.
+fn count_of(told: &str, wanted: &str) -> usize {
+    let mut count = 0usize;
+    for line in told.lines() {
+        if line == wanted {
+            count = count.saturating_add(1);
+        }
+    }
+    count
+}
+
 /// Whether each line is a new entry, a whole list or a refusal, one for each line of the script; and how many are refusals. Where an
 /// entry was refused a list has fewer.
 fn refusals_of(told: &str, list: &str, lists: usize) -> Option<usize> {
-    let news = told.lines().filter(|line| line.starts_with("new ")).count();
-    let refusals = told
-        .lines()
-        .filter(|line| *line == "refused memory")
-        .count();
-    let mut wholes = 0usize;
-    for line in told.lines() {
-        if line == list || (news < 40 && line.starts_with("list")) {
-            wholes = wholes.saturating_add(1);
-        }
-    }
+    let news = count_beginning(told, "new ");
+    let refusals = count_of(told, "refused memory");
+    let wholes = if news < 40 {
+        count_beginning(told, "list")
+    } else {
+        count_of(told, list)
+    };
     let all = news.saturating_add(refusals).saturating_add(wholes);
     if all == lists.saturating_add(40) && told.ends_with('\n') {
         Some(refusals)
     } else {
         None
     }
+}
+
+/// Serves a script of so many lists on a heap of this size. Answers 0 for an end for want of memory, 1 for an answer with refusals,
+/// and 2 for a whole one.
+fn end_on(
+    rt: &impl Abort,
+    alloc: Global,
+    script: &str,
+    list: &str,
+    lists: usize,
+    size: usize,
+) -> usize {
+    let (output, end) = served_on(rt, alloc, script.as_bytes(), size);
+    if end == ScriptEnd::Memory {
+        assert!(rt; output.is_empty());
+        return 0;
+    }
+    assert_eq!(rt; end, ScriptEnd::Done);
+    let told = std::str::from_utf8(&output).expect(rt, "text");
+    let refusals = refusals_of(told, list, lists).expect(rt, "the lines");
+    if refusals == 0 { 2 } else { 1 }
 }
 
 /// Lists all entries so often on heaps of growing size. Tells whether there was an end for want of memory, an answer with refused
@@ -118,16 +185,8 @@ fn ends_of(rt: &impl Abort, alloc: Global, lists: usize) -> [bool; 3] {
     let list = whole_list(rt, alloc);
     let mut ends = [false; 3];
     for size in 0usize..200 {
-        let (output, end) = served_on(rt, alloc, script.as_bytes(), size * 800);
-        if end == ScriptEnd::Memory {
-            assert!(rt; output.is_empty());
-            ends[0] = true;
-            continue;
-        }
-        assert_eq!(rt; end, ScriptEnd::Done);
-        let told = std::str::from_utf8(&output).expect(rt, "text");
-        let refusals = refusals_of(told, list.as_str(), lists).expect(rt, "the lines");
-        ends[if refusals == 0 { 2 } else { 1 }] = true;
+        let end = end_on(rt, alloc, script.as_str(), list.as_str(), lists, size * 800);
+        ends[end % 3] = true;
     }
     ends
 }

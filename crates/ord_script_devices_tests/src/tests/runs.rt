@@ -97,30 +97,63 @@ fn insert(rt: &impl Abort, plain: &mut Plain, key: u64, p: P0) -> bool {
     is_new
 }
 
-/// Whether a reply is that of a command over these entries, and does the same to them.
-fn is_reply(
-    rt: &impl Abort,
-    plain: &mut Plain,
-    line: Line,
-    reply: &Reply<P0, Item, &LocalHeap>,
-) -> bool {
-    match (line, reply) {
-        (Insert(key), Reply::Inserted(OrdEntryKind::New(p), None)) => insert(rt, plain, key, *p),
-        (Find(key), Reply::Found(found, _)) => *found == pointer_of(plain, key),
-        (List, Reply::Entries(entries)) => are_first(plain, entries, usize::MAX),
-        (Ranks, Reply::Ranks(ranks)) => ranks.len() == plain.len(),
-        (Drain(count), Reply::Entries(entries)) => {
-            let is_told = are_first(plain, entries, count);
-            plain.clear();
-            is_told
-        }
-        (Insert(key), Reply::Refused(OrdInsertionError::AllocError)) => {
-            pointer_of(plain, key).is_none()
-        }
-        (List | Ranks | Drain(_), Reply::Refused(OrdInsertionError::AllocError)) => {
-            !plain.is_empty()
-        }
+/// A reply of the run.
+type Told<'h> = Reply<P0, Item, &'h LocalHeap>;
+
+/// Whether a reply is a refusal of memory.
+fn is_refusal(reply: &Told) -> bool {
+    matches!(reply, Reply::Refused(OrdInsertionError::AllocError))
+}
+
+/// Whether a reply is that of an insertion, which is done to the vector too.
+fn is_insertion(rt: &impl Abort, plain: &mut Plain, key: u64, reply: &Told) -> bool {
+    match reply {
+        Reply::Inserted(OrdEntryKind::New(p), None) => insert(rt, plain, key, *p),
+        _ => is_refusal(reply) && pointer_of(plain, key).is_none(),
+    }
+}
+
+/// Whether a reply is that of a search.
+fn is_search(plain: &Plain, key: u64, reply: &Told) -> bool {
+    match reply {
+        Reply::Found(found, _) => *found == pointer_of(plain, key),
         _ => false,
+    }
+}
+
+/// Whether a reply has the first so many entries, or was refused where there are some.
+fn is_list(plain: &Plain, count: usize, reply: &Told) -> bool {
+    match reply {
+        Reply::Entries(entries) => are_first(plain, entries, count),
+        _ => is_refusal(reply) && !plain.is_empty(),
+    }
+}
+
+/// Whether a reply has a rank for each entry, or was refused where there are some.
+fn is_ranks(plain: &Plain, reply: &Told) -> bool {
+    match reply {
+        Reply::Ranks(ranks) => ranks.len() == plain.len(),
+        _ => is_refusal(reply) && !plain.is_empty(),
+    }
+}
+
+/// Whether a reply is that of a drain of so many entries, which empties the vector where it wasn't refused.
+fn is_drain(plain: &mut Plain, count: usize, reply: &Told) -> bool {
+    let is_told = is_list(plain, count, reply);
+    if !is_refusal(reply) {
+        plain.clear();
+    }
+    is_told
+}
+
+/// Whether a reply is that of a command over these entries, and does the same to them.
+fn is_reply(rt: &impl Abort, plain: &mut Plain, line: Line, reply: &Told) -> bool {
+    match line {
+        Insert(key) => is_insertion(rt, plain, key, reply),
+        Find(key) => is_search(plain, key, reply),
+        List => is_list(plain, usize::MAX, reply),
+        Ranks => is_ranks(plain, reply),
+        Drain(count) => is_drain(plain, count, reply),
     }
 }
 
@@ -158,19 +191,14 @@ fn mark(met: &mut Refusals, line: Line) {
 /// The commands of the run, on a heap.
 fn commands<'h>(rt: &impl Abort, heap: &'h LocalHeap) -> Vec<Command<P0, Item>, &'h LocalHeap> {
     let mut commands = Vec::with_capacity(heap, LINES.len()).expect(rt, "memory");
-    for line in LINES {
-        commands.push(command(line)).expect(rt, "memory");
+    for line in &LINES {
+        commands.push(command(*line)).expect(rt, "memory");
     }
     commands
 }
 
 /// Whether the replies are those of the commands over no entry; the vector is then what the arena has to be.
-fn are_replies(
-    rt: &impl Abort,
-    plain: &mut Plain,
-    replies: &[Reply<P0, Item, &LocalHeap>],
-    met: &mut Refusals,
-) -> bool {
+fn are_replies(rt: &impl Abort, plain: &mut Plain, replies: &[Told], met: &mut Refusals) -> bool {
     let mut is_refused = false;
     for (line, reply) in LINES.iter().zip(replies) {
         if !is_reply(rt, plain, *line, reply) {

@@ -1,14 +1,9 @@
 //! Removals, rebuilds, drains and clones.
+use super::places::are_without;
 use super::{Numbers, Row, cloned, has_moved, has_ranks, parents, row_of, rows};
 use std::alloc::Global;
 use std::process::Abort;
 use triple_ord::{P0, Ptr};
-
-/// Whether these are the old entries without one.
-fn are_without(old: &[Row], new: &[Row], p: P0) -> bool {
-    let others = old.iter().filter(|row| row.p != p);
-    new.len().saturating_add(1) == old.len() && new.iter().zip(others).all(|(a, b)| a == b)
-}
 
 /// Takes an entry out.
 fn take(rt: &impl Abort, b: &mut Numbers, p: P0) -> Row {
@@ -64,10 +59,20 @@ fn have_same_items(old: &[Row], new: &[Row]) -> bool {
 /// How many entries a search may visit in a rebuilt tree: the binary digits of their number.
 const DIGITS: [u128; 8] = [0, 1, 2, 2, 3, 3, 3, 3];
 
+/// How many entries a search for a key visits.
+fn visits(a: &Numbers, k: u64) -> u128 {
+    a.find_key_counted(&k).1.count()
+}
+
 /// A rebuilt tree: the ranks are right, and each search is short.
 fn is_rebuilt(a: &Numbers) -> bool {
     let most = DIGITS.get(a.len()).copied().unwrap_or(0);
-    has_ranks(a) && (0u64..=7).all(|k| a.find_key_counted(&k).1.count() <= most)
+    for k in 0u64..=7 {
+        if visits(a, k) > most {
+            return false;
+        }
+    }
+    has_ranks(a)
 }
 
 /// Compresses an arena.
@@ -86,21 +91,23 @@ fn are_numbered(rows: &[Row]) -> bool {
         && row.p.generation() == 4)
 }
 
+/// The entries of a rebuilt tree, which has the old items.
+fn rebuilt(rt: &impl Abort, alloc: Global, b: &Numbers, old: &[Row]) -> Vec<Row> {
+    let new = rows(rt, alloc, b);
+    assert!(rt;
+        have_same_items(old, new.as_slice()) && is_rebuilt(b),
+        "{old:?}"
+    );
+    new
+}
+
 /// Both rebuilds, of a clone.
 fn rebuilds(rt: &impl Abort, alloc: Global, a: &Numbers, old: &[Row]) {
     let mut b = cloned(rt, a);
     compress(&mut b);
-    let new = rows(rt, alloc, &b);
-    assert!(rt;
-        have_same_items(old, new.as_slice()) && is_rebuilt(&b),
-        "{old:?}"
-    );
+    let _ = rebuilt(rt, alloc, &b, old);
     make_canonical(&mut b);
-    let new = rows(rt, alloc, &b);
-    assert!(rt;
-        have_same_items(old, new.as_slice()) && is_rebuilt(&b),
-        "{old:?}"
-    );
+    let new = rebuilt(rt, alloc, &b, old);
     assert!(rt; are_numbered(new.as_slice()), "{new:?}");
 }
 
@@ -129,7 +136,7 @@ fn drained(rt: &impl Abort, alloc: Global, a: &Numbers, count: usize) -> Vec<Row
 }
 
 /// What `remove`, `drain_ordered`, `compress`, `compress_canonical` and `clone` do.
-pub fn hold(rt: &impl Abort, alloc: Global, a: &Numbers, old: &[Row]) {
+pub(super) fn hold(rt: &impl Abort, alloc: Global, a: &Numbers, old: &[Row]) {
     let b = cloned(rt, a);
     assert_eq!(rt; rows(rt, alloc, &b).as_slice(), old);
     assert!(rt; parents(rt, alloc, &b).as_slice() == parents(rt, alloc, a).as_slice());

@@ -1,6 +1,6 @@
 //! Insertions of every kind.
 use super::places::{fits, fits_nonhereditary, gap_of, is_met, is_replaced, place_of};
-use super::{Numbers, Row, cloned, has_moved, parents, rows};
+use super::{Numbers, Row, cloned, has_moved, parents, put, rows};
 use std::alloc::Global;
 use std::cmp::Ordering;
 use std::process::Abort;
@@ -85,14 +85,6 @@ fn is_done(old: &[Row], new: &[Row], kind: Kind, k: u64, entry: OrdEntryKind<P0>
     }
 }
 
-/// Inserts an item of another key by the kind.
-fn put(a: &mut Numbers, kind: Kind, k: u64) -> Result<OrdEntryKind<P0>, OrdInsertionError> {
-    let entry = a.entry_insert(kind_of(kind, &k))?;
-    let shown = entry.ptr();
-    let _ = entry.insert(OrdPair::new(9, 99));
-    Ok(shown)
-}
-
 /// Whether the entries are now as the answer says, or as they were where the kind is refused.
 fn is_right(
     old: &[Row],
@@ -108,11 +100,11 @@ fn is_right(
     }
 }
 
-/// An insertion of this kind into a clone.
+/// An insertion by this kind into a clone, of an item with another key.
 fn by_kind(rt: &impl Abort, alloc: Global, a: &Numbers, old: &[Row], kind: Kind, k: u64) {
     let mut b = cloned(rt, a);
     let before = parents(rt, alloc, &b);
-    let outcome = put(&mut b, kind, k);
+    let outcome = put(&mut b, kind_of(kind, &k), OrdPair::new(9, 99));
     let new = rows(rt, alloc, &b);
     assert!(rt;
         is_right(old, new.as_slice(), kind, k, outcome),
@@ -137,7 +129,7 @@ fn by_key(rt: &impl Abort, alloc: Global, a: &Numbers, old: &[Row], k: u64) {
 }
 
 /// Each kind by each key, and beside each index.
-pub fn hold(rt: &impl Abort, alloc: Global, a: &Numbers, old: &[Row]) {
+pub(super) fn hold(rt: &impl Abort, alloc: Global, a: &Numbers, old: &[Row]) {
     let most = old.len() as u64;
     for k in 0..=most.saturating_add(1) {
         by_key(rt, alloc, a, old, k);

@@ -19,7 +19,7 @@ type Entry<'a, 'h> = SimpleOrdArenaInsertEntry<'a, P0, OrdPair<u64, u64>, &'h Lo
 /// Asks for an entry by a key.
 fn entry_by<'a, 'h>(
     call: Call,
-    a: &'a mut Numbers<&'h LocalHeap>,
+    a: &'a mut Numbers<'h>,
     key: &u64,
 ) -> Result<Entry<'a, 'h>, OrdInsertionError> {
     match call {
@@ -40,7 +40,7 @@ fn put_by(
     alloc: Global,
     heap: &LocalHeap,
     call: Call,
-    a: &mut Numbers<&LocalHeap>,
+    a: &mut Numbers,
     key: u64,
 ) -> Result<Option<u32>, OrdInsertionError> {
     let entry = entry_by(call, a, &key)?;
@@ -57,7 +57,7 @@ fn refusal_of(
     alloc: Global,
     heap: &LocalHeap,
     call: Call,
-    a: &mut Numbers<&LocalHeap>,
+    a: &mut Numbers,
 ) -> Option<OrdInsertionError> {
     assert_eq!(rt; put_by(rt, alloc, heap, call, a, 7), Ok(None));
     let before = look(rt, alloc, a);

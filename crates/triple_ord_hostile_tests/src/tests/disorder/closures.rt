@@ -1,6 +1,6 @@
 //! Searches by closures that say one word after another, whatever they are shown.
-use super::places::place_of;
-use super::{Numbers, Row};
+use super::places::{place_of, row_after, row_before};
+use super::{Item, Numbers, Row};
 use std::cmp::Ordering;
 use std::process::Abort;
 use triple_ord::P0;
@@ -37,17 +37,23 @@ impl Words {
         self.word(call)
     }
 
-    /// The call at which an entry was shown, and whether it was shown once.
+    /// The call at which an entry was shown, where it was shown once.
     fn call_of(&self, p: P0) -> Option<usize> {
-        if self.shown.iter().filter(|shown| **shown == Some(p)).count() != 1 {
-            return None;
+        let mut found = None;
+        for (call, shown) in self.shown.iter().enumerate() {
+            if *shown == Some(p) {
+                if found.is_some() {
+                    return None;
+                }
+                found = Some(call);
+            }
         }
-        self.shown.iter().position(|shown| *shown == Some(p))
+        found
     }
 
-    /// What was said to the entry of a row, if there is one.
-    fn said_to(&self, row: Option<&Row>) -> Option<Ordering> {
-        let call = self.call_of(row?.p)?;
+    /// What was said to an entry.
+    fn said_to(&self, p: P0) -> Option<Ordering> {
+        let call = self.call_of(p)?;
         Some(self.word(call))
     }
 
@@ -75,15 +81,32 @@ fn are_shown(rows: &[Row], words: &Words) -> bool {
     true
 }
 
+/// Whether the entry beside a gap, if there is one, was told this word.
+fn is_told(words: &Words, row: &Option<Row>, word: Ordering) -> bool {
+    match row {
+        None => true,
+        Some(row) => words.said_to(row.p) == Some(word),
+    }
+}
+
+/// Whether this entry was shown last; where there is none, whether none was shown.
+fn is_last(words: &Words, row: &Option<Row>) -> bool {
+    match (words.last(), row) {
+        (Some((p, _)), Some(row)) => p == row.p,
+        (None, None) => true,
+        _ => false,
+    }
+}
+
 /// Whether the search stops at this gap.
 fn stops(rows: &[Row], words: &Words, gap: usize) -> bool {
-    let before = gap.checked_sub(1).and_then(|i| rows.get(i));
-    let after = rows.get(gap);
-    let is_right = before.is_none() || words.said_to(before) == Some(Ordering::Greater);
-    let is_left = after.is_none() || words.said_to(after) == Some(Ordering::Less);
-    let last = words.last().map(|last| last.0);
-    let is_beside = last == before.map(|row| row.p) || last == after.map(|row| row.p);
-    is_right && is_left && is_beside
+    let before = row_before(rows, gap);
+    let after = row_after(rows, gap);
+    let is_right = is_told(words, &before, Ordering::Greater);
+    let is_left = is_told(words, &after, Ordering::Less);
+    let is_after_last = is_last(words, &before);
+    let is_before_last = is_last(words, &after);
+    is_right && is_left && (is_after_last || is_before_last)
 }
 
 /// Whether a search by these words is one: it ends at Equal, or at a gap.
@@ -92,20 +115,39 @@ fn is_search(rows: &[Row], words: &Words) -> bool {
     are_shown(rows, words) && (is_equal || (0..=rows.len()).any(|gap| stops(rows, words, gap)))
 }
 
+/// The search for a similar entry by these words, how many entries it visits, and the words then.
+fn similar_by(a: &Numbers, said: [Ordering; 3]) -> (Option<(P0, Ordering)>, u128, Words) {
+    let mut words = Words::new(said);
+    let mut closure = |p: P0, _item: &Item| words.next(p);
+    let (similar, visits) = a.find_similar_with_counted(&mut closure);
+    (similar, visits.count(), words)
+}
+
+/// The search for an equal entry by these words, how many entries it visits, and the words then.
+fn equal_by(a: &Numbers, said: [Ordering; 3]) -> (Option<P0>, u128, Words) {
+    let mut words = Words::new(said);
+    let mut closure = |p: P0, _item: &Item| words.next(p);
+    let (found, visits) = a.find_with_counted(&mut closure);
+    (found, visits.count(), words)
+}
+
+/// The entry to which Equal was said.
+fn equal_of(similar: Option<(P0, Ordering)>) -> Option<P0> {
+    match similar {
+        Some((p, Ordering::Equal)) => Some(p),
+        _ => None,
+    }
+}
+
 /// The searches by these words.
 fn by_words(rt: &impl Abort, a: &Numbers, rows: &[Row], said: [Ordering; 3]) {
-    let mut words = Words::new(said);
-    let mut closure = |p: P0, _item: &triple_ord::OrdPair<u64, u64>| words.next(p);
-    let (similar, c) = a.find_similar_with_counted(&mut closure);
+    let (similar, visits, words) = similar_by(a, said);
     assert!(rt; is_search(rows, &words), "{said:?} over {rows:?}");
     assert!(rt; similar == words.last(), "{said:?} over {rows:?}");
-    assert!(rt; c.count() == words.calls as u128 && words.calls <= 4);
-    let mut again = Words::new(said);
-    let mut closure = |p: P0, _item: &triple_ord::OrdPair<u64, u64>| again.next(p);
-    let (found, c) = a.find_with_counted(&mut closure);
-    let equal = similar.filter(|last| last.1 == Ordering::Equal);
-    assert!(rt; found == equal.map(|last| last.0), "{said:?} over {rows:?}");
-    assert!(rt; c.count() == again.calls as u128 && again.calls == words.calls);
+    assert!(rt; visits == words.calls as u128 && words.calls <= 4);
+    let (found, visits, again) = equal_by(a, said);
+    assert!(rt; found == equal_of(similar), "{said:?} over {rows:?}");
+    assert!(rt; visits == again.calls as u128 && again.calls == words.calls);
 }
 
 /// The word of a ternary digit.
@@ -118,7 +160,7 @@ fn word_of(digit: usize) -> Ordering {
 }
 
 /// Every three words.
-pub fn hold(rt: &impl Abort, a: &Numbers, rows: &[Row]) {
+pub(super) fn hold(rt: &impl Abort, a: &Numbers, rows: &[Row]) {
     for number in 0usize..27 {
         let said = [word_of(number), word_of(number / 3), word_of(number / 9)];
         by_words(rt, a, rows, said);

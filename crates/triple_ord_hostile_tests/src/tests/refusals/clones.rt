@@ -76,15 +76,20 @@ fn receiver<'h>(rt: &impl Abort, heap: &'h LocalHeap, capacity: usize) -> Texts<
 /// What the receiver looks like.
 const TWO: &str = "(2, 2) P0[2](2)=6:an older one:1 P0[1](2)=7:an old one:2";
 
+/// The rank of the node at an index.
+fn rank_at(rt: &impl Abort, texts: &Texts, index: u32) -> u8 {
+    let (_, node) = texts.get_inx_node(index).expect(rt, "its node");
+    node.t.rank
+}
+
 /// Capacity and generation, and the entries in order, each with its text and the rank of its node.
 fn look(rt: &impl Abort, alloc: Global, texts: &Texts) -> String {
     let counts = (texts.capacity(), texts.generation());
-    let mut seen = String::new(alloc);
-    write!(seen, "{counts:?}").expect(rt, "memory");
+    let mut seen = format!(in alloc; "{counts:?}").expect(rt, "memory");
     for (p, pair) in texts {
-        let (_, node) = texts.get_inx_node(p.inx()).expect(rt, "its node");
+        let rank = rank_at(rt, texts, p.inx());
         let word = pair.v().text.as_str();
-        write!(seen, " {p:?}={}:{word}:{}", pair.k(), node.t.rank).expect(rt, "memory");
+        write!(seen, " {p:?}={}:{word}:{rank}", pair.k()).expect(rt, "memory");
     }
     seen
 }
@@ -194,24 +199,51 @@ fn length_of(told: Option<&Told>) -> usize {
     }
 }
 
-/// Clones the source to an arena without room. Tells whether that was refused, which changes nothing.
-fn is_refused_to_arena<'h>(
+/// The indexes up to 4, each with the length of its text in a clone, 0 where there is none.
+const LENGTHS: [(u32, usize); 4] = [(1, 33), (2, 0), (3, 38), (4, 18)];
+
+/// Tells whether a clone to a container without room was refused, which changes none of its counts: length, capacity and generation.
+fn is_refused_of(
     rt: &impl Abort,
-    source: &Texts<'h>,
-    arena: &mut Arena<P0, Told<'h>, &'h LocalHeap>,
+    outcome: Result<(), ReallocationError>,
+    counts: (usize, usize, u64),
 ) -> bool {
-    let outcome = source.clone_to_arena(
+    match outcome {
+        Ok(()) => {
+            assert_eq!(rt; counts, (3, 4, 3));
+            false
+        }
+        Err(refusal) => {
+            assert_eq!(rt; refusal, ReallocationError::AllocError);
+            assert_eq!(rt; counts, (0, 0, 2));
+            true
+        }
+    }
+}
+
+/// An arena that a clone goes to.
+type TextArena<'h> = Arena<P0, Told<'h>, &'h LocalHeap>;
+
+/// Clones the source to an arena.
+fn to_arena<'h>(source: &Texts<'h>, arena: &mut TextArena<'h>) -> Result<(), ReallocationError> {
+    source.clone_to_arena(
         arena,
         |_p: P0, pair: &OrdPair<u64, Text>| pair.v().clone().ok(),
-    );
+    )
+}
+
+/// Clones the source to an arena without room. Tells whether that was refused, which changes nothing.
+fn is_refused_to_arena<'h>(rt: &impl Abort, source: &Texts<'h>, arena: &mut TextArena<'h>) -> bool {
+    let outcome = to_arena(source, arena);
     let counts = (arena.len(), arena.capacity(), arena.generation());
-    if outcome.is_err() {
-        assert_eq!(rt; outcome, Err(ReallocationError::AllocError));
-        assert_eq!(rt; counts, (0, 0, 2));
-    } else {
-        assert_eq!(rt; counts, (3, 4, 3));
+    is_refused_of(rt, outcome, counts)
+}
+
+/// The arena has the source's texts at their indexes.
+fn arena_has_texts(rt: &impl Abort, arena: &TextArena) {
+    for (i, length) in &LENGTHS {
+        assert_eq!(rt; length_of(arena.get(P0::_from_raw(*i, 2))), *length);
     }
-    outcome.is_err()
 }
 
 /// Clones it where so many units of room are left, and then once more with memory.
@@ -223,29 +255,33 @@ fn is_clone_to_arena_refused(rt: &impl Abort, alloc: Global, units: usize) -> bo
     let was_refused = is_refused_to_arena(rt, &source, &mut arena);
     drop(blocks);
     assert!(rt; !is_refused_to_arena(rt, &source, &mut arena));
-    let lengths = [1u32, 2, 3, 4].map(|i| length_of(arena.get(P0::_from_raw(i, 2))));
-    assert_eq!(rt; lengths, [33, 0, 38, 18]);
+    arena_has_texts(rt, &arena);
     was_refused
 }
 
-/// Clones the source to a chain without room. Tells whether that was refused, which changes nothing.
-fn is_refused_to_chain<'h>(
-    rt: &impl Abort,
-    source: &Texts<'h>,
-    chain: &mut ChainArena<P0, Told<'h>, &'h LocalHeap>,
-) -> bool {
-    let outcome = source.clone_to_chain_arena(
+/// A chain that a clone goes to.
+type TextChain<'h> = ChainArena<P0, Told<'h>, &'h LocalHeap>;
+
+/// Clones the source to a chain.
+fn to_chain<'h>(source: &Texts<'h>, chain: &mut TextChain<'h>) -> Result<(), ReallocationError> {
+    source.clone_to_chain_arena(
         chain,
         |_p: P0, pair: &OrdPair<u64, Text>| pair.v().clone().ok(),
-    );
+    )
+}
+
+/// Clones the source to a chain without room. Tells whether that was refused, which changes nothing.
+fn is_refused_to_chain<'h>(rt: &impl Abort, source: &Texts<'h>, chain: &mut TextChain<'h>) -> bool {
+    let outcome = to_chain(source, chain);
     let counts = (chain.len(), chain.capacity(), chain.generation());
-    if outcome.is_err() {
-        assert_eq!(rt; outcome, Err(ReallocationError::AllocError));
-        assert_eq!(rt; counts, (0, 0, 2));
-    } else {
-        assert_eq!(rt; counts, (3, 4, 3));
+    is_refused_of(rt, outcome, counts)
+}
+
+/// The chain has the source's texts at their indexes.
+fn chain_has_texts(rt: &impl Abort, chain: &TextChain) {
+    for (i, length) in &LENGTHS {
+        assert_eq!(rt; length_of(chain.get(P0::_from_raw(*i, 2))), *length);
     }
-    outcome.is_err()
 }
 
 /// Clones it where so many units of room are left, and then once more with memory.
@@ -257,8 +293,7 @@ fn is_clone_to_chain_refused(rt: &impl Abort, alloc: Global, units: usize) -> bo
     let was_refused = is_refused_to_chain(rt, &source, &mut chain);
     drop(blocks);
     assert!(rt; !is_refused_to_chain(rt, &source, &mut chain));
-    let lengths = [1u32, 2, 3, 4].map(|i| length_of(chain.get(P0::_from_raw(i, 2))));
-    assert_eq!(rt; lengths, [33, 0, 38, 18]);
+    chain_has_texts(rt, &chain);
     was_refused
 }
 

@@ -6,7 +6,7 @@ use std::process::Abort;
 use triple_ord::{InvalidationOption, OrdPair, P0, ReallocationError};
 
 /// Inserts keys up to the first that is refused, which changes nothing. Answers its turn, 20 where there is none.
-fn put_until_refused(rt: &impl Abort, alloc: Global, a: &mut Numbers<&LocalHeap>) -> u32 {
+fn put_until_refused(rt: &impl Abort, alloc: Global, a: &mut Numbers) -> u32 {
     for turn in 0u32..20 {
         let before = look(rt, alloc, a);
         if put(rt, a, turn).is_none() {
@@ -42,7 +42,7 @@ fn each_growth_of_an_insertion(rt: HostRuntime) {
 }
 
 /// Reserves room for ten entries. Tells whether that was refused, which changes nothing.
-fn is_refused_ten(rt: &impl Abort, alloc: Global, a: &mut Numbers<&LocalHeap>) -> bool {
+fn is_refused_ten(rt: &impl Abort, alloc: Global, a: &mut Numbers) -> bool {
     let before = look(rt, alloc, a);
     match a.reallocate_min_capacity(10) {
         Ok(()) => {
@@ -91,10 +91,7 @@ fn each_request_for_a_capacity(rt: HostRuntime) {
 }
 
 /// Takes all entries of the source over, each value raised by one. Answers how often the closure was called too.
-fn transfer(
-    a: &mut Numbers<&LocalHeap>,
-    source: &mut Numbers,
-) -> (Result<(), ReallocationError>, u64) {
+fn transfer(a: &mut Numbers, source: &mut Numbers) -> (Result<(), ReallocationError>, u64) {
     let mut calls = 0u64;
     let outcome = a.transfer_canonical_reallocating(
         9,
@@ -113,12 +110,7 @@ const TRANSFERRED: &str =
     "(5, 5, None, 9) P0[1](9)=(0, 1):1 P0[2](9)=(1, 1):2 P0[3](9)=(7, 1):3 P0[4](9)=(8, 1):1 P0[5](9)=(14, 1):2";
 
 /// Takes five keys over. Tells whether that was refused, which changes neither arena.
-fn is_refused_five(
-    rt: &impl Abort,
-    alloc: Global,
-    a: &mut Numbers<&LocalHeap>,
-    source: &mut Numbers,
-) -> bool {
+fn is_refused_five(rt: &impl Abort, alloc: Global, a: &mut Numbers, source: &mut Numbers) -> bool {
     let before = look(rt, alloc, source);
     let (outcome, calls) = transfer(a, source);
     let is_refused = outcome.is_err();
@@ -136,7 +128,8 @@ fn is_refused_five(
 /// Takes five keys over where so many units of room are left. Tells whether that was refused; then it is done with memory.
 fn is_transfer_refused(rt: &impl Abort, alloc: Global, units: usize) -> bool {
     let heap = new_heap(rt, alloc);
-    let mut source = Numbers::new(alloc);
+    let store = new_heap(rt, alloc);
+    let mut source = Numbers::new(&store);
     put_first(rt, &mut source, 5);
     let blocks = leave(rt, alloc, &heap, units);
     let mut a = Numbers::new(&heap);

@@ -1,14 +1,25 @@
 //! Arenas in every order.
 ghost use Rattle.std.specs.Prelude.{◌<◌};
 
-use super::{Numbers, rows};
+use super::{Item, Numbers, put, rows};
 use std::alloc::Global;
 use std::cmp::Ordering;
 use std::process::Abort;
 use triple_ord::{OrdInsertKind, OrdPair, P0, Ptr};
 
+/// How an arena is built.
+#[derive(Clone, Copy)]
+pub(super) enum Building {
+    /// Entry by entry, each in any gap.
+    Manual,
+    /// In order, and then written over.
+    Written,
+    /// Entry by entry, and then pairs of keys are made equal.
+    Halved,
+}
+
 /// How many orders n keys have.
-pub fn orders(n: u64) -> u64 {
+pub(super) fn orders(n: u64) -> u64 {
     [1, 1, 2, 6, 24, 120, 720]
         .get(n as usize)
         .copied()
@@ -38,16 +49,22 @@ fn kind_at(
 }
 
 /// The keys from 1 to n, each put by hand into the gap that the number says.
-pub fn manual(rt: &impl Abort, alloc: Global, n: u64, number: u64) -> Numbers {
+fn manual(rt: &impl Abort, alloc: Global, n: u64, number: u64) -> Numbers {
     let mut a = Numbers::new(alloc);
     let mut rest = number;
     for key in 1..=n {
         let kind = kind_at(rt, alloc, &a, (rest % key) as usize);
-        let entry = a.entry_insert(kind).expect(rt, "an entry");
-        let _ = entry.insert(OrdPair::new(key, key));
+        assert!(rt; put(&mut a, kind, OrdPair::new(key, key)).is_ok());
         rest /= key;
     }
     a
+}
+
+/// Writes over the item of an entry.
+fn write(a: &mut Numbers, p: P0, item: Item) {
+    if let Some(pair) = a.get_mut(p) {
+        *pair = item;
+    }
 }
 
 /// Writes over the keys of an arena, each the key at the same place of another one, or half of it, rounded up.
@@ -56,14 +73,12 @@ fn write_over(rt: &impl Abort, alloc: Global, a: &mut Numbers, other: &Numbers, 
 {
     let keys = rows(rt, alloc, other);
     for (row, key) in rows(rt, alloc, a).iter().zip(&keys) {
-        if let Some(pair) = a.get_mut(row.p) {
-            *pair = OrdPair::new(key.key.div_ceil(by), row.value);
-        }
+        write(a, row.p, OrdPair::new(key.key.div_ceil(by), row.value));
     }
 }
 
 /// The keys from 1 to n, inserted by their order and then written over in the order of the number.
-pub fn written(rt: &impl Abort, alloc: Global, n: u64, number: u64) -> Numbers {
+fn written(rt: &impl Abort, alloc: Global, n: u64, number: u64) -> Numbers {
     let mut a = Numbers::new(alloc);
     for key in 1..=n {
         let outcome = a.insert(OrdPair::new(key, key));
@@ -74,8 +89,23 @@ pub fn written(rt: &impl Abort, alloc: Global, n: u64, number: u64) -> Numbers {
 }
 
 /// The keys from 1 to n put by hand, and then halved, so that pairs are equal.
-pub fn halved(rt: &impl Abort, alloc: Global, n: u64, number: u64) -> Numbers {
+fn halved(rt: &impl Abort, alloc: Global, n: u64, number: u64) -> Numbers {
     let mut a = manual(rt, alloc, n, number);
     write_over(rt, alloc, &mut a, &manual(rt, alloc, n, number), 2);
     a
+}
+
+/// An arena of n entries, built so; the number says in which order.
+pub(super) fn built(
+    rt: &impl Abort,
+    alloc: Global,
+    building: Building,
+    n: u64,
+    number: u64,
+) -> Numbers {
+    match building {
+        Building::Manual => manual(rt, alloc, n, number),
+        Building::Written => written(rt, alloc, n, number),
+        Building::Halved => halved(rt, alloc, n, number),
+    }
 }

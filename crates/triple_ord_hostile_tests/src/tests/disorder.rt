@@ -6,13 +6,18 @@ mod leaving;
 mod places;
 mod searches;
 
-use building::{halved, manual, orders, written};
+use building::{Building, built, orders};
 use std::alloc::Global;
 use std::process::Abort;
-use triple_ord::{OrdPair, P0, Ptr, SimpleOrdArena};
+use triple_ord::{
+    OrdEntryKind, OrdInsertKind, OrdInsertionError, OrdPair, P0, Ptr, SimpleOrdArena,
+};
+
+/// A key with a number.
+type Item = OrdPair<u64, u64>;
 
 /// Keys with a number each.
-type Numbers = SimpleOrdArena<P0, OrdPair<u64, u64>>;
+type Numbers = SimpleOrdArena<P0, Item>;
 
 /// An entry, as it is kept in a plain vector.
 #[derive(Clone, Copy, Debug, PartialEq, Eq)]
@@ -23,12 +28,24 @@ struct Row {
 }
 
 /// An entry of this pointer and pair.
-fn row_of(p: P0, pair: &OrdPair<u64, u64>) -> Row {
+fn row_of(p: P0, pair: &Item) -> Row {
     Row {
         p,
         key: *pair.k(),
         value: *pair.v(),
     }
+}
+
+/// Inserts an item by a kind, whatever its own key.
+fn put(
+    a: &mut Numbers,
+    kind: OrdInsertKind<P0, &u64>,
+    item: Item,
+) -> Result<OrdEntryKind<P0>, OrdInsertionError> {
+    let entry = a.entry_insert(kind)?;
+    let shown = entry.ptr();
+    let _ = entry.insert(item);
+    Ok(shown)
 }
 
 /// A clone.
@@ -61,19 +78,22 @@ fn is_above(rank: u8, child: u8) -> bool {
     rank > child && rank - child <= 2
 }
 
+/// Whether the node at an index keeps the rank rules.
+fn keeps_rules(a: &Numbers, i: u32) -> bool {
+    let Some((_, node)) = a.get_inx_node(i) else {
+        return false;
+    };
+    let lesser = rank_at(a, node.t.p_tree0.get());
+    let greater = rank_at(a, node.t.p_tree1.get());
+    let rank = node.t.rank;
+    let is_leaf = lesser == 0 && greater == 0;
+    is_above(rank, lesser) && is_above(rank, greater) && (rank == 1 || !is_leaf)
+}
+
 /// The rank rules, read from the nodes.
 fn has_ranks(a: &Numbers) -> bool {
     for (p, _) in a {
-        let Some((_, node)) = a.get_inx_node(p.inx()) else {
-            return false;
-        };
-        let lesser = rank_at(a, node.t.p_tree0.get());
-        let greater = rank_at(a, node.t.p_tree1.get());
-        let rank = node.t.rank;
-        if !is_above(rank, lesser) || !is_above(rank, greater) {
-            return false;
-        }
-        if lesser == 0 && greater == 0 && rank != 1 {
+        if !keeps_rules(a, p.inx()) {
             return false;
         }
     }
@@ -83,14 +103,18 @@ fn has_ranks(a: &Numbers) -> bool {
 /// The index of each entry with that of its parent.
 type Parents = Vec<(u32, Option<u32>)>;
 
+/// The index of the parent of the node at an index.
+fn parent_of(rt: &impl Abort, a: &Numbers, i: u32) -> Option<u32> {
+    let (_, node) = a.get_inx_node(i).expect(rt, "its node");
+    node.t.p_back.get()
+}
+
 /// The parents of an arena's entries.
 fn parents(rt: &impl Abort, alloc: Global, a: &Numbers) -> Parents {
     let mut parents = Vec::new(alloc);
     for (p, _) in a {
-        let (_, node) = a.get_inx_node(p.inx()).expect(rt, "its node");
-        parents
-            .push((p.inx(), node.t.p_back.get()))
-            .expect(rt, "memory");
+        let i = p.inx();
+        parents.push((i, parent_of(rt, a, i))).expect(rt, "memory");
     }
     parents
 }
@@ -130,13 +154,13 @@ fn holds(rt: &impl Abort, alloc: Global, a: &Numbers, calls: Calls) {
     }
 }
 
-/// Every arena of n entries: built entry by entry, each in any gap; built in order and then written over; and with pairs of equal
-/// keys.
+/// Every arena of n entries, built in each way.
 fn all_hold(rt: &impl Abort, alloc: Global, n: u64, calls: Calls) {
     for number in 0..orders(n) {
-        holds(rt, alloc, &manual(rt, alloc, n, number), calls);
-        holds(rt, alloc, &written(rt, alloc, n, number), calls);
-        holds(rt, alloc, &halved(rt, alloc, n, number), calls);
+        for building in &[Building::Manual, Building::Written, Building::Halved] {
+            let a = built(rt, alloc, *building, n, number);
+            holds(rt, alloc, &a, calls);
+        }
     }
 }
 

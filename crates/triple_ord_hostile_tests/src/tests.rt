@@ -1,0 +1,3 @@
+//! Refused memory and disorder.
+mod disorder;
+mod refusals;

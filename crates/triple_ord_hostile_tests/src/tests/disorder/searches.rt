@@ -1,0 +1,103 @@
+//! Searches by key, from the root and from every hint.
+use super::places::{may_be_similar, may_find};
+use super::{Numbers, Row};
+use std::cmp::Ordering;
+use std::process::Abort;
+use triple_ord::{P0, Ptr};
+
+/// Where a search begins: at the root, or at a hint, by at most so many steps along the list.
+#[derive(Clone, Copy, Debug)]
+enum Start {
+    Root,
+    Hint(P0, usize),
+}
+
+/// How many entries a search among n may visit after insertions alone: c with `fib(c+2) <= n+1`.
+const TIGHT: [u128; 8] = [0, 1, 2, 2, 3, 3, 3, 4];
+
+/// How many entries a search among so many may visit.
+fn most_visits(n: usize, start: Start) -> u128 {
+    let most = TIGHT.get(n).copied().unwrap_or(0);
+    match start {
+        Start::Root => most,
+        Start::Hint(_, num) => most.saturating_add(num.min(n) as u128),
+    }
+}
+
+/// The search for an equal key, and how many entries it visits.
+fn equal_counted(a: &Numbers, start: Start, k: u64) -> (Option<P0>, u128) {
+    let (found, visits) = match start {
+        Start::Root => a.find_key_counted(&k),
+        Start::Hint(hint, num) => a.find_key_linear_counted(hint, num, &k),
+    };
+    (found, visits.count())
+}
+
+/// The same search without the count.
+fn equal(a: &Numbers, start: Start, k: u64) -> Option<P0> {
+    match start {
+        Start::Root => a.find_key(&k),
+        Start::Hint(hint, num) => a.find_key_linear(hint, num, &k),
+    }
+}
+
+/// The search for a similar key, and how many entries it visits.
+fn similar_counted(a: &Numbers, start: Start, k: u64) -> (Option<(P0, Ordering)>, u128) {
+    let (similar, visits) = match start {
+        Start::Root => a.find_similar_key_counted(&k),
+        Start::Hint(hint, num) => a.find_similar_key_linear_counted(hint.inx(), num, &k),
+    };
+    (similar, visits.count())
+}
+
+/// The same search without the count.
+fn similar(a: &Numbers, start: Start, k: u64) -> Option<(P0, Ordering)> {
+    match start {
+        Start::Root => a.find_similar_key(&k),
+        Start::Hint(hint, num) => a.find_similar_key_linear(hint.inx(), num, &k),
+    }
+}
+
+/// The searches for an equal key.
+fn equal_holds(rt: &impl Abort, a: &Numbers, rows: &[Row], start: &Start, k: u64) {
+    let (found, c) = equal_counted(a, *start, k);
+    let is_short = c <= most_visits(rows.len(), *start);
+    assert!(rt;
+        may_find(rows, k, found, c) && is_short,
+        "{k} from {start:?} in {rows:?}"
+    );
+    assert!(rt; equal(a, *start, k) == found);
+}
+
+/// The searches for a similar key.
+fn similar_holds(rt: &impl Abort, a: &Numbers, rows: &[Row], start: &Start, k: u64) {
+    let (found, c) = similar_counted(a, *start, k);
+    let is_short = c <= most_visits(rows.len(), *start);
+    assert!(rt;
+        may_be_similar(rows, k, found, c) && is_short,
+        "{k} from {start:?} in {rows:?}"
+    );
+    assert!(rt; similar(a, *start, k) == found);
+}
+
+/// The four searches that begin so.
+fn all_hold(rt: &impl Abort, a: &Numbers, rows: &[Row], start: &Start, k: u64) {
+    equal_holds(rt, a, rows, start, k);
+    similar_holds(rt, a, rows, start, k);
+}
+
+/// All searches for each key, those from a hint also by pointers that name no entry.
+pub(super) fn hold(rt: &impl Abort, a: &Numbers, rows: &[Row]) {
+    let most = rows.len() as u64;
+    for k in 0..=most.saturating_add(1) {
+        all_hold(rt, a, rows, &Start::Root, k);
+        for i in 0u32..=7 {
+            for num in [0usize, 1, 2, 3, usize::MAX] {
+                let start = Start::Hint(P0::_from_raw(i, 2), num);
+                all_hold(rt, a, rows, &start, k);
+            }
+        }
+        let stale = Start::Hint(P0::_from_raw(1, 9), 3);
+        all_hold(rt, a, rows, &stale, k);
+    }
+}
