@@ -1,7 +1,8 @@
-//! Measures an ordered arena beside std's `BTreeMap` and plain vectors, and its searches from a hint beside whole ones.
+//! Measures an ordered arena beside std's `BTreeMap` and plain vectors, and its searches from a hint beside whole ones; and an
+//! agenda beside std's `BinaryHeap` and `BTreeMap`.
 //!
-//! Each argument is a number of entries. Standard output gets the sums of what the measured calls answered, the same on each run;
-//! standard error gets their times, in nanoseconds an operation, the best of several rounds.
+//! Each argument is a number of entries, and of jobs. Standard output gets the sums of what the measured calls answered, the same on
+//! each run; standard error gets their times, in nanoseconds an operation, the best of several rounds.
 #![tactic(auto)]
 
 mod arena;
@@ -11,7 +12,9 @@ mod lap;
 mod map;
 mod measures;
 mod report;
+mod scheduling;
 mod store;
+mod timetable;
 mod vector;
 
 use anyhow::{Context, Result};
@@ -24,6 +27,7 @@ fn main(rt: HostRuntime) -> Result<()> {
             .parse::<usize>()
             .context("a number of entries")?;
         measures::run(&rt, n)?;
+        scheduling::run(&rt, n)?;
     }
     Ok(())
 }

@@ -62,7 +62,8 @@ fn report<R: System>(
     let row = Row {
         n,
         measure,
-        arena,
+        name: "arena",
+        own: arena,
         other,
         other_name,
     };
@@ -70,8 +71,8 @@ fn report<R: System>(
     Ok(())
 }
 
-// How many rounds are run at n entries.
-fn rounds(n: usize) -> usize {
+/// How many rounds are run at n entries.
+pub fn rounds(n: usize) -> usize {
     (300_000 / n.max(1)).clamp(3, 30)
 }
 

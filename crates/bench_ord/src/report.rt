@@ -2,26 +2,28 @@
 use crate::lap::Lap;
 use std::io;
 
-/// The best rounds of a measure at n entries, of the arena and of another structure.
+/// The best rounds of a measure at n entries, of the structure that is measured and of another one.
 #[derive(Clone, Copy)]
 pub struct Row<'a> {
     pub n: usize,
     pub measure: &'a str,
-    pub arena: Lap,
+    pub name: &'a str,
+    pub own: Lap,
     pub other: Lap,
     pub other_name: &'a str,
 }
 
 /// Prints the sums to standard output, and the times to standard error.
 pub fn print(rt: &(impl Print + Eprint), row: Row) -> io::Result<()> {
-    let (n, measure, other_name) = (row.n, row.measure, row.other_name);
-    let (arena_sum, other_sum) = (row.arena.sum, row.other.sum);
-    println!(rt; "{n} {measure}: arena {arena_sum} {other_name} {other_sum}")?;
-    let (arena, arena_tenth) = in_tenths(per_operation(row.arena, n));
+    let (n, measure) = (row.n, row.measure);
+    let (name, other_name) = (row.name, row.other_name);
+    let (own_sum, other_sum) = (row.own.sum, row.other.sum);
+    println!(rt; "{n} {measure}: {name} {own_sum} {other_name} {other_sum}")?;
+    let (own, own_tenth) = in_tenths(per_operation(row.own, n));
     let (other, other_tenth) = in_tenths(per_operation(row.other, n));
-    let (ratio, hundredths) = ratio(row.arena, row.other);
+    let (ratio, hundredths) = ratio(row.own, row.other);
     eprintln!(rt;
-        "{n:>8} {measure:<22} {arena:>5}.{arena_tenth} {other:>5}.{other_tenth} {ratio:>3}.{hundredths:02} {other_name}"
+        "{n:>8} {measure:<22} {own:>5}.{own_tenth} {other:>5}.{other_tenth} {ratio:>3}.{hundredths:02} {other_name}"
     )
 }
 

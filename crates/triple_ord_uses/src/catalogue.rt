@@ -77,7 +77,8 @@ pub type Catalogue = SimpleOrdArena<BookPtr, Book>;
 /// Puts a book into the index, in the place of the one of its number, if there is one.
 pub fn put(catalogue: &mut Catalogue, book: Book) -> Result<BookPtr, OrdInsertionError>
     ensures finds { IfOk result (λ p. item_of catalogue.new p ≡ Some book) }
-    ensures others { IfOk result (λ p. (q : ℕ × ℕ) → q ≢ p → item_of catalogue.new q ≡ item_of catalogue.old q) }
+    ensures others { IfOk result (λ p. (q : ℕ × ℕ) → q ≢ p
+        → item_of catalogue.new q ≡ item_of catalogue.old q) }
     ensures refused { OnErr result (catalogue.new ≡ catalogue.old) }
 {
     let (p, _) = catalogue.insert(book)?;
