@@ -1,0 +1,190 @@
+//! `OrderBook`: bids and asks.
+
+ghost use Rattle.std.specs.Prelude.{◌≡◌, ◌≢◌, ◌↔◌, ◌+◌, ◌<◌, ◌++◌, [], Err, Some, None, length};
+ghost use Rattle.std.specs.Prelude.{IfOk, OnOk, OnErr, OnSome, IfSome, IfNone};
+ghost use Rattle.order_queue.specs.Queue.{most_orders, first_of, total, volume};
+ghost use Rattle.order_queue.specs.declared.side.Side.TheVariants.{Buy, Sell};
+ghost use Rattle.order_book.specs.Book.{opposite, queue, named, without, trades_of, rest_of};
+ghost use Rattle.order_book.specs.Book.{IsBook, Places, Updates};
+
+use crate::error::{PlacingError, ReplacingError};
+use crate::settling::{settle, settle_anew};
+use order_queue::{Order, OrderId, OrderQueue, ReallocationError, Side, Trade};
+use std::alloc::{Allocator, Global};
+use std::marker::Model;
+
+/// A price-time order book of limit orders.
+///
+/// An order that comes in trades with the other side as far as its limit allows: the best price first, and at equal prices the oldest
+/// order first, at the price of the order that rests. What is left of it comes to rest on its own side, and is named. So no bid is ever
+/// at or above an ask.
+///
+/// In contracts a book is two queues, bids and asks, each a list of orders in the order in which they trade. `count` tells what is true of
+/// every book. n is the number of orders on a side in what is said of time, and k that of the orders that are filled.
+#[derive(Drop)]
+pub struct OrderBook<A: Allocator = Global> {
+    bids: OrderQueue<A>,
+    asks: OrderQueue<A>,
+}
+
+impl<A: Allocator> Model for OrderBook<A> {
+    ghost use Rattle.order_book.specs.Book.{Book};
+
+    ghost Value = { Book };
+
+    ghost use Rattle.order_book.specs.Layout.{IsPairOfQueues};
+
+    ghost view = { λ b. record { bids = b.bids; asks = b.asks } };
+
+    ghost invariant = { λ b. IsPairOfQueues b.bids b.asks };
+}
+
+impl<A: Allocator> OrderBook<A> {
+    /// A book without orders. It takes no memory until an order comes to rest.
+    pub fn new(alloc: A) -> Self
+    where
+        A: Copy,
+        ensures bids { result.bids.orders ≡ [] }
+        ensures asks { result.asks.orders ≡ [] }
+    {
+        OrderBook {
+            bids: OrderQueue::new(Side::Buy, alloc),
+            asks: OrderQueue::new(Side::Sell, alloc),
+        }
+    }
+
+    /// How many orders rest on a side.
+    pub fn count(&self, side: Side) -> usize
+        ensures value { result ≡ length (queue self.now side).orders }
+        ensures lawful { IsBook self.now }
+    {
+        let (bids, asks) = (self.bids.len(), self.asks.len());
+        match side {
+            Side::Buy => bids,
+            Side::Sell => asks,
+        }
+    }
+
+    /// The bid that trades first: that of the highest price, and of those the oldest. In O(1).
+    pub fn best_bid(&self) -> Option<Order>
+        ensures { result ≡ first_of Buy self.now.bids.orders }
+    {
+        self.bids.first()
+    }
+
+    /// The ask that trades first: that of the lowest price, and of those the oldest. In O(1).
+    pub fn best_ask(&self) -> Option<Order>
+        ensures { result ≡ first_of Sell self.now.asks.orders }
+    {
+        self.asks.first()
+    }
+
+    /// Price and quantity of a resting order, in O(1); `None` where the name names none.
+    pub fn get(&self, id: OrderId) -> Option<(u64, u64)>
+        ensures { result ≡ named self.now id }
+    {
+        match id.side() {
+            Side::Buy => self.bids.get(id.pointer()),
+            Side::Sell => self.asks.get(id.pointer()),
+        }
+    }
+
+    /// Takes an order off the book, and returns its price and what was left of it, in O(log n).
+    ///
+    /// For a name that names none it returns `None`, and nothing changes.
+    pub fn cancel(&mut self, id: OrderId) -> Option<(u64, u64)>
+        ensures value { result ≡ named self.old id }
+        ensures updates { Updates self.old self.new id None }
+        ensures gone { OnSome result (self.new ≡ without self.old id) }
+        ensures none { IfNone result (self.new ≡ self.old) }
+    {
+        match id.side() {
+            Side::Buy => self.bids.remove(id.pointer()),
+            Side::Sell => self.asks.remove(id.pointer()),
+        }
+    }
+
+    /// Places an order: it trades as far as its limit `price` allows, and what is left of it comes to rest. Its trades are added to the
+    /// list, and the name of what rests is returned, `None` where nothing is left. It takes O((k + 1) log n), and O(n) where its side
+    /// grows.
+    ///
+    /// It is refused with `NoQuantity` for nothing, with `BeyondMaxCapacity` where it would come to rest on a full side, and with
+    /// `AllocError` where memory is refused to the list of trades or to its side. Nothing has changed then.
+    pub fn place<B: Allocator>(
+        &mut self,
+        side: Side,
+        price: u64,
+        quantity: u64,
+        trades: &mut Vec<Trade, B>,
+    ) -> Result<Option<OrderId>, PlacingError>
+        ensures placed { IfOk result (λ id. Places self.old side price quantity id self.new) }
+        ensures trades { OnOk result (trades.new.items
+            ≡ trades.old.items ++ trades_of self.old side price quantity) }
+        ensures named { IfOk result (λ id. IfSome id
+            (λ i. named self.new i ≡ Some (price, rest_of self.old side price quantity))) }
+        ensures bought { volume (trades_of self.old side price quantity)
+            + rest_of self.old side price quantity ≡ quantity }
+        ensures sold { OnOk result (total (queue self.new (opposite side)).orders
+            + volume (trades_of self.old side price quantity)
+            ≡ total (queue self.old (opposite side)).orders) }
+        ensures nothing { (result ≡ Err PlacingError.NoQuantity) ↔ (quantity ≡ 0) }
+        ensures full { result ≡ Err PlacingError.BeyondMaxCapacity
+            → (0 < rest_of self.old side price quantity)
+            × (length (queue self.old side).orders ≡ most_orders) }
+        ensures err { OnErr result (self.new ≡ self.old) }
+        ensures kept { OnErr result (trades.new.items ≡ trades.old.items) }
+    {
+        if quantity == 0 {
+            return Err(PlacingError::NoQuantity);
+        }
+        let settled = match side {
+            Side::Buy => settle(&mut self.bids, &mut self.asks, price, quantity, trades),
+            Side::Sell => settle(&mut self.asks, &mut self.bids, price, quantity, trades),
+        };
+        match settled {
+            Ok(id) => Ok(id),
+            Err(ReallocationError::BeyondMaxCapacity) => Err(PlacingError::BeyondMaxCapacity),
+            Err(ReallocationError::AllocError) => Err(PlacingError::AllocError),
+        }
+    }
+
+    /// Takes an order off the book and places it anew, on its side, with another price and quantity: it counts as new, also where its
+    /// price is what it was, and gets a new name. Time and trades are those of `place`.
+    ///
+    /// It is refused with `NoQuantity` for nothing, with `NoOrder` where the name names none, and with `AllocError` where memory is
+    /// refused to the list of trades. Nothing has changed then.
+    pub fn replace<B: Allocator>(
+        &mut self,
+        id: OrderId,
+        price: u64,
+        quantity: u64,
+        trades: &mut Vec<Trade, B>,
+    ) -> Result<Option<OrderId>, ReplacingError>
+        ensures placed { IfOk result
+            (λ new. Places (without self.old id) id.side price quantity new self.new) }
+        ensures trades { OnOk result (trades.new.items
+            ≡ trades.old.items ++ trades_of (without self.old id) id.side price quantity) }
+        ensures nothing { (result ≡ Err ReplacingError.NoQuantity) ↔ (quantity ≡ 0) }
+        ensures unknown { (result ≡ Err ReplacingError.NoOrder)
+            ↔ ((quantity ≢ 0) × (named self.old id ≡ None)) }
+        ensures err { OnErr result (self.new ≡ self.old) }
+        ensures kept { OnErr result (trades.new.items ≡ trades.old.items) }
+    {
+        if quantity == 0 {
+            return Err(ReplacingError::NoQuantity);
+        }
+        if self.get(id).is_none() {
+            return Err(ReplacingError::NoOrder);
+        }
+        let (bids, asks) = (&mut self.bids, &mut self.asks);
+        let pointer = id.pointer();
+        let settled = match id.side() {
+            Side::Buy => settle_anew(bids, asks, pointer, price, quantity, trades),
+            Side::Sell => settle_anew(asks, bids, pointer, price, quantity, trades),
+        };
+        match settled {
+            Ok(new) => Ok(new),
+            Err(_) => Err(ReplacingError::AllocError),
+        }
+    }
+}

@@ -1,0 +1,4 @@
+-- The definitions that the contracts cite.
+pub mod Id
+pub mod Queue
+pub mod Layout

@@ -1,0 +1,12 @@
+//! One side of an order book: resting orders by price, and by age at equal prices. Each is named by a pointer.
+#![tactic(auto)]
+
+mod order;
+mod orders;
+mod queue;
+mod side;
+
+pub use order::{Order, OrderId, Trade};
+pub use queue::OrderQueue;
+pub use side::Side;
+pub use triple_ord::{P0, ReallocationError};
