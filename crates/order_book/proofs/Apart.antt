@@ -1,0 +1,121 @@
+-- Bids below asks: what stays so, and why nothing that is left crosses an order that comes to rest.
+use Rattle.std.proofs.Common.{◌≡◌, ℕ, ◌-◌, ◌<◌, ◌≤◌, min, Bool, true, false, List, [], ◌∷◌, ◌++◌, Option, Some, None, refl, sym, ap, subst, ◌∙◌, arith, inl, inr, if◌then◌else◌}
+use Rattle.std.proofs.lemmas.Bool.{lt-ltb, le-ltb}
+use Rattle.std.proofs.lemmas.Bool.Decides.{leb_tells, nat_tests}
+use Rattle.std.specs.List.{AllByRecursion}
+use Rattle.order_queue.specs.declared.side.Side.{Side}
+use Rattle.order_queue.specs.declared.side.Side.TheVariants.{Buy, Sell}
+use Rattle.order_queue.specs.Id.{Id}
+use Rattle.order_queue.specs.Queue.{Resting, Queue, IsNoWorse, IsInOrder, Rests, is_named_by, meets, within, traded, behind, without}
+use Rattle.order_book.specs.Book.{RestsOrNot}
+
+module _ {X : Type 0} where
+  -- what follows from two facts of each element is true of each
+  all-both : (P Q R : X → Type 0) → ((x : X) → P x → Q x → R x) → (xs : List X) → AllByRecursion P xs → AllByRecursion Q xs → AllByRecursion R xs
+  all-both P Q R follows [] all more = tt
+  all-both P Q R follows (x ∷ xs) all more = (follows x all.0 more.0, all-both P Q R follows xs all.1 more.1)
+
+  all-weaker : (P Q : X → Type 0) → ((x : X) → P x → Q x) → (xs : List X) → AllByRecursion P xs → AllByRecursion Q xs
+  all-weaker P Q follows xs all = all-both P P Q (λ x p r. follows x p) xs all all
+
+  all-between : (P : X → Type 0) (xs : List X) (x : X) (ys : List X) → AllByRecursion P (xs ++ ys) → P x → AllByRecursion P (xs ++ x ∷ ys)
+  all-between P [] x ys all one = (one, all)
+  all-between P (z ∷ xs) x ys all one = (all.0, all-between P xs x ys all.1 one)
+
+-- what is true of the prices of orders is true of those that are left
+module _ (P : ℕ → Type 0) where
+  all-behind : (n : ℕ) (xs : List Resting) → AllByRecursion (λ x. P x.price) xs → AllByRecursion (λ x. P x.price) (behind n xs)
+  all-behind n [] all = tt
+  all-behind n (x ∷ xs) all = elim (leb_tells x.quantity n) [
+    | inl whole ↦ rw (le-ltb n x.quantity whole.1) (all-behind (n - x.quantity) xs all.1)
+    | inr part ↦ rw (lt-ltb n x.quantity part.1) all
+  ]
+
+  all-without : (xs : List Resting) (p : ℕ × ℕ) → AllByRecursion (λ x. P x.price) xs → AllByRecursion (λ x. P x.price) (without xs p)
+  all-without [] p all = tt
+  all-without (x ∷ xs) p all = elim (is_named_by p x) as (λ b. AllByRecursion (λ y. P y.price) (if b then xs else x ∷ without xs p)) [
+    | true ↦ all.1
+    | false ↦ (all.0, all-without xs p all.1)
+  ]
+
+-- each of these bids is below each of these asks
+abbrev pub AreApart : List Resting → List Resting → Type 0
+AreApart bids asks = AllByRecursion (λ (bid : Resting). AllByRecursion (λ (ask : Resting). bid.price < ask.price) asks) bids
+
+module _ (bids asks : List Resting) (apart : AreApart bids asks) where
+  -- bids and asks stay apart where some leave
+  apart-asks_behind : (n : ℕ) → AreApart bids (behind n asks)
+  apart-asks_behind n = all-weaker _ _ (λ bid below. all-behind (λ price. bid.price < price) n asks below) bids apart
+
+  apart-bids_behind : (n : ℕ) → AreApart (behind n bids) asks
+  apart-bids_behind n = all-behind (λ price. AllByRecursion (λ (ask : Resting). price < ask.price) asks) n bids apart
+
+  pub apart-asks_without : (p : ℕ × ℕ) → AreApart bids (without asks p)
+  apart-asks_without p = all-weaker _ _ (λ bid below. all-without (λ price. bid.price < price) asks p below) bids apart
+
+  pub apart-bids_without : (p : ℕ × ℕ) → AreApart (without bids p) asks
+  apart-bids_without p = all-without (λ price. AllByRecursion (λ (ask : Resting). price < ask.price) asks) bids p apart
+
+-- an order doesn't meet a limit where one of a price no worse doesn't
+unmet-worse : (side : Side) (p q limit : ℕ) → IsNoWorse side p q → meets side p limit ≡ false → meets side q limit ≡ false
+unmet-worse Buy p q limit no_worse unmet = grind (arith, nat_tests, no_worse, unmet)
+unmet-worse Sell p q limit no_worse unmet = grind (arith, nat_tests, no_worse, unmet)
+
+-- in order, where the first doesn't meet a limit none does, and what meets it comes to nothing
+unmet-all : (side : Side) (limit : ℕ) (x : Resting) (xs : List Resting) → IsInOrder side (x ∷ xs) → meets side x.price limit ≡ false
+    → AllByRecursion (λ y. meets side y.price limit ≡ false) (x ∷ xs)
+unmet-all side limit x xs sorted unmet = (unmet, all-weaker _ _ (λ y no_worse. unmet-worse side x.price y.price limit no_worse unmet) xs sorted.0)
+
+unmet-within : (side : Side) (limit : ℕ) (xs : List Resting) → AllByRecursion (λ y. meets side y.price limit ≡ false) xs → within side limit xs ≡ 0
+unmet-within side limit [] all = refl
+unmet-within side limit (x ∷ xs) all = rw all.0 (unmet-within side limit xs all.1)
+
+-- behind all that meets a limit, no order does
+unmet-behind : (side : Side) (limit : ℕ) (xs : List Resting) → IsInOrder side xs → AllByRecursion (λ y. meets side y.price limit ≡ false) (behind (within side limit xs) xs)
+unmet-behind side limit [] sorted = tt
+unmet-behind side limit (x ∷ xs) sorted = go (meets side x.price limit) refl
+  where
+    P : ℕ → Type 0
+    P price = meets side price limit ≡ false
+
+    go : (b : Bool) → meets side x.price limit ≡ b → AllByRecursion (λ y. P y.price) (behind (within side limit (x ∷ xs)) (x ∷ xs))
+    go true met = rw (met, le-ltb (x.quantity + within side limit xs) x.quantity (omega arith))
+        (subst (λ n. AllByRecursion (λ y. P y.price) (behind n xs)) (let rest : within side limit xs ≡ (x.quantity + within side limit xs) - x.quantity = omega arith in rest)
+        (unmet-behind side limit xs sorted.1))
+    go false unmet = all-behind P (within side limit (x ∷ xs)) (x ∷ xs) (unmet-all side limit x xs sorted unmet)
+
+-- where something of an order is left, all that meets its limit was traded
+all-traded : (q : Queue) (limit quantity : ℕ) → 0 < quantity - traded q limit quantity → traded q limit quantity ≡ within q.side limit q.orders
+all-traded q limit quantity some = omega (arith, some)
+
+-- what is left of the other side doesn't meet an order of which something is left
+left-unmet : (q : Queue) (limit quantity : ℕ) → IsInOrder q.side q.orders → 0 < quantity - traded q limit quantity
+    → AllByRecursion (λ y. meets q.side y.price limit ≡ false) (behind (traded q limit quantity) q.orders)
+left-unmet q limit quantity sorted some = rw (all-traded q limit quantity some) (unmet-behind q.side limit q.orders sorted)
+
+-- an order that comes in leaves bids and asks apart
+module _ (own other new : Queue) (price quantity : ℕ) (sorted : IsInOrder other.side other.orders) where
+  abbrev left : List Resting
+  left = behind (traded other price quantity) other.orders
+
+  pub apart-bought : (id : Option Id) → other.side ≡ Sell → AreApart own.orders other.orders → RestsOrNot own price (quantity - traded other price quantity) id new → AreApart new.orders left
+  apart-bought None sells apart rests = rw rests.1 (apart-asks_behind own.orders other.orders apart (traded other price quantity))
+  apart-bought (Some id) sells apart rests =
+      let r : Rests own price (quantity - traded other price quantity) id.pointer new = rests.2 in
+      let unmet : AllByRecursion (λ y. meets other.side y.price price ≡ false) left = left-unmet other price quantity sorted rests.0 in
+      let above : AllByRecursion (λ (ask : Resting). price < ask.price) left =
+          all-weaker (λ y. meets Sell y.price price ≡ false) (λ y. price < y.price) (λ y none. grind (arith, nat_tests, none)) left
+          (subst (λ side. AllByRecursion (λ y. meets side y.price price ≡ false) left) sells unmet) in
+      rw r.after (all-between _ r.ahead _ r.later (rw (← r.before) (apart-asks_behind own.orders other.orders apart (traded other price quantity))) above)
+
+  pub apart-sold : (id : Option Id) → other.side ≡ Buy → AreApart other.orders own.orders → RestsOrNot own price (quantity - traded other price quantity) id new → AreApart left new.orders
+  apart-sold None buys apart rests = rw rests.1 (apart-bids_behind other.orders own.orders apart (traded other price quantity))
+  apart-sold (Some id) buys apart rests =
+      let r : Rests own price (quantity - traded other price quantity) id.pointer new = rests.2 in
+      let unmet : AllByRecursion (λ y. meets other.side y.price price ≡ false) left = left-unmet other price quantity sorted rests.0 in
+      let below : AllByRecursion (λ (bid : Resting). bid.price < price) left =
+          all-weaker (λ y. meets Buy y.price price ≡ false) (λ y. y.price < price) (λ y none. grind (arith, nat_tests, none)) left
+          (subst (λ side. AllByRecursion (λ y. meets side y.price price ≡ false) left) buys unmet) in
+      rw r.after (all-both (λ (bid : Resting). AllByRecursion (λ (ask : Resting). bid.price < ask.price) (r.ahead ++ r.later)) (λ bid. bid.price < price) _
+      (λ bid under less. all-between (λ (ask : Resting). bid.price < ask.price) r.ahead _ r.later under less) left
+      (rw (← r.before) (apart-bids_behind other.orders own.orders apart (traded other price quantity))) below)

@@ -1,0 +1,37 @@
+-- How much trades come to, and how much is left of the orders behind them.
+use Rattle.std.proofs.Common.{◌≡◌, ℕ, ◌+◌, ◌-◌, ◌≤◌, min, Bool, true, false, List, [], ◌∷◌, sym, arith, inl, inr, if◌then◌else◌}
+use Rattle.std.proofs.lemmas.Bool.{lt-ltb, le-ltb}
+use Rattle.std.proofs.lemmas.Bool.Decides.{leb_tells, eqb_tells}
+use Rattle.order_queue.specs.declared.side.Side.{Side}
+use Rattle.order_queue.specs.Queue.{Resting, Queue, meets, total, within, traded, trades_of_first, volume, behind}
+
+-- what meets a limit is at most all, and so is what is traded
+within-total : (side : Side) (limit : ℕ) (xs : List Resting) → within side limit xs ≤ total xs
+within-total side limit [] = omega arith
+within-total side limit (x ∷ xs) = go (meets side x.price limit)
+  where
+    go : (b : Bool) → (if b then x.quantity else 0) + within side limit xs ≤ x.quantity + total xs
+    go true = omega (arith, within-total side limit xs)
+    go false = omega (arith, within-total side limit xs)
+
+pub traded-total : (q : Queue) (limit quantity : ℕ) → traded q limit quantity ≤ total q.orders
+traded-total q limit quantity = omega (arith, within-total q.side limit q.orders)
+
+pub traded-most : (q : Queue) (limit quantity : ℕ) → traded q limit quantity ≤ quantity
+traded-most q limit quantity = omega arith
+
+-- the trades of the first n units come to n
+pub volume-first : (side : Side) (n : ℕ) (xs : List Resting) → n ≤ total xs → volume (trades_of_first side n xs) ≡ n
+volume-first side n [] most = omega (arith, most)
+volume-first side n (x ∷ xs) most = elim (eqb_tells n 0) [
+  | inl none ↦ rw none.0 (sym none.1)
+  | inr some ↦ rw some.0 (omega (arith, volume-first side (n - x.quantity) xs (omega (arith, most))))
+]
+
+-- what is left is all but these
+pub total-behind : (n : ℕ) (xs : List Resting) → n ≤ total xs → total (behind n xs) + n ≡ total xs
+total-behind n [] most = omega (arith, most)
+total-behind n (x ∷ xs) most = elim (leb_tells x.quantity n) [
+  | inl whole ↦ rw (le-ltb n x.quantity whole.1) (omega (arith, whole.1, total-behind (n - x.quantity) xs (omega (arith, most, whole.1))))
+  | inr part ↦ rw (lt-ltb n x.quantity part.1) (omega (arith, part.1))
+]
