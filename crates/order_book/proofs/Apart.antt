@@ -104,8 +104,8 @@ module _ (own other new : Queue) (price quantity : ℕ) (sorted : IsInOrder othe
       let r : Rests own price (quantity - traded other price quantity) id.pointer new = rests.2 in
       let unmet : AllByRecursion (λ y. meets other.side y.price price ≡ false) left = left-unmet other price quantity sorted rests.0 in
       let above : AllByRecursion (λ (ask : Resting). price < ask.price) left =
-          all-weaker (λ y. meets Sell y.price price ≡ false) (λ y. price < y.price) (λ y none. grind (arith, nat_tests, none)) left
-          (subst (λ side. AllByRecursion (λ y. meets side y.price price ≡ false) left) sells unmet) in
+      all-weaker (λ y. meets Sell y.price price ≡ false) (λ y. price < y.price) (λ y none. grind (arith, nat_tests, none)) left
+      (subst (λ side. AllByRecursion (λ y. meets side y.price price ≡ false) left) sells unmet) in
       rw r.after (all-between _ r.ahead _ r.later (rw (← r.before) (apart-asks_behind own.orders other.orders apart (traded other price quantity))) above)
 
   pub apart-sold : (id : Option Id) → other.side ≡ Buy → AreApart other.orders own.orders → RestsOrNot own price (quantity - traded other price quantity) id new → AreApart left new.orders
@@ -114,8 +114,8 @@ module _ (own other new : Queue) (price quantity : ℕ) (sorted : IsInOrder othe
       let r : Rests own price (quantity - traded other price quantity) id.pointer new = rests.2 in
       let unmet : AllByRecursion (λ y. meets other.side y.price price ≡ false) left = left-unmet other price quantity sorted rests.0 in
       let below : AllByRecursion (λ (bid : Resting). bid.price < price) left =
-          all-weaker (λ y. meets Buy y.price price ≡ false) (λ y. y.price < price) (λ y none. grind (arith, nat_tests, none)) left
-          (subst (λ side. AllByRecursion (λ y. meets side y.price price ≡ false) left) buys unmet) in
+      all-weaker (λ y. meets Buy y.price price ≡ false) (λ y. y.price < price) (λ y none. grind (arith, nat_tests, none)) left
+      (subst (λ side. AllByRecursion (λ y. meets side y.price price ≡ false) left) buys unmet) in
       rw r.after (all-both (λ (bid : Resting). AllByRecursion (λ (ask : Resting). bid.price < ask.price) (r.ahead ++ r.later)) (λ bid. bid.price < price) _
       (λ bid under less. all-between (λ (ask : Resting). bid.price < ask.price) r.ahead _ r.later under less) left
       (rw (← r.before) (apart-bids_behind other.orders own.orders apart (traded other price quantity))) below)

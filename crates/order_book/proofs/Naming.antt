@@ -20,8 +20,8 @@ updates-side old new id found changes stays = record {
   changed = changes.changed;
   others = λ other apart. elim (side-tells other.side id.side) [
     | inl same ↦
-      ap (λ s. order_of (queue new s).orders other.pointer) same ∙ changes.others other.pointer (λ e. apart (ap (λ s. record { side = s; pointer = other.pointer }) same ∙ ap (λ p. record { side = id.side; pointer = p }) e))
-      ∙ ap (λ s. order_of (queue old s).orders other.pointer) (sym same)
+        ap (λ s. order_of (queue new s).orders other.pointer) same ∙ changes.others other.pointer (λ e. apart (ap (λ s. record { side = s; pointer = other.pointer }) same ∙ ap (λ p. record { side = id.side; pointer = p }) e))
+        ∙ ap (λ s. order_of (queue old s).orders other.pointer) (sym same)
     | inr differ ↦ ap (λ q. order_of q.orders other.pointer) (stays other.side differ)
   ];
 }

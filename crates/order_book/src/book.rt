@@ -95,6 +95,8 @@ impl<A: Allocator> OrderBook<A> {
     pub fn cancel(&mut self, id: OrderId) -> Option<(u64, u64)>
         ensures value { result ≡ named self.old id }
         ensures updates { Updates self.old self.new id None }
+        ensures count { OnSome result (length (queue self.old id.side).orders
+            ≡ length (queue self.new id.side).orders + 1) }
         ensures gone { OnSome result (self.new ≡ without self.old id) }
         ensures none { IfNone result (self.new ≡ self.old) }
     {
@@ -122,8 +124,8 @@ impl<A: Allocator> OrderBook<A> {
             ≡ trades.old.items ++ trades_of self.old side price quantity) }
         ensures named { IfOk result (λ id. IfSome id
             (λ i. named self.new i ≡ Some (price, rest_of self.old side price quantity))) }
-        ensures bought { volume (trades_of self.old side price quantity)
-            + rest_of self.old side price quantity ≡ quantity }
+        ensures bought { OnOk result (volume (trades_of self.old side price quantity)
+            + rest_of self.old side price quantity ≡ quantity) }
         ensures sold { OnOk result (total (queue self.new (opposite side)).orders
             + volume (trades_of self.old side price quantity)
             ≡ total (queue self.old (opposite side)).orders) }
@@ -137,6 +139,8 @@ impl<A: Allocator> OrderBook<A> {
         if quantity == 0 {
             return Err(PlacingError::NoQuantity);
         }
+        // with a count a book tells what holds of it
+        let _ = self.count(side);
         let settled = match side {
             Side::Buy => settle(&mut self.bids, &mut self.asks, price, quantity, trades),
             Side::Sell => settle(&mut self.asks, &mut self.bids, price, quantity, trades),
@@ -164,6 +168,8 @@ impl<A: Allocator> OrderBook<A> {
             (λ new. Places (without self.old id) id.side price quantity new self.new) }
         ensures trades { OnOk result (trades.new.items
             ≡ trades.old.items ++ trades_of (without self.old id) id.side price quantity) }
+        ensures named { IfOk result (λ new. IfSome new (λ i. named self.new i
+            ≡ Some (price, rest_of (without self.old id) id.side price quantity))) }
         ensures nothing { (result ≡ Err ReplacingError.NoQuantity) ↔ (quantity ≡ 0) }
         ensures unknown { (result ≡ Err ReplacingError.NoOrder)
             ↔ ((quantity ≢ 0) × (named self.old id ≡ None)) }
@@ -176,6 +182,8 @@ impl<A: Allocator> OrderBook<A> {
         if self.get(id).is_none() {
             return Err(ReplacingError::NoOrder);
         }
+        // with a count a book tells what holds of it
+        let _ = self.count(id.side());
         let (bids, asks) = (&mut self.bids, &mut self.asks);
         let pointer = id.pointer();
         let settled = match id.side() {

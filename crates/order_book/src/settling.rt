@@ -1,6 +1,6 @@
 //! What an order does to the two sides of a book.
 
-ghost use Rattle.std.specs.Prelude.{◌≡◌, ◌≢◌, ◌-◌, ◌<◌, ◌++◌, Err, None, IfOk, OnOk, OnErr, length};
+ghost use Rattle.std.specs.Prelude.{◌≡◌, ◌≢◌, ◌-◌, ◌<◌, ◌++◌, Err, Some, None, IfOk, OnOk, OnErr, IfSome, length};
 ghost use Rattle.order_queue.specs.Queue.{most_orders, order_of, traded, trades_of_first, taken, with_left};
 ghost use Rattle.order_book.specs.Book.{RestsOrNot};
 
@@ -14,6 +14,8 @@ fn rest<A: Allocator>(
     left: u64,
 ) -> Result<Option<OrderId>, ReallocationError>
     ensures rests { IfOk result (λ id. RestsOrNot own.old price left id own.new) }
+    ensures names { IfOk result (λ id. IfSome id
+        (λ i. order_of own.new.orders i.pointer ≡ Some (price, left))) }
     ensures full { result ≡ Err ReallocationError.BeyondMaxCapacity
         → (0 < left) × (length own.old.orders ≡ most_orders) }
     ensures memory { result ≡ Err ReallocationError.AllocError
@@ -37,6 +39,8 @@ pub(crate) fn settle<A: Allocator, B: Allocator>(
 ) -> Result<Option<OrderId>, ReallocationError>
     ensures rests { IfOk result (λ id. RestsOrNot own.old price
         (quantity - traded other.old price quantity) id own.new) }
+    ensures names { IfOk result (λ id. IfSome id (λ i. order_of own.new.orders i.pointer
+        ≡ Some (price, quantity - traded other.old price quantity))) }
     ensures taken { OnOk result (other.new ≡ taken (traded other.old price quantity) other.old) }
     ensures trades { OnOk result (trades.new.items ≡ trades.old.items ++ trades_of_first
         other.old.side (traded other.old price quantity) other.old.orders) }
@@ -74,6 +78,8 @@ pub(crate) fn settle_anew<A: Allocator, B: Allocator>(
     requires { order_of own.old.orders pointer ≢ None }
     ensures rests { IfOk result (λ id. RestsOrNot (with_left own.old pointer) price
         (quantity - traded other.old price quantity) id own.new) }
+    ensures names { IfOk result (λ id. IfSome id (λ i. order_of own.new.orders i.pointer
+        ≡ Some (price, quantity - traded other.old price quantity))) }
     ensures taken { OnOk result (other.new ≡ taken (traded other.old price quantity) other.old) }
     ensures trades { OnOk result (trades.new.items ≡ trades.old.items ++ trades_of_first
         other.old.side (traded other.old price quantity) other.old.orders) }

@@ -99,6 +99,7 @@ impl<A: Allocator> OrderQueue<A> {
         requires { 0 < quantity }
         ensures ok { IfOk result (λ p. Rests self.old price quantity p self.new) }
         ensures updates { IfOk result (λ p. Updates self.old self.new p (Some (price, quantity))) }
+        ensures count { OnOk result (length self.new.orders ≡ length self.old.orders + 1) }
         ensures full { (result ≡ Err ReallocationError.BeyondMaxCapacity)
             ↔ (length self.old.orders ≡ most_orders) }
         ensures memory { result ≡ Err ReallocationError.AllocError
@@ -114,6 +115,7 @@ impl<A: Allocator> OrderQueue<A> {
     pub fn remove(&mut self, pointer: P0) -> Option<(u64, u64)>
         ensures value { result ≡ order_of self.old.orders pointer }
         ensures updates { Updates self.old self.new pointer None }
+        ensures count { OnSome result (length self.old.orders ≡ length self.new.orders + 1) }
         ensures gone { OnSome result (self.new ≡ with_left self.old pointer) }
         ensures none { IfNone result (self.new ≡ self.old) }
     {
