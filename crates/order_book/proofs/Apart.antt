@@ -1,5 +1,5 @@
 -- Bids below asks: what stays so, and why nothing that is left crosses an order that comes to rest.
-use Rattle.std.proofs.Common.{◌≡◌, ℕ, ◌-◌, ◌<◌, ◌≤◌, min, Bool, true, false, List, [], ◌∷◌, ◌++◌, Option, Some, None, refl, sym, ap, subst, ◌∙◌, arith, inl, inr, if◌then◌else◌}
+use Rattle.std.proofs.Common.{◌≡◌, ℕ, ◌+◌, ◌-◌, ◌<◌, ◌≤◌, min, Bool, true, false, List, [], ◌∷◌, ◌++◌, Option, Some, None, refl, sym, ap, subst, ◌∙◌, arith, inl, inr, if◌then◌else◌}
 use Rattle.std.proofs.lemmas.Bool.{lt-ltb, le-ltb}
 use Rattle.std.proofs.lemmas.Bool.Decides.{leb_tells, nat_tests}
 use Rattle.std.specs.List.{AllByRecursion}
@@ -61,28 +61,24 @@ unmet-worse : (side : Side) (p q limit : ℕ) → IsNoWorse side p q → meets s
 unmet-worse Buy p q limit no_worse unmet = grind (arith, nat_tests, no_worse, unmet)
 unmet-worse Sell p q limit no_worse unmet = grind (arith, nat_tests, no_worse, unmet)
 
--- in order, where the first doesn't meet a limit none does, and what meets it comes to nothing
+-- in order, where the first doesn't meet a limit none does
 unmet-all : (side : Side) (limit : ℕ) (x : Resting) (xs : List Resting) → IsInOrder side (x ∷ xs) → meets side x.price limit ≡ false
     → AllByRecursion (λ y. meets side y.price limit ≡ false) (x ∷ xs)
 unmet-all side limit x xs sorted unmet = (unmet, all-weaker _ _ (λ y no_worse. unmet-worse side x.price y.price limit no_worse unmet) xs sorted.0)
 
-unmet-within : (side : Side) (limit : ℕ) (xs : List Resting) → AllByRecursion (λ y. meets side y.price limit ≡ false) xs → within side limit xs ≡ 0
-unmet-within side limit [] all = refl
-unmet-within side limit (x ∷ xs) all = rw all.0 (unmet-within side limit xs all.1)
-
 -- behind all that meets a limit, no order does
 unmet-behind : (side : Side) (limit : ℕ) (xs : List Resting) → IsInOrder side xs → AllByRecursion (λ y. meets side y.price limit ≡ false) (behind (within side limit xs) xs)
 unmet-behind side limit [] sorted = tt
-unmet-behind side limit (x ∷ xs) sorted = go (meets side x.price limit) refl
+unmet-behind side limit (x ∷ xs) sorted = go (unmet-behind side limit xs sorted.1) (meets side x.price limit) refl
   where
     P : ℕ → Type 0
     P price = meets side price limit ≡ false
 
-    go : (b : Bool) → meets side x.price limit ≡ b → AllByRecursion (λ y. P y.price) (behind (within side limit (x ∷ xs)) (x ∷ xs))
-    go true met = rw (met, le-ltb (x.quantity + within side limit xs) x.quantity (omega arith))
-        (subst (λ n. AllByRecursion (λ y. P y.price) (behind n xs)) (let rest : within side limit xs ≡ (x.quantity + within side limit xs) - x.quantity = omega arith in rest)
-        (unmet-behind side limit xs sorted.1))
-    go false unmet = all-behind P (within side limit (x ∷ xs)) (x ∷ xs) (unmet-all side limit x xs sorted unmet)
+    go : AllByRecursion (λ y. P y.price) (behind (within side limit xs) xs) → (b : Bool) → meets side x.price limit ≡ b
+        → AllByRecursion (λ y. P y.price) (behind (within side limit (x ∷ xs)) (x ∷ xs))
+    go rest true met = rw (met, le-ltb (x.quantity + within side limit xs) x.quantity (omega arith))
+        (subst (λ n. AllByRecursion (λ y. P y.price) (behind n xs)) (let same : within side limit xs ≡ (x.quantity + within side limit xs) - x.quantity = omega arith in same) rest)
+    go rest false unmet = all-behind P (within side limit (x ∷ xs)) (x ∷ xs) (unmet-all side limit x xs sorted unmet)
 
 -- where something of an order is left, all that meets its limit was traded
 all-traded : (q : Queue) (limit quantity : ℕ) → 0 < quantity - traded q limit quantity → traded q limit quantity ≡ within q.side limit q.orders

@@ -1,3 +1,3 @@
 pub mod Volumes
 pub mod Apart
-pub mod Naming
+pub mod Pairs

@@ -3,25 +3,25 @@ use Rattle.std.proofs.Common.{◌≡◌, ℕ, ◌+◌, ◌-◌, ◌≤◌, min, 
 use Rattle.std.proofs.lemmas.Bool.{lt-ltb, le-ltb}
 use Rattle.std.proofs.lemmas.Bool.Decides.{leb_tells, eqb_tells}
 use Rattle.order_queue.specs.declared.side.Side.{Side}
-use Rattle.order_queue.specs.Queue.{Resting, Queue, meets, total, within, traded, trades_of_first, volume, behind}
+use Rattle.order_queue.specs.Queue.{Resting, Queue, meets, total, within, traded, trades_of_first, volume, behind, taken}
 
 -- what meets a limit is at most all, and so is what is traded
 within-total : (side : Side) (limit : ℕ) (xs : List Resting) → within side limit xs ≤ total xs
 within-total side limit [] = omega arith
-within-total side limit (x ∷ xs) = go (meets side x.price limit)
-  where
-    go : (b : Bool) → (if b then x.quantity else 0) + within side limit xs ≤ x.quantity + total xs
-    go true = omega (arith, within-total side limit xs)
-    go false = omega (arith, within-total side limit xs)
+within-total side limit (x ∷ xs) = let rest = within-total side limit xs in
+    elim (meets side x.price limit) as (λ b. (if b then x.quantity else 0) + within side limit xs ≤ x.quantity + total xs) [
+      | true ↦ omega (arith, rest)
+      | false ↦ omega (arith, rest)
+    ]
 
-pub traded-total : (q : Queue) (limit quantity : ℕ) → traded q limit quantity ≤ total q.orders
+traded-total : (q : Queue) (limit quantity : ℕ) → traded q limit quantity ≤ total q.orders
 traded-total q limit quantity = omega (arith, within-total q.side limit q.orders)
 
-pub traded-most : (q : Queue) (limit quantity : ℕ) → traded q limit quantity ≤ quantity
+traded-most : (q : Queue) (limit quantity : ℕ) → traded q limit quantity ≤ quantity
 traded-most q limit quantity = omega arith
 
 -- the trades of the first n units come to n
-pub volume-first : (side : Side) (n : ℕ) (xs : List Resting) → n ≤ total xs → volume (trades_of_first side n xs) ≡ n
+volume-first : (side : Side) (n : ℕ) (xs : List Resting) → n ≤ total xs → volume (trades_of_first side n xs) ≡ n
 volume-first side n [] most = omega (arith, most)
 volume-first side n (x ∷ xs) most = elim (eqb_tells n 0) [
   | inl none ↦ rw none.0 (sym none.1)
@@ -29,9 +29,22 @@ volume-first side n (x ∷ xs) most = elim (eqb_tells n 0) [
 ]
 
 -- what is left is all but these
-pub total-behind : (n : ℕ) (xs : List Resting) → n ≤ total xs → total (behind n xs) + n ≡ total xs
+total-behind : (n : ℕ) (xs : List Resting) → n ≤ total xs → total (behind n xs) + n ≡ total xs
 total-behind n [] most = omega (arith, most)
 total-behind n (x ∷ xs) most = elim (leb_tells x.quantity n) [
   | inl whole ↦ rw (le-ltb n x.quantity whole.1) (omega (arith, whole.1, total-behind (n - x.quantity) xs (omega (arith, most, whole.1))))
   | inr part ↦ rw (lt-ltb n x.quantity part.1) (omega (arith, part.1))
 ]
+
+-- what an order trades and what is left of it come to its quantity, and the other side has so much less
+pub bought-traded : (side : Side) (q : Queue) (limit quantity : ℕ) → volume (trades_of_first side (traded q limit quantity) q.orders) + (quantity - traded q limit quantity) ≡ quantity
+bought-traded side q limit quantity =
+    omega (arith, volume-first side (traded q limit quantity) q.orders (traded-total q limit quantity), traded-most q limit quantity)
+
+pub sold-traded : (side : Side) (q new : Queue) (limit quantity : ℕ) → new ≡ taken (traded q limit quantity) q
+    → total new.orders + volume (trades_of_first side (traded q limit quantity) q.orders) ≡ total q.orders
+sold-traded side q new limit quantity after = rw after
+    (omega (arith, volume-first side (traded q limit quantity) q.orders (traded-total q limit quantity), total-behind (traded q limit quantity) q.orders (traded-total q limit quantity)))
+
+-- both, for the prover
+pub ruleset settled = (bought-traded, sold-traded)

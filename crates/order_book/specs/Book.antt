@@ -1,5 +1,5 @@
 -- What an order book is: bids and asks that rest until they trade, and what an order that comes in does to them.
-use Rattle.std.specs.Prelude.{◌≡◌, ◌≢◌, ℕ, ◌+◌, ◌-◌, ◌<◌, ◌==◌, if◌then◌else◌, List, Option, Some, None}
+use Rattle.std.specs.Prelude.{◌≡◌, ◌≢◌, ℕ, ◌+◌, ◌-◌, ◌<◌, ◌==◌, if◌then◌else◌, List, [], length, Option, Some, None}
 use Rattle.std.specs.List.{AllByRecursion}
 use Rattle.order_queue.specs.declared.side.Side.{Side}
 use Rattle.order_queue.specs.declared.side.Side.TheVariants.{Buy, Sell}
@@ -26,6 +26,10 @@ queue b Sell = b.asks
 abbrev pub with_queue : Book → Side → Queue → Book
 with_queue b Buy q = record b { bids = q }
 with_queue b Sell q = record b { asks = q }
+
+-- a side without orders
+abbrev pub empty_queue : Side → Queue
+empty_queue side = record { side = side; orders = []; generation = 2; capacity = 0 }
 
 -- no bid is at or above an ask
 abbrev pub IsUncrossed : Book → Type 0
@@ -74,3 +78,11 @@ pub record Updates (old new : Book) (id : Id) (found : Option (ℕ × ℕ)) : Ty
 -- the book without the order that this names
 abbrev pub without : Book → Id → Book
 without b id = with_queue b id.side (with_left (queue b id.side) id.pointer)
+
+-- there is no room for one order more, unless the queue grows
+abbrev pub IsFull : Queue → Type 0
+IsFull q = length q.orders ≡ q.capacity
+
+-- a list of this capacity and length has no room for all these trades
+abbrev pub LacksRoom : ℕ → ℕ → List Trade → Type 0
+LacksRoom capacity held trades = capacity < held + length trades

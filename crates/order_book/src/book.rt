@@ -1,11 +1,11 @@
 //! `OrderBook`: bids and asks.
 
-ghost use Rattle.std.specs.Prelude.{◌≡◌, ◌≢◌, ◌↔◌, ◌+◌, ◌<◌, ◌++◌, [], Err, Some, None, length};
+ghost use Rattle.std.specs.Prelude.{◌≡◌, ◌≢◌, ◌↔◌, ◌+◌, ◌<◌, ◌++◌, ◌⊎◌, Err, Some, None, length, vec_capacity};
 ghost use Rattle.std.specs.Prelude.{IfOk, OnOk, OnErr, OnSome, IfSome, IfNone};
 ghost use Rattle.order_queue.specs.Queue.{most_orders, first_of, total, volume};
 ghost use Rattle.order_queue.specs.declared.side.Side.TheVariants.{Buy, Sell};
-ghost use Rattle.order_book.specs.Book.{opposite, queue, named, without, trades_of, rest_of};
-ghost use Rattle.order_book.specs.Book.{IsBook, Places, Updates};
+ghost use Rattle.order_book.specs.Book.{opposite, queue, empty_queue, named, without, trades_of, rest_of};
+ghost use Rattle.order_book.specs.Book.{IsBook, IsFull, LacksRoom, Places, Updates};
 
 use crate::error::{PlacingError, ReplacingError};
 use crate::settling::{settle, settle_anew};
@@ -44,8 +44,7 @@ impl<A: Allocator> OrderBook<A> {
     pub fn new(alloc: A) -> Self
     where
         A: Copy,
-        ensures bids { result.bids.orders ≡ [] }
-        ensures asks { result.asks.orders ≡ [] }
+        ensures { result ≡ record { bids = empty_queue Buy; asks = empty_queue Sell } }
     {
         OrderBook {
             bids: OrderQueue::new(Side::Buy, alloc),
@@ -133,6 +132,10 @@ impl<A: Allocator> OrderBook<A> {
         ensures full { result ≡ Err PlacingError.BeyondMaxCapacity
             → (0 < rest_of self.old side price quantity)
             × (length (queue self.old side).orders ≡ most_orders) }
+        ensures memory { result ≡ Err PlacingError.AllocError
+            → LacksRoom (vec_capacity trades.old) (length trades.old.items)
+            (trades_of self.old side price quantity)
+            ⊎ IsFull (queue self.old side) }
         ensures err { OnErr result (self.new ≡ self.old) }
         ensures kept { OnErr result (trades.new.items ≡ trades.old.items) }
     {
@@ -170,9 +173,17 @@ impl<A: Allocator> OrderBook<A> {
             ≡ trades.old.items ++ trades_of (without self.old id) id.side price quantity) }
         ensures named { IfOk result (λ new. IfSome new (λ i. named self.new i
             ≡ Some (price, rest_of (without self.old id) id.side price quantity))) }
+        ensures bought { OnOk result (volume (trades_of (without self.old id) id.side price quantity)
+            + rest_of (without self.old id) id.side price quantity ≡ quantity) }
+        ensures sold { OnOk result (total (queue self.new (opposite id.side)).orders
+            + volume (trades_of (without self.old id) id.side price quantity)
+            ≡ total (queue self.old (opposite id.side)).orders) }
         ensures nothing { (result ≡ Err ReplacingError.NoQuantity) ↔ (quantity ≡ 0) }
         ensures unknown { (result ≡ Err ReplacingError.NoOrder)
             ↔ ((quantity ≢ 0) × (named self.old id ≡ None)) }
+        ensures memory { result ≡ Err ReplacingError.AllocError
+            → LacksRoom (vec_capacity trades.old) (length trades.old.items)
+            (trades_of (without self.old id) id.side price quantity) }
         ensures err { OnErr result (self.new ≡ self.old) }
         ensures kept { OnErr result (trades.new.items ≡ trades.old.items) }
     {
@@ -184,11 +195,10 @@ impl<A: Allocator> OrderBook<A> {
         }
         // with a count a book tells what holds of it
         let _ = self.count(id.side());
-        let (bids, asks) = (&mut self.bids, &mut self.asks);
-        let pointer = id.pointer();
+        let old = id.pointer();
         let settled = match id.side() {
-            Side::Buy => settle_anew(bids, asks, pointer, price, quantity, trades),
-            Side::Sell => settle_anew(asks, bids, pointer, price, quantity, trades),
+            Side::Buy => settle_anew(&mut self.bids, &mut self.asks, old, price, quantity, trades),
+            Side::Sell => settle_anew(&mut self.asks, &mut self.bids, old, price, quantity, trades),
         };
         match settled {
             Ok(new) => Ok(new),

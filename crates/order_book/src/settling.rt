@@ -1,8 +1,8 @@
 //! What an order does to the two sides of a book.
 
-ghost use Rattle.std.specs.Prelude.{◌≡◌, ◌≢◌, ◌-◌, ◌<◌, ◌++◌, Err, Some, None, IfOk, OnOk, OnErr, IfSome, length};
-ghost use Rattle.order_queue.specs.Queue.{most_orders, order_of, traded, trades_of_first, taken, with_left};
-ghost use Rattle.order_book.specs.Book.{RestsOrNot};
+ghost use Rattle.std.specs.Prelude.{◌≡◌, ◌≢◌, ◌+◌, ◌-◌, ◌<◌, ◌++◌, ◌⊎◌, Err, Some, None, IfOk, OnOk, OnErr, IfSome, length, vec_capacity};
+ghost use Rattle.order_queue.specs.Queue.{most_orders, order_of, traded, trades_of_first, taken, total, volume, with_left};
+ghost use Rattle.order_book.specs.Book.{IsFull, LacksRoom, RestsOrNot};
 
 use order_queue::{OrderId, OrderQueue, P0, ReallocationError, Trade};
 use std::alloc::{AllocError, Allocator};
@@ -19,7 +19,7 @@ fn rest<A: Allocator>(
     ensures full { result ≡ Err ReallocationError.BeyondMaxCapacity
         → (0 < left) × (length own.old.orders ≡ most_orders) }
     ensures memory { result ≡ Err ReallocationError.AllocError
-        → length own.old.orders ≡ own.old.capacity }
+        → IsFull own.old }
     ensures err { OnErr result (own.new ≡ own.old) }
 {
     if left == 0 {
@@ -30,6 +30,7 @@ fn rest<A: Allocator>(
 }
 
 /// Trades with the other side, and puts what is left on its own.
+#[tactic(auto, using(crate::proofs::Volumes::settled))]
 pub(crate) fn settle<A: Allocator, B: Allocator>(
     own: &mut OrderQueue<A>,
     other: &mut OrderQueue<A>,
@@ -44,8 +45,17 @@ pub(crate) fn settle<A: Allocator, B: Allocator>(
     ensures taken { OnOk result (other.new ≡ taken (traded other.old price quantity) other.old) }
     ensures trades { OnOk result (trades.new.items ≡ trades.old.items ++ trades_of_first
         other.old.side (traded other.old price quantity) other.old.orders) }
+    ensures bought { OnOk result (volume (trades_of_first other.old.side
+        (traded other.old price quantity) other.old.orders)
+        + (quantity - traded other.old price quantity) ≡ quantity) }
+    ensures sold { OnOk result (total other.new.orders + volume (trades_of_first other.old.side
+        (traded other.old price quantity) other.old.orders) ≡ total other.old.orders) }
     ensures full { result ≡ Err ReallocationError.BeyondMaxCapacity
         → (traded other.old price quantity < quantity) × (length own.old.orders ≡ most_orders) }
+    ensures memory { result ≡ Err ReallocationError.AllocError
+        → LacksRoom (vec_capacity trades.old) (length trades.old.items) (trades_of_first
+        other.old.side (traded other.old price quantity) other.old.orders)
+        ⊎ IsFull own.old }
     ensures own_kept { OnErr result (own.new ≡ own.old) }
     ensures other_kept { OnErr result (other.new ≡ other.old) }
     ensures trades_kept { OnErr result (trades.new.items ≡ trades.old.items) }
@@ -67,6 +77,7 @@ pub(crate) fn settle<A: Allocator, B: Allocator>(
 }
 
 /// Takes an order out, and settles it anew with another price and quantity. It needs no room on its own side.
+#[tactic(auto, using(crate::proofs::Volumes::settled))]
 pub(crate) fn settle_anew<A: Allocator, B: Allocator>(
     own: &mut OrderQueue<A>,
     other: &mut OrderQueue<A>,
@@ -83,6 +94,13 @@ pub(crate) fn settle_anew<A: Allocator, B: Allocator>(
     ensures taken { OnOk result (other.new ≡ taken (traded other.old price quantity) other.old) }
     ensures trades { OnOk result (trades.new.items ≡ trades.old.items ++ trades_of_first
         other.old.side (traded other.old price quantity) other.old.orders) }
+    ensures bought { OnOk result (volume (trades_of_first other.old.side
+        (traded other.old price quantity) other.old.orders)
+        + (quantity - traded other.old price quantity) ≡ quantity) }
+    ensures sold { OnOk result (total other.new.orders + volume (trades_of_first other.old.side
+        (traded other.old price quantity) other.old.orders) ≡ total other.old.orders) }
+    ensures memory { OnErr result (LacksRoom (vec_capacity trades.old) (length trades.old.items)
+        (trades_of_first other.old.side (traded other.old price quantity) other.old.orders)) }
     ensures own_kept { OnErr result (own.new ≡ own.old) }
     ensures other_kept { OnErr result (other.new ≡ other.old) }
     ensures trades_kept { OnErr result (trades.new.items ≡ trades.old.items) }

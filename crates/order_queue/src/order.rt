@@ -2,7 +2,7 @@
 
 use crate::side::Side;
 use std::marker::Model;
-use triple_ord::P0;
+use triple_ord::{P0, Ptr};
 
 /// The name of a resting order.
 ///
@@ -39,6 +39,14 @@ impl OrderId {
         ensures { result ≡ self.side }
     {
         self.side
+    }
+
+    /// The index of the order on its side, from 1 on: no two orders that rest there have the same. It is at most how many orders there
+    /// was ever room for.
+    pub fn index(self) -> u32
+        ensures { result ≡ self.pointer.0 }
+    {
+        self.pointer.inx()
     }
 
     /// The pointer of the order on its side.

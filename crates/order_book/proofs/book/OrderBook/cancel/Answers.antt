@@ -1,13 +1,10 @@
-use Rattle.std.proofs.Common.{rules, ◌≡◌, ◌≢◌, ◌↔◌, ◌+◌, ◌<◌, ◌++◌, [], Err, Some, None, length, IfOk, OnOk, OnErr, OnSome, IfSome, IfNone, ℕ, ◌-◌, ◌*◌, ◌≤◌, ◌/◌, ◌%◌, Bool, true, false, nat_eq, nat_lt, List, ◌∷◌, slice_index_or, slice_set, bit_and, bit_or, Fits, w8, w32, w64, Bor, MutBor}
-use Rattle.order_queue.specs.Queue.{most_orders, first_of, total, volume}
-use Rattle.order_queue.specs.declared.side.Side.TheVariants.{Buy, Sell}
-use Rattle.order_book.specs.Book.{opposite, queue, named, without, trades_of, rest_of, IsBook, Places, Updates}
+use Rattle.order_book.proofs.Pairs.{pair-bid_left, pair-ask_left}
 use Rattle.order_book.proofs.book.OrderBook.cancel.Goals as goal
 
--- src/book.rt:104:26
 pub invariant_of-self : goal.invariant_of-self
-invariant_of-self g c = ?
+invariant_of-self g c =
+    pair-bid_left c.self.inside.bids c.self.inside.asks c.self.invariant c.remove.new.self c.remove.result c.pointer.result c.remove.ensures.gone c.remove.ensures.none
 
--- src/book.rt:105:27
 pub invariant_of-self-in-Sell : goal.invariant_of-self-in-Sell
-invariant_of-self-in-Sell g c = ?
+invariant_of-self-in-Sell g c =
+    pair-ask_left c.self.inside.bids c.self.inside.asks c.self.invariant c.remove-in-Sell.new.self c.remove-in-Sell.result c.pointer-in-Sell.result c.remove-in-Sell.ensures.gone c.remove-in-Sell.ensures.none

@@ -1,9 +1,23 @@
-use Rattle.std.proofs.Common.{rules, ◌≡◌, ◌≢◌, ◌↔◌, ◌+◌, ◌<◌, ◌++◌, [], Err, Some, None, length, IfOk, OnOk, OnErr, OnSome, IfSome, IfNone, ℕ, ◌-◌, ◌*◌, ◌≤◌, ◌/◌, ◌%◌, Bool, true, false, nat_eq, nat_lt, List, ◌∷◌, slice_index_or, slice_set, bit_and, bit_or, Fits, w8, w32, w64, Bor, MutBor}
-use Rattle.order_queue.specs.Queue.{most_orders, first_of, total, volume}
-use Rattle.order_queue.specs.declared.side.Side.TheVariants.{Buy, Sell}
-use Rattle.order_book.specs.Book.{opposite, queue, named, without, trades_of, rest_of, IsBook, Places, Updates}
+use Rattle.order_queue.specs.Queue.{with_left}
+use Rattle.std.proofs.Common.{sym, subst}
+use Rattle.order_book.specs.Book.{Book, IsBook}
+use Rattle.order_book.proofs.Pairs.{pair-without_bid, pair-without_ask, pair-settled_bid, pair-settled_ask}
 use Rattle.order_book.proofs.book.OrderBook.replace.Goals as goal
 
--- src/book.rt:160:5
 pub invariant_of-self : goal.invariant_of-self
-invariant_of-self g c = ?
+invariant_of-self g c =
+    let bids = c.self.inside.bids in
+    let asks = c.self.inside.asks in
+    let settled = c.settle_anew-settled in
+    let lawful : IsBook (record { bids = bids; asks = asks }) = subst (λ (b : Book). IsBook b) (sym c.self.view_is) c.count.ensures.lawful in
+    pair-settled_bid bids asks settled.new.own settled.new.other c.self.invariant c.args.price c.args.quantity (with_left bids c.pointer-old.result) (pair-without_bid bids asks c.self.invariant c.pointer-old.result) settled.result
+    lawful.asks.in_order settled.ensures.rests settled.ensures.taken settled.ensures.own_kept settled.ensures.other_kept
+
+pub invariant_of-self-in-Sell : goal.invariant_of-self-in-Sell
+invariant_of-self-in-Sell g c =
+    let bids = c.self.inside.bids in
+    let asks = c.self.inside.asks in
+    let settled = c.settle_anew-settled-in-Sell in
+    let lawful : IsBook (record { bids = bids; asks = asks }) = subst (λ (b : Book). IsBook b) (sym c.self.view_is) c.count.ensures.lawful in
+    pair-settled_ask bids asks settled.new.other settled.new.own c.self.invariant c.args.price c.args.quantity (with_left asks c.pointer-old.result) (pair-without_ask bids asks c.self.invariant c.pointer-old.result) settled.result
+    lawful.bids.in_order settled.ensures.rests settled.ensures.taken settled.ensures.own_kept settled.ensures.other_kept
