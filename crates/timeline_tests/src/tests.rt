@@ -148,8 +148,8 @@ fn has_stretches(numbers: &Numbers, values: &[Option<u8>; TIMES]) -> bool {
     let mut painted = [None; TIMES];
     let mut last = (0u64, None);
     for span in numbers.spans(0, 7) {
-        let is_joined = (span.from, Some(span.value)) != last;
-        if span.from < last.0 || span.until <= span.from || !is_joined {
+        let is_apart = (span.from, Some(span.value)) != last;
+        if span.from < last.0 || span.until <= span.from || !is_apart {
             return false;
         }
         put_plainly(&mut painted, (span.from, span.until, Some(span.value)));
