@@ -1,23 +1,46 @@
-//! `Command`: what a line says.
+//! What a line says, and what may be wrong with it.
 
-use crate::fault::Fault;
+use std::alloc::AllocError;
+use std::io;
 use std::num::IntErrorKind;
+use thiserror::Error;
+use timeline::ReallocationError;
 
-/// What a line says.
+/// What a line says: which word holds from one time until before another, or that none does; or what it asks.
 #[derive(Clone, Copy)]
 pub enum Command<'a> {
-    /// The word holds from one time until before another.
     Set(u64, u64, &'a str),
-    /// No word holds from one time until before another.
     Clear(u64, u64),
-    /// Which word holds at a time?
     Get(u64),
-    /// Which words hold from one time until before another?
     Spans(u64, u64),
 }
 
+/// Why a line wasn't obeyed: every time has the word that it had.
+#[derive(Debug, Drop, Error)]
+pub enum Fault {
+    #[error("unknown command")]
+    UnknownCommand,
+    #[error("a number is missing")]
+    NumberMissing,
+    #[error("not a number")]
+    NotANumber,
+    #[error("a number is too large")]
+    NumberTooLarge,
+    #[error("a word is missing")]
+    WordMissing,
+    #[error("a word too many")]
+    WordTooMany,
+    #[error("not text")]
+    NotText,
+    #[error("{0}, so nothing has changed")]
+    Refused(#[from] ReallocationError),
+    #[error("{0}, so nothing has changed")]
+    Memory(#[from(alloc)] AllocError),
+    #[error(transparent)]
+    Device(#[from] io::Error),
+}
+
 impl<'a> Command<'a> {
-    /// What a line says.
     pub fn read(line: &'a str) -> Result<Command<'a>, Fault> {
         let mut words = line.split_ascii_whitespace();
         let command = match words.next() {

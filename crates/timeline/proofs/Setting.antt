@@ -14,14 +14,14 @@ pub record IsCutOut {V : Type 0} (old left : List (Change V)) (from until : ℕ)
   pub taken : left ≡ earlier from old ++ later until old
 
 -- out of a list of the same changes as the timeline's
-module _ {V : Type 0} {old room left : List (Change V)} {from until : ℕ} where
+module _ {V : Type 0} {old room left : List (Change V)} (from until : ℕ) where
   pub cut-out : IsTimeline old → from < until → room ≡ old → left ≡ earlier from room ++ later until room → IsCutOut old left from until
   cut-out lawful ordered kept taken = record { lawful = lawful; ordered = ordered; taken = taken ∙ ap (λ cs. earlier from cs ++ later until cs) kept }
 
 -- what held at the end, read from such a list, holds again
 module _ {V : Type 0} {old room mid new : List (Change V)} {until : ℕ} {held : Option V} where
-  pub changed-back : held ≡ value_at room until → room ≡ old → IsChanged mid until held new → IsChanged mid until (value_at old until) new
-  changed-back held-is kept changed = subst (λ (h : Option V). IsChanged mid until h new) (held-is ∙ ap (λ cs. value_at cs until) kept) changed
+  pub changed-back : room ≡ old → IsChanged mid until held new → held ≡ value_at room until → IsChanged mid until (value_at old until) new
+  changed-back kept changed held-is = subst (λ (h : Option V). IsChanged mid until h new) (held-is ∙ ap (λ cs. value_at cs until) kept) changed
 
 module _ {V : Type 0} {old left : List (Change V)} {from until : ℕ} (cut : IsCutOut old left from until) where
   abbrev low : List (Change V)

@@ -23,16 +23,16 @@ module _ {V : Type 0} where
     are-held (Some v) from until holds = elim (leb_tells until from) [
       | inl h ↦ rw h.0 (λ t past sooner. absurd (omega (arith, h.1, past, sooner)))
       | inr h ↦ rw h.0 (
-          record {
-            begins = omega arith;
-            lasts = h.1;
-            ends = omega arith;
-            none_before = λ t past sooner. absurd (omega (arith, past, sooner));
-            holds = holds;
-            another_after = λ sooner. absurd (omega (arith, sooner));
-          },
-          λ t past sooner. absurd (omega (arith, past, sooner)),
-        )
+        record {
+          begins = omega arith;
+          lasts = h.1;
+          ends = omega arith;
+          none_before = λ t past sooner. absurd (omega (arith, past, sooner));
+          holds = holds;
+          another_after = λ sooner. absurd (omega (arith, sooner));
+        },
+        λ t past sooner. absurd (omega (arith, past, sooner)),
+      )
     ]
 
     -- where none holds before the first of them
@@ -78,10 +78,10 @@ module _ {V : Type 0} where
     are-after held (c ∷ cs) from until rising joined same = elim (leb_tells c.time from) [
       | inl h ↦ rw h.0 (are-after c.value cs from until rising.1 joined.1 (λ t past. same t past ∙ value-past held c cs t (omega (arith, h.1, past))))
       | inr h ↦ elim (leb_tells until c.time) [
-          | inl k ↦ rw (h.0, k.0) (are-held held from until (λ t past sooner. same t past ∙ value-yet held c cs t (omega (arith, k.1, sooner))))
-          | inr k ↦ rw (h.0, k.0) (are-more held from c.time until (spans_after c.value cs c.time until) h.1 k.1 (λ t past sooner. same t past ∙ value-yet held c cs t sooner) (λ is. joined.0 (sym (changed h.1) ∙ is))
-              (are-after c.value cs c.time until rising.1 joined.1 (λ t past. same t (omega (arith, past, h.1)) ∙ value-past held c cs t past)))
-        ]
+        | inl k ↦ rw (h.0, k.0) (are-held held from until (λ t past sooner. same t past ∙ value-yet held c cs t (omega (arith, k.1, sooner))))
+        | inr k ↦ rw (h.0, k.0) (are-more held from c.time until (spans_after c.value cs c.time until) h.1 k.1 (λ t past sooner. same t past ∙ value-yet held c cs t sooner) (λ is. joined.0 (sym (changed h.1) ∙ is))
+            (are-after c.value cs c.time until rising.1 joined.1 (λ t past. same t (omega (arith, past, h.1)) ∙ value-past held c cs t past)))
+      ]
     ]
       where
         changed : from < c.time → value_at all c.time ≡ c.value

@@ -2,7 +2,7 @@
 use linked_list_allocator::LocalHeap;
 use std::alloc::{AllocError, Global};
 use std::test::Fail;
-use timeline::{ReallocationError, Timeline};
+use timeline::{ReallocationError, Span, Timeline};
 
 type Numbers<A = Global> = Timeline<u8, A>;
 
@@ -17,20 +17,30 @@ fn put(numbers: &mut Numbers, setting: Setting) -> Result<(), ReallocationError>
     }
 }
 
+/// Whether a stretch begins, ends and has a value as this one.
+fn is_span(span: &Span<u8>, (from, until, value): (u64, u64, u8)) -> bool {
+    span.from == from && span.until == until && span.value == value
+}
+
+/// Whether the first stretch in a time is this one, if any.
+fn has_first(numbers: &Numbers, from: u64, until: u64, wanted: Option<&(u64, u64, u8)>) -> bool {
+    match (numbers.next_span(from, until), wanted) {
+        (Some(span), Some(wanted)) => is_span(&span, *wanted),
+        (None, None) => true,
+        _ => false,
+    }
+}
+
 /// Whether the stretches in a time are these, by `spans`, and the first of them also by `next_span`.
 fn has_spans(numbers: &Numbers, from: u64, until: u64, wanted: &[(u64, u64, u8)]) -> bool {
     let mut left = wanted;
-    let first = numbers.next_span(from, until);
-    if first.map(|span| (span.from, span.until, span.value)) != wanted.first().copied() {
-        return false;
-    }
     for span in numbers.spans(from, until) {
         match left.split_first() {
-            Some((next, rest)) if *next == (span.from, span.until, span.value) => left = rest,
+            Some((next, rest)) if is_span(&span, *next) => left = rest,
             _ => return false,
         }
     }
-    left.is_empty()
+    left.is_empty() && has_first(numbers, from, until, wanted.first())
 }
 
 /// What a setting makes of a day: all its stretches.
@@ -105,10 +115,7 @@ fn stretches_are_cut_at_the_time_that_is_asked_for(rt: HostRuntime) -> Result<()
         (13, 12, &[]),
     ];
     for (from, until, spans) in &wanted {
-        assert!(rt;
-            has_spans(&day, *from, *until, spans),
-            "from {from} until {until}"
-        );
+        assert!(rt; has_spans(&day, *from, *until, spans));
     }
     Ok(())
 }
@@ -207,9 +214,9 @@ fn five_settings_in_many_orders(rt: HostRuntime) -> Result<(), Fail> {
     Ok(())
 }
 
-/// Sets stretches apart from each other until memory is refused, and tells how many there were; `None` where one isn't as it was set,
-/// or where a refusal changed something.
-fn set_until_refused(numbers: &mut Numbers<&LocalHeap>) -> Option<u64> {
+/// Sets stretches apart from each other until memory is refused, and tells how many there were; 10 where one isn't as it was set, or
+/// where a refusal changed something.
+fn set_until_refused(numbers: &mut Numbers<&LocalHeap>) -> u64 {
     for n in 0..9u64 {
         let (from, until) = (n * 10, n * 10 + 5);
         let held = numbers.len();
@@ -217,12 +224,12 @@ fn set_until_refused(numbers: &mut Numbers<&LocalHeap>) -> Option<u64> {
             Ok(()) if numbers.get(until - 1) == Some(1) && numbers.get(until).is_none() => {}
             Err(ReallocationError::AllocError)
                 if numbers.len() == held && numbers.get(from).is_none() => {
-                return Some(n);
+                return n;
             }
-            _ => return None,
+            _ => return 10,
         }
     }
-    Some(9)
+    9
 }
 
 #[test]
@@ -232,10 +239,8 @@ fn nothing_changes_where_memory_is_refused(rt: HostRuntime) -> Result<(), AllocE
         let heap = LocalHeap::new(rt.alloc(), units * 16)?;
         let mut numbers: Numbers<&LocalHeap> = Timeline::new(&heap);
         let set = set_until_refused(&mut numbers);
-        assert!(rt; set.is_some());
-        if let Some(place) = set.and_then(|n| met.get_mut(n as usize)) {
-            *place = true;
-        }
+        assert!(rt; set < 10);
+        met[set as usize] = true;
     }
     // each growth was refused in turn: from nothing, from 4, from 8, from 16
     assert!(rt; met[0] && met[2] && met[4] && met[8] && met[9]);
