@@ -1,6 +1,7 @@
 -- Lists of changes: cutting them at a time, and putting changes between.
 use Rattle.std.proofs.Common.{◌≡◌, ℕ, ◌<◌, ◌≤◌, List, [], ◌∷◌, ◌++◌, Option, refl, sym, ap, ◌∙◌, arith, inl, inr}
 use Rattle.std.proofs.lemmas.Bool.Decides.{leb_tells}
+use Rattle.std.proofs.lemmas.List.{append-nil}
 use Rattle.std.specs.List.{AllByRecursion}
 use Rattle.timeline.specs.Timeline.{Change, IsRising, IsJoinedAfter}
 use Rattle.timeline.specs.Layout.{earlier, later, last_value, Brings}
@@ -109,11 +110,7 @@ module _ {V : Type 0} where
   -- a list in two parts, cut at a time
   pub cut-before : (t : ℕ) (front back : List (Change V)) → AreBefore t front → AreFrom t back → earlier t (front ++ back) ≡ front
   cut-before t front back low high =
-      earlier-append t front back ∙ ap (λ zs. earlier t front ++ zs) (earlier-none t back high) ∙ append-nothing (earlier t front) ∙ earlier-all t front low
-    where
-      append-nothing : (xs : List (Change V)) → xs ++ [] ≡ xs
-      append-nothing [] = refl
-      append-nothing (x ∷ xs) = ap (λ zs. x ∷ zs) (append-nothing xs)
+      earlier-append t front back ∙ ap (λ zs. earlier t front ++ zs) (earlier-none t back high) ∙ append-nil (earlier t front) ∙ earlier-all t front low
 
   pub cut-after : (t : ℕ) (front back : List (Change V)) → AreUntil t front → AreAfter t back → later t (front ++ back) ≡ back
   cut-after t front back low high =

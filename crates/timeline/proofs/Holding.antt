@@ -16,7 +16,7 @@ use Rattle.triple_ord.proofs.KeptOrder.{listed-new}
 use Rattle.timeline.specs.Timeline.{Change, value_at, IsRising}
 use Rattle.timeline.specs.Layout.{change, told_of, changes_of, earlier, later, last_value, IsChanged, IsLastUntil, IsTakenOut}
 use Rattle.timeline.proofs.Cutting.{AreBefore, AreUntil, AreFrom, AreAfter, all-back, all-weaker, cut-before, cut-after, cut-earlier, earlier-before, later-after, rising-front, rising-back, rising-last, rising-without, earlier-without, later-without}
-use Rattle.timeline.proofs.Lying.{ends-with, none-last, begins-with, none-mapped, entry-before, without-before, after-first}
+use Rattle.timeline.proofs.Searching.{ends-with, none-last, begins-with, none-mapped, entry-before, without-before, after-first}
 use Rattle.timeline.proofs.Values.{value-cut}
 
 -- what is said where there is something, where there is

@@ -1,5 +1,6 @@
 -- How long a value holds: until the next change.
 use Rattle.std.proofs.Common.{◌≡◌, ◌≢◌, ℕ, ◌<◌, ◌≤◌, List, [], ◌∷◌, ◌++◌, map, Option, Some, None, refl, sym, ap, subst, ◌∙◌, arith}
+use Rattle.std.proofs.lemmas.List.{append_assoc}
 use Rattle.std.specs.Option.{option_map}
 use Rattle.chain_base.specs.Link.{Link}
 use Rattle.chain_base.specs.Chain.{Entry, IsDistinct, entry_at, link_at, first_pointer}
@@ -8,7 +9,7 @@ use Rattle.triple_ord.proofs.Inserting.{entry_at-after}
 use Rattle.timeline.specs.Timeline.{Change, value_at, IsRising, IsJoinedAfter, IsTimeline}
 use Rattle.timeline.specs.Layout.{change, told_of, last_value, IsLastUntil, HoldsUntil}
 use Rattle.timeline.proofs.Cutting.{AreAfter, all-append, all-weaker, rising-back, joined-back}
-use Rattle.timeline.proofs.Lying.{none-last, begins-with, none-mapped, link-before, append-assoc}
+use Rattle.timeline.proofs.Searching.{none-last, begins-with, none-mapped, link-before}
 use Rattle.timeline.proofs.Values.{value-cut}
 use Rattle.timeline.proofs.Holding.{changes-cut}
 
@@ -86,7 +87,7 @@ module _ {V : Type 0} (es : List (Entry (ℕ × Option V))) (t : ℕ) where
       -- at the change its own value holds
       held-then : value_at (map change es) e.item.0 ≡ e.item.1
       held-then =
-          ap (λ cs. value_at cs e.item.0) (changes-cut es found.gap ∙ ap (λ cs. low ++ cs) high-is ∙ sym (append-assoc low (change e ∷ []) (map change back.0)))
+          ap (λ cs. value_at cs e.item.0) (changes-cut es found.gap ∙ ap (λ cs. low ++ cs) high-is ∙ sym (append_assoc low (change e ∷ []) (map change back.0)))
           ∙ value-cut None (low ++ change e ∷ []) (map change back.0) e.item.0
           (all-append _ low (change e ∷ []) (all-weaker _ _ (λ c is. omega (arith, is, later)) low found.until) (omega arith, tt)) high-rising.0
           ∙ last-behind low

@@ -1,7 +1,8 @@
 -- Lemmas of this crate.
 pub mod Cutting
-pub mod Lying
+pub mod Searching
 pub mod Values
 pub mod Holding
 pub mod Lasting
 pub mod Setting
+pub mod Spanning

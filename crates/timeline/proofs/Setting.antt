@@ -1,13 +1,29 @@
 -- Setting a value step by step: the changes in between are taken out, then the value comes, then what held at the end.
 use Rattle.std.proofs.Common.{◌≡◌, ◌≢◌, ℕ, ◌<◌, ◌≤◌, inl, inr, List, ◌++◌, Option, None, sym, ap, subst, ◌∙◌, arith}
+use Rattle.std.proofs.lemmas.List.{append_assoc}
 use Rattle.std.specs.List.{AllByRecursion}
 use Rattle.timeline.specs.Timeline.{Change, value_at, IsRising, IsTimeline, IsSet}
 use Rattle.timeline.specs.Layout.{earlier, later, last_value, Brings, IsChanged}
 use Rattle.timeline.proofs.Cutting.{AreBefore, AreAfter, all-append, all-weaker, earlier-before, later-after, cut-before, cut-after, cut-earlier, cut-later, rising-front, rising-back, rising-append, last-append, last-brings, rising-brings, all-brings}
-use Rattle.timeline.proofs.Lying.{append-assoc}
 use Rattle.timeline.proofs.Values.{value-within, value-outside-before, value-outside-after, timeline-set}
 
-module _ {V : Type 0} (old left : List (Change V)) (lawful : IsTimeline old) (from until : ℕ) (ordered : from < until) (taken : left ≡ earlier from old ++ later until old) where
+-- the changes from one time until another are taken out of a timeline
+pub record IsCutOut {V : Type 0} (old left : List (Change V)) (from until : ℕ) : Type 0 where
+  pub lawful : IsTimeline old
+  pub ordered : from < until
+  pub taken : left ≡ earlier from old ++ later until old
+
+-- out of a list of the same changes as the timeline's
+module _ {V : Type 0} {old room left : List (Change V)} (from until : ℕ) where
+  pub cut-out : IsTimeline old → from < until → room ≡ old → left ≡ earlier from room ++ later until room → IsCutOut old left from until
+  cut-out lawful ordered kept taken = record { lawful = lawful; ordered = ordered; taken = taken ∙ ap (λ cs. earlier from cs ++ later until cs) kept }
+
+-- what held at the end, read from such a list, holds again
+module _ {V : Type 0} {old room mid new : List (Change V)} {until : ℕ} {held : Option V} where
+  pub changed-back : room ≡ old → IsChanged mid until held new → held ≡ value_at room until → IsChanged mid until (value_at old until) new
+  changed-back kept changed held-is = subst (λ (h : Option V). IsChanged mid until h new) (held-is ∙ ap (λ cs. value_at cs until) kept) changed
+
+module _ {V : Type 0} {old left : List (Change V)} {from until : ℕ} (cut : IsCutOut old left from until) where
   abbrev low : List (Change V)
   low = earlier from old
 
@@ -21,34 +37,34 @@ module _ {V : Type 0} (old left : List (Change V)) (lawful : IsTimeline old) (fr
   high-after = later-after until old
 
   low-rising : IsRising low
-  low-rising = let cut = cut-earlier from old lawful.rising in rising-front low cut.0 (subst IsRising cut.1 lawful.rising)
+  low-rising = let parts = cut-earlier from old cut.lawful.rising in rising-front low parts.0 (subst IsRising parts.1 cut.lawful.rising)
 
   high-rising : IsRising high
-  high-rising = let cut = cut-later until old lawful.rising in rising-back cut.0 high (subst IsRising cut.1 lawful.rising)
+  high-rising = let parts = cut-later until old cut.lawful.rising in rising-back parts.0 high (subst IsRising parts.1 cut.lawful.rising)
 
   -- the changes that are left rise, and none is at the first time
   pub rising-left : IsRising left
-  rising-left = subst IsRising (sym taken) (rising-append from low high low-rising high-rising low-before (all-weaker _ _ (λ c is. omega (arith, is, ordered)) high high-after))
+  rising-left = subst IsRising (sym cut.taken) (rising-append from low high low-rising high-rising low-before (all-weaker _ _ (λ c is. omega (arith, is, cut.ordered)) high high-after))
 
   pub unmet-left : AllByRecursion (λ (c : Change V). c.time ≢ from) left
-  unmet-left = subst (AllByRecursion (λ (c : Change V). c.time ≢ from)) (sym taken)
-      (all-append _ low high (all-weaker _ _ (λ c is same. absurd (omega (arith, is, same))) low low-before) (all-weaker _ _ (λ c is same. absurd (omega (arith, is, same, ordered))) high high-after))
+  unmet-left = subst (AllByRecursion (λ (c : Change V). c.time ≢ from)) (sym cut.taken)
+      (all-append _ low high (all-weaker _ _ (λ c is same. absurd (omega (arith, is, same))) low low-before) (all-weaker _ _ (λ c is same. absurd (omega (arith, is, same, cut.ordered))) high high-after))
 
   early-left : earlier from left ≡ low
-  early-left = ap (earlier from) taken ∙ cut-before from low high low-before (all-weaker _ _ (λ c is. omega (arith, is, ordered)) high high-after)
+  early-left = ap (earlier from) cut.taken ∙ cut-before from low high low-before (all-weaker _ _ (λ c is. omega (arith, is, cut.ordered)) high high-after)
 
   late-left : later from left ≡ high
-  late-left = ap (later from) taken ∙ cut-after from low high (all-weaker _ _ (λ c is. omega (arith, is)) low low-before) (all-weaker _ _ (λ c is. omega (arith, is, ordered)) high high-after)
+  late-left = ap (later from) cut.taken ∙ cut-after from low high (all-weaker _ _ (λ c is. omega (arith, is)) low low-before) (all-weaker _ _ (λ c is. omega (arith, is, cut.ordered)) high high-after)
 
-  module _ (value : Option V) (mid : List (Change V)) (first : IsChanged left from value mid) where
+  module _ {value : Option V} {mid : List (Change V)} (first : IsChanged left from value mid) where
     brings-first : Brings (last_value None low) from value first.put
     brings-first = subst (λ cs. Brings (last_value None cs) from value first.put) early-left first.brings
 
     mid-is : mid ≡ (low ++ first.put) ++ high
-    mid-is = first.after ∙ ap (λ zs. zs ++ (first.put ++ later from left)) early-left ∙ ap (λ zs. low ++ (first.put ++ zs)) late-left ∙ sym (append-assoc low first.put high)
+    mid-is = first.after ∙ ap (λ zs. zs ++ (first.put ++ later from left)) early-left ∙ ap (λ zs. low ++ (first.put ++ zs)) late-left ∙ sym (append_assoc low first.put high)
 
     front-before : AreBefore until (low ++ first.put)
-    front-before = all-append _ low first.put (all-weaker _ _ (λ c is. omega (arith, is, ordered)) low low-before) (all-brings (last_value None low) from value first.put brings-first (λ t. t < until) ordered)
+    front-before = all-append _ low first.put (all-weaker _ _ (λ c is. omega (arith, is, cut.ordered)) low low-before) (all-brings (last_value None low) from value first.put brings-first (λ t. t < until) cut.ordered)
 
     -- after the first change they rise, and none is at the second time
     pub rising-mid : IsRising mid
@@ -70,21 +86,21 @@ module _ {V : Type 0} (old left : List (Change V)) (lawful : IsTimeline old) (fr
     last-mid : last_value None (low ++ first.put) ≡ value
     last-mid = last-append None low first.put ∙ last-brings (last_value None low) from value first.put brings-first
 
-    module _ (new : List (Change V)) (second : IsChanged mid until (value_at old until) new) where
+    module _ {new : List (Change V)} (second : IsChanged mid until (value_at old until) new) where
       brings-second : Brings value until (value_at old until) second.put
       brings-second = subst (λ held. Brings held until (value_at old until) second.put) last-mid (subst (λ cs. Brings (last_value None cs) until (value_at old until) second.put) early-mid second.brings)
 
       new-is : new ≡ low ++ (first.put ++ (second.put ++ high))
-      new-is = second.after ∙ ap (λ zs. zs ++ (second.put ++ later until mid)) early-mid ∙ ap (λ zs. (low ++ first.put) ++ (second.put ++ zs)) late-mid ∙ append-assoc low first.put (second.put ++ high)
+      new-is = second.after ∙ ap (λ zs. zs ++ (second.put ++ later until mid)) early-mid ∙ ap (λ zs. (low ++ first.put) ++ (second.put ++ zs)) late-mid ∙ append_assoc low first.put (second.put ++ high)
 
       pub set-is : IsSet old from until value new
       set-is = record {
-        within = λ t past sooner. ap (λ cs. value_at cs t) new-is ∙ value-within old lawful from until value ordered first.put second.put brings-first brings-second t past sooner;
+        within = λ t past sooner. ap (λ cs. value_at cs t) new-is ∙ value-within old cut.lawful from until value cut.ordered first.put second.put brings-first brings-second t past sooner;
         outside = λ t out. ap (λ cs. value_at cs t) new-is ∙ (elim out [
-          | inl sooner ↦ value-outside-before old lawful from until value ordered first.put second.put brings-first brings-second t sooner
-          | inr past ↦ value-outside-after old lawful from until value ordered first.put second.put brings-first brings-second t past
+          | inl sooner ↦ value-outside-before old cut.lawful from until value cut.ordered first.put second.put brings-first brings-second t sooner
+          | inr past ↦ value-outside-after old cut.lawful from until value cut.ordered first.put second.put brings-first brings-second t past
         ]);
       }
 
       pub set-timeline : IsTimeline new
-      set-timeline = subst (λ (cs : List (Change V)). IsTimeline cs) (sym new-is) (timeline-set old lawful from until value ordered first.put second.put brings-first brings-second)
+      set-timeline = subst (λ (cs : List (Change V)). IsTimeline cs) (sym new-is) (timeline-set old cut.lawful from until value cut.ordered first.put second.put brings-first brings-second)

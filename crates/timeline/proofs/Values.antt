@@ -1,6 +1,7 @@
 -- Values along lists of changes, and what setting a value from one time to another makes of them.
 use Rattle.std.proofs.Common.{◌≡◌, ℕ, ◌+◌, ◌<◌, ◌≤◌, List, [], ◌∷◌, ◌++◌, Option, None, refl, sym, ap, subst, ◌∙◌, arith, inl, inr}
 use Rattle.std.proofs.lemmas.Bool.Decides.{leb_tells}
+use Rattle.std.proofs.lemmas.List.{append_assoc}
 use Rattle.std.specs.List.{AllByRecursion}
 use Rattle.timeline.specs.Timeline.{Change, value_after, value_at, IsRising, IsJoinedAfter, IsTimeline}
 use Rattle.timeline.specs.Layout.{earlier, later, last_value, Brings}
@@ -84,13 +85,9 @@ module _ {V : Type 0} where
     rest-after : (t : ℕ) → t < until → AreAfter t (second ++ high)
     rest-after t sooner = all-append _ second high (all-weaker _ _ (λ c is. omega (arith, is, sooner)) second second-at) (all-weaker _ _ (λ c is. omega (arith, is, sooner)) high high-after)
 
-    append-assoc : (xs ys zs : List (Change V)) → xs ++ (ys ++ zs) ≡ (xs ++ ys) ++ zs
-    append-assoc [] ys zs = refl
-    append-assoc (x ∷ xs) ys zs = ap (λ all. x ∷ all) (append-assoc xs ys zs)
-
     pub value-within : (t : ℕ) → from ≤ t → t < until → value_at changed t ≡ value
     value-within t past sooner =
-        ap (λ cs. value_at cs t) (append-assoc low first (second ++ high)) ∙ value-cut None (low ++ first) (second ++ high) t (front-until t past) (rest-after t sooner) ∙ last-first
+        ap (λ cs. value_at cs t) (sym (append_assoc low first (second ++ high))) ∙ value-cut None (low ++ first) (second ++ high) t (front-until t past) (rest-after t sooner) ∙ last-first
 
     pub value-outside-before : (t : ℕ) → t < from → value_at changed t ≡ value_at old t
     value-outside-before t sooner =
@@ -101,7 +98,7 @@ module _ {V : Type 0} where
 
     pub value-outside-after : (t : ℕ) → until ≤ t → value_at changed t ≡ value_at old t
     value-outside-after t past =
-        ap (λ cs. value_at cs t) (append-assoc low first (second ++ high))
+        ap (λ cs. value_at cs t) (sym (append_assoc low first (second ++ high)))
         ∙ value-late None (low ++ first) (second ++ high) t (front-until t (omega (arith, past, ordered)))
         ∙ ap (λ held. value_after held (second ++ high) t) last-first
         ∙ value-late value second high t (all-weaker _ _ (λ c is. omega (arith, is, past)) second second-at)

@@ -5,11 +5,8 @@ use Rattle.std.specs.Option.{option_map}
 use Rattle.chain_base.specs.Chain.{Entry}
 use Rattle.ord_tree.specs.Tree.{Tree}
 use Rattle.triple_ord.specs.Gap.{Gap, before}
+use Rattle.timeline.specs.declared.span.Span.{Span}
 use Rattle.timeline.specs.Timeline.{Change, value_at, IsTimeline}
-
--- how many changes there can be
-abbrev pub most_changes : ℕ
-most_changes = 4294967294
 
 module _ {V : Type 0} where
   -- the changes before a time
@@ -93,3 +90,20 @@ module _ {V : Type 0} where
     pub within : n ≤ until
     pub holds : (t : ℕ) → from ≤ t → t < n → value_at cs t ≡ value_at cs from
     pub another_after : n < until → value_at cs n ≢ value_at cs from
+
+  -- a value over a stretch: nothing where there is none, or where the stretch is empty
+  abbrev pub stretch : Option V → ℕ → ℕ → List (Span V)
+  stretch None from until = []
+  stretch (Some v) from until = if leb until from then [] else record { from = from; until = until; value = v } ∷ []
+
+  -- The stretches from one time until another by the changes, where `held` is the value before these. A change that is past says which value
+  -- holds; one within the time ends a stretch; one behind it says nothing.
+  abbrev pub spans_after : Option V → List (Change V) → ℕ → ℕ → List (Span V)
+  spans_after held [] from until = stretch held from until
+  spans_after held (c ∷ cs) from until =
+      if leb c.time from then spans_after c.value cs from until
+      else (if leb until c.time then stretch held from until else stretch held from c.time ++ spans_after c.value cs c.time until)
+
+  -- the stretches that a timeline has from one time until another
+  abbrev pub spans_of : List (Change V) → ℕ → ℕ → List (Span V)
+  spans_of cs from until = spans_after None cs from until

@@ -8,6 +8,10 @@ pub record Change (V : Type 0) : Type 0 where
   pub time : ℕ
   pub value : Option V
 
+-- how many changes there can be
+abbrev pub most_changes : ℕ
+most_changes = 4294967294
+
 module _ {V : Type 0} where
   -- the value at a time, where `held` is the one before these changes: that of the last change at or before the time
   abbrev pub value_after : Option V → List (Change V) → ℕ → Option V
@@ -51,3 +55,8 @@ module _ {V : Type 0} where
   -- no value holds from one time until another
   abbrev pub HasNone : List (Change V) → ℕ → ℕ → Type 0
   HasNone cs from until = (t : ℕ) → from ≤ t → t < until → value_at cs t ≡ None
+
+  -- All stretches of a value from one time until another, in turn: the first one, and then those from its end on, until there is none.
+  abbrev pub AreSpans : List (Change V) → ℕ → ℕ → List (Span V) → Type 0
+  AreSpans cs from until [] = HasNone cs from until
+  AreSpans cs from until (span ∷ spans) = IsNextSpan cs from until span × AreSpans cs span.until until spans

@@ -1,12 +1,14 @@
 //! The arena of a timeline: its changes by their times.
 
-ghost use Rattle.std.specs.Prelude.{◌≡◌, ◌≢◌, ◌≤◌, ◌<◌, ◌+◌, ◌++◌, ◌∷◌, ◌↔◌, ℕ, List, Some, None, Err, IsTrue, false, IfSome, OnOk, OnErr, length};
+ghost use Rattle.std.specs.Prelude.{◌≡◌, ◌≢◌, ◌≤◌, ◌<◌, ◌+◌, ◌++◌, ◌↔◌, ℕ, Some, None, Err};
+ghost use Rattle.std.specs.Prelude.{IsTrue, false, IfSome, OnOk, OnErr, length};
 ghost use Rattle.std.specs.List.{AllByRecursion};
 ghost use Rattle.std.specs.Option.{option_map};
 ghost use Rattle.chain_base.specs.Chain.{link_at};
 ghost use Rattle.triple_ord.specs.Gap.{after};
-ghost use Rattle.timeline.specs.Timeline.{Change, IsRising, IsTimeline, value_at};
-ghost use Rattle.timeline.specs.Layout.{most_changes, changes_of, earlier, later, IsLastUntil, HoldsUntil, IsFirstHeld, IsEnd, IsTakenOut, IsChanged, KeepsRoom};
+ghost use Rattle.timeline.specs.Timeline.{most_changes, IsRising, IsTimeline, value_at};
+ghost use Rattle.timeline.specs.Layout.{changes_of, earlier, later, IsLastUntil, HoldsUntil, IsFirstHeld, IsEnd};
+ghost use Rattle.timeline.specs.Layout.{IsTakenOut, IsChanged, KeepsRoom};
 
 use crate::value::{TimelineValue, is_same};
 use std::alloc::Allocator;

@@ -3,10 +3,12 @@
 
 mod changes;
 mod span;
+mod spans;
 mod timeline;
 mod value;
 
 pub use span::Span;
+pub use spans::Spans;
 pub use timeline::Timeline;
 pub use triple_ord::ReallocationError;
 pub use value::TimelineValue;

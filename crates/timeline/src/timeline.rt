@@ -1,8 +1,7 @@
 //! `Timeline`: which value holds at which time.
 
 ghost use Rattle.std.specs.Prelude.{◌≡◌, ◌<◌, ◌+◌, ◌↔◌, [], Some, None, Err, OnOk, OnErr, IfSome, IfNone, length};
-ghost use Rattle.timeline.specs.Timeline.{value_at, IsTimeline, IsSet, IsNextSpan, HasNone};
-ghost use Rattle.timeline.specs.Layout.{most_changes};
+ghost use Rattle.timeline.specs.Timeline.{most_changes, value_at, IsTimeline, IsSet, IsNextSpan, HasNone};
 
 use crate::changes::{Changes, change_at, end_of, first_held, held_at, make_room, take_all};
 use crate::span::Span;

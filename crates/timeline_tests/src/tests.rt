@@ -1,189 +1,196 @@
 //! Timelines of small numbers, as a program sees them.
 use linked_list_allocator::LocalHeap;
-use std::alloc::{AllocError, Allocator, Global};
-use std::process::Abort;
+use std::alloc::{AllocError, Global};
 use std::test::Fail;
 use timeline::{ReallocationError, Span, Timeline};
 
 type Numbers<A = Global> = Timeline<u8, A>;
 
-/// Sets a value, or none.
-fn put<A: Allocator>(
-    numbers: &mut Numbers<A>,
-    (from, until): (u64, u64),
-    value: Option<u8>,
-) -> Result<(), ReallocationError> {
-    match value {
-        Some(value) => numbers.set(from, until, value),
-        None => numbers.clear(from, until),
+/// A time, first and behind the last, with the value that it is given, or none.
+type Setting = (u64, u64, Option<u8>);
+
+/// Gives a time its value.
+fn put(numbers: &mut Numbers, setting: Setting) -> Result<(), ReallocationError> {
+    match setting {
+        (from, until, Some(value)) => numbers.set(from, until, value),
+        (from, until, None) => numbers.clear(from, until),
     }
 }
 
-/// The stretches from 0 until before a time, of which there are at most eight.
-fn spans_of(alloc: Global, numbers: &Numbers, until: u64) -> Result<Vec<Span<u8>>, AllocError> {
-    let mut spans = Vec::new(alloc);
-    let mut from = 0u64;
-    for _ in 0..8u64 {
-        if let Some(span) = numbers.next_span(from, until) {
-            from = span.until;
-            spans.push(span)?;
+/// Whether a stretch begins, ends and has a value as this one.
+fn is_span(span: &Span<u8>, (from, until, value): (u64, u64, u8)) -> bool {
+    span.from == from && span.until == until && span.value == value
+}
+
+/// Whether the first stretch in a time is this one, if any.
+fn has_first(numbers: &Numbers, from: u64, until: u64, wanted: Option<&(u64, u64, u8)>) -> bool {
+    match (numbers.next_span(from, until), wanted) {
+        (Some(span), Some(wanted)) => is_span(&span, *wanted),
+        (None, None) => true,
+        _ => false,
+    }
+}
+
+/// Whether the stretches in a time are these, by `spans`, and the first of them also by `next_span`.
+fn has_spans(numbers: &Numbers, from: u64, until: u64, wanted: &[(u64, u64, u8)]) -> bool {
+    let mut left = wanted;
+    for span in numbers.spans(from, until) {
+        match left.split_first() {
+            Some((next, rest)) if is_span(&span, *next) => left = rest,
+            _ => return false,
         }
     }
-    Ok(spans)
+    left.is_empty() && has_first(numbers, from, until, wanted.first())
 }
 
-/// A stretch.
-fn span(from: u64, until: u64, value: u8) -> Span<u8> {
-    Span { from, until, value }
-}
+/// What a setting makes of a day: all its stretches.
+type Step<'a> = (Setting, &'a [(u64, u64, u8)]);
 
-/// The values at the times from 0 on are these.
-fn values_are(rt: &impl Abort, numbers: &Numbers, wanted: &[Option<u8>]) {
-    let mut time = 0u64;
-    for value in wanted {
-        assert_eq!(rt; numbers.get(time), *value);
-        time = time.wrapping_add(1);
-    }
+/// Makes a setting, and tells whether the day has just these stretches then, and as many changes.
+fn step(day: &mut Numbers, step: &Step<'_>, changes: usize) -> Result<bool, ReallocationError> {
+    put(day, step.0)?;
+    Ok(has_spans(day, 0, u64::MAX, step.1) && day.len() == changes)
 }
 
 #[test]
 fn a_day_with_a_meeting(rt: HostRuntime) -> Result<(), Fail> {
+    const END: u64 = u64::MAX;
     let mut day = Numbers::new(rt.alloc());
-    assert_eq!(rt; (day.len(), day.get(9)), (0, None));
-    // at work from 9 until 17, at lunch from 12 until 13
-    put(&mut day, (9, 17), Some(1))?;
-    put(&mut day, (12, 13), Some(2))?;
-    assert_eq!(rt; day.len(), 4);
-    assert_eq!(rt;
-        (day.get(8), day.get(9), day.get(11)),
-        (None, Some(1), Some(1))
-    );
-    assert_eq!(rt;
-        (day.get(12), day.get(13), day.get(16)),
-        (Some(2), Some(1), Some(1))
-    );
-    assert_eq!(rt; (day.get(17), day.get(u64::MAX)), (None, None));
-    let spans = spans_of(rt.alloc(), &day, 24)?;
-    assert_eq!(&rt;
-        spans.as_slice(),
-        [span(9, 12, 1), span(12, 13, 2), span(13, 17, 1)].as_slice()
-    );
-    assert_eq!(&rt; day.next_span(10, 11), Some(span(10, 11, 1)));
-    assert_eq!(&rt; (day.next_span(17, 24), day.next_span(9, 9)), (None, None));
-    // no lunch: the neighbours are one again
-    put(&mut day, (12, 13), Some(1))?;
-    assert_eq!(rt; (day.len(), day.get(12)), (2, Some(1)));
-    // what is set again changes nothing, nor does a stretch that ends before it begins
-    put(&mut day, (10, 12), Some(1))?;
-    put(&mut day, (12, 12), Some(3))?;
-    put(&mut day, (13, 12), Some(3))?;
-    assert_eq!(rt; day.len(), 2);
-    // home at three, and away until the end of time
-    put(&mut day, (15, u64::MAX), Some(4))?;
-    assert_eq!(rt;
-        (day.len(), day.get(14), day.get(15)),
-        (3, Some(1), Some(4))
-    );
-    assert_eq!(rt; (day.get(u64::MAX - 1), day.get(u64::MAX)), (Some(4), None));
-    put(&mut day, (0, u64::MAX), None)?;
-    assert_eq!(rt; (day.len(), day.get(12)), (0, None));
+    let steps: [(Step<'_>, usize); 11] = [
+        // at work, which is 1, from 9 until 17
+        (((9, 17, Some(1)), &[(9, 17, 1)]), 2),
+        // at lunch, which is 2
+        (
+            ((12, 13, Some(2)), &[(9, 12, 1), (12, 13, 2), (13, 17, 1)]),
+            4,
+        ),
+        // a break, in which nothing holds
+        (
+            (
+                (15, 16, None),
+                &[(9, 12, 1), (12, 13, 2), (13, 15, 1), (16, 17, 1)],
+            ),
+            6,
+        ),
+        // no break and no lunch: the neighbours are one again
+        (
+            ((15, 16, Some(1)), &[(9, 12, 1), (12, 13, 2), (13, 17, 1)]),
+            4,
+        ),
+        (((12, 13, Some(1)), &[(9, 17, 1)]), 2),
+        // what is set again changes nothing, nor does a time that ends before it begins
+        (((10, 12, Some(1)), &[(9, 17, 1)]), 2),
+        (((12, 12, Some(3)), &[(9, 17, 1)]), 2),
+        (((13, 12, Some(3)), &[(9, 17, 1)]), 2),
+        // away from 15 on, until the end of time
+        (((15, END, Some(4)), &[(9, 15, 1), (15, END, 4)]), 3),
+        // a meeting over all that, and then nothing at any time
+        (((8, 16, Some(5)), &[(8, 16, 5), (16, END, 4)]), 3),
+        (((0, END, None), &[]), 0),
+    ];
+    for (wanted, changes) in &steps {
+        assert!(rt; step(&mut day, wanted, *changes)?);
+    }
     Ok(())
 }
 
-/// The values that these settings make of seven times, one after another.
-fn plain(settings: &[((u64, u64), Option<u8>)]) -> [Option<u8>; 7] {
-    let mut values = [None; 7];
-    for ((from, until), value) in settings {
-        let mut time = 0u64;
-        for held in values.iter_mut() {
-            if *from <= time && time < *until {
-                *held = *value;
-            }
-            time = time.wrapping_add(1);
-        }
-    }
-    values
+/// At work from 9 until 17, at lunch from 12 until 13.
+fn a_day(alloc: Global) -> Result<Numbers, ReallocationError> {
+    let mut day = Numbers::new(alloc);
+    put(&mut day, (9, 17, Some(1)))?;
+    put(&mut day, (12, 13, Some(2)))?;
+    Ok(day)
 }
 
-/// At how many of these times the value changes.
-fn changes_in(values: &[Option<u8>]) -> usize {
-    let mut before = None;
-    let mut changes = 0usize;
+#[test]
+fn stretches_are_cut_at_the_time_that_is_asked_for(rt: HostRuntime) -> Result<(), Fail> {
+    let day = a_day(rt.alloc())?;
+    let wanted: [(u64, u64, &[(u64, u64, u8)]); 7] = [
+        (0, 24, &[(9, 12, 1), (12, 13, 2), (13, 17, 1)]),
+        (10, 14, &[(10, 12, 1), (12, 13, 2), (13, 14, 1)]),
+        (10, 11, &[(10, 11, 1)]),
+        (11, 13, &[(11, 12, 1), (12, 13, 2)]),
+        (17, 24, &[]),
+        (0, 9, &[]),
+        (13, 12, &[]),
+    ];
+    for (from, until, spans) in &wanted {
+        assert!(rt; has_spans(&day, *from, *until, spans));
+    }
+    Ok(())
+}
+
+/// The number of times that the tests with many settings look at.
+const TIMES: usize = 7;
+
+/// Gives the times in between their value.
+fn put_plainly(values: &mut [Option<u8>; TIMES], (from, until, value): Setting) {
+    let mut time = 0u64;
+    for held in values.iter_mut() {
+        if from <= time && time < until {
+            *held = value;
+        }
+        time = time.wrapping_add(1);
+    }
+}
+
+/// Whether the values at the times from 0 on are these, and the number of changes is theirs.
+fn has_values(numbers: &Numbers, values: &[Option<u8>; TIMES]) -> bool {
+    let (mut time, mut changes, mut before) = (0u64, 0usize, None);
     for value in values {
+        if numbers.get(time) != *value {
+            return false;
+        }
         if *value != before {
             changes = changes.wrapping_add(1);
         }
         before = *value;
+        time = time.wrapping_add(1);
     }
-    changes
+    numbers.len() == changes
 }
 
-/// The stretches of these values.
-fn spans_in(alloc: Global, values: &[Option<u8>]) -> Result<Vec<Span<u8>>, AllocError> {
-    let mut spans: Vec<Span<u8>> = Vec::new(alloc);
-    let mut time = 0u64;
-    for held in values {
-        let next = time.wrapping_add(1);
-        if let Some(value) = held {
-            match spans.pop() {
-                Some(last) if last.until == time && last.value == *value => {
-                    spans.push(span(last.from, next, *value))?;
-                }
-                Some(last) => {
-                    spans.push(last)?;
-                    spans.push(span(time, next, *value))?;
-                }
-                None => spans.push(span(time, next, *value))?,
-            }
+/// Whether the stretches are those of these values: they give each time its value, and no two neighbours have one value.
+fn has_stretches(numbers: &Numbers, values: &[Option<u8>; TIMES]) -> bool {
+    let mut painted = [None; TIMES];
+    let mut last = (0u64, None);
+    for span in numbers.spans(0, 7) {
+        let is_apart = (span.from, Some(span.value)) != last;
+        if span.from < last.0 || span.until <= span.from || !is_apart {
+            return false;
         }
-        time = next;
+        put_plainly(&mut painted, (span.from, span.until, Some(span.value)));
+        last = (span.until, Some(span.value));
     }
-    Ok(spans)
+    painted == *values
 }
 
-/// A timeline has the stretches of these values.
-fn spans_are(
-    rt: &impl Abort,
-    alloc: Global,
-    numbers: &Numbers,
-    values: &[Option<u8>],
-) -> Result<(), AllocError> {
-    assert!(rt; spans_of(alloc, numbers, 7)?.as_slice() == spans_in(alloc, values)?.as_slice());
-    Ok(())
-}
-
-/// A timeline of these settings is what they make of a plain list.
-fn is_plain(
-    rt: &impl Abort,
-    alloc: Global,
-    settings: &[((u64, u64), Option<u8>)],
-) -> Result<(), Fail> {
+/// Whether a timeline of these settings is what they make of a plain list.
+fn is_plain(alloc: Global, settings: &[Setting]) -> Result<bool, ReallocationError> {
     let mut numbers = Numbers::new(alloc);
-    for (times, value) in settings {
-        put(&mut numbers, *times, *value)?;
+    let mut values = [None; TIMES];
+    for setting in settings {
+        put(&mut numbers, *setting)?;
+        put_plainly(&mut values, *setting);
     }
-    let wanted = plain(settings);
-    values_are(rt, &numbers, wanted.as_slice());
-    assert_eq!(rt; numbers.len(), changes_in(wanted.as_slice()));
-    spans_are(rt, alloc, &numbers, wanted.as_slice())?;
-    Ok(())
+    Ok(has_values(&numbers, &values) && has_stretches(&numbers, &values))
 }
 
 /// The setting with this number: of all from times below six until times up to six, to nothing, 1 or 2.
-fn setting(n: u64) -> ((u64, u64), Option<u8>) {
+fn setting(n: u64) -> Setting {
     let value = match n % 3 {
         0 => None,
         1 => Some(1),
         _ => Some(2),
     };
-    (((n / 3) % 6, (n / 18) % 6 + 1), value)
+    ((n / 3) % 6, (n / 18) % 6 + 1, value)
 }
 
 #[test]
 fn each_two_settings(rt: HostRuntime) -> Result<(), Fail> {
     for first in 0..108u64 {
         for second in 0..108u64 {
-            is_plain(&rt, rt.alloc(), &[setting(first), setting(second)])?;
+            assert!(rt; is_plain(rt.alloc(), &[setting(first), setting(second)])?);
         }
     }
     Ok(())
@@ -196,31 +203,31 @@ fn five_settings_in_many_orders(rt: HostRuntime) -> Result<(), Fail> {
         n = n
             .wrapping_mul(6364136223846793005)
             .wrapping_add(1442695040888963407);
-        let settings = [
-            setting(n >> 33),
-            setting(n >> 27),
-            setting(n >> 21),
-            setting(n >> 15),
-            setting(n >> 9),
-        ];
-        is_plain(&rt, rt.alloc(), settings.as_slice())?;
+        let mut settings = [(0, 0, None); 5];
+        let mut part = n;
+        for place in settings.iter_mut() {
+            part >>= 9;
+            *place = setting(part);
+        }
+        assert!(rt; is_plain(rt.alloc(), settings.as_slice())?);
     }
     Ok(())
 }
 
-/// Sets stretches apart from each other until memory is refused, and tells how many there were. A refusal changes nothing.
-fn set_until_refused(rt: &impl Abort, numbers: &mut Numbers<&LocalHeap>) -> u64 {
+/// Sets stretches apart from each other until memory is refused, and tells how many there were; 10 where one isn't as it was set, or
+/// where a refusal changed something.
+fn set_until_refused(numbers: &mut Numbers<&LocalHeap>) -> u64 {
     for n in 0..9u64 {
+        let (from, until) = (n * 10, n * 10 + 5);
         let held = numbers.len();
-        if let Err(refusal) = numbers.set(n * 10, n * 10 + 5, 1) {
-            assert_eq!(rt; refusal, ReallocationError::AllocError);
-            assert_eq!(rt; (numbers.len(), numbers.get(n * 10)), (held, None));
-            return n;
+        match numbers.set(from, until, 1) {
+            Ok(()) if numbers.get(until - 1) == Some(1) && numbers.get(until).is_none() => {}
+            Err(ReallocationError::AllocError)
+                if numbers.len() == held && numbers.get(from).is_none() => {
+                return n;
+            }
+            _ => return 10,
         }
-        assert_eq!(rt;
-            (numbers.get(n * 10 + 4), numbers.get(n * 10 + 5)),
-            (Some(1), None)
-        );
     }
     9
 }
@@ -231,15 +238,11 @@ fn nothing_changes_where_memory_is_refused(rt: HostRuntime) -> Result<(), AllocE
     for units in 1..320usize {
         let heap = LocalHeap::new(rt.alloc(), units * 16)?;
         let mut numbers: Numbers<&LocalHeap> = Timeline::new(&heap);
-        let set = set_until_refused(&rt, &mut numbers);
-        if let Some(place) = met.get_mut(set as usize) {
-            *place = true;
-        }
+        let set = set_until_refused(&mut numbers);
+        assert!(rt; set < 10);
+        met[set as usize] = true;
     }
     // each growth was refused in turn: from nothing, from 4, from 8, from 16
-    assert_eq!(rt;
-        (met[0], met[2], met[4], met[8], met[9]),
-        (true, true, true, true, true)
-    );
+    assert!(rt; met[0] && met[2] && met[4] && met[8] && met[9]);
     Ok(())
 }

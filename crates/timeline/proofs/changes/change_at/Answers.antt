@@ -1,6 +1,7 @@
 use Rattle.std.proofs.Common.{sym, ◌∙◌}
+use Rattle.timeline.specs.Timeline.{most_changes}
+use Rattle.timeline.specs.Layout.{changes_of}
 use Rattle.timeline.proofs.Holding.{changed-same, changed-inserted}
-use Rattle.timeline.specs.Layout.{most_changes, changes_of}
 use Rattle.timeline.proofs.changes.change_at.Goals as goal
 
 pub returns-then-is_same-clause-changed : goal.returns-then-is_same-clause-changed

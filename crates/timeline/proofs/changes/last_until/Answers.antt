@@ -1,5 +1,5 @@
 use Rattle.std.proofs.Common.{[]}
-use Rattle.timeline.proofs.Lying.{none-before, last-missing, last-there}
+use Rattle.timeline.proofs.Searching.{none-before, last-missing, last-there}
 use Rattle.timeline.proofs.changes.last_until.Goals as goal
 
 pub returns-in_err-p : goal.returns-in_err-p

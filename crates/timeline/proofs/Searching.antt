@@ -1,8 +1,8 @@
--- The entries of an arena as changes: where a search for a time ends, and which entry is the last at or before it.
+-- Where a search for a time ends among the entries of an arena, and which entry is the last at or before it.
 use Rattle.std.proofs.Common.{◌≡◌, ◌≢◌, ℕ, ◌<◌, ◌≤◌, ◌⊎◌, inl, inr, List, [], ◌∷◌, ◌++◌, map, Option, Some, None, IfSome, refl, sym, ap, subst, ◌∙◌, arith}
 use Rattle.std.proofs.lemmas.Grind.{common_steps}
 use Rattle.std.proofs.lemmas.Bool.Decides.{nat_tests}
-use Rattle.std.proofs.lemmas.List.{map-append}
+use Rattle.std.proofs.lemmas.List.{map-append, append_assoc}
 use Rattle.std.specs.List.{AllByRecursion}
 use Rattle.std.specs.Option.{option_map}
 use Rattle.std.specs.Ordering.{nat_cmp}
@@ -47,10 +47,6 @@ module _ {X : Type 0} where
   begins-with [] x is = absurd (cc)
   begins-with (y ∷ xs) x is = (xs, let same : y ≡ x = cc in ap (λ z. z ∷ xs) same)
 
-  pub append-assoc : (xs ys zs : List X) → (xs ++ ys) ++ zs ≡ xs ++ (ys ++ zs)
-  append-assoc [] ys zs = refl
-  append-assoc (x ∷ xs) ys zs = ap (λ all. x ∷ all) (append-assoc xs ys zs)
-
 -- nothing is made of nothing alone
 pub none-mapped : {X Y : Type 0} (f : X → Y) (o : Option X) → option_map f o ≡ None → o ≡ None
 none-mapped f None is = refl
@@ -93,7 +89,7 @@ module _ {T : Type 0} where
       → option_map (λ l. l.1.next) (link_at es e.index) ≡ Some (option_map (λ d. d.index) (after gap))
   link-before es gap e distinct here =
       let front = ends-with gap.front e here in
-      let cut : es ≡ front.0 ++ e ∷ gap.back = gap.cut ∙ ap (λ xs. xs ++ gap.back) front.1 ∙ append-assoc front.0 (e ∷ []) gap.back in
+      let cut : es ≡ front.0 ++ e ∷ gap.back = gap.cut ∙ ap (λ xs. xs ++ gap.back) front.1 ∙ append_assoc front.0 (e ∷ []) gap.back in
       let unmet = unmet-before front.0 e gap.back (subst (λ (xs : List (Entry T)). IsDistinct xs) cut distinct) in
       ap (λ xs. option_map (λ l. l.1.next) (link_at xs e.index)) cut ∙ ap (option_map (λ l. l.1.next)) (link-here None None front.0 e gap.back unmet) ∙ ap Some (first-index gap.back)
 
@@ -101,7 +97,7 @@ module _ {T : Type 0} where
   pub entry-before : (es : List (Entry T)) (gap : Gap es) (e : Entry T) → IsDistinct es → before gap ≡ Some e → entry_at es e.index ≡ Some (e.generation, e.item)
   entry-before es gap e distinct here =
       let front = ends-with gap.front e here in
-      let cut : es ≡ front.0 ++ e ∷ gap.back = gap.cut ∙ ap (λ xs. xs ++ gap.back) front.1 ∙ append-assoc front.0 (e ∷ []) gap.back in
+      let cut : es ≡ front.0 ++ e ∷ gap.back = gap.cut ∙ ap (λ xs. xs ++ gap.back) front.1 ∙ append_assoc front.0 (e ∷ []) gap.back in
       entry_at-after es e distinct (record { front = front.0; back = e ∷ gap.back; cut = cut }) refl
 
   -- without an entry in the middle
@@ -113,7 +109,7 @@ module _ {T : Type 0} where
       → (front : List (Entry T)) × (es ≡ front ++ e ∷ gap.back) × (gap.front ≡ front ++ e ∷ []) × (without e.index es ≡ front ++ gap.back)
   without-before es gap e distinct here =
       let front = ends-with gap.front e here in
-      let cut : es ≡ front.0 ++ e ∷ gap.back = gap.cut ∙ ap (λ xs. xs ++ gap.back) front.1 ∙ append-assoc front.0 (e ∷ []) gap.back in
+      let cut : es ≡ front.0 ++ e ∷ gap.back = gap.cut ∙ ap (λ xs. xs ++ gap.back) front.1 ∙ append_assoc front.0 (e ∷ []) gap.back in
       let unmet = unmet-before front.0 e gap.back (subst (λ (xs : List (Entry T)). IsDistinct xs) cut distinct) in
       (front.0, cut, front.1, ap (without e.index) cut ∙ without-middle front.0 e gap.back unmet)
 
@@ -162,7 +158,7 @@ module _ {V : Type 0} where
     cut-equal found =
         let back = begins-with found.gap.back e found.here in
         let at : e.item.0 ≡ t = grind (arith, nat_tests, found.equal) in
-        let cut : es ≡ (found.gap.front ++ e ∷ []) ++ back.0 = found.gap.cut ∙ ap (λ ys. found.gap.front ++ ys) back.1 ∙ sym (append-assoc found.gap.front (e ∷ []) back.0) in
+        let cut : es ≡ (found.gap.front ++ e ∷ []) ++ back.0 = found.gap.cut ∙ ap (λ ys. found.gap.front ++ ys) back.1 ∙ sym (append_assoc found.gap.front (e ∷ []) back.0) in
         let gap : Gap es = record { front = found.gap.front ++ e ∷ []; back = back.0; cut = cut } in
         let both = subst IsRising (ap (map change) back.1) (rising-cut found.gap).1 in
         record {
