@@ -211,8 +211,9 @@ impl<A: Allocator> OrderQueue<A> {
         ensures { (x : Resting) (xs : List Resting) → self.old.orders ≡ x ∷ xs → pointer ≡ x.name
             → self.new ≡ record self.old { orders = record x { quantity = quantity } ∷ xs } }
     {
-        if let Some(order) = self.orders.get_mut(pointer) {
-            *order.v_mut() = quantity;
-        }
+        let Some(order) = self.orders.get_mut(pointer) else {
+            return;
+        };
+        *order.v_mut() = quantity;
     }
 }
