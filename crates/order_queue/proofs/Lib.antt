@@ -1,0 +1,8 @@
+-- Lemmas of this crate.
+pub mod Ranks
+pub mod Naming
+pub mod Leaving
+pub mod Putting
+pub mod Trading
+pub mod Taking
+pub mod Reducing

@@ -144,8 +144,11 @@ impl<A: Allocator> OrderQueue<A> {
         let before = trades.len();
         let mut left = quantity;
         for (pointer, order) in self.orders.iter_ordered() {
+            if left == 0 {
+                break;
+            }
             let price = ranked(self.side, *order.k());
-            if left == 0 || !self.side.meets(price, limit) {
+            if !self.side.meets(price, limit) {
                 break;
             }
             let quantity = left.min(*order.v());
@@ -209,8 +212,9 @@ impl<A: Allocator> OrderQueue<A> {
         ensures { (x : Resting) (xs : List Resting) → self.old.orders ≡ x ∷ xs → pointer ≡ x.name
             → self.new ≡ record self.old { orders = record x { quantity = quantity } ∷ xs } }
     {
-        if let Some(order) = self.orders.get_mut(pointer) {
-            *order.v_mut() = quantity;
-        }
+        let Some(order) = self.orders.get_mut(pointer) else {
+            return;
+        };
+        *order.v_mut() = quantity;
     }
 }

@@ -1,0 +1,132 @@
+-- The orders of a queue and the entries of its arena: what a pointer names, and what a removal leaves.
+use Rattle.std.proofs.Common.{◌≡◌, ℕ, ◌≤◌, ◌<◌, ◌==◌, List, [], ◌∷◌, map, Option, Some, None, IsSome, IfNone, OnSome, is_some, refl, sym, ap, subst, ◌∙◌, arith, inl, inr, true, false, if◌then◌else◌}
+use Rattle.std.proofs.lemmas.Grind.{common_steps}
+use Rattle.std.proofs.lemmas.Bool.Decides.{eqb_tells}
+use Rattle.std.specs.List.{AllByRecursion}
+use Rattle.std.specs.Option.{option_map}
+use Rattle.std.proofs.lemmas.List.{length-map}
+use Rattle.arena_base.specs.Arena.{limit_of}
+use Rattle.chain_base.specs.Chain.{Entry, removed, IsSound as IsSoundChain, IsDistinct as AreDistinct, entry_at, item_of, first_pointer, without as without_index}
+use Rattle.chain_base.proofs.CallerLemmas.{entry_at-absent}
+use Rattle.ord_tree.specs.Tree.{Tree}
+use Rattle.order_queue.specs.declared.side.Side.{Side}
+use Rattle.order_queue.specs.Queue.{Resting, Queue, most_orders, Updates, with_left, first_of, order_of, without, IsDistinct, IsSound}
+use Rattle.order_queue.specs.Layout.{greatest_generation, most_price, ranked, resting, queue_of, AreRanked, IsArenaOfOrders}
+use Rattle.order_queue.proofs.Naming.{updates-none, updates-left}
+use Rattle.order_queue.proofs.Ranks.{Entries, recursion-map, in_order-ranked}
+
+-- the entries behind the first have pairwise different indexes too, and none has the first's
+distinct-rest : (e : Entry (ℕ × ℕ)) (es : Entries) → AreDistinct (e ∷ es) → AreDistinct es
+distinct-rest e es distinct i = omega (arith, distinct i)
+
+absent-rest : (e : Entry (ℕ × ℕ)) (es : Entries) (i : ℕ) → e.index ≡ i → AreDistinct (e ∷ es) → entry_at es i ≡ None
+absent-rest e es i here distinct = entry_at-absent es i (grind (arith, common_steps, distinct i))
+
+-- the first entry's pointer finds its item
+pub first-item : (e : Entry (ℕ × ℕ)) (es : Entries) → item_of (e ∷ es) (e.index, e.generation) ≡ Some e.item
+first-item e es = elim (eqb_tells e.index e.index) [
+  | inl h ↦ elim (eqb_tells e.generation e.generation) [
+    | inl k ↦ rw (h.0, k.0) refl
+    | inr k ↦ absurd (k.1 refl)
+  ]
+  | inr h ↦ absurd (h.1 refl)
+]
+
+pub first-lost : (es : Entries) (p : ℕ × ℕ) → Some p ≡ first_pointer es → None ≡ item_of es p → ⊥
+first-lost [] p named lost = absurd (cc)
+first-lost (e ∷ es) p named lost =
+    let here : p ≡ (e.index, e.generation) = cc in
+    let none : None ≡ Some e.item = lost ∙ ap (item_of (e ∷ es)) here ∙ first-item e es in cc
+
+-- what is true of all entries is true of all but one, and the order stays without one
+recursion-without : (P : Entry (ℕ × ℕ) → Type 0) (es : Entries) (i : ℕ) → AllByRecursion P es → AllByRecursion P (without_index i es)
+recursion-without P [] i all = tt
+recursion-without P (e ∷ es) i all = elim (e.index == i) as (λ b. AllByRecursion P (if b then es else e ∷ without_index i es)) [
+  | true ↦ all.1
+  | false ↦ (all.0, recursion-without P es i all.1)
+]
+
+ranked-without : (es : Entries) (i : ℕ) → AreRanked es → AreRanked (without_index i es)
+ranked-without [] i sorted = tt
+ranked-without (e ∷ es) i sorted = elim (e.index == i) as (λ b. AreRanked (if b then es else e ∷ without_index i es)) [
+  | true ↦ sorted.1
+  | false ↦ (recursion-without (λ (f : Entry (ℕ × ℕ)). e.item.0 ≤ f.item.0) es i sorted.0, ranked-without es i sorted.1)
+]
+
+module _ (side : Side) where
+  -- price and quantity of an item
+  abbrev pub told : ℕ × ℕ → ℕ × ℕ
+  told item = (ranked side item.0, item.1)
+
+  -- a pointer names the order of the entry that it finds
+  pub order_of-found : (es : Entries) → AreDistinct es → (p : ℕ × ℕ) → order_of (map (resting side) es) p ≡ option_map told (item_of es p)
+  order_of-found [] distinct p = refl
+  order_of-found (e ∷ es) distinct p = elim (eqb_tells e.index p.0) [
+    | inl h ↦ elim (eqb_tells e.generation p.1) [
+      | inl k ↦ rw (h.0, k.0) refl
+      | inr k ↦ rw (h.0, k.0, order_of-found es (distinct-rest e es distinct) p, absent-rest e es p.0 h.1 distinct) refl
+    ]
+    | inr h ↦ rw (h.0, order_of-found es (distinct-rest e es distinct) p) refl
+  ]
+
+  -- without the order of a pointer, where it names one, the entries are those without its index
+  pub without-found : (es : Entries) → AreDistinct es → (p : ℕ × ℕ) → IsSome (item_of es p) → without (map (resting side) es) p ≡ map (resting side) (without_index p.0 es)
+  without-found [] distinct p there = refl
+  without-found (e ∷ es) distinct p there = elim (eqb_tells e.index p.0) [
+    | inl h ↦ elim (eqb_tells e.generation p.1) [
+      | inl k ↦ rw (h.0, k.0) refl
+      | inr k ↦ absurd (let none : item_of (e ∷ es) p ≡ None = rw (h.0, k.0) refl in cc)
+    ]
+    | inr h ↦ rw (h.0, without-found es (distinct-rest e es distinct) p (let same : item_of (e ∷ es) p ≡ item_of es p = rw h.0 refl in subst (λ (o : Option (ℕ × ℕ)). IsSome o) same there)) refl
+  ]
+
+  -- the first entry is the order that trades first
+  pub first-none : (es : Entries) → None ≡ first_pointer es → first_of side (map (resting side) es) ≡ None
+  first-none [] none = refl
+  first-none (e ∷ es) none = absurd (cc)
+
+  pub first-some : (es : Entries) (p item : ℕ × ℕ) → Some p ≡ first_pointer es → Some item ≡ item_of es p
+      → first_of side (map (resting side) es) ≡ Some (record { id = record { side = side; pointer = p }; price = ranked side item.0; quantity = item.1 })
+  first-some [] p item named found = absurd (cc)
+  first-some (e ∷ es) p item named found =
+      let here : p ≡ (e.index, e.generation) = cc in
+      let some : Some item ≡ Some e.item = found ∙ ap (item_of (e ∷ es)) here ∙ first-item e es in
+      let same : item ≡ e.item = cc in
+      rw (here, same) refl
+
+  -- pointers are distinct where indexes are
+  pub distinct-found : (es : Entries) → AreDistinct es → IsDistinct (map (resting side) es)
+  distinct-found [] distinct = tt
+  distinct-found (e ∷ es) distinct =
+      (order_of-found es (distinct-rest e es distinct) (e.index, e.generation) ∙ rw (absent-rest e es e.index refl distinct) refl, distinct-found es (distinct-rest e es distinct))
+
+  -- what is true of an arena's list is true of its queue
+  pub sound-found : (a : Tree (ℕ × ℕ)) → IsSoundChain most_orders greatest_generation a.list → IsArenaOfOrders a → IsSound (queue_of side a)
+  sound-found a sound holds = record {
+    in_order = in_order-ranked side a.list.entries holds.ranked;
+    distinct = distinct-found a.list.entries sound.distinct;
+    some_left = recursion-map (resting side) (λ (e : Entry (ℕ × ℕ)). (e.item.0 ≤ most_price) × (0 < e.item.1)) (λ x. 0 < x.quantity) (λ e lawful. lawful.1) a.list.entries holds.lawful;
+    within = omega (arith, length-map a.list.entries (resting side), sound.counted);
+    limited = omega (arith, sound.within_limit, ap (limit_of most_orders) holds.unlimited);
+  }
+
+  -- what the removal of a pointer's entry leaves
+  module _ (old new : Tree (ℕ × ℕ)) (p : ℕ × ℕ) (distinct : AreDistinct old.list.entries) where
+    pub queue-removed : IsSome (item_of old.list.entries p) → new.list ≡ removed greatest_generation old.list p.0 → queue_of side new ≡ with_left (queue_of side old) p
+    queue-removed there after = rw (after, without-found old.list.entries distinct p there) refl
+
+    -- what pointers name afterwards, whether the pointer had an entry or none
+    pub updates-removed : (o : Option (ℕ × ℕ)) → o ≡ item_of old.list.entries p → OnSome o (new.list ≡ removed greatest_generation old.list p.0) → IfNone o (new ≡ old)
+        → Updates (queue_of side old) (queue_of side new) p None
+    updates-removed None value taken none = subst (λ (a : Tree (ℕ × ℕ)). Updates (queue_of side old) (queue_of side a) p None) (sym none)
+        (updates-none (queue_of side old) p (order_of-found old.list.entries distinct p ∙ ap (option_map told) (sym value)))
+    updates-removed (Some item) value taken none = subst (λ (a : Queue). Updates (queue_of side old) a p None) (sym (queue-removed (ap is_some (sym value)) taken))
+        (updates-left (queue_of side old) p (distinct-found old.list.entries distinct))
+
+-- without an entry an arena is one of a queue still
+pub arena-removed : (old new : Tree (ℕ × ℕ)) (i : ℕ) → new.list ≡ removed greatest_generation old.list i → IsArenaOfOrders old → IsArenaOfOrders new
+arena-removed old new i after holds = record {
+  ranked = rw after (ranked-without old.list.entries i holds.ranked);
+  lawful = rw after (recursion-without (λ (e : Entry (ℕ × ℕ)). (e.item.0 ≤ most_price) × (0 < e.item.1)) old.list.entries i holds.lawful);
+  unlimited = rw after holds.unlimited;
+}

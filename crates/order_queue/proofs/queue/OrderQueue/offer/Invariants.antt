@@ -1,0 +1,10 @@
+use Rattle.std.proofs.Common.{◌≤◌, vec_capacity}
+use Rattle.order_queue.proofs.Trading.{IsOffering}
+use Rattle.order_queue.proofs.queue.OrderQueue.offer.Given as goal
+
+-- how far the offer is, and the list has at least the room that it had
+abbrev pub invariant-loop-pointer : goal.invariant-loop-pointer
+invariant-loop-pointer g l = record {
+  offering : IsOffering l.fn.self l.fn.limit l.fn.quantity l.fn.trades.items l.left l.trades.items l.pointer-iterator;
+  room : vec_capacity l.fn.trades ≤ vec_capacity l.trades;
+}
