@@ -1,5 +1,6 @@
 -- A new entry behind all whose rank is at most its own: the order comes to rest.
-use Rattle.std.proofs.Common.{◌≡◌, ◌≢◌, ℕ, Bool, true, false, List, [], ◌∷◌, ◌++◌, map, Option, Some, None, IfSome, is_some, Result, Ok, Err, IfOk, OnErr, slice_get, refl, sym, ap, subst, ◌∙◌, ◌+◌, ◌*◌, ◌<◌, ◌≤◌, min, max, nat_lt, length, arith, if◌then◌else◌}
+use Rattle.std.proofs.Common.{◌≡◌, ◌≢◌, ℕ, Bool, true, false, List, [], ◌∷◌, ◌++◌, map, Option, Some, None, IfSome, is_some, Result, Ok, Err, IfOk, OnErr, slice_get, refl, sym, ap}
+use Rattle.std.proofs.Common.{subst, ◌∙◌, ◌+◌, ◌*◌, ◌<◌, ◌≤◌, min, max, nat_lt, length, arith, if◌then◌else◌}
 use Rattle.std.proofs.lemmas.Bool.{lt-ltb, le-ltb}
 use Rattle.std.proofs.lemmas.List.{map-append, length-map}
 use Rattle.std.specs.List.{AllByRecursion}

@@ -1,6 +1,7 @@
-use Rattle.std.proofs.Common.{◌≡◌, ℕ, ◌≤◌, ◌<◌, List, [], ◌∷◌, ◌++◌, length, take, true, false, Result, Ok, Err, OnErr, is_ok, is_err, if◌then◌else◌, refl, sym, ap, ◌∙◌, arith, rules}
+use Rattle.std.proofs.Common.{◌≡◌, ℕ, ◌≤◌, ◌<◌, List, [], ◌∷◌, ◌++◌, length, take, Bool, true, false, Result, Ok, Err, OnErr, is_ok, is_err, if◌then◌else◌, refl, sym, ap, ◌∙◌, arith, rules}
 use Rattle.chain_base.specs.Chain.{Entry}
 use Rattle.order_queue.specs.declared.order.Trade.{Trade}
+use Rattle.order_queue.specs.declared.side.Side.{Side}
 use Rattle.order_queue.specs.Queue.{Queue, meets}
 use Rattle.order_queue.specs.Layout.{ranked, queue_of}
 use Rattle.order_queue.proofs.Trading.{IsOffering, trade_of, offering-start, offering-next, left-done, trades-done, done-ended, done-filled, done-missed, room-wanted, front-kept}
@@ -18,6 +19,10 @@ unpushed (Err e) items more same refused after = after
 owed : {X E P : Type 0} (r : Result X E) → true ≡ is_err r → OnErr r P → P
 owed (Ok x) refused fact = absurd (cc)
 owed (Err e) refused fact = fact
+
+-- whether the order at a rank meets the limit
+met : (side : Side) (limit price rank first : ℕ) (b : Bool) → b ≡ meets side price limit → price ≡ ranked side rank → rank ≡ first → meets side (ranked side first) limit ≡ b
+met side limit price rank first b told priced same = sym (told ∙ ap (λ n. meets side n limit) (priced ∙ ap (ranked side) same))
 
 pub loop-pointer-init : goal.loop-pointer-init
 loop-pointer-init g c =
@@ -55,7 +60,7 @@ returns-then-not-meets-clause-left g c =
     let now : IsOffering q c.args.limit c.args.quantity c.args.trades.now.items c.loop-pointer.left c.loop-pointer.trades.items (e ∷ c.next.new.self) =
         rw (c.self.view_is, ← c.in-Some.ensures.steps) c.loop-pointer.invariant.offering in
     let misses : meets side (ranked side c.in-Some.order.now.0) c.args.limit ≡ false =
-        sym (c.if-not-meets.ensures ∙ ap (λ n. meets side n c.args.limit) (c.ranked-price.ensures ∙ ap (ranked side) c.k.ensures)) in
+        met side c.args.limit c.ranked-price.result c.k.result.now c.in-Some.order.now.0 _ c.if-not-meets.ensures c.ranked-price.ensures c.k.ensures in
     rw (← c.self.view_is) (left-done q c.args.limit c.args.quantity c.args.trades.now.items c.loop-pointer.left c.loop-pointer.trades.items (e ∷ c.next.new.self) now
     (done-missed q c.args.limit c.args.quantity c.args.trades.now.items c.loop-pointer.left c.loop-pointer.trades.items e c.next.new.self now misses))
 
@@ -67,7 +72,7 @@ returns-then-not-meets-clause-trades g c =
     let now : IsOffering q c.args.limit c.args.quantity c.args.trades.now.items c.loop-pointer.left c.loop-pointer.trades.items (e ∷ c.next.new.self) =
         rw (c.self.view_is, ← c.in-Some.ensures.steps) c.loop-pointer.invariant.offering in
     let misses : meets side (ranked side c.in-Some.order.now.0) c.args.limit ≡ false =
-        sym (c.if-not-meets.ensures ∙ ap (λ n. meets side n c.args.limit) (c.ranked-price.ensures ∙ ap (ranked side) c.k.ensures)) in
+        met side c.args.limit c.ranked-price.result c.k.result.now c.in-Some.order.now.0 _ c.if-not-meets.ensures c.ranked-price.ensures c.k.ensures in
     rw (← c.self.view_is) (trades-done q c.args.limit c.args.quantity c.args.trades.now.items c.loop-pointer.left c.loop-pointer.trades.items (e ∷ c.next.new.self) now
     (done-missed q c.args.limit c.args.quantity c.args.trades.now.items c.loop-pointer.left c.loop-pointer.trades.items e c.next.new.self now misses))
 
@@ -80,11 +85,11 @@ loop-pointer-preserved g c =
         rw (c.self.view_is, ← c.in-Some.ensures.steps) c.loop-pointer.invariant.offering in
     let wanted : 0 < c.loop-pointer.left = omega (arith, c.if-left-eq0.false) in
     let hits : meets side (ranked side c.in-Some.order.now.0) c.args.limit ≡ true =
-        sym (c.if-not-meets.ensures ∙ ap (λ n. meets side n c.args.limit) (c.ranked-price.ensures ∙ ap (ranked side) c.k.ensures)) in
+        met side c.args.limit c.ranked-price.result c.k.result.now c.in-Some.order.now.0 _ c.if-not-meets.ensures c.ranked-price.ensures c.k.ensures in
     let trade : ◌≡◌ {A = Trade} (record { order = c.new-order.result; price = c.ranked-price.result; quantity = c.min-quantity.result }) (trade_of side c.loop-pointer.left e) =
         rw (c.new-order.ensures, c.ranked-price.ensures, c.k.ensures, c.min-quantity.ensures, c.v.ensures) refl in
     let added : c.push.new.self.items ≡ c.loop-pointer.trades.items ++ trade_of side c.loop-pointer.left e ∷ [] =
-        pushed c.push.result _ _ _ c.if-is_err.ensures c.push.ensures.items ∙ ap (λ t. c.loop-pointer.trades.items ++ t ∷ []) trade in
+        pushed c.push.result _ _ _ c.if-is_err.ensures.value c.push.ensures.items ∙ ap (λ t. c.loop-pointer.trades.items ++ t ∷ []) trade in
     record {
       offering = rw (added, c.min-quantity.ensures, c.v.ensures, ← c.self.view_is)
           (offering-next q c.args.limit c.args.quantity c.args.trades.now.items c.loop-pointer.left c.loop-pointer.trades.items e c.next.new.self now wanted hits);
@@ -100,13 +105,13 @@ returns-then-is_err-clause-memory g c =
         rw (c.self.view_is, ← c.in-Some.ensures.steps) c.loop-pointer.invariant.offering in
     let wanted : 0 < c.loop-pointer.left = omega (arith, c.if-left-eq0.false) in
     let hits : meets side (ranked side c.in-Some.order.now.0) c.args.limit ≡ true =
-        sym (c.if-not-meets.ensures ∙ ap (λ n. meets side n c.args.limit) (c.ranked-price.ensures ∙ ap (ranked side) c.k.ensures)) in
-    rw (← c.self.view_is) (omega (arith, c.loop-pointer.invariant.room, c.loop-pointer.trades.ok.0, owed c.push.result c.if-is_err.ensures c.push.ensures.full,
+        met side c.args.limit c.ranked-price.result c.k.result.now c.in-Some.order.now.0 _ c.if-not-meets.ensures c.ranked-price.ensures c.k.ensures in
+    rw (← c.self.view_is) (omega (arith, c.loop-pointer.invariant.room, c.loop-pointer.trades.ok.0, owed c.push.result c.if-is_err.ensures.value c.push.ensures.full,
     room-wanted q c.args.limit c.args.quantity c.args.trades.now.items c.loop-pointer.left c.loop-pointer.trades.items e c.next.new.self now wanted hits))
 
 pub returns-then-is_err-clause-err : goal.returns-then-is_err-clause-err
 returns-then-is_err-clause-err g c =
     let before : c.len-before.result ≡ length c.args.trades.now.items = c.len-before.ensures ∙ c.args.trades.now.ok.0 in
     c.truncate.ensures.items ∙ ap (λ n. take n c.push.new.self.items) before
-    ∙ ap (take (length c.args.trades.now.items)) (unpushed c.push.result _ _ _ c.if-is_err.ensures c.push.ensures.items)
+    ∙ ap (take (length c.args.trades.now.items)) (unpushed c.push.result _ _ _ c.if-is_err.ensures.value c.push.ensures.items)
     ∙ front-kept c.args.self.now c.args.limit c.args.quantity c.args.trades.now.items c.loop-pointer.left c.loop-pointer.trades.items c.loop-pointer.pointer-iterator c.loop-pointer.invariant.offering
