@@ -1,5 +1,6 @@
 -- A new entry behind all whose rank is at most its own: the order comes to rest.
-use Rattle.std.proofs.Common.{◌≡◌, ◌≢◌, ℕ, Bool, true, false, List, [], ◌∷◌, ◌++◌, map, Option, Some, None, IfSome, is_some, Result, Ok, Err, IfOk, OnErr, slice_get, refl, sym, ap, subst, ◌∙◌, ◌+◌, ◌*◌, ◌<◌, ◌≤◌, min, max, nat_lt, length, arith, if◌then◌else◌}
+use Rattle.std.proofs.Common.{◌≡◌, ◌≢◌, ℕ, Bool, true, false, List, [], ◌∷◌, ◌++◌, map, Option, Some, None, IfSome, is_some, Result, Ok, Err, IfOk, OnErr, slice_get, refl, sym, ap}
+use Rattle.std.proofs.Common.{subst, ◌∙◌, ◌+◌, ◌*◌, ◌<◌, ◌≤◌, min, max, nat_lt, length, arith, if◌then◌else◌}
 use Rattle.std.proofs.lemmas.Bool.{lt-ltb, le-ltb}
 use Rattle.std.proofs.lemmas.List.{map-append, length-map}
 use Rattle.std.specs.List.{AllByRecursion}
@@ -160,19 +161,20 @@ module _ (growth : Growth) (side : Side) (old new : Tree (ℕ × ℕ)) (price qu
       (ranked-lawful side price bounded) some
 
 -- what the answer of an insertion makes of a queue
-module _ {E : Type 0} (side : Side) (old new : Tree (ℕ × ℕ)) (price quantity : ℕ) (bounded : price ≤ most_price)
-    (sound : IsSound most_orders greatest_generation old.list) (holds : IsArenaOfOrders old) where
+module _ (side : Side) (old new : Tree (ℕ × ℕ)) (price quantity : ℕ) where
   abbrev Inserts : ℕ × ℕ → Type 0
   Inserts p = InsertsNew rank_of nat_cmp most_orders reallocating (behind_key (ranked side price)) old (ranked side price, quantity) p new
 
-  pub arena-answered : (r : Result (ℕ × ℕ) E) → IfOk r Inserts → OnErr r (new ≡ old) → 0 < quantity → IsArenaOfOrders new
+module _ {E : Type 0} (side : Side) (old new : Tree (ℕ × ℕ)) (price quantity : ℕ) (bounded : price ≤ most_price)
+    (sound : IsSound most_orders greatest_generation old.list) (holds : IsArenaOfOrders old) where
+  pub arena-answered : (r : Result (ℕ × ℕ) E) → IfOk r (Inserts side old new price quantity) → OnErr r (new ≡ old) → 0 < quantity → IsArenaOfOrders new
   arena-answered (Ok p) inserts same some = arena-inserted reallocating side old new price quantity p bounded inserts sound holds some
   arena-answered (Err e) inserts same some = rw same holds
 
-  pub rests-answered : (r : Result (ℕ × ℕ) E) → IfOk r Inserts → IfOk r (λ p. Rests (queue_of side old) price quantity p (queue_of side new))
+  pub rests-answered : (r : Result (ℕ × ℕ) E) → IfOk r (Inserts side old new price quantity) → IfOk r (λ p. Rests (queue_of side old) price quantity p (queue_of side new))
   rests-answered (Ok p) inserts = rests-inserted reallocating side old new price quantity p bounded inserts sound holds
   rests-answered (Err e) inserts = tt
 
-  pub updates-answered : (r : Result (ℕ × ℕ) E) → IfOk r Inserts → IfOk r (λ p. Updates (queue_of side old) (queue_of side new) p (Some (price, quantity)))
+  pub updates-answered : (r : Result (ℕ × ℕ) E) → IfOk r (Inserts side old new price quantity) → IfOk r (λ p. Updates (queue_of side old) (queue_of side new) p (Some (price, quantity)))
   updates-answered (Ok p) inserts = updates-rested (queue_of side old) price quantity p (queue_of side new) (rests-answered (Ok p) inserts)
   updates-answered (Err e) inserts = tt

@@ -7,7 +7,7 @@ use Rattle.order_queue.specs.Queue.{Resting, Queue, behind, generation_behind, g
 -- none is taken of a queue
 pub behind-none : (xs : List Resting) → AllByRecursion (λ x. 0 < x.quantity) xs → behind 0 xs ≡ xs
 behind-none [] some = refl
-behind-none (x ∷ xs) some = rw (lt-ltb 0 x.quantity some.0) refl
+behind-none (x ∷ xs) some = let all : x.quantity - 0 ≡ x.quantity = omega arith in rw (lt-ltb 0 x.quantity some.0, all) refl
 
 pub generation-none : (xs : List Resting) (g : ℕ) → AllByRecursion (λ x. 0 < x.quantity) xs → generation_behind 0 xs g ≡ g
 generation-none [] g some = refl

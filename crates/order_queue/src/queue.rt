@@ -146,8 +146,11 @@ impl<A: Allocator> OrderQueue<A> {
         let before = trades.len();
         let mut left = quantity;
         for (pointer, order) in self.orders.iter_ordered() {
+            if left == 0 {
+                break;
+            }
             let price = ranked(self.side, *order.k());
-            if left == 0 || !self.side.meets(price, limit) {
+            if !self.side.meets(price, limit) {
                 break;
             }
             let quantity = left.min(*order.v());
