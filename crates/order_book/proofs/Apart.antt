@@ -1,12 +1,13 @@
 -- Bids below asks: what stays so, and why nothing that is left crosses an order that comes to rest.
-use Rattle.std.proofs.Common.{◌≡◌, ℕ, ◌+◌, ◌-◌, ◌<◌, ◌≤◌, min, Bool, true, false, List, [], ◌∷◌, ◌++◌, Option, Some, None, refl, sym, ap, subst, ◌∙◌, arith, inl, inr, if◌then◌else◌}
+use Rattle.std.proofs.Common.{◌≡◌, ℕ, ◌+◌, ◌-◌, ◌<◌, Bool, true, false, List, [], ◌∷◌, ◌++◌, Option, Some, None, refl, subst, arith, inl, inr, if◌then◌else◌}
 use Rattle.std.proofs.lemmas.Bool.{lt-ltb, le-ltb}
 use Rattle.std.proofs.lemmas.Bool.Decides.{leb_tells, nat_tests}
 use Rattle.std.specs.List.{AllByRecursion}
 use Rattle.order_queue.specs.declared.side.Side.{Side}
 use Rattle.order_queue.specs.declared.side.Side.TheVariants.{Buy, Sell}
 use Rattle.order_queue.specs.Id.{Id}
-use Rattle.order_queue.specs.Queue.{Resting, Queue, IsNoWorse, IsInOrder, Rests, is_named_by, meets, within, traded, behind, without}
+use Rattle.order_queue.specs.Queue.{Resting, Queue, IsInOrder, Rests, is_named_by, meets, within, traded, behind, without}
+use Rattle.order_queue.proofs.CallerLemmas.{unmet-worse}
 use Rattle.order_book.specs.Book.{RestsOrNot}
 
 module _ {X : Type 0} where
@@ -55,11 +56,6 @@ module _ (bids asks : List Resting) (apart : AreApart bids asks) where
 
   pub apart-bids_without : (p : ℕ × ℕ) → AreApart (without bids p) asks
   apart-bids_without p = all-without (λ price. AllByRecursion (λ (ask : Resting). price < ask.price) asks) bids p apart
-
--- an order doesn't meet a limit where one of a price no worse doesn't
-unmet-worse : (side : Side) (p q limit : ℕ) → IsNoWorse side p q → meets side p limit ≡ false → meets side q limit ≡ false
-unmet-worse Buy p q limit no_worse unmet = grind (arith, nat_tests, no_worse, unmet)
-unmet-worse Sell p q limit no_worse unmet = grind (arith, nat_tests, no_worse, unmet)
 
 -- in order, where the first doesn't meet a limit none does
 unmet-all : (side : Side) (limit : ℕ) (x : Resting) (xs : List Resting) → IsInOrder side (x ∷ xs) → meets side x.price limit ≡ false

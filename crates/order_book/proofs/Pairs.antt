@@ -1,6 +1,5 @@
 -- Bids and asks stay a pair of queues after each call.
 use Rattle.std.proofs.Common.{◌≡◌, ℕ, ◌-◌, Option, Some, None, Result, Ok, Err, IfOk, OnOk, OnErr, IfNone, OnSome, sym, ap, subst, ◌∙◌}
-use Rattle.order_queue.specs.declared.side.Side.TheVariants.{Buy, Sell}
 use Rattle.order_queue.specs.Id.{Id}
 use Rattle.order_queue.specs.Queue.{Queue, IsInOrder, traded, taken, with_left}
 use Rattle.order_book.specs.Book.{RestsOrNot}

@@ -1,5 +1,5 @@
 -- The orders of a queue and the entries of its arena: what a pointer names, and what a removal leaves.
-use Rattle.std.proofs.Common.{◌≡◌, ℕ, ◌≤◌, ◌<◌, ◌==◌, List, [], ◌∷◌, map, Option, Some, None, IsSome, IfNone, OnSome, is_some, refl, sym, ap, subst, ◌∙◌, arith, inl, inr, true, false, if◌then◌else◌}
+use Rattle.std.proofs.Common.{◌≡◌, ℕ, ◌≤◌, ◌<◌, ◌==◌, [], ◌∷◌, map, Option, Some, None, IsSome, IfNone, OnSome, is_some, refl, sym, ap, subst, ◌∙◌, arith, inl, inr, true, false, if◌then◌else◌}
 use Rattle.std.proofs.lemmas.Grind.{common_steps}
 use Rattle.std.proofs.lemmas.Bool.Decides.{eqb_tells}
 use Rattle.std.specs.List.{AllByRecursion}
@@ -10,7 +10,7 @@ use Rattle.chain_base.specs.Chain.{Entry, removed, IsSound as IsSoundChain, IsDi
 use Rattle.chain_base.proofs.CallerLemmas.{entry_at-absent}
 use Rattle.ord_tree.specs.Tree.{Tree}
 use Rattle.order_queue.specs.declared.side.Side.{Side}
-use Rattle.order_queue.specs.Queue.{Resting, Queue, most_orders, Updates, with_left, first_of, order_of, without, IsDistinct, IsSound}
+use Rattle.order_queue.specs.Queue.{Queue, most_orders, Updates, with_left, first_of, order_of, without, IsDistinct, IsSound}
 use Rattle.order_queue.specs.Layout.{greatest_generation, most_price, ranked, resting, queue_of, AreRanked, IsArenaOfOrders}
 use Rattle.order_queue.proofs.Naming.{updates-none, updates-left}
 use Rattle.order_queue.proofs.Ranks.{Entries, recursion-map, in_order-ranked}

@@ -1,3 +1,4 @@
+pub mod CallerLemmas
 -- Lemmas of this crate.
 pub mod Ranks
 pub mod Naming

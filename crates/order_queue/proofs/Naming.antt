@@ -97,7 +97,7 @@ pub updates-rested : (old : Queue) (price quantity : ℕ) (p : ℕ × ℕ) (new 
 updates-rested old price quantity p new h =
     let x : Resting = record { name = p; price = price; quantity = quantity } in
     let named : (xs : List Resting) (ys : List Resting) (q : ℕ × ℕ) → xs ≡ ys → order_of xs q ≡ order_of ys q =
-        λ xs ys q same. ap (λ (zs : List Resting). order_of zs q) same in
+    λ xs ys q same. ap (λ (zs : List Resting). order_of zs q) same in
     record {
       changed = named _ _ p h.after ∙ order_of-between h.ahead x h.later (named _ _ p (sym h.before) ∙ h.unused);
       others = λ q apart. named _ _ q h.after ∙ order_of-between_other h.ahead x h.later q apart ∙ named _ _ q (sym h.before);

@@ -8,7 +8,7 @@ use Rattle.std.specs.Option.{option_map}
 use Rattle.std.specs.Ordering.{nat_cmp}
 use Rattle.std.specs.declared.cmp.Ordering.{Ordering}
 use Rattle.std.specs.declared.cmp.Ordering.TheVariants.{Less}
-use Rattle.chain_base.specs.Chain.{Entry, Chain, times, entry_at, item_of, IsSound, inserted_at, next_index, with_capacity, grown_capacity}
+use Rattle.chain_base.specs.Chain.{Entry, Chain, times, item_of, IsSound, inserted_at, next_index, with_capacity, grown_capacity}
 use Rattle.chain_base.specs.Insert.{IsInsertion}
 use Rattle.chain_base.proofs.CallerLemmas.{entry_at-absent}
 use Rattle.ord_tree.specs.Tree.{Tree}
@@ -20,7 +20,7 @@ use Rattle.triple_ord.specs.declared.entry_kind.OrdEntryKind.{OrdEntryKind}
 use Rattle.triple_ord.specs.declared.entry_kind.OrdEntryKind.TheVariants.{New, Replacing}
 use Rattle.triple_ord.proofs.CallerLemmas.{entries-with_slot}
 use Rattle.order_queue.specs.declared.side.Side.{Side}
-use Rattle.order_queue.specs.Queue.{Resting, Rests, Updates, IsNoWorse, IsWorse, most_orders, grown}
+use Rattle.order_queue.specs.Queue.{Rests, Updates, IsNoWorse, IsWorse, most_orders, grown}
 use Rattle.order_queue.specs.Layout.{greatest_generation, most_price, rank_of, ranked, resting, queue_of, AreRanked, IsArenaOfOrders}
 use Rattle.order_queue.proofs.Naming.{updates-rested}
 use Rattle.order_queue.proofs.Leaving.{told, order_of-found}
@@ -130,7 +130,7 @@ module _ (growth : Growth) (old new : Tree (ℕ × ℕ)) (d quantity : ℕ) (p :
             (λ e least. no_worse-ranked side e.item.0 d least) gap.front at_most-before;
         worse_behind = recursion-map (resting side) (λ (e : Entry (ℕ × ℕ)). IsWorse side (ranked side e.item.0) (ranked side d)) (λ x. IsWorse side x.price (ranked side d))
             (λ e worse. worse) gap.back (recursion-both (λ (e : Entry (ℕ × ℕ)). d < e.item.0) IsLawful (λ (e : Entry (ℕ × ℕ)). IsWorse side (ranked side e.item.0) (ranked side d))
-                (λ e more bounded. worse-ranked side e.item.0 d bounded.0 more) gap.back greater-behind (recursion-back IsLawful gap.front gap.back lawful));
+            (λ e more bounded. worse-ranked side e.item.0 d bounded.0 more) gap.back greater-behind (recursion-back IsLawful gap.front gap.back lawful));
         unused = order_of-found side old.list.entries sound.distinct p ∙ ap (option_map (told side)) absent-put;
         of_generation = inserted.generation ∙ (numbers-with_slot growth most_orders old.list).0;
         generation = numbers-put.0;

@@ -8,7 +8,7 @@ use Rattle.chain_base.specs.Chain.{Entry}
 use Rattle.triple_ord.specs.Gap.{first_of, last_or}
 use Rattle.order_queue.specs.declared.side.Side.{Side}
 use Rattle.order_queue.specs.declared.side.Side.TheVariants.{Buy, Sell}
-use Rattle.order_queue.specs.Queue.{Resting, IsNoWorse, IsWorse, IsInOrder}
+use Rattle.order_queue.specs.Queue.{IsNoWorse, IsWorse, IsInOrder}
 use Rattle.order_queue.specs.Layout.{most_price, ranked, resting, AreRanked}
 
 -- of a lesser rank a price is no worse, and of a greater one it is worse
@@ -61,9 +61,11 @@ Entries = List (Entry (ℕ × ℕ))
 -- entries in the order of their ranks are orders in order
 pub in_order-ranked : (side : Side) (es : Entries) → AreRanked es → IsInOrder side (map (resting side) es)
 in_order-ranked side [] sorted = tt
-in_order-ranked side (e ∷ es) sorted =
-    (recursion-map (resting side) (λ (f : Entry (ℕ × ℕ)). e.item.0 ≤ f.item.0) (λ y. IsNoWorse side (ranked side e.item.0) y.price)
-        (λ f least. no_worse-ranked side e.item.0 f.item.0 least) es sorted.0, in_order-ranked side es sorted.1)
+in_order-ranked side (e ∷ es) sorted = (
+  recursion-map (resting side) (λ (f : Entry (ℕ × ℕ)). e.item.0 ≤ f.item.0) (λ y. IsNoWorse side (ranked side e.item.0) y.price)
+      (λ f least. no_worse-ranked side e.item.0 f.item.0 least) es sorted.0,
+  in_order-ranked side es sorted.1,
+)
 
 -- the back of entries in order is in order
 pub ranked-back : (es fs : Entries) → AreRanked (es ++ fs) → AreRanked fs

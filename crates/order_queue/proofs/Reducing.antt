@@ -1,12 +1,12 @@
 -- A quantity that is written in place: the entries keep their order, and the first order has so much left.
-use Rattle.std.proofs.Common.{◌≡◌, ℕ, ◌≤◌, ◌<◌, ◌==◌, List, [], ◌∷◌, map, Bool, true, false, Option, Some, None, refl, sym, ap, subst, ◌∙◌, arith, inl, inr}
+use Rattle.std.proofs.Common.{◌≡◌, ℕ, ◌≤◌, ◌<◌, ◌==◌, List, [], ◌∷◌, map, true, false, Option, Some, None, refl, ap, subst, ◌∙◌, arith, inl, inr}
 use Rattle.std.proofs.lemmas.Bool.Decides.{eqb_tells}
 use Rattle.std.specs.List.{AllByRecursion}
 use Rattle.arena_base.specs.Arena.{item_if}
 use Rattle.chain_base.specs.Chain.{Entry, entry_at, item_of, with_item_among}
 use Rattle.ord_tree.specs.Tree.{Tree, with_item}
 use Rattle.order_queue.specs.declared.side.Side.{Side}
-use Rattle.order_queue.specs.Queue.{Resting, Queue}
+use Rattle.order_queue.specs.Queue.{Resting}
 use Rattle.order_queue.specs.Layout.{most_price, resting, queue_of, AreRanked, IsArenaOfOrders}
 use Rattle.order_queue.proofs.Ranks.{Entries}
 use Rattle.order_queue.proofs.Leaving.{first-item}
@@ -45,8 +45,11 @@ ranked-written : (es : Entries) (i g : ℕ) (old : ℕ × ℕ) (quantity : ℕ) 
 ranked-written [] i g old quantity there sorted = tt
 ranked-written (e ∷ es) i g old quantity there sorted = elim (eqb_tells e.index i) [
   | inl h ↦ rw h.0 (subst (λ (item : ℕ × ℕ). AllByRecursion (λ (f : Entry (ℕ × ℕ)). item.0 ≤ f.item.0) es) (first-there e es i g old there h.0) sorted.0, sorted.1)
-  | inr h ↦ rw h.0 (recursion-written (λ (f : Entry (ℕ × ℕ)). e.item.0 ≤ f.item.0) es i g old (old.0, quantity) (behind-there e es i g old there h.0)
-      (λ f same least. omega (arith, ap (λ (item : ℕ × ℕ). item.0) same, least)) sorted.0, ranked-written es i g old quantity (behind-there e es i g old there h.0) sorted.1)
+  | inr h ↦ rw h.0 (
+    recursion-written (λ (f : Entry (ℕ × ℕ)). e.item.0 ≤ f.item.0) es i g old (old.0, quantity) (behind-there e es i g old there h.0)
+        (λ f same least. omega (arith, ap (λ (item : ℕ × ℕ). item.0) same, least)) sorted.0,
+    ranked-written es i g old quantity (behind-there e es i g old there h.0) sorted.1,
+  )
 ]
 
 -- of a pointer that finds an item, another quantity is written

@@ -1,8 +1,8 @@
 -- Units taken out of a queue, from the first order on.
-use Rattle.std.proofs.Common.{◌≡◌, ℕ, ◌+◌, ◌-◌, ◌≤◌, ◌<◌, nat_lt, List, [], ◌∷◌, refl, sym, ap, ◌∙◌, arith}
-use Rattle.std.proofs.lemmas.Bool.{lt-ltb, le-ltb}
+use Rattle.std.proofs.Common.{◌≡◌, ℕ, ◌-◌, ◌≤◌, ◌<◌, List, [], ◌∷◌, refl, arith}
+use Rattle.std.proofs.lemmas.Bool.{lt-ltb}
 use Rattle.std.specs.List.{AllByRecursion}
-use Rattle.order_queue.specs.Queue.{Resting, Queue, behind, generation_behind, generation_after, taken}
+use Rattle.order_queue.specs.Queue.{Resting, Queue, behind, generation_behind, taken}
 
 -- none is taken of a queue
 pub behind-none : (xs : List Resting) → AllByRecursion (λ x. 0 < x.quantity) xs → behind 0 xs ≡ xs

@@ -1,48 +1,24 @@
 -- An offer goes along the queue: how much is traded with what is left of it, and what its trades are.
-use Rattle.std.proofs.Common.{◌≡◌, ℕ, ◌+◌, ◌-◌, ◌≤◌, ◌<◌, min, leb, List, [], ◌∷◌, ◌++◌, map, take, length, length-append, append_assoc, true, false, refl, sym, ap, ◌∙◌, arith, inl, inr, if◌then◌else◌}
+use Rattle.std.proofs.Common.{◌≡◌, ℕ, ◌+◌, ◌-◌, ◌≤◌, ◌<◌, min, List, [], ◌∷◌, ◌++◌, map, take, length, length-append, append_assoc, true, false, refl, sym, ap, ◌∙◌, arith, inl, inr, if◌then◌else◌}
 use Rattle.std.proofs.lemmas.List.{append-nil}
 use Rattle.std.proofs.Math.Seq.{take-append_seam}
-use Rattle.std.proofs.lemmas.Bool.Decides.{leb_tells, eqb_tells}
+use Rattle.std.proofs.lemmas.Bool.Decides.{eqb_tells}
 use Rattle.std.specs.List.{AllByRecursion}
 use Rattle.chain_base.specs.Chain.{Entry}
 use Rattle.order_queue.specs.declared.side.Side.{Side}
-use Rattle.order_queue.specs.declared.side.Side.TheVariants.{Buy, Sell}
 use Rattle.order_queue.specs.declared.order.Trade.{Trade}
 use Rattle.ord_tree.specs.Tree.{Tree}
 use Rattle.order_queue.specs.Queue.{Resting, Queue, IsNoWorse, IsInOrder, meets, within, traded, trades_of_first}
 use Rattle.order_queue.specs.Layout.{most_price, ranked, resting, queue_of, AreRanked, IsArenaOfOrders}
+use Rattle.order_queue.proofs.CallerLemmas.{unmet-worse}
 use Rattle.order_queue.proofs.Ranks.{Entries, in_order-ranked}
-
--- where a number isn't at most another, it is at most no lesser one, and no greater one is at most that other
-none-lesser : (a b c : ℕ) → c ≤ b → leb a b ≡ false → leb a c ≡ false
-none-lesser a b c less misses = elim (leb_tells a c) [
-  | inl h ↦ elim (leb_tells a b) [
-    | inl k ↦ absurd (let clash : true ≡ false = sym k.0 ∙ misses in cc)
-    | inr k ↦ absurd (omega (arith, h.1, k.1, less))
-  ]
-  | inr h ↦ h.0
-]
-
-none-greater : (a b c : ℕ) → b ≤ c → leb b a ≡ false → leb c a ≡ false
-none-greater a b c more misses = elim (leb_tells c a) [
-  | inl h ↦ elim (leb_tells b a) [
-    | inl k ↦ absurd (let clash : true ≡ false = sym k.0 ∙ misses in cc)
-    | inr k ↦ absurd (omega (arith, h.1, k.1, more))
-  ]
-  | inr h ↦ h.0
-]
-
--- where an order doesn't meet a limit, one whose price is no better doesn't either
-misses-no_better : (side : Side) (p q limit : ℕ) → IsNoWorse side p q → meets side p limit ≡ false → meets side q limit ≡ false
-misses-no_better Buy p q limit worse misses = none-lesser limit p q worse misses
-misses-no_better Sell p q limit worse misses = none-greater limit p q worse misses
 
 -- orders of which none meets the limit offer nothing
 within-no_better : (side : Side) (limit p : ℕ) (xs : List Resting) → meets side p limit ≡ false → AllByRecursion (λ x. IsNoWorse side p x.price) xs
     → within side limit xs ≡ 0
 within-no_better side limit p [] misses worse = refl
 within-no_better side limit p (x ∷ xs) misses worse =
-    let none : (if meets side x.price limit then x.quantity else 0) ≡ 0 = rw (misses-no_better side p x.price limit worse.0 misses) refl in
+    let none : (if meets side x.price limit then x.quantity else 0) ≡ 0 = rw (unmet-worse side p x.price limit worse.0 misses) refl in
     omega (arith, none, within-no_better side limit p xs misses worse.1)
 
 pub within-missed : (side : Side) (limit : ℕ) (x : Resting) (xs : List Resting) → meets side x.price limit ≡ false → IsInOrder side (x ∷ xs)
@@ -75,7 +51,7 @@ module _ (side : Side) (limit : ℕ) where
     -- and the next trade is that
     pub trades-next : 0 < left → 0 < x.quantity → trades_of_first side (tradable left (x ∷ xs)) (x ∷ xs)
         ≡ record { order = record { side = side; pointer = x.name }; price = x.price; quantity = min left x.quantity }
-          ∷ trades_of_first side (tradable (left - min left x.quantity) xs) xs
+        ∷ trades_of_first side (tradable (left - min left x.quantity) xs) xs
     trades-next wanted some =
         let traded : ℕ = tradable left (x ∷ xs) in
         let more : 0 < traded = omega (arith, here, wanted, some) in
@@ -126,7 +102,7 @@ module _ (q : Queue) (limit quantity : ℕ) (before : List Trade) (left : ℕ) (
     pub trades-done : trades ≡ before ++ trades_of_first q.side (traded q limit quantity) q.orders
     trades-done =
         let none : trades_of_first q.side (tradable q.side limit left (map (resting q.side) coming)) (map (resting q.side) coming) ≡ [] =
-            ap (λ n. trades_of_first q.side n (map (resting q.side) coming)) done ∙ trades-none q.side (map (resting q.side) coming) in
+        ap (λ n. trades_of_first q.side n (map (resting q.side) coming)) done ∙ trades-none q.side (map (resting q.side) coming) in
         sym (append-nil trades) ∙ ap (λ ts. trades ++ ts) (sym none) ∙ h.to_come
 
   -- which is so where no entry is to come, where nothing is left, and where the next order doesn't meet the limit

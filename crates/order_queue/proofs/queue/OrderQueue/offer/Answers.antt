@@ -1,4 +1,4 @@
-use Rattle.std.proofs.Common.{◌≡◌, ℕ, ◌≤◌, ◌<◌, List, [], ◌∷◌, ◌++◌, length, take, Bool, true, false, Result, Ok, Err, OnErr, is_ok, is_err, if◌then◌else◌, refl, sym, ap, ◌∙◌, arith, rules}
+use Rattle.std.proofs.Common.{◌≡◌, ℕ, ◌<◌, List, [], ◌∷◌, ◌++◌, length, take, Bool, true, false, Result, Ok, Err, OnErr, is_ok, is_err, if◌then◌else◌, refl, sym, ap, ◌∙◌, arith, rules}
 use Rattle.chain_base.specs.Chain.{Entry}
 use Rattle.order_queue.specs.declared.order.Trade.{Trade}
 use Rattle.order_queue.specs.declared.side.Side.{Side}
@@ -58,9 +58,9 @@ returns-then-not-meets-clause-left g c =
     let q : Queue = queue_of side c.self.inside.orders in
     let e : Entry (ℕ × ℕ) = record { index = c.in-Some.pointer.0; generation = c.in-Some.pointer.1; item = c.in-Some.order.now } in
     let now : IsOffering q c.args.limit c.args.quantity c.args.trades.now.items c.loop-pointer.left c.loop-pointer.trades.items (e ∷ c.next.new.self) =
-        rw (c.self.view_is, ← c.in-Some.ensures.steps) c.loop-pointer.invariant.offering in
+    rw (c.self.view_is, ← c.in-Some.ensures.steps) c.loop-pointer.invariant.offering in
     let misses : meets side (ranked side c.in-Some.order.now.0) c.args.limit ≡ false =
-        met side c.args.limit c.ranked-price.result c.k.result.now c.in-Some.order.now.0 _ c.if-not-meets.ensures c.ranked-price.ensures c.k.ensures in
+    met side c.args.limit c.ranked-price.result c.k.result.now c.in-Some.order.now.0 _ c.if-not-meets.ensures c.ranked-price.ensures c.k.ensures in
     rw (← c.self.view_is) (left-done q c.args.limit c.args.quantity c.args.trades.now.items c.loop-pointer.left c.loop-pointer.trades.items (e ∷ c.next.new.self) now
     (done-missed q c.args.limit c.args.quantity c.args.trades.now.items c.loop-pointer.left c.loop-pointer.trades.items e c.next.new.self now misses))
 
@@ -70,9 +70,9 @@ returns-then-not-meets-clause-trades g c =
     let q : Queue = queue_of side c.self.inside.orders in
     let e : Entry (ℕ × ℕ) = record { index = c.in-Some.pointer.0; generation = c.in-Some.pointer.1; item = c.in-Some.order.now } in
     let now : IsOffering q c.args.limit c.args.quantity c.args.trades.now.items c.loop-pointer.left c.loop-pointer.trades.items (e ∷ c.next.new.self) =
-        rw (c.self.view_is, ← c.in-Some.ensures.steps) c.loop-pointer.invariant.offering in
+    rw (c.self.view_is, ← c.in-Some.ensures.steps) c.loop-pointer.invariant.offering in
     let misses : meets side (ranked side c.in-Some.order.now.0) c.args.limit ≡ false =
-        met side c.args.limit c.ranked-price.result c.k.result.now c.in-Some.order.now.0 _ c.if-not-meets.ensures c.ranked-price.ensures c.k.ensures in
+    met side c.args.limit c.ranked-price.result c.k.result.now c.in-Some.order.now.0 _ c.if-not-meets.ensures c.ranked-price.ensures c.k.ensures in
     rw (← c.self.view_is) (trades-done q c.args.limit c.args.quantity c.args.trades.now.items c.loop-pointer.left c.loop-pointer.trades.items (e ∷ c.next.new.self) now
     (done-missed q c.args.limit c.args.quantity c.args.trades.now.items c.loop-pointer.left c.loop-pointer.trades.items e c.next.new.self now misses))
 
@@ -82,14 +82,14 @@ loop-pointer-preserved g c =
     let q : Queue = queue_of side c.self.inside.orders in
     let e : Entry (ℕ × ℕ) = record { index = c.in-Some.pointer.0; generation = c.in-Some.pointer.1; item = c.in-Some.order.now } in
     let now : IsOffering q c.args.limit c.args.quantity c.args.trades.now.items c.loop-pointer.left c.loop-pointer.trades.items (e ∷ c.next.new.self) =
-        rw (c.self.view_is, ← c.in-Some.ensures.steps) c.loop-pointer.invariant.offering in
+    rw (c.self.view_is, ← c.in-Some.ensures.steps) c.loop-pointer.invariant.offering in
     let wanted : 0 < c.loop-pointer.left = omega (arith, c.if-left-eq0.false) in
     let hits : meets side (ranked side c.in-Some.order.now.0) c.args.limit ≡ true =
-        met side c.args.limit c.ranked-price.result c.k.result.now c.in-Some.order.now.0 _ c.if-not-meets.ensures c.ranked-price.ensures c.k.ensures in
+    met side c.args.limit c.ranked-price.result c.k.result.now c.in-Some.order.now.0 _ c.if-not-meets.ensures c.ranked-price.ensures c.k.ensures in
     let trade : ◌≡◌ {A = Trade} (record { order = c.new-order.result; price = c.ranked-price.result; quantity = c.min-quantity.result }) (trade_of side c.loop-pointer.left e) =
-        rw (c.new-order.ensures, c.ranked-price.ensures, c.k.ensures, c.min-quantity.ensures, c.v.ensures) refl in
+    rw (c.new-order.ensures, c.ranked-price.ensures, c.k.ensures, c.min-quantity.ensures, c.v.ensures) refl in
     let added : c.push.new.self.items ≡ c.loop-pointer.trades.items ++ trade_of side c.loop-pointer.left e ∷ [] =
-        pushed c.push.result _ _ _ c.if-is_err.ensures.value c.push.ensures.items ∙ ap (λ t. c.loop-pointer.trades.items ++ t ∷ []) trade in
+    pushed c.push.result _ _ _ c.if-is_err.ensures.value c.push.ensures.items ∙ ap (λ t. c.loop-pointer.trades.items ++ t ∷ []) trade in
     record {
       offering = rw (added, c.min-quantity.ensures, c.v.ensures, ← c.self.view_is)
           (offering-next q c.args.limit c.args.quantity c.args.trades.now.items c.loop-pointer.left c.loop-pointer.trades.items e c.next.new.self now wanted hits);
@@ -102,12 +102,17 @@ returns-then-is_err-clause-memory g c =
     let q : Queue = queue_of side c.self.inside.orders in
     let e : Entry (ℕ × ℕ) = record { index = c.in-Some.pointer.0; generation = c.in-Some.pointer.1; item = c.in-Some.order.now } in
     let now : IsOffering q c.args.limit c.args.quantity c.args.trades.now.items c.loop-pointer.left c.loop-pointer.trades.items (e ∷ c.next.new.self) =
-        rw (c.self.view_is, ← c.in-Some.ensures.steps) c.loop-pointer.invariant.offering in
+    rw (c.self.view_is, ← c.in-Some.ensures.steps) c.loop-pointer.invariant.offering in
     let wanted : 0 < c.loop-pointer.left = omega (arith, c.if-left-eq0.false) in
     let hits : meets side (ranked side c.in-Some.order.now.0) c.args.limit ≡ true =
-        met side c.args.limit c.ranked-price.result c.k.result.now c.in-Some.order.now.0 _ c.if-not-meets.ensures c.ranked-price.ensures c.k.ensures in
-    rw (← c.self.view_is) (omega (arith, c.loop-pointer.invariant.room, c.loop-pointer.trades.ok.0, owed c.push.result c.if-is_err.ensures.value c.push.ensures.full,
-    room-wanted q c.args.limit c.args.quantity c.args.trades.now.items c.loop-pointer.left c.loop-pointer.trades.items e c.next.new.self now wanted hits))
+    met side c.args.limit c.ranked-price.result c.k.result.now c.in-Some.order.now.0 _ c.if-not-meets.ensures c.ranked-price.ensures c.k.ensures in
+    rw (← c.self.view_is) (omega (
+      arith,
+      c.loop-pointer.invariant.room,
+      c.loop-pointer.trades.ok.0,
+      owed c.push.result c.if-is_err.ensures.value c.push.ensures.full,
+      room-wanted q c.args.limit c.args.quantity c.args.trades.now.items c.loop-pointer.left c.loop-pointer.trades.items e c.next.new.self now wanted hits,
+    ))
 
 pub returns-then-is_err-clause-err : goal.returns-then-is_err-clause-err
 returns-then-is_err-clause-err g c =

@@ -1,0 +1,11 @@
+-- For the crates above: what follows from the public definitions.
+use Rattle.std.proofs.Common.{◌≡◌, ℕ, false, arith}
+use Rattle.std.proofs.lemmas.Bool.Decides.{nat_tests}
+use Rattle.order_queue.specs.declared.side.Side.{Side}
+use Rattle.order_queue.specs.declared.side.Side.TheVariants.{Buy, Sell}
+use Rattle.order_queue.specs.Queue.{IsNoWorse, meets}
+
+-- where an order doesn't meet a limit, one whose price is no better doesn't either
+pub unmet-worse : (side : Side) (p q limit : ℕ) → IsNoWorse side p q → meets side p limit ≡ false → meets side q limit ≡ false
+unmet-worse Buy p q limit no_worse unmet = grind (arith, nat_tests, no_worse, unmet)
+unmet-worse Sell p q limit no_worse unmet = grind (arith, nat_tests, no_worse, unmet)
