@@ -20,7 +20,7 @@ type Item = OrdPair<u64, u64>;
 type Numbers = SimpleOrdArena<P0, Item>;
 
 /// An entry, as it is kept in a plain vector.
-#[derive(Clone, Copy, Debug, PartialEq, Eq)]
+#[derive(Clone, Copy, PartialEq, Eq)]
 struct Row {
     p: P0,
     key: u64,
@@ -145,7 +145,7 @@ enum Calls {
 /// What is asked of an arena.
 fn holds(rt: &impl Abort, alloc: Global, a: &Numbers, calls: Calls) {
     let rows = rows(rt, alloc, a);
-    assert!(rt; has_ranks(a), "{rows:?}");
+    assert!(rt; has_ranks(a));
     match calls {
         Calls::Searches => searches::hold(rt, a, rows.as_slice()),
         Calls::Closures => closures::hold(rt, a, rows.as_slice()),

@@ -142,11 +142,11 @@ fn equal_of(similar: Option<(P0, Ordering)>) -> Option<P0> {
 /// The searches by these words.
 fn by_words(rt: &impl Abort, a: &Numbers, rows: &[Row], said: [Ordering; 3]) {
     let (similar, visits, words) = similar_by(a, said);
-    assert!(rt; is_search(rows, &words), "{said:?} over {rows:?}");
-    assert!(rt; similar == words.last(), "{said:?} over {rows:?}");
+    assert!(rt; is_search(rows, &words));
+    assert!(rt; similar == words.last());
     assert!(rt; visits == words.calls as u128 && words.calls <= 4);
     let (found, visits, again) = equal_by(a, said);
-    assert!(rt; found == equal_of(similar), "{said:?} over {rows:?}");
+    assert!(rt; found == equal_of(similar));
     assert!(rt; visits == again.calls as u128 && again.calls == words.calls);
 }
 

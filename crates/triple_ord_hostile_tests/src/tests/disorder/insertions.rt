@@ -7,7 +7,7 @@ use std::process::Abort;
 use triple_ord::{OrdEntryKind, OrdInsertKind, OrdInsertionError, OrdPair, P0, Ptr};
 
 /// A kind of insertion by a key, or beside an index.
-#[derive(Clone, Copy, Debug)]
+#[derive(Clone, Copy)]
 enum Kind {
     Normal,
     Nonhereditary,
@@ -106,14 +106,8 @@ fn by_kind(rt: &impl Abort, alloc: Global, a: &Numbers, old: &[Row], kind: Kind,
     let before = parents(rt, alloc, &b);
     let outcome = put(&mut b, kind_of(kind, &k), OrdPair::new(9, 99));
     let new = rows(rt, alloc, &b);
-    assert!(rt;
-        is_right(old, new.as_slice(), kind, k, outcome),
-        "{kind:?} {k} into {old:?}"
-    );
-    assert!(rt;
-        has_moved(rt, alloc, &b, &before, 5),
-        "{kind:?} {k} into {old:?}"
-    );
+    assert!(rt; is_right(old, new.as_slice(), kind, k, outcome));
+    assert!(rt; has_moved(rt, alloc, &b, &before, 5));
 }
 
 /// Each kind by a key.

@@ -15,7 +15,7 @@ fn take(rt: &impl Abort, b: &mut Numbers, p: P0) -> Row {
 fn remove(rt: &impl Abort, alloc: Global, b: &mut Numbers, p: P0) -> Row {
     let before = parents(rt, alloc, b);
     let row = take(rt, b, p);
-    assert!(rt; has_moved(rt, alloc, b, &before, 9), "{row:?}");
+    assert!(rt; has_moved(rt, alloc, b, &before, 9));
     row
 }
 
@@ -39,10 +39,7 @@ fn removal(rt: &impl Abort, alloc: Global, a: &Numbers, old: &[Row], p: P0) {
     let mut b = cloned(rt, a);
     let row = remove(rt, alloc, &mut b, p);
     let new = rows(rt, alloc, &b);
-    assert!(rt;
-        are_without(old, new.as_slice(), p) && old.contains(&row),
-        "{row:?} of {old:?}"
-    );
+    assert!(rt; are_without(old, new.as_slice(), p) && old.contains(&row));
     assert!(rt; is_stale(&b, p));
     remove_all(rt, alloc, &mut b);
 }
@@ -94,10 +91,7 @@ fn are_numbered(rows: &[Row]) -> bool {
 /// The entries of a rebuilt tree, which has the old items.
 fn rebuilt(rt: &impl Abort, alloc: Global, b: &Numbers, old: &[Row]) -> Vec<Row> {
     let new = rows(rt, alloc, b);
-    assert!(rt;
-        have_same_items(old, new.as_slice()) && is_rebuilt(b),
-        "{old:?}"
-    );
+    assert!(rt; have_same_items(old, new.as_slice()) && is_rebuilt(b));
     new
 }
 
@@ -108,7 +102,7 @@ fn rebuilds(rt: &impl Abort, alloc: Global, a: &Numbers, old: &[Row]) {
     let _ = rebuilt(rt, alloc, &b, old);
     make_canonical(&mut b);
     let new = rebuilt(rt, alloc, &b, old);
-    assert!(rt; are_numbered(new.as_slice()), "{new:?}");
+    assert!(rt; are_numbered(new.as_slice()));
 }
 
 /// Takes the first entries out by a drain in order, which keeps the rest.
@@ -138,13 +132,13 @@ fn drained(rt: &impl Abort, alloc: Global, a: &Numbers, count: usize) -> Vec<Row
 /// What `remove`, `drain_ordered`, `compress`, `compress_canonical` and `clone` do.
 pub(super) fn hold(rt: &impl Abort, alloc: Global, a: &Numbers, old: &[Row]) {
     let b = cloned(rt, a);
-    assert_eq!(rt; rows(rt, alloc, &b).as_slice(), old);
+    assert!(rt; rows(rt, alloc, &b).as_slice() == old);
     assert!(rt; parents(rt, alloc, &b).as_slice() == parents(rt, alloc, a).as_slice());
     for row in old {
         removal(rt, alloc, a, old, row.p);
     }
     for count in 0..=old.len().saturating_add(1) {
-        assert_eq!(rt; drained(rt, alloc, a, count).as_slice(), old, "{count}");
+        assert!(rt; drained(rt, alloc, a, count).as_slice() == old);
     }
     rebuilds(rt, alloc, a, old);
 }

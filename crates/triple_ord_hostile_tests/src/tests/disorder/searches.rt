@@ -6,7 +6,7 @@ use std::process::Abort;
 use triple_ord::{P0, Ptr};
 
 /// Where a search begins: at the root, or at a hint, by at most so many steps along the list.
-#[derive(Clone, Copy, Debug)]
+#[derive(Clone, Copy)]
 enum Start {
     Root,
     Hint(P0, usize),
@@ -62,10 +62,7 @@ fn similar(a: &Numbers, start: Start, k: u64) -> Option<(P0, Ordering)> {
 fn equal_holds(rt: &impl Abort, a: &Numbers, rows: &[Row], start: &Start, k: u64) {
     let (found, c) = equal_counted(a, *start, k);
     let is_short = c <= most_visits(rows.len(), *start);
-    assert!(rt;
-        may_find(rows, k, found, c) && is_short,
-        "{k} from {start:?} in {rows:?}"
-    );
+    assert!(rt; may_find(rows, k, found, c) && is_short);
     assert!(rt; equal(a, *start, k) == found);
 }
 
@@ -73,10 +70,7 @@ fn equal_holds(rt: &impl Abort, a: &Numbers, rows: &[Row], start: &Start, k: u64
 fn similar_holds(rt: &impl Abort, a: &Numbers, rows: &[Row], start: &Start, k: u64) {
     let (found, c) = similar_counted(a, *start, k);
     let is_short = c <= most_visits(rows.len(), *start);
-    assert!(rt;
-        may_be_similar(rows, k, found, c) && is_short,
-        "{k} from {start:?} in {rows:?}"
-    );
+    assert!(rt; may_be_similar(rows, k, found, c) && is_short);
     assert!(rt; similar(a, *start, k) == found);
 }
 

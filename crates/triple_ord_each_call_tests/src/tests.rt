@@ -1,0 +1,5 @@
+//! Each call in turn, as a program sees it.
+mod each_call;
+mod equal_keys;
+mod recast_transfer;
+mod recasting;
