@@ -173,7 +173,8 @@ impl<A: Allocator> OrderBook<A> {
             ≡ trades.old.items ++ trades_of (without self.old id) id.side price quantity) }
         ensures named { IfOk result (λ new. IfSome new (λ i. named self.new i
             ≡ Some (price, rest_of (without self.old id) id.side price quantity))) }
-        ensures bought { OnOk result (volume (trades_of (without self.old id) id.side price quantity)
+        ensures bought { OnOk result
+            (volume (trades_of (without self.old id) id.side price quantity)
             + rest_of (without self.old id) id.side price quantity ≡ quantity) }
         ensures sold { OnOk result (total (queue self.new (opposite id.side)).orders
             + volume (trades_of (without self.old id) id.side price quantity)

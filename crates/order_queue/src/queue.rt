@@ -140,7 +140,8 @@ impl<A: Allocator> OrderQueue<A> {
         ensures trades { OnOk result (trades.new.items ≡ trades.old.items
             ++ trades_of_first self.now.side (traded self.now limit quantity) self.now.orders) }
         ensures memory { OnErr result (vec_capacity trades.old < length trades.old.items
-            + length (trades_of_first self.now.side (traded self.now limit quantity) self.now.orders)) }
+            + length (trades_of_first self.now.side
+            (traded self.now limit quantity) self.now.orders)) }
         ensures err { OnErr result (trades.new.items ≡ trades.old.items) }
     {
         let before = trades.len();
