@@ -4,6 +4,7 @@ use order_book::{PlacingError, ReplacingError, Side};
 use std::alloc::AllocError;
 use std::io;
 use std::num::IntErrorKind;
+use std::str::SplitAsciiWhitespace;
 use thiserror::Error;
 
 /// What a line says: an order with its price and quantity, what becomes of one that rests, or what it asks. Orders that come to rest are
@@ -16,9 +17,9 @@ pub enum Command {
     Best,
 }
 
-/// Why a line wasn't obeyed: every order is as it was.
-#[derive(Debug, Drop, Error)]
-pub enum Fault {
+/// Why a line is no command.
+#[derive(Debug, Clone, Copy, PartialEq, Eq, Drop, Error)]
+pub enum Misread {
     #[error("unknown command")]
     UnknownCommand,
     #[error("a number is missing")]
@@ -29,6 +30,13 @@ pub enum Fault {
     NumberTooLarge,
     #[error("a word too many")]
     WordTooMany,
+}
+
+/// Why a line wasn't obeyed: every order is as it was.
+#[derive(Debug, Drop, Error)]
+pub enum Fault {
+    #[error("{0}")]
+    Misread(#[from] Misread),
     #[error("not text")]
     NotText,
     #[error("no such order")]
@@ -44,36 +52,54 @@ pub enum Fault {
 }
 
 impl Command {
-    pub fn read(line: &str) -> Result<Command, Fault> {
+    /// What a line says.
+    pub fn read(line: &str) -> Result<Command, Misread> {
         let mut words = line.split_ascii_whitespace();
-        let command = match words.next() {
-            Some("buy") => Command::Place(Side::Buy, number(words.next())?, number(words.next())?),
-            Some("sell") => Command::Place(
-                Side::Sell,
-                number(words.next())?,
-                number(words.next())?,
-            ),
-            Some("cancel") => Command::Cancel(number(words.next())?),
-            Some("replace") => {
-                let order = number(words.next())?;
-                Command::Replace(order, number(words.next())?, number(words.next())?)
-            }
-            Some("best") => Command::Best,
-            _ => return Err(Fault::UnknownCommand),
-        };
+        let word = words.next().unwrap_or("");
+        let command = read_named(word, &mut words)?;
         match words.next() {
             None => Ok(command),
-            Some(_) => Err(Fault::WordTooMany),
+            Some(_) => Err(Misread::WordTooMany),
         }
     }
 }
 
+// The command of this name, with the numbers that follow.
+fn read_named(name: &str, words: &mut SplitAsciiWhitespace) -> Result<Command, Misread> {
+    match name {
+        "buy" => place(Side::Buy, words),
+        "sell" => place(Side::Sell, words),
+        "cancel" => cancel(words),
+        "replace" => replace(words),
+        "best" => Ok(Command::Best),
+        _ => Err(Misread::UnknownCommand),
+    }
+}
+
+fn place(side: Side, words: &mut SplitAsciiWhitespace) -> Result<Command, Misread> {
+    let price = number(words.next())?;
+    let quantity = number(words.next())?;
+    Ok(Command::Place(side, price, quantity))
+}
+
+fn cancel(words: &mut SplitAsciiWhitespace) -> Result<Command, Misread> {
+    let order = number(words.next())?;
+    Ok(Command::Cancel(order))
+}
+
+fn replace(words: &mut SplitAsciiWhitespace) -> Result<Command, Misread> {
+    let order = number(words.next())?;
+    let price = number(words.next())?;
+    let quantity = number(words.next())?;
+    Ok(Command::Replace(order, price, quantity))
+}
+
 // The number that a word says.
-fn number(word: Option<&str>) -> Result<u64, Fault> {
-    let word = word.ok_or(Fault::NumberMissing)?;
+fn number(word: Option<&str>) -> Result<u64, Misread> {
+    let word = word.ok_or(Misread::NumberMissing)?;
     match word.parse::<u64>() {
         Ok(number) => Ok(number),
-        Err(error) if *error.kind() == IntErrorKind::PosOverflow => Err(Fault::NumberTooLarge),
-        Err(_) => Err(Fault::NotANumber),
+        Err(error) if *error.kind() == IntErrorKind::PosOverflow => Err(Misread::NumberTooLarge),
+        Err(_) => Err(Misread::NotANumber),
     }
 }

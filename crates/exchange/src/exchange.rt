@@ -83,14 +83,10 @@ impl Exchange {
     fn make_room(&mut self, side: Side) -> Result<(), AllocError> {
         self.names.reserve(1)?;
         let wanted = self.book.count(side).saturating_mul(2).saturating_add(8);
-        let numbers = match side {
-            Side::Buy => &mut self.bids,
-            Side::Sell => &mut self.asks,
-        };
-        if numbers.len() < wanted {
-            numbers.resize(wanted, 0)?;
+        match side {
+            Side::Buy => lengthen(&mut self.bids, wanted),
+            Side::Sell => lengthen(&mut self.asks, wanted),
         }
-        Ok(())
     }
 
     // Numbers an order that has come to rest.
@@ -99,11 +95,25 @@ impl Exchange {
         // there is room for it
         let _ = self.names.push(name);
         let number = self.names.len() as u64;
-        let numbers = match name.side() {
-            Side::Buy => &mut self.bids,
-            Side::Sell => &mut self.asks,
-        };
-        *numbers.get_mut(name.index() as usize)? = number;
+        match name.side() {
+            Side::Buy => write(&mut self.bids, name.index(), number),
+            Side::Sell => write(&mut self.asks, name.index(), number),
+        }
         Some(number)
+    }
+}
+
+// Makes a list at least so long.
+fn lengthen(numbers: &mut Vec<u64>, wanted: usize) -> Result<(), AllocError> {
+    if numbers.len() < wanted {
+        numbers.resize(wanted, 0)?;
+    }
+    Ok(())
+}
+
+// Writes the number of the order at an index.
+fn write(numbers: &mut Vec<u64>, index: u32, number: u64) {
+    if let Some(place) = numbers.get_mut(index as usize) {
+        *place = number;
     }
 }
