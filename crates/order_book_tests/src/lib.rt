@@ -1,9 +1,0 @@
-//! Tests of `order_book`, as a program that depends on it sees it: a trading day, every sequence of a few orders, refused memory.
-#![tactic(auto)]
-
-#[cfg(test)]
-mod day;
-#[cfg(test)]
-mod refused;
-#[cfg(test)]
-mod sequences;
