@@ -62,7 +62,10 @@ impl<'a> Command<'a> {
 }
 
 // The command of this name, with what follows.
-fn read_named<'a>(name: &str, words: &mut SplitAsciiWhitespace<'a>) -> Result<Command<'a>, Misread> {
+fn read_named<'a>(
+    name: &str,
+    words: &mut SplitAsciiWhitespace<'a>,
+) -> Result<Command<'a>, Misread> {
     match name {
         "set" => set(words),
         "clear" => clear(words),
