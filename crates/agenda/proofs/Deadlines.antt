@@ -49,7 +49,8 @@ module _ {J : Type 0} where
       (All-from_recursion P (xs ++ x ∷ ys) (recursion-append P xs (x ∷ ys) (recursion-front P xs ys all) (below.0, recursion-back P xs ys all)), in_order-between xs x ys sorted.1 below.1 above)
 
   -- where the last of a front isn't later than a deadline, none of it is
-  pub none-later : (d : ℕ) (es fs : List (Entry (ℕ × J))) → IsInOrder (map scheduled es ++ map scheduled fs) → IfSome (last_or None es) (λ e. nat_cmp d e.item.0 ≢ Less) → AllByRecursion (λ y. y.deadline ≤ d) (map scheduled es)
+  pub none-later : (d : ℕ) (es fs : List (Entry (ℕ × J))) → IsInOrder (map scheduled es ++ map scheduled fs)
+      → IfSome (last_or None es) (λ e. nat_cmp d e.item.0 ≢ Less) → AllByRecursion (λ y. y.deadline ≤ d) (map scheduled es)
   none-later d [] fs sorted last = tt
   none-later d (e ∷ []) fs sorted last = (grind (arith, nat_tests, last), tt)
   none-later d (e ∷ f ∷ es) fs sorted last =
@@ -58,7 +59,8 @@ module _ {J : Type 0} where
       (omega (arith, rest.0, next.0), rest)
 
   -- where the first of a back is later than a deadline, all of it is
-  pub all-later : (d : ℕ) (fs : List (Entry (ℕ × J))) → IsInOrder (map scheduled fs) → IfSome (first_of fs) (λ e. nat_cmp d e.item.0 ≡ Less) → AllByRecursion (λ y. d < y.deadline) (map scheduled fs)
+  pub all-later : (d : ℕ) (fs : List (Entry (ℕ × J))) → IsInOrder (map scheduled fs) → IfSome (first_of fs) (λ e. nat_cmp d e.item.0 ≡ Less)
+      → AllByRecursion (λ y. d < y.deadline) (map scheduled fs)
   all-later d [] sorted first = tt
   all-later d (f ∷ fs) sorted first =
       let more : d < f.item.0 = grind (arith, nat_tests, first) in

@@ -118,7 +118,8 @@ module _ {J : Type 0} where
     pub updates-scheduled : Updates old new t (Some (d, job))
     updates-scheduled = let x : Scheduled J = record { ticket = t; deadline = d; job = job } in record {
       changed = ap (λ (xs : List (Scheduled J)). job_of xs t) h.after ∙ job_of-between h.earlier x h.later (ap (λ (xs : List (Scheduled J)). job_of xs t) (sym h.before) ∙ h.unused);
-      others = λ u apart. ap (λ (xs : List (Scheduled J)). job_of xs u) h.after ∙ job_of-between_other h.earlier x h.later u apart ∙ ap (λ (xs : List (Scheduled J)). job_of xs u) (sym h.before);
+      others = λ u apart. ap (λ (xs : List (Scheduled J)). job_of xs u) h.after ∙ job_of-between_other h.earlier x h.later u apart
+          ∙ ap (λ (xs : List (Scheduled J)). job_of xs u) (sym h.before);
     }
 
     pub count-scheduled : count new ≡ count old + 1

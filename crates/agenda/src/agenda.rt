@@ -91,7 +91,8 @@ impl<J, A: Allocator> Agenda<J, A> {
         ensures value { result ≡ job_of self.old.jobs ticket }
         ensures updates { Updates self.old self.new ticket None }
         ensures count { OnSome result (count self.old ≡ count self.new + 1) }
-        ensures gone { OnSome result (self.new ≡ with_left self.old (without self.old.jobs ticket)) }
+        ensures gone { OnSome result
+            (self.new ≡ with_left self.old (without self.old.jobs ticket)) }
         ensures none { IfNone result (self.new ≡ self.old) }
     {
         // with its length an arena tells what holds of its list
@@ -108,7 +109,8 @@ impl<J, A: Allocator> Agenda<J, A> {
         ensures due { IfSome result (λ due. due.0 ≤ now) }
         ensures leaves { IfSome result (λ due. Leaves self.old self.new due) }
         ensures count { OnSome result (count self.old ≡ count self.new + 1) }
-        ensures gone { OnSome result (self.new ≡ with_left self.old (behind_first self.old.jobs)) }
+        ensures gone { OnSome result
+            (self.new ≡ with_left self.old (behind_first self.old.jobs)) }
         ensures none { IfNone result (self.new ≡ self.old) }
     {
         let first = self.jobs.first()?;

@@ -12,7 +12,8 @@ pub type Reminders = Agenda<String>;
 
 /// Puts a note down for a time. One that is refused comes back.
 pub fn remind(reminders: &mut Reminders, time: u64, note: String) -> Result<Ticket, String>
-    ensures names { IfOk result (λ ticket. job_of reminders.new.jobs ticket ≡ Some (time, note)) }
+    ensures names { IfOk result (λ ticket. job_of reminders.new.jobs ticket
+        ≡ Some (time, note)) }
     ensures others { IfOk result (λ ticket. (t : ℕ × ℕ) → t ≢ ticket
         → job_of reminders.new.jobs t ≡ job_of reminders.old.jobs t) }
     ensures unused { IfOk result (λ ticket. job_of reminders.old.jobs ticket ≡ None) }
@@ -28,7 +29,8 @@ pub fn remind(reminders: &mut Reminders, time: u64, note: String) -> Result<Tick
 
 /// Takes a note off again. `None` where the ticket names none.
 pub fn forget(reminders: &mut Reminders, ticket: Ticket) -> Option<String>
-    ensures note { result ≡ option_map (λ reminder. reminder.1) (job_of reminders.old.jobs ticket) }
+    ensures note { result
+        ≡ option_map (λ reminder. reminder.1) (job_of reminders.old.jobs ticket) }
     ensures gone { job_of reminders.new.jobs ticket ≡ None }
     ensures others { (t : ℕ × ℕ) → t ≢ ticket
         → job_of reminders.new.jobs t ≡ job_of reminders.old.jobs t }

@@ -3,13 +3,14 @@ ghost use Rattle.std.specs.Prelude.{◌≡◌, None};
 ghost use Rattle.std.specs.Option.{option_map};
 ghost use Rattle.arena_base.specs.Pointer.{named, named_of};
 
-use crate::ptr::Ptr;
+use crate::ptr::{Ptr, PtrInx};
+use std::fmt;
 use std::marker::Model;
 
 /// An index or none, in the room of an index: an `Option` of one would take twice as much.
 ///
 /// The index of `Ptr::invalid()` names no entry, and stands for none.
-#[derive(Clone, Debug, Drop)]
+#[derive(Clone, Drop)]
 pub struct OptInx<P: Ptr> {
     inx: P::Inx,
 }
@@ -52,5 +53,12 @@ impl<P: Ptr> OptInx<P> {
         } else {
             Some(self.inx)
         }
+    }
+}
+
+/// As an `Option` of the index's number.
+impl<P: Ptr> fmt::Debug for OptInx<P> {
+    fn fmt<W: fmt::Write>(&self, f: &mut fmt::Formatter<W>) -> fmt::Result {
+        self.get().and_then(P::Inx::try_into_usize).fmt(f)
     }
 }

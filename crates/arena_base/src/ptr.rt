@@ -3,9 +3,6 @@ ghost use Rattle.std.specs.Prelude.{◌≡◌, ◌==◌, ◌+◌, ◌<◌, ◌�
 ghost use Rattle.arena_base.specs.Generation.{invalid_generation, first_generation, next_generation, overflows_after, IsLawfulGeneration};
 ghost use Rattle.arena_base.specs.Pointer.{index_number};
 
-use std::fmt::Debug;
-use std::hash::Hash;
-
 mod numbers;
 mod pointers;
 mod unit;
@@ -15,7 +12,7 @@ pub use pointers::{P0, P8, PN, Q0};
 /// The index part of a pointer.
 ///
 /// Index 0 names nothing, and neither does the greatest index: entries have the indexes from 1 to `limit()`.
-pub trait PtrInx: Copy + Eq + Ord + Hash + Debug {
+pub trait PtrInx: Copy + Eq {
     // the index as a number
     ghost number: { Self → ℕ };
 
@@ -49,7 +46,7 @@ pub trait PtrInx: Copy + Eq + Ord + Hash + Debug {
 ///
 /// Generation 0 is unused and 1 belongs to invalid pointers: entries have the generations from `two()` on. After the greatest
 /// comes `two()` again. The type `()` has one generation, which never changes.
-pub trait PtrGen: Copy + Eq + Debug {
+pub trait PtrGen: Copy + Eq {
     // the generation as a number, 0 for `()`
     ghost number: { Self → ℕ };
 
@@ -84,7 +81,10 @@ pub trait PtrGen: Copy + Eq + Debug {
 }
 
 /// A pointer to an entry of an arena: the entry's index, and the generation that the entry has.
-pub trait Ptr: Copy + Eq + Ord + Hash + Debug {
+///
+/// An arena needs no more of it than that it can be copied and compared. `P0`, `Q0`, `P8` and `PN` can be ordered, hashed and printed
+/// too; code that does so for any pointer asks for it, as in `P: Ptr + Ord + Hash + Debug`.
+pub trait Ptr: Copy + Eq {
     /// The type of its index.
     type Inx: PtrInx;
 

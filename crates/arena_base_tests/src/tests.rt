@@ -165,16 +165,6 @@ fn item_is<P: Ptr>(rt: &impl Abort, arena: &Arena<P, u64>, p: P, wanted: Option<
     assert_eq!(rt; arena.get(p).copied(), wanted);
 }
 
-#[test]
-fn a_reallocation_forgets_the_order(rt: HostRuntime) -> Result<(), Fail> {
-    let mut arena = three(rt.alloc())?;
-    reallocates(&rt, &mut arena, 0, Ok(()), 3);
-    assert_eq!(rt; arena.len(), 1);
-    next_is(&rt, &arena, Some((1, 4)));
-    item_is(&rt, &arena, p0(3, 2), Some(30));
-    Ok(())
-}
-
 /// One entry more, in an arena of three of which three is the maximum, is refused.
 fn is_refused_beyond_three(
     rt: &impl Abort,
@@ -209,50 +199,15 @@ fn small_indexes(rt: HostRuntime) -> Result<(), Fail> {
     assert!(rt; Arena::<P8, u64>::with_min_capacity(rt.alloc(), 255).is_err());
     let full: Arena<P8, u64> = Arena::with_min_capacity(rt.alloc(), 254)?;
     assert_eq!(rt; (full.capacity(), full.len()), (254, 0));
-    Ok(())
-}
-
-#[test]
-fn small_indexes_after_a_reallocation(rt: HostRuntime) {
-    let mut arena: Arena<P8, u64> = Arena::new(rt.alloc());
-    let beyond = Err(ReallocationError::BeyondMaxCapacity);
-    reallocates(&rt, &mut arena, 255, beyond, 0);
-    reallocates(&rt, &mut arena, 9, Ok(()), 9);
-}
-
-/// Inserts an item, which has to get the index 1 and this generation, and takes it out again. Answers what the removal said.
-fn put_and_take(
-    rt: &impl Abort,
-    arena: &mut Arena<P8, u64>,
-    item: u64,
-    generation: u8,
-) -> Result<InvalidationResult<u64>, InsertionError> {
-    let p = arena.insert_reallocating(item)?;
-    assert_eq!(rt; (p.inx(), p.generation()), (1, generation));
-    Ok(arena.remove(p))
-}
-
-/// After the greatest generation comes two.
-fn begins_again(rt: &impl Abort, arena: &mut Arena<P8, u64>) {
-    arena.set_generation(255);
-    assert_eq!(rt;
-        arena.inc_generation(),
-        InvalidationOption::GenerationOverflow(())
+    let mut grown: Arena<P8, u64> = Arena::new(rt.alloc());
+    reallocates(
+        &rt,
+        &mut grown,
+        255,
+        Err(ReallocationError::BeyondMaxCapacity),
+        0,
     );
-    assert_eq!(rt; arena.generation(), 2);
-}
-
-#[test]
-fn generations_begin_again(rt: HostRuntime) -> Result<(), Fail> {
-    let mut arena: Arena<P8, u64> = Arena::new(rt.alloc());
-    for generation in 2..255u8 {
-        let taken = put_and_take(&rt, &mut arena, 7, generation)?;
-        assert_eq!(rt; taken, InvalidationResult::Success(7));
-    }
-    let taken = put_and_take(&rt, &mut arena, 7, 255)?;
-    assert_eq!(rt; taken, InvalidationResult::GenerationOverflow(7));
-    assert_eq!(rt; numbers(arena.next_insertion_ptr()), Some((1, 2)));
-    begins_again(&rt, &mut arena);
+    reallocates(&rt, &mut grown, 9, Ok(()), 9);
     Ok(())
 }
 
@@ -288,78 +243,6 @@ fn texts_of_refusals(rt: HostRuntime) -> Result<(), Fail> {
         refusals.as_str(),
         "the capacity would go beyond its maximum; no room within the capacity; out of memory; the maximum is below the capacity"
     );
-    Ok(())
-}
-
-/// Adds ten to the item of a pointer.
-fn add_by_pointer(arena: &mut Arena<P0, u64>, p: P0) {
-    if let Some(item) = arena.get_mut(p) {
-        *item = item.wrapping_add(10);
-    }
-}
-
-/// Adds its generation to the item at an index.
-fn add_by_index(arena: &mut Arena<P0, u64>, i: u32) {
-    if let Some((generation, item)) = arena.get_inx_mut(i) {
-        *item = item.wrapping_add(generation);
-    }
-}
-
-/// Swaps the items of two indexes that have entries.
-fn swap(rt: &impl Abort, arena: &mut Arena<P0, u64>, i: u32, j: u32) {
-    assert!(rt; arena.contains_inx(i) && arena.contains_inx(j));
-    arena.swap_inx(i, j);
-}
-
-/// Writes an item in the place of one that is there.
-fn write(rt: &impl Abort, arena: &mut Arena<P0, u64>, p: P0, item: u64) {
-    assert!(rt; arena.contains(p));
-    arena[p] = item;
-    assert_eq!(rt; arena[p], item);
-}
-
-/// The entry at an index has this generation and item.
-fn entry_is(rt: &impl Abort, arena: &Arena<P0, u64>, i: u32, wanted: (u64, u64)) {
-    assert_eq!(rt; arena.get_inx(i).map(|e| (e.0, *e.1)), Some(wanted));
-}
-
-/// The first and the last pointer by index.
-fn ends_are(rt: &impl Abort, arena: &Arena<P0, u64>, first: (u32, u64), last: (u32, u64)) {
-    assert_eq!(rt; numbers(arena.find_first_inx_ptr()), Some(first));
-    assert_eq!(rt; numbers(arena.find_last_inx_ptr()), Some(last));
-}
-
-/// The items 1 and 2 at the indexes 1 and 2, in an arena of capacity 3.
-fn one_and_two(rt: &impl Abort, alloc: Global) -> Result<Arena<P0, u64>, Fail> {
-    let mut arena: Arena<P0, u64> = Arena::with_min_capacity(alloc, 3)?;
-    insert_within_at(rt, &mut arena, 1, p0(1, 2))?;
-    insert_within_at(rt, &mut arena, 2, p0(2, 2))?;
-    Ok(arena)
-}
-
-#[test]
-fn items_are_written_in_place(rt: HostRuntime) -> Result<(), Fail> {
-    let mut arena = one_and_two(&rt, rt.alloc())?;
-    add_by_pointer(&mut arena, p0(1, 2));
-    item_is(&rt, &arena, p0(1, 2), Some(11));
-    add_by_index(&mut arena, 2);
-    item_is(&rt, &arena, p0(2, 2), Some(4));
-    write(&rt, &mut arena, p0(1, 2), 5);
-    if let Some(item) = arena.item_at_mut(3) {
-        *item = 0;
-    }
-    ends_are(&rt, &arena, (1, 2), (2, 2));
-    Ok(())
-}
-
-#[test]
-fn items_are_swapped(rt: HostRuntime) -> Result<(), Fail> {
-    let mut arena = one_and_two(&rt, rt.alloc())?;
-    let _ = arena.invalidate(p0(2, 2));
-    swap(&rt, &mut arena, 1, 2);
-    entry_is(&rt, &arena, 1, (2, 2));
-    entry_is(&rt, &arena, 2, (3, 1));
-    ends_are(&rt, &arena, (1, 2), (2, 3));
     Ok(())
 }
 
@@ -530,4 +413,50 @@ fn each_refused_request_leaves_the_arena(rt: HostRuntime) -> Result<(), Fail> {
     let heap = LocalHeap::new(rt.alloc(), 64)?;
     assert!(rt; Arena::<P0, u64, &LocalHeap>::with_min_capacity(&heap, 64).is_err());
     Ok(())
+}
+
+#[test]
+fn a_reallocation_forgets_the_order(rt: HostRuntime) -> Result<(), Fail> {
+    let mut arena = three(rt.alloc())?;
+    reallocates(&rt, &mut arena, 0, Ok(()), 3);
+    assert_eq!(rt; arena.len(), 1);
+    next_is(&rt, &arena, Some((1, 4)));
+    item_is(&rt, &arena, p0(3, 2), Some(30));
+    Ok(())
+}
+
+#[test]
+fn generations_begin_again(rt: HostRuntime) -> Result<(), Fail> {
+    let mut arena: Arena<P8, u64> = Arena::new(rt.alloc());
+    for generation in 2..255u8 {
+        let taken = put_and_take(&rt, &mut arena, 7, generation)?;
+        assert_eq!(rt; taken, InvalidationResult::Success(7));
+    }
+    let taken = put_and_take(&rt, &mut arena, 7, 255)?;
+    assert_eq!(rt; taken, InvalidationResult::GenerationOverflow(7));
+    assert_eq!(rt; numbers(arena.next_insertion_ptr()), Some((1, 2)));
+    begins_again(&rt, &mut arena);
+    Ok(())
+}
+
+/// Inserts an item, which has to get the index 1 and this generation, and takes it out again. Answers what the removal said.
+fn put_and_take(
+    rt: &impl Abort,
+    arena: &mut Arena<P8, u64>,
+    item: u64,
+    generation: u8,
+) -> Result<InvalidationResult<u64>, InsertionError> {
+    let p = arena.insert_reallocating(item)?;
+    assert_eq!(rt; (p.inx(), p.generation()), (1, generation));
+    Ok(arena.remove(p))
+}
+
+/// After the greatest generation comes two.
+fn begins_again(rt: &impl Abort, arena: &mut Arena<P8, u64>) {
+    arena.set_generation(255);
+    assert_eq!(rt;
+        arena.inc_generation(),
+        InvalidationOption::GenerationOverflow(())
+    );
+    assert_eq!(rt; arena.generation(), 2);
 }

@@ -20,7 +20,8 @@ impl Lap {
 
     /// The lesser time of two rounds, with the sum of the other one.
     pub fn or_quicker(self, other: Lap) -> Self
-        ensures { result ≡ record { nanoseconds = min self.nanoseconds other.nanoseconds; sum = other.sum } }
+        ensures { result
+            ≡ record { nanoseconds = min self.nanoseconds other.nanoseconds; sum = other.sum } }
     {
         Lap {
             nanoseconds: self.nanoseconds.min(other.nanoseconds),

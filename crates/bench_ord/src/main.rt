@@ -1,8 +1,8 @@
 //! Measures an ordered arena beside std's `BTreeMap` and plain vectors, and its searches from a hint beside whole ones; and an
-//! agenda beside std's `BinaryHeap` and `BTreeMap`.
+//! agenda beside std's `BinaryHeap` and `BTreeMap`; and an order book beside two `BTreeMap`s.
 //!
-//! Each argument is a number of entries, and of jobs. Standard output gets the sums of what the measured calls answered, the same on
-//! each run; standard error gets their times, in nanoseconds an operation, the best of several rounds.
+//! Each argument is a number of entries, of jobs, and of orders. Standard output gets the sums of what the measured calls answered,
+//! the same on each run; standard error gets their times, in nanoseconds an operation, the best of several rounds.
 #![tactic(auto)]
 
 mod arena;
@@ -10,11 +10,13 @@ mod hints;
 mod keys;
 mod lap;
 mod map;
+mod market;
 mod measures;
 mod report;
 mod scheduling;
 mod store;
 mod timetable;
+mod trading;
 mod vector;
 
 use anyhow::{Context, Result};
@@ -28,6 +30,7 @@ fn main(rt: HostRuntime) -> Result<()> {
             .context("a number of entries")?;
         measures::run(&rt, n)?;
         scheduling::run(&rt, n)?;
+        trading::run(&rt, n)?;
     }
     Ok(())
 }

@@ -1,14 +1,14 @@
 -- For callers: what an index finds in the list, and how many entries there are, after each change.
 use Rattle.std.proofs.Common.{◌≡◌, ◌≢◌, ℕ, zero, suc, ◌+◌, ◌<◌, ◌≤◌, List, [], ◌∷◌, ◌++◌, length, map, slice_get, slice_index_or, Option, Some, None, IsSome, append_assoc, refl, sym, ap, ◌∙◌, arith, inl, inr}
 use Rattle.std.proofs.lemmas.Grind.{common_steps}
-use Rattle.std.proofs.lemmas.Bool.Decides.{eqb_tells, leb_tells}
+use Rattle.std.proofs.lemmas.Bool.Decides.{eqb_tells}
 use Rattle.std.proofs.lemmas.Option.{slice_get_cases, slice_get_within, get_or_from_slice_get}
 use Rattle.std.specs.Option.{option_map}
 use Rattle.chain_base.specs.Chain.{Entry, times, IsDistinct, entry_at, insert_after, insert_before, without, with_item_among, with_generation}
 use Rattle.chain_base.specs.Compression.{lesser, compressed_index, moved, at_compressed_index, numbered}
-use Rattle.chain_base.proofs.Lists.{times-here, Stands-occurs, insert_after-split, insert_before-split, with_item_among-changed_at, with_generation-changed_at, entry_at-changed_at_other, entry_at-changed_at, length-changed_at}
+use Rattle.chain_base.proofs.Lists.{Stands-occurs, insert_after-split, insert_before-split, with_item_among-changed_at, with_generation-changed_at, entry_at-changed_at_other, entry_at-changed_at, length-changed_at}
 use Rattle.chain_base.proofs.Canonical.{entry-absent}
-use Rattle.chain_base.proofs.Ranking.{place-injective}
+use Rattle.chain_base.proofs.Ranking.{place-found, place-injective}
 use Rattle.chain_base.proofs.Renumbering.{times-source}
 -- the steps of a transfer, told of other items
 pub use Rattle.chain_base.proofs.Transferring.{steps-retold}
@@ -16,9 +16,11 @@ pub use Rattle.chain_base.proofs.Transferring.{steps-retold}
 pub use Rattle.chain_base.proofs.Lists.{option_or-none, times-append, entry_at-split, last_or-append, link_between-append, link_between-absent}
 -- an entry is its link without the neighbours
 pub use Rattle.chain_base.proofs.Lists.{entry_at-link}
+-- an index that no entry has finds none, and one that finds an entry stands in the list
+pub use Rattle.chain_base.proofs.Lists.{entry_at-absent}
+pub use Rattle.chain_base.proofs.Canonical.{occurs-entry, entry-occurs}
 -- the places of indexes by rising index
-pub use Rattle.chain_base.proofs.Ranking.{lesser-zero, lesser-next, compressed-at, compressed-length, length-entries}
-pub use Rattle.chain_base.proofs.Canonical.{occurs-entry}
+pub use Rattle.chain_base.proofs.Ranking.{lesser-zero, lesser-next, lesser-most, lesser-all, compressed-at, compressed-length, length-entries}
 -- the greatest index with an entry
 pub use Rattle.chain_base.proofs.Vacancy.{below-greatest, greatest-or_none, times-greatest, below-greatest_index}
 -- an insertion keeps the capacity
@@ -30,15 +32,6 @@ pub use Rattle.chain_base.proofs.Cloning.{Alike, alike-pointers}
 pub use Rattle.chain_base.proofs.CloneKept.{clone-kept, clone-same, refused-some}
 
 module _ {T : Type 0} where
-  -- an index that no entry has finds none
-  pub entry_at-absent : (es : List (Entry T)) (i : ℕ) → times i es ≡ 0 → entry_at es i ≡ None
-  entry_at-absent [] i never = refl
-  entry_at-absent (e ∷ es) i never = grind (arith, common_steps, entry_at-absent es i)
-
-  -- an index that finds an entry stands in the list
-  pub entry-occurs : (es : List (Entry T)) (i : ℕ) → IsSome (entry_at es i) → 1 ≤ times i es
-  entry-occurs es i there = grind (arith, common_steps, i, entry_at-absent)
-
   -- without the entry of an index, every other index finds what it found
   pub entry_at-without_other : (es : List (Entry T)) (i j : ℕ) → j ≢ i → entry_at (without i es) j ≡ entry_at es j
   entry_at-without_other [] i j other = refl
@@ -146,26 +139,6 @@ module _ {T : Type 0} where
   past-end : (items : List T) (k : ℕ) → slice_get items k ≡ None → length items ≤ k
   past-end items k none = grind (arith, common_steps, slice_get_cases, items)
 
-  -- no index has more lesser ones than there are entries
-  pub lesser-most : (es : List (Entry T)) (i : ℕ) → lesser es i ≤ length es
-  lesser-most [] i = omega arith
-  lesser-most (e ∷ es) i = grind (arith, common_steps, lesser-most es i)
-
-  -- all indexes are lesser than one above them
-  pub lesser-all : (es : List (Entry T)) (m : ℕ) → ((i : ℕ) → 1 ≤ times i es → i < m) → lesser es m ≡ length es
-  lesser-all [] m below = refl
-  lesser-all (e ∷ es) m below = grind (arith, common_steps, lesser-all es m, below e.index, times-here e.index e es, below)
-
-  -- an index below m has place k + 1, where there are more than k lesser than m
-  pub index-at_compressed_index : (es : List (Entry T)) → IsDistinct es → (m k : ℕ) → k < lesser es m → (i : ℕ) × (i < m) × (lesser es i ≡ k) × (1 ≤ times i es)
-  index-at_compressed_index es distinct zero k more = absurd (omega (arith, more, lesser-zero es))
-  index-at_compressed_index es distinct (suc m) k more =
-      let next : lesser es (suc m) ≡ lesser es m + times m es = ap (lesser es) (let e : suc m ≡ m + 1 = omega arith in e) ∙ lesser-next es m in
-      elim (leb_tells (suc k) (lesser es m)) [
-        | inl h ↦ let found = index-at_compressed_index es distinct m k (omega (arith, h.1)) in (found.0, omega (arith, found.1), found.2, found.3)
-        | inr h ↦ (m, omega arith, omega (arith, h.1, more, next, distinct m), omega (arith, h.1, more, next))
-      ]
-
   -- a moved list has at the place of an index what it had there, with the item of that place
   pub entry_at-moved : (all : List (Entry T)) (g : ℕ) (items : List T) (es : List (Entry T)) (i : ℕ)
       → ((y : ℕ) → 1 ≤ times y es → compressed_index all y ≡ compressed_index all i → y ≡ i)
@@ -188,12 +161,12 @@ module _ {T : Type 0} (es : List (Entry T)) (distinct : IsDistinct es) (g : ℕ)
       go None is = elim (eqb_tells (times (k + 1) (map (moved es g items) es)) 0) [
         | inl z ↦ entry_at-absent (map (moved es g items) es) (k + 1) z.1
         | inr z ↦
-            let source = times-source (moved es g items) (compressed_index es) (λ e. refl) es (k + 1) (omega (arith, z.1)) in
+            let source = times-source (compressed_index es) (λ x p. (g, slice_index_or items (lesser es x) p.1)) es (k + 1) (omega (arith, z.1)) in
             let place : lesser es source.0 ≡ k = let at : lesser es source.0 + 1 ≡ k + 1 = source.1 in omega (arith, at) in
             absurd (let past = past-end items k is in omega (arith, place, lesser-next es source.0, lesser-most es (source.0 + 1), source.2, long, past))
       ]
       go (Some item) is =
-          let found = index-at_compressed_index es distinct m k (omega (arith, lesser-all es m below, long, slice_get_within items k item is)) in
+          let found = place-found es distinct m k (omega (arith, lesser-all es m below, long, slice_get_within items k item is)) in
           let at : compressed_index es found.0 ≡ k + 1 = ap (λ n. n + 1) found.2 in
           ap (entry_at (map (moved es g items) es)) (sym at)
           ∙ (entry_at-moved es g items es found.0 (λ y there same. place-injective es y found.0 there found.3 same)

@@ -1,72 +1,116 @@
 -- A chain gets its canonical order: once its entries have the least indexes, each in turn is exchanged to that of its place.
-use Rattle.std.proofs.Common.{◌≡◌, ◌≢◌, ℕ, zero, suc, ◌+◌, ◌-◌, ◌<◌, ◌≤◌, ◌==◌, true, List, [], ◌∷◌, ◌++◌, length, map, replicate, slice_get, Option, Some, None, is_some, refl, sym, ap, ◌∙◌, subst, arith, inl, inr, length-append}
+use Rattle.std.proofs.Common.{◌≡◌, ◌≢◌, ℕ, zero, suc, ◌+◌, ◌-◌, ◌<◌, ◌≤◌, ◌==◌, true, List, [], ◌∷◌, ◌++◌, length, map, replicate, slice_get, slice_index_or, Option, Some, None, IsSome, is_some, cond, if◌then◌else◌, refl, sym, ap, ◌∙◌, arith, inl, inr, length-append}
 use Rattle.std.proofs.lemmas.Grind.{common_steps}
-use Rattle.std.proofs.lemmas.Bool.{false≢true}
 use Rattle.std.proofs.lemmas.Bool.Decides.{eqb_tells, nat_tests}
 use Rattle.std.proofs.lemmas.Option.{none-some, same_Some, slice_get-map, get_or_from_slice_get}
 use Rattle.std.proofs.lemmas.List.{map-append, map-id, append_assoc, append-nil, length-map}
+use Rattle.std.specs.Prelude.{nat_lt}
 use Rattle.std.specs.Option.{option_map, option_and_then, ForSome}
 use Rattle.chain_base.specs.Chain.{Entry, Chain, IsDistinct, IsSound, times, entry_at, first_or, vacant_among, vacant_indexes}
 use Rattle.chain_base.specs.Walk.{index_after}
 use Rattle.chain_base.specs.Compression.{lesser, compressed_index, entry_before, rising_among, entries_rising, moved, at_compressed_index, relocated, numbered, canonical, IsCompression}
 use Rattle.chain_base.specs.Exchange.{exchanged_index, in_exchange, exchanged}
-use Rattle.chain_base.proofs.Lists.{times-append, times-here, entry_at-absent, entry_at-split, Stands-occurs}
-use Rattle.chain_base.proofs.Renumbering.{link_at-split, times-changed, times-source, distinct-renumbered}
-use Rattle.chain_base.proofs.Ranking.{lesser-zero, lesser-next, lesser-more, lesser-below, place-injective}
-use Rattle.chain_base.proofs.Exchanging.{other-first, other-same, other-twice, other-injective, other-holds}
+use Rattle.chain_base.proofs.Lists.{same_index, times-append, times-here, entry_at-some, entry_at-link, entry_at-absent, entry_at-split, times-unlinked}
+use Rattle.chain_base.proofs.Vacancy.{held-link, times-link}
+use Rattle.chain_base.proofs.Renumbering.{link_at-split, times-renumbered, times-changed, times-source}
+use Rattle.chain_base.proofs.Ranking.{lesser-zero, lesser-next, lesser-le, lesser-below, lesser-all, place-found, place-injective}
+use Rattle.chain_base.proofs.Exchanging.{other-first, other-same, other-twice, other-injective}
 use Rattle.chain_base.proofs.Kept.{calls-keep}
+
+map-kept : {A B : Type 0} (v : A → B) (f : A → A) → ((x : A) → v (f x) ≡ v x) → (xs : List A) → map v (map f xs) ≡ map v xs
+map-kept v f kept [] = refl
+map-kept v f kept (x ∷ xs) = rw (kept x, map-kept v f kept xs) refl
+
+-- what stands behind an entry, or behind none
+entry_before-at : {X : Type 0} (from : ℕ) (o : Option (ℕ × X)) (xs : List (ℕ × ℕ × X)) (m k : ℕ) (y : ℕ × ℕ × X) → slice_get xs m ≡ Some y
+    → k ≡ cond (is_some o) 1 0 + m → slice_get (entry_before from o xs) k ≡ Some y
+entry_before-at from None xs m k y is at = let same : k ≡ m = omega arith in rw same is
+entry_before-at from (Some e) xs m k y is at = let same : k ≡ suc m = omega arith in rw same is
 
 module _ {T : Type 0} where
   pub occurs-entry : (es : List (Entry T)) (i : ℕ) → 1 ≤ times i es → is_some (entry_at es i) ≡ true
-  occurs-entry es i occurs =
-      let s = Stands-occurs es i occurs in
-      ap (λ fs. is_some (entry_at fs i)) s.split ∙ ap is_some (entry_at-split s.front s.entry s.back i s.here s.unmet)
+  occurs-entry es i occurs = entry_at-some es i ∙ ap is_some (held-link es i occurs).1
 
   pub entry-absent : (es : List (Entry T)) (i : ℕ) → entry_at es i ≡ None → times i es ≡ 0
-  entry-absent es i none =
-      elim (eqb_tells (times i es) 0) [
-        | inl h ↦ h.1
-        | inr h ↦ absurd (false≢true (sym (ap is_some none) ∙ occurs-entry es i (omega (arith, h.1))))
-      ]
+  entry-absent es i none = grind (arith, common_steps, entry_at-link None None es i, times-unlinked None None es i)
+
+  -- an index that finds an entry stands in the list
+  pub entry-occurs : (es : List (Entry T)) (i : ℕ) → IsSome (entry_at es i) → 1 ≤ times i es
+  entry-occurs es i there = grind (arith, common_steps, i, entry_at-absent)
+
+  -- entries numbered in a row, and one more
+  pub numbered-push : (g from : ℕ) (xs : List T) (x : T) → numbered g from (xs ++ x ∷ []) ≡ numbered g from xs ++ record { index = from + length xs; generation = g; item = x } ∷ []
+  numbered-push g from [] x = let at : from + 0 ≡ from = omega arith in rw at refl
+  numbered-push g from (y ∷ xs) x = grind (arith, common_steps, numbered-push g (from + 1) xs x)
+
+  pub times-numbered : (g from : ℕ) (xs : List T) (i : ℕ) → times i (numbered g from xs) ≡ (if nat_lt i from then 0 else (if nat_lt i (from + length xs) then 1 else 0))
+  times-numbered g from [] i = grind (arith, nat_tests)
+  times-numbered g from (x ∷ xs) i = let ih = times-numbered g (from + 1) xs i in grind (arith, nat_tests)
 
   -- an entry stands at its place among those by rising index
-  pub rising-at : (es : List (Entry T)) → IsDistinct es → (count from x k : ℕ) (e : ℕ × T) → entry_at es x ≡ Some e → from ≤ x → x < from + count
+  rising-at : (es : List (Entry T)) → IsDistinct es → (count from x k : ℕ) (e : ℕ × T) → entry_at es x ≡ Some e → from ≤ x → x < from + count
       → lesser es from + k ≡ lesser es x → slice_get (rising_among es from count) k ≡ Some (x, e.0, e.1)
   rising-at es distinct zero from x k e is above below same = absurd (omega arith)
   rising-at es distinct (suc n) from x k e is above below same =
       elim (eqb_tells from x) [
-        | inl h ↦ here h.1
-        | inr h ↦ there (omega (arith, h.1)) (λ m apart level. rising-at es distinct n (from + 1) x m e is apart (omega arith) level) (entry_at es from) refl
+        | inl h ↦ let none : k ≡ 0 = omega (arith, same, ap (lesser es) h.1) in rw (h.1, is, none) refl
+        | inr h ↦
+            let m = lesser es x - lesser es (from + 1) in
+            let far : lesser es (from + 1) ≤ lesser es x = lesser-le es (from + 1) x (omega (arith, h.1)) in
+            let once : times from es ≡ cond (is_some (entry_at es from)) 1 0 = times-link es distinct from ∙ ap (λ b. cond b 1 0) (sym (entry_at-some es from)) in
+            entry_before-at from (entry_at es from) _ m k _ (rising-at es distinct n (from + 1) x m e is (omega (arith, h.1)) (omega arith) (omega arith))
+            (omega (arith, once, lesser-next es from))
       ]
+
+  module _ (most : ℕ) (greatest : Option ℕ) (c : Chain T) (sound : IsSound most greatest c) where
+    pub rising-entry : (i : ℕ) (e : ℕ × T) → entry_at c.entries i ≡ Some e → slice_get (entries_rising c) (lesser c.entries i) ≡ Some (i, e.0, e.1)
+    rising-entry i e is =
+        let within = sound.within i (entry-occurs c.entries i (ap is_some is)) in
+        rising-at c.entries sound.distinct c.capacity 1 i (lesser c.entries i) e is (omega (arith, within.0)) (omega (arith, within.1)) (omega (arith, begins))
+      where
+        begins : lesser c.entries 1 ≡ 0
+        begins = grind (arith, common_steps, lesser-next c.entries 0, lesser-zero c.entries, sound.within 0)
+
+    -- the indexes after a compression are those from 1 on
+    all-lesser : lesser c.entries (c.capacity + 1) ≡ length c.entries
+    all-lesser = lesser-all c.entries (c.capacity + 1) (λ y there. let within = sound.within y there in omega (arith, within.1))
+
+    changed : (g x : ℕ) → 1 ≤ times x c.entries → times (compressed_index c.entries x) (map (at_compressed_index c.entries g) c.entries) ≡ 1
+    changed g x there =
+        let same = times-changed (compressed_index c.entries) (λ x p. (g, p.1)) c.entries sound.distinct (place-injective c.entries) x there in
+        omega (arith, same, sound.distinct x)
+
+    relocated-inside : (g i : ℕ) → 0 < i → i ≤ length c.entries → times i (map (at_compressed_index c.entries g) c.entries) ≡ 1
+    relocated-inside g i above below =
+        let x = place-found c.entries sound.distinct (c.capacity + 1) (i - 1) (omega (arith, all-lesser)) in
+        let is : compressed_index c.entries x.0 ≡ i = let level = x.2 in omega (arith, level) in
+        ap (λ m. times m (map (at_compressed_index c.entries g) c.entries)) (sym is) ∙ changed g x.0 x.3
+
+    relocated-within : (g i : ℕ) → 1 ≤ times i (map (at_compressed_index c.entries g) c.entries) → (0 < i) × (i ≤ length c.entries)
+    relocated-within g i occurs =
+        let x = times-source (compressed_index c.entries) (λ x p. (g, p.1)) c.entries i occurs in
+        let within = sound.within x.0 x.2 in
+        let below = lesser-below c.entries x.0 (c.capacity + 1) x.2 (omega (arith, within.1)) in
+        let at = x.1 in
+        (omega (arith, at), omega (arith, at, below, all-lesser))
+
+    relocated-indexes : (g : ℕ) (items : List T) → length items ≡ length c.entries → (i : ℕ) → times i (map (at_compressed_index c.entries g) c.entries) ≡ times i (numbered g 1 items)
+    relocated-indexes g items long i = grind (arith, nat_tests, relocated-inside g i, relocated-within g i, times-numbered g 1 items i)
+
+  -- lists whose calls gave each item back
+  map-moved : (all : List (Entry T)) (g : ℕ) (items : List T) (es : List (Entry T)) → IsDistinct es
+      → ((i : ℕ) (e : ℕ × T) → entry_at es i ≡ Some e → slice_index_or items (lesser all i) e.1 ≡ e.1) → map (moved all g items) es ≡ map (at_compressed_index all g) es
+  map-moved all g items [] distinct same = refl
+  map-moved all g items (e ∷ es) distinct same =
+      let here : slice_index_or items (lesser all e.index) e.item ≡ e.item = same e.index (e.generation, e.item) (rw (same_index e.index) refl) in
+      let more = map-moved all g items es (λ i. omega (arith, distinct i)) (λ i f is. same i f (behind i f is)) in
+      rw (here, more) refl
     where
-      here : from ≡ x → slice_get (entry_before from (entry_at es from) (rising_among es (from + 1) n)) k ≡ Some (x, e.0, e.1)
-      here at = grind (arith, common_steps)
-
-      behind : (f : ℕ × T) (m : ℕ) → 1 ≤ m → (xs : List (ℕ × ℕ × T)) → slice_get xs (m - 1) ≡ Some (x, e.0, e.1) → slice_get (entry_before from (Some f) xs) m ≡ Some (x, e.0, e.1)
-      behind f zero some xs more = absurd (omega arith)
-      behind f (suc m) some xs more = let less : suc m - 1 ≡ m = omega arith in rw less at more
-
-      there : from + 1 ≤ x
-          → ((m : ℕ) → from + 1 ≤ x → lesser es (from + 1) + m ≡ lesser es x → slice_get (rising_among es (from + 1) n) m ≡ Some (x, e.0, e.1))
-          → (o : Option (ℕ × T)) → entry_at es from ≡ o
-          → slice_get (entry_before from (entry_at es from) (rising_among es (from + 1) n)) k ≡ Some (x, e.0, e.1)
-      there apart ih None at = rw at (ih k apart (omega (arith, lesser-next es from, entry-absent es from at, same)))
-      there apart ih (Some f) at =
-          let more = lesser-more es (from + 1) (x - (from + 1)) in
-          let reach : (from + 1) + (x - (from + 1)) ≡ x = omega arith in
-          let far : lesser es (from + 1) ≤ lesser es x = subst (λ m. lesser es (from + 1) ≤ lesser es m) reach more in
-          let once : times from es ≡ 1 = single (times from es) refl in
-          rw at (behind f k (omega (arith, lesser-next es from, once, same, far)) (rising_among es (from + 1) n) (ih (k - 1) apart (omega (arith, lesser-next es from, once, same, far))))
-        where
-          single : (t : ℕ) → times from es ≡ t → times from es ≡ 1
-          single zero none = absurd (none-some f (sym (entry_at-absent es from none) ∙ at))
-          single (suc t) some = let most = distinct from in omega (arith, some)
-
-  -- lists whose parts are the same at each entry
-  map-alike : {B : Type 0} (f h : Entry T → B) (es front fs : List (Entry T)) → es ≡ front ++ fs
-      → ((xs : List (Entry T)) (e : Entry T) (ys : List (Entry T)) → es ≡ xs ++ e ∷ ys → f e ≡ h e) → map f fs ≡ map h fs
-  map-alike f h es front [] split same = refl
-  map-alike f h es front (e ∷ fs) split same = grind (arith, common_steps, map-alike f h es (front ++ e ∷ []) fs)
+      behind : (i : ℕ) (f : ℕ × T) → entry_at es i ≡ Some f → entry_at (e ∷ es) i ≡ Some f
+      behind i f is = elim (eqb_tells e.index i) [
+        | inl h ↦ absurd (omega (arith, distinct i, times-here i e es h.1, entry-occurs es i (ap is_some is)))
+        | inr h ↦ rw h.0 is
+      ]
 
   -- a compression whose calls give each item back
   pub compression-relocates : {P F : Type 0} (numbers : P → ℕ × ℕ) (step : F → P → T → P → T → F → Type 0) (g most : ℕ) (greatest : Option ℕ)
@@ -74,77 +118,15 @@ module _ {T : Type 0} where
       → (f : F) (old new : Chain T) → IsSound most greatest old → IsCompression numbers step g f old new → new ≡ relocated old g
   compression-relocates {P} {F} numbers step g most greatest back f old new sound c =
       c.after ∙ ap (λ es. record { entries = es; capacity = old.capacity; vacant = vacant_indexes es old.capacity; generation = g; maximum = old.maximum })
-      (map-alike (moved old.entries g c.items) (at_compressed_index old.entries g) old.entries [] old.entries refl same)
+      (map-moved old.entries g c.items old.entries sound.distinct same)
     where
       items : c.items ≡ map (λ (e : ℕ × ℕ × T). e.2) (entries_rising old)
       items = sym (map-id c.items) ∙ calls-keep numbers step g (λ (x : T). x) back (entries_rising old) f c.last [] c.items c.calls
 
-      begins : lesser old.entries 1 ≡ 0
-      begins = grind (arith, common_steps, lesser-next old.entries 0, lesser-zero old.entries, sound.within 0)
-
-      same : (xs : List (Entry T)) (e : Entry T) (ys : List (Entry T)) → old.entries ≡ xs ++ e ∷ ys → moved old.entries g c.items e ≡ at_compressed_index old.entries g e
-      same xs e ys split =
-          let occurs : 1 ≤ times e.index old.entries = ap-le (sym (ap (times e.index) split)) (omega (arith, times-append e.index xs (e ∷ ys), times-here e.index e ys refl)) in
-          let within = sound.within e.index occurs in
-          let gone : times e.index xs ≡ 0 = let once = sound.distinct e.index in omega (arith, ap (times e.index) split, times-append e.index xs (e ∷ ys), times-here e.index e ys refl) in
-          let found : entry_at old.entries e.index ≡ Some (e.generation, e.item) = ap (λ fs. entry_at fs e.index) split ∙ entry_at-split xs e ys e.index refl gone in
-          let at = rising-at old.entries sound.distinct old.capacity 1 e.index (lesser old.entries e.index) (e.generation, e.item) found (omega (arith, within.0)) (omega (arith, within.1)) (omega (arith, begins)) in
-          let item : slice_get c.items (lesser old.entries e.index) ≡ Some e.item =
-          ap (λ xs. slice_get xs (lesser old.entries e.index)) items ∙ (slice_get-map (λ (e : ℕ × ℕ × T). e.2) (entries_rising old) (lesser old.entries e.index) ∙ ap (option_map (λ (e : ℕ × ℕ × T). e.2)) at) in
-          ap (λ x. record { index = compressed_index old.entries e.index; generation = g; item = x }) (get_or_from_slice_get c.items (lesser old.entries e.index) e.item e.item item)
-        where
-          ap-le : {m n : ℕ} → m ≡ n → 1 ≤ m → 1 ≤ n
-          ap-le same le = omega arith
-
-  -- the greatest place is the number of entries
-  lesser-all : (es : List (Entry T)) (b : ℕ) → ((y : ℕ) → 1 ≤ times y es → y < b) → lesser es b ≡ length es
-  lesser-all [] b below = refl
-  lesser-all (e ∷ es) b below = grind (arith, common_steps, lesser-all es b, below e.index, times-here e.index e es, below, nat_tests)
-
-  -- each number below is some entry's place
-  place-found : (es : List (Entry T)) → IsDistinct es → (n m i : ℕ) → lesser es i ≤ n → n < lesser es (i + m) → (x : ℕ) × (lesser es x ≡ n) × (1 ≤ times x es)
-  place-found es distinct n zero i low high = let same : i + 0 ≡ i = omega arith in absurd (let level = ap (lesser es) same in omega (arith, level))
-  place-found es distinct n (suc m) i low high = grind (arith, common_steps, place-found es distinct n m (i + 1), lesser-next, i, distinct)
-
-  -- the indexes of entries are just those from 1 to n
-  pub record Dense (es : List (Entry T)) (n : ℕ) : Type 0 where
-    pub all : (i : ℕ) → 0 < i → i ≤ n → 1 ≤ times i es
-    pub only : (i : ℕ) → 1 ≤ times i es → (0 < i) × (i ≤ n)
-
-  relocated-dense : (most : ℕ) (greatest : Option ℕ) (c : Chain T) (g : ℕ) → IsSound most greatest c → Dense (map (at_compressed_index c.entries g) c.entries) (length c.entries)
-  relocated-dense most greatest c g sound =
-      let es = c.entries in
-      let whole : lesser es (c.capacity + 1) ≡ length es = lesser-all es (c.capacity + 1) (λ y there. let within = sound.within y there in omega (arith, within.1)) in
-      record {
-        all = λ i above within.
-            let bound : i - 1 < lesser es (0 + (c.capacity + 1)) = let same : 0 + (c.capacity + 1) ≡ c.capacity + 1 = omega arith in let level = ap (lesser es) same in omega (arith, whole, level) in
-            let x = place-found es sound.distinct (i - 1) (c.capacity + 1) 0 (omega (arith, lesser-zero es)) bound in
-            let at : compressed_index es x.0 ≡ i = let level = x.1 in omega (arith, level) in
-            let count = times-changed (at_compressed_index es g) (compressed_index es) (λ e. refl) es sound.distinct (place-injective es) x.0 x.2 in
-            let same = ap (λ k. times k (map (at_compressed_index es g) es)) at in
-            let there = x.2 in
-            omega (arith, count, same, there);
-        only = λ i occurs.
-            let x = times-source (at_compressed_index es g) (compressed_index es) (λ e. refl) es i occurs in
-            let within = sound.within x.0 x.2 in
-            let below = lesser-below es x.0 (c.capacity + 1) x.2 (omega (arith, within.1)) in
-            let at = x.1 in
-            (omega (arith, at), omega (arith, at, below, whole));
-      }
-
-  -- an exchange of two entries keeps the indexes
-  exchanged-dense : (es : List (Entry T)) → IsDistinct es → (n i j : ℕ) → 1 ≤ times i es → 1 ≤ times j es → Dense es n → Dense (map (in_exchange i j) es) n
-  exchanged-dense es distinct n i j at_i at_j dense =
-      record {
-        all = λ k above within.
-            let there : 1 ≤ times (exchanged_index i j k) es = other-holds i j (λ m. 1 ≤ times m es) at_i at_j k (dense.all k above within) in
-            let count = times-changed (in_exchange i j) (exchanged_index i j) (λ e. refl) es distinct (λ x y there_x there_y same. other-injective i j x y same) (exchanged_index i j k) there in
-            let same = ap (λ m. times m (map (in_exchange i j) es)) (other-twice i j k) in
-            omega (arith, count, same, there);
-        only = λ k occurs.
-            let x = times-source (in_exchange i j) (exchanged_index i j) (λ e. refl) es k occurs in
-            dense.only k (subst (λ m. 1 ≤ times m es) x.1 (other-holds i j (λ m. 1 ≤ times m es) at_i at_j x.0 x.2));
-      }
+      same : (i : ℕ) (e : ℕ × T) → entry_at old.entries i ≡ Some e → slice_index_or c.items (lesser old.entries i) e.1 ≡ e.1
+      same i e is =
+          get_or_from_slice_get c.items (lesser old.entries i) e.1 e.1 (ap (λ xs. slice_get xs (lesser old.entries i)) items
+          ∙ (slice_get-map (λ (e : ℕ × ℕ × T). e.2) (entries_rising old) (lesser old.entries i) ∙ ap (option_map (λ (e : ℕ × ℕ × T). e.2)) (rising-entry most greatest old sound i e is)))
 
   -- all entries have generation g
   abbrev pub eras : List (Entry T) → List ℕ
@@ -160,25 +142,16 @@ module _ {T : Type 0} where
   relocated-eras (f ∷ fs) es g = ap (λ rest. g ∷ rest) (relocated-eras fs es g)
 
   pub relocated-items : (fs : List (Entry T)) (es : List (Entry T)) (g : ℕ) → map (λ e. e.item) (map (at_compressed_index es g) fs) ≡ map (λ e. e.item) fs
-  relocated-items [] es g = refl
-  relocated-items (f ∷ fs) es g = ap (λ rest. f.item ∷ rest) (relocated-items fs es g)
+  relocated-items fs es g = map-kept (λ (e : Entry T). e.item) (at_compressed_index es g) (λ e. refl) fs
 
-  exchanged-eras : (es : List (Entry T)) (i j : ℕ) → eras (map (in_exchange i j) es) ≡ eras es
-  exchanged-eras [] i j = refl
-  exchanged-eras (e ∷ es) i j = ap (λ rest. e.generation ∷ rest) (exchanged-eras es i j)
+  exchanged-once : (es : List (Entry T)) → IsDistinct es → (i j : ℕ) → 1 ≤ times i es → 1 ≤ times j es → (k : ℕ) → times (exchanged_index i j k) es ≡ times k es
+  exchanged-once es distinct i j at_i at_j k = grind (arith, nat_tests, distinct i, distinct j)
 
-  exchanged-items : (es : List (Entry T)) (i j : ℕ) → map (λ e. e.item) (map (in_exchange i j) es) ≡ map (λ e. e.item) es
-  exchanged-items [] i j = refl
-  exchanged-items (e ∷ es) i j = ap (λ rest. e.item ∷ rest) (exchanged-items es i j)
-
-  -- entries numbered in a row, and one more
-  pub numbered-push : (g from : ℕ) (xs : List T) (x : T) → numbered g from (xs ++ x ∷ []) ≡ numbered g from xs ++ record { index = from + length xs; generation = g; item = x } ∷ []
-  numbered-push g from [] x = let at : from + 0 ≡ from = omega arith in rw at refl
-  numbered-push g from (y ∷ xs) x = grind (arith, common_steps, numbered-push g (from + 1) xs x)
-
-  numbered-times : (g from : ℕ) (xs : List T) (i : ℕ) → from ≤ i → i < from + length xs → 1 ≤ times i (numbered g from xs)
-  numbered-times g from [] i above below = absurd (omega arith)
-  numbered-times g from (x ∷ xs) i above below = grind (arith, common_steps, numbered-times g (from + 1) xs i)
+  exchanged-times : (es : List (Entry T)) → IsDistinct es → (i j : ℕ) → 1 ≤ times i es → 1 ≤ times j es → (k : ℕ) → times k (map (in_exchange i j) es) ≡ times k es
+  exchanged-times es distinct i j at_i at_j k =
+      ap (λ m. times m (map (in_exchange i j) es)) (sym (other-twice i j k))
+      ∙ times-renumbered (exchanged_index i j) (λ x p. p) es (exchanged_index i j k) (λ y occurs same. other-injective i j y (exchanged_index i j k) same)
+      ∙ exchanged-once es distinct i j at_i at_j k
 
   numbered-apart : (g from : ℕ) (xs : List T) (i j : ℕ) → ((m : ℕ) → from ≤ m → m < from + length xs → (m ≢ i) × (m ≢ j)) → map (in_exchange i j) (numbered g from xs) ≡ numbered g from xs
   numbered-apart g from [] i j apart = refl
@@ -194,8 +167,7 @@ module _ {T : Type 0} where
     pub split : now.entries ≡ numbered g 1 done ++ rest
     pub left : items ≡ done ++ map (λ e. e.item) rest
     pub number : length items ≡ n
-    pub distinct : IsDistinct now.entries
-    pub dense : Dense now.entries n
+    pub indexes : (i : ℕ) → times i now.entries ≡ times i (numbered g 1 items)
     pub even : eras now.entries ≡ replicate n g
     pub at_is : at ≡ first_or None rest
     pub kept : now ≡ record c { entries = now.entries }
@@ -211,124 +183,118 @@ module _ {T : Type 0} where
         split = refl;
         left = sym (relocated-items c.entries c.entries g);
         number = length-map c.entries (λ e. e.item);
-        distinct = distinct-renumbered (at_compressed_index c.entries g) (compressed_index c.entries) (λ e. refl) c.entries sound.distinct (place-injective c.entries);
-        dense = relocated-dense most greatest c g sound;
+        indexes = relocated-indexes most greatest c sound g _ (length-map c.entries (λ e. e.item));
         even = relocated-eras c.entries c.entries g;
         at_is = first ∙ ap (λ (d : Chain T). first_or None d.entries) is;
         kept = refl;
         era = refl;
       })
 
-  module _ {c : Chain T} {g n : ℕ} {items : List T} {now : Chain T} {at : Option ℕ} {k : ℕ} (b : CanonicalBelow c g n items now at k) (more : k < n) where
-    -- the entry that is met
-    pub record Met : Type 0 where
-      pub entry : Entry T
-      pub behind : List (Entry T)
-      pub here : b.rest ≡ entry ∷ behind
+  module _ {c : Chain T} {g n : ℕ} {items : List T} {now : Chain T} {at : Option ℕ} {k : ℕ} (b : CanonicalBelow c g n items now at k) where
+    distinct : IsDistinct now.entries
+    distinct i = let same = b.indexes i in let is = times-numbered g 1 items i in grind (arith, nat_tests)
 
-    pub met : Met
-    met = by b.rest refl
-      where
-        by : (fs : List (Entry T)) → b.rest ≡ fs → Met
-        by [] none =
-            let count : length items ≡ length b.done + length (map (λ e. e.item) b.rest) = ap length b.left ∙ length-append b.done (map (λ e. e.item) b.rest) in
-            let empty : length (map (λ e. e.item) b.rest) ≡ 0 = ap (λ fs. length (map (λ e. e.item) fs)) none in
-            absurd (omega (arith, count, empty, b.number, b.so_far))
-        by (e ∷ fs) is = record { entry = e; behind = fs; here = is }
-
-    whole : now.entries ≡ numbered g 1 b.done ++ met.entry ∷ met.behind
-    whole = b.split ∙ ap (λ fs. numbered g 1 b.done ++ fs) met.here
-
-    pub met-at : at ≡ Some met.entry.index
-    met-at = b.at_is ∙ ap (first_or None) met.here
-
-    pub met-occurs : 1 ≤ times met.entry.index now.entries
-    met-occurs = let same = ap (times met.entry.index) whole in omega (arith, same, times-append met.entry.index (numbered g 1 b.done) (met.entry ∷ met.behind), times-here met.entry.index met.entry met.behind refl)
-
-    pub next-occurs : 1 ≤ times (k + 1) now.entries
-    next-occurs = b.dense.all (k + 1) (omega arith) (omega arith)
+    lengths : length b.done + length b.rest ≡ n
+    lengths = sym (ap length b.left ∙ length-append b.done _ ∙ ap (λ m. length b.done + m) (length-map b.rest (λ e. e.item))) ∙ b.number
 
     pub canonical-even : (i : ℕ) → ForSome (entry_at now.entries i) (λ e. e.0 ≡ now.generation)
     canonical-even i = λ x is. era-at now.entries n g i x b.even is ∙ sym (ap (λ (d : Chain T). d.generation) b.kept ∙ b.era)
 
-    i : ℕ
-    i = met.entry.index
+    module _ (more : k < n) where
+      -- the entry that is met
+      pub record Met : Type 0 where
+        pub entry : Entry T
+        pub behind : List (Entry T)
+        pub here : b.rest ≡ entry ∷ behind
 
-    entry-even : met.entry.generation ≡ g
-    entry-even =
-        let once = b.distinct met.entry.index in
-        let same = ap (times met.entry.index) whole in
-        let gone : times met.entry.index (numbered g 1 b.done) ≡ 0 = omega (arith, same, once, times-append met.entry.index (numbered g 1 b.done) (met.entry ∷ met.behind), times-here met.entry.index met.entry met.behind refl) in
-        era-at now.entries n g met.entry.index (met.entry.generation, met.entry.item) b.even (ap (λ fs. entry_at fs met.entry.index) whole ∙ entry_at-split (numbered g 1 b.done) met.entry met.behind met.entry.index refl gone)
+      pub met : Met
+      met = by b.rest refl
+        where
+          by : (fs : List (Entry T)) → b.rest ≡ fs → Met
+          by [] none = absurd (omega (arith, lengths, ap length none, b.so_far))
+          by (e ∷ fs) is = record { entry = e; behind = fs; here = is }
 
-    apart : (m : ℕ) → 1 ≤ m → m < 1 + length b.done → (m ≢ met.entry.index) × (m ≢ k + 1)
-    apart m above below = (
-      λ same.
-          let there = numbered-times g 1 b.done m above below in
-          let once = b.distinct met.entry.index in
-          let count = ap (times met.entry.index) whole in
-          let at_m = ap (λ x. times x (numbered g 1 b.done)) same in
-          absurd (omega (arith, there, once, count, at_m, times-append met.entry.index (numbered g 1 b.done) (met.entry ∷ met.behind), times-here met.entry.index met.entry met.behind refl)),
-      λ same. let far = b.so_far in absurd (omega arith),
-    )
+      whole : now.entries ≡ numbered g 1 b.done ++ met.entry ∷ met.behind
+      whole = b.split ∙ ap (λ fs. numbered g 1 b.done ++ fs) met.here
 
-    pub canonical-step : (next : Chain T) (after : Option ℕ) → next ≡ exchanged now met.entry.index (k + 1) → after ≡ index_after next.entries (k + 1) → CanonicalBelow c g n items next after (k + 1)
-    canonical-step next after is goes =
-        let j = k + 1 in
-        let entries : next.entries ≡ map (in_exchange met.entry.index j) now.entries = ap (λ (d : Chain T). d.entries) is in
-        let front : map (in_exchange met.entry.index j) (numbered g 1 b.done) ≡ numbered g 1 b.done = numbered-apart g 1 b.done met.entry.index j apart in
-        let moved_entry : in_exchange met.entry.index j met.entry ≡ record { index = 1 + length b.done; generation = g; item = met.entry.item } =
-        entry-is (exchanged_index met.entry.index j met.entry.index) (1 + length b.done) met.entry.generation g met.entry.item (other-first met.entry.index j ∙ (let far = b.so_far in omega arith)) entry-even in
-        let tail : List (Entry T) = map (in_exchange met.entry.index j) met.behind in
-        let there : map (in_exchange met.entry.index j) now.entries ≡ numbered g 1 b.done ++ record { index = 1 + length b.done; generation = g; item = met.entry.item } ∷ tail =
-        ap (map (in_exchange met.entry.index j)) whole ∙ (map-append (in_exchange met.entry.index j) (numbered g 1 b.done) (met.entry ∷ met.behind) ∙ rw (front, moved_entry) refl) in
-        let distinct : IsDistinct next.entries = rw entries (distinct-renumbered (in_exchange met.entry.index j) (exchanged_index met.entry.index j)
-        (λ e. refl) now.entries b.distinct (λ x y there_x there_y same. other-injective met.entry.index j x y same)) in
-        let spot : 1 + length b.done ≡ j = let far = b.so_far in omega arith in
-        record {
-          done = b.done ++ met.entry.item ∷ [];
-          rest = tail;
-          so_far = length-append b.done (met.entry.item ∷ []) ∙ (let far = b.so_far in omega arith);
-          split = entries ∙ (there ∙ (sym (append_assoc (numbered g 1 b.done) (record { index = 1 + length b.done; generation = g; item = met.entry.item } ∷ []) tail)
-              ∙ ap (λ fs. fs ++ tail) (sym (numbered-push g 1 b.done met.entry.item))));
-          left = b.left ∙ (ap (λ fs. b.done ++ map (λ e. e.item) fs) met.here
-              ∙ (ap (λ xs. b.done ++ met.entry.item ∷ xs) (sym (exchanged-items met.behind met.entry.index j)) ∙ sym (append_assoc b.done (met.entry.item ∷ []) (map (λ e. e.item) tail))));
-          number = b.number;
-          distinct = distinct;
-          dense = rw entries (exchanged-dense now.entries b.distinct n met.entry.index j met-occurs next-occurs b.dense);
-          even = ap eras entries ∙ (exchanged-eras now.entries met.entry.index j ∙ b.even);
-          at_is = goes ∙ ap (option_and_then (λ e. e.1.next)) (link_at-split next.entries (numbered g 1 b.done) (record { index = 1 + length b.done; generation = g; item = met.entry.item }) tail (entries ∙ there) distinct j spot);
-          kept = is ∙ (ap (λ (d : Chain T). exchanged d met.entry.index j) b.kept ∙ ap (λ fs. record c { entries = fs }) (sym entries));
-          era = b.era;
-        }
-      where
-        entry-is : (x y h l : ℕ) (item : T) → x ≡ y → h ≡ l → ◌≡◌ {A = Entry T} (record { index = x; generation = h; item = item }) (record { index = y; generation = l; item = item })
-        entry-is x y h l item same even = rw (same, even) refl
+      counted : times met.entry.index now.entries ≡ times met.entry.index (numbered g 1 b.done) + (1 + times met.entry.index met.behind)
+      counted = ap (times met.entry.index) whole ∙ times-append met.entry.index (numbered g 1 b.done) (met.entry ∷ met.behind)
+          ∙ ap (λ m. times met.entry.index (numbered g 1 b.done) + m) (times-here met.entry.index met.entry met.behind refl)
+
+      pub met-at : at ≡ Some met.entry.index
+      met-at = b.at_is ∙ ap (first_or None) met.here
+
+      pub met-occurs : 1 ≤ times met.entry.index now.entries
+      met-occurs = omega (arith, counted)
+
+      pub next-occurs : 1 ≤ times (k + 1) now.entries
+      next-occurs = let same = b.indexes (k + 1) in let is = times-numbered g 1 items (k + 1) in let long = b.number in grind (arith, nat_tests)
+
+      unmet : times met.entry.index (numbered g 1 b.done) ≡ 0
+      unmet = omega (arith, counted, distinct met.entry.index)
+
+      entry-even : met.entry.generation ≡ g
+      entry-even =
+          era-at now.entries n g met.entry.index (met.entry.generation, met.entry.item) b.even
+          (ap (λ fs. entry_at fs met.entry.index) whole ∙ entry_at-split (numbered g 1 b.done) met.entry met.behind met.entry.index refl unmet)
+
+      apart : (m : ℕ) → 1 ≤ m → m < 1 + length b.done → (m ≢ met.entry.index) × (m ≢ k + 1)
+      apart m above below = (
+        λ same. let is = times-numbered g 1 b.done met.entry.index in grind (arith, nat_tests, unmet),
+        λ same. let far = b.so_far in absurd (omega arith),
+      )
+
+      pub canonical-step : (next : Chain T) (after : Option ℕ) → next ≡ exchanged now met.entry.index (k + 1) → after ≡ index_after next.entries (k + 1) → CanonicalBelow c g n items next after (k + 1)
+      canonical-step next after is goes =
+          let i = met.entry.index in
+          let j = k + 1 in
+          let spot : 1 + length b.done ≡ j = omega (arith, b.so_far) in
+          let new : Entry T = record { index = 1 + length b.done; generation = g; item = met.entry.item } in
+          let entries : next.entries ≡ map (in_exchange i j) now.entries = ap (λ (d : Chain T). d.entries) is in
+          let tail : List (Entry T) = map (in_exchange i j) met.behind in
+          let moved_entry : in_exchange i j met.entry ≡ new = entry-is (exchanged_index i j i) (1 + length b.done) met.entry.generation g met.entry.item (other-first i j ∙ sym spot) entry-even in
+          let there : next.entries ≡ numbered g 1 b.done ++ new ∷ tail =
+          entries ∙ ap (map (in_exchange i j)) whole ∙ map-append (in_exchange i j) (numbered g 1 b.done) (met.entry ∷ met.behind) ∙ rw (numbered-apart g 1 b.done i j apart, moved_entry) refl in
+          let indexes : (m : ℕ) → times m next.entries ≡ times m (numbered g 1 items) = λ m. rw entries (exchanged-times now.entries distinct i j met-occurs next-occurs m ∙ b.indexes m) in
+          let once : IsDistinct next.entries = λ m. omega (arith, indexes m, b.indexes m, distinct m) in
+          record {
+            done = b.done ++ met.entry.item ∷ [];
+            rest = tail;
+            so_far = length-append b.done (met.entry.item ∷ []) ∙ omega (arith, b.so_far);
+            split = there ∙ (sym (append_assoc (numbered g 1 b.done) (new ∷ []) tail) ∙ ap (λ fs. fs ++ tail) (sym (numbered-push g 1 b.done met.entry.item)));
+            left = b.left ∙ (ap (λ fs. b.done ++ map (λ e. e.item) fs) met.here
+                ∙ (ap (λ xs. b.done ++ met.entry.item ∷ xs) (sym (map-kept (λ (e : Entry T). e.item) (in_exchange i j) (λ e. refl) met.behind))
+                ∙ sym (append_assoc b.done (met.entry.item ∷ []) (map (λ e. e.item) tail))));
+            number = b.number;
+            indexes = indexes;
+            even = ap eras entries ∙ map-kept (λ (e : Entry T). e.generation) (in_exchange i j) (λ e. refl) now.entries ∙ b.even;
+            at_is = goes ∙ ap (option_and_then (λ e. e.1.next)) (link_at-split next.entries (numbered g 1 b.done) new tail there once j spot);
+            kept = is ∙ (ap (λ (d : Chain T). exchanged d i j) b.kept ∙ ap (λ fs. record c { entries = fs }) (sym entries));
+            era = b.era;
+          }
+        where
+          entry-is : (x y h l : ℕ) (item : T) → x ≡ y → h ≡ l → ◌≡◌ {A = Entry T} (record { index = x; generation = h; item = item }) (record { index = y; generation = l; item = item })
+          entry-is x y h l item same even = rw (same, even) refl
+
+  vacant-same : (xs ys : List (Entry T)) → ((m : ℕ) → times m xs ≡ times m ys) → (n from : ℕ) → vacant_among xs from n ≡ vacant_among ys from n
+  vacant-same xs ys same zero from = refl
+  vacant-same xs ys same (suc n) from = rw (same from, vacant-same xs ys same n (from + 1)) refl
 
   -- at last all have
   pub canonical-ends : (most : ℕ) (greatest : Option ℕ) (c : Chain T) (g : ℕ) (now : Chain T) (at : Option ℕ) (k : ℕ) → IsSound most greatest c → length c.entries ≤ k
       → CanonicalBelow (relocated c g) g (length c.entries) (map (λ e. e.item) c.entries) now at k → now ≡ canonical c g
   canonical-ends most greatest c g now at k sound past b =
       let items = map (λ (e : Entry T). e.item) c.entries in
-      let count : length items ≡ length b.done + length (map (λ e. e.item) b.rest) = ap length b.left ∙ length-append b.done (map (λ e. e.item) b.rest) in
-      let none : b.rest ≡ [] = nothing b.rest (omega (arith, count, b.number, b.so_far, length-map b.rest (λ e. e.item))) in
+      let none : b.rest ≡ [] = nothing b.rest (omega (arith, lengths b, b.so_far)) in
       let all : items ≡ b.done = b.left ∙ (ap (λ fs. b.done ++ map (λ e. e.item) fs) none ∙ append-nil b.done) in
       let entries : now.entries ≡ numbered g 1 items = b.split ∙ (ap (λ fs. numbered g 1 b.done ++ fs) none ∙ (append-nil (numbered g 1 b.done) ∙ ap (numbered g 1) (sym all))) in
-      let first = relocated-dense most greatest c g sound in
       let vacant : vacant_indexes (map (at_compressed_index c.entries g) c.entries) c.capacity ≡ vacant_indexes (numbered g 1 items) c.capacity =
-      vacant-same (map (at_compressed_index c.entries g) c.entries) now.entries (λ m. alike m first b.dense) c.capacity 1 ∙ ap (λ fs. vacant_indexes fs c.capacity) entries in
+      vacant-same (map (at_compressed_index c.entries g) c.entries) (numbered g 1 items) (relocated-indexes most greatest c sound g items (length-map c.entries (λ e. e.item))) c.capacity 1 in
       b.kept ∙ rw (entries, vacant) refl
     where
       nothing : (fs : List (Entry T)) → length fs ≡ 0 → fs ≡ []
       nothing [] none = refl
       nothing (f ∷ fs) none = absurd (omega arith)
-
-      alike : (m : ℕ) → {xs ys : List (Entry T)} {n : ℕ} → Dense xs n → Dense ys n → (times m xs == 0) ≡ (times m ys == 0)
-      alike m {xs} {ys} {n} dense_x dense_y = grind (arith, common_steps)
-
-      vacant-same : (xs ys : List (Entry T)) → ((m : ℕ) → (times m xs == 0) ≡ (times m ys == 0)) → (n from : ℕ) → vacant_among xs from n ≡ vacant_among ys from n
-      vacant-same xs ys same zero from = refl
-      vacant-same xs ys same (suc n) from = rw (same from, vacant-same xs ys same n (from + 1)) refl
 
 -- an index that a chosen one is
 pub chosen : {I : Type 0} (number : I → ℕ) (o : Option I) (k : ℕ) → option_map number o ≡ Some k → is_some o ≡ true

@@ -1,19 +1,18 @@
 -- What each call of a clone keeps of its item is found at the index of its entry.
-use Rattle.std.proofs.Common.{◌≡◌, ℕ, zero, suc, ◌+◌, ◌<◌, ◌≤◌, List, [], ◌∷◌, ◌++◌, length, length-append, map, slice_get, Option, Some, None, Result, refl, sym, ap, ◌∙◌, arith, inl, inr}
+use Rattle.std.proofs.Common.{◌≡◌, ℕ, zero, suc, ◌+◌, ◌<◌, ◌≤◌, List, [], ◌∷◌, ◌++◌, length, length-append, map, slice_get, Option, Some, None, is_some, Result, refl, sym, ap, ◌∙◌, arith, inl, inr}
 use Rattle.std.proofs.lemmas.Grind.{common_steps}
 use Rattle.std.proofs.lemmas.Bool.Decides.{eqb_tells}
-use Rattle.std.proofs.lemmas.Option.{none-some, slice_get-map}
+use Rattle.std.proofs.lemmas.Option.{slice_get-map}
 use Rattle.std.specs.Option.{option_map}
-use Rattle.arena_base.proofs.CallerLemmas.{clones-keep}
 use Rattle.std.specs.declared.alloc.AllocError.{AllocError}
+use Rattle.arena_base.proofs.CallerLemmas.{clones-keep}
 use Rattle.chain_base.specs.Link.{Link}
 use Rattle.chain_base.specs.Chain.{Entry, Chain, IsDistinct, IsSound, times, entry_at, link_at}
 use Rattle.chain_base.specs.Compression.{lesser, entry_before, rising_among, entries_rising}
 use Rattle.chain_base.specs.Walk.{pointers}
 use Rattle.chain_base.specs.Clone.{links_among, links_rising, taken_over, IsClone, IsRefusedClone}
 use Rattle.chain_base.proofs.Lists.{times-here, entry_at-link, entry_at-absent}
-use Rattle.chain_base.proofs.Ranking.{lesser-zero, lesser-next}
-use Rattle.chain_base.proofs.Canonical.{entry-absent, rising-at}
+use Rattle.chain_base.proofs.Canonical.{entry-absent, entry-occurs, rising-entry}
 use Rattle.chain_base.proofs.Cloning.{alike-pointers}
 
 -- the links by rising index are the entries by rising index
@@ -41,9 +40,6 @@ module _ {P T U F K : Type 0} (numbers : P → ℕ × ℕ) (step : F → P → L
       count : times i new.entries ≡ times i source.entries
       count = (alike-pointers new.entries source.entries c.entries.order).count i
 
-      begins : lesser source.entries 1 ≡ 0
-      begins = grind (arith, common_steps, lesser-next source.entries 0, lesser-zero source.entries, sound.within 0)
-
       twice : (o : Option (ℕ × T)) → option_map (λ e. keep e.1) o ≡ option_map keep (option_map {U = T} (λ e. e.1) o)
       twice None = refl
       twice (Some e) = refl
@@ -51,17 +47,11 @@ module _ {P T U F K : Type 0} (numbers : P → ℕ × ℕ) (step : F → P → L
       by : (o : Option (ℕ × U)) → entry_at source.entries i ≡ o → option_map (λ e. keep e.1) (entry_at new.entries i) ≡ option_map (λ e. see e.1) o
       by None is = ap (option_map (λ (e : ℕ × T). keep e.1)) (entry_at-absent new.entries i (count ∙ entry-absent source.entries i is))
       by (Some e) is =
-          let there : 1 ≤ times i source.entries = elim (eqb_tells (times i source.entries) 0) [
-            | inl h ↦ absurd (none-some e (sym (entry_at-absent source.entries i h.1) ∙ is))
-            | inr h ↦ omega (arith, h.1)
-          ] in
-          let within = sound.within i there in
-          let at = rising-at source.entries sound.distinct source.capacity 1 i (lesser source.entries i) e is (omega (arith, within.0)) (omega (arith, within.1)) (omega (arith, begins)) in
           twice (entry_at new.entries i)
-          ∙ (ap (option_map keep) (c.entries.made i there)
+          ∙ (ap (option_map keep) (c.entries.made i (entry-occurs source.entries i (ap is_some is)))
           ∙ (sym (slice_get-map keep c.items (lesser source.entries i))
           ∙ (ap (λ ks. slice_get ks (lesser source.entries i)) items
-          ∙ (slice_get-map (λ (e : ℕ × ℕ × U). see e.2) (entries_rising source) (lesser source.entries i) ∙ ap (option_map (λ (e : ℕ × ℕ × U). see e.2)) at))))
+          ∙ (slice_get-map (λ (e : ℕ × ℕ × U). see e.2) (entries_rising source) (lesser source.entries i) ∙ ap (option_map (λ (e : ℕ × ℕ × U). see e.2)) (rising-entry most greatest source sound i e is)))))
 
 -- lists of the same pointers whose indexes find the same items
 pub same_entries : {T : Type 0} (es fs : List (Entry T)) → IsDistinct es → pointers fs ≡ pointers es

@@ -1,10 +1,10 @@
 -- A clone of a chain: its slots hold the source's links with other items, so it is the source's list with these items.
 use Rattle.std.proofs.Common.{OnOk, Ok, ◌≡◌, ℕ, zero, suc, ◌+◌, ◌-◌, ◌<◌, ◌≤◌, max, List, [], ◌∷◌, ◌++◌, length, map, take, get_or, slice_get}
-use Rattle.std.proofs.Common.{Option, Some, None, Result, Err, MatchResult, is_some, count_by, refl, sym, ap, ◌∙◌, subst, arith, inl, inr, ◌⊎◌, ◌==◌, true, false}
+use Rattle.std.proofs.Common.{Option, Some, None, Result, Err, MatchResult, count_by, is_some, refl, sym, ap, ◌∙◌, arith, inl, inr, ◌⊎◌, ◌==◌, true, false}
 use Rattle.std.proofs.lemmas.Grind.{common_steps}
 use Rattle.std.proofs.lemmas.Bool.{false≢true}
 use Rattle.std.proofs.lemmas.Bool.Decides.{eqb_tells}
-use Rattle.std.proofs.lemmas.List.{map-id, map_push, append_assoc, append-nil}
+use Rattle.std.proofs.lemmas.List.{map-id}
 use Rattle.std.proofs.lemmas.Option.{none-some}
 use Rattle.std.specs.List.{FoldsTo}
 use Rattle.std.specs.Option.{option_map}
@@ -17,16 +17,15 @@ use Rattle.arena_base.specs.Clone.{CloneStep, Grants, with_items, IsClone as IsA
 use Rattle.arena_base.proofs.CallerLemmas.{clones-retold, clones-restated, clones-keep, stops-retold, stops-restated}
 use Rattle.chain_base.specs.Link.{Link}
 use Rattle.chain_base.specs.Chain.{Entry, Chain, times, first_or, last_or, link_at, link_between, greatest_index, vacant_indexes, IsSound}
-use Rattle.chain_base.specs.Compression.{lesser, entry_before}
+use Rattle.chain_base.specs.Compression.{lesser}
 use Rattle.chain_base.specs.Walk.{pointers}
 use Rattle.chain_base.specs.Clone.{links_among, links_rising, HasItems, taken_over, ClonesLink, IsClone, IsRefusedClone}
 use Rattle.chain_base.specs.Layout.{chain_of, met, IsLaidOut}
-use Rattle.chain_base.proofs.Lists.{IsRow, IsRow-links, link_between-absent, entry_at-link}
-use Rattle.chain_base.proofs.LaidOut.{walk-laid_out}
-use Rattle.chain_base.proofs.Ranking.{counts-alike, place-slots}
-use Rattle.chain_base.proofs.Vacancy.{get_or-resized, length-resized, vacant-links, greatest-links, below-greatest}
-use Rattle.chain_base.proofs.Compressing.{held-some, occurs-held}
-use Rattle.chain_base.proofs.Steps.{IsLaidOut-walked, IsLaidOut-resized, IsLaidOut-cleared, chain_of-laid_out}
+use Rattle.chain_base.proofs.Lists.{option_map-itself, IsRow, IsRow-links, link_between-absent, entry_at-link}
+use Rattle.chain_base.proofs.LaidOut.{laid-links, IsLaidOut-walked}
+use Rattle.chain_base.proofs.Ranking.{place-slots, among-arena}
+use Rattle.chain_base.proofs.Vacancy.{HoldIndexes, held-some, held-is, get_or-resized, length-resized, vacant-held, greatest-links, past-greatest}
+use Rattle.chain_base.proofs.Steps.{Lies, lies, held-laid, IsLaidOut-resized, IsLaidOut-cleared}
 
 -- what a clone keeps of a link
 abbrev ends_of : {X : Type 0} → Link X → Option ℕ × Option ℕ
@@ -35,6 +34,10 @@ ends_of l = (l.prev, l.next)
 -- what it keeps of what an index holds
 abbrev frame : {X : Type 0} → Option (ℕ × Link X) → Option (ℕ × Option ℕ × Option ℕ)
 frame o = option_map (λ e. (e.0, e.1.prev, e.1.next)) o
+
+unframed : {X : Type 0} (o : Option (ℕ × Link X)) → frame o ≡ None → o ≡ None
+unframed None is = refl
+unframed (Some e) is = absurd (none-some _ (sym is))
 
 module _ {T U : Type 0} where
   -- lists of the same pointers
@@ -109,7 +112,7 @@ module _ {T U : Type 0} where
   with_items-item (Some d ∷ slots) (x ∷ items) (suc k) e is = grind (arith, common_steps, with_items-item slots items k e is)
 
   module _ (slots0 : List (Option (ℕ × Link U))) (slots : List (Option (ℕ × Link T))) (first last : Option ℕ) (es : List (Entry U)) (laid : IsLaidOut slots0 first last es)
-      (long : length slots ≡ length slots0) (same : (i : ℕ) → frame (get_or slots i None) ≡ frame (get_or slots0 i None)) where
+      (same : (i : ℕ) → frame (get_or slots i None) ≡ frame (get_or slots0 i None)) where
     abbrev at : ℕ → Option (ℕ × Link T)
     at i = get_or slots i None
 
@@ -119,50 +122,16 @@ module _ {T U : Type 0} where
     alike : Alike (relisted at es) es
     alike = alike-pointers (relisted at es) es row.1
 
-    frame-held : {X Y : Type 0} (o : Option (ℕ × Link X)) (p : Option (ℕ × Link Y)) → frame o ≡ frame p → is_some o ≡ is_some p
-    frame-held None None is = refl
-    frame-held None (Some y) is = absurd cc
-    frame-held (Some x) None is = absurd cc
-    frame-held (Some x) (Some y) is = refl
-
-    frame-none : (o : Option (ℕ × Link T)) (p : Option (ℕ × Link U)) → frame o ≡ frame p → p ≡ None → o ≡ None
-    frame-none None p is none = refl
-    frame-none (Some x) p is none = absurd (none-some _ (sym (is ∙ ap frame none)))
-
     laid-relisted : IsLaidOut slots first last (relisted at es)
-    laid-relisted = record {
-      links = λ i. elim (eqb_tells (times i (relisted at es)) 0) [
-        | inl h ↦
-            frame-none (at i) (get_or slots0 i None) (same i) (laid.links i ∙ link_between-absent None None es i (sym (alike.count i) ∙ h.1))
-            ∙ sym (link_between-absent None None (relisted at es) i h.1)
-        | inr h ↦ row-links at (λ i. get_or slots0 i None) same None (relisted at es) row.0 i (omega (arith, h.1))
-      ];
-      distinct = λ i. omega (arith, alike.count i, laid.distinct i);
-      first_is = laid.first_is ∙ sym (alike.first None);
-      last_is = laid.last_is ∙ sym (alike.last None);
-      counted = counts-alike slots slots0 long (λ k. frame-held (at k) (get_or slots0 k None) (same k)) ∙ (laid.counted ∙ sym alike.long);
-    }
-
-module _ {U : Type 0} where
-  -- the links by rising index, from slots and from the list
-  links-slots : (es : List (Entry U)) (from : ℕ) (slots : List (Option (ℕ × Link U))) → ((k : ℕ) → k < length slots → get_or slots k None ≡ link_at es (from + k))
-      → entries_from from slots ≡ links_among es from (length slots)
-  links-slots es from [] same = refl
-  links-slots es from (o ∷ slots) same = by o (same 0 (omega arith) ∙ (let at : from + 0 ≡ from = omega arith in ap (link_at es) at))
-      (links-slots es (from + 1) slots (λ k within. same (suc k) (omega arith) ∙ (let at : from + suc k ≡ from + 1 + k = omega arith in ap (link_at es) at)))
-    where
-      by : (o : Option (ℕ × Link U)) → o ≡ link_at es from → entries_from (from + 1) slots ≡ links_among es (from + 1) (length slots)
-          → entries_from from (o ∷ slots) ≡ entry_before from (link_at es from) (links_among es (from + 1) (length slots))
-      by None first more = rw (← first) more
-      by (Some e) first more = rw (← first) (ap (λ rest. (from, e.0, e.1) ∷ rest) more)
-
-  links-arena : (slots : List (Option (ℕ × Link U))) (es : List (Entry U)) → ((i : ℕ) → get_or slots i None ≡ link_at es i) → link_at es 0 ≡ None
-      → entries_from 0 slots ≡ links_among es 1 (length slots - 1)
-  links-arena [] es links none = refl
-  links-arena (Some e ∷ slots) es links none = absurd (none-some e (sym (links 0 ∙ none)))
-  links-arena (None ∷ slots) es links none =
-      let count : suc (length slots) - 1 ≡ length slots = omega arith in
-      links-slots es 1 slots (λ k within. links (suc k) ∙ (let at : suc k ≡ 1 + k = omega arith in ap (link_at es) at)) ∙ ap (links_among es 1) (sym count)
+    laid-relisted =
+        laid-links slots first last (relisted at es)
+        (λ i. elim (eqb_tells (times i (relisted at es)) 0) [
+          | inl h ↦
+              unframed (at i) (same i ∙ ap frame (laid.links i ∙ link_between-absent None None es i (sym (alike.count i) ∙ h.1)))
+              ∙ sym (link_between-absent None None (relisted at es) i h.1)
+          | inr h ↦ row-links at (λ i. get_or slots0 i None) same None (relisted at es) row.0 i (omega (arith, h.1))
+        ])
+        (λ i. omega (arith, alike.count i, laid.distinct i)) (laid.first_is ∙ sym (alike.first None)) (laid.last_is ∙ sym (alike.last None))
 
 -- slots that are vacant one and all
 resized-laid : {T : Type 0} (n : ℕ) → IsLaidOut {T = T} (resized n []) None None []
@@ -192,6 +161,9 @@ module _ {P T U M N : Type 0} (numbers : P → ℕ × ℕ) (step : M → P → L
     abbrev es : List (Entry U)
     es = (chain_of a0 first).entries
 
+    held : HoldIndexes a0.slots es
+    held = held-laid a0.slots first last es laid
+
     -- index 0 has no entry
     none-first : link_at es 0 ≡ None
     none-first = elim (eqb_tells (times 0 es) 0) [
@@ -200,17 +172,15 @@ module _ {P T U M N : Type 0} (numbers : P → ℕ × ℕ) (step : M → P → L
     ]
 
     rising : entries_rising a0 0 ≡ links_rising (chain_of a0 first)
-    rising = links-arena a0.slots es laid.links none-first
+    rising =
+        sym (map-id (entries_rising a0 0))
+        ∙ among-arena (λ (l : Link U). l) (link_at es) (links_among es) (λ i. refl) (λ i n. refl) a0.slots none-first (λ i. option_map-itself (slot a0 i) ∙ laid.links i)
 
     abbrev size : ℕ
     size = max (arena_capacity a) (greatest_occupied a0.slots)
 
     beyond : (k : ℕ) → size < k → slot a0 k ≡ None
-    beyond k far = by (slot a0 k) refl
-      where
-        by : (o : Option (ℕ × Link U)) → slot a0 k ≡ o → slot a0 k ≡ None
-        by None is = is
-        by (Some e) is = absurd (omega (arith, below-greatest a0.slots k e is))
+    beyond k far = past-greatest a0.slots k (omega arith)
 
     laid0 : IsLaidOut (resized (size + 1) a0.slots) first last es
     laid0 = IsLaidOut-resized a0 first last es size beyond laid
@@ -222,10 +192,6 @@ module _ {P T U M N : Type 0} (numbers : P → ℕ × ℕ) (step : M → P → L
 
       past : (k : ℕ) → size + 1 ≤ k → get_or (with_items a0.slots c.items) k None ≡ None
       past k far = unframed (get_or (with_items a0.slots c.items) k None) (frames k ∙ ap frame (beyond k (omega arith)))
-        where
-          unframed : (o : Option (ℕ × Link T)) → frame o ≡ None → o ≡ None
-          unframed None is = refl
-          unframed (Some e) is = absurd (none-some _ (sym is))
 
       at-slots : (i : ℕ) → slot b i ≡ get_or (with_items a0.slots c.items) i None
       at-slots i = ap (λ ss. get_or ss i None) c.after.slots ∙ get_or-resized (size + 1) (with_items a0.slots c.items) i past
@@ -233,25 +199,16 @@ module _ {P T U M N : Type 0} (numbers : P → ℕ × ℕ) (step : M → P → L
       frames2 : (i : ℕ) → frame (slot b i) ≡ frame (get_or (resized (size + 1) a0.slots) i None)
       frames2 i = ap frame (at-slots i) ∙ (frames i ∙ sym (ap frame (get_or-resized (size + 1) a0.slots i (λ k far. beyond k (omega arith)))))
 
-      long : length b.slots ≡ length (resized (size + 1) a0.slots)
-      long = ap length c.after.slots ∙ (length-resized (size + 1) (with_items a0.slots c.items) ∙ sym (length-resized (size + 1) a0.slots))
-
       abbrev list : List (Entry T)
       list = relisted (slot b) es
 
-      lies : IsLaidOut b.slots first last list
-      lies = laid-relisted (resized (size + 1) a0.slots) b.slots first last es laid0 long frames2
-
-      is-list : (chain_of b first).entries ≡ list
-      is-list = walk-laid_out b first last list lies
-
-      pub clone-laid : IsLaidOut b.slots first last (chain_of b first).entries
-      clone-laid = IsLaidOut-walked b first last list lies
+      laid-list : IsLaidOut b.slots first last list
+      laid-list = laid-relisted (resized (size + 1) a0.slots) b.slots first last es laid0 frames2
 
       has-items : HasItems es (map (λ l. l.item) c.items) list
       has-items = record {
-        order = (row (resized (size + 1) a0.slots) b.slots first last es laid0 long frames2).1;
-        made = λ i there. ap (option_map (λ e. e.1)) (entry_at-link None None list i ∙ ap (option_map (λ e. (e.0, e.1.item))) (sym (lies.links i)))
+        order = (row (resized (size + 1) a0.slots) b.slots first last es laid0 frames2).1;
+        made = λ i there. ap (option_map (λ e. e.1)) (entry_at-link None None list i ∙ ap (option_map (λ e. (e.0, e.1.item))) (sym (laid-list.links i)))
             ∙ (twice (slot b i) ∙ (ap (option_map (λ e. e.1.item)) (at-slots i) ∙ item-at i there));
       }
         where
@@ -261,21 +218,26 @@ module _ {P T U M N : Type 0} (numbers : P → ℕ × ℕ) (step : M → P → L
 
           item-at : (i : ℕ) → 1 ≤ times i es → option_map (λ e. e.1.item) (get_or (with_items a0.slots c.items) i None) ≡ slice_get (map (λ l. l.item) c.items) (lesser es i)
           item-at i there =
-              let e = held-some (slot a0 i) (occurs-held a0 first last es laid i there) in
-              with_items-item a0.slots c.items i e.0 e.1 ∙ ap (slice_get (map (λ l. l.item) c.items)) (place-slots a0.slots es laid.distinct laid.links i)
+              let e = held-some (slot a0 i) (held-is a0.slots es i held there) in
+              with_items-item a0.slots c.items i e.0 e.1 ∙ ap (slice_get (map (λ l. l.item) c.items)) (place-slots a0.slots es held i)
+
+      pub Lies-cloned : (first1 : Option ℕ) → IsFresh b → Lies b first last (taken_over (chain_of a0 first) (chain_of a first1) list)
+      Lies-cloned first1 fresh =
+          let capacity : arena_capacity b ≡ max (arena_capacity a) (greatest_index es) =
+          omega (arith, ap length c.after.slots, length-resized (size + 1) (with_items a0.slots c.items), greatest-links a0.slots es held) in
+          lies b first last (taken_over (chain_of a0 first) (chain_of a first1) list) laid-list capacity
+          (fresh ∙ vacant-held b.slots list (held-laid b.slots first last list laid-list) ∙ ap (vacant_indexes list) capacity) c.after.generation c.after.maximum
 
       pub clone-chain : (first1 : Option ℕ) → IsFresh b → IsClone numbers (Grants numbers step) (inner m) (chain_of a0 first) (chain_of a first1) (chain_of b first)
       clone-chain first1 fresh =
-          let top = greatest-links a0.slots es laid.links in
-          let capacity : arena_capacity b ≡ max (arena_capacity a) (greatest_index es) = ap (λ n. n - 1) (ap length c.after.slots ∙ length-resized (size + 1) (with_items a0.slots c.items))
-          ∙ (let less : size + 1 - 1 ≡ size = omega arith in less ∙ ap (max (arena_capacity a)) top) in
-          let vacant = fresh ∙ vacant-links b.slots list lies.links in
+          let done = Lies-cloned first1 fresh in
+          let is_list : (chain_of b first).entries ≡ list = ap (λ (c : Chain T). c.entries) done.chain in
           record {
             items = map (λ l. l.item) c.items;
             last = inner c.last;
             calls = rw (← rising) (items-told (entries_rising a0 0) m c.last c.items c.calls);
-            entries = rw is-list has-items;
-            after = rw (is-list, vacant, capacity, c.after.generation, c.after.maximum) refl;
+            entries = rw is_list has-items;
+            after = done.chain ∙ ap (taken_over (chain_of a0 first) (chain_of a first1)) (sym is_list);
           }
 
     pub rising-told : StopsAtRefusal {T = Link T} numbers (link_step step inner) m (entries_rising a0 0) → StopsAtRefusal numbers step (inner m) (links_rising (chain_of a0 first))
@@ -286,12 +248,13 @@ pub refused-chain : {T U : Type 0} (a0 : Arena (Link U)) (first last : Option �
     → b ≡ replaced a0 a [] → chain_of b None ≡ taken_over (chain_of a0 first) (chain_of a first1) []
 refused-chain {T} a0 first last laid a b first1 is =
     let size = max (arena_capacity a) (greatest_occupied a0.slots) in
-    let lies : IsLaidOut b.slots None None [] = rw is (resized-laid (size + 1)) in
+    let none : IsLaidOut b.slots None None [] = rw is (resized-laid (size + 1)) in
     let long : length b.slots ≡ size + 1 = ap (λ (x : Arena (Link T)). length x.slots) is ∙ length-resized (size + 1) [] in
-    let capacity : arena_capacity b ≡ max (arena_capacity a) (greatest_index (chain_of a0 first).entries) = omega (arith, long, greatest-links a0.slots (chain_of a0 first).entries laid.links) in
+    let capacity : arena_capacity b ≡ max (arena_capacity a) (greatest_index (chain_of a0 first).entries) = omega (arith, long, greatest-links a0.slots _ (held-laid a0.slots first last _ laid)) in
     let fresh : IsFresh b = rw is refl in
-    chain_of-laid_out b None None (taken_over (chain_of a0 first) (chain_of a first1) []) lies capacity (fresh ∙ (vacant-links b.slots [] lies.links ∙ ap (vacant_indexes {T = T} []) capacity))
-    (ap (λ (x : Arena (Link T)). x.generation) is) (ap (λ (x : Arena (Link T)). x.maximum) is)
+    let done = lies b None None (taken_over (chain_of a0 first) (chain_of a first1) []) none capacity
+    (fresh ∙ vacant-held {T = T} b.slots [] (held-laid b.slots None None [] none) ∙ ap (vacant_indexes {T = T} []) capacity) (ap (λ (x : Arena (Link T)). x.generation) is) (ap (λ (x : Arena (Link T)). x.maximum) is) in
+    done.chain
 
 -- the receiver after a refusal: as it was, or without entries
 module _ {T U : Type 0} (a0 : Arena (Link U)) (a b : Arena (Link T)) (first last : Option ℕ) (laid : IsLaidOut a.slots first last (chain_of a first).entries)

@@ -1,5 +1,5 @@
 -- What the calls that look up an entry find, read off the list.
-use Rattle.std.proofs.Common.{◌≡◌, ℕ, ◌≤◌, List, [], ◌∷◌, Option, Some, None, IsSome, is_some, false, refl, sym, ◌∙◌, arith, inl, inr}
+use Rattle.std.proofs.Common.{◌≡◌, ℕ, ◌≤◌, List, [], ◌∷◌, Option, Some, None, IsSome, is_some, false, refl, sym, ap, ◌∙◌, arith, inl, inr}
 use Rattle.std.proofs.lemmas.Grind.{common_steps}
 use Rattle.std.proofs.lemmas.Bool.Decides.{eqb_tells}
 use Rattle.std.specs.Option.{option_map}
@@ -7,7 +7,7 @@ use Rattle.arena_base.specs.Arena.{Arena, slot, item_if, item_of as slot_item, I
 use Rattle.chain_base.specs.Link.{Link}
 use Rattle.chain_base.specs.Chain.{Entry, times, entry_at, link_at, last_or, last_pointer, pointed, item_of, generation_at, IsFirstIndex, IsLastIndex}
 use Rattle.chain_base.specs.Layout.{chain_of, IsLaidOut}
-use Rattle.chain_base.proofs.Lists.{times-here, times-there, times-last, times-unlinked, entry_at-link}
+use Rattle.chain_base.proofs.Lists.{times-here, times-there, times-last, times-unlinked, entry_at-link, entry_at-some}
 
 -- an option is there where what it is mapped to is there
 pub some-of : {A B : Type 0} (f : A → B) (o : Option A) (p : Option B) → option_map f o ≡ p → IsSome p → IsSome o
@@ -30,9 +30,6 @@ module _ {T : Type 0} where
   item_if-link : (g : ℕ) (o : Option (ℕ × Link T)) → item_if g (option_map (λ e. (e.0, e.1.item)) o) ≡ option_map (λ l. l.item) (item_if g o)
   item_if-link g None = refl
   item_if-link g (Some e) = elim (eqb_tells e.0 g) [ inl h ↦ rw h.0 refl | inr h ↦ rw h.0 refl ]
-
-  pub item_of-link : (es : List (Entry T)) (p : ℕ × ℕ) (o : Option (ℕ × Link T)) → o ≡ link_at es p.0 → item_of es p ≡ option_map (λ l. l.item) (item_if p.1 o)
-  item_of-link es p o links = rw (entry_at-link None None es p.0, ← links) (item_if-link p.1 o)
 
   -- where there is no entry there is no link
   pub link_at-none : (es : List (Entry T)) (i : ℕ) → is_some (entry_at es i) ≡ false → None ≡ link_at es i
@@ -62,35 +59,25 @@ module _ {T : Type 0} where
     link_at-laid_out i = sym (laid.links i)
 
     pub entry_at-laid_out : (i : ℕ) → entry_at (chain_of a first).entries i ≡ option_map (λ e. (e.0, e.1.item)) (slot a i)
-    entry_at-laid_out i = rw (entry_at-link None None (chain_of a first).entries i, link_at-laid_out i) refl
+    entry_at-laid_out i = entry_at-link None None (chain_of a first).entries i ∙ ap (option_map (λ e. (e.0, e.1.item))) (sym (laid.links i))
 
     pub item_of-laid_out : (p : ℕ × ℕ) → item_of (chain_of a first).entries p ≡ option_map (λ l. l.item) (slot_item a p)
-    item_of-laid_out p = item_of-link (chain_of a first).entries p (slot a p.0) (laid.links p.0)
+    item_of-laid_out p = rw (entry_at-laid_out p.0) (item_if-link p.1 (slot a p.0))
 
     pub contains-laid_out : (p : ℕ × ℕ) → is_some (slot_item a p) ≡ is_some (item_of (chain_of a first).entries p)
     contains-laid_out p = grind (arith, common_steps, item_of-laid_out p)
 
     -- an occupied index of the chain has a link in its slot
     pub occupied-laid_out : (i : ℕ) → IsSome (entry_at (chain_of a first).entries i) → IsSome (slot a i)
-    occupied-laid_out i some = mapped (slot a i) (rw (entry_at-laid_out i) at some)
-      where
-        mapped : (o : Option (ℕ × Link T)) → IsSome {T = ℕ × T} (option_map (λ e. (e.0, e.1.item)) o) → IsSome o
-        mapped None some = some
-        mapped (Some e) some = some
+    occupied-laid_out i some = ap is_some (laid.links i) ∙ sym (entry_at-some (chain_of a first).entries i) ∙ some
 
   -- what a look-up answers, read off what the arena answered
   pub item-found : (o : Option (Link T)) (l : Link T) (item : T) → Some l ≡ o → item ≡ l.item → Some item ≡ option_map (λ l. l.item) o
   item-found o l item found same = rw (← found, same) refl
 
-  pub item-missing : (o : Option (Link T)) → None ≡ o → None ≡ option_map (λ l. l.item) o
-  item-missing o missing = rw (← missing) refl
-
   pub entry-found : (o : Option (ℕ × Link T)) (g : ℕ) (l : Link T) (item : T) → ◌≡◌ {A = Option (ℕ × Link T)} (Some (g, l)) o → item ≡ l.item
       → ◌≡◌ {A = Option (ℕ × T)} (Some (g, item)) (option_map (λ e. (e.0, e.1.item)) o)
   entry-found o g l item found same = rw (← found, same) refl
-
-  pub entry-missing : (o : Option (ℕ × Link T)) → None ≡ o → None ≡ option_map {U = ℕ × T} (λ e. (e.0, e.1.item)) o
-  entry-missing o missing = rw (← missing) refl
 
   pub pointed-found : (o : Option (ℕ × Link T)) (i g : ℕ) (l : Link T) → ◌≡◌ {A = Option (ℕ × Link T)} (Some (g, l)) o
       → ◌≡◌ {A = Option (ℕ × ℕ)} (Some (i, g)) (pointed i (option_map {U = ℕ × T} (λ e. (e.0, e.1.item)) o))

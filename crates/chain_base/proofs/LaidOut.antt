@@ -1,28 +1,27 @@
 -- How each step of a chain keeps its list laid out in the arena.
-use Rattle.std.proofs.Common.{◌≡◌, ◌≢◌, ℕ, ◌+◌, ◌<◌, ◌≤◌, ◌==◌, false, List, ◌∷◌, ◌++◌, length, Option, Some, None, is_some, cond, refl, sym, ap, ◌∙◌, arith, if◌then◌else◌, inl, inr, length-append}
+use Rattle.std.proofs.Common.{◌≡◌, ◌≢◌, ℕ, ◌+◌, ◌<◌, ◌≤◌, ◌==◌, false, List, ◌∷◌, ◌++◌, length, Option, Some, None, is_some, refl, sym, ap, ◌∙◌, arith, if◌then◌else◌, inl, inr, get_or, length-set}
 use Rattle.std.proofs.lemmas.Grind.{common_steps}
-use Rattle.std.proofs.lemmas.List.{get_or-set_same, get_or-set_other}
-use Rattle.std.proofs.lemmas.List.Sums.{sum_by-set, count_by-le-length}
+use Rattle.std.proofs.lemmas.List.Sums.{count_by-le-length}
 use Rattle.std.specs.Option.{option_map}
-use Rattle.arena_base.specs.Arena.{Arena, slot, with_slot, with_entry_at, arena_len, removed as arena_removed}
+use Rattle.arena_base.specs.Arena.{Arena, slot, with_slot, with_entry_at, removed as arena_removed}
 use Rattle.chain_base.specs.Link.{Link}
-use Rattle.chain_base.specs.Chain.{Entry, times, first_or, last_or, link_at, with_item_among, with_generation}
-use Rattle.chain_base.specs.Layout.{walk, names, with_next, with_prev, linked_next, linked_prev, relinked, IsLaidOut}
+use Rattle.chain_base.specs.Chain.{Entry, IsDistinct, times, first_or, last_or, link_at, with_item_among, with_generation}
+use Rattle.chain_base.specs.Layout.{chain_of, walk, names, linked_next, linked_prev, relinked, IsLaidOut}
 use Rattle.chain_base.proofs.Lists.{names_tells, same_index, times-append, times-inserted, times-here, times-there, times-last, times-first, first_or-append, last_or-append, link_between-append, link_between-absent}
-use Rattle.chain_base.proofs.Lists.{times-unlinked, seam-relinked, IsRow-links, walk-row, changed_at, changed_link, with_item_among-changed_at, with_generation-changed_at, link_between-changed_at, times-changed_at, first_or-changed_at, last_or-changed_at, length-changed_at}
+use Rattle.chain_base.proofs.Lists.{times-unlinked, seam-relinked, IsRow-links, walk-row, changed_at, changed_link, with_item_among-changed_at, with_generation-changed_at, link_between-changed_at, times-changed_at, first_or-changed_at, last_or-changed_at}
+use Rattle.chain_base.proofs.Vacancy.{held-links}
+use Rattle.chain_base.proofs.Ranking.{counted-held}
 
 -- an end of the list where an entry comes or goes: the old one where an entry stands on that side, else the new one
 abbrev pub end_beside : Option ℕ → Option ℕ → Option ℕ → Option ℕ
 end_beside beside old new = if is_some beside then old else new
 
 module _ {T : Type 0} where
-  -- a slot beside one that is written stays
-  pub slot-with_other : (a : Arena (Link T)) (i k : ℕ) (s : Option (ℕ × Link T)) → i ≢ k → slot (with_slot a i s) k ≡ slot a k
-  slot-with_other a i k s other = get_or-set_other a.slots i k s None (λ same. other (sym same))
-
-  -- a slot that is written holds what was written
-  pub slot-with_same : (a : Arena (Link T)) (i : ℕ) (s : Option (ℕ × Link T)) → i < length a.slots → slot (with_slot a i s) i ≡ s
-  slot-with_same a i s within = get_or-set_same a.slots i s None within
+  -- slots that hold just a list's links, between these ends
+  pub laid-links : (slots : List (Option (ℕ × Link T))) (first last : Option ℕ) (es : List (Entry T)) → ((i : ℕ) → get_or slots i None ≡ link_at es i) → IsDistinct es
+      → first ≡ first_or None es → last ≡ last_or None es → IsLaidOut slots first last es
+  laid-links slots first last es links distinct first_is last_is =
+      record { links = links; distinct = distinct; first_is = first_is; last_is = last_is; counted = counted-held slots es (held-links slots es distinct links) }
 
   -- what the slots hold once one is filled
   pub slot-filled : (a : Arena (Link T)) (j k : ℕ) (e : ℕ × Link T) → j < length a.slots → slot (with_slot a j (Some e)) k ≡ (if j == k then Some e else slot a k)
@@ -47,44 +46,32 @@ module _ {T : Type 0} where
       let fits : length es ≤ length a.slots = omega (arith, count_by-le-length is_some a.slots, laid.counted) in
       rw laid.first_is (walk-row (slot a) None es (length a.slots) fits row)
 
-  -- an index whose slot is vacant stands nowhere in the list
-  pub times-vacant : (a : Arena (Link T)) (first last : Option ℕ) (es : List (Entry T)) (i : ℕ) → IsLaidOut a.slots first last es → slot a i ≡ None → times i es ≡ 0
-  times-vacant a first last es i laid vacant = times-unlinked None None es i (sym (laid.links i) ∙ vacant)
+  pub IsLaidOut-walked : (a : Arena (Link T)) (first last : Option ℕ) (es : List (Entry T)) → IsLaidOut a.slots first last es → IsLaidOut a.slots first last (chain_of a first).entries
+  IsLaidOut-walked a first last es laid = rw (walk-laid_out a first last es laid) laid
 
-  -- an index that does not stand in a stretch is neither its last nor its first
-  unnamed_last : (xs : List (Entry T)) (i : ℕ) → times i xs ≡ 0 → names (last_or None xs) i ≡ false
-  unnamed_last xs i absent = elim (names_tells (last_or None xs) i) [ inl h ↦ absurd (omega (arith, times-last xs i h.1)) | inr h ↦ h.0 ]
+  -- two arenas hold entries at the same indexes, and differ in their slots alone
+  pub record Alike (a b : Arena (Link T)) : Type 0 where
+    pub held : (k : ℕ) → is_some (slot a k) ≡ is_some (slot b k)
+    pub long : length a.slots ≡ length b.slots
+    pub kept : a ≡ record b { slots = a.slots }
 
-  unnamed_first : (ys : List (Entry T)) (i : ℕ) → times i ys ≡ 0 → names (first_or None ys) i ≡ false
-  unnamed_first ys i absent = elim (names_tells (first_or None ys) i) [ inl h ↦ absurd (omega (arith, times-first ys i h.1)) | inr h ↦ h.0 ]
+  pub alike-next : (a b d : Arena (Link T)) (at v : Option ℕ) → d ≡ linked_next a at v → Alike a b → Alike d b
+  alike-next a b d at v made same = grind (arith, common_steps)
 
-  -- the two writes of a seam change nothing at an index that stands on neither side
-  relinked-apart : (xs ys : List (Entry T)) (next prev : Option ℕ) (i : ℕ) (o : Option (ℕ × Link T)) → times i xs ≡ 0 → times i ys ≡ 0 → relinked (last_or None xs) next (first_or None ys) prev i o ≡ o
-  relinked-apart xs ys next prev i o apart_left apart_right = rw (unnamed_last xs i apart_left, unnamed_first ys i apart_right) refl
-
-  -- a map of what one slot holds keeps the number of entries
-  arena_len-mapped : (a : Arena (Link T)) (i : ℕ) (f : ℕ × Link T → ℕ × Link T) → arena_len (with_slot a i (option_map f (slot a i))) ≡ arena_len a
-  arena_len-mapped a i f = grind (arith, common_steps)
-
-  arena_len-linked_next : (a : Arena (Link T)) (at next : Option ℕ) → arena_len (linked_next a at next) ≡ arena_len a
-  arena_len-linked_next a None next = refl
-  arena_len-linked_next a (Some i) next = arena_len-mapped a i (with_next next)
-
-  arena_len-linked_prev : (a : Arena (Link T)) (at prev : Option ℕ) → arena_len (linked_prev a at prev) ≡ arena_len a
-  arena_len-linked_prev a None prev = refl
-  arena_len-linked_prev a (Some i) prev = arena_len-mapped a i (with_prev prev)
-
-  -- a vacant slot that is filled makes one entry more
-  arena_len-filled : (a : Arena (Link T)) (i : ℕ) (e : ℕ × Link T) → i < length a.slots → slot a i ≡ None → arena_len (with_slot a i (Some e)) ≡ arena_len a + 1
-  arena_len-filled a i e within vacant = let moved = rw vacant at (sum_by-set (λ x. cond (is_some x) 1 0) a.slots i (Some e) None within) in omega arith
-
-  -- an entry that is taken out makes one entry less
-  arena_len-emptied : (a : Arena (Link T)) (i : ℕ) (e : ℕ × Link T) → i < length a.slots → slot a i ≡ Some e → arena_len (with_slot a i None) + 1 ≡ arena_len a
-  arena_len-emptied a i e within held = let moved = rw held at (sum_by-set (λ x. cond (is_some x) 1 0) a.slots i None None within) in omega arith
+  pub alike-prev : (a b d : Arena (Link T)) (at v : Option ℕ) → d ≡ linked_prev a at v → Alike a b → Alike d b
+  alike-prev a b d at v made same = grind (arith, common_steps)
 
   -- the arena once `left`, if there is one, leads on to `next`, and `right` back to `prev`
   abbrev pub bridged : Arena (Link T) → Option ℕ → Option ℕ → Option ℕ → Option ℕ → Arena (Link T)
   bridged a left next right prev = linked_prev (linked_next a left next) right prev
+
+  pub alike-bridged : (a : Arena (Link T)) (left next right prev : Option ℕ) → Alike (bridged a left next right prev) a
+  alike-bridged a left next right prev =
+      alike-prev (linked_next a left next) a _ right prev refl (alike-next a a _ left next refl (record { held = λ k. refl; long = refl; kept = refl }))
+
+  -- the two writes of a seam change nothing at an index that stands on neither side
+  relinked-apart : (xs ys : List (Entry T)) (next prev : Option ℕ) (i : ℕ) (o : Option (ℕ × Link T)) → times i xs ≡ 0 → times i ys ≡ 0 → relinked (last_or None xs) next (first_or None ys) prev i o ≡ o
+  relinked-apart xs ys next prev i o apart_left apart_right = grind (arith, common_steps, names_tells (last_or None xs) i, names_tells (first_or None ys) i, times-last xs i, times-first ys i)
 
   -- the link of an item between two stretches
   abbrev pub link_amid : List (Entry T) → T → List (Entry T) → Link T
@@ -99,11 +86,10 @@ module _ {T : Type 0} where
   closed a xs ys = bridged a (last_or None xs) (first_or None ys) (first_or None ys) (last_or None xs)
 
   -- what the slots hold after an insertion between two stretches
-  module _ (xs ys : List (Entry T)) (new : Entry T) (k : ℕ) (o : Option (ℕ × Link T)) where
-    slots-inserted : times new.index xs ≡ 0 → times new.index ys ≡ 0 → times k xs + times k ys ≤ 1 → o ≡ link_at (xs ++ ys) k
-        → relinked (last_or None xs) (Some new.index) (first_or None ys) (Some new.index) k
-        (if new.index == k then Some (new.generation, link_amid xs new.item ys) else o) ≡ link_at (xs ++ new ∷ ys) k
-    slots-inserted left right once was = grind (arith, common_steps, link_between-append, left, link_between-absent, relinked-apart, seam-relinked)
+  slots-inserted : (xs ys : List (Entry T)) (new : Entry T) (k : ℕ) (o : Option (ℕ × Link T)) → times new.index xs ≡ 0 → times new.index ys ≡ 0 → times k xs + times k ys ≤ 1 → o ≡ link_at (xs ++ ys) k
+      → relinked (last_or None xs) (Some new.index) (first_or None ys) (Some new.index) k
+      (if new.index == k then Some (new.generation, link_amid xs new.item ys) else o) ≡ link_at (xs ++ new ∷ ys) k
+  slots-inserted xs ys new k o left right once was = grind (arith, common_steps, link_between-append, left, link_between-absent, relinked-apart, seam-relinked)
 
   -- a new entry between two stretches of the list
   module _ (a : Arena (Link T)) (first last : Option ℕ) (xs ys : List (Entry T)) (j : ℕ) (rest : List ℕ) (item : T) where
@@ -112,30 +98,19 @@ module _ {T : Type 0} where
         (first_or (Some j) xs) (last_or (Some j) ys) (xs ++ record { index = j; generation = a.generation; item = item } ∷ ys)
     IsLaidOut-inserted laid vacant within =
         let new : Entry T = record { index = j; generation = a.generation; item = item } in
-        let link : Link T = record { item = item; prev = last_or None xs; next = first_or None ys } in
-        let a1 : Arena (Link T) = with_entry_at a (j ∷ rest) link in
-        let absent : times j (xs ++ ys) ≡ 0 = times-vacant a first last (xs ++ ys) j laid vacant in
+        let absent : times j (xs ++ ys) ≡ 0 = times-unlinked None None (xs ++ ys) j (sym (laid.links j) ∙ vacant) in
         let parts : times j xs + times j ys ≡ 0 = sym (times-append j xs ys) ∙ absent in
-        record {
-          links = λ k. slot-relinked a1 (last_or None xs) (Some j) (first_or None ys) (Some j) k
-              ∙ ap (relinked (last_or None xs) (Some j) (first_or None ys) (Some j) k) (slot-filled a j k (a.generation, link) within)
-              ∙ slots-inserted xs ys new k (slot a k) (omega arith) (omega arith) (omega (arith, times-append k xs ys, laid.distinct k)) (laid.links k);
-          distinct = λ k. times-inserted k xs new ys absent (laid.distinct k);
-          first_is = sym (first_or-append None xs (new ∷ ys));
-          last_is = sym (last_or-append None xs (new ∷ ys));
-          counted =
-              arena_len-linked_prev (linked_next a1 (last_or None xs) (Some j)) (first_or None ys) (Some j)
-              ∙ arena_len-linked_next a1 (last_or None xs) (Some j)
-              ∙ arena_len-filled a j (a.generation, link) within vacant
-              ∙ omega (arith, laid.counted, length-append xs (new ∷ ys), length-append xs ys);
-        }
+        laid-links _ _ _ _
+        (λ k. slot-relinked (with_entry_at a (j ∷ rest) (link_amid xs item ys)) (last_or None xs) (Some j) (first_or None ys) (Some j) k
+        ∙ ap (relinked (last_or None xs) (Some j) (first_or None ys) (Some j) k) (slot-filled a j k (a.generation, link_amid xs item ys) within)
+        ∙ slots-inserted xs ys new k (slot a k) (omega arith) (omega arith) (omega (arith, times-append k xs ys, laid.distinct k)) (laid.links k))
+        (λ k. times-inserted k xs new ys absent (laid.distinct k))
+        (sym (first_or-append None xs (new ∷ ys))) (sym (last_or-append None xs (new ∷ ys)))
 
   -- what the slots hold after the entry between two stretches is taken out
-  module _ (xs : List (Entry T)) (e : Entry T) (ys : List (Entry T)) (k : ℕ) (o : Option (ℕ × Link T)) where
-    slots-removed : times k (xs ++ e ∷ ys) ≤ 1 → o ≡ link_at (xs ++ e ∷ ys) k
-        → relinked (last_or None xs) (first_or None ys) (first_or None ys) (last_or None xs) k (if e.index == k then None else o)
-        ≡ link_at (xs ++ ys) k
-    slots-removed once was = grind (arith, common_steps, link_between-append, times-append, times-here, link_between-absent, relinked-apart, times-there, seam-relinked)
+  slots-removed : (xs : List (Entry T)) (e : Entry T) (ys : List (Entry T)) (k : ℕ) (o : Option (ℕ × Link T)) → times k (xs ++ e ∷ ys) ≤ 1 → o ≡ link_at (xs ++ e ∷ ys) k
+      → relinked (last_or None xs) (first_or None ys) (first_or None ys) (last_or None xs) k (if e.index == k then None else o) ≡ link_at (xs ++ ys) k
+  slots-removed xs e ys k o once was = grind (arith, common_steps, link_between-append, times-append, times-here, link_between-absent, relinked-apart, times-there, seam-relinked)
 
   -- an entry stands in its slot
   module _ (a : Arena (Link T)) (first last : Option ℕ) (xs : List (Entry T)) (e : Entry T) (ys : List (Entry T)) where
@@ -152,34 +127,20 @@ module _ {T : Type 0} where
         → IsLaidOut (closed (arena_removed greatest a e.index) xs ys).slots
         (first_or (first_or None ys) xs) (last_or (last_or None xs) ys) (xs ++ ys)
     IsLaidOut-removed laid =
-        let held = slot-laid_out a first last xs e ys laid in
-        let within = slot-within a e.index _ held in
-        let a1 : Arena (Link T) = arena_removed greatest a e.index in
-        record {
-          links = λ k. slot-relinked a1 (last_or None xs) (first_or None ys) (first_or None ys) (last_or None xs) k
-              ∙ ap (relinked (last_or None xs) (first_or None ys) (first_or None ys) (last_or None xs) k) (slot-emptied a e.index k within)
-              ∙ slots-removed xs e ys k (slot a k) (laid.distinct k) (laid.links k);
-          distinct = λ k. omega (arith, times-append k xs ys, times-append k xs (e ∷ ys), laid.distinct k);
-          first_is = sym (first_or-append None xs ys);
-          last_is = sym (last_or-append None xs ys);
-          counted =
-              let less = arena_len-emptied a e.index _ within held in
-              let same = arena_len-linked_prev (linked_next a1 (last_or None xs) (first_or None ys)) (first_or None ys) (last_or None xs) ∙ arena_len-linked_next a1 (last_or None xs) (first_or None ys) in
-              same ∙ omega (arith, laid.counted, length-append xs (e ∷ ys), length-append xs ys);
-        }
+        laid-links _ _ _ _
+        (λ k. slot-relinked (arena_removed greatest a e.index) (last_or None xs) (first_or None ys) (first_or None ys) (last_or None xs) k
+        ∙ ap (relinked (last_or None xs) (first_or None ys) (first_or None ys) (last_or None xs) k) (slot-emptied a e.index k (slot-within a e.index _ (slot-laid_out a first last xs e ys laid)))
+        ∙ slots-removed xs e ys k (slot a k) (laid.distinct k) (laid.links k))
+        (λ k. omega (arith, times-append k xs ys, times-append k xs (e ∷ ys), laid.distinct k))
+        (sym (first_or-append None xs ys)) (sym (last_or-append None xs ys))
 
   module _ (a : Arena (Link T)) (first last : Option ℕ) (es : List (Entry T)) (i : ℕ) where
     -- an entry is changed, but for its neighbours
     IsLaidOut-changed_at : (f : ℕ × T → ℕ × T) → IsLaidOut a.slots first last es
         → IsLaidOut (with_slot a i (option_map (changed_link f) (slot a i))).slots first last (changed_at f es i)
     IsLaidOut-changed_at f laid =
-        record {
-          links = λ k. slot-mapped a i k _ ∙ rw (laid.links k) (sym (link_between-changed_at f None None es i k));
-          distinct = λ k. omega (arith, times-changed_at f k es i, laid.distinct k);
-          first_is = laid.first_is ∙ sym (first_or-changed_at f None es i);
-          last_is = laid.last_is ∙ sym (last_or-changed_at f None es i);
-          counted = arena_len-mapped a i _ ∙ laid.counted ∙ sym (length-changed_at f es i);
-        }
+        laid-links _ _ _ _ (λ k. slot-mapped a i k _ ∙ rw (laid.links k) (sym (link_between-changed_at f None None es i k))) (λ k. omega (arith, times-changed_at f k es i, laid.distinct k))
+        (laid.first_is ∙ sym (first_or-changed_at f None es i)) (laid.last_is ∙ sym (last_or-changed_at f None es i))
 
     -- an item is written
     pub IsLaidOut-with_item_among : (item : T) → IsLaidOut a.slots first last es

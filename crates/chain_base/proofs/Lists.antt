@@ -1,15 +1,19 @@
 -- Lists of entries: where an index stands, and what an insertion or a removal there does to the links.
-use Rattle.std.proofs.Common.{◌≡◌, ◌≢◌, ℕ, zero, suc, ◌+◌, ◌≤◌, ◌==◌, true, false, List, [], ◌∷◌, ◌++◌, length, Option, Some, None, refl, ap, arith, if◌then◌else◌, inl, inr, ◌⊎◌}
+use Rattle.std.proofs.Common.{◌≡◌, ◌≢◌, ℕ, zero, suc, ◌+◌, ◌≤◌, ◌==◌, true, false, List, [], ◌∷◌, ◌++◌, length, Option, Some, None, is_some, refl, ap, arith, if◌then◌else◌, inl, inr, ◌⊎◌}
 use Rattle.std.proofs.lemmas.Grind.{common_steps}
 use Rattle.std.proofs.lemmas.Bool.Decides.{nat_tests, eqb_tells}
 use Rattle.std.specs.Option.{option_or, option_map}
 use Rattle.chain_base.specs.Link.{Link}
 use Rattle.chain_base.specs.Layout.{walk, names, with_next, with_prev, relinked}
-use Rattle.chain_base.specs.Chain.{Entry, times, entry_at, first_or, last_or, link_between, insert_after, insert_before, without, with_item_among, with_generation}
+use Rattle.chain_base.specs.Chain.{Entry, times, entry_at, first_or, last_or, link_at, link_between, insert_after, insert_before, without, with_item_among, with_generation}
 
 pub option_or-none : {A : Type 0} (o : Option A) → option_or o None ≡ o
 option_or-none None = refl
 option_or-none (Some x) = refl
+
+pub option_map-itself : {A : Type 0} (o : Option A) → option_map (λ x. x) o ≡ o
+option_map-itself None = refl
+option_map-itself (Some x) = refl
 
 pub names_tells : (o : Option ℕ) (i : ℕ) → ((names o i ≡ true) × (o ≡ Some i)) ⊎ ((names o i ≡ false) × (o ≢ Some i))
 names_tells None i = inr (refl, λ h. cc)
@@ -76,6 +80,13 @@ module _ {T : Type 0} where
   pub entry_at-link : (before after : Option ℕ) (es : List (Entry T)) (i : ℕ) → entry_at es i ≡ option_map (λ e. (e.0, e.1.item)) (link_between before after es i)
   entry_at-link before after [] i = refl
   entry_at-link before after (e ∷ es) i = grind (arith, common_steps, entry_at-link (Some e.index) after es i)
+
+  pub entry_at-some : (es : List (Entry T)) (i : ℕ) → is_some (entry_at es i) ≡ is_some (link_at es i)
+  entry_at-some es i = grind (arith, common_steps, entry_at-link None None es i)
+
+  -- an index with a link stands in the list
+  pub linked-occurs : (es : List (Entry T)) (i : ℕ) (e : ℕ × Link T) → link_at es i ≡ Some e → 1 ≤ times i es
+  linked-occurs es i e is = grind (arith, common_steps, i, link_between-absent)
 
   -- an index that is not the last sees no change at the far end
   pub link_between-other_after : (before after other : Option ℕ) (es : List (Entry T)) (i : ℕ) → last_or None es ≢ Some i → link_between before other es i ≡ link_between before after es i

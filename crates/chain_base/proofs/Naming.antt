@@ -13,7 +13,10 @@ use Rattle.chain_base.specs.Link.{Link}
 use Rattle.chain_base.specs.Naming.{neighbour_on, with_facing, linked_facing, named, compressed_index_in, IsPaired, NamesCompressedIndexes}
 use Rattle.chain_base.specs.declared.chain.compress.Side.{Side}
 use Rattle.chain_base.specs.declared.chain.compress.Side.TheVariants.{Before, After}
+use Rattle.chain_base.specs.Chain.{Entry, IsDistinct, times}
 use Rattle.chain_base.proofs.LaidOut.{slot-mapped}
+use Rattle.chain_base.proofs.Vacancy.{HoldIndexes, held-is, held-occurs}
+use Rattle.chain_base.proofs.Renumbering.{opposite, beside, end_on, beside-occurs, facing, facing-back, end-unnamed, unnamed-end, end-occurs, end-none}
 
 module _ {T : Type 0} where
   -- the indexes below c have told their places; so many of them have an entry
@@ -197,6 +200,38 @@ module _ {T : Type 0} where
         held = b.held_same;
         within = b.within;
       }
+
+-- What is learnt where an arena's links name the neighbours that a list has, on this side; `place` tells the list's compressed indexes.
+module _ {T : Type 0} (side : Side) (old : Arena (Link T)) (es : List (Entry T)) (distinct : IsDistinct es) (held : HoldIndexes old.slots es)
+    (names : (i : ℕ) → named side old i ≡ beside side es i) where
+  pub paired : IsPaired side old
+  paired = record {
+    there = λ i k is. held-is old.slots es k held (beside-occurs (opposite side) es k i (facing side es distinct i k (sym (names i) ∙ is)));
+    once = λ i j k is js. same_Some i j (sym (facing side es distinct i k (sym (names i) ∙ is)) ∙ facing side es distinct j k (sym (names j) ∙ js));
+    alone = λ i j at_i at_j is js. same_Some i j (sym (end-unnamed side es i (held-occurs old.slots es i held at_i) (sym (names i) ∙ is))
+        ∙ end-unnamed side es j (held-occurs old.slots es j held at_j) (sym (names j) ∙ js));
+  }
+
+  module _ (new : Arena (Link T)) (end : Option ℕ) (n : NamesCompressedIndexes side old new end) (place : ℕ → ℕ) (placed : (i : ℕ) → 1 ≤ times i es → compressed_index_in old i ≡ place i) where
+    -- each entry has learnt the place of its neighbour on the other side
+    pub learnt : (k : ℕ) → (beside (opposite side) es k ≡ None → option_map (with_facing side None) (slot old k) ≡ slot old k)
+        → slot new k ≡ option_map (with_facing side (option_map place (beside (opposite side) es k))) (slot old k)
+    learnt k ends = by (beside (opposite side) es k) refl
+      where
+        by : (o : Option ℕ) → beside (opposite side) es k ≡ o → slot new k ≡ option_map (with_facing side (option_map place o)) (slot old k)
+        by None none = n.unmet k (λ i is. none-some i (sym none ∙ facing side es distinct i k (sym (names i) ∙ is))) ∙ sym (ends none)
+        by (Some i) is =
+            let back = facing-back side es distinct k i is in
+            rw (← placed i (beside-occurs side es i k back)) (n.met i k (names i ∙ back))
+
+    pub end-learnt : end ≡ option_map place (end_on side es)
+    end-learnt = by (end_on side es) refl
+      where
+        by : (o : Option ℕ) → end_on side es ≡ o → end ≡ option_map place o
+        by None none = n.no_end (λ i at is. let occurs = held-occurs old.slots es i held at in absurd (omega (arith, end-none side es i none)))
+        by (Some x) is =
+            let occurs = end-occurs side es x is in
+            rw (← placed x occurs) (n.end_is x (held-is old.slots es x held occurs) (names x ∙ unnamed-end side es x (distinct x) is))
 
 -- the index that is made of a number within the limit
 pub index-made : {I : Type 0} (number : I → ℕ) (most n : ℕ) (r : Option I) → (IsSome r ↔ ((0 < n) × (n ≤ most))) → IfSome r (λ i. number i ≡ n) → 0 < n → n ≤ most → option_map number r ≡ Some n

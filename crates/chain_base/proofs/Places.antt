@@ -25,32 +25,26 @@ module _ {T : Type 0} where
 
   -- directly after an entry
   pub IsPlace-after : (es : List (Entry T)) (i : ℕ) (l : Link T) → option_map (λ e. e.1) (link_at es i) ≡ Some l → IsPlace es (λ new. insert_after i new es) (Some i) l.next
-  IsPlace-after es i l linked = from_place (Stands-occurs es i (occurs-linked es i l linked))
-    where
-      from_place : Stands es i → IsPlace es (λ new. insert_after i new es) (Some i) l.next
-      from_place s =
-          let ends = link_at-ends es i l linked s in
-          record {
-            front = s.front ++ s.entry ∷ [];
-            back = s.back;
-            split = s.split ∙ sym (append_assoc s.front (s.entry ∷ []) s.back);
-            prev_is = ap Some (sym s.here) ∙ sym (last_or-append None s.front (s.entry ∷ []));
-            next_is = ends.1;
-            puts = λ new. ap (insert_after i new) s.split ∙ insert_after-split s.front s.entry new s.back i s.here s.unmet ∙ sym (append_assoc s.front (s.entry ∷ []) (new ∷ s.back));
-          }
+  IsPlace-after es i l linked =
+      let s = Stands-occurs es i (occurs-linked es i l linked) in
+      record {
+        front = s.front ++ s.entry ∷ [];
+        back = s.back;
+        split = s.split ∙ sym (append_assoc s.front (s.entry ∷ []) s.back);
+        prev_is = ap Some (sym s.here) ∙ sym (last_or-append None s.front (s.entry ∷ []));
+        next_is = (link_at-ends es i l linked s).1;
+        puts = λ new. ap (insert_after i new) s.split ∙ insert_after-split s.front s.entry new s.back i s.here s.unmet ∙ sym (append_assoc s.front (s.entry ∷ []) (new ∷ s.back));
+      }
 
   -- directly before an entry
   pub IsPlace-before : (es : List (Entry T)) (i : ℕ) (l : Link T) → option_map (λ e. e.1) (link_at es i) ≡ Some l → IsPlace es (λ new. insert_before i new es) l.prev (Some i)
-  IsPlace-before es i l linked = from_place (Stands-occurs es i (occurs-linked es i l linked))
-    where
-      from_place : Stands es i → IsPlace es (λ new. insert_before i new es) l.prev (Some i)
-      from_place s =
-          let ends = link_at-ends es i l linked s in
-          record {
-            front = s.front;
-            back = s.entry ∷ s.back;
-            split = s.split;
-            prev_is = ends.0;
-            next_is = ap Some (sym s.here);
-            puts = λ new. ap (insert_before i new) s.split ∙ insert_before-split s.front s.entry new s.back i s.here s.unmet;
-          }
+  IsPlace-before es i l linked =
+      let s = Stands-occurs es i (occurs-linked es i l linked) in
+      record {
+        front = s.front;
+        back = s.entry ∷ s.back;
+        split = s.split;
+        prev_is = (link_at-ends es i l linked s).0;
+        next_is = ap Some (sym s.here);
+        puts = λ new. ap (insert_before i new) s.split ∙ insert_before-split s.front s.entry new s.back i s.here s.unmet;
+      }

@@ -1,14 +1,22 @@
--- A chain whose entries get other indexes: the links follow.
-use Rattle.std.proofs.Common.{◌≡◌, ℕ, ◌≤◌, List, [], ◌∷◌, ◌++◌, length, map, Option, Some, None, is_some, count_by, get_or, refl, sym, ap, ◌∙◌, subst, arith, inl, inr}
+-- The links of a list: neighbours name each other; and of a list whose entries get other indexes.
+use Rattle.std.proofs.Common.{◌≡◌, ◌≢◌, ℕ, ◌+◌, ◌≤◌, List, [], ◌∷◌, ◌++◌, length, map, Option, Some, None, is_some, get_or, refl, sym, ap, ◌∙◌, subst, arith, inl, inr, true, append_assoc}
 use Rattle.std.proofs.lemmas.Grind.{common_steps}
 use Rattle.std.proofs.lemmas.Bool.Decides.{eqb_tells}
 use Rattle.std.proofs.lemmas.Option.{none-some, same_Some}
-use Rattle.std.proofs.lemmas.List.{map-append, append_assoc, length-map}
 use Rattle.std.specs.Option.{option_map, option_and_then}
 use Rattle.chain_base.specs.Link.{Link}
-use Rattle.chain_base.specs.Chain.{Entry, IsDistinct, times, first_or, last_or, link_at}
+use Rattle.chain_base.specs.Chain.{Entry, IsDistinct, times, first_or, last_or, link_between, link_at}
 use Rattle.chain_base.specs.Layout.{IsLaidOut}
-use Rattle.chain_base.proofs.Lists.{same_index, times-append, times-here, last_or-append, link_between-append, link_between-absent, Stands-occurs}
+use Rattle.chain_base.specs.Naming.{neighbour_on}
+use Rattle.chain_base.specs.declared.chain.compress.Side.{Side}
+use Rattle.chain_base.specs.declared.chain.compress.Side.TheVariants.{Before, After}
+use Rattle.chain_base.proofs.Lists.{same_index, times-append, times-here, times-first, times-last, last_or-append, link_between-append, link_between-absent, Stands-occurs}
+use Rattle.chain_base.proofs.LaidOut.{laid-links}
+
+-- the other side
+abbrev pub opposite : Side → Side
+opposite Before = After
+opposite After = Before
 
 module _ {T : Type 0} where
   -- the link of an entry at its place
@@ -16,12 +24,17 @@ module _ {T : Type 0} where
       → link_at es i ≡ Some (e.generation, record { item = e.item; prev = last_or None xs; next = first_or None ys })
   link_at-split es xs e ys split distinct i here = grind (arith, common_steps, split, distinct, times-append, times-here, here, link_between-append, link_between-absent, same_index)
 
-  -- the neighbours that the links name
-  abbrev pub prev_at : List (Entry T) → ℕ → Option ℕ
-  prev_at es i = option_and_then (λ e. e.1.prev) (link_at es i)
+  -- the neighbour on a side that the link of an entry names, where the list stands behind `before`
+  abbrev beside_in : Side → Option ℕ → List (Entry T) → ℕ → Option ℕ
+  beside_in side before es i = option_and_then (λ e. neighbour_on side e.1) (link_between before None es i)
 
-  abbrev pub next_at : List (Entry T) → ℕ → Option ℕ
-  next_at es i = option_and_then (λ e. e.1.next) (link_at es i)
+  abbrev pub beside : Side → List (Entry T) → ℕ → Option ℕ
+  beside side es i = beside_in side None es i
+
+  -- the entry at the end of a list on a side
+  abbrev pub end_on : Side → List (Entry T) → Option ℕ
+  end_on Before es = first_or None es
+  end_on After es = last_or None es
 
   -- the last entry of a list
   last_or-some : (xs : List (Entry T)) (x : ℕ) → last_or None xs ≡ Some x → (front : List (Entry T)) × (f : Entry T) × (xs ≡ front ++ f ∷ []) × (f.index ≡ x)
@@ -29,114 +42,145 @@ module _ {T : Type 0} where
   last_or-some (e ∷ []) x is = ([], e, refl, same_Some e.index x is)
   last_or-some (e ∷ f ∷ es) x is = let more = last_or-some (f ∷ es) x is in (e ∷ more.0, more.1, ap (λ xs. e ∷ xs) more.2, more.3)
 
-  pub last_or-nothing : (xs : List (Entry T)) (b : ℕ) → last_or (Some b) xs ≡ None → ⊥
-  last_or-nothing [] b is = absurd (none-some b (sym is))
-  last_or-nothing (e ∷ es) b is = last_or-nothing es e.index is
-
-  -- an index with a link stands in the list
-  pub linked-occurs : (es : List (Entry T)) (i : ℕ) (e : ℕ × Link T) → link_at es i ≡ Some e → 1 ≤ times i es
-  linked-occurs es i e is = grind (arith, common_steps, i, link_between-absent)
-
-  pub named-occurs : (es : List (Entry T)) (i k : ℕ) (read : ℕ × Link T → Option ℕ) → option_and_then read (link_at es i) ≡ Some k → 1 ≤ times i es
-  named-occurs es i k read is = grind (arith, common_steps, i, link_between-absent)
+  pub beside-occurs : (side : Side) (es : List (Entry T)) (i k : ℕ) → beside side es i ≡ Some k → 1 ≤ times i es
+  beside-occurs side es i k is = grind (arith, common_steps, i, link_between-absent)
 
   -- neighbours name each other
-  pub next-of_prev : (es : List (Entry T)) → IsDistinct es → (i x : ℕ) → prev_at es i ≡ Some x → next_at es x ≡ Some i
-  next-of_prev es distinct i x is =
-      let s = Stands-occurs es i (named-occurs es i x (λ e. e.1.prev) is) in
+  pub facing : (side : Side) (es : List (Entry T)) → IsDistinct es → (i x : ℕ) → beside side es i ≡ Some x → beside (opposite side) es x ≡ Some i
+  facing Before es distinct i x is =
+      let s = Stands-occurs es i (beside-occurs Before es i x is) in
       let last : last_or None s.front ≡ Some x = sym (ap (option_and_then (λ e. e.1.prev)) (link_at-split es s.front s.entry s.back s.split distinct i s.here)) ∙ is in
       let f = last_or-some s.front x last in
       let split : es ≡ f.0 ++ f.1 ∷ (s.entry ∷ s.back) = s.split ∙ (ap (λ xs. xs ++ s.entry ∷ s.back) f.2 ∙ append_assoc f.0 (f.1 ∷ []) (s.entry ∷ s.back)) in
       ap (option_and_then (λ e. e.1.next)) (link_at-split es f.0 f.1 (s.entry ∷ s.back) split distinct x f.3) ∙ ap Some s.here
-
-  pub prev-of_next : (es : List (Entry T)) → IsDistinct es → (x i : ℕ) → next_at es x ≡ Some i → prev_at es i ≡ Some x
-  prev-of_next es distinct x i is =
-      let s = Stands-occurs es x (named-occurs es x i (λ e. e.1.next) is) in
-      let first : first_or None s.back ≡ Some i = sym (ap (option_and_then (λ e. e.1.next)) (link_at-split es s.front s.entry s.back s.split distinct x s.here)) ∙ is in
+  facing After es distinct i x is =
+      let s = Stands-occurs es i (beside-occurs After es i x is) in
+      let first : first_or None s.back ≡ Some x = sym (ap (option_and_then (λ e. e.1.next)) (link_at-split es s.front s.entry s.back s.split distinct i s.here)) ∙ is in
       behind s.front s.entry s.back s.split s.here first
     where
-      behind : (front : List (Entry T)) (e : Entry T) (back : List (Entry T)) → es ≡ front ++ e ∷ back → e.index ≡ x → first_or None back ≡ Some i → prev_at es i ≡ Some x
-      behind front e [] split here first = absurd (none-some i first)
+      behind : (front : List (Entry T)) (e : Entry T) (back : List (Entry T)) → es ≡ front ++ e ∷ back → e.index ≡ i → first_or None back ≡ Some x → beside Before es x ≡ Some i
+      behind front e [] split here first = absurd (none-some x first)
       behind front e (f ∷ back) split here first =
-          let split2 : es ≡ (front ++ e ∷ []) ++ f ∷ back = split ∙ sym (append_assoc front (e ∷ []) (f ∷ back)) in
-          ap (option_and_then (λ e. e.1.prev)) (link_at-split es (front ++ e ∷ []) f back split2 distinct i (same_Some f.index i first))
+          ap (option_and_then (λ e. e.1.prev)) (link_at-split es (front ++ e ∷ []) f back (split ∙ sym (append_assoc front (e ∷ []) (f ∷ back))) distinct x (same_Some f.index x first))
           ∙ (last_or-append None front (e ∷ []) ∙ ap Some here)
 
-  -- an entry without a neighbour before it is the first, one without a neighbour behind it the last
-  pub first-unnamed : (es : List (Entry T)) → IsDistinct es → (i : ℕ) → 1 ≤ times i es → prev_at es i ≡ None → first_or None es ≡ Some i
-  first-unnamed es distinct i occurs none =
-      let s = Stands-occurs es i occurs in
-      let last : last_or None s.front ≡ None = sym (ap (option_and_then (λ e. e.1.prev)) (link_at-split es s.front s.entry s.back s.split distinct i s.here)) ∙ none in
-      at s.front s.entry s.back s.split s.here last
-    where
-      at : (front : List (Entry T)) (e : Entry T) (back : List (Entry T)) → es ≡ front ++ e ∷ back → e.index ≡ i → last_or None front ≡ None → first_or None es ≡ Some i
-      at [] e back split here last = ap (first_or None) split ∙ ap Some here
-      at (f ∷ front) e back split here last = absurd (last_or-nothing front f.index last)
+  pub facing-back : (side : Side) (es : List (Entry T)) → IsDistinct es → (x i : ℕ) → beside (opposite side) es x ≡ Some i → beside side es i ≡ Some x
+  facing-back Before es distinct x i is = facing After es distinct x i is
+  facing-back After es distinct x i is = facing Before es distinct x i is
 
-  pub last-unnamed : (es : List (Entry T)) → IsDistinct es → (i : ℕ) → 1 ≤ times i es → next_at es i ≡ None → last_or None es ≡ Some i
-  last-unnamed es distinct i occurs none =
-      let s = Stands-occurs es i occurs in
-      let first : first_or None s.back ≡ None = sym (ap (option_and_then (λ e. e.1.next)) (link_at-split es s.front s.entry s.back s.split distinct i s.here)) ∙ none in
-      at s.front s.entry s.back s.split s.here first
-    where
-      at : (front : List (Entry T)) (e : Entry T) (back : List (Entry T)) → es ≡ front ++ e ∷ back → e.index ≡ i → first_or None back ≡ None → last_or None es ≡ Some i
-      at front e [] split here first = ap (last_or None) split ∙ (last_or-append None front (e ∷ []) ∙ ap Some here)
-      at front e (f ∷ back) split here first = absurd (none-some f.index (sym first))
+  -- a neighbour is another entry
+  side-occurs : (side : Side) (front : List (Entry T)) (e : Entry T) (back : List (Entry T)) (k : ℕ)
+      → neighbour_on side (record { item = e.item; prev = last_or None front; next = first_or None back }) ≡ Some k → 1 ≤ times k front + times k back
+  side-occurs Before front e back k is = omega (arith, times-last front k is)
+  side-occurs After front e back k is = omega (arith, times-first back k is)
 
-  pub unnamed-last : (es : List (Entry T)) → IsDistinct es → (i : ℕ) → last_or None es ≡ Some i → next_at es i ≡ None
-  unnamed-last es distinct i last =
-      let f = last_or-some es i last in
-      ap (option_and_then (λ e. e.1.next)) (link_at-split es f.0 f.1 [] f.2 distinct i f.3)
+  pub beside-other : (side : Side) (es : List (Entry T)) → IsDistinct es → (i k : ℕ) → beside side es i ≡ Some k → (i ≢ k) × (1 ≤ times k es)
+  beside-other side es distinct i k is =
+      let s = Stands-occurs es i (beside-occurs side es i k is) in
+      let named = sym (ap (option_and_then (λ e. neighbour_on side e.1)) (link_at-split es s.front s.entry s.back s.split distinct i s.here)) ∙ is in
+      let there = side-occurs side s.front s.entry s.back k named in
+      let count = ap (times k) s.split ∙ times-append k s.front (s.entry ∷ s.back) in
+      (λ same. omega (arith, there, count, distinct k, times-here k s.entry s.back (s.here ∙ same)), omega (arith, there, count))
 
-  -- Each entry becomes another, and its index what `renumber` makes of it.
-  module _ (change : Entry T → Entry T) (renumber : ℕ → ℕ) (follows : (e : Entry T) → (change e).index ≡ renumber e.index) where
-    pub first_or-renumbered : (xs : List (Entry T)) → first_or None (map change xs) ≡ option_map renumber (first_or None xs)
+  -- an entry without a neighbour on a side is the one at that end
+  before-some : (b : ℕ) (es : List (Entry T)) (i : ℕ) → 1 ≤ times i es → beside_in Before (Some b) es i ≡ None → ⊥
+  before-some b [] i occurs none = absurd (omega arith)
+  before-some b (e ∷ es) i occurs none = grind (arith, common_steps, before-some e.index es i)
+
+  after-none : (before : Option ℕ) (es : List (Entry T)) (i : ℕ) → 1 ≤ times i es → beside_in After before es i ≡ None → last_or None es ≡ Some i
+  after-none before [] i occurs none = absurd (omega arith)
+  after-none before (e ∷ []) i occurs none = grind (arith, common_steps)
+  after-none before (e ∷ f ∷ es) i occurs none = grind (arith, common_steps, after-none (Some e.index) (f ∷ es) i)
+
+  pub end-unnamed : (side : Side) (es : List (Entry T)) (i : ℕ) → 1 ≤ times i es → beside side es i ≡ None → end_on side es ≡ Some i
+  end-unnamed Before [] i occurs none = absurd (omega arith)
+  end-unnamed Before (e ∷ es) i occurs none = grind (arith, common_steps, before-some e.index es i)
+  end-unnamed After es i occurs none = after-none None es i occurs none
+
+  last-none : (before : Option ℕ) (es : List (Entry T)) (i : ℕ) → times i es ≤ 1 → last_or None es ≡ Some i → beside_in After before es i ≡ None
+  last-none before [] i once last = refl
+  last-none before (e ∷ []) i once last = grind (arith, common_steps)
+  last-none before (e ∷ f ∷ es) i once last = grind (arith, common_steps, last-none (Some e.index) (f ∷ es) i, times-last (f ∷ es) i last)
+
+  pub unnamed-end : (side : Side) (es : List (Entry T)) (i : ℕ) → times i es ≤ 1 → end_on side es ≡ Some i → beside side es i ≡ None
+  unnamed-end Before [] i once first = refl
+  unnamed-end Before (e ∷ es) i once first = grind (arith, common_steps)
+  unnamed-end After es i once last = last-none None es i once last
+
+  pub end-occurs : (side : Side) (es : List (Entry T)) (i : ℕ) → end_on side es ≡ Some i → 1 ≤ times i es
+  end-occurs Before es i is = times-first es i is
+  end-occurs After es i is = times-last es i is
+
+  last-some : (b : ℕ) (es : List (Entry T)) → last_or (Some b) es ≡ None → ⊥
+  last-some b [] none = cc
+  last-some b (e ∷ es) none = last-some e.index es none
+
+  pub end-none : (side : Side) (es : List (Entry T)) (i : ℕ) → end_on side es ≡ None → times i es ≡ 0
+  end-none side [] i none = refl
+  end-none Before (e ∷ es) i none = absurd cc
+  end-none After (e ∷ es) i none = absurd (last-some e.index es none)
+
+  -- Each entry gets another index, generation and item.
+  module _ (renumber : ℕ → ℕ) (alter : ℕ → ℕ × T → ℕ × T) where
+    abbrev pub altered : Entry T → Entry T
+    altered e = let p = alter e.index (e.generation, e.item) in record { index = renumber e.index; generation = p.0; item = p.1 }
+
+    -- its link then
+    abbrev pub followed : ℕ → ℕ × Link T → ℕ × Link T
+    followed x e = let p = alter x (e.0, e.1.item) in (p.0, record { item = p.1; prev = option_map renumber e.1.prev; next = option_map renumber e.1.next })
+
+    first_or-renumbered : (xs : List (Entry T)) → first_or None (map altered xs) ≡ option_map renumber (first_or None xs)
     first_or-renumbered [] = refl
-    first_or-renumbered (e ∷ es) = ap Some (follows e)
+    first_or-renumbered (e ∷ es) = refl
 
-    pub last_or-renumbered : (b : Option ℕ) (xs : List (Entry T)) → last_or (option_map renumber b) (map change xs) ≡ option_map renumber (last_or b xs)
+    last_or-renumbered : (b : Option ℕ) (xs : List (Entry T)) → last_or (option_map renumber b) (map altered xs) ≡ option_map renumber (last_or b xs)
     last_or-renumbered b [] = refl
-    last_or-renumbered b (e ∷ es) = ap (λ i. last_or (Some i) (map change es)) (follows e) ∙ last_or-renumbered (Some e.index) es
+    last_or-renumbered b (e ∷ es) = last_or-renumbered (Some e.index) es
 
-    -- an index that no other becomes stands as often
-    pub times-renumbered : (es : List (Entry T)) (x : ℕ) → ((y : ℕ) → 1 ≤ times y es → renumber y ≡ renumber x → y ≡ x) → times (renumber x) (map change es) ≡ times x es
+    pub end-renumbered : (side : Side) (xs : List (Entry T)) → end_on side (map altered xs) ≡ option_map renumber (end_on side xs)
+    end-renumbered Before xs = first_or-renumbered xs
+    end-renumbered After xs = last_or-renumbered None xs
+
+    -- an index that no other becomes stands as often, and has the same neighbours
+    pub times-renumbered : (es : List (Entry T)) (x : ℕ) → ((y : ℕ) → 1 ≤ times y es → renumber y ≡ renumber x → y ≡ x) → times (renumber x) (map altered es) ≡ times x es
     times-renumbered [] x apart = refl
     times-renumbered (e ∷ es) x apart = grind (arith, common_steps, times-renumbered es x)
 
+    link_between-renumbered : (before : Option ℕ) (es : List (Entry T)) (x : ℕ) → ((y : ℕ) → 1 ≤ times y es → renumber y ≡ renumber x → y ≡ x)
+        → link_between (option_map renumber before) None (map altered es) (renumber x) ≡ option_map (followed x) (link_between before None es x)
+    link_between-renumbered before [] x apart = refl
+    link_between-renumbered before (e ∷ es) x apart = grind (arith, common_steps, first_or-renumbered es, link_between-renumbered (Some e.index) es x)
+
     -- an index of the new list was another of the old one
-    pub times-source : (es : List (Entry T)) (k : ℕ) → 1 ≤ times k (map change es) → (x : ℕ) × (renumber x ≡ k) × (1 ≤ times x es)
+    pub times-source : (es : List (Entry T)) (k : ℕ) → 1 ≤ times k (map altered es) → (x : ℕ) × (renumber x ≡ k) × (1 ≤ times x es)
     times-source [] k occurs = absurd (omega arith)
     times-source (e ∷ es) k occurs = grind (arith, common_steps, times-source es k)
 
     module _ (es : List (Entry T)) (distinct : IsDistinct es) (apart : (x y : ℕ) → 1 ≤ times x es → 1 ≤ times y es → renumber x ≡ renumber y → x ≡ y) where
-      pub times-changed : (x : ℕ) → 1 ≤ times x es → times (renumber x) (map change es) ≡ times x es
+      pub times-changed : (x : ℕ) → 1 ≤ times x es → times (renumber x) (map altered es) ≡ times x es
       times-changed x occurs = times-renumbered es x (λ y there same. apart y x there occurs same)
 
-      pub distinct-renumbered : IsDistinct (map change es)
-      distinct-renumbered k = grind (arith, common_steps, change, times-source, distinct, times-changed)
+      pub distinct-renumbered : IsDistinct (map altered es)
+      distinct-renumbered k = grind (arith, common_steps, times-source, distinct, times-changed)
+
+      pub link_at-renumbered : (x : ℕ) → 1 ≤ times x es → link_at (map altered es) (renumber x) ≡ option_map (followed x) (link_at es x)
+      link_at-renumbered x occurs = link_between-renumbered None es x (λ y there same. apart y x there occurs same)
 
       -- Slots that hold each changed entry with its neighbours renumbered, and nothing else, hold the changed list.
       pub IsLaidOut-renumbered : (slots : List (Option (ℕ × Link T))) (first last : Option ℕ)
-          → ((xs : List (Entry T)) (e : Entry T) (ys : List (Entry T)) → es ≡ xs ++ e ∷ ys → get_or slots (renumber e.index) None ≡ Some
-          ((change e).generation, record { item = (change e).item; prev = option_map renumber (last_or None xs); next = option_map renumber (first_or None ys) }))
-          → ((k : ℕ) → times k (map change es) ≡ 0 → get_or slots k None ≡ None)
-          → first ≡ option_map renumber (first_or None es) → last ≡ option_map renumber (last_or None es) → count_by is_some slots ≡ length es
-          → IsLaidOut slots first last (map change es)
-      IsLaidOut-renumbered slots first last held vacant first_is last_is counted =
-          record {
-            links = λ k. elim (eqb_tells (times k (map change es)) 0) [
-              | inl h ↦ vacant k h.1 ∙ sym (link_between-absent None None (map change es) k h.1)
-              | inr h ↦ let s = times-source es k (omega (arith, h.1)) in subst (λ i. get_or slots i None ≡ link_at (map change es) i) s.1 (at s.0 s.2)
-            ];
-            distinct = distinct-renumbered;
-            first_is = first_is ∙ sym (first_or-renumbered es);
-            last_is = last_is ∙ sym (last_or-renumbered None es);
-            counted = counted ∙ sym (length-map es change);
-          }
+          → ((x : ℕ) → 1 ≤ times x es → get_or slots (renumber x) None ≡ option_map (followed x) (link_at es x))
+          → ((k : ℕ) → is_some (get_or slots k None) ≡ true → (x : ℕ) × (renumber x ≡ k) × (1 ≤ times x es))
+          → first ≡ option_map renumber (first_or None es) → last ≡ option_map renumber (last_or None es) → IsLaidOut slots first last (map altered es)
+      IsLaidOut-renumbered slots first last held back first_is last_is =
+          laid-links slots first last (map altered es)
+          (λ k. elim (eqb_tells (times k (map altered es)) 0) [
+            | inl h ↦ vacant k (get_or slots k None) refl h.1
+            | inr h ↦
+                let s = times-source es k (omega (arith, h.1)) in
+                subst (λ i. get_or slots i None ≡ link_at (map altered es) i) s.1 (held s.0 s.2 ∙ sym (link_at-renumbered s.0 s.2))
+          ])
+          distinct-renumbered (first_is ∙ sym (end-renumbered Before es)) (last_is ∙ sym (end-renumbered After es))
         where
-          at : (x : ℕ) → 1 ≤ times x es → get_or slots (renumber x) None ≡ link_at (map change es) (renumber x)
-          at x occurs =
-              let s = Stands-occurs es x occurs in
-              let split : map change es ≡ map change s.front ++ change s.entry ∷ map change s.back = ap (map change) s.split ∙ map-append change s.front (s.entry ∷ s.back) in
-              let now = link_at-split (map change es) (map change s.front) (change s.entry) (map change s.back) split distinct-renumbered (renumber x) (follows s.entry ∙ ap renumber s.here) in
-              ap (λ i. get_or slots i None) (ap renumber (sym s.here)) ∙ (held s.front s.entry s.back s.split ∙ sym (now ∙ rw (last_or-renumbered None s.front, first_or-renumbered s.back) refl))
+          vacant : (k : ℕ) (o : Option (ℕ × Link T)) → get_or slots k None ≡ o → times k (map altered es) ≡ 0 → get_or slots k None ≡ link_at (map altered es) k
+          vacant k None is absent = is ∙ sym (link_between-absent None None (map altered es) k absent)
+          vacant k (Some e) is absent = let s = back k (ap is_some is) in absurd (let there = s.2 in let gone = rw (← s.1) at absent in omega (arith, times-changed s.0 s.2))

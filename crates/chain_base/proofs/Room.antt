@@ -27,9 +27,12 @@ module _ {T : Type 0} where
 
   module _ (most : ℕ) (greatest : Option ℕ) (c : Chain T) (sound : IsSound most greatest c) where
     -- the greatest index is within the capacity
-    greatest-within : (es : List (Entry T)) → c.entries ≡ es → greatest_index es ≤ c.capacity
-    greatest-within [] is = omega arith
-    greatest-within (e ∷ es) is = (sound.within (greatest_index (e ∷ es)) (rw is (times-greatest e es))).1
+    pub greatest-within : greatest_index c.entries ≤ c.capacity
+    greatest-within = by c.entries sound.within
+      where
+        by : (es : List (Entry T)) → ((i : ℕ) → 1 ≤ times i es → (0 < i) × (i ≤ c.capacity)) → greatest_index es ≤ c.capacity
+        by [] within = omega arith
+        by (e ∷ es) within = (within (greatest_index (e ∷ es)) (times-greatest e es)).1
 
     -- where no slot is vacant, a capacity above the present one has a vacant index
     module _ (full : c.capacity ≤ length c.entries) (n : ℕ) (more : c.capacity < n) where
@@ -37,4 +40,4 @@ module _ {T : Type 0} where
       next-grown = grind (arith, common_steps, sound.within n, vacant_among-some c.entries 1 (max n (greatest_index c.entries)) n)
 
       pub with_room-full : n ≡ grown_capacity most c → with_capacity c (max n (greatest_index c.entries)) ≡ with_room most c
-      with_room-full is = grind (arith, common_steps, head-absent c.vacant, sound.counted, greatest-within c.entries)
+      with_room-full is = grind (arith, common_steps, head-absent c.vacant, sound.counted, greatest-within)

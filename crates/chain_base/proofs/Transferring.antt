@@ -2,7 +2,7 @@
 use Rattle.std.proofs.Common.{◌≡◌, ℕ, zero, suc, ◌+◌, ◌-◌, ◌<◌, ◌≤◌, max, List, [], ◌∷◌, ◌++◌, map, length, length-append, append_assoc, Option}
 use Rattle.std.proofs.Common.{Some, None, OnSome, OnOk, IsOk, IsErr, Result, Ok, Err, is_some, true, slice_get, refl, sym, ap, ◌∙◌, arith, inl, inr}
 use Rattle.std.proofs.lemmas.Grind.{common_steps}
-use Rattle.std.proofs.lemmas.Bool.Decides.{eqb_tells}
+use Rattle.std.proofs.lemmas.Bool.Decides.{eqb_tells, nat_tests}
 use Rattle.std.specs.List.{FoldsTo}
 use Rattle.std.proofs.lemmas.Fn.{FoldsTo-push}
 use Rattle.std.proofs.lemmas.List.{append-nil, length-map, map_push}
@@ -16,8 +16,8 @@ use Rattle.chain_base.specs.Chain.{Entry, Chain, times, entry_at, first_pointer,
 use Rattle.chain_base.specs.Insert.{placed, CanPlace}
 use Rattle.chain_base.specs.Compression.{numbered, refilled, Transferring, TransferStep, IsTransfer}
 use Rattle.chain_base.specs.Transfer.{filled_with, last_of, place_behind, TakesOut, HasTaken}
-use Rattle.chain_base.proofs.Vacancy.{times-greatest}
-use Rattle.chain_base.proofs.Canonical.{numbered-push}
+use Rattle.chain_base.proofs.Room.{greatest-within}
+use Rattle.chain_base.proofs.Canonical.{numbered-push, times-numbered}
 
 -- what is there is said
 pub on_taken : {X Y : Type 0} (f : X → Y) (y : Y) (o : Option X) (A : Type 0) → option_map f o ≡ Some y → OnSome o A → A
@@ -26,16 +26,9 @@ on_taken f y (Some x) A is some = some
 
 module _ {T : Type 0} where
   -- a capacity that is raised
-  greatest-within : (most : ℕ) (greatest : Option ℕ) (c : Chain T) → IsSound most greatest c → greatest_index c.entries ≤ c.capacity
-  greatest-within most greatest c sound = go c.entries (λ i some. (sound.within i some).1)
-    where
-      go : (es : List (Entry T)) → ((i : ℕ) → 1 ≤ times i es → i ≤ c.capacity) → greatest_index es ≤ c.capacity
-      go [] within = omega arith
-      go (e ∷ es) within = within (greatest_index (e ∷ es)) (times-greatest e es)
-
   pub capacity-raised : {X E : Type 0} (most : ℕ) (greatest : Option ℕ) (c new : Chain T) (n : ℕ) (r : Result X E) → IsSound most greatest c → c.capacity < n
       → OnOk r (new ≡ with_capacity c (max n (greatest_index c.entries))) → OnOk r (new.capacity ≡ max c.capacity n)
-  capacity-raised most greatest c new n (Ok x) sound less is = grind (arith, common_steps, greatest-within most greatest)
+  capacity-raised most greatest c new n (Ok x) sound less is = grind (arith, common_steps, greatest-within most greatest c sound)
   capacity-raised most greatest c new n (Err e) sound less is = tt
 
   -- the item in a link, under a generation or its number
@@ -99,18 +92,6 @@ module _ {T : Type 0} where
     placed-behind (Some i) g (x ∷ xs) new is = grind (arith, common_steps, number i, i, insert_after-last g 1 x xs new)
 
   -- the vacant indexes beside them
-  times-before : (g from : ℕ) (xs : List T) (j : ℕ) → j < from → times j (numbered g from xs) ≡ 0
-  times-before g from [] j less = refl
-  times-before g from (x ∷ xs) j less = grind (arith, common_steps, times-before g (from + 1) xs j)
-
-  times-among : (g from : ℕ) (xs : List T) (j : ℕ) → from ≤ j → j < from + length xs → times j (numbered g from xs) ≡ 1
-  times-among g from [] j more less = absurd (omega (arith, more, less))
-  times-among g from (x ∷ xs) j more less = grind (arith, common_steps, times-among g (from + 1) xs j, times-before g (from + 1) xs j, more)
-
-  times-behind : (g from : ℕ) (xs : List T) (j : ℕ) → from + length xs ≤ j → times j (numbered g from xs) ≡ 0
-  times-behind g from [] j more = refl
-  times-behind g from (x ∷ xs) j more = grind (arith, common_steps, times-behind g (from + 1) xs j)
-
   vacant-all : (es : List (Entry T)) (from count : ℕ) → ((j : ℕ) → from ≤ j → times j es ≡ 0) → vacant_among es from count ≡ vacant_among {T = T} [] from count
   vacant-all es from zero none = refl
   vacant-all es from (suc count) none = rw (none from (omega arith)) (ap (λ is. from ∷ is) (vacant-all es (from + 1) count (λ j more. none j (omega (arith, more)))))
@@ -124,7 +105,9 @@ module _ {T : Type 0} where
       ∙ rw (all from (omega arith) (omega arith)) (vacant-none es (from + 1) n m (λ j more less. all j (omega (arith, more)) (omega (arith, less))) ∙ ap (λ i. vacant_among es i m) later)
 
   vacant-numbered : (g : ℕ) (xs : List T) (m : ℕ) → vacant_among (numbered g 1 xs) 1 (length xs + m) ≡ vacant_among {T = T} [] (1 + length xs) m
-  vacant-numbered g xs m = grind (arith, common_steps, vacant-none, times-among, vacant-all, times-behind)
+  vacant-numbered g xs m =
+      vacant-none (numbered g 1 xs) 1 (length xs) m (λ j more less. let is = times-numbered g 1 xs j in grind (arith, nat_tests))
+      ∙ vacant-all (numbered g 1 xs) (1 + length xs) m (λ j more. let is = times-numbered g 1 xs j in grind (arith, nat_tests))
 
   pub vacant-next : (c : Chain T) (items : List T) (x : T) → length items < c.capacity → (filled_with c items).vacant ≡ (1 + length items) ∷ (filled_with c (items ++ x ∷ [])).vacant
   vacant-next c items x less =

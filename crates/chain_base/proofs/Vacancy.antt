@@ -1,63 +1,60 @@
 -- The vacant indexes and the greatest occupied one: what an arena's slots say, said of the chain's list.
 use Rattle.std.proofs.Common.{◌≡◌, ℕ, zero, suc, ◌+◌, ◌-◌, ◌<◌, ◌≤◌, ◌==◌, Bool, true, false, List, [], ◌∷◌, length, drop, replicate}
-use Rattle.std.proofs.Common.{Option, Some, None, is_some, count_by, cond, max, refl, sym, ap, ◌∙◌, arith, inl, inr, ◌⊎◌, get_or, add-one, add-zero}
-use Rattle.std.proofs.lemmas.Grind.{common_steps}
-use Rattle.std.proofs.lemmas.List.{length-replicate, length-drop}
-use Rattle.std.proofs.lemmas.Grind.{get_or_after_one}
-use Rattle.std.proofs.lemmas.List.Sums.{sum_by-cons}
-use Rattle.std.proofs.lemmas.Bool.Decides.{eqb_tells}
+use Rattle.std.proofs.Common.{Option, Some, None, is_some, cond, max, refl, sym, ap, ◌∙◌, arith, inl, inr, ◌⊎◌, get_or, add-one, add-zero}
+use Rattle.std.proofs.lemmas.Grind.{common_steps, get_or_after_one}
+use Rattle.std.proofs.lemmas.List.{length-replicate, length-drop, get_or_past}
+use Rattle.std.proofs.lemmas.Bool.{false≢true}
 use Rattle.std.specs.List.{list_any}
 use Rattle.arena_base.specs.Arena.{vacant_from, vacant_indexes as slots_vacant, greatest_occupied, resized}
+use Rattle.chain_base.specs.Chain.{Entry, times, IsDistinct, link_at, vacant_among, vacant_indexes, greatest_index}
 use Rattle.chain_base.specs.Link.{Link}
-use Rattle.chain_base.specs.Chain.{Entry, times, link_at, vacant_among, vacant_indexes, greatest_index}
 use Rattle.chain_base.proofs.Lists.{times-here, times-unlinked, link_between-absent}
 
 module _ {X : Type 0} where
+  -- what is there is something
+  pub held-some : (o : Option X) → is_some o ≡ true → (x : X) × (o ≡ Some x)
+  held-some None held = absurd (false≢true held)
+  held-some (Some x) held = (x, refl)
+
   -- slots that are vacant one and all
   pub get_or-vacant : (n i : ℕ) → let none : Option X = None in get_or (replicate n none) i none ≡ none
   get_or-vacant zero i = refl
   get_or-vacant (suc n) zero = refl
   get_or-vacant (suc n) (suc i) = get_or-vacant n i
 
-  pub count-vacant : (xs : List (Option X)) → ((i : ℕ) → get_or xs i None ≡ None) → count_by is_some xs ≡ 0
-  count-vacant [] vacant = refl
-  count-vacant (None ∷ xs) vacant = omega (arith, sum_by-cons (λ o. cond (is_some o) 1 0) None xs, count-vacant xs (λ i. vacant (suc i)))
-  count-vacant (Some x ∷ xs) vacant = absurd (let held = vacant 0 in cc)
-
   -- an entry is at most at the greatest occupied index
   any-held : (xs : List (Option X)) (i : ℕ) (e : X) → get_or xs i None ≡ Some e → list_any is_some xs ≡ true
   any-held [] i e held = absurd (cc)
   any-held (None ∷ xs) zero e held = absurd (cc)
-  any-held (Some x ∷ xs) zero e held = refl
   any-held (None ∷ xs) (suc i) e held = any-held xs i e held
-  any-held (Some x ∷ xs) (suc i) e held = refl
+  any-held (Some x ∷ xs) i e held = refl
 
   pub below-greatest : (xs : List (Option X)) (i : ℕ) (e : X) → get_or xs i None ≡ Some e → i ≤ greatest_occupied xs
   below-greatest xs zero e held = omega arith
   below-greatest [] (suc i) e held = absurd (cc)
   below-greatest (x ∷ xs) (suc i) e held = rw (any-held xs i e held) (omega (arith, below-greatest xs i e held))
 
-  -- the greatest occupied index has an entry, where one is occupied
-  greatest-held_step : (x : Option X) (xs : List (Option X)) (b : Bool) → list_any is_some xs ≡ b
-      → (b ≡ true → is_some (get_or xs (greatest_occupied xs) None) ≡ true) → list_any is_some (x ∷ xs) ≡ true
-      → is_some (get_or (x ∷ xs) (greatest_occupied (x ∷ xs)) None) ≡ true
-  greatest-held_step x xs true is behind some = rw (is, add-one) (behind refl)
-  greatest-held_step None xs false is behind some = absurd (let bad : list_any is_some xs ≡ true = some in cc)
-  greatest-held_step (Some y) xs false is behind some = rw is refl
-
-  pub greatest-held : (xs : List (Option X)) → list_any is_some xs ≡ true → is_some (get_or xs (greatest_occupied xs) None) ≡ true
-  greatest-held [] some = absurd (cc)
-  greatest-held (x ∷ xs) some = greatest-held_step x xs (list_any is_some xs) refl (λ behind. greatest-held xs behind) some
+  pub past-greatest : (xs : List (Option X)) (k : ℕ) → greatest_occupied xs < k → get_or xs k None ≡ None
+  past-greatest xs k far = grind (arith, common_steps, below-greatest xs k)
 
   -- the greatest occupied index has an entry, or is 0
-  greatest-or_step : (x : Option X) (xs : List (Option X)) (b : Bool) → list_any is_some xs ≡ b
-      → (greatest_occupied (x ∷ xs) ≡ 0) ⊎ (is_some (get_or (x ∷ xs) (greatest_occupied (x ∷ xs)) None) ≡ true)
-  greatest-or_step x xs true is = inr (rw (is, add-one) (greatest-held xs is))
-  greatest-or_step x xs false is = inl (rw is refl)
+  greatest-held : (xs : List (Option X)) → list_any is_some xs ≡ true → is_some (get_or xs (greatest_occupied xs) None) ≡ true
+  greatest-held [] some = absurd (cc)
+  greatest-held (None ∷ xs) some = let any : list_any is_some xs ≡ true = some in rw (any, add-one) (greatest-held xs some)
+  greatest-held (Some x ∷ xs) some = by (list_any is_some xs) refl (λ any. greatest-held xs any)
+    where
+      by : (b : Bool) → list_any is_some xs ≡ b → (list_any is_some xs ≡ true → is_some (get_or xs (greatest_occupied xs) None) ≡ true)
+          → is_some (get_or (Some x ∷ xs) (greatest_occupied (Some x ∷ xs)) None) ≡ true
+      by true is behind = rw (is, add-one) (behind is)
+      by false is behind = rw is refl
 
   pub greatest-or_none : (xs : List (Option X)) → (greatest_occupied xs ≡ 0) ⊎ (is_some (get_or xs (greatest_occupied xs) None) ≡ true)
   greatest-or_none [] = inl refl
-  greatest-or_none (x ∷ xs) = greatest-or_step x xs (list_any is_some xs) refl
+  greatest-or_none (x ∷ xs) = by (list_any is_some xs) refl
+    where
+      by : (b : Bool) → list_any is_some xs ≡ b → (greatest_occupied (x ∷ xs) ≡ 0) ⊎ (is_some (get_or (x ∷ xs) (greatest_occupied (x ∷ xs)) None) ≡ true)
+      by true is = inr (rw (is, add-one) (greatest-held xs is))
+      by false is = inl (rw is refl)
 
   resized-cons : (n : ℕ) (x : Option X) (xs : List (Option X)) → resized (suc n) (x ∷ xs) ≡ x ∷ resized n xs
   resized-cons n x xs = let same : suc n - suc (length xs) ≡ n - length xs = omega arith in rw same refl
@@ -72,47 +69,55 @@ module _ {X : Type 0} where
   get_or-resized (suc n) (x ∷ xs) zero rest = refl
   get_or-resized (suc n) (x ∷ xs) (suc i) rest = rw (resized-cons n x xs) (get_or-resized n xs i (λ k far. rest (suc k) (omega arith)))
 
-  pub count-resized : (n : ℕ) (xs : List (Option X)) → ((k : ℕ) → n ≤ k → get_or xs k None ≡ None) → count_by is_some (resized n xs) ≡ count_by is_some xs
-  count-resized zero xs rest = rw (resized-none xs) (sym (count-vacant xs (λ k. rest k (omega arith))))
-  count-resized (suc n) [] rest = count-vacant (replicate (suc n - 0) None) (get_or-vacant (suc n - 0))
-  count-resized (suc n) (x ∷ xs) rest =
-      rw (resized-cons n x xs) (sum_by-cons (λ o. cond (is_some o) 1 0) x (resized n xs)
-      ∙ ap (λ m. cond (is_some x) 1 0 + m) (count-resized n xs (λ k far. rest (suc k) (omega arith)))
-      ∙ sym (sum_by-cons (λ o. cond (is_some o) 1 0) x xs))
-
   pub length-resized : (n : ℕ) (xs : List (Option X)) → length (resized n xs) ≡ n
   length-resized zero xs = rw (resized-none xs) refl
   length-resized (suc n) [] = length-replicate (suc n - 0) None ∙ omega arith
   length-resized (suc n) (x ∷ xs) = ap length (resized-cons n x xs) ∙ ap suc (length-resized n xs)
 
+module _ {X T : Type 0} where
+  -- an index of the list is one whose slot holds something
+  abbrev pub HoldIndexes : List (Option X) → List (Entry T) → Type 0
+  HoldIndexes slots es = (i : ℕ) → times i es ≡ cond (is_some (get_or slots i None)) 1 0
+
+  pub held-within : (slots : List (Option X)) (es : List (Entry T)) (i : ℕ) → HoldIndexes slots es → 1 ≤ times i es → i < length slots
+  held-within slots es i held occurs = grind (arith, common_steps, get_or_past, held i)
+
+  pub held-is : (slots : List (Option X)) (es : List (Entry T)) (i : ℕ) → HoldIndexes slots es → 1 ≤ times i es → is_some (get_or slots i None) ≡ true
+  held-is slots es i held occurs = grind (arith, common_steps, held i)
+
+  pub held-occurs : (slots : List (Option X)) (es : List (Entry T)) (i : ℕ) → HoldIndexes slots es → is_some (get_or slots i None) ≡ true → 1 ≤ times i es
+  held-occurs slots es i held there = grind (arith, common_steps, held i)
+
+  -- the vacant indexes
+  vacant_from-held : (xs : List (Option X)) (es : List (Entry T)) (from : ℕ)
+      → ((k : ℕ) → k < length xs → times (from + k) es ≡ cond (is_some (get_or xs k None)) 1 0) → vacant_from from xs ≡ vacant_among es from (length xs)
+  vacant_from-held [] es from held = refl
+  vacant_from-held (x ∷ xs) es from held =
+      by x (let here : times (from + 0) es ≡ cond (is_some x) 1 0 = held 0 (omega arith) in rw add-zero at here)
+      (vacant_from-held xs es (from + 1) (λ k within. let same : from + suc k ≡ from + 1 + k = omega arith in rw same at (held (suc k) (omega arith))))
+    where
+      by : (o : Option X) → times from es ≡ cond (is_some o) 1 0 → vacant_from (from + 1) xs ≡ vacant_among es (from + 1) (length xs)
+          → vacant_from from (o ∷ xs) ≡ vacant_among es from (suc (length xs))
+      by None here more = rw here (ap (λ is. from ∷ is) more)
+      by (Some e) here more = rw here more
+
+  pub vacant-held : (slots : List (Option X)) (es : List (Entry T)) → HoldIndexes slots es → slots_vacant slots ≡ vacant_indexes es (length slots - 1)
+  vacant-held slots es held = grind (arith, common_steps, vacant_from-held (drop 1 slots) es 1, get_or_after_one slots, length-drop 1 slots)
+
 module _ {T : Type 0} where
-  -- a link at one index further on
-  links-behind : (xs : List (Option (ℕ × Link T))) (x : Option (ℕ × Link T)) (es : List (Entry T)) (from : ℕ)
-      → ((k : ℕ) → k < length (x ∷ xs) → get_or (x ∷ xs) k None ≡ link_at es (from + k)) → (k : ℕ) → k < length xs
-      → get_or xs k None ≡ link_at es (from + 1 + k)
-  links-behind xs x es from links k within =
-      let same : from + suc k ≡ from + 1 + k = omega arith in
-      links (suc k) (omega arith) ∙ ap (link_at es) same
+  -- an index of a list has a link
+  pub held-link : (es : List (Entry T)) (i : ℕ) → 1 ≤ times i es → (e : ℕ × Link T) × (link_at es i ≡ Some e)
+  held-link es i occurs = by (link_at es i) refl
+    where
+      by : (o : Option (ℕ × Link T)) → link_at es i ≡ o → (e : ℕ × Link T) × (link_at es i ≡ Some e)
+      by None is = absurd (omega (arith, times-unlinked None None es i is))
+      by (Some e) is = (e, is)
 
-  -- the vacant indexes of slots that hold the links of a list
-  pub vacant_from-links : (xs : List (Option (ℕ × Link T))) (es : List (Entry T)) (from : ℕ)
-      → ((k : ℕ) → k < length xs → get_or xs k None ≡ link_at es (from + k)) → vacant_from from xs ≡ vacant_among es from (length xs)
-  vacant_from-links [] es from links = refl
-  vacant_from-links (None ∷ xs) es from links =
-      let here : None ≡ link_at es from = links 0 (omega arith) ∙ ap (link_at es) (add-zero from) in
-      let absent = times-unlinked None None es from (sym here) in
-      rw absent (ap (λ is. from ∷ is) (vacant_from-links xs es (from + 1) (links-behind xs None es from links)))
-  vacant_from-links (Some e ∷ xs) es from links =
-      let here : Some e ≡ link_at es from = links 0 (omega arith) ∙ ap (link_at es) (add-zero from) in
-      let occurs : (times from es == 0) ≡ false = elim (eqb_tells (times from es) 0) [
-        | inl h ↦ absurd (let none = link_between-absent None None es from h.1 in cc)
-        | inr h ↦ h.0
-      ] in
-      rw occurs (vacant_from-links xs es (from + 1) (links-behind xs (Some e) es from links))
+  pub times-link : (es : List (Entry T)) → IsDistinct es → (i : ℕ) → times i es ≡ cond (is_some (link_at es i)) 1 0
+  times-link es distinct i = grind (arith, common_steps, distinct i, times-unlinked None None es i, link_between-absent None None es i)
 
-  -- the vacant indexes of an arena whose slots hold the links of a list
-  pub vacant-links : (slots : List (Option (ℕ × Link T))) (es : List (Entry T)) → ((i : ℕ) → get_or slots i None ≡ link_at es i) → slots_vacant slots ≡ vacant_indexes es (length slots - 1)
-  vacant-links slots es links = grind (arith, common_steps, vacant_from-links (drop 1 slots) es 1, get_or_after_one slots, length-drop 1 slots)
+  pub held-links : (slots : List (Option (ℕ × Link T))) (es : List (Entry T)) → IsDistinct es → ((i : ℕ) → get_or slots i None ≡ link_at es i) → HoldIndexes slots es
+  held-links slots es distinct links i = times-link es distinct i ∙ ap (λ o. cond (is_some o) 1 0) (sym (links i))
 
   -- the greatest index of a list occurs in it
   pub times-greatest : (e : Entry T) (es : List (Entry T)) → 1 ≤ times (greatest_index (e ∷ es)) (e ∷ es)
@@ -124,20 +129,10 @@ module _ {T : Type 0} where
   below-greatest_index [] i occurs = absurd (omega arith)
   below-greatest_index (e ∷ es) i occurs = grind (arith, common_steps, below-greatest_index es i)
 
-  -- an index whose slot holds a link occurs in the list
-  occurs-links : (slots : List (Option (ℕ × Link T))) (es : List (Entry T)) → ((i : ℕ) → get_or slots i None ≡ link_at es i) → (i : ℕ) → is_some (get_or slots i None) ≡ true → 1 ≤ times i es
-  occurs-links slots es links i held = grind (arith, common_steps, eqb_tells, link_between-absent)
+  greatest-within : {X : Type 0} (slots : List (Option X)) (es : List (Entry T)) → HoldIndexes slots es → greatest_index es ≤ greatest_occupied slots
+  greatest-within slots [] held = omega arith
+  greatest-within slots (e ∷ es) held = grind (arith, common_steps, held-is slots (e ∷ es) (greatest_index (e ∷ es)) held, times-greatest e es, below-greatest slots (greatest_index (e ∷ es)))
 
-  -- an index that occurs in the list has a slot that holds a link
-  held-links : (slots : List (Option (ℕ × Link T))) (es : List (Entry T)) → ((i : ℕ) → get_or slots i None ≡ link_at es i)
-      → (i : ℕ) (o : Option (ℕ × Link T)) → get_or slots i None ≡ o → 1 ≤ times i es → i ≤ greatest_occupied slots
-  held-links slots es links i None held occurs = absurd (omega (arith, times-unlinked None None es i (sym (links i) ∙ held)))
-  held-links slots es links i (Some e) held occurs = below-greatest slots i e held
-
-  greatest-below : (slots : List (Option (ℕ × Link T))) (es : List (Entry T)) → ((i : ℕ) → get_or slots i None ≡ link_at es i) → greatest_index es ≤ greatest_occupied slots
-  greatest-below slots [] links = omega arith
-  greatest-below slots (e ∷ es) links = held-links slots (e ∷ es) links (greatest_index (e ∷ es)) _ refl (times-greatest e es)
-
-  -- the greatest occupied index of an arena whose slots hold the links of a list
-  pub greatest-links : (slots : List (Option (ℕ × Link T))) (es : List (Entry T)) → ((i : ℕ) → get_or slots i None ≡ link_at es i) → greatest_occupied slots ≡ greatest_index es
-  greatest-links slots es links = grind (arith, common_steps, greatest-below slots es links, greatest-or_none slots, occurs-links slots es links (greatest_occupied slots), below-greatest_index es (greatest_occupied slots))
+  -- the greatest occupied index is that of the list
+  pub greatest-links : {X : Type 0} (slots : List (Option X)) (es : List (Entry T)) → HoldIndexes slots es → greatest_occupied slots ≡ greatest_index es
+  greatest-links slots es held = grind (arith, common_steps, greatest-within slots es held, greatest-or_none slots, held-occurs slots es (greatest_occupied slots) held, below-greatest_index es (greatest_occupied slots))

@@ -2,11 +2,8 @@
 mod clones;
 mod rebuild;
 
-use arena_base::{
-    Advancer, InsertionError, InvalidationOption, InvalidationResult, ItemsMut,
-    MaxCapacityReductionError, P0, P8, PN, Ptr, ReallocationError,
-};
-use chain_base::{ChainArena, ChainPtrAdvancer, LinkInsertKind, LinkNoGen};
+use arena_base::{Advancer, InsertionError, ItemsMut, P0, P8, Ptr};
+use chain_base::{ChainArena, LinkInsertKind};
 use linked_list_allocator::LocalHeap;
 use std::alloc::{AllocError, Allocator, Global};
 use std::process::Abort;
@@ -99,31 +96,13 @@ fn neighbours_are(
 }
 
 /// Length, capacity and generation of a chain.
-fn counts_are<P: Ptr, T>(
-    rt: &impl Abort,
-    chain: &ChainArena<P, T>,
-    wanted: (usize, usize, P::Gen),
-) {
+fn counts_are(rt: &impl Abort, chain: &Letters, wanted: (usize, usize, u64)) {
     assert!(rt; (chain.len(), chain.capacity(), chain.generation()) == wanted);
 }
 
 /// The next new entry gets this pointer.
 fn next_is(rt: &impl Abort, chain: &Letters, wanted: (u32, u64)) {
     assert_eq!(rt; numbers(chain.arena().next_insertion_ptr()), Some(wanted));
-}
-
-/// The first and the last pointer of the list.
-fn ends_are(rt: &impl Abort, chain: &Letters, first: Option<(u32, u64)>, last: Option<(u32, u64)>) {
-    assert_eq!(rt;
-        (numbers(chain.first()), numbers(chain.last())),
-        (first, last)
-    );
-}
-
-/// The first and the last pointer by index.
-fn inx_ends_are(rt: &impl Abort, chain: &Letters, first: (u32, u64), last: (u32, u64)) {
-    assert_eq!(rt; numbers(chain.find_first_inx_ptr()), Some(first));
-    assert_eq!(rt; numbers(chain.find_last_inx_ptr()), Some(last));
 }
 
 /// Inserts the letters a, b after it and c between them, each of which has to get its pointer.
@@ -158,54 +137,6 @@ fn links_before_and_after(rt: HostRuntime) -> Result<(), Fail> {
     Ok(())
 }
 
-/// The letters f, m, l at the indexes 2, 1, 3.
-fn f_m_l(rt: &impl Abort, alloc: Global) -> Result<Letters, InsertionError> {
-    let mut chain = Letters::new(alloc);
-    begin(rt, &mut chain, 'm')?;
-    before(rt, &mut chain, 1, 'f')?;
-    after(rt, &mut chain, 1, 'l')?;
-    Ok(chain)
-}
-
-/// Removes the entry at an index, if there is one. Tells whether there was.
-fn is_removed(chain: &mut Letters, i: u32) -> bool {
-    chain.remove_inx_link_no_gen(i).allow().is_some()
-}
-
-/// A chain that has lost its last entry begins again at the index 1, with generation 5.
-fn begins_again(rt: &impl Abort, chain: &mut Letters) -> Result<(), InsertionError> {
-    assert!(rt; chain.is_empty());
-    ends_are(rt, chain, None, None);
-    begin(rt, chain, 'n')?;
-    ends_are(rt, chain, Some((1, 5)), Some((1, 5)));
-    Ok(())
-}
-
-#[test]
-fn inserts_at_the_ends(rt: HostRuntime) -> Result<(), Fail> {
-    let chain = f_m_l(&rt, rt.alloc())?;
-    text_is(&rt, rt.alloc(), &chain, "fml")?;
-    ends_are(&rt, &chain, Some((2, 2)), Some((3, 2)));
-    inx_ends_are(&rt, &chain, (1, 2), (3, 2));
-    Ok(())
-}
-
-#[test]
-fn removes_at_the_ends(rt: HostRuntime) -> Result<(), Fail> {
-    let mut chain = f_m_l(&rt, rt.alloc())?;
-    assert!(rt; is_removed(&mut chain, 2));
-    text_is(&rt, rt.alloc(), &chain, "ml")?;
-    ends_are(&rt, &chain, Some((1, 2)), Some((3, 2)));
-    neighbours_are(&rt, &chain, 1, Some((None, Some(3))));
-    assert!(rt; is_removed(&mut chain, 3));
-    text_is(&rt, rt.alloc(), &chain, "m")?;
-    ends_are(&rt, &chain, Some((1, 2)), Some((1, 2)));
-    neighbours_are(&rt, &chain, 1, Some((None, None)));
-    assert!(rt; is_removed(&mut chain, 1) && !is_removed(&mut chain, 1));
-    begins_again(&rt, &mut chain)?;
-    Ok(())
-}
-
 /// The letters a and b at the indexes 1 and 2, in a chain of capacity 3.
 fn a_b(rt: &impl Abort, alloc: Global) -> Result<Letters, Fail> {
     let mut chain = Letters::with_min_capacity(alloc, 3)?;
@@ -214,282 +145,12 @@ fn a_b(rt: &impl Abort, alloc: Global) -> Result<Letters, Fail> {
     Ok(chain)
 }
 
-/// The entry at the index 1 gets another pointer, and the old one names nothing.
-fn renews_the_first(rt: &impl Abort, chain: &mut Letters) {
-    let (old, new) = (P0::_from_raw(1, 2), P0::_from_raw(1, 3));
-    assert!(rt; chain.invalidate(old) == InvalidationResult::Success(new));
-    assert!(rt; !chain.contains(old));
-    assert!(rt; chain.invalidate(old) == InvalidationResult::InvalidPtr);
-}
-
 #[test]
-fn renews_pointers(rt: HostRuntime) -> Result<(), Fail> {
+fn memory_is_there_for_a_capacity(rt: HostRuntime) -> Result<(), Fail> {
     let mut chain = a_b(&rt, rt.alloc())?;
-    renews_the_first(&rt, &mut chain);
-    text_is(&rt, rt.alloc(), &chain, "ab")
-}
-
-/// Writes a letter at an index.
-fn write_at(chain: &mut Letters, i: u32, letter: char) -> Result<(), &'static str> {
-    let (_, place) = chain.get_inx_mut(i).ok_or("an entry")?;
-    *place = letter;
+    assert_eq!(rt; chain.reallocate_min_capacity(9), Ok(()));
+    counts_are(&rt, &chain, (2, 9, 2));
     Ok(())
-}
-
-/// Writes a letter through the one way that all containers have.
-fn write_item(chain: &mut Letters, i: u32, letter: char) {
-    if let Some(place) = chain.item_at_mut(i) {
-        *place = letter;
-    }
-}
-
-/// No place to write to is given for an index.
-fn gives_no_place(rt: &impl Abort, chain: &mut Letters, i: u32) {
-    assert!(rt; chain.get_inx_mut(i).is_none());
-}
-
-#[test]
-fn writes_letters(rt: HostRuntime) -> Result<(), Fail> {
-    let mut chain = a_b(&rt, rt.alloc())?;
-    write_at(&mut chain, 2, 'x')?;
-    write_item(&mut chain, 1, 'y');
-    gives_no_place(&rt, &mut chain, 3);
-    text_is(&rt, rt.alloc(), &chain, "yx")?;
-    assert_eq!(rt; chain.get_inx(2), Some((2, &'x')));
-    Ok(())
-}
-
-/// The greatest capacity can be set to this, or can't, and is this then.
-fn limits(
-    rt: &impl Abort,
-    chain: &mut Letters,
-    n: usize,
-    outcome: Result<(), MaxCapacityReductionError>,
-    maximum: Option<usize>,
-) {
-    assert_eq!(rt; chain.set_max_capacity(n), outcome);
-    assert_eq!(rt; chain.max_capacity(), maximum);
-}
-
-/// A reallocation for so many ends so.
-fn reallocates(
-    rt: &impl Abort,
-    chain: &mut Letters,
-    n: usize,
-    outcome: Result<(), ReallocationError>,
-) {
-    assert_eq!(rt; chain.reallocate_min_capacity(n), outcome);
-}
-
-#[test]
-fn the_capacity_is_changed(rt: HostRuntime) -> Result<(), Fail> {
-    let mut chain = a_b(&rt, rt.alloc())?;
-    limits(&rt, &mut chain, 2, Err(MaxCapacityReductionError), None);
-    limits(&rt, &mut chain, 3, Ok(()), Some(3));
-    let beyond = Err(ReallocationError::BeyondMaxCapacity);
-    reallocates(&rt, &mut chain, 4, beyond);
-    reallocates(&rt, &mut chain, 0, Ok(()));
-    counts_are(&rt, &chain, (2, 2, 2));
-    Ok(())
-}
-
-#[test]
-fn clears_and_sets_the_generation(rt: HostRuntime) -> Result<(), Fail> {
-    let mut chain = a_b(&rt, rt.alloc())?;
-    chain.set_generation(9);
-    assert!(rt; chain.inc_generation() == InvalidationOption::Success(()));
-    assert_eq!(rt; chain.generation(), 10);
-    assert!(rt; chain.clear() == InvalidationOption::Success(()));
-    counts_are(&rt, &chain, (0, 3, 11));
-    ends_are(&rt, &chain, None, None);
-    Ok(())
-}
-
-/// What stands at an index: generation, letter and neighbours.
-type Standing = Option<(u64, char, Option<u32>, Option<u32>)>;
-
-/// All that can be seen of a chain: its numbers, its ends, the pointer that comes next, and what stands at each index.
-#[derive(Debug, PartialEq, Drop)]
-struct Seen {
-    capacity: usize,
-    maximum: Option<usize>,
-    generation: u64,
-    ends: (Option<P0>, Option<P0>),
-    next: Option<P0>,
-    at: Vec<Standing>,
-}
-
-fn look_at(alloc: Global, chain: &Letters) -> Result<Seen, AllocError> {
-    let mut at = Vec::new(alloc);
-    for i in 0..=6 {
-        at.push(match chain.get_inx_link_no_gen(i) {
-            Some((generation, link)) => Some((generation, *link.t, link.prev(), link.next())),
-            None => None,
-        })?;
-    }
-    Ok(Seen {
-        capacity: chain.capacity(),
-        maximum: chain.max_capacity(),
-        generation: chain.generation(),
-        ends: (chain.first(), chain.last()),
-        next: chain.arena().next_insertion_ptr(),
-        at,
-    })
-}
-
-/// A chain that looks like this.
-fn looks_like(
-    rt: &impl Abort,
-    alloc: Global,
-    chain: &Letters,
-    expected: &Seen,
-) -> Result<(), AllocError> {
-    assert_eq!(rt; look_at(alloc, chain)?, *expected);
-    Ok(())
-}
-
-/// The letters a, c, d at the indexes 3, 4, 2, of at most five.
-fn a_c_d(rt: &impl Abort, alloc: Global) -> Result<Letters, InsertionError> {
-    let mut chain = Letters::new(alloc);
-    begin(rt, &mut chain, 'b')?;
-    after(rt, &mut chain, 1, 'd')?;
-    before(rt, &mut chain, 1, 'a')?;
-    after(rt, &mut chain, 1, 'c')?;
-    assert!(rt; is_removed(&mut chain, 1));
-    limits(rt, &mut chain, 5, Ok(()), Some(5));
-    Ok(chain)
-}
-
-/// A place is given for an index, which has this generation and letter.
-fn gives_a_place(
-    rt: &impl Abort,
-    chain: &mut Letters,
-    i: u32,
-    wanted: (u64, char),
-) -> Result<(), &'static str> {
-    let (generation, letter) = chain.get_inx_mut(i).ok_or("an entry")?;
-    assert_eq!(rt; (generation, *letter), wanted);
-    Ok(())
-}
-
-/// What is expected where another letter is written at the index 4.
-fn expect_written(expected: &mut Seen, letter: char) -> Result<(), &'static str> {
-    let standing = expected.at.get_mut(4).ok_or("seven were seen")?;
-    *standing = Some((2, letter, Some(3), Some(2)));
-    Ok(())
-}
-
-#[test]
-fn get_inx_mut_leaves_all_but_the_item(rt: HostRuntime) -> Result<(), Fail> {
-    let mut chain = a_c_d(&rt, rt.alloc())?;
-    let mut expected = look_at(rt.alloc(), &chain)?;
-    for i in [0, 1, 5, u32::MAX] {
-        gives_no_place(&rt, &mut chain, i);
-        looks_like(&rt, rt.alloc(), &chain, &expected)?;
-    }
-    gives_a_place(&rt, &mut chain, 4, (2, 'c'))?;
-    looks_like(&rt, rt.alloc(), &chain, &expected)?;
-    write_at(&mut chain, 4, 'x')?;
-    expect_written(&mut expected, 'x')?;
-    looks_like(&rt, rt.alloc(), &chain, &expected)?;
-    text_is(&rt, rt.alloc(), &chain, "axd")
-}
-
-/// A step of a walk gives the pointer with these numbers, or nothing.
-fn gives(
-    rt: &impl Abort,
-    walk: &mut ChainPtrAdvancer<P0>,
-    chain: &Letters,
-    numbers: Option<(u32, u64)>,
-) {
-    let p = walk.advance(chain);
-    assert_eq!(rt; p.map(|p| (p.inx(), p.generation())), numbers);
-}
-
-/// The chain of the letters a, b and c at the indexes 1, 2 and 3, with a walk that has given the first.
-fn walked(rt: &impl Abort, alloc: Global) -> Result<(Letters, ChainPtrAdvancer<P0>), Fail> {
-    let mut chain = Letters::new(alloc);
-    let first = begin(rt, &mut chain, 'a')?;
-    let _ = after(rt, &mut chain, 1, 'b')?;
-    let _ = after(rt, &mut chain, 2, 'c')?;
-    let mut walk = chain
-        .advancer_chain(first)
-        .ok_or("the first names an entry")?;
-    gives(rt, &mut walk, &chain, Some((1, 2)));
-    Ok((chain, walk))
-}
-
-#[test]
-fn a_walk_goes_by_the_links_that_are_there(rt: HostRuntime) -> Result<(), Fail> {
-    let (mut chain, mut walk) = walked(&rt, rt.alloc())?;
-    let _ = chain.remove_inx_link_no_gen(2);
-    let _ = after(&rt, &mut chain, 3, 'd')?;
-    let _ = after(&rt, &mut chain, 2, 'e')?;
-    gives(&rt, &mut walk, &chain, Some((2, 3)));
-    let _ = before(&rt, &mut chain, 4, 'x')?;
-    gives(&rt, &mut walk, &chain, Some((4, 3)));
-    let _ = after(&rt, &mut chain, 4, 'f')?;
-    gives(&rt, &mut walk, &chain, None);
-    gives(&rt, &mut walk, &chain, None);
-    Ok(())
-}
-
-#[test]
-fn a_walk_ends_where_its_entry_is_gone(rt: HostRuntime) -> Result<(), Fail> {
-    let (mut chain, mut walk) = walked(&rt, rt.alloc())?;
-    let _ = chain.remove_inx_link_no_gen(2);
-    gives(&rt, &mut walk, &chain, None);
-    let _ = after(&rt, &mut chain, 1, 'd')?;
-    assert!(rt; chain.contains_inx(2));
-    gives(&rt, &mut walk, &chain, None);
-    let mut none: ChainPtrAdvancer<P0> = Advancer::<Letters>::empty();
-    gives(&rt, &mut none, &chain, None);
-    Ok(())
-}
-
-/// Inserts the number after the one at its index, in a chain of pointers of eight bits. Answers the refusal, if it is one.
-fn refused_after(rt: &impl Abort, chain: &mut ChainArena<P8, u8>, i: u8) -> Option<InsertionError> {
-    assert!(rt; chain.contains_inx(i));
-    let item = i.wrapping_add(1);
-    chain
-        .insert_reallocating(LinkInsertKind::NextToInx(i), item)
-        .err()
-}
-
-/// The number 1 alone, under pointers of eight bits.
-fn one(rt: &impl Abort, alloc: Global) -> Result<ChainArena<P8, u8>, InsertionError> {
-    let mut chain: ChainArena<P8, u8> = ChainArena::new(alloc);
-    assert!(rt; chain.is_empty());
-    let _ = chain.insert_reallocating(LinkInsertKind::Disconnected, 1)?;
-    Ok(chain)
-}
-
-#[test]
-fn fills_small_pointers(rt: HostRuntime) -> Result<(), Fail> {
-    let mut chain = one(&rt, rt.alloc())?;
-    for i in 1..254 {
-        assert_eq!(rt; refused_after(&rt, &mut chain, i), None);
-    }
-    counts_are(&rt, &chain, (254, 254, 2));
-    let refused = refused_after(&rt, &mut chain, 254);
-    assert_eq!(rt; refused, Some(InsertionError::BeyondMaxCapacity));
-    counts_are(&rt, &chain, (254, 254, 2));
-    assert_eq!(rt; chain.last(), Some(P8::_from_raw(254, 2)));
-    Ok(())
-}
-
-#[test]
-fn a_fresh_chain_has_no_slot(rt: HostRuntime) {
-    let mut ageless: ChainArena<PN, u8> = ChainArena::new(rt.alloc());
-    assert!(rt; ageless.is_empty());
-    let refused = ageless.insert_within_capacity(LinkInsertKind::Disconnected, 0);
-    assert_eq!(rt; refused, Err(InsertionError::NotWithinCapacity));
-}
-
-#[test]
-fn a_link_has_no_index_beyond_the_last(rt: HostRuntime) {
-    let link: LinkNoGen<P8, u8> = LinkNoGen::new((Some(7), Some(255)), 1);
-    assert_eq!(rt; link.prev_next(), (Some(7), None));
 }
 
 /// Inserts ten letters, each after the last, until memory is refused.
@@ -537,4 +198,99 @@ fn keeps_all_where_memory_is_refused(rt: HostRuntime) -> Result<(), Fail> {
     }
     assert_eq!(rt; is_refused, [true; 3]);
     Ok(())
+}
+
+#[test]
+fn inserts_at_the_ends(rt: HostRuntime) -> Result<(), Fail> {
+    let chain = f_m_l(&rt, rt.alloc())?;
+    text_is(&rt, rt.alloc(), &chain, "fml")?;
+    ends_are(&rt, &chain, Some((2, 2)), Some((3, 2)));
+    inx_ends_are(&rt, &chain, (1, 2), (3, 2));
+    Ok(())
+}
+
+#[test]
+fn removes_at_the_ends(rt: HostRuntime) -> Result<(), Fail> {
+    let mut chain = f_m_l(&rt, rt.alloc())?;
+    assert!(rt; is_removed(&mut chain, 2));
+    text_is(&rt, rt.alloc(), &chain, "ml")?;
+    ends_are(&rt, &chain, Some((1, 2)), Some((3, 2)));
+    neighbours_are(&rt, &chain, 1, Some((None, Some(3))));
+    assert!(rt; is_removed(&mut chain, 3));
+    text_is(&rt, rt.alloc(), &chain, "m")?;
+    ends_are(&rt, &chain, Some((1, 2)), Some((1, 2)));
+    neighbours_are(&rt, &chain, 1, Some((None, None)));
+    assert!(rt; is_removed(&mut chain, 1) && !is_removed(&mut chain, 1));
+    begins_again(&rt, &mut chain)?;
+    Ok(())
+}
+
+#[test]
+fn fills_small_pointers(rt: HostRuntime) -> Result<(), Fail> {
+    let mut chain = one(&rt, rt.alloc())?;
+    for i in 1..254 {
+        assert_eq!(rt; refused_after(&rt, &mut chain, i), None);
+    }
+    let refused = refused_after(&rt, &mut chain, 254);
+    assert_eq!(rt; refused, Some(InsertionError::BeyondMaxCapacity));
+    assert_eq!(rt;
+        (chain.len(), chain.capacity(), chain.generation()),
+        (254, 254, 2)
+    );
+    assert_eq!(rt; chain.last(), Some(P8::_from_raw(254, 2)));
+    Ok(())
+}
+
+/// The letters f, m, l at the indexes 2, 1, 3.
+fn f_m_l(rt: &impl Abort, alloc: Global) -> Result<Letters, InsertionError> {
+    let mut chain = Letters::new(alloc);
+    begin(rt, &mut chain, 'm')?;
+    before(rt, &mut chain, 1, 'f')?;
+    after(rt, &mut chain, 1, 'l')?;
+    Ok(chain)
+}
+
+/// The first and the last pointer of the list.
+fn ends_are(rt: &impl Abort, chain: &Letters, first: Option<(u32, u64)>, last: Option<(u32, u64)>) {
+    assert_eq!(rt;
+        (numbers(chain.first()), numbers(chain.last())),
+        (first, last)
+    );
+}
+
+/// The first and the last pointer by index.
+fn inx_ends_are(rt: &impl Abort, chain: &Letters, first: (u32, u64), last: (u32, u64)) {
+    assert_eq!(rt; numbers(chain.find_first_inx_ptr()), Some(first));
+    assert_eq!(rt; numbers(chain.find_last_inx_ptr()), Some(last));
+}
+
+/// Removes the entry at an index, if there is one. Tells whether there was.
+fn is_removed(chain: &mut Letters, i: u32) -> bool {
+    chain.remove_inx_link_no_gen(i).allow().is_some()
+}
+
+/// A chain that has lost its last entry begins again at the index 1, with generation 5.
+fn begins_again(rt: &impl Abort, chain: &mut Letters) -> Result<(), InsertionError> {
+    assert!(rt; chain.is_empty());
+    ends_are(rt, chain, None, None);
+    begin(rt, chain, 'n')?;
+    ends_are(rt, chain, Some((1, 5)), Some((1, 5)));
+    Ok(())
+}
+
+/// The number 1 alone, under pointers of eight bits.
+fn one(rt: &impl Abort, alloc: Global) -> Result<ChainArena<P8, u8>, InsertionError> {
+    let mut chain: ChainArena<P8, u8> = ChainArena::new(alloc);
+    assert!(rt; chain.is_empty());
+    let _ = chain.insert_reallocating(LinkInsertKind::Disconnected, 1)?;
+    Ok(chain)
+}
+
+/// Inserts the number after the one at its index, in a chain of pointers of eight bits. Answers the refusal, if it is one.
+fn refused_after(rt: &impl Abort, chain: &mut ChainArena<P8, u8>, i: u8) -> Option<InsertionError> {
+    assert!(rt; chain.contains_inx(i));
+    let item = i.wrapping_add(1);
+    chain
+        .insert_reallocating(LinkInsertKind::NextToInx(i), item)
+        .err()
 }

@@ -21,7 +21,8 @@ pub AreTrue-missing : (marks : Marks) → AreTrue marks missing
 AreTrue-missing marks = record { only_inserted = λ _. tt; just_built = λ _. rebuilt_missing }
 
 -- A run with one closure is one with another whose calls may say the same, state by state.
-module _ {T F H : Type 0} (asks : F → Shown T → F → Type 0) (asks' : H → Shown T → H → Type 0) (at : F → H) (like : (f : F) (s : Shown T) (g : F) → asks f s g → asks' (at f) s (at g)) where
+module _ {T F H : Type 0} (asks : F → Shown T → F → Type 0) (asks' : H → Shown T → H → Type 0) (at : F → H)
+    (like : (f : F) (s : Shown T) (g : F) → asks f s g → asks' (at f) s (at g)) where
   calls-like : (f : F) (shown : List (Shown T)) (g : F) → FoldsTo asks f shown g → FoldsTo asks' (at f) shown (at g)
   calls-like f [] g calls = ap at calls
   calls-like f (s ∷ shown) g calls = (at calls.0, like f s calls.0 calls.1, calls-like calls.0 shown g calls.2)
@@ -29,7 +30,8 @@ module _ {T F H : Type 0} (asks : F → Shown T → F → Type 0) (asks' : H →
   searches-like : (entries : List (Entry T)) (f g : F) (last : Option (Shown T)) (c : ℕ) → Searches asks entries f g last c → Searches asks' entries (at f) (at g) last c
   searches-like entries f g last c n = record { shown = n.shown; calls = calls-like f n.shown g n.calls; search = n.search; last_is = n.last_is; count = n.count }
 
-module _ {P T I G A F H K : Type 0} (r : Reading P T I G K) (asks : F → Shown T → F → Type 0) (asks' : H → Shown T → H → Type 0) (at : F → H) (like : (f : F) (s : Shown T) (g : F) → asks f s g → asks' (at f) s (at g)) where
+module _ {P T I G A F H K : Type 0} (r : Reading P T I G K) (asks : F → Shown T → F → Type 0) (asks' : H → Shown T → H → Type 0)
+    (at : F → H) (like : (f : F) (s : Shown T) (g : F) → asks f s g → asks' (at f) s (at g)) where
   answers-like : (s : State T) (f : F) (reply : Reply P T A I G) (g : F) → AnswersWith asks r.pointer s f reply g → AnswersWith asks' r.pointer s (at f) reply (at g)
   answers-like s f (Found p c) g answers = ((answers.0.0, searches-like asks asks' at like s.tree.list.entries f g answers.0.0 c answers.0.1, answers.0.2), answers.1)
   answers-like s f reply g answers = absurd answers
@@ -39,12 +41,14 @@ module _ {P T I G A F H K : Type 0} (r : Reading P T I G K) (asks : F → Shown 
       ((answers.0.0, searches-like asks asks' at like s.tree.list.entries f g answers.0.0 c answers.0.1, answers.0.2, answers.0.3), answers.1)
   similar-like s f reply g answers = absurd answers
 
-  does-like : (old : State T) (f : F) (command : Command P T I G K) (reply : Reply P T A I G) (new : Tree T) (g : F) → Does r asks old f command reply new g → Does r asks' old (at f) command reply new (at g)
+  does-like : (old : State T) (f : F) (command : Command P T I G K) (reply : Reply P T A I G) (new : Tree T) (g : F)
+      → Does r asks old f command reply new g → Does r asks' old (at f) command reply new (at g)
   does-like old f commands.FindWith reply new g does = (answers-like old f reply g does.0, does.1)
   does-like old f commands.SimilarWith reply new g does = (similar-like old f reply g does.0, does.1)
   does-like old f command reply new g does = (does.0, ap at does.1)
 
-  pub Runs-like : (old : State T) (f : F) (commands : List (Command P T I G K)) (replies : List (Reply P T A I G)) (new : State T) (g : F) → Runs r asks old f commands replies new g → Runs r asks' old (at f) commands replies new (at g)
+  pub Runs-like : (old : State T) (f : F) (commands : List (Command P T I G K)) (replies : List (Reply P T A I G)) (new : State T) (g : F)
+      → Runs r asks old f commands replies new g → Runs r asks' old (at f) commands replies new (at g)
   Runs-like old f [] [] new g run = (run.0, ap at run.1)
   Runs-like old f [] (q ∷ replies) new g run = absurd run
   Runs-like old f (c ∷ commands) [] new g run = absurd run

@@ -7,12 +7,14 @@ use Rattle.ord_machine.specs.Machine.{removed_each, entry_of}
 use Rattle.ord_machine.proofs.Lists.{cut_more}
 
 -- one more
-removed_each-more : {T : Type 0} (greatest : Option ℕ) (c : Chain T) (es : List (Entry T)) (e : Entry T) → removed_each greatest c (es ++ e ∷ []) ≡ removed greatest (removed_each greatest c es) e.index
+removed_each-more : {T : Type 0} (greatest : Option ℕ) (c : Chain T) (es : List (Entry T)) (e : Entry T)
+    → removed_each greatest c (es ++ e ∷ []) ≡ removed greatest (removed_each greatest c es) e.index
 removed_each-more greatest c [] e = refl
 removed_each-more greatest c (f ∷ es) e = removed_each-more greatest (removed greatest c f.index) es e
 
 -- the entries so far, in front of those of the chain as it is now; and then one more
-module _ {P T : Type 0} (greatest : Option ℕ) (pointer : P → ℕ × ℕ) (c now next : Chain T) (pairs : List (P × T)) (x : P × T) (after : List (P × T)) (more : after ≡ pairs ++ x ∷ []) where
+module _ {P T : Type 0} (greatest : Option ℕ) (pointer : P → ℕ × ℕ) (c now next : Chain T) (pairs : List (P × T)) (x : P × T)
+    (after : List (P × T)) (more : after ≡ pairs ++ x ∷ []) where
   entries_more : map (entry_of pointer) after ≡ map (entry_of pointer) pairs ++ entry_of pointer x ∷ []
   entries_more = ap (map (entry_of pointer)) more ∙ map-append (entry_of pointer) pairs (x ∷ [])
 
@@ -20,7 +22,8 @@ module _ {P T : Type 0} (greatest : Option ℕ) (pointer : P → ℕ × ℕ) (c 
   cut_drained cut first =
       ap (λ es. es ++ next.entries) entries_more ∙ cut_more c.entries (map (entry_of pointer) pairs) now.entries next.entries (entry_of pointer x) cut first
 
-  pub taken_drained : now ≡ removed_each greatest c (map (entry_of pointer) pairs) → next ≡ removed greatest now (pointer x.0).0 → next ≡ removed_each greatest c (map (entry_of pointer) after)
+  pub taken_drained : now ≡ removed_each greatest c (map (entry_of pointer) pairs) → next ≡ removed greatest now (pointer x.0).0
+      → next ≡ removed_each greatest c (map (entry_of pointer) after)
   taken_drained taken out =
       out ∙ ap (λ d. removed greatest d (pointer x.0).0) taken ∙ sym (removed_each-more greatest c (map (entry_of pointer) pairs) (entry_of pointer x)) ∙ ap (removed_each greatest c) (sym entries_more)
 

@@ -9,7 +9,9 @@ use Rattle.arena_base.specs.declared.invalidation.InvalidationResult.TheVariants
 use Rattle.chain_base.specs.Chain.{Entry, Chain, renewed, cleared, raised, times, next_index, with_capacity, grown_capacity, IsSound, IsDistinct, entry_at, item_of, removed, with_item_among, with_generation, inserted_at}
 use Rattle.chain_base.specs.Compression.{relocated, canonical}
 use Rattle.chain_base.specs.Insert.{IsInsertion}
-use Rattle.chain_base.proofs.CallerLemmas.{entry_at-absent, entry_at-without, entry_at-without_other, entry_at-with_item_among, entry_at-with_item_among_other, entry_at-with_generation, entry_at-with_generation_other, entry_at-between, entry_at-between_other, generation-relocated, generation-numbered}
+use Rattle.chain_base.proofs.CallerLemmas.{entry_at-absent, entry_at-without, entry_at-without_other, entry_at-with_item_among, entry_at-with_item_among_other}
+use Rattle.chain_base.proofs.CallerLemmas.{entry_at-with_generation, entry_at-with_generation_other, entry_at-between, entry_at-between_other}
+use Rattle.chain_base.proofs.CallerLemmas.{generation-relocated, generation-numbered}
 use Rattle.ord_tree.specs.Shape.{missing}
 use Rattle.ord_tree.specs.Tree.{Tree}
 use Rattle.triple_ord.specs.ClosureSearch.{Shown}
@@ -149,18 +151,24 @@ module _ {T : Type 0} where
     ended = λ p there none. absurd (kept p (found-there old.entries p there) none);
   }
     where
-      had : (j : ℕ) → j ≡ i → (e : ℕ × T) (o : Option (ℕ × T)) → entry_at old.entries i ≡ o → option_map (λ f. (f.0, item)) o ≡ Some e → (x : T) × (entry_at old.entries j ≡ Some (e.0, x))
+      had : (j : ℕ) → j ≡ i → (e : ℕ × T) (o : Option (ℕ × T)) → entry_at old.entries i ≡ o → option_map (λ f. (f.0, item)) o ≡ Some e
+          → (x : T) × (entry_at old.entries j ≡ Some (e.0, x))
       had j here e None was now = absurd (cc)
       had j here e (Some f) was now = (f.1, ap (entry_at old.entries) here ∙ was ∙ ap (λ g. Some (g, f.1)) (let both : (f.0, item) ≡ e = cc in ap (λ (p : ℕ × T). p.0) both))
 
       kept : (p : ℕ × ℕ) → (x : T) × (entry_at old.entries p.0 ≡ Some (p.1, x)) → item_of new.entries p ≡ None → ⊥
       kept p there none = elim (eqb_tells p.0 i) [
-        | inl h ↦ let now : entry_at new.entries p.0 ≡ Some (p.1, item) = rw (is, h.1, entry_at-with_item_among old.entries i item, ← h.1, there.1) refl in let some = there-found new.entries p item now in cc
-        | inr h ↦ let now : entry_at new.entries p.0 ≡ Some (p.1, there.0) = rw (is, entry_at-with_item_among_other old.entries i p.0 item h.1) there.1 in let some = there-found new.entries p there.0 now in cc
+        | inl h ↦ let now : entry_at new.entries p.0 ≡ Some (p.1, item) =
+            rw (is, h.1, entry_at-with_item_among old.entries i item, ← h.1, there.1) refl in
+            let some = there-found new.entries p item now in cc
+        | inr h ↦ let now : entry_at new.entries p.0 ≡ Some (p.1, there.0) =
+            rw (is, entry_at-with_item_among_other old.entries i p.0 item h.1) there.1 in
+            let some = there-found new.entries p there.0 now in cc
       ]
 
   -- an entry taken out
-  goes-removed : (greatest : Option ℕ) (top : ℕ) (old : Chain T) (i : ℕ) (new : Chain T) → greatest ≡ Some top → IsDistinct old.entries → old.generation + 1 ≤ top → new ≡ removed greatest old i → Goes old 1 new
+  goes-removed : (greatest : Option ℕ) (top : ℕ) (old : Chain T) (i : ℕ) (new : Chain T) → greatest ≡ Some top → IsDistinct old.entries
+      → old.generation + 1 ≤ top → new ≡ removed greatest old i → Goes old 1 new
   goes-removed greatest top old i new is distinct room after = record {
     raised = ap (λ c. c.generation) after ∙ next-counted greatest top old.generation is room;
     entries = λ j e found. elim (eqb_tells j i) [
@@ -186,14 +194,16 @@ module _ {T : Type 0} where
       late e (Some f) found = let same : g ≡ e.0 = (let both : (g, f.1) ≡ e = cc in ap (λ (p : ℕ × T). p.0) both) in (omega (arith, same, next), omega (arith, same, becomes))
 
   -- a new entry
-  module _ (old room new : Chain T) (gap : Gap old.entries) (item : T) (i g : ℕ) (roomy : room.entries ≡ old.entries) (same : room.generation ≡ old.generation) (inserted : IsInsertion room new (with_between gap) item i g) where
+  module _ (old room new : Chain T) (gap : Gap old.entries) (item : T) (i g : ℕ) (roomy : room.entries ≡ old.entries)
+      (same : room.generation ≡ old.generation) (inserted : IsInsertion room new (with_between gap) item i g) where
     abbrev new_entry : Entry T
     new_entry = record { index = i; generation = room.generation; item = item }
 
     after-insertion : (new.entries ≡ gap.front ++ new_entry ∷ gap.back) × (new.generation ≡ room.generation)
     after-insertion = go room.vacant inserted.next (ap (λ (c : Chain T). c.entries) inserted.after) (ap (λ (c : Chain T). c.generation) inserted.after)
       where
-        go : (vacant : List ℕ) → slice_get vacant 0 ≡ Some i → new.entries ≡ (inserted_at room (with_between gap) item vacant).entries → new.generation ≡ (inserted_at room (with_between gap) item vacant).generation
+        go : (vacant : List ℕ) → slice_get vacant 0 ≡ Some i → new.entries ≡ (inserted_at room (with_between gap) item vacant).entries
+            → new.generation ≡ (inserted_at room (with_between gap) item vacant).generation
             → (new.entries ≡ gap.front ++ new_entry ∷ gap.back) × (new.generation ≡ room.generation)
         go [] next es gs = absurd (cc)
         go (j ∷ rest) next es gs = let here : j ≡ i = cc in (es ∙ ap (λ k. gap.front ++ record { index = k; generation = room.generation; item = item } ∷ gap.back) here, gs)
@@ -215,7 +225,8 @@ module _ {T : Type 0} where
     }
       where
         late : (e : ℕ × T) → Some (room.generation, item) ≡ Some e → (old.generation ≤ e.0) × (e.0 ≤ new.generation)
-        late e found = let here : room.generation ≡ e.0 = (let both : (room.generation, item) ≡ e = cc in ap (λ (p : ℕ × T). p.0) both) in (omega (arith, here, same), omega (arith, here, after-insertion.1))
+        late e found = let here : room.generation ≡ e.0 = (let both : (room.generation, item) ≡ e = cc in ap (λ (p : ℕ × T). p.0) both) in
+            (omega (arith, here, same), omega (arith, here, after-insertion.1))
 
         kept : (p : ℕ × ℕ) → (x : T) × (entry_at old.entries p.0 ≡ Some (p.1, x)) → item_of new.entries p ≡ None → ⊥
         kept p there none = elim (eqb_tells p.0 i) [
@@ -233,7 +244,8 @@ module _ {T : Type 0} where
       go false = refl
 
 -- the generation after entries are taken out one after another
-each-counted : {T : Type 0} (greatest : Option ℕ) (top : ℕ) (c : Chain T) (es : List (Entry T)) → greatest ≡ Some top → c.generation + length es ≤ top → (removed_each greatest c es).generation ≡ c.generation + length es
+each-counted : {T : Type 0} (greatest : Option ℕ) (top : ℕ) (c : Chain T) (es : List (Entry T)) → greatest ≡ Some top
+    → c.generation + length es ≤ top → (removed_each greatest c es).generation ≡ c.generation + length es
 each-counted greatest top c [] is room = omega arith
 each-counted greatest top c (e ∷ es) is room =
     let next = next-counted greatest top c.generation is (omega (arith, room)) in
@@ -268,35 +280,43 @@ module _ {P T I G K : Type 0} (r : Reading P T I G K) (top : ℕ) (counted : r.g
         goes-written s.tree.list (r.pointer p).0 item new.list (ap (λ t. t.list.entries) does.1) (ap (λ t. t.list.generation) does.1)
     goes-set p item reply does = absurd does
 
-    goes-remove : (p : P) (reply : Reply P T A I G) → s.tree.list.generation + raises_by reply ≤ top → Removes r.greatest r.pointer s.tree p reply new → Goes s.tree.list (raises_by reply) new.list
+    goes-remove : (p : P) (reply : Reply P T A I G) → s.tree.list.generation + raises_by reply ≤ top
+        → Removes r.greatest r.pointer s.tree p reply new → Goes s.tree.list (raises_by reply) new.list
     goes-remove p (Removed (Success taken)) room does = goes-taken (r.pointer p).0 room does.2.list
     goes-remove p (Removed (GenerationOverflow taken)) room does = goes-taken (r.pointer p).0 room does.2.list
     goes-remove p (Removed InvalidPtr) room does = goes-still s.tree new does.1
     goes-remove p reply room does = absurd does
 
-    goes-remove_at : (i : ℕ) (reply : Reply P T A I G) → s.tree.list.generation + raises_by reply ≤ top → RemovesAt r.greatest r.pointer s.tree i reply new → Goes s.tree.list (raises_by reply) new.list
+    goes-remove_at : (i : ℕ) (reply : Reply P T A I G) → s.tree.list.generation + raises_by reply ≤ top
+        → RemovesAt r.greatest r.pointer s.tree i reply new → Goes s.tree.list (raises_by reply) new.list
     goes-remove_at i (Removed (Success taken)) room does = goes-taken i room does.2.list
     goes-remove_at i (Removed (GenerationOverflow taken)) room does = goes-taken i room does.2.list
     goes-remove_at i (Removed InvalidPtr) room does = goes-still s.tree new does.1
     goes-remove_at i reply room does = absurd does
 
-    goes-renew : (p : P) (reply : Reply P T A I G) → s.tree.list.generation + raises_by reply ≤ top → Renews r.greatest r.pointer s.tree p reply new → Goes s.tree.list (raises_by reply) new.list
+    goes-renew : (p : P) (reply : Reply P T A I G) → s.tree.list.generation + raises_by reply ≤ top
+        → Renews r.greatest r.pointer s.tree p reply new → Goes s.tree.list (raises_by reply) new.list
     goes-renew p (Renewed (Success q)) room does = goes-again (r.pointer p).0 room does.3
     goes-renew p (Renewed (GenerationOverflow q)) room does = goes-again (r.pointer p).0 room does.3
     goes-renew p (Renewed InvalidPtr) room does = goes-still s.tree new does.1
     goes-renew p reply room does = absurd does
 
-    goes-clear : (reply : Reply P T A I G) → s.tree.list.generation + raises_by reply ≤ top → Changes r.greatest s.tree (record { list = cleared r.greatest s.tree.list; shape = missing }) reply new → Goes s.tree.list (raises_by reply) new.list
+    goes-clear : (reply : Reply P T A I G) → s.tree.list.generation + raises_by reply ≤ top
+        → Changes r.greatest s.tree (record { list = cleared r.greatest s.tree.list; shape = missing }) reply new
+        → Goes s.tree.list (raises_by reply) new.list
     goes-clear (Changed result) room does =
         goes-none s.tree.list new.list 1 (ap (λ t. t.list.entries) does.0) (ap (λ t. t.list.generation) does.0 ∙ once room) (omega arith)
     goes-clear reply room does = absurd does
 
-    goes-raise : (reply : Reply P T A I G) → s.tree.list.generation + raises_by reply ≤ top → Changes r.greatest s.tree (record s.tree { list = raised r.greatest s.tree.list }) reply new → Goes s.tree.list (raises_by reply) new.list
+    goes-raise : (reply : Reply P T A I G) → s.tree.list.generation + raises_by reply ≤ top
+        → Changes r.greatest s.tree (record s.tree { list = raised r.greatest s.tree.list }) reply new
+        → Goes s.tree.list (raises_by reply) new.list
     goes-raise (Changed result) room does =
         goes-same s.tree.list new.list 1 (ap (λ t. t.list.entries) does.0) (ap (λ t. t.list.generation) does.0 ∙ once room)
     goes-raise reply room does = absurd does
 
-    goes-compress : (reset : Bool) (reply : Reply P T A I G) → reset ≡ false → s.tree.list.generation + raises_by reply ≤ top → Rebuilds r.greatest reset s.tree (relocated s.tree.list) reply new → Goes s.tree.list (raises_by reply) new.list
+    goes-compress : (reset : Bool) (reply : Reply P T A I G) → reset ≡ false → s.tree.list.generation + raises_by reply ≤ top
+        → Rebuilds r.greatest reset s.tree (relocated s.tree.list) reply new → Goes s.tree.list (raises_by reply) new.list
     goes-compress true reply back room does = absurd (cc)
     goes-compress false (Changed result) back room does =
         let next = next_generation r.greatest s.tree.list.generation in
@@ -305,7 +325,8 @@ module _ {P T I G K : Type 0} (r : Reading P T I G K) (top : ℕ) (counted : r.g
         (λ i e found. generation-relocated s.tree.list.entries next s.tree.list.entries i e (ap (λ (c : Chain T). entry_at c.entries i) (sym does.0) ∙ found) ∙ sym gs)
     goes-compress false reply back room does = absurd does
 
-    goes-canonical : (reset : Bool) (reply : Reply P T A I G) → reset ≡ false → s.tree.list.generation + raises_by reply ≤ top → Rebuilds r.greatest reset s.tree (canonical s.tree.list) reply new → Goes s.tree.list (raises_by reply) new.list
+    goes-canonical : (reset : Bool) (reply : Reply P T A I G) → reset ≡ false → s.tree.list.generation + raises_by reply ≤ top
+        → Rebuilds r.greatest reset s.tree (canonical s.tree.list) reply new → Goes s.tree.list (raises_by reply) new.list
     goes-canonical true reply back room does = absurd (cc)
     goes-canonical false (Changed result) back room does =
         let next = next_generation r.greatest s.tree.list.generation in
@@ -314,7 +335,8 @@ module _ {P T I G K : Type 0} (r : Reading P T I G K) (top : ℕ) (counted : r.g
         (λ i e found. generation-numbered next 1 (map (λ e. e.item) s.tree.list.entries) i e (ap (λ (c : Chain T). entry_at c.entries i) (sym does.0) ∙ found) ∙ sym gs)
     goes-canonical false reply back room does = absurd does
 
-    goes-drain : (num : ℕ) (reply : Reply P T A I G) → s.tree.list.generation + raises_by reply ≤ top → Drains r.greatest r.pointer s.tree num reply new → Goes s.tree.list (raises_by reply) new.list
+    goes-drain : (num : ℕ) (reply : Reply P T A I G) → s.tree.list.generation + raises_by reply ≤ top
+        → Drains r.greatest r.pointer s.tree num reply new → Goes s.tree.list (raises_by reply) new.list
     goes-drain num (Entries pairs) room does =
         let first = take num s.tree.list.entries in
         let many : length pairs.items ≡ length first = sym (length-map pairs.items (entry_of r.pointer)) ∙ ap length does.0 in
@@ -335,7 +357,8 @@ module _ {P T I G K : Type 0} (r : Reading P T I G K) (top : ℕ) (counted : r.g
     goes-maximum n ReductionRefused does = goes-still s.tree new does.1
     goes-maximum n reply does = absurd does
 
-    goes-does : {F : Type 0} (asks : F → Shown T → F → Type 0) (f : F) (command : Command P T I G K) (reply : Reply P T A I G) (g : F) → resets command ≡ false → s.tree.list.generation + raises command reply ≤ top
+    goes-does : {F : Type 0} (asks : F → Shown T → F → Type 0) (f : F) (command : Command P T I G K) (reply : Reply P T A I G) (g : F)
+        → resets command ≡ false → s.tree.list.generation + raises command reply ≤ top
         → Does r asks s f command reply new g → Goes s.tree.list (raises command reply) new.list
     goes-does asks f (commands.Insert item) reply g back room does = goes-insertion reallocating (at_key (r.key item)) item reply does.0
     goes-does asks f (commands.InsertWithin item) reply g back room does = goes-insertion within (at_key (r.key item)) item reply does.0
@@ -363,7 +386,8 @@ pub record Ends {T : Type 0} (most : ℕ) (greatest : Option ℕ) (Holds : Chain
   pub holds : Holds t.tree.list
 
 -- how a fact of lists goes along a run, whose steps go so
-module _ {P T I G A F K : Type 0} (r : Reading P T I G K) (asks : F → Shown T → F → Type 0) (top : ℕ) (counted : r.greatest ≡ Some top) (Holds : Chain T → Type 0) (goes : (old new : Chain T) (n : ℕ) → Goes old n new → Holds old → Holds new) where
+module _ {P T I G A F K : Type 0} (r : Reading P T I G K) (asks : F → Shown T → F → Type 0) (top : ℕ) (counted : r.greatest ≡ Some top)
+    (Holds : Chain T → Type 0) (goes : (old new : Chain T) (n : ℕ) → Goes old n new → Holds old → Holds new) where
   along : (s : State T) (f : F) (asked : List (Command P T I G K)) (told : List (Reply P T A I G)) (t : State T) (g : F)
       → Runs r asks s f asked told t g → AllByRecursion (λ command. resets command ≡ false) asked
       → IsSound r.most r.greatest s.tree.list → Holds s.tree.list → s.tree.list.generation + raises_among asked told ≤ top → Ends r.most r.greatest Holds s (raises_among asked told) t
@@ -376,7 +400,8 @@ module _ {P T I G A F K : Type 0} (r : Reading P T I G K) (asks : F → Shown T 
       let rest = along run.0 run.1 asked told t g run.3 back.1 step.lawful (goes s.tree.list run.0.tree.list (raises c q) first holds) (omega (arith, room, first.raised)) in
       record { lawful = rest.lawful; raised = omega (arith, rest.raised, first.raised); holds = rest.holds }
 
-  along-part : (s : State T) (f : F) (n : ℕ) (t : State T) (g : F) → Part A r asks s f n t g → IsSound r.most r.greatest s.tree.list → Holds s.tree.list → s.tree.list.generation + n ≤ top → Ends r.most r.greatest Holds s n t
+  along-part : (s : State T) (f : F) (n : ℕ) (t : State T) (g : F) → Part A r asks s f n t g → IsSound r.most r.greatest s.tree.list
+      → Holds s.tree.list → s.tree.list.generation + n ≤ top → Ends r.most r.greatest Holds s n t
   along-part s f n t g part lawful holds room =
       rw part.count (along s f part.commands part.replies t g part.run part.never_back lawful holds (omega (arith, room, part.count)))
 
@@ -384,5 +409,6 @@ pub ended_pointer : (P T I G A K : Type 0) {F : Type 0} (asks : F → Shown T �
 ended_pointer P T I G A K asks r top s0 s1 s2 s3 f0 f1 f2 f3 k l m counted lawful below part1 part2 part3 room p there gone =
     let first = along-part r asks top counted (λ c. IsBelow c) below-goes s0 f0 k s1 f1 part1 lawful below (omega (arith, room)) in
     let second = along-part r asks top counted (Watches p) (watched-goes p) s1 f1 l s2 f2 part2 first.lawful (watched-first p s1.tree.list first.holds there) (omega (arith, room, first.raised)) in
-    let third = along-part r asks top counted (λ c. IsSpent c p) (λ old new n goes spent. spent-goes old new n goes p spent) s2 f2 m s3 f3 part3 second.lawful (watched-gone p s2.tree.list second.holds gone) (omega (arith, room, first.raised, second.raised)) in
+    let third = along-part r asks top counted (λ c. IsSpent c p) (λ old new n goes spent. spent-goes old new n goes p spent) s2 f2 m s3 f3
+    part3 second.lawful (watched-gone p s2.tree.list second.holds gone) (omega (arith, room, first.raised, second.raised)) in
     third.holds.nothing

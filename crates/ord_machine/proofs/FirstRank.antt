@@ -64,7 +64,8 @@ module _ {T : Type 0} where
 
 module _ {T K : Type 0} (key : T → K) (cmp : K → K → Ordering) (most : ℕ) where
   -- what an insertion of a new entry leaves where there was none
-  new_alone : (old new : Tree T) (item : T) (p : ℕ × ℕ) → old.list.entries ≡ [] → InsertsNew key cmp most reallocating (at_key (key item)) old item p new → (e : Entry T) × (new.list.entries ≡ e ∷ [])
+  new_alone : (old new : Tree T) (item : T) (p : ℕ × ℕ) → old.list.entries ≡ []
+      → InsertsNew key cmp most reallocating (at_key (key item)) old item p new → (e : Entry T) × (new.list.entries ≡ e ∷ [])
   new_alone old new item p none inserts =
       let gap = inserts.gap in
       let parts = no_parts gap.front gap.back (sym none ∙ gap.cut) in
@@ -73,7 +74,9 @@ module _ {T K : Type 0} (key : T → K) (cmp : K → K → Ordering) (most : ℕ
 
 module _ {P T I G A K : Type 0} (r : Reading P T I G K) (old new : Tree T) (none : old.list.entries ≡ []) (sound : IsSoundTree new) where
   -- the ranks after a new entry
-  ranks_of_new : (item : T) (p : P) (second : Reply P T A I G) → InsertsNew r.key r.cmp r.most reallocating (at_key (r.key item)) old item (r.pointer p) new → Ranked new second → AreFirstReplies (Inserted (New p) None ∷ second ∷ [])
+  ranks_of_new : (item : T) (p : P) (second : Reply P T A I G)
+      → InsertsNew r.key r.cmp r.most reallocating (at_key (r.key item)) old item (r.pointer p) new → Ranked new second
+      → AreFirstReplies (Inserted (New p) None ∷ second ∷ [])
   ranks_of_new item p (Ranks ranks) inserts ranked =
       let first = new_alone r.key r.cmp r.most old new item (r.pointer p) none inserts in
       one_rank new.shape first.0 ranks.items (sound.listed ∙ ap (map (λ e. e.index)) first.1) sound.ranked (subst (λ (es : List (Entry T)). HaveRanks new.shape es ranks.items) first.1 ranked)
@@ -87,7 +90,9 @@ module _ {P T I G A K : Type 0} (r : Reading P T I G K) (old new : Tree T) (none
   ranks_of_none refusal second same ranked = absurd ranked
 
   -- both replies, from the first
-  first_and_ranks : (item : T) (first second : Reply P T A I G) → Inserts r.key r.cmp r.most reallocating (at_key (r.key item)) r.pointer old item first new → Ranked new second → AreFirstReplies (first ∷ second ∷ [])
+  first_and_ranks : (item : T) (first second : Reply P T A I G)
+      → Inserts r.key r.cmp r.most reallocating (at_key (r.key item)) r.pointer old item first new → Ranked new second
+      → AreFirstReplies (first ∷ second ∷ [])
   first_and_ranks item (Inserted (New p) None) second inserts ranked = ranks_of_new item p second inserts ranked
   first_and_ranks item (Inserted (Replacing p) (Some before)) second inserts ranked = absurd (let gap = inserts.place.gap in let here = rw (no_parts gap.front gap.back (sym none ∙ gap.cut)).1 at inserts.place.here in cc)
   first_and_ranks item (Refused refusal) second inserts ranked = ranks_of_none refusal second inserts.after ranked

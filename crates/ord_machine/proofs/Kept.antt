@@ -37,7 +37,8 @@ module _ {T : Type 0} (es : List (Entry T)) where
       apart (ap (λ i. (i, q.1)) (sym same) ∙ ap (λ g. (p.0, g)) (same_era p q one.0 two.0 one.1 two.1 (sym same)))
 
 -- the entry whose item is replaced is found by its index
-replaced-here : {T K I G P : Type 0} (r : Reading P T I G K) (es : List (Entry T)) → IsDistinct es → (aim : Aim K) (e : Entry T) → IsPlace r.key r.cmp {entries = es} aim (over e) → entry_at es e.index ≡ Some (e.generation, e.item)
+replaced-here : {T K I G P : Type 0} (r : Reading P T I G K) (es : List (Entry T)) → IsDistinct es → (aim : Aim K) (e : Entry T)
+    → IsPlace r.key r.cmp {entries = es} aim (over e) → entry_at es e.index ≡ Some (e.generation, e.item)
 replaced-here r es distinct alone e at = absurd at
 replaced-here r es distinct (at_key k) e at = entry_at-after es e distinct at.gap at.here
 replaced-here r es distinct (behind_key k) e at = absurd at
@@ -46,7 +47,8 @@ replaced-here r es distinct (beside i Equal) e at = ap (entry_at es) at.0 ∙ at
 replaced-here r es distinct (beside i Greater) e at = absurd at
 
 -- a step
-module _ {P T I G K : Type 0} (r : Reading P T I G K) (s : State T) (p : ℕ × ℕ) (lawful : IsSound r.most r.greatest s.tree.list) (there : IsSome (item_of s.tree.list.entries p)) (new : Tree T) where
+module _ {P T I G K : Type 0} (r : Reading P T I G K) (s : State T) (p : ℕ × ℕ) (lawful : IsSound r.most r.greatest s.tree.list)
+    (there : IsSome (item_of s.tree.list.entries p)) (new : Tree T) where
   abbrev entries : List (Entry T)
   entries = s.tree.list.entries
 
@@ -76,19 +78,24 @@ module _ {P T I G K : Type 0} (r : Reading P T I G K) (s : State T) (p : ℕ × 
   other q x apart is = other_index entries p (r.pointer q) apart (ap is_some is) there
 
   module _ {A : Type 0} where
-    keeps-insertion : (growth : Growth) (aim : Aim K) (item : T) (reply : Reply P T A I G) → ReplacesAnother r p reply → Inserts r.key r.cmp r.most growth aim r.pointer s.tree item reply new → Keeps
+    keeps-insertion : (growth : Growth) (aim : Aim K) (item : T) (reply : Reply P T A I G) → ReplacesAnother r p reply
+        → Inserts r.key r.cmp r.most growth aim r.pointer s.tree item reply new → Keeps
     keeps-insertion growth aim item (Inserted (New q) None) of does =
         let roomy = entries-with_slot growth r.most s.tree.list in
         let era = generation-with_slot growth r.most s.tree.list in
         let i = (r.pointer q).0 in
         let free = unused s.tree.list (with_slot growth r.most s.tree.list) new.list does.gap item i (r.pointer q).1 roomy era does.inserted in
         keeps-there (elsewhere s.tree.list (with_slot growth r.most s.tree.list) new.list does.gap item i (r.pointer q).1 roomy era does.inserted p.0
-        (λ same. let nothing : entry_at entries p.0 ≡ None = entry_at-absent entries p.0 (ap (λ k. times k entries) same ∙ ap (times i) does.gap.cut ∙ free) in let some = (found-there entries p there).1 in absurd (cc)))
+        (λ same. let nothing : entry_at entries p.0 ≡ None =
+        entry_at-absent entries p.0 (ap (λ k. times k entries) same ∙ ap (times i) does.gap.cut ∙ free) in
+        let some = (found-there entries p there).1 in absurd (cc)))
     keeps-insertion growth aim item (Inserted (Replacing q) (Some before)) of does =
         let e = does.entry in
         let here = replaced-here r entries lawful.distinct aim e does.place in
         let mine = found-there entries p there in
-        let apart : p.0 ≢ e.index = λ same. of (does.named ∙ ap (λ i. (i, e.generation)) (sym same) ∙ ap (λ g. (p.0, g)) (same_era entries p (e.index, e.generation) e.item mine.0 here mine.1 (sym same))) in
+        let apart : p.0 ≢ e.index =
+        λ same. of (does.named ∙ ap (λ i. (i, e.generation)) (sym same)
+        ∙ ap (λ g. (p.0, g)) (same_era entries p (e.index, e.generation) e.item mine.0 here mine.1 (sym same))) in
         keeps-written e.index item apart (ap (λ t. t.list.entries) does.after)
     keeps-insertion growth aim item (Refused refusal) of does = keeps-still does.after
     keeps-insertion growth aim item reply of does = absurd does
@@ -154,7 +161,8 @@ module _ {P T I G K : Type 0} (r : Reading P T I G K) (s : State T) (p : ℕ × 
 
 -- a run
 module _ {P T I G A F K : Type 0} (r : Reading P T I G K) (asks : F → Shown T → F → Type 0) (p : ℕ × ℕ) where
-  keeps-run : (s t : State T) (f g : F) (asked : List (Command P T I G K)) (told : List (Reply P T A I G)) → IsSound r.most r.greatest s.tree.list → AreOfOthers r p asked told → Runs r asks s f asked told t g
+  keeps-run : (s t : State T) (f g : F) (asked : List (Command P T I G K)) (told : List (Reply P T A I G))
+      → IsSound r.most r.greatest s.tree.list → AreOfOthers r p asked told → Runs r asks s f asked told t g
       → IsSome (item_of s.tree.list.entries p) → item_of t.tree.list.entries p ≡ item_of s.tree.list.entries p
   keeps-run s t f g [] [] lawful others run there = ap (λ (s : State T). item_of s.tree.list.entries p) run.0
   keeps-run s t f g [] (q ∷ told) lawful others run there = absurd run

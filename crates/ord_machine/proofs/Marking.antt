@@ -17,7 +17,8 @@ use Rattle.ord_machine.specs.declared.command.Command.{Command}
 use Rattle.ord_machine.specs.declared.command.Command.TheVariants as commands
 use Rattle.ord_machine.specs.declared.reply.Reply.{Reply}
 use Rattle.ord_machine.specs.declared.reply.Reply.TheVariants.{Inserted, Refused, Item, Removed, Renewed, Changed, Entries, Done, ReductionRefused}
-use Rattle.ord_machine.specs.Machine.{Reading, Marks, Effect, adds, removes, rebuilds, keeps, marked_by, AreTrue, settled, Inserts, Sets, Removes, RemovesAt, Renews, Changes, Rebuilds, Reserves, SetsMaximum, Drains, Replies, Does, told_effect, effect_of, marks_after}
+use Rattle.ord_machine.specs.Machine.{Reading, Marks, Effect, adds, removes, rebuilds, keeps, marked_by, AreTrue, settled, Inserts, Sets, Removes, RemovesAt}
+use Rattle.ord_machine.specs.Machine.{Renews, Changes, Rebuilds, Reserves, SetsMaximum, Drains, Replies, Does, told_effect, effect_of, marks_after}
 use Rattle.triple_ord.specs.ClosureSearch.{Shown}
 use Rattle.ord_machine.proofs.CallerLemmas.{AreTrue-missing}
 
@@ -27,7 +28,8 @@ no_node missing n counted none = refl
 no_node (node l i k r) n counted none = absurd (omega (arith, counted, none, length-append (walk l) (i ∷ walk r)))
 
 -- both marks are true where no node is left
-AreTrue-by_count : (n : ℕ) (shape : Shape) (marks : Marks) → (n ≡ 0 → shape ≡ missing) → AreTrue marks shape → AreTrue (cond (n == 0) (record { only_inserted = true; just_built = true }) marks) shape
+AreTrue-by_count : (n : ℕ) (shape : Shape) (marks : Marks) → (n ≡ 0 → shape ≡ missing) → AreTrue marks shape
+    → AreTrue (cond (n == 0) (record { only_inserted = true; just_built = true }) marks) shape
 AreTrue-by_count zero shape marks empty holds = rw (empty refl) (AreTrue-missing (record { only_inserted = true; just_built = true }))
 AreTrue-by_count (suc n) shape marks empty holds = rw eqb-suc-zero holds
 
@@ -69,7 +71,8 @@ module _ {P T I G A : Type 0} (old new : Tree T) where
   still : (reply : Reply P T A I G) → new ≡ old → Affected reply
   still reply same = alike reply (ap (λ t. t.shape) same)
 
-  inserted : {K : Type 0} (r : Reading P T I G K) (growth : Growth) (aim : Aim K) (item : T) (reply : Reply P T A I G) → Inserts r.key r.cmp r.most growth aim r.pointer old item reply new → Affected reply
+  inserted : {K : Type 0} (r : Reading P T I G K) (growth : Growth) (aim : Aim K) (item : T) (reply : Reply P T A I G)
+      → Inserts r.key r.cmp r.most growth aim r.pointer old item reply new → Affected reply
   inserted r growth aim item (Inserted (New p) None) inserts = inserts.grown.tight
   inserted r growth aim item (Inserted (Replacing p) (Some before)) inserts = inl (ap (λ t. t.shape) inserts.after)
   inserted r growth aim item (Refused refusal) inserts = inl (ap (λ t. t.shape) inserts.after)
@@ -121,7 +124,8 @@ module _ {P T I G A : Type 0} (old new : Tree T) where
   limited n reply says = absurd says
 
   -- by the command
-  affected : {K : Type 0} (r : Reading P T I G K) (marks : Marks) (command : Command P T I G K) (reply : Reply P T A I G) → Replies r (record { tree = old; marks = marks }) command reply new → Affects (effect_of command reply) old.shape new.shape
+  affected : {K : Type 0} (r : Reading P T I G K) (marks : Marks) (command : Command P T I G K) (reply : Reply P T A I G)
+      → Replies r (record { tree = old; marks = marks }) command reply new → Affects (effect_of command reply) old.shape new.shape
   affected r marks (commands.Insert item) reply replies = inserted r reallocating (at_key (r.key item)) item reply replies
   affected r marks (commands.InsertWithin item) reply replies = inserted r within (at_key (r.key item)) item reply replies
   affected r marks (commands.Entry kind item) reply replies = inserted r reallocating (aim_of r.index kind) item reply replies
@@ -140,12 +144,17 @@ module _ {P T I G A : Type 0} (old new : Tree T) where
   affected r marks command reply replies = still reply replies.1
 
   -- and with a closure
-  affected_with : {F K : Type 0} (r : Reading P T I G K) (asks : F → Shown T → F → Type 0) (f g : F) (marks : Marks) (command : Command P T I G K) (reply : Reply P T A I G) → Does r asks (record { tree = old; marks = marks }) f command reply new g → Affects (effect_of command reply) old.shape new.shape
+  affected_with : {F K : Type 0} (r : Reading P T I G K) (asks : F → Shown T → F → Type 0) (f g : F) (marks : Marks)
+      (command : Command P T I G K) (reply : Reply P T A I G)
+      → Does r asks (record { tree = old; marks = marks }) f command reply new g → Affects (effect_of command reply) old.shape new.shape
   affected_with r asks f g marks commands.FindWith reply does = still reply does.1
   affected_with r asks f g marks commands.SimilarWith reply does = still reply does.1
   affected_with r asks f g marks command reply does = affected r marks command reply does.0
 
   -- so the marks after a step tell the truth
-  pub AreTrue-does : (marks : Marks) → IsSoundTree new → AreTrue marks old.shape → {F K : Type 0} (r : Reading P T I G K) (asks : F → Shown T → F → Type 0) (f g : F) (command : Command P T I G K) (reply : Reply P T A I G) → Does r asks (record { tree = old; marks = marks }) f command reply new g → AreTrue (marks_after command reply new marks) new.shape
+  pub AreTrue-does : (marks : Marks) → IsSoundTree new → AreTrue marks old.shape
+      → {F K : Type 0} (r : Reading P T I G K) (asks : F → Shown T → F → Type 0) (f g : F)
+      (command : Command P T I G K) (reply : Reply P T A I G)
+      → Does r asks (record { tree = old; marks = marks }) f command reply new g → AreTrue (marks_after command reply new marks) new.shape
   AreTrue-does marks sound holds r asks f g command reply does =
       AreTrue-settled new _ sound (AreTrue-marked (effect_of command reply) old.shape new.shape marks (affected_with r asks f g marks command reply does) holds)

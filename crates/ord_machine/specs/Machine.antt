@@ -377,7 +377,8 @@ module _ {P T I G A F : Type 0} where
 
   -- From the state old and the closure f, the machine may give this reply to the command, and go on to the state new and to g. The
   -- state is one that an arena can have: its list is lawful, and its shape is one over this list that keeps the rank rules.
-  pub record Step {K : Type 0} (r : Reading P T I G K) (asks : F → Shown T → F → Type 0) (old : State T) (f : F) (command : Command P T I G K) (reply : Reply P T A I G) (new : State T) (g : F) : Type 0 where
+  pub record Step {K : Type 0} (r : Reading P T I G K) (asks : F → Shown T → F → Type 0) (old : State T) (f : F)
+      (command : Command P T I G K) (reply : Reply P T A I G) (new : State T) (g : F) : Type 0 where
     pub does : Does r asks old f command reply new.tree g
     pub marks : new.marks ≡ marks_after command reply new.tree old.marks
     pub lawful : IsSound r.most r.greatest new.tree.list

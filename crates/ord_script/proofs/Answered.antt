@@ -9,17 +9,26 @@ use Rattle.ord_script.specs.Pairs.{Pair, Pointer, PairCommand, PairReply, readin
 use Rattle.ord_machine.proofs.CallerLemmas.{AreTrue-missing, Runs-like}
 
 -- A run of a script, from where it begins, with a closure that answers Equal always.
-module _ {A F : Type 0} (pointer_of : Pointer → ℕ × ℕ) (step : F → Pointer → Bor Pair → Ordering → F → Type 0) (equal : (f : F) (p : Pointer) (pair : Bor Pair) (o : Ordering) (g : F) → step f p pair o g → o ≡ Equal) (commands : List PairCommand) (old : Tree Pair) (f : F) (new : Tree Pair) (g : F) (empty : old ≡ beginning.tree) where
+module _ {A F : Type 0} (pointer_of : Pointer → ℕ × ℕ) (step : F → Pointer → Bor Pair → Ordering → F → Type 0)
+    (equal : (f : F) (p : Pointer) (pair : Bor Pair) (o : Ordering) (g : F) → step f p pair o g → o ≡ Equal) (commands : List PairCommand)
+    (old : Tree Pair) (f : F) (new : Tree Pair) (g : F) (empty : old ≡ beginning.tree) where
   -- these are replies of a run over the commands
   abbrev IsRun : List (PairReply A) → Type 0
   IsRun replies = (end : State Pair) × Runs reading answers_equal beginning tt commands replies end tt
 
   from_beginning : (replies : List (PairReply A)) → RunsBetween reading (Asks pointer_of step) old f commands replies new g → IsRun replies
   from_beginning replies between =
-      let run = subst (λ (t : Tree Pair). RunsBetween reading (Asks pointer_of step) t f commands replies new g) empty between beginning.marks (AreTrue-missing beginning.marks) in
-      (record { tree = new; marks = run.0 }, Runs-like reading (Asks pointer_of step) answers_equal (λ q. tt) (λ q s h asked. equal q asked.named asked.item s.1 h asked.called) beginning f commands replies (record { tree = new; marks = run.0 }) g run.2)
+      let run = subst (λ (t : Tree Pair). RunsBetween reading (Asks pointer_of step) t f commands replies new g) empty between
+      beginning.marks (AreTrue-missing beginning.marks) in (
+        record { tree = new; marks = run.0 },
+        Runs-like reading (Asks pointer_of step) answers_equal (λ q. tt)
+            (λ q s h asked. equal q asked.named asked.item s.1 h asked.called) beginning f commands replies
+            (record { tree = new; marks = run.0 }) g run.2,
+      )
 
   -- the same of what a call answers
-  pub answered : {V E : Type 0} (result : Result V E) (replies : V → List (PairReply A)) → IfOk result (λ v. RunsBetween reading (Asks pointer_of step) old f commands (replies v) new g) → IfOk result (λ v. IsRun (replies v))
+  pub answered : {V E : Type 0} (result : Result V E) (replies : V → List (PairReply A))
+      → IfOk result (λ v. RunsBetween reading (Asks pointer_of step) old f commands (replies v) new g)
+      → IfOk result (λ v. IsRun (replies v))
   answered (Ok v) replies between = from_beginning (replies v) between
   answered (Err e) replies between = tt

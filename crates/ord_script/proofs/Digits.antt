@@ -18,7 +18,8 @@ both_parts true b h = (refl, h)
 both_parts false b h = cc
 
 -- one more digit
-pub all_ascii_digits_more : (word : List ℕ) (i : ℕ) → i < length word → all_ascii_digits (take i word) ≡ true → is_ascii_digit (get_or word i 0) ≡ true → all_ascii_digits (take (i + 1) word) ≡ true
+pub all_ascii_digits_more : (word : List ℕ) (i : ℕ) → i < length word → all_ascii_digits (take i word) ≡ true
+    → is_ascii_digit (get_or word i 0) ≡ true → all_ascii_digits (take (i + 1) word) ≡ true
 all_ascii_digits_more [] i within so_far good = absurd (omega (arith, within))
 all_ascii_digits_more (c ∷ word) zero within so_far good = rw good refl
 all_ascii_digits_more (c ∷ word) (suc i) within so_far good =

@@ -99,7 +99,8 @@ words_after (x ∷ xs) =
     [ true ↦ λ blank. sym (words_of_blank x xs blank) | false ↦ λ _. rw one-add (words_after xs) ]) refl
 
 -- and ends at the next blank
-words_of_cons : (x : ℕ) (xs : List ℕ) (end : ℕ) → is_blank x ≡ false → end ≡ position_or_len is_blank (x ∷ xs) → words_of (x ∷ xs) ≡ take end (x ∷ xs) ∷ words_of (drop end (x ∷ xs))
+words_of_cons : (x : ℕ) (xs : List ℕ) (end : ℕ) → is_blank x ≡ false → end ≡ position_or_len is_blank (x ∷ xs)
+    → words_of (x ∷ xs) ≡ take end (x ∷ xs) ∷ words_of (drop end (x ∷ xs))
 words_of_cons x xs end dark ends =
     let parts = parts_after is_blank (x ∷ xs) in
     let some : 0 < length (take (position_or_len is_blank (x ∷ xs)) (x ∷ xs)) = rw (dark, one-add) (omega arith) in

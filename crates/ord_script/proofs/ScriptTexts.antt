@@ -123,7 +123,8 @@ lines-light line rest light =
     ∙ lines_onto (λ b. b == 10) line rest ∙ ap (λ l. l ∷ lines rest) (strip_carriage_return-light line light)
 
 -- all lines, the first of which has this number
-script_from-text : (number : ℕ) (commands : List PairCommand) → AllByRecursion CanBeSaid commands → script_from number (lines (script_text commands)) ≡ record { commands = commands; fault = None }
+script_from-text : (number : ℕ) (commands : List PairCommand) → AllByRecursion CanBeSaid commands
+    → script_from number (lines (script_text commands)) ≡ record { commands = commands; fault = None }
 script_from-text number [] sayable = refl
 script_from-text number (command ∷ commands) sayable =
     let words = spelled command in

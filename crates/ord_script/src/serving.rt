@@ -40,7 +40,8 @@ pub fn serve<R: Read, W: Write, A: Allocator + Copy>(
     ensures read_failed { reader.new.failed ≡ (reader.old.failed || is_read_failed result) }
     ensures write_failed { writer.new.failed ≡ (writer.old.failed || is_write_failed result) }
     ensures ended { is_answered result ≡ true → reader.new.ended ≡ true }
-    ensures nothing_unread { is_answered result ≡ true → IsAtEnd (R.remaining reader.new.device) }
+    ensures nothing_unread { is_answered result ≡ true
+        → IsAtEnd (R.remaining reader.new.device) }
 
     // Where nothing is written, the writer isn't touched.
     ensures untouched { is_answered result ≡ false → writer.new ≡ writer.old }

@@ -102,7 +102,8 @@ fn push_refusal<A: Allocator>(
     text: &mut String<A>,
     refusal: OrdInsertionError,
 ) -> Result<(), AllocError>
-    ensures { Adds result text.old text.new (codes "refused " ++ refusal_text refusal ++ 10 ∷ []) }
+    ensures { Adds result text.old text.new
+        (codes "refused " ++ refusal_text refusal ++ 10 ∷ []) }
 {
     let why = reason(refusal);
     write!(text, "refused {why}\n")

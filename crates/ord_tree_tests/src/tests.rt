@@ -1,22 +1,15 @@
 //! Trees of small keys, kept in order by hand, seen through the chain's nodes.
-mod clones;
 mod rebuild;
 
-use arena_base::{
-    Advancer, InsertionError, InvalidationOption, InvalidationResult, ItemsMut, P0, P8, PN, Ptr,
-    ReallocationError,
-};
-use chain_base::{ChainArena, LinkNoGen};
+use arena_base::{Advancer, InsertionError, ItemsMut, P0, P8, Ptr};
 use linked_list_allocator::LocalHeap;
-use ord_tree::{OrdTree, SimpleOrdArenaNode};
+use ord_tree::OrdTree;
 use std::alloc::{AllocError, Allocator, Global};
 use std::cmp::Ordering;
 use std::process::Abort;
 use std::test::Fail;
 
 type Keys<A = Global> = OrdTree<P0, u8, A>;
-
-type Nodes<A = Global> = ChainArena<P0, SimpleOrdArenaNode<P0, u8>, A>;
 
 /// What the tree says of one key.
 #[derive(Clone, Copy, Debug, PartialEq, Eq)]
@@ -211,65 +204,76 @@ fn is_balanced(places: &[Place], root: Option<u32>, sorted: &[u8]) -> bool {
     keys.eq(sorted.iter().copied()) && is_ranked(places, root)
 }
 
+/// Keys, of which the last is inserted into the tree of those before it; the tree then, as `text` writes it; and how many parents that moves.
+type Insertion = (&'static [u8], &'static str, usize);
+
+const INSERTIONS: [Insertion; 16] = [
+    // the parent has rank 2 already
+    (&[2, 1, 3], "1:1^2 2:2^0 3:1^2 ", 0),
+    (&[2, 3, 1], "1:1^2 2:2^0 3:1^2 ", 0),
+    // the grandparent's rank is greater
+    (&[3, 2, 5, 4, 1], "1:1^2 2:2^3 3:3^0 4:1^5 5:2^3 ", 0),
+    (&[3, 4, 1, 2, 5], "1:2^3 2:1^1 3:3^0 4:2^3 5:1^4 ", 0),
+    // promotions
+    (&[2, 1, 4, 3], "1:1^2 2:3^0 3:1^4 4:2^2 ", 0),
+    (&[3, 4, 1, 2], "1:2^3 2:1^1 3:3^0 4:1^3 ", 0),
+    // a single rotation
+    (&[1, 2, 3], "1:1^2 2:2^0 3:1^2 ", 2),
+    (&[3, 2, 1], "1:1^2 2:2^0 3:1^2 ", 2),
+    // a double one
+    (&[1, 3, 2], "1:1^2 2:2^0 3:1^2 ", 2),
+    (&[3, 1, 2], "1:1^2 2:2^0 3:1^2 ", 2),
+    // a single one after promotions, with an inner subtree
+    (
+        &[8, 7, 6, 5, 9, 3, 1, 4, 2],
+        "1:2^3 2:1^1 3:3^7 4:1^5 5:2^3 6:1^5 7:4^0 8:2^7 9:1^8 ",
+        3,
+    ),
+    (
+        &[2, 3, 4, 5, 1, 7, 9, 6, 8],
+        "1:1^2 2:2^3 3:4^0 4:1^5 5:2^7 6:1^5 7:3^3 8:1^9 9:2^7 ",
+        3,
+    ),
+    // a double one after promotions, with both inner subtrees: the most that an insertion moves
+    (
+        &[4, 1, 3, 8, 10, 2, 9, 7, 5, 6],
+        "1:2^3 2:1^1 3:3^5 4:1^3 5:4^0 6:1^7 7:2^8 8:3^5 9:1^10 10:2^8 ",
+        5,
+    ),
+    (
+        &[7, 10, 8, 3, 1, 9, 2, 4, 6, 5],
+        "1:2^3 2:1^1 3:3^6 4:2^3 5:1^4 6:4^0 7:1^8 8:3^6 9:1^10 10:2^8 ",
+        5,
+    ),
+    // keys in order
+    (
+        &[1, 2, 3, 4, 5, 6, 7],
+        "1:1^2 2:2^4 3:1^2 4:3^0 5:1^6 6:2^4 7:1^6 ",
+        2,
+    ),
+    (
+        &[7, 6, 5, 4, 3, 2, 1],
+        "1:1^2 2:2^4 3:1^2 4:3^0 5:1^6 6:2^4 7:1^6 ",
+        2,
+    ),
+];
+
+/// Inserts a row's last key, and compares the tree and the moved parents with the row.
+fn repairs(rt: &impl Abort, alloc: Global, row: &Insertion) -> Result<(), Fail> {
+    let (keys, expected, moves) = *row;
+    let (last, before) = keys.split_last().ok_or("a last key")?;
+    let mut tree = tree_of(rt, alloc, before)?;
+    let old = places(alloc, &tree)?;
+    let _ = insert(rt, alloc, &mut tree, *last)?;
+    text_is(rt, alloc, &tree, expected)?;
+    assert_eq!(rt; moved_since(alloc, &old, &tree)?, moves, "{keys:?}");
+    Ok(())
+}
+
 #[test]
 fn repairs_by_the_table(rt: HostRuntime) -> Result<(), Fail> {
-    let cases: [(&[u8], &str, usize); 16] = [
-        // the parent has rank 2 already
-        (&[2, 1, 3], "1:1^2 2:2^0 3:1^2 ", 0),
-        (&[2, 3, 1], "1:1^2 2:2^0 3:1^2 ", 0),
-        // the grandparent's rank is greater
-        (&[3, 2, 5, 4, 1], "1:1^2 2:2^3 3:3^0 4:1^5 5:2^3 ", 0),
-        (&[3, 4, 1, 2, 5], "1:2^3 2:1^1 3:3^0 4:2^3 5:1^4 ", 0),
-        // promotions
-        (&[2, 1, 4, 3], "1:1^2 2:3^0 3:1^4 4:2^2 ", 0),
-        (&[3, 4, 1, 2], "1:2^3 2:1^1 3:3^0 4:1^3 ", 0),
-        // a single rotation
-        (&[1, 2, 3], "1:1^2 2:2^0 3:1^2 ", 2),
-        (&[3, 2, 1], "1:1^2 2:2^0 3:1^2 ", 2),
-        // a double one
-        (&[1, 3, 2], "1:1^2 2:2^0 3:1^2 ", 2),
-        (&[3, 1, 2], "1:1^2 2:2^0 3:1^2 ", 2),
-        // a single one after promotions, with an inner subtree
-        (
-            &[8, 7, 6, 5, 9, 3, 1, 4, 2],
-            "1:2^3 2:1^1 3:3^7 4:1^5 5:2^3 6:1^5 7:4^0 8:2^7 9:1^8 ",
-            3,
-        ),
-        (
-            &[2, 3, 4, 5, 1, 7, 9, 6, 8],
-            "1:1^2 2:2^3 3:4^0 4:1^5 5:2^7 6:1^5 7:3^3 8:1^9 9:2^7 ",
-            3,
-        ),
-        // a double one after promotions, with both inner subtrees: the most that an insertion moves
-        (
-            &[4, 1, 3, 8, 10, 2, 9, 7, 5, 6],
-            "1:2^3 2:1^1 3:3^5 4:1^3 5:4^0 6:1^7 7:2^8 8:3^5 9:1^10 10:2^8 ",
-            5,
-        ),
-        (
-            &[7, 10, 8, 3, 1, 9, 2, 4, 6, 5],
-            "1:2^3 2:1^1 3:3^6 4:2^3 5:1^4 6:4^0 7:1^8 8:3^6 9:1^10 10:2^8 ",
-            5,
-        ),
-        // keys in order
-        (
-            &[1, 2, 3, 4, 5, 6, 7],
-            "1:1^2 2:2^4 3:1^2 4:3^0 5:1^6 6:2^4 7:1^6 ",
-            2,
-        ),
-        (
-            &[7, 6, 5, 4, 3, 2, 1],
-            "1:1^2 2:2^4 3:1^2 4:3^0 5:1^6 6:2^4 7:1^6 ",
-            2,
-        ),
-    ];
-    for (keys, expected, moves) in cases {
-        let (last, before) = keys.split_last().ok_or("a last key")?;
-        let mut tree = tree_of(&rt, rt.alloc(), before)?;
-        let old = places(rt.alloc(), &tree)?;
-        let _ = insert(&rt, rt.alloc(), &mut tree, *last)?;
-        text_is(&rt, rt.alloc(), &tree, expected)?;
-        assert_eq!(rt; moved_since(rt.alloc(), &old, &tree)?, moves, "{keys:?}");
+    for row in &INSERTIONS {
+        repairs(&rt, rt.alloc(), row)?;
     }
     Ok(())
 }
@@ -351,130 +355,12 @@ fn two_letters(rt: &impl Abort, alloc: Global) -> Result<Letters, Fail> {
     Ok(tree)
 }
 
-/// A tree of this length and capacity, with this generation.
-fn counts_are<P: Ptr, T>(rt: &impl Abort, tree: &OrdTree<P, T>, wanted: (usize, usize, P::Gen)) {
-    let chain = tree.chain();
-    assert!(rt; (chain.len(), chain.capacity(), chain.generation()) == wanted);
-}
-
-/// The entry of a pointer has this letter, rank and parent.
-fn node_is(rt: &impl Abort, tree: &Letters, p: P8, wanted: (char, u8, Option<u8>)) {
-    let node = tree.chain().get(p);
-    assert_eq!(rt;
-        node.map(|node| (node.t, node.rank, node.p_back.get())),
-        Some(wanted)
-    );
-}
-
 #[test]
-fn inserts_within_capacity(rt: HostRuntime) -> Result<(), Fail> {
+fn memory_is_there_for_a_capacity(rt: HostRuntime) -> Result<(), Fail> {
     let mut tree = two_letters(&rt, rt.alloc())?;
-    assert!(rt; tree.contains_inx(2));
-    let refused = tree.insert_within_capacity(Some((2, Ordering::Greater)), 'c');
-    assert_eq!(rt; refused, Err(InsertionError::NotWithinCapacity));
-    counts_are(&rt, &tree, (2, 2, 2));
+    assert_eq!(rt; tree.reallocate_min_capacity(9), Ok(()));
+    assert_eq!(rt; (tree.len(), tree.chain().capacity()), (2, 9));
     Ok(())
-}
-
-#[test]
-fn writes_letters(rt: HostRuntime) -> Result<(), Fail> {
-    let mut tree = two_letters(&rt, rt.alloc())?;
-    let (_, letter) = tree.get_inx_mut(2).ok_or("2 has an entry")?;
-    *letter = 'x';
-    if let Some(letter) = tree.item_at_mut(1) {
-        *letter = 'y';
-    }
-    node_is(&rt, &tree, P8::_from_raw(2, 2), ('x', 1, Some(1)));
-    node_is(&rt, &tree, P8::_from_raw(1, 2), ('y', 2, None));
-    Ok(())
-}
-
-#[test]
-fn nothing_goes_beyond_the_limit(rt: HostRuntime) -> Result<(), Fail> {
-    let mut tree = two_letters(&rt, rt.alloc())?;
-    assert!(rt; tree.set_max_capacity(1).is_err());
-    assert!(rt; tree.set_max_capacity(2).is_ok());
-    assert!(rt; tree.contains_inx(2));
-    let refused = tree.insert_reallocating(Some((2, Ordering::Greater)), 'c');
-    assert_eq!(rt; refused, Err(InsertionError::BeyondMaxCapacity));
-    let refused = tree.reallocate_min_capacity(3);
-    assert_eq!(rt; refused, Err(ReallocationError::BeyondMaxCapacity));
-    assert_eq!(rt; tree.reallocate_min_capacity(0), Ok(()));
-    counts_are(&rt, &tree, (2, 2, 2));
-    Ok(())
-}
-
-#[test]
-fn generations_are_set(rt: HostRuntime) -> Result<(), Fail> {
-    let mut tree = two_letters(&rt, rt.alloc())?;
-    tree.set_generation(7);
-    assert_eq!(rt; tree.inc_generation(), InvalidationOption::Success(()));
-    counts_are(&rt, &tree, (2, 2, 8));
-    let ageless: OrdTree<PN, u8> = OrdTree::new(rt.alloc());
-    counts_are(&rt, &ageless, (0, 0, ()));
-    assert_eq!(rt; (ageless.root(), ageless.len()), (None, 0));
-    Ok(())
-}
-
-/// All that can be seen of a tree: its numbers, its root and ends, the pointer that comes next, the generation at each index, and
-/// the place of each key in order.
-#[derive(Debug, PartialEq, Drop)]
-struct Seen {
-    numbers: (usize, Option<usize>, u64),
-    root: Option<u32>,
-    ends: (Option<P0>, Option<P0>),
-    next: Option<P0>,
-    generations: Vec<Option<u64>>,
-    places: Vec<Place>,
-}
-
-fn look_at(alloc: Global, tree: &Keys) -> Result<Seen, Fail> {
-    let chain = tree.chain();
-    let mut generations = Vec::new(alloc);
-    for i in 0..=9 {
-        generations.push(chain.get_inx(i).map(|entry| entry.0))?;
-    }
-    Ok(Seen {
-        numbers: (chain.capacity(), chain.max_capacity(), chain.generation()),
-        root: tree.root(),
-        ends: (chain.first(), chain.last()),
-        next: chain.arena().next_insertion_ptr(),
-        generations,
-        places: places(alloc, tree)?,
-    })
-}
-
-/// A tree that looks like this.
-fn looks_like(rt: &impl Abort, alloc: Global, tree: &Keys, expected: &Seen) -> Result<(), Fail> {
-    assert_eq!(rt; look_at(alloc, tree)?, *expected);
-    Ok(())
-}
-
-/// What is expected where another key is written into the root, 40 at the index 1.
-fn expect_root(rt: &impl Abort, expected: &mut Seen, key: u8) -> Result<(), &'static str> {
-    let written = expected.places.get_mut(3).ok_or("40 was the fourth")?;
-    assert_eq!(rt; (written.index, written.key), (1, 40));
-    written.key = key;
-    Ok(())
-}
-
-#[test]
-fn get_inx_mut_leaves_all_but_the_item(rt: HostRuntime) -> Result<(), Fail> {
-    let mut tree = tree_of(&rt, rt.alloc(), &[40, 20, 60, 10, 30, 50, 70])?;
-    remove(&rt, rt.alloc(), &mut tree, 60)?;
-    assert!(rt; tree.set_max_capacity(9).is_ok());
-    let mut expected = look_at(rt.alloc(), &tree)?;
-    for i in [0, 3, 8, 9, u32::MAX] {
-        assert!(rt; tree.get_inx_mut(i).is_none());
-        looks_like(&rt, rt.alloc(), &tree, &expected)?;
-    }
-    let (generation, key) = tree.get_inx_mut(1).ok_or("1 has an entry")?;
-    assert_eq!(rt; (generation, *key), (2, 40));
-    looks_like(&rt, rt.alloc(), &tree, &expected)?;
-    let (_, key) = tree.get_inx_mut(1).ok_or("1 has an entry")?;
-    *key = 99;
-    expect_root(&rt, &mut expected, 99)?;
-    looks_like(&rt, rt.alloc(), &tree, &expected)
 }
 
 /// The places of a tree are these.
@@ -525,124 +411,138 @@ fn keeps_all_where_memory_is_refused(rt: HostRuntime) -> Result<(), Fail> {
     Ok(())
 }
 
+/// Keys of a tree; keys that are removed from it, one after another; the tree then; and how many parents the last removal moves.
+type Removal = (&'static [u8], &'static [u8], &'static str, usize);
+
+const REMOVALS: [Removal; 33] = [
+    // a leaf; a node with one side, whose child takes its place
+    (&[1], &[1], "", 0),
+    (&[1, 2], &[1], "2:1^0 ", 1),
+    (&[2, 1], &[2], "1:1^0 ", 1),
+    (&[1, 3, 4, 2], &[1], "2:1^3 3:3^0 4:1^3 ", 1),
+    (&[1, 2, 4, 3], &[4], "1:1^2 2:3^0 3:1^2 ", 1),
+    // a node with both sides, which the previous one takes: its child, then further down
+    (&[1, 2, 3], &[2], "1:2^0 3:1^1 ", 2),
+    (&[1, 4, 5, 2, 3], &[4], "1:1^2 2:2^3 3:3^0 5:1^3 ", 3),
+    // the same where the previous one has a lesser side
+    (&[2, 3, 4, 1], &[3], "1:1^2 2:3^0 4:1^2 ", 2),
+    (
+        &[50, 30, 70, 60, 10],
+        &[50],
+        "10:1^30 30:3^0 60:1^70 70:2^30 ",
+        2,
+    ),
+    (
+        &[1, 2, 7, 4, 5, 6, 3],
+        &[5],
+        "1:1^2 2:3^4 3:1^2 4:4^0 6:1^7 7:2^4 ",
+        4,
+    ),
+    // the parent is without children now
+    (&[2, 1], &[1], "2:1^0 ", 0),
+    (&[1, 2], &[2], "1:1^0 ", 0),
+    (&[2, 3, 4, 1], &[1], "2:1^3 3:3^0 4:1^3 ", 0),
+    (&[1, 2, 3, 4], &[4], "1:1^2 2:3^0 3:1^2 ", 0),
+    // it is at most two above
+    (&[1, 2, 3], &[1], "2:2^0 3:1^2 ", 0),
+    (&[1, 2, 3], &[3], "1:1^2 2:2^0 ", 0),
+    // the sibling is two below
+    (&[1, 2, 4, 3], &[4, 1], "2:2^0 3:1^2 ", 0),
+    (&[1, 2, 4, 3], &[1, 4], "2:1^3 3:2^0 ", 0),
+    (
+        &[5, 7, 3, 1, 4, 2, 6],
+        &[7, 4],
+        "1:2^3 2:1^1 3:4^0 5:2^3 6:1^5 ",
+        0,
+    ),
+    (
+        &[6, 7, 1, 3, 5, 2, 4],
+        &[6, 7],
+        "1:2^3 2:1^1 3:4^0 4:1^5 5:2^3 ",
+        0,
+    ),
+    // the sibling's outer child is one below it: a single rotation
+    (&[1, 2, 3, 4], &[1], "2:1^3 3:3^0 4:1^3 ", 2),
+    (&[2, 3, 4, 1], &[4], "1:1^2 2:3^0 3:1^2 ", 2),
+    (&[1, 2, 3, 4, 5], &[1], "2:2^4 3:1^2 4:3^0 5:1^4 ", 3),
+    (&[1, 4, 5, 2, 3], &[5], "1:1^2 2:3^0 3:1^4 4:2^2 ", 3),
+    // the same further up
+    (
+        &[1, 2, 5, 3, 6, 4, 7],
+        &[1],
+        "2:1^3 3:2^5 4:1^3 5:4^0 6:2^5 7:1^6 ",
+        3,
+    ),
+    (
+        &[1, 3, 5, 7, 6, 4, 2],
+        &[7],
+        "1:2^3 2:1^1 3:4^0 4:1^5 5:2^3 6:1^5 ",
+        3,
+    ),
+    // both children of the sibling are two below it
+    (
+        &[2, 6, 3, 1, 4, 7, 5],
+        &[5, 1],
+        "2:1^3 3:3^0 4:1^6 6:2^3 7:1^6 ",
+        0,
+    ),
+    (
+        &[6, 3, 1, 7, 5, 4, 2],
+        &[2, 7],
+        "1:1^3 3:2^5 4:1^3 5:3^0 6:1^5 ",
+        0,
+    ),
+    // its inner child alone is one below it: a double rotation
+    (&[1, 2, 4, 3], &[1], "2:1^3 3:3^0 4:1^3 ", 3),
+    (&[1, 3, 4, 2], &[4], "1:1^2 2:3^0 3:1^2 ", 3),
+    // the same further up, with both inner subtrees
+    (
+        &[1, 2, 7, 8, 3, 4, 5, 6],
+        &[1],
+        "2:1^3 3:2^5 4:1^3 5:4^0 6:1^7 7:2^5 8:1^7 ",
+        5,
+    ),
+    (
+        &[7, 1, 6, 3, 8, 2, 4, 5],
+        &[8],
+        "1:1^2 2:2^4 3:1^2 4:4^0 5:1^6 6:2^4 7:1^6 ",
+        5,
+    ),
+    // the most that a removal moves
+    (
+        &[
+            14, 5, 19, 3, 11, 17, 21, 2, 4, 7, 13, 16, 18, 20, 1, 6, 9, 12, 15, 8, 10,
+        ],
+        &[14],
+        "1:1^2 2:2^3 3:3^5 4:1^3 5:5^13 6:1^7 7:2^9 8:1^7 9:4^5 10:1^11 11:2^9 12:1^11 13:6^0 \
+        15:1^16 16:2^17 17:3^19 18:1^17 19:4^13 20:1^21 21:2^19 ",
+        9,
+    ),
+];
+
+/// Removes a row's keys, and compares the tree and the parents that the last one moved with the row.
+fn repairs_removal(rt: &impl Abort, alloc: Global, row: &Removal) -> Result<(), Fail> {
+    let (keys, removed, expected, moves) = *row;
+    let (last, before) = removed.split_last().ok_or("a last key")?;
+    let mut tree = tree_of(rt, alloc, keys)?;
+    for key in before {
+        remove(rt, alloc, &mut tree, *key)?;
+    }
+    let old = places(alloc, &tree)?;
+    remove(rt, alloc, &mut tree, *last)?;
+    text_is(rt, alloc, &tree, expected)?;
+    assert_eq!(rt;
+        moved_since(alloc, &old, &tree)?,
+        moves,
+        "{keys:?} without {removed:?}"
+    );
+    Ok(())
+}
+
 #[test]
 fn repairs_removals_by_the_table(rt: HostRuntime) -> Result<(), Fail> {
-    let cases: [(&[u8], &[u8], &str, usize); 33] = [
-        // a leaf; a node with one side, whose child takes its place
-        (&[1], &[1], "", 0),
-        (&[1, 2], &[1], "2:1^0 ", 1),
-        (&[2, 1], &[2], "1:1^0 ", 1),
-        (&[1, 3, 4, 2], &[1], "2:1^3 3:3^0 4:1^3 ", 1),
-        (&[1, 2, 4, 3], &[4], "1:1^2 2:3^0 3:1^2 ", 1),
-        // a node with both sides, which the previous one takes: its child, then further down
-        (&[1, 2, 3], &[2], "1:2^0 3:1^1 ", 2),
-        (&[1, 4, 5, 2, 3], &[4], "1:1^2 2:2^3 3:3^0 5:1^3 ", 3),
-        // the same where the previous one has a lesser side
-        (&[2, 3, 4, 1], &[3], "1:1^2 2:3^0 4:1^2 ", 2),
-        (
-            &[50, 30, 70, 60, 10],
-            &[50],
-            "10:1^30 30:3^0 60:1^70 70:2^30 ",
-            2,
-        ),
-        (
-            &[1, 2, 7, 4, 5, 6, 3],
-            &[5],
-            "1:1^2 2:3^4 3:1^2 4:4^0 6:1^7 7:2^4 ",
-            4,
-        ),
-        // the parent is without children now
-        (&[2, 1], &[1], "2:1^0 ", 0),
-        (&[1, 2], &[2], "1:1^0 ", 0),
-        (&[2, 3, 4, 1], &[1], "2:1^3 3:3^0 4:1^3 ", 0),
-        (&[1, 2, 3, 4], &[4], "1:1^2 2:3^0 3:1^2 ", 0),
-        // it is at most two above
-        (&[1, 2, 3], &[1], "2:2^0 3:1^2 ", 0),
-        (&[1, 2, 3], &[3], "1:1^2 2:2^0 ", 0),
-        // the sibling is two below
-        (&[1, 2, 4, 3], &[4, 1], "2:2^0 3:1^2 ", 0),
-        (&[1, 2, 4, 3], &[1, 4], "2:1^3 3:2^0 ", 0),
-        (
-            &[5, 7, 3, 1, 4, 2, 6],
-            &[7, 4],
-            "1:2^3 2:1^1 3:4^0 5:2^3 6:1^5 ",
-            0,
-        ),
-        (
-            &[6, 7, 1, 3, 5, 2, 4],
-            &[6, 7],
-            "1:2^3 2:1^1 3:4^0 4:1^5 5:2^3 ",
-            0,
-        ),
-        // the sibling's outer child is one below it: a single rotation
-        (&[1, 2, 3, 4], &[1], "2:1^3 3:3^0 4:1^3 ", 2),
-        (&[2, 3, 4, 1], &[4], "1:1^2 2:3^0 3:1^2 ", 2),
-        (&[1, 2, 3, 4, 5], &[1], "2:2^4 3:1^2 4:3^0 5:1^4 ", 3),
-        (&[1, 4, 5, 2, 3], &[5], "1:1^2 2:3^0 3:1^4 4:2^2 ", 3),
-        // the same further up
-        (
-            &[1, 2, 5, 3, 6, 4, 7],
-            &[1],
-            "2:1^3 3:2^5 4:1^3 5:4^0 6:2^5 7:1^6 ",
-            3,
-        ),
-        (
-            &[1, 3, 5, 7, 6, 4, 2],
-            &[7],
-            "1:2^3 2:1^1 3:4^0 4:1^5 5:2^3 6:1^5 ",
-            3,
-        ),
-        // both children of the sibling are two below it
-        (
-            &[2, 6, 3, 1, 4, 7, 5],
-            &[5, 1],
-            "2:1^3 3:3^0 4:1^6 6:2^3 7:1^6 ",
-            0,
-        ),
-        (
-            &[6, 3, 1, 7, 5, 4, 2],
-            &[2, 7],
-            "1:1^3 3:2^5 4:1^3 5:3^0 6:1^5 ",
-            0,
-        ),
-        // its inner child alone is one below it: a double rotation
-        (&[1, 2, 4, 3], &[1], "2:1^3 3:3^0 4:1^3 ", 3),
-        (&[1, 3, 4, 2], &[4], "1:1^2 2:3^0 3:1^2 ", 3),
-        // the same further up, with both inner subtrees
-        (
-            &[1, 2, 7, 8, 3, 4, 5, 6],
-            &[1],
-            "2:1^3 3:2^5 4:1^3 5:4^0 6:1^7 7:2^5 8:1^7 ",
-            5,
-        ),
-        (
-            &[7, 1, 6, 3, 8, 2, 4, 5],
-            &[8],
-            "1:1^2 2:2^4 3:1^2 4:4^0 5:1^6 6:2^4 7:1^6 ",
-            5,
-        ),
-        // the most that a removal moves
-        (
-            &[
-                14, 5, 19, 3, 11, 17, 21, 2, 4, 7, 13, 16, 18, 20, 1, 6, 9, 12, 15, 8, 10,
-            ],
-            &[14],
-            "1:1^2 2:2^3 3:3^5 4:1^3 5:5^13 6:1^7 7:2^9 8:1^7 9:4^5 10:1^11 11:2^9 12:1^11 13:6^0 \
-            15:1^16 16:2^17 17:3^19 18:1^17 19:4^13 20:1^21 21:2^19 ",
-            9,
-        ),
-    ];
-    for (keys, removed, expected, moves) in cases {
-        let (last, before) = removed.split_last().ok_or("a last key")?;
-        let mut tree = tree_of(&rt, rt.alloc(), keys)?;
-        for key in before {
-            remove(&rt, rt.alloc(), &mut tree, *key)?;
-        }
-        let old = places(rt.alloc(), &tree)?;
-        remove(&rt, rt.alloc(), &mut tree, *last)?;
-        text_is(&rt, rt.alloc(), &tree, expected)?;
-        let moved = moved_since(rt.alloc(), &old, &tree)?;
-        assert_eq!(rt; moved, moves, "{keys:?} without {removed:?}");
+    for row in &REMOVALS {
+        repairs_removal(&rt, rt.alloc(), row)?;
     }
     Ok(())
 }
@@ -678,45 +578,6 @@ fn toggle(
     Ok(())
 }
 
-/// Removes the keys of a tree in the order that has this number, until none is left.
-fn remove_in_order(
-    rt: &impl Abort,
-    alloc: Global,
-    keys: &[u8],
-    count: u8,
-    number: usize,
-) -> Result<(), Fail> {
-    let mut tree = tree_of(rt, alloc, keys)?;
-    let mut sorted = order_of(alloc, count, 0)?;
-    for key in order_of(alloc, count, number)? {
-        toggle(rt, alloc, &mut tree, &mut sorted, key)?;
-    }
-    assert!(rt; tree.is_empty());
-    Ok(())
-}
-
-#[test]
-fn removes_in_every_order(rt: HostRuntime) -> Result<(), Fail> {
-    let mut orders: usize = 1;
-    let mut seen: Vec<String> = Vec::new(rt.alloc());
-    for count in 1..=6u8 {
-        orders = orders.saturating_mul(usize::from(count));
-        for inserted in 0..orders {
-            let keys = order_of(rt.alloc(), count, inserted)?;
-            let shape = text(rt.alloc(), &tree_of(&rt, rt.alloc(), keys.as_slice())?)?;
-            // what is removed from one tree is removed alike from each of the same shape
-            if seen.iter().any(|other| other.as_str() == shape.as_str()) {
-                continue;
-            }
-            for removed in 0..orders {
-                remove_in_order(&rt, rt.alloc(), keys.as_slice(), count, removed)?;
-            }
-            seen.push(shape)?;
-        }
-    }
-    Ok(())
-}
-
 /// Inserts and removes keys by the seven digits of a word in base 5.
 fn toggle_by_digits(rt: &impl Abort, alloc: Global, word: usize) -> Result<(), Fail> {
     let mut tree = Keys::new(alloc);
@@ -735,97 +596,6 @@ fn inserts_and_removes_in_every_mix(rt: HostRuntime) -> Result<(), Fail> {
     for word in 0..78_125usize {
         toggle_by_digits(&rt, rt.alloc(), word)?;
     }
-    Ok(())
-}
-
-/// A removal of what stands at an index answers this.
-fn removes_inx(
-    rt: &impl Abort,
-    tree: &mut Keys,
-    index: u32,
-    wanted: InvalidationResult<(u64, u8)>,
-) {
-    assert_eq!(rt; tree.remove_inx(index), wanted);
-}
-
-/// A pointer is replaced with this answer.
-fn invalidates(rt: &impl Abort, tree: &mut Keys, p: P0, wanted: InvalidationResult<P0>) {
-    assert_eq!(rt; tree.invalidate(p), wanted);
-}
-
-#[test]
-fn what_names_no_entry_changes_nothing(rt: HostRuntime) -> Result<(), Fail> {
-    let mut tree = tree_of(&rt, rt.alloc(), &[2, 1, 3])?;
-    let old = places(rt.alloc(), &tree)?;
-    for index in [0, 4, u32::MAX] {
-        removes_inx(&rt, &mut tree, index, InvalidationResult::InvalidPtr);
-    }
-    for p in [P0::invalid(), P0::_from_raw(1, 3), P0::_from_raw(4, 2)] {
-        invalidates(&rt, &mut tree, p, InvalidationResult::InvalidPtr);
-    }
-    places_are(&rt, rt.alloc(), &tree, &old)?;
-    counts_are(&rt, &tree, (3, 4, 2));
-    Ok(())
-}
-
-/// A new pointer takes the place of an old one, which names nothing then.
-fn renews(rt: &impl Abort, tree: &mut Keys, old: P0, new: P0) {
-    invalidates(rt, tree, old, InvalidationResult::Success(new));
-    invalidates(rt, tree, old, InvalidationResult::InvalidPtr);
-    assert!(rt; tree.chain().contains(new) && !tree.chain().contains(old));
-}
-
-/// A tree is cleared, twice.
-fn clears(rt: &impl Abort, tree: &mut Keys) {
-    assert_eq!(rt; tree.clear(), InvalidationOption::Success(()));
-    assert_eq!(rt; tree.clear(), InvalidationOption::Success(()));
-    assert_eq!(rt; (tree.len(), tree.root()), (0, None));
-}
-
-#[test]
-fn ends_and_renews_pointers(rt: HostRuntime) -> Result<(), Fail> {
-    let mut tree = tree_of(&rt, rt.alloc(), &[2, 1, 3])?;
-    let old = places(rt.alloc(), &tree)?;
-    renews(&rt, &mut tree, P0::_from_raw(1, 2), P0::_from_raw(1, 3));
-    places_are(&rt, rt.alloc(), &tree, &old)?;
-    removes_inx(&rt, &mut tree, 1, InvalidationResult::Success((3, 2)));
-    removes_inx(&rt, &mut tree, 1, InvalidationResult::InvalidPtr);
-    text_is(&rt, rt.alloc(), &tree, "1:2^0 3:1^1 ")?;
-    assert_eq!(rt; insert(&rt, rt.alloc(), &mut tree, 5)?, P0::_from_raw(1, 4));
-
-    clears(&rt, &mut tree);
-    counts_are(&rt, &tree, (0, 4, 6));
-    assert_eq!(rt; insert(&rt, rt.alloc(), &mut tree, 7)?, P0::_from_raw(1, 6));
-    assert_eq!(rt; tree.root(), Some(1));
-    Ok(())
-}
-
-#[test]
-fn tells_where_the_generations_begin_again(rt: HostRuntime) -> Result<(), Fail> {
-    let mut tree = Letters::with_min_capacity(rt.alloc(), 2)?;
-    tree.set_generation(255);
-    let p = tree.insert_within_capacity(None, 'a')?;
-    assert_eq!(rt;
-        tree.invalidate(p),
-        InvalidationResult::GenerationOverflow(P8::_from_raw(1, 2))
-    );
-    tree.set_generation(255);
-    assert_eq!(rt;
-        tree.remove_inx(1),
-        InvalidationResult::GenerationOverflow((2, 'a'))
-    );
-    assert_eq!(rt; tree.chain().generation(), 2);
-    tree.set_generation(255);
-    assert_eq!(rt; tree.clear(), InvalidationOption::GenerationOverflow(()));
-    Ok(())
-}
-
-#[test]
-fn without_generations_a_pointer_is_renewed_by_itself(rt: HostRuntime) -> Result<(), Fail> {
-    let mut ageless: OrdTree<PN, u8> = OrdTree::with_min_capacity(rt.alloc(), 1)?;
-    let p = ageless.insert_within_capacity(None, 7)?;
-    assert_eq!(rt; ageless.invalidate(p), InvalidationResult::Success(p));
-    assert_eq!(rt; ageless.remove_inx(1), InvalidationResult::Success(((), 7)));
     Ok(())
 }
 
@@ -873,40 +643,5 @@ fn takes_no_memory_to_end_entries(rt: HostRuntime) -> Result<(), Fail> {
     assert!(rt; keys.iter().map(|place| place.key).eq([2, 3, 5, 6, 7]));
     let _ = tree.clear();
     assert!(rt; tree.is_empty());
-    Ok(())
-}
-
-/// The parent, by its place in order, of a place in the shape of `n` that a rebuild gives: the root of a run is in its middle.
-fn middle_above(n: usize, place: usize) -> Option<usize> {
-    let (mut low, mut high, mut above) = (0usize, n, None);
-    for _ in 0..n {
-        let middle = low.saturating_add(high.saturating_sub(low) / 2);
-        if place < middle {
-            high = middle;
-            above = Some(middle);
-        } else if place > middle {
-            low = middle.saturating_add(1);
-            above = Some(middle);
-        }
-    }
-    above
-}
-
-/// How many places that are in both such shapes have another parent in the second.
-fn moved_by_a_rebuild(old: usize, new: usize) -> usize {
-    let mut moved: usize = 0;
-    for place in 0..old.min(new) {
-        if middle_above(old, place) != middle_above(new, place) {
-            moved = moved.saturating_add(1);
-        }
-    }
-    moved
-}
-
-#[test]
-fn a_whole_rebuild_moves_more_parents(rt: HostRuntime) -> Result<(), Fail> {
-    // a last entry is inserted, where five may move, and removed, where nine may
-    assert_eq!(rt; moved_by_a_rebuild(31, 32), 30);
-    assert_eq!(rt; moved_by_a_rebuild(32, 31), 30);
     Ok(())
 }

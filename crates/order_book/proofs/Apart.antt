@@ -6,9 +6,10 @@ use Rattle.std.specs.List.{AllByRecursion}
 use Rattle.order_queue.specs.declared.side.Side.{Side}
 use Rattle.order_queue.specs.declared.side.Side.TheVariants.{Buy, Sell}
 use Rattle.order_queue.specs.Id.{Id}
-use Rattle.order_queue.specs.Queue.{Resting, Queue, IsInOrder, Rests, is_named_by, meets, within, traded, behind, without}
+use Rattle.order_queue.specs.Queue.{Resting, Queue, IsInOrder, Rests, first_of, is_named_by, meets, within, traded, behind, without}
 use Rattle.order_queue.proofs.CallerLemmas.{unmet-worse}
 use Rattle.order_book.specs.Book.{RestsOrNot}
+use Rattle.std.specs.Prelude.{IfSome}
 
 module _ {X : Type 0} where
   -- what follows from two facts of each element is true of each
@@ -56,6 +57,13 @@ module _ (bids asks : List Resting) (apart : AreApart bids asks) where
 
   pub apart-bids_without : (p : ℕ × ℕ) → AreApart (without bids p) asks
   apart-bids_without p = all-without (λ price. AllByRecursion (λ (ask : Resting). price < ask.price) asks) bids p apart
+
+-- the first ask is above the first bid
+pub first_above : (bids asks : List Resting) → AreApart bids asks → IfSome (first_of Sell asks) (λ ask. IfSome (first_of Buy bids) (λ bid. bid.price < ask.price))
+first_above [] [] apart = tt
+first_above (bid ∷ bids) [] apart = tt
+first_above [] (ask ∷ asks) apart = tt
+first_above (bid ∷ bids) (ask ∷ asks) apart = apart.0.0
 
 -- in order, where the first doesn't meet a limit none does
 unmet-all : (side : Side) (limit : ℕ) (x : Resting) (xs : List Resting) → IsInOrder side (x ∷ xs) → meets side x.price limit ≡ false

@@ -72,8 +72,11 @@ impl<A: Allocator> OrderBook<A> {
     }
 
     /// The ask that trades first: that of the lowest price, and of those the oldest. In O(1).
+    #[tactic(auto, using(crate::proofs::Apart::first_above))]
     pub fn best_ask(&self) -> Option<Order>
-        ensures { result ≡ first_of Sell self.now.asks.orders }
+        ensures value { result ≡ first_of Sell self.now.asks.orders }
+        ensures above_bids { IfSome result (λ ask. IfSome (first_of Buy self.now.bids.orders)
+            (λ bid. bid.price < ask.price)) }
     {
         self.asks.first()
     }

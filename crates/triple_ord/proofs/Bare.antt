@@ -59,7 +59,8 @@ module _ {P T I G : Type 0} where
   abbrev pub bare_link : ℕ × Link (SimpleOrdArenaNode P T I G) → ℕ × Link T
   bare_link e = (e.0, record { item = e.1.item.t; prev = e.1.prev; next = e.1.next })
 
-  link_between-bare : (before after : Option ℕ) (es : List (Entry (SimpleOrdArenaNode P T I G))) (i : ℕ) → link_between before after (map bare_entry es) i ≡ option_map bare_link (link_between before after es i)
+  link_between-bare : (before after : Option ℕ) (es : List (Entry (SimpleOrdArenaNode P T I G))) (i : ℕ)
+      → link_between before after (map bare_entry es) i ≡ option_map bare_link (link_between before after es i)
   link_between-bare before after [] i = refl
   link_between-bare before after (e ∷ es) i = elim (eqb_tells e.index i) [
     | inl h ↦ rw (h.0, first_or-bare after es) refl
@@ -80,7 +81,8 @@ module _ {P T I G : Type 0} where
 
     generation_at-under : (i : ℕ) → generation_at c.entries i ≡ generation_at t.list.entries i
     generation_at-under i =
-        sym (ap (option_map (λ (e : ℕ × T). e.0)) (entry_at-bare c.entries i) ∙ sym (option_map-twice (λ (e : ℕ × SimpleOrdArenaNode P T I G). (e.0, e.1.t)) (λ (e : ℕ × T). e.0) (entry_at c.entries i)))
+        sym (ap (option_map (λ (e : ℕ × T). e.0)) (entry_at-bare c.entries i)
+        ∙ sym (option_map-twice (λ (e : ℕ × SimpleOrdArenaNode P T I G). (e.0, e.1.t)) (λ (e : ℕ × T). e.0) (entry_at c.entries i)))
         ∙ ap (λ (l : Chain T). generation_at l.entries i) under.list
 
     length-under : length c.entries ≡ length t.list.entries
@@ -105,12 +107,16 @@ module _ {P T I G : Type 0} where
     link_generation-under i = sym (generation_at-link c.entries i) ∙ generation_at-under i
 
     -- the entries with the least and the greatest index
-    pub first_index-under : {X : Type 0} (o : Option X) (numbers : X → ℕ × ℕ) → IfSome o (λ p. IsFirstIndex c.entries (numbers p).0 (numbers p).1) → IfSome o (λ p. IsFirstIndex t.list.entries (numbers p).0 (numbers p).1)
+    pub first_index-under : {X : Type 0} (o : Option X) (numbers : X → ℕ × ℕ)
+        → IfSome o (λ p. IsFirstIndex c.entries (numbers p).0 (numbers p).1)
+        → IfSome o (λ p. IsFirstIndex t.list.entries (numbers p).0 (numbers p).1)
     first_index-under None numbers h = h
     first_index-under (Some p) numbers h =
         record { entry = sym (generation_at-under (numbers p).0) ∙ h.entry; least = λ k below. sym (times-under k) ∙ h.least k below }
 
-    pub last_index-under : {X : Type 0} (o : Option X) (numbers : X → ℕ × ℕ) → IfSome o (λ p. IsLastIndex c.entries (numbers p).0 (numbers p).1) → IfSome o (λ p. IsLastIndex t.list.entries (numbers p).0 (numbers p).1)
+    pub last_index-under : {X : Type 0} (o : Option X) (numbers : X → ℕ × ℕ)
+        → IfSome o (λ p. IsLastIndex c.entries (numbers p).0 (numbers p).1)
+        → IfSome o (λ p. IsLastIndex t.list.entries (numbers p).0 (numbers p).1)
     last_index-under None numbers h = h
     last_index-under (Some p) numbers h =
         record { entry = sym (generation_at-under (numbers p).0) ∙ h.entry; greatest = λ k above. sym (times-under k) ∙ h.greatest k above }
@@ -171,7 +177,8 @@ among-entries (f ∷ es) i e found = elim (eqb_tells f.index i) [
 ]
 
 -- a look-up in the arena under a chain reads the chain's entry
-pub entry-looked_up : {X Y : Type 0} (c : Chain Y) (a : Arena (Link Y)) (lies : IsArenaOf c a) (f : X → ℕ × Link Y) (o : Option X) (i : ℕ) → option_map f o ≡ slot a i → option_map (λ x. ((f x).0, (f x).1.item)) o ≡ entry_at c.entries i
+pub entry-looked_up : {X Y : Type 0} (c : Chain Y) (a : Arena (Link Y)) (lies : IsArenaOf c a) (f : X → ℕ × Link Y) (o : Option X) (i : ℕ)
+    → option_map f o ≡ slot a i → option_map (λ x. ((f x).0, (f x).1.item)) o ≡ entry_at c.entries i
 entry-looked_up {X} {Y} c a lies f o i is =
     let bare_of : ℕ × Link Y → ℕ × Y = λ e. (e.0, e.1.item) in
     option_map-twice f bare_of o ∙ ap (option_map bare_of) (is ∙ lies.slots i) ∙ sym (entry_at-link None None c.entries i)
@@ -181,7 +188,8 @@ pub found-occupied : {T : Type 0} (g : ℕ) (o : Option (ℕ × T)) → IsSome (
 found-occupied g None some = some
 found-occupied g (Some e) some = refl
 
-module _ {P T I G : Type 0} (t : Tree T) (c : Chain (SimpleOrdArenaNode P T I G)) (under : IsChainOf t c) (sound : IsSoundTree t) (a : Arena (Link (SimpleOrdArenaNode P T I G))) (lies : IsArenaOf c a) where
+module _ {P T I G : Type 0} (t : Tree T) (c : Chain (SimpleOrdArenaNode P T I G)) (under : IsChainOf t c) (sound : IsSoundTree t)
+    (a : Arena (Link (SimpleOrdArenaNode P T I G))) (lies : IsArenaOf c a) where
   -- the place in the tree of the node that the arena shows at i
   node-shown : (i : ℕ) (e : ℕ × Link (SimpleOrdArenaNode P T I G)) → slot a i ≡ Some e → IsNodeIn t.shape i e.1.item.p_back e.1.item.p_tree0 e.1.item.p_tree1 e.1.item.rank
   node-shown i e is =
@@ -200,14 +208,18 @@ module _ {P T I G : Type 0} (t : Tree T) (c : Chain (SimpleOrdArenaNode P T I G)
       ap (λ (l : Chain T). entry_at l.entries i) (sym under.list) ∙ entry_at-bare c.entries i ∙ ap (option_map {U = ℕ × T} (λ e. (e.0, e.1.t))) linked in
       mapped (slot a i) (rw listed at some)
     where
-      mapped : (o : Option (ℕ × Link (SimpleOrdArenaNode P T I G))) → IsSome (option_map {U = ℕ × T} (λ e. (e.0, e.1.t)) (option_map {U = ℕ × SimpleOrdArenaNode P T I G} (λ e. (e.0, e.1.item)) o)) → IsSome o
+      mapped : (o : Option (ℕ × Link (SimpleOrdArenaNode P T I G)))
+          → IsSome (option_map {U = ℕ × T} (λ e. (e.0, e.1.t)) (option_map {U = ℕ × SimpleOrdArenaNode P T I G} (λ e. (e.0, e.1.item)) o))
+          → IsSome o
       mapped None some = some
       mapped (Some e) some = refl
 
   -- what a look-up in the arena shows
-  pub node-looked_up : {X : Type 0} (f : X → ℕ × Link (SimpleOrdArenaNode P T I G)) (o : Option X) (i : ℕ) → option_map f o ≡ slot a i → IfSome o (λ x. IsNodeIn t.shape i (f x).1.item.p_back (f x).1.item.p_tree0 (f x).1.item.p_tree1 (f x).1.item.rank)
+  pub node-looked_up : {X : Type 0} (f : X → ℕ × Link (SimpleOrdArenaNode P T I G)) (o : Option X) (i : ℕ) → option_map f o ≡ slot a i
+      → IfSome o (λ x. IsNodeIn t.shape i (f x).1.item.p_back (f x).1.item.p_tree0 (f x).1.item.p_tree1 (f x).1.item.rank)
   node-looked_up f None i is = tt
   node-looked_up f (Some x) i is = node-shown i (f x) (sym is)
 
-  pub link-looked_up : {X : Type 0} (f : X → ℕ × Link (SimpleOrdArenaNode P T I G)) (o : Option X) (i : ℕ) → option_map f o ≡ slot a i → option_map (λ x. bare_link (f x)) o ≡ link_at t.list.entries i
+  pub link-looked_up : {X : Type 0} (f : X → ℕ × Link (SimpleOrdArenaNode P T I G)) (o : Option X) (i : ℕ) → option_map f o ≡ slot a i
+      → option_map (λ x. bare_link (f x)) o ≡ link_at t.list.entries i
   link-looked_up f o i is = option_map-twice f bare_link o ∙ ap (option_map bare_link) (is ∙ lies.slots i) ∙ link_at-under t c under i

@@ -1,5 +1,6 @@
 -- For callers: what pointers find after each change of an ordered arena.
-use Rattle.std.proofs.Common.{◌≡◌, ◌≢◌, ℕ, ◌+◌, true, false, List, [], ◌∷◌, ◌++◌, length, Option, Some, None, IsSome, is_some, Bool, slice_get, map, length-append, IfSome, IfNone, OnSome, Ok, refl, sym, ap, subst, ◌∙◌, arith, inl, inr, if◌then◌else◌}
+use Rattle.std.proofs.Common.{◌≡◌, ◌≢◌, ℕ, ◌+◌, true, false, List, [], ◌∷◌, ◌++◌, length, Option, Some, None, IsSome, is_some, Bool, slice_get, map}
+use Rattle.std.proofs.Common.{length-append, IfSome, IfNone, OnSome, Ok, refl, sym, ap, subst, ◌∙◌, arith, inl, inr, if◌then◌else◌}
 use Rattle.std.proofs.lemmas.Bool.Decides.{eqb_tells}
 use Rattle.std.specs.Option.{option_map}
 use Rattle.std.specs.declared.cmp.Ordering.{Ordering}
@@ -11,7 +12,10 @@ use Rattle.chain_base.specs.Compression.{moved, at_compressed_index, numbered, T
 use Rattle.arena_base.specs.declared.invalidation.InvalidationOption.{InvalidationOption}
 use Rattle.std.specs.List.{FoldsTo}
 use Rattle.std.proofs.lemmas.List.{length-map}
-use Rattle.chain_base.proofs.CallerLemmas.{entry_at-absent, entry_at-without_other, entry_at-without, length-without, entry_at-with_item_among_other, entry_at-with_item_among, length-with_item_among, entry_at-with_generation_other, entry_at-with_generation, length-with_generation, entry_at-between_other, entry_at-between, length-between, entry_at-numbered, entry_at-numbered_before, generation-numbered, items-numbered, generation-moved, generation-relocated}
+use Rattle.chain_base.proofs.CallerLemmas.{entry_at-absent, entry_at-without_other, entry_at-without, length-without, entry_at-with_item_among_other}
+use Rattle.chain_base.proofs.CallerLemmas.{entry_at-with_item_among, length-with_item_among, entry_at-with_generation_other, entry_at-with_generation}
+use Rattle.chain_base.proofs.CallerLemmas.{length-with_generation, entry_at-between_other, entry_at-between, length-between, entry_at-numbered}
+use Rattle.chain_base.proofs.CallerLemmas.{entry_at-numbered_before, generation-numbered, items-numbered, generation-moved, generation-relocated}
 use Rattle.ord_tree.specs.Tree.{Tree, IsGrown, with_item}
 use Rattle.triple_ord.specs.Gap.{Gap, with_between}
 use Rattle.std.specs.declared.cmp.Ordering.TheVariants.{Less, Equal, Greater}
@@ -54,7 +58,8 @@ module _ {T : Type 0} where
       go (Some e) is = refl
 
   -- a removal
-  pub updates-removed : (greatest : Option ℕ) (old new : Tree T) (p : ℕ × ℕ) → IsDistinct old.list.entries → IsSome (item_of old p) → new.list ≡ removed greatest old.list p.0 → Updates old new p None
+  pub updates-removed : (greatest : Option ℕ) (old new : Tree T) (p : ℕ × ℕ) → IsDistinct old.list.entries → IsSome (item_of old p)
+      → new.list ≡ removed greatest old.list p.0 → Updates old new p None
   updates-removed greatest old new p distinct there is =
       record {
         changed = rw (is, entry_at-without old.list.entries p.0 distinct) refl;
@@ -97,7 +102,8 @@ module _ {T : Type 0} where
   count-written a i item = length-with_item_among a.list.entries i item
 
   -- a renewal
-  pub updates-renewed : (greatest : Option ℕ) (old : Tree T) (p : ℕ × ℕ) → IsSome (item_of old p) → let new : Tree T = record old { list = renewed greatest old.list p.0 } in Renews old new p (p.0, new.list.generation)
+  pub updates-renewed : (greatest : Option ℕ) (old : Tree T) (p : ℕ × ℕ) → IsSome (item_of old p)
+      → let new : Tree T = record old { list = renewed greatest old.list p.0 } in Renews old new p (p.0, new.list.generation)
   updates-renewed greatest old p there = go (entry_at old p.0) refl
     where
       next : ℕ
@@ -135,15 +141,19 @@ module _ {T : Type 0} where
       ]
 
   -- an insertion of a new entry, where the list was grown for it or not
-  module _ (old new : Tree T) (room : Chain T) (roomy : room.entries ≡ old.list.entries) (gap : Gap old.list.entries) (item : T) (p : ℕ × ℕ) (inserted : IsInsertion room new.list (with_between gap) item p.0 p.1) where
+  module _ (old new : Tree T) (room : Chain T) (roomy : room.entries ≡ old.list.entries) (gap : Gap old.list.entries) (item : T) (p : ℕ × ℕ)
+      (inserted : IsInsertion room new.list (with_between gap) item p.0 p.1) where
     abbrev entry : Entry T
     entry = record { index = p.0; generation = p.1; item = item }
 
     -- the list afterwards
     listed : new.list.entries ≡ gap.front ++ entry ∷ gap.back
-    listed = ap (λ (c : Chain T). c.entries) inserted.after ∙ first room.vacant inserted.next ∙ ap (λ g. gap.front ++ record { index = p.0; generation = g; item = item } ∷ gap.back) (sym inserted.generation)
+    listed = ap (λ (c : Chain T). c.entries) inserted.after ∙ first room.vacant inserted.next
+        ∙ ap (λ g. gap.front ++ record { index = p.0; generation = g; item = item } ∷ gap.back) (sym inserted.generation)
       where
-        first : (vacant : List ℕ) → slice_get vacant 0 ≡ Some p.0 → (inserted_at room (with_between gap) item vacant).entries ≡ gap.front ++ record { index = p.0; generation = room.generation; item = item } ∷ gap.back
+        first : (vacant : List ℕ) → slice_get vacant 0 ≡ Some p.0
+            → (inserted_at room (with_between gap) item vacant).entries
+            ≡ gap.front ++ record { index = p.0; generation = room.generation; item = item } ∷ gap.back
         first [] next = absurd (cc)
         first (i ∷ rest) next = let same : i ≡ p.0 = cc in rw same refl
 
@@ -162,7 +172,9 @@ module _ {T : Type 0} where
           ];
           others = λ q apart. elim (eqb_tells q.0 p.0) [
             | inl h ↦
-                let none : item_of old q ≡ None = item_of-absent old q (ap (λ es. entry_among es q.0) gap.cut ∙ ap (entry_among (gap.front ++ gap.back)) h.1 ∙ entry_at-absent (gap.front ++ gap.back) p.0 unused) in
+                let none : item_of old q ≡ None =
+                item_of-absent old q (ap (λ es. entry_among es q.0) gap.cut ∙ ap (entry_among (gap.front ++ gap.back)) h.1
+                ∙ entry_at-absent (gap.front ++ gap.back) p.0 unused) in
                 lost q h.1 apart ∙ sym none
             | inr h ↦ rw (listed, gap.cut, entry_at-between_other gap.front entry gap.back q.0 h.1) refl
           ];
@@ -193,7 +205,8 @@ module _ {T : Type 0} where
       pub updates-taken : (o : Option X) → option_map f o ≡ entry_at old p.0 → OnSome o (new.list ≡ removed greatest old.list p.0) → Updates old new p None
       updates-taken o value after = updates-removed greatest old new p distinct there (taken_out o value after)
 
-      pub count-taken : {Y : Type 0} (o : Option X) (r : Option Y) → option_map f o ≡ entry_at old p.0 → OnSome o (new.list ≡ removed greatest old.list p.0) → OnSome r (count old ≡ count new + 1)
+      pub count-taken : {Y : Type 0} (o : Option X) (r : Option Y) → option_map f o ≡ entry_at old p.0
+          → OnSome o (new.list ≡ removed greatest old.list p.0) → OnSome r (count old ≡ count new + 1)
       count-taken o r value after = owed r (count-removed greatest old new p there (taken_out o value after))
 
     -- of a removal by index
@@ -204,17 +217,21 @@ module _ {T : Type 0} where
         | inr k ↦ absurd (k.1 refl)
       ]
 
-      pub updates-taken_at : (o : Option (G × T)) → option_map (λ e. (number e.0, e.1)) o ≡ entry_at old i → OnSome o (new.list ≡ removed greatest old.list i) → IfSome o (λ e. Updates old new (i, number e.0) None)
+      pub updates-taken_at : (o : Option (G × T)) → option_map (λ e. (number e.0, e.1)) o ≡ entry_at old i
+          → OnSome o (new.list ≡ removed greatest old.list i) → IfSome o (λ e. Updates old new (i, number e.0) None)
       updates-taken_at None value after = tt
       updates-taken_at (Some e) value after = updates-removed greatest old new (i, number e.0) distinct (found_there e value) after
 
-      pub count-taken_at : (o : Option (G × T)) → option_map (λ e. (number e.0, e.1)) o ≡ entry_at old i → OnSome o (new.list ≡ removed greatest old.list i) → OnSome o (count old ≡ count new + 1)
+      pub count-taken_at : (o : Option (G × T)) → option_map (λ e. (number e.0, e.1)) o ≡ entry_at old i
+          → OnSome o (new.list ≡ removed greatest old.list i) → OnSome o (count old ≡ count new + 1)
       count-taken_at None value after = tt
       count-taken_at (Some e) value after = count-removed greatest old new (i, number e.0) (found_there e value) after
 
   -- of a renewal
   module _ {P : Type 0} (numbers : P → ℕ × ℕ) (greatest : Option ℕ) (old new : Tree T) (p : ℕ × ℕ) where
-    pub renews-renewed : (o : Option P) → is_some o ≡ is_some (item_of old p) → IfSome o (λ q. (numbers q).0 ≡ p.0) → IfSome o (λ q. (numbers q).1 ≡ next_generation greatest old.list.generation) → OnSome o (new ≡ record old { list = renewed greatest old.list p.0 }) → IfSome o (λ q. Renews old new p (numbers q))
+    pub renews-renewed : (o : Option P) → is_some o ≡ is_some (item_of old p) → IfSome o (λ q. (numbers q).0 ≡ p.0)
+        → IfSome o (λ q. (numbers q).1 ≡ next_generation greatest old.list.generation)
+        → OnSome o (new ≡ record old { list = renewed greatest old.list p.0 }) → IfSome o (λ q. Renews old new p (numbers q))
     renews-renewed None valid at raised after = tt
     renews-renewed (Some q) valid at raised after = rw (at, raised, after) (updates-renewed greatest old p (sym valid))
 
@@ -248,13 +265,15 @@ module _ {T K : Type 0} (key : T → K) (cmp : K → K → Ordering) where
     | inr h ↦ absurd (h.1 refl)
   ]
 
-  module _ {P : Type 0} (numbers : P → ℕ × ℕ) (growth : Growth) (most : ℕ) (aim : Aim K) (old arena new : Tree T) (distinct : IsDistinct old.list.entries) (put : Entry T → List (Entry T)) (item : T) where
+  module _ {P : Type 0} (numbers : P → ℕ × ℕ) (growth : Growth) (most : ℕ) (aim : Aim K) (old arena new : Tree T)
+      (distinct : IsDistinct old.list.entries) (put : Entry T → List (Entry T)) (item : T) where
     awaited-inserts : (place : Place old.list.entries) (shown : OrdEntryKind P) (before : Option T) → IsPlace key cmp aim place → Awaits numbers growth most old arena place put shown
         → InsertsThere numbers shown put arena item before new → InsertsBy key cmp most growth aim numbers old item (Ok (shown, before)) new
     awaited-inserts (into gap) (New p) None at awaits there = record {
       gap = gap;
       place = at;
-      inserted = subst (λ (c : Chain T). IsInsertion c new.list (with_between gap) item (numbers p).0 (numbers p).1) (ap (λ (t : Tree T). t.list) awaits.room) (IsInsertion-same _ _ _ _ item _ _ awaits.puts there.0);
+      inserted = subst (λ (c : Chain T). IsInsertion c new.list (with_between gap) item (numbers p).0 (numbers p).1)
+          (ap (λ (t : Tree T). t.list) awaits.room) (IsInsertion-same _ _ _ _ item _ _ awaits.puts there.0);
       grown = subst (λ (t : Tree T). IsGrown t.shape new.shape) awaits.room there.1;
     }
     awaited-inserts (into gap) (New p) (Some before) at awaits there = absurd there
@@ -273,7 +292,8 @@ module _ {T K : Type 0} (key : T → K) (cmp : K → K → Ordering) where
     awaited-inserts nowhere shown before at awaits there = absurd awaits
 
   -- what an entry of an insertion inserts
-  pub entry-inserts : {P I G : Type 0} (numbers : P → ℕ × ℕ) (number : I → ℕ) (growth : Growth) (most : ℕ) (kind : OrdInsertKind P K I G) (old arena new : Tree T) → IsDistinct old.list.entries
+  pub entry-inserts : {P I G : Type 0} (numbers : P → ℕ × ℕ) (number : I → ℕ) (growth : Growth) (most : ℕ)
+      (kind : OrdInsertKind P K I G) (old arena new : Tree T) → IsDistinct old.list.entries
       → (shown : OrdEntryKind P) (put : Entry T → List (Entry T)) (visits : ℕ) (item : T) (before : Option T)
       → IsEntryFor numbers key cmp number growth most kind old shown put visits arena → InsertsThere numbers shown put arena item before new
       → InsertsBy key cmp most growth (aim_of number kind) numbers old item (Ok (shown, before)) new
@@ -309,13 +329,16 @@ pub ruleset written = (found-written, others-written, count-written)
 -- what the searches by key find
 module _ {T K : Type 0} (key : T → K) (cmp : K → K → Ordering) (t : Tree T) (k : K) (distinct : IsDistinct t.list.entries) where
   module _ {P : Type 0} (numbers : P → ℕ × ℕ) where
-    finds_here : (e : Entry T) → entry_at t e.index ≡ Some (e.generation, e.item) → (p : P) → numbers p ≡ pointer e → (order : Ordering) → cmp k (key e.item) ≡ order → FindsBy key cmp t k (numbers p) order
+    finds_here : (e : Entry T) → entry_at t e.index ≡ Some (e.generation, e.item) → (p : P) → numbers p ≡ pointer e → (order : Ordering)
+        → cmp k (key e.item) ≡ order → FindsBy key cmp t k (numbers p) order
     finds_here e there p named order lies = elim (eqb_tells e.generation e.generation) [
       | inl h ↦ rw (named, there, h.0) lies
       | inr h ↦ absurd (h.1 refl)
     ]
 
-    pub finds-similar : (o : Option (P × Ordering)) (c : ℕ) → FindsSimilar key cmp t.list.entries k (option_map (λ a. (numbers a.0, a.1)) o) c → IfSome o (λ a. FindsBy key cmp t k (numbers a.0) a.1)
+    pub finds-similar : (o : Option (P × Ordering)) (c : ℕ)
+        → FindsSimilar key cmp t.list.entries k (option_map (λ a. (numbers a.0, a.1)) o) c
+        → IfSome o (λ a. FindsBy key cmp t k (numbers a.0) a.1)
     finds-similar None c found = tt
     finds-similar (Some a) c found =
         finds_here found.0 (similar-here key cmp t.list.entries k distinct (numbers a.0) a.1 c found) a.0 (ap (λ b. b.0) found.1) a.1 (sym (ap (λ b. b.1) found.1))
@@ -358,7 +381,8 @@ module _ {T : Type 0} (a : Tree T) (g : ℕ) where
       ]
 
 -- what pointers find after a transfer
-module _ {P Q T U F : Type 0} (numbers_from : Q → ℕ × ℕ) (numbers_to : P → ℕ × ℕ) (greatest : Option ℕ) (step : F → Q → InvalidationOption U → P → T → F → Type 0) (g : ℕ) where
+module _ {P Q T U F : Type 0} (numbers_from : Q → ℕ × ℕ) (numbers_to : P → ℕ × ℕ) (greatest : Option ℕ)
+    (step : F → Q → InvalidationOption U → P → T → F → Type 0) (g : ℕ) where
   items-counted : (es : List (Entry U)) (s t : Transferring F T) → FoldsTo (TransferStep numbers_from numbers_to greatest step g) s es t → length t.items ≡ length s.items + length es
   items-counted [] s t same = omega (arith, ap (λ (s : Transferring F T). length s.items) same)
   items-counted (e ∷ es) s t calls =
@@ -375,7 +399,8 @@ module _ {P Q T U F : Type 0} (numbers_from : Q → ℕ × ℕ) (numbers_to : P 
 
     pub count-transferred : count new ≡ count source
     count-transferred =
-        let items : length (map (λ (e : Entry T). e.item) new.list.entries) ≡ length h.last.items = ap length (ap (λ (es : List (Entry T)). map (λ e. e.item) es) entries-transferred ∙ items-numbered g 1 h.last.items) in
+        let items : length (map (λ (e : Entry T). e.item) new.list.entries) ≡ length h.last.items =
+        ap length (ap (λ (es : List (Entry T)). map (λ e. e.item) es) entries-transferred ∙ items-numbered g 1 h.last.items) in
         omega (arith, items, length-map new.list.entries (λ e. e.item), items-counted source.list.entries (record { closure = f; items = []; generation = source.list.generation }) h.last h.calls)
 
     pub emptied-transferred : FindsNothing left

@@ -1,5 +1,6 @@
 -- The finite map that an ordered arena is, after changes of its capacity and compressions, and its first and last indexes.
-use Rattle.std.proofs.Common.{◌≡◌, ℕ, zero, suc, ◌+◌, ◌-◌, ◌<◌, ◌≤◌, ◌↔◌, Option, Some, None, Result, Ok, Err, List, [], ◌∷◌, ◌++◌, length, map, get_or, take, drop, reverse, replicate, slice_get, is_some, Bool, true, false, max, IsSome, refl, sym, ap, subst, ◌∙◌, add-one, arith, inl, inr}
+use Rattle.std.proofs.Common.{◌≡◌, ℕ, zero, suc, ◌+◌, ◌-◌, ◌<◌, ◌≤◌, ◌↔◌, Option, Some, None, Result, Ok, Err, List, [], ◌∷◌, ◌++◌, length, map, get_or, take}
+use Rattle.std.proofs.Common.{drop, reverse, replicate, slice_get, is_some, Bool, true, false, max, IsSome, refl, sym, ap, subst, ◌∙◌, add-one, arith, inl, inr}
 use Rattle.std.specs.Option.{option_map, IfSome}
 use Rattle.std.specs.Result.{OnOk}
 use Rattle.std.specs.List.{FoldsTo}
@@ -43,7 +44,8 @@ module _ {T : Type 0} where
       step (Some e) more = ap (λ rest. (from, e.0, e.1) ∷ rest) more
 
   -- the slots of a list within another capacity, where no entry is beyond the old one
-  slots-resized : (es : List (Entry T)) (from n c : ℕ) → ((k : ℕ) → from + c ≤ k → entry_at es k ≡ None) → slots_from es from n ≡ take n (slots_from es from c) ++ replicate (n - c) None
+  slots-resized : (es : List (Entry T)) (from n c : ℕ) → ((k : ℕ) → from + c ≤ k → entry_at es k ≡ None)
+      → slots_from es from n ≡ take n (slots_from es from c) ++ replicate (n - c) None
   slots-resized es from zero c none = let nothing : zero - c ≡ 0 = omega arith in rw nothing refl
   slots-resized es from (suc n) zero none =
       let whole : suc n - zero ≡ suc n = omega arith in
@@ -78,14 +80,18 @@ module _ {T : Type 0} where
     beyond k above = outside most greatest t sound k (λ first within. omega (arith, above, within))
 
     -- the least and the greatest index
-    pub first-found : {X : Type 0} (o : Option X) (numbers : X → ℕ × ℕ) → IfSome o (λ p. IsFirstIndex t.list.entries (numbers p).0 (numbers p).1) → IfSome o (λ p. IsFirstEntry (content_of t) (numbers p).0 (numbers p).1)
+    pub first-found : {X : Type 0} (o : Option X) (numbers : X → ℕ × ℕ)
+        → IfSome o (λ p. IsFirstIndex t.list.entries (numbers p).0 (numbers p).1)
+        → IfSome o (λ p. IsFirstEntry (content_of t) (numbers p).0 (numbers p).1)
     first-found None numbers h = h
     first-found (Some p) numbers h = record {
       entry = ap (option_map (λ (e : ℕ × T). e.0)) (slot_is most greatest t sound (numbers p).0) ∙ h.entry;
       least = λ k below. slot_is most greatest t sound k ∙ entry_at-absent t.list.entries k (h.least k below);
     }
 
-    pub last-found : {X : Type 0} (o : Option X) (numbers : X → ℕ × ℕ) → IfSome o (λ p. IsLastIndex t.list.entries (numbers p).0 (numbers p).1) → IfSome o (λ p. IsLastEntry (content_of t) (numbers p).0 (numbers p).1)
+    pub last-found : {X : Type 0} (o : Option X) (numbers : X → ℕ × ℕ)
+        → IfSome o (λ p. IsLastIndex t.list.entries (numbers p).0 (numbers p).1)
+        → IfSome o (λ p. IsLastEntry (content_of t) (numbers p).0 (numbers p).1)
     last-found None numbers h = h
     last-found (Some p) numbers h = record {
       entry = ap (option_map (λ (e : ℕ × T). e.0)) (slot_is most greatest t sound (numbers p).0) ∙ h.entry;
@@ -147,7 +153,9 @@ module _ {T : Type 0} where
       slots-compressed = same-slots (None ∷ slots_from (map (moved t.list.entries g items) t.list.entries) 1 t.list.capacity) (resized (suc t.list.capacity) (None ∷ map (λ item. Some (g, item)) items))
           (omega (arith, length-slots (map (moved t.list.entries g items) t.list.entries) 1 t.list.capacity, compressed-length (suc t.list.capacity) g items fits)) at
         where
-          at : (k : ℕ) → get_or (None ∷ slots_from (map (moved t.list.entries g items) t.list.entries) 1 t.list.capacity) k None ≡ get_or (resized (suc t.list.capacity) (None ∷ map (λ item. Some (g, item)) items)) k None
+          at : (k : ℕ)
+              → get_or (None ∷ slots_from (map (moved t.list.entries g items) t.list.entries) 1 t.list.capacity) k None
+              ≡ get_or (resized (suc t.list.capacity) (None ∷ map (λ item. Some (g, item)) items)) k None
           at zero = refl
           at (suc k) = moved-slot k ∙ sym (compressed-at (suc t.list.capacity) g items k fits)
 
@@ -166,7 +174,8 @@ module _ {P T F : Type 0} (numbers : P → ℕ × ℕ) (step : F → P → T →
   items-counted [] s t same = omega (arith, ap (λ (s : F × List T). length s.1) same)
   items-counted (e ∷ es) s t calls = omega (arith, items-counted es calls.0 t calls.2, ap length calls.1.behind, length-append s.1 (calls.1.item ∷ []))
 
-  pub content-compression : (most : ℕ) (greatest : Option ℕ) (t u : Tree T) (f : F) → IsSound most greatest t.list → IsChainCompression numbers step g f t.list u.list → IsCompression numbers step g f (content_of t) (content_of u)
+  pub content-compression : (most : ℕ) (greatest : Option ℕ) (t u : Tree T) (f : F) → IsSound most greatest t.list
+      → IsChainCompression numbers step g f t.list u.list → IsCompression numbers step g f (content_of t) (content_of u)
   content-compression most greatest t u f sound is =
       let rising : arena_rising (content_of t) 0 ≡ entries_rising t.list = rising-is t.list.entries 1 t.list.capacity in
       let many : length (arena_rising (content_of t) 0) ≡ length t.list.entries = length-entries 0 (content_of t).slots ∙ len_is most greatest t sound in
@@ -245,7 +254,8 @@ module _ {X Y : Type 0} where
 
 -- A walk over the arena under the chain under a tree is one over the tree's entries.
 module _ {P T I G : Type 0} (most : ℕ) (greatest : Option ℕ) (t : Tree T) (sound : IsSound most greatest t.list) where
-  pub steps-under : {Q : Type 0} (numbers : Q → ℕ × ℕ) (c : Chain (SimpleOrdArenaNode P T I G)) (a : Arena (Link (SimpleOrdArenaNode P T I G))) → IsChainOf t c → IsArenaOf c a → take 1 a.slots ≡ None ∷ []
+  pub steps-under : {Q : Type 0} (numbers : Q → ℕ × ℕ) (c : Chain (SimpleOrdArenaNode P T I G)) (a : Arena (Link (SimpleOrdArenaNode P T I G)))
+      → IsChainOf t c → IsArenaOf c a → take 1 a.slots ≡ None ∷ []
       → (old new : Walk) (r : Option Q) → WalkSteps numbers old a r new → SlotWalkSteps numbers old t r new
   steps-under {Q = Q} numbers c a under laid begins old new r step =
       told r (steps-alike numbers a (content_of t) (rest-alike a (content_of t) (alike-by_index a.slots (content_of t).slots long same)) there old new r step)

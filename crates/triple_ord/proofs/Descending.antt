@@ -1,5 +1,6 @@
 -- A descent from the root: how it begins, goes down, and ends.
-use Rattle.std.proofs.Common.{◌≡◌, ◌≢◌, ℕ, true, false, if◌then◌else◌, ◌+◌, ◌-◌, ◌≤◌, List, [], ◌∷◌, ◌++◌, Option, Some, None, IsSome, IfSome, refl, sym, ap, subst, ◌∙◌, arith, inl, inr, ◌⊎◌, max, map, append_assoc, Contains, length, MatchOption}
+use Rattle.std.proofs.Common.{◌≡◌, ◌≢◌, ℕ, true, false, if◌then◌else◌, ◌+◌, ◌-◌, ◌≤◌, List, [], ◌∷◌, ◌++◌, Option, Some, None, IsSome, IfSome, refl, sym, ap}
+use Rattle.std.proofs.Common.{subst, ◌∙◌, arith, inl, inr, ◌⊎◌, max, map, append_assoc, Contains, length, MatchOption}
 use Rattle.std.proofs.lemmas.List.{append-nil}
 use Rattle.std.proofs.lemmas.List.Elements.{Contains-append_right}
 use Rattle.std.proofs.lemmas.Bool.Decides.{eqb_tells}
@@ -61,7 +62,15 @@ module _ {T : Type 0} where
   cut_at (e ∷ es) [] i high same = record { front = []; entry = e; back = es; cut = refl; low_is = refl; here = cc; high_is = cc }
   cut_at (e ∷ es) (j ∷ low) i high same =
       let rest = cut_at es low i high (cc) in
-      record { front = e ∷ rest.front; entry = rest.entry; back = rest.back; cut = ap (λ xs. e ∷ xs) rest.cut; low_is = let h : e.index ≡ j = cc in rw (h, rest.low_is) refl; here = rest.here; high_is = rest.high_is }
+      record {
+        front = e ∷ rest.front;
+        entry = rest.entry;
+        back = rest.back;
+        cut = ap (λ xs. e ∷ xs) rest.cut;
+        low_is = let h : e.index ≡ j = cc in rw (h, rest.low_is) refl;
+        here = rest.here;
+        high_is = rest.high_is;
+      }
 
   -- where an index stands once, it is found there
   pub times-back : (i : ℕ) (front back : List (Entry T)) → times i back ≤ times i (front ++ back)
@@ -119,7 +128,9 @@ module _ {T : Type 0} where
   last_less-in : (other : Option (Entry T)) (shown : List (Shown T)) (e : Entry T) → last_less other shown ≡ Some e → (other ≡ Some e) ⊎ Contains shown (e, Less)
   last_less-in other [] e is = inl is
   last_less-in other ((x, Less) ∷ shown) e is = elim (last_less-in (Some x) shown e is) [
-    | inl same ↦ let here : x ≡ e = cc in inr (subst (λ (y : Entry T). Contains ((x, Less) ∷ shown) (y, Less)) here (Contains-append_left ((x, Less) ∷ []) shown (x, Less) (Contains-push [] (x, Less))))
+    | inl same ↦ let here : x ≡ e = cc in
+        inr (subst (λ (y : Entry T). Contains ((x, Less) ∷ shown) (y, Less)) here
+        (Contains-append_left ((x, Less) ∷ []) shown (x, Less) (Contains-push [] (x, Less))))
     | inr there ↦ inr (Contains-append_right ((x, Less) ∷ []) shown (e, Less) there)
   ]
   last_less-in other ((x, Equal) ∷ shown) e is = elim (last_less-in other shown e is) [ inl same ↦ inl same | inr there ↦ inr (Contains-append_right ((x, Equal) ∷ []) shown (e, Less) there) ]
@@ -296,7 +307,9 @@ module _ {T : Type 0} (es : List (Entry T)) (shape : Shape) where
   pub cut_there : (shown : List (Shown T)) (d : IsDescending es shape shown None) → es ≡ d.front ++ d.back
   cut_there shown d = d.cut ∙ ap (λ xs. d.front ++ (xs ++ d.back)) (none_left shown d d.part refl)
 
-  pub beside : (low high : Option (Entry T)) (last : Option (Shown T)) → MatchOption last ((low ≡ None) × (high ≡ None)) (λ s. (low ≡ Some s.0) ⊎ (high ≡ Some s.0)) → IfSome last (λ s. (low ≡ Some s.0) ⊎ (high ≡ Some s.0))
+  pub beside : (low high : Option (Entry T)) (last : Option (Shown T))
+      → MatchOption last ((low ≡ None) × (high ≡ None)) (λ s. (low ≡ Some s.0) ⊎ (high ≡ Some s.0))
+      → IfSome last (λ s. (low ≡ Some s.0) ⊎ (high ≡ Some s.0))
   beside low high None h = tt
   beside low high (Some s) h = h
 
@@ -311,9 +324,12 @@ module _ {T : Type 0} (es : List (Entry T)) (shape : Shape) where
       }
 
   -- nothing was shown in an empty list alone
-  pub descent-empty : (shown : List (Shown T)) (last : Option (Shown T)) → last ≡ last_or None shown → IsDescending es shape shown None → MatchOption (similar_of last) (es ≡ []) (λ a. Unit {0})
+  pub descent-empty : (shown : List (Shown T)) (last : Option (Shown T)) → last ≡ last_or None shown → IsDescending es shape shown None
+      → MatchOption (similar_of last) (es ≡ []) (λ a. Unit {0})
   descent-empty shown None is d =
-      let none : MatchOption {T = Shown T} None ((last_or None d.front ≡ None) × (first_of d.back ≡ None)) (λ s. (last_or None d.front ≡ Some s.0) ⊎ (first_of d.back ≡ Some s.0)) = rw (← is) at d.last_beside in
+      let none : MatchOption {T = Shown T} None ((last_or None d.front ≡ None) × (first_of d.back ≡ None))
+      (λ s. (last_or None d.front ≡ Some s.0) ⊎ (first_of d.back ≡ Some s.0)) =
+      rw (← is) at d.last_beside in
       cut_there shown d ∙ rw (empty_front d.front none.0, empty_back d.back none.1) refl
     where
       no_last : (x : Entry T) (xs : List (Entry T)) → last_or (Some x) xs ≡ None → ⊥
@@ -370,7 +386,9 @@ module _ {T F : Type 0} (asks : F → Shown T → F → Type 0) (t : Tree T) (di
   pub descent-begins : map (λ e. e.index) t.list.entries ≡ walk t.shape → HasDescended asks t.list.entries t.shape before f f (root_of t.shape) before None
   descent-begins listed = record { shown = []; calls = refl; descending = IsDescending-begin t.list.entries t.shape listed distinct; count = omega arith; last_is = refl }
 
-  pub descent-ends : (g : F) (visits : ℕ) (last : Option ((ℕ × ℕ) × Ordering)) → HasDescended asks t.list.entries t.shape before f g None visits last → FindsSimilarWith asks t.list.entries f g last (visits - before)
+  pub descent-ends : (g : F) (visits : ℕ) (last : Option ((ℕ × ℕ) × Ordering))
+      → HasDescended asks t.list.entries t.shape before f g None visits last
+      → FindsSimilarWith asks t.list.entries f g last (visits - before)
   descent-ends g visits last d = (
     last_or None d.shown,
     record { shown = d.shown; calls = d.calls; search = descent-search t.list.entries t.shape d.shown d.descending; last_is = refl; count = omega (arith, d.count) },
@@ -505,5 +523,6 @@ where_equal-map {X} f (Some a) = by_order a.0 a.1
     by_order x Greater = refl
 
 -- what a search for a similar entry says of one for an equal one
-pub finds_with-similar : {T F : Type 0} (asks : F → Shown T → F → Type 0) (es : List (Entry T)) (f g : F) (c : ℕ) (found : Option ((ℕ × ℕ) × Ordering)) → FindsSimilarWith asks es f g found c → FindsWith asks es f g (where_equal found) c
+pub finds_with-similar : {T F : Type 0} (asks : F → Shown T → F → Type 0) (es : List (Entry T)) (f g : F) (c : ℕ)
+    (found : Option ((ℕ × ℕ) × Ordering)) → FindsSimilarWith asks es f g found c → FindsWith asks es f g (where_equal found) c
 finds_with-similar asks es f g c found search = (search.0, search.1, ap where_equal search.2 ∙ where_equal-map pointer search.0)

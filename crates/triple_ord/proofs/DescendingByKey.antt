@@ -55,7 +55,8 @@ module _ {T : Type 0} where
       absurd (cc)
   two_shown (x ∷ (y ∷ ys)) a b first second = omega arith
 
-  neighbours_shown : (low high : Option (Entry T)) (shown : List (Shown T)) → IfSome low (λ e. Contains shown (e, Greater)) → IfSome high (λ e. Contains shown (e, Less)) → present low + present high ≤ length shown
+  neighbours_shown : (low high : Option (Entry T)) (shown : List (Shown T)) → IfSome low (λ e. Contains shown (e, Greater))
+      → IfSome high (λ e. Contains shown (e, Less)) → present low + present high ≤ length shown
   neighbours_shown None None shown l h = omega arith
   neighbours_shown (Some a) None shown l h = let at = l.1 in omega (arith, at)
   neighbours_shown None (Some b) shown l h = let at = h.1 in omega (arith, at)
@@ -69,7 +70,9 @@ module _ {T K : Type 0} (key : T → K) (cmp : K → K → Ordering) (t : Tree T
   by_key-begins listed = record { shown = []; turned = All-nil Turned; descending = IsDescending-begin t.list.entries t.shape listed distinct; count = omega arith; last_is = refl; met_is = refl }
 
   -- the key is compared with that of the entry at the link
-  module _ (i visits : ℕ) (last : Option ((ℕ × ℕ) × Ordering)) (met : Option (ℕ × ℕ)) (d : HasDescendedByKey key cmp t.list.entries t.shape k start (Some i) visits last met) (generation : ℕ) (item : T) (lesser greater : Option ℕ) (there : IsShown t i generation item lesser greater) (o : Ordering) (order : o ≡ cmp k (key item)) where
+  module _ (i visits : ℕ) (last : Option ((ℕ × ℕ) × Ordering)) (met : Option (ℕ × ℕ))
+      (d : HasDescendedByKey key cmp t.list.entries t.shape k start (Some i) visits last met) (generation : ℕ) (item : T)
+      (lesser greater : Option ℕ) (there : IsShown t i generation item lesser greater) (o : Ordering) (order : o ≡ cmp k (key item)) where
     abbrev entry : Entry T
     entry = (face t distinct d.shown i d.descending).entry
 

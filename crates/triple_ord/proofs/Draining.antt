@@ -19,7 +19,8 @@ module _ {T : Type 0} where
       omega (arith, ap (λ (q : ℕ × ℕ). q.0) same)
 
   -- without the first entry the others are left
-  others-left : (from k i g : ℕ) (slots : List (Option (ℕ × T))) (rest : List (ℕ × ℕ)) → i ≡ from + k → pointers_from from slots ≡ (i, g) ∷ rest → pointers_from from (set slots k None) ≡ rest
+  others-left : (from k i g : ℕ) (slots : List (Option (ℕ × T))) (rest : List (ℕ × ℕ)) → i ≡ from + k
+      → pointers_from from slots ≡ (i, g) ∷ rest → pointers_from from (set slots k None) ≡ rest
   others-left from k i g [] rest at is = absurd (cc)
   others-left from zero i g (None ∷ slots) rest at is = absurd (omega (arith, at, first-above (from + 1) slots (i, g) rest is))
   others-left from (suc k) i g (None ∷ slots) rest at is = others-left (from + 1) k i g slots rest (omega (arith, at)) is
@@ -36,7 +37,8 @@ module _ {T : Type 0} where
   none-there from (Some e ∷ slots) k is = absurd (cc)
 
   -- a walk that had all entries to give, and has none, goes over an arena without entries
-  pub nothing-left : (most : ℕ) (greatest : Option ℕ) (t : Tree T) (rest : List (ℕ × ℕ)) → IsSound most greatest t.list → rest ≡ [] → rest ≡ pointers (content_of t) → FindsNothing t
+  pub nothing-left : (most : ℕ) (greatest : Option ℕ) (t : Tree T) (rest : List (ℕ × ℕ)) → IsSound most greatest t.list → rest ≡ []
+      → rest ≡ pointers (content_of t) → FindsNothing t
   nothing-left most greatest t rest sound none whole p =
       sym (item_is most greatest t sound p) ∙ ap (item_if p.1) (none-there 0 (content_of t).slots p.0 (sym whole ∙ none))
 

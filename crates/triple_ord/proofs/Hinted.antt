@@ -22,7 +22,8 @@ module _ {T K : Type 0} (key : T → K) (cmp : K → K → Ordering) (es : List 
 
   module _ {P : Type 0} (pointer_of : P → ℕ × ℕ) (visits : ℕ) where
     -- where the steps have an answer, it is the search's
-    pub settled-similar : (found : Option (P × Ordering)) → Settles key cmp es k (option_map (λ a. (pointer_of a.0, a.1)) found) visits → is_some found ≡ true → FindsSimilar key cmp es k (option_map (λ a. (pointer_of a.0, a.1)) found) visits
+    pub settled-similar : (found : Option (P × Ordering)) → Settles key cmp es k (option_map (λ a. (pointer_of a.0, a.1)) found) visits
+        → is_some found ≡ true → FindsSimilar key cmp es k (option_map (λ a. (pointer_of a.0, a.1)) found) visits
     settled-similar None settled some = absurd (cc)
     settled-similar (Some a) settled some = settled
 

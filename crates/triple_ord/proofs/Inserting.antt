@@ -31,7 +31,8 @@ module _ {T : Type 0} where
   times-here e es = elim (eqb_tells e.index e.index) [ inl h ↦ rw h.0 refl | inr h ↦ absurd (h.1 refl) ]
 
   -- an insertion beside an entry, where its index stands once
-  pub insert_before-here : (new : Entry T) (front : List (Entry T)) (e : Entry T) (back : List (Entry T)) → IsDistinct (front ++ e ∷ back) → insert_before e.index new (front ++ e ∷ back) ≡ front ++ new ∷ e ∷ back
+  pub insert_before-here : (new : Entry T) (front : List (Entry T)) (e : Entry T) (back : List (Entry T)) → IsDistinct (front ++ e ∷ back)
+      → insert_before e.index new (front ++ e ∷ back) ≡ front ++ new ∷ e ∷ back
   insert_before-here new [] e back distinct = elim (eqb_tells e.index e.index) [ inl h ↦ rw h.0 refl | inr h ↦ absurd (h.1 refl) ]
   insert_before-here new (f ∷ front) e back distinct = elim (eqb_tells f.index e.index) [
     | inl h ↦
@@ -40,7 +41,8 @@ module _ {T : Type 0} where
     | inr h ↦ rw h.0 (ap (λ xs. f ∷ xs) (insert_before-here new front e back (λ j. omega (arith, distinct j))))
   ]
 
-  pub insert_after-here : (new : Entry T) (front : List (Entry T)) (e : Entry T) (back : List (Entry T)) → IsDistinct (front ++ e ∷ back) → insert_after e.index new (front ++ e ∷ back) ≡ front ++ e ∷ new ∷ back
+  pub insert_after-here : (new : Entry T) (front : List (Entry T)) (e : Entry T) (back : List (Entry T)) → IsDistinct (front ++ e ∷ back)
+      → insert_after e.index new (front ++ e ∷ back) ≡ front ++ e ∷ new ∷ back
   insert_after-here new [] e back distinct = elim (eqb_tells e.index e.index) [ inl h ↦ rw h.0 refl | inr h ↦ absurd (h.1 refl) ]
   insert_after-here new (f ∷ front) e back distinct = elim (eqb_tells f.index e.index) [
     | inl h ↦
@@ -61,11 +63,13 @@ module _ {T : Type 0} where
           ap (λ xs. entry_at xs e.index) cut ∙ entry_at-here gap.front e back (subst (λ (xs : List (Entry T)). IsDistinct xs) cut distinct)
 
   -- an insertion by another word for the same place
-  inserted_at-same : (c : Chain T) (place other : Entry T → List (Entry T)) (item : T) (vacant : List ℕ) → ((new : Entry T) → place new ≡ other new) → inserted_at c place item vacant ≡ inserted_at c other item vacant
+  inserted_at-same : (c : Chain T) (place other : Entry T → List (Entry T)) (item : T) (vacant : List ℕ)
+      → ((new : Entry T) → place new ≡ other new) → inserted_at c place item vacant ≡ inserted_at c other item vacant
   inserted_at-same c place other item [] same = refl
   inserted_at-same c place other item (i ∷ rest) same = rw (same (record { index = i; generation = c.generation; item = item })) refl
 
-  pub IsInsertion-same : (c d : Chain T) (place other : Entry T → List (Entry T)) (item : T) (i g : ℕ) → ((new : Entry T) → place new ≡ other new) → IsInsertion c d place item i g → IsInsertion c d other item i g
+  pub IsInsertion-same : (c d : Chain T) (place other : Entry T → List (Entry T)) (item : T) (i g : ℕ)
+      → ((new : Entry T) → place new ≡ other new) → IsInsertion c d place item i g → IsInsertion c d other item i g
   IsInsertion-same c d place other item i g same ins =
       record {
         next = ins.next;
@@ -107,7 +111,8 @@ module _ {T K : Type 0} (key : T → K) (cmp : K → K → Ordering) (es : List 
               gap = gap;
               stops = stops;
               puts = λ new.
-                  ap (λ (i : ℕ). insert_before i new es) (ap (λ (y : Entry T). y.index) (sym here)) ∙ ap (insert_before x.index new) cut ∙ insert_before-here new gap.front x back distinct2 ∙ ap (λ ys. gap.front ++ new ∷ ys) (sym same);
+                  ap (λ (i : ℕ). insert_before i new es) (ap (λ (y : Entry T). y.index) (sym here)) ∙ ap (insert_before x.index new) cut
+                  ∙ insert_before-here new gap.front x back distinct2 ∙ ap (λ ys. gap.front ++ new ∷ ys) (sym same);
             }
 
     -- after an entry with a lesser key
@@ -120,7 +125,9 @@ module _ {T K : Type 0} (key : T → K) (cmp : K → K → Ordering) (es : List 
           gap = gap;
           stops = stops;
           puts = λ new.
-              ap (insert_after e.index new) cut ∙ insert_after-here new last.front e gap.back distinct2 ∙ (let whole : last.front ++ e ∷ new ∷ gap.back ≡ (last.front ++ e ∷ []) ++ new ∷ gap.back = simp append_assoc in whole) ∙ ap (λ xs. xs ++ new ∷ gap.back) (sym last.cut);
+              ap (insert_after e.index new) cut ∙ insert_after-here new last.front e gap.back distinct2
+              ∙ (let whole : last.front ++ e ∷ new ∷ gap.back ≡ (last.front ++ e ∷ []) ++ new ∷ gap.back = simp append_assoc in whole)
+              ∙ ap (λ xs. xs ++ new ∷ gap.back) (sym last.cut);
         }
 
   module _ (distinct : IsDistinct es) (p : ℕ × ℕ) (o : Ordering) (c : ℕ) (found : FindsSimilar key cmp es k (Some (p, o)) c) where

@@ -68,7 +68,8 @@ module _ {T K : Type 0} (key : T → K) (cmp : K → K → Ordering) where
   IsInOrder-back (e ∷ front) back order = IsInOrder-back front back (IsInOrder-rest e (front ++ back) order)
 
   module _ (total : IsTotalOrder cmp) (k : K) where
-    pub all_greater : (front back : List (Entry T)) → IsInOrder key cmp (front ++ back) → IfSome (last_or None front) (λ e. order_to key cmp k e ≡ Greater) → ByRecursion (λ e. order_to key cmp k e ≡ Greater) front
+    pub all_greater : (front back : List (Entry T)) → IsInOrder key cmp (front ++ back)
+        → IfSome (last_or None front) (λ e. order_to key cmp k e ≡ Greater) → ByRecursion (λ e. order_to key cmp k e ≡ Greater) front
     all_greater [] back order last = tt
     all_greater (e ∷ []) back order last = (last, tt)
     all_greater (e ∷ (f ∷ front)) back order last =
@@ -97,7 +98,8 @@ module _ {T K : Type 0} (key : T → K) (cmp : K → K → Ordering) where
   in_back P (x ∷ low) high (y ∷ front) back e cut within all = in_back P low high front back e (cc) (omega (arith, within)) all
 
   -- an entry to which k doesn't lie Less stands before the gap, one to which it doesn't lie Greater behind it
-  module _ (total : IsTotalOrder cmp) (k : K) (es : List (Entry T)) (order : IsInOrder key cmp es) (gap : Gap es) (fits : Fits key cmp gap k) (front back : List (Entry T)) (e : Entry T) (cut : es ≡ front ++ e ∷ back) where
+  module _ (total : IsTotalOrder cmp) (k : K) (es : List (Entry T)) (order : IsInOrder key cmp es) (gap : Gap es)
+      (fits : Fits key cmp gap k) (front back : List (Entry T)) (e : Entry T) (cut : es ≡ front ++ e ∷ back) where
     ordered : IsInOrder key cmp (gap.front ++ gap.back)
     ordered = rw gap.cut at order
 

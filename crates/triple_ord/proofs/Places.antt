@@ -100,11 +100,13 @@ module _ {P T K : Type 0} (numbers : P → ℕ × ℕ) (key : T → K) (cmp : K 
       seen = record { some = some; beside = place.stops.seen };
     }
 
-    pub found-alone : (aim : Aim K) → ((gap : Gap t.list.entries) → Fits key cmp gap k → IsPlace key cmp aim (into gap)) → t.list.entries ≡ [] → IsFoundPlace numbers key cmp t aim c (New None)
+    pub found-alone : (aim : Aim K) → ((gap : Gap t.list.entries) → Fits key cmp gap k → IsPlace key cmp aim (into gap))
+        → t.list.entries ≡ [] → IsFoundPlace numbers key cmp t aim c (New None)
     found-alone aim lift empty = found-gap aim lift None (ap length empty) (place-alone key cmp t.list.entries k empty c) (λ some. absurd (some empty))
 
     module _ (distinct : IsDistinct t.list.entries) (p : P) (o : Ordering) (found : FindsSimilar key cmp t.list.entries k (Some (numbers p, o)) c) where
-      pub found-beside : (aim : Aim K) → ((gap : Gap t.list.entries) → Fits key cmp gap k → IsPlace key cmp aim (into gap)) → is_eq o ≡ false → IsFoundPlace numbers key cmp t aim c (New (Some (p, o)))
+      pub found-beside : (aim : Aim K) → ((gap : Gap t.list.entries) → Fits key cmp gap k → IsPlace key cmp aim (into gap))
+          → is_eq o ≡ false → IsFoundPlace numbers key cmp t aim c (New (Some (p, o)))
       found-beside aim lift test =
           found-gap aim lift (Some (p, o)) (similar-occupied key cmp t.list.entries k distinct (numbers p) o c found, not_equal o test)
           (similar-placed key cmp t.list.entries k distinct (numbers p) o c found (numbers p).0 refl test)
@@ -127,7 +129,8 @@ module _ {P T K : Type 0} (numbers : P → ℕ × ℕ) (key : T → K) (cmp : K 
   pub found-behind : (k : K) (c : ℕ) (kept : InsertPlace P) → IsFoundPlace numbers key (taken Passed cmp) t (at_key k) c kept → IsFoundPlace numbers key cmp t (behind_key k) c kept
   found-behind k c kept found = go found.place found.chosen found.keeps found.seen
     where
-      go : (place : Place t.list.entries) → IsPlace key (taken Passed cmp) (at_key k) place → Keeps numbers t kept place → HasSeen place c → IsFoundPlace numbers key cmp t (behind_key k) c kept
+      go : (place : Place t.list.entries) → IsPlace key (taken Passed cmp) (at_key k) place → Keeps numbers t kept place → HasSeen place c
+          → IsFoundPlace numbers key cmp t (behind_key k) c kept
       go (into gap) chosen keeps seen = record {
         place = into gap;
         chosen = record {
@@ -191,7 +194,8 @@ module _ {P T : Type 0} (numbers : P → ℕ × ℕ) (t : Tree T) (distinct : Is
           record { gap = side.gap; puts = side.puts }
 
 -- an insertion gives the pointer that was next
-pub insertion-named : {T : Type 0} (c d : Chain T) (put : Entry T → List (Entry T)) (item : T) (i g j h : ℕ) → next_index c ≡ Some j → h ≡ c.generation → IsInsertion c d put item i g → IsInsertion c d put item j h
+pub insertion-named : {T : Type 0} (c d : Chain T) (put : Entry T → List (Entry T)) (item : T) (i g j h : ℕ) → next_index c ≡ Some j
+    → h ≡ c.generation → IsInsertion c d put item i g → IsInsertion c d put item j h
 insertion-named c d put item i g j h next generation ins =
     let index : i ≡ j = let was = ins.next in cc in
     let era : g ≡ h = ins.generation ∙ sym generation in
@@ -203,19 +207,23 @@ err-and (Ok x) none step = tt
 err-and (Err e) has step = step e has
 
 -- what an entry stands on
-module _ {P T K I G : Type 0} (numbers : P → ℕ × ℕ) (key : T → K) (cmp : K → K → Ordering) (number : I → ℕ) (growth : Growth) (most : ℕ) (old : Tree T) (kind : OrdInsertKind P K I G) (c : ℕ) (at : Option (P × Ordering)) (found : IsPlaceFor numbers key cmp old number kind (New at) c) where
+module _ {P T K I G : Type 0} (numbers : P → ℕ × ℕ) (key : T → K) (cmp : K → K → Ordering) (number : I → ℕ) (growth : Growth) (most : ℕ)
+    (old : Tree T) (kind : OrdInsertKind P K I G) (c : ℕ) (at : Option (P × Ordering))
+    (found : IsPlaceFor numbers key cmp old number kind (New at) c) where
   -- a new entry that has no slot is refused
   pub new-refused : (e : OrdInsertionError) → LacksSlot growth most old.list e → IsRefused key cmp most growth (aim_of number kind) old e
   new-refused e lacks = go found.place found.chosen found.keeps e lacks
     where
-      with_gap : (gap : Gap old.list.entries) → IsPlace key cmp (aim_of number kind) (into gap) → (growth : Growth) (e : OrdInsertionError) → LacksSlot growth most old.list e → IsRefused key cmp most growth (aim_of number kind) old e
+      with_gap : (gap : Gap old.list.entries) → IsPlace key cmp (aim_of number kind) (into gap) → (growth : Growth) (e : OrdInsertionError)
+          → LacksSlot growth most old.list e → IsRefused key cmp most growth (aim_of number kind) old e
       with_gap gap chosen within FailedOrdRequirement lacks = absurd lacks
       with_gap gap chosen reallocating FailedOrdRequirement lacks = absurd lacks
       with_gap gap chosen growth NotWithinCapacity lacks = (gap, chosen, lacks)
       with_gap gap chosen growth BeyondMaxCapacity lacks = (gap, chosen, lacks)
       with_gap gap chosen growth AllocError lacks = (gap, chosen, lacks)
 
-      go : (place : Place old.list.entries) → IsPlace key cmp (aim_of number kind) place → Keeps numbers old (New at) place → (e : OrdInsertionError) → LacksSlot growth most old.list e → IsRefused key cmp most growth (aim_of number kind) old e
+      go : (place : Place old.list.entries) → IsPlace key cmp (aim_of number kind) place → Keeps numbers old (New at) place
+          → (e : OrdInsertionError) → LacksSlot growth most old.list e → IsRefused key cmp most growth (aim_of number kind) old e
       go (into gap) chosen keeps e lacks = with_gap gap chosen growth e lacks
       go (over entry) chosen keeps e lacks = absurd keeps
       go nowhere chosen keeps e lacks = absurd keeps
@@ -247,7 +255,9 @@ module _ {T : Type 0} (most : ℕ) (old new : Tree T) (distinct : IsDistinct old
           }
 
   module _ (o : Ordering) (other : o ≢ Equal) (occupied : IsSome (entry_at old.list.entries i)) where
-    pub beside-inserted : (p : ℕ × ℕ) → IsInsertion (with_slot reallocating most old.list) new.list (put_on o i old.list.entries) item p.0 p.1 → IsGrown old.shape new.shape → IsBesideDone o None
+    pub beside-inserted : (p : ℕ × ℕ)
+        → IsInsertion (with_slot reallocating most old.list) new.list (put_on o i old.list.entries) item p.0 p.1
+        → IsGrown old.shape new.shape → IsBesideDone o None
     beside-inserted p inserted grown = go (entry_at old.list.entries i) refl
       where
         go : (x : Option (ℕ × T)) → entry_at old.list.entries i ≡ x → IsBesideDone o None
@@ -269,11 +279,13 @@ module _ {T : Type 0} (most : ℕ) (old new : Tree T) (distinct : IsDistinct old
             let side = on-side (λ (item : T). tt {0}) (λ k l. Equal) old.list.entries distinct i x there o other in
             count-inserted old new (with_slot reallocating most old.list) (entries-with_slot reallocating most old.list) side.gap item p (IsInsertion-same _ _ _ _ item _ _ side.puts inserted)
 
-    pub beside-refused : (f : OrdInsertionError) → LacksSlot reallocating most old.list f → new ≡ old → (r : Result (Option T) OrdInsertionError) → IsErrAnd r (λ e. e ≡ f) → InsertsBeside most i o old item r new
+    pub beside-refused : (f : OrdInsertionError) → LacksSlot reallocating most old.list f → new ≡ old
+        → (r : Result (Option T) OrdInsertionError) → IsErrAnd r (λ e. e ≡ f) → InsertsBeside most i o old item r new
     beside-refused f lacks same (Ok x) none = absurd none
     beside-refused f lacks same (Err e) is = go (entry_at old.list.entries i) refl
       where
-        refused : (gap : Gap old.list.entries) → IsPlace {T = T} {K = Unit {0}} (λ item. tt {0}) (λ k l. Equal) (beside i o) (into gap) → (e : OrdInsertionError) → LacksSlot reallocating most old.list e
+        refused : (gap : Gap old.list.entries) → IsPlace {T = T} {K = Unit {0}} (λ item. tt {0}) (λ k l. Equal) (beside i o) (into gap)
+            → (e : OrdInsertionError) → LacksSlot reallocating most old.list e
             → IsRefused {T = T} {K = Unit {0}} (λ item. tt {0}) (λ k l. Equal) most reallocating (beside i o) old e
         refused gap at FailedOrdRequirement lacks = absurd lacks
         refused gap at NotWithinCapacity lacks = absurd lacks

@@ -41,7 +41,12 @@ module _ {T : Type 0} where
   first_or-index (e ∷ es) = refl
 
   -- the link of an entry has the indexes of the entries beside it
-  link_at-here : (o : Option (Entry T)) (front : List (Entry T)) (e : Entry T) (back : List (Entry T)) → IsDistinct (front ++ e ∷ back) → link_between (option_map (λ x. x.index) o) None (front ++ e ∷ back) e.index ≡ Some (e.generation, record { item = e.item; prev = option_map (λ x. x.index) (last_or o front); next = option_map (λ x. x.index) (first_of back) })
+  link_at-here : (o : Option (Entry T)) (front : List (Entry T)) (e : Entry T) (back : List (Entry T)) → IsDistinct (front ++ e ∷ back)
+      → link_between (option_map (λ x. x.index) o) None (front ++ e ∷ back) e.index
+      ≡ Some (
+        e.generation,
+        record { item = e.item; prev = option_map (λ x. x.index) (last_or o front); next = option_map (λ x. x.index) (first_of back) },
+      )
   link_at-here o [] e back distinct = elim (eqb_tells e.index e.index) [ inl h ↦ rw (h.0, first_or-index back) refl | inr h ↦ absurd (h.1 refl) ]
   link_at-here o (f ∷ front) e back distinct = elim (eqb_tells f.index e.index) [
     | inl h ↦
@@ -94,13 +99,17 @@ module _ {T K : Type 0} (key : T → K) (cmp : K → K → Ordering) (es : List 
     place-greater Greater from ahead = from.4
 
     -- where the order turns, the steps came from the entry on the other side; else there is none
-    low-answered : (came : Ordering) → CameFrom key cmp es k start visits front back came → (o : Option (Entry T)) → last_or None front ≡ o → IfSome (option_map (λ e. e.index) o) (λ j. Less ≡ ordering_reverse came) → IfSome o (λ e. order_to key cmp k e ≡ Greater) × (present o ≤ visits)
+    low-answered : (came : Ordering) → CameFrom key cmp es k start visits front back came → (o : Option (Entry T)) → last_or None front ≡ o
+        → IfSome (option_map (λ e. e.index) o) (λ j. Less ≡ ordering_reverse came)
+        → IfSome o (λ e. order_to key cmp k e ≡ Greater) × (present o ≤ visits)
     low-answered came from None is turned = (tt, omega arith)
     low-answered Less from (Some f) is turned = absurd (cc)
     low-answered Equal from (Some f) is turned = absurd (cc)
     low-answered Greater from (Some f) is turned = let same : from.0 ≡ f = (let both = from.1 in cc) in (rw same at from.2, from.3)
 
-    high-answered : (came : Ordering) → CameFrom key cmp es k start visits front back came → (o : Option (Entry T)) → first_of back ≡ o → IfSome (option_map (λ e. e.index) o) (λ j. Greater ≡ ordering_reverse came) → IfSome o (λ e. order_to key cmp k e ≡ Less) × (present o ≤ visits)
+    high-answered : (came : Ordering) → CameFrom key cmp es k start visits front back came → (o : Option (Entry T)) → first_of back ≡ o
+        → IfSome (option_map (λ e. e.index) o) (λ j. Greater ≡ ordering_reverse came)
+        → IfSome o (λ e. order_to key cmp k e ≡ Less) × (present o ≤ visits)
     high-answered came from None is turned = (tt, omega arith)
     high-answered Greater from (Some f) is turned = absurd (cc)
     high-answered Equal from (Some f) is turned = absurd (cc)
@@ -123,7 +132,15 @@ module _ {T K : Type 0} (key : T → K) (cmp : K → K → Ordering) (es : List 
         by_way Greater from = let n = ap length s.cut in omega (arith, n, from.4, length-append s.front (s.entry ∷ s.back))
 
     module _ (generation : ℕ) (l : Link T) (is : link_at es i ≡ Some (generation, l)) where
-      read : ◌≡◌ {A = ℕ × Link T} (s.entry.generation, record { item = s.entry.item; prev = option_map (λ e. e.index) (last_or None s.front); next = option_map (λ e. e.index) (first_of s.back) }) (generation, l)
+      read : ◌≡◌ {A = ℕ × Link T} (
+        s.entry.generation,
+        record {
+          item = s.entry.item;
+          prev = option_map (λ e. e.index) (last_or None s.front);
+          next = option_map (λ e. e.index) (first_of s.back);
+        },
+      )
+          (generation, l)
       read =
           let here = link_at-here None s.front s.entry s.back distinct_here in
           let found = rw (s.cut, ← s.here) at is in
@@ -142,7 +159,8 @@ module _ {T K : Type 0} (key : T → K) (cmp : K → K → Ordering) (es : List 
       stepping-order o order = ap (λ t. cmp k (key t)) item-is ∙ sym order
 
       -- a step to a neighbour
-      pub stepping-goes : (o : Ordering) → o ≡ cmp k (key l.item) → (j : ℕ) → neighbour_towards l o ≡ Some j → o ≢ ordering_reverse came → IsStepping key cmp es k start j (visits + 1) o
+      pub stepping-goes : (o : Ordering) → o ≡ cmp k (key l.item) → (j : ℕ) → neighbour_towards l o ≡ Some j → o ≢ ordering_reverse came
+          → IsStepping key cmp es k start j (visits + 1) o
       stepping-goes Less order j next ahead =
           let n = read_index (last_or None s.front) j (prev-is ∙ next) in
           let end = ends s.front n.0 n.1 in
@@ -175,7 +193,9 @@ module _ {T K : Type 0} (key : T → K) (cmp : K → K → Ordering) (es : List 
       named = let g : s.entry.generation ≡ generation = ap (λ x. x.0) read in let h = s.here in cc
 
       -- the steps end with an answer
-      pub stepping-settles : (o : Ordering) → o ≡ cmp k (key l.item) → is_eq o ≡ false → IfSome (neighbour_towards l o) (λ j. o ≡ ordering_reverse came) → FindsSimilar key cmp es k (Some ((i, generation), o)) (visits + 1)
+      pub stepping-settles : (o : Ordering) → o ≡ cmp k (key l.item) → is_eq o ≡ false
+          → IfSome (neighbour_towards l o) (λ j. o ≡ ordering_reverse came)
+          → FindsSimilar key cmp es k (Some ((i, generation), o)) (visits + 1)
       stepping-settles Less order other turned =
           let low = low-answered start visits s.front s.back came s.from (last_or None s.front) refl (rw (← prev-is) at turned) in
           let gap : Gap es = record { front = s.front; back = s.entry ∷ s.back; cut = s.cut } in

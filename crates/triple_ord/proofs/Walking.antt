@@ -22,7 +22,8 @@ module _ {T : Type 0} where
   ]
 
   -- an entry before has no part in what follows an index of the rest
-  from-rest : (e : Entry T) (es : List (Entry T)) (next : Option ℕ) → IsDistinct (e ∷ es) → ((j : ℕ) → next ≡ Some j → 1 ≤ times j es) → entries_from (e ∷ es) next ≡ entries_from es next
+  from-rest : (e : Entry T) (es : List (Entry T)) (next : Option ℕ) → IsDistinct (e ∷ es) → ((j : ℕ) → next ≡ Some j → 1 ≤ times j es)
+      → entries_from (e ∷ es) next ≡ entries_from es next
   from-rest e es None distinct occurs = refl
   from-rest e es (Some j) distinct occurs = elim (eqb_tells e.index j) [
     | inl h ↦
@@ -37,7 +38,9 @@ module _ {T : Type 0} where
       let rest = from-rest e (f ∷ es) (Some f.index) distinct (λ j is. first-occurs (f ∷ es) j is) in
       rest ∙ elim (eqb_tells f.index f.index) [ inl h ↦ rw h.0 refl | inr h ↦ absurd (h.1 refl) ]
 
-  step-between : (before : Option ℕ) (es : List (Entry T)) (i g : ℕ) (l : Link T) → IsDistinct es → link_between before None es i ≡ Some (g, l) → from_index es i ≡ record { index = i; generation = g; item = l.item } ∷ entries_from es l.next
+  step-between : (before : Option ℕ) (es : List (Entry T)) (i g : ℕ) (l : Link T) → IsDistinct es
+      → link_between before None es i ≡ Some (g, l)
+      → from_index es i ≡ record { index = i; generation = g; item = l.item } ∷ entries_from es l.next
   step-between before [] i g l distinct found = absurd (cc)
   step-between before (e ∷ es) i g l distinct found = elim (eqb_tells e.index i) [
     | inl h ↦
@@ -49,18 +52,22 @@ module _ {T : Type 0} where
         rw (h.0, ← next, from-first e es distinct, ← entry) refl
     | inr h ↦
         let rest = rw h.0 at found in
-        rw h.0 (step-between (Some e.index) es i g l (λ j. omega (arith, distinct j)) rest ∙ ap (λ xs. record { index = i; generation = g; item = l.item } ∷ xs) (sym (from-rest e es l.next distinct (λ j is. next-occurs (Some e.index) es i g l j rest is))))
+        rw h.0 (step-between (Some e.index) es i g l (λ j. omega (arith, distinct j)) rest
+        ∙ ap (λ xs. record { index = i; generation = g; item = l.item } ∷ xs)
+        (sym (from-rest e es l.next distinct (λ j is. next-occurs (Some e.index) es i g l j rest is))))
   ]
 
   -- the entry that is shown at an index, and then the entries from its neighbour on
-  pub walk-step : (es : List (Entry T)) (i g : ℕ) (l : Link T) → IsDistinct es → Some (g, l) ≡ link_at es i → entries_from es (Some i) ≡ record { index = i; generation = g; item = l.item } ∷ entries_from es l.next
+  pub walk-step : (es : List (Entry T)) (i g : ℕ) (l : Link T) → IsDistinct es → Some (g, l) ≡ link_at es i
+      → entries_from es (Some i) ≡ record { index = i; generation = g; item = l.item } ∷ entries_from es l.next
   walk-step es i g l distinct found = step-between None es i g l distinct (sym found)
 
   -- a walk at an entry has it left, and goes on at its neighbour with one entry fewer
   pub walk-left : (es : List (Entry T)) (i g left : ℕ) (l : Link T) → IsWalking es (Some i) left → Some (g, l) ≡ link_at es i → 1 ≤ left
   walk-left es i g left l walking found = omega (arith, walking.counted, ap length (walk-step es i g l walking.distinct found))
 
-  pub walk-goes : (es : List (Entry T)) (i g left : ℕ) (l : Link T) (next : Option ℕ) → IsWalking es (Some i) left → Some (g, l) ≡ link_at es i → next ≡ l.next → IsWalking es next (left - 1)
+  pub walk-goes : (es : List (Entry T)) (i g left : ℕ) (l : Link T) (next : Option ℕ) → IsWalking es (Some i) left
+      → Some (g, l) ≡ link_at es i → next ≡ l.next → IsWalking es next (left - 1)
   walk-goes es i g left l next walking found goes =
       rw goes record { distinct = walking.distinct; counted = omega (arith, walking.counted, ap length (walk-step es i g l walking.distinct found)) }
 

@@ -8,7 +8,8 @@ use Rattle.arena_base.specs.Generation.{next_generation}
 use Rattle.arena_base.specs.Arena.{HoldsSame, arena_len, arena_capacity, removed as arena_removed, renewed as arena_renewed, cleared as arena_cleared, with_item as arena_with_item, slot, item_of, item_if, limit_of, IsLawful}
 use Rattle.chain_base.specs.Chain.{Entry, Chain, entry_at, times, IsSound, IsDistinct, without, with_generation, removed, renewed, cleared, item_of as item_among, with_item_among}
 use Rattle.chain_base.specs.Compression.{lesser}
-use Rattle.chain_base.proofs.CallerLemmas.{entry_at-absent, entry_at-with_item_among, entry_at-with_item_among_other, entry_at-without, entry_at-without_other, entry_at-with_generation, entry_at-with_generation_other, lesser-zero, lesser-next, lesser-all}
+use Rattle.chain_base.proofs.CallerLemmas.{entry_at-absent, entry_at-with_item_among, entry_at-with_item_among_other, entry_at-without, entry_at-without_other}
+use Rattle.chain_base.proofs.CallerLemmas.{entry_at-with_generation, entry_at-with_generation_other, lesser-zero, lesser-next, lesser-all}
 use Rattle.ord_tree.specs.Tree.{Tree, with_item}
 use Rattle.triple_ord.specs.Content.{slots_from, content_of}
 
@@ -73,7 +74,8 @@ module _ {T : Type 0} where
   capacity_is t = omega (arith, length-slots t.list.entries 1 t.list.capacity)
 
   -- an index beyond the capacity has no entry, nor has index 0
-  pub outside : (most : ℕ) (greatest : Option ℕ) (t : Tree T) → IsSound most greatest t.list → (i : ℕ) → ((0 < i) → (i ≤ t.list.capacity) → ⊥) → entry_at t.list.entries i ≡ None
+  pub outside : (most : ℕ) (greatest : Option ℕ) (t : Tree T) → IsSound most greatest t.list → (i : ℕ)
+      → ((0 < i) → (i ≤ t.list.capacity) → ⊥) → entry_at t.list.entries i ≡ None
   outside most greatest t sound i out = elim (eqb_tells (times i t.list.entries) 0) [
     | inl z ↦ entry_at-absent t.list.entries i z.1
     | inr z ↦ absurd (let inside = sound.within i (omega (arith, z.1)) in out inside.0 inside.1)
@@ -103,7 +105,8 @@ module _ {T : Type 0} where
       } in
       subst (λ v. HoldsSame (content_of v) (arena_renewed greatest (content_of t) i)) (sym is) there
 
-  pub content_removed : (most : ℕ) (greatest : Option ℕ) (t u : Tree T) (i : ℕ) → IsSound most greatest t.list → u.list ≡ removed greatest t.list i → HoldsSame (content_of u) (arena_removed greatest (content_of t) i)
+  pub content_removed : (most : ℕ) (greatest : Option ℕ) (t u : Tree T) (i : ℕ) → IsSound most greatest t.list
+      → u.list ≡ removed greatest t.list i → HoldsSame (content_of u) (arena_removed greatest (content_of t) i)
   content_removed most greatest t u i sound is =
       let es = t.list.entries in
       let change : ChangesAt (λ s. None) i es (without i es) =

@@ -51,7 +51,8 @@ module _ {T : Type 0} where
     pub no_equal : All (λ s. s.1 ≢ Equal) shown
 
   -- the calls so far took f to g, and the descent has come to this link after so many, added to the visits from before it
-  pub record HasDescended {F : Type 0} (asks : F → Shown T → F → Type 0) (entries : List (Entry T)) (shape : Shape) (before : ℕ) (f g : F) (link : Option ℕ) (visits : ℕ) (last : Option ((ℕ × ℕ) × Ordering)) : Type 0 where
+  pub record HasDescended {F : Type 0} (asks : F → Shown T → F → Type 0) (entries : List (Entry T)) (shape : Shape) (before : ℕ) (f g : F)
+      (link : Option ℕ) (visits : ℕ) (last : Option ((ℕ × ℕ) × Ordering)) : Type 0 where
     pub shown : List (Shown T)
     pub calls : FoldsTo asks f shown g
     pub descending : IsDescending entries shape shown link
@@ -61,7 +62,8 @@ module _ {T : Type 0} where
   -- The comparisons with k so far have led to this link, after so many visits, added to those from before; where k is equal the way led
   -- to the lesser side. The entry that was shown last, with the order of k to its key, and
   -- the one behind all that is left, where it is equal.
-  pub record HasDescendedByKey {K : Type 0} (key : T → K) (cmp : K → K → Ordering) (entries : List (Entry T)) (shape : Shape) (k : K) (before : ℕ) (link : Option ℕ) (visits : ℕ) (last : Option ((ℕ × ℕ) × Ordering)) (met : Option (ℕ × ℕ)) : Type 0 where
+  pub record HasDescendedByKey {K : Type 0} (key : T → K) (cmp : K → K → Ordering) (entries : List (Entry T)) (shape : Shape) (k : K)
+      (before : ℕ) (link : Option ℕ) (visits : ℕ) (last : Option ((ℕ × ℕ) × Ordering)) (met : Option (ℕ × ℕ)) : Type 0 where
     pub shown : List (Shown T)
     pub turned : All (λ s. s.1 ≡ ordering_then (order_to key cmp k s.0) Less) shown
     pub descending : IsDescending entries shape shown link

@@ -2,11 +2,7 @@
 use Rattle.std.specs.Prelude.{◌≡◌, ℕ, List, Result}
 use Rattle.std.specs.Borrow.{GName, Fml, RattleType, MutBor, RestsIfErr}
 use Rattle.std.specs.declared.alloc.Allocator.{Ghosts as AllocatorGhosts}
-use Rattle.std.specs.declared.cmp.Ord.{Ghosts as OrdGhosts}
 use Rattle.std.specs.declared.cmp.PartialEq.{Ghosts as PartialEqGhosts}
-use Rattle.std.specs.declared.cmp.PartialOrd.{Ghosts as PartialOrdGhosts}
-use Rattle.std.specs.declared.fmt.Debug.{Ghosts as DebugGhosts}
-use Rattle.std.specs.declared.hash.Hash.{Ghosts as HashGhosts}
 use Rattle.arena_base.specs.declared.ptr.Ptr.{Ghosts as PtrGhosts}
 use Rattle.arena_base.specs.declared.ptr.PtrGen.{Ghosts as PtrGenGhosts}
 use Rattle.arena_base.specs.declared.ptr.PtrInx.{Ghosts as PtrInxGhosts}
@@ -17,34 +13,34 @@ use Rattle.triple_ord.specs.contracts.arena.SimpleOrdArena.{the_row}
 use Rattle.triple_ord.specs.declared.arena.insert_entry.SimpleOrdArenaInsertEntry.{SimpleOrdArenaInsertEntry}
 
 module _ {P T A Inx Gen : Type 0}
-    {ptr : PtrGhosts P Inx Gen} {ptr_eq : PartialEqGhosts P} {ptr_ord : OrdGhosts P} {ptr_partial : PartialOrdGhosts P} {ptr_hash : HashGhosts P} {ptr_debug : DebugGhosts P}
-    {inx : PtrInxGhosts Inx} {inx_eq : PartialEqGhosts Inx} {inx_ord : OrdGhosts Inx} {inx_partial : PartialOrdGhosts Inx} {inx_hash : HashGhosts Inx} {inx_debug : DebugGhosts Inx}
-    {gen : PtrGenGhosts Gen} {gen_eq : PartialEqGhosts Gen} {gen_debug : DebugGhosts Gen} where
+    {ptr : PtrGhosts P Inx Gen} {ptr_eq : PartialEqGhosts P}
+    {inx : PtrInxGhosts Inx} {inx_eq : PartialEqGhosts Inx}
+    {gen : PtrGenGhosts Gen} {gen_eq : PartialEqGhosts Gen} where
   -- the arena, as it is now
-  abbrev pub entry_arena : SimpleOrdArenaInsertEntry P T A Inx Gen ptr ptr_eq ptr_ord ptr_partial ptr_hash ptr_debug inx inx_eq inx_ord inx_partial inx_hash inx_debug gen gen_eq gen_debug → Tree T
+  abbrev pub entry_arena : SimpleOrdArenaInsertEntry P T A Inx Gen ptr ptr_eq inx inx_eq gen gen_eq → Tree T
   entry_arena e = e.arena.now
 
   -- the ghost name of the reference to the arena
-  abbrev pub entry_lender : SimpleOrdArenaInsertEntry P T A Inx Gen ptr ptr_eq ptr_ord ptr_partial ptr_hash ptr_debug inx inx_eq inx_ord inx_partial inx_hash inx_debug gen gen_eq gen_debug → GName
+  abbrev pub entry_lender : SimpleOrdArenaInsertEntry P T A Inx Gen ptr ptr_eq inx inx_eq gen gen_eq → GName
   entry_lender e = e.arena.ghost_name
 
   -- the pointer that it shows, and whether the entry is new
-  abbrev pub entry_shown : SimpleOrdArenaInsertEntry P T A Inx Gen ptr ptr_eq ptr_ord ptr_partial ptr_hash ptr_debug inx inx_eq inx_ord inx_partial inx_hash inx_debug gen gen_eq gen_debug → OrdEntryKind P
+  abbrev pub entry_shown : SimpleOrdArenaInsertEntry P T A Inx Gen ptr ptr_eq inx inx_eq gen gen_eq → OrdEntryKind P
   entry_shown e = e.prepared.shown
 
   -- the list with a new entry where it goes
-  abbrev pub entry_put : (P → ℕ × ℕ) → SimpleOrdArenaInsertEntry P T A Inx Gen ptr ptr_eq ptr_ord ptr_partial ptr_hash ptr_debug inx inx_eq inx_ord inx_partial inx_hash inx_debug gen gen_eq gen_debug → Entry T → List (Entry T)
+  abbrev pub entry_put : (P → ℕ × ℕ) → SimpleOrdArenaInsertEntry P T A Inx Gen ptr ptr_eq inx inx_eq gen gen_eq → Entry T → List (Entry T)
   entry_put numbers e = put_at (λ p. (numbers p).0) e.prepared.at e.arena.now.list.entries
 
   -- how many entries the search for its place visited
-  abbrev pub entry_visits : SimpleOrdArenaInsertEntry P T A Inx Gen ptr ptr_eq ptr_ord ptr_partial ptr_hash ptr_debug inx inx_eq inx_ord inx_partial inx_hash inx_debug gen gen_eq gen_debug → ℕ
+  abbrev pub entry_visits : SimpleOrdArenaInsertEntry P T A Inx Gen ptr ptr_eq inx inx_eq gen gen_eq → ℕ
   entry_visits e = e.prepared.visits
 
 -- where there is no entry, the arena behind m stays
 module _ (P T A Inx Gen : RattleType)
-    (ptr : PtrGhosts P.Denot Inx.Denot Gen.Denot) (ptr_eq : PartialEqGhosts P.Denot) (ptr_ord : OrdGhosts P.Denot) (ptr_partial : PartialOrdGhosts P.Denot) (ptr_hash : HashGhosts P.Denot) (ptr_debug : DebugGhosts P.Denot)
-    (inx : PtrInxGhosts Inx.Denot) (inx_eq : PartialEqGhosts Inx.Denot) (inx_ord : OrdGhosts Inx.Denot) (inx_partial : PartialOrdGhosts Inx.Denot) (inx_hash : HashGhosts Inx.Denot) (inx_debug : DebugGhosts Inx.Denot)
-    (gen : PtrGenGhosts Gen.Denot) (gen_eq : PartialEqGhosts Gen.Denot) (gen_debug : DebugGhosts Gen.Denot) (alloc : AllocatorGhosts A.Denot) where
-  abbrev pub rests_if_refused : {E : Type 0} → MutBor (Tree T.Denot) → Result (SimpleOrdArenaInsertEntry P.Denot T.Denot A.Denot Inx.Denot Gen.Denot ptr ptr_eq ptr_ord ptr_partial ptr_hash ptr_debug inx inx_eq inx_ord inx_partial inx_hash inx_debug gen gen_eq gen_debug) E → Fml
+    (ptr : PtrGhosts P.Denot Inx.Denot Gen.Denot) (ptr_eq : PartialEqGhosts P.Denot)
+    (inx : PtrInxGhosts Inx.Denot) (inx_eq : PartialEqGhosts Inx.Denot)
+    (gen : PtrGenGhosts Gen.Denot) (gen_eq : PartialEqGhosts Gen.Denot) (alloc : AllocatorGhosts A.Denot) where
+  abbrev pub rests_if_refused : {E : Type 0} → MutBor (Tree T.Denot) → Result (SimpleOrdArenaInsertEntry P.Denot T.Denot A.Denot Inx.Denot Gen.Denot ptr ptr_eq inx inx_eq gen gen_eq) E → Fml
   rests_if_refused m r =
-      RestsIfErr (the_row P T A Inx Gen ptr ptr_eq ptr_ord ptr_partial ptr_hash ptr_debug inx inx_eq inx_ord inx_partial inx_hash inx_debug gen gen_eq gen_debug alloc) m (λ e. e.arena.ghost_name) r (λ n. n ≡ m.now)
+      RestsIfErr (the_row P T A Inx Gen ptr ptr_eq inx inx_eq gen gen_eq alloc) m (λ e. e.arena.ghost_name) r (λ n. n ≡ m.now)

@@ -105,7 +105,10 @@ impl<P: Ptr, T, A: Allocator> SimpleOrdArena<P, T, A> {
     /// Sets the generation that the next entry gets, and leaves each entry its own.
     pub fn set_generation(&mut self, generation: P::Gen)
         requires { IsLawfulGeneration P.Gen.greatest (P.Gen.number generation) }
-        ensures { self.new ≡ record self.old { list = record self.old.list { generation = P.Gen.number generation } } }
+        ensures { self.new
+            ≡ record self.old {
+              list = record self.old.list { generation = P.Gen.number generation };
+            } }
     {
         self.tree.set_generation(generation);
     }
@@ -113,8 +116,10 @@ impl<P: Ptr, T, A: Allocator> SimpleOrdArena<P, T, A> {
     /// Raises the generation that the next entry gets, and leaves each entry its own. The result says whether the generations
     /// began again.
     pub fn inc_generation(&mut self) -> InvalidationOption<()>
-        ensures after { self.new ≡ record self.old { list = raised P.Gen.greatest self.old.list } }
-        ensures overflow { is_overflow result ≡ overflows_after P.Gen.greatest self.old.list.generation }
+        ensures after { self.new
+            ≡ record self.old { list = raised P.Gen.greatest self.old.list } }
+        ensures overflow { is_overflow result
+            ≡ overflows_after P.Gen.greatest self.old.list.generation }
     {
         self.tree.inc_generation()
     }

@@ -30,8 +30,8 @@ pub(crate) fn descend<P: Ptr, T, F: FnMut(P, &T) -> Ordering, A: Allocator>(
         probe.old.tree.now.list.entries f.old f.new
         (option_map (λ a. (P.numbers a.0, a.1)) result) (probe.new.visits - probe.old.visits) }
     ensures callable { F.IsAlwaysCallable f.new }
-    ensures visits { IsWithinBounds (length probe.old.tree.now.list.entries) probe.old.tree.now.shape
-        (probe.new.visits - probe.old.visits) }
+    ensures visits { IsWithinBounds (length probe.old.tree.now.list.entries)
+        probe.old.tree.now.shape (probe.new.visits - probe.old.visits) }
     ensures counted { probe.old.visits ≤ probe.new.visits }
 {
     visits_law();
@@ -63,10 +63,11 @@ pub(crate) fn descend_by_key<P: Ptr, T: SimpleOrdItem, A: Allocator>(
     k: &T::Key,
 ) -> Option<(P, Ordering)>
     requires { probe.old.visits < 2 ^ 64 }
-    ensures found { FindsSimilar T.key_of (taken ties T.Key.cmp) probe.old.tree.now.list.entries k.now
+    ensures found { FindsSimilar T.key_of (taken ties T.Key.cmp)
+        probe.old.tree.now.list.entries k.now
         (option_map (λ a. (P.numbers a.0, a.1)) result) (probe.new.visits - probe.old.visits) }
-    ensures visits { IsWithinBounds (length probe.old.tree.now.list.entries) probe.old.tree.now.shape
-        (probe.new.visits - probe.old.visits) }
+    ensures visits { IsWithinBounds (length probe.old.tree.now.list.entries)
+        probe.old.tree.now.shape (probe.new.visits - probe.old.visits) }
     ensures counted { probe.old.visits ≤ probe.new.visits }
 {
     visits_law();
@@ -98,13 +99,15 @@ fn descend_in_group<P: Ptr, T: SimpleOrdItem, A: Allocator>(
 ) -> Option<(P, Ordering)>
     requires descended { (before : ℕ) × HasDescendedByKey T.key_of (taken ties T.Key.cmp)
         probe.old.tree.now.list.entries probe.old.tree.now.shape k.now before
-        (option_map P.Inx.number lesser) probe.old.visits (Some (P.numbers p, Ordering.Equal)) (Some (P.numbers p)) }
+        (option_map P.Inx.number lesser) probe.old.visits
+        (Some (P.numbers p, Ordering.Equal)) (Some (P.numbers p)) }
     requires distinct { IsDistinct probe.old.tree.now.list.entries }
     requires few { height probe.old.tree.now.shape < 2 ^ 64 }
     requires room { probe.old.visits < 2 ^ 65 }
     ensures ended { (before : ℕ) → HasDescendedByKey T.key_of (taken ties T.Key.cmp)
         probe.old.tree.now.list.entries probe.old.tree.now.shape k.now before
-        (option_map P.Inx.number lesser) probe.old.visits (Some (P.numbers p, Ordering.Equal)) (Some (P.numbers p))
+        (option_map P.Inx.number lesser) probe.old.visits
+        (Some (P.numbers p, Ordering.Equal)) (Some (P.numbers p))
         → HasEndedByKey T.key_of (taken ties T.Key.cmp) probe.old.tree.now k.now before
         (option_map (λ a. (P.numbers a.0, a.1)) result) probe.new.visits }
     ensures counted { probe.old.visits ≤ probe.new.visits }

@@ -60,7 +60,8 @@ impl<K, V> OrdPair<K, V> {
 
     /// The value, to be written. The key stays.
     pub fn v_mut(&mut self) -> &mut V
-        ensures* writes_back { sem 𝓛 (Lends (the_row K.row V.row) V.row self.entry result (λ v. (self.old.0, v))) }
+        ensures* writes_back { sem 𝓛
+            (Lends (the_row K.row V.row) V.row self.entry result (λ v. (self.old.0, v))) }
         ensures value { result.now ≡ self.old.1 }
     {
         &mut self.v
@@ -76,7 +77,8 @@ impl<K, V> OrdPair<K, V> {
 
     /// The key, and the value to be written. The key stays.
     pub fn k_v_mut(&mut self) -> (&K, &mut V)
-        ensures* writes_back { sem 𝓛 (Lends (the_row K.row V.row) V.row self.entry result.1 (λ v. (self.old.0, v))) }
+        ensures* writes_back { sem 𝓛
+            (Lends (the_row K.row V.row) V.row self.entry result.1 (λ v. (self.old.0, v))) }
         ensures key { result.0.now ≡ self.old.0 }
         ensures value { result.1.now ≡ self.old.1 }
     {

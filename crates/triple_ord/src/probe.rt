@@ -55,8 +55,8 @@ impl<'a, P: Ptr, T, A: Allocator> Probe<'a, P, T, A> {
     pub fn show(&mut self, i: P::Inx) -> (P::Gen, &'a SimpleOrdArenaNode<P, T>)
         requires occupied { IsSome (entry_at self.old.tree.now.list.entries (P.Inx.number i)) }
         requires room { self.old.visits + 1 < 2 ^ 128 }
-        ensures shown { IsShown self.old.tree.now (P.Inx.number i) (P.Gen.number result.0) result.1.now.t
-            result.1.now.p_tree0 result.1.now.p_tree1 }
+        ensures shown { IsShown self.old.tree.now (P.Inx.number i) (P.Gen.number result.0)
+            result.1.now.t result.1.now.p_tree0 result.1.now.p_tree1 }
         ensures counted { self.new.visits ≡ self.old.visits + 1 }
         ensures tree { self.new.tree.now ≡ self.old.tree.now }
     {
@@ -68,7 +68,8 @@ impl<'a, P: Ptr, T, A: Allocator> Probe<'a, P, T, A> {
     pub fn show_link(&mut self, i: P::Inx) -> (P::Gen, &'a LinkNoGen<P, SimpleOrdArenaNode<P, T>>)
         requires occupied { IsSome (entry_at self.old.tree.now.list.entries (P.Inx.number i)) }
         requires room { self.old.visits + 1 < 2 ^ 128 }
-        ensures shown { IsShown self.old.tree.now (P.Inx.number i) (P.Gen.number result.0) result.1.now.item.t
+        ensures shown { IsShown self.old.tree.now (P.Inx.number i)
+            (P.Gen.number result.0) result.1.now.item.t
             result.1.now.item.p_tree0 result.1.now.item.p_tree1 }
         ensures linked { link_at self.old.tree.now.list.entries (P.Inx.number i) ≡ Some (
           P.Gen.number result.0,

@@ -33,8 +33,8 @@ pub(crate) fn step_along<P: Ptr, T: SimpleOrdItem, A: Allocator>(
         (option_map (λ a. (P.numbers a.0, a.1)) result) probe.new.visits }
     ensures few { probe.new.visits ≤ num }
     ensures within { probe.new.visits ≤ length probe.old.tree.now.list.entries }
-    ensures near { IsNear T.key_of T.Key.cmp probe.old.tree.now.list.entries k.now (P.Inx.number p_init) num
-        result probe.new.visits }
+    ensures near { IsNear T.key_of T.Key.cmp probe.old.tree.now.list.entries k.now
+        (P.Inx.number p_init) num result probe.new.visits }
     ensures tree { probe.new.tree.now ≡ probe.old.tree.now }
 {
     let mut at = p_init;

@@ -293,19 +293,6 @@ fn room_beyond_the_indexes_is_refused(rt: HostRuntime) {
 }
 
 #[test]
-fn pointers_name_entries(rt: HostRuntime) -> Result<(), Fail> {
-    let mut a: SimpleOrdArena<P0, OrdPair<i64, u8>> = SimpleOrdArena::new(rt.alloc());
-    let (p, _) = a.insert(OrdPair::new(-3, 8))?;
-    assert!(rt; a.contains(p));
-    assert!(rt; !a.contains(P0::invalid()));
-    assert!(rt; a.get(P0::invalid()).is_none());
-    let found = a.get_inx(p.inx()).ok_or("index")?;
-    assert_eq!(rt; found.0, 2);
-    assert_eq!(rt; *found.1.k(), -3);
-    Ok(())
-}
-
-#[test]
 fn pairs_are_made_and_taken_apart(rt: HostRuntime) -> Result<(), Fail> {
     let mut pair = OrdPair::new(1u8, 2u8);
     *pair.v_mut() = 5;

@@ -94,7 +94,8 @@ pub fn pages(catalogue: &Catalogue, p: BookPtr) -> Option<u64>
 
 /// The pointer of a book with this number.
 pub fn find(catalogue: &Catalogue, number: u64) -> Option<BookPtr>
-    ensures { IfSome result (λ p. IsSomeAnd (item_of catalogue.now p) (λ book. book.number ≡ number)) }
+    ensures { IfSome result
+        (λ p. IsSomeAnd (item_of catalogue.now p) (λ book. book.number ≡ number)) }
 {
     catalogue.find_key(&number)
 }
@@ -107,7 +108,8 @@ pub fn renumber(
     number: u64,
 ) -> Result<Option<BookPtr>, OrdInsertionError>
     ensures finds { IfOk result (λ o. IfSome o (λ q. item_of catalogue.new q
-        ≡ option_map (λ b. record { number = number; pages = b.pages }) (item_of catalogue.old p))) }
+        ≡ option_map (λ b. record { number = number; pages = b.pages })
+        (item_of catalogue.old p))) }
     ensures none { IfOk result (λ o. is_some o ≡ is_some (item_of catalogue.old p)) }
 {
     let Some(book) = catalogue.remove(p).allow() else {
@@ -119,7 +121,8 @@ pub fn renumber(
 
 /// Takes the first book out, if there is one.
 pub fn take_first(catalogue: &mut Catalogue) -> Option<Book>
-    ensures count { count catalogue.old ≡ (if is_some result then count catalogue.new + 1 else count catalogue.new) }
+    ensures count { count catalogue.old
+        ≡ (if is_some result then count catalogue.new + 1 else count catalogue.new) }
     ensures none { is_some result ≡ false → count catalogue.old ≡ 0 }
 {
     let p = catalogue.first()?;

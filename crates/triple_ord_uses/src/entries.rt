@@ -13,7 +13,8 @@ pub fn add(
     job: OrdPair<u64, u64>,
 ) -> Result<P0, (OrdPair<u64, u64>, OrdInsertionError)>
     ensures finds { IfOk result (λ p. item_of jobs.new p ≡ Some job) }
-    ensures others { IfOk result (λ p. (q : ℕ × ℕ) → q ≢ p → item_of jobs.new q ≡ item_of jobs.old q) }
+    ensures others { IfOk result (λ p. (q : ℕ × ℕ) → q ≢ p
+        → item_of jobs.new q ≡ item_of jobs.old q) }
     ensures back { IfErr result (λ e. e.0 ≡ job) }
     ensures refused { OnErr result (jobs.new ≡ jobs.old) }
 {
@@ -34,7 +35,8 @@ pub fn add_near(
     job: OrdPair<u64, u64>,
 ) -> Result<(P0, Option<OrdPair<u64, u64>>), OrdInsertionError>
     ensures finds { IfOk result (λ a. item_of jobs.new a.0 ≡ Some job) }
-    ensures others { IfOk result (λ a. (q : ℕ × ℕ) → q ≢ a.0 → item_of jobs.new q ≡ item_of jobs.old q) }
+    ensures others { IfOk result (λ a. (q : ℕ × ℕ) → q ≢ a.0
+        → item_of jobs.new q ≡ item_of jobs.old q) }
     ensures before { IfOk result (λ a. a.1 ≡ item_of jobs.old a.0) }
     ensures refused { OnErr result (jobs.new ≡ jobs.old) }
 {
@@ -50,7 +52,8 @@ pub fn add_near(
 /// Puts a job on the list where there is room.
 pub fn schedule_within(jobs: &mut Jobs, deadline: u64, job: u64) -> Result<P0, OrdInsertionError>
     ensures finds { IfOk result (λ p. item_of jobs.new p ≡ Some (deadline, job)) }
-    ensures others { IfOk result (λ p. (q : ℕ × ℕ) → q ≢ p → item_of jobs.new q ≡ item_of jobs.old q) }
+    ensures others { IfOk result (λ p. (q : ℕ × ℕ) → q ≢ p
+        → item_of jobs.new q ≡ item_of jobs.old q) }
     ensures refused { OnErr result (jobs.new ≡ jobs.old) }
 {
     let (p, _) = jobs.insert_within_capacity(OrdPair::new(deadline, job))?;
@@ -68,7 +71,8 @@ pub fn would_replace(jobs: &mut Jobs, deadline: u64) -> Result<bool, OrdInsertio
 
 /// Puts a job directly behind another, whatever their deadlines; returns whether the pointer's index has one.
 pub fn put_behind(jobs: &mut Jobs, p: P0, job: OrdPair<u64, u64>) -> Result<bool, OrdInsertionError>
-    ensures count { IfOk result (λ put. count jobs.new ≡ (if put then count jobs.old + 1 else count jobs.old)) }
+    ensures count { IfOk result
+        (λ put. count jobs.new ≡ (if put then count jobs.old + 1 else count jobs.old)) }
     ensures refused { OnErr result (jobs.new ≡ jobs.old) }
 {
     if !jobs.contains_inx(p.inx()) {

@@ -13,7 +13,8 @@ pub type Jobs = SimpleOrdArena<P0, OrdPair<u64, u64>>;
 /// Puts a job on the list, and returns the pointer by which it is found.
 pub fn schedule(jobs: &mut Jobs, deadline: u64, job: u64) -> Result<P0, OrdInsertionError>
     ensures finds { IfOk result (λ p. item_of jobs.new p ≡ Some (deadline, job)) }
-    ensures others { IfOk result (λ p. (q : ℕ × ℕ) → q ≢ p → item_of jobs.new q ≡ item_of jobs.old q) }
+    ensures others { IfOk result (λ p. (q : ℕ × ℕ) → q ≢ p
+        → item_of jobs.new q ≡ item_of jobs.old q) }
     ensures refused { OnErr result (jobs.new ≡ jobs.old) }
 {
     let (p, _) = jobs.insert(OrdPair::new(deadline, job))?;
@@ -34,7 +35,8 @@ pub fn cancel(jobs: &mut Jobs, p: P0) -> bool
 #[tactic(auto, using(triple_ord::proofs::CallerLemmas::written))]
 pub fn replace(jobs: &mut Jobs, p: P0, job: u64) -> bool
     ensures replaced { result ≡ is_some (item_of jobs.old p) }
-    ensures finds { item_of jobs.new p ≡ option_map (λ pair. (pair.0, job)) (item_of jobs.old p) }
+    ensures finds { item_of jobs.new p
+        ≡ option_map (λ pair. (pair.0, job)) (item_of jobs.old p) }
     ensures others { (q : ℕ × ℕ) → q ≢ p → item_of jobs.new q ≡ item_of jobs.old q }
     ensures count { count jobs.new ≡ count jobs.old }
 {

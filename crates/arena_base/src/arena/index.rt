@@ -29,9 +29,8 @@ impl<P: Ptr, T, A: Allocator> IndexMut<P> for Arena<P, T, A> {
     fn index_mut(&mut self, p: P) -> &mut T
         requires { IsSome (item_of self.old (P.numbers p)) }
         ensures* writes_back { sem 𝓛 (Lends (the_row P.row T.row A.row P.Inx.row P.Gen.row
-            P.Ptr.own P.PartialEq P.Ord.own P.PartialOrd.own P.Hash.own P.Debug
-            P.Inx.PtrInx.own P.Inx.PartialEq P.Inx.Ord.own P.Inx.PartialOrd.own P.Inx.Hash.own
-            P.Inx.Debug P.Gen.PtrGen.own P.Gen.PartialEq P.Gen.Debug A.Allocator)
+            P.Ptr.own P.PartialEq P.Inx.PtrInx.own P.Inx.PartialEq
+            P.Gen.PtrGen.own P.Gen.PartialEq A.Allocator)
             T.row self.entry result (with_item self.old (P.numbers p).0)) }
         ensures value { item_of self.old (P.numbers p) ≡ Some result.now }
     {
@@ -39,7 +38,7 @@ impl<P: Ptr, T, A: Allocator> IndexMut<P> for Arena<P, T, A> {
     }
 }
 
-impl<P: Ptr, T: fmt::Debug, A: Allocator> fmt::Debug for Arena<P, T, A> {
+impl<P: Ptr + fmt::Debug, T: fmt::Debug, A: Allocator> fmt::Debug for Arena<P, T, A> {
     fn fmt<W: fmt::Write>(&self, f: &mut fmt::Formatter<W>) -> fmt::Result {
         let mut out = f.debug_map();
         for position in 0..self.capacity() {

@@ -1,10 +1,8 @@
-//! An arena among others, through the traits; indexes and generations of each type; recast pointers and mapped answers.
-ghost use Rattle.std.specs.Prelude.{◌≡◌, IfErr};
-
+//! An arena among others, through the traits; indexes and generations of each type.
 use super::{numbers, p0};
 use arena_base::{
-    Arena, ArenaTrait, InvalidationOption, InvalidationResult, MaxCapacityReductionError, P0, P8,
-    Ptr, PtrGen, PtrInx, Recast, Recaster, SetMaxCapacity, laws,
+    Arena, ArenaTrait, InvalidationResult, MaxCapacityReductionError, P0, Ptr, PtrGen, PtrInx,
+    SetMaxCapacity, laws,
 };
 use std::process::Abort;
 use std::test::Fail;
@@ -95,48 +93,12 @@ fn through_the_trait<A: ArenaTrait<P0, u64> + SetMaxCapacity<P0, u64>>(
 
 #[test]
 fn as_any_arena(rt: HostRuntime) -> Result<(), Fail> {
-    let mut arena: Arena<P0, u64> = ArenaTrait::with_min_capacity(rt.alloc(), 4)?;
+    let fresh: Arena<P0, u64> = ArenaTrait::new(rt.alloc());
+    any_counts_are(&rt, &fresh, (0, 0));
+    let mut arena: Arena<P0, u64> = ArenaTrait::with_min_capacity(fresh.alloc(), 4)?;
     let p = arena.insert_within_capacity(10)?;
     let _ = arena.insert_within_capacity(20)?;
     through_the_trait(&rt, &mut arena, p);
-    Ok(())
-}
-
-#[test]
-fn as_any_new_arena(rt: HostRuntime) -> Result<(), Fail> {
-    let fresh: Arena<P0, u64> = ArenaTrait::new(rt.alloc());
-    any_counts_are(&rt, &fresh, (0, 0));
-    let none: Arena<P0, u64> = ArenaTrait::with_min_capacity(fresh.alloc(), 0).unwrap();
-    any_counts_are(&rt, &none, (0, 0));
-    Ok(())
-}
-
-// Gives pointers with even indexes another generation, and answers the others.
-struct Renewed;
-
-impl Recaster for Renewed {
-    type Item = P8;
-
-    ghost item_gives = { λ _ old result new. IfErr result (λ e. (e ≡ old) × (new ≡ old)) };
-
-    fn recast_item(&self, item: &mut P8) -> Result<(), P8> {
-        if item.inx() % 2 == 1 {
-            return Err(*item);
-        }
-        *item = P8::_from_raw(item.inx(), 9);
-        Ok(())
-    }
-}
-
-#[test]
-fn pointers_are_recast(rt: HostRuntime) -> Result<(), Fail> {
-    let mut even = P8::_from_raw(4, 2);
-    let mut odd = P8::_from_raw(5, 2);
-    assert_eq!(rt;
-        (even.recast(&Renewed), odd.recast(&Renewed)),
-        (Ok(()), Err(odd))
-    );
-    assert_eq!(rt; (even, odd), (P8::_from_raw(4, 9), P8::_from_raw(5, 2)));
     Ok(())
 }
 
@@ -159,29 +121,4 @@ fn numbers_count(rt: HostRuntime) {
     assert!(rt; counts::<u8, u8>() == lawful && counts::<u16, u16>() == lawful);
     assert!(rt; counts::<u32, u32>() == lawful && counts::<u64, u64>() == lawful);
     assert!(rt; counts::<usize, ()>() == lawful);
-}
-
-#[test]
-fn numbers_end(rt: HostRuntime) {
-    assert_eq!(rt;
-        (u8::limit(), u16::limit(), u32::limit()),
-        (254, 65534, 4294967294)
-    );
-    assert!(rt; !1u16.is_lawful());
-    assert_eq!(rt; u64::MAX.generational_inc(), (2, true));
-}
-
-#[test]
-fn answers_are_allowed(rt: HostRuntime) {
-    let gone: InvalidationResult<u8> = InvalidationResult::InvalidPtr;
-    let again = InvalidationResult::GenerationOverflow(4u8);
-    assert_eq!(rt; (gone.allow(), again.allow()), (None, Some(4)));
-    assert!(rt; again.unwrap() == InvalidationOption::GenerationOverflow(4));
-}
-
-#[test]
-fn answers_are_mapped(rt: HostRuntime) {
-    let again = InvalidationResult::GenerationOverflow(4u8);
-    assert!(rt; again.map(|n| n / 2) == InvalidationResult::GenerationOverflow(2));
-    assert!(rt; InvalidationOption::Success(6u8).map(|n| 12 / n).allow() == 2);
 }

@@ -1,6 +1,6 @@
 //! Clones of arenas, and an arena of pointers as a recaster.
 use super::p0;
-use arena_base::{Arena, P0, P8, Ptr, ReallocationError, Recast, laws};
+use arena_base::{Arena, P0, Ptr, ReallocationError, Recast};
 use linked_list_allocator::LocalHeap;
 use std::alloc::{AllocError, Allocator, Global};
 use std::process::Abort;
@@ -17,79 +17,6 @@ fn source(alloc: Global) -> Result<Arena<P0, &'static str>, Fail> {
     let _ = arena.remove(p0(1, 2));
     let _ = arena.invalidate(p0(3, 2));
     Ok(arena)
-}
-
-/// An arena of texts with two entries, a capacity of 4 and a maximum.
-fn receiver(alloc: Global, maximum: usize) -> Result<Arena<P0, String>, Fail> {
-    let mut arena = Arena::with_min_capacity(alloc, 4)?;
-    arena.insert_within_capacity(format!(in alloc; "old")?)?;
-    arena.insert_within_capacity(format!(in alloc; "older")?)?;
-    arena.set_max_capacity(maximum)?;
-    Ok(arena)
-}
-
-#[test]
-fn a_clone_has_the_pointers_of_its_source(rt: HostRuntime) -> Result<(), Fail> {
-    let source = source(rt.alloc())?;
-    let mut arena = receiver(rt.alloc(), 6)?;
-    let mut calls = 0u64;
-    let result = arena.try_clone_from_with(&source, |p, item| {
-        calls = calls.wrapping_add(1);
-        let index = p.inx();
-        format!(in rt.alloc(); "{calls}. {item} at {index}").map_err(|_| AllocError)
-    });
-    assert_eq!(rt; result, Ok(()));
-    assert_eq!(rt; calls, 3);
-    assert_eq!(rt;
-        format!(in rt.alloc(); "{arena:?}")?.as_str(),
-        "{P0[2](2): \"1. two at 2\", P0[3](5): \"2. three at 3\", P0[5](2): \"3. five at 5\"}"
-    );
-    assert_eq!(rt;
-        (arena.capacity(), arena.max_capacity(), arena.generation()),
-        (5, Some(6), 5)
-    );
-    // The source takes index 1 next, which was freed last; so does its clone, as the least; then the two differ.
-    assert_eq!(rt; source.next_insertion_ptr(), Some(p0(1, 5)));
-    assert_eq!(rt;
-        arena.insert_reallocating(String::new(rt.alloc()))?,
-        p0(1, 5)
-    );
-    assert_eq!(rt;
-        arena.insert_reallocating(String::new(rt.alloc()))?,
-        p0(4, 5)
-    );
-    assert_eq!(rt;
-        arena.insert_reallocating(String::new(rt.alloc()))?,
-        p0(6, 5)
-    );
-    Ok(())
-}
-
-#[test]
-fn a_clone_beyond_the_maximum_changes_nothing(rt: HostRuntime) -> Result<(), Fail> {
-    let source = source(rt.alloc())?;
-    let mut arena = receiver(rt.alloc(), 4)?;
-    let mut calls = 0u64;
-    let result = arena.clone_from_with(&source, |_p, _item| {
-        calls = calls.wrapping_add(1);
-        String::new(rt.alloc())
-    });
-    assert_eq!(rt; result, Err(ReallocationError::BeyondMaxCapacity));
-    assert_eq!(rt; calls, 0);
-    assert_eq!(rt;
-        format!(in rt.alloc(); "{arena:?}")?.as_str(),
-        "{P0[1](2): \"old\", P0[2](2): \"older\"}"
-    );
-    assert_eq!(rt;
-        (arena.capacity(), arena.max_capacity(), arena.generation()),
-        (4, Some(4), 2)
-    );
-    // A source without entries needs no capacity, and leaves what there is.
-    let empty: Arena<P0, u64> = Arena::with_min_capacity(rt.alloc(), 9)?;
-    let result = arena.clone_from_with(&empty, |_p, _item| String::new(rt.alloc()));
-    assert_eq!(rt; result, Ok(()));
-    assert_eq!(rt; (arena.len(), arena.capacity()), (0, 4));
-    Ok(())
 }
 
 /// What a clone that was refused memory left.
@@ -163,26 +90,6 @@ fn each_refused_request_of_a_clone(rt: HostRuntime) -> Result<(), Fail> {
         assert_eq!(rt; heap.used(), 0);
     }
     assert!(rt; cloned && kept && emptied);
-    Ok(())
-}
-
-#[test]
-fn a_copy_of_small_pointers(rt: HostRuntime) -> Result<(), Fail> {
-    let mut source: Arena<P8, u64> = Arena::with_min_capacity(rt.alloc(), 254)?;
-    for item in 1..=254u64 {
-        let _ = source.insert_within_capacity(item)?;
-    }
-    let mut arena: Arena<P8, u64> = Arena::new(rt.alloc());
-    assert_eq!(rt; laws::copy(&source, &mut arena), Ok(()));
-    assert_eq!(rt; (arena.len(), arena.capacity()), (254, 254));
-    assert_eq!(rt; arena.get(P8::_from_raw(254, 2)).copied(), Some(254));
-    let _ = source.remove(P8::_from_raw(254, 2));
-    assert_eq!(rt; laws::copy(&source, &mut arena), Ok(()));
-    assert_eq!(rt; arena.get(P8::_from_raw(254, 2)), None);
-    assert_eq!(rt;
-        (arena.next_insertion_ptr(), arena.capacity()),
-        (Some(P8::_from_raw(254, 3)), 254)
-    );
     Ok(())
 }
 

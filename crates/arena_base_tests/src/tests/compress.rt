@@ -1,6 +1,6 @@
 //! Compressions.
 use super::{counts_are, next_is, p0};
-use arena_base::{Arena, ArenaTrait, InsertionError, InvalidationOption, P0, P8, Ptr};
+use arena_base::{Arena, InsertionError, InvalidationOption, P0, Ptr};
 use std::alloc::Global;
 use std::process::Abort;
 use std::test::Fail;
@@ -54,51 +54,5 @@ fn a_compression_goes_by_rising_index(rt: HostRuntime) -> Result<(), Fail> {
     was_met(&rt, &arena, 2, p0(4, 2), p0(2, 7), 'd');
     counts_are(&rt, &arena, (2, 4, 7));
     next_is(&rt, &arena, Some((3, 7)));
-    Ok(())
-}
-
-#[test]
-fn a_compression_may_begin_the_generations_again(rt: HostRuntime) -> Result<(), Fail> {
-    let mut arena = scattered(rt.alloc())?;
-    assert_eq!(rt; arena.compress(true), InvalidationOption::Success(()));
-    assert!(rt; arena.contains(p0(2, 2)));
-    counts_are(&rt, &arena, (2, 4, 2));
-    Ok(())
-}
-
-/// The letter b alone, at the index 2, under pointers of eight bits.
-fn second_letter(alloc: Global) -> Result<Arena<P8, char>, InsertionError> {
-    let mut arena: Arena<P8, char> = Arena::new(alloc);
-    arena.insert_reallocating('a')?;
-    arena.insert_reallocating('b')?;
-    let _ = arena.remove_inx(1);
-    Ok(arena)
-}
-
-/// The letter b stands under this pointer.
-fn b_is_at(rt: &impl Abort, arena: &Arena<P8, char>, p: P8) {
-    assert_eq!(rt; arena.get(p).copied(), Some('b'));
-}
-
-#[test]
-fn a_compression_overflows(rt: HostRuntime) -> Result<(), Fail> {
-    let mut arena = second_letter(rt.alloc())?;
-    arena.set_generation(255);
-    assert!(rt; arena.compress(true) == InvalidationOption::Success(()));
-    b_is_at(&rt, &arena, P8::_from_raw(1, 2));
-    arena.set_generation(255);
-    let overflow = ArenaTrait::compress(&mut arena, false);
-    assert!(rt; overflow == InvalidationOption::GenerationOverflow(()));
-    b_is_at(&rt, &arena, P8::_from_raw(1, 2));
-    Ok(())
-}
-
-#[test]
-fn a_compression_without_entries(rt: HostRuntime) -> Result<(), Fail> {
-    let mut arena = second_letter(rt.alloc())?;
-    arena.set_generation(2);
-    assert!(rt; arena.clear() == InvalidationOption::Success(()));
-    assert!(rt; arena.compress(false) == InvalidationOption::Success(()));
-    assert_eq!(rt; (arena.len(), arena.generation()), (0, 4));
     Ok(())
 }

@@ -1,22 +1,10 @@
 //! Walks by index and drains.
-ghost use Rattle.std.specs.Prelude.{◌≡◌, IsTrue};
-
-use super::{counts_are, insert_at, numbers, p0};
+use super::{counts_are, insert_at, p0};
 use arena_base::{Advancer, Arena, InsertionError, InvalidationOption, P0, PtrAdvancer};
 use std::alloc::Global;
 use std::mem;
 use std::process::Abort;
 use std::test::Fail;
-
-/// A step of a walk gives the pointer with these numbers, or nothing.
-fn gives(
-    rt: &impl Abort,
-    walk: &mut PtrAdvancer<P0>,
-    arena: &Arena<P0, u64>,
-    wanted: Option<(u32, u64)>,
-) {
-    assert_eq!(rt; numbers(walk.advance(arena)), wanted);
-}
 
 /// Entries with generation 2 at the indexes 1, 3 and 5, whose items are 0, 2 and 4.
 fn odd_entries(alloc: Global) -> Result<Arena<P0, u64>, InsertionError> {
@@ -27,32 +15,6 @@ fn odd_entries(alloc: Global) -> Result<Arena<P0, u64>, InsertionError> {
     let _ = arena.remove_inx(2);
     let _ = arena.remove_inx(4);
     Ok(arena)
-}
-
-#[test]
-fn a_walk_goes_up(rt: HostRuntime) -> Result<(), Fail> {
-    let arena = odd_entries(rt.alloc())?;
-    let mut all = arena.advancer();
-    for inx in [1u32, 3, 5] {
-        gives(&rt, &mut all, &arena, Some((inx, 2)));
-    }
-    gives(&rt, &mut all, &arena, None);
-    let mut up = arena.advancer_inx(2, false);
-    gives(&rt, &mut up, &arena, Some((3, 2)));
-    Ok(())
-}
-
-#[test]
-fn a_walk_goes_down(rt: HostRuntime) -> Result<(), Fail> {
-    let arena = odd_entries(rt.alloc())?;
-    let mut down = arena.advancer_inx(4, true);
-    for inx in [3u32, 1] {
-        gives(&rt, &mut down, &arena, Some((inx, 2)));
-    }
-    gives(&rt, &mut down, &arena, None);
-    let mut none: PtrAdvancer<P0> = Advancer::<Arena<P0, u64>>::empty();
-    gives(&rt, &mut none, &arena, None);
-    Ok(())
 }
 
 /// A drain gives this entry first, and is then forgotten or dropped.
@@ -81,16 +43,6 @@ fn drains_are_dropped_and_forgotten(rt: HostRuntime) -> Result<(), Fail> {
     drains_first(&rt, &mut arena, (p, 1), true);
     assert_eq!(rt; (arena.len(), arena.contains(q)), (1, true));
     Ok(())
-}
-
-// Any advancer that is made empty gives nothing, however the collection changes between two steps.
-fn gives_nothing<C, A: Advancer<C> + Drop>(first: &C, second: &C) -> bool
-where
-    A::Item: Drop,
-    ensures { IsTrue result }
-{
-    let mut none: A = Advancer::<C>::empty();
-    none.advance(first).is_none() && none.advance(second).is_none()
 }
 
 /// Two walks, and what they give next.
@@ -130,16 +82,5 @@ fn a_walk_goes_on_with_later_entries(rt: HostRuntime) -> Result<(), Fail> {
     insert_at(&rt, &mut arena, 4, p0(4, 4))?;
     walks.give(&rt, &arena, Some(p0(4, 4)), None);
     walks.give(&rt, &arena, None, None);
-    Ok(())
-}
-
-#[test]
-fn an_empty_walk_gives_nothing(rt: HostRuntime) -> Result<(), Fail> {
-    let empty: Arena<P0, u64> = Arena::new(rt.alloc());
-    let mut arena: Arena<P0, u64> = Arena::new(rt.alloc());
-    insert_at(&rt, &mut arena, 0, p0(1, 2))?;
-    let mut none: PtrAdvancer<P0> = Advancer::<Arena<P0, u64>>::empty();
-    assert_eq!(rt; none.advance(&arena), None);
-    assert!(rt; gives_nothing::<Arena<P0, u64>, PtrAdvancer<P0>>(&empty, &arena));
     Ok(())
 }

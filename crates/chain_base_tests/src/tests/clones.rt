@@ -1,5 +1,5 @@
 //! Clones of other chains.
-use super::rebuild::{assert_laid_out, scattered, small};
+use super::rebuild::scattered;
 use super::{Letters, begin};
 use arena_base::{P0, Ptr, ReallocationError};
 use chain_base::ChainArena;
@@ -49,15 +49,6 @@ fn a_clone_has_the_pointers_in_order(rt: HostRuntime) -> Result<(), Fail> {
     assert!(rt; chain.last() == Some(P0::_from_raw(1, 2)));
     assert!(rt; (chain.len(), chain.capacity(), chain.generation()) == (3, 4, 3));
     Ok(())
-}
-
-#[test]
-fn a_clone_beyond_the_limit_changes_nothing(rt: HostRuntime) -> Result<(), Fail> {
-    let source = scattered(&rt, rt.alloc())?;
-    let mut chain = small(&rt, rt.alloc())?;
-    let cloned = chain.clone_from_with(&source, |_p, letter: &char, _neighbours| *letter);
-    assert!(rt; cloned == Err(ReallocationError::BeyondMaxCapacity));
-    assert_laid_out(&rt, rt.alloc(), &chain, "1.2x ", 2)
 }
 
 /// The list c, d, a is to be cloned over the letter x, and the item at index 2 is refused.

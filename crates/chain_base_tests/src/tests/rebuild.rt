@@ -1,8 +1,6 @@
 //! Compressions, the canonical order and transfers.
-ghost use Rattle.std.specs.Prelude.{[], ◌≡◌};
-
-use super::{Letters, after, before, begin, counts_are, meet, neighbours_are, next_is};
-use arena_base::{Advancer, InsertionError, InvalidationOption, P0, P8, Ptr, ReallocationError};
+use super::{Letters, after, before, begin, meet, neighbours_are};
+use arena_base::{Advancer, InvalidationOption, P0, Ptr, ReallocationError};
 use chain_base::{ChainArena, LinkInsertKind};
 use linked_list_allocator::LocalHeap;
 use std::alloc::{Allocator, Global};
@@ -39,131 +37,26 @@ pub(crate) fn scattered(rt: &impl Abort, alloc: Global) -> Result<Letters, Fail>
     Ok(chain)
 }
 
-/// A compression, canonical or not, and the layout and capacity that it leaves.
-fn compresses(
+/// The entries get the canonical order, and this layout.
+fn is_put_in_order(
     rt: &impl Abort,
     alloc: Global,
     chain: &mut Letters,
-    (is_canonical, reset): (bool, bool),
+    reset: bool,
     wanted: &str,
 ) -> Result<(), Fail> {
-    let overflow = if is_canonical {
-        chain.compress_canonical(reset)
-    } else {
-        chain.compress(reset)
-    };
+    let overflow = chain.compress_canonical(reset);
     assert!(rt; overflow == InvalidationOption::Success(()));
     assert_eq!(rt; layout(rt, alloc, chain)?.as_str(), wanted);
     Ok(())
 }
 
 #[test]
-fn a_compression_keeps_the_order(rt: HostRuntime) -> Result<(), Fail> {
-    let mut chain = scattered(&rt, rt.alloc())?;
-    assert_laid_out(&rt, rt.alloc(), &chain, "2.2c 4.2d 1.2a ", 3)?;
-    let plain = (false, false);
-    compresses(&rt, rt.alloc(), &mut chain, plain, "2.4c 3.4d 1.4a ")?;
-    neighbours_are(&rt, &chain, 3, Some((Some(2), Some(1))));
-    counts_are(&rt, &chain, (3, 4, 4));
-    next_is(&rt, &chain, (4, 4));
-    Ok(())
-}
-
-#[test]
 fn the_canonical_order_goes_by_the_list(rt: HostRuntime) -> Result<(), Fail> {
     let mut chain = scattered(&rt, rt.alloc())?;
-    let canonical = (true, false);
-    compresses(&rt, rt.alloc(), &mut chain, canonical, "1.4c 2.4d 3.4a ")?;
+    is_put_in_order(&rt, rt.alloc(), &mut chain, false, "1.4c 2.4d 3.4a ")?;
     neighbours_are(&rt, &chain, 2, Some((Some(1), Some(3))));
-    let reset = (true, true);
-    compresses(&rt, rt.alloc(), &mut chain, reset, "1.2c 2.2d 3.2a ")
-}
-
-#[test]
-fn compressions_of_no_entry(rt: HostRuntime) {
-    let mut chain: ChainArena<P8, char> = ChainArena::new(rt.alloc());
-    assert!(rt; chain.compress_canonical(false) == InvalidationOption::Success(()));
-    assert!(rt; chain.compress(true) == InvalidationOption::Success(()));
-    assert_eq!(rt; (chain.is_empty(), chain.generation()), (true, 2));
-}
-
-/// The letter a alone, under a pointer of eight bits.
-fn letter_a(alloc: Global) -> Result<ChainArena<P8, char>, InsertionError> {
-    let mut chain: ChainArena<P8, char> = ChainArena::new(alloc);
-    let kind = LinkInsertKind::Disconnected;
-    let _ = chain.insert_reallocating(kind, 'a')?;
-    Ok(chain)
-}
-
-#[test]
-fn compressions_overflow(rt: HostRuntime) -> Result<(), Fail> {
-    let mut chain = letter_a(rt.alloc())?;
-    chain.set_generation(255);
-    assert!(rt; chain.compress(false) == InvalidationOption::GenerationOverflow(()));
-    chain.set_generation(255);
-    let overflow = chain.compress_canonical(false);
-    assert!(rt; overflow == InvalidationOption::GenerationOverflow(()));
-    assert_eq!(rt; chain.first(), Some(P8::_from_raw(1, 2)));
-    Ok(())
-}
-
-/// The pointer that an entry had, its letter, and the pointer that it gets.
-type Moved = (P0, char, P8);
-
-type Transferred = ChainArena<P8, Moved>;
-
-/// A chain of one entry, which may hold four.
-fn one_of_four(rt: &impl Abort, alloc: Global) -> Result<Transferred, InsertionError> {
-    let mut chain = Transferred::new(alloc);
-    let old = (P0::invalid(), 'z', P8::invalid());
-    assert!(rt; chain.is_empty());
-    let _ = chain.insert_reallocating(LinkInsertKind::Disconnected, old)?;
-    assert_eq!(rt; chain.set_max_capacity(4), Ok(()));
-    Ok(chain)
-}
-
-/// Transfers all letters with generation 7.
-fn transfer_to_seven(
-    chain: &mut Transferred,
-    source: &mut Letters,
-) -> Result<(), ReallocationError> {
-    chain.transfer_canonical_reallocating(
-        7,
-        source,
-        |from: P0, taken: InvalidationOption<char>, to: P8| (from, taken.allow(), to),
-    )
-}
-
-/// The letter of a new index, with generation 7, was moved from this pointer.
-fn was_moved(rt: &impl Abort, chain: &Transferred, i: u8, from: P0, letter: char) {
-    let p = P8::_from_raw(i, 7);
-    assert_eq!(rt; chain.get(p).copied(), Some((from, letter, p)));
-}
-
-#[test]
-fn a_transfer_takes_all_in_order(rt: HostRuntime) -> Result<(), Fail> {
-    let mut source = scattered(&rt, rt.alloc())?;
-    let mut chain = one_of_four(&rt, rt.alloc())?;
-    assert_eq!(rt; transfer_to_seven(&mut chain, &mut source), Ok(()));
-    was_moved(&rt, &chain, 1, P0::_from_raw(2, 2), 'c');
-    was_moved(&rt, &chain, 2, P0::_from_raw(4, 2), 'd');
-    was_moved(&rt, &chain, 3, P0::_from_raw(1, 2), 'a');
-    counts_are(&rt, &chain, (3, 4, 7));
-    assert_eq!(rt; chain.first(), Some(P8::_from_raw(1, 7)));
-    counts_are(&rt, &source, (0, 4, 6));
-    next_is(&rt, &source, (1, 6));
-    Ok(())
-}
-
-#[test]
-fn a_transfer_of_no_entry(rt: HostRuntime) -> Result<(), Fail> {
-    let mut source = scattered(&rt, rt.alloc())?;
-    assert!(rt; source.clear() == InvalidationOption::Success(()));
-    let mut chain = one_of_four(&rt, rt.alloc())?;
-    assert_eq!(rt; transfer_to_seven(&mut chain, &mut source), Ok(()));
-    counts_are(&rt, &chain, (0, 4, 7));
-    assert_eq!(rt; source.generation(), 4);
-    Ok(())
+    is_put_in_order(&rt, rt.alloc(), &mut chain, true, "1.2c 2.2d 3.2a ")
 }
 
 /// The place of a call among all, the pointers that it was shown, and the letter.
@@ -245,7 +138,7 @@ fn transfer_all<A: Allocator>(
 }
 
 /// Says that a chain has this layout and this generation.
-pub(crate) fn assert_laid_out(
+fn assert_laid_out(
     rt: &impl Abort,
     alloc: Global,
     chain: &Letters,
@@ -255,26 +148,6 @@ pub(crate) fn assert_laid_out(
     let found = layout(rt, alloc, chain)?;
     assert_eq!(rt; (found.as_str(), chain.generation()), (wanted, generation));
     Ok(())
-}
-
-/// The chain of the letter x alone, which may hold two.
-pub(crate) fn small(rt: &impl Abort, alloc: Global) -> Result<Letters, Fail> {
-    let mut chain = Letters::new(alloc);
-    assert_eq!(rt; chain.set_max_capacity(2), Ok(()));
-    begin(rt, &mut chain, 'x')?;
-    Ok(chain)
-}
-
-#[test]
-fn a_transfer_beyond_the_limit_changes_nothing(rt: HostRuntime) -> Result<(), Fail> {
-    let mut source = scattered(&rt, rt.alloc())?;
-    let mut chain = small(&rt, rt.alloc())?;
-    assert_eq!(rt;
-        transfer_all(&mut chain, &mut source),
-        (Err(ReallocationError::BeyondMaxCapacity), 0)
-    );
-    assert_laid_out(&rt, rt.alloc(), &chain, "1.2x ", 2)?;
-    assert_laid_out(&rt, rt.alloc(), &source, "2.2c 4.2d 1.2a ", 3)
 }
 
 /// Transfers three letters into a chain on a heap of so many units. Answers how many are there.

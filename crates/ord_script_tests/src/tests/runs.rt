@@ -1,5 +1,5 @@
-//! `run` on arenas of any pointers and items.
-use arena_base::{InvalidationOption, InvalidationResult, P0, P8, PN, Ptr, PtrInx};
+//! `run` on arenas of letters under pointers of eight bits.
+use arena_base::{InvalidationOption, InvalidationResult, P8, Ptr};
 use linked_list_allocator::LocalHeap;
 use ord_script::{Command, Reply, run};
 use std::alloc::{AllocError, Allocator, Global};
@@ -31,34 +31,34 @@ fn item(number: u16, letter: char) -> Letter {
 }
 
 /// Runs commands, none of which asks the closure.
-fn answers<P: Ptr, A: Allocator + Copy>(
+fn answers<A: Allocator + Copy>(
     alloc: A,
-    arena: &mut SimpleOrdArena<P, Letter, A>,
-    commands: Vec<Command<P, Letter>, A>,
-) -> Result<Vec<Reply<P, Letter, A>, A>, AllocError> {
-    let mut closure = |_p: P, _l: &Letter| Ordering::Equal;
+    arena: &mut SimpleOrdArena<P8, Letter, A>,
+    commands: Vec<Command<P8, Letter>, A>,
+) -> Result<Vec<Reply<P8, Letter, A>, A>, AllocError> {
+    let mut closure = |_p: P8, _l: &Letter| Ordering::Equal;
     run(alloc, arena, commands, &mut closure)
 }
 
 /// A reply from the global heap.
-type Answer<P> = Reply<P, Letter, Global>;
+type Answer = Reply<P8, Letter, Global>;
 
 /// Commands for one run.
-type Commands<P> = Vec<Command<P, Letter>>;
+type Commands = Vec<Command<P8, Letter>>;
 
 /// Adds a command to a run.
-fn add<P: Ptr>(commands: &mut Commands<P>, command: Command<P, Letter>) -> Result<(), AllocError> {
+fn add(commands: &mut Commands, command: Command<P8, Letter>) -> Result<(), AllocError> {
     commands.push(command)?;
     Ok(())
 }
 
 /// Runs these commands, each of which is answered.
-fn replies_to<P: Ptr>(
+fn replies_to(
     rt: &impl Abort,
     alloc: Global,
-    arena: &mut SimpleOrdArena<P, Letter>,
-    commands: Commands<P>,
-) -> Result<Vec<Answer<P>>, AllocError> {
+    arena: &mut SimpleOrdArena<P8, Letter>,
+    commands: Commands,
+) -> Result<Vec<Answer>, AllocError> {
     let count = commands.len();
     let replies = answers(alloc, arena, commands)?;
     assert_eq!(rt; replies.len(), count);
@@ -66,7 +66,7 @@ fn replies_to<P: Ptr>(
 }
 
 /// The pointer of an entry that is told as new.
-fn new_pointer<P: Ptr, A: Allocator>(reply: &Reply<P, Letter, A>) -> Option<P> {
+fn new_pointer<A: Allocator>(reply: &Reply<P8, Letter, A>) -> Option<P8> {
     match reply {
         Reply::Inserted(OrdEntryKind::New(p), None) => Some(*p),
         _ => None,
@@ -74,15 +74,15 @@ fn new_pointer<P: Ptr, A: Allocator>(reply: &Reply<P, Letter, A>) -> Option<P> {
 }
 
 /// The pointer of an entry that the reply at this place tells as new, at this index.
-fn new_at<P: Ptr>(rt: &impl Abort, replies: &[Answer<P>], place: usize, index: usize) -> P {
+fn new_at(rt: &impl Abort, replies: &[Answer], place: usize, index: u8) -> P8 {
     let reply = replies.get(place).expect(rt, "a reply");
     let p = new_pointer(reply).expect(rt, "a new entry");
-    assert_eq!(rt; p.inx().try_into_usize(), Some(index));
+    assert_eq!(rt; p.inx(), index);
     p
 }
 
 /// Whether the reply at this place tells that the entry of a pointer had this item.
-fn is_replaced<P: Ptr>(replies: &[Answer<P>], place: usize, p: P, old: Letter) -> bool {
+fn is_replaced(replies: &[Answer], place: usize, p: P8, old: Letter) -> bool {
     match replies.get(place) {
         Some(Reply::Inserted(OrdEntryKind::Replacing(q), Some(l))) => *q == p && *l == old,
         _ => false,
@@ -90,7 +90,7 @@ fn is_replaced<P: Ptr>(replies: &[Answer<P>], place: usize, p: P, old: Letter) -
 }
 
 /// Whether the reply at this place tells that an entry was taken out.
-fn is_removed<P: Ptr>(replies: &[Answer<P>], place: usize, p: P, old: Letter) -> bool {
+fn is_removed(replies: &[Answer], place: usize, p: P8, old: Letter) -> bool {
     match replies.get(place) {
         Some(Reply::Removed(InvalidationResult::Success((q, l)))) => *q == p && *l == old,
         _ => false,
@@ -98,7 +98,7 @@ fn is_removed<P: Ptr>(replies: &[Answer<P>], place: usize, p: P, old: Letter) ->
 }
 
 /// Whether the reply at this place is that a search found a pointer, or none, after so many visits.
-fn is_found<P: Ptr>(replies: &[Answer<P>], place: usize, p: Option<P>, visits: u128) -> bool {
+fn is_found(replies: &[Answer], place: usize, p: Option<P8>, visits: u128) -> bool {
     match replies.get(place) {
         Some(Reply::Found(found, counted)) => *found == p && *counted == visits,
         _ => false,
@@ -106,12 +106,7 @@ fn is_found<P: Ptr>(replies: &[Answer<P>], place: usize, p: Option<P>, visits: u
 }
 
 /// Whether the reply at this place is that a search ended at a pointer, in this order to it, after so many visits.
-fn is_similar<P: Ptr>(
-    replies: &[Answer<P>],
-    place: usize,
-    similar: (P, Ordering),
-    visits: u128,
-) -> bool {
+fn is_similar(replies: &[Answer], place: usize, similar: (P8, Ordering), visits: u128) -> bool {
     match replies.get(place) {
         Some(Reply::Similar(found, counted)) => *found == Some(similar) && *counted == visits,
         _ => false,
@@ -119,26 +114,22 @@ fn is_similar<P: Ptr>(
 }
 
 /// Whether the reply at this place gives an item.
-fn is_item<P: Ptr>(replies: &[Answer<P>], place: usize, item: Letter) -> bool {
+fn is_item(replies: &[Answer], place: usize, item: Letter) -> bool {
     matches!(replies.get(place), Some(Reply::Item(Some(l))) if *l == item)
 }
 
 /// Whether the reply at this place gives a pointer.
-fn is_at<P: Ptr>(replies: &[Answer<P>], place: usize, p: P) -> bool {
+fn is_at(replies: &[Answer], place: usize, p: P8) -> bool {
     matches!(replies.get(place), Some(Reply::At(Some(q))) if *q == p)
 }
 
 /// Whether the reply at this place is that the generation changed so.
-fn is_changed<P: Ptr>(
-    replies: &[Answer<P>],
-    place: usize,
-    overflow: InvalidationOption<()>,
-) -> bool {
+fn is_changed(replies: &[Answer], place: usize, overflow: InvalidationOption<()>) -> bool {
     matches!(replies.get(place), Some(Reply::Changed(told)) if *told == overflow)
 }
 
 /// The entry at this place of a list that the reply at `at` gives.
-fn entry_at<P: Ptr>(replies: &[Answer<P>], at: usize, place: usize) -> Option<(P, Letter)> {
+fn entry_at(replies: &[Answer], at: usize, place: usize) -> Option<(P8, Letter)> {
     match replies.get(at)? {
         Reply::Entries(entries) => Some(*entries.get(place)?),
         _ => None,
@@ -146,7 +137,7 @@ fn entry_at<P: Ptr>(replies: &[Answer<P>], at: usize, place: usize) -> Option<(P
 }
 
 /// The reply at this place gives just these ranks.
-fn ranks_are<P: Ptr>(rt: &impl Abort, replies: &[Answer<P>], place: usize, wanted: &[u8]) {
+fn ranks_are(rt: &impl Abort, replies: &[Answer], place: usize, wanted: &[u8]) {
     match replies.get(place) {
         Some(Reply::Ranks(ranks)) => assert_eq!(rt; ranks.as_slice(), wanted),
         _ => assert!(rt; false, "no ranks"),
@@ -155,18 +146,18 @@ fn ranks_are<P: Ptr>(rt: &impl Abort, replies: &[Answer<P>], place: usize, wante
 
 /// The pointers of three entries, in order.
 #[derive(Clone, Copy)]
-struct Three<P: Ptr> {
-    a: P,
-    b: P,
-    c: P,
+struct Three {
+    a: P8,
+    b: P8,
+    c: P8,
 }
 
 /// The first run, on an empty arena: it inserts three entries, and searches.
-fn run_insertions<P: Ptr>(
+fn run_insertions(
     rt: &impl Abort,
     alloc: Global,
-    arena: &mut SimpleOrdArena<P, Letter>,
-) -> Result<Three<P>, AllocError> {
+    arena: &mut SimpleOrdArena<P8, Letter>,
+) -> Result<Three, AllocError> {
     let mut commands = Vec::new(alloc);
     add(&mut commands, Command::Insert(item(20, 'b')))?;
     add(&mut commands, Command::Insert(item(10, 'a')))?;
@@ -187,11 +178,11 @@ fn run_insertions<P: Ptr>(
 }
 
 /// The second run only asks.
-fn run_questions<P: Ptr>(
+fn run_questions(
     rt: &impl Abort,
     alloc: Global,
-    arena: &mut SimpleOrdArena<P, Letter>,
-    three: Three<P>,
+    arena: &mut SimpleOrdArena<P8, Letter>,
+    three: Three,
 ) -> Result<(), AllocError> {
     let Three { a, b, c } = three;
     let mut commands = Vec::new(alloc);
@@ -214,11 +205,11 @@ fn run_questions<P: Ptr>(
 }
 
 /// The third run: lists of all entries.
-fn run_lists<P: Ptr>(
+fn run_lists(
     rt: &impl Abort,
     alloc: Global,
-    arena: &mut SimpleOrdArena<P, Letter>,
-    three: Three<P>,
+    arena: &mut SimpleOrdArena<P8, Letter>,
+    three: Three,
 ) -> Result<(), AllocError> {
     let mut commands = Vec::new(alloc);
     add(&mut commands, Command::List)?;
@@ -233,11 +224,11 @@ fn run_lists<P: Ptr>(
 }
 
 /// The fourth run: it writes one entry, and takes the others out.
-fn run_changes<P: Ptr>(
+fn run_changes(
     rt: &impl Abort,
     alloc: Global,
-    arena: &mut SimpleOrdArena<P, Letter>,
-    three: Three<P>,
+    arena: &mut SimpleOrdArena<P8, Letter>,
+    three: Three,
 ) -> Result<(), AllocError> {
     let mut commands = Vec::new(alloc);
     add(&mut commands, Command::Set(three.c, item(35, 'C')))?;
@@ -252,11 +243,11 @@ fn run_changes<P: Ptr>(
 }
 
 /// And one that takes out what is left, where the order is right.
-fn run_drain<P: Ptr>(
+fn run_drain(
     rt: &impl Abort,
     alloc: Global,
-    arena: &mut SimpleOrdArena<P, Letter>,
-    c: P,
+    arena: &mut SimpleOrdArena<P8, Letter>,
+    c: P8,
 ) -> Result<(), AllocError> {
     let mut commands = Vec::new(alloc);
     add(&mut commands, Command::Check)?;
@@ -270,25 +261,19 @@ fn run_drain<P: Ptr>(
 }
 
 /// Runs commands on an empty arena, and then others on what each run left.
-fn run_all<P: Ptr>(rt: &impl Abort, alloc: Global) -> Result<(), AllocError> {
-    let mut arena = SimpleOrdArena::new(alloc);
-    let three = run_insertions::<P>(rt, alloc, &mut arena)?;
-    run_questions(rt, alloc, &mut arena, three)?;
-    run_lists(rt, alloc, &mut arena, three)?;
-    run_changes(rt, alloc, &mut arena, three)?;
-    run_drain(rt, alloc, &mut arena, three.c)
-}
-
 #[test]
-fn runs_at_each_pointer_type(rt: HostRuntime) -> Result<(), Fail> {
-    run_all::<P0>(&rt, rt.alloc())?;
-    run_all::<P8>(&rt, rt.alloc())?;
-    run_all::<PN>(&rt, rt.alloc())?;
+fn runs_one_after_another(rt: HostRuntime) -> Result<(), Fail> {
+    let mut arena = SimpleOrdArena::new(rt.alloc());
+    let three = run_insertions(&rt, rt.alloc(), &mut arena)?;
+    run_questions(&rt, rt.alloc(), &mut arena, three)?;
+    run_lists(&rt, rt.alloc(), &mut arena, three)?;
+    run_changes(&rt, rt.alloc(), &mut arena, three)?;
+    run_drain(&rt, rt.alloc(), &mut arena, three.c)?;
     Ok(())
 }
 
 /// Insertions by an entry, of items with other keys than the entry's, within a capacity of three and beyond it.
-fn entry_commands(alloc: Global) -> Result<Commands<P0>, AllocError> {
+fn entry_commands(alloc: Global) -> Result<Commands, AllocError> {
     let behind_the_first = OrdInsertKind::Manual {
         p_target: 1,
         direction: Ordering::Greater,
@@ -424,7 +409,7 @@ enum Outcome {
 /// Runs an insertion on a heap of so many units. A run that is refused changes nothing.
 fn outcome_on(rt: &impl Abort, alloc: Global, units: usize) -> Result<Outcome, AllocError> {
     let heap = LocalHeap::new(alloc, units.saturating_mul(16))?;
-    let mut arena: SimpleOrdArena<P0, Letter, _> = SimpleOrdArena::new(&heap);
+    let mut arena: SimpleOrdArena<P8, Letter, _> = SimpleOrdArena::new(&heap);
     let mut commands = Vec::new(&heap);
     if commands.push(Command::Insert(item(1, 'a'))).is_err() {
         return Ok(Outcome::NoCommand);
@@ -461,7 +446,7 @@ fn a_run_that_is_refused_its_replies_changes_nothing(rt: HostRuntime) -> Result<
 }
 
 /// An arena of the numbers 50, 30, 70, 60 and 10, at the indexes from 1 on.
-fn five_numbers(rt: &impl Abort, alloc: Global) -> Result<SimpleOrdArena<P0, Letter>, AllocError> {
+fn five_numbers(rt: &impl Abort, alloc: Global) -> Result<SimpleOrdArena<P8, Letter>, AllocError> {
     let mut arena = SimpleOrdArena::new(alloc);
     let mut commands = Vec::new(alloc);
     for number in [50u16, 30, 70, 60, 10] {
@@ -481,7 +466,7 @@ fn searches_by_a_closure(rt: HostRuntime) -> Result<(), Fail> {
     add(&mut commands, Command::SimilarWith)?;
     add(&mut commands, Command::FindWith)?;
     let mut calls = 0u8;
-    let mut closure = |_p: P0, _l: &Letter| {
+    let mut closure = |_p: P8, _l: &Letter| {
         calls = calls.wrapping_add(1);
         match calls {
             1 | 3 => Ordering::Greater,
@@ -493,8 +478,8 @@ fn searches_by_a_closure(rt: HostRuntime) -> Result<(), Fail> {
     assert_eq!(rt; calls, 5);
     assert_eq!(rt; replies.len(), 2);
     // 50, 70, 60; then 50, 30
-    let p60 = P0::_from_raw(4, 2);
-    let p30 = P0::_from_raw(2, 2);
+    let p60 = P8::_from_raw(4, 2);
+    let p30 = P8::_from_raw(2, 2);
     assert!(rt; is_similar(&replies, 0, (p60, Ordering::Greater), 3));
     assert!(rt; is_found(&replies, 1, Some(p30), 2));
     Ok(())
@@ -506,11 +491,11 @@ fn searches_from_a_hint(rt: HostRuntime) -> Result<(), Fail> {
     let mut commands = Vec::new(rt.alloc());
     add(&mut commands, Command::Similar(53))?;
     add(&mut commands, Command::SimilarLinear(2, 2, 40))?;
-    let from = P0::_from_raw(5, 2);
+    let from = P8::_from_raw(5, 2);
     add(&mut commands, Command::FindLinear(from, 2, 60))?;
     let replies = replies_to(&rt, rt.alloc(), &mut arena, commands)?;
-    let p50 = P0::_from_raw(1, 2);
-    let p60 = P0::_from_raw(4, 2);
+    let p50 = P8::_from_raw(1, 2);
+    let p60 = P8::_from_raw(4, 2);
     assert!(rt; is_similar(&replies, 0, (p60, Ordering::Less), 3));
     assert!(rt; is_similar(&replies, 1, (p50, Ordering::Less), 2));
     assert!(rt; is_found(&replies, 2, Some(p60), 5));

@@ -224,6 +224,15 @@ fn transfers_at_the_limit(rt: HostRuntime) -> Result<(), Fail> {
     Ok(())
 }
 
+#[test]
+fn a_transfer_beyond_the_limit(rt: HostRuntime) -> Result<(), Fail> {
+    let source = row(&rt, rt.alloc(), 4)?;
+    let before = places(rt.alloc(), &source)?;
+    let after = refused(&rt, rt.alloc())?;
+    assert_eq!(rt; after.as_slice(), before.as_slice());
+    Ok(())
+}
+
 /// The places of a tree of four entries that another one with three places refused to take.
 fn refused(rt: &impl Abort, alloc: Global) -> Result<Vec<Place>, Fail> {
     let mut source = row(rt, alloc, 4)?;
@@ -236,13 +245,4 @@ fn refused(rt: &impl Abort, alloc: Global) -> Result<Vec<Place>, Fail> {
         (2, 2)
     );
     places(alloc, &source)
-}
-
-#[test]
-fn a_transfer_beyond_the_limit(rt: HostRuntime) -> Result<(), Fail> {
-    let source = row(&rt, rt.alloc(), 4)?;
-    let before = places(rt.alloc(), &source)?;
-    let after = refused(&rt, rt.alloc())?;
-    assert_eq!(rt; after.as_slice(), before.as_slice());
-    Ok(())
 }

@@ -33,7 +33,8 @@ impl<P: Ptr, T, A: Allocator> SimpleOrdArena<P, T, A> {
 
     /// Generation and item of the entry at the index, in O(1).
     pub fn get_inx(&self, i: P::Inx) -> Option<(P::Gen, &T)>
-        ensures { option_map (λ e. (P.Gen.number e.0, e.1.now)) result ≡ entry_at self.now (P.Inx.number i) }
+        ensures { option_map (λ e. (P.Gen.number e.0, e.1.now)) result
+            ≡ entry_at self.now (P.Inx.number i) }
     {
         let entry = self.tree.chain().get_inx(i)?;
         let node = entry.1;

@@ -26,9 +26,11 @@ impl<P: Ptr, T: Clone + Drop, A: Allocator + Copy> SimpleOrdArena<P, T, A> {
         ensures ok { OnOk result (self.new ≡ cloned source.now self.old) }
         ensures beyond { (result ≡ Err ReallocationError.BeyondMaxCapacity)
             ↔ (chain_limit P.Inx.most self.old.list < greatest_index source.now.list.entries) }
-        ensures beyond_kept { result ≡ Err ReallocationError.BeyondMaxCapacity → self.new ≡ self.old }
+        ensures beyond_kept { result ≡ Err ReallocationError.BeyondMaxCapacity
+            → self.new ≡ self.old }
         ensures memory { result ≡ Err ReallocationError.AllocError
-            → ((self.old.list.capacity < greatest_index source.now.list.entries) × (self.new ≡ self.old))
+            → ((self.old.list.capacity < greatest_index source.now.list.entries)
+            × (self.new ≡ self.old))
             ⊎ ((0 < count source.now) × (self.new ≡ emptied source.now self.old)) }
     {
         // With its length an arena tells what holds of its list.
@@ -46,7 +48,8 @@ impl<P: Ptr, T: Clone + Drop, A: Allocator + Copy> SimpleOrdArena<P, T, A> {
         ensures found { IfOk result (λ a. FindSame self.now a) }
         ensures count { IfOk result (λ a. count a ≡ count self.now) }
         ensures ok { IfOk result
-            (λ a. a ≡ cloned self.now (record { list = new_chain P.Gen.greatest; shape = missing })) }
+            (λ a. a ≡ cloned self.now
+            (record { list = new_chain P.Gen.greatest; shape = missing })) }
         ensures none { count self.now ≡ 0 → IsOk result }
     {
         let mut clone = SimpleOrdArena::new(self.tree.chain().alloc());

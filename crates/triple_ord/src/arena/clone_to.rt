@@ -31,7 +31,8 @@ impl<P: Ptr, T: Drop, A: Allocator + Copy> SimpleOrdArena<P, T, A> {
         ensures ok { OnOk result (IsClone P.numbers (IsShown F.step) map
             (content_of self.now) (C.content arena.old) (C.content arena.new)) }
         ensures beyond { (result ≡ Err ReallocationError.BeyondMaxCapacity)
-            ↔ (arena_limit P.Inx.most (C.content arena.old) < greatest_occupied (content_of self.now).slots) }
+            ↔ (arena_limit P.Inx.most (C.content arena.old)
+            < greatest_occupied (content_of self.now).slots) }
         ensures memory { result ≡ Err ReallocationError.AllocError
             → arena_capacity (C.content arena.old) < greatest_occupied (content_of self.now).slots }
         ensures err { OnErr result (HoldsSame (C.content arena.new) (C.content arena.old)) }

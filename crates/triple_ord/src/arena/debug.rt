@@ -5,7 +5,7 @@ use std::alloc::Allocator;
 use std::fmt;
 
 /// A map from pointer to item, in the order of the list.
-impl<P: Ptr, T: fmt::Debug, A: Allocator> fmt::Debug for SimpleOrdArena<P, T, A> {
+impl<P: Ptr + fmt::Debug, T: fmt::Debug, A: Allocator> fmt::Debug for SimpleOrdArena<P, T, A> {
     fn fmt<W: fmt::Write>(&self, f: &mut fmt::Formatter<W>) -> fmt::Result {
         let mut out = f.debug_map();
         for (p, item) in self {

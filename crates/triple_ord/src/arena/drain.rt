@@ -43,7 +43,10 @@ impl<'a, P: Ptr, T: Drop, A: Allocator> OrderedDrain<'a, P, T, A> {
 impl<'a, P: Ptr, T: Drop, A: Allocator> Drop for OrderedDrain<'a, P, T, A> {
     fn drop(self)
         ensures { self.exit.0.now
-            ≡ record { list = cleared P.Gen.greatest (ordered_drain_arena self.entry).list; shape = missing } }
+            ≡ record {
+              list = cleared P.Gen.greatest (ordered_drain_arena self.entry).list;
+              shape = missing;
+            } }
     {
         let OrderedDrain { arena } = self;
         let _ = arena.clear();

@@ -52,7 +52,8 @@ impl<'a, P: Ptr, T: Drop, A: Allocator> SimpleOrdArenaInsertEntry<'a, P, T, A> {
             (P.numbers (pointer_of (entry_shown self.entry))) (Some t) }
         ensures before { result ≡ item_of (entry_arena self.entry)
             (P.numbers (pointer_of (entry_shown self.entry))) }
-        ensures count { count self.exit.0.now ≡ (if is_some result then count (entry_arena self.entry)
+        ensures count { count self.exit.0.now
+            ≡ (if is_some result then count (entry_arena self.entry)
             else count (entry_arena self.entry) + 1) }
     {
         let prepared = self.prepared;
@@ -71,13 +72,12 @@ impl<P: Ptr, T: SimpleOrdItem + Drop, A: Allocator> SimpleOrdArena<P, T, A> {
         kind: OrdInsertKind<P, &T::Key>,
     ) -> Result<SimpleOrdArenaInsertEntry<'_, P, T, A>, OrdInsertionError>
         ensures* unchanged_at_err { sem 𝓛 (rests_if_refused P.row T.row A.row P.Inx.row P.Gen.row
-            P.Ptr.own P.PartialEq P.Ord.own P.PartialOrd.own P.Hash.own P.Debug
-            P.Inx.PtrInx.own P.Inx.PartialEq P.Inx.Ord.own P.Inx.PartialOrd.own P.Inx.Hash.own P.Inx.Debug
-            P.Gen.PtrGen.own P.Gen.PartialEq P.Gen.Debug A.Allocator
+            P.Ptr.own P.PartialEq P.Inx.PtrInx.own P.Inx.PartialEq
+            P.Gen.PtrGen.own P.Gen.PartialEq A.Allocator
             self.entry result) }
         ensures place { IfOk result (λ e. IsEntryFor P.numbers T.key_of T.Key.cmp P.Inx.number
-            within P.Inx.most (kind_now kind.entry) self.old (entry_shown e) (entry_put P.numbers e) (entry_visits e)
-            (entry_arena e)) }
+            within P.Inx.most (kind_now kind.entry) self.old (entry_shown e)
+            (entry_put P.numbers e) (entry_visits e) (entry_arena e)) }
         ensures found { IfOk result (λ e. FindSame self.old (entry_arena e)) }
         ensures count { IfOk result (λ e. count (entry_arena e) ≡ count self.old) }
         ensures refused { IfErr result (IsRefused T.key_of T.Key.cmp P.Inx.most within
@@ -104,13 +104,12 @@ impl<P: Ptr, T: SimpleOrdItem + Drop, A: Allocator> SimpleOrdArena<P, T, A> {
         kind: OrdInsertKind<P, &T::Key>,
     ) -> Result<SimpleOrdArenaInsertEntry<'_, P, T, A>, OrdInsertionError>
         ensures* unchanged_at_err { sem 𝓛 (rests_if_refused P.row T.row A.row P.Inx.row P.Gen.row
-            P.Ptr.own P.PartialEq P.Ord.own P.PartialOrd.own P.Hash.own P.Debug
-            P.Inx.PtrInx.own P.Inx.PartialEq P.Inx.Ord.own P.Inx.PartialOrd.own P.Inx.Hash.own P.Inx.Debug
-            P.Gen.PtrGen.own P.Gen.PartialEq P.Gen.Debug A.Allocator
+            P.Ptr.own P.PartialEq P.Inx.PtrInx.own P.Inx.PartialEq
+            P.Gen.PtrGen.own P.Gen.PartialEq A.Allocator
             self.entry result) }
         ensures place { IfOk result (λ e. IsEntryFor P.numbers T.key_of T.Key.cmp P.Inx.number
-            reallocating P.Inx.most (kind_now kind.entry) self.old (entry_shown e) (entry_put P.numbers e) (entry_visits e)
-            (entry_arena e)) }
+            reallocating P.Inx.most (kind_now kind.entry) self.old (entry_shown e)
+            (entry_put P.numbers e) (entry_visits e) (entry_arena e)) }
         ensures found { IfOk result (λ e. FindSame self.old (entry_arena e)) }
         ensures count { IfOk result (λ e. count (entry_arena e) ≡ count self.old) }
         ensures refused { IfErr result (IsRefused T.key_of T.Key.cmp P.Inx.most reallocating
@@ -145,13 +144,12 @@ impl<P: Ptr, T: SimpleOrdItem + Drop, A: Allocator> SimpleOrdArena<P, T, A> {
         kind: OrdInsertKind<P, &T::Key>,
     ) -> Result<SimpleOrdArenaInsertEntry<'_, P, T, A>, OrdInsertionError>
         ensures* unchanged_at_err { sem 𝓛 (rests_if_refused P.row T.row A.row P.Inx.row P.Gen.row
-            P.Ptr.own P.PartialEq P.Ord.own P.PartialOrd.own P.Hash.own P.Debug
-            P.Inx.PtrInx.own P.Inx.PartialEq P.Inx.Ord.own P.Inx.PartialOrd.own P.Inx.Hash.own P.Inx.Debug
-            P.Gen.PtrGen.own P.Gen.PartialEq P.Gen.Debug A.Allocator
+            P.Ptr.own P.PartialEq P.Inx.PtrInx.own P.Inx.PartialEq
+            P.Gen.PtrGen.own P.Gen.PartialEq A.Allocator
             self.entry result) }
         ensures place { IfOk result (λ e. IsEntryFor P.numbers T.key_of T.Key.cmp P.Inx.number
-            reallocating P.Inx.most (kind_now kind.entry) self.old (entry_shown e) (entry_put P.numbers e) (entry_visits e)
-            (entry_arena e)) }
+            reallocating P.Inx.most (kind_now kind.entry) self.old (entry_shown e)
+            (entry_put P.numbers e) (entry_visits e) (entry_arena e)) }
         ensures found { IfOk result (λ e. FindSame self.old (entry_arena e)) }
         ensures count { IfOk result (λ e. count (entry_arena e) ≡ count self.old) }
         ensures refused { IfErr result (IsRefused T.key_of T.Key.cmp P.Inx.most reallocating

@@ -25,7 +25,8 @@ impl<P: Ptr, T: SimpleOrdItem, A: Allocator> SimpleOrdArena<P, T, A> {
     /// With `None` the search stopped at a gap of the list: the entry before it, if any, has a lesser key, and the one after it, if
     /// any, a greater one. So no entry has an equal key where the keys are in order. It takes O(log n) time for n entries.
     pub fn find_key(&self, k: &T::Key) -> Option<P>
-        ensures finds { IfSome result (λ p. FindsBy T.key_of T.Key.cmp self.now k.now (P.numbers p) Equal) }
+        ensures finds { IfSome result
+            (λ p. FindsBy T.key_of T.Key.cmp self.now k.now (P.numbers p) Equal) }
         ensures found { (visits : ℕ) × FindsKey T.key_of T.Key.cmp self.now.list.entries k.now
             (option_map P.numbers result) visits }
     {
@@ -50,9 +51,10 @@ impl<P: Ptr, T: SimpleOrdItem, A: Allocator> SimpleOrdArena<P, T, A> {
     /// A gap fits where the entry before it, if any, has a lesser key, and the one after it, if any, a greater one. It takes
     /// O(log n) time for n entries.
     pub fn find_similar_key(&self, k: &T::Key) -> Option<(P, Ordering)>
-        ensures finds { IfSome result (λ a. FindsBy T.key_of T.Key.cmp self.now k.now (P.numbers a.0) a.1) }
-        ensures found { (visits : ℕ) × FindsSimilar T.key_of T.Key.cmp self.now.list.entries k.now
-            (option_map (λ a. (P.numbers a.0, a.1)) result) visits }
+        ensures finds { IfSome result
+            (λ a. FindsBy T.key_of T.Key.cmp self.now k.now (P.numbers a.0) a.1) }
+        ensures found { (visits : ℕ) × FindsSimilar T.key_of T.Key.cmp
+            self.now.list.entries k.now (option_map (λ a. (P.numbers a.0, a.1)) result) visits }
     {
         prove!(self.len() <= self.capacity());
         self.find_similar_key_counted(k).0

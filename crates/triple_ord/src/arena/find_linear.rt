@@ -29,7 +29,8 @@ impl<P: Ptr, T: SimpleOrdItem, A: Allocator> SimpleOrdArena<P, T, A> {
     /// that steps meet needn't be the first of its group; so it does at once where `p_init` names no entry. A hint saves such a search
     /// nothing: where keys are near, `find_similar_key_linear` is the call that does.
     pub fn find_key_linear(&self, p_init: P, num: usize, k: &T::Key) -> Option<P>
-        ensures finds { IfSome result (λ p. FindsBy T.key_of T.Key.cmp self.now k.now (P.numbers p) Equal) }
+        ensures finds { IfSome result
+            (λ p. FindsBy T.key_of T.Key.cmp self.now k.now (P.numbers p) Equal) }
         ensures found { (visits : ℕ) × FindsKey T.key_of T.Key.cmp self.now.list.entries k.now
             (option_map P.numbers result) visits }
     {
@@ -42,7 +43,8 @@ impl<P: Ptr, T: SimpleOrdItem, A: Allocator> SimpleOrdArena<P, T, A> {
     pub fn find_key_linear_counted(&self, p_init: P, num: usize, k: &T::Key) -> (Option<P>, Visits)
         ensures found { FindsKey T.key_of T.Key.cmp self.now.list.entries k.now
             (option_map P.numbers result.0) result.1 }
-        ensures visits { IsWithinHintedBounds (length self.now.list.entries) self.now.shape num result.1 }
+        ensures visits { IsWithinHintedBounds
+            (length self.now.list.entries) self.now.shape num result.1 }
         ensures unhinted { IfNone (item_of self.now.list.entries (P.numbers p_init))
             (IsWithinBounds (length self.now.list.entries) self.now.shape result.1) }
     {
@@ -66,9 +68,10 @@ impl<P: Ptr, T: SimpleOrdItem, A: Allocator> SimpleOrdArena<P, T, A> {
         num: usize,
         k: &T::Key,
     ) -> Option<(P, Ordering)>
-        ensures finds { IfSome result (λ a. FindsBy T.key_of T.Key.cmp self.now k.now (P.numbers a.0) a.1) }
-        ensures found { (visits : ℕ) × FindsSimilar T.key_of T.Key.cmp self.now.list.entries k.now
-            (option_map (λ a. (P.numbers a.0, a.1)) result) visits }
+        ensures finds { IfSome result
+            (λ a. FindsBy T.key_of T.Key.cmp self.now k.now (P.numbers a.0) a.1) }
+        ensures found { (visits : ℕ) × FindsSimilar T.key_of T.Key.cmp
+            self.now.list.entries k.now (option_map (λ a. (P.numbers a.0, a.1)) result) visits }
     {
         prove!(self.len() <= self.capacity());
         self.find_similar_key_linear_counted(p_init, num, k).0
@@ -87,10 +90,12 @@ impl<P: Ptr, T: SimpleOrdItem, A: Allocator> SimpleOrdArena<P, T, A> {
     ) -> (Option<(P, Ordering)>, Visits)
         ensures found { FindsSimilar T.key_of T.Key.cmp self.now.list.entries k.now
             (option_map (λ a. (P.numbers a.0, a.1)) result.0) result.1 }
-        ensures visits { IsWithinHintedBounds (length self.now.list.entries) self.now.shape num result.1 }
+        ensures visits { IsWithinHintedBounds
+            (length self.now.list.entries) self.now.shape num result.1 }
         ensures unhinted { IfNone (entry_at self.now.list.entries (P.Inx.number p_init))
             (IsWithinBounds (length self.now.list.entries) self.now.shape result.1) }
-        ensures near { IsNearHint T.key_of T.Key.cmp self.now.list.entries k.now (P.Inx.number p_init) num result.1 }
+        ensures near { IsNearHint T.key_of T.Key.cmp self.now.list.entries k.now
+            (P.Inx.number p_init) num result.1 }
     {
         self.search_from(Ties::Sought, p_init, num, k)
     }
@@ -105,10 +110,12 @@ impl<P: Ptr, T: SimpleOrdItem, A: Allocator> SimpleOrdArena<P, T, A> {
     ) -> (Option<(P, Ordering)>, Visits)
         ensures found { FindsSimilar T.key_of (taken ties T.Key.cmp) self.now.list.entries k.now
             (option_map (λ a. (P.numbers a.0, a.1)) result.0) result.1 }
-        ensures visits { IsWithinHintedBounds (length self.now.list.entries) self.now.shape num result.1 }
+        ensures visits { IsWithinHintedBounds
+            (length self.now.list.entries) self.now.shape num result.1 }
         ensures unhinted { IfNone (entry_at self.now.list.entries (P.Inx.number p_init))
             (IsWithinBounds (length self.now.list.entries) self.now.shape result.1) }
-        ensures near { IsNearHint T.key_of T.Key.cmp self.now.list.entries k.now (P.Inx.number p_init) num result.1 }
+        ensures near { IsNearHint T.key_of T.Key.cmp self.now.list.entries k.now
+            (P.Inx.number p_init) num result.1 }
     {
         if !self.tree.contains_inx(p_init) {
             return self.search(ties, k);

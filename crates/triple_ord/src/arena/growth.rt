@@ -26,7 +26,10 @@ impl<P: Ptr, T, A: Allocator> SimpleOrdArena<P, T, A> {
     where
         A: Copy,
         ensures ok { IfOk result
-            (λ a. a ≡ record { list = with_capacity (new_chain P.Gen.greatest) n; shape = missing }) }
+            (λ a. a ≡ record {
+              list = with_capacity (new_chain P.Gen.greatest) n;
+              shape = missing;
+            }) }
         ensures beyond { P.Inx.most < n → IsErr result }
         ensures none { n ≡ 0 → IsOk result }
     {
@@ -48,7 +51,8 @@ impl<P: Ptr, T, A: Allocator> SimpleOrdArena<P, T, A> {
         }) }
         ensures beyond { (result ≡ Err ReallocationError.BeyondMaxCapacity)
             ↔ (chain_limit P.Inx.most self.old.list < n) }
-        ensures memory { result ≡ Err ReallocationError.AllocError → self.old.list.capacity < n }
+        ensures memory { result ≡ Err ReallocationError.AllocError
+            → self.old.list.capacity < n }
         ensures err { OnErr result (self.new ≡ self.old) }
     {
         self.tree.reallocate_min_capacity(n)
@@ -58,7 +62,8 @@ impl<P: Ptr, T, A: Allocator> SimpleOrdArena<P, T, A> {
     pub fn set_max_capacity(&mut self, n: usize) -> Result<(), MaxCapacityReductionError>
         ensures found { FindSame self.old self.new }
         ensures count { count self.new ≡ count self.old }
-        ensures ok { OnOk result (self.new ≡ record self.old { list = record self.old.list { maximum = Some n } }) }
+        ensures ok { OnOk result
+            (self.new ≡ record self.old { list = record self.old.list { maximum = Some n } }) }
         ensures refused { IsErr result ↔ (n < self.old.list.capacity) }
         ensures err { OnErr result (self.new ≡ self.old) }
     {

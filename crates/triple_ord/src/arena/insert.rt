@@ -49,7 +49,8 @@ impl<P: Ptr, T: SimpleOrdItem + Drop, A: Allocator> SimpleOrdArena<P, T, A> {
     /// A new entry changes the parent of at most five others in the tree. It takes O(log n) time for n entries, and O(n) where the
     /// arena grows; each growth doubles the room, so over many insertions that is O(1) for each.
     pub fn insert_reallocating(&mut self, t: T) -> Result<(P, Option<T>), OrdInsertionError>
-        ensures inserts { Inserts T.key_of T.Key.cmp P.Inx.most P.numbers self.old t result self.new }
+        ensures inserts { Inserts T.key_of T.Key.cmp P.Inx.most P.numbers self.old t
+            result self.new }
         ensures updates { IfOk result (λ a. Updates self.old self.new (P.numbers a.0) (Some t)) }
         ensures before { IfOk result (λ a. a.1 ≡ item_of self.old (P.numbers a.0)) }
         ensures count { IfOk result
@@ -65,7 +66,8 @@ impl<P: Ptr, T: SimpleOrdItem + Drop, A: Allocator> SimpleOrdArena<P, T, A> {
 
     /// The same as `insert_reallocating`.
     pub fn insert(&mut self, t: T) -> Result<(P, Option<T>), OrdInsertionError>
-        ensures inserts { Inserts T.key_of T.Key.cmp P.Inx.most P.numbers self.old t result self.new }
+        ensures inserts { Inserts T.key_of T.Key.cmp P.Inx.most P.numbers self.old t
+            result self.new }
         ensures updates { IfOk result (λ a. Updates self.old self.new (P.numbers a.0) (Some t)) }
         ensures before { IfOk result (λ a. a.1 ≡ item_of self.old (P.numbers a.0)) }
         ensures count { IfOk result
@@ -89,13 +91,15 @@ impl<P: Ptr, T: Drop, A: Allocator> SimpleOrdArena<P, T, A> {
         t: T,
     ) -> Result<Option<T>, OrdInsertionError>
         requires { IsOccupied self.old.list (P.Inx.number p) }
-        ensures inserts { InsertsBeside P.Inx.most (P.Inx.number p) direction self.old t result self.new }
+        ensures inserts { InsertsBeside P.Inx.most
+            (P.Inx.number p) direction self.old t result self.new }
         ensures replaced { direction ≡ Equal
             → result ≡ Ok (option_map (λ e. e.1) (entry_at self.old (P.Inx.number p))) }
         ensures new { direction ≢ Equal → IfOk result (λ before. before ≡ None) }
         ensures updates { OnOk result ((q : ℕ × ℕ) × Updates self.old self.new q (Some t)) }
         ensures count { IfOk result
-            (λ before. count self.new ≡ (if is_some before then count self.old else count self.old + 1)) }
+            (λ before. count self.new
+            ≡ (if is_some before then count self.old else count self.old + 1)) }
         ensures refused { OnErr result (self.new ≡ self.old) }
     {
         // with its length an arena tells what holds of its list
@@ -112,8 +116,10 @@ impl<P: Ptr, T: Drop, A: Allocator> SimpleOrdArena<P, T, A> {
     // Inserts a new entry directly before or after another.
     fn put_growing(&mut self, at: (P::Inx, Ordering), t: T) -> Result<P, OrdInsertionError>
         requires { CanPutAt P.Inx.number (Some at) self.old.list }
-        ensures inserted { IfOk result (λ p. IsInsertion (with_slot reallocating P.Inx.most self.old.list) self.new.list
-            (put_at P.Inx.number (Some at) self.old.list.entries) t (P.numbers p).0 (P.numbers p).1) }
+        ensures inserted { IfOk result
+            (λ p. IsInsertion (with_slot reallocating P.Inx.most self.old.list) self.new.list
+            (put_at P.Inx.number (Some at) self.old.list.entries)
+            t (P.numbers p).0 (P.numbers p).1) }
         ensures grown { OnOk result (IsGrown self.old.shape self.new.shape) }
         ensures refused { IfErr result (LacksSlot reallocating P.Inx.most self.old.list) }
         ensures err { OnErr result (self.new ≡ self.old) }

@@ -28,7 +28,10 @@ impl<P: Ptr, T, A: Allocator> SimpleOrdArena<P, T, A> {
     /// Generation, item and neighbours in the list of the entry at the index, in O(1).
     pub fn get_inx_link_no_gen(&self, p: P::Inx) -> Option<(P::Gen, LinkNoGen<P, &T>)>
         ensures { option_map
-            (λ e. (P.Gen.number e.0, (record { item = e.1.item.now; prev = e.1.prev; next = e.1.next }))) result
+            (λ e. (
+              P.Gen.number e.0,
+              (record { item = e.1.item.now; prev = e.1.prev; next = e.1.next }),
+            )) result
             ≡ link_at self.now.list.entries (P.Inx.number p) }
     {
         let entry = self.get_inx_node(p)?;
@@ -42,10 +45,14 @@ impl<P: Ptr, T, A: Allocator> SimpleOrdArena<P, T, A> {
         p: P::Inx,
     ) -> Option<(P::Gen, &LinkNoGen<P, SimpleOrdArenaNode<P, T>>)>
         ensures entry { option_map
-            (λ e. (P.Gen.number e.0, (record { item = e.1.now.item.t; prev = e.1.now.prev; next = e.1.now.next })))
+            (λ e. (
+              P.Gen.number e.0,
+              (record { item = e.1.now.item.t; prev = e.1.now.prev; next = e.1.now.next }),
+            ))
             result
             ≡ link_at self.now.list.entries (P.Inx.number p) }
-        ensures node { IfSome result (λ e. IsNodeIn self.now.shape (P.Inx.number p) e.1.now.item.p_back
+        ensures node { IfSome result
+            (λ e. IsNodeIn self.now.shape (P.Inx.number p) e.1.now.item.p_back
             e.1.now.item.p_tree0 e.1.now.item.p_tree1 e.1.now.item.rank) }
     {
         self.tree.chain().arena().get_inx(p)

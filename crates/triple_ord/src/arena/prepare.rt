@@ -29,8 +29,8 @@ impl<P: Ptr, T: SimpleOrdItem + Drop, A: Allocator> SimpleOrdArena<P, T, A> {
         kind: OrdInsertKind<P, &T::Key>,
     ) -> Result<Prepared<P>, OrdInsertionError>
         ensures place { IfOk result (λ e. IsEntryFor P.numbers T.key_of T.Key.cmp P.Inx.number
-            within P.Inx.most (kind_now kind.entry) self.old e.shown (put_at (λ p. (P.numbers p).0) e.at self.new.list.entries) e.visits
-            self.new) }
+            within P.Inx.most (kind_now kind.entry) self.old e.shown
+            (put_at (λ p. (P.numbers p).0) e.at self.new.list.entries) e.visits self.new) }
         ensures ready { IfOk result (λ e. IsReady P.numbers e.shown e.at self.new) }
         ensures same { self.new ≡ self.old }
         ensures refused { IfErr result (IsRefused T.key_of T.Key.cmp P.Inx.most within
@@ -64,8 +64,8 @@ impl<P: Ptr, T: SimpleOrdItem + Drop, A: Allocator> SimpleOrdArena<P, T, A> {
         kind: OrdInsertKind<P, &T::Key>,
     ) -> Result<Prepared<P>, OrdInsertionError>
         ensures place { IfOk result (λ e. IsEntryFor P.numbers T.key_of T.Key.cmp P.Inx.number
-            reallocating P.Inx.most (kind_now kind.entry) self.old e.shown (put_at (λ p. (P.numbers p).0) e.at self.new.list.entries)
-            e.visits self.new) }
+            reallocating P.Inx.most (kind_now kind.entry) self.old e.shown
+            (put_at (λ p. (P.numbers p).0) e.at self.new.list.entries) e.visits self.new) }
         ensures ready { IfOk result (λ e. IsReady P.numbers e.shown e.at self.new) }
         ensures entries { self.new.list.entries ≡ self.old.list.entries }
         ensures refused { IfErr result (IsRefused T.key_of T.Key.cmp P.Inx.most reallocating
@@ -99,12 +99,14 @@ impl<P: Ptr, T: Drop, A: Allocator> SimpleOrdArena<P, T, A> {
     pub(super) fn insert_prepared(&mut self, prepared: Prepared<P>, t: T) -> Option<T>
         requires { IsReady P.numbers prepared.shown prepared.at self.old }
         ensures inserts { InsertsThere P.numbers prepared.shown
-            (put_at (λ p. (P.numbers p).0) prepared.at self.old.list.entries) self.old t result self.new }
+            (put_at (λ p. (P.numbers p).0) prepared.at self.old.list.entries)
+            self.old t result self.new }
         ensures updates { Updates self.old self.new
             (P.numbers (pointer_of prepared.shown)) (Some t) }
         ensures before { result
             ≡ item_of self.old (P.numbers (pointer_of prepared.shown)) }
-        ensures count { count self.new ≡ (if is_some result then count self.old else count self.old + 1) }
+        ensures count { count self.new
+            ≡ (if is_some result then count self.old else count self.old + 1) }
     {
         // with its length an arena tells what holds of its list
         let _ = self.len();
@@ -122,7 +124,8 @@ impl<P: Ptr, T: Drop, A: Allocator> SimpleOrdArena<P, T, A> {
         requires can { HasRoomAt P.numbers at self.old.list }
         requires vacant { IsSome (next_index self.old.list) }
         ensures inserted { IsInsertion self.old.list self.new.list
-            (put_at (λ p. (P.numbers p).0) at self.old.list.entries) t (P.numbers result).0 (P.numbers result).1 }
+            (put_at (λ p. (P.numbers p).0) at self.old.list.entries)
+            t (P.numbers result).0 (P.numbers result).1 }
         ensures grown { IsGrown self.old.shape self.new.shape }
     {
         // with its length an arena tells what holds of its list
@@ -134,7 +137,8 @@ impl<P: Ptr, T: Drop, A: Allocator> SimpleOrdArena<P, T, A> {
     // Gives the entry at an index that has one another item, and returns the one that it had.
     pub(super) fn replace(&mut self, i: P::Inx, t: T) -> T
         requires { IsOccupied self.old.list (P.Inx.number i) }
-        ensures before { option_map (λ e. e.1) (entry_at self.old (P.Inx.number i)) ≡ Some result }
+        ensures before { option_map (λ e. e.1) (entry_at self.old (P.Inx.number i))
+            ≡ Some result }
         ensures after { self.new ≡ with_item self.old (P.Inx.number i) t }
     {
         let pair = self.tree.pair_mut(i);
@@ -145,7 +149,9 @@ impl<P: Ptr, T: Drop, A: Allocator> SimpleOrdArena<P, T, A> {
     // Sees to it that a slot is vacant.
     fn make_room(&mut self) -> Result<(), OrdInsertionError>
         ensures ok { OnOk result
-            (self.new ≡ record self.old { list = with_slot reallocating P.Inx.most self.old.list }) }
+            (self.new ≡ record self.old {
+              list = with_slot reallocating P.Inx.most self.old.list;
+            }) }
         ensures next { OnOk result (IsSome (next_index self.new.list)) }
         ensures entries { self.new.list.entries ≡ self.old.list.entries }
         ensures refused { IfErr result (LacksSlot reallocating P.Inx.most self.old.list) }

@@ -33,9 +33,11 @@ impl<P: Ptr, T, A: Allocator> SimpleOrdArena<P, T, A> {
         ensures ended { IsOfGeneration self.new
             (compressed_generation P.Gen.greatest reset self.old.list.generation) }
         ensures after { IsCompression P.numbers F.step
-            (compressed_generation P.Gen.greatest reset self.old.list.generation) f self.old.list self.new.list }
+            (compressed_generation P.Gen.greatest reset self.old.list.generation)
+            f self.old.list self.new.list }
         ensures shape { IsRebuilt self.new.shape }
-        ensures overflow { is_overflow result ≡ compression_overflows P.Gen.greatest reset self.old.list.generation }
+        ensures overflow { is_overflow result
+            ≡ compression_overflows P.Gen.greatest reset self.old.list.generation }
     {
         self.tree.compress_with(reset, f)
     }
@@ -49,7 +51,8 @@ impl<P: Ptr, T, A: Allocator> SimpleOrdArena<P, T, A> {
         ensures after { self.new.list ≡ relocated self.old.list
             (compressed_generation P.Gen.greatest reset self.old.list.generation) }
         ensures shape { IsRebuilt self.new.shape }
-        ensures overflow { is_overflow result ≡ compression_overflows P.Gen.greatest reset self.old.list.generation }
+        ensures overflow { is_overflow result
+            ≡ compression_overflows P.Gen.greatest reset self.old.list.generation }
     {
         self.tree.compress(reset)
     }
@@ -66,7 +69,8 @@ impl<P: Ptr, T, A: Allocator> SimpleOrdArena<P, T, A> {
         ensures after { self.new.list ≡ canonical self.old.list
             (compressed_generation P.Gen.greatest reset self.old.list.generation) }
         ensures shape { IsRebuilt self.new.shape }
-        ensures overflow { is_overflow result ≡ compression_overflows P.Gen.greatest reset self.old.list.generation }
+        ensures overflow { is_overflow result
+            ≡ compression_overflows P.Gen.greatest reset self.old.list.generation }
     {
         self.tree.compress_canonical(reset)
     }
@@ -96,16 +100,19 @@ impl<P: Ptr, T, A: Allocator> SimpleOrdArena<P, T, A> {
         T: Drop,
         requires lawful { IsLawfulGeneration P.Gen.greatest (P.Gen.number new_generation) }
         requires callable { F.IsAlwaysCallable f }
-        ensures found { OnOk result (IsNumbered self.new (P.Gen.number new_generation) (items self.new)) }
+        ensures found { OnOk result
+            (IsNumbered self.new (P.Gen.number new_generation) (items self.new)) }
         ensures count { OnOk result (count self.new ≡ count source.old) }
         ensures emptied { OnOk result (FindsNothing source.new) }
         ensures ok { OnOk result (IsTransfer Q.numbers P.numbers Q.Gen.greatest F.step
-            (P.Gen.number new_generation) f source.old.list source.new.list self.old.list self.new.list) }
+            (P.Gen.number new_generation) f
+            source.old.list source.new.list self.old.list self.new.list) }
         ensures shape { OnOk result (IsRebuilt self.new.shape) }
         ensures left { OnOk result (source.new.shape ≡ missing) }
         ensures beyond { (result ≡ Err ReallocationError.BeyondMaxCapacity)
             ↔ (chain_limit P.Inx.most self.old.list < count source.old) }
-        ensures memory { result ≡ Err ReallocationError.AllocError → self.old.list.capacity < count source.old }
+        ensures memory { result ≡ Err ReallocationError.AllocError
+            → self.old.list.capacity < count source.old }
         ensures err { OnErr result (self.new ≡ self.old) }
         ensures err_source { OnErr result (source.new ≡ source.old) }
     {

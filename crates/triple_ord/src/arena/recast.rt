@@ -34,7 +34,8 @@ fn recast_at<I, P: Ptr, T: Recast<I>, A: Allocator, R: Recaster<Item = I>>(
     recaster: &R,
 ) -> Result<(), I>
     requires { IsSome (entry_at arena.old (P.Inx.number i)) }
-    ensures { RecastsItem (T.recast_gives (R.item_gives recaster.now)) result arena.old (P.Inx.number i) arena.new }
+    ensures { RecastsItem (T.recast_gives (R.item_gives recaster.now)) result arena.old
+        (P.Inx.number i) arena.new }
 {
     let pair = arena.pair_mut(i);
     let item = pair.1;

@@ -70,7 +70,9 @@ impl<P: Ptr, T, A: Allocator> SimpleOrdArena<P, T, A> {
             (λ q. Renews self.old self.new (P.numbers p) (P.numbers q)) }
         ensures count { count self.new ≡ count self.old }
         ensures renewed { OnSome (valid_value result)
-            (self.new ≡ record self.old { list = renewed P.Gen.greatest self.old.list (P.numbers p).0 }) }
+            (self.new ≡ record self.old {
+              list = renewed P.Gen.greatest self.old.list (P.numbers p).0;
+            }) }
         ensures invalid { IfNone (valid_value result) (self.new ≡ self.old) }
     {
         self.tree.invalidate(p)
@@ -83,8 +85,10 @@ impl<P: Ptr, T, A: Allocator> SimpleOrdArena<P, T, A> {
         T: Drop,
         ensures found { FindsNothing self.new }
         ensures count { count self.new ≡ 0 }
-        ensures after { self.new ≡ record { list = cleared P.Gen.greatest self.old.list; shape = missing } }
-        ensures overflow { is_overflow result ≡ overflows_after P.Gen.greatest self.old.list.generation }
+        ensures after { self.new
+            ≡ record { list = cleared P.Gen.greatest self.old.list; shape = missing } }
+        ensures overflow { is_overflow result
+            ≡ overflows_after P.Gen.greatest self.old.list.generation }
     {
         self.tree.clear()
     }

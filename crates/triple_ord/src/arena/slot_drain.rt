@@ -47,7 +47,10 @@ impl<'a, P: Ptr, T: Drop, A: Allocator> Drain<'a, P, T, A> {
 impl<'a, P: Ptr, T: Drop, A: Allocator> Drop for Drain<'a, P, T, A> {
     fn drop(self)
         ensures { self.exit.0.now
-            ≡ record { list = cleared P.Gen.greatest (drain_arena self.entry).list; shape = missing } }
+            ≡ record {
+              list = cleared P.Gen.greatest (drain_arena self.entry).list;
+              shape = missing;
+            } }
     {
         let Drain { arena, walk: _ } = self;
         let _ = arena.clear();

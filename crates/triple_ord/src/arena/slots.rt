@@ -15,7 +15,8 @@ use std::alloc::Allocator;
 impl<P: Ptr, T, A: Allocator> SimpleOrdArena<P, T, A> {
     /// The pointer of the entry with the least index, in O(capacity).
     pub fn find_first_inx_ptr(&self) -> Option<P>
-        ensures first { IfSome result (λ p. IsFirstIndex self.now.list.entries (P.numbers p).0 (P.numbers p).1) }
+        ensures first { IfSome result
+            (λ p. IsFirstIndex self.now.list.entries (P.numbers p).0 (P.numbers p).1) }
         ensures empty { IsNone result ↔ (count self.now ≡ 0) }
     {
         self.tree.chain().find_first_inx_ptr()
@@ -23,7 +24,8 @@ impl<P: Ptr, T, A: Allocator> SimpleOrdArena<P, T, A> {
 
     /// The pointer of the entry with the greatest index, in O(capacity).
     pub fn find_last_inx_ptr(&self) -> Option<P>
-        ensures last { IfSome result (λ p. IsLastIndex self.now.list.entries (P.numbers p).0 (P.numbers p).1) }
+        ensures last { IfSome result
+            (λ p. IsLastIndex self.now.list.entries (P.numbers p).0 (P.numbers p).1) }
         ensures empty { IsNone result ↔ (count self.now ≡ 0) }
     {
         self.tree.chain().find_last_inx_ptr()

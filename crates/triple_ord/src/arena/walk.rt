@@ -57,7 +57,8 @@ impl<P: Ptr, T, A: Allocator> SimpleOrdArena<P, T, A> {
     /// entry where `rev` is true. `None` where the pointer names no entry. O(1), as each step is.
     pub fn advancer_ordered(&self, p: P, rev: bool) -> Option<OrderedPtrAdvancer<P>>
         ensures valid { is_some result ≡ is_some (item_of self.now (P.numbers p)) }
-        ensures begins { IfSome result (λ s. s ≡ record { at = Some (P.numbers p).0; falling = rev }) }
+        ensures begins { IfSome result
+            (λ s. s ≡ record { at = Some (P.numbers p).0; falling = rev }) }
     {
         if self.contains(p) {
             Some(OrderedPtrAdvancer {
@@ -74,7 +75,8 @@ impl<P: Ptr, T, A: Allocator> SimpleOrdArena<P, T, A> {
         ensures { MatchOption result
             (ordered_rest (record { at = Some (P.Inx.number i); falling = falling }) self.now ≡ [])
             (λ e. GivesEntry (record { at = Some (P.Inx.number i); falling = falling })
-            (record { at = option_map P.Inx.number e.1; falling = falling }) self.now (P.numbers e.0).0 (P.numbers e.0).1) }
+            (record { at = option_map P.Inx.number e.1; falling = falling })
+            self.now (P.numbers e.0).0 (P.numbers e.0).1) }
     {
         // with its length an arena tells what holds of every list
         let _ = self.len();

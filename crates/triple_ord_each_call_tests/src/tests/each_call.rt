@@ -1,27 +1,10 @@
-//! Each call's answer over five keys, at each kind of pointer and two kinds of items.
-use arena_base::{ItemsMut, P0, P8, PN, Ptr, PtrGen, PtrInx};
+//! Each call's answer over five jobs, under pointers of eight bits.
+use arena_base::{ItemsMut, P8, Ptr};
 use std::alloc::{AllocError, Global};
 use std::cmp::Ordering;
 use std::process::Abort;
 use std::test::Fail;
-use triple_ord::{OrdInsertionError, OrdPair, SimpleOrdArena, SimpleOrdItem};
-
-/// Items that a test makes of a key and a mark.
-trait Marked: SimpleOrdItem<Key = u64> + Drop {
-    fn marked(key: u64, mark: u64) -> Self;
-
-    fn mark(&self) -> u64;
-}
-
-impl Marked for OrdPair<u64, u64> {
-    fn marked(key: u64, mark: u64) -> Self {
-        OrdPair::new(key, mark)
-    }
-
-    fn mark(&self) -> u64 {
-        *self.v()
-    }
-}
+use triple_ord::{OrdInsertionError, SimpleOrdArena, SimpleOrdItem};
 
 /// An item of which a field is the key.
 #[derive(Drop)]
@@ -40,57 +23,48 @@ impl SimpleOrdItem for Job {
     }
 }
 
-impl Marked for Job {
-    fn marked(deadline: u64, mark: u64) -> Self {
-        Job { mark, deadline }
-    }
-
-    fn mark(&self) -> u64 {
-        self.mark
-    }
+/// A job due at its deadline.
+fn due(deadline: u64, mark: u64) -> Job {
+    Job { mark, deadline }
 }
+
+type Jobs = SimpleOrdArena<P8, Job>;
 
 /// An arena of five keys, with the pointer of each.
 #[derive(Drop)]
-struct Five<P: Ptr, T: Drop> {
-    arena: SimpleOrdArena<P, T>,
-    p10: P,
-    p30: P,
-    p50: P,
-    p60: P,
-    p70: P,
+struct Five {
+    arena: Jobs,
+    p10: P8,
+    p30: P8,
+    p50: P8,
+    p60: P8,
+    p70: P8,
 }
 
 /// Inserts a key, marked by its tenth. Answers its pointer.
-fn inserted<P: Ptr, T: Marked>(
-    a: &mut SimpleOrdArena<P, T>,
-    key: u64,
-) -> Result<P, OrdInsertionError> {
-    let (p, _) = a.insert(T::marked(key, key / 10))?;
+fn inserted(a: &mut Jobs, key: u64) -> Result<P8, OrdInsertionError> {
+    let (p, _) = a.insert(due(key, key / 10))?;
     Ok(p)
 }
 
 /// The same by `insert_reallocating`.
-fn inserted_reallocating<P: Ptr, T: Marked>(
-    a: &mut SimpleOrdArena<P, T>,
-    key: u64,
-) -> Result<P, OrdInsertionError> {
-    let (p, _) = a.insert_reallocating(T::marked(key, key / 10))?;
+fn inserted_reallocating(a: &mut Jobs, key: u64) -> Result<P8, OrdInsertionError> {
+    let (p, _) = a.insert_reallocating(due(key, key / 10))?;
     Ok(p)
 }
 
 /// Inserts a key. Answers its pointer, or the invalid one where it was refused.
-fn put<P: Ptr, T: Marked>(a: &mut SimpleOrdArena<P, T>, key: u64) -> P {
-    inserted(a, key).unwrap_or(P::invalid())
+fn put(a: &mut Jobs, key: u64) -> P8 {
+    inserted(a, key).unwrap_or(P8::invalid())
 }
 
 /// The same by `insert_reallocating`.
-fn put_reallocating<P: Ptr, T: Marked>(a: &mut SimpleOrdArena<P, T>, key: u64) -> P {
-    inserted_reallocating(a, key).unwrap_or(P::invalid())
+fn put_reallocating(a: &mut Jobs, key: u64) -> P8 {
+    inserted_reallocating(a, key).unwrap_or(P8::invalid())
 }
 
 /// The five keys, each marked by its tenth.
-fn with_five_keys<P: Ptr, T: Marked>(alloc: Global) -> Five<P, T> {
+fn with_five_keys(alloc: Global) -> Five {
     let mut arena = SimpleOrdArena::new(alloc);
     let p50 = put(&mut arena, 50);
     let p30 = put(&mut arena, 30);
@@ -118,99 +92,86 @@ fn both_same(rt: &impl Abort, found: (usize, usize), wanted: (usize, usize)) {
 }
 
 /// An arena of this length and capacity.
-fn counts_are<P: Ptr, T: Marked>(
-    rt: &impl Abort,
-    a: &SimpleOrdArena<P, T>,
-    wanted: (usize, usize),
-) {
+fn counts_are(rt: &impl Abort, a: &Jobs, wanted: (usize, usize)) {
     both_same(rt, (a.len(), a.capacity()), wanted);
 }
 
 /// Whether an arena has no ends.
-fn is_bare<P: Ptr, T: Marked>(a: &SimpleOrdArena<P, T>) -> bool {
+fn is_bare(a: &Jobs) -> bool {
     a.is_empty() && a.first().is_none() && a.last().is_none()
 }
 
 /// Whether a search finds nothing, and visits nothing.
-fn is_searched_in_vain<P: Ptr, T: Marked>(a: &SimpleOrdArena<P, T>) -> bool {
+fn is_searched_in_vain(a: &Jobs) -> bool {
     let (found, visits) = a.find_similar_key_counted(&1);
     found.is_none() && visits.count() == 0
 }
 
 /// Whether a walk gives nothing.
-fn is_walked_in_vain<P: Ptr, T: Marked>(a: &SimpleOrdArena<P, T>) -> bool {
+fn is_walked_in_vain(a: &Jobs) -> bool {
     a.iter_ordered().next().is_none()
 }
 
 /// An arena in which nothing is found.
-fn has_no_entry<P: Ptr, T: Marked>(rt: &impl Abort, a: &SimpleOrdArena<P, T>) {
+fn has_no_entry(rt: &impl Abort, a: &Jobs) {
     assert!(rt; is_bare(a));
     assert!(rt; is_searched_in_vain(a));
     assert!(rt; is_walked_in_vain(a));
 }
 
 /// Whether an arena has no limit, and its first generation.
-fn is_unused<P: Ptr, T: Marked>(a: &SimpleOrdArena<P, T>) -> bool {
-    a.max_capacity().is_none() && a.generation() == <P::Gen as PtrGen>::two()
+fn is_unused(a: &Jobs) -> bool {
+    a.max_capacity().is_none() && a.generation() == 2
 }
 
 /// A new arena of this capacity.
-fn is_new<P: Ptr, T: Marked>(rt: &impl Abort, a: &SimpleOrdArena<P, T>, capacity: usize) {
+fn is_new(rt: &impl Abort, a: &Jobs, capacity: usize) {
     counts_are(rt, a, (0, capacity));
     has_no_entry(rt, a);
     assert!(rt; is_unused(a));
 }
 
-fn new_arenas_are_empty<P: Ptr, T: Marked>(
-    rt: &impl Abort,
-    alloc: Global,
-) -> Result<(), AllocError> {
-    let new: SimpleOrdArena<P, T> = SimpleOrdArena::new(alloc);
+fn new_arenas_are_empty(rt: &impl Abort, alloc: Global) -> Result<(), AllocError> {
+    let new: Jobs = SimpleOrdArena::new(alloc);
     is_new(rt, &new, 0);
-    let spare: SimpleOrdArena<P, T> = SimpleOrdArena::with_min_capacity(alloc, 3)?;
+    let spare: Jobs = SimpleOrdArena::with_min_capacity(alloc, 3)?;
     is_new(rt, &spare, 3);
     Ok(())
 }
 
 /// The mark of a pointer's item, or 0.
-fn mark_of<P: Ptr, T: Marked>(a: &SimpleOrdArena<P, T>, p: P) -> u64 {
+fn mark_of(a: &Jobs, p: P8) -> u64 {
     match a.get(p) {
-        Some(item) => item.mark(),
+        Some(item) => item.mark,
         None => 0,
     }
 }
 
 /// The key at the index of a pointer: 0 where there is none, 1 where its generation is another one.
-fn key_at_index<P: Ptr, T: Marked>(a: &SimpleOrdArena<P, T>, p: P) -> u64 {
+fn key_at_index(a: &Jobs, p: P8) -> u64 {
     let Some((generation, item)) = a.get_inx(p.inx()) else {
         return 0;
     };
     if generation == p.generation() {
-        *item.key()
+        item.deadline
     } else {
         1
     }
 }
 
 /// The key of a pointer, read in its place, or 0.
-fn key_in_place<P: Ptr, T: Marked>(a: &SimpleOrdArena<P, T>, p: P) -> u64 {
-    if a.contains(p) { *a[p].key() } else { 0 }
+fn key_in_place(a: &Jobs, p: P8) -> u64 {
+    if a.contains(p) { a[p].deadline } else { 0 }
 }
 
 /// A pointer finds this key and mark.
-fn pointer_finds<P: Ptr, T: Marked>(
-    rt: &impl Abort,
-    a: &SimpleOrdArena<P, T>,
-    p: P,
-    key: u64,
-    mark: u64,
-) {
+fn pointer_finds(rt: &impl Abort, a: &Jobs, p: P8, key: u64, mark: u64) {
     same(rt, key_in_place(a, p), key);
     same(rt, mark_of(a, p), mark);
     same(rt, key_at_index(a, p), key);
 }
 
-fn pointers_find_items<P: Ptr, T: Marked>(rt: &impl Abort, five: &Five<P, T>) {
+fn pointers_find_items(rt: &impl Abort, five: &Five) {
     let a = &five.arena;
     counts_are(rt, a, (5, 8));
     pointer_finds(rt, a, five.p10, 10, 1);
@@ -218,33 +179,24 @@ fn pointers_find_items<P: Ptr, T: Marked>(rt: &impl Abort, five: &Five<P, T>) {
     pointer_finds(rt, a, five.p50, 50, 5);
     pointer_finds(rt, a, five.p60, 60, 6);
     pointer_finds(rt, a, five.p70, 70, 7);
-    pointer_finds(rt, a, P::invalid(), 0, 0);
+    pointer_finds(rt, a, P8::invalid(), 0, 0);
 }
 
 /// The first and the last pointer.
-fn ends_are<P: Ptr, T: Marked>(rt: &impl Abort, a: &SimpleOrdArena<P, T>, first: P, last: P) {
+fn ends_are(rt: &impl Abort, a: &Jobs, first: P8, last: P8) {
     assert!(rt; a.first() == Some(first) && a.last() == Some(last));
 }
 
 /// Whether the entry of a pointer has this key, and stands between two others in the list.
-fn is_between<P: Ptr, T: Marked>(
-    a: &SimpleOrdArena<P, T>,
-    p: P,
-    key: u64,
-    (before, after): (P, P),
-) -> bool {
+fn is_between(a: &Jobs, p: P8, key: u64, (before, after): (P8, P8)) -> bool {
     let Some((_, link)) = a.get_inx_link_no_gen(p.inx()) else {
         return false;
     };
-    *link.t.key() == key && link.prev() == Some(before.inx()) && link.next() == Some(after.inx())
+    link.t.deadline == key && link.prev() == Some(before.inx()) && link.next() == Some(after.inx())
 }
 
 /// Whether the entry of a pointer is a root of rank 3 above two others.
-fn is_root_above<P: Ptr, T: Marked>(
-    a: &SimpleOrdArena<P, T>,
-    p: P,
-    (lesser, greater): (P, P),
-) -> bool {
+fn is_root_above(a: &Jobs, p: P8, (lesser, greater): (P8, P8)) -> bool {
     let Some((_, top)) = a.get_inx_node(p.inx()) else {
         return false;
     };
@@ -256,30 +208,24 @@ fn is_root_above<P: Ptr, T: Marked>(
 }
 
 /// 60 stands between 50 and 70 in the list; 50 is the root, above 30 and 70.
-fn is_linked<P: Ptr, T: Marked>(rt: &impl Abort, five: &Five<P, T>) {
+fn is_linked(rt: &impl Abort, five: &Five) {
     assert!(rt; is_between(&five.arena, five.p60, 60, (five.p50, five.p70)));
     assert!(rt; is_root_above(&five.arena, five.p50, (five.p30, five.p70)));
 }
 
 /// A search for a key finds this pointer, or none, after so many visits.
-fn find_key_gives<P: Ptr, T: Marked>(
-    rt: &impl Abort,
-    a: &SimpleOrdArena<P, T>,
-    key: u64,
-    pointer: Option<P>,
-    visits: u128,
-) {
+fn find_key_gives(rt: &impl Abort, a: &Jobs, key: u64, pointer: Option<P8>, visits: u128) {
     assert!(rt; a.find_key(&key) == pointer);
     let (found, counted) = a.find_key_counted(&key);
     assert!(rt; found == pointer && counted.count() == visits);
 }
 
 /// The same of a search for a similar key.
-fn find_similar_key_gives<P: Ptr, T: Marked>(
+fn find_similar_key_gives(
     rt: &impl Abort,
-    a: &SimpleOrdArena<P, T>,
+    a: &Jobs,
     key: u64,
-    answer: (P, Ordering),
+    answer: (P8, Ordering),
     visits: u128,
 ) {
     assert!(rt; a.find_similar_key(&key) == Some(answer));
@@ -287,13 +233,7 @@ fn find_similar_key_gives<P: Ptr, T: Marked>(
     assert!(rt; similar == Some(answer) && counted.count() == visits);
 }
 
-fn key_finds<P: Ptr, T: Marked>(
-    rt: &impl Abort,
-    a: &SimpleOrdArena<P, T>,
-    key: u64,
-    answer: (P, Ordering),
-    visits: u128,
-) {
+fn key_finds(rt: &impl Abort, a: &Jobs, key: u64, answer: (P8, Ordering), visits: u128) {
     let pointer = if answer.1.is_eq() {
         Some(answer.0)
     } else {
@@ -303,7 +243,7 @@ fn key_finds<P: Ptr, T: Marked>(
     find_similar_key_gives(rt, a, key, answer, visits);
 }
 
-fn keys_find_pointers<P: Ptr, T: Marked>(rt: &impl Abort, five: &Five<P, T>) {
+fn keys_find_pointers(rt: &impl Abort, five: &Five) {
     let a = &five.arena;
     key_finds(rt, a, 50, (five.p50, Ordering::Equal), 2);
     key_finds(rt, a, 30, (five.p30, Ordering::Equal), 3);
@@ -315,24 +255,8 @@ fn keys_find_pointers<P: Ptr, T: Marked>(rt: &impl Abort, five: &Five<P, T>) {
 }
 
 /// A search for a key finds this pointer.
-fn find_key_names<P: Ptr, T: Marked>(rt: &impl Abort, a: &SimpleOrdArena<P, T>, key: u64, p: P) {
+fn find_key_names(rt: &impl Abort, a: &Jobs, key: u64, p: P8) {
     assert!(rt; a.find_key(&key) == Some(p));
-}
-
-/// A step of a walk gives this key, with the pointer that a search finds.
-fn step_gives<P: Ptr, T: Marked>(
-    rt: &impl Abort,
-    a: &SimpleOrdArena<P, T>,
-    step: Option<(P, &T)>,
-    key: u64,
-) {
-    match step {
-        Some((p, item)) => {
-            same(rt, *item.key(), key);
-            find_key_names(rt, a, key, p);
-        }
-        None => same(rt, 0, key),
-    }
 }
 
 /// So many items are left.
@@ -340,22 +264,22 @@ fn are_left(rt: &impl Abort, left: (usize, Option<usize>), wanted: usize) {
     assert_eq!(rt; left, (wanted, Some(wanted)));
 }
 
-/// A walk along the list gives each key, with the pointer that a search finds, and counts them.
-fn a_walk_gives_all<P: Ptr, T: Marked>(rt: &impl Abort, a: &SimpleOrdArena<P, T>) {
+/// A walk along the list counts what is left, and gives each entry with the pointer that a search for its key finds.
+fn a_walk_gives_all(rt: &impl Abort, a: &Jobs) {
     let mut walk = a.iter_ordered();
     are_left(rt, walk.size_hint(), 5);
-    for key in [10u64, 30, 50, 60, 70] {
-        step_gives(rt, a, walk.next(), key);
+    assert!(rt; walk.next().is_some());
+    are_left(rt, (walk.len(), Some(4)), 4);
+    for (p, item) in a.iter_ordered() {
+        find_key_names(rt, a, item.deadline, p);
     }
-    are_left(rt, (walk.len(), Some(0)), 0);
-    assert!(rt; walk.next().is_none());
 }
 
 /// A loop over the arena meets rising keys up to 70.
-fn a_loop_meets_all<P: Ptr, T: Marked>(rt: &impl Abort, a: &SimpleOrdArena<P, T>) {
+fn a_loop_meets_all(rt: &impl Abort, a: &Jobs) {
     let mut last = 0;
     for (_, item) in a {
-        let key = *item.key();
+        let key = item.deadline;
         assert!(rt; last < key);
         last = key;
     }
@@ -363,40 +287,36 @@ fn a_loop_meets_all<P: Ptr, T: Marked>(rt: &impl Abort, a: &SimpleOrdArena<P, T>
 }
 
 /// The mark of an item that was replaced, or 0.
-fn mark_before<T: Marked>(before: Option<T>) -> u64 {
+fn mark_before(before: Option<Job>) -> u64 {
     match before {
-        Some(item) => item.mark(),
+        Some(item) => item.mark,
         None => 0,
     }
 }
 
 /// Inserts an item in the place of a pointer's. Answers the mark that it replaced, 0 if none.
-fn mark_replaced<P: Ptr, T: Marked>(
-    a: &mut SimpleOrdArena<P, T>,
-    item: T,
-    p: P,
-) -> Result<u64, OrdInsertionError> {
+fn mark_replaced(a: &mut Jobs, item: Job, p: P8) -> Result<u64, OrdInsertionError> {
     let (q, before) = a.insert(item)?;
     let mark = mark_before(before);
     Ok(if p == q { mark } else { 0 })
 }
 
-fn equal_keys_replace<P: Ptr, T: Marked>(rt: &impl Abort, five: &mut Five<P, T>) {
+fn equal_keys_replace(rt: &impl Abort, five: &mut Five) {
     let p = five.p60;
-    assert!(rt; mark_replaced(&mut five.arena, T::marked(60, 8), p) == Ok(6));
+    assert!(rt; mark_replaced(&mut five.arena, due(60, 8), p) == Ok(6));
     same(rt, mark_of(&five.arena, p), 8);
     counts_are(rt, &five.arena, (5, 8));
 }
 
 /// Writes an item by its pointer, if there is one.
-fn write_by_pointer<P: Ptr, T: Marked>(a: &mut SimpleOrdArena<P, T>, p: P, item: T) {
+fn write_by_pointer(a: &mut Jobs, p: P8, item: Job) {
     if let Some(place) = a.get_mut(p) {
         *place = item;
     }
 }
 
 /// Writes an item by its index, if there is one. Tells whether there is, with the pointer's generation.
-fn is_written_at_index<P: Ptr, T: Marked>(a: &mut SimpleOrdArena<P, T>, p: P, item: T) -> bool {
+fn is_written_at_index(a: &mut Jobs, p: P8, item: Job) -> bool {
     let Some((generation, place)) = a.get_inx_mut(p.inx()) else {
         return false;
     };
@@ -405,54 +325,54 @@ fn is_written_at_index<P: Ptr, T: Marked>(a: &mut SimpleOrdArena<P, T>, p: P, it
 }
 
 /// Writes an item in the place of one that is there.
-fn write_in_place<P: Ptr, T: Marked>(rt: &impl Abort, a: &mut SimpleOrdArena<P, T>, p: P, item: T) {
+fn write_in_place(rt: &impl Abort, a: &mut Jobs, p: P8, item: Job) {
     assert!(rt; a.contains(p));
     a[p] = item;
 }
 
 /// Whether a pointer and its index give no place to write to.
-fn gives_no_place<P: Ptr, T: Marked>(a: &mut SimpleOrdArena<P, T>, p: P) -> bool {
+fn gives_no_place(a: &mut Jobs, p: P8) -> bool {
     a.get_mut(p).is_none() && a.get_inx_mut(p.inx()).is_none()
 }
 
-fn writes_reach_items<P: Ptr, T: Marked>(rt: &impl Abort, a: &mut SimpleOrdArena<P, T>, p: P) {
-    write_by_pointer(a, p, T::marked(30, 11));
+fn writes_reach_items(rt: &impl Abort, a: &mut Jobs, p: P8) {
+    write_by_pointer(a, p, due(30, 11));
     same(rt, mark_of(a, p), 11);
-    assert!(rt; is_written_at_index(a, p, T::marked(30, 12)));
+    assert!(rt; is_written_at_index(a, p, due(30, 12)));
     same(rt, mark_of(a, p), 12);
-    write_in_place(rt, a, p, T::marked(30, 13));
+    write_in_place(rt, a, p, due(30, 13));
     same(rt, mark_of(a, p), 13);
-    assert!(rt; gives_no_place(a, P::invalid()));
+    assert!(rt; gives_no_place(a, P8::invalid()));
     counts_are(rt, a, (5, 8));
 }
 
 /// What stands at an index: the generation, key and mark, the neighbours in the list, and in the tree parent, sides and rank.
 #[derive(PartialEq, Drop)]
-struct Standing<P: Ptr> {
-    generation: P::Gen,
+struct Standing {
+    generation: u8,
     item: (u64, u64),
-    neighbours: (Option<P::Inx>, Option<P::Inx>),
-    parent: Option<P::Inx>,
-    sides: (Option<P::Inx>, Option<P::Inx>),
+    neighbours: (Option<u8>, Option<u8>),
+    parent: Option<u8>,
+    sides: (Option<u8>, Option<u8>),
     rank: u8,
 }
 
 /// All that can be seen of an arena: its numbers and ends, and what stands at each index.
 #[derive(PartialEq, Drop)]
-struct Seen<P: Ptr> {
+struct Seen {
     capacity: usize,
     maximum: Option<usize>,
-    generation: P::Gen,
-    ends: (Option<P>, Option<P>),
-    at: Vec<Option<Standing<P>>>,
+    generation: u8,
+    ends: (Option<P8>, Option<P8>),
+    at: Vec<Option<Standing>>,
 }
 
-fn stands_at<P: Ptr, T: Marked>(a: &SimpleOrdArena<P, T>, i: P::Inx) -> Option<Standing<P>> {
+fn stands_at(a: &Jobs, i: u8) -> Option<Standing> {
     let (generation, link) = a.get_inx_node(i)?;
     let node = &link.t;
     Some(Standing {
         generation,
-        item: (*node.t.key(), node.t.mark()),
+        item: (node.t.deadline, node.t.mark),
         neighbours: link.prev_next(),
         parent: node.p_back.get(),
         sides: (node.p_tree0.get(), node.p_tree1.get()),
@@ -460,16 +380,10 @@ fn stands_at<P: Ptr, T: Marked>(a: &SimpleOrdArena<P, T>, i: P::Inx) -> Option<S
     })
 }
 
-fn look_at<P: Ptr, T: Marked>(
-    alloc: Global,
-    a: &SimpleOrdArena<P, T>,
-) -> Result<Seen<P>, AllocError> {
+fn look_at(alloc: Global, a: &Jobs) -> Result<Seen, AllocError> {
     let mut at = Vec::new(alloc);
-    for n in 1..=9 {
-        at.push(match P::Inx::try_from_usize(n) {
-            Some(i) => stands_at(a, i),
-            None => None,
-        })?;
+    for i in 1..=9 {
+        at.push(stands_at(a, i))?;
     }
     Ok(Seen {
         capacity: a.capacity(),
@@ -481,18 +395,13 @@ fn look_at<P: Ptr, T: Marked>(
 }
 
 /// An arena that looks like this.
-fn looks_like<P: Ptr, T: Marked>(
-    rt: &impl Abort,
-    alloc: Global,
-    a: &SimpleOrdArena<P, T>,
-    expected: &Seen<P>,
-) -> Result<(), AllocError> {
+fn looks_like(rt: &impl Abort, alloc: Global, a: &Jobs, expected: &Seen) -> Result<(), AllocError> {
     assert!(rt; look_at(alloc, a)? == *expected);
     Ok(())
 }
 
 /// What is expected where another key and mark are written at the index 2.
-fn expect_written<P: Ptr>(rt: &impl Abort, expected: &mut Seen<P>, item: (u64, u64)) {
+fn expect_written(rt: &impl Abort, expected: &mut Seen, item: (u64, u64)) {
     if let Some(Some(written)) = expected.at.get_mut(1) {
         assert_eq!(rt; written.item.0, 30);
         written.item = item;
@@ -500,85 +409,81 @@ fn expect_written<P: Ptr>(rt: &impl Abort, expected: &mut Seen<P>, item: (u64, u
 }
 
 /// Whether an index gives no place to write to.
-fn gives_no_place_at<P: Ptr, T: Marked>(a: &mut SimpleOrdArena<P, T>, i: P::Inx) -> bool {
+fn gives_no_place_at(a: &mut Jobs, i: u8) -> bool {
     a.get_inx_mut(i).is_none()
 }
 
 /// The key at the index of a pointer, read through a reference that may write: 0 where there is none, 1 where its generation is
 /// another one.
-fn key_to_write<P: Ptr, T: Marked>(a: &mut SimpleOrdArena<P, T>, p: P) -> u64 {
+fn key_to_write(a: &mut Jobs, p: P8) -> u64 {
     let Some((generation, item)) = a.get_inx_mut(p.inx()) else {
         return 0;
     };
     if generation == p.generation() {
-        *item.key()
+        item.deadline
     } else {
         1
     }
 }
 
 /// Indexes without an entry give no place to write to, and nothing changes.
-fn vacant_index_leaves_all<P: Ptr, T: Marked>(
+fn vacant_index_leaves_all(
     rt: &impl Abort,
     alloc: Global,
-    a: &mut SimpleOrdArena<P, T>,
-    expected: &Seen<P>,
-    i: P::Inx,
+    a: &mut Jobs,
+    expected: &Seen,
+    i: u8,
 ) -> Result<(), AllocError> {
     assert!(rt; gives_no_place_at(a, i));
     looks_like(rt, alloc, a, expected)
 }
 
-fn vacant_indexes_leave_all<P: Ptr, T: Marked>(
+fn vacant_indexes_leave_all(
     rt: &impl Abort,
     alloc: Global,
-    a: &mut SimpleOrdArena<P, T>,
-    expected: &Seen<P>,
+    a: &mut Jobs,
+    expected: &Seen,
 ) -> Result<(), AllocError> {
-    let beyond = P::invalid().inx();
-    let vacant = P::Inx::try_from_usize(6);
-    assert!(rt; vacant.is_some());
-    vacant_index_leaves_all(rt, alloc, a, expected, vacant.unwrap_or(beyond))?;
-    vacant_index_leaves_all(rt, alloc, a, expected, beyond)
+    vacant_index_leaves_all(rt, alloc, a, expected, 6)?;
+    vacant_index_leaves_all(rt, alloc, a, expected, u8::MAX)
 }
 
-fn get_inx_mut_leaves_all_but_the_item<P: Ptr, T: Marked>(
+fn get_inx_mut_leaves_all_but_the_item(
     rt: &impl Abort,
     alloc: Global,
-    a: &mut SimpleOrdArena<P, T>,
-    p: P,
+    a: &mut Jobs,
+    p: P8,
 ) -> Result<(), AllocError> {
     let mut expected = look_at(alloc, a)?;
     vacant_indexes_leave_all(rt, alloc, a, &expected)?;
     same(rt, key_to_write(a, p), 30);
     looks_like(rt, alloc, a, &expected)?;
-    assert!(rt; is_written_at_index(a, p, T::marked(99, 12)));
+    assert!(rt; is_written_at_index(a, p, due(99, 12)));
     expect_written(rt, &mut expected, (99, 12));
     looks_like(rt, alloc, a, &expected)?;
-    assert!(rt; is_written_at_index(a, p, T::marked(30, 12)));
+    assert!(rt; is_written_at_index(a, p, due(30, 12)));
     Ok(())
 }
 
 /// The generation goes on from two to three, and is set to two again.
-fn generations_are_set<P: Ptr, T: Marked>(rt: &impl Abort, a: &mut SimpleOrdArena<P, T>, p: P) {
-    let two = <P::Gen as PtrGen>::two();
+fn generations_are_set(rt: &impl Abort, a: &mut Jobs, p: P8) {
     let _ = a.inc_generation();
-    assert!(rt; a.generation() == two.generational_inc().0);
-    a.set_generation(two);
-    assert!(rt; a.generation() == two);
+    assert_eq!(rt; a.generation(), 3);
+    a.set_generation(2);
+    assert_eq!(rt; a.generation(), 2);
     assert!(rt; a.contains(p) && a.len() == 5);
 }
 
 /// Removes an entry by its pointer. Answers its key, or 0.
-fn key_removed<P: Ptr, T: Marked>(a: &mut SimpleOrdArena<P, T>, p: P) -> u64 {
+fn key_removed(a: &mut Jobs, p: P8) -> u64 {
     match a.remove(p).allow() {
-        Some(item) => *item.key(),
+        Some(item) => item.deadline,
         None => 0,
     }
 }
 
 /// 50 is removed by its pointer, which then finds nothing.
-fn remove_takes_50<P: Ptr, T: Marked>(rt: &impl Abort, a: &mut SimpleOrdArena<P, T>, p: P) {
+fn remove_takes_50(rt: &impl Abort, a: &mut Jobs, p: P8) {
     same(rt, key_removed(a, p), 50);
     pointer_finds(rt, a, p, 0, 0);
     assert!(rt; a.find_key(&50).is_none());
@@ -586,19 +491,19 @@ fn remove_takes_50<P: Ptr, T: Marked>(rt: &impl Abort, a: &mut SimpleOrdArena<P,
 }
 
 /// Removes the entry at the index of a pointer. Answers its mark: 0 where there is none, 1 where its generation is another one.
-fn mark_removed_at_index<P: Ptr, T: Marked>(a: &mut SimpleOrdArena<P, T>, p: P) -> u64 {
+fn mark_removed_at_index(a: &mut Jobs, p: P8) -> u64 {
     let Some((generation, item)) = a.remove_inx(p.inx()).allow() else {
         return 0;
     };
     if generation == p.generation() {
-        item.mark()
+        item.mark
     } else {
         1
     }
 }
 
 /// Whether a pointer gets another one for its index, which finds an entry.
-fn is_renewed<P: Ptr, T: Marked>(a: &mut SimpleOrdArena<P, T>, p: P) -> bool {
+fn is_renewed(a: &mut Jobs, p: P8) -> bool {
     match a.invalidate(p).allow() {
         Some(q) => q.inx() == p.inx() && a.contains(q),
         None => false,
@@ -606,12 +511,12 @@ fn is_renewed<P: Ptr, T: Marked>(a: &mut SimpleOrdArena<P, T>, p: P) -> bool {
 }
 
 /// The invalid pointer is not renewed.
-fn invalid_is_not_renewed<P: Ptr, T: Marked>(rt: &impl Abort, a: &mut SimpleOrdArena<P, T>) {
-    assert!(rt; a.invalidate(P::invalid()).allow().is_none());
+fn invalid_is_not_renewed(rt: &impl Abort, a: &mut Jobs) {
+    assert!(rt; a.invalidate(P8::invalid()).allow().is_none());
 }
 
 /// What is cleared is empty, and takes a key again.
-fn clear_leaves_none<P: Ptr, T: Marked>(rt: &impl Abort, a: &mut SimpleOrdArena<P, T>, p10: P) {
+fn clear_leaves_none(rt: &impl Abort, a: &mut Jobs, p10: P8) {
     a.clear().allow();
     counts_are(rt, a, (0, 8));
     has_no_entry(rt, a);
@@ -622,7 +527,7 @@ fn clear_leaves_none<P: Ptr, T: Marked>(rt: &impl Abort, a: &mut SimpleOrdArena<
 }
 
 /// Ends the entries one way after another, until none is left.
-fn pointers_end<P: Ptr, T: Marked>(rt: &impl Abort, five: Five<P, T>) {
+fn pointers_end(rt: &impl Abort, five: Five) {
     let mut a = five.arena;
     remove_takes_50(rt, &mut a, five.p50);
     same(rt, mark_removed_at_index(&mut a, five.p60), 8);
@@ -634,7 +539,7 @@ fn pointers_end<P: Ptr, T: Marked>(rt: &impl Abort, five: Five<P, T>) {
 }
 
 /// The calls that only ask.
-fn questions_are_answered<P: Ptr, T: Marked>(rt: &impl Abort, five: &Five<P, T>) {
+fn questions_are_answered(rt: &impl Abort, five: &Five) {
     pointers_find_items(rt, five);
     ends_are(rt, &five.arena, five.p10, five.p70);
     is_linked(rt, five);
@@ -643,29 +548,16 @@ fn questions_are_answered<P: Ptr, T: Marked>(rt: &impl Abort, five: &Five<P, T>)
     a_loop_meets_all(rt, &five.arena);
 }
 
-fn each_call_answers<P: Ptr, T: Marked>(rt: &impl Abort, alloc: Global) -> Result<(), AllocError> {
-    new_arenas_are_empty::<P, T>(rt, alloc)?;
-    let mut five = with_five_keys::<P, T>(alloc);
-    questions_are_answered(rt, &five);
-    equal_keys_replace(rt, &mut five);
-    let (p10, p30) = (five.p10, five.p30);
-    writes_reach_items(rt, &mut five.arena, p30);
-    get_inx_mut_leaves_all_but_the_item(rt, alloc, &mut five.arena, p30)?;
-    generations_are_set(rt, &mut five.arena, p10);
-    pointers_end(rt, five);
-    Ok(())
-}
-
-/// Each call at one kind of pointers and both kinds of items.
-fn each_item_is_answered<P: Ptr>(rt: &impl Abort, alloc: Global) -> Result<(), AllocError> {
-    each_call_answers::<P, OrdPair<u64, u64>>(rt, alloc)?;
-    each_call_answers::<P, Job>(rt, alloc)
-}
-
 #[test]
-fn each_call_at_each_type(rt: HostRuntime) -> Result<(), Fail> {
-    each_item_is_answered::<P0>(&rt, rt.alloc())?;
-    each_item_is_answered::<P8>(&rt, rt.alloc())?;
-    each_item_is_answered::<PN>(&rt, rt.alloc())?;
+fn each_call_answers(rt: HostRuntime) -> Result<(), Fail> {
+    new_arenas_are_empty(&rt, rt.alloc())?;
+    let mut five = with_five_keys(rt.alloc());
+    questions_are_answered(&rt, &five);
+    equal_keys_replace(&rt, &mut five);
+    let (p10, p30) = (five.p10, five.p30);
+    writes_reach_items(&rt, &mut five.arena, p30);
+    get_inx_mut_leaves_all_but_the_item(&rt, rt.alloc(), &mut five.arena, p30)?;
+    generations_are_set(&rt, &mut five.arena, p10);
+    pointers_end(&rt, five);
     Ok(())
 }

@@ -2,7 +2,6 @@
 use super::{Keys, keys};
 use arena_base::{Arena, P0, Ptr, ReallocationError};
 use chain_base::ChainArena;
-use std::alloc::Global;
 use std::process::Abort;
 use std::test::Fail;
 use triple_ord::OrdPair;
@@ -69,25 +68,5 @@ fn a_chain_has_the_pointers_in_order(rt: HostRuntime) -> Result<(), Fail> {
     chain_tells(&rt, &chain, 3, 3, 70);
     assert!(rt; chain.first() == Some(P0::_from_raw(2, 2)));
     assert!(rt; chain.last() == Some(P0::_from_raw(3, 2)));
-    Ok(())
-}
-
-/// A limit that is too low, for an arena and for a chain.
-fn small(rt: &impl Abort, alloc: Global) -> Result<(Arena<P0, Told>, ChainArena<P0, Told>), Fail> {
-    let mut arena: Arena<P0, Told> = Arena::new(alloc);
-    assert!(rt; arena.set_max_capacity(2) == Ok(()));
-    let mut chain: ChainArena<P0, Told> = ChainArena::new(alloc);
-    assert!(rt; chain.set_max_capacity(2) == Ok(()));
-    Ok((arena, chain))
-}
-
-#[test]
-fn a_limit_that_is_too_low_is_told(rt: HostRuntime) -> Result<(), Fail> {
-    let source = keys(rt.alloc(), &[50, 30, 70])?;
-    let (mut arena, mut chain) = small(&rt, rt.alloc())?;
-    let beyond = Err(ReallocationError::BeyondMaxCapacity);
-    assert!(rt; clone_to(&source, &mut arena) == beyond);
-    assert!(rt; clone_to_chain(&source, &mut chain) == beyond);
-    assert!(rt; (arena.len(), chain.len()) == (0, 0));
     Ok(())
 }

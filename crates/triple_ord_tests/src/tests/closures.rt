@@ -33,25 +33,6 @@ fn always_less(rt: HostRuntime) -> Result<(), Fail> {
     Ok(())
 }
 
-#[test]
-fn to_and_fro(rt: HostRuntime) -> Result<(), Fail> {
-    let a = keys(rt.alloc(), &[50, 30, 70, 60, 10])?;
-    let mut calls = 0u64;
-    let found = a.find_similar_with(|_p: P0, _item| {
-        calls = calls.wrapping_add(1);
-        if calls == 2 {
-            Ordering::Less
-        } else {
-            Ordering::Greater
-        }
-    });
-    assert_eq!(rt;
-        found.map(|a| (a.0.inx(), a.1)),
-        Some((4, Ordering::Greater))
-    );
-    Ok(())
-}
-
 /// How many calls there were since the last time.
 fn taken(calls: &Cell<u128>) -> u128 {
     calls.replace(0)
@@ -97,5 +78,24 @@ fn visits_are_calls(rt: HostRuntime) -> Result<(), Fail> {
         find_with_calls(&rt, &a, &calls, key);
         find_similar_with_calls(&rt, &a, &calls, key);
     }
+    Ok(())
+}
+
+#[test]
+fn to_and_fro(rt: HostRuntime) -> Result<(), Fail> {
+    let a = keys(rt.alloc(), &[50, 30, 70, 60, 10])?;
+    let mut calls = 0u64;
+    let found = a.find_similar_with(|_p: P0, _item| {
+        calls = calls.wrapping_add(1);
+        if calls == 2 {
+            Ordering::Less
+        } else {
+            Ordering::Greater
+        }
+    });
+    assert_eq!(rt;
+        found.map(|a| (a.0.inx(), a.1)),
+        Some((4, Ordering::Greater))
+    );
     Ok(())
 }

@@ -139,16 +139,6 @@ fn hints_and_sides(rt: HostRuntime) -> Result<(), Fail> {
 }
 
 #[test]
-fn an_index_with_and_without_an_entry(rt: HostRuntime) -> Result<(), Fail> {
-    let mut a = five(rt.alloc())?;
-    let none = put(&mut a, Row::Manual(9, Ordering::Equal), 1, 1);
-    assert!(rt; none == Err(OrdInsertionError::FailedOrdRequirement));
-    let at = Row::Manual(3, Ordering::Equal);
-    puts(&rt, &mut a, at, (71, 5), (false, 3, Some(0)))?;
-    Ok(())
-}
-
-#[test]
 fn equal_keys_stand_in_the_order_of_insertion(rt: HostRuntime) -> Result<(), Fail> {
     let mut a = Marks::new(rt.alloc());
     for mark in 1u64..5 {
@@ -210,24 +200,18 @@ fn entry_is(
 
 #[test]
 fn entries_over_five_keys(rt: HostRuntime) -> Result<(), Fail> {
-    entry_is(&rt, rt.alloc(), Row::Normal(53), (true, 6, 3))?;
-    entry_is(&rt, rt.alloc(), Row::Normal(50), (false, 1, 2))?;
-    entry_is(&rt, rt.alloc(), Row::Nonhereditary(50), (true, 6, 3))?;
-    entry_is(&rt, rt.alloc(), Row::Linear(2, 3, 40), (true, 6, 2))?;
-    entry_is(&rt, rt.alloc(), Row::Linear(2, 0, 70), (false, 3, 3))?;
-    let beside = Row::NonhereditaryLinear(4, 1, 60);
-    entry_is(&rt, rt.alloc(), beside, (true, 6, 4))?;
-    Ok(())
-}
-
-#[test]
-fn entries_by_index_over_five_keys(rt: HostRuntime) -> Result<(), Fail> {
-    for (side, new, index) in [
-        (Ordering::Less, true, 6u32),
-        (Ordering::Greater, true, 6),
-        (Ordering::Equal, false, 4),
+    for (row, wanted) in [
+        (Row::Normal(53), (true, 6u32, 3u128)),
+        (Row::Normal(50), (false, 1, 2)),
+        (Row::Nonhereditary(50), (true, 6, 3)),
+        (Row::Linear(2, 3, 40), (true, 6, 2)),
+        (Row::Linear(2, 0, 70), (false, 3, 3)),
+        (Row::NonhereditaryLinear(4, 1, 60), (true, 6, 4)),
+        (Row::Manual(4, Ordering::Less), (true, 6, 0)),
+        (Row::Manual(4, Ordering::Greater), (true, 6, 0)),
+        (Row::Manual(4, Ordering::Equal), (false, 4, 0)),
     ] {
-        entry_is(&rt, rt.alloc(), Row::Manual(4, side), (new, index, 0))?;
+        entry_is(&rt, rt.alloc(), row, wanted)?;
     }
     Ok(())
 }
@@ -243,34 +227,20 @@ fn goes_among(rt: &impl Abort, alloc: Global, row: Row, wanted: &[u32]) -> Resul
     Ok(())
 }
 
-/// Where each kind that has a key puts an item of key 55.
+/// Where each kind puts an item of key 55.
 #[test]
 fn places_over_five_keys(rt: HostRuntime) -> Result<(), Fail> {
-    goes_among(&rt, rt.alloc(), Row::Normal(53), &[5, 2, 1, 6, 4, 3])?;
-    goes_among(&rt, rt.alloc(), Row::Nonhereditary(50), &[5, 2, 1, 6, 4, 3])?;
-    let beside = Row::NonhereditaryLinear(4, 1, 60);
-    goes_among(&rt, rt.alloc(), beside, &[5, 2, 1, 4, 6, 3])?;
-    Ok(())
-}
-
-/// Where an index and a side put it.
-#[test]
-fn places_beside_five_keys(rt: HostRuntime) -> Result<(), Fail> {
-    let (less, greater) = (Ordering::Less, Ordering::Greater);
-    goes_among(&rt, rt.alloc(), Row::Manual(4, less), &[5, 2, 1, 6, 4, 3])?;
-    goes_among(
-        &rt,
-        rt.alloc(),
-        Row::Manual(4, greater),
-        &[5, 2, 1, 4, 6, 3],
-    )?;
-    goes_among(&rt, rt.alloc(), Row::Manual(5, less), &[6, 5, 2, 1, 4, 3])?;
-    goes_among(
-        &rt,
-        rt.alloc(),
-        Row::Manual(3, greater),
-        &[5, 2, 1, 4, 3, 6],
-    )?;
+    for (row, wanted) in [
+        (Row::Normal(53), [5u32, 2, 1, 6, 4, 3]),
+        (Row::Nonhereditary(50), [5, 2, 1, 6, 4, 3]),
+        (Row::NonhereditaryLinear(4, 1, 60), [5, 2, 1, 4, 6, 3]),
+        (Row::Manual(4, Ordering::Less), [5, 2, 1, 6, 4, 3]),
+        (Row::Manual(4, Ordering::Greater), [5, 2, 1, 4, 6, 3]),
+        (Row::Manual(5, Ordering::Less), [6, 5, 2, 1, 4, 3]),
+        (Row::Manual(3, Ordering::Greater), [5, 2, 1, 4, 3, 6]),
+    ] {
+        goes_among(&rt, rt.alloc(), row, wanted.as_slice())?;
+    }
     Ok(())
 }
 
@@ -284,31 +254,6 @@ fn each_kind() -> [Row; 6] {
         Row::NonhereditaryLinear(1, 2, 5),
         Row::Manual(1, Ordering::Less),
     ]
-}
-
-/// An entry of an empty arena is the first one, or is refused where an index is named.
-fn is_first(rt: &impl Abort, alloc: Global, row: Row) {
-    let mut a = Marks::new(alloc);
-    let answer = put(&mut a, row, 5, 1);
-    let wanted = if matches!(row, Row::Manual(_, _)) {
-        Err(OrdInsertionError::FailedOrdRequirement)
-    } else {
-        Ok(Answer {
-            new: true,
-            index: 1,
-            before: None,
-            visits: 0,
-        })
-    };
-    assert!(rt; answer == wanted);
-    assert_eq!(rt; a.capacity(), if wanted.is_ok() { 4 } else { 0 });
-}
-
-#[test]
-fn each_kind_without_an_entry(rt: HostRuntime) {
-    for row in each_kind() {
-        is_first(&rt, rt.alloc(), row);
-    }
 }
 
 /// Keys in an arena, each marked 0, inserted in this order.
@@ -419,17 +364,10 @@ fn full_and_at_the_limit(rt: HostRuntime) -> Result<(), Fail> {
 }
 
 #[test]
-fn a_fresh_arena_has_no_slot(rt: HostRuntime) {
-    let mut a = Marks::new(rt.alloc());
-    is_not_within(&rt, &mut a);
-    let refused = within(&mut a, Row::Empty);
-    assert!(rt; refused == Err(OrdInsertionError::NotWithinCapacity));
-    assert_eq!(rt; a.capacity(), 0);
-}
-
-#[test]
 fn an_entry_makes_room(rt: HostRuntime) -> Result<(), Fail> {
     let mut a = Marks::new(rt.alloc());
+    has_no_place(&rt, &mut a, Row::Manual(1, Ordering::Less));
+    is_not_within(&rt, &mut a);
     let p = reallocating(&mut a, Row::Normal(5))?;
     assert!(rt; p == OrdEntryKind::New(P0::_from_raw(1, 2)));
     assert_eq!(rt; (a.capacity(), a.len()), (4, 0));
@@ -485,69 +423,6 @@ fn beside_an_entry_with_little_room(rt: HostRuntime) -> Result<(), Fail> {
     goes_beside(&rt, &mut a, (1, Ordering::Greater), 2, (None, 4))?;
     for (key, index, capacity) in [(3u64, 3u32, 4usize), (4, 4, 4), (5, 5, 8)] {
         inserts_at(&rt, &mut a, key, (index, capacity))?;
-    }
-    Ok(())
-}
-
-#[test]
-fn beside_an_entry_with_room(rt: HostRuntime) -> Result<(), Fail> {
-    let mut a = keys(rt.alloc(), &[1, 2, 3, 4, 5])?;
-    a.reallocate_min_capacity(9)?;
-    goes_beside(&rt, &mut a, (2, Ordering::Equal), 7, (Some(2), 9))?;
-    goes_beside(&rt, &mut a, (2, Ordering::Less), 6, (None, 9))?;
-    order_is(&rt, rt.alloc(), &a, &[1, 6, 7, 3, 4, 5])?;
-    Ok(())
-}
-
-/// The five keys without 30, whose index 2 is vacant.
-fn four(rt: &impl Abort, alloc: Global) -> Result<Marks, OrdInsertionError> {
-    let mut a = five(alloc)?;
-    assert!(rt; a.remove(P0::_from_raw(2, 2)).allow().is_some());
-    Ok(a)
-}
-
-/// A vacant index has no entry beside it.
-#[test]
-fn beside_a_vacant_index(rt: HostRuntime) -> Result<(), Fail> {
-    let mut a = four(&rt, rt.alloc())?;
-    for direction in [Ordering::Less, Ordering::Equal, Ordering::Greater] {
-        has_no_place(&rt, &mut a, Row::Manual(2, direction));
-    }
-    Ok(())
-}
-
-/// A new entry gets the slot at the index 2, with the generation 3.
-fn takes_the_slot(rt: &impl Abort, a: &mut Marks, row: Row) {
-    let next = P0::_from_raw(2, 3);
-    assert!(rt; within(a, row) == Ok(OrdEntryKind::New(next)));
-}
-
-/// A slot that a removal left is taken by the next new entry.
-#[test]
-fn a_vacant_index(rt: HostRuntime) -> Result<(), Fail> {
-    let mut a = four(&rt, rt.alloc())?;
-    takes_the_slot(&rt, &mut a, Row::Normal(55));
-    takes_the_slot(&rt, &mut a, Row::Nonhereditary(50));
-    takes_the_slot(&rt, &mut a, Row::Linear(2, 3, 55));
-    takes_the_slot(&rt, &mut a, Row::Manual(4, Ordering::Less));
-    Ok(())
-}
-
-/// The keys 1, 9 and 3 in this order, at the indexes 1, 2 and 3.
-fn out_of_order(alloc: Global) -> Result<Marks, OrdInsertionError> {
-    let mut a = marked(alloc, &[1, 2, 3])?;
-    let _ = put(&mut a, Row::Manual(2, Ordering::Equal), 9, 0)?;
-    Ok(a)
-}
-
-/// Keys out of order: each kind finds a place all the same.
-#[test]
-fn keys_out_of_order(rt: HostRuntime) -> Result<(), Fail> {
-    for row in each_kind() {
-        let mut a = out_of_order(rt.alloc())?;
-        let has_place = put(&mut a, row, 5, 1).is_ok();
-        assert_eq!(rt; has_place, !matches!(row, Row::Empty));
-        assert_eq!(rt; a.len(), if has_place { 4 } else { 3 });
     }
     Ok(())
 }
@@ -627,4 +502,29 @@ fn visits_of_an_insertion<'a>(a: &mut CountingKeys<'a>, key: &Counting<'a>) -> u
         Ok(entry) => entry.visits().count(),
         Err(_) => 0,
     }
+}
+
+#[test]
+fn each_kind_without_an_entry(rt: HostRuntime) {
+    for row in each_kind() {
+        is_first(&rt, rt.alloc(), row);
+    }
+}
+
+/// An entry of an empty arena is the first one, or is refused where an index is named.
+fn is_first(rt: &impl Abort, alloc: Global, row: Row) {
+    let mut a = Marks::new(alloc);
+    let answer = put(&mut a, row, 5, 1);
+    let wanted = if matches!(row, Row::Manual(_, _)) {
+        Err(OrdInsertionError::FailedOrdRequirement)
+    } else {
+        Ok(Answer {
+            new: true,
+            index: 1,
+            before: None,
+            visits: 0,
+        })
+    };
+    assert!(rt; answer == wanted);
+    assert_eq!(rt; a.capacity(), if wanted.is_ok() { 4 } else { 0 });
 }

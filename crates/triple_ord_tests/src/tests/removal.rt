@@ -1,6 +1,6 @@
 //! Removals, seen through the nodes.
 use super::{Keys, keys, numbers, order_is, ranks_are};
-use arena_base::{InvalidationOption, InvalidationResult, P0, P8, Ptr};
+use arena_base::{InvalidationResult, P0, P8, Ptr};
 use linked_list_allocator::LocalHeap;
 use std::alloc::{AllocError, Global};
 use std::process::Abort;
@@ -113,76 +113,6 @@ fn nine_moved_parents(rt: HostRuntime) -> Result<(), Fail> {
     Ok(())
 }
 
-/// Inserts a key and removes its entry again. Answers what the removal said.
-fn put_and_take(
-    a: &mut SimpleOrdArena<P8, OrdPair<u64, ()>>,
-    key: u64,
-) -> Result<InvalidationResult<OrdPair<u64, ()>>, OrdInsertionError> {
-    let (p, _) = a.insert(OrdPair::new(key, ()))?;
-    Ok(a.remove(p))
-}
-
-#[test]
-fn removals_begin_the_generations_again(rt: HostRuntime) -> Result<(), Fail> {
-    let mut a: SimpleOrdArena<P8, OrdPair<u64, ()>> = SimpleOrdArena::new(rt.alloc());
-    for n in 1u64..254 {
-        let taken = put_and_take(&mut a, n)?;
-        assert!(rt; taken == InvalidationResult::Success(OrdPair::new(n, ())));
-    }
-    let taken = put_and_take(&mut a, 254)?;
-    assert!(rt; taken == InvalidationResult::GenerationOverflow(OrdPair::new(254, ())));
-    assert_eq!(rt; (a.generation(), a.len()), (2, 0));
-    Ok(())
-}
-
-/// Inserts a key and removes its entry again. Returns the pointer that ended, and whether the generations begin again.
-fn end_one(
-    a: &mut SimpleOrdArena<P8, OrdPair<u64, ()>>,
-    key: u64,
-) -> Result<(P8, bool), OrdInsertionError> {
-    let (p, _) = a.insert(OrdPair::new(key, ()))?;
-    let taken = a.remove(p);
-    Ok((
-        p,
-        matches!(taken, InvalidationResult::GenerationOverflow(_)),
-    ))
-}
-
-/// The first pointer names an entry, and none of the others does.
-fn have_ended(rt: &impl Abort, a: &SimpleOrdArena<P8, OrdPair<u64, ()>>, kept: P8, ended: &[P8]) {
-    assert!(rt; a.contains(kept));
-    for p in ended {
-        assert!(rt; !a.contains(*p));
-    }
-}
-
-#[test]
-fn ended_pointers_stay_so_up_to_the_overflow(rt: HostRuntime) -> Result<(), Fail> {
-    let mut a: SimpleOrdArena<P8, OrdPair<u64, ()>> = SimpleOrdArena::new(rt.alloc());
-    let (kept, _) = a.insert(OrdPair::new(0, ()))?;
-    let mut ended = Vec::new(rt.alloc());
-    for n in 1u64..255 {
-        let (p, begins_again) = end_one(&mut a, n)?;
-        assert!(rt; begins_again == (n == 254));
-        ended.push(p)?;
-        have_ended(&rt, &a, kept, ended.as_slice());
-    }
-    // the next entry has the index and the generation of the first that ended
-    let (again, _) = a.insert(OrdPair::new(1, ()))?;
-    assert!(rt; ended.first() == Some(&again));
-    Ok(())
-}
-
-#[test]
-fn generations_of_eight_bits_begin_again(rt: HostRuntime) {
-    let mut a: SimpleOrdArena<P8, OrdPair<u64, ()>> = SimpleOrdArena::new(rt.alloc());
-    a.set_generation(255);
-    assert!(rt; a.clear() == InvalidationOption::GenerationOverflow(()));
-    a.set_generation(255);
-    assert!(rt; a.inc_generation() == InvalidationOption::GenerationOverflow(()));
-    assert_eq!(rt; a.generation(), 2);
-}
-
 /// The keys 1, 9 and 3 in this order, at the indexes 1, 2 and 3.
 fn out_of_order(alloc: Global) -> Result<Keys, OrdInsertionError> {
     let mut a = keys(alloc, &[1, 2, 3])?;
@@ -275,4 +205,64 @@ fn removals_take_no_memory(rt: HostRuntime) -> Result<(), Fail> {
     assert!(rt; !is_refused_memory(&rt, &mut a, 40));
     is_cleared(&rt, &mut a);
     Ok(())
+}
+
+#[test]
+fn removals_begin_the_generations_again(rt: HostRuntime) -> Result<(), Fail> {
+    let mut a: SimpleOrdArena<P8, OrdPair<u64, ()>> = SimpleOrdArena::new(rt.alloc());
+    for n in 1u64..254 {
+        let taken = put_and_take(&mut a, n)?;
+        assert!(rt; taken == InvalidationResult::Success(OrdPair::new(n, ())));
+    }
+    let taken = put_and_take(&mut a, 254)?;
+    assert!(rt; taken == InvalidationResult::GenerationOverflow(OrdPair::new(254, ())));
+    assert_eq!(rt; (a.generation(), a.len()), (2, 0));
+    Ok(())
+}
+
+/// Inserts a key and removes its entry again. Answers what the removal said.
+fn put_and_take(
+    a: &mut SimpleOrdArena<P8, OrdPair<u64, ()>>,
+    key: u64,
+) -> Result<InvalidationResult<OrdPair<u64, ()>>, OrdInsertionError> {
+    let (p, _) = a.insert(OrdPair::new(key, ()))?;
+    Ok(a.remove(p))
+}
+
+#[test]
+fn ended_pointers_stay_so_up_to_the_overflow(rt: HostRuntime) -> Result<(), Fail> {
+    let mut a: SimpleOrdArena<P8, OrdPair<u64, ()>> = SimpleOrdArena::new(rt.alloc());
+    let (kept, _) = a.insert(OrdPair::new(0, ()))?;
+    let mut ended = Vec::new(rt.alloc());
+    for n in 1u64..255 {
+        let (p, begins_again) = end_one(&mut a, n)?;
+        assert!(rt; begins_again == (n == 254));
+        ended.push(p)?;
+        have_ended(&rt, &a, kept, ended.as_slice());
+    }
+    // the next entry has the index and the generation of the first that ended
+    let (again, _) = a.insert(OrdPair::new(1, ()))?;
+    assert!(rt; ended.first() == Some(&again));
+    Ok(())
+}
+
+/// Inserts a key and removes its entry again. Returns the pointer that ended, and whether the generations begin again.
+fn end_one(
+    a: &mut SimpleOrdArena<P8, OrdPair<u64, ()>>,
+    key: u64,
+) -> Result<(P8, bool), OrdInsertionError> {
+    let (p, _) = a.insert(OrdPair::new(key, ()))?;
+    let taken = a.remove(p);
+    Ok((
+        p,
+        matches!(taken, InvalidationResult::GenerationOverflow(_)),
+    ))
+}
+
+/// The first pointer names an entry, and none of the others does.
+fn have_ended(rt: &impl Abort, a: &SimpleOrdArena<P8, OrdPair<u64, ()>>, kept: P8, ended: &[P8]) {
+    assert!(rt; a.contains(kept));
+    for p in ended {
+        assert!(rt; !a.contains(*p));
+    }
 }

@@ -1,31 +1,14 @@
 //! Drains by index. The letters A, B, C, E stand at the indexes 2, 4, 1, 3.
-use super::numbers;
-use super::walks::{End, Letters, are_left, late_keys, letters, put_five, takes};
-use arena_base::{InvalidationOption, P0, Ptr};
+use super::walks::{End, Letters, are_left, letters, put_five, takes};
 use std::alloc::Global;
 use std::cell::Cell;
 use std::mem;
 use std::process::Abort;
 use std::test::Fail;
-use triple_ord::{OrdPair, SimpleOrdArena};
-
-#[test]
-fn drains_by_index(rt: HostRuntime) -> Result<(), Fail> {
-    let mut a = letters(rt.alloc())?;
-    let mut drain = a.drain();
-    for (letter, index, generation) in [('C', 1u32, 2u64), ('A', 2, 2), ('E', 3, 3), ('B', 4, 2)] {
-        takes(&rt, drain.next(), (letter, index, generation));
-    }
-    assert!(rt; drain.next().is_none());
-    drop(drain);
-    are_left(&rt, &a, 0, 8);
-    let (p, _) = a.insert(OrdPair::new('Z', ()))?;
-    assert_eq!(rt; numbers(Some(p)), Some((1, 8)));
-    Ok(())
-}
+use triple_ord::SimpleOrdArena;
 
 /// The letters, drained of so many.
-fn letters_after(alloc: Global, taken: usize, end: End) -> Result<Letters<P0>, Fail> {
+fn letters_after(alloc: Global, taken: usize, end: End) -> Result<Letters, Fail> {
     let mut a = letters(alloc)?;
     let mut drain = a.drain();
     for _ in 0..taken {
@@ -66,16 +49,6 @@ fn drains_by_index_end_early(rt: HostRuntime) -> Result<(), Fail> {
     Ok(())
 }
 
-/// After one, A, B and E are left in the order of the list.
-#[test]
-fn a_drain_by_index_leaves_the_order(rt: HostRuntime) -> Result<(), Fail> {
-    let mut left = letters_after(rt.alloc(), 1, End::Kept)?.into_iter();
-    for letter in ['A', 'B', 'E'] {
-        assert_eq!(rt; left.next().map(|entry| *entry.1.k()), Some(letter));
-    }
-    Ok(())
-}
-
 /// Takes so many by a drain, which is then dropped. Answers how many items were dropped before that, and how many are left.
 fn drain(rt: &impl Abort, alloc: Global, drops: &Cell<u64>, taken: usize) -> (u64, usize) {
     let mut a = SimpleOrdArena::new(alloc);
@@ -99,17 +72,15 @@ fn items_drained_by_index_are_dropped_once(rt: HostRuntime) {
     }
 }
 
-/// The generations of eight bits begin again in the middle of a drain, at the second index, which isn't the second of the list.
 #[test]
-fn a_drain_by_index_overflows(rt: HostRuntime) -> Result<(), Fail> {
-    let mut a = late_keys(rt.alloc(), &[1, 3, 2])?;
-    let mut overflows = 0u64;
-    for taken in a.drain() {
-        if let InvalidationOption::GenerationOverflow((p, pair)) = taken {
-            assert_eq!(rt; (p.inx(), *pair.k()), (2, 3));
-            overflows = overflows.wrapping_add(1);
-        }
+fn drains_by_index(rt: HostRuntime) -> Result<(), Fail> {
+    let mut a = letters(rt.alloc())?;
+    let mut drain = a.drain();
+    for (letter, index, generation) in [('C', 1u32, 2u64), ('A', 2, 2), ('E', 3, 3), ('B', 4, 2)] {
+        takes(&rt, drain.next(), (letter, index, generation));
     }
-    assert_eq!(rt; (overflows, a.generation()), (1, 4));
+    assert!(rt; drain.next().is_none());
+    drop(drain);
+    are_left(&rt, &a, 0, 8);
     Ok(())
 }

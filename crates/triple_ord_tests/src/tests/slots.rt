@@ -1,49 +1,9 @@
-//! Going through an arena by index, its capacity, and an ordered arena as an arena among others. Five keys stand at the indexes 5, 2, 1,
-//! 4, 3, in the order of the list 10, 30, 50, 60, 70.
-use super::walks::{gives, gives_rest};
+//! The capacity, and an ordered arena as an arena among others.
 use super::{Keys, keys, numbers};
 use arena_base::{MaxCapacityReductionError, P0, Ptr, ReallocationError, laws};
 use std::process::Abort;
 use std::test::Fail;
 use triple_ord::{ArenaTrait, OrdPair};
-
-/// The first and the last pointer by index.
-fn inx_ends_are(rt: &impl Abort, a: &Keys, first: Option<(u32, u64)>, last: Option<(u32, u64)>) {
-    assert_eq!(rt; numbers(a.find_first_inx_ptr()), first);
-    assert_eq!(rt; numbers(a.find_last_inx_ptr()), last);
-}
-
-#[test]
-fn walks_by_index(rt: HostRuntime) -> Result<(), Fail> {
-    let mut a = keys(rt.alloc(), &[50, 30, 70, 60, 10])?;
-    let _ = a.remove(P0::_from_raw(2, 2));
-    inx_ends_are(&rt, &a, Some((1, 2)), Some((5, 2)));
-    gives_rest(&rt, rt.alloc(), &mut a.advancer(), &a, &[1, 3, 4, 5])?;
-    gives_rest(
-        &rt,
-        rt.alloc(),
-        &mut a.advancer_inx(2, false),
-        &a,
-        &[3, 4, 5],
-    )?;
-    gives_rest(&rt, rt.alloc(), &mut a.advancer_inx(3, true), &a, &[3, 1])?;
-    let _ = a.clear();
-    inx_ends_are(&rt, &a, None, None);
-    Ok(())
-}
-
-/// An arena is changed between two steps of a walk by index.
-#[test]
-fn walks_by_index_meet_changes(rt: HostRuntime) -> Result<(), Fail> {
-    let mut a = keys(rt.alloc(), &[50, 30])?;
-    let mut walk = a.advancer();
-    gives(&rt, &mut walk, &a, Some((1, 2)));
-    let _ = a.remove(P0::_from_raw(2, 2));
-    gives(&rt, &mut walk, &a, None);
-    let _ = a.insert(OrdPair::new(70, ()))?;
-    gives(&rt, &mut walk, &a, Some((2, 3)));
-    Ok(())
-}
 
 /// A reallocation for so many ends so, and leaves this length and capacity.
 fn reallocates(

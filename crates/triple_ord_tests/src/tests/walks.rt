@@ -2,7 +2,7 @@
 //! list 10, 30, 50, 60, 70.
 use super::{Keys, keys, numbers, order_is};
 use arena_base::{InvalidationOption, P0, P8, Ptr, Q0};
-use std::alloc::{AllocError, Global};
+use std::alloc::Global;
 use std::cell::Cell;
 use std::cmp::Ordering;
 use std::mem;
@@ -10,70 +10,9 @@ use std::process::Abort;
 use std::test::Fail;
 use triple_ord::{Advancer, OrdInsertionError, OrdPair, OrderedPtrAdvancer, SimpleOrdArena};
 
-/// The indexes that a walk gives from now on.
-fn rest<W: Advancer<Keys, Item = P0>>(
-    alloc: Global,
-    walk: &mut W,
-    a: &Keys,
-) -> Result<Vec<u32>, AllocError> {
-    let mut indexes = Vec::new(alloc);
-    for _ in 0..a.len() {
-        if let Some(p) = walk.advance(a) {
-            indexes.push(p.inx())?;
-        }
-    }
-    Ok(indexes)
-}
-
 /// A step of a walk gives the pointer with these numbers, or nothing.
-pub(super) fn gives<W: Advancer<Keys, Item = P0>>(
-    rt: &impl Abort,
-    walk: &mut W,
-    a: &Keys,
-    wanted: Option<(u32, u64)>,
-) {
+fn gives(rt: &impl Abort, walk: &mut OrderedPtrAdvancer<P0>, a: &Keys, wanted: Option<(u32, u64)>) {
     assert_eq!(rt; numbers(walk.advance(a)), wanted);
-}
-
-/// A walk gives these indexes from now on, and then nothing.
-pub(super) fn gives_rest<W: Advancer<Keys, Item = P0>>(
-    rt: &impl Abort,
-    alloc: Global,
-    walk: &mut W,
-    a: &Keys,
-    wanted: &[u32],
-) -> Result<(), AllocError> {
-    assert_eq!(rt; rest(alloc, walk, a)?.as_slice(), wanted);
-    gives(rt, walk, a, None);
-    Ok(())
-}
-
-/// A walk from 50, backwards or not.
-fn walk_from_50(a: &Keys, rev: bool) -> Result<OrderedPtrAdvancer<P0>, Fail> {
-    Ok(a.advancer_ordered(P0::_from_raw(1, 2), rev).ok_or("50")?)
-}
-
-/// A walk from 50 gives these indexes.
-fn goes_from_50(
-    rt: &impl Abort,
-    alloc: Global,
-    a: &Keys,
-    rev: bool,
-    wanted: &[u32],
-) -> Result<(), Fail> {
-    let mut walk = walk_from_50(a, rev)?;
-    gives_rest(rt, alloc, &mut walk, a, wanted)?;
-    Ok(())
-}
-
-#[test]
-fn walks_to_both_ends(rt: HostRuntime) -> Result<(), Fail> {
-    let a = keys(rt.alloc(), &[50, 30, 70, 60, 10])?;
-    goes_from_50(&rt, rt.alloc(), &a, true, &[1, 2, 5])?;
-    goes_from_50(&rt, rt.alloc(), &a, false, &[1, 4, 3])?;
-    assert!(rt; a.advancer_ordered(P0::_from_raw(1, 3), false).is_none());
-    assert!(rt; a.advancer_ordered(P0::invalid(), true).is_none());
-    Ok(())
 }
 
 /// Inserts a key.
@@ -87,24 +26,11 @@ fn remove_60(rt: &impl Abort, a: &mut Keys) {
     assert!(rt; a.remove(P0::_from_raw(4, 2)).allow().is_some());
 }
 
-/// The entry at which a walk stands goes, and another one takes its slot.
-#[test]
-fn a_walk_ends_where_its_entry_is_gone(rt: HostRuntime) -> Result<(), Fail> {
-    let mut a = keys(rt.alloc(), &[50, 30, 70, 60, 10])?;
-    let mut walk = walk_from_50(&a, false)?;
-    gives(&rt, &mut walk, &a, Some((1, 2)));
-    remove_60(&rt, &mut a);
-    gives(&rt, &mut walk, &a, None);
-    put(&mut a, 55)?;
-    gives(&rt, &mut walk, &a, None);
-    Ok(())
-}
-
 /// The slot at which a walk stands has another entry, and then one comes in between.
 #[test]
 fn a_walk_goes_on_with_another_entry(rt: HostRuntime) -> Result<(), Fail> {
     let mut a = keys(rt.alloc(), &[50, 30, 70, 60, 10])?;
-    let mut walk = walk_from_50(&a, false)?;
+    let mut walk = a.advancer_ordered(P0::_from_raw(1, 2), false).ok_or("50")?;
     gives(&rt, &mut walk, &a, Some((1, 2)));
     remove_60(&rt, &mut a);
     put(&mut a, 55)?;
@@ -115,30 +41,10 @@ fn a_walk_goes_on_with_another_entry(rt: HostRuntime) -> Result<(), Fail> {
     Ok(())
 }
 
-/// The entry at which a walk stands gets another pointer.
-#[test]
-fn a_walk_goes_on_with_a_renewed_entry(rt: HostRuntime) -> Result<(), Fail> {
-    let mut a = keys(rt.alloc(), &[50, 30, 70, 60, 10])?;
-    let mut walk = walk_from_50(&a, true)?;
-    gives(&rt, &mut walk, &a, Some((1, 2)));
-    let again = numbers(a.invalidate(P0::_from_raw(2, 2)).allow());
-    assert_eq!(rt; again, Some((2, 3)));
-    gives(&rt, &mut walk, &a, again);
-    Ok(())
-}
-
-#[test]
-fn an_empty_walk_gives_nothing(rt: HostRuntime) -> Result<(), Fail> {
-    let a = keys(rt.alloc(), &[50, 30])?;
-    let mut none: OrderedPtrAdvancer<P0> = Advancer::<Keys>::empty();
-    gives(&rt, &mut none, &a, None);
-    Ok(())
-}
-
-pub(super) type Letters<P> = SimpleOrdArena<P, OrdPair<char, ()>>;
+pub(super) type Letters = SimpleOrdArena<P0, OrdPair<char, ()>>;
 
 /// The letters A, B, C, E at the indexes 2, 4, 1, 3, generation 3.
-pub(super) fn letters(alloc: Global) -> Result<Letters<P0>, Fail> {
+pub(super) fn letters(alloc: Global) -> Result<Letters, Fail> {
     let mut a = SimpleOrdArena::new(alloc);
     for letter in ['C', 'A', 'D', 'B'] {
         let _ = a.insert(OrdPair::new(letter, ()))?;
@@ -184,7 +90,7 @@ pub(super) enum End {
 }
 
 /// The letters, drained of so many.
-fn letters_after(alloc: Global, taken: usize, end: End) -> Result<Letters<P0>, Fail> {
+fn letters_after(alloc: Global, taken: usize, end: End) -> Result<Letters, Fail> {
     let mut a = letters(alloc)?;
     let mut drain = a.drain_ordered();
     for _ in 0..taken {
@@ -199,7 +105,7 @@ fn letters_after(alloc: Global, taken: usize, end: End) -> Result<Letters<P0>, F
 }
 
 /// What a drain that ended early left: so many letters, with this generation.
-pub(super) fn are_left(rt: &impl Abort, a: &Letters<P0>, len: usize, generation: u64) {
+pub(super) fn are_left(rt: &impl Abort, a: &Letters, len: usize, generation: u64) {
     assert_eq!(rt; (a.len(), a.generation()), (len, generation));
 }
 
@@ -223,15 +129,8 @@ fn leaves_the_rest(
 fn drains_end_early(rt: HostRuntime) -> Result<(), Fail> {
     for (taken, generation) in [(0usize, 3u64), (1, 4), (3, 6), (4, 7), (5, 7)] {
         leaves_the_rest(&rt, rt.alloc(), taken, generation)?;
-    }
-    Ok(())
-}
-
-#[test]
-fn dropped_drains_leave_nothing(rt: HostRuntime) -> Result<(), Fail> {
-    for (taken, generation) in [(0usize, 4u64), (1, 5), (3, 7), (5, 8)] {
         let dropped = letters_after(rt.alloc(), taken, End::Dropped)?;
-        are_left(&rt, &dropped, 0, generation);
+        are_left(&rt, &dropped, 0, generation.wrapping_add(1));
     }
     Ok(())
 }
@@ -308,37 +207,6 @@ fn items_are_dropped_once(rt: HostRuntime) {
     }
 }
 
-/// An arena with these keys under pointers of eight bits, whose generation begins again after two steps.
-pub(super) fn late_keys(
-    alloc: Global,
-    list: &[u64],
-) -> Result<SimpleOrdArena<P8, OrdPair<u64, ()>>, OrdInsertionError> {
-    let mut a = SimpleOrdArena::new(alloc);
-    for k in list {
-        let _ = a.insert(OrdPair::new(*k, ()))?;
-    }
-    for _ in 2..254u64 {
-        let _ = a.inc_generation();
-    }
-    Ok(a)
-}
-
-/// The generations of eight bits begin again in the middle of a drain.
-#[test]
-fn a_drain_overflows(rt: HostRuntime) -> Result<(), Fail> {
-    let mut a = late_keys(rt.alloc(), &[1, 2, 3])?;
-    let mut overflows = 0u64;
-    for taken in a.drain_ordered() {
-        if let InvalidationOption::GenerationOverflow((p, _)) = taken {
-            assert_eq!(rt; p.inx(), 2);
-            overflows = overflows.wrapping_add(1);
-        }
-    }
-    assert_eq!(rt; overflows, 1);
-    assert_eq!(rt; a.generation(), 4);
-    Ok(())
-}
-
 /// Keys under pointers of another type.
 type OtherKeys = SimpleOrdArena<Q0, OrdPair<u64, ()>>;
 
@@ -352,10 +220,7 @@ fn other_keys(alloc: Global, list: &[u64]) -> Result<OtherKeys, OrdInsertionErro
 }
 
 /// What one arena answers of another: whether it is equal, its order, and its order as it may be lacking.
-fn compared<P: Ptr, Q: Ptr>(
-    a: &SimpleOrdArena<P, OrdPair<u64, ()>>,
-    b: &SimpleOrdArena<Q, OrdPair<u64, ()>>,
-) -> (bool, Ordering, Option<Ordering>) {
+fn compared(a: &Keys, b: &OtherKeys) -> (bool, Ordering, Option<Ordering>) {
     (
         a.canonical_eq(b),
         a.canonical_cmp(b),
@@ -368,7 +233,7 @@ fn answers_are(rt: &impl Abort, answers: (bool, Ordering, Option<Ordering>), ord
     assert_eq!(rt; answers, (order.is_eq(), order, Some(order)));
 }
 
-/// One arena compares so with another one, and the other way round.
+/// One arena compares so with another one.
 fn compare_as(
     rt: &impl Abort,
     alloc: Global,
@@ -379,7 +244,6 @@ fn compare_as(
     let a = keys(alloc, first)?;
     let b = other_keys(alloc, second)?;
     answers_are(rt, compared(&a, &b), order);
-    answers_are(rt, compared(&b, &a), order.reverse());
     Ok(())
 }
 
@@ -389,17 +253,9 @@ fn arenas_compare_by_their_items(rt: HostRuntime) -> Result<(), Fail> {
     compare_as(&rt, rt.alloc(), &[], &[], Ordering::Equal)?;
     compare_as(&rt, rt.alloc(), &[2, 1], &[1, 2], Ordering::Equal)?;
     compare_as(&rt, rt.alloc(), &[2, 1], &[], Ordering::Greater)?;
+    compare_as(&rt, rt.alloc(), &[], &[2, 1], Ordering::Less)?;
     compare_as(&rt, rt.alloc(), &[2, 1], &[3, 1, 2], Ordering::Less)?;
     compare_as(&rt, rt.alloc(), &[1, 5], &[3, 1, 2], Ordering::Greater)?;
-    Ok(())
-}
-
-#[test]
-fn no_order_of_items_is_told(rt: HostRuntime) -> Result<(), Fail> {
-    let mut odd: SimpleOrdArena<P0, OrdPair<u64, f64>> = SimpleOrdArena::new(rt.alloc());
-    let _ = odd.insert(OrdPair::new(1, f64::NAN))?;
-    assert_eq!(rt; odd.canonical_partial_cmp(&odd), None);
-    assert!(rt; !odd.canonical_eq(&odd));
     Ok(())
 }
 
@@ -441,4 +297,75 @@ fn printed_in_order(rt: HostRuntime) -> Result<(), Fail> {
         "{\n    P0[2](2): (\n        30,\n        (),\n    ),\n    P0[1](2): (\n        50,\n        (),\n    ),\n}"
     );
     Ok(())
+}
+
+/// The entry at which a walk stands goes, and another one takes its slot.
+#[test]
+fn a_walk_ends_where_its_entry_is_gone(rt: HostRuntime) -> Result<(), Fail> {
+    let mut a = keys(rt.alloc(), &[50, 30, 70, 60, 10])?;
+    let mut walk = walk_from_50(&a, false)?;
+    gives(&rt, &mut walk, &a, Some((1, 2)));
+    remove_60(&rt, &mut a);
+    gives(&rt, &mut walk, &a, None);
+    put(&mut a, 55)?;
+    gives(&rt, &mut walk, &a, None);
+    Ok(())
+}
+
+#[test]
+fn no_order_of_items_is_told(rt: HostRuntime) -> Result<(), Fail> {
+    let mut odd: SimpleOrdArena<P0, OrdPair<u64, f64>> = SimpleOrdArena::new(rt.alloc());
+    let _ = odd.insert(OrdPair::new(1, f64::NAN))?;
+    assert_eq!(rt; odd.canonical_partial_cmp(&odd), None);
+    assert!(rt; !odd.canonical_eq(&odd));
+    Ok(())
+}
+
+/// A walk from 50, backwards or not.
+fn walk_from_50(a: &Keys, rev: bool) -> Result<OrderedPtrAdvancer<P0>, Fail> {
+    Ok(a.advancer_ordered(P0::_from_raw(1, 2), rev).ok_or("50")?)
+}
+
+#[test]
+fn walks_to_both_ends(rt: HostRuntime) -> Result<(), Fail> {
+    let a = keys(rt.alloc(), &[50, 30, 70, 60, 10])?;
+    let (mut falling, mut rising) = (walk_from_50(&a, true)?, walk_from_50(&a, false)?);
+    for (lesser, greater) in [(1u32, 1u32), (2, 4), (5, 3)] {
+        gives(&rt, &mut falling, &a, Some((lesser, 2)));
+        gives(&rt, &mut rising, &a, Some((greater, 2)));
+    }
+    gives(&rt, &mut falling, &a, None);
+    gives(&rt, &mut rising, &a, None);
+    Ok(())
+}
+
+/// The generations of eight bits begin again in the middle of a drain.
+#[test]
+fn a_drain_overflows(rt: HostRuntime) -> Result<(), Fail> {
+    let mut a = late_keys(rt.alloc(), &[1, 2, 3])?;
+    let mut overflows = 0u64;
+    for taken in a.drain_ordered() {
+        if let InvalidationOption::GenerationOverflow((p, _)) = taken {
+            assert_eq!(rt; p.inx(), 2);
+            overflows = overflows.wrapping_add(1);
+        }
+    }
+    assert_eq!(rt; overflows, 1);
+    assert_eq!(rt; a.generation(), 4);
+    Ok(())
+}
+
+/// An arena with these keys under pointers of eight bits, whose generation begins again after two steps.
+pub(super) fn late_keys(
+    alloc: Global,
+    list: &[u64],
+) -> Result<SimpleOrdArena<P8, OrdPair<u64, ()>>, OrdInsertionError> {
+    let mut a = SimpleOrdArena::new(alloc);
+    for k in list {
+        let _ = a.insert(OrdPair::new(*k, ()))?;
+    }
+    for _ in 2..254u64 {
+        let _ = a.inc_generation();
+    }
+    Ok(a)
 }

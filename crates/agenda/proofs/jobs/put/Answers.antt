@@ -14,7 +14,8 @@ returns-in-Ok-clause-ok g c =
     let item : ℕ × g.row.J.Denot = (c.args.deadline, c.args.job) in
     let shown = c.in-Ok.entry.prepared.shown in
     let named : c.any-p.result ≡ pointer_of shown = c.any-p.ensures ∙ ap pointer_of c.ptr.ensures in
-    let step = entry-inserts deadline_of nat_cmp (λ (p : ℕ × ℕ). p) (λ (i : ℕ). i) reallocating most_jobs (Nonhereditary c.args.deadline) c.args.jobs.now c.in-Ok.entry.arena.now c.insert.new.self.0
+    let step = entry-inserts deadline_of nat_cmp (λ (p : ℕ × ℕ). p) (λ (i : ℕ). i) reallocating most_jobs
+    (Nonhereditary c.args.deadline) c.args.jobs.now c.in-Ok.entry.arena.now c.insert.new.self.0
     c.len.ensures.sound.distinct shown _ _ c.new.result c.insert.result c.in-Ok.ensures.place c.insert.ensures.inserts in
     let done = inserts-new deadline_of nat_cmp most_jobs reallocating c.args.deadline (λ (p : ℕ × ℕ). p) c.args.jobs.now c.new.result shown c.insert.result c.insert.new.self.0 step in
     let told : InsertsNew deadline_of nat_cmp most_jobs reallocating (behind_key c.args.deadline) c.args.jobs.now item c.any-p.result c.insert.new.self.0 = rw (named, ← c.new.ensures) done in

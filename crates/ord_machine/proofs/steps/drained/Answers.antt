@@ -64,6 +64,11 @@ returns-clause-drained g c =
     let reached : length before ≡ min c.args.num (length all) = omega (arith, least, so_far.count, so_far.within, c.loop-test.false, length-map c.loop.pairs.items (entry_of g.P.Ptr.numbers)) in
     let first : take c.args.num all ≡ before = first_are c.args.num all before c.loop.drain.arena.now.list.entries so_far.cut reached in
     let whole = c.args.arena.now.list in
-    let gone : c.drop.new.self.0 ≡ record { list = cleared g.P.Gen.PtrGen.greatest (removed_each g.P.Gen.PtrGen.greatest whole (take c.args.num all)); shape = missing } = c.drop.ensures ∙ rw (so_far.taken, first) refl in
+    let gone : c.drop.new.self.0
+    ≡ record {
+      list = cleared g.P.Gen.PtrGen.greatest (removed_each g.P.Gen.PtrGen.greatest whole (take c.args.num all));
+      shape = missing;
+    } =
+    c.drop.ensures ∙ rw (so_far.taken, first) refl in
     let lender = so_far.lender in
     search (rules, gone, lender)

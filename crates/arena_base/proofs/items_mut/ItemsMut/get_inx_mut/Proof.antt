@@ -65,30 +65,25 @@ is_none {X = X} (Some y) e = absurd (subst (λ (b : Bool). T b) e tt)
 pub get_inx_mut_spec : {M : Type 1} → statement M
 unfolding follows_by
 get_inx_mut_spec {M} 𝓤 𝓛 𝓜 𝓡 wired S P T I G LS LP LT LI LG CP CI CG
-    s s' p p' pc pc' pe pe' pq pq' po po' pp pp' ph ph' pd pd' i i' ic ic' ie ie' iq iq' io io' ip ip' ih ih' id id' g g' gc gc' ge ge'
-    gq gq' gd gd'
-    ms mp mpc mpe mpq mpo mpp mph mpd mi mic mie miq mio mip mih mid mg mgc mge mgq mgd =
+    s s' p p' pc pc' pe pe' pq pq' i i' ic ic' ie ie' iq iq' g g' gc gc' ge ge' gq gq'
+    ms mp mpc mpe mpq mi mic mie miq mg mgc mge mgq =
     let Container = param 0 S in let Inx = copied 3 I in let Gen = copied 4 G in let Item = param 2 T in
     let copy_inx = copied_copy 3 I CI in let copy_gen = copied_copy 4 G CG in
-    let En = f.ended S P T I G s s' p p' pc pc' pe pe' pq pq' po po' pp pp' ph ph' pd pd' i i' ic ic' ie ie' iq iq' io io' ip ip' ih ih'
-    id id' g g' gc gc' ge ge' gq gq' gd gd' in
-    let c = f.clauses S P T I G s s' p p' pc pc' pe pe' pq pq' po po' pp pp' ph ph' pd pd' i i' ic ic' ie ie' iq iq' io io' ip ip' ih ih'
-    id id' g g' gc gc' ge ge' gq gq' gd gd' 𝓛 𝓜.mem 𝓡.returns in
+    let En = f.ended S P T I G s s' p p' pc pc' pe pe' pq pq' i i' ic ic' ie ie' iq iq' g g' gc gc' ge ge' gq gq' in
+    let c = f.clauses S P T I G s s' p p' pc pc' pe pe' pq pq' i i' ic ic' ie ie' iq iq' g g' gc gc' ge ge' gq gq' 𝓛 𝓜.mem 𝓡.returns in
     let hs : Stays En.signature.params En.kept = (
       stay_dropped (mut_ref_to (0 ∷ []) tt (plain (λ _. Container))) no,
       (stay_dropped (plain (λ _. Inx)) no, tt),
     ) in
     let W = walk_of 𝓛 En hs c in
-    let types = bounded (a_type ∷ a_type ∷ a_type ∷ a_type ∷ a_type ∷ []) (S, (P, (T, (I, (G, tt))))) (dcons s' (dcons p' (dcons pc'
-    (dcons pe' (dcons pq' (dcons po' (dcons pp' (dcons ph' (dcons pd' (dcons i' (dcons ic' (dcons ie' (dcons iq' (dcons io' (dcons
-    ip' (dcons ih' (dcons id' (dcons g' (dcons gc' (dcons ge' (dcons gq' (dcons gd' dnil)))))))))))))))))))))) in
+    let types = bounded (a_type ∷ a_type ∷ a_type ∷ a_type ∷ a_type ∷ []) (S, (P, (T, (I, (G, tt))))) (dcons s' (dcons p' (dcons pc' (dcons pe' (dcons pq'
+    (dcons i' (dcons ic' (dcons ie' (dcons iq' (dcons g' (dcons gc' (dcons ge' (dcons gq' dnil))))))))))))) in
     let fn : Fn = inst_fn types code.function in
     proved 𝓛 En hs c 𝓜 𝓡 (
       Goes-spent_ref 𝓛 6 (0 ∷ []) tt (plain (λ _. Container)),
       (Goes-dropped 𝓛 6 (plain (λ _. Inx)) no (λ κs x w. refl), tt),
     )
-    (f.Key.name types) fn (code.unfolded 𝓤 𝓛.H 𝓜 𝓡 wired (S, (P, (T, (I, (G, tt))))) s' p' pc' pe' pq' po' pp' ph' pd' i' ic' ie' iq' io'
-    ip' ih' id' g' gc' ge' gq' gd')
+    (f.Key.name types) fn (code.unfolded 𝓤 𝓛.H 𝓜 𝓡 wired (S, (P, (T, (I, (G, tt))))) s' p' pc' pe' pq' i' ic' ie' iq' g' gc' ge' gq')
     (λ κs. (mut_vals, ((λ x. copy_inx.val x ∷ []), tt))) (λ κs. (mut_Tells (named 0) κs.0 Container, (copy_inx.tells, tt)))
     (λ κs qs bounds a _ are.
     let r = a.0 in let n = a.1.0 in let vs = mut_vals r in let w = copy_inx.val n in let number = i.number n in
@@ -96,8 +91,8 @@ get_inx_mut_spec {M} 𝓤 𝓛 𝓜 𝓡 wired S P T I G LS LP LT LI LG CP CI CG
     let Out = type_at En.signature.result κs in let Ref = MutRef (named 0) κs.0 Container in
     let x : W.Ghost = ((κs, qs, bounds, a, (vs, (w ∷ [], tt))), tt) in
     let fits = (((copied_laws 3 I LI).lawful 𝓛).typed n (w ∷ []) are.1.0).0 in
-    let Test = triple_of 𝓛 (test.signature S P T I G) (test.spec S P T I G s s' p p' pc pc' pe pe' pq pq' po po' pp pp' ph ph' pd pd' i
-    i' ic ic' ie ie' iq iq' io io' ip ip' ih ih' id id' g g' gc gc' ge ge' gq gq' gd gd' 𝓛 𝓜.mem 𝓡.returns) in
+    let Test = triple_of 𝓛 (test.signature S P T I G) (test.spec S P T I G s s' p p' pc pc' pe pe' pq pq' i
+    i' ic ic' ie ie' iq iq' g g' gc gc' ge ge' gq gq' 𝓛 𝓜.mem 𝓡.returns) in
     let z : Test.Ghost = ((κs, qs, (bounds.0, tt), a, (vs, (w ∷ [], tt))), tt) in
     let Alive = raw (alive 𝓛 En.signature κs qs) in
     let LivesS = κs.1.0 ⊑ S.lives in let LivesP = κs.1.1.0 ⊑ P.lives in let LivesT = κs.1.1.1.0 ⊑ T.lives in
@@ -119,12 +114,10 @@ get_inx_mut_spec {M} 𝓤 𝓛 𝓜 𝓡 wired S P T I G LS LP LT LI LG CP CI CG
     sets ! (addr ! (through ! refl (stop !))) refl (tt, tt) $
     -- [what is asked; the index]
     calls_at ! (framed 𝓤 𝓛.H 𝓜 (tables 𝓤 𝓛.H 𝓜 𝓡 𝓡.env)) Test (test_met 𝓤 𝓛 𝓜 𝓡 (code.calls-arena_base::items_mut::occupied 𝓡.env wired)
-    S P T I G LS LP LT LI LG CP CI CG s s' p p' pc pc' pe pe' pq pq' po po' pp pp' ph ph' pd pd' i i' ic ic' ie ie' iq iq' io io' ip
-    ip' ih ih' id id' g g' gc gc' ge ge' gq gq' gd gd' ms mp mpc mpe mpq mpo mpp mph mpd mi mic mie miq mio mip mih mid mg mgc mge
-    mgq mgd) z
+    S P T I G LS LP LT LI LG CP CI CG s s' p p' pc pc' pe pe' pq pq' i i' ic ic' ie ie' iq iq' g g' gc gc' ge ge' gq gq' ms mp mpc mpe mpq mi mic mie miq mg mgc mge
+    mgq) z
     (and_then ! (get ! refl) (and_then ! (get ! refl) (no_more !))) (λ v.
-    let TestEnd = test.ended S P T I G s s' p p' pc pc' pe pe' pq pq' po po' pp pp' ph ph' pd pd' i i' ic ic' ie ie' iq iq' io io' ip ip'
-    ih ih' id id' g g' gc gc' ge ge' gq gq' gd gd' in
+    let TestEnd = test.ended S P T I G s s' p p' pc pc' pe pe' pq pq' i i' ic ic' ie ie' iq iq' g g' gc gc' ge ge' gq gq' in
     use1 𝓛 (later (some (λ (b : Bool × MutBor S.Denot). (Alive ⊛ ‵ ((type_at (test.signature S P T I G).result κs).own_val b (v ∷ []))) ⊛
     some (λ (ws : Lasts TestEnd κs a). ‵ (lasts TestEnd κs a ws) ⊛ raw (fact 𝓤 (b.1.ghost_name ≡ r.ghost_name)) ⊛
     raw (fact 𝓤 (b.1.now ≡ r.now)) ⊛ raw (fact 𝓤 (b.0 ≡ is_some (s.entry_at r.now number))))))) (id⊢ 𝓤 _) $
@@ -146,10 +139,9 @@ get_inx_mut_spec {M} 𝓤 𝓛 𝓜 𝓡 wired S P T I G LS LP LT LI LG CP CI CG
     (λ t.
     let found : is_some (s.entry_at b.1.now number) ≡ true = ap (λ (m : S.Denot). is_some (s.entry_at m number)) same ∙ sym is ∙ is_true
     b.0 t in
-    let Pair = triple_of 𝓛 (pair.signature S P T I G) (pair.spec S P T I G s s' p p' pc pc' pe pe' pq pq' po po' pp pp' ph ph' pd pd' i
-    i' ic ic' ie ie' iq iq' io io' ip ip' ih ih' id id' g g' gc gc' ge ge' gq gq' gd gd' 𝓛 𝓜.mem 𝓡.returns) in
-    let PairEnd = pair.ended S P T I G s s' p p' pc pc' pe pe' pq pq' po po' pp pp' ph ph' pd pd' i i' ic ic' ie ie' iq iq' io io' ip ip'
-    ih ih' id id' g g' gc gc' ge ge' gq gq' gd gd' in
+    let Pair = triple_of 𝓛 (pair.signature S P T I G) (pair.spec S P T I G s s' p p' pc pc' pe pe' pq pq' i
+    i' ic ic' ie ie' iq iq' g g' gc gc' ge ge' gq gq' 𝓛 𝓜.mem 𝓡.returns) in
+    let PairEnd = pair.ended S P T I G s s' p p' pc pc' pe pe' pq pq' i i' ic ic' ie ie' iq iq' g g' gc gc' ge ge' gq gq' in
     let y : Pair.Ghost = ((κs, qs, bounds, (b.1, (n, tt)), (mut_vals b.1, (w ∷ [], tt))), tt) in
     sets ! (addr ! (through ! refl (stop !))) refl (tt, tt) $
     move ! (3 ∷ 1 ∷ []) $ join ! $ move ! (1 ∷ 0 ∷ []) $ join ! $ move ! (1 ∷ 0 ∷ []) $ join ! $

@@ -1,14 +1,16 @@
-use Rattle.std.proofs.Common.{inl, inr, sym, ap, ◌∙◌}
+use Rattle.std.proofs.Common.{None, inl, inr, sym, ap, ◌∙◌}
 use Rattle.std.specs.Option.{option_map}
 use Rattle.chain_base.specs.Layout.{chain_of}
 use Rattle.chain_base.proofs.Vacancy.{greatest-links}
-use Rattle.chain_base.proofs.Cloning.{clone-laid, clone-chain, rising-told, refused-chain, empty-laid, unrefused, filled-laid, kept-chain}
+use Rattle.chain_base.proofs.Steps.{held-laid}
+use Rattle.chain_base.proofs.Cloning.{Lies-cloned, clone-chain, rising-told, refused-chain, empty-laid, unrefused, filled-laid, kept-chain}
 use Rattle.chain_base.proofs.chain.ChainArena.clone_by.Goals as goal
 
 pub invariant_of-self : goal.invariant_of-self
 invariant_of-self g c =
-    clone-laid g.P.Ptr.numbers g.M.CloneEntry.step (λ m. m.map) g.P.Inx.PtrInx.most g.P.Gen.PtrGen.greatest c.source.inside.arena _ _ c.source.invariant
-    (rw c.source.view_is c.len.ensures.sound) c.self.inside.arena c.clone_by-cloned.new.self _ c.in-Ok.ensures.ok
+    let done = Lies-cloned g.P.Ptr.numbers g.M.CloneEntry.step (λ m. m.map) g.P.Inx.PtrInx.most g.P.Gen.PtrGen.greatest c.source.inside.arena _ _ c.source.invariant
+    (rw c.source.view_is c.len.ensures.sound) c.self.inside.arena c.clone_by-cloned.new.self _ c.in-Ok.ensures.ok None c.in-Ok.ensures.fresh in
+    done.laid
 
 pub invariant_of-self-then-is_empty : goal.invariant_of-self-then-is_empty
 invariant_of-self-then-is_empty g c =
@@ -28,21 +30,21 @@ returns-in-Ok-clause-ok g c =
 
 pub returns-in-Ok-clause-beyond : goal.returns-in-Ok-clause-beyond
 returns-in-Ok-clause-beyond g c =
-    rw (← c.self.view_is, ← c.source.view_is, ← greatest-links c.source.inside.arena.slots _ c.source.invariant.links) c.clone_by-cloned.ensures.beyond
+    rw (← c.self.view_is, ← c.source.view_is, ← greatest-links c.source.inside.arena.slots _ (held-laid _ _ _ _ c.source.invariant)) c.clone_by-cloned.ensures.beyond
 
 pub returns-then-is_empty-clause-beyond : goal.returns-then-is_empty-clause-beyond
 returns-then-is_empty-clause-beyond g c =
-    rw (← c.self.view_is, ← c.source.view_is, ← greatest-links c.source.inside.arena.slots _ c.source.invariant.links) c.clone_by-cloned.ensures.beyond
+    rw (← c.self.view_is, ← c.source.view_is, ← greatest-links c.source.inside.arena.slots _ (held-laid _ _ _ _ c.source.invariant)) c.clone_by-cloned.ensures.beyond
 
 pub returns-else-is_empty-clause-beyond : goal.returns-else-is_empty-clause-beyond
 returns-else-is_empty-clause-beyond g c =
-    rw (← c.self.view_is, ← c.source.view_is, ← greatest-links c.source.inside.arena.slots _ c.source.invariant.links) c.clone_by-cloned.ensures.beyond
+    rw (← c.self.view_is, ← c.source.view_is, ← greatest-links c.source.inside.arena.slots _ (held-laid _ _ _ _ c.source.invariant)) c.clone_by-cloned.ensures.beyond
 
 pub returns-then-is_empty-clause-memory : goal.returns-then-is_empty-clause-memory
 returns-then-is_empty-clause-memory g c = λ is.
     elim (c.clone_by-cloned.ensures.memory is) [
       | inl kept ↦ inl (
-        rw (← c.self.view_is, ← c.source.view_is, ← greatest-links c.source.inside.arena.slots _ c.source.invariant.links) kept.0,
+        rw (← c.self.view_is, ← c.source.view_is, ← greatest-links c.source.inside.arena.slots _ (held-laid _ _ _ _ c.source.invariant)) kept.0,
         kept-chain c.source.inside.arena c.self.inside.arena c.clone_by-cloned.new.self _ _ c.self.invariant c.clone_by-cloned.result c.in-Err.field-0 c.in-Err.is c.clone_by-cloned.ensures.beyond_kept
             (λ refused. refused.after) c.clone_by-cloned.ensures.memory kept.1 (sym c.is_empty.ensures ∙ c.if-is_empty.true) ∙ c.self.view_is,
       )
@@ -57,7 +59,7 @@ pub returns-else-is_empty-clause-memory : goal.returns-else-is_empty-clause-memo
 returns-else-is_empty-clause-memory g c = λ is.
     elim (c.clone_by-cloned.ensures.memory is) [
       | inl kept ↦ inl (
-        rw (← c.self.view_is, ← c.source.view_is, ← greatest-links c.source.inside.arena.slots _ c.source.invariant.links) kept.0,
+        rw (← c.self.view_is, ← c.source.view_is, ← greatest-links c.source.inside.arena.slots _ (held-laid _ _ _ _ c.source.invariant)) kept.0,
         ap (λ a. chain_of a (option_map g.P.Inx.PtrInx.number c.self.inside.first)) kept.1 ∙ c.self.view_is,
       )
       | inr refused ↦ absurd (unrefused c.source.inside.arena c.self.inside.arena c.clone_by-cloned.new.self _ _ c.self.invariant c.clone_by-cloned.result c.in-Err.field-0 c.in-Err.is c.clone_by-cloned.ensures.beyond_kept

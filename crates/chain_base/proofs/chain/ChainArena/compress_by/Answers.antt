@@ -1,6 +1,6 @@
 use Rattle.std.proofs.Common.{ap, ◌∙◌}
 use Rattle.arena_base.specs.Compression.{compressed_generation}
-use Rattle.chain_base.proofs.Compressing.{paired-before, paired-after, laid-again, chain-compressed, compression-of}
+use Rattle.chain_base.proofs.Compressing.{paired-before, paired-after, Lies-compressed, chain-compressed, compression-of}
 use Rattle.chain_base.proofs.chain.ChainArena.compress_by.Goals as goal
 
 pub name_compressed_indexes-first-requires : goal.name_compressed_indexes-first-requires
@@ -15,9 +15,10 @@ name_compressed_indexes-self-inside-requires g c =
 pub invariant_of-self : goal.invariant_of-self
 invariant_of-self g c =
     let places = c.name_compressed_indexes-first.ensures in
-    laid-again c.self.inside.arena _ _ _ c.self.invariant c.name_compressed_indexes-first.new.arena _ places
+    let done = Lies-compressed c.self.inside.arena _ _ _ c.self.invariant c.name_compressed_indexes-first.new.arena _ places
     g.P.Ptr.numbers g.M.MapEntry.step _ c.args.map c.compress_items-overflow.new.arena c.compress_items-overflow.ensures.after places.begins
-    c.name_compressed_indexes-self-inside.new.arena _ c.name_compressed_indexes-self-inside.ensures
+    c.name_compressed_indexes-self-inside.new.arena _ c.name_compressed_indexes-self-inside.ensures c.compress_items-overflow.ensures.fresh in
+    done.laid
 
 pub returns-clause-after : goal.returns-clause-after
 returns-clause-after g c =

@@ -32,10 +32,7 @@ exchange-requires-clause-second g c =
     subst (λ k. is_some (entry_at at.self.entries k) ≡ true) (sym same) (occurs-entry at.self.entries _ (next-occurs at.invariant more))
 
 pub exchange-requires-clause-even : goal.exchange-requires-clause-even
-exchange-requires-clause-even g c =
-    let at = c.loop-position in
-    let more : at.position < length c.args.self.now.entries = omega (arith, c.len-len.ensures.value) in
-    canonical-even at.invariant more
+exchange-requires-clause-even g c = canonical-even c.loop-position.invariant
 
 pub loop-position-preserved : goal.loop-position-preserved
 loop-position-preserved g c =

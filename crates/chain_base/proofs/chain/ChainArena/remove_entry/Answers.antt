@@ -1,6 +1,7 @@
 use Rattle.std.proofs.Common.{◌∙◌, sym, ap}
 use Rattle.std.specs.Option.{option_map}
-use Rattle.chain_base.proofs.Calls.{left-held, right-held, Removes-linked}
+use Rattle.chain_base.specs.declared.chain.compress.Side.TheVariants.{Before, After}
+use Rattle.chain_base.proofs.Calls.{beside-held, Removes-linked}
 use Rattle.chain_base.proofs.Ends.{occupied-laid_out, link_at-laid_out}
 use Rattle.chain_base.proofs.chain.ChainArena.remove_entry.Goals as goal
 
@@ -12,15 +13,13 @@ remove_entry-taken-requires g c = let held = rw (← c.self.view_is) at c.requir
 
 pub relink-ends-requires-clause-left : goal.relink-ends-requires-clause-left
 relink-ends-requires-clause-left g c = λ x is.
-    let number = g.P.Inx.PtrInx.number in
-    let held = left-held c.self.inside.arena _ _ c.self.invariant g.P.Gen.PtrGen.greatest (number c.args.i) _ c.entry.ensures in
-    rw c.remove_entry-taken.ensures.removed (held _ (sym c.prev_next.ensures.prev ∙ ap (option_map number) is))
+    rw c.remove_entry-taken.ensures.removed (beside-held c.self.inside.arena _ _ c.self.invariant g.P.Gen.PtrGen.greatest _ _ c.entry.ensures Before _
+    (sym c.prev_next.ensures.prev ∙ ap (option_map g.P.Inx.PtrInx.number) is))
 
 pub relink-ends-requires-clause-right : goal.relink-ends-requires-clause-right
 relink-ends-requires-clause-right g c = λ x is.
-    let number = g.P.Inx.PtrInx.number in
-    let held = right-held c.self.inside.arena _ _ c.self.invariant g.P.Gen.PtrGen.greatest (number c.args.i) _ c.entry.ensures in
-    rw c.remove_entry-taken.ensures.removed (held _ (sym c.prev_next.ensures.next ∙ ap (option_map number) is))
+    rw c.remove_entry-taken.ensures.removed (beside-held c.self.inside.arena _ _ c.self.invariant g.P.Gen.PtrGen.greatest _ _ c.entry.ensures After _
+    (sym c.prev_next.ensures.next ∙ ap (option_map g.P.Inx.PtrInx.number) is))
 
 pub invariant_of-self : goal.invariant_of-self
 invariant_of-self g c =

@@ -16,5 +16,6 @@ returns-clause-inserts g c =
     let by_pointer = inserts-told key g.T.Key.Ord.cmp g.P.Ptr.numbers within g.P.Inx.PtrInx.most (at_key c.key.result.now) c.args.self.now c.insert.new.self.0 c.args.t shown c.insert.result step in
     let done : InsertsWithin key g.T.Key.Ord.cmp g.P.Inx.PtrInx.most g.P.Ptr.numbers c.args.self.now c.args.t (Ok (c.any-p.result, c.insert.result)) c.insert.new.self.0 =
     subst (λ (p : g.row.P.Denot). InsertsWithin key g.T.Key.Ord.cmp g.P.Inx.PtrInx.most g.P.Ptr.numbers c.args.self.now c.args.t (Ok (p, c.insert.result)) c.insert.new.self.0) (sym named)
-    (subst (λ (k : g.row.T-Key.Denot). InsertsBy key g.T.Key.Ord.cmp g.P.Inx.PtrInx.most within (at_key k) g.P.Ptr.numbers c.args.self.now c.args.t (told (Ok (pointer_of shown, c.insert.result))) c.insert.new.self.0) c.key.ensures by_pointer) in
+    (subst (λ (k : g.row.T-Key.Denot). InsertsBy key g.T.Key.Ord.cmp g.P.Inx.PtrInx.most within (at_key k) g.P.Ptr.numbers
+    c.args.self.now c.args.t (told (Ok (pointer_of shown, c.insert.result))) c.insert.new.self.0) c.key.ensures by_pointer) in
     subst (λ u. InsertsWithin key g.T.Key.Ord.cmp g.P.Inx.PtrInx.most g.P.Ptr.numbers c.args.self.now c.args.t (Ok (c.any-p.result, c.insert.result)) u) (search rules) done

@@ -16,7 +16,8 @@ returns-in-Equal g c =
     sym c.get_inx.ensures ∙ ap (option_map (λ e. (g.P.Gen.PtrGen.number e.0, e.1.now))) was in
     let p = c._from_raw-p.result in
     let index : (g.P.Ptr.numbers p).0 ≡ g.P.Inx.PtrInx.number c.args.i = (ap (λ (n : ℕ × ℕ). n.0) c._from_raw-p.ensures) in
-    subst (λ (o : Ordering). IsPlaceBeside g.P.Ptr.numbers g.T.SimpleOrdItem.key_of g.T.Key.Ord.cmp c.args.self.now (beside (g.P.Inx.PtrInx.number c.args.i) o) (Some (Replacing p))) (sym c.in-Equal.is)
+    subst (λ (o : Ordering). IsPlaceBeside g.P.Ptr.numbers g.T.SimpleOrdItem.key_of g.T.Key.Ord.cmp c.args.self.now
+    (beside (g.P.Inx.PtrInx.number c.args.i) o) (Some (Replacing p))) (sym c.in-Equal.is)
     (subst (λ (i : ℕ). IsPlaceBeside g.P.Ptr.numbers g.T.SimpleOrdItem.key_of g.T.Key.Ord.cmp c.args.self.now (beside i Equal) (Some (Replacing p))) index
     (beside-over g.P.Ptr.numbers g.T.SimpleOrdItem.key_of g.T.Key.Ord.cmp c.args.self.now c.len.ensures.sound.distinct p (g.P.Gen.PtrGen.number c.in_ok-generation.generation) c.in_ok-generation._item.now
     (ap (λ (e : ℕ). ((g.P.Ptr.numbers p).0, e)) (ap (λ (n : ℕ × ℕ). n.1) c._from_raw-p.ensures)) (rw index there)))

@@ -16,4 +16,6 @@ returns-in-Some g c cmp k visits found =
 pub returns-in-Some-2 : goal.returns-in-Some-2
 returns-in-Some-2 g c cmp k visits found =
     let same : c.in-Some.similar ≡ c.in-Some-2.similar = cc in
-    found-beside g.P.Ptr.numbers g.T.SimpleOrdItem.key_of cmp c.args.self.now k visits c.len.ensures.sound.distinct c.in-Some-2.similar.0 c.in-Some-2.similar.1 (rw c.in-Some-2.is at found) (at_key k) (λ gap fits. fits) (ap (λ (a : g.row.P.Denot × Ordering). is_eq a.1) (sym same) ∙ sym c.is_eq.ensures ∙ c.if-is_eq.false)
+    found-beside g.P.Ptr.numbers g.T.SimpleOrdItem.key_of cmp c.args.self.now k visits c.len.ensures.sound.distinct c.in-Some-2.similar.0
+    c.in-Some-2.similar.1 (rw c.in-Some-2.is at found) (at_key k) (λ gap fits. fits)
+    (ap (λ (a : g.row.P.Denot × Ordering). is_eq a.1) (sym same) ∙ sym c.is_eq.ensures ∙ c.if-is_eq.false)

@@ -14,14 +14,16 @@ returns-clause-updates g c =
     let distinct = rw (← c.self.view_is) at c.len.ensures.sound.distinct in
     let there = rw (← c.self.view_is) at c.if-not-contains.ensures in
     let value = ap (option_map (λ (e : g.row.P-Gen.Denot × g.row.T.Denot). (g.P.Gen.PtrGen.number e.0, e.1))) c.valid.ensures.value ∙ sym (rw c.inx.ensures at c.remove_entry.ensures.value) in
-    rw (← c.self.view_is) (updates-taken g.P.Gen.PtrGen.greatest c.self.inside.tree c.remove_entry.new.self distinct (g.P.Ptr.numbers c.args.p) (sym there) _ _ value (rw c.valid.ensures.value (rw c.inx.ensures at c.remove_entry.ensures.removed)))
+    rw (← c.self.view_is) (updates-taken g.P.Gen.PtrGen.greatest c.self.inside.tree c.remove_entry.new.self distinct (g.P.Ptr.numbers c.args.p)
+    (sym there) _ _ value (rw c.valid.ensures.value (rw c.inx.ensures at c.remove_entry.ensures.removed)))
 
 pub returns-clause-count : goal.returns-clause-count
 returns-clause-count g c =
     let distinct = rw (← c.self.view_is) at c.len.ensures.sound.distinct in
     let there = rw (← c.self.view_is) at c.if-not-contains.ensures in
     let value = ap (option_map (λ (e : g.row.P-Gen.Denot × g.row.T.Denot). (g.P.Gen.PtrGen.number e.0, e.1))) c.valid.ensures.value ∙ sym (rw c.inx.ensures at c.remove_entry.ensures.value) in
-    rw (← c.self.view_is) (count-taken g.P.Gen.PtrGen.greatest c.self.inside.tree c.remove_entry.new.self distinct (g.P.Ptr.numbers c.args.p) (sym there) _ _ _ value (rw c.valid.ensures.value (rw c.inx.ensures at c.remove_entry.ensures.removed)))
+    rw (← c.self.view_is) (count-taken g.P.Gen.PtrGen.greatest c.self.inside.tree c.remove_entry.new.self distinct (g.P.Ptr.numbers c.args.p)
+    (sym there) _ _ _ value (rw c.valid.ensures.value (rw c.inx.ensures at c.remove_entry.ensures.removed)))
 
 pub returns-clause-shape : goal.returns-clause-shape
 returns-clause-shape g c = rw (← c.self.view_is) (owed _ c.remove_entry.ensures.shape)

@@ -23,7 +23,9 @@ returns-then-is_some-clause-near g c =
 pub returns-clause-found : goal.returns-clause-found
 returns-clause-found g c =
     let found = rw c.step_along-near.ensures.tree at c.descend_by_key-found.ensures.found in
-    rw (← c.self.view_is, ← c.new-probe.ensures.tree, c.visits-2.ensures) (FindsSimilar-more g.T.SimpleOrdItem.key_of (taken c.args.ties g.T.Key.Ord.cmp) _ _ _ (c.descend_by_key-found.new.probe.visits - c.step_along-near.new.probe.visits) _ (omega arith) found)
+    rw (← c.self.view_is, ← c.new-probe.ensures.tree, c.visits-2.ensures)
+    (FindsSimilar-more g.T.SimpleOrdItem.key_of (taken c.args.ties g.T.Key.Ord.cmp) _ _ _
+    (c.descend_by_key-found.new.probe.visits - c.step_along-near.new.probe.visits) _ (omega arith) found)
 
 pub returns-clause-visits : goal.returns-clause-visits
 returns-clause-visits g c =

@@ -1,0 +1,123 @@
+//! Orders that are replaced and cancelled.
+use order_book::{OrderBook, OrderId, PlacingError, ReplacingError, Side, Trade};
+use std::alloc::Global;
+use std::process::Abort;
+
+/// A side, a price and a quantity.
+type Placed = (Side, u64, u64);
+
+/// Places an order of which something comes to rest.
+fn put(rt: &impl Abort, book: &mut OrderBook, order: Placed, trades: &mut Vec<Trade>) -> OrderId {
+    let placed = book.place(order.0, order.1, order.2, trades);
+    let id = placed.expect(rt, "memory");
+    id.expect(rt, "an order that rests")
+}
+
+/// Replaces an order, of which something comes to rest again.
+fn put_anew(
+    rt: &impl Abort,
+    book: &mut OrderBook,
+    id: OrderId,
+    order: (u64, u64),
+    trades: &mut Vec<Trade>,
+) -> OrderId {
+    let replaced = book.replace(id, order.0, order.1, trades);
+    let id = replaced.expect(rt, "an order, and memory");
+    id.expect(rt, "an order that rests")
+}
+
+/// Whether this ask is the first, and so much is left of it.
+fn is_first_ask(book: &OrderBook, id: OrderId, quantity: u64) -> bool {
+    match book.best_ask() {
+        Some(ask) => ask.id == id && ask.quantity == quantity,
+        None => false,
+    }
+}
+
+/// Whether the trades are with these orders, each so much, all at this price.
+fn are_trades(trades: &[Trade], price: u64, wanted: &[(OrderId, u64)]) -> bool {
+    let mut left = wanted;
+    for trade in trades {
+        match left.split_first() {
+            Some((next, rest)) if (trade.order, trade.quantity) == *next => left = rest,
+            _ => return false,
+        }
+        if trade.price != price {
+            return false;
+        }
+    }
+    left.is_empty()
+}
+
+/// Whether two asks of 5 and 6 units at the price 50, of which the first is replaced by what it was, trade in the other order.
+fn goes_behind_its_equals(rt: &impl Abort, book: &mut OrderBook, trades: &mut Vec<Trade>) -> bool {
+    let a = put(rt, book, (Side::Sell, 50, 5), trades);
+    let b = put(rt, book, (Side::Sell, 50, 6), trades);
+    if !is_first_ask(book, a, 5) {
+        return false;
+    }
+    let anew = put_anew(rt, book, a, (50, 5), trades);
+    if !is_first_ask(book, b, 6) || book.get(a).is_some() {
+        return false;
+    }
+    let bid = put(rt, book, (Side::Buy, 50, 12), trades);
+    book.get(bid) == Some((50, 1)) && are_trades(trades, 50, &[(b, 6), (anew, 5)])
+}
+
+#[test]
+fn an_order_that_is_replaced_stands_behind_its_equals(rt: HostRuntime) {
+    let alloc: Global = rt.alloc();
+    let (mut book, mut trades) = (OrderBook::new(alloc), Vec::new(alloc));
+    assert!(rt; goes_behind_its_equals(&rt, &mut book, &mut trades));
+    assert!(rt; book.count(Side::Sell) == 0);
+}
+
+/// Whether a bid at 40 that is raised to 50 trades with an ask of which a part was sold already, and rests with what is left.
+fn trades_when_it_is_raised(
+    rt: &impl Abort,
+    book: &mut OrderBook,
+    trades: &mut Vec<Trade>,
+) -> bool {
+    let ask = put(rt, book, (Side::Sell, 50, 6), trades);
+    let bid = put(rt, book, (Side::Buy, 40, 7), trades);
+    let Ok(None) = book.place(Side::Buy, 50, 2, trades) else {
+        return false;
+    };
+    if !is_first_ask(book, ask, 4) {
+        return false;
+    }
+    let raised = put_anew(rt, book, bid, (50, 10), trades);
+    if book.get(raised) != Some((50, 6)) || book.get(bid).is_some() {
+        return false;
+    }
+    book.cancel(ask).is_none() && are_trades(trades, 50, &[(ask, 2), (ask, 4)])
+}
+
+#[test]
+fn a_bid_that_is_raised_trades(rt: HostRuntime) {
+    let alloc: Global = rt.alloc();
+    let (mut book, mut trades) = (OrderBook::new(alloc), Vec::new(alloc));
+    assert!(rt; trades_when_it_is_raised(&rt, &mut book, &mut trades));
+    assert!(rt; book.count(Side::Buy) == 1);
+}
+
+/// Whether an order that was cancelled can't be cancelled or replaced again, and nothing can't be ordered.
+fn is_gone(book: &mut OrderBook, id: OrderId, trades: &mut Vec<Trade>) -> bool {
+    if book.cancel(id) != Some((40, 7)) || book.cancel(id).is_some() {
+        return false;
+    }
+    if book.replace(id, 50, 1, trades) != Err(ReplacingError::NoOrder) {
+        return false;
+    }
+    book.place(Side::Buy, 50, 0, trades) == Err(PlacingError::NoQuantity)
+}
+
+#[test]
+fn an_order_that_was_cancelled_is_gone(rt: HostRuntime) {
+    let alloc: Global = rt.alloc();
+    let (mut book, mut trades) = (OrderBook::new(alloc), Vec::new(alloc));
+    let bid = put(&rt, &mut book, (Side::Buy, 40, 7), &mut trades);
+    assert!(rt; is_gone(&mut book, bid, &mut trades));
+    assert!(rt; book.count(Side::Buy) == 0);
+    assert!(rt; trades.is_empty());
+}

@@ -1,0 +1,204 @@
+//! Every sequence of up to five orders, against a plain list.
+use order_book::{Order, OrderBook, OrderId, Side, Trade};
+use std::alloc::{AllocError, Global};
+
+/// A side, a price and a quantity.
+type Placed = (Side, u64, u64);
+
+/// The order with this number, of the six that a sequence is made of.
+fn order_of(number: u32) -> Placed {
+    match number % 6 {
+        0 => (Side::Buy, 10, 2),
+        1 => (Side::Buy, 11, 3),
+        2 => (Side::Buy, u64::MAX, 1),
+        3 => (Side::Sell, 10, 2),
+        4 => (Side::Sell, 11, 4),
+        _ => (Side::Sell, 0, 1),
+    }
+}
+
+/// An order in the plain list, which is in the order of age. Of one that is filled nothing is left.
+#[derive(Clone, Copy)]
+struct Resting {
+    id: OrderId,
+    side: Side,
+    price: u64,
+    quantity: u64,
+}
+
+/// Whether the first price is better for who places an order of this side on the book.
+fn is_better(side: Side, price: u64, than: u64) -> bool {
+    match side {
+        Side::Buy => price > than,
+        Side::Sell => price < than,
+    }
+}
+
+/// Whether an order of the list trades with an order of a side at this limit.
+fn can_trade(order: &Resting, side: Side, limit: u64) -> bool {
+    order.side != side && order.quantity > 0 && !is_better(order.side, limit, order.price)
+}
+
+/// Where in the list the order stands that trades first with an order of a side: of those with the best price the oldest.
+fn best(list: &[Resting], side: Side, limit: u64) -> Option<usize> {
+    let mut found: Option<usize> = None;
+    let mut price = limit;
+    for (at, order) in list.iter().enumerate() {
+        if !can_trade(order, side, limit) {
+            continue;
+        }
+        if found.is_none() || is_better(order.side, order.price, price) {
+            found = Some(at);
+            price = order.price;
+        }
+    }
+    found
+}
+
+/// The order that trades first with an order of a side at any price.
+fn first_for(list: &[Resting], side: Side) -> Option<Order> {
+    let limit = match side {
+        Side::Buy => u64::MAX,
+        Side::Sell => 0,
+    };
+    let order = list.get(best(list, side, limit)?)?;
+    Some(Order {
+        id: order.id,
+        price: order.price,
+        quantity: order.quantity,
+    })
+}
+
+/// Trades once with the list. None where nothing there trades with this order.
+fn trade_once(list: &mut [Resting], side: Side, limit: u64, quantity: u64) -> Option<Trade> {
+    let at = best(list, side, limit)?;
+    let order = list.get_mut(at)?;
+    let quantity = quantity.min(order.quantity);
+    order.quantity -= quantity;
+    Some(Trade {
+        order: order.id,
+        price: order.price,
+        quantity,
+    })
+}
+
+/// Trades with the list, and answers what is left, where the trades are these; None where they aren't.
+fn trade(list: &mut [Resting], order: Placed, trades: &[Trade]) -> Option<u64> {
+    let (side, limit, quantity) = order;
+    let mut left = quantity;
+    for trade in trades {
+        if trade_once(list, side, limit, left) != Some(*trade) {
+            return None;
+        }
+        left = left.wrapping_sub(trade.quantity);
+    }
+    if left > 0 && best(list, side, limit).is_some() {
+        return None;
+    }
+    Some(left)
+}
+
+/// How many orders of a side rest in the list.
+fn count(list: &[Resting], side: Side) -> usize {
+    let mut count = 0usize;
+    for order in list {
+        if order.side == side && order.quantity > 0 {
+            count = count.wrapping_add(1);
+        }
+    }
+    count
+}
+
+/// Whether each order of the list rests on the book, and none that is filled.
+fn finds_each(book: &OrderBook, list: &[Resting]) -> bool {
+    for order in list {
+        let found = book.get(order.id);
+        if order.quantity == 0 && found.is_some() {
+            return false;
+        }
+        if order.quantity > 0 && found != Some((order.price, order.quantity)) {
+            return false;
+        }
+    }
+    true
+}
+
+/// Whether the book and the list have the same orders, and the same ones first.
+fn are_alike(book: &OrderBook, list: &[Resting]) -> bool {
+    if book.best_bid() != first_for(list, Side::Sell) {
+        return false;
+    }
+    if book.best_ask() != first_for(list, Side::Buy) {
+        return false;
+    }
+    if book.count(Side::Buy) != count(list, Side::Buy) {
+        return false;
+    }
+    book.count(Side::Sell) == count(list, Side::Sell) && finds_each(book, list)
+}
+
+/// No bid is at or above an ask.
+fn is_uncrossed(book: &OrderBook) -> bool {
+    match (book.best_bid(), book.best_ask()) {
+        (Some(bid), Some(ask)) => bid.price < ask.price,
+        _ => true,
+    }
+}
+
+/// Puts what is left of an order into the list, where it has a name; tells whether that is so just where something is left.
+fn rest(
+    list: &mut Vec<Resting>,
+    order: Placed,
+    id: Option<OrderId>,
+    left: u64,
+) -> Result<bool, AllocError> {
+    let Some(id) = id else {
+        return Ok(left == 0);
+    };
+    list.push(Resting {
+        id,
+        side: order.0,
+        price: order.1,
+        quantity: left,
+    })?;
+    Ok(left > 0)
+}
+
+/// Places an order on the book and in the list, and tells whether they do the same.
+fn place(
+    book: &mut OrderBook,
+    list: &mut Vec<Resting>,
+    trades: &mut Vec<Trade>,
+    order: Placed,
+) -> Result<bool, AllocError> {
+    trades.clear();
+    let Ok(id) = book.place(order.0, order.1, order.2, trades) else {
+        return Ok(false);
+    };
+    let Some(left) = trade(list, order, trades) else {
+        return Ok(false);
+    };
+    Ok(rest(list, order, id, left)? && are_alike(book, list) && is_uncrossed(book))
+}
+
+/// Whether a book does what the list does, all along the sequence with this number: its digits to the base 6 are those of its orders.
+fn is_plain(alloc: Global, number: u32) -> Result<bool, AllocError> {
+    let mut book = OrderBook::new(alloc);
+    let (mut list, mut trades) = (Vec::new(alloc), Vec::new(alloc));
+    let mut digits = number;
+    for _ in 0..5u32 {
+        if !place(&mut book, &mut list, &mut trades, order_of(digits))? {
+            return Ok(false);
+        }
+        digits /= 6;
+    }
+    Ok(true)
+}
+
+#[test]
+fn every_sequence_of_up_to_five_orders(rt: HostRuntime) -> Result<(), AllocError> {
+    for number in 0..7776u32 {
+        assert!(rt; is_plain(rt.alloc(), number)?);
+    }
+    Ok(())
+}
