@@ -182,9 +182,9 @@ fn run_questions(
     rt: &impl Abort,
     alloc: Global,
     arena: &mut SimpleOrdArena<P8, Letter>,
-    three: Three,
+    three: &Three,
 ) -> Result<(), AllocError> {
-    let Three { a, b, c } = three;
+    let Three { a, b, c } = *three;
     let mut commands = Vec::new(alloc);
     add(&mut commands, Command::Get(b))?;
     add(&mut commands, Command::First)?;
@@ -209,7 +209,7 @@ fn run_lists(
     rt: &impl Abort,
     alloc: Global,
     arena: &mut SimpleOrdArena<P8, Letter>,
-    three: Three,
+    three: &Three,
 ) -> Result<(), AllocError> {
     let mut commands = Vec::new(alloc);
     add(&mut commands, Command::List)?;
@@ -228,7 +228,7 @@ fn run_changes(
     rt: &impl Abort,
     alloc: Global,
     arena: &mut SimpleOrdArena<P8, Letter>,
-    three: Three,
+    three: &Three,
 ) -> Result<(), AllocError> {
     let mut commands = Vec::new(alloc);
     add(&mut commands, Command::Set(three.c, item(35, 'C')))?;
@@ -247,14 +247,14 @@ fn run_drain(
     rt: &impl Abort,
     alloc: Global,
     arena: &mut SimpleOrdArena<P8, Letter>,
-    c: P8,
+    three: &Three,
 ) -> Result<(), AllocError> {
     let mut commands = Vec::new(alloc);
     add(&mut commands, Command::Check)?;
     add(&mut commands, Command::DrainOrdered(2))?;
     let replies = replies_to(rt, alloc, arena, commands)?;
     assert!(rt; matches!(replies.get(0), Some(Reply::Sorted(true))));
-    assert_eq!(rt; entry_at(&replies, 1, 0), Some((c, item(35, 'C'))));
+    assert_eq!(rt; entry_at(&replies, 1, 0), Some((three.c, item(35, 'C'))));
     assert_eq!(rt; entry_at(&replies, 1, 1), None);
     assert_eq!(rt; arena.len(), 0);
     Ok(())
@@ -265,10 +265,10 @@ fn run_drain(
 fn runs_one_after_another(rt: HostRuntime) -> Result<(), Fail> {
     let mut arena = SimpleOrdArena::new(rt.alloc());
     let three = run_insertions(&rt, rt.alloc(), &mut arena)?;
-    run_questions(&rt, rt.alloc(), &mut arena, three)?;
-    run_lists(&rt, rt.alloc(), &mut arena, three)?;
-    run_changes(&rt, rt.alloc(), &mut arena, three)?;
-    run_drain(&rt, rt.alloc(), &mut arena, three.c)?;
+    run_questions(&rt, rt.alloc(), &mut arena, &three)?;
+    run_lists(&rt, rt.alloc(), &mut arena, &three)?;
+    run_changes(&rt, rt.alloc(), &mut arena, &three)?;
+    run_drain(&rt, rt.alloc(), &mut arena, &three)?;
     Ok(())
 }
 
