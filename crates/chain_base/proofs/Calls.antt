@@ -84,8 +84,7 @@ module _ {T : Type 0} where
         pub Removes-linked : (a1 b : Arena (Link T)) (first2 last2 : Option ℕ) → a1 ≡ arena_removed greatest a i
             → b ≡ bridged a1 prev (named_of most next) next (named_of most prev)
             → first2 ≡ end_beside prev first next → last2 ≡ end_beside next last prev → Lies b first2 last2 (removed greatest (chain_of a first) i)
-        Removes-linked a1 b first2 last2 without joined first_is last_is =
-            rw (joined, first_is, last_is, without, prev_is, next_is, named_prev, named_next) (Removes-joined a first last laid greatest i e at)
+        Removes-linked a1 b first2 last2 without joined first_is last_is = grind (arith, common_steps, Removes-joined)
 
     -- a call that renews an entry, or changes nothing
     pub renewed-or_kept : {X : Type 0} (greatest : Option ℕ) (b : Arena (Link T)) (i : ℕ) (o : Option X) → OnSome o (b ≡ arena_renewed greatest a i)

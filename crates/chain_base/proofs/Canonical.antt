@@ -175,20 +175,7 @@ module _ {T : Type 0} where
 
   pub canonical-begins : (most : ℕ) (greatest : Option ℕ) (c c1 : Chain T) (g : ℕ) (at : Option ℕ) → IsSound most greatest c → c1 ≡ relocated c g → at ≡ first_or None c1.entries
       → CanonicalBelow (relocated c g) g (length c.entries) (map (λ e. e.item) c.entries) c1 at 0
-  canonical-begins most greatest c c1 g at sound is first =
-      rw is (record {
-        done = [];
-        rest = map (at_compressed_index c.entries g) c.entries;
-        so_far = refl;
-        split = refl;
-        left = sym (relocated-items c.entries c.entries g);
-        number = length-map c.entries (λ e. e.item);
-        indexes = relocated-indexes most greatest c sound g _ (length-map c.entries (λ e. e.item));
-        even = relocated-eras c.entries c.entries g;
-        at_is = first ∙ ap (λ (d : Chain T). first_or None d.entries) is;
-        kept = refl;
-        era = refl;
-      })
+  canonical-begins most greatest c c1 g at sound is first = grind (arith, common_steps, relocated-items, length-map, relocated-indexes, relocated-eras)
 
   module _ {c : Chain T} {g n : ℕ} {items : List T} {now : Chain T} {at : Option ℕ} {k : ℕ} (b : CanonicalBelow c g n items now at k) where
     distinct : IsDistinct now.entries
@@ -218,8 +205,7 @@ module _ {T : Type 0} where
       whole = b.split ∙ ap (λ fs. numbered g 1 b.done ++ fs) met.here
 
       counted : times met.entry.index now.entries ≡ times met.entry.index (numbered g 1 b.done) + (1 + times met.entry.index met.behind)
-      counted = ap (times met.entry.index) whole ∙ times-append met.entry.index (numbered g 1 b.done) (met.entry ∷ met.behind)
-          ∙ ap (λ m. times met.entry.index (numbered g 1 b.done) + m) (times-here met.entry.index met.entry met.behind refl)
+      counted = grind (arith, common_steps, met, whole, times-append, times-here)
 
       pub met-at : at ≡ Some met.entry.index
       met-at = b.at_is ∙ ap (first_or None) met.here
@@ -239,10 +225,7 @@ module _ {T : Type 0} where
           (ap (λ fs. entry_at fs met.entry.index) whole ∙ entry_at-split (numbered g 1 b.done) met.entry met.behind met.entry.index refl unmet)
 
       apart : (m : ℕ) → 1 ≤ m → m < 1 + length b.done → (m ≢ met.entry.index) × (m ≢ k + 1)
-      apart m above below = (
-        λ same. let is = times-numbered g 1 b.done met.entry.index in grind (arith, nat_tests, unmet),
-        λ same. let far = b.so_far in absurd (omega arith),
-      )
+      apart m above below = grind (arith, common_steps, times-numbered, met, unmet)
 
       pub canonical-step : (next : Chain T) (after : Option ℕ) → next ≡ exchanged now met.entry.index (k + 1) → after ≡ index_after next.entries (k + 1) → CanonicalBelow c g n items next after (k + 1)
       canonical-step next after is goes =
@@ -283,18 +266,7 @@ module _ {T : Type 0} where
   -- at last all have
   pub canonical-ends : (most : ℕ) (greatest : Option ℕ) (c : Chain T) (g : ℕ) (now : Chain T) (at : Option ℕ) (k : ℕ) → IsSound most greatest c → length c.entries ≤ k
       → CanonicalBelow (relocated c g) g (length c.entries) (map (λ e. e.item) c.entries) now at k → now ≡ canonical c g
-  canonical-ends most greatest c g now at k sound past b =
-      let items = map (λ (e : Entry T). e.item) c.entries in
-      let none : b.rest ≡ [] = nothing b.rest (omega (arith, lengths b, b.so_far)) in
-      let all : items ≡ b.done = b.left ∙ (ap (λ fs. b.done ++ map (λ e. e.item) fs) none ∙ append-nil b.done) in
-      let entries : now.entries ≡ numbered g 1 items = b.split ∙ (ap (λ fs. numbered g 1 b.done ++ fs) none ∙ (append-nil (numbered g 1 b.done) ∙ ap (numbered g 1) (sym all))) in
-      let vacant : vacant_indexes (map (at_compressed_index c.entries g) c.entries) c.capacity ≡ vacant_indexes (numbered g 1 items) c.capacity =
-      vacant-same (map (at_compressed_index c.entries g) c.entries) (numbered g 1 items) (relocated-indexes most greatest c sound g items (length-map c.entries (λ e. e.item))) c.capacity 1 in
-      b.kept ∙ rw (entries, vacant) refl
-    where
-      nothing : (fs : List (Entry T)) → length fs ≡ 0 → fs ≡ []
-      nothing [] none = refl
-      nothing (f ∷ fs) none = absurd (omega arith)
+  canonical-ends most greatest c g now at k sound past b = grind (arith, common_steps, lengths, append-nil, vacant-same, relocated-indexes, length-map)
 
 -- an index that a chosen one is
 pub chosen : {I : Type 0} (number : I → ℕ) (o : Option I) (k : ℕ) → option_map number o ≡ Some k → is_some o ≡ true

@@ -51,16 +51,7 @@ module _ {T U : Type 0} where
   alike-pointers [] [] same = record { first = λ d. refl; last = λ d. refl; count = λ i. refl; long = refl }
   alike-pointers [] (f ∷ fs) same = absurd cc
   alike-pointers (e ∷ es) [] same = absurd cc
-  alike-pointers (e ∷ es) (f ∷ fs) same =
-      let more = alike-pointers es fs cc in
-      let pair : ◌≡◌ {A = ℕ × ℕ} (e.index, e.generation) (f.index, f.generation) = cc in
-      let index : e.index ≡ f.index = ap (λ (p : ℕ × ℕ). p.0) pair in
-      record {
-        first = λ d. ap Some index;
-        last = λ d. ap (λ i. last_or (Some i) es) index ∙ more.last (Some f.index);
-        count = λ i. rw (index, more.count i) refl;
-        long = ap suc more.long;
-      }
+  alike-pointers (e ∷ es) (f ∷ fs) same = grind (arith, common_steps, alike-pointers es fs)
 
   -- the entries of a list, with what stands at their indexes
   abbrev relisted : (ℕ → Option (ℕ × Link T)) → List (Entry U) → List (Entry T)
@@ -70,26 +61,11 @@ module _ {T U : Type 0} where
   module _ (at : ℕ → Option (ℕ × Link T)) (at0 : ℕ → Option (ℕ × Link U)) (same : (i : ℕ) → frame (at i) ≡ frame (at0 i)) where
     row-relisted : (before : Option ℕ) (es : List (Entry U)) → IsRow at0 before es → IsRow at before (relisted at es) × (pointers (relisted at es) ≡ pointers es)
     row-relisted before [] row = (tt, refl)
-    row-relisted before (e ∷ es) row = by (at e.index) refl (same e.index ∙ ap frame row.0) (row-relisted (Some e.index) es row.1)
-      where
-        by : (o : Option (ℕ × Link T)) → at e.index ≡ o → frame o ≡ Some (e.generation, before, first_or None es)
-            → IsRow at (Some e.index) (relisted at es) × (pointers (relisted at es) ≡ pointers es)
-            → IsRow at before (relisted at (e ∷ es)) × (pointers (relisted at (e ∷ es)) ≡ pointers (e ∷ es))
-        by None is kept more = absurd (none-some _ kept)
-        by (Some d) is kept more =
-            let next = (alike-pointers (relisted at es) es more.1).first None in
-            let whole : ◌≡◌ {A = ℕ × Option ℕ × Option ℕ} (d.0, d.1.prev, d.1.next) (e.generation, before, first_or None es) = cc in
-            let prev : d.1.prev ≡ before = ap (λ (x : ℕ × Option ℕ × Option ℕ). x.1) whole in
-            let behind : d.1.next ≡ first_or None es = ap (λ (x : ℕ × Option ℕ × Option ℕ). x.2) whole in
-            let era : d.0 ≡ e.generation = ap (λ (x : ℕ × Option ℕ × Option ℕ). x.0) whole in
-            rw is ((is ∙ rw (← prev, next, ← behind) refl, more.0), rw era (ap (λ ps. (e.index, e.generation) ∷ ps) more.1))
+    row-relisted before (e ∷ es) row = grind (arith, common_steps, row-relisted (Some e.index) es row.1, row, IsRow, alike-pointers)
 
     row-links : (before : Option ℕ) (es : List (Entry T)) → IsRow at before es → (i : ℕ) → 1 ≤ times i es → at i ≡ link_between before None es i
     row-links before [] row i there = absurd (omega arith)
-    row-links before (e ∷ es) row i there = elim (eqb_tells e.index i) [
-      | inl h ↦ rw h.0 (ap at (sym h.1) ∙ row.0)
-      | inr h ↦ rw h.0 (row-links (Some e.index) es row.1 i (let more = rw h.0 at there in omega arith))
-    ]
+    row-links before (e ∷ es) row i there = grind (arith, common_steps, row-links (Some e.index) es row.1 i, row)
 
   -- slots with items have the source's generations and neighbours
   with_items-frame : (i : ℕ) (slots : List (Option (ℕ × Link U))) (items : List (Link T)) → map ends_of items ≡ map (λ (e : ℕ × ℕ × Link U). ends_of e.2) (entries_from i slots)
@@ -260,18 +236,10 @@ refused-chain {T} a0 first last laid a b first1 is =
 module _ {T U : Type 0} (a0 : Arena (Link U)) (a b : Arena (Link T)) (first last : Option ℕ) (laid : IsLaidOut a.slots first last (chain_of a first).entries)
     (r : Result (Unit {0}) ReallocationError) (e : ReallocationError) (is : r ≡ Err e) (beyond : r ≡ Err BeyondMaxCapacity → b ≡ a) {A B : Type 0} (stops : B → b ≡ replaced a0 a []) (memory : r ≡ Err NoMemory → (A × (b ≡ a)) ⊎ B) where
   left : (b ≡ a) ⊎ (b ≡ replaced a0 a [])
-  left = by e is
-    where
-      by : (e : ReallocationError) → r ≡ Err e → (b ≡ a) ⊎ (b ≡ replaced a0 a [])
-      by BeyondMaxCapacity is = inl (beyond is)
-      by NoMemory is = elim (memory is) [ inl kept ↦ inl kept.1 | inr refused ↦ inr (stops refused) ]
+  left = grind (arith, common_steps, beyond)
 
   no-ends : arena_len a ≡ 0 → (first ≡ None) × (last ≡ None)
-  no-ends none = by (chain_of a first).entries (sym laid.counted ∙ none) laid.first_is laid.last_is
-    where
-      by : (es : List (Entry T)) → length es ≡ 0 → first ≡ first_or None es → last ≡ last_or None es → (first ≡ None) × (last ≡ None)
-      by [] empty f l = (f, l)
-      by (e ∷ es) empty f l = absurd (omega arith)
+  no-ends none = grind (arith, common_steps)
 
   counts-none : (arena_len b == 0) ≡ true → arena_len b ≡ 0
   counts-none empty = elim (eqb_tells (arena_len b) 0) [ inl h ↦ h.1 | inr h ↦ absurd (false≢true (sym h.0 ∙ empty)) ]
@@ -300,5 +268,4 @@ module _ {P T U M F : Type 0} (numbers : P → ℕ × ℕ) (below : M → P → 
 pub refusal-restated : {P T U M F : Type 0} (numbers : P → ℕ × ℕ) (below : M → P → Link U → Result T AllocError → M → Type 0) (above : F → P → Link U → Result T AllocError → F → Type 0) (state : M → F)
     → ((m : M) (p : P) (u : Link U) (r : Result T AllocError) (n : M) → below m p u r n → above (state m) p u r (state n))
     → (m : M) (source : Chain U) (old new : Chain T) → IsRefusedClone numbers below m source old new → IsRefusedClone numbers above (state m) source old new
-refusal-restated numbers below above state like m source old new c =
-    record { stops = stops-restated numbers below above state like m (links_rising source) c.stops; after = c.after }
+refusal-restated numbers below above state like m source old new c = grind (arith, common_steps, stops-restated)

@@ -65,8 +65,7 @@ module _ {T : Type 0} where
 
   pub can_exchange : (a : Arena (Link T)) (first last : Option ℕ) (c : Chain T) (i j : ℕ) → chain_of a first ≡ c → IsLaidOut a.slots first last (chain_of a first).entries
       → IsOccupied c i → IsOccupied c j → IsEven c → CanExchange a first last c i j
-  can_exchange a first last c i j seen laid at_i at_j even =
-      record { laid = subst (λ (d : Chain T). IsLaidOut a.slots first last d.entries) seen laid; seen = seen; at_i = at_i; at_j = at_j; even = even }
+  can_exchange a first last c i j seen laid at_i at_j even = grind (arith, common_steps)
 
   module _ {a0 : Arena (Link T)} {first last : Option ℕ} {c : Chain T} {i j : ℕ} (can : CanExchange a0 first last c i j) where
     abbrev es : List (Entry T)

@@ -66,8 +66,7 @@ module _ {T : Type 0} where
   bridged a left next right prev = linked_prev (linked_next a left next) right prev
 
   pub alike-bridged : (a : Arena (Link T)) (left next right prev : Option ℕ) → Alike (bridged a left next right prev) a
-  alike-bridged a left next right prev =
-      alike-prev (linked_next a left next) a _ right prev refl (alike-next a a _ left next refl (record { held = λ k. refl; long = refl; kept = refl }))
+  alike-bridged a left next right prev = grind (arith, common_steps, alike-prev, alike-next)
 
   -- the two writes of a seam change nothing at an index that stands on neither side
   relinked-apart : (xs ys : List (Entry T)) (next prev : Option ℕ) (i : ℕ) (o : Option (ℕ × Link T)) → times i xs ≡ 0 → times i ys ≡ 0 → relinked (last_or None xs) next (first_or None ys) prev i o ≡ o

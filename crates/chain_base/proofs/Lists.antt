@@ -201,8 +201,7 @@ module _ {T : Type 0} where
   pub IsRow-links : (at : ℕ → Option (ℕ × Link T)) (before : Option ℕ) (es : List (Entry T)) → ((i : ℕ) → times i es ≤ 1)
       → ((i : ℕ) → 1 ≤ times i es → at i ≡ link_between before None es i) → IsRow at before es
   IsRow-links at before [] once holds = tt
-  IsRow-links at before (e ∷ es) once holds =
-      grind (arith, common_steps, IsRow-links at (Some e.index) es, other_index, same_index, times-here)
+  IsRow-links at before (e ∷ es) once holds = grind (arith, common_steps, IsRow-links at (Some e.index) es, other_index, same_index, times-here)
 
   pub walk-row : (at : ℕ → Option (ℕ × Link T)) (before : Option ℕ) (es : List (Entry T)) (n : ℕ) → length es ≤ n → IsRow at before es → walk at n (first_or None es) ≡ es
   walk-row at before [] zero fits row = refl

@@ -55,10 +55,7 @@ module _ {T : Type 0} where
 
 -- one slot more is counted
 count-next : {X : Type 0} (slots : List (Option X)) (i : ℕ) → count_by is_some (take (i + 1) slots) ≡ count_by is_some (take i slots) + cond (is_some (get_or slots i None)) 1 0
-count-next slots i = elim (leb_tells (suc i) (length slots)) [
-  | inl h ↦ sum_by_more (λ o. cond (is_some o) 1 0) slots i None (omega (arith, h.1))
-  | inr h ↦ rw (take_all (i + 1) slots (omega (arith, h.1)), take_all i slots (omega (arith, h.1)), get_or_past slots i None (omega (arith, h.1))) (omega arith)
-]
+count-next slots i = grind (arith, common_steps, sum_by_more, take_all, get_or_past)
 
 module _ {X T : Type 0} where
   -- the slots count as the list does

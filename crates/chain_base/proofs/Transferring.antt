@@ -105,9 +105,7 @@ module _ {T : Type 0} where
       ∙ rw (all from (omega arith) (omega arith)) (vacant-none es (from + 1) n m (λ j more less. all j (omega (arith, more)) (omega (arith, less))) ∙ ap (λ i. vacant_among es i m) later)
 
   vacant-numbered : (g : ℕ) (xs : List T) (m : ℕ) → vacant_among (numbered g 1 xs) 1 (length xs + m) ≡ vacant_among {T = T} [] (1 + length xs) m
-  vacant-numbered g xs m =
-      vacant-none (numbered g 1 xs) 1 (length xs) m (λ j more less. let is = times-numbered g 1 xs j in grind (arith, nat_tests))
-      ∙ vacant-all (numbered g 1 xs) (1 + length xs) m (λ j more. let is = times-numbered g 1 xs j in grind (arith, nat_tests))
+  vacant-numbered g xs m = grind (arith, common_steps, vacant-none, times-numbered, vacant-all)
 
   pub vacant-next : (c : Chain T) (items : List T) (x : T) → length items < c.capacity → (filled_with c items).vacant ≡ (1 + length items) ∷ (filled_with c (items ++ x ∷ [])).vacant
   vacant-next c items x less =
@@ -121,10 +119,7 @@ module _ {T : Type 0} where
   -- one more
   pub filled-more : (c : Chain T) (items : List T) (x : T) (place : Entry T → List (Entry T)) → length items < c.capacity
       → ((new : Entry T) → place new ≡ numbered c.generation 1 items ++ new ∷ []) → inserted (filled_with c items) place x ≡ filled_with c (items ++ x ∷ [])
-  filled-more c items x place less puts =
-      rw (vacant-next c items x less)
-      (ap (λ (es : List (Entry T)). record { entries = es; capacity = c.capacity; vacant = (filled_with c (items ++ x ∷ [])).vacant; generation = c.generation; maximum = c.maximum })
-      (puts (record { index = 1 + length items; generation = c.generation; item = x }) ∙ sym (numbered-push c.generation 1 items x)))
+  filled-more c items x place less puts = grind (arith, common_steps, vacant-next, numbered-push)
 
   -- there is room
   length-numbered : (g from : ℕ) (xs : List T) → length (numbered g from xs) ≡ length xs

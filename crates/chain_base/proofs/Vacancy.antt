@@ -41,20 +41,11 @@ module _ {X : Type 0} where
   greatest-held : (xs : List (Option X)) → list_any is_some xs ≡ true → is_some (get_or xs (greatest_occupied xs) None) ≡ true
   greatest-held [] some = absurd (cc)
   greatest-held (None ∷ xs) some = let any : list_any is_some xs ≡ true = some in rw (any, add-one) (greatest-held xs some)
-  greatest-held (Some x ∷ xs) some = by (list_any is_some xs) refl (λ any. greatest-held xs any)
-    where
-      by : (b : Bool) → list_any is_some xs ≡ b → (list_any is_some xs ≡ true → is_some (get_or xs (greatest_occupied xs) None) ≡ true)
-          → is_some (get_or (Some x ∷ xs) (greatest_occupied (Some x ∷ xs)) None) ≡ true
-      by true is behind = rw (is, add-one) (behind is)
-      by false is behind = rw is refl
+  greatest-held (Some x ∷ xs) some = grind (arith, common_steps, greatest-held xs)
 
   pub greatest-or_none : (xs : List (Option X)) → (greatest_occupied xs ≡ 0) ⊎ (is_some (get_or xs (greatest_occupied xs) None) ≡ true)
   greatest-or_none [] = inl refl
-  greatest-or_none (x ∷ xs) = by (list_any is_some xs) refl
-    where
-      by : (b : Bool) → list_any is_some xs ≡ b → (greatest_occupied (x ∷ xs) ≡ 0) ⊎ (is_some (get_or (x ∷ xs) (greatest_occupied (x ∷ xs)) None) ≡ true)
-      by true is = inr (rw (is, add-one) (greatest-held xs is))
-      by false is = inl (rw is refl)
+  greatest-or_none (x ∷ xs) = grind (arith, common_steps, greatest-held)
 
   resized-cons : (n : ℕ) (x : Option X) (xs : List (Option X)) → resized (suc n) (x ∷ xs) ≡ x ∷ resized n xs
   resized-cons n x xs = let same : suc n - suc (length xs) ≡ n - length xs = omega arith in rw same refl
