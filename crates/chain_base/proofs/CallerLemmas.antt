@@ -6,7 +6,7 @@ use Rattle.std.proofs.lemmas.Option.{slice_get_cases, slice_get_within, get_or_f
 use Rattle.std.specs.Option.{option_map}
 use Rattle.chain_base.specs.Chain.{Entry, times, IsDistinct, entry_at, insert_after, insert_before, without, with_item_among, with_generation}
 use Rattle.chain_base.specs.Compression.{lesser, compressed_index, moved, at_compressed_index, numbered}
-use Rattle.chain_base.proofs.Lists.{Stands-occurs, insert_after-split, insert_before-split, with_item_among-changed_at, with_generation-changed_at, entry_at-changed_at_other, entry_at-changed_at, length-changed_at}
+use Rattle.chain_base.proofs.Lists.{Stands-occurs, with_item_among-changed_at, with_generation-changed_at, entry_at-changed_at_other, entry_at-changed_at, same-changed_at}
 use Rattle.chain_base.proofs.Canonical.{entry-absent}
 use Rattle.chain_base.proofs.Ranking.{place-found, place-injective}
 use Rattle.chain_base.proofs.Renumbering.{times-source}
@@ -27,8 +27,7 @@ pub use Rattle.chain_base.proofs.Vacancy.{below-greatest, greatest-or_none, time
 pub use Rattle.chain_base.proofs.Room.{inserted-capacity}
 -- entries at their places by rising index have the items that they had
 pub use Rattle.chain_base.proofs.Canonical.{relocated-items}
--- lists of the same pointers, and what the calls of a clone keep of the items
-pub use Rattle.chain_base.proofs.Cloning.{Alike, alike-pointers}
+-- what the calls of a clone keep of the items
 pub use Rattle.chain_base.proofs.CloneKept.{clone-kept, clone-same, refused-some}
 
 module _ {T : Type 0} where
@@ -56,7 +55,7 @@ module _ {T : Type 0} where
   entry_at-with_item_among es i item = rw (with_item_among-changed_at es i item) (entry_at-changed_at (λ p. (p.0, item)) es i)
 
   pub length-with_item_among : (es : List (Entry T)) (i : ℕ) (item : T) → length (with_item_among es i item) ≡ length es
-  length-with_item_among es i item = rw (with_item_among-changed_at es i item) (length-changed_at (λ p. (p.0, item)) es i)
+  length-with_item_among es i item = rw (with_item_among-changed_at es i item) (same-changed_at (λ p. (p.0, item)) es i).long
 
   -- with another generation at an index, every other index finds what it found
   pub entry_at-with_generation_other : (es : List (Entry T)) (i j g : ℕ) → j ≢ i → entry_at (with_generation es i g) j ≡ entry_at es j
@@ -67,7 +66,7 @@ module _ {T : Type 0} where
   entry_at-with_generation es i g = rw (with_generation-changed_at es i g) (entry_at-changed_at (λ p. (g, p.1)) es i)
 
   pub length-with_generation : (es : List (Entry T)) (i g : ℕ) → length (with_generation es i g) ≡ length es
-  length-with_generation es i g = rw (with_generation-changed_at es i g) (length-changed_at (λ p. (g, p.1)) es i)
+  length-with_generation es i g = rw (with_generation-changed_at es i g) (same-changed_at (λ p. (g, p.1)) es i).long
 
   -- with a new entry between two stretches, every other index finds what it found
   pub entry_at-between_other : (front : List (Entry T)) (new : Entry T) (back : List (Entry T)) (j : ℕ) → j ≢ new.index → entry_at (front ++ new ∷ back) j ≡ entry_at (front ++ back) j
@@ -88,19 +87,14 @@ module _ {T : Type 0} where
   pub insert_after-between : (es : List (Entry T)) (i : ℕ) → IsSome (entry_at es i)
       → (front : List (Entry T)) × (back : List (Entry T)) × (es ≡ front ++ back) × ((new : Entry T) → insert_after i new es ≡ front ++ new ∷ back)
   insert_after-between es i there =
-      let s = Stands-occurs es i (entry-occurs es i there) in (
-        s.front ++ s.entry ∷ [],
-        s.back,
-        s.split ∙ sym (append_assoc s.front (s.entry ∷ []) s.back),
-        λ new. ap (insert_after i new) s.split ∙ insert_after-split s.front s.entry new s.back i s.here s.unmet ∙ sym (append_assoc s.front (s.entry ∷ []) (new ∷ s.back)),
-      )
+      let s = Stands-occurs es i (entry-occurs es i there) in
+      let behind = λ (xs : List (Entry T)). append_assoc s.front (s.entry ∷ []) xs in
+      (s.front ++ s.entry ∷ [], s.back, s.split ∙ sym (behind s.back), λ new. s.after new ∙ sym (behind (new ∷ s.back)))
 
   -- and so directly before it
   pub insert_before-between : (es : List (Entry T)) (i : ℕ) → IsSome (entry_at es i)
       → (front : List (Entry T)) × (back : List (Entry T)) × (es ≡ front ++ back) × ((new : Entry T) → insert_before i new es ≡ front ++ new ∷ back)
-  insert_before-between es i there =
-      let s = Stands-occurs es i (entry-occurs es i there) in
-      (s.front, s.entry ∷ s.back, s.split, λ new. ap (insert_before i new) s.split ∙ insert_before-split s.front s.entry new s.back i s.here s.unmet)
+  insert_before-between es i there = let s = Stands-occurs es i (entry-occurs es i there) in (s.front, s.entry ∷ s.back, s.split, s.before)
 
 module _ {T : Type 0} where
   -- among entries numbered in a row, each number finds the item of its place

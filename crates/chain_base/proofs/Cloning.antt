@@ -21,7 +21,7 @@ use Rattle.chain_base.specs.Compression.{lesser}
 use Rattle.chain_base.specs.Walk.{pointers}
 use Rattle.chain_base.specs.Clone.{links_among, links_rising, HasItems, taken_over, ClonesLink, IsClone, IsRefusedClone}
 use Rattle.chain_base.specs.Layout.{chain_of, met, IsLaidOut}
-use Rattle.chain_base.proofs.Lists.{option_map-itself, IsRow, IsRow-links, link_between-absent, entry_at-link}
+use Rattle.chain_base.proofs.Lists.{option_map-itself, IsRow, IsRow-links, link_between-absent, entry_at-link, SameIndexes}
 use Rattle.chain_base.proofs.LaidOut.{laid-links, IsLaidOut-walked}
 use Rattle.chain_base.proofs.Ranking.{place-slots, among-arena}
 use Rattle.chain_base.proofs.Vacancy.{HoldIndexes, held-some, held-is, get_or-resized, length-resized, vacant-held, greatest-links, past-greatest}
@@ -41,14 +41,8 @@ unframed (Some e) is = absurd (none-some _ (sym is))
 
 module _ {T U : Type 0} where
   -- lists of the same pointers
-  pub record Alike (es : List (Entry T)) (fs : List (Entry U)) : Type 0 where
-    pub first : (d : Option ℕ) → first_or d es ≡ first_or d fs
-    pub last : (d : Option ℕ) → last_or d es ≡ last_or d fs
-    pub count : (i : ℕ) → times i es ≡ times i fs
-    pub long : length es ≡ length fs
-
-  pub alike-pointers : (es : List (Entry T)) (fs : List (Entry U)) → pointers es ≡ pointers fs → Alike es fs
-  alike-pointers [] [] same = record { first = λ d. refl; last = λ d. refl; count = λ i. refl; long = refl }
+  pub alike-pointers : (es : List (Entry T)) (fs : List (Entry U)) → pointers es ≡ pointers fs → SameIndexes es fs
+  alike-pointers [] [] same = grind (arith, common_steps)
   alike-pointers [] (f ∷ fs) same = absurd cc
   alike-pointers (e ∷ es) [] same = absurd cc
   alike-pointers (e ∷ es) (f ∷ fs) same = grind (arith, common_steps, alike-pointers es fs)
@@ -95,7 +89,7 @@ module _ {T U : Type 0} where
     row : IsRow at None (relisted at es) × (pointers (relisted at es) ≡ pointers es)
     row = row-relisted at (λ i. get_or slots0 i None) same None es (IsRow-links (λ i. get_or slots0 i None) None es laid.distinct (λ i there. laid.links i))
 
-    alike : Alike (relisted at es) es
+    alike : SameIndexes (relisted at es) es
     alike = alike-pointers (relisted at es) es row.1
 
     laid-relisted : IsLaidOut slots first last (relisted at es)

@@ -8,7 +8,7 @@ use Rattle.chain_base.specs.Link.{Link}
 use Rattle.chain_base.specs.Chain.{Entry, IsDistinct, times, first_or, last_or, link_at, with_item_among, with_generation}
 use Rattle.chain_base.specs.Layout.{chain_of, walk, names, linked_next, linked_prev, relinked, IsLaidOut}
 use Rattle.chain_base.proofs.Lists.{names_tells, same_index, times-append, times-inserted, times-here, times-there, times-last, times-first, first_or-append, last_or-append, link_between-append, link_between-absent}
-use Rattle.chain_base.proofs.Lists.{times-unlinked, seam-relinked, IsRow-links, walk-row, changed_at, changed_link, with_item_among-changed_at, with_generation-changed_at, link_between-changed_at, times-changed_at, first_or-changed_at, last_or-changed_at}
+use Rattle.chain_base.proofs.Lists.{times-unlinked, seam-relinked, IsRow-links, walk-row, changed_at, changed_link, with_item_among-changed_at, with_generation-changed_at, link_between-changed_at, same-changed_at}
 use Rattle.chain_base.proofs.Vacancy.{held-links}
 use Rattle.chain_base.proofs.Ranking.{counted-held}
 
@@ -138,8 +138,9 @@ module _ {T : Type 0} where
     IsLaidOut-changed_at : (f : ℕ × T → ℕ × T) → IsLaidOut a.slots first last es
         → IsLaidOut (with_slot a i (option_map (changed_link f) (slot a i))).slots first last (changed_at f es i)
     IsLaidOut-changed_at f laid =
-        laid-links _ _ _ _ (λ k. slot-mapped a i k _ ∙ rw (laid.links k) (sym (link_between-changed_at f None None es i k))) (λ k. omega (arith, times-changed_at f k es i, laid.distinct k))
-        (laid.first_is ∙ sym (first_or-changed_at f None es i)) (laid.last_is ∙ sym (last_or-changed_at f None es i))
+        let same = same-changed_at f es i in
+        laid-links _ _ _ _ (λ k. slot-mapped a i k _ ∙ rw (laid.links k) (sym (link_between-changed_at f None None es i k))) (λ k. omega (arith, same.count k, laid.distinct k))
+        (laid.first_is ∙ sym (same.first None)) (laid.last_is ∙ sym (same.last None))
 
     -- an item is written
     pub IsLaidOut-with_item_among : (item : T) → IsLaidOut a.slots first last es

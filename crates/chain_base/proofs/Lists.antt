@@ -19,6 +19,13 @@ pub names_tells : (o : Option ℕ) (i : ℕ) → ((names o i ≡ true) × (o ≡
 names_tells None i = inr (refl, λ h. cc)
 names_tells (Some j) i = grind (arith, common_steps, i)
 
+-- lists of the same indexes
+pub record SameIndexes {T U : Type 0} (es : List (Entry T)) (fs : List (Entry U)) : Type 0 where
+  pub first : (d : Option ℕ) → first_or d es ≡ first_or d fs
+  pub last : (d : Option ℕ) → last_or d es ≡ last_or d fs
+  pub count : (i : ℕ) → times i es ≡ times i fs
+  pub long : length es ≡ length fs
+
 -- an index is itself
 pub same_index : (i : ℕ) → (i == i) ≡ true
 same_index i = grind (arith, nat_tests)
@@ -88,31 +95,21 @@ module _ {T : Type 0} where
   pub linked-occurs : (es : List (Entry T)) (i : ℕ) (e : ℕ × Link T) → link_at es i ≡ Some e → 1 ≤ times i es
   linked-occurs es i e is = grind (arith, common_steps, i, link_between-absent)
 
-  -- an index that is not the last sees no change at the far end
-  pub link_between-other_after : (before after other : Option ℕ) (es : List (Entry T)) (i : ℕ) → last_or None es ≢ Some i → link_between before other es i ≡ link_between before after es i
-  link_between-other_after before after other [] i unlast = refl
-  link_between-other_after before after other (e ∷ []) i unlast = grind (arith, common_steps)
-  link_between-other_after before after other (e ∷ f ∷ es) i unlast = grind (arith, common_steps, link_between-other_after (Some e.index) after other (f ∷ es) i unlast)
+  -- another far end is seen by the last index alone
+  pub link_between-after : (before after other : Option ℕ) (es : List (Entry T)) (i : ℕ) → times i es ≤ 1
+      → link_between before other es i ≡ (let o = link_between before after es i in if names (last_or None es) i then option_map (with_next other) o else o)
+  link_between-after before after other [] i once = refl
+  link_between-after before after other (e ∷ []) i once = grind (arith, common_steps)
+  link_between-after before after other (e ∷ f ∷ es) i once =
+      grind (arith, common_steps, link_between-after (Some e.index) after other (f ∷ es) i, times-last (f ∷ es) i, names_tells (last_or None (f ∷ es)) i)
 
-  -- the last index sees the new far end
-  pub link_between-last : (before after other : Option ℕ) (es : List (Entry T)) (i : ℕ) → times i es ≤ 1 → last_or None es ≡ Some i
-      → link_between before other es i ≡ option_map (with_next other) (link_between before after es i)
-  link_between-last before after other [] i once last = refl
-  link_between-last before after other (e ∷ []) i once last = grind (arith, common_steps)
-  link_between-last before after other (e ∷ f ∷ es) i once last = grind (arith, common_steps, link_between-last (Some e.index) after other (f ∷ es) i, times-last (f ∷ es) i last)
+  -- another near end is seen by the first index alone
+  pub link_between-before : (before after other : Option ℕ) (es : List (Entry T)) (i : ℕ)
+      → link_between other after es i ≡ (let o = link_between before after es i in if names (first_or None es) i then option_map (with_prev other) o else o)
+  link_between-before before after other [] i = refl
+  link_between-before before after other (e ∷ es) i = grind (arith, common_steps)
 
-  -- an index that is not the first sees no change at the near end
-  pub link_between-other_before : (before other after : Option ℕ) (es : List (Entry T)) (i : ℕ) → first_or None es ≢ Some i → link_between other after es i ≡ link_between before after es i
-  link_between-other_before before other after [] i unfirst = refl
-  link_between-other_before before other after (e ∷ es) i unfirst = grind (arith, common_steps)
-
-  -- the first index sees the new near end
-  pub link_between-first : (before other after : Option ℕ) (es : List (Entry T)) (i : ℕ) → first_or None es ≡ Some i
-      → link_between other after es i ≡ option_map (with_prev other) (link_between before after es i)
-  link_between-first before other after [] i first = refl
-  link_between-first before other after (e ∷ es) i first = grind (arith, common_steps)
-
-  -- where an index stands in a list, for the first time
+  -- where an index stands in a list, for the first time, and what becomes of the list by a change there
   pub record Stands (es : List (Entry T)) (i : ℕ) : Type 0 where
     pub front : List (Entry T)
     pub entry : Entry T
@@ -120,26 +117,39 @@ module _ {T : Type 0} where
     pub split : es ≡ front ++ entry ∷ back
     pub here : entry.index ≡ i
     pub unmet : times i front ≡ 0
-
-  -- an entry stands after one more that has another index
-  Stands-behind : (e : Entry T) (es : List (Entry T)) (i : ℕ) → e.index ≢ i → Stands es i → Stands (e ∷ es) i
-  Stands-behind e es i other s =
-      record {
-        front = e ∷ s.front;
-        entry = s.entry;
-        back = s.back;
-        split = ap (λ xs. e ∷ xs) s.split;
-        here = s.here;
-        unmet = omega (arith, times-there i e s.front other, s.unmet);
-      }
+    pub left : without i es ≡ front ++ back
+    pub after : (new : Entry T) → insert_after i new es ≡ front ++ entry ∷ new ∷ back
+    pub before : (new : Entry T) → insert_before i new es ≡ front ++ new ∷ entry ∷ back
 
   -- an index that occurs stands somewhere
   pub Stands-occurs : (es : List (Entry T)) (i : ℕ) → 1 ≤ times i es → Stands es i
   Stands-occurs [] i occurs = absurd (omega arith)
   Stands-occurs (e ∷ es) i occurs =
       elim (eqb_tells e.index i) [
-        | inl h ↦ record { front = []; entry = e; back = es; split = refl; here = h.1; unmet = refl }
-        | inr h ↦ Stands-behind e es i h.1 (Stands-occurs es i (omega (arith, times-there i e es h.1)))
+        | inl h ↦ record {
+            front = [];
+            entry = e;
+            back = es;
+            split = refl;
+            here = h.1;
+            unmet = refl;
+            left = rw h.0 refl;
+            after = λ new. rw h.0 refl;
+            before = λ new. rw h.0 refl;
+          }
+        | inr h ↦
+            let s = Stands-occurs es i (omega (arith, times-there i e es h.1)) in
+            record {
+              front = e ∷ s.front;
+              entry = s.entry;
+              back = s.back;
+              split = ap (λ xs. e ∷ xs) s.split;
+              here = s.here;
+              unmet = omega (arith, times-there i e s.front h.1, s.unmet);
+              left = simp h.0 (ap (λ xs. e ∷ xs) s.left);
+              after = λ new. simp h.0 (ap (λ xs. e ∷ xs) (s.after new));
+              before = λ new. simp h.0 (ap (λ xs. e ∷ xs) (s.before new));
+            }
       ]
 
   -- what stands at the place of an index
@@ -151,20 +161,6 @@ module _ {T : Type 0} where
   entry_at-absent [] i absent = refl
   entry_at-absent (e ∷ es) i absent = grind (arith, common_steps, entry_at-absent es i)
 
-  pub insert_after-split : (front : List (Entry T)) (e new : Entry T) (back : List (Entry T)) (i : ℕ) → e.index ≡ i → times i front ≡ 0
-      → insert_after i new (front ++ e ∷ back) ≡ front ++ e ∷ new ∷ back
-  insert_after-split [] e new back i here unmet = grind (arith, common_steps)
-  insert_after-split (f ∷ front) e new back i here unmet = grind (arith, common_steps, insert_after-split front e new back i here)
-
-  pub insert_before-split : (front : List (Entry T)) (e new : Entry T) (back : List (Entry T)) (i : ℕ) → e.index ≡ i → times i front ≡ 0
-      → insert_before i new (front ++ e ∷ back) ≡ front ++ new ∷ e ∷ back
-  insert_before-split [] e new back i here unmet = grind (arith, common_steps)
-  insert_before-split (f ∷ front) e new back i here unmet = grind (arith, common_steps, insert_before-split front e new back i here)
-
-  pub without-split : (front : List (Entry T)) (e : Entry T) (back : List (Entry T)) (i : ℕ) → e.index ≡ i → times i front ≡ 0 → without i (front ++ e ∷ back) ≡ front ++ back
-  without-split [] e back i here unmet = grind (arith, common_steps)
-  without-split (f ∷ front) e back i here unmet = grind (arith, common_steps, without-split front e back i here)
-
   -- two stretches of a chain, of which the first ends at `after` and the second begins at `before`
   abbrev pub seam : List (Entry T) → Option ℕ → Option ℕ → List (Entry T) → ℕ → Option (ℕ × Link T)
   seam xs after before ys i = option_or (link_between None after xs i) (link_between before None ys i)
@@ -173,23 +169,9 @@ module _ {T : Type 0} where
   pub seam-relinked : (xs ys : List (Entry T)) (after before next prev : Option ℕ) (i : ℕ) → times i xs + times i ys ≤ 1
       → seam xs next prev ys i ≡ relinked (last_or None xs) next (first_or None ys) prev i (seam xs after before ys i)
   seam-relinked xs ys after before next prev i once =
-      elim (names_tells (last_or None xs) i) [
-        | inl l ↦ elim (names_tells (first_or None ys) i) [
-          | inl r ↦ absurd (omega (arith, times-last xs i l.1, times-first ys i r.1))
-          | inr r ↦
-              let gone : times i ys ≡ 0 = omega (arith, times-last xs i l.1) in
-              rw (l.0, r.0, link_between-absent prev None ys i gone, link_between-absent before None ys i gone, option_or-none (link_between None next xs i), option_or-none (link_between None after xs i))
-              (link_between-last None after next xs i (omega arith) l.1)
-        ]
-        | inr l ↦ elim (names_tells (first_or None ys) i) [
-          | inl r ↦
-              let gone : times i xs ≡ 0 = omega (arith, times-first ys i r.1) in
-              rw (l.0, r.0, link_between-absent None next xs i gone, link_between-absent None after xs i gone)
-              (link_between-first before prev None ys i r.1)
-          | inr r ↦
-              rw (l.0, r.0, link_between-other_after None after next xs i l.1, link_between-other_before before prev None ys i r.1) refl
-        ]
-      ]
+      grind (arith, common_steps, link_between-after None after next xs i, link_between-before before None prev ys i, link_between-absent None after xs i,
+      link_between-absent None next xs i, link_between-absent before None ys i, link_between-absent prev None ys i, times-last xs i, times-first ys i,
+      names_tells (last_or None xs) i, names_tells (first_or None ys) i)
 
   -- the slots hold these entries, linked in this order from `before` on
   abbrev pub IsRow : (ℕ → Option (ℕ × Link T)) → Option ℕ → List (Entry T) → Type 0
@@ -224,21 +206,10 @@ module _ {T : Type 0} where
   with_generation-changed_at (e ∷ es) i g = grind (arith, common_steps, with_generation-changed_at es i g)
 
   module _ (f : ℕ × T → ℕ × T) where
-    pub first_or-changed_at : (after : Option ℕ) (es : List (Entry T)) (i : ℕ) → first_or after (changed_at f es i) ≡ first_or after es
-    first_or-changed_at after [] i = refl
-    first_or-changed_at after (e ∷ es) i = grind (arith, common_steps)
-
-    pub last_or-changed_at : (before : Option ℕ) (es : List (Entry T)) (i : ℕ) → last_or before (changed_at f es i) ≡ last_or before es
-    last_or-changed_at before [] i = refl
-    last_or-changed_at before (e ∷ es) i = grind (arith, common_steps, last_or-changed_at (Some e.index) es i)
-
-    pub times-changed_at : (k : ℕ) (es : List (Entry T)) (i : ℕ) → times k (changed_at f es i) ≡ times k es
-    times-changed_at k [] i = refl
-    times-changed_at k (e ∷ es) i = grind (arith, common_steps, times-changed_at k es i)
-
-    pub length-changed_at : (es : List (Entry T)) (i : ℕ) → length (changed_at f es i) ≡ length es
-    length-changed_at [] i = refl
-    length-changed_at (e ∷ es) i = grind (arith, common_steps, length-changed_at es i)
+    -- no index is changed
+    pub same-changed_at : (es : List (Entry T)) (i : ℕ) → SameIndexes (changed_at f es i) es
+    same-changed_at [] i = grind (arith, common_steps)
+    same-changed_at (e ∷ es) i = grind (arith, common_steps, same-changed_at es i)
 
     -- every other index finds what it found
     pub entry_at-changed_at_other : (es : List (Entry T)) (i j : ℕ) → j ≢ i → entry_at (changed_at f es i) j ≡ entry_at es j
@@ -259,4 +230,4 @@ module _ {T : Type 0} where
         → link_between before after (changed_at f es i) k
         ≡ (if i == k then option_map changed_link (link_between before after es k) else link_between before after es k)
     link_between-changed_at before after [] i k = grind (arith, common_steps)
-    link_between-changed_at before after (e ∷ es) i k = grind (arith, common_steps, first_or-changed_at after es i, link_between-changed_at (Some e.index) after es i k)
+    link_between-changed_at before after (e ∷ es) i k = grind (arith, common_steps, (same-changed_at es i).first after, link_between-changed_at (Some e.index) after es i k)

@@ -9,7 +9,7 @@ use Rattle.chain_base.specs.Link.{Link}
 use Rattle.chain_base.specs.Chain.{Entry, Chain, times, first_or, last_or, inserted_at, with_capacity, vacant_indexes, without, removed, renewed, cleared, with_item}
 use Rattle.chain_base.specs.Insert.{IsInsertion, IsPlace}
 use Rattle.chain_base.specs.Layout.{chain_of, rewritten, IsLaidOut}
-use Rattle.chain_base.proofs.Lists.{entry_at-some, linked-occurs, last_or-append, times-unlinked, Stands-occurs, without-split}
+use Rattle.chain_base.proofs.Lists.{entry_at-some, linked-occurs, last_or-append, times-unlinked, Stands-occurs, Stands}
 use Rattle.chain_base.proofs.LaidOut.{laid-links, IsLaidOut-walked, Alike, alike-bridged, bridged, end_beside, link_amid, closed, walk-laid_out, slot-laid_out, joined, IsLaidOut-inserted, IsLaidOut-removed, IsLaidOut-with_item_among, IsLaidOut-with_generation}
 use Rattle.chain_base.proofs.Vacancy.{HoldIndexes, held-links, vacant-held, get_or-vacant, get_or-resized, length-resized}
 
@@ -130,18 +130,17 @@ module _ {T : Type 0} where
         lies (rewritten a i item) first last (with_item (chain_of a first) i item) (IsLaidOut-with_item_among a first last _ i item laid) (ap (λ n. n - 1) (length-set a.slots i _)) refl refl refl
 
     -- the entry between two stretches is taken out
-    Removes-at : (greatest : Option ℕ) (front : List (Entry T)) (x : Entry T) (back : List (Entry T)) → (chain_of a first).entries ≡ front ++ x ∷ back → times x.index front ≡ 0
-        → Unlinks greatest a first last x.index (last_or None front) (first_or None back)
-    Removes-at greatest front x back split unmet =
-        let laid2 = subst (λ (es : List (Entry T)). IsLaidOut a.slots first last es) split laid in
-        let emptied : Arena (Link T) = arena_removed greatest a x.index in
-        let left = last_or None front in
-        let right = first_or None back in
-        let first2 : end_beside left first right ≡ first_or right front = rw laid2.first_is (first_or-end front (x ∷ back) right) in
-        let last2 : end_beside right last left ≡ last_or left back = rw laid2.last_is (rw (last_or-append None front (x ∷ back)) (last_or-end (x ∷ []) back left)) in
-        let done = lies-alike emptied (closed emptied front back) _ _ _ (alike-bridged emptied left right right left) (IsLaidOut-removed greatest a first last front x back laid2) in
-        let list : without x.index (chain_of a first).entries ≡ front ++ back = ap (without x.index) split ∙ without-split front x back x.index refl unmet in
-        rw (first2, last2, list) (rw (length-set a.slots x.index None) at done)
+    Removes-at : (greatest : Option ℕ) (i : ℕ) (s : Stands (chain_of a first).entries i) → Unlinks greatest a first last i (last_or None s.front) (first_or None s.back)
+    Removes-at greatest i s =
+        let laid2 = subst (λ (es : List (Entry T)). IsLaidOut a.slots first last es) s.split laid in
+        let emptied : Arena (Link T) = arena_removed greatest a i in
+        let left = last_or None s.front in
+        let right = first_or None s.back in
+        let first2 : end_beside left first right ≡ first_or right s.front = rw laid2.first_is (first_or-end s.front (s.entry ∷ s.back) right) in
+        let last2 : end_beside right last left ≡ last_or left s.back = rw laid2.last_is (rw (last_or-append None s.front (s.entry ∷ s.back)) (last_or-end (s.entry ∷ []) s.back left)) in
+        let laid3 = rw s.here at (IsLaidOut-removed greatest a first last s.front s.entry s.back laid2) in
+        let done = lies-alike emptied (closed emptied s.front s.back) _ _ _ (alike-bridged emptied left right right left) laid3 in
+        rw (first2, last2, s.left) (rw (length-set a.slots i None) at done)
 
     pub Removes-joined : (greatest : Option ℕ) (i : ℕ) (e : ℕ × Link T) → slot a i ≡ Some e → Unlinks greatest a first last i e.1.prev e.1.next
     Removes-joined greatest i e held =
@@ -149,9 +148,7 @@ module _ {T : Type 0} where
         let laid2 = subst (λ (es : List (Entry T)). IsLaidOut a.slots first last es) s.split laid in
         let found = ap (slot a) (sym s.here) ∙ slot-laid_out a first last s.front s.entry s.back laid2 in
         let same : (s.entry.generation, link_amid s.front s.entry.item s.back) ≡ e = cc in
-        let at = Removes-at greatest s.front s.entry s.back s.split (ap (λ k. times k s.front) s.here ∙ s.unmet) in
-        subst (λ (x : ℕ × Link T). Unlinks greatest a first last i x.1.prev x.1.next) same
-        (subst (λ (k : ℕ). Unlinks greatest a first last k (last_or None s.front) (first_or None s.back)) s.here at)
+        subst (λ (x : ℕ × Link T). Unlinks greatest a first last i x.1.prev x.1.next) same (Removes-at greatest i s)
 
   -- a chain that is cleared
   pub IsLaidOut-cleared : (n : ℕ) → IsLaidOut {T = T} (replicate n None) None None []
