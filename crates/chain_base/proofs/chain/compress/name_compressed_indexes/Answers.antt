@@ -1,9 +1,9 @@
-use Rattle.std.proofs.Common.{◌≡◌, ℕ, ◌+◌, ◌<◌, ◌≤◌, length, Option, Some, None, sym, ap, ◌∙◌, rules, arith}
+use Rattle.std.proofs.Common.{◌≡◌, ℕ, ◌+◌, ◌<◌, ◌≤◌, length, Option, Some, None, sym, ap, ◌∙◌, rules, arith, refl}
 use Rattle.std.specs.Option.{option_map}
 use Rattle.arena_base.specs.Arena.{slot}
 use Rattle.arena_base.specs.Pointer.{named_of}
 use Rattle.chain_base.specs.Naming.{linked_facing}
-use Rattle.chain_base.proofs.Naming.{named-begins, named-vacant, named-step_end, named-step_more, named-target, named-ends, index-made, neighbour-within}
+use Rattle.chain_base.proofs.Naming.{named-begins, named-vacant, named-step, named-target, named-ends, index-made, neighbour-within}
 use Rattle.chain_base.proofs.chain.compress.name_compressed_indexes.Goals.{in-Some, then-is_none, else-is_none, in_default}
 use Rattle.chain_base.proofs.chain.compress.name_compressed_indexes.Goals as goal
 
@@ -28,7 +28,7 @@ link_facing-requires g c = λ i is.
     let number = g.P.Inx.PtrInx.number in
     let e = c.in-Some.entry in
     let held = found number g.P.Gen.PtrGen.number _ at.arena c.unwrap-index.result (at.position + 1) (search rules) c.get_inx.result c.get_inx.ensures e c.in-Some.is in
-    named-target c.args.side c.args.arena.now at.arena at.count _ (at.position + 1) at.invariant (omega (arith, c.capacity-position-end.ensures.value)) _ held c.requires (number i)
+    named-target c.args.side c.args.arena.now at.arena at.count _ (at.position + 1) at.invariant (omega (arith, c.capacity-position-end.ensures.value)) c.requires _ held (number i)
     (sym c.neighbour_on-neighbour.ensures ∙ ap (option_map number) is)
 
 pub loop-position-preserved : goal.loop-position-preserved
@@ -47,15 +47,15 @@ loop-position-preserved g c =
           (ap (named_of g.P.Inx.PtrInx.most) made ∙ neighbour-within g.P.Inx.PtrInx.most (at.count + 1) within) in
           elim w.if-is_none.branch [
             | then-is_none v ↦
-                rw (w.arena-is, w.end-is, v.end-is, w.count-is, made)
-                (named-step_end c.args.side c.args.arena.now at.arena at.count _ (at.position + 1) at.invariant inside _ held c.requires _ w.neighbour_on-neighbour.ensures (search rules) _ linked)
+                rw (w.arena-is, w.end-is, v.end-is, w.count-is)
+                (named-step c.args.side c.args.arena.now at.arena at.count _ (at.position + 1) at.invariant inside c.requires _ held _ w.neighbour_on-neighbour.ensures _ (λ none. made) (λ some. grind arith) _ linked)
             | else-is_none v ↦
                 rw (w.arena-is, w.end-is, v.end-is, w.count-is)
-                (named-step_more c.args.side c.args.arena.now at.arena at.count _ (at.position + 1) at.invariant inside _ held c.requires _ w.neighbour_on-neighbour.ensures (search rules) _ linked)
+                (named-step c.args.side c.args.arena.now at.arena at.count _ (at.position + 1) at.invariant inside c.requires _ held _ w.neighbour_on-neighbour.ensures (option_map number at.end) (λ none. grind arith) (λ some. refl) _ linked)
           ]
       | in_default w ↦
           rw (w.arena-is, w.end-is, w.count-is)
-          (named-vacant c.args.side c.args.arena.now at.arena at.count _ (at.position + 1) at.invariant inside
+          (named-vacant c.args.side c.args.arena.now at.arena at.count _ (at.position + 1) at.invariant inside c.requires
           (missing number g.P.Gen.PtrGen.number _ at.arena c.unwrap-index.result (at.position + 1) (search rules) c.get_inx.result c.get_inx.ensures w.in_default.is))
     ]
 
