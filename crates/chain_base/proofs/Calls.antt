@@ -1,5 +1,5 @@
 -- What the calls of a chain arena owe: from what the arena's calls ensure to the step on the list.
-use Rattle.std.proofs.Common.{◌≡◌, ℕ, zero, suc, ◌<◌, ◌≤◌, List, [], Option, Some, None, IsSome, refl, sym, ap, subst, ◌∙◌, arith, max, OnSome, IfNone, Result, Ok, Err, OnOk, OnErr}
+use Rattle.std.proofs.Common.{◌≡◌, ℕ, zero, suc, ◌<◌, ◌≤◌, List, [], Option, Some, None, IsSome, refl, sym, ap, subst, ◌∙◌, arith, max, OnSome, IfNone, Result, Ok, Err, OnOk, OnErr, ◌⊎◌, inl, inr}
 use Rattle.std.proofs.lemmas.Grind.{common_steps}
 use Rattle.std.specs.Option.{option_and_then}
 use Rattle.arena_base.specs.Arena.{Arena, slot, arena_capacity, new_arena, with_capacity as arena_with_capacity}
@@ -33,21 +33,16 @@ module _ {T : Type 0} where
     held = held-laid a.slots first last _ laid
 
     -- the neighbours of a place occur in the list
-    prev-occurs : (place : Entry T → List (Entry T)) (prev next : Option ℕ) → IsPlace (chain_of a first).entries place prev next → (k : ℕ) → prev ≡ Some k → 1 ≤ times k (chain_of a first).entries
-    prev-occurs place prev next at k is = grind (arith, common_steps, times-last at.front k, at.split, times-append k at.front at.back)
-
-    next-occurs : (place : Entry T → List (Entry T)) (prev next : Option ℕ) → IsPlace (chain_of a first).entries place prev next → (k : ℕ) → next ≡ Some k → 1 ≤ times k (chain_of a first).entries
-    next-occurs place prev next at k is = grind (arith, common_steps, times-first at.back k, at.split, times-append k at.front at.back)
+    beside-occurs : (place : Entry T → List (Entry T)) (prev next : Option ℕ) → IsPlace (chain_of a first).entries place prev next → (k : ℕ) → (prev ≡ Some k) ⊎ (next ≡ Some k)
+        → 1 ≤ times k (chain_of a first).entries
+    beside-occurs place prev next at k is = grind (arith, common_steps, times-last at.front k, times-first at.back k, at.split, times-append k at.front at.back)
 
     -- an insertion into the arena, for an entry beside these two neighbours
     module _ (a1 : Arena (Link T)) (link : Link T) (j g : ℕ) (ins : IsArenaInsertion a a1 link j g)
         (place : Entry T → List (Entry T)) (prev next : Option ℕ) (at : IsPlace (chain_of a first).entries place prev next) where
       -- the neighbours have entries after it too
-      pub prev-held : (k : ℕ) → prev ≡ Some k → IsSome (slot a1 k)
-      prev-held k is = held-inserted a a1 link j g ins k (held-is a.slots _ k held (prev-occurs place prev next at k is))
-
-      pub next-held : (k : ℕ) → next ≡ Some k → IsSome (slot a1 k)
-      next-held k is = held-inserted a a1 link j g ins k (held-is a.slots _ k held (next-occurs place prev next at k is))
+      pub beside-inserted : (k : ℕ) → (prev ≡ Some k) ⊎ (next ≡ Some k) → IsSome (slot a1 k)
+      beside-inserted k is = held-inserted a a1 link j g ins k (held-is a.slots _ k held (beside-occurs place prev next at k is))
 
       module _ (most : ℕ) (greatest : Option ℕ) (sound : IsSoundArena most greatest a1) where
         -- an index of the list is within reach where the arena after an insertion is sound
@@ -63,8 +58,8 @@ module _ {T : Type 0} where
             → (b : Arena (Link T)) (first2 last2 : Option ℕ) → b ≡ bridged a1 prev (named_of most (Some j)) next (named_of most (Some j))
             → first2 ≡ end_beside prev first (Some j) → last2 ≡ end_beside next last (Some j) → Inserts a b first first2 last2 place item j g
         Inserts-linked item item_is prev_is next_is b first2 last2 joined first_is last_is =
-            let named_prev = named-occurs prev (prev-occurs place prev next at) in
-            let named_next = named-occurs next (next-occurs place prev next at) in
+            let named_prev = named-occurs prev (λ k is. beside-occurs place prev next at k (inl is)) in
+            let named_next = named-occurs next (λ k is. beside-occurs place prev next at k (inr is)) in
             let named_new : named_of most (Some j) ≡ Some j
             = named_of-within most (Some j) (λ k is. let same : j ≡ k = cc in omega (arith, within-most, ins.vacant.within)) in
             let whole : link ≡ record { item = item; prev = prev; next = next } = rw (← item_is, ← named_prev, ← named_next, ← prev_is, ← next_is) refl in

@@ -22,9 +22,9 @@ use Rattle.chain_base.specs.Walk.{pointers}
 use Rattle.chain_base.specs.Clone.{links_among, links_rising, HasItems, taken_over, ClonesLink, IsClone, IsRefusedClone}
 use Rattle.chain_base.specs.Layout.{chain_of, met, IsLaidOut}
 use Rattle.chain_base.proofs.Lists.{option_map-itself, IsRow, IsRow-links, link_between-absent, entry_at-link, SameIndexes}
-use Rattle.chain_base.proofs.LaidOut.{laid-links, IsLaidOut-walked}
+use Rattle.chain_base.proofs.LaidOut.{laid-held, IsLaidOut-walked}
 use Rattle.chain_base.proofs.Ranking.{place-slots, among-arena}
-use Rattle.chain_base.proofs.Vacancy.{HoldIndexes, held-some, held-is, get_or-resized, length-resized, vacant-held, greatest-links, past-greatest}
+use Rattle.chain_base.proofs.Vacancy.{HoldIndexes, held-some, held-is, get_or-resized, length-resized, vacant-held, greatest-links, past-greatest, held-occurs}
 use Rattle.chain_base.proofs.Steps.{Lies, lies, held-laid, IsLaidOut-resized, IsLaidOut-cleared}
 
 -- what a clone keeps of a link
@@ -38,6 +38,9 @@ frame o = option_map (λ e. (e.0, e.1.prev, e.1.next)) o
 unframed : {X : Type 0} (o : Option (ℕ × Link X)) → frame o ≡ None → o ≡ None
 unframed None is = refl
 unframed (Some e) is = absurd (none-some _ (sym is))
+
+framed : {X Y : Type 0} (o : Option (ℕ × Link X)) (p : Option (ℕ × Link Y)) → frame o ≡ frame p → is_some o ≡ true → is_some p ≡ true
+framed o p same some = grind (arith, common_steps)
 
 module _ {T U : Type 0} where
   -- lists of the same pointers
@@ -94,13 +97,8 @@ module _ {T U : Type 0} where
 
     laid-relisted : IsLaidOut slots first last (relisted at es)
     laid-relisted =
-        laid-links slots first last (relisted at es)
-        (λ i. elim (eqb_tells (times i (relisted at es)) 0) [
-          | inl h ↦
-              unframed (at i) (same i ∙ ap frame (laid.links i ∙ link_between-absent None None es i (sym (alike.count i) ∙ h.1)))
-              ∙ sym (link_between-absent None None (relisted at es) i h.1)
-          | inr h ↦ row-links at (λ i. get_or slots0 i None) same None (relisted at es) row.0 i (omega (arith, h.1))
-        ])
+        laid-held slots first last (relisted at es) (row-links at (λ i. get_or slots0 i None) same None (relisted at es) row.0)
+        (λ i some. omega (arith, alike.count i, held-occurs slots0 es i (held-laid slots0 first last es laid) (framed (at i) (get_or slots0 i None) (same i) some)))
         (λ i. omega (arith, alike.count i, laid.distinct i)) (laid.first_is ∙ sym (alike.first None)) (laid.last_is ∙ sym (alike.last None))
 
 -- slots that are vacant one and all

@@ -41,17 +41,11 @@ module _ {T : Type 0} where
 
   pub IsFirstIndex-slot : (a : Arena (Link T)) (es : List (Entry T)) (i g : ℕ) → ((k : ℕ) → slot a k ≡ link_at es k) → IsFirstEntry a i g → IsFirstIndex es i g
   IsFirstIndex-slot a es i g links first =
-      record {
-        entry = generation_at-link es i (slot a i) (links i) ∙ first.entry;
-        least = λ k below. times-unlinked None None es k (sym (links k) ∙ first.least k below);
-      }
+      record { entry = generation_at-link es i (slot a i) (links i) ∙ first.entry; least = λ k below. times-unlinked None None es k (sym (links k) ∙ first.least k below) }
 
   pub IsLastIndex-slot : (a : Arena (Link T)) (es : List (Entry T)) (i g : ℕ) → ((k : ℕ) → slot a k ≡ link_at es k) → IsLastEntry a i g → IsLastIndex es i g
   IsLastIndex-slot a es i g links last =
-      record {
-        entry = generation_at-link es i (slot a i) (links i) ∙ last.entry;
-        greatest = λ k above. times-unlinked None None es k (sym (links k) ∙ last.greatest k above);
-      }
+      record { entry = generation_at-link es i (slot a i) (links i) ∙ last.entry; greatest = λ k above. times-unlinked None None es k (sym (links k) ∙ last.greatest k above) }
 
   -- What the slots of an arena say of the chain that lies in it.
   module _ (a : Arena (Link T)) (first last : Option ℕ) (laid : IsLaidOut a.slots first last (chain_of a first).entries) where

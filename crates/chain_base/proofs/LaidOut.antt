@@ -1,5 +1,5 @@
 -- How each step of a chain keeps its list laid out in the arena.
-use Rattle.std.proofs.Common.{◌≡◌, ◌≢◌, ℕ, ◌+◌, ◌<◌, ◌≤◌, ◌==◌, false, List, ◌∷◌, ◌++◌, length, Option, Some, None, is_some, refl, sym, ap, ◌∙◌, arith, if◌then◌else◌, inl, inr, get_or, length-set}
+use Rattle.std.proofs.Common.{◌≡◌, ◌≢◌, ℕ, ◌+◌, ◌<◌, ◌≤◌, ◌==◌, false, List, ◌∷◌, ◌++◌, length, Option, Some, None, is_some, refl, sym, ap, ◌∙◌, arith, if◌then◌else◌, inl, inr, get_or, length-set, true}
 use Rattle.std.proofs.lemmas.Grind.{common_steps}
 use Rattle.std.proofs.lemmas.List.Sums.{count_by-le-length}
 use Rattle.std.specs.Option.{option_map}
@@ -22,6 +22,12 @@ module _ {T : Type 0} where
       → first ≡ first_or None es → last ≡ last_or None es → IsLaidOut slots first last es
   laid-links slots first last es links distinct first_is last_is =
       record { links = links; distinct = distinct; first_is = first_is; last_is = last_is; counted = counted-held slots es (held-links slots es distinct links) }
+
+  -- slots that hold the links of a list's indexes, and nothing else
+  pub laid-held : (slots : List (Option (ℕ × Link T))) (first last : Option ℕ) (es : List (Entry T)) → ((i : ℕ) → 1 ≤ times i es → get_or slots i None ≡ link_at es i)
+      → ((i : ℕ) → is_some (get_or slots i None) ≡ true → 1 ≤ times i es) → IsDistinct es → first ≡ first_or None es → last ≡ last_or None es → IsLaidOut slots first last es
+  laid-held slots first last es links back =
+      laid-links slots first last es (λ i. grind (arith, common_steps, links i, back i, link_between-absent None None es i))
 
   -- what the slots hold once one is filled
   pub slot-filled : (a : Arena (Link T)) (j k : ℕ) (e : ℕ × Link T) → j < length a.slots → slot (with_slot a j (Some e)) k ≡ (if j == k then Some e else slot a k)

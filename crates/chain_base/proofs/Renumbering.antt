@@ -11,7 +11,7 @@ use Rattle.chain_base.specs.Naming.{neighbour_on}
 use Rattle.chain_base.specs.declared.chain.compress.Side.{Side}
 use Rattle.chain_base.specs.declared.chain.compress.Side.TheVariants.{Before, After}
 use Rattle.chain_base.proofs.Lists.{same_index, times-append, times-here, times-first, times-last, last_or-append, link_between-append, link_between-absent, Stands-occurs}
-use Rattle.chain_base.proofs.LaidOut.{laid-links}
+use Rattle.chain_base.proofs.LaidOut.{laid-held}
 
 -- the other side
 abbrev pub opposite : Side → Side
@@ -172,15 +172,7 @@ module _ {T : Type 0} where
           → ((k : ℕ) → is_some (get_or slots k None) ≡ true → (x : ℕ) × (renumber x ≡ k) × (1 ≤ times x es))
           → first ≡ option_map renumber (first_or None es) → last ≡ option_map renumber (last_or None es) → IsLaidOut slots first last (map altered es)
       IsLaidOut-renumbered slots first last held back first_is last_is =
-          laid-links slots first last (map altered es)
-          (λ k. elim (eqb_tells (times k (map altered es)) 0) [
-            | inl h ↦ vacant k (get_or slots k None) refl h.1
-            | inr h ↦
-                let s = times-source es k (omega (arith, h.1)) in
-                subst (λ i. get_or slots i None ≡ link_at (map altered es) i) s.1 (held s.0 s.2 ∙ sym (link_at-renumbered s.0 s.2))
-          ])
+          laid-held slots first last (map altered es)
+          (λ k there. let s = times-source es k there in subst (λ i. get_or slots i None ≡ link_at (map altered es) i) s.1 (held s.0 s.2 ∙ sym (link_at-renumbered s.0 s.2)))
+          (λ k some. let s = back k some in subst (λ i. 1 ≤ times i (map altered es)) s.1 (omega (arith, times-changed s.0 s.2, s.2)))
           distinct-renumbered (first_is ∙ sym (end-renumbered Before es)) (last_is ∙ sym (end-renumbered After es))
-        where
-          vacant : (k : ℕ) (o : Option (ℕ × Link T)) → get_or slots k None ≡ o → times k (map altered es) ≡ 0 → get_or slots k None ≡ link_at (map altered es) k
-          vacant k None is absent = is ∙ sym (link_between-absent None None (map altered es) k absent)
-          vacant k (Some e) is absent = let s = back k (ap is_some is) in absurd (let there = s.2 in let gone = rw (← s.1) at absent in omega (arith, times-changed s.0 s.2))

@@ -4,6 +4,7 @@ use Rattle.std.proofs.Common.{Option, Some, None, is_some, cond, max, refl, sym,
 use Rattle.std.proofs.lemmas.Grind.{common_steps, get_or_after_one}
 use Rattle.std.proofs.lemmas.List.{length-replicate, length-drop, get_or_past}
 use Rattle.std.proofs.lemmas.Bool.{false≢true}
+use Rattle.std.proofs.lemmas.List.Folds.{list_any_at}
 use Rattle.std.specs.List.{list_any}
 use Rattle.arena_base.specs.Arena.{vacant_from, vacant_indexes as slots_vacant, greatest_occupied, resized}
 use Rattle.chain_base.specs.Chain.{Entry, times, IsDistinct, link_at, vacant_among, vacant_indexes, greatest_index}
@@ -22,17 +23,10 @@ module _ {X : Type 0} where
   get_or-vacant (suc n) zero = refl
   get_or-vacant (suc n) (suc i) = get_or-vacant n i
 
-  -- an entry is at most at the greatest occupied index
-  any-held : (xs : List (Option X)) (i : ℕ) (e : X) → get_or xs i None ≡ Some e → list_any is_some xs ≡ true
-  any-held [] i e held = absurd (cc)
-  any-held (None ∷ xs) zero e held = absurd (cc)
-  any-held (None ∷ xs) (suc i) e held = any-held xs i e held
-  any-held (Some x ∷ xs) i e held = refl
-
   pub below-greatest : (xs : List (Option X)) (i : ℕ) (e : X) → get_or xs i None ≡ Some e → i ≤ greatest_occupied xs
   below-greatest xs zero e held = omega arith
   below-greatest [] (suc i) e held = absurd (cc)
-  below-greatest (x ∷ xs) (suc i) e held = rw (any-held xs i e held) (omega (arith, below-greatest xs i e held))
+  below-greatest (x ∷ xs) (suc i) e held = grind (arith, common_steps, list_any_at is_some xs i None, get_or_past xs i None, below-greatest xs i e)
 
   pub past-greatest : (xs : List (Option X)) (k : ℕ) → greatest_occupied xs < k → get_or xs k None ≡ None
   past-greatest xs k far = grind (arith, common_steps, below-greatest xs k)
@@ -98,11 +92,7 @@ module _ {X T : Type 0} where
 module _ {T : Type 0} where
   -- an index of a list has a link
   pub held-link : (es : List (Entry T)) (i : ℕ) → 1 ≤ times i es → (e : ℕ × Link T) × (link_at es i ≡ Some e)
-  held-link es i occurs = by (link_at es i) refl
-    where
-      by : (o : Option (ℕ × Link T)) → link_at es i ≡ o → (e : ℕ × Link T) × (link_at es i ≡ Some e)
-      by None is = absurd (omega (arith, times-unlinked None None es i is))
-      by (Some e) is = (e, is)
+  held-link es i occurs = held-some (link_at es i) (grind (arith, common_steps, times-unlinked None None es i))
 
   pub times-link : (es : List (Entry T)) → IsDistinct es → (i : ℕ) → times i es ≡ cond (is_some (link_at es i)) 1 0
   times-link es distinct i = grind (arith, common_steps, distinct i, times-unlinked None None es i, link_between-absent None None es i)
