@@ -76,22 +76,16 @@ module _ {T : Type 0} where
     all-lesser = lesser-all c.entries (c.capacity + 1) (λ y there. let within = sound.within y there in omega (arith, within.1))
 
     changed : (g x : ℕ) → 1 ≤ times x c.entries → times (compressed_index c.entries x) (map (at_compressed_index c.entries g) c.entries) ≡ 1
-    changed g x there =
-        let same = times-changed (compressed_index c.entries) (λ x p. (g, p.1)) c.entries sound.distinct (place-injective c.entries) x there in
-        omega (arith, same, sound.distinct x)
+    changed g x there = omega (arith, times-changed (compressed_index c.entries) (λ x p. (g, p.1)) c.entries sound.distinct (place-injective c.entries) x there, sound.distinct x)
 
     relocated-inside : (g i : ℕ) → 0 < i → i ≤ length c.entries → times i (map (at_compressed_index c.entries g) c.entries) ≡ 1
-    relocated-inside g i above below =
-        let x = place-found c.entries sound.distinct (c.capacity + 1) (i - 1) (omega (arith, all-lesser)) in
-        let is : compressed_index c.entries x.0 ≡ i = let level = x.2 in omega (arith, level) in
-        ap (λ m. times m (map (at_compressed_index c.entries g) c.entries)) (sym is) ∙ changed g x.0 x.3
+    relocated-inside g i above below = grind (arith, common_steps, all-lesser, changed g, place-found c.entries sound.distinct (c.capacity + 1) (i - 1))
 
     relocated-within : (g i : ℕ) → 1 ≤ times i (map (at_compressed_index c.entries g) c.entries) → (0 < i) × (i ≤ length c.entries)
     relocated-within g i occurs =
         let x = times-source (compressed_index c.entries) (λ x p. (g, p.1)) c.entries i occurs in
-        let within = sound.within x.0 x.2 in
-        let below = lesser-below c.entries x.0 (c.capacity + 1) x.2 (omega (arith, within.1)) in
         let at = x.1 in
+        let below = lesser-below c.entries x.0 (c.capacity + 1) x.2 (omega (arith, sound.within x.0 x.2)) in
         (omega (arith, at), omega (arith, at, below, all-lesser))
 
     relocated-indexes : (g : ℕ) (items : List T) → length items ≡ length c.entries → (i : ℕ) → times i (map (at_compressed_index c.entries g) c.entries) ≡ times i (numbered g 1 items)
@@ -103,14 +97,10 @@ module _ {T : Type 0} where
   map-moved all g items [] distinct same = refl
   map-moved all g items (e ∷ es) distinct same =
       let here : slice_index_or items (lesser all e.index) e.item ≡ e.item = same e.index (e.generation, e.item) (rw (same_index e.index) refl) in
-      let more = map-moved all g items es (λ i. omega (arith, distinct i)) (λ i f is. same i f (behind i f is)) in
-      rw (here, more) refl
+      rw (here, map-moved all g items es (λ i. omega (arith, distinct i)) (λ i f is. same i f (apart i f is))) refl
     where
-      behind : (i : ℕ) (f : ℕ × T) → entry_at es i ≡ Some f → entry_at (e ∷ es) i ≡ Some f
-      behind i f is = elim (eqb_tells e.index i) [
-        | inl h ↦ absurd (omega (arith, distinct i, times-here i e es h.1, entry-occurs es i (ap is_some is)))
-        | inr h ↦ rw h.0 is
-      ]
+      apart : (i : ℕ) (f : ℕ × T) → entry_at es i ≡ Some f → entry_at (e ∷ es) i ≡ Some f
+      apart i f is = grind (arith, common_steps, entry-occurs es i, distinct i)
 
   -- a compression whose calls give each item back
   pub compression-relocates : {P F : Type 0} (numbers : P → ℕ × ℕ) (step : F → P → T → P → T → F → Type 0) (g most : ℕ) (greatest : Option ℕ)
@@ -159,6 +149,16 @@ module _ {T : Type 0} where
       let first = apart from (omega arith) (omega arith) in
       rw (other-same i j from first.0 first.1, numbered-apart g (from + 1) xs i j (λ m above below. apart m (omega arith) (omega arith))) refl
 
+  -- a list with a first entry
+  pub record Begun (es : List (Entry T)) : Type 0 where
+    pub entry : Entry T
+    pub behind : List (Entry T)
+    pub here : es ≡ entry ∷ behind
+
+  begun : (es : List (Entry T)) → 0 < length es → Begun es
+  begun [] some = absurd (omega arith)
+  begun (e ∷ es) some = record { entry = e; behind = es; here = refl }
+
   -- the first k entries have the indexes of their places
   pub record CanonicalBelow (c : Chain T) (g n : ℕ) (items : List T) (now : Chain T) (at : Option ℕ) (k : ℕ) : Type 0 where
     pub done : List T
@@ -189,17 +189,8 @@ module _ {T : Type 0} where
 
     module _ (more : k < n) where
       -- the entry that is met
-      pub record Met : Type 0 where
-        pub entry : Entry T
-        pub behind : List (Entry T)
-        pub here : b.rest ≡ entry ∷ behind
-
-      pub met : Met
-      met = by b.rest refl
-        where
-          by : (fs : List (Entry T)) → b.rest ≡ fs → Met
-          by [] none = absurd (omega (arith, lengths, ap length none, b.so_far))
-          by (e ∷ fs) is = record { entry = e; behind = fs; here = is }
+      pub met : Begun b.rest
+      met = begun b.rest (omega (arith, lengths, b.so_far))
 
       whole : now.entries ≡ numbered g 1 b.done ++ met.entry ∷ met.behind
       whole = b.split ∙ ap (λ fs. numbered g 1 b.done ++ fs) met.here
@@ -235,7 +226,7 @@ module _ {T : Type 0} where
           let new : Entry T = record { index = 1 + length b.done; generation = g; item = met.entry.item } in
           let entries : next.entries ≡ map (in_exchange i j) now.entries = ap (λ (d : Chain T). d.entries) is in
           let tail : List (Entry T) = map (in_exchange i j) met.behind in
-          let moved_entry : in_exchange i j met.entry ≡ new = entry-is (exchanged_index i j i) (1 + length b.done) met.entry.generation g met.entry.item (other-first i j ∙ sym spot) entry-even in
+          let moved_entry : in_exchange i j met.entry ≡ new = rw (other-first i j, spot, entry-even) refl in
           let there : next.entries ≡ numbered g 1 b.done ++ new ∷ tail =
           entries ∙ ap (map (in_exchange i j)) whole ∙ map-append (in_exchange i j) (numbered g 1 b.done) (met.entry ∷ met.behind) ∙ rw (numbered-apart g 1 b.done i j apart, moved_entry) refl in
           let indexes : (m : ℕ) → times m next.entries ≡ times m (numbered g 1 items) = λ m. rw entries (exchanged-times now.entries distinct i j met-occurs next-occurs m ∙ b.indexes m) in
@@ -255,9 +246,6 @@ module _ {T : Type 0} where
             kept = is ∙ (ap (λ (d : Chain T). exchanged d i j) b.kept ∙ ap (λ fs. record c { entries = fs }) (sym entries));
             era = b.era;
           }
-        where
-          entry-is : (x y h l : ℕ) (item : T) → x ≡ y → h ≡ l → ◌≡◌ {A = Entry T} (record { index = x; generation = h; item = item }) (record { index = y; generation = l; item = item })
-          entry-is x y h l item same even = rw (same, even) refl
 
   vacant-same : (xs ys : List (Entry T)) → ((m : ℕ) → times m xs ≡ times m ys) → (n from : ℕ) → vacant_among xs from n ≡ vacant_among ys from n
   vacant-same xs ys same zero from = refl

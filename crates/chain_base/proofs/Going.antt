@@ -36,17 +36,14 @@ module _ {T : Type 0} where
   -- a walk that stands at the index of an entry gives it, and goes on by its link
   pub gives-from_link : (c : Chain T) (i g : ℕ) (l : Link T) → IsDistinct c.entries → ◌≡◌ {A = Option (ℕ × Link T)} (Some (g, l)) (link_at c.entries i) → GivesEntry (Some i) l.next c i g
   gives-from_link c i g l distinct held =
+      let s = Stands-occurs c.entries i (linked-occurs c.entries i (g, l) (sym held)) in
+      let pair = same_Some (g, l) _ (held ∙ link_at-split c.entries s.front s.entry s.back s.split distinct i s.here) in
+      let here : pointers_from (Some i) c ≡ (s.entry.index, s.entry.generation) ∷ pointers s.back =
+      ap pointers (ap (λ es. from_index es i) s.split ∙ from_index-split s.front s.entry s.back i s.here s.unmet) in
+      let era : g ≡ s.entry.generation = ap (λ x. x.0) pair in
+      let next : l.next ≡ first_or None s.back = ap (λ x. x.1.next) pair in
       record {
         stood = refl;
-        first = from_place (Stands-occurs c.entries i (linked-occurs c.entries i (g, l) (sym held)));
+        first = here ∙ (let on = behind c s.front s.entry s.back distinct s.split in cc);
         stands = ap (option_and_then (λ (e : ℕ × Link T). e.1.next)) held;
       }
-    where
-      from_place : Stands c.entries i → pointers_from (Some i) c ≡ (i, g) ∷ pointers_from l.next c
-      from_place s =
-          let pair = same_Some (g, l) _ (held ∙ link_at-split c.entries s.front s.entry s.back s.split distinct i s.here) in
-          let here : pointers_from (Some i) c ≡ (s.entry.index, s.entry.generation) ∷ pointers s.back =
-          ap pointers (ap (λ es. from_index es i) s.split ∙ from_index-split s.front s.entry s.back i s.here s.unmet) in
-          let era : g ≡ s.entry.generation = ap (λ x. x.0) pair in
-          let next : l.next ≡ first_or None s.back = ap (λ x. x.1.next) pair in
-          rw (here, s.here, era, next, behind c s.front s.entry s.back distinct s.split) refl

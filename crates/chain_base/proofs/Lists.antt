@@ -56,6 +56,10 @@ module _ {T : Type 0} where
   last_or-append before [] ys = refl
   last_or-append before (x ∷ xs) ys = last_or-append (Some x.index) xs ys
 
+  pub last_or-there : (i : ℕ) (es : List (Entry T)) → is_some (last_or (Some i) es) ≡ true
+  last_or-there i [] = refl
+  last_or-there i (e ∷ es) = last_or-there e.index es
+
   -- a stretch of a chain in two parts
   pub link_between-append : (before after : Option ℕ) (xs ys : List (Entry T)) (i : ℕ)
       → link_between before after (xs ++ ys) i ≡ option_or (link_between before (first_or after ys) xs i) (link_between (last_or before xs) after ys i)

@@ -10,7 +10,7 @@ use Rattle.chain_base.specs.Layout.{IsLaidOut}
 use Rattle.chain_base.specs.Naming.{neighbour_on}
 use Rattle.chain_base.specs.declared.chain.compress.Side.{Side}
 use Rattle.chain_base.specs.declared.chain.compress.Side.TheVariants.{Before, After}
-use Rattle.chain_base.proofs.Lists.{same_index, times-append, times-here, times-first, times-last, last_or-append, link_between-append, link_between-absent, Stands-occurs}
+use Rattle.chain_base.proofs.Lists.{same_index, times-append, times-here, times-first, times-last, last_or-append, link_between-append, link_between-absent, Stands-occurs, last_or-there}
 use Rattle.chain_base.proofs.LaidOut.{laid-held}
 
 -- the other side
@@ -111,14 +111,10 @@ module _ {T : Type 0} where
   end-occurs Before es i is = times-first es i is
   end-occurs After es i is = times-last es i is
 
-  last-some : (b : ℕ) (es : List (Entry T)) → last_or (Some b) es ≡ None → ⊥
-  last-some b [] none = cc
-  last-some b (e ∷ es) none = last-some e.index es none
-
   pub end-none : (side : Side) (es : List (Entry T)) (i : ℕ) → end_on side es ≡ None → times i es ≡ 0
   end-none side [] i none = refl
   end-none Before (e ∷ es) i none = absurd cc
-  end-none After (e ∷ es) i none = absurd (last-some e.index es none)
+  end-none After (e ∷ es) i none = absurd (let some = last_or-there e.index es in cc)
 
   -- Each entry gets another index, generation and item.
   module _ (renumber : ℕ → ℕ) (alter : ℕ → ℕ × T → ℕ × T) where

@@ -3,7 +3,7 @@ use Rattle.std.proofs.Common.{◌≡◌, ℕ, zero, suc, ◌+◌, ◌<◌, ◌�
 use Rattle.std.proofs.lemmas.Grind.{common_steps}
 use Rattle.chain_base.specs.Chain.{Entry, Chain, times, inserted_at, greatest_index, vacant_among, next_index, grown_capacity, with_capacity, with_room, IsSound}
 use Rattle.chain_base.specs.Insert.{IsInsertion}
-use Rattle.chain_base.proofs.Vacancy.{times-greatest}
+use Rattle.chain_base.proofs.Vacancy.{greatest-occurs}
 
 head-absent : (is : List ℕ) → length is ≡ 0 → is_some (slice_get is 0) ≡ false
 head-absent [] none = refl
@@ -28,11 +28,7 @@ module _ {T : Type 0} where
   module _ (most : ℕ) (greatest : Option ℕ) (c : Chain T) (sound : IsSound most greatest c) where
     -- the greatest index is within the capacity
     pub greatest-within : greatest_index c.entries ≤ c.capacity
-    greatest-within = by c.entries sound.within
-      where
-        by : (es : List (Entry T)) → ((i : ℕ) → 1 ≤ times i es → (0 < i) × (i ≤ c.capacity)) → greatest_index es ≤ c.capacity
-        by [] within = omega arith
-        by (e ∷ es) within = (within (greatest_index (e ∷ es)) (times-greatest e es)).1
+    greatest-within = grind (arith, common_steps, greatest-occurs c.entries, sound.within (greatest_index c.entries))
 
     -- where no slot is vacant, a capacity above the present one has a vacant index
     module _ (full : c.capacity ≤ length c.entries) (n : ℕ) (more : c.capacity < n) where

@@ -9,7 +9,7 @@ use Rattle.chain_base.specs.Link.{Link}
 use Rattle.chain_base.specs.Chain.{Entry, Chain, times, first_or, last_or, inserted_at, with_capacity, vacant_indexes, without, removed, renewed, cleared, with_item}
 use Rattle.chain_base.specs.Insert.{IsInsertion, IsPlace}
 use Rattle.chain_base.specs.Layout.{chain_of, rewritten, IsLaidOut}
-use Rattle.chain_base.proofs.Lists.{entry_at-some, linked-occurs, last_or-append, times-unlinked, Stands-occurs, Stands}
+use Rattle.chain_base.proofs.Lists.{entry_at-some, linked-occurs, last_or-append, times-unlinked, Stands-occurs, Stands, last_or-there}
 use Rattle.chain_base.proofs.LaidOut.{laid-links, IsLaidOut-walked, Alike, alike-bridged, bridged, end_beside, link_amid, closed, walk-laid_out, slot-laid_out, joined, IsLaidOut-inserted, IsLaidOut-removed, IsLaidOut-with_item_among, IsLaidOut-with_generation}
 use Rattle.chain_base.proofs.Vacancy.{HoldIndexes, held-links, vacant-held, get_or-vacant, get_or-resized, length-resized}
 
@@ -43,11 +43,7 @@ module _ {T : Type 0} where
   -- the first of a list that goes on, or another first where there is nothing before
   first_or-end : (xs zs : List (Entry T)) (d : Option ℕ) → (if is_some (last_or None xs) then first_or None (xs ++ zs) else d) ≡ first_or d xs
   first_or-end [] zs d = refl
-  first_or-end (x ∷ xs) zs d = rw (last_some xs x.index) refl
-    where
-      last_some : (xs : List (Entry T)) (i : ℕ) → is_some (last_or (Some i) xs) ≡ true
-      last_some [] i = refl
-      last_some (x ∷ xs) i = last_some xs x.index
+  first_or-end (x ∷ xs) zs d = rw (last_or-there x.index xs) refl
 
   -- the last of a list that was there before, or another last where there is nothing after
   last_or-end : (zs ys : List (Entry T)) (d : Option ℕ) → (if is_some (first_or None ys) then last_or None (zs ++ ys) else d) ≡ last_or d ys

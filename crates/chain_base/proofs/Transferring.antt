@@ -16,6 +16,7 @@ use Rattle.chain_base.specs.Chain.{Entry, Chain, times, entry_at, first_pointer,
 use Rattle.chain_base.specs.Insert.{placed, CanPlace}
 use Rattle.chain_base.specs.Compression.{numbered, refilled, Transferring, TransferStep, IsTransfer}
 use Rattle.chain_base.specs.Transfer.{filled_with, last_of, place_behind, TakesOut, HasTaken}
+use Rattle.chain_base.proofs.Lists.{same_index}
 use Rattle.chain_base.proofs.Room.{greatest-within}
 use Rattle.chain_base.proofs.Canonical.{numbered-push, times-numbered}
 
@@ -40,33 +41,24 @@ module _ {T : Type 0} where
   -- the first entry is taken out
   pub takes-out : {Q : Type 0} (numbers : Q → ℕ × ℕ) (greatest : Option ℕ) (old new : Chain T) (from : Q) (taken : InvalidationOption T)
       → Some (numbers from) ≡ first_pointer old.entries → Some (allowed_value taken) ≡ option_map (λ e. e.1.item) (link_at old.entries (numbers from).0)
-      → is_overflow taken ≡ overflows_after greatest old.generation → new ≡ removed greatest old (numbers from).0 → TakesOut numbers greatest old new from taken
-  takes-out numbers greatest old new from taken head value overflow gone = go old.entries refl
-    where
-      go : (es : List (Entry T)) → old.entries ≡ es → TakesOut numbers greatest old new from taken
-      go [] is = let none : Some (numbers from) ≡ None = rw is at head in absurd cc
-      go (e ∷ rest) is = elim (eqb_tells e.index e.index) [
-        | inr h ↦ absurd (h.1 refl)
-        | inl h ↦
-            let first : Some (numbers from) ≡ Some (e.index, e.generation) = rw is at head in
-            let pair : ◌≡◌ {A = ℕ × ℕ} (numbers from) (e.index, e.generation) = same_Some (numbers from) (e.index, e.generation) first in
-            let at : (numbers from).0 ≡ e.index = ap (λ (p : ℕ × ℕ). p.0) pair in
-            let of : (numbers from).1 ≡ e.generation = ap (λ (p : ℕ × ℕ). p.1) pair in
-            let shown : Some (allowed_value taken) ≡ Some e.item = rw (is, at, h.0) at value in
-            record {
-              entry = e;
-              rest = rest;
-              split = is;
-              from_index = at;
-              from_generation = of;
-              taken_item = same_Some (allowed_value taken) e.item shown;
-              taken_overflow = overflow;
-              left = ap (λ (c : Chain T). c.entries) gone ∙ rw (is, at, h.0) refl;
-              capacity = ap (λ (c : Chain T). c.capacity) gone;
-              maximum = ap (λ (c : Chain T). c.maximum) gone;
-              raised = ap (λ (c : Chain T). c.generation) gone;
-            }
-      ]
+      → is_overflow taken ≡ overflows_after greatest old.generation → new ≡ removed greatest old (numbers from).0 → (es : List (Entry T)) → old.entries ≡ es → TakesOut numbers greatest old new from taken
+  takes-out numbers greatest old new from taken head value overflow gone [] is = absurd (let none : Some (numbers from) ≡ None = rw is at head in cc)
+  takes-out numbers greatest old new from taken head value overflow gone (e ∷ rest) is =
+      let pair : ◌≡◌ {A = ℕ × ℕ} (numbers from) (e.index, e.generation) = same_Some (numbers from) (e.index, e.generation) (rw is at head) in
+      let at : (numbers from).0 ≡ e.index = ap (λ (p : ℕ × ℕ). p.0) pair in
+      record {
+        entry = e;
+        rest = rest;
+        split = is;
+        from_index = at;
+        from_generation = ap (λ (p : ℕ × ℕ). p.1) pair;
+        taken_item = same_Some (allowed_value taken) e.item (rw (is, at, same_index e.index) at value);
+        taken_overflow = overflow;
+        left = ap (λ (c : Chain T). c.entries) gone ∙ rw (is, at, same_index e.index) refl;
+        capacity = ap (λ (c : Chain T). c.capacity) gone;
+        maximum = ap (λ (c : Chain T). c.maximum) gone;
+        raised = ap (λ (c : Chain T). c.generation) gone;
+      }
 
   insert_after-last : (g from : ℕ) (x : T) (xs : List T) (new : Entry T) → insert_after (from + length xs) new (numbered g from (x ∷ xs)) ≡ numbered g from (x ∷ xs) ++ new ∷ []
   insert_after-last g from x [] new = grind (arith, common_steps)

@@ -110,9 +110,12 @@ module _ {T : Type 0} where
   below-greatest_index [] i occurs = absurd (omega arith)
   below-greatest_index (e ∷ es) i occurs = grind (arith, common_steps, below-greatest_index es i)
 
+  pub greatest-occurs : (es : List (Entry T)) → (greatest_index es ≡ 0) ⊎ (1 ≤ times (greatest_index es) es)
+  greatest-occurs [] = inl refl
+  greatest-occurs (e ∷ es) = inr (times-greatest e es)
+
   greatest-within : {X : Type 0} (slots : List (Option X)) (es : List (Entry T)) → HoldIndexes slots es → greatest_index es ≤ greatest_occupied slots
-  greatest-within slots [] held = omega arith
-  greatest-within slots (e ∷ es) held = grind (arith, common_steps, held-is slots (e ∷ es) (greatest_index (e ∷ es)) held, times-greatest e es, below-greatest slots (greatest_index (e ∷ es)))
+  greatest-within slots es held = grind (arith, common_steps, greatest-occurs es, held-is slots es (greatest_index es) held, below-greatest slots (greatest_index es))
 
   -- the greatest occupied index is that of the list
   pub greatest-links : {X : Type 0} (slots : List (Option X)) (es : List (Entry T)) → HoldIndexes slots es → greatest_occupied slots ≡ greatest_index es
