@@ -65,21 +65,6 @@ module _ {T : Type 0} where
     pub occupied-laid_out : (i : ℕ) → IsSome (entry_at (chain_of a first).entries i) → IsSome (slot a i)
     occupied-laid_out i some = ap is_some (laid.links i) ∙ sym (entry_at-some (chain_of a first).entries i) ∙ some
 
-  -- what a look-up answers, read off what the arena answered
-  pub item-found : (o : Option (Link T)) (l : Link T) (item : T) → Some l ≡ o → item ≡ l.item → Some item ≡ option_map (λ l. l.item) o
-  item-found o l item found same = rw (← found, same) refl
-
-  pub entry-found : (o : Option (ℕ × Link T)) (g : ℕ) (l : Link T) (item : T) → ◌≡◌ {A = Option (ℕ × Link T)} (Some (g, l)) o → item ≡ l.item
-      → ◌≡◌ {A = Option (ℕ × T)} (Some (g, item)) (option_map (λ e. (e.0, e.1.item)) o)
-  entry-found o g l item found same = rw (← found, same) refl
-
-  pub pointed-found : (o : Option (ℕ × Link T)) (i g : ℕ) (l : Link T) → ◌≡◌ {A = Option (ℕ × Link T)} (Some (g, l)) o
-      → ◌≡◌ {A = Option (ℕ × ℕ)} (Some (i, g)) (pointed i (option_map {U = ℕ × T} (λ e. (e.0, e.1.item)) o))
-  pointed-found o i g l found = rw (← found) refl
-
-  pub pointed-missing : (o : Option (ℕ × Link T)) (i : ℕ) → None ≡ o → None ≡ pointed i (option_map {U = ℕ × T} (λ e. (e.0, e.1.item)) o)
-  pointed-missing o i missing = rw (← missing) refl
-
   -- the pointer to the last index of a chain that lies in an arena
   pub last-found : (a : Arena (Link T)) (first last : Option ℕ) (i : ℕ) → IsLaidOut a.slots first last (chain_of a first).entries → last ≡ Some i
       → pointed i (entry_at (chain_of a first).entries i) ≡ last_pointer (chain_of a first).entries

@@ -141,19 +141,9 @@ module _ {T : Type 0} where
 
   module _ (a : Arena (Link T)) (first last : Option ℕ) (es : List (Entry T)) (i : ℕ) where
     -- an entry is changed, but for its neighbours
-    IsLaidOut-changed_at : (f : ℕ × T → ℕ × T) → IsLaidOut a.slots first last es
+    pub IsLaidOut-changed_at : (f : ℕ × T → ℕ × T) → IsLaidOut a.slots first last es
         → IsLaidOut (with_slot a i (option_map (changed_link f) (slot a i))).slots first last (changed_at f es i)
     IsLaidOut-changed_at f laid =
         let same = same-changed_at f es i in
         laid-links _ _ _ _ (λ k. slot-mapped a i k _ ∙ rw (laid.links k) (sym (link_between-changed_at f None None es i k))) (λ k. omega (arith, same.count k, laid.distinct k))
         (laid.first_is ∙ sym (same.first None)) (laid.last_is ∙ sym (same.last None))
-
-    -- an item is written
-    pub IsLaidOut-with_item_among : (item : T) → IsLaidOut a.slots first last es
-        → IsLaidOut (with_slot a i (option_map (λ e. (e.0, record e.1 { item = item })) (slot a i))).slots first last (with_item_among es i item)
-    IsLaidOut-with_item_among item laid = rw (with_item_among-changed_at es i item) (IsLaidOut-changed_at (λ p. (p.0, item)) laid)
-
-    -- an entry gets another generation
-    pub IsLaidOut-with_generation : (g : ℕ) → IsLaidOut a.slots first last es
-        → IsLaidOut (with_slot a i (option_map (λ e. (g, e.1)) (slot a i))).slots first last (with_generation es i g)
-    IsLaidOut-with_generation g laid = rw (with_generation-changed_at es i g) (IsLaidOut-changed_at (λ p. (g, p.1)) laid)

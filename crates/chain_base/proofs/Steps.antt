@@ -9,8 +9,8 @@ use Rattle.chain_base.specs.Link.{Link}
 use Rattle.chain_base.specs.Chain.{Entry, Chain, times, first_or, last_or, inserted_at, with_capacity, vacant_indexes, without, removed, renewed, cleared, with_item}
 use Rattle.chain_base.specs.Insert.{IsInsertion, IsPlace}
 use Rattle.chain_base.specs.Layout.{chain_of, rewritten, IsLaidOut}
-use Rattle.chain_base.proofs.Lists.{entry_at-some, linked-occurs, last_or-append, times-unlinked, Stands-occurs, Stands, last_or-there}
-use Rattle.chain_base.proofs.LaidOut.{laid-links, IsLaidOut-walked, Alike, alike-bridged, bridged, end_beside, link_amid, closed, walk-laid_out, slot-laid_out, joined, IsLaidOut-inserted, IsLaidOut-removed, IsLaidOut-with_item_among, IsLaidOut-with_generation}
+use Rattle.chain_base.proofs.Lists.{entry_at-some, linked-occurs, last_or-append, times-unlinked, Stands-occurs, Stands, last_or-there, with_item_among-changed_at, with_generation-changed_at}
+use Rattle.chain_base.proofs.LaidOut.{laid-links, IsLaidOut-walked, Alike, alike-bridged, bridged, end_beside, link_amid, closed, walk-laid_out, slot-laid_out, joined, IsLaidOut-inserted, IsLaidOut-removed, IsLaidOut-changed_at}
 use Rattle.chain_base.proofs.Vacancy.{HoldIndexes, held-links, vacant-held, get_or-vacant, get_or-resized, length-resized}
 
 -- the list of vacant indexes begins with the next one
@@ -117,13 +117,15 @@ module _ {T : Type 0} where
     -- an entry that gets another generation
     pub Renews-at : (greatest : Option ℕ) (i : ℕ) → Lies (arena_renewed greatest a i) first last (renewed greatest (chain_of a first) i)
     Renews-at greatest i =
+        let laid2 = IsLaidOut-changed_at a first last _ i (λ p. (next_generation greatest a.generation, p.1)) laid in
         lies (arena_renewed greatest a i) first last (renewed greatest (chain_of a first) i)
-        (IsLaidOut-with_generation a first last _ i (next_generation greatest a.generation) laid) (ap (λ n. n - 1) (length-set a.slots i _)) refl refl refl
+        (rw (with_generation-changed_at _ i (next_generation greatest a.generation)) laid2) (ap (λ n. n - 1) (length-set a.slots i _)) refl refl refl
 
     -- an item that is written
     pub Writes-at : (i : ℕ) (item : T) → Lies (rewritten a i item) first last (with_item (chain_of a first) i item)
     Writes-at i item =
-        lies (rewritten a i item) first last (with_item (chain_of a first) i item) (IsLaidOut-with_item_among a first last _ i item laid) (ap (λ n. n - 1) (length-set a.slots i _)) refl refl refl
+        lies (rewritten a i item) first last (with_item (chain_of a first) i item)
+        (rw (with_item_among-changed_at _ i item) (IsLaidOut-changed_at a first last _ i (λ p. (p.0, item)) laid)) (ap (λ n. n - 1) (length-set a.slots i _)) refl refl refl
 
     -- the entry between two stretches is taken out
     Removes-at : (greatest : Option ℕ) (i : ℕ) (s : Stands (chain_of a first).entries i) → Unlinks greatest a first last i (last_or None s.front) (first_or None s.back)

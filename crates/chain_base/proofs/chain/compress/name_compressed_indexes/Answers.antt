@@ -15,19 +15,15 @@ overflow_add-count g c =
     omega (arith, c.loop-position.invariant.fewer, c.try_from_usize.ensures.variant, c.capacity-position-end.ensures.limit, c.capacity-position-end.ensures.value)
 
 -- what stands at the index that is met
-found : {I G X L : Type 0} (number : I → ℕ) (era : G → ℕ) (seen : X → L) (a : _) (i : I) (n : ℕ) → number i ≡ n → (r : Option (G × X))
-    → option_map (λ (e : G × X). (era e.0, seen e.1)) r ≡ slot a (number i) → (e : G × X) → r ≡ Some e → slot a n ≡ Some (era e.0, seen e.1)
-found number era seen a i n at r is e some = ap (slot a) (sym at) ∙ (sym is ∙ ap (option_map (λ e. (era e.0, seen e.1))) some)
-
-missing : {I G X L : Type 0} (number : I → ℕ) (era : G → ℕ) (seen : X → L) (a : _) (i : I) (n : ℕ) → number i ≡ n → (r : Option (G × X)) → option_map (λ (e : G × X). (era e.0, seen e.1)) r ≡ slot a (number i) → r ≡ None → slot a n ≡ None
-missing number era seen a i n at r is none = ap (slot a) (sym at) ∙ (sym is ∙ ap (option_map (λ e. (era e.0, seen e.1))) none)
+read : {I G X L : Type 0} (number : I → ℕ) (era : G → ℕ) (seen : X → L) (a : _) (i : I) (n : ℕ) → number i ≡ n → (r o : Option (G × X))
+    → option_map (λ (e : G × X). (era e.0, seen e.1)) r ≡ slot a (number i) → r ≡ o → slot a n ≡ option_map (λ e. (era e.0, seen e.1)) o
+read number era seen a i n at r o is same = rw (← at, ← same) (sym is)
 
 pub link_facing-requires : goal.link_facing-requires
 link_facing-requires g c = λ i is.
     let at = c.loop-position in
     let number = g.P.Inx.PtrInx.number in
-    let e = c.in-Some.entry in
-    let held = found number g.P.Gen.PtrGen.number _ at.arena c.unwrap-index.result (at.position + 1) (search rules) c.get_inx.result c.get_inx.ensures e c.in-Some.is in
+    let held = read number g.P.Gen.PtrGen.number _ at.arena c.unwrap-index.result (at.position + 1) (search rules) c.get_inx.result _ c.get_inx.ensures c.in-Some.is in
     named-target c.args.side c.args.arena.now at.arena at.count _ (at.position + 1) at.invariant (omega (arith, c.capacity-position-end.ensures.value)) c.requires _ held (number i)
     (sym c.neighbour_on-neighbour.ensures ∙ ap (option_map number) is)
 
@@ -38,8 +34,7 @@ loop-position-preserved g c =
     let inside : at.position + 1 < length c.args.arena.now.slots = omega (arith, c.capacity-position-end.ensures.value) in
     elim c.match-get_inx.branch [
       | in-Some w ↦
-          let e = w.in-Some.entry in
-          let held = found number g.P.Gen.PtrGen.number _ at.arena c.unwrap-index.result (at.position + 1) (search rules) c.get_inx.result c.get_inx.ensures e w.in-Some.is in
+          let held = read number g.P.Gen.PtrGen.number _ at.arena c.unwrap-index.result (at.position + 1) (search rules) c.get_inx.result _ c.get_inx.ensures w.in-Some.is in
           let within : at.count + 1 ≤ g.P.Inx.PtrInx.most = omega (arith, at.invariant.fewer, c.capacity-position-end.ensures.limit, c.capacity-position-end.ensures.value) in
           let made : option_map number w.try_from_usize-here.result ≡ Some (at.count + 1) =
           index-made number g.P.Inx.PtrInx.most (at.count + 1) w.try_from_usize-here.result w.try_from_usize-here.ensures.variant w.try_from_usize-here.ensures.value (omega arith) within in
@@ -56,7 +51,7 @@ loop-position-preserved g c =
       | in_default w ↦
           rw (w.arena-is, w.end-is, w.count-is)
           (named-vacant c.args.side c.args.arena.now at.arena at.count _ (at.position + 1) at.invariant inside c.requires
-          (missing number g.P.Gen.PtrGen.number _ at.arena c.unwrap-index.result (at.position + 1) (search rules) c.get_inx.result c.get_inx.ensures w.in_default.is))
+          (read number g.P.Gen.PtrGen.number _ at.arena c.unwrap-index.result (at.position + 1) (search rules) c.get_inx.result _ c.get_inx.ensures w.in_default.is))
     ]
 
 pub returns : goal.returns
