@@ -99,9 +99,8 @@ module _ {T : Type 0} where
 module _ {T : Type 0} where
   -- among entries numbered in a row, each number finds the item of its place
   pub entry_at-numbered : (g from : ℕ) (xs : List T) (k : ℕ) → entry_at (numbered g from xs) (from + k) ≡ option_map (λ x. (g, x)) (slice_get xs k)
-  entry_at-numbered g from [] k = refl
-  entry_at-numbered g from (x ∷ xs) zero = grind (arith, common_steps)
   entry_at-numbered g from (x ∷ xs) (suc k) = grind (arith, common_steps, entry_at-numbered g (from + 1) xs k)
+  entry_at-numbered g from xs k = grind (arith, common_steps)
 
   -- and a number before them none
   pub entry_at-numbered_before : (g from : ℕ) (xs : List T) (i : ℕ) → i < from → entry_at (numbered g from xs) i ≡ None
@@ -144,24 +143,17 @@ module _ {T : Type 0} where
 module _ {T : Type 0} (es : List (Entry T)) (distinct : IsDistinct es) (g : ℕ) (items : List T) (long : length items ≡ length es) where
   pub entry_at-compressed : (m : ℕ) → ((i : ℕ) → 1 ≤ times i es → i < m) → (k : ℕ)
       → entry_at (map (moved es g items) es) (k + 1) ≡ option_map (λ item. (g, item)) (slice_get items k)
-  entry_at-compressed m below k = go (slice_get items k) refl
+  entry_at-compressed m below k = by (slice_get items k) refl
     where
-      met : (o : Option (ℕ × T)) (i : ℕ) (item : T) → entry_at es i ≡ o → 1 ≤ times i es → lesser es i ≡ k → slice_get items k ≡ Some item
-          → option_map {U = ℕ × T} (λ e. (g, slice_index_or items (lesser es i) e.1)) o ≡ Some (g, item)
-      met None i item is there place given = absurd (omega (arith, entry-absent es i is, there))
-      met (Some e) i item is there place given = rw place (ap (λ x. Some (g, x)) (get_or_from_slice_get items k item e.1 given))
-
-      go : (o : Option T) → slice_get items k ≡ o → entry_at (map (moved es g items) es) (k + 1) ≡ option_map (λ item. (g, item)) o
-      go None is = elim (eqb_tells (times (k + 1) (map (moved es g items) es)) 0) [
+      by : (o : Option T) → slice_get items k ≡ o → entry_at (map (moved es g items) es) (k + 1) ≡ option_map (λ item. (g, item)) o
+      by None is = elim (eqb_tells (times (k + 1) (map (moved es g items) es)) 0) [
         | inl z ↦ entry_at-absent (map (moved es g items) es) (k + 1) z.1
         | inr z ↦
             let source = times-source (compressed_index es) (λ x p. (g, slice_index_or items (lesser es x) p.1)) es (k + 1) (omega (arith, z.1)) in
-            let place : lesser es source.0 ≡ k = let at : lesser es source.0 + 1 ≡ k + 1 = source.1 in omega (arith, at) in
-            absurd (let past = past-end items k is in omega (arith, place, lesser-next es source.0, lesser-most es (source.0 + 1), source.2, long, past))
+            absurd (omega (arith, source.1, past-end items k is, lesser-next es source.0, lesser-most es (source.0 + 1), source.2, long))
       ]
-      go (Some item) is =
+      by (Some item) is =
           let found = place-found es distinct m k (omega (arith, lesser-all es m below, long, slice_get_within items k item is)) in
-          let at : compressed_index es found.0 ≡ k + 1 = ap (λ n. n + 1) found.2 in
-          ap (entry_at (map (moved es g items) es)) (sym at)
-          ∙ (entry_at-moved es g items es found.0 (λ y there same. place-injective es y found.0 there found.3 same)
-          ∙ met (entry_at es found.0) found.0 item refl found.3 found.2 is)
+          let here = entry_at-moved es g items es found.0 (λ y there same. place-injective es y found.0 there found.3 same) in
+          let place = found.2 in
+          grind (arith, common_steps, entry-absent es found.0, found.3, get_or_from_slice_get items k item)

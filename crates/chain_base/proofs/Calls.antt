@@ -20,8 +20,7 @@ use Rattle.chain_base.proofs.Steps.{Lies, held-laid, Inserts, Inserts-joined, Re
 
 -- an index within reach names what it says
 pub named_of-within : (most : ℕ) (o : Option ℕ) → ((k : ℕ) → o ≡ Some k → k ≤ most) → named_of most o ≡ o
-named_of-within most None within = refl
-named_of-within most (Some k) within = grind (arith, common_steps)
+named_of-within most o within = grind (arith, common_steps)
 
 module _ {T : Type 0} where
   -- what was held is held after an insertion
@@ -101,8 +100,7 @@ module _ {T : Type 0} where
   new-laid_out greatest = laid-links _ None None [] (get_or-vacant 1) (λ i. omega arith) refl refl
 
   new-vacant : (greatest : Option ℕ) (n k : ℕ) → n < k → slot {T = Link T} (new_arena greatest) k ≡ None
-  new-vacant greatest n zero far = refl
-  new-vacant greatest n (suc k) far = refl
+  new-vacant greatest n k far = grind (arith, common_steps)
 
   pub Lies-made : (greatest : Option ℕ) (a : Arena (Link T)) (n : ℕ) → a ≡ arena_with_capacity (new_arena greatest) n → Lies a None None (with_capacity (new_chain greatest) n)
   Lies-made greatest a n made = rw made (Lies-resized (new_arena greatest) None None (new-laid_out greatest) n (new-vacant greatest n))

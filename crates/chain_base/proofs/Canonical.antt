@@ -24,8 +24,7 @@ map-kept v f kept (x ∷ xs) = rw (kept x, map-kept v f kept xs) refl
 -- what stands behind an entry, or behind none
 entry_before-at : {X : Type 0} (from : ℕ) (o : Option (ℕ × X)) (xs : List (ℕ × ℕ × X)) (m k : ℕ) (y : ℕ × ℕ × X) → slice_get xs m ≡ Some y
     → k ≡ cond (is_some o) 1 0 + m → slice_get (entry_before from o xs) k ≡ Some y
-entry_before-at from None xs m k y is at = let same : k ≡ m = omega arith in rw same is
-entry_before-at from (Some e) xs m k y is at = let same : k ≡ suc m = omega arith in rw same is
+entry_before-at from o xs m k y is at = grind (arith, common_steps)
 
 module _ {T : Type 0} where
   pub occurs-entry : (es : List (Entry T)) (i : ℕ) → 1 ≤ times i es → is_some (entry_at es i) ≡ true
@@ -123,9 +122,8 @@ module _ {T : Type 0} where
   eras es = map (λ e. e.generation) es
 
   era-at : (es : List (Entry T)) (n g i : ℕ) (x : ℕ × T) → eras es ≡ replicate n g → entry_at es i ≡ Some x → x.0 ≡ g
-  era-at [] n g i x all is = absurd (none-some x is)
-  era-at (e ∷ es) zero g i x all is = absurd (cc)
   era-at (e ∷ es) (suc n) g i x all is = grind (arith, common_steps, era-at es n g i x)
+  era-at es n g i x all is = grind (arith, common_steps)
 
   relocated-eras : (fs : List (Entry T)) (es : List (Entry T)) (g : ℕ) → eras (map (at_compressed_index es g) fs) ≡ replicate (length fs) g
   relocated-eras [] es g = refl
@@ -247,9 +245,9 @@ module _ {T : Type 0} where
             era = b.era;
           }
 
-  vacant-same : (xs ys : List (Entry T)) → ((m : ℕ) → times m xs ≡ times m ys) → (n from : ℕ) → vacant_among xs from n ≡ vacant_among ys from n
-  vacant-same xs ys same zero from = refl
-  vacant-same xs ys same (suc n) from = rw (same from, vacant-same xs ys same n (from + 1)) refl
+  pub vacant-same : {U : Type 0} (xs : List (Entry T)) (ys : List (Entry U)) (n from : ℕ) → ((m : ℕ) → from ≤ m → times m xs ≡ times m ys) → vacant_among xs from n ≡ vacant_among ys from n
+  vacant-same xs ys zero from same = refl
+  vacant-same xs ys (suc n) from same = rw (same from (omega arith), vacant-same xs ys n (from + 1) (λ m far. same m (omega (arith, far)))) refl
 
   -- at last all have
   pub canonical-ends : (most : ℕ) (greatest : Option ℕ) (c : Chain T) (g : ℕ) (now : Chain T) (at : Option ℕ) (k : ℕ) → IsSound most greatest c → length c.entries ≤ k
@@ -258,8 +256,7 @@ module _ {T : Type 0} where
 
 -- an index that a chosen one is
 pub chosen : {I : Type 0} (number : I → ℕ) (o : Option I) (k : ℕ) → option_map number o ≡ Some k → is_some o ≡ true
-chosen number None k is = absurd (none-some k is)
-chosen number (Some i) k is = refl
+chosen number o k is = grind (arith, common_steps)
 
 pub chosen-is : {I : Type 0} (number : I → ℕ) (o : Option I) (k : ℕ) (i : I) → option_map number o ≡ Some k → o ≡ Some i → number i ≡ k
 chosen-is number o k i is there = same_Some (number i) k (sym (ap (option_map number) there) ∙ is)

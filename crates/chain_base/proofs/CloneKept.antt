@@ -37,21 +37,16 @@ module _ {P T U F K : Type 0} (numbers : P → ℕ × ℕ) (step : F → P → L
       items : map keep c.items ≡ map (λ (e : ℕ × ℕ × U). see e.2) (entries_rising source)
       items = clones-keep numbers step (λ (u : Link U). see u.item) keep keeps (links_rising source) f c.last [] c.items c.calls ∙ links-entries see source.entries 1 source.capacity
 
-      count : times i new.entries ≡ times i source.entries
-      count = (alike-pointers new.entries source.entries c.entries.order).count i
-
-      twice : (o : Option (ℕ × T)) → option_map (λ e. keep e.1) o ≡ option_map keep (option_map {U = T} (λ e. e.1) o)
-      twice None = refl
-      twice (Some e) = refl
-
       by : (o : Option (ℕ × U)) → entry_at source.entries i ≡ o → option_map (λ e. keep e.1) (entry_at new.entries i) ≡ option_map (λ e. see e.1) o
-      by None is = ap (option_map (λ (e : ℕ × T). keep e.1)) (entry_at-absent new.entries i (count ∙ entry-absent source.entries i is))
+      by None is =
+          let count = (alike-pointers new.entries source.entries c.entries.order).count i in
+          ap (option_map (λ (e : ℕ × T). keep e.1)) (entry_at-absent new.entries i (count ∙ entry-absent source.entries i is))
       by (Some e) is =
-          twice (entry_at new.entries i)
-          ∙ (ap (option_map keep) (c.entries.made i (entry-occurs source.entries i (ap is_some is)))
-          ∙ (sym (slice_get-map keep c.items (lesser source.entries i))
-          ∙ (ap (λ ks. slice_get ks (lesser source.entries i)) items
-          ∙ (slice_get-map (λ (e : ℕ × ℕ × U). see e.2) (entries_rising source) (lesser source.entries i) ∙ ap (option_map (λ (e : ℕ × ℕ × U). see e.2)) (rising-entry most greatest source sound i e is)))))
+          let place = lesser source.entries i in
+          let made = c.entries.made i (entry-occurs source.entries i (ap is_some is)) in
+          let kept = sym (slice_get-map keep c.items place) ∙ ap (λ ks. slice_get ks place) items ∙ slice_get-map (λ (e : ℕ × ℕ × U). see e.2) (entries_rising source) place in
+          let rises = rising-entry most greatest source sound i e is in
+          grind (arith, common_steps, made, kept, rises)
 
 -- lists of the same pointers whose indexes find the same items
 pub same_entries : {T : Type 0} (es fs : List (Entry T)) → IsDistinct es → pointers fs ≡ pointers es
@@ -60,19 +55,12 @@ same_entries [] [] distinct order items = refl
 same_entries [] (f ∷ fs) distinct order items = absurd cc
 same_entries (e ∷ es) [] distinct order items = absurd cc
 same_entries {T} (e ∷ es) (f ∷ fs) distinct order items =
-    let pair : ◌≡◌ {A = ℕ × ℕ} (f.index, f.generation) (e.index, e.generation) = cc in
-    let index : f.index ≡ e.index = ap (λ (p : ℕ × ℕ). p.0) pair in
-    let era : f.generation ≡ e.generation = ap (λ (p : ℕ × ℕ). p.1) pair in
     let rest : pointers fs ≡ pointers es = cc in
     let alike = alike-pointers fs es rest in
-    let item : f.item ≡ e.item = let here = items e.index in grind (arith, common_steps) in
-    let more = same_entries es fs (λ i. omega (arith, distinct i)) rest (λ i. elim (eqb_tells e.index i) [
-      | inl h ↦
-          let gone : times i es ≡ 0 = omega (arith, distinct i, times-here i e es h.1) in
-          ap (option_map (λ (e : ℕ × T). e.1)) (entry_at-absent fs i (alike.count i ∙ gone) ∙ sym (entry_at-absent es i gone))
-      | inr h ↦ let here = items i in rw (index, h.0) at here
-    ]) in
-    rw (← more, ← index, ← era, ← item) refl
+    let here = items e.index in
+    let more = same_entries es fs (λ i. omega (arith, distinct i)) rest
+    (λ i. grind (arith, common_steps, items i, distinct i, alike.count i, entry_at-absent fs i, entry_at-absent es i)) in
+    grind (arith, common_steps)
 
 -- a clone by calls that each answer the item that they are shown
 pub clone-same : {P U F : Type 0} (numbers : P → ℕ × ℕ) (step : F → P → Link U → U → F → Type 0) → ((f : F) (p : P) (u : Link U) (x : U) (g : F) → step f p u x g → x ≡ u.item)

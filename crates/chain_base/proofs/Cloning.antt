@@ -36,8 +36,7 @@ abbrev frame : {X : Type 0} → Option (ℕ × Link X) → Option (ℕ × Option
 frame o = option_map (λ e. (e.0, e.1.prev, e.1.next)) o
 
 unframed : {X : Type 0} (o : Option (ℕ × Link X)) → frame o ≡ None → o ≡ None
-unframed None is = refl
-unframed (Some e) is = absurd (none-some _ (sym is))
+unframed o is = grind (arith, common_steps)
 
 framed : {X Y : Type 0} (o : Option (ℕ × Link X)) (p : Option (ℕ × Link Y)) → frame o ≡ frame p → is_some o ≡ true → is_some p ≡ true
 framed o p same some = grind (arith, common_steps)
@@ -67,22 +66,16 @@ module _ {T U : Type 0} where
   -- slots with items have the source's generations and neighbours
   with_items-frame : (i : ℕ) (slots : List (Option (ℕ × Link U))) (items : List (Link T)) → map ends_of items ≡ map (λ (e : ℕ × ℕ × Link U). ends_of e.2) (entries_from i slots)
       → (k : ℕ) → frame (get_or (with_items slots items) k None) ≡ frame (get_or slots k None)
-  with_items-frame i [] items same k = refl
-  with_items-frame i (None ∷ slots) items same zero = refl
   with_items-frame i (None ∷ slots) items same (suc k) = with_items-frame (i + 1) slots items same k
-  with_items-frame i (Some e ∷ slots) [] same k = absurd cc
-  with_items-frame i (Some e ∷ slots) (x ∷ items) same zero = let ends : ends_of x ≡ ends_of e.1 = cc in ap (λ (b : Option ℕ × Option ℕ). Some (e.0, b.0, b.1)) ends
   with_items-frame i (Some e ∷ slots) (x ∷ items) same (suc k) = with_items-frame (i + 1) slots items (cc) k
+  with_items-frame i slots items same k = grind (arith, common_steps)
 
   -- and each the item of its number
   with_items-item : (slots : List (Option (ℕ × Link U))) (items : List (Link T)) (k : ℕ) (e : ℕ × Link U) → get_or slots k None ≡ Some e
       → option_map (λ (e : ℕ × Link T). e.1.item) (get_or (with_items slots items) k None) ≡ slice_get (map (λ l. l.item) items) (count_by is_some (take k slots))
-  with_items-item [] items k e is = absurd (none-some e is)
-  with_items-item (None ∷ slots) items zero e is = absurd (none-some e is)
   with_items-item (None ∷ slots) items (suc k) e is = grind (arith, common_steps, with_items-item slots items k e is)
-  with_items-item (Some d ∷ slots) [] k e is = refl
-  with_items-item (Some d ∷ slots) (x ∷ items) zero e is = refl
   with_items-item (Some d ∷ slots) (x ∷ items) (suc k) e is = grind (arith, common_steps, with_items-item slots items k e is)
+  with_items-item slots items k e is = grind (arith, common_steps)
 
   module _ (slots0 : List (Option (ℕ × Link U))) (slots : List (Option (ℕ × Link T))) (first last : Option ℕ) (es : List (Entry U)) (laid : IsLaidOut slots0 first last es)
       (same : (i : ℕ) → frame (get_or slots i None) ≡ frame (get_or slots0 i None)) where
@@ -103,8 +96,7 @@ module _ {T U : Type 0} where
 
 -- slots that are vacant one and all
 resized-laid : {T : Type 0} (n : ℕ) → IsLaidOut {T = T} (resized n []) None None []
-resized-laid zero = IsLaidOut-cleared (0 - 0)
-resized-laid (suc n) = IsLaidOut-cleared (suc n - 0)
+resized-laid n = grind (arith, common_steps, IsLaidOut-cleared)
 
 -- The step of a clone of links, from that of its items.
 abbrev pub link_step : {P T U M N : Type 0} → (M → P → Link U → Result T AllocError → M → Type 0) → (N → M) → N → P → Link U → Result (Link T) AllocError → N → Type 0

@@ -38,31 +38,25 @@ module _ {T : Type 0} where
   link-is l item prev next i p n = rw (i, ← p, ← n) refl
 
   fewer : (slots : List (Option (ℕ × Link T))) → 0 < length slots → get_or slots 0 None ≡ None → count_by is_some slots < length slots
-  fewer [] some none = absurd (omega arith)
-  fewer (None ∷ slots) some none = omega (arith, sum_by-cons (λ (o : Option (ℕ × Link T)). cond (is_some o) 1 0) None slots, count_by-le-length is_some slots)
-  fewer (Some e ∷ slots) some none = absurd cc
+  fewer slots some none = grind (arith, common_steps, sum_by-cons, count_by-le-length)
 
   -- links with other previous neighbours, or with next ones that have learnt their places
   next-kept : (o : Option (ℕ × Link T)) (p : Option ℕ) → (option_and_then (λ e. e.1.next) (option_map (with_prev p) o) ≡ option_and_then (λ e. e.1.next) o)
       × (is_some (option_map (with_prev p) o) ≡ is_some o) × (option_map (with_prev p) (option_map (with_prev p) o) ≡ option_map (with_prev p) o)
-  next-kept None p = (refl, refl, refl)
-  next-kept (Some e) p = (refl, refl, refl)
+  next-kept o p = grind (arith, common_steps)
 
   prev-again : (o : Option (ℕ × Link T)) (p : Option ℕ) → option_map (with_prev (option_map (λ i. i) (option_and_then (λ e. e.1.prev) o))) (option_map (with_prev p) o) ≡ o
-  prev-again None p = refl
-  prev-again (Some e) p = rw (option_map-itself e.1.prev) refl
+  prev-again o p = grind (arith, common_steps, option_map-itself)
 
   unlinked : (o : Option (ℕ × Link T)) → option_and_then (λ e. e.1.next) o ≡ None → option_map (with_next None) o ≡ o
-  unlinked None none = refl
-  unlinked (Some e) none = rw (← none) refl
+  unlinked o none = grind (arith, common_steps)
 
   abbrev to_place : (ℕ → ℕ) → ℕ × Link T → ℕ × Link T
   to_place place e = (e.0, record e.1 { next = option_map place e.1.next })
 
   linked : (place : ℕ → ℕ) (o : Option (ℕ × Link T)) → (option_map (with_next (option_map place (option_and_then (λ e. e.1.next) o))) o ≡ option_map (to_place place) o)
       × (option_map {U = ℕ × T} (λ e. (e.0, e.1.item)) (option_map (to_place place) o) ≡ option_map (λ e. (e.0, e.1.item)) o)
-  linked place None = (refl, refl)
-  linked place (Some e) = (refl, refl)
+  linked place o = grind (arith, common_steps)
 
   module _ (a0 : Arena (Link T)) (first last : Option ℕ) (es : List (Entry T)) (laid : IsLaidOut a0.slots first last es) where
     abbrev place : ℕ → ℕ

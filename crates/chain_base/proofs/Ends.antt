@@ -11,25 +11,21 @@ use Rattle.chain_base.proofs.Lists.{times-here, times-there, times-last, times-u
 
 -- an option is there where what it is mapped to is there
 pub some-of : {A B : Type 0} (f : A → B) (o : Option A) (p : Option B) → option_map f o ≡ p → IsSome p → IsSome o
-some-of f None p same some = rw (← same) at some
-some-of f (Some x) p same some = refl
+some-of f o p same some = grind (arith, common_steps)
 
 module _ {T : Type 0} where
   -- the pointer to the last index is the last pointer
   pub pointed-last : (es : List (Entry T)) (i : ℕ) → times i es ≤ 1 → last_or None es ≡ Some i → pointed i (entry_at es i) ≡ last_pointer es
-  pointed-last [] i once last = absurd (cc)
-  pointed-last (e ∷ []) i once last = grind (arith, common_steps)
   pointed-last (e ∷ f ∷ es) i once last = grind (arith, common_steps, pointed-last (f ∷ es) i, i, times-here, times-last, times-there)
+  pointed-last es i once last = grind (arith, common_steps)
 
   pub last_pointer-none : (es : List (Entry T)) → last_or None es ≡ None → last_pointer es ≡ None
-  last_pointer-none [] none = refl
-  last_pointer-none (e ∷ []) none = absurd (cc)
   last_pointer-none (e ∷ f ∷ es) none = last_pointer-none (f ∷ es) none
+  last_pointer-none es none = grind (arith, common_steps)
 
   -- the item of a pointer is that of the link in its slot
   item_if-link : (g : ℕ) (o : Option (ℕ × Link T)) → item_if g (option_map (λ e. (e.0, e.1.item)) o) ≡ option_map (λ l. l.item) (item_if g o)
-  item_if-link g None = refl
-  item_if-link g (Some e) = elim (eqb_tells e.0 g) [ inl h ↦ rw h.0 refl | inr h ↦ rw h.0 refl ]
+  item_if-link g o = grind (arith, common_steps)
 
   -- where there is no entry there is no link
   pub link_at-none : (es : List (Entry T)) (i : ℕ) → is_some (entry_at es i) ≡ false → None ≡ link_at es i

@@ -94,14 +94,10 @@ module _ {T : Type 0} where
     -- what an exchanged link names has an entry, in an arena that holds entries at the same indexes
     pub target : (side : Side) (k : ℕ) (a : Arena (Link T)) → Alike a a0 → (o p : Option ℕ) → o ≡ option_map (other i j) p → p ≡ beside side es k → (x : ℕ) → o ≡ Some x → IsSome (slot a x)
     target side k a same o p is at x names =
-        same.held x ∙ by p at (sym is ∙ names)
-      where
-        by : (p : Option ℕ) → p ≡ beside side es k → option_map (other i j) p ≡ Some x → is_some (slot a0 x) ≡ true
-        by None at none = absurd cc
-        by (Some y) at to =
-            let there = held-is a0.slots es y held (beside-occurs (opposite side) es y k (facing side es can.laid.distinct k y (sym at))) in
-            let is : other i j y ≡ x = cc in
-            subst (λ n. is_some (slot a0 n) ≡ true) is (other-holds i j (λ n. is_some (slot a0 n) ≡ true) (slot-some i can.at_i) (slot-some j can.at_j) y there)
+        let to : beside side es k ≡ Some (other i j x) = grind (arith, common_steps, p, other-twice i j) in
+        let there = held-is a0.slots es _ held (beside-occurs (opposite side) es _ k (facing side es can.laid.distinct k _ to)) in
+        let held_too = other-holds i j (λ n. is_some (slot a0 n) ≡ true) (slot-some i can.at_i) (slot-some j can.at_j) _ there in
+        same.held x ∙ subst (λ n. is_some (slot a0 n) ≡ true) (other-twice i j x) held_too
 
     -- what the writes make of a neighbour's name
     renamed : (named_i named_j : Option ℕ) (x : ℕ) (o : Option ℕ)

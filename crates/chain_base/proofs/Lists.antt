@@ -8,16 +8,13 @@ use Rattle.chain_base.specs.Layout.{walk, names, with_next, with_prev, relinked}
 use Rattle.chain_base.specs.Chain.{Entry, times, entry_at, first_or, last_or, link_at, link_between, insert_after, insert_before, without, with_item_among, with_generation}
 
 pub option_or-none : {A : Type 0} (o : Option A) → option_or o None ≡ o
-option_or-none None = refl
-option_or-none (Some x) = refl
+option_or-none o = grind (arith, common_steps)
 
 pub option_map-itself : {A : Type 0} (o : Option A) → option_map (λ x. x) o ≡ o
-option_map-itself None = refl
-option_map-itself (Some x) = refl
+option_map-itself o = grind (arith, common_steps)
 
 pub names_tells : (o : Option ℕ) (i : ℕ) → ((names o i ≡ true) × (o ≡ Some i)) ⊎ ((names o i ≡ false) × (o ≢ Some i))
-names_tells None i = inr (refl, λ h. cc)
-names_tells (Some j) i = grind (arith, common_steps, i)
+names_tells o i = grind (arith, common_steps)
 
 -- lists of the same indexes
 pub record SameIndexes {T U : Type 0} (es : List (Entry T)) (fs : List (Entry U)) : Type 0 where
@@ -49,8 +46,7 @@ module _ {T : Type 0} where
   times-inserted k xs new ys absent once = grind (arith, nat_tests, times-append k xs ys, times-append k xs (new ∷ ys), times-append new.index xs ys)
 
   pub first_or-append : (after : Option ℕ) (xs ys : List (Entry T)) → first_or after (xs ++ ys) ≡ first_or (first_or after ys) xs
-  first_or-append after [] ys = refl
-  first_or-append after (x ∷ xs) ys = refl
+  first_or-append after xs ys = grind (arith, common_steps)
 
   pub last_or-append : (before : Option ℕ) (xs ys : List (Entry T)) → last_or before (xs ++ ys) ≡ last_or (last_or before xs) ys
   last_or-append before [] ys = refl
@@ -68,14 +64,12 @@ module _ {T : Type 0} where
 
   -- the last index stands in the list
   pub times-last : (es : List (Entry T)) (i : ℕ) → last_or None es ≡ Some i → 1 ≤ times i es
-  times-last [] i last = absurd (cc)
-  times-last (e ∷ []) i last = grind (arith, common_steps)
   times-last (e ∷ f ∷ es) i last = omega (arith, times-last (f ∷ es) i last)
+  times-last es i last = grind (arith, common_steps)
 
   -- the first index stands in the list
   pub times-first : (es : List (Entry T)) (i : ℕ) → first_or None es ≡ Some i → 1 ≤ times i es
-  times-first [] i first = absurd (cc)
-  times-first (e ∷ es) i first = grind (arith, common_steps)
+  times-first es i first = grind (arith, common_steps)
 
   -- an index that stands nowhere in a stretch names nothing there
   pub link_between-absent : (before after : Option ℕ) (es : List (Entry T)) (i : ℕ) → times i es ≡ 0 → link_between before after es i ≡ None
@@ -110,8 +104,7 @@ module _ {T : Type 0} where
   -- another near end is seen by the first index alone
   pub link_between-before : (before after other : Option ℕ) (es : List (Entry T)) (i : ℕ)
       → link_between other after es i ≡ (let o = link_between before after es i in if names (first_or None es) i then option_map (with_prev other) o else o)
-  link_between-before before after other [] i = refl
-  link_between-before before after other (e ∷ es) i = grind (arith, common_steps)
+  link_between-before before after other es i = grind (arith, common_steps)
 
   -- where an index stands in a list, for the first time, and what becomes of the list by a change there
   pub record Stands (es : List (Entry T)) (i : ℕ) : Type 0 where

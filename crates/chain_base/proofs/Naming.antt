@@ -39,17 +39,14 @@ module _ {T : Type 0} where
   -- a slot once the entry of an index, if one is named, has another neighbour
   slot-facing : (side : Side) (a : Arena (Link T)) (at other : Option ℕ) (j : ℕ)
       → slot (linked_facing side a at other) j ≡ (if names at j then option_map (with_facing side other) (slot a j) else slot a j)
-  slot-facing Before a at other j = grind (arith, common_steps)
-  slot-facing After a at other j = grind (arith, common_steps)
+  slot-facing side a at other j = grind (arith, common_steps)
 
   -- the arena holds entries at the same indexes, which have the same neighbours on the side itself
   alike-facing : (side : Side) (a b : Arena (Link T)) (at other : Option ℕ) → Alike a b → Alike (linked_facing side a at other) b
-  alike-facing Before a b at other same = alike-next a b _ at other refl same
-  alike-facing After a b at other same = alike-prev a b _ at other refl same
+  alike-facing side a b at other same = grind (arith, common_steps, alike-next, alike-prev)
 
   names-facing : (side : Side) (a : Arena (Link T)) (at other : Option ℕ) (j : ℕ) → named side (linked_facing side a at other) j ≡ named side a j
-  names-facing Before a at other j = grind (arith, common_steps)
-  names-facing After a at other j = grind (arith, common_steps)
+  names-facing side a at other j = grind (arith, common_steps)
 
   module _ (side : Side) (old now : Arena (Link T)) (count : ℕ) (end : Option ℕ) (c : ℕ) (b : NamedBelow side old now count end c) (inside : c < length old.slots)
       (paired : IsPaired side old) where
@@ -112,9 +109,8 @@ module _ {T : Type 0} where
 
   -- an index with an entry lies within the slots
   held-inside : (slots : List (Option (ℕ × Link T))) (i : ℕ) → is_some (get_or slots i None) ≡ true → i < length slots
-  held-inside [] i held = absurd (cc)
-  held-inside (x ∷ xs) zero held = omega arith
   held-inside (x ∷ xs) (suc i) held = let ih = held-inside xs i held in omega arith
+  held-inside es i held = grind (arith, common_steps)
 
   -- an index that is named lies within the slots
   named-within : (side : Side) (a : Arena (Link T)) (i k : ℕ) → named side a i ≡ Some k → i < length a.slots
@@ -169,8 +165,7 @@ module _ {T : Type 0} (side : Side) (old : Arena (Link T)) (es : List (Entry T))
 
 -- the index that is made of a number within the limit
 pub index-made : {I : Type 0} (number : I → ℕ) (most n : ℕ) (r : Option I) → (IsSome r ↔ ((0 < n) × (n ≤ most))) → IfSome r (λ i. number i ≡ n) → 0 < n → n ≤ most → option_map number r ≡ Some n
-index-made number most n None made value above within = absurd (false≢true (made.1 (above, within)))
-index-made number most n (Some i) made value above within = ap Some value
+index-made number most n o made value above within = grind (arith, common_steps)
 
 -- it stands for itself in a link
 pub neighbour-within : (most n : ℕ) → n ≤ most → named_of most (Some n) ≡ Some n

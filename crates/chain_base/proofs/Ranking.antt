@@ -79,20 +79,17 @@ module _ {X : Type 0} where
 
   pub entry-placed : (from : ℕ) (slots : List (Option (ℕ × X))) (x : ℕ) (e : ℕ × X) → get_or slots x None ≡ Some e
       → slice_get (entries_from from slots) (count_by is_some (take x slots)) ≡ Some (from + x, e.0, e.1)
-  entry-placed from [] x e is = absurd (none-some e is)
-  entry-placed from (None ∷ slots) zero e is = absurd (none-some e is)
-  entry-placed from (Some f ∷ slots) zero e is = grind (arith, common_steps)
   entry-placed from (None ∷ slots) (suc x) e is = grind (arith, common_steps, entry-placed (from + 1) slots x e is)
   entry-placed from (Some f ∷ slots) (suc x) e is = grind (arith, common_steps, entry-placed (from + 1) slots x e is)
+  entry-placed from slots x e is = grind (arith, common_steps)
 
   -- an entry of generation g
   abbrev pub with_era : ℕ → X → ℕ × X
   with_era g x = (g, x)
 
   filled-at : (g : ℕ) (xs : List X) (n k : ℕ) → get_or (map (λ x. Some (with_era g x)) xs ++ replicate n None) k None ≡ option_map (with_era g) (slice_get xs k)
-  filled-at g [] n k = get_or-vacant n k
-  filled-at g (x ∷ xs) n zero = refl
   filled-at g (x ∷ xs) n (suc k) = filled-at g xs n k
+  filled-at g xs n k = grind (arith, common_steps, get_or-vacant)
 
   -- the slots of a compressed arena
   abbrev pub compact : ℕ → ℕ → List X → List (Option (ℕ × X))
@@ -102,26 +99,21 @@ module _ {X : Type 0} where
   compact-is n g xs fits = grind (arith, common_steps)
 
   pub compressed-length : (n g : ℕ) (xs : List X) → length xs < n → length (compact n g xs) ≡ n
-  compressed-length zero g xs fits = absurd (omega arith)
-  compressed-length (suc n) g xs fits = grind (arith, common_steps)
+  compressed-length n g xs fits = grind (arith, common_steps)
 
   pub compressed-at : (n g : ℕ) (xs : List X) (k : ℕ) → length xs < n → get_or (compact n g xs) (suc k) None ≡ option_map (with_era g) (slice_get xs k)
-  compressed-at zero g xs k fits = absurd (omega arith)
-  compressed-at (suc n) g xs k fits = rw (compact-is n g xs fits) (filled-at g xs (n - length xs) k)
+  compressed-at n g xs k fits = grind (arith, common_steps, compact-is, filled-at)
 
   pub compressed-first : (n : ℕ) (xs : List (Option (ℕ × X))) → get_or (resized n (None ∷ xs)) 0 None ≡ None
-  compressed-first zero xs = get_or-vacant (0 - suc (length xs)) 0
-  compressed-first (suc n) xs = refl
+  compressed-first n xs = grind (arith, common_steps, get_or-vacant)
 
   -- its entries stand one after the other
   filled-count : (g : ℕ) (xs : List X) (n k : ℕ) → k ≤ length xs → count_by is_some (take k (map (λ x. Some (with_era g x)) xs ++ replicate n None)) ≡ k
-  filled-count g xs n zero within = refl
-  filled-count g [] n (suc k) within = absurd (omega arith)
   filled-count g (x ∷ xs) n (suc k) within = grind (arith, common_steps, filled-count g xs n k)
+  filled-count g xs n k within = grind (arith, common_steps)
 
   pub compressed-place : (n g : ℕ) (xs : List X) (k : ℕ) → length xs < n → k ≤ length xs → count_by is_some (take (k + 1) (compact n g xs)) ≡ k
-  compressed-place zero g xs k fits within = absurd (omega arith)
-  compressed-place (suc n) g xs k fits within = grind (arith, common_steps, with_era g, compact-is n g xs fits, fits, add-one, sum_by-cons, zero-add, filled-count g xs, within)
+  compressed-place n g xs k fits within = grind (arith, common_steps, compact-is, sum_by-cons, filled-count)
 
 -- the entries by rising index, from slots and from the list: `at` tells what the list has at an index, `among` lists that
 module _ {X Y : Type 0} (see : X → Y) (at : ℕ → Option (ℕ × Y)) (among : ℕ → ℕ → List (ℕ × ℕ × Y)) (none : (i : ℕ) → among i 0 ≡ [])

@@ -71,8 +71,7 @@ module _ {T : Type 0} where
   -- a neighbour is another entry
   side-occurs : (side : Side) (front : List (Entry T)) (e : Entry T) (back : List (Entry T)) (k : ℕ)
       → neighbour_on side (record { item = e.item; prev = last_or None front; next = first_or None back }) ≡ Some k → 1 ≤ times k front + times k back
-  side-occurs Before front e back k is = omega (arith, times-last front k is)
-  side-occurs After front e back k is = omega (arith, times-first back k is)
+  side-occurs side front e back k is = grind (arith, common_steps, times-last, times-first)
 
   pub beside-other : (side : Side) (es : List (Entry T)) → IsDistinct es → (i k : ℕ) → beside side es i ≡ Some k → (i ≢ k) × (1 ≤ times k es)
   beside-other side es distinct i k is =
@@ -88,28 +87,21 @@ module _ {T : Type 0} where
   before-some b (e ∷ es) i occurs none = grind (arith, common_steps, before-some e.index es i)
 
   after-none : (before : Option ℕ) (es : List (Entry T)) (i : ℕ) → 1 ≤ times i es → beside_in After before es i ≡ None → last_or None es ≡ Some i
-  after-none before [] i occurs none = absurd (omega arith)
-  after-none before (e ∷ []) i occurs none = grind (arith, common_steps)
   after-none before (e ∷ f ∷ es) i occurs none = grind (arith, common_steps, after-none (Some e.index) (f ∷ es) i)
+  after-none before es i occurs none = grind (arith, common_steps)
 
   pub end-unnamed : (side : Side) (es : List (Entry T)) (i : ℕ) → 1 ≤ times i es → beside side es i ≡ None → end_on side es ≡ Some i
-  end-unnamed Before [] i occurs none = absurd (omega arith)
-  end-unnamed Before (e ∷ es) i occurs none = grind (arith, common_steps, before-some e.index es i)
-  end-unnamed After es i occurs none = after-none None es i occurs none
+  end-unnamed side es i occurs none = grind (arith, common_steps, before-some, after-none)
 
   last-none : (before : Option ℕ) (es : List (Entry T)) (i : ℕ) → times i es ≤ 1 → last_or None es ≡ Some i → beside_in After before es i ≡ None
-  last-none before [] i once last = refl
-  last-none before (e ∷ []) i once last = grind (arith, common_steps)
   last-none before (e ∷ f ∷ es) i once last = grind (arith, common_steps, last-none (Some e.index) (f ∷ es) i, times-last (f ∷ es) i last)
+  last-none before es i once last = grind (arith, common_steps)
 
   pub unnamed-end : (side : Side) (es : List (Entry T)) (i : ℕ) → times i es ≤ 1 → end_on side es ≡ Some i → beside side es i ≡ None
-  unnamed-end Before [] i once first = refl
-  unnamed-end Before (e ∷ es) i once first = grind (arith, common_steps)
-  unnamed-end After es i once last = last-none None es i once last
+  unnamed-end side es i once end = grind (arith, common_steps, last-none)
 
   pub end-occurs : (side : Side) (es : List (Entry T)) (i : ℕ) → end_on side es ≡ Some i → 1 ≤ times i es
-  end-occurs Before es i is = times-first es i is
-  end-occurs After es i is = times-last es i is
+  end-occurs side es i is = grind (arith, common_steps, times-first, times-last)
 
   pub end-none : (side : Side) (es : List (Entry T)) (i : ℕ) → end_on side es ≡ None → times i es ≡ 0
   end-none side [] i none = refl
@@ -126,8 +118,7 @@ module _ {T : Type 0} where
     followed x e = let p = alter x (e.0, e.1.item) in (p.0, record { item = p.1; prev = option_map renumber e.1.prev; next = option_map renumber e.1.next })
 
     first_or-renumbered : (xs : List (Entry T)) → first_or None (map altered xs) ≡ option_map renumber (first_or None xs)
-    first_or-renumbered [] = refl
-    first_or-renumbered (e ∷ es) = refl
+    first_or-renumbered xs = grind (arith, common_steps)
 
     last_or-renumbered : (b : Option ℕ) (xs : List (Entry T)) → last_or (option_map renumber b) (map altered xs) ≡ option_map renumber (last_or b xs)
     last_or-renumbered b [] = refl

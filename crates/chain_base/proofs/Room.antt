@@ -6,19 +6,16 @@ use Rattle.chain_base.specs.Insert.{IsInsertion}
 use Rattle.chain_base.proofs.Vacancy.{greatest-occurs}
 
 head-absent : (is : List ℕ) → length is ≡ 0 → is_some (slice_get is 0) ≡ false
-head-absent [] none = refl
-head-absent (i ∷ is) none = absurd (omega arith)
+head-absent is none = grind (arith, common_steps)
 
 module _ {T : Type 0} where
   -- an insertion keeps the capacity
   pub inserted-capacity : (c : Chain T) (place : Entry T → List (Entry T)) (item : T) (vacant : List ℕ) → (inserted_at c place item vacant).capacity ≡ c.capacity
-  inserted-capacity c place item [] = refl
-  inserted-capacity c place item (i ∷ rest) = refl
+  inserted-capacity c place item vacant = grind (arith, common_steps)
 
   pub capacity-kept : {P E : Type 0} (old new : Chain T) (place : Entry T → List (Entry T)) (item : T) (numbers : P → ℕ × ℕ) (r : Result P E)
       → IfOk r (λ p. IsInsertion old new place item (numbers p).0 (numbers p).1) → OnErr r (new ≡ old) → new.capacity ≡ old.capacity
-  capacity-kept old new place item numbers (Ok p) ok err = ap (λ (c : Chain T). c.capacity) ok.after ∙ inserted-capacity old place item old.vacant
-  capacity-kept old new place item numbers (Err e) ok err = ap (λ (c : Chain T). c.capacity) err
+  capacity-kept old new place item numbers r ok err = grind (arith, common_steps, inserted-capacity)
 
   -- an index that no entry has is among the vacant ones, so that there is a first of them
   vacant_among-some : (es : List (Entry T)) (from count k : ℕ) → from ≤ k → k < from + count → times k es ≡ 0 → IsSome (slice_get (vacant_among es from count) 0)

@@ -42,13 +42,11 @@ module _ {T : Type 0} where
 
   -- the first of a list that goes on, or another first where there is nothing before
   first_or-end : (xs zs : List (Entry T)) (d : Option ℕ) → (if is_some (last_or None xs) then first_or None (xs ++ zs) else d) ≡ first_or d xs
-  first_or-end [] zs d = refl
-  first_or-end (x ∷ xs) zs d = rw (last_or-there x.index xs) refl
+  first_or-end xs zs d = grind (arith, common_steps, last_or-there)
 
   -- the last of a list that was there before, or another last where there is nothing after
   last_or-end : (zs ys : List (Entry T)) (d : Option ℕ) → (if is_some (first_or None ys) then last_or None (zs ++ ys) else d) ≡ last_or d ys
-  last_or-end zs [] d = refl
-  last_or-end zs (y ∷ ys) d = last_or-append None zs (y ∷ ys)
+  last_or-end zs ys d = grind (arith, common_steps, last_or-append)
 
   -- what an insertion between two neighbours makes of a chain
   pub record Inserts (a b : Arena (Link T)) (first first2 last2 : Option ℕ) (place : Entry T → List (Entry T)) (item : T) (j g : ℕ) : Type 0 where
@@ -152,8 +150,8 @@ module _ {T : Type 0} where
   pub IsLaidOut-cleared : (n : ℕ) → IsLaidOut {T = T} (replicate n None) None None []
   IsLaidOut-cleared n = laid-links _ None None [] (get_or-vacant n) (λ i. omega arith) refl refl
 
-  pub Lies-cleared : (greatest : Option ℕ) (a : Arena (Link T)) (first : Option ℕ) → Lies (arena_cleared greatest a) None None (cleared greatest (chain_of a first))
-  Lies-cleared greatest a first =
+  pub Lies-cleared : (greatest : Option ℕ) (a : Arena (Link T)) → Lies (arena_cleared greatest a) None None (cleared greatest (chain_of a None))
+  Lies-cleared greatest a =
       let size : length (replicate {A = Option (ℕ × Link T)} (length a.slots) None) - 1 ≡ arena_capacity a = ap (λ n. n - 1) (length-replicate (length a.slots) None) in
       let none = IsLaidOut-cleared (length a.slots) in
-      lies (arena_cleared greatest a) None None (cleared greatest (chain_of a first)) none size (vacant-held {T = T} _ [] (held-laid _ None None [] none) ∙ ap (vacant_indexes {T = T} []) size) refl refl
+      lies (arena_cleared greatest a) None None (cleared greatest (chain_of a None)) none size (vacant-held {T = T} _ [] (held-laid _ None None [] none) ∙ ap (vacant_indexes {T = T} []) size) refl refl

@@ -18,25 +18,22 @@ use Rattle.chain_base.specs.Compression.{numbered, refilled, Transferring, Trans
 use Rattle.chain_base.specs.Transfer.{filled_with, last_of, place_behind, TakesOut, HasTaken}
 use Rattle.chain_base.proofs.Lists.{same_index}
 use Rattle.chain_base.proofs.Room.{greatest-within}
-use Rattle.chain_base.proofs.Canonical.{numbered-push, times-numbered}
+use Rattle.chain_base.proofs.Canonical.{numbered-push, times-numbered, vacant-same}
 
 -- what is there is said
 pub on_taken : {X Y : Type 0} (f : X → Y) (y : Y) (o : Option X) (A : Type 0) → option_map f o ≡ Some y → OnSome o A → A
-on_taken f y None A is some = absurd cc
-on_taken f y (Some x) A is some = some
+on_taken f y o A is some = grind (arith, common_steps)
 
 module _ {T : Type 0} where
   -- a capacity that is raised
   pub capacity-raised : {X E : Type 0} (most : ℕ) (greatest : Option ℕ) (c new : Chain T) (n : ℕ) (r : Result X E) → IsSound most greatest c → c.capacity < n
       → OnOk r (new ≡ with_capacity c (max n (greatest_index c.entries))) → OnOk r (new.capacity ≡ max c.capacity n)
-  capacity-raised most greatest c new n (Ok x) sound less is = grind (arith, common_steps, greatest-within most greatest c sound)
-  capacity-raised most greatest c new n (Err e) sound less is = tt
+  capacity-raised most greatest c new n r sound less is = grind (arith, common_steps, greatest-within)
 
   -- the item in a link, under a generation or its number
   pub item-numbered : {G : Type 0} (number : G → ℕ) (o : Option (G × Link T))
       → option_map (λ (e : ℕ × Link T). e.1.item) (option_map (λ (e : G × Link T). (number e.0, e.1)) o) ≡ option_map (λ (e : G × Link T). e.1.item) o
-  item-numbered number None = refl
-  item-numbered number (Some e) = refl
+  item-numbered number o = grind (arith, common_steps)
 
   -- the first entry is taken out
   pub takes-out : {Q : Type 0} (numbers : Q → ℕ × ℕ) (greatest : Option ℕ) (old new : Chain T) (from : Q) (taken : InvalidationOption T)
@@ -83,11 +80,6 @@ module _ {T : Type 0} where
     placed-behind (Some i) g [] new is = absurd cc
     placed-behind (Some i) g (x ∷ xs) new is = grind (arith, common_steps, number i, i, insert_after-last g 1 x xs new)
 
-  -- the vacant indexes beside them
-  vacant-all : (es : List (Entry T)) (from count : ℕ) → ((j : ℕ) → from ≤ j → times j es ≡ 0) → vacant_among es from count ≡ vacant_among {T = T} [] from count
-  vacant-all es from zero none = refl
-  vacant-all es from (suc count) none = rw (none from (omega arith)) (ap (λ is. from ∷ is) (vacant-all es (from + 1) count (λ j more. none j (omega (arith, more)))))
-
   vacant-none : (es : List (Entry T)) (from n m : ℕ) → ((j : ℕ) → from ≤ j → j < from + n → times j es ≡ 1) → vacant_among es from (n + m) ≡ vacant_among es (from + n) m
   vacant-none es from zero m all = let same : from ≡ from + 0 = omega arith in let none : 0 + m ≡ m = omega arith in ap (λ n. vacant_among es from n) none ∙ ap (λ i. vacant_among es i m) same
   vacant-none es from (suc n) m all =
@@ -97,7 +89,9 @@ module _ {T : Type 0} where
       ∙ rw (all from (omega arith) (omega arith)) (vacant-none es (from + 1) n m (λ j more less. all j (omega (arith, more)) (omega (arith, less))) ∙ ap (λ i. vacant_among es i m) later)
 
   vacant-numbered : (g : ℕ) (xs : List T) (m : ℕ) → vacant_among (numbered g 1 xs) 1 (length xs + m) ≡ vacant_among {T = T} [] (1 + length xs) m
-  vacant-numbered g xs m = grind (arith, common_steps, vacant-none, times-numbered, vacant-all)
+  vacant-numbered g xs m =
+      vacant-none (numbered g 1 xs) 1 (length xs) m (λ j more less. let is = times-numbered g 1 xs j in grind (arith, nat_tests))
+      ∙ vacant-same {U = T} (numbered g 1 xs) [] m (1 + length xs) (λ j more. let is = times-numbered g 1 xs j in grind (arith, nat_tests))
 
   pub vacant-next : (c : Chain T) (items : List T) (x : T) → length items < c.capacity → (filled_with c items).vacant ≡ (1 + length items) ∷ (filled_with c (items ++ x ∷ [])).vacant
   vacant-next c items x less =
@@ -119,8 +113,7 @@ module _ {T : Type 0} where
   length-numbered g from (x ∷ xs) = ap suc (length-numbered g (from + 1) xs)
 
   pub has-room : {X E : Type 0} (r : Result X E) (c : Chain T) (items : List T) → length items < c.capacity → (IsErr r → length (filled_with c items).entries ≡ c.capacity) → IsOk r
-  has-room (Ok x) c items less full = refl
-  has-room (Err e) c items less full = absurd (omega (arith, less, full refl, length-numbered c.generation 1 items))
+  has-room r c items less full = grind (arith, common_steps, length-numbered)
 
   -- the next index
   vacant-first : (c : Chain T) (items : List T) → length items < c.capacity → slice_get (filled_with c items).vacant 0 ≡ Some (1 + length items)
@@ -133,8 +126,7 @@ module _ {T : Type 0} where
     next-is o vacant same is = is ∙ ap (λ is. slice_get is 0) (same ∙ ap (λ (c : Chain T). c.vacant) put) ∙ vacant-first c items less
 
     pub next-some : (o : Option P) (vacant : List ℕ) → vacant ≡ chain.vacant → option_map (λ p. (numbers p).0) o ≡ slice_get vacant 0 → is_some o ≡ true
-    next-some None vacant same is = absurd (let none = next-is None vacant same is in cc)
-    next-some (Some p) vacant same is = refl
+    next-some o vacant same is = grind (arith, common_steps, next-is)
 
     pub next-at : (p : P) (o : Option P) (vacant : List ℕ) → o ≡ Some p → vacant ≡ chain.vacant → option_map (λ p. (numbers p).0) o ≡ slice_get vacant 0 → (numbers p).0 ≡ length items + 1
     next-at p o vacant found same is = grind (arith, common_steps, items, found, next-is, vacant, same)

@@ -14,19 +14,16 @@ use Rattle.chain_base.proofs.Lists.{times-here, times-unlinked, link_between-abs
 module _ {X : Type 0} where
   -- what is there is something
   pub held-some : (o : Option X) → is_some o ≡ true → (x : X) × (o ≡ Some x)
-  held-some None held = absurd (false≢true held)
-  held-some (Some x) held = (x, refl)
+  held-some o held = grind (arith, common_steps)
 
   -- slots that are vacant one and all
   pub get_or-vacant : (n i : ℕ) → let none : Option X = None in get_or (replicate n none) i none ≡ none
-  get_or-vacant zero i = refl
-  get_or-vacant (suc n) zero = refl
   get_or-vacant (suc n) (suc i) = get_or-vacant n i
+  get_or-vacant n i = refl
 
   pub below-greatest : (xs : List (Option X)) (i : ℕ) (e : X) → get_or xs i None ≡ Some e → i ≤ greatest_occupied xs
-  below-greatest xs zero e held = omega arith
-  below-greatest [] (suc i) e held = absurd (cc)
   below-greatest (x ∷ xs) (suc i) e held = grind (arith, common_steps, list_any_at is_some xs i None, get_or_past xs i None, below-greatest xs i e)
+  below-greatest xs i e held = grind (arith, common_steps)
 
   pub past-greatest : (xs : List (Option X)) (k : ℕ) → greatest_occupied xs < k → get_or xs k None ≡ None
   past-greatest xs k far = grind (arith, common_steps, below-greatest xs k)
@@ -38,8 +35,7 @@ module _ {X : Type 0} where
   greatest-held (Some x ∷ xs) some = grind (arith, common_steps, greatest-held xs)
 
   pub greatest-or_none : (xs : List (Option X)) → (greatest_occupied xs ≡ 0) ⊎ (is_some (get_or xs (greatest_occupied xs) None) ≡ true)
-  greatest-or_none [] = inl refl
-  greatest-or_none (x ∷ xs) = grind (arith, common_steps, greatest-held)
+  greatest-or_none xs = grind (arith, common_steps, greatest-held)
 
   resized-cons : (n : ℕ) (x : Option X) (xs : List (Option X)) → resized (suc n) (x ∷ xs) ≡ x ∷ resized n xs
   resized-cons n x xs = let same : suc n - suc (length xs) ≡ n - length xs = omega arith in rw same refl
@@ -49,15 +45,12 @@ module _ {X : Type 0} where
 
   -- where all slots from n on are vacant, n slots hold the same
   pub get_or-resized : (n : ℕ) (xs : List (Option X)) (i : ℕ) → ((k : ℕ) → n ≤ k → get_or xs k None ≡ None) → get_or (resized n xs) i None ≡ get_or xs i None
-  get_or-resized zero xs i rest = rw (resized-none xs) (sym (rest i (omega arith)))
-  get_or-resized (suc n) [] i rest = get_or-vacant (suc n - 0) i
-  get_or-resized (suc n) (x ∷ xs) zero rest = refl
   get_or-resized (suc n) (x ∷ xs) (suc i) rest = rw (resized-cons n x xs) (get_or-resized n xs i (λ k far. rest (suc k) (omega arith)))
+  get_or-resized n xs i rest = grind (arith, common_steps, resized-none, get_or-vacant)
 
   pub length-resized : (n : ℕ) (xs : List (Option X)) → length (resized n xs) ≡ n
-  length-resized zero xs = rw (resized-none xs) refl
-  length-resized (suc n) [] = length-replicate (suc n - 0) None ∙ omega arith
   length-resized (suc n) (x ∷ xs) = ap length (resized-cons n x xs) ∙ ap suc (length-resized n xs)
+  length-resized n xs = grind (arith, common_steps, resized-none, length-replicate)
 
 module _ {X T : Type 0} where
   -- an index of the list is one whose slot holds something
