@@ -10,11 +10,11 @@ use Rattle.chain_base.specs.Chain.{Entry, Chain, IsDistinct, IsSound, times, ent
 use Rattle.chain_base.specs.Walk.{index_after}
 use Rattle.chain_base.specs.Compression.{lesser, compressed_index, entry_before, rising_among, entries_rising, moved, at_compressed_index, relocated, numbered, canonical, IsCompression}
 use Rattle.chain_base.specs.Exchange.{exchanged_index, in_exchange, exchanged}
-use Rattle.chain_base.proofs.Lists.{same_index, times-append, times-here, entry_at-some, entry_at-link, entry_at-absent, entry_at-split, times-unlinked}
+use Rattle.chain_base.proofs.Lists.{same_index, times-append, times-here, entry_at-some, entry_at-link, entry_at-absent, entry_at-split, times-unlinked, other_index}
 use Rattle.chain_base.proofs.Vacancy.{held-link, times-link}
 use Rattle.chain_base.proofs.Renumbering.{link_at-split, times-renumbered, times-changed, times-source}
 use Rattle.chain_base.proofs.Ranking.{lesser-zero, lesser-next, lesser-le, lesser-below, lesser-all, place-found, place-injective}
-use Rattle.chain_base.proofs.Exchanging.{other-first, other-same, other-twice, other-injective}
+use Rattle.chain_base.proofs.Exchanging.{other-twice, other-injective}
 use Rattle.chain_base.proofs.Kept.{calls-keep}
 
 map-kept : {A B : Type 0} (v : A → B) (f : A → A) → ((x : A) → v (f x) ≡ v x) → (xs : List A) → map v (map f xs) ≡ map v xs
@@ -145,7 +145,7 @@ module _ {T : Type 0} where
   numbered-apart g from [] i j apart = refl
   numbered-apart g from (x ∷ xs) i j apart =
       let first = apart from (omega arith) (omega arith) in
-      rw (other-same i j from first.0 first.1, numbered-apart g (from + 1) xs i j (λ m above below. apart m (omega arith) (omega arith))) refl
+      rw (other_index from i first.0, other_index from j first.1, numbered-apart g (from + 1) xs i j (λ m above below. apart m (omega arith) (omega arith))) refl
 
   -- a list with a first entry
   pub record Begun (es : List (Entry T)) : Type 0 where
@@ -224,7 +224,7 @@ module _ {T : Type 0} where
           let new : Entry T = record { index = 1 + length b.done; generation = g; item = met.entry.item } in
           let entries : next.entries ≡ map (in_exchange i j) now.entries = ap (λ (d : Chain T). d.entries) is in
           let tail : List (Entry T) = map (in_exchange i j) met.behind in
-          let moved_entry : in_exchange i j met.entry ≡ new = rw (other-first i j, spot, entry-even) refl in
+          let moved_entry : in_exchange i j met.entry ≡ new = rw (same_index i, spot, entry-even) refl in
           let there : next.entries ≡ numbered g 1 b.done ++ new ∷ tail =
           entries ∙ ap (map (in_exchange i j)) whole ∙ map-append (in_exchange i j) (numbered g 1 b.done) (met.entry ∷ met.behind) ∙ rw (numbered-apart g 1 b.done i j apart, moved_entry) refl in
           let indexes : (m : ℕ) → times m next.entries ≡ times m (numbered g 1 items) = λ m. rw entries (exchanged-times now.entries distinct i j met-occurs next-occurs m ∙ b.indexes m) in

@@ -52,8 +52,6 @@ module _ {P T U F K : Type 0} (numbers : P → ℕ × ℕ) (step : F → P → L
 pub same_entries : {T : Type 0} (es fs : List (Entry T)) → IsDistinct es → pointers fs ≡ pointers es
     → ((i : ℕ) → option_map (λ e. e.1) (entry_at fs i) ≡ option_map (λ e. e.1) (entry_at es i)) → fs ≡ es
 same_entries [] [] distinct order items = refl
-same_entries [] (f ∷ fs) distinct order items = absurd cc
-same_entries (e ∷ es) [] distinct order items = absurd cc
 same_entries {T} (e ∷ es) (f ∷ fs) distinct order items =
     let rest : pointers fs ≡ pointers es = cc in
     let alike = alike-pointers fs es rest in
@@ -61,6 +59,7 @@ same_entries {T} (e ∷ es) (f ∷ fs) distinct order items =
     let more = same_entries es fs (λ i. omega (arith, distinct i)) rest
     (λ i. grind (arith, common_steps, items i, distinct i, alike.count i, entry_at-absent fs i, entry_at-absent es i)) in
     grind (arith, common_steps)
+same_entries es fs distinct order items = absurd cc
 
 -- a clone by calls that each answer the item that they are shown
 pub clone-same : {P U F : Type 0} (numbers : P → ℕ × ℕ) (step : F → P → Link U → U → F → Type 0) → ((f : F) (p : P) (u : Link U) (x : U) (g : F) → step f p u x g → x ≡ u.item)

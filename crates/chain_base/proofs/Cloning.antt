@@ -45,9 +45,8 @@ module _ {T U : Type 0} where
   -- lists of the same pointers
   pub alike-pointers : (es : List (Entry T)) (fs : List (Entry U)) → pointers es ≡ pointers fs → SameIndexes es fs
   alike-pointers [] [] same = grind (arith, common_steps)
-  alike-pointers [] (f ∷ fs) same = absurd cc
-  alike-pointers (e ∷ es) [] same = absurd cc
   alike-pointers (e ∷ es) (f ∷ fs) same = grind (arith, common_steps, alike-pointers es fs)
+  alike-pointers es fs same = absurd cc
 
   -- the entries of a list, with what stands at their indexes
   abbrev relisted : (ℕ → Option (ℕ × Link T)) → List (Entry U) → List (Entry T)
@@ -126,10 +125,7 @@ module _ {P T U M N : Type 0} (numbers : P → ℕ × ℕ) (step : M → P → L
 
     -- index 0 has no entry
     none-first : link_at es 0 ≡ None
-    none-first = elim (eqb_tells (times 0 es) 0) [
-      | inl h ↦ link_between-absent None None es 0 h.1
-      | inr h ↦ absurd (let within = sound.within 0 (omega (arith, h.1)) in let above = within.0 in omega arith)
-    ]
+    none-first = link_between-absent None None es 0 (grind (arith, common_steps, sound.within 0))
 
     rising : entries_rising a0 0 ≡ links_rising (chain_of a0 first)
     rising =
@@ -173,8 +169,7 @@ module _ {P T U M N : Type 0} (numbers : P → ℕ × ℕ) (step : M → P → L
       }
         where
           twice : (o : Option (ℕ × Link T)) → option_map (λ e. e.1) (option_map {U = ℕ × T} (λ e. (e.0, e.1.item)) o) ≡ option_map (λ e. e.1.item) o
-          twice None = refl
-          twice (Some e) = refl
+          twice o = grind (arith, common_steps)
 
           item-at : (i : ℕ) → 1 ≤ times i es → option_map (λ e. e.1.item) (get_or (with_items a0.slots c.items) i None) ≡ slice_get (map (λ l. l.item) c.items) (lesser es i)
           item-at i there =

@@ -62,9 +62,10 @@ module _ {T : Type 0} where
     occupied-laid_out i some = ap is_some (laid.links i) ∙ sym (entry_at-some (chain_of a first).entries i) ∙ some
 
   -- the pointer to the last index of a chain that lies in an arena
-  pub last-found : (a : Arena (Link T)) (first last : Option ℕ) (i : ℕ) → IsLaidOut a.slots first last (chain_of a first).entries → last ≡ Some i
-      → pointed i (entry_at (chain_of a first).entries i) ≡ last_pointer (chain_of a first).entries
-  last-found a first last i laid is = pointed-last (chain_of a first).entries i (laid.distinct i) (sym laid.last_is ∙ is)
+  pub last-found : {I : Type 0} (number : I → ℕ) (a : Arena (Link T)) (first : Option ℕ) (last : Option I) (i : I) → IsLaidOut a.slots first (option_map number last) (chain_of a first).entries
+      → last ≡ Some i → pointed (number i) (entry_at (chain_of a first).entries (number i)) ≡ last_pointer (chain_of a first).entries
+  last-found number a first last i laid is = pointed-last (chain_of a first).entries (number i) (laid.distinct (number i)) (sym laid.last_is ∙ ap (option_map number) is)
 
-  pub last-missing : (a : Arena (Link T)) (first last : Option ℕ) → IsLaidOut a.slots first last (chain_of a first).entries → last ≡ None → None ≡ last_pointer (chain_of a first).entries
-  last-missing a first last laid is = sym (last_pointer-none (chain_of a first).entries (sym laid.last_is ∙ is))
+  pub last-missing : {I : Type 0} (number : I → ℕ) (a : Arena (Link T)) (first : Option ℕ) (last : Option I) → IsLaidOut a.slots first (option_map number last) (chain_of a first).entries
+      → last ≡ None → None ≡ last_pointer (chain_of a first).entries
+  last-missing number a first last laid is = sym (last_pointer-none (chain_of a first).entries (sym laid.last_is ∙ ap (option_map number) is))

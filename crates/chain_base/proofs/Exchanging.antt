@@ -17,17 +17,11 @@ use Rattle.chain_base.proofs.LaidOut.{Alike, alike-next, alike-prev}
 use Rattle.chain_base.proofs.Vacancy.{HoldIndexes, held-is, held-occurs, held-link}
 use Rattle.chain_base.proofs.Renumbering.{opposite, beside, beside-occurs, facing, facing-back, followed, IsLaidOut-renumbered}
 use Rattle.chain_base.proofs.Naming.{neighbour-within}
-use Rattle.chain_base.proofs.Steps.{Lies, lies, held-laid}
+use Rattle.chain_base.proofs.Steps.{Lies, lies-alike, held-laid}
 
 module _ (i j : ℕ) where
   abbrev pub other : ℕ → ℕ
   other k = exchanged_index i j k
-
-  pub other-first : other i ≡ j
-  other-first = rw (same_index i) refl
-
-  pub other-same : (k : ℕ) → k ≢ i → k ≢ j → other k ≡ k
-  other-same k not_i not_j = rw (other_index k i not_i, other_index k j not_j) refl
 
   pub other-twice : (k : ℕ) → other (other k) ≡ k
   other-twice k = grind (arith, common_steps)
@@ -92,8 +86,10 @@ module _ {T : Type 0} where
         rw made (record { held = λ k. held-swapped a0 i j k e.0 f.0 e.1 f.1; long = length-set _ j _ ∙ length-set a0.slots i _; kept = refl })
 
     -- what an exchanged link names has an entry, in an arena that holds entries at the same indexes
-    pub target : (side : Side) (k : ℕ) (a : Arena (Link T)) → Alike a a0 → (o p : Option ℕ) → o ≡ option_map (other i j) p → p ≡ beside side es k → (x : ℕ) → o ≡ Some x → IsSome (slot a x)
-    target side k a same o p is at x names =
+    pub target : {I : Type 0} (number : I → ℕ) (side : Side) (k : ℕ) (a : Arena (Link T)) → Alike a a0 → (r : Option I) (p : Option ℕ) → option_map number r ≡ option_map (other i j) p → p ≡ beside side es k
+        → (x : I) → r ≡ Some x → IsSome (slot a (number x))
+    target number side k a same r p is at y names =
+        let x = number y in
         let to : beside side es k ≡ Some (other i j x) = grind (arith, common_steps, p, other-twice i j) in
         let there = held-is a0.slots es _ held (beside-occurs (opposite side) es _ k (facing side es can.laid.distinct k _ to)) in
         let held_too = other-holds i j (λ n. is_some (slot a0 n) ≡ true) (slot-some i can.at_i) (slot-some j can.at_j) _ there in
@@ -137,8 +133,7 @@ module _ {T : Type 0} where
     pub Lies-exchanged : Lies (linked (swapped a0 i j)) (option_map (other i j) first) (option_map (other i j) last) (exchanged c i j)
     Lies-exchanged =
         let same = alike-linked in
-        lies (linked (swapped a0 i j)) _ _ (exchanged c i j)
-        (IsLaidOut-renumbered (other i j) (λ x p. p) es can.laid.distinct (λ x y there_x there_y. other-injective i j x y) _ _ _
+        let laid2 = IsLaidOut-renumbered (other i j) (λ x p. p) es can.laid.distinct (λ x y there_x there_y. other-injective i j x y) (linked (swapped a0 i j)).slots _ _
         (λ x there. let e = held-link es x there in rw e.1 (linked-slot x e.0 e.1))
         (λ k some. (
           other i j k,
@@ -146,9 +141,9 @@ module _ {T : Type 0} where
           held-occurs a0.slots es _ held
               (other-holds i j (λ n. is_some (slot a0 n) ≡ true) (slot-some i can.at_i) (slot-some j can.at_j) k (sym (same.held k) ∙ some)),
         ))
-        (ap (option_map (other i j)) can.laid.first_is) (ap (option_map (other i j)) can.laid.last_is))
-        (ap (λ n. n - 1) same.long ∙ ap (λ (c : Chain T). c.capacity) can.seen) (ap (λ (a : Arena (Link T)). a.vacant) same.kept ∙ ap (λ (c : Chain T). c.vacant) can.seen)
-        (ap (λ (a : Arena (Link T)). a.generation) same.kept ∙ ap (λ (c : Chain T). c.generation) can.seen) (ap (λ (a : Arena (Link T)). a.maximum) same.kept ∙ ap (λ (c : Chain T). c.maximum) can.seen)
+        (ap (option_map (other i j)) can.laid.first_is) (ap (option_map (other i j)) can.laid.last_is) in
+        subst (λ (d : Chain T). Lies (linked (swapped a0 i j)) (option_map (other i j) first) (option_map (other i j) last) (record d { entries = map (in_exchange i j) es }))
+        can.seen (lies-alike a0 (linked (swapped a0 i j)) _ _ _ same laid2)
 
     -- the arenas between the writes, as the calls give them
     pub Lies-written : (v w o1 o2 o3 o4 p1 p2 p3 p4 end1 end2 : Option ℕ) → v ≡ Some j → w ≡ Some i

@@ -20,8 +20,8 @@ module _ {T : Type 0} where
   from_index-absent (e ∷ es) i absent = grind (arith, common_steps, from_index-absent es i)
 
   -- no entry has the index
-  pub pointers_from-none : (c : Chain T) (i : ℕ) → None ≡ link_at c.entries i → pointers_from (Some i) c ≡ []
-  pointers_from-none c i none = ap pointers (from_index-absent c.entries i (times-unlinked None None c.entries i (sym none)))
+  pub pointers_from-none : (es : List (Entry T)) (i : ℕ) → None ≡ link_at es i → pointers (from_index es i) ≡ []
+  pointers_from-none es i none = ap pointers (from_index-absent es i (times-unlinked None None es i (sym none)))
 
   -- what stands behind an entry is what its link leads to
   behind : (c : Chain T) (front : List (Entry T)) (e : Entry T) (back : List (Entry T)) → IsDistinct c.entries

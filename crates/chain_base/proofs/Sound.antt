@@ -20,10 +20,6 @@ module _ {T : Type 0} where
   pub first-vacant : (slots : List (Option (ℕ × Link T))) → take 1 slots ≡ None ∷ [] → (get_or slots 0 None ≡ None) × (0 < length slots)
   first-vacant slots begins = grind (arith, common_steps)
 
-  -- an index of the list is above 0
-  occupied-above : (a : Arena (Link T)) (es : List (Entry T)) (i : ℕ) → take 1 a.slots ≡ None ∷ [] → HoldIndexes a.slots es → 1 ≤ times i es → 0 < i
-  occupied-above a es i begins held occurs = grind (arith, common_steps, first-vacant a.slots begins, held i)
-
   -- a lawful slot has a lawful entry
   lawful-entry : (greatest : Option ℕ) (o : Option (ℕ × Link T)) → ForSome o (λ e. IsLawfulGeneration greatest e.0)
       → ForSome {T = ℕ × T} (option_map (λ e. (e.0, e.1.item)) o) (λ e. IsLawfulGeneration greatest e.0)
@@ -36,7 +32,7 @@ module _ {T : Type 0} where
       let held = held-laid a.slots first last es laid in
       record {
         distinct = laid.distinct;
-        within = λ i occurs. (occupied-above a es i sound.begins held occurs, occupied-within a es i held occurs);
+        within = λ i occurs. (grind (arith, common_steps, first-vacant a.slots sound.begins, held i), occupied-within a es i held occurs);
         within_limit = sound.within_limit;
         generation_lawful = sound.generation_lawful;
         entries_lawful = λ i. rw (entry_at-link None None es i, ← laid.links i) (lawful-entry greatest _ (sound.entries_lawful i));

@@ -5,7 +5,7 @@ use Rattle.std.proofs.lemmas.Grind.{common_steps}
 use Rattle.std.proofs.lemmas.Bool.Decides.{eqb_tells, nat_tests}
 use Rattle.std.specs.List.{FoldsTo}
 use Rattle.std.proofs.lemmas.Fn.{FoldsTo-push}
-use Rattle.std.proofs.lemmas.List.{append-nil, length-map, map_push}
+use Rattle.std.proofs.lemmas.List.{append-nil, length-map, map-id, map_push}
 use Rattle.std.proofs.lemmas.Option.{same_Some}
 use Rattle.std.specs.Option.{option_map}
 use Rattle.arena_base.specs.Generation.{overflows_after}
@@ -69,16 +69,14 @@ module _ {T : Type 0} where
     pub can_place-behind : (last : Option I) (c : Chain T) (items : List T) → option_map number last ≡ last_of (length items)
         → CanPlace {P = P} {I = I} {G = G} number (place_behind last) (filled_with c items)
     can_place-behind None c [] is = refl
-    can_place-behind None c (x ∷ xs) is = absurd cc
-    can_place-behind (Some i) c [] is = absurd cc
     can_place-behind (Some i) c (x ∷ xs) is = grind (arith, common_steps, number i, i, entry_at-last c.generation 1 x xs)
+    can_place-behind last c items is = absurd cc
 
     pub placed-behind : (last : Option I) (g : ℕ) (items : List T) (new : Entry T) → option_map number last ≡ last_of (length items)
         → placed {P = P} {I = I} {G = G} number (place_behind last) (numbered g 1 items) new ≡ numbered g 1 items ++ new ∷ []
     placed-behind None g [] new is = refl
-    placed-behind None g (x ∷ xs) new is = absurd cc
-    placed-behind (Some i) g [] new is = absurd cc
     placed-behind (Some i) g (x ∷ xs) new is = grind (arith, common_steps, number i, i, insert_after-last g 1 x xs new)
+    placed-behind last g items new is = absurd cc
 
   vacant-none : (es : List (Entry T)) (from n m : ℕ) → ((j : ℕ) → from ≤ j → j < from + n → times j es ≡ 1) → vacant_among es from (n + m) ≡ vacant_among es (from + n) m
   vacant-none es from zero m all = let same : from ≡ from + 0 = omega arith in let none : 0 + m ≡ m = omega arith in ap (λ n. vacant_among es from n) none ∙ ap (λ i. vacant_among es i m) same
@@ -234,10 +232,6 @@ module _ {P Q S F X T V U : Type 0} (numbers_from : Q → ℕ × ℕ) (numbers_t
         steps-retold g es h.0 t h.2,
       )
 
-map-itself : {X : Type 0} (f : X → X) → ((x : X) → f x ≡ x) → (xs : List X) → map f xs ≡ xs
-map-itself f itself [] = refl
-map-itself f itself (x ∷ xs) = rw (itself x, map-itself f itself xs) refl
-
 -- the same items, in other states
 pub transfer-retold : {P Q S F T U X E : Type 0} (numbers_from : Q → ℕ × ℕ) (numbers_to : P → ℕ × ℕ) (greatest : Option ℕ)
     (below : S → Q → InvalidationOption U → P → T → S → Type 0) (above : F → Q → InvalidationOption U → P → T → F → Type 0) (state : S → F)
@@ -249,7 +243,7 @@ transfer-retold {T = T} {U = U} numbers_from numbers_to greatest below above sta
     (record { closure = s; items = []; generation = source.generation }) h.last h.calls in
     record {
       last = record { closure = state h.last.closure; items = h.last.items; generation = h.last.generation };
-      calls = rw (map-itself (λ (e : Entry U). record { index = e.index; generation = e.generation; item = e.item }) (λ e. refl) source.entries, map-itself (λ (x : T). x) (λ x. refl) h.last.items) at steps;
+      calls = rw (map-id source.entries, map-id h.last.items) at steps;
       left = h.left;
       after = h.after;
     }
