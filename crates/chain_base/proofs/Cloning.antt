@@ -1,13 +1,10 @@
 -- A clone of a chain: its slots hold the source's links with other items, so it is the source's list with these items.
-use Rattle.std.proofs.Common.{OnOk, Ok, ◌≡◌, ℕ, zero, suc, ◌+◌, ◌-◌, ◌<◌, ◌≤◌, max, List, [], ◌∷◌, ◌++◌, length, map, take, get_or, slice_get}
-use Rattle.std.proofs.Common.{Option, Some, None, Result, Err, MatchResult, count_by, is_some, refl, sym, ap, ◌∙◌, arith, inl, inr, ◌⊎◌, ◌==◌, true, false}
+use Rattle.std.proofs.Common.{OnOk, Ok, ◌≡◌, ℕ, suc, ◌+◌, ◌<◌, ◌≤◌, max, List, [], ◌∷◌, length, map, take, get_or, slice_get}
+use Rattle.std.proofs.Common.{Option, Some, None, Result, Err, MatchResult, count_by, is_some, refl, sym, ap, ◌∙◌, arith, inl, inr, ◌⊎◌, ◌==◌, true, false, map-id, option_map}
 use Rattle.std.proofs.lemmas.Grind.{common_steps}
 use Rattle.std.proofs.lemmas.Bool.{false≢true}
 use Rattle.std.proofs.lemmas.Bool.Decides.{eqb_tells}
-use Rattle.std.proofs.lemmas.List.{map-id}
-use Rattle.std.proofs.lemmas.Option.{none-some}
 use Rattle.std.specs.List.{FoldsTo}
-use Rattle.std.specs.Option.{option_map}
 use Rattle.std.specs.declared.alloc.AllocError.{AllocError}
 use Rattle.arena_base.specs.Arena.{Arena, slot, arena_capacity, arena_len, greatest_occupied, resized, IsFresh}
 use Rattle.arena_base.specs.declared.error.ReallocationError.{ReallocationError}
@@ -16,7 +13,7 @@ use Rattle.arena_base.specs.Walk.{entries_from, entries_rising}
 use Rattle.arena_base.specs.Clone.{CloneStep, Grants, with_items, IsClone as IsArenaClone, StopsAtRefusal, replaced}
 use Rattle.arena_base.proofs.CallerLemmas.{clones-retold, clones-restated, clones-keep, stops-retold, stops-restated}
 use Rattle.chain_base.specs.Link.{Link}
-use Rattle.chain_base.specs.Chain.{Entry, Chain, times, first_or, last_or, link_at, link_between, greatest_index, vacant_indexes, IsSound}
+use Rattle.chain_base.specs.Chain.{Entry, Chain, times, link_at, link_between, greatest_index, vacant_indexes, IsSound}
 use Rattle.chain_base.specs.Compression.{lesser}
 use Rattle.chain_base.specs.Walk.{pointers}
 use Rattle.chain_base.specs.Clone.{links_among, links_rising, HasItems, taken_over, ClonesLink, IsClone, IsRefusedClone}

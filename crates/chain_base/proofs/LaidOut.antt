@@ -1,14 +1,13 @@
 -- How each step of a chain keeps its list laid out in the arena.
-use Rattle.std.proofs.Common.{◌≡◌, ◌≢◌, ℕ, ◌+◌, ◌<◌, ◌≤◌, ◌==◌, false, List, ◌∷◌, ◌++◌, length, Option, Some, None, is_some, refl, sym, ap, ◌∙◌, arith, if◌then◌else◌, inl, inr, get_or, length-set, true}
+use Rattle.std.proofs.Common.{◌≡◌, ℕ, ◌+◌, ◌<◌, ◌≤◌, ◌==◌, List, ◌∷◌, ◌++◌, length, Option, Some, None, is_some, sym, ap, ◌∙◌, arith, if◌then◌else◌, get_or, true, option_map}
 use Rattle.std.proofs.lemmas.Grind.{common_steps}
 use Rattle.std.proofs.lemmas.List.Sums.{count_by-le-length}
-use Rattle.std.specs.Option.{option_map}
 use Rattle.arena_base.specs.Arena.{Arena, slot, with_slot, with_entry_at, removed as arena_removed}
 use Rattle.chain_base.specs.Link.{Link}
-use Rattle.chain_base.specs.Chain.{Entry, IsDistinct, times, first_or, last_or, link_at, with_item_among, with_generation}
-use Rattle.chain_base.specs.Layout.{chain_of, walk, names, linked_next, linked_prev, relinked, IsLaidOut}
+use Rattle.chain_base.specs.Chain.{Entry, IsDistinct, times, first_or, last_or, link_at}
+use Rattle.chain_base.specs.Layout.{chain_of, walk, linked_next, linked_prev, relinked, IsLaidOut}
 use Rattle.chain_base.proofs.Lists.{names_tells, same_index, times-append, times-inserted, times-here, times-there, times-last, times-first, first_or-append, last_or-append, link_between-append, link_between-absent}
-use Rattle.chain_base.proofs.Lists.{times-unlinked, seam-relinked, IsRow-links, walk-row, changed_at, changed_link, with_item_among-changed_at, with_generation-changed_at, link_between-changed_at, same-changed_at}
+use Rattle.chain_base.proofs.Lists.{times-unlinked, seam-relinked, IsRow-links, walk-row, changed_at, changed_link, link_between-changed_at, same-changed_at}
 use Rattle.chain_base.proofs.Vacancy.{held-links}
 use Rattle.chain_base.proofs.Ranking.{counted-held}
 

@@ -1,9 +1,7 @@
 -- The links of a list: neighbours name each other; and of a list whose entries get other indexes.
-use Rattle.std.proofs.Common.{◌≡◌, ◌≢◌, ℕ, ◌+◌, ◌≤◌, List, [], ◌∷◌, ◌++◌, length, map, Option, Some, None, is_some, get_or, refl, sym, ap, ◌∙◌, subst, arith, inl, inr, true, append_assoc}
+use Rattle.std.proofs.Common.{◌≡◌, ◌≢◌, ℕ, ◌+◌, ◌≤◌, List, [], ◌∷◌, ◌++◌, map, Option, Some, None, is_some, get_or, refl, sym, ap, ◌∙◌, subst, arith, true, append_assoc, option_map, option_and_then}
 use Rattle.std.proofs.lemmas.Grind.{common_steps}
-use Rattle.std.proofs.lemmas.Bool.Decides.{eqb_tells}
 use Rattle.std.proofs.lemmas.Option.{none-some, same_Some}
-use Rattle.std.specs.Option.{option_map, option_and_then}
 use Rattle.chain_base.specs.Link.{Link}
 use Rattle.chain_base.specs.Chain.{Entry, IsDistinct, times, first_or, last_or, link_between, link_at}
 use Rattle.chain_base.specs.Layout.{IsLaidOut}

@@ -1,12 +1,12 @@
 -- What each call does to the chain that lies in the arena.
-use Rattle.std.proofs.Common.{◌≡◌, ℕ, zero, suc, true, ◌+◌, ◌-◌, ◌<◌, ◌≤◌, List, [], ◌∷◌, ◌++◌, length, Option, Some, None, is_some, cond, refl, sym, ap, subst, ◌∙◌, arith, if◌then◌else◌, slice_get, length-set, replicate}
+use Rattle.std.proofs.Common.{◌≡◌, ℕ, ◌+◌, ◌-◌, ◌<◌, List, [], ◌∷◌, ◌++◌, length, Option, Some, None, is_some, cond, refl, sym, ap, subst, ◌∙◌, arith, if◌then◌else◌, slice_get, length-set, replicate}
 use Rattle.std.proofs.lemmas.Grind.{common_steps}
 use Rattle.std.proofs.lemmas.List.{length-replicate}
 use Rattle.arena_base.specs.Generation.{next_generation}
 use Rattle.arena_base.specs.Arena.{Arena, slot, with_entry_at, arena_capacity, with_capacity as arena_with_capacity, removed as arena_removed}
 use Rattle.arena_base.specs.Arena.{renewed as arena_renewed, cleared as arena_cleared, resized, IsInsertion as IsArenaInsertion}
 use Rattle.chain_base.specs.Link.{Link}
-use Rattle.chain_base.specs.Chain.{Entry, Chain, times, first_or, last_or, inserted_at, with_capacity, vacant_indexes, without, removed, renewed, cleared, with_item}
+use Rattle.chain_base.specs.Chain.{Entry, Chain, first_or, last_or, inserted_at, with_capacity, vacant_indexes, removed, renewed, cleared, with_item}
 use Rattle.chain_base.specs.Insert.{IsInsertion, IsPlace}
 use Rattle.chain_base.specs.Layout.{chain_of, rewritten, IsLaidOut}
 use Rattle.chain_base.proofs.Lists.{entry_at-some, linked-occurs, last_or-append, times-unlinked, Stands-occurs, Stands, last_or-there, with_item_among-changed_at, with_generation-changed_at}

@@ -1,13 +1,12 @@
 -- The steps of a transfer.
 use Rattle.std.proofs.Common.{◌≡◌, ℕ, zero, suc, ◌+◌, ◌-◌, ◌<◌, ◌≤◌, max, List, [], ◌∷◌, ◌++◌, map, length, length-append, append_assoc, Option}
-use Rattle.std.proofs.Common.{Some, None, OnSome, OnOk, IsOk, IsErr, Result, Ok, Err, is_some, true, slice_get, refl, sym, ap, ◌∙◌, arith, inl, inr}
+use Rattle.std.proofs.Common.{Some, None, OnSome, OnOk, IsOk, IsErr, Result, Ok, Err, is_some, true, slice_get, refl, sym, ap, ◌∙◌, arith, option_map}
 use Rattle.std.proofs.lemmas.Grind.{common_steps}
-use Rattle.std.proofs.lemmas.Bool.Decides.{eqb_tells, nat_tests}
+use Rattle.std.proofs.lemmas.Bool.Decides.{nat_tests}
 use Rattle.std.specs.List.{FoldsTo}
 use Rattle.std.proofs.lemmas.Fn.{FoldsTo-push}
 use Rattle.std.proofs.lemmas.List.{append-nil, length-map, map-id, map_push}
 use Rattle.std.proofs.lemmas.Option.{same_Some}
-use Rattle.std.specs.Option.{option_map}
 use Rattle.arena_base.specs.Generation.{overflows_after}
 use Rattle.arena_base.specs.Invalidation.{allowed_value, is_overflow}
 use Rattle.arena_base.specs.declared.invalidation.InvalidationOption.{InvalidationOption}

@@ -1,5 +1,4 @@
-use Rattle.std.proofs.Common.{◌≡◌, ◌+◌, ◌<◌, None, length, is_some, true, sym, ap, ◌∙◌, rules, arith, subst}
-use Rattle.std.specs.Option.{option_map}
+use Rattle.std.proofs.Common.{◌≡◌, ◌+◌, ◌<◌, None, length, is_some, true, sym, ap, ◌∙◌, rules, arith, subst, option_map}
 use Rattle.chain_base.specs.Chain.{entry_at, first_or}
 use Rattle.chain_base.specs.Exchange.{exchanged}
 use Rattle.chain_base.specs.Walk.{index_after}

@@ -1,5 +1,4 @@
-use Rattle.std.proofs.Common.{ap, inl, inr}
-use Rattle.std.specs.Option.{option_map}
+use Rattle.std.proofs.Common.{ap, inl, inr, option_map}
 use Rattle.chain_base.proofs.Calls.{beside-inserted, Inserts-linked}
 use Rattle.chain_base.proofs.chain.ChainArena.insert_within_capacity.Goals as goal
 

@@ -1,5 +1,4 @@
-use Rattle.std.proofs.Common.{◌≡◌, ℕ, ◌+◌, ◌<◌, ◌≤◌, length, Option, Some, None, sym, ap, ◌∙◌, rules, arith, refl}
-use Rattle.std.specs.Option.{option_map}
+use Rattle.std.proofs.Common.{◌≡◌, ℕ, ◌+◌, ◌<◌, ◌≤◌, length, Option, Some, sym, ap, ◌∙◌, rules, arith, refl, option_map}
 use Rattle.arena_base.specs.Arena.{slot}
 use Rattle.arena_base.specs.Pointer.{named_of}
 use Rattle.chain_base.specs.Naming.{linked_facing}

@@ -1,5 +1,4 @@
-use Rattle.std.proofs.Common.{sym, ap, ◌∙◌, refl}
-use Rattle.std.specs.Option.{option_map}
+use Rattle.std.proofs.Common.{sym, ap, ◌∙◌, refl, option_map}
 use Rattle.arena_base.specs.Invalidation.{valid_value}
 use Rattle.chain_base.specs.Chain.{link_at, removed}
 use Rattle.chain_base.proofs.Transferring.{takes-out, on_taken, item-numbered}
