@@ -64,11 +64,7 @@ module _ {T : Type 0} where
   module _ (most : ℕ) (greatest : Option ℕ) (c : Chain T) (sound : IsSound most greatest c) where
     pub rising-entry : (i : ℕ) (e : ℕ × T) → entry_at c.entries i ≡ Some e → slice_get (entries_rising c) (lesser c.entries i) ≡ Some (i, e.0, e.1)
     rising-entry i e is =
-        let within = sound.within i (entry-occurs c.entries i (ap is_some is)) in
-        rising-at c.entries sound.distinct c.capacity 1 i (lesser c.entries i) e is (omega (arith, within.0)) (omega (arith, within.1)) (omega (arith, begins))
-      where
-        begins : lesser c.entries 1 ≡ 0
-        begins = grind (arith, common_steps, lesser-next c.entries 0, lesser-zero c.entries, sound.within 0)
+        grind (arith, common_steps, entry-occurs c.entries i (ap is_some is), rising-at c.entries sound.distinct c.capacity 1 i (lesser c.entries i) e is, lesser-next c.entries 0, lesser-zero c.entries)
 
     -- the indexes after a compression are those from 1 on
     all-lesser : lesser c.entries (c.capacity + 1) ≡ length c.entries
@@ -210,8 +206,7 @@ module _ {T : Type 0} where
 
       entry-even : met.entry.generation ≡ g
       entry-even =
-          era-at now.entries n g met.entry.index (met.entry.generation, met.entry.item) b.even
-          (ap (λ fs. entry_at fs met.entry.index) whole ∙ entry_at-split (numbered g 1 b.done) met.entry met.behind met.entry.index refl unmet)
+          grind (arith, common_steps, era-at now.entries n g met.entry.index (met.entry.generation, met.entry.item) b.even, met, whole, entry_at-split (numbered g 1 b.done) met.entry met.behind met.entry.index refl unmet, unmet)
 
       apart : (m : ℕ) → 1 ≤ m → m < 1 + length b.done → (m ≢ met.entry.index) × (m ≢ k + 1)
       apart m above below = grind (arith, common_steps, times-numbered, met, unmet)

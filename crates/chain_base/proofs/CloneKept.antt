@@ -17,14 +17,7 @@ use Rattle.chain_base.proofs.Cloning.{alike-pointers}
 links-entries : {U K : Type 0} (see : U → K) (es : List (Entry U)) (from count : ℕ)
     → map (λ (e : ℕ × ℕ × Link U). see e.2.item) (links_among es from count) ≡ map (λ (e : ℕ × ℕ × U). see e.2) (rising_among es from count)
 links-entries see es from zero = refl
-links-entries see es from (suc count) =
-    by (link_at es from) (entry_at es from) (entry_at-link None None es from) (links-entries see es (from + 1) count)
-  where
-    by : (o : Option (ℕ × Link _)) (p : Option (ℕ × _)) → p ≡ option_map (λ e. (e.0, e.1.item)) o
-        → map (λ (e : ℕ × ℕ × Link _). see e.2.item) (links_among es (from + 1) count) ≡ map (λ (e : ℕ × ℕ × _). see e.2) (rising_among es (from + 1) count)
-        → map (λ (e : ℕ × ℕ × Link _). see e.2.item) (entry_before from o (links_among es (from + 1) count)) ≡ map (λ (e : ℕ × ℕ × _). see e.2) (entry_before from p (rising_among es (from + 1) count))
-    by None p is more = rw is more
-    by (Some e) p is more = rw is (ap (λ rest. see e.1.item ∷ rest) more)
+links-entries see es from (suc count) = grind (arith, common_steps, entry_at-link None None es from, links-entries see es (from + 1) count)
 
 module _ {P T U F K : Type 0} (numbers : P → ℕ × ℕ) (step : F → P → Link U → T → F → Type 0) (see : U → K) (keep : T → K)
     (keeps : (f : F) (p : P) (u : Link U) (x : T) (g : F) → step f p u x g → keep x ≡ see u.item) where

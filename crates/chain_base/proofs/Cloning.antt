@@ -182,15 +182,7 @@ module _ {P T U M N : Type 0} (numbers : P → ℕ × ℕ) (step : M → P → L
 
       pub clone-chain : (first1 : Option ℕ) → IsFresh b → IsClone numbers (Grants numbers step) (inner m) (chain_of a0 first) (chain_of a first1) (chain_of b first)
       clone-chain first1 fresh =
-          let done = Lies-cloned first1 fresh in
-          let is_list : (chain_of b first).entries ≡ list = ap (λ (c : Chain T). c.entries) done.chain in
-          record {
-            items = map (λ l. l.item) c.items;
-            last = inner c.last;
-            calls = rw (← rising) (items-told (entries_rising a0 0) m c.last c.items c.calls);
-            entries = rw is_list has-items;
-            after = done.chain ∙ ap (taken_over (chain_of a0 first) (chain_of a first1)) (sym is_list);
-          }
+          grind (arith, common_steps, Lies-cloned first1 fresh, rising, items-told (entries_rising a0 0) m, has-items)
 
     pub rising-told : StopsAtRefusal {T = Link T} numbers (link_step step inner) m (entries_rising a0 0) → StopsAtRefusal numbers step (inner m) (links_rising (chain_of a0 first))
     rising-told stops = rw (← rising) (stops-told m (entries_rising a0 0) stops)

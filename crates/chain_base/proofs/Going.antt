@@ -27,10 +27,7 @@ module _ {T : Type 0} where
       → c.entries ≡ front ++ e ∷ back → pointers_from (first_or None back) c ≡ pointers back
   behind c front e [] distinct split = refl
   behind c front e (f ∷ back) distinct split =
-      let same : c.entries ≡ (front ++ e ∷ []) ++ f ∷ back = split ∙ sym (append_assoc front (e ∷ []) (f ∷ back)) in
-      let unmet : times f.index (front ++ e ∷ []) ≡ 0 =
-      omega (arith, distinct f.index, ap (times f.index) same, times-append f.index (front ++ e ∷ []) (f ∷ back), times-here f.index f back refl) in
-      ap pointers (ap (λ es. from_index es f.index) same ∙ from_index-split (front ++ e ∷ []) f back f.index refl unmet)
+      grind (arith, common_steps, times-append f.index (front ++ e ∷ []) (f ∷ back), times-here f.index f back refl, from_index-split (front ++ e ∷ []) f back f.index refl)
 
   -- a walk that stands at the index of an entry gives it, and goes on by its link
   pub gives-from_link : (c : Chain T) (i g : ℕ) (l : Link T) → IsDistinct c.entries → ◌≡◌ {A = Option (ℕ × Link T)} (Some (g, l)) (link_at c.entries i) → GivesEntry (Some i) l.next c i g

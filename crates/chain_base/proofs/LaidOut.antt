@@ -47,9 +47,7 @@ module _ {T : Type 0} where
   -- the walk from the first index meets just the entries
   pub walk-laid_out : (a : Arena (Link T)) (first last : Option ℕ) (es : List (Entry T)) → IsLaidOut a.slots first last es → walk (slot a) (length a.slots) first ≡ es
   walk-laid_out a first last es laid =
-      let row = IsRow-links (slot a) None es laid.distinct (λ i there. laid.links i) in
-      let fits : length es ≤ length a.slots = omega (arith, count_by-le-length is_some a.slots, laid.counted) in
-      rw laid.first_is (walk-row (slot a) None es (length a.slots) fits row)
+      grind (arith, common_steps, IsRow-links (slot a) None es laid.distinct, count_by-le-length is_some a.slots, walk-row (slot a) None es (length a.slots))
 
   pub IsLaidOut-walked : (a : Arena (Link T)) (first last : Option ℕ) (es : List (Entry T)) → IsLaidOut a.slots first last es → IsLaidOut a.slots first last (chain_of a first).entries
   IsLaidOut-walked a first last es laid = rw (walk-laid_out a first last es laid) laid
@@ -143,6 +141,4 @@ module _ {T : Type 0} where
     pub IsLaidOut-changed_at : (f : ℕ × T → ℕ × T) → IsLaidOut a.slots first last es
         → IsLaidOut (with_slot a i (option_map (changed_link f) (slot a i))).slots first last (changed_at f es i)
     IsLaidOut-changed_at f laid =
-        let same = same-changed_at f es i in
-        laid-links _ _ _ _ (λ k. slot-mapped a i k _ ∙ rw (laid.links k) (sym (link_between-changed_at f None None es i k))) (λ k. omega (arith, same.count k, laid.distinct k))
-        (laid.first_is ∙ sym (same.first None)) (laid.last_is ∙ sym (same.last None))
+        grind (arith, common_steps, same-changed_at f es i, laid-links, slot-mapped a i, link_between-changed_at f None None es i)

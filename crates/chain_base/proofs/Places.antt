@@ -32,13 +32,4 @@ module _ {T : Type 0} where
 
   -- directly before an entry
   pub IsPlace-before : (es : List (Entry T)) (i : ℕ) (l : Link T) → option_map (λ e. e.1) (link_at es i) ≡ Some l → IsPlace es (λ new. insert_before i new es) l.prev (Some i)
-  IsPlace-before es i l linked =
-      let s = Stands-occurs es i (occurs-linked es i l linked) in
-      record {
-        front = s.front;
-        back = s.entry ∷ s.back;
-        split = s.split;
-        prev_is = (link_at-ends es i l linked s).0;
-        next_is = ap Some (sym s.here);
-        puts = s.before;
-      }
+  IsPlace-before es i l linked = grind (arith, common_steps, Stands-occurs es i, occurs-linked es i l linked, link_at-ends es i l linked)

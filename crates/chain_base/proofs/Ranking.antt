@@ -65,8 +65,7 @@ module _ {X T : Type 0} where
 
   pub counted-held : (slots : List (Option X)) (es : List (Entry T)) → HoldIndexes slots es → count_by is_some slots ≡ length es
   counted-held slots es held =
-      ap (count_by is_some) (sym (take_all (length slots) slots (omega arith))) ∙ place-slots slots es held (length slots)
-      ∙ lesser-all es (length slots) (λ i there. held-within slots es i held there)
+      grind (arith, common_steps, take_all (length slots) slots, place-slots slots es held (length slots), lesser-all es (length slots), held-within slots es)
 
 -- the entries of slots by rising index, and their places
 module _ {X : Type 0} where

@@ -115,15 +115,12 @@ module _ {T : Type 0} where
     -- an entry that gets another generation
     pub Renews-at : (greatest : Option ℕ) (i : ℕ) → Lies (arena_renewed greatest a i) first last (renewed greatest (chain_of a first) i)
     Renews-at greatest i =
-        let laid2 = IsLaidOut-changed_at a first last _ i (λ p. (next_generation greatest a.generation, p.1)) laid in
-        lies (arena_renewed greatest a i) first last (renewed greatest (chain_of a first) i)
-        (rw (with_generation-changed_at _ i (next_generation greatest a.generation)) laid2) (ap (λ n. n - 1) (length-set a.slots i _)) refl refl refl
+        grind (arith, common_steps, IsLaidOut-changed_at a first last, lies (arena_renewed greatest a i) first last (renewed greatest (chain_of a first) i), with_generation-changed_at)
 
     -- an item that is written
     pub Writes-at : (i : ℕ) (item : T) → Lies (rewritten a i item) first last (with_item (chain_of a first) i item)
     Writes-at i item =
-        lies (rewritten a i item) first last (with_item (chain_of a first) i item)
-        (rw (with_item_among-changed_at _ i item) (IsLaidOut-changed_at a first last _ i (λ p. (p.0, item)) laid)) (ap (λ n. n - 1) (length-set a.slots i _)) refl refl refl
+        grind (arith, common_steps, lies (rewritten a i item) first last (with_item (chain_of a first) i item), with_item_among-changed_at, IsLaidOut-changed_at a first last)
 
     -- the entry between two stretches is taken out
     Removes-at : (greatest : Option ℕ) (i : ℕ) (s : Stands (chain_of a first).entries i) → Unlinks greatest a first last i (last_or None s.front) (first_or None s.back)

@@ -86,9 +86,7 @@ module _ {T : Type 0} where
       ∙ rw (all from (omega arith) (omega arith)) (vacant-none es (from + 1) n m (λ j more less. all j (omega (arith, more)) (omega (arith, less))) ∙ ap (λ i. vacant_among es i m) later)
 
   vacant-numbered : (g : ℕ) (xs : List T) (m : ℕ) → vacant_among (numbered g 1 xs) 1 (length xs + m) ≡ vacant_among {T = T} [] (1 + length xs) m
-  vacant-numbered g xs m =
-      vacant-none (numbered g 1 xs) 1 (length xs) m (λ j more less. let is = times-numbered g 1 xs j in grind (arith, nat_tests))
-      ∙ vacant-same {U = T} (numbered g 1 xs) [] m (1 + length xs) (λ j more. let is = times-numbered g 1 xs j in grind (arith, nat_tests))
+  vacant-numbered g xs m = grind (arith, common_steps, vacant-none (numbered g 1 xs) 1 (length xs) m, times-numbered g 1 xs, vacant-same)
 
   pub vacant-next : (c : Chain T) (items : List T) (x : T) → length items < c.capacity → (filled_with c items).vacant ≡ (1 + length items) ∷ (filled_with c (items ++ x ∷ [])).vacant
   vacant-next c items x less =
@@ -114,9 +112,7 @@ module _ {T : Type 0} where
 
   -- the next index
   vacant-first : (c : Chain T) (items : List T) → length items < c.capacity → slice_get (filled_with c items).vacant 0 ≡ Some (1 + length items)
-  vacant-first c items less =
-      let now : c.capacity ≡ length items + suc (c.capacity - length items - 1) = omega (arith, less) in
-      ap (λ n. slice_get (vacant_among (numbered c.generation 1 items) 1 n) 0) now ∙ ap (λ is. slice_get is 0) (vacant-numbered c.generation items (suc (c.capacity - length items - 1)))
+  vacant-first c items less = grind (arith, common_steps, vacant-numbered c.generation items (suc (c.capacity - length items - 1)))
 
   module _ {P : Type 0} (numbers : P → ℕ × ℕ) (c chain : Chain T) (items : List T) (less : length items < c.capacity) (put : chain ≡ filled_with c items) where
     next-is : (o : Option P) (vacant : List ℕ) → vacant ≡ chain.vacant → option_map (λ p. (numbers p).0) o ≡ slice_get vacant 0 → option_map (λ p. (numbers p).0) o ≡ Some (1 + length items)
