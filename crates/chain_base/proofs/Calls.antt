@@ -11,11 +11,11 @@ use Rattle.chain_base.specs.Layout.{chain_of, IsLaidOut}
 use Rattle.chain_base.specs.Naming.{neighbour_on}
 use Rattle.chain_base.specs.declared.chain.compress.Side.{Side}
 use Rattle.chain_base.proofs.Lists.{times-append, times-last, times-first, other_index}
-use Rattle.chain_base.proofs.LaidOut.{laid-links, bridged, end_beside, slot-emptied, slot-within}
+use Rattle.chain_base.proofs.LaidOut.{laid-links, bridged, end_beside, slot-written, slot-within}
 use Rattle.chain_base.proofs.Vacancy.{HoldIndexes, held-is, get_or-vacant, past-greatest, greatest-links}
 use Rattle.chain_base.proofs.Renumbering.{beside-other}
 use Rattle.chain_base.proofs.Sound.{occupied-within}
-use Rattle.chain_base.proofs.Steps.{Lies, held-laid, Inserts, Inserts-joined, Removes-joined, Renews-at, Lies-resized}
+use Rattle.chain_base.proofs.Steps.{Lies, held-laid, Inserts, Inserts-joined, Removes-joined, Renews-at, Lies-resized, IsLaidOut-cleared}
 
 -- an index within reach names what it says
 pub named_of-within : (most : ℕ) (o : Option ℕ) → ((k : ℕ) → o ≡ Some k → k ≤ most) → named_of most o ≡ o
@@ -69,7 +69,7 @@ module _ {T : Type 0} where
       pub beside-held : (side : Side) (k : ℕ) → neighbour_on side e.1 ≡ Some k → IsSome (slot (arena_removed greatest a i) k)
       beside-held side k is =
           let other = beside-other side (chain_of a first).entries laid.distinct i k (ap (option_and_then (λ e. neighbour_on side e.1)) (sym (laid.links i) ∙ at) ∙ is) in
-          rw (slot-emptied a i k (slot-within a i e at), other_index i k other.0) (held-is a.slots _ k held other.1)
+          rw (slot-written a i k None (slot-within a i e at), other_index i k other.0) (held-is a.slots _ k held other.1)
 
       -- a removal, from what the arena's removal and the writes of links ensure
       module _ (most : ℕ) (prev next : Option ℕ) (prev_is : prev ≡ e.1.prev) (next_is : next ≡ e.1.next)
@@ -94,12 +94,5 @@ module _ {T : Type 0} where
         let done = Lies-resized a first last laid (max n (greatest_occupied a.slots)) (λ k far. past-greatest a.slots k (omega arith)) in
         (rw ok done.laid, rw ok (done.chain ∙ ap (λ m. with_capacity (chain_of a first) (max n m)) (greatest-links a.slots _ held)))
 
-  -- an arena without entries
-  new-laid_out : (greatest : Option ℕ) → IsLaidOut {T = T} (new_arena greatest).slots None None []
-  new-laid_out greatest = laid-links _ None None [] (get_or-vacant 1) (λ i. omega arith) refl refl
-
-  new-vacant : (greatest : Option ℕ) (n k : ℕ) → n < k → slot {T = Link T} (new_arena greatest) k ≡ None
-  new-vacant greatest n k far = grind (arith, common_steps)
-
   pub Lies-made : (greatest : Option ℕ) (a : Arena (Link T)) (n : ℕ) → a ≡ arena_with_capacity (new_arena greatest) n → Lies a None None (with_capacity (new_chain greatest) n)
-  Lies-made greatest a n made = rw made (Lies-resized (new_arena greatest) None None (new-laid_out greatest) n (new-vacant greatest n))
+  Lies-made greatest a n made = rw made (Lies-resized (new_arena greatest) None None (IsLaidOut-cleared {T = T} 1) n (λ k far. grind (arith, common_steps)))

@@ -21,10 +21,6 @@ module _ {T : Type 0} where
   last_pointer-none (e ∷ f ∷ es) none = last_pointer-none (f ∷ es) none
   last_pointer-none es none = grind (arith, common_steps)
 
-  -- the item of a pointer is that of the link in its slot
-  item_if-link : (g : ℕ) (o : Option (ℕ × Link T)) → item_if g (option_map (λ e. (e.0, e.1.item)) o) ≡ option_map (λ l. l.item) (item_if g o)
-  item_if-link g o = grind (arith, common_steps)
-
   -- where there is no entry there is no link
   pub link_at-none : (es : List (Entry T)) (i : ℕ) → is_some (entry_at es i) ≡ false → None ≡ link_at es i
   link_at-none es i none = grind (arith, common_steps, i, entry_at-link None None es i)
@@ -43,14 +39,11 @@ module _ {T : Type 0} where
 
   -- What the slots of an arena say of the chain that lies in it.
   module _ (a : Arena (Link T)) (first last : Option ℕ) (laid : IsLaidOut a.slots first last (chain_of a first).entries) where
-    pub link_at-laid_out : (i : ℕ) → link_at (chain_of a first).entries i ≡ slot a i
-    link_at-laid_out i = sym (laid.links i)
-
     pub entry_at-laid_out : (i : ℕ) → entry_at (chain_of a first).entries i ≡ option_map (λ e. (e.0, e.1.item)) (slot a i)
     entry_at-laid_out i = entry_at-link None None (chain_of a first).entries i ∙ ap (option_map (λ e. (e.0, e.1.item))) (sym (laid.links i))
 
     pub item_of-laid_out : (p : ℕ × ℕ) → item_of (chain_of a first).entries p ≡ option_map (λ l. l.item) (slot_item a p)
-    item_of-laid_out p = rw (entry_at-laid_out p.0) (item_if-link p.1 (slot a p.0))
+    item_of-laid_out p = grind (arith, common_steps, entry_at-laid_out p.0)
 
     pub contains-laid_out : (p : ℕ × ℕ) → is_some (slot_item a p) ≡ is_some (item_of (chain_of a first).entries p)
     contains-laid_out p = grind (arith, common_steps, item_of-laid_out p)

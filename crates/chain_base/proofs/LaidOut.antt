@@ -28,13 +28,9 @@ module _ {T : Type 0} where
   laid-held slots first last es links back =
       laid-links slots first last es (λ i. grind (arith, common_steps, links i, back i, link_between-absent None None es i))
 
-  -- what the slots hold once one is filled
-  pub slot-filled : (a : Arena (Link T)) (j k : ℕ) (e : ℕ × Link T) → j < length a.slots → slot (with_slot a j (Some e)) k ≡ (if j == k then Some e else slot a k)
-  slot-filled a j k e within = grind (arith, common_steps)
-
-  -- what the slots hold once one is emptied
-  pub slot-emptied : (a : Arena (Link T)) (j k : ℕ) → j < length a.slots → slot (with_slot a j None) k ≡ (if j == k then None else slot a k)
-  slot-emptied a j k within = grind (arith, common_steps)
+  -- what the slots hold once one is filled or emptied
+  pub slot-written : (a : Arena (Link T)) (j k : ℕ) (o : Option (ℕ × Link T)) → j < length a.slots → slot (with_slot a j o) k ≡ (if j == k then o else slot a k)
+  slot-written a j k o within = grind (arith, common_steps)
 
   -- a map of what a slot holds
   pub slot-mapped : (a : Arena (Link T)) (i k : ℕ) (f : ℕ × Link T → ℕ × Link T) → slot (with_slot a i (option_map f (slot a i))) k ≡ (if i == k then option_map f (slot a k) else slot a k)
@@ -104,7 +100,7 @@ module _ {T : Type 0} where
         let parts : times j xs + times j ys ≡ 0 = sym (times-append j xs ys) ∙ absent in
         laid-links _ _ _ _
         (λ k. slot-relinked (with_entry_at a (j ∷ rest) (link_amid xs item ys)) (last_or None xs) (Some j) (first_or None ys) (Some j) k
-        ∙ ap (relinked (last_or None xs) (Some j) (first_or None ys) (Some j) k) (slot-filled a j k (a.generation, link_amid xs item ys) within)
+        ∙ ap (relinked (last_or None xs) (Some j) (first_or None ys) (Some j) k) (slot-written a j k (Some (a.generation, link_amid xs item ys)) within)
         ∙ slots-inserted xs ys new k (slot a k) (omega arith) (omega arith) (omega (arith, times-append k xs ys, laid.distinct k)) (laid.links k))
         (λ k. times-inserted k xs new ys absent (laid.distinct k))
         (sym (first_or-append None xs (new ∷ ys))) (sym (last_or-append None xs (new ∷ ys)))
@@ -131,7 +127,7 @@ module _ {T : Type 0} where
     IsLaidOut-removed laid =
         laid-links _ _ _ _
         (λ k. slot-relinked (arena_removed greatest a e.index) (last_or None xs) (first_or None ys) (first_or None ys) (last_or None xs) k
-        ∙ ap (relinked (last_or None xs) (first_or None ys) (first_or None ys) (last_or None xs) k) (slot-emptied a e.index k (slot-within a e.index _ (slot-laid_out a first last xs e ys laid)))
+        ∙ ap (relinked (last_or None xs) (first_or None ys) (first_or None ys) (last_or None xs) k) (slot-written a e.index k None (slot-within a e.index _ (slot-laid_out a first last xs e ys laid)))
         ∙ slots-removed xs e ys k (slot a k) (laid.distinct k) (laid.links k))
         (λ k. omega (arith, times-append k xs ys, times-append k xs (e ∷ ys), laid.distinct k))
         (sym (first_or-append None xs ys)) (sym (last_or-append None xs ys))

@@ -5,9 +5,6 @@ use Rattle.chain_base.specs.Chain.{Entry, Chain, times, inserted_at, greatest_in
 use Rattle.chain_base.specs.Insert.{IsInsertion}
 use Rattle.chain_base.proofs.Vacancy.{greatest-occurs}
 
-head-absent : (is : List ℕ) → length is ≡ 0 → is_some (slice_get is 0) ≡ false
-head-absent is none = grind (arith, common_steps)
-
 module _ {T : Type 0} where
   -- an insertion keeps the capacity
   pub inserted-capacity : (c : Chain T) (place : Entry T → List (Entry T)) (item : T) (vacant : List ℕ) → (inserted_at c place item vacant).capacity ≡ c.capacity
@@ -33,4 +30,4 @@ module _ {T : Type 0} where
       next-grown = grind (arith, common_steps, sound.within n, vacant_among-some c.entries 1 (max n (greatest_index c.entries)) n)
 
       pub with_room-full : n ≡ grown_capacity most c → with_capacity c (max n (greatest_index c.entries)) ≡ with_room most c
-      with_room-full is = grind (arith, common_steps, head-absent c.vacant, sound.counted, greatest-within)
+      with_room-full is = grind (arith, common_steps, c.vacant, sound.counted, greatest-within)

@@ -179,14 +179,12 @@ module _ {P Q T U M : Type 0} (numbers_from : Q → ℕ × ℕ) (numbers_to : P 
       → IsTransfer numbers_from numbers_to greatest step g m source source_after old new
   transferred g m n source rest source_after old base new r x era capacity maximum h all is sized =
       let whole : source.entries ≡ h.gone = h.split ∙ ap (λ es. h.gone ++ es) all ∙ append-nil h.gone in
-      let shrunk : source_after ≡ with_capacity rest (max rest.capacity (greatest_index rest.entries)) = rw is at sized in
-      let none : greatest_index rest.entries ≡ 0 = ap greatest_index all in
-      let size : max rest.capacity (greatest_index rest.entries) ≡ source.capacity = omega (arith, h.capacity, none) in
+      let size : max rest.capacity (greatest_index rest.entries) ≡ source.capacity = omega (arith, h.capacity, ap greatest_index all) in
       let count : max old.capacity (length source.entries) ≡ max old.capacity (length h.items) = ap (max old.capacity) (ap length whole ∙ sym h.count) in
       record {
         last = record { closure = n; items = h.items; generation = rest.generation };
         calls = rw (whole, ← era) h.calls;
-        left = shrunk ∙ rw (size, all, h.maximum) refl;
+        left = (rw is at sized) ∙ rw (size, all, h.maximum) refl;
         after = h.put ∙ rw era (refilled-same base (record old { capacity = max old.capacity (length h.items) }) g (numbered g 1 h.items) (capacity ∙ count) maximum);
       }
 
