@@ -1,5 +1,5 @@
 -- For callers: what an index finds in the list, and how many entries there are, after each change.
-use Rattle.std.proofs.Common.{◌≡◌, ◌≢◌, ℕ, suc, ◌+◌, ◌<◌, ◌≤◌, List, [], ◌∷◌, ◌++◌, length, map, slice_get, slice_index_or, Option, Some, None, IsSome, append_assoc, refl, sym, ap, ◌∙◌, arith, inl, inr, option_map}
+use Rattle.std.proofs.Common.{◌≡◌, ◌≢◌, ℕ, suc, ◌+◌, ◌<◌, ◌≤◌, List, [], ◌∷◌, ◌++◌, length, map, slice_get, slice_index_or, Option, Some, None, IsSome, append_assoc, refl, sym, ap, ◌∙◌, arith, inl, inr, option_map, length-append}
 use Rattle.std.proofs.lemmas.Grind.{common_steps}
 use Rattle.std.proofs.lemmas.Bool.Decides.{eqb_tells}
 use Rattle.std.proofs.lemmas.Option.{slice_get_cases, slice_get_within, get_or_from_slice_get}
@@ -79,8 +79,7 @@ module _ {T : Type 0} where
   entry_at-between (f ∷ front) new back never = grind (arith, common_steps, entry_at-between front new back)
 
   pub length-between : (front : List (Entry T)) (new : Entry T) (back : List (Entry T)) → length (front ++ new ∷ back) ≡ length (front ++ back) + 1
-  length-between [] new back = omega arith
-  length-between (f ∷ front) new back = omega (arith, length-between front new back)
+  length-between front new back = omega (arith, length-append front (new ∷ back), length-append front back)
 
   -- a new entry directly after one that is there stands between two stretches
   pub insert_after-between : (es : List (Entry T)) (i : ℕ) → IsSome (entry_at es i)

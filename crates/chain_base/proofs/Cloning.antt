@@ -209,11 +209,8 @@ module _ {T U : Type 0} (a0 : Arena (Link U)) (a b : Arena (Link T)) (first last
   no-ends : arena_len a ≡ 0 → (first ≡ None) × (last ≡ None)
   no-ends none = grind (arith, common_steps)
 
-  counts-none : (arena_len b == 0) ≡ true → arena_len b ≡ 0
-  counts-none empty = elim (eqb_tells (arena_len b) 0) [ inl h ↦ h.1 | inr h ↦ absurd (false≢true (sym h.0 ∙ empty)) ]
-
   pub empty-laid : (arena_len b == 0) ≡ true → IsLaidOut b.slots None None (chain_of b None).entries
-  empty-laid empty = grind (arith, common_steps, IsLaidOut-walked, counts-none, left, no-ends, resized-laid)
+  empty-laid empty = grind (arith, common_steps, IsLaidOut-walked, left, no-ends, resized-laid)
 
   pub unrefused : (arena_len b == 0) ≡ false → b ≡ replaced a0 a [] → ⊥
   unrefused some gone = grind (arith, common_steps, false≢true, resized-laid)
@@ -222,7 +219,7 @@ module _ {T U : Type 0} (a0 : Arena (Link U)) (a b : Arena (Link T)) (first last
   filled-laid some = elim left [ inl kept ↦ rw kept laid | inr gone ↦ absurd (unrefused some gone) ]
 
   pub kept-chain : b ≡ a → (arena_len b == 0) ≡ true → chain_of b None ≡ chain_of a first
-  kept-chain kept empty = grind (arith, common_steps, counts-none, no-ends)
+  kept-chain kept empty = grind (arith, common_steps, no-ends)
 
 -- A clone in states of one kind is one in those of another.
 module _ {P T U M F : Type 0} (numbers : P → ℕ × ℕ) (below : M → P → Link U → T → M → Type 0) (above : F → P → Link U → T → F → Type 0) (state : M → F)

@@ -17,7 +17,7 @@ use Rattle.chain_base.specs.Naming.{named, bare, compressed_index_in, IsPaired, 
 use Rattle.chain_base.specs.declared.chain.compress.Side.TheVariants.{Before, After}
 use Rattle.chain_base.proofs.Lists.{option_map-itself, link_between-absent, entry_at-link}
 use Rattle.chain_base.proofs.LaidOut.{laid-links, walk-laid_out}
-use Rattle.chain_base.proofs.Vacancy.{HoldIndexes, held-within, held-link, times-link, vacant-held}
+use Rattle.chain_base.proofs.Vacancy.{HoldIndexes, held-within, held-link, times-link, vacant-held, held-some}
 use Rattle.chain_base.proofs.Ranking.{lesser-all, lesser-most, place-found, place-injective, place-slots, counted-held, length-entries, entry-placed, compressed-at, compressed-first, compressed-place, compressed-length, with_era, among-arena}
 use Rattle.chain_base.proofs.Renumbering.{beside, followed, times-source, link_at-renumbered, distinct-renumbered, end-renumbered, times-changed}
 use Rattle.chain_base.proofs.Naming.{paired, learnt, end-learnt}
@@ -122,14 +122,11 @@ module _ {T : Type 0} where
         -- what stands in the compressed arena came from the list
         source2 : (k : ℕ) → is_some (slot a2 k) ≡ true → (x : ℕ) × (place x ≡ k) × (1 ≤ times x es)
         source2 zero held = absurd (false≢true (sym (ap (λ ss. is_some (get_or ss 0 None)) c.after.slots ∙ ap is_some (compressed-first (length a1.slots) (map (λ l. Some (with_era g l)) c.links))) ∙ held))
-        source2 (suc k) held = by (slice_get c.links k) refl (sym (ap is_some (at2 k)) ∙ held)
-          where
-            by : (o : Option (Link T)) → slice_get c.links k ≡ o → is_some (option_map (with_era g) o) ≡ true → (x : ℕ) × (place x ≡ suc k) × (1 ≤ times x es)
-            by None at some = absurd (false≢true some)
-            by (Some l) at some =
-                let all = lesser-all es (length a1.slots) (λ i there. held-within a1.slots es i held1 there) in
-                let x = place-found es laid.distinct (length a1.slots) k (omega (arith, many, all, slice_get_within c.links k l at)) in
-                (x.0, let level = x.2 in omega (arith, level), x.3)
+        source2 (suc k) held =
+            let l = held-some (slice_get c.links k) (grind (arith, common_steps, at2 k, held)) in
+            let all = lesser-all es (length a1.slots) (λ i there. held-within a1.slots es i held1 there) in
+            let x = place-found es laid.distinct (length a1.slots) k (omega (arith, many, all, slice_get_within c.links k l.0 l.1)) in
+            (x.0, let level = x.2 in omega (arith, level), x.3)
 
         distinct2 : IsDistinct now
         distinct2 = distinct-renumbered place alter es laid.distinct (place-injective es)
@@ -148,8 +145,7 @@ module _ {T : Type 0} where
                 absurd (let there = x.2 in let gone = rw (← x.1) at absent in omega (arith, there, gone, times-changed place alter es laid.distinct (place-injective es) x.0 x.2))
 
             unmapped : (o : Option ℕ) → option_map place o ≡ None → o ≡ None
-            unmapped None none = refl
-            unmapped (Some i) none = absurd cc
+            unmapped o none = grind (arith, common_steps)
 
             at : (x : ℕ) → place x ≡ k → (e : ℕ × Link T) → link_at es x ≡ Some e → link_at now (place x) ≡ option_map (followed place alter x) (link_at es x)
                 → (p : Option ℕ) × (slot a2 k ≡ option_map (with_prev p) (link_at now k)) × (beside Before now k ≡ None → p ≡ None)
