@@ -8,7 +8,7 @@ use Rattle.std.specs.Prelude.{nat_lt}
 use Rattle.std.specs.Option.{option_map, option_and_then, ForSome}
 use Rattle.chain_base.specs.Chain.{Entry, Chain, IsDistinct, IsSound, times, entry_at, first_or, vacant_among, vacant_indexes}
 use Rattle.chain_base.specs.Walk.{index_after}
-use Rattle.chain_base.specs.Compression.{lesser, compressed_index, entry_before, rising_among, entries_rising, moved, at_compressed_index, relocated, numbered, canonical, IsCompression}
+use Rattle.chain_base.specs.Compression.{lesser, compressed_index, entry_before, rising_among, entries_rising, moved, at_compressed_index, relocated, numbered, canonical, IsCompression, refilled}
 use Rattle.chain_base.specs.Exchange.{exchanged_index, in_exchange, exchanged}
 use Rattle.chain_base.proofs.Lists.{same_index, times-append, times-here, entry_at-some, entry_at-link, entry_at-absent, entry_at-split, times-unlinked, other_index}
 use Rattle.chain_base.proofs.Vacancy.{held-link, times-link}
@@ -102,16 +102,13 @@ module _ {T : Type 0} where
       → ((f : F) (p : P) (x : T) (q : P) (y : T) (h : F) → step f p x q y h → y ≡ x)
       → (f : F) (old new : Chain T) → IsSound most greatest old → IsCompression numbers step g f old new → new ≡ relocated old g
   compression-relocates {P} {F} numbers step g most greatest back f old new sound c =
-      c.after ∙ ap (λ es. record { entries = es; capacity = old.capacity; vacant = vacant_indexes es old.capacity; generation = g; maximum = old.maximum })
-      (map-moved old.entries g c.items old.entries sound.distinct same)
-    where
-      items : c.items ≡ map (λ (e : ℕ × ℕ × T). e.2) (entries_rising old)
-      items = sym (map-id c.items) ∙ calls-keep numbers step g (λ (x : T). x) back (entries_rising old) f c.last [] c.items c.calls
-
-      same : (i : ℕ) (e : ℕ × T) → entry_at old.entries i ≡ Some e → slice_index_or c.items (lesser old.entries i) e.1 ≡ e.1
-      same i e is =
-          get_or_from_slice_get c.items (lesser old.entries i) e.1 e.1 (ap (λ xs. slice_get xs (lesser old.entries i)) items
-          ∙ (slice_get-map (λ (e : ℕ × ℕ × T). e.2) (entries_rising old) (lesser old.entries i) ∙ ap (option_map (λ (e : ℕ × ℕ × T). e.2)) (rising-entry most greatest old sound i e is)))
+      let items : c.items ≡ map (λ (e : ℕ × ℕ × T). e.2) (entries_rising old) =
+      sym (map-id c.items) ∙ calls-keep numbers step g (λ (x : T). x) back (entries_rising old) f c.last [] c.items c.calls in
+      let place = λ (i : ℕ). lesser old.entries i in
+      let same = λ (i : ℕ) (e : ℕ × T) (is : entry_at old.entries i ≡ Some e).
+      get_or_from_slice_get c.items (place i) e.1 e.1 (ap (λ xs. slice_get xs (place i)) items
+      ∙ (slice_get-map (λ (e : ℕ × ℕ × T). e.2) (entries_rising old) (place i) ∙ ap (option_map (λ (e : ℕ × ℕ × T). e.2)) (rising-entry most greatest old sound i e is))) in
+      c.after ∙ ap (refilled old g) (map-moved old.entries g c.items old.entries sound.distinct same)
 
   -- all entries have generation g
   abbrev pub eras : List (Entry T) → List ℕ

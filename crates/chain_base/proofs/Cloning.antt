@@ -161,17 +161,15 @@ module _ {P T U M N : Type 0} (numbers : P → ℕ × ℕ) (step : M → P → L
       has-items : HasItems es (map (λ l. l.item) c.items) list
       has-items = record {
         order = (row (resized (size + 1) a0.slots) b.slots first last es laid0 frames2).1;
-        made = λ i there. ap (option_map (λ e. e.1)) (entry_at-link None None list i ∙ ap (option_map (λ e. (e.0, e.1.item))) (sym (laid-list.links i)))
-            ∙ (twice (slot b i) ∙ (ap (option_map (λ e. e.1.item)) (at-slots i) ∙ item-at i there));
+        made = λ i there.
+            let e = held-some (slot a0 i) (held-is a0.slots es i held there) in
+            ap (option_map (λ e. e.1)) (entry_at-link None None list i ∙ ap (option_map (λ e. (e.0, e.1.item))) (sym (laid-list.links i)))
+            ∙ twice (slot b i) ∙ ap (option_map (λ e. e.1.item)) (at-slots i)
+            ∙ with_items-item a0.slots c.items i e.0 e.1 ∙ ap (slice_get (map (λ l. l.item) c.items)) (place-slots a0.slots es held i);
       }
         where
           twice : (o : Option (ℕ × Link T)) → option_map (λ e. e.1) (option_map {U = ℕ × T} (λ e. (e.0, e.1.item)) o) ≡ option_map (λ e. e.1.item) o
           twice o = grind (arith, common_steps)
-
-          item-at : (i : ℕ) → 1 ≤ times i es → option_map (λ e. e.1.item) (get_or (with_items a0.slots c.items) i None) ≡ slice_get (map (λ l. l.item) c.items) (lesser es i)
-          item-at i there =
-              let e = held-some (slot a0 i) (held-is a0.slots es i held there) in
-              with_items-item a0.slots c.items i e.0 e.1 ∙ ap (slice_get (map (λ l. l.item) c.items)) (place-slots a0.slots es held i)
 
       pub Lies-cloned : (first1 : Option ℕ) → IsFresh b → Lies b first last (taken_over (chain_of a0 first) (chain_of a first1) list)
       Lies-cloned first1 fresh =

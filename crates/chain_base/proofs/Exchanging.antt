@@ -6,12 +6,12 @@ use Rattle.arena_base.specs.Arena.{Arena, slot, swapped}
 use Rattle.arena_base.proofs.CallerLemmas.{limit_of-below}
 use Rattle.chain_base.specs.Link.{Link}
 use Rattle.chain_base.specs.Chain.{Entry, Chain, entry_at, link_at, IsOccupied, IsSound}
-use Rattle.chain_base.specs.Layout.{chain_of, names, linked_next, linked_prev, IsLaidOut}
+use Rattle.chain_base.specs.Layout.{chain_of, names, linked_next, linked_prev, relinked, IsLaidOut}
 use Rattle.chain_base.specs.Exchange.{exchanged_index, in_exchange, exchanged, IsEven}
 use Rattle.chain_base.specs.declared.chain.compress.Side.{Side}
 use Rattle.chain_base.specs.declared.chain.compress.Side.TheVariants.{Before, After}
 use Rattle.chain_base.proofs.Lists.{entry_at-link, entry_at-absent, entry_at-some}
-use Rattle.chain_base.proofs.LaidOut.{Alike, alike-next, alike-prev}
+use Rattle.chain_base.proofs.LaidOut.{slot-relinked, Alike, alike-next, alike-prev}
 use Rattle.chain_base.proofs.Vacancy.{HoldIndexes, held-is, held-occurs, held-link}
 use Rattle.chain_base.proofs.Renumbering.{opposite, beside, beside-occurs, facing, facing-back, followed, IsLaidOut-renumbered}
 use Rattle.chain_base.proofs.Naming.{neighbour-within}
@@ -32,13 +32,10 @@ module _ (i j : ℕ) where
   other-holds Q of_i of_j k of_k = grind (arith, common_steps)
 
 module _ {T : Type 0} where
-  slot-next : (a : Arena (Link T)) (at v : Option ℕ) (k : ℕ) (e : ℕ × Link T) → slot a k ≡ Some e
-      → slot (linked_next a at v) k ≡ Some (e.0, record { item = e.1.item; prev = e.1.prev; next = if names at k then v else e.1.next })
-  slot-next a at v k e held = grind (arith, common_steps)
-
-  slot-prev : (a : Arena (Link T)) (at v : Option ℕ) (k : ℕ) (e : ℕ × Link T) → slot a k ≡ Some e
-      → slot (linked_prev a at v) k ≡ Some (e.0, record { item = e.1.item; prev = if names at k then v else e.1.prev; next = e.1.next })
-  slot-prev a at v k e held = grind (arith, common_steps)
+  -- a link after two pairs of writes
+  relinked-twice : (a b c d v w : Option ℕ) (k : ℕ) (e : ℕ × Link T) → relinked c w d w k (relinked a v b v k (Some e))
+      ≡ Some (e.0, record { item = e.1.item; prev = if names d k then w else (if names b k then v else e.1.prev); next = if names c k then w else (if names a k then v else e.1.next) })
+  relinked-twice a b c d v w k e = grind (arith, common_steps)
 
   -- entries of one generation that are swapped stand at each other's index
   slot-swapped : (a : Arena (Link T)) (i j x : ℕ) (e f : ℕ × Link T) → slot a i ≡ Some e → slot a j ≡ Some f → e.0 ≡ f.0 → slot (swapped a i j) (other i j x) ≡ slot a x
@@ -122,11 +119,12 @@ module _ {T : Type 0} where
     linked-slot x e is =
         let prev : beside Before es x ≡ e.1.prev = ap (option_and_then (λ e. e.1.prev)) is in
         let next : beside After es x ≡ e.1.next = ap (option_and_then (λ e. e.1.next)) is in
-        let s1 = slot-next (swapped a0 i j) (option_map (other i j) (beside Before es i)) (Some j) (other i j x) e (moved x ∙ can.laid.links x ∙ is) in
-        let s2 = slot-prev _ (option_map (other i j) (beside After es i)) (Some j) (other i j x) _ s1 in
-        let s3 = slot-next _ (option_map (other i j) (beside Before es j)) (Some i) (other i j x) _ s2 in
-        let s4 = slot-prev _ (option_map (other i j) (beside After es j)) (Some i) (other i j x) _ s3 in
-        s4 ∙ rw (← prev, ← next, renamed-on Before x, renamed-on After x) refl
+        let at = other i j x in
+        let to = λ (side : Side) (k : ℕ). option_map (other i j) (beside side es k) in
+        slot-relinked _ (to Before j) (Some i) (to After j) (Some i) at
+        ∙ ap (relinked (to Before j) (Some i) (to After j) (Some i) at) (slot-relinked (swapped a0 i j) (to Before i) (Some j) (to After i) (Some j) at
+        ∙ ap (relinked (to Before i) (Some j) (to After i) (Some j) at) (moved x ∙ can.laid.links x ∙ is))
+        ∙ relinked-twice (to Before i) (to After i) (to Before j) (to After j) (Some j) (Some i) at e ∙ rw (← prev, ← next, renamed-on Before x, renamed-on After x) refl
 
     pub Lies-exchanged : Lies (linked (swapped a0 i j)) (option_map (other i j) first) (option_map (other i j) last) (exchanged c i j)
     Lies-exchanged =

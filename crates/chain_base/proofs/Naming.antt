@@ -1,5 +1,5 @@
 -- How far the entries have learnt the places of their neighbours.
-use Rattle.std.proofs.Common.{◌≡◌, ◌≢◌, ℕ, suc, ◌+◌, ◌<◌, ◌≤◌, true, false, List, [], ◌∷◌, length, Option, Some}
+use Rattle.std.proofs.Common.{◌≡◌, ◌≢◌, ℕ, suc, ◌+◌, ◌<◌, ◌≤◌, true, false, List, [], ◌∷◌, length, Option, Some, cond}
 use Rattle.std.proofs.Common.{None, IsSome, IfSome, ◌↔◌, is_some, count_by, take, get_or, refl, sym, ap, ◌∙◌, arith, if◌then◌else◌, inl, inr, option_map, option_and_then}
 use Rattle.std.proofs.lemmas.Grind.{common_steps}
 use Rattle.std.proofs.lemmas.Bool.Decides.{eqb_tells}
@@ -16,7 +16,7 @@ use Rattle.chain_base.specs.Chain.{Entry, IsDistinct, times}
 use Rattle.chain_base.proofs.Lists.{names_tells}
 use Rattle.chain_base.proofs.LaidOut.{Alike, alike-next, alike-prev}
 use Rattle.chain_base.proofs.Vacancy.{HoldIndexes, held-is, held-occurs}
-use Rattle.chain_base.proofs.Renumbering.{opposite, beside, end_on, beside-occurs, facing, facing-back, end-unnamed, unnamed-end, end-occurs, end-none}
+use Rattle.chain_base.proofs.Renumbering.{opposite, beside, end_on, beside-occurs, facing, facing-back, end-is, end-occurs, end-none}
 
 module _ {T : Type 0} where
   -- the indexes below c have told their places; so many of them have an entry
@@ -136,8 +136,8 @@ module _ {T : Type 0} (side : Side) (old : Arena (Link T)) (es : List (Entry T))
   paired = record {
     there = λ i k is. held-is old.slots es k held (beside-occurs (opposite side) es k i (facing side es distinct i k (sym (names i) ∙ is)));
     once = λ i j k is js. same_Some i j (sym (facing side es distinct i k (sym (names i) ∙ is)) ∙ facing side es distinct j k (sym (names j) ∙ js));
-    alone = λ i j at_i at_j is js. same_Some i j (sym (end-unnamed side es i (held-occurs old.slots es i held at_i) (sym (names i) ∙ is))
-        ∙ end-unnamed side es j (held-occurs old.slots es j held at_j) (sym (names j) ∙ js));
+    alone = λ i j at_i at_j is js. same_Some i j (sym ((end-is side es i (held i ∙ ap (λ b. cond b 1 0) at_i)).0 (sym (names i) ∙ is))
+        ∙ (end-is side es j (held j ∙ ap (λ b. cond b 1 0) at_j)).0 (sym (names j) ∙ js));
   }
 
   module _ (new : Arena (Link T)) (end : Option ℕ) (n : NamesCompressedIndexes side old new end) (place : ℕ → ℕ) (placed : (i : ℕ) → 1 ≤ times i es → compressed_index_in old i ≡ place i) where
@@ -159,7 +159,7 @@ module _ {T : Type 0} (side : Side) (old : Arena (Link T)) (es : List (Entry T))
         by None none = n.no_end (λ i at is. let occurs = held-occurs old.slots es i held at in absurd (omega (arith, end-none side es i none)))
         by (Some x) is =
             let occurs = end-occurs side es x is in
-            rw (← placed x occurs) (n.end_is x (held-is old.slots es x held occurs) (names x ∙ unnamed-end side es x (distinct x) is))
+            rw (← placed x occurs) (n.end_is x (held-is old.slots es x held occurs) (names x ∙ (end-is side es x (omega (arith, distinct x, occurs))).1 is))
 
 -- the index that is made of a number within the limit
 pub index-made : {I : Type 0} (number : I → ℕ) (most n : ℕ) (r : Option I) → (IsSome r ↔ ((0 < n) × (n ≤ most))) → IfSome r (λ i. number i ≡ n) → 0 < n → n ≤ most → option_map number r ≡ Some n

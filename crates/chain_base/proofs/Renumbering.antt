@@ -1,5 +1,5 @@
 -- The links of a list: neighbours name each other; and of a list whose entries get other indexes.
-use Rattle.std.proofs.Common.{◌≡◌, ◌≢◌, ℕ, ◌+◌, ◌≤◌, List, [], ◌∷◌, ◌++◌, map, Option, Some, None, is_some, get_or, refl, sym, ap, ◌∙◌, subst, arith, true, append_assoc, option_map, option_and_then}
+use Rattle.std.proofs.Common.{◌≡◌, ◌≢◌, ℕ, ◌+◌, ◌≤◌, List, [], ◌∷◌, ◌++◌, map, Option, Some, None, is_some, get_or, refl, sym, ap, ◌∙◌, subst, arith, true, append_assoc, option_map, option_and_then, ◌↔◌}
 use Rattle.std.proofs.lemmas.Grind.{common_steps}
 use Rattle.std.proofs.lemmas.Option.{none-some, same_Some}
 use Rattle.chain_base.specs.Link.{Link}
@@ -84,19 +84,12 @@ module _ {T : Type 0} where
   before-some b [] i occurs none = absurd (omega arith)
   before-some b (e ∷ es) i occurs none = grind (arith, common_steps, before-some e.index es i)
 
-  after-none : (before : Option ℕ) (es : List (Entry T)) (i : ℕ) → 1 ≤ times i es → beside_in After before es i ≡ None → last_or None es ≡ Some i
-  after-none before (e ∷ f ∷ es) i occurs none = grind (arith, common_steps, after-none (Some e.index) (f ∷ es) i)
-  after-none before es i occurs none = grind (arith, common_steps)
+  after-end : (before : Option ℕ) (es : List (Entry T)) (i : ℕ) → times i es ≡ 1 → (beside_in After before es i ≡ None) ↔ (last_or None es ≡ Some i)
+  after-end before (e ∷ f ∷ es) i once = grind (arith, common_steps, after-end (Some e.index) (f ∷ es) i, times-last (f ∷ es) i)
+  after-end before es i once = grind (arith, common_steps)
 
-  pub end-unnamed : (side : Side) (es : List (Entry T)) (i : ℕ) → 1 ≤ times i es → beside side es i ≡ None → end_on side es ≡ Some i
-  end-unnamed side es i occurs none = grind (arith, common_steps, before-some, after-none)
-
-  last-none : (before : Option ℕ) (es : List (Entry T)) (i : ℕ) → times i es ≤ 1 → last_or None es ≡ Some i → beside_in After before es i ≡ None
-  last-none before (e ∷ f ∷ es) i once last = grind (arith, common_steps, last-none (Some e.index) (f ∷ es) i, times-last (f ∷ es) i last)
-  last-none before es i once last = grind (arith, common_steps)
-
-  pub unnamed-end : (side : Side) (es : List (Entry T)) (i : ℕ) → times i es ≤ 1 → end_on side es ≡ Some i → beside side es i ≡ None
-  unnamed-end side es i once end = grind (arith, common_steps, last-none)
+  pub end-is : (side : Side) (es : List (Entry T)) (i : ℕ) → times i es ≡ 1 → (beside side es i ≡ None) ↔ (end_on side es ≡ Some i)
+  end-is side es i once = grind (arith, common_steps, before-some, after-end None es i)
 
   pub end-occurs : (side : Side) (es : List (Entry T)) (i : ℕ) → end_on side es ≡ Some i → 1 ≤ times i es
   end-occurs side es i is = grind (arith, common_steps, times-first, times-last)
