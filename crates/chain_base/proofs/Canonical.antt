@@ -125,14 +125,11 @@ module _ {T : Type 0} where
   pub relocated-items : (fs : List (Entry T)) (es : List (Entry T)) (g : ℕ) → map (λ e. e.item) (map (at_compressed_index es g) fs) ≡ map (λ e. e.item) fs
   relocated-items fs es g = map-kept (λ (e : Entry T). e.item) (at_compressed_index es g) (λ e. refl) fs
 
-  exchanged-once : (es : List (Entry T)) → IsDistinct es → (i j : ℕ) → 1 ≤ times i es → 1 ≤ times j es → (k : ℕ) → times (exchanged_index i j k) es ≡ times k es
-  exchanged-once es distinct i j at_i at_j k = grind (arith, nat_tests, distinct i, distinct j)
-
   exchanged-times : (es : List (Entry T)) → IsDistinct es → (i j : ℕ) → 1 ≤ times i es → 1 ≤ times j es → (k : ℕ) → times k (map (in_exchange i j) es) ≡ times k es
   exchanged-times es distinct i j at_i at_j k =
       ap (λ m. times m (map (in_exchange i j) es)) (sym (other-twice i j k))
       ∙ times-renumbered (exchanged_index i j) (λ x p. p) es (exchanged_index i j k) (λ y occurs same. other-injective i j y (exchanged_index i j k) same)
-      ∙ exchanged-once es distinct i j at_i at_j k
+      ∙ grind (arith, nat_tests, distinct i, distinct j)
 
   numbered-apart : (g from : ℕ) (xs : List T) (i j : ℕ) → ((m : ℕ) → from ≤ m → m < from + length xs → (m ≢ i) × (m ≢ j)) → map (in_exchange i j) (numbered g from xs) ≡ numbered g from xs
   numbered-apart g from [] i j apart = refl

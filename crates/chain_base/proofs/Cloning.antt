@@ -120,14 +120,11 @@ module _ {P T U M N : Type 0} (numbers : P → ℕ × ℕ) (step : M → P → L
     held : HoldIndexes a0.slots es
     held = held-laid a0.slots first last es laid
 
-    -- index 0 has no entry
-    none-first : link_at es 0 ≡ None
-    none-first = link_between-absent None None es 0 (grind (arith, common_steps, sound.within 0))
-
     rising : entries_rising a0 0 ≡ links_rising (chain_of a0 first)
     rising =
         sym (map-id (entries_rising a0 0))
-        ∙ among-arena (λ (l : Link U). l) (link_at es) (links_among es) (λ i. refl) (λ i n. refl) a0.slots none-first (λ i. option_map-itself (slot a0 i) ∙ laid.links i)
+        ∙ among-arena (λ (l : Link U). l) (link_at es) (links_among es) (λ i. refl) (λ i n. refl) a0.slots
+        (link_between-absent None None es 0 (grind (arith, common_steps, sound.within 0))) (λ i. option_map-itself (slot a0 i) ∙ laid.links i)
 
     abbrev size : ℕ
     size = max (arena_capacity a) (greatest_occupied a0.slots)

@@ -42,10 +42,8 @@ module _ {T : Type 0} where
   -- links with other previous neighbours, or with next ones that have learnt their places
   next-kept : (o : Option (ℕ × Link T)) (p : Option ℕ) → (option_and_then (λ e. e.1.next) (option_map (with_prev p) o) ≡ option_and_then (λ e. e.1.next) o)
       × (is_some (option_map (with_prev p) o) ≡ is_some o) × (option_map (with_prev p) (option_map (with_prev p) o) ≡ option_map (with_prev p) o)
-  next-kept o p = grind (arith, common_steps)
-
-  prev-again : (o : Option (ℕ × Link T)) (p : Option ℕ) → option_map (with_prev (option_map (λ i. i) (option_and_then (λ e. e.1.prev) o))) (option_map (with_prev p) o) ≡ o
-  prev-again o p = grind (arith, common_steps, option_map-itself)
+      × (option_map (with_prev (option_map (λ i. i) (option_and_then (λ e. e.1.prev) o))) (option_map (with_prev p) o) ≡ o)
+  next-kept o p = grind (arith, common_steps, option_map-itself)
 
   unlinked : (o : Option (ℕ × Link T)) → option_and_then (λ e. e.1.next) o ≡ None → option_map (with_next None) o ≡ o
   unlinked o none = grind (arith, common_steps)
@@ -172,7 +170,7 @@ module _ {T : Type 0} where
           links3 k =
               let m = met2 k in
               learnt After a2 now distinct2 held2 names2 a3 end2 n2 (λ i. i) place-second k (λ none. rw (m.1, m.2 none) (next-kept (link_at now k) None).2)
-              ∙ rw m.1 (prev-again (link_at now k) m.0)
+              ∙ rw m.1 (next-kept (link_at now k) m.0).3
 
           laid-compressed : IsLaidOut a3.slots end1 end2 now
           laid-compressed =

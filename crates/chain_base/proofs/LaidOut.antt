@@ -102,7 +102,7 @@ module _ {T : Type 0} where
         (λ k. slot-relinked (with_entry_at a (j ∷ rest) (link_amid xs item ys)) (last_or None xs) (Some j) (first_or None ys) (Some j) k
         ∙ ap (relinked (last_or None xs) (Some j) (first_or None ys) (Some j) k) (slot-written a j k (Some (a.generation, link_amid xs item ys)) within)
         ∙ slots-inserted xs ys new k (slot a k) (omega arith) (omega arith) (omega (arith, times-append k xs ys, laid.distinct k)) (laid.links k))
-        (λ k. times-inserted k xs new ys absent (laid.distinct k))
+        (λ k. grind (arith, common_steps, times-append k xs ys, times-append k xs (new ∷ ys), parts, laid.distinct k))
         (sym (first_or-append None xs (new ∷ ys))) (sym (last_or-append None xs (new ∷ ys)))
 
   -- what the slots hold after the entry between two stretches is taken out

@@ -107,8 +107,7 @@ module _ {T : Type 0} where
 
   -- an index with an entry lies within the slots
   held-inside : (slots : List (Option (ℕ × Link T))) (i : ℕ) → is_some (get_or slots i None) ≡ true → i < length slots
-  held-inside (x ∷ xs) (suc i) held = let ih = held-inside xs i held in omega arith
-  held-inside es i held = grind (arith, common_steps)
+  held-inside slots i held = grind (arith, common_steps)
 
   -- an index that is named lies within the slots
   named-within : (side : Side) (a : Arena (Link T)) (i k : ℕ) → named side a i ≡ Some k → i < length a.slots

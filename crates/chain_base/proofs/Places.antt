@@ -8,10 +8,6 @@ use Rattle.chain_base.specs.Insert.{IsPlace}
 use Rattle.chain_base.proofs.Lists.{link_between-append, link_between-absent, last_or-append, same_index, Stands, Stands-occurs}
 
 module _ {T : Type 0} where
-  -- an index that has a link occurs in the list
-  occurs-linked : (es : List (Entry T)) (i : ℕ) (l : Link T) → option_map (λ e. e.1) (link_at es i) ≡ Some l → 1 ≤ times i es
-  occurs-linked es i l linked = grind (arith, common_steps, eqb_tells, link_between-absent)
-
   -- the neighbours of the entry at an index, where the list is split there
   link_at-ends : (es : List (Entry T)) (i : ℕ) (l : Link T) → option_map (λ e. e.1) (link_at es i) ≡ Some l → (s : Stands es i)
       → (l.prev ≡ last_or None s.front) × (l.next ≡ first_or None s.back)
@@ -20,7 +16,7 @@ module _ {T : Type 0} where
   -- directly after an entry
   pub IsPlace-after : (es : List (Entry T)) (i : ℕ) (l : Link T) → option_map (λ e. e.1) (link_at es i) ≡ Some l → IsPlace es (λ new. insert_after i new es) (Some i) l.next
   IsPlace-after es i l linked =
-      let s = Stands-occurs es i (occurs-linked es i l linked) in
+      let s = Stands-occurs es i (grind (arith, common_steps, link_between-absent None None es i)) in
       record {
         front = s.front ++ s.entry ∷ [];
         back = s.back;
@@ -32,4 +28,4 @@ module _ {T : Type 0} where
 
   -- directly before an entry
   pub IsPlace-before : (es : List (Entry T)) (i : ℕ) (l : Link T) → option_map (λ e. e.1) (link_at es i) ≡ Some l → IsPlace es (λ new. insert_before i new es) l.prev (Some i)
-  IsPlace-before es i l linked = grind (arith, common_steps, Stands-occurs es i, occurs-linked es i l linked, link_at-ends es i l linked)
+  IsPlace-before es i l linked = grind (arith, common_steps, Stands-occurs es i, link_between-absent None None es i, link_at-ends es i l linked)

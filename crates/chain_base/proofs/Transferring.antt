@@ -169,9 +169,6 @@ last-more number i items item at = grind (arith, common_steps)
 
 -- a whole transfer
 module _ {P Q T U M : Type 0} (numbers_from : Q → ℕ × ℕ) (numbers_to : P → ℕ × ℕ) (greatest : Option ℕ) (step : M → Q → InvalidationOption U → P → T → M → Type 0) where
-  refilled-same : (c d : Chain T) (g : ℕ) (es : List (Entry T)) → c.capacity ≡ d.capacity → c.maximum ≡ d.maximum → refilled c g es ≡ refilled d g es
-  refilled-same c d g es capacity maximum = rw (capacity, maximum) refl
-
   pub transferred : {X E : Type 0} (g : ℕ) (m n : M) (source rest source_after : Chain U) (old base new : Chain T) (r : Result X E) (x : X)
       → base.generation ≡ g → base.capacity ≡ max old.capacity (length source.entries) → base.maximum ≡ old.maximum
       → HasTaken numbers_from numbers_to greatest step m source rest base new n → rest.entries ≡ []
@@ -185,7 +182,7 @@ module _ {P Q T U M : Type 0} (numbers_from : Q → ℕ × ℕ) (numbers_to : P 
         last = record { closure = n; items = h.items; generation = rest.generation };
         calls = rw (whole, ← era) h.calls;
         left = (rw is at sized) ∙ rw (size, all, h.maximum) refl;
-        after = h.put ∙ rw era (refilled-same base (record old { capacity = max old.capacity (length h.items) }) g (numbered g 1 h.items) (capacity ∙ count) maximum);
+        after = h.put ∙ rw (era, capacity ∙ count, maximum) refl;
       }
 
 -- Calls of one kind are calls of another: `state`, `item` and `part` give the other's states and items.
