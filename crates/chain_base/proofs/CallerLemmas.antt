@@ -12,7 +12,7 @@ use Rattle.chain_base.proofs.Renumbering.{times-source}
 -- the steps of a transfer, told of other items
 pub use Rattle.chain_base.proofs.Transferring.{steps-retold}
 -- a list in two parts
-pub use Rattle.chain_base.proofs.Lists.{option_or-none, times-append, entry_at-split, last_or-append, link_between-append, link_between-absent}
+pub use Rattle.chain_base.proofs.Lists.{option_or-none, times-append, last_or-append, link_between-append, link_between-absent}
 -- an entry is its link without the neighbours
 pub use Rattle.chain_base.proofs.Lists.{entry_at-link}
 -- an index that no entry has finds none, and one that finds an entry stands in the list

@@ -1,5 +1,5 @@
 -- What the calls of a chain arena owe: from what the arena's calls ensure to the step on the list.
-use Rattle.std.proofs.Common.{◌≡◌, ℕ, ◌<◌, ◌≤◌, List, [], Option, Some, None, IsSome, refl, sym, ap, subst, ◌∙◌, arith, max, OnSome, IfNone, Result, Ok, Err, OnOk, OnErr, ◌⊎◌, inl, inr, option_and_then}
+use Rattle.std.proofs.Common.{◌≡◌, ℕ, ◌≤◌, List, Option, Some, None, IsSome, refl, sym, ap, subst, ◌∙◌, arith, max, OnSome, IfNone, Result, Ok, Err, OnOk, OnErr, ◌⊎◌, inl, inr, option_and_then}
 use Rattle.std.proofs.lemmas.Grind.{common_steps}
 use Rattle.arena_base.specs.Arena.{Arena, slot, arena_capacity, new_arena, with_capacity as arena_with_capacity}
 use Rattle.arena_base.specs.Arena.{removed as arena_removed, renewed as arena_renewed, greatest_occupied, IsSound as IsSoundArena, IsInsertion as IsArenaInsertion}
@@ -11,8 +11,8 @@ use Rattle.chain_base.specs.Layout.{chain_of, IsLaidOut}
 use Rattle.chain_base.specs.Naming.{neighbour_on}
 use Rattle.chain_base.specs.declared.chain.compress.Side.{Side}
 use Rattle.chain_base.proofs.Lists.{times-append, times-last, times-first, other_index}
-use Rattle.chain_base.proofs.LaidOut.{laid-links, bridged, end_beside, slot-written, slot-within}
-use Rattle.chain_base.proofs.Vacancy.{HoldIndexes, held-is, get_or-vacant, past-greatest, greatest-links}
+use Rattle.chain_base.proofs.LaidOut.{bridged, end_beside, slot-written, slot-within}
+use Rattle.chain_base.proofs.Vacancy.{HoldIndexes, held-is, past-greatest, greatest-links}
 use Rattle.chain_base.proofs.Renumbering.{beside-other}
 use Rattle.chain_base.proofs.Sound.{occupied-within}
 use Rattle.chain_base.proofs.Steps.{Lies, held-laid, Inserts, Inserts-joined, Removes-joined, Renews-at, Lies-resized, IsLaidOut-cleared}

@@ -6,11 +6,11 @@ use Rattle.std.proofs.lemmas.Option.{same_Some, slice_get-map, get_or_from_slice
 use Rattle.std.proofs.lemmas.List.{map-append, map-id, append_assoc, append-nil, length-map}
 use Rattle.std.specs.Prelude.{nat_lt}
 use Rattle.std.specs.Option.{option_map, option_and_then, ForSome}
-use Rattle.chain_base.specs.Chain.{Entry, Chain, IsDistinct, IsSound, times, entry_at, first_or, vacant_among, vacant_indexes}
+use Rattle.chain_base.specs.Chain.{Entry, Chain, IsDistinct, IsSound, times, entry_at, first_or, vacant_among}
 use Rattle.chain_base.specs.Walk.{index_after}
 use Rattle.chain_base.specs.Compression.{lesser, compressed_index, entry_before, rising_among, entries_rising, moved, at_compressed_index, relocated, numbered, canonical, IsCompression, refilled}
 use Rattle.chain_base.specs.Exchange.{exchanged_index, in_exchange, exchanged}
-use Rattle.chain_base.proofs.Lists.{same_index, times-append, times-here, entry_at-some, entry_at-link, entry_at-absent, entry_at-split, times-unlinked, other_index}
+use Rattle.chain_base.proofs.Lists.{same_index, times-append, times-here, entry_at-some, entry_at-link, entry_at-absent, times-unlinked, other_index}
 use Rattle.chain_base.proofs.Vacancy.{held-link, times-link}
 use Rattle.chain_base.proofs.Renumbering.{link_at-split, times-renumbered, times-changed, times-source}
 use Rattle.chain_base.proofs.Ranking.{lesser-zero, lesser-next, lesser-le, lesser-below, lesser-all, place-found, place-injective}
@@ -92,10 +92,9 @@ module _ {T : Type 0} where
   map-moved all g items [] distinct same = refl
   map-moved all g items (e ∷ es) distinct same =
       let here : slice_index_or items (lesser all e.index) e.item ≡ e.item = same e.index (e.generation, e.item) (rw (same_index e.index) refl) in
-      rw (here, map-moved all g items es (λ i. omega (arith, distinct i)) (λ i f is. same i f (apart i f is))) refl
-    where
-      apart : (i : ℕ) (f : ℕ × T) → entry_at es i ≡ Some f → entry_at (e ∷ es) i ≡ Some f
-      apart i f is = grind (arith, common_steps, entry-occurs es i, distinct i)
+      let behind : (i : ℕ) (f : ℕ × T) → entry_at es i ≡ Some f → entry_at (e ∷ es) i ≡ Some f =
+      λ i f is. grind (arith, common_steps, entry-occurs es i, distinct i) in
+      rw (here, map-moved all g items es (λ i. omega (arith, distinct i)) (λ i f is. same i f (behind i f is))) refl
 
   -- a compression whose calls give each item back
   pub compression-relocates : {P F : Type 0} (numbers : P → ℕ × ℕ) (step : F → P → T → P → T → F → Type 0) (g most : ℕ) (greatest : Option ℕ)
@@ -200,7 +199,8 @@ module _ {T : Type 0} where
 
       entry-even : met.entry.generation ≡ g
       entry-even =
-          grind (arith, common_steps, era-at now.entries n g met.entry.index (met.entry.generation, met.entry.item) b.even, met, whole, entry_at-split (numbered g 1 b.done) met.entry met.behind met.entry.index refl unmet, unmet)
+          grind (arith, common_steps, era-at now.entries n g met.entry.index (met.entry.generation, met.entry.item) b.even, entry_at-link None None now.entries met.entry.index,
+          link_at-split now.entries (numbered g 1 b.done) met.entry met.behind whole distinct met.entry.index refl)
 
       apart : (m : ℕ) → 1 ≤ m → m < 1 + length b.done → (m ≢ met.entry.index) × (m ≢ k + 1)
       apart m above below = grind (arith, common_steps, times-numbered, met, unmet)

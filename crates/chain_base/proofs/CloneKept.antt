@@ -5,8 +5,8 @@ use Rattle.std.proofs.lemmas.Option.{slice_get-map}
 use Rattle.std.specs.declared.alloc.AllocError.{AllocError}
 use Rattle.arena_base.proofs.CallerLemmas.{clones-keep}
 use Rattle.chain_base.specs.Link.{Link}
-use Rattle.chain_base.specs.Chain.{Entry, Chain, IsDistinct, IsSound, entry_at, link_at}
-use Rattle.chain_base.specs.Compression.{lesser, entry_before, rising_among, entries_rising}
+use Rattle.chain_base.specs.Chain.{Entry, Chain, IsDistinct, IsSound, entry_at}
+use Rattle.chain_base.specs.Compression.{lesser, rising_among, entries_rising}
 use Rattle.chain_base.specs.Walk.{pointers}
 use Rattle.chain_base.specs.Clone.{links_among, links_rising, taken_over, IsClone, IsRefusedClone}
 use Rattle.chain_base.proofs.Lists.{entry_at-link, entry_at-absent}

@@ -1,7 +1,7 @@
 -- What the calls that look up an entry find, read off the list.
 use Rattle.std.proofs.Common.{◌≡◌, ℕ, ◌≤◌, List, ◌∷◌, Option, Some, None, IsSome, is_some, false, sym, ap, ◌∙◌, arith, option_map}
 use Rattle.std.proofs.lemmas.Grind.{common_steps}
-use Rattle.arena_base.specs.Arena.{Arena, slot, item_if, item_of as slot_item, IsFirstEntry, IsLastEntry}
+use Rattle.arena_base.specs.Arena.{Arena, slot, item_of as slot_item, IsFirstEntry, IsLastEntry}
 use Rattle.chain_base.specs.Link.{Link}
 use Rattle.chain_base.specs.Chain.{Entry, times, entry_at, link_at, last_or, last_pointer, pointed, item_of, generation_at, IsFirstIndex, IsLastIndex}
 use Rattle.chain_base.specs.Layout.{chain_of, IsLaidOut}

@@ -6,7 +6,7 @@ use Rattle.arena_base.specs.Arena.{Arena, slot, with_slot, with_entry_at, remove
 use Rattle.chain_base.specs.Link.{Link}
 use Rattle.chain_base.specs.Chain.{Entry, IsDistinct, times, first_or, last_or, link_at}
 use Rattle.chain_base.specs.Layout.{chain_of, walk, linked_next, linked_prev, relinked, IsLaidOut}
-use Rattle.chain_base.proofs.Lists.{names_tells, same_index, times-append, times-inserted, times-here, times-there, times-last, times-first, first_or-append, last_or-append, link_between-append, link_between-absent}
+use Rattle.chain_base.proofs.Lists.{names_tells, same_index, times-append, times-here, times-there, times-last, times-first, first_or-append, last_or-append, link_between-append, link_between-absent}
 use Rattle.chain_base.proofs.Lists.{times-unlinked, seam-relinked, IsRow-links, walk-row, changed_at, changed_link, link_between-changed_at, same-changed_at}
 use Rattle.chain_base.proofs.Vacancy.{held-links}
 use Rattle.chain_base.proofs.Ranking.{counted-held}

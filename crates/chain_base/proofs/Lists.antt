@@ -41,10 +41,6 @@ module _ {T : Type 0} where
   times-append i [] ys = omega arith
   times-append i (x ∷ xs) ys = omega (arith, times-append i xs ys)
 
-  -- an index that was in no entry keeps the indexes pairwise different
-  pub times-inserted : (k : ℕ) (xs : List (Entry T)) (new : Entry T) (ys : List (Entry T)) → times new.index (xs ++ ys) ≡ 0 → times k (xs ++ ys) ≤ 1 → times k (xs ++ new ∷ ys) ≤ 1
-  times-inserted k xs new ys absent once = grind (arith, nat_tests, times-append k xs ys, times-append k xs (new ∷ ys), times-append new.index xs ys)
-
   pub first_or-append : (after : Option ℕ) (xs ys : List (Entry T)) → first_or after (xs ++ ys) ≡ first_or (first_or after ys) xs
   first_or-append after xs ys = grind (arith, common_steps)
 
@@ -148,11 +144,6 @@ module _ {T : Type 0} where
               before = λ new. simp h.0 (ap (λ xs. e ∷ xs) (s.before new));
             }
       ]
-
-  -- what stands at the place of an index
-  pub entry_at-split : (front : List (Entry T)) (e : Entry T) (back : List (Entry T)) (i : ℕ) → e.index ≡ i → times i front ≡ 0 → entry_at (front ++ e ∷ back) i ≡ Some (e.generation, e.item)
-  entry_at-split [] e back i here unmet = grind (arith, common_steps)
-  entry_at-split (f ∷ front) e back i here unmet = grind (arith, common_steps, entry_at-split front e back i here)
 
   pub entry_at-absent : (es : List (Entry T)) (i : ℕ) → times i es ≡ 0 → entry_at es i ≡ None
   entry_at-absent [] i absent = refl

@@ -2,7 +2,6 @@
 use Rattle.std.proofs.Common.{◌≡◌, ℕ, ◌+◌, ◌-◌, ◌<◌, List, [], ◌∷◌, ◌++◌, length, Option, Some, None, is_some, cond, refl, sym, ap, subst, ◌∙◌, arith, if◌then◌else◌, slice_get, length-set, replicate}
 use Rattle.std.proofs.lemmas.Grind.{common_steps}
 use Rattle.std.proofs.lemmas.List.{length-replicate}
-use Rattle.arena_base.specs.Generation.{next_generation}
 use Rattle.arena_base.specs.Arena.{Arena, slot, with_entry_at, arena_capacity, with_capacity as arena_with_capacity, removed as arena_removed}
 use Rattle.arena_base.specs.Arena.{renewed as arena_renewed, cleared as arena_cleared, resized, IsInsertion as IsArenaInsertion}
 use Rattle.chain_base.specs.Link.{Link}

@@ -2,7 +2,6 @@
 use Rattle.std.proofs.Common.{◌≡◌, ℕ, zero, suc, ◌+◌, ◌-◌, ◌<◌, ◌≤◌, max, List, [], ◌∷◌, ◌++◌, map, length, length-append, append_assoc, Option}
 use Rattle.std.proofs.Common.{Some, None, OnSome, OnOk, IsOk, IsErr, Result, Ok, Err, is_some, true, slice_get, refl, sym, ap, ◌∙◌, arith, option_map}
 use Rattle.std.proofs.lemmas.Grind.{common_steps}
-use Rattle.std.proofs.lemmas.Bool.Decides.{nat_tests}
 use Rattle.std.specs.List.{FoldsTo}
 use Rattle.std.proofs.lemmas.Fn.{FoldsTo-push}
 use Rattle.std.proofs.lemmas.List.{append-nil, length-map, map-id, map_push}
@@ -13,7 +12,7 @@ use Rattle.arena_base.specs.declared.invalidation.InvalidationOption.{Invalidati
 use Rattle.chain_base.specs.Link.{Link}
 use Rattle.chain_base.specs.Chain.{Entry, Chain, times, entry_at, first_pointer, link_at, insert_after, vacant_among, removed, with_capacity, greatest_index, inserted, IsSound}
 use Rattle.chain_base.specs.Insert.{placed, CanPlace}
-use Rattle.chain_base.specs.Compression.{numbered, refilled, Transferring, TransferStep, IsTransfer}
+use Rattle.chain_base.specs.Compression.{numbered, Transferring, TransferStep, IsTransfer}
 use Rattle.chain_base.specs.Transfer.{filled_with, last_of, place_behind, TakesOut, HasTaken}
 use Rattle.chain_base.proofs.Lists.{same_index}
 use Rattle.chain_base.proofs.Room.{greatest-within}
@@ -110,13 +109,11 @@ module _ {T : Type 0} where
   pub has-room : {X E : Type 0} (r : Result X E) (c : Chain T) (items : List T) → length items < c.capacity → (IsErr r → length (filled_with c items).entries ≡ c.capacity) → IsOk r
   has-room r c items less full = grind (arith, common_steps, length-numbered)
 
-  -- the next index
-  vacant-first : (c : Chain T) (items : List T) → length items < c.capacity → slice_get (filled_with c items).vacant 0 ≡ Some (1 + length items)
-  vacant-first c items less = grind (arith, common_steps, vacant-numbered c.generation items (suc (c.capacity - length items - 1)))
-
   module _ {P : Type 0} (numbers : P → ℕ × ℕ) (c chain : Chain T) (items : List T) (less : length items < c.capacity) (put : chain ≡ filled_with c items) where
     next-is : (o : Option P) (vacant : List ℕ) → vacant ≡ chain.vacant → option_map (λ p. (numbers p).0) o ≡ slice_get vacant 0 → option_map (λ p. (numbers p).0) o ≡ Some (1 + length items)
-    next-is o vacant same is = is ∙ ap (λ is. slice_get is 0) (same ∙ ap (λ (c : Chain T). c.vacant) put) ∙ vacant-first c items less
+    next-is o vacant same is =
+        is ∙ ap (λ is. slice_get is 0) (same ∙ ap (λ (c : Chain T). c.vacant) put) 
+        ∙ grind (arith, common_steps, vacant-numbered c.generation items (suc (c.capacity - length items - 1)))
 
     pub next-some : (o : Option P) (vacant : List ℕ) → vacant ≡ chain.vacant → option_map (λ p. (numbers p).0) o ≡ slice_get vacant 0 → is_some o ≡ true
     next-some o vacant same is = grind (arith, common_steps, next-is)
