@@ -30,9 +30,6 @@ ends_of l = (l.prev, l.next)
 abbrev frame : {X : Type 0} → Option (ℕ × Link X) → Option (ℕ × Option ℕ × Option ℕ)
 frame o = option_map (λ e. (e.0, e.1.prev, e.1.next)) o
 
-unframed : {X : Type 0} (o : Option (ℕ × Link X)) → frame o ≡ None → o ≡ None
-unframed o is = grind (arith, common_steps)
-
 framed : {X Y : Type 0} (o : Option (ℕ × Link X)) (p : Option (ℕ × Link Y)) → frame o ≡ frame p → is_some o ≡ true → is_some p ≡ true
 framed o p same some = grind (arith, common_steps)
 
@@ -139,7 +136,7 @@ module _ {P T U M N : Type 0} (numbers : P → ℕ × ℕ) (step : M → P → L
           (clones-keep numbers (Grants numbers (link_step step inner)) ends_of ends_of (λ f p u x g made. (let before = made.before in let behind = made.behind in cc)) (entries_rising a0 0) m c.last [] c.items c.calls)
 
       past : (k : ℕ) → size + 1 ≤ k → get_or (with_items a0.slots c.items) k None ≡ None
-      past k far = unframed (get_or (with_items a0.slots c.items) k None) (frames k ∙ ap frame (beyond k (omega arith)))
+      past k far = grind (arith, common_steps, frames k, beyond k)
 
       at-slots : (i : ℕ) → slot b i ≡ get_or (with_items a0.slots c.items) i None
       at-slots i = ap (λ ss. get_or ss i None) c.after.slots ∙ get_or-resized (size + 1) (with_items a0.slots c.items) i past
