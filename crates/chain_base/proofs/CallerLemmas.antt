@@ -1,19 +1,18 @@
 -- For callers: what an index finds in the list, and how many entries there are, after each change.
-use Rattle.std.proofs.Common.{◌≡◌, ◌≢◌, ℕ, zero, suc, ◌+◌, ◌<◌, ◌≤◌, List, [], ◌∷◌, ◌++◌, length, map, slice_get, slice_index_or, Option, Some, None, IsSome, append_assoc, refl, sym, ap, ◌∙◌, arith, inl, inr}
+use Rattle.std.proofs.Common.{◌≡◌, ◌≢◌, ℕ, suc, ◌+◌, ◌<◌, ◌≤◌, List, [], ◌∷◌, ◌++◌, length, map, slice_get, slice_index_or, Option, Some, None, IsSome, append_assoc, refl, sym, ap, ◌∙◌, arith, inl, inr, option_map, length-append}
 use Rattle.std.proofs.lemmas.Grind.{common_steps}
 use Rattle.std.proofs.lemmas.Bool.Decides.{eqb_tells}
 use Rattle.std.proofs.lemmas.Option.{slice_get_cases, slice_get_within, get_or_from_slice_get}
-use Rattle.std.specs.Option.{option_map}
 use Rattle.chain_base.specs.Chain.{Entry, times, IsDistinct, entry_at, insert_after, insert_before, without, with_item_among, with_generation}
 use Rattle.chain_base.specs.Compression.{lesser, compressed_index, moved, at_compressed_index, numbered}
-use Rattle.chain_base.proofs.Lists.{Stands-occurs, insert_after-split, insert_before-split, with_item_among-changed_at, with_generation-changed_at, entry_at-changed_at_other, entry_at-changed_at, length-changed_at}
+use Rattle.chain_base.proofs.Lists.{Stands-occurs, with_item_among-changed_at, with_generation-changed_at, entry_at-changed_at_other, entry_at-changed_at, same-changed_at}
 use Rattle.chain_base.proofs.Canonical.{entry-absent}
 use Rattle.chain_base.proofs.Ranking.{place-found, place-injective}
 use Rattle.chain_base.proofs.Renumbering.{times-source}
 -- the steps of a transfer, told of other items
 pub use Rattle.chain_base.proofs.Transferring.{steps-retold}
 -- a list in two parts
-pub use Rattle.chain_base.proofs.Lists.{option_or-none, times-append, entry_at-split, last_or-append, link_between-append, link_between-absent}
+pub use Rattle.chain_base.proofs.Lists.{option_or-none, times-append, last_or-append, link_between-append, link_between-absent}
 -- an entry is its link without the neighbours
 pub use Rattle.chain_base.proofs.Lists.{entry_at-link}
 -- an index that no entry has finds none, and one that finds an entry stands in the list
@@ -27,8 +26,7 @@ pub use Rattle.chain_base.proofs.Vacancy.{below-greatest, greatest-or_none, time
 pub use Rattle.chain_base.proofs.Room.{inserted-capacity}
 -- entries at their places by rising index have the items that they had
 pub use Rattle.chain_base.proofs.Canonical.{relocated-items}
--- lists of the same pointers, and what the calls of a clone keep of the items
-pub use Rattle.chain_base.proofs.Cloning.{Alike, alike-pointers}
+-- what the calls of a clone keep of the items
 pub use Rattle.chain_base.proofs.CloneKept.{clone-kept, clone-same, refused-some}
 
 module _ {T : Type 0} where
@@ -56,7 +54,7 @@ module _ {T : Type 0} where
   entry_at-with_item_among es i item = rw (with_item_among-changed_at es i item) (entry_at-changed_at (λ p. (p.0, item)) es i)
 
   pub length-with_item_among : (es : List (Entry T)) (i : ℕ) (item : T) → length (with_item_among es i item) ≡ length es
-  length-with_item_among es i item = rw (with_item_among-changed_at es i item) (length-changed_at (λ p. (p.0, item)) es i)
+  length-with_item_among es i item = rw (with_item_among-changed_at es i item) (same-changed_at (λ p. (p.0, item)) es i).long
 
   -- with another generation at an index, every other index finds what it found
   pub entry_at-with_generation_other : (es : List (Entry T)) (i j g : ℕ) → j ≢ i → entry_at (with_generation es i g) j ≡ entry_at es j
@@ -67,7 +65,7 @@ module _ {T : Type 0} where
   entry_at-with_generation es i g = rw (with_generation-changed_at es i g) (entry_at-changed_at (λ p. (g, p.1)) es i)
 
   pub length-with_generation : (es : List (Entry T)) (i g : ℕ) → length (with_generation es i g) ≡ length es
-  length-with_generation es i g = rw (with_generation-changed_at es i g) (length-changed_at (λ p. (g, p.1)) es i)
+  length-with_generation es i g = rw (with_generation-changed_at es i g) (same-changed_at (λ p. (g, p.1)) es i).long
 
   -- with a new entry between two stretches, every other index finds what it found
   pub entry_at-between_other : (front : List (Entry T)) (new : Entry T) (back : List (Entry T)) (j : ℕ) → j ≢ new.index → entry_at (front ++ new ∷ back) j ≡ entry_at (front ++ back) j
@@ -81,33 +79,26 @@ module _ {T : Type 0} where
   entry_at-between (f ∷ front) new back never = grind (arith, common_steps, entry_at-between front new back)
 
   pub length-between : (front : List (Entry T)) (new : Entry T) (back : List (Entry T)) → length (front ++ new ∷ back) ≡ length (front ++ back) + 1
-  length-between [] new back = omega arith
-  length-between (f ∷ front) new back = omega (arith, length-between front new back)
+  length-between front new back = omega (arith, length-append front (new ∷ back), length-append front back)
 
   -- a new entry directly after one that is there stands between two stretches
   pub insert_after-between : (es : List (Entry T)) (i : ℕ) → IsSome (entry_at es i)
       → (front : List (Entry T)) × (back : List (Entry T)) × (es ≡ front ++ back) × ((new : Entry T) → insert_after i new es ≡ front ++ new ∷ back)
   insert_after-between es i there =
-      let s = Stands-occurs es i (entry-occurs es i there) in (
-        s.front ++ s.entry ∷ [],
-        s.back,
-        s.split ∙ sym (append_assoc s.front (s.entry ∷ []) s.back),
-        λ new. ap (insert_after i new) s.split ∙ insert_after-split s.front s.entry new s.back i s.here s.unmet ∙ sym (append_assoc s.front (s.entry ∷ []) (new ∷ s.back)),
-      )
+      let s = Stands-occurs es i (entry-occurs es i there) in
+      let behind = λ (xs : List (Entry T)). append_assoc s.front (s.entry ∷ []) xs in
+      (s.front ++ s.entry ∷ [], s.back, s.split ∙ sym (behind s.back), λ new. s.after new ∙ sym (behind (new ∷ s.back)))
 
   -- and so directly before it
   pub insert_before-between : (es : List (Entry T)) (i : ℕ) → IsSome (entry_at es i)
       → (front : List (Entry T)) × (back : List (Entry T)) × (es ≡ front ++ back) × ((new : Entry T) → insert_before i new es ≡ front ++ new ∷ back)
-  insert_before-between es i there =
-      let s = Stands-occurs es i (entry-occurs es i there) in
-      (s.front, s.entry ∷ s.back, s.split, λ new. ap (insert_before i new) s.split ∙ insert_before-split s.front s.entry new s.back i s.here s.unmet)
+  insert_before-between es i there = let s = Stands-occurs es i (entry-occurs es i there) in (s.front, s.entry ∷ s.back, s.split, s.before)
 
 module _ {T : Type 0} where
   -- among entries numbered in a row, each number finds the item of its place
   pub entry_at-numbered : (g from : ℕ) (xs : List T) (k : ℕ) → entry_at (numbered g from xs) (from + k) ≡ option_map (λ x. (g, x)) (slice_get xs k)
-  entry_at-numbered g from [] k = refl
-  entry_at-numbered g from (x ∷ xs) zero = grind (arith, common_steps)
   entry_at-numbered g from (x ∷ xs) (suc k) = grind (arith, common_steps, entry_at-numbered g (from + 1) xs k)
+  entry_at-numbered g from xs k = grind (arith, common_steps)
 
   -- and a number before them none
   pub entry_at-numbered_before : (g from : ℕ) (xs : List T) (i : ℕ) → i < from → entry_at (numbered g from xs) i ≡ None
@@ -150,24 +141,17 @@ module _ {T : Type 0} where
 module _ {T : Type 0} (es : List (Entry T)) (distinct : IsDistinct es) (g : ℕ) (items : List T) (long : length items ≡ length es) where
   pub entry_at-compressed : (m : ℕ) → ((i : ℕ) → 1 ≤ times i es → i < m) → (k : ℕ)
       → entry_at (map (moved es g items) es) (k + 1) ≡ option_map (λ item. (g, item)) (slice_get items k)
-  entry_at-compressed m below k = go (slice_get items k) refl
+  entry_at-compressed m below k = by (slice_get items k) refl
     where
-      met : (o : Option (ℕ × T)) (i : ℕ) (item : T) → entry_at es i ≡ o → 1 ≤ times i es → lesser es i ≡ k → slice_get items k ≡ Some item
-          → option_map {U = ℕ × T} (λ e. (g, slice_index_or items (lesser es i) e.1)) o ≡ Some (g, item)
-      met None i item is there place given = absurd (omega (arith, entry-absent es i is, there))
-      met (Some e) i item is there place given = rw place (ap (λ x. Some (g, x)) (get_or_from_slice_get items k item e.1 given))
-
-      go : (o : Option T) → slice_get items k ≡ o → entry_at (map (moved es g items) es) (k + 1) ≡ option_map (λ item. (g, item)) o
-      go None is = elim (eqb_tells (times (k + 1) (map (moved es g items) es)) 0) [
+      by : (o : Option T) → slice_get items k ≡ o → entry_at (map (moved es g items) es) (k + 1) ≡ option_map (λ item. (g, item)) o
+      by None is = elim (eqb_tells (times (k + 1) (map (moved es g items) es)) 0) [
         | inl z ↦ entry_at-absent (map (moved es g items) es) (k + 1) z.1
         | inr z ↦
             let source = times-source (compressed_index es) (λ x p. (g, slice_index_or items (lesser es x) p.1)) es (k + 1) (omega (arith, z.1)) in
-            let place : lesser es source.0 ≡ k = let at : lesser es source.0 + 1 ≡ k + 1 = source.1 in omega (arith, at) in
-            absurd (let past = past-end items k is in omega (arith, place, lesser-next es source.0, lesser-most es (source.0 + 1), source.2, long, past))
+            absurd (omega (arith, source.1, past-end items k is, lesser-next es source.0, lesser-most es (source.0 + 1), source.2, long))
       ]
-      go (Some item) is =
+      by (Some item) is =
           let found = place-found es distinct m k (omega (arith, lesser-all es m below, long, slice_get_within items k item is)) in
-          let at : compressed_index es found.0 ≡ k + 1 = ap (λ n. n + 1) found.2 in
-          ap (entry_at (map (moved es g items) es)) (sym at)
-          ∙ (entry_at-moved es g items es found.0 (λ y there same. place-injective es y found.0 there found.3 same)
-          ∙ met (entry_at es found.0) found.0 item refl found.3 found.2 is)
+          let here = entry_at-moved es g items es found.0 (λ y there same. place-injective es y found.0 there found.3 same) in
+          let place = found.2 in
+          grind (arith, common_steps, entry-absent es found.0, found.3, get_or_from_slice_get items k item)

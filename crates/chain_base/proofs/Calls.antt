@@ -1,7 +1,6 @@
 -- What the calls of a chain arena owe: from what the arena's calls ensure to the step on the list.
-use Rattle.std.proofs.Common.{◌≡◌, ℕ, zero, suc, ◌<◌, ◌≤◌, List, [], Option, Some, None, IsSome, refl, sym, ap, subst, ◌∙◌, arith, max, OnSome, IfNone, Result, Ok, Err, OnOk, OnErr}
+use Rattle.std.proofs.Common.{◌≡◌, ℕ, ◌≤◌, List, Option, Some, None, IsSome, refl, sym, ap, subst, ◌∙◌, arith, max, OnSome, IfNone, Result, Ok, Err, OnOk, OnErr, ◌⊎◌, inl, inr, option_and_then}
 use Rattle.std.proofs.lemmas.Grind.{common_steps}
-use Rattle.std.specs.Option.{option_and_then}
 use Rattle.arena_base.specs.Arena.{Arena, slot, arena_capacity, new_arena, with_capacity as arena_with_capacity}
 use Rattle.arena_base.specs.Arena.{removed as arena_removed, renewed as arena_renewed, greatest_occupied, IsSound as IsSoundArena, IsInsertion as IsArenaInsertion}
 use Rattle.arena_base.specs.Pointer.{named_of}
@@ -12,16 +11,15 @@ use Rattle.chain_base.specs.Layout.{chain_of, IsLaidOut}
 use Rattle.chain_base.specs.Naming.{neighbour_on}
 use Rattle.chain_base.specs.declared.chain.compress.Side.{Side}
 use Rattle.chain_base.proofs.Lists.{times-append, times-last, times-first, other_index}
-use Rattle.chain_base.proofs.LaidOut.{laid-links, bridged, end_beside, slot-emptied, slot-within}
-use Rattle.chain_base.proofs.Vacancy.{HoldIndexes, held-is, get_or-vacant, past-greatest, greatest-links}
+use Rattle.chain_base.proofs.LaidOut.{bridged, end_beside, slot-written, slot-within}
+use Rattle.chain_base.proofs.Vacancy.{HoldIndexes, held-is, past-greatest, greatest-links}
 use Rattle.chain_base.proofs.Renumbering.{beside-other}
 use Rattle.chain_base.proofs.Sound.{occupied-within}
-use Rattle.chain_base.proofs.Steps.{Lies, held-laid, Inserts, Inserts-joined, Removes-joined, Renews-at, Lies-resized}
+use Rattle.chain_base.proofs.Steps.{Lies, held-laid, Inserts, Inserts-joined, Removes-joined, Renews-at, Lies-resized, IsLaidOut-cleared}
 
 -- an index within reach names what it says
 pub named_of-within : (most : ℕ) (o : Option ℕ) → ((k : ℕ) → o ≡ Some k → k ≤ most) → named_of most o ≡ o
-named_of-within most None within = refl
-named_of-within most (Some k) within = grind (arith, common_steps)
+named_of-within most o within = grind (arith, common_steps)
 
 module _ {T : Type 0} where
   -- what was held is held after an insertion
@@ -33,21 +31,16 @@ module _ {T : Type 0} where
     held = held-laid a.slots first last _ laid
 
     -- the neighbours of a place occur in the list
-    prev-occurs : (place : Entry T → List (Entry T)) (prev next : Option ℕ) → IsPlace (chain_of a first).entries place prev next → (k : ℕ) → prev ≡ Some k → 1 ≤ times k (chain_of a first).entries
-    prev-occurs place prev next at k is = grind (arith, common_steps, times-last at.front k, at.split, times-append k at.front at.back)
-
-    next-occurs : (place : Entry T → List (Entry T)) (prev next : Option ℕ) → IsPlace (chain_of a first).entries place prev next → (k : ℕ) → next ≡ Some k → 1 ≤ times k (chain_of a first).entries
-    next-occurs place prev next at k is = grind (arith, common_steps, times-first at.back k, at.split, times-append k at.front at.back)
+    beside-occurs : (place : Entry T → List (Entry T)) (prev next : Option ℕ) → IsPlace (chain_of a first).entries place prev next → (k : ℕ) → (prev ≡ Some k) ⊎ (next ≡ Some k)
+        → 1 ≤ times k (chain_of a first).entries
+    beside-occurs place prev next at k is = grind (arith, common_steps, times-last at.front k, times-first at.back k, at.split, times-append k at.front at.back)
 
     -- an insertion into the arena, for an entry beside these two neighbours
     module _ (a1 : Arena (Link T)) (link : Link T) (j g : ℕ) (ins : IsArenaInsertion a a1 link j g)
         (place : Entry T → List (Entry T)) (prev next : Option ℕ) (at : IsPlace (chain_of a first).entries place prev next) where
       -- the neighbours have entries after it too
-      pub prev-held : (k : ℕ) → prev ≡ Some k → IsSome (slot a1 k)
-      prev-held k is = held-inserted a a1 link j g ins k (held-is a.slots _ k held (prev-occurs place prev next at k is))
-
-      pub next-held : (k : ℕ) → next ≡ Some k → IsSome (slot a1 k)
-      next-held k is = held-inserted a a1 link j g ins k (held-is a.slots _ k held (next-occurs place prev next at k is))
+      pub beside-inserted : (k : ℕ) → (prev ≡ Some k) ⊎ (next ≡ Some k) → IsSome (slot a1 k)
+      beside-inserted k is = held-inserted a a1 link j g ins k (held-is a.slots _ k held (beside-occurs place prev next at k is))
 
       module _ (most : ℕ) (greatest : Option ℕ) (sound : IsSoundArena most greatest a1) where
         -- an index of the list is within reach where the arena after an insertion is sound
@@ -63,8 +56,8 @@ module _ {T : Type 0} where
             → (b : Arena (Link T)) (first2 last2 : Option ℕ) → b ≡ bridged a1 prev (named_of most (Some j)) next (named_of most (Some j))
             → first2 ≡ end_beside prev first (Some j) → last2 ≡ end_beside next last (Some j) → Inserts a b first first2 last2 place item j g
         Inserts-linked item item_is prev_is next_is b first2 last2 joined first_is last_is =
-            let named_prev = named-occurs prev (prev-occurs place prev next at) in
-            let named_next = named-occurs next (next-occurs place prev next at) in
+            let named_prev = named-occurs prev (λ k is. beside-occurs place prev next at k (inl is)) in
+            let named_next = named-occurs next (λ k is. beside-occurs place prev next at k (inr is)) in
             let named_new : named_of most (Some j) ≡ Some j
             = named_of-within most (Some j) (λ k is. let same : j ≡ k = cc in omega (arith, within-most, ins.vacant.within)) in
             let whole : link ≡ record { item = item; prev = prev; next = next } = rw (← item_is, ← named_prev, ← named_next, ← prev_is, ← next_is) refl in
@@ -76,7 +69,7 @@ module _ {T : Type 0} where
       pub beside-held : (side : Side) (k : ℕ) → neighbour_on side e.1 ≡ Some k → IsSome (slot (arena_removed greatest a i) k)
       beside-held side k is =
           let other = beside-other side (chain_of a first).entries laid.distinct i k (ap (option_and_then (λ e. neighbour_on side e.1)) (sym (laid.links i) ∙ at) ∙ is) in
-          rw (slot-emptied a i k (slot-within a i e at), other_index i k other.0) (held-is a.slots _ k held other.1)
+          rw (slot-written a i k None (slot-within a i e at), other_index i k other.0) (held-is a.slots _ k held other.1)
 
       -- a removal, from what the arena's removal and the writes of links ensure
       module _ (most : ℕ) (prev next : Option ℕ) (prev_is : prev ≡ e.1.prev) (next_is : next ≡ e.1.next)
@@ -84,8 +77,7 @@ module _ {T : Type 0} where
         pub Removes-linked : (a1 b : Arena (Link T)) (first2 last2 : Option ℕ) → a1 ≡ arena_removed greatest a i
             → b ≡ bridged a1 prev (named_of most next) next (named_of most prev)
             → first2 ≡ end_beside prev first next → last2 ≡ end_beside next last prev → Lies b first2 last2 (removed greatest (chain_of a first) i)
-        Removes-linked a1 b first2 last2 without joined first_is last_is =
-            rw (joined, first_is, last_is, without, prev_is, next_is, named_prev, named_next) (Removes-joined a first last laid greatest i e at)
+        Removes-linked a1 b first2 last2 without joined first_is last_is = grind (arith, common_steps, Removes-joined)
 
     -- a call that renews an entry, or changes nothing
     pub renewed-or_kept : {X : Type 0} (greatest : Option ℕ) (b : Arena (Link T)) (i : ℕ) (o : Option X) → OnSome o (b ≡ arena_renewed greatest a i)
@@ -102,13 +94,5 @@ module _ {T : Type 0} where
         let done = Lies-resized a first last laid (max n (greatest_occupied a.slots)) (λ k far. past-greatest a.slots k (omega arith)) in
         (rw ok done.laid, rw ok (done.chain ∙ ap (λ m. with_capacity (chain_of a first) (max n m)) (greatest-links a.slots _ held)))
 
-  -- an arena without entries
-  new-laid_out : (greatest : Option ℕ) → IsLaidOut {T = T} (new_arena greatest).slots None None []
-  new-laid_out greatest = laid-links _ None None [] (get_or-vacant 1) (λ i. omega arith) refl refl
-
-  new-vacant : (greatest : Option ℕ) (n k : ℕ) → n < k → slot {T = Link T} (new_arena greatest) k ≡ None
-  new-vacant greatest n zero far = refl
-  new-vacant greatest n (suc k) far = refl
-
   pub Lies-made : (greatest : Option ℕ) (a : Arena (Link T)) (n : ℕ) → a ≡ arena_with_capacity (new_arena greatest) n → Lies a None None (with_capacity (new_chain greatest) n)
-  Lies-made greatest a n made = rw made (Lies-resized (new_arena greatest) None None (new-laid_out greatest) n (new-vacant greatest n))
+  Lies-made greatest a n made = rw made (Lies-resized (new_arena greatest) None None (IsLaidOut-cleared {T = T} 1) n (λ k far. grind (arith, common_steps)))

@@ -1,20 +1,20 @@
 -- A chain gets its canonical order: once its entries have the least indexes, each in turn is exchanged to that of its place.
-use Rattle.std.proofs.Common.{◌≡◌, ◌≢◌, ℕ, zero, suc, ◌+◌, ◌-◌, ◌<◌, ◌≤◌, ◌==◌, true, List, [], ◌∷◌, ◌++◌, length, map, replicate, slice_get, slice_index_or, Option, Some, None, IsSome, is_some, cond, if◌then◌else◌, refl, sym, ap, ◌∙◌, arith, inl, inr, length-append}
+use Rattle.std.proofs.Common.{◌≡◌, ◌≢◌, ℕ, zero, suc, ◌+◌, ◌-◌, ◌<◌, ◌≤◌, true, List, [], ◌∷◌, ◌++◌, length, map, replicate, slice_get, slice_index_or, Option, Some, None, IsSome, is_some, cond, if◌then◌else◌, refl, sym, ap, ◌∙◌, arith, inl, inr, length-append}
 use Rattle.std.proofs.lemmas.Grind.{common_steps}
 use Rattle.std.proofs.lemmas.Bool.Decides.{eqb_tells, nat_tests}
-use Rattle.std.proofs.lemmas.Option.{none-some, same_Some, slice_get-map, get_or_from_slice_get}
+use Rattle.std.proofs.lemmas.Option.{same_Some, slice_get-map, get_or_from_slice_get}
 use Rattle.std.proofs.lemmas.List.{map-append, map-id, append_assoc, append-nil, length-map}
 use Rattle.std.specs.Prelude.{nat_lt}
 use Rattle.std.specs.Option.{option_map, option_and_then, ForSome}
-use Rattle.chain_base.specs.Chain.{Entry, Chain, IsDistinct, IsSound, times, entry_at, first_or, vacant_among, vacant_indexes}
+use Rattle.chain_base.specs.Chain.{Entry, Chain, IsDistinct, IsSound, times, entry_at, first_or, vacant_among}
 use Rattle.chain_base.specs.Walk.{index_after}
-use Rattle.chain_base.specs.Compression.{lesser, compressed_index, entry_before, rising_among, entries_rising, moved, at_compressed_index, relocated, numbered, canonical, IsCompression}
+use Rattle.chain_base.specs.Compression.{lesser, compressed_index, entry_before, rising_among, entries_rising, moved, at_compressed_index, relocated, numbered, canonical, IsCompression, refilled}
 use Rattle.chain_base.specs.Exchange.{exchanged_index, in_exchange, exchanged}
-use Rattle.chain_base.proofs.Lists.{same_index, times-append, times-here, entry_at-some, entry_at-link, entry_at-absent, entry_at-split, times-unlinked}
+use Rattle.chain_base.proofs.Lists.{same_index, times-append, times-here, entry_at-some, entry_at-link, entry_at-absent, times-unlinked, other_index}
 use Rattle.chain_base.proofs.Vacancy.{held-link, times-link}
 use Rattle.chain_base.proofs.Renumbering.{link_at-split, times-renumbered, times-changed, times-source}
 use Rattle.chain_base.proofs.Ranking.{lesser-zero, lesser-next, lesser-le, lesser-below, lesser-all, place-found, place-injective}
-use Rattle.chain_base.proofs.Exchanging.{other-first, other-same, other-twice, other-injective}
+use Rattle.chain_base.proofs.Exchanging.{other-twice, other-injective}
 use Rattle.chain_base.proofs.Kept.{calls-keep}
 
 map-kept : {A B : Type 0} (v : A → B) (f : A → A) → ((x : A) → v (f x) ≡ v x) → (xs : List A) → map v (map f xs) ≡ map v xs
@@ -24,8 +24,7 @@ map-kept v f kept (x ∷ xs) = rw (kept x, map-kept v f kept xs) refl
 -- what stands behind an entry, or behind none
 entry_before-at : {X : Type 0} (from : ℕ) (o : Option (ℕ × X)) (xs : List (ℕ × ℕ × X)) (m k : ℕ) (y : ℕ × ℕ × X) → slice_get xs m ≡ Some y
     → k ≡ cond (is_some o) 1 0 + m → slice_get (entry_before from o xs) k ≡ Some y
-entry_before-at from None xs m k y is at = let same : k ≡ m = omega arith in rw same is
-entry_before-at from (Some e) xs m k y is at = let same : k ≡ suc m = omega arith in rw same is
+entry_before-at from o xs m k y is at = grind (arith, common_steps)
 
 module _ {T : Type 0} where
   pub occurs-entry : (es : List (Entry T)) (i : ℕ) → 1 ≤ times i es → is_some (entry_at es i) ≡ true
@@ -65,33 +64,23 @@ module _ {T : Type 0} where
   module _ (most : ℕ) (greatest : Option ℕ) (c : Chain T) (sound : IsSound most greatest c) where
     pub rising-entry : (i : ℕ) (e : ℕ × T) → entry_at c.entries i ≡ Some e → slice_get (entries_rising c) (lesser c.entries i) ≡ Some (i, e.0, e.1)
     rising-entry i e is =
-        let within = sound.within i (entry-occurs c.entries i (ap is_some is)) in
-        rising-at c.entries sound.distinct c.capacity 1 i (lesser c.entries i) e is (omega (arith, within.0)) (omega (arith, within.1)) (omega (arith, begins))
-      where
-        begins : lesser c.entries 1 ≡ 0
-        begins = grind (arith, common_steps, lesser-next c.entries 0, lesser-zero c.entries, sound.within 0)
+        grind (arith, common_steps, entry-occurs c.entries i (ap is_some is), rising-at c.entries sound.distinct c.capacity 1 i (lesser c.entries i) e is, lesser-next c.entries 0, lesser-zero c.entries)
 
     -- the indexes after a compression are those from 1 on
     all-lesser : lesser c.entries (c.capacity + 1) ≡ length c.entries
     all-lesser = lesser-all c.entries (c.capacity + 1) (λ y there. let within = sound.within y there in omega (arith, within.1))
 
     changed : (g x : ℕ) → 1 ≤ times x c.entries → times (compressed_index c.entries x) (map (at_compressed_index c.entries g) c.entries) ≡ 1
-    changed g x there =
-        let same = times-changed (compressed_index c.entries) (λ x p. (g, p.1)) c.entries sound.distinct (place-injective c.entries) x there in
-        omega (arith, same, sound.distinct x)
+    changed g x there = omega (arith, times-changed (compressed_index c.entries) (λ x p. (g, p.1)) c.entries sound.distinct (place-injective c.entries) x there, sound.distinct x)
 
     relocated-inside : (g i : ℕ) → 0 < i → i ≤ length c.entries → times i (map (at_compressed_index c.entries g) c.entries) ≡ 1
-    relocated-inside g i above below =
-        let x = place-found c.entries sound.distinct (c.capacity + 1) (i - 1) (omega (arith, all-lesser)) in
-        let is : compressed_index c.entries x.0 ≡ i = let level = x.2 in omega (arith, level) in
-        ap (λ m. times m (map (at_compressed_index c.entries g) c.entries)) (sym is) ∙ changed g x.0 x.3
+    relocated-inside g i above below = grind (arith, common_steps, all-lesser, changed g, place-found c.entries sound.distinct (c.capacity + 1) (i - 1))
 
     relocated-within : (g i : ℕ) → 1 ≤ times i (map (at_compressed_index c.entries g) c.entries) → (0 < i) × (i ≤ length c.entries)
     relocated-within g i occurs =
         let x = times-source (compressed_index c.entries) (λ x p. (g, p.1)) c.entries i occurs in
-        let within = sound.within x.0 x.2 in
-        let below = lesser-below c.entries x.0 (c.capacity + 1) x.2 (omega (arith, within.1)) in
         let at = x.1 in
+        let below = lesser-below c.entries x.0 (c.capacity + 1) x.2 (omega (arith, sound.within x.0 x.2)) in
         (omega (arith, at), omega (arith, at, below, all-lesser))
 
     relocated-indexes : (g : ℕ) (items : List T) → length items ≡ length c.entries → (i : ℕ) → times i (map (at_compressed_index c.entries g) c.entries) ≡ times i (numbered g 1 items)
@@ -103,39 +92,30 @@ module _ {T : Type 0} where
   map-moved all g items [] distinct same = refl
   map-moved all g items (e ∷ es) distinct same =
       let here : slice_index_or items (lesser all e.index) e.item ≡ e.item = same e.index (e.generation, e.item) (rw (same_index e.index) refl) in
-      let more = map-moved all g items es (λ i. omega (arith, distinct i)) (λ i f is. same i f (behind i f is)) in
-      rw (here, more) refl
-    where
-      behind : (i : ℕ) (f : ℕ × T) → entry_at es i ≡ Some f → entry_at (e ∷ es) i ≡ Some f
-      behind i f is = elim (eqb_tells e.index i) [
-        | inl h ↦ absurd (omega (arith, distinct i, times-here i e es h.1, entry-occurs es i (ap is_some is)))
-        | inr h ↦ rw h.0 is
-      ]
+      let behind : (i : ℕ) (f : ℕ × T) → entry_at es i ≡ Some f → entry_at (e ∷ es) i ≡ Some f =
+      λ i f is. grind (arith, common_steps, entry-occurs es i, distinct i) in
+      rw (here, map-moved all g items es (λ i. omega (arith, distinct i)) (λ i f is. same i f (behind i f is))) refl
 
   -- a compression whose calls give each item back
   pub compression-relocates : {P F : Type 0} (numbers : P → ℕ × ℕ) (step : F → P → T → P → T → F → Type 0) (g most : ℕ) (greatest : Option ℕ)
       → ((f : F) (p : P) (x : T) (q : P) (y : T) (h : F) → step f p x q y h → y ≡ x)
       → (f : F) (old new : Chain T) → IsSound most greatest old → IsCompression numbers step g f old new → new ≡ relocated old g
   compression-relocates {P} {F} numbers step g most greatest back f old new sound c =
-      c.after ∙ ap (λ es. record { entries = es; capacity = old.capacity; vacant = vacant_indexes es old.capacity; generation = g; maximum = old.maximum })
-      (map-moved old.entries g c.items old.entries sound.distinct same)
-    where
-      items : c.items ≡ map (λ (e : ℕ × ℕ × T). e.2) (entries_rising old)
-      items = sym (map-id c.items) ∙ calls-keep numbers step g (λ (x : T). x) back (entries_rising old) f c.last [] c.items c.calls
-
-      same : (i : ℕ) (e : ℕ × T) → entry_at old.entries i ≡ Some e → slice_index_or c.items (lesser old.entries i) e.1 ≡ e.1
-      same i e is =
-          get_or_from_slice_get c.items (lesser old.entries i) e.1 e.1 (ap (λ xs. slice_get xs (lesser old.entries i)) items
-          ∙ (slice_get-map (λ (e : ℕ × ℕ × T). e.2) (entries_rising old) (lesser old.entries i) ∙ ap (option_map (λ (e : ℕ × ℕ × T). e.2)) (rising-entry most greatest old sound i e is)))
+      let items : c.items ≡ map (λ (e : ℕ × ℕ × T). e.2) (entries_rising old) =
+      sym (map-id c.items) ∙ calls-keep numbers step g (λ (x : T). x) back (entries_rising old) f c.last [] c.items c.calls in
+      let place = λ (i : ℕ). lesser old.entries i in
+      let same = λ (i : ℕ) (e : ℕ × T) (is : entry_at old.entries i ≡ Some e).
+      get_or_from_slice_get c.items (place i) e.1 e.1 (ap (λ xs. slice_get xs (place i)) items
+      ∙ (slice_get-map (λ (e : ℕ × ℕ × T). e.2) (entries_rising old) (place i) ∙ ap (option_map (λ (e : ℕ × ℕ × T). e.2)) (rising-entry most greatest old sound i e is))) in
+      c.after ∙ ap (refilled old g) (map-moved old.entries g c.items old.entries sound.distinct same)
 
   -- all entries have generation g
   abbrev pub eras : List (Entry T) → List ℕ
   eras es = map (λ e. e.generation) es
 
   era-at : (es : List (Entry T)) (n g i : ℕ) (x : ℕ × T) → eras es ≡ replicate n g → entry_at es i ≡ Some x → x.0 ≡ g
-  era-at [] n g i x all is = absurd (none-some x is)
-  era-at (e ∷ es) zero g i x all is = absurd (cc)
   era-at (e ∷ es) (suc n) g i x all is = grind (arith, common_steps, era-at es n g i x)
+  era-at es n g i x all is = grind (arith, common_steps)
 
   relocated-eras : (fs : List (Entry T)) (es : List (Entry T)) (g : ℕ) → eras (map (at_compressed_index es g) fs) ≡ replicate (length fs) g
   relocated-eras [] es g = refl
@@ -144,20 +124,27 @@ module _ {T : Type 0} where
   pub relocated-items : (fs : List (Entry T)) (es : List (Entry T)) (g : ℕ) → map (λ e. e.item) (map (at_compressed_index es g) fs) ≡ map (λ e. e.item) fs
   relocated-items fs es g = map-kept (λ (e : Entry T). e.item) (at_compressed_index es g) (λ e. refl) fs
 
-  exchanged-once : (es : List (Entry T)) → IsDistinct es → (i j : ℕ) → 1 ≤ times i es → 1 ≤ times j es → (k : ℕ) → times (exchanged_index i j k) es ≡ times k es
-  exchanged-once es distinct i j at_i at_j k = grind (arith, nat_tests, distinct i, distinct j)
-
   exchanged-times : (es : List (Entry T)) → IsDistinct es → (i j : ℕ) → 1 ≤ times i es → 1 ≤ times j es → (k : ℕ) → times k (map (in_exchange i j) es) ≡ times k es
   exchanged-times es distinct i j at_i at_j k =
       ap (λ m. times m (map (in_exchange i j) es)) (sym (other-twice i j k))
       ∙ times-renumbered (exchanged_index i j) (λ x p. p) es (exchanged_index i j k) (λ y occurs same. other-injective i j y (exchanged_index i j k) same)
-      ∙ exchanged-once es distinct i j at_i at_j k
+      ∙ grind (arith, nat_tests, distinct i, distinct j)
 
   numbered-apart : (g from : ℕ) (xs : List T) (i j : ℕ) → ((m : ℕ) → from ≤ m → m < from + length xs → (m ≢ i) × (m ≢ j)) → map (in_exchange i j) (numbered g from xs) ≡ numbered g from xs
   numbered-apart g from [] i j apart = refl
   numbered-apart g from (x ∷ xs) i j apart =
       let first = apart from (omega arith) (omega arith) in
-      rw (other-same i j from first.0 first.1, numbered-apart g (from + 1) xs i j (λ m above below. apart m (omega arith) (omega arith))) refl
+      rw (other_index from i first.0, other_index from j first.1, numbered-apart g (from + 1) xs i j (λ m above below. apart m (omega arith) (omega arith))) refl
+
+  -- a list with a first entry
+  pub record Begun (es : List (Entry T)) : Type 0 where
+    pub entry : Entry T
+    pub behind : List (Entry T)
+    pub here : es ≡ entry ∷ behind
+
+  begun : (es : List (Entry T)) → 0 < length es → Begun es
+  begun [] some = absurd (omega arith)
+  begun (e ∷ es) some = record { entry = e; behind = es; here = refl }
 
   -- the first k entries have the indexes of their places
   pub record CanonicalBelow (c : Chain T) (g n : ℕ) (items : List T) (now : Chain T) (at : Option ℕ) (k : ℕ) : Type 0 where
@@ -175,20 +162,7 @@ module _ {T : Type 0} where
 
   pub canonical-begins : (most : ℕ) (greatest : Option ℕ) (c c1 : Chain T) (g : ℕ) (at : Option ℕ) → IsSound most greatest c → c1 ≡ relocated c g → at ≡ first_or None c1.entries
       → CanonicalBelow (relocated c g) g (length c.entries) (map (λ e. e.item) c.entries) c1 at 0
-  canonical-begins most greatest c c1 g at sound is first =
-      rw is (record {
-        done = [];
-        rest = map (at_compressed_index c.entries g) c.entries;
-        so_far = refl;
-        split = refl;
-        left = sym (relocated-items c.entries c.entries g);
-        number = length-map c.entries (λ e. e.item);
-        indexes = relocated-indexes most greatest c sound g _ (length-map c.entries (λ e. e.item));
-        even = relocated-eras c.entries c.entries g;
-        at_is = first ∙ ap (λ (d : Chain T). first_or None d.entries) is;
-        kept = refl;
-        era = refl;
-      })
+  canonical-begins most greatest c c1 g at sound is first = grind (arith, common_steps, relocated-items, length-map, relocated-indexes, relocated-eras)
 
   module _ {c : Chain T} {g n : ℕ} {items : List T} {now : Chain T} {at : Option ℕ} {k : ℕ} (b : CanonicalBelow c g n items now at k) where
     distinct : IsDistinct now.entries
@@ -202,24 +176,14 @@ module _ {T : Type 0} where
 
     module _ (more : k < n) where
       -- the entry that is met
-      pub record Met : Type 0 where
-        pub entry : Entry T
-        pub behind : List (Entry T)
-        pub here : b.rest ≡ entry ∷ behind
-
-      pub met : Met
-      met = by b.rest refl
-        where
-          by : (fs : List (Entry T)) → b.rest ≡ fs → Met
-          by [] none = absurd (omega (arith, lengths, ap length none, b.so_far))
-          by (e ∷ fs) is = record { entry = e; behind = fs; here = is }
+      pub met : Begun b.rest
+      met = begun b.rest (omega (arith, lengths, b.so_far))
 
       whole : now.entries ≡ numbered g 1 b.done ++ met.entry ∷ met.behind
       whole = b.split ∙ ap (λ fs. numbered g 1 b.done ++ fs) met.here
 
       counted : times met.entry.index now.entries ≡ times met.entry.index (numbered g 1 b.done) + (1 + times met.entry.index met.behind)
-      counted = ap (times met.entry.index) whole ∙ times-append met.entry.index (numbered g 1 b.done) (met.entry ∷ met.behind)
-          ∙ ap (λ m. times met.entry.index (numbered g 1 b.done) + m) (times-here met.entry.index met.entry met.behind refl)
+      counted = grind (arith, common_steps, met, whole, times-append, times-here)
 
       pub met-at : at ≡ Some met.entry.index
       met-at = b.at_is ∙ ap (first_or None) met.here
@@ -235,14 +199,11 @@ module _ {T : Type 0} where
 
       entry-even : met.entry.generation ≡ g
       entry-even =
-          era-at now.entries n g met.entry.index (met.entry.generation, met.entry.item) b.even
-          (ap (λ fs. entry_at fs met.entry.index) whole ∙ entry_at-split (numbered g 1 b.done) met.entry met.behind met.entry.index refl unmet)
+          grind (arith, common_steps, era-at now.entries n g met.entry.index (met.entry.generation, met.entry.item) b.even, entry_at-link None None now.entries met.entry.index,
+          link_at-split now.entries (numbered g 1 b.done) met.entry met.behind whole distinct met.entry.index refl)
 
       apart : (m : ℕ) → 1 ≤ m → m < 1 + length b.done → (m ≢ met.entry.index) × (m ≢ k + 1)
-      apart m above below = (
-        λ same. let is = times-numbered g 1 b.done met.entry.index in grind (arith, nat_tests, unmet),
-        λ same. let far = b.so_far in absurd (omega arith),
-      )
+      apart m above below = grind (arith, common_steps, times-numbered, met, unmet)
 
       pub canonical-step : (next : Chain T) (after : Option ℕ) → next ≡ exchanged now met.entry.index (k + 1) → after ≡ index_after next.entries (k + 1) → CanonicalBelow c g n items next after (k + 1)
       canonical-step next after is goes =
@@ -252,7 +213,7 @@ module _ {T : Type 0} where
           let new : Entry T = record { index = 1 + length b.done; generation = g; item = met.entry.item } in
           let entries : next.entries ≡ map (in_exchange i j) now.entries = ap (λ (d : Chain T). d.entries) is in
           let tail : List (Entry T) = map (in_exchange i j) met.behind in
-          let moved_entry : in_exchange i j met.entry ≡ new = entry-is (exchanged_index i j i) (1 + length b.done) met.entry.generation g met.entry.item (other-first i j ∙ sym spot) entry-even in
+          let moved_entry : in_exchange i j met.entry ≡ new = rw (same_index i, spot, entry-even) refl in
           let there : next.entries ≡ numbered g 1 b.done ++ new ∷ tail =
           entries ∙ ap (map (in_exchange i j)) whole ∙ map-append (in_exchange i j) (numbered g 1 b.done) (met.entry ∷ met.behind) ∙ rw (numbered-apart g 1 b.done i j apart, moved_entry) refl in
           let indexes : (m : ℕ) → times m next.entries ≡ times m (numbered g 1 items) = λ m. rw entries (exchanged-times now.entries distinct i j met-occurs next-occurs m ∙ b.indexes m) in
@@ -272,34 +233,19 @@ module _ {T : Type 0} where
             kept = is ∙ (ap (λ (d : Chain T). exchanged d i j) b.kept ∙ ap (λ fs. record c { entries = fs }) (sym entries));
             era = b.era;
           }
-        where
-          entry-is : (x y h l : ℕ) (item : T) → x ≡ y → h ≡ l → ◌≡◌ {A = Entry T} (record { index = x; generation = h; item = item }) (record { index = y; generation = l; item = item })
-          entry-is x y h l item same even = rw (same, even) refl
 
-  vacant-same : (xs ys : List (Entry T)) → ((m : ℕ) → times m xs ≡ times m ys) → (n from : ℕ) → vacant_among xs from n ≡ vacant_among ys from n
-  vacant-same xs ys same zero from = refl
-  vacant-same xs ys same (suc n) from = rw (same from, vacant-same xs ys same n (from + 1)) refl
+  pub vacant-same : {U : Type 0} (xs : List (Entry T)) (ys : List (Entry U)) (n from : ℕ) → ((m : ℕ) → from ≤ m → times m xs ≡ times m ys) → vacant_among xs from n ≡ vacant_among ys from n
+  vacant-same xs ys zero from same = refl
+  vacant-same xs ys (suc n) from same = rw (same from (omega arith), vacant-same xs ys n (from + 1) (λ m far. same m (omega (arith, far)))) refl
 
   -- at last all have
   pub canonical-ends : (most : ℕ) (greatest : Option ℕ) (c : Chain T) (g : ℕ) (now : Chain T) (at : Option ℕ) (k : ℕ) → IsSound most greatest c → length c.entries ≤ k
       → CanonicalBelow (relocated c g) g (length c.entries) (map (λ e. e.item) c.entries) now at k → now ≡ canonical c g
-  canonical-ends most greatest c g now at k sound past b =
-      let items = map (λ (e : Entry T). e.item) c.entries in
-      let none : b.rest ≡ [] = nothing b.rest (omega (arith, lengths b, b.so_far)) in
-      let all : items ≡ b.done = b.left ∙ (ap (λ fs. b.done ++ map (λ e. e.item) fs) none ∙ append-nil b.done) in
-      let entries : now.entries ≡ numbered g 1 items = b.split ∙ (ap (λ fs. numbered g 1 b.done ++ fs) none ∙ (append-nil (numbered g 1 b.done) ∙ ap (numbered g 1) (sym all))) in
-      let vacant : vacant_indexes (map (at_compressed_index c.entries g) c.entries) c.capacity ≡ vacant_indexes (numbered g 1 items) c.capacity =
-      vacant-same (map (at_compressed_index c.entries g) c.entries) (numbered g 1 items) (relocated-indexes most greatest c sound g items (length-map c.entries (λ e. e.item))) c.capacity 1 in
-      b.kept ∙ rw (entries, vacant) refl
-    where
-      nothing : (fs : List (Entry T)) → length fs ≡ 0 → fs ≡ []
-      nothing [] none = refl
-      nothing (f ∷ fs) none = absurd (omega arith)
+  canonical-ends most greatest c g now at k sound past b = grind (arith, common_steps, lengths, append-nil, vacant-same, relocated-indexes, length-map)
 
 -- an index that a chosen one is
 pub chosen : {I : Type 0} (number : I → ℕ) (o : Option I) (k : ℕ) → option_map number o ≡ Some k → is_some o ≡ true
-chosen number None k is = absurd (none-some k is)
-chosen number (Some i) k is = refl
+chosen number o k is = grind (arith, common_steps)
 
 pub chosen-is : {I : Type 0} (number : I → ℕ) (o : Option I) (k : ℕ) (i : I) → option_map number o ≡ Some k → o ≡ Some i → number i ≡ k
 chosen-is number o k i is there = same_Some (number i) k (sym (ap (option_map number) there) ∙ is)

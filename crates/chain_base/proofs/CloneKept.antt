@@ -1,17 +1,15 @@
 -- What each call of a clone keeps of its item is found at the index of its entry.
-use Rattle.std.proofs.Common.{◌≡◌, ℕ, zero, suc, ◌+◌, ◌<◌, ◌≤◌, List, [], ◌∷◌, ◌++◌, length, length-append, map, slice_get, Option, Some, None, is_some, Result, refl, sym, ap, ◌∙◌, arith, inl, inr}
+use Rattle.std.proofs.Common.{◌≡◌, ℕ, zero, suc, ◌+◌, ◌<◌, List, [], ◌∷◌, ◌++◌, length, length-append, map, slice_get, Option, Some, None, is_some, Result, refl, sym, ap, ◌∙◌, arith, option_map}
 use Rattle.std.proofs.lemmas.Grind.{common_steps}
-use Rattle.std.proofs.lemmas.Bool.Decides.{eqb_tells}
 use Rattle.std.proofs.lemmas.Option.{slice_get-map}
-use Rattle.std.specs.Option.{option_map}
 use Rattle.std.specs.declared.alloc.AllocError.{AllocError}
 use Rattle.arena_base.proofs.CallerLemmas.{clones-keep}
 use Rattle.chain_base.specs.Link.{Link}
-use Rattle.chain_base.specs.Chain.{Entry, Chain, IsDistinct, IsSound, times, entry_at, link_at}
-use Rattle.chain_base.specs.Compression.{lesser, entry_before, rising_among, entries_rising}
+use Rattle.chain_base.specs.Chain.{Entry, Chain, IsDistinct, IsSound, entry_at}
+use Rattle.chain_base.specs.Compression.{lesser, rising_among, entries_rising}
 use Rattle.chain_base.specs.Walk.{pointers}
 use Rattle.chain_base.specs.Clone.{links_among, links_rising, taken_over, IsClone, IsRefusedClone}
-use Rattle.chain_base.proofs.Lists.{times-here, entry_at-link, entry_at-absent}
+use Rattle.chain_base.proofs.Lists.{entry_at-link, entry_at-absent}
 use Rattle.chain_base.proofs.Canonical.{entry-absent, entry-occurs, rising-entry}
 use Rattle.chain_base.proofs.Cloning.{alike-pointers}
 
@@ -19,14 +17,7 @@ use Rattle.chain_base.proofs.Cloning.{alike-pointers}
 links-entries : {U K : Type 0} (see : U → K) (es : List (Entry U)) (from count : ℕ)
     → map (λ (e : ℕ × ℕ × Link U). see e.2.item) (links_among es from count) ≡ map (λ (e : ℕ × ℕ × U). see e.2) (rising_among es from count)
 links-entries see es from zero = refl
-links-entries see es from (suc count) =
-    by (link_at es from) (entry_at es from) (entry_at-link None None es from) (links-entries see es (from + 1) count)
-  where
-    by : (o : Option (ℕ × Link _)) (p : Option (ℕ × _)) → p ≡ option_map (λ e. (e.0, e.1.item)) o
-        → map (λ (e : ℕ × ℕ × Link _). see e.2.item) (links_among es (from + 1) count) ≡ map (λ (e : ℕ × ℕ × _). see e.2) (rising_among es (from + 1) count)
-        → map (λ (e : ℕ × ℕ × Link _). see e.2.item) (entry_before from o (links_among es (from + 1) count)) ≡ map (λ (e : ℕ × ℕ × _). see e.2) (entry_before from p (rising_among es (from + 1) count))
-    by None p is more = rw is more
-    by (Some e) p is more = rw is (ap (λ rest. see e.1.item ∷ rest) more)
+links-entries see es from (suc count) = grind (arith, common_steps, entry_at-link None None es from, links-entries see es (from + 1) count)
 
 module _ {P T U F K : Type 0} (numbers : P → ℕ × ℕ) (step : F → P → Link U → T → F → Type 0) (see : U → K) (keep : T → K)
     (keeps : (f : F) (p : P) (u : Link U) (x : T) (g : F) → step f p u x g → keep x ≡ see u.item) where
@@ -37,42 +28,29 @@ module _ {P T U F K : Type 0} (numbers : P → ℕ × ℕ) (step : F → P → L
       items : map keep c.items ≡ map (λ (e : ℕ × ℕ × U). see e.2) (entries_rising source)
       items = clones-keep numbers step (λ (u : Link U). see u.item) keep keeps (links_rising source) f c.last [] c.items c.calls ∙ links-entries see source.entries 1 source.capacity
 
-      count : times i new.entries ≡ times i source.entries
-      count = (alike-pointers new.entries source.entries c.entries.order).count i
-
-      twice : (o : Option (ℕ × T)) → option_map (λ e. keep e.1) o ≡ option_map keep (option_map {U = T} (λ e. e.1) o)
-      twice None = refl
-      twice (Some e) = refl
-
       by : (o : Option (ℕ × U)) → entry_at source.entries i ≡ o → option_map (λ e. keep e.1) (entry_at new.entries i) ≡ option_map (λ e. see e.1) o
-      by None is = ap (option_map (λ (e : ℕ × T). keep e.1)) (entry_at-absent new.entries i (count ∙ entry-absent source.entries i is))
+      by None is =
+          let count = (alike-pointers new.entries source.entries c.entries.order).count i in
+          ap (option_map (λ (e : ℕ × T). keep e.1)) (entry_at-absent new.entries i (count ∙ entry-absent source.entries i is))
       by (Some e) is =
-          twice (entry_at new.entries i)
-          ∙ (ap (option_map keep) (c.entries.made i (entry-occurs source.entries i (ap is_some is)))
-          ∙ (sym (slice_get-map keep c.items (lesser source.entries i))
-          ∙ (ap (λ ks. slice_get ks (lesser source.entries i)) items
-          ∙ (slice_get-map (λ (e : ℕ × ℕ × U). see e.2) (entries_rising source) (lesser source.entries i) ∙ ap (option_map (λ (e : ℕ × ℕ × U). see e.2)) (rising-entry most greatest source sound i e is)))))
+          let place = lesser source.entries i in
+          let made = c.entries.made i (entry-occurs source.entries i (ap is_some is)) in
+          let kept = sym (slice_get-map keep c.items place) ∙ ap (λ ks. slice_get ks place) items ∙ slice_get-map (λ (e : ℕ × ℕ × U). see e.2) (entries_rising source) place in
+          let rises = rising-entry most greatest source sound i e is in
+          grind (arith, common_steps, made, kept, rises)
 
 -- lists of the same pointers whose indexes find the same items
 pub same_entries : {T : Type 0} (es fs : List (Entry T)) → IsDistinct es → pointers fs ≡ pointers es
     → ((i : ℕ) → option_map (λ e. e.1) (entry_at fs i) ≡ option_map (λ e. e.1) (entry_at es i)) → fs ≡ es
 same_entries [] [] distinct order items = refl
-same_entries [] (f ∷ fs) distinct order items = absurd cc
-same_entries (e ∷ es) [] distinct order items = absurd cc
 same_entries {T} (e ∷ es) (f ∷ fs) distinct order items =
-    let pair : ◌≡◌ {A = ℕ × ℕ} (f.index, f.generation) (e.index, e.generation) = cc in
-    let index : f.index ≡ e.index = ap (λ (p : ℕ × ℕ). p.0) pair in
-    let era : f.generation ≡ e.generation = ap (λ (p : ℕ × ℕ). p.1) pair in
     let rest : pointers fs ≡ pointers es = cc in
     let alike = alike-pointers fs es rest in
-    let item : f.item ≡ e.item = let here = items e.index in grind (arith, common_steps) in
-    let more = same_entries es fs (λ i. omega (arith, distinct i)) rest (λ i. elim (eqb_tells e.index i) [
-      | inl h ↦
-          let gone : times i es ≡ 0 = omega (arith, distinct i, times-here i e es h.1) in
-          ap (option_map (λ (e : ℕ × T). e.1)) (entry_at-absent fs i (alike.count i ∙ gone) ∙ sym (entry_at-absent es i gone))
-      | inr h ↦ let here = items i in rw (index, h.0) at here
-    ]) in
-    rw (← more, ← index, ← era, ← item) refl
+    let here = items e.index in
+    let more = same_entries es fs (λ i. omega (arith, distinct i)) rest
+    (λ i. grind (arith, common_steps, items i, distinct i, alike.count i, entry_at-absent fs i, entry_at-absent es i)) in
+    grind (arith, common_steps)
+same_entries es fs distinct order items = absurd cc
 
 -- a clone by calls that each answer the item that they are shown
 pub clone-same : {P U F : Type 0} (numbers : P → ℕ × ℕ) (step : F → P → Link U → U → F → Type 0) → ((f : F) (p : P) (u : Link U) (x : U) (g : F) → step f p u x g → x ≡ u.item)

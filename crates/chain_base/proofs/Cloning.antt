@@ -1,13 +1,9 @@
 -- A clone of a chain: its slots hold the source's links with other items, so it is the source's list with these items.
-use Rattle.std.proofs.Common.{OnOk, Ok, ◌≡◌, ℕ, zero, suc, ◌+◌, ◌-◌, ◌<◌, ◌≤◌, max, List, [], ◌∷◌, ◌++◌, length, map, take, get_or, slice_get}
-use Rattle.std.proofs.Common.{Option, Some, None, Result, Err, MatchResult, count_by, is_some, refl, sym, ap, ◌∙◌, arith, inl, inr, ◌⊎◌, ◌==◌, true, false}
+use Rattle.std.proofs.Common.{OnOk, Ok, ◌≡◌, ℕ, suc, ◌+◌, ◌<◌, ◌≤◌, max, List, [], ◌∷◌, length, map, take, get_or, slice_get}
+use Rattle.std.proofs.Common.{Option, Some, None, Result, Err, MatchResult, count_by, is_some, refl, sym, ap, ◌∙◌, arith, inl, inr, ◌⊎◌, ◌==◌, true, false, map-id, option_map}
 use Rattle.std.proofs.lemmas.Grind.{common_steps}
 use Rattle.std.proofs.lemmas.Bool.{false≢true}
-use Rattle.std.proofs.lemmas.Bool.Decides.{eqb_tells}
-use Rattle.std.proofs.lemmas.List.{map-id}
-use Rattle.std.proofs.lemmas.Option.{none-some}
 use Rattle.std.specs.List.{FoldsTo}
-use Rattle.std.specs.Option.{option_map}
 use Rattle.std.specs.declared.alloc.AllocError.{AllocError}
 use Rattle.arena_base.specs.Arena.{Arena, slot, arena_capacity, arena_len, greatest_occupied, resized, IsFresh}
 use Rattle.arena_base.specs.declared.error.ReallocationError.{ReallocationError}
@@ -16,15 +12,14 @@ use Rattle.arena_base.specs.Walk.{entries_from, entries_rising}
 use Rattle.arena_base.specs.Clone.{CloneStep, Grants, with_items, IsClone as IsArenaClone, StopsAtRefusal, replaced}
 use Rattle.arena_base.proofs.CallerLemmas.{clones-retold, clones-restated, clones-keep, stops-retold, stops-restated}
 use Rattle.chain_base.specs.Link.{Link}
-use Rattle.chain_base.specs.Chain.{Entry, Chain, times, first_or, last_or, link_at, link_between, greatest_index, vacant_indexes, IsSound}
-use Rattle.chain_base.specs.Compression.{lesser}
+use Rattle.chain_base.specs.Chain.{Entry, Chain, times, link_at, link_between, greatest_index, vacant_indexes, IsSound}
 use Rattle.chain_base.specs.Walk.{pointers}
 use Rattle.chain_base.specs.Clone.{links_among, links_rising, HasItems, taken_over, ClonesLink, IsClone, IsRefusedClone}
 use Rattle.chain_base.specs.Layout.{chain_of, met, IsLaidOut}
-use Rattle.chain_base.proofs.Lists.{option_map-itself, IsRow, IsRow-links, link_between-absent, entry_at-link}
-use Rattle.chain_base.proofs.LaidOut.{laid-links, IsLaidOut-walked}
+use Rattle.chain_base.proofs.Lists.{option_map-itself, IsRow, IsRow-links, link_between-absent, entry_at-link, SameIndexes}
+use Rattle.chain_base.proofs.LaidOut.{laid-held, IsLaidOut-walked}
 use Rattle.chain_base.proofs.Ranking.{place-slots, among-arena}
-use Rattle.chain_base.proofs.Vacancy.{HoldIndexes, held-some, held-is, get_or-resized, length-resized, vacant-held, greatest-links, past-greatest}
+use Rattle.chain_base.proofs.Vacancy.{HoldIndexes, held-some, held-is, get_or-resized, length-resized, vacant-held, greatest-links, past-greatest, held-occurs}
 use Rattle.chain_base.proofs.Steps.{Lies, lies, held-laid, IsLaidOut-resized, IsLaidOut-cleared}
 
 -- what a clone keeps of a link
@@ -35,32 +30,15 @@ ends_of l = (l.prev, l.next)
 abbrev frame : {X : Type 0} → Option (ℕ × Link X) → Option (ℕ × Option ℕ × Option ℕ)
 frame o = option_map (λ e. (e.0, e.1.prev, e.1.next)) o
 
-unframed : {X : Type 0} (o : Option (ℕ × Link X)) → frame o ≡ None → o ≡ None
-unframed None is = refl
-unframed (Some e) is = absurd (none-some _ (sym is))
+framed : {X Y : Type 0} (o : Option (ℕ × Link X)) (p : Option (ℕ × Link Y)) → frame o ≡ frame p → is_some o ≡ true → is_some p ≡ true
+framed o p same some = grind (arith, common_steps)
 
 module _ {T U : Type 0} where
   -- lists of the same pointers
-  pub record Alike (es : List (Entry T)) (fs : List (Entry U)) : Type 0 where
-    pub first : (d : Option ℕ) → first_or d es ≡ first_or d fs
-    pub last : (d : Option ℕ) → last_or d es ≡ last_or d fs
-    pub count : (i : ℕ) → times i es ≡ times i fs
-    pub long : length es ≡ length fs
-
-  pub alike-pointers : (es : List (Entry T)) (fs : List (Entry U)) → pointers es ≡ pointers fs → Alike es fs
-  alike-pointers [] [] same = record { first = λ d. refl; last = λ d. refl; count = λ i. refl; long = refl }
-  alike-pointers [] (f ∷ fs) same = absurd cc
-  alike-pointers (e ∷ es) [] same = absurd cc
-  alike-pointers (e ∷ es) (f ∷ fs) same =
-      let more = alike-pointers es fs cc in
-      let pair : ◌≡◌ {A = ℕ × ℕ} (e.index, e.generation) (f.index, f.generation) = cc in
-      let index : e.index ≡ f.index = ap (λ (p : ℕ × ℕ). p.0) pair in
-      record {
-        first = λ d. ap Some index;
-        last = λ d. ap (λ i. last_or (Some i) es) index ∙ more.last (Some f.index);
-        count = λ i. rw (index, more.count i) refl;
-        long = ap suc more.long;
-      }
+  pub alike-pointers : (es : List (Entry T)) (fs : List (Entry U)) → pointers es ≡ pointers fs → SameIndexes es fs
+  alike-pointers [] [] same = grind (arith, common_steps)
+  alike-pointers (e ∷ es) (f ∷ fs) same = grind (arith, common_steps, alike-pointers es fs)
+  alike-pointers es fs same = absurd cc
 
   -- the entries of a list, with what stands at their indexes
   abbrev relisted : (ℕ → Option (ℕ × Link T)) → List (Entry U) → List (Entry T)
@@ -70,46 +48,25 @@ module _ {T U : Type 0} where
   module _ (at : ℕ → Option (ℕ × Link T)) (at0 : ℕ → Option (ℕ × Link U)) (same : (i : ℕ) → frame (at i) ≡ frame (at0 i)) where
     row-relisted : (before : Option ℕ) (es : List (Entry U)) → IsRow at0 before es → IsRow at before (relisted at es) × (pointers (relisted at es) ≡ pointers es)
     row-relisted before [] row = (tt, refl)
-    row-relisted before (e ∷ es) row = by (at e.index) refl (same e.index ∙ ap frame row.0) (row-relisted (Some e.index) es row.1)
-      where
-        by : (o : Option (ℕ × Link T)) → at e.index ≡ o → frame o ≡ Some (e.generation, before, first_or None es)
-            → IsRow at (Some e.index) (relisted at es) × (pointers (relisted at es) ≡ pointers es)
-            → IsRow at before (relisted at (e ∷ es)) × (pointers (relisted at (e ∷ es)) ≡ pointers (e ∷ es))
-        by None is kept more = absurd (none-some _ kept)
-        by (Some d) is kept more =
-            let next = (alike-pointers (relisted at es) es more.1).first None in
-            let whole : ◌≡◌ {A = ℕ × Option ℕ × Option ℕ} (d.0, d.1.prev, d.1.next) (e.generation, before, first_or None es) = cc in
-            let prev : d.1.prev ≡ before = ap (λ (x : ℕ × Option ℕ × Option ℕ). x.1) whole in
-            let behind : d.1.next ≡ first_or None es = ap (λ (x : ℕ × Option ℕ × Option ℕ). x.2) whole in
-            let era : d.0 ≡ e.generation = ap (λ (x : ℕ × Option ℕ × Option ℕ). x.0) whole in
-            rw is ((is ∙ rw (← prev, next, ← behind) refl, more.0), rw era (ap (λ ps. (e.index, e.generation) ∷ ps) more.1))
+    row-relisted before (e ∷ es) row = grind (arith, common_steps, row-relisted (Some e.index) es row.1, row, IsRow, alike-pointers)
 
     row-links : (before : Option ℕ) (es : List (Entry T)) → IsRow at before es → (i : ℕ) → 1 ≤ times i es → at i ≡ link_between before None es i
     row-links before [] row i there = absurd (omega arith)
-    row-links before (e ∷ es) row i there = elim (eqb_tells e.index i) [
-      | inl h ↦ rw h.0 (ap at (sym h.1) ∙ row.0)
-      | inr h ↦ rw h.0 (row-links (Some e.index) es row.1 i (let more = rw h.0 at there in omega arith))
-    ]
+    row-links before (e ∷ es) row i there = grind (arith, common_steps, row-links (Some e.index) es row.1 i, row)
 
   -- slots with items have the source's generations and neighbours
   with_items-frame : (i : ℕ) (slots : List (Option (ℕ × Link U))) (items : List (Link T)) → map ends_of items ≡ map (λ (e : ℕ × ℕ × Link U). ends_of e.2) (entries_from i slots)
       → (k : ℕ) → frame (get_or (with_items slots items) k None) ≡ frame (get_or slots k None)
-  with_items-frame i [] items same k = refl
-  with_items-frame i (None ∷ slots) items same zero = refl
   with_items-frame i (None ∷ slots) items same (suc k) = with_items-frame (i + 1) slots items same k
-  with_items-frame i (Some e ∷ slots) [] same k = absurd cc
-  with_items-frame i (Some e ∷ slots) (x ∷ items) same zero = let ends : ends_of x ≡ ends_of e.1 = cc in ap (λ (b : Option ℕ × Option ℕ). Some (e.0, b.0, b.1)) ends
   with_items-frame i (Some e ∷ slots) (x ∷ items) same (suc k) = with_items-frame (i + 1) slots items (cc) k
+  with_items-frame i slots items same k = grind (arith, common_steps)
 
   -- and each the item of its number
   with_items-item : (slots : List (Option (ℕ × Link U))) (items : List (Link T)) (k : ℕ) (e : ℕ × Link U) → get_or slots k None ≡ Some e
       → option_map (λ (e : ℕ × Link T). e.1.item) (get_or (with_items slots items) k None) ≡ slice_get (map (λ l. l.item) items) (count_by is_some (take k slots))
-  with_items-item [] items k e is = absurd (none-some e is)
-  with_items-item (None ∷ slots) items zero e is = absurd (none-some e is)
   with_items-item (None ∷ slots) items (suc k) e is = grind (arith, common_steps, with_items-item slots items k e is)
-  with_items-item (Some d ∷ slots) [] k e is = refl
-  with_items-item (Some d ∷ slots) (x ∷ items) zero e is = refl
   with_items-item (Some d ∷ slots) (x ∷ items) (suc k) e is = grind (arith, common_steps, with_items-item slots items k e is)
+  with_items-item slots items k e is = grind (arith, common_steps)
 
   module _ (slots0 : List (Option (ℕ × Link U))) (slots : List (Option (ℕ × Link T))) (first last : Option ℕ) (es : List (Entry U)) (laid : IsLaidOut slots0 first last es)
       (same : (i : ℕ) → frame (get_or slots i None) ≡ frame (get_or slots0 i None)) where
@@ -119,24 +76,18 @@ module _ {T U : Type 0} where
     row : IsRow at None (relisted at es) × (pointers (relisted at es) ≡ pointers es)
     row = row-relisted at (λ i. get_or slots0 i None) same None es (IsRow-links (λ i. get_or slots0 i None) None es laid.distinct (λ i there. laid.links i))
 
-    alike : Alike (relisted at es) es
+    alike : SameIndexes (relisted at es) es
     alike = alike-pointers (relisted at es) es row.1
 
     laid-relisted : IsLaidOut slots first last (relisted at es)
     laid-relisted =
-        laid-links slots first last (relisted at es)
-        (λ i. elim (eqb_tells (times i (relisted at es)) 0) [
-          | inl h ↦
-              unframed (at i) (same i ∙ ap frame (laid.links i ∙ link_between-absent None None es i (sym (alike.count i) ∙ h.1)))
-              ∙ sym (link_between-absent None None (relisted at es) i h.1)
-          | inr h ↦ row-links at (λ i. get_or slots0 i None) same None (relisted at es) row.0 i (omega (arith, h.1))
-        ])
+        laid-held slots first last (relisted at es) (row-links at (λ i. get_or slots0 i None) same None (relisted at es) row.0)
+        (λ i some. omega (arith, alike.count i, held-occurs slots0 es i (held-laid slots0 first last es laid) (framed (at i) (get_or slots0 i None) (same i) some)))
         (λ i. omega (arith, alike.count i, laid.distinct i)) (laid.first_is ∙ sym (alike.first None)) (laid.last_is ∙ sym (alike.last None))
 
 -- slots that are vacant one and all
 resized-laid : {T : Type 0} (n : ℕ) → IsLaidOut {T = T} (resized n []) None None []
-resized-laid zero = IsLaidOut-cleared (0 - 0)
-resized-laid (suc n) = IsLaidOut-cleared (suc n - 0)
+resized-laid n = grind (arith, common_steps, IsLaidOut-cleared)
 
 -- The step of a clone of links, from that of its items.
 abbrev pub link_step : {P T U M N : Type 0} → (M → P → Link U → Result T AllocError → M → Type 0) → (N → M) → N → P → Link U → Result (Link T) AllocError → N → Type 0
@@ -164,17 +115,11 @@ module _ {P T U M N : Type 0} (numbers : P → ℕ × ℕ) (step : M → P → L
     held : HoldIndexes a0.slots es
     held = held-laid a0.slots first last es laid
 
-    -- index 0 has no entry
-    none-first : link_at es 0 ≡ None
-    none-first = elim (eqb_tells (times 0 es) 0) [
-      | inl h ↦ link_between-absent None None es 0 h.1
-      | inr h ↦ absurd (let within = sound.within 0 (omega (arith, h.1)) in let above = within.0 in omega arith)
-    ]
-
     rising : entries_rising a0 0 ≡ links_rising (chain_of a0 first)
     rising =
         sym (map-id (entries_rising a0 0))
-        ∙ among-arena (λ (l : Link U). l) (link_at es) (links_among es) (λ i. refl) (λ i n. refl) a0.slots none-first (λ i. option_map-itself (slot a0 i) ∙ laid.links i)
+        ∙ among-arena (λ (l : Link U). l) (link_at es) (links_among es) (λ i. refl) (λ i n. refl) a0.slots
+        (link_between-absent None None es 0 (grind (arith, common_steps, sound.within 0))) (λ i. option_map-itself (slot a0 i) ∙ laid.links i)
 
     abbrev size : ℕ
     size = max (arena_capacity a) (greatest_occupied a0.slots)
@@ -191,7 +136,7 @@ module _ {P T U M N : Type 0} (numbers : P → ℕ × ℕ) (step : M → P → L
           (clones-keep numbers (Grants numbers (link_step step inner)) ends_of ends_of (λ f p u x g made. (let before = made.before in let behind = made.behind in cc)) (entries_rising a0 0) m c.last [] c.items c.calls)
 
       past : (k : ℕ) → size + 1 ≤ k → get_or (with_items a0.slots c.items) k None ≡ None
-      past k far = unframed (get_or (with_items a0.slots c.items) k None) (frames k ∙ ap frame (beyond k (omega arith)))
+      past k far = grind (arith, common_steps, frames k, beyond k)
 
       at-slots : (i : ℕ) → slot b i ≡ get_or (with_items a0.slots c.items) i None
       at-slots i = ap (λ ss. get_or ss i None) c.after.slots ∙ get_or-resized (size + 1) (with_items a0.slots c.items) i past
@@ -208,18 +153,15 @@ module _ {P T U M N : Type 0} (numbers : P → ℕ × ℕ) (step : M → P → L
       has-items : HasItems es (map (λ l. l.item) c.items) list
       has-items = record {
         order = (row (resized (size + 1) a0.slots) b.slots first last es laid0 frames2).1;
-        made = λ i there. ap (option_map (λ e. e.1)) (entry_at-link None None list i ∙ ap (option_map (λ e. (e.0, e.1.item))) (sym (laid-list.links i)))
-            ∙ (twice (slot b i) ∙ (ap (option_map (λ e. e.1.item)) (at-slots i) ∙ item-at i there));
+        made = λ i there.
+            let e = held-some (slot a0 i) (held-is a0.slots es i held there) in
+            ap (option_map (λ e. e.1)) (entry_at-link None None list i ∙ ap (option_map (λ e. (e.0, e.1.item))) (sym (laid-list.links i)))
+            ∙ twice (slot b i) ∙ ap (option_map (λ e. e.1.item)) (at-slots i)
+            ∙ with_items-item a0.slots c.items i e.0 e.1 ∙ ap (slice_get (map (λ l. l.item) c.items)) (place-slots a0.slots es held i);
       }
         where
           twice : (o : Option (ℕ × Link T)) → option_map (λ e. e.1) (option_map {U = ℕ × T} (λ e. (e.0, e.1.item)) o) ≡ option_map (λ e. e.1.item) o
-          twice None = refl
-          twice (Some e) = refl
-
-          item-at : (i : ℕ) → 1 ≤ times i es → option_map (λ e. e.1.item) (get_or (with_items a0.slots c.items) i None) ≡ slice_get (map (λ l. l.item) c.items) (lesser es i)
-          item-at i there =
-              let e = held-some (slot a0 i) (held-is a0.slots es i held there) in
-              with_items-item a0.slots c.items i e.0 e.1 ∙ ap (slice_get (map (λ l. l.item) c.items)) (place-slots a0.slots es held i)
+          twice o = grind (arith, common_steps)
 
       pub Lies-cloned : (first1 : Option ℕ) → IsFresh b → Lies b first last (taken_over (chain_of a0 first) (chain_of a first1) list)
       Lies-cloned first1 fresh =
@@ -230,15 +172,7 @@ module _ {P T U M N : Type 0} (numbers : P → ℕ × ℕ) (step : M → P → L
 
       pub clone-chain : (first1 : Option ℕ) → IsFresh b → IsClone numbers (Grants numbers step) (inner m) (chain_of a0 first) (chain_of a first1) (chain_of b first)
       clone-chain first1 fresh =
-          let done = Lies-cloned first1 fresh in
-          let is_list : (chain_of b first).entries ≡ list = ap (λ (c : Chain T). c.entries) done.chain in
-          record {
-            items = map (λ l. l.item) c.items;
-            last = inner c.last;
-            calls = rw (← rising) (items-told (entries_rising a0 0) m c.last c.items c.calls);
-            entries = rw is_list has-items;
-            after = done.chain ∙ ap (taken_over (chain_of a0 first) (chain_of a first1)) (sym is_list);
-          }
+          grind (arith, common_steps, Lies-cloned first1 fresh, rising, items-told (entries_rising a0 0) m, has-items)
 
     pub rising-told : StopsAtRefusal {T = Link T} numbers (link_step step inner) m (entries_rising a0 0) → StopsAtRefusal numbers step (inner m) (links_rising (chain_of a0 first))
     rising-told stops = rw (← rising) (stops-told m (entries_rising a0 0) stops)
@@ -260,24 +194,13 @@ refused-chain {T} a0 first last laid a b first1 is =
 module _ {T U : Type 0} (a0 : Arena (Link U)) (a b : Arena (Link T)) (first last : Option ℕ) (laid : IsLaidOut a.slots first last (chain_of a first).entries)
     (r : Result (Unit {0}) ReallocationError) (e : ReallocationError) (is : r ≡ Err e) (beyond : r ≡ Err BeyondMaxCapacity → b ≡ a) {A B : Type 0} (stops : B → b ≡ replaced a0 a []) (memory : r ≡ Err NoMemory → (A × (b ≡ a)) ⊎ B) where
   left : (b ≡ a) ⊎ (b ≡ replaced a0 a [])
-  left = by e is
-    where
-      by : (e : ReallocationError) → r ≡ Err e → (b ≡ a) ⊎ (b ≡ replaced a0 a [])
-      by BeyondMaxCapacity is = inl (beyond is)
-      by NoMemory is = elim (memory is) [ inl kept ↦ inl kept.1 | inr refused ↦ inr (stops refused) ]
+  left = grind (arith, common_steps, beyond)
 
   no-ends : arena_len a ≡ 0 → (first ≡ None) × (last ≡ None)
-  no-ends none = by (chain_of a first).entries (sym laid.counted ∙ none) laid.first_is laid.last_is
-    where
-      by : (es : List (Entry T)) → length es ≡ 0 → first ≡ first_or None es → last ≡ last_or None es → (first ≡ None) × (last ≡ None)
-      by [] empty f l = (f, l)
-      by (e ∷ es) empty f l = absurd (omega arith)
-
-  counts-none : (arena_len b == 0) ≡ true → arena_len b ≡ 0
-  counts-none empty = elim (eqb_tells (arena_len b) 0) [ inl h ↦ h.1 | inr h ↦ absurd (false≢true (sym h.0 ∙ empty)) ]
+  no-ends none = grind (arith, common_steps)
 
   pub empty-laid : (arena_len b == 0) ≡ true → IsLaidOut b.slots None None (chain_of b None).entries
-  empty-laid empty = grind (arith, common_steps, IsLaidOut-walked, counts-none, left, no-ends, resized-laid)
+  empty-laid empty = grind (arith, common_steps, IsLaidOut-walked, left, no-ends, resized-laid)
 
   pub unrefused : (arena_len b == 0) ≡ false → b ≡ replaced a0 a [] → ⊥
   unrefused some gone = grind (arith, common_steps, false≢true, resized-laid)
@@ -286,7 +209,7 @@ module _ {T U : Type 0} (a0 : Arena (Link U)) (a b : Arena (Link T)) (first last
   filled-laid some = elim left [ inl kept ↦ rw kept laid | inr gone ↦ absurd (unrefused some gone) ]
 
   pub kept-chain : b ≡ a → (arena_len b == 0) ≡ true → chain_of b None ≡ chain_of a first
-  kept-chain kept empty = grind (arith, common_steps, counts-none, no-ends)
+  kept-chain kept empty = grind (arith, common_steps, no-ends)
 
 -- A clone in states of one kind is one in those of another.
 module _ {P T U M F : Type 0} (numbers : P → ℕ × ℕ) (below : M → P → Link U → T → M → Type 0) (above : F → P → Link U → T → F → Type 0) (state : M → F)
@@ -300,5 +223,4 @@ module _ {P T U M F : Type 0} (numbers : P → ℕ × ℕ) (below : M → P → 
 pub refusal-restated : {P T U M F : Type 0} (numbers : P → ℕ × ℕ) (below : M → P → Link U → Result T AllocError → M → Type 0) (above : F → P → Link U → Result T AllocError → F → Type 0) (state : M → F)
     → ((m : M) (p : P) (u : Link U) (r : Result T AllocError) (n : M) → below m p u r n → above (state m) p u r (state n))
     → (m : M) (source : Chain U) (old new : Chain T) → IsRefusedClone numbers below m source old new → IsRefusedClone numbers above (state m) source old new
-refusal-restated numbers below above state like m source old new c =
-    record { stops = stops-restated numbers below above state like m (links_rising source) c.stops; after = c.after }
+refusal-restated numbers below above state like m source old new c = grind (arith, common_steps, stops-restated)

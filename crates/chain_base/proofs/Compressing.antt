@@ -1,13 +1,12 @@
 -- A chain is compressed: its entries learn their places, the arena is compressed, and the places are linked back.
 use Rattle.std.proofs.Common.{◌≡◌, ℕ, zero, suc, ◌+◌, ◌-◌, ◌<◌, ◌≤◌, true, List, [], ◌∷◌, length, map}
-use Rattle.std.proofs.Common.{take, slice_get, slice_index_or, Option, Some, None, is_some, count_by, cond, get_or, refl, sym, ap, ◌∙◌, arith, inl, inr, add-one}
+use Rattle.std.proofs.Common.{take, slice_get, slice_index_or, Option, Some, None, is_some, count_by, cond, get_or, refl, sym, ap, ◌∙◌, arith, inl, inr, add-one, option_map, option_and_then}
 use Rattle.std.proofs.lemmas.Grind.{common_steps}
 use Rattle.std.proofs.lemmas.Bool.{false≢true}
 use Rattle.std.proofs.lemmas.Bool.Decides.{eqb_tells}
 use Rattle.std.proofs.lemmas.Option.{slice_get-map, slice_get_within, get_or_from_slice_get}
 use Rattle.std.proofs.lemmas.List.{length-map}
 use Rattle.std.proofs.lemmas.List.Sums.{sum_by-cons, count_by-le-length}
-use Rattle.std.specs.Option.{option_map, option_and_then}
 use Rattle.arena_base.specs.Arena.{Arena, slot, arena_capacity, IsFresh}
 use Rattle.arena_base.specs.Walk.{entries_rising as slots_rising}
 use Rattle.chain_base.specs.Link.{Link}
@@ -18,7 +17,7 @@ use Rattle.chain_base.specs.Naming.{named, bare, compressed_index_in, IsPaired, 
 use Rattle.chain_base.specs.declared.chain.compress.Side.TheVariants.{Before, After}
 use Rattle.chain_base.proofs.Lists.{option_map-itself, link_between-absent, entry_at-link}
 use Rattle.chain_base.proofs.LaidOut.{laid-links, walk-laid_out}
-use Rattle.chain_base.proofs.Vacancy.{HoldIndexes, held-within, held-link, times-link, vacant-held}
+use Rattle.chain_base.proofs.Vacancy.{HoldIndexes, held-within, held-link, times-link, vacant-held, held-some}
 use Rattle.chain_base.proofs.Ranking.{lesser-all, lesser-most, place-found, place-injective, place-slots, counted-held, length-entries, entry-placed, compressed-at, compressed-first, compressed-place, compressed-length, with_era, among-arena}
 use Rattle.chain_base.proofs.Renumbering.{beside, followed, times-source, link_at-renumbered, distinct-renumbered, end-renumbered, times-changed}
 use Rattle.chain_base.proofs.Naming.{paired, learnt, end-learnt}
@@ -38,31 +37,23 @@ module _ {T : Type 0} where
   link-is l item prev next i p n = rw (i, ← p, ← n) refl
 
   fewer : (slots : List (Option (ℕ × Link T))) → 0 < length slots → get_or slots 0 None ≡ None → count_by is_some slots < length slots
-  fewer [] some none = absurd (omega arith)
-  fewer (None ∷ slots) some none = omega (arith, sum_by-cons (λ (o : Option (ℕ × Link T)). cond (is_some o) 1 0) None slots, count_by-le-length is_some slots)
-  fewer (Some e ∷ slots) some none = absurd cc
+  fewer slots some none = grind (arith, common_steps, sum_by-cons, count_by-le-length)
 
   -- links with other previous neighbours, or with next ones that have learnt their places
   next-kept : (o : Option (ℕ × Link T)) (p : Option ℕ) → (option_and_then (λ e. e.1.next) (option_map (with_prev p) o) ≡ option_and_then (λ e. e.1.next) o)
       × (is_some (option_map (with_prev p) o) ≡ is_some o) × (option_map (with_prev p) (option_map (with_prev p) o) ≡ option_map (with_prev p) o)
-  next-kept None p = (refl, refl, refl)
-  next-kept (Some e) p = (refl, refl, refl)
-
-  prev-again : (o : Option (ℕ × Link T)) (p : Option ℕ) → option_map (with_prev (option_map (λ i. i) (option_and_then (λ e. e.1.prev) o))) (option_map (with_prev p) o) ≡ o
-  prev-again None p = refl
-  prev-again (Some e) p = rw (option_map-itself e.1.prev) refl
+      × (option_map (with_prev (option_map (λ i. i) (option_and_then (λ e. e.1.prev) o))) (option_map (with_prev p) o) ≡ o)
+  next-kept o p = grind (arith, common_steps, option_map-itself)
 
   unlinked : (o : Option (ℕ × Link T)) → option_and_then (λ e. e.1.next) o ≡ None → option_map (with_next None) o ≡ o
-  unlinked None none = refl
-  unlinked (Some e) none = rw (← none) refl
+  unlinked o none = grind (arith, common_steps)
 
   abbrev to_place : (ℕ → ℕ) → ℕ × Link T → ℕ × Link T
   to_place place e = (e.0, record e.1 { next = option_map place e.1.next })
 
   linked : (place : ℕ → ℕ) (o : Option (ℕ × Link T)) → (option_map (with_next (option_map place (option_and_then (λ e. e.1.next) o))) o ≡ option_map (to_place place) o)
       × (option_map {U = ℕ × T} (λ e. (e.0, e.1.item)) (option_map (to_place place) o) ≡ option_map (λ e. (e.0, e.1.item)) o)
-  linked place None = (refl, refl)
-  linked place (Some e) = (refl, refl)
+  linked place o = grind (arith, common_steps)
 
   module _ (a0 : Arena (Link T)) (first last : Option ℕ) (es : List (Entry T)) (laid : IsLaidOut a0.slots first last es) where
     abbrev place : ℕ → ℕ
@@ -129,14 +120,11 @@ module _ {T : Type 0} where
         -- what stands in the compressed arena came from the list
         source2 : (k : ℕ) → is_some (slot a2 k) ≡ true → (x : ℕ) × (place x ≡ k) × (1 ≤ times x es)
         source2 zero held = absurd (false≢true (sym (ap (λ ss. is_some (get_or ss 0 None)) c.after.slots ∙ ap is_some (compressed-first (length a1.slots) (map (λ l. Some (with_era g l)) c.links))) ∙ held))
-        source2 (suc k) held = by (slice_get c.links k) refl (sym (ap is_some (at2 k)) ∙ held)
-          where
-            by : (o : Option (Link T)) → slice_get c.links k ≡ o → is_some (option_map (with_era g) o) ≡ true → (x : ℕ) × (place x ≡ suc k) × (1 ≤ times x es)
-            by None at some = absurd (false≢true some)
-            by (Some l) at some =
-                let all = lesser-all es (length a1.slots) (λ i there. held-within a1.slots es i held1 there) in
-                let x = place-found es laid.distinct (length a1.slots) k (omega (arith, many, all, slice_get_within c.links k l at)) in
-                (x.0, let level = x.2 in omega (arith, level), x.3)
+        source2 (suc k) held =
+            let l = held-some (slice_get c.links k) (grind (arith, common_steps, at2 k, held)) in
+            let all = lesser-all es (length a1.slots) (λ i there. held-within a1.slots es i held1 there) in
+            let x = place-found es laid.distinct (length a1.slots) k (omega (arith, many, all, slice_get_within c.links k l.0 l.1)) in
+            (x.0, let level = x.2 in omega (arith, level), x.3)
 
         distinct2 : IsDistinct now
         distinct2 = distinct-renumbered place alter es laid.distinct (place-injective es)
@@ -155,8 +143,7 @@ module _ {T : Type 0} where
                 absurd (let there = x.2 in let gone = rw (← x.1) at absent in omega (arith, there, gone, times-changed place alter es laid.distinct (place-injective es) x.0 x.2))
 
             unmapped : (o : Option ℕ) → option_map place o ≡ None → o ≡ None
-            unmapped None none = refl
-            unmapped (Some i) none = absurd cc
+            unmapped o none = grind (arith, common_steps)
 
             at : (x : ℕ) → place x ≡ k → (e : ℕ × Link T) → link_at es x ≡ Some e → link_at now (place x) ≡ option_map (followed place alter x) (link_at es x)
                 → (p : Option ℕ) × (slot a2 k ≡ option_map (with_prev p) (link_at now k)) × (beside Before now k ≡ None → p ≡ None)
@@ -183,7 +170,7 @@ module _ {T : Type 0} where
           links3 k =
               let m = met2 k in
               learnt After a2 now distinct2 held2 names2 a3 end2 n2 (λ i. i) place-second k (λ none. rw (m.1, m.2 none) (next-kept (link_at now k) None).2)
-              ∙ rw m.1 (prev-again (link_at now k) m.0)
+              ∙ rw m.1 (next-kept (link_at now k) m.0).3
 
           laid-compressed : IsLaidOut a3.slots end1 end2 now
           laid-compressed =

@@ -1,9 +1,7 @@
 -- What the calls that look up an entry find, read off the list.
-use Rattle.std.proofs.Common.{◌≡◌, ℕ, ◌≤◌, List, [], ◌∷◌, Option, Some, None, IsSome, is_some, false, refl, sym, ap, ◌∙◌, arith, inl, inr}
+use Rattle.std.proofs.Common.{◌≡◌, ℕ, ◌≤◌, List, ◌∷◌, Option, Some, None, IsSome, is_some, false, sym, ap, ◌∙◌, arith, option_map}
 use Rattle.std.proofs.lemmas.Grind.{common_steps}
-use Rattle.std.proofs.lemmas.Bool.Decides.{eqb_tells}
-use Rattle.std.specs.Option.{option_map}
-use Rattle.arena_base.specs.Arena.{Arena, slot, item_if, item_of as slot_item, IsFirstEntry, IsLastEntry}
+use Rattle.arena_base.specs.Arena.{Arena, slot, item_of as slot_item, IsFirstEntry, IsLastEntry}
 use Rattle.chain_base.specs.Link.{Link}
 use Rattle.chain_base.specs.Chain.{Entry, times, entry_at, link_at, last_or, last_pointer, pointed, item_of, generation_at, IsFirstIndex, IsLastIndex}
 use Rattle.chain_base.specs.Layout.{chain_of, IsLaidOut}
@@ -11,25 +9,17 @@ use Rattle.chain_base.proofs.Lists.{times-here, times-there, times-last, times-u
 
 -- an option is there where what it is mapped to is there
 pub some-of : {A B : Type 0} (f : A → B) (o : Option A) (p : Option B) → option_map f o ≡ p → IsSome p → IsSome o
-some-of f None p same some = rw (← same) at some
-some-of f (Some x) p same some = refl
+some-of f o p same some = grind (arith, common_steps)
 
 module _ {T : Type 0} where
   -- the pointer to the last index is the last pointer
   pub pointed-last : (es : List (Entry T)) (i : ℕ) → times i es ≤ 1 → last_or None es ≡ Some i → pointed i (entry_at es i) ≡ last_pointer es
-  pointed-last [] i once last = absurd (cc)
-  pointed-last (e ∷ []) i once last = grind (arith, common_steps)
   pointed-last (e ∷ f ∷ es) i once last = grind (arith, common_steps, pointed-last (f ∷ es) i, i, times-here, times-last, times-there)
+  pointed-last es i once last = grind (arith, common_steps)
 
   pub last_pointer-none : (es : List (Entry T)) → last_or None es ≡ None → last_pointer es ≡ None
-  last_pointer-none [] none = refl
-  last_pointer-none (e ∷ []) none = absurd (cc)
   last_pointer-none (e ∷ f ∷ es) none = last_pointer-none (f ∷ es) none
-
-  -- the item of a pointer is that of the link in its slot
-  item_if-link : (g : ℕ) (o : Option (ℕ × Link T)) → item_if g (option_map (λ e. (e.0, e.1.item)) o) ≡ option_map (λ l. l.item) (item_if g o)
-  item_if-link g None = refl
-  item_if-link g (Some e) = elim (eqb_tells e.0 g) [ inl h ↦ rw h.0 refl | inr h ↦ rw h.0 refl ]
+  last_pointer-none es none = grind (arith, common_steps)
 
   -- where there is no entry there is no link
   pub link_at-none : (es : List (Entry T)) (i : ℕ) → is_some (entry_at es i) ≡ false → None ≡ link_at es i
@@ -41,28 +31,19 @@ module _ {T : Type 0} where
 
   pub IsFirstIndex-slot : (a : Arena (Link T)) (es : List (Entry T)) (i g : ℕ) → ((k : ℕ) → slot a k ≡ link_at es k) → IsFirstEntry a i g → IsFirstIndex es i g
   IsFirstIndex-slot a es i g links first =
-      record {
-        entry = generation_at-link es i (slot a i) (links i) ∙ first.entry;
-        least = λ k below. times-unlinked None None es k (sym (links k) ∙ first.least k below);
-      }
+      record { entry = generation_at-link es i (slot a i) (links i) ∙ first.entry; least = λ k below. times-unlinked None None es k (sym (links k) ∙ first.least k below) }
 
   pub IsLastIndex-slot : (a : Arena (Link T)) (es : List (Entry T)) (i g : ℕ) → ((k : ℕ) → slot a k ≡ link_at es k) → IsLastEntry a i g → IsLastIndex es i g
   IsLastIndex-slot a es i g links last =
-      record {
-        entry = generation_at-link es i (slot a i) (links i) ∙ last.entry;
-        greatest = λ k above. times-unlinked None None es k (sym (links k) ∙ last.greatest k above);
-      }
+      record { entry = generation_at-link es i (slot a i) (links i) ∙ last.entry; greatest = λ k above. times-unlinked None None es k (sym (links k) ∙ last.greatest k above) }
 
   -- What the slots of an arena say of the chain that lies in it.
   module _ (a : Arena (Link T)) (first last : Option ℕ) (laid : IsLaidOut a.slots first last (chain_of a first).entries) where
-    pub link_at-laid_out : (i : ℕ) → link_at (chain_of a first).entries i ≡ slot a i
-    link_at-laid_out i = sym (laid.links i)
-
     pub entry_at-laid_out : (i : ℕ) → entry_at (chain_of a first).entries i ≡ option_map (λ e. (e.0, e.1.item)) (slot a i)
     entry_at-laid_out i = entry_at-link None None (chain_of a first).entries i ∙ ap (option_map (λ e. (e.0, e.1.item))) (sym (laid.links i))
 
     pub item_of-laid_out : (p : ℕ × ℕ) → item_of (chain_of a first).entries p ≡ option_map (λ l. l.item) (slot_item a p)
-    item_of-laid_out p = rw (entry_at-laid_out p.0) (item_if-link p.1 (slot a p.0))
+    item_of-laid_out p = grind (arith, common_steps, entry_at-laid_out p.0)
 
     pub contains-laid_out : (p : ℕ × ℕ) → is_some (slot_item a p) ≡ is_some (item_of (chain_of a first).entries p)
     contains-laid_out p = grind (arith, common_steps, item_of-laid_out p)
@@ -71,25 +52,11 @@ module _ {T : Type 0} where
     pub occupied-laid_out : (i : ℕ) → IsSome (entry_at (chain_of a first).entries i) → IsSome (slot a i)
     occupied-laid_out i some = ap is_some (laid.links i) ∙ sym (entry_at-some (chain_of a first).entries i) ∙ some
 
-  -- what a look-up answers, read off what the arena answered
-  pub item-found : (o : Option (Link T)) (l : Link T) (item : T) → Some l ≡ o → item ≡ l.item → Some item ≡ option_map (λ l. l.item) o
-  item-found o l item found same = rw (← found, same) refl
-
-  pub entry-found : (o : Option (ℕ × Link T)) (g : ℕ) (l : Link T) (item : T) → ◌≡◌ {A = Option (ℕ × Link T)} (Some (g, l)) o → item ≡ l.item
-      → ◌≡◌ {A = Option (ℕ × T)} (Some (g, item)) (option_map (λ e. (e.0, e.1.item)) o)
-  entry-found o g l item found same = rw (← found, same) refl
-
-  pub pointed-found : (o : Option (ℕ × Link T)) (i g : ℕ) (l : Link T) → ◌≡◌ {A = Option (ℕ × Link T)} (Some (g, l)) o
-      → ◌≡◌ {A = Option (ℕ × ℕ)} (Some (i, g)) (pointed i (option_map {U = ℕ × T} (λ e. (e.0, e.1.item)) o))
-  pointed-found o i g l found = rw (← found) refl
-
-  pub pointed-missing : (o : Option (ℕ × Link T)) (i : ℕ) → None ≡ o → None ≡ pointed i (option_map {U = ℕ × T} (λ e. (e.0, e.1.item)) o)
-  pointed-missing o i missing = rw (← missing) refl
-
   -- the pointer to the last index of a chain that lies in an arena
-  pub last-found : (a : Arena (Link T)) (first last : Option ℕ) (i : ℕ) → IsLaidOut a.slots first last (chain_of a first).entries → last ≡ Some i
-      → pointed i (entry_at (chain_of a first).entries i) ≡ last_pointer (chain_of a first).entries
-  last-found a first last i laid is = pointed-last (chain_of a first).entries i (laid.distinct i) (sym laid.last_is ∙ is)
+  pub last-found : {I : Type 0} (number : I → ℕ) (a : Arena (Link T)) (first : Option ℕ) (last : Option I) (i : I) → IsLaidOut a.slots first (option_map number last) (chain_of a first).entries
+      → last ≡ Some i → pointed (number i) (entry_at (chain_of a first).entries (number i)) ≡ last_pointer (chain_of a first).entries
+  last-found number a first last i laid is = pointed-last (chain_of a first).entries (number i) (laid.distinct (number i)) (sym laid.last_is ∙ ap (option_map number) is)
 
-  pub last-missing : (a : Arena (Link T)) (first last : Option ℕ) → IsLaidOut a.slots first last (chain_of a first).entries → last ≡ None → None ≡ last_pointer (chain_of a first).entries
-  last-missing a first last laid is = sym (last_pointer-none (chain_of a first).entries (sym laid.last_is ∙ is))
+  pub last-missing : {I : Type 0} (number : I → ℕ) (a : Arena (Link T)) (first : Option ℕ) (last : Option I) → IsLaidOut a.slots first (option_map number last) (chain_of a first).entries
+      → last ≡ None → None ≡ last_pointer (chain_of a first).entries
+  last-missing number a first last laid is = sym (last_pointer-none (chain_of a first).entries (sym laid.last_is ∙ ap (option_map number) is))

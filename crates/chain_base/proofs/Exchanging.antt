@@ -1,33 +1,25 @@
 -- Two entries of a chain change their indexes with each other: a swap in the arena, and the links that named them.
-use Rattle.std.proofs.Common.{◌≡◌, ◌≢◌, ℕ, ◌-◌, ◌≤◌, true, List, map, Option, Some, None, IsSome, is_some, refl, sym, ap, ◌∙◌, subst, arith, if◌then◌else◌, inl, inr, length-set}
+use Rattle.std.proofs.Common.{◌≡◌, ℕ, true, List, map, Option, Some, None, IsSome, is_some, refl, sym, ap, ◌∙◌, subst, arith, if◌then◌else◌, length-set, option_map, option_and_then}
 use Rattle.std.proofs.lemmas.Grind.{common_steps}
-use Rattle.std.proofs.lemmas.Bool.Decides.{eqb_tells}
-use Rattle.std.specs.Option.{option_map, option_and_then}
 use Rattle.arena_base.specs.Pointer.{named_of}
 use Rattle.arena_base.specs.Arena.{Arena, slot, swapped}
 use Rattle.arena_base.proofs.CallerLemmas.{limit_of-below}
 use Rattle.chain_base.specs.Link.{Link}
-use Rattle.chain_base.specs.Chain.{Entry, Chain, times, entry_at, link_at, IsOccupied, IsSound}
-use Rattle.chain_base.specs.Layout.{chain_of, names, linked_next, linked_prev, IsLaidOut}
+use Rattle.chain_base.specs.Chain.{Entry, Chain, entry_at, link_at, IsOccupied, IsSound}
+use Rattle.chain_base.specs.Layout.{chain_of, names, linked_next, linked_prev, relinked, IsLaidOut}
 use Rattle.chain_base.specs.Exchange.{exchanged_index, in_exchange, exchanged, IsEven}
 use Rattle.chain_base.specs.declared.chain.compress.Side.{Side}
 use Rattle.chain_base.specs.declared.chain.compress.Side.TheVariants.{Before, After}
-use Rattle.chain_base.proofs.Lists.{entry_at-link, entry_at-absent, entry_at-some, same_index, other_index}
-use Rattle.chain_base.proofs.LaidOut.{Alike, alike-next, alike-prev}
+use Rattle.chain_base.proofs.Lists.{entry_at-link, entry_at-absent, entry_at-some}
+use Rattle.chain_base.proofs.LaidOut.{slot-relinked, Alike, alike-next, alike-prev}
 use Rattle.chain_base.proofs.Vacancy.{HoldIndexes, held-is, held-occurs, held-link}
 use Rattle.chain_base.proofs.Renumbering.{opposite, beside, beside-occurs, facing, facing-back, followed, IsLaidOut-renumbered}
 use Rattle.chain_base.proofs.Naming.{neighbour-within}
-use Rattle.chain_base.proofs.Steps.{Lies, lies, held-laid}
+use Rattle.chain_base.proofs.Steps.{Lies, lies-alike, held-laid}
 
 module _ (i j : ℕ) where
   abbrev pub other : ℕ → ℕ
   other k = exchanged_index i j k
-
-  pub other-first : other i ≡ j
-  other-first = rw (same_index i) refl
-
-  pub other-same : (k : ℕ) → k ≢ i → k ≢ j → other k ≡ k
-  other-same k not_i not_j = rw (other_index k i not_i, other_index k j not_j) refl
 
   pub other-twice : (k : ℕ) → other (other k) ≡ k
   other-twice k = grind (arith, common_steps)
@@ -40,13 +32,10 @@ module _ (i j : ℕ) where
   other-holds Q of_i of_j k of_k = grind (arith, common_steps)
 
 module _ {T : Type 0} where
-  slot-next : (a : Arena (Link T)) (at v : Option ℕ) (k : ℕ) (e : ℕ × Link T) → slot a k ≡ Some e
-      → slot (linked_next a at v) k ≡ Some (e.0, record { item = e.1.item; prev = e.1.prev; next = if names at k then v else e.1.next })
-  slot-next a at v k e held = grind (arith, common_steps)
-
-  slot-prev : (a : Arena (Link T)) (at v : Option ℕ) (k : ℕ) (e : ℕ × Link T) → slot a k ≡ Some e
-      → slot (linked_prev a at v) k ≡ Some (e.0, record { item = e.1.item; prev = if names at k then v else e.1.prev; next = e.1.next })
-  slot-prev a at v k e held = grind (arith, common_steps)
+  -- a link after two pairs of writes
+  relinked-twice : (a b c d v w : Option ℕ) (k : ℕ) (e : ℕ × Link T) → relinked c w d w k (relinked a v b v k (Some e))
+      ≡ Some (e.0, record { item = e.1.item; prev = if names d k then w else (if names b k then v else e.1.prev); next = if names c k then w else (if names a k then v else e.1.next) })
+  relinked-twice a b c d v w k e = grind (arith, common_steps)
 
   -- entries of one generation that are swapped stand at each other's index
   slot-swapped : (a : Arena (Link T)) (i j x : ℕ) (e f : ℕ × Link T) → slot a i ≡ Some e → slot a j ≡ Some f → e.0 ≡ f.0 → slot (swapped a i j) (other i j x) ≡ slot a x
@@ -65,8 +54,7 @@ module _ {T : Type 0} where
 
   pub can_exchange : (a : Arena (Link T)) (first last : Option ℕ) (c : Chain T) (i j : ℕ) → chain_of a first ≡ c → IsLaidOut a.slots first last (chain_of a first).entries
       → IsOccupied c i → IsOccupied c j → IsEven c → CanExchange a first last c i j
-  can_exchange a first last c i j seen laid at_i at_j even =
-      record { laid = subst (λ (d : Chain T). IsLaidOut a.slots first last d.entries) seen laid; seen = seen; at_i = at_i; at_j = at_j; even = even }
+  can_exchange a first last c i j seen laid at_i at_j even = grind (arith, common_steps)
 
   module _ {a0 : Arena (Link T)} {first last : Option ℕ} {c : Chain T} {i j : ℕ} (can : CanExchange a0 first last c i j) where
     abbrev es : List (Entry T)
@@ -93,16 +81,14 @@ module _ {T : Type 0} where
         rw made (record { held = λ k. held-swapped a0 i j k e.0 f.0 e.1 f.1; long = length-set _ j _ ∙ length-set a0.slots i _; kept = refl })
 
     -- what an exchanged link names has an entry, in an arena that holds entries at the same indexes
-    pub target : (side : Side) (k : ℕ) (a : Arena (Link T)) → Alike a a0 → (o p : Option ℕ) → o ≡ option_map (other i j) p → p ≡ beside side es k → (x : ℕ) → o ≡ Some x → IsSome (slot a x)
-    target side k a same o p is at x names =
-        same.held x ∙ by p at (sym is ∙ names)
-      where
-        by : (p : Option ℕ) → p ≡ beside side es k → option_map (other i j) p ≡ Some x → is_some (slot a0 x) ≡ true
-        by None at none = absurd cc
-        by (Some y) at to =
-            let there = held-is a0.slots es y held (beside-occurs (opposite side) es y k (facing side es can.laid.distinct k y (sym at))) in
-            let is : other i j y ≡ x = cc in
-            subst (λ n. is_some (slot a0 n) ≡ true) is (other-holds i j (λ n. is_some (slot a0 n) ≡ true) (slot-some i can.at_i) (slot-some j can.at_j) y there)
+    pub target : {I : Type 0} (number : I → ℕ) (side : Side) (k : ℕ) (a : Arena (Link T)) → Alike a a0 → (r : Option I) (p : Option ℕ) → option_map number r ≡ option_map (other i j) p → p ≡ beside side es k
+        → (x : I) → r ≡ Some x → IsSome (slot a (number x))
+    target number side k a same r p is at y names =
+        let x = number y in
+        let to : beside side es k ≡ Some (other i j x) = grind (arith, common_steps, p, other-twice i j) in
+        let there = held-is a0.slots es _ held (beside-occurs (opposite side) es _ k (facing side es can.laid.distinct k _ to)) in
+        let held_too = other-holds i j (λ n. is_some (slot a0 n) ≡ true) (slot-some i can.at_i) (slot-some j can.at_j) _ there in
+        same.held x ∙ subst (λ n. is_some (slot a0 n) ≡ true) (other-twice i j x) held_too
 
     -- what the writes make of a neighbour's name
     renamed : (named_i named_j : Option ℕ) (x : ℕ) (o : Option ℕ)
@@ -133,17 +119,17 @@ module _ {T : Type 0} where
     linked-slot x e is =
         let prev : beside Before es x ≡ e.1.prev = ap (option_and_then (λ e. e.1.prev)) is in
         let next : beside After es x ≡ e.1.next = ap (option_and_then (λ e. e.1.next)) is in
-        let s1 = slot-next (swapped a0 i j) (option_map (other i j) (beside Before es i)) (Some j) (other i j x) e (moved x ∙ can.laid.links x ∙ is) in
-        let s2 = slot-prev _ (option_map (other i j) (beside After es i)) (Some j) (other i j x) _ s1 in
-        let s3 = slot-next _ (option_map (other i j) (beside Before es j)) (Some i) (other i j x) _ s2 in
-        let s4 = slot-prev _ (option_map (other i j) (beside After es j)) (Some i) (other i j x) _ s3 in
-        s4 ∙ rw (← prev, ← next, renamed-on Before x, renamed-on After x) refl
+        let at = other i j x in
+        let to = λ (side : Side) (k : ℕ). option_map (other i j) (beside side es k) in
+        slot-relinked _ (to Before j) (Some i) (to After j) (Some i) at
+        ∙ ap (relinked (to Before j) (Some i) (to After j) (Some i) at) (slot-relinked (swapped a0 i j) (to Before i) (Some j) (to After i) (Some j) at
+        ∙ ap (relinked (to Before i) (Some j) (to After i) (Some j) at) (moved x ∙ can.laid.links x ∙ is))
+        ∙ relinked-twice (to Before i) (to After i) (to Before j) (to After j) (Some j) (Some i) at e ∙ rw (← prev, ← next, renamed-on Before x, renamed-on After x) refl
 
     pub Lies-exchanged : Lies (linked (swapped a0 i j)) (option_map (other i j) first) (option_map (other i j) last) (exchanged c i j)
     Lies-exchanged =
         let same = alike-linked in
-        lies (linked (swapped a0 i j)) _ _ (exchanged c i j)
-        (IsLaidOut-renumbered (other i j) (λ x p. p) es can.laid.distinct (λ x y there_x there_y. other-injective i j x y) _ _ _
+        let laid2 = IsLaidOut-renumbered (other i j) (λ x p. p) es can.laid.distinct (λ x y there_x there_y. other-injective i j x y) (linked (swapped a0 i j)).slots _ _
         (λ x there. let e = held-link es x there in rw e.1 (linked-slot x e.0 e.1))
         (λ k some. (
           other i j k,
@@ -151,9 +137,9 @@ module _ {T : Type 0} where
           held-occurs a0.slots es _ held
               (other-holds i j (λ n. is_some (slot a0 n) ≡ true) (slot-some i can.at_i) (slot-some j can.at_j) k (sym (same.held k) ∙ some)),
         ))
-        (ap (option_map (other i j)) can.laid.first_is) (ap (option_map (other i j)) can.laid.last_is))
-        (ap (λ n. n - 1) same.long ∙ ap (λ (c : Chain T). c.capacity) can.seen) (ap (λ (a : Arena (Link T)). a.vacant) same.kept ∙ ap (λ (c : Chain T). c.vacant) can.seen)
-        (ap (λ (a : Arena (Link T)). a.generation) same.kept ∙ ap (λ (c : Chain T). c.generation) can.seen) (ap (λ (a : Arena (Link T)). a.maximum) same.kept ∙ ap (λ (c : Chain T). c.maximum) can.seen)
+        (ap (option_map (other i j)) can.laid.first_is) (ap (option_map (other i j)) can.laid.last_is) in
+        subst (λ (d : Chain T). Lies (linked (swapped a0 i j)) (option_map (other i j) first) (option_map (other i j) last) (record d { entries = map (in_exchange i j) es }))
+        can.seen (lies-alike a0 (linked (swapped a0 i j)) _ _ _ same laid2)
 
     -- the arenas between the writes, as the calls give them
     pub Lies-written : (v w o1 o2 o3 o4 p1 p2 p3 p4 end1 end2 : Option ℕ) → v ≡ Some j → w ≡ Some i

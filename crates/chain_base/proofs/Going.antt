@@ -1,13 +1,12 @@
 -- One step along a chain.
-use Rattle.std.proofs.Common.{◌≡◌, ℕ, List, [], ◌∷◌, ◌++◌, Option, Some, None, refl, sym, ap, ◌∙◌, arith, inl, inr, append_assoc}
+use Rattle.std.proofs.Common.{◌≡◌, ℕ, List, [], ◌∷◌, ◌++◌, Option, Some, None, refl, sym, ap, ◌∙◌, arith, inl, inr, option_and_then}
 use Rattle.std.proofs.lemmas.Grind.{common_steps}
 use Rattle.std.proofs.lemmas.Bool.Decides.{eqb_tells}
 use Rattle.std.proofs.lemmas.Option.{same_Some}
-use Rattle.std.specs.Option.{option_and_then}
 use Rattle.chain_base.specs.Link.{Link}
 use Rattle.chain_base.specs.Chain.{Entry, Chain, times, IsDistinct, link_at, first_or, from_index}
 use Rattle.chain_base.specs.Walk.{pointers, pointers_from, GivesEntry}
-use Rattle.chain_base.proofs.Lists.{linked-occurs, times-unlinked, times-append, times-here, Stands, Stands-occurs}
+use Rattle.chain_base.proofs.Lists.{linked-occurs, times-unlinked, times-append, times-here, Stands-occurs}
 use Rattle.chain_base.proofs.Renumbering.{link_at-split}
 
 module _ {T : Type 0} where
@@ -20,33 +19,27 @@ module _ {T : Type 0} where
   from_index-absent (e ∷ es) i absent = grind (arith, common_steps, from_index-absent es i)
 
   -- no entry has the index
-  pub pointers_from-none : (c : Chain T) (i : ℕ) → None ≡ link_at c.entries i → pointers_from (Some i) c ≡ []
-  pointers_from-none c i none = ap pointers (from_index-absent c.entries i (times-unlinked None None c.entries i (sym none)))
+  pub pointers_from-none : (es : List (Entry T)) (i : ℕ) → None ≡ link_at es i → pointers (from_index es i) ≡ []
+  pointers_from-none es i none = ap pointers (from_index-absent es i (times-unlinked None None es i (sym none)))
 
   -- what stands behind an entry is what its link leads to
   behind : (c : Chain T) (front : List (Entry T)) (e : Entry T) (back : List (Entry T)) → IsDistinct c.entries
       → c.entries ≡ front ++ e ∷ back → pointers_from (first_or None back) c ≡ pointers back
   behind c front e [] distinct split = refl
   behind c front e (f ∷ back) distinct split =
-      let same : c.entries ≡ (front ++ e ∷ []) ++ f ∷ back = split ∙ sym (append_assoc front (e ∷ []) (f ∷ back)) in
-      let unmet : times f.index (front ++ e ∷ []) ≡ 0 =
-      omega (arith, distinct f.index, ap (times f.index) same, times-append f.index (front ++ e ∷ []) (f ∷ back), times-here f.index f back refl) in
-      ap pointers (ap (λ es. from_index es f.index) same ∙ from_index-split (front ++ e ∷ []) f back f.index refl unmet)
+      grind (arith, common_steps, times-append f.index (front ++ e ∷ []) (f ∷ back), times-here f.index f back refl, from_index-split (front ++ e ∷ []) f back f.index refl)
 
   -- a walk that stands at the index of an entry gives it, and goes on by its link
   pub gives-from_link : (c : Chain T) (i g : ℕ) (l : Link T) → IsDistinct c.entries → ◌≡◌ {A = Option (ℕ × Link T)} (Some (g, l)) (link_at c.entries i) → GivesEntry (Some i) l.next c i g
   gives-from_link c i g l distinct held =
+      let s = Stands-occurs c.entries i (linked-occurs c.entries i (g, l) (sym held)) in
+      let pair = same_Some (g, l) _ (held ∙ link_at-split c.entries s.front s.entry s.back s.split distinct i s.here) in
+      let here : pointers_from (Some i) c ≡ (s.entry.index, s.entry.generation) ∷ pointers s.back =
+      ap pointers (ap (λ es. from_index es i) s.split ∙ from_index-split s.front s.entry s.back i s.here s.unmet) in
+      let era : g ≡ s.entry.generation = ap (λ x. x.0) pair in
+      let next : l.next ≡ first_or None s.back = ap (λ x. x.1.next) pair in
       record {
         stood = refl;
-        first = from_place (Stands-occurs c.entries i (linked-occurs c.entries i (g, l) (sym held)));
+        first = here ∙ (let on = behind c s.front s.entry s.back distinct s.split in cc);
         stands = ap (option_and_then (λ (e : ℕ × Link T). e.1.next)) held;
       }
-    where
-      from_place : Stands c.entries i → pointers_from (Some i) c ≡ (i, g) ∷ pointers_from l.next c
-      from_place s =
-          let pair = same_Some (g, l) _ (held ∙ link_at-split c.entries s.front s.entry s.back s.split distinct i s.here) in
-          let here : pointers_from (Some i) c ≡ (s.entry.index, s.entry.generation) ∷ pointers s.back =
-          ap pointers (ap (λ es. from_index es i) s.split ∙ from_index-split s.front s.entry s.back i s.here s.unmet) in
-          let era : g ≡ s.entry.generation = ap (λ x. x.0) pair in
-          let next : l.next ≡ first_or None s.back = ap (λ x. x.1.next) pair in
-          rw (here, s.here, era, next, behind c s.front s.entry s.back distinct s.split) refl

@@ -1,7 +1,6 @@
 -- What the calls of a compression keep of the links.
-use Rattle.std.proofs.Common.{◌≡◌, ℕ, List, [], ◌∷◌, ◌++◌, map, sym, ap, ◌∙◌, arith}
+use Rattle.std.proofs.Common.{◌≡◌, ℕ, List, [], ◌∷◌, ◌++◌, map, sym, ap, ◌∙◌, arith, map-id, append-nil}
 use Rattle.std.proofs.lemmas.Grind.{common_steps}
-use Rattle.std.proofs.lemmas.List.{map-id, append-nil}
 use Rattle.std.specs.List.{FoldsTo}
 use Rattle.arena_base.specs.Arena.{Arena}
 use Rattle.arena_base.specs.Walk.{entries_rising}

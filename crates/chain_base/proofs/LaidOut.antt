@@ -1,14 +1,13 @@
 -- How each step of a chain keeps its list laid out in the arena.
-use Rattle.std.proofs.Common.{◌≡◌, ◌≢◌, ℕ, ◌+◌, ◌<◌, ◌≤◌, ◌==◌, false, List, ◌∷◌, ◌++◌, length, Option, Some, None, is_some, refl, sym, ap, ◌∙◌, arith, if◌then◌else◌, inl, inr, get_or, length-set}
+use Rattle.std.proofs.Common.{◌≡◌, ℕ, ◌+◌, ◌<◌, ◌≤◌, ◌==◌, List, ◌∷◌, ◌++◌, length, Option, Some, None, is_some, sym, ap, ◌∙◌, arith, if◌then◌else◌, get_or, true, option_map}
 use Rattle.std.proofs.lemmas.Grind.{common_steps}
 use Rattle.std.proofs.lemmas.List.Sums.{count_by-le-length}
-use Rattle.std.specs.Option.{option_map}
 use Rattle.arena_base.specs.Arena.{Arena, slot, with_slot, with_entry_at, removed as arena_removed}
 use Rattle.chain_base.specs.Link.{Link}
-use Rattle.chain_base.specs.Chain.{Entry, IsDistinct, times, first_or, last_or, link_at, with_item_among, with_generation}
-use Rattle.chain_base.specs.Layout.{chain_of, walk, names, linked_next, linked_prev, relinked, IsLaidOut}
-use Rattle.chain_base.proofs.Lists.{names_tells, same_index, times-append, times-inserted, times-here, times-there, times-last, times-first, first_or-append, last_or-append, link_between-append, link_between-absent}
-use Rattle.chain_base.proofs.Lists.{times-unlinked, seam-relinked, IsRow-links, walk-row, changed_at, changed_link, with_item_among-changed_at, with_generation-changed_at, link_between-changed_at, times-changed_at, first_or-changed_at, last_or-changed_at}
+use Rattle.chain_base.specs.Chain.{Entry, IsDistinct, times, first_or, last_or, link_at}
+use Rattle.chain_base.specs.Layout.{chain_of, walk, linked_next, linked_prev, relinked, IsLaidOut}
+use Rattle.chain_base.proofs.Lists.{names_tells, same_index, times-append, times-here, times-there, times-last, times-first, first_or-append, last_or-append, link_between-append, link_between-absent}
+use Rattle.chain_base.proofs.Lists.{times-unlinked, seam-relinked, IsRow-links, walk-row, changed_at, changed_link, link_between-changed_at, same-changed_at}
 use Rattle.chain_base.proofs.Vacancy.{held-links}
 use Rattle.chain_base.proofs.Ranking.{counted-held}
 
@@ -23,13 +22,15 @@ module _ {T : Type 0} where
   laid-links slots first last es links distinct first_is last_is =
       record { links = links; distinct = distinct; first_is = first_is; last_is = last_is; counted = counted-held slots es (held-links slots es distinct links) }
 
-  -- what the slots hold once one is filled
-  pub slot-filled : (a : Arena (Link T)) (j k : ℕ) (e : ℕ × Link T) → j < length a.slots → slot (with_slot a j (Some e)) k ≡ (if j == k then Some e else slot a k)
-  slot-filled a j k e within = grind (arith, common_steps)
+  -- slots that hold the links of a list's indexes, and nothing else
+  pub laid-held : (slots : List (Option (ℕ × Link T))) (first last : Option ℕ) (es : List (Entry T)) → ((i : ℕ) → 1 ≤ times i es → get_or slots i None ≡ link_at es i)
+      → ((i : ℕ) → is_some (get_or slots i None) ≡ true → 1 ≤ times i es) → IsDistinct es → first ≡ first_or None es → last ≡ last_or None es → IsLaidOut slots first last es
+  laid-held slots first last es links back =
+      laid-links slots first last es (λ i. grind (arith, common_steps, links i, back i, link_between-absent None None es i))
 
-  -- what the slots hold once one is emptied
-  pub slot-emptied : (a : Arena (Link T)) (j k : ℕ) → j < length a.slots → slot (with_slot a j None) k ≡ (if j == k then None else slot a k)
-  slot-emptied a j k within = grind (arith, common_steps)
+  -- what the slots hold once one is filled or emptied
+  pub slot-written : (a : Arena (Link T)) (j k : ℕ) (o : Option (ℕ × Link T)) → j < length a.slots → slot (with_slot a j o) k ≡ (if j == k then o else slot a k)
+  slot-written a j k o within = grind (arith, common_steps)
 
   -- a map of what a slot holds
   pub slot-mapped : (a : Arena (Link T)) (i k : ℕ) (f : ℕ × Link T → ℕ × Link T) → slot (with_slot a i (option_map f (slot a i))) k ≡ (if i == k then option_map f (slot a k) else slot a k)
@@ -42,9 +43,7 @@ module _ {T : Type 0} where
   -- the walk from the first index meets just the entries
   pub walk-laid_out : (a : Arena (Link T)) (first last : Option ℕ) (es : List (Entry T)) → IsLaidOut a.slots first last es → walk (slot a) (length a.slots) first ≡ es
   walk-laid_out a first last es laid =
-      let row = IsRow-links (slot a) None es laid.distinct (λ i there. laid.links i) in
-      let fits : length es ≤ length a.slots = omega (arith, count_by-le-length is_some a.slots, laid.counted) in
-      rw laid.first_is (walk-row (slot a) None es (length a.slots) fits row)
+      grind (arith, common_steps, IsRow-links (slot a) None es laid.distinct, count_by-le-length is_some a.slots, walk-row (slot a) None es (length a.slots))
 
   pub IsLaidOut-walked : (a : Arena (Link T)) (first last : Option ℕ) (es : List (Entry T)) → IsLaidOut a.slots first last es → IsLaidOut a.slots first last (chain_of a first).entries
   IsLaidOut-walked a first last es laid = rw (walk-laid_out a first last es laid) laid
@@ -66,8 +65,7 @@ module _ {T : Type 0} where
   bridged a left next right prev = linked_prev (linked_next a left next) right prev
 
   pub alike-bridged : (a : Arena (Link T)) (left next right prev : Option ℕ) → Alike (bridged a left next right prev) a
-  alike-bridged a left next right prev =
-      alike-prev (linked_next a left next) a _ right prev refl (alike-next a a _ left next refl (record { held = λ k. refl; long = refl; kept = refl }))
+  alike-bridged a left next right prev = grind (arith, common_steps, alike-prev, alike-next)
 
   -- the two writes of a seam change nothing at an index that stands on neither side
   relinked-apart : (xs ys : List (Entry T)) (next prev : Option ℕ) (i : ℕ) (o : Option (ℕ × Link T)) → times i xs ≡ 0 → times i ys ≡ 0 → relinked (last_or None xs) next (first_or None ys) prev i o ≡ o
@@ -102,9 +100,9 @@ module _ {T : Type 0} where
         let parts : times j xs + times j ys ≡ 0 = sym (times-append j xs ys) ∙ absent in
         laid-links _ _ _ _
         (λ k. slot-relinked (with_entry_at a (j ∷ rest) (link_amid xs item ys)) (last_or None xs) (Some j) (first_or None ys) (Some j) k
-        ∙ ap (relinked (last_or None xs) (Some j) (first_or None ys) (Some j) k) (slot-filled a j k (a.generation, link_amid xs item ys) within)
+        ∙ ap (relinked (last_or None xs) (Some j) (first_or None ys) (Some j) k) (slot-written a j k (Some (a.generation, link_amid xs item ys)) within)
         ∙ slots-inserted xs ys new k (slot a k) (omega arith) (omega arith) (omega (arith, times-append k xs ys, laid.distinct k)) (laid.links k))
-        (λ k. times-inserted k xs new ys absent (laid.distinct k))
+        (λ k. grind (arith, common_steps, times-append k xs ys, times-append k xs (new ∷ ys), parts, laid.distinct k))
         (sym (first_or-append None xs (new ∷ ys))) (sym (last_or-append None xs (new ∷ ys)))
 
   -- what the slots hold after the entry between two stretches is taken out
@@ -129,25 +127,14 @@ module _ {T : Type 0} where
     IsLaidOut-removed laid =
         laid-links _ _ _ _
         (λ k. slot-relinked (arena_removed greatest a e.index) (last_or None xs) (first_or None ys) (first_or None ys) (last_or None xs) k
-        ∙ ap (relinked (last_or None xs) (first_or None ys) (first_or None ys) (last_or None xs) k) (slot-emptied a e.index k (slot-within a e.index _ (slot-laid_out a first last xs e ys laid)))
+        ∙ ap (relinked (last_or None xs) (first_or None ys) (first_or None ys) (last_or None xs) k) (slot-written a e.index k None (slot-within a e.index _ (slot-laid_out a first last xs e ys laid)))
         ∙ slots-removed xs e ys k (slot a k) (laid.distinct k) (laid.links k))
         (λ k. omega (arith, times-append k xs ys, times-append k xs (e ∷ ys), laid.distinct k))
         (sym (first_or-append None xs ys)) (sym (last_or-append None xs ys))
 
   module _ (a : Arena (Link T)) (first last : Option ℕ) (es : List (Entry T)) (i : ℕ) where
     -- an entry is changed, but for its neighbours
-    IsLaidOut-changed_at : (f : ℕ × T → ℕ × T) → IsLaidOut a.slots first last es
+    pub IsLaidOut-changed_at : (f : ℕ × T → ℕ × T) → IsLaidOut a.slots first last es
         → IsLaidOut (with_slot a i (option_map (changed_link f) (slot a i))).slots first last (changed_at f es i)
     IsLaidOut-changed_at f laid =
-        laid-links _ _ _ _ (λ k. slot-mapped a i k _ ∙ rw (laid.links k) (sym (link_between-changed_at f None None es i k))) (λ k. omega (arith, times-changed_at f k es i, laid.distinct k))
-        (laid.first_is ∙ sym (first_or-changed_at f None es i)) (laid.last_is ∙ sym (last_or-changed_at f None es i))
-
-    -- an item is written
-    pub IsLaidOut-with_item_among : (item : T) → IsLaidOut a.slots first last es
-        → IsLaidOut (with_slot a i (option_map (λ e. (e.0, record e.1 { item = item })) (slot a i))).slots first last (with_item_among es i item)
-    IsLaidOut-with_item_among item laid = rw (with_item_among-changed_at es i item) (IsLaidOut-changed_at (λ p. (p.0, item)) laid)
-
-    -- an entry gets another generation
-    pub IsLaidOut-with_generation : (g : ℕ) → IsLaidOut a.slots first last es
-        → IsLaidOut (with_slot a i (option_map (λ e. (g, e.1)) (slot a i))).slots first last (with_generation es i g)
-    IsLaidOut-with_generation g laid = rw (with_generation-changed_at es i g) (IsLaidOut-changed_at (λ p. (g, p.1)) laid)
+        grind (arith, common_steps, same-changed_at f es i, laid-links, slot-mapped a i, link_between-changed_at f None None es i)

@@ -8,16 +8,20 @@ use Rattle.chain_base.specs.Layout.{walk, names, with_next, with_prev, relinked}
 use Rattle.chain_base.specs.Chain.{Entry, times, entry_at, first_or, last_or, link_at, link_between, insert_after, insert_before, without, with_item_among, with_generation}
 
 pub option_or-none : {A : Type 0} (o : Option A) → option_or o None ≡ o
-option_or-none None = refl
-option_or-none (Some x) = refl
+option_or-none o = grind (arith, common_steps)
 
 pub option_map-itself : {A : Type 0} (o : Option A) → option_map (λ x. x) o ≡ o
-option_map-itself None = refl
-option_map-itself (Some x) = refl
+option_map-itself o = grind (arith, common_steps)
 
 pub names_tells : (o : Option ℕ) (i : ℕ) → ((names o i ≡ true) × (o ≡ Some i)) ⊎ ((names o i ≡ false) × (o ≢ Some i))
-names_tells None i = inr (refl, λ h. cc)
-names_tells (Some j) i = grind (arith, common_steps, i)
+names_tells o i = grind (arith, common_steps)
+
+-- lists of the same indexes
+pub record SameIndexes {T U : Type 0} (es : List (Entry T)) (fs : List (Entry U)) : Type 0 where
+  pub first : (d : Option ℕ) → first_or d es ≡ first_or d fs
+  pub last : (d : Option ℕ) → last_or d es ≡ last_or d fs
+  pub count : (i : ℕ) → times i es ≡ times i fs
+  pub long : length es ≡ length fs
 
 -- an index is itself
 pub same_index : (i : ℕ) → (i == i) ≡ true
@@ -37,17 +41,16 @@ module _ {T : Type 0} where
   times-append i [] ys = omega arith
   times-append i (x ∷ xs) ys = omega (arith, times-append i xs ys)
 
-  -- an index that was in no entry keeps the indexes pairwise different
-  pub times-inserted : (k : ℕ) (xs : List (Entry T)) (new : Entry T) (ys : List (Entry T)) → times new.index (xs ++ ys) ≡ 0 → times k (xs ++ ys) ≤ 1 → times k (xs ++ new ∷ ys) ≤ 1
-  times-inserted k xs new ys absent once = grind (arith, nat_tests, times-append k xs ys, times-append k xs (new ∷ ys), times-append new.index xs ys)
-
   pub first_or-append : (after : Option ℕ) (xs ys : List (Entry T)) → first_or after (xs ++ ys) ≡ first_or (first_or after ys) xs
-  first_or-append after [] ys = refl
-  first_or-append after (x ∷ xs) ys = refl
+  first_or-append after xs ys = grind (arith, common_steps)
 
   pub last_or-append : (before : Option ℕ) (xs ys : List (Entry T)) → last_or before (xs ++ ys) ≡ last_or (last_or before xs) ys
   last_or-append before [] ys = refl
   last_or-append before (x ∷ xs) ys = last_or-append (Some x.index) xs ys
+
+  pub last_or-there : (i : ℕ) (es : List (Entry T)) → is_some (last_or (Some i) es) ≡ true
+  last_or-there i [] = refl
+  last_or-there i (e ∷ es) = last_or-there e.index es
 
   -- a stretch of a chain in two parts
   pub link_between-append : (before after : Option ℕ) (xs ys : List (Entry T)) (i : ℕ)
@@ -57,14 +60,12 @@ module _ {T : Type 0} where
 
   -- the last index stands in the list
   pub times-last : (es : List (Entry T)) (i : ℕ) → last_or None es ≡ Some i → 1 ≤ times i es
-  times-last [] i last = absurd (cc)
-  times-last (e ∷ []) i last = grind (arith, common_steps)
   times-last (e ∷ f ∷ es) i last = omega (arith, times-last (f ∷ es) i last)
+  times-last es i last = grind (arith, common_steps)
 
   -- the first index stands in the list
   pub times-first : (es : List (Entry T)) (i : ℕ) → first_or None es ≡ Some i → 1 ≤ times i es
-  times-first [] i first = absurd (cc)
-  times-first (e ∷ es) i first = grind (arith, common_steps)
+  times-first es i first = grind (arith, common_steps)
 
   -- an index that stands nowhere in a stretch names nothing there
   pub link_between-absent : (before after : Option ℕ) (es : List (Entry T)) (i : ℕ) → times i es ≡ 0 → link_between before after es i ≡ None
@@ -88,31 +89,20 @@ module _ {T : Type 0} where
   pub linked-occurs : (es : List (Entry T)) (i : ℕ) (e : ℕ × Link T) → link_at es i ≡ Some e → 1 ≤ times i es
   linked-occurs es i e is = grind (arith, common_steps, i, link_between-absent)
 
-  -- an index that is not the last sees no change at the far end
-  pub link_between-other_after : (before after other : Option ℕ) (es : List (Entry T)) (i : ℕ) → last_or None es ≢ Some i → link_between before other es i ≡ link_between before after es i
-  link_between-other_after before after other [] i unlast = refl
-  link_between-other_after before after other (e ∷ []) i unlast = grind (arith, common_steps)
-  link_between-other_after before after other (e ∷ f ∷ es) i unlast = grind (arith, common_steps, link_between-other_after (Some e.index) after other (f ∷ es) i unlast)
+  -- another far end is seen by the last index alone
+  pub link_between-after : (before after other : Option ℕ) (es : List (Entry T)) (i : ℕ) → times i es ≤ 1
+      → link_between before other es i ≡ (let o = link_between before after es i in if names (last_or None es) i then option_map (with_next other) o else o)
+  link_between-after before after other [] i once = refl
+  link_between-after before after other (e ∷ []) i once = grind (arith, common_steps)
+  link_between-after before after other (e ∷ f ∷ es) i once =
+      grind (arith, common_steps, link_between-after (Some e.index) after other (f ∷ es) i, times-last (f ∷ es) i, names_tells (last_or None (f ∷ es)) i)
 
-  -- the last index sees the new far end
-  pub link_between-last : (before after other : Option ℕ) (es : List (Entry T)) (i : ℕ) → times i es ≤ 1 → last_or None es ≡ Some i
-      → link_between before other es i ≡ option_map (with_next other) (link_between before after es i)
-  link_between-last before after other [] i once last = refl
-  link_between-last before after other (e ∷ []) i once last = grind (arith, common_steps)
-  link_between-last before after other (e ∷ f ∷ es) i once last = grind (arith, common_steps, link_between-last (Some e.index) after other (f ∷ es) i, times-last (f ∷ es) i last)
+  -- another near end is seen by the first index alone
+  pub link_between-before : (before after other : Option ℕ) (es : List (Entry T)) (i : ℕ)
+      → link_between other after es i ≡ (let o = link_between before after es i in if names (first_or None es) i then option_map (with_prev other) o else o)
+  link_between-before before after other es i = grind (arith, common_steps)
 
-  -- an index that is not the first sees no change at the near end
-  pub link_between-other_before : (before other after : Option ℕ) (es : List (Entry T)) (i : ℕ) → first_or None es ≢ Some i → link_between other after es i ≡ link_between before after es i
-  link_between-other_before before other after [] i unfirst = refl
-  link_between-other_before before other after (e ∷ es) i unfirst = grind (arith, common_steps)
-
-  -- the first index sees the new near end
-  pub link_between-first : (before other after : Option ℕ) (es : List (Entry T)) (i : ℕ) → first_or None es ≡ Some i
-      → link_between other after es i ≡ option_map (with_prev other) (link_between before after es i)
-  link_between-first before other after [] i first = refl
-  link_between-first before other after (e ∷ es) i first = grind (arith, common_steps)
-
-  -- where an index stands in a list, for the first time
+  -- where an index stands in a list, for the first time, and what becomes of the list by a change there
   pub record Stands (es : List (Entry T)) (i : ℕ) : Type 0 where
     pub front : List (Entry T)
     pub entry : Entry T
@@ -120,50 +110,44 @@ module _ {T : Type 0} where
     pub split : es ≡ front ++ entry ∷ back
     pub here : entry.index ≡ i
     pub unmet : times i front ≡ 0
-
-  -- an entry stands after one more that has another index
-  Stands-behind : (e : Entry T) (es : List (Entry T)) (i : ℕ) → e.index ≢ i → Stands es i → Stands (e ∷ es) i
-  Stands-behind e es i other s =
-      record {
-        front = e ∷ s.front;
-        entry = s.entry;
-        back = s.back;
-        split = ap (λ xs. e ∷ xs) s.split;
-        here = s.here;
-        unmet = omega (arith, times-there i e s.front other, s.unmet);
-      }
+    pub left : without i es ≡ front ++ back
+    pub after : (new : Entry T) → insert_after i new es ≡ front ++ entry ∷ new ∷ back
+    pub before : (new : Entry T) → insert_before i new es ≡ front ++ new ∷ entry ∷ back
 
   -- an index that occurs stands somewhere
   pub Stands-occurs : (es : List (Entry T)) (i : ℕ) → 1 ≤ times i es → Stands es i
   Stands-occurs [] i occurs = absurd (omega arith)
   Stands-occurs (e ∷ es) i occurs =
       elim (eqb_tells e.index i) [
-        | inl h ↦ record { front = []; entry = e; back = es; split = refl; here = h.1; unmet = refl }
-        | inr h ↦ Stands-behind e es i h.1 (Stands-occurs es i (omega (arith, times-there i e es h.1)))
+        | inl h ↦ record {
+            front = [];
+            entry = e;
+            back = es;
+            split = refl;
+            here = h.1;
+            unmet = refl;
+            left = rw h.0 refl;
+            after = λ new. rw h.0 refl;
+            before = λ new. rw h.0 refl;
+          }
+        | inr h ↦
+            let s = Stands-occurs es i (omega (arith, times-there i e es h.1)) in
+            record {
+              front = e ∷ s.front;
+              entry = s.entry;
+              back = s.back;
+              split = ap (λ xs. e ∷ xs) s.split;
+              here = s.here;
+              unmet = omega (arith, times-there i e s.front h.1, s.unmet);
+              left = simp h.0 (ap (λ xs. e ∷ xs) s.left);
+              after = λ new. simp h.0 (ap (λ xs. e ∷ xs) (s.after new));
+              before = λ new. simp h.0 (ap (λ xs. e ∷ xs) (s.before new));
+            }
       ]
-
-  -- what stands at the place of an index
-  pub entry_at-split : (front : List (Entry T)) (e : Entry T) (back : List (Entry T)) (i : ℕ) → e.index ≡ i → times i front ≡ 0 → entry_at (front ++ e ∷ back) i ≡ Some (e.generation, e.item)
-  entry_at-split [] e back i here unmet = grind (arith, common_steps)
-  entry_at-split (f ∷ front) e back i here unmet = grind (arith, common_steps, entry_at-split front e back i here)
 
   pub entry_at-absent : (es : List (Entry T)) (i : ℕ) → times i es ≡ 0 → entry_at es i ≡ None
   entry_at-absent [] i absent = refl
   entry_at-absent (e ∷ es) i absent = grind (arith, common_steps, entry_at-absent es i)
-
-  pub insert_after-split : (front : List (Entry T)) (e new : Entry T) (back : List (Entry T)) (i : ℕ) → e.index ≡ i → times i front ≡ 0
-      → insert_after i new (front ++ e ∷ back) ≡ front ++ e ∷ new ∷ back
-  insert_after-split [] e new back i here unmet = grind (arith, common_steps)
-  insert_after-split (f ∷ front) e new back i here unmet = grind (arith, common_steps, insert_after-split front e new back i here)
-
-  pub insert_before-split : (front : List (Entry T)) (e new : Entry T) (back : List (Entry T)) (i : ℕ) → e.index ≡ i → times i front ≡ 0
-      → insert_before i new (front ++ e ∷ back) ≡ front ++ new ∷ e ∷ back
-  insert_before-split [] e new back i here unmet = grind (arith, common_steps)
-  insert_before-split (f ∷ front) e new back i here unmet = grind (arith, common_steps, insert_before-split front e new back i here)
-
-  pub without-split : (front : List (Entry T)) (e : Entry T) (back : List (Entry T)) (i : ℕ) → e.index ≡ i → times i front ≡ 0 → without i (front ++ e ∷ back) ≡ front ++ back
-  without-split [] e back i here unmet = grind (arith, common_steps)
-  without-split (f ∷ front) e back i here unmet = grind (arith, common_steps, without-split front e back i here)
 
   -- two stretches of a chain, of which the first ends at `after` and the second begins at `before`
   abbrev pub seam : List (Entry T) → Option ℕ → Option ℕ → List (Entry T) → ℕ → Option (ℕ × Link T)
@@ -173,23 +157,9 @@ module _ {T : Type 0} where
   pub seam-relinked : (xs ys : List (Entry T)) (after before next prev : Option ℕ) (i : ℕ) → times i xs + times i ys ≤ 1
       → seam xs next prev ys i ≡ relinked (last_or None xs) next (first_or None ys) prev i (seam xs after before ys i)
   seam-relinked xs ys after before next prev i once =
-      elim (names_tells (last_or None xs) i) [
-        | inl l ↦ elim (names_tells (first_or None ys) i) [
-          | inl r ↦ absurd (omega (arith, times-last xs i l.1, times-first ys i r.1))
-          | inr r ↦
-              let gone : times i ys ≡ 0 = omega (arith, times-last xs i l.1) in
-              rw (l.0, r.0, link_between-absent prev None ys i gone, link_between-absent before None ys i gone, option_or-none (link_between None next xs i), option_or-none (link_between None after xs i))
-              (link_between-last None after next xs i (omega arith) l.1)
-        ]
-        | inr l ↦ elim (names_tells (first_or None ys) i) [
-          | inl r ↦
-              let gone : times i xs ≡ 0 = omega (arith, times-first ys i r.1) in
-              rw (l.0, r.0, link_between-absent None next xs i gone, link_between-absent None after xs i gone)
-              (link_between-first before prev None ys i r.1)
-          | inr r ↦
-              rw (l.0, r.0, link_between-other_after None after next xs i l.1, link_between-other_before before prev None ys i r.1) refl
-        ]
-      ]
+      grind (arith, common_steps, link_between-after None after next xs i, link_between-before before None prev ys i, link_between-absent None after xs i,
+      link_between-absent None next xs i, link_between-absent before None ys i, link_between-absent prev None ys i, times-last xs i, times-first ys i,
+      names_tells (last_or None xs) i, names_tells (first_or None ys) i)
 
   -- the slots hold these entries, linked in this order from `before` on
   abbrev pub IsRow : (ℕ → Option (ℕ × Link T)) → Option ℕ → List (Entry T) → Type 0
@@ -201,8 +171,7 @@ module _ {T : Type 0} where
   pub IsRow-links : (at : ℕ → Option (ℕ × Link T)) (before : Option ℕ) (es : List (Entry T)) → ((i : ℕ) → times i es ≤ 1)
       → ((i : ℕ) → 1 ≤ times i es → at i ≡ link_between before None es i) → IsRow at before es
   IsRow-links at before [] once holds = tt
-  IsRow-links at before (e ∷ es) once holds =
-      grind (arith, common_steps, IsRow-links at (Some e.index) es, other_index, same_index, times-here)
+  IsRow-links at before (e ∷ es) once holds = grind (arith, common_steps, IsRow-links at (Some e.index) es, other_index, same_index, times-here)
 
   pub walk-row : (at : ℕ → Option (ℕ × Link T)) (before : Option ℕ) (es : List (Entry T)) (n : ℕ) → length es ≤ n → IsRow at before es → walk at n (first_or None es) ≡ es
   walk-row at before [] zero fits row = refl
@@ -225,21 +194,10 @@ module _ {T : Type 0} where
   with_generation-changed_at (e ∷ es) i g = grind (arith, common_steps, with_generation-changed_at es i g)
 
   module _ (f : ℕ × T → ℕ × T) where
-    pub first_or-changed_at : (after : Option ℕ) (es : List (Entry T)) (i : ℕ) → first_or after (changed_at f es i) ≡ first_or after es
-    first_or-changed_at after [] i = refl
-    first_or-changed_at after (e ∷ es) i = grind (arith, common_steps)
-
-    pub last_or-changed_at : (before : Option ℕ) (es : List (Entry T)) (i : ℕ) → last_or before (changed_at f es i) ≡ last_or before es
-    last_or-changed_at before [] i = refl
-    last_or-changed_at before (e ∷ es) i = grind (arith, common_steps, last_or-changed_at (Some e.index) es i)
-
-    pub times-changed_at : (k : ℕ) (es : List (Entry T)) (i : ℕ) → times k (changed_at f es i) ≡ times k es
-    times-changed_at k [] i = refl
-    times-changed_at k (e ∷ es) i = grind (arith, common_steps, times-changed_at k es i)
-
-    pub length-changed_at : (es : List (Entry T)) (i : ℕ) → length (changed_at f es i) ≡ length es
-    length-changed_at [] i = refl
-    length-changed_at (e ∷ es) i = grind (arith, common_steps, length-changed_at es i)
+    -- no index is changed
+    pub same-changed_at : (es : List (Entry T)) (i : ℕ) → SameIndexes (changed_at f es i) es
+    same-changed_at [] i = grind (arith, common_steps)
+    same-changed_at (e ∷ es) i = grind (arith, common_steps, same-changed_at es i)
 
     -- every other index finds what it found
     pub entry_at-changed_at_other : (es : List (Entry T)) (i j : ℕ) → j ≢ i → entry_at (changed_at f es i) j ≡ entry_at es j
@@ -260,4 +218,4 @@ module _ {T : Type 0} where
         → link_between before after (changed_at f es i) k
         ≡ (if i == k then option_map changed_link (link_between before after es k) else link_between before after es k)
     link_between-changed_at before after [] i k = grind (arith, common_steps)
-    link_between-changed_at before after (e ∷ es) i k = grind (arith, common_steps, first_or-changed_at after es i, link_between-changed_at (Some e.index) after es i k)
+    link_between-changed_at before after (e ∷ es) i k = grind (arith, common_steps, (same-changed_at es i).first after, link_between-changed_at (Some e.index) after es i k)

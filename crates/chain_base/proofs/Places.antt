@@ -1,50 +1,30 @@
 -- Where a new entry stands: the two stretches of the list that an insertion parts.
-use Rattle.std.proofs.Common.{◌≡◌, ℕ, ◌≤◌, List, [], ◌∷◌, ◌++◌, Some, None, sym, ap, ◌∙◌, arith, inl, inr, append_assoc}
+use Rattle.std.proofs.Common.{◌≡◌, ℕ, List, [], ◌∷◌, ◌++◌, Some, None, sym, ap, ◌∙◌, arith, append_assoc, option_map}
 use Rattle.std.proofs.lemmas.Grind.{common_steps}
-use Rattle.std.proofs.lemmas.Bool.Decides.{eqb_tells}
-use Rattle.std.specs.Option.{option_map}
 use Rattle.chain_base.specs.Link.{Link}
-use Rattle.chain_base.specs.Chain.{Entry, times, link_at, first_or, last_or, insert_after, insert_before}
+use Rattle.chain_base.specs.Chain.{Entry, link_at, first_or, last_or, insert_after, insert_before}
 use Rattle.chain_base.specs.Insert.{IsPlace}
-use Rattle.chain_base.proofs.Lists.{link_between-append, link_between-absent, last_or-append, same_index, Stands, Stands-occurs, insert_after-split, insert_before-split}
+use Rattle.chain_base.proofs.Lists.{link_between-append, link_between-absent, last_or-append, same_index, Stands, Stands-occurs}
 
 module _ {T : Type 0} where
-  -- an index that has a link occurs in the list
-  occurs-linked : (es : List (Entry T)) (i : ℕ) (l : Link T) → option_map (λ e. e.1) (link_at es i) ≡ Some l → 1 ≤ times i es
-  occurs-linked es i l linked = grind (arith, common_steps, eqb_tells, link_between-absent)
-
-  -- the link of an entry names the neighbours
-  link_at-split : (front : List (Entry T)) (e : Entry T) (back : List (Entry T)) (l : Link T) → times e.index front ≡ 0
-      → option_map (λ e. e.1) (link_at (front ++ e ∷ back) e.index) ≡ Some l → (l.prev ≡ last_or None front) × (l.next ≡ first_or None back)
-  link_at-split front e back l unmet linked = grind (arith, common_steps, link_between-absent, link_between-append, same_index)
-
   -- the neighbours of the entry at an index, where the list is split there
   link_at-ends : (es : List (Entry T)) (i : ℕ) (l : Link T) → option_map (λ e. e.1) (link_at es i) ≡ Some l → (s : Stands es i)
       → (l.prev ≡ last_or None s.front) × (l.next ≡ first_or None s.back)
-  link_at-ends es i l linked s = grind (arith, common_steps, s.here, s.unmet, link_at-split s.front s.entry s.back l, i, s.split, linked)
+  link_at-ends es i l linked s = grind (arith, common_steps, s.here, s.unmet, i, s.split, linked, link_between-absent, link_between-append, same_index)
 
   -- directly after an entry
   pub IsPlace-after : (es : List (Entry T)) (i : ℕ) (l : Link T) → option_map (λ e. e.1) (link_at es i) ≡ Some l → IsPlace es (λ new. insert_after i new es) (Some i) l.next
   IsPlace-after es i l linked =
-      let s = Stands-occurs es i (occurs-linked es i l linked) in
+      let s = Stands-occurs es i (grind (arith, common_steps, link_between-absent None None es i)) in
       record {
         front = s.front ++ s.entry ∷ [];
         back = s.back;
         split = s.split ∙ sym (append_assoc s.front (s.entry ∷ []) s.back);
         prev_is = ap Some (sym s.here) ∙ sym (last_or-append None s.front (s.entry ∷ []));
         next_is = (link_at-ends es i l linked s).1;
-        puts = λ new. ap (insert_after i new) s.split ∙ insert_after-split s.front s.entry new s.back i s.here s.unmet ∙ sym (append_assoc s.front (s.entry ∷ []) (new ∷ s.back));
+        puts = λ new. s.after new ∙ sym (append_assoc s.front (s.entry ∷ []) (new ∷ s.back));
       }
 
   -- directly before an entry
   pub IsPlace-before : (es : List (Entry T)) (i : ℕ) (l : Link T) → option_map (λ e. e.1) (link_at es i) ≡ Some l → IsPlace es (λ new. insert_before i new es) l.prev (Some i)
-  IsPlace-before es i l linked =
-      let s = Stands-occurs es i (occurs-linked es i l linked) in
-      record {
-        front = s.front;
-        back = s.entry ∷ s.back;
-        split = s.split;
-        prev_is = (link_at-ends es i l linked s).0;
-        next_is = ap Some (sym s.here);
-        puts = λ new. ap (insert_before i new) s.split ∙ insert_before-split s.front s.entry new s.back i s.here s.unmet;
-      }
+  IsPlace-before es i l linked = grind (arith, common_steps, Stands-occurs es i, link_between-absent None None es i, link_at-ends es i l linked)

@@ -1,11 +1,9 @@
 -- The places of indexes among those with an entry, counted by rising index.
-use Rattle.std.proofs.Common.{◌≡◌, ℕ, zero, suc, ◌+◌, ◌-◌, ◌<◌, ◌≤◌, List, [], ◌∷◌, ◌++◌, length, map, take, replicate, slice_get, Option, Some, None, is_some, count_by, cond, get_or, add-zero, refl, sym, ap, ◌∙◌, arith, add-one, zero-add, inl, inr}
+use Rattle.std.proofs.Common.{◌≡◌, ℕ, zero, suc, ◌+◌, ◌-◌, ◌<◌, ◌≤◌, List, [], ◌∷◌, ◌++◌, length, map, take, replicate, slice_get, Option, Some, None, is_some, count_by, cond, get_or, add-zero, refl, sym, ap, ◌∙◌, arith, add-one, inl, inr, option_map}
 use Rattle.std.proofs.lemmas.Grind.{common_steps}
 use Rattle.std.proofs.lemmas.Bool.Decides.{nat_tests, leb_tells}
-use Rattle.std.proofs.lemmas.Option.{none-some}
 use Rattle.std.proofs.lemmas.List.{take_all, get_or_past}
 use Rattle.std.proofs.lemmas.List.Sums.{sum_by-cons, sum_by_more}
-use Rattle.std.specs.Option.{option_map}
 use Rattle.arena_base.specs.Arena.{resized}
 use Rattle.arena_base.specs.Walk.{entries_from}
 use Rattle.chain_base.specs.Chain.{Entry, IsDistinct, times}
@@ -55,10 +53,7 @@ module _ {T : Type 0} where
 
 -- one slot more is counted
 count-next : {X : Type 0} (slots : List (Option X)) (i : ℕ) → count_by is_some (take (i + 1) slots) ≡ count_by is_some (take i slots) + cond (is_some (get_or slots i None)) 1 0
-count-next slots i = elim (leb_tells (suc i) (length slots)) [
-  | inl h ↦ sum_by_more (λ o. cond (is_some o) 1 0) slots i None (omega (arith, h.1))
-  | inr h ↦ rw (take_all (i + 1) slots (omega (arith, h.1)), take_all i slots (omega (arith, h.1)), get_or_past slots i None (omega (arith, h.1))) (omega arith)
-]
+count-next slots i = grind (arith, common_steps, sum_by_more, take_all, get_or_past)
 
 module _ {X T : Type 0} where
   -- the slots count as the list does
@@ -70,8 +65,7 @@ module _ {X T : Type 0} where
 
   pub counted-held : (slots : List (Option X)) (es : List (Entry T)) → HoldIndexes slots es → count_by is_some slots ≡ length es
   counted-held slots es held =
-      ap (count_by is_some) (sym (take_all (length slots) slots (omega arith))) ∙ place-slots slots es held (length slots)
-      ∙ lesser-all es (length slots) (λ i there. held-within slots es i held there)
+      grind (arith, common_steps, take_all (length slots) slots, place-slots slots es held (length slots), lesser-all es (length slots), held-within slots es)
 
 -- the entries of slots by rising index, and their places
 module _ {X : Type 0} where
@@ -82,20 +76,17 @@ module _ {X : Type 0} where
 
   pub entry-placed : (from : ℕ) (slots : List (Option (ℕ × X))) (x : ℕ) (e : ℕ × X) → get_or slots x None ≡ Some e
       → slice_get (entries_from from slots) (count_by is_some (take x slots)) ≡ Some (from + x, e.0, e.1)
-  entry-placed from [] x e is = absurd (none-some e is)
-  entry-placed from (None ∷ slots) zero e is = absurd (none-some e is)
-  entry-placed from (Some f ∷ slots) zero e is = grind (arith, common_steps)
   entry-placed from (None ∷ slots) (suc x) e is = grind (arith, common_steps, entry-placed (from + 1) slots x e is)
   entry-placed from (Some f ∷ slots) (suc x) e is = grind (arith, common_steps, entry-placed (from + 1) slots x e is)
+  entry-placed from slots x e is = grind (arith, common_steps)
 
   -- an entry of generation g
   abbrev pub with_era : ℕ → X → ℕ × X
   with_era g x = (g, x)
 
   filled-at : (g : ℕ) (xs : List X) (n k : ℕ) → get_or (map (λ x. Some (with_era g x)) xs ++ replicate n None) k None ≡ option_map (with_era g) (slice_get xs k)
-  filled-at g [] n k = get_or-vacant n k
-  filled-at g (x ∷ xs) n zero = refl
   filled-at g (x ∷ xs) n (suc k) = filled-at g xs n k
+  filled-at g xs n k = grind (arith, common_steps, get_or-vacant)
 
   -- the slots of a compressed arena
   abbrev pub compact : ℕ → ℕ → List X → List (Option (ℕ × X))
@@ -105,26 +96,21 @@ module _ {X : Type 0} where
   compact-is n g xs fits = grind (arith, common_steps)
 
   pub compressed-length : (n g : ℕ) (xs : List X) → length xs < n → length (compact n g xs) ≡ n
-  compressed-length zero g xs fits = absurd (omega arith)
-  compressed-length (suc n) g xs fits = grind (arith, common_steps)
+  compressed-length n g xs fits = grind (arith, common_steps)
 
   pub compressed-at : (n g : ℕ) (xs : List X) (k : ℕ) → length xs < n → get_or (compact n g xs) (suc k) None ≡ option_map (with_era g) (slice_get xs k)
-  compressed-at zero g xs k fits = absurd (omega arith)
-  compressed-at (suc n) g xs k fits = rw (compact-is n g xs fits) (filled-at g xs (n - length xs) k)
+  compressed-at n g xs k fits = grind (arith, common_steps, compact-is, filled-at)
 
   pub compressed-first : (n : ℕ) (xs : List (Option (ℕ × X))) → get_or (resized n (None ∷ xs)) 0 None ≡ None
-  compressed-first zero xs = get_or-vacant (0 - suc (length xs)) 0
-  compressed-first (suc n) xs = refl
+  compressed-first n xs = grind (arith, common_steps, get_or-vacant)
 
   -- its entries stand one after the other
   filled-count : (g : ℕ) (xs : List X) (n k : ℕ) → k ≤ length xs → count_by is_some (take k (map (λ x. Some (with_era g x)) xs ++ replicate n None)) ≡ k
-  filled-count g xs n zero within = refl
-  filled-count g [] n (suc k) within = absurd (omega arith)
   filled-count g (x ∷ xs) n (suc k) within = grind (arith, common_steps, filled-count g xs n k)
+  filled-count g xs n k within = grind (arith, common_steps)
 
   pub compressed-place : (n g : ℕ) (xs : List X) (k : ℕ) → length xs < n → k ≤ length xs → count_by is_some (take (k + 1) (compact n g xs)) ≡ k
-  compressed-place zero g xs k fits within = absurd (omega arith)
-  compressed-place (suc n) g xs k fits within = grind (arith, common_steps, with_era g, compact-is n g xs fits, fits, add-one, sum_by-cons, zero-add, filled-count g xs, within)
+  compressed-place n g xs k fits within = grind (arith, common_steps, compact-is, sum_by-cons, filled-count)
 
 -- the entries by rising index, from slots and from the list: `at` tells what the list has at an index, `among` lists that
 module _ {X Y : Type 0} (see : X → Y) (at : ℕ → Option (ℕ × Y)) (among : ℕ → ℕ → List (ℕ × ℕ × Y)) (none : (i : ℕ) → among i 0 ≡ [])

@@ -1,17 +1,15 @@
 -- The links of a list: neighbours name each other; and of a list whose entries get other indexes.
-use Rattle.std.proofs.Common.{◌≡◌, ◌≢◌, ℕ, ◌+◌, ◌≤◌, List, [], ◌∷◌, ◌++◌, length, map, Option, Some, None, is_some, get_or, refl, sym, ap, ◌∙◌, subst, arith, inl, inr, true, append_assoc}
+use Rattle.std.proofs.Common.{◌≡◌, ◌≢◌, ℕ, ◌+◌, ◌≤◌, List, [], ◌∷◌, ◌++◌, map, Option, Some, None, is_some, get_or, refl, sym, ap, ◌∙◌, subst, arith, true, append_assoc, option_map, option_and_then, ◌↔◌}
 use Rattle.std.proofs.lemmas.Grind.{common_steps}
-use Rattle.std.proofs.lemmas.Bool.Decides.{eqb_tells}
 use Rattle.std.proofs.lemmas.Option.{none-some, same_Some}
-use Rattle.std.specs.Option.{option_map, option_and_then}
 use Rattle.chain_base.specs.Link.{Link}
 use Rattle.chain_base.specs.Chain.{Entry, IsDistinct, times, first_or, last_or, link_between, link_at}
 use Rattle.chain_base.specs.Layout.{IsLaidOut}
 use Rattle.chain_base.specs.Naming.{neighbour_on}
 use Rattle.chain_base.specs.declared.chain.compress.Side.{Side}
 use Rattle.chain_base.specs.declared.chain.compress.Side.TheVariants.{Before, After}
-use Rattle.chain_base.proofs.Lists.{same_index, times-append, times-here, times-first, times-last, last_or-append, link_between-append, link_between-absent, Stands-occurs}
-use Rattle.chain_base.proofs.LaidOut.{laid-links}
+use Rattle.chain_base.proofs.Lists.{same_index, times-append, times-here, times-first, times-last, last_or-append, link_between-append, link_between-absent, Stands-occurs, last_or-there}
+use Rattle.chain_base.proofs.LaidOut.{laid-held}
 
 -- the other side
 abbrev pub opposite : Side → Side
@@ -71,8 +69,7 @@ module _ {T : Type 0} where
   -- a neighbour is another entry
   side-occurs : (side : Side) (front : List (Entry T)) (e : Entry T) (back : List (Entry T)) (k : ℕ)
       → neighbour_on side (record { item = e.item; prev = last_or None front; next = first_or None back }) ≡ Some k → 1 ≤ times k front + times k back
-  side-occurs Before front e back k is = omega (arith, times-last front k is)
-  side-occurs After front e back k is = omega (arith, times-first back k is)
+  side-occurs side front e back k is = grind (arith, common_steps, times-last, times-first)
 
   pub beside-other : (side : Side) (es : List (Entry T)) → IsDistinct es → (i k : ℕ) → beside side es i ≡ Some k → (i ≢ k) × (1 ≤ times k es)
   beside-other side es distinct i k is =
@@ -87,38 +84,20 @@ module _ {T : Type 0} where
   before-some b [] i occurs none = absurd (omega arith)
   before-some b (e ∷ es) i occurs none = grind (arith, common_steps, before-some e.index es i)
 
-  after-none : (before : Option ℕ) (es : List (Entry T)) (i : ℕ) → 1 ≤ times i es → beside_in After before es i ≡ None → last_or None es ≡ Some i
-  after-none before [] i occurs none = absurd (omega arith)
-  after-none before (e ∷ []) i occurs none = grind (arith, common_steps)
-  after-none before (e ∷ f ∷ es) i occurs none = grind (arith, common_steps, after-none (Some e.index) (f ∷ es) i)
+  after-end : (before : Option ℕ) (es : List (Entry T)) (i : ℕ) → times i es ≡ 1 → (beside_in After before es i ≡ None) ↔ (last_or None es ≡ Some i)
+  after-end before (e ∷ f ∷ es) i once = grind (arith, common_steps, after-end (Some e.index) (f ∷ es) i, times-last (f ∷ es) i)
+  after-end before es i once = grind (arith, common_steps)
 
-  pub end-unnamed : (side : Side) (es : List (Entry T)) (i : ℕ) → 1 ≤ times i es → beside side es i ≡ None → end_on side es ≡ Some i
-  end-unnamed Before [] i occurs none = absurd (omega arith)
-  end-unnamed Before (e ∷ es) i occurs none = grind (arith, common_steps, before-some e.index es i)
-  end-unnamed After es i occurs none = after-none None es i occurs none
-
-  last-none : (before : Option ℕ) (es : List (Entry T)) (i : ℕ) → times i es ≤ 1 → last_or None es ≡ Some i → beside_in After before es i ≡ None
-  last-none before [] i once last = refl
-  last-none before (e ∷ []) i once last = grind (arith, common_steps)
-  last-none before (e ∷ f ∷ es) i once last = grind (arith, common_steps, last-none (Some e.index) (f ∷ es) i, times-last (f ∷ es) i last)
-
-  pub unnamed-end : (side : Side) (es : List (Entry T)) (i : ℕ) → times i es ≤ 1 → end_on side es ≡ Some i → beside side es i ≡ None
-  unnamed-end Before [] i once first = refl
-  unnamed-end Before (e ∷ es) i once first = grind (arith, common_steps)
-  unnamed-end After es i once last = last-none None es i once last
+  pub end-is : (side : Side) (es : List (Entry T)) (i : ℕ) → times i es ≡ 1 → (beside side es i ≡ None) ↔ (end_on side es ≡ Some i)
+  end-is side es i once = grind (arith, common_steps, before-some, after-end None es i)
 
   pub end-occurs : (side : Side) (es : List (Entry T)) (i : ℕ) → end_on side es ≡ Some i → 1 ≤ times i es
-  end-occurs Before es i is = times-first es i is
-  end-occurs After es i is = times-last es i is
-
-  last-some : (b : ℕ) (es : List (Entry T)) → last_or (Some b) es ≡ None → ⊥
-  last-some b [] none = cc
-  last-some b (e ∷ es) none = last-some e.index es none
+  end-occurs side es i is = grind (arith, common_steps, times-first, times-last)
 
   pub end-none : (side : Side) (es : List (Entry T)) (i : ℕ) → end_on side es ≡ None → times i es ≡ 0
   end-none side [] i none = refl
   end-none Before (e ∷ es) i none = absurd cc
-  end-none After (e ∷ es) i none = absurd (last-some e.index es none)
+  end-none After (e ∷ es) i none = absurd (let some = last_or-there e.index es in cc)
 
   -- Each entry gets another index, generation and item.
   module _ (renumber : ℕ → ℕ) (alter : ℕ → ℕ × T → ℕ × T) where
@@ -130,8 +109,7 @@ module _ {T : Type 0} where
     followed x e = let p = alter x (e.0, e.1.item) in (p.0, record { item = p.1; prev = option_map renumber e.1.prev; next = option_map renumber e.1.next })
 
     first_or-renumbered : (xs : List (Entry T)) → first_or None (map altered xs) ≡ option_map renumber (first_or None xs)
-    first_or-renumbered [] = refl
-    first_or-renumbered (e ∷ es) = refl
+    first_or-renumbered xs = grind (arith, common_steps)
 
     last_or-renumbered : (b : Option ℕ) (xs : List (Entry T)) → last_or (option_map renumber b) (map altered xs) ≡ option_map renumber (last_or b xs)
     last_or-renumbered b [] = refl
@@ -172,15 +150,7 @@ module _ {T : Type 0} where
           → ((k : ℕ) → is_some (get_or slots k None) ≡ true → (x : ℕ) × (renumber x ≡ k) × (1 ≤ times x es))
           → first ≡ option_map renumber (first_or None es) → last ≡ option_map renumber (last_or None es) → IsLaidOut slots first last (map altered es)
       IsLaidOut-renumbered slots first last held back first_is last_is =
-          laid-links slots first last (map altered es)
-          (λ k. elim (eqb_tells (times k (map altered es)) 0) [
-            | inl h ↦ vacant k (get_or slots k None) refl h.1
-            | inr h ↦
-                let s = times-source es k (omega (arith, h.1)) in
-                subst (λ i. get_or slots i None ≡ link_at (map altered es) i) s.1 (held s.0 s.2 ∙ sym (link_at-renumbered s.0 s.2))
-          ])
+          laid-held slots first last (map altered es)
+          (λ k there. let s = times-source es k there in subst (λ i. get_or slots i None ≡ link_at (map altered es) i) s.1 (held s.0 s.2 ∙ sym (link_at-renumbered s.0 s.2)))
+          (λ k some. let s = back k some in subst (λ i. 1 ≤ times i (map altered es)) s.1 (omega (arith, times-changed s.0 s.2, s.2)))
           distinct-renumbered (first_is ∙ sym (end-renumbered Before es)) (last_is ∙ sym (end-renumbered After es))
-        where
-          vacant : (k : ℕ) (o : Option (ℕ × Link T)) → get_or slots k None ≡ o → times k (map altered es) ≡ 0 → get_or slots k None ≡ link_at (map altered es) k
-          vacant k None is absent = is ∙ sym (link_between-absent None None (map altered es) k absent)
-          vacant k (Some e) is absent = let s = back k (ap is_some is) in absurd (let there = s.2 in let gone = rw (← s.1) at absent in omega (arith, times-changed s.0 s.2))

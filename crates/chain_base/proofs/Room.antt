@@ -1,24 +1,18 @@
 -- Room for one more entry: where a chain has it, and what a growth makes of it.
-use Rattle.std.proofs.Common.{◌≡◌, ℕ, zero, suc, ◌+◌, ◌<◌, ◌≤◌, false, List, [], ◌∷◌, length, Option, IsSome, is_some, slice_get, Result, Ok, Err, IfOk, OnErr, max, refl, ap, ◌∙◌, arith}
+use Rattle.std.proofs.Common.{◌≡◌, ℕ, zero, suc, ◌+◌, ◌<◌, ◌≤◌, List, length, Option, IsSome, slice_get, Result, IfOk, OnErr, max, arith}
 use Rattle.std.proofs.lemmas.Grind.{common_steps}
 use Rattle.chain_base.specs.Chain.{Entry, Chain, times, inserted_at, greatest_index, vacant_among, next_index, grown_capacity, with_capacity, with_room, IsSound}
 use Rattle.chain_base.specs.Insert.{IsInsertion}
-use Rattle.chain_base.proofs.Vacancy.{times-greatest}
-
-head-absent : (is : List ℕ) → length is ≡ 0 → is_some (slice_get is 0) ≡ false
-head-absent [] none = refl
-head-absent (i ∷ is) none = absurd (omega arith)
+use Rattle.chain_base.proofs.Vacancy.{greatest-occurs}
 
 module _ {T : Type 0} where
   -- an insertion keeps the capacity
   pub inserted-capacity : (c : Chain T) (place : Entry T → List (Entry T)) (item : T) (vacant : List ℕ) → (inserted_at c place item vacant).capacity ≡ c.capacity
-  inserted-capacity c place item [] = refl
-  inserted-capacity c place item (i ∷ rest) = refl
+  inserted-capacity c place item vacant = grind (arith, common_steps)
 
   pub capacity-kept : {P E : Type 0} (old new : Chain T) (place : Entry T → List (Entry T)) (item : T) (numbers : P → ℕ × ℕ) (r : Result P E)
       → IfOk r (λ p. IsInsertion old new place item (numbers p).0 (numbers p).1) → OnErr r (new ≡ old) → new.capacity ≡ old.capacity
-  capacity-kept old new place item numbers (Ok p) ok err = ap (λ (c : Chain T). c.capacity) ok.after ∙ inserted-capacity old place item old.vacant
-  capacity-kept old new place item numbers (Err e) ok err = ap (λ (c : Chain T). c.capacity) err
+  capacity-kept old new place item numbers r ok err = grind (arith, common_steps, inserted-capacity)
 
   -- an index that no entry has is among the vacant ones, so that there is a first of them
   vacant_among-some : (es : List (Entry T)) (from count k : ℕ) → from ≤ k → k < from + count → times k es ≡ 0 → IsSome (slice_get (vacant_among es from count) 0)
@@ -28,11 +22,7 @@ module _ {T : Type 0} where
   module _ (most : ℕ) (greatest : Option ℕ) (c : Chain T) (sound : IsSound most greatest c) where
     -- the greatest index is within the capacity
     pub greatest-within : greatest_index c.entries ≤ c.capacity
-    greatest-within = by c.entries sound.within
-      where
-        by : (es : List (Entry T)) → ((i : ℕ) → 1 ≤ times i es → (0 < i) × (i ≤ c.capacity)) → greatest_index es ≤ c.capacity
-        by [] within = omega arith
-        by (e ∷ es) within = (within (greatest_index (e ∷ es)) (times-greatest e es)).1
+    greatest-within = grind (arith, common_steps, greatest-occurs c.entries, sound.within (greatest_index c.entries))
 
     -- where no slot is vacant, a capacity above the present one has a vacant index
     module _ (full : c.capacity ≤ length c.entries) (n : ℕ) (more : c.capacity < n) where
@@ -40,4 +30,4 @@ module _ {T : Type 0} where
       next-grown = grind (arith, common_steps, sound.within n, vacant_among-some c.entries 1 (max n (greatest_index c.entries)) n)
 
       pub with_room-full : n ≡ grown_capacity most c → with_capacity c (max n (greatest_index c.entries)) ≡ with_room most c
-      with_room-full is = grind (arith, common_steps, head-absent c.vacant, sound.counted, greatest-within)
+      with_room-full is = grind (arith, common_steps, c.vacant, sound.counted, greatest-within)

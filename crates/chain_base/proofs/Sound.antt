@@ -1,5 +1,5 @@
 -- What is true of every arena, said of the chain that lies in it.
-use Rattle.std.proofs.Common.{◌≡◌, ℕ, ◌<◌, ◌≤◌, List, [], ◌∷◌, length, Option, Some, None, refl, sym, ap, ◌∙◌, arith, get_or, take, Result, Ok, Err, OnOk, OnErr}
+use Rattle.std.proofs.Common.{◌≡◌, ℕ, ◌<◌, ◌≤◌, List, [], ◌∷◌, length, Option, None, ap, ◌∙◌, arith, get_or, take, Result, OnOk, OnErr}
 use Rattle.std.proofs.lemmas.Grind.{common_steps}
 use Rattle.std.specs.Option.{option_map, ForSome}
 use Rattle.arena_base.specs.Generation.{IsLawfulGeneration}
@@ -18,18 +18,12 @@ module _ {T : Type 0} where
 
   -- slot 0 is vacant where the slots begin with a vacant one
   pub first-vacant : (slots : List (Option (ℕ × Link T))) → take 1 slots ≡ None ∷ [] → (get_or slots 0 None ≡ None) × (0 < length slots)
-  first-vacant [] begins = absurd cc
-  first-vacant (x ∷ xs) begins = (cc, omega arith)
-
-  -- an index of the list is above 0
-  occupied-above : (a : Arena (Link T)) (es : List (Entry T)) (i : ℕ) → take 1 a.slots ≡ None ∷ [] → HoldIndexes a.slots es → 1 ≤ times i es → 0 < i
-  occupied-above a es i begins held occurs = grind (arith, common_steps, first-vacant a.slots begins, held i)
+  first-vacant slots begins = grind (arith, common_steps)
 
   -- a lawful slot has a lawful entry
   lawful-entry : (greatest : Option ℕ) (o : Option (ℕ × Link T)) → ForSome o (λ e. IsLawfulGeneration greatest e.0)
       → ForSome {T = ℕ × T} (option_map (λ e. (e.0, e.1.item)) o) (λ e. IsLawfulGeneration greatest e.0)
-  lawful-entry greatest None lawful = λ x is. absurd (cc)
-  lawful-entry greatest (Some e) lawful = grind (arith, common_steps)
+  lawful-entry greatest o lawful = grind (arith, common_steps)
 
   pub IsSound-laid_out : (most : ℕ) (greatest : Option ℕ) (a : Arena (Link T)) (first last : Option ℕ)
       → IsLaidOut a.slots first last (chain_of a first).entries → IsSoundArena most greatest a → IsSound most greatest (chain_of a first)
@@ -38,7 +32,7 @@ module _ {T : Type 0} where
       let held = held-laid a.slots first last es laid in
       record {
         distinct = laid.distinct;
-        within = λ i occurs. (occupied-above a es i sound.begins held occurs, occupied-within a es i held occurs);
+        within = λ i occurs. (grind (arith, common_steps, first-vacant a.slots sound.begins, held i), occupied-within a es i held occurs);
         within_limit = sound.within_limit;
         generation_lawful = sound.generation_lawful;
         entries_lawful = λ i. rw (entry_at-link None None es i, ← laid.links i) (lawful-entry greatest _ (sound.entries_lawful i));
@@ -48,5 +42,4 @@ module _ {T : Type 0} where
 
   -- a call that may set the maximum keeps the slots
   pub slots-kept : {X E : Type 0} (r : Result X E) (old new : Arena (Link T)) (maximum : Option ℕ) → OnOk r (new ≡ record old { maximum = maximum }) → OnErr r (new ≡ old) → new.slots ≡ old.slots
-  slots-kept (Ok x) old new maximum ok err = ap (λ a. a.slots) ok
-  slots-kept (Err e) old new maximum ok err = ap (λ a. a.slots) err
+  slots-kept r old new maximum ok err = grind (arith, common_steps)

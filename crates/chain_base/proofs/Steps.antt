@@ -1,16 +1,15 @@
 -- What each call does to the chain that lies in the arena.
-use Rattle.std.proofs.Common.{◌≡◌, ℕ, zero, suc, true, ◌+◌, ◌-◌, ◌<◌, ◌≤◌, List, [], ◌∷◌, ◌++◌, length, Option, Some, None, is_some, cond, refl, sym, ap, subst, ◌∙◌, arith, if◌then◌else◌, slice_get, length-set, replicate}
+use Rattle.std.proofs.Common.{◌≡◌, ℕ, ◌+◌, ◌-◌, ◌<◌, List, [], ◌∷◌, ◌++◌, length, Option, Some, None, is_some, cond, refl, sym, ap, subst, ◌∙◌, arith, if◌then◌else◌, slice_get, length-set, replicate}
 use Rattle.std.proofs.lemmas.Grind.{common_steps}
 use Rattle.std.proofs.lemmas.List.{length-replicate}
-use Rattle.arena_base.specs.Generation.{next_generation}
 use Rattle.arena_base.specs.Arena.{Arena, slot, with_entry_at, arena_capacity, with_capacity as arena_with_capacity, removed as arena_removed}
 use Rattle.arena_base.specs.Arena.{renewed as arena_renewed, cleared as arena_cleared, resized, IsInsertion as IsArenaInsertion}
 use Rattle.chain_base.specs.Link.{Link}
-use Rattle.chain_base.specs.Chain.{Entry, Chain, times, first_or, last_or, inserted_at, with_capacity, vacant_indexes, without, removed, renewed, cleared, with_item}
+use Rattle.chain_base.specs.Chain.{Entry, Chain, first_or, last_or, inserted_at, with_capacity, vacant_indexes, removed, renewed, cleared, with_item}
 use Rattle.chain_base.specs.Insert.{IsInsertion, IsPlace}
 use Rattle.chain_base.specs.Layout.{chain_of, rewritten, IsLaidOut}
-use Rattle.chain_base.proofs.Lists.{entry_at-some, linked-occurs, last_or-append, times-unlinked, Stands-occurs, without-split}
-use Rattle.chain_base.proofs.LaidOut.{laid-links, IsLaidOut-walked, Alike, alike-bridged, bridged, end_beside, link_amid, closed, walk-laid_out, slot-laid_out, joined, IsLaidOut-inserted, IsLaidOut-removed, IsLaidOut-with_item_among, IsLaidOut-with_generation}
+use Rattle.chain_base.proofs.Lists.{entry_at-some, linked-occurs, last_or-append, times-unlinked, Stands-occurs, Stands, last_or-there, with_item_among-changed_at, with_generation-changed_at}
+use Rattle.chain_base.proofs.LaidOut.{laid-links, IsLaidOut-walked, Alike, alike-bridged, bridged, end_beside, link_amid, closed, walk-laid_out, slot-laid_out, joined, IsLaidOut-inserted, IsLaidOut-removed, IsLaidOut-changed_at}
 use Rattle.chain_base.proofs.Vacancy.{HoldIndexes, held-links, vacant-held, get_or-vacant, get_or-resized, length-resized}
 
 -- the list of vacant indexes begins with the next one
@@ -42,17 +41,11 @@ module _ {T : Type 0} where
 
   -- the first of a list that goes on, or another first where there is nothing before
   first_or-end : (xs zs : List (Entry T)) (d : Option ℕ) → (if is_some (last_or None xs) then first_or None (xs ++ zs) else d) ≡ first_or d xs
-  first_or-end [] zs d = refl
-  first_or-end (x ∷ xs) zs d = rw (last_some xs x.index) refl
-    where
-      last_some : (xs : List (Entry T)) (i : ℕ) → is_some (last_or (Some i) xs) ≡ true
-      last_some [] i = refl
-      last_some (x ∷ xs) i = last_some xs x.index
+  first_or-end xs zs d = grind (arith, common_steps, last_or-there)
 
   -- the last of a list that was there before, or another last where there is nothing after
   last_or-end : (zs ys : List (Entry T)) (d : Option ℕ) → (if is_some (first_or None ys) then last_or None (zs ++ ys) else d) ≡ last_or d ys
-  last_or-end zs [] d = refl
-  last_or-end zs (y ∷ ys) d = last_or-append None zs (y ∷ ys)
+  last_or-end zs ys d = grind (arith, common_steps, last_or-append)
 
   -- what an insertion between two neighbours makes of a chain
   pub record Inserts (a b : Arena (Link T)) (first first2 last2 : Option ℕ) (place : Entry T → List (Entry T)) (item : T) (j g : ℕ) : Type 0 where
@@ -121,27 +114,25 @@ module _ {T : Type 0} where
     -- an entry that gets another generation
     pub Renews-at : (greatest : Option ℕ) (i : ℕ) → Lies (arena_renewed greatest a i) first last (renewed greatest (chain_of a first) i)
     Renews-at greatest i =
-        lies (arena_renewed greatest a i) first last (renewed greatest (chain_of a first) i)
-        (IsLaidOut-with_generation a first last _ i (next_generation greatest a.generation) laid) (ap (λ n. n - 1) (length-set a.slots i _)) refl refl refl
+        grind (arith, common_steps, IsLaidOut-changed_at a first last, lies (arena_renewed greatest a i) first last (renewed greatest (chain_of a first) i), with_generation-changed_at)
 
     -- an item that is written
     pub Writes-at : (i : ℕ) (item : T) → Lies (rewritten a i item) first last (with_item (chain_of a first) i item)
     Writes-at i item =
-        lies (rewritten a i item) first last (with_item (chain_of a first) i item) (IsLaidOut-with_item_among a first last _ i item laid) (ap (λ n. n - 1) (length-set a.slots i _)) refl refl refl
+        grind (arith, common_steps, lies (rewritten a i item) first last (with_item (chain_of a first) i item), with_item_among-changed_at, IsLaidOut-changed_at a first last)
 
     -- the entry between two stretches is taken out
-    Removes-at : (greatest : Option ℕ) (front : List (Entry T)) (x : Entry T) (back : List (Entry T)) → (chain_of a first).entries ≡ front ++ x ∷ back → times x.index front ≡ 0
-        → Unlinks greatest a first last x.index (last_or None front) (first_or None back)
-    Removes-at greatest front x back split unmet =
-        let laid2 = subst (λ (es : List (Entry T)). IsLaidOut a.slots first last es) split laid in
-        let emptied : Arena (Link T) = arena_removed greatest a x.index in
-        let left = last_or None front in
-        let right = first_or None back in
-        let first2 : end_beside left first right ≡ first_or right front = rw laid2.first_is (first_or-end front (x ∷ back) right) in
-        let last2 : end_beside right last left ≡ last_or left back = rw laid2.last_is (rw (last_or-append None front (x ∷ back)) (last_or-end (x ∷ []) back left)) in
-        let done = lies-alike emptied (closed emptied front back) _ _ _ (alike-bridged emptied left right right left) (IsLaidOut-removed greatest a first last front x back laid2) in
-        let list : without x.index (chain_of a first).entries ≡ front ++ back = ap (without x.index) split ∙ without-split front x back x.index refl unmet in
-        rw (first2, last2, list) (rw (length-set a.slots x.index None) at done)
+    Removes-at : (greatest : Option ℕ) (i : ℕ) (s : Stands (chain_of a first).entries i) → Unlinks greatest a first last i (last_or None s.front) (first_or None s.back)
+    Removes-at greatest i s =
+        let laid2 = subst (λ (es : List (Entry T)). IsLaidOut a.slots first last es) s.split laid in
+        let emptied : Arena (Link T) = arena_removed greatest a i in
+        let left = last_or None s.front in
+        let right = first_or None s.back in
+        let first2 : end_beside left first right ≡ first_or right s.front = rw laid2.first_is (first_or-end s.front (s.entry ∷ s.back) right) in
+        let last2 : end_beside right last left ≡ last_or left s.back = rw laid2.last_is (rw (last_or-append None s.front (s.entry ∷ s.back)) (last_or-end (s.entry ∷ []) s.back left)) in
+        let laid3 = rw s.here at (IsLaidOut-removed greatest a first last s.front s.entry s.back laid2) in
+        let done = lies-alike emptied (closed emptied s.front s.back) _ _ _ (alike-bridged emptied left right right left) laid3 in
+        rw (first2, last2, s.left) (rw (length-set a.slots i None) at done)
 
     pub Removes-joined : (greatest : Option ℕ) (i : ℕ) (e : ℕ × Link T) → slot a i ≡ Some e → Unlinks greatest a first last i e.1.prev e.1.next
     Removes-joined greatest i e held =
@@ -149,16 +140,14 @@ module _ {T : Type 0} where
         let laid2 = subst (λ (es : List (Entry T)). IsLaidOut a.slots first last es) s.split laid in
         let found = ap (slot a) (sym s.here) ∙ slot-laid_out a first last s.front s.entry s.back laid2 in
         let same : (s.entry.generation, link_amid s.front s.entry.item s.back) ≡ e = cc in
-        let at = Removes-at greatest s.front s.entry s.back s.split (ap (λ k. times k s.front) s.here ∙ s.unmet) in
-        subst (λ (x : ℕ × Link T). Unlinks greatest a first last i x.1.prev x.1.next) same
-        (subst (λ (k : ℕ). Unlinks greatest a first last k (last_or None s.front) (first_or None s.back)) s.here at)
+        subst (λ (x : ℕ × Link T). Unlinks greatest a first last i x.1.prev x.1.next) same (Removes-at greatest i s)
 
   -- a chain that is cleared
   pub IsLaidOut-cleared : (n : ℕ) → IsLaidOut {T = T} (replicate n None) None None []
   IsLaidOut-cleared n = laid-links _ None None [] (get_or-vacant n) (λ i. omega arith) refl refl
 
-  pub Lies-cleared : (greatest : Option ℕ) (a : Arena (Link T)) (first : Option ℕ) → Lies (arena_cleared greatest a) None None (cleared greatest (chain_of a first))
-  Lies-cleared greatest a first =
+  pub Lies-cleared : (greatest : Option ℕ) (a : Arena (Link T)) → Lies (arena_cleared greatest a) None None (cleared greatest (chain_of a None))
+  Lies-cleared greatest a =
       let size : length (replicate {A = Option (ℕ × Link T)} (length a.slots) None) - 1 ≡ arena_capacity a = ap (λ n. n - 1) (length-replicate (length a.slots) None) in
       let none = IsLaidOut-cleared (length a.slots) in
-      lies (arena_cleared greatest a) None None (cleared greatest (chain_of a first)) none size (vacant-held {T = T} _ [] (held-laid _ None None [] none) ∙ ap (vacant_indexes {T = T} []) size) refl refl
+      lies (arena_cleared greatest a) None None (cleared greatest (chain_of a None)) none size (vacant-held {T = T} _ [] (held-laid _ None None [] none) ∙ ap (vacant_indexes {T = T} []) size) refl refl

@@ -1,72 +1,59 @@
 -- The steps of a transfer.
 use Rattle.std.proofs.Common.{◌≡◌, ℕ, zero, suc, ◌+◌, ◌-◌, ◌<◌, ◌≤◌, max, List, [], ◌∷◌, ◌++◌, map, length, length-append, append_assoc, Option}
-use Rattle.std.proofs.Common.{Some, None, OnSome, OnOk, IsOk, IsErr, Result, Ok, Err, is_some, true, slice_get, refl, sym, ap, ◌∙◌, arith, inl, inr}
+use Rattle.std.proofs.Common.{Some, None, OnSome, OnOk, IsOk, IsErr, Result, Ok, Err, is_some, true, slice_get, refl, sym, ap, ◌∙◌, arith, option_map}
 use Rattle.std.proofs.lemmas.Grind.{common_steps}
-use Rattle.std.proofs.lemmas.Bool.Decides.{eqb_tells, nat_tests}
 use Rattle.std.specs.List.{FoldsTo}
 use Rattle.std.proofs.lemmas.Fn.{FoldsTo-push}
-use Rattle.std.proofs.lemmas.List.{append-nil, length-map, map_push}
+use Rattle.std.proofs.lemmas.List.{append-nil, length-map, map-id, map_push}
 use Rattle.std.proofs.lemmas.Option.{same_Some}
-use Rattle.std.specs.Option.{option_map}
 use Rattle.arena_base.specs.Generation.{overflows_after}
 use Rattle.arena_base.specs.Invalidation.{allowed_value, is_overflow}
 use Rattle.arena_base.specs.declared.invalidation.InvalidationOption.{InvalidationOption}
 use Rattle.chain_base.specs.Link.{Link}
 use Rattle.chain_base.specs.Chain.{Entry, Chain, times, entry_at, first_pointer, link_at, insert_after, vacant_among, removed, with_capacity, greatest_index, inserted, IsSound}
 use Rattle.chain_base.specs.Insert.{placed, CanPlace}
-use Rattle.chain_base.specs.Compression.{numbered, refilled, Transferring, TransferStep, IsTransfer}
+use Rattle.chain_base.specs.Compression.{numbered, Transferring, TransferStep, IsTransfer}
 use Rattle.chain_base.specs.Transfer.{filled_with, last_of, place_behind, TakesOut, HasTaken}
+use Rattle.chain_base.proofs.Lists.{same_index}
 use Rattle.chain_base.proofs.Room.{greatest-within}
-use Rattle.chain_base.proofs.Canonical.{numbered-push, times-numbered}
+use Rattle.chain_base.proofs.Canonical.{numbered-push, times-numbered, vacant-same}
 
 -- what is there is said
 pub on_taken : {X Y : Type 0} (f : X → Y) (y : Y) (o : Option X) (A : Type 0) → option_map f o ≡ Some y → OnSome o A → A
-on_taken f y None A is some = absurd cc
-on_taken f y (Some x) A is some = some
+on_taken f y o A is some = grind (arith, common_steps)
 
 module _ {T : Type 0} where
   -- a capacity that is raised
   pub capacity-raised : {X E : Type 0} (most : ℕ) (greatest : Option ℕ) (c new : Chain T) (n : ℕ) (r : Result X E) → IsSound most greatest c → c.capacity < n
       → OnOk r (new ≡ with_capacity c (max n (greatest_index c.entries))) → OnOk r (new.capacity ≡ max c.capacity n)
-  capacity-raised most greatest c new n (Ok x) sound less is = grind (arith, common_steps, greatest-within most greatest c sound)
-  capacity-raised most greatest c new n (Err e) sound less is = tt
+  capacity-raised most greatest c new n r sound less is = grind (arith, common_steps, greatest-within)
 
   -- the item in a link, under a generation or its number
   pub item-numbered : {G : Type 0} (number : G → ℕ) (o : Option (G × Link T))
       → option_map (λ (e : ℕ × Link T). e.1.item) (option_map (λ (e : G × Link T). (number e.0, e.1)) o) ≡ option_map (λ (e : G × Link T). e.1.item) o
-  item-numbered number None = refl
-  item-numbered number (Some e) = refl
+  item-numbered number o = grind (arith, common_steps)
 
   -- the first entry is taken out
   pub takes-out : {Q : Type 0} (numbers : Q → ℕ × ℕ) (greatest : Option ℕ) (old new : Chain T) (from : Q) (taken : InvalidationOption T)
       → Some (numbers from) ≡ first_pointer old.entries → Some (allowed_value taken) ≡ option_map (λ e. e.1.item) (link_at old.entries (numbers from).0)
-      → is_overflow taken ≡ overflows_after greatest old.generation → new ≡ removed greatest old (numbers from).0 → TakesOut numbers greatest old new from taken
-  takes-out numbers greatest old new from taken head value overflow gone = go old.entries refl
-    where
-      go : (es : List (Entry T)) → old.entries ≡ es → TakesOut numbers greatest old new from taken
-      go [] is = let none : Some (numbers from) ≡ None = rw is at head in absurd cc
-      go (e ∷ rest) is = elim (eqb_tells e.index e.index) [
-        | inr h ↦ absurd (h.1 refl)
-        | inl h ↦
-            let first : Some (numbers from) ≡ Some (e.index, e.generation) = rw is at head in
-            let pair : ◌≡◌ {A = ℕ × ℕ} (numbers from) (e.index, e.generation) = same_Some (numbers from) (e.index, e.generation) first in
-            let at : (numbers from).0 ≡ e.index = ap (λ (p : ℕ × ℕ). p.0) pair in
-            let of : (numbers from).1 ≡ e.generation = ap (λ (p : ℕ × ℕ). p.1) pair in
-            let shown : Some (allowed_value taken) ≡ Some e.item = rw (is, at, h.0) at value in
-            record {
-              entry = e;
-              rest = rest;
-              split = is;
-              from_index = at;
-              from_generation = of;
-              taken_item = same_Some (allowed_value taken) e.item shown;
-              taken_overflow = overflow;
-              left = ap (λ (c : Chain T). c.entries) gone ∙ rw (is, at, h.0) refl;
-              capacity = ap (λ (c : Chain T). c.capacity) gone;
-              maximum = ap (λ (c : Chain T). c.maximum) gone;
-              raised = ap (λ (c : Chain T). c.generation) gone;
-            }
-      ]
+      → is_overflow taken ≡ overflows_after greatest old.generation → new ≡ removed greatest old (numbers from).0 → (es : List (Entry T)) → old.entries ≡ es → TakesOut numbers greatest old new from taken
+  takes-out numbers greatest old new from taken head value overflow gone [] is = absurd (let none : Some (numbers from) ≡ None = rw is at head in cc)
+  takes-out numbers greatest old new from taken head value overflow gone (e ∷ rest) is =
+      let pair : ◌≡◌ {A = ℕ × ℕ} (numbers from) (e.index, e.generation) = same_Some (numbers from) (e.index, e.generation) (rw is at head) in
+      let at : (numbers from).0 ≡ e.index = ap (λ (p : ℕ × ℕ). p.0) pair in
+      record {
+        entry = e;
+        rest = rest;
+        split = is;
+        from_index = at;
+        from_generation = ap (λ (p : ℕ × ℕ). p.1) pair;
+        taken_item = same_Some (allowed_value taken) e.item (rw (is, at, same_index e.index) at value);
+        taken_overflow = overflow;
+        left = ap (λ (c : Chain T). c.entries) gone ∙ rw (is, at, same_index e.index) refl;
+        capacity = ap (λ (c : Chain T). c.capacity) gone;
+        maximum = ap (λ (c : Chain T). c.maximum) gone;
+        raised = ap (λ (c : Chain T). c.generation) gone;
+      }
 
   insert_after-last : (g from : ℕ) (x : T) (xs : List T) (new : Entry T) → insert_after (from + length xs) new (numbered g from (x ∷ xs)) ≡ numbered g from (x ∷ xs) ++ new ∷ []
   insert_after-last g from x [] new = grind (arith, common_steps)
@@ -80,21 +67,14 @@ module _ {T : Type 0} where
     pub can_place-behind : (last : Option I) (c : Chain T) (items : List T) → option_map number last ≡ last_of (length items)
         → CanPlace {P = P} {I = I} {G = G} number (place_behind last) (filled_with c items)
     can_place-behind None c [] is = refl
-    can_place-behind None c (x ∷ xs) is = absurd cc
-    can_place-behind (Some i) c [] is = absurd cc
     can_place-behind (Some i) c (x ∷ xs) is = grind (arith, common_steps, number i, i, entry_at-last c.generation 1 x xs)
+    can_place-behind last c items is = absurd cc
 
     pub placed-behind : (last : Option I) (g : ℕ) (items : List T) (new : Entry T) → option_map number last ≡ last_of (length items)
         → placed {P = P} {I = I} {G = G} number (place_behind last) (numbered g 1 items) new ≡ numbered g 1 items ++ new ∷ []
     placed-behind None g [] new is = refl
-    placed-behind None g (x ∷ xs) new is = absurd cc
-    placed-behind (Some i) g [] new is = absurd cc
     placed-behind (Some i) g (x ∷ xs) new is = grind (arith, common_steps, number i, i, insert_after-last g 1 x xs new)
-
-  -- the vacant indexes beside them
-  vacant-all : (es : List (Entry T)) (from count : ℕ) → ((j : ℕ) → from ≤ j → times j es ≡ 0) → vacant_among es from count ≡ vacant_among {T = T} [] from count
-  vacant-all es from zero none = refl
-  vacant-all es from (suc count) none = rw (none from (omega arith)) (ap (λ is. from ∷ is) (vacant-all es (from + 1) count (λ j more. none j (omega (arith, more)))))
+    placed-behind last g items new is = absurd cc
 
   vacant-none : (es : List (Entry T)) (from n m : ℕ) → ((j : ℕ) → from ≤ j → j < from + n → times j es ≡ 1) → vacant_among es from (n + m) ≡ vacant_among es (from + n) m
   vacant-none es from zero m all = let same : from ≡ from + 0 = omega arith in let none : 0 + m ≡ m = omega arith in ap (λ n. vacant_among es from n) none ∙ ap (λ i. vacant_among es i m) same
@@ -105,9 +85,7 @@ module _ {T : Type 0} where
       ∙ rw (all from (omega arith) (omega arith)) (vacant-none es (from + 1) n m (λ j more less. all j (omega (arith, more)) (omega (arith, less))) ∙ ap (λ i. vacant_among es i m) later)
 
   vacant-numbered : (g : ℕ) (xs : List T) (m : ℕ) → vacant_among (numbered g 1 xs) 1 (length xs + m) ≡ vacant_among {T = T} [] (1 + length xs) m
-  vacant-numbered g xs m =
-      vacant-none (numbered g 1 xs) 1 (length xs) m (λ j more less. let is = times-numbered g 1 xs j in grind (arith, nat_tests))
-      ∙ vacant-all (numbered g 1 xs) (1 + length xs) m (λ j more. let is = times-numbered g 1 xs j in grind (arith, nat_tests))
+  vacant-numbered g xs m = grind (arith, common_steps, vacant-none (numbered g 1 xs) 1 (length xs) m, times-numbered g 1 xs, vacant-same)
 
   pub vacant-next : (c : Chain T) (items : List T) (x : T) → length items < c.capacity → (filled_with c items).vacant ≡ (1 + length items) ∷ (filled_with c (items ++ x ∷ [])).vacant
   vacant-next c items x less =
@@ -121,10 +99,7 @@ module _ {T : Type 0} where
   -- one more
   pub filled-more : (c : Chain T) (items : List T) (x : T) (place : Entry T → List (Entry T)) → length items < c.capacity
       → ((new : Entry T) → place new ≡ numbered c.generation 1 items ++ new ∷ []) → inserted (filled_with c items) place x ≡ filled_with c (items ++ x ∷ [])
-  filled-more c items x place less puts =
-      rw (vacant-next c items x less)
-      (ap (λ (es : List (Entry T)). record { entries = es; capacity = c.capacity; vacant = (filled_with c (items ++ x ∷ [])).vacant; generation = c.generation; maximum = c.maximum })
-      (puts (record { index = 1 + length items; generation = c.generation; item = x }) ∙ sym (numbered-push c.generation 1 items x)))
+  filled-more c items x place less puts = grind (arith, common_steps, vacant-next, numbered-push)
 
   -- there is room
   length-numbered : (g from : ℕ) (xs : List T) → length (numbered g from xs) ≡ length xs
@@ -132,22 +107,16 @@ module _ {T : Type 0} where
   length-numbered g from (x ∷ xs) = ap suc (length-numbered g (from + 1) xs)
 
   pub has-room : {X E : Type 0} (r : Result X E) (c : Chain T) (items : List T) → length items < c.capacity → (IsErr r → length (filled_with c items).entries ≡ c.capacity) → IsOk r
-  has-room (Ok x) c items less full = refl
-  has-room (Err e) c items less full = absurd (omega (arith, less, full refl, length-numbered c.generation 1 items))
-
-  -- the next index
-  vacant-first : (c : Chain T) (items : List T) → length items < c.capacity → slice_get (filled_with c items).vacant 0 ≡ Some (1 + length items)
-  vacant-first c items less =
-      let now : c.capacity ≡ length items + suc (c.capacity - length items - 1) = omega (arith, less) in
-      ap (λ n. slice_get (vacant_among (numbered c.generation 1 items) 1 n) 0) now ∙ ap (λ is. slice_get is 0) (vacant-numbered c.generation items (suc (c.capacity - length items - 1)))
+  has-room r c items less full = grind (arith, common_steps, length-numbered)
 
   module _ {P : Type 0} (numbers : P → ℕ × ℕ) (c chain : Chain T) (items : List T) (less : length items < c.capacity) (put : chain ≡ filled_with c items) where
     next-is : (o : Option P) (vacant : List ℕ) → vacant ≡ chain.vacant → option_map (λ p. (numbers p).0) o ≡ slice_get vacant 0 → option_map (λ p. (numbers p).0) o ≡ Some (1 + length items)
-    next-is o vacant same is = is ∙ ap (λ is. slice_get is 0) (same ∙ ap (λ (c : Chain T). c.vacant) put) ∙ vacant-first c items less
+    next-is o vacant same is =
+        is ∙ ap (λ is. slice_get is 0) (same ∙ ap (λ (c : Chain T). c.vacant) put) 
+        ∙ grind (arith, common_steps, vacant-numbered c.generation items (suc (c.capacity - length items - 1)))
 
     pub next-some : (o : Option P) (vacant : List ℕ) → vacant ≡ chain.vacant → option_map (λ p. (numbers p).0) o ≡ slice_get vacant 0 → is_some o ≡ true
-    next-some None vacant same is = absurd (let none = next-is None vacant same is in cc)
-    next-some (Some p) vacant same is = refl
+    next-some o vacant same is = grind (arith, common_steps, next-is)
 
     pub next-at : (p : P) (o : Option P) (vacant : List ℕ) → o ≡ Some p → vacant ≡ chain.vacant → option_map (λ p. (numbers p).0) o ≡ slice_get vacant 0 → (numbers p).0 ≡ length items + 1
     next-at p o vacant found same is = grind (arith, common_steps, items, found, next-is, vacant, same)
@@ -197,9 +166,6 @@ last-more number i items item at = grind (arith, common_steps)
 
 -- a whole transfer
 module _ {P Q T U M : Type 0} (numbers_from : Q → ℕ × ℕ) (numbers_to : P → ℕ × ℕ) (greatest : Option ℕ) (step : M → Q → InvalidationOption U → P → T → M → Type 0) where
-  refilled-same : (c d : Chain T) (g : ℕ) (es : List (Entry T)) → c.capacity ≡ d.capacity → c.maximum ≡ d.maximum → refilled c g es ≡ refilled d g es
-  refilled-same c d g es capacity maximum = rw (capacity, maximum) refl
-
   pub transferred : {X E : Type 0} (g : ℕ) (m n : M) (source rest source_after : Chain U) (old base new : Chain T) (r : Result X E) (x : X)
       → base.generation ≡ g → base.capacity ≡ max old.capacity (length source.entries) → base.maximum ≡ old.maximum
       → HasTaken numbers_from numbers_to greatest step m source rest base new n → rest.entries ≡ []
@@ -207,15 +173,13 @@ module _ {P Q T U M : Type 0} (numbers_from : Q → ℕ × ℕ) (numbers_to : P 
       → IsTransfer numbers_from numbers_to greatest step g m source source_after old new
   transferred g m n source rest source_after old base new r x era capacity maximum h all is sized =
       let whole : source.entries ≡ h.gone = h.split ∙ ap (λ es. h.gone ++ es) all ∙ append-nil h.gone in
-      let shrunk : source_after ≡ with_capacity rest (max rest.capacity (greatest_index rest.entries)) = rw is at sized in
-      let none : greatest_index rest.entries ≡ 0 = ap greatest_index all in
-      let size : max rest.capacity (greatest_index rest.entries) ≡ source.capacity = omega (arith, h.capacity, none) in
+      let size : max rest.capacity (greatest_index rest.entries) ≡ source.capacity = omega (arith, h.capacity, ap greatest_index all) in
       let count : max old.capacity (length source.entries) ≡ max old.capacity (length h.items) = ap (max old.capacity) (ap length whole ∙ sym h.count) in
       record {
         last = record { closure = n; items = h.items; generation = rest.generation };
         calls = rw (whole, ← era) h.calls;
-        left = shrunk ∙ rw (size, all, h.maximum) refl;
-        after = h.put ∙ rw era (refilled-same base (record old { capacity = max old.capacity (length h.items) }) g (numbered g 1 h.items) (capacity ∙ count) maximum);
+        left = (rw is at sized) ∙ rw (size, all, h.maximum) refl;
+        after = h.put ∙ rw (era, capacity ∙ count, maximum) refl;
       }
 
 -- Calls of one kind are calls of another: `state`, `item` and `part` give the other's states and items.
@@ -255,10 +219,6 @@ module _ {P Q S F X T V U : Type 0} (numbers_from : Q → ℕ × ℕ) (numbers_t
         steps-retold g es h.0 t h.2,
       )
 
-map-itself : {X : Type 0} (f : X → X) → ((x : X) → f x ≡ x) → (xs : List X) → map f xs ≡ xs
-map-itself f itself [] = refl
-map-itself f itself (x ∷ xs) = rw (itself x, map-itself f itself xs) refl
-
 -- the same items, in other states
 pub transfer-retold : {P Q S F T U X E : Type 0} (numbers_from : Q → ℕ × ℕ) (numbers_to : P → ℕ × ℕ) (greatest : Option ℕ)
     (below : S → Q → InvalidationOption U → P → T → S → Type 0) (above : F → Q → InvalidationOption U → P → T → F → Type 0) (state : S → F)
@@ -270,7 +230,7 @@ transfer-retold {T = T} {U = U} numbers_from numbers_to greatest below above sta
     (record { closure = s; items = []; generation = source.generation }) h.last h.calls in
     record {
       last = record { closure = state h.last.closure; items = h.last.items; generation = h.last.generation };
-      calls = rw (map-itself (λ (e : Entry U). record { index = e.index; generation = e.generation; item = e.item }) (λ e. refl) source.entries, map-itself (λ (x : T). x) (λ x. refl) h.last.items) at steps;
+      calls = rw (map-id source.entries, map-id h.last.items) at steps;
       left = h.left;
       after = h.after;
     }

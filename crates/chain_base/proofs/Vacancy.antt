@@ -1,9 +1,9 @@
 -- The vacant indexes and the greatest occupied one: what an arena's slots say, said of the chain's list.
-use Rattle.std.proofs.Common.{◌≡◌, ℕ, zero, suc, ◌+◌, ◌-◌, ◌<◌, ◌≤◌, ◌==◌, Bool, true, false, List, [], ◌∷◌, length, drop, replicate}
+use Rattle.std.proofs.Common.{◌≡◌, ℕ, suc, ◌+◌, ◌-◌, ◌<◌, ◌≤◌, true, List, [], ◌∷◌, length, drop, replicate}
 use Rattle.std.proofs.Common.{Option, Some, None, is_some, cond, max, refl, sym, ap, ◌∙◌, arith, inl, inr, ◌⊎◌, get_or, add-one, add-zero}
 use Rattle.std.proofs.lemmas.Grind.{common_steps, get_or_after_one}
 use Rattle.std.proofs.lemmas.List.{length-replicate, length-drop, get_or_past}
-use Rattle.std.proofs.lemmas.Bool.{false≢true}
+use Rattle.std.proofs.lemmas.List.Folds.{list_any_at}
 use Rattle.std.specs.List.{list_any}
 use Rattle.arena_base.specs.Arena.{vacant_from, vacant_indexes as slots_vacant, greatest_occupied, resized}
 use Rattle.chain_base.specs.Chain.{Entry, times, IsDistinct, link_at, vacant_among, vacant_indexes, greatest_index}
@@ -13,26 +13,16 @@ use Rattle.chain_base.proofs.Lists.{times-here, times-unlinked, link_between-abs
 module _ {X : Type 0} where
   -- what is there is something
   pub held-some : (o : Option X) → is_some o ≡ true → (x : X) × (o ≡ Some x)
-  held-some None held = absurd (false≢true held)
-  held-some (Some x) held = (x, refl)
+  held-some o held = grind (arith, common_steps)
 
   -- slots that are vacant one and all
   pub get_or-vacant : (n i : ℕ) → let none : Option X = None in get_or (replicate n none) i none ≡ none
-  get_or-vacant zero i = refl
-  get_or-vacant (suc n) zero = refl
   get_or-vacant (suc n) (suc i) = get_or-vacant n i
-
-  -- an entry is at most at the greatest occupied index
-  any-held : (xs : List (Option X)) (i : ℕ) (e : X) → get_or xs i None ≡ Some e → list_any is_some xs ≡ true
-  any-held [] i e held = absurd (cc)
-  any-held (None ∷ xs) zero e held = absurd (cc)
-  any-held (None ∷ xs) (suc i) e held = any-held xs i e held
-  any-held (Some x ∷ xs) i e held = refl
+  get_or-vacant n i = refl
 
   pub below-greatest : (xs : List (Option X)) (i : ℕ) (e : X) → get_or xs i None ≡ Some e → i ≤ greatest_occupied xs
-  below-greatest xs zero e held = omega arith
-  below-greatest [] (suc i) e held = absurd (cc)
-  below-greatest (x ∷ xs) (suc i) e held = rw (any-held xs i e held) (omega (arith, below-greatest xs i e held))
+  below-greatest (x ∷ xs) (suc i) e held = grind (arith, common_steps, list_any_at is_some xs i None, get_or_past xs i None, below-greatest xs i e)
+  below-greatest xs i e held = grind (arith, common_steps)
 
   pub past-greatest : (xs : List (Option X)) (k : ℕ) → greatest_occupied xs < k → get_or xs k None ≡ None
   past-greatest xs k far = grind (arith, common_steps, below-greatest xs k)
@@ -41,20 +31,10 @@ module _ {X : Type 0} where
   greatest-held : (xs : List (Option X)) → list_any is_some xs ≡ true → is_some (get_or xs (greatest_occupied xs) None) ≡ true
   greatest-held [] some = absurd (cc)
   greatest-held (None ∷ xs) some = let any : list_any is_some xs ≡ true = some in rw (any, add-one) (greatest-held xs some)
-  greatest-held (Some x ∷ xs) some = by (list_any is_some xs) refl (λ any. greatest-held xs any)
-    where
-      by : (b : Bool) → list_any is_some xs ≡ b → (list_any is_some xs ≡ true → is_some (get_or xs (greatest_occupied xs) None) ≡ true)
-          → is_some (get_or (Some x ∷ xs) (greatest_occupied (Some x ∷ xs)) None) ≡ true
-      by true is behind = rw (is, add-one) (behind is)
-      by false is behind = rw is refl
+  greatest-held (Some x ∷ xs) some = grind (arith, common_steps, greatest-held xs)
 
   pub greatest-or_none : (xs : List (Option X)) → (greatest_occupied xs ≡ 0) ⊎ (is_some (get_or xs (greatest_occupied xs) None) ≡ true)
-  greatest-or_none [] = inl refl
-  greatest-or_none (x ∷ xs) = by (list_any is_some xs) refl
-    where
-      by : (b : Bool) → list_any is_some xs ≡ b → (greatest_occupied (x ∷ xs) ≡ 0) ⊎ (is_some (get_or (x ∷ xs) (greatest_occupied (x ∷ xs)) None) ≡ true)
-      by true is = inr (rw (is, add-one) (greatest-held xs is))
-      by false is = inl (rw is refl)
+  greatest-or_none xs = grind (arith, common_steps, greatest-held)
 
   resized-cons : (n : ℕ) (x : Option X) (xs : List (Option X)) → resized (suc n) (x ∷ xs) ≡ x ∷ resized n xs
   resized-cons n x xs = let same : suc n - suc (length xs) ≡ n - length xs = omega arith in rw same refl
@@ -64,15 +44,12 @@ module _ {X : Type 0} where
 
   -- where all slots from n on are vacant, n slots hold the same
   pub get_or-resized : (n : ℕ) (xs : List (Option X)) (i : ℕ) → ((k : ℕ) → n ≤ k → get_or xs k None ≡ None) → get_or (resized n xs) i None ≡ get_or xs i None
-  get_or-resized zero xs i rest = rw (resized-none xs) (sym (rest i (omega arith)))
-  get_or-resized (suc n) [] i rest = get_or-vacant (suc n - 0) i
-  get_or-resized (suc n) (x ∷ xs) zero rest = refl
   get_or-resized (suc n) (x ∷ xs) (suc i) rest = rw (resized-cons n x xs) (get_or-resized n xs i (λ k far. rest (suc k) (omega arith)))
+  get_or-resized n xs i rest = grind (arith, common_steps, resized-none, get_or-vacant)
 
   pub length-resized : (n : ℕ) (xs : List (Option X)) → length (resized n xs) ≡ n
-  length-resized zero xs = rw (resized-none xs) refl
-  length-resized (suc n) [] = length-replicate (suc n - 0) None ∙ omega arith
   length-resized (suc n) (x ∷ xs) = ap length (resized-cons n x xs) ∙ ap suc (length-resized n xs)
+  length-resized n xs = grind (arith, common_steps, resized-none, length-replicate)
 
 module _ {X T : Type 0} where
   -- an index of the list is one whose slot holds something
@@ -107,11 +84,7 @@ module _ {X T : Type 0} where
 module _ {T : Type 0} where
   -- an index of a list has a link
   pub held-link : (es : List (Entry T)) (i : ℕ) → 1 ≤ times i es → (e : ℕ × Link T) × (link_at es i ≡ Some e)
-  held-link es i occurs = by (link_at es i) refl
-    where
-      by : (o : Option (ℕ × Link T)) → link_at es i ≡ o → (e : ℕ × Link T) × (link_at es i ≡ Some e)
-      by None is = absurd (omega (arith, times-unlinked None None es i is))
-      by (Some e) is = (e, is)
+  held-link es i occurs = held-some (link_at es i) (grind (arith, common_steps, times-unlinked None None es i))
 
   pub times-link : (es : List (Entry T)) → IsDistinct es → (i : ℕ) → times i es ≡ cond (is_some (link_at es i)) 1 0
   times-link es distinct i = grind (arith, common_steps, distinct i, times-unlinked None None es i, link_between-absent None None es i)
@@ -129,9 +102,12 @@ module _ {T : Type 0} where
   below-greatest_index [] i occurs = absurd (omega arith)
   below-greatest_index (e ∷ es) i occurs = grind (arith, common_steps, below-greatest_index es i)
 
+  pub greatest-occurs : (es : List (Entry T)) → (greatest_index es ≡ 0) ⊎ (1 ≤ times (greatest_index es) es)
+  greatest-occurs [] = inl refl
+  greatest-occurs (e ∷ es) = inr (times-greatest e es)
+
   greatest-within : {X : Type 0} (slots : List (Option X)) (es : List (Entry T)) → HoldIndexes slots es → greatest_index es ≤ greatest_occupied slots
-  greatest-within slots [] held = omega arith
-  greatest-within slots (e ∷ es) held = grind (arith, common_steps, held-is slots (e ∷ es) (greatest_index (e ∷ es)) held, times-greatest e es, below-greatest slots (greatest_index (e ∷ es)))
+  greatest-within slots es held = grind (arith, common_steps, greatest-occurs es, held-is slots es (greatest_index es) held, below-greatest slots (greatest_index es))
 
   -- the greatest occupied index is that of the list
   pub greatest-links : {X : Type 0} (slots : List (Option X)) (es : List (Entry T)) → HoldIndexes slots es → greatest_occupied slots ≡ greatest_index es

@@ -1,5 +1,4 @@
-use Rattle.std.proofs.Common.{None, inl, inr, sym, ap, ◌∙◌}
-use Rattle.std.specs.Option.{option_map}
+use Rattle.std.proofs.Common.{None, inl, inr, sym, ap, ◌∙◌, option_map}
 use Rattle.chain_base.specs.Layout.{chain_of}
 use Rattle.chain_base.proofs.Vacancy.{greatest-links}
 use Rattle.chain_base.proofs.Steps.{held-laid}

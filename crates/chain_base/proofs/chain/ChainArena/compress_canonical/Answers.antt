@@ -1,5 +1,4 @@
-use Rattle.std.proofs.Common.{◌≡◌, ◌+◌, ◌<◌, None, length, is_some, true, sym, ap, ◌∙◌, rules, arith, subst}
-use Rattle.std.specs.Option.{option_map}
+use Rattle.std.proofs.Common.{◌≡◌, ◌+◌, ◌<◌, None, length, is_some, true, sym, ap, ◌∙◌, rules, arith, subst, option_map}
 use Rattle.chain_base.specs.Chain.{entry_at, first_or}
 use Rattle.chain_base.specs.Exchange.{exchanged}
 use Rattle.chain_base.specs.Walk.{index_after}
@@ -12,10 +11,7 @@ loop-position-init g c =
     (c.self.invariant.first_is ∙ ap (λ v. first_or None v.entries) c.self.view_is)
 
 pub unwrap-requires : goal.unwrap-requires
-unwrap-requires g c =
-    let at = c.loop-position in
-    let more : at.position < length c.args.self.now.entries = omega (arith, c.len-len.ensures.value) in
-    chosen g.P.Inx.PtrInx.number at.at _ (met-at at.invariant more)
+unwrap-requires g c = chosen g.P.Inx.PtrInx.number c.loop-position.at _ (met-at c.loop-position.invariant (omega (arith, c.len-len.ensures.value)))
 
 pub exchange-requires-clause-first : goal.exchange-requires-clause-first
 exchange-requires-clause-first g c =
@@ -27,9 +23,8 @@ exchange-requires-clause-first g c =
 pub exchange-requires-clause-second : goal.exchange-requires-clause-second
 exchange-requires-clause-second g c =
     let at = c.loop-position in
-    let more : at.position < length c.args.self.now.entries = omega (arith, c.len-len.ensures.value) in
     let same : g.P.Inx.PtrInx.number c.unwrap-index.result ≡ at.position + 1 = search rules in
-    subst (λ k. is_some (entry_at at.self.entries k) ≡ true) (sym same) (occurs-entry at.self.entries _ (next-occurs at.invariant more))
+    subst (λ k. is_some (entry_at at.self.entries k) ≡ true) (sym same) (occurs-entry at.self.entries _ (next-occurs at.invariant (omega (arith, c.len-len.ensures.value))))
 
 pub exchange-requires-clause-even : goal.exchange-requires-clause-even
 exchange-requires-clause-even g c = canonical-even c.loop-position.invariant

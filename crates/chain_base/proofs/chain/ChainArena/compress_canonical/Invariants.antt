@@ -1,5 +1,4 @@
-use Rattle.std.proofs.Common.{length, map}
-use Rattle.std.specs.Option.{option_map}
+use Rattle.std.proofs.Common.{length, map, option_map}
 use Rattle.arena_base.specs.Compression.{compressed_generation}
 use Rattle.chain_base.specs.Compression.{relocated}
 use Rattle.chain_base.proofs.Canonical.{CanonicalBelow}

@@ -1,6 +1,5 @@
-use Rattle.std.proofs.Common.{ap, ◌∙◌}
-use Rattle.std.specs.Option.{option_map}
-use Rattle.chain_base.proofs.Ends.{occupied-laid_out, link_at-laid_out}
+use Rattle.std.proofs.Common.{refl}
+use Rattle.chain_base.proofs.Ends.{occupied-laid_out}
 use Rattle.chain_base.proofs.chain.ChainArena.link.Goals as goal
 
 pub entry-requires : goal.entry-requires
@@ -8,5 +7,4 @@ entry-requires g c =
     occupied-laid_out c.self.inside.arena _ _ c.self.invariant _ (let held = rw (← c.self.view_is) at c.requires in held)
 
 pub returns : goal.returns
-returns g c =
-    rw (← c.self.view_is) (ap (option_map (λ e. e.1)) (link_at-laid_out c.self.inside.arena _ _ c.self.invariant _ ∙ c.entry.ensures))
+returns g c = rw (← c.self.view_is, ← c.self.invariant.links, c.entry.ensures) refl

@@ -1,8 +1,7 @@
-use Rattle.std.proofs.Common.{◌∙◌, sym, ap}
-use Rattle.std.specs.Option.{option_map}
+use Rattle.std.proofs.Common.{◌∙◌, sym, ap, option_map}
 use Rattle.chain_base.specs.declared.chain.compress.Side.TheVariants.{Before, After}
 use Rattle.chain_base.proofs.Calls.{beside-held, Removes-linked}
-use Rattle.chain_base.proofs.Ends.{occupied-laid_out, link_at-laid_out}
+use Rattle.chain_base.proofs.Ends.{occupied-laid_out}
 use Rattle.chain_base.proofs.chain.ChainArena.remove_entry.Goals as goal
 
 pub entry-requires : goal.entry-requires
@@ -30,7 +29,7 @@ invariant_of-self g c =
     removes.laid
 
 pub returns-clause-value : goal.returns-clause-value
-returns-clause-value g c = rw (← c.self.view_is) (link_at-laid_out c.self.inside.arena _ _ c.self.invariant _ ∙ c.remove_entry-taken.ensures.value)
+returns-clause-value g c = rw (← c.self.view_is, ← c.self.invariant.links) c.remove_entry-taken.ensures.value
 
 pub returns-clause-removed : goal.returns-clause-removed
 returns-clause-removed g c =

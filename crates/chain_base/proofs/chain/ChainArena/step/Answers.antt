@@ -1,17 +1,14 @@
-use Rattle.std.proofs.Common.{◌∙◌, sym}
-use Rattle.std.specs.Option.{option_map}
-use Rattle.chain_base.specs.Layout.{chain_of}
-use Rattle.chain_base.proofs.Ends.{link_at-laid_out}
+use Rattle.std.proofs.Common.{◌∙◌}
 use Rattle.chain_base.proofs.Going.{gives-from_link, pointers_from-none}
 use Rattle.chain_base.proofs.chain.ChainArena.step.Goals as goal
 
 pub returns : goal.returns
 returns g c =
     rw (c._from_raw.ensures, c.next.ensures.value, ← c.self.view_is)
-    (gives-from_link (chain_of c.self.inside.arena (option_map g.P.Inx.PtrInx.number c.self.inside.first)) _ _ c.in_ok-entry.entry.1.now c.self.invariant.distinct
-    (c.in_ok-entry.ensures ∙ sym (link_at-laid_out c.self.inside.arena _ _ c.self.invariant _)))
+    (gives-from_link _ _ _ c.in_ok-entry.entry.1.now c.self.invariant.distinct
+    (c.in_ok-entry.ensures ∙ c.self.invariant.links _))
 
 pub returns-in_err-entry : goal.returns-in_err-entry
 returns-in_err-entry g c =
     rw (c.from_residual.ensures, ← c.self.view_is)
-    (pointers_from-none (chain_of c.self.inside.arena (option_map g.P.Inx.PtrInx.number c.self.inside.first)) (g.P.Inx.PtrInx.number c.args.i) (c.in_err-entry.ensures ∙ sym (link_at-laid_out c.self.inside.arena _ _ c.self.invariant _)))
+    (pointers_from-none _ (g.P.Inx.PtrInx.number c.args.i) (c.in_err-entry.ensures ∙ c.self.invariant.links _))

@@ -1,9 +1,8 @@
-use Rattle.std.proofs.Common.{◌≡◌, ℕ, ◌+◌, ◌<◌, ◌≤◌, length, Option, Some, None, sym, ap, ◌∙◌, rules, arith}
-use Rattle.std.specs.Option.{option_map}
+use Rattle.std.proofs.Common.{◌≡◌, ℕ, ◌+◌, ◌<◌, ◌≤◌, length, Option, Some, sym, ap, ◌∙◌, rules, arith, refl, option_map}
 use Rattle.arena_base.specs.Arena.{slot}
 use Rattle.arena_base.specs.Pointer.{named_of}
 use Rattle.chain_base.specs.Naming.{linked_facing}
-use Rattle.chain_base.proofs.Naming.{named-begins, named-vacant, named-step_end, named-step_more, named-target, named-ends, index-made, neighbour-within}
+use Rattle.chain_base.proofs.Naming.{named-begins, named-vacant, named-step, named-target, named-ends, index-made, neighbour-within}
 use Rattle.chain_base.proofs.chain.compress.name_compressed_indexes.Goals.{in-Some, then-is_none, else-is_none, in_default}
 use Rattle.chain_base.proofs.chain.compress.name_compressed_indexes.Goals as goal
 
@@ -15,20 +14,16 @@ overflow_add-count g c =
     omega (arith, c.loop-position.invariant.fewer, c.try_from_usize.ensures.variant, c.capacity-position-end.ensures.limit, c.capacity-position-end.ensures.value)
 
 -- what stands at the index that is met
-found : {I G X L : Type 0} (number : I → ℕ) (era : G → ℕ) (seen : X → L) (a : _) (i : I) (n : ℕ) → number i ≡ n → (r : Option (G × X))
-    → option_map (λ (e : G × X). (era e.0, seen e.1)) r ≡ slot a (number i) → (e : G × X) → r ≡ Some e → slot a n ≡ Some (era e.0, seen e.1)
-found number era seen a i n at r is e some = ap (slot a) (sym at) ∙ (sym is ∙ ap (option_map (λ e. (era e.0, seen e.1))) some)
-
-missing : {I G X L : Type 0} (number : I → ℕ) (era : G → ℕ) (seen : X → L) (a : _) (i : I) (n : ℕ) → number i ≡ n → (r : Option (G × X)) → option_map (λ (e : G × X). (era e.0, seen e.1)) r ≡ slot a (number i) → r ≡ None → slot a n ≡ None
-missing number era seen a i n at r is none = ap (slot a) (sym at) ∙ (sym is ∙ ap (option_map (λ e. (era e.0, seen e.1))) none)
+read : {I G X L : Type 0} (number : I → ℕ) (era : G → ℕ) (seen : X → L) (a : _) (i : I) (n : ℕ) → number i ≡ n → (r o : Option (G × X))
+    → option_map (λ (e : G × X). (era e.0, seen e.1)) r ≡ slot a (number i) → r ≡ o → slot a n ≡ option_map (λ e. (era e.0, seen e.1)) o
+read number era seen a i n at r o is same = rw (← at, ← same) (sym is)
 
 pub link_facing-requires : goal.link_facing-requires
 link_facing-requires g c = λ i is.
     let at = c.loop-position in
     let number = g.P.Inx.PtrInx.number in
-    let e = c.in-Some.entry in
-    let held = found number g.P.Gen.PtrGen.number _ at.arena c.unwrap-index.result (at.position + 1) (search rules) c.get_inx.result c.get_inx.ensures e c.in-Some.is in
-    named-target c.args.side c.args.arena.now at.arena at.count _ (at.position + 1) at.invariant (omega (arith, c.capacity-position-end.ensures.value)) _ held c.requires (number i)
+    let held = read number g.P.Gen.PtrGen.number _ at.arena c.unwrap-index.result (at.position + 1) (search rules) c.get_inx.result _ c.get_inx.ensures c.in-Some.is in
+    named-target c.args.side c.args.arena.now at.arena at.count _ (at.position + 1) at.invariant (omega (arith, c.capacity-position-end.ensures.value)) c.requires _ held (number i)
     (sym c.neighbour_on-neighbour.ensures ∙ ap (option_map number) is)
 
 pub loop-position-preserved : goal.loop-position-preserved
@@ -38,8 +33,7 @@ loop-position-preserved g c =
     let inside : at.position + 1 < length c.args.arena.now.slots = omega (arith, c.capacity-position-end.ensures.value) in
     elim c.match-get_inx.branch [
       | in-Some w ↦
-          let e = w.in-Some.entry in
-          let held = found number g.P.Gen.PtrGen.number _ at.arena c.unwrap-index.result (at.position + 1) (search rules) c.get_inx.result c.get_inx.ensures e w.in-Some.is in
+          let held = read number g.P.Gen.PtrGen.number _ at.arena c.unwrap-index.result (at.position + 1) (search rules) c.get_inx.result _ c.get_inx.ensures w.in-Some.is in
           let within : at.count + 1 ≤ g.P.Inx.PtrInx.most = omega (arith, at.invariant.fewer, c.capacity-position-end.ensures.limit, c.capacity-position-end.ensures.value) in
           let made : option_map number w.try_from_usize-here.result ≡ Some (at.count + 1) =
           index-made number g.P.Inx.PtrInx.most (at.count + 1) w.try_from_usize-here.result w.try_from_usize-here.ensures.variant w.try_from_usize-here.ensures.value (omega arith) within in
@@ -47,16 +41,16 @@ loop-position-preserved g c =
           (ap (named_of g.P.Inx.PtrInx.most) made ∙ neighbour-within g.P.Inx.PtrInx.most (at.count + 1) within) in
           elim w.if-is_none.branch [
             | then-is_none v ↦
-                rw (w.arena-is, w.end-is, v.end-is, w.count-is, made)
-                (named-step_end c.args.side c.args.arena.now at.arena at.count _ (at.position + 1) at.invariant inside _ held c.requires _ w.neighbour_on-neighbour.ensures (search rules) _ linked)
+                rw (w.arena-is, w.end-is, v.end-is, w.count-is)
+                (named-step c.args.side c.args.arena.now at.arena at.count _ (at.position + 1) at.invariant inside c.requires _ held _ w.neighbour_on-neighbour.ensures _ (λ none. made) (λ some. grind arith) _ linked)
             | else-is_none v ↦
                 rw (w.arena-is, w.end-is, v.end-is, w.count-is)
-                (named-step_more c.args.side c.args.arena.now at.arena at.count _ (at.position + 1) at.invariant inside _ held c.requires _ w.neighbour_on-neighbour.ensures (search rules) _ linked)
+                (named-step c.args.side c.args.arena.now at.arena at.count _ (at.position + 1) at.invariant inside c.requires _ held _ w.neighbour_on-neighbour.ensures (option_map number at.end) (λ none. grind arith) (λ some. refl) _ linked)
           ]
       | in_default w ↦
           rw (w.arena-is, w.end-is, w.count-is)
-          (named-vacant c.args.side c.args.arena.now at.arena at.count _ (at.position + 1) at.invariant inside
-          (missing number g.P.Gen.PtrGen.number _ at.arena c.unwrap-index.result (at.position + 1) (search rules) c.get_inx.result c.get_inx.ensures w.in_default.is))
+          (named-vacant c.args.side c.args.arena.now at.arena at.count _ (at.position + 1) at.invariant inside c.requires
+          (read number g.P.Gen.PtrGen.number _ at.arena c.unwrap-index.result (at.position + 1) (search rules) c.get_inx.result _ c.get_inx.ensures w.in_default.is))
     ]
 
 pub returns : goal.returns

@@ -1,5 +1,4 @@
-use Rattle.std.proofs.Common.{◌+◌}
-use Rattle.std.specs.Option.{option_map}
+use Rattle.std.proofs.Common.{◌+◌, option_map}
 use Rattle.chain_base.proofs.Naming.{NamedBelow}
 use Rattle.chain_base.proofs.chain.compress.name_compressed_indexes.Given as goal
 

@@ -1,5 +1,4 @@
-use Rattle.std.proofs.Common.{◌≡◌, length}
-use Rattle.std.specs.Option.{option_map}
+use Rattle.std.proofs.Common.{◌≡◌, length, option_map}
 use Rattle.chain_base.specs.Transfer.{last_of, HasTaken}
 use Rattle.chain_base.proofs.chain.transfer.take_all.Given as goal
 

@@ -1,5 +1,4 @@
-use Rattle.std.proofs.Common.{sym, ap, ◌∙◌}
-use Rattle.std.specs.Option.{option_map}
+use Rattle.std.proofs.Common.{sym, ap, ◌∙◌, refl, option_map}
 use Rattle.arena_base.specs.Invalidation.{valid_value}
 use Rattle.chain_base.specs.Chain.{link_at, removed}
 use Rattle.chain_base.proofs.Transferring.{takes-out, on_taken, item-numbered}
@@ -16,4 +15,4 @@ returns g c =
     (ap (option_map g.Q.Ptr.numbers) (sym c.unwrap-from.ensures) ∙ c.first.ensures)
     (sym shown ∙ sym (item-numbered g.Q.Gen.PtrGen.number gone) ∙ ap (option_map (λ e. e.1.item)) r.ensures.value ∙ ap (λ i. option_map (λ e. e.1.item) (link_at old.entries i)) c.inx.ensures)
     (c.unwrap.ensures.overflow ∙ c.item_taken-taken.ensures.overflow ∙ on_taken _ _ gone _ shown r.ensures.overflow)
-    (on_taken _ _ gone _ shown r.ensures.removed ∙ ap (removed era old) c.inx.ensures)
+    (on_taken _ _ gone _ shown r.ensures.removed ∙ ap (removed era old) c.inx.ensures) _ refl
