@@ -199,8 +199,13 @@ module _ {T : Type 0} where
 
       entry-even : met.entry.generation ≡ g
       entry-even =
-          grind (arith, common_steps, era-at now.entries n g met.entry.index (met.entry.generation, met.entry.item) b.even, entry_at-link None None now.entries met.entry.index,
-          link_at-split now.entries (numbered g 1 b.done) met.entry met.behind whole distinct met.entry.index refl)
+          grind (
+            arith,
+            common_steps,
+            era-at now.entries n g met.entry.index (met.entry.generation, met.entry.item) b.even,
+            entry_at-link None None now.entries met.entry.index,
+            link_at-split now.entries (numbered g 1 b.done) met.entry met.behind whole distinct met.entry.index refl,
+          )
 
       apart : (m : ℕ) → 1 ≤ m → m < 1 + length b.done → (m ≢ met.entry.index) × (m ≢ k + 1)
       apart m above below = grind (arith, common_steps, times-numbered, met, unmet)

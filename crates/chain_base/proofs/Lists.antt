@@ -120,16 +120,16 @@ module _ {T : Type 0} where
   Stands-occurs (e ∷ es) i occurs =
       elim (eqb_tells e.index i) [
         | inl h ↦ record {
-            front = [];
-            entry = e;
-            back = es;
-            split = refl;
-            here = h.1;
-            unmet = refl;
-            left = rw h.0 refl;
-            after = λ new. rw h.0 refl;
-            before = λ new. rw h.0 refl;
-          }
+          front = [];
+          entry = e;
+          back = es;
+          split = refl;
+          here = h.1;
+          unmet = refl;
+          left = rw h.0 refl;
+          after = λ new. rw h.0 refl;
+          before = λ new. rw h.0 refl;
+        }
         | inr h ↦
             let s = Stands-occurs es i (omega (arith, times-there i e es h.1)) in
             record {
@@ -157,9 +157,20 @@ module _ {T : Type 0} where
   pub seam-relinked : (xs ys : List (Entry T)) (after before next prev : Option ℕ) (i : ℕ) → times i xs + times i ys ≤ 1
       → seam xs next prev ys i ≡ relinked (last_or None xs) next (first_or None ys) prev i (seam xs after before ys i)
   seam-relinked xs ys after before next prev i once =
-      grind (arith, common_steps, link_between-after None after next xs i, link_between-before before None prev ys i, link_between-absent None after xs i,
-      link_between-absent None next xs i, link_between-absent before None ys i, link_between-absent prev None ys i, times-last xs i, times-first ys i,
-      names_tells (last_or None xs) i, names_tells (first_or None ys) i)
+      grind (
+        arith,
+        common_steps,
+        link_between-after None after next xs i,
+        link_between-before before None prev ys i,
+        link_between-absent None after xs i,
+        link_between-absent None next xs i,
+        link_between-absent before None ys i,
+        link_between-absent prev None ys i,
+        times-last xs i,
+        times-first ys i,
+        names_tells (last_or None xs) i,
+        names_tells (first_or None ys) i,
+      )
 
   -- the slots hold these entries, linked in this order from `before` on
   abbrev pub IsRow : (ℕ → Option (ℕ × Link T)) → Option ℕ → List (Entry T) → Type 0
