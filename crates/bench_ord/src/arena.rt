@@ -1,5 +1,6 @@
 //! The ordered arena, as it is measured.
-use crate::store::{Linked, Reached, Store};
+use crate::store::Store;
+use crate::task::{Linked, Reached};
 use std::alloc::{AllocError, Global};
 use triple_ord::{OrdPair, P0, Ptr, SimpleOrdArena};
 

@@ -1,6 +1,7 @@
 //! Searches from a hint, as they are measured.
 use crate::arena::Pairs;
 use crate::keys::shuffle;
+use crate::task::Task;
 use std::alloc::{AllocError, Global};
 use triple_ord::{P0, Ptr};
 
@@ -9,13 +10,6 @@ use triple_ord::{P0, Ptr};
 pub struct Hint {
     near: P0,
     key: u64,
-}
-
-/// The searches that are measured: for keys of these entries.
-#[derive(Clone, Copy)]
-pub struct Searches<'a> {
-    pub pairs: &'a Pairs,
-    pub hints: &'a [Hint],
 }
 
 /// The keys in a random order, each with the pointer to the entry so many places further on in the list. The last entries have none.
@@ -29,18 +23,32 @@ pub fn hints_of(alloc: Global, pairs: &Pairs, places: usize) -> Result<Vec<Hint>
     Ok(hints)
 }
 
-impl Searches<'_> {
-    /// Searches for each key from its hint, in at most sixteen steps before a whole search, and adds up the answers.
-    pub fn from_hints(self) -> u64 {
+/// Each key is searched for from its hint, in at most sixteen steps before a whole search.
+#[derive(Clone, Copy)]
+pub struct FromHints<'a> {
+    pub pairs: &'a Pairs,
+    pub hints: &'a [Hint],
+}
+
+impl Task for FromHints<'_> {
+    fn sum(&self) -> u64 {
         let mut sum = 0u64;
         for hint in self.hints {
             sum = sum.wrapping_add(numbers(self.pairs.find_key_linear(hint.near, 16, &hint.key)));
         }
         sum
     }
+}
 
-    /// Searches for each key, and adds up the answers.
-    pub fn from_the_root(self) -> u64 {
+/// Each key is searched for.
+#[derive(Clone, Copy)]
+pub struct FromTheRoot<'a> {
+    pub pairs: &'a Pairs,
+    pub hints: &'a [Hint],
+}
+
+impl Task for FromTheRoot<'_> {
+    fn sum(&self) -> u64 {
         let mut sum = 0u64;
         for hint in self.hints {
             sum = sum.wrapping_add(numbers(self.pairs.find_key(&hint.key)));

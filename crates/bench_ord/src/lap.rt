@@ -2,7 +2,7 @@
 ghost use Rattle.std.specs.Prelude.{◌≡◌, min};
 
 use std::io;
-use std::time::{Clock, Instant};
+use std::time::Instant;
 
 /// One round: how long it took, and the sum of what it answered.
 #[derive(Clone, Copy)]
@@ -13,8 +13,8 @@ pub struct Lap {
 
 impl Lap {
     /// The round that began then, and ends now with this sum.
-    pub fn since(clock: &impl Clock, start: Instant, sum: u64) -> io::Result<Self> {
-        let nanoseconds = start.elapsed(clock)?.as_nanos();
+    pub fn since(rt: &HostRuntime, start: Instant, sum: u64) -> io::Result<Self> {
+        let nanoseconds = start.elapsed(rt)?.as_nanos();
         Ok(Lap { nanoseconds, sum })
     }
 
@@ -28,4 +28,9 @@ impl Lap {
             sum: other.sum,
         }
     }
+}
+
+/// How many rounds are run at n entries.
+pub fn rounds(n: usize) -> usize {
+    (300_000 / n.max(1)).clamp(3, 30)
 }

@@ -15,6 +15,7 @@ mod measures;
 mod report;
 mod scheduling;
 mod store;
+mod task;
 mod timetable;
 mod trading;
 mod vector;

@@ -14,7 +14,7 @@ pub struct Row<'a> {
 }
 
 /// Prints the sums to standard output, and the times to standard error.
-pub fn print(rt: &(impl Print + Eprint), row: Row) -> io::Result<()> {
+pub fn print(rt: &HostRuntime, row: Row) -> io::Result<()> {
     let (n, measure) = (row.n, row.measure);
     let (name, other_name) = (row.name, row.other_name);
     let (own_sum, other_sum) = (row.own.sum, row.other.sum);

@@ -1,7 +1,6 @@
 //! The measures of jobs by deadline: of an agenda and of another structure in turn.
 use crate::keys::{keys_of, shuffle};
-use crate::lap::Lap;
-use crate::measures::{System, rounds};
+use crate::lap::{Lap, rounds};
 use crate::report::{Row, print};
 use crate::timetable::{ByDeadline, LazyHeap, Timetable};
 use agenda::Agenda;
@@ -9,11 +8,11 @@ use anyhow::Result;
 use std::time::Instant;
 
 /// Measures everything at n jobs, and prints it.
-pub fn run<R: System>(rt: &R, n: usize) -> Result<()> {
+pub fn run(rt: &HostRuntime, n: usize) -> Result<()> {
     let keys = keys_of(rt.alloc(), n)?;
     let deadlines = keys.random.as_slice();
-    compare_with::<R, LazyHeap>(rt, deadlines, "BinaryHeap")?;
-    compare_with::<R, ByDeadline>(rt, deadlines, "BTreeMap")
+    compare_with::<LazyHeap>(rt, deadlines, "BinaryHeap")?;
+    compare_with::<ByDeadline>(rt, deadlines, "BTreeMap")
 }
 
 // One round: how long it took to schedule all jobs, to cancel some, and to take the others out.
@@ -36,7 +35,7 @@ impl Round {
 }
 
 // A round in which so many jobs are cancelled, in a random order.
-fn round_of<R: System, T: Timetable>(rt: &R, deadlines: &[u64], cancelled: usize) -> Result<Round> {
+fn round_of<T: Timetable>(rt: &HostRuntime, deadlines: &[u64], cancelled: usize) -> Result<Round> {
     let start = Instant::now(rt)?;
     let (mut timetable, mut tickets) = T::scheduled(rt.alloc(), deadlines)?;
     let schedule = Lap::since(rt, start, tickets.len() as u64)?;
@@ -56,35 +55,35 @@ fn round_of<R: System, T: Timetable>(rt: &R, deadlines: &[u64], cancelled: usize
 }
 
 // The best rounds of an agenda and of another structure, each in turn.
-fn quickest<R: System, T: Timetable>(
-    rt: &R,
+fn quickest<T: Timetable>(
+    rt: &HostRuntime,
     deadlines: &[u64],
     cancelled: usize,
 ) -> Result<(Round, Round)> {
-    let mut agenda = round_of::<R, Agenda<u64>>(rt, deadlines, cancelled)?;
-    let mut other = round_of::<R, T>(rt, deadlines, cancelled)?;
+    let mut agenda = round_of::<Agenda<u64>>(rt, deadlines, cancelled)?;
+    let mut other = round_of::<T>(rt, deadlines, cancelled)?;
     for _ in 1..rounds(deadlines.len()) {
-        agenda = agenda.or_quicker(round_of::<R, Agenda<u64>>(rt, deadlines, cancelled)?);
-        other = other.or_quicker(round_of::<R, T>(rt, deadlines, cancelled)?);
+        agenda = agenda.or_quicker(round_of::<Agenda<u64>>(rt, deadlines, cancelled)?);
+        other = other.or_quicker(round_of::<T>(rt, deadlines, cancelled)?);
     }
     Ok((agenda, other))
 }
 
 // Compares with a structure of this name, of whose jobs first half are cancelled and then none.
-fn compare_with<R: System, T: Timetable>(rt: &R, deadlines: &[u64], name: &str) -> Result<()> {
+fn compare_with<T: Timetable>(rt: &HostRuntime, deadlines: &[u64], name: &str) -> Result<()> {
     let n = deadlines.len();
     let half = n / 2;
-    let (agenda, other) = quickest::<R, T>(rt, deadlines, half)?;
+    let (agenda, other) = quickest::<T>(rt, deadlines, half)?;
     report(rt, n, "schedule", agenda.schedule, other.schedule, name)?;
     report(rt, half, "cancel half", agenda.cancel, other.cancel, name)?;
     report(rt, n - half, "pop the rest", agenda.pop, other.pop, name)?;
-    let (agenda, other) = quickest::<R, T>(rt, deadlines, 0)?;
+    let (agenda, other) = quickest::<T>(rt, deadlines, 0)?;
     report(rt, n, "pop all", agenda.pop, other.pop, name)
 }
 
 // Prints the best rounds of a call that was made n times.
-fn report<R: System>(
-    rt: &R,
+fn report(
+    rt: &HostRuntime,
     n: usize,
     measure: &str,
     agenda: Lap,

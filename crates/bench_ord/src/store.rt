@@ -1,4 +1,5 @@
 //! What the measured structures have in common.
+use crate::task::Task;
 use std::alloc::{AllocError, Global};
 
 /// A structure of keys with values, in the order of the keys. The value of a key is the key without its last byte.
@@ -28,21 +29,6 @@ pub trait Store: Drop {
     fn walk(&self) -> u64;
 }
 
-/// Entries that are reached without a search, in an order that is random.
-pub trait Reached {
-    /// Reaches each entry, and adds up their values.
-    fn get_all(&self) -> u64;
-}
-
-/// Entries that know their neighbours.
-pub trait Linked {
-    /// Asks each entry for both its neighbours, and adds up their indexes.
-    fn neighbours_of_all(&self) -> u64;
-
-    /// Steps from each entry to the next, beginning at the first, and adds up their values.
-    fn step_through(&self) -> u64;
-}
-
 /// The keys, inserted one after another.
 pub fn filled<S: Store>(alloc: Global, keys: &[u64]) -> Result<S, AllocError> {
     let mut store = S::empty(alloc);
@@ -52,13 +38,33 @@ pub fn filled<S: Store>(alloc: Global, keys: &[u64]) -> Result<S, AllocError> {
     Ok(store)
 }
 
-/// Searches for each key, and adds up the answers.
-pub fn find_all<S: Store>(store: &S, keys: &[u64]) -> u64 {
-    let mut sum = 0u64;
-    for key in keys {
-        sum = sum.wrapping_add(store.find(*key));
+/// Each key is searched for.
+#[derive(Clone, Copy)]
+pub struct Finding<'a, S> {
+    pub store: &'a S,
+    pub keys: &'a [u64],
+}
+
+impl<S: Store> Task for Finding<'_, S> {
+    fn sum(&self) -> u64 {
+        let mut sum = 0u64;
+        for key in self.keys {
+            sum = sum.wrapping_add(self.store.find(*key));
+        }
+        sum
     }
-    sum
+}
+
+/// All entries are gone through.
+#[derive(Clone, Copy)]
+pub struct Walking<'a, S> {
+    pub store: &'a S,
+}
+
+impl<S: Store> Task for Walking<'_, S> {
+    fn sum(&self) -> u64 {
+        self.store.walk()
+    }
 }
 
 /// Removes each entry that is named, and adds up their values.

@@ -1,8 +1,7 @@
 //! The measures of books of limit orders: of an order book and of another structure in turn.
 use crate::keys::keys_of;
-use crate::lap::Lap;
+use crate::lap::{Lap, rounds};
 use crate::market::{Book, Limit, Maps, Market};
-use crate::measures::{System, rounds};
 use crate::report::{Row, print};
 use anyhow::Result;
 use order_book::Side;
@@ -10,14 +9,14 @@ use std::alloc::AllocError;
 use std::time::Instant;
 
 /// Measures n orders that come to rest, and a stream of n orders over them, and prints it.
-pub fn run<R: System>(rt: &R, n: usize) -> Result<()> {
+pub fn run(rt: &HostRuntime, n: usize) -> Result<()> {
     let keys = keys_of(rt.alloc(), n)?;
     let (resting, stream) = (keys.random.as_slice(), keys.misses.as_slice());
-    let mut book = round_of::<R, Book>(rt, resting, stream)?;
-    let mut maps = round_of::<R, Maps>(rt, resting, stream)?;
+    let mut book = round_of::<Book>(rt, resting, stream)?;
+    let mut maps = round_of::<Maps>(rt, resting, stream)?;
     for _ in 1..rounds(n) {
-        book = book.or_quicker(round_of::<R, Book>(rt, resting, stream)?);
-        maps = maps.or_quicker(round_of::<R, Maps>(rt, resting, stream)?);
+        book = book.or_quicker(round_of::<Book>(rt, resting, stream)?);
+        maps = maps.or_quicker(round_of::<Maps>(rt, resting, stream)?);
     }
     report(rt, n, "place at rest", book.rest, maps.rest)?;
     report(rt, n, "place, cancel, trade", book.stream, maps.stream)
@@ -41,7 +40,7 @@ impl Round {
 }
 
 // Prints the best rounds of n orders.
-fn report<R: System>(rt: &R, n: usize, measure: &str, book: Lap, maps: Lap) -> Result<()> {
+fn report(rt: &HostRuntime, n: usize, measure: &str, book: Lap, maps: Lap) -> Result<()> {
     let row = Row {
         n,
         measure,
@@ -55,7 +54,7 @@ fn report<R: System>(rt: &R, n: usize, measure: &str, book: Lap, maps: Lap) -> R
 }
 
 // A round over an empty book.
-fn round_of<R: System, M: Market>(rt: &R, resting: &[u64], stream: &[u64]) -> Result<Round> {
+fn round_of<M: Market>(rt: &HostRuntime, resting: &[u64], stream: &[u64]) -> Result<Round> {
     let mut market = M::empty(rt.alloc());
     let mut ids = Vec::with_capacity(rt.alloc(), resting.len())?;
     let start = Instant::now(rt)?;

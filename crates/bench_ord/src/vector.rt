@@ -1,6 +1,6 @@
 //! Plain vectors, as they are measured.
 use crate::arena::Pointed;
-use crate::store::{Linked, Reached};
+use crate::task::{Linked, Reached};
 use std::alloc::{AllocError, Global};
 use triple_ord::{OrdPair, Ptr};
 

@@ -6,5 +6,3 @@ pub mod entries;
 pub mod notes;
 pub mod rounds;
 pub mod scheduler;
-#[cfg(test)]
-mod tests;

@@ -1,0 +1,5 @@
+//! The uses of `triple_ord`, run.
+#![tactic(auto)]
+
+#[cfg(test)]
+mod tests;
