@@ -15,28 +15,58 @@ use std::time::Instant;
 /// Measures everything at n entries, and prints it.
 pub fn run(rt: &HostRuntime, n: usize) -> Result<()> {
     let keys = keys_of(rt.alloc(), n)?;
-    compare_work(rt, "insert random keys", Work::Fill(&keys.random))?;
-    compare_work(rt, "insert ascending keys", Work::Fill(&keys.ascending))?;
-    compare_work(rt, "remove by pointer", Work::Remove(&keys))?;
-    compare_work(rt, "remove and insert", Work::Churn(&keys))?;
+    compare_changing(rt, &keys)?;
+    compare_standing(rt, &keys)?;
+    compare_rebuilt(rt, &keys)
+}
+
+// Entries that come and go.
+fn compare_changing(rt: &HostRuntime, keys: &Keys) -> Result<()> {
+    let works = [
+        ("insert random keys", Work::Fill(&keys.random)),
+        ("insert ascending keys", Work::Fill(&keys.ascending)),
+        ("remove by pointer", Work::Remove(keys)),
+        ("remove and insert", Work::Churn(keys)),
+    ];
+    for (measure, work) in &works {
+        compare_work(rt, measure, *work)?;
+    }
+    Ok(())
+}
+
+// Entries that stay.
+fn compare_standing(rt: &HostRuntime, keys: &Keys) -> Result<()> {
     let pairs: Pairs = filled(rt.alloc(), &keys.random)?;
-    let map: Map = filled(rt.alloc(), &keys.random)?;
-    compare_finding(rt, "find hits", &pairs, &map, &keys.hits)?;
-    compare_finding(rt, "find misses", &pairs, &map, &keys.misses)?;
-    compare_hints(rt, "find at the hint", &pairs, 0)?;
-    compare_hints(rt, "find beside the hint", &pairs, 1)?;
-    compare_hints(rt, "find ten from the hint", &pairs, 10)?;
-    compare_walking(rt, "go through in order", &pairs, &map)?;
-    compare_rebuilding(rt, "rebuild random keys", &keys.random, &keys.ascending)?;
-    compare_rebuilding(
-        rt,
-        "rebuild ascending keys",
-        &keys.ascending,
-        &keys.ascending,
-    )?;
-    let rebuilt = rebuilt_of(rt.alloc(), &keys.random)?;
-    compare_walking(rt, "go through rebuilt", &rebuilt, &map)?;
+    compare_with_map(rt, &pairs, keys)?;
+    for (measure, places) in &[
+        ("find at the hint", 0usize),
+        ("find beside the hint", 1),
+        ("find ten from the hint", 10),
+    ] {
+        compare_hints(rt, measure, &pairs, *places)?;
+    }
     compare_with_vectors(rt, &pairs)
+}
+
+// The arena of these keys beside a map of them.
+fn compare_with_map(rt: &HostRuntime, pairs: &Pairs, keys: &Keys) -> Result<()> {
+    let map: Map = filled(rt.alloc(), &keys.random)?;
+    compare_finding(rt, "find hits", pairs, &map, &keys.hits)?;
+    compare_finding(rt, "find misses", pairs, &map, &keys.misses)?;
+    compare_walking(rt, "go through in order", pairs, &map)
+}
+
+// The arena in the canonical order.
+fn compare_rebuilt(rt: &HostRuntime, keys: &Keys) -> Result<()> {
+    for (measure, keys_of_arena) in &[
+        ("rebuild random keys", &keys.random),
+        ("rebuild ascending keys", &keys.ascending),
+    ] {
+        compare_rebuilding(rt, measure, keys_of_arena, &keys.ascending)?;
+    }
+    let rebuilt = rebuilt_of(rt.alloc(), &keys.random)?;
+    let map: Map = filled(rt.alloc(), &keys.random)?;
+    compare_walking(rt, "go through rebuilt", &rebuilt, &map)
 }
 
 // Prints the best rounds of the arena and of a map.
