@@ -132,8 +132,8 @@ fn filled(
 /// The line is a command, and answered by one line.
 fn is_command(rt: &impl Abort, alloc: Global, line: &[u8]) {
     let (output, end) = served(alloc, line);
-    assert_eq!(rt; end, ScriptEnd::Done);
-    assert_eq!(rt; output.iter().filter(|byte| **byte == b'\n').count(), 1);
+    let lines = output.iter().filter(|byte| **byte == b'\n').count();
+    assert!(rt; end == ScriptEnd::Done && lines == 1);
 }
 
 /// A line with a number, and so many zeros in front of it.
@@ -180,31 +180,43 @@ fn longest(rt: &impl Abort, alloc: Global, parts: (&str, u8, &str)) -> Vec<u8> {
     script
 }
 
-/// The longest scripts that are answered.
-const ANSWERED: [((&str, u8, &str), &str); 4] = [
-    (("#", b'x', ""), ""),
-    (("", b'\n', ""), ""),
-    (("", b' ', "list"), "list\n"),
-    (("insert -", b'0', "5 7\nlist"), "new 1.2\nlist 1.2=-5:7\n"),
-];
-
-/// The longest scripts that are faults.
-const FAULTS: [((&str, u8, &str), FaultKind); 4] = [
-    (("", b'x', ""), FaultKind::UnknownCommand),
-    (("list", b'\r', "\n"), FaultKind::UnknownCommand),
-    (("find 1 2", b'\t', "3"), FaultKind::WrongArguments),
-    (("find ", b'9', ""), FaultKind::BadNumber),
+/// Scripts of the greatest length, each with its answer and its end.
+const LONG: [((&str, u8, &str), &str, ScriptEnd); 8] = [
+    (("#", b'x', ""), "", ScriptEnd::Done),
+    (("", b'\n', ""), "", ScriptEnd::Done),
+    (("", b' ', "list"), "list\n", ScriptEnd::Done),
+    (
+        ("insert -", b'0', "5 7\nlist"),
+        "new 1.2\nlist 1.2=-5:7\n",
+        ScriptEnd::Done,
+    ),
+    (
+        ("", b'x', ""),
+        "line 1: unknown command\n",
+        ScriptEnd::Fault(1, FaultKind::UnknownCommand),
+    ),
+    (
+        ("list", b'\r', "\n"),
+        "line 1: unknown command\n",
+        ScriptEnd::Fault(1, FaultKind::UnknownCommand),
+    ),
+    (
+        ("find 1 2", b'\t', "3"),
+        "line 1: wrong arguments\n",
+        ScriptEnd::Fault(1, FaultKind::WrongArguments),
+    ),
+    (
+        ("find ", b'9', ""),
+        "line 1: bad number\n",
+        ScriptEnd::Fault(1, FaultKind::BadNumber),
+    ),
 ];
 
 #[test]
 fn lines_of_a_megabyte(rt: HostRuntime) {
-    for (parts, answer) in &ANSWERED {
-        let script = longest(&rt, rt.alloc(), *parts);
-        answers(&rt, rt.alloc(), &script, *answer);
-    }
-    for (parts, kind) in &FAULTS {
-        let script = longest(&rt, rt.alloc(), *parts);
-        is_fault(&rt, rt.alloc(), &script, *kind);
+    for (parts, answer, end) in LONG {
+        let script = longest(&rt, rt.alloc(), parts);
+        ends(&rt, rt.alloc(), &script, answer, end);
     }
 }
 
