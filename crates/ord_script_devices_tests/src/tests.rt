@@ -58,11 +58,6 @@ fn ends(rt: &impl Abort, alloc: Global, script: &[u8], answer: &str, wanted: Scr
     );
 }
 
-/// The script is answered so to its last line.
-fn answers(rt: &impl Abort, alloc: Global, script: &[u8], answer: &str) {
-    ends(rt, alloc, script, answer, ScriptEnd::Done);
-}
-
 /// The words of a fault.
 fn words_of(kind: FaultKind) -> &'static str {
     match kind {
