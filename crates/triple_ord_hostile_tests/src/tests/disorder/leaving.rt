@@ -129,26 +129,16 @@ fn drained(rt: &impl Abort, alloc: Global, a: &Numbers, count: usize) -> Vec<Row
     given
 }
 
-/// A clone has the same entries in a tree of the same shape.
-fn is_cloned(rt: &impl Abort, alloc: Global, a: &Numbers, old: &[Row]) {
+/// What `remove`, `drain_ordered`, `compress`, `compress_canonical` and `clone` do.
+pub(super) fn hold(rt: &impl Abort, alloc: Global, a: &Numbers, old: &[Row]) {
     let b = cloned(rt, a);
     assert!(rt; rows(rt, alloc, &b).as_slice() == old);
     assert!(rt; parents(rt, alloc, &b).as_slice() == parents(rt, alloc, a).as_slice());
-}
-
-/// Drains that stop at each place, and behind the last one.
-fn drains(rt: &impl Abort, alloc: Global, a: &Numbers, old: &[Row]) {
-    for count in 0..=old.len().saturating_add(1) {
-        assert!(rt; drained(rt, alloc, a, count).as_slice() == old);
-    }
-}
-
-/// What `remove`, `drain_ordered`, `compress`, `compress_canonical` and `clone` do.
-pub(super) fn hold(rt: &impl Abort, alloc: Global, a: &Numbers, old: &[Row]) {
-    is_cloned(rt, alloc, a, old);
     for row in old {
         removal(rt, alloc, a, old, row.p);
     }
-    drains(rt, alloc, a, old);
+    for count in 0..=old.len().saturating_add(1) {
+        assert!(rt; drained(rt, alloc, a, count).as_slice() == old);
+    }
     rebuilds(rt, alloc, a, old);
 }
