@@ -52,13 +52,10 @@ fn served(alloc: Global, script: &[u8]) -> (Vec<u8>, ScriptEnd) {
 /// The script answers this, and ends so.
 fn ends(rt: &impl Abort, alloc: Global, script: &[u8], answer: &str, wanted: ScriptEnd) {
     let (output, end) = served(alloc, script);
-    assert_eq!(rt; end, wanted, "{script:?}");
-    assert_eq!(rt; output.as_slice(), answer.as_bytes());
-}
-
-/// The script is answered so to its last line.
-fn answers(rt: &impl Abort, alloc: Global, script: &[u8], answer: &str) {
-    ends(rt, alloc, script, answer, ScriptEnd::Done);
+    assert!(rt;
+        end == wanted && output.as_slice() == answer.as_bytes(),
+        "{script:?}"
+    );
 }
 
 /// The words of a fault.

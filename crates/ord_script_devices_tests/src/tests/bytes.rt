@@ -1,5 +1,5 @@
 //! Bytes where no one puts them, numbers at and beyond their limits, and lines as long as an input may be.
-use super::{answers, ends, served, words_of};
+use super::{ends, served, words_of};
 use ord_script::{FaultKind, ScriptEnd};
 use std::alloc::Global;
 use std::process::Abort;
@@ -13,60 +13,104 @@ fn is_fault(rt: &impl Abort, alloc: Global, script: &[u8], kind: FaultKind) {
     ends(rt, alloc, script, fault.as_str(), ScriptEnd::Fault(1, kind));
 }
 
-/// A byte between two texts.
-fn between(rt: &impl Abort, alloc: Global, before: &[u8], byte: u8, after: &[u8]) -> Vec<u8> {
-    let mut script = Vec::new(alloc);
-    script.extend_from_slice(before).expect(rt, "memory");
-    script.push(byte).expect(rt, "memory");
-    script.extend_from_slice(after).expect(rt, "memory");
-    script
+/// Where a byte stands, which bytes fit there, which part two words, and what a line says with these, with a line feed, and with others.
+struct Place {
+    before: &'static str,
+    after: &'static str,
+    fitting: &'static str,
+    parting: &'static str,
+    answer: &'static str,
+    line_feed: (&'static str, ScriptEnd),
+    other: (&'static str, ScriptEnd),
 }
 
-#[test]
-fn each_byte_as_a_first_word(rt: HostRuntime) {
+/// How a line ends that is no command.
+const UNKNOWN: (&str, ScriptEnd) = (
+    "line 1: unknown command\n",
+    ScriptEnd::Fault(1, FaultKind::UnknownCommand),
+);
+
+/// How a line ends that has too few words or too many.
+const WRONG: (&str, ScriptEnd) = (
+    "line 1: wrong arguments\n",
+    ScriptEnd::Fault(1, FaultKind::WrongArguments),
+);
+
+/// How a line ends in which a number is none.
+const BAD: (&str, ScriptEnd) = (
+    "line 1: bad number\n",
+    ScriptEnd::Fault(1, FaultKind::BadNumber),
+);
+
+/// As a first word, inside a word, before a number, and inside one.
+const PLACES: [Place; 4] = [
+    Place {
+        before: "",
+        after: "\n",
+        fitting: "\r \t#",
+        parting: "",
+        answer: "",
+        line_feed: ("", ScriptEnd::Done),
+        other: UNKNOWN,
+    },
+    Place {
+        before: "ran",
+        after: "ks\n",
+        fitting: "",
+        parting: "",
+        answer: "",
+        line_feed: UNKNOWN,
+        other: UNKNOWN,
+    },
+    Place {
+        before: "find ",
+        after: "2\n",
+        fitting: "0123456789- \t",
+        parting: "",
+        answer: "none\n",
+        line_feed: WRONG,
+        other: BAD,
+    },
+    Place {
+        before: "find 1",
+        after: "2\n",
+        fitting: "0123456789",
+        parting: " \t",
+        answer: "none\n",
+        line_feed: (
+            "none\nline 2: unknown command\n",
+            ScriptEnd::Fault(2, FaultKind::UnknownCommand),
+        ),
+        other: BAD,
+    },
+];
+
+/// What a script with this byte at a place answers, and how it ends.
+fn wanted(place: &Place, byte: u8) -> (&'static str, ScriptEnd) {
+    if byte == b'\n' {
+        place.line_feed
+    } else if place.fitting.as_bytes().contains(&byte) {
+        (place.answer, ScriptEnd::Done)
+    } else if place.parting.as_bytes().contains(&byte) {
+        WRONG
+    } else {
+        place.other
+    }
+}
+
+/// Every byte at a place.
+fn each_byte_at(rt: &impl Abort, alloc: Global, place: &Place) {
     for byte in 0u8..=255 {
-        let script = between(&rt, rt.alloc(), b"", byte, b"\n");
-        match byte {
-            b'\n' | b'\r' | b' ' | b'\t' | b'#' => answers(&rt, rt.alloc(), &script, ""),
-            _ => is_fault(&rt, rt.alloc(), &script, FaultKind::UnknownCommand),
-        }
+        let script = filled(rt, alloc, place.before, byte, 1, place.after);
+        let (answer, end) = wanted(place, byte);
+        ends(rt, alloc, &script, answer, end);
     }
 }
 
 #[test]
-fn each_byte_inside_a_word(rt: HostRuntime) {
-    for byte in 0u8..=255 {
-        let script = between(&rt, rt.alloc(), b"ran", byte, b"ks\n");
-        is_fault(&rt, rt.alloc(), &script, FaultKind::UnknownCommand);
-    }
-}
-
-#[test]
-fn each_byte_before_a_number(rt: HostRuntime) {
-    for byte in 0u8..=255 {
-        let script = between(&rt, rt.alloc(), b"find ", byte, b"2\n");
-        match byte {
-            b'0'..=b'9' | b'-' | b' ' | b'\t' => answers(&rt, rt.alloc(), &script, "none\n"),
-            b'\n' => is_fault(&rt, rt.alloc(), &script, FaultKind::WrongArguments),
-            _ => is_fault(&rt, rt.alloc(), &script, FaultKind::BadNumber),
-        }
-    }
-}
-
-#[test]
-fn each_byte_inside_a_number(rt: HostRuntime) {
-    for byte in 0u8..=255 {
-        let script = between(&rt, rt.alloc(), b"find 1", byte, b"2\n");
-        match byte {
-            b'0'..=b'9' => answers(&rt, rt.alloc(), &script, "none\n"),
-            b' ' | b'\t' => is_fault(&rt, rt.alloc(), &script, FaultKind::WrongArguments),
-            b'\n' => {
-                let end = ScriptEnd::Fault(2, FaultKind::UnknownCommand);
-                let answer = "none\nline 2: unknown command\n";
-                ends(&rt, rt.alloc(), &script, answer, end);
-            }
-            _ => is_fault(&rt, rt.alloc(), &script, FaultKind::BadNumber),
-        }
+fn each_byte_at_each_place(rt: HostRuntime) {
+    for place in &PLACES {
+        each_byte_at(&rt, rt.alloc(), place);
     }
 }
 
@@ -132,8 +176,8 @@ fn filled(
 /// The line is a command, and answered by one line.
 fn is_command(rt: &impl Abort, alloc: Global, line: &[u8]) {
     let (output, end) = served(alloc, line);
-    assert_eq!(rt; end, ScriptEnd::Done);
-    assert_eq!(rt; output.iter().filter(|byte| **byte == b'\n').count(), 1);
+    let lines = output.iter().filter(|byte| **byte == b'\n').count();
+    assert!(rt; end == ScriptEnd::Done && lines == 1);
 }
 
 /// A line with a number, and so many zeros in front of it.
@@ -180,31 +224,26 @@ fn longest(rt: &impl Abort, alloc: Global, parts: (&str, u8, &str)) -> Vec<u8> {
     script
 }
 
-/// The longest scripts that are answered.
-const ANSWERED: [((&str, u8, &str), &str); 4] = [
-    (("#", b'x', ""), ""),
-    (("", b'\n', ""), ""),
-    (("", b' ', "list"), "list\n"),
-    (("insert -", b'0', "5 7\nlist"), "new 1.2\nlist 1.2=-5:7\n"),
-];
-
-/// The longest scripts that are faults.
-const FAULTS: [((&str, u8, &str), FaultKind); 4] = [
-    (("", b'x', ""), FaultKind::UnknownCommand),
-    (("list", b'\r', "\n"), FaultKind::UnknownCommand),
-    (("find 1 2", b'\t', "3"), FaultKind::WrongArguments),
-    (("find ", b'9', ""), FaultKind::BadNumber),
+/// Scripts of the greatest length, each with its answer and its end.
+const LONG: [((&str, u8, &str), (&str, ScriptEnd)); 8] = [
+    (("#", b'x', ""), ("", ScriptEnd::Done)),
+    (("", b'\n', ""), ("", ScriptEnd::Done)),
+    (("", b' ', "list"), ("list\n", ScriptEnd::Done)),
+    (
+        ("insert -", b'0', "5 7\nlist"),
+        ("new 1.2\nlist 1.2=-5:7\n", ScriptEnd::Done),
+    ),
+    (("", b'x', ""), UNKNOWN),
+    (("list", b'\r', "\n"), UNKNOWN),
+    (("find 1 2", b'\t', "3"), WRONG),
+    (("find ", b'9', ""), BAD),
 ];
 
 #[test]
 fn lines_of_a_megabyte(rt: HostRuntime) {
-    for (parts, answer) in &ANSWERED {
-        let script = longest(&rt, rt.alloc(), *parts);
-        answers(&rt, rt.alloc(), &script, *answer);
-    }
-    for (parts, kind) in &FAULTS {
-        let script = longest(&rt, rt.alloc(), *parts);
-        is_fault(&rt, rt.alloc(), &script, *kind);
+    for (parts, (answer, end)) in LONG {
+        let script = longest(&rt, rt.alloc(), parts);
+        ends(&rt, rt.alloc(), &script, answer, end);
     }
 }
 

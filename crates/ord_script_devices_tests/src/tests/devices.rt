@@ -127,19 +127,26 @@ fn serve_with(
     (end, sink.bytes)
 }
 
+/// How reads fail: by so many bytes a call, and then so.
+const READS: [(usize, Failure); 6] = [
+    (1, Failure::Broken),
+    (5, Failure::Broken),
+    (usize::MAX, Failure::Broken),
+    (1, Failure::Interrupted),
+    (5, Failure::Interrupted),
+    (usize::MAX, Failure::Interrupted),
+];
+
 /// Reads fail after so many bytes, and nothing is written.
 fn read_fails(rt: &impl Abort, alloc: Global, script: &str, left: usize) {
-    for failure in [Failure::Broken, Failure::Interrupted] {
-        for step in [1, 5, usize::MAX] {
-            let pace = Pace {
-                step,
-                left,
-                failure,
-            };
-            let (end, written) = serve_with(rt, alloc, script, pace, WELL);
-            assert_eq!(rt; end, ScriptEnd::ReadFailed);
-            assert!(rt; written.is_empty());
-        }
+    for (step, failure) in READS {
+        let pace = Pace {
+            step,
+            left,
+            failure,
+        };
+        let (end, written) = serve_with(rt, alloc, script, pace, WELL);
+        assert!(rt; end == ScriptEnd::ReadFailed && written.is_empty());
     }
 }
 
@@ -152,19 +159,30 @@ fn reads_that_fail_after_each_byte(rt: HostRuntime) {
     }
 }
 
+/// How writes fail: so as reads do, and by taking no byte.
+const WRITES: [(usize, Failure); 9] = [
+    (1, Failure::Broken),
+    (5, Failure::Broken),
+    (usize::MAX, Failure::Broken),
+    (1, Failure::Interrupted),
+    (5, Failure::Interrupted),
+    (usize::MAX, Failure::Interrupted),
+    (1, Failure::Nothing),
+    (5, Failure::Nothing),
+    (usize::MAX, Failure::Nothing),
+];
+
 /// Writes fail after so many bytes, which are a beginning of the answer.
 fn write_fails(rt: &impl Abort, alloc: Global, script: &str, answer: &str, left: usize) {
-    for failure in [Failure::Broken, Failure::Interrupted, Failure::Nothing] {
-        for step in [1, 5, usize::MAX] {
-            let pace = Pace {
-                step,
-                left,
-                failure,
-            };
-            let (end, written) = serve_with(rt, alloc, script, WELL, pace);
-            assert_eq!(rt; end, ScriptEnd::WriteFailed);
-            assert_eq!(rt; Some(written.as_slice()), answer.as_bytes().get(..left));
-        }
+    let wanted = answer.as_bytes().get(..left);
+    for (step, failure) in WRITES {
+        let pace = Pace {
+            step,
+            left,
+            failure,
+        };
+        let (end, written) = serve_with(rt, alloc, script, WELL, pace);
+        assert!(rt; end == ScriptEnd::WriteFailed && Some(written.as_slice()) == wanted);
     }
 }
 
@@ -182,8 +200,7 @@ fn is_served_slowly(rt: &impl Abort, alloc: Global, script: &str, answer: &str, 
     let pace = Pace { step, ..WELL };
     let (end, written) = serve_with(rt, alloc, script, pace, pace);
     let is_well = matches!(end, ScriptEnd::Done | ScriptEnd::Fault(..));
-    assert!(rt; is_well);
-    assert_eq!(rt; written.as_slice(), answer.as_bytes());
+    assert!(rt; is_well && written.as_slice() == answer.as_bytes());
 }
 
 #[test]

@@ -13,7 +13,7 @@ fn served_on(rt: &impl Abort, alloc: Global, script: &[u8], size: usize) -> (Vec
     let mut reader = Watched::new(script);
     let end = serve(&heap, &mut reader, &mut Watched::new(&mut output));
     // what `serve` took it has given back, so the same call finds the same room
-    assert_eq!(rt; heap.used(), 0);
+    assert!(rt; heap.used() == 0);
     (output, end)
 }
 
@@ -172,7 +172,7 @@ fn end_on(
         assert!(rt; output.is_empty());
         return 0;
     }
-    assert_eq!(rt; end, ScriptEnd::Done);
+    assert!(rt; end == ScriptEnd::Done);
     let told = std::str::from_utf8(&output).expect(rt, "text");
     let refusals = refusals_of(told, list, lists).expect(rt, "the lines");
     if refusals == 0 { 2 } else { 1 }
@@ -193,7 +193,7 @@ fn ends_of(rt: &impl Abort, alloc: Global, lists: usize) -> [bool; 3] {
 
 #[test]
 fn lists_again_and_again(rt: HostRuntime) {
-    assert_eq!(rt; ends_of(&rt, rt.alloc(), 3), [true; 3]);
+    assert!(rt; ends_of(&rt, rt.alloc(), 3) == [true; 3]);
     let many = ends_of(&rt, rt.alloc(), 60);
     assert!(rt; many[0] && many[2]);
 }

@@ -158,7 +158,7 @@ fn is_reply(rt: &impl Abort, plain: &mut Plain, line: Line, reply: &Told) -> boo
 }
 
 /// What was refused in a run.
-#[derive(Clone, Copy, Debug, PartialEq, Eq)]
+#[derive(Clone, Copy, PartialEq, Eq)]
 struct Refusals {
     replies: bool,
     insertion: bool,
@@ -225,6 +225,28 @@ fn has(arena: &Numbers, plain: &Plain) -> bool {
     wanted.next().is_none() && arena.len() == plain.len()
 }
 
+/// What the commands answer, where memory for the replies wasn't refused.
+type Outcome<'h> = Result<Vec<Told<'h>, &'h LocalHeap>, AllocError>;
+
+/// The replies and the entries are those of the commands; where the replies were refused the arena is as it was.
+fn is_right<'h>(
+    rt: &impl Abort,
+    alloc: Global,
+    arena: &Numbers<'h>,
+    outcome: &Outcome<'h>,
+    met: &mut Refusals,
+) {
+    let mut plain = Vec::new(alloc);
+    match outcome {
+        Ok(replies) => assert!(rt; are_replies(rt, &mut plain, replies, met)),
+        Err(AllocError) => {
+            assert!(rt; arena.capacity() == 0);
+            met.replies = true;
+        }
+    }
+    assert!(rt; has(arena, &plain));
+}
+
 /// Runs the commands on an arena without an entry.
 fn run_on<'h>(
     rt: &impl Abort,
@@ -235,17 +257,8 @@ fn run_on<'h>(
 ) {
     let mut arena: Numbers<'h> = SimpleOrdArena::new(heap);
     let mut closure = |_p: P0, _item: &Item| Ordering::Equal;
-    match run(heap, &mut arena, commands, &mut closure) {
-        Ok(replies) => {
-            let mut plain = Vec::new(alloc);
-            assert!(rt; are_replies(rt, &mut plain, &replies, met));
-            assert!(rt; has(&arena, &plain));
-        }
-        Err(AllocError) => {
-            assert_eq!(rt; (arena.len(), arena.capacity()), (0, 0));
-            met.replies = true;
-        }
-    }
+    let outcome = run(heap, &mut arena, commands, &mut closure);
+    is_right(rt, alloc, &arena, &outcome, met);
 }
 
 /// Runs the commands where so many units of room are left beside them; and where something was refused once more, with memory.
@@ -275,5 +288,5 @@ fn each_request_of_a_run(rt: HostRuntime) {
         drain: true,
         nothing: true,
     };
-    assert_eq!(rt; met, all);
+    assert!(rt; met == all);
 }

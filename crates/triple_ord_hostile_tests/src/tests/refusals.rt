@@ -5,68 +5,64 @@ mod growths;
 
 use linked_list_allocator::LocalHeap;
 use std::alloc::Global;
-use std::fmt::Write;
+use std::fmt::{Debug, Write};
 use std::process::Abort;
-use triple_ord::{OrdInsertionError, OrdPair, P0, Ptr, SimpleOrdArena};
+use triple_ord::{OrdInsertionError, OrdPair, P0, Ptr, ReallocationError, SimpleOrdArena};
+
+/// An arena on a heap.
+type OnHeap<'h, T> = SimpleOrdArena<P0, T, &'h LocalHeap>;
 
 /// Keys with a number each, on a heap.
-type Numbers<'h> = SimpleOrdArena<P0, OrdPair<u64, u64>, &'h LocalHeap>;
+type Numbers<'h> = OnHeap<'h, OrdPair<u64, u64>>;
 
 /// A heap that has room for all of a test.
 fn new_heap(rt: &impl Abort, alloc: Global) -> LocalHeap {
     LocalHeap::new(alloc, 1 << 14).expect(rt, "a heap")
 }
 
-/// The blocks that were taken of a heap.
-type Blocks<'h> = Vec<Vec<u8, &'h LocalHeap>>;
-
-/// Takes up to four blocks of this size.
-fn take<'h>(rt: &impl Abort, heap: &'h LocalHeap, blocks: &mut Blocks<'h>, size: usize) {
-    for _ in 0u32..4 {
-        if let Ok(block) = Vec::with_capacity(heap, size) {
-            blocks.push(block).expect(rt, "memory");
-        }
-    }
-}
-
-/// Takes the room of a heap but for so many units of 16 bytes in one piece.
-fn leave<'h>(rt: &impl Abort, alloc: Global, heap: &'h LocalHeap, units: usize) -> Blocks<'h> {
-    let room: Vec<u8, &LocalHeap> = Vec::with_capacity(heap, units.saturating_mul(16)).expect(
-        rt, "room",
-    );
-    let mut blocks = Vec::new(alloc);
-    for size in &[8192usize, 4096, 2048, 1024, 512, 256, 128, 64, 32, 16] {
-        take(rt, heap, &mut blocks, *size);
-    }
-    drop(room);
-    blocks
+/// A block that takes the room of a heap but for so many units of 16 bytes. The heap has its room in one piece.
+fn leave<'h>(rt: &impl Abort, heap: &'h LocalHeap, units: usize) -> Vec<u8, &'h LocalHeap> {
+    let room = heap.free().saturating_sub(units.saturating_mul(16));
+    Vec::with_capacity(heap, room).expect(rt, "room")
 }
 
 /// The rank of the node at an index.
-fn rank_at(rt: &impl Abort, a: &Numbers, index: u32) -> u8 {
+fn rank_at<T>(rt: &impl Abort, a: &OnHeap<T>, index: u32) -> u8 {
     let (_, node) = a.get_inx_node(index).expect(rt, "its node");
     node.t.rank
 }
 
-/// The counts of an arena: entries, capacity, maximum, generation.
-fn counts_of(rt: &impl Abort, alloc: Global, a: &Numbers) -> String {
+/// All that can be seen of an arena: length, capacity, maximum and generation, and the entries in order, each with the rank of its node.
+fn look<T: Debug>(rt: &impl Abort, alloc: Global, a: &OnHeap<T>) -> String {
     let counts = (a.len(), a.capacity(), a.max_capacity(), a.generation());
-    format!(in alloc; "{counts:?}").expect(rt, "memory")
-}
-
-/// All that can be seen of an arena: its counts, and the entries in order, each with the rank of its node.
-fn look(rt: &impl Abort, alloc: Global, a: &Numbers) -> String {
-    let mut text = counts_of(rt, alloc, a);
-    for (p, pair) in a {
+    let mut text = format!(in alloc; "{counts:?}").expect(rt, "memory");
+    for (p, item) in a {
         let rank = rank_at(rt, a, p.inx());
-        write!(text, " {p:?}={pair:?}:{rank}").expect(rt, "memory");
+        write!(text, " {p:?}={item:?}:{rank}").expect(rt, "memory");
     }
     text
 }
 
 /// The arena looks so.
-fn looks_like(rt: &impl Abort, alloc: Global, a: &Numbers, text: &str) {
-    assert_eq!(rt; look(rt, alloc, a).as_str(), text);
+fn looks_like<T: Debug>(rt: &impl Abort, alloc: Global, a: &OnHeap<T>, text: &str) {
+    assert!(rt; look(rt, alloc, a).as_str() == text);
+}
+
+/// Whether a call was refused memory: the arena looks like the first text then, and like the second one where it was not.
+fn is_refused(
+    rt: &impl Abort,
+    alloc: Global,
+    a: &Numbers,
+    outcome: Result<(), ReallocationError>,
+    texts: (&str, &str),
+) -> bool {
+    let (is_refused, text) = match outcome {
+        Ok(()) => (false, texts.1),
+        Err(ReallocationError::AllocError) => (true, texts.0),
+        Err(ReallocationError::BeyondMaxCapacity) => (true, "no such refusal"),
+    };
+    looks_like(rt, alloc, a, text);
+    is_refused
 }
 
 /// The key that is inserted at a turn: those below 20, each once, out of their order.
@@ -79,15 +75,17 @@ fn put(rt: &impl Abort, a: &mut Numbers, turn: u32) -> Option<u32> {
     match a.insert(OrdPair::new(key_at(turn), 0)) {
         Ok((p, _)) => Some(p.inx()),
         Err(refusal) => {
-            assert_eq!(rt; refusal, OrdInsertionError::AllocError);
+            assert!(rt; refusal == OrdInsertionError::AllocError);
             None
         }
     }
 }
 
-/// Inserts the keys of the first turns.
-fn put_first(rt: &impl Abort, a: &mut Numbers, turns: u32) {
+/// An arena with room for so many entries, into which the keys of the first turns are put.
+fn filled<'h>(rt: &impl Abort, heap: &'h LocalHeap, turns: u32) -> Numbers<'h> {
+    let mut a = Numbers::with_min_capacity(heap, turns as usize).expect(rt, "memory");
     for turn in 0..turns {
-        assert!(rt; put(rt, a, turn).is_some());
+        assert!(rt; put(rt, &mut a, turn).is_some());
     }
+    a
 }

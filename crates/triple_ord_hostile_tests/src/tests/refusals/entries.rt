@@ -1,9 +1,9 @@
 //! Entries of a full arena, asked for where little room is left.
-use super::{Numbers, leave, look, looks_like, new_heap, put_first};
+use super::{Numbers, filled, leave, look, new_heap};
 use linked_list_allocator::LocalHeap;
 use std::alloc::Global;
 use std::process::Abort;
-use triple_ord::{OrdInsertKind, OrdInsertionError, OrdPair, P0, Ptr, SimpleOrdArenaInsertEntry};
+use triple_ord::{OrdInsertKind, OrdInsertionError, OrdPair, P0, SimpleOrdArenaInsertEntry};
 
 /// The three calls that ask for an entry.
 #[derive(Clone, Copy)]
@@ -22,55 +22,45 @@ fn entry_by<'a, 'h>(
     a: &'a mut Numbers<'h>,
     key: &u64,
 ) -> Result<Entry<'a, 'h>, OrdInsertionError> {
+    let kind = OrdInsertKind::Normal(key);
     match call {
-        Call::Within => a.entry_insert_within_capacity(OrdInsertKind::Normal(key)),
-        Call::Reallocating => a.entry_insert_reallocating(OrdInsertKind::Normal(key)),
-        Call::Insert => a.entry_insert(OrdInsertKind::Normal(key)),
+        Call::Within => a.entry_insert_within_capacity(kind),
+        Call::Reallocating => a.entry_insert_reallocating(kind),
+        Call::Insert => a.entry_insert(kind),
     }
 }
 
-/// The index of an entry.
-fn index_of(entry: &Entry) -> u32 {
-    entry.ptr().any().inx()
+/// Puts a key in by an entry. Answers the refusal.
+fn put_by(call: Call, a: &mut Numbers, key: u64) -> Option<OrdInsertionError> {
+    match entry_by(call, a, &key) {
+        Ok(entry) => {
+            let _ = entry.insert(OrdPair::new(key, 99));
+            None
+        }
+        Err(refusal) => Some(refusal),
+    }
 }
 
-/// Puts a key in by an entry, where no room is left for the item. Answers the index of the new entry, none where an item was replaced.
-fn put_by(
-    rt: &impl Abort,
-    alloc: Global,
-    heap: &LocalHeap,
-    call: Call,
-    a: &mut Numbers,
-    key: u64,
-) -> Result<Option<u32>, OrdInsertionError> {
-    let entry = entry_by(call, a, &key)?;
-    let blocks = leave(rt, alloc, heap, 0);
-    let index = index_of(&entry);
-    let before = entry.insert(OrdPair::new(key, 99));
-    drop(blocks);
-    Ok(if before.is_some() { None } else { Some(index) })
-}
+/// A full arena, of which the item with the key 7 was replaced.
+const FULL: &str =
+    "(4, 4, None, 2) P0[1](2)=(0, 0):2 P0[4](2)=(1, 0):1 P0[2](2)=(7, 99):3 P0[3](2)=(14, 0):1";
+
+/// The same, grown by an entry.
+const GROWN: &str =
+    "(5, 8, None, 2) P0[1](2)=(0, 0):1 P0[4](2)=(1, 0):2 P0[5](2)=(5, 99):1 P0[2](2)=(7, 99):3 P0[3](2)=(14, 0):1";
 
 /// A full arena of four replaces an item, and then refuses a new entry or grows. Answers the refusal, which changes nothing.
 fn refusal_of(
     rt: &impl Abort,
     alloc: Global,
-    heap: &LocalHeap,
     call: Call,
     a: &mut Numbers,
 ) -> Option<OrdInsertionError> {
-    assert_eq!(rt; put_by(rt, alloc, heap, call, a, 7), Ok(None));
-    let before = look(rt, alloc, a);
-    match put_by(rt, alloc, heap, call, a, 5) {
-        Ok(new) => {
-            assert_eq!(rt; (new, a.len(), a.capacity()), (Some(5), 5, 8));
-            None
-        }
-        Err(refusal) => {
-            looks_like(rt, alloc, a, before.as_str());
-            Some(refusal)
-        }
-    }
+    assert!(rt; put_by(call, a, 7).is_none());
+    let refusal = put_by(call, a, 5);
+    let text = if refusal.is_none() { GROWN } else { FULL };
+    assert!(rt; look(rt, alloc, a).as_str() == text);
+    refusal
 }
 
 /// Asks for entries where so many units of room are left. Answers the refusal; then the same is done with memory.
@@ -81,13 +71,12 @@ fn refusal_on(
     units: usize,
 ) -> Option<OrdInsertionError> {
     let heap = new_heap(rt, alloc);
-    let mut a = Numbers::new(&heap);
-    put_first(rt, &mut a, 4);
-    let blocks = leave(rt, alloc, &heap, units);
-    let refusal = refusal_of(rt, alloc, &heap, call, &mut a);
-    drop(blocks);
+    let mut a = filled(rt, &heap, 4);
+    let block = leave(rt, &heap, units);
+    let refusal = refusal_of(rt, alloc, call, &mut a);
+    drop(block);
     if refusal == Some(OrdInsertionError::AllocError) {
-        assert_eq!(rt; refusal_of(rt, alloc, &heap, call, &mut a), None);
+        assert!(rt; refusal_of(rt, alloc, call, &mut a).is_none());
     }
     refusal
 }
@@ -96,15 +85,11 @@ fn refusal_on(
 fn is_refused_for_memory(rt: &impl Abort, alloc: Global, call: Call) {
     let mut met = [false; 2];
     for units in 0usize..100 {
-        match refusal_on(rt, alloc, call, units) {
-            None => met[0] = true,
-            Some(refusal) => {
-                assert_eq!(rt; refusal, OrdInsertionError::AllocError);
-                met[1] = true;
-            }
-        }
+        let refusal = refusal_on(rt, alloc, call, units);
+        assert!(rt; matches!(refusal, None | Some(OrdInsertionError::AllocError)));
+        met[refusal.is_some() as usize % 2] = true;
     }
-    assert_eq!(rt; met, [true; 2]);
+    assert!(rt; met == [true; 2]);
 }
 
 #[test]
@@ -114,6 +99,6 @@ fn each_request_of_an_entry(rt: HostRuntime) {
     // and one within the capacity asks for no memory
     for units in [0usize, 1, 100, 500] {
         let refusal = refusal_on(&rt, rt.alloc(), Call::Within, units);
-        assert_eq!(rt; refusal, Some(OrdInsertionError::NotWithinCapacity));
+        assert!(rt; refusal == Some(OrdInsertionError::NotWithinCapacity));
     }
 }

@@ -1,6 +1,5 @@
-//! Growths: by twenty insertions, by a reservation, in a new arena, and by a transfer.
-use super::{Numbers, leave, look, looks_like, new_heap, put, put_first};
-use linked_list_allocator::LocalHeap;
+//! Growths: by twenty insertions, by a reservation, and by a transfer.
+use super::{Numbers, filled, is_refused, leave, look, looks_like, new_heap, put};
 use std::alloc::Global;
 use std::process::Abort;
 use triple_ord::{InvalidationOption, OrdPair, P0, ReallocationError};
@@ -20,13 +19,11 @@ fn put_until_refused(rt: &impl Abort, alloc: Global, a: &mut Numbers) -> u32 {
 /// Inserts twenty keys where so many units of room are left. Answers which was refused; that one is inserted with memory.
 fn turn_refused(rt: &impl Abort, alloc: Global, units: usize) -> u32 {
     let heap = new_heap(rt, alloc);
-    let blocks = leave(rt, alloc, &heap, units);
+    let block = leave(rt, &heap, units);
     let mut a = Numbers::new(&heap);
     let turn = put_until_refused(rt, alloc, &mut a);
-    drop(blocks);
-    if turn < 20 {
-        assert_eq!(rt; put(rt, &mut a, turn), Some(turn + 1));
-    }
+    drop(block);
+    assert!(rt; turn == 20 || put(rt, &mut a, turn) == Some(turn.saturating_add(1)));
     turn
 }
 
@@ -37,57 +34,41 @@ fn each_growth_of_an_insertion(rt: HostRuntime) {
         met[turn_refused(&rt, rt.alloc(), units) as usize % 21] = true;
     }
     for (turn, is_met) in met.iter().enumerate() {
-        assert_eq!(rt; *is_met, matches!(turn, 0 | 4 | 8 | 16 | 20), "{turn}");
+        assert!(rt; *is_met == matches!(turn, 0 | 4 | 8 | 16 | 20), "{turn}");
     }
 }
 
+/// A full arena of five entries, and the same with room for ten.
+const FIVE: &str =
+    "(5, 5, None, 2) P0[1](2)=(0, 0):2 P0[4](2)=(1, 0):1 P0[2](2)=(7, 0):3 P0[5](2)=(8, 0):1 P0[3](2)=(14, 0):2";
+
+const TEN: &str =
+    "(5, 10, None, 2) P0[1](2)=(0, 0):2 P0[4](2)=(1, 0):1 P0[2](2)=(7, 0):3 P0[5](2)=(8, 0):1 P0[3](2)=(14, 0):2";
+
 /// Reserves room for ten entries. Tells whether that was refused, which changes nothing.
 fn is_refused_ten(rt: &impl Abort, alloc: Global, a: &mut Numbers) -> bool {
-    let before = look(rt, alloc, a);
-    match a.reallocate_min_capacity(10) {
-        Ok(()) => {
-            assert_eq!(rt; (a.len(), a.capacity()), (5, 10));
-            false
-        }
-        Err(refusal) => {
-            assert_eq!(rt; refusal, ReallocationError::AllocError);
-            looks_like(rt, alloc, a, before.as_str());
-            true
-        }
-    }
+    let outcome = a.reallocate_min_capacity(10);
+    is_refused(rt, alloc, a, outcome, (FIVE, TEN))
 }
 
 /// Reserves room where so many units are left. Tells whether that was refused; then it is done with memory.
 fn is_reserve_refused(rt: &impl Abort, alloc: Global, units: usize) -> bool {
     let heap = new_heap(rt, alloc);
-    let mut a = Numbers::new(&heap);
-    put_first(rt, &mut a, 5);
-    let blocks = leave(rt, alloc, &heap, units);
-    let is_refused = is_refused_ten(rt, alloc, &mut a);
-    drop(blocks);
+    let mut a = filled(rt, &heap, 5);
+    let block = leave(rt, &heap, units);
+    let was_refused = is_refused_ten(rt, alloc, &mut a);
+    drop(block);
     assert!(rt; !is_refused_ten(rt, alloc, &mut a));
-    is_refused
-}
-
-/// Makes an arena for ten entries where so many units of room are left. Tells whether that was refused.
-fn is_new_refused(rt: &impl Abort, alloc: Global, units: usize) -> bool {
-    let heap = new_heap(rt, alloc);
-    let blocks = leave(rt, alloc, &heap, units);
-    let is_refused = Numbers::with_min_capacity(&heap, 10).is_err();
-    drop(blocks);
-    assert!(rt; Numbers::with_min_capacity(&heap, 10).is_ok());
-    is_refused
+    was_refused
 }
 
 #[test]
 fn each_request_for_a_capacity(rt: HostRuntime) {
-    let mut reserves = [false; 2];
-    let mut news = [false; 2];
+    let mut met = [false; 2];
     for units in 0usize..100 {
-        reserves[is_reserve_refused(&rt, rt.alloc(), units) as usize % 2] = true;
-        news[is_new_refused(&rt, rt.alloc(), units) as usize % 2] = true;
+        met[is_reserve_refused(&rt, rt.alloc(), units) as usize % 2] = true;
     }
-    assert_eq!(rt; (reserves, news), ([true; 2], [true; 2]));
+    assert!(rt; met == [true; 2]);
 }
 
 /// Takes all entries of the source over, each value raised by one. Answers how often the closure was called too.
@@ -105,40 +86,35 @@ fn transfer(a: &mut Numbers, source: &mut Numbers) -> (Result<(), ReallocationEr
     (outcome, calls)
 }
 
-/// What a transfer of the keys 0, 1, 7, 8, 14 leaves.
-const TRANSFERRED: &str =
-    "(5, 5, None, 9) P0[1](9)=(0, 1):1 P0[2](9)=(1, 1):2 P0[3](9)=(7, 1):3 P0[4](9)=(8, 1):1 P0[5](9)=(14, 1):2";
+/// An arena as it is made, and what a transfer of the keys 0, 1, 7, 8, 14 leaves in it.
+const TARGET: (&str, &str) = (
+    "(0, 0, None, 2)",
+    "(5, 5, None, 9) P0[1](9)=(0, 1):1 P0[2](9)=(1, 1):2 P0[3](9)=(7, 1):3 P0[4](9)=(8, 1):1 P0[5](9)=(14, 1):2",
+);
 
 /// Takes five keys over. Tells whether that was refused, which changes neither arena.
 fn is_refused_five(rt: &impl Abort, alloc: Global, a: &mut Numbers, source: &mut Numbers) -> bool {
-    let before = look(rt, alloc, source);
     let (outcome, calls) = transfer(a, source);
-    let is_refused = outcome.is_err();
-    if is_refused {
-        assert_eq!(rt; (outcome, calls), (Err(ReallocationError::AllocError), 0));
-        looks_like(rt, alloc, source, before.as_str());
-        looks_like(rt, alloc, a, "(0, 0, None, 2)");
+    let (left, called) = if outcome.is_ok() {
+        ("(0, 5, None, 7)", 5)
     } else {
-        looks_like(rt, alloc, source, "(0, 8, None, 7)");
-        looks_like(rt, alloc, a, TRANSFERRED);
-    }
-    is_refused
+        (FIVE, 0)
+    };
+    assert!(rt; calls == called);
+    looks_like(rt, alloc, source, left);
+    is_refused(rt, alloc, a, outcome, TARGET)
 }
 
 /// Takes five keys over where so many units of room are left. Tells whether that was refused; then it is done with memory.
 fn is_transfer_refused(rt: &impl Abort, alloc: Global, units: usize) -> bool {
     let heap = new_heap(rt, alloc);
-    let store = new_heap(rt, alloc);
-    let mut source = Numbers::new(&store);
-    put_first(rt, &mut source, 5);
-    let blocks = leave(rt, alloc, &heap, units);
+    let mut source = filled(rt, &heap, 5);
     let mut a = Numbers::new(&heap);
-    let is_refused = is_refused_five(rt, alloc, &mut a, &mut source);
-    drop(blocks);
-    if is_refused {
-        assert!(rt; !is_refused_five(rt, alloc, &mut a, &mut source));
-    }
-    is_refused
+    let block = leave(rt, &heap, units);
+    let was_refused = is_refused_five(rt, alloc, &mut a, &mut source);
+    drop(block);
+    assert!(rt; !was_refused || !is_refused_five(rt, alloc, &mut a, &mut source));
+    was_refused
 }
 
 #[test]
@@ -147,5 +123,5 @@ fn each_request_of_a_transfer(rt: HostRuntime) {
     for units in 0usize..100 {
         met[is_transfer_refused(&rt, rt.alloc(), units) as usize % 2] = true;
     }
-    assert_eq!(rt; met, [true; 2]);
+    assert!(rt; met == [true; 2]);
 }
