@@ -7,96 +7,99 @@ use std::test::Fail;
 
 type Letters<A = Global> = Agenda<char, A>;
 
-/// Puts a letter on the agenda.
-fn put<A: Allocator>(
+/// A call on an agenda, on the ticket of the job that a place in the list of all tickets names.
+#[derive(Clone, Copy)]
+enum Call {
+    Schedule(u64, char),
+    Move(usize, u64),
+    Cancel(usize),
+    PopDue(u64),
+}
+
+/// Makes a call, and keeps the ticket that it gives. Answers deadline and letter of the job that it names or takes, if there is one; of a
+/// job that is moved the new deadline and no letter.
+fn job_of<A: Allocator>(
     letters: &mut Letters<A>,
-    deadline: u64,
-    letter: char,
-) -> Result<Ticket, ReallocationError> {
-    letters
-        .schedule(deadline, letter)
-        .map_err(|refused| refused.1)
-}
-
-/// The letters leave in this order, each with its deadline.
-fn leave_in_order<A: Allocator>(rt: &impl Abort, letters: &mut Letters<A>, wanted: &[(u64, char)]) {
-    for due in wanted {
-        assert_eq!(rt; letters.pop_due(u64::MAX), Some(*due));
+    tickets: &mut Vec<Ticket>,
+    call: Call,
+) -> Option<(u64, char)> {
+    match call {
+        Call::Schedule(deadline, letter) => {
+            let ticket = letters.schedule(deadline, letter).ok()?;
+            tickets.push(ticket).ok()?;
+            Some((deadline, letter))
+        }
+        Call::Move(place, deadline) => {
+            let ticket = letters.move_to(*tickets.get(place)?, deadline)?;
+            tickets.push(ticket).ok()?;
+            Some((deadline, ' '))
+        }
+        Call::Cancel(place) => letters.cancel(*tickets.get(place)?),
+        Call::PopDue(time) => letters.pop_due(time),
     }
-    assert_eq!(rt; letters.pop_due(u64::MAX), None);
-    assert_eq!(rt; (letters.len(), letters.next_deadline()), (0, None));
 }
 
-#[test]
-fn jobs_leave_by_deadline_and_then_by_the_order_of_scheduling(rt: HostRuntime) -> Result<(), Fail> {
-    let mut letters = Letters::new(rt.alloc());
-    let _ = put(&mut letters, 10, 'a')?;
-    let b = put(&mut letters, 5, 'b')?;
-    let _ = put(&mut letters, 10, 'c')?;
-    let _ = put(&mut letters, 5, 'd')?;
-    assert!(rt; letters.move_to(b, 10).is_some());
-    assert_eq!(rt; letters.pop_due(4), None);
-    assert_eq!(rt; letters.pop_due(10), Some((5, 'd')));
-    assert_eq!(rt; letters.pop_due(10), Some((10, 'a')));
-    assert_eq!(rt; letters.pop_due(10), Some((10, 'c')));
-    assert_eq!(rt; letters.pop_due(10), Some((10, 'b')));
-    assert_eq!(rt; letters.pop_due(10), None);
-    assert_eq!(rt; letters.cancel(b), None);
-    Ok(())
-}
+/// A call, and the job that it names or takes.
+type Row = (Call, Option<(u64, char)>);
+
+/// Jobs leave by deadline, and then by the order of scheduling; one that is moved stands behind its equals; tickets of jobs that left name
+/// nothing. The agenda is empty at last.
+const ROWS: [Row; 36] = [
+    (Call::Schedule(10, 'a'), Some((10, 'a'))),
+    (Call::Schedule(5, 'b'), Some((5, 'b'))),
+    (Call::Schedule(10, 'c'), Some((10, 'c'))),
+    (Call::Schedule(5, 'd'), Some((5, 'd'))),
+    (Call::Move(1, 10), Some((10, ' '))),
+    (Call::PopDue(4), None),
+    (Call::PopDue(10), Some((5, 'd'))),
+    (Call::PopDue(10), Some((10, 'a'))),
+    (Call::PopDue(10), Some((10, 'c'))),
+    (Call::PopDue(10), Some((10, 'b'))),
+    (Call::PopDue(10), None),
+    (Call::Cancel(1), None),
+    // tickets of jobs that left, the last of them with the index of the next
+    (Call::Schedule(7, 'x'), Some((7, 'x'))),
+    (Call::PopDue(6), None),
+    (Call::PopDue(7), Some((7, 'x'))),
+    (Call::Cancel(5), None),
+    (Call::Move(5, 9), None),
+    (Call::Schedule(7, 'y'), Some((7, 'y'))),
+    (Call::Cancel(5), None),
+    (Call::Cancel(6), Some((7, 'y'))),
+    (Call::PopDue(u64::MAX), None),
+    // moves to the own deadline, to the front, and to that of the last
+    (Call::Schedule(3, 'a'), Some((3, 'a'))),
+    (Call::Schedule(3, 'b'), Some((3, 'b'))),
+    (Call::Schedule(8, 'c'), Some((8, 'c'))),
+    (Call::Schedule(0, 'd'), Some((0, 'd'))),
+    (Call::Schedule(u64::MAX, 'e'), Some((u64::MAX, 'e'))),
+    (Call::Move(7, 3), Some((3, ' '))),
+    (Call::Move(7, 5), None),
+    (Call::Move(9, 0), Some((0, ' '))),
+    (Call::Move(12, u64::MAX), Some((u64::MAX, ' '))),
+    (Call::Move(13, 3), Some((3, ' '))),
+    (Call::PopDue(u64::MAX), Some((0, 'd'))),
+    (Call::PopDue(u64::MAX), Some((3, 'b'))),
+    (Call::PopDue(u64::MAX), Some((3, 'c'))),
+    (Call::PopDue(u64::MAX), Some((u64::MAX, 'e'))),
+    (Call::PopDue(u64::MAX), Some((u64::MAX, 'a'))),
+];
 
 #[test]
-fn tickets_of_jobs_that_left_name_nothing(rt: HostRuntime) -> Result<(), Fail> {
+fn jobs_leave_by_deadline_and_then_by_the_order_of_scheduling(rt: HostRuntime) {
     let mut letters = Letters::new(rt.alloc());
-    let x = put(&mut letters, 7, 'x')?;
-    assert_eq!(rt; letters.pop_due(6), None);
-    assert_eq!(rt; letters.pop_due(7), Some((7, 'x')));
-    assert_eq!(rt; letters.cancel(x), None);
-    assert_eq!(rt; letters.move_to(x, 9), None);
-    let y = put(&mut letters, 7, 'y')?;
-    assert!(rt; y != x);
-    assert_eq!(rt; letters.next_deadline(), Some(7));
-    assert_eq!(rt; letters.cancel(x), None);
-    assert_eq!(rt; letters.cancel(y), Some((7, 'y')));
-    assert!(rt; letters.is_empty());
-    leave_in_order(&rt, &mut letters, &[]);
-    Ok(())
-}
-
-#[test]
-fn a_job_that_is_moved_stands_behind_its_equals(rt: HostRuntime) -> Result<(), Fail> {
-    let mut letters = Letters::new(rt.alloc());
-    let a = put(&mut letters, 3, 'a')?;
-    let _ = put(&mut letters, 3, 'b')?;
-    let c = put(&mut letters, 8, 'c')?;
-    let _ = put(&mut letters, 0, 'd')?;
-    let _ = put(&mut letters, u64::MAX, 'e')?;
-    // to its own deadline, to the front, and to that of the last
-    let moved = letters.move_to(a, 3).ok_or("a")?;
-    assert!(rt; letters.move_to(a, 5).is_none());
-    let c = letters.move_to(c, 0).ok_or("c")?;
-    assert!(rt; letters.move_to(moved, u64::MAX).is_some());
-    assert!(rt; letters.move_to(c, 3).is_some());
-    leave_in_order(
-        &rt,
-        &mut letters,
-        &[
-            (0, 'd'),
-            (3, 'b'),
-            (3, 'c'),
-            (u64::MAX, 'e'),
-            (u64::MAX, 'a'),
-        ],
-    );
-    Ok(())
+    let mut tickets = Vec::new(rt.alloc());
+    for (call, wanted) in &ROWS {
+        assert!(rt; job_of(&mut letters, &mut tickets, *call) == *wanted);
+    }
+    assert!(rt; (letters.len(), letters.next_deadline()) == (0, None));
 }
 
 /// Schedules as many letters as find room, each with the deadline 9; answers how many.
 fn fill(rt: &impl Abort, letters: &mut Letters<&LocalHeap>) -> usize {
     for held in 0usize..9 {
         if let Err(refused) = letters.schedule(9, 'j') {
-            assert_eq!(rt; refused, ('j', ReallocationError::AllocError));
-            assert_eq!(rt; letters.len(), held);
+            assert!(rt; refused == ('j', ReallocationError::AllocError) && letters.len() == held);
             return held;
         }
     }
@@ -125,35 +128,56 @@ fn a_job_comes_back_where_memory_is_refused(rt: HostRuntime) -> Result<(), Fail>
             *place = true;
         }
         for _ in 0..held {
-            assert_eq!(rt; letters.pop_due(9), Some((9, 'j')));
+            assert!(rt; letters.pop_due(9) == Some((9, 'j')));
         }
-        assert_eq!(rt; letters.pop_due(9), None);
+        assert!(rt; letters.is_empty());
     }
     // each growth was refused in turn: from nothing, from 4, from 8
-    assert_eq!(rt; (met[0], met[4], met[8], met[9]), (true, true, true, true));
+    assert!(rt; (met[0], met[4], met[8], met[9]) == (true, true, true, true));
     Ok(())
+}
+
+/// Calls before all memory is taken, without any, and with memory again.
+const BEFORE: [Row; 4] = [
+    (Call::Schedule(1, 'a'), Some((1, 'a'))),
+    (Call::Schedule(2, 'b'), Some((2, 'b'))),
+    (Call::Schedule(2, 'c'), Some((2, 'c'))),
+    (Call::Schedule(4, 'd'), Some((4, 'd'))),
+];
+
+const WITHOUT: [Row; 2] = [
+    (Call::Schedule(3, 'e'), None),
+    (Call::Move(0, 2), Some((2, ' '))),
+];
+
+const AFTER: [Row; 7] = [
+    (Call::Schedule(3, 'e'), Some((3, 'e'))),
+    (Call::PopDue(u64::MAX), Some((2, 'b'))),
+    (Call::PopDue(u64::MAX), Some((2, 'c'))),
+    (Call::PopDue(u64::MAX), Some((2, 'a'))),
+    (Call::PopDue(u64::MAX), Some((3, 'e'))),
+    (Call::PopDue(u64::MAX), Some((4, 'd'))),
+    (Call::PopDue(u64::MAX), None),
+];
+
+/// Whether each call names or takes the job that it should.
+fn are_right(letters: &mut Letters<&LocalHeap>, tickets: &mut Vec<Ticket>, rows: &[Row]) -> bool {
+    let mut are_right = true;
+    for (call, wanted) in rows {
+        are_right = are_right && job_of(letters, tickets, *call) == *wanted;
+    }
+    are_right
 }
 
 #[test]
 fn moving_asks_for_no_memory(rt: HostRuntime) -> Result<(), Fail> {
     let heap = LocalHeap::new(rt.alloc(), 2048)?;
     let mut letters: Letters<&LocalHeap> = Agenda::new(&heap);
-    let a = put(&mut letters, 1, 'a')?;
-    let _ = put(&mut letters, 2, 'b')?;
-    let _ = put(&mut letters, 2, 'c')?;
-    let _ = put(&mut letters, 4, 'd')?;
+    let mut tickets = Vec::new(rt.alloc());
+    assert!(rt; are_right(&mut letters, &mut tickets, &BEFORE));
     let rest = rest_of(rt.alloc(), &heap)?;
-    assert_eq!(rt;
-        letters.schedule(3, 'e'),
-        Err(('e', ReallocationError::AllocError))
-    );
-    assert!(rt; letters.move_to(a, 2).is_some());
+    assert!(rt; are_right(&mut letters, &mut tickets, &WITHOUT));
     drop(rest);
-    let _ = put(&mut letters, 3, 'e')?;
-    leave_in_order(
-        &rt,
-        &mut letters,
-        &[(2, 'b'), (2, 'c'), (2, 'a'), (3, 'e'), (4, 'd')],
-    );
+    assert!(rt; are_right(&mut letters, &mut tickets, &AFTER));
     Ok(())
 }

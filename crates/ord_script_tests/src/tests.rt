@@ -341,33 +341,32 @@ fn expect_answer<R: Abort + AllocGlobal>(rt: &R, script: &[u8], answer: &str, en
     let mut reader = Watched::new(script);
     let mut writer = Watched::new(&mut output);
     let ended = serve(rt.alloc(), &mut reader, &mut writer);
-    assert_eq!(rt; ended, end, "{script:?}");
-    assert!(rt; reader.ended() && !reader.failed() && !writer.failed());
-    assert_eq!(rt; output.as_slice(), answer.as_bytes(), "{script:?}");
+    assert!(rt; ended == end && reader.ended() && !reader.failed() && !writer.failed());
+    assert!(rt; output.as_slice() == answer.as_bytes(), "{script:?}");
 }
 
 #[test]
 fn answers_scripts(rt: HostRuntime) {
-    for (script, answer) in ANSWERS {
+    for (script, answer) in &ANSWERS {
         expect_answer(&rt, script, answer, ScriptEnd::Done);
     }
 }
 
 #[test]
 fn answers_up_to_a_fault(rt: HostRuntime) {
-    for (script, answer, line, kind) in FAULTS {
-        expect_answer(&rt, script, answer, ScriptEnd::Fault(line, kind));
+    for (script, answer, line, kind) in &FAULTS {
+        expect_answer(&rt, script, answer, ScriptEnd::Fault(*line, *kind));
     }
 }
 
 #[test]
 fn tells_what_is_wrong(rt: HostRuntime) {
-    for (line, kind) in BAD_LINES {
+    for (line, kind) in &BAD_LINES {
         let answer = match kind {
             FaultKind::UnknownCommand => "line 1: unknown command\n",
             FaultKind::WrongArguments => "line 1: wrong arguments\n",
             FaultKind::BadNumber => "line 1: bad number\n",
         };
-        expect_answer(&rt, line, answer, ScriptEnd::Fault(1, kind));
+        expect_answer(&rt, line, answer, ScriptEnd::Fault(1, *kind));
     }
 }

@@ -1,104 +1,50 @@
 //! An arena among others, through the traits; indexes and generations of each type.
 use super::{numbers, p0};
-use arena_base::{
-    Arena, ArenaTrait, InvalidationResult, MaxCapacityReductionError, P0, Ptr, PtrGen, PtrInx,
-    SetMaxCapacity, laws,
-};
+use arena_base::{Arena, ArenaTrait, P0, PtrGen, PtrInx, SetMaxCapacity, laws};
 use std::process::Abort;
 use std::test::Fail;
 
-/// The counts of any arena.
-fn any_counts_are<A: ArenaTrait<P0, u64>>(rt: &impl Abort, arena: &A, wanted: (usize, usize)) {
-    assert_eq!(rt; (arena.len(), arena.capacity()), wanted);
-    assert_eq!(rt; arena.is_empty(), wanted.0 == 0);
-}
-
-/// An arena of two entries with generation 2 that has no maximum.
-fn any_is_without_maximum<A: ArenaTrait<P0, u64>>(rt: &impl Abort, arena: &A) {
-    assert_eq!(rt; arena.capacity() - arena.len(), 2);
-    assert_eq!(rt;
-        (arena.max_capacity(), arena.singular_generation()),
-        (None, Some(2))
-    );
-}
-
-/// The first and the last pointer by index.
-fn any_ends_are<A: ArenaTrait<P0, u64>>(
-    rt: &impl Abort,
+/// The numbers of an arena: entries, capacity, and those of the first and of the last pointer by index.
+fn ends<A: ArenaTrait<P0, u64>>(
     arena: &A,
-    first: (u32, u64),
-    last: (u32, u64),
-) {
-    assert_eq!(rt; numbers(arena.find_first_inx_ptr()), Some(first));
-    assert_eq!(rt; numbers(arena.find_last_inx_ptr()), Some(last));
+) -> (usize, usize, Option<(u32, u64)>, Option<(u32, u64)>) {
+    (
+        arena.len(),
+        arena.capacity(),
+        numbers(arena.find_first_inx_ptr()),
+        numbers(arena.find_last_inx_ptr()),
+    )
 }
 
-/// A pointer finds this item, by its index too.
-fn any_finds<A: ArenaTrait<P0, u64>>(rt: &impl Abort, arena: &A, p: P0, item: u64) {
-    assert_eq!(rt;
-        (arena.contains(p), arena.get(p).copied()),
-        (true, Some(item))
-    );
-    assert_eq!(rt;
-        arena.get_inx(p.inx()).map(|e| (e.0, *e.1)),
-        Some((2, item))
-    );
+/// Writes an item by its pointer, and reads it.
+fn written<A: ArenaTrait<P0, u64>>(arena: &mut A, p: P0, item: u64) -> Option<u64> {
+    *arena.get_mut(p)? = item;
+    Some(*arena.get(p)?)
 }
 
-/// Writes an item by its pointer.
-fn any_writes<A: ArenaTrait<P0, u64>>(arena: &mut A, p: P0, item: u64) {
-    if let Some(place) = arena.get_mut(p) {
-        *place = item;
-    }
-}
-
-/// The item 12 gets another pointer, and is taken by that one alone.
-fn any_takes<A: ArenaTrait<P0, u64>>(rt: &impl Abort, arena: &mut A, p: P0) {
-    let renewed = p0(1, 3);
-    assert_eq!(rt; laws::renew(arena, p), Some(renewed));
-    assert_eq!(rt; laws::take(arena, renewed), Some(12));
-    assert_eq!(rt; laws::take(arena, p), None);
-    assert!(rt; arena.remove_inx(1) == InvalidationResult::InvalidPtr);
-}
-
-/// The capacity goes down to the last entry, and no maximum may be below it.
-fn any_is_limited<A: ArenaTrait<P0, u64> + SetMaxCapacity<P0, u64>>(
-    rt: &impl Abort,
-    arena: &mut A,
-) {
-    assert_eq!(rt; arena.reallocate_min_capacity(0), Ok(()));
-    assert_eq!(rt; arena.set_max_capacity(1), Err(MaxCapacityReductionError));
-    any_counts_are(rt, arena, (1, 2));
-}
-
-/// The calls of the trait, as any arena has them.
+/// The calls of the trait, as any arena has them: one that has the items 10 and 20 at the indexes 1 and 2, and a capacity of 4.
 fn through_the_trait<A: ArenaTrait<P0, u64> + SetMaxCapacity<P0, u64>>(
     rt: &impl Abort,
     arena: &mut A,
-    p: P0,
 ) {
-    any_counts_are(rt, arena, (2, 4));
-    any_is_without_maximum(rt, arena);
-    any_ends_are(rt, arena, (1, 2), (2, 2));
-    any_finds(rt, arena, p, 10);
-    assert!(rt; laws::put(arena, p, 11));
-    any_finds(rt, arena, p, 11);
-    any_writes(arena, p, 12);
-    any_takes(rt, arena, p);
-    any_ends_are(rt, arena, (2, 2), (2, 2));
-    any_is_limited(rt, arena);
+    assert!(rt; ends(arena) == (2, 4, Some((1, 2)), Some((2, 2))));
+    assert!(rt; laws::put(arena, p0(1, 2), 11));
+    assert!(rt; written(arena, p0(1, 2), 12) == Some(12));
+    assert!(rt; laws::renew(arena, p0(1, 2)) == Some(p0(1, 3)));
+    assert!(rt; laws::take(arena, p0(1, 3)) == Some(12));
+    assert!(rt; arena.reallocate_min_capacity(0).is_ok());
+    assert!(rt; arena.set_max_capacity(1).is_err());
+    assert!(rt; ends(arena) == (1, 2, Some((2, 2)), Some((2, 2))));
     laws::empty(arena);
-    any_counts_are(rt, arena, (0, 2));
+    assert!(rt; ends(arena) == (0, 2, None, None));
 }
 
 #[test]
 fn as_any_arena(rt: HostRuntime) -> Result<(), Fail> {
-    let fresh: Arena<P0, u64> = ArenaTrait::new(rt.alloc());
-    any_counts_are(&rt, &fresh, (0, 0));
-    let mut arena: Arena<P0, u64> = ArenaTrait::with_min_capacity(fresh.alloc(), 4)?;
-    let p = arena.insert_within_capacity(10)?;
+    let mut arena: Arena<P0, u64> = ArenaTrait::with_min_capacity(rt.alloc(), 4)?;
+    let _ = arena.insert_within_capacity(10)?;
     let _ = arena.insert_within_capacity(20)?;
-    through_the_trait(&rt, &mut arena, p);
+    through_the_trait(&rt, &mut arena);
     Ok(())
 }
 

@@ -1,121 +1,115 @@
 //! Clones of arenas, and an arena of pointers as a recaster.
-use super::p0;
-use arena_base::{Arena, P0, Ptr, ReallocationError, Recast};
+use super::{Counts, counts, p0};
+use arena_base::{Arena, InsertionError, P0, Ptr, ReallocationError, Recast, laws};
 use linked_list_allocator::LocalHeap;
-use std::alloc::{AllocError, Allocator, Global};
+use std::alloc::{AllocError, Global};
 use std::process::Abort;
 use std::test::Fail;
 
 /// Three entries at the indexes 2, 3 and 5, two of them of the first generation; indexes 4 and 1 were freed, in this order.
-fn source(alloc: Global) -> Result<Arena<P0, &'static str>, Fail> {
+fn source(alloc: Global) -> Result<Arena<P0, char>, InsertionError> {
     let mut arena = Arena::new(alloc);
-    for item in ["one", "two", "three", "four"] {
+    for item in ['a', 'b', 'c', 'd', 'e'] {
         arena.insert_reallocating(item)?;
     }
-    let _ = arena.insert_reallocating("five")?;
-    let _ = arena.remove(p0(4, 2));
-    let _ = arena.remove(p0(1, 2));
+    let _ = (arena.remove(p0(4, 2)), arena.remove(p0(1, 2)));
     let _ = arena.invalidate(p0(3, 2));
     Ok(arena)
 }
 
-/// What a clone that was refused memory left.
-#[derive(PartialEq, Eq)]
-enum Left {
-    Cloned,
-    Kept,
-    Emptied,
-    Nothing,
+/// An arena of vectors of letters, all on one heap.
+type Letters<'a> = Arena<P0, Vec<char, &'a LocalHeap>, &'a LocalHeap>;
+
+/// An arena of one entry, of two letters.
+fn one(heap: &LocalHeap) -> Option<Letters<'_>> {
+    let mut arena = Letters::new(heap);
+    let item = Vec::from_array(heap, ['x', 'y']).ok()?;
+    arena.insert_reallocating(item).ok()?;
+    Some(arena)
 }
 
-// Clones the source into an arena of texts with an old entry, all on one heap.
-fn clone_on<A: Allocator + Copy>(
-    rt: &impl Abort,
-    heap: A,
-    source: &Arena<P0, &'static str>,
-) -> Left {
-    let mut arena: Arena<P0, String<A>, A> = Arena::new(heap);
-    match format!(in heap; "an old entry").map(|old| arena.insert_reallocating(old)) {
-        Ok(Ok(_)) => {}
-        _ => return Left::Nothing,
-    }
-    let result = arena.try_clone_from_with(source, |_p, item| {
-        format!(in heap;
-            "{item}, with much more text than the old entry had, so that it needs room"
-        ).map_err(|_| AllocError)
-    });
-    match result {
-        Ok(()) => {
-            assert_eq!(rt;
-                (arena.len(), arena.capacity(), arena.generation()),
-                (3, 5, 5)
-            );
-            assert!(rt;
-                arena
-                    .get(p0(5, 2))
-                    .is_some_and(|text| text.as_str().starts_with("five, "))
-            );
-            Left::Cloned
-        }
-        Err(refusal) => {
-            assert_eq!(rt; refusal, ReallocationError::AllocError);
-            if arena.is_empty() {
-                assert_eq!(rt; (arena.capacity(), arena.generation()), (5, 5));
-                assert_eq!(rt; arena.next_insertion_ptr(), Some(p0(1, 5)));
-                Left::Emptied
-            } else {
-                assert_eq!(rt;
-                    (arena.len(), arena.capacity(), arena.generation()),
-                    (1, 4, 2)
-                );
-                assert!(rt; arena.get(p0(1, 2)).map(|text| text.as_str()) == Some("an old entry"));
-                Left::Kept
-            }
-        }
+/// Makes an arena a clone of the source, with forty letters for each one.
+fn clone_into<'a>(
+    heap: &'a LocalHeap,
+    arena: &mut Letters<'a>,
+    source: &Arena<P0, char>,
+) -> Result<(), ReallocationError> {
+    arena.try_clone_from_with(source, |_p, letter: &char| {
+        Vec::from_array(heap, [*letter; 40]).map_err(|_| AllocError)
+    })
+}
+
+/// What is left by a clone on a heap, and how many letters the arena has at the indexes 1 and 5; nothing where not even the arena has room.
+fn left_on(heap: &LocalHeap, source: &Arena<P0, char>) -> Option<(bool, Counts, usize, usize)> {
+    let mut arena = one(heap)?;
+    let is_cloned = clone_into(heap, &mut arena, source).is_ok();
+    Some((
+        is_cloned,
+        counts(&arena),
+        letters_at(&arena, 1),
+        letters_at(&arena, 5),
+    ))
+}
+
+fn letters_at(arena: &Letters, inx: u32) -> usize {
+    match arena.get_inx(inx) {
+        Some((2, letters)) => letters.len(),
+        _ => 0,
     }
 }
+
+/// The clone; the arena as it was, where its growth was refused; and one that lost all, where an item was refused.
+const LEFT: [(bool, Counts, usize, usize); 3] = [
+    (true, (3, 5, 5, Some((1, 5))), 0, 40),
+    (false, (1, 4, 2, Some((2, 2))), 2, 0),
+    (false, (0, 5, 5, Some((1, 5))), 0, 0),
+];
 
 #[test]
 fn each_refused_request_of_a_clone(rt: HostRuntime) -> Result<(), Fail> {
     let source = source(rt.alloc())?;
-    let (mut cloned, mut kept, mut emptied) = (false, false, false);
-    for units in 1..96usize {
+    let mut is_met = [false; 3];
+    for units in 1..128usize {
         let heap = LocalHeap::new(rt.alloc(), 16 * units)?;
-        match clone_on(&rt, &heap, &source) {
-            Left::Cloned => cloned = true,
-            Left::Kept => kept = true,
-            Left::Emptied => emptied = true,
-            Left::Nothing => {}
+        if let Some(left) = left_on(&heap, &source) {
+            let case = LEFT.iter().position(|wanted| *wanted == left);
+            let place = case.and_then(|case| is_met.get_mut(case));
+            *place.ok_or("a known case")? = true;
         }
-        assert_eq!(rt; heap.used(), 0);
+        assert!(rt; heap.used() == 0);
     }
-    assert!(rt; cloned && kept && emptied);
+    assert!(rt; is_met == [true; 3]);
     Ok(())
+}
+
+/// The pointers from 1.2 to 4.2, which find 3.4, 1.4, 4.4 and 2.4; a copy.
+fn recaster(alloc: Global) -> Result<Arena<P0, P0>, Fail> {
+    let mut pointers = Arena::new(alloc);
+    for index in [3, 1, 4, 2] {
+        pointers.insert_reallocating(p0(index, 4))?;
+    }
+    let mut recaster = Arena::new(alloc);
+    laws::copy(&pointers, &mut recaster)?;
+    Ok(recaster)
+}
+
+/// What becomes of a pointer that is recast, and what the call says.
+fn recast(recaster: &Arena<P0, P0>, p: P0) -> (P0, Result<(), P0>) {
+    let mut p = p;
+    let outcome = p.recast(recaster);
+    (p, outcome)
 }
 
 #[test]
 fn an_arena_of_pointers_recasts(rt: HostRuntime) -> Result<(), Fail> {
-    let mut items: Arena<P0, &'static str> = Arena::new(rt.alloc());
-    for item in ["A", "B", "C", "E"] {
-        items.insert_reallocating(item)?;
+    let recaster = recaster(rt.alloc())?;
+    let cases = [
+        (p0(2, 2), p0(1, 4), Ok(())),
+        (p0(2, 4), p0(2, 4), Err(p0(2, 4))),
+        (p0(9, 2), p0(9, 2), Err(p0(9, 2))),
+    ];
+    for (p, recast_p, outcome) in cases {
+        assert!(rt; recast(&recaster, p) == (recast_p, outcome));
     }
-    let mut recaster: Arena<P0, P0> = Arena::new(rt.alloc());
-    let result = recaster.clone_from_with(&items, |_p, _item| P0::invalid());
-    assert_eq!(rt; result, Ok(()));
-    for (index, to) in [(1, 3), (2, 1), (3, 4), (4, 2)] {
-        assert_eq!(rt; recaster.get(p0(index, 2)).copied(), Some(P0::invalid()));
-        if let Some(item) = recaster.get_mut(p0(index, 2)) {
-            *item = p0(to, 4);
-        }
-    }
-    assert_eq!(rt;
-        format!(in rt.alloc(); "{recaster:#?}")?.as_str(),
-        "{\n    P0[1](2): P0[3](4),\n    P0[2](2): P0[1](4),\n    P0[3](2): P0[4](4),\n    P0[4](2): P0[2](4),\n}"
-    );
-    let mut pointers = [p0(2, 2), p0(2, 4), p0(9, 2)];
-    assert_eq!(rt; pointers[0].recast(&recaster), Ok(()));
-    assert_eq!(rt; pointers[1].recast(&recaster), Err(p0(2, 4)));
-    assert_eq!(rt; pointers[2].recast(&recaster), Err(p0(9, 2)));
-    assert_eq!(rt; pointers, [p0(1, 4), p0(2, 4), p0(9, 2)]);
     Ok(())
 }

@@ -128,12 +128,17 @@ fn expect_end<R: Abort + AllocGlobal>(
     };
     let mut reader = Watched::new(&mut source);
     let mut writer = Watched::new(&mut sink);
-    assert_eq!(rt; serve(rt.alloc(), &mut reader, &mut writer), end);
+    assert!(rt; serve(rt.alloc(), &mut reader, &mut writer) == end);
     let is_answered = end == END || end == ScriptEnd::WriteFailed;
-    assert_eq!(rt; reader.ended(), is_answered);
-    assert_eq!(rt; reader.failed(), end == ScriptEnd::ReadFailed);
-    assert_eq!(rt; writer.failed(), end == ScriptEnd::WriteFailed);
-    assert_eq!(rt; sink.bytes.as_slice(), written);
+    let told = (reader.ended(), reader.failed(), writer.failed());
+    assert!(rt;
+        told == (
+            is_answered,
+            end == ScriptEnd::ReadFailed,
+            end == ScriptEnd::WriteFailed
+        )
+    );
+    assert!(rt; sink.bytes.as_slice() == written);
     Calls {
         reads: source.pace.calls,
         unread: source.bytes.len(),
@@ -152,7 +157,7 @@ fn reads_and_writes_in_pieces(rt: HostRuntime) {
             unread: 0,
             writes: ANSWER.len().div_ceil(step),
         };
-        assert_eq!(rt; calls, expected);
+        assert!(rt; calls == expected);
     }
 }
 
@@ -167,7 +172,7 @@ fn each_read_fails_in_turn(rt: HostRuntime) {
             unread: SCRIPT.len() - call,
             writes: 0,
         };
-        assert_eq!(rt; calls, expected);
+        assert!(rt; calls == expected);
     }
 }
 
@@ -183,7 +188,7 @@ fn each_write_fails_in_turn(rt: HostRuntime) {
                 unread: 0,
                 writes: call + 1,
             };
-            assert_eq!(rt; calls, expected);
+            assert!(rt; calls == expected);
         }
     }
 }
@@ -202,11 +207,10 @@ fn a_watched_reader_is_asked_once_a_read(rt: HostRuntime) {
         for call in 0usize..5 {
             let mut byte = [0];
             let result = reader.read(&mut byte);
-            assert_eq!(rt; result.is_err(), call == failing);
-            assert_eq!(rt; reader.failed(), call >= failing);
-            assert_eq!(rt; reader.ended(), call == 4);
+            assert!(rt; result.is_err() == (call == failing));
+            assert!(rt; (reader.failed(), reader.ended()) == (call >= failing, call == 4));
         }
-        assert_eq!(rt; source.pace.calls, 5);
+        assert!(rt; source.pace.calls == 5);
         assert!(rt; source.bytes.is_empty());
     }
 }
@@ -223,13 +227,11 @@ fn a_watched_writer_is_asked_once_a_write(rt: HostRuntime) {
             let mut writer = Watched::new(&mut sink);
             for call in 0usize..4 {
                 let is_well = matches!(writer.write(b"xy"), Ok(1));
-                assert_eq!(rt; is_well, call != failing);
-                assert_eq!(rt; writer.failed(), call >= failing);
+                assert!(rt; (is_well, writer.failed()) == (call != failing, call >= failing));
             }
             assert!(rt; writer.flush().is_ok());
-            assert_eq!(rt; sink.pace.calls, 4);
-            assert_eq!(rt; sink.flushes, 1);
-            assert_eq!(rt; sink.bytes.as_slice(), b"xxx".as_slice());
+            assert!(rt; (sink.pace.calls, sink.flushes) == (4, 1));
+            assert!(rt; sink.bytes.as_slice() == b"xxx".as_slice());
         }
     }
 }
@@ -252,19 +254,28 @@ fn serve_line_feeds<R: Abort + AllocGlobal>(
     Ok((end, source.pace.calls, source.bytes.len()))
 }
 
+/// Line feeds, the call that fails, and how it ends, after how many reads, with how many bytes unread. 256 reads of 4096 bytes reach the limit.
+const LINE_FEEDS: [(usize, Failure, (ScriptEnd, usize, usize)); 5] = [
+    (1_048_576, Failure::Never, (ScriptEnd::Done, 257, 0)),
+    (1_048_577, Failure::Never, (ScriptEnd::TooLong, 257, 0)),
+    (1_048_600, Failure::Never, (ScriptEnd::TooLong, 257, 23)),
+    // whichever comes first
+    (
+        1_048_600,
+        Failure::ErrorAt(256),
+        (ScriptEnd::ReadFailed, 257, 24),
+    ),
+    (
+        1_048_600,
+        Failure::ErrorAt(257),
+        (ScriptEnd::TooLong, 257, 23),
+    ),
+];
+
 #[test]
 fn reads_one_byte_beyond_the_limit(rt: HostRuntime) -> Result<(), Fail> {
-    // 256 reads of 4096 bytes reach the limit
-    let at_limit = serve_line_feeds(&rt, 1_048_576, Failure::Never)?;
-    assert_eq!(rt; at_limit, (ScriptEnd::Done, 257, 0));
-    let beyond = serve_line_feeds(&rt, 1_048_577, Failure::Never)?;
-    assert_eq!(rt; beyond, (ScriptEnd::TooLong, 257, 0));
-    let far_beyond = serve_line_feeds(&rt, 1_048_600, Failure::Never)?;
-    assert_eq!(rt; far_beyond, (ScriptEnd::TooLong, 257, 23));
-    // whichever comes first
-    let fails_first = serve_line_feeds(&rt, 1_048_600, Failure::ErrorAt(256))?;
-    assert_eq!(rt; fails_first, (ScriptEnd::ReadFailed, 257, 24));
-    let fails_later = serve_line_feeds(&rt, 1_048_600, Failure::ErrorAt(257))?;
-    assert_eq!(rt; fails_later, (ScriptEnd::TooLong, 257, 23));
+    for (count, failure, wanted) in &LINE_FEEDS {
+        assert!(rt; serve_line_feeds(&rt, *count, *failure)? == *wanted);
+    }
     Ok(())
 }

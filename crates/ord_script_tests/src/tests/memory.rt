@@ -49,7 +49,7 @@ const WHOLE: &str =
 /// Whether the answer has these lines.
 fn is_possible(answer: &str) -> bool {
     let mut lines = answer.lines();
-    for known in LINES {
+    for known in &LINES {
         match lines.next() {
             Some(line) if known.contains(&line) => {}
             _ => return false,
@@ -67,13 +67,13 @@ fn each_request_for_memory_is_refused_in_turn(rt: HostRuntime) -> Result<(), Fai
         let mut output = Vec::new(rt.alloc());
         let mut reader = Watched::new(GROWING);
         let end = serve(&heap, &mut reader, &mut Watched::new(&mut output));
-        assert_eq!(rt; heap.used(), 0);
+        assert!(rt; heap.used() == 0);
         let answer = std::str::from_utf8(&output)?;
         if end == ScriptEnd::Memory {
             assert!(rt; answer.is_empty());
         } else {
-            assert_eq!(rt; end, ScriptEnd::Done);
-            assert!(rt; is_possible(answer), "{size}: {answer}");
+            assert!(rt; end == ScriptEnd::Done);
+            assert!(rt; is_possible(answer));
             is_refused = is_refused || answer.contains("refused memory");
             is_whole = answer == WHOLE;
         }
@@ -112,11 +112,7 @@ fn a_long_script_is_answered(rt: HostRuntime) -> Result<(), Fail> {
     let mut output = Vec::new(rt.alloc());
     let mut reader = Watched::new(script.as_bytes());
     let end = serve(rt.alloc(), &mut reader, &mut Watched::new(&mut output));
-    assert_eq!(rt; end, ScriptEnd::Done);
-    assert_eq!(rt;
-        output.iter().filter(|byte| **byte == b'\n').count(),
-        40_001
-    );
+    assert!(rt; end == ScriptEnd::Done);
     assert!(rt; output.as_slice() == answer.as_bytes());
     Ok(())
 }

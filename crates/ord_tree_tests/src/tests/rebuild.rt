@@ -1,24 +1,13 @@
 //! Rebuilt trees, compared place by place with a recursive function of the length.
+use super::{Keys, Place, insert_at, places};
 use arena_base::{InsertionError, InvalidationOption, P0, Ptr, ReallocationError};
-use ord_tree::OrdTree;
 use std::alloc::{AllocError, Global};
 use std::cmp::Ordering;
 use std::process::Abort;
 use std::test::Fail;
 
-type Row = OrdTree<P0, ()>;
-
-/// What a tree says of one entry, with places in the list, counted from 0, for indexes.
-#[derive(Clone, Copy, Debug, PartialEq, Eq)]
-struct Place {
-    parent: Option<usize>,
-    lesser: Option<usize>,
-    greater: Option<usize>,
-    rank: u8,
-}
-
-/// The place in the middle of a run.
-fn middle_of(start: usize, len: usize) -> Option<usize> {
+/// The index in the middle of a run.
+fn middle_of(start: u32, len: u32) -> Option<u32> {
     if len == 0 {
         return None;
     }
@@ -26,7 +15,7 @@ fn middle_of(start: usize, len: usize) -> Option<usize> {
 }
 
 /// The rank over a run, `level` where it is of five entries or more.
-fn rank_over(len: usize, level: u8) -> u8 {
+fn rank_over(len: u32, level: u8) -> u8 {
     match len {
         1 => 1,
         2 => 2,
@@ -38,9 +27,9 @@ fn rank_over(len: usize, level: u8) -> u8 {
 /// Adds the places of a run in order. Its root hangs on the parent.
 fn add_run(
     places: &mut Vec<Place>,
-    start: usize,
-    len: usize,
-    parent: Option<usize>,
+    start: u32,
+    len: u32,
+    parent: Option<u32>,
     level: u8,
 ) -> Result<(), AllocError> {
     if len == 0 {
@@ -48,149 +37,105 @@ fn add_run(
     }
     let half = len / 2;
     let rest = len - half - 1;
-    let middle = start.saturating_add(half);
-    let after = middle.saturating_add(1);
+    let index = start.saturating_add(half);
+    let after = index.saturating_add(1);
     let below = level.saturating_sub(1);
-    add_run(places, start, half, Some(middle), below)?;
+    add_run(places, start, half, Some(index), below)?;
     places.push(Place {
-        parent,
-        lesser: middle_of(start, half),
-        greater: middle_of(after, rest),
+        index,
+        key: 0,
         rank: rank_over(len, level),
+        parent,
+        children: (middle_of(start, half), middle_of(after, rest)),
     })?;
-    add_run(places, after, rest, Some(middle), below)
+    add_run(places, after, rest, Some(index), below)
 }
 
-/// The places of the rebuilt tree of `len` entries.
-fn rebuilt(alloc: Global, len: usize) -> Result<Vec<Place>, AllocError> {
-    let (mut power, mut top) = (1usize, 1u8);
-    for _ in 0..64 {
+/// The places of the rebuilt tree of `len` entries, whose indexes rise from 1.
+fn rebuilt(alloc: Global, len: u32) -> Result<Vec<Place>, AllocError> {
+    let (mut power, mut top) = (1u32, 1u8);
+    for _ in 0..32 {
         if power < len.saturating_sub(1) {
             power = power.saturating_mul(2);
             top = top.saturating_add(1);
         }
     }
     let mut places = Vec::new(alloc);
-    add_run(&mut places, 0, len, None, top)?;
+    add_run(&mut places, 1, len, None, top)?;
     Ok(places)
 }
 
-/// Inserts an entry behind the last one, which stands at this index. Answers its own.
-fn add_last(rt: &impl Abort, tree: &mut Row, last: Option<u32>) -> Result<u32, InsertionError> {
-    let place = match last {
-        None => {
-            assert!(rt; tree.is_empty());
-            None
-        }
-        Some(index) => {
-            assert!(rt; tree.contains_inx(index));
-            Some((index, Ordering::Greater))
-        }
-    };
-    Ok(tree.insert_reallocating(place, ())?.inx())
-}
-
-/// A tree of `len` entries, each inserted behind the last, so that the entry at place i has the index i + 1.
-fn row(rt: &impl Abort, alloc: Global, len: usize) -> Result<Row, Fail> {
-    let mut tree = Row::new(alloc);
+/// Inserts `len` entries, each behind the last, so that their indexes rise from 1. Their keys are never asked.
+fn fill(rt: &impl Abort, tree: &mut Keys, len: u32) -> Result<(), InsertionError> {
     let mut last = None;
     for _ in 0..len {
-        last = Some(add_last(rt, &mut tree, last)?);
-    }
-    Ok(tree)
-}
-
-/// The place of an index.
-fn place_of(index: Option<u32>) -> Option<usize> {
-    usize::try_from(index?.saturating_sub(1)).ok()
-}
-
-/// Each place of a tree in order.
-fn places(alloc: Global, tree: &Row) -> Result<Vec<Place>, Fail> {
-    let chain = tree.chain();
-    let mut places = Vec::new(alloc);
-    let mut next = chain.first().map(|p| p.inx());
-    for _ in 0..chain.len() {
-        let index = next.ok_or("an entry for each")?;
-        let (_, link) = chain.get_inx_link_no_gen(index).ok_or("its node")?;
-        places.push(Place {
-            parent: place_of(link.t.p_back.get()),
-            lesser: place_of(link.t.p_tree0.get()),
-            greater: place_of(link.t.p_tree1.get()),
-            rank: link.t.rank,
-        })?;
-        next = link.next();
-    }
-    Ok(places)
-}
-
-/// The places of a tree of `len` entries, which are what the recursive function says.
-fn rebuilt_places(
-    rt: &impl Abort,
-    alloc: Global,
-    tree: &Row,
-    len: usize,
-) -> Result<Vec<Place>, Fail> {
-    let found = places(alloc, tree)?;
-    let wanted = rebuilt(alloc, len)?;
-    assert_eq!(rt; found.as_slice(), wanted.as_slice());
-    assert_eq!(rt; place_of(tree.root()), middle_of(0, len));
-    Ok(found)
-}
-
-/// Rebuilds a tree of `len` entries. Answers the ranks in order.
-fn rebuild(rt: &impl Abort, alloc: Global, len: usize) -> Result<Vec<u8>, Fail> {
-    let mut tree = row(rt, alloc, len)?;
-    let _ = tree.compress(false);
-    let mut ranks = Vec::new(alloc);
-    for place in &rebuilt_places(rt, alloc, &tree, len)? {
-        ranks.push(place.rank)?;
-    }
-    Ok(ranks)
-}
-
-#[test]
-fn rebuilds_in_halves(rt: HostRuntime) -> Result<(), Fail> {
-    let alloc = rt.alloc();
-    for len in 0..301usize {
-        let _ = rebuild(&rt, alloc, len)?;
-    }
-    let mut power = 512usize;
-    for _ in 0..4 {
-        for len in [power.saturating_sub(1), power, power.saturating_add(1)] {
-            let _ = rebuild(&rt, alloc, len)?;
-        }
-        power = power.saturating_mul(2);
+        let p = insert_at(rt, tree, last, 0)?;
+        last = Some((p.inx(), Ordering::Greater));
     }
     Ok(())
 }
 
+/// Whether a tree is what the recursive function says.
+fn is_rebuilt(alloc: Global, tree: &Keys, len: u32) -> Result<bool, Fail> {
+    let found = places(alloc, tree)?;
+    let is_placed = found.as_slice() == rebuilt(alloc, len)?.as_slice();
+    Ok(is_placed && tree.root() == middle_of(1, len))
+}
+
+/// Rebuilds a tree of `len` entries.
+fn rebuild(rt: &impl Abort, alloc: Global, len: u32) -> Result<Keys, Fail> {
+    let mut tree = Keys::new(alloc);
+    fill(rt, &mut tree, len)?;
+    let _ = tree.compress(false);
+    assert!(rt; is_rebuilt(alloc, &tree, len)?);
+    Ok(tree)
+}
+
+#[test]
+fn rebuilds_in_halves(rt: HostRuntime) -> Result<(), Fail> {
+    let powers = [
+        511, 512, 513, 1023, 1024, 1025, 2047, 2048, 2049, 4095, 4096, 4097,
+    ];
+    for len in (0..301u32).chain(powers) {
+        let _ = rebuild(&rt, rt.alloc(), len)?;
+    }
+    Ok(())
+}
+
+/// Ranks in order of rebuilt trees, by their number of entries.
+const RANKS: [(u32, &[u8]); 8] = [
+    (3, &[1, 3, 1]),
+    (5, &[1, 2, 3, 1, 2]),
+    (6, &[1, 3, 1, 4, 1, 2]),
+    (7, &[1, 3, 1, 4, 1, 3, 1]),
+    (10, &[1, 2, 4, 1, 2, 5, 1, 2, 3, 1]),
+    (12, &[1, 3, 1, 4, 1, 2, 5, 1, 2, 4, 1, 2]),
+    (17, &[1, 2, 3, 1, 4, 1, 3, 1, 5, 1, 2, 3, 1, 4, 1, 3, 1]),
+    (18, &[1, 2, 3, 1, 5, 1, 2, 3, 1, 6, 1, 2, 3, 1, 5, 1, 3, 1]),
+];
+
 #[test]
 fn ranks_after_a_rebuild(rt: HostRuntime) -> Result<(), Fail> {
-    let wanted = [
-        [1u8, 3, 1].as_slice(),
-        [1u8, 2, 3, 1, 2].as_slice(),
-        [1u8, 3, 1, 4, 1, 2].as_slice(),
-        [1u8, 3, 1, 4, 1, 3, 1].as_slice(),
-        [1u8, 2, 4, 1, 2, 5, 1, 2, 3, 1].as_slice(),
-        [1u8, 3, 1, 4, 1, 2, 5, 1, 2, 4, 1, 2].as_slice(),
-        [1u8, 2, 3, 1, 4, 1, 3, 1, 5, 1, 2, 3, 1, 4, 1, 3, 1].as_slice(),
-        [1u8, 2, 3, 1, 5, 1, 2, 3, 1, 6, 1, 2, 3, 1, 5, 1, 3, 1].as_slice(),
-    ];
-    for ranks in wanted {
-        let found = rebuild(&rt, rt.alloc(), ranks.len())?;
-        assert_eq!(rt; found.as_slice(), ranks);
+    for (len, ranks) in &RANKS {
+        let tree = rebuild(&rt, rt.alloc(), *len)?;
+        let found = places(rt.alloc(), &tree)?;
+        assert!(rt;
+            found
+                .iter()
+                .map(|place| place.rank)
+                .eq(ranks.iter().copied())
+        );
     }
     Ok(())
 }
 
 /// Transfers all entries with generation 9. Answers the outcome, and how often the closure was called.
-fn transfer_all(tree: &mut Row, source: &mut Row) -> (Result<(), ReallocationError>, usize) {
-    let mut calls = 0usize;
+fn transfer_all(tree: &mut Keys, source: &mut Keys) -> (Result<(), ReallocationError>, u32) {
+    let mut calls = 0u32;
     let outcome = tree.transfer_canonical_reallocating(
         9,
         source,
-        |_from: P0, taken: InvalidationOption<()>, _to: P0| {
+        |_from: P0, taken: InvalidationOption<u8>, _to: P0| {
             calls = calls.wrapping_add(1);
             taken.allow()
         },
@@ -198,51 +143,37 @@ fn transfer_all(tree: &mut Row, source: &mut Row) -> (Result<(), ReallocationErr
     (outcome, calls)
 }
 
-/// A tree of one entry that may hold `maximum`.
-fn small(rt: &impl Abort, alloc: Global, maximum: usize) -> Result<Row, Fail> {
-    let mut tree = Row::new(alloc);
-    assert_eq!(rt; tree.set_max_capacity(maximum), Ok(()));
-    let _ = add_last(rt, &mut tree, None)?;
-    Ok(tree)
+/// Lets a tree that may hold `maximum` entries take over `len` from another one. Tells how, and whether one of both is as the recursive
+/// function says then.
+fn taken(
+    rt: &impl Abort,
+    alloc: Global,
+    len: u32,
+    maximum: usize,
+) -> Result<(Result<(), ReallocationError>, u32, usize, bool), Fail> {
+    let mut source = Keys::new(alloc);
+    fill(rt, &mut source, len)?;
+    let mut tree = Keys::new(alloc);
+    fill(rt, &mut tree, 1)?;
+    let _ = tree.reallocate_min_capacity(0);
+    let _ = tree.set_max_capacity(maximum);
+    let (outcome, calls) = transfer_all(&mut tree, &mut source);
+    let is_right = is_rebuilt(alloc, &tree, if outcome.is_ok() { len } else { 1 })?;
+    Ok((outcome, calls, source.len(), is_right))
 }
 
-/// A tree that took `len` entries from another one, as many as it may hold.
-fn taken(rt: &impl Abort, alloc: Global, len: usize) -> Result<Row, Fail> {
-    let mut source = row(rt, alloc, len)?;
-    let mut tree = small(rt, alloc, len)?;
-    assert_eq!(rt; transfer_all(&mut tree, &mut source), (Ok(()), len));
-    assert_eq!(rt; (source.len(), source.root()), (0, None));
-    Ok(tree)
+/// A number of entries as a maximum.
+fn limit_of(len: u32) -> usize {
+    usize::try_from(len).unwrap_or(0)
 }
 
 #[test]
 fn transfers_at_the_limit(rt: HostRuntime) -> Result<(), Fail> {
-    for len in 1..40usize {
-        let tree = taken(&rt, rt.alloc(), len)?;
-        let _ = rebuilt_places(&rt, rt.alloc(), &tree, len)?;
+    for len in 1..40u32 {
+        let found = taken(&rt, rt.alloc(), len, limit_of(len))?;
+        assert!(rt; found == (Ok(()), len, 0, true));
     }
-    Ok(())
-}
-
-#[test]
-fn a_transfer_beyond_the_limit(rt: HostRuntime) -> Result<(), Fail> {
-    let source = row(&rt, rt.alloc(), 4)?;
-    let before = places(rt.alloc(), &source)?;
-    let after = refused(&rt, rt.alloc())?;
-    assert_eq!(rt; after.as_slice(), before.as_slice());
-    Ok(())
-}
-
-/// The places of a tree of four entries that another one with three places refused to take.
-fn refused(rt: &impl Abort, alloc: Global) -> Result<Vec<Place>, Fail> {
-    let mut source = row(rt, alloc, 4)?;
-    let mut tree = small(rt, alloc, 3)?;
     let refusal = Err(ReallocationError::BeyondMaxCapacity);
-    assert_eq!(rt; transfer_all(&mut tree, &mut source), (refusal, 0));
-    let _ = rebuilt_places(rt, alloc, &tree, 1)?;
-    assert_eq!(rt;
-        (tree.chain().generation(), source.chain().generation()),
-        (2, 2)
-    );
-    places(alloc, &source)
+    assert!(rt; taken(&rt, rt.alloc(), 4, 3)? == (refusal, 0, 4, true));
+    Ok(())
 }

@@ -1,0 +1,382 @@
+//! Repairs by a table, the rows of which were worked out apart from the code.
+use super::{Keys, Place, moved, places, toggle};
+use std::alloc::{AllocError, Global};
+use std::process::Abort;
+use std::test::Fail;
+
+/// A key, its rank and its parent's key, which is 0 for the root.
+type Node = (u8, u8, u8);
+
+/// Keys that are inserted; keys that are then inserted or removed; the tree then; and how many parents the last key moves.
+type Row = (&'static [u8], &'static [u8], &'static [Node], usize);
+
+/// Keys of which the last is inserted into the tree of those before it.
+const INSERTIONS: [Row; 16] = [
+    // the parent has rank 2 already
+    (&[2, 1], &[3], &[(1, 1, 2), (2, 2, 0), (3, 1, 2)], 0),
+    (&[2, 3], &[1], &[(1, 1, 2), (2, 2, 0), (3, 1, 2)], 0),
+    // the grandparent's rank is greater
+    (
+        &[3, 2, 5, 4],
+        &[1],
+        &[(1, 1, 2), (2, 2, 3), (3, 3, 0), (4, 1, 5), (5, 2, 3)],
+        0,
+    ),
+    (
+        &[3, 4, 1, 2],
+        &[5],
+        &[(1, 2, 3), (2, 1, 1), (3, 3, 0), (4, 2, 3), (5, 1, 4)],
+        0,
+    ),
+    // promotions
+    (
+        &[2, 1, 4],
+        &[3],
+        &[(1, 1, 2), (2, 3, 0), (3, 1, 4), (4, 2, 2)],
+        0,
+    ),
+    (
+        &[3, 4, 1],
+        &[2],
+        &[(1, 2, 3), (2, 1, 1), (3, 3, 0), (4, 1, 3)],
+        0,
+    ),
+    // a single rotation
+    (&[1, 2], &[3], &[(1, 1, 2), (2, 2, 0), (3, 1, 2)], 2),
+    (&[3, 2], &[1], &[(1, 1, 2), (2, 2, 0), (3, 1, 2)], 2),
+    // a double one
+    (&[1, 3], &[2], &[(1, 1, 2), (2, 2, 0), (3, 1, 2)], 2),
+    (&[3, 1], &[2], &[(1, 1, 2), (2, 2, 0), (3, 1, 2)], 2),
+    // a single one after promotions, with an inner subtree
+    (
+        &[8, 7, 6, 5, 9, 3, 1, 4],
+        &[2],
+        &[
+            (1, 2, 3),
+            (2, 1, 1),
+            (3, 3, 7),
+            (4, 1, 5),
+            (5, 2, 3),
+            (6, 1, 5),
+            (7, 4, 0),
+            (8, 2, 7),
+            (9, 1, 8),
+        ],
+        3,
+    ),
+    (
+        &[2, 3, 4, 5, 1, 7, 9, 6],
+        &[8],
+        &[
+            (1, 1, 2),
+            (2, 2, 3),
+            (3, 4, 0),
+            (4, 1, 5),
+            (5, 2, 7),
+            (6, 1, 5),
+            (7, 3, 3),
+            (8, 1, 9),
+            (9, 2, 7),
+        ],
+        3,
+    ),
+    // a double one after promotions, with both inner subtrees: the most that an insertion moves
+    (
+        &[4, 1, 3, 8, 10, 2, 9, 7, 5],
+        &[6],
+        &[
+            (1, 2, 3),
+            (2, 1, 1),
+            (3, 3, 5),
+            (4, 1, 3),
+            (5, 4, 0),
+            (6, 1, 7),
+            (7, 2, 8),
+            (8, 3, 5),
+            (9, 1, 10),
+            (10, 2, 8),
+        ],
+        5,
+    ),
+    (
+        &[7, 10, 8, 3, 1, 9, 2, 4, 6],
+        &[5],
+        &[
+            (1, 2, 3),
+            (2, 1, 1),
+            (3, 3, 6),
+            (4, 2, 3),
+            (5, 1, 4),
+            (6, 4, 0),
+            (7, 1, 8),
+            (8, 3, 6),
+            (9, 1, 10),
+            (10, 2, 8),
+        ],
+        5,
+    ),
+    // keys in order
+    (
+        &[1, 2, 3, 4, 5, 6],
+        &[7],
+        &[
+            (1, 1, 2),
+            (2, 2, 4),
+            (3, 1, 2),
+            (4, 3, 0),
+            (5, 1, 6),
+            (6, 2, 4),
+            (7, 1, 6),
+        ],
+        2,
+    ),
+    (
+        &[7, 6, 5, 4, 3, 2],
+        &[1],
+        &[
+            (1, 1, 2),
+            (2, 2, 4),
+            (3, 1, 2),
+            (4, 3, 0),
+            (5, 1, 6),
+            (6, 2, 4),
+            (7, 1, 6),
+        ],
+        2,
+    ),
+];
+
+/// Keys of a tree, and those that are removed from it.
+const REMOVALS: [Row; 33] = [
+    // a leaf; a node with one side, whose child takes its place
+    (&[1], &[1], &[], 0),
+    (&[1, 2], &[1], &[(2, 1, 0)], 1),
+    (&[2, 1], &[2], &[(1, 1, 0)], 1),
+    (&[1, 3, 4, 2], &[1], &[(2, 1, 3), (3, 3, 0), (4, 1, 3)], 1),
+    (&[1, 2, 4, 3], &[4], &[(1, 1, 2), (2, 3, 0), (3, 1, 2)], 1),
+    // a node with both sides, which the previous one takes: its child, then further down
+    (&[1, 2, 3], &[2], &[(1, 2, 0), (3, 1, 1)], 2),
+    (
+        &[1, 4, 5, 2, 3],
+        &[4],
+        &[(1, 1, 2), (2, 2, 3), (3, 3, 0), (5, 1, 3)],
+        3,
+    ),
+    // the same where the previous one has a lesser side
+    (&[2, 3, 4, 1], &[3], &[(1, 1, 2), (2, 3, 0), (4, 1, 2)], 2),
+    (
+        &[50, 30, 70, 60, 10],
+        &[50],
+        &[(10, 1, 30), (30, 3, 0), (60, 1, 70), (70, 2, 30)],
+        2,
+    ),
+    (
+        &[1, 2, 7, 4, 5, 6, 3],
+        &[5],
+        &[
+            (1, 1, 2),
+            (2, 3, 4),
+            (3, 1, 2),
+            (4, 4, 0),
+            (6, 1, 7),
+            (7, 2, 4),
+        ],
+        4,
+    ),
+    // the parent is without children now
+    (&[2, 1], &[1], &[(2, 1, 0)], 0),
+    (&[1, 2], &[2], &[(1, 1, 0)], 0),
+    (&[2, 3, 4, 1], &[1], &[(2, 1, 3), (3, 3, 0), (4, 1, 3)], 0),
+    (&[1, 2, 3, 4], &[4], &[(1, 1, 2), (2, 3, 0), (3, 1, 2)], 0),
+    // it is at most two above
+    (&[1, 2, 3], &[1], &[(2, 2, 0), (3, 1, 2)], 0),
+    (&[1, 2, 3], &[3], &[(1, 1, 2), (2, 2, 0)], 0),
+    // the sibling is two below
+    (&[1, 2, 4, 3], &[4, 1], &[(2, 2, 0), (3, 1, 2)], 0),
+    (&[1, 2, 4, 3], &[1, 4], &[(2, 1, 3), (3, 2, 0)], 0),
+    (
+        &[5, 7, 3, 1, 4, 2, 6],
+        &[7, 4],
+        &[(1, 2, 3), (2, 1, 1), (3, 4, 0), (5, 2, 3), (6, 1, 5)],
+        0,
+    ),
+    (
+        &[6, 7, 1, 3, 5, 2, 4],
+        &[6, 7],
+        &[(1, 2, 3), (2, 1, 1), (3, 4, 0), (4, 1, 5), (5, 2, 3)],
+        0,
+    ),
+    // the sibling's outer child is one below it: a single rotation
+    (&[1, 2, 3, 4], &[1], &[(2, 1, 3), (3, 3, 0), (4, 1, 3)], 2),
+    (&[2, 3, 4, 1], &[4], &[(1, 1, 2), (2, 3, 0), (3, 1, 2)], 2),
+    (
+        &[1, 2, 3, 4, 5],
+        &[1],
+        &[(2, 2, 4), (3, 1, 2), (4, 3, 0), (5, 1, 4)],
+        3,
+    ),
+    (
+        &[1, 4, 5, 2, 3],
+        &[5],
+        &[(1, 1, 2), (2, 3, 0), (3, 1, 4), (4, 2, 2)],
+        3,
+    ),
+    // the same further up
+    (
+        &[1, 2, 5, 3, 6, 4, 7],
+        &[1],
+        &[
+            (2, 1, 3),
+            (3, 2, 5),
+            (4, 1, 3),
+            (5, 4, 0),
+            (6, 2, 5),
+            (7, 1, 6),
+        ],
+        3,
+    ),
+    (
+        &[1, 3, 5, 7, 6, 4, 2],
+        &[7],
+        &[
+            (1, 2, 3),
+            (2, 1, 1),
+            (3, 4, 0),
+            (4, 1, 5),
+            (5, 2, 3),
+            (6, 1, 5),
+        ],
+        3,
+    ),
+    // both children of the sibling are two below it
+    (
+        &[2, 6, 3, 1, 4, 7, 5],
+        &[5, 1],
+        &[(2, 1, 3), (3, 3, 0), (4, 1, 6), (6, 2, 3), (7, 1, 6)],
+        0,
+    ),
+    (
+        &[6, 3, 1, 7, 5, 4, 2],
+        &[2, 7],
+        &[(1, 1, 3), (3, 2, 5), (4, 1, 3), (5, 3, 0), (6, 1, 5)],
+        0,
+    ),
+    // its inner child alone is one below it: a double rotation
+    (&[1, 2, 4, 3], &[1], &[(2, 1, 3), (3, 3, 0), (4, 1, 3)], 3),
+    (&[1, 3, 4, 2], &[4], &[(1, 1, 2), (2, 3, 0), (3, 1, 2)], 3),
+    // the same further up, with both inner subtrees
+    (
+        &[1, 2, 7, 8, 3, 4, 5, 6],
+        &[1],
+        &[
+            (2, 1, 3),
+            (3, 2, 5),
+            (4, 1, 3),
+            (5, 4, 0),
+            (6, 1, 7),
+            (7, 2, 5),
+            (8, 1, 7),
+        ],
+        5,
+    ),
+    (
+        &[7, 1, 6, 3, 8, 2, 4, 5],
+        &[8],
+        &[
+            (1, 1, 2),
+            (2, 2, 4),
+            (3, 1, 2),
+            (4, 4, 0),
+            (5, 1, 6),
+            (6, 2, 4),
+            (7, 1, 6),
+        ],
+        5,
+    ),
+    // the most that a removal moves
+    (
+        &[
+            14, 5, 19, 3, 11, 17, 21, 2, 4, 7, 13, 16, 18, 20, 1, 6, 9, 12, 15, 8, 10,
+        ],
+        &[14],
+        &[
+            (1, 1, 2),
+            (2, 2, 3),
+            (3, 3, 5),
+            (4, 1, 3),
+            (5, 5, 13),
+            (6, 1, 7),
+            (7, 2, 9),
+            (8, 1, 7),
+            (9, 4, 5),
+            (10, 1, 11),
+            (11, 2, 9),
+            (12, 1, 11),
+            (13, 6, 0),
+            (15, 1, 16),
+            (16, 2, 17),
+            (17, 3, 19),
+            (18, 1, 17),
+            (19, 4, 13),
+            (20, 1, 21),
+            (21, 2, 19),
+        ],
+        9,
+    ),
+];
+
+/// The key at an index.
+fn key_at(places: &[Place], index: Option<u32>) -> u8 {
+    for place in places {
+        if Some(place.index) == index {
+            return place.key;
+        }
+    }
+    0
+}
+
+fn nodes(alloc: Global, places: &[Place]) -> Result<Vec<Node>, AllocError> {
+    let mut nodes = Vec::new(alloc);
+    for place in places {
+        nodes.push((place.key, place.rank, key_at(places, place.parent)))?;
+    }
+    Ok(nodes)
+}
+
+/// Inserts or removes keys one after another. Answers how many parents the last one moves.
+fn moved_by(rt: &impl Abort, alloc: Global, tree: &mut Keys, keys: &[u8]) -> Result<usize, Fail> {
+    let mut last = 0;
+    for key in keys {
+        let old = places(alloc, tree)?;
+        toggle(rt, tree, &old, *key)?;
+        last = moved(&old, &places(alloc, tree)?);
+    }
+    Ok(last)
+}
+
+/// Compares the tree of a row and the parents that its last key moves with the row.
+fn repairs(rt: &impl Abort, alloc: Global, row: &Row) -> Result<(), Fail> {
+    let (keys, changes, wanted, moves) = *row;
+    let mut tree = Keys::new(alloc);
+    let _ = moved_by(rt, alloc, &mut tree, keys)?;
+    assert!(rt; moved_by(rt, alloc, &mut tree, changes)? == moves);
+    let found = nodes(alloc, &places(alloc, &tree)?)?;
+    assert!(rt; found.as_slice() == wanted);
+    Ok(())
+}
+
+#[test]
+fn repairs_by_the_table(rt: HostRuntime) -> Result<(), Fail> {
+    for row in &INSERTIONS {
+        repairs(&rt, rt.alloc(), row)?;
+    }
+    Ok(())
+}
+
+#[test]
+fn repairs_removals_by_the_table(rt: HostRuntime) -> Result<(), Fail> {
+    for row in &REMOVALS {
+        repairs(&rt, rt.alloc(), row)?;
+    }
+    Ok(())
+}
