@@ -1,11 +1,8 @@
 //! Insertions and removals in every order of up to five keys, and of six keys in part, against a plain sorted vector.
-ghost use Rattle.std.specs.Prelude.{◌<◌};
-
 use super::removal::remove_key;
-use super::{Keys, keys, order_is};
+use super::{Keys, has_keys, keys, rank_at};
 use arena_base::Ptr;
 use std::alloc::{AllocError, Global};
-use std::process::Abort;
 use std::test::Fail;
 
 /// The keys from 1 to n in the order of this number.
@@ -26,40 +23,23 @@ fn keys_in_order_of(alloc: Global, n: u64, number: u64) -> Result<Vec<u64>, Allo
     Ok(keys)
 }
 
-/// How many orders n keys have.
-fn orders(n: u64) -> u64 {
-    [1, 1, 2, 6, 24, 120, 720]
-        .get(n as usize)
-        .copied()
-        .unwrap_or(0)
-}
-
-/// The rank of the entry at an index, 0 where there is none.
-fn rank_at(a: &Keys, index: Option<u32>) -> u8 {
-    let Some(i) = index else {
-        return 0;
+/// The rank rules at one entry, read from its node and those below it.
+fn has_right_rank(a: &Keys, index: u32) -> bool {
+    let Some((_, entry)) = a.get_inx_node(index) else {
+        return false;
     };
-    match a.get_inx_node(i) {
-        Some((_, node)) => node.t.rank,
-        None => 0,
-    }
+    let node = &entry.t;
+    let lesser = rank_at(a, node.p_tree0.get().unwrap_or(0));
+    let greater = rank_at(a, node.p_tree1.get().unwrap_or(0));
+    let is_above = node.rank > lesser && node.rank > greater;
+    let is_near = is_above && node.rank - lesser <= 2 && node.rank - greater <= 2;
+    is_near && (node.rank == 1 || lesser > 0 || greater > 0)
 }
 
-/// The rank rules, read from the nodes.
-fn has_ranks(a: &Keys) -> bool {
+/// The rank rules at each entry.
+fn has_right_ranks(a: &Keys) -> bool {
     for (p, _) in a {
-        let Some((_, node)) = a.get_inx_node(p.inx()) else {
-            return false;
-        };
-        let lesser = rank_at(a, node.t.p_tree0.get());
-        let greater = rank_at(a, node.t.p_tree1.get());
-        let rank = node.t.rank;
-        for side in [lesser, greater] {
-            if rank <= side || rank - side > 2 {
-                return false;
-            }
-        }
-        if lesser == 0 && greater == 0 && rank != 1 {
+        if !has_right_rank(a, p.inx()) {
             return false;
         }
     }
@@ -70,10 +50,7 @@ fn has_ranks(a: &Keys) -> bool {
 fn finds_exactly(a: &Keys, n: u64, sorted: &[u64]) -> bool {
     for key in 1..=n {
         let (found, visits) = a.find_key_counted(&key);
-        if found.is_some() != sorted.contains(&key) {
-            return false;
-        }
-        if visits.count() > 3 {
+        if found.is_some() != sorted.contains(&key) || visits.count() > 3 {
             return false;
         }
     }
@@ -91,55 +68,52 @@ fn without(alloc: Global, sorted: &[u64], key: u64) -> Result<Vec<u64>, AllocErr
     Ok(left)
 }
 
-/// An arena that keeps the rank rules, with just these keys of those from 1 to n.
-fn holds(
-    rt: &impl Abort,
-    alloc: Global,
-    a: &Keys,
-    n: u64,
-    sorted: &[u64],
-) -> Result<(), AllocError> {
-    order_is(rt, alloc, a, sorted)?;
-    assert!(rt; has_ranks(a));
-    assert!(rt; finds_exactly(a, n, sorted));
-    Ok(())
+/// Whether an arena keeps the rank rules, with just these keys of those from 1 to n.
+fn holds(a: &Keys, n: u64, sorted: &[u64]) -> bool {
+    has_keys(a, sorted) && has_right_ranks(a) && finds_exactly(a, n, sorted)
 }
 
-/// Inserts the keys in the first order and removes them in the second one.
-fn goes_through(rt: &impl Abort, alloc: Global, first: &[u64], second: &[u64]) -> Result<(), Fail> {
+/// Inserts the keys in the first order and removes them in the second one, and tells whether all is right on the way.
+fn goes_through(alloc: Global, first: &[u64], second: &[u64]) -> Result<bool, Fail> {
     let n = first.len() as u64;
     let mut a = keys(alloc, first)?;
     let mut sorted = keys_in_order_of(alloc, n, 0)?;
-    holds(rt, alloc, &a, n, sorted.as_slice())?;
+    let mut is_right = holds(&a, n, sorted.as_slice());
     for key in second {
-        assert!(rt; remove_key(rt, alloc, &mut a, *key)? <= 9);
+        let moved = remove_key(alloc, &mut a, *key)?;
         sorted = without(alloc, sorted.as_slice(), *key)?;
-        holds(rt, alloc, &a, n, sorted.as_slice())?;
+        is_right = is_right && matches!(moved, Some(0..=9)) && holds(&a, n, sorted.as_slice());
     }
-    assert!(rt; a.is_empty());
-    Ok(())
+    Ok(is_right && a.is_empty())
 }
 
-/// Insertions in every order of n keys, each with the removals in one of so many orders.
-fn every_so_many(rt: &impl Abort, alloc: Global, n: u64, stride: u64) -> Result<(), Fail>
-    requires { 0 < stride }
-{
-    for first in 0..orders(n) {
+/// Insertions in every one of so many orders of n keys, each with the removals in one of so many orders.
+fn every_so_many(alloc: Global, n: u64, orders: u64, stride: u64) -> Result<bool, Fail> {
+    let mut is_right = true;
+    for first in 0..orders {
         let inserted = keys_in_order_of(alloc, n, first)?;
-        for second in 0..orders(n) {
-            if first.wrapping_add(second) % stride == 0 {
+        for second in 0..orders {
+            if first.wrapping_add(second).checked_rem(stride) == Some(0) {
                 let removed = keys_in_order_of(alloc, n, second)?;
-                goes_through(rt, alloc, inserted.as_slice(), removed.as_slice())?;
+                is_right = is_right
+                    && goes_through(alloc, inserted.as_slice(), removed.as_slice())?;
             }
         }
     }
-    Ok(())
+    Ok(is_right)
 }
 
 #[test]
 fn every_order(rt: HostRuntime) -> Result<(), Fail> {
-    for n in 1..=5u64 {
-        every_so_many(&rt, rt.alloc(), n, 1)?;
+    for (n, orders, stride) in [
+        (1u64, 1u64, 1u64),
+        (2, 2, 1),
+        (3, 6, 1),
+        (4, 24, 1),
+        (5, 120, 1),
+        (6, 720, 48),
+    ] {
+        assert!(rt; every_so_many(rt.alloc(), n, orders, stride)?);
     }
-    every_so_many(&rt, rt.alloc(), 6, 48)
+    Ok(())
 }
