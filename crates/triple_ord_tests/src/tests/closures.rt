@@ -3,7 +3,6 @@ use super::{Keys, SOUGHT, at, five, taken};
 use arena_base::P0;
 use std::cell::Cell;
 use std::cmp::Ordering;
-use std::test::Fail;
 use triple_ord::OrdPair;
 
 /// Where a search by a closure that always says less ends, after how many visits, and which keys it is shown in how many calls.
@@ -21,11 +20,10 @@ fn always_less_ends(a: &Keys) -> (Option<(P0, Ordering)>, u128, u64, [u64; 3]) {
 }
 
 #[test]
-fn always_less(rt: HostRuntime) -> Result<(), Fail> {
-    let a = five(rt.alloc())?;
+fn always_less(rt: HostRuntime) {
+    let a = five(rt.alloc());
     let first = Some((at(5), Ordering::Less));
     assert!(rt; always_less_ends(&a) == (first, 3, 3, [50, 30, 10]));
-    Ok(())
 }
 
 /// Whether a search for a key by a closure calls it once a visit, with the count and without, and finds what a search for the key
@@ -60,17 +58,16 @@ fn find_similar_with_calls(a: &Keys, key: u64) -> bool {
 }
 
 #[test]
-fn visits_are_calls(rt: HostRuntime) -> Result<(), Fail> {
-    let a = five(rt.alloc())?;
-    for key in SOUGHT {
-        assert!(rt; find_with_calls(&a, key) && find_similar_with_calls(&a, key));
+fn visits_are_calls(rt: HostRuntime) {
+    let a = five(rt.alloc());
+    for key in &SOUGHT {
+        assert!(rt; find_with_calls(&a, *key) && find_similar_with_calls(&a, *key));
     }
-    Ok(())
 }
 
 #[test]
-fn to_and_fro(rt: HostRuntime) -> Result<(), Fail> {
-    let a = five(rt.alloc())?;
+fn to_and_fro(rt: HostRuntime) {
+    let a = five(rt.alloc());
     let mut calls = 0u64;
     let found = a.find_similar_with(|_p: P0, _item| {
         calls = calls.wrapping_add(1);
@@ -81,5 +78,4 @@ fn to_and_fro(rt: HostRuntime) -> Result<(), Fail> {
         }
     });
     assert!(rt; found == Some((at(4), Ordering::Greater)));
-    Ok(())
 }

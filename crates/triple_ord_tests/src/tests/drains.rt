@@ -4,36 +4,35 @@ use arena_base::{InvalidationOption, P0, P8, Ptr};
 use std::alloc::Global;
 use std::cell::Cell;
 use std::mem;
-use std::test::Fail;
-use triple_ord::{OrdInsertionError, OrdPair, SimpleOrdArena, SimpleOrdItem};
+use triple_ord::{OrdPair, SimpleOrdArena, SimpleOrdItem};
 
-fn four(alloc: Global) -> Result<Keys, OrdInsertionError> {
-    let mut a = keys(alloc, &[3, 1, 4, 2])?;
+fn four(alloc: Global) -> Keys {
+    let mut a = keys(alloc, &[3, 1, 4, 2]);
     let _ = a.remove(at(3));
-    let _ = a.insert(OrdPair::new(5, ()))?;
-    Ok(a)
+    let _ = a.insert(OrdPair::new(5, ()));
+    a
 }
 
 /// The four keys, after a drain in order that took so many and is then forgotten.
-fn forgotten(alloc: Global, taken: usize) -> Result<Keys, OrdInsertionError> {
-    let mut a = four(alloc)?;
+fn forgotten(alloc: Global, taken: usize) -> Keys {
+    let mut a = four(alloc);
     let mut drain = a.drain_ordered();
     for _ in 0..taken {
         let _ = drain.next();
     }
     mem::forget(drain);
-    Ok(a)
+    a
 }
 
 /// The same after a drain by index.
-fn forgotten_by_index(alloc: Global, taken: usize) -> Result<Keys, OrdInsertionError> {
-    let mut a = four(alloc)?;
+fn forgotten_by_index(alloc: Global, taken: usize) -> Keys {
+    let mut a = four(alloc);
     let mut drain = a.drain();
     for _ in 0..taken {
         let _ = drain.next();
     }
     mem::forget(drain);
-    Ok(a)
+    a
 }
 
 /// How many a drain takes; the generation after it, and the keys that it leaves, in order and by index.
@@ -47,14 +46,13 @@ const LEFT: [(usize, u64, &[u64], &[u64]); 5] = [
 
 /// A drain that is forgotten leaves the rest.
 #[test]
-fn forgotten_drains(rt: HostRuntime) -> Result<(), Fail> {
+fn forgotten_drains(rt: HostRuntime) {
     for (taken, generation, in_order, by_index) in &LEFT {
-        let a = forgotten(rt.alloc(), *taken)?;
+        let a = forgotten(rt.alloc(), *taken);
         assert!(rt; a.generation() == *generation && has_keys(&a, in_order));
-        let b = forgotten_by_index(rt.alloc(), *taken)?;
+        let b = forgotten_by_index(rt.alloc(), *taken);
         assert!(rt; b.generation() == *generation && has_keys(&b, by_index));
     }
-    Ok(())
 }
 
 /// A key that counts how often it is dropped.
@@ -83,8 +81,8 @@ impl SimpleOrdItem for Counted<'_> {
 /// Five keys that count their drops.
 fn five_counted(alloc: Global, drops: &Cell<u64>) -> SimpleOrdArena<P0, Counted<'_>> {
     let mut a = SimpleOrdArena::new(alloc);
-    for key in [3u64, 1, 5, 2, 4] {
-        let _ = a.insert(Counted { key, drops });
+    for key in &[3u64, 1, 5, 2, 4] {
+        let _ = a.insert(Counted { key: *key, drops });
     }
     a
 }
@@ -122,12 +120,12 @@ fn drain_by_index(alloc: Global, drops: &Cell<u64>, taken: usize) -> u64 {
 #[test]
 fn items_are_dropped_once(rt: HostRuntime) {
     let drops = Cell::new(0u64);
-    for (taken, before) in [(0usize, 0u64), (1, 1), (3, 3), (5, 5), (6, 5)] {
-        assert!(rt; own(rt.alloc(), &drops, taken) == before);
+    for (taken, before) in &[(0usize, 0u64), (1, 1), (3, 3), (5, 5), (6, 5)] {
+        assert!(rt; own(rt.alloc(), &drops, *taken) == *before);
         assert!(rt; drops.replace(0) == 5);
-        assert!(rt; drain(rt.alloc(), &drops, taken) == before);
+        assert!(rt; drain(rt.alloc(), &drops, *taken) == *before);
         assert!(rt; drops.replace(0) == 5);
-        assert!(rt; drain_by_index(rt.alloc(), &drops, taken) == before);
+        assert!(rt; drain_by_index(rt.alloc(), &drops, *taken) == *before);
         assert!(rt; drops.replace(0) == 5);
     }
 }
@@ -136,7 +134,7 @@ fn items_are_dropped_once(rt: HostRuntime) {
 #[test]
 fn a_drain_overflows(rt: HostRuntime) {
     let mut a: SimpleOrdArena<P8, OrdPair<u64, ()>> = SimpleOrdArena::new(rt.alloc());
-    for key in [1u64, 2, 3] {
+    for key in 1..=3u64 {
         let _ = a.insert(OrdPair::new(key, ()));
     }
     a.set_generation(254);

@@ -66,16 +66,16 @@ fn replacing(index: u32) -> OrdEntryKind<P0> {
 }
 
 /// Keys in an arena, each marked 0, inserted in this order.
-fn marked(alloc: Global, list: &[u64]) -> Result<Marks, OrdInsertionError> {
+fn marked(alloc: Global, list: &[u64]) -> Marks {
     let mut a = Marks::new(alloc);
     for key in list {
-        let _ = a.insert(OrdPair::new(*key, 0))?;
+        let _ = a.insert(OrdPair::new(*key, 0));
     }
-    Ok(a)
+    a
 }
 
 /// The keys 10, 30, 50, 60, 70, each marked 0, at the indexes 5, 2, 1, 4, 3.
-fn five(alloc: Global) -> Result<Marks, OrdInsertionError> {
+fn five(alloc: Global) -> Marks {
     marked(alloc, &[50, 30, 70, 60, 10])
 }
 
@@ -111,16 +111,15 @@ const SEVEN: [(u32, u64, u64, u8); 7] = [
 ];
 
 #[test]
-fn hints_and_sides(rt: HostRuntime) -> Result<(), Fail> {
-    let mut a = five(rt.alloc())?;
-    for (row, item) in [
+fn hints_and_sides(rt: HostRuntime) {
+    let mut a = five(rt.alloc());
+    for (row, item) in &[
         (Row::Linear(5, 1, 20), (20u64, 7u64)),
         (Row::NonhereditaryLinear(4, 2, 60), (60, 8)),
     ] {
-        let _ = put(&mut a, &row, item)?;
+        let _ = put(&mut a, row, *item);
     }
     assert!(rt; is_listed(&a, SEVEN.as_slice()));
-    Ok(())
 }
 
 /// A kind of insertion over five keys; whether its entry is new, its index, and the visits.
@@ -137,17 +136,16 @@ const OVER_FIVE: [(Row, (bool, u32, u128)); 9] = [
 ];
 
 #[test]
-fn entries_over_five_keys(rt: HostRuntime) -> Result<(), Fail> {
-    for (row, (is_new, index, visits)) in OVER_FIVE {
-        let wanted = if is_new {
-            (new(index), visits, None)
+fn entries_over_five_keys(rt: HostRuntime) {
+    for (row, (is_new, index, visits)) in &OVER_FIVE {
+        let wanted = if *is_new {
+            (new(*index), *visits, None)
         } else {
-            (replacing(index), visits, Some(0))
+            (replacing(*index), *visits, Some(0))
         };
-        let mut a = five(rt.alloc())?;
-        assert!(rt; put(&mut a, &row, (55, 1)) == Ok(wanted));
+        let mut a = five(rt.alloc());
+        assert!(rt; put(&mut a, row, (55, 1)) == Ok(wanted));
     }
-    Ok(())
 }
 
 /// All kinds, each with a key or an index of an arena of one entry.
@@ -177,24 +175,23 @@ const FOUR: [(u32, u64, u64, u8); 4] = [(1, 5, 0, 1), (2, 6, 0, 3), (3, 7, 0, 2)
 
 /// An entry that is dropped inserts nothing; the capacity has grown for a new one.
 #[test]
-fn entries_that_are_dropped(rt: HostRuntime) -> Result<(), Fail> {
+fn entries_that_are_dropped(rt: HostRuntime) {
     for row in &EACH_KIND {
-        let mut a = marked(rt.alloc(), &[5, 6, 7, 8])?;
+        let mut a = marked(rt.alloc(), &[5, 6, 7, 8]);
         let has_grown = asked(&mut a, row) == Ok(new(5));
         assert!(rt; (a.capacity(), a.generation()) == (if has_grown { 8 } else { 4 }, 2));
         assert!(rt; is_listed(&a, FOUR.as_slice()));
     }
-    Ok(())
 }
 
 /// The keys 1 and 2 at the indexes 1 and 2, marked 0 and 20, which is all that may be.
-fn full(alloc: Global) -> Result<Marks, Fail> {
+fn full(alloc: Global) -> Marks {
     let mut a = Marks::new(alloc);
-    a.set_max_capacity(2)?;
-    let _ = a.insert_reallocating(OrdPair::new(1, 0))?;
-    let _ = a.insert(OrdPair::new(2, 0))?;
-    let _ = a.insert_within_capacity(OrdPair::new(2, 20))?;
-    Ok(a)
+    let _ = a.set_max_capacity(2);
+    for pair in &[(1u64, 0u64), (2, 0), (2, 20)] {
+        let _ = a.insert_reallocating(OrdPair::new(pair.0, pair.1));
+    }
+    a
 }
 
 /// A kind of insertion into a full arena, and its refusals where it may grow and within the capacity.
@@ -227,8 +224,8 @@ const REFUSED: [(Row, OrdInsertionError, OrdInsertionError); 5] = [
 ];
 
 #[test]
-fn full_and_at_the_limit(rt: HostRuntime) -> Result<(), Fail> {
-    let mut a = full(rt.alloc())?;
+fn full_and_at_the_limit(rt: HostRuntime) {
+    let mut a = full(rt.alloc());
     for (row, refusal, inside) in &REFUSED {
         assert!(rt; asked(&mut a, row) == Err(*refusal));
         assert!(rt; asked_within(&mut a, row) == Err(*inside));
@@ -238,7 +235,6 @@ fn full_and_at_the_limit(rt: HostRuntime) -> Result<(), Fail> {
         assert!(rt; asked_within(&mut a, row) == Ok(replacing(2)));
     }
     assert!(rt; is_listed(&a, &[(1, 1, 0, 2), (2, 2, 20, 1)]));
-    Ok(())
 }
 
 /// An entry of an empty arena is the first one, for which the arena grows, or is refused where an index is named.
@@ -258,21 +254,22 @@ fn each_kind_without_an_entry(rt: HostRuntime) {
 }
 
 /// Inserts a key behind the entry at an index. Answers the capacity then, 0 where there is no such entry.
-fn capacity_behind(a: &mut Keys, index: u32, key: u64) -> Result<usize, OrdInsertionError> {
+fn capacity_behind(a: &mut Keys, index: u32, key: u64) -> usize {
     if !a.contains_inx(index) {
-        return Ok(0);
+        return 0;
     }
-    let _ = a.insert_inx_manual_unwrap(index, Ordering::Greater, OrdPair::new(key, ()))?;
-    Ok(a.capacity())
+    let _ = a.insert_inx_manual_unwrap(index, Ordering::Greater, OrdPair::new(key, ()));
+    a.capacity()
 }
 
 #[test]
 fn beside_an_entry_with_little_room(rt: HostRuntime) -> Result<(), Fail> {
     let mut a: Keys = SimpleOrdArena::with_min_capacity(rt.alloc(), 1)?;
     let _ = a.insert(OrdPair::new(1, ()))?;
-    for (index, capacity) in [(1u32, 4usize), (2, 4), (3, 4), (4, 8)] {
-        assert!(rt; capacity_behind(&mut a, index, 9)? == capacity);
+    for (index, capacity) in &[(1u32, 4usize), (2, 4), (3, 4), (4, 8)] {
+        assert!(rt; capacity_behind(&mut a, *index, 9) == *capacity);
     }
+    assert!(rt; a.len() == 5);
     Ok(())
 }
 
@@ -324,7 +321,8 @@ fn visits_of_entries_are_comparisons(rt: HostRuntime) {
     let made = Cell::new(0u128);
     let comparisons = &made;
     let mut a = five_counting_keys(rt.alloc(), comparisons);
-    for key in [50u64, 30, 70, 10, 53, 40, 5, 99] {
+    for key in &[50u64, 30, 70, 10, 53, 40, 5, 99] {
+        let key = *key;
         let wanted = Counting { key, comparisons };
         for which in 0u64..4 {
             let visits = visits_of_an_entry(&mut a, which, &wanted);

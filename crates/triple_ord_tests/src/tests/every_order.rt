@@ -1,26 +1,21 @@
-//! Insertions and removals in every order of up to five keys, and of six keys in part, against a plain sorted vector.
+//! Insertions and removals in every order of up to five keys, and of six keys in part, beside a plain vector of what was removed.
 use super::removal::remove_key;
-use super::{Keys, has_keys, keys, rank_at};
+use super::{Keys, keys, rank_at};
 use arena_base::Ptr;
-use std::alloc::{AllocError, Global};
-use std::test::Fail;
+use std::alloc::Global;
 
 /// The keys from 1 to n in the order of this number.
-fn keys_in_order_of(alloc: Global, n: u64, number: u64) -> Result<Vec<u64>, AllocError> {
-    let mut left = Vec::new(alloc);
-    for key in 1..=n {
-        left.push(key)?;
-    }
+fn keys_in_order_of(alloc: Global, n: u64, number: u64) -> Vec<u64> {
     let mut keys = Vec::new(alloc);
     let mut rest = number;
-    for count in (1..=n).rev() {
-        let at = (rest % count) as usize;
-        rest /= count;
-        if at < left.len() {
-            keys.push(left.remove(at))?;
+    for key in 1..=n {
+        let place = (rest % key) as usize;
+        rest /= key;
+        if place <= keys.len() {
+            let _ = keys.insert(place, key);
         }
     }
-    Ok(keys)
+    keys
 }
 
 /// The rank rules at one entry, read from its node and those below it.
@@ -46,74 +41,76 @@ fn has_right_ranks(a: &Keys) -> bool {
     true
 }
 
-/// Whether a search finds exactly these keys of those from 1 to n, and visits few enough entries.
-fn finds_exactly(a: &Keys, n: u64, sorted: &[u64]) -> bool {
+/// Whether the entries in order have the keys from 1 to n without those that were removed.
+fn has_rest(a: &Keys, n: u64, removed: &[u64]) -> bool {
+    let mut key = 0u64;
+    for (_, pair) in a {
+        if *pair.k() <= key || *pair.k() > n || removed.contains(pair.k()) {
+            return false;
+        }
+        key = *pair.k();
+    }
+    a.len().saturating_add(removed.len()) == n as usize
+}
+
+/// Whether a search finds all of the keys from 1 to n but those that were removed, and visits few enough entries.
+fn finds_rest(a: &Keys, n: u64, removed: &[u64]) -> bool {
     for key in 1..=n {
         let (found, visits) = a.find_key_counted(&key);
-        if found.is_some() != sorted.contains(&key) || visits.count() > 3 {
+        if found.is_some() == removed.contains(&key) || visits.count() > 3 {
             return false;
         }
     }
     true
 }
 
-/// The keys without one.
-fn without(alloc: Global, sorted: &[u64], key: u64) -> Result<Vec<u64>, AllocError> {
-    let mut left = Vec::new(alloc);
-    for other in sorted {
-        if *other != key {
-            left.push(*other)?;
+/// Whether an arena keeps the rank rules, with just the keys from 1 to n that weren't removed.
+fn holds(a: &Keys, n: u64, removed: &[u64]) -> bool {
+    has_rest(a, n, removed) && has_right_ranks(a) && finds_rest(a, n, removed)
+}
+
+/// Inserts n keys in the first order and removes them in the second one, and tells whether all is right on the way.
+fn goes_through(alloc: Global, n: u64, first: &[u64], second: &[u64]) -> bool {
+    let mut a = keys(alloc, first);
+    for count in 0..second.len() {
+        let was_right = holds(&a, n, &second[..count]);
+        if !was_right || !matches!(remove_key(&mut a, second[count]), Some(0..=9)) {
+            return false;
         }
     }
-    Ok(left)
+    second.len() == n as usize && a.is_empty()
 }
 
-/// Whether an arena keeps the rank rules, with just these keys of those from 1 to n.
-fn holds(a: &Keys, n: u64, sorted: &[u64]) -> bool {
-    has_keys(a, sorted) && has_right_ranks(a) && finds_exactly(a, n, sorted)
-}
-
-/// Inserts the keys in the first order and removes them in the second one, and tells whether all is right on the way.
-fn goes_through(alloc: Global, first: &[u64], second: &[u64]) -> Result<bool, Fail> {
-    let n = first.len() as u64;
-    let mut a = keys(alloc, first)?;
-    let mut sorted = keys_in_order_of(alloc, n, 0)?;
-    let mut is_right = holds(&a, n, sorted.as_slice());
-    for key in second {
-        let moved = remove_key(alloc, &mut a, *key)?;
-        sorted = without(alloc, sorted.as_slice(), *key)?;
-        is_right = is_right && matches!(moved, Some(0..=9)) && holds(&a, n, sorted.as_slice());
-    }
-    Ok(is_right && a.is_empty())
-}
-
-/// Insertions in every one of so many orders of n keys, each with the removals in one of so many orders.
-fn every_so_many(alloc: Global, n: u64, orders: u64, stride: u64) -> Result<bool, Fail> {
-    let mut is_right = true;
+/// Insertions in every one of so many orders of n keys, each with the removals in every one whose number makes a multiple with its
+/// own.
+fn every_so_many(alloc: Global, n: u64, orders: u64, stride: u64) -> bool {
     for first in 0..orders {
-        let inserted = keys_in_order_of(alloc, n, first)?;
+        let inserted = keys_in_order_of(alloc, n, first);
         for second in 0..orders {
             if first.wrapping_add(second).checked_rem(stride) == Some(0) {
-                let removed = keys_in_order_of(alloc, n, second)?;
-                is_right = is_right
-                    && goes_through(alloc, inserted.as_slice(), removed.as_slice())?;
+                let removed = keys_in_order_of(alloc, n, second);
+                if !goes_through(alloc, n, inserted.as_slice(), removed.as_slice()) {
+                    return false;
+                }
             }
         }
     }
-    Ok(is_right)
+    true
 }
 
+/// How many keys, how many orders they have, and the multiple.
+const ORDERS: [(u64, u64, u64); 6] = [
+    (1, 1, 1),
+    (2, 2, 1),
+    (3, 6, 1),
+    (4, 24, 1),
+    (5, 120, 1),
+    (6, 720, 48),
+];
+
 #[test]
-fn every_order(rt: HostRuntime) -> Result<(), Fail> {
-    for (n, orders, stride) in [
-        (1u64, 1u64, 1u64),
-        (2, 2, 1),
-        (3, 6, 1),
-        (4, 24, 1),
-        (5, 120, 1),
-        (6, 720, 48),
-    ] {
-        assert!(rt; every_so_many(rt.alloc(), n, orders, stride)?);
+fn every_order(rt: HostRuntime) {
+    for (n, orders, stride) in &ORDERS {
+        assert!(rt; every_so_many(rt.alloc(), *n, *orders, *stride));
     }
-    Ok(())
 }

@@ -2,7 +2,6 @@
 use super::{Keys, at, five, keys, write_key};
 use arena_base::{P0, Ptr};
 use std::cmp::Ordering;
-use std::test::Fail;
 
 /// Where a search for a similar key from an index ends, after so many steps at most, and after how many visits. `None` where the
 /// search without the count ends elsewhere.
@@ -52,13 +51,12 @@ const SIMILAR: [((u32, usize), u64, (u32, Ordering), u128); 14] = [
 ];
 
 #[test]
-fn similar_keys(rt: HostRuntime) -> Result<(), Fail> {
-    let a = five(rt.alloc())?;
-    for (from, key, (index, order), visits) in SIMILAR {
-        let wanted = Some((Some((at(index), order)), visits));
-        assert!(rt; similar_key_from(&a, from, key) == wanted);
+fn similar_keys(rt: HostRuntime) {
+    let a = five(rt.alloc());
+    for (from, key, (index, order), visits) in &SIMILAR {
+        let wanted = Some((Some((at(*index), *order)), *visits));
+        assert!(rt; similar_key_from(&a, *from, *key) == wanted);
     }
-    Ok(())
 }
 
 /// Index and generation of a hint, steps at most, and key; the index that is found, 0 where none is; visits.
@@ -76,33 +74,31 @@ const EQUAL: [((u32, u64), usize, u64, u32, u128); 10] = [
 ];
 
 #[test]
-fn equal_keys(rt: HostRuntime) -> Result<(), Fail> {
-    let a = five(rt.alloc())?;
-    for ((hint, generation), num, key, index, visits) in EQUAL {
-        let p = P0::_from_raw(hint, generation);
-        let found = if index > 0 { Some(at(index)) } else { None };
-        assert!(rt; equal_key_from(&a, (p, num), key) == Some((found, visits)));
+fn equal_keys(rt: HostRuntime) {
+    let a = five(rt.alloc());
+    for ((hint, generation), num, key, index, visits) in &EQUAL {
+        let p = P0::_from_raw(*hint, *generation);
+        let found = if *index > 0 { Some(at(*index)) } else { None };
+        assert!(rt; equal_key_from(&a, (p, *num), *key) == Some((found, *visits)));
     }
-    Ok(())
 }
 
 /// Keys out of order: the hint leads to a gap that fits all the same.
 #[test]
-fn out_of_order(rt: HostRuntime) -> Result<(), Fail> {
-    let mut a = keys(rt.alloc(), &[1, 2, 3])?;
+fn out_of_order(rt: HostRuntime) {
+    let mut a = keys(rt.alloc(), &[1, 2, 3]);
     write_key(&mut a, at(2), 9);
-    for (hint, index, order, visits) in [(3, 3, Ordering::Greater, 1), (1, 2, Ordering::Less, 2)] {
-        let wanted = Some((Some((at(index), order)), visits));
-        assert!(rt; similar_key_from(&a, (hint, 3), 5) == wanted);
+    for (hint, index, order, visits) in &[(3, 3, Ordering::Greater, 1), (1, 2, Ordering::Less, 2)] {
+        let wanted = Some((Some((at(*index), *order)), *visits));
+        assert!(rt; similar_key_from(&a, (*hint, 3), 5) == wanted);
     }
-    Ok(())
 }
 
 #[test]
 fn no_entry(rt: HostRuntime) {
     let a = Keys::new(rt.alloc());
-    for num in [0, 1, usize::MAX] {
-        assert!(rt; similar_key_from(&a, (1, num), 7) == Some((None, 0)));
-        assert!(rt; equal_key_from(&a, (at(1), num), 7) == Some((None, 0)));
+    for num in &[0, 1, usize::MAX] {
+        assert!(rt; similar_key_from(&a, (1, *num), 7) == Some((None, 0)));
+        assert!(rt; equal_key_from(&a, (at(1), *num), 7) == Some((None, 0)));
     }
 }

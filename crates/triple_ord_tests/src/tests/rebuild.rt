@@ -2,7 +2,6 @@
 use super::{Keys, at, has_ranks, keys};
 use arena_base::{InvalidationOption, P0, P8, Ptr};
 use std::alloc::Global;
-use std::test::Fail;
 use triple_ord::{OrdPair, SimpleOrdArena};
 
 /// Compresses an arena by a closure that keeps each item. Answers how often it is called.
@@ -16,58 +15,54 @@ fn calls_of_a_compression(a: &mut Keys) -> u64 {
 }
 
 #[test]
-fn a_compression_shows_each_entry(rt: HostRuntime) -> Result<(), Fail> {
-    let mut a = keys(rt.alloc(), &[3, 1, 4, 2, 5])?;
+fn a_compression_shows_each_entry(rt: HostRuntime) {
+    let mut a = keys(rt.alloc(), &[3, 1, 4, 2, 5]);
     let _ = a.remove(at(3));
     assert!(rt; calls_of_a_compression(&mut a) == 4);
     assert!(rt; has_ranks(&a, &[(2, 1), (3, 2), (1, 3), (4, 1)]));
-    Ok(())
 }
 
 #[test]
-fn ranks_of_three_keys(rt: HostRuntime) -> Result<(), Fail> {
-    let mut three = keys(rt.alloc(), &[2, 1, 3])?;
+fn ranks_of_three_keys(rt: HostRuntime) {
+    let mut three = keys(rt.alloc(), &[2, 1, 3]);
     three.compress_canonical(false).allow();
     assert!(rt; has_ranks(&three, &[(1, 1), (2, 3), (3, 1)]));
     assert!(rt; three.find_key(&2) == Some(P0::_from_raw(2, 3)));
-    Ok(())
 }
 
 /// The ranks of seven keys after a rebuild.
 const SEVEN: [(u32, u8); 7] = [(1, 1), (2, 3), (3, 1), (4, 4), (5, 1), (6, 3), (7, 1)];
 
 #[test]
-fn ranks_of_seven_keys(rt: HostRuntime) -> Result<(), Fail> {
-    let mut seven = keys(rt.alloc(), &[1, 2, 3, 4, 5, 6, 7])?;
+fn ranks_of_seven_keys(rt: HostRuntime) {
+    let mut seven = keys(rt.alloc(), &[1, 2, 3, 4, 5, 6, 7]);
     seven.compress(true).allow();
     assert!(rt; has_ranks(&seven, SEVEN.as_slice()));
-    Ok(())
 }
 
 /// Keys under pointers of eight bits, which name 254 entries.
 type SmallKeys = SimpleOrdArena<P8, OrdPair<u64, ()>>;
 
 /// Transfers the keys from 1 to `len` to pointers of eight bits, with generation 255, the greatest one.
-fn shrunk(alloc: Global, len: u64) -> Result<SmallKeys, Fail> {
+fn shrunk(alloc: Global, len: u64) -> SmallKeys {
     let mut source = Keys::new(alloc);
     for key in 1..=len {
-        let _ = source.insert(OrdPair::new(key, ()))?;
+        let _ = source.insert(OrdPair::new(key, ()));
     }
     let mut small = SmallKeys::new(alloc);
-    small.transfer_canonical_reallocating(
+    let _ = small.transfer_canonical_reallocating(
         255,
         &mut source,
         |_old: P0, taken: InvalidationOption<OrdPair<u64, ()>>, _new: P8| taken.allow(),
-    )?;
-    Ok(small)
+    );
+    small
 }
 
 #[test]
-fn eight_bit_pointers_take_254_entries(rt: HostRuntime) -> Result<(), Fail> {
-    let small = shrunk(rt.alloc(), 254)?;
+fn eight_bit_pointers_take_254_entries(rt: HostRuntime) {
+    let small = shrunk(rt.alloc(), 254);
     assert!(rt; (small.len(), small.capacity(), small.generation()) == (254, 254, 255));
     assert!(rt; small.find_key(&77) == Some(P8::_from_raw(77, 255)));
-    Ok(())
 }
 
 /// Compresses an arena with the greatest generation, into the canonical order or not, and to the first generation or the next one.
@@ -82,12 +77,11 @@ fn compressed(a: &mut SmallKeys, is_canonical: bool, reset: bool) -> Invalidatio
 
 /// The generations begin again, which is told where they weren't to be reset.
 #[test]
-fn compressions_overflow(rt: HostRuntime) -> Result<(), Fail> {
-    let mut a = shrunk(rt.alloc(), 1)?;
-    for (is_canonical, reset) in [(false, false), (true, false), (false, true)] {
-        let told = compressed(&mut a, is_canonical, reset);
-        assert!(rt; matches!(told, InvalidationOption::Success(())) == reset);
+fn compressions_overflow(rt: HostRuntime) {
+    let mut a = shrunk(rt.alloc(), 1);
+    for (is_canonical, reset) in &[(false, false), (true, false), (false, true)] {
+        let told = compressed(&mut a, *is_canonical, *reset);
+        assert!(rt; matches!(told, InvalidationOption::Success(())) == *reset);
         assert!(rt; a.find_key(&1) == Some(P8::_from_raw(1, 2)));
     }
-    Ok(())
 }

@@ -2,68 +2,56 @@
 use super::{Keys, at, five, has_keys, has_ranks, keys, write_key};
 use arena_base::{InvalidationResult, P0, P8, Ptr};
 use linked_list_allocator::LocalHeap;
-use std::alloc::{AllocError, Global};
+use std::alloc::Global;
 use std::test::Fail;
 use triple_ord::{OrdInsertionError, OrdPair, SimpleOrdArena};
 
-/// The parent of each entry of an arena, by its index.
-fn parents(alloc: Global, a: &Keys) -> Result<Vec<(u32, Option<u32>)>, AllocError> {
-    let mut parents = Vec::new(alloc);
-    for (p, _) in a {
-        if let Some((_, node)) = a.get_inx_node(p.inx()) {
-            parents.push((p.inx(), node.t.p_back.get()))?;
-        }
-    }
-    Ok(parents)
+/// The parent of the entry at an index, if there is one.
+fn parent_at(a: &Keys, index: u32) -> Option<u32> {
+    let (_, node) = a.get_inx_node(index)?;
+    node.t.p_back.get()
 }
 
 /// How many entries of an arena have another parent than before.
-fn moved_since(before: &[(u32, Option<u32>)], a: &Keys) -> usize {
+fn moved_since(before: &Keys, a: &Keys) -> usize {
     let mut moved = 0usize;
-    for (index, parent) in before {
-        match a.get_inx_node(*index) {
-            Some((_, node)) if node.t.p_back.get() != *parent => moved = moved.saturating_add(1),
-            _ => {}
+    for (p, _) in a {
+        if parent_at(before, p.inx()) != parent_at(a, p.inx()) {
+            moved = moved.saturating_add(1);
         }
     }
     moved
 }
 
 /// Removes the entry of a key, and answers how many others got another parent. `None` where it isn't found or not taken.
-pub(super) fn remove_key(
-    alloc: Global,
-    a: &mut Keys,
-    key: u64,
-) -> Result<Option<usize>, AllocError> {
-    let before = parents(alloc, a)?;
-    let Some(p) = a.find_key(&key) else {
-        return Ok(None);
-    };
-    if a.remove(p) != InvalidationResult::Success(OrdPair::new(key, ())) {
-        return Ok(None);
+pub(super) fn remove_key(a: &mut Keys, key: u64) -> Option<usize> {
+    let before = a.clone().ok()?;
+    let p = a.find_key(&key)?;
+    let taken = a.remove(p);
+    if taken == InvalidationResult::Success(OrdPair::new(key, ())) {
+        Some(moved_since(&before, a))
+    } else {
+        None
     }
-    Ok(Some(moved_since(before.as_slice(), a)))
 }
 
 #[test]
-fn five_keys_without_the_root(rt: HostRuntime) -> Result<(), Fail> {
-    let mut a = five(rt.alloc())?;
-    assert!(rt; remove_key(rt.alloc(), &mut a, 50)? == Some(2));
+fn five_keys_without_the_root(rt: HostRuntime) {
+    let mut a = five(rt.alloc());
+    assert!(rt; remove_key(&mut a, 50) == Some(2));
     assert!(rt; has_ranks(&a, &[(5, 1), (2, 3), (4, 1), (3, 2)]));
     assert!(rt; a.remove(at(1)) == InvalidationResult::InvalidPtr);
     assert!(rt; a.generation() == 3);
-    Ok(())
 }
 
 #[test]
-fn four_keys_without_the_first(rt: HostRuntime) -> Result<(), Fail> {
-    let mut ascending = keys(rt.alloc(), &[1, 2, 3, 4])?;
-    assert!(rt; remove_key(rt.alloc(), &mut ascending, 1)? == Some(2));
+fn four_keys_without_the_first(rt: HostRuntime) {
+    let mut ascending = keys(rt.alloc(), &[1, 2, 3, 4]);
+    assert!(rt; remove_key(&mut ascending, 1) == Some(2));
     assert!(rt; has_ranks(&ascending, &[(2, 1), (3, 3), (4, 1)]));
-    let mut other = keys(rt.alloc(), &[1, 2, 4, 3])?;
-    assert!(rt; remove_key(rt.alloc(), &mut other, 1)?.is_some());
+    let mut other = keys(rt.alloc(), &[1, 2, 4, 3]);
+    assert!(rt; remove_key(&mut other, 1).is_some());
     assert!(rt; has_ranks(&other, &[(2, 1), (4, 3), (3, 1)]));
-    Ok(())
 }
 
 /// Keys of which the first, when it is removed, gives nine others another parent.
@@ -72,34 +60,32 @@ const NINE: [u64; 21] = [
 ];
 
 #[test]
-fn nine_moved_parents(rt: HostRuntime) -> Result<(), Fail> {
-    let mut a = keys(rt.alloc(), NINE.as_slice())?;
-    assert!(rt; remove_key(rt.alloc(), &mut a, 14)? == Some(9));
-    Ok(())
+fn nine_moved_parents(rt: HostRuntime) {
+    let mut a = keys(rt.alloc(), NINE.as_slice());
+    assert!(rt; remove_key(&mut a, 14) == Some(9));
 }
 
 /// The keys 1, 9 and 3 in this order, at the indexes 1, 2 and 3.
 #[test]
-fn keys_out_of_order(rt: HostRuntime) -> Result<(), Fail> {
-    let mut a = keys(rt.alloc(), &[1, 2, 3])?;
+fn keys_out_of_order(rt: HostRuntime) {
+    let mut a = keys(rt.alloc(), &[1, 2, 3]);
     write_key(&mut a, at(2), 9);
     let (found, visits) = a.find_key_counted(&3);
     assert!(rt; found.is_none() && visits.count() == 2);
     assert!(rt; has_keys(&a, &[1, 9, 3]));
     assert!(rt; a.remove(at(1)) == InvalidationResult::Success(OrdPair::new(1, ())));
     assert!(rt; has_ranks(&a, &[(2, 2), (3, 1)]));
-    Ok(())
 }
 
 /// Takes all that is left of a heap.
-fn drained(alloc: Global, heap: &LocalHeap) -> Result<Vec<Vec<u8, &LocalHeap>>, AllocError> {
+fn drained(alloc: Global, heap: &LocalHeap) -> Vec<Vec<u8, &LocalHeap>> {
     let mut blocks = Vec::new(alloc);
     for size in (1..4096usize).rev() {
         if let Ok(block) = Vec::with_capacity(heap, size) {
-            blocks.push(block)?;
+            let _ = blocks.push(block);
         }
     }
-    Ok(blocks)
+    blocks
 }
 
 /// Inserts a key. Answers the refusal.
@@ -126,8 +112,8 @@ fn is_renewed(a: &mut Keys<&LocalHeap>, key: u64) -> bool {
 /// Eight keys on a heap, which fill the arena.
 fn eight(heap: &LocalHeap) -> Keys<&LocalHeap> {
     let mut a = SimpleOrdArena::new(heap);
-    for key in [50u64, 30, 70, 60, 10, 20, 90, 80] {
-        let _ = refusal_of(&mut a, key);
+    for key in &[50u64, 30, 70, 60, 10, 20, 90, 80] {
+        let _ = refusal_of(&mut a, *key);
     }
     a
 }
@@ -136,10 +122,10 @@ fn eight(heap: &LocalHeap) -> Keys<&LocalHeap> {
 fn removals_take_no_memory(rt: HostRuntime) -> Result<(), Fail> {
     let heap = LocalHeap::new(rt.alloc(), 4096)?;
     let mut a = eight(&heap);
-    let _blocks = drained(rt.alloc(), &heap)?;
+    let _blocks = drained(rt.alloc(), &heap);
     assert!(rt; refusal_of(&mut a, 40) == Some(OrdInsertionError::AllocError));
-    for key in [50u64, 30, 70] {
-        assert!(rt; is_removed(&mut a, key));
+    for key in &[50u64, 30, 70] {
+        assert!(rt; is_removed(&mut a, *key));
     }
     assert!(rt; is_renewed(&mut a, 60) && has_keys(&a, &[10, 20, 60, 80, 90]));
     assert!(rt; refusal_of(&mut a, 40).is_none());
@@ -151,11 +137,21 @@ fn removals_take_no_memory(rt: HostRuntime) -> Result<(), Fail> {
 /// Keys under pointers of eight bits.
 type SmallKeys = SimpleOrdArena<P8, OrdPair<u64, ()>>;
 
-/// Inserts a key and removes its entry again. Returns the pointer that ended, and whether the generations begin again.
-fn end_one(a: &mut SmallKeys, key: u64) -> Result<(P8, bool), OrdInsertionError> {
-    let (p, _) = a.insert(OrdPair::new(key, ()))?;
-    let overflow = InvalidationResult::GenerationOverflow(OrdPair::new(key, ()));
-    Ok((p, a.remove(p) == overflow))
+/// Inserts a key. Returns its pointer, or the invalid one where it is refused.
+fn put(a: &mut SmallKeys, key: u64) -> P8 {
+    match a.insert(OrdPair::new(key, ())) {
+        Ok((p, _)) => p,
+        Err(_) => P8::invalid(),
+    }
+}
+
+/// Removes an entry, and tells whether the generations begin again, `None` where there is no entry.
+fn begins_again(a: &mut SmallKeys, p: P8) -> Option<bool> {
+    match a.remove(p) {
+        InvalidationResult::Success(_) => Some(false),
+        InvalidationResult::GenerationOverflow(_) => Some(true),
+        InvalidationResult::InvalidPtr => None,
+    }
 }
 
 /// Whether the first pointer names an entry, and none of the others does.
@@ -171,17 +167,16 @@ fn have_ended(a: &SmallKeys, kept: P8, ended: &[P8]) -> bool {
 #[test]
 fn ended_pointers_stay_so_up_to_the_overflow(rt: HostRuntime) -> Result<(), Fail> {
     let mut a = SmallKeys::new(rt.alloc());
-    let (kept, _) = a.insert(OrdPair::new(0, ()))?;
+    let kept = put(&mut a, 0);
     let mut ended = Vec::new(rt.alloc());
     for n in 1u64..255 {
-        let (p, begins_again) = end_one(&mut a, n)?;
-        assert!(rt; begins_again == (n == 254));
+        let p = put(&mut a, n);
+        assert!(rt; begins_again(&mut a, p) == Some(n == 254));
         ended.push(p)?;
         assert!(rt; have_ended(&a, kept, ended.as_slice()));
     }
     assert!(rt; (a.generation(), a.len()) == (2, 1));
     // the next entry has the index and the generation of the first that ended
-    let (again, _) = a.insert(OrdPair::new(1, ()))?;
-    assert!(rt; ended.first() == Some(&again));
+    assert!(rt; ended.first() == Some(&put(&mut a, 1)));
     Ok(())
 }

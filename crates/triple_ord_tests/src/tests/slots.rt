@@ -1,7 +1,6 @@
 //! The capacity, and an ordered arena as an arena among others.
 use super::{Keys, at, keys};
 use arena_base::{MaxCapacityReductionError, P0, Ptr, ReallocationError, laws};
-use std::test::Fail;
 use triple_ord::{ArenaTrait, OrdPair};
 
 /// Reallocates for so many. Answers the outcome, and the capacity then.
@@ -11,22 +10,21 @@ fn reallocated(a: &mut Keys, n: usize) -> (Result<(), ReallocationError>, usize)
 }
 
 #[test]
-fn the_capacity_is_changed(rt: HostRuntime) -> Result<(), Fail> {
-    let mut a = keys(rt.alloc(), &[50, 30, 70])?;
+fn the_capacity_is_changed(rt: HostRuntime) {
+    let mut a = keys(rt.alloc(), &[50, 30, 70]);
     let _ = a.remove(at(2));
-    for (n, capacity) in [(9usize, 9usize), (0, 3)] {
-        assert!(rt; reallocated(&mut a, n) == (Ok(()), capacity));
+    for (n, capacity) in &[(9usize, 9usize), (0, 3)] {
+        assert!(rt; reallocated(&mut a, *n) == (Ok(()), *capacity));
     }
     assert!(rt; a.set_max_capacity(2) == Err(MaxCapacityReductionError));
     assert!(rt; a.set_max_capacity(5) == Ok(()));
     assert!(rt; reallocated(&mut a, 6) == (Err(ReallocationError::BeyondMaxCapacity), 3));
-    Ok(())
 }
 
 /// The laws of a finite map, at an ordered arena.
 #[test]
-fn an_arena_among_others(rt: HostRuntime) -> Result<(), Fail> {
-    let mut a = keys(rt.alloc(), &[50, 30, 70])?;
+fn an_arena_among_others(rt: HostRuntime) {
+    let mut a = keys(rt.alloc(), &[50, 30, 70]);
     assert!(rt; laws::put(&mut a, at(2), OrdPair::new(40, ())));
     assert!(rt; laws::take(&mut a, at(2)) == Some(OrdPair::new(40, ())));
     assert!(rt; laws::renew(&mut a, at(3)) == Some(P0::_from_raw(3, 4)));
@@ -34,5 +32,4 @@ fn an_arena_among_others(rt: HostRuntime) -> Result<(), Fail> {
     assert!(rt; generation == Some(4));
     laws::empty(&mut a);
     assert!(rt; a.is_empty());
-    Ok(())
 }
