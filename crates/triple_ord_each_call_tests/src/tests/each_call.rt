@@ -41,8 +41,8 @@ fn put(a: &mut Jobs, deadline: u64, mark: u64) -> Option<(P8, u64)> {
 /// The five jobs.
 fn five(alloc: Global) -> Jobs {
     let mut a = Jobs::new(alloc);
-    for deadline in [50u64, 30, 70, 60, 10] {
-        let _ = put(&mut a, deadline, deadline / 10);
+    for deadline in &[50u64, 30, 70, 60, 10] {
+        let _ = put(&mut a, *deadline, *deadline / 10);
     }
     a
 }
@@ -74,10 +74,11 @@ const SOUGHT: [(u64, u8, Ordering, u128); 7] = [
 #[test]
 fn keys_find_pointers(rt: HostRuntime) {
     let a = five(rt.alloc());
-    for (deadline, index, order, visits) in SOUGHT {
-        let equal = if order.is_eq() { Some(at(index)) } else { None };
-        let wanted = Some((equal, Some((at(index), order)), visits));
-        assert!(rt; found(&a, deadline) == wanted);
+    for (deadline, index, order, visits) in &SOUGHT {
+        let p = at(*index);
+        let equal = if order.is_eq() { Some(p) } else { None };
+        let wanted = Some((equal, Some((p, *order)), *visits));
+        assert!(rt; found(&a, *deadline) == wanted);
     }
 }
 
@@ -109,10 +110,10 @@ fn neighbours_of(a: &Jobs, i: u8) -> Option<(u64, Option<u8>, Option<u8>)> {
 #[test]
 fn pointers_find_items(rt: HostRuntime) {
     let a = five(rt.alloc());
-    for (index, deadline) in [(5u8, 10u64), (2, 30), (1, 50), (4, 60), (3, 70)] {
-        let p = at(index);
-        assert!(rt; (mark_of(&a, p), deadline_in_place(&a, p)) == (deadline / 10, deadline));
-        assert!(rt; deadline_at_index(&a, index) == Some((2, deadline)));
+    for (index, deadline) in &[(5u8, 10u64), (2, 30), (1, 50), (4, 60), (3, 70)] {
+        let p = at(*index);
+        assert!(rt; (mark_of(&a, p), deadline_in_place(&a, p)) == (*deadline / 10, *deadline));
+        assert!(rt; deadline_at_index(&a, *index) == Some((2, *deadline)));
     }
     assert!(rt; neighbours_of(&a, 4) == Some((60, Some(1), Some(3))));
     assert!(rt; (a.first(), a.last()) == (Some(at(5)), Some(at(3))));

@@ -2,8 +2,7 @@
 use arena_base::{P0, Ptr};
 use std::alloc::Global;
 use std::cmp::Ordering;
-use std::test::Fail;
-use triple_ord::{OrdInsertKind, OrdInsertionError, OrdPair, SimpleOrdArena};
+use triple_ord::{OrdInsertKind, OrdPair, SimpleOrdArena};
 
 type Marks = SimpleOrdArena<P0, OrdPair<u64, u64>>;
 
@@ -14,56 +13,48 @@ struct Beside {
     pairs: Vec<(u64, u64)>,
 }
 
-/// Inserts a pair by a kind. Answers the mark that it replaced.
-fn put(
-    a: &mut Marks,
-    kind: OrdInsertKind<P0, &u64>,
-    (key, mark): (u64, u64),
-) -> Result<Option<u64>, OrdInsertionError> {
-    let before = a.entry_insert(kind)?.insert(OrdPair::new(key, mark));
-    Ok(before.map(|pair| *pair.v()))
+/// Inserts a pair by a kind. Answers the mark that it replaced, `None` too where it is refused.
+fn put(a: &mut Marks, kind: OrdInsertKind<P0, &u64>, (key, mark): (u64, u64)) -> Option<u64> {
+    let before = a.entry_insert(kind).ok()?.insert(OrdPair::new(key, mark))?;
+    Some(*before.v())
 }
 
 /// Puts a pair into a plain vector, behind all whose keys are at most its own.
-fn put_plainly(pairs: &mut Vec<(u64, u64)>, pair: (u64, u64)) -> Result<(), Fail> {
-    let place = pairs.iter().filter(|other| other.0 <= pair.0).count();
-    if place <= pairs.len() {
-        pairs.insert(place, pair)?;
+fn put_plainly(pairs: &mut Vec<(u64, u64)>, pair: (u64, u64)) {
+    let mut place = 0usize;
+    for other in pairs.iter() {
+        if other.0 <= pair.0 {
+            place = place.saturating_add(1);
+        }
     }
-    Ok(())
+    if place <= pairs.len() {
+        let _ = pairs.insert(place, pair);
+    }
 }
 
 /// Inserts a key behind all that are at most equal, into both.
-fn push(beside: &mut Beside, key: u64) -> Result<(), Fail> {
+fn push(beside: &mut Beside, key: u64) {
     let mark = beside.pairs.len() as u64;
-    let _ = put(
-        &mut beside.arena,
-        OrdInsertKind::Nonhereditary(&key),
-        (key, mark),
-    )?;
-    put_plainly(&mut beside.pairs, (key, mark))
+    let kind = OrdInsertKind::Nonhereditary(&key);
+    let _ = put(&mut beside.arena, kind, (key, mark));
+    put_plainly(&mut beside.pairs, (key, mark));
 }
 
 /// So many entries of the keys 3, 5 and 7, in turns: up to two lesser and two greater ones, and one to six between, by a number
 /// below 54.
-fn group(alloc: Global, number: usize) -> Result<Beside, Fail> {
+fn group(alloc: Global, number: usize) -> Beside {
     let mut beside = Beside {
         arena: Marks::new(alloc),
         pairs: Vec::new(alloc),
     };
-    let size = number / 9;
     for round in 0..6usize {
-        if round < number / 3 % 3 {
-            push(&mut beside, 7)?;
-        }
-        if round <= size {
-            push(&mut beside, 5)?;
-        }
-        if round < number % 3 {
-            push(&mut beside, 3)?;
+        for (key, count) in &[(7u64, number / 3 % 3), (5, number / 9 + 1), (3, number % 3)] {
+            if round < *count {
+                push(&mut beside, *key);
+            }
         }
     }
-    Ok(beside)
+    beside
 }
 
 /// Whether these are the pairs of an arena in order.
@@ -134,51 +125,50 @@ fn finds_each(beside: &Beside) -> bool {
 }
 
 /// Whether a keyed insertion replaces the first of its group, and leaves the others.
-fn replaces_the_first(beside: &mut Beside, kind: OrdInsertKind<P0, &u64>) -> Result<bool, Fail> {
+fn replaces_the_first(beside: &mut Beside, kind: OrdInsertKind<P0, &u64>) -> bool {
     let wanted = first_mark(beside.pairs.as_slice(), 5);
-    let before = put(&mut beside.arena, kind, (5, 99))?;
+    let before = put(&mut beside.arena, kind, (5, 99));
     for pair in beside.pairs.iter_mut() {
         if Some(pair.1) == wanted {
             pair.1 = 99;
         }
     }
-    Ok(before == wanted && has_pairs(&beside.arena, beside.pairs.as_slice()))
+    before == wanted && has_pairs(&beside.arena, beside.pairs.as_slice())
 }
 
 /// Whether an insertion goes behind the last of its group.
-fn goes_behind(beside: &mut Beside, kind: OrdInsertKind<P0, &u64>) -> Result<bool, Fail> {
-    let before = put(&mut beside.arena, kind, (5, 99))?;
-    put_plainly(&mut beside.pairs, (5, 99))?;
-    Ok(before.is_none() && has_pairs(&beside.arena, beside.pairs.as_slice()))
+fn goes_behind(beside: &mut Beside, kind: OrdInsertKind<P0, &u64>) -> bool {
+    let before = put(&mut beside.arena, kind, (5, 99));
+    put_plainly(&mut beside.pairs, (5, 99));
+    before.is_none() && has_pairs(&beside.arena, beside.pairs.as_slice())
 }
 
 /// Groups of up to six entries, between up to two lesser and up to two greater ones.
 #[test]
-fn groups_of_every_size(rt: HostRuntime) -> Result<(), Fail> {
+fn groups_of_every_size(rt: HostRuntime) {
     for number in 0..54usize {
-        let mut beside = group(rt.alloc(), number)?;
+        let mut beside = group(rt.alloc(), number);
+        assert!(rt; beside.arena.len() == number / 9 + 1 + number / 3 % 3 + number % 3);
         assert!(rt; has_pairs(&beside.arena, beside.pairs.as_slice()));
         assert!(rt; finds_each(&beside));
-        assert!(rt; replaces_the_first(&mut beside, OrdInsertKind::Normal(&5))?);
+        assert!(rt; replaces_the_first(&mut beside, OrdInsertKind::Normal(&5)));
     }
-    Ok(())
 }
 
 /// Whether insertions from this hint do the same, where it names an entry and where it doesn't.
-fn goes_by_hint(alloc: Global, number: usize, p_init: u32) -> Result<bool, Fail> {
+fn goes_by_hint(alloc: Global, number: usize, p_init: u32) -> bool {
     let (num, k) = (2usize, &5u64);
     let replacing = OrdInsertKind::Linear { p_init, num, k };
     let behind = OrdInsertKind::NonhereditaryLinear { p_init, num, k };
-    let is_replaced = replaces_the_first(&mut group(alloc, number)?, replacing)?;
-    Ok(is_replaced && goes_behind(&mut group(alloc, number)?, behind)?)
+    let is_replaced = replaces_the_first(&mut group(alloc, number), replacing);
+    is_replaced && goes_behind(&mut group(alloc, number), behind)
 }
 
 #[test]
-fn groups_from_hints(rt: HostRuntime) -> Result<(), Fail> {
+fn groups_from_hints(rt: HostRuntime) {
     for number in 0..54usize {
         for p_init in 0u32..12 {
-            assert!(rt; goes_by_hint(rt.alloc(), number, p_init)?);
+            assert!(rt; goes_by_hint(rt.alloc(), number, p_init));
         }
     }
-    Ok(())
 }

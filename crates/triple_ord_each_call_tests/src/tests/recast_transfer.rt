@@ -1,36 +1,32 @@
 //! Pointers that were kept elsewhere, recast after a transfer.
 use arena_base::{Arena, InvalidationOption, P0, Ptr, Recast};
 use std::alloc::Global;
-use std::test::Fail;
-use triple_ord::{OrdInsertionError, OrdPair, ReallocationError, SimpleOrdArena};
+use triple_ord::{OrdPair, SimpleOrdArena};
 
 type Keys = SimpleOrdArena<P0, OrdPair<u64, ()>>;
 
 /// The keys 1, 2, 3, 5 at the indexes 2, 4, 1, 3, that of 5 with generation 3.
-fn four(alloc: Global) -> Result<Keys, OrdInsertionError> {
+fn four(alloc: Global) -> Keys {
     let mut a = Keys::new(alloc);
-    for key in [3u64, 1, 4, 2] {
-        let _ = a.insert(OrdPair::new(key, ()))?;
+    for key in &[3u64, 1, 4, 2] {
+        let _ = a.insert(OrdPair::new(*key, ()));
     }
     let _ = a.remove(P0::_from_raw(3, 2));
-    let _ = a.insert(OrdPair::new(5, ()))?;
-    Ok(a)
+    let _ = a.insert(OrdPair::new(5, ()));
+    a
 }
 
 /// An arena with the pointers of another one, none of which leads anywhere yet.
-fn pointers_of(alloc: Global, a: &Keys) -> Result<Arena<P0, P0>, ReallocationError> {
+fn pointers_of(alloc: Global, a: &Keys) -> Arena<P0, P0> {
     let mut recaster = Arena::new(alloc);
-    a.clone_to_arena(&mut recaster, |_p, _item: &OrdPair<u64, ()>| P0::invalid())?;
-    Ok(recaster)
+    let invalid = |_p: P0, _item: &OrdPair<u64, ()>| P0::invalid();
+    let _ = a.clone_to_arena(&mut recaster, invalid);
+    recaster
 }
 
 /// Transfers all keys with generation 4, and writes for each old pointer the new one.
-fn transfer_recasting(
-    a: &mut Keys,
-    source: &mut Keys,
-    recaster: &mut Arena<P0, P0>,
-) -> Result<(), ReallocationError> {
-    a.transfer_canonical_reallocating(
+fn transfer_recasting(a: &mut Keys, source: &mut Keys, recaster: &mut Arena<P0, P0>) {
+    let _ = a.transfer_canonical_reallocating(
         4,
         source,
         |old: P0, taken: InvalidationOption<OrdPair<u64, ()>>, new: P0| {
@@ -39,7 +35,7 @@ fn transfer_recasting(
             }
             taken.allow()
         },
-    )
+    );
 }
 
 /// A pointer recast, or what it was where that failed.
@@ -53,18 +49,17 @@ fn recast_of(recaster: &Arena<P0, P0>, p: P0) -> Result<P0, P0> {
 const MOVED: [(u32, u64, u32); 4] = [(1, 2, 3), (2, 2, 1), (3, 3, 4), (4, 2, 2)];
 
 #[test]
-fn old_pointers_are_recast_to_the_new_ones(rt: HostRuntime) -> Result<(), Fail> {
-    let mut source = four(rt.alloc())?;
-    let mut recaster = pointers_of(rt.alloc(), &source)?;
+fn old_pointers_are_recast_to_the_new_ones(rt: HostRuntime) {
+    let mut source = four(rt.alloc());
+    let mut recaster = pointers_of(rt.alloc(), &source);
     let mut a = Keys::new(rt.alloc());
-    transfer_recasting(&mut a, &mut source, &mut recaster)?;
-    for (index, generation, new) in MOVED {
-        let recast = recast_of(&recaster, P0::_from_raw(index, generation));
-        assert!(rt; recast == Ok(P0::_from_raw(new, 4)));
+    transfer_recasting(&mut a, &mut source, &mut recaster);
+    for (index, generation, new) in &MOVED {
+        let recast = recast_of(&recaster, P0::_from_raw(*index, *generation));
+        assert!(rt; recast == Ok(P0::_from_raw(*new, 4)));
     }
     assert!(rt; a.find_key(&1) == Some(P0::_from_raw(1, 4)));
     // 4's pointer ended before
     let ended = P0::_from_raw(3, 2);
     assert!(rt; recast_of(&recaster, ended) == Err(ended));
-    Ok(())
 }

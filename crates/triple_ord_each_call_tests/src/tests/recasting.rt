@@ -1,6 +1,5 @@
 //! Recasting the items of an arena.
 use arena_base::Arena;
-use std::test::Fail;
 use triple_ord::{OrdPair, P0, Ptr, Recast, SimpleOrdArena};
 
 type Pointers = SimpleOrdArena<P0, OrdPair<u64, P0>>;
@@ -37,14 +36,14 @@ fn recast(a: &mut Pointers, recaster: &Arena<P0, P0>) -> Result<(), P0> {
 
 /// The recaster leads from the pointer `at(1)` to another one, and from no other.
 #[test]
-fn a_recast_stops_at_the_first_error(rt: HostRuntime) -> Result<(), Fail> {
+fn a_recast_stops_at_the_first_error(rt: HostRuntime) {
     let (new, unknown) = (P0::_from_raw(5, 7), P0::_from_raw(9, 9));
     let mut recaster: Arena<P0, P0> = Arena::new(rt.alloc());
-    recaster.insert_reallocating(new)?;
+    let _ = recaster.insert_reallocating(new);
     // a lesser key comes at index 4, behind the failing one
     let mut a = Pointers::new(rt.alloc());
-    for (key, value) in [(1u64, at(1)), (2, unknown), (3, at(1)), (0, at(1))] {
-        let _ = a.insert(OrdPair::new(key, value))?;
+    for (key, value) in &[(1u64, at(1)), (2, unknown), (3, at(1)), (0, at(1))] {
+        let _ = a.insert(OrdPair::new(*key, *value));
     }
     assert!(rt; recast(&mut a, &recaster) == Err(unknown));
     assert!(rt; has_values(&a, &[new, unknown, at(1), at(1)]));
@@ -54,5 +53,4 @@ fn a_recast_stops_at_the_first_error(rt: HostRuntime) -> Result<(), Fail> {
     write(&mut a, 1, at(1));
     assert!(rt; recast(&mut a, &recaster) == Ok(()));
     assert!(rt; has_values(&a, &[new, new, new, new]));
-    Ok(())
 }
