@@ -29,13 +29,18 @@ fn at(index: u8) -> P8 {
     P8::_from_raw(index, 2)
 }
 
-/// Inserts a job. Answers its pointer, and the mark that it replaced, 0 where there was none; `None` where it is refused.
-fn put(a: &mut Jobs, deadline: u64, mark: u64) -> Option<(P8, u64)> {
-    match a.insert(Job { mark, deadline }) {
-        Ok((p, Some(before))) => Some((p, before.mark)),
-        Ok((p, None)) => Some((p, 0)),
-        Err(_) => None,
+/// The mark of an item that was replaced, 0 where there was none.
+fn mark_before(before: Option<Job>) -> u64 {
+    match before {
+        Some(job) => job.mark,
+        None => 0,
     }
+}
+
+/// Inserts a job. Answers its pointer, and the mark that it replaced; `None` where it is refused.
+fn put(a: &mut Jobs, deadline: u64, mark: u64) -> Option<(P8, u64)> {
+    let (p, before) = a.insert(Job { mark, deadline }).ok()?;
+    Some((p, mark_before(before)))
 }
 
 /// The five jobs.
