@@ -1,129 +1,112 @@
-//! Arenas of keys, as a program sees them.
+//! Arenas of keys, as a program sees them. Helpers answer what they find, and a test compares it.
 ghost use Rattle.std.proofs.Common.{rules};
 ghost use Rattle.std.specs.Cmp.{partial_order_from_own_ties};
 ghost use Rattle.std.specs.Cmp.Rules.{comparing};
 ghost use Rattle.std.specs.Ordering.{nat_cmp, on, as_partial_cmp};
 
-mod clones;
-mod clones_to;
 mod closures;
+mod drains;
 mod entries;
 mod every_order;
 mod hints;
 mod rebuild;
 mod removal;
-mod slot_drain;
 mod slots;
 mod walks;
 
 use arena_base::{P0, P8, PN, Ptr};
-use std::alloc::{AllocError, Allocator, Global};
+use std::alloc::{Allocator, Global};
 use std::cell::Cell;
 use std::cmp::Ordering;
 use std::hash::{DefaultHasher, Hasher};
-use std::process::Abort;
 use std::test::Fail;
-use triple_ord::{OrdEntryKind, OrdInsertionError, OrdPair, SimpleOrdArena, SimpleOrdItem, laws};
+use triple_ord::{OrdInsertionError, OrdPair, SimpleOrdArena, SimpleOrdItem, laws};
 
 type Keys<A = Global> = SimpleOrdArena<P0, OrdPair<u64, ()>, A>;
 
-/// An arena with these keys, inserted in this order.
-fn keys(alloc: Global, list: &[u64]) -> Result<Keys, OrdInsertionError> {
-    let mut a = SimpleOrdArena::new(alloc);
+/// An arena with these keys, inserted in this order. One that is refused is missing, which each test would tell.
+fn keys(alloc: Global, list: &[u64]) -> Keys {
+    let mut a = Keys::new(alloc);
     for k in list {
-        let _ = a.insert(OrdPair::new(*k, ()))?;
+        let _ = a.insert(OrdPair::new(*k, ()));
     }
-    Ok(a)
+    a
 }
 
-/// The indexes in the order of the list, each with the rank of its node.
-fn ranks(alloc: Global, a: &Keys) -> Result<Vec<(u32, u8)>, AllocError> {
-    let mut ranks = Vec::new(alloc);
+/// The keys 10, 30, 50, 60, 70 at the indexes 5, 2, 1, 4, 3.
+fn five(alloc: Global) -> Keys {
+    keys(alloc, &[50, 30, 70, 60, 10])
+}
+
+/// The pointer of an entry that no removal came before.
+fn at(index: u32) -> P0 {
+    P0::_from_raw(index, 2)
+}
+
+/// The rank of the entry at an index, 0 where there is none.
+fn rank_at(a: &Keys, index: u32) -> u8 {
+    match a.get_inx_node(index) {
+        Some((_, node)) => node.t.rank,
+        None => 0,
+    }
+}
+
+/// Whether the entries in order stand at these indexes, each with this rank.
+fn has_ranks(a: &Keys, wanted: &[(u32, u8)]) -> bool {
+    let mut left = wanted.iter();
     for (p, _) in a {
-        if let Some(entry) = a.get_inx_node(p.inx()) {
-            let node = entry.1;
-            ranks.push((p.inx(), node.t.rank))?;
+        let index = p.inx();
+        if left.next() != Some(&(index, rank_at(a, index))) {
+            return false;
         }
     }
-    Ok(ranks)
+    left.next().is_none()
 }
 
-/// The entries in order stand at these indexes, each with this rank.
-fn ranks_are(
-    rt: &impl Abort,
-    alloc: Global,
-    a: &Keys,
-    wanted: &[(u32, u8)],
-) -> Result<(), AllocError> {
-    assert_eq!(rt; ranks(alloc, a)?.as_slice(), wanted);
-    Ok(())
+/// Whether these are the keys of an arena in order.
+fn has_keys<A: Allocator>(a: &Keys<A>, wanted: &[u64]) -> bool {
+    let mut left = wanted.iter();
+    for (_, pair) in a {
+        if left.next() != Some(pair.k()) {
+            return false;
+        }
+    }
+    left.next().is_none()
 }
 
-/// Index and generation of a pointer.
-fn numbers(p: Option<P0>) -> Option<(u32, u64)> {
-    let p = p?;
-    Some((p.inx(), p.generation()))
+/// Writes a key into the entry of a pointer, whatever the order.
+fn write_key(a: &mut Keys, p: P0, key: u64) {
+    if let Some(pair) = a.get_mut(p) {
+        *pair = OrdPair::new(key, ());
+    }
 }
 
-/// The keys of an arena in order.
-fn order_is<A: Allocator>(
-    rt: &impl Abort,
-    alloc: Global,
-    a: &Keys<A>,
-    wanted: &[u64],
-) -> Result<(), AllocError> {
-    assert_eq!(rt; order(alloc, a)?.as_slice(), wanted);
-    Ok(())
-}
-
-/// A search finds the entry with these numbers under a key, or none.
-fn key_finds(rt: &impl Abort, a: &Keys, key: u64, wanted: Option<(u32, u64)>) {
-    assert_eq!(rt; numbers(a.find_key(&key)), wanted);
-}
-
-/// An arena of this length and capacity, with this generation.
-fn counts_are(rt: &impl Abort, a: &Keys, wanted: (usize, usize, u64)) {
-    assert_eq!(rt; (a.len(), a.capacity(), a.generation()), wanted);
-}
-
-/// The first and the last pointer.
-fn ends_are(rt: &impl Abort, a: &Keys, first: Option<(u32, u64)>, last: Option<(u32, u64)>) {
-    assert_eq!(rt; (numbers(a.first()), numbers(a.last())), (first, last));
-}
-
-/// A search for a key ends at this index and at this order, after so many visits.
-fn similar_key_is(rt: &impl Abort, a: &Keys, key: u64, wanted: (u32, Ordering), visits: u128) {
-    let (similar, counted) = a.find_similar_key_counted(&key);
-    assert_eq!(rt; similar.map(|a| (a.0.inx(), a.1)), Some(wanted));
-    assert_eq!(rt; counted.count(), visits);
+/// Where a search for a key ends, after how many visits.
+fn similar_key(a: &Keys, key: u64) -> (Option<(P0, Ordering)>, u128) {
+    let (similar, visits) = a.find_similar_key_counted(&key);
+    (similar, visits.count())
 }
 
 #[test]
-fn five_keys(rt: HostRuntime) -> Result<(), Fail> {
-    let a = keys(rt.alloc(), &[50, 30, 70, 60, 10])?;
-    counts_are(&rt, &a, (5, 8, 2));
-    assert_eq!(rt; a.max_capacity(), None);
-    ends_are(&rt, &a, Some((5, 2)), Some((3, 2)));
-    key_finds(&rt, &a, 50, Some((1, 2)));
-    similar_key_is(&rt, &a, 53, (4, Ordering::Less), 3);
-    similar_key_is(&rt, &a, 40, (2, Ordering::Greater), 2);
-    ranks_are(
-        &rt,
-        rt.alloc(),
-        &a,
-        &[(5, 1), (2, 2), (1, 3), (4, 1), (3, 2)],
-    )?;
-    Ok(())
+fn five_keys(rt: HostRuntime) {
+    let a = five(rt.alloc());
+    assert!(rt; (a.first(), a.find_key(&50), a.last()) == (Some(at(5)), Some(at(1)), Some(at(3))));
+    assert!(rt; similar_key(&a, 53) == (Some((at(4), Ordering::Less)), 3));
+    assert!(rt; similar_key(&a, 40) == (Some((at(2), Ordering::Greater)), 2));
+    assert!(rt; has_ranks(&a, &[(5, 1), (2, 2), (1, 3), (4, 1), (3, 2)]));
 }
 
+/// The ranks of the keys 1 to 7 that come in order.
+const SEVEN: [(u32, u8); 7] = [(1, 1), (2, 2), (3, 1), (4, 3), (5, 1), (6, 2), (7, 1)];
+
 #[test]
-fn keys_in_order(rt: HostRuntime) -> Result<(), Fail> {
-    let three = keys(rt.alloc(), &[1, 2, 3])?;
-    ranks_are(&rt, rt.alloc(), &three, &[(1, 1), (2, 2), (3, 1)])?;
-    let seven = keys(rt.alloc(), &[1, 2, 3, 4, 5, 6, 7])?;
-    let of_seven = [(1, 1), (2, 2), (3, 1), (4, 3), (5, 1), (6, 2), (7, 1)];
-    ranks_are(&rt, rt.alloc(), &seven, of_seven.as_slice())?;
-    Ok(())
+fn keys_in_order(rt: HostRuntime) {
+    let three = keys(rt.alloc(), &[1, 2, 3]);
+    assert!(rt; has_ranks(&three, &[(1, 1), (2, 2), (3, 1)]));
+    let four = keys(rt.alloc(), &[1, 2, 3, 4]);
+    assert!(rt; has_ranks(&four, &[(1, 1), (2, 3), (3, 2), (4, 1)]));
+    let seven = keys(rt.alloc(), &[1, 2, 3, 4, 5, 6, 7]);
+    assert!(rt; has_ranks(&seven, SEVEN.as_slice()));
 }
 
 /// A key that counts the comparisons in which it stands first.
@@ -190,155 +173,132 @@ fn is_inserted<'a>(a: &mut CountingKeys<'a>, key: Counting<'a>) -> bool {
 }
 
 /// Five keys, none of whose comparisons is counted yet.
-fn five_counting_keys<'a>(
-    rt: &impl Abort,
-    alloc: Global,
-    comparisons: &'a Cell<u128>,
-) -> CountingKeys<'a> {
+fn five_counting_keys(alloc: Global, comparisons: &Cell<u128>) -> CountingKeys<'_> {
     let mut a = SimpleOrdArena::new(alloc);
-    for key in [50u64, 30, 70, 60, 10] {
-        assert!(rt; is_inserted(&mut a, Counting { key, comparisons }));
+    for key in &[50u64, 30, 70, 60, 10] {
+        let key = *key;
+        let _ = is_inserted(&mut a, Counting { key, comparisons });
     }
     let _ = taken(comparisons);
     a
 }
 
-/// A search for a key compares once a visit. Answers how often.
-fn find_key_compares(rt: &impl Abort, a: &CountingKeys, wanted: &Counting) -> u128 {
+/// The keys of five entries, and some between and beside them.
+const SOUGHT: [u64; 9] = [50, 30, 70, 60, 10, 53, 40, 5, 99];
+
+/// The visits of a search for a key, if it compares as often, with the count and without.
+fn find_key_compares(a: &CountingKeys, wanted: &Counting) -> Option<u128> {
     let (found, visits) = a.find_key_counted(wanted);
-    assert_eq!(rt; taken(wanted.comparisons), visits.count());
-    assert_eq!(rt; a.find_key(wanted), found);
-    assert_eq!(rt; taken(wanted.comparisons), visits.count());
-    visits.count()
+    let compared = taken(wanted.comparisons);
+    let plain = a.find_key(wanted);
+    let are_alike = plain == found && taken(wanted.comparisons) == compared;
+    if are_alike && compared == visits.count() {
+        Some(compared)
+    } else {
+        None
+    }
 }
 
 /// The same of a search for a similar key.
-fn find_similar_key_compares(rt: &impl Abort, a: &CountingKeys, wanted: &Counting) -> u128 {
+fn find_similar_key_compares(a: &CountingKeys, wanted: &Counting) -> Option<u128> {
     let (similar, visits) = a.find_similar_key_counted(wanted);
-    assert_eq!(rt; taken(wanted.comparisons), visits.count());
-    assert_eq!(rt; a.find_similar_key(wanted).is_some(), similar.is_some());
-    assert_eq!(rt; taken(wanted.comparisons), visits.count());
-    visits.count()
+    let compared = taken(wanted.comparisons);
+    let plain = a.find_similar_key(wanted);
+    let are_alike = plain == similar && taken(wanted.comparisons) == compared;
+    if are_alike && compared == visits.count() {
+        Some(compared)
+    } else {
+        None
+    }
 }
 
 #[test]
-fn visits_are_comparisons(rt: HostRuntime) -> Result<(), Fail> {
+fn visits_are_comparisons(rt: HostRuntime) {
     let made = Cell::new(0u128);
     let comparisons = &made;
-    let mut a = five_counting_keys(&rt, rt.alloc(), comparisons);
-    for key in [50u64, 30, 70, 60, 10, 53, 40, 5, 99] {
-        let wanted = Counting { key, comparisons };
-        let visits = find_key_compares(&rt, &a, &wanted);
-        assert_eq!(rt; find_similar_key_compares(&rt, &a, &wanted), visits);
+    let mut a = five_counting_keys(rt.alloc(), comparisons);
+    for key in &SOUGHT {
+        let wanted = Counting {
+            key: *key,
+            comparisons,
+        };
+        let visits = find_key_compares(&a, &wanted);
+        assert!(rt; visits.is_some() && visits == find_similar_key_compares(&a, &wanted));
         assert!(rt; is_inserted(&mut a, wanted));
-        assert_eq!(rt; taken(comparisons), visits);
+        assert!(rt; Some(taken(comparisons)) == visits);
     }
-    Ok(())
+    assert!(rt; a.len() == 9);
 }
 
-/// A search for a key from a hint compares once a visit.
-fn find_key_linear_compares(
-    rt: &impl Abort,
-    a: &CountingKeys,
-    hint: u32,
-    num: usize,
-    wanted: &Counting,
-) {
+/// Whether a search for a key from a hint compares once a visit, with the count and without.
+fn find_key_linear_compares(a: &CountingKeys, hint: u32, num: usize, wanted: &Counting) -> bool {
     let p = PN::_from_raw(hint, ());
     let (found, visits) = a.find_key_linear_counted(p, num, wanted);
-    assert_eq!(rt; taken(wanted.comparisons), visits.count());
-    assert_eq!(rt; a.find_key_linear(p, num, wanted), found);
-    assert_eq!(rt; taken(wanted.comparisons), visits.count());
+    let compared = taken(wanted.comparisons);
+    let plain = a.find_key_linear(p, num, wanted);
+    let compared_again = taken(wanted.comparisons);
+    plain == found && (compared, compared_again) == (visits.count(), compared)
 }
 
 /// The same of a search for a similar key.
 fn find_similar_key_linear_compares(
-    rt: &impl Abort,
     a: &CountingKeys,
     hint: u32,
     num: usize,
     wanted: &Counting,
-) {
+) -> bool {
     let (similar, visits) = a.find_similar_key_linear_counted(hint, num, wanted);
-    assert_eq!(rt; taken(wanted.comparisons), visits.count());
-    assert_eq!(rt; a.find_similar_key_linear(hint, num, wanted), similar);
-    assert_eq!(rt; taken(wanted.comparisons), visits.count());
+    let compared = taken(wanted.comparisons);
+    let plain = a.find_similar_key_linear(hint, num, wanted);
+    let compared_again = taken(wanted.comparisons);
+    plain == similar && (compared, compared_again) == (visits.count(), compared)
 }
 
-#[test]
-fn steps_are_comparisons(rt: HostRuntime) -> Result<(), Fail> {
-    let made = Cell::new(0u128);
-    let comparisons = &made;
-    let a = five_counting_keys(&rt, rt.alloc(), comparisons);
-    for key in [50u64, 30, 70, 60, 10, 53, 40, 5, 99] {
-        let wanted = Counting { key, comparisons };
-        for hint in 0u32..7 {
-            for num in [0, 1, 2, 3, usize::MAX] {
-                find_key_linear_compares(&rt, &a, hint, num, &wanted);
-                find_similar_key_linear_compares(&rt, &a, hint, num, &wanted);
+/// Whether both searches for a key from any hint compare once a visit.
+fn steps_compare(a: &CountingKeys, wanted: &Counting) -> bool {
+    for hint in 0u32..7 {
+        for num in [0, 1, 2, 3, usize::MAX] {
+            if !find_key_linear_compares(a, hint, num, wanted)
+                || !find_similar_key_linear_compares(a, hint, num, wanted)
+            {
+                return false;
             }
         }
     }
-    Ok(())
+    true
 }
 
 #[test]
-fn room_beyond_the_indexes_is_refused(rt: HostRuntime) {
-    let most: Result<SimpleOrdArena<P8, OrdPair<u64, ()>>, AllocError> =
-        SimpleOrdArena::with_min_capacity(rt.alloc(), 254);
-    assert!(rt; most.is_ok());
-    let more: Result<SimpleOrdArena<P8, OrdPair<u64, ()>>, AllocError> =
-        SimpleOrdArena::with_min_capacity(rt.alloc(), 255);
-    assert!(rt; more.is_err());
+fn steps_are_comparisons(rt: HostRuntime) {
+    let made = Cell::new(0u128);
+    let comparisons = &made;
+    let a = five_counting_keys(rt.alloc(), comparisons);
+    for key in &SOUGHT {
+        let wanted = Counting {
+            key: *key,
+            comparisons,
+        };
+        assert!(rt; steps_compare(&a, &wanted));
+    }
 }
 
 #[test]
 fn pairs_are_made_and_taken_apart(rt: HostRuntime) -> Result<(), Fail> {
     let mut pair = OrdPair::new(1u8, 2u8);
     *pair.v_mut() = 5;
-    assert_eq!(rt; format!(in rt.alloc(); "{pair:?}")?.as_str(), "(1, 5)");
-    assert_eq!(rt; pair.into_k_v(), (1, 5));
-    assert_eq!(rt; OrdEntryKind::Replacing(7u8).any(), 7);
-    Ok(())
-}
-
-/// What a hasher makes of a pair.
-fn hash_of(pair: &OrdPair<u8, u64>) -> u64 {
-    let mut state = DefaultHasher::new();
-    laws::pair_hash(pair, &mut state);
-    state.finish()
-}
-
-/// One pair compares so with another one, and hashes alike where they are equal.
-fn compare_as(rt: &impl Abort, a: &OrdPair<u8, u64>, b: &OrdPair<u8, u64>, order: Ordering) {
-    assert!(rt; laws::pairs_cmp(a, b) == order);
-    assert!(rt; laws::pairs_partial_cmp(a, b) == Some(order));
-    assert!(rt; laws::pairs_equal(a, b) == order.is_eq());
-    assert!(rt; laws::pairs_hash_alike(a, b) == order.is_eq());
-    assert!(rt; (hash_of(a) == hash_of(b)) == order.is_eq());
-}
-
-#[test]
-fn pairs_compare_by_key_then_by_value(rt: HostRuntime) -> Result<(), Fail> {
-    let pairs = [
-        OrdPair::new(1u8, 9u64),
-        OrdPair::new(2, 0),
-        OrdPair::new(2, 7),
-    ];
-    for (i, a) in pairs.iter().enumerate() {
-        for (j, b) in pairs.iter().enumerate() {
-            compare_as(&rt, a, b, i.cmp(&j));
-        }
-    }
+    assert!(rt; format!(in rt.alloc(); "{pair:?}")?.as_str() == "(1, 5)");
+    assert!(rt; pair.into_k_v() == (1, 5));
     Ok(())
 }
 
 #[test]
 fn a_pair_hashes_as_its_parts(rt: HostRuntime) {
-    let mut state = DefaultHasher::new();
-    state.write_u8(2);
-    state.write_u64(7);
-    assert_eq!(rt; hash_of(&OrdPair::new(2, 7)), state.finish());
+    let mut of_pair = DefaultHasher::new();
+    laws::pair_hash(&OrdPair::new(2u8, 7u64), &mut of_pair);
+    let mut of_parts = DefaultHasher::new();
+    of_parts.write_u8(2);
+    of_parts.write_u64(7);
+    assert!(rt; of_pair.finish() == of_parts.finish());
 }
 
 /// Keys under pointers of eight bits, which name 254 entries.
@@ -350,37 +310,24 @@ fn is_replaced(a: &mut SmallKeys, key: u64) -> Result<bool, OrdInsertionError> {
     Ok(before.is_some())
 }
 
-/// Inserts 254 keys, each of which is new. Answers each capacity on the way.
-fn fill(rt: &impl Abort, alloc: Global, a: &mut SmallKeys) -> Result<Vec<usize>, Fail> {
-    let mut capacities = Vec::new(alloc);
-    for n in 0u64..254 {
-        assert!(rt; !is_replaced(a, n * 77 % 254)?);
-        if capacities.last() != Some(&a.capacity()) {
-            capacities.push(a.capacity())?;
+/// Inserts new keys up to a capacity, and tells whether the arena has it from the first of them on.
+fn grows_to(a: &mut SmallKeys, capacity: usize) -> bool {
+    for n in a.len()..capacity {
+        let key = (n as u64).wrapping_mul(77) % 254;
+        if is_replaced(a, key) != Ok(false) || a.capacity() != capacity {
+            return false;
         }
     }
-    Ok(capacities)
+    true
 }
 
 #[test]
-fn eight_bit_pointers_run_out(rt: HostRuntime) -> Result<(), Fail> {
+fn eight_bit_pointers_run_out(rt: HostRuntime) {
     let mut a = SmallKeys::new(rt.alloc());
-    let capacities = fill(&rt, rt.alloc(), &mut a)?;
-    let doubled = [4usize, 8, 16, 32, 64, 128, 254];
-    assert!(rt; capacities.as_slice() == doubled.as_slice());
-    assert!(rt; a.len() == 254);
-    let refused = is_replaced(&mut a, 999);
-    assert!(rt; refused == Err(OrdInsertionError::BeyondMaxCapacity));
-    assert!(rt; a.len() == 254);
-    assert!(rt; is_replaced(&mut a, 9) == Ok(true));
-    Ok(())
-}
-
-/// The keys in the order of the list.
-fn order<A: Allocator>(alloc: Global, a: &Keys<A>) -> Result<Vec<u64>, AllocError> {
-    let mut order = Vec::new(alloc);
-    for (_, pair) in a {
-        order.push(*pair.k())?;
+    for capacity in &[4usize, 8, 16, 32, 64, 128, 254] {
+        assert!(rt; grows_to(&mut a, *capacity));
     }
-    Ok(order)
+    let refused = is_replaced(&mut a, 999);
+    assert!(rt; (refused, a.len()) == (Err(OrdInsertionError::BeyondMaxCapacity), 254));
+    assert!(rt; is_replaced(&mut a, 9) == Ok(true));
 }

@@ -1,9 +1,7 @@
 //! Groups of entries with equal keys, against a plain vector.
 use arena_base::{P0, Ptr};
-use std::alloc::{AllocError, Global};
+use std::alloc::Global;
 use std::cmp::Ordering;
-use std::process::Abort;
-use std::test::Fail;
 use triple_ord::{OrdInsertKind, OrdPair, SimpleOrdArena};
 
 type Marks = SimpleOrdArena<P0, OrdPair<u64, u64>>;
@@ -15,43 +13,59 @@ struct Beside {
     pairs: Vec<(u64, u64)>,
 }
 
-/// Inserts a pair behind all whose keys are at most its own, into both.
-fn push(beside: &mut Beside, key: u64) -> Result<(), Fail> {
-    let mark = beside.pairs.len() as u64;
-    let entry = beside
-        .arena
-        .entry_insert(OrdInsertKind::Nonhereditary(&key))?;
-    let _ = entry.insert(OrdPair::new(key, mark));
-    let at = beside.pairs.iter().filter(|p| p.0 <= key).count();
-    if at <= beside.pairs.len() {
-        beside.pairs.insert(at, (key, mark))?;
-    }
-    Ok(())
+/// Inserts a pair by a kind. Answers the mark that it replaced, `None` too where it is refused.
+fn put(a: &mut Marks, kind: OrdInsertKind<P0, &u64>, (key, mark): (u64, u64)) -> Option<u64> {
+    let before = a.entry_insert(kind).ok()?.insert(OrdPair::new(key, mark))?;
+    Some(*before.v())
 }
 
-/// So many entries of the keys 3, 5 and 7, in turns.
-fn group(alloc: Global, counts: [usize; 3]) -> Result<Beside, Fail> {
+/// Puts a pair into a plain vector, behind all whose keys are at most its own.
+fn put_plainly(pairs: &mut Vec<(u64, u64)>, pair: (u64, u64)) {
+    let mut place = 0usize;
+    for other in pairs.iter() {
+        if other.0 <= pair.0 {
+            place = place.saturating_add(1);
+        }
+    }
+    if place <= pairs.len() {
+        let _ = pairs.insert(place, pair);
+    }
+}
+
+/// Inserts a key behind all that are at most equal, into both.
+fn push(beside: &mut Beside, key: u64) {
+    let mark = beside.pairs.len() as u64;
+    let kind = OrdInsertKind::Nonhereditary(&key);
+    let _ = put(&mut beside.arena, kind, (key, mark));
+    put_plainly(&mut beside.pairs, (key, mark));
+}
+
+/// So many entries of the keys 3, 5 and 7, in turns: up to two lesser and two greater ones, and one to six between, by a number
+/// below 54.
+fn group(alloc: Global, number: usize) -> Beside {
     let mut beside = Beside {
-        arena: SimpleOrdArena::new(alloc),
+        arena: Marks::new(alloc),
         pairs: Vec::new(alloc),
     };
     for round in 0..6usize {
-        for (key, count) in [(7u64, counts[2]), (5, counts[1]), (3, counts[0])] {
-            if round < count {
-                push(&mut beside, key)?;
+        for (key, count) in &[(7u64, number / 3 % 3), (5, number / 9 + 1), (3, number % 3)] {
+            if round < *count {
+                push(&mut beside, *key);
             }
         }
     }
-    Ok(beside)
+    beside
 }
 
-/// The pairs of an arena in order.
-fn pairs_of(alloc: Global, a: &Marks) -> Result<Vec<(u64, u64)>, AllocError> {
-    let mut pairs = Vec::new(alloc);
+/// Whether these are the pairs of an arena in order.
+fn has_pairs(a: &Marks, pairs: &[(u64, u64)]) -> bool {
+    let mut left = pairs.iter();
     for (_, pair) in a {
-        pairs.push((*pair.k(), *pair.v()))?;
+        if left.next() != Some(&(*pair.k(), *pair.v())) {
+            return false;
+        }
     }
-    Ok(pairs)
+    left.next().is_none()
 }
 
 /// The mark of the first pair with this key in a vector.
@@ -77,111 +91,84 @@ fn equal_alone(found: Option<(P0, Ordering)>) -> Option<P0> {
     }
 }
 
-/// Each search finds the first of the entries with a key, or none, and from each hint the same.
-fn finds_the_first(rt: &impl Abort, beside: &Beside, key: u64) {
-    let a = &beside.arena;
-    let wanted = first_mark(beside.pairs.as_slice(), key);
-    assert_eq!(rt; mark_at(a, a.find_key(&key)), wanted);
-    assert_eq!(rt; mark_at(a, equal_alone(a.find_similar_key(&key))), wanted);
-    for (p, _) in a {
-        for num in 0..3usize {
-            let found = a.find_key_linear(p, num, &key);
-            assert_eq!(rt; mark_at(a, found), wanted);
-            let similar = a.find_similar_key_linear(p.inx(), num, &key);
-            assert_eq!(rt; mark_at(a, equal_alone(similar)), wanted);
+/// Whether each search from a hint finds this entry alone.
+fn finds_from(a: &Marks, hint: P0, key: u64, wanted: Option<P0>) -> bool {
+    for num in 0..3usize {
+        let similar = a.find_similar_key_linear(hint.inx(), num, &key);
+        if a.find_key_linear(hint, num, &key) != wanted || equal_alone(similar) != wanted {
+            return false;
         }
     }
+    true
 }
 
-/// A keyed insertion replaces the first of its group, and leaves the others.
-fn replaces_the_first(rt: &impl Abort, alloc: Global, beside: &mut Beside) -> Result<(), Fail> {
+/// Whether each search finds the first of the entries with a key, or none, and from each hint the same.
+fn finds_the_first(beside: &Beside, key: u64) -> bool {
+    let a = &beside.arena;
+    let found = a.find_key(&key);
+    let mut is_right = mark_at(a, found) == first_mark(beside.pairs.as_slice(), key)
+        && equal_alone(a.find_similar_key(&key)) == found;
+    for (p, _) in a {
+        is_right = is_right && finds_from(a, p, key, found);
+    }
+    is_right
+}
+
+/// The same of each key.
+fn finds_each(beside: &Beside) -> bool {
+    for key in 2..=8u64 {
+        if !finds_the_first(beside, key) {
+            return false;
+        }
+    }
+    true
+}
+
+/// Whether a keyed insertion replaces the first of its group, and leaves the others.
+fn replaces_the_first(beside: &mut Beside, kind: OrdInsertKind<P0, &u64>) -> bool {
     let wanted = first_mark(beside.pairs.as_slice(), 5);
-    let (_, before) = beside.arena.insert(OrdPair::new(5, 99))?;
-    assert_eq!(rt; before.map(|pair| *pair.v()), wanted);
+    let before = put(&mut beside.arena, kind, (5, 99));
     for pair in beside.pairs.iter_mut() {
         if Some(pair.1) == wanted {
             pair.1 = 99;
         }
     }
-    assert_eq!(rt;
-        pairs_of(alloc, &beside.arena)?.as_slice(),
-        beside.pairs.as_slice()
-    );
-    Ok(())
+    before == wanted && has_pairs(&beside.arena, beside.pairs.as_slice())
 }
 
-/// The same from each hint, and from some that name no entry.
-fn replaces_the_first_from_hints(
-    rt: &impl Abort,
-    alloc: Global,
-    counts: [usize; 3],
-) -> Result<(), Fail> {
-    for p_init in 0u32..12 {
-        let mut beside = group(alloc, counts)?;
-        let wanted = first_mark(beside.pairs.as_slice(), 5);
-        let kind = OrdInsertKind::Linear {
-            p_init,
-            num: 2,
-            k: &5,
-        };
-        let entry = beside.arena.entry_insert(kind)?;
-        let before = entry.insert(OrdPair::new(5, 99));
-        assert_eq!(rt; before.map(|pair| *pair.v()), wanted);
-    }
-    Ok(())
+/// Whether an insertion goes behind the last of its group.
+fn goes_behind(beside: &mut Beside, kind: OrdInsertKind<P0, &u64>) -> bool {
+    let before = put(&mut beside.arena, kind, (5, 99));
+    put_plainly(&mut beside.pairs, (5, 99));
+    before.is_none() && has_pairs(&beside.arena, beside.pairs.as_slice())
 }
 
-/// An insertion from each of these hints goes behind the last of its group.
-fn goes_behind_from_hints(rt: &impl Abort, alloc: Global, counts: [usize; 3]) -> Result<(), Fail> {
-    for p_init in 0u32..12 {
-        let mut beside = group(alloc, counts)?;
-        let kind = OrdInsertKind::NonhereditaryLinear {
-            p_init,
-            num: 2,
-            k: &5,
-        };
-        let entry = beside.arena.entry_insert(kind)?;
-        let _ = entry.insert(OrdPair::new(5, 99));
-        let at = beside.pairs.iter().filter(|p| p.0 <= 5).count();
-        if at <= beside.pairs.len() {
-            beside.pairs.insert(at, (5, 99))?;
-        }
-        assert_eq!(rt;
-            pairs_of(alloc, &beside.arena)?.as_slice(),
-            beside.pairs.as_slice()
-        );
-    }
-    Ok(())
-}
-
-/// Groups of up to six entries, between so many lesser and greater ones.
+/// Groups of up to six entries, between up to two lesser and up to two greater ones.
 #[test]
-fn groups_of_every_size(rt: HostRuntime) -> Result<(), Fail> {
-    for size in 1..=6usize {
-        for around in 0..9usize {
-            let counts = [around % 3, size, around / 3];
-            let mut beside = group(rt.alloc(), counts)?;
-            assert_eq!(&rt;
-                pairs_of(rt.alloc(), &beside.arena)?.as_slice(),
-                beside.pairs.as_slice()
-            );
-            for key in 2..=8u64 {
-                finds_the_first(&rt, &beside, key);
-            }
-            replaces_the_first(&rt, rt.alloc(), &mut beside)?;
-        }
+fn groups_of_every_size(rt: HostRuntime) {
+    for number in 0..54usize {
+        let mut beside = group(rt.alloc(), number);
+        assert!(rt; beside.arena.len() == number / 9 + 1 + number / 3 % 3 + number % 3);
+        assert!(rt; has_pairs(&beside.arena, beside.pairs.as_slice()));
+        assert!(rt; finds_each(&beside));
+        assert!(rt; replaces_the_first(&mut beside, OrdInsertKind::Normal(&5)));
     }
-    Ok(())
+}
+
+/// Whether insertions from this hint do the same, where it names an entry and where it doesn't.
+fn goes_by_hint(alloc: Global, number: usize, p_init: u32) -> bool {
+    let (num, k) = (2usize, &5u64);
+    let replacing = OrdInsertKind::Linear { p_init, num, k };
+    let behind = OrdInsertKind::NonhereditaryLinear { p_init, num, k };
+    let is_replaced = replaces_the_first(&mut group(alloc, number), replacing);
+    is_replaced && goes_behind(&mut group(alloc, number), behind)
 }
 
 #[test]
-fn groups_from_hints(rt: HostRuntime) -> Result<(), Fail> {
-    for size in 1..=6usize {
-        for around in 0..9usize {
-            let counts = [around % 3, size, around / 3];
-            replaces_the_first_from_hints(&rt, rt.alloc(), counts)?;
-            goes_behind_from_hints(&rt, rt.alloc(), counts)?;
+fn groups_from_hints(rt: HostRuntime) {
+    for number in 0..54usize {
+        for p_init in 0u32..12 {
+            assert!(rt; goes_by_hint(rt.alloc(), number, p_init));
         }
     }
-    Ok(())
 }

@@ -1,47 +1,56 @@
 //! Recasting the items of an arena.
 use arena_base::Arena;
-use std::test::Fail;
 use triple_ord::{OrdPair, P0, Ptr, Recast, SimpleOrdArena};
 
-fn p0(inx: u32, generation: u64) -> P0 {
-    P0::_from_raw(inx, generation)
+type Pointers = SimpleOrdArena<P0, OrdPair<u64, P0>>;
+
+/// The pointer of an entry that no removal came before.
+fn at(index: u32) -> P0 {
+    P0::_from_raw(index, 2)
 }
 
-// The values in the order of their keys.
-fn values(arena: &SimpleOrdArena<P0, OrdPair<u64, P0>>) -> [Option<P0>; 3] {
-    [1, 2, 3].map(|index| arena.get(p0(index, 2)).map(|pair| *pair.v()))
+/// The values at these indexes.
+fn has_values(a: &Pointers, wanted: &[P0]) -> bool {
+    let mut index = 0u32;
+    for value in wanted {
+        index = index.wrapping_add(1);
+        match a.get(at(index)) {
+            Some(pair) if pair.v() == value => {}
+            _ => return false,
+        }
+    }
+    true
 }
 
+/// Writes the value of an entry.
+fn write(a: &mut Pointers, index: u32, value: P0) {
+    if let Some(pair) = a.get_mut(at(index)) {
+        *pair.v_mut() = value;
+    }
+}
+
+/// Recasts all values.
+fn recast(a: &mut Pointers, recaster: &Arena<P0, P0>) -> Result<(), P0> {
+    a.recast(recaster)
+}
+
+/// The recaster leads from the pointer `at(1)` to another one, and from no other.
 #[test]
-fn a_recast_stops_at_the_first_error(rt: HostRuntime) -> Result<(), Fail> {
-    let mut arena: SimpleOrdArena<P0, OrdPair<u64, P0>> = SimpleOrdArena::new(rt.alloc());
-    for (key, value) in [(1, p0(1, 2)), (2, p0(9, 9)), (3, p0(1, 2))] {
-        let _ = arena.insert(OrdPair::new(key, value))?;
-    }
+fn a_recast_stops_at_the_first_error(rt: HostRuntime) {
+    let (new, unknown) = (P0::_from_raw(5, 7), P0::_from_raw(9, 9));
     let mut recaster: Arena<P0, P0> = Arena::new(rt.alloc());
-    assert_eq!(rt; recaster.insert_reallocating(p0(5, 7))?, p0(1, 2));
-    assert_eq!(rt; arena.recast(&recaster), Err(p0(9, 9)));
-    assert_eq!(rt;
-        values(&arena),
-        [Some(p0(5, 7)), Some(p0(9, 9)), Some(p0(1, 2))]
-    );
-
-    // By index, and not in the order of the keys: a lesser key comes at index 4, behind the failing one.
-    let _ = arena.insert(OrdPair::new(0, p0(1, 2)))?;
-    if let Some(pair) = arena.get_mut(p0(2, 2)) {
-        *pair = OrdPair::new(2, p0(1, 2));
+    let _ = recaster.insert_reallocating(new);
+    // a lesser key comes at index 4, behind the failing one
+    let mut a = Pointers::new(rt.alloc());
+    for (key, value) in &[(1u64, at(1)), (2, unknown), (3, at(1)), (0, at(1))] {
+        let _ = a.insert(OrdPair::new(*key, *value));
     }
-    assert_eq!(rt; arena.recast(&recaster), Err(p0(5, 7)));
-    assert_eq!(rt;
-        values(&arena),
-        [Some(p0(5, 7)), Some(p0(1, 2)), Some(p0(1, 2))]
-    );
-    if let Some(pair) = arena.get_mut(p0(1, 2)) {
-        *pair = OrdPair::new(1, p0(1, 2));
-    }
-    assert_eq!(rt; arena.recast(&recaster), Ok(()));
-    assert_eq!(rt; values(&arena), [Some(p0(5, 7)); 3]);
-    assert_eq!(rt; arena.get(p0(4, 2)).map(|pair| *pair.v()), Some(p0(5, 7)));
-    assert_eq!(rt; SimpleOrdArena::_check_invariants(&arena), Ok(()));
-    Ok(())
+    assert!(rt; recast(&mut a, &recaster) == Err(unknown));
+    assert!(rt; has_values(&a, &[new, unknown, at(1), at(1)]));
+    // what was recast once is recast again
+    write(&mut a, 2, at(1));
+    assert!(rt; recast(&mut a, &recaster) == Err(new));
+    write(&mut a, 1, at(1));
+    assert!(rt; recast(&mut a, &recaster) == Ok(()));
+    assert!(rt; has_values(&a, &[new, new, new, new]));
 }

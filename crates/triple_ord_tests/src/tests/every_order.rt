@@ -1,145 +1,116 @@
-//! Insertions and removals in every order of up to five keys, and of six keys in part, against a plain sorted vector.
-ghost use Rattle.std.specs.Prelude.{◌<◌};
-
+//! Insertions and removals in every order of up to five keys, and of six keys in part, beside a plain vector of what was removed.
 use super::removal::remove_key;
-use super::{Keys, keys, order_is};
+use super::{Keys, keys, rank_at};
 use arena_base::Ptr;
-use std::alloc::{AllocError, Global};
-use std::process::Abort;
-use std::test::Fail;
+use std::alloc::Global;
 
 /// The keys from 1 to n in the order of this number.
-fn keys_in_order_of(alloc: Global, n: u64, number: u64) -> Result<Vec<u64>, AllocError> {
-    let mut left = Vec::new(alloc);
-    for key in 1..=n {
-        left.push(key)?;
-    }
+fn keys_in_order_of(alloc: Global, n: u64, number: u64) -> Vec<u64> {
     let mut keys = Vec::new(alloc);
     let mut rest = number;
-    for count in (1..=n).rev() {
-        let at = (rest % count) as usize;
-        rest /= count;
-        if at < left.len() {
-            keys.push(left.remove(at))?;
+    for key in 1..=n {
+        let place = (rest % key) as usize;
+        rest /= key;
+        if place <= keys.len() {
+            let _ = keys.insert(place, key);
         }
     }
-    Ok(keys)
+    keys
 }
 
-/// How many orders n keys have.
-fn orders(n: u64) -> u64 {
-    [1, 1, 2, 6, 24, 120, 720]
-        .get(n as usize)
-        .copied()
-        .unwrap_or(0)
-}
-
-/// The rank of the entry at an index, 0 where there is none.
-fn rank_at(a: &Keys, index: Option<u32>) -> u8 {
-    let Some(i) = index else {
-        return 0;
+/// The rank rules at one entry, read from its node and those below it.
+fn has_right_rank(a: &Keys, index: u32) -> bool {
+    let Some((_, entry)) = a.get_inx_node(index) else {
+        return false;
     };
-    match a.get_inx_node(i) {
-        Some((_, node)) => node.t.rank,
-        None => 0,
-    }
+    let node = &entry.t;
+    let lesser = rank_at(a, node.p_tree0.get().unwrap_or(0));
+    let greater = rank_at(a, node.p_tree1.get().unwrap_or(0));
+    let is_above = node.rank > lesser && node.rank > greater;
+    let is_near = is_above && node.rank - lesser <= 2 && node.rank - greater <= 2;
+    is_near && (node.rank == 1 || lesser > 0 || greater > 0)
 }
 
-/// The rank rules, read from the nodes.
-fn has_ranks(a: &Keys) -> bool {
+/// The rank rules at each entry.
+fn has_right_ranks(a: &Keys) -> bool {
     for (p, _) in a {
-        let Some((_, node)) = a.get_inx_node(p.inx()) else {
-            return false;
-        };
-        let lesser = rank_at(a, node.t.p_tree0.get());
-        let greater = rank_at(a, node.t.p_tree1.get());
-        let rank = node.t.rank;
-        for side in [lesser, greater] {
-            if rank <= side || rank - side > 2 {
-                return false;
-            }
-        }
-        if lesser == 0 && greater == 0 && rank != 1 {
+        if !has_right_rank(a, p.inx()) {
             return false;
         }
     }
     true
 }
 
-/// Whether a search finds exactly these keys of those from 1 to n, and visits few enough entries.
-fn finds_exactly(a: &Keys, n: u64, sorted: &[u64]) -> bool {
+/// Whether the entries in order have the keys from 1 to n without those that were removed.
+fn has_rest(a: &Keys, n: u64, removed: &[u64]) -> bool {
+    let mut key = 0u64;
+    for (_, pair) in a {
+        if *pair.k() <= key || *pair.k() > n || removed.contains(pair.k()) {
+            return false;
+        }
+        key = *pair.k();
+    }
+    a.len().saturating_add(removed.len()) == n as usize
+}
+
+/// Whether a search finds all of the keys from 1 to n but those that were removed, and visits few enough entries.
+fn finds_rest(a: &Keys, n: u64, removed: &[u64]) -> bool {
     for key in 1..=n {
         let (found, visits) = a.find_key_counted(&key);
-        if found.is_some() != sorted.contains(&key) {
-            return false;
-        }
-        if visits.count() > 3 {
+        if found.is_some() == removed.contains(&key) || visits.count() > 3 {
             return false;
         }
     }
     true
 }
 
-/// The keys without one.
-fn without(alloc: Global, sorted: &[u64], key: u64) -> Result<Vec<u64>, AllocError> {
-    let mut left = Vec::new(alloc);
-    for other in sorted {
-        if *other != key {
-            left.push(*other)?;
+/// Whether an arena keeps the rank rules, with just the keys from 1 to n that weren't removed.
+fn holds(a: &Keys, n: u64, removed: &[u64]) -> bool {
+    has_rest(a, n, removed) && has_right_ranks(a) && finds_rest(a, n, removed)
+}
+
+/// Inserts n keys in the first order and removes them in the second one, and tells whether all is right on the way.
+fn goes_through(alloc: Global, n: u64, first: &[u64], second: &[u64]) -> bool {
+    let mut a = keys(alloc, first);
+    for count in 0..second.len() {
+        let was_right = holds(&a, n, &second[..count]);
+        if !was_right || !matches!(remove_key(&mut a, second[count]), Some(0..=9)) {
+            return false;
         }
     }
-    Ok(left)
+    second.len() == n as usize && a.is_empty()
 }
 
-/// An arena that keeps the rank rules, with just these keys of those from 1 to n.
-fn holds(
-    rt: &impl Abort,
-    alloc: Global,
-    a: &Keys,
-    n: u64,
-    sorted: &[u64],
-) -> Result<(), AllocError> {
-    order_is(rt, alloc, a, sorted)?;
-    assert!(rt; has_ranks(a));
-    assert!(rt; finds_exactly(a, n, sorted));
-    Ok(())
-}
-
-/// Inserts the keys in the first order and removes them in the second one.
-fn goes_through(rt: &impl Abort, alloc: Global, first: &[u64], second: &[u64]) -> Result<(), Fail> {
-    let n = first.len() as u64;
-    let mut a = keys(alloc, first)?;
-    let mut sorted = keys_in_order_of(alloc, n, 0)?;
-    holds(rt, alloc, &a, n, sorted.as_slice())?;
-    for key in second {
-        assert!(rt; remove_key(rt, alloc, &mut a, *key)? <= 9);
-        sorted = without(alloc, sorted.as_slice(), *key)?;
-        holds(rt, alloc, &a, n, sorted.as_slice())?;
-    }
-    assert!(rt; a.is_empty());
-    Ok(())
-}
-
-/// Insertions in every order of n keys, each with the removals in one of so many orders.
-fn every_so_many(rt: &impl Abort, alloc: Global, n: u64, stride: u64) -> Result<(), Fail>
-    requires { 0 < stride }
-{
-    for first in 0..orders(n) {
-        let inserted = keys_in_order_of(alloc, n, first)?;
-        for second in 0..orders(n) {
-            if first.wrapping_add(second) % stride == 0 {
-                let removed = keys_in_order_of(alloc, n, second)?;
-                goes_through(rt, alloc, inserted.as_slice(), removed.as_slice())?;
+/// Insertions in every one of so many orders of n keys, each with the removals in every one whose number makes a multiple with its
+/// own.
+fn every_so_many(alloc: Global, n: u64, orders: u64, stride: u64) -> bool {
+    for first in 0..orders {
+        let inserted = keys_in_order_of(alloc, n, first);
+        for second in 0..orders {
+            if first.wrapping_add(second).checked_rem(stride) == Some(0) {
+                let removed = keys_in_order_of(alloc, n, second);
+                if !goes_through(alloc, n, inserted.as_slice(), removed.as_slice()) {
+                    return false;
+                }
             }
         }
     }
-    Ok(())
+    true
 }
 
+/// How many keys, how many orders they have, and the multiple.
+const ORDERS: [(u64, u64, u64); 6] = [
+    (1, 1, 1),
+    (2, 2, 1),
+    (3, 6, 1),
+    (4, 24, 1),
+    (5, 120, 1),
+    (6, 720, 48),
+];
+
 #[test]
-fn every_order(rt: HostRuntime) -> Result<(), Fail> {
-    for n in 1..=5u64 {
-        every_so_many(&rt, rt.alloc(), n, 1)?;
+fn every_order(rt: HostRuntime) {
+    for (n, orders, stride) in &ORDERS {
+        assert!(rt; every_so_many(rt.alloc(), *n, *orders, *stride));
     }
-    every_so_many(&rt, rt.alloc(), 6, 48)
 }

@@ -1,0 +1,149 @@
+//! Drains, in order and by index. The keys 1, 2, 3, 5 stand at the indexes 2, 4, 1, 3.
+use super::{Keys, at, has_keys, keys};
+use arena_base::{InvalidationOption, P0, P8, Ptr};
+use std::alloc::Global;
+use std::cell::Cell;
+use std::mem;
+use triple_ord::{OrdPair, SimpleOrdArena, SimpleOrdItem};
+
+fn four(alloc: Global) -> Keys {
+    let mut a = keys(alloc, &[3, 1, 4, 2]);
+    let _ = a.remove(at(3));
+    let _ = a.insert(OrdPair::new(5, ()));
+    a
+}
+
+/// The four keys, after a drain in order that took so many and is then forgotten.
+fn forgotten(alloc: Global, taken: usize) -> Keys {
+    let mut a = four(alloc);
+    let mut drain = a.drain_ordered();
+    for _ in 0..taken {
+        let _ = drain.next();
+    }
+    mem::forget(drain);
+    a
+}
+
+/// The same after a drain by index.
+fn forgotten_by_index(alloc: Global, taken: usize) -> Keys {
+    let mut a = four(alloc);
+    let mut drain = a.drain();
+    for _ in 0..taken {
+        let _ = drain.next();
+    }
+    mem::forget(drain);
+    a
+}
+
+/// How many a drain takes; the generation after it, and the keys that it leaves, in order and by index.
+const LEFT: [(usize, u64, &[u64], &[u64]); 5] = [
+    (0, 3, &[1, 2, 3, 5], &[1, 2, 3, 5]),
+    (1, 4, &[2, 3, 5], &[1, 2, 5]),
+    (3, 6, &[5], &[2]),
+    (4, 7, &[], &[]),
+    (5, 7, &[], &[]),
+];
+
+/// A drain that is forgotten leaves the rest.
+#[test]
+fn forgotten_drains(rt: HostRuntime) {
+    for (taken, generation, in_order, by_index) in &LEFT {
+        let a = forgotten(rt.alloc(), *taken);
+        assert!(rt; a.generation() == *generation && has_keys(&a, in_order));
+        let b = forgotten_by_index(rt.alloc(), *taken);
+        assert!(rt; b.generation() == *generation && has_keys(&b, by_index));
+    }
+}
+
+/// A key that counts how often it is dropped.
+struct Counted<'a> {
+    key: u64,
+    drops: &'a Cell<u64>,
+}
+
+impl Drop for Counted<'_> {
+    fn drop(self) {
+        let Counted { key: _, drops } = self;
+        drops.set(drops.get().wrapping_add(1));
+    }
+}
+
+impl SimpleOrdItem for Counted<'_> {
+    type Key = u64;
+
+    ghost key_of = { λ c. c.key };
+
+    fn key(&self) -> &u64 {
+        &self.key
+    }
+}
+
+/// Five keys that count their drops.
+fn five_counted(alloc: Global, drops: &Cell<u64>) -> SimpleOrdArena<P0, Counted<'_>> {
+    let mut a = SimpleOrdArena::new(alloc);
+    for key in &[3u64, 1, 5, 2, 4] {
+        let _ = a.insert(Counted { key: *key, drops });
+    }
+    a
+}
+
+/// Takes so many by an owning iterator. Answers how many were dropped before its own drop.
+fn own(alloc: Global, drops: &Cell<u64>, taken: usize) -> u64 {
+    let mut all = five_counted(alloc, drops).into_iter();
+    for _ in 0..taken {
+        let _ = all.next();
+    }
+    drops.get()
+}
+
+/// The same by a drain in order.
+fn drain(alloc: Global, drops: &Cell<u64>, taken: usize) -> u64 {
+    let mut a = five_counted(alloc, drops);
+    let mut drain = a.drain_ordered();
+    for _ in 0..taken {
+        let _ = drain.next();
+    }
+    drops.get()
+}
+
+/// The same by a drain by index.
+fn drain_by_index(alloc: Global, drops: &Cell<u64>, taken: usize) -> u64 {
+    let mut a = five_counted(alloc, drops);
+    let mut drain = a.drain();
+    for _ in 0..taken {
+        let _ = drain.next();
+    }
+    drops.get()
+}
+
+/// Each item is dropped just once, wherever a drain or an owning iterator ends.
+#[test]
+fn items_are_dropped_once(rt: HostRuntime) {
+    let drops = Cell::new(0u64);
+    for (taken, before) in &[(0usize, 0u64), (1, 1), (3, 3), (5, 5), (6, 5)] {
+        assert!(rt; own(rt.alloc(), &drops, *taken) == *before);
+        assert!(rt; drops.replace(0) == 5);
+        assert!(rt; drain(rt.alloc(), &drops, *taken) == *before);
+        assert!(rt; drops.replace(0) == 5);
+        assert!(rt; drain_by_index(rt.alloc(), &drops, *taken) == *before);
+        assert!(rt; drops.replace(0) == 5);
+    }
+}
+
+/// The generations of eight bits begin again in the middle of a drain.
+#[test]
+fn a_drain_overflows(rt: HostRuntime) {
+    let mut a: SimpleOrdArena<P8, OrdPair<u64, ()>> = SimpleOrdArena::new(rt.alloc());
+    for key in 1..=3u64 {
+        let _ = a.insert(OrdPair::new(key, ()));
+    }
+    a.set_generation(254);
+    let mut overflowed = 0u8;
+    for taken in a.drain_ordered() {
+        if let InvalidationOption::GenerationOverflow((p, _)) = taken {
+            assert!(rt; overflowed == 0);
+            overflowed = p.inx();
+        }
+    }
+    assert!(rt; (overflowed, a.generation()) == (2, 4));
+}
