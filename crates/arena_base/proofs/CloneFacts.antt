@@ -1,7 +1,6 @@
 -- What follows of a clone: its calls, told of another closure; its pointers; and a clone with the same items.
-use Rattle.std.proofs.Common.{Bool, true, false, cond, eqb, is_some, add-zero, ◌≡◌, ◌⊎◌, inl, inr, ℕ, zero, suc, ◌+◌, ◌-◌, ◌≤◌, ◌<◌, max, List}
-use Rattle.std.proofs.Common.{[], ◌∷◌, ◌++◌, length, map, Option, Some, None, Result, Ok, Err, replicate, take, get_or, refl, sym, ap, ◌∙◌, arith, subst}
-use Rattle.std.proofs.lemmas.Bool.{cases_lt}
+use Rattle.std.proofs.Common.{Bool, true, false, cond, eqb, is_some, ◌≡◌, ℕ, zero, suc, ◌+◌, ◌≤◌, max, List}
+use Rattle.std.proofs.Common.{[], ◌∷◌, ◌++◌, length, map, Option, Some, None, Result, Ok, Err, get_or, refl, sym, ap, ◌∙◌, arith, subst}
 use Rattle.std.proofs.lemmas.List.{append_assoc, append-nil, length-map, map-append, map-id, map_push}
 use Rattle.std.proofs.lemmas.Option.{none-some, same_Some}
 use Rattle.std.specs.List.{FoldsTo}
@@ -10,10 +9,10 @@ use Rattle.std.specs.Result.{OnOk}
 use Rattle.std.specs.declared.alloc.AllocError.{AllocError}
 use Rattle.arena_base.specs.declared.error.ReallocationError.{ReallocationError}
 use Rattle.arena_base.specs.Walk.{entries_from, entries_rising}
-use Rattle.arena_base.specs.Arena.{Arena, FindSame, HoldsSame, item_if, arena_capacity, greatest_occupied, resized}
+use Rattle.arena_base.specs.Arena.{Arena, FindSame, HoldsSame, item_if, arena_capacity, greatest_occupied}
 use Rattle.arena_base.specs.Clone.{CloneStep, HasSamePointers, IsClone, IsRefusedClone, StopsAtRefusal, Grants, with_items, replaced}
 use Rattle.arena_base.proofs.Occupied.{greatest_occupied-above}
-use Rattle.arena_base.proofs.Resizing.{get_or-all_default, get_or-pad}
+use Rattle.arena_base.proofs.Resizing.{resized-same}
 
 -- Calls of one kind are calls of another: `state`, `from` and `to` give the other's states, the items that it is shown and those
 -- that it makes.
@@ -121,24 +120,6 @@ clone-given_back numbers step answers f source old new c =
     let kept = clones-keep numbers step (λ u. u) (λ x. x) answers (entries_rising source 0) f c.last [] c.items c.calls in
     let same = rw (map-id c.items) at kept in
     subst (λ slots. HoldsSame new (replaced source old slots)) (ap (with_items source.slots) same ∙ with_items-same 0 source.slots) c.after
-
--- slots, made so many that no entry is lost, have the same entries
-resized-same : {X : Type 0} (n : ℕ) (slots : List (Option X)) → ((k : ℕ) → n ≤ k → get_or slots k None ≡ None) → (i : ℕ) → get_or (resized n slots) i None ≡ get_or slots i None
-resized-same {X} n slots none i = here (cases_lt i n)
-  where
-    kept : (n m i : ℕ) (slots : List (Option X)) → i < n → get_or (take n slots ++ replicate m None) i None ≡ get_or slots i None
-    kept zero m i slots below = absurd (omega arith)
-    kept (suc n) m i [] below = get_or-all_default m i None
-    kept (suc n) m zero (s ∷ slots) below = refl
-    kept (suc n) m (suc i) (s ∷ slots) below = kept n m i slots (omega arith)
-
-    beyond : (s : Option X) → get_or (resized n slots) i None ≡ s → get_or slots i None ≡ None → s ≡ None
-    beyond None _ free = refl
-    beyond (Some e) is free = absurd (none-some e (sym free ∙ get_or-pad n (n - length slots) slots i e is))
-
-    here : (i < n) ⊎ (n ≤ i) → get_or (resized n slots) i None ≡ get_or slots i None
-    here (inl below) = kept n (n - length slots) i slots below
-    here (inr past) = beyond (get_or (resized n slots) i None) refl (none i past) ∙ sym (none i past)
 
 -- so every pointer finds the same in both
 pub clone-finds : {U : Type 0} (source old new : Arena U) → HoldsSame new (replaced source old source.slots) → FindSame new source

@@ -1,6 +1,6 @@
 -- How far a compression has come.
-use Rattle.std.proofs.Common.{◌≡◌, ℕ, zero, suc, ◌+◌, ◌-◌, ◌≤◌, ◌<◌, List, [], ◌∷◌, ◌++◌, length, map, Option, Some, None, replicate, reverse, count_by, is_some, cond, zero-add, drop, get_or, set, refl, sym, ap, ◌∙◌, arith, subst}
-use Rattle.std.proofs.lemmas.List.{drop_more, drop_all, set_at, get_or_at, append_assoc, map_push, length-map, length-replicate, length-append, map-append, take_all, length_push, length-set, append-nil, get_or_read}
+use Rattle.std.proofs.Common.{◌≡◌, ℕ, zero, suc, ◌+◌, ◌-◌, ◌≤◌, ◌<◌, List, [], ◌∷◌, ◌++◌, length, map, Option, Some, None, replicate, reverse, drop, get_or, set, refl, sym, ap, ◌∙◌, arith, subst}
+use Rattle.std.proofs.lemmas.List.{drop_more, drop_all, set_at, get_or_at, append_assoc, map_push, length-map, length-replicate, length-append, length_push, length-set, append-nil, get_or_read}
 use Rattle.std.proofs.lemmas.Option.{none-some, same_Some}
 use Rattle.std.specs.List.{FoldsTo}
 use Rattle.arena_base.specs.declared.slot.Slot.{Slot}
@@ -8,11 +8,14 @@ use Rattle.arena_base.specs.declared.slot.Slot.TheVariants.{Occupied, Vacant}
 use Rattle.arena_base.specs.Slot.{entry_in, slot_entry, arena_of, vacant_slots}
 use Rattle.arena_base.specs.Walk.{entries_from, entries_rising}
 use Rattle.arena_base.specs.Generation.{IsLawfulGeneration}
-use Rattle.arena_base.specs.Arena.{Arena, HoldsSame, IsSound, IsFresh, vacant_from, resized}
+use Rattle.arena_base.specs.Arena.{Arena, HoldsSame, IsSound, IsFresh, limit_of, resized}
 use Rattle.arena_base.proofs.Positions.{entries}
-use Rattle.arena_base.proofs.Steps.{list-view}
-use Rattle.arena_base.proofs.Vacancies.{length-vacant_from}
-use Rattle.std.proofs.lemmas.List.Sums.{sum_by-cons}
+use Rattle.arena_base.proofs.Resizing.{resized-cons, length-resized, resized-some, entries-padded}
+use Rattle.arena_base.proofs.Steps.{stored, relisted-fresh, relisted-sound}
+use Rattle.std.proofs.lemmas.Simd.{map-map}
+use Rattle.arena_base.specs.declared.arena.Arena.TheInside.{Inside}
+use Rattle.arena_base.specs.declared.ptr.PtrGen.{Ghosts as Generations}
+use Rattle.arena_base.specs.declared.ptr.PtrInx.{Ghosts as Indexes}
 use Rattle.arena_base.specs.Compression.{CompressionStep, IsCompression, compressed, items_rising}
 use Rattle.arena_base.specs.CompressionSlots.{CompressesSlots}
 
@@ -197,86 +200,56 @@ pub compressed-given_back : {P F T : Type 0} (numbers : P → ℕ × ℕ) (step 
 compressed-given_back numbers step g answers f old new h =
     subst (λ items. HoldsSame new (compressed old g items)) (compressed-same numbers step g answers (entries_rising old 0) f h.last h.items [] h.calls) h.after
 
-get_or-compressed : {T : Type 0} (g m : ℕ) (items : List T) (k : ℕ) (e : ℕ × T) → get_or (map (λ item. Some (g, item)) items ++ replicate m None) k None ≡ Some e → e.0 ≡ g
-get_or-compressed g zero [] k e is = absurd (none-some e is)
-get_or-compressed g (suc m) [] zero e is = absurd (none-some e is)
-get_or-compressed g (suc m) [] (suc k) e is = get_or-compressed g m [] k e is
-get_or-compressed g m (x ∷ items) zero e is = let same : ◌≡◌ {A = ℕ × _} (g, x) e = same_Some (g, x) e is in sym (ap (λ (p : ℕ × _). p.0) same)
-get_or-compressed g m (x ∷ items) (suc k) e is = get_or-compressed g m items k e is
-
-module _ {T G : Type 0} (number : G → ℕ) (most : ℕ) (greatest : Option ℕ) (slots next : List (Slot T G)) (generation : G) (maximum : Option ℕ) (stack listed : List ℕ) (all : listed ≡ reverse (vacant_slots 1 next))
-    (items : List T) (fits : length items ≤ length slots) (is : next ≡ map (λ item. Occupied item generation) items ++ replicate (length slots - length items) Vacant) where
-  abbrev now : List (Option (ℕ × T))
-  now = map (λ item. Some (number generation, item)) items ++ replicate (length slots - length items) None
-
-  entries-compressed : entries number next ≡ now
-  entries-compressed =
-      ap (λ ss. entries number ss) is
-      ∙ (map-append (entry_in number) (map (λ item. Occupied item generation) items) (replicate (length slots - length items) Vacant)
-      ∙ (ap (λ front. front ++ map (entry_in number) (replicate (length slots - length items) Vacant)) (twice items)
-      ∙ ap (λ back. map (λ item. Some (number generation, item)) items ++ back) (vacant (length slots - length items))))
-    where
-      twice : (xs : List T) → map (entry_in number) (map (λ item. Occupied item generation) xs) ≡ map (λ item. Some (number generation, item)) xs
-      twice [] = refl
-      twice (x ∷ xs) = ap (λ rest. Some (number generation, x) ∷ rest) (twice xs)
-
-      vacant : (n : ℕ) → map (entry_in {T = T} {G = G} number) (replicate n Vacant) ≡ replicate n None
-      vacant zero = refl
-      vacant (suc n) = ap (λ rest. None ∷ rest) (vacant n)
-
-  pub compressed-view : arena_of number next listed generation maximum ≡ record { slots = None ∷ now; vacant = vacant_from 1 now; generation = number generation; maximum = maximum }
-  compressed-view = list-view number most greatest slots generation maximum stack listed next all now entries-compressed
-
-  pub compressed-fresh : IsFresh (arena_of number next listed generation maximum)
-  compressed-fresh = subst (λ (a : Arena T). IsFresh a) (sym compressed-view) refl
-
-  length-now : length now ≡ length slots
-  length-now = length-append (map (λ item. Some (number generation, item)) items) (replicate (length slots - length items) None)
-      ∙ rw (length-map {B = Option (ℕ × T)} items (λ item. Some (number generation, item)), length-replicate) (omega (arith, fits))
-
-  pub compressed-sound : IsSound most greatest (arena_of number slots stack generation maximum) → IsSound most greatest (arena_of number next listed generation maximum)
-  compressed-sound sound =
-      subst (λ (a : Arena T). IsSound most greatest a) (sym compressed-view) record {
-        begins = refl;
-        within_limit = let within = sound.within_limit in omega (arith, within, length-now, length-map slots (entry_in number));
-        generation_lawful = sound.generation_lawful;
-        entries_lawful = lawful;
-        vacant_listed = λ i. refl;
-        counted = omega (arith, count, length-vacant_from 1 now);
-      }
-    where
-      count : count_by is_some (None ∷ now) ≡ count_by is_some now
-      count = sum_by-cons (λ (x : Option (ℕ × T)). cond (is_some x) 1 0) None now ∙ zero-add (count_by is_some now)
-
-      lawful : (i : ℕ) (e : ℕ × T) → get_or (None ∷ now) i None ≡ Some e → IsLawfulGeneration greatest e.0
-      lawful zero e at = absurd (none-some e at)
-      lawful (suc k) e at = subst (λ n. IsLawfulGeneration greatest n) (sym (get_or-compressed (number generation) (length slots - length items) items k e at)) sound.generation_lawful
+get_or-compressed : {T : Type 0} (g : ℕ) (items : List T) (k : ℕ) (e : ℕ × T) → get_or (map (λ item. Some (g, item)) items) k None ≡ Some e → g ≡ e.0
+get_or-compressed g [] k e is = absurd (none-some e is)
+get_or-compressed g (x ∷ items) zero e is = ap (λ (p : ℕ × _). p.0) (same_Some (g, x) e is)
+get_or-compressed g (x ∷ items) (suc k) e is = get_or-compressed g items k e is
 
 -- the arena of the compressed slots
-pub compressed-after : {P T G F : Type 0} (numbers : P → ℕ × ℕ) (number : G → ℕ) (most : ℕ) (greatest : Option ℕ)
-    (step : F → P → T → P → T → F → Type 0) (slots next : List (Slot T G)) (generation : G) (maximum : Option ℕ) (stack listed : List ℕ)
-    → listed ≡ reverse (vacant_slots 1 next) → (f : F) (a : Arena T) (g : ℕ) → None ∷ entries number slots ≡ a.slots → maximum ≡ a.maximum → number generation ≡ g
-    → CompressesSlots numbers number step generation f slots next → IsCompression numbers step g f a (arena_of number next listed generation maximum)
-compressed-after {P} {T} {G} {F} numbers number most greatest step slots next generation maximum stack listed all f a g same limit named p =
-    let m = length p.items in
-    let n = length slots in
-    let view = compressed-view number most greatest slots next generation maximum stack listed all p.items p.fits p.after in
-    let count : length a.slots ≡ suc n = ap length (sym same) ∙ ap suc (length-map slots (entry_in number)) in
+module _ {T Gen : Type 0} (gen : Generations Gen) (n : ℕ) (next : List (Slot T Gen)) (generation : Gen) (items : List T) (fits : length items ≤ n)
+    (is : next ≡ map (λ item. Occupied item generation) items ++ replicate (n - length items) Vacant) where
+  abbrev made : List (Option (ℕ × T))
+  made = map (λ item. Some (gen.number generation, item)) items
+
+  entries-compressed : entries gen.number next ≡ resized n made
+  entries-compressed =
+      let filled = map (λ item. Occupied item generation) items in
+      let long : length filled ≡ length items = length-map items (λ item. Occupied item generation) in
+      entries-padded gen.number n filled next (rw (← long) at is) (omega arith)
+      ∙ ap (resized n) (map-map (entry_in gen.number) (λ item. Occupied item generation) items)
+
+  module _ {Inx : Type 0} (inx : Indexes Inx) (listed : List Inx) (maximum : Option ℕ) (all : map inx.number listed ≡ reverse (vacant_slots 1 next)) where
+    pub compressed-fresh : IsFresh (arena_of gen.number next (map inx.number listed) generation maximum)
+    compressed-fresh = relisted-fresh gen inx next listed generation maximum all
+
+    pub compressed-sound : IsLawfulGeneration gen.greatest (gen.number generation) → n ≤ limit_of inx.most maximum
+        → IsSound inx.most gen.greatest (arena_of gen.number next (map inx.number listed) generation maximum)
+    compressed-sound lawful within =
+        relisted-sound gen inx next listed generation maximum all
+        (omega (arith, ap length entries-compressed, length-map next (entry_in gen.number), length-resized n made))
+        lawful
+        (λ k e there. rw (get_or-compressed (gen.number generation) items k e
+        (resized-some n made k e (rw entries-compressed at there))) at lawful)
+
+pub compressed-after : {P T A Inx Gen F : Type 0} (numbers : P → ℕ × ℕ) (gen : Generations Gen) (inx : Indexes Inx) (step : F → P → T → P → T → F → Type 0)
+    (s : Inside P T A Inx Gen) (next : List (Slot T Gen)) (listed : List Inx) (f : F) (a : Arena T) (g : ℕ)
+    → stored gen inx s s.slots.items s.vacant.items ≡ record a { generation = g } → CompressesSlots numbers gen.number step s.generation f s.slots.items next
+    → IsCompression numbers step g f a (stored gen inx s next listed)
+compressed-after numbers gen inx step s next listed f a g seen p =
+    let same : None ∷ entries gen.number s.slots.items ≡ a.slots = ap (λ v. v.slots) seen in
+    let named : gen.number s.generation ≡ g = ap (λ v. v.generation) seen in
+    let n = length s.slots.items in
+    let count : n + 1 ≡ length a.slots = omega (arith, ap length same, length-map s.slots.items (entry_in gen.number)) in
     record {
       items = p.items;
       last = p.last;
       calls = rw (← same, ← named) p.calls;
       after = record {
-        slots = ap (λ (v : Arena T). v.slots) view ∙ (ap (λ h. None ∷ (map (λ item. Some (h, item)) p.items ++ replicate (n - m) None)) named ∙ sym (unpadded a.slots g p.items n count p.fits));
+        slots =
+            ap (λ ss. None ∷ ss) (entries-compressed gen n next s.generation p.items p.fits p.after)
+            ∙ (sym (resized-cons n (made gen n next s.generation p.items p.fits p.after))
+            ∙ (ap (λ h. resized (n + 1) (None ∷ map (λ item. Some (h, item)) p.items)) named ∙ ap (λ m. resized m (None ∷ map (λ item. Some (g, item)) p.items)) count));
         generation = named;
-        maximum = limit;
+        maximum = ap (λ v. v.maximum) seen;
       };
     }
-  where
-    unpadded : (ss : List (Option (ℕ × T))) (g : ℕ) (items : List T) (n : ℕ) → length ss ≡ suc n → length items ≤ n
-        → resized {X = ℕ × T} (length ss) (None ∷ map (λ item. Some (g, item)) items) ≡ None ∷ (map (λ item. Some (g, item)) items ++ replicate (n - length items) None)
-    unpadded ss g items n count fits =
-        let xs : List (Option (ℕ × T)) = map (λ item. Some (g, item)) items in
-        let long : length xs ≡ length items = length-map {B = Option (ℕ × T)} items (λ item. Some (g, item)) in
-        let less : suc n - suc (length items) ≡ n - length items = omega arith in
-        rw (count, long, less) (ap (λ front. None ∷ (front ++ replicate (n - length items) None)) (take_all n xs (omega (arith, long, fits))))

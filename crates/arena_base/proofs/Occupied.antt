@@ -12,6 +12,10 @@ use Rattle.arena_base.specs.Pointer.{index_number}
 use Rattle.arena_base.specs.Arena.{greatest_occupied}
 
 module _ {X : Type 0} where
+  -- an entry is counted, a slot without one is not
+  pub count_by-cons : (s : Option X) (slots : List (Option X)) → count_by is_some (s ∷ slots) ≡ cond (is_some s) 1 0 + count_by is_some slots
+  count_by-cons s slots = sum_by-cons (λ x. cond (is_some x) 1 0) s slots
+
   none_past : (slots : List (Option X)) (i : ℕ) → list_any is_some slots ≡ false → get_or slots i None ≡ None
   none_past [] i h = refl
   none_past (None ∷ slots) zero h = refl

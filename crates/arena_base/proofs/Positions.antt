@@ -1,6 +1,7 @@
 -- How the slots in memory are the slots by index.
-use Rattle.std.proofs.Common.{◌≡◌, ◌≢◌, ℕ, zero, suc, drop, ◌+◌, ◌<◌, ◌≤◌, Option, None, List, [], ◌∷◌, ◌++◌, map, length, get_or, set, take, refl, sym, ap, ◌∙◌, arith, add-one}
-use Rattle.std.proofs.lemmas.List.{take_at, take-take, get_or-take, get_or_push, map-set, get_or-map}
+use Rattle.std.proofs.Common.{◌≡◌, ◌≢◌, ℕ, zero, suc, drop, ◌+◌, ◌<◌, ◌≤◌, Option, None, List, [], ◌∷◌, ◌++◌, map, length, get_or, take, refl, sym, ap, ◌∙◌, arith}
+use Rattle.std.proofs.lemmas.List.{take_at, take-take, get_or-take, get_or_push}
+use Rattle.std.proofs.lemmas.Option.{none-some}
 use Rattle.arena_base.specs.declared.slot.Slot.{Slot}
 use Rattle.arena_base.specs.declared.slot.Slot.TheVariants.{Occupied, Vacant}
 use Rattle.arena_base.specs.Slot.{entry_in, vacant_slots}
@@ -11,13 +12,16 @@ module _ {T G : Type 0} (number : G → ℕ) where
   abbrev pub entries : List (Slot T G) → List (Option (ℕ × T))
   entries slots = map (entry_in number) slots
 
-  -- a slot that was read, by its index
-  pub slot-read : (slots : List (Slot T G)) (k : ℕ) (s : Slot T G) → k < length slots → s ≡ get_or slots k s → get_or (None ∷ entries slots) (k + 1) None ≡ entry_in number s
-  slot-read slots k s within is = rw add-one (get_or-map (entry_in number) slots k s None within ∙ ap (entry_in number) (sym is))
+  -- what a slot says by index, also beyond the last
+  pub get_or-entries : (slots : List (Slot T G)) (k : ℕ) → get_or (entries slots) k None ≡ entry_in number (get_or slots k Vacant)
+  get_or-entries [] k = refl
+  get_or-entries (s ∷ slots) zero = refl
+  get_or-entries (s ∷ slots) (suc k) = get_or-entries slots k
 
-  -- a slot that is written
-  pub slots-written : (slots : List (Slot T G)) (k : ℕ) (s : Slot T G) → None ∷ entries (set slots k s) ≡ set (None ∷ entries slots) (k + 1) (entry_in number s)
-  slots-written slots k s = rw add-one (ap (λ rest. None ∷ rest) (map-set (entry_in number) slots k s))
+  -- a slot without an entry
+  pub entry-none : (s : Slot T G) → entry_in number s ≡ None → s ≡ Vacant
+  entry-none (Occupied item era) is = absurd (none-some (number era, item) (sym is))
+  entry-none Vacant is = refl
 
   -- the vacant slots in memory are the vacant ones by index
   pub vacant_slots-from : (from : ℕ) (slots : List (Slot T G)) → vacant_slots from slots ≡ vacant_from from (entries slots)
