@@ -1,16 +1,9 @@
 -- What follows of a clone: its calls, told of another closure; its pointers; and a clone with the same items.
-use Rattle.std.proofs.Common.{Bool, true, false, cond, eqb, is_some, ◌≡◌, ℕ, zero, suc, ◌+◌, ◌≤◌, max, List}
-use Rattle.std.proofs.Common.{[], ◌∷◌, ◌++◌, length, map, Option, Some, None, Result, Ok, Err, get_or, refl, sym, ap, ◌∙◌, arith, subst}
-use Rattle.std.proofs.lemmas.List.{append_assoc, append-nil, length-map, map-append, map-id, map_push}
-use Rattle.std.proofs.lemmas.Option.{none-some, same_Some}
-use Rattle.std.specs.List.{FoldsTo}
-use Rattle.std.specs.Option.{option_map}
-use Rattle.std.specs.Result.{OnOk}
-use Rattle.std.specs.declared.alloc.AllocError.{AllocError}
-use Rattle.arena_base.specs.declared.error.ReallocationError.{ReallocationError}
-use Rattle.arena_base.specs.Walk.{entries_from, entries_rising}
-use Rattle.arena_base.specs.Arena.{Arena, FindSame, HoldsSame, item_if, arena_capacity, greatest_occupied}
-use Rattle.arena_base.specs.Clone.{CloneStep, HasSamePointers, IsClone, IsRefusedClone, StopsAtRefusal, Grants, with_items, replaced}
+use Rattle.arena_base.proofs.Words.{◌≡◌, ℕ, zero, suc, ◌+◌, ◌≤◌, true, Option, Some, None, List, [], ◌∷◌, ◌++◌, cond, eqb, length, get_or, is_some, refl, arith}
+use Rattle.arena_base.proofs.Words.{map, sym, ap, ◌∙◌, subst, false, max, Result, Ok, Err, Bool, map-append, length-map, append_assoc, map_push, append-nil}
+use Rattle.arena_base.proofs.Words.{map-id, none-some, same_Some, FoldsTo, option_map, OnOk, AllocError, ReallocationError, Arena, greatest_occupied, HoldsSame}
+use Rattle.arena_base.proofs.Words.{arena_capacity, FindSame, item_if, CloneStep, IsClone, IsRefusedClone, StopsAtRefusal, Grants, with_items, replaced}
+use Rattle.arena_base.proofs.Words.{HasSamePointers, entries_from, entries_rising}
 use Rattle.arena_base.proofs.Occupied.{greatest_occupied-above}
 use Rattle.arena_base.proofs.Resizing.{resized-same}
 

@@ -1,27 +1,15 @@
 -- How far a clone has come, and the arena that it leaves.
-use Rattle.std.proofs.Common.{◌≡◌, ℕ, zero, suc, ◌+◌, ◌-◌, ◌≤◌, ◌<◌, max, List, [], ◌∷◌, ◌++◌, length, map, Option, Some, None, Result, Ok, Err, replicate, reverse, take, drop, get_or, refl, sym, ap, ◌∙◌, arith, subst}
-use Rattle.std.proofs.lemmas.List.{drop_more, get_or-drop, append_assoc, map_push, length-map, append-nil}
-use Rattle.std.proofs.lemmas.Fn.{FoldsTo-push}
-use Rattle.std.proofs.lemmas.Option.{none-some, same_Some}
-use Rattle.std.specs.List.{FoldsTo}
-use Rattle.std.specs.Result.{OnOk, OnErr}
-use Rattle.std.specs.declared.alloc.AllocError.{AllocError}
-use Rattle.arena_base.specs.declared.slot.Slot.{Slot}
-use Rattle.arena_base.specs.declared.slot.Slot.TheVariants.{Occupied, Vacant}
-use Rattle.arena_base.specs.Slot.{entry_in, arena_of, vacant_slots}
-use Rattle.arena_base.specs.Walk.{entries_from, entries_rising}
-use Rattle.arena_base.specs.Generation.{IsLawfulGeneration}
-use Rattle.arena_base.specs.Arena.{Arena, IsFresh, IsLawful, IsSound, arena_capacity, greatest_occupied, resized, vacant_from}
-use Rattle.arena_base.specs.Clone.{CloneStep, IsClone, IsRefusedClone, StopsAtRefusal, Grants, with_items, replaced}
-use Rattle.arena_base.specs.CloneSlots.{ClonesSlots}
+use Rattle.arena_base.proofs.Words.{◌≡◌, ℕ, zero, suc, ◌+◌, ◌<◌, ◌≤◌, Option, Some, None, List, [], ◌∷◌, ◌++◌, length, get_or, replicate, take, ◌-◌, refl}
+use Rattle.arena_base.proofs.Words.{arith, drop, map, sym, ap, ◌∙◌, subst, reverse, max, Result, Ok, Err, FoldsTo-push, length-map, drop_more, append_assoc}
+use Rattle.arena_base.proofs.Words.{map_push, append-nil, get_or-drop, none-some, same_Some, FoldsTo, OnOk, OnErr, AllocError, Inside, Generations, Indexes}
+use Rattle.arena_base.proofs.Words.{Slot, Occupied, Vacant, vacant_from, Arena, IsSound, resized, greatest_occupied, IsFresh, arena_capacity, IsLawful}
+use Rattle.arena_base.proofs.Words.{CloneStep, IsClone, IsRefusedClone, StopsAtRefusal, Grants, with_items, replaced, ClonesSlots, IsLawfulGeneration, entry_in}
+use Rattle.arena_base.proofs.Words.{vacant_slots, arena_of, entries_from, entries_rising}
 use Rattle.arena_base.proofs.Occupied.{greatest_occupied-above}
 use Rattle.arena_base.proofs.Positions.{entries}
 use Rattle.arena_base.proofs.Resizing.{resized-cons, resized-again, resized-some, length-resized, entries-padded}
 use Rattle.arena_base.proofs.Soundness.{AreLawful}
 use Rattle.arena_base.proofs.Steps.{stored, capacity-is, relisted, relisted-fresh, relisted-sound}
-use Rattle.arena_base.specs.declared.arena.Arena.TheInside.{Inside}
-use Rattle.arena_base.specs.declared.ptr.PtrGen.{Ghosts as Generations}
-use Rattle.arena_base.specs.declared.ptr.PtrInx.{Ghosts as Indexes}
 
 module _ {X : Type 0} where
   -- where no slot has an entry, none is cloned

@@ -1,23 +1,13 @@
 -- How far a compression has come.
-use Rattle.std.proofs.Common.{◌≡◌, ℕ, zero, suc, ◌+◌, ◌-◌, ◌≤◌, ◌<◌, List, [], ◌∷◌, ◌++◌, length, map, Option, Some, None, replicate, reverse, drop, get_or, set, refl, sym, ap, ◌∙◌, arith, subst}
-use Rattle.std.proofs.lemmas.List.{drop_more, drop_all, set_at, get_or_at, append_assoc, map_push, length-map, length-replicate, length-append, length_push, length-set, append-nil, get_or_read}
-use Rattle.std.proofs.lemmas.Option.{none-some, same_Some}
-use Rattle.std.specs.List.{FoldsTo}
-use Rattle.arena_base.specs.declared.slot.Slot.{Slot}
-use Rattle.arena_base.specs.declared.slot.Slot.TheVariants.{Occupied, Vacant}
-use Rattle.arena_base.specs.Slot.{entry_in, slot_entry, arena_of, vacant_slots}
-use Rattle.arena_base.specs.Walk.{entries_from, entries_rising}
-use Rattle.arena_base.specs.Generation.{IsLawfulGeneration}
-use Rattle.arena_base.specs.Arena.{Arena, HoldsSame, IsSound, IsFresh, limit_of, resized}
+use Rattle.arena_base.proofs.Words.{◌≡◌, ℕ, zero, suc, ◌+◌, ◌<◌, ◌≤◌, Option, Some, None, List, [], ◌∷◌, ◌++◌, length, get_or, set, replicate, ◌-◌, refl, arith}
+use Rattle.arena_base.proofs.Words.{drop, map, sym, ap, ◌∙◌, subst, reverse, length-set, length-append, length-map, length-replicate, drop_more, drop_all}
+use Rattle.arena_base.proofs.Words.{set_at, get_or_at, append_assoc, map_push, length_push, append-nil, get_or_read, none-some, same_Some, map-map, FoldsTo}
+use Rattle.arena_base.proofs.Words.{Inside, Generations, Indexes, Slot, Occupied, Vacant, Arena, IsSound, limit_of, resized, HoldsSame, IsFresh}
+use Rattle.arena_base.proofs.Words.{CompressionStep, IsCompression, compressed, items_rising, CompressesSlots, IsLawfulGeneration, entry_in, vacant_slots}
+use Rattle.arena_base.proofs.Words.{arena_of, slot_entry, entries_from, entries_rising}
 use Rattle.arena_base.proofs.Positions.{entries}
 use Rattle.arena_base.proofs.Resizing.{resized-cons, length-resized, resized-some, entries-padded}
 use Rattle.arena_base.proofs.Steps.{stored, relisted-fresh, relisted-sound}
-use Rattle.std.proofs.lemmas.Simd.{map-map}
-use Rattle.arena_base.specs.declared.arena.Arena.TheInside.{Inside}
-use Rattle.arena_base.specs.declared.ptr.PtrGen.{Ghosts as Generations}
-use Rattle.arena_base.specs.declared.ptr.PtrInx.{Ghosts as Indexes}
-use Rattle.arena_base.specs.Compression.{CompressionStep, IsCompression, compressed, items_rising}
-use Rattle.arena_base.specs.CompressionSlots.{CompressesSlots}
 
 module _ {P T G F : Type 0} (numbers : P → ℕ × ℕ) (number : G → ℕ) (step : F → P → T → P → T → F → Type 0) (generation : G) where
   abbrev filled : List T → List (Slot T G)

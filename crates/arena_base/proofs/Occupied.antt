@@ -1,15 +1,8 @@
 -- The greatest index with an entry, and slots of which an entry is read or written.
-use Rattle.std.proofs.Common.{◌≡◌, ℕ, zero, suc, ◌+◌, ◌-◌, ◌<◌, ◌≤◌, true, false, cond, Option, Some, None, unwrap_or, List, [], ◌∷◌, length, get_or, is_some, count_by, refl, sym, ap, ◌∙◌, subst, arith, zero-add, inl, inr}
-use Rattle.std.specs.List.{list_any}
-use Rattle.std.specs.Option.{option_map}
-use Rattle.std.proofs.lemmas.Bool.{false≢true, cases_Bool, ne_eqb}
-use Rattle.std.proofs.lemmas.List.Sums.{sum_by-cons}
-use Rattle.std.proofs.lemmas.Option.{none-some, same_Some}
-use Rattle.arena_base.specs.declared.slot.Slot.{Slot}
-use Rattle.arena_base.specs.declared.slot.Slot.TheVariants.{Occupied, Vacant}
-use Rattle.arena_base.specs.Slot.{entry_in, slot_entry, with_slot_item, with_slot_generation}
-use Rattle.arena_base.specs.Pointer.{index_number}
-use Rattle.arena_base.specs.Arena.{greatest_occupied}
+use Rattle.arena_base.proofs.Words.{inl, inr, ◌≡◌, ℕ, zero, suc, ◌+◌, ◌<◌, ◌≤◌, true, Option, Some, None, List, [], ◌∷◌, cond, length, get_or, is_some}
+use Rattle.arena_base.proofs.Words.{count_by, ◌-◌, refl, arith, sym, ap, ◌∙◌, subst, false, unwrap_or, zero-add, ne_eqb, false≢true, cases_Bool, sum_by-cons}
+use Rattle.arena_base.proofs.Words.{none-some, same_Some, list_any, option_map, Slot, Occupied, Vacant, greatest_occupied, index_number, entry_in, slot_entry}
+use Rattle.arena_base.proofs.Words.{with_slot_item, with_slot_generation}
 
 module _ {X : Type 0} where
   -- an entry is counted, a slot without one is not

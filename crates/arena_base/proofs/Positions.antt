@@ -1,11 +1,7 @@
 -- How the slots in memory are the slots by index.
-use Rattle.std.proofs.Common.{◌≡◌, ◌≢◌, ℕ, zero, suc, drop, ◌+◌, ◌<◌, ◌≤◌, Option, None, List, [], ◌∷◌, ◌++◌, map, length, get_or, take, refl, sym, ap, ◌∙◌, arith}
-use Rattle.std.proofs.lemmas.List.{take_at, take-take, get_or-take, get_or_push}
-use Rattle.std.proofs.lemmas.Option.{none-some}
-use Rattle.arena_base.specs.declared.slot.Slot.{Slot}
-use Rattle.arena_base.specs.declared.slot.Slot.TheVariants.{Occupied, Vacant}
-use Rattle.arena_base.specs.Slot.{entry_in, vacant_slots}
-use Rattle.arena_base.specs.Arena.{vacant_from}
+use Rattle.arena_base.proofs.Words.{◌≡◌, ℕ, zero, suc, ◌+◌, ◌<◌, ◌≤◌, Option, None, List, [], ◌∷◌, ◌++◌, length, get_or, take, refl, arith, ◌≢◌, drop, map, sym}
+use Rattle.arena_base.proofs.Words.{ap, ◌∙◌, take_at, take-take, get_or-take, get_or_push, none-some, Slot, Occupied, Vacant, vacant_from, entry_in}
+use Rattle.arena_base.proofs.Words.{vacant_slots}
 
 module _ {T G : Type 0} (number : G → ℕ) where
   -- the slots by index, from index 1 on

@@ -1,18 +1,10 @@
 -- Changing the number of slots, and emptying them all.
-use Rattle.std.proofs.Common.{inl, inr, ◌≡◌, ◌≢◌, is_some, true, ℕ, zero, suc, ◌+◌, ◌-◌, ◌<◌, ◌≤◌, Option, Some, None, List, [], ◌∷◌, ◌++◌, map, length}
-use Rattle.std.proofs.Common.{get_or, take, drop, replicate, reverse, refl, sym, ap, ◌∙◌, arith, add-one}
-use Rattle.std.proofs.lemmas.Bool.{cases_lt, false≢true}
-use Rattle.std.proofs.lemmas.List.{map-append, take-map, take_all, length-append, length-map, length-replicate, length-take, get_or-take, ext_get_or, get_or_past}
-use Rattle.std.proofs.lemmas.Option.{none-some}
-use lib.LanesLaws.{map-replicate}
-use Rattle.arena_base.specs.declared.slot.Slot.{Slot}
-use Rattle.arena_base.specs.declared.slot.Slot.TheVariants.{Vacant}
-use Rattle.arena_base.specs.declared.arena.Arena.TheInside.{Inside}
-use Rattle.arena_base.specs.declared.ptr.PtrGen.{Ghosts as Generations}
-use Rattle.arena_base.specs.declared.ptr.PtrInx.{Ghosts as Indexes}
-use Rattle.arena_base.specs.Slot.{entry_in, vacant_slots, arena_of, AllVacantFrom}
-use Rattle.arena_base.specs.Generation.{IsLawfulGeneration, first_generation}
-use Rattle.arena_base.specs.Arena.{Arena, IsSound, vacant_from, limit_of, resized, new_arena, with_capacity, emptied, greatest_occupied}
+use Rattle.arena_base.proofs.Words.{inl, inr, ◌≡◌, ℕ, zero, suc, ◌+◌, ◌<◌, ◌≤◌, true, Option, Some, None, List, [], ◌∷◌, ◌++◌, length, get_or, replicate}
+use Rattle.arena_base.proofs.Words.{is_some, take, ◌-◌, refl, arith, ◌≢◌, drop, map, sym, ap, ◌∙◌, add-one, reverse, false≢true, cases_lt, get_or-take}
+use Rattle.arena_base.proofs.Words.{length-append, map-append, take-map, take_all, length-map, length-replicate, length-take, ext_get_or, get_or_past}
+use Rattle.arena_base.proofs.Words.{none-some, map-replicate, Inside, Generations, Indexes, Slot, Vacant, vacant_from, Arena, IsSound, limit_of, resized}
+use Rattle.arena_base.proofs.Words.{new_arena, with_capacity, emptied, greatest_occupied, IsLawfulGeneration, first_generation, entry_in, vacant_slots}
+use Rattle.arena_base.proofs.Words.{arena_of, AllVacantFrom}
 use Rattle.arena_base.proofs.Occupied.{greatest_occupied-above}
 use Rattle.arena_base.proofs.Positions.{entries, get_or-entries, entry-none}
 use Rattle.arena_base.proofs.Vacancies.{length-vacant_from-padded}

@@ -1,12 +1,8 @@
 -- What is true of every arena stays so through each step. The slots here are those from index 1 on.
-use Rattle.std.proofs.Common.{inl, inr, ◌≡◌, ℕ, zero, suc, ◌+◌, ◌<◌, ◌≤◌, Option, Some, None, List, [], ◌∷◌, ◌++◌, cond, length, get_or, set}
-use Rattle.std.proofs.Common.{is_some, true, refl, sym, ap, ◌∙◌, subst, arith, add-one}
-use Rattle.std.proofs.lemmas.Bool.{cases_eq, eq-eqb}
-use Rattle.std.proofs.lemmas.List.{length-set, length-append, get_or-set_same, get_or-set_other}
-use Rattle.std.proofs.lemmas.List.Sums.{sum_by-set}
-use Rattle.std.proofs.lemmas.Option.{none-some, same_Some}
-use Rattle.arena_base.specs.Generation.{IsLawfulGeneration}
-use Rattle.arena_base.specs.Arena.{Arena, IsSound, IsInsertion, vacant_from, times, limit_of}
+use Rattle.arena_base.proofs.Words.{inl, inr, ◌≡◌, ℕ, zero, suc, ◌+◌, ◌<◌, ◌≤◌, true, Option, Some, None, List, [], ◌∷◌, ◌++◌, cond, length, get_or, set}
+use Rattle.arena_base.proofs.Words.{is_some, refl, arith, sym, ap, ◌∙◌, subst, add-one, cases_eq, eq-eqb, length-set, length-append, get_or-set_same}
+use Rattle.arena_base.proofs.Words.{get_or-set_other, sum_by-set, none-some, same_Some, vacant_from, times, Arena, IsSound, IsInsertion, limit_of}
+use Rattle.arena_base.proofs.Words.{IsLawfulGeneration}
 use Rattle.arena_base.proofs.Occupied.{count_by-cons}
 use Rattle.arena_base.proofs.Vacancies.{times-cons, times-append, length-vacant_from, vacant_from-vacant, times-written, vacant_from-least, vacant_from-filled_first, VacantAt}
 

@@ -1,18 +1,10 @@
 -- Each step on the vector of slots and the stack of vacant indexes is the step of the arena that contracts name.
-use Rattle.std.proofs.Common.{inl, inr, ◌≡◌, ℕ, zero, suc, ◌+◌, ◌-◌, ◌<◌, ◌≤◌, true, Option, Some, None, List, [], ◌∷◌, ◌++◌, map, length, slice_get, get_or, set}
-use Rattle.std.proofs.Common.{take, reverse, is_some, refl, sym, ap, ◌∙◌, subst, arith, add-one}
-use Rattle.std.proofs.lemmas.Bool.{false≢true, cases_lt}
-use Rattle.std.proofs.lemmas.Option.{none-some, slice_get_within, get_or_from_slice_get}
-use Rattle.std.proofs.lemmas.List.{take_all, take_more, map_push, map-set, get_or-map, get_or_past, reverse-append, reverse-reverse, length-map}
-use Rattle.std.specs.Option.{option_map}
-use Rattle.arena_base.specs.declared.slot.Slot.{Slot}
-use Rattle.arena_base.specs.declared.slot.Slot.TheVariants.{Occupied, Vacant}
-use Rattle.arena_base.specs.declared.arena.Arena.TheInside.{Inside}
-use Rattle.arena_base.specs.declared.ptr.PtrGen.{Ghosts as Generations}
-use Rattle.arena_base.specs.declared.ptr.PtrInx.{Ghosts as Indexes}
-use Rattle.arena_base.specs.Slot.{entry_in, slot_entry, with_slot_generation, vacant_slots, arena_of}
-use Rattle.arena_base.specs.Generation.{IsLawfulGeneration}
-use Rattle.arena_base.specs.Arena.{Arena, slot, arena_capacity, with_slot, freed, IsFresh, IsSound, IsInsertion, IsVacant, limit_of}
+use Rattle.arena_base.proofs.Words.{inl, inr, ◌≡◌, ℕ, zero, suc, ◌+◌, ◌<◌, ◌≤◌, true, Option, Some, None, List, [], ◌∷◌, ◌++◌, length, get_or, set, is_some}
+use Rattle.arena_base.proofs.Words.{take, ◌-◌, refl, arith, map, sym, ap, ◌∙◌, subst, add-one, reverse, slice_get, false≢true, cases_lt, take_all, length-map}
+use Rattle.arena_base.proofs.Words.{get_or_past, map_push, take_more, map-set, get_or-map, reverse-append, reverse-reverse, none-some, slice_get_within}
+use Rattle.arena_base.proofs.Words.{get_or_from_slice_get, option_map, Inside, Generations, Indexes, Slot, Occupied, Vacant, Arena, IsSound, IsInsertion}
+use Rattle.arena_base.proofs.Words.{limit_of, IsFresh, slot, arena_capacity, with_slot, freed, IsVacant, IsLawfulGeneration, entry_in, vacant_slots, arena_of}
+use Rattle.arena_base.proofs.Words.{slot_entry, with_slot_generation}
 use Rattle.arena_base.proofs.Occupied.{is_some-slot_entry, entry_in-with_slot_generation}
 use Rattle.arena_base.proofs.Positions.{entries, vacant_slots-from}
 use Rattle.arena_base.proofs.Vacancies.{vacant_from-some, VacantAt}

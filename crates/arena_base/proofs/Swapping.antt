@@ -1,16 +1,8 @@
 -- Two entries whose slots change places and whose generations are then put back have exchanged their items.
-use Rattle.std.proofs.Common.{inl, inr, ◌≡◌, ℕ, suc, ◌+◌, ◌<◌, Option, Some, None, List, map, reverse, length, get_or, set, is_some, true, refl, sym, ap, ◌∙◌, arith, add-one}
-use Rattle.std.specs.Option.{option_map}
-use Rattle.std.proofs.lemmas.Bool.{cases_eq}
-use Rattle.std.proofs.lemmas.List.{set-set, set_comm, get_or-set_same, get_or-set_other, get_or_default, length-set, length-map, map-set, get_or-map}
-use Rattle.std.proofs.lemmas.Option.{none-some, same_Some}
-use Rattle.arena_base.specs.declared.slot.Slot.{Slot}
-use Rattle.arena_base.specs.declared.slot.Slot.TheVariants.{Occupied, Vacant}
-use Rattle.arena_base.specs.declared.arena.Arena.TheInside.{Inside}
-use Rattle.arena_base.specs.declared.ptr.PtrGen.{Ghosts as Generations}
-use Rattle.arena_base.specs.declared.ptr.PtrInx.{Ghosts as Indexes}
-use Rattle.arena_base.specs.Slot.{entry_in, slot_entry, with_slot_generation}
-use Rattle.arena_base.specs.Arena.{Arena, swapped}
+use Rattle.arena_base.proofs.Words.{inl, inr, ◌≡◌, ℕ, suc, ◌+◌, ◌<◌, true, Option, Some, None, List, length, get_or, set, is_some, refl, arith, map, sym, ap}
+use Rattle.arena_base.proofs.Words.{◌∙◌, add-one, reverse, cases_eq, length-set, get_or-set_same, get_or-set_other, length-map, map-set, get_or-map, set-set}
+use Rattle.arena_base.proofs.Words.{set_comm, get_or_default, none-some, same_Some, option_map, Inside, Generations, Indexes, Slot, Occupied, Vacant, Arena}
+use Rattle.arena_base.proofs.Words.{swapped, entry_in, slot_entry, with_slot_generation}
 use Rattle.arena_base.proofs.Positions.{entries}
 use Rattle.arena_base.proofs.Soundness.{sound-set, lawful-some}
 use Rattle.arena_base.proofs.Steps.{stored, Sound}

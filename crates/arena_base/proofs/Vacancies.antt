@@ -1,9 +1,7 @@
 -- The vacant indexes of a list of slots: how many there are, what stands at them, and how a write changes them.
-use Rattle.std.proofs.Common.{◌==◌, inl, inr, ◌≡◌, ℕ, zero, suc, ◌+◌, ◌<◌, ◌≤◌, true, Option, Some, None, List, [], ◌∷◌, ◌++◌, cond, eqb}
-use Rattle.std.proofs.Common.{length, get_or, set, replicate, is_some, count_by, take, ◌-◌, refl, arith}
-use Rattle.std.proofs.lemmas.Bool.{cases_eq, ne_eqb, false≢true}
-use Rattle.std.proofs.lemmas.List.Sums.{sum_by-cons, sum_by-append}
-use Rattle.arena_base.specs.Arena.{vacant_from, times}
+use Rattle.arena_base.proofs.Words.{◌==◌, inl, inr, ◌≡◌, ℕ, zero, suc, ◌+◌, ◌<◌, ◌≤◌, true, Option, Some, None, List, [], ◌∷◌, ◌++◌, cond, eqb, length, get_or}
+use Rattle.arena_base.proofs.Words.{set, replicate, is_some, count_by, take, ◌-◌, refl, arith, cases_eq, ne_eqb, false≢true, sum_by-cons, sum_by-append}
+use Rattle.arena_base.proofs.Words.{vacant_from, times}
 use Rattle.arena_base.proofs.Occupied.{count_by-cons}
 
 -- a number in front is counted if it is the one

@@ -1,11 +1,8 @@
 -- One step of a walk by index.
-use Rattle.std.proofs.Common.{◌≡◌, ℕ, cond, suc, ◌+◌, ◌<◌, Option, Some, None, List, [], ◌∷◌, ◌++◌, length, get_or, take, drop, reverse, IsSome, is_some, refl, sym, ap, ◌∙◌, arith}
-use Rattle.std.specs.Option.{option_map}
-use Rattle.std.proofs.lemmas.Option.{none-some, same_Some}
-use Rattle.std.proofs.lemmas.List.{get_or-drop, drop-set-lt, append-nil, take_more, reverse-append, length-take-le}
-use Rattle.std.proofs.lemmas.Bool.{eq-eqb}
-use Rattle.arena_base.specs.Arena.{Arena, slot, generation_at, item_if, item_of, removed}
-use Rattle.arena_base.specs.Walk.{pointers_from, entries_from, entries_rising}
+use Rattle.arena_base.proofs.Words.{◌≡◌, ℕ, suc, ◌+◌, ◌<◌, Option, Some, None, List, [], ◌∷◌, ◌++◌, cond, length, get_or, is_some, take, refl, arith, drop, sym}
+use Rattle.arena_base.proofs.Words.{ap, ◌∙◌, reverse, IsSome, eq-eqb, append-nil, take_more, reverse-append, get_or-drop, drop-set-lt, length-take-le}
+use Rattle.arena_base.proofs.Words.{none-some, same_Some, option_map, Arena, slot, item_if, generation_at, item_of, removed, entries_from, entries_rising}
+use Rattle.arena_base.proofs.Words.{pointers_from}
 use Rattle.arena_base.proofs.Occupied.{entry-from_generation}
 
 module _ {T : Type 0} where

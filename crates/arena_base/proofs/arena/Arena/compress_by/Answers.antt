@@ -1,6 +1,4 @@
-use Rattle.std.proofs.Common.{length, ◌∙◌, arith}
-use Rattle.std.proofs.lemmas.List.{length-map}
-use Rattle.arena_base.specs.Slot.{entry_in}
+use Rattle.arena_base.proofs.Words.{length, arith, ◌∙◌, length-map, entry_in}
 use Rattle.arena_base.proofs.Compressing.{compressed-after, compressed-sound, compressed-fresh}
 use Rattle.arena_base.proofs.arena.Arena.compress_by.Goals as goal
 

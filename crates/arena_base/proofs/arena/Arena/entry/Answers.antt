@@ -1,6 +1,4 @@
-use Rattle.std.proofs.Common.{sym, ap, ◌∙◌, is_some}
-use Rattle.std.proofs.lemmas.Bool.{false≢true}
-use Rattle.arena_base.specs.Slot.{entry_in}
+use Rattle.arena_base.proofs.Words.{is_some, sym, ap, ◌∙◌, false≢true, entry_in}
 use Rattle.arena_base.proofs.Steps.{read}
 use Rattle.arena_base.proofs.arena.Arena.entry.Goals as goal
 

@@ -1,5 +1,4 @@
-use Rattle.std.proofs.Common.{sym, ap, ◌∙◌}
-use Rattle.arena_base.specs.Slot.{entry_in}
+use Rattle.arena_base.proofs.Words.{sym, ap, ◌∙◌, entry_in}
 use Rattle.arena_base.proofs.Steps.{read}
 use Rattle.arena_base.proofs.arena.Arena.get_inx.Goals as goal
 

@@ -1,5 +1,4 @@
-use Rattle.std.proofs.Common.{◌≡◌, unwrap_or, refl, sym, ap, ◌∙◌}
-use Rattle.arena_base.specs.Arena.{slot}
+use Rattle.arena_base.proofs.Words.{◌≡◌, refl, sym, ap, ◌∙◌, unwrap_or, slot}
 use Rattle.arena_base.proofs.Occupied.{entry-from_generation, greatest_occupied-is, greatest_occupied-none, unwrap_or-index_number}
 use Rattle.arena_base.proofs.arena.Arena.greatest_occupied.Goals as goal
 

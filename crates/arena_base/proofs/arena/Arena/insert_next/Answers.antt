@@ -1,4 +1,4 @@
-use Rattle.std.proofs.Common.{ℕ, ap, arith}
+use Rattle.arena_base.proofs.Words.{ℕ, arith, ap}
 use Rattle.arena_base.proofs.Steps.{top-above, top-within, put-sound, insertion}
 use Rattle.arena_base.proofs.arena.Arena.insert_next.Goals as goal
 

@@ -1,7 +1,4 @@
-use Rattle.std.proofs.Common.{◌≡◌, ◌+◌, ◌-◌, ℕ, None, ◌∷◌, sym, ap, ◌∙◌, arith}
-use Rattle.std.specs.Option.{option_map}
-use Rattle.arena_base.specs.Arena.{generation_at}
-use Rattle.arena_base.specs.Walk.{falling_from}
+use Rattle.arena_base.proofs.Words.{◌≡◌, ℕ, ◌+◌, None, ◌∷◌, ◌-◌, arith, sym, ap, ◌∙◌, option_map, generation_at, falling_from}
 use Rattle.arena_base.proofs.Walks.{falling-none, falling-some, item-pointed}
 use Rattle.arena_base.proofs.arena.Arena.last_before.Goals as goal
 

@@ -1,4 +1,4 @@
-use Rattle.std.proofs.Common.{ℕ, sym, ap}
+use Rattle.arena_base.proofs.Words.{ℕ, sym, ap}
 use Rattle.arena_base.proofs.Steps.{stack-top, top-vacant}
 use Rattle.arena_base.proofs.arena.Arena.next_insertion_ptr.Goals as goal
 

@@ -1,6 +1,4 @@
-use Rattle.std.proofs.Common.{◌≡◌, ◌+◌, ◌++◌, ◌-◌, length, replicate, ap, arith, add-one}
-use Rattle.std.proofs.lemmas.List.{length-take}
-use Rattle.arena_base.specs.declared.slot.Slot.TheVariants.{Vacant}
+use Rattle.arena_base.proofs.Words.{◌≡◌, ◌+◌, ◌++◌, length, replicate, ◌-◌, arith, ap, add-one, length-take, Vacant}
 use Rattle.arena_base.proofs.Resizing.{padded-vacant, resized-full, resized-view, resized-sound}
 use Rattle.arena_base.proofs.arena.Arena.set_capacity.Given.{Over}
 use Rattle.arena_base.proofs.arena.Arena.set_capacity.Goals.{After-add_vacant}

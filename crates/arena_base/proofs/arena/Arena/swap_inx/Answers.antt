@@ -1,4 +1,4 @@
-use Rattle.std.proofs.Common.{arith}
+use Rattle.arena_base.proofs.Words.{arith}
 use Rattle.arena_base.proofs.Steps.{read-occupied, capacity-is}
 use Rattle.arena_base.proofs.Swapping.{IsExchange, swapped-view, swapped-sound}
 use Rattle.arena_base.proofs.arena.Arena.swap_inx.Given.{Over}

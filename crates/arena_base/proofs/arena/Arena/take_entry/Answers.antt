@@ -1,4 +1,4 @@
-use Rattle.std.proofs.Common.{refl, ◌∙◌, arith}
+use Rattle.arena_base.proofs.Words.{refl, arith, ◌∙◌}
 use Rattle.arena_base.proofs.Occupied.{entry_in-slot_entry}
 use Rattle.arena_base.proofs.Steps.{read, read-occupied, taken, taken-sound}
 use Rattle.arena_base.proofs.arena.Arena.take_entry.Goals as goal

@@ -1,9 +1,4 @@
-use Rattle.std.proofs.Common.{◌-◌, ◌≤◌, length, replicate, sym, ap, ◌∙◌, arith}
-use Rattle.std.proofs.lemmas.List.{length-append, length-replicate}
-use Rattle.std.proofs.lemmas.Option.{same_Some}
-use Rattle.std.specs.Option.{option_map}
-use Rattle.arena_base.specs.declared.slot.Slot.{Slot}
-use Rattle.arena_base.specs.declared.slot.Slot.TheVariants.{Vacant}
+use Rattle.arena_base.proofs.Words.{◌≤◌, length, replicate, ◌-◌, arith, sym, ap, ◌∙◌, length-append, length-replicate, same_Some, option_map, Slot, Vacant}
 use Rattle.arena_base.proofs.Cloning.{clone-sound, clone-whole, clone-refused}
 use Rattle.arena_base.proofs.Steps.{capacity-is, relisted-fresh}
 use Rattle.arena_base.proofs.arena.Arena.take_over.Goals as goal

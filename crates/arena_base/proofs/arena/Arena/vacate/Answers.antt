@@ -1,7 +1,4 @@
-use Rattle.std.proofs.Common.{◌-◌, length, ap, arith}
-use Rattle.std.proofs.lemmas.List.{length-replicate}
-use Rattle.arena_base.specs.declared.slot.Slot.{Slot}
-use Rattle.arena_base.specs.declared.slot.Slot.TheVariants.{Vacant}
+use Rattle.arena_base.proofs.Words.{length, ◌-◌, arith, ap, length-replicate, Slot, Vacant}
 use Rattle.arena_base.proofs.Resizing.{emptied-view, emptied-sound}
 use Rattle.arena_base.proofs.arena.Arena.vacate.Goals as goal
 

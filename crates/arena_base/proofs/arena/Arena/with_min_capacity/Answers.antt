@@ -1,4 +1,4 @@
-use Rattle.std.proofs.Common.{arith}
+use Rattle.arena_base.proofs.Words.{arith}
 use Rattle.arena_base.proofs.Resizing.{made-length, made-view, made-sound}
 use Rattle.arena_base.proofs.arena.Arena.with_min_capacity.Goals as goal
 

@@ -1,6 +1,4 @@
-use Rattle.std.proofs.Common.{ℕ, ◌+◌, ◌<◌, length, refl, sym, ap, ◌∙◌, arith}
-use Rattle.arena_base.specs.Arena.{slot}
-use Rattle.arena_base.specs.Clone.{Grants}
+use Rattle.arena_base.proofs.Words.{ℕ, ◌+◌, ◌<◌, length, refl, arith, sym, ap, ◌∙◌, slot, Grants}
 use Rattle.arena_base.proofs.Cloning.{cloned-begins, cloned-vacant, cloned-entry, cloned-ends, cloned-refused}
 use Rattle.arena_base.proofs.Occupied.{greatest_occupied-below}
 use Rattle.arena_base.proofs.arena.clone.clone_slots.Goals.{in-Some+in-Ok, in-None}

@@ -1,4 +1,4 @@
-use Rattle.std.proofs.Common.{◌<◌, length, get_or, set, refl, sym, ap, ◌∙◌, rules, arith}
+use Rattle.arena_base.proofs.Words.{◌<◌, length, get_or, set, refl, arith, sym, ap, ◌∙◌, rules}
 use Rattle.arena_base.proofs.Compressing.{compressed-begins, compressed-vacant, compressed-free, compressed-filled, compressed-ends}
 use Rattle.arena_base.proofs.arena.compress.move_down.Goals.{in-Some, in_default}
 use Rattle.arena_base.proofs.arena.compress.move_down.Goals as goal

@@ -1,8 +1,4 @@
-use Rattle.std.proofs.Common.{◌≡◌, ◌+◌, OnSome, is_some, refl, sym, ap, ◌∙◌, subst}
-use Rattle.arena_base.specs.Arena.{removed}
-use Rattle.arena_base.specs.Generation.{overflows_after}
-use Rattle.arena_base.specs.Invalidation.{has_overflowed}
-use Rattle.arena_base.specs.Walk.{entries_rising}
+use Rattle.arena_base.proofs.Words.{◌≡◌, ◌+◌, is_some, refl, sym, ap, ◌∙◌, subst, OnSome, removed, overflows_after, has_overflowed, entries_rising}
 use Rattle.arena_base.proofs.Walks.{entries_rising-first, item_of-there, entries_rising-removed}
 use Rattle.arena_base.proofs.arena.drain.DrainIterator.next.Goals as goal
 

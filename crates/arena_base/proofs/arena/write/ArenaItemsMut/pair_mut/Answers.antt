@@ -1,8 +1,4 @@
-use Rattle.std.proofs.Common.{◌≡◌, ◌+◌, ◌<◌, ℕ, subst, refl, ap, ◌∙◌}
-use Rattle.std.specs.Option.{option_map, ForSome}
-use Rattle.arena_base.specs.Arena.{slot, arena_capacity}
-use Rattle.arena_base.specs.Generation.{IsLawfulGeneration}
-use Rattle.arena_base.specs.Slot.{with_slot_item}
+use Rattle.arena_base.proofs.Words.{◌≡◌, ℕ, ◌+◌, ◌<◌, refl, ap, ◌∙◌, subst, option_map, ForSome, slot, arena_capacity, IsLawfulGeneration, with_slot_item}
 use Rattle.arena_base.proofs.Occupied.{entry_in-parts, item-slot_entry, entry_in-with_slot_item}
 use Rattle.arena_base.proofs.Steps.{read, read-occupied, written, written-sound}
 use Rattle.arena_base.proofs.arena.write.ArenaItemsMut.pair_mut.Given.{Over}
