@@ -1,4 +1,5 @@
 -- What follows of a clone: its calls, told of another closure; its pointers; and a clone with the same items.
+use Rattle.std.proofs.lemmas.Fn.{chained_keeps}
 use Rattle.arena_base.proofs.Words.{◌≡◌, ℕ, zero, suc, ◌+◌, ◌≤◌, true, Option, Some, None, List, [], ◌∷◌, ◌++◌, cond, eqb, length, get_or, is_some, refl, arith}
 use Rattle.arena_base.proofs.Words.{map, sym, ap, ◌∙◌, subst, false, max, Result, Ok, Err, Bool, map-append, length-map, append_assoc, map_push, append-nil}
 use Rattle.arena_base.proofs.Words.{map-id, none-some, same_Some, FoldsTo, option_map, OnOk, AllocError, ReallocationError, Arena, greatest_occupied, HoldsSame}
@@ -91,15 +92,10 @@ module _ {P F W X K : Type 0} (numbers : P → ℕ × ℕ) (step : F → P → W
     (keeps : (f : F) (p : P) (u : W) (x : X) (g : F) → step f p u x g → keep x ≡ see u) where
   pub clones-keep : (es : List (ℕ × ℕ × W)) (f g : F) (xs ys : List X) → FoldsTo {P = F × List X} (CloneStep numbers step) (f, xs) es (g, ys)
       → map keep ys ≡ map keep xs ++ map (λ (e : ℕ × ℕ × W). see e.2) es
-  clones-keep [] f g xs ys same = ap (λ (s : F × List X). map keep s.1) (sym same) ∙ sym (append-nil (map keep xs))
-  clones-keep (e ∷ es) f g xs ys calls =
-      let s = calls.1 in
-      let kept : keep s.item ≡ see e.2 = keeps f s.pointer e.2 s.item calls.0.0 s.called in
-      let rest = map (λ (e : ℕ × ℕ × W). see e.2) es in
-      clones-keep es calls.0.0 g calls.0.1 ys calls.2
-      ∙ (ap (λ zs. map keep zs ++ rest) s.behind
-      ∙ (ap (λ zs. zs ++ rest) (map_push keep xs s.item)
-      ∙ (append_assoc (map keep xs) (keep s.item ∷ []) rest ∙ ap (λ b. map keep xs ++ b ∷ rest) kept)))
+  clones-keep es f g xs ys calls =
+      chained_keeps (CloneStep numbers step) (λ es t. map keep t.1 ≡ map keep xs ++ map (λ (e : ℕ × ℕ × W). see e.2) es)
+      (λ es s e t is called. ap (map keep) called.behind ∙ rw (map_push keep s.1 called.item, is, keeps s.0 called.pointer e.2 called.item t.0 called.called, map_push) (append_assoc (map keep xs) _ _))
+      es (f, xs) (g, ys) (sym (append-nil (map keep xs))) calls
 
 with_items-same : {U : Type 0} (i : ℕ) (slots : List (Option (ℕ × U))) → with_items slots (map (λ e. e.2) (entries_from i slots)) ≡ slots
 with_items-same i [] = refl

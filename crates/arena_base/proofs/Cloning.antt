@@ -40,61 +40,66 @@ module _ {P T U G F : Type 0} (numbers : P → ℕ × ℕ) (number : G → ℕ) 
   cloned-begins f (Some e ∷ source) begins = absurd (cc)
   cloned-begins f (None ∷ source) begins = record { items = []; before = []; split = refl; calls = refl; shape = λ rest. refl }
 
-  module _ (first : F) (source : List (Option (ℕ × U))) (f : F) (slots : List (Slot T G)) (i : ℕ) (b : ClonedBelow first source f slots i) (inside : i < length source) where
+module _ {P T U G F : Type 0} {numbers : P → ℕ × ℕ} {number : G → ℕ} {step : F → P → U → T → F → Type 0} {first : F} {source : List (Option (ℕ × U))}
+    {f : F} {slots : List (Slot T G)} {i : ℕ} (b : ClonedBelow numbers number step first source f slots i) where
+  abbrev copies : List (Option (ℕ × T))
+  copies = map (entry_in number) slots
+
+  pub cloned-ends : greatest_occupied source < i → ClonesSlots numbers number step first source slots
+  cloned-ends past =
+      let none : (k : ℕ) → get_or (drop i source) k None ≡ None = λ k. get_or-drop i source k None ∙ greatest_occupied-above source (i + k) (omega arith) in
+      record {
+        items = b.items;
+        last = f;
+        calls = rw (b.split, entries-none i (drop i source) none, append-nil) b.calls;
+        vacant_behind = length (drop i source);
+        after = ap (with_items source) (sym (append-nil b.items)) ∙ (b.shape [] ∙ ap (λ ss. None ∷ copies ++ ss) (with_items-none (drop i source) none));
+      }
+
+  module _ (inside : i < length source) where
     opened : (s : Option (ℕ × U)) → get_or source i None ≡ s → drop i source ≡ s ∷ drop (i + 1) source
     opened s is = drop_more source i None inside ∙ ap (λ x. x ∷ drop (i + 1) source) is
 
-    behind : (s : Slot T G) (rest : List (Option (ℕ × T))) → None ∷ map (entry_in number) slots ++ entry_in number s ∷ rest ≡ None ∷ map (entry_in number) (slots ++ s ∷ []) ++ rest
-    behind s rest = ap (λ xs. None ∷ xs) (sym (append_assoc (map (entry_in number) slots) (entry_in number s ∷ []) rest) ∙ ap (λ xs. xs ++ rest) (sym (map_push (entry_in number) slots s)))
+    behind : (s : Slot T G) (rest : List (Option (ℕ × T))) → None ∷ copies ++ entry_in number s ∷ rest ≡ None ∷ map (entry_in number) (slots ++ s ∷ []) ++ rest
+    behind s rest = ap (λ xs. None ∷ xs) (rw (map_push (entry_in number) slots s) (sym (append_assoc copies (entry_in number s ∷ []) rest)))
 
-    pub cloned-vacant : get_or source i None ≡ None → ClonedBelow first source f (slots ++ Vacant ∷ []) (i + 1)
+    pub cloned-vacant : get_or source i None ≡ None → ClonedBelow numbers number step first source f (slots ++ Vacant ∷ []) (i + 1)
     cloned-vacant none = record {
       items = b.items;
       before = b.before;
       split = b.split ∙ ap (λ ss. b.before ++ entries_from i ss) (opened None none);
       calls = b.calls;
-      shape = λ rest. b.shape rest ∙ (ap (λ ss. None ∷ map (entry_in number) slots ++ with_items ss rest) (opened None none) ∙ behind Vacant (with_items (drop (i + 1) source) rest));
+      shape = λ rest. b.shape rest ∙ rw (opened None none) (behind Vacant (with_items (drop (i + 1) source) rest));
     }
 
-    pub cloned-entry : (e : G) (u : U) (p : P) (item : T) (next : F) → get_or source i None ≡ Some (number e, u) → (numbers p).0 ≡ i → (numbers p).1 ≡ number e → step f p u item next
-        → ClonedBelow first source next (slots ++ Occupied item e ∷ []) (i + 1)
+    pub cloned-entry : (e : G) (u : U) (p : P) (item : T) (next : F) → get_or source i None ≡ Some (number e, u) → (numbers p).0 ≡ i → (numbers p).1 ≡ number e
+        → step f p u item next → ClonedBelow numbers number step first source next (slots ++ Occupied item e ∷ []) (i + 1)
     cloned-entry e u p item next there p_index p_generation called =
         let made = b.items ++ item ∷ [] in
+        let at = opened (Some (number e, u)) there in
         let stepped : CloneStep numbers step (f, b.items) (i, number e, u) (next, made) =
         record { pointer = p; item = item; index = p_index; generation = p_generation; called = called; behind = refl } in
         record {
           items = made;
           before = b.before ++ (i, number e, u) ∷ [];
-          split = b.split ∙ (ap (λ ss. b.before ++ entries_from i ss) (opened (Some (number e, u)) there) ∙ sym (append_assoc b.before ((i, number e, u) ∷ []) (entries_from (i + 1) (drop (i + 1) source))));
+          split = b.split ∙ rw at (sym (append_assoc b.before ((i, number e, u) ∷ []) (entries_from (i + 1) (drop (i + 1) source))));
           calls = FoldsTo-push {P = F × List T} (CloneStep numbers step) (first, []) b.before (f, b.items) (i, number e, u) (next, made) b.calls stepped;
           shape = λ rest.
-              ap (with_items source) (append_assoc b.items (item ∷ []) rest)
-              ∙ (b.shape (item ∷ rest) ∙ (ap (λ ss. None ∷ map (entry_in number) slots ++ with_items ss (item ∷ rest)) (opened (Some (number e, u)) there) ∙ behind (Occupied item e) (with_items (drop (i + 1) source) rest)));
+              rw (append_assoc b.items (item ∷ []) rest) (b.shape (item ∷ rest) ∙ rw at (behind (Occupied item e) (with_items (drop (i + 1) source) rest)));
         }
 
-  pub cloned-ends : (first : F) (source : List (Option (ℕ × U))) (f : F) (slots : List (Slot T G)) (i : ℕ) → ClonedBelow first source f slots i → greatest_occupied source < i → ClonesSlots numbers number step first source slots
-  cloned-ends first source f slots i b past =
-      let none : (k : ℕ) → get_or (drop i source) k None ≡ None = λ k. get_or-drop i source k None ∙ greatest_occupied-above source (i + k) (omega arith) in
-      record {
-        items = b.items;
-        last = f;
-        calls = subst (λ es. Calls (first, []) es (f, b.items)) (sym (b.split ∙ (ap (λ es. b.before ++ es) (entries-none i (drop i source) none) ∙ append-nil b.before))) b.calls;
-        vacant_behind = length (drop i source);
-        after = ap (with_items source) (sym (append-nil b.items)) ∙ (b.shape [] ∙ ap (λ ss. None ∷ map (entry_in number) slots ++ ss) (with_items-none (drop i source) none));
-      }
-
 -- a call was refused
-pub cloned-refused : {P T U G F : Type 0} (numbers : P → ℕ × ℕ) (number : G → ℕ) (step : F → P → U → Result T AllocError → F → Type 0) (first : F) (source : List (Option (ℕ × U))) (f : F) (slots : List (Slot T G)) (i : ℕ)
-    → ClonedBelow numbers number (Grants numbers step) first source f slots i → i < length source
+pub cloned-refused : {P T U G F : Type 0} {numbers : P → ℕ × ℕ} {number : G → ℕ} {step : F → P → U → Result T AllocError → F → Type 0} {first : F}
+    {source : List (Option (ℕ × U))} {f : F} {slots : List (Slot T G)} {i : ℕ} → ClonedBelow numbers number (Grants numbers step) first source f slots i → i < length source
     → (e : ℕ) (u : U) (p : P) (refusal : AllocError) (next : F) → get_or source i None ≡ Some (e, u) → (numbers p).0 ≡ i → (numbers p).1 ≡ e → step f p u (Err refusal) next
     → StopsAtRefusal numbers step first (entries_from 0 source)
-cloned-refused numbers number step first source f slots i b inside e u p refusal next there p_index p_generation called = record {
+cloned-refused {source = source} {i = i} b inside e u p refusal next there p_index p_generation called = record {
   before = b.before;
   refused = (i, e, u);
   behind = entries_from (i + 1) (drop (i + 1) source);
-  split = b.split ∙ ap (λ ss. b.before ++ entries_from i ss) (drop_more source i None inside ∙ ap (λ x. x ∷ drop (i + 1) source) there);
+  split = b.split ∙ ap (λ ss. b.before ++ entries_from i ss) (opened b inside (Some (e, u)) there);
   items = b.items;
-  reached = f;
+  reached = _;
   calls = b.calls;
   pointer = p;
   index = p_index;

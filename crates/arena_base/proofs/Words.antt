@@ -3,10 +3,10 @@ pub use Rattle.std.proofs.Common.{◌==◌, inl, inr, ◌≡◌, ℕ, zero, suc,
 pub use Rattle.std.proofs.Common.{set, replicate, is_some, count_by, take, ◌-◌, refl, arith, ◌≢◌, drop, map, sym, ap, ◌∙◌, subst, add-one, reverse, false}
 pub use Rattle.std.proofs.Common.{unwrap_or, zero-add, slice_get, max, Result, Ok, Err, Bool, IsSome, rules, vec_capacity, vec_len, min, OnSome}
 pub use Rattle.std.proofs.lemmas.Bool.{cases_eq, ne_eqb, false≢true, eq-eqb, cases_lt, cases_Bool, eqb-true}
-pub use Rattle.std.proofs.lemmas.Fn.{FoldsTo-push}
+pub use Rattle.std.proofs.lemmas.Fn.{FoldsTo-push, chained_keeps}
 pub use Rattle.std.proofs.lemmas.List.{take_at, take-take, get_or-take, get_or_push, length-set, length-append, get_or-set_same, get_or-set_other, map-append}
 pub use Rattle.std.proofs.lemmas.List.{take-map, take_all, length-map, length-replicate, length-take, ext_get_or, get_or_past, drop_more, drop_all, set_at}
-pub use Rattle.std.proofs.lemmas.List.{get_or_at, append_assoc, map_push, length_push, append-nil, get_or_read, take_more, map-set, get_or-map, reverse-append}
+pub use Rattle.std.proofs.lemmas.List.{get_or_at, append_assoc, map_push, length_push, append-nil, take_more, map-set, get_or-map, reverse-append}
 pub use Rattle.std.proofs.lemmas.List.{reverse-reverse, get_or-drop, map-id, set-set, set_comm, get_or_default, drop-set-lt, length-take-le, length-reverse}
 pub use Rattle.std.proofs.lemmas.List.{length-drop}
 pub use Rattle.std.proofs.lemmas.List.Sums.{sum_by-cons, sum_by-append, sum_by-set}
