@@ -2,10 +2,10 @@
 use Rattle.std.proofs.lemmas.Fn.{chained_keeps}
 use Rattle.arena_base.proofs.Words.{◌≡◌, ℕ, zero, suc, ◌+◌, ◌≤◌, true, Option, Some, None, List, [], ◌∷◌, ◌++◌, cond, eqb, length, get_or, is_some, refl, arith}
 use Rattle.arena_base.proofs.Words.{map, sym, ap, ◌∙◌, subst, false, max, Result, Ok, Err, Bool, map-append, length-map, append_assoc, map_push, append-nil}
-use Rattle.arena_base.proofs.Words.{map-id, none-some, same_Some, FoldsTo, option_map, OnOk, AllocError, ReallocationError, Arena, greatest_occupied, HoldsSame}
+use Rattle.arena_base.proofs.Words.{map-id, FoldsTo, option_map, OnOk, AllocError, ReallocationError, Arena, greatest_occupied, HoldsSame}
 use Rattle.arena_base.proofs.Words.{arena_capacity, FindSame, item_if, CloneStep, IsClone, IsRefusedClone, StopsAtRefusal, Grants, with_items, replaced}
 use Rattle.arena_base.proofs.Words.{HasSamePointers, entries_from, entries_rising}
-use Rattle.arena_base.proofs.Occupied.{greatest_occupied-above}
+use Rattle.arena_base.proofs.Occupied.{greatest_occupied-above, none-from_generation}
 use Rattle.arena_base.proofs.Resizing.{resized-same}
 
 -- Calls of one kind are calls of another: `state`, `from` and `to` give the other's states, the items that it is shown and those
@@ -133,18 +133,18 @@ module _ {P U T F : Type 0} (numbers : P → ℕ × ℕ) (step : F → P → U �
   with_items-generations i (Some e ∷ slots) (item ∷ items) count zero = refl
   with_items-generations i (Some e ∷ slots) (item ∷ items) count (suc k) = with_items-generations (i + 1) slots items (omega arith) k
 
-is_some-item_if : {T U : Type 0} (g : ℕ) (s : Option (ℕ × T)) (t : Option (ℕ × U)) → option_map (λ (e : ℕ × T). e.0) s ≡ option_map (λ (e : ℕ × U). e.0) t → is_some (item_if g s) ≡ is_some (item_if g t)
-is_some-item_if g None None same = refl
-is_some-item_if g None (Some e) same = absurd (none-some e.0 same)
-is_some-item_if g (Some e) None same = absurd (none-some e.0 (sym same))
-is_some-item_if g (Some e) (Some d) same =
-    same_test (eqb e.0 g) (eqb d.0 g) (ap (λ n. eqb n g) (same_Some e.0 d.0 same))
+-- whether a pointer finds an item is told by the entry's generation
+abbrev has_generation : ℕ → Option ℕ → Bool
+has_generation g None = false
+has_generation g (Some h) = eqb h g
+
+is_some-item_if : {T : Type 0} (g : ℕ) (s : Option (ℕ × T)) → is_some (item_if g s) ≡ has_generation g (option_map (λ (e : ℕ × T). e.0) s)
+is_some-item_if g None = refl
+is_some-item_if g (Some e) = tested (eqb e.0 g)
   where
-    same_test : (b c : Bool) → b ≡ c → is_some (cond b (Some e.1) None) ≡ is_some (cond c (Some d.1) None)
-    same_test true true is = refl
-    same_test false false is = refl
-    same_test true false is = absurd (cc)
-    same_test false true is = absurd (cc)
+    tested : (b : Bool) → is_some (cond b (Some e.1) None) ≡ b
+    tested true = refl
+    tested false = refl
 
 -- its pointers are the source's
 pub clone-pointers : {P U T F : Type 0} (numbers : P → ℕ × ℕ) (step : F → P → U → T → F → Type 0) (f : F) (source : Arena U) (old new : Arena T) → IsClone numbers step f source old new → HasSamePointers new source
@@ -155,12 +155,10 @@ clone-pointers numbers step f source old new c =
     let told = with_items-generations numbers step 0 source.slots c.items (omega (arith, count)) in
     λ p.
     let free : (k : ℕ) → n ≤ k → get_or made k None ≡ None =
-    λ k past. no_generation (get_or made k None) (told k ∙ ap (option_map (λ e. e.0)) (greatest_occupied-above source.slots k (omega arith))) in
-    is_some-item_if p.1 _ _ (ap (option_map (λ e. e.0)) (ap (λ ss. get_or ss p.0 None) c.after.slots ∙ resized-same n made free p.0) ∙ told p.0)
-  where
-    no_generation : {X : Type 0} (s : Option (ℕ × X)) → option_map (λ e. e.0) s ≡ None → s ≡ None
-    no_generation None is = refl
-    no_generation (Some e) is = absurd (none-some e.0 (sym is))
+    λ k past. none-from_generation (get_or made k None) (told k ∙ ap (option_map (λ e. e.0)) (greatest_occupied-above source.slots k (omega arith))) in
+    is_some-item_if p.1 (get_or new.slots p.0 None)
+    ∙ (ap (has_generation p.1) (ap (option_map (λ e. e.0)) (ap (λ ss. get_or ss p.0 None) c.after.slots ∙ resized-same n made free p.0) ∙ told p.0)
+    ∙ sym (is_some-item_if p.1 (get_or source.slots p.0 None)))
 
 pub copy-found : {P U F E : Type 0} (numbers : P → ℕ × ℕ) (step : F → P → U → U → F → Type 0) → ((f : F) (p : P) (u : U) (x : U) (g : F) → step f p u x g → x ≡ u)
     → (r : Result (Unit {0}) E) (f : F) (source old new : Arena U) → OnOk r (IsClone numbers step f source old new) → OnOk r (FindSame new source)

@@ -1,15 +1,11 @@
 -- One step of a walk by index.
 use Rattle.arena_base.proofs.Words.{◌≡◌, ℕ, suc, ◌+◌, ◌<◌, Option, Some, None, List, [], ◌∷◌, ◌++◌, cond, length, get_or, is_some, take, refl, arith, drop, sym}
 use Rattle.arena_base.proofs.Words.{ap, ◌∙◌, reverse, IsSome, eq-eqb, append-nil, take_more, reverse-append, get_or-drop, drop-set-lt, length-take-le}
-use Rattle.arena_base.proofs.Words.{none-some, same_Some, option_map, Arena, slot, item_if, generation_at, item_of, removed, entries_from, entries_rising}
+use Rattle.arena_base.proofs.Words.{same_Some, option_map, Arena, slot, item_if, generation_at, item_of, removed, entries_from, entries_rising}
 use Rattle.arena_base.proofs.Words.{pointers_from}
-use Rattle.arena_base.proofs.Occupied.{entry-from_generation}
+use Rattle.arena_base.proofs.Occupied.{entry-from_generation, none-from_generation}
 
 module _ {T : Type 0} where
-  no_entry : (o : Option (ℕ × T)) → option_map (λ (e : ℕ × T). e.0) o ≡ None → o ≡ None
-  no_entry None is = refl
-  no_entry (Some e) is = absurd (none-some e.0 (sym is))
-
   pointers_from-append : (from : ℕ) (xs ys : List (Option (ℕ × T))) → pointers_from from (xs ++ ys) ≡ pointers_from from xs ++ pointers_from (from + length xs) ys
   pointers_from-append from [] ys = ap (λ n. pointers_from n ys) (omega arith)
   pointers_from-append from (None ∷ xs) ys =
@@ -23,7 +19,7 @@ module _ {T : Type 0} where
   pub falling-none : (slots : List (Option (ℕ × T))) (i k : ℕ) → i ≡ k + 1 → i < length slots → option_map (λ (e : ℕ × T). e.0) (get_or slots i None) ≡ None
       → reverse (pointers_from 0 (take (i + 1) slots)) ≡ reverse (pointers_from 0 (take (k + 1) slots))
   falling-none slots i k next within is =
-      ap (λ ss. reverse (pointers_from 0 ss)) (take_more slots i None within ∙ ap (λ s. take i slots ++ s ∷ []) (no_entry (get_or slots i None) is))
+      ap (λ ss. reverse (pointers_from 0 ss)) (take_more slots i None within ∙ ap (λ s. take i slots ++ s ∷ []) (none-from_generation (get_or slots i None) is))
       ∙ (ap reverse (pointers_from-append 0 (take i slots) (None ∷ []) ∙ append-nil (pointers_from 0 (take i slots)))
       ∙ ap (λ n. reverse (pointers_from 0 (take n slots))) next)
 
