@@ -1,8 +1,7 @@
 -- What follows of a clone: its calls, told of another closure; its pointers; and a clone with the same items.
-use Rattle.std.proofs.lemmas.Fn.{chained_keeps}
 use Rattle.arena_base.proofs.Words.{◌≡◌, ℕ, zero, suc, ◌+◌, ◌≤◌, true, Option, Some, None, List, [], ◌∷◌, ◌++◌, cond, eqb, length, get_or, is_some, refl, arith}
-use Rattle.arena_base.proofs.Words.{map, sym, ap, ◌∙◌, subst, false, max, Result, Ok, Err, Bool, map-append, length-map, append_assoc, map_push, append-nil}
-use Rattle.arena_base.proofs.Words.{map-id, FoldsTo, option_map, OnOk, AllocError, ReallocationError, Arena, greatest_occupied, HoldsSame}
+use Rattle.arena_base.proofs.Words.{map, sym, ap, ◌∙◌, subst, false, max, Result, Ok, Err, Bool, chained_keeps, map-append, length-map, append_assoc, map_push}
+use Rattle.arena_base.proofs.Words.{append-nil, map-id, FoldsTo, option_map, OnOk, AllocError, ReallocationError, Arena, greatest_occupied, HoldsSame}
 use Rattle.arena_base.proofs.Words.{arena_capacity, FindSame, item_if, CloneStep, IsClone, IsRefusedClone, StopsAtRefusal, Grants, with_items, replaced}
 use Rattle.arena_base.proofs.Words.{HasSamePointers, entries_from, entries_rising}
 use Rattle.arena_base.proofs.Occupied.{greatest_occupied-above, none-from_generation}
@@ -10,7 +9,8 @@ use Rattle.arena_base.proofs.Resizing.{resized-same}
 
 -- Calls of one kind are calls of another: `state`, `from` and `to` give the other's states, the items that it is shown and those
 -- that it makes.
-module _ {P W X U T M F : Type 0} (numbers : P → ℕ × ℕ) (below : M → P → W → X → M → Type 0) (above : F → P → U → T → F → Type 0) (state : M → F) (from : W → U) (to : X → T)
+module _ {P W X U T M F : Type 0} (numbers : P → ℕ × ℕ) (below : M → P → W → X → M → Type 0) (above : F → P → U → T → F → Type 0)
+    (state : M → F) (from : W → U) (to : X → T)
     (like : (m : M) (p : P) (w : W) (x : X) (n : M) → below m p w x n → above (state m) p (from w) (to x) (state n)) where
   -- an entry with the item that the other is shown
   abbrev pub reshown : ℕ × ℕ × W → ℕ × ℕ × U
@@ -34,10 +34,12 @@ module _ {P W X U T M F : Type 0} (numbers : P → ℕ × ℕ) (below : M → P 
       )
 
 -- The same of calls the last of which was refused.
-module _ {P W X U T M F : Type 0} (numbers : P → ℕ × ℕ) (below : M → P → W → Result X AllocError → M → Type 0) (above : F → P → U → Result T AllocError → F → Type 0) (state : M → F) (from : W → U) (to : X → T)
+module _ {P W X U T M F : Type 0} (numbers : P → ℕ × ℕ) (below : M → P → W → Result X AllocError → M → Type 0) (above : F → P → U → Result T AllocError → F → Type 0)
+    (state : M → F) (from : W → U) (to : X → T)
     (grants : (m : M) (p : P) (w : W) (x : X) (n : M) → below m p w (Ok x) n → above (state m) p (from w) (Ok (to x)) (state n))
     (refuses : (m : M) (p : P) (w : W) (e : AllocError) (n : M) → below m p w (Err e) n → above (state m) p (from w) (Err e) (state n)) where
-  pub stops-retold : (m : M) (es : List (ℕ × ℕ × W)) → StopsAtRefusal {T = X} numbers below m es → StopsAtRefusal {T = T} numbers above (state m) (map (λ (e : ℕ × ℕ × W). (e.0, e.1, from e.2)) es)
+  pub stops-retold : (m : M) (es : List (ℕ × ℕ × W)) → StopsAtRefusal {T = X} numbers below m es
+      → StopsAtRefusal {T = T} numbers above (state m) (map (λ (e : ℕ × ℕ × W). (e.0, e.1, from e.2)) es)
   stops-retold m es s =
       let told : ℕ × ℕ × W → ℕ × ℕ × U = λ e. (e.0, e.1, from e.2) in
       record {
@@ -59,7 +61,8 @@ module _ {P W X U T M F : Type 0} (numbers : P → ℕ × ℕ) (below : M → P 
 -- the same items, in other states
 module _ {P U T M F : Type 0} (numbers : P → ℕ × ℕ) (below : M → P → U → T → M → Type 0) (above : F → P → U → T → F → Type 0) (state : M → F)
     (like : (m : M) (p : P) (u : U) (x : T) (n : M) → below m p u x n → above (state m) p u x (state n)) where
-  pub clones-restated : (es : List (ℕ × ℕ × U)) (m n : M) (ys : List T) → FoldsTo {P = M × List T} (CloneStep numbers below) (m, []) es (n, ys) → FoldsTo {P = F × List T} (CloneStep numbers above) (state m, []) es (state n, ys)
+  pub clones-restated : (es : List (ℕ × ℕ × U)) (m n : M) (ys : List T) → FoldsTo {P = M × List T} (CloneStep numbers below) (m, []) es (n, ys)
+      → FoldsTo {P = F × List T} (CloneStep numbers above) (state m, []) es (state n, ys)
   clones-restated es m n ys calls =
       let told = clones-retold numbers below above state (λ u. u) (λ x. x) like es m n [] ys calls in
       rw (map-id es, map-id ys) at told
@@ -72,7 +75,8 @@ module _ {P U T M F : Type 0} (numbers : P → ℕ × ℕ) (below : M → P → 
     after = c.after;
   }
 
-  pub clone-restated_ok : (r : Result (Unit {0}) ReallocationError) (m : M) (source : Arena U) (old new : Arena T) → OnOk r (IsClone numbers below m source old new) → OnOk r (IsClone numbers above (state m) source old new)
+  pub clone-restated_ok : (r : Result (Unit {0}) ReallocationError) (m : M) (source : Arena U) (old new : Arena T)
+      → OnOk r (IsClone numbers below m source old new) → OnOk r (IsClone numbers above (state m) source old new)
   clone-restated_ok (Ok x) m source old new c = clone-restated m source old new c
   clone-restated_ok (Err e) m source old new c = tt
 
@@ -147,7 +151,8 @@ is_some-item_if g (Some e) = tested (eqb e.0 g)
     tested false = refl
 
 -- its pointers are the source's
-pub clone-pointers : {P U T F : Type 0} (numbers : P → ℕ × ℕ) (step : F → P → U → T → F → Type 0) (f : F) (source : Arena U) (old new : Arena T) → IsClone numbers step f source old new → HasSamePointers new source
+pub clone-pointers : {P U T F : Type 0} (numbers : P → ℕ × ℕ) (step : F → P → U → T → F → Type 0) (f : F)
+    (source : Arena U) (old new : Arena T) → IsClone numbers step f source old new → HasSamePointers new source
 clone-pointers numbers step f source old new c =
     let n = max (arena_capacity old) (greatest_occupied source.slots) + 1 in
     let made = with_items source.slots c.items in

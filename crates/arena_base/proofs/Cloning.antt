@@ -110,8 +110,8 @@ cloned-refused {source = source} {i = i} b inside e u p refusal next there p_ind
 }
 
 -- an entry with another item has the generation of the source's
-with_items-lawful : {T U : Type 0} (greatest : Option ℕ) (slots : List (Option (ℕ × U))) (items : List T) → ((k : ℕ) (e : ℕ × U) → get_or slots k None ≡ Some e → IsLawfulGeneration greatest e.0)
-    → (k : ℕ) (e : ℕ × T) → get_or (with_items slots items) k None ≡ Some e → IsLawfulGeneration greatest e.0
+with_items-lawful : {T U : Type 0} (greatest : Option ℕ) (slots : List (Option (ℕ × U))) (items : List T)
+    → AreLawful greatest slots → AreLawful greatest (with_items slots items)
 with_items-lawful greatest [] items lawful k e is = absurd (none-some e is)
 with_items-lawful greatest (None ∷ slots) items lawful zero e is = absurd (none-some e is)
 with_items-lawful greatest (None ∷ slots) items lawful (suc k) e is = with_items-lawful greatest slots items (λ j. lawful (suc j)) k e is

@@ -130,7 +130,8 @@ module _ {P T G F : Type 0} {numbers : P → ℕ × ℕ} {number : G → ℕ} {s
           }
 
 -- Calls of one kind are calls of another: `state` and `item` give the other's states and items.
-module _ {P X T M F : Type 0} (numbers : P → ℕ × ℕ) (below : M → P → X → P → X → M → Type 0) (above : F → P → T → P → T → F → Type 0) (g : ℕ) (state : M → F) (item : X → T)
+module _ {P X T M F : Type 0} (numbers : P → ℕ × ℕ) (below : M → P → X → P → X → M → Type 0) (above : F → P → T → P → T → F → Type 0)
+    (g : ℕ) (state : M → F) (item : X → T)
     (like : (m : M) (p : P) (x : X) (q : P) (y : X) (n : M) → below m p x q y n → above (state m) p (item x) q (item y) (state n)) where
   -- an entry with the other's item
   abbrev pub retold : ℕ × ℕ × X → ℕ × ℕ × T
@@ -157,8 +158,8 @@ module _ {P X T M F : Type 0} (numbers : P → ℕ × ℕ) (below : M → P → 
       )
 
 -- the same items, in other states
-pub compression-retold : {P T M F : Type 0} (numbers : P → ℕ × ℕ) (below : M → P → T → P → T → M → Type 0) (above : F → P → T → P → T → F → Type 0) (g : ℕ) (state : M → F)
-    → ((m : M) (p : P) (x : T) (q : P) (y : T) (n : M) → below m p x q y n → above (state m) p x q y (state n))
+pub compression-retold : {P T M F : Type 0} (numbers : P → ℕ × ℕ) (below : M → P → T → P → T → M → Type 0) (above : F → P → T → P → T → F → Type 0)
+    (g : ℕ) (state : M → F) → ((m : M) (p : P) (x : T) (q : P) (y : T) (n : M) → below m p x q y n → above (state m) p x q y (state n))
     → (m : M) (old new : Arena T) → IsCompression numbers below g m old new → IsCompression numbers above g (state m) old new
 compression-retold {P} {T} numbers below above g state like m old new c =
     let es = entries_rising old 0 in

@@ -1,9 +1,8 @@
 -- The greatest index with an entry, and slots of which an entry is read or written.
-use Rattle.arena_base.specs.Arena.{Arena, slot, IsLastEntry}
 use Rattle.arena_base.proofs.Words.{inl, inr, ◌≡◌, ℕ, zero, suc, ◌+◌, ◌<◌, ◌≤◌, true, Option, Some, None, List, [], ◌∷◌, cond, length, get_or, is_some}
-use Rattle.arena_base.proofs.Words.{count_by, ◌-◌, refl, arith, sym, ap, ◌∙◌, subst, false, unwrap_or, ne_eqb, false≢true, cases_Bool, sum_by-cons}
-use Rattle.arena_base.proofs.Words.{none-some, same_Some, list_any, option_map, Slot, Occupied, Vacant, greatest_occupied, index_number, entry_in, slot_entry}
-use Rattle.arena_base.proofs.Words.{with_slot_item, with_slot_generation}
+use Rattle.arena_base.proofs.Words.{count_by, ◌-◌, refl, arith, sym, ap, ◌∙◌, subst, false, unwrap_or, ne_eqb, false≢true, cases_Bool, sum_by-cons, none-some}
+use Rattle.arena_base.proofs.Words.{same_Some, list_any, option_map, Slot, Occupied, Vacant, Arena, greatest_occupied, slot, IsLastEntry, index_number}
+use Rattle.arena_base.proofs.Words.{entry_in, slot_entry, with_slot_item, with_slot_generation}
 
 module _ {X : Type 0} where
   -- an entry is counted, a slot without one is not

@@ -26,7 +26,8 @@ module _ {T G : Type 0} (number : G → ℕ) where
   vacant_slots-from from (Occupied item era ∷ slots) = vacant_slots-from (from + 1) slots
 
 -- the vacant slots stand behind those that have entries
-pub vacant_slots-full : {T G : Type 0} (from full : ℕ) (slots : List (Slot T G)) → ((k : ℕ) → k < full → get_or slots k Vacant ≢ Vacant) → vacant_slots from slots ≡ vacant_slots (from + full) (drop full slots)
+pub vacant_slots-full : {T G : Type 0} (from full : ℕ) (slots : List (Slot T G)) → ((k : ℕ) → k < full → get_or slots k Vacant ≢ Vacant)
+    → vacant_slots from slots ≡ vacant_slots (from + full) (drop full slots)
 vacant_slots-full from zero slots occupied = let same : from ≡ from + 0 = omega arith in ap (λ n. vacant_slots n slots) same
 vacant_slots-full from (suc full) [] occupied = absurd (occupied 0 (omega arith) refl)
 vacant_slots-full from (suc full) (Vacant ∷ slots) occupied = absurd (occupied 0 (omega arith) refl)

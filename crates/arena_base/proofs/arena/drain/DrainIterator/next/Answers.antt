@@ -1,6 +1,5 @@
-use Rattle.arena_base.proofs.Words.{◌≡◌, ◌+◌, Some, ◌∷◌, is_some, refl, sym, ap, ◌∙◌, removed, overflows_after, has_overflowed, entries_rising}
+use Rattle.arena_base.proofs.Words.{◌≡◌, ◌+◌, Some, ◌∷◌, is_some, refl, sym, ap, ◌∙◌, removed, overflows_after, has_overflowed, valid_value, entries_rising}
 use Rattle.arena_base.proofs.Walks.{entries_rising-first, item_of-there, entries_rising-removed}
-use Rattle.arena_base.specs.Invalidation.{valid_value}
 use Rattle.arena_base.proofs.arena.drain.DrainIterator.next.Given.{Over}
 use Rattle.arena_base.proofs.arena.drain.DrainIterator.next.Goals.{After-remove}
 use Rattle.arena_base.proofs.arena.drain.DrainIterator.next.Goals as goal
