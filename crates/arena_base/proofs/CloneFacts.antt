@@ -1,23 +1,16 @@
 -- What follows of a clone: its calls, told of another closure; its pointers; and a clone with the same items.
-use Rattle.std.proofs.Common.{Bool, true, false, cond, eqb, is_some, add-zero, ◌≡◌, ◌⊎◌, inl, inr, ℕ, zero, suc, ◌+◌, ◌-◌, ◌≤◌, ◌<◌, max, List}
-use Rattle.std.proofs.Common.{[], ◌∷◌, ◌++◌, length, map, Option, Some, None, Result, Ok, Err, replicate, take, get_or, refl, sym, ap, ◌∙◌, arith, subst}
-use Rattle.std.proofs.lemmas.Bool.{cases_lt}
-use Rattle.std.proofs.lemmas.List.{append_assoc, append-nil, length-map, map-append, map-id, map_push}
-use Rattle.std.proofs.lemmas.Option.{none-some, same_Some}
-use Rattle.std.specs.List.{FoldsTo}
-use Rattle.std.specs.Option.{option_map}
-use Rattle.std.specs.Result.{OnOk}
-use Rattle.std.specs.declared.alloc.AllocError.{AllocError}
-use Rattle.arena_base.specs.declared.error.ReallocationError.{ReallocationError}
-use Rattle.arena_base.specs.Walk.{entries_from, entries_rising}
-use Rattle.arena_base.specs.Arena.{Arena, FindSame, HoldsSame, item_if, arena_capacity, greatest_occupied, resized}
-use Rattle.arena_base.specs.Clone.{CloneStep, HasSamePointers, IsClone, IsRefusedClone, StopsAtRefusal, Grants, with_items, replaced}
-use Rattle.arena_base.proofs.Occupied.{greatest_occupied-above}
-use Rattle.arena_base.proofs.Resizing.{get_or-all_default, get_or-pad}
+use Rattle.arena_base.proofs.Words.{◌≡◌, ℕ, zero, suc, ◌+◌, ◌≤◌, true, Option, Some, None, List, [], ◌∷◌, ◌++◌, cond, eqb, length, get_or, is_some, refl, arith}
+use Rattle.arena_base.proofs.Words.{map, sym, ap, ◌∙◌, subst, false, max, Result, Ok, Err, Bool, chained_keeps, map-append, length-map, append_assoc, map_push}
+use Rattle.arena_base.proofs.Words.{append-nil, map-id, FoldsTo, option_map, OnOk, AllocError, ReallocationError, Arena, greatest_occupied, HoldsSame}
+use Rattle.arena_base.proofs.Words.{arena_capacity, FindSame, item_if, CloneStep, IsClone, IsRefusedClone, StopsAtRefusal, Grants, with_items, replaced}
+use Rattle.arena_base.proofs.Words.{HasSamePointers, entries_from, entries_rising}
+use Rattle.arena_base.proofs.Occupied.{greatest_occupied-above, none-from_generation}
+use Rattle.arena_base.proofs.Resizing.{resized-same}
 
 -- Calls of one kind are calls of another: `state`, `from` and `to` give the other's states, the items that it is shown and those
 -- that it makes.
-module _ {P W X U T M F : Type 0} (numbers : P → ℕ × ℕ) (below : M → P → W → X → M → Type 0) (above : F → P → U → T → F → Type 0) (state : M → F) (from : W → U) (to : X → T)
+module _ {P W X U T M F : Type 0} (numbers : P → ℕ × ℕ) (below : M → P → W → X → M → Type 0) (above : F → P → U → T → F → Type 0)
+    (state : M → F) (from : W → U) (to : X → T)
     (like : (m : M) (p : P) (w : W) (x : X) (n : M) → below m p w x n → above (state m) p (from w) (to x) (state n)) where
   -- an entry with the item that the other is shown
   abbrev pub reshown : ℕ × ℕ × W → ℕ × ℕ × U
@@ -41,10 +34,12 @@ module _ {P W X U T M F : Type 0} (numbers : P → ℕ × ℕ) (below : M → P 
       )
 
 -- The same of calls the last of which was refused.
-module _ {P W X U T M F : Type 0} (numbers : P → ℕ × ℕ) (below : M → P → W → Result X AllocError → M → Type 0) (above : F → P → U → Result T AllocError → F → Type 0) (state : M → F) (from : W → U) (to : X → T)
+module _ {P W X U T M F : Type 0} (numbers : P → ℕ × ℕ) (below : M → P → W → Result X AllocError → M → Type 0) (above : F → P → U → Result T AllocError → F → Type 0)
+    (state : M → F) (from : W → U) (to : X → T)
     (grants : (m : M) (p : P) (w : W) (x : X) (n : M) → below m p w (Ok x) n → above (state m) p (from w) (Ok (to x)) (state n))
     (refuses : (m : M) (p : P) (w : W) (e : AllocError) (n : M) → below m p w (Err e) n → above (state m) p (from w) (Err e) (state n)) where
-  pub stops-retold : (m : M) (es : List (ℕ × ℕ × W)) → StopsAtRefusal {T = X} numbers below m es → StopsAtRefusal {T = T} numbers above (state m) (map (λ (e : ℕ × ℕ × W). (e.0, e.1, from e.2)) es)
+  pub stops-retold : (m : M) (es : List (ℕ × ℕ × W)) → StopsAtRefusal {T = X} numbers below m es
+      → StopsAtRefusal {T = T} numbers above (state m) (map (λ (e : ℕ × ℕ × W). (e.0, e.1, from e.2)) es)
   stops-retold m es s =
       let told : ℕ × ℕ × W → ℕ × ℕ × U = λ e. (e.0, e.1, from e.2) in
       record {
@@ -66,7 +61,8 @@ module _ {P W X U T M F : Type 0} (numbers : P → ℕ × ℕ) (below : M → P 
 -- the same items, in other states
 module _ {P U T M F : Type 0} (numbers : P → ℕ × ℕ) (below : M → P → U → T → M → Type 0) (above : F → P → U → T → F → Type 0) (state : M → F)
     (like : (m : M) (p : P) (u : U) (x : T) (n : M) → below m p u x n → above (state m) p u x (state n)) where
-  pub clones-restated : (es : List (ℕ × ℕ × U)) (m n : M) (ys : List T) → FoldsTo {P = M × List T} (CloneStep numbers below) (m, []) es (n, ys) → FoldsTo {P = F × List T} (CloneStep numbers above) (state m, []) es (state n, ys)
+  pub clones-restated : (es : List (ℕ × ℕ × U)) (m n : M) (ys : List T) → FoldsTo {P = M × List T} (CloneStep numbers below) (m, []) es (n, ys)
+      → FoldsTo {P = F × List T} (CloneStep numbers above) (state m, []) es (state n, ys)
   clones-restated es m n ys calls =
       let told = clones-retold numbers below above state (λ u. u) (λ x. x) like es m n [] ys calls in
       rw (map-id es, map-id ys) at told
@@ -79,7 +75,8 @@ module _ {P U T M F : Type 0} (numbers : P → ℕ × ℕ) (below : M → P → 
     after = c.after;
   }
 
-  pub clone-restated_ok : (r : Result (Unit {0}) ReallocationError) (m : M) (source : Arena U) (old new : Arena T) → OnOk r (IsClone numbers below m source old new) → OnOk r (IsClone numbers above (state m) source old new)
+  pub clone-restated_ok : (r : Result (Unit {0}) ReallocationError) (m : M) (source : Arena U) (old new : Arena T)
+      → OnOk r (IsClone numbers below m source old new) → OnOk r (IsClone numbers above (state m) source old new)
   clone-restated_ok (Ok x) m source old new c = clone-restated m source old new c
   clone-restated_ok (Err e) m source old new c = tt
 
@@ -99,15 +96,10 @@ module _ {P F W X K : Type 0} (numbers : P → ℕ × ℕ) (step : F → P → W
     (keeps : (f : F) (p : P) (u : W) (x : X) (g : F) → step f p u x g → keep x ≡ see u) where
   pub clones-keep : (es : List (ℕ × ℕ × W)) (f g : F) (xs ys : List X) → FoldsTo {P = F × List X} (CloneStep numbers step) (f, xs) es (g, ys)
       → map keep ys ≡ map keep xs ++ map (λ (e : ℕ × ℕ × W). see e.2) es
-  clones-keep [] f g xs ys same = ap (λ (s : F × List X). map keep s.1) (sym same) ∙ sym (append-nil (map keep xs))
-  clones-keep (e ∷ es) f g xs ys calls =
-      let s = calls.1 in
-      let kept : keep s.item ≡ see e.2 = keeps f s.pointer e.2 s.item calls.0.0 s.called in
-      let rest = map (λ (e : ℕ × ℕ × W). see e.2) es in
-      clones-keep es calls.0.0 g calls.0.1 ys calls.2
-      ∙ (ap (λ zs. map keep zs ++ rest) s.behind
-      ∙ (ap (λ zs. zs ++ rest) (map_push keep xs s.item)
-      ∙ (append_assoc (map keep xs) (keep s.item ∷ []) rest ∙ ap (λ b. map keep xs ++ b ∷ rest) kept)))
+  clones-keep es f g xs ys calls =
+      chained_keeps (CloneStep numbers step) (λ es t. map keep t.1 ≡ map keep xs ++ map (λ (e : ℕ × ℕ × W). see e.2) es)
+      (λ es s e t is called. ap (map keep) called.behind ∙ rw (map_push keep s.1 called.item, is, keeps s.0 called.pointer e.2 called.item t.0 called.called, map_push) (append_assoc (map keep xs) _ _))
+      es (f, xs) (g, ys) (sym (append-nil (map keep xs))) calls
 
 with_items-same : {U : Type 0} (i : ℕ) (slots : List (Option (ℕ × U))) → with_items slots (map (λ e. e.2) (entries_from i slots)) ≡ slots
 with_items-same i [] = refl
@@ -121,24 +113,6 @@ clone-given_back numbers step answers f source old new c =
     let kept = clones-keep numbers step (λ u. u) (λ x. x) answers (entries_rising source 0) f c.last [] c.items c.calls in
     let same = rw (map-id c.items) at kept in
     subst (λ slots. HoldsSame new (replaced source old slots)) (ap (with_items source.slots) same ∙ with_items-same 0 source.slots) c.after
-
--- slots, made so many that no entry is lost, have the same entries
-resized-same : {X : Type 0} (n : ℕ) (slots : List (Option X)) → ((k : ℕ) → n ≤ k → get_or slots k None ≡ None) → (i : ℕ) → get_or (resized n slots) i None ≡ get_or slots i None
-resized-same {X} n slots none i = here (cases_lt i n)
-  where
-    kept : (n m i : ℕ) (slots : List (Option X)) → i < n → get_or (take n slots ++ replicate m None) i None ≡ get_or slots i None
-    kept zero m i slots below = absurd (omega arith)
-    kept (suc n) m i [] below = get_or-all_default m i None
-    kept (suc n) m zero (s ∷ slots) below = refl
-    kept (suc n) m (suc i) (s ∷ slots) below = kept n m i slots (omega arith)
-
-    beyond : (s : Option X) → get_or (resized n slots) i None ≡ s → get_or slots i None ≡ None → s ≡ None
-    beyond None _ free = refl
-    beyond (Some e) is free = absurd (none-some e (sym free ∙ get_or-pad n (n - length slots) slots i e is))
-
-    here : (i < n) ⊎ (n ≤ i) → get_or (resized n slots) i None ≡ get_or slots i None
-    here (inl below) = kept n (n - length slots) i slots below
-    here (inr past) = beyond (get_or (resized n slots) i None) refl (none i past) ∙ sym (none i past)
 
 -- so every pointer finds the same in both
 pub clone-finds : {U : Type 0} (source old new : Arena U) → HoldsSame new (replaced source old source.slots) → FindSame new source
@@ -163,21 +137,22 @@ module _ {P U T F : Type 0} (numbers : P → ℕ × ℕ) (step : F → P → U �
   with_items-generations i (Some e ∷ slots) (item ∷ items) count zero = refl
   with_items-generations i (Some e ∷ slots) (item ∷ items) count (suc k) = with_items-generations (i + 1) slots items (omega arith) k
 
-is_some-item_if : {T U : Type 0} (g : ℕ) (s : Option (ℕ × T)) (t : Option (ℕ × U)) → option_map (λ (e : ℕ × T). e.0) s ≡ option_map (λ (e : ℕ × U). e.0) t → is_some (item_if g s) ≡ is_some (item_if g t)
-is_some-item_if g None None same = refl
-is_some-item_if g None (Some e) same = absurd (none-some e.0 same)
-is_some-item_if g (Some e) None same = absurd (none-some e.0 (sym same))
-is_some-item_if g (Some e) (Some d) same =
-    same_test (eqb e.0 g) (eqb d.0 g) (ap (λ n. eqb n g) (same_Some e.0 d.0 same))
+-- whether a pointer finds an item is told by the entry's generation
+abbrev has_generation : ℕ → Option ℕ → Bool
+has_generation g None = false
+has_generation g (Some h) = eqb h g
+
+is_some-item_if : {T : Type 0} (g : ℕ) (s : Option (ℕ × T)) → is_some (item_if g s) ≡ has_generation g (option_map (λ (e : ℕ × T). e.0) s)
+is_some-item_if g None = refl
+is_some-item_if g (Some e) = tested (eqb e.0 g)
   where
-    same_test : (b c : Bool) → b ≡ c → is_some (cond b (Some e.1) None) ≡ is_some (cond c (Some d.1) None)
-    same_test true true is = refl
-    same_test false false is = refl
-    same_test true false is = absurd (cc)
-    same_test false true is = absurd (cc)
+    tested : (b : Bool) → is_some (cond b (Some e.1) None) ≡ b
+    tested true = refl
+    tested false = refl
 
 -- its pointers are the source's
-pub clone-pointers : {P U T F : Type 0} (numbers : P → ℕ × ℕ) (step : F → P → U → T → F → Type 0) (f : F) (source : Arena U) (old new : Arena T) → IsClone numbers step f source old new → HasSamePointers new source
+pub clone-pointers : {P U T F : Type 0} (numbers : P → ℕ × ℕ) (step : F → P → U → T → F → Type 0) (f : F)
+    (source : Arena U) (old new : Arena T) → IsClone numbers step f source old new → HasSamePointers new source
 clone-pointers numbers step f source old new c =
     let n = max (arena_capacity old) (greatest_occupied source.slots) + 1 in
     let made = with_items source.slots c.items in
@@ -185,12 +160,10 @@ clone-pointers numbers step f source old new c =
     let told = with_items-generations numbers step 0 source.slots c.items (omega (arith, count)) in
     λ p.
     let free : (k : ℕ) → n ≤ k → get_or made k None ≡ None =
-    λ k past. no_generation (get_or made k None) (told k ∙ ap (option_map (λ e. e.0)) (greatest_occupied-above source.slots k (omega arith))) in
-    is_some-item_if p.1 _ _ (ap (option_map (λ e. e.0)) (ap (λ ss. get_or ss p.0 None) c.after.slots ∙ resized-same n made free p.0) ∙ told p.0)
-  where
-    no_generation : {X : Type 0} (s : Option (ℕ × X)) → option_map (λ e. e.0) s ≡ None → s ≡ None
-    no_generation None is = refl
-    no_generation (Some e) is = absurd (none-some e.0 (sym is))
+    λ k past. none-from_generation (get_or made k None) (told k ∙ ap (option_map (λ e. e.0)) (greatest_occupied-above source.slots k (omega arith))) in
+    is_some-item_if p.1 (get_or new.slots p.0 None)
+    ∙ (ap (has_generation p.1) (ap (option_map (λ e. e.0)) (ap (λ ss. get_or ss p.0 None) c.after.slots ∙ resized-same n made free p.0) ∙ told p.0)
+    ∙ sym (is_some-item_if p.1 (get_or source.slots p.0 None)))
 
 pub copy-found : {P U F E : Type 0} (numbers : P → ℕ × ℕ) (step : F → P → U → U → F → Type 0) → ((f : F) (p : P) (u : U) (x : U) (g : F) → step f p u x g → x ≡ u)
     → (r : Result (Unit {0}) E) (f : F) (source old new : Arena U) → OnOk r (IsClone numbers step f source old new) → OnOk r (FindSame new source)

@@ -1,20 +1,13 @@
 -- How far a compression has come.
-use Rattle.std.proofs.Common.{◌≡◌, ℕ, zero, suc, ◌+◌, ◌-◌, ◌≤◌, ◌<◌, List, [], ◌∷◌, ◌++◌, length, map, Option, Some, None, replicate, reverse, count_by, is_some, cond, zero-add, drop, get_or, set, refl, sym, ap, ◌∙◌, arith, subst}
-use Rattle.std.proofs.lemmas.List.{drop_more, drop_all, set_at, get_or_at, append_assoc, map_push, length-map, length-replicate, length-append, map-append, take_all, length_push, length-set, append-nil, get_or_read}
-use Rattle.std.proofs.lemmas.Option.{none-some, same_Some}
-use Rattle.std.specs.List.{FoldsTo}
-use Rattle.arena_base.specs.declared.slot.Slot.{Slot}
-use Rattle.arena_base.specs.declared.slot.Slot.TheVariants.{Occupied, Vacant}
-use Rattle.arena_base.specs.Slot.{entry_in, slot_entry, arena_of, vacant_slots}
-use Rattle.arena_base.specs.Walk.{entries_from, entries_rising}
-use Rattle.arena_base.specs.Generation.{IsLawfulGeneration}
-use Rattle.arena_base.specs.Arena.{Arena, HoldsSame, IsSound, IsFresh, vacant_from, resized}
+use Rattle.arena_base.proofs.Words.{◌≡◌, ℕ, zero, suc, ◌+◌, ◌<◌, ◌≤◌, Option, Some, None, List, [], ◌∷◌, ◌++◌, length, get_or, set, replicate, ◌-◌, refl, arith}
+use Rattle.arena_base.proofs.Words.{drop, map, sym, ap, ◌∙◌, subst, reverse, chained_keeps, length-set, length-append, length-map, length-replicate, drop_more}
+use Rattle.arena_base.proofs.Words.{drop_all, set_at, get_or_at, append_assoc, map_push, length_push, append-nil, map-id, none-some, same_Some, map-map}
+use Rattle.arena_base.proofs.Words.{FoldsTo, Inside, Generations, Indexes, Slot, Occupied, Vacant, Arena, IsSound, limit_of, resized, HoldsSame, IsFresh}
+use Rattle.arena_base.proofs.Words.{CompressionStep, IsCompression, compressed, items_rising, CompressesSlots, IsLawfulGeneration, entry_in, vacant_slots}
+use Rattle.arena_base.proofs.Words.{arena_of, slot_entry, entries_from, entries_rising}
 use Rattle.arena_base.proofs.Positions.{entries}
-use Rattle.arena_base.proofs.Steps.{list-view}
-use Rattle.arena_base.proofs.Vacancies.{length-vacant_from}
-use Rattle.std.proofs.lemmas.List.Sums.{sum_by-cons}
-use Rattle.arena_base.specs.Compression.{CompressionStep, IsCompression, compressed, items_rising}
-use Rattle.arena_base.specs.CompressionSlots.{CompressesSlots}
+use Rattle.arena_base.proofs.Resizing.{resized-cons, length-resized, resized-some, entries-padded}
+use Rattle.arena_base.proofs.Steps.{stored, relisted-fresh, relisted-sound}
 
 module _ {P T G F : Type 0} (numbers : P → ℕ × ℕ) (number : G → ℕ) (step : F → P → T → P → T → F → Type 0) (generation : G) where
   abbrev filled : List T → List (Slot T G)
@@ -42,88 +35,28 @@ module _ {P T G F : Type 0} (numbers : P → ℕ × ℕ) (number : G → ℕ) (s
   pub compressed-begins : (f : F) (old : List (Slot T G)) → CompressedBelow f old f old 0 0
   compressed-begins f old = record { items = []; gap = 0; answers = refl; visited = refl; within = refl; shape = refl; calls = λ s p. p }
 
-  vacated : (gap : ℕ) (rest : List (Slot T G)) → replicate gap Vacant ++ (Vacant ∷ rest) ≡ Vacant ∷ (replicate gap Vacant ++ rest)
-  vacated zero rest = refl
-  vacated (suc n) rest = ap (λ xs. Vacant ∷ xs) (vacated n rest)
+vacated : {X : Type 0} (gap : ℕ) (x : X) (rest : List X) → replicate gap x ++ (x ∷ rest) ≡ x ∷ (replicate gap x ++ rest)
+vacated zero x rest = refl
+vacated (suc n) x rest = ap (λ xs. x ∷ xs) (vacated n x rest)
 
-  entry-none : (s : Slot T G) → slot_entry s ≡ None → s ≡ Vacant
-  entry-none (Occupied item e) is = absurd (none-some (e, item) (sym is))
-  entry-none Vacant is = refl
+entry-none : {T G : Type 0} (s : Slot T G) → slot_entry s ≡ None → s ≡ Vacant
+entry-none (Occupied item e) is = absurd (none-some (e, item) (sym is))
+entry-none Vacant is = refl
 
-  entry-some : (s : Slot T G) (e : G) (item : T) → slot_entry s ≡ Some (e, item) → s ≡ Occupied item e
-  entry-some (Occupied x k) e item is =
-      let same : ◌≡◌ {A = G × T} (k, x) (e, item) = same_Some (k, x) (e, item) is in
-      ap (λ (p : G × T). Occupied p.1 p.0) same
-  entry-some Vacant e item is = absurd (none-some (e, item) is)
+entry-some : {T G : Type 0} (s : Slot T G) (e : G) (item : T) → slot_entry s ≡ Some (e, item) → s ≡ Occupied item e
+entry-some (Occupied x k) e item is = ap (λ (p : _ × _). Occupied p.1 p.0) (same_Some (k, x) (e, item) is)
+entry-some Vacant e item is = absurd (none-some (e, item) is)
 
-  module _ (first : F) (old : List (Slot T G)) (f : F) (slots : List (Slot T G)) (from to : ℕ) (b : CompressedBelow first old f slots from to) (inside : from < length old) where
-    before : List (Slot T G)
-    before = filled b.items ++ replicate b.gap Vacant
+module _ {P T G F : Type 0} {numbers : P → ℕ × ℕ} {number : G → ℕ} {step : F → P → T → P → T → F → Type 0} {generation : G} {first : F}
+    {old : List (Slot T G)} {f : F} {slots : List (Slot T G)} {from to : ℕ} (b : CompressedBelow numbers number step generation first old f slots from to) where
+  abbrev done : List (Slot T G)
+  done = map (λ item. Occupied item generation) b.items
 
-    length-before : length before ≡ from
-    unfolding before
-    length-before = length-append (filled b.items) (replicate b.gap Vacant) ∙ rw (length-map b.items (λ item. Occupied item generation), length-replicate, b.answers) b.visited
+  length-done : length done ≡ to
+  length-done = length-map b.items (λ item. Occupied item generation) ∙ b.answers
 
-    opened : slots ≡ before ++ (get_or old from Vacant ∷ drop (from + 1) old)
-    unfolding before
-    opened = b.shape ∙ rw (drop_more old from Vacant inside) (sym (append_assoc (filled b.items) (replicate b.gap Vacant) _))
-
-    at_from : (now : Slot T G) → now ≡ get_or slots from now → get_or old from Vacant ≡ now
-    at_from now read =
-        let inside_now : from < length slots = omega (arith, b.within, inside) in
-        sym (get_or_at before (get_or old from Vacant) (drop (from + 1) old) Vacant from length-before) ∙ (ap (λ xs. get_or xs from Vacant) (sym opened) ∙ sym (get_or_read slots from now inside_now read Vacant))
-
-    -- the slots once the slot is vacated
-    emptied : set slots from Vacant ≡ filled b.items ++ (Vacant ∷ (replicate b.gap Vacant ++ drop (from + 1) old))
-    unfolding before
-    emptied =
-        ap (λ xs. set xs from Vacant) opened ∙ set_at before _ _ Vacant from length-before
-        ∙ append_assoc (filled b.items) (replicate b.gap Vacant) (Vacant ∷ drop (from + 1) old)
-        ∙ ap (λ xs. filled b.items ++ xs) (vacated b.gap (drop (from + 1) old))
-
-    pub compressed-vacant : (now : Slot T G) → now ≡ get_or slots from now → slot_entry now ≡ None → CompressedBelow first old f (set slots from Vacant) (from + 1) to
-    compressed-vacant now read none =
-        let head : get_or old from Vacant ≡ Vacant = at_from now read ∙ entry-none now none in
-        record {
-          items = b.items;
-          gap = suc b.gap;
-          answers = b.answers;
-          visited = omega (arith, b.visited);
-          within = length-set slots from Vacant ∙ b.within;
-          shape = emptied;
-          calls = λ s p. b.calls s (rw (drop_more old from Vacant inside, head) p);
-        }
-
-    -- the slot that the item comes to is vacant
-    pub compressed-free : (x : Slot T G) → x ≡ get_or (set slots from Vacant) to x → x ≡ Vacant
-    compressed-free x read =
-        let within : to < length (set slots from Vacant) = omega (arith, length-set slots from Vacant, b.within, b.visited, inside) in
-        get_or_read (set slots from Vacant) to x within read Vacant ∙ (ap (λ xs. get_or xs to Vacant) emptied
-        ∙ get_or_at (filled b.items) Vacant (replicate b.gap Vacant ++ drop (from + 1) old) Vacant to (length-map b.items (λ item. Occupied item generation) ∙ b.answers))
-
-    pub compressed-filled : (now : Slot T G) (e : G) (old_item new : T) (p q : P) (next : F) → now ≡ get_or slots from now → slot_entry now ≡ Some (e, old_item)
-        → (numbers p).0 ≡ from + 1 → (numbers p).1 ≡ number e → (numbers q).0 ≡ to + 1 → (numbers q).1 ≡ number generation → step f p old_item q new next
-        → CompressedBelow first old next (set (set slots from Vacant) to (Occupied new generation)) (from + 1) (to + 1)
-    compressed-filled now e old_item new p q next read is p_index p_era q_index q_era called =
-        let head : get_or old from Vacant ≡ Occupied old_item e = at_from now read ∙ entry-some now e old_item is in
-        let more = replicate b.gap Vacant ++ drop (from + 1) old in
-        let put : set (set slots from Vacant) to (Occupied new generation) ≡ filled b.items ++ (Occupied new generation ∷ more) =
-        ap (λ xs. set xs to (Occupied new generation)) emptied ∙ set_at (filled b.items) Vacant more (Occupied new generation) to (length-map b.items (λ item. Occupied item generation) ∙ b.answers) in
-        let stepped : CompressionStep numbers step (number generation) (f, b.items) (from + 1, number e, old_item) (next, b.items ++ new ∷ []) =
-        record { from = p; to = q; item = new; from_index = p_index; from_generation = p_era; to_index = q_index ∙ ap (λ n. n + 1) (sym b.answers); to_generation = q_era; called = called; behind = refl } in
-        record {
-          items = b.items ++ new ∷ [];
-          gap = b.gap;
-          answers = length_push b.items new ∙ ap (λ n. n + 1) b.answers;
-          visited = omega (arith, b.visited);
-          within = length-set (set slots from Vacant) to (Occupied new generation) ∙ (length-set slots from Vacant ∙ b.within);
-          shape = put ∙ rw (map_push (λ item. Occupied item generation) b.items new) (sym (append_assoc (filled b.items) (Occupied new generation ∷ []) more));
-          calls = λ s c. b.calls s (rw (drop_more old from Vacant inside, head) ((next, b.items ++ new ∷ []), stepped, c));
-        }
-
-  pub compressed-ends : (first : F) (old : List (Slot T G)) (f : F) (slots : List (Slot T G)) (from to : ℕ) → CompressedBelow first old f slots from to
-      → length old ≤ from → from ≤ length old → CompressesSlots numbers number step generation first old slots
-  compressed-ends first old f slots from to b past upto =
+  pub compressed-ends : length old ≤ from → from ≤ length old → CompressesSlots numbers number step generation first old slots
+  compressed-ends past upto =
       let none : drop from old ≡ [] = drop_all from old past in
       let gap : b.gap ≡ length old - length b.items = omega (arith, b.answers, b.visited) in
       record {
@@ -131,11 +64,74 @@ module _ {P T G F : Type 0} (numbers : P → ℕ × ℕ) (number : G → ℕ) (s
         last = f;
         calls = b.calls (f, b.items) (rw none refl);
         fits = omega (arith, b.answers, b.visited, upto);
-        after = b.shape ∙ (ap (λ rest. filled b.items ++ (replicate b.gap Vacant ++ rest)) none ∙ (ap (λ xs. filled b.items ++ xs) (append-nil (replicate b.gap Vacant)) ∙ ap (λ n. filled b.items ++ replicate n Vacant) gap));
+        after = b.shape ∙ rw (none, append-nil, gap) refl;
       }
 
+  module _ (inside : from < length old) where
+    abbrev before : List (Slot T G)
+    before = done ++ replicate b.gap Vacant
+
+    length-before : length before ≡ from
+    length-before = omega (arith, b.visited, length-done, length-append done (replicate b.gap Vacant), length-replicate {A = Slot T G} b.gap Vacant)
+
+    opened : slots ≡ before ++ (get_or old from Vacant ∷ drop (from + 1) old)
+    opened = b.shape ∙ rw (drop_more old from Vacant inside) (sym (append_assoc done (replicate b.gap Vacant) _))
+
+    at_from : (now : Slot T G) → now ≡ get_or slots from now → get_or old from Vacant ≡ now
+    at_from now read =
+        sym (get_or_at before (get_or old from Vacant) (drop (from + 1) old) now from length-before) ∙ (ap (λ xs. get_or xs from now) (sym opened) ∙ sym read)
+
+    -- the slots once the slot is vacated
+    emptied : set slots from Vacant ≡ done ++ (Vacant ∷ (replicate b.gap Vacant ++ drop (from + 1) old))
+    emptied =
+        ap (λ xs. set xs from Vacant) opened ∙ set_at before _ _ Vacant from length-before
+        ∙ (append_assoc done (replicate b.gap Vacant) (Vacant ∷ drop (from + 1) old) ∙ ap (λ xs. done ++ xs) (vacated b.gap Vacant (drop (from + 1) old)))
+
+    -- the slot that the item comes to is vacant
+    pub compressed-free : (x : Slot T G) → x ≡ get_or (set slots from Vacant) to x → x ≡ Vacant
+    compressed-free x read = read ∙ (ap (λ xs. get_or xs to x) emptied ∙ get_or_at done Vacant (replicate b.gap Vacant ++ drop (from + 1) old) x to length-done)
+
+    module _ (now : Slot T G) (read : now ≡ get_or slots from now) where
+      pub compressed-vacant : slot_entry now ≡ None → CompressedBelow numbers number step generation first old f (set slots from Vacant) (from + 1) to
+      compressed-vacant none = record {
+        items = b.items;
+        gap = suc b.gap;
+        answers = b.answers;
+        visited = omega (arith, b.visited);
+        within = length-set slots from Vacant ∙ b.within;
+        shape = emptied;
+        calls = λ s p. b.calls s (rw (drop_more old from Vacant inside, at_from now read ∙ entry-none now none) p);
+      }
+
+      pub compressed-filled : (e : G) (was new : T) (p q : P) (next : F) → slot_entry now ≡ Some (e, was) → record { index : (numbers p).0 ≡ from + 1; generation : (numbers p).1 ≡ number e }
+          → record { index : (numbers q).0 ≡ to + 1; generation : (numbers q).1 ≡ number generation } → step f p was q new next
+          → CompressedBelow numbers number step generation first old next (set (set slots from Vacant) to (Occupied new generation)) (from + 1) (to + 1)
+      compressed-filled e was new p q next is old_pointer new_pointer called =
+          let more = replicate b.gap Vacant ++ drop (from + 1) old in
+          let stepped : CompressionStep numbers step (number generation) (f, b.items) (from + 1, number e, was) (next, b.items ++ new ∷ []) = record {
+            from = p;
+            to = q;
+            item = new;
+            from_index = old_pointer.index;
+            from_generation = old_pointer.generation;
+            to_index = rw b.answers new_pointer.index;
+            to_generation = new_pointer.generation;
+            called = called;
+            behind = refl;
+          } in
+          record {
+            items = b.items ++ new ∷ [];
+            gap = b.gap;
+            answers = length_push b.items new ∙ ap (λ n. n + 1) b.answers;
+            visited = omega (arith, b.visited);
+            within = rw (length-set, length-set) b.within;
+            shape = rw (emptied, set_at done Vacant more (Occupied new generation) to length-done, map_push) (sym (append_assoc done (Occupied new generation ∷ []) more));
+            calls = λ s c. b.calls s (rw (drop_more old from Vacant inside, at_from now read ∙ entry-some now e was is) ((next, b.items ++ new ∷ []), stepped, c));
+          }
+
 -- Calls of one kind are calls of another: `state` and `item` give the other's states and items.
-module _ {P X T M F : Type 0} (numbers : P → ℕ × ℕ) (below : M → P → X → P → X → M → Type 0) (above : F → P → T → P → T → F → Type 0) (g : ℕ) (state : M → F) (item : X → T)
+module _ {P X T M F : Type 0} (numbers : P → ℕ × ℕ) (below : M → P → X → P → X → M → Type 0) (above : F → P → T → P → T → F → Type 0)
+    (g : ℕ) (state : M → F) (item : X → T)
     (like : (m : M) (p : P) (x : X) (q : P) (y : X) (n : M) → below m p x q y n → above (state m) p (item x) q (item y) (state n)) where
   -- an entry with the other's item
   abbrev pub retold : ℕ × ℕ × X → ℕ × ℕ × T
@@ -161,13 +157,9 @@ module _ {P X T M F : Type 0} (numbers : P → ℕ × ℕ) (below : M → P → 
         calls-retold es calls.0.0 n calls.0.1 ys calls.2,
       )
 
-map-itself : {X : Type 0} (f : X → X) → ((x : X) → f x ≡ x) → (xs : List X) → map f xs ≡ xs
-map-itself f itself [] = refl
-map-itself f itself (x ∷ xs) = rw (itself x, map-itself f itself xs) refl
-
 -- the same items, in other states
-pub compression-retold : {P T M F : Type 0} (numbers : P → ℕ × ℕ) (below : M → P → T → P → T → M → Type 0) (above : F → P → T → P → T → F → Type 0) (g : ℕ) (state : M → F)
-    → ((m : M) (p : P) (x : T) (q : P) (y : T) (n : M) → below m p x q y n → above (state m) p x q y (state n))
+pub compression-retold : {P T M F : Type 0} (numbers : P → ℕ × ℕ) (below : M → P → T → P → T → M → Type 0) (above : F → P → T → P → T → F → Type 0)
+    (g : ℕ) (state : M → F) → ((m : M) (p : P) (x : T) (q : P) (y : T) (n : M) → below m p x q y n → above (state m) p x q y (state n))
     → (m : M) (old new : Arena T) → IsCompression numbers below g m old new → IsCompression numbers above g (state m) old new
 compression-retold {P} {T} numbers below above g state like m old new c =
     let es = entries_rising old 0 in
@@ -175,108 +167,70 @@ compression-retold {P} {T} numbers below above g state like m old new c =
     record {
       items = c.items;
       last = state c.last;
-      calls = rw (map-itself (λ (e : ℕ × ℕ × T). (e.0, e.1, e.2)) (λ e. refl) es, map-itself (λ (x : T). x) (λ x. refl) c.items) at calls;
+      calls = rw (map-id es, map-id c.items) at calls;
       after = c.after;
     }
 
-module _ {P T F : Type 0} (numbers : P → ℕ × ℕ) (step : F → P → T → P → T → F → Type 0) (g : ℕ) where
-  -- what is made where each answer is the item that was shown
-  pub compressed-same : ((f : F) (p : P) (item : T) (q : P) (new : T) (f' : F) → step f p item q new f' → new ≡ item)
-      → (es : List (ℕ × ℕ × T)) (f last : F) (items before : List T) → FoldsTo {P = F × List T} (CompressionStep numbers step g) (f, before) es (last, items)
-      → items ≡ before ++ map (λ (e : ℕ × ℕ × T). e.2) es
-  compressed-same answers [] f last items before calls = sym (ap (λ (s : F × List T). s.1) calls) ∙ sym (append-nil before)
-  compressed-same answers (e ∷ es) f last items before calls =
-      let s = calls.1 in
-      let same : s.item ≡ e.2 = answers f s.from e.2 s.to s.item calls.0.0 s.called in
-      let more = map (λ (e : ℕ × ℕ × T). e.2) es in
-      compressed-same answers es calls.0.0 last items calls.0.1 calls.2
-      ∙ (ap (λ xs. xs ++ more) s.behind ∙ (append_assoc before (s.item ∷ []) more ∙ ap (λ x. before ++ x ∷ more) same))
-
-pub compressed-given_back : {P F T : Type 0} (numbers : P → ℕ × ℕ) (step : F → P → T → P → T → F → Type 0) (g : ℕ) → ((f : F) (p : P) (item : T) (q : P) (new : T) (f' : F) → step f p item q new f' → new ≡ item)
+-- where each answer is the item that was shown, the items are those that were there
+pub compressed-given_back : {P F T : Type 0} (numbers : P → ℕ × ℕ) (step : F → P → T → P → T → F → Type 0) (g : ℕ)
+    → ((f : F) (p : P) (item : T) (q : P) (new : T) (f' : F) → step f p item q new f' → new ≡ item)
     → (f : F) (old new : Arena T) → IsCompression numbers step g f old new → HoldsSame new (compressed old g (items_rising old))
-compressed-given_back numbers step g answers f old new h =
-    subst (λ items. HoldsSame new (compressed old g items)) (compressed-same numbers step g answers (entries_rising old 0) f h.last h.items [] h.calls) h.after
+compressed-given_back {P} {F} {T} numbers step g answers f old new h =
+    let same = chained_keeps (CompressionStep numbers step g) (λ es t. t.1 ≡ map (λ (e : ℕ × ℕ × T). e.2) es)
+    (λ es s e t is called. called.behind ∙ rw (is, map_push, answers s.0 called.from e.2 called.to called.item t.0 called.called) refl)
+    (entries_rising old 0) (f, []) (h.last, h.items) refl h.calls in
+    subst (λ items. HoldsSame new (compressed old g items)) same h.after
 
-get_or-compressed : {T : Type 0} (g m : ℕ) (items : List T) (k : ℕ) (e : ℕ × T) → get_or (map (λ item. Some (g, item)) items ++ replicate m None) k None ≡ Some e → e.0 ≡ g
-get_or-compressed g zero [] k e is = absurd (none-some e is)
-get_or-compressed g (suc m) [] zero e is = absurd (none-some e is)
-get_or-compressed g (suc m) [] (suc k) e is = get_or-compressed g m [] k e is
-get_or-compressed g m (x ∷ items) zero e is = let same : ◌≡◌ {A = ℕ × _} (g, x) e = same_Some (g, x) e is in sym (ap (λ (p : ℕ × _). p.0) same)
-get_or-compressed g m (x ∷ items) (suc k) e is = get_or-compressed g m items k e is
-
-module _ {T G : Type 0} (number : G → ℕ) (most : ℕ) (greatest : Option ℕ) (slots next : List (Slot T G)) (generation : G) (maximum : Option ℕ) (stack listed : List ℕ) (all : listed ≡ reverse (vacant_slots 1 next))
-    (items : List T) (fits : length items ≤ length slots) (is : next ≡ map (λ item. Occupied item generation) items ++ replicate (length slots - length items) Vacant) where
-  abbrev now : List (Option (ℕ × T))
-  now = map (λ item. Some (number generation, item)) items ++ replicate (length slots - length items) None
-
-  entries-compressed : entries number next ≡ now
-  entries-compressed =
-      ap (λ ss. entries number ss) is
-      ∙ (map-append (entry_in number) (map (λ item. Occupied item generation) items) (replicate (length slots - length items) Vacant)
-      ∙ (ap (λ front. front ++ map (entry_in number) (replicate (length slots - length items) Vacant)) (twice items)
-      ∙ ap (λ back. map (λ item. Some (number generation, item)) items ++ back) (vacant (length slots - length items))))
-    where
-      twice : (xs : List T) → map (entry_in number) (map (λ item. Occupied item generation) xs) ≡ map (λ item. Some (number generation, item)) xs
-      twice [] = refl
-      twice (x ∷ xs) = ap (λ rest. Some (number generation, x) ∷ rest) (twice xs)
-
-      vacant : (n : ℕ) → map (entry_in {T = T} {G = G} number) (replicate n Vacant) ≡ replicate n None
-      vacant zero = refl
-      vacant (suc n) = ap (λ rest. None ∷ rest) (vacant n)
-
-  pub compressed-view : arena_of number next listed generation maximum ≡ record { slots = None ∷ now; vacant = vacant_from 1 now; generation = number generation; maximum = maximum }
-  compressed-view = list-view number most greatest slots generation maximum stack listed next all now entries-compressed
-
-  pub compressed-fresh : IsFresh (arena_of number next listed generation maximum)
-  compressed-fresh = subst (λ (a : Arena T). IsFresh a) (sym compressed-view) refl
-
-  length-now : length now ≡ length slots
-  length-now = length-append (map (λ item. Some (number generation, item)) items) (replicate (length slots - length items) None)
-      ∙ rw (length-map {B = Option (ℕ × T)} items (λ item. Some (number generation, item)), length-replicate) (omega (arith, fits))
-
-  pub compressed-sound : IsSound most greatest (arena_of number slots stack generation maximum) → IsSound most greatest (arena_of number next listed generation maximum)
-  compressed-sound sound =
-      subst (λ (a : Arena T). IsSound most greatest a) (sym compressed-view) record {
-        begins = refl;
-        within_limit = let within = sound.within_limit in omega (arith, within, length-now, length-map slots (entry_in number));
-        generation_lawful = sound.generation_lawful;
-        entries_lawful = lawful;
-        vacant_listed = λ i. refl;
-        counted = omega (arith, count, length-vacant_from 1 now);
-      }
-    where
-      count : count_by is_some (None ∷ now) ≡ count_by is_some now
-      count = sum_by-cons (λ (x : Option (ℕ × T)). cond (is_some x) 1 0) None now ∙ zero-add (count_by is_some now)
-
-      lawful : (i : ℕ) (e : ℕ × T) → get_or (None ∷ now) i None ≡ Some e → IsLawfulGeneration greatest e.0
-      lawful zero e at = absurd (none-some e at)
-      lawful (suc k) e at = subst (λ n. IsLawfulGeneration greatest n) (sym (get_or-compressed (number generation) (length slots - length items) items k e at)) sound.generation_lawful
+get_or-compressed : {T : Type 0} (g : ℕ) (items : List T) (k : ℕ) (e : ℕ × T) → get_or (map (λ item. Some (g, item)) items) k None ≡ Some e → g ≡ e.0
+get_or-compressed g [] k e is = absurd (none-some e is)
+get_or-compressed g (x ∷ items) zero e is = ap (λ (p : ℕ × _). p.0) (same_Some (g, x) e is)
+get_or-compressed g (x ∷ items) (suc k) e is = get_or-compressed g items k e is
 
 -- the arena of the compressed slots
-pub compressed-after : {P T G F : Type 0} (numbers : P → ℕ × ℕ) (number : G → ℕ) (most : ℕ) (greatest : Option ℕ)
-    (step : F → P → T → P → T → F → Type 0) (slots next : List (Slot T G)) (generation : G) (maximum : Option ℕ) (stack listed : List ℕ)
-    → listed ≡ reverse (vacant_slots 1 next) → (f : F) (a : Arena T) (g : ℕ) → None ∷ entries number slots ≡ a.slots → maximum ≡ a.maximum → number generation ≡ g
-    → CompressesSlots numbers number step generation f slots next → IsCompression numbers step g f a (arena_of number next listed generation maximum)
-compressed-after {P} {T} {G} {F} numbers number most greatest step slots next generation maximum stack listed all f a g same limit named p =
-    let m = length p.items in
-    let n = length slots in
-    let view = compressed-view number most greatest slots next generation maximum stack listed all p.items p.fits p.after in
-    let count : length a.slots ≡ suc n = ap length (sym same) ∙ ap suc (length-map slots (entry_in number)) in
+module _ {T Gen : Type 0} (gen : Generations Gen) (n : ℕ) (next : List (Slot T Gen)) (generation : Gen) (items : List T) (fits : length items ≤ n)
+    (is : next ≡ map (λ item. Occupied item generation) items ++ replicate (n - length items) Vacant) where
+  abbrev made : List (Option (ℕ × T))
+  made = map (λ item. Some (gen.number generation, item)) items
+
+  entries-compressed : entries gen.number next ≡ resized n made
+  entries-compressed =
+      let filled = map (λ item. Occupied item generation) items in
+      let long : length filled ≡ length items = length-map items (λ item. Occupied item generation) in
+      entries-padded gen.number n filled next (rw (← long) at is) (omega arith)
+      ∙ ap (resized n) (map-map (entry_in gen.number) (λ item. Occupied item generation) items)
+
+  module _ {Inx : Type 0} (inx : Indexes Inx) (listed : List Inx) (maximum : Option ℕ) (all : map inx.number listed ≡ reverse (vacant_slots 1 next)) where
+    pub compressed-fresh : IsFresh (arena_of gen.number next (map inx.number listed) generation maximum)
+    compressed-fresh = relisted-fresh gen inx next listed generation maximum all
+
+    pub compressed-sound : IsLawfulGeneration gen.greatest (gen.number generation) → n ≤ limit_of inx.most maximum
+        → IsSound inx.most gen.greatest (arena_of gen.number next (map inx.number listed) generation maximum)
+    compressed-sound lawful within =
+        relisted-sound gen inx next listed generation maximum all
+        (omega (arith, ap length entries-compressed, length-map next (entry_in gen.number), length-resized n made))
+        lawful
+        (λ k e there. rw (get_or-compressed (gen.number generation) items k e
+        (resized-some n made k e (rw entries-compressed at there))) at lawful)
+
+pub compressed-after : {P T A Inx Gen F : Type 0} (numbers : P → ℕ × ℕ) (gen : Generations Gen) (inx : Indexes Inx) (step : F → P → T → P → T → F → Type 0)
+    (s : Inside P T A Inx Gen) (next : List (Slot T Gen)) (listed : List Inx) (f : F) (a : Arena T) (g : ℕ)
+    → stored gen inx s s.slots.items s.vacant.items ≡ record a { generation = g } → CompressesSlots numbers gen.number step s.generation f s.slots.items next
+    → IsCompression numbers step g f a (stored gen inx s next listed)
+compressed-after numbers gen inx step s next listed f a g seen p =
+    let same : None ∷ entries gen.number s.slots.items ≡ a.slots = ap (λ v. v.slots) seen in
+    let named : gen.number s.generation ≡ g = ap (λ v. v.generation) seen in
+    let n = length s.slots.items in
+    let count : n + 1 ≡ length a.slots = omega (arith, ap length same, length-map s.slots.items (entry_in gen.number)) in
     record {
       items = p.items;
       last = p.last;
       calls = rw (← same, ← named) p.calls;
       after = record {
-        slots = ap (λ (v : Arena T). v.slots) view ∙ (ap (λ h. None ∷ (map (λ item. Some (h, item)) p.items ++ replicate (n - m) None)) named ∙ sym (unpadded a.slots g p.items n count p.fits));
+        slots =
+            ap (λ ss. None ∷ ss) (entries-compressed gen n next s.generation p.items p.fits p.after)
+            ∙ (sym (resized-cons n (made gen n next s.generation p.items p.fits p.after))
+            ∙ (ap (λ h. resized (n + 1) (None ∷ map (λ item. Some (h, item)) p.items)) named ∙ ap (λ m. resized m (None ∷ map (λ item. Some (g, item)) p.items)) count));
         generation = named;
-        maximum = limit;
+        maximum = ap (λ v. v.maximum) seen;
       };
     }
-  where
-    unpadded : (ss : List (Option (ℕ × T))) (g : ℕ) (items : List T) (n : ℕ) → length ss ≡ suc n → length items ≤ n
-        → resized {X = ℕ × T} (length ss) (None ∷ map (λ item. Some (g, item)) items) ≡ None ∷ (map (λ item. Some (g, item)) items ++ replicate (n - length items) None)
-    unpadded ss g items n count fits =
-        let xs : List (Option (ℕ × T)) = map (λ item. Some (g, item)) items in
-        let long : length xs ≡ length items = length-map {B = Option (ℕ × T)} items (λ item. Some (g, item)) in
-        let less : suc n - suc (length items) ≡ n - length items = omega arith in
-        rw (count, long, less) (ap (λ front. None ∷ (front ++ replicate (n - length items) None)) (take_all n xs (omega (arith, long, fits))))

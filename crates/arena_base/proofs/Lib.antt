@@ -10,3 +10,4 @@ pub mod Steps
 pub mod Swapping
 pub mod Vacancies
 pub mod Walks
+pub mod Words

@@ -1,17 +1,14 @@
 -- The greatest index with an entry, and slots of which an entry is read or written.
-use Rattle.std.proofs.Common.{◌≡◌, ℕ, zero, suc, ◌+◌, ◌-◌, ◌<◌, ◌≤◌, true, false, cond, Option, Some, None, unwrap_or, List, [], ◌∷◌, length, get_or, is_some, count_by, refl, sym, ap, ◌∙◌, subst, arith, zero-add, inl, inr}
-use Rattle.std.specs.List.{list_any}
-use Rattle.std.specs.Option.{option_map}
-use Rattle.std.proofs.lemmas.Bool.{false≢true, cases_Bool, ne_eqb}
-use Rattle.std.proofs.lemmas.List.Sums.{sum_by-cons}
-use Rattle.std.proofs.lemmas.Option.{none-some, same_Some}
-use Rattle.arena_base.specs.declared.slot.Slot.{Slot}
-use Rattle.arena_base.specs.declared.slot.Slot.TheVariants.{Occupied, Vacant}
-use Rattle.arena_base.specs.Slot.{entry_in, slot_entry, with_slot_item, with_slot_generation}
-use Rattle.arena_base.specs.Pointer.{index_number}
-use Rattle.arena_base.specs.Arena.{greatest_occupied}
+use Rattle.arena_base.proofs.Words.{inl, inr, ◌≡◌, ℕ, zero, suc, ◌+◌, ◌<◌, ◌≤◌, true, Option, Some, None, List, [], ◌∷◌, cond, length, get_or, is_some}
+use Rattle.arena_base.proofs.Words.{count_by, ◌-◌, refl, arith, sym, ap, ◌∙◌, subst, false, unwrap_or, ne_eqb, false≢true, cases_Bool, sum_by-cons, none-some}
+use Rattle.arena_base.proofs.Words.{same_Some, list_any, option_map, Slot, Occupied, Vacant, Arena, greatest_occupied, slot, IsLastEntry, index_number}
+use Rattle.arena_base.proofs.Words.{entry_in, slot_entry, with_slot_item, with_slot_generation}
 
 module _ {X : Type 0} where
+  -- an entry is counted, a slot without one is not
+  pub count_by-cons : (s : Option X) (slots : List (Option X)) → count_by is_some (s ∷ slots) ≡ cond (is_some s) 1 0 + count_by is_some slots
+  count_by-cons s slots = sum_by-cons (λ x. cond (is_some x) 1 0) s slots
+
   none_past : (slots : List (Option X)) (i : ℕ) → list_any is_some slots ≡ false → get_or slots i None ≡ None
   none_past [] i h = refl
   none_past (None ∷ slots) zero h = refl
@@ -58,26 +55,25 @@ module _ {X : Type 0} where
   entry-from_generation None g is = absurd (none-some g is)
   entry-from_generation (Some e) g is = (e, refl)
 
+  -- what has none is no entry
+  pub none-from_generation : (o : Option (ℕ × X)) → option_map (λ (e : ℕ × X). e.0) o ≡ None → o ≡ None
+  none-from_generation None is = refl
+  none-from_generation (Some e) is = absurd (none-some e.0 (sym is))
+
   -- it is within the slots
   pub greatest_occupied-below : (slots : List (Option X)) → greatest_occupied slots ≤ length slots - 1
   greatest_occupied-below [] = omega arith
-  greatest_occupied-below (None ∷ []) = omega arith
-  greatest_occupied-below (Some e ∷ []) = omega arith
+  greatest_occupied-below (s ∷ []) = omega arith
   greatest_occupied-below (s ∷ (s' ∷ slots)) =
       let ih = greatest_occupied-below (s' ∷ slots) in
-      elim (cases_Bool (list_any is_some (s' ∷ slots))) [
-        | inl some ↦ subst (λ b. cond b (greatest_occupied (s' ∷ slots) + 1) 0 ≤ suc (suc (length slots)) - 1) (sym some) (omega arith)
-        | inr none ↦ subst (λ b. cond b (greatest_occupied (s' ∷ slots) + 1) 0 ≤ suc (suc (length slots)) - 1) (sym none) (omega arith)
-      ]
+      elim (cases_Bool (list_any is_some (s' ∷ slots))) [ inl some ↦ rw some (omega arith) | inr none ↦ rw none (omega arith) ]
 
   -- where no entry is counted, there is none
   pub none_counted : (slots : List (Option X)) (i : ℕ) → count_by is_some slots ≡ 0 → get_or slots i None ≡ None
   none_counted [] i h = refl
   none_counted (None ∷ slots) zero h = refl
-  none_counted (None ∷ slots) (suc i) h =
-      let step : count_by is_some (None ∷ slots) ≡ 0 + count_by is_some slots = sum_by-cons (λ x. cond (is_some x) 1 0) None slots in none_counted slots i (omega (arith, step))
-  none_counted (Some e ∷ slots) i h =
-      let step : count_by is_some (Some e ∷ slots) ≡ 1 + count_by is_some slots = sum_by-cons (λ x. cond (is_some x) 1 0) (Some e) slots in absurd (omega (arith, step))
+  none_counted (None ∷ slots) (suc i) h = none_counted slots i (omega (arith, count_by-cons None slots))
+  none_counted (Some e ∷ slots) i h = absurd (omega (arith, count_by-cons (Some e) slots))
 
   -- then the greatest index is 0
   pub greatest_occupied-none : (slots : List (Option X)) → count_by is_some slots ≡ 0 → greatest_occupied slots ≡ 0
@@ -91,8 +87,14 @@ module _ {X : Type 0} where
   -- where there is no entry, none is counted
   pub counted_none : (slots : List (Option X)) → ((k : ℕ) → get_or slots k None ≡ None) → count_by is_some slots ≡ 0
   counted_none [] free = refl
-  counted_none (None ∷ slots) free = sum_by-cons (λ x. cond (is_some x) 1 0) None slots ∙ (zero-add (count_by is_some slots) ∙ counted_none slots (λ k. free (suc k)))
+  counted_none (None ∷ slots) free = omega (arith, count_by-cons None slots, counted_none slots (λ k. free (suc k)))
   counted_none (Some e ∷ slots) free = absurd (none-some e (sym (free 0)))
+
+-- the last entry's index is the greatest
+pub greatest_occupied-last : {T : Type 0} {a : Arena T} {i g : ℕ} → IsLastEntry a i g → greatest_occupied a.slots ≡ i
+greatest_occupied-last {a = a} {i = i} {g = g} last =
+    let entry = entry-from_generation (slot a i) g last.entry in
+    greatest_occupied-is a.slots i entry.0 entry.1 last.greatest
 
 -- the number of an index, or 0
 pub unwrap_or-index_number : (n : ℕ) → unwrap_or (index_number n) 0 ≡ n

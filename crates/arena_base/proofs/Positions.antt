@@ -1,23 +1,23 @@
 -- How the slots in memory are the slots by index.
-use Rattle.std.proofs.Common.{◌≡◌, ◌≢◌, ℕ, zero, suc, drop, ◌+◌, ◌<◌, ◌≤◌, Option, None, List, [], ◌∷◌, ◌++◌, map, length, get_or, set, take, refl, sym, ap, ◌∙◌, arith, add-one}
-use Rattle.std.proofs.lemmas.List.{take_at, take-take, get_or-take, get_or_push, map-set, get_or-map}
-use Rattle.arena_base.specs.declared.slot.Slot.{Slot}
-use Rattle.arena_base.specs.declared.slot.Slot.TheVariants.{Occupied, Vacant}
-use Rattle.arena_base.specs.Slot.{entry_in, vacant_slots}
-use Rattle.arena_base.specs.Arena.{vacant_from}
+use Rattle.arena_base.proofs.Words.{◌≡◌, ℕ, zero, suc, ◌+◌, ◌<◌, ◌≤◌, Option, None, List, [], ◌∷◌, ◌++◌, length, get_or, take, refl, arith, ◌≢◌, drop, map, sym}
+use Rattle.arena_base.proofs.Words.{ap, ◌∙◌, take_at, take-take, get_or-take, get_or_push, none-some, Slot, Occupied, Vacant, vacant_from, entry_in}
+use Rattle.arena_base.proofs.Words.{vacant_slots}
 
 module _ {T G : Type 0} (number : G → ℕ) where
   -- the slots by index, from index 1 on
   abbrev pub entries : List (Slot T G) → List (Option (ℕ × T))
   entries slots = map (entry_in number) slots
 
-  -- a slot that was read, by its index
-  pub slot-read : (slots : List (Slot T G)) (k : ℕ) (s : Slot T G) → k < length slots → s ≡ get_or slots k s → get_or (None ∷ entries slots) (k + 1) None ≡ entry_in number s
-  slot-read slots k s within is = rw add-one (get_or-map (entry_in number) slots k s None within ∙ ap (entry_in number) (sym is))
+  -- what a slot says by index, also beyond the last
+  pub get_or-entries : (slots : List (Slot T G)) (k : ℕ) → get_or (entries slots) k None ≡ entry_in number (get_or slots k Vacant)
+  get_or-entries [] k = refl
+  get_or-entries (s ∷ slots) zero = refl
+  get_or-entries (s ∷ slots) (suc k) = get_or-entries slots k
 
-  -- a slot that is written
-  pub slots-written : (slots : List (Slot T G)) (k : ℕ) (s : Slot T G) → None ∷ entries (set slots k s) ≡ set (None ∷ entries slots) (k + 1) (entry_in number s)
-  slots-written slots k s = rw add-one (ap (λ rest. None ∷ rest) (map-set (entry_in number) slots k s))
+  -- a slot without an entry
+  pub entry-none : (s : Slot T G) → entry_in number s ≡ None → s ≡ Vacant
+  entry-none (Occupied item era) is = absurd (none-some (number era, item) (sym is))
+  entry-none Vacant is = refl
 
   -- the vacant slots in memory are the vacant ones by index
   pub vacant_slots-from : (from : ℕ) (slots : List (Slot T G)) → vacant_slots from slots ≡ vacant_from from (entries slots)
@@ -26,7 +26,8 @@ module _ {T G : Type 0} (number : G → ℕ) where
   vacant_slots-from from (Occupied item era ∷ slots) = vacant_slots-from (from + 1) slots
 
 -- the vacant slots stand behind those that have entries
-pub vacant_slots-full : {T G : Type 0} (from full : ℕ) (slots : List (Slot T G)) → ((k : ℕ) → k < full → get_or slots k Vacant ≢ Vacant) → vacant_slots from slots ≡ vacant_slots (from + full) (drop full slots)
+pub vacant_slots-full : {T G : Type 0} (from full : ℕ) (slots : List (Slot T G)) → ((k : ℕ) → k < full → get_or slots k Vacant ≢ Vacant)
+    → vacant_slots from slots ≡ vacant_slots (from + full) (drop full slots)
 vacant_slots-full from zero slots occupied = let same : from ≡ from + 0 = omega arith in ap (λ n. vacant_slots n slots) same
 vacant_slots-full from (suc full) [] occupied = absurd (occupied 0 (omega arith) refl)
 vacant_slots-full from (suc full) (Vacant ∷ slots) occupied = absurd (occupied 0 (omega arith) refl)

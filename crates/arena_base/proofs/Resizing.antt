@@ -1,163 +1,150 @@
 -- Changing the number of slots, and emptying them all.
-use Rattle.std.proofs.Common.{inl, inr, ◌⊎◌, ◌≡◌, ◌≢◌, is_some, true, ℕ, zero, suc, ◌+◌, ◌-◌, ◌<◌, ◌≤◌, Option, Some, None, List, [], ◌∷◌, ◌++◌, map, length, get_or, take, drop, replicate, reverse, refl, sym, ap, ◌∙◌, subst, arith, add-one}
-use Rattle.std.proofs.lemmas.Bool.{cases_lt, false≢true}
-use Rattle.std.proofs.lemmas.List.{map-append, take-map, take_all, take-append-le, append-nil, length-append, length-map, length-replicate, length-take, get_or-take, get_or-map, get_or_append_left, get_or-append_right}
-use Rattle.std.proofs.lemmas.Option.{none-some}
-use Rattle.arena_base.specs.declared.slot.Slot.{Slot}
-use Rattle.arena_base.specs.declared.slot.Slot.TheVariants.{Occupied, Vacant}
-use Rattle.arena_base.specs.Slot.{entry_in, vacant_slots, arena_of, AllVacantFrom}
-use Rattle.arena_base.specs.Generation.{IsLawfulGeneration, first_generation}
-use Rattle.arena_base.specs.Arena.{Arena, slot, arena_capacity, IsSound, vacant_from, vacant_indexes, limit_of, resized, new_arena, with_capacity, emptied, greatest_occupied}
+use Rattle.arena_base.proofs.Words.{inl, inr, ◌≡◌, ℕ, zero, suc, ◌+◌, ◌<◌, ◌≤◌, true, Option, Some, None, List, [], ◌∷◌, ◌++◌, length, get_or, replicate}
+use Rattle.arena_base.proofs.Words.{is_some, take, ◌-◌, refl, arith, ◌≢◌, drop, map, sym, ap, ◌∙◌, add-one, reverse, false≢true, cases_lt, get_or-take}
+use Rattle.arena_base.proofs.Words.{length-append, map-append, take-map, take_all, length-map, length-replicate, length-take, ext_get_or, get_or_past}
+use Rattle.arena_base.proofs.Words.{none-some, map-replicate, Inside, Generations, Indexes, Slot, Vacant, vacant_from, Arena, IsSound, limit_of, resized}
+use Rattle.arena_base.proofs.Words.{new_arena, with_capacity, emptied, greatest_occupied, IsLawfulGeneration, first_generation, entry_in, vacant_slots}
+use Rattle.arena_base.proofs.Words.{arena_of, AllVacantFrom}
 use Rattle.arena_base.proofs.Occupied.{greatest_occupied-above}
-use Rattle.arena_base.proofs.Positions.{entries}
+use Rattle.arena_base.proofs.Positions.{entries, get_or-entries, entry-none}
 use Rattle.arena_base.proofs.Vacancies.{length-vacant_from-padded}
-use Rattle.arena_base.proofs.Steps.{arena_capacity-of, entry-at, entry-within, list-view, list-sound}
-use Rattle.arena_base.proofs.Soundness.{arena, sound-new}
+use Rattle.arena_base.proofs.Steps.{stored, Sound, relisted, relisted-sound}
 
-pub map-replicate : {X Y : Type 0} (f : X → Y) (n : ℕ) (x : X) → map f (replicate n x) ≡ replicate n (f x)
-map-replicate f zero x = refl
-map-replicate f (suc n) x = ap (λ rest. f x ∷ rest) (map-replicate f n x)
+pub get_or-padded : {X : Type 0} (xs : List X) (m k : ℕ) (d : X) → get_or (xs ++ replicate m d) k d ≡ get_or xs k d
+get_or-padded [] zero k d = refl
+get_or-padded [] (suc m) zero d = refl
+get_or-padded [] (suc m) (suc k) d = get_or-padded [] m k d
+get_or-padded (x ∷ xs) m zero d = refl
+get_or-padded (x ∷ xs) m (suc k) d = get_or-padded xs m k d
 
-pub get_or-all_default : {X : Type 0} (n k : ℕ) (x : X) → get_or (replicate n x) k x ≡ x
-get_or-all_default zero k x = refl
-get_or-all_default (suc n) zero x = refl
-get_or-all_default (suc n) (suc k) x = get_or-all_default n k x
-
-module _ {X : Type 0} where
-  take-pad : (n : ℕ) (slots : List (Option X)) → take n (slots ++ replicate (n - length slots) None) ≡ take n slots ++ replicate (n - length slots) None
-  take-pad n slots =
-      elim (cases_lt (length slots) n) [
-        | inl short ↦
-            take_all n (slots ++ replicate (n - length slots) None) (omega (arith, length-append {A = Option X} slots (replicate (n - length slots) None), length-replicate {A = Option X} (n - length slots) None))
-            ∙ ap (λ front. front ++ replicate (n - length slots) None) (sym (take_all n slots (omega arith)))
-        | inr long ↦
-            let none_more : n - length slots ≡ 0 = omega arith in
-            take-append-le n slots (replicate (n - length slots) None) long
-            ∙ (sym (append-nil (take n slots)) ∙ ap (λ m. take n slots ++ replicate m None) (sym none_more))
-      ]
-
-  pub resized-cons : (n : ℕ) (slots : List (Option X)) → resized (n + 1) (None ∷ slots) ≡ None ∷ (take n slots ++ replicate (n - length slots) None)
-  resized-cons n slots =
+module _ {X : Type 0} (n : ℕ) (slots : List (Option X)) where
+  pub resized-cons : resized (n + 1) (None ∷ slots) ≡ None ∷ resized n slots
+  resized-cons =
       let less : n + 1 - suc (length slots) ≡ n - length slots = omega arith in
       rw (less, add-one) refl
 
-  pub get_or-pad : (n m : ℕ) (slots : List (Option X)) (k : ℕ) (e : X) → get_or (take n slots ++ replicate m None) k None ≡ Some e → get_or slots k None ≡ Some e
-  get_or-pad zero m slots k e is = absurd (none-some e (sym (get_or-all_default m k None) ∙ is))
-  get_or-pad (suc n) m [] k e is = absurd (none-some e (sym (get_or-all_default m k None) ∙ is))
-  get_or-pad (suc n) m (s ∷ slots) zero e is = is
-  get_or-pad (suc n) m (s ∷ slots) (suc k) e is = get_or-pad n m slots k e is
+  pub length-resized : length (resized n slots) ≡ n
+  length-resized = grind (arith, length-append {A = Option X}, length-take {A = Option X}, length-replicate {A = Option X})
 
-module _ {T G : Type 0} (number : G → ℕ) where
-  vacant_from_none : (s : Slot T G) → entry_in number s ≡ None → s ≡ Vacant
-  vacant_from_none (Occupied item era) is = absurd (none-some (number era, item) (sym is))
-  vacant_from_none Vacant is = refl
+  pub get_or-resized : (k : ℕ) → k < n → get_or (resized n slots) k None ≡ get_or slots k None
+  get_or-resized k below = get_or-padded (take n slots) (n - length slots) k None ∙ get_or-take n slots k None below
 
-  -- slots beyond the greatest index with an entry, and slots that were added, are vacant
-  pub padded-vacant : (slots padded : List (Slot T G)) (n : ℕ) → padded ≡ slots ++ replicate (n - length slots) Vacant → greatest_occupied (None ∷ entries number slots) ≤ n → AllVacantFrom n padded
-  padded-vacant slots padded n is least = λ k beyond. ap (λ ss. get_or ss k Vacant) is ∙ here k beyond (cases_lt k (length slots))
-    where
-      here : (k : ℕ) → n ≤ k → (k < length slots) ⊎ (length slots ≤ k) → get_or (slots ++ replicate (n - length slots) Vacant) k Vacant ≡ Vacant
-      here k beyond (inl inside) =
-          let none = greatest_occupied-above (None ∷ entries number slots) (suc k) (omega arith) in
-          get_or_append_left slots (replicate (n - length slots) Vacant) Vacant k inside
-          ∙ vacant_from_none (get_or slots k Vacant) (sym (get_or-map (entry_in number) slots k Vacant None inside) ∙ none)
-      here k beyond (inr past) =
-          get_or-append_right slots (replicate (n - length slots) Vacant) (length slots) k Vacant refl past ∙ get_or-all_default (n - length slots) (k - length slots) Vacant
+  get_or-resized_past : (k : ℕ) → n ≤ k → get_or (resized n slots) k None ≡ None
+  get_or-resized_past k past = get_or_past (resized n slots) k None (omega (arith, length-resized))
 
-  -- an entry keeps its slot
-  pub resized-full : (slots padded next : List (Slot T G)) (generation : G) (maximum : Option ℕ) (stack : List ℕ) (a : Arena T) (n full : ℕ) → arena_of number slots stack generation maximum ≡ a
-      → padded ≡ slots ++ replicate (n - length slots) Vacant → next ≡ take n padded → greatest_occupied a.slots ≤ n → ((i : ℕ) → 0 < i → i ≤ full → is_some (slot a i) ≡ true) → (k : ℕ) → k < full → get_or next k Vacant ≢ Vacant
-  resized-full slots padded next generation maximum stack a n full seen is cut least occupied k below = λ vacant.
-      let there = occupied (k + 1) (omega arith) (omega arith) in
-      let inside : k < length slots = omega (arith, entry-within number slots generation maximum stack a k (k + 1) seen refl there, ap arena_capacity (sym seen), arena_capacity-of number slots generation maximum stack) in
-      let read : entry_in number (get_or slots k Vacant) ≡ slot a (k + 1) = sym (get_or-map (entry_in number) slots k Vacant None inside) ∙ entry-at number slots generation maximum stack a k (k + 1) seen refl (slot a (k + 1)) refl in
+  -- as many slots, with the same at each place
+  pub resized-is : (ys : List (Option X)) → length ys ≡ n → ((k : ℕ) → k < n → get_or ys k None ≡ get_or slots k None) → ys ≡ resized n slots
+  resized-is ys long same =
+      ext_get_or None ys (resized n slots) (long ∙ sym length-resized) (λ k below. same k (omega arith) ∙ sym (get_or-resized k (omega arith)))
+
+  -- slots to which vacant ones were added, and from which those beyond were cut off
+  pub resized-padded : take n (slots ++ replicate (n - length slots) None) ≡ resized n slots
+  resized-padded =
+      let m = n - length slots in
+      let padded = slots ++ replicate {A = Option X} m None in
+      resized-is (take n padded)
+      (omega (arith, length-take n padded, length-append slots (replicate {A = Option X} m None), length-replicate {A = Option X} m None))
+      (λ k below. get_or-take n padded k None below ∙ get_or-padded slots m k None)
+
+  -- an entry stood there before
+  pub resized-some : (k : ℕ) (e : X) → get_or (resized n slots) k None ≡ Some e → get_or slots k None ≡ Some e
+  resized-some k e is =
       elim (cases_lt k n) [
-        | inl within ↦
-            let same : get_or next k Vacant ≡ get_or slots k Vacant = ap (λ ss. get_or ss k Vacant) cut ∙ get_or-take n padded k Vacant within
-            ∙ ap (λ ss. get_or ss k Vacant) is ∙ get_or_append_left slots (replicate (n - length slots) Vacant) Vacant k inside in
-            let none : None ≡ slot a (k + 1) = ap (entry_in number) (sym vacant ∙ same) ∙ read in
-            false≢true (ap is_some none ∙ there)
-        | inr beyond ↦
-            let none : slot a (k + 1) ≡ None = greatest_occupied-above a.slots (k + 1) (omega arith) in
-            false≢true (ap is_some (sym none) ∙ there)
+        | inl below ↦ sym (get_or-resized k below) ∙ is
+        | inr past ↦ absurd (none-some e (sym (get_or-resized_past k past) ∙ is))
       ]
 
-  module _ (most : ℕ) (greatest : Option ℕ) (slots : List (Slot T G)) (generation : G) (maximum : Option ℕ) (stack listed : List ℕ) (a : Arena T) (seen : arena_of number slots stack generation maximum ≡ a)
-      (next : List (Slot T G)) (all : listed ≡ reverse (vacant_slots 1 next)) where
-    module _ (n : ℕ) (padded : List (Slot T G)) (is : padded ≡ slots ++ replicate (n - length slots) Vacant) (cut : next ≡ take n padded) where
-      entries-resized : entries number next ≡ take n (entries number slots) ++ replicate (n - length (entries number slots)) None
-      entries-resized =
-          ap (λ ss. entries number ss) (cut ∙ ap (take n) is)
-          ∙ (sym (take-map (entry_in number) n (slots ++ replicate (n - length slots) Vacant))
-          ∙ (ap (take n) (map-append (entry_in number) slots (replicate (n - length slots) Vacant) ∙ ap (λ more. entries number slots ++ more) (map-replicate (entry_in number) (n - length slots) Vacant))
-          ∙ (ap (λ m. take n (entries number slots ++ replicate (n - m) None)) (sym (length-map slots (entry_in number))) ∙ take-pad n (entries number slots))))
+  -- where no entry is lost, each index has what it had
+  pub resized-same : ((k : ℕ) → n ≤ k → get_or slots k None ≡ None) → (i : ℕ) → get_or (resized n slots) i None ≡ get_or slots i None
+  resized-same none i =
+      elim (cases_lt i n) [
+        | inl below ↦ get_or-resized i below
+        | inr past ↦ get_or-resized_past i past ∙ sym (none i past)
+      ]
 
-      pub resized-view : arena_of number next listed generation maximum ≡ with_capacity a n
-      resized-view =
-          list-view number most greatest slots generation maximum stack listed next all (take n (entries number slots) ++ replicate (n - length (entries number slots)) None) entries-resized
-          ∙ (ap (λ ss. record { slots = ss; vacant = vacant_indexes ss; generation = number generation; maximum = maximum }) (sym (resized-cons n (entries number slots)))
-          ∙ ap (λ v. with_capacity v n) seen)
+-- vacant slots at the end make no difference
+pub resized-again : {X : Type 0} (n m : ℕ) (slots : List (Option X)) → resized n (slots ++ replicate m None) ≡ resized n slots
+resized-again n m slots =
+    resized-is n slots (resized n (slots ++ replicate m None)) (length-resized n (slots ++ replicate m None))
+    (λ k below. get_or-resized n (slots ++ replicate m None) k below ∙ get_or-padded slots m k None)
 
-      pub resized-sound : IsSound most greatest (arena_of number slots stack generation maximum) → n ≤ limit_of most maximum → IsSound most greatest (arena_of number next listed generation maximum)
-      resized-sound sound within =
-          list-sound number most greatest slots generation maximum stack listed next all sound (rw cut (omega (arith, length-take n padded)))
-          (λ j e there. get_or-pad n (n - length (entries number slots)) (entries number slots) j e (ap (λ ss. get_or ss j None) (sym entries-resized) ∙ there))
+module _ {T G : Type 0} (number : G → ℕ) (n : ℕ) (slots padded : List (Slot T G)) (is : padded ≡ slots ++ replicate (n - length slots) Vacant) where
+  entries-resized : entries number (take n padded) ≡ resized n (entries number slots)
+  entries-resized =
+      rw (is, ← take-map, map-append, map-replicate, ← length-map slots (entry_in number)) (resized-padded n (entries number slots))
 
-    module _ (is : next ≡ replicate (length slots) Vacant) where
-      entries-emptied : entries number next ≡ replicate (length (entries number slots)) None
-      entries-emptied =
-          ap (λ ss. entries number ss) is ∙ (map-replicate (entry_in number) (length slots) Vacant ∙ ap (λ m. replicate m None) (sym (length-map slots (entry_in number))))
+  pub entries-padded : length slots ≤ n → entries number padded ≡ resized n (entries number slots)
+  entries-padded fits =
+      rw (← take_all n padded (rw is (omega (arith, length-append slots (replicate (n - length slots) Vacant), length-replicate {A = Slot T G} (n - length slots) Vacant)))) entries-resized
 
-      pub emptied-view : arena_of number next listed generation maximum ≡ emptied a
-      emptied-view =
-          list-view number most greatest slots generation maximum stack listed next all (replicate (length (entries number slots)) None) entries-emptied
-          ∙ ap (λ v. emptied v) seen
+  module _ (least : greatest_occupied (None ∷ entries number slots) ≤ n) where
+    beyond : (k : ℕ) → n ≤ k → get_or (entries number slots) k None ≡ None
+    beyond k past = greatest_occupied-above (None ∷ entries number slots) (suc k) (omega arith)
 
-      pub emptied-sound : IsSound most greatest (arena_of number slots stack generation maximum) → IsSound most greatest (arena_of number next listed generation maximum)
-      emptied-sound sound =
-          let within = sound.within_limit in
-          list-sound number most greatest slots generation maximum stack listed next all sound (rw is (omega (arith, length-replicate {A = Slot T G} (length slots) Vacant, length-map slots (entry_in number))))
-          (λ j e there. absurd (none-some e (sym (get_or-all_default (length (entries number slots)) j None) ∙ (ap (λ ss. get_or ss j None) (sym entries-emptied) ∙ there))))
+    -- slots beyond the greatest index with an entry, and slots that were added, are vacant
+    pub padded-vacant : AllVacantFrom n padded
+    padded-vacant = λ k past.
+        rw is (get_or-padded slots (n - length slots) k Vacant ∙ entry-none number (get_or slots k Vacant) (sym (get_or-entries number slots k) ∙ beyond k past))
+
+    -- an entry keeps its slot
+    pub resized-full : (k : ℕ) → is_some (get_or (entries number slots) k None) ≡ true → get_or (take n padded) k Vacant ≢ Vacant
+    resized-full k there = λ vacant.
+        let none : get_or (entries number (take n padded)) k None ≡ None = get_or-entries number (take n padded) k ∙ ap (entry_in number) vacant in
+        let same = resized-same n (entries number slots) beyond k in
+        false≢true (ap is_some (sym none ∙ (ap (λ ss. get_or ss k None) entries-resized ∙ same)) ∙ there)
+
+module _ {P T A Inx Gen : Type 0} (gen : Generations Gen) (inx : Indexes Inx) (s : Inside P T A Inx Gen) (listed : List Inx) where
+  module _ (n : ℕ) (padded : List (Slot T Gen)) (is : padded ≡ s.slots.items ++ replicate (n - length s.slots.items) Vacant)
+      (all : map inx.number listed ≡ reverse (vacant_slots 1 (take n padded))) where
+    pub resized-view : (a : Arena T) → stored gen inx s s.slots.items s.vacant.items ≡ a → stored gen inx s (take n padded) listed ≡ with_capacity a n
+    resized-view a view =
+        relisted gen inx (take n padded) listed s.generation s.maximum all
+        ∙ rw (← view, entries-resized gen.number n s.slots.items padded is, resized-cons) refl
+
+    pub resized-sound : Sound gen inx s (stored gen inx s s.slots.items s.vacant.items) → n ≤ limit_of inx.most s.maximum → Sound gen inx s (stored gen inx s (take n padded) listed)
+    resized-sound sound within =
+        relisted-sound gen inx (take n padded) listed s.generation s.maximum all (omega (arith, length-take n padded)) sound.generation_lawful
+        (λ k e there. sound.entries_lawful (suc k) e (resized-some n (entries gen.number s.slots.items) k e (rw (entries-resized gen.number n s.slots.items padded is) at there)))
+
+  module _ (next : List (Slot T Gen)) (is : next ≡ replicate (length s.slots.items - 0) Vacant) (all : map inx.number listed ≡ reverse (vacant_slots 1 next)) where
+    entries-emptied : entries gen.number next ≡ replicate (length (entries gen.number s.slots.items)) None
+    entries-emptied =
+        let same : length s.slots.items - 0 ≡ length (entries gen.number s.slots.items) = omega (arith, length-map s.slots.items (entry_in gen.number)) in
+        rw (is, map-replicate, same) refl
+
+    pub emptied-view : (a : Arena T) → stored gen inx s s.slots.items s.vacant.items ≡ a → stored gen inx s next listed ≡ emptied a
+    emptied-view a view = relisted gen inx next listed s.generation s.maximum all ∙ rw (← view, entries-emptied) refl
+
+    pub emptied-sound : Sound gen inx s (stored gen inx s s.slots.items s.vacant.items) → Sound gen inx s (stored gen inx s next listed)
+    emptied-sound sound =
+        relisted-sound gen inx next listed s.generation s.maximum all
+        (rw is (omega (arith, sound.within_limit, length-replicate {A = Slot T Gen} (length s.slots.items - 0) Vacant, length-map s.slots.items (entry_in gen.number))))
+        sound.generation_lawful
+        (λ k e there. absurd (none-some e (sym (get_or-padded [] (length (entries gen.number s.slots.items)) k None) ∙ rw entries-emptied at there)))
 
 -- a greater capacity leaves a slot vacant
-more_vacant : {X : Type 0} (n : ℕ) (slots : List (Option X)) → take 1 slots ≡ None ∷ [] → length slots - 1 < n → 0 < length (vacant_from 1 (drop 1 (resized (n + 1) slots)))
-more_vacant n [] begins more = absurd (cc)
-more_vacant n (s ∷ slots) begins more =
-    let less : n + 1 - suc (length slots) ≡ n - length slots = omega arith in
-    let least = length-vacant_from-padded 1 (n - length slots) (take n slots) in
-    rw (less, add-one) (omega arith)
-
 pub with_capacity-room : {T : Type 0} (a : Arena T) (n : ℕ) → take 1 a.slots ≡ None ∷ [] → length a.slots - 1 < n → 0 < length (with_capacity a n).vacant
-with_capacity-room a n begins more = more_vacant n a.slots begins more
-
-module _ {T G : Type 0} where
-  -- slots that were added to slots that had moved
-  pub padded-moved : (slots moved padded : List (Slot T G)) (n m : ℕ) → padded ≡ moved ++ replicate (n - m) Vacant → moved ≡ slots → m ≡ length moved → padded ≡ slots ++ replicate (n - length slots) Vacant
-  padded-moved slots moved padded n m is same count =
-      is ∙ (ap (λ k. moved ++ replicate (n - k) Vacant) count ∙ ap (λ ss. ss ++ replicate (n - length ss) Vacant) same)
-
-  -- slots that were added where all had been taken away
-  pub padded-empty : (slots moved padded : List (Slot T G)) (n m : ℕ) → padded ≡ moved ++ replicate (n - m) Vacant → moved ≡ [] → m ≡ 0 → n ≡ length slots → padded ≡ replicate (length slots) Vacant
-  padded-empty slots moved padded n m is none count whole =
-      let all : n - m ≡ length slots = omega arith in
-      is ∙ (ap (λ k. moved ++ replicate k Vacant) all ∙ ap (λ ss. ss ++ replicate (length slots) Vacant) none)
+with_capacity-room a n begins more = room a.slots begins more
+  where
+    room : {X : Type 0} (slots : List (Option X)) → take 1 slots ≡ None ∷ [] → length slots - 1 < n → 0 < length (vacant_from 1 (drop 1 (resized (n + 1) slots)))
+    room [] begins more = absurd (cc)
+    room (Some e ∷ slots) begins more = absurd (cc)
+    room (None ∷ slots) begins more =
+        rw (resized-cons n slots) (omega (arith, length-vacant_from-padded 1 (n - length slots) (take n slots)))
 
 -- the slots of an arena that was made with room
-module _ {T G : Type 0} (number : G → ℕ) (most : ℕ) (greatest : Option ℕ) (two : G) (first : number two ≡ first_generation greatest)
-    (n : ℕ) (next : List (Slot T G)) (is : next ≡ [] ++ replicate (n - 0) Vacant) (listed : List ℕ) (all : listed ≡ reverse (vacant_slots 1 next)) where
+module _ {T Inx Gen : Type 0} (gen : Generations Gen) (inx : Indexes Inx) (two : Gen) (first : gen.number two ≡ first_generation gen.greatest)
+    (n : ℕ) (next : List (Slot T Gen)) (is : next ≡ [] ++ replicate (n - 0) Vacant) (listed : List Inx) (all : map inx.number listed ≡ reverse (vacant_slots 1 next)) where
   pub made-length : length next ≡ n
-  made-length = omega (arith, ap length is, length-replicate {A = Slot T G} (n - 0) Vacant)
+  made-length = omega (arith, ap length is, length-replicate {A = Slot T Gen} (n - 0) Vacant)
 
-  made-cut : next ≡ take n next
-  made-cut = sym (take_all n next (omega (arith, made-length)))
+  entries-made : entries gen.number next ≡ resized n []
+  entries-made = entries-padded gen.number n [] next is (omega arith)
 
-  pub made-view : arena_of number next listed two None ≡ with_capacity (new_arena greatest) n
-  made-view =
-      resized-view number most greatest [] two None [] listed (arena_of number [] [] two None) refl next all n next is made-cut
-      ∙ ap (λ g. with_capacity (record { slots = None ∷ []; vacant = []; generation = g; maximum = None }) n) first
+  pub made-view : arena_of gen.number next (map inx.number listed) two None ≡ with_capacity (new_arena gen.greatest) n
+  made-view = relisted gen inx next listed two None all ∙ rw (entries-made, first, resized-cons) refl
 
-  pub made-sound : IsLawfulGeneration greatest (number two) → n ≤ most → IsSound most greatest (arena_of number next listed two None)
+  pub made-sound : IsLawfulGeneration gen.greatest (gen.number two) → n ≤ inx.most → IsSound inx.most gen.greatest (arena_of gen.number next (map inx.number listed) two None)
   made-sound lawful within =
-      let begins : IsSound most greatest (arena [] [] (number two) None) =
-      subst (λ g. IsSound most greatest (arena {T = T} [] [] g None)) (sym first) (sound-new most greatest (subst (IsLawfulGeneration greatest) first lawful)) in
-      resized-sound number most greatest [] two None [] listed (arena_of number [] [] two None) refl next all n next is made-cut begins within
+      relisted-sound gen inx next listed two None all (omega (arith, made-length)) lawful
+      (λ k e there. absurd (none-some e (resized-some n [] k e (rw entries-made at there))))

@@ -1,173 +1,14 @@
 -- Each step on the vector of slots and the stack of vacant indexes is the step of the arena that contracts name.
-use Rattle.std.proofs.Common.{◌≡◌, ℕ, zero, suc, ◌+◌, ◌-◌, ◌<◌, ◌≤◌, true, Option, Some, None, List, [], ◌∷◌, ◌++◌, map, length, slice_get, get_or, set, take, reverse, is_some, refl, sym, ap, ◌∙◌, subst, arith, add-one}
-use Rattle.std.proofs.lemmas.Bool.{false≢true}
-use Rattle.std.proofs.lemmas.Option.{slice_get_within, get_or_from_slice_get}
-use Rattle.std.proofs.lemmas.List.{take_all, take_more, map-append, map-set, reverse-append, reverse-reverse, length-map}
-use Rattle.std.specs.Option.{option_map}
-use Rattle.arena_base.specs.declared.slot.Slot.{Slot}
-use Rattle.arena_base.specs.declared.slot.Slot.TheVariants.{Occupied, Vacant}
-use Rattle.arena_base.specs.Slot.{entry_in, vacant_slots, arena_of}
-use Rattle.arena_base.specs.Generation.{IsLawfulGeneration}
-use Rattle.arena_base.specs.Arena.{Arena, slot, arena_capacity, with_slot, freed, IsSound, IsInsertion, IsVacant, vacant_from, limit_of}
-use Rattle.arena_base.proofs.Positions.{entries, slot-read, slots-written, vacant_slots-from}
-use Rattle.arena_base.proofs.Vacancies.{within_from_some, vacant_from-least, vacant_from-filled_first}
-use Rattle.arena_base.proofs.Soundness.{arena, sound-listed, sound-written, sound-freed, sound-filled, first-position}
-
--- the top of the stack of indexes is the first that is taken
-top-first : (stack : List ℕ) (i : ℕ) → reverse (stack ++ i ∷ []) ≡ i ∷ reverse stack
-top-first stack i = reverse-append stack (i ∷ [])
-
--- the numbers of a stack with an index on top
-pub numbers-pushed : {I : Type 0} (number : I → ℕ) (stack below : List I) (i : I) → stack ≡ below ++ i ∷ [] → map number stack ≡ map number below ++ number i ∷ []
-numbers-pushed number stack below i is = ap (map number) is ∙ map-append number below (i ∷ [])
-
--- what an occupied place holds
-pub some_of : {X : Type 0} (o : Option X) → is_some o ≡ true → (x : X) × (o ≡ Some x)
-some_of None h = absurd (false≢true h)
-some_of (Some x) h = (x, refl)
-
-module _ {T G : Type 0} (number : G → ℕ) (slots : List (Slot T G)) (generation : G) (maximum : Option ℕ) where
-  -- the capacity is the number of slots
-  pub arena_capacity-of : (stack : List ℕ) → arena_capacity (arena_of number slots stack generation maximum) ≡ length slots
-  arena_capacity-of stack = omega (arith, length-map slots (entry_in number))
-
-  -- the entry in a slot that was read
-  pub slot-of : (stack : List ℕ) (a : Arena T) (k i : ℕ) (s : Slot T G) → arena_of number slots stack generation maximum ≡ a → i ≡ k + 1 → k < arena_capacity a → s ≡ get_or slots k s → slot a i ≡ entry_in number s
-  slot-of stack a k i s view index within is =
-      let inside : k < length slots = subst (λ n. k < n) (ap arena_capacity (sym view) ∙ arena_capacity-of stack) within in
-      rw (← view, index) (slot-read number slots k s inside is)
-
-  -- what stands at an index stands in the slot at its place
-  pub entry-at : (stack : List ℕ) (a : Arena T) (k i : ℕ) → arena_of number slots stack generation maximum ≡ a → i ≡ k + 1 → (e : Option (ℕ × T)) → slot a i ≡ e → get_or (entries number slots) k None ≡ e
-  entry-at stack a k i seen position e is = rw (← seen, position, add-one) at is
-
-  -- an index with an entry is not 0
-  pub entry-positive : (stack : List ℕ) (a : Arena T) (i : ℕ) → arena_of number slots stack generation maximum ≡ a → is_some (slot a i) ≡ true → (k : ℕ) × (i ≡ k + 1)
-  entry-positive stack a zero seen there = absurd (false≢true (rw (← seen) at there))
-  entry-positive stack a (suc k) seen there = (k, sym (add-one k))
-
-  -- an index with an entry is within the capacity
-  pub entry-within : (stack : List ℕ) (a : Arena T) (k i : ℕ) → arena_of number slots stack generation maximum ≡ a → i ≡ k + 1 → is_some (slot a i) ≡ true → k < arena_capacity a
-  entry-within stack a k i seen position there =
-      let found = some_of (slot a i) there in
-      let inside : k < length (entries number slots) = within_from_some (entries number slots) k found.0 (entry-at stack a k i seen position (Some found.0) found.1) in
-      subst (λ n. k < n) (sym (arena_capacity-of stack) ∙ ap arena_capacity seen) (omega (arith, length-map slots (entry_in number)))
-
-module _ {T G : Type 0} (number : G → ℕ) (most : ℕ) (greatest : Option ℕ) (slots : List (Slot T G)) (generation : G) (maximum : Option ℕ) where
-  -- what is sound of the arena of these slots
-  abbrev Sound : List (Slot T G) → List ℕ → Type 0
-  Sound slots stack = IsSound most greatest (arena_of number slots stack generation maximum)
-
-  module _ (stack : List ℕ) (a : Arena T) (k i : ℕ) (seen : arena_of number slots stack generation maximum ≡ a) (position : i ≡ k + 1) where
-    was : (e : Option (ℕ × T)) → slot a i ≡ e → get_or (entries number slots) k None ≡ e
-    was e is = entry-at number slots generation maximum stack a k i seen position e is
-
-    -- a slot is written
-    pub set-view : (s : Slot T G) (e : Option (ℕ × T)) → entry_in number s ≡ e → arena_of number (set slots k s) stack generation maximum ≡ with_slot a i e
-    set-view s e is =
-        rw (← seen, position, ← is) (ap (λ ss. record { slots = ss; vacant = reverse stack; generation = number generation; maximum = maximum }) (slots-written number slots k s))
-
-    -- an entry is written over an entry
-    pub set-sound : (s : Slot T G) (f : ℕ × T → ℕ × T) → Sound slots stack → is_some (slot a i) ≡ true → entry_in number s ≡ option_map f (slot a i)
-        → ((e : ℕ × T) → slot a i ≡ Some e → IsLawfulGeneration greatest (f e).0) → Sound (set slots k s) stack
-    set-sound s f sound there is ok =
-        let old = some_of (slot a i) there in
-        let written = sound-written most greatest (entries number slots) (reverse stack) (number generation) maximum sound k old.0 (f old.0) (was (Some old.0) old.1) (ok old.0 old.1) in
-        let now : entry_in number s ≡ Some (f old.0) = is ∙ ap (option_map f) old.1 in
-        subst (λ ss. IsSound most greatest (arena ss (reverse stack) (number generation) maximum)) (ap (set (entries number slots) k) (sym now) ∙ sym (map-set (entry_in number) slots k s)) written
-
-    -- an entry is taken out, and its index put on the stack
-    module _ (freed_stack : List ℕ) (s : Slot T G) (emptied : s ≡ Vacant) (pushed : freed_stack ≡ stack ++ i ∷ []) where
-      pub take-view : arena_of number (set slots k s) freed_stack generation maximum ≡ freed a i
-      take-view =
-          rw (← seen, emptied, pushed, position)
-          (ap (λ ss. record { slots = ss; vacant = reverse (stack ++ (k + 1) ∷ []); generation = number generation; maximum = maximum }) (slots-written number slots k Vacant)
-          ∙ ap (λ ns. record { slots = set (None ∷ entries number slots) (k + 1) None; vacant = ns; generation = number generation; maximum = maximum }) (top-first stack (k + 1)))
-
-      pub take-sound : Sound slots stack → is_some (slot a i) ≡ true → Sound (set slots k s) freed_stack
-      take-sound sound there =
-          let old = some_of (slot a i) there in
-          let taken = sound-freed most greatest (entries number slots) (reverse stack) (number generation) maximum sound k old.0 (was (Some old.0) old.1) in
-          rw (emptied, pushed, position, top-first, map-set) taken
-
-  -- the vacant indexes are listed anew
-  module _ (stack listed : List ℕ) (next : List (Slot T G)) (all : listed ≡ reverse (vacant_slots 1 next)) where
-    listed-indexes : reverse listed ≡ vacant_from 1 (entries number next)
-    listed-indexes = ap reverse all ∙ (reverse-reverse (vacant_slots 1 next) ∙ vacant_slots-from number 1 next)
-
-    pub list-view : (now : List (Option (ℕ × T))) → entries number next ≡ now → arena_of number next listed generation maximum ≡ record { slots = None ∷ now; vacant = vacant_from 1 now; generation = number generation; maximum = maximum }
-    list-view now is =
-        ap (λ ns. record { slots = None ∷ entries number next; vacant = ns; generation = number generation; maximum = maximum }) listed-indexes
-        ∙ ap (λ ss. record { slots = None ∷ ss; vacant = vacant_from 1 ss; generation = number generation; maximum = maximum }) is
-
-    pub list-sound : Sound slots stack → length next ≤ limit_of most maximum
-        → ((j : ℕ) (e : ℕ × T) → get_or (entries number next) j None ≡ Some e → get_or (entries number slots) j None ≡ Some e) → Sound next listed
-    list-sound sound within same =
-        subst (λ ns. IsSound most greatest (arena (entries number next) ns (number generation) maximum)) (sym listed-indexes)
-        (sound-listed most greatest (entries number slots) (reverse stack) (number generation) maximum sound (entries number next) (omega (arith, length-map next (entry_in number))) same)
-
-  -- the index on top of the stack is taken next
-  module _ (stack below : List ℕ) (i : ℕ) (top : stack ≡ below ++ i ∷ []) (a : Arena T) (seen : arena_of number slots stack generation maximum ≡ a) (sound : Sound slots stack) where
-    abbrev rest : List ℕ
-    rest = reverse below
-
-    indexes : reverse stack ≡ i ∷ rest
-    indexes = ap reverse top ∙ top-first below i
-
-    first : (k : ℕ) × (i ≡ 1 + k) × (k < length (entries number slots)) × (get_or (entries number slots) k None ≡ None)
-    first = first-position most greatest (entries number slots) i rest (number generation) maximum (subst (λ ns. IsSound most greatest (arena (entries number slots) ns (number generation) maximum)) indexes sound)
-
-    -- it is not 0
-    pub top-above : 0 < i
-    top-above = omega (arith, first.1)
-
-    -- it is the index of a slot that has no entry
-    pub top-vacant : (j : ℕ) → j ≡ i → IsVacant a j
-    top-vacant j same =
-        let next : i ≡ suc first.0 = omega (arith, first.1) in
-        let there : IsVacant (arena (entries number slots) (reverse stack) (number generation) maximum) (suc first.0) =
-        record { above = omega arith; within = omega (arith, first.2); free = first.3 } in
-        subst (λ n. IsVacant a n) (sym (same ∙ next)) (subst (λ v. IsVacant v (suc first.0)) seen there)
-
-    module _ (k : ℕ) (position : i ≡ k + 1) where
-      indexes' : reverse stack ≡ (k + 1) ∷ rest
-      indexes' = indexes ∙ ap (λ n. n ∷ rest) position
-
-      seen' : arena (entries number slots) ((k + 1) ∷ rest) (number generation) maximum ≡ a
-      seen' = sym (ap (λ ns. arena (entries number slots) ns (number generation) maximum) indexes') ∙ seen
-
-      sound' : IsSound most greatest (arena (entries number slots) ((k + 1) ∷ rest) (number generation) maximum)
-      sound' = subst (λ ns. IsSound most greatest (arena (entries number slots) ns (number generation) maximum)) indexes' sound
-
-      -- its place is one of the slots
-      pub top-within : k < length slots
-      top-within = omega (arith, position, first.1, first.2, length-map slots (entry_in number))
-
-      -- an entry is put in its slot
-      pub sound-put : (item : T) → Sound (set slots k (Occupied item generation)) below
-      sound-put item =
-          subst (λ ss. IsSound most greatest (arena ss rest (number generation) maximum)) (sym (map-set (entry_in number) slots k (Occupied item generation)))
-          (sound-filled most greatest (entries number slots) k rest (number generation) maximum sound' item)
-
-      occupied : (k + 1) ∷ rest ≡ vacant_from 1 (entries number slots) → (j : ℕ) → 0 < j → j < k + 1 → is_some (get_or (None ∷ entries number slots) j None) ≡ true
-      occupied fresh zero above before = absurd (omega arith)
-      occupied fresh (suc j) above before = vacant_from-least 1 (entries number slots) (k + 1) rest j (sym fresh) (omega arith)
-
-      inserted : (item : T) (j g : ℕ) → j ≡ k + 1 → g ≡ number generation → (v : Arena T) → arena (entries number slots) ((k + 1) ∷ rest) (number generation) maximum ≡ v → IsVacant v j
-          → IsInsertion v (arena_of number (set slots k (Occupied item generation)) below generation maximum) item j g
-      inserted item j g here is v same vacant = subst (λ v. IsInsertion v (arena_of number (set slots k (Occupied item generation)) below generation maximum) item j g) same (record {
-        next = ap Some (sym here);
-        vacant = subst (λ v. IsVacant v j) (sym same) vacant;
-        least = λ fresh n above before. occupied fresh n above (omega arith);
-        generation = is;
-        after = ap (λ ss. record { slots = ss; vacant = rest; generation = number generation; maximum = maximum }) (slots-written number slots k (Occupied item generation));
-        fresh = λ fresh. sym (ap (vacant_from 1) (map-set (entry_in number) slots k (Occupied item generation))
-            ∙ vacant_from-filled_first 1 (entries number slots) k (k + 1) rest (number generation, item) (omega arith) (sym fresh));
-      })
-
-      -- which is an insertion
-      pub insertion : (item : T) (j g : ℕ) → j ≡ i → g ≡ number generation → IsInsertion a (arena_of number (set slots k (Occupied item generation)) below generation maximum) item j g
-      insertion item j g same is = inserted item j g (same ∙ position) is a seen' (top-vacant j same)
+use Rattle.arena_base.proofs.Words.{inl, inr, ◌≡◌, ℕ, zero, suc, ◌+◌, ◌<◌, ◌≤◌, true, Option, Some, None, List, [], ◌∷◌, ◌++◌, length, get_or, set, is_some}
+use Rattle.arena_base.proofs.Words.{take, ◌-◌, refl, arith, map, sym, ap, ◌∙◌, subst, add-one, reverse, slice_get, false≢true, cases_lt, take_all, length-map}
+use Rattle.arena_base.proofs.Words.{get_or_past, map_push, take_more, map-set, get_or-map, reverse-append, reverse-reverse, none-some, slice_get_within}
+use Rattle.arena_base.proofs.Words.{get_or_from_slice_get, option_map, Inside, Generations, Indexes, Slot, Occupied, Vacant, Arena, IsSound, IsInsertion}
+use Rattle.arena_base.proofs.Words.{limit_of, IsFresh, slot, arena_capacity, with_slot, freed, IsVacant, IsLawfulGeneration, entry_in, vacant_slots, arena_of}
+use Rattle.arena_base.proofs.Words.{slot_entry, with_slot_generation}
+use Rattle.arena_base.proofs.Occupied.{is_some-slot_entry, entry_in-with_slot_generation}
+use Rattle.arena_base.proofs.Positions.{entries, vacant_slots-from}
+use Rattle.arena_base.proofs.Vacancies.{vacant_from-some, VacantAt}
+use Rattle.arena_base.proofs.Soundness.{arena, fresh_arena, AreLawful, lawful-some, sound-fresh, sound-set, first-vacant, sound-filled, insertion-filled}
 
 -- the top of a stack, and the stack below it
 pub stack-top : {X : Type 0} (xs : List X) (k : X) → slice_get xs (length xs - 1) ≡ Some k → xs ≡ take (length xs - 1) xs ++ k ∷ []
@@ -177,3 +18,134 @@ stack-top xs k is =
     let got : get_or xs n k ≡ k = get_or_from_slice_get xs n k k is in
     let all : take (n + 1) xs ≡ xs = take_all (n + 1) xs (omega arith) in
     sym all ∙ (take_more xs n k within ∙ ap (λ x. take n xs ++ x ∷ []) got)
+
+-- what an occupied place holds
+some_of : {X : Type 0} (o : Option X) → is_some o ≡ true → (x : X) × (o ≡ Some x)
+some_of None h = absurd (false≢true h)
+some_of (Some x) h = (x, refl)
+
+module _ {P T A Inx Gen : Type 0} (gen : Generations Gen) (inx : Indexes Inx) (s : Inside P T A Inx Gen) where
+  -- the arena with these slots and this stack in place of its own
+  abbrev pub stored : List (Slot T Gen) → List Inx → Arena T
+  stored slots stack = arena_of gen.number slots (map inx.number stack) s.generation s.maximum
+
+  abbrev pub Sound : Arena T → Type 0
+  Sound a = IsSound inx.most gen.greatest a
+
+  module _ (a : Arena T) (view : stored s.slots.items s.vacant.items ≡ a) where
+    -- the capacity is the number of slots
+    pub capacity-is : arena_capacity a ≡ length s.slots.items
+    capacity-is = rw (← view) (omega (arith, length-map s.slots.items (entry_in gen.number)))
+
+    -- an index with an entry is not 0, and is within the capacity
+    pub occupied-above : (i : ℕ) → is_some (slot a i) ≡ true → 0 < i
+    occupied-above zero there = absurd (false≢true (rw (← view) at there))
+    occupied-above (suc k) there = omega arith
+
+    pub occupied-within : (k i : ℕ) → i ≡ k + 1 → is_some (slot a i) ≡ true → k < arena_capacity a
+    occupied-within k i position there =
+        elim (cases_lt k (length (entries gen.number s.slots.items))) [
+          | inl within ↦ omega (arith, capacity-is, length-map s.slots.items (entry_in gen.number))
+          | inr past ↦ absurd (false≢true (ap is_some (sym (get_or_past (entries gen.number s.slots.items) k None past)) ∙ rw (← view, position, add-one) at there))
+        ]
+
+    module _ (k i : ℕ) (found : record { number : i ≡ k + 1; within : k < arena_capacity a }) where
+      inside : k < length s.slots.items
+      inside = omega (arith, found.within, capacity-is)
+
+      -- a slot that was read, by its index
+      pub read : (x : Slot T Gen) → x ≡ get_or s.slots.items k x → slot a i ≡ entry_in gen.number x
+      read x is =
+          rw (← view, found.number, add-one) (get_or-map (entry_in gen.number) s.slots.items k x None inside ∙ ap (entry_in gen.number) (sym is))
+
+      pub read-occupied : (x : Slot T Gen) → x ≡ get_or s.slots.items k x → is_some (slot a i) ≡ true → is_some (slot_entry x) ≡ true
+      read-occupied x is there = is_some-slot_entry gen.number x (ap is_some (sym (read x is)) ∙ there)
+
+      was-there : is_some (slot a i) ≡ true → is_some (get_or (entries gen.number s.slots.items) k None) ≡ true
+      was-there there = rw (← view, found.number, add-one) at there
+
+      inside-entries : k < length (entries gen.number s.slots.items)
+      inside-entries = omega (arith, inside, length-map s.slots.items (entry_in gen.number))
+
+      -- an entry is written over an entry
+      module _ (x : Slot T Gen) (f : ℕ × T → ℕ × T) (is : entry_in gen.number x ≡ option_map f (slot a i)) where
+        pub written : stored (set s.slots.items k x) s.vacant.items ≡ with_slot a i (option_map f (slot a i))
+        written = rw (← is, ← view, found.number, add-one, map-set) refl
+
+        pub written-sound : Sound (stored s.slots.items s.vacant.items) → is_some (slot a i) ≡ true
+            → ((e : ℕ × T) → slot a i ≡ Some e → IsLawfulGeneration gen.greatest (f e).0) → Sound (stored (set s.slots.items k x) s.vacant.items)
+        written-sound sound there lawful =
+            let old = some_of (slot a i) there in
+            let put : entry_in gen.number x ≡ Some (f old.0) = is ∙ ap (option_map f) old.1 in
+            rw (map-set, put)
+            (sound-set inx.most gen.greatest (entries gen.number s.slots.items) _ _ s.maximum sound k (Some (f old.0)) _ inside-entries
+            (lawful-some gen.greatest (f old.0) (lawful old.0 old.1))
+            (rw (vacant_from-some (k + 1) _ (was-there there)) refl))
+
+      -- an entry gets the arena's generation
+      pub renewed : (old x : Slot T Gen) → old ≡ get_or s.slots.items k old → x ≡ with_slot_generation old s.generation
+          → entry_in gen.number x ≡ option_map (λ e. (a.generation, e.1)) (slot a i)
+      renewed old x was is = rw (is, read old was, ← view) (entry_in-with_slot_generation gen.number old s.generation)
+
+      -- an entry is taken out, and its index put on the stack
+      module _ (x : Slot T Gen) (empty : x ≡ Vacant) (stack : List Inx) (j : Inx) (same : inx.number j ≡ i) (pushed : stack ≡ s.vacant.items ++ j ∷ []) where
+        pub taken : stored (set s.slots.items k x) stack ≡ freed a i
+        taken = rw (← view, empty, pushed, map_push, reverse-append, map-set, same, found.number, add-one) refl
+
+        pub taken-sound : Sound (stored s.slots.items s.vacant.items) → is_some (slot a i) ≡ true → Sound (stored (set s.slots.items k x) stack)
+        taken-sound sound there =
+            rw (empty, pushed, map_push, reverse-append, map-set, same, found.number)
+            (sound-set inx.most gen.greatest (entries gen.number s.slots.items) _ _ s.maximum sound k None _ inside-entries (λ e is. absurd (none-some e is)) (rw (vacant_from-some (k + 1) _ (was-there there)) refl))
+
+  -- the index on top of the stack is taken next
+  module _ (a : Arena T) (view : stored s.slots.items s.vacant.items ≡ a) (sound : Sound (stored s.slots.items s.vacant.items))
+      (below : List Inx) (j : Inx) (top : s.vacant.items ≡ below ++ j ∷ []) where
+    first : VacantAt 1 (entries gen.number s.slots.items) (inx.number j)
+    first =
+        first-vacant inx.most gen.greatest _ (inx.number j) (reverse (map inx.number below)) _ s.maximum
+        (rw (top, map_push, reverse-append) at sound)
+
+    -- it is not 0
+    pub top-above : 0 < inx.number j
+    top-above = omega (arith, first.1)
+
+    -- it is the index of a slot that has no entry
+    pub top-vacant : IsVacant a (inx.number j)
+    top-vacant =
+        let next : inx.number j ≡ suc first.0 = omega (arith, first.1) in
+        rw (← view, next) (record { above = omega arith; within = omega (arith, first.2); free = first.3 })
+
+    module _ (k : ℕ) (position : inx.number j ≡ k + 1) where
+      -- its place is one of the slots
+      pub top-within : k < length s.slots.items
+      top-within = omega (arith, position, first.1, first.2, length-map s.slots.items (entry_in gen.number))
+
+      sound-taken : Sound (arena (entries gen.number s.slots.items) ((k + 1) ∷ reverse (map inx.number below)) (gen.number s.generation) s.maximum)
+      sound-taken = rw (top, map_push, reverse-append, position) at sound
+
+      -- an entry is put in its slot
+      pub put-sound : (item : T) → Sound (stored (set s.slots.items k (Occupied item s.generation)) below)
+      put-sound item = rw map-set (sound-filled inx.most gen.greatest _ k _ (gen.number s.generation) s.maximum sound-taken item)
+
+      -- which is an insertion
+      pub insertion : (item : T) (i g : ℕ) → i ≡ inx.number j → g ≡ gen.number s.generation
+          → IsInsertion a (stored (set s.slots.items k (Occupied item s.generation)) below) item i g
+      insertion item i g here now =
+          rw (← view, here, now, top, map_push, reverse-append, position, map-set)
+          (insertion-filled inx.most gen.greatest _ k _ (gen.number s.generation) s.maximum sound-taken item)
+
+-- the vacant indexes are listed anew
+module _ {T Inx Gen : Type 0} (gen : Generations Gen) (inx : Indexes Inx) (next : List (Slot T Gen)) (listed : List Inx) (generation : Gen)
+    (maximum : Option ℕ) (all : map inx.number listed ≡ reverse (vacant_slots 1 next)) where
+  pub relisted : arena_of gen.number next (map inx.number listed) generation maximum
+      ≡ fresh_arena (entries gen.number next) (gen.number generation) maximum
+  relisted = rw (all, reverse-reverse, vacant_slots-from gen.number) refl
+
+  pub relisted-fresh : IsFresh (arena_of gen.number next (map inx.number listed) generation maximum)
+  relisted-fresh = subst (λ (v : Arena T). IsFresh v) (sym relisted) refl
+
+  pub relisted-sound : length next ≤ limit_of inx.most maximum → IsLawfulGeneration gen.greatest (gen.number generation)
+      → AreLawful gen.greatest (entries gen.number next)
+      → IsSound inx.most gen.greatest (arena_of gen.number next (map inx.number listed) generation maximum)
+  relisted-sound within now lawful =
+      rw relisted (sound-fresh inx.most gen.greatest (entries gen.number next) (gen.number generation) maximum (omega (arith, length-map next (entry_in gen.number))) now lawful)

@@ -1,49 +1,43 @@
 -- One step of a walk by index.
-use Rattle.std.proofs.Common.{◌≡◌, ℕ, cond, suc, ◌+◌, ◌<◌, Option, Some, None, List, [], ◌∷◌, ◌++◌, length, get_or, take, drop, reverse, IsSome, is_some, refl, sym, ap, ◌∙◌, arith}
-use Rattle.std.specs.Option.{option_map}
-use Rattle.std.proofs.lemmas.Option.{none-some, same_Some}
-use Rattle.std.proofs.lemmas.List.{get_or-drop, drop-set-lt, append-nil, take_more, reverse-append, length-take-le}
-use Rattle.std.proofs.lemmas.Bool.{eq-eqb}
-use Rattle.arena_base.specs.Arena.{Arena, slot, generation_at, item_if, item_of, removed}
-use Rattle.arena_base.specs.Walk.{pointers_from, entries_from, entries_rising}
-use Rattle.arena_base.proofs.Occupied.{entry-from_generation}
+use Rattle.arena_base.proofs.Words.{◌≡◌, ℕ, suc, ◌+◌, ◌<◌, Option, Some, None, List, [], ◌∷◌, ◌++◌, cond, length, get_or, is_some, take, refl, arith, drop, sym}
+use Rattle.arena_base.proofs.Words.{ap, ◌∙◌, reverse, IsSome, eq-eqb, append-nil, take_more, reverse-append, get_or-drop, drop-set-lt, length-take-le}
+use Rattle.arena_base.proofs.Words.{same_Some, option_map, Arena, slot, item_if, generation_at, item_of, removed, entries_from, entries_rising, pointers_from}
+use Rattle.arena_base.proofs.Occupied.{entry-from_generation, none-from_generation}
 
 module _ {T : Type 0} where
-  no_entry : (o : Option (ℕ × T)) → option_map (λ (e : ℕ × T). e.0) o ≡ None → o ≡ None
-  no_entry None is = refl
-  no_entry (Some e) is = absurd (none-some e.0 (sym is))
-
-  pointers_from-append : (from : ℕ) (xs ys : List (Option (ℕ × T))) → pointers_from from (xs ++ ys) ≡ pointers_from from xs ++ pointers_from (from + length xs) ys
+  pointers_from-append : (from : ℕ) (xs ys : List (Option (ℕ × T)))
+      → pointers_from from (xs ++ ys) ≡ pointers_from from xs ++ pointers_from (from + length xs) ys
   pointers_from-append from [] ys = ap (λ n. pointers_from n ys) (omega arith)
   pointers_from-append from (None ∷ xs) ys =
       let more : from + 1 + length xs ≡ from + suc (length xs) = omega arith in
-      pointers_from-append (from + 1) xs ys ∙ ap (λ n. pointers_from (from + 1) xs ++ pointers_from n ys) more
+      rw (← more) (pointers_from-append (from + 1) xs ys)
   pointers_from-append from (Some e ∷ xs) ys =
       let more : from + 1 + length xs ≡ from + suc (length xs) = omega arith in
-      ap (λ rest. (from, e.0) ∷ rest) (pointers_from-append (from + 1) xs ys ∙ ap (λ n. pointers_from (from + 1) xs ++ pointers_from n ys) more)
+      rw (← more) (ap (λ rest. (from, e.0) ∷ rest) (pointers_from-append (from + 1) xs ys))
+
+  pointers_from-next : (slots : List (Option (ℕ × T))) (i : ℕ) → i < length slots
+      → pointers_from 0 (take (i + 1) slots) ≡ pointers_from 0 (take i slots) ++ pointers_from i (get_or slots i None ∷ [])
+  pointers_from-next slots i within =
+      let here : 0 + length (take i slots) ≡ i = omega (arith, length-take-le i slots (omega arith)) in
+      rw (take_more slots i None within) (pointers_from-append 0 (take i slots) (get_or slots i None ∷ [])
+      ∙ ap (λ n. pointers_from 0 (take i slots) ++ pointers_from n (get_or slots i None ∷ [])) here)
 
   -- downwards, over a slot without an entry and over an entry
-  pub falling-none : (slots : List (Option (ℕ × T))) (i k : ℕ) → i ≡ k + 1 → i < length slots → option_map (λ (e : ℕ × T). e.0) (get_or slots i None) ≡ None
-      → reverse (pointers_from 0 (take (i + 1) slots)) ≡ reverse (pointers_from 0 (take (k + 1) slots))
-  falling-none slots i k next within is =
-      ap (λ ss. reverse (pointers_from 0 ss)) (take_more slots i None within ∙ ap (λ s. take i slots ++ s ∷ []) (no_entry (get_or slots i None) is))
-      ∙ (ap reverse (pointers_from-append 0 (take i slots) (None ∷ []) ∙ append-nil (pointers_from 0 (take i slots)))
-      ∙ ap (λ n. reverse (pointers_from 0 (take n slots))) next)
+  module _ (slots : List (Option (ℕ × T))) (i k : ℕ) (next : i ≡ k + 1) (within : i < length slots) where
+    pub falling-none : option_map (λ (e : ℕ × T). e.0) (get_or slots i None) ≡ None
+        → reverse (pointers_from 0 (take (i + 1) slots)) ≡ reverse (pointers_from 0 (take (k + 1) slots))
+    falling-none is = rw (← next, pointers_from-next slots i within, none-from_generation (get_or slots i None) is, append-nil) refl
 
-  pub falling-some : (slots : List (Option (ℕ × T))) (i k g : ℕ) → i ≡ k + 1 → i < length slots → option_map (λ (e : ℕ × T). e.0) (get_or slots i None) ≡ Some g
-      → reverse (pointers_from 0 (take (i + 1) slots)) ≡ (i, g) ∷ reverse (pointers_from 0 (take (k + 1) slots))
-  falling-some slots i k g next within is =
-      let found = entry-from_generation (get_or slots i None) g is in
-      let e = found.0 in
-      let same : e.0 ≡ g = same_Some e.0 g (ap (option_map (λ (e : ℕ × T). e.0)) (sym found.1) ∙ is) in
-      let here : 0 + length (take i slots) ≡ i = omega (arith, length-take-le i slots (omega arith)) in
-      ap (λ ss. reverse (pointers_from 0 ss)) (take_more slots i None within ∙ ap (λ s. take i slots ++ s ∷ []) found.1)
-      ∙ (ap reverse (pointers_from-append 0 (take i slots) (Some e ∷ []) ∙ ap (λ n. pointers_from 0 (take i slots) ++ (n, e.0) ∷ []) here)
-      ∙ (reverse-append (pointers_from 0 (take i slots)) ((i, e.0) ∷ [])
-      ∙ (ap (λ n. (i, n) ∷ reverse (pointers_from 0 (take i slots))) same ∙ ap (λ n. (i, g) ∷ reverse (pointers_from 0 (take n slots))) next)))
+    pub falling-some : (g : ℕ) → option_map (λ (e : ℕ × T). e.0) (get_or slots i None) ≡ Some g
+        → reverse (pointers_from 0 (take (i + 1) slots)) ≡ (i, g) ∷ reverse (pointers_from 0 (take (k + 1) slots))
+    falling-some g is =
+        let found = entry-from_generation (get_or slots i None) g is in
+        let same : found.0.0 ≡ g = same_Some found.0.0 g (ap (option_map (λ (e : ℕ × T). e.0)) (sym found.1) ∙ is) in
+        rw (← next, pointers_from-next slots i within, found.1, same, reverse-append) refl
 
   -- the first entry that comes stands at its index
-  entries_from-first : (from : ℕ) (slots : List (Option (ℕ × T))) (e : ℕ × ℕ × T) (rest : List (ℕ × ℕ × T)) → entries_from from slots ≡ e ∷ rest → (k : ℕ) × (e.0 ≡ from + k) × (get_or slots k None ≡ Some (e.1, e.2))
+  entries_from-first : (from : ℕ) (slots : List (Option (ℕ × T))) (e : ℕ × ℕ × T) (rest : List (ℕ × ℕ × T)) → entries_from from slots ≡ e ∷ rest
+      → (k : ℕ) × (e.0 ≡ from + k) × (get_or slots k None ≡ Some (e.1, e.2))
   entries_from-first from [] e rest is = absurd (cc)
   entries_from-first from (None ∷ slots) e rest is =
       let later = entries_from-first (from + 1) slots e rest is in
@@ -76,11 +70,10 @@ module _ {T : Type 0} where
   entries_rising-behind greatest a i = ap (entries_from (i + 1)) (drop-set-lt (i + 1) a.slots i None (omega arith))
 
   -- the first entry that comes has been removed
-  pub entries_rising-removed : (greatest : Option ℕ) (a b : Arena T) (i n j g : ℕ) (item x : T) → entries_rising a i ≡ (j, g, x) ∷ entries_rising a (n + 1) → n ≡ j → item_of a (j, g) ≡ Some item → b ≡ removed greatest a j
+  pub entries_rising-removed : (greatest : Option ℕ) (a b : Arena T) (i n j g : ℕ) (item x : T)
+      → entries_rising a i ≡ (j, g, x) ∷ entries_rising a (n + 1) → n ≡ j → item_of a (j, g) ≡ Some item → b ≡ removed greatest a j
       → entries_rising a i ≡ (j, g, item) ∷ entries_rising b (n + 1)
   entries_rising-removed greatest a b i n j g item x is next there removed =
       let named = item_of-there a (j, g) x (entries_rising-first a i (j, g, x) (entries_rising a (n + 1)) is) in
       let same : x ≡ item = same_Some x item (sym named ∙ there) in
-      is ∙ (ap (λ t. (j, g, t) ∷ entries_rising a (n + 1)) same
-      ∙ ap (λ (rest : List (ℕ × ℕ × T)). (j, g, item) ∷ rest)
-      (ap (λ m. entries_rising a (m + 1)) next ∙ (sym (entries_rising-behind greatest a j) ∙ (ap (λ v. entries_rising v (j + 1)) (sym removed) ∙ ap (λ m. entries_rising b (m + 1)) (sym next)))))
+      rw (removed, next, entries_rising-behind greatest a j, ← same) (rw next at is)

@@ -1,4 +1,4 @@
-use Rattle.std.proofs.Common.{rules}
+use Rattle.arena_base.proofs.Words.{rules}
 use Rattle.arena_base.proofs.CloneFacts.{copy-found}
 use Rattle.arena_base.proofs.laws.copy.Goals as goal
 

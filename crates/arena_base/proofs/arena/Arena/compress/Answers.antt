@@ -1,4 +1,4 @@
-use Rattle.std.proofs.Common.{rules}
+use Rattle.arena_base.proofs.Words.{rules}
 use Rattle.arena_base.proofs.Compressing.{compressed-given_back}
 use Rattle.arena_base.proofs.arena.Arena.compress.Goals as goal
 

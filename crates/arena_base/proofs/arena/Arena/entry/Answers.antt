@@ -1,22 +1,13 @@
-use Rattle.std.proofs.Common.{map, sym, ap, ◌∙◌, is_some}
-use Rattle.std.proofs.lemmas.Bool.{false≢true}
-use Rattle.arena_base.specs.Slot.{entry_in}
-use Rattle.arena_base.proofs.Steps.{slot-of}
+use Rattle.arena_base.proofs.Words.{is_some, sym, ap, ◌∙◌, false≢true, entry_in}
+use Rattle.arena_base.proofs.Steps.{read}
 use Rattle.arena_base.proofs.arena.Arena.entry.Goals as goal
 
 pub unreachable-requires : goal.unreachable-requires
 unreachable-requires g c =
-    let s = c.self.inside in
-    let found = c.position_of_entry.ensures in
-    let number = g.P.Gen.PtrGen.number in
-    let none = slot-of number s.slots.items s.generation s.maximum (map g.P.Inx.PtrInx.number s.vacant.items) c.args.self.now c.position_of_entry.result (g.P.Inx.PtrInx.number c.args.i) c.index.result.now
-    c.self.view_is found.number found.within c.index.ensures ∙ ap (entry_in number) c.in-Vacant.is in
-    false≢true (ap is_some (sym none) ∙ c.requires)
+    let was = read g.P.Gen.PtrGen g.P.Inx.PtrInx c.self.inside _ c.self.view_is _ _ c.position_of_entry.ensures _ c.index.ensures in
+    false≢true (ap is_some (sym (was ∙ ap (entry_in g.P.Gen.PtrGen.number) c.in-Vacant.is)) ∙ c.requires)
 
 pub returns : goal.returns
 returns g c =
-    let s = c.self.inside in
-    let found = c.position_of_entry.ensures in
-    let number = g.P.Gen.PtrGen.number in
-    slot-of number s.slots.items s.generation s.maximum (map g.P.Inx.PtrInx.number s.vacant.items) c.args.self.now c.position_of_entry.result (g.P.Inx.PtrInx.number c.args.i) c.index.result.now
-    c.self.view_is found.number found.within c.index.ensures ∙ ap (entry_in number) c.in-Occupied.is
+    read g.P.Gen.PtrGen g.P.Inx.PtrInx c.self.inside _ c.self.view_is _ _ c.position_of_entry.ensures _ c.index.ensures
+    ∙ ap (entry_in g.P.Gen.PtrGen.number) c.in-Occupied.is

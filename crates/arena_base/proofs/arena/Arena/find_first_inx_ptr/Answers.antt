@@ -1,6 +1,4 @@
-use Rattle.std.proofs.Common.{inl, inr, None, length, refl, arith}
-use Rattle.std.proofs.lemmas.Bool.{cases_lt}
-use Rattle.std.proofs.lemmas.List.{get_or_past}
+use Rattle.arena_base.proofs.Words.{inl, inr, None, length, refl, arith, cases_lt, get_or_past}
 use Rattle.arena_base.proofs.Occupied.{counted_none}
 use Rattle.arena_base.proofs.arena.Arena.find_first_inx_ptr.Goals as goal
 

@@ -1,6 +1,4 @@
-use Rattle.std.proofs.Common.{inl, inr, ◌≡◌, None, get_or, refl, sym, ap, ◌∙◌, arith}
-use Rattle.std.proofs.lemmas.Bool.{cases_lt}
-use Rattle.std.proofs.lemmas.List.{get_or-take}
+use Rattle.arena_base.proofs.Words.{inl, inr, ◌≡◌, None, get_or, refl, arith, sym, ap, ◌∙◌, cases_lt, get_or-take}
 use Rattle.arena_base.proofs.Occupied.{counted_none}
 use Rattle.arena_base.proofs.arena.Arena.find_last_inx_ptr.Goals as goal
 

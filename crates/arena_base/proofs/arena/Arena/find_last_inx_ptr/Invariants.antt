@@ -1,5 +1,4 @@
-use Rattle.std.proofs.Common.{◌≡◌, ℕ, ◌<◌, None}
-use Rattle.arena_base.specs.Arena.{slot}
+use Rattle.arena_base.proofs.Words.{◌≡◌, ℕ, ◌<◌, None, slot}
 use Rattle.arena_base.proofs.arena.Arena.find_last_inx_ptr.Given as goal
 
 abbrev pub invariant-loop-position : goal.invariant-loop-position

@@ -1,5 +1,4 @@
-use Rattle.std.proofs.Common.{◌≡◌, ◌+◌}
-use Rattle.arena_base.specs.Walk.{entries_rising, rising_from}
+use Rattle.arena_base.proofs.Words.{◌≡◌, ◌+◌, entries_rising, rising_from}
 use Rattle.arena_base.proofs.arena.Arena.first_from.Given as goal
 
 abbrev pub invariant-loop-position : goal.invariant-loop-position

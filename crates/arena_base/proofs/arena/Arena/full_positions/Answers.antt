@@ -1,7 +1,4 @@
-use Rattle.std.proofs.Common.{map, ◌≡◌, length, sym, ◌∙◌, arith}
-use Rattle.std.proofs.lemmas.Bool.{eqb-true}
-use Rattle.std.proofs.lemmas.List.{length-map, length-reverse}
-use Rattle.arena_base.specs.Slot.{arena_of, entry_in}
+use Rattle.arena_base.proofs.Words.{◌≡◌, length, arith, map, sym, ◌∙◌, eqb-true, length-map, length-reverse, entry_in, arena_of}
 use Rattle.arena_base.proofs.Vacancies.{full-occupied}
 use Rattle.arena_base.proofs.arena.Arena.full_positions.Goals as goal
 

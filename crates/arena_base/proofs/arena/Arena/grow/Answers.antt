@@ -1,4 +1,4 @@
-use Rattle.std.proofs.Common.{◌<◌, length, sym, subst, arith}
+use Rattle.arena_base.proofs.Words.{◌<◌, length, arith, sym, subst}
 use Rattle.arena_base.proofs.Occupied.{greatest_occupied-below}
 use Rattle.arena_base.proofs.Resizing.{with_capacity-room}
 use Rattle.arena_base.proofs.arena.Arena.grow.Goals as goal

@@ -1,7 +1,4 @@
-use Rattle.std.proofs.Common.{◌≡◌, ◌+◌, ◌-◌, ℕ, None, ◌∷◌, sym, ap, ◌∙◌, arith}
-use Rattle.std.specs.Option.{option_map}
-use Rattle.arena_base.specs.Arena.{generation_at}
-use Rattle.arena_base.specs.Walk.{falling_from}
+use Rattle.arena_base.proofs.Words.{◌≡◌, ℕ, ◌+◌, None, ◌∷◌, ◌-◌, arith, sym, ap, ◌∙◌, option_map, generation_at, falling_from}
 use Rattle.arena_base.proofs.Walks.{falling-none, falling-some, item-pointed}
 use Rattle.arena_base.proofs.arena.Arena.last_before.Goals as goal
 
@@ -12,7 +9,7 @@ returns-in-Some-clause-pointers g c =
     let next : n ≡ n - 1 + 1 = omega arith in
     let index : n ≡ (g.P.Ptr.numbers c.pointer.result).0 = next ∙ sym c.pointer.ensures.index in
     sym c.loop-position.invariant
-    ∙ (falling-some a.slots n (n - 1) (g.P.Gen.PtrGen.number c.in-Some.generation) next (omega arith) (rw (← next) at (sym c.in-Some.ensures))
+    ∙ (falling-some a.slots n (n - 1) next (omega arith) (g.P.Gen.PtrGen.number c.in-Some.generation) (rw (← next) at (sym c.in-Some.ensures))
     ∙ (ap (λ (i : ℕ). (i, g.P.Gen.PtrGen.number c.in-Some.generation) ∷ falling_from a (n - 1)) index
     ∙ ap (λ (e : ℕ). ((g.P.Ptr.numbers c.pointer.result).0, e) ∷ falling_from a (n - 1)) (sym c.pointer.ensures.generation)))
 

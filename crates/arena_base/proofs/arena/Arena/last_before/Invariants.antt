@@ -1,5 +1,4 @@
-use Rattle.std.proofs.Common.{◌≡◌}
-use Rattle.arena_base.specs.Walk.{falling_from}
+use Rattle.arena_base.proofs.Words.{◌≡◌, falling_from}
 use Rattle.arena_base.proofs.arena.Arena.last_before.Given as goal
 
 abbrev pub invariant-loop-position : goal.invariant-loop-position

@@ -1,4 +1,4 @@
-use Rattle.std.proofs.Common.{arith}
+use Rattle.arena_base.proofs.Words.{arith}
 use Rattle.arena_base.proofs.Occupied.{greatest_occupied-below}
 use Rattle.arena_base.proofs.arena.Arena.raise_capacity.Goals as goal
 

@@ -1,52 +1,37 @@
-use Rattle.std.proofs.Common.{map, ◌≤◌, reverse, length, sym, ap, ◌∙◌, subst, arith}
-use Rattle.std.proofs.lemmas.List.{length-take}
-use Rattle.arena_base.specs.Slot.{vacant_slots}
-use Rattle.arena_base.specs.Arena.{greatest_occupied, limit_of}
-use Rattle.arena_base.proofs.Resizing.{resized-full, padded-moved, padded-vacant, resized-view, resized-sound}
+use Rattle.arena_base.proofs.Words.{◌≡◌, ◌+◌, ◌++◌, length, replicate, ◌-◌, arith, ap, add-one, length-take, Vacant}
+use Rattle.arena_base.proofs.Resizing.{padded-vacant, resized-full, resized-view, resized-sound}
+use Rattle.arena_base.proofs.arena.Arena.set_capacity.Given.{Over}
+use Rattle.arena_base.proofs.arena.Arena.set_capacity.Goals.{After-add_vacant}
 use Rattle.arena_base.proofs.arena.Arena.set_capacity.Goals as goal
+
+-- the slots, with vacant ones added
+padded : (g : Over) (c : After-add_vacant g)
+    → c.add_vacant.new.slots.items ≡ c.self.inside.slots.items ++ replicate (c.args.n - length c.self.inside.slots.items) Vacant
+padded g c = rw (c.reserve_exact.new.self.ok.0, c.reserve_exact.ensures.items) at c.add_vacant.ensures.items
 
 pub cut_vacant-requires : goal.cut_vacant-requires
 cut_vacant-requires g c =
-    let s = c.self.inside in
-    let inx = g.P.Inx.PtrInx.number in
-    let moved = c.reserve_exact.new.self in
-    let padded = c.add_vacant.new.slots.items in
-    let is = padded-moved s.slots.items moved.items padded c.args.n moved.len c.add_vacant.ensures.items c.reserve_exact.ensures.items moved.ok.0 in
-    padded-vacant g.P.Gen.PtrGen.number s.slots.items padded c.args.n is (subst (λ v. greatest_occupied v.slots ≤ c.args.n) (sym c.self.view_is) c.requires.entries)
+    padded-vacant g.P.Gen.PtrGen.number c.args.n c.self.inside.slots.items _ (padded g (goal.at.cut_vacant-requires g c).After-add_vacant)
+    (rw (← c.self.view_is) at c.requires.entries)
 
 pub list_vacant-requires-clause-full : goal.list_vacant-requires-clause-full
-list_vacant-requires-clause-full g c =
-    let s = c.self.inside in
-    let inx = g.P.Inx.PtrInx.number in
-    let moved = c.reserve_exact.new.self in
-    let padded = c.add_vacant.new.slots.items in
-    let is = padded-moved s.slots.items moved.items padded c.args.n moved.len c.add_vacant.ensures.items c.reserve_exact.ensures.items moved.ok.0 in
-    rw c.as_slice.ensures.value
-    (resized-full g.P.Gen.PtrGen.number s.slots.items padded c.cut_vacant.new.slots.items s.generation s.maximum (map inx s.vacant.items) c.args.self.now c.args.n c.full_positions-full.result c.self.view_is is
-    c.cut_vacant.ensures.items c.requires.entries c.full_positions-full.ensures)
+list_vacant-requires-clause-full g c = λ k below.
+    let is = padded g (goal.at.list_vacant-requires-clause-full g c).After-add_vacant in
+    let there = rw (← c.self.view_is, add-one) at (c.full_positions-full.ensures (k + 1) (omega arith) (omega arith)) in
+    rw (c.as_slice.ensures.value, c.cut_vacant.ensures.items)
+    (resized-full g.P.Gen.PtrGen.number c.args.n c.self.inside.slots.items _ is (rw (← c.self.view_is) at c.requires.entries) k there)
 
 pub invariant_of-self-2 : goal.invariant_of-self-2
 invariant_of-self-2 g c =
-    let s = c.self.inside in
-    let inx = g.P.Inx.PtrInx.number in
-    let moved = c.reserve_exact.new.self in
-    let padded = c.add_vacant.new.slots.items in
-    let is = padded-moved s.slots.items moved.items padded c.args.n moved.len c.add_vacant.ensures.items c.reserve_exact.ensures.items moved.ok.0 in
-    let next = c.cut_vacant.new.slots in
-    let listed = map inx c.list_vacant.new.vacant.items in
-    let all = c.list_vacant.ensures.items ∙ ap (λ ss. reverse (vacant_slots 1 ss)) c.as_slice.ensures.value in (
-      resized-sound g.P.Gen.PtrGen.number g.P.Inx.PtrInx.most g.P.Gen.PtrGen.greatest s.slots.items s.generation s.maximum (map inx s.vacant.items) listed c.args.self.now c.self.view_is next.items all
-          c.args.n padded is c.cut_vacant.ensures.items c.self.invariant.0 (subst (λ v. c.args.n ≤ limit_of g.P.Inx.PtrInx.most v.maximum) (sym c.self.view_is) c.requires.limit),
-      omega (arith, next.ok.0, ap length c.cut_vacant.ensures.items, length-take c.args.n padded, c.in_ok-reserve_exact-2.ensures.ok),
+    let all = rw (c.as_slice.ensures.value, c.cut_vacant.ensures.items) at c.list_vacant.ensures.items in
+    let is = padded g (goal.at.invariant_of-self-2 g c).After-add_vacant in (
+      rw c.cut_vacant.ensures.items
+          (resized-sound g.P.Gen.PtrGen g.P.Inx.PtrInx c.self.inside _ c.args.n _ is all c.self.invariant.0 (rw (← c.self.view_is) at c.requires.limit)),
+      omega (arith, c.cut_vacant.new.slots.ok.0, ap length c.cut_vacant.ensures.items, length-take c.args.n c.add_vacant.new.slots.items, c.in_ok-reserve_exact-2.ensures.ok),
     )
 
 pub returns-clause-ok : goal.returns-clause-ok
 returns-clause-ok g c =
-    let s = c.self.inside in
-    let inx = g.P.Inx.PtrInx.number in
-    let moved = c.reserve_exact.new.self in
-    let padded = c.add_vacant.new.slots.items in
-    let is = padded-moved s.slots.items moved.items padded c.args.n moved.len c.add_vacant.ensures.items c.reserve_exact.ensures.items moved.ok.0 in
-    let all = c.list_vacant.ensures.items ∙ ap (λ ss. reverse (vacant_slots 1 ss)) c.as_slice.ensures.value in
-    resized-view g.P.Gen.PtrGen.number g.P.Inx.PtrInx.most g.P.Gen.PtrGen.greatest s.slots.items s.generation s.maximum (map inx s.vacant.items) (map inx c.list_vacant.new.vacant.items) c.args.self.now c.self.view_is
-    c.cut_vacant.new.slots.items all c.args.n padded is c.cut_vacant.ensures.items
+    let all = rw (c.as_slice.ensures.value, c.cut_vacant.ensures.items) at c.list_vacant.ensures.items in
+    rw c.cut_vacant.ensures.items
+    (resized-view g.P.Gen.PtrGen g.P.Inx.PtrInx c.self.inside _ c.args.n _ (padded g (goal.at.returns-clause-ok g c).After-add_vacant) all _ c.self.view_is)

@@ -1,4 +1,4 @@
-use Rattle.std.proofs.Common.{inl, inr}
+use Rattle.arena_base.proofs.Words.{inl, inr}
 use Rattle.arena_base.proofs.CloneFacts.{clone-restated_ok, refusal-restated}
 use Rattle.arena_base.proofs.arena.Arena.try_clone_from_with.Goals as goal
 

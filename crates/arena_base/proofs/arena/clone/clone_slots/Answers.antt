@@ -1,6 +1,4 @@
-use Rattle.std.proofs.Common.{ℕ, ◌+◌, ◌<◌, length, refl, sym, ap, ◌∙◌, arith}
-use Rattle.arena_base.specs.Arena.{slot}
-use Rattle.arena_base.specs.Clone.{Grants}
+use Rattle.arena_base.proofs.Words.{ℕ, ◌+◌, ◌<◌, length, refl, arith, sym, ap, ◌∙◌, slot, Grants}
 use Rattle.arena_base.proofs.Cloning.{cloned-begins, cloned-vacant, cloned-entry, cloned-ends, cloned-refused}
 use Rattle.arena_base.proofs.Occupied.{greatest_occupied-below}
 use Rattle.arena_base.proofs.arena.clone.clone_slots.Goals.{in-Some+in-Ok, in-None}
@@ -21,43 +19,34 @@ inx_at-i-requires g c = omega (arith, greatest_occupied-below (g.S.ArenaTrait.co
 
 pub returns-in-Err-clause-refused : goal.returns-in-Err-clause-refused
 returns-in-Err-clause-refused g c =
-    let at = c.loop-position in
-    let a = g.S.ArenaTrait.content c.args.source.now in
-    let i = at.position + 1 in
-    let inside : i < length a.slots = omega (arith, greatest_occupied-below a.slots) in
-    let shown = sym (c.get_inx.ensures ∙ ap (slot a) c.inx_at-i.ensures) in
-    cloned-refused g.P.Ptr.numbers g.P.Gen.PtrGen.number g.M.CloneEntry.step c.args.map a.slots at.map at.slots.items i at.invariant.cloned inside
-    (g.P.Gen.PtrGen.number c.in-Some.entry.0) c.in-Some.entry.1.now c._from_raw.result c.in-Err.refusal c.clone_entry.new.self
+    let shown = sym (c.get_inx.ensures ∙ ap (slot (g.S.ArenaTrait.content c.args.source.now)) c.inx_at-i.ensures) in
+    cloned-refused c.loop-position.invariant.cloned (omega (arith, greatest_occupied-below (g.S.ArenaTrait.content c.args.source.now).slots)) _ _ _ _ _
     (shown ∙ rw c.in-Some.is refl) (ap (λ (n : ℕ × ℕ). n.0) c._from_raw.ensures ∙ c.inx_at-i.ensures) (ap (λ (n : ℕ × ℕ). n.1) c._from_raw.ensures)
-    (c.in-Err.ensures.step)
+    c.in-Err.ensures.step
 
 pub loop-position-preserved : goal.loop-position-preserved
 loop-position-preserved g c =
-    let at = c.loop-position in
+    let at = c.loop-position.invariant in
     let a = g.S.ArenaTrait.content c.args.source.now in
-    let i = at.position + 1 in
-    let inside : i < length a.slots = omega (arith, greatest_occupied-below a.slots) in
+    let inside : c.loop-position.position + 1 < length a.slots = omega (arith, greatest_occupied-below a.slots) in
     let shown = sym (c.get_inx.ensures ∙ ap (slot a) c.inx_at-i.ensures) in
     elim c.match-get_inx.branch [
       | in-Some+in-Ok w ↦
           rw (w.slots-is, w.map-is, w.push_reserved.ensures.items) (record {
             callable = w.clone_entry.ensures.callable;
-            cloned = cloned-entry g.P.Ptr.numbers g.P.Gen.PtrGen.number (Grants g.P.Ptr.numbers g.M.CloneEntry.step) c.args.map a.slots at.map at.slots.items i at.invariant.cloned inside
-                w.in-Some.entry.0 w.in-Some.entry.1.now w._from_raw.result w.in-Ok.item w.clone_entry.new.self (shown ∙ rw w.in-Some.is refl)
-                (ap (λ (n : ℕ × ℕ). n.0) w._from_raw.ensures ∙ c.inx_at-i.ensures) (ap (λ (n : ℕ × ℕ). n.1) w._from_raw.ensures) w.in-Ok.ensures.step;
-            count = omega (arith, w.push_reserved.ensures.len, at.invariant.count);
-            capacity = w.push_reserved.ensures.capacity ∙ at.invariant.capacity;
+            cloned = cloned-entry at.cloned inside _ _ _ _ _ (shown ∙ rw w.in-Some.is refl) (ap (λ (n : ℕ × ℕ). n.0) w._from_raw.ensures ∙ c.inx_at-i.ensures)
+                (ap (λ (n : ℕ × ℕ). n.1) w._from_raw.ensures) w.in-Ok.ensures.step;
+            count = omega (arith, w.push_reserved.ensures.len, at.count);
+            capacity = w.push_reserved.ensures.capacity ∙ at.capacity;
           })
       | in-None w ↦
           rw (w.slots-is, w.map-is, w.push_reserved-in-None.ensures.items) (record {
-            callable = at.invariant.callable;
-            cloned = cloned-vacant g.P.Ptr.numbers g.P.Gen.PtrGen.number (Grants g.P.Ptr.numbers g.M.CloneEntry.step) c.args.map a.slots at.map at.slots.items i at.invariant.cloned inside (shown ∙ rw w.in-None.is refl);
-            count = omega (arith, w.push_reserved-in-None.ensures.len, at.invariant.count);
-            capacity = w.push_reserved-in-None.ensures.capacity ∙ at.invariant.capacity;
+            callable = at.callable;
+            cloned = cloned-vacant at.cloned inside (shown ∙ rw w.in-None.is refl);
+            count = omega (arith, w.push_reserved-in-None.ensures.len, at.count);
+            capacity = w.push_reserved-in-None.ensures.capacity ∙ at.capacity;
           })
     ]
 
 pub returns-clause-ok : goal.returns-clause-ok
-returns-clause-ok g c =
-    let at = c.loop-position in
-    cloned-ends g.P.Ptr.numbers g.P.Gen.PtrGen.number (Grants g.P.Ptr.numbers g.M.CloneEntry.step) c.args.map (g.S.ArenaTrait.content c.args.source.now).slots at.map at.slots.items (at.position + 1) at.invariant.cloned (omega arith)
+returns-clause-ok g c = cloned-ends c.loop-position.invariant.cloned (omega arith)

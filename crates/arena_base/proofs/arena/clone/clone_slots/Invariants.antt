@@ -1,5 +1,4 @@
-use Rattle.std.proofs.Common.{◌≡◌, ◌+◌, vec_len, vec_capacity}
-use Rattle.arena_base.specs.Clone.{Grants}
+use Rattle.arena_base.proofs.Words.{◌≡◌, ◌+◌, vec_capacity, vec_len, Grants}
 use Rattle.arena_base.proofs.Cloning.{ClonedBelow}
 use Rattle.arena_base.proofs.arena.clone.clone_slots.Given as goal
 

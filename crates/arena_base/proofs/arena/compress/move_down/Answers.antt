@@ -1,46 +1,37 @@
-use Rattle.std.proofs.Common.{◌<◌, length, get_or, set, refl, sym, ap, ◌∙◌, rules, arith}
+use Rattle.arena_base.proofs.Words.{◌<◌, length, get_or, set, refl, arith, sym, ap, ◌∙◌, rules}
 use Rattle.arena_base.proofs.Compressing.{compressed-begins, compressed-vacant, compressed-free, compressed-filled, compressed-ends}
 use Rattle.arena_base.proofs.arena.compress.move_down.Goals.{in-Some, in_default}
 use Rattle.arena_base.proofs.arena.compress.move_down.Goals as goal
 
 pub loop-from-init : goal.loop-from-init
-loop-from-init g c = (c.requires.callable, compressed-begins g.P.Ptr.numbers g.P.Gen.PtrGen.number g.M.MapEntry.step c.args.generation c.args.map c.args.slots.now.items, refl)
+loop-from-init g c =
+    (c.requires.callable, compressed-begins g.P.Ptr.numbers g.P.Gen.PtrGen.number g.M.MapEntry.step c.args.generation c.args.map c.args.slots.now.items, refl)
 
 pub fill-requires : goal.fill-requires
 fill-requires g c =
     let at = c.loop-from in
-    let b = at.invariant.1 in
-    let inside : at.from < length c.args.slots.now.items = search rules in
-    let x = c.index_mut-slot-in-Some.result.now in
-    compressed-free g.P.Ptr.numbers g.P.Gen.PtrGen.number g.M.MapEntry.step c.args.generation c.args.map c.args.slots.now.items at.map at.slots.items at.from at.to b inside
-    x (c.index_mut-slot-in-Some.ensures.value ∙ ap (λ v. get_or (set at.slots.items at.from v) at.to x) c.vacate.ensures.after)
+    compressed-free at.invariant.1 (search rules) _
+    (c.index_mut-slot-in-Some.ensures.value ∙ ap (λ v. get_or (set at.slots.items at.from v) at.to c.index_mut-slot-in-Some.result.now) c.vacate.ensures.after)
 
 pub loop-from-preserved : goal.loop-from-preserved
 loop-from-preserved g c =
     let at = c.loop-from in
-    let b = at.invariant.1 in
     let inside : at.from < length c.args.slots.now.items = search rules in
-    let read = c.index_mut-slot.ensures.value in
-    let now = c.index_mut-slot.result.now in
     elim c.match-vacate.branch [
       | in-Some w ↦
           rw (w.slots-is, w.map-is, w.to-is, w.fill.ensures, c.vacate.ensures.after) (
             w.map_entry-answer.ensures.callable,
-            compressed-filled g.P.Ptr.numbers g.P.Gen.PtrGen.number g.M.MapEntry.step c.args.generation c.args.map c.args.slots.now.items at.map at.slots.items at.from at.to b inside
-                now w.in-Some.entry.0 w.in-Some.entry.1 w.map_entry-answer.result w.pointer.result w.pointer-in-Some.result w.map_entry-answer.new.self read (sym c.vacate.ensures.value
-                ∙ w.in-Some.is) w.pointer.ensures.index w.pointer.ensures.generation w.pointer-in-Some.ensures.index w.pointer-in-Some.ensures.generation w.map_entry-answer.ensures.step,
+            compressed-filled at.invariant.1 inside _ c.index_mut-slot.ensures.value _ _ _ _ _ _ (sym c.vacate.ensures.value ∙ w.in-Some.is)
+                w.pointer.ensures w.pointer-in-Some.ensures w.map_entry-answer.ensures.step,
             at.invariant.2,
           )
       | in_default w ↦
           rw (w.slots-is, w.map-is, w.to-is, c.vacate.ensures.after) (
             at.invariant.0,
-            compressed-vacant g.P.Ptr.numbers g.P.Gen.PtrGen.number g.M.MapEntry.step c.args.generation c.args.map c.args.slots.now.items at.map at.slots.items at.from at.to b inside
-                now read (sym c.vacate.ensures.value ∙ w.in_default.is),
+            compressed-vacant at.invariant.1 inside _ c.index_mut-slot.ensures.value (sym c.vacate.ensures.value ∙ w.in_default.is),
             at.invariant.2,
           )
     ]
 
 pub returns-clause-items : goal.returns-clause-items
-returns-clause-items g c =
-    let at = c.loop-from in
-    compressed-ends g.P.Ptr.numbers g.P.Gen.PtrGen.number g.M.MapEntry.step c.args.generation c.args.map c.args.slots.now.items at.map at.slots.items at.from at.to at.invariant.1 (omega arith) (omega arith)
+returns-clause-items g c = compressed-ends c.loop-from.invariant.1 (omega arith) (omega arith)

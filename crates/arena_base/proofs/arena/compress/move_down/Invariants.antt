@@ -1,4 +1,4 @@
-use Rattle.std.proofs.Common.{◌≡◌, vec_capacity}
+use Rattle.arena_base.proofs.Words.{◌≡◌, vec_capacity}
 use Rattle.arena_base.proofs.Compressing.{CompressedBelow}
 use Rattle.arena_base.proofs.arena.compress.move_down.Given as goal
 

@@ -1,4 +1,4 @@
-use Rattle.std.proofs.Common.{arith}
+use Rattle.arena_base.proofs.Words.{arith}
 use Rattle.arena_base.proofs.arena.get.inx_at.Goals as goal
 
 pub overflow_add-position : goal.overflow_add-position

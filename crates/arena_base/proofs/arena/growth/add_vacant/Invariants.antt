@@ -1,5 +1,4 @@
-use Rattle.std.proofs.Common.{◌≡◌, ◌-◌, ◌≤◌, ◌++◌, replicate, vec_len, vec_capacity}
-use Rattle.arena_base.specs.declared.slot.Slot.TheVariants.{Vacant}
+use Rattle.arena_base.proofs.Words.{◌≡◌, ◌≤◌, ◌++◌, replicate, ◌-◌, vec_capacity, vec_len, Vacant}
 use Rattle.arena_base.proofs.arena.growth.add_vacant.Given as goal
 
 abbrev pub invariant-loop-slots : goal.invariant-loop-slots

@@ -1,5 +1,4 @@
-use Rattle.std.proofs.Common.{◌≡◌, get_or, sym, ◌∙◌, arith}
-use Rattle.arena_base.specs.declared.slot.Slot.TheVariants.{Vacant}
+use Rattle.arena_base.proofs.Words.{◌≡◌, get_or, arith, sym, ◌∙◌, Vacant}
 use Rattle.arena_base.proofs.Positions.{take-without_last, get_or-last}
 use Rattle.arena_base.proofs.arena.growth.cut_vacant.Goals as goal
 

@@ -1,4 +1,4 @@
-use Rattle.std.proofs.Common.{◌≡◌, ◌≤◌, min, take, vec_len, vec_capacity}
+use Rattle.arena_base.proofs.Words.{◌≡◌, ◌≤◌, take, vec_capacity, vec_len, min}
 use Rattle.arena_base.proofs.arena.growth.cut_vacant.Given as goal
 
 abbrev pub invariant-loop-slots : goal.invariant-loop-slots

@@ -1,6 +1,4 @@
-use Rattle.std.proofs.Common.{◌≡◌, ◌+◌, length, drop, reverse, ap, sym, ◌∙◌, arith}
-use Rattle.std.proofs.lemmas.List.{length-map, length-reverse, length-drop}
-use Rattle.arena_base.specs.Slot.{vacant_slots}
+use Rattle.arena_base.proofs.Words.{◌≡◌, ◌+◌, length, arith, drop, sym, ap, ◌∙◌, reverse, length-map, length-reverse, length-drop, vacant_slots}
 use Rattle.arena_base.proofs.Positions.{length-vacant_slots, vacant_slots-full}
 use Rattle.arena_base.proofs.arena.growth.list_vacant.Goals as goal
 

@@ -1,5 +1,4 @@
-use Rattle.std.proofs.Common.{◌≡◌, ◌+◌, map, reverse, drop, vec_capacity}
-use Rattle.arena_base.specs.Slot.{vacant_slots}
+use Rattle.arena_base.proofs.Words.{◌≡◌, ◌+◌, drop, map, reverse, vec_capacity, vacant_slots}
 use Rattle.arena_base.proofs.arena.growth.list_vacant.Given as goal
 
 abbrev pub invariant-loop-position : goal.invariant-loop-position

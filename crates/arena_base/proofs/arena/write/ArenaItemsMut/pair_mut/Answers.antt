@@ -1,71 +1,53 @@
-use Rattle.std.proofs.Common.{map, ℕ, ◌<◌, subst, is_some, refl, sym, ap, ◌∙◌}
-use Rattle.std.specs.Option.{option_map, ForSome}
-use Rattle.arena_base.specs.Generation.{IsLawfulGeneration}
-use Rattle.arena_base.specs.Slot.{with_slot_item}
-use Rattle.arena_base.specs.Arena.{slot, arena_capacity}
-use Rattle.arena_base.proofs.Occupied.{is_some-slot_entry, entry_in-parts, item-slot_entry, entry_in-with_slot_item}
-use Rattle.arena_base.proofs.Steps.{slot-of, set-view, set-sound}
+use Rattle.arena_base.proofs.Words.{◌≡◌, ℕ, ◌+◌, ◌<◌, refl, ap, ◌∙◌, subst, option_map, ForSome, slot, arena_capacity, IsLawfulGeneration, with_slot_item}
+use Rattle.arena_base.proofs.Occupied.{entry_in-parts, item-slot_entry, entry_in-with_slot_item}
+use Rattle.arena_base.proofs.Steps.{read, read-occupied, written, written-sound}
+use Rattle.arena_base.proofs.arena.write.ArenaItemsMut.pair_mut.Given.{Over}
+use Rattle.arena_base.proofs.arena.write.ArenaItemsMut.pair_mut.Goals.{After-position_of_entry-position}
 use Rattle.arena_base.proofs.arena.write.ArenaItemsMut.pair_mut.Goals as goal
+
+found : (g : Over) (c : After-position_of_entry-position g)
+    → record { number : g.P.Inx.PtrInx.number c.args.i ≡ c.position_of_entry-position.result + 1; within : c.position_of_entry-position.result < arena_capacity c.args.self.now }
+found g c = record {
+  number = c.position_of_entry-position.ensures.number;
+  within = subst (λ v. c.position_of_entry-position.result < arena_capacity v) c.self.view_is c.position_of_entry-position.ensures.within;
+}
 
 pub generation-generation-requires : goal.generation-generation-requires
 generation-generation-requires g c =
-    let s = c.self.inside in
-    let number = g.P.Gen.PtrGen.number in
-    let found = c.position_of_entry-position.ensures in
-    let within = subst (λ v. c.position_of_entry-position.result < arena_capacity v) c.self.view_is found.within in
-    let was = slot-of number s.slots.items s.generation s.maximum (map g.P.Inx.PtrInx.number s.vacant.items) c.args.self.now c.position_of_entry-position.result (g.P.Inx.PtrInx.number c.args.i) c.index.result.now
-    c.self.view_is found.number within c.index.ensures in
-    is_some-slot_entry number c.index.result.now (ap is_some (sym was) ∙ c.requires)
+    let here = found g (goal.at.generation-generation-requires g c).After-position_of_entry-position in
+    read-occupied g.P.Gen.PtrGen g.P.Inx.PtrInx c.self.inside _ c.self.view_is _ _ here _ c.index.ensures c.requires
 
 pub item_mut-requires : goal.item_mut-requires
 item_mut-requires g c =
-    let s = c.self.inside in
-    let number = g.P.Gen.PtrGen.number in
-    let found = c.position_of_entry-position.ensures in
-    let within = subst (λ v. c.position_of_entry-position.result < arena_capacity v) c.self.view_is found.within in
-    let was = slot-of number s.slots.items s.generation s.maximum (map g.P.Inx.PtrInx.number s.vacant.items) c.args.self.now c.position_of_entry-position.result (g.P.Inx.PtrInx.number c.args.i) c.index_mut-slot.result.now
-    c.self.view_is found.number within c.index_mut-slot.ensures.value in
-    is_some-slot_entry number c.index_mut-slot.result.now (ap is_some (sym was) ∙ c.requires)
+    let here = found g (goal.at.item_mut-requires g c).After-position_of_entry-position in
+    read-occupied g.P.Gen.PtrGen g.P.Inx.PtrInx c.self.inside _ c.self.view_is _ _ here _ c.index_mut-slot.ensures.value c.requires
 
 pub invariant_of-self-lent : goal.invariant_of-self-lent
 invariant_of-self-lent g c = λ w.
-    let s = c.self.inside in
-    let number = g.P.Gen.PtrGen.number in
-    let i = g.P.Inx.PtrInx.number c.args.i in
-    let position = c.position_of_entry-position.result in
-    let found = c.position_of_entry-position.ensures in
-    let within = subst (λ v. c.position_of_entry-position.result < arena_capacity v) c.self.view_is found.within in
-    let old = c.index_mut-slot.result.now in
-    let was = slot-of number s.slots.items s.generation s.maximum (map g.P.Inx.PtrInx.number s.vacant.items) c.args.self.now position i old c.self.view_is found.number within c.index_mut-slot.ensures.value in
-    let is = entry_in-with_slot_item number old w ∙ ap (option_map (λ (e : ℕ × g.row.T.Denot). (e.0, w))) (sym was) in (
-      set-sound number g.P.Inx.PtrInx.most g.P.Gen.PtrGen.greatest s.slots.items s.generation s.maximum (map g.P.Inx.PtrInx.number s.vacant.items) c.args.self.now position i c.self.view_is found.number
-          (with_slot_item old w) (λ e. (e.0, w)) c.self.invariant.0 c.requires is
-          (λ e there. subst (λ v. ForSome (slot v i) (λ e. IsLawfulGeneration g.P.Gen.PtrGen.greatest e.0)) c.self.view_is (c.self.invariant.0.entries_lawful i) e there),
+    let here = found g (goal.at.invariant_of-self-lent g c).After-position_of_entry-position in
+    let was = read g.P.Gen.PtrGen g.P.Inx.PtrInx c.self.inside _ c.self.view_is _ _ here _ c.index_mut-slot.ensures.value in
+    let old = c.index_mut-slot.result.now in (
+      written-sound g.P.Gen.PtrGen g.P.Inx.PtrInx c.self.inside _ c.self.view_is _ _ here (with_slot_item old w) (λ e. (e.0, w))
+          (rw was (entry_in-with_slot_item g.P.Gen.PtrGen.number old w)) c.self.invariant.0 c.requires
+          (subst (λ v. ForSome (slot v (g.P.Inx.PtrInx.number c.args.i)) (λ e. IsLawfulGeneration g.P.Gen.PtrGen.greatest e.0)) c.self.view_is (c.self.invariant.0.entries_lawful (g.P.Inx.PtrInx.number c.args.i))),
       c.self.invariant.1,
     )
 
 pub returns : goal.returns
 returns g c =
-    let s = c.self.inside in
-    let number = g.P.Gen.PtrGen.number in
-    let a = c.args.self.now in
-    let i = g.P.Inx.PtrInx.number c.args.i in
-    let position = c.position_of_entry-position.result in
-    let found = c.position_of_entry-position.ensures in
-    let within = subst (λ v. c.position_of_entry-position.result < arena_capacity v) c.self.view_is found.within in
+    let here = found g (goal.at.returns g c).After-position_of_entry-position in
     let old = c.index_mut-slot.result.now in
-    let read = slot-of number s.slots.items s.generation s.maximum (map g.P.Inx.PtrInx.number s.vacant.items) a position i c.index.result.now c.self.view_is found.number within c.index.ensures in
-    let lent = slot-of number s.slots.items s.generation s.maximum (map g.P.Inx.PtrInx.number s.vacant.items) a position i old c.self.view_is found.number within c.index_mut-slot.ensures.value in (
+    let seen = read g.P.Gen.PtrGen g.P.Inx.PtrInx c.self.inside _ c.self.view_is _ _ here _ c.index.ensures in
+    let lent = read g.P.Gen.PtrGen g.P.Inx.PtrInx c.self.inside _ c.self.view_is _ _ here _ c.index_mut-slot.ensures.value in (
       (
         refl,
         λ w.
-            let is = entry_in-with_slot_item number old w ∙ ap (option_map (λ (e : ℕ × g.row.T.Denot). (e.0, w))) (sym lent) in
-            set-view number g.P.Inx.PtrInx.most g.P.Gen.PtrGen.greatest s.slots.items s.generation s.maximum (map g.P.Inx.PtrInx.number s.vacant.items) a position i c.self.view_is found.number
-            (with_slot_item old w) (option_map (λ (e : ℕ × g.row.T.Denot). (e.0, w)) (slot a i)) is,
+            written g.P.Gen.PtrGen g.P.Inx.PtrInx c.self.inside _ c.self.view_is _ _ here (with_slot_item old w) (λ e. (e.0, w))
+            (rw lent (entry_in-with_slot_item g.P.Gen.PtrGen.number old w)),
       ),
       record {
         writes_back = tt;
-        value = entry_in-parts number c.index.result.now c.generation-generation.result c.item_mut.result.now (slot a i) read c.generation-generation.ensures
-            (ap (option_map (λ (e : ℕ × g.row.T.Denot). e.1)) lent ∙ (item-slot_entry number old ∙ c.item_mut.ensures.value));
+        value = entry_in-parts g.P.Gen.PtrGen.number c.index.result.now c.generation-generation.result c.item_mut.result.now _ seen c.generation-generation.ensures
+            (ap (option_map (λ (e : ℕ × g.row.T.Denot). e.1)) lent ∙ (item-slot_entry g.P.Gen.PtrGen.number old ∙ c.item_mut.ensures.value));
       },
     )
