@@ -3,6 +3,7 @@ use Rattle.std.proofs.Common.{◌≡◌, ◌≢◌, ℕ, inl, inr, List, [], ◌
 use Rattle.std.specs.List.{AllByRecursion, Contains, FoldsTo}
 use Rattle.std.specs.Option.{option_map}
 use Rattle.std.proofs.lemmas.List.Elements.{recursion_from_All}
+use Rattle.std.proofs.lemmas.Option.{IfSome_then}
 use Rattle.std.specs.declared.cmp.Ordering.{Ordering}
 use Rattle.std.specs.declared.cmp.Ordering.TheVariants.{Less, Equal, Greater}
 use Rattle.chain_base.specs.Chain.{Entry}
@@ -10,19 +11,13 @@ use Rattle.triple_ord.specs.Gap.{Gap, last_or, before, after}
 use Rattle.triple_ord.specs.Search.{pointer}
 use Rattle.triple_ord.specs.ClosureSearch.{Shown, where_equal, FindsWith}
 use Rattle.triple_ord.specs.OrderLaws.{AreAnsweredInOrder, AnsweredInOrderLaw}
-use Rattle.triple_ord.proofs.Descending.{IfSome-map}
-use Rattle.triple_ord.proofs.Inserting.{ends}
+use Rattle.triple_ord.proofs.Cuts.{ends, some_last}
 use Rattle.triple_ord.proofs.OrderLaws.{contained, recursion-append, recursion-map}
 
 -- what is true of each is true of the last
 last_holds : {X : Type 0} (P : X → Type 0) (other : Option X) (xs : List X) → IfSome other P → AllByRecursion P xs → IfSome (last_or other xs) P
 last_holds P other [] is all = is
 last_holds P other (x ∷ xs) is all = last_holds P (Some x) xs all.0 all.1
-
--- a list with an element has a last one
-some_last : {X : Type 0} (x : X) (xs : List X) → (y : X) × (last_or (Some x) xs ≡ Some y)
-some_last x [] = (x, refl)
-some_last x (y ∷ ys) = some_last y ys
 
 -- the part behind an element, and the part before one
 behind : {X : Type 0} (P : X → Type 0) (front : List X) (x : X) (back : List X) → AllByRecursion P (front ++ x ∷ back) → P x × AllByRecursion P back
@@ -70,14 +65,14 @@ module _ {T : Type 0} (answer : Entry T → Ordering) where
               let last = some_last x xs in
               let ending : last_or None gap.front ≡ Some last.0 = ap (λ es. last_or None es) is ∙ last.1 in
               let cuts = ends gap.front last.0 ending in
-              let cut : ordered.front ++ (ordered.middle ++ ordered.back) ≡ cuts.front ++ last.0 ∷ gap.back =
-              sym ordered.cut ∙ gap.cut ∙ ap (λ es. es ++ gap.back) cuts.cut ∙ simp append_assoc in
+              let cut : ordered.front ++ (ordered.middle ++ ordered.back) ≡ cuts.0 ++ last.0 ∷ gap.back =
+              sym ordered.cut ∙ gap.cut ∙ ap (λ es. es ++ gap.back) cuts.1 ∙ simp append_assoc in
               let others = recursion-append (λ e. answer e ≢ Greater) ordered.middle ordered.back
               (recursion-map (λ e. answer e ≡ Equal) (λ e. answer e ≢ Greater) (λ e one other. absurd (cc)) ordered.middle middle_equal)
               (recursion-map (λ e. answer e ≡ Less) (λ e. answer e ≢ Greater) (λ e one other. absurd (cc)) ordered.back back_less) in
               let here : answer last.0 ≡ Greater = rw ending at low in
-              subst (λ es. AllByRecursion (λ e. answer e ≡ Greater) es) (sym cuts.cut)
-              (greater_before ordered.front (ordered.middle ++ ordered.back) cuts.front gap.back last.0 cut here front_greater others)
+              subst (λ es. AllByRecursion (λ e. answer e ≡ Greater) es) (sym cuts.1)
+              (greater_before ordered.front (ordered.middle ++ ordered.back) cuts.0 gap.back last.0 cut here front_greater others)
 
       all_back : IfSome (after gap) (λ e. answer e ≡ Less) → AllByRecursion (λ e. answer e ≡ Less) gap.back
       all_back high = go gap.back refl
@@ -128,8 +123,8 @@ module _ {T F : Type 0} (asks : F → Shown T → F → Type 0) (answer : Entry 
           let is : found ≡ Some (pointer met.0) = finds.2 ∙ ap (λ l. option_map pointer (where_equal l)) was in
           absurd (cc)
       | inr stops ↦
-          let low = IfSome-map (λ e. Contains shown (e, Greater)) (λ e. answer e ≡ Greater) (before stops.0) (λ e has. sym (contained (λ s. s.1 ≡ answer s.0) shown (e, Greater) answers has)) stops.1.greater_before in
-          let high = IfSome-map (λ e. Contains shown (e, Less)) (λ e. answer e ≡ Less) (after stops.0) (λ e has. sym (contained (λ s. s.1 ≡ answer s.0) shown (e, Less) answers has)) stops.1.less_after in
+          let low = IfSome_then (before stops.0) stops.1.greater_before (λ e has. sym (contained (λ s. s.1 ≡ answer s.0) shown (e, Greater) answers has)) in
+          let high = IfSome_then (after stops.0) stops.1.less_after (λ e has. sym (contained (λ s. s.1 ≡ answer s.0) shown (e, Less) answers has)) in
           none_equal answer entries ordered stops.0 low high
     ]
 

@@ -1,5 +1,5 @@
 -- Steps from a hint: how they begin, go on, and end.
-use Rattle.std.proofs.Common.{◌≡◌, ◌≢◌, ℕ, suc, true, false, not, ◌==◌, ◌+◌, ◌<◌, ◌≤◌, List, [], ◌∷◌, ◌++◌, Option, Some, None, IsSome, IfSome, length, refl, sym, ap, subst, ◌∙◌, arith, inl, inr, ◌⊎◌, append_assoc, length-append}
+use Rattle.std.proofs.Common.{◌≡◌, ◌≢◌, ℕ, suc, true, false, not, ◌==◌, ◌+◌, ◌<◌, ◌≤◌, List, [], ◌∷◌, ◌++◌, Option, Some, None, IsSome, IfSome, length, refl, sym, ap, ◌∙◌, arith, inl, inr, ◌⊎◌, append_assoc, length-append}
 use Rattle.std.proofs.lemmas.Bool.Decides.{eqb_tells, leb_tells}
 use Rattle.std.specs.Option.{option_map}
 use Rattle.std.specs.Cmp.{IsTotalOrder}
@@ -13,47 +13,22 @@ use Rattle.triple_ord.specs.Search.{order_to, pointer, Fits, FindsSimilar}
 use Rattle.triple_ord.specs.Order.{IsInOrder}
 use Rattle.triple_ord.specs.Hint.{position_of, way_length}
 use Rattle.triple_ord.specs.Steps.{neighbour_towards, CameFrom, IsStepping}
-use Rattle.triple_ord.proofs.Descending.{entry_at-here, last_or-append, times-back}
-use Rattle.triple_ord.proofs.Inserting.{ends}
+use Rattle.triple_ord.proofs.Cuts.{last_or-append, begins, ends, stands, not_before, entry_at-here}
 use Rattle.triple_ord.proofs.Ordered.{stands-before, stands-behind}
 
 module _ {T : Type 0} where
-  -- an entry that is there stands at its place
-  pub record StandsAt (es : List (Entry T)) (i : ℕ) : Type 0 where
-    pub front : List (Entry T)
-    pub entry : Entry T
-    pub back : List (Entry T)
-    pub cut : es ≡ front ++ entry ∷ back
-    pub here : entry.index ≡ i
-    pub place : length front ≡ position_of es i
-
-  stands : (es : List (Entry T)) (i : ℕ) → IsSome (entry_at es i) → StandsAt es i
-  stands [] i some = absurd (cc)
-  stands (e ∷ es) i some = elim (eqb_tells e.index i) [
-    | inl h ↦ record { front = []; entry = e; back = es; cut = refl; here = h.1; place = rw h.0 refl }
-    | inr h ↦
-        let rest = stands es i (rw h.0 at some) in
-        record { front = e ∷ rest.front; entry = rest.entry; back = rest.back; cut = ap (λ xs. e ∷ xs) rest.cut; here = rest.here; place = rw h.0 (omega (arith, rest.place)) }
-  ]
-
   first_or-index : (es : List (Entry T)) → first_or None es ≡ option_map (λ e. e.index) (first_of es)
   first_or-index [] = refl
   first_or-index (e ∷ es) = refl
 
   -- the link of an entry has the indexes of the entries beside it
-  link_at-here : (o : Option (Entry T)) (front : List (Entry T)) (e : Entry T) (back : List (Entry T)) → IsDistinct (front ++ e ∷ back)
+  link_at-here : (o : Option (Entry T)) (front : List (Entry T)) (e : Entry T) (back : List (Entry T)) → times e.index front ≡ 0
       → link_between (option_map (λ x. x.index) o) None (front ++ e ∷ back) e.index
-      ≡ Some (
-        e.generation,
-        record { item = e.item; prev = option_map (λ x. x.index) (last_or o front); next = option_map (λ x. x.index) (first_of back) },
-      )
-  link_at-here o [] e back distinct = elim (eqb_tells e.index e.index) [ inl h ↦ rw (h.0, first_or-index back) refl | inr h ↦ absurd (h.1 refl) ]
-  link_at-here o (f ∷ front) e back distinct = elim (eqb_tells f.index e.index) [
-    | inl h ↦
-        let here : 1 ≤ times e.index (e ∷ back) = elim (eqb_tells e.index e.index) [ inl q ↦ rw q.0 (omega arith) | inr q ↦ absurd (q.1 refl) ] in
-        let twice : times e.index (f ∷ front ++ e ∷ back) ≡ 1 + times e.index (front ++ e ∷ back) = rw h.0 refl in
-        absurd (omega (arith, twice, here, times-back e.index front (e ∷ back), distinct e.index))
-    | inr h ↦ rw h.0 (link_at-here (Some f) front e back (λ j. omega (arith, distinct j)))
+      ≡ Some (e.generation, record { item = e.item; prev = option_map (λ x. x.index) (last_or o front); next = option_map (λ x. x.index) (first_of back) })
+  link_at-here o [] e back none = elim (eqb_tells e.index e.index) [ inl h ↦ rw (h.0, first_or-index back) refl | inr h ↦ absurd (h.1 refl) ]
+  link_at-here o (f ∷ front) e back none = elim (eqb_tells f.index e.index) [
+    | inl h ↦ absurd (let some = rw h.0 at none in omega (arith, some))
+    | inr h ↦ rw h.0 (link_at-here (Some f) front e back (let rest = rw h.0 at none in omega (arith, rest)))
   ]
 
 -- a gap has a neighbour on each side where there are entries
@@ -68,11 +43,6 @@ before-some x (y ∷ ys) = before-some y ys
 before-count : {X : Type 0} (front : List X) → (present (last_or None front) ≡ 1) ⊎ ((present (last_or None front) ≡ 0) × (length front ≡ 0))
 before-count [] = inr (refl, refl)
 before-count (x ∷ front) = inl (before-some x front)
-
--- what begins a list
-begins : {X : Type 0} (xs : List X) (x : X) → first_of xs ≡ Some x → (ys : List X) × (xs ≡ x ∷ ys)
-begins [] x is = absurd (cc)
-begins (y ∷ ys) x is = let same : y ≡ x = cc in (ys, rw same refl)
 
 -- the entry whose index is read
 read_index : {T : Type 0} (o : Option (Entry T)) (j : ℕ) → option_map (λ e. e.index) o ≡ Some j → (e : Entry T) × (o ≡ Some e) × (e.index ≡ j)
@@ -116,11 +86,8 @@ module _ {T K : Type 0} (key : T → K) (cmp : K → K → Ordering) (es : List 
     high-answered Less from (Some f) is turned = let same : from.0 ≡ f = (let both = from.1 in cc) in (rw same at from.2, from.3)
 
   module _ (start i visits : ℕ) (came : Ordering) (s : IsStepping key cmp es k start i visits came) where
-    distinct_here : IsDistinct (s.front ++ s.entry ∷ s.back)
-    distinct_here = subst (λ (xs : List (Entry T)). IsDistinct xs) s.cut distinct
-
     pub stepping-occupied : IsSome (entry_at es i)
-    stepping-occupied = rw (s.cut, ← s.here, entry_at-here s.front s.entry s.back distinct_here) refl
+    stepping-occupied = rw (← s.here, entry_at-here es distinct s.front s.entry s.back s.cut) refl
 
     -- the steps so far, and this one, are no more than there are entries
     pub stepping-few : visits + 1 ≤ length es
@@ -142,7 +109,7 @@ module _ {T K : Type 0} (key : T → K) (cmp : K → K → Ordering) (es : List 
       )
           (generation, l)
       read =
-          let here = link_at-here None s.front s.entry s.back distinct_here in
+          let here = link_at-here None s.front s.entry s.back (not_before es distinct s.front s.entry s.back s.cut) in
           let found = rw (s.cut, ← s.here) at is in
           cc
 
@@ -166,12 +133,12 @@ module _ {T K : Type 0} (key : T → K) (cmp : K → K → Ordering) (es : List 
           let end = ends s.front n.0 n.1 in
           let place = place-less start visits s.front s.back came s.from ahead in
           record {
-            front = end.front;
+            front = end.0;
             entry = n.0;
             back = s.entry ∷ s.back;
-            cut = s.cut ∙ (ap (λ (xs : List (Entry T)). xs ++ s.entry ∷ s.back) end.cut ∙ simp append_assoc);
+            cut = s.cut ∙ (ap (λ (xs : List (Entry T)). xs ++ s.entry ∷ s.back) end.1 ∙ simp append_assoc);
             here = n.2;
-            from = (s.entry, refl, stepping-order Less order, omega arith, omega (arith, place, ap length end.cut, length-append end.front (n.0 ∷ [])));
+            from = (s.entry, refl, stepping-order Less order, omega arith, omega (arith, place, ap length end.1, length-append end.0 (n.0 ∷ [])));
             within = s.within;
           }
       stepping-goes Equal order j next ahead = absurd (cc)
@@ -250,9 +217,9 @@ module _ {T K : Type 0} (key : T → K) (cmp : K → K → Ordering) (es : List 
         ]
         by_way Greater from =
             let end = ends s.front from.0 from.1 in
-            let cut : es ≡ end.front ++ from.0 ∷ (s.entry ∷ s.back) = s.cut ∙ (ap (λ (xs : List (Entry T)). xs ++ s.entry ∷ s.back) end.cut ∙ simp append_assoc) in
-            let before = stands-before key real total k es ordered gap fits end.front (s.entry ∷ s.back) from.0 cut (greater _ from.2) in
-            let reach : length s.front ≤ length gap.front = omega (arith, before, ap length end.cut, length-append end.front (from.0 ∷ [])) in
+            let cut : es ≡ end.0 ++ from.0 ∷ (s.entry ∷ s.back) = s.cut ∙ (ap (λ (xs : List (Entry T)). xs ++ s.entry ∷ s.back) end.1 ∙ simp append_assoc) in
+            let before = stands-before key real total k es ordered gap fits end.0 (s.entry ∷ s.back) from.0 cut (greater _ from.2) in
+            let reach : length s.front ≤ length gap.front = omega (arith, before, ap length end.1, length-append end.0 (from.0 ∷ [])) in
             up from.4 reach (omega (arith, reach, from.3, from.4))
 
 -- orders that are told apart by a test
