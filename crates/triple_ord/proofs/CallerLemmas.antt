@@ -28,6 +28,7 @@ use Rattle.triple_ord.specs.Entry.{InsertsThere, Awaits, IsEntryFor}
 use Rattle.triple_ord.specs.declared.entry_kind.OrdEntryKind.{OrdEntryKind}
 use Rattle.triple_ord.specs.declared.entry_kind.OrdEntryKind.TheVariants.{New, Replacing}
 use Rattle.triple_ord.specs.declared.insert_kind.OrdInsertKind.{OrdInsertKind}
+use Rattle.triple_ord.specs.declared.insert_kind.OrdInsertKind.TheVariants.{Normal}
 use Rattle.triple_ord.proofs.Inserting.{entry_at-after, similar-here, IsInsertion-same}
 use Rattle.triple_ord.specs.Arena.{item_of, entry_at, items, count, Updates, Renews, FindsBy, IsOfGeneration, IsNumbered, FindsNothing}
 
@@ -121,6 +122,12 @@ module _ {T : Type 0} where
       here : entry_at new p.0 ≡ Some (next, found.0)
       here = entry_at-with_generation old.list.entries p.0 next ∙ ap (option_map (λ d. (next, d.1))) found.1
 
+  -- from old to new, the item is new at this pointer
+  pub record IsInserted (old new : Tree T) (item : T) (p : ℕ × ℕ) : Type 0 where
+    pub nothing : item_of old p ≡ None
+    pub updates : Updates old new p (Some item)
+    pub count : count new ≡ count old + 1
+
   -- an insertion of a new entry, where the list was grown for it or not
   module _ (old new : Tree T) (room : Chain T) (roomy : room.entries ≡ old.list.entries) (gap : Gap old.list.entries) (item : T) (p : ℕ × ℕ)
       (inserted : IsInsertion room new.list (with_between gap) item p.0 p.1) where
@@ -141,15 +148,13 @@ module _ {T : Type 0} where
     none_there : entry_at old p.0 ≡ None
     none_there = ap (λ es. entry_among es p.0) gap.cut ∙ entry_at-absent (gap.front ++ gap.back) p.0 unused
 
-    pub named_nothing : item_of old p ≡ None
-    named_nothing = item_of-absent old p none_there
-
-    pub updates-inserted : Updates old new p (Some item)
-    updates-inserted = updates-at old new p (Some item) (rw none_there tt) (rw listed (entry_at-between gap.front entry gap.back unused))
-        (λ i other. rw (listed, gap.cut) (entry_at-between_other gap.front entry gap.back i other))
-
-    pub count-inserted : count new ≡ count old + 1
-    count-inserted = rw (listed, gap.cut) (length-between gap.front entry gap.back)
+    pub inserted-new : IsInserted old new item p
+    inserted-new = record {
+      nothing = item_of-absent old p none_there;
+      updates = updates-at old new p (Some item) (rw none_there tt) (rw listed (entry_at-between gap.front entry gap.back unused))
+          (λ i other. rw (listed, gap.cut) (entry_at-between_other gap.front entry gap.back i other));
+      count = rw (listed, gap.cut) (length-between gap.front entry gap.back);
+    }
 
 pub owed : {X P : Type 0} (o : Option X) → P → OnSome o P
 owed None fact = tt
@@ -251,12 +256,19 @@ module _ {T K : Type 0} (key : T → K) (cmp : K → K → Ordering) where
   entry-inserts numbers number growth most kind old arena new distinct shown put visits item before entry there =
       awaited-inserts numbers growth most (aim_of number kind) old arena new distinct put item entry.place shown before entry.chosen entry.awaits there
 
-  -- the same, told by the item that was replaced
-  pub inserts-told : {P : Type 0} (numbers : P → ℕ × ℕ) (growth : Growth) (most : ℕ) (aim : Aim K) (old new : Tree T) (item : T) (shown : OrdEntryKind P) (before : Option T)
-      → InsertsBy key cmp most growth aim numbers old item (Ok (shown, before)) new → InsertsBy key cmp most growth aim numbers old item (told (Ok (pointer_of shown, before))) new
-  inserts-told numbers growth most aim old new item (New p) None ins = ins
-  inserts-told numbers growth most aim old new item (Replacing p) (Some before) ins = ins
-  inserts-told numbers growth most aim old new item shown before ins = absurd ins
+  -- the same by the item's key, told by the pointer and the item that was replaced
+  pub entry-told : {P I G : Type 0} (numbers : P → ℕ × ℕ) (number : I → ℕ) (growth : Growth) (most : ℕ) (old arena new : Tree T)
+      → IsDistinct old.list.entries → (k : K) (shown : OrdEntryKind P) (put : Entry T → List (Entry T)) (visits : ℕ) (item : T) (before : Option T) (p : P)
+      → k ≡ key item → p ≡ pointer_of shown → IsEntryFor numbers {G = G} key cmp number growth most (Normal k) old shown put visits arena
+      → InsertsThere numbers shown put arena item before new → InsertsBy key cmp most growth (at_key (key item)) numbers old item (told (Ok (p, before))) new
+  entry-told numbers number growth most old arena new distinct k shown put visits item before p key_is pointer_is asked there =
+      rw (← key_is) (by_pointer shown before pointer_is (entry-inserts numbers number growth most (Normal k) old arena new distinct shown put visits item before asked there))
+    where
+      by_pointer : (shown : OrdEntryKind _) (before : Option T) → p ≡ pointer_of shown → InsertsBy key cmp most growth (at_key k) numbers old item (Ok (shown, before)) new
+          → InsertsBy key cmp most growth (at_key k) numbers old item (told (Ok (p, before))) new
+      by_pointer (New q) None is ins = rw is ins
+      by_pointer (Replacing q) (Some before) is ins = rw is ins
+      by_pointer shown before is ins = absurd ins
 
 -- a write through a reference that went out, by what pointers find
 module _ {T : Type 0} (a : Tree T) (p : ℕ × ℕ) (item : T) where

@@ -1,5 +1,5 @@
 -- The place of an insertion, from what a search answers or from an index.
-use Rattle.std.proofs.Common.{◌≡◌, ◌≢◌, ◌==◌, ℕ, ◌+◌, ◌≤◌, false, true, length, slice_get, List, [], ◌∷◌, ◌++◌, Option, Some, None, IsSome, Result, Ok, Err, IfErr, refl, sym, ap, subst, ◌∙◌, arith, append_assoc}
+use Rattle.std.proofs.Common.{◌≡◌, ◌≢◌, ◌==◌, if◌then◌else◌, is_some, ℕ, ◌+◌, ◌≤◌, false, true, length, slice_get, List, [], ◌∷◌, ◌++◌, Option, Some, None, IsSome, Result, Ok, Err, IfErr, refl, sym, ap, subst, ◌∙◌, arith, append_assoc}
 use Rattle.std.proofs.lemmas.Bool.{eq-eqb}
 use Rattle.std.proofs.lemmas.Bool.Decides.{nat_tests}
 use Rattle.std.proofs.lemmas.List.{nil_from_length}
@@ -27,7 +27,7 @@ use Rattle.triple_ord.specs.Insertion.{Growth, within, reallocating, with_slot, 
 use Rattle.triple_ord.specs.declared.insert_kind.OrdInsertKind.{OrdInsertKind}
 use Rattle.triple_ord.specs.declared.error.OrdInsertionError.{OrdInsertionError}
 use Rattle.triple_ord.specs.declared.error.OrdInsertionError.TheVariants.{FailedOrdRequirement, NotWithinCapacity, BeyondMaxCapacity, AllocError}
-use Rattle.triple_ord.proofs.CallerLemmas.{entries-with_slot, updates-written, updates-inserted, count-inserted}
+use Rattle.triple_ord.proofs.CallerLemmas.{entries-with_slot, updates-written, count-written, inserted-new}
 use Rattle.triple_ord.specs.declared.prepared.InsertPlace.TheVariants.{New, Replacing}
 use Rattle.triple_ord.proofs.Inserting.{HasPlace, place-alone, similar-placed, similar-occupied, similar-here, similar-first, similar-seen, not_equal, IsInsertion-same, puts-before, puts-after}
 
@@ -110,18 +110,16 @@ module _ {P T K : Type 0} (numbers : P → ℕ × ℕ) (key : T → K) (cmp : K 
       go nowhere chosen keeps seen = absurd chosen
 
   -- the entry that has an index: beside it, or in its place
-  module _ (distinct : IsDistinct t.list.entries) (p : P) (g : ℕ) (item : T) (named_is : numbers p ≡ ((numbers p).0, g)) (there : entry_at t.list.entries (numbers p).0 ≡ Some (g, item)) where
-    abbrev here : Entry T
-    here = record { index = (numbers p).0; generation = g; item = item }
+  module _ (distinct : IsDistinct t.list.entries) (p : P) (i g : ℕ) (item : T) (named : numbers p ≡ (i, g)) (there : entry_at t.list.entries i ≡ Some (g, item)) where
+    pub beside-over : IsPlaceBeside numbers key cmp t (beside i Equal) (Some (Replacing p))
+    beside-over = (over (record { index = i; generation = g; item = item }), (refl, there), (named, rw named (item_here t i (g, item) there)))
 
-    pub beside-over : IsPlaceBeside numbers key cmp t (beside (numbers p).0 Equal) (Some (Replacing p))
-    beside-over = (over here, (refl, there), (named_is, rw named_is (item_here t (numbers p).0 (g, item) there)))
-
-    pub beside-put : (o : Ordering) → o ≢ Equal → IsPlaceBeside numbers key cmp t (beside (numbers p).0 o) (Some (New (Some (p, o))))
+    pub beside-put : (o : Ordering) → o ≢ Equal → IsPlaceBeside numbers key cmp t (beside i o) (Some (New (Some (p, o))))
     beside-put o other =
-        let some : IsSome (entry_at t.list.entries (numbers p).0) = rw there refl in
-        let side = on-side key cmp t.list.entries distinct (numbers p).0 some o other in
-        (into side.gap, side.at, ((some, other), side.puts))
+        let some : IsSome (entry_at t.list.entries i) = rw there refl in
+        let side = on-side key cmp t.list.entries distinct i some o other in
+        let index : (numbers p).0 ≡ i = ap (λ n. n.0) named in
+        (into side.gap, side.at, ((rw index some, other), rw index side.puts))
 
   -- alone, where there is no entry
   pub alone-here : (length t.list.entries == 0) ≡ true → IsPlaceBeside numbers key cmp t alone (Some (New None))
@@ -195,35 +193,29 @@ module _ {T : Type 0} (most : ℕ) (old new : Tree T) (distinct : IsDistinct old
   pub record IsBesideDone (o : Ordering) (before : Option T) : Type 0 where
     pub inserts : InsertsBeside most i o old item (Ok before) new
     pub updates : (q : ℕ × ℕ) × Updates old new q (Some item)
+    pub counted : count new ≡ (if is_some before then count old else count old + 1)
 
   pub beside-replaced : (before : T) → option_map (λ e. e.1) (entry_at old.list.entries i) ≡ Some before → new ≡ with_item old i item → IsBesideDone Equal (Some before)
-  beside-replaced before had after = go (entry_at old.list.entries i) refl
+  beside-replaced before had after = go (entry_at old.list.entries i) refl had
     where
-      go : (x : Option (ℕ × T)) → entry_at old.list.entries i ≡ x → IsBesideDone Equal (Some before)
-      go None there = absurd (let none = rw there at had in cc)
-      go (Some x) there =
-          let had_x : Some x.1 ≡ Some before = rw there at had in
-          record {
-            inserts = ((i, x.0), record { entry = record { index = i; generation = x.0; item = x.1 }; place = (refl, there); named = refl; taken = cc; after = after });
-            updates = ((i, x.0), rw after (updates-written old (i, x.0) item (item_here old i x there)));
-          }
+      go : (x : Option (ℕ × T)) → entry_at old.list.entries i ≡ x → option_map (λ e. e.1) x ≡ Some before → IsBesideDone Equal (Some before)
+      go None there had = absurd (cc)
+      go (Some x) there had = record {
+        inserts = ((i, x.0), record { entry = record { index = i; generation = x.0; item = x.1 }; place = (refl, there); named = refl; taken = cc; after = after });
+        updates = ((i, x.0), rw after (updates-written old (i, x.0) item (item_here old i x there)));
+        counted = rw after (count-written old i item);
+      }
 
   module _ (o : Ordering) (other : o ≢ Equal) (occupied : IsSome (entry_at old.list.entries i)) where
     side : OnSide (λ (item : T). tt {0}) (λ k l. Equal) old.list.entries distinct i occupied o
     side = on-side (λ (item : T). tt {0}) (λ k l. Equal) old.list.entries distinct i occupied o other
 
-    module _ (p : ℕ × ℕ) (inserted : IsInsertion (with_slot reallocating most old.list) new.list (put_on o i old.list.entries) item p.0 p.1) where
-      there : IsInsertion (with_slot reallocating most old.list) new.list (with_between side.gap) item p.0 p.1
-      there = IsInsertion-same _ _ _ _ item _ _ side.puts inserted
-
-      pub beside-inserted : IsGrown old.shape new.shape → IsBesideDone o None
-      beside-inserted grown = record {
-        inserts = (p, record { gap = side.gap; place = side.at; inserted = there; grown = grown });
-        updates = (p, updates-inserted old new (with_slot reallocating most old.list) (entries-with_slot reallocating most old.list) side.gap item p there);
-      }
-
-      pub beside-counted : count new ≡ count old + 1
-      beside-counted = count-inserted old new (with_slot reallocating most old.list) (entries-with_slot reallocating most old.list) side.gap item p there
+    pub beside-inserted : (p : ℕ × ℕ) → IsInsertion (with_slot reallocating most old.list) new.list (put_on o i old.list.entries) item p.0 p.1
+        → IsGrown old.shape new.shape → IsBesideDone o None
+    beside-inserted p inserted grown =
+        let there = IsInsertion-same _ _ _ _ item _ _ side.puts inserted in
+        let done = inserted-new old new (with_slot reallocating most old.list) (entries-with_slot reallocating most old.list) side.gap item p there in
+        record { inserts = (p, record { gap = side.gap; place = side.at; inserted = there; grown = grown }); updates = (p, done.updates); counted = done.count }
 
     pub beside-refused : (f : OrdInsertionError) → LacksSlot reallocating most old.list f → new ≡ old
         → (r : Result (Option T) OrdInsertionError) → IsErrAnd r (λ e. e ≡ f) → InsertsBeside most i o old item r new
