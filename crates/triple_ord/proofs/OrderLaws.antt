@@ -17,14 +17,7 @@ use Rattle.triple_ord.specs.OrderLaws.{IsAbsent, AbsentKeyLaw, IsPlaceOf, Beside
 use Rattle.triple_ord.proofs.Cuts.{begins}
 use Rattle.triple_ord.proofs.Ordered.{IsInOrder-back, all_greater, all_less}
 
--- what is true of each element is true of one that the list contains
-pub contained : {X : Type 0} (P : X → Type 0) (xs : List X) (x : X) → AllByRecursion P xs → Contains xs x → P x
-contained P xs x all has = All-contains P xs x (All-from_recursion P xs all) has
-
-pub recursion-append : {X : Type 0} (P : X → Type 0) (xs ys : List X) → AllByRecursion P xs → AllByRecursion P ys → AllByRecursion P (xs ++ ys)
-recursion-append P [] ys all others = others
-recursion-append P (x ∷ xs) ys all others = (all.0, recursion-append P xs ys all.1 others)
-
+-- what follows of each element
 pub recursion-map : {X : Type 0} (P Q : X → Type 0) → ((x : X) → P x → Q x) → (xs : List X) → AllByRecursion P xs → AllByRecursion Q xs
 recursion-map P Q follows [] all = tt
 recursion-map P Q follows (x ∷ xs) all = (follows x all.0, recursion-map P Q follows xs all.1)
