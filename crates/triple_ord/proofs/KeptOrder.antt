@@ -116,9 +116,8 @@ kept_order {P} {T} {K} numbers key cmp total most growth aim k old new item answ
         let place = lies key cmp total k item equal entries sorted aim by ins.gap ins.place in
         let list = listed-new _ _ _ _ _ _ ins.inserted in
         subst (λ es. IsInOrder key cmp es) (sym list.listed) (kept-between key cmp total k item equal entries sorted ins.gap place list.entry list.has)
-    go (Ok (New p, Some b)) ins = absurd ins
-    go (Ok (Replacing p, None)) ins = absurd ins
     go (Ok (Replacing p, Some b)) ins =
         let met = first key cmp total k item equal entries sorted aim by ins.entry ins.place in
         subst (λ (t : Tree T). IsInOrder key cmp t.list.entries) (sym ins.after) (kept-instead key cmp total k item equal entries sorted distinct ins.entry met)
+    go (Ok answer) ins = absurd ins
     go (Err refusal) ins = subst (λ (t : Tree T). IsInOrder key cmp t.list.entries) (sym ins.after) sorted

@@ -1,5 +1,5 @@
 -- A list in the order of its keys, with a gap that fits a key: the key is greater than all before the gap, and less than all after it.
-use Rattle.std.proofs.Common.{◌≡◌, ◌≢◌, ◌↔◌, true, false, ◌<◌, ◌≤◌, List, [], ◌∷◌, ◌++◌, IfSome, None, length, refl, sym, ap, subst, ◌∙◌, arith, inl, inr}
+use Rattle.std.proofs.Common.{◌≡◌, ◌≢◌, ◌↔◌, true, false, ◌<◌, ◌≤◌, List, [], ◌∷◌, ◌++◌, IfSome, None, length, refl, sym, ap, subst, ◌∙◌, arith, inl, inr, length-append}
 use Rattle.std.proofs.lemmas.Bool.Decides.{leb_tells}
 use Rattle.std.specs.List.{AllByRecursion}
 use Rattle.std.specs.Cmp.{IsTotalOrder, alike_right}
@@ -51,9 +51,7 @@ module _ {T K : Type 0} (key : T → K) (cmp : K → K → Ordering) where
 
   -- a list of one entry is in order; one of more, where its first two are and the list from the second on is
   pub in_order-one : (e : Entry T) → IsInOrder key cmp (e ∷ [])
-  in_order-one e [] back f g cut = absurd (cc)
-  in_order-one e (x ∷ []) back f g cut = absurd (cc)
-  in_order-one e (x ∷ y ∷ front) back f g cut = absurd (cc)
+  in_order-one e front back f g cut = absurd (omega (arith, ap length cut, length-append front (f ∷ g ∷ back)))
 
   pub in_order-more : (e f : Entry T) (es : List (Entry T)) → cmp (key e.item) (key f.item) ≢ Greater → IsInOrder key cmp (f ∷ es) → IsInOrder key cmp (e ∷ f ∷ es)
   in_order-more e f es two rest [] back x y cut =
@@ -74,9 +72,8 @@ module _ {T K : Type 0} (key : T → K) (cmp : K → K → Ordering) where
     in_order-not more order = order [] es e f refl (sym is ∙ told o more)
       where
         told : (o : Ordering) → is_gt o ≡ true → o ≡ Greater
-        told Less more = absurd (cc)
-        told Equal more = absurd (cc)
         told Greater more = refl
+        told o more = absurd (cc)
 
   pub IsInOrder-back : (front back : List (Entry T)) → IsInOrder key cmp (front ++ back) → IsInOrder key cmp back
   IsInOrder-back [] back order = order

@@ -177,8 +177,7 @@ module _ {P T K I G : Type 0} (numbers : P → ℕ × ℕ) (key : T → K) (cmp 
       go : (place : Place old.list.entries) → IsPlace key cmp (aim_of number kind) place → Keeps numbers old (New at) place
           → (e : OrdInsertionError) → LacksSlot growth most old.list e → IsRefused key cmp most growth (aim_of number kind) old e
       go (into gap) chosen keeps e lacks = with_gap gap chosen growth e lacks
-      go (over entry) chosen keeps e lacks = absurd keeps
-      go nowhere chosen keeps e lacks = absurd keeps
+      go place chosen keeps e lacks = absurd keeps
 
 -- no slot is vacant where no index comes next
 pub full : {T : Type 0} (most : ℕ) (greatest : Option ℕ) (c : Chain T) → IsSound most greatest c → next_index c ≡ None → length c.entries ≡ c.capacity

@@ -73,17 +73,15 @@ module _ {T K : Type 0} (key : T → K) (cmp : K → K → Ordering) (es : List 
         → IfSome (option_map (λ e. e.index) o) (λ j. Less ≡ ordering_reverse came)
         → IfSome o (λ e. order_to key cmp k e ≡ Greater) × (present o ≤ visits)
     low-answered came from None is turned = (tt, omega arith)
-    low-answered Less from (Some f) is turned = absurd (cc)
-    low-answered Equal from (Some f) is turned = absurd (cc)
     low-answered Greater from (Some f) is turned = let same : from.0 ≡ f = (let both = from.1 in cc) in (rw same at from.2, from.3)
+    low-answered came from (Some f) is turned = absurd (cc)
 
     high-answered : (came : Ordering) → CameFrom key cmp es k start visits front back came → (o : Option (Entry T)) → first_of back ≡ o
         → IfSome (option_map (λ e. e.index) o) (λ j. Greater ≡ ordering_reverse came)
         → IfSome o (λ e. order_to key cmp k e ≡ Less) × (present o ≤ visits)
     high-answered came from None is turned = (tt, omega arith)
-    high-answered Greater from (Some f) is turned = absurd (cc)
-    high-answered Equal from (Some f) is turned = absurd (cc)
     high-answered Less from (Some f) is turned = let same : from.0 ≡ f = (let both = from.1 in cc) in (rw same at from.2, from.3)
+    high-answered came from (Some f) is turned = absurd (cc)
 
   module _ (start i visits : ℕ) (came : Ordering) (s : IsStepping key cmp es k start i visits came) where
     pub stepping-occupied : IsSome (entry_at es i)
@@ -225,16 +223,10 @@ module _ {T K : Type 0} (key : T → K) (cmp : K → K → Ordering) (es : List 
 -- orders that are told apart by a test
 pub apart : (o p : Ordering) → not (ordering_index o == ordering_index p) ≡ true → o ≢ p
 apart Less p test same = let other = rw (← same) at test in cc
-apart Equal p test same = let other = rw (← same) at test in cc
-apart Greater p test same = let other = rw (← same) at test in cc
+apart o p test same = let other = rw (← same) at test in cc
 
 pub alike : (o p : Ordering) → not (ordering_index o == ordering_index p) ≡ false → o ≡ p
 alike Less Less test = refl
-alike Less Equal test = absurd (cc)
-alike Less Greater test = absurd (cc)
-alike Equal Less test = absurd (cc)
 alike Equal Equal test = refl
-alike Equal Greater test = absurd (cc)
-alike Greater Less test = absurd (cc)
-alike Greater Equal test = absurd (cc)
 alike Greater Greater test = refl
+alike o p test = absurd (cc)
