@@ -1,8 +1,11 @@
 -- A list cut at one of its elements: its ends, and what an entry's index finds where it stands once.
 use Rattle.std.proofs.Common.{◌≡◌, ℕ, List, [], ◌∷◌, ◌++◌, Option, Some, None, IsSome, length, refl, ap, arith, inl, inr}
+use Rattle.std.proofs.lemmas.Bool.{eq-eqb}
 use Rattle.std.proofs.lemmas.Bool.Decides.{eqb_tells}
 use Rattle.std.proofs.lemmas.Grind.{common_steps}
-use Rattle.chain_base.specs.Chain.{Entry, times, IsDistinct, entry_at, insert_after, insert_before, with_item_among}
+use Rattle.std.specs.Option.{option_map}
+use Rattle.chain_base.specs.Link.{Link}
+use Rattle.chain_base.specs.Chain.{Entry, times, IsDistinct, entry_at, first_or, link_between, link_at, from_index, insert_after, insert_before, with_item_among}
 use Rattle.chain_base.proofs.CallerLemmas.{times-append, entry_at-between}
 use Rattle.triple_ord.specs.Gap.{first_of, last_or}
 use Rattle.triple_ord.specs.Hint.{position_of}
@@ -73,6 +76,31 @@ module _ {T : Type 0} where
   put_instead item [] e back none = grind (arith, common_steps)
   put_instead item (f ∷ front) e back none = grind (arith, common_steps, put_instead item front e back)
 
+  from_here : (front : List (Entry T)) (e : Entry T) (back : List (Entry T)) → times e.index front ≡ 0 → from_index (front ++ e ∷ back) e.index ≡ e ∷ back
+  from_here [] e back none = grind (arith, common_steps)
+  from_here (f ∷ front) e back none = grind (arith, common_steps, from_here front e back)
+
+  -- the link of an entry has the indexes of the entries beside it
+  first_or-index : (es : List (Entry T)) → first_or None es ≡ option_map (λ e. e.index) (first_of es)
+  first_or-index [] = refl
+  first_or-index (e ∷ es) = refl
+
+  link_here : (o : Option (Entry T)) (front : List (Entry T)) (e : Entry T) (back : List (Entry T)) → times e.index front ≡ 0
+      → link_between (option_map (λ x. x.index) o) None (front ++ e ∷ back) e.index
+      ≡ Some (e.generation, record { item = e.item; prev = option_map (λ x. x.index) (last_or o front); next = option_map (λ x. x.index) (first_of back) })
+  link_here o [] e back none = rw (eq-eqb e.index e.index refl, first_or-index back) refl
+  link_here o (f ∷ front) e back none = elim (eqb_tells f.index e.index) [
+    | inl h ↦ absurd (let some = rw h.0 at none in omega (arith, some))
+    | inr h ↦ rw h.0 (link_here (Some f) front e back (let rest = rw h.0 at none in omega (arith, rest)))
+  ]
+
+  -- this generation and this link are the entry's
+  pub record IsLinked (front : List (Entry T)) (e : Entry T) (back : List (Entry T)) (g : ℕ) (l : Link T) : Type 0 where
+    pub generation : e.generation ≡ g
+    pub item : e.item ≡ l.item
+    pub prev : option_map (λ e. e.index) (last_or None front) ≡ l.prev
+    pub next : option_map (λ e. e.index) (first_of back) ≡ l.next
+
   -- an entry of a list in which each index stands once
   module _ (es : List (Entry T)) (distinct : IsDistinct es) (front : List (Entry T)) (e : Entry T) (back : List (Entry T)) (cut : es ≡ front ++ e ∷ back) where
     pub nowhere_else : times e.index (front ++ back) ≡ 0
@@ -94,3 +122,13 @@ module _ {T : Type 0} where
 
     pub with_item-here : (item : T) → with_item_among es e.index item ≡ front ++ record e { item = item } ∷ back
     with_item-here item = rw cut (put_instead item front e back not_before)
+
+    pub from_index-here : from_index es e.index ≡ e ∷ back
+    from_index-here = rw cut (from_here front e back not_before)
+
+    pub link-read : (g : ℕ) (l : Link T) → link_at es e.index ≡ Some (g, l) → IsLinked front e back g l
+    link-read g l is =
+        let here = link_here None front e back not_before in
+        let found = rw cut at is in
+        let read : ◌≡◌ {A = ℕ × Link T} (e.generation, record { item = e.item; prev = option_map (λ e. e.index) (last_or None front); next = option_map (λ e. e.index) (first_of back) }) (g, l) = cc in
+        record { generation = ap (λ x. x.0) read; item = ap (λ x. x.1.item) read; prev = ap (λ x. x.1.prev) read; next = ap (λ x. x.1.next) read }

@@ -13,23 +13,8 @@ use Rattle.triple_ord.specs.Search.{order_to, pointer, Fits, FindsSimilar}
 use Rattle.triple_ord.specs.Order.{IsInOrder}
 use Rattle.triple_ord.specs.Hint.{position_of, way_length}
 use Rattle.triple_ord.specs.Steps.{neighbour_towards, CameFrom, IsStepping}
-use Rattle.triple_ord.proofs.Cuts.{last_or-append, begins, ends, stands, not_before, entry_at-here}
+use Rattle.triple_ord.proofs.Cuts.{last_or-append, begins, ends, stands, IsLinked, link-read, entry_at-here}
 use Rattle.triple_ord.proofs.Ordered.{stands-before, stands-behind}
-
-module _ {T : Type 0} where
-  first_or-index : (es : List (Entry T)) → first_or None es ≡ option_map (λ e. e.index) (first_of es)
-  first_or-index [] = refl
-  first_or-index (e ∷ es) = refl
-
-  -- the link of an entry has the indexes of the entries beside it
-  link_at-here : (o : Option (Entry T)) (front : List (Entry T)) (e : Entry T) (back : List (Entry T)) → times e.index front ≡ 0
-      → link_between (option_map (λ x. x.index) o) None (front ++ e ∷ back) e.index
-      ≡ Some (e.generation, record { item = e.item; prev = option_map (λ x. x.index) (last_or o front); next = option_map (λ x. x.index) (first_of back) })
-  link_at-here o [] e back none = elim (eqb_tells e.index e.index) [ inl h ↦ rw (h.0, first_or-index back) refl | inr h ↦ absurd (h.1 refl) ]
-  link_at-here o (f ∷ front) e back none = elim (eqb_tells f.index e.index) [
-    | inl h ↦ absurd (let some = rw h.0 at none in omega (arith, some))
-    | inr h ↦ rw h.0 (link_at-here (Some f) front e back (let rest = rw h.0 at none in omega (arith, rest)))
-  ]
 
 -- a gap has a neighbour on each side where there are entries
 after-count : {X : Type 0} (back : List X) → (present (first_of back) ≡ 1) ⊎ ((present (first_of back) ≡ 0) × (length back ≡ 0))
@@ -87,47 +72,18 @@ module _ {T K : Type 0} (key : T → K) (cmp : K → K → Ordering) (es : List 
     pub stepping-occupied : IsSome (entry_at es i)
     stepping-occupied = rw (← s.here, entry_at-here es distinct s.front s.entry s.back s.cut) refl
 
-    -- the steps so far, and this one, are no more than there are entries
-    pub stepping-few : visits + 1 ≤ length es
-    stepping-few = by_way came s.from
-      where
-        by_way : (came : Ordering) → CameFrom key cmp es k start visits s.front s.back came → visits + 1 ≤ length es
-        by_way Less from = omega (arith, from.4, s.within)
-        by_way Equal from = omega (arith, from.0, s.within)
-        by_way Greater from = let n = ap length s.cut in omega (arith, n, from.4, length-append s.front (s.entry ∷ s.back))
-
     module _ (generation : ℕ) (l : Link T) (is : link_at es i ≡ Some (generation, l)) where
-      read : ◌≡◌ {A = ℕ × Link T} (
-        s.entry.generation,
-        record {
-          item = s.entry.item;
-          prev = option_map (λ e. e.index) (last_or None s.front);
-          next = option_map (λ e. e.index) (first_of s.back);
-        },
-      )
-          (generation, l)
-      read =
-          let here = link_at-here None s.front s.entry s.back (not_before es distinct s.front s.entry s.back s.cut) in
-          let found = rw (s.cut, ← s.here) at is in
-          cc
-
-      item-is : s.entry.item ≡ l.item
-      item-is = ap (λ x. x.1.item) read
-
-      prev-is : option_map (λ e. e.index) (last_or None s.front) ≡ l.prev
-      prev-is = ap (λ x. x.1.prev) read
-
-      next-is : option_map (λ e. e.index) (first_of s.back) ≡ l.next
-      next-is = ap (λ x. x.1.next) read
+      linked : IsLinked s.front s.entry s.back generation l
+      linked = link-read es distinct s.front s.entry s.back s.cut generation l (ap (link_at es) s.here ∙ is)
 
       pub stepping-order : (o : Ordering) → o ≡ cmp k (key l.item) → order_to key cmp k s.entry ≡ o
-      stepping-order o order = ap (λ t. cmp k (key t)) item-is ∙ sym order
+      stepping-order o order = ap (λ t. cmp k (key t)) linked.item ∙ sym order
 
       -- a step to a neighbour
       pub stepping-goes : (o : Ordering) → o ≡ cmp k (key l.item) → (j : ℕ) → neighbour_towards l o ≡ Some j → o ≢ ordering_reverse came
           → IsStepping key cmp es k start j (visits + 1) o
       stepping-goes Less order j next ahead =
-          let n = read_index (last_or None s.front) j (prev-is ∙ next) in
+          let n = read_index (last_or None s.front) j (linked.prev ∙ next) in
           let end = ends s.front n.0 n.1 in
           let place = place-less start visits s.front s.back came s.from ahead in
           record {
@@ -141,7 +97,7 @@ module _ {T K : Type 0} (key : T → K) (cmp : K → K → Ordering) (es : List 
           }
       stepping-goes Equal order j next ahead = absurd (cc)
       stepping-goes Greater order j next ahead =
-          let n = read_index (first_of s.back) j (next-is ∙ next) in
+          let n = read_index (first_of s.back) j (linked.next ∙ next) in
           let begin = begins s.back n.0 n.1 in
           let place = place-greater start visits s.front s.back came s.from ahead in
           record {
@@ -155,19 +111,19 @@ module _ {T K : Type 0} (key : T → K) (cmp : K → K → Ordering) (es : List 
           }
 
       named : (pointer s.entry) ≡ (i, generation)
-      named = let g : s.entry.generation ≡ generation = ap (λ x. x.0) read in let h = s.here in cc
+      named = let g = linked.generation in let h = s.here in cc
 
       -- the steps end with an answer
       pub stepping-settles : (o : Ordering) → o ≡ cmp k (key l.item) → is_eq o ≡ false
           → IfSome (neighbour_towards l o) (λ j. o ≡ ordering_reverse came)
           → FindsSimilar key cmp es k (Some ((i, generation), o)) (visits + 1)
       stepping-settles Less order other turned =
-          let low = low-answered start visits s.front s.back came s.from (last_or None s.front) refl (rw (← prev-is) at turned) in
+          let low = low-answered start visits s.front s.back came s.from (last_or None s.front) refl (rw (← linked.prev) at turned) in
           let gap : Gap es = record { front = s.front; back = s.entry ∷ s.back; cut = s.cut } in
           (s.entry, rw (named, stepping-order Less order) refl, inr (gap, record { fits = record { lesser_before = low.0; greater_after = stepping-order Less order }; seen = omega (arith, low.1) }, inr refl))
       stepping-settles Equal order other turned = absurd (cc)
       stepping-settles Greater order other turned =
-          let high = high-answered start visits s.front s.back came s.from (first_of s.back) refl (rw (← next-is) at turned) in
+          let high = high-answered start visits s.front s.back came s.from (first_of s.back) refl (rw (← linked.next) at turned) in
           let last = last_or-append None s.front s.entry [] in
           let gap : Gap es = record { front = s.front ++ s.entry ∷ []; back = s.back; cut = s.cut ∙ simp append_assoc } in
           (s.entry, rw (named, stepping-order Greater order) refl, inr (gap, record { fits = record { lesser_before = rw last (stepping-order Greater order); greater_after = high.0 }; seen = rw last (omega (arith, high.1)) }, inl last))
