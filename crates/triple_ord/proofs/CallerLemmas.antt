@@ -1,7 +1,8 @@
 -- For callers: what pointers find after each change of an ordered arena.
 use Rattle.std.proofs.Common.{◌≡◌, ◌≢◌, ℕ, ◌+◌, true, false, List, [], ◌∷◌, ◌++◌, length, Option, Some, None, IsSome, is_some, Bool, slice_get, map}
 use Rattle.std.proofs.Common.{length-append, IfSome, IfNone, OnSome, Ok, refl, sym, ap, subst, ◌∙◌, arith, inl, inr, if◌then◌else◌}
-use Rattle.std.proofs.lemmas.Bool.Decides.{eqb_tells}
+use Rattle.std.proofs.lemmas.Bool.{eq-eqb, ne_eqb, cases_eq}
+use Rattle.std.proofs.lemmas.Bool.Decides.{eqb_tells, nat_tests}
 use Rattle.std.specs.Option.{option_map}
 use Rattle.std.specs.declared.cmp.Ordering.{Ordering}
 use Rattle.arena_base.specs.Generation.{next_generation}
@@ -18,85 +19,81 @@ use Rattle.chain_base.proofs.CallerLemmas.{length-with_generation, entry_at-betw
 use Rattle.chain_base.proofs.CallerLemmas.{entry_at-numbered_before, generation-numbered, items-numbered, generation-moved, generation-relocated}
 use Rattle.ord_tree.specs.Tree.{Tree, IsGrown, with_item}
 use Rattle.triple_ord.specs.Gap.{Gap, with_between}
-use Rattle.std.specs.declared.cmp.Ordering.TheVariants.{Less, Equal, Greater}
+use Rattle.std.specs.declared.cmp.Ordering.TheVariants.{Equal}
 use Rattle.triple_ord.specs.Search.{pointer, FindsKey, FindsSimilar}
-use Rattle.triple_ord.specs.Place.{Aim, alone, at_key, behind_key, beside, Place, into, over, nowhere, IsPlace, aim_of}
+use Rattle.triple_ord.specs.Place.{Aim, at_key, beside, Place, into, over, IsPlace, aim_of}
 use Rattle.triple_ord.specs.Insertion.{Growth, within, reallocating, with_slot, InsertsBy, told}
 use Rattle.triple_ord.specs.EntryKind.{pointer_of}
 use Rattle.triple_ord.specs.Entry.{InsertsThere, Awaits, IsEntryFor}
 use Rattle.triple_ord.specs.declared.entry_kind.OrdEntryKind.{OrdEntryKind}
 use Rattle.triple_ord.specs.declared.entry_kind.OrdEntryKind.TheVariants.{New, Replacing}
 use Rattle.triple_ord.specs.declared.insert_kind.OrdInsertKind.{OrdInsertKind}
+use Rattle.triple_ord.specs.declared.insert_kind.OrdInsertKind.TheVariants.{Normal}
 use Rattle.triple_ord.proofs.Inserting.{entry_at-after, similar-here, IsInsertion-same}
 use Rattle.triple_ord.specs.Arena.{item_of, entry_at, items, count, Updates, Renews, FindsBy, IsOfGeneration, IsNumbered, FindsNothing}
+
+-- what an entry shows to its own generation, and to others
+pub item_if-own : {T : Type 0} (g : ℕ) (o : Option T) → item_if g (option_map (λ x. (g, x)) o) ≡ o
+item_if-own g None = refl
+item_if-own g (Some x) = rw (eq-eqb g g refl) refl
+
+item_if-other : {T : Type 0} (g h : ℕ) (o : Option (ℕ × T)) → IfSome o (λ e. e.0 ≡ g) → h ≢ g → item_if h o ≡ None
+item_if-other g h None has apart = refl
+item_if-other g h (Some e) has apart = rw (ne_eqb e.0 h (λ same. apart (sym same ∙ has))) refl
+
+item_if-found : {T : Type 0} (g : ℕ) (o : Option (ℕ × T)) → IsSome (item_if g o) → (x : T) × (o ≡ Some (g, x))
+item_if-found g None there = absurd (cc)
+item_if-found g (Some e) there = elim (eqb_tells e.0 g) [
+  | inl h ↦ (e.1, ap (λ k. Some (k, e.1)) h.1)
+  | inr h ↦ absurd (let none = rw h.0 at there in cc)
+]
+
+same-pointer : (p q : ℕ × ℕ) → q.0 ≡ p.0 → q.1 ≡ p.1 → q ≡ p
+same-pointer p q index generation = ap (λ i. (i, q.1)) index ∙ ap (λ g. (p.0, g)) generation
 
 module _ {T : Type 0} where
   -- a pointer finds nothing at an index that has no entry
   item_of-absent : (a : Tree T) (p : ℕ × ℕ) → entry_at a p.0 ≡ None → item_of a p ≡ None
   item_of-absent a p none = rw none refl
 
-  -- a pointer that finds something finds nothing else at its index
-  item_of-same : (a : Tree T) (p q : ℕ × ℕ) → IsSome (item_of a p) → q.0 ≡ p.0 → q ≢ p → item_of a q ≡ None
-  item_of-same a p q there same apart = go (entry_at a p.0) refl
-    where
-      go : (o : Option (ℕ × T)) → entry_at a p.0 ≡ o → item_of a q ≡ None
-      go None is = rw (same, is) refl
-      go (Some e) is = elim (eqb_tells e.0 p.1) [
-        | inl h ↦ elim (eqb_tells e.0 q.1) [
-          | inl k ↦ absurd (apart (ap (λ i. (i, q.1)) same ∙ ap (λ g. (p.0, g)) (sym k.1 ∙ h.1)))
-          | inr k ↦ rw (same, is, k.0) refl
-        ]
-        | inr h ↦ absurd (let none : item_of a p ≡ None = rw (is, h.0) refl in cc)
-      ]
+  -- where the entry at its index, if any, has the generation of one pointer, another finds nothing there
+  item_of-other : (a : Tree T) (p q : ℕ × ℕ) → IfSome (entry_at a p.0) (λ e. e.0 ≡ p.1) → q.0 ≡ p.0 → q ≢ p → item_of a q ≡ None
+  item_of-other a p q has same apart = rw same (item_if-other p.1 q.1 (entry_at a p.0) has (λ era. apart (same-pointer p q same era)))
 
-  -- where a pointer finds something, its index has an entry
-  occupied : (a : Tree T) (p : ℕ × ℕ) → IsSome (item_of a p) → IsSome (entry_at a p.0)
-  occupied a p there = go (entry_at a p.0) refl
+  -- a change at the index of the pointer that names its entry, if any
+  updates-at : (old new : Tree T) (p : ℕ × ℕ) (found : Option T) → IfSome (entry_at old p.0) (λ e. e.0 ≡ p.1)
+      → entry_at new p.0 ≡ option_map (λ x. (p.1, x)) found → ((i : ℕ) → i ≢ p.0 → entry_at new i ≡ entry_at old i) → Updates old new p found
+  updates-at old new p found has here others = record {
+    changed = rw here (item_if-own p.1 found);
+    others = λ q apart. elim (cases_eq q.0 p.0) [
+      | inl same ↦ item_of-other new p q (rw here (own found)) same apart ∙ sym (item_of-other old p q has same apart)
+      | inr other ↦ ap (item_if q.1) (others q.0 other)
+    ];
+  }
     where
-      go : (o : Option (ℕ × T)) → entry_at a p.0 ≡ o → IsSome o
-      go None is = absurd (let none : item_of a p ≡ None = rw is refl in cc)
-      go (Some e) is = refl
+      own : (o : Option T) → IfSome {T = ℕ × T} (option_map (λ x. (p.1, x)) o) (λ e. e.0 ≡ p.1)
+      own None = tt
+      own (Some x) = refl
 
   -- a removal
   pub updates-removed : (greatest : Option ℕ) (old new : Tree T) (p : ℕ × ℕ) → IsDistinct old.list.entries → IsSome (item_of old p)
       → new.list ≡ removed greatest old.list p.0 → Updates old new p None
   updates-removed greatest old new p distinct there is =
-      record {
-        changed = rw (is, entry_at-without old.list.entries p.0 distinct) refl;
-        others = λ q apart. elim (eqb_tells q.0 p.0) [
-          | inl h ↦ rw (item_of-same old p q there h.1 apart, is, h.1, entry_at-without old.list.entries p.0 distinct) refl
-          | inr h ↦ rw (is, entry_at-without_other old.list.entries p.0 q.0 h.1) refl
-        ];
-      }
+      let found = item_if-found p.1 (entry_at old p.0) there in
+      updates-at old new p None (rw found.1 refl) (rw (is, entry_at-without old.list.entries p.0 distinct) refl)
+      (λ i other. rw is (entry_at-without_other old.list.entries p.0 i other))
 
   pub count-removed : (greatest : Option ℕ) (old new : Tree T) (p : ℕ × ℕ) → IsSome (item_of old p) → new.list ≡ removed greatest old.list p.0 → count old ≡ count new + 1
-  count-removed greatest old new p there is = rw is (length-without old.list.entries p.0 (occupied old p there))
+  count-removed greatest old new p there is =
+      let found = item_if-found p.1 (entry_at old p.0) there in
+      rw is (length-without old.list.entries p.0 (rw found.1 refl))
 
   -- a write in place
   pub updates-written : (a : Tree T) (p : ℕ × ℕ) (item : T) → IsSome (item_of a p) → Updates a (with_item a p.0 item) p (Some item)
-  updates-written a p item there = go (entry_at a p.0) refl
-    where
-      elsewhere : (e : ℕ × T) (q p : ℕ × ℕ) → e.0 ≡ p.1 → q.0 ≡ p.0 → q ≢ p → item_if q.1 (Some (e.0, item)) ≡ None
-      elsewhere e q p era same apart = elim (eqb_tells e.0 q.1) [
-        | inl k ↦ absurd (apart (ap (λ i. (i, q.1)) same ∙ ap (λ g. (p.0, g)) (sym k.1 ∙ era)))
-        | inr k ↦ rw k.0 refl
-      ]
-
-      go : (o : Option (ℕ × T)) → entry_at a p.0 ≡ o → Updates a (with_item a p.0 item) p (Some item)
-      go None is = absurd (let none : item_of a p ≡ None = rw is refl in cc)
-      go (Some e) is = elim (eqb_tells e.0 p.1) [
-        | inl h ↦
-            record {
-              changed = rw (entry_at-with_item_among a.list.entries p.0 item, is, h.0) refl;
-              others = λ q apart. elim (eqb_tells q.0 p.0) [
-                | inl same ↦
-                    rw (item_of-same a p q there same.1 apart, same.1, entry_at-with_item_among a.list.entries p.0 item, is)
-                    (elsewhere e q p h.1 same.1 apart)
-                | inr other ↦ rw (entry_at-with_item_among_other a.list.entries p.0 q.0 item other.1) refl
-              ];
-            }
-        | inr h ↦ absurd (let none : item_of a p ≡ None = rw (is, h.0) refl in cc)
-      ]
+  updates-written a p item there =
+      let found = item_if-found p.1 (entry_at a p.0) there in
+      updates-at a (with_item a p.0 item) p (Some item) (rw found.1 refl) (rw (entry_at-with_item_among a.list.entries p.0 item, found.1) refl)
+      (λ i other. entry_at-with_item_among_other a.list.entries p.0 i item other)
 
   pub count-written : (a : Tree T) (i : ℕ) (item : T) → count (with_item a i item) ≡ count a
   count-written a i item = length-with_item_among a.list.entries i item
@@ -104,7 +101,14 @@ module _ {T : Type 0} where
   -- a renewal
   pub updates-renewed : (greatest : Option ℕ) (old : Tree T) (p : ℕ × ℕ) → IsSome (item_of old p)
       → let new : Tree T = record old { list = renewed greatest old.list p.0 } in Renews old new p (p.0, new.list.generation)
-  updates-renewed greatest old p there = go (entry_at old p.0) refl
+  updates-renewed greatest old p there = record {
+    found = ap (item_if next) here ∙ item_if-own next (Some found.0) ∙ sym (ap (item_if p.1) found.1 ∙ item_if-own p.1 (Some found.0));
+    ended = λ apart. item_of-other new (p.0, next) p (rw here refl) refl (λ same. apart (sym same));
+    others = λ r other third. elim (cases_eq r.0 p.0) [
+      | inl same ↦ item_of-other new (p.0, next) r (rw here refl) same third ∙ sym (item_of-other old p r (rw found.1 refl) same other)
+      | inr elsewhere ↦ ap (item_if r.1) (entry_at-with_generation_other old.list.entries p.0 r.0 next elsewhere)
+    ];
+  }
     where
       next : ℕ
       next = (renewed greatest old.list p.0).generation
@@ -112,33 +116,17 @@ module _ {T : Type 0} where
       new : Tree T
       new = record old { list = renewed greatest old.list p.0 }
 
-      here : (e : ℕ × T) → entry_at old p.0 ≡ Some e → entry_at new p.0 ≡ Some (next, e.1)
-      here e is = entry_at-with_generation old.list.entries p.0 next ∙ ap (option_map (λ d. (next, d.1))) is
+      found : (x : T) × (entry_at old p.0 ≡ Some (p.1, x))
+      found = item_if-found p.1 (entry_at old p.0) there
 
-      -- at the index only the new pointer finds something
-      lost : (e : ℕ × T) (r : ℕ × ℕ) → entry_at old p.0 ≡ Some e → r.0 ≡ p.0 → r ≢ (p.0, next) → item_of new r ≡ None
-      lost e r is same apart = elim (eqb_tells next r.1) [
-        | inl k ↦ absurd (apart (ap (λ i. (i, r.1)) same ∙ ap (λ g. (p.0, g)) (sym k.1)))
-        | inr k ↦ rw (same, here e is, k.0) refl
-      ]
+      here : entry_at new p.0 ≡ Some (next, found.0)
+      here = entry_at-with_generation old.list.entries p.0 next ∙ ap (option_map (λ d. (next, d.1))) found.1
 
-      go : (o : Option (ℕ × T)) → entry_at old p.0 ≡ o → Renews old new p (p.0, next)
-      go None is = absurd (let none : item_of old p ≡ None = rw is refl in cc)
-      go (Some e) is = elim (eqb_tells e.0 p.1) [
-        | inl h ↦
-            record {
-              found = elim (eqb_tells next next) [
-                | inl k ↦ rw (here e is, is, h.0, k.0) refl
-                | inr k ↦ absurd (k.1 refl)
-              ];
-              ended = λ apart. lost e p is refl (λ same. apart (sym same));
-              others = λ r other third. elim (eqb_tells r.0 p.0) [
-                | inl k ↦ lost e r is k.1 third ∙ sym (item_of-same old p r there k.1 other)
-                | inr k ↦ rw (entry_at-with_generation_other old.list.entries p.0 r.0 next k.1) refl
-              ];
-            }
-        | inr h ↦ absurd (let none : item_of old p ≡ None = rw (is, h.0) refl in cc)
-      ]
+  -- from old to new, the item is new at this pointer
+  pub record IsInserted (old new : Tree T) (item : T) (p : ℕ × ℕ) : Type 0 where
+    pub nothing : item_of old p ≡ None
+    pub updates : Updates old new p (Some item)
+    pub count : count new ≡ count old + 1
 
   -- an insertion of a new entry, where the list was grown for it or not
   module _ (old new : Tree T) (room : Chain T) (roomy : room.entries ≡ old.list.entries) (gap : Gap old.list.entries) (item : T) (p : ℕ × ℕ)
@@ -149,45 +137,24 @@ module _ {T : Type 0} where
     -- the list afterwards
     listed : new.list.entries ≡ gap.front ++ entry ∷ gap.back
     listed = ap (λ (c : Chain T). c.entries) inserted.after ∙ first room.vacant inserted.next
-        ∙ ap (λ g. gap.front ++ record { index = p.0; generation = g; item = item } ∷ gap.back) (sym inserted.generation)
       where
-        first : (vacant : List ℕ) → slice_get vacant 0 ≡ Some p.0
-            → (inserted_at room (with_between gap) item vacant).entries
-            ≡ gap.front ++ record { index = p.0; generation = room.generation; item = item } ∷ gap.back
+        first : (vacant : List ℕ) → slice_get vacant 0 ≡ Some p.0 → (inserted_at room (with_between gap) item vacant).entries ≡ gap.front ++ entry ∷ gap.back
         first [] next = absurd (cc)
-        first (i ∷ rest) next = let same : i ≡ p.0 = cc in rw same refl
+        first (i ∷ rest) next = let same : i ≡ p.0 = cc in rw (same, inserted.generation) refl
 
     unused : times p.0 (gap.front ++ gap.back) ≡ 0
     unused = ap (times p.0) (sym gap.cut) ∙ ap (times p.0) (sym roomy) ∙ inserted.vacant.free
 
-    pub named_nothing : item_of old p ≡ None
-    named_nothing = item_of-absent old p (ap (λ es. entry_among es p.0) gap.cut ∙ entry_at-absent (gap.front ++ gap.back) p.0 unused)
+    none_there : entry_at old p.0 ≡ None
+    none_there = ap (λ es. entry_among es p.0) gap.cut ∙ entry_at-absent (gap.front ++ gap.back) p.0 unused
 
-    pub updates-inserted : Updates old new p (Some item)
-    updates-inserted =
-        record {
-          changed = elim (eqb_tells p.1 p.1) [
-            | inl k ↦ rw (listed, entry_at-between gap.front entry gap.back unused, k.0) refl
-            | inr k ↦ absurd (k.1 refl)
-          ];
-          others = λ q apart. elim (eqb_tells q.0 p.0) [
-            | inl h ↦
-                let none : item_of old q ≡ None =
-                item_of-absent old q (ap (λ es. entry_among es q.0) gap.cut ∙ ap (entry_among (gap.front ++ gap.back)) h.1
-                ∙ entry_at-absent (gap.front ++ gap.back) p.0 unused) in
-                lost q h.1 apart ∙ sym none
-            | inr h ↦ rw (listed, gap.cut, entry_at-between_other gap.front entry gap.back q.0 h.1) refl
-          ];
-        }
-      where
-        lost : (q : ℕ × ℕ) → q.0 ≡ p.0 → q ≢ p → item_of new q ≡ None
-        lost q same apart = elim (eqb_tells p.1 q.1) [
-          | inl k ↦ absurd (apart (ap (λ i. (i, q.1)) same ∙ ap (λ g. (p.0, g)) (sym k.1)))
-          | inr k ↦ rw (listed, same, entry_at-between gap.front entry gap.back unused, k.0) refl
-        ]
-
-    pub count-inserted : count new ≡ count old + 1
-    count-inserted = rw (listed, gap.cut) (length-between gap.front entry gap.back)
+    pub inserted-new : IsInserted old new item p
+    inserted-new = record {
+      nothing = item_of-absent old p none_there;
+      updates = updates-at old new p (Some item) (rw none_there tt) (rw listed (entry_at-between gap.front entry gap.back unused))
+          (λ i other. rw (listed, gap.cut) (entry_at-between_other gap.front entry gap.back i other));
+      count = rw (listed, gap.cut) (length-between gap.front entry gap.back);
+    }
 
 pub owed : {X P : Type 0} (o : Option X) → P → OnSome o P
 owed None fact = tt
@@ -212,10 +179,7 @@ module _ {T : Type 0} where
     -- of a removal by index
     module _ {G : Type 0} (number : G → ℕ) (i : ℕ) where
       found_there : (e : G × T) → Some (number e.0, e.1) ≡ entry_at old i → IsSome (item_of old (i, number e.0))
-      found_there e value = elim (eqb_tells (number e.0) (number e.0)) [
-        | inl k ↦ rw (← value, k.0) refl
-        | inr k ↦ absurd (k.1 refl)
-      ]
+      found_there e value = rw (← value, eq-eqb (number e.0) (number e.0) refl) refl
 
       pub updates-taken_at : (o : Option (G × T)) → option_map (λ e. (number e.0, e.1)) o ≡ entry_at old i
           → OnSome o (new.list ≡ removed greatest old.list i) → IfSome o (λ e. Updates old new (i, number e.0) None)
@@ -252,18 +216,12 @@ entries-with_slot reallocating most c = go (is_some (next_index c))
 module _ {T K : Type 0} (key : T → K) (cmp : K → K → Ordering) where
   -- the entry whose item is to be replaced is found by its index
   over-here : (es : List (Entry T)) → IsDistinct es → (aim : Aim K) (e : Entry T) → IsPlace key cmp {entries = es} aim (over e) → entry_among es e.index ≡ Some (e.generation, e.item)
-  over-here es distinct alone e at = absurd at
   over-here es distinct (at_key k) e at = entry_at-after es e distinct at.gap at.here
-  over-here es distinct (behind_key k) e at = absurd at
-  over-here es distinct (beside i Less) e at = absurd at
   over-here es distinct (beside i Equal) e at = ap (entry_among es) at.0 ∙ at.1
-  over-here es distinct (beside i Greater) e at = absurd at
+  over-here es distinct aim e at = absurd at
 
   over-found : (old : Tree T) → IsDistinct old.list.entries → (aim : Aim K) (e : Entry T) → IsPlace key cmp {entries = old.list.entries} aim (over e) → item_of old (pointer e) ≡ Some e.item
-  over-found old distinct aim e at = elim (eqb_tells e.generation e.generation) [
-    | inl h ↦ rw (over-here old.list.entries distinct aim e at, h.0) refl
-    | inr h ↦ absurd (h.1 refl)
-  ]
+  over-found old distinct aim e at = rw (over-here old.list.entries distinct aim e at, eq-eqb e.generation e.generation refl) refl
 
   module _ {P : Type 0} (numbers : P → ℕ × ℕ) (growth : Growth) (most : ℕ) (aim : Aim K) (old arena new : Tree T)
       (distinct : IsDistinct old.list.entries) (put : Entry T → List (Entry T)) (item : T) where
@@ -276,10 +234,6 @@ module _ {T K : Type 0} (key : T → K) (cmp : K → K → Ordering) where
           (ap (λ (t : Tree T). t.list) awaits.room) (IsInsertion-same _ _ _ _ item _ _ awaits.puts there.0);
       grown = subst (λ (t : Tree T). IsGrown t.shape new.shape) awaits.room there.1;
     }
-    awaited-inserts (into gap) (New p) (Some before) at awaits there = absurd there
-    awaited-inserts (into gap) (Replacing p) before at awaits there = absurd awaits
-    awaited-inserts (over e) (New p) before at awaits there = absurd awaits
-    awaited-inserts (over e) (Replacing p) None at awaits there = absurd there
     awaited-inserts (over e) (Replacing p) (Some before) at awaits there =
         let had : item_of arena (numbers p) ≡ Some e.item = ap (λ (t : Tree T). item_of t (numbers p)) awaits.1 ∙ ap (item_of old) awaits.0 ∙ over-found old distinct aim e at in
         record {
@@ -289,7 +243,9 @@ module _ {T K : Type 0} (key : T → K) (cmp : K → K → Ordering) where
           taken = cc;
           after = there.1 ∙ ap (λ (t : Tree T). with_item t (numbers p).0 item) awaits.1 ∙ ap (λ (q : ℕ × ℕ). with_item old q.0 item) awaits.0;
         }
-    awaited-inserts nowhere shown before at awaits there = absurd awaits
+    awaited-inserts (into gap) (New p) before at awaits there = absurd there
+    awaited-inserts (over e) (Replacing p) before at awaits there = absurd there
+    awaited-inserts place shown before at awaits there = absurd awaits
 
   -- what an entry of an insertion inserts
   pub entry-inserts : {P I G : Type 0} (numbers : P → ℕ × ℕ) (number : I → ℕ) (growth : Growth) (most : ℕ)
@@ -300,13 +256,19 @@ module _ {T K : Type 0} (key : T → K) (cmp : K → K → Ordering) where
   entry-inserts numbers number growth most kind old arena new distinct shown put visits item before entry there =
       awaited-inserts numbers growth most (aim_of number kind) old arena new distinct put item entry.place shown before entry.chosen entry.awaits there
 
-  -- the same, told by the item that was replaced
-  pub inserts-told : {P : Type 0} (numbers : P → ℕ × ℕ) (growth : Growth) (most : ℕ) (aim : Aim K) (old new : Tree T) (item : T) (shown : OrdEntryKind P) (before : Option T)
-      → InsertsBy key cmp most growth aim numbers old item (Ok (shown, before)) new → InsertsBy key cmp most growth aim numbers old item (told (Ok (pointer_of shown, before))) new
-  inserts-told numbers growth most aim old new item (New p) None ins = ins
-  inserts-told numbers growth most aim old new item (New p) (Some before) ins = absurd ins
-  inserts-told numbers growth most aim old new item (Replacing p) None ins = absurd ins
-  inserts-told numbers growth most aim old new item (Replacing p) (Some before) ins = ins
+  -- the same by the item's key, told by the pointer and the item that was replaced
+  pub entry-told : {P I G : Type 0} (numbers : P → ℕ × ℕ) (number : I → ℕ) (growth : Growth) (most : ℕ) (old arena new : Tree T)
+      → IsDistinct old.list.entries → (k : K) (shown : OrdEntryKind P) (put : Entry T → List (Entry T)) (visits : ℕ) (item : T) (before : Option T) (p : P)
+      → k ≡ key item → p ≡ pointer_of shown → IsEntryFor numbers {G = G} key cmp number growth most (Normal k) old shown put visits arena
+      → InsertsThere numbers shown put arena item before new → InsertsBy key cmp most growth (at_key (key item)) numbers old item (told (Ok (p, before))) new
+  entry-told numbers number growth most old arena new distinct k shown put visits item before p key_is pointer_is asked there =
+      rw (← key_is) (by_pointer shown before pointer_is (entry-inserts numbers number growth most (Normal k) old arena new distinct shown put visits item before asked there))
+    where
+      by_pointer : (shown : OrdEntryKind _) (before : Option T) → p ≡ pointer_of shown → InsertsBy key cmp most growth (at_key k) numbers old item (Ok (shown, before)) new
+          → InsertsBy key cmp most growth (at_key k) numbers old item (told (Ok (p, before))) new
+      by_pointer (New q) None is ins = rw is ins
+      by_pointer (Replacing q) (Some before) is ins = rw is ins
+      by_pointer shown before is ins = absurd ins
 
 -- a write through a reference that went out, by what pointers find
 module _ {T : Type 0} (a : Tree T) (p : ℕ × ℕ) (item : T) where
@@ -315,10 +277,7 @@ module _ {T : Type 0} (a : Tree T) (p : ℕ × ℕ) (item : T) where
     where
       go : (o : Option (ℕ × T)) → item_if p.1 (option_map (λ e. (e.0, item)) o) ≡ option_map (λ old. item) (item_if p.1 o)
       go None = refl
-      go (Some e) = elim (eqb_tells e.0 p.1) [
-        | inl h ↦ rw h.0 refl
-        | inr h ↦ rw h.0 refl
-      ]
+      go (Some e) = grind (arith, nat_tests)
 
   pub others-written : IsSome (item_of a p) → (q : ℕ × ℕ) → q ≢ p → item_of (with_item a p.0 item) q ≡ item_of a q
   others-written there q apart = (updates-written a p item there).others q apart
@@ -331,10 +290,7 @@ module _ {T K : Type 0} (key : T → K) (cmp : K → K → Ordering) (t : Tree T
   module _ {P : Type 0} (numbers : P → ℕ × ℕ) where
     finds_here : (e : Entry T) → entry_at t e.index ≡ Some (e.generation, e.item) → (p : P) → numbers p ≡ pointer e → (order : Ordering)
         → cmp k (key e.item) ≡ order → FindsBy key cmp t k (numbers p) order
-    finds_here e there p named order lies = elim (eqb_tells e.generation e.generation) [
-      | inl h ↦ rw (named, there, h.0) lies
-      | inr h ↦ absurd (h.1 refl)
-    ]
+    finds_here e there p named order lies = rw (named, there, eq-eqb e.generation e.generation refl) lies
 
     pub finds-similar : (o : Option (P × Ordering)) (c : ℕ)
         → FindsSimilar key cmp t.list.entries k (option_map (λ a. (numbers a.0, a.1)) o) c
@@ -355,10 +311,7 @@ module _ {T : Type 0} (a : Tree T) (g : ℕ) where
     where
       go : (o : Option (ℕ × T)) → entry_at a p.0 ≡ o → item_of a p ≡ None
       go None is = item_of-absent a p is
-      go (Some e) is = elim (eqb_tells e.0 p.1) [
-        | inl h ↦ absurd (apart (sym h.1 ∙ same p.0 e is))
-        | inr h ↦ rw (is, h.0) refl
-      ]
+      go (Some e) is = rw is (item_if-other g p.1 (Some e) (same p.0 e is) apart)
 
   pub ended-moved : (all es : List (Entry T)) (xs : List T) → a.list.entries ≡ map (moved all g xs) es → IsOfGeneration a g
   ended-moved all es xs is = ended-of (λ i e found. generation-moved all g xs es i e (ap (λ (es : List (Entry T)). entry_among es i) (sym is) ∙ found))
@@ -368,17 +321,10 @@ module _ {T : Type 0} (a : Tree T) (g : ℕ) where
 
   pub found-numbered : (xs : List T) → a.list.entries ≡ numbered g 1 xs → IsNumbered a g xs
   found-numbered xs is = record {
-    inside = λ k. let later : k + 1 ≡ 1 + k = omega arith in rw (is, later, entry_at-numbered g 1 xs k) (go (slice_get xs k));
+    inside = λ k. let later : k + 1 ≡ 1 + k = omega arith in rw (is, later, entry_at-numbered g 1 xs k) (item_if-own g (slice_get xs k));
     outside = λ k. item_of-absent a (0, k) (rw is (entry_at-numbered_before g 1 xs 0 (omega arith)));
     ended = ended-of (λ i e found. generation-numbered g 1 xs i e (ap (λ (es : List (Entry T)). entry_among es i) (sym is) ∙ found));
   }
-    where
-      go : (o : Option T) → item_if g (option_map (λ x. (g, x)) o) ≡ o
-      go None = refl
-      go (Some x) = elim (eqb_tells g g) [
-        | inl h ↦ rw h.0 refl
-        | inr h ↦ absurd (h.1 refl)
-      ]
 
 -- what pointers find after a transfer
 module _ {P Q T U F : Type 0} (numbers_from : Q → ℕ × ℕ) (numbers_to : P → ℕ × ℕ) (greatest : Option ℕ)

@@ -6,8 +6,8 @@ use Rattle.std.specs.Result.{OnOk}
 use Rattle.std.specs.List.{FoldsTo}
 use Rattle.std.proofs.lemmas.Bool.Decides.{eqb_tells, leb_tells}
 use Rattle.std.proofs.lemmas.Bool.{false≢true}
-use Rattle.std.proofs.lemmas.List.{same_lists, get_or_default, length-append}
-use Rattle.std.proofs.lemmas.Option.{slice_get_past, none-some, same_Some}
+use Rattle.std.proofs.lemmas.List.{same_lists, get_or_default, length-append, take-map, drop-map}
+use Rattle.std.proofs.lemmas.Option.{slice_get_past, same_Some}
 use Rattle.arena_base.specs.Arena.{Arena, HoldsSame, slot, item_if, item_of, greatest_occupied, with_capacity, resized, IsFirstEntry, IsLastEntry, arena_len}
 use Rattle.arena_base.specs.Walk.{Walk, pointers_from, entries_from, entries_rising as arena_rising, walk_rest, WalkSteps}
 use Rattle.arena_base.specs.Compression.{CompressionStep, IsCompression, compressed}
@@ -189,60 +189,37 @@ module _ {P T F : Type 0} (numbers : P → ℕ × ℕ) (step : F → P → T →
 
 -- What a walk by index gives hangs on the generations at the indexes alone.
 module _ {X Y : Type 0} where
-  -- slots that are as many, with the same generations
+  -- slots with the same generations
   abbrev IsAlike : List (Option (ℕ × X)) → List (Option (ℕ × Y)) → Type 0
-  IsAlike [] [] = Unit {0}
-  IsAlike (x ∷ xs) (y ∷ ys) = (option_map (λ e. e.0) x ≡ option_map (λ e. e.0) y) × IsAlike xs ys
-  IsAlike [] (y ∷ ys) = ⊥
-  IsAlike (x ∷ xs) [] = ⊥
+  IsAlike xs ys = map (option_map (λ e. e.0)) xs ≡ map (option_map (λ e. e.0)) ys
 
   alike-by_index : (xs : List (Option (ℕ × X))) (ys : List (Option (ℕ × Y))) → length xs ≡ length ys
       → ((k : ℕ) → option_map (λ e. e.0) (get_or xs k None) ≡ option_map (λ e. e.0) (get_or ys k None)) → IsAlike xs ys
-  alike-by_index [] [] long same = tt
-  alike-by_index [] (y ∷ ys) long same = absurd (omega (arith, long))
-  alike-by_index (x ∷ xs) [] long same = absurd (omega (arith, long))
-  alike-by_index (x ∷ xs) (y ∷ ys) long same = (same 0, alike-by_index xs ys (omega (arith, long)) (λ k. same (suc k)))
-
-  alike-take : (n : ℕ) (xs : List (Option (ℕ × X))) (ys : List (Option (ℕ × Y))) → IsAlike xs ys → IsAlike (take n xs) (take n ys)
-  alike-take zero xs ys alike = tt
-  alike-take (suc n) [] [] alike = tt
-  alike-take (suc n) [] (y ∷ ys) alike = absurd alike
-  alike-take (suc n) (x ∷ xs) [] alike = absurd alike
-  alike-take (suc n) (x ∷ xs) (y ∷ ys) alike = (alike.0, alike-take n xs ys alike.1)
-
-  alike-drop : (n : ℕ) (xs : List (Option (ℕ × X))) (ys : List (Option (ℕ × Y))) → IsAlike xs ys → IsAlike (drop n xs) (drop n ys)
-  alike-drop zero xs ys alike = alike
-  alike-drop (suc n) [] [] alike = tt
-  alike-drop (suc n) [] (y ∷ ys) alike = absurd alike
-  alike-drop (suc n) (x ∷ xs) [] alike = absurd alike
-  alike-drop (suc n) (x ∷ xs) (y ∷ ys) alike = alike-drop n xs ys alike.1
+  alike-by_index [] [] long same = refl
+  alike-by_index (x ∷ xs) (y ∷ ys) long same = rw (same 0, alike-by_index xs ys (omega (arith, long)) (λ k. same (suc k))) refl
+  alike-by_index xs ys long same = absurd (omega (arith, long))
 
   pointers-alike : (from : ℕ) (xs : List (Option (ℕ × X))) (ys : List (Option (ℕ × Y))) → IsAlike xs ys → pointers_from from xs ≡ pointers_from from ys
   pointers-alike from [] [] alike = refl
-  pointers-alike from [] (y ∷ ys) alike = absurd alike
-  pointers-alike from (x ∷ xs) [] alike = absurd alike
-  pointers-alike from (None ∷ xs) (None ∷ ys) alike = pointers-alike (from + 1) xs ys alike.1
-  pointers-alike from (None ∷ xs) (Some y ∷ ys) alike = absurd (none-some y.0 alike.0)
-  pointers-alike from (Some x ∷ xs) (None ∷ ys) alike = absurd (none-some x.0 (sym alike.0))
-  pointers-alike from (Some x ∷ xs) (Some y ∷ ys) alike =
-      ap (λ g. (from, g) ∷ pointers_from (from + 1) xs) (same_Some x.0 y.0 alike.0) ∙ ap (λ rest. (from, y.0) ∷ rest) (pointers-alike (from + 1) xs ys alike.1)
+  pointers-alike from (None ∷ xs) (None ∷ ys) alike = pointers-alike (from + 1) xs ys (cc)
+  pointers-alike from (Some x ∷ xs) (Some y ∷ ys) alike = let same : x.0 ≡ y.0 = cc in rw (same, pointers-alike (from + 1) xs ys (cc)) refl
+  pointers-alike from xs ys alike = absurd (cc)
 
   rest-alike : (a : Arena X) (b : Arena Y) → IsAlike a.slots b.slots → (w : Walk) → walk_rest w a ≡ walk_rest w b
   rest-alike a b alike w = go w.falling
     where
       go : (falling : Bool) → walk_rest (record { at = w.at; falling = falling }) a ≡ walk_rest (record { at = w.at; falling = falling }) b
-      go true = ap reverse (pointers-alike 0 (take (w.at + 1) a.slots) (take (w.at + 1) b.slots) (alike-take (w.at + 1) a.slots b.slots alike))
-      go false = pointers-alike (w.at + 1) (drop (w.at + 1) a.slots) (drop (w.at + 1) b.slots) (alike-drop (w.at + 1) a.slots b.slots alike)
+      go true = ap reverse (pointers-alike 0 (take (w.at + 1) a.slots) (take (w.at + 1) b.slots) (sym (take-map _ (w.at + 1) a.slots) ∙ ap (take (w.at + 1)) alike ∙ take-map _ (w.at + 1) b.slots))
+      go false = pointers-alike (w.at + 1) (drop (w.at + 1) a.slots) (drop (w.at + 1) b.slots) (sym (drop-map _ (w.at + 1) a.slots) ∙ ap (drop (w.at + 1)) alike ∙ drop-map _ (w.at + 1) b.slots)
 
   -- a pointer that finds an item in the one finds an item in the other
   there-alike : (g : ℕ) (x : Option (ℕ × X)) (y : Option (ℕ × Y)) → option_map (λ e. e.0) x ≡ option_map (λ e. e.0) y → IsSome (item_if g x) → IsSome (item_if g y)
   there-alike g None None alike some = some
-  there-alike g None (Some y) alike some = absurd (none-some y.0 alike)
-  there-alike g (Some x) None alike some = absurd (none-some x.0 (sym alike))
   there-alike g (Some x) (Some y) alike some = elim (eqb_tells y.0 g) [
     | inl h ↦ rw h.0 refl
     | inr h ↦ absurd (let none = rw (same_Some x.0 y.0 alike, h.0) at some in cc)
   ]
+  there-alike g x y alike some = absurd (cc)
 
   -- a step over the one is a step over the other
   steps-alike : {P : Type 0} (numbers : P → ℕ × ℕ) (a : Arena X) (b : Arena Y) → ((w : Walk) → walk_rest w a ≡ walk_rest w b)

@@ -1,15 +1,15 @@
 -- An insertion by a key leaves a list in the order of its keys so.
-use Rattle.std.proofs.Common.{◌≡◌, ◌≢◌, ℕ, ◌+◌, List, [], ◌∷◌, ◌++◌, Option, Some, None, IfSome, Result, Ok, Err, refl, sym, ap, subst, ◌∙◌, arith, inl, inr, slice_get}
-use Rattle.std.proofs.lemmas.Bool.Decides.{eqb_tells}
+use Rattle.std.proofs.Common.{◌≡◌, ◌≢◌, ℕ, List, [], ◌∷◌, ◌++◌, Option, Some, None, IfSome, Result, Ok, Err, refl, sym, ap, subst, ◌∙◌, inl, inr, slice_get}
+use Rattle.std.proofs.lemmas.Option.{IfSome_then}
 use Rattle.std.specs.Cmp.{IsTotalOrder, alike_right}
 use Rattle.std.specs.Ordering.{ordering_reverse}
 use Rattle.std.specs.declared.cmp.Ordering.{Ordering}
 use Rattle.std.specs.declared.cmp.Ordering.TheVariants.{Less, Equal, Greater}
-use Rattle.chain_base.specs.Chain.{Entry, Chain, times, IsDistinct, inserted_at, with_item_among}
+use Rattle.chain_base.specs.Chain.{Entry, Chain, IsDistinct, inserted_at, with_item_among}
 use Rattle.chain_base.specs.Insert.{IsInsertion}
 use Rattle.ord_tree.specs.Tree.{Tree}
 use Rattle.triple_ord.specs.Gap.{Gap, first_of, last_or, before, after, with_between}
-use Rattle.triple_ord.specs.Search.{order_to, IsFirstEqual}
+use Rattle.triple_ord.specs.Search.{IsFirstEqual}
 use Rattle.triple_ord.specs.Order.{IsInOrder}
 use Rattle.triple_ord.specs.Place.{Aim, at_key, into, over, LiesBehind, IsPlace}
 use Rattle.triple_ord.specs.Insertion.{InsertsBy}
@@ -17,22 +17,8 @@ use Rattle.triple_ord.specs.OrderLaws.{GoesBy, KeptOrderLaw}
 use Rattle.triple_ord.specs.declared.entry_kind.OrdEntryKind.{OrdEntryKind}
 use Rattle.triple_ord.specs.declared.entry_kind.OrdEntryKind.TheVariants.{New, Replacing}
 use Rattle.triple_ord.specs.declared.error.OrdInsertionError.{OrdInsertionError}
-use Rattle.triple_ord.proofs.Descending.{IfSome-map, times-back}
+use Rattle.triple_ord.proofs.Cuts.{begins, with_item-here}
 use Rattle.triple_ord.proofs.Ordered.{IsInOrder-rest, in_order-one, in_order-more}
-
--- another item in the place of an entry's, whose index stands once
-times-first : {T : Type 0} (e : Entry T) (es : List (Entry T)) → times e.index (e ∷ es) ≡ 1 + times e.index es
-times-first e es = elim (eqb_tells e.index e.index) [ inl h ↦ rw h.0 refl | inr h ↦ absurd (h.1 refl) ]
-
-pub with_item-here : {T : Type 0} (item : T) (front : List (Entry T)) (e : Entry T) (back : List (Entry T)) → IsDistinct (front ++ e ∷ back)
-    → with_item_among (front ++ e ∷ back) e.index item ≡ front ++ record e { item = item } ∷ back
-with_item-here item [] e back distinct = elim (eqb_tells e.index e.index) [ inl h ↦ rw h.0 refl | inr h ↦ absurd (h.1 refl) ]
-with_item-here item (f ∷ front) e back distinct = elim (eqb_tells f.index e.index) [
-  | inl h ↦
-      let twice : times e.index (f ∷ front ++ e ∷ back) ≡ 1 + times e.index (front ++ e ∷ back) = rw h.0 refl in
-      absurd (omega (arith, twice, times-first e back, times-back e.index front (e ∷ back), distinct e.index))
-  | inr h ↦ rw h.0 (ap (λ xs. f ∷ xs) (with_item-here item front e back (λ j. omega (arith, distinct j))))
-]
 
 -- the list after an insertion of a new entry
 pub record IsListed {T : Type 0} (put : Entry T → List (Entry T)) (item : T) (es : List (Entry T)) : Type 0 where
@@ -93,7 +79,7 @@ module _ {T K : Type 0} (key : T → K) (cmp : K → K → Ordering) (total : Is
         | inl at ↦
             let fits : IsPlace key cmp (at_key k) (into gap) = subst (λ (a : Aim K). IsPlace key cmp a (into gap)) at place in
             record {
-              at_most_before = IfSome-map (λ e. order_to key cmp k e ≡ Greater) (λ e. order_to key cmp k e ≢ Less) (before gap) (λ e more less. absurd (cc)) fits.lesser_before;
+              at_most_before = IfSome_then (before gap) fits.lesser_before (λ e more less. absurd (cc));
               greater_after = fits.greater_after;
             }
         | inr at ↦ subst (λ (a : Aim K). IsPlace key cmp a (into gap)) at place
@@ -108,25 +94,16 @@ module _ {T K : Type 0} (key : T → K) (cmp : K → K → Ordering) (total : Is
       kept-between : (gap : Gap entries) → LiesBehind key cmp gap k → (e : Entry T) → e.item ≡ item → IsInOrder key cmp (with_between gap e)
       kept-between gap place e has =
           in_order-between gap.front e gap.back (subst (λ es. IsInOrder key cmp es) gap.cut sorted)
-          (IfSome-map (λ f. order_to key cmp k f ≢ Less) (λ f. cmp (key f.item) (key e.item) ≢ Greater) (before gap) (λ f most. rw has (behind (key f.item) most)) place.at_most_before)
-          (IfSome-map (λ f. order_to key cmp k f ≡ Less) (λ f. cmp (key e.item) (key f.item) ≢ Greater) (after gap) (λ f less. rw has (ahead (key f.item) less)) place.greater_after)
+          (IfSome_then (before gap) place.at_most_before (λ f most. rw has (behind (key f.item) most)))
+          (IfSome_then (after gap) place.greater_after (λ f less. rw has (ahead (key f.item) less)))
 
       kept-instead : IsDistinct entries → (e : Entry T) → IsFirstEqual key cmp entries k e → IsInOrder key cmp (with_item_among entries e.index item)
-      kept-instead distinct e met = go met.gap.back refl met.here
-        where
-          same : cmp (key e.item) (key item) ≡ Equal
-          same = sym (total.congr k (key e.item) (key item) met.equal) ∙ equal
-
-          go : (back : List (Entry T)) → met.gap.back ≡ back → first_of back ≡ Some e → IsInOrder key cmp (with_item_among entries e.index item)
-          go [] is here = absurd (cc)
-          go (x ∷ back) is here =
-              let at : x ≡ e = cc in
-              let cut : entries ≡ met.gap.front ++ e ∷ back = met.gap.cut ∙ ap (λ ys. met.gap.front ++ ys) (is ∙ ap (λ y. y ∷ back) at) in
-              let distinct2 = subst (λ (es : List (Entry T)). IsDistinct es) cut distinct in
-              let after : with_item_among entries e.index item ≡ met.gap.front ++ record e { item = item } ∷ back =
-              ap (λ es. with_item_among es e.index item) cut ∙ with_item-here item met.gap.front e back distinct2 in
-              subst (λ es. IsInOrder key cmp es) (sym after)
-              (in_order-instead met.gap.front e (record e { item = item }) back same (subst (λ es. IsInOrder key cmp es) cut sorted))
+      kept-instead distinct e met =
+          let same : cmp (key e.item) (key item) ≡ Equal = sym (total.congr k (key e.item) (key item) met.equal) ∙ equal in
+          let back = begins met.gap.back e met.here in
+          let cut : entries ≡ met.gap.front ++ e ∷ back.0 = met.gap.cut ∙ ap (λ ys. met.gap.front ++ ys) back.1 in
+          rw (with_item-here entries distinct met.gap.front e back.0 cut item)
+          (in_order-instead met.gap.front e (record e { item = item }) back.0 same (rw cut at sorted))
 
 pub kept_order : {P T K : Type 0} (numbers : P → ℕ × ℕ) (key : T → K) (cmp : K → K → Ordering) → IsTotalOrder cmp → KeptOrderLaw numbers key cmp
 kept_order {P} {T} {K} numbers key cmp total most growth aim k old new item answer by equal distinct sorted inserts = go answer inserts
@@ -139,9 +116,8 @@ kept_order {P} {T} {K} numbers key cmp total most growth aim k old new item answ
         let place = lies key cmp total k item equal entries sorted aim by ins.gap ins.place in
         let list = listed-new _ _ _ _ _ _ ins.inserted in
         subst (λ es. IsInOrder key cmp es) (sym list.listed) (kept-between key cmp total k item equal entries sorted ins.gap place list.entry list.has)
-    go (Ok (New p, Some b)) ins = absurd ins
-    go (Ok (Replacing p, None)) ins = absurd ins
     go (Ok (Replacing p, Some b)) ins =
         let met = first key cmp total k item equal entries sorted aim by ins.entry ins.place in
         subst (λ (t : Tree T). IsInOrder key cmp t.list.entries) (sym ins.after) (kept-instead key cmp total k item equal entries sorted distinct ins.entry met)
+    go (Ok answer) ins = absurd ins
     go (Err refusal) ins = subst (λ (t : Tree T). IsInOrder key cmp t.list.entries) (sym ins.after) sorted

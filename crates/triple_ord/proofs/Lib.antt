@@ -1,3 +1,4 @@
+pub mod Cuts
 pub mod Descending
 pub mod Ordered
 pub mod Taken

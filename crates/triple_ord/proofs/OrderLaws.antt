@@ -1,40 +1,26 @@
 -- The laws of lists in order and of rebuilt shapes.
-use Rattle.std.proofs.Common.{◌≡◌, ◌≢◌, ◌↔◌, ℕ, suc, inl, inr, List, [], ◌∷◌, ◌++◌, Option, Some, None, refl, sym, ap, subst, ◌∙◌, arith, ◌/◌, ◌-◌}
-use Rattle.std.proofs.lemmas.Bool.Decides.{leb_tells}
+use Rattle.std.proofs.Common.{◌≡◌, ◌↔◌, ℕ, inl, inr, List, [], ◌∷◌, ◌++◌, Option, Some, None, refl, sym, ap, subst, ◌∙◌, arith, ◌/◌, ◌-◌}
+use Rattle.std.proofs.lemmas.Bool.{cases_order}
 use Rattle.std.specs.List.{AllByRecursion, Contains}
 use Rattle.std.specs.Cmp.{IsTotalOrder}
-use Rattle.std.proofs.lemmas.List.Elements.{All-from_recursion}
+use Rattle.std.proofs.lemmas.List.Elements.{All-from_recursion, All-contains, Contains-append_cases, Contains-append_right}
 use Rattle.std.specs.declared.cmp.Ordering.{Ordering}
-use Rattle.std.specs.declared.cmp.Ordering.TheVariants.{Less, Equal, Greater}
+use Rattle.std.specs.declared.cmp.Ordering.TheVariants.{Less, Greater}
 use Rattle.chain_base.specs.Chain.{Entry}
 use Rattle.ord_tree.specs.Numbers.{IsTop}
 use Rattle.ord_tree.specs.Shape.{Shape, missing, node, size_of}
 use Rattle.ord_tree.specs.Half.{IsHalf, half_rank}
-use Rattle.triple_ord.specs.Gap.{Gap, first_of}
+use Rattle.triple_ord.specs.Gap.{Gap}
 use Rattle.triple_ord.specs.Search.{order_to, Fits, FindsKey, IsFirstEqual}
 use Rattle.triple_ord.specs.Order.{IsInOrder}
 use Rattle.triple_ord.specs.OrderLaws.{IsAbsent, AbsentKeyLaw, IsPlaceOf, BesidePlaceLaw, ranks_of, SameRanksLaw}
+use Rattle.triple_ord.proofs.Cuts.{begins}
 use Rattle.triple_ord.proofs.Ordered.{IsInOrder-back, all_greater, all_less}
 
--- what is true of each element is true of one that the list contains
-pub contained : {X : Type 0} (P : X → Type 0) (xs : List X) (x : X) → AllByRecursion P xs → Contains xs x → P x
-contained P xs x all has = subst P has.2 (All-from_recursion P xs all has.0 x has.1)
-
-pub recursion-append : {X : Type 0} (P : X → Type 0) (xs ys : List X) → AllByRecursion P xs → AllByRecursion P ys → AllByRecursion P (xs ++ ys)
-recursion-append P [] ys all others = others
-recursion-append P (x ∷ xs) ys all others = (all.0, recursion-append P xs ys all.1 others)
-
+-- what follows of each element
 pub recursion-map : {X : Type 0} (P Q : X → Type 0) → ((x : X) → P x → Q x) → (xs : List X) → AllByRecursion P xs → AllByRecursion Q xs
 recursion-map P Q follows [] all = tt
 recursion-map P Q follows (x ∷ xs) all = (follows x all.0, recursion-map P Q follows xs all.1)
-
--- the first behind a front is contained
-contains-behind : {X : Type 0} (front back : List X) (x : X) → first_of back ≡ Some x → Contains (front ++ back) x
-contains-behind [] [] x is = absurd (cc)
-contains-behind [] (y ∷ back) x is = (0, omega arith, let same : y ≡ x = cc in same)
-contains-behind (z ∷ front) back x is =
-    let rest = contains-behind front back x is in
-    (suc rest.0, omega (arith, rest.1), rest.2)
 
 module _ {T K : Type 0} (key : T → K) (cmp : K → K → Ordering) (total : IsTotalOrder cmp) (entries : List (Entry T)) (k : K) (sorted : IsInOrder key cmp entries) where
   -- a gap that fits is the key's place
@@ -42,24 +28,24 @@ module _ {T K : Type 0} (key : T → K) (cmp : K → K → Ordering) (total : Is
     cut : IsInOrder key cmp (gap.front ++ gap.back)
     cut = rw gap.cut at sorted
 
-    lesser : AllByRecursion (λ e. order_to key cmp k e ≡ Greater) gap.front
-    lesser = all_greater key cmp total k gap.front gap.back cut fits.lesser_before
-
-    greater : AllByRecursion (λ e. order_to key cmp k e ≡ Less) gap.back
-    greater = all_less key cmp total k gap.back (IsInOrder-back key cmp gap.front gap.back cut) fits.greater_after
-
     place-fits : IsPlaceOf key cmp gap k
-    place-fits = record { lesser = All-from_recursion _ gap.front lesser; greater = All-from_recursion _ gap.back greater }
+    place-fits = record {
+      lesser = All-from_recursion _ gap.front (all_greater key cmp total k gap.front gap.back cut fits.lesser_before);
+      greater = All-from_recursion _ gap.back (all_less key cmp total k gap.back (IsInOrder-back key cmp gap.front gap.back cut) fits.greater_after);
+    }
 
     absent-fits : IsAbsent key cmp entries k
-    absent-fits e has = contained (λ e. order_to key cmp k e ≢ Equal) (gap.front ++ gap.back) e
-        (recursion-append (λ e. order_to key cmp k e ≢ Equal) gap.front gap.back
-        (recursion-map (λ e. order_to key cmp k e ≡ Greater) (λ e. order_to key cmp k e ≢ Equal) (λ e is same. absurd (cc)) gap.front lesser)
-        (recursion-map (λ e. order_to key cmp k e ≡ Less) (λ e. order_to key cmp k e ≢ Equal) (λ e is same. absurd (cc)) gap.back greater)) (subst (λ es. Contains es e) gap.cut has)
+    absent-fits e has equal = elim (Contains-append_cases gap.front gap.back e (subst (λ es. Contains es e) gap.cut has)) [
+      | inl low ↦ let more = All-contains (λ e. order_to key cmp k e ≡ Greater) gap.front e place-fits.lesser low in cc
+      | inr high ↦ let less = All-contains (λ e. order_to key cmp k e ≡ Less) gap.back e place-fits.greater high in cc
+    ]
 
   -- an entry that a search met is there
   not_absent : (e : Entry T) → IsFirstEqual key cmp entries k e → IsAbsent key cmp entries k → ⊥
-  not_absent e met absent = absent e (subst (λ es. Contains es e) (sym met.gap.cut) (contains-behind met.gap.front met.gap.back e met.here)) met.equal
+  not_absent e met absent =
+      let back = begins met.gap.back e met.here in
+      let has = Contains-append_right met.gap.front (e ∷ back.0) e (0, omega arith, refl) in
+      absent e (subst (λ es. Contains es e) (sym (met.gap.cut ∙ ap (λ ys. met.gap.front ++ ys) back.1)) has) met.equal
 
   absent-found : (found : Option (ℕ × ℕ)) (c : ℕ) → FindsKey key cmp entries k found c → (found ≡ None) ↔ IsAbsent key cmp entries k
   absent-found None c finds = (λ none. absent-fits finds.0 finds.1.fits, λ absent. refl)
@@ -81,22 +67,18 @@ beside_place key cmp total entries k p order c sorted absent finds = (
 -- halves of one size have the same ranks
 same_half : (s t : Shape) (q : ℕ) → IsHalf q s → IsHalf q t → size_of s ≡ size_of t → ranks_of s ≡ ranks_of t
 same_half missing missing q a b same = refl
-same_half missing (node l i k r) q a b same = absurd (omega (arith, same))
-same_half (node l i k r) missing q a b same = absurd (omega (arith, same))
 same_half (node l i k r) (node l' i' k' r') q a b same =
     let lesser : size_of l ≡ size_of l' = a.0 ∙ ap (λ n. n / 2) same ∙ sym b.0 in
     let greater : size_of r ≡ size_of r' = omega (arith, same, lesser) in
     let rank : k ≡ k' = a.1 ∙ ap (λ n. half_rank n q) same ∙ sym b.1 in
     rw (same_half l l' (q - 1) a.2 b.2 lesser, same_half r r' (q - 1) a.3 b.3 greater, rank) refl
+same_half s t q a b same = absurd (omega (arith, same))
 
 -- the top rank is one number
 same_top : (n m p q : ℕ) → n ≡ m → IsTop n p → IsTop m q → p ≡ q
-same_top n m p q same a b = elim (leb_tells a.0 b.0) [
-  | inl h ↦ elim (leb_tells b.0 a.0) [
-    | inl g ↦ omega (arith, a.1, b.1, h.1, g.1)
-    | inr g ↦ absurd (b.2.1 a.0 g.1 (rw (← same) a.2.0))
-  ]
-  | inr h ↦ absurd (a.2.1 b.0 h.1 (rw same b.2.0))
+same_top n m p q same a b = elim (cases_order a.0 b.0) [
+  | inl one ↦ omega (arith, a.1, b.1, one)
+  | inr other ↦ absurd (elim other [ inl less ↦ b.2.1 a.0 less (rw (← same) a.2.0) | inr more ↦ a.2.1 b.0 more (rw same b.2.0) ])
 ]
 
 pub same_ranks : SameRanksLaw

@@ -1,7 +1,7 @@
 -- A list in the order of its keys, with a gap that fits a key: the key is greater than all before the gap, and less than all after it.
-use Rattle.std.proofs.Common.{◌≡◌, ◌≢◌, ◌↔◌, true, false, ◌<◌, ◌≤◌, List, [], ◌∷◌, ◌++◌, IfSome, None, length, refl, sym, ap, ◌∙◌, arith, inl, inr}
+use Rattle.std.proofs.Common.{◌≡◌, ◌≢◌, ◌↔◌, true, false, ◌<◌, ◌≤◌, List, [], ◌∷◌, ◌++◌, IfSome, None, length, refl, sym, ap, subst, ◌∙◌, arith, inl, inr, length-append}
 use Rattle.std.proofs.lemmas.Bool.Decides.{leb_tells}
-use Rattle.std.specs.List.{AllByRecursion as ByRecursion}
+use Rattle.std.specs.List.{AllByRecursion}
 use Rattle.std.specs.Cmp.{IsTotalOrder, alike_right}
 use Rattle.std.specs.Ordering.{ordering_reverse, is_gt}
 use Rattle.std.specs.declared.cmp.Ordering.{Ordering}
@@ -10,6 +10,21 @@ use Rattle.chain_base.specs.Chain.{Entry}
 use Rattle.triple_ord.specs.Gap.{Gap, first_of, last_or}
 use Rattle.triple_ord.specs.Search.{order_to, Fits}
 use Rattle.triple_ord.specs.Order.{IsInOrder}
+
+-- what stands at a place of the front, and of the back, of a list that is cut in two
+module _ {X : Type 0} (P : X → Type 0) where
+  pub in_front : (low high front back : List X) (x : X) → low ++ high ≡ front ++ x ∷ back → length front < length low → AllByRecursion P low → P x
+  in_front [] high front back x cut within all = absurd (omega arith)
+  in_front (y ∷ low) high [] back x cut within all = let same : y ≡ x = cc in subst P same all.0
+  in_front (y ∷ low) high (z ∷ front) back x cut within all = in_front low high front back x (cc) (omega (arith, within)) all.1
+
+  pub in_back : (low high front back : List X) (x : X) → low ++ high ≡ front ++ x ∷ back → length low ≤ length front → AllByRecursion P high → P x
+  in_back [] [] [] back x cut within all = absurd (cc)
+  in_back [] [] (z ∷ front) back x cut within all = absurd (cc)
+  in_back [] (y ∷ high) [] back x cut within all = let same : y ≡ x = cc in subst P same all.0
+  in_back [] (y ∷ high) (z ∷ front) back x cut within all = in_back [] high front back x (cc) (omega arith) all.1
+  in_back (y ∷ low) high [] back x cut within all = absurd (omega arith)
+  in_back (y ∷ low) high (z ∷ front) back x cut within all = in_back low high front back x (cc) (omega (arith, within)) all
 
 -- in a total order: what is not greater than something lesser is lesser, and what is not less than something greater is greater
 module _ {K : Type 0} (cmp : K → K → Ordering) (total : IsTotalOrder cmp) where
@@ -36,9 +51,7 @@ module _ {T K : Type 0} (key : T → K) (cmp : K → K → Ordering) where
 
   -- a list of one entry is in order; one of more, where its first two are and the list from the second on is
   pub in_order-one : (e : Entry T) → IsInOrder key cmp (e ∷ [])
-  in_order-one e [] back f g cut = absurd (cc)
-  in_order-one e (x ∷ []) back f g cut = absurd (cc)
-  in_order-one e (x ∷ y ∷ front) back f g cut = absurd (cc)
+  in_order-one e front back f g cut = absurd (omega (arith, ap length cut, length-append front (f ∷ g ∷ back)))
 
   pub in_order-more : (e f : Entry T) (es : List (Entry T)) → cmp (key e.item) (key f.item) ≢ Greater → IsInOrder key cmp (f ∷ es) → IsInOrder key cmp (e ∷ f ∷ es)
   in_order-more e f es two rest [] back x y cut =
@@ -59,9 +72,8 @@ module _ {T K : Type 0} (key : T → K) (cmp : K → K → Ordering) where
     in_order-not more order = order [] es e f refl (sym is ∙ told o more)
       where
         told : (o : Ordering) → is_gt o ≡ true → o ≡ Greater
-        told Less more = absurd (cc)
-        told Equal more = absurd (cc)
         told Greater more = refl
+        told o more = absurd (cc)
 
   pub IsInOrder-back : (front back : List (Entry T)) → IsInOrder key cmp (front ++ back) → IsInOrder key cmp back
   IsInOrder-back [] back order = order
@@ -69,33 +81,19 @@ module _ {T K : Type 0} (key : T → K) (cmp : K → K → Ordering) where
 
   module _ (total : IsTotalOrder cmp) (k : K) where
     pub all_greater : (front back : List (Entry T)) → IsInOrder key cmp (front ++ back)
-        → IfSome (last_or None front) (λ e. order_to key cmp k e ≡ Greater) → ByRecursion (λ e. order_to key cmp k e ≡ Greater) front
+        → IfSome (last_or None front) (λ e. order_to key cmp k e ≡ Greater) → AllByRecursion (λ e. order_to key cmp k e ≡ Greater) front
     all_greater [] back order last = tt
     all_greater (e ∷ []) back order last = (last, tt)
     all_greater (e ∷ (f ∷ front)) back order last =
         let rest = all_greater (f ∷ front) back (IsInOrder-rest e (f ∷ front ++ back) order) last in
         (lesser_before cmp total k (key e.item) (key f.item) _ refl (order [] (front ++ back) e f refl) rest.0, rest)
 
-    pub all_less : (back : List (Entry T)) → IsInOrder key cmp back → IfSome (first_of back) (λ e. order_to key cmp k e ≡ Less) → ByRecursion (λ e. order_to key cmp k e ≡ Less) back
+    pub all_less : (back : List (Entry T)) → IsInOrder key cmp back → IfSome (first_of back) (λ e. order_to key cmp k e ≡ Less) → AllByRecursion (λ e. order_to key cmp k e ≡ Less) back
     all_less [] order first = tt
     all_less (e ∷ []) order first = (first, tt)
     all_less (e ∷ (f ∷ back)) order first =
         let next = greater_after cmp total k (key e.item) (key f.item) _ refl (order [] back e f refl) first in
         (first, all_less (f ∷ back) (IsInOrder-rest e (f ∷ back) order) next)
-
-  -- what stands at a place of the front, and of the back, of a list that is cut in two
-  in_front : (P : Entry T → Type 0) (low high front back : List (Entry T)) (e : Entry T) → low ++ high ≡ front ++ e ∷ back → length front < length low → ByRecursion P low → P e
-  in_front P [] high front back e cut within all = absurd (omega arith)
-  in_front P (x ∷ low) high [] back e cut within all = let P' = P in let same : x ≡ e = cc in rw same at all.0
-  in_front P (x ∷ low) high (y ∷ front) back e cut within all = in_front P low high front back e (cc) (omega (arith, within)) all.1
-
-  in_back : (P : Entry T → Type 0) (low high front back : List (Entry T)) (e : Entry T) → low ++ high ≡ front ++ e ∷ back → length low ≤ length front → ByRecursion P high → P e
-  in_back P [] [] [] back e cut within all = absurd (cc)
-  in_back P [] [] (y ∷ front) back e cut within all = absurd (cc)
-  in_back P [] (x ∷ high) [] back e cut within all = let same : x ≡ e = cc in rw same at all.0
-  in_back P [] (x ∷ high) (y ∷ front) back e cut within all = in_back P [] high front back e (cc) (omega arith) all.1
-  in_back P (x ∷ low) high [] back e cut within all = absurd (omega arith)
-  in_back P (x ∷ low) high (y ∷ front) back e cut within all = in_back P low high front back e (cc) (omega (arith, within)) all
 
   -- an entry to which k doesn't lie Less stands before the gap, one to which it doesn't lie Greater behind it
   module _ (total : IsTotalOrder cmp) (k : K) (es : List (Entry T)) (order : IsInOrder key cmp es) (gap : Gap es)

@@ -1,68 +1,41 @@
 -- The place of an insertion, from what a search answers or from an index.
-use Rattle.std.proofs.Common.{◌≡◌, ◌≢◌, ◌==◌, ℕ, suc, ◌+◌, ◌≤◌, false, true, length, slice_get, List, [], ◌∷◌, ◌++◌, Option, Some, None, IsSome, Result, Ok, Err, IfErr, refl, sym, ap, subst, ◌∙◌, arith, inl, inr, append_assoc}
-use Rattle.std.proofs.lemmas.Bool.Decides.{eqb_tells, nat_tests}
+use Rattle.std.proofs.Common.{◌≡◌, ◌≢◌, ◌==◌, if◌then◌else◌, is_some, ℕ, ◌+◌, ◌≤◌, false, true, length, slice_get, List, [], ◌∷◌, ◌++◌, Option, Some, None, IsSome, Result, Ok, Err, IfErr, refl, sym, ap, subst, ◌∙◌, arith, append_assoc}
+use Rattle.std.proofs.lemmas.Bool.{eq-eqb}
+use Rattle.std.proofs.lemmas.Bool.Decides.{nat_tests}
+use Rattle.std.proofs.lemmas.List.{nil_from_length}
+use Rattle.std.proofs.lemmas.Option.{IfSome_then}
 use Rattle.std.specs.Option.{option_map}
 use Rattle.std.specs.Ordering.{is_eq}
 use Rattle.std.specs.declared.cmp.Ordering.{Ordering}
 use Rattle.std.specs.declared.cmp.Ordering.TheVariants.{Less, Equal, Greater}
 use Rattle.std.specs.Result.{IsErrAnd}
-use Rattle.chain_base.specs.Chain.{Entry, Chain, entry_at, next_index, IsDistinct, IsSound, insert_before, insert_after}
+use Rattle.chain_base.specs.Chain.{Entry, Chain, entry_at, next_index, IsDistinct, IsSound}
 use Rattle.chain_base.specs.Insert.{IsInsertion}
 use Rattle.ord_tree.specs.Tree.{Tree, IsGrown, put_on, put_at, with_item}
 use Rattle.triple_ord.specs.Arena.{item_of, count, Updates}
 use Rattle.triple_ord.specs.EntryVisits.{HasSeen}
-use Rattle.triple_ord.specs.Gap.{Gap, last_or, before, after, with_between}
-use Rattle.triple_ord.specs.Search.{order_to, Fits, FindsSimilar}
+use Rattle.triple_ord.specs.Gap.{Gap, before, after, with_between}
+use Rattle.triple_ord.specs.Search.{Fits, FindsSimilar}
 use Rattle.triple_ord.specs.Ties.{taken}
 use Rattle.triple_ord.specs.declared.ties.Ties.TheVariants.{Passed}
 use Rattle.triple_ord.specs.declared.prepared.InsertPlace.{InsertPlace}
-use Rattle.triple_ord.proofs.Descending.{IfSome-map}
+use Rattle.triple_ord.proofs.Cuts.{last_or-append, stands}
 use Rattle.triple_ord.proofs.Taken.{taken-less, taken-greater, passed-unequal}
-use Rattle.triple_ord.specs.Place.{Aim, alone, at_key, behind_key, beside, Place, into, over, nowhere, HasIndex, IsPlace, aim_of}
+use Rattle.triple_ord.specs.Place.{Aim, alone, at_key, behind_key, beside, Place, into, over, nowhere, IsPlace, aim_of}
 use Rattle.triple_ord.specs.Prepared.{Keeps, IsFoundPlace, IsPlaceBeside, IsPlaceFor, HasRoomAt}
 use Rattle.triple_ord.specs.Insertion.{Growth, within, reallocating, with_slot, LacksSlot, IsRefused, InsertsBeside}
 use Rattle.triple_ord.specs.declared.insert_kind.OrdInsertKind.{OrdInsertKind}
 use Rattle.triple_ord.specs.declared.error.OrdInsertionError.{OrdInsertionError}
 use Rattle.triple_ord.specs.declared.error.OrdInsertionError.TheVariants.{FailedOrdRequirement, NotWithinCapacity, BeyondMaxCapacity, AllocError}
-use Rattle.triple_ord.proofs.CallerLemmas.{entries-with_slot, updates-written, updates-inserted, count-inserted}
+use Rattle.triple_ord.proofs.CallerLemmas.{entries-with_slot, updates-written, count-written, inserted-new}
 use Rattle.triple_ord.specs.declared.prepared.InsertPlace.TheVariants.{New, Replacing}
-use Rattle.triple_ord.proofs.Inserting.{HasPlace, place-alone, similar-placed, similar-occupied, similar-here, similar-first, similar-seen, not_equal, IsInsertion-same, insert_before-here, insert_after-here}
+use Rattle.triple_ord.proofs.Inserting.{HasPlace, place-alone, similar-placed, similar-occupied, similar-here, similar-first, similar-seen, not_equal, IsInsertion-same, puts-before, puts-after}
 
-module _ {T : Type 0} where
-  -- the list around the entry that has an index
-  pub record Around (es : List (Entry T)) (i : ℕ) (x : ℕ × T) : Type 0 where
-    pub front : List (Entry T)
-    pub back : List (Entry T)
-    pub cut : es ≡ front ++ record { index = i; generation = x.0; item = x.1 } ∷ back
-
-  pub around : (es : List (Entry T)) (i : ℕ) (x : ℕ × T) → entry_at es i ≡ Some x → Around es i x
-  around [] i x there = absurd (cc)
-  around (e ∷ es) i x there = elim (eqb_tells e.index i) [
-    | inl h ↦
-        let first : Some (e.generation, e.item) ≡ Some x = rw h.0 at there in
-        let same : (e.generation, e.item) ≡ x = cc in
-        record { front = []; back = es; cut = rw (← same, h.1) refl }
-    | inr h ↦
-        let rest = around es i x (rw h.0 at there) in
-        record { front = e ∷ rest.front; back = rest.back; cut = ap (λ ys. e ∷ ys) rest.cut }
-  ]
-
-  pub item_here : (t : Tree T) (i : ℕ) (x : ℕ × T) → entry_at t.list.entries i ≡ Some x → IsSome (item_of t (i, x.0))
-  item_here t i x there = elim (eqb_tells x.0 x.0) [
-    | inl h ↦ rw (there, h.0) refl
-    | inr h ↦ absurd (h.1 refl)
-  ]
-
-  -- what was put behind a list is its last
-  last_from : (other : Option (Entry T)) (front : List (Entry T)) (e : Entry T) → last_or other (front ++ e ∷ []) ≡ Some e
-  last_from other [] e = refl
-  last_from other (f ∷ front) e = last_from (Some f) front e
-
-  last_is : (front : List (Entry T)) (e : Entry T) → HasIndex e.index (last_or None (front ++ e ∷ []))
-  last_is front e = rw last_from refl
+pub item_here : {T : Type 0} (t : Tree T) (i : ℕ) (x : ℕ × T) → entry_at t.list.entries i ≡ Some x → IsSome (item_of t (i, x.0))
+item_here t i x there = rw (there, eq-eqb x.0 x.0 refl) refl
 
 -- a side of the entry that has an index is a gap
-module _ {T K : Type 0} (key : T → K) (cmp : K → K → Ordering) (es : List (Entry T)) (distinct : IsDistinct es) (i : ℕ) (x : ℕ × T) (there : entry_at es i ≡ Some x) where
+module _ {T K : Type 0} (key : T → K) (cmp : K → K → Ordering) (es : List (Entry T)) (distinct : IsDistinct es) (i : ℕ) (there : IsSome (entry_at es i)) where
   pub record OnSide (o : Ordering) : Type 0 where
     pub gap : Gap es
     pub at : IsPlace key cmp (beside i o) (into gap)
@@ -71,21 +44,14 @@ module _ {T K : Type 0} (key : T → K) (cmp : K → K → Ordering) (es : List 
   pub on-side : (o : Ordering) → o ≢ Equal → OnSide o
   on-side Equal other = absurd (other refl)
   on-side Less other =
-      let cuts = around es i x there in
-      let here : Entry T = record { index = i; generation = x.0; item = x.1 } in
-      record {
-        gap = record { front = cuts.front; back = here ∷ cuts.back; cut = cuts.cut };
-        at = refl;
-        puts = λ new. ap (insert_before i new) cuts.cut ∙ insert_before-here new cuts.front here cuts.back (subst (λ (xs : List (Entry T)). IsDistinct xs) cuts.cut distinct);
-      }
+      let s = stands es i there in
+      let gap : Gap es = record { front = s.front; back = s.entry ∷ s.back; cut = s.cut } in
+      record { gap = gap; at = s.here; puts = λ new. rw s.here at (puts-before es s.entry distinct gap refl new) }
   on-side Greater other =
-      let cuts = around es i x there in
-      let here : Entry T = record { index = i; generation = x.0; item = x.1 } in
-      record {
-        gap = record { front = cuts.front ++ here ∷ []; back = cuts.back; cut = cuts.cut ∙ simp append_assoc };
-        at = last_is cuts.front here;
-        puts = λ new. ap (insert_after i new) cuts.cut ∙ insert_after-here new cuts.front here cuts.back (subst (λ (xs : List (Entry T)). IsDistinct xs) cuts.cut distinct) ∙ simp append_assoc;
-      }
+      let s = stands es i there in
+      let gap : Gap es = record { front = s.front ++ s.entry ∷ []; back = s.back; cut = s.cut ∙ simp append_assoc } in
+      let last = last_or-append None s.front s.entry [] in
+      record { gap = gap; at = rw last s.here; puts = λ new. rw s.here at (puts-after es s.entry distinct gap last new) }
 
 module _ {P T K : Type 0} (numbers : P → ℕ × ℕ) (key : T → K) (cmp : K → K → Ordering) (t : Tree T) where
   module _ (k : K) (c : ℕ) where
@@ -109,7 +75,7 @@ module _ {P T K : Type 0} (numbers : P → ℕ × ℕ) (key : T → K) (cmp : K 
           → is_eq o ≡ false → IsFoundPlace numbers key cmp t aim c (New (Some (p, o)))
       found-beside aim lift test =
           found-gap aim lift (Some (p, o)) (similar-occupied key cmp t.list.entries k distinct (numbers p) o c found, not_equal o test)
-          (similar-placed key cmp t.list.entries k distinct (numbers p) o c found (numbers p).0 refl test)
+          (similar-placed key cmp t.list.entries k distinct (numbers p) o c found test)
           (λ some. similar-seen key cmp t.list.entries k distinct (numbers p) o c found)
 
       pub found-over : is_eq o ≡ true → IsFoundPlace numbers key cmp t (at_key k) c (Replacing p)
@@ -134,8 +100,8 @@ module _ {P T K : Type 0} (numbers : P → ℕ × ℕ) (key : T → K) (cmp : K 
       go (into gap) chosen keeps seen = record {
         place = into gap;
         chosen = record {
-          at_most_before = IfSome-map (λ e. order_to key (taken Passed cmp) k e ≡ Greater) (λ e. order_to key cmp k e ≢ Less) (before gap) (λ e lesser. taken-greater cmp k (key e.item) Passed lesser) chosen.lesser_before;
-          greater_after = IfSome-map (λ e. order_to key (taken Passed cmp) k e ≡ Less) (λ e. order_to key cmp k e ≡ Less) (after gap) (λ e more. taken-less cmp k (key e.item) Passed more) chosen.greater_after;
+          at_most_before = IfSome_then (before gap) chosen.lesser_before (λ e lesser. taken-greater cmp k (key e.item) Passed lesser);
+          greater_after = IfSome_then (after gap) chosen.greater_after (λ e more. taken-less cmp k (key e.item) Passed more);
         };
         keeps = keeps;
         seen = seen;
@@ -144,54 +110,40 @@ module _ {P T K : Type 0} (numbers : P → ℕ × ℕ) (key : T → K) (cmp : K 
       go nowhere chosen keeps seen = absurd chosen
 
   -- the entry that has an index: beside it, or in its place
-  module _ (distinct : IsDistinct t.list.entries) (p : P) (g : ℕ) (item : T) (named_is : numbers p ≡ ((numbers p).0, g)) (there : entry_at t.list.entries (numbers p).0 ≡ Some (g, item)) where
-    abbrev here : Entry T
-    here = record { index = (numbers p).0; generation = g; item = item }
+  module _ (distinct : IsDistinct t.list.entries) (p : P) (i g : ℕ) (item : T) (named : numbers p ≡ (i, g)) (there : entry_at t.list.entries i ≡ Some (g, item)) where
+    pub beside-over : IsPlaceBeside numbers key cmp t (beside i Equal) (Some (Replacing p))
+    beside-over = (over (record { index = i; generation = g; item = item }), (refl, there), (named, rw named (item_here t i (g, item) there)))
 
-    pub beside-over : IsPlaceBeside numbers key cmp t (beside (numbers p).0 Equal) (Some (Replacing p))
-    beside-over = (over here, (refl, there), (named_is, rw named_is (item_here t (numbers p).0 (g, item) there)))
-
-    pub beside-put : (o : Ordering) → o ≢ Equal → IsPlaceBeside numbers key cmp t (beside (numbers p).0 o) (Some (New (Some (p, o))))
+    pub beside-put : (o : Ordering) → o ≢ Equal → IsPlaceBeside numbers key cmp t (beside i o) (Some (New (Some (p, o))))
     beside-put o other =
-        let side = on-side key cmp t.list.entries distinct (numbers p).0 (g, item) there o other in
-        (into side.gap, side.at, ((rw there refl, other), side.puts))
+        let some : IsSome (entry_at t.list.entries i) = rw there refl in
+        let side = on-side key cmp t.list.entries distinct i some o other in
+        let index : (numbers p).0 ≡ i = ap (λ n. n.0) named in
+        (into side.gap, side.at, ((rw index some, other), rw index side.puts))
 
   -- alone, where there is no entry
   pub alone-here : (length t.list.entries == 0) ≡ true → IsPlaceBeside numbers key cmp t alone (Some (New None))
-  alone-here test = go t.list.entries refl
-    where
-      go : (es : List (Entry T)) → t.list.entries ≡ es → IsPlaceBeside numbers key cmp t alone (Some (New None))
-      go [] is =
-          let gap : Gap t.list.entries = record { front = []; back = []; cut = is } in
-          (into gap, is, (ap length is, λ new. ap (λ xs. new ∷ xs) is))
-      go (e ∷ es) is = absurd (let n : length t.list.entries ≡ suc (length es) = ap length is in grind (arith, nat_tests))
+  alone-here test =
+      let none : length t.list.entries ≡ 0 = grind (arith, nat_tests) in
+      let is = nil_from_length t.list.entries none in
+      (into (record { front = []; back = []; cut = is }), is, (none, λ new. ap (λ xs. new ∷ xs) is))
 
   pub alone-refused : (length t.list.entries == 0) ≡ false → IsPlaceBeside numbers key cmp t alone None
   alone-refused test empty = absurd (let n : length t.list.entries ≡ 0 = ap length empty in grind (arith, nat_tests))
 
 -- a place beside an entry, or alone, is a gap
-module _ {T : Type 0} where
-  empty_of : (es : List (Entry T)) → length es ≡ 0 → es ≡ []
-  empty_of [] none = refl
-  empty_of (e ∷ es) none = absurd (omega (arith, none))
-
 module _ {P T : Type 0} (numbers : P → ℕ × ℕ) (t : Tree T) (distinct : IsDistinct t.list.entries) where
-  abbrev index : P → ℕ
-  index p = (numbers p).0
-
   pub record PutsInto (put : Entry T → List (Entry T)) : Type 0 where
     pub gap : Gap t.list.entries
     pub puts : (new : Entry T) → put new ≡ with_between gap new
 
-  pub put-gap : (at : Option (P × Ordering)) → HasRoomAt numbers at t.list → PutsInto (put_at index at t.list.entries)
-  put-gap None none = let empty = empty_of t.list.entries none in record { gap = record { front = []; back = []; cut = empty }; puts = λ new. ap (λ xs. new ∷ xs) empty }
-  put-gap (Some (p, o)) can = go (entry_at t.list.entries (index p)) refl
-    where
-      go : (x : Option (ℕ × T)) → entry_at t.list.entries (index p) ≡ x → PutsInto (put_at index (Some (p, o)) t.list.entries)
-      go None there = absurd (let some = rw there at can.0 in cc)
-      go (Some x) there =
-          let side = on-side (λ (item : T). tt {0}) (λ k l. Equal) t.list.entries distinct (index p) x there o can.1 in
-          record { gap = side.gap; puts = side.puts }
+  pub put-gap : (at : Option (P × Ordering)) → HasRoomAt numbers at t.list → PutsInto (put_at (λ p. (numbers p).0) at t.list.entries)
+  put-gap None none =
+      let empty = nil_from_length t.list.entries none in
+      record { gap = record { front = []; back = []; cut = empty }; puts = λ new. ap (λ xs. new ∷ xs) empty }
+  put-gap (Some (p, o)) can =
+      let side = on-side (λ (item : T). tt {0}) (λ k l. Equal) t.list.entries distinct (numbers p).0 can.0 o can.1 in
+      record { gap = side.gap; puts = side.puts }
 
 -- an insertion gives the pointer that was next
 pub insertion-named : {T : Type 0} (c d : Chain T) (put : Entry T → List (Entry T)) (item : T) (i g j h : ℕ) → next_index c ≡ Some j
@@ -225,8 +177,7 @@ module _ {P T K I G : Type 0} (numbers : P → ℕ × ℕ) (key : T → K) (cmp 
       go : (place : Place old.list.entries) → IsPlace key cmp (aim_of number kind) place → Keeps numbers old (New at) place
           → (e : OrdInsertionError) → LacksSlot growth most old.list e → IsRefused key cmp most growth (aim_of number kind) old e
       go (into gap) chosen keeps e lacks = with_gap gap chosen growth e lacks
-      go (over entry) chosen keeps e lacks = absurd keeps
-      go nowhere chosen keeps e lacks = absurd keeps
+      go place chosen keeps e lacks = absurd keeps
 
 -- no slot is vacant where no index comes next
 pub full : {T : Type 0} (most : ℕ) (greatest : Option ℕ) (c : Chain T) → IsSound most greatest c → next_index c ≡ None → length c.entries ≡ c.capacity
@@ -241,59 +192,37 @@ module _ {T : Type 0} (most : ℕ) (old new : Tree T) (distinct : IsDistinct old
   pub record IsBesideDone (o : Ordering) (before : Option T) : Type 0 where
     pub inserts : InsertsBeside most i o old item (Ok before) new
     pub updates : (q : ℕ × ℕ) × Updates old new q (Some item)
+    pub counted : count new ≡ (if is_some before then count old else count old + 1)
 
   pub beside-replaced : (before : T) → option_map (λ e. e.1) (entry_at old.list.entries i) ≡ Some before → new ≡ with_item old i item → IsBesideDone Equal (Some before)
-  beside-replaced before had after = go (entry_at old.list.entries i) refl
+  beside-replaced before had after = go (entry_at old.list.entries i) refl had
     where
-      go : (x : Option (ℕ × T)) → entry_at old.list.entries i ≡ x → IsBesideDone Equal (Some before)
-      go None there = absurd (let none = rw there at had in cc)
-      go (Some x) there =
-          let had_x : Some x.1 ≡ Some before = rw there at had in
-          record {
-            inserts = ((i, x.0), record { entry = record { index = i; generation = x.0; item = x.1 }; place = (refl, there); named = refl; taken = cc; after = after });
-            updates = ((i, x.0), rw after (updates-written old (i, x.0) item (item_here old i x there)));
-          }
+      go : (x : Option (ℕ × T)) → entry_at old.list.entries i ≡ x → option_map (λ e. e.1) x ≡ Some before → IsBesideDone Equal (Some before)
+      go None there had = absurd (cc)
+      go (Some x) there had = record {
+        inserts = ((i, x.0), record { entry = record { index = i; generation = x.0; item = x.1 }; place = (refl, there); named = refl; taken = cc; after = after });
+        updates = ((i, x.0), rw after (updates-written old (i, x.0) item (item_here old i x there)));
+        counted = rw after (count-written old i item);
+      }
 
   module _ (o : Ordering) (other : o ≢ Equal) (occupied : IsSome (entry_at old.list.entries i)) where
-    pub beside-inserted : (p : ℕ × ℕ)
-        → IsInsertion (with_slot reallocating most old.list) new.list (put_on o i old.list.entries) item p.0 p.1
-        → IsGrown old.shape new.shape → IsBesideDone o None
-    beside-inserted p inserted grown = go (entry_at old.list.entries i) refl
-      where
-        go : (x : Option (ℕ × T)) → entry_at old.list.entries i ≡ x → IsBesideDone o None
-        go None there = absurd (let some = rw there at occupied in cc)
-        go (Some x) there =
-            let side = on-side (λ (item : T). tt {0}) (λ k l. Equal) old.list.entries distinct i x there o other in
-            let there_inserted = IsInsertion-same _ _ _ _ item _ _ side.puts inserted in
-            record {
-              inserts = (p, record { gap = side.gap; place = side.at; inserted = there_inserted; grown = grown });
-              updates = (p, updates-inserted old new (with_slot reallocating most old.list) (entries-with_slot reallocating most old.list) side.gap item p there_inserted);
-            }
+    side : OnSide (λ (item : T). tt {0}) (λ k l. Equal) old.list.entries distinct i occupied o
+    side = on-side (λ (item : T). tt {0}) (λ k l. Equal) old.list.entries distinct i occupied o other
 
-    pub beside-counted : (p : ℕ × ℕ) → IsInsertion (with_slot reallocating most old.list) new.list (put_on o i old.list.entries) item p.0 p.1 → count new ≡ count old + 1
-    beside-counted p inserted = go (entry_at old.list.entries i) refl
-      where
-        go : (x : Option (ℕ × T)) → entry_at old.list.entries i ≡ x → count new ≡ count old + 1
-        go None there = absurd (let some = rw there at occupied in cc)
-        go (Some x) there =
-            let side = on-side (λ (item : T). tt {0}) (λ k l. Equal) old.list.entries distinct i x there o other in
-            count-inserted old new (with_slot reallocating most old.list) (entries-with_slot reallocating most old.list) side.gap item p (IsInsertion-same _ _ _ _ item _ _ side.puts inserted)
+    pub beside-inserted : (p : ℕ × ℕ) → IsInsertion (with_slot reallocating most old.list) new.list (put_on o i old.list.entries) item p.0 p.1
+        → IsGrown old.shape new.shape → IsBesideDone o None
+    beside-inserted p inserted grown =
+        let there = IsInsertion-same _ _ _ _ item _ _ side.puts inserted in
+        let done = inserted-new old new (with_slot reallocating most old.list) (entries-with_slot reallocating most old.list) side.gap item p there in
+        record { inserts = (p, record { gap = side.gap; place = side.at; inserted = there; grown = grown }); updates = (p, done.updates); counted = done.count }
 
     pub beside-refused : (f : OrdInsertionError) → LacksSlot reallocating most old.list f → new ≡ old
         → (r : Result (Option T) OrdInsertionError) → IsErrAnd r (λ e. e ≡ f) → InsertsBeside most i o old item r new
     beside-refused f lacks same (Ok x) none = absurd none
-    beside-refused f lacks same (Err e) is = go (entry_at old.list.entries i) refl
+    beside-refused f lacks same (Err e) is = record { refused = refused e (rw is lacks); after = same }
       where
-        refused : (gap : Gap old.list.entries) → IsPlace {T = T} {K = Unit {0}} (λ item. tt {0}) (λ k l. Equal) (beside i o) (into gap)
-            → (e : OrdInsertionError) → LacksSlot reallocating most old.list e
+        refused : (e : OrdInsertionError) → LacksSlot reallocating most old.list e
             → IsRefused {T = T} {K = Unit {0}} (λ item. tt {0}) (λ k l. Equal) most reallocating (beside i o) old e
-        refused gap at FailedOrdRequirement lacks = absurd lacks
-        refused gap at NotWithinCapacity lacks = absurd lacks
-        refused gap at BeyondMaxCapacity lacks = (gap, at, lacks)
-        refused gap at AllocError lacks = (gap, at, lacks)
-
-        go : (x : Option (ℕ × T)) → entry_at old.list.entries i ≡ x → InsertsBeside most i o old item (Err e) new
-        go None there = absurd (let some = rw there at occupied in cc)
-        go (Some x) there =
-            let side = on-side (λ (item : T). tt {0}) (λ k l. Equal) old.list.entries distinct i x there o other in
-            record { refused = refused side.gap side.at e (rw is lacks); after = same }
+        refused BeyondMaxCapacity lacks = (side.gap, side.at, lacks)
+        refused AllocError lacks = (side.gap, side.at, lacks)
+        refused e lacks = absurd lacks

@@ -1,5 +1,5 @@
 -- Steps from a hint: how they begin, go on, and end.
-use Rattle.std.proofs.Common.{◌≡◌, ◌≢◌, ℕ, suc, true, false, not, ◌==◌, ◌+◌, ◌<◌, ◌≤◌, List, [], ◌∷◌, ◌++◌, Option, Some, None, IsSome, IfSome, length, refl, sym, ap, subst, ◌∙◌, arith, inl, inr, ◌⊎◌, append_assoc, length-append}
+use Rattle.std.proofs.Common.{◌≡◌, ◌≢◌, ℕ, suc, true, false, not, ◌==◌, ◌+◌, ◌<◌, ◌≤◌, List, [], ◌∷◌, ◌++◌, Option, Some, None, IsSome, IfSome, length, refl, sym, ap, ◌∙◌, arith, inl, inr, ◌⊎◌, append_assoc, length-append}
 use Rattle.std.proofs.lemmas.Bool.Decides.{eqb_tells, leb_tells}
 use Rattle.std.specs.Option.{option_map}
 use Rattle.std.specs.Cmp.{IsTotalOrder}
@@ -13,48 +13,8 @@ use Rattle.triple_ord.specs.Search.{order_to, pointer, Fits, FindsSimilar}
 use Rattle.triple_ord.specs.Order.{IsInOrder}
 use Rattle.triple_ord.specs.Hint.{position_of, way_length}
 use Rattle.triple_ord.specs.Steps.{neighbour_towards, CameFrom, IsStepping}
-use Rattle.triple_ord.proofs.Descending.{entry_at-here, last_or-append, times-back}
-use Rattle.triple_ord.proofs.Inserting.{ends}
+use Rattle.triple_ord.proofs.Cuts.{last_or-append, begins, ends, stands, IsLinked, link-read, entry_at-here}
 use Rattle.triple_ord.proofs.Ordered.{stands-before, stands-behind}
-
-module _ {T : Type 0} where
-  -- an entry that is there stands at its place
-  pub record StandsAt (es : List (Entry T)) (i : ℕ) : Type 0 where
-    pub front : List (Entry T)
-    pub entry : Entry T
-    pub back : List (Entry T)
-    pub cut : es ≡ front ++ entry ∷ back
-    pub here : entry.index ≡ i
-    pub place : length front ≡ position_of es i
-
-  stands : (es : List (Entry T)) (i : ℕ) → IsSome (entry_at es i) → StandsAt es i
-  stands [] i some = absurd (cc)
-  stands (e ∷ es) i some = elim (eqb_tells e.index i) [
-    | inl h ↦ record { front = []; entry = e; back = es; cut = refl; here = h.1; place = rw h.0 refl }
-    | inr h ↦
-        let rest = stands es i (rw h.0 at some) in
-        record { front = e ∷ rest.front; entry = rest.entry; back = rest.back; cut = ap (λ xs. e ∷ xs) rest.cut; here = rest.here; place = rw h.0 (omega (arith, rest.place)) }
-  ]
-
-  first_or-index : (es : List (Entry T)) → first_or None es ≡ option_map (λ e. e.index) (first_of es)
-  first_or-index [] = refl
-  first_or-index (e ∷ es) = refl
-
-  -- the link of an entry has the indexes of the entries beside it
-  link_at-here : (o : Option (Entry T)) (front : List (Entry T)) (e : Entry T) (back : List (Entry T)) → IsDistinct (front ++ e ∷ back)
-      → link_between (option_map (λ x. x.index) o) None (front ++ e ∷ back) e.index
-      ≡ Some (
-        e.generation,
-        record { item = e.item; prev = option_map (λ x. x.index) (last_or o front); next = option_map (λ x. x.index) (first_of back) },
-      )
-  link_at-here o [] e back distinct = elim (eqb_tells e.index e.index) [ inl h ↦ rw (h.0, first_or-index back) refl | inr h ↦ absurd (h.1 refl) ]
-  link_at-here o (f ∷ front) e back distinct = elim (eqb_tells f.index e.index) [
-    | inl h ↦
-        let here : 1 ≤ times e.index (e ∷ back) = elim (eqb_tells e.index e.index) [ inl q ↦ rw q.0 (omega arith) | inr q ↦ absurd (q.1 refl) ] in
-        let twice : times e.index (f ∷ front ++ e ∷ back) ≡ 1 + times e.index (front ++ e ∷ back) = rw h.0 refl in
-        absurd (omega (arith, twice, here, times-back e.index front (e ∷ back), distinct e.index))
-    | inr h ↦ rw h.0 (link_at-here (Some f) front e back (λ j. omega (arith, distinct j)))
-  ]
 
 -- a gap has a neighbour on each side where there are entries
 after-count : {X : Type 0} (back : List X) → (present (first_of back) ≡ 1) ⊎ ((present (first_of back) ≡ 0) × (length back ≡ 0))
@@ -68,11 +28,6 @@ before-some x (y ∷ ys) = before-some y ys
 before-count : {X : Type 0} (front : List X) → (present (last_or None front) ≡ 1) ⊎ ((present (last_or None front) ≡ 0) × (length front ≡ 0))
 before-count [] = inr (refl, refl)
 before-count (x ∷ front) = inl (before-some x front)
-
--- what begins a list
-begins : {X : Type 0} (xs : List X) (x : X) → first_of xs ≡ Some x → (ys : List X) × (xs ≡ x ∷ ys)
-begins [] x is = absurd (cc)
-begins (y ∷ ys) x is = let same : y ≡ x = cc in (ys, rw same refl)
 
 -- the entry whose index is read
 read_index : {T : Type 0} (o : Option (Entry T)) (j : ℕ) → option_map (λ e. e.index) o ≡ Some j → (e : Entry T) × (o ≡ Some e) × (e.index ≡ j)
@@ -103,80 +58,46 @@ module _ {T K : Type 0} (key : T → K) (cmp : K → K → Ordering) (es : List 
         → IfSome (option_map (λ e. e.index) o) (λ j. Less ≡ ordering_reverse came)
         → IfSome o (λ e. order_to key cmp k e ≡ Greater) × (present o ≤ visits)
     low-answered came from None is turned = (tt, omega arith)
-    low-answered Less from (Some f) is turned = absurd (cc)
-    low-answered Equal from (Some f) is turned = absurd (cc)
     low-answered Greater from (Some f) is turned = let same : from.0 ≡ f = (let both = from.1 in cc) in (rw same at from.2, from.3)
+    low-answered came from (Some f) is turned = absurd (cc)
 
     high-answered : (came : Ordering) → CameFrom key cmp es k start visits front back came → (o : Option (Entry T)) → first_of back ≡ o
         → IfSome (option_map (λ e. e.index) o) (λ j. Greater ≡ ordering_reverse came)
         → IfSome o (λ e. order_to key cmp k e ≡ Less) × (present o ≤ visits)
     high-answered came from None is turned = (tt, omega arith)
-    high-answered Greater from (Some f) is turned = absurd (cc)
-    high-answered Equal from (Some f) is turned = absurd (cc)
     high-answered Less from (Some f) is turned = let same : from.0 ≡ f = (let both = from.1 in cc) in (rw same at from.2, from.3)
+    high-answered came from (Some f) is turned = absurd (cc)
 
   module _ (start i visits : ℕ) (came : Ordering) (s : IsStepping key cmp es k start i visits came) where
-    distinct_here : IsDistinct (s.front ++ s.entry ∷ s.back)
-    distinct_here = subst (λ (xs : List (Entry T)). IsDistinct xs) s.cut distinct
-
     pub stepping-occupied : IsSome (entry_at es i)
-    stepping-occupied = rw (s.cut, ← s.here, entry_at-here s.front s.entry s.back distinct_here) refl
-
-    -- the steps so far, and this one, are no more than there are entries
-    pub stepping-few : visits + 1 ≤ length es
-    stepping-few = by_way came s.from
-      where
-        by_way : (came : Ordering) → CameFrom key cmp es k start visits s.front s.back came → visits + 1 ≤ length es
-        by_way Less from = omega (arith, from.4, s.within)
-        by_way Equal from = omega (arith, from.0, s.within)
-        by_way Greater from = let n = ap length s.cut in omega (arith, n, from.4, length-append s.front (s.entry ∷ s.back))
+    stepping-occupied = rw (← s.here, entry_at-here es distinct s.front s.entry s.back s.cut) refl
 
     module _ (generation : ℕ) (l : Link T) (is : link_at es i ≡ Some (generation, l)) where
-      read : ◌≡◌ {A = ℕ × Link T} (
-        s.entry.generation,
-        record {
-          item = s.entry.item;
-          prev = option_map (λ e. e.index) (last_or None s.front);
-          next = option_map (λ e. e.index) (first_of s.back);
-        },
-      )
-          (generation, l)
-      read =
-          let here = link_at-here None s.front s.entry s.back distinct_here in
-          let found = rw (s.cut, ← s.here) at is in
-          cc
-
-      item-is : s.entry.item ≡ l.item
-      item-is = ap (λ x. x.1.item) read
-
-      prev-is : option_map (λ e. e.index) (last_or None s.front) ≡ l.prev
-      prev-is = ap (λ x. x.1.prev) read
-
-      next-is : option_map (λ e. e.index) (first_of s.back) ≡ l.next
-      next-is = ap (λ x. x.1.next) read
+      linked : IsLinked s.front s.entry s.back generation l
+      linked = link-read es distinct s.front s.entry s.back s.cut generation l (ap (link_at es) s.here ∙ is)
 
       pub stepping-order : (o : Ordering) → o ≡ cmp k (key l.item) → order_to key cmp k s.entry ≡ o
-      stepping-order o order = ap (λ t. cmp k (key t)) item-is ∙ sym order
+      stepping-order o order = ap (λ t. cmp k (key t)) linked.item ∙ sym order
 
       -- a step to a neighbour
       pub stepping-goes : (o : Ordering) → o ≡ cmp k (key l.item) → (j : ℕ) → neighbour_towards l o ≡ Some j → o ≢ ordering_reverse came
           → IsStepping key cmp es k start j (visits + 1) o
       stepping-goes Less order j next ahead =
-          let n = read_index (last_or None s.front) j (prev-is ∙ next) in
+          let n = read_index (last_or None s.front) j (linked.prev ∙ next) in
           let end = ends s.front n.0 n.1 in
           let place = place-less start visits s.front s.back came s.from ahead in
           record {
-            front = end.front;
+            front = end.0;
             entry = n.0;
             back = s.entry ∷ s.back;
-            cut = s.cut ∙ (ap (λ (xs : List (Entry T)). xs ++ s.entry ∷ s.back) end.cut ∙ simp append_assoc);
+            cut = s.cut ∙ (ap (λ (xs : List (Entry T)). xs ++ s.entry ∷ s.back) end.1 ∙ simp append_assoc);
             here = n.2;
-            from = (s.entry, refl, stepping-order Less order, omega arith, omega (arith, place, ap length end.cut, length-append end.front (n.0 ∷ [])));
+            from = (s.entry, refl, stepping-order Less order, omega arith, omega (arith, place, ap length end.1, length-append end.0 (n.0 ∷ [])));
             within = s.within;
           }
       stepping-goes Equal order j next ahead = absurd (cc)
       stepping-goes Greater order j next ahead =
-          let n = read_index (first_of s.back) j (next-is ∙ next) in
+          let n = read_index (first_of s.back) j (linked.next ∙ next) in
           let begin = begins s.back n.0 n.1 in
           let place = place-greater start visits s.front s.back came s.from ahead in
           record {
@@ -190,19 +111,19 @@ module _ {T K : Type 0} (key : T → K) (cmp : K → K → Ordering) (es : List 
           }
 
       named : (pointer s.entry) ≡ (i, generation)
-      named = let g : s.entry.generation ≡ generation = ap (λ x. x.0) read in let h = s.here in cc
+      named = let g = linked.generation in let h = s.here in cc
 
       -- the steps end with an answer
       pub stepping-settles : (o : Ordering) → o ≡ cmp k (key l.item) → is_eq o ≡ false
           → IfSome (neighbour_towards l o) (λ j. o ≡ ordering_reverse came)
           → FindsSimilar key cmp es k (Some ((i, generation), o)) (visits + 1)
       stepping-settles Less order other turned =
-          let low = low-answered start visits s.front s.back came s.from (last_or None s.front) refl (rw (← prev-is) at turned) in
+          let low = low-answered start visits s.front s.back came s.from (last_or None s.front) refl (rw (← linked.prev) at turned) in
           let gap : Gap es = record { front = s.front; back = s.entry ∷ s.back; cut = s.cut } in
           (s.entry, rw (named, stepping-order Less order) refl, inr (gap, record { fits = record { lesser_before = low.0; greater_after = stepping-order Less order }; seen = omega (arith, low.1) }, inr refl))
       stepping-settles Equal order other turned = absurd (cc)
       stepping-settles Greater order other turned =
-          let high = high-answered start visits s.front s.back came s.from (first_of s.back) refl (rw (← next-is) at turned) in
+          let high = high-answered start visits s.front s.back came s.from (first_of s.back) refl (rw (← linked.next) at turned) in
           let last = last_or-append None s.front s.entry [] in
           let gap : Gap es = record { front = s.front ++ s.entry ∷ []; back = s.back; cut = s.cut ∙ simp append_assoc } in
           (s.entry, rw (named, stepping-order Greater order) refl, inr (gap, record { fits = record { lesser_before = rw last (stepping-order Greater order); greater_after = high.0 }; seen = rw last (omega (arith, high.1)) }, inl last))
@@ -250,24 +171,18 @@ module _ {T K : Type 0} (key : T → K) (cmp : K → K → Ordering) (es : List 
         ]
         by_way Greater from =
             let end = ends s.front from.0 from.1 in
-            let cut : es ≡ end.front ++ from.0 ∷ (s.entry ∷ s.back) = s.cut ∙ (ap (λ (xs : List (Entry T)). xs ++ s.entry ∷ s.back) end.cut ∙ simp append_assoc) in
-            let before = stands-before key real total k es ordered gap fits end.front (s.entry ∷ s.back) from.0 cut (greater _ from.2) in
-            let reach : length s.front ≤ length gap.front = omega (arith, before, ap length end.cut, length-append end.front (from.0 ∷ [])) in
+            let cut : es ≡ end.0 ++ from.0 ∷ (s.entry ∷ s.back) = s.cut ∙ (ap (λ (xs : List (Entry T)). xs ++ s.entry ∷ s.back) end.1 ∙ simp append_assoc) in
+            let before = stands-before key real total k es ordered gap fits end.0 (s.entry ∷ s.back) from.0 cut (greater _ from.2) in
+            let reach : length s.front ≤ length gap.front = omega (arith, before, ap length end.1, length-append end.0 (from.0 ∷ [])) in
             up from.4 reach (omega (arith, reach, from.3, from.4))
 
 -- orders that are told apart by a test
 pub apart : (o p : Ordering) → not (ordering_index o == ordering_index p) ≡ true → o ≢ p
 apart Less p test same = let other = rw (← same) at test in cc
-apart Equal p test same = let other = rw (← same) at test in cc
-apart Greater p test same = let other = rw (← same) at test in cc
+apart o p test same = let other = rw (← same) at test in cc
 
 pub alike : (o p : Ordering) → not (ordering_index o == ordering_index p) ≡ false → o ≡ p
 alike Less Less test = refl
-alike Less Equal test = absurd (cc)
-alike Less Greater test = absurd (cc)
-alike Equal Less test = absurd (cc)
 alike Equal Equal test = refl
-alike Equal Greater test = absurd (cc)
-alike Greater Less test = absurd (cc)
-alike Greater Equal test = absurd (cc)
 alike Greater Greater test = refl
+alike o p test = absurd (cc)

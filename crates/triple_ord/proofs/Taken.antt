@@ -9,13 +9,11 @@ use Rattle.triple_ord.specs.declared.ties.Ties.TheVariants.{Sought, Passed}
 
 then-less : (o : Ordering) → ordering_then o Greater ≡ Less → o ≡ Less
 then-less Less is = refl
-then-less Equal is = absurd (cc)
-then-less Greater is = absurd (cc)
+then-less o is = absurd (cc)
 
 then-unequal : (o : Ordering) → ordering_then o Greater ≢ Equal
 then-unequal Less equal = cc
-then-unequal Equal equal = cc
-then-unequal Greater equal = cc
+then-unequal o equal = cc
 
 module _ {K : Type 0} (cmp : K → K → Ordering) (k other : K) where
   pub taken-less : (ties : Ties) → taken ties cmp k other ≡ Less → cmp k other ≡ Less

@@ -1,66 +1,32 @@
 -- One step of a walk along a list of entries.
-use Rattle.std.proofs.Common.{◌≡◌, ℕ, ◌+◌, ◌-◌, ◌≤◌, List, [], ◌∷◌, length, Option, Some, None, refl, sym, ap, ◌∙◌, arith, inl, inr}
+use Rattle.std.proofs.Common.{◌≡◌, ℕ, ◌+◌, ◌-◌, ◌≤◌, List, [], ◌∷◌, ◌++◌, length, Option, Some, None, refl, sym, ap, ◌∙◌, append_assoc, arith, inl, inr}
 use Rattle.std.proofs.lemmas.Bool.Decides.{eqb_tells}
+use Rattle.std.specs.Option.{option_map}
 use Rattle.chain_base.specs.Link.{Link}
-use Rattle.chain_base.specs.Chain.{Entry, times, IsDistinct, first_or, link_between, link_at, from_index}
+use Rattle.chain_base.specs.Chain.{Entry, IsDistinct, link_between, link_at, from_index}
+use Rattle.chain_base.proofs.CallerLemmas.{entry_at-link}
+use Rattle.triple_ord.specs.Gap.{first_of}
 use Rattle.triple_ord.specs.Walk.{entries_from, IsWalking}
+use Rattle.triple_ord.proofs.Cuts.{StandsAt, stands, from_index-here, link-read}
 
 module _ {T : Type 0} where
-  first-occurs : (es : List (Entry T)) (j : ℕ) → first_or None es ≡ Some j → 1 ≤ times j es
-  first-occurs [] j is = absurd (cc)
-  first-occurs (e ∷ es) j is = let here : e.index ≡ j = cc in elim (eqb_tells e.index j) [ inl h ↦ rw h.0 (omega arith) | inr h ↦ absurd (h.1 here) ]
+  -- the entries from an entry's neighbour on
+  follows : (es front : List (Entry T)) (e : Entry T) (back : List (Entry T)) → IsDistinct es → es ≡ front ++ e ∷ back
+      → entries_from es (option_map (λ e. e.index) (first_of back)) ≡ back
+  follows es front e [] distinct cut = refl
+  follows es front e (f ∷ back) distinct cut = from_index-here es distinct (front ++ e ∷ []) f back (cut ∙ simp append_assoc)
 
-  -- the neighbour after an entry is in the list
-  next-occurs : (before : Option ℕ) (es : List (Entry T)) (i g : ℕ) (l : Link T) (j : ℕ) → link_between before None es i ≡ Some (g, l) → l.next ≡ Some j → 1 ≤ times j es
-  next-occurs before [] i g l j found is = absurd (cc)
-  next-occurs before (e ∷ es) i g l j found is = elim (eqb_tells e.index i) [
-    | inl h ↦
-        let both : ◌≡◌ {A = ℕ × Link T} (e.generation, record { item = e.item; prev = before; next = first_or None es }) (g, l) = let here = rw h.0 at found in cc in
-        let next : first_or None es ≡ Some j = ap (λ x. x.1.next) both ∙ is in
-        omega (arith, first-occurs es j next)
-    | inr h ↦ omega (arith, next-occurs (Some e.index) es i g l j (rw h.0 at found) is)
-  ]
-
-  -- an entry before has no part in what follows an index of the rest
-  from-rest : (e : Entry T) (es : List (Entry T)) (next : Option ℕ) → IsDistinct (e ∷ es) → ((j : ℕ) → next ≡ Some j → 1 ≤ times j es)
-      → entries_from (e ∷ es) next ≡ entries_from es next
-  from-rest e es None distinct occurs = refl
-  from-rest e es (Some j) distinct occurs = elim (eqb_tells e.index j) [
-    | inl h ↦
-        let twice : times j (e ∷ es) ≡ 1 + times j es = rw h.0 refl in
-        absurd (omega (arith, twice, occurs j refl, distinct j))
-    | inr h ↦ rw h.0 refl
-  ]
-
-  from-first : (e : Entry T) (es : List (Entry T)) → IsDistinct (e ∷ es) → entries_from (e ∷ es) (first_or None es) ≡ es
-  from-first e [] distinct = refl
-  from-first e (f ∷ es) distinct =
-      let rest = from-rest e (f ∷ es) (Some f.index) distinct (λ j is. first-occurs (f ∷ es) j is) in
-      rest ∙ elim (eqb_tells f.index f.index) [ inl h ↦ rw h.0 refl | inr h ↦ absurd (h.1 refl) ]
-
-  step-between : (before : Option ℕ) (es : List (Entry T)) (i g : ℕ) (l : Link T) → IsDistinct es
-      → link_between before None es i ≡ Some (g, l)
+  at_entry : (es : List (Entry T)) (i g : ℕ) (l : Link T) → IsDistinct es → StandsAt es i → link_at es i ≡ Some (g, l)
       → from_index es i ≡ record { index = i; generation = g; item = l.item } ∷ entries_from es l.next
-  step-between before [] i g l distinct found = absurd (cc)
-  step-between before (e ∷ es) i g l distinct found = elim (eqb_tells e.index i) [
-    | inl h ↦
-        let both : ◌≡◌ {A = ℕ × Link T} (e.generation, record { item = e.item; prev = before; next = first_or None es }) (g, l) = let here = rw h.0 at found in cc in
-        let generation : e.generation ≡ g = ap (λ x. x.0) both in
-        let item : e.item ≡ l.item = ap (λ x. x.1.item) both in
-        let next : first_or None es ≡ l.next = ap (λ x. x.1.next) both in
-        let entry : e ≡ record { index = i; generation = g; item = l.item } = rw (← h.1, ← generation, ← item) refl in
-        rw (h.0, ← next, from-first e es distinct, ← entry) refl
-    | inr h ↦
-        let rest = rw h.0 at found in
-        rw h.0 (step-between (Some e.index) es i g l (λ j. omega (arith, distinct j)) rest
-        ∙ ap (λ xs. record { index = i; generation = g; item = l.item } ∷ xs)
-        (sym (from-rest e es l.next distinct (λ j is. next-occurs (Some e.index) es i g l j rest is))))
-  ]
+  at_entry es i g l distinct s is =
+      let linked = link-read es distinct s.front s.entry s.back s.cut g l (ap (link_at es) s.here ∙ is) in
+      rw (← s.here, ← linked.generation, ← linked.item, ← linked.next, follows es s.front s.entry s.back distinct s.cut)
+      (from_index-here es distinct s.front s.entry s.back s.cut)
 
   -- the entry that is shown at an index, and then the entries from its neighbour on
   pub walk-step : (es : List (Entry T)) (i g : ℕ) (l : Link T) → IsDistinct es → Some (g, l) ≡ link_at es i
       → entries_from es (Some i) ≡ record { index = i; generation = g; item = l.item } ∷ entries_from es l.next
-  walk-step es i g l distinct found = step-between None es i g l distinct (sym found)
+  walk-step es i g l distinct found = at_entry es i g l distinct (stands es i (rw (entry_at-link None None es i, ← found) refl)) (sym found)
 
   -- a walk at an entry has it left, and goes on at its neighbour with one entry fewer
   pub walk-left : (es : List (Entry T)) (i g left : ℕ) (l : Link T) → IsWalking es (Some i) left → Some (g, l) ≡ link_at es i → 1 ≤ left

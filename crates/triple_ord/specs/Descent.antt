@@ -1,8 +1,8 @@
 -- How far a descent from the root of a tree has come. No public clause cites this file.
-use Rattle.std.specs.Prelude.{◌≡◌, ◌≢◌, ℕ, ◌+◌, ◌-◌, ◌≤◌, ◌⊎◌, if◌then◌else◌, List, [], ◌∷◌, ◌++◌, Option, Some, None, IfSome, MatchOption, Contains, length, map}
+use Rattle.std.specs.Prelude.{◌≡◌, ◌≢◌, ℕ, ◌+◌, ◌-◌, ◌≤◌, ◌⊎◌, List, ◌++◌, Option, Some, None, IfSome, MatchOption, Contains, length, map}
 use Rattle.std.specs.List.{All, FoldsTo}
 use Rattle.std.specs.Option.{option_map}
-use Rattle.std.specs.Ordering.{is_lt, ordering_then}
+use Rattle.std.specs.Ordering.{ordering_then}
 use Rattle.std.specs.declared.cmp.Ordering.{Ordering}
 use Rattle.std.specs.declared.cmp.Ordering.TheVariants.{Less, Equal, Greater}
 use Rattle.chain_base.specs.Chain.{Entry, times, entry_at}
@@ -26,13 +26,8 @@ met_next met x Equal = Some x
 met_next met x Greater = met
 
 module _ {T : Type 0} where
-  -- the entry that was answered Less last, or this where none was
-  abbrev pub last_less : Option (Entry T) → List (Shown T) → Option (Entry T)
-  last_less other [] = other
-  last_less other (s ∷ shown) = last_less (if is_lt s.1 then Some s.0 else other) shown
-
   -- a descent has come to this link, after these answers: what hangs there is all that is left, the entry before it was answered
-  -- Greater and the one after it was answered Less last, and nothing that is left was shown yet
+  -- Greater and the one after it Less, one of the two last, and nothing that is left was shown yet
   pub record IsDescending (entries : List (Entry T)) (shape : Shape) (shown : List (Shown T)) (link : Option ℕ) : Type 0 where
     pub part : Shape
     pub within : IsPart part shape
@@ -43,7 +38,7 @@ module _ {T : Type 0} where
     pub cut : entries ≡ front ++ (middle ++ back)
     pub left : map (λ e. e.index) middle ≡ walk part
     pub greater_before : IfSome (last_or None front) (λ e. Contains shown (e, Greater))
-    pub after_is : first_of back ≡ last_less None shown
+    pub less_after : IfSome (first_of back) (λ e. Contains shown (e, Less))
     pub last_beside : MatchOption (last_or None shown) ((last_or None front ≡ None) × (first_of back ≡ None)) (λ s. (last_or None front ≡ Some s.0) ⊎ (first_of back ≡ Some s.0))
     pub few : length shown + height part ≤ height shape
     pub new : (j : ℕ) → times j (entries_of shown) + times j middle ≤ 1
@@ -69,7 +64,7 @@ module _ {T : Type 0} where
     pub descending : IsDescending entries shape shown link
     pub count : visits ≡ before + length shown
     pub last_is : last ≡ option_map (λ s. (pointer s.0, order_to key cmp k s.0)) (last_or None shown)
-    pub met_is : met ≡ where_equal (option_map (λ e. (pointer e, order_to key cmp k e)) (last_less None shown))
+    pub met_is : met ≡ where_equal (option_map (λ e. (pointer e, order_to key cmp k e)) (first_of descending.back))
 
   -- a search for k from the root, begun after so many visits, has come to this end
   pub record HasEndedByKey {K : Type 0} (key : T → K) (cmp : K → K → Ordering) (t : Tree T) (k : K) (before : ℕ) (found : Option ((ℕ × ℕ) × Ordering)) (visits : ℕ) : Type 0 where

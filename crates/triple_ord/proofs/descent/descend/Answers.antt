@@ -20,23 +20,21 @@ returns-then-is_eq-clause-found g c =
     let d = rw c.in-Some.is at c.loop-at.invariant.descended in
     let shown = rw c.loop-at.invariant.tree at c.show-generation.ensures.shown in
     let equal = equal_by c.f-order.result (sym c.is_eq.ensures ∙ c.if-is_eq.true) in
-    let named : ◌≡◌ {A = ℕ × ℕ} (g.P.Ptr.numbers c._from_raw-p.result) (g.P.Inx.PtrInx.number c.in-Some.i, g.P.Gen.PtrGen.number c.show-generation.result.0) = (cc) in
-    rw (c.show-generation.ensures.counted, named)
+    rw (c.show-generation.ensures.counted, c._from_raw-p.ensures)
     (step-equal _ c.args.probe.now.tree.now c.root-at.ensures.distinct _ _ _ _ _ _ d _ _ _ _ shown c.f-order.result c.f-order.new.self
-    (λ e is item. record { named = c._from_raw-p.result; item = _; names = named ∙ sym is; shows = sym item; called = c.f-order.ensures }) equal)
+    (λ e is item. record { named = c._from_raw-p.result; item = _; names = c._from_raw-p.ensures ∙ sym is; shows = sym item; called = c.f-order.ensures }) equal)
 
 pub loop-at-preserved-then-is_lt : goal.loop-at-preserved-then-is_lt
 loop-at-preserved-then-is_lt g c =
     let d = rw c.in-Some.is at c.loop-at.invariant.descended in
     let shown = rw c.loop-at.invariant.tree at c.show-generation.ensures.shown in
     let less = less_by c.f-order.result (sym c.is_lt.ensures ∙ c.if-is_lt.true) in
-    let named : ◌≡◌ {A = ℕ × ℕ} (g.P.Ptr.numbers c._from_raw-p.result) (g.P.Inx.PtrInx.number c.in-Some.i, g.P.Gen.PtrGen.number c.show-generation.result.0) = (cc) in
     record {
       callable = search of_calls;
       tree = c.show-generation.ensures.tree ∙ c.loop-at.invariant.tree;
-      descended = rw (c.get-lesser.ensures.value, c.show-generation.ensures.counted, named)
+      descended = rw (c.get-lesser.ensures.value, c.show-generation.ensures.counted, c._from_raw-p.ensures)
           (step-less _ c.args.probe.now.tree.now c.root-at.ensures.distinct _ _ _ _ _ _ d _ _ _ _ shown c.f-order.result c.f-order.new.self
-          (λ e is item. record { named = c._from_raw-p.result; item = _; names = named ∙ sym is; shows = sym item; called = c.f-order.ensures }) less);
+          (λ e is item. record { named = c._from_raw-p.result; item = _; names = c._from_raw-p.ensures ∙ sym is; shows = sym item; called = c.f-order.ensures }) less);
     }
 
 pub loop-at-preserved : goal.loop-at-preserved
@@ -44,13 +42,12 @@ loop-at-preserved g c =
     let d = rw c.in-Some.is at c.loop-at.invariant.descended in
     let shown = rw c.loop-at.invariant.tree at c.show-generation.ensures.shown in
     let greater = greater_by c.f-order.result (sym c.is_eq.ensures ∙ c.if-is_eq.false) (sym c.is_lt.ensures ∙ c.if-is_lt.false) in
-    let named : ◌≡◌ {A = ℕ × ℕ} (g.P.Ptr.numbers c._from_raw-p.result) (g.P.Inx.PtrInx.number c.in-Some.i, g.P.Gen.PtrGen.number c.show-generation.result.0) = (cc) in
     record {
       callable = search of_calls;
       tree = c.show-generation.ensures.tree ∙ c.loop-at.invariant.tree;
-      descended = rw (c.get-greater.ensures.value, c.show-generation.ensures.counted, named)
+      descended = rw (c.get-greater.ensures.value, c.show-generation.ensures.counted, c._from_raw-p.ensures)
           (step-more _ c.args.probe.now.tree.now c.root-at.ensures.distinct _ _ _ _ _ _ d _ _ _ _ shown c.f-order.result c.f-order.new.self
-          (λ e is item. record { named = c._from_raw-p.result; item = _; names = named ∙ sym is; shows = sym item; called = c.f-order.ensures }) greater);
+          (λ e is item. record { named = c._from_raw-p.result; item = _; names = c._from_raw-p.ensures ∙ sym is; shows = sym item; called = c.f-order.ensures }) greater);
     }
 
 pub returns-clause-found : goal.returns-clause-found

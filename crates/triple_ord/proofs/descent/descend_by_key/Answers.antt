@@ -21,47 +21,36 @@ pub descend_in_group-requires-clause-descended : goal.descend_in_group-requires-
 descend_in_group-requires-clause-descended g c =
     let d = rw c.in-Some.is at c.loop-at.invariant.descended in
     let shown = rw c.loop-at.invariant.tree at c.show-generation.ensures.shown in
-    let named : ◌≡◌ {A = ℕ × ℕ} (g.P.Ptr.numbers c._from_raw-p.result) (g.P.Inx.PtrInx.number c.in-Some.i, g.P.Gen.PtrGen.number c.show-generation.result.0) = (cc) in
-    let order = c.order-order.ensures ∙ ap (taken c.args.ties g.T.Key.Ord.cmp c.args.k.now) c.key.ensures in
+    let order = rw c.key.ensures at c.order-order.ensures in
     let equal = equal_by c.order-order.result (sym c.is_eq.ensures ∙ c.if-is_eq.true) in
     let next = by_key-lesser _ _ c.args.probe.now.tree.now c.root-at.ensures.distinct _ _ _ _ _ _ d _ _ _ _ shown Equal (sym equal ∙ order) refl in
     let tree = c.show-generation.ensures.tree ∙ c.loop-at.invariant.tree in
-    (c.args.probe.now.visits, rw (tree, c.get-lesser.ensures.value, c.show-generation.ensures.counted, named) next)
+    (c.args.probe.now.visits, rw (tree, c.get-lesser.ensures.value, c.show-generation.ensures.counted, c._from_raw-p.ensures) next)
 
-pub returns-then-is_eq-clause-found : goal.returns-then-is_eq-clause-found
-returns-then-is_eq-clause-found g c =
+pub returns-then-is_eq : goal.returns-then-is_eq
+returns-then-is_eq g c =
     let d = rw c.in-Some.is at c.loop-at.invariant.descended in
     let shown = rw c.loop-at.invariant.tree at c.show-generation.ensures.shown in
-    let named : ◌≡◌ {A = ℕ × ℕ} (g.P.Ptr.numbers c._from_raw-p.result) (g.P.Inx.PtrInx.number c.in-Some.i, g.P.Gen.PtrGen.number c.show-generation.result.0) = (cc) in
-    let order = c.order-order.ensures ∙ ap (taken c.args.ties g.T.Key.Ord.cmp c.args.k.now) c.key.ensures in
+    let order = rw c.key.ensures at c.order-order.ensures in
     let equal = equal_by c.order-order.result (sym c.is_eq.ensures ∙ c.if-is_eq.true) in
     let next = by_key-lesser _ _ c.args.probe.now.tree.now c.root-at.ensures.distinct _ _ _ _ _ _ d _ _ _ _ shown Equal (sym equal ∙ order) refl in
     let tree = c.show-generation.ensures.tree ∙ c.loop-at.invariant.tree in
-    let ended = rw tree at (c.descend_in_group.ensures.ended c.args.probe.now.visits (rw (tree, c.get-lesser.ensures.value, c.show-generation.ensures.counted, named) next)) in
-    ended.similar
-
-pub returns-then-is_eq-clause-visits : goal.returns-then-is_eq-clause-visits
-returns-then-is_eq-clause-visits g c =
-    let d = rw c.in-Some.is at c.loop-at.invariant.descended in
-    let shown = rw c.loop-at.invariant.tree at c.show-generation.ensures.shown in
-    let named : ◌≡◌ {A = ℕ × ℕ} (g.P.Ptr.numbers c._from_raw-p.result) (g.P.Inx.PtrInx.number c.in-Some.i, g.P.Gen.PtrGen.number c.show-generation.result.0) = (cc) in
-    let order = c.order-order.ensures ∙ ap (taken c.args.ties g.T.Key.Ord.cmp c.args.k.now) c.key.ensures in
-    let equal = equal_by c.order-order.result (sym c.is_eq.ensures ∙ c.if-is_eq.true) in
-    let next = by_key-lesser _ _ c.args.probe.now.tree.now c.root-at.ensures.distinct _ _ _ _ _ _ d _ _ _ _ shown Equal (sym equal ∙ order) refl in
-    let tree = c.show-generation.ensures.tree ∙ c.loop-at.invariant.tree in
-    let ended = rw tree at (c.descend_in_group.ensures.ended c.args.probe.now.visits (rw (tree, c.get-lesser.ensures.value, c.show-generation.ensures.counted, named) next)) in
-    within_bounds _ c.root-at.ensures.sound c.visits_law.ensures _ (let few = ended.few in omega (arith, few))
+    let ended = rw tree at (c.descend_in_group.ensures.ended c.args.probe.now.visits (rw (tree, c.get-lesser.ensures.value, c.show-generation.ensures.counted, c._from_raw-p.ensures) next)) in
+    record {
+      found = ended.similar;
+      visits = within_bounds _ c.root-at.ensures.sound c.visits_law.ensures _ (let few = ended.few in omega (arith, few));
+      counted = omega (arith, d.count);
+    }
 
 pub loop-at-preserved-then-is_lt : goal.loop-at-preserved-then-is_lt
 loop-at-preserved-then-is_lt g c =
     let d = rw c.in-Some.is at c.loop-at.invariant.descended in
     let shown = rw c.loop-at.invariant.tree at c.show-generation.ensures.shown in
-    let named : ◌≡◌ {A = ℕ × ℕ} (g.P.Ptr.numbers c._from_raw-p.result) (g.P.Inx.PtrInx.number c.in-Some.i, g.P.Gen.PtrGen.number c.show-generation.result.0) = (cc) in
-    let order = c.order-order.ensures ∙ ap (taken c.args.ties g.T.Key.Ord.cmp c.args.k.now) c.key.ensures in
+    let order = rw c.key.ensures at c.order-order.ensures in
     let less = less_by c.order-order.result (sym c.is_lt.ensures ∙ c.if-is_lt.true) in
     record {
       tree = c.show-generation.ensures.tree ∙ c.loop-at.invariant.tree;
-      descended = rw (c.get-lesser.ensures.value, c.show-generation.ensures.counted, named, less)
+      descended = rw (c.get-lesser.ensures.value, c.show-generation.ensures.counted, c._from_raw-p.ensures, less)
           (by_key-lesser _ _ c.args.probe.now.tree.now c.root-at.ensures.distinct _ _ _ _ _ _ d _ _ _ _ shown Less (sym less ∙ order) refl);
     }
 
@@ -69,12 +58,11 @@ pub loop-at-preserved : goal.loop-at-preserved
 loop-at-preserved g c =
     let d = rw c.in-Some.is at c.loop-at.invariant.descended in
     let shown = rw c.loop-at.invariant.tree at c.show-generation.ensures.shown in
-    let named : ◌≡◌ {A = ℕ × ℕ} (g.P.Ptr.numbers c._from_raw-p.result) (g.P.Inx.PtrInx.number c.in-Some.i, g.P.Gen.PtrGen.number c.show-generation.result.0) = (cc) in
-    let order = c.order-order.ensures ∙ ap (taken c.args.ties g.T.Key.Ord.cmp c.args.k.now) c.key.ensures in
+    let order = rw c.key.ensures at c.order-order.ensures in
     let greater = greater_by c.order-order.result (sym c.is_eq.ensures ∙ c.if-is_eq.false) (sym c.is_lt.ensures ∙ c.if-is_lt.false) in
     record {
       tree = c.show-generation.ensures.tree ∙ c.loop-at.invariant.tree;
-      descended = rw (c.get-greater.ensures.value, c.show-generation.ensures.counted, named, greater)
+      descended = rw (c.get-greater.ensures.value, c.show-generation.ensures.counted, c._from_raw-p.ensures, greater)
           (by_key-greater _ _ c.args.probe.now.tree.now c.root-at.ensures.distinct _ _ _ _ _ _ d _ _ _ _ shown Greater (sym greater ∙ order) refl);
     }
 

@@ -37,30 +37,28 @@ loop-at-smaller g c =
 pub loop-at-preserved-then-is_gt : goal.loop-at-preserved-then-is_gt
 loop-at-preserved-then-is_gt g c =
     let shown = rw c.loop-at.invariant.tree at c.show-generation.ensures.shown in
-    let named : ◌≡◌ {A = ℕ × ℕ} (g.P.Ptr.numbers c._from_raw-p.result) (g.P.Inx.PtrInx.number c.in-Some.i, g.P.Gen.PtrGen.number c.show-generation.result.0) = (cc) in
-    let order = c.order-order.ensures ∙ ap (taken c.args.ties g.T.Key.Ord.cmp c.args.k.now) c.key.ensures in
+    let order = rw c.key.ensures at c.order-order.ensures in
     let met = ap (option_map g.P.Ptr.numbers) c.met_behind-met.ensures ∙ met_next-map {Y = ℕ × ℕ} g.P.Ptr.numbers c.loop-at.met c._from_raw-p.result c.order-order.result in
     record {
       tree = c.show-generation.ensures.tree ∙ c.loop-at.invariant.tree;
       more = omega (arith, c.loop-at.invariant.more, c.show-generation.ensures.counted);
       descended = λ before start.
           let d = rw c.in-Some.is at (c.loop-at.invariant.descended before start) in
-          rw (c.get-at.ensures.value, c.show-generation.ensures.counted, met, named)
+          rw (c.get-at.ensures.value, c.show-generation.ensures.counted, met, c._from_raw-p.ensures)
           (by_key-greater _ _ c.args.probe.now.tree.now c.requires.distinct _ _ _ _ _ _ d _ _ _ _ shown _ order (sym c.is_gt.ensures ∙ c.if-is_gt.true));
     }
 
 pub loop-at-preserved : goal.loop-at-preserved
 loop-at-preserved g c =
     let shown = rw c.loop-at.invariant.tree at c.show-generation.ensures.shown in
-    let named : ◌≡◌ {A = ℕ × ℕ} (g.P.Ptr.numbers c._from_raw-p.result) (g.P.Inx.PtrInx.number c.in-Some.i, g.P.Gen.PtrGen.number c.show-generation.result.0) = (cc) in
-    let order = c.order-order.ensures ∙ ap (taken c.args.ties g.T.Key.Ord.cmp c.args.k.now) c.key.ensures in
+    let order = rw c.key.ensures at c.order-order.ensures in
     let met = ap (option_map g.P.Ptr.numbers) c.met_behind-met.ensures ∙ met_next-map {Y = ℕ × ℕ} g.P.Ptr.numbers c.loop-at.met c._from_raw-p.result c.order-order.result in
     record {
       tree = c.show-generation.ensures.tree ∙ c.loop-at.invariant.tree;
       more = omega (arith, c.loop-at.invariant.more, c.show-generation.ensures.counted);
       descended = λ before start.
           let d = rw c.in-Some.is at (c.loop-at.invariant.descended before start) in
-          rw (c.get-at-else-is_gt.ensures.value, c.show-generation.ensures.counted, met, named)
+          rw (c.get-at-else-is_gt.ensures.value, c.show-generation.ensures.counted, met, c._from_raw-p.ensures)
           (by_key-lesser _ _ c.args.probe.now.tree.now c.requires.distinct _ _ _ _ _ _ d _ _ _ _ shown _ order (sym c.is_gt.ensures ∙ c.if-is_gt.false));
     }
 

@@ -3,21 +3,18 @@ use Rattle.triple_ord.proofs.arena.SimpleOrdArena.transfer_canonical_reallocatin
 
 pub returns-clause-found : goal.returns-clause-found
 returns-clause-found g c =
-    found-transferred g.Q.Ptr.numbers g.P.Ptr.numbers g.Q.Gen.PtrGen.greatest _ _ c.args.f c.source.inside.tree
-    c.transfer_canonical_reallocating.new.source c.self.inside.tree c.transfer_canonical_reallocating.new.self
+    found-transferred _ _ _ _ _ _ c.source.inside.tree c.transfer_canonical_reallocating.new.source c.self.inside.tree c.transfer_canonical_reallocating.new.self
     c.in_ok-transfer_canonical_reallocating.ensures.ok
 
 pub returns-clause-count : goal.returns-clause-count
 returns-clause-count g c =
     rw (← c.source.view_is)
-    (count-transferred g.Q.Ptr.numbers g.P.Ptr.numbers g.Q.Gen.PtrGen.greatest _ _ c.args.f c.source.inside.tree
-    c.transfer_canonical_reallocating.new.source c.self.inside.tree c.transfer_canonical_reallocating.new.self
+    (count-transferred _ _ _ _ _ _ c.source.inside.tree c.transfer_canonical_reallocating.new.source c.self.inside.tree c.transfer_canonical_reallocating.new.self
     c.in_ok-transfer_canonical_reallocating.ensures.ok)
 
 pub returns-clause-emptied : goal.returns-clause-emptied
 returns-clause-emptied g c =
-    emptied-transferred g.Q.Ptr.numbers g.P.Ptr.numbers g.Q.Gen.PtrGen.greatest _ _ c.args.f c.source.inside.tree
-    c.transfer_canonical_reallocating.new.source c.self.inside.tree c.transfer_canonical_reallocating.new.self
+    emptied-transferred _ _ _ _ _ _ c.source.inside.tree c.transfer_canonical_reallocating.new.source c.self.inside.tree c.transfer_canonical_reallocating.new.self
     c.in_ok-transfer_canonical_reallocating.ensures.ok
 
 pub returns-clause-ok : goal.returns-clause-ok
