@@ -32,13 +32,22 @@ fn rank_at<T>(rt: &impl Abort, a: &OnHeap<T>, index: u32) -> u8 {
     node.t.rank
 }
 
-/// All that can be seen of an arena: length, capacity, maximum and generation, and the entries in order, each with the rank of its node.
-fn look<T: Debug>(rt: &impl Abort, alloc: Global, a: &OnHeap<T>) -> String {
+/// The text of an arena's counts: length, capacity, maximum and generation.
+fn counts<T>(rt: &impl Abort, alloc: Global, a: &OnHeap<T>) -> String {
     let counts = (a.len(), a.capacity(), a.max_capacity(), a.generation());
-    let mut text = format!(in alloc; "{counts:?}").expect(rt, "memory");
+    format!(in alloc; "{counts:?}").expect(rt, "memory")
+}
+
+/// Writes an entry with the rank of its node.
+fn write_entry<T: Debug>(rt: &impl Abort, text: &mut String, p: P0, item: &T, rank: u8) {
+    write!(text, " {p:?}={item:?}:{rank}").expect(rt, "memory");
+}
+
+/// All that can be seen of an arena: its counts, and the entries in order, each with the rank of its node.
+fn look<T: Debug>(rt: &impl Abort, alloc: Global, a: &OnHeap<T>) -> String {
+    let mut text = counts(rt, alloc, a);
     for (p, item) in a {
-        let rank = rank_at(rt, a, p.inx());
-        write!(text, " {p:?}={item:?}:{rank}").expect(rt, "memory");
+        write_entry(rt, &mut text, p, item, rank_at(rt, a, p.inx()));
     }
     text
 }

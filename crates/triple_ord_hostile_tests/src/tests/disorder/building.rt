@@ -1,7 +1,7 @@
 //! Arenas in every order.
 ghost use Rattle.std.specs.Prelude.{◌<◌};
 
-use super::{Item, Numbers, put, rows};
+use super::{Item, Numbers, Row, put, rows};
 use std::alloc::Global;
 use std::cmp::Ordering;
 use std::process::Abort;
@@ -10,52 +10,71 @@ use triple_ord::{OrdInsertKind, OrdPair, P0, Ptr};
 /// How an arena is built.
 #[derive(Clone, Copy)]
 pub(super) enum Building {
-    /// Entry by entry, each in any gap.
+    /// Entry by entry, each in any gap, by rising key.
     Manual,
     /// In order, and then written over.
     Written,
-    /// Entry by entry, and then pairs of keys are made equal.
+    /// Entry by entry, each in any gap, by pairs of equal keys.
     Halved,
 }
 
 /// How many orders n keys have.
 pub(super) fn orders(n: u64) -> u64 {
-    [1, 1, 2, 6, 24, 120, 720]
-        .get(n as usize)
-        .copied()
-        .unwrap_or(0)
-}
-
-/// The kind of insertion that goes into a gap: behind the entry before it, or before the first one.
-fn kind_at(
-    rt: &impl Abort,
-    alloc: Global,
-    a: &Numbers,
-    gap: usize,
-) -> OrdInsertKind<P0, &'static u64> {
-    let rows = rows(rt, alloc, a);
-    let before = gap.checked_sub(1).and_then(|i| rows.get(i));
-    match (before, rows.first()) {
-        (Some(row), _) => OrdInsertKind::Manual {
-            p_target: row.p.inx(),
-            direction: Ordering::Greater,
-        },
-        (None, Some(row)) => OrdInsertKind::Manual {
-            p_target: row.p.inx(),
-            direction: Ordering::Less,
-        },
-        (None, None) => OrdInsertKind::Empty,
+    match n {
+        0 | 1 => 1,
+        2 => 2,
+        3 => 6,
+        4 => 24,
+        5 => 120,
+        _ => 720,
     }
 }
 
-/// The keys from 1 to n, each put by hand into the gap that the number says.
-fn manual(rt: &impl Abort, alloc: Global, n: u64, number: u64) -> Numbers {
+/// The kind of insertion beside an entry.
+fn beside(row: &Row, direction: Ordering) -> OrdInsertKind<P0, &'static u64> {
+    OrdInsertKind::Manual {
+        p_target: row.p.inx(),
+        direction,
+    }
+}
+
+/// The kind of insertion that goes into a gap: behind the entry before it, or before the first one.
+fn kind_at(rows: &[Row], gap: usize) -> OrdInsertKind<P0, &'static u64> {
+    if gap > 0 {
+        if let Some(row) = rows.get(gap - 1) {
+            return beside(row, Ordering::Greater);
+        }
+    }
+    match rows.first() {
+        Some(row) => beside(row, Ordering::Less),
+        None => OrdInsertKind::Empty,
+    }
+}
+
+/// Puts a key by hand into a gap.
+fn put_into(rt: &impl Abort, alloc: Global, a: &mut Numbers, gap: usize, key: u64) {
+    let kind = kind_at(rows(rt, alloc, a).as_slice(), gap);
+    assert!(rt; put(a, kind, OrdPair::new(key, key)).is_ok());
+}
+
+/// The keys from 1 to n, or half of each, rounded up, put into the gaps that the number says.
+fn manual(rt: &impl Abort, alloc: Global, n: u64, number: u64, by: u64) -> Numbers
+    requires { 0 < by }
+{
     let mut a = Numbers::new(alloc);
     let mut rest = number;
     for key in 1..=n {
-        let kind = kind_at(rt, alloc, &a, (rest % key) as usize);
-        assert!(rt; put(&mut a, kind, OrdPair::new(key, key)).is_ok());
+        put_into(rt, alloc, &mut a, (rest % key) as usize, key.div_ceil(by));
         rest /= key;
+    }
+    a
+}
+
+/// The keys from 1 to n, inserted by their order.
+fn in_order(rt: &impl Abort, alloc: Global, n: u64) -> Numbers {
+    let mut a = Numbers::new(alloc);
+    for key in 1..=n {
+        assert!(rt; a.insert(OrdPair::new(key, key)).is_ok());
     }
     a
 }
@@ -67,31 +86,20 @@ fn write(a: &mut Numbers, p: P0, item: Item) {
     }
 }
 
-/// Writes over the keys of an arena, each the key at the same place of another one, or half of it, rounded up.
-fn write_over(rt: &impl Abort, alloc: Global, a: &mut Numbers, other: &Numbers, by: u64)
-    requires { 0 < by }
-{
-    let keys = rows(rt, alloc, other);
-    for (row, key) in rows(rt, alloc, a).iter().zip(&keys) {
-        write(a, row.p, OrdPair::new(key.key.div_ceil(by), row.value));
+/// Writes the keys of a list over those of an arena, whose entries have the indexes from 1 on in order.
+fn write_over(a: &mut Numbers, rows: &[Row]) {
+    let mut i = 0u32;
+    for row in rows {
+        i = i.saturating_add(1);
+        write(a, P0::_from_raw(i, 2), OrdPair::new(row.key, i as u64));
     }
 }
 
 /// The keys from 1 to n, inserted by their order and then written over in the order of the number.
 fn written(rt: &impl Abort, alloc: Global, n: u64, number: u64) -> Numbers {
-    let mut a = Numbers::new(alloc);
-    for key in 1..=n {
-        let outcome = a.insert(OrdPair::new(key, key));
-        assert!(rt; outcome.is_ok());
-    }
-    write_over(rt, alloc, &mut a, &manual(rt, alloc, n, number), 1);
-    a
-}
-
-/// The keys from 1 to n put by hand, and then halved, so that pairs are equal.
-fn halved(rt: &impl Abort, alloc: Global, n: u64, number: u64) -> Numbers {
-    let mut a = manual(rt, alloc, n, number);
-    write_over(rt, alloc, &mut a, &manual(rt, alloc, n, number), 2);
+    let mut a = in_order(rt, alloc, n);
+    let other = manual(rt, alloc, n, number, 1);
+    write_over(&mut a, rows(rt, alloc, &other).as_slice());
     a
 }
 
@@ -104,8 +112,8 @@ pub(super) fn built(
     number: u64,
 ) -> Numbers {
     match building {
-        Building::Manual => manual(rt, alloc, n, number),
+        Building::Manual => manual(rt, alloc, n, number, 1),
         Building::Written => written(rt, alloc, n, number),
-        Building::Halved => halved(rt, alloc, n, number),
+        Building::Halved => manual(rt, alloc, n, number, 2),
     }
 }

@@ -1,153 +1,182 @@
 //! Searches by closures that say one word after another, whatever they are shown.
-use super::places::{place_of, row_after, row_before};
+use super::places::place_at;
 use super::{Item, Numbers, Row};
 use std::cmp::Ordering;
-use std::process::Abort;
-use triple_ord::P0;
+use triple_ord::{P0, Ptr};
 
-/// The words, in turn and again from the first, and to which entries they were said.
+/// The words, in turn and again from the first; the indexes of the entries to which they were said, and how many.
 #[derive(Clone, Copy)]
 struct Words {
     said: [Ordering; 3],
-    shown: [Option<P0>; 8],
+    shown: [u32; 8],
     calls: usize,
 }
 
-impl Words {
-    fn new(said: [Ordering; 3]) -> Words {
-        Words {
-            said,
-            shown: [None; 8],
-            calls: 0,
-        }
-    }
-
-    /// The word of a call.
-    fn word(&self, call: usize) -> Ordering {
-        self.said[call % 3]
-    }
-
-    /// Says the next word.
-    fn next(&mut self, p: P0) -> Ordering {
-        let call = self.calls;
-        if let Some(shown) = self.shown.get_mut(call) {
-            *shown = Some(p);
-        }
-        self.calls = call.wrapping_add(1);
-        self.word(call)
-    }
-
-    /// The call at which an entry was shown, where it was shown once.
-    fn call_of(&self, p: P0) -> Option<usize> {
-        let mut found = None;
-        for (call, shown) in self.shown.iter().enumerate() {
-            if *shown == Some(p) {
-                if found.is_some() {
-                    return None;
-                }
-                found = Some(call);
-            }
-        }
-        found
-    }
-
-    /// What was said to an entry.
-    fn said_to(&self, p: P0) -> Option<Ordering> {
-        let call = self.call_of(p)?;
-        Some(self.word(call))
-    }
-
-    /// The last entry that was shown, with its word.
-    fn last(&self) -> Option<(P0, Ordering)> {
-        let call = self.calls.checked_sub(1)?;
-        let p = self.shown.get(call).copied()??;
-        Some((p, self.word(call)))
+/// No word is said yet.
+fn silent(said: [Ordering; 3]) -> Words {
+    Words {
+        said,
+        shown: [0; 8],
+        calls: 0,
     }
 }
 
-/// Whether the entries that were shown are entries of the list, each shown once, and none after Equal.
-fn are_shown(rows: &[Row], words: &Words) -> bool {
+/// Says the next word.
+fn say(words: &mut Words, p: P0) -> Ordering {
+    let call = words.calls;
+    words.shown[call % 8] = p.inx();
+    words.calls = call.wrapping_add(1);
+    words.said[call % 3]
+}
+
+/// The word of a call.
+fn word_at(words: Words, call: usize) -> Ordering {
+    words.said[call % 3]
+}
+
+/// The index of the entry that was shown in a call.
+fn shown_at(words: Words, call: usize) -> u32 {
+    words.shown[call % 8]
+}
+
+/// The first call at which the entry at an index was shown.
+fn call_of(words: Words, i: u32) -> Option<usize> {
     for call in 0..words.calls {
-        let Some(Some(p)) = words.shown.get(call).copied() else {
-            return false;
-        };
-        if place_of(rows, p).is_none() || words.call_of(p) != Some(call) {
-            return false;
+        if shown_at(words, call) == i {
+            return Some(call);
         }
-        if words.word(call) == Ordering::Equal && call.saturating_add(1) != words.calls {
+    }
+    None
+}
+
+/// The index of the entry that was shown last, with its word.
+fn last(words: Words) -> Option<(u32, Ordering)> {
+    if words.calls == 0 {
+        return None;
+    }
+    let call = words.calls - 1;
+    Some((shown_at(words, call), word_at(words, call)))
+}
+
+/// Whether the entry that was shown in a call is one of the list, shown for the first time, and not after Equal.
+fn is_shown(rows: &[Row], words: Words, call: usize) -> bool {
+    let i = shown_at(words, call);
+    let is_after_equal = call > 0 && word_at(words, call - 1) == Ordering::Equal;
+    place_at(rows, i).is_some() && call_of(words, i) == Some(call) && !is_after_equal
+}
+
+/// Whether all entries that were shown are.
+fn are_shown(rows: &[Row], words: Words) -> bool {
+    for call in 0..words.calls {
+        if !is_shown(rows, words, call) {
             return false;
         }
     }
     true
 }
 
+/// The index of the entry at a place.
+fn index_at(rows: &[Row], place: usize) -> Option<u32> {
+    match rows.get(place) {
+        Some(row) => Some(row.p.inx()),
+        None => None,
+    }
+}
+
 /// Whether the entry beside a gap, if there is one, was told this word.
-fn is_told(words: &Words, row: &Option<Row>, word: Ordering) -> bool {
-    match row {
+fn is_told(words: Words, beside: Option<u32>, word: Ordering) -> bool {
+    match beside {
+        Some(i) => call_of(words, i).map(|call| word_at(words, call)) == Some(word),
         None => true,
-        Some(row) => words.said_to(row.p) == Some(word),
     }
 }
 
-/// Whether this entry was shown last; where there is none, whether none was shown.
-fn is_last(words: &Words, row: &Option<Row>) -> bool {
-    match (words.last(), row) {
-        (Some((p, _)), Some(row)) => p == row.p,
-        (None, None) => true,
-        _ => false,
-    }
+/// Whether a search stops at the gap between two entries, of which there may be none: one was shown last, if any was.
+fn stops(words: Words, before: Option<u32>, after: Option<u32>) -> bool {
+    let shown_last = last(words).map(|(i, _)| i);
+    is_told(words, before, Ordering::Greater)
+        && is_told(words, after, Ordering::Less)
+        && (shown_last == before || shown_last == after)
 }
 
-/// Whether the search stops at this gap.
-fn stops(rows: &[Row], words: &Words, gap: usize) -> bool {
-    let before = row_before(rows, gap);
-    let after = row_after(rows, gap);
-    let is_right = is_told(words, &before, Ordering::Greater);
-    let is_left = is_told(words, &after, Ordering::Less);
-    let is_after_last = is_last(words, &before);
-    let is_before_last = is_last(words, &after);
-    is_right && is_left && (is_after_last || is_before_last)
+/// Whether a search stops at some gap.
+fn stops_somewhere(rows: &[Row], words: Words) -> bool {
+    let mut before = None;
+    for place in 0..=rows.len() {
+        let after = index_at(rows, place);
+        if stops(words, before, after) {
+            return true;
+        }
+        before = after;
+    }
+    false
 }
 
 /// Whether a search by these words is one: it ends at Equal, or at a gap.
-fn is_search(rows: &[Row], words: &Words) -> bool {
-    let is_equal = matches!(words.last(), Some((_, Ordering::Equal)));
-    are_shown(rows, words) && (is_equal || (0..=rows.len()).any(|gap| stops(rows, words, gap)))
+fn is_search(rows: &[Row], words: Words) -> bool {
+    let is_equal = matches!(last(words), Some((_, Ordering::Equal)));
+    are_shown(rows, words) && (is_equal || stops_somewhere(rows, words))
 }
 
-/// The search for a similar entry by these words, how many entries it visits, and the words then.
-fn similar_by(a: &Numbers, said: [Ordering; 3]) -> (Option<(P0, Ordering)>, u128, Words) {
-    let mut words = Words::new(said);
-    let mut closure = |p: P0, _item: &Item| words.next(p);
-    let (similar, visits) = a.find_similar_with_counted(&mut closure);
-    (similar, visits.count(), words)
-}
-
-/// The search for an equal entry by these words, how many entries it visits, and the words then.
-fn equal_by(a: &Numbers, said: [Ordering; 3]) -> (Option<P0>, u128, Words) {
-    let mut words = Words::new(said);
-    let mut closure = |p: P0, _item: &Item| words.next(p);
-    let (found, visits) = a.find_with_counted(&mut closure);
-    (found, visits.count(), words)
-}
-
-/// The entry to which Equal was said.
-fn equal_of(similar: Option<(P0, Ordering)>) -> Option<P0> {
+/// The index of an entry that was found, with its word.
+fn index_of(similar: Option<(P0, Ordering)>) -> Option<(u32, Ordering)> {
     match similar {
-        Some((p, Ordering::Equal)) => Some(p),
+        Some((p, order)) => Some((p.inx(), order)),
+        None => None,
+    }
+}
+
+/// What a search for a similar entry by these words finds, told by its index, how many entries it visits, and the words then.
+fn similar_by(a: &Numbers, said: [Ordering; 3]) -> (Option<(u32, Ordering)>, u128, Words) {
+    let mut words = silent(said);
+    let mut closure = |p: P0, _item: &Item| say(&mut words, p);
+    let (similar, visits) = a.find_similar_with_counted(&mut closure);
+    (index_of(similar), visits.count(), words)
+}
+
+/// What the search for an equal entry by these words finds, told by its index, how many entries it visits, and the words then.
+fn equal_by(a: &Numbers, said: [Ordering; 3]) -> (Option<u32>, u128, Words) {
+    let mut words = silent(said);
+    let mut closure = |p: P0, _item: &Item| say(&mut words, p);
+    let (found, visits) = a.find_with_counted(&mut closure);
+    (found.map(|p| p.inx()), visits.count(), words)
+}
+
+/// The index of the entry to which Equal was said.
+fn equal_of(similar: Option<(u32, Ordering)>) -> Option<u32> {
+    match similar {
+        Some((i, Ordering::Equal)) => Some(i),
         _ => None,
     }
 }
 
-/// The searches by these words.
-fn by_words(rt: &impl Abort, a: &Numbers, rows: &[Row], said: [Ordering; 3]) {
+/// Whether two searches showed the same entries.
+fn show_alike(words: Words, again: Words) -> bool {
+    for call in 0..words.calls {
+        if shown_at(words, call) != shown_at(again, call) {
+            return false;
+        }
+    }
+    words.calls == again.calls
+}
+
+/// Whether so many visits are the calls, of which there are at most four among six entries.
+fn is_counted(visits: u128, words: Words) -> bool {
+    visits == words.calls as u128 && words.calls <= 4
+}
+
+/// Both searches by these words: they show the same entries, and answer what was said last.
+fn hold_by(a: &Numbers, rows: &[Row], said: [Ordering; 3]) -> bool {
     let (similar, visits, words) = similar_by(a, said);
-    assert!(rt; is_search(rows, &words));
-    assert!(rt; similar == words.last());
-    assert!(rt; visits == words.calls as u128 && words.calls <= 4);
-    let (found, visits, again) = equal_by(a, said);
-    assert!(rt; found == equal_of(similar));
-    assert!(rt; visits == again.calls as u128 && again.calls == words.calls);
+    let (found, visits_again, again) = equal_by(a, said);
+    let is_last = similar == last(words);
+    let is_found = found == equal_of(similar);
+    is_last
+        && is_found
+        && is_search(rows, words)
+        && show_alike(words, again)
+        && is_counted(visits, words)
+        && is_counted(visits_again, again)
 }
 
 /// The word of a ternary digit.
@@ -160,9 +189,12 @@ fn word_of(digit: usize) -> Ordering {
 }
 
 /// Every three words.
-pub(super) fn hold(rt: &impl Abort, a: &Numbers, rows: &[Row]) {
+pub(super) fn hold(a: &Numbers, rows: &[Row]) -> bool {
     for number in 0usize..27 {
         let said = [word_of(number), word_of(number / 3), word_of(number / 9)];
-        by_words(rt, a, rows, said);
+        if !hold_by(a, rows, said) {
+            return false;
+        }
     }
+    true
 }

@@ -1,70 +1,115 @@
 //! What a search and an insertion may do, by the entries in order alone.
 use super::Row;
 use std::cmp::Ordering;
-use triple_ord::P0;
+use triple_ord::{P0, Ptr};
 
-/// The entry before a gap.
-pub(super) fn row_before(rows: &[Row], gap: usize) -> Option<Row> {
-    rows.get(gap.checked_sub(1)?).copied()
+/// A gap, by the keys of the entries beside it; the entry after it is also the one at this place.
+#[derive(Clone, Copy)]
+pub(super) struct Gap {
+    before: Option<u64>,
+    after: Option<u64>,
 }
 
-/// The entry after a gap, or the one at a place.
-pub(super) fn row_after(rows: &[Row], gap: usize) -> Option<Row> {
-    rows.get(gap).copied()
+/// The key at a place.
+fn key_at(rows: &[Row], place: usize) -> Option<u64> {
+    match rows.get(place) {
+        Some(row) => Some(row.key),
+        None => None,
+    }
 }
 
-/// The key of the entry before a gap.
-fn before(rows: &[Row], gap: usize) -> Option<u64> {
-    Some(row_before(rows, gap)?.key)
-}
-
-/// The key of the entry after a gap, or of the one at a place.
-fn after(rows: &[Row], gap: usize) -> Option<u64> {
-    Some(row_after(rows, gap)?.key)
+/// The gap before a place.
+pub(super) fn gap_at(rows: &[Row], place: usize) -> Gap {
+    let before = if place == 0 {
+        None
+    } else {
+        key_at(rows, place - 1)
+    };
+    let after = key_at(rows, place);
+    Gap { before, after }
 }
 
 /// The entry before the gap, if any, has a lesser key, and the one after it, if any, a greater one.
-pub(super) fn fits(rows: &[Row], gap: usize, k: u64) -> bool {
-    !matches!(before(rows, gap), Some(key) if key >= k)
-        && !matches!(after(rows, gap), Some(key) if key <= k)
+pub(super) fn fits(gap: Gap, k: u64) -> bool {
+    !matches!(gap.before, Some(key) if key >= k) && !matches!(gap.after, Some(key) if key <= k)
 }
 
 /// A search for a key may answer this entry, and an insertion by it replace its item: it has an equal key, and the entry before it, if
 /// any, a lesser one.
-pub(super) fn is_met(rows: &[Row], place: usize, k: u64) -> bool {
-    after(rows, place) == Some(k) && !matches!(before(rows, place), Some(key) if key >= k)
+pub(super) fn is_met(gap: Gap, k: u64) -> bool {
+    gap.after == Some(k) && !matches!(gap.before, Some(key) if key >= k)
 }
 
 /// A nonhereditary insertion may put its entry into this gap: the entry before it, if any, has a key at most k, and the one after it,
 /// if any, a greater one.
-pub(super) fn fits_nonhereditary(rows: &[Row], gap: usize, k: u64) -> bool {
-    !matches!(before(rows, gap), Some(key) if key > k)
-        && !matches!(after(rows, gap), Some(key) if key <= k)
+pub(super) fn fits_nonhereditary(gap: Gap, k: u64) -> bool {
+    !matches!(gap.before, Some(key) if key > k) && !matches!(gap.after, Some(key) if key <= k)
 }
 
-/// How many entries stand beside a gap.
-fn neighbours(rows: &[Row], gap: usize) -> u128 {
-    before(rows, gap).is_some() as u128 + after(rows, gap).is_some() as u128
+/// A search with c visits may stop at this gap: it fits, and no more entries stand beside it.
+fn may_stop(gap: Gap, k: u64, c: u128) -> bool {
+    let neighbours = gap.before.is_some() as u128 + gap.after.is_some() as u128;
+    fits(gap, k) && neighbours <= c
+}
+
+/// Whether a search with c visits may stop at some gap.
+fn may_stop_somewhere(rows: &[Row], k: u64, c: u128) -> bool {
+    for place in 0..=rows.len() {
+        if may_stop(gap_at(rows, place), k, c) {
+            return true;
+        }
+    }
+    false
+}
+
+/// The place of the entry at an index.
+pub(super) fn place_at(rows: &[Row], i: u32) -> Option<usize> {
+    for (place, row) in rows.iter().enumerate() {
+        if row.p.inx() == i {
+            return Some(place);
+        }
+    }
+    None
+}
+
+/// Whether a pointer names the entry at a place.
+fn is_at(rows: &[Row], place: usize, p: P0) -> bool {
+    match rows.get(place) {
+        Some(row) => row.p == p,
+        None => false,
+    }
 }
 
 /// The place of the entry that a pointer names.
 pub(super) fn place_of(rows: &[Row], p: P0) -> Option<usize> {
-    rows.iter().position(|row| row.p == p)
-}
-
-/// A search with c visits may stop at this gap.
-fn may_stop(rows: &[Row], gap: usize, k: u64, c: u128) -> bool {
-    fits(rows, gap, k) && neighbours(rows, gap) <= c
+    match place_at(rows, p.inx()) {
+        Some(place) if is_at(rows, place, p) => Some(place),
+        _ => None,
+    }
 }
 
 /// What a search for an equal key may answer.
 pub(super) fn may_find(rows: &[Row], k: u64, found: Option<P0>, c: u128) -> bool {
-    match found {
-        None => (0..=rows.len()).any(|gap| may_stop(rows, gap, k, c)),
-        Some(p) => match place_of(rows, p) {
-            Some(place) => is_met(rows, place, k) && c > 0,
-            None => false,
-        },
+    let Some(p) = found else {
+        return may_stop_somewhere(rows, k, c);
+    };
+    match place_of(rows, p) {
+        Some(place) => is_met(gap_at(rows, place), k) && c > 0,
+        None => false,
+    }
+}
+
+/// Whether a search for a similar key may answer the entry between two gaps, in this order to the key.
+fn is_similar(here: Gap, next: Gap, k: u64, order: Ordering, c: u128) -> bool {
+    match here.after {
+        Some(key) if k.cmp(&key) == order => {
+            if order == Ordering::Equal {
+                is_met(here, k) && c > 0
+            } else {
+                may_stop(here, k, c) || may_stop(next, k, c)
+            }
+        }
+        _ => false,
     }
 }
 
@@ -81,38 +126,45 @@ pub(super) fn may_be_similar(
     let Some(place) = place_of(rows, p) else {
         return false;
     };
-    if order == Ordering::Equal {
-        return is_met(rows, place, k) && c > 0;
+    let next = gap_at(rows, place.saturating_add(1));
+    is_similar(gap_at(rows, place), next, k, order, c)
+}
+
+/// Whether two lists begin alike up to a place, and are alike again from a place of each on.
+fn agree(old: &[Row], new: &[Row], place: usize, old_next: usize, new_next: usize) -> bool {
+    old.get(..place) == new.get(..place) && old.get(old_next..) == new.get(new_next..)
+}
+
+/// Whether an entry came into this gap, and nothing else changed.
+pub(super) fn is_put(old: &[Row], new: &[Row], gap: usize) -> bool {
+    agree(old, new, gap, gap, gap.saturating_add(1))
+}
+
+/// Whether the entry at a place is gone, and nothing else changed.
+pub(super) fn is_taken(old: &[Row], new: &[Row], place: usize) -> bool {
+    agree(old, new, place, place.saturating_add(1), place)
+}
+
+/// Whether the entry at a place is another now, and nothing else changed.
+pub(super) fn is_replaced(old: &[Row], new: &[Row], place: usize, row: Row) -> bool {
+    let next = place.saturating_add(1);
+    agree(old, new, place, next, next) && new.get(place).copied() == Some(row)
+}
+
+/// Whether the entries at a place of two lists have the same item.
+fn has_same_item(old: &[Row], new: &[Row], place: usize) -> bool {
+    match (old.get(place), new.get(place)) {
+        (Some(a), Some(b)) => a.key == b.key && a.value == b.value,
+        _ => false,
     }
-    let is_beside = may_stop(rows, place, k, c) || may_stop(rows, place.saturating_add(1), k, c);
-    is_beside && after(rows, place).map(|key| k.cmp(&key)) == Some(order)
 }
 
-/// Whether the others are all entries but one, in the same order.
-pub(super) fn are_without(all: &[Row], others: &[Row], p: P0) -> bool {
-    let kept = all.iter().filter(|row| row.p != p);
-    all.len() == others.len().saturating_add(1) && others.iter().zip(kept).all(|(a, b)| a == b)
-}
-
-/// The gap into which one entry came, where nothing else changed.
-pub(super) fn gap_of(old: &[Row], new: &[Row], p: P0) -> Option<usize> {
-    let place = place_of(new, p)?;
-    if are_without(new, old, p) {
-        Some(place)
-    } else {
-        None
+/// Whether two lists have the same items, in the same order.
+pub(super) fn have_same_items(old: &[Row], new: &[Row]) -> bool {
+    for place in 0..old.len() {
+        if !has_same_item(old, new, place) {
+            return false;
+        }
     }
-}
-
-/// Whether the item of one entry is this one now, and nothing else changed.
-pub(super) fn is_replaced(old: &[Row], new: &[Row], p: P0, item: (u64, u64)) -> bool {
     old.len() == new.len()
-        && old.iter().zip(new).all(|(a, b)| {
-            a.p == b.p
-                && if a.p == p {
-                    (b.key, b.value) == item
-                } else {
-                    a == b
-                }
-        })
 }

@@ -63,42 +63,69 @@ fn refusal_of(
     refusal
 }
 
-/// Asks for entries where so many units of room are left. Answers the refusal; then the same is done with memory.
+/// The same where so many units of room are left.
+fn refusal_in_little<'h>(
+    rt: &impl Abort,
+    alloc: Global,
+    heap: &'h LocalHeap,
+    call: Call,
+    units: usize,
+    a: &mut Numbers<'h>,
+) -> Option<OrdInsertionError> {
+    let _block = leave(rt, heap, units);
+    refusal_of(rt, alloc, call, a)
+}
+
+/// Asks for entries where so many units of room are left. Answers the refusal; where it is one of memory, the same is done with memory.
 fn refusal_on(
     rt: &impl Abort,
     alloc: Global,
+    heap: &LocalHeap,
     call: Call,
     units: usize,
 ) -> Option<OrdInsertionError> {
-    let heap = new_heap(rt, alloc);
-    let mut a = filled(rt, &heap, 4);
-    let block = leave(rt, &heap, units);
-    let refusal = refusal_of(rt, alloc, call, &mut a);
-    drop(block);
+    let mut a = filled(rt, heap, 4);
+    let refusal = refusal_in_little(rt, alloc, heap, call, units, &mut a);
     if refusal == Some(OrdInsertionError::AllocError) {
         assert!(rt; refusal_of(rt, alloc, call, &mut a).is_none());
     }
     refusal
 }
 
-/// Each refusal of a call that may grow is one of memory, and there is none where there is room.
-fn is_refused_for_memory(rt: &impl Abort, alloc: Global, call: Call) {
+/// Whether a call that may grow is refused where so many units of room are left. Each refusal is one of memory.
+fn is_refused_memory(
+    rt: &impl Abort,
+    alloc: Global,
+    heap: &LocalHeap,
+    call: Call,
+    units: usize,
+) -> bool {
+    let refusal = refusal_on(rt, alloc, heap, call, units);
+    assert!(rt; matches!(refusal, None | Some(OrdInsertionError::AllocError)));
+    refusal.is_some()
+}
+
+/// A call that may grow is refused where little room is left, and not where there is enough.
+fn is_refused_somewhere(rt: &impl Abort, alloc: Global, call: Call) {
+    let heap = new_heap(rt, alloc);
     let mut met = [false; 2];
     for units in 0usize..100 {
-        let refusal = refusal_on(rt, alloc, call, units);
-        assert!(rt; matches!(refusal, None | Some(OrdInsertionError::AllocError)));
-        met[refusal.is_some() as usize % 2] = true;
+        met[is_refused_memory(rt, alloc, &heap, call, units) as usize % 2] = true;
     }
     assert!(rt; met == [true; 2]);
 }
 
 #[test]
 fn each_request_of_an_entry(rt: HostRuntime) {
-    is_refused_for_memory(&rt, rt.alloc(), Call::Reallocating);
-    is_refused_for_memory(&rt, rt.alloc(), Call::Insert);
-    // and one within the capacity asks for no memory
-    for units in [0usize, 1, 100, 500] {
-        let refusal = refusal_on(&rt, rt.alloc(), Call::Within, units);
+    is_refused_somewhere(&rt, rt.alloc(), Call::Reallocating);
+    is_refused_somewhere(&rt, rt.alloc(), Call::Insert);
+}
+
+#[test]
+fn an_entry_within_the_capacity_asks_for_no_memory(rt: HostRuntime) {
+    let heap = new_heap(&rt, rt.alloc());
+    for units in &[0usize, 1, 100, 500] {
+        let refusal = refusal_on(&rt, rt.alloc(), &heap, Call::Within, *units);
         assert!(rt; refusal == Some(OrdInsertionError::NotWithinCapacity));
     }
 }

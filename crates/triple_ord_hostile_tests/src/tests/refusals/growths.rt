@@ -1,5 +1,6 @@
 //! Growths: by twenty insertions, by a reservation, and by a transfer.
 use super::{Numbers, filled, is_refused, leave, look, looks_like, new_heap, put};
+use linked_list_allocator::LocalHeap;
 use std::alloc::Global;
 use std::process::Abort;
 use triple_ord::{InvalidationOption, OrdPair, P0, ReallocationError};
@@ -16,22 +17,32 @@ fn put_until_refused(rt: &impl Abort, alloc: Global, a: &mut Numbers) -> u32 {
     20
 }
 
+/// The same where so many units of room are left.
+fn put_in_little<'h>(
+    rt: &impl Abort,
+    alloc: Global,
+    heap: &'h LocalHeap,
+    units: usize,
+    a: &mut Numbers<'h>,
+) -> u32 {
+    let _block = leave(rt, heap, units);
+    put_until_refused(rt, alloc, a)
+}
+
 /// Inserts twenty keys where so many units of room are left. Answers which was refused; that one is inserted with memory.
-fn turn_refused(rt: &impl Abort, alloc: Global, units: usize) -> u32 {
-    let heap = new_heap(rt, alloc);
-    let block = leave(rt, &heap, units);
-    let mut a = Numbers::new(&heap);
-    let turn = put_until_refused(rt, alloc, &mut a);
-    drop(block);
+fn turn_refused(rt: &impl Abort, alloc: Global, heap: &LocalHeap, units: usize) -> u32 {
+    let mut a = Numbers::new(heap);
+    let turn = put_in_little(rt, alloc, heap, units, &mut a);
     assert!(rt; turn == 20 || put(rt, &mut a, turn) == Some(turn.saturating_add(1)));
     turn
 }
 
 #[test]
 fn each_growth_of_an_insertion(rt: HostRuntime) {
+    let heap = new_heap(&rt, rt.alloc());
     let mut met = [false; 21];
     for units in 0usize..400 {
-        met[turn_refused(&rt, rt.alloc(), units) as usize % 21] = true;
+        met[turn_refused(&rt, rt.alloc(), &heap, units) as usize % 21] = true;
     }
     for (turn, is_met) in met.iter().enumerate() {
         assert!(rt; *is_met == matches!(turn, 0 | 4 | 8 | 16 | 20), "{turn}");
@@ -51,22 +62,32 @@ fn is_refused_ten(rt: &impl Abort, alloc: Global, a: &mut Numbers) -> bool {
     is_refused(rt, alloc, a, outcome, (FIVE, TEN))
 }
 
+/// The same where so many units of room are left.
+fn is_refused_ten_in_little<'h>(
+    rt: &impl Abort,
+    alloc: Global,
+    heap: &'h LocalHeap,
+    units: usize,
+    a: &mut Numbers<'h>,
+) -> bool {
+    let _block = leave(rt, heap, units);
+    is_refused_ten(rt, alloc, a)
+}
+
 /// Reserves room where so many units are left. Tells whether that was refused; then it is done with memory.
-fn is_reserve_refused(rt: &impl Abort, alloc: Global, units: usize) -> bool {
-    let heap = new_heap(rt, alloc);
-    let mut a = filled(rt, &heap, 5);
-    let block = leave(rt, &heap, units);
-    let was_refused = is_refused_ten(rt, alloc, &mut a);
-    drop(block);
+fn is_reserve_refused(rt: &impl Abort, alloc: Global, heap: &LocalHeap, units: usize) -> bool {
+    let mut a = filled(rt, heap, 5);
+    let was_refused = is_refused_ten_in_little(rt, alloc, heap, units, &mut a);
     assert!(rt; !is_refused_ten(rt, alloc, &mut a));
     was_refused
 }
 
 #[test]
 fn each_request_for_a_capacity(rt: HostRuntime) {
+    let heap = new_heap(&rt, rt.alloc());
     let mut met = [false; 2];
     for units in 0usize..100 {
-        met[is_reserve_refused(&rt, rt.alloc(), units) as usize % 2] = true;
+        met[is_reserve_refused(&rt, rt.alloc(), &heap, units) as usize % 2] = true;
     }
     assert!(rt; met == [true; 2]);
 }
@@ -105,23 +126,34 @@ fn is_refused_five(rt: &impl Abort, alloc: Global, a: &mut Numbers, source: &mut
     is_refused(rt, alloc, a, outcome, TARGET)
 }
 
+/// The same where so many units of room are left.
+fn is_refused_five_in_little<'h>(
+    rt: &impl Abort,
+    alloc: Global,
+    heap: &'h LocalHeap,
+    units: usize,
+    a: &mut Numbers<'h>,
+    source: &mut Numbers<'h>,
+) -> bool {
+    let _block = leave(rt, heap, units);
+    is_refused_five(rt, alloc, a, source)
+}
+
 /// Takes five keys over where so many units of room are left. Tells whether that was refused; then it is done with memory.
-fn is_transfer_refused(rt: &impl Abort, alloc: Global, units: usize) -> bool {
-    let heap = new_heap(rt, alloc);
-    let mut source = filled(rt, &heap, 5);
-    let mut a = Numbers::new(&heap);
-    let block = leave(rt, &heap, units);
-    let was_refused = is_refused_five(rt, alloc, &mut a, &mut source);
-    drop(block);
+fn is_transfer_refused(rt: &impl Abort, alloc: Global, heap: &LocalHeap, units: usize) -> bool {
+    let mut source = filled(rt, heap, 5);
+    let mut a = Numbers::new(heap);
+    let was_refused = is_refused_five_in_little(rt, alloc, heap, units, &mut a, &mut source);
     assert!(rt; !was_refused || !is_refused_five(rt, alloc, &mut a, &mut source));
     was_refused
 }
 
 #[test]
 fn each_request_of_a_transfer(rt: HostRuntime) {
+    let heap = new_heap(&rt, rt.alloc());
     let mut met = [false; 2];
     for units in 0usize..100 {
-        met[is_transfer_refused(&rt, rt.alloc(), units) as usize % 2] = true;
+        met[is_transfer_refused(&rt, rt.alloc(), &heap, units) as usize % 2] = true;
     }
     assert!(rt; met == [true; 2]);
 }
