@@ -98,7 +98,8 @@ module _ {P F W X K : Type 0} (numbers : P → ℕ × ℕ) (step : F → P → W
       → map keep ys ≡ map keep xs ++ map (λ (e : ℕ × ℕ × W). see e.2) es
   clones-keep es f g xs ys calls =
       chained_keeps (CloneStep numbers step) (λ es t. map keep t.1 ≡ map keep xs ++ map (λ (e : ℕ × ℕ × W). see e.2) es)
-      (λ es s e t is called. ap (map keep) called.behind ∙ rw (map_push keep s.1 called.item, is, keeps s.0 called.pointer e.2 called.item t.0 called.called, map_push) (append_assoc (map keep xs) _ _))
+      (λ es s e t is called. ap (map keep) called.behind
+      ∙ rw (map_push keep s.1 called.item, is, keeps s.0 called.pointer e.2 called.item t.0 called.called, map_push) (append_assoc (map keep xs) _ _))
       es (f, xs) (g, ys) (sym (append-nil (map keep xs))) calls
 
 with_items-same : {U : Type 0} (i : ℕ) (slots : List (Option (ℕ × U))) → with_items slots (map (λ e. e.2) (entries_from i slots)) ≡ slots
@@ -113,12 +114,6 @@ clone-given_back numbers step answers f source old new c =
     let kept = clones-keep numbers step (λ u. u) (λ x. x) answers (entries_rising source 0) f c.last [] c.items c.calls in
     let same = rw (map-id c.items) at kept in
     subst (λ slots. HoldsSame new (replaced source old slots)) (ap (with_items source.slots) same ∙ with_items-same 0 source.slots) c.after
-
--- so every pointer finds the same in both
-pub clone-finds : {U : Type 0} (source old new : Arena U) → HoldsSame new (replaced source old source.slots) → FindSame new source
-clone-finds source old new same = λ p.
-    ap (item_if p.1) (ap (λ ss. get_or ss p.0 None) same.slots
-    ∙ resized-same (max (arena_capacity old) (greatest_occupied source.slots) + 1) source.slots (λ k past. greatest_occupied-above source.slots k (omega arith)) p.0)
 
 module _ {P U T F : Type 0} (numbers : P → ℕ × ℕ) (step : F → P → U → T → F → Type 0) where
   -- an item is made for each entry
@@ -165,7 +160,12 @@ clone-pointers numbers step f source old new c =
     ∙ (ap (has_generation p.1) (ap (option_map (λ e. e.0)) (ap (λ ss. get_or ss p.0 None) c.after.slots ∙ resized-same n made free p.0) ∙ told p.0)
     ∙ sym (is_some-item_if p.1 (get_or source.slots p.0 None)))
 
+-- so each pointer finds the same in both
 pub copy-found : {P U F E : Type 0} (numbers : P → ℕ × ℕ) (step : F → P → U → U → F → Type 0) → ((f : F) (p : P) (u : U) (x : U) (g : F) → step f p u x g → x ≡ u)
     → (r : Result (Unit {0}) E) (f : F) (source old new : Arena U) → OnOk r (IsClone numbers step f source old new) → OnOk r (FindSame new source)
-copy-found numbers step answers (Ok x) f source old new c = clone-finds source old new (clone-given_back numbers step answers f source old new c)
+copy-found numbers step answers (Ok x) f source old new c = λ p.
+    let same = clone-given_back numbers step answers f source old new c in
+    let n = max (arena_capacity old) (greatest_occupied source.slots) + 1 in
+    ap (item_if p.1) (ap (λ ss. get_or ss p.0 None) same.slots
+    ∙ resized-same n source.slots (λ k past. greatest_occupied-above source.slots k (omega arith)) p.0)
 copy-found numbers step answers (Err e) f source old new c = tt

@@ -2,14 +2,14 @@
 use Rattle.arena_base.proofs.Words.{◌≡◌, ℕ, zero, suc, ◌+◌, ◌<◌, ◌≤◌, Option, Some, None, List, [], ◌∷◌, ◌++◌, length, get_or, replicate, take, ◌-◌, refl}
 use Rattle.arena_base.proofs.Words.{arith, drop, map, sym, ap, ◌∙◌, subst, reverse, max, Result, Ok, Err, FoldsTo-push, length-map, drop_more, append_assoc}
 use Rattle.arena_base.proofs.Words.{map_push, append-nil, get_or-drop, none-some, same_Some, FoldsTo, OnOk, OnErr, AllocError, Inside, Generations, Indexes}
-use Rattle.arena_base.proofs.Words.{Slot, Occupied, Vacant, vacant_from, Arena, IsSound, resized, greatest_occupied, IsFresh, arena_capacity, IsLawful}
-use Rattle.arena_base.proofs.Words.{CloneStep, IsClone, IsRefusedClone, StopsAtRefusal, Grants, with_items, replaced, ClonesSlots, IsLawfulGeneration, entry_in}
+use Rattle.arena_base.proofs.Words.{Slot, Occupied, Vacant, vacant_from, Arena, IsSound, resized, greatest_occupied, arena_capacity, IsLawful, CloneStep}
+use Rattle.arena_base.proofs.Words.{IsClone, IsRefusedClone, StopsAtRefusal, Grants, with_items, replaced, ClonesSlots, IsLawfulGeneration, entry_in}
 use Rattle.arena_base.proofs.Words.{vacant_slots, arena_of, entries_from, entries_rising}
 use Rattle.arena_base.proofs.Occupied.{greatest_occupied-above}
 use Rattle.arena_base.proofs.Positions.{entries}
 use Rattle.arena_base.proofs.Resizing.{resized-cons, resized-again, resized-some, length-resized, entries-padded}
 use Rattle.arena_base.proofs.Soundness.{AreLawful}
-use Rattle.arena_base.proofs.Steps.{stored, capacity-is, relisted, relisted-fresh, relisted-sound}
+use Rattle.arena_base.proofs.Steps.{stored, capacity-is, relisted, relisted-sound}
 
 module _ {X : Type 0} where
   -- where no slot has an entry, none is cloned
@@ -159,9 +159,6 @@ module _ {P T A U Inx Gen F : Type 0} (numbers : P → ℕ × ℕ) (gen : Genera
       relisted gen inx next listed generation s.maximum all
       ∙ (ap (λ (ss : List (Option (ℕ × T))). record { slots = ss; vacant = vacant_from 1 (drop 1 ss); generation = gen.number generation; maximum = s.maximum }) shape
       ∙ rw (same, named, ← seen) refl)
-
-  pub clone-fresh : IsFresh after
-  clone-fresh = relisted-fresh gen inx next listed generation s.maximum all
 
   pub clone-whole : (r : Result (Unit {0}) AllocError) → Cloned r → OnOk r (IsClone numbers (Grants numbers step) f source a after)
   clone-whole (Err e) p = tt
