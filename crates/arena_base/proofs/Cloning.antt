@@ -1,14 +1,13 @@
 -- How far a clone has come, and the arena that it leaves.
 use Rattle.arena_base.proofs.Words.{◌≡◌, ℕ, zero, suc, ◌+◌, ◌<◌, ◌≤◌, Option, Some, None, List, [], ◌∷◌, ◌++◌, length, get_or, replicate, take, ◌-◌, refl}
-use Rattle.arena_base.proofs.Words.{arith, drop, map, sym, ap, ◌∙◌, subst, reverse, max, Result, Ok, Err, FoldsTo-push, length-map, drop_more, append_assoc}
-use Rattle.arena_base.proofs.Words.{map_push, append-nil, get_or-drop, none-some, same_Some, FoldsTo, OnOk, OnErr, AllocError, Inside, Generations, Indexes}
-use Rattle.arena_base.proofs.Words.{Slot, Occupied, Vacant, vacant_from, Arena, IsSound, resized, greatest_occupied, arena_capacity, IsLawful, CloneStep}
-use Rattle.arena_base.proofs.Words.{IsClone, IsRefusedClone, StopsAtRefusal, Grants, with_items, replaced, ClonesSlots, IsLawfulGeneration, entry_in}
-use Rattle.arena_base.proofs.Words.{vacant_slots, arena_of, entries_from, entries_rising}
+use Rattle.arena_base.proofs.Words.{arith, drop, map, sym, ap, ◌∙◌, reverse, max, Result, Ok, Err, FoldsTo-push, length-map, drop_more, append_assoc, map_push}
+use Rattle.arena_base.proofs.Words.{append-nil, get_or-drop, none-some, FoldsTo, OnOk, OnErr, AllocError, Inside, Generations, Indexes, Slot, Occupied, Vacant}
+use Rattle.arena_base.proofs.Words.{vacant_from, Arena, IsSound, resized, greatest_occupied, arena_capacity, IsLawful, CloneStep, IsClone, IsRefusedClone}
+use Rattle.arena_base.proofs.Words.{StopsAtRefusal, Grants, with_items, replaced, ClonesSlots, entry_in, vacant_slots, arena_of, entries_from, entries_rising}
 use Rattle.arena_base.proofs.Occupied.{greatest_occupied-above}
 use Rattle.arena_base.proofs.Positions.{entries}
 use Rattle.arena_base.proofs.Resizing.{resized-cons, resized-again, resized-some, length-resized, entries-padded}
-use Rattle.arena_base.proofs.Soundness.{AreLawful}
+use Rattle.arena_base.proofs.Soundness.{AreLawful, lawful-some}
 use Rattle.arena_base.proofs.Steps.{stored, capacity-is, relisted, relisted-sound}
 
 module _ {X : Type 0} where
@@ -116,9 +115,7 @@ with_items-lawful greatest [] items lawful k e is = absurd (none-some e is)
 with_items-lawful greatest (None ∷ slots) items lawful zero e is = absurd (none-some e is)
 with_items-lawful greatest (None ∷ slots) items lawful (suc k) e is = with_items-lawful greatest slots items (λ j. lawful (suc j)) k e is
 with_items-lawful greatest (Some s ∷ slots) [] lawful k e is = absurd (none-some e is)
-with_items-lawful greatest (Some s ∷ slots) (item ∷ items) lawful zero e is =
-    let same : ◌≡◌ {A = ℕ × _} (s.0, item) e = same_Some (s.0, item) e is in
-    subst (λ (x : ℕ × _). IsLawfulGeneration greatest x.0) same (lawful 0 s refl)
+with_items-lawful greatest (Some s ∷ slots) (item ∷ items) lawful zero e is = lawful-some greatest (s.0, item) (lawful 0 s refl) e is
 with_items-lawful greatest (Some s ∷ slots) (item ∷ items) lawful (suc k) e is = with_items-lawful greatest slots items (λ j. lawful (suc j)) k e is
 
 -- The slots that a clone leaves in memory, and the arena that they are: vacant ones come behind those that were cloned.
