@@ -88,25 +88,26 @@ module _ {P T U G F : Type 0} {numbers : P → ℕ × ℕ} {number : G → ℕ} 
         }
 
 -- a call was refused
-pub cloned-refused : {P T U G F : Type 0} {numbers : P → ℕ × ℕ} {number : G → ℕ} {step : F → P → U → Result T AllocError → F → Type 0} {first : F}
-    {source : List (Option (ℕ × U))} {f : F} {slots : List (Slot T G)} {i : ℕ} → ClonedBelow numbers number (Grants numbers step) first source f slots i → i < length source
-    → (e : ℕ) (u : U) (p : P) (refusal : AllocError) (next : F) → get_or source i None ≡ Some (e, u) → (numbers p).0 ≡ i → (numbers p).1 ≡ e → step f p u (Err refusal) next
-    → StopsAtRefusal numbers step first (entries_from 0 source)
-cloned-refused {source = source} {i = i} b inside e u p refusal next there p_index p_generation called = record {
-  before = b.before;
-  refused = (i, e, u);
-  behind = entries_from (i + 1) (drop (i + 1) source);
-  split = b.split ∙ ap (λ ss. b.before ++ entries_from i ss) (opened b inside (Some (e, u)) there);
-  items = b.items;
-  reached = _;
-  calls = b.calls;
-  pointer = p;
-  index = p_index;
-  generation = p_generation;
-  refusal = refusal;
-  last = next;
-  called = called;
-}
+module _ {P T U G F : Type 0} {numbers : P → ℕ × ℕ} {number : G → ℕ} {step : F → P → U → Result T AllocError → F → Type 0} {first : F}
+    {source : List (Option (ℕ × U))} {f : F} {slots : List (Slot T G)} {i : ℕ} (b : ClonedBelow numbers number (Grants numbers step) first source f slots i)
+    (inside : i < length source) where
+  pub cloned-refused : (e : ℕ) (u : U) (p : P) (refusal : AllocError) (next : F) → get_or source i None ≡ Some (e, u) → (numbers p).0 ≡ i
+      → (numbers p).1 ≡ e → step f p u (Err refusal) next → StopsAtRefusal numbers step first (entries_from 0 source)
+  cloned-refused e u p refusal next there p_index p_generation called = record {
+    before = b.before;
+    refused = (i, e, u);
+    behind = entries_from (i + 1) (drop (i + 1) source);
+    split = b.split ∙ ap (λ ss. b.before ++ entries_from i ss) (opened b inside (Some (e, u)) there);
+    items = b.items;
+    reached = f;
+    calls = b.calls;
+    pointer = p;
+    index = p_index;
+    generation = p_generation;
+    refusal = refusal;
+    last = next;
+    called = called;
+  }
 
 -- an entry with another item has the generation of the source's
 with_items-lawful : {T U : Type 0} (greatest : Option ℕ) (slots : List (Option (ℕ × U))) (items : List T)
