@@ -98,7 +98,8 @@ module _ {P F W X K : Type 0} (numbers : P → ℕ × ℕ) (step : F → P → W
       → map keep ys ≡ map keep xs ++ map (λ (e : ℕ × ℕ × W). see e.2) es
   clones-keep es f g xs ys calls =
       chained_keeps (CloneStep numbers step) (λ es t. map keep t.1 ≡ map keep xs ++ map (λ (e : ℕ × ℕ × W). see e.2) es)
-      (λ es s e t is called. ap (map keep) called.behind ∙ rw (map_push keep s.1 called.item, is, keeps s.0 called.pointer e.2 called.item t.0 called.called, map_push) (append_assoc (map keep xs) _ _))
+      (λ es s e t is called. ap (map keep) called.behind
+      ∙ rw (map_push keep s.1 called.item, is, keeps s.0 called.pointer e.2 called.item t.0 called.called, map_push) (append_assoc (map keep xs) _ _))
       es (f, xs) (g, ys) (sym (append-nil (map keep xs))) calls
 
 with_items-same : {U : Type 0} (i : ℕ) (slots : List (Option (ℕ × U))) → with_items slots (map (λ e. e.2) (entries_from i slots)) ≡ slots
@@ -114,28 +115,15 @@ clone-given_back numbers step answers f source old new c =
     let same = rw (map-id c.items) at kept in
     subst (λ slots. HoldsSame new (replaced source old slots)) (ap (with_items source.slots) same ∙ with_items-same 0 source.slots) c.after
 
--- so every pointer finds the same in both
-pub clone-finds : {U : Type 0} (source old new : Arena U) → HoldsSame new (replaced source old source.slots) → FindSame new source
-clone-finds source old new same = λ p.
-    ap (item_if p.1) (ap (λ ss. get_or ss p.0 None) same.slots
-    ∙ resized-same (max (arena_capacity old) (greatest_occupied source.slots) + 1) source.slots (λ k past. greatest_occupied-above source.slots k (omega arith)) p.0)
-
-module _ {P U T F : Type 0} (numbers : P → ℕ × ℕ) (step : F → P → U → T → F → Type 0) where
-  -- an item is made for each entry
-  clones-counted : (es : List (ℕ × ℕ × U)) (f last : F) (items : List T) → FoldsTo {P = F × List T} (CloneStep numbers step) (f, []) es (last, items) → length items ≡ length es
-  clones-counted es f last items calls =
-      let kept = clones-keep {K = ℕ} numbers step (λ u. 0) (λ x. 0) (λ f p u x g called. refl) es f last [] items calls in
-      sym (length-map items (λ x. 0)) ∙ (ap length kept ∙ length-map es (λ e. 0))
-
-  -- with as many items as entries, each entry has one
-  with_items-generations : (i : ℕ) (slots : List (Option (ℕ × U))) (items : List T) → length items ≡ length (entries_from i slots) → (k : ℕ)
-      → option_map (λ (e : ℕ × T). e.0) (get_or (with_items slots items) k None) ≡ option_map (λ (e : ℕ × U). e.0) (get_or slots k None)
-  with_items-generations i [] items count k = refl
-  with_items-generations i (None ∷ slots) items count zero = refl
-  with_items-generations i (None ∷ slots) items count (suc k) = with_items-generations (i + 1) slots items count k
-  with_items-generations i (Some e ∷ slots) [] count k = absurd (omega arith)
-  with_items-generations i (Some e ∷ slots) (item ∷ items) count zero = refl
-  with_items-generations i (Some e ∷ slots) (item ∷ items) count (suc k) = with_items-generations (i + 1) slots items (omega arith) k
+-- with as many items as entries, each entry has one
+with_items-generations : {T U : Type 0} (i : ℕ) (slots : List (Option (ℕ × U))) (items : List T) → length items ≡ length (entries_from i slots) → (k : ℕ)
+    → option_map (λ (e : ℕ × T). e.0) (get_or (with_items slots items) k None) ≡ option_map (λ (e : ℕ × U). e.0) (get_or slots k None)
+with_items-generations i [] items count k = refl
+with_items-generations i (None ∷ slots) items count zero = refl
+with_items-generations i (None ∷ slots) items count (suc k) = with_items-generations (i + 1) slots items count k
+with_items-generations i (Some e ∷ slots) [] count k = absurd (omega arith)
+with_items-generations i (Some e ∷ slots) (item ∷ items) count zero = refl
+with_items-generations i (Some e ∷ slots) (item ∷ items) count (suc k) = with_items-generations (i + 1) slots items (omega arith) k
 
 -- whether a pointer finds an item is told by the entry's generation
 abbrev has_generation : ℕ → Option ℕ → Bool
@@ -156,8 +144,10 @@ pub clone-pointers : {P U T F : Type 0} (numbers : P → ℕ × ℕ) (step : F �
 clone-pointers numbers step f source old new c =
     let n = max (arena_capacity old) (greatest_occupied source.slots) + 1 in
     let made = with_items source.slots c.items in
-    let count = clones-counted numbers step (entries_rising source 0) f c.last c.items c.calls in
-    let told = with_items-generations numbers step 0 source.slots c.items (omega (arith, count)) in
+    let es = entries_rising source 0 in
+    let kept = clones-keep {K = ℕ} numbers step (λ u. 0) (λ x. 0) (λ f p u x g called. refl) es f c.last [] c.items c.calls in
+    let count : length c.items ≡ length es = sym (length-map c.items (λ x. 0)) ∙ (ap length kept ∙ length-map es (λ e. 0)) in
+    let told = with_items-generations 0 source.slots c.items count in
     λ p.
     let free : (k : ℕ) → n ≤ k → get_or made k None ≡ None =
     λ k past. none-from_generation (get_or made k None) (told k ∙ ap (option_map (λ e. e.0)) (greatest_occupied-above source.slots k (omega arith))) in
@@ -165,7 +155,12 @@ clone-pointers numbers step f source old new c =
     ∙ (ap (has_generation p.1) (ap (option_map (λ e. e.0)) (ap (λ ss. get_or ss p.0 None) c.after.slots ∙ resized-same n made free p.0) ∙ told p.0)
     ∙ sym (is_some-item_if p.1 (get_or source.slots p.0 None)))
 
+-- so each pointer finds the same in both
 pub copy-found : {P U F E : Type 0} (numbers : P → ℕ × ℕ) (step : F → P → U → U → F → Type 0) → ((f : F) (p : P) (u : U) (x : U) (g : F) → step f p u x g → x ≡ u)
     → (r : Result (Unit {0}) E) (f : F) (source old new : Arena U) → OnOk r (IsClone numbers step f source old new) → OnOk r (FindSame new source)
-copy-found numbers step answers (Ok x) f source old new c = clone-finds source old new (clone-given_back numbers step answers f source old new c)
+copy-found numbers step answers (Ok x) f source old new c = λ p.
+    let same = clone-given_back numbers step answers f source old new c in
+    let n = max (arena_capacity old) (greatest_occupied source.slots) + 1 in
+    ap (item_if p.1) (ap (λ ss. get_or ss p.0 None) same.slots
+    ∙ resized-same n source.slots (λ k past. greatest_occupied-above source.slots k (omega arith)) p.0)
 copy-found numbers step answers (Err e) f source old new c = tt

@@ -1,15 +1,14 @@
 -- How far a clone has come, and the arena that it leaves.
 use Rattle.arena_base.proofs.Words.{◌≡◌, ℕ, zero, suc, ◌+◌, ◌<◌, ◌≤◌, Option, Some, None, List, [], ◌∷◌, ◌++◌, length, get_or, replicate, take, ◌-◌, refl}
-use Rattle.arena_base.proofs.Words.{arith, drop, map, sym, ap, ◌∙◌, subst, reverse, max, Result, Ok, Err, FoldsTo-push, length-map, drop_more, append_assoc}
-use Rattle.arena_base.proofs.Words.{map_push, append-nil, get_or-drop, none-some, same_Some, FoldsTo, OnOk, OnErr, AllocError, Inside, Generations, Indexes}
-use Rattle.arena_base.proofs.Words.{Slot, Occupied, Vacant, vacant_from, Arena, IsSound, resized, greatest_occupied, IsFresh, arena_capacity, IsLawful}
-use Rattle.arena_base.proofs.Words.{CloneStep, IsClone, IsRefusedClone, StopsAtRefusal, Grants, with_items, replaced, ClonesSlots, IsLawfulGeneration, entry_in}
-use Rattle.arena_base.proofs.Words.{vacant_slots, arena_of, entries_from, entries_rising}
+use Rattle.arena_base.proofs.Words.{arith, drop, map, sym, ap, ◌∙◌, reverse, max, Result, Ok, Err, FoldsTo-push, length-map, drop_more, append_assoc, map_push}
+use Rattle.arena_base.proofs.Words.{append-nil, get_or-drop, none-some, FoldsTo, OnOk, OnErr, AllocError, Inside, Generations, Indexes, Slot, Occupied, Vacant}
+use Rattle.arena_base.proofs.Words.{vacant_from, Arena, IsSound, resized, greatest_occupied, arena_capacity, IsLawful, CloneStep, IsClone, IsRefusedClone}
+use Rattle.arena_base.proofs.Words.{StopsAtRefusal, Grants, with_items, replaced, ClonesSlots, entry_in, vacant_slots, arena_of, entries_from, entries_rising}
 use Rattle.arena_base.proofs.Occupied.{greatest_occupied-above}
 use Rattle.arena_base.proofs.Positions.{entries}
 use Rattle.arena_base.proofs.Resizing.{resized-cons, resized-again, resized-some, length-resized, entries-padded}
-use Rattle.arena_base.proofs.Soundness.{AreLawful}
-use Rattle.arena_base.proofs.Steps.{stored, capacity-is, relisted, relisted-fresh, relisted-sound}
+use Rattle.arena_base.proofs.Soundness.{AreLawful, lawful-some}
+use Rattle.arena_base.proofs.Steps.{stored, capacity-is, relisted, relisted-sound}
 
 module _ {X : Type 0} where
   -- where no slot has an entry, none is cloned
@@ -89,25 +88,26 @@ module _ {P T U G F : Type 0} {numbers : P → ℕ × ℕ} {number : G → ℕ} 
         }
 
 -- a call was refused
-pub cloned-refused : {P T U G F : Type 0} {numbers : P → ℕ × ℕ} {number : G → ℕ} {step : F → P → U → Result T AllocError → F → Type 0} {first : F}
-    {source : List (Option (ℕ × U))} {f : F} {slots : List (Slot T G)} {i : ℕ} → ClonedBelow numbers number (Grants numbers step) first source f slots i → i < length source
-    → (e : ℕ) (u : U) (p : P) (refusal : AllocError) (next : F) → get_or source i None ≡ Some (e, u) → (numbers p).0 ≡ i → (numbers p).1 ≡ e → step f p u (Err refusal) next
-    → StopsAtRefusal numbers step first (entries_from 0 source)
-cloned-refused {source = source} {i = i} b inside e u p refusal next there p_index p_generation called = record {
-  before = b.before;
-  refused = (i, e, u);
-  behind = entries_from (i + 1) (drop (i + 1) source);
-  split = b.split ∙ ap (λ ss. b.before ++ entries_from i ss) (opened b inside (Some (e, u)) there);
-  items = b.items;
-  reached = _;
-  calls = b.calls;
-  pointer = p;
-  index = p_index;
-  generation = p_generation;
-  refusal = refusal;
-  last = next;
-  called = called;
-}
+module _ {P T U G F : Type 0} {numbers : P → ℕ × ℕ} {number : G → ℕ} {step : F → P → U → Result T AllocError → F → Type 0} {first : F}
+    {source : List (Option (ℕ × U))} {f : F} {slots : List (Slot T G)} {i : ℕ} (b : ClonedBelow numbers number (Grants numbers step) first source f slots i)
+    (inside : i < length source) where
+  pub cloned-refused : (e : ℕ) (u : U) (p : P) (refusal : AllocError) (next : F) → get_or source i None ≡ Some (e, u) → (numbers p).0 ≡ i
+      → (numbers p).1 ≡ e → step f p u (Err refusal) next → StopsAtRefusal numbers step first (entries_from 0 source)
+  cloned-refused e u p refusal next there p_index p_generation called = record {
+    before = b.before;
+    refused = (i, e, u);
+    behind = entries_from (i + 1) (drop (i + 1) source);
+    split = b.split ∙ ap (λ ss. b.before ++ entries_from i ss) (opened b inside (Some (e, u)) there);
+    items = b.items;
+    reached = f;
+    calls = b.calls;
+    pointer = p;
+    index = p_index;
+    generation = p_generation;
+    refusal = refusal;
+    last = next;
+    called = called;
+  }
 
 -- an entry with another item has the generation of the source's
 with_items-lawful : {T U : Type 0} (greatest : Option ℕ) (slots : List (Option (ℕ × U))) (items : List T)
@@ -116,9 +116,7 @@ with_items-lawful greatest [] items lawful k e is = absurd (none-some e is)
 with_items-lawful greatest (None ∷ slots) items lawful zero e is = absurd (none-some e is)
 with_items-lawful greatest (None ∷ slots) items lawful (suc k) e is = with_items-lawful greatest slots items (λ j. lawful (suc j)) k e is
 with_items-lawful greatest (Some s ∷ slots) [] lawful k e is = absurd (none-some e is)
-with_items-lawful greatest (Some s ∷ slots) (item ∷ items) lawful zero e is =
-    let same : ◌≡◌ {A = ℕ × _} (s.0, item) e = same_Some (s.0, item) e is in
-    subst (λ (x : ℕ × _). IsLawfulGeneration greatest x.0) same (lawful 0 s refl)
+with_items-lawful greatest (Some s ∷ slots) (item ∷ items) lawful zero e is = lawful-some greatest (s.0, item) (lawful 0 s refl) e is
 with_items-lawful greatest (Some s ∷ slots) (item ∷ items) lawful (suc k) e is = with_items-lawful greatest slots items (λ j. lawful (suc j)) k e is
 
 -- The slots that a clone leaves in memory, and the arena that they are: vacant ones come behind those that were cloned.
@@ -159,9 +157,6 @@ module _ {P T A U Inx Gen F : Type 0} (numbers : P → ℕ × ℕ) (gen : Genera
       relisted gen inx next listed generation s.maximum all
       ∙ (ap (λ (ss : List (Option (ℕ × T))). record { slots = ss; vacant = vacant_from 1 (drop 1 ss); generation = gen.number generation; maximum = s.maximum }) shape
       ∙ rw (same, named, ← seen) refl)
-
-  pub clone-fresh : IsFresh after
-  clone-fresh = relisted-fresh gen inx next listed generation s.maximum all
 
   pub clone-whole : (r : Result (Unit {0}) AllocError) → Cloned r → OnOk r (IsClone numbers (Grants numbers step) f source a after)
   clone-whole (Err e) p = tt

@@ -2,12 +2,12 @@
 use Rattle.arena_base.proofs.Words.{◌≡◌, ℕ, zero, suc, ◌+◌, ◌<◌, ◌≤◌, Option, Some, None, List, [], ◌∷◌, ◌++◌, length, get_or, set, replicate, ◌-◌, refl, arith}
 use Rattle.arena_base.proofs.Words.{drop, map, sym, ap, ◌∙◌, subst, reverse, chained_keeps, length-set, length-append, length-map, length-replicate, drop_more}
 use Rattle.arena_base.proofs.Words.{drop_all, set_at, get_or_at, append_assoc, map_push, length_push, append-nil, map-id, none-some, same_Some, map-map}
-use Rattle.arena_base.proofs.Words.{FoldsTo, Inside, Generations, Indexes, Slot, Occupied, Vacant, Arena, IsSound, limit_of, resized, HoldsSame, IsFresh}
+use Rattle.arena_base.proofs.Words.{FoldsTo, Inside, Generations, Indexes, Slot, Occupied, Vacant, Arena, IsSound, limit_of, resized, HoldsSame}
 use Rattle.arena_base.proofs.Words.{CompressionStep, IsCompression, compressed, items_rising, CompressesSlots, IsLawfulGeneration, entry_in, vacant_slots}
 use Rattle.arena_base.proofs.Words.{arena_of, slot_entry, entries_from, entries_rising}
 use Rattle.arena_base.proofs.Positions.{entries}
 use Rattle.arena_base.proofs.Resizing.{resized-cons, length-resized, resized-some, entries-padded}
-use Rattle.arena_base.proofs.Steps.{stored, relisted-fresh, relisted-sound}
+use Rattle.arena_base.proofs.Steps.{stored, relisted-sound}
 
 module _ {P T G F : Type 0} (numbers : P → ℕ × ℕ) (number : G → ℕ) (step : F → P → T → P → T → F → Type 0) (generation : G) where
   abbrev filled : List T → List (Slot T G)
@@ -199,18 +199,13 @@ module _ {T Gen : Type 0} (gen : Generations Gen) (n : ℕ) (next : List (Slot T
       entries-padded gen.number n filled next (rw (← long) at is) (omega arith)
       ∙ ap (resized n) (map-map (entry_in gen.number) (λ item. Occupied item generation) items)
 
-  module _ {Inx : Type 0} (inx : Indexes Inx) (listed : List Inx) (maximum : Option ℕ) (all : map inx.number listed ≡ reverse (vacant_slots 1 next)) where
-    pub compressed-fresh : IsFresh (arena_of gen.number next (map inx.number listed) generation maximum)
-    compressed-fresh = relisted-fresh gen inx next listed generation maximum all
-
-    pub compressed-sound : IsLawfulGeneration gen.greatest (gen.number generation) → n ≤ limit_of inx.most maximum
-        → IsSound inx.most gen.greatest (arena_of gen.number next (map inx.number listed) generation maximum)
-    compressed-sound lawful within =
-        relisted-sound gen inx next listed generation maximum all
-        (omega (arith, ap length entries-compressed, length-map next (entry_in gen.number), length-resized n made))
-        lawful
-        (λ k e there. rw (get_or-compressed (gen.number generation) items k e
-        (resized-some n made k e (rw entries-compressed at there))) at lawful)
+  pub compressed-sound : {Inx : Type 0} (inx : Indexes Inx) (listed : List Inx) (maximum : Option ℕ) → map inx.number listed ≡ reverse (vacant_slots 1 next)
+      → IsLawfulGeneration gen.greatest (gen.number generation) → n ≤ limit_of inx.most maximum
+      → IsSound inx.most gen.greatest (arena_of gen.number next (map inx.number listed) generation maximum)
+  compressed-sound inx listed maximum all lawful within =
+      relisted-sound gen inx next listed generation maximum all
+      (omega (arith, ap length entries-compressed, length-map next (entry_in gen.number), length-resized n made)) lawful
+      (λ k e there. rw (get_or-compressed (gen.number generation) items k e (resized-some n made k e (rw entries-compressed at there))) at lawful)
 
 pub compressed-after : {P T A Inx Gen F : Type 0} (numbers : P → ℕ × ℕ) (gen : Generations Gen) (inx : Indexes Inx) (step : F → P → T → P → T → F → Type 0)
     (s : Inside P T A Inx Gen) (next : List (Slot T Gen)) (listed : List Inx) (f : F) (a : Arena T) (g : ℕ)

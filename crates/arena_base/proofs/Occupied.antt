@@ -33,19 +33,16 @@ module _ {X : Type 0} where
         | inr none ↦ none_past slots i none
       ]
 
-  found : (slots : List (Option X)) → list_any is_some slots ≡ true → ((k : ℕ) → get_or slots k None ≡ None) → ⊥
-  found [] h free = false≢true h
-  found (None ∷ slots) h free = found slots h (λ k. free (suc k))
-  found (Some x ∷ slots) h free = none-some x (sym (free 0))
+  any-none : (slots : List (Option X)) → ((k : ℕ) → get_or slots k None ≡ None) → list_any is_some slots ≡ false
+  any-none [] free = refl
+  any-none (None ∷ slots) free = any-none slots (λ k. free (suc k))
+  any-none (Some x ∷ slots) free = absurd (none-some x (sym (free 0)))
 
   -- an index with an entry, beyond which there is none, is the greatest
   pub greatest_occupied-is : (slots : List (Option X)) (i : ℕ) (e : X) → get_or slots i None ≡ Some e → ((k : ℕ) → i < k → get_or slots k None ≡ None) → greatest_occupied slots ≡ i
   greatest_occupied-is [] i e is above = absurd (none-some e is)
   greatest_occupied-is (s ∷ slots) zero e is above =
-      elim (cases_Bool (list_any is_some slots)) [
-        | inl some ↦ absurd (found slots some (λ k. above (suc k) (omega arith)))
-        | inr none ↦ ap (λ b. cond b (greatest_occupied slots + 1) 0) none
-      ]
+      ap (λ b. cond b (greatest_occupied slots + 1) 0) (any-none slots (λ k. above (suc k) (omega arith)))
   greatest_occupied-is (s ∷ slots) (suc i) e is above =
       let ih = greatest_occupied-is slots i e is (λ k h. above (suc k) (omega arith)) in
       ap (λ b. cond b (greatest_occupied slots + 1) 0) (some_within slots i e is) ∙ omega (arith, ih)
@@ -79,10 +76,7 @@ module _ {X : Type 0} where
   pub greatest_occupied-none : (slots : List (Option X)) → count_by is_some slots ≡ 0 → greatest_occupied slots ≡ 0
   greatest_occupied-none [] h = refl
   greatest_occupied-none (s ∷ slots) h =
-      elim (cases_Bool (list_any is_some slots)) [
-        | inl some ↦ absurd (found slots some (λ k. none_counted (s ∷ slots) (suc k) h))
-        | inr none ↦ ap (λ b. cond b (greatest_occupied slots + 1) 0) none
-      ]
+      ap (λ b. cond b (greatest_occupied slots + 1) 0) (any-none slots (λ k. none_counted (s ∷ slots) (suc k) h))
 
   -- where there is no entry, none is counted
   pub counted_none : (slots : List (Option X)) → ((k : ℕ) → get_or slots k None ≡ None) → count_by is_some slots ≡ 0
@@ -106,10 +100,6 @@ module _ {T G : Type 0} (number : G → ℕ) where
   pub is_some-slot_entry : (s : Slot T G) → is_some (entry_in number s) ≡ true → is_some (slot_entry s) ≡ true
   is_some-slot_entry (Occupied item era) h = h
   is_some-slot_entry Vacant h = h
-
-  pub is_some-entry_in : (s : Slot T G) → is_some (slot_entry s) ≡ true → is_some (entry_in number s) ≡ true
-  is_some-entry_in (Occupied item era) h = h
-  is_some-entry_in Vacant h = h
 
   pub entry_in-slot_entry : (s : Slot T G) (e : G × T) → slot_entry s ≡ Some e → entry_in number s ≡ Some (number e.0, e.1)
   entry_in-slot_entry (Occupied item era) e is = ap (option_map (λ (x : G × T). (number x.0, x.1))) is

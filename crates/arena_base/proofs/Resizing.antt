@@ -93,34 +93,18 @@ module _ {T G : Type 0} (number : G → ℕ) (n : ℕ) (slots padded : List (Slo
         let same = resized-same n (entries number slots) beyond k in
         false≢true (ap is_some (sym none ∙ (ap (λ ss. get_or ss k None) entries-resized ∙ same)) ∙ there)
 
-module _ {P T A Inx Gen : Type 0} (gen : Generations Gen) (inx : Indexes Inx) (s : Inside P T A Inx Gen) (listed : List Inx) where
-  module _ (n : ℕ) (padded : List (Slot T Gen)) (is : padded ≡ s.slots.items ++ replicate (n - length s.slots.items) Vacant)
-      (all : map inx.number listed ≡ reverse (vacant_slots 1 (take n padded))) where
-    pub resized-view : (a : Arena T) → stored gen inx s s.slots.items s.vacant.items ≡ a → stored gen inx s (take n padded) listed ≡ with_capacity a n
-    resized-view a view =
-        relisted gen inx (take n padded) listed s.generation s.maximum all
-        ∙ rw (← view, entries-resized gen.number n s.slots.items padded is, resized-cons) refl
+module _ {P T A Inx Gen : Type 0} (gen : Generations Gen) (inx : Indexes Inx) (s : Inside P T A Inx Gen) (listed : List Inx)
+    (n : ℕ) (padded : List (Slot T Gen)) (is : padded ≡ s.slots.items ++ replicate (n - length s.slots.items) Vacant)
+    (all : map inx.number listed ≡ reverse (vacant_slots 1 (take n padded))) where
+  pub resized-view : (a : Arena T) → stored gen inx s s.slots.items s.vacant.items ≡ a → stored gen inx s (take n padded) listed ≡ with_capacity a n
+  resized-view a view =
+      relisted gen inx (take n padded) listed s.generation s.maximum all
+      ∙ rw (← view, entries-resized gen.number n s.slots.items padded is, resized-cons) refl
 
-    pub resized-sound : Sound gen inx s (stored gen inx s s.slots.items s.vacant.items) → n ≤ limit_of inx.most s.maximum → Sound gen inx s (stored gen inx s (take n padded) listed)
-    resized-sound sound within =
-        relisted-sound gen inx (take n padded) listed s.generation s.maximum all (omega (arith, length-take n padded)) sound.generation_lawful
-        (λ k e there. sound.entries_lawful (suc k) e (resized-some n (entries gen.number s.slots.items) k e (rw (entries-resized gen.number n s.slots.items padded is) at there)))
-
-  module _ (next : List (Slot T Gen)) (is : next ≡ replicate (length s.slots.items - 0) Vacant) (all : map inx.number listed ≡ reverse (vacant_slots 1 next)) where
-    entries-emptied : entries gen.number next ≡ replicate (length (entries gen.number s.slots.items)) None
-    entries-emptied =
-        let same : length s.slots.items - 0 ≡ length (entries gen.number s.slots.items) = omega (arith, length-map s.slots.items (entry_in gen.number)) in
-        rw (is, map-replicate, same) refl
-
-    pub emptied-view : (a : Arena T) → stored gen inx s s.slots.items s.vacant.items ≡ a → stored gen inx s next listed ≡ emptied a
-    emptied-view a view = relisted gen inx next listed s.generation s.maximum all ∙ rw (← view, entries-emptied) refl
-
-    pub emptied-sound : Sound gen inx s (stored gen inx s s.slots.items s.vacant.items) → Sound gen inx s (stored gen inx s next listed)
-    emptied-sound sound =
-        relisted-sound gen inx next listed s.generation s.maximum all
-        (rw is (omega (arith, sound.within_limit, length-replicate {A = Slot T Gen} (length s.slots.items - 0) Vacant, length-map s.slots.items (entry_in gen.number))))
-        sound.generation_lawful
-        (λ k e there. absurd (none-some e (sym (get_or-padded [] (length (entries gen.number s.slots.items)) k None) ∙ rw entries-emptied at there)))
+  pub resized-sound : Sound gen inx s (stored gen inx s s.slots.items s.vacant.items) → n ≤ limit_of inx.most s.maximum → Sound gen inx s (stored gen inx s (take n padded) listed)
+  resized-sound sound within =
+      relisted-sound gen inx (take n padded) listed s.generation s.maximum all (omega (arith, length-take n padded)) sound.generation_lawful
+      (λ k e there. sound.entries_lawful (suc k) e (resized-some n (entries gen.number s.slots.items) k e (rw (entries-resized gen.number n s.slots.items padded is) at there)))
 
 -- a greater capacity leaves a slot vacant
 pub with_capacity-room : {T : Type 0} (a : Arena T) (n : ℕ) → take 1 a.slots ≡ None ∷ [] → length a.slots - 1 < n → 0 < length (with_capacity a n).vacant
@@ -132,19 +116,27 @@ with_capacity-room a n begins more = room a.slots begins more
     room (None ∷ slots) begins more =
         rw (resized-cons n slots) (omega (arith, length-vacant_from-padded 1 (n - length slots) (take n slots)))
 
--- the slots of an arena that was made with room
-module _ {T Inx Gen : Type 0} (gen : Generations Gen) (inx : Indexes Inx) (two : Gen) (first : gen.number two ≡ first_generation gen.greatest)
-    (n : ℕ) (next : List (Slot T Gen)) (is : next ≡ [] ++ replicate (n - 0) Vacant) (listed : List Inx) (all : map inx.number listed ≡ reverse (vacant_slots 1 next)) where
+-- slots of which none has an entry: n were added to none
+module _ {T Inx Gen : Type 0} (gen : Generations Gen) (inx : Indexes Inx) (n : ℕ) (next : List (Slot T Gen)) (is : next ≡ [] ++ replicate (n - 0) Vacant)
+    (listed : List Inx) (all : map inx.number listed ≡ reverse (vacant_slots 1 next)) where
   pub made-length : length next ≡ n
   made-length = omega (arith, ap length is, length-replicate {A = Slot T Gen} (n - 0) Vacant)
 
   entries-made : entries gen.number next ≡ resized n []
   entries-made = entries-padded gen.number n [] next is (omega arith)
 
-  pub made-view : arena_of gen.number next (map inx.number listed) two None ≡ with_capacity (new_arena gen.greatest) n
-  made-view = relisted gen inx next listed two None all ∙ rw (entries-made, first, resized-cons) refl
+  pub made-view : (two : Gen) → gen.number two ≡ first_generation gen.greatest
+      → arena_of gen.number next (map inx.number listed) two None ≡ with_capacity (new_arena gen.greatest) n
+  made-view two first = relisted gen inx next listed two None all ∙ rw (entries-made, first, resized-cons) refl
 
-  pub made-sound : IsLawfulGeneration gen.greatest (gen.number two) → n ≤ inx.most → IsSound inx.most gen.greatest (arena_of gen.number next (map inx.number listed) two None)
-  made-sound lawful within =
-      relisted-sound gen inx next listed two None all (omega (arith, made-length)) lawful
+  pub made-sound : (generation : Gen) (maximum : Option ℕ) → IsLawfulGeneration gen.greatest (gen.number generation) → n ≤ limit_of inx.most maximum
+      → IsSound inx.most gen.greatest (arena_of gen.number next (map inx.number listed) generation maximum)
+  made-sound generation maximum lawful within =
+      relisted-sound gen inx next listed generation maximum all (omega (arith, made-length)) lawful
       (λ k e there. absurd (none-some e (resized-some n [] k e (rw entries-made at there))))
+
+  pub emptied-view : {P A : Type 0} (s : Inside P T A Inx Gen) → n ≡ length s.slots.items → (a : Arena T) → stored gen inx s s.slots.items s.vacant.items ≡ a
+      → stored gen inx s next listed ≡ emptied a
+  emptied-view s whole a view =
+      let same : n - 0 ≡ length (entries gen.number s.slots.items) = omega (arith, whole, length-map s.slots.items (entry_in gen.number)) in
+      relisted gen inx next listed s.generation s.maximum all ∙ rw (← view, is, map-replicate (entry_in gen.number) (n - 0) Vacant, same) refl

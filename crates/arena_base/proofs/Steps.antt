@@ -95,7 +95,8 @@ module _ {P T A Inx Gen : Type 0} (gen : Generations Gen) (inx : Indexes Inx) (s
         pub taken-sound : Sound (stored s.slots.items s.vacant.items) → is_some (slot a i) ≡ true → Sound (stored (set s.slots.items k x) stack)
         taken-sound sound there =
             rw (empty, pushed, map_push, reverse-append, map-set, same, found.number)
-            (sound-set inx.most gen.greatest (entries gen.number s.slots.items) _ _ s.maximum sound k None _ inside-entries (λ e is. absurd (none-some e is)) (rw (vacant_from-some (k + 1) _ (was-there there)) refl))
+            (sound-set inx.most gen.greatest (entries gen.number s.slots.items) _ _ s.maximum sound k None _ inside-entries (λ e is. absurd (none-some e is))
+            (rw (vacant_from-some (k + 1) _ (was-there there)) refl))
 
   -- the index on top of the stack is taken next
   module _ (a : Arena T) (view : stored s.slots.items s.vacant.items ≡ a) (sound : Sound (stored s.slots.items s.vacant.items))

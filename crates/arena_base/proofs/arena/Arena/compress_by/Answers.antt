@@ -1,5 +1,6 @@
 use Rattle.arena_base.proofs.Words.{length, arith, ◌∙◌, length-map, entry_in}
-use Rattle.arena_base.proofs.Compressing.{compressed-after, compressed-sound, compressed-fresh}
+use Rattle.arena_base.proofs.Compressing.{compressed-after, compressed-sound}
+use Rattle.arena_base.proofs.Steps.{relisted-fresh}
 use Rattle.arena_base.proofs.arena.Arena.compress_by.Goals as goal
 
 pub invariant_of-self : goal.invariant_of-self
@@ -20,7 +21,5 @@ returns-clause-after g c =
 
 pub returns-clause-fresh : goal.returns-clause-fresh
 returns-clause-fresh g c =
-    let s = c.self.inside in
-    let p = c.move_down.ensures.items in
     let all = rw c.as_slice.ensures.value at c.list_vacant.ensures.items in
-    compressed-fresh g.P.Gen.PtrGen (length s.slots.items) c.move_down.new.slots.items s.generation p.items p.fits p.after g.P.Inx.PtrInx _ s.maximum all
+    relisted-fresh g.P.Gen.PtrGen g.P.Inx.PtrInx c.move_down.new.slots.items _ c.self.inside.generation c.self.inside.maximum all

@@ -1,6 +1,6 @@
 -- `get_inx_mut` by hand: it asks whether there is an entry, by `occupied`, and wraps what `pair_mut` gives. What comes back of the write is
 -- what `pair_mut` says of it, and where nothing is found the container is as it was.
-use Rattle.std.proofs.Common.{◌≡◌, ℕ, List, [], ◌∷◌, refl, sym, ap, lit<, MutBor, Bool, ◌∙◌, Option, Some, None, is_some, false, true, subst, ◌&&◌}
+use Rattle.std.proofs.Common.{◌≡◌, ℕ, List, [], ◌∷◌, refl, sym, ap, lit<, MutBor, Bool, ◌∙◌, Option, Some, None, is_some, false, true, subst}
 use Rattle.std.proofs.VecSteps.Element.{Some-of, none_of}
 use Rattle.std.proofs.VecSteps.Shapes.{after}
 use Rattle.std.proofs.raw_atomic.Walks.{proved, leaves}
@@ -12,6 +12,7 @@ use contract.BorrowLft.{◌⊑◌}
 use contract.Monad.{fact, fact_i}
 use contract.Running.{tables}
 use denote.Exit.{no}
+use denote.Floats.{is_true}
 use denote.Follow.{follows, follows_by}
 use denote.Laws.{shows, Is}
 use denote.Param.{param, copied, bounded}
@@ -31,6 +32,7 @@ use denote.Triple.Walked.{Stays, walk_of, stay_dropped, Goes-dropped, Goes-spent
 use lib.Dec.{T}
 use mathlib.Core.Bool.{not}
 use mathlib.Core.List.{◌++◌}
+use mir.Facts.{yes_and}
 use mir.MapTy.{inst_fn}
 use mir.Syntax.{named, Fn, a_type, dcons, dnil}
 use mir.Val.{vptr, vbool, Val, vstruct, of_list}
@@ -44,18 +46,10 @@ use Rattle.arena_base.proofs.items_mut.ItemsMut.get_inx_mut.Code as code
 use Rattle.arena_base.specs.contracts.items_mut.occupied as test
 use Rattle.arena_base.specs.contracts.items_mut.ItemsMut.pair_mut as pair
 
--- a test that holds, one that doesn't, and the form in which a pair is typed
-is_true : (b : Bool) → T b → b ≡ true
-is_true true t = refl
-is_true false t = absurd t
-
+-- a test that doesn't hold
 is_false : (b : Bool) → T (not b) → b ≡ false
 is_false true t = absurd t
 is_false false t = refl
-
-and_tt : (b : Bool) → T b → T (b && true)
-and_tt true t = tt
-and_tt false t = absurd t
 
 -- an option that isn't there is `None`
 is_none : {X : Type 0} (o : Option X) → is_some o ≡ false → None ≡ o
@@ -165,18 +159,18 @@ get_inx_mut_spec {M} 𝓤 𝓛 𝓜 𝓡 wired S P T I G LS LP LT LI LG CP CI CG
     let word = vstruct (of_list (era ∷ vptr e.1.ref_ptr.0 e.1.ref_ptr.1 ∷ [])) in
     let is_pair : v' ≡ word = ap only is_v' ∙ ap (λ (ns : List Val). vstruct (of_list (ns ++ (us'.1.0 ++ [])))) era_is ∙ ap (λ (ns : List
     Val). vstruct (of_list (era ∷ (ns ++ [])))) (mut_Tells (named 0) κs.0 Item e.1 us'.1.0 is_lent) in
-    let typed = and_tt _ era_fits.0 in
+    let typed = yes_and _ true era_fits.0 tt in
     -- [the reference; nothing; the generation; the tokens; the rest]
     lands_as ! is_pair refl (typed, (era_fits.1, (tt, tt))) $
     sets_last ! (agg ! (and_then ! (lit ! tt) (and_then ! (get ! refl) (no_more !)))) refl (
-      and_tt _ typed,
+      yes_and _ true typed tt,
       (
         record { fits = lit< tt },
         ((era_fits.1, (tt, tt)), tt),
       ),
     ) $
     exec ! (tables 𝓤 𝓛.H 𝓜 𝓡 𝓡.env).C (tables 𝓤 𝓛.H 𝓜 𝓡 𝓡.env).Λ (env fn.locals l) (after 6 fn.body) (at_ret _ (W.post x)) $
-    sets ! (of_opd ! (get ! refl)) refl (and_tt _ typed, (record { fits = lit< tt }, ((era_fits.1, (tt, tt)), tt))) $
+    sets ! (of_opd ! (get ! refl)) refl (yes_and _ true typed tt, (record { fits = lit< tt }, ((era_fits.1, (tt, tt)), tt))) $
     returns ! (look_at ! 0 refl) $ free_all ! refl $ keep ! (0 ∷ 1 ∷ 2 ∷ 3 ∷ 4 ∷ []) $
     fjoin ! $ move ! (1 ∷ 0 ∷ []) $ fjoin ! $ feq_i ! (List Val) (word ∷ []) (vstruct (of_list (us'.0 ++ (us'.1.0 ++ []))) ∷ []) (ap (λ
     (u : Val). u ∷ []) (sym is_pair) ∙ is_v') $ fjoin ! $

@@ -29,7 +29,8 @@ invariant_of-self-lent g c = λ w.
     let old = c.index_mut-slot.result.now in (
       written-sound g.P.Gen.PtrGen g.P.Inx.PtrInx c.self.inside _ c.self.view_is _ _ here (with_slot_item old w) (λ e. (e.0, w))
           (rw was (entry_in-with_slot_item g.P.Gen.PtrGen.number old w)) c.self.invariant.0 c.requires
-          (subst (λ v. ForSome (slot v (g.P.Inx.PtrInx.number c.args.i)) (λ e. IsLawfulGeneration g.P.Gen.PtrGen.greatest e.0)) c.self.view_is (c.self.invariant.0.entries_lawful (g.P.Inx.PtrInx.number c.args.i))),
+          (subst (λ v. ForSome (slot v (g.P.Inx.PtrInx.number c.args.i)) (λ e. IsLawfulGeneration g.P.Gen.PtrGen.greatest e.0)) c.self.view_is
+          (c.self.invariant.0.entries_lawful (g.P.Inx.PtrInx.number c.args.i))),
       c.self.invariant.1,
     )
 
