@@ -13,7 +13,7 @@ use Rattle.triple_ord.specs.Search.{order_to, pointer, Fits, FindsSimilar}
 use Rattle.triple_ord.specs.Order.{IsInOrder}
 use Rattle.triple_ord.specs.Hint.{position_of, way_length}
 use Rattle.triple_ord.specs.Steps.{neighbour_towards, CameFrom, IsStepping}
-use Rattle.triple_ord.proofs.Cuts.{last_or-append, begins, ends, stands, IsLinked, link-read, entry_at-here}
+use Rattle.triple_ord.proofs.Cuts.{last_or-append, begins, ends, some_last, stands, IsLinked, link-read, entry_at-here}
 use Rattle.triple_ord.proofs.Ordered.{stands-before, stands-behind}
 
 -- a gap has a neighbour on each side where there are entries
@@ -21,13 +21,9 @@ after-count : {X : Type 0} (back : List X) → (present (first_of back) ≡ 1) �
 after-count [] = inr (refl, refl)
 after-count (x ∷ back) = inl refl
 
-before-some : {X : Type 0} (x : X) (xs : List X) → present (last_or (Some x) xs) ≡ 1
-before-some x [] = refl
-before-some x (y ∷ ys) = before-some y ys
-
 before-count : {X : Type 0} (front : List X) → (present (last_or None front) ≡ 1) ⊎ ((present (last_or None front) ≡ 0) × (length front ≡ 0))
 before-count [] = inr (refl, refl)
-before-count (x ∷ front) = inl (before-some x front)
+before-count (x ∷ front) = inl (ap present (some_last x front).1)
 
 -- the entry whose index is read
 read_index : {T : Type 0} (o : Option (Entry T)) (j : ℕ) → option_map (λ e. e.index) o ≡ Some j → (e : Entry T) × (o ≡ Some e) × (e.index ≡ j)
