@@ -163,19 +163,6 @@ owed (Some x) fact = fact
 -- what the calls return of these changes
 module _ {T : Type 0} where
   module _ (greatest : Option ℕ) (old new : Tree T) (distinct : IsDistinct old.list.entries) where
-    -- of a removal of the entry that a pointer finds
-    module _ {X : Type 0} (p : ℕ × ℕ) (there : IsSome (item_of old p)) (f : X → ℕ × T) where
-      taken_out : (o : Option X) → option_map f o ≡ entry_at old p.0 → OnSome o (new.list ≡ removed greatest old.list p.0) → new.list ≡ removed greatest old.list p.0
-      taken_out None value after = absurd (let none : item_of old p ≡ None = rw (← value) refl in cc)
-      taken_out (Some e) value after = after
-
-      pub updates-taken : (o : Option X) → option_map f o ≡ entry_at old p.0 → OnSome o (new.list ≡ removed greatest old.list p.0) → Updates old new p None
-      updates-taken o value after = updates-removed greatest old new p distinct there (taken_out o value after)
-
-      pub count-taken : {Y : Type 0} (o : Option X) (r : Option Y) → option_map f o ≡ entry_at old p.0
-          → OnSome o (new.list ≡ removed greatest old.list p.0) → OnSome r (count old ≡ count new + 1)
-      count-taken o r value after = owed r (count-removed greatest old new p there (taken_out o value after))
-
     -- of a removal by index
     module _ {G : Type 0} (number : G → ℕ) (i : ℕ) where
       found_there : (e : G × T) → Some (number e.0, e.1) ≡ entry_at old i → IsSome (item_of old (i, number e.0))

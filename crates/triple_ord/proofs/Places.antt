@@ -168,11 +168,10 @@ module _ {P T K I G : Type 0} (numbers : P → ℕ × ℕ) (key : T → K) (cmp 
     where
       with_gap : (gap : Gap old.list.entries) → IsPlace key cmp (aim_of number kind) (into gap) → (growth : Growth) (e : OrdInsertionError)
           → LacksSlot growth most old.list e → IsRefused key cmp most growth (aim_of number kind) old e
-      with_gap gap chosen within FailedOrdRequirement lacks = absurd lacks
-      with_gap gap chosen reallocating FailedOrdRequirement lacks = absurd lacks
-      with_gap gap chosen growth NotWithinCapacity lacks = (gap, chosen, lacks)
-      with_gap gap chosen growth BeyondMaxCapacity lacks = (gap, chosen, lacks)
-      with_gap gap chosen growth AllocError lacks = (gap, chosen, lacks)
+      with_gap gap chosen within NotWithinCapacity lacks = (gap, chosen, lacks)
+      with_gap gap chosen reallocating BeyondMaxCapacity lacks = (gap, chosen, lacks)
+      with_gap gap chosen reallocating AllocError lacks = (gap, chosen, lacks)
+      with_gap gap chosen growth e lacks = absurd lacks
 
       go : (place : Place old.list.entries) → IsPlace key cmp (aim_of number kind) place → Keeps numbers old (New at) place
           → (e : OrdInsertionError) → LacksSlot growth most old.list e → IsRefused key cmp most growth (aim_of number kind) old e
