@@ -1,12 +1,12 @@
 -- A chain of nodes and the list of its items: each look-up in the one reads what the other has.
-use Rattle.std.proofs.Common.{◌≡◌, ℕ, ◌↔◌, length, arith, List, [], ◌∷◌, ◌++◌, Option, Some, None, IsSome, IfSome, is_some, refl, sym, ap, subst, ◌∙◌, inl, inr, ◌⊎◌, map}
+use Rattle.std.proofs.Common.{◌≡◌, ℕ, ◌↔◌, length, List, [], ◌∷◌, ◌++◌, Option, Some, None, IsSome, IfSome, is_some, refl, sym, ap, subst, ◌∙◌, inl, inr, ◌⊎◌, map}
 use Rattle.std.proofs.lemmas.Bool.Decides.{eqb_tells}
 use Rattle.std.proofs.lemmas.List.{length-map, nil_from_length}
 use Rattle.std.proofs.lemmas.Option.{IfSome_then}
 use Rattle.std.specs.Option.{option_map}
 use Rattle.arena_base.specs.Arena.{Arena, slot, item_if}
 use Rattle.chain_base.specs.Link.{Link}
-use Rattle.chain_base.specs.Chain.{Entry, Chain, entry_at, item_of, first_or, link_between, link_at, first_pointer, last_pointer, times, generation_at, IsFirstIndex, IsLastIndex, IsArenaOf}
+use Rattle.chain_base.specs.Chain.{Entry, Chain, entry_at, item_of, first_or, link_between, link_at, last_pointer, times, generation_at, IsFirstIndex, IsLastIndex, IsArenaOf}
 use Rattle.ord_tree.specs.declared.tree_links.TreeLinks.{TreeLinks}
 use Rattle.ord_tree.specs.declared.node.SimpleOrdArenaNode.{SimpleOrdArenaNode}
 use Rattle.ord_tree.specs.Shape.{Shape, missing, node, root_of, walk}

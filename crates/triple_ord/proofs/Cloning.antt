@@ -1,5 +1,5 @@
 -- A clone of an ordered arena whose calls each give the item that they are shown.
-use Rattle.std.proofs.Common.{◌≡◌, ℕ, ◌<◌, Option, Result, Ok, Err, OnOk, [], refl, ap, ◌∙◌, List, ◌∷◌, length, ◌⊎◌, inl, inr, arith}
+use Rattle.std.proofs.Common.{◌≡◌, ℕ, ◌<◌, Option, Result, Ok, Err, OnOk, [], refl, ap, ◌∙◌, List, length, ◌⊎◌, inl, inr, arith}
 use Rattle.std.proofs.lemmas.List.{nil_from_length}
 use Rattle.std.specs.Borrow.{Bor}
 use Rattle.std.specs.declared.alloc.AllocError.{AllocError}

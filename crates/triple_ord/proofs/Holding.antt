@@ -1,5 +1,5 @@
 -- What nodes that hold a shape say of each node: its sides are the shape's.
-use Rattle.std.proofs.Common.{◌≡◌, ℕ, Option, Some, None, IsSome, refl, sym, ap, ◌∙◌, inl, inr}
+use Rattle.std.proofs.Common.{◌≡◌, ℕ, Option, Some, None, refl, sym, ap, ◌∙◌, inl, inr}
 use Rattle.std.specs.Option.{option_map}
 use Rattle.chain_base.specs.Chain.{Chain, entry_at}
 use Rattle.ord_tree.specs.declared.tree_links.TreeLinks.{TreeLinks}

@@ -26,7 +26,7 @@ use Rattle.triple_ord.specs.Prepared.{Keeps, IsFoundPlace, IsPlaceBeside, IsPlac
 use Rattle.triple_ord.specs.Insertion.{Growth, within, reallocating, with_slot, LacksSlot, IsRefused, InsertsBeside}
 use Rattle.triple_ord.specs.declared.insert_kind.OrdInsertKind.{OrdInsertKind}
 use Rattle.triple_ord.specs.declared.error.OrdInsertionError.{OrdInsertionError}
-use Rattle.triple_ord.specs.declared.error.OrdInsertionError.TheVariants.{FailedOrdRequirement, NotWithinCapacity, BeyondMaxCapacity, AllocError}
+use Rattle.triple_ord.specs.declared.error.OrdInsertionError.TheVariants.{NotWithinCapacity, BeyondMaxCapacity, AllocError}
 use Rattle.triple_ord.proofs.CallerLemmas.{entries-with_slot, updates-written, count-written, inserted-new}
 use Rattle.triple_ord.specs.declared.prepared.InsertPlace.TheVariants.{New, Replacing}
 use Rattle.triple_ord.proofs.Inserting.{HasPlace, place-alone, similar-placed, similar-occupied, similar-here, similar-first, similar-seen, not_equal, IsInsertion-same, puts-before, puts-after}

@@ -1,13 +1,13 @@
 -- Steps from a hint: how they begin, go on, and end.
 use Rattle.std.proofs.Common.{◌≡◌, ◌≢◌, ℕ, suc, true, false, not, ◌==◌, ◌+◌, ◌<◌, ◌≤◌, List, [], ◌∷◌, ◌++◌, Option, Some, None, IsSome, IfSome, length, refl, sym, ap, ◌∙◌, arith, inl, inr, ◌⊎◌, append_assoc, length-append}
-use Rattle.std.proofs.lemmas.Bool.Decides.{eqb_tells, leb_tells}
+use Rattle.std.proofs.lemmas.Bool.Decides.{leb_tells}
 use Rattle.std.specs.Option.{option_map}
 use Rattle.std.specs.Cmp.{IsTotalOrder}
 use Rattle.std.specs.Ordering.{is_eq, ordering_index, ordering_reverse}
 use Rattle.std.specs.declared.cmp.Ordering.{Ordering}
 use Rattle.std.specs.declared.cmp.Ordering.TheVariants.{Less, Equal, Greater}
 use Rattle.chain_base.specs.Link.{Link}
-use Rattle.chain_base.specs.Chain.{Entry, times, IsDistinct, entry_at, first_or, link_between, link_at}
+use Rattle.chain_base.specs.Chain.{Entry, IsDistinct, entry_at, link_at}
 use Rattle.triple_ord.specs.Gap.{Gap, first_of, last_or, present}
 use Rattle.triple_ord.specs.Search.{order_to, pointer, Fits, FindsSimilar}
 use Rattle.triple_ord.specs.Order.{IsInOrder}
