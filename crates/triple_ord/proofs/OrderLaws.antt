@@ -1,5 +1,5 @@
 -- The laws of lists in order and of rebuilt shapes.
-use Rattle.std.proofs.Common.{◌≡◌, ◌↔◌, ℕ, inl, inr, List, [], ◌∷◌, ◌++◌, Option, Some, None, refl, sym, ap, subst, ◌∙◌, arith, ◌/◌, ◌-◌}
+use Rattle.std.proofs.Common.{◌≡◌, ℕ, inl, inr, List, [], ◌∷◌, ◌++◌, Some, None, refl, sym, ap, subst, ◌∙◌, arith, ◌/◌, ◌-◌}
 use Rattle.std.proofs.lemmas.Bool.{cases_order}
 use Rattle.std.specs.List.{AllByRecursion, Contains}
 use Rattle.std.specs.Cmp.{IsTotalOrder}
@@ -11,7 +11,7 @@ use Rattle.ord_tree.specs.Numbers.{IsTop}
 use Rattle.ord_tree.specs.Shape.{Shape, missing, node, size_of}
 use Rattle.ord_tree.specs.Half.{IsHalf, half_rank}
 use Rattle.triple_ord.specs.Gap.{Gap}
-use Rattle.triple_ord.specs.Search.{order_to, Fits, FindsKey, IsFirstEqual}
+use Rattle.triple_ord.specs.Search.{order_to, Fits, IsFirstEqual}
 use Rattle.triple_ord.specs.Order.{IsInOrder}
 use Rattle.triple_ord.specs.OrderLaws.{IsAbsent, AbsentKeyLaw, IsPlaceOf, BesidePlaceLaw, ranks_of, SameRanksLaw}
 use Rattle.triple_ord.proofs.Cuts.{begins}
