@@ -1,11 +1,12 @@
 -- A chain of nodes and the list of its items: each look-up in the one reads what the other has.
-use Rattle.std.proofs.Common.{◌≡◌, ℕ, ◌↔◌, length, arith, List, [], ◌∷◌, ◌++◌, Option, Some, None, IsSome, IfSome, is_some, refl, sym, ap, subst, ◌∙◌, inl, inr, ◌⊎◌, map}
+use Rattle.std.proofs.Common.{◌≡◌, ℕ, ◌↔◌, length, List, [], ◌∷◌, ◌++◌, Option, Some, None, IsSome, IfSome, is_some, refl, sym, ap, subst, ◌∙◌, inl, inr, ◌⊎◌, map}
 use Rattle.std.proofs.lemmas.Bool.Decides.{eqb_tells}
-use Rattle.std.proofs.lemmas.List.{length-map}
+use Rattle.std.proofs.lemmas.List.{length-map, nil_from_length}
+use Rattle.std.proofs.lemmas.Option.{IfSome_then}
 use Rattle.std.specs.Option.{option_map}
 use Rattle.arena_base.specs.Arena.{Arena, slot, item_if}
 use Rattle.chain_base.specs.Link.{Link}
-use Rattle.chain_base.specs.Chain.{Entry, Chain, entry_at, item_of, first_or, link_between, link_at, first_pointer, last_pointer, times, generation_at, IsFirstIndex, IsLastIndex, IsArenaOf}
+use Rattle.chain_base.specs.Chain.{Entry, Chain, entry_at, item_of, first_or, link_between, link_at, last_pointer, times, generation_at, IsFirstIndex, IsLastIndex, IsArenaOf}
 use Rattle.ord_tree.specs.declared.tree_links.TreeLinks.{TreeLinks}
 use Rattle.ord_tree.specs.declared.node.SimpleOrdArenaNode.{SimpleOrdArenaNode}
 use Rattle.ord_tree.specs.Shape.{Shape, missing, node, root_of, walk}
@@ -38,10 +39,6 @@ module _ {P T I G : Type 0} where
   last_pointer-bare (e ∷ []) = refl
   last_pointer-bare (e ∷ f ∷ es) = last_pointer-bare (f ∷ es)
 
-  first_pointer-bare : (es : List (Entry (SimpleOrdArenaNode P T I G))) → first_pointer (map bare_entry es) ≡ first_pointer es
-  first_pointer-bare [] = refl
-  first_pointer-bare (e ∷ es) = refl
-
   first_or-bare : (after : Option ℕ) (es : List (Entry (SimpleOrdArenaNode P T I G))) → first_or after (map bare_entry es) ≡ first_or after es
   first_or-bare after [] = refl
   first_or-bare after (e ∷ es) = refl
@@ -50,10 +47,6 @@ module _ {P T I G : Type 0} where
   generation_at-link es i =
       ap (option_map (λ (e : ℕ × SimpleOrdArenaNode P T I G). e.0)) (entry_at-link None None es i)
       ∙ sym (option_map-twice (λ (e : ℕ × Link (SimpleOrdArenaNode P T I G)). (e.0, e.1.item)) (λ (e : ℕ × SimpleOrdArenaNode P T I G). e.0) (link_at es i))
-
-  no-entries : (es : List (Entry (SimpleOrdArenaNode P T I G))) → length es ≡ 0 → es ≡ []
-  no-entries [] none = refl
-  no-entries (e ∷ es) none = absurd (omega (arith, none))
 
   -- a link to a node, seen as a link to its item
   abbrev pub bare_link : ℕ × Link (SimpleOrdArenaNode P T I G) → ℕ × Link T
@@ -94,9 +87,6 @@ module _ {P T I G : Type 0} where
     pub item_missing-under : (p : ℕ × ℕ) → None ≡ item_of c.entries p → None ≡ item_of t.list.entries p
     item_missing-under p is = sym (item_of-under p ∙ rw (← is) refl)
 
-    pub first_pointer-under : first_pointer c.entries ≡ first_pointer t.list.entries
-    first_pointer-under = sym (first_pointer-bare c.entries) ∙ ap (λ (l : Chain T). first_pointer l.entries) under.list
-
     pub last_pointer-under : last_pointer c.entries ≡ last_pointer t.list.entries
     last_pointer-under = sym (last_pointer-bare c.entries) ∙ ap (λ (l : Chain T). last_pointer l.entries) under.list
 
@@ -110,19 +100,17 @@ module _ {P T I G : Type 0} where
     pub first_index-under : {X : Type 0} (o : Option X) (numbers : X → ℕ × ℕ)
         → IfSome o (λ p. IsFirstIndex c.entries (numbers p).0 (numbers p).1)
         → IfSome o (λ p. IsFirstIndex t.list.entries (numbers p).0 (numbers p).1)
-    first_index-under None numbers h = h
-    first_index-under (Some p) numbers h =
-        record { entry = sym (generation_at-under (numbers p).0) ∙ h.entry; least = λ k below. sym (times-under k) ∙ h.least k below }
+    first_index-under o numbers h = IfSome_then o h
+        (λ p first. record { entry = sym (generation_at-under (numbers p).0) ∙ first.entry; least = λ k below. sym (times-under k) ∙ first.least k below })
 
     pub last_index-under : {X : Type 0} (o : Option X) (numbers : X → ℕ × ℕ)
         → IfSome o (λ p. IsLastIndex c.entries (numbers p).0 (numbers p).1)
         → IfSome o (λ p. IsLastIndex t.list.entries (numbers p).0 (numbers p).1)
-    last_index-under None numbers h = h
-    last_index-under (Some p) numbers h =
-        record { entry = sym (generation_at-under (numbers p).0) ∙ h.entry; greatest = λ k above. sym (times-under k) ∙ h.greatest k above }
+    last_index-under o numbers h = IfSome_then o h
+        (λ p last. record { entry = sym (generation_at-under (numbers p).0) ∙ last.entry; greatest = λ k above. sym (times-under k) ∙ last.greatest k above })
 
     pub none-under : (N : Type 0) → N ↔ (c.entries ≡ []) → N ↔ (length t.list.entries ≡ 0)
-    none-under N h = (λ n. sym length-under ∙ ap length (h.0 n), λ z. h.1 (no-entries c.entries (length-under ∙ z)))
+    none-under N h = (λ n. sym length-under ∙ ap length (h.0 n), λ z. h.1 (nil_from_length c.entries (length-under ∙ z)))
 
     pub link_at-under : (i : ℕ) → option_map bare_link (link_at c.entries i) ≡ link_at t.list.entries i
     link_at-under i = sym (link_between-bare None None c.entries i) ∙ ap (λ (l : Chain T). link_at l.entries i) under.list

@@ -18,14 +18,8 @@ fib-step (suc zero) = omega arith
 fib-step (suc (suc n)) = omega arith
 
 fib_more : (n d : ℕ) → fib n ≤ fib (d + n)
-fib_more n zero = rw (same n) (omega arith)
-  where
-    same : (n : ℕ) → 0 + n ≡ n
-    same n = omega arith
-fib_more n (suc d) = rw (same d n) (omega (arith, fib_more n d, fib-step (d + n)))
-  where
-    same : (d n : ℕ) → suc d + n ≡ suc (d + n)
-    same d n = omega arith
+fib_more n zero = let same : 0 + n ≡ n = omega arith in rw same (omega arith)
+fib_more n (suc d) = let same : suc d + n ≡ suc (d + n) = omega arith in rw same (omega (arith, fib_more n d, fib-step (d + n)))
 
 fib-mono : (m n : ℕ) → m ≤ n → fib m ≤ fib n
 fib-mono m n least = let same : (n - m) + m ≡ n = omega (arith, least) in rw same at (fib_more m (n - m))

@@ -163,19 +163,6 @@ owed (Some x) fact = fact
 -- what the calls return of these changes
 module _ {T : Type 0} where
   module _ (greatest : Option ℕ) (old new : Tree T) (distinct : IsDistinct old.list.entries) where
-    -- of a removal of the entry that a pointer finds
-    module _ {X : Type 0} (p : ℕ × ℕ) (there : IsSome (item_of old p)) (f : X → ℕ × T) where
-      taken_out : (o : Option X) → option_map f o ≡ entry_at old p.0 → OnSome o (new.list ≡ removed greatest old.list p.0) → new.list ≡ removed greatest old.list p.0
-      taken_out None value after = absurd (let none : item_of old p ≡ None = rw (← value) refl in cc)
-      taken_out (Some e) value after = after
-
-      pub updates-taken : (o : Option X) → option_map f o ≡ entry_at old p.0 → OnSome o (new.list ≡ removed greatest old.list p.0) → Updates old new p None
-      updates-taken o value after = updates-removed greatest old new p distinct there (taken_out o value after)
-
-      pub count-taken : {Y : Type 0} (o : Option X) (r : Option Y) → option_map f o ≡ entry_at old p.0
-          → OnSome o (new.list ≡ removed greatest old.list p.0) → OnSome r (count old ≡ count new + 1)
-      count-taken o r value after = owed r (count-removed greatest old new p there (taken_out o value after))
-
     -- of a removal by index
     module _ {G : Type 0} (number : G → ℕ) (i : ℕ) where
       found_there : (e : G × T) → Some (number e.0, e.1) ≡ entry_at old i → IsSome (item_of old (i, number e.0))
@@ -223,38 +210,36 @@ module _ {T K : Type 0} (key : T → K) (cmp : K → K → Ordering) where
   over-found : (old : Tree T) → IsDistinct old.list.entries → (aim : Aim K) (e : Entry T) → IsPlace key cmp {entries = old.list.entries} aim (over e) → item_of old (pointer e) ≡ Some e.item
   over-found old distinct aim e at = rw (over-here old.list.entries distinct aim e at, eq-eqb e.generation e.generation refl) refl
 
-  module _ {P : Type 0} (numbers : P → ℕ × ℕ) (growth : Growth) (most : ℕ) (aim : Aim K) (old arena new : Tree T)
-      (distinct : IsDistinct old.list.entries) (put : Entry T → List (Entry T)) (item : T) where
-    awaited-inserts : (place : Place old.list.entries) (shown : OrdEntryKind P) (before : Option T) → IsPlace key cmp aim place → Awaits numbers growth most old arena place put shown
-        → InsertsThere numbers shown put arena item before new → InsertsBy key cmp most growth aim numbers old item (Ok (shown, before)) new
-    awaited-inserts (into gap) (New p) None at awaits there = record {
-      gap = gap;
-      place = at;
-      inserted = subst (λ (c : Chain T). IsInsertion c new.list (with_between gap) item (numbers p).0 (numbers p).1)
-          (ap (λ (t : Tree T). t.list) awaits.room) (IsInsertion-same _ _ _ _ item _ _ awaits.puts there.0);
-      grown = subst (λ (t : Tree T). IsGrown t.shape new.shape) awaits.room there.1;
-    }
-    awaited-inserts (over e) (Replacing p) (Some before) at awaits there =
-        let had : item_of arena (numbers p) ≡ Some e.item = ap (λ (t : Tree T). item_of t (numbers p)) awaits.1 ∙ ap (item_of old) awaits.0 ∙ over-found old distinct aim e at in
-        record {
-          entry = e;
-          place = at;
-          named = awaits.0;
-          taken = cc;
-          after = there.1 ∙ ap (λ (t : Tree T). with_item t (numbers p).0 item) awaits.1 ∙ ap (λ (q : ℕ × ℕ). with_item old q.0 item) awaits.0;
-        }
-    awaited-inserts (into gap) (New p) before at awaits there = absurd there
-    awaited-inserts (over e) (Replacing p) before at awaits there = absurd there
-    awaited-inserts place shown before at awaits there = absurd awaits
-
   -- what an entry of an insertion inserts
   pub entry-inserts : {P I G : Type 0} (numbers : P → ℕ × ℕ) (number : I → ℕ) (growth : Growth) (most : ℕ)
       (kind : OrdInsertKind P K I G) (old arena new : Tree T) → IsDistinct old.list.entries
       → (shown : OrdEntryKind P) (put : Entry T → List (Entry T)) (visits : ℕ) (item : T) (before : Option T)
       → IsEntryFor numbers key cmp number growth most kind old shown put visits arena → InsertsThere numbers shown put arena item before new
       → InsertsBy key cmp most growth (aim_of number kind) numbers old item (Ok (shown, before)) new
-  entry-inserts numbers number growth most kind old arena new distinct shown put visits item before entry there =
-      awaited-inserts numbers growth most (aim_of number kind) old arena new distinct put item entry.place shown before entry.chosen entry.awaits there
+  entry-inserts {P} numbers number growth most kind old arena new distinct shown put visits item before asked there =
+      go (aim_of number kind) asked.place shown before asked.chosen asked.awaits there
+    where
+      go : (aim : Aim K) (place : Place old.list.entries) (shown : OrdEntryKind P) (before : Option T) → IsPlace key cmp aim place → Awaits numbers growth most old arena place put shown
+          → InsertsThere numbers shown put arena item before new → InsertsBy key cmp most growth aim numbers old item (Ok (shown, before)) new
+      go aim (into gap) (New p) None at awaits there = record {
+        gap = gap;
+        place = at;
+        inserted = subst (λ (c : Chain T). IsInsertion c new.list (with_between gap) item (numbers p).0 (numbers p).1)
+            (ap (λ (t : Tree T). t.list) awaits.room) (IsInsertion-same _ _ _ _ item _ _ awaits.puts there.0);
+        grown = subst (λ (t : Tree T). IsGrown t.shape new.shape) awaits.room there.1;
+      }
+      go aim (over e) (Replacing p) (Some before) at awaits there =
+          let had : item_of arena (numbers p) ≡ Some e.item = ap (λ (t : Tree T). item_of t (numbers p)) awaits.1 ∙ ap (item_of old) awaits.0 ∙ over-found old distinct aim e at in
+          record {
+            entry = e;
+            place = at;
+            named = awaits.0;
+            taken = cc;
+            after = there.1 ∙ ap (λ (t : Tree T). with_item t (numbers p).0 item) awaits.1 ∙ ap (λ (q : ℕ × ℕ). with_item old q.0 item) awaits.0;
+          }
+      go aim (into gap) (New p) before at awaits there = absurd there
+      go aim (over e) (Replacing p) before at awaits there = absurd there
+      go aim place shown before at awaits there = absurd awaits
 
   -- the same by the item's key, told by the pointer and the item that was replaced
   pub entry-told : {P I G : Type 0} (numbers : P → ℕ × ℕ) (number : I → ℕ) (growth : Growth) (most : ℕ) (old arena new : Tree T)

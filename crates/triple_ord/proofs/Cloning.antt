@@ -1,5 +1,6 @@
 -- A clone of an ordered arena whose calls each give the item that they are shown.
-use Rattle.std.proofs.Common.{◌≡◌, ℕ, ◌<◌, Option, Result, Ok, Err, OnOk, [], refl, ap, ◌∙◌, List, ◌∷◌, length, ◌⊎◌, inl, inr, arith}
+use Rattle.std.proofs.Common.{◌≡◌, ℕ, ◌<◌, Option, Result, Ok, Err, OnOk, [], refl, ap, ◌∙◌, List, length, ◌⊎◌, inl, inr, arith}
+use Rattle.std.proofs.lemmas.List.{nil_from_length}
 use Rattle.std.specs.Borrow.{Bor}
 use Rattle.std.specs.declared.alloc.AllocError.{AllocError}
 use Rattle.arena_base.specs.Clone.{Grants}
@@ -51,8 +52,7 @@ pub empty-unrefused : {T A B : Type 0} (r : Result (Unit {0}) ReallocationError)
 empty-unrefused {T} r e is source limit capacity beyond memory none = by e is
   where
     least : (es : List (Entry T)) → length es ≡ 0 → greatest_index es ≡ 0
-    least [] gone = refl
-    least (e ∷ es) gone = absurd (omega arith)
+    least es gone = ap greatest_index (nil_from_length es gone)
 
     by : (e : ReallocationError) → r ≡ Err e → ⊥
     by BeyondMaxCapacity is = let far = beyond is in omega (arith, least source.list.entries none)

@@ -7,7 +7,7 @@ use Rattle.std.specs.List.{FoldsTo}
 use Rattle.std.proofs.lemmas.Bool.Decides.{eqb_tells, leb_tells}
 use Rattle.std.proofs.lemmas.Bool.{false≢true}
 use Rattle.std.proofs.lemmas.List.{same_lists, get_or_default, length-append, take-map, drop-map}
-use Rattle.std.proofs.lemmas.Option.{slice_get_past, same_Some}
+use Rattle.std.proofs.lemmas.Option.{slice_get_past, same_Some, IfSome_then}
 use Rattle.arena_base.specs.Arena.{Arena, HoldsSame, slot, item_if, item_of, greatest_occupied, with_capacity, resized, IsFirstEntry, IsLastEntry, arena_len}
 use Rattle.arena_base.specs.Walk.{Walk, pointers_from, entries_from, entries_rising as arena_rising, walk_rest, WalkSteps}
 use Rattle.arena_base.specs.Compression.{CompressionStep, IsCompression, compressed}
@@ -83,20 +83,18 @@ module _ {T : Type 0} where
     pub first-found : {X : Type 0} (o : Option X) (numbers : X → ℕ × ℕ)
         → IfSome o (λ p. IsFirstIndex t.list.entries (numbers p).0 (numbers p).1)
         → IfSome o (λ p. IsFirstEntry (content_of t) (numbers p).0 (numbers p).1)
-    first-found None numbers h = h
-    first-found (Some p) numbers h = record {
-      entry = ap (option_map (λ (e : ℕ × T). e.0)) (slot_is most greatest t sound (numbers p).0) ∙ h.entry;
-      least = λ k below. slot_is most greatest t sound k ∙ entry_at-absent t.list.entries k (h.least k below);
-    }
+    first-found o numbers h = IfSome_then o h (λ p is. record {
+      entry = ap (option_map (λ (e : ℕ × T). e.0)) (slot_is most greatest t sound (numbers p).0) ∙ is.entry;
+      least = λ k below. slot_is most greatest t sound k ∙ entry_at-absent t.list.entries k (is.least k below);
+    })
 
     pub last-found : {X : Type 0} (o : Option X) (numbers : X → ℕ × ℕ)
         → IfSome o (λ p. IsLastIndex t.list.entries (numbers p).0 (numbers p).1)
         → IfSome o (λ p. IsLastEntry (content_of t) (numbers p).0 (numbers p).1)
-    last-found None numbers h = h
-    last-found (Some p) numbers h = record {
-      entry = ap (option_map (λ (e : ℕ × T). e.0)) (slot_is most greatest t sound (numbers p).0) ∙ h.entry;
-      greatest = λ k above. slot_is most greatest t sound k ∙ entry_at-absent t.list.entries k (h.greatest k above);
-    }
+    last-found o numbers h = IfSome_then o h (λ p is. record {
+      entry = ap (option_map (λ (e : ℕ × T). e.0)) (slot_is most greatest t sound (numbers p).0) ∙ is.entry;
+      greatest = λ k above. slot_is most greatest t sound k ∙ entry_at-absent t.list.entries k (is.greatest k above);
+    })
 
     -- the greatest index that has an entry
     greatest-above : greatest_index t.list.entries ≤ greatest_occupied (content_of t).slots

@@ -1,5 +1,5 @@
 -- What nodes that hold a shape say of each node: its sides are the shape's.
-use Rattle.std.proofs.Common.{◌≡◌, ℕ, Option, Some, None, IsSome, refl, sym, ap, ◌∙◌, inl, inr}
+use Rattle.std.proofs.Common.{◌≡◌, ℕ, Option, Some, None, refl, sym, ap, ◌∙◌, inl, inr}
 use Rattle.std.specs.Option.{option_map}
 use Rattle.chain_base.specs.Chain.{Chain, entry_at}
 use Rattle.ord_tree.specs.declared.tree_links.TreeLinks.{TreeLinks}
@@ -36,20 +36,11 @@ held-part at back link (node l' i' k' r') l r i k n h part is = elim part [
   ]
 ]
 
--- what a look-up that found something read
-pub read-found : {X Y : Type 0} (f : X → Y) (o : Option X) (x : X) (p : Option Y) → option_map f o ≡ p → o ≡ Some x → p ≡ Some (f x)
-read-found f o x p is found = sym is ∙ rw found refl
-
 module _ {P T I G : Type 0} where
   -- what the chain of nodes under a tree says of the entry at i
   module _ (t : Tree T) (c : Chain (SimpleOrdArenaNode P T I G)) (under : IsChainOf t c) (i : ℕ) where
     pub entry_at-under : entry_at t.list.entries i ≡ option_map (λ e. (e.0, e.1.t)) (entry_at c.entries i)
     entry_at-under = ap (λ (l : Chain T). entry_at l.entries i) (sym under.list) ∙ entry_at-bare c.entries i
-
-    -- a look-up in the chain finds what the tree's list has
-    pub found-under : {X : Type 0} (f : X → ℕ × SimpleOrdArenaNode P T I G) (o : Option X) → option_map f o ≡ entry_at c.entries i → IsSome (entry_at t.list.entries i) → IsSome o
-    found-under f None is some = let none : entry_at t.list.entries i ≡ None = entry_at-under ∙ rw (← is) refl in rw none at some
-    found-under f (Some x) is some = refl
 
     item-under : (e : ℕ × SimpleOrdArenaNode P T I G) → entry_at c.entries i ≡ Some e → entry_at t.list.entries i ≡ Some (e.0, e.1.t)
     item-under e is = entry_at-under ∙ rw is refl

@@ -11,7 +11,7 @@ use Rattle.ord_tree.specs.Tree.{Tree}
 use Rattle.triple_ord.specs.Gap.{Gap, first_of, last_or, before, after, with_between}
 use Rattle.triple_ord.specs.Search.{IsFirstEqual}
 use Rattle.triple_ord.specs.Order.{IsInOrder}
-use Rattle.triple_ord.specs.Place.{Aim, at_key, into, over, LiesBehind, IsPlace}
+use Rattle.triple_ord.specs.Place.{Aim, into, over, LiesBehind, IsPlace}
 use Rattle.triple_ord.specs.Insertion.{InsertsBy}
 use Rattle.triple_ord.specs.OrderLaws.{GoesBy, KeptOrderLaw}
 use Rattle.triple_ord.specs.declared.entry_kind.OrdEntryKind.{OrdEntryKind}
@@ -75,21 +75,14 @@ module _ {T K : Type 0} (key : T → K) (cmp : K → K → Ordering) (total : Is
     module _ (entries : List (Entry T)) (sorted : IsInOrder key cmp entries) where
       -- the place of an insertion by k
       lies : (aim : Aim K) → GoesBy aim k → (gap : Gap entries) → IsPlace key cmp aim (into gap) → LiesBehind key cmp gap k
-      lies aim by gap place = elim by [
-        | inl at ↦
-            let fits : IsPlace key cmp (at_key k) (into gap) = subst (λ (a : Aim K). IsPlace key cmp a (into gap)) at place in
-            record {
-              at_most_before = IfSome_then (before gap) fits.lesser_before (λ e more less. absurd (cc));
-              greater_after = fits.greater_after;
-            }
-        | inr at ↦ subst (λ (a : Aim K). IsPlace key cmp a (into gap)) at place
-      ]
+      lies aim (inl at) gap place =
+          let fits = rw at at place in
+          record { at_most_before = IfSome_then (before gap) fits.lesser_before (λ e more less. absurd (cc)); greater_after = fits.greater_after }
+      lies aim (inr at) gap place = rw at at place
 
       first : (aim : Aim K) → GoesBy aim k → (e : Entry T) → IsPlace key cmp {entries = entries} aim (over e) → IsFirstEqual key cmp entries k e
-      first aim by e place = elim by [
-        | inl at ↦ subst (λ (a : Aim K). IsPlace key cmp {entries = entries} a (over e)) at place
-        | inr at ↦ absurd (subst (λ (a : Aim K). IsPlace key cmp {entries = entries} a (over e)) at place)
-      ]
+      first aim (inl at) e place = rw at at place
+      first aim (inr at) e place = absurd (rw at at place)
 
       kept-between : (gap : Gap entries) → LiesBehind key cmp gap k → (e : Entry T) → e.item ≡ item → IsInOrder key cmp (with_between gap e)
       kept-between gap place e has =

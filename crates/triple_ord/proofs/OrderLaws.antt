@@ -1,5 +1,5 @@
 -- The laws of lists in order and of rebuilt shapes.
-use Rattle.std.proofs.Common.{◌≡◌, ◌↔◌, ℕ, inl, inr, List, [], ◌∷◌, ◌++◌, Option, Some, None, refl, sym, ap, subst, ◌∙◌, arith, ◌/◌, ◌-◌}
+use Rattle.std.proofs.Common.{◌≡◌, ℕ, inl, inr, List, [], ◌∷◌, ◌++◌, Some, None, refl, sym, ap, subst, ◌∙◌, arith, ◌/◌, ◌-◌}
 use Rattle.std.proofs.lemmas.Bool.{cases_order}
 use Rattle.std.specs.List.{AllByRecursion, Contains}
 use Rattle.std.specs.Cmp.{IsTotalOrder}
@@ -11,7 +11,7 @@ use Rattle.ord_tree.specs.Numbers.{IsTop}
 use Rattle.ord_tree.specs.Shape.{Shape, missing, node, size_of}
 use Rattle.ord_tree.specs.Half.{IsHalf, half_rank}
 use Rattle.triple_ord.specs.Gap.{Gap}
-use Rattle.triple_ord.specs.Search.{order_to, Fits, FindsKey, IsFirstEqual}
+use Rattle.triple_ord.specs.Search.{order_to, Fits, IsFirstEqual}
 use Rattle.triple_ord.specs.Order.{IsInOrder}
 use Rattle.triple_ord.specs.OrderLaws.{IsAbsent, AbsentKeyLaw, IsPlaceOf, BesidePlaceLaw, ranks_of, SameRanksLaw}
 use Rattle.triple_ord.proofs.Cuts.{begins}
@@ -47,12 +47,9 @@ module _ {T K : Type 0} (key : T → K) (cmp : K → K → Ordering) (total : Is
       let has = Contains-append_right met.gap.front (e ∷ back.0) e (0, omega arith, refl) in
       absent e (subst (λ es. Contains es e) (sym (met.gap.cut ∙ ap (λ ys. met.gap.front ++ ys) back.1)) has) met.equal
 
-  absent-found : (found : Option (ℕ × ℕ)) (c : ℕ) → FindsKey key cmp entries k found c → (found ≡ None) ↔ IsAbsent key cmp entries k
-  absent-found None c finds = (λ none. absent-fits finds.0 finds.1.fits, λ absent. refl)
-  absent-found (Some p) c finds = (λ none. absurd (cc), λ absent. absurd (not_absent finds.0 finds.2 absent))
-
 pub absent_key : {T K : Type 0} (key : T → K) (cmp : K → K → Ordering) → IsTotalOrder cmp → AbsentKeyLaw key cmp
-absent_key key cmp total entries k found c sorted finds = absent-found key cmp total entries k sorted found c finds
+absent_key key cmp total entries k None c sorted finds = (λ none. absent-fits key cmp total entries k sorted finds.0 finds.1.fits, λ absent. refl)
+absent_key key cmp total entries k (Some p) c sorted finds = (λ none. absurd (cc), λ absent. absurd (not_absent key cmp total entries k sorted finds.0 finds.2 absent))
 
 pub beside_place : {T K : Type 0} (key : T → K) (cmp : K → K → Ordering) → IsTotalOrder cmp → BesidePlaceLaw key cmp
 beside_place key cmp total entries k p order c sorted absent finds = (

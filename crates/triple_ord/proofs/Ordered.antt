@@ -63,10 +63,7 @@ module _ {T K : Type 0} (key : T → K) (cmp : K → K → Ordering) where
   -- where the key of the first is greater than that of the second, or isn't
   module _ (e f : Entry T) (es : List (Entry T)) (o : Ordering) (is : o ≡ cmp (key e.item) (key f.item)) where
     pub in_order-step : is_gt o ≡ false → IsInOrder key cmp (e ∷ f ∷ es) ↔ IsInOrder key cmp (f ∷ es)
-    in_order-step less = (IsInOrder-rest e (f ∷ es), in_order-more e f es (λ greater. not_both o (is ∙ greater) less))
-      where
-        not_both : (o : Ordering) → o ≡ Greater → is_gt o ≡ false → ⊥
-        not_both o greater less = absurd (let both = rw greater at less in cc)
+    in_order-step less = (IsInOrder-rest e (f ∷ es), in_order-more e f es (λ greater. let both = rw (is ∙ greater) at less in cc))
 
     pub in_order-not : is_gt o ≡ true → IsInOrder key cmp (e ∷ f ∷ es) → ⊥
     in_order-not more order = order [] es e f refl (sym is ∙ told o more)

@@ -26,7 +26,7 @@ use Rattle.triple_ord.specs.Prepared.{Keeps, IsFoundPlace, IsPlaceBeside, IsPlac
 use Rattle.triple_ord.specs.Insertion.{Growth, within, reallocating, with_slot, LacksSlot, IsRefused, InsertsBeside}
 use Rattle.triple_ord.specs.declared.insert_kind.OrdInsertKind.{OrdInsertKind}
 use Rattle.triple_ord.specs.declared.error.OrdInsertionError.{OrdInsertionError}
-use Rattle.triple_ord.specs.declared.error.OrdInsertionError.TheVariants.{FailedOrdRequirement, NotWithinCapacity, BeyondMaxCapacity, AllocError}
+use Rattle.triple_ord.specs.declared.error.OrdInsertionError.TheVariants.{NotWithinCapacity, BeyondMaxCapacity, AllocError}
 use Rattle.triple_ord.proofs.CallerLemmas.{entries-with_slot, updates-written, count-written, inserted-new}
 use Rattle.triple_ord.specs.declared.prepared.InsertPlace.TheVariants.{New, Replacing}
 use Rattle.triple_ord.proofs.Inserting.{HasPlace, place-alone, similar-placed, similar-occupied, similar-here, similar-first, similar-seen, not_equal, IsInsertion-same, puts-before, puts-after}
@@ -158,26 +158,22 @@ pub err-and : {X E : Type 0} {Q R : E → Type 0} (r : Result X E) → IsErrAnd 
 err-and (Ok x) none step = tt
 err-and (Err e) has step = step e has
 
--- what an entry stands on
-module _ {P T K I G : Type 0} (numbers : P → ℕ × ℕ) (key : T → K) (cmp : K → K → Ordering) (number : I → ℕ) (growth : Growth) (most : ℕ)
-    (old : Tree T) (kind : OrdInsertKind P K I G) (c : ℕ) (at : Option (P × Ordering))
-    (found : IsPlaceFor numbers key cmp old number kind (New at) c) where
-  -- a new entry that has no slot is refused
-  pub new-refused : (e : OrdInsertionError) → LacksSlot growth most old.list e → IsRefused key cmp most growth (aim_of number kind) old e
-  new-refused e lacks = go found.place found.chosen found.keeps e lacks
-    where
-      with_gap : (gap : Gap old.list.entries) → IsPlace key cmp (aim_of number kind) (into gap) → (growth : Growth) (e : OrdInsertionError)
-          → LacksSlot growth most old.list e → IsRefused key cmp most growth (aim_of number kind) old e
-      with_gap gap chosen within FailedOrdRequirement lacks = absurd lacks
-      with_gap gap chosen reallocating FailedOrdRequirement lacks = absurd lacks
-      with_gap gap chosen growth NotWithinCapacity lacks = (gap, chosen, lacks)
-      with_gap gap chosen growth BeyondMaxCapacity lacks = (gap, chosen, lacks)
-      with_gap gap chosen growth AllocError lacks = (gap, chosen, lacks)
+-- at a gap that is its place a new entry that has no slot is refused
+gap-refused : {T K : Type 0} (key : T → K) (cmp : K → K → Ordering) (most : ℕ) (aim : Aim K) (old : Tree T) (gap : Gap old.list.entries) → IsPlace key cmp aim (into gap)
+    → (growth : Growth) (e : OrdInsertionError) → LacksSlot growth most old.list e → IsRefused key cmp most growth aim old e
+gap-refused key cmp most aim old gap chosen within NotWithinCapacity lacks = (gap, chosen, lacks)
+gap-refused key cmp most aim old gap chosen reallocating BeyondMaxCapacity lacks = (gap, chosen, lacks)
+gap-refused key cmp most aim old gap chosen reallocating AllocError lacks = (gap, chosen, lacks)
+gap-refused key cmp most aim old gap chosen growth e lacks = absurd lacks
 
-      go : (place : Place old.list.entries) → IsPlace key cmp (aim_of number kind) place → Keeps numbers old (New at) place
-          → (e : OrdInsertionError) → LacksSlot growth most old.list e → IsRefused key cmp most growth (aim_of number kind) old e
-      go (into gap) chosen keeps e lacks = with_gap gap chosen growth e lacks
-      go place chosen keeps e lacks = absurd keeps
+pub new-refused : {P T K I G : Type 0} (numbers : P → ℕ × ℕ) (key : T → K) (cmp : K → K → Ordering) (number : I → ℕ) (growth : Growth) (most : ℕ)
+    (old : Tree T) (kind : OrdInsertKind P K I G) (c : ℕ) (at : Option (P × Ordering)) → IsPlaceFor numbers key cmp old number kind (New at) c
+    → (e : OrdInsertionError) → LacksSlot growth most old.list e → IsRefused key cmp most growth (aim_of number kind) old e
+new-refused numbers key cmp number growth most old kind c at found e lacks = go found.place found.chosen found.keeps
+  where
+    go : (place : Place old.list.entries) → IsPlace key cmp (aim_of number kind) place → Keeps numbers old (New at) place → IsRefused key cmp most growth (aim_of number kind) old e
+    go (into gap) chosen keeps = gap-refused key cmp most (aim_of number kind) old gap chosen growth e lacks
+    go place chosen keeps = absurd keeps
 
 -- no slot is vacant where no index comes next
 pub full : {T : Type 0} (most : ℕ) (greatest : Option ℕ) (c : Chain T) → IsSound most greatest c → next_index c ≡ None → length c.entries ≡ c.capacity
@@ -219,10 +215,5 @@ module _ {T : Type 0} (most : ℕ) (old new : Tree T) (distinct : IsDistinct old
     pub beside-refused : (f : OrdInsertionError) → LacksSlot reallocating most old.list f → new ≡ old
         → (r : Result (Option T) OrdInsertionError) → IsErrAnd r (λ e. e ≡ f) → InsertsBeside most i o old item r new
     beside-refused f lacks same (Ok x) none = absurd none
-    beside-refused f lacks same (Err e) is = record { refused = refused e (rw is lacks); after = same }
-      where
-        refused : (e : OrdInsertionError) → LacksSlot reallocating most old.list e
-            → IsRefused {T = T} {K = Unit {0}} (λ item. tt {0}) (λ k l. Equal) most reallocating (beside i o) old e
-        refused BeyondMaxCapacity lacks = (side.gap, side.at, lacks)
-        refused AllocError lacks = (side.gap, side.at, lacks)
-        refused e lacks = absurd lacks
+    beside-refused f lacks same (Err e) is =
+        record { refused = gap-refused (λ item. tt {0}) (λ k l. Equal) most (beside i o) old side.gap side.at reallocating e (rw is lacks); after = same }

@@ -1,19 +1,19 @@
 -- Steps from a hint: how they begin, go on, and end.
 use Rattle.std.proofs.Common.{◌≡◌, ◌≢◌, ℕ, suc, true, false, not, ◌==◌, ◌+◌, ◌<◌, ◌≤◌, List, [], ◌∷◌, ◌++◌, Option, Some, None, IsSome, IfSome, length, refl, sym, ap, ◌∙◌, arith, inl, inr, ◌⊎◌, append_assoc, length-append}
-use Rattle.std.proofs.lemmas.Bool.Decides.{eqb_tells, leb_tells}
+use Rattle.std.proofs.lemmas.Bool.Decides.{leb_tells}
 use Rattle.std.specs.Option.{option_map}
 use Rattle.std.specs.Cmp.{IsTotalOrder}
 use Rattle.std.specs.Ordering.{is_eq, ordering_index, ordering_reverse}
 use Rattle.std.specs.declared.cmp.Ordering.{Ordering}
 use Rattle.std.specs.declared.cmp.Ordering.TheVariants.{Less, Equal, Greater}
 use Rattle.chain_base.specs.Link.{Link}
-use Rattle.chain_base.specs.Chain.{Entry, times, IsDistinct, entry_at, first_or, link_between, link_at}
+use Rattle.chain_base.specs.Chain.{Entry, IsDistinct, entry_at, link_at}
 use Rattle.triple_ord.specs.Gap.{Gap, first_of, last_or, present}
 use Rattle.triple_ord.specs.Search.{order_to, pointer, Fits, FindsSimilar}
 use Rattle.triple_ord.specs.Order.{IsInOrder}
 use Rattle.triple_ord.specs.Hint.{position_of, way_length}
 use Rattle.triple_ord.specs.Steps.{neighbour_towards, CameFrom, IsStepping}
-use Rattle.triple_ord.proofs.Cuts.{last_or-append, begins, ends, stands, IsLinked, link-read, entry_at-here}
+use Rattle.triple_ord.proofs.Cuts.{last_or-append, begins, ends, some_last, stands, IsLinked, link-read, entry_at-here}
 use Rattle.triple_ord.proofs.Ordered.{stands-before, stands-behind}
 
 -- a gap has a neighbour on each side where there are entries
@@ -21,13 +21,9 @@ after-count : {X : Type 0} (back : List X) → (present (first_of back) ≡ 1) �
 after-count [] = inr (refl, refl)
 after-count (x ∷ back) = inl refl
 
-before-some : {X : Type 0} (x : X) (xs : List X) → present (last_or (Some x) xs) ≡ 1
-before-some x [] = refl
-before-some x (y ∷ ys) = before-some y ys
-
 before-count : {X : Type 0} (front : List X) → (present (last_or None front) ≡ 1) ⊎ ((present (last_or None front) ≡ 0) × (length front ≡ 0))
 before-count [] = inr (refl, refl)
-before-count (x ∷ front) = inl (before-some x front)
+before-count (x ∷ front) = inl (ap present (some_last x front).1)
 
 -- the entry whose index is read
 read_index : {T : Type 0} (o : Option (Entry T)) (j : ℕ) → option_map (λ e. e.index) o ≡ Some j → (e : Entry T) × (o ≡ Some e) × (e.index ≡ j)

@@ -1,4 +1,4 @@
-use Rattle.std.proofs.Common.{◌≡◌, ℕ, arith, refl, sym, ◌∙◌, of_calls}
+use Rattle.std.proofs.Common.{arith, refl, sym, ◌∙◌, of_calls}
 use Rattle.triple_ord.proofs.Descending.{descent-begins, descent-ends, step-occupied, step-few, step-equal, step-less, step-more, equal_by, less_by, greater_by}
 use Rattle.triple_ord.proofs.Bounds.{within_bounds}
 use Rattle.triple_ord.proofs.descent.descend.Goals as goal
@@ -56,11 +56,10 @@ returns-clause-found g c = descent-ends _ c.args.probe.now.tree.now c.root-at.en
 pub returns-then-is_eq-clause-visits : goal.returns-then-is_eq-clause-visits
 returns-then-is_eq-clause-visits g c =
     let d = rw c.in-Some.is at c.loop-at.invariant.descended in
-    let few = step-few c.args.probe.now.tree.now c.root-at.ensures.distinct _ _ d.descending in
-    within_bounds _ c.root-at.ensures.sound c.visits_law.ensures _ (omega (arith, few, d.count, c.show-generation.ensures.counted))
+    within_bounds _ c.root-at.ensures.sound c.visits_law.ensures _
+    (omega (arith, step-few c.args.probe.now.tree.now c.root-at.ensures.distinct _ _ d.descending, d.count, c.show-generation.ensures.counted))
 
 pub returns-clause-visits : goal.returns-clause-visits
 returns-clause-visits g c =
     let d = c.loop-at.invariant.descended in
-    let few = d.descending.few in
-    within_bounds _ c.root-at.ensures.sound c.visits_law.ensures _ (omega (arith, few, d.count))
+    within_bounds _ c.root-at.ensures.sound c.visits_law.ensures _ (omega (arith, d.descending.few, d.count))

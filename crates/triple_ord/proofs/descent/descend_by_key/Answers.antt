@@ -1,6 +1,5 @@
-use Rattle.std.proofs.Common.{◌≡◌, ℕ, arith, refl, sym, ap, ◌∙◌}
+use Rattle.std.proofs.Common.{arith, refl, sym, ◌∙◌}
 use Rattle.std.specs.declared.cmp.Ordering.TheVariants.{Less, Equal, Greater}
-use Rattle.triple_ord.specs.Ties.{taken}
 use Rattle.triple_ord.proofs.Descending.{step-occupied, equal_by, less_by, greater_by}
 use Rattle.triple_ord.proofs.DescendingByKey.{by_key-begins, by_key-lesser, by_key-greater, by_key-other}
 use Rattle.triple_ord.proofs.Bounds.{within_bounds}
@@ -38,7 +37,7 @@ returns-then-is_eq g c =
     let ended = rw tree at (c.descend_in_group.ensures.ended c.args.probe.now.visits (rw (tree, c.get-lesser.ensures.value, c.show-generation.ensures.counted, c._from_raw-p.ensures) next)) in
     record {
       found = ended.similar;
-      visits = within_bounds _ c.root-at.ensures.sound c.visits_law.ensures _ (let few = ended.few in omega (arith, few));
+      visits = within_bounds _ c.root-at.ensures.sound c.visits_law.ensures _ (omega (arith, ended.few));
       counted = omega (arith, d.count);
     }
 
@@ -68,11 +67,9 @@ loop-at-preserved g c =
 
 pub returns-clause-found : goal.returns-clause-found
 returns-clause-found g c =
-    let d = rw c.in_default.is at c.loop-at.invariant.descended in
-    by_key-other _ _ c.args.probe.now.tree.now c.root-at.ensures.distinct _ _ _ _ _ d refl
+    by_key-other _ _ c.args.probe.now.tree.now c.root-at.ensures.distinct _ _ _ _ _ (rw c.in_default.is at c.loop-at.invariant.descended) refl
 
 pub returns-clause-visits : goal.returns-clause-visits
 returns-clause-visits g c =
     let d = c.loop-at.invariant.descended in
-    let few = d.descending.few in
-    within_bounds _ c.root-at.ensures.sound c.visits_law.ensures _ (omega (arith, few, d.count))
+    within_bounds _ c.root-at.ensures.sound c.visits_law.ensures _ (omega (arith, d.descending.few, d.count))

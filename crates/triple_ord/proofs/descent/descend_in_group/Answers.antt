@@ -1,6 +1,5 @@
-use Rattle.std.proofs.Common.{◌≡◌, ℕ, arith, refl, sym, ap, ◌∙◌}
+use Rattle.std.proofs.Common.{ℕ, arith, refl, sym, ap, ◌∙◌}
 use Rattle.std.specs.Option.{option_map}
-use Rattle.triple_ord.specs.Ties.{taken}
 use Rattle.triple_ord.proofs.Descending.{step-occupied, step-few}
 use Rattle.triple_ord.proofs.DescendingByKey.{by_key-lesser, by_key-greater, by_key-equal, by_key-other, met_next-map}
 use Rattle.triple_ord.proofs.descent.descend_in_group.Goals as goal
@@ -15,24 +14,18 @@ show-generation-requires-clause-occupied g c =
 
 pub show-generation-requires-clause-room : goal.show-generation-requires-clause-room
 show-generation-requires-clause-room g c =
-    let start = c.requires.descended.1 in
-    let d = rw c.in-Some.is at (c.loop-at.invariant.descended c.requires.descended.0 start) in
-    let few = step-few c.args.probe.now.tree.now c.requires.distinct _ _ d.descending in
-    omega (arith, few, d.count, start.count, c.requires.few, c.requires.room)
+    let d = rw c.in-Some.is at (c.loop-at.invariant.descended c.requires.descended.0 c.requires.descended.1) in
+    omega (arith, step-few c.args.probe.now.tree.now c.requires.distinct _ _ d.descending, d.count, c.requires.descended.1.count, c.requires.few, c.requires.room)
 
 pub loop-at-smaller-then-is_gt : goal.loop-at-smaller-then-is_gt
 loop-at-smaller-then-is_gt g c =
-    let start = c.requires.descended.1 in
-    let d = rw c.in-Some.is at (c.loop-at.invariant.descended c.requires.descended.0 start) in
-    let few = step-few c.args.probe.now.tree.now c.requires.distinct _ _ d.descending in
-    omega (arith, few, d.count, start.count, c.show-generation.ensures.counted)
+    let d = rw c.in-Some.is at (c.loop-at.invariant.descended c.requires.descended.0 c.requires.descended.1) in
+    omega (arith, step-few c.args.probe.now.tree.now c.requires.distinct _ _ d.descending, d.count, c.requires.descended.1.count, c.show-generation.ensures.counted)
 
 pub loop-at-smaller : goal.loop-at-smaller
 loop-at-smaller g c =
-    let start = c.requires.descended.1 in
-    let d = rw c.in-Some.is at (c.loop-at.invariant.descended c.requires.descended.0 start) in
-    let few = step-few c.args.probe.now.tree.now c.requires.distinct _ _ d.descending in
-    omega (arith, few, d.count, start.count, c.show-generation.ensures.counted)
+    let d = rw c.in-Some.is at (c.loop-at.invariant.descended c.requires.descended.0 c.requires.descended.1) in
+    omega (arith, step-few c.args.probe.now.tree.now c.requires.distinct _ _ d.descending, d.count, c.requires.descended.1.count, c.show-generation.ensures.counted)
 
 pub loop-at-preserved-then-is_gt : goal.loop-at-preserved-then-is_gt
 loop-at-preserved-then-is_gt g c =
@@ -65,17 +58,15 @@ loop-at-preserved g c =
 pub returns-in-Some-met-clause-ended : goal.returns-in-Some-met-clause-ended
 returns-in-Some-met-clause-ended g c = λ before start.
     let d = rw c.in_default.is at (c.loop-at.invariant.descended before start) in
-    let few = d.descending.few in
     record {
       similar = by_key-equal _ _ c.args.probe.now.tree.now c.requires.distinct _ _ _ _ _ d _ (rw c.in-Some-met.is refl);
-      few = omega (arith, few, d.count);
+      few = omega (arith, d.descending.few, d.count);
     }
 
 pub returns-in-None-clause-ended : goal.returns-in-None-clause-ended
 returns-in-None-clause-ended g c = λ before start.
     let d = rw c.in_default.is at (c.loop-at.invariant.descended before start) in
-    let few = d.descending.few in
     record {
       similar = by_key-other _ _ c.args.probe.now.tree.now c.requires.distinct _ _ _ _ _ d (rw c.in-None.is refl);
-      few = omega (arith, few, d.count);
+      few = omega (arith, d.descending.few, d.count);
     }

@@ -1,6 +1,5 @@
 use Rattle.std.proofs.Common.{ℕ}
-use Rattle.triple_ord.proofs.Descending.{finds_with-similar}
-use Rattle.triple_ord.proofs.Descending.{where_equal-map}
+use Rattle.triple_ord.proofs.Descending.{finds_with-similar, where_equal-map}
 use Rattle.triple_ord.proofs.arena.SimpleOrdArena.find_with_counted.Goals as goal
 
 pub returns-clause-found : goal.returns-clause-found

@@ -1,7 +1,6 @@
-use Rattle.std.proofs.Common.{◌∙◌, ap, sym}
-use Rattle.std.specs.Option.{option_map}
+use Rattle.std.proofs.Common.{sym}
 use Rattle.triple_ord.proofs.Bare.{found-occupied}
-use Rattle.triple_ord.proofs.CallerLemmas.{owed, updates-taken, count-taken}
+use Rattle.triple_ord.proofs.CallerLemmas.{owed, updates-removed, count-removed}
 use Rattle.triple_ord.proofs.arena.SimpleOrdArena.remove.Goals as goal
 
 pub remove_entry-requires : goal.remove_entry-requires
@@ -11,19 +10,13 @@ remove_entry-requires g c =
 
 pub returns-clause-updates : goal.returns-clause-updates
 returns-clause-updates g c =
-    let distinct = rw (← c.self.view_is) at c.len.ensures.sound.distinct in
-    let there = rw (← c.self.view_is) at c.if-not-contains.ensures in
-    let value = ap (option_map (λ (e : g.row.P-Gen.Denot × g.row.T.Denot). (g.P.Gen.PtrGen.number e.0, e.1))) c.valid.ensures.value ∙ sym (rw c.inx.ensures at c.remove_entry.ensures.value) in
-    rw (← c.self.view_is) (updates-taken g.P.Gen.PtrGen.greatest c.self.inside.tree c.remove_entry.new.self distinct (g.P.Ptr.numbers c.args.p)
-    (sym there) _ _ value (rw c.valid.ensures.value (rw c.inx.ensures at c.remove_entry.ensures.removed)))
+    updates-removed g.P.Gen.PtrGen.greatest c.args.self.now c.remove_entry.new.self (g.P.Ptr.numbers c.args.p) c.len.ensures.sound.distinct
+    (sym c.if-not-contains.ensures) (rw (c.self.view_is, c.inx.ensures) at c.remove_entry.ensures.removed)
 
 pub returns-clause-count : goal.returns-clause-count
 returns-clause-count g c =
-    let distinct = rw (← c.self.view_is) at c.len.ensures.sound.distinct in
-    let there = rw (← c.self.view_is) at c.if-not-contains.ensures in
-    let value = ap (option_map (λ (e : g.row.P-Gen.Denot × g.row.T.Denot). (g.P.Gen.PtrGen.number e.0, e.1))) c.valid.ensures.value ∙ sym (rw c.inx.ensures at c.remove_entry.ensures.value) in
-    rw (← c.self.view_is) (count-taken g.P.Gen.PtrGen.greatest c.self.inside.tree c.remove_entry.new.self distinct (g.P.Ptr.numbers c.args.p)
-    (sym there) _ _ _ value (rw c.valid.ensures.value (rw c.inx.ensures at c.remove_entry.ensures.removed)))
+    owed _ (count-removed g.P.Gen.PtrGen.greatest c.args.self.now c.remove_entry.new.self (g.P.Ptr.numbers c.args.p)
+    (sym c.if-not-contains.ensures) (rw (c.self.view_is, c.inx.ensures) at c.remove_entry.ensures.removed))
 
 pub returns-clause-shape : goal.returns-clause-shape
 returns-clause-shape g c = rw (← c.self.view_is) (owed _ c.remove_entry.ensures.shape)
