@@ -8,6 +8,7 @@ pub mod Marking
 pub mod Bounded
 pub mod Runs
 pub mod FirstRank
+pub mod Outcomes
 pub mod Ended
 pub mod Kept
 pub mod Ascending

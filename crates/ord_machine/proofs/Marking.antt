@@ -1,10 +1,8 @@
 -- The marks of a state keep telling the truth.
-use Rattle.std.proofs.Common.{◌≡◌, ℕ, zero, suc, ◌==◌, cond, Bool, true, ◌⊎◌, inl, inr, ◌∷◌, length, Option, Some, None, refl, sym, ap, subst, arith, length-append}
+use Rattle.std.proofs.Common.{◌≡◌, ℕ, zero, suc, ◌==◌, cond, true, ◌⊎◌, inl, inr, ◌∷◌, length, Some, None, refl, sym, ap, subst, arith, length-append}
 use Rattle.std.proofs.lemmas.List.{length-map}
 use Rattle.std.proofs.Math.Dec.{eqb-suc-zero}
 use Rattle.arena_base.specs.declared.invalidation.InvalidationResult.TheVariants.{Success, GenerationOverflow, InvalidPtr}
-use Rattle.chain_base.specs.Chain.{Chain}
-use Rattle.chain_base.specs.Compression.{canonical, relocated}
 use Rattle.ord_tree.specs.Shape.{Shape, missing, node, walk}
 use Rattle.ord_tree.specs.Half.{IsRebuilt}
 use Rattle.ord_tree.specs.Ranks.{IsTight}
@@ -17,8 +15,8 @@ use Rattle.ord_machine.specs.declared.command.Command.{Command}
 use Rattle.ord_machine.specs.declared.command.Command.TheVariants as commands
 use Rattle.ord_machine.specs.declared.reply.Reply.{Reply}
 use Rattle.ord_machine.specs.declared.reply.Reply.TheVariants.{Inserted, Refused, Item, Removed, Renewed, Changed, Entries, Done, ReductionRefused}
-use Rattle.ord_machine.specs.Machine.{Reading, Marks, Effect, adds, removes, rebuilds, keeps, marked_by, AreTrue, settled, Inserts, Sets, Removes, RemovesAt}
-use Rattle.ord_machine.specs.Machine.{Renews, Changes, Rebuilds, Reserves, SetsMaximum, Drains, Replies, Does, told_effect, effect_of, marks_after}
+use Rattle.ord_machine.specs.Machine.{Reading, Marks, Effect, adds, removes, rebuilds, keeps, marked_by, AreTrue, settled, Inserts}
+use Rattle.ord_machine.specs.Machine.{Does, told_effect, effect_of, marks_after}
 use Rattle.triple_ord.specs.ClosureSearch.{Shown}
 use Rattle.ord_machine.proofs.CallerLemmas.{AreTrue-missing}
 
@@ -78,78 +76,48 @@ module _ {P T I G A : Type 0} (old new : Tree T) where
   inserted r growth aim item (Refused refusal) inserts = inl (ap (λ t. t.shape) inserts.after)
   inserted r growth aim item reply inserts = absurd inserts
 
-  set : (pointer : P → ℕ × ℕ) (p : P) (item : T) (reply : Reply P T A I G) → Sets pointer old p item reply new → Affected reply
-  set pointer p item (Item None) sets = inl (ap (λ t. t.shape) sets.1)
-  set pointer p item (Item (Some before)) sets = inl (ap (λ t. t.shape) sets.1)
-  set pointer p item reply sets = absurd sets
-
-  removed : (greatest : Option ℕ) (pointer : P → ℕ × ℕ) (p : P) (reply : Reply P T A I G) → Removes greatest pointer old p reply new → Affected reply
-  removed greatest pointer p (Removed InvalidPtr) says = inl (ap (λ t. t.shape) says.1)
-  removed greatest pointer p (Removed result) says = tt
-  removed greatest pointer p reply says = absurd says
-
-  removed_at : (greatest : Option ℕ) (pointer : P → ℕ × ℕ) (i : ℕ) (reply : Reply P T A I G) → RemovesAt greatest pointer old i reply new → Affected reply
-  removed_at greatest pointer i (Removed InvalidPtr) says = inl (ap (λ t. t.shape) says.1)
-  removed_at greatest pointer i (Removed result) says = tt
-  removed_at greatest pointer i reply says = absurd says
-
-  renewed : (greatest : Option ℕ) (pointer : P → ℕ × ℕ) (p : P) (reply : Reply P T A I G) → Renews greatest pointer old p reply new → Affected reply
-  renewed greatest pointer p (Renewed InvalidPtr) renews = inl (ap (λ t. t.shape) renews.1)
-  renewed greatest pointer p (Renewed (Success q)) renews = inl (ap (λ t. t.shape) renews.3)
-  renewed greatest pointer p (Renewed (GenerationOverflow q)) renews = inl (ap (λ t. t.shape) renews.3)
-  renewed greatest pointer p reply renews = absurd renews
-
-  changed : (greatest : Option ℕ) (after : Tree T) (reply : Reply P T A I G) → (after.shape ≡ old.shape) ⊎ (after.shape ≡ missing) → Changes greatest old after reply new → Affected reply
-  changed greatest after (Changed result) kept changes = subst (λ (t : Tree T). (t.shape ≡ old.shape) ⊎ (t.shape ≡ missing)) (sym changes.0) kept
-  changed greatest after reply kept changes = absurd changes
-
-  rebuilt : (greatest : Option ℕ) (reset : Bool) (after : ℕ → Chain T) (reply : Reply P T A I G) → Rebuilds greatest reset old after reply new → IsRebuilt new.shape
-  rebuilt greatest reset after (Changed result) says = says.1
-  rebuilt greatest reset after reply says = absurd says
-
-  drained : (greatest : Option ℕ) (pointer : P → ℕ × ℕ) (num : ℕ) (reply : Reply P T A I G) → Drains greatest pointer old num reply new → Affected reply
-  drained greatest pointer num (Entries pairs) drains = inr (ap (λ t. t.shape) drains.1)
-  drained greatest pointer num (Refused AllocError) drains = inl (ap (λ t. t.shape) drains.1)
-  drained greatest pointer num reply drains = absurd drains
-
-  reserved : (most n : ℕ) (reply : Reply P T A I G) → Reserves most old n reply new → Affected reply
-  reserved most n Done says = inl (ap (λ t. t.shape) says.1)
-  reserved most n (Refused BeyondMaxCapacity) says = inl (ap (λ t. t.shape) says.1)
-  reserved most n (Refused AllocError) says = inl (ap (λ t. t.shape) says.2)
-  reserved most n reply says = absurd says
-
-  limited : (n : ℕ) (reply : Reply P T A I G) → SetsMaximum old n reply new → Affected reply
-  limited n Done says = inl (ap (λ t. t.shape) says.1)
-  limited n ReductionRefused says = inl (ap (λ t. t.shape) says.1)
-  limited n reply says = absurd says
-
   -- by the command
-  affected : {K : Type 0} (r : Reading P T I G K) (marks : Marks) (command : Command P T I G K) (reply : Reply P T A I G)
-      → Replies r (record { tree = old; marks = marks }) command reply new → Affects (effect_of command reply) old.shape new.shape
-  affected r marks (commands.Insert item) reply replies = inserted r reallocating (at_key (r.key item)) item reply replies
-  affected r marks (commands.InsertWithin item) reply replies = inserted r within (at_key (r.key item)) item reply replies
-  affected r marks (commands.Entry kind item) reply replies = inserted r reallocating (aim_of r.index kind) item reply replies
-  affected r marks (commands.EntryWithin kind item) reply replies = inserted r within (aim_of r.index kind) item reply replies
-  affected r marks (commands.Set p item) reply replies = set r.pointer p item reply replies
-  affected r marks (commands.Remove p) reply replies = removed r.greatest r.pointer p reply replies
-  affected r marks (commands.RemoveInx i) reply replies = removed_at r.greatest r.pointer (r.index i) reply replies
-  affected r marks (commands.Invalidate p) reply replies = renewed r.greatest r.pointer p reply replies
-  affected r marks commands.Clear reply replies = changed r.greatest _ reply (inr refl) replies
-  affected r marks commands.IncGeneration reply replies = changed r.greatest _ reply (inl refl) replies
-  affected r marks (commands.Compress reset) reply replies = rebuilt r.greatest reset (relocated old.list) reply replies
-  affected r marks (commands.Canonical reset) reply replies = rebuilt r.greatest reset (canonical old.list) reply replies
-  affected r marks (commands.Reserve n) reply replies = reserved r.most n reply replies
-  affected r marks (commands.SetMax n) reply replies = limited n reply replies
-  affected r marks (commands.DrainOrdered num) reply replies = drained r.greatest r.pointer num reply replies
-  affected r marks command reply replies = still reply replies.1
-
-  -- and with a closure
-  affected_with : {F K : Type 0} (r : Reading P T I G K) (asks : F → Shown T → F → Type 0) (f g : F) (marks : Marks)
+  affected : {F K : Type 0} (r : Reading P T I G K) (asks : F → Shown T → F → Type 0) (f g : F) (marks : Marks)
       (command : Command P T I G K) (reply : Reply P T A I G)
       → Does r asks (record { tree = old; marks = marks }) f command reply new g → Affects (effect_of command reply) old.shape new.shape
-  affected_with r asks f g marks commands.FindWith reply does = still reply does.1
-  affected_with r asks f g marks commands.SimilarWith reply does = still reply does.1
-  affected_with r asks f g marks command reply does = affected r marks command reply does.0
+  affected r asks f g marks (commands.Insert item) reply does = inserted r reallocating (at_key (r.key item)) item reply does.0
+  affected r asks f g marks (commands.InsertWithin item) reply does = inserted r within (at_key (r.key item)) item reply does.0
+  affected r asks f g marks (commands.Entry kind item) reply does = inserted r reallocating (aim_of r.index kind) item reply does.0
+  affected r asks f g marks (commands.EntryWithin kind item) reply does = inserted r within (aim_of r.index kind) item reply does.0
+  affected r asks f g marks (commands.Set p item) (Item None) does = inl (ap (λ t. t.shape) does.0.1)
+  affected r asks f g marks (commands.Set p item) (Item (Some before)) does = inl (ap (λ t. t.shape) does.0.1)
+  affected r asks f g marks (commands.Set p item) reply does = absurd does.0
+  affected r asks f g marks (commands.Remove p) (Removed InvalidPtr) does = inl (ap (λ t. t.shape) does.0.1)
+  affected r asks f g marks (commands.Remove p) (Removed result) does = tt
+  affected r asks f g marks (commands.Remove p) reply does = absurd does.0
+  affected r asks f g marks (commands.RemoveInx i) (Removed InvalidPtr) does = inl (ap (λ t. t.shape) does.0.1)
+  affected r asks f g marks (commands.RemoveInx i) (Removed result) does = tt
+  affected r asks f g marks (commands.RemoveInx i) reply does = absurd does.0
+  affected r asks f g marks (commands.Invalidate p) (Renewed InvalidPtr) does = inl (ap (λ t. t.shape) does.0.1)
+  affected r asks f g marks (commands.Invalidate p) (Renewed (Success q)) does = inl (ap (λ t. t.shape) does.0.3)
+  affected r asks f g marks (commands.Invalidate p) (Renewed (GenerationOverflow q)) does = inl (ap (λ t. t.shape) does.0.3)
+  affected r asks f g marks (commands.Invalidate p) reply does = absurd does.0
+  affected r asks f g marks commands.Clear (Changed result) does = inr (ap (λ t. t.shape) does.0.0)
+  affected r asks f g marks commands.Clear reply does = absurd does.0
+  affected r asks f g marks commands.IncGeneration (Changed result) does = inl (ap (λ t. t.shape) does.0.0)
+  affected r asks f g marks commands.IncGeneration reply does = absurd does.0
+  affected r asks f g marks (commands.Compress reset) (Changed result) does = does.0.1
+  affected r asks f g marks (commands.Compress reset) reply does = absurd does.0
+  affected r asks f g marks (commands.Canonical reset) (Changed result) does = does.0.1
+  affected r asks f g marks (commands.Canonical reset) reply does = absurd does.0
+  affected r asks f g marks (commands.Reserve n) Done does = inl (ap (λ t. t.shape) does.0.1)
+  affected r asks f g marks (commands.Reserve n) (Refused BeyondMaxCapacity) does = inl (ap (λ t. t.shape) does.0.1)
+  affected r asks f g marks (commands.Reserve n) (Refused AllocError) does = inl (ap (λ t. t.shape) does.0.2)
+  affected r asks f g marks (commands.Reserve n) reply does = absurd does.0
+  affected r asks f g marks (commands.SetMax n) Done does = inl (ap (λ t. t.shape) does.0.1)
+  affected r asks f g marks (commands.SetMax n) ReductionRefused does = inl (ap (λ t. t.shape) does.0.1)
+  affected r asks f g marks (commands.SetMax n) reply does = absurd does.0
+  affected r asks f g marks (commands.DrainOrdered num) (Entries pairs) does = inr (ap (λ t. t.shape) does.0.1)
+  affected r asks f g marks (commands.DrainOrdered num) (Refused AllocError) does = inl (ap (λ t. t.shape) does.0.1)
+  affected r asks f g marks (commands.DrainOrdered num) reply does = absurd does.0
+  affected r asks f g marks commands.FindWith reply does = still reply does.1
+  affected r asks f g marks commands.SimilarWith reply does = still reply does.1
+  affected r asks f g marks command reply does = still reply does.0.1
 
   -- so the marks after a step tell the truth
   pub AreTrue-does : (marks : Marks) → IsSoundTree new → AreTrue marks old.shape
@@ -157,4 +125,4 @@ module _ {P T I G A : Type 0} (old new : Tree T) where
       (command : Command P T I G K) (reply : Reply P T A I G)
       → Does r asks (record { tree = old; marks = marks }) f command reply new g → AreTrue (marks_after command reply new marks) new.shape
   AreTrue-does marks sound holds r asks f g command reply does =
-      AreTrue-settled new _ sound (AreTrue-marked (effect_of command reply) old.shape new.shape marks (affected_with r asks f g marks command reply does) holds)
+      AreTrue-settled new _ sound (AreTrue-marked (effect_of command reply) old.shape new.shape marks (affected r asks f g marks command reply does) holds)

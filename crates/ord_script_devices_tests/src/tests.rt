@@ -11,10 +11,7 @@ use std::process::Abort;
 
 /// Scripts with their whole answers. That of the fifth is `EQUAL_KEYS`.
 const SCRIPTS: [(&str, &str); 6] = [
-    (
-        "insert -9223372036854775808 18446744073709551615\nlist\ninsert 9223372036854775808 0\n",
-        "new 1.2\nlist 1.2=-9223372036854775808:18446744073709551615\nline 3: bad number\n",
-    ),
+    LIMITS,
     (
         "max 2\ninsert 1 10\ninsert 2 20\nwithin 1 11\nwithin 3 30\ninsert 3 30\nlist\nmax 1\n",
         "ok\nnew 1.2\nnew 2.2\nreplaced 1.2 1:10\nrefused capacity\nrefused maximum\nlist 1.2=1:11 2.2=2:20\nrefused reduction\n",
@@ -31,11 +28,20 @@ const SCRIPTS: [(&str, &str); 6] = [
         "nonhereditary 5 1\nnonhereditary 5 2\nnonhereditary 5 3\nnonhereditary 5 4\nlist\nranks\n",
         EQUAL_KEYS,
     ),
-    (
-        "insert 30 0\ninsert 10 0\ninsert 40 0\ninsert 20 0\nremove 3.2\ncompress 0\nlist\nranks\ncanonical 0\nlist\ncanonical 1\nlist\n",
-        "new 1.2\nnew 2.2\nnew 3.2\nnew 4.2\nremoved 40:0\nok\nlist 2.4=10:0 3.4=20:0 1.4=30:0\nranks 1 3 1\nok\nlist 1.5=10:0 2.5=20:0 3.5=30:0\nok\nlist 1.2=10:0 2.2=20:0 3.2=30:0\n",
-    ),
+    COMPRESSED,
 ];
+
+/// Numbers at their limits, and one beyond.
+const LIMITS: (&str, &str) = (
+    "insert -9223372036854775808 18446744073709551615\nlist\ninsert 9223372036854775808 0\n",
+    "new 1.2\nlist 1.2=-9223372036854775808:18446744073709551615\nline 3: bad number\n",
+);
+
+/// A compression, and both canonicalizations.
+const COMPRESSED: (&str, &str) = (
+    "insert 30 0\ninsert 10 0\ninsert 40 0\ninsert 20 0\nremove 3.2\ncompress 0\nlist\nranks\ncanonical 0\nlist\ncanonical 1\nlist\n",
+    "new 1.2\nnew 2.2\nnew 3.2\nnew 4.2\nremoved 40:0\nok\nlist 2.4=10:0 3.4=20:0 1.4=30:0\nranks 1 3 1\nok\nlist 1.5=10:0 2.5=20:0 3.5=30:0\nok\nlist 1.2=10:0 2.2=20:0 3.2=30:0\n",
+);
 
 /// Where entries with equal keys go.
 const EQUAL_KEYS: &str =

@@ -1,5 +1,5 @@
 //! Bytes where no one puts them, numbers at and beyond their limits, and lines as long as an input may be.
-use super::{ends, served, words_of};
+use super::{ends, served};
 use ord_script::{FaultKind, ScriptEnd};
 use std::alloc::Global;
 use std::process::Abort;
@@ -7,40 +7,43 @@ use std::process::Abort;
 /// The longest input.
 const LONGEST: usize = 1_048_576;
 
-/// The script ends at its first line with this fault.
-fn is_fault(rt: &impl Abort, alloc: Global, script: &[u8], kind: FaultKind) {
-    let fault = format!(in alloc; "line 1: {}\n", words_of(kind)).expect(rt, "memory");
-    ends(rt, alloc, script, fault.as_str(), ScriptEnd::Fault(1, kind));
+/// The answer to a line that is no command.
+const UNKNOWN: &str = "line 1: unknown command\n";
+
+/// The answer to a line that has too few words or too many.
+const WRONG: &str = "line 1: wrong arguments\n";
+
+/// The answer to a line in which a number is none.
+const BAD: &str = "line 1: bad number\n";
+
+/// The answer to a search, and then to a line that is no command.
+const FOUND_AND_UNKNOWN: &str = "none\nline 2: unknown command\n";
+
+/// How a script ends that has this answer.
+fn end_of(answer: &str) -> ScriptEnd {
+    if answer == UNKNOWN {
+        ScriptEnd::Fault(1, FaultKind::UnknownCommand)
+    } else if answer == WRONG {
+        ScriptEnd::Fault(1, FaultKind::WrongArguments)
+    } else if answer == BAD {
+        ScriptEnd::Fault(1, FaultKind::BadNumber)
+    } else if answer == FOUND_AND_UNKNOWN {
+        ScriptEnd::Fault(2, FaultKind::UnknownCommand)
+    } else {
+        ScriptEnd::Done
+    }
 }
 
-/// Where a byte stands, which bytes fit there, which part two words, and what a line says with these, with a line feed, and with others.
+/// Where a byte stands, which bytes fit there, which part two words, and what a line answers with these, with a line feed, and with others.
 struct Place {
     before: &'static str,
     after: &'static str,
     fitting: &'static str,
     parting: &'static str,
     answer: &'static str,
-    line_feed: (&'static str, ScriptEnd),
-    other: (&'static str, ScriptEnd),
+    line_feed: &'static str,
+    other: &'static str,
 }
-
-/// How a line ends that is no command.
-const UNKNOWN: (&str, ScriptEnd) = (
-    "line 1: unknown command\n",
-    ScriptEnd::Fault(1, FaultKind::UnknownCommand),
-);
-
-/// How a line ends that has too few words or too many.
-const WRONG: (&str, ScriptEnd) = (
-    "line 1: wrong arguments\n",
-    ScriptEnd::Fault(1, FaultKind::WrongArguments),
-);
-
-/// How a line ends in which a number is none.
-const BAD: (&str, ScriptEnd) = (
-    "line 1: bad number\n",
-    ScriptEnd::Fault(1, FaultKind::BadNumber),
-);
 
 /// As a first word, inside a word, before a number, and inside one.
 const PLACES: [Place; 4] = [
@@ -50,7 +53,7 @@ const PLACES: [Place; 4] = [
         fitting: "\r \t#",
         parting: "",
         answer: "",
-        line_feed: ("", ScriptEnd::Done),
+        line_feed: "",
         other: UNKNOWN,
     },
     Place {
@@ -77,20 +80,17 @@ const PLACES: [Place; 4] = [
         fitting: "0123456789",
         parting: " \t",
         answer: "none\n",
-        line_feed: (
-            "none\nline 2: unknown command\n",
-            ScriptEnd::Fault(2, FaultKind::UnknownCommand),
-        ),
+        line_feed: FOUND_AND_UNKNOWN,
         other: BAD,
     },
 ];
 
-/// What a script with this byte at a place answers, and how it ends.
-fn wanted(place: &Place, byte: u8) -> (&'static str, ScriptEnd) {
+/// What a script with this byte at a place answers.
+fn wanted(place: &Place, byte: u8) -> &'static str {
     if byte == b'\n' {
         place.line_feed
     } else if place.fitting.as_bytes().contains(&byte) {
-        (place.answer, ScriptEnd::Done)
+        place.answer
     } else if place.parting.as_bytes().contains(&byte) {
         WRONG
     } else {
@@ -102,8 +102,8 @@ fn wanted(place: &Place, byte: u8) -> (&'static str, ScriptEnd) {
 fn each_byte_at(rt: &impl Abort, alloc: Global, place: &Place) {
     for byte in 0u8..=255 {
         let script = filled(rt, alloc, place.before, byte, 1, place.after);
-        let (answer, end) = wanted(place, byte);
-        ends(rt, alloc, &script, answer, end);
+        let answer = wanted(place, byte);
+        ends(rt, alloc, &script, answer, end_of(answer));
     }
 }
 
@@ -173,77 +173,102 @@ fn filled(
     line
 }
 
-/// The line is a command, and answered by one line.
-fn is_command(rt: &impl Abort, alloc: Global, line: &[u8]) {
-    let (output, end) = served(alloc, line);
-    let lines = output.iter().filter(|byte| **byte == b'\n').count();
-    assert!(rt; end == ScriptEnd::Done && lines == 1);
+/// How many line feeds an answer has.
+fn count_lines(answer: &[u8]) -> usize {
+    let mut count = 0usize;
+    for byte in answer {
+        if *byte == b'\n' {
+            count = count.saturating_add(1);
+        }
+    }
+    count
 }
 
-/// A line with a number, and so many zeros in front of it.
+/// A line with a number, and with what stands in front of its digits.
 fn numbered(
     rt: &impl Abort,
     alloc: Global,
     before: &str,
-    count: usize,
+    front: &str,
     number: &str,
     after: &str,
-) -> Vec<u8> {
-    let mut line = filled(rt, alloc, before, b'0', count, number);
-    line.extend_from_slice(after.as_bytes())
-        .expect(rt, "memory");
-    line
+) -> String {
+    format!(in alloc; "{before}{front}{number}{after}").expect(rt, "memory")
 }
 
-/// A number at its limit, with zeros in front, the next one, and one far above.
-fn is_limit(rt: &impl Abort, alloc: Global, row: (&str, &str, &str, &str), count: usize) {
+/// The line is a command, and answered by one line.
+fn is_command(rt: &impl Abort, alloc: Global, line: &String) {
+    let (output, end) = served(alloc, line.as_bytes());
+    assert!(rt; end == ScriptEnd::Done && count_lines(output.as_slice()) == 1);
+}
+
+/// The line has a number that is none.
+fn is_bad(rt: &impl Abort, alloc: Global, line: &String) {
+    ends(
+        rt,
+        alloc,
+        line.as_bytes(),
+        BAD,
+        ScriptEnd::Fault(1, FaultKind::BadNumber),
+    );
+}
+
+/// A number at its limit, with zeros in front, the next one, and one far above, which begins with a nine.
+fn is_limit(
+    rt: &impl Abort,
+    alloc: Global,
+    row: (&str, &str, &str, &str),
+    zeros: &str,
+    nine: &str,
+) {
     let (before, most, next, after) = row;
-    is_command(rt, alloc, &numbered(rt, alloc, before, count, most, after));
-    let above = numbered(rt, alloc, before, count, next, after);
-    is_fault(rt, alloc, &above, FaultKind::BadNumber);
-    let nine = format!(in alloc; "{before}9").expect(rt, "memory");
-    let far = numbered(rt, alloc, nine.as_str(), count, next, after);
-    is_fault(rt, alloc, &far, FaultKind::BadNumber);
+    is_command(rt, alloc, &numbered(rt, alloc, before, zeros, most, after));
+    is_bad(rt, alloc, &numbered(rt, alloc, before, zeros, next, after));
+    is_bad(rt, alloc, &numbered(rt, alloc, before, nine, next, after));
+}
+
+/// Every limit with so many zeros.
+fn each_limit(rt: &impl Abort, alloc: Global, count: usize) {
+    let digits = filled(rt, alloc, "9", b'0', count, "");
+    let nine = std::str::from_utf8(&digits).expect(rt, "digits");
+    let zeros = nine.strip_prefix('9').expect(rt, "a nine");
+    for row in &LIMITS {
+        is_limit(rt, alloc, *row, zeros, nine);
+    }
 }
 
 #[test]
 fn numbers_at_and_beyond_their_limits(rt: HostRuntime) {
-    for row in &LIMITS {
-        for count in [0usize, 1, 50, 3000] {
-            is_limit(&rt, rt.alloc(), *row, count);
-        }
+    for count in [0usize, 1, 50, 3000] {
+        each_limit(&rt, rt.alloc(), count);
     }
 }
 
 /// A script of the greatest length: so many equal bytes between two texts.
-fn longest(rt: &impl Abort, alloc: Global, parts: (&str, u8, &str)) -> Vec<u8> {
-    let (before, byte, after) = parts;
+fn longest(rt: &impl Abort, alloc: Global, before: &str, byte: u8, after: &str) -> Vec<u8> {
     let count = LONGEST.saturating_sub(before.len().saturating_add(after.len()));
     let script = filled(rt, alloc, before, byte, count, after);
     assert!(rt; script.len() == LONGEST);
     script
 }
 
-/// Scripts of the greatest length, each with its answer and its end.
-const LONG: [((&str, u8, &str), (&str, ScriptEnd)); 8] = [
-    (("#", b'x', ""), ("", ScriptEnd::Done)),
-    (("", b'\n', ""), ("", ScriptEnd::Done)),
-    (("", b' ', "list"), ("list\n", ScriptEnd::Done)),
-    (
-        ("insert -", b'0', "5 7\nlist"),
-        ("new 1.2\nlist 1.2=-5:7\n", ScriptEnd::Done),
-    ),
-    (("", b'x', ""), UNKNOWN),
-    (("list", b'\r', "\n"), UNKNOWN),
-    (("find 1 2", b'\t', "3"), WRONG),
-    (("find ", b'9', ""), BAD),
+/// Scripts of the greatest length, each with its answer.
+const LONG: [(&str, u8, &str, &str); 8] = [
+    ("#", b'x', "", ""),
+    ("", b'\n', "", ""),
+    ("", b' ', "list", "list\n"),
+    ("insert -", b'0', "5 7\nlist", "new 1.2\nlist 1.2=-5:7\n"),
+    ("", b'x', "", UNKNOWN),
+    ("list", b'\r', "\n", UNKNOWN),
+    ("find 1 2", b'\t', "3", WRONG),
+    ("find ", b'9', "", BAD),
 ];
 
 #[test]
 fn lines_of_a_megabyte(rt: HostRuntime) {
-    for (parts, (answer, end)) in LONG {
-        let script = longest(&rt, rt.alloc(), parts);
-        ends(&rt, rt.alloc(), &script, answer, end);
+    for (before, byte, after, answer) in &LONG {
+        let script = longest(&rt, rt.alloc(), *before, *byte, *after);
+        ends(&rt, rt.alloc(), &script, *answer, end_of(*answer));
     }
 }
 
@@ -251,7 +276,7 @@ fn lines_of_a_megabyte(rt: HostRuntime) {
 fn one_byte_more_and_the_last_line(rt: HostRuntime) {
     let more = filled(&rt, rt.alloc(), "", b'\n', LONGEST, "\n");
     ends(&rt, rt.alloc(), &more, "", ScriptEnd::TooLong);
-    let last = longest(&rt, rt.alloc(), ("", b'\n', "x"));
+    let last = longest(&rt, rt.alloc(), "", b'\n', "x");
     let end = ScriptEnd::Fault(LONGEST, FaultKind::UnknownCommand);
     ends(
         &rt,

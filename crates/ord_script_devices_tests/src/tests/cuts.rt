@@ -60,80 +60,87 @@ fn letters_of(word: &str) -> Option<&'static str> {
     None
 }
 
-/// What is wrong with a line that isn't blank: its first word, how many words follow it, or one of them.
-fn fault_in(line: &str) -> Option<FaultKind> {
-    let word = line.split_ascii_whitespace().next()?;
-    let Some(letters) = letters_of(word) else {
-        return Some(FaultKind::UnknownCommand);
-    };
-    if line.split_ascii_whitespace().skip(1).count() != letters.len() {
-        return Some(FaultKind::WrongArguments);
-    }
+/// Whether each word after the first is an argument of its letter.
+fn are_arguments(line: &str, letters: &str) -> bool {
     for (text, letter) in line.split_ascii_whitespace().skip(1).zip(letters.bytes()) {
         if !is_any_argument(text, letter) {
-            return Some(FaultKind::BadNumber);
-        }
-    }
-    None
-}
-
-/// Whether a line is a reply, and not that of a fault.
-fn is_reply(line: Option<&str>) -> bool {
-    match line {
-        Some(line) => !line.starts_with("line "),
-        None => false,
-    }
-}
-
-/// A script as it should be, and a beginning of it with its answer.
-#[derive(Clone, Copy)]
-struct Cut<'a> {
-    script: &'a str,
-    answer: &'a str,
-    cut: &'a str,
-    told: &'a str,
-    end: ScriptEnd,
-}
-
-/// Whether a line is that of this fault.
-fn is_fault(
-    rt: &impl Abort,
-    alloc: Global,
-    line: Option<&str>,
-    number: usize,
-    kind: FaultKind,
-) -> bool {
-    let fault = format!(in alloc; "line {number}: {}", words_of(kind)).expect(rt, "memory");
-    line == Some(fault.as_str())
-}
-
-/// Whether the beginning is answered as it should be: whole lines as in the whole script, the rest of a line by what it is now.
-fn is_answered(rt: &impl Abort, alloc: Global, c: &Cut) -> bool {
-    let mut whole = c.script.split('\n');
-    let mut wanted = c.answer.lines();
-    let mut told = c.told.lines();
-    let mut number = 0usize;
-    let mut end = ScriptEnd::Done;
-    for line in c.cut.split('\n') {
-        number = number.saturating_add(1);
-        let is_whole = whole.next() == Some(line);
-        let reply = wanted.next();
-        if line.is_empty() {
-            continue;
-        }
-        let answered = told.next();
-        if let Some(kind) = fault_in(line) {
-            if !is_fault(rt, alloc, answered, number, kind) {
-                return false;
-            }
-            end = ScriptEnd::Fault(number, kind);
-            break;
-        }
-        if !is_reply(answered) || (is_whole && answered != reply) {
             return false;
         }
     }
-    told.next().is_none() && c.end == end
+    true
+}
+
+/// What is wrong with the arguments of a command: how many they are, or one of them.
+fn fault_in_arguments(line: &str, letters: &str) -> Option<FaultKind> {
+    if line.split_ascii_whitespace().skip(1).count() != letters.len() {
+        Some(FaultKind::WrongArguments)
+    } else if are_arguments(line, letters) {
+        None
+    } else {
+        Some(FaultKind::BadNumber)
+    }
+}
+
+/// What is wrong with a line that isn't blank: its first word, or what follows it.
+fn fault_in(line: &str) -> Option<FaultKind> {
+    let word = line.split_ascii_whitespace().next()?;
+    match letters_of(word) {
+        Some(letters) => fault_in_arguments(line, letters),
+        None => Some(FaultKind::UnknownCommand),
+    }
+}
+
+/// Whether a line is that of this fault.
+fn is_fault(rt: &impl Abort, alloc: Global, line: &str, number: usize, kind: FaultKind) -> bool {
+    let fault = format!(in alloc; "line {number}: {}", words_of(kind)).expect(rt, "memory");
+    line == fault.as_str()
+}
+
+/// How many lines two texts have in common where they begin.
+fn common_lines(left: &str, right: &str) -> usize {
+    let mut count = 0usize;
+    for (one, other) in left.lines().zip(right.lines()) {
+        if one != other {
+            return count;
+        }
+        count = count.saturating_add(1);
+    }
+    count
+}
+
+/// Whether the last line of an answer, and the end, are those of a last line of a script in which this is wrong.
+fn is_end(
+    rt: &impl Abort,
+    alloc: Global,
+    reply: &str,
+    number: usize,
+    fault: Option<FaultKind>,
+    end: ScriptEnd,
+) -> bool {
+    match fault {
+        Some(kind) => {
+            end == ScriptEnd::Fault(number, kind) && is_fault(rt, alloc, reply, number, kind)
+        }
+        None => end == ScriptEnd::Done && !reply.starts_with("line "),
+    }
+}
+
+/// The last line of a text, or an empty one.
+fn last_line(text: &str) -> &str {
+    text.lines().last().unwrap_or("")
+}
+
+/// Whether an answer has a line for each line of a cut script, and as many of the whole answer's as the cut has of the whole script's.
+fn are_lines(script: &str, answer: &str, cut: &str, told: &str) -> bool {
+    told.lines().count() == cut.lines().count()
+        && common_lines(told, answer) >= common_lines(cut, script)
+}
+
+/// Whether the beginning of a script is answered as it should be: whole lines as in the whole script, the rest of a line by what it is now.
+fn is_answered(rt: &impl Abort, alloc: Global, cut: &str, told: &str, end: ScriptEnd) -> bool {
+    let fault = fault_in(last_line(cut));
+    let number = cut.lines().count();
+    is_end(rt, alloc, last_line(told), number, fault, end)
 }
 
 /// Cuts a script after so many bytes.
@@ -146,17 +153,10 @@ fn is_cut_answered(
 ) -> bool {
     let (cut, _) = script.split_at_checked(count).expect(rt, "a boundary");
     let (output, end) = served(alloc, cut.as_bytes());
-    let Ok(told) = std::str::from_utf8(&output) else {
-        return false;
-    };
-    let c = Cut {
-        script,
-        answer,
-        cut,
-        told,
-        end,
-    };
-    is_answered(rt, alloc, &c) && (told.is_empty() || told.ends_with('\n'))
+    let told = std::str::from_utf8(&output).unwrap_or("no text");
+    are_lines(script, answer, cut, told)
+        && is_answered(rt, alloc, cut, told, end)
+        && (told.is_empty() || told.ends_with('\n'))
 }
 
 /// Each beginning of a script, and the whole one.

@@ -1,5 +1,5 @@
 //! Scripts on heaps of little room.
-use super::SCRIPTS;
+use super::{COMPRESSED, LIMITS};
 use linked_list_allocator::LocalHeap;
 use ord_script::{ScriptEnd, Watched, serve};
 use std::alloc::Global;
@@ -39,23 +39,27 @@ fn is_but_for_lists(told: &str, whole: &str) -> bool {
 
 /// A script with what it answers where there is memory, and where no entry finds room.
 #[derive(Clone, Copy)]
-struct Case<'a> {
-    script: &'a str,
-    whole: &'a str,
-    bare: &'a str,
+struct Case {
+    script: &'static str,
+    whole: &'static str,
+    bare: &'static str,
+}
+
+/// Whether a script is answered as it may be: not at all where it was refused.
+fn is_right(case: &Case, is_refused: bool, told: &str) -> bool {
+    if is_refused {
+        told.is_empty()
+    } else {
+        told == case.bare || is_but_for_lists(told, case.whole)
+    }
 }
 
 /// Serves a script on a heap of this size. Tells whether that was refused, which writes nothing, and whether the answer is whole.
 fn ends_on(rt: &impl Abort, alloc: Global, case: &Case, size: usize) -> (bool, bool) {
     let (output, end) = served_on(rt, alloc, case.script.as_bytes(), size);
-    let told = std::str::from_utf8(&output).expect(rt, "text");
+    let told = std::str::from_utf8(&output).unwrap_or("no text");
     let is_refused = end == ScriptEnd::Memory;
-    let is_right = if is_refused {
-        told.is_empty()
-    } else {
-        told == case.bare || is_but_for_lists(told, case.whole)
-    };
-    assert!(rt; is_right, "{size}: {told}");
+    assert!(rt; is_right(case, is_refused, told), "{told}");
     (is_refused, told == case.whole)
 }
 
@@ -71,25 +75,27 @@ fn each_request_of(rt: &impl Abort, alloc: Global, case: &Case) {
     assert!(rt; was_refused && is_whole, "{}", case.script);
 }
 
+/// The answer of `LIMITS` where no entry finds room.
+const BARE_LIMITS: &str = "refused memory\nlist\nline 3: bad number\n";
+
+/// The answer of `COMPRESSED` where no entry finds room.
+const BARE_COMPRESSED: &str =
+    "refused memory\nrefused memory\nrefused memory\nrefused memory\ninvalid\nok\nlist\nranks\nok\nlist\nok\nlist\n";
+
+/// A script and its answer, with the one where no entry finds room.
+fn case_of(script: (&'static str, &'static str), bare: &'static str) -> Case {
+    let (script, whole) = script;
+    Case {
+        script,
+        whole,
+        bare,
+    }
+}
+
 #[test]
 fn each_request_of_a_script(rt: HostRuntime) {
-    let (script, whole) = SCRIPTS[0];
-    let bare = "refused memory\nlist\nline 3: bad number\n";
-    let short = Case {
-        script,
-        whole,
-        bare,
-    };
-    each_request_of(&rt, rt.alloc(), &short);
-    let (script, whole) = SCRIPTS[5];
-    let bare =
-        "refused memory\nrefused memory\nrefused memory\nrefused memory\ninvalid\nok\nlist\nranks\nok\nlist\nok\nlist\n";
-    let long = Case {
-        script,
-        whole,
-        bare,
-    };
-    each_request_of(&rt, rt.alloc(), &long);
+    each_request_of(&rt, rt.alloc(), &case_of(LIMITS, BARE_LIMITS));
+    each_request_of(&rt, rt.alloc(), &case_of(COMPRESSED, BARE_COMPRESSED));
 }
 
 /// How many entries are inserted.
@@ -157,6 +163,18 @@ fn refusals_of(told: &str, list: &str, lists: usize) -> Option<usize> {
     }
 }
 
+/// The number of an end, as below, where the answer is right.
+fn number_of(told: &str, list: &str, lists: usize, end: ScriptEnd) -> Option<usize> {
+    match end {
+        ScriptEnd::Memory if told.is_empty() => Some(0),
+        ScriptEnd::Done => {
+            let refusals = refusals_of(told, list, lists)?;
+            if refusals == 0 { Some(2) } else { Some(1) }
+        }
+        _ => None,
+    }
+}
+
 /// Serves a script of so many lists on a heap of this size. Answers 0 for an end for want of memory, 1 for an answer with refusals,
 /// and 2 for a whole one.
 fn end_on(
@@ -168,14 +186,8 @@ fn end_on(
     size: usize,
 ) -> usize {
     let (output, end) = served_on(rt, alloc, script.as_bytes(), size);
-    if end == ScriptEnd::Memory {
-        assert!(rt; output.is_empty());
-        return 0;
-    }
-    assert!(rt; end == ScriptEnd::Done);
-    let told = std::str::from_utf8(&output).expect(rt, "text");
-    let refusals = refusals_of(told, list, lists).expect(rt, "the lines");
-    if refusals == 0 { 2 } else { 1 }
+    let told = std::str::from_utf8(&output).unwrap_or("no text");
+    number_of(told, list, lists, end).expect(rt, "an end, and the lines")
 }
 
 /// Lists all entries so often on heaps of growing size. Tells whether there was an end for want of memory, an answer with refused

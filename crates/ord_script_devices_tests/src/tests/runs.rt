@@ -76,15 +76,30 @@ fn place_of(plain: &Plain, key: u64) -> usize {
 
 /// The pointer of a key.
 fn pointer_of(plain: &Plain, key: u64) -> Option<P0> {
-    let entry = plain.iter().find(|entry| entry.1 == key)?;
-    Some(entry.0)
+    for entry in plain {
+        if entry.1 == key {
+            return Some(entry.0);
+        }
+    }
+    None
+}
+
+/// Whether an entry of the vector has this pointer and key.
+fn is_entry(entry: Option<&(P0, u64)>, p: P0, pair: &Item) -> bool {
+    match entry {
+        Some(entry) => entry.0 == p && entry.1 == *pair.k(),
+        None => false,
+    }
 }
 
 /// Whether these are the first so many entries.
 fn are_first(plain: &Plain, entries: &[(P0, Item)], count: usize) -> bool {
-    let wanted = plain.iter().take(count);
+    for (entry, told) in plain.iter().zip(entries) {
+        if !is_entry(Some(entry), told.0, &told.1) {
+            return false;
+        }
+    }
     entries.len() == plain.len().min(count)
-        && wanted.zip(entries).all(|(entry, told)| entry.0 == told.0 && entry.1 == *told.1.k())
 }
 
 /// Does to the vector what an insertion did.
@@ -189,37 +204,64 @@ fn mark(met: &mut Refusals, line: Line) {
 }
 
 /// The commands of the run, on a heap.
-fn commands<'h>(rt: &impl Abort, heap: &'h LocalHeap) -> Vec<Command<P0, Item>, &'h LocalHeap> {
-    let mut commands = Vec::with_capacity(heap, LINES.len()).expect(rt, "memory");
-    for line in &LINES {
+fn commands<'h>(
+    rt: &impl Abort,
+    heap: &'h LocalHeap,
+    lines: &[Line],
+) -> Vec<Command<P0, Item>, &'h LocalHeap> {
+    let mut commands = Vec::with_capacity(heap, lines.len()).expect(rt, "memory");
+    for line in lines {
         commands.push(command(*line)).expect(rt, "memory");
     }
     commands
 }
 
-/// Whether the replies are those of the commands over no entry; the vector is then what the arena has to be.
-fn are_replies(rt: &impl Abort, plain: &mut Plain, replies: &[Told], met: &mut Refusals) -> bool {
-    let mut is_refused = false;
-    for (line, reply) in LINES.iter().zip(replies) {
-        if !is_reply(rt, plain, *line, reply) {
-            return false;
-        }
-        if matches!(reply, Reply::Refused(_)) {
-            mark(met, *line);
-            is_refused = true;
+/// Whether a reply was refused.
+fn is_any_refused(replies: &[Told]) -> bool {
+    for reply in replies {
+        if is_refusal(reply) {
+            return true;
         }
     }
-    met.nothing = met.nothing || !is_refused;
-    replies.len() == 30
+    false
+}
+
+/// Whether a reply is that of a command over these entries; a refusal is marked.
+fn is_marked(
+    rt: &impl Abort,
+    plain: &mut Plain,
+    line: Line,
+    reply: &Told,
+    met: &mut Refusals,
+) -> bool {
+    if is_refusal(reply) {
+        mark(met, line);
+    }
+    is_reply(rt, plain, line, reply)
+}
+
+/// Whether the replies are those of the commands over no entry; the vector is then what the arena has to be.
+fn are_replies(
+    rt: &impl Abort,
+    plain: &mut Plain,
+    lines: &[Line],
+    replies: &[Told],
+    met: &mut Refusals,
+) -> bool {
+    for (line, reply) in lines.iter().zip(replies) {
+        if !is_marked(rt, plain, *line, reply, met) {
+            return false;
+        }
+    }
+    replies.len() == lines.len()
 }
 
 /// Whether the arena has these entries, in order.
 fn has(arena: &Numbers, plain: &Plain) -> bool {
     let mut wanted = plain.iter();
     for (p, pair) in arena {
-        match wanted.next() {
-            Some(entry) if entry.0 == p && entry.1 == *pair.k() => {}
-            _ => return false,
+        if !is_entry(wanted.next(), p, pair) {
+            return false;
         }
     }
     wanted.next().is_none() && arena.len() == plain.len()
@@ -228,23 +270,49 @@ fn has(arena: &Numbers, plain: &Plain) -> bool {
 /// What the commands answer, where memory for the replies wasn't refused.
 type Outcome<'h> = Result<Vec<Told<'h>, &'h LocalHeap>, AllocError>;
 
+/// Whether the replies are those of the commands; where the replies were refused the arena has to have taken no memory.
+fn is_outcome(
+    rt: &impl Abort,
+    plain: &mut Plain,
+    lines: &[Line],
+    capacity: usize,
+    outcome: &Outcome,
+    met: &mut Refusals,
+) -> bool {
+    match outcome {
+        Ok(replies) => {
+            met.nothing = met.nothing || !is_any_refused(replies);
+            are_replies(rt, plain, lines, replies, met)
+        }
+        Err(AllocError) => {
+            met.replies = true;
+            capacity == 0
+        }
+    }
+}
+
 /// The replies and the entries are those of the commands; where the replies were refused the arena is as it was.
 fn is_right<'h>(
     rt: &impl Abort,
     alloc: Global,
+    lines: &[Line],
     arena: &Numbers<'h>,
     outcome: &Outcome<'h>,
     met: &mut Refusals,
 ) {
     let mut plain = Vec::new(alloc);
-    match outcome {
-        Ok(replies) => assert!(rt; are_replies(rt, &mut plain, replies, met)),
-        Err(AllocError) => {
-            assert!(rt; arena.capacity() == 0);
-            met.replies = true;
-        }
-    }
-    assert!(rt; has(arena, &plain));
+    let is_told = is_outcome(rt, &mut plain, lines, arena.capacity(), outcome, met);
+    assert!(rt; is_told && has(arena, &plain));
+}
+
+/// Runs the commands on an arena.
+fn outcome_of<'h>(
+    heap: &'h LocalHeap,
+    arena: &mut Numbers<'h>,
+    commands: Vec<Command<P0, Item>, &'h LocalHeap>,
+) -> Outcome<'h> {
+    let mut closure = |_p: P0, _item: &Item| Ordering::Equal;
+    run(heap, arena, commands, &mut closure)
 }
 
 /// Runs the commands on an arena without an entry.
@@ -252,25 +320,43 @@ fn run_on<'h>(
     rt: &impl Abort,
     alloc: Global,
     heap: &'h LocalHeap,
+    lines: &[Line],
     commands: Vec<Command<P0, Item>, &'h LocalHeap>,
     met: &mut Refusals,
 ) {
-    let mut arena: Numbers<'h> = SimpleOrdArena::new(heap);
-    let mut closure = |_p: P0, _item: &Item| Ordering::Equal;
-    let outcome = run(heap, &mut arena, commands, &mut closure);
-    is_right(rt, alloc, &arena, &outcome, met);
+    let mut arena = SimpleOrdArena::new(heap);
+    let outcome = outcome_of(heap, &mut arena, commands);
+    is_right(rt, alloc, lines, &arena, &outcome, met);
+}
+
+/// Runs the commands where so many units of room are left beside them.
+fn run_in_room(
+    rt: &impl Abort,
+    alloc: Global,
+    heap: &LocalHeap,
+    lines: &[Line],
+    units: usize,
+    met: &mut Refusals,
+) {
+    let commands = commands(rt, heap, lines);
+    let room = heap.free().saturating_sub(units.saturating_mul(16));
+    let _taken: Vec<u8, &LocalHeap> = Vec::with_capacity(heap, room).expect(rt, "room");
+    run_on(rt, alloc, heap, lines, commands, met);
 }
 
 /// Runs the commands where so many units of room are left beside them; and where something was refused once more, with memory.
-fn run_with(rt: &impl Abort, alloc: Global, units: usize, met: &mut Refusals) {
+fn run_with(rt: &impl Abort, alloc: Global, lines: &[Line], units: usize, met: &mut Refusals) {
     let heap = LocalHeap::new(alloc, 1 << 14).expect(rt, "a heap");
-    let first = commands(rt, &heap);
-    let room = heap.free().saturating_sub(units.saturating_mul(16));
-    let taken: Vec<u8, &LocalHeap> = Vec::with_capacity(&heap, room).expect(rt, "room");
-    run_on(rt, alloc, &heap, first, met);
-    drop(taken);
+    run_in_room(rt, alloc, &heap, lines, units, met);
     let mut again = NONE;
-    run_on(rt, alloc, &heap, commands(rt, &heap), &mut again);
+    run_on(
+        rt,
+        alloc,
+        &heap,
+        lines,
+        commands(rt, &heap, lines),
+        &mut again,
+    );
     assert!(rt; again.nothing);
 }
 
@@ -278,7 +364,7 @@ fn run_with(rt: &impl Abort, alloc: Global, units: usize, met: &mut Refusals) {
 fn each_request_of_a_run(rt: HostRuntime) {
     let mut met = NONE;
     for units in 0usize..400 {
-        run_with(&rt, rt.alloc(), units, &mut met);
+        run_with(&rt, rt.alloc(), &LINES, units, &mut met);
     }
     let all = Refusals {
         replies: true,

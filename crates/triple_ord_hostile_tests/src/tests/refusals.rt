@@ -32,9 +32,16 @@ fn rank_at<T>(rt: &impl Abort, a: &OnHeap<T>, index: u32) -> u8 {
     node.t.rank
 }
 
-/// The text of an arena's counts: length, capacity, maximum and generation.
-fn counts<T>(rt: &impl Abort, alloc: Global, a: &OnHeap<T>) -> String {
-    let counts = (a.len(), a.capacity(), a.max_capacity(), a.generation());
+/// An arena's counts: length, capacity, maximum and generation.
+type Counts = (usize, usize, Option<usize>, u64);
+
+/// The counts of an arena.
+fn counts<T>(a: &OnHeap<T>) -> Counts {
+    (a.len(), a.capacity(), a.max_capacity(), a.generation())
+}
+
+/// The text of these counts.
+fn text_of(rt: &impl Abort, alloc: Global, counts: Counts) -> String {
     format!(in alloc; "{counts:?}").expect(rt, "memory")
 }
 
@@ -45,16 +52,22 @@ fn write_entry<T: Debug>(rt: &impl Abort, text: &mut String, p: P0, item: &T, ra
 
 /// All that can be seen of an arena: its counts, and the entries in order, each with the rank of its node.
 fn look<T: Debug>(rt: &impl Abort, alloc: Global, a: &OnHeap<T>) -> String {
-    let mut text = counts(rt, alloc, a);
+    let mut text = text_of(rt, alloc, counts(a));
     for (p, item) in a {
         write_entry(rt, &mut text, p, item, rank_at(rt, a, p.inx()));
     }
     text
 }
 
+/// Whether two texts are the same.
+fn is_same(now: &str, text: &str) -> bool {
+    now == text
+}
+
 /// The arena looks so.
 fn looks_like<T: Debug>(rt: &impl Abort, alloc: Global, a: &OnHeap<T>, text: &str) {
-    assert!(rt; look(rt, alloc, a).as_str() == text);
+    let now = look(rt, alloc, a);
+    assert!(rt; is_same(now.as_str(), text));
 }
 
 /// Whether a call was refused memory: the arena looks like the first text then, and like the second one where it was not.

@@ -85,15 +85,21 @@ fn index_at(rows: &[Row], place: usize) -> Option<u32> {
 
 /// Whether the entry beside a gap, if there is one, was told this word.
 fn is_told(words: Words, beside: Option<u32>, word: Ordering) -> bool {
-    match beside {
-        Some(i) => call_of(words, i).map(|call| word_at(words, call)) == Some(word),
-        None => true,
+    let Some(i) = beside else {
+        return true;
+    };
+    match call_of(words, i) {
+        Some(call) => word_at(words, call) == word,
+        None => false,
     }
 }
 
 /// Whether a search stops at the gap between two entries, of which there may be none: one was shown last, if any was.
 fn stops(words: Words, before: Option<u32>, after: Option<u32>) -> bool {
-    let shown_last = last(words).map(|(i, _)| i);
+    let shown_last = match last(words) {
+        Some((i, _)) => Some(i),
+        None => None,
+    };
     is_told(words, before, Ordering::Greater)
         && is_told(words, after, Ordering::Less)
         && (shown_last == before || shown_last == after)
@@ -139,7 +145,11 @@ fn equal_by(a: &Numbers, said: [Ordering; 3]) -> (Option<u32>, u128, Words) {
     let mut words = silent(said);
     let mut closure = |p: P0, _item: &Item| say(&mut words, p);
     let (found, visits) = a.find_with_counted(&mut closure);
-    (found.map(|p| p.inx()), visits.count(), words)
+    let found = match found {
+        Some(p) => Some(p.inx()),
+        None => None,
+    };
+    (found, visits.count(), words)
 }
 
 /// The index of the entry to which Equal was said.

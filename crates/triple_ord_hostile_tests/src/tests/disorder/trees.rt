@@ -26,8 +26,11 @@ fn node_at(a: &Numbers, i: u32) -> Option<Node> {
 
 /// The rank of the child at an index, 0 where there is none.
 fn rank_at(a: &Numbers, child: Option<u32>) -> u8 {
-    match child {
-        Some(i) => node_at(a, i).map_or(0, |node| node.rank),
+    let Some(i) = child else {
+        return 0;
+    };
+    match node_at(a, i) {
+        Some(node) => node.rank,
         None => 0,
     }
 }

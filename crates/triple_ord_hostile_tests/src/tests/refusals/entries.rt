@@ -1,5 +1,5 @@
 //! Entries of a full arena, asked for where little room is left.
-use super::{Numbers, filled, leave, look, new_heap};
+use super::{Numbers, filled, leave, looks_like, new_heap};
 use linked_list_allocator::LocalHeap;
 use std::alloc::Global;
 use std::process::Abort;
@@ -49,6 +49,14 @@ const FULL: &str =
 const GROWN: &str =
     "(5, 8, None, 2) P0[1](2)=(0, 0):1 P0[4](2)=(1, 0):2 P0[5](2)=(5, 99):1 P0[2](2)=(7, 99):3 P0[3](2)=(14, 0):1";
 
+/// What the arena looks like after this refusal, or none.
+fn text_after(refusal: Option<OrdInsertionError>) -> &'static str {
+    match refusal {
+        None => GROWN,
+        Some(_) => FULL,
+    }
+}
+
 /// A full arena of four replaces an item, and then refuses a new entry or grows. Answers the refusal, which changes nothing.
 fn refusal_of(
     rt: &impl Abort,
@@ -58,8 +66,7 @@ fn refusal_of(
 ) -> Option<OrdInsertionError> {
     assert!(rt; put_by(call, a, 7).is_none());
     let refusal = put_by(call, a, 5);
-    let text = if refusal.is_none() { GROWN } else { FULL };
-    assert!(rt; look(rt, alloc, a).as_str() == text);
+    looks_like(rt, alloc, a, text_after(refusal));
     refusal
 }
 
@@ -76,6 +83,16 @@ fn refusal_in_little<'h>(
     refusal_of(rt, alloc, call, a)
 }
 
+/// The same with memory is not refused.
+fn succeeds(rt: &impl Abort, alloc: Global, call: Call, a: &mut Numbers) {
+    assert!(rt; refusal_of(rt, alloc, call, a).is_none());
+}
+
+/// Whether a refusal is one of memory.
+fn is_of_memory(refusal: Option<OrdInsertionError>) -> bool {
+    matches!(refusal, Some(OrdInsertionError::AllocError))
+}
+
 /// Asks for entries where so many units of room are left. Answers the refusal; where it is one of memory, the same is done with memory.
 fn refusal_on(
     rt: &impl Abort,
@@ -86,8 +103,8 @@ fn refusal_on(
 ) -> Option<OrdInsertionError> {
     let mut a = filled(rt, heap, 4);
     let refusal = refusal_in_little(rt, alloc, heap, call, units, &mut a);
-    if refusal == Some(OrdInsertionError::AllocError) {
-        assert!(rt; refusal_of(rt, alloc, call, &mut a).is_none());
+    if is_of_memory(refusal) {
+        succeeds(rt, alloc, call, &mut a);
     }
     refusal
 }
@@ -101,7 +118,7 @@ fn is_refused_memory(
     units: usize,
 ) -> bool {
     let refusal = refusal_on(rt, alloc, heap, call, units);
-    assert!(rt; matches!(refusal, None | Some(OrdInsertionError::AllocError)));
+    assert!(rt; refusal.is_none() || is_of_memory(refusal));
     refusal.is_some()
 }
 

@@ -29,11 +29,16 @@ fn put_in_little<'h>(
     put_until_refused(rt, alloc, a)
 }
 
+/// Whether the key of a turn goes in, at the next index.
+fn goes_in(rt: &impl Abort, a: &mut Numbers, turn: u32) -> bool {
+    put(rt, a, turn) == Some(turn.saturating_add(1))
+}
+
 /// Inserts twenty keys where so many units of room are left. Answers which was refused; that one is inserted with memory.
 fn turn_refused(rt: &impl Abort, alloc: Global, heap: &LocalHeap, units: usize) -> u32 {
     let mut a = Numbers::new(heap);
     let turn = put_in_little(rt, alloc, heap, units, &mut a);
-    assert!(rt; turn == 20 || put(rt, &mut a, turn) == Some(turn.saturating_add(1)));
+    assert!(rt; turn == 20 || goes_in(rt, &mut a, turn));
     turn
 }
 
@@ -113,16 +118,19 @@ const TARGET: (&str, &str) = (
     "(5, 5, None, 9) P0[1](9)=(0, 1):1 P0[2](9)=(1, 1):2 P0[3](9)=(7, 1):3 P0[4](9)=(8, 1):1 P0[5](9)=(14, 1):2",
 );
 
+/// What the source looks like after this outcome.
+fn left_by(outcome: Result<(), ReallocationError>) -> &'static str {
+    match outcome {
+        Ok(()) => "(0, 5, None, 7)",
+        Err(_) => FIVE,
+    }
+}
+
 /// Takes five keys over. Tells whether that was refused, which changes neither arena.
 fn is_refused_five(rt: &impl Abort, alloc: Global, a: &mut Numbers, source: &mut Numbers) -> bool {
     let (outcome, calls) = transfer(a, source);
-    let (left, called) = if outcome.is_ok() {
-        ("(0, 5, None, 7)", 5)
-    } else {
-        (FIVE, 0)
-    };
-    assert!(rt; calls == called);
-    looks_like(rt, alloc, source, left);
+    assert!(rt; calls == if outcome.is_ok() { 5 } else { 0 });
+    looks_like(rt, alloc, source, left_by(outcome));
     is_refused(rt, alloc, a, outcome, TARGET)
 }
 
@@ -140,12 +148,23 @@ fn is_refused_five_in_little<'h>(
 }
 
 /// Takes five keys over where so many units of room are left. Tells whether that was refused; then it is done with memory.
+fn is_refused_from<'h>(
+    rt: &impl Abort,
+    alloc: Global,
+    heap: &'h LocalHeap,
+    units: usize,
+    source: &mut Numbers<'h>,
+) -> bool {
+    let mut a = Numbers::new(heap);
+    let was_refused = is_refused_five_in_little(rt, alloc, heap, units, &mut a, source);
+    assert!(rt; !was_refused || !is_refused_five(rt, alloc, &mut a, source));
+    was_refused
+}
+
+/// The same, from an arena that is made for it.
 fn is_transfer_refused(rt: &impl Abort, alloc: Global, heap: &LocalHeap, units: usize) -> bool {
     let mut source = filled(rt, heap, 5);
-    let mut a = Numbers::new(heap);
-    let was_refused = is_refused_five_in_little(rt, alloc, heap, units, &mut a, &mut source);
-    assert!(rt; !was_refused || !is_refused_five(rt, alloc, &mut a, &mut source));
-    was_refused
+    is_refused_from(rt, alloc, heap, units, &mut source)
 }
 
 #[test]

@@ -1,0 +1,273 @@
+-- What a step makes of the list: all that the laws of pointers and keys look at.
+use Rattle.std.proofs.Common.{◌≡◌, ◌≢◌, ℕ, zero, suc, ◌+◌, ◌<◌, Bool, true, false, List, [], ◌∷◌, ◌++◌, inl, inr, length, map, take, Option, Some, None, IsSome, is_some, slice_get, refl, sym, ap, ◌∙◌, arith, if◌then◌else◌}
+use Rattle.std.proofs.lemmas.Bool.Decides.{eqb_tells}
+use Rattle.std.proofs.lemmas.List.{length-map}
+use Rattle.std.proofs.lemmas.Cmp.{tied_itself}
+use Rattle.std.specs.Cmp.{IsTotalOrder}
+use Rattle.std.specs.declared.cmp.Ordering.TheVariants.{Less, Equal, Greater}
+use Rattle.arena_base.specs.Generation.{next_generation}
+use Rattle.arena_base.specs.declared.invalidation.InvalidationResult.TheVariants.{Success, GenerationOverflow, InvalidPtr}
+use Rattle.chain_base.specs.Chain.{Entry, Chain, renewed, removed, times, next_index, with_capacity, grown_capacity, IsDistinct, entry_at, item_of, without, with_item_among, with_generation, inserted_at}
+use Rattle.chain_base.specs.Compression.{at_compressed_index, numbered}
+use Rattle.chain_base.specs.Insert.{IsInsertion}
+use Rattle.chain_base.proofs.CallerLemmas.{entry_at-absent, entry_at-between_other, generation-relocated, generation-numbered}
+use Rattle.ord_tree.specs.Tree.{Tree}
+use Rattle.triple_ord.specs.ClosureSearch.{Shown}
+use Rattle.triple_ord.specs.Gap.{Gap, with_between}
+use Rattle.triple_ord.specs.Insertion.{Growth, within, reallocating, with_slot}
+use Rattle.triple_ord.specs.Place.{Aim, alone, at_key, behind_key, beside, into, over, IsPlace, aim_of}
+use Rattle.triple_ord.specs.declared.entry_kind.OrdEntryKind.TheVariants.{New, Replacing}
+use Rattle.triple_ord.specs.declared.error.OrdInsertionError.TheVariants.{BeyondMaxCapacity, AllocError}
+use Rattle.triple_ord.specs.declared.insert_kind.OrdInsertKind.{OrdInsertKind}
+use Rattle.triple_ord.specs.declared.insert_kind.OrdInsertKind.TheVariants.{Normal, Linear}
+use Rattle.triple_ord.proofs.CallerLemmas.{entries-with_slot}
+use Rattle.triple_ord.proofs.Inserting.{entry_at-after}
+use Rattle.ord_machine.specs.declared.command.Command.{Command}
+use Rattle.ord_machine.specs.declared.command.Command.TheVariants as commands
+use Rattle.ord_machine.specs.declared.reply.Reply.{Reply}
+use Rattle.ord_machine.specs.declared.reply.Reply.TheVariants.{Inserted, Refused, Item, Removed, Renewed, Changed, Entries, Done, ReductionRefused}
+use Rattle.ord_machine.specs.Machine.{Reading, State, Inserts, Does, entry_of, removed_each}
+use Rattle.ord_machine.specs.Pointers.{resets, raises, ReplacesAnother, IsOfOthers}
+use Rattle.ord_machine.specs.Ascending.{IsPlacedByKey, KeepsApart}
+
+module _ {T : Type 0} where
+  -- what a pointer finds is at its index, with its generation
+  pub found-there : (es : List (Entry T)) (p : ℕ × ℕ) → IsSome (item_of es p) → (x : T) × (entry_at es p.0 ≡ Some (p.1, x))
+  found-there es p there = go (entry_at es p.0) refl
+    where
+      go : (o : Option (ℕ × T)) → entry_at es p.0 ≡ o → (x : T) × (entry_at es p.0 ≡ Some (p.1, x))
+      go None is = absurd (let none : item_of es p ≡ None = rw is refl in cc)
+      go (Some e) is = elim (eqb_tells e.0 p.1) [
+        | inl h ↦ (e.1, is ∙ ap (λ g. Some (g, e.1)) h.1)
+        | inr h ↦ absurd (let none : item_of es p ≡ None = rw (is, h.0) refl in cc)
+      ]
+
+  pub there-found : (es : List (Entry T)) (p : ℕ × ℕ) (x : T) → entry_at es p.0 ≡ Some (p.1, x) → item_of es p ≡ Some x
+  there-found es p x is = elim (eqb_tells p.1 p.1) [
+    | inl h ↦ rw (is, h.0) refl
+    | inr h ↦ absurd (h.1 refl)
+  ]
+
+  -- two pointers that differ and find something have different indexes
+  other_index : (es : List (Entry T)) (p q : ℕ × ℕ) → q ≢ p → IsSome (item_of es q) → IsSome (item_of es p) → p.0 ≢ q.0
+  other_index es p q apart there here same =
+      let one = found-there es q there in
+      let two = found-there es p here in
+      let both : ◌≡◌ {A = Option (ℕ × T)} (Some (q.1, one.0)) (Some (p.1, two.0)) = sym one.1 ∙ ap (entry_at es) (sym same) ∙ two.1 in
+      let pair : ◌≡◌ {A = ℕ × T} (q.1, one.0) (p.1, two.0) = cc in
+      apart (ap (λ i. (i, q.1)) (sym same) ∙ ap (λ g. (p.0, g)) (ap (λ (e : ℕ × T). e.0) pair))
+
+-- a list with a new entry in a gap
+module _ {T : Type 0} (old new : List (Entry T)) (gap : Gap old) (e : Entry T) (is : new ≡ gap.front ++ e ∷ gap.back) (free : times e.index (gap.front ++ gap.back) ≡ 0) where
+  pub elsewhere : (j : ℕ) → j ≢ e.index → entry_at new j ≡ entry_at old j
+  elsewhere j other = ap (λ es. entry_at es j) is ∙ entry_at-between_other gap.front e gap.back j other ∙ ap (λ es. entry_at es j) (sym gap.cut)
+
+  pub unused : (p : ℕ × ℕ) → IsSome (item_of old p) → p.0 ≢ e.index
+  unused p there same =
+      let nothing : entry_at old p.0 ≡ None = entry_at-absent old p.0 (ap (λ k. times k old) same ∙ ap (times e.index) gap.cut ∙ free) in
+      let some = (found-there old p there).1 in cc
+
+-- the generation after so many raises
+abbrev pub risen : Option ℕ → ℕ → ℕ → ℕ
+risen greatest zero g = g
+risen greatest (suc n) g = risen greatest n (next_generation greatest g)
+
+-- of removals one after another, and one raise more
+risen-each : {T : Type 0} (greatest : Option ℕ) (c : Chain T) (es : List (Entry T))
+    → next_generation greatest (removed_each greatest c es).generation ≡ risen greatest (suc (length es)) c.generation
+risen-each greatest c [] = refl
+risen-each greatest c (e ∷ es) = risen-each greatest (removed greatest c e.index) es
+
+-- what an insertion goes by is a key that is equal to the item's
+abbrev pub IsByKey : {P T I G K : Type 0} → Reading P T I G K → T → Aim K → Type 0
+IsByKey r item (at_key k) = r.cmp k (r.key item) ≡ Equal
+IsByKey r item aim = ⊥
+
+-- calls to others than the entry with this index
+abbrev pub Spares : {T : Type 0} → List (Entry T) → (ℕ × ℕ → Type 0) → ℕ → Type 0
+Spares es Of i = (p : ℕ × ℕ) → IsSome (item_of es p) → Of p → p.0 ≢ i
+
+-- What becomes of the entries: they stay; one comes, gets another item, leaves, or gets a new pointer; all get new pointers, or leave.
+-- Here n is how often the generation is raised, Of p that the call is to others than p's entry, Keeps that it keeps the keys apart.
+pub data Change {P T I G K : Type 0} (r : Reading P T I G K) (old new : Chain T) (n : ℕ) (Of : ℕ × ℕ → Type 0) (Keeps : Type 0) : Type 0 where
+  stays : new.entries ≡ old.entries → Change r old new n Of Keeps
+  comes : (gap : Gap old.entries) (i : ℕ) (item : T) → new.entries ≡ gap.front ++ record { index = i; generation = old.generation; item = item } ∷ gap.back
+      → times i (gap.front ++ gap.back) ≡ 0 → (aim : Aim K) → IsPlace r.key r.cmp aim (into gap) → (IsTotalOrder r.cmp → Keeps → IsByKey r item aim)
+      → Change r old new n Of Keeps
+  writes : (i g : ℕ) (x item : T) → entry_at old.entries i ≡ Some (g, x) → new.entries ≡ with_item_among old.entries i item → Spares old.entries Of i
+      → (IsTotalOrder r.cmp → Keeps → r.cmp (r.key x) (r.key item) ≡ Equal) → Change r old new n Of Keeps
+  leaves : (i : ℕ) → new.entries ≡ without i old.entries → 0 < n → Spares old.entries Of i → Change r old new n Of Keeps
+  renews : (i : ℕ) → new.entries ≡ with_generation old.entries i new.generation → 0 < n → Spares old.entries Of i → Change r old new n Of Keeps
+  relays : ((i : ℕ) (e : ℕ × T) → entry_at new.entries i ≡ Some e → e.0 ≡ new.generation)
+      → map (λ e. r.key e.item) new.entries ≡ map (λ e. r.key e.item) old.entries → 0 < n → ((p : ℕ × ℕ) → Of p → ⊥) → Change r old new n Of Keeps
+  empties : new.entries ≡ [] → 0 < n → ((p : ℕ × ℕ) → Of p → ⊥) → Change r old new n Of Keeps
+
+-- and of the generation, if it isn't set back
+pub record Outcome {P T I G K : Type 0} (r : Reading P T I G K) (old new : Chain T) (back : Bool) (n : ℕ) (Of : ℕ × ℕ → Type 0) (Keeps : Type 0) : Type 0 where
+  pub raised : back ≡ false → new.generation ≡ risen r.greatest n old.generation
+  pub change : Change r old new n Of Keeps
+
+-- the keys of relaid entries
+module _ {T K : Type 0} (key : T → K) where
+  keys-relocated : (all es : List (Entry T)) (g : ℕ) → map (λ e. key e.item) (map (at_compressed_index all g) es) ≡ map (λ e. key e.item) es
+  keys-relocated all [] g = refl
+  keys-relocated all (e ∷ es) g = ap (λ ks. key e.item ∷ ks) (keys-relocated all es g)
+
+  keys-numbered : (es : List (Entry T)) (g from : ℕ) → map (λ e. key e.item) (numbered g from (map (λ e. e.item) es)) ≡ map (λ e. key e.item) es
+  keys-numbered [] g from = refl
+  keys-numbered (e ∷ es) g from = ap (λ ks. key e.item ∷ ks) (keys-numbered es g (from + 1))
+
+-- an arena that may grow for a new entry
+generation-with_slot : {T : Type 0} (growth : Growth) (most : ℕ) (c : Chain T) → (with_slot growth most c).generation ≡ c.generation
+generation-with_slot within most c = refl
+generation-with_slot reallocating most c = go (is_some (next_index c))
+  where
+    go : (b : Bool) → (if b then c else with_capacity c (grown_capacity most c)).generation ≡ c.generation
+    go true = refl
+    go false = refl
+
+-- a new entry
+after-insertion : {T : Type 0} (room new : Chain T) (put : Entry T → List (Entry T)) (item : T) (i g : ℕ) → IsInsertion room new put item i g
+    → (new.entries ≡ put (record { index = i; generation = room.generation; item = item })) × (new.generation ≡ room.generation)
+after-insertion {T} room new put item i g inserted = go room.vacant inserted.next (ap (λ (c : Chain T). c.entries) inserted.after) (ap (λ (c : Chain T). c.generation) inserted.after)
+  where
+    go : (vacant : List ℕ) → slice_get vacant 0 ≡ Some i → new.entries ≡ (inserted_at room put item vacant).entries → new.generation ≡ (inserted_at room put item vacant).generation
+        → (new.entries ≡ put (record { index = i; generation = room.generation; item = item })) × (new.generation ≡ room.generation)
+    go [] next es gs = absurd (cc)
+    go (j ∷ rest) next es gs = let here : j ≡ i = cc in (es ∙ ap (λ k. put (record { index = k; generation = room.generation; item = item })) here, gs)
+
+-- a step
+module _ {P T I G K : Type 0} (r : Reading P T I G K) (s : State T) (distinct : IsDistinct s.tree.list.entries) (new : Tree T) where
+  -- the entry whose item is replaced is found by its index, and has an equal key
+  replaced-here : (aim : Aim K) (e : Entry T) → IsPlace r.key r.cmp {entries = s.tree.list.entries} aim (over e) → entry_at s.tree.list.entries e.index ≡ Some (e.generation, e.item)
+  replaced-here alone e at = absurd at
+  replaced-here (at_key k) e at = entry_at-after s.tree.list.entries e distinct at.gap at.here
+  replaced-here (behind_key k) e at = absurd at
+  replaced-here (beside i Less) e at = absurd at
+  replaced-here (beside i Equal) e at = ap (entry_at s.tree.list.entries) at.0 ∙ at.1
+  replaced-here (beside i Greater) e at = absurd at
+
+  replaced-alike : IsTotalOrder r.cmp → (item : T) (aim : Aim K) (e : Entry T) → IsPlace r.key r.cmp {entries = s.tree.list.entries} aim (over e) → IsByKey r item aim
+      → r.cmp (r.key e.item) (r.key item) ≡ Equal
+  replaced-alike total item (at_key k) e at by = sym (total.congr k (r.key e.item) (r.key item) at.equal) ∙ by
+  replaced-alike total item aim e at by = absurd by
+
+  by_kind : (kind : OrdInsertKind P K I G) (item : T) → IsPlacedByKey r kind item → IsByKey r item (aim_of r.index kind)
+  by_kind (Normal k) item by = by
+  by_kind (Linear i num k) item by = by
+  by_kind kind item by = absurd by
+
+  module _ {back : Bool} {Of : ℕ × ℕ → Type 0} {Keeps : Type 0} where
+    still : new ≡ s.tree → Outcome r s.tree.list new.list back 0 Of Keeps
+    still same = record { raised = λ _. ap (λ t. t.list.generation) same; change = stays (ap (λ t. t.list.entries) same) }
+
+    lost : (i : ℕ) → new.list ≡ removed r.greatest s.tree.list i → Spares s.tree.list.entries Of i → Outcome r s.tree.list new.list back 1 Of Keeps
+    lost i is spares = record { raised = λ _. ap (λ c. c.generation) is; change = leaves i (ap (λ c. c.entries) is) (omega arith) spares }
+
+    again : (q : ℕ × ℕ) → IsSome (item_of s.tree.list.entries q) → new ≡ record s.tree { list = renewed r.greatest s.tree.list q.0 } → ((p : ℕ × ℕ) → Of p → q ≢ p)
+        → Outcome r s.tree.list new.list back 1 Of Keeps
+    again q there is apart = record {
+      raised = λ _. ap (λ t. t.list.generation) is;
+      change = renews q.0 (rw is refl) (omega arith) (λ p here of. other_index s.tree.list.entries p q (apart p of) there here);
+    }
+
+    gone : {n : ℕ} → new.list.entries ≡ [] → new.list.generation ≡ risen r.greatest n s.tree.list.generation → 0 < n → ((p : ℕ × ℕ) → Of p → ⊥)
+        → Outcome r s.tree.list new.list back n Of Keeps
+    gone none raised some of_none = record { raised = λ _. raised; change = empties none some of_none }
+
+  module _ {A : Type 0} where
+    outcome-insertion : {Keeps : Type 0} (growth : Growth) (aim : Aim K) (item : T) → (IsTotalOrder r.cmp → Keeps → IsByKey r item aim) → (reply : Reply P T A I G)
+        → Inserts r.key r.cmp r.most growth aim r.pointer s.tree item reply new → Outcome r s.tree.list new.list false 0 (λ p. ReplacesAnother r p reply) Keeps
+    outcome-insertion growth aim item by (Inserted (New q) None) does =
+        let room = with_slot growth r.most s.tree.list in
+        let roomy = entries-with_slot growth r.most s.tree.list in
+        let era = generation-with_slot growth r.most s.tree.list in
+        let i = (r.pointer q).0 in
+        let after = after-insertion room new.list (with_between does.gap) item i (r.pointer q).1 does.inserted in
+        record {
+          raised = λ _. after.1 ∙ era;
+          change = comes does.gap i item (after.0 ∙ ap (λ g. does.gap.front ++ record { index = i; generation = g; item = item } ∷ does.gap.back) era)
+              (ap (times i) (sym does.gap.cut) ∙ ap (times i) (sym roomy) ∙ does.inserted.vacant.free) aim does.place by;
+        }
+    outcome-insertion growth aim item by (Inserted (Replacing q) (Some before)) does =
+        let e = does.entry in
+        let here = replaced-here aim e does.place in
+        record {
+          raised = λ _. ap (λ t. t.list.generation) does.after;
+          change = writes e.index e.generation e.item item here (ap (λ t. t.list.entries) does.after)
+              (λ p there of. other_index s.tree.list.entries p (e.index, e.generation) (λ same. of (does.named ∙ same))
+              (ap is_some (there-found s.tree.list.entries (e.index, e.generation) e.item here)) there)
+              (λ total keeps. replaced-alike total item aim e does.place (by total keeps));
+        }
+    outcome-insertion growth aim item by (Refused refusal) does = still does.after
+    outcome-insertion growth aim item by reply does = absurd does
+
+    pub outcome : {F : Type 0} (asks : F → Shown T → F → Type 0) (f : F) (command : Command P T I G K) (reply : Reply P T A I G) (g : F) → Does r asks s f command reply new g
+        → Outcome r s.tree.list new.list (resets command) (raises command reply) (λ p. IsOfOthers r p command reply) (KeepsApart r command)
+    outcome asks f (commands.Insert item) reply g does = outcome-insertion reallocating (at_key (r.key item)) item (λ total _. tied_itself total (r.key item)) reply does.0
+    outcome asks f (commands.InsertWithin item) reply g does = outcome-insertion within (at_key (r.key item)) item (λ total _. tied_itself total (r.key item)) reply does.0
+    outcome asks f (commands.Entry kind item) reply g does = outcome-insertion reallocating (aim_of r.index kind) item (λ _ by. by_kind kind item by) reply does.0
+    outcome asks f (commands.EntryWithin kind item) reply g does = outcome-insertion within (aim_of r.index kind) item (λ _ by. by_kind kind item by) reply does.0
+    outcome asks f (commands.Set q item) (Item None) g does = still does.0.1
+    outcome asks f (commands.Set q item) (Item (Some before)) g does =
+        let there : IsSome (item_of s.tree.list.entries (r.pointer q)) = ap is_some (sym does.0.0) in
+        let found = found-there s.tree.list.entries (r.pointer q) there in
+        record {
+          raised = λ _. ap (λ t. t.list.generation) does.0.1;
+          change = writes (r.pointer q).0 (r.pointer q).1 found.0 item found.1 (ap (λ t. t.list.entries) does.0.1)
+              (λ p here of. other_index s.tree.list.entries p (r.pointer q) of there here) (λ _ never. absurd never);
+        }
+    outcome asks f (commands.Set q item) reply g does = absurd does.0
+    outcome asks f (commands.Remove q) (Removed (Success taken)) g does =
+        lost (r.pointer q).0 does.0.2.list (λ p here of. other_index s.tree.list.entries p (r.pointer q) of (ap is_some does.0.1) here)
+    outcome asks f (commands.Remove q) (Removed (GenerationOverflow taken)) g does =
+        lost (r.pointer q).0 does.0.2.list (λ p here of. other_index s.tree.list.entries p (r.pointer q) of (ap is_some does.0.1) here)
+    outcome asks f (commands.Remove q) (Removed InvalidPtr) g does = still does.0.1
+    outcome asks f (commands.Remove q) reply g does = absurd does.0
+    outcome asks f (commands.RemoveInx i) (Removed (Success taken)) g does = lost (r.index i) does.0.2.list (λ p here of same. of (sym same))
+    outcome asks f (commands.RemoveInx i) (Removed (GenerationOverflow taken)) g does = lost (r.index i) does.0.2.list (λ p here of same. of (sym same))
+    outcome asks f (commands.RemoveInx i) (Removed InvalidPtr) g does = still does.0.1
+    outcome asks f (commands.RemoveInx i) reply g does = absurd does.0
+    outcome asks f (commands.Invalidate q) (Renewed (Success next)) g does = again (r.pointer q) does.0.0 does.0.3 (λ p of. of)
+    outcome asks f (commands.Invalidate q) (Renewed (GenerationOverflow next)) g does = again (r.pointer q) does.0.0 does.0.3 (λ p of. of)
+    outcome asks f (commands.Invalidate q) (Renewed InvalidPtr) g does = still does.0.1
+    outcome asks f (commands.Invalidate q) reply g does = absurd does.0
+    outcome asks f commands.Clear (Changed result) g does =
+        gone (ap (λ t. t.list.entries) does.0.0) (ap (λ t. t.list.generation) does.0.0) (omega arith) (λ p of. of)
+    outcome asks f commands.Clear reply g does = absurd does.0
+    outcome asks f commands.IncGeneration (Changed result) g does =
+        record { raised = λ _. ap (λ t. t.list.generation) does.0.0; change = stays (ap (λ t. t.list.entries) does.0.0) }
+    outcome asks f commands.IncGeneration reply g does = absurd does.0
+    outcome asks f (commands.Compress reset) (Changed result) g does = record {
+      raised = λ onward. rw onward at (ap (λ c. c.generation) does.0.0);
+      change = relays (λ i e found. generation-relocated s.tree.list.entries _ s.tree.list.entries i e (ap (λ (c : Chain T). entry_at c.entries i) (sym does.0.0) ∙ found)
+          ∙ sym (ap (λ c. c.generation) does.0.0))
+          (ap (λ (c : Chain T). map (λ e. r.key e.item) c.entries) does.0.0 ∙ keys-relocated r.key s.tree.list.entries s.tree.list.entries _) (omega arith) (λ p of. of);
+    }
+    outcome asks f (commands.Compress reset) reply g does = absurd does.0
+    outcome asks f (commands.Canonical reset) (Changed result) g does = record {
+      raised = λ onward. rw onward at (ap (λ c. c.generation) does.0.0);
+      change = relays (λ i e found. generation-numbered _ 1 (map (λ e. e.item) s.tree.list.entries) i e (ap (λ (c : Chain T). entry_at c.entries i) (sym does.0.0) ∙ found)
+          ∙ sym (ap (λ c. c.generation) does.0.0))
+          (ap (λ (c : Chain T). map (λ e. r.key e.item) c.entries) does.0.0 ∙ keys-numbered r.key s.tree.list.entries _ 1) (omega arith) (λ p of. of);
+    }
+    outcome asks f (commands.Canonical reset) reply g does = absurd does.0
+    outcome asks f (commands.Reserve n) Done g does =
+        record { raised = λ _. ap (λ t. t.list.generation) does.0.1; change = stays (ap (λ t. t.list.entries) does.0.1) }
+    outcome asks f (commands.Reserve n) (Refused BeyondMaxCapacity) g does = still does.0.1
+    outcome asks f (commands.Reserve n) (Refused AllocError) g does = still does.0.2
+    outcome asks f (commands.Reserve n) reply g does = absurd does.0
+    outcome asks f (commands.SetMax n) Done g does =
+        record { raised = λ _. ap (λ t. t.list.generation) does.0.1; change = stays (ap (λ t. t.list.entries) does.0.1) }
+    outcome asks f (commands.SetMax n) ReductionRefused g does = still does.0.1
+    outcome asks f (commands.SetMax n) reply g does = absurd does.0
+    outcome asks f (commands.DrainOrdered num) (Entries pairs) g does =
+        let first = take num s.tree.list.entries in
+        let count : suc (length first) ≡ length pairs.items + 1 = omega (arith, ap length does.0.0, length-map pairs.items (entry_of r.pointer)) in
+        gone (ap (λ t. t.list.entries) does.0.1)
+        (ap (λ t. t.list.generation) does.0.1 ∙ risen-each r.greatest s.tree.list first ∙ ap (λ k. risen r.greatest k s.tree.list.generation) count) (omega arith) (λ p of. of)
+    outcome asks f (commands.DrainOrdered num) (Refused AllocError) g does = still does.0.1
+    outcome asks f (commands.DrainOrdered num) reply g does = absurd does.0
+    outcome asks f commands.FindWith reply g does = still does.1
+    outcome asks f commands.SimilarWith reply g does = still does.1
+    outcome asks f command reply g does = still does.0.1
