@@ -7,7 +7,7 @@ use Rattle.std.proofs.lemmas.List.Elements.{All-nil, All-cons, All-head, All-tai
 use Rattle.std.proofs.lemmas.Option.{IfSome_then}
 use Rattle.std.specs.List.{All, FoldsTo}
 use Rattle.std.specs.Option.{option_map}
-use Rattle.std.specs.Ordering.{is_eq, is_lt}
+use Rattle.std.specs.Ordering.{is_eq, ordering_then}
 use Rattle.std.specs.declared.cmp.Ordering.{Ordering}
 use Rattle.std.specs.declared.cmp.Ordering.TheVariants.{Less, Equal, Greater}
 use Rattle.chain_base.specs.Chain.{Entry, times, IsDistinct, entry_at}
@@ -18,7 +18,7 @@ use Rattle.triple_ord.specs.Gap.{Gap, first_of, last_or}
 use Rattle.triple_ord.specs.Search.{order_to, pointer, IsFirstEqual, StopsAt, IsBeside, FindsKey, FindsSimilar}
 use Rattle.triple_ord.specs.Node.{IsPart}
 use Rattle.triple_ord.specs.ClosureSearch.{Shown, entries_of, but_last, IsSearch, where_equal, similar_of, FindsWith, FindsSimilarWith}
-use Rattle.triple_ord.specs.Descent.{IsShown, IsDescending, HasDescended}
+use Rattle.triple_ord.specs.Descent.{IsShown, side_of, IsDescending, HasDescended}
 use Rattle.triple_ord.proofs.Cuts.{last_or-append, no_first, no_last, entry_at-here}
 
 -- the sides of a part are parts
@@ -185,7 +185,7 @@ module _ {T : Type 0} (t : Tree T) (distinct : IsDistinct t.list.entries) (shown
     part_here = rw face.node_is at d.within
 
     -- the descent goes to a side; the entry stands behind what is left on the lesser side, and before it on the greater one
-    pub step-lesser : (e : IsDescending t.list.entries t.shape (more Less) lesser) × (first_of e.back ≡ Some step-entry)
+    step-lesser : (e : IsDescending t.list.entries t.shape (more Less) lesser) × (first_of e.back ≡ Some step-entry)
     step-lesser = (
       record {
         part = face.lesser;
@@ -207,7 +207,7 @@ module _ {T : Type 0} (t : Tree T) (distinct : IsDistinct t.list.entries) (shown
       refl,
     )
 
-    pub step-greater : (e : IsDescending t.list.entries t.shape (more Greater) greater) × (first_of e.back ≡ first_of d.back)
+    step-greater : (e : IsDescending t.list.entries t.shape (more Greater) greater) × (first_of e.back ≡ first_of d.back)
     step-greater =
         let before : last_or None ((d.front ++ face.cut.front) ++ step-entry ∷ []) ≡ Some step-entry = last_or-append None (d.front ++ face.cut.front) step-entry [] in (
           record {
@@ -229,6 +229,12 @@ module _ {T : Type 0} (t : Tree T) (distinct : IsDistinct t.list.entries) (shown
           },
           refl,
         )
+
+    -- where the answer is Equal, it goes on as behind Less
+    pub step-side : (o : Ordering) → (e : IsDescending t.list.entries t.shape (more (ordering_then o Less)) (side_of o lesser greater))
+        × (first_of e.back ≡ side_of o (Some step-entry) (first_of d.back))
+    step-side Greater = step-greater
+    step-side o = step-lesser
 
 -- a descent that has come to a missing side stops at a gap
 module _ {T : Type 0} (es : List (Entry T)) (shape : Shape) (shown : List (Shown T)) (d : IsDescending es shape shown None) where
@@ -283,16 +289,6 @@ module _ {T F : Type 0} (asks : F → Shown T → F → Type 0) (t : Tree T) (di
       last_more : Some ((i, generation), o) ≡ similar_of (last_or None (d.shown ++ (entry, o) ∷ []))
       last_more = rw (last_or-append None d.shown (entry, o) [], step-pointer t distinct d.shown i d.descending generation item lesser greater there) refl
 
-      step-on : (link : Option ℕ) → IsDescending t.list.entries t.shape (d.shown ++ (entry, o) ∷ []) link
-          → HasDescended asks t.list.entries t.shape before f h link (visits + 1) (Some ((i, generation), o))
-      step-on link goes = record {
-        shown = d.shown ++ (entry, o) ∷ [];
-        calls = calls_more;
-        descending = goes;
-        count = omega (arith, d.count, length_push d.shown (entry, o));
-        last_is = last_more;
-      }
-
       pub step-equal : o ≡ Equal → FindsSimilarWith asks t.list.entries f h (Some ((i, generation), o)) (visits + 1 - before)
       step-equal is = (
         last_or None (d.shown ++ (entry, o) ∷ []),
@@ -307,24 +303,23 @@ module _ {T F : Type 0} (asks : F → Shown T → F → Type 0) (t : Tree T) (di
         tt,
       )
 
-      pub step-less : o ≡ Less → HasDescended asks t.list.entries t.shape before f h lesser (visits + 1) (Some ((i, generation), o))
-      step-less is = step-on lesser (rw is (step-lesser t distinct d.shown i d.descending generation item lesser greater there).0)
+      pub step-on : is_eq o ≡ false → HasDescended asks t.list.entries t.shape before f h (side_of o lesser greater) (visits + 1) (Some ((i, generation), o))
+      step-on other = record {
+        shown = d.shown ++ (entry, o) ∷ [];
+        calls = calls_more;
+        descending = rw (turned o other) at (step-side t distinct d.shown i d.descending generation item lesser greater there o).0;
+        count = omega (arith, d.count, length_push d.shown (entry, o));
+        last_is = last_more;
+      }
+        where
+          turned : (o : Ordering) → is_eq o ≡ false → ordering_then o Less ≡ o
+          turned Equal other = absurd (cc)
+          turned o other = refl
 
-      pub step-more : o ≡ Greater → HasDescended asks t.list.entries t.shape before f h greater (visits + 1) (Some ((i, generation), o))
-      step-more is = step-on greater (rw is (step-greater t distinct d.shown i d.descending generation item lesser greater there).0)
-
--- the answer, by its tests
+-- the answer, by its test
 pub equal_by : (o : Ordering) → is_eq o ≡ true → o ≡ Equal
 equal_by Equal test = refl
 equal_by o test = absurd (cc)
-
-pub less_by : (o : Ordering) → is_lt o ≡ true → o ≡ Less
-less_by Less test = refl
-less_by o test = absurd (cc)
-
-pub greater_by : (o : Ordering) → is_eq o ≡ false → is_lt o ≡ false → o ≡ Greater
-greater_by Greater other not_less = refl
-greater_by o other not_less = absurd (cc)
 
 -- a search for a similar key tells whether an equal one is there
 module _ {T K : Type 0} (key : T → K) (cmp : K → K → Ordering) (es : List (Entry T)) (k : K) (c : ℕ) where

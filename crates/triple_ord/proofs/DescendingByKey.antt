@@ -1,7 +1,7 @@
 -- A descent by a key: how it begins, one step, and its end at the gap before the first of a group, or at one that fits.
 use Rattle.std.proofs.Common.{◌≡◌, ℕ, true, false, ◌+◌, ◌-◌, ◌≤◌, List, [], ◌∷◌, ◌++◌, Option, Some, None, IfSome, refl, sym, ap, ◌∙◌, arith, inl, inr, map, Contains, get_or, length}
 use Rattle.std.specs.Option.{option_map}
-use Rattle.std.specs.Ordering.{is_eq, is_gt, ordering_then}
+use Rattle.std.specs.Ordering.{is_eq, ordering_then}
 use Rattle.std.specs.declared.cmp.Ordering.{Ordering}
 use Rattle.std.specs.declared.cmp.Ordering.TheVariants.{Less, Equal, Greater}
 use Rattle.std.proofs.lemmas.Bool.{cases_eq}
@@ -11,22 +11,14 @@ use Rattle.std.proofs.lemmas.Option.{IfSome_then}
 use Rattle.chain_base.specs.Chain.{Entry, IsDistinct}
 use Rattle.ord_tree.specs.Shape.{root_of, walk}
 use Rattle.ord_tree.specs.Tree.{Tree}
-use Rattle.triple_ord.specs.Gap.{Gap, last_or, before, after, present}
+use Rattle.triple_ord.specs.Gap.{Gap, first_of, last_or, before, after, present}
 use Rattle.triple_ord.specs.Search.{order_to, pointer, StopsAt, FindsSimilar}
 use Rattle.triple_ord.specs.ClosureSearch.{Shown, where_equal}
-use Rattle.triple_ord.specs.Descent.{IsShown, met_next, HasDescendedByKey}
+use Rattle.triple_ord.specs.Descent.{met_next, side_of, IsCompared, HasDescendedByKey}
 use Rattle.triple_ord.proofs.Cuts.{last_or-append}
-use Rattle.triple_ord.proofs.Descending.{IsDescending-begin, step-entry, step-pointer, step-item, step-lesser, step-greater, cut_there, descent-empty}
+use Rattle.triple_ord.proofs.Descending.{IsDescending-begin, step-entry, step-pointer, step-item, step-side, cut_there, descent-empty}
 
--- a key's way down, by its order to the entry there
-turned-lesser : (o : Ordering) → is_gt o ≡ false → Less ≡ ordering_then o Less
-turned-lesser Greater test = absurd (cc)
-turned-lesser o test = refl
-
-greater_by_test : (o : Ordering) → is_gt o ≡ true → o ≡ Greater
-greater_by_test Greater test = refl
-greater_by_test o test = absurd (cc)
-
+-- a key's order to an entry, by the way down from there
 greater_of : (o : Ordering) → Greater ≡ ordering_then o Less → o ≡ Greater
 greater_of Greater turn = refl
 greater_of o turn = absurd (cc)
@@ -34,6 +26,11 @@ greater_of o turn = absurd (cc)
 less_of : (o : Ordering) → Less ≡ ordering_then o Less → is_eq o ≡ false → o ≡ Less
 less_of Less turn other = refl
 less_of o turn other = absurd (cc)
+
+-- no equal entry was met by another answer
+pub unmet : {X : Type 0} (x : X) (o : Ordering) → is_eq o ≡ false → met_next None x o ≡ None
+unmet x Equal test = absurd (cc)
+unmet x o test = refl
 
 -- the same of its pointer
 pub met_next-map : {X Y : Type 0} (f : X → Y) (met : Option X) (x : X) (o : Ordering) → option_map f (met_next met x o) ≡ met_next (option_map f met) (f x) o
@@ -64,45 +61,33 @@ module _ {T K : Type 0} (key : T → K) (cmp : K → K → Ordering) (t : Tree T
       record { shown = []; turned = All-nil Turned; descending = begin.0; count = omega arith; last_is = refl; met_is = rw begin.1 refl }
 
   -- the key is compared with that of the entry at the link
-  module _ (i visits : ℕ) (last : Option ((ℕ × ℕ) × Ordering)) (met : Option (ℕ × ℕ))
-      (d : HasDescendedByKey key cmp t.list.entries t.shape k start (Some i) visits last met) (generation : ℕ) (item : T)
-      (lesser greater : Option ℕ) (there : IsShown t i generation item lesser greater) (o : Ordering) (order : o ≡ cmp k (key item)) where
+  module _ (i visits : ℕ) (last : Option ((ℕ × ℕ) × Ordering)) (met : Option (ℕ × ℕ)) (d : HasDescendedByKey key cmp t.list.entries t.shape k start (Some i) visits last met)
+      (p : ℕ × ℕ) (o : Ordering) (next : Option ℕ) (seen : IsCompared key cmp t i k p o next) where
     abbrev entry : Entry T
     entry = step-entry t distinct d.shown i d.descending
 
     entry_order : order_to key cmp k entry ≡ o
-    entry_order = ap (λ x. cmp k (key x)) (step-item t distinct d.shown i d.descending generation item lesser greater there) ∙ sym order
+    entry_order = ap (λ x. cmp k (key x)) (step-item t distinct d.shown i d.descending p.1 seen.item seen.lesser seen.greater seen.there) ∙ sym seen.order_is
 
-    entry_is : ◌≡◌ {A = Option ((ℕ × ℕ) × Ordering)} (Some ((i, generation), o)) (Some (pointer entry, order_to key cmp k entry))
-    entry_is = rw (entry_order, step-pointer t distinct d.shown i d.descending generation item lesser greater there) refl
+    entry_is : ◌≡◌ {A = Option ((ℕ × ℕ) × Ordering)} (Some (p, o)) (Some (pointer entry, order_to key cmp k entry))
+    entry_is = rw (entry_order, step-pointer t distinct d.shown i d.descending p.1 seen.item seen.lesser seen.greater seen.there, ← seen.here) refl
 
-    met_lesser : (o : Ordering) → is_gt o ≡ false → met_next met (i, generation) o ≡ where_equal (Some ((i, generation), o))
-    met_lesser Greater test = absurd (cc)
-    met_lesser o test = refl
+    met_step : (o : Ordering) → ◌≡◌ {A = Option ((ℕ × ℕ) × Ordering)} (Some (p, o)) (Some (pointer entry, order_to key cmp k entry))
+        → met_next met p o ≡ where_equal (option_map (λ e. (pointer e, order_to key cmp k e)) (side_of o (Some entry) (first_of d.descending.back)))
+    met_step Greater is = d.met_is
+    met_step o is = ap where_equal is
 
-    pub by_key-lesser : is_gt o ≡ false → HasDescendedByKey key cmp t.list.entries t.shape k start lesser (visits + 1) (Some ((i, generation), o)) (met_next met (i, generation) o)
-    by_key-lesser test =
-        let step = step-lesser t distinct d.shown i d.descending generation item lesser greater there in
-        record {
-          shown = d.shown ++ (entry, Less) ∷ [];
-          turned = All-push Turned d.shown (entry, Less) d.turned (rw entry_order (turned-lesser o test));
+    pub by_key-step : HasDescendedByKey key cmp t.list.entries t.shape k start next (visits + 1) (Some (p, o)) (met_next met p o)
+    by_key-step =
+        let step = step-side t distinct d.shown i d.descending p.1 seen.item seen.lesser seen.greater seen.there o in
+        rw seen.next_is (record {
+          shown = d.shown ++ (entry, ordering_then o Less) ∷ [];
+          turned = All-push Turned d.shown (entry, ordering_then o Less) d.turned (rw entry_order refl);
           descending = step.0;
-          count = omega (arith, d.count, length_push d.shown (entry, Less));
+          count = omega (arith, d.count, length_push d.shown (entry, ordering_then o Less));
           last_is = rw last_or-append entry_is;
-          met_is = rw step.1 (met_lesser o test ∙ ap where_equal entry_is);
-        }
-
-    pub by_key-greater : is_gt o ≡ true → HasDescendedByKey key cmp t.list.entries t.shape k start greater (visits + 1) (Some ((i, generation), o)) (met_next met (i, generation) o)
-    by_key-greater test =
-        let step = step-greater t distinct d.shown i d.descending generation item lesser greater there in
-        record {
-          shown = d.shown ++ (entry, Greater) ∷ [];
-          turned = All-push Turned d.shown (entry, Greater) d.turned (rw (entry_order, greater_by_test o test) refl);
-          descending = step.0;
-          count = omega (arith, d.count, length_push d.shown (entry, Greater));
-          last_is = rw last_or-append entry_is;
-          met_is = rw (step.1, greater_by_test o test) d.met_is;
-        }
+          met_is = rw step.1 (met_step o entry_is);
+        })
 
   -- the way has come to its end
   module _ (visits : ℕ) (last : Option ((ℕ × ℕ) × Ordering)) (met : Option (ℕ × ℕ)) (d : HasDescendedByKey key cmp t.list.entries t.shape k start None visits last met) where

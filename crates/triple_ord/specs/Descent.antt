@@ -19,6 +19,21 @@ pub record IsShown {T : Type 0} (t : Tree T) (i generation : ℕ) (item : T) (le
   pub lesser_root : (l r : Shape) (k : ℕ) → IsPart (node l i k r) t.shape → lesser ≡ root_of l
   pub greater_root : (l r : Shape) (k : ℕ) → IsPart (node l i k r) t.shape → greater ≡ root_of r
 
+-- the side on which a descent goes on that was answered so
+abbrev pub side_of : {X : Type 0} → Ordering → X → X → X
+side_of Greater lesser greater = greater
+side_of o lesser greater = lesser
+
+-- k was compared with the key of the entry at index i, whose pointer is p, and the search goes on at this link
+pub record IsCompared {T K : Type 0} (key : T → K) (cmp : K → K → Ordering) (t : Tree T) (i : ℕ) (k : K) (p : ℕ × ℕ) (order : Ordering) (next : Option ℕ) : Type 0 where
+  pub item : T
+  pub lesser : Option ℕ
+  pub greater : Option ℕ
+  pub there : IsShown t i p.1 item lesser greater
+  pub here : p.0 ≡ i
+  pub order_is : order ≡ cmp k (key item)
+  pub next_is : next ≡ side_of order lesser greater
+
 -- an equal entry behind all that is left, after one that was answered so
 abbrev pub met_next : {X : Type 0} → Option X → X → Ordering → Option X
 met_next met x Less = None

@@ -1,10 +1,10 @@
 //! The way down from the root.
-ghost use Rattle.std.specs.Prelude.{◌≡◌, ℕ, Some, ◌-◌, ◌^◌, ◌<◌, ◌≤◌, length};
+ghost use Rattle.std.specs.Prelude.{◌≡◌, ℕ, Some, IsSome, ◌+◌, ◌-◌, ◌^◌, ◌<◌, ◌≤◌, length};
 ghost use Rattle.std.specs.Option.{option_map};
-ghost use Rattle.chain_base.specs.Chain.{IsDistinct};
+ghost use Rattle.chain_base.specs.Chain.{entry_at, IsDistinct};
 ghost use Rattle.ord_tree.specs.Shape.{height};
 ghost use Rattle.triple_ord.specs.ClosureSearch.{Asks, FindsSimilarWith};
-ghost use Rattle.triple_ord.specs.Descent.{met_next, HasDescendedByKey, HasEndedByKey};
+ghost use Rattle.triple_ord.specs.Descent.{met_next, side_of, IsCompared, HasDescendedByKey, HasEndedByKey};
 ghost use Rattle.triple_ord.specs.Search.{FindsSimilar};
 ghost use Rattle.triple_ord.specs.Ties.{taken};
 ghost use Rattle.triple_ord.specs.VisitBounds.{IsWithinBounds, VisitsLaw};
@@ -18,8 +18,6 @@ use std::alloc::Allocator;
 use std::cmp::Ordering;
 
 /// Goes down from the root by the closure's answers, and returns the entry that it showed last with the answer that it got.
-///
-/// Both sides of a node are read before one is chosen: so the choice is a selection, and no branch.
 pub(crate) fn descend<P: Ptr, T, F: FnMut(P, &T) -> Ordering, A: Allocator>(
     probe: &mut Probe<'_, P, T, A>,
     f: &mut F,
@@ -45,17 +43,13 @@ pub(crate) fn descend<P: Ptr, T, F: FnMut(P, &T) -> Ordering, A: Allocator>(
         if order.is_eq() {
             return last;
         }
-        let lesser = node.p_tree0.get();
-        let greater = node.p_tree1.get();
-        at = if order.is_lt() { lesser } else { greater };
+        at = towards::<P>(order, node.p_tree0.get(), node.p_tree1.get());
     }
     last
 }
 
 /// Goes down from the root by a key: to the lesser side at an equal key that is sought, so that the entry behind the gap where the way
 /// ends is the first of its group. Where that entry is equal, it is the result, else the one that was shown last.
-///
-/// Up to the first equal entry the side is a selection, and no branch.
 #[inline(always)]
 pub(crate) fn descend_by_key<P: Ptr, T: SimpleOrdItem, A: Allocator>(
     probe: &mut Probe<'_, P, T, A>,
@@ -74,16 +68,12 @@ pub(crate) fn descend_by_key<P: Ptr, T: SimpleOrdItem, A: Allocator>(
     let mut last = None;
     let mut at = probe.root();
     while let Some(i) = at {
-        let (generation, node) = probe.show(i);
-        let order = ties.order(k, node.t.key());
-        let p = P::_from_raw(i, generation);
-        let lesser = node.p_tree0.get();
-        let greater = node.p_tree1.get();
+        let (p, order, next) = compare(probe, ties, k, i);
         if order.is_eq() {
-            return descend_in_group(probe, ties, k, p, lesser);
+            return descend_in_group(probe, ties, k, p, next);
         }
         last = Some((p, order));
-        at = if order.is_lt() { lesser } else { greater };
+        at = next;
     }
     last
 }
@@ -117,21 +107,51 @@ fn descend_in_group<P: Ptr, T: SimpleOrdItem, A: Allocator>(
     let mut met = Some(p);
     let mut at = lesser;
     while let Some(i) = at {
-        let (generation, node) = probe.show(i);
-        let order = ties.order(k, node.t.key());
-        let p = P::_from_raw(i, generation);
+        let (p, order, next) = compare(probe, ties, k, i);
         last = Some((p, order));
         met = met_behind(met, p, order);
-        at = if order.is_gt() {
-            node.p_tree1.get()
-        } else {
-            node.p_tree0.get()
-        };
+        at = next;
     }
     match met {
         Some(p) => Some((p, Ordering::Equal)),
         None => last,
     }
+}
+
+// Compares a key with that of the entry at an index: the entry's pointer, how the key lies to its key, and where the search goes on.
+#[inline(always)]
+fn compare<P: Ptr, T: SimpleOrdItem, A: Allocator>(
+    probe: &mut Probe<'_, P, T, A>,
+    ties: Ties,
+    k: &T::Key,
+    i: P::Inx,
+) -> (P, Ordering, Option<P::Inx>)
+    requires occupied { IsSome (entry_at probe.old.tree.now.list.entries (P.Inx.number i)) }
+    requires room { probe.old.visits + 1 < 2 ^ 128 }
+    ensures compared { IsCompared T.key_of (taken ties T.Key.cmp) probe.old.tree.now (P.Inx.number i)
+        k.now (P.numbers result.0) result.1 (option_map P.Inx.number result.2) }
+    ensures counted { probe.new.visits ≡ probe.old.visits + 1 }
+    ensures tree { probe.new.tree.now ≡ probe.old.tree.now }
+{
+    let (generation, node) = probe.show(i);
+    let order = ties.order(k, node.t.key());
+    let next = towards::<P>(order, node.p_tree0.get(), node.p_tree1.get());
+    (P::_from_raw(i, generation), order, next)
+}
+
+// The side on which what is sought lies: the greater one behind an entry that was answered Greater, else the lesser one.
+//
+// Both sides of a node are read before one is chosen: so the choice is a selection, and no branch.
+#[inline(always)]
+fn towards<P: Ptr>(
+    order: Ordering,
+    lesser: Option<P::Inx>,
+    greater: Option<P::Inx>,
+) -> Option<P::Inx>
+    ensures { option_map P.Inx.number result
+        ≡ side_of order (option_map P.Inx.number lesser) (option_map P.Inx.number greater) }
+{
+    if order.is_gt() { greater } else { lesser }
 }
 
 // The equal entry behind all that is left, if any, after one step more: an entry that was answered Greater stands before it.

@@ -1,5 +1,5 @@
 use Rattle.std.proofs.Common.{arith, refl, sym, ◌∙◌, of_calls}
-use Rattle.triple_ord.proofs.Descending.{descent-begins, descent-ends, step-occupied, step-few, step-equal, step-less, step-more, equal_by, less_by, greater_by}
+use Rattle.triple_ord.proofs.Descending.{descent-begins, descent-ends, step-occupied, step-few, step-equal, step-on, equal_by}
 use Rattle.triple_ord.proofs.Bounds.{within_bounds}
 use Rattle.triple_ord.proofs.descent.descend.Goals as goal
 
@@ -24,30 +24,17 @@ returns-then-is_eq-clause-found g c =
     (step-equal _ c.args.probe.now.tree.now c.root-at.ensures.distinct _ _ _ _ _ _ d _ _ _ _ shown c.f-order.result c.f-order.new.self
     (λ e is item. record { named = c._from_raw-p.result; item = _; names = c._from_raw-p.ensures ∙ sym is; shows = sym item; called = c.f-order.ensures }) equal)
 
-pub loop-at-preserved-then-is_lt : goal.loop-at-preserved-then-is_lt
-loop-at-preserved-then-is_lt g c =
-    let d = rw c.in-Some.is at c.loop-at.invariant.descended in
-    let shown = rw c.loop-at.invariant.tree at c.show-generation.ensures.shown in
-    let less = less_by c.f-order.result (sym c.is_lt.ensures ∙ c.if-is_lt.true) in
-    record {
-      callable = search of_calls;
-      tree = c.show-generation.ensures.tree ∙ c.loop-at.invariant.tree;
-      descended = rw (c.get-lesser.ensures.value, c.show-generation.ensures.counted, c._from_raw-p.ensures)
-          (step-less _ c.args.probe.now.tree.now c.root-at.ensures.distinct _ _ _ _ _ _ d _ _ _ _ shown c.f-order.result c.f-order.new.self
-          (λ e is item. record { named = c._from_raw-p.result; item = _; names = c._from_raw-p.ensures ∙ sym is; shows = sym item; called = c.f-order.ensures }) less);
-    }
-
 pub loop-at-preserved : goal.loop-at-preserved
 loop-at-preserved g c =
     let d = rw c.in-Some.is at c.loop-at.invariant.descended in
     let shown = rw c.loop-at.invariant.tree at c.show-generation.ensures.shown in
-    let greater = greater_by c.f-order.result (sym c.is_eq.ensures ∙ c.if-is_eq.false) (sym c.is_lt.ensures ∙ c.if-is_lt.false) in
     record {
       callable = search of_calls;
       tree = c.show-generation.ensures.tree ∙ c.loop-at.invariant.tree;
-      descended = rw (c.get-greater.ensures.value, c.show-generation.ensures.counted, c._from_raw-p.ensures)
-          (step-more _ c.args.probe.now.tree.now c.root-at.ensures.distinct _ _ _ _ _ _ d _ _ _ _ shown c.f-order.result c.f-order.new.self
-          (λ e is item. record { named = c._from_raw-p.result; item = _; names = c._from_raw-p.ensures ∙ sym is; shows = sym item; called = c.f-order.ensures }) greater);
+      descended = rw (c.towards-at.ensures, c.get-in-Some.ensures.value, c.get.ensures.value, c.show-generation.ensures.counted, c._from_raw-p.ensures)
+          (step-on _ c.args.probe.now.tree.now c.root-at.ensures.distinct _ _ _ _ _ _ d _ _ _ _ shown c.f-order.result c.f-order.new.self
+          (λ e is item. record { named = c._from_raw-p.result; item = _; names = c._from_raw-p.ensures ∙ sym is; shows = sym item; called = c.f-order.ensures })
+          (sym c.is_eq.ensures ∙ c.if-is_eq.false));
     }
 
 pub returns-clause-found : goal.returns-clause-found
