@@ -17,13 +17,11 @@ impl<P: Ptr, T, A: Allocator> SimpleOrdArena<P, T, A> {
     {
         let mut theirs = other.iter_ordered();
         for mine in self.iter_ordered() {
-            match theirs.next() {
-                Some(their) => {
-                    if !mine.1.eq(their.1) {
-                        return false;
-                    }
-                }
-                None => return false,
+            let Some(their) = theirs.next() else {
+                return false;
+            };
+            if !mine.1.eq(their.1) {
+                return false;
             }
         }
         theirs.next().is_none()
@@ -40,14 +38,14 @@ impl<P: Ptr, T, A: Allocator> SimpleOrdArena<P, T, A> {
     {
         let mut theirs = other.iter_ordered();
         for mine in self.iter_ordered() {
-            match theirs.next() {
-                Some(their) => match mine.1.partial_cmp(their.1) {
-                    Some(Ordering::Less) => return Some(Ordering::Less),
-                    Some(Ordering::Equal) => {}
-                    Some(Ordering::Greater) => return Some(Ordering::Greater),
-                    None => return None,
-                },
-                None => return Some(Ordering::Greater),
+            let Some(their) = theirs.next() else {
+                return Some(Ordering::Greater);
+            };
+            let Some(order) = mine.1.partial_cmp(their.1) else {
+                return None;
+            };
+            if order.is_ne() {
+                return Some(order);
             }
         }
         match theirs.next() {
@@ -64,13 +62,12 @@ impl<P: Ptr, T, A: Allocator> SimpleOrdArena<P, T, A> {
     {
         let mut theirs = other.iter_ordered();
         for mine in self.iter_ordered() {
-            match theirs.next() {
-                Some(their) => match mine.1.cmp(their.1) {
-                    Ordering::Less => return Ordering::Less,
-                    Ordering::Equal => {}
-                    Ordering::Greater => return Ordering::Greater,
-                },
-                None => return Ordering::Greater,
+            let Some(their) = theirs.next() else {
+                return Ordering::Greater;
+            };
+            let order = mine.1.cmp(their.1);
+            if order.is_ne() {
+                return order;
             }
         }
         match theirs.next() {
