@@ -1,91 +1,65 @@
 -- A search by a closure whose answers lie in order along the list.
-use Rattle.std.proofs.Common.{◌≡◌, ◌≢◌, ◌↔◌, ℕ, ◌+◌, ◌<◌, ◌≤◌, inl, inr, List, [], ◌∷◌, ◌++◌, length, take, drop, Option, Some, None, IfSome}
-use Rattle.std.proofs.Common.{refl, sym, ap, ◌∙◌, append_assoc, length-append, arith}
-use Rattle.std.proofs.lemmas.Bool.{cases_lt}
-use Rattle.std.proofs.lemmas.List.{drop_more, take-append-drop}
-use Rattle.std.proofs.lemmas.List.Elements.{recursion_from_All, All-from_recursion, All-append, All-weaker, All-contains}
+use Rattle.std.proofs.Common.{◌≡◌, ◌≢◌, ◌↔◌, ℕ, inl, inr, List, [], ◌∷◌, ◌++◌, Option, Some, None, IfSome, refl, sym, ap, subst, ◌∙◌, append_assoc}
+use Rattle.std.proofs.lemmas.List.Elements.{recursion_from_All, All-from_recursion, All-append, All-weaker, All-contains, Contains-append_cases}
 use Rattle.std.proofs.lemmas.Option.{IfSome_then}
 use Rattle.std.specs.List.{All, AllByRecursion, Contains, FoldsTo}
 use Rattle.std.specs.Option.{option_map}
 use Rattle.std.specs.declared.cmp.Ordering.{Ordering}
 use Rattle.std.specs.declared.cmp.Ordering.TheVariants.{Less, Equal, Greater}
 use Rattle.chain_base.specs.Chain.{Entry}
-use Rattle.triple_ord.specs.Gap.{Gap, last_or, before, after}
+use Rattle.triple_ord.specs.Gap.{Gap, first_of, last_or, before, after}
 use Rattle.triple_ord.specs.Search.{pointer}
 use Rattle.triple_ord.specs.ClosureSearch.{Shown, where_equal, FindsWith}
 use Rattle.triple_ord.specs.OrderLaws.{AreAnsweredInOrder, AnsweredInOrderLaw}
-use Rattle.triple_ord.proofs.Cuts.{begins, ends, no_first, no_last}
-use Rattle.triple_ord.proofs.Ordered.{in_front, in_back}
 
 -- what is true of each is true of the last
 last_holds : {X : Type 0} (P : X → Type 0) (other : Option X) (xs : List X) → IfSome other P → AllByRecursion P xs → IfSome (last_or other xs) P
 last_holds P other [] is all = is
 last_holds P other (x ∷ xs) is all = last_holds P (Some x) xs all.0 all.1
 
--- a list is cut at each element that it contains
-cut_contained : {X : Type 0} (xs : List X) (x : X) → Contains xs x → (front : List X) × (back : List X) × (xs ≡ front ++ x ∷ back)
-cut_contained xs x has =
-    let behind = drop_more xs has.0 x has.1 ∙ ap (λ y. y ∷ drop (has.0 + 1) xs) has.2 in
-    (take has.0 xs, drop (has.0 + 1) xs, sym (take-append-drop has.0 xs) ∙ ap (λ ys. take has.0 xs ++ ys) behind)
+-- of a list whose one part is so throughout, and whose other part isn't, all before one that is so are so, and all behind one
+module _ {X : Type 0} (P Q : X → Type 0) (apart : (x : X) → P x → Q x → ⊥) where
+  all_before : (low high front back : List X) → low ++ high ≡ front ++ back → AllByRecursion P low → AllByRecursion Q high
+      → IfSome (last_or None front) P → AllByRecursion P front
+  all_before low high [] back cut lows highs last = tt
+  all_before (y ∷ low) high (x ∷ []) back cut lows highs last = (last, tt)
+  all_before (y ∷ low) high (x ∷ (z ∷ front)) back cut lows highs last =
+      let same : y ≡ x = cc in (subst P same lows.0, all_before low high (z ∷ front) back (cc) lows.1 highs last)
+  all_before [] (y ∷ high) (x ∷ []) back cut lows highs last = let same : y ≡ x = cc in absurd (apart x last (subst Q same highs.0))
+  all_before [] (y ∷ (w ∷ high)) (x ∷ (z ∷ front)) back cut lows highs last =
+      let same : w ≡ z = cc in
+      absurd (apart z (all_before [] (w ∷ high) (z ∷ front) back (cc) lows highs.1 last).0 (subst Q same highs.1.0))
+  all_before [] high front back cut lows highs last = absurd (cc)
 
-module _ {T : Type 0} (answer : Entry T → Ordering) (entries : List (Entry T)) (ordered : AreAnsweredInOrder answer entries) where
-  -- where an entry stands, by its answer
-  module _ (front : List (Entry T)) (e : Entry T) (back : List (Entry T)) (cut : entries ≡ front ++ e ∷ back) where
-    is_greater : length front < length ordered.front ↔ answer e ≡ Greater
-    is_greater = (
-      λ h. in_front (λ e. answer e ≡ Greater) ordered.front _ front back e (sym ordered.cut ∙ cut) h (recursion_from_All _ _ ordered.greater),
-      λ is. elim (cases_lt (length front) (length ordered.front)) [
-        | inl h ↦ h
-        | inr h ↦ absurd (in_back (λ e. answer e ≢ Greater) ordered.front (ordered.middle ++ ordered.back) front back e (sym ordered.cut ∙ cut) h (recursion_from_All _ _ others) is)
-      ],
-    )
-      where
-        others : All (λ e. answer e ≢ Greater) (ordered.middle ++ ordered.back)
-        others = All-append (λ e. answer e ≢ Greater) ordered.middle ordered.back
-            (All-weaker (λ e. answer e ≡ Equal) (λ e. answer e ≢ Greater) (λ e one other. absurd (cc)) ordered.middle ordered.equal)
-            (All-weaker (λ e. answer e ≡ Less) (λ e. answer e ≢ Greater) (λ e one other. absurd (cc)) ordered.back ordered.less)
+  all_behind : (low high front back : List X) → low ++ high ≡ front ++ back → AllByRecursion Q low → AllByRecursion P high
+      → IfSome (first_of back) P → AllByRecursion P back
+  all_behind low high front [] cut lows highs first = tt
+  all_behind [] high [] back cut lows highs first = subst (AllByRecursion P) cut highs
+  all_behind [] [] (z ∷ front) back cut lows highs first = absurd (cc)
+  all_behind [] (y ∷ high) (z ∷ front) back cut lows highs first = all_behind [] high front back (cc) lows highs.1 first
+  all_behind (y ∷ low) high [] (x ∷ back) cut lows highs first = let same : y ≡ x = cc in absurd (apart x first (subst Q same lows.0))
+  all_behind (y ∷ low) high (z ∷ front) back cut lows highs first = all_behind low high front back (cc) lows.1 highs first
 
-    is_less : length (ordered.front ++ ordered.middle) ≤ length front ↔ answer e ≡ Less
-    is_less = (
-      λ h. in_back (λ e. answer e ≡ Less) (ordered.front ++ ordered.middle) ordered.back front back e cut_behind h (recursion_from_All _ _ ordered.less),
-      λ is. elim (cases_lt (length front) (length (ordered.front ++ ordered.middle))) [
-        | inl h ↦ absurd (in_front (λ e. answer e ≢ Less) (ordered.front ++ ordered.middle) ordered.back front back e cut_behind h (recursion_from_All _ _ others) is)
-        | inr h ↦ h
-      ],
-    )
-      where
-        cut_behind : (ordered.front ++ ordered.middle) ++ ordered.back ≡ front ++ e ∷ back
-        cut_behind = append_assoc ordered.front ordered.middle ordered.back ∙ sym ordered.cut ∙ cut
+-- a gap between an entry that is answered Greater and one that is answered Less
+module _ {T : Type 0} (answer : Entry T → Ordering) (entries : List (Entry T)) (ordered : AreAnsweredInOrder answer entries) (gap : Gap entries)
+    (low : IfSome (before gap) (λ e. answer e ≡ Greater)) (high : IfSome (after gap) (λ e. answer e ≡ Less)) where
+  more : AllByRecursion (λ e. answer e ≡ Greater) gap.front
+  more = all_before (λ e. answer e ≡ Greater) (λ e. answer e ≢ Greater) (λ e is other. other is) ordered.front (ordered.middle ++ ordered.back) gap.front gap.back
+      (sym ordered.cut ∙ gap.cut) (recursion_from_All _ _ ordered.greater) (recursion_from_All _ _ (All-append (λ e. answer e ≢ Greater) ordered.middle ordered.back
+      (All-weaker (λ e. answer e ≡ Equal) (λ e. answer e ≢ Greater) (λ e one other. absurd (cc)) ordered.middle ordered.equal)
+      (All-weaker (λ e. answer e ≡ Less) (λ e. answer e ≢ Greater) (λ e one other. absurd (cc)) ordered.back ordered.less))) low
 
-        others : All (λ e. answer e ≢ Less) (ordered.front ++ ordered.middle)
-        others = All-append (λ e. answer e ≢ Less) ordered.front ordered.middle
-            (All-weaker (λ e. answer e ≡ Greater) (λ e. answer e ≢ Less) (λ e one other. absurd (cc)) ordered.front ordered.greater)
-            (All-weaker (λ e. answer e ≡ Equal) (λ e. answer e ≢ Less) (λ e one other. absurd (cc)) ordered.middle ordered.equal)
+  less : AllByRecursion (λ e. answer e ≡ Less) gap.back
+  less = all_behind (λ e. answer e ≡ Less) (λ e. answer e ≢ Less) (λ e is other. other is) (ordered.front ++ ordered.middle) ordered.back gap.front gap.back
+      (append_assoc ordered.front ordered.middle ordered.back ∙ sym ordered.cut ∙ gap.cut) (recursion_from_All _ _ (All-append (λ e. answer e ≢ Less) ordered.front ordered.middle
+      (All-weaker (λ e. answer e ≡ Greater) (λ e. answer e ≢ Less) (λ e one other. absurd (cc)) ordered.front ordered.greater)
+      (All-weaker (λ e. answer e ≡ Equal) (λ e. answer e ≢ Less) (λ e one other. absurd (cc)) ordered.middle ordered.equal))) (recursion_from_All _ _ ordered.less) high
 
-  -- a gap between an entry that is answered Greater and one that is answered Less
-  module _ (gap : Gap entries) where
-    reach_before : (o : Option (Entry T)) → before gap ≡ o → IfSome o (λ e. answer e ≡ Greater) → length gap.front ≤ length ordered.front
-    reach_before None is more = let none = ap length (no_last gap.front is) in omega (arith, none)
-    reach_before (Some x) is more =
-        let front = ends gap.front x is in
-        let cut : entries ≡ front.0 ++ x ∷ gap.back = gap.cut ∙ ap (λ es. es ++ gap.back) front.1 ∙ simp append_assoc in
-        omega (arith, (is_greater front.0 x gap.back cut).1 more, ap length front.1, length-append front.0 (x ∷ []))
-
-    reach_behind : (o : Option (Entry T)) → after gap ≡ o → IfSome o (λ e. answer e ≡ Less) → length (ordered.front ++ ordered.middle) ≤ length gap.front
-    reach_behind None is less =
-        let all = ap length (sym ordered.cut ∙ gap.cut ∙ ap (λ es. gap.front ++ es) (no_first gap.back is)) in
-        omega (arith, simp (length-append) at all, length-append ordered.front ordered.middle)
-    reach_behind (Some x) is less =
-        let back = begins gap.back x is in
-        (is_less gap.front x back.0 (gap.cut ∙ ap (λ es. gap.front ++ es) back.1)).1 less
-
-    none_equal : IfSome (before gap) (λ e. answer e ≡ Greater) → IfSome (after gap) (λ e. answer e ≡ Less) → (e : Entry T) → Contains entries e → answer e ≢ Equal
-    none_equal low high e has equal =
-        let c = cut_contained entries e has in
-        elim (cases_lt (length c.0) (length gap.front)) [
-          | inl h ↦ let more = (is_greater c.0 e c.1 c.2).0 (omega (arith, h, reach_before (before gap) refl low)) in cc
-          | inr h ↦ let less = (is_less c.0 e c.1 c.2).0 (omega (arith, h, reach_behind (after gap) refl high)) in cc
-        ]
+  none_equal : (e : Entry T) → Contains entries e → answer e ≢ Equal
+  none_equal e has equal = elim (Contains-append_cases gap.front gap.back e (subst (λ es. Contains es e) gap.cut has)) [
+    | inl there ↦ let is = All-contains (λ e. answer e ≡ Greater) gap.front e (All-from_recursion _ gap.front more) there in cc
+    | inr there ↦ let is = All-contains (λ e. answer e ≡ Less) gap.back e (All-from_recursion _ gap.back less) there in cc
+  ]
 
 -- nothing was found where the last answer isn't Equal
 not_found : {T : Type 0} (s : Shown T) → s.1 ≢ Equal → option_map pointer (where_equal (Some s)) ≡ None

@@ -15,9 +15,9 @@ use Rattle.ord_tree.specs.Slots.{Slots, Holds, Among}
 use Rattle.ord_tree.specs.Node.{bare_entry, links_in, slots_of, indexes}
 use Rattle.ord_tree.specs.Tree.{Tree, IsChainOf, IsSoundTree}
 use Rattle.triple_ord.specs.Node.{IsPart, IsNodeIn}
+use Rattle.triple_ord.specs.Descent.{IsShown}
 use Rattle.chain_base.proofs.CallerLemmas.{entry_at-link}
-use Rattle.ord_tree.proofs.CallerLemmas.{entry_at-bare, times-bare, indexes-bare}
-use Rattle.triple_ord.proofs.Holding.{held-root}
+use Rattle.ord_tree.proofs.CallerLemmas.{entry_at-bare, is_some-bare, times-bare, indexes-bare}
 
 -- the option of a mapped value
 pub is_some-map : {A B : Type 0} (f : A → B) (o : Option A) → is_some (option_map f o) ≡ is_some o
@@ -62,9 +62,11 @@ module _ {P T I G : Type 0} where
 
   -- what the chain of nodes under a tree says of the tree's list
   module _ (t : Tree T) (c : Chain (SimpleOrdArenaNode P T I G)) (under : IsChainOf t c) where
+    pub entry_at-under : (i : ℕ) → entry_at t.list.entries i ≡ option_map (λ e. (e.0, e.1.t)) (entry_at c.entries i)
+    entry_at-under i = ap (λ (l : Chain T). entry_at l.entries i) (sym under.list) ∙ entry_at-bare c.entries i
+
     pub item_of-under : (p : ℕ × ℕ) → item_of t.list.entries p ≡ option_map (λ n. n.t) (item_of c.entries p)
-    item_of-under p =
-        ap (λ (l : Chain T). item_of l.entries p) (sym under.list) ∙ ap (item_if p.1) (entry_at-bare c.entries p.0) ∙ item_if-bare p.1 (entry_at c.entries p.0)
+    item_of-under p = ap (item_if p.1) (entry_at-under p.0) ∙ item_if-bare p.1 (entry_at c.entries p.0)
 
     pub contains-under : (p : ℕ × ℕ) → is_some (item_of c.entries p) ≡ is_some (item_of t.list.entries p)
     contains-under p = sym (is_some-map _ (item_of c.entries p)) ∙ ap is_some (sym (item_of-under p))
@@ -74,9 +76,8 @@ module _ {P T I G : Type 0} where
 
     generation_at-under : (i : ℕ) → generation_at c.entries i ≡ generation_at t.list.entries i
     generation_at-under i =
-        sym (ap (option_map (λ (e : ℕ × T). e.0)) (entry_at-bare c.entries i)
+        sym (ap (option_map (λ (e : ℕ × T). e.0)) (entry_at-under i)
         ∙ sym (option_map-twice (λ (e : ℕ × SimpleOrdArenaNode P T I G). (e.0, e.1.t)) (λ (e : ℕ × T). e.0) (entry_at c.entries i)))
-        ∙ ap (λ (l : Chain T). generation_at l.entries i) under.list
 
     length-under : length c.entries ≡ length t.list.entries
     length-under = sym (length-map c.entries bare_entry) ∙ ap (λ (l : Chain T). length l.entries) under.list
@@ -115,47 +116,59 @@ module _ {P T I G : Type 0} where
     pub link_at-under : (i : ℕ) → option_map bare_link (link_at c.entries i) ≡ link_at t.list.entries i
     link_at-under i = sym (link_between-bare None None c.entries i) ∙ ap (λ (l : Chain T). link_at l.entries i) under.list
 
--- a node that stands in a shape which nodes hold
-module _ (at : Slots) where
-  record IsNodeUnder (above : Option ℕ) (s : Shape) (i : ℕ) (n : TreeLinks ℕ) : Type 0 where
-    lesser_side : Shape
-    greater_side : Shape
-    part : IsPart (node lesser_side i n.rank greater_side) s
-    has_parent : HasParentUnder above s i n.back
-    lesser_root : n.lesser ≡ root_of lesser_side
-    greater_root : n.greater ≡ root_of greater_side
+Among-append : (j : ℕ) (xs ys : List ℕ) → Among j (xs ++ ys) → Among j xs ⊎ Among j ys
+Among-append j [] ys there = inr there
+Among-append j (x ∷ xs) ys there = elim there [
+  | inl here ↦ inl (inl here)
+  | inr rest ↦ elim (Among-append j xs ys rest) [ inl p ↦ inl (inr p) | inr q ↦ inr q ]
+]
 
-  Among-append : (j : ℕ) (xs ys : List ℕ) → Among j (xs ++ ys) → Among j xs ⊎ Among j ys
-  Among-append j [] ys there = inr there
-  Among-append j (x ∷ xs) ys there = elim there [
-    | inl here ↦ inl (inl here)
-    | inr rest ↦ elim (Among-append j xs ys rest) [ inl p ↦ inl (inr p) | inr q ↦ inr q ]
+-- an index of a walk is that of a part's root
+part_at : (s : Shape) (i : ℕ) → Among i (walk s) → (l : Shape) × (k : ℕ) × (r : Shape) × IsPart (node l i k r) s
+part_at missing i there = absurd there
+part_at (node l j k r) i there = elim (Among-append i (walk l) (j ∷ walk r) there) [
+  | inl low ↦ let p = part_at l i low in (p.0, p.1, p.2, inr (inl p.3))
+  | inr high ↦ elim high [
+    | inl here ↦ (l, k, r, inl (rw here refl))
+    | inr rest ↦ let p = part_at r i rest in (p.0, p.1, p.2, inr (inr p.3))
   ]
+]
 
-  node-under : (above link : Option ℕ) (s : Shape) (i : ℕ) (n : TreeLinks ℕ) → Holds at above link s → at i ≡ Some n → Among i (walk s) → IsNodeUnder above s i n
-  node-under above link missing i n h is there = absurd there
-  node-under above link (node l j k r) i n h is there = elim (Among-append i (walk l) (j ∷ walk r) there) [
-    | inl low ↦
-        let rest = node-under (Some j) h.0.lesser l i n h.5 is low in
-        record { lesser_side = rest.lesser_side; greater_side = rest.greater_side; part = inr (inl rest.part); has_parent = inr (inl rest.has_parent); lesser_root = rest.lesser_root; greater_root = rest.greater_root }
-    | inr high ↦ elim high [
-      | inl here ↦
-          let same : n ≡ h.0 = let both : Some n ≡ Some h.0 = sym is ∙ ap at here ∙ h.2 in cc in
-          let rank : k ≡ n.rank = cc in
-          let back : n.back ≡ above = cc in
-          record {
-            lesser_side = l;
-            greater_side = r;
-            part = inl (rw (here, rank) refl);
-            has_parent = inl (here, back);
-            lesser_root = ap (λ (m : TreeLinks ℕ). m.lesser) same ∙ held-root at (Some j) h.0.lesser l h.5;
-            greater_root = ap (λ (m : TreeLinks ℕ). m.greater) same ∙ held-root at (Some j) h.0.greater r h.6;
-          }
-      | inr rest ↦
-          let found = node-under (Some j) h.0.greater r i n h.6 is rest in
-          record { lesser_side = found.lesser_side; greater_side = found.greater_side; part = inr (inr found.part); has_parent = inr (inr found.has_parent); lesser_root = found.lesser_root; greater_root = found.greater_root }
-    ]
+-- a link leads to the root of what hangs there
+held-root : (at : Slots) (back link : Option ℕ) (s : Shape) → Holds at back link s → link ≡ root_of s
+held-root at back link missing h = h
+held-root at back link (node l i k r) h = h.1
+
+-- the links that nodes hold at i, in the tree that they spell
+held-part : (at : Slots) (back link : Option ℕ) (s l r : Shape) (i k : ℕ) (n : TreeLinks ℕ) → Holds at back link s → IsPart (node l i k r) s → at i ≡ Some n
+    → (n.rank ≡ k) × HasParentUnder back s i n.back × (n.lesser ≡ root_of l) × (n.greater ≡ root_of r)
+held-part at back link missing l r i k n h part is = absurd (cc)
+held-part at back link (node l' i' k' r') l r i k n h part is = elim part [
+  | inl same ↦
+      let here : i ≡ i' = cc in
+      let links : n ≡ h.0 = let both : Some n ≡ Some h.0 = sym is ∙ ap at here ∙ h.2 in cc in
+      let sides : (k' ≡ k) × (l' ≡ l) × (r' ≡ r) = (cc, cc, cc) in
+      rw links (
+        h.4 ∙ sides.0,
+        inl (here, h.3),
+        held-root at (Some i') h.0.lesser l' h.5 ∙ ap root_of sides.1,
+        held-root at (Some i') h.0.greater r' h.6 ∙ ap root_of sides.2,
+      )
+  | inr rest ↦ elim rest [
+    | inl p ↦ let low = held-part at (Some i') h.0.lesser l' l r i k n h.5 p is in (low.0, inr (inl low.1), low.2, low.3)
+    | inr p ↦ let high = held-part at (Some i') h.0.greater r' l r i k n h.6 p is in (high.0, inr (inr high.1), high.2, high.3)
   ]
+]
+
+-- a node of the chain under a tree shows the entry, and the roots of its sides
+pub shown-under : {P T I G : Type 0} (t : Tree T) (c : Chain (SimpleOrdArenaNode P T I G)) → IsChainOf t c → (i : ℕ) (e : ℕ × SimpleOrdArenaNode P T I G)
+    → entry_at c.entries i ≡ Some e → IsShown t i e.0 e.1.t e.1.p_tree0 e.1.p_tree1
+shown-under t c under i e is =
+    record { entry = entry_at-under t c under i ∙ rw is refl; lesser_root = λ l r k part. (sides l r k part).2; greater_root = λ l r k part. (sides l r k part).3 }
+  where
+    sides : (l r : Shape) (k : ℕ) → IsPart (node l i k r) t.shape
+        → (e.1.rank ≡ k) × HasParentUnder None t.shape i e.1.p_back × (e.1.p_tree0 ≡ root_of l) × (e.1.p_tree1 ≡ root_of r)
+    sides l r k part = held-part (slots_of c) None (root_of t.shape) t.shape l r i k (links_in e.1) under.held part (rw is refl)
 
 among-entries : {T : Type 0} (es : List (Entry T)) (i : ℕ) (e : ℕ × T) → entry_at es i ≡ Some e → Among i (indexes es)
 among-entries [] i e found = absurd (cc)
@@ -184,23 +197,15 @@ module _ {P T I G : Type 0} (t : Tree T) (c : Chain (SimpleOrdArenaNode P T I G)
       let entry : entry_at c.entries i ≡ Some (e.0, e.1.item) = entry_at-link None None c.entries i ∙ rw (← lies.slots i, is) refl in
       let listed : indexes c.entries ≡ walk t.shape = sym (indexes-bare c.entries) ∙ ap (λ (l : Chain T). indexes l.entries) under.list ∙ sym sound.listed in
       let there : Among i (walk t.shape) = subst (λ (js : List ℕ). Among i js) listed (among-entries c.entries i (e.0, e.1.item) entry) in
-      let found = node-under (slots_of c) None (root_of t.shape) t.shape i (links_in e.1.item) under.held (rw entry refl) there in
-      record { lesser_side = found.lesser_side; greater_side = found.greater_side; part = found.part; has_parent = found.has_parent; lesser_root = found.lesser_root; greater_root = found.greater_root }
+      let p = part_at t.shape i there in
+      let held = held-part (slots_of c) None (root_of t.shape) t.shape p.0 p.2 i p.1 (links_in e.1.item) under.held p.3 (rw entry refl) in
+      record { lesser_side = p.0; greater_side = p.2; part = subst (λ (k : ℕ). IsPart (node p.0 i k p.2) t.shape) (sym held.0) p.3; has_parent = held.1; lesser_root = held.2; greater_root = held.3 }
 
   -- where the tree's list has an entry, the arena has a link
   pub slot-occupied : (i : ℕ) → IsSome (entry_at t.list.entries i) → IsSome (slot a i)
   slot-occupied i some =
-      let linked : entry_at c.entries i ≡ option_map {U = ℕ × SimpleOrdArenaNode P T I G} (λ e. (e.0, e.1.item)) (slot a i) =
-      entry_at-link None None c.entries i ∙ ap (option_map {U = ℕ × SimpleOrdArenaNode P T I G} (λ e. (e.0, e.1.item))) (sym (lies.slots i)) in
-      let listed : entry_at t.list.entries i ≡ option_map {U = ℕ × T} (λ e. (e.0, e.1.t)) (option_map {U = ℕ × SimpleOrdArenaNode P T I G} (λ e. (e.0, e.1.item)) (slot a i)) =
-      ap (λ (l : Chain T). entry_at l.entries i) (sym under.list) ∙ entry_at-bare c.entries i ∙ ap (option_map {U = ℕ × T} (λ e. (e.0, e.1.t))) linked in
-      mapped (slot a i) (rw listed at some)
-    where
-      mapped : (o : Option (ℕ × Link (SimpleOrdArenaNode P T I G)))
-          → IsSome (option_map {U = ℕ × T} (λ e. (e.0, e.1.t)) (option_map {U = ℕ × SimpleOrdArenaNode P T I G} (λ e. (e.0, e.1.item)) o))
-          → IsSome o
-      mapped None some = some
-      mapped (Some e) some = refl
+      ap is_some (lies.slots i) ∙ sym (is_some-map _ (link_at c.entries i)) ∙ ap is_some (sym (entry_at-link None None c.entries i))
+      ∙ sym (is_some-bare c.entries i) ∙ ap (λ (l : Chain T). is_some (entry_at l.entries i)) under.list ∙ some
 
   -- what a look-up in the arena shows
   pub node-looked_up : {X : Type 0} (f : X → ℕ × Link (SimpleOrdArenaNode P T I G)) (o : Option X) (i : ℕ) → option_map f o ≡ slot a i

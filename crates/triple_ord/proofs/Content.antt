@@ -67,13 +67,9 @@ module _ {T : Type 0} where
       → HoldsSame (content_of u) (with_capacity (content_of t) n)
   content-capacity t u n none is =
       let slots : List (Option (ℕ × T)) = slots_from t.list.entries 1 t.list.capacity in
-      record {
-        slots = ap (λ (c : Chain T). None ∷ slots_from c.entries 1 c.capacity) is
-            ∙ (ap (λ ss. None ∷ ss) (slots-resized t.list.entries 1 n t.list.capacity none)
-            ∙ (ap (λ m. None ∷ (take n slots ++ replicate (n - m) None)) (sym (length-slots t.list.entries 1 t.list.capacity)) ∙ sym (resized-slots n slots)));
-        generation = ap (λ (c : Chain T). c.generation) is;
-        maximum = ap (λ (c : Chain T). c.maximum) is;
-      }
+      let same = ap (λ ss. None ∷ ss) (slots-resized t.list.entries 1 n t.list.capacity none)
+      ∙ ap (λ m. None ∷ (take n slots ++ replicate (n - m) None)) (sym (length-slots t.list.entries 1 t.list.capacity)) ∙ sym (resized-slots n slots) in
+      rw is (record { slots = same; generation = refl; maximum = refl })
 
   module _ (most : ℕ) (greatest : Option ℕ) (t : Tree T) (sound : IsSound most greatest t.list) where
     beyond : (k : ℕ) → 1 + t.list.capacity ≤ k → entry_at t.list.entries k ≡ None
@@ -160,11 +156,7 @@ module _ {T : Type 0} where
       content-compressed : u.list ≡ chain_compressed t.list g items → HoldsSame (content_of u) (compressed (content_of t) g items)
       content-compressed is =
           let count : suc t.list.capacity ≡ length (content_of t).slots = ap suc (sym (length-slots t.list.entries 1 t.list.capacity)) in
-          record {
-            slots = ap (λ (c : Chain T). None ∷ slots_from c.entries 1 c.capacity) is ∙ (slots-compressed ∙ ap (λ n. resized n (None ∷ map (λ item. Some (g, item)) items)) count);
-            generation = ap (λ (c : Chain T). c.generation) is;
-            maximum = ap (λ (c : Chain T). c.maximum) is;
-          }
+          rw is (record { slots = slots-compressed ∙ ap (λ n. resized n (None ∷ map (λ item. Some (g, item)) items)) count; generation = refl; maximum = refl })
 
 -- the closure of a compression was called once for each entry
 module _ {P T F : Type 0} (numbers : P → ℕ × ℕ) (step : F → P → T → P → T → F → Type 0) (g : ℕ) where

@@ -5,7 +5,6 @@ pub mod Taken
 pub mod Stepping
 pub mod Hinted
 pub mod DescendingByKey
-pub mod Holding
 pub mod Bounds
 pub mod Bare
 pub mod Content

@@ -38,37 +38,34 @@ module _ {T : Type 0} where
       ap (λ s. s ∷ slots_from fs (from + 1) n) (same from (omega arith) (omega arith))
       ∙ ap (λ ss. entry_at es from ∷ ss) (slots-alike es fs (from + 1) n (λ i least most. same i (omega (arith, least)) (omega (arith, most))))
 
-  -- fs is es, but that `h` was done to what stands at index i
-  record ChangesAt (h : Option (ℕ × T) → Option (ℕ × T)) (i : ℕ) (es fs : List (Entry T)) : Type 0 where
-    here : entry_at fs i ≡ h (entry_at es i)
-    others : (k : ℕ) → k ≢ i → entry_at fs k ≡ entry_at es k
+  -- the slots of fs, which is es but that `h` was done to what stands at index i; nothing is made of nothing
+  module _ (h : Option (ℕ × T) → Option (ℕ × T)) (i : ℕ) (es fs : List (Entry T)) (here : entry_at fs i ≡ h (entry_at es i))
+      (others : (k : ℕ) → k ≢ i → entry_at fs k ≡ entry_at es k) where
+    slots-changed_from : (from n k : ℕ) → i ≡ from + k → slots_from fs from n ≡ set (slots_from es from n) k (h (get_or (slots_from es from n) k None))
+    slots-changed_from from zero k is = refl
+    slots-changed_from from (suc n) zero is =
+        let at : i ≡ from = omega (arith, is) in
+        ap (λ s. s ∷ slots_from fs (from + 1) n) (rw at at here)
+        ∙ ap (λ ss. h (entry_at es from) ∷ ss) (slots-alike es fs (from + 1) n (λ j least most. others j (omega (arith, least, at))))
+    slots-changed_from from (suc n) (suc k) is =
+        ap (λ s. s ∷ slots_from fs (from + 1) n) (others from (omega (arith, is)))
+        ∙ ap (λ ss. entry_at es from ∷ ss) (slots-changed_from (from + 1) n k (omega (arith, is)))
 
-  slots-changed_from : (h : Option (ℕ × T) → Option (ℕ × T)) (i : ℕ) (es fs : List (Entry T)) → ChangesAt h i es fs
-      → (from n k : ℕ) → i ≡ from + k → slots_from fs from n ≡ set (slots_from es from n) k (h (get_or (slots_from es from n) k None))
-  slots-changed_from h i es fs change from zero k is = refl
-  slots-changed_from h i es fs change from (suc n) zero is =
-      let at : i ≡ from = omega (arith, is) in
-      ap (λ s. s ∷ slots_from fs (from + 1) n) (rw at at change.here)
-      ∙ ap (λ ss. h (entry_at es from) ∷ ss) (slots-alike es fs (from + 1) n (λ j least most. change.others j (omega (arith, least, at))))
-  slots-changed_from h i es fs change from (suc n) (suc k) is =
-      ap (λ s. s ∷ slots_from fs (from + 1) n) (change.others from (omega (arith, is)))
-      ∙ ap (λ ss. entry_at es from ∷ ss) (slots-changed_from h i es fs change (from + 1) n k (omega (arith, is)))
-
-  -- the slots of an arena with something done at one index; nothing is made of nothing
-  slots-changed : (h : Option (ℕ × T) → Option (ℕ × T)) → h None ≡ None → (i : ℕ) (es fs : List (Entry T)) → ChangesAt h i es fs → (n : ℕ)
-      → ◌≡◌ {A = List (Option (ℕ × T))} (None ∷ slots_from fs 1 n) (set (None ∷ slots_from es 1 n) i (h (get_or (None ∷ slots_from es 1 n) i None)))
-  slots-changed h none zero es fs change n =
-      ap (λ ss. None ∷ ss) (slots-alike es fs 1 n (λ j least most. change.others j (omega (arith, least)))) ∙ ap (λ s. s ∷ slots_from es 1 n) (sym none)
-  slots-changed h none (suc k) es fs change n = ap (λ ss. None ∷ ss) (slots-changed_from h (suc k) es fs change 1 n k (omega arith))
+    slots-changed : h None ≡ None → (n : ℕ)
+        → ◌≡◌ {A = List (Option (ℕ × T))} (None ∷ slots_from fs 1 n) (set (None ∷ slots_from es 1 n) i (h (get_or (None ∷ slots_from es 1 n) i None)))
+    slots-changed none n = go i refl
+      where
+        go : (j : ℕ) → i ≡ j → None ∷ slots_from fs 1 n ≡ set (None ∷ slots_from es 1 n) j (h (get_or (None ∷ slots_from es 1 n) j None))
+        go zero is = ap (λ ss. None ∷ ss) (slots-alike es fs 1 n (λ j least most. others j (omega (arith, least, is)))) ∙ ap (λ s. s ∷ slots_from es 1 n) (sym none)
+        go (suc k) is = ap (λ ss. None ∷ ss) (slots-changed_from 1 n k (omega (arith, is)))
 
   -- a written item
   pub content-written : (t : Tree T) (i : ℕ) (item : T) → content_of (with_item t i item) ≡ arena_with_item (content_of t) i item
   content-written t i item =
       let es = t.list.entries in
-      let change : ChangesAt (option_map (λ (e : ℕ × T). (e.0, item))) i es (with_item_among es i item) =
-      record { here = entry_at-with_item_among es i item; others = λ k other. entry_at-with_item_among_other es i k item other } in
       ap (λ slots. record { slots = slots; vacant = t.list.vacant; generation = t.list.generation; maximum = t.list.maximum })
-      (slots-changed (option_map (λ (e : ℕ × T). (e.0, item))) refl i es (with_item_among es i item) change t.list.capacity)
+      (slots-changed (option_map (λ (e : ℕ × T). (e.0, item))) i es (with_item_among es i item) (entry_at-with_item_among es i item)
+      (λ k other. entry_at-with_item_among_other es i k item other) refl t.list.capacity)
 
   pub capacity_is : (t : Tree T) → arena_capacity (content_of t) ≡ t.list.capacity
   capacity_is t = omega (arith, length-slots t.list.entries 1 t.list.capacity)
@@ -96,26 +93,16 @@ module _ {T : Type 0} where
   content_renewed greatest t u i is =
       let next = next_generation greatest t.list.generation in
       let es = t.list.entries in
-      let change : ChangesAt (option_map (λ (e : ℕ × T). (next, e.1))) i es (with_generation es i next) =
-      record { here = entry_at-with_generation es i next; others = λ k other. entry_at-with_generation_other es i k next other } in
-      let there : HoldsSame (content_of (record t { list = renewed greatest t.list i })) (arena_renewed greatest (content_of t) i) = record {
-        slots = slots-changed (option_map (λ (e : ℕ × T). (next, e.1))) refl i es (with_generation es i next) change t.list.capacity;
-        generation = refl;
-        maximum = refl;
-      } in
-      subst (λ v. HoldsSame (content_of v) (arena_renewed greatest (content_of t) i)) (sym is) there
+      let slots = slots-changed (option_map (λ (e : ℕ × T). (next, e.1))) i es (with_generation es i next) (entry_at-with_generation es i next)
+      (λ k other. entry_at-with_generation_other es i k next other) refl t.list.capacity in
+      rw is (record { slots = slots; generation = refl; maximum = refl })
 
   pub content_removed : (most : ℕ) (greatest : Option ℕ) (t u : Tree T) (i : ℕ) → IsSound most greatest t.list
       → u.list ≡ removed greatest t.list i → HoldsSame (content_of u) (arena_removed greatest (content_of t) i)
   content_removed most greatest t u i sound is =
       let es = t.list.entries in
-      let change : ChangesAt (λ s. None) i es (without i es) =
-      record { here = entry_at-without es i sound.distinct; others = λ k other. entry_at-without_other es i k other } in
-      record {
-        slots = ap (λ (c : Chain T). None ∷ slots_from c.entries 1 c.capacity) is ∙ slots-changed (λ s. None) refl i es (without i es) change t.list.capacity;
-        generation = ap (λ (c : Chain T). c.generation) is;
-        maximum = ap (λ (c : Chain T). c.maximum) is;
-      }
+      let slots = slots-changed (λ s. None) i es (without i es) (entry_at-without es i sound.distinct) (λ k other. entry_at-without_other es i k other) refl t.list.capacity in
+      rw is (record { slots = slots; generation = refl; maximum = refl })
 
   -- an empty list has no slot with an entry
   slots-empty : (from n : ℕ) → slots_from {T = T} [] from n ≡ replicate {A = Option (ℕ × T)} n None
@@ -125,11 +112,7 @@ module _ {T : Type 0} where
   pub content_cleared : (greatest : Option ℕ) (t u : Tree T) → u.list ≡ cleared greatest t.list → HoldsSame (content_of u) (arena_cleared greatest (content_of t))
   content_cleared greatest t u is =
       let count : suc t.list.capacity ≡ length (content_of t).slots = ap suc (sym (length-slots t.list.entries 1 t.list.capacity)) in
-      record {
-        slots = ap (λ (c : Chain T). None ∷ slots_from c.entries 1 c.capacity) is ∙ (ap (λ ss. None ∷ ss) (slots-empty 1 t.list.capacity) ∙ ap (λ n. replicate n None) count);
-        generation = ap (λ (c : Chain T). c.generation) is;
-        maximum = ap (λ (c : Chain T). c.maximum) is;
-      }
+      rw is (record { slots = ap (λ ss. None ∷ ss) (slots-empty 1 t.list.capacity) ∙ ap (λ n. replicate n None) count; generation = refl; maximum = refl })
 
   -- an index has as many entries as it shows: one or none
   times-shown : (es : List (Entry T)) (i : ℕ) → IsDistinct es → cond (is_some (entry_at es i)) 1 0 ≡ times i es

@@ -1,6 +1,5 @@
 use Rattle.std.proofs.Common.{Some, sym}
-use Rattle.triple_ord.proofs.Bare.{entry-looked_up, link-looked_up, slot-occupied}
-use Rattle.triple_ord.proofs.Holding.{shown-under}
+use Rattle.triple_ord.proofs.Bare.{entry-looked_up, link-looked_up, slot-occupied, shown-under}
 use Rattle.triple_ord.proofs.probe.Probe.show_link.Goals as goal
 
 pub entry-requires : goal.entry-requires
