@@ -9,7 +9,6 @@ use ord_tree::OrdTree;
 use std::alloc::{Allocator, Global};
 use std::cmp::Ordering;
 use std::process::Abort;
-use std::test::Fail;
 
 type Keys<A = Global> = OrdTree<P0, u8, A>;
 
@@ -23,26 +22,31 @@ struct Place {
     children: (Option<u32>, Option<u32>),
 }
 
-/// Each key in order, with its place in the tree.
-fn places<A: Allocator>(alloc: Global, tree: &Keys<A>) -> Result<Vec<Place>, Fail> {
-    let chain = tree.chain();
-    let mut places = Vec::new(alloc);
-    let Some(first) = chain.first() else {
-        return Ok(places);
-    };
-    let mut advancer = chain.advancer_chain(first).ok_or("the first")?;
-    for _ in 0..chain.len() {
-        let p = advancer.advance(chain).ok_or("an entry for each")?;
-        let node = chain.get(p).ok_or("its node")?;
-        places.push(Place {
-            index: p.inx(),
-            key: node.t,
-            rank: node.rank,
-            parent: node.p_back.get(),
-            children: (node.p_tree0.get(), node.p_tree1.get()),
-        })?;
+/// The place that this pointer names.
+fn named_place<A: Allocator>(rt: &impl Abort, tree: &Keys<A>, p: P0) -> Place {
+    let node = tree.chain().get(p).expect(rt, "a node for each entry");
+    Place {
+        index: p.inx(),
+        key: node.t,
+        rank: node.rank,
+        parent: node.p_back.get(),
+        children: (node.p_tree0.get(), node.p_tree1.get()),
     }
-    Ok(places)
+}
+
+/// Each key in order, with its place in the tree.
+fn places<A: Allocator>(rt: &impl Abort, alloc: Global, tree: &Keys<A>) -> Vec<Place> {
+    let mut places = Vec::new(alloc);
+    let first = tree.chain().first().unwrap_or(P0::invalid());
+    if let Some(mut advancer) = tree.chain().advancer_chain(first) {
+        for _ in 0..tree.len() {
+            let p = advancer
+                .advance(tree.chain())
+                .expect(rt, "an entry for each");
+            places.push(named_place(rt, tree, p)).expect(rt, "memory");
+        }
+    }
+    places
 }
 
 /// The place of a key: before the first greater one, or behind the last.
@@ -86,19 +90,11 @@ fn index_of(places: &[Place], key: u8) -> Option<u32> {
 }
 
 /// Inserts a key that isn't there, or removes one that is.
-fn toggle<A: Allocator>(
-    rt: &impl Abort,
-    tree: &mut Keys<A>,
-    places: &[Place],
-    key: u8,
-) -> Result<(), Fail> {
+fn toggle<A: Allocator>(rt: &impl Abort, tree: &mut Keys<A>, places: &[Place], key: u8) {
     match index_of(places, key) {
-        None => {
-            let _ = insert_at(rt, tree, place_of(places, key), key)?;
-        }
+        None => assert!(rt; insert_at(rt, tree, place_of(places, key), key).is_ok()),
         Some(index) => assert!(rt; tree.remove_inx(index).allow().is_some()),
     }
-    Ok(())
 }
 
 /// How many indexes of the first list have another parent in the second.

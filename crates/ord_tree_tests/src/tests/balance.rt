@@ -1,8 +1,7 @@
 //! Insertions and removals in every order, beside a plain vector.
 use super::{Keys, Place, moved, places, toggle};
-use std::alloc::{AllocError, Global};
+use std::alloc::Global;
 use std::process::Abort;
-use std::test::Fail;
 
 /// The rank of a child.
 fn rank_at(places: &[Place], index: Option<u32>) -> u8 {
@@ -54,77 +53,80 @@ fn is_balanced(places: &[Place], root: Option<u32>, sorted: &[u8]) -> bool {
 }
 
 /// The order of the keys from 1 to `count` that has this number among all orders.
-fn order_of(alloc: Global, count: u8, number: usize) -> Result<Vec<u8>, AllocError> {
-    let mut rest = Vec::new(alloc);
-    for key in 1..=count {
-        rest.push(key)?;
-    }
+fn order_of(rt: &impl Abort, alloc: Global, count: u8, number: usize) -> Vec<u8> {
     let mut order = Vec::new(alloc);
     let mut number = number;
-    for _ in 0..count {
-        let len = rest.len();
-        if len > 0 {
-            order.push(rest.remove(number % len))?;
-            number /= len;
-        }
+    for key in 1..=count {
+        let places = order.len().saturating_add(1);
+        order.insert(number % places, key).expect(rt, "memory");
+        number /= places;
     }
-    Ok(order)
+    order
 }
 
 /// Inserts or removes a key in a plain vector. Answers how many parents the tree may move.
-fn toggle_sorted(sorted: &mut Vec<u8>, key: u8) -> Result<usize, AllocError> {
-    match sorted.iter().position(|other| *other == key) {
-        None => {
-            sorted.push(key)?;
-            sorted.sort()?;
-            Ok(5)
+fn toggle_sorted(rt: &impl Abort, sorted: &mut Vec<u8>, key: u8) -> usize {
+    match sorted.binary_search(&key) {
+        Err(at) => {
+            sorted.insert(at, key).expect(rt, "memory");
+            5
         }
-        Some(at) => {
+        Ok(at) => {
             let _ = sorted.remove(at);
-            Ok(9)
+            9
         }
     }
 }
 
-/// Inserts or removes keys one after another, in a tree and in a plain vector; both must agree each time. Only removals leave a tree that isn't tight.
-fn toggle_in_both(
-    rt: &impl Abort,
-    alloc: Global,
-    keys: &[u8],
-    stays_tight: bool,
-) -> Result<(), Fail> {
-    let mut tree = Keys::new(alloc);
-    let mut sorted: Vec<u8> = Vec::new(alloc);
-    let mut old = Vec::new(alloc);
+/// A tree, the places of its keys, and a plain vector of the same keys.
+#[derive(Drop)]
+struct Both {
+    tree: Keys,
+    places: Vec<Place>,
+    sorted: Vec<u8>,
+}
+
+/// Inserts or removes a key in both, which must agree. Only a removal leaves a tree that isn't tight.
+fn toggle_in_both(rt: &impl Abort, alloc: Global, both: &mut Both, key: u8, stays_tight: bool) {
+    toggle(rt, &mut both.tree, &both.places, key);
+    let most = toggle_sorted(rt, &mut both.sorted, key);
+    let new = places(rt, alloc, &both.tree);
+    assert!(rt;
+        is_balanced(&new, both.tree.root(), &both.sorted) && moved(&both.places, &new) <= most
+    );
+    assert!(rt; !stays_tight || is_tight(&new));
+    both.places = new;
+}
+
+/// Inserts or removes keys one after another, in a tree and in a plain vector.
+fn toggle_all_in_both(rt: &impl Abort, alloc: Global, keys: &[u8], stays_tight: bool) {
+    let mut both = Both {
+        tree: Keys::new(alloc),
+        places: Vec::new(alloc),
+        sorted: Vec::new(alloc),
+    };
     for key in keys {
-        toggle(rt, &mut tree, &old, *key)?;
-        let most = toggle_sorted(&mut sorted, *key)?;
-        let new = places(alloc, &tree)?;
-        assert!(rt; is_balanced(&new, tree.root(), &sorted) && moved(&old, &new) <= most);
-        assert!(rt; !stays_tight || is_tight(&new));
-        old = new;
+        toggle_in_both(rt, alloc, &mut both, *key, stays_tight);
     }
-    Ok(())
 }
 
 #[test]
-fn keeps_the_balance_in_every_order(rt: HostRuntime) -> Result<(), Fail> {
+fn keeps_the_balance_in_every_order(rt: HostRuntime) {
     let mut orders: usize = 1;
     for count in 1..=7u8 {
         orders = orders.saturating_mul(usize::from(count));
         for number in 0..orders {
-            toggle_in_both(&rt, rt.alloc(), &order_of(rt.alloc(), count, number)?, true)?;
+            let order = order_of(&rt, rt.alloc(), count, number);
+            toggle_all_in_both(&rt, rt.alloc(), &order, true);
         }
     }
-    Ok(())
 }
 
 #[test]
-fn inserts_and_removes_in_every_mix(rt: HostRuntime) -> Result<(), Fail> {
+fn inserts_and_removes_in_every_mix(rt: HostRuntime) {
     for word in 0..78_125usize {
-        toggle_in_both(&rt, rt.alloc(), &digits_of(word), false)?;
+        toggle_all_in_both(&rt, rt.alloc(), &digits_of(word), false);
     }
-    Ok(())
 }
 
 /// The seven digits of a word in base 5, as keys from 1 to 5.

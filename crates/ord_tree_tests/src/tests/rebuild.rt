@@ -1,10 +1,9 @@
 //! Rebuilt trees, compared place by place with a recursive function of the length.
 use super::{Keys, Place, insert_at, places};
-use arena_base::{InsertionError, InvalidationOption, P0, Ptr, ReallocationError};
+use arena_base::{InvalidationOption, P0, Ptr, ReallocationError};
 use std::alloc::{AllocError, Global};
 use std::cmp::Ordering;
 use std::process::Abort;
-use std::test::Fail;
 
 /// The index in the middle of a run.
 fn middle_of(start: u32, len: u32) -> Option<u32> {
@@ -52,7 +51,7 @@ fn add_run(
 }
 
 /// The places of the rebuilt tree of `len` entries, whose indexes rise from 1.
-fn rebuilt(alloc: Global, len: u32) -> Result<Vec<Place>, AllocError> {
+fn rebuilt(rt: &impl Abort, alloc: Global, len: u32) -> Vec<Place> {
     let (mut power, mut top) = (1u32, 1u8);
     for _ in 0..32 {
         if power < len.saturating_sub(1) {
@@ -61,45 +60,42 @@ fn rebuilt(alloc: Global, len: u32) -> Result<Vec<Place>, AllocError> {
         }
     }
     let mut places = Vec::new(alloc);
-    add_run(&mut places, 1, len, None, top)?;
-    Ok(places)
+    add_run(&mut places, 1, len, None, top).expect(rt, "memory");
+    places
 }
 
 /// Inserts `len` entries, each behind the last, so that their indexes rise from 1. Their keys are never asked.
-fn fill(rt: &impl Abort, tree: &mut Keys, len: u32) -> Result<(), InsertionError> {
+fn fill(rt: &impl Abort, tree: &mut Keys, len: u32) {
     let mut last = None;
     for _ in 0..len {
-        let p = insert_at(rt, tree, last, 0)?;
+        let p = insert_at(rt, tree, last, 0).expect(rt, "memory");
         last = Some((p.inx(), Ordering::Greater));
     }
-    Ok(())
 }
 
 /// Whether a tree is what the recursive function says.
-fn is_rebuilt(alloc: Global, tree: &Keys, len: u32) -> Result<bool, Fail> {
-    let found = places(alloc, tree)?;
-    let is_placed = found.as_slice() == rebuilt(alloc, len)?.as_slice();
-    Ok(is_placed && tree.root() == middle_of(1, len))
+fn is_rebuilt(rt: &impl Abort, alloc: Global, tree: &Keys, len: u32) -> bool {
+    let found = places(rt, alloc, tree);
+    found.as_slice() == rebuilt(rt, alloc, len).as_slice() && tree.root() == middle_of(1, len)
 }
 
 /// Rebuilds a tree of `len` entries.
-fn rebuild(rt: &impl Abort, alloc: Global, len: u32) -> Result<Keys, Fail> {
+fn rebuild(rt: &impl Abort, alloc: Global, len: u32) -> Keys {
     let mut tree = Keys::new(alloc);
-    fill(rt, &mut tree, len)?;
+    fill(rt, &mut tree, len);
     let _ = tree.compress(false);
-    assert!(rt; is_rebuilt(alloc, &tree, len)?);
-    Ok(tree)
+    assert!(rt; is_rebuilt(rt, alloc, &tree, len));
+    tree
 }
 
 #[test]
-fn rebuilds_in_halves(rt: HostRuntime) -> Result<(), Fail> {
+fn rebuilds_in_halves(rt: HostRuntime) {
     let powers = [
         511, 512, 513, 1023, 1024, 1025, 2047, 2048, 2049, 4095, 4096, 4097,
     ];
     for len in (0..301u32).chain(powers) {
-        let _ = rebuild(&rt, rt.alloc(), len)?;
+        let _ = rebuild(&rt, rt.alloc(), len);
     }
-    Ok(())
 }
 
 /// Ranks in order of rebuilt trees, by their number of entries.
@@ -115,18 +111,13 @@ const RANKS: [(u32, &[u8]); 8] = [
 ];
 
 #[test]
-fn ranks_after_a_rebuild(rt: HostRuntime) -> Result<(), Fail> {
+fn ranks_after_a_rebuild(rt: HostRuntime) {
     for (len, ranks) in &RANKS {
-        let tree = rebuild(&rt, rt.alloc(), *len)?;
-        let found = places(rt.alloc(), &tree)?;
-        assert!(rt;
-            found
-                .iter()
-                .map(|place| place.rank)
-                .eq(ranks.iter().copied())
-        );
+        let tree = rebuild(&rt, rt.alloc(), *len);
+        let found = places(&rt, rt.alloc(), &tree);
+        let found = found.iter().map(|place| place.rank);
+        assert!(&rt; found.eq(ranks.iter().copied()));
     }
-    Ok(())
 }
 
 /// Transfers all entries with generation 9. Answers the outcome, and how often the closure was called.
@@ -150,30 +141,24 @@ fn taken(
     alloc: Global,
     len: u32,
     maximum: usize,
-) -> Result<(Result<(), ReallocationError>, u32, usize, bool), Fail> {
+) -> (Result<(), ReallocationError>, u32, usize, bool) {
     let mut source = Keys::new(alloc);
-    fill(rt, &mut source, len)?;
+    fill(rt, &mut source, len);
     let mut tree = Keys::new(alloc);
-    fill(rt, &mut tree, 1)?;
+    fill(rt, &mut tree, 1);
     let _ = tree.reallocate_min_capacity(0);
     let _ = tree.set_max_capacity(maximum);
     let (outcome, calls) = transfer_all(&mut tree, &mut source);
-    let is_right = is_rebuilt(alloc, &tree, if outcome.is_ok() { len } else { 1 })?;
-    Ok((outcome, calls, source.len(), is_right))
-}
-
-/// A number of entries as a maximum.
-fn limit_of(len: u32) -> usize {
-    usize::try_from(len).unwrap_or(0)
+    let is_right = is_rebuilt(rt, alloc, &tree, if outcome.is_ok() { len } else { 1 });
+    (outcome, calls, source.len(), is_right)
 }
 
 #[test]
-fn transfers_at_the_limit(rt: HostRuntime) -> Result<(), Fail> {
+fn transfers_at_the_limit(rt: HostRuntime) {
     for len in 1..40u32 {
-        let found = taken(&rt, rt.alloc(), len, limit_of(len))?;
-        assert!(rt; found == (Ok(()), len, 0, true));
+        let found = taken(&rt, rt.alloc(), len, len as usize);
+        assert!(&rt; found == (Ok(()), len, 0, true));
     }
     let refusal = Err(ReallocationError::BeyondMaxCapacity);
-    assert!(rt; taken(&rt, rt.alloc(), 4, 3)? == (refusal, 0, 4, true));
-    Ok(())
+    assert!(&rt; taken(&rt, rt.alloc(), 4, 3) == (refusal, 0, 4, true));
 }

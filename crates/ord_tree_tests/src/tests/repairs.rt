@@ -1,8 +1,7 @@
 //! Repairs by a table, the rows of which were worked out apart from the code.
 use super::{Keys, Place, moved, places, toggle};
-use std::alloc::{AllocError, Global};
+use std::alloc::Global;
 use std::process::Abort;
-use std::test::Fail;
 
 /// A key, its rank and its parent's key, which is 0 for the root.
 type Node = (u8, u8, u8);
@@ -335,48 +334,43 @@ fn key_at(places: &[Place], index: Option<u32>) -> u8 {
     0
 }
 
-fn nodes(alloc: Global, places: &[Place]) -> Result<Vec<Node>, AllocError> {
+fn nodes(rt: &impl Abort, alloc: Global, places: &[Place]) -> Vec<Node> {
     let mut nodes = Vec::new(alloc);
     for place in places {
-        nodes.push((place.key, place.rank, key_at(places, place.parent)))?;
+        let node = (place.key, place.rank, key_at(places, place.parent));
+        nodes.push(node).expect(rt, "memory");
     }
-    Ok(nodes)
+    nodes
 }
 
 /// Inserts or removes keys one after another. Answers how many parents the last one moves.
-fn moved_by(rt: &impl Abort, alloc: Global, tree: &mut Keys, keys: &[u8]) -> Result<usize, Fail> {
+fn moved_by(rt: &impl Abort, alloc: Global, tree: &mut Keys, keys: &[u8]) -> usize {
     let mut last = 0;
     for key in keys {
-        let old = places(alloc, tree)?;
-        toggle(rt, tree, &old, *key)?;
-        last = moved(&old, &places(alloc, tree)?);
+        let old = places(rt, alloc, tree);
+        toggle(rt, tree, &old, *key);
+        last = moved(&old, &places(rt, alloc, tree));
     }
-    Ok(last)
+    last
 }
 
-/// Compares the tree of a row and the parents that its last key moves with the row.
-fn repairs(rt: &impl Abort, alloc: Global, row: &Row) -> Result<(), Fail> {
-    let (keys, changes, wanted, moves) = *row;
-    let mut tree = Keys::new(alloc);
-    let _ = moved_by(rt, alloc, &mut tree, keys)?;
-    assert!(rt; moved_by(rt, alloc, &mut tree, changes)? == moves);
-    let found = nodes(alloc, &places(alloc, &tree)?)?;
-    assert!(rt; found.as_slice() == wanted);
-    Ok(())
-}
-
-#[test]
-fn repairs_by_the_table(rt: HostRuntime) -> Result<(), Fail> {
-    for row in &INSERTIONS {
-        repairs(&rt, rt.alloc(), row)?;
+/// Compares the tree of each row and the parents that its last key moves with the row.
+fn repairs(rt: &impl Abort, alloc: Global, rows: &[Row]) {
+    for (keys, changes, wanted, moves) in rows {
+        let mut tree = Keys::new(alloc);
+        let _ = moved_by(rt, alloc, &mut tree, keys);
+        assert!(rt; moved_by(rt, alloc, &mut tree, changes) == *moves);
+        let found = nodes(rt, alloc, &places(rt, alloc, &tree));
+        assert!(rt; found.as_slice() == *wanted);
     }
-    Ok(())
 }
 
 #[test]
-fn repairs_removals_by_the_table(rt: HostRuntime) -> Result<(), Fail> {
-    for row in &REMOVALS {
-        repairs(&rt, rt.alloc(), row)?;
-    }
-    Ok(())
+fn repairs_by_the_table(rt: HostRuntime) {
+    repairs(&rt, rt.alloc(), &INSERTIONS);
+}
+
+#[test]
+fn repairs_removals_by_the_table(rt: HostRuntime) {
+    repairs(&rt, rt.alloc(), &REMOVALS);
 }
