@@ -1,5 +1,5 @@
 -- The place of an insertion, from what a search answers or from an index.
-use Rattle.std.proofs.Common.{◌≡◌, ◌≢◌, ◌==◌, if◌then◌else◌, is_some, ℕ, ◌+◌, ◌≤◌, false, true, length, slice_get, List, [], ◌∷◌, ◌++◌, Option, Some, None, IsSome, Result, Ok, Err, IfErr, refl, sym, ap, subst, ◌∙◌, arith, append_assoc}
+use Rattle.std.proofs.Common.{◌≡◌, ◌≢◌, ◌==◌, if◌then◌else◌, IfNone, is_some, ℕ, ◌+◌, ◌≤◌, false, true, length, slice_get, List, [], ◌∷◌, ◌++◌, Option, Some, None, IsSome, Result, Ok, Err, IfErr, refl, sym, ap, subst, ◌∙◌, arith, append_assoc}
 use Rattle.std.proofs.lemmas.Bool.{eq-eqb}
 use Rattle.std.proofs.lemmas.Bool.Decides.{nat_tests}
 use Rattle.std.proofs.lemmas.List.{nil_from_length}
@@ -14,15 +14,18 @@ use Rattle.chain_base.specs.Insert.{IsInsertion}
 use Rattle.ord_tree.specs.Tree.{Tree, IsGrown, put_on, put_at, with_item}
 use Rattle.triple_ord.specs.Arena.{item_of, count, Updates}
 use Rattle.triple_ord.specs.EntryVisits.{HasSeen}
+use Rattle.triple_ord.specs.Hint.{IsNearHint}
+use Rattle.triple_ord.specs.VisitBounds.{IsWithinBounds, IsWithinHintedBounds}
 use Rattle.triple_ord.specs.Gap.{Gap, before, after, with_between}
 use Rattle.triple_ord.specs.Search.{Fits, FindsSimilar}
 use Rattle.triple_ord.specs.Ties.{taken}
-use Rattle.triple_ord.specs.declared.ties.Ties.TheVariants.{Passed}
+use Rattle.triple_ord.specs.declared.ties.Ties.{Ties}
+use Rattle.triple_ord.specs.declared.ties.Ties.TheVariants.{Sought, Passed}
 use Rattle.triple_ord.specs.declared.prepared.InsertPlace.{InsertPlace}
 use Rattle.triple_ord.proofs.Cuts.{last_or-append, stands}
 use Rattle.triple_ord.proofs.Taken.{taken-less, taken-greater, passed-unequal}
 use Rattle.triple_ord.specs.Place.{Aim, alone, at_key, behind_key, beside, Place, into, over, nowhere, IsPlace, aim_of}
-use Rattle.triple_ord.specs.Prepared.{Keeps, IsFoundPlace, IsPlaceBeside, IsPlaceFor, HasRoomAt}
+use Rattle.triple_ord.specs.Prepared.{Keeps, IsFoundPlace, IsPlaceBeside, IsPlaceFor, HasRoomAt, kind_by, kind_near}
 use Rattle.triple_ord.specs.Insertion.{Growth, within, reallocating, with_slot, LacksSlot, IsRefused, InsertsBeside}
 use Rattle.triple_ord.specs.declared.insert_kind.OrdInsertKind.{OrdInsertKind}
 use Rattle.triple_ord.specs.declared.error.OrdInsertionError.{OrdInsertionError}
@@ -92,7 +95,7 @@ module _ {P T K : Type 0} (numbers : P → ℕ × ℕ) (key : T → K) (cmp : K 
               rw (ap (λ a. a.0) found.1) there
 
   -- a place by the order in which equal keys count as lesser lies behind the key
-  pub found-behind : (k : K) (c : ℕ) (kept : InsertPlace P) → IsFoundPlace numbers key (taken Passed cmp) t (at_key k) c kept → IsFoundPlace numbers key cmp t (behind_key k) c kept
+  found-behind : (k : K) (c : ℕ) (kept : InsertPlace P) → IsFoundPlace numbers key (taken Passed cmp) t (at_key k) c kept → IsFoundPlace numbers key cmp t (behind_key k) c kept
   found-behind k c kept found = go found.place found.chosen found.keeps found.seen
     where
       go : (place : Place t.list.entries) → IsPlace key (taken Passed cmp) (at_key k) place → Keeps numbers t kept place → HasSeen place c
@@ -108,6 +111,26 @@ module _ {P T K : Type 0} (numbers : P → ℕ × ℕ) (key : T → K) (cmp : K 
       }
       go (over e) chosen keeps seen = absurd (passed-unequal cmp k (key e.item) chosen.equal)
       go nowhere chosen keeps seen = absurd chosen
+
+  -- the place by a key, by what the search made of equal keys
+  module _ {I G : Type 0} (number : I → ℕ) (k : K) (c : ℕ) (kept : InsertPlace P) where
+    pub placed-by : (ties : Ties) → IsFoundPlace numbers key (taken ties cmp) t (at_key k) c kept → IsWithinBounds (length t.list.entries) t.shape c
+        → IsPlaceFor numbers key cmp t {G = G} number (kind_by ties k) kept c
+    placed-by Sought f bounded = record { place = f.place; chosen = f.chosen; keeps = f.keeps; visits = record { seen = f.seen; bounded = bounded } }
+    placed-by Passed found bounded =
+        let f = found-behind k c kept found in record { place = f.place; chosen = f.chosen; keeps = f.keeps; visits = record { seen = f.seen; bounded = bounded } }
+
+    pub placed-near : (ties : Ties) (i : I) (num : ℕ) → IsFoundPlace numbers key (taken ties cmp) t (at_key k) c kept
+        → IsWithinHintedBounds (length t.list.entries) t.shape num c → IfNone (entry_at t.list.entries (number i)) (IsWithinBounds (length t.list.entries) t.shape c)
+        → IsNearHint key cmp t.list.entries k (number i) num c → IsPlaceFor numbers key cmp t {G = G} number (kind_near ties i num k) kept c
+    placed-near ties i num found bounded unhinted near = go ties found
+      where
+        go : (ties : Ties) → IsFoundPlace numbers key (taken ties cmp) t (at_key k) c kept → IsPlaceFor numbers key cmp t {G = G} number (kind_near ties i num k) kept c
+        go Sought f =
+            record { place = f.place; chosen = f.chosen; keeps = f.keeps; visits = record { seen = f.seen; bounded = bounded; unhinted = unhinted; near = near } }
+        go Passed found =
+            let f = found-behind k c kept found in
+            record { place = f.place; chosen = f.chosen; keeps = f.keeps; visits = record { seen = f.seen; bounded = bounded; unhinted = unhinted; near = near } }
 
   -- the entry that has an index: beside it, or in its place
   module _ (distinct : IsDistinct t.list.entries) (p : P) (i g : ℕ) (item : T) (named : numbers p ≡ (i, g)) (there : entry_at t.list.entries i ≡ Some (g, item)) where

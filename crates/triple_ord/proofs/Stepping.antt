@@ -65,6 +65,15 @@ module _ {T K : Type 0} (key : T → K) (cmp : K → K → Ordering) (es : List 
     high-answered came from (Some f) is turned = absurd (cc)
 
   module _ (start i visits : ℕ) (came : Ordering) (s : IsStepping key cmp es k start i visits came) where
+    -- no entry is met twice
+    pub stepping-within : visits < length es
+    stepping-within = go came s.from
+      where
+        go : (came : Ordering) → CameFrom key cmp es k start visits s.front s.back came → visits < length es
+        go Less from = omega (arith, from.4, s.within)
+        go Equal from = omega (arith, from.0, s.within)
+        go Greater from = let n = ap length s.cut in omega (arith, from.4, n, length-append s.front (s.entry ∷ s.back))
+
     pub stepping-occupied : IsSome (entry_at es i)
     stepping-occupied = rw (← s.here, entry_at-here es distinct s.front s.entry s.back s.cut) refl
 

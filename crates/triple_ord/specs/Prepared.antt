@@ -13,8 +13,11 @@ use Rattle.triple_ord.specs.EntryVisits.{HasSeen, VisitsFor}
 use Rattle.triple_ord.specs.declared.entry_kind.OrdEntryKind.{OrdEntryKind}
 use Rattle.triple_ord.specs.declared.entry_kind.OrdEntryKind.TheVariants as shown
 use Rattle.triple_ord.specs.declared.insert_kind.OrdInsertKind.{OrdInsertKind}
+use Rattle.triple_ord.specs.declared.insert_kind.OrdInsertKind.TheVariants.{Normal, Nonhereditary, Linear, NonhereditaryLinear}
 use Rattle.triple_ord.specs.declared.prepared.InsertPlace.{InsertPlace}
 use Rattle.triple_ord.specs.declared.prepared.InsertPlace.TheVariants.{New, Replacing}
+use Rattle.triple_ord.specs.declared.ties.Ties.{Ties}
+use Rattle.triple_ord.specs.declared.ties.Ties.TheVariants.{Sought, Passed}
 
 -- the index of a pointer
 abbrev pub index_in : {P : Type 0} → (P → ℕ × ℕ) → P → ℕ
@@ -24,6 +27,15 @@ index_in numbers p = (numbers p).0
 abbrev pub by_number : {I : Type 0} → (I → ℕ) → Option (I × Ordering) → Option (ℕ × Ordering)
 by_number number None = None
 by_number number (Some a) = Some (number a.0, a.1)
+
+-- the kind of an insertion that searches by a key, and of one that searches from a hint, by what the search makes of equal keys
+abbrev pub kind_by : {P K I G : Type 0} → Ties → K → OrdInsertKind P K I G
+kind_by Sought k = Normal k
+kind_by Passed k = Nonhereditary k
+
+abbrev pub kind_near : {P K I G : Type 0} → Ties → I → ℕ → K → OrdInsertKind P K I G
+kind_near Sought i num k = Linear i num k
+kind_near Passed i num k = NonhereditaryLinear i num k
 
 module _ {P T : Type 0} (numbers : P → ℕ × ℕ) where
   -- a new entry can stand there: alone, where there is none, or on a side of the entry that has the pointer's index

@@ -2,7 +2,7 @@
 ghost use Rattle.std.specs.Prelude.{◌≡◌, ℕ, IfOk, IfErr};
 ghost use Rattle.std.specs.Option.{option_map};
 ghost use Rattle.triple_ord.specs.Place.{alone, at_key, beside, nowhere, IsPlace, aim_of, kind_now};
-ghost use Rattle.triple_ord.specs.Prepared.{IsFoundPlace, IsPlaceBeside, IsPlaceFor};
+ghost use Rattle.triple_ord.specs.Prepared.{IsFoundPlace, IsPlaceBeside, IsPlaceFor, kind_by, kind_near};
 ghost use Rattle.triple_ord.specs.Search.{FindsSimilar};
 
 use super::SimpleOrdArena;
@@ -35,21 +35,13 @@ impl<P: Ptr, T: SimpleOrdItem, A: Allocator> SimpleOrdArena<P, T, A> {
                     .ok_or(OrdInsertionError::FailedOrdRequirement)?;
                 Ok((place, Visits::new(0)))
             }
-            OrdInsertKind::Normal(k) => {
-                let (found, visits) = self.search(Ties::Sought, k);
-                Ok((self.place_found(found), visits))
-            }
-            OrdInsertKind::Nonhereditary(k) => {
-                let (found, visits) = self.search(Ties::Passed, k);
-                Ok((self.place_found(found), visits))
-            }
+            OrdInsertKind::Normal(k) => Ok(self.place_by_key(Ties::Sought, k)),
+            OrdInsertKind::Nonhereditary(k) => Ok(self.place_by_key(Ties::Passed, k)),
             OrdInsertKind::Linear { p_init, num, k } => {
-                let (found, visits) = self.search_from(Ties::Sought, p_init, num, k);
-                Ok((self.place_found(found), visits))
+                Ok(self.place_near(Ties::Sought, p_init, num, k))
             }
             OrdInsertKind::NonhereditaryLinear { p_init, num, k } => {
-                let (found, visits) = self.search_from(Ties::Passed, p_init, num, k);
-                Ok((self.place_found(found), visits))
+                Ok(self.place_near(Ties::Passed, p_init, num, k))
             }
             OrdInsertKind::Manual {
                 p_target,
@@ -61,6 +53,30 @@ impl<P: Ptr, T: SimpleOrdItem, A: Allocator> SimpleOrdArena<P, T, A> {
                 Ok((place, Visits::new(0)))
             }
         }
+    }
+
+    // The place by a key, and how many entries the search for it visited.
+    fn place_by_key(&self, ties: Ties, k: &T::Key) -> (InsertPlace<P>, Visits)
+        ensures { IsPlaceFor P.numbers T.key_of T.Key.cmp self.now {G = P.Gen} P.Inx.number
+            (kind_by ties k.now) result.0 result.1 }
+    {
+        let (found, visits) = self.search(ties, k);
+        (self.place_found(found), visits)
+    }
+
+    // The place by a key, searched from a hint.
+    fn place_near(
+        &self,
+        ties: Ties,
+        p_init: P::Inx,
+        num: usize,
+        k: &T::Key,
+    ) -> (InsertPlace<P>, Visits)
+        ensures { IsPlaceFor P.numbers T.key_of T.Key.cmp self.now {G = P.Gen} P.Inx.number
+            (kind_near ties p_init num k.now) result.0 result.1 }
+    {
+        let (found, visits) = self.search_from(ties, p_init, num, k);
+        (self.place_found(found), visits)
     }
 
     // Where a search by a key ended: an equal entry is to be replaced, and a gap is to be filled.
