@@ -1,19 +1,16 @@
 //! Arenas whose keys stand in any order, some of them equal: what each call does is held against a plain vector of what was there.
 mod building;
+mod changes;
 mod closures;
 mod insertions;
 mod places;
-mod rebuilds;
-mod removals;
 mod searches;
 mod trees;
 
-use building::{Building, built, orders};
+use building::{ORDERS, manual, written};
 use std::alloc::Global;
 use std::process::Abort;
-use triple_ord::{
-    OrdEntryKind, OrdInsertKind, OrdInsertionError, OrdPair, P0, Ptr, SimpleOrdArena,
-};
+use triple_ord::{OrdEntryKind, OrdInsertKind, OrdInsertionError, OrdPair, P0, SimpleOrdArena};
 
 /// A key with a number.
 type Item = OrdPair<u64, u64>;
@@ -68,68 +65,26 @@ fn rows(rt: &impl Abort, alloc: Global, a: &Numbers) -> Vec<Row> {
     rows
 }
 
-/// The calls that are tried.
-#[derive(Clone, Copy)]
-enum Calls {
-    Searches,
-    Closures,
-    Insertions,
-    Removals,
-    Rebuilds,
-}
-
-/// Whether an arena holds what is asked of it.
-fn holds(rt: &impl Abort, alloc: Global, a: &Numbers, calls: Calls) -> bool {
+/// Every call, on this arena or its clones.
+fn all_hold(rt: &impl Abort, alloc: Global, a: &Numbers) {
     let rows = rows(rt, alloc, a);
     let old = rows.as_slice();
-    let is_held = match calls {
-        Calls::Searches => searches::hold(a, old),
-        Calls::Closures => closures::hold(a, old),
-        Calls::Insertions => insertions::hold(rt, alloc, a, old),
-        Calls::Removals => removals::hold(rt, alloc, a, old),
-        Calls::Rebuilds => rebuilds::hold(rt, alloc, a, old),
-    };
-    is_held && trees::has_ranks(a)
+    assert!(rt; searches::hold(a, old) && closures::hold(a, old));
+    assert!(rt; changes::hold(rt, alloc, a, old));
 }
 
-/// An arena of n entries in the order of the number, built in each way.
-fn each_way_holds(rt: &impl Abort, alloc: Global, n: u64, number: u64, calls: Calls) {
-    for building in &[Building::Manual, Building::Written, Building::Halved] {
-        let a = built(rt, alloc, *building, n, number);
-        assert!(rt; holds(rt, alloc, &a, calls));
-    }
+/// Arenas of n entries in the order of the number, built in each way.
+fn all_hold_in_order(rt: &impl Abort, alloc: Global, n: u64, number: u64) {
+    all_hold(rt, alloc, &manual(rt, alloc, n, number, false));
+    all_hold(rt, alloc, &manual(rt, alloc, n, number, true));
+    all_hold(rt, alloc, &written(rt, alloc, n, number));
 }
 
-/// Every arena of up to six entries.
-fn all_hold(rt: &impl Abort, alloc: Global, calls: Calls) {
+#[test]
+fn every_call_in_every_order(rt: HostRuntime) {
     for n in 0u64..=6 {
-        for number in 0..orders(n) {
-            each_way_holds(rt, alloc, n, number, calls);
+        for number in 0..ORDERS[n as usize % 7] {
+            all_hold_in_order(&rt, rt.alloc(), n, number);
         }
     }
-}
-
-#[test]
-fn searches_in_every_order(rt: HostRuntime) {
-    all_hold(&rt, rt.alloc(), Calls::Searches);
-}
-
-#[test]
-fn closures_in_every_order(rt: HostRuntime) {
-    all_hold(&rt, rt.alloc(), Calls::Closures);
-}
-
-#[test]
-fn insertions_in_every_order(rt: HostRuntime) {
-    all_hold(&rt, rt.alloc(), Calls::Insertions);
-}
-
-#[test]
-fn removals_in_every_order(rt: HostRuntime) {
-    all_hold(&rt, rt.alloc(), Calls::Removals);
-}
-
-#[test]
-fn rebuilds_in_every_order(rt: HostRuntime) {
-    all_hold(&rt, rt.alloc(), Calls::Rebuilds);
 }

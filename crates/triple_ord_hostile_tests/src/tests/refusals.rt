@@ -7,7 +7,7 @@ use linked_list_allocator::LocalHeap;
 use std::alloc::Global;
 use std::fmt::{Debug, Write};
 use std::process::Abort;
-use triple_ord::{OrdInsertionError, OrdPair, P0, Ptr, ReallocationError, SimpleOrdArena};
+use triple_ord::{OrdInsertionError, OrdPair, P0, Ptr, SimpleOrdArena};
 
 /// An arena on a heap.
 type OnHeap<'h, T> = SimpleOrdArena<P0, T, &'h LocalHeap>;
@@ -59,6 +59,11 @@ fn look<T: Debug>(rt: &impl Abort, alloc: Global, a: &OnHeap<T>) -> String {
     text
 }
 
+/// The first text where this is so, else the second.
+fn text_if(is_so: bool, first: &'static str, second: &'static str) -> &'static str {
+    if is_so { first } else { second }
+}
+
 /// Whether two texts are the same.
 fn is_same(now: &str, text: &str) -> bool {
     now == text
@@ -70,44 +75,124 @@ fn looks_like<T: Debug>(rt: &impl Abort, alloc: Global, a: &OnHeap<T>, text: &st
     assert!(rt; is_same(now.as_str(), text));
 }
 
-/// Whether a call was refused memory: the arena looks like the first text then, and like the second one where it was not.
-fn is_refused(
-    rt: &impl Abort,
-    alloc: Global,
-    a: &Numbers,
-    outcome: Result<(), ReallocationError>,
-    texts: (&str, &str),
-) -> bool {
-    let (is_refused, text) = match outcome {
-        Ok(()) => (false, texts.1),
-        Err(ReallocationError::AllocError) => (true, texts.0),
-        Err(ReallocationError::BeyondMaxCapacity) => (true, "no such refusal"),
-    };
-    looks_like(rt, alloc, a, text);
-    is_refused
-}
-
 /// The key that is inserted at a turn: those below 20, each once, out of their order.
-fn key_at(turn: u32) -> u64 {
+fn key_at(turn: usize) -> u64 {
     (turn as u64).wrapping_mul(7) % 20
 }
 
-/// Inserts the key of a turn. Answers the index of the new entry, or none where memory is refused.
-fn put(rt: &impl Abort, a: &mut Numbers, turn: u32) -> Option<u32> {
+/// Inserts the key of a turn, which gets the next index. Tells whether memory isn't refused.
+fn is_put(rt: &impl Abort, a: &mut Numbers, turn: usize) -> bool {
     match a.insert(OrdPair::new(key_at(turn), 0)) {
-        Ok((p, _)) => Some(p.inx()),
+        Ok((p, _)) => {
+            assert!(rt; p.inx() as usize == turn.saturating_add(1));
+            true
+        }
         Err(refusal) => {
             assert!(rt; refusal == OrdInsertionError::AllocError);
-            None
+            false
         }
     }
 }
 
-/// An arena with room for so many entries, into which the keys of the first turns are put.
-fn filled<'h>(rt: &impl Abort, heap: &'h LocalHeap, turns: u32) -> Numbers<'h> {
-    let mut a = Numbers::with_min_capacity(heap, turns as usize).expect(rt, "memory");
-    for turn in 0..turns {
-        assert!(rt; put(rt, &mut a, turn).is_some());
+/// A full arena of five entries, the keys of the first turns.
+fn full<'h>(rt: &impl Abort, heap: &'h LocalHeap) -> Numbers<'h> {
+    let mut a = Numbers::with_min_capacity(heap, 5).expect(rt, "memory");
+    for turn in 0usize..5 {
+        assert!(rt; is_put(rt, &mut a, turn));
     }
     a
+}
+
+/// What it looks like.
+const FULL: &str =
+    "(5, 5, None, 2) P0[1](2)=(0, 0):2 P0[4](2)=(1, 0):1 P0[2](2)=(7, 0):3 P0[5](2)=(8, 0):1 P0[3](2)=(14, 0):2";
+
+/// The calls that may ask for memory.
+#[derive(Clone, Copy)]
+enum Call {
+    Insertions,
+    Reserve,
+    Transfer,
+    Within,
+    Reallocating,
+    Insert,
+}
+
+/// An arena for a call: without room for insertions, and else full.
+fn arena_for<'h>(rt: &impl Abort, heap: &'h LocalHeap, call: Call) -> Numbers<'h> {
+    match call {
+        Call::Insertions => Numbers::new(heap),
+        _ => full(rt, heap),
+    }
+}
+
+/// Makes a call. Answers 0 where memory isn't refused, 1 where it is, which changes nothing; and at insertions the number of the refused
+/// one.
+fn refusal_of<'h>(
+    rt: &impl Abort,
+    alloc: Global,
+    call: Call,
+    heap: &'h LocalHeap,
+    a: &mut Numbers<'h>,
+) -> usize {
+    match call {
+        Call::Insertions => growths::put_rest(rt, alloc, a),
+        Call::Reserve => growths::reserve(rt, alloc, a),
+        Call::Transfer => growths::take_over(rt, alloc, heap, a),
+        Call::Within | Call::Reallocating | Call::Insert => {
+            entries::put_entries(rt, alloc, call, a)
+        }
+    }
+}
+
+/// The same where so many units of room are left.
+fn refusal_in_little<'h>(
+    rt: &impl Abort,
+    alloc: Global,
+    call: Call,
+    heap: &'h LocalHeap,
+    units: usize,
+    a: &mut Numbers<'h>,
+) -> usize {
+    let _block = leave(rt, heap, units);
+    refusal_of(rt, alloc, call, heap, a)
+}
+
+/// Makes a call where so many units of room are left. Where that is refused it is made once more with memory.
+fn refusal_on(rt: &impl Abort, alloc: Global, call: Call, heap: &LocalHeap, units: usize) -> usize {
+    let mut a = arena_for(rt, heap, call);
+    let refusal = refusal_in_little(rt, alloc, call, heap, units, &mut a);
+    assert!(rt; refusal == 0 || refusal_of(rt, alloc, call, heap, &mut a) == 0);
+    refusal
+}
+
+/// Whether a call answers this where some room is left. An insertion asks for memory where the arena is full.
+fn is_answered(call: Call, refusal: usize) -> bool {
+    match call {
+        Call::Insertions => matches!(refusal, 0 | 1 | 5 | 9 | 17),
+        Call::Within => refusal == 0,
+        _ => refusal <= 1,
+    }
+}
+
+/// A call is refused where little room is left, and not where there is enough.
+fn each_request_of(rt: &impl Abort, alloc: Global, call: Call) {
+    let heap = new_heap(rt, alloc);
+    let mut met = [false; 21];
+    for units in 0usize..400 {
+        met[refusal_on(rt, alloc, call, &heap, units) % 21] = true;
+    }
+    for (refusal, is_met) in met.iter().enumerate() {
+        assert!(rt; *is_met == is_answered(call, refusal), "{refusal}");
+    }
+}
+
+#[test]
+fn each_request_of_a_call(rt: HostRuntime) {
+    each_request_of(&rt, rt.alloc(), Call::Insertions);
+    each_request_of(&rt, rt.alloc(), Call::Reserve);
+    each_request_of(&rt, rt.alloc(), Call::Transfer);
+    each_request_of(&rt, rt.alloc(), Call::Within);
+    each_request_of(&rt, rt.alloc(), Call::Reallocating);
+    each_request_of(&rt, rt.alloc(), Call::Insert);
 }

@@ -1,52 +1,24 @@
 //! Arenas in every order.
-ghost use Rattle.std.specs.Prelude.{◌<◌};
-
 use super::{Item, Numbers, Row, put, rows};
 use std::alloc::Global;
 use std::cmp::Ordering;
 use std::process::Abort;
 use triple_ord::{OrdInsertKind, OrdPair, P0, Ptr};
 
-/// How an arena is built.
-#[derive(Clone, Copy)]
-pub(super) enum Building {
-    /// Entry by entry, each in any gap, by rising key.
-    Manual,
-    /// In order, and then written over.
-    Written,
-    /// Entry by entry, each in any gap, by pairs of equal keys.
-    Halved,
-}
-
-/// How many orders n keys have.
-pub(super) fn orders(n: u64) -> u64 {
-    match n {
-        0 | 1 => 1,
-        2 => 2,
-        3 => 6,
-        4 => 24,
-        5 => 120,
-        _ => 720,
-    }
-}
-
-/// The kind of insertion beside an entry.
-fn beside(row: &Row, direction: Ordering) -> OrdInsertKind<P0, &'static u64> {
-    OrdInsertKind::Manual {
-        p_target: row.p.inx(),
-        direction,
-    }
-}
+/// How many orders so many keys have.
+pub(super) const ORDERS: [u64; 7] = [1, 1, 2, 6, 24, 120, 720];
 
 /// The kind of insertion that goes into a gap: behind the entry before it, or before the first one.
 fn kind_at(rows: &[Row], gap: usize) -> OrdInsertKind<P0, &'static u64> {
-    if gap > 0 {
-        if let Some(row) = rows.get(gap - 1) {
-            return beside(row, Ordering::Greater);
-        }
-    }
-    match rows.first() {
-        Some(row) => beside(row, Ordering::Less),
+    match rows.get(gap.saturating_sub(1)) {
+        Some(row) => OrdInsertKind::Manual {
+            p_target: row.p.inx(),
+            direction: if gap > 0 {
+                Ordering::Greater
+            } else {
+                Ordering::Less
+            },
+        },
         None => OrdInsertKind::Empty,
     }
 }
@@ -58,23 +30,19 @@ fn put_into(rt: &impl Abort, alloc: Global, a: &mut Numbers, gap: usize, key: u6
 }
 
 /// The keys from 1 to n, or half of each, rounded up, put into the gaps that the number says.
-fn manual(rt: &impl Abort, alloc: Global, n: u64, number: u64, by: u64) -> Numbers
-    requires { 0 < by }
-{
+pub(super) fn manual(
+    rt: &impl Abort,
+    alloc: Global,
+    n: u64,
+    number: u64,
+    is_halved: bool,
+) -> Numbers {
     let mut a = Numbers::new(alloc);
     let mut rest = number;
     for key in 1..=n {
-        put_into(rt, alloc, &mut a, (rest % key) as usize, key.div_ceil(by));
+        let written = if is_halved { key.div_ceil(2) } else { key };
+        put_into(rt, alloc, &mut a, (rest % key) as usize, written);
         rest /= key;
-    }
-    a
-}
-
-/// The keys from 1 to n, inserted by their order.
-fn in_order(rt: &impl Abort, alloc: Global, n: u64) -> Numbers {
-    let mut a = Numbers::new(alloc);
-    for key in 1..=n {
-        assert!(rt; a.insert(OrdPair::new(key, key)).is_ok());
     }
     a
 }
@@ -95,25 +63,11 @@ fn write_over(a: &mut Numbers, rows: &[Row]) {
     }
 }
 
-/// The keys from 1 to n, inserted by their order and then written over in the order of the number.
-fn written(rt: &impl Abort, alloc: Global, n: u64, number: u64) -> Numbers {
-    let mut a = in_order(rt, alloc, n);
-    let other = manual(rt, alloc, n, number, 1);
+/// The keys from 1 to n, put in behind one another and then written over in the order of the number.
+pub(super) fn written(rt: &impl Abort, alloc: Global, n: u64, number: u64) -> Numbers {
+    let last = ORDERS[n as usize % 7].saturating_sub(1);
+    let mut a = manual(rt, alloc, n, last, false);
+    let other = manual(rt, alloc, n, number, false);
     write_over(&mut a, rows(rt, alloc, &other).as_slice());
     a
-}
-
-/// An arena of n entries, built so; the number says in which order.
-pub(super) fn built(
-    rt: &impl Abort,
-    alloc: Global,
-    building: Building,
-    n: u64,
-    number: u64,
-) -> Numbers {
-    match building {
-        Building::Manual => manual(rt, alloc, n, number, 1),
-        Building::Written => written(rt, alloc, n, number),
-        Building::Halved => manual(rt, alloc, n, number, 2),
-    }
 }

@@ -1,101 +1,87 @@
 //! Searches by key, from the root and from every hint.
-use super::places::{may_be_similar, may_find};
+use super::places::{equal_of, may_be_similar};
 use super::{Numbers, Row};
 use std::cmp::Ordering;
 use triple_ord::{P0, Ptr};
 
-/// Where a search begins: at the root, or at a hint, by at most so many steps along the list.
-#[derive(Clone, Copy)]
-enum Start {
-    Root,
-    Hint(P0, usize),
-}
-
 /// How many entries a search among n may visit after insertions alone: c with `fib(c+2) <= n+1`.
 const TIGHT: [u128; 8] = [0, 1, 2, 2, 3, 3, 3, 4];
 
-/// How many entries a search among so many may visit.
-fn most_visits(n: usize, start: Start) -> u128 {
-    let most = TIGHT[n % 8];
-    match start {
-        Start::Root => most,
-        Start::Hint(_, num) => most.saturating_add(num.min(n) as u128),
-    }
+/// At most how many steps along the list go before a search.
+const STEPS: [usize; 5] = [0, 1, 2, 3, usize::MAX];
+
+/// What a search for a similar key finds, and how many entries it visits; and whether the same search without the count finds the same.
+type Similar = (Option<(P0, Ordering)>, u128, bool);
+
+/// The same of a search for an equal key.
+type Equal = (Option<P0>, u128, bool);
+
+/// The search for a similar key.
+fn similar(a: &Numbers, k: u64) -> Similar {
+    let (found, visits) = a.find_similar_key_counted(&k);
+    (found, visits.count(), a.find_similar_key(&k) == found)
 }
 
-/// The search for an equal key, and how many entries it visits.
-fn equal_counted(a: &Numbers, start: Start, k: u64) -> (Option<P0>, u128) {
-    let (found, visits) = match start {
-        Start::Root => a.find_key_counted(&k),
-        Start::Hint(hint, num) => a.find_key_linear_counted(hint, num, &k),
-    };
-    (found, visits.count())
+/// The search for an equal key.
+fn equal(a: &Numbers, k: u64) -> Equal {
+    let (found, visits) = a.find_key_counted(&k);
+    (found, visits.count(), a.find_key(&k) == found)
 }
 
-/// The same search without the count.
-fn equal(a: &Numbers, start: Start, k: u64) -> Option<P0> {
-    match start {
-        Start::Root => a.find_key(&k),
-        Start::Hint(hint, num) => a.find_key_linear(hint, num, &k),
-    }
+/// The search for a similar key from a hint.
+fn similar_from(a: &Numbers, hint: P0, num: usize, k: u64) -> Similar {
+    let (found, visits) = a.find_similar_key_linear_counted(hint.inx(), num, &k);
+    let again = a.find_similar_key_linear(hint.inx(), num, &k);
+    (found, visits.count(), again == found)
 }
 
-/// The search for a similar key, and how many entries it visits.
-fn similar_counted(a: &Numbers, start: Start, k: u64) -> (Option<(P0, Ordering)>, u128) {
-    let (similar, visits) = match start {
-        Start::Root => a.find_similar_key_counted(&k),
-        Start::Hint(hint, num) => a.find_similar_key_linear_counted(hint.inx(), num, &k),
-    };
-    (similar, visits.count())
+/// The search for an equal key from a hint.
+fn equal_from(a: &Numbers, hint: P0, num: usize, k: u64) -> Equal {
+    let (found, visits) = a.find_key_linear_counted(hint, num, &k);
+    (
+        found,
+        visits.count(),
+        a.find_key_linear(hint, num, &k) == found,
+    )
 }
 
-/// The same search without the count.
-fn similar(a: &Numbers, start: Start, k: u64) -> Option<(P0, Ordering)> {
-    match start {
-        Start::Root => a.find_similar_key(&k),
-        Start::Hint(hint, num) => a.find_similar_key_linear(hint.inx(), num, &k),
-    }
+/// Whether a search for a similar key is answered as it may be, after at most so many visits.
+fn is_right(rows: &[Row], k: u64, answer: Similar, most: u128) -> bool {
+    let (entry, c, is_same) = answer;
+    is_same && c <= most && may_be_similar(rows, k, entry, c)
 }
 
-/// The searches for an equal key.
-fn equal_holds(a: &Numbers, rows: &[Row], start: &Start, k: u64) -> bool {
-    let (found, c) = equal_counted(a, *start, k);
-    let again = equal(a, *start, k);
-    may_find(rows, k, found, c) && c <= most_visits(rows.len(), *start) && again == found
+/// The searches for a key from the root. Both go the same way.
+fn hold_from_root(a: &Numbers, rows: &[Row], k: u64) -> bool {
+    let (entry, c, _) = similar(a, k);
+    let (found, found_c, is_same) = equal(a, k);
+    let is_equal = found == equal_of(entry);
+    is_equal && is_same && found_c == c && is_right(rows, k, similar(a, k), TIGHT[rows.len() % 8])
 }
 
-/// The searches for a similar key.
-fn similar_holds(a: &Numbers, rows: &[Row], start: &Start, k: u64) -> bool {
-    let (found, c) = similar_counted(a, *start, k);
-    let again = similar(a, *start, k);
-    may_be_similar(rows, k, found, c) && c <= most_visits(rows.len(), *start) && again == found
-}
-
-/// The four searches that begin so.
-fn all_hold(a: &Numbers, rows: &[Row], start: &Start, k: u64) -> bool {
-    equal_holds(a, rows, start, k) && similar_holds(a, rows, start, k)
-}
-
-/// The searches from an index, whether it has an entry or none.
-fn hold_from(a: &Numbers, rows: &[Row], i: u32, k: u64) -> bool {
-    for num in &[0usize, 1, 2, 3, usize::MAX] {
-        let start = Start::Hint(P0::_from_raw(i, 2), *num);
-        if !all_hold(a, rows, &start, k) {
-            return false;
-        }
-    }
-    true
+/// The searches for a key from a hint. For an equal key a whole search follows the steps.
+fn hold_from(a: &Numbers, rows: &[Row], hint: P0, num: usize, k: u64) -> bool {
+    let most = TIGHT[rows.len() % 8].saturating_add(num.min(rows.len()) as u128);
+    let (found, c, is_same) = equal_from(a, hint, num, k);
+    let (whole, whole_c, _) = equal(a, k);
+    let is_whole = found == whole;
+    is_whole
+        && is_same
+        && whole_c <= c
+        && c <= most
+        && is_right(rows, k, similar_from(a, hint, num, k), most)
 }
 
 /// All searches for a key, those from a hint also by pointers that name no entry.
 fn hold_for(a: &Numbers, rows: &[Row], k: u64) -> bool {
-    for i in 0u32..=7 {
-        if !hold_from(a, rows, i, k) {
+    for number in 0u32..80 {
+        let generation = if number < 40 { 2 } else { 9 };
+        let hint = P0::_from_raw(number % 8, generation);
+        if !hold_from(a, rows, hint, STEPS[number as usize / 8 % 5], k) {
             return false;
         }
     }
-    let stale = Start::Hint(P0::_from_raw(1, 9), 3);
-    all_hold(a, rows, &Start::Root, k) && all_hold(a, rows, &stale, k)
+    hold_from_root(a, rows, k)
 }
 
 /// All searches for each key, and for those beyond.

@@ -35,7 +35,14 @@ impl Clone for Text<'_> {
 /// A key with a text.
 type Item<'h> = OrdPair<u64, Text<'h>>;
 
+/// An arena of texts.
 type Texts<'h> = OnHeap<'h, Item<'h>>;
+
+/// An arena of lengths.
+type Lengths<'h> = Arena<P0, usize, &'h LocalHeap>;
+
+/// A chain of lengths.
+type Chain<'h> = ChainArena<P0, usize, &'h LocalHeap>;
 
 /// A key with a text.
 fn item<'h>(rt: &impl Abort, heap: &'h LocalHeap, key: u64, word: &str) -> Item<'h> {
@@ -48,18 +55,6 @@ fn is_put<'h>(texts: &mut Texts<'h>, item: Item<'h>) -> bool {
     texts.insert(item).is_ok()
 }
 
-/// Puts texts in by their keys.
-fn put_texts<'h>(
-    rt: &impl Abort,
-    heap: &'h LocalHeap,
-    texts: &mut Texts<'h>,
-    rows: &[(u64, &str)],
-) {
-    for (key, word) in rows {
-        assert!(rt; is_put(texts, item(rt, heap, *key, *word)));
-    }
-}
-
 /// An arena with room for so many entries, into which texts are put by their keys.
 fn filled<'h>(
     rt: &impl Abort,
@@ -68,7 +63,9 @@ fn filled<'h>(
     rows: &[(u64, &str)],
 ) -> Texts<'h> {
     let mut texts = Texts::with_min_capacity(heap, capacity).expect(rt, "memory");
-    put_texts(rt, heap, &mut texts, rows);
+    for (key, word) in rows {
+        assert!(rt; is_put(&mut texts, item(rt, heap, *key, *word)));
+    }
     texts
 }
 
@@ -80,9 +77,11 @@ const ROWS: [(u64, &str); 4] = [
     (1, "the first in order"),
 ];
 
-/// Takes the second text of the source out again, which takes no room. The indexes 4, 1 and 3 stay, in order.
-fn take_second(texts: &mut Texts) {
+/// The source: the second text is taken out again, and the indexes 4, 1 and 3 stay, in order.
+fn source<'h>(rt: &impl Abort, heap: &'h LocalHeap) -> Texts<'h> {
+    let mut texts = filled(rt, heap, 4, &ROWS);
     let _ = texts.remove(P0::_from_raw(2, 2));
+    texts
 }
 
 /// What the source looks like, and any clone of it.
@@ -99,44 +98,63 @@ const KEPT: &str =
 /// What any receiver looks like where the clone of an item is refused: it is empty.
 const EMPTIED: &str = "(0, 4, None, 3)";
 
-/// Clones the source. Tells whether that was refused.
-fn is_refused(rt: &impl Abort, alloc: Global, source: &Texts) -> bool {
-    match source.clone() {
-        Ok(texts) => {
-            looks_like(rt, alloc, &texts, SOURCE);
-            false
-        }
-        Err(_) => true,
+/// What a source is cloned into.
+#[derive(Clone, Copy)]
+enum Kind {
+    /// A new arena.
+    New,
+    /// An arena with entries whose capacity has to grow.
+    Growing,
+    /// An arena with entries and room.
+    Roomy,
+    /// An arena without an order.
+    Arena,
+    /// A chain.
+    Chain,
+}
+
+/// The receivers.
+#[derive(Drop)]
+struct Receivers<'h> {
+    texts: Texts<'h>,
+    arena: Lengths<'h>,
+    chain: Chain<'h>,
+}
+
+/// Receivers for a kind.
+fn make_receivers<'h>(rt: &impl Abort, heap: &'h LocalHeap, kind: Kind) -> Receivers<'h> {
+    let capacity = if matches!(kind, Kind::Growing) { 2 } else { 4 };
+    Receivers {
+        texts: filled(rt, heap, capacity, &OLD),
+        arena: Arena::new(heap),
+        chain: ChainArena::new(heap),
     }
 }
 
-/// Clones the source where so many units of room are left. Tells whether that was refused; then it is done with memory.
-fn is_clone_refused<'h>(
-    rt: &impl Abort,
-    alloc: Global,
-    source: &Texts<'h>,
-    heap: &'h LocalHeap,
-    units: usize,
-) -> bool {
-    let block = leave(rt, heap, units);
-    let was_refused = is_refused(rt, alloc, source);
-    drop(block);
-    assert!(rt; !is_refused(rt, alloc, source));
-    was_refused
+/// Clones the source. Answers 0 for a clone and 1 for a refusal.
+fn to_new(rt: &impl Abort, alloc: Global, source: &Texts) -> usize {
+    match source.clone() {
+        Ok(texts) => {
+            looks_like(rt, alloc, &texts, SOURCE);
+            0
+        }
+        Err(_) => 1,
+    }
 }
 
-/// What became of a receiver: it was kept, it was emptied, or it is a clone; 3 where it is none of these.
+/// What became of a receiver with entries: 0 where it is a clone, 1 where it was kept, 2 where it was emptied, and 3 where it is none of
+/// these.
 fn left_by(outcome: Result<(), ReallocationError>, now: &str) -> usize {
     match outcome {
-        Err(ReallocationError::AllocError) if now == KEPT => 0,
-        Err(ReallocationError::AllocError) if now == EMPTIED => 1,
-        Ok(()) if now == SOURCE => 2,
+        Ok(()) if now == SOURCE => 0,
+        Err(ReallocationError::AllocError) if now == KEPT => 1,
+        Err(ReallocationError::AllocError) if now == EMPTIED => 2,
         _ => 3,
     }
 }
 
-/// Clones the source into an arena with entries. Answers what became of it.
-fn clone_into<'h>(
+/// Clones the source into an arena with entries.
+fn to_texts<'h>(
     rt: &impl Abort,
     alloc: Global,
     source: &Texts<'h>,
@@ -146,31 +164,19 @@ fn clone_into<'h>(
     left_by(outcome, look(rt, alloc, texts).as_str())
 }
 
-/// The same where so many units of room are left.
-fn clone_into_in_little<'h>(
-    rt: &impl Abort,
-    alloc: Global,
-    source: &Texts<'h>,
-    heap: &'h LocalHeap,
-    units: usize,
-    texts: &mut Texts<'h>,
+/// What became of a container without room, by its length, its capacity and its generation: 0 where it is a clone, 1 where it was kept,
+/// and 3 where it is neither.
+fn made_by(
+    outcome: Result<(), ReallocationError>,
+    len: usize,
+    capacity: usize,
+    generation: u64,
 ) -> usize {
-    let _block = leave(rt, heap, units);
-    clone_into(rt, alloc, source, texts)
-}
-
-/// Clones the source into an arena with this capacity where so many units of room are left; and then once more, with memory.
-fn clone_from<'h>(
-    rt: &impl Abort,
-    alloc: Global,
-    source: &Texts<'h>,
-    heap: &'h LocalHeap,
-    (capacity, units): (usize, usize),
-) -> usize {
-    let mut texts = filled(rt, heap, capacity, &OLD);
-    let left = clone_into_in_little(rt, alloc, source, heap, units, &mut texts);
-    assert!(rt; clone_into(rt, alloc, source, &mut texts) == 2);
-    left
+    match outcome {
+        Ok(()) if len == 3 && capacity == 4 && generation == 3 => 0,
+        Err(ReallocationError::AllocError) if len == 0 && capacity == 0 && generation == 2 => 1,
+        _ => 3,
+    }
 }
 
 /// The length of an item's text.
@@ -178,180 +184,106 @@ fn length_of(_p: P0, pair: &Item) -> usize {
     pair.v().text.len()
 }
 
-/// Whether a container without room has the length, the capacity and the generation that it has after this outcome: a refusal changes
-/// none of them.
-fn is_right(
-    outcome: Result<(), ReallocationError>,
-    len: usize,
-    capacity: usize,
-    generation: u64,
-) -> bool {
-    match outcome {
-        Ok(()) => len == 3 && capacity == 4 && generation == 3,
-        Err(ReallocationError::AllocError) => len == 0 && capacity == 0 && generation == 2,
-        Err(ReallocationError::BeyondMaxCapacity) => false,
-    }
+/// Clones the source to an arena without an order.
+fn to_arena(source: &Texts, arena: &mut Lengths) -> usize {
+    let outcome = source.clone_to_arena(arena, length_of);
+    made_by(outcome, arena.len(), arena.capacity(), arena.generation())
 }
-
-/// An arena of lengths.
-type Lengths<'h> = Arena<P0, usize, &'h LocalHeap>;
-
-/// Clones the source to an arena.
-fn to_arena(source: &Texts, arena: &mut Lengths) -> Result<(), ReallocationError> {
-    source.clone_to_arena(arena, length_of)
-}
-
-/// Whether an arena is right after this outcome.
-fn is_arena_right(outcome: Result<(), ReallocationError>, arena: &Lengths) -> bool {
-    is_right(outcome, arena.len(), arena.capacity(), arena.generation())
-}
-
-/// Clones the source to an arena without room. Tells whether that was refused, which changes nothing.
-fn is_refused_to_arena(rt: &impl Abort, source: &Texts, arena: &mut Lengths) -> bool {
-    let outcome = to_arena(source, arena);
-    assert!(rt; is_arena_right(outcome, arena));
-    outcome.is_err()
-}
-
-/// The same where so many units of room are left.
-fn is_refused_to_arena_in_little<'h>(
-    rt: &impl Abort,
-    source: &Texts<'h>,
-    heap: &'h LocalHeap,
-    units: usize,
-    arena: &mut Lengths<'h>,
-) -> bool {
-    let _block = leave(rt, heap, units);
-    is_refused_to_arena(rt, source, arena)
-}
-
-/// Clones it where so many units of room are left, and then once more with memory.
-fn is_clone_to_arena_refused<'h>(
-    rt: &impl Abort,
-    source: &Texts<'h>,
-    heap: &'h LocalHeap,
-    units: usize,
-) -> bool {
-    let mut arena = Arena::new(heap);
-    let was_refused = is_refused_to_arena_in_little(rt, source, heap, units, &mut arena);
-    assert!(rt; !is_refused_to_arena(rt, source, &mut arena));
-    was_refused
-}
-
-/// A chain of lengths.
-type Chain<'h> = ChainArena<P0, usize, &'h LocalHeap>;
 
 /// Clones the source to a chain.
-fn to_chain(source: &Texts, chain: &mut Chain) -> Result<(), ReallocationError> {
-    source.clone_to_chain_arena(chain, length_of)
+fn to_chain(source: &Texts, chain: &mut Chain) -> usize {
+    let outcome = source.clone_to_chain_arena(chain, length_of);
+    made_by(outcome, chain.len(), chain.capacity(), chain.generation())
 }
 
-/// Whether a chain is right after this outcome.
-fn is_chain_right(outcome: Result<(), ReallocationError>, chain: &Chain) -> bool {
-    is_right(outcome, chain.len(), chain.capacity(), chain.generation())
-}
-
-/// Clones the source to a chain without room. Tells whether that was refused, which changes nothing.
-fn is_refused_to_chain(rt: &impl Abort, source: &Texts, chain: &mut Chain) -> bool {
-    let outcome = to_chain(source, chain);
-    assert!(rt; is_chain_right(outcome, chain));
-    outcome.is_err()
-}
-
-/// The same where so many units of room are left.
-fn is_refused_to_chain_in_little<'h>(
-    rt: &impl Abort,
-    source: &Texts<'h>,
-    heap: &'h LocalHeap,
-    units: usize,
-    chain: &mut Chain<'h>,
-) -> bool {
-    let _block = leave(rt, heap, units);
-    is_refused_to_chain(rt, source, chain)
-}
-
-/// Clones it where so many units of room are left, and then once more with memory.
-fn is_clone_to_chain_refused<'h>(
-    rt: &impl Abort,
-    source: &Texts<'h>,
-    heap: &'h LocalHeap,
-    units: usize,
-) -> bool {
-    let mut chain = ChainArena::new(heap);
-    let was_refused = is_refused_to_chain_in_little(rt, source, heap, units, &mut chain);
-    assert!(rt; !is_refused_to_chain(rt, source, &mut chain));
-    was_refused
-}
-
-/// Which of the three clones to something new were refused where so many units of room are left.
-fn refused_of<'h>(
+/// Clones the source. Answers what became of the receiver.
+fn clone_to<'h>(
     rt: &impl Abort,
     alloc: Global,
     source: &Texts<'h>,
-    heap: &'h LocalHeap,
-    units: usize,
-) -> [bool; 3] {
-    [
-        is_clone_refused(rt, alloc, source, heap, units),
-        is_clone_to_arena_refused(rt, source, heap, units),
-        is_clone_to_chain_refused(rt, source, heap, units),
-    ]
+    kind: Kind,
+    receivers: &mut Receivers<'h>,
+) -> usize {
+    match kind {
+        Kind::New => to_new(rt, alloc, source),
+        Kind::Growing | Kind::Roomy => to_texts(rt, alloc, source, &mut receivers.texts),
+        Kind::Arena => to_arena(source, &mut receivers.arena),
+        Kind::Chain => to_chain(source, &mut receivers.chain),
+    }
 }
 
-/// What became of two receivers with entries, without enough room and with it, where so many units of room are left.
+/// The same where so many units of room are left.
+fn clone_in_little<'h>(
+    rt: &impl Abort,
+    alloc: Global,
+    source: &Texts<'h>,
+    kind: Kind,
+    heap: &'h LocalHeap,
+    units: usize,
+    receivers: &mut Receivers<'h>,
+) -> usize {
+    let _block = leave(rt, heap, units);
+    clone_to(rt, alloc, source, kind, receivers)
+}
+
+/// Clones the source where so many units of room are left, and then once more with memory. Answers what became of the receiver at first.
 fn left_of<'h>(
     rt: &impl Abort,
     alloc: Global,
     source: &Texts<'h>,
+    kind: Kind,
     heap: &'h LocalHeap,
     units: usize,
-) -> [usize; 2] {
-    [
-        clone_from(rt, alloc, source, heap, (2, units)),
-        clone_from(rt, alloc, source, heap, (4, units)),
-    ]
+) -> usize {
+    let mut receivers = make_receivers(rt, heap, kind);
+    let left = clone_in_little(rt, alloc, source, kind, heap, units, &mut receivers);
+    assert!(rt; clone_to(rt, alloc, source, kind, &mut receivers) == 0);
+    left
 }
 
-/// Receivers with entries: a growth is refused first, and without one only an item's clone.
-fn receivers_are_left<'h>(rt: &impl Abort, alloc: Global, source: &Texts<'h>, heap: &'h LocalHeap) {
-    let mut growing = [false; 4];
-    let mut within = [false; 4];
-    for units in 0usize..100 {
-        let left = left_of(rt, alloc, source, heap, units);
-        growing[left[0] % 4] = true;
-        within[left[1] % 4] = true;
+/// What becomes of a receiver, here or there: a growth is refused first, and without one only an item's clone.
+fn wanted_of(kind: Kind) -> [bool; 4] {
+    match kind {
+        Kind::Roomy => [true, false, true, false],
+        _ => [true, true, false, false],
     }
-    assert!(rt; growing[0] && growing[2] && !growing[3] && within == [false, true, true, false]);
 }
 
-/// Clones to something new: each is refused where little room is left, and not where there is enough.
-fn others_are_refused<'h>(rt: &impl Abort, alloc: Global, source: &Texts<'h>, heap: &'h LocalHeap) {
-    let mut met = [[false; 2]; 3];
+/// The source is cloned on a heap on which little room is left, and on which there is enough. It stays as it is.
+fn each_request_into<'h>(
+    rt: &impl Abort,
+    alloc: Global,
+    heap: &'h LocalHeap,
+    source: &Texts<'h>,
+    kind: Kind,
+) {
+    let mut met = [false; 4];
     for units in 0usize..100 {
-        let refused = refused_of(rt, alloc, source, heap, units);
-        met[0][refused[0] as usize % 2] = true;
-        met[1][refused[1] as usize % 2] = true;
-        met[2][refused[2] as usize % 2] = true;
+        met[left_of(rt, alloc, source, kind, heap, units) % 4] = true;
     }
-    assert!(rt; met == [[true; 2]; 3]);
-}
-
-/// All clones of the source, which stays as it is.
-fn of_source<'h>(rt: &impl Abort, alloc: Global, source: &Texts<'h>, heap: &'h LocalHeap) {
-    receivers_are_left(rt, alloc, source, heap);
-    others_are_refused(rt, alloc, source, heap);
+    assert!(rt; met == wanted_of(kind));
     looks_like(rt, alloc, source, SOURCE);
 }
 
-/// The same with a source that is made for them.
-fn on_heap(rt: &impl Abort, alloc: Global, heap: &LocalHeap) {
-    let mut source = filled(rt, heap, 4, &ROWS);
-    take_second(&mut source);
-    of_source(rt, alloc, &source, heap);
+/// All kinds.
+const KINDS: [Kind; 5] = [
+    Kind::New,
+    Kind::Growing,
+    Kind::Roomy,
+    Kind::Arena,
+    Kind::Chain,
+];
+
+/// The same for each kind.
+fn each_request_on(rt: &impl Abort, alloc: Global, heap: &LocalHeap) {
+    let source = source(rt, heap);
+    for kind in &KINDS {
+        each_request_into(rt, alloc, heap, &source, *kind);
+    }
 }
 
 #[test]
 fn each_request_of_a_clone(rt: HostRuntime) {
     let heap = new_heap(&rt, rt.alloc());
-    on_heap(&rt, rt.alloc(), &heap);
+    each_request_on(&rt, rt.alloc(), &heap);
 }
