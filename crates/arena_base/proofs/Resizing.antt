@@ -4,7 +4,7 @@ use Rattle.arena_base.proofs.Words.{is_some, take, ◌-◌, refl, arith, ◌≢�
 use Rattle.arena_base.proofs.Words.{length-append, map-append, take-map, take_all, length-map, length-replicate, length-take, ext_get_or, get_or_past}
 use Rattle.arena_base.proofs.Words.{none-some, map-replicate, Inside, Generations, Indexes, Slot, Vacant, vacant_from, Arena, IsSound, limit_of, resized}
 use Rattle.arena_base.proofs.Words.{new_arena, with_capacity, emptied, greatest_occupied, IsLawfulGeneration, first_generation, entry_in, vacant_slots}
-use Rattle.arena_base.proofs.Words.{arena_of, AllVacantFrom}
+use Rattle.arena_base.proofs.Words.{arena_of, AllVacantFrom, cond, slice_get, grown_capacity, with_room}
 use Rattle.arena_base.proofs.Occupied.{greatest_occupied-above}
 use Rattle.arena_base.proofs.Positions.{entries, get_or-entries, entry-none}
 use Rattle.arena_base.proofs.Vacancies.{length-vacant_from-padded}
@@ -16,6 +16,11 @@ get_or-padded [] (suc m) zero d = refl
 get_or-padded [] (suc m) (suc k) d = get_or-padded [] m k d
 get_or-padded (x ∷ xs) m zero d = refl
 get_or-padded (x ∷ xs) m (suc k) d = get_or-padded xs m k d
+
+-- as many as are missing were added
+pub length-padded : {X : Type 0} (n : ℕ) (xs padded : List X) (d : X) → padded ≡ xs ++ replicate (n - length xs) d → length xs ≤ n → length padded ≡ n
+length-padded {X = X} n xs padded d is fits =
+    rw is (omega (arith, length-append xs (replicate (n - length xs) d), length-replicate {A = X} (n - length xs) d))
 
 module _ {X : Type 0} (n : ℕ) (slots : List (Option X)) where
   pub resized-cons : resized (n + 1) (None ∷ slots) ≡ None ∷ resized n slots
@@ -74,8 +79,7 @@ module _ {T G : Type 0} (number : G → ℕ) (n : ℕ) (slots padded : List (Slo
       rw (is, ← take-map, map-append, map-replicate, ← length-map slots (entry_in number)) (resized-padded n (entries number slots))
 
   pub entries-padded : length slots ≤ n → entries number padded ≡ resized n (entries number slots)
-  entries-padded fits =
-      rw (← take_all n padded (rw is (omega (arith, length-append slots (replicate (n - length slots) Vacant), length-replicate {A = Slot T G} (n - length slots) Vacant)))) entries-resized
+  entries-padded fits = rw (← take_all n padded (omega (arith, length-padded n slots padded Vacant is fits))) entries-resized
 
   module _ (least : greatest_occupied (None ∷ entries number slots) ≤ n) where
     beyond : (k : ℕ) → n ≤ k → get_or (entries number slots) k None ≡ None
@@ -105,6 +109,11 @@ module _ {P T A Inx Gen : Type 0} (gen : Generations Gen) (inx : Indexes Inx) (s
   resized-sound sound within =
       relisted-sound gen inx (take n padded) listed s.generation s.maximum all (omega (arith, length-take n padded)) sound.generation_lawful
       (λ k e there. sound.entries_lawful (suc k) e (resized-some n (entries gen.number s.slots.items) k e (rw (entries-resized gen.number n s.slots.items padded is) at there)))
+
+-- where no slot is vacant, room is made by a growth
+pub with_room-full : {T : Type 0} (most : ℕ) (a : Arena T) (n : ℕ) → a.vacant ≡ [] → n ≡ grown_capacity most a → with_capacity a n ≡ with_room most a
+with_room-full most a n full is =
+    ap (with_capacity a) is ∙ sym (ap (λ (vacant : List ℕ). cond (is_some (slice_get vacant 0)) a (with_capacity a (grown_capacity most a))) full)
 
 -- a greater capacity leaves a slot vacant
 pub with_capacity-room : {T : Type 0} (a : Arena T) (n : ℕ) → take 1 a.slots ≡ None ∷ [] → length a.slots - 1 < n → 0 < length (with_capacity a n).vacant

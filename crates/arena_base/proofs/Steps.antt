@@ -4,7 +4,7 @@ use Rattle.arena_base.proofs.Words.{take, ◌-◌, refl, arith, map, sym, ap, �
 use Rattle.arena_base.proofs.Words.{get_or_past, map_push, take_more, map-set, get_or-map, reverse-append, reverse-reverse, none-some, slice_get_within}
 use Rattle.arena_base.proofs.Words.{get_or_from_slice_get, option_map, Inside, Generations, Indexes, Slot, Occupied, Vacant, Arena, IsSound, IsInsertion}
 use Rattle.arena_base.proofs.Words.{limit_of, IsFresh, slot, arena_capacity, with_slot, freed, IsVacant, IsLawfulGeneration, entry_in, vacant_slots, arena_of}
-use Rattle.arena_base.proofs.Words.{slot_entry, with_slot_generation}
+use Rattle.arena_base.proofs.Words.{slot_entry, with_slot_generation, vec_len}
 use Rattle.arena_base.proofs.Occupied.{is_some-slot_entry, entry_in-with_slot_generation}
 use Rattle.arena_base.proofs.Positions.{entries, vacant_slots-from}
 use Rattle.arena_base.proofs.Vacancies.{vacant_from-some, VacantAt}
@@ -52,6 +52,10 @@ module _ {P T A Inx Gen : Type 0} (gen : Generations Gen) (inx : Indexes Inx) (s
     module _ (k i : ℕ) (found : record { number : i ≡ k + 1; within : k < arena_capacity a }) where
       inside : k < length s.slots.items
       inside = omega (arith, found.within, capacity-is)
+
+      -- the vector has a slot there
+      pub slot-within : k < vec_len s.slots
+      slot-within = omega (arith, inside, s.slots.ok.0)
 
       -- a slot that was read, by its index
       pub read : (x : Slot T Gen) → x ≡ get_or s.slots.items k x → slot a i ≡ entry_in gen.number x

@@ -25,7 +25,7 @@ pub use Rattle.arena_base.specs.declared.slot.Slot.{Slot}
 pub use Rattle.arena_base.specs.declared.slot.Slot.TheVariants.{Occupied, Vacant}
 pub use Rattle.arena_base.specs.Arena.{vacant_from, times, Arena, IsSound, IsInsertion, limit_of, resized, new_arena, with_capacity, emptied, greatest_occupied}
 pub use Rattle.arena_base.specs.Arena.{HoldsSame, IsFresh, slot, arena_capacity, with_slot, freed, IsVacant, IsLawful, FindSame, item_if, swapped}
-pub use Rattle.arena_base.specs.Arena.{generation_at, item_of, removed, IsLastEntry}
+pub use Rattle.arena_base.specs.Arena.{generation_at, item_of, removed, IsLastEntry, grown_capacity, with_room}
 pub use Rattle.arena_base.specs.Clone.{CloneStep, IsClone, IsRefusedClone, StopsAtRefusal, Grants, with_items, replaced, HasSamePointers}
 pub use Rattle.arena_base.specs.CloneSlots.{ClonesSlots}
 pub use Rattle.arena_base.specs.Compression.{CompressionStep, IsCompression, compressed, items_rising}

@@ -1,5 +1,5 @@
 use Rattle.std.proofs.Common.{ap, ◌∙◌}
-use Rattle.arena_base.specs.Compression.{compressed_generation}
+use Rattle.arena_base.specs.Compression.{compressed_generation, compression_overflows}
 use Rattle.chain_base.proofs.Compressing.{paired-before, paired-after, Lies-compressed, chain-compressed, compression-of}
 use Rattle.chain_base.proofs.chain.ChainArena.compress_by.Goals as goal
 
@@ -28,3 +28,8 @@ returns-clause-after g c =
     c.name_compressed_indexes-self-inside.new.arena _ c.name_compressed_indexes-self-inside.ensures c.compress_items-overflow.ensures.fresh in
     let generation = ap (λ a. a.generation) places.kept ∙ ap (λ v. v.generation) c.self.view_is in
     compression-of g.P.Ptr.numbers g.M.MapEntry.step c.args.map _ c.args.self.now _ _ _ c.self.view_is (ap (compressed_generation g.P.Gen.PtrGen.greatest c.args.reset) generation) done
+
+pub returns-clause-overflow : goal.returns-clause-overflow
+returns-clause-overflow g c =
+    let generation = ap (λ a. a.generation) c.name_compressed_indexes-first.ensures.kept ∙ ap (λ v. v.generation) c.self.view_is in
+    c.compress_items-overflow.ensures.overflow ∙ ap (compression_overflows g.P.Gen.PtrGen.greatest c.args.reset) generation

@@ -52,3 +52,9 @@ returns g c =
     c.exchanged_inx.ensures of_i.before c.exchanged_inx-2.ensures of_i.behind c.exchanged_inx-3.ensures of_j.before c.exchanged_inx-4.ensures of_j.behind
     c.exchanged_inx-self-inside.ensures c.exchanged_inx-self-inside-2.ensures _ _ _ _ _ c.swap_inx.ensures c.set_next.ensures c.set_prev.ensures c.set_next-2.ensures c.set_prev-2.ensures in
     done.chain
+
+pub neighbours_at-of_i-requires : goal.neighbours_at-of_i-requires
+neighbours_at-of_i-requires g c = c.requires.first
+
+pub neighbours_at-of_j-requires : goal.neighbours_at-of_j-requires
+neighbours_at-of_j-requires g c = c.requires.second

@@ -29,3 +29,6 @@ returns-clause-ok g c =
     let inserts = Inserts-linked c.self.inside.arena _ _ c.self.invariant _ _ _ _ c.in_ok-p.ensures.ok _ _ _ at _ _ c.in_ok-p.ensures.sound
     _ new.item new.prev new.next c.relink-ends.new.arena _ _ ends.arena ends.first ends.last in
     rw (← c.self.view_is) inserts.insertion
+
+pub neighbours-requires : goal.neighbours-requires
+neighbours-requires g c = c.requires

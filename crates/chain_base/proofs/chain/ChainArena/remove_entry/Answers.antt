@@ -38,3 +38,6 @@ returns-clause-removed g c =
     let removes = Removes-linked c.self.inside.arena _ _ c.self.invariant g.P.Gen.PtrGen.greatest _ _ c.entry.ensures
     _ _ _ beside.prev beside.next beside.named_prev beside.named_next _ c.relink-ends.new.arena _ _ c.remove_entry-taken.ensures.removed ends.arena ends.first ends.last in
     rw (← c.self.view_is) removes.chain
+
+pub returns-clause-overflow : goal.returns-clause-overflow
+returns-clause-overflow g c = rw (← c.self.view_is) c.remove_entry-taken.ensures.overflow

@@ -9,6 +9,10 @@ use Rattle.chain_base.proofs.chain.compress.name_compressed_indexes.Goals as goa
 pub loop-position-init : goal.loop-position-init
 loop-position-init g c = named-begins c.args.side c.args.arena.now c.capacity-position-end.ensures.sound.begins
 
+pub unwrap-index-requires : goal.unwrap-index-requires
+unwrap-index-requires g c =
+    c.try_from_usize.ensures.variant.1 (omega arith, omega (arith, c.capacity-position-end.ensures.limit, c.capacity-position-end.ensures.value))
+
 pub overflow_add-count : goal.overflow_add-count
 overflow_add-count g c =
     omega (arith, c.loop-position.invariant.fewer, c.try_from_usize.ensures.variant, c.capacity-position-end.ensures.limit, c.capacity-position-end.ensures.value)

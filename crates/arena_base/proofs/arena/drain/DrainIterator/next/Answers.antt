@@ -1,4 +1,4 @@
-use Rattle.arena_base.proofs.Words.{◌≡◌, ◌+◌, Some, ◌∷◌, is_some, refl, sym, ap, ◌∙◌, removed, overflows_after, has_overflowed, valid_value, entries_rising}
+use Rattle.arena_base.proofs.Words.{◌≡◌, ◌+◌, Some, ◌∷◌, is_some, length, arith, refl, sym, ap, ◌∙◌, removed, overflows_after, has_overflowed, valid_value, entries_rising}
 use Rattle.arena_base.proofs.Walks.{entries_rising-first, item_of-there, entries_rising-removed}
 use Rattle.arena_base.proofs.arena.drain.DrainIterator.next.Given.{Over}
 use Rattle.arena_base.proofs.arena.drain.DrainIterator.next.Goals.{After-remove}
@@ -36,3 +36,19 @@ pub returns-in-GenerationOverflow-clause-steps : goal.returns-in-GenerationOverf
 returns-in-GenerationOverflow-clause-steps g c =
     let gone = taken g (goal.at.returns-in-GenerationOverflow-clause-steps g c).After-remove c.in-GenerationOverflow.item c.in-GenerationOverflow.ensures.value in
     (refl, record { first = gone.0; removed = gone.1; overflow = c.in-GenerationOverflow.ensures.overflow ∙ gone.2 })
+
+pub returns-in_err-at-clause-steps : goal.returns-in_err-at-clause-steps
+returns-in_err-at-clause-steps g c = rw c.from_residual.ensures (refl, (c.in_err-at.ensures.entries, refl))
+
+pub returns-in_err-at-clause-goes : goal.returns-in_err-at-clause-goes
+returns-in_err-at-clause-goes g c = rw c.from_residual.ensures (record { on = λ h. tt; keeps = tt; rests = λ h. h })
+
+pub returns-in-Success-clause-goes : goal.returns-in-Success-clause-goes
+returns-in-Success-clause-goes g c =
+    let gone = taken g (goal.at.returns-in-Success-clause-goes g c).After-remove c.in-Success.item c.in-Success.ensures.value in
+    record { on = λ h. (tt, tt, omega (arith, ap length gone.0)); keeps = tt; rests = λ h. tt }
+
+pub returns-in-GenerationOverflow-clause-goes : goal.returns-in-GenerationOverflow-clause-goes
+returns-in-GenerationOverflow-clause-goes g c =
+    let gone = taken g (goal.at.returns-in-GenerationOverflow-clause-goes g c).After-remove c.in-GenerationOverflow.item c.in-GenerationOverflow.ensures.value in
+    record { on = λ h. (tt, tt, omega (arith, ap length gone.0)); keeps = tt; rests = λ h. tt }
