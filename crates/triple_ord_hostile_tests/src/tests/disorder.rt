@@ -7,7 +7,7 @@ mod places;
 mod searches;
 mod trees;
 
-use building::{ORDERS, manual, written};
+use building::{Building, ORDERS, built};
 use std::alloc::Global;
 use std::process::Abort;
 use triple_ord::{OrdEntryKind, OrdInsertKind, OrdInsertionError, OrdPair, P0, SimpleOrdArena};
@@ -65,26 +65,29 @@ fn rows(rt: &impl Abort, alloc: Global, a: &Numbers) -> Vec<Row> {
     rows
 }
 
-/// Every call, on this arena or its clones.
-fn all_hold(rt: &impl Abort, alloc: Global, a: &Numbers) {
+/// Whether every call does what it may, on this arena or its clones.
+fn all_hold(rt: &impl Abort, alloc: Global, a: &Numbers, old: &[Row]) -> bool {
+    searches::hold(a, old) && closures::hold(a, old) && changes::hold(rt, alloc, a, old)
+}
+
+/// The same, with the entries that there are.
+fn holds(rt: &impl Abort, alloc: Global, a: &Numbers) -> bool {
     let rows = rows(rt, alloc, a);
-    let old = rows.as_slice();
-    assert!(rt; searches::hold(a, old) && closures::hold(a, old));
-    assert!(rt; changes::hold(rt, alloc, a, old));
+    all_hold(rt, alloc, a, rows.as_slice())
 }
 
 /// Arenas of n entries in the order of the number, built in each way.
-fn all_hold_in_order(rt: &impl Abort, alloc: Global, n: u64, number: u64) {
-    all_hold(rt, alloc, &manual(rt, alloc, n, number, false));
-    all_hold(rt, alloc, &manual(rt, alloc, n, number, true));
-    all_hold(rt, alloc, &written(rt, alloc, n, number));
+fn each_way_holds(rt: &impl Abort, alloc: Global, n: u64, number: u64) {
+    for building in &[Building::Manual, Building::Halved, Building::Written] {
+        assert!(rt; holds(rt, alloc, &built(rt, alloc, *building, n, number)));
+    }
 }
 
 #[test]
 fn every_call_in_every_order(rt: HostRuntime) {
     for n in 0u64..=6 {
         for number in 0..ORDERS[n as usize % 7] {
-            all_hold_in_order(&rt, rt.alloc(), n, number);
+            each_way_holds(&rt, rt.alloc(), n, number);
         }
     }
 }

@@ -27,9 +27,11 @@ fn leave<'h>(rt: &impl Abort, heap: &'h LocalHeap, units: usize) -> Vec<u8, &'h 
 }
 
 /// The rank of the node at an index.
-fn rank_at<T>(rt: &impl Abort, a: &OnHeap<T>, index: u32) -> u8 {
-    let (_, node) = a.get_inx_node(index).expect(rt, "its node");
-    node.t.rank
+fn rank_at<T>(a: &OnHeap<T>, index: u32) -> u8 {
+    match a.get_inx_node(index) {
+        Some((_, node)) => node.t.rank,
+        None => 0,
+    }
 }
 
 /// An arena's counts: length, capacity, maximum and generation.
@@ -54,7 +56,7 @@ fn write_entry<T: Debug>(rt: &impl Abort, text: &mut String, p: P0, item: &T, ra
 fn look<T: Debug>(rt: &impl Abort, alloc: Global, a: &OnHeap<T>) -> String {
     let mut text = text_of(rt, alloc, counts(a));
     for (p, item) in a {
-        write_entry(rt, &mut text, p, item, rank_at(rt, a, p.inx()));
+        write_entry(rt, &mut text, p, item, rank_at(a, p.inx()));
     }
     text
 }

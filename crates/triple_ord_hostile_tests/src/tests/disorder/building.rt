@@ -5,6 +5,17 @@ use std::cmp::Ordering;
 use std::process::Abort;
 use triple_ord::{OrdInsertKind, OrdPair, P0, Ptr};
 
+/// How an arena is built.
+#[derive(Clone, Copy)]
+pub(super) enum Building {
+    /// Entry by entry, each in any gap, by rising key.
+    Manual,
+    /// Entry by entry, each in any gap, by pairs of equal keys.
+    Halved,
+    /// Behind one another, and then written over.
+    Written,
+}
+
 /// How many orders so many keys have.
 pub(super) const ORDERS: [u64; 7] = [1, 1, 2, 6, 24, 120, 720];
 
@@ -30,13 +41,7 @@ fn put_into(rt: &impl Abort, alloc: Global, a: &mut Numbers, gap: usize, key: u6
 }
 
 /// The keys from 1 to n, or half of each, rounded up, put into the gaps that the number says.
-pub(super) fn manual(
-    rt: &impl Abort,
-    alloc: Global,
-    n: u64,
-    number: u64,
-    is_halved: bool,
-) -> Numbers {
+fn manual(rt: &impl Abort, alloc: Global, n: u64, number: u64, is_halved: bool) -> Numbers {
     let mut a = Numbers::new(alloc);
     let mut rest = number;
     for key in 1..=n {
@@ -64,10 +69,25 @@ fn write_over(a: &mut Numbers, rows: &[Row]) {
 }
 
 /// The keys from 1 to n, put in behind one another and then written over in the order of the number.
-pub(super) fn written(rt: &impl Abort, alloc: Global, n: u64, number: u64) -> Numbers {
+fn written(rt: &impl Abort, alloc: Global, n: u64, number: u64) -> Numbers {
     let last = ORDERS[n as usize % 7].saturating_sub(1);
     let mut a = manual(rt, alloc, n, last, false);
     let other = manual(rt, alloc, n, number, false);
     write_over(&mut a, rows(rt, alloc, &other).as_slice());
     a
+}
+
+/// An arena of n entries, built so; the number says in which order.
+pub(super) fn built(
+    rt: &impl Abort,
+    alloc: Global,
+    building: Building,
+    n: u64,
+    number: u64,
+) -> Numbers {
+    match building {
+        Building::Manual => manual(rt, alloc, n, number, false),
+        Building::Halved => manual(rt, alloc, n, number, true),
+        Building::Written => written(rt, alloc, n, number),
+    }
 }

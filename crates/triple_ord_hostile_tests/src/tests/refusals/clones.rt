@@ -55,6 +55,18 @@ fn is_put<'h>(texts: &mut Texts<'h>, item: Item<'h>) -> bool {
     texts.insert(item).is_ok()
 }
 
+/// Puts texts in by their keys.
+fn put_texts<'h>(
+    rt: &impl Abort,
+    heap: &'h LocalHeap,
+    texts: &mut Texts<'h>,
+    rows: &[(u64, &str)],
+) {
+    for (key, word) in rows {
+        assert!(rt; is_put(texts, item(rt, heap, *key, *word)));
+    }
+}
+
 /// An arena with room for so many entries, into which texts are put by their keys.
 fn filled<'h>(
     rt: &impl Abort,
@@ -63,9 +75,7 @@ fn filled<'h>(
     rows: &[(u64, &str)],
 ) -> Texts<'h> {
     let mut texts = Texts::with_min_capacity(heap, capacity).expect(rt, "memory");
-    for (key, word) in rows {
-        assert!(rt; is_put(&mut texts, item(rt, heap, *key, *word)));
-    }
+    put_texts(rt, heap, &mut texts, rows);
     texts
 }
 
@@ -142,14 +152,26 @@ fn to_new(rt: &impl Abort, alloc: Global, source: &Texts) -> usize {
     }
 }
 
-/// What became of a receiver with entries: 0 where it is a clone, 1 where it was kept, 2 where it was emptied, and 3 where it is none of
-/// these.
-fn left_by(outcome: Result<(), ReallocationError>, now: &str) -> usize {
+/// The number of an outcome: 0 where it went well, 1 where memory was refused, and 3 else.
+fn number_of(outcome: Result<(), ReallocationError>) -> usize {
     match outcome {
-        Ok(()) if now == SOURCE => 0,
-        Err(ReallocationError::AllocError) if now == KEPT => 1,
-        Err(ReallocationError::AllocError) if now == EMPTIED => 2,
-        _ => 3,
+        Ok(()) => 0,
+        Err(ReallocationError::AllocError) => 1,
+        Err(ReallocationError::BeyondMaxCapacity) => 3,
+    }
+}
+
+/// What became of a receiver with entries after the outcome of a number: 0 where it is a clone, 1 where it was kept, 2 where it was
+/// emptied, and 3 where it is none of these.
+fn left_by(number: usize, now: &str) -> usize {
+    if number == 0 && now == SOURCE {
+        0
+    } else if number == 1 && now == KEPT {
+        1
+    } else if number == 1 && now == EMPTIED {
+        2
+    } else {
+        3
     }
 }
 
@@ -161,21 +183,18 @@ fn to_texts<'h>(
     texts: &mut Texts<'h>,
 ) -> usize {
     let outcome = texts.clone_from_arena(source);
-    left_by(outcome, look(rt, alloc, texts).as_str())
+    left_by(number_of(outcome), look(rt, alloc, texts).as_str())
 }
 
-/// What became of a container without room, by its length, its capacity and its generation: 0 where it is a clone, 1 where it was kept,
-/// and 3 where it is neither.
-fn made_by(
-    outcome: Result<(), ReallocationError>,
-    len: usize,
-    capacity: usize,
-    generation: u64,
-) -> usize {
-    match outcome {
-        Ok(()) if len == 3 && capacity == 4 && generation == 3 => 0,
-        Err(ReallocationError::AllocError) if len == 0 && capacity == 0 && generation == 2 => 1,
-        _ => 3,
+/// What became of a container without room after the outcome of a number, by its length, its capacity and its generation: 0 where it is a
+/// clone, 1 where it was kept, and 3 where it is neither.
+fn made_by(number: usize, len: usize, capacity: usize, generation: u64) -> usize {
+    if number == 0 && len == 3 && capacity == 4 && generation == 3 {
+        0
+    } else if number == 1 && len == 0 && capacity == 0 && generation == 2 {
+        1
+    } else {
+        3
     }
 }
 
@@ -187,13 +206,23 @@ fn length_of(_p: P0, pair: &Item) -> usize {
 /// Clones the source to an arena without an order.
 fn to_arena(source: &Texts, arena: &mut Lengths) -> usize {
     let outcome = source.clone_to_arena(arena, length_of);
-    made_by(outcome, arena.len(), arena.capacity(), arena.generation())
+    made_by(
+        number_of(outcome),
+        arena.len(),
+        arena.capacity(),
+        arena.generation(),
+    )
 }
 
 /// Clones the source to a chain.
 fn to_chain(source: &Texts, chain: &mut Chain) -> usize {
     let outcome = source.clone_to_chain_arena(chain, length_of);
-    made_by(outcome, chain.len(), chain.capacity(), chain.generation())
+    made_by(
+        number_of(outcome),
+        chain.len(),
+        chain.capacity(),
+        chain.generation(),
+    )
 }
 
 /// Clones the source. Answers what became of the receiver.
@@ -234,11 +263,24 @@ fn left_of<'h>(
     kind: Kind,
     heap: &'h LocalHeap,
     units: usize,
+    receivers: &mut Receivers<'h>,
+) -> usize {
+    let left = clone_in_little(rt, alloc, source, kind, heap, units, receivers);
+    assert!(rt; clone_to(rt, alloc, source, kind, receivers) == 0);
+    left
+}
+
+/// The same with receivers that are made for it.
+fn left_on<'h>(
+    rt: &impl Abort,
+    alloc: Global,
+    source: &Texts<'h>,
+    kind: Kind,
+    heap: &'h LocalHeap,
+    units: usize,
 ) -> usize {
     let mut receivers = make_receivers(rt, heap, kind);
-    let left = clone_in_little(rt, alloc, source, kind, heap, units, &mut receivers);
-    assert!(rt; clone_to(rt, alloc, source, kind, &mut receivers) == 0);
-    left
+    left_of(rt, alloc, source, kind, heap, units, &mut receivers)
 }
 
 /// What becomes of a receiver, here or there: a growth is refused first, and without one only an item's clone.
@@ -259,7 +301,7 @@ fn each_request_into<'h>(
 ) {
     let mut met = [false; 4];
     for units in 0usize..100 {
-        met[left_of(rt, alloc, source, kind, heap, units) % 4] = true;
+        met[left_on(rt, alloc, source, kind, heap, units) % 4] = true;
     }
     assert!(rt; met == wanted_of(kind));
     looks_like(rt, alloc, source, SOURCE);
@@ -275,11 +317,16 @@ const KINDS: [Kind; 5] = [
 ];
 
 /// The same for each kind.
+fn each_request_of<'h>(rt: &impl Abort, alloc: Global, heap: &'h LocalHeap, source: &Texts<'h>) {
+    for kind in &KINDS {
+        each_request_into(rt, alloc, heap, source, *kind);
+    }
+}
+
+/// The same with a source that is made for it.
 fn each_request_on(rt: &impl Abort, alloc: Global, heap: &LocalHeap) {
     let source = source(rt, heap);
-    for kind in &KINDS {
-        each_request_into(rt, alloc, heap, &source, *kind);
-    }
+    each_request_of(rt, alloc, heap, &source);
 }
 
 #[test]
