@@ -55,15 +55,6 @@ fn served(alloc: Global, script: &[u8]) -> (Vec<u8>, ScriptEnd) {
     (output, end)
 }
 
-/// The script answers this, and ends so.
-fn ends(rt: &impl Abort, alloc: Global, script: &[u8], answer: &str, wanted: ScriptEnd) {
-    let (output, end) = served(alloc, script);
-    assert!(rt;
-        end == wanted && output.as_slice() == answer.as_bytes(),
-        "{script:?}"
-    );
-}
-
 /// The words of a fault.
 fn words_of(kind: FaultKind) -> &'static str {
     match kind {
@@ -71,4 +62,26 @@ fn words_of(kind: FaultKind) -> &'static str {
         FaultKind::WrongArguments => "wrong arguments",
         FaultKind::BadNumber => "bad number",
     }
+}
+
+/// Whether a line is that of this fault.
+fn is_fault(rt: &impl Abort, alloc: Global, line: &str, number: usize, kind: FaultKind) -> bool {
+    let fault = format!(in alloc; "line {number}: {}", words_of(kind)).expect(rt, "memory");
+    line == fault.as_str()
+}
+
+/// Whether an answer ends as its script did: with the line of a fault, or with none.
+fn is_told(rt: &impl Abort, alloc: Global, answer: &str, end: ScriptEnd) -> bool {
+    let line = answer.lines().last().unwrap_or("");
+    match end {
+        ScriptEnd::Fault(number, kind) => is_fault(rt, alloc, line, number, kind),
+        ScriptEnd::Done => !line.starts_with("line "),
+        _ => false,
+    }
+}
+
+/// The script is answered so, and ends as the answer says.
+fn answers(rt: &impl Abort, alloc: Global, script: &[u8], answer: &str) {
+    let (output, end) = served(alloc, script);
+    assert!(rt; is_told(rt, alloc, answer, end) && output.as_slice() == answer.as_bytes());
 }

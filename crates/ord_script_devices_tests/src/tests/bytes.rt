@@ -1,6 +1,6 @@
 //! Bytes where no one puts them, numbers at and beyond their limits, and lines as long as an input may be.
-use super::{ends, served};
-use ord_script::{FaultKind, ScriptEnd};
+use super::{answers, served};
+use ord_script::ScriptEnd;
 use std::alloc::Global;
 use std::process::Abort;
 
@@ -18,21 +18,6 @@ const BAD: &str = "line 1: bad number\n";
 
 /// The answer to a search, and then to a line that is no command.
 const FOUND_AND_UNKNOWN: &str = "none\nline 2: unknown command\n";
-
-/// How a script ends that has this answer.
-fn end_of(answer: &str) -> ScriptEnd {
-    if answer == UNKNOWN {
-        ScriptEnd::Fault(1, FaultKind::UnknownCommand)
-    } else if answer == WRONG {
-        ScriptEnd::Fault(1, FaultKind::WrongArguments)
-    } else if answer == BAD {
-        ScriptEnd::Fault(1, FaultKind::BadNumber)
-    } else if answer == FOUND_AND_UNKNOWN {
-        ScriptEnd::Fault(2, FaultKind::UnknownCommand)
-    } else {
-        ScriptEnd::Done
-    }
-}
 
 /// Where a byte stands, which bytes fit there, which part two words, and what a line answers with these, with a line feed, and with others.
 struct Place {
@@ -102,8 +87,7 @@ fn wanted(place: &Place, byte: u8) -> &'static str {
 fn each_byte_at(rt: &impl Abort, alloc: Global, place: &Place) {
     for byte in 0u8..=255 {
         let script = filled(rt, alloc, place.before, byte, 1, place.after);
-        let answer = wanted(place, byte);
-        ends(rt, alloc, &script, answer, end_of(answer));
+        answers(rt, alloc, &script, wanted(place, byte));
     }
 }
 
@@ -114,43 +98,31 @@ fn each_byte_at_each_place(rt: HostRuntime) {
     }
 }
 
-/// Numbers at their limits, each with the next one, and with what stands before and after them in a line.
-const LIMITS: [(&str, &str, &str, &str); 15] = [
-    ("find ", "9223372036854775807", "9223372036854775808", ""),
-    ("find -", "9223372036854775808", "9223372036854775809", ""),
-    (
-        "insert -",
-        "9223372036854775808",
-        "9223372036854775809",
-        " 0",
-    ),
-    (
-        "insert 5 ",
-        "18446744073709551615",
-        "18446744073709551616",
-        "",
-    ),
-    ("neighbours ", "4294967295", "4294967296", ""),
-    ("remove-index ", "4294967295", "4294967296", ""),
-    ("get ", "4294967295", "4294967296", ".2"),
-    ("get 1.", "18446744073709551615", "18446744073709551616", ""),
-    ("max ", "18446744073709551615", "18446744073709551616", ""),
-    ("drain ", "18446744073709551615", "18446744073709551616", ""),
+/// Numbers at their limits, each with what stands before it in a line, and the next one; with what follows them.
+const LIMITS: [(&str, &str, &str); 15] = [
+    ("find ", "9223372036854775807", "9223372036854775808"),
+    ("find -", "9223372036854775808", "9223372036854775809"),
+    ("insert -", "9223372036854775808 0", "9223372036854775809 0"),
+    ("insert 5 ", "18446744073709551615", "18446744073709551616"),
+    ("neighbours ", "4294967295", "4294967296"),
+    ("remove-index ", "4294967295", "4294967296"),
+    ("get ", "4294967295.2", "4294967296.2"),
+    ("get 1.", "18446744073709551615", "18446744073709551616"),
+    ("max ", "18446744073709551615", "18446744073709551616"),
+    ("drain ", "18446744073709551615", "18446744073709551616"),
     (
         "find-linear 1.2 ",
-        "18446744073709551615",
-        "18446744073709551616",
-        " 4",
+        "18446744073709551615 4",
+        "18446744073709551616 4",
     ),
-    ("similar-linear ", "4294967295", "4294967296", " 1 4"),
+    ("similar-linear ", "4294967295 1 4", "4294967296 1 4"),
     (
         "similar-linear 1 ",
-        "18446744073709551615",
-        "18446744073709551616",
-        " 4",
+        "18446744073709551615 4",
+        "18446744073709551616 4",
     ),
-    ("compress ", "1", "2", ""),
-    ("canonical ", "1", "2", ""),
+    ("compress ", "1", "2"),
+    ("canonical ", "1", "2"),
 ];
 
 /// So many equal bytes between two texts.
@@ -184,56 +156,35 @@ fn count_lines(answer: &[u8]) -> usize {
     count
 }
 
-/// A line with a number, and with what stands in front of its digits.
-fn numbered(
-    rt: &impl Abort,
-    alloc: Global,
-    before: &str,
-    front: &str,
-    number: &str,
-    after: &str,
-) -> String {
-    format!(in alloc; "{before}{front}{number}{after}").expect(rt, "memory")
-}
-
 /// The line is a command, and answered by one line.
-fn is_command(rt: &impl Abort, alloc: Global, line: &String) {
-    let (output, end) = served(alloc, line.as_bytes());
+fn is_command(rt: &impl Abort, alloc: Global, line: &[u8]) {
+    let (output, end) = served(alloc, line);
     assert!(rt; end == ScriptEnd::Done && count_lines(output.as_slice()) == 1);
 }
 
-/// The line has a number that is none.
-fn is_bad(rt: &impl Abort, alloc: Global, line: &String) {
-    ends(
+/// A number at its limit, with zeros in front, the next one, and one far above, with nines in front.
+fn is_limit(rt: &impl Abort, alloc: Global, row: &(&str, &str, &str), count: usize) {
+    let (before, most, next) = *row;
+    is_command(rt, alloc, &filled(rt, alloc, before, b'0', count, most));
+    answers(
         rt,
         alloc,
-        line.as_bytes(),
+        &filled(rt, alloc, before, b'0', count, next),
         BAD,
-        ScriptEnd::Fault(1, FaultKind::BadNumber),
     );
-}
-
-/// A number at its limit, with zeros in front, the next one, and one far above, which begins with a nine.
-fn is_limit(
-    rt: &impl Abort,
-    alloc: Global,
-    row: (&str, &str, &str, &str),
-    zeros: &str,
-    nine: &str,
-) {
-    let (before, most, next, after) = row;
-    is_command(rt, alloc, &numbered(rt, alloc, before, zeros, most, after));
-    is_bad(rt, alloc, &numbered(rt, alloc, before, zeros, next, after));
-    is_bad(rt, alloc, &numbered(rt, alloc, before, nine, next, after));
+    let nines = count.saturating_add(1);
+    answers(
+        rt,
+        alloc,
+        &filled(rt, alloc, before, b'9', nines, next),
+        BAD,
+    );
 }
 
 /// Every limit with so many zeros.
 fn each_limit(rt: &impl Abort, alloc: Global, count: usize) {
-    let digits = filled(rt, alloc, "9", b'0', count, "");
-    let nine = std::str::from_utf8(&digits).expect(rt, "digits");
-    let zeros = nine.strip_prefix('9').expect(rt, "a nine");
     for row in &LIMITS {
-        is_limit(rt, alloc, *row, zeros, nine);
+        is_limit(rt, alloc, row, count);
     }
 }
 
@@ -253,9 +204,10 @@ fn longest(rt: &impl Abort, alloc: Global, before: &str, byte: u8, after: &str) 
 }
 
 /// Scripts of the greatest length, each with its answer.
-const LONG: [(&str, u8, &str, &str); 8] = [
+const LONG: [(&str, u8, &str, &str); 9] = [
     ("#", b'x', "", ""),
     ("", b'\n', "", ""),
+    ("", b'\n', "x", "line 1048576: unknown command\n"),
     ("", b' ', "list", "list\n"),
     ("insert -", b'0', "5 7\nlist", "new 1.2\nlist 1.2=-5:7\n"),
     ("", b'x', "", UNKNOWN),
@@ -268,21 +220,13 @@ const LONG: [(&str, u8, &str, &str); 8] = [
 fn lines_of_a_megabyte(rt: HostRuntime) {
     for (before, byte, after, answer) in &LONG {
         let script = longest(&rt, rt.alloc(), *before, *byte, *after);
-        ends(&rt, rt.alloc(), &script, *answer, end_of(*answer));
+        answers(&rt, rt.alloc(), &script, *answer);
     }
 }
 
 #[test]
-fn one_byte_more_and_the_last_line(rt: HostRuntime) {
+fn one_byte_more(rt: HostRuntime) {
     let more = filled(&rt, rt.alloc(), "", b'\n', LONGEST, "\n");
-    ends(&rt, rt.alloc(), &more, "", ScriptEnd::TooLong);
-    let last = longest(&rt, rt.alloc(), "", b'\n', "x");
-    let end = ScriptEnd::Fault(LONGEST, FaultKind::UnknownCommand);
-    ends(
-        &rt,
-        rt.alloc(),
-        &last,
-        "line 1048576: unknown command\n",
-        end,
-    );
+    let (output, end) = served(rt.alloc(), &more);
+    assert!(rt; end == ScriptEnd::TooLong && output.is_empty());
 }

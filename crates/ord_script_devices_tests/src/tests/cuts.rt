@@ -1,99 +1,31 @@
 //! Scripts that are cut after each of their bytes.
-use super::{SCRIPTS, served, words_of};
+use super::{SCRIPTS, answers, is_told, served};
 use ord_script::{FaultKind, ScriptEnd};
 use std::alloc::Global;
 use std::process::Abort;
 
-/// The commands of the scripts, each with a letter for each argument: a key, a value or number, an index, a pointer, a flag.
-const COMMANDS: [(&str, &str); 16] = [
-    ("insert", "kn"),
-    ("list", ""),
-    ("max", "n"),
-    ("within", "kn"),
-    ("before", "ikn"),
-    ("empty", "kn"),
-    ("check", ""),
-    ("find", "k"),
-    ("visits", "k"),
-    ("ranks", ""),
-    ("remove", "p"),
-    ("get", "p"),
-    ("remove-index", "i"),
-    ("nonhereditary", "kn"),
-    ("compress", "f"),
-    ("canonical", "f"),
+/// What is wrong with the last line of each beginning of the scripts, from the empty one on: its first word, how many words follow it,
+/// a number, or nothing.
+const FAULTS: [&str; 6] = [
+    ".uuuuuwwwwwwwwwwwwwwwwwwwwwww.....................uuu..uuuuuwwwwwwwwwwwwwwwwwwwwwwbb",
+    ".uuww..uuuuuwwww...uuuuuwwww...uuuuuwwww...uuuuuwwww...uuuuuwwww...uuu..uuww..",
+    ".uuuuuwwwwww..uuuuuwwww..uuuuuwwww..uuuuuwwww..uuuuwwww..uuuuuwwwwww..uuuu..uuu..uuuww..uuuuuww..uuuu..",
+    ".uuuuuwwww..uuuuuwwbb..uuuuuwwbb..uuuuuwwww..uuwwbb..uuwwbb..uuuuuwuuuuuww..",
+    ".uuuuuuuuuuuuwwww..uuuuuuuuuuuuwwww..uuuuuuuuuuuuwwww..uuuuuuuuuuuuwwww..uuu..uuuu..",
+    ".uuuuuwwwww..uuuuuwwwww..uuuuuwwwww..uuuuuwwwww..uuuuuwwbb..uuuuuuuww..uuu..uuuu..uuuuuuuuww..uuu..uuuuuuuuww..uuu..",
 ];
 
-/// One digit or more.
-fn is_digits(text: &str) -> bool {
-    !text.is_empty() && text.bytes().all(|byte| byte.is_ascii_digit())
-}
-
-/// Whether an argument is one of this letter.
-fn is_argument(text: &str, letter: u8) -> bool {
-    match letter {
-        b'k' => is_digits(text.strip_prefix('-').unwrap_or(text)) && text.parse::<i64>().is_ok(),
-        b'i' => is_digits(text) && text.parse::<u32>().is_ok(),
-        b'f' => text == "0" || text == "1",
-        _ => is_digits(text) && text.parse::<u64>().is_ok(),
+/// The letter of an end at a line.
+fn letter_of(end: ScriptEnd, line: usize) -> u8 {
+    match end {
+        ScriptEnd::Done => b'.',
+        ScriptEnd::Fault(number, kind) if number == line => match kind {
+            FaultKind::UnknownCommand => b'u',
+            FaultKind::WrongArguments => b'w',
+            FaultKind::BadNumber => b'b',
+        },
+        _ => b'?',
     }
-}
-
-/// The same of any letter: a pointer is an index, a point and a number.
-fn is_any_argument(text: &str, letter: u8) -> bool {
-    if letter != b'p' {
-        return is_argument(text, letter);
-    }
-    match text.split_once('.') {
-        Some((index, generation)) => is_argument(index, b'i') && is_argument(generation, b'n'),
-        None => false,
-    }
-}
-
-/// The letters of a command's arguments.
-fn letters_of(word: &str) -> Option<&'static str> {
-    for (known, letters) in &COMMANDS {
-        if *known == word {
-            return Some(*letters);
-        }
-    }
-    None
-}
-
-/// Whether each word after the first is an argument of its letter.
-fn are_arguments(line: &str, letters: &str) -> bool {
-    for (text, letter) in line.split_ascii_whitespace().skip(1).zip(letters.bytes()) {
-        if !is_any_argument(text, letter) {
-            return false;
-        }
-    }
-    true
-}
-
-/// What is wrong with the arguments of a command: how many they are, or one of them.
-fn fault_in_arguments(line: &str, letters: &str) -> Option<FaultKind> {
-    if line.split_ascii_whitespace().skip(1).count() != letters.len() {
-        Some(FaultKind::WrongArguments)
-    } else if are_arguments(line, letters) {
-        None
-    } else {
-        Some(FaultKind::BadNumber)
-    }
-}
-
-/// What is wrong with a line that isn't blank: its first word, or what follows it.
-fn fault_in(line: &str) -> Option<FaultKind> {
-    let word = line.split_ascii_whitespace().next()?;
-    match letters_of(word) {
-        Some(letters) => fault_in_arguments(line, letters),
-        None => Some(FaultKind::UnknownCommand),
-    }
-}
-
-/// Whether a line is that of this fault.
-fn is_fault(rt: &impl Abort, alloc: Global, line: &str, number: usize, kind: FaultKind) -> bool {
-    let fault = format!(in alloc; "line {number}: {}", words_of(kind)).expect(rt, "memory");
-    line == fault.as_str()
 }
 
 /// How many lines two texts have in common where they begin.
@@ -108,70 +40,60 @@ fn common_lines(left: &str, right: &str) -> usize {
     count
 }
 
-/// Whether the last line of an answer, and the end, are those of a last line of a script in which this is wrong.
-fn is_end(
-    rt: &impl Abort,
-    alloc: Global,
-    reply: &str,
-    number: usize,
-    fault: Option<FaultKind>,
-    end: ScriptEnd,
-) -> bool {
-    match fault {
-        Some(kind) => {
-            end == ScriptEnd::Fault(number, kind) && is_fault(rt, alloc, reply, number, kind)
-        }
-        None => end == ScriptEnd::Done && !reply.starts_with("line "),
-    }
-}
-
-/// The last line of a text, or an empty one.
-fn last_line(text: &str) -> &str {
-    text.lines().last().unwrap_or("")
-}
-
 /// Whether an answer has a line for each line of a cut script, and as many of the whole answer's as the cut has of the whole script's.
 fn are_lines(script: &str, answer: &str, cut: &str, told: &str) -> bool {
     told.lines().count() == cut.lines().count()
         && common_lines(told, answer) >= common_lines(cut, script)
+        && (told.is_empty() || told.ends_with('\n'))
 }
 
-/// Whether the beginning of a script is answered as it should be: whole lines as in the whole script, the rest of a line by what it is now.
-fn is_answered(rt: &impl Abort, alloc: Global, cut: &str, told: &str, end: ScriptEnd) -> bool {
-    let fault = fault_in(last_line(cut));
-    let number = cut.lines().count();
-    is_end(rt, alloc, last_line(told), number, fault, end)
-}
-
-/// Cuts a script after so many bytes.
+/// Cuts a script after so many bytes: whole lines are answered as in the whole script, the rest of a line by what is wrong with it.
 fn is_cut_answered(
     rt: &impl Abort,
     alloc: Global,
     script: &str,
     answer: &str,
     count: usize,
+    fault: u8,
 ) -> bool {
     let (cut, _) = script.split_at_checked(count).expect(rt, "a boundary");
     let (output, end) = served(alloc, cut.as_bytes());
     let told = std::str::from_utf8(&output).unwrap_or("no text");
     are_lines(script, answer, cut, told)
-        && is_answered(rt, alloc, cut, told, end)
-        && (told.is_empty() || told.ends_with('\n'))
+        && is_told(rt, alloc, told, end)
+        && letter_of(end, cut.lines().count()) == fault
+}
+
+/// What is wrong with the last line of a beginning.
+fn fault_at(faults: &str, count: usize) -> u8 {
+    match faults.as_bytes().get(count) {
+        Some(fault) => *fault,
+        None => 0,
+    }
 }
 
 /// Each beginning of a script, and the whole one.
-fn each_beginning(rt: &impl Abort, alloc: Global, script: &str, answer: &str) {
+fn each_beginning(rt: &impl Abort, alloc: Global, script: &str, answer: &str, faults: &str) {
     for count in 0..=script.len() {
-        let is_answered = is_cut_answered(rt, alloc, script, answer, count);
-        assert!(rt; is_answered, "{script} cut after {count}");
+        let fault = fault_at(faults, count);
+        assert!(rt; is_cut_answered(rt, alloc, script, answer, count, fault));
     }
-    let (output, _) = served(alloc, script.as_bytes());
-    assert!(rt; output.as_slice() == answer.as_bytes());
+    answers(rt, alloc, script.as_bytes(), answer);
+}
+
+/// What is wrong with the beginnings of the script at a place.
+fn faults_of(place: usize) -> &'static str {
+    match FAULTS.get(place) {
+        Some(faults) => *faults,
+        None => "",
+    }
 }
 
 #[test]
 fn each_beginning_of_a_script(rt: HostRuntime) {
+    let mut place = 0usize;
     for (script, answer) in &SCRIPTS {
-        each_beginning(&rt, rt.alloc(), *script, *answer);
+        each_beginning(&rt, rt.alloc(), *script, *answer, faults_of(place));
+        place = place.saturating_add(1);
     }
 }

@@ -1,7 +1,7 @@
 //! Devices that fail after each number of bytes.
 ghost use Rattle.std.specs.Prelude.{◌≡◌, IfOk};
 
-use super::SCRIPTS;
+use super::{SCRIPTS, is_told};
 use ord_script::{ScriptEnd, Watched, serve};
 use std::alloc::Global;
 use std::io;
@@ -96,7 +96,7 @@ const WELL: Pace = Pace {
 };
 
 /// Whether a reader and a writer say of themselves what the end says.
-fn is_told(end: ScriptEnd, read_failed: bool, read_ended: bool, write_failed: bool) -> bool {
+fn are_marked(end: ScriptEnd, read_failed: bool, read_ended: bool, write_failed: bool) -> bool {
     read_failed == (end == ScriptEnd::ReadFailed)
         && read_ended != read_failed
         && write_failed == (end == ScriptEnd::WriteFailed)
@@ -121,32 +121,45 @@ fn serve_with(
     let mut writer = Watched::new(&mut sink);
     let end = serve(alloc, &mut reader, &mut writer);
     assert!(rt;
-        is_told(end, reader.failed(), reader.ended(), writer.failed()),
+        are_marked(end, reader.failed(), reader.ended(), writer.failed()),
         "{end:?}"
     );
     (end, sink.bytes)
 }
 
-/// How reads fail: by so many bytes a call, and then so.
-const READS: [(usize, Failure); 6] = [
-    (1, Failure::Broken),
-    (5, Failure::Broken),
-    (usize::MAX, Failure::Broken),
-    (1, Failure::Interrupted),
-    (5, Failure::Interrupted),
-    (usize::MAX, Failure::Interrupted),
-];
+/// A script is served with devices that go so: this is written, and it ends so.
+fn goes(
+    rt: &impl Abort,
+    alloc: Global,
+    script: &str,
+    (reading, writing): (Pace, Pace),
+    wanted: &[u8],
+    wanted_end: ScriptEnd,
+) {
+    let (end, written) = serve_with(rt, alloc, script, reading, writing);
+    assert!(rt; end == wanted_end && written.as_slice() == wanted);
+}
+
+/// How many bytes go a call.
+const STEPS: [usize; 3] = [1, 5, usize::MAX];
+
+/// How calls fail; the last way is one of writes alone.
+const FAILURES: [Failure; 3] = [Failure::Broken, Failure::Interrupted, Failure::Nothing];
+
+/// The pace of a number, with a failure after so many bytes.
+fn pace_of(number: usize, left: usize) -> Pace {
+    Pace {
+        step: STEPS[number % 3],
+        left,
+        failure: FAILURES[number / 3 % 3],
+    }
+}
 
 /// Reads fail after so many bytes, and nothing is written.
 fn read_fails(rt: &impl Abort, alloc: Global, script: &str, left: usize) {
-    for (step, failure) in READS {
-        let pace = Pace {
-            step,
-            left,
-            failure,
-        };
-        let (end, written) = serve_with(rt, alloc, script, pace, WELL);
-        assert!(rt; end == ScriptEnd::ReadFailed && written.is_empty());
+    for number in 0usize..6 {
+        let paces = (pace_of(number, left), WELL);
+        goes(rt, alloc, script, paces, &[], ScriptEnd::ReadFailed);
     }
 }
 
@@ -159,30 +172,12 @@ fn reads_that_fail_after_each_byte(rt: HostRuntime) {
     }
 }
 
-/// How writes fail: so as reads do, and by taking no byte.
-const WRITES: [(usize, Failure); 9] = [
-    (1, Failure::Broken),
-    (5, Failure::Broken),
-    (usize::MAX, Failure::Broken),
-    (1, Failure::Interrupted),
-    (5, Failure::Interrupted),
-    (usize::MAX, Failure::Interrupted),
-    (1, Failure::Nothing),
-    (5, Failure::Nothing),
-    (usize::MAX, Failure::Nothing),
-];
-
 /// Writes fail after so many bytes, which are a beginning of the answer.
-fn write_fails(rt: &impl Abort, alloc: Global, script: &str, answer: &str, left: usize) {
-    let (wanted, _) = answer.split_at_checked(left).expect(rt, "a boundary");
-    for (step, failure) in WRITES {
-        let pace = Pace {
-            step,
-            left,
-            failure,
-        };
-        let (end, written) = serve_with(rt, alloc, script, WELL, pace);
-        assert!(rt; end == ScriptEnd::WriteFailed && written.as_slice() == wanted.as_bytes());
+fn write_fails(rt: &impl Abort, alloc: Global, script: &str, answer: &[u8], left: usize) {
+    let wanted = answer.get(..left).unwrap_or(&[]);
+    for number in 0usize..9 {
+        let paces = (WELL, pace_of(number, left));
+        goes(rt, alloc, script, paces, wanted, ScriptEnd::WriteFailed);
     }
 }
 
@@ -190,7 +185,7 @@ fn write_fails(rt: &impl Abort, alloc: Global, script: &str, answer: &str, left:
 fn writes_that_fail_after_each_byte(rt: HostRuntime) {
     for (script, answer) in &SCRIPTS {
         for left in 0..answer.len() {
-            write_fails(&rt, rt.alloc(), *script, *answer, left);
+            write_fails(&rt, rt.alloc(), *script, answer.as_bytes(), left);
         }
     }
 }
@@ -199,8 +194,7 @@ fn writes_that_fail_after_each_byte(rt: HostRuntime) {
 fn is_served_slowly(rt: &impl Abort, alloc: Global, script: &str, answer: &str, step: usize) {
     let pace = Pace { step, ..WELL };
     let (end, written) = serve_with(rt, alloc, script, pace, pace);
-    let is_well = matches!(end, ScriptEnd::Done | ScriptEnd::Fault(..));
-    assert!(rt; is_well && written.as_slice() == answer.as_bytes());
+    assert!(rt; is_told(rt, alloc, answer, end) && written.as_slice() == answer.as_bytes());
 }
 
 #[test]

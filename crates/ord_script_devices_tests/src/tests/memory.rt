@@ -1,5 +1,5 @@
 //! Scripts on heaps of little room.
-use super::{COMPRESSED, LIMITS};
+use super::{COMPRESSED, LIMITS, is_told};
 use linked_list_allocator::LocalHeap;
 use ord_script::{ScriptEnd, Watched, serve};
 use std::alloc::Global;
@@ -17,62 +17,71 @@ fn served_on(rt: &impl Abort, alloc: Global, script: &[u8], size: usize) -> (Vec
     (output, end)
 }
 
-/// Whether a line may stand where this one is wanted: it is the same, or a list or ranks that were refused memory.
-fn may_stand(line: &str, wanted: &str) -> bool {
-    let is_list = wanted.starts_with("list ") || wanted.starts_with("ranks ");
-    line == wanted || (is_list && line == "refused memory")
+/// A script with what it answers where there is memory, and where no entry finds room; the second is empty for a script of entries that
+/// rise and of lists, of which some entries may find room.
+#[derive(Clone, Copy)]
+struct Case<'a> {
+    script: &'a str,
+    whole: &'a str,
+    bare: &'a str,
 }
 
-/// Whether an answer is this one, but that some lists and ranks were refused memory.
-fn is_but_for_lists(told: &str, whole: &str) -> bool {
+/// Whether a line may stand where this one is wanted: it is the same, or a list or ranks that were refused memory; and where some entries
+/// may find room, one that was refused, or a list of those before it.
+fn may_stand(line: &str, wanted: &str, may_lack: bool) -> bool {
+    let is_list = wanted.starts_with("list ") || wanted.starts_with("ranks ");
+    let may_be_refused = is_list || may_lack;
+    let is_begun = may_lack && line.starts_with("list") && wanted.starts_with(line);
+    line == wanted || is_begun || (may_be_refused && line == "refused memory")
+}
+
+/// Whether an answer is this one, but for what was refused memory.
+fn is_but_for_refusals(told: &str, whole: &str, may_lack: bool) -> bool {
     let mut lines = whole.lines();
     for line in told.lines() {
         let Some(wanted) = lines.next() else {
             return false;
         };
-        if !may_stand(line, wanted) {
+        if !may_stand(line, wanted, may_lack) {
             return false;
         }
     }
-    lines.next().is_none()
+    lines.next().is_none() && told.ends_with('\n')
 }
 
-/// A script with what it answers where there is memory, and where no entry finds room.
-#[derive(Clone, Copy)]
-struct Case {
-    script: &'static str,
-    whole: &'static str,
-    bare: &'static str,
-}
-
-/// Whether a script is answered as it may be: not at all where it was refused.
-fn is_right(case: &Case, is_refused: bool, told: &str) -> bool {
+/// Tells 0 of a script that was refused, which writes nothing, 1 of an answer with refusals, 2 of a whole one, and 3 of any other.
+fn number_of(case: &Case, told: &str, is_refused: bool) -> usize {
     if is_refused {
-        told.is_empty()
+        if told.is_empty() { 0 } else { 3 }
+    } else if told == case.whole {
+        2
+    } else if told == case.bare || is_but_for_refusals(told, case.whole, case.bare.is_empty()) {
+        1
     } else {
-        told == case.bare || is_but_for_lists(told, case.whole)
+        3
     }
 }
 
-/// Serves a script on a heap of this size. Tells whether that was refused, which writes nothing, and whether the answer is whole.
-fn ends_on(rt: &impl Abort, alloc: Global, case: &Case, size: usize) -> (bool, bool) {
+/// Serves a script on a heap of this size.
+fn number_on(rt: &impl Abort, alloc: Global, case: &Case, size: usize) -> usize {
     let (output, end) = served_on(rt, alloc, case.script.as_bytes(), size);
     let told = std::str::from_utf8(&output).unwrap_or("no text");
     let is_refused = end == ScriptEnd::Memory;
-    assert!(rt; is_right(case, is_refused, told), "{told}");
-    (is_refused, told == case.whole)
+    assert!(rt; is_refused || is_told(rt, alloc, told, end), "{told}");
+    number_of(case, told, is_refused)
 }
 
-/// Serves a script on heaps of growing size: it is refused on some, and whole on the last.
-fn each_request_of(rt: &impl Abort, alloc: Global, case: &Case) {
-    let mut was_refused = false;
-    let mut is_whole = false;
-    for size in 0usize..180 {
-        let (is_refused, is_whole_here) = ends_on(rt, alloc, case, 16 * size);
-        was_refused = was_refused || is_refused;
-        is_whole = is_whole_here;
+/// Serves a script on heaps that grow by so many bytes: it is refused on some, and whole on the last. Tells whether there was an answer
+/// with refusals.
+fn each_request_of(rt: &impl Abort, alloc: Global, case: &Case, step: usize) -> bool {
+    let mut met = [false; 4];
+    let mut last = 0;
+    for size in 0usize..200 {
+        last = number_on(rt, alloc, case, size.saturating_mul(step));
+        met[last % 4] = true;
     }
-    assert!(rt; was_refused && is_whole, "{}", case.script);
+    assert!(rt; met[0] && !met[3] && last == 2, "{}", case.script);
+    met[1]
 }
 
 /// The answer of `LIMITS` where no entry finds room.
@@ -83,23 +92,36 @@ const BARE_COMPRESSED: &str =
     "refused memory\nrefused memory\nrefused memory\nrefused memory\ninvalid\nok\nlist\nranks\nok\nlist\nok\nlist\n";
 
 /// A script and its answer, with the one where no entry finds room.
-fn case_of(script: (&'static str, &'static str), bare: &'static str) -> Case {
+fn each_request_with(
+    rt: &impl Abort,
+    alloc: Global,
+    script: (&'static str, &'static str),
+    bare: &'static str,
+) {
     let (script, whole) = script;
-    Case {
+    let case = Case {
         script,
         whole,
         bare,
-    }
+    };
+    let _ = each_request_of(rt, alloc, &case, 16);
 }
 
 #[test]
 fn each_request_of_a_script(rt: HostRuntime) {
-    each_request_of(&rt, rt.alloc(), &case_of(LIMITS, BARE_LIMITS));
-    each_request_of(&rt, rt.alloc(), &case_of(COMPRESSED, BARE_COMPRESSED));
+    each_request_with(&rt, rt.alloc(), LIMITS, BARE_LIMITS);
+    each_request_with(&rt, rt.alloc(), COMPRESSED, BARE_COMPRESSED);
 }
 
 /// How many entries are inserted.
 const ENTRIES: u64 = 40;
+
+/// Writes a line so often.
+fn repeat(rt: &impl Abort, text: &mut String, line: &str, count: usize) {
+    for _ in 0..count {
+        write!(text, "{line}\n").expect(rt, "memory");
+    }
+}
 
 /// A short script, whose answer is as long as all its lists together.
 fn listing(rt: &impl Abort, alloc: Global, lists: usize) -> String {
@@ -107,9 +129,7 @@ fn listing(rt: &impl Abort, alloc: Global, lists: usize) -> String {
     for key in 0..ENTRIES {
         write!(script, "insert {key} 0\n").expect(rt, "memory");
     }
-    for _ in 0..lists {
-        write!(script, "list\n").expect(rt, "memory");
-    }
+    repeat(rt, &mut script, "list", lists);
     script
 }
 
@@ -123,89 +143,30 @@ fn whole_list(rt: &impl Abort, alloc: Global) -> String {
     list
 }
 
-/// How many lines of an answer begin so.
-fn count_beginning(told: &str, start: &str) -> usize {
-    let mut count = 0usize;
-    for line in told.lines() {
-        if line.starts_with(start) {
-            count = count.saturating_add(1);
-        }
+/// The whole answer.
+fn whole_listing(rt: &impl Abort, alloc: Global, lists: usize) -> String {
+    let mut whole = String::new(alloc);
+    for index in 1..=ENTRIES {
+        write!(whole, "new {index}.2\n").expect(rt, "memory");
     }
-    count
+    repeat(rt, &mut whole, whole_list(rt, alloc).as_str(), lists);
+    whole
 }
 
-/// How many lines of an answer are this one.
-fn count_of(told: &str, wanted: &str) -> usize {
-    let mut count = 0usize;
-    for line in told.lines() {
-        if line == wanted {
-            count = count.saturating_add(1);
-        }
-    }
-    count
-}
-
-/// Whether each line is a new entry, a whole list or a refusal, one for each line of the script; and how many are refusals. Where an
-/// entry was refused a list has fewer.
-fn refusals_of(told: &str, list: &str, lists: usize) -> Option<usize> {
-    let news = count_beginning(told, "new ");
-    let refusals = count_of(told, "refused memory");
-    let wholes = if news < 40 {
-        count_beginning(told, "list")
-    } else {
-        count_of(told, list)
-    };
-    let all = news.saturating_add(refusals).saturating_add(wholes);
-    if all == lists.saturating_add(40) && told.ends_with('\n') {
-        Some(refusals)
-    } else {
-        None
-    }
-}
-
-/// The number of an end, as below, where the answer is right.
-fn number_of(told: &str, list: &str, lists: usize, end: ScriptEnd) -> Option<usize> {
-    match end {
-        ScriptEnd::Memory if told.is_empty() => Some(0),
-        ScriptEnd::Done => {
-            let refusals = refusals_of(told, list, lists)?;
-            if refusals == 0 { Some(2) } else { Some(1) }
-        }
-        _ => None,
-    }
-}
-
-/// Serves a script of so many lists on a heap of this size. Answers 0 for an end for want of memory, 1 for an answer with refusals,
-/// and 2 for a whole one.
-fn end_on(
-    rt: &impl Abort,
-    alloc: Global,
-    script: &str,
-    list: &str,
-    lists: usize,
-    size: usize,
-) -> usize {
-    let (output, end) = served_on(rt, alloc, script.as_bytes(), size);
-    let told = std::str::from_utf8(&output).unwrap_or("no text");
-    number_of(told, list, lists, end).expect(rt, "an end, and the lines")
-}
-
-/// Lists all entries so often on heaps of growing size. Tells whether there was an end for want of memory, an answer with refused
-/// lists, and a whole one.
-fn ends_of(rt: &impl Abort, alloc: Global, lists: usize) -> [bool; 3] {
+/// Lists all entries so often on heaps of growing size. Tells whether there was an answer with refusals.
+fn is_refused_lists(rt: &impl Abort, alloc: Global, lists: usize) -> bool {
     let script = listing(rt, alloc, lists);
-    let list = whole_list(rt, alloc);
-    let mut ends = [false; 3];
-    for size in 0usize..200 {
-        let end = end_on(rt, alloc, script.as_str(), list.as_str(), lists, size * 800);
-        ends[end % 3] = true;
-    }
-    ends
+    let whole = whole_listing(rt, alloc, lists);
+    let case = Case {
+        script: script.as_str(),
+        whole: whole.as_str(),
+        bare: "",
+    };
+    each_request_of(rt, alloc, &case, 800)
 }
 
 #[test]
 fn lists_again_and_again(rt: HostRuntime) {
-    assert!(rt; ends_of(&rt, rt.alloc(), 3) == [true; 3]);
-    let many = ends_of(&rt, rt.alloc(), 60);
-    assert!(rt; many[0] && many[2]);
+    assert!(rt; is_refused_lists(&rt, rt.alloc(), 3));
+    let _ = is_refused_lists(&rt, rt.alloc(), 60);
 }

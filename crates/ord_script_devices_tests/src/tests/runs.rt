@@ -22,8 +22,11 @@ enum Line {
 
 use Line::{Drain, Find, Insert, List, Ranks};
 
-/// Thirty commands: the arena grows at the first, the fifth and the ninth entry, and begins again after a drain.
-const LINES: [Line; 30] = [
+/// What tells and takes the entries that there are, and then thirty commands: the arena grows at the first, the fifth and the ninth entry,
+/// and begins again after a drain.
+const LINES: [Line; 32] = [
+    List,
+    Drain(99),
     Ranks,
     Insert(50),
     Insert(30),
@@ -84,18 +87,18 @@ fn pointer_of(plain: &Plain, key: u64) -> Option<P0> {
     None
 }
 
-/// Whether an entry of the vector has this pointer and key.
-fn is_entry(entry: Option<&(P0, u64)>, p: P0, pair: &Item) -> bool {
+/// Whether an entry of the vector is this one.
+fn is_entry(entry: Option<&(P0, u64)>, told: &(P0, Item)) -> bool {
     match entry {
-        Some(entry) => entry.0 == p && entry.1 == *pair.k(),
+        Some(entry) => entry.0 == told.0 && entry.1 == *told.1.k(),
         None => false,
     }
 }
 
 /// Whether these are the first so many entries.
-fn are_first(plain: &Plain, entries: &[(P0, Item)], count: usize) -> bool {
-    for (entry, told) in plain.iter().zip(entries) {
-        if !is_entry(Some(entry), told.0, &told.1) {
+fn are_first(plain: &[(P0, u64)], entries: &[(P0, Item)], count: usize) -> bool {
+    for place in 0..entries.len() {
+        if !is_entry(plain.get(place), &entries[place]) {
             return false;
         }
     }
@@ -139,7 +142,7 @@ fn is_search(plain: &Plain, key: u64, reply: &Told) -> bool {
 /// Whether a reply has the first so many entries, or was refused where there are some.
 fn is_list(plain: &Plain, count: usize, reply: &Told) -> bool {
     match reply {
-        Reply::Entries(entries) => are_first(plain, entries, count),
+        Reply::Entries(entries) => are_first(plain.as_slice(), entries, count),
         _ => is_refusal(reply) && !plain.is_empty(),
     }
 }
@@ -172,99 +175,55 @@ fn is_reply(rt: &impl Abort, plain: &mut Plain, line: Line, reply: &Told) -> boo
     }
 }
 
-/// What was refused in a run.
-#[derive(Clone, Copy, PartialEq, Eq)]
-struct Refusals {
-    replies: bool,
-    insertion: bool,
-    list: bool,
-    ranks: bool,
-    drain: bool,
-    nothing: bool,
-}
+/// What was refused in a run: replies, insertions, lists, ranks, drains.
+type Refusals = [bool; 5];
 
-const NONE: Refusals = Refusals {
-    replies: false,
-    insertion: false,
-    list: false,
-    ranks: false,
-    drain: false,
-    nothing: false,
-};
-
-/// Marks a refusal.
-fn mark(met: &mut Refusals, line: Line) {
+/// The place of a command among these.
+fn place_among(line: Line) -> usize {
     match line {
-        Insert(_) => met.insertion = true,
-        List => met.list = true,
-        Ranks => met.ranks = true,
-        Drain(_) => met.drain = true,
-        Find(_) => {}
+        Insert(_) | Find(_) => 1,
+        List => 2,
+        Ranks => 3,
+        Drain(_) => 4,
     }
 }
 
 /// The commands of the run, on a heap.
-fn commands<'h>(
-    rt: &impl Abort,
-    heap: &'h LocalHeap,
-    lines: &[Line],
-) -> Vec<Command<P0, Item>, &'h LocalHeap> {
-    let mut commands = Vec::with_capacity(heap, lines.len()).expect(rt, "memory");
-    for line in lines {
+fn commands<'h>(rt: &impl Abort, heap: &'h LocalHeap) -> Vec<Command<P0, Item>, &'h LocalHeap> {
+    let mut commands = Vec::with_capacity(heap, LINES.len()).expect(rt, "memory");
+    for line in &LINES {
         commands.push(command(*line)).expect(rt, "memory");
     }
     commands
 }
 
-/// Whether a reply was refused.
-fn is_any_refused(replies: &[Told]) -> bool {
-    for reply in replies {
-        if is_refusal(reply) {
-            return true;
-        }
-    }
-    false
-}
-
-/// Whether a reply is that of a command over these entries; a refusal is marked.
+/// Whether a reply is that of a command to these entries, to which the same is done; a refusal is marked.
 fn is_marked(
     rt: &impl Abort,
     plain: &mut Plain,
     line: Line,
     reply: &Told,
-    met: &mut Refusals,
+    refused: &mut Refusals,
 ) -> bool {
     if is_refusal(reply) {
-        mark(met, line);
+        refused[place_among(line) % 5] = true;
     }
     is_reply(rt, plain, line, reply)
 }
 
-/// Whether the replies are those of the commands over no entry; the vector is then what the arena has to be.
+/// Whether the replies are those of the commands.
 fn are_replies(
     rt: &impl Abort,
     plain: &mut Plain,
-    lines: &[Line],
     replies: &[Told],
-    met: &mut Refusals,
+    refused: &mut Refusals,
 ) -> bool {
-    for (line, reply) in lines.iter().zip(replies) {
-        if !is_marked(rt, plain, *line, reply, met) {
+    for place in 0..replies.len() {
+        if !is_marked(rt, plain, LINES[place % 32], &replies[place], refused) {
             return false;
         }
     }
-    replies.len() == lines.len()
-}
-
-/// Whether the arena has these entries, in order.
-fn has(arena: &Numbers, plain: &Plain) -> bool {
-    let mut wanted = plain.iter();
-    for (p, pair) in arena {
-        if !is_entry(wanted.next(), p, pair) {
-            return false;
-        }
-    }
-    wanted.next().is_none() && arena.len() == plain.len()
+    replies.len() == LINES.len()
 }
 
 /// What the commands answer, where memory for the replies wasn't refused.
@@ -274,35 +233,17 @@ type Outcome<'h> = Result<Vec<Told<'h>, &'h LocalHeap>, AllocError>;
 fn is_outcome(
     rt: &impl Abort,
     plain: &mut Plain,
-    lines: &[Line],
-    capacity: usize,
     outcome: &Outcome,
-    met: &mut Refusals,
+    capacity: usize,
+    refused: &mut Refusals,
 ) -> bool {
     match outcome {
-        Ok(replies) => {
-            met.nothing = met.nothing || !is_any_refused(replies);
-            are_replies(rt, plain, lines, replies, met)
-        }
+        Ok(replies) => are_replies(rt, plain, replies, refused),
         Err(AllocError) => {
-            met.replies = true;
+            refused[0] = true;
             capacity == 0
         }
     }
-}
-
-/// The replies and the entries are those of the commands; where the replies were refused the arena is as it was.
-fn is_right<'h>(
-    rt: &impl Abort,
-    alloc: Global,
-    lines: &[Line],
-    arena: &Numbers<'h>,
-    outcome: &Outcome<'h>,
-    met: &mut Refusals,
-) {
-    let mut plain = Vec::new(alloc);
-    let is_told = is_outcome(rt, &mut plain, lines, arena.capacity(), outcome, met);
-    assert!(rt; is_told && has(arena, &plain));
 }
 
 /// Runs the commands on an arena.
@@ -315,64 +256,56 @@ fn outcome_of<'h>(
     run(heap, arena, commands, &mut closure)
 }
 
-/// Runs the commands on an arena without an entry.
-fn run_on<'h>(
+/// Whether the commands do on an arena what they do to the vector, which has the same entries.
+fn is_run<'h>(
     rt: &impl Abort,
-    alloc: Global,
     heap: &'h LocalHeap,
-    lines: &[Line],
+    arena: &mut Numbers<'h>,
     commands: Vec<Command<P0, Item>, &'h LocalHeap>,
-    met: &mut Refusals,
-) {
-    let mut arena = SimpleOrdArena::new(heap);
-    let outcome = outcome_of(heap, &mut arena, commands);
-    is_right(rt, alloc, lines, &arena, &outcome, met);
+    plain: &mut Plain,
+    refused: &mut Refusals,
+) -> bool {
+    let outcome = outcome_of(heap, arena, commands);
+    is_outcome(rt, plain, &outcome, arena.capacity(), refused)
 }
 
-/// Runs the commands where so many units of room are left beside them.
-fn run_in_room(
+/// Runs the commands where so many units of room are left beside them. Answers what was refused.
+fn run_in<'h>(
     rt: &impl Abort,
-    alloc: Global,
-    heap: &LocalHeap,
-    lines: &[Line],
+    heap: &'h LocalHeap,
     units: usize,
-    met: &mut Refusals,
-) {
-    let commands = commands(rt, heap, lines);
+    arena: &mut Numbers<'h>,
+    plain: &mut Plain,
+) -> Refusals {
+    let mut refused = [false; 5];
+    let commands = commands(rt, heap);
     let room = heap.free().saturating_sub(units.saturating_mul(16));
     let _taken: Vec<u8, &LocalHeap> = Vec::with_capacity(heap, room).expect(rt, "room");
-    run_on(rt, alloc, heap, lines, commands, met);
+    assert!(rt; is_run(rt, heap, arena, commands, plain, &mut refused));
+    refused
 }
 
-/// Runs the commands where so many units of room are left beside them; and where something was refused once more, with memory.
-fn run_with(rt: &impl Abort, alloc: Global, lines: &[Line], units: usize, met: &mut Refusals) {
-    let heap = LocalHeap::new(alloc, 1 << 14).expect(rt, "a heap");
-    run_in_room(rt, alloc, &heap, lines, units, met);
-    let mut again = NONE;
-    run_on(
-        rt,
-        alloc,
-        &heap,
-        lines,
-        commands(rt, &heap, lines),
-        &mut again,
-    );
-    assert!(rt; again.nothing);
+/// Runs the commands on an arena without an entry where so many units of room are left, and then once more with memory, where nothing
+/// is refused and the first list tells what the first run left. Answers what was refused.
+fn run_twice(rt: &impl Abort, alloc: Global, heap: &LocalHeap, units: usize) -> Refusals {
+    let mut arena = SimpleOrdArena::new(heap);
+    let mut plain = Vec::new(alloc);
+    let refused = run_in(rt, heap, units, &mut arena, &mut plain);
+    assert!(rt; run_in(rt, heap, usize::MAX, &mut arena, &mut plain) == [false; 5]);
+    refused
 }
 
 #[test]
 fn each_request_of_a_run(rt: HostRuntime) {
-    let mut met = NONE;
+    let heap = LocalHeap::new(rt.alloc(), 1 << 14).expect(&rt, "a heap");
+    let mut met = [false; 5];
+    let mut is_met_nothing = false;
     for units in 0usize..400 {
-        run_with(&rt, rt.alloc(), &LINES, units, &mut met);
+        let refused = run_twice(&rt, rt.alloc(), &heap, units);
+        for place in 0usize..5 {
+            met[place] = met[place] || refused[place];
+        }
+        is_met_nothing = is_met_nothing || refused == [false; 5];
     }
-    let all = Refusals {
-        replies: true,
-        insertion: true,
-        list: true,
-        ranks: true,
-        drain: true,
-        nothing: true,
-    };
-    assert!(rt; met == all);
+    assert!(rt; met == [true; 5] && is_met_nothing);
 }
