@@ -149,7 +149,7 @@ module _ {P T I G A F K : Type 0} (r : Reading P T I G K) (asks : F → Shown T 
   apart-along s f (c ∷ asked) [] t g keep run distinct sorted = absurd run
   apart-along s f (c ∷ asked) (q ∷ told) t g keep run distinct sorted =
       let step = run.2 in
-      let next = apart-change r total s.tree.list run.0.tree.list keep.0 sorted (outcome r s distinct run.0.tree asks f c q run.1 step.does).change in
+      let next = apart-change r total s.tree.list run.0.tree.list keep.0 sorted ((outcome r s run.0.tree asks f c q run.1 step.does).change distinct) in
       apart-along run.0 run.1 asked told t g keep.1 run.3 step.lawful.distinct next
 
 pub ascending_keys : (P T I G A K : Type 0) {F : Type 0} (asks : F → Shown T → F → Type 0) → AscendingKeysLaw P T I G A K asks

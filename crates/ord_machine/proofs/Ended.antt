@@ -177,9 +177,9 @@ module _ {P T I G A F K : Type 0} (r : Reading P T I G K) (asks : F → Shown T 
   along s f (c ∷ asked) [] t g run back lawful holds room = absurd run
   along s f (c ∷ asked) (q ∷ told) t g run back lawful holds room =
       let step = run.2 in
-      let leads = outcome r s lawful.distinct run.0.tree asks f c q run.1 step.does in
+      let leads = outcome r s run.0.tree asks f c q run.1 step.does in
       let raised = leads.raised back.0 ∙ risen-counted r.greatest top (raises c q) s.tree.list.generation counted (omega (arith, room)) in
-      let first = goes-change r s.tree.list run.0.tree.list (raises c q) lawful.distinct raised leads.change in
+      let first = goes-change r s.tree.list run.0.tree.list (raises c q) lawful.distinct raised (leads.change lawful.distinct) in
       let rest = along run.0 run.1 asked told t g run.3 back.1 step.lawful (goes s.tree.list run.0.tree.list (raises c q) first holds) (omega (arith, room, first.raised)) in
       record { lawful = rest.lawful; raised = omega (arith, rest.raised, first.raised); holds = rest.holds }
 

@@ -31,6 +31,6 @@ kept_pointer P T I G A K asks r old new f g [] (q ∷ told) p lawful others run 
 kept_pointer P T I G A K asks r old new f g (c ∷ asked) [] p lawful others run there = absurd run
 kept_pointer P T I G A K asks r old new f g (c ∷ asked) (q ∷ told) p lawful others run there =
     let mid = run.0 in
-    let leads = outcome r old lawful.distinct mid.tree asks f c q run.1 run.2.does in
-    let kept = keeps-change r old.tree.list mid.tree.list p there others.0 leads.change in
+    let leads = (outcome r old mid.tree asks f c q run.1 run.2.does).change lawful.distinct in
+    let kept = keeps-change r old.tree.list mid.tree.list p there others.0 leads in
     kept_pointer P T I G A K asks r mid new run.1 g asked told p run.2.lawful others.1 run.3 (ap is_some kept ∙ there) ∙ kept

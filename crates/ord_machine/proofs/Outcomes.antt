@@ -1,5 +1,5 @@
 -- What a step makes of the list: all that the laws of pointers and keys look at.
-use Rattle.std.proofs.Common.{◌≡◌, ◌≢◌, ℕ, zero, suc, ◌+◌, ◌<◌, Bool, true, false, List, [], ◌∷◌, ◌++◌, inl, inr, length, map, take, Option, Some, None, IsSome, is_some, slice_get, refl, sym, ap, ◌∙◌, arith, if◌then◌else◌}
+use Rattle.std.proofs.Common.{◌≡◌, ◌≢◌, ℕ, zero, suc, ◌+◌, ◌<◌, Bool, true, false, List, [], ◌∷◌, ◌++◌, ◌⊎◌, inl, inr, length, map, take, Option, Some, None, IsSome, is_some, slice_get, refl, sym, ap, subst, ◌∙◌, arith, if◌then◌else◌}
 use Rattle.std.proofs.lemmas.Bool.Decides.{eqb_tells}
 use Rattle.std.proofs.lemmas.List.{length-map}
 use Rattle.std.proofs.lemmas.Cmp.{tied_itself}
@@ -11,6 +11,9 @@ use Rattle.chain_base.specs.Chain.{Entry, Chain, renewed, removed, times, next_i
 use Rattle.chain_base.specs.Compression.{at_compressed_index, numbered}
 use Rattle.chain_base.specs.Insert.{IsInsertion}
 use Rattle.chain_base.proofs.CallerLemmas.{entry_at-absent, entry_at-between_other, generation-relocated, generation-numbered}
+use Rattle.ord_tree.specs.Half.{IsRebuilt}
+use Rattle.ord_tree.specs.Ranks.{IsTight}
+use Rattle.ord_tree.specs.Shape.{Shape, missing}
 use Rattle.ord_tree.specs.Tree.{Tree}
 use Rattle.triple_ord.specs.ClosureSearch.{Shown}
 use Rattle.triple_ord.specs.Gap.{Gap, with_between}
@@ -26,7 +29,7 @@ use Rattle.ord_machine.specs.declared.command.Command.{Command}
 use Rattle.ord_machine.specs.declared.command.Command.TheVariants as commands
 use Rattle.ord_machine.specs.declared.reply.Reply.{Reply}
 use Rattle.ord_machine.specs.declared.reply.Reply.TheVariants.{Inserted, Refused, Item, Removed, Renewed, Changed, Entries, Done, ReductionRefused}
-use Rattle.ord_machine.specs.Machine.{Reading, State, Inserts, Does, entry_of, removed_each}
+use Rattle.ord_machine.specs.Machine.{Reading, State, Effect, adds, removes, rebuilds, keeps, told_effect, effect_of, Inserts, Does, entry_of, removed_each}
 use Rattle.ord_machine.specs.Pointers.{resets, raises, ReplacesAnother, IsOfOthers}
 use Rattle.ord_machine.specs.Ascending.{IsPlacedByKey, KeepsApart}
 
@@ -102,10 +105,18 @@ pub data Change {P T I G K : Type 0} (r : Reading P T I G K) (old new : Chain T)
       → map (λ e. r.key e.item) new.entries ≡ map (λ e. r.key e.item) old.entries → 0 < n → ((p : ℕ × ℕ) → Of p → ⊥) → Change r old new n Of Keeps
   empties : new.entries ≡ [] → 0 < n → ((p : ℕ × ℕ) → Of p → ⊥) → Change r old new n Of Keeps
 
--- and of the generation, if it isn't set back
-pub record Outcome {P T I G K : Type 0} (r : Reading P T I G K) (old new : Chain T) (back : Bool) (n : ℕ) (Of : ℕ × ℕ → Type 0) (Keeps : Type 0) : Type 0 where
-  pub raised : back ≡ false → new.generation ≡ risen r.greatest n old.generation
-  pub change : Change r old new n Of Keeps
+-- what an effect says of the shapes before and after it
+abbrev pub Affects : Effect → Shape → Shape → Type 0
+Affects adds old new = IsTight old → IsTight new
+Affects removes old new = Unit {0}
+Affects rebuilds old new = IsRebuilt new
+Affects keeps old new = (new ≡ old) ⊎ (new ≡ missing)
+
+-- and of the shape, and of the generation, if it isn't set back
+pub record Outcome {P T I G K : Type 0} (r : Reading P T I G K) (old new : Tree T) (effect : Effect) (back : Bool) (n : ℕ) (Of : ℕ × ℕ → Type 0) (Keeps : Type 0) : Type 0 where
+  pub affects : Affects effect old.shape new.shape
+  pub raised : back ≡ false → new.list.generation ≡ risen r.greatest n old.list.generation
+  pub change : IsDistinct old.list.entries → Change r old.list new.list n Of Keeps
 
 -- the keys of relaid entries
 module _ {T K : Type 0} (key : T → K) where
@@ -137,17 +148,20 @@ after-insertion {T} room new put item i g inserted = go room.vacant inserted.nex
     go (j ∷ rest) next es gs = let here : j ≡ i = cc in (es ∙ ap (λ k. put (record { index = k; generation = room.generation; item = item })) here, gs)
 
 -- a step
-module _ {P T I G K : Type 0} (r : Reading P T I G K) (s : State T) (distinct : IsDistinct s.tree.list.entries) (new : Tree T) where
-  -- the entry whose item is replaced is found by its index, and has an equal key
-  replaced-here : (aim : Aim K) (e : Entry T) → IsPlace r.key r.cmp {entries = s.tree.list.entries} aim (over e) → entry_at s.tree.list.entries e.index ≡ Some (e.generation, e.item)
-  replaced-here alone e at = absurd at
-  replaced-here (at_key k) e at = entry_at-after s.tree.list.entries e distinct at.gap at.here
-  replaced-here (behind_key k) e at = absurd at
-  replaced-here (beside i Less) e at = absurd at
-  replaced-here (beside i Equal) e at = ap (entry_at s.tree.list.entries) at.0 ∙ at.1
-  replaced-here (beside i Greater) e at = absurd at
+module _ {P T I G K : Type 0} (r : Reading P T I G K) (s : State T) (new : Tree T) where
+  abbrev es : List (Entry T)
+  es = s.tree.list.entries
 
-  replaced-alike : IsTotalOrder r.cmp → (item : T) (aim : Aim K) (e : Entry T) → IsPlace r.key r.cmp {entries = s.tree.list.entries} aim (over e) → IsByKey r item aim
+  -- the entry whose item is replaced is found by its index, and has an equal key
+  replaced-here : IsDistinct es → (aim : Aim K) (e : Entry T) → IsPlace r.key r.cmp {entries = es} aim (over e) → entry_at es e.index ≡ Some (e.generation, e.item)
+  replaced-here distinct alone e at = absurd at
+  replaced-here distinct (at_key k) e at = entry_at-after es e distinct at.gap at.here
+  replaced-here distinct (behind_key k) e at = absurd at
+  replaced-here distinct (beside i Less) e at = absurd at
+  replaced-here distinct (beside i Equal) e at = ap (entry_at es) at.0 ∙ at.1
+  replaced-here distinct (beside i Greater) e at = absurd at
+
+  replaced-alike : IsTotalOrder r.cmp → (item : T) (aim : Aim K) (e : Entry T) → IsPlace r.key r.cmp {entries = es} aim (over e) → IsByKey r item aim
       → r.cmp (r.key e.item) (r.key item) ≡ Equal
   replaced-alike total item (at_key k) e at by = sym (total.congr k (r.key e.item) (r.key item) at.equal) ∙ by
   replaced-alike total item aim e at by = absurd by
@@ -157,117 +171,139 @@ module _ {P T I G K : Type 0} (r : Reading P T I G K) (s : State T) (distinct : 
   by_kind (Linear i num k) item by = by
   by_kind kind item by = absurd by
 
+  -- the shape stays, whatever the reply
+  alike : {A : Type 0} (reply : Reply P T A I G) → new.shape ≡ s.tree.shape → Affects (told_effect reply) s.tree.shape new.shape
+  alike (Inserted (New p) before) same = λ tight. subst IsTight (sym same) tight
+  alike (Removed (Success taken)) same = tt
+  alike (Removed (GenerationOverflow taken)) same = tt
+  alike reply same = inl same
+
   module _ {back : Bool} {Of : ℕ × ℕ → Type 0} {Keeps : Type 0} where
-    still : new ≡ s.tree → Outcome r s.tree.list new.list back 0 Of Keeps
-    still same = record { raised = λ _. ap (λ t. t.list.generation) same; change = stays (ap (λ t. t.list.entries) same) }
+    still : {A : Type 0} (reply : Reply P T A I G) → new ≡ s.tree → Outcome r s.tree new (told_effect reply) back 0 Of Keeps
+    still reply same =
+        record { affects = alike reply (ap (λ t. t.shape) same); raised = λ _. ap (λ t. t.list.generation) same; change = λ _. stays (ap (λ t. t.list.entries) same) }
 
-    lost : (i : ℕ) → new.list ≡ removed r.greatest s.tree.list i → Spares s.tree.list.entries Of i → Outcome r s.tree.list new.list back 1 Of Keeps
-    lost i is spares = record { raised = λ _. ap (λ c. c.generation) is; change = leaves i (ap (λ c. c.entries) is) (omega arith) spares }
+    lost : (i : ℕ) → new.list ≡ removed r.greatest s.tree.list i → Spares es Of i → Outcome r s.tree new removes back 1 Of Keeps
+    lost i is spares =
+        record { affects = tt; raised = λ _. ap (λ c. c.generation) is; change = λ _. leaves i (ap (λ c. c.entries) is) (omega arith) spares }
 
-    again : (q : ℕ × ℕ) → IsSome (item_of s.tree.list.entries q) → new ≡ record s.tree { list = renewed r.greatest s.tree.list q.0 } → ((p : ℕ × ℕ) → Of p → q ≢ p)
-        → Outcome r s.tree.list new.list back 1 Of Keeps
+    again : (q : ℕ × ℕ) → IsSome (item_of es q) → new ≡ record s.tree { list = renewed r.greatest s.tree.list q.0 } → ((p : ℕ × ℕ) → Of p → q ≢ p)
+        → Outcome r s.tree new keeps back 1 Of Keeps
     again q there is apart = record {
+      affects = inl (ap (λ t. t.shape) is);
       raised = λ _. ap (λ t. t.list.generation) is;
-      change = renews q.0 (rw is refl) (omega arith) (λ p here of. other_index s.tree.list.entries p q (apart p of) there here);
+      change = λ _. renews q.0 (rw is refl) (omega arith) (λ p here of. other_index es p q (apart p of) there here);
     }
 
-    gone : {n : ℕ} → new.list.entries ≡ [] → new.list.generation ≡ risen r.greatest n s.tree.list.generation → 0 < n → ((p : ℕ × ℕ) → Of p → ⊥)
-        → Outcome r s.tree.list new.list back n Of Keeps
-    gone none raised some of_none = record { raised = λ _. raised; change = empties none some of_none }
+    gone : {n : ℕ} → new.shape ≡ missing → new.list.entries ≡ [] → new.list.generation ≡ risen r.greatest n s.tree.list.generation → 0 < n → ((p : ℕ × ℕ) → Of p → ⊥)
+        → Outcome r s.tree new keeps back n Of Keeps
+    gone bare none raised some of_none = record { affects = inr bare; raised = λ _. raised; change = λ _. empties none some of_none }
 
-  module _ {A : Type 0} where
-    outcome-insertion : {Keeps : Type 0} (growth : Growth) (aim : Aim K) (item : T) → (IsTotalOrder r.cmp → Keeps → IsByKey r item aim) → (reply : Reply P T A I G)
-        → Inserts r.key r.cmp r.most growth aim r.pointer s.tree item reply new → Outcome r s.tree.list new.list false 0 (λ p. ReplacesAnother r p reply) Keeps
-    outcome-insertion growth aim item by (Inserted (New q) None) does =
-        let room = with_slot growth r.most s.tree.list in
-        let roomy = entries-with_slot growth r.most s.tree.list in
-        let era = generation-with_slot growth r.most s.tree.list in
-        let i = (r.pointer q).0 in
-        let after = after-insertion room new.list (with_between does.gap) item i (r.pointer q).1 does.inserted in
-        record {
-          raised = λ _. after.1 ∙ era;
-          change = comes does.gap i item (after.0 ∙ ap (λ g. does.gap.front ++ record { index = i; generation = g; item = item } ∷ does.gap.back) era)
-              (ap (times i) (sym does.gap.cut) ∙ ap (times i) (sym roomy) ∙ does.inserted.vacant.free) aim does.place by;
-        }
-    outcome-insertion growth aim item by (Inserted (Replacing q) (Some before)) does =
-        let e = does.entry in
-        let here = replaced-here aim e does.place in
-        record {
-          raised = λ _. ap (λ t. t.list.generation) does.after;
-          change = writes e.index e.generation e.item item here (ap (λ t. t.list.entries) does.after)
-              (λ p there of. other_index s.tree.list.entries p (e.index, e.generation) (λ same. of (does.named ∙ same))
-              (ap is_some (there-found s.tree.list.entries (e.index, e.generation) e.item here)) there)
-              (λ total keeps. replaced-alike total item aim e does.place (by total keeps));
-        }
-    outcome-insertion growth aim item by (Refused refusal) does = still does.after
-    outcome-insertion growth aim item by reply does = absurd does
+    -- the list keeps its entries, and the tree its shape
+    alone-raised : {n : ℕ} → new.shape ≡ s.tree.shape → new.list.entries ≡ es → new.list.generation ≡ risen r.greatest n s.tree.list.generation
+        → Outcome r s.tree new keeps back n Of Keeps
+    alone-raised same is raised = record { affects = inl same; raised = λ _. raised; change = λ _. stays is }
 
-    pub outcome : {F : Type 0} (asks : F → Shown T → F → Type 0) (f : F) (command : Command P T I G K) (reply : Reply P T A I G) (g : F) → Does r asks s f command reply new g
-        → Outcome r s.tree.list new.list (resets command) (raises command reply) (λ p. IsOfOthers r p command reply) (KeepsApart r command)
-    outcome asks f (commands.Insert item) reply g does = outcome-insertion reallocating (at_key (r.key item)) item (λ total _. tied_itself total (r.key item)) reply does.0
-    outcome asks f (commands.InsertWithin item) reply g does = outcome-insertion within (at_key (r.key item)) item (λ total _. tied_itself total (r.key item)) reply does.0
-    outcome asks f (commands.Entry kind item) reply g does = outcome-insertion reallocating (aim_of r.index kind) item (λ _ by. by_kind kind item by) reply does.0
-    outcome asks f (commands.EntryWithin kind item) reply g does = outcome-insertion within (aim_of r.index kind) item (λ _ by. by_kind kind item by) reply does.0
-    outcome asks f (commands.Set q item) (Item None) g does = still does.0.1
-    outcome asks f (commands.Set q item) (Item (Some before)) g does =
-        let there : IsSome (item_of s.tree.list.entries (r.pointer q)) = ap is_some (sym does.0.0) in
-        let found = found-there s.tree.list.entries (r.pointer q) there in
-        record {
-          raised = λ _. ap (λ t. t.list.generation) does.0.1;
-          change = writes (r.pointer q).0 (r.pointer q).1 found.0 item found.1 (ap (λ t. t.list.entries) does.0.1)
-              (λ p here of. other_index s.tree.list.entries p (r.pointer q) of there here) (λ _ never. absurd never);
-        }
-    outcome asks f (commands.Set q item) reply g does = absurd does.0
-    outcome asks f (commands.Remove q) (Removed (Success taken)) g does =
-        lost (r.pointer q).0 does.0.2.list (λ p here of. other_index s.tree.list.entries p (r.pointer q) of (ap is_some does.0.1) here)
-    outcome asks f (commands.Remove q) (Removed (GenerationOverflow taken)) g does =
-        lost (r.pointer q).0 does.0.2.list (λ p here of. other_index s.tree.list.entries p (r.pointer q) of (ap is_some does.0.1) here)
-    outcome asks f (commands.Remove q) (Removed InvalidPtr) g does = still does.0.1
-    outcome asks f (commands.Remove q) reply g does = absurd does.0
-    outcome asks f (commands.RemoveInx i) (Removed (Success taken)) g does = lost (r.index i) does.0.2.list (λ p here of same. of (sym same))
-    outcome asks f (commands.RemoveInx i) (Removed (GenerationOverflow taken)) g does = lost (r.index i) does.0.2.list (λ p here of same. of (sym same))
-    outcome asks f (commands.RemoveInx i) (Removed InvalidPtr) g does = still does.0.1
-    outcome asks f (commands.RemoveInx i) reply g does = absurd does.0
-    outcome asks f (commands.Invalidate q) (Renewed (Success next)) g does = again (r.pointer q) does.0.0 does.0.3 (λ p of. of)
-    outcome asks f (commands.Invalidate q) (Renewed (GenerationOverflow next)) g does = again (r.pointer q) does.0.0 does.0.3 (λ p of. of)
-    outcome asks f (commands.Invalidate q) (Renewed InvalidPtr) g does = still does.0.1
-    outcome asks f (commands.Invalidate q) reply g does = absurd does.0
-    outcome asks f commands.Clear (Changed result) g does =
-        gone (ap (λ t. t.list.entries) does.0.0) (ap (λ t. t.list.generation) does.0.0) (omega arith) (λ p of. of)
-    outcome asks f commands.Clear reply g does = absurd does.0
-    outcome asks f commands.IncGeneration (Changed result) g does =
-        record { raised = λ _. ap (λ t. t.list.generation) does.0.0; change = stays (ap (λ t. t.list.entries) does.0.0) }
-    outcome asks f commands.IncGeneration reply g does = absurd does.0
-    outcome asks f (commands.Compress reset) (Changed result) g does = record {
-      raised = λ onward. rw onward at (ap (λ c. c.generation) does.0.0);
-      change = relays (λ i e found. generation-relocated s.tree.list.entries _ s.tree.list.entries i e (ap (λ (c : Chain T). entry_at c.entries i) (sym does.0.0) ∙ found)
-          ∙ sym (ap (λ c. c.generation) does.0.0))
-          (ap (λ (c : Chain T). map (λ e. r.key e.item) c.entries) does.0.0 ∙ keys-relocated r.key s.tree.list.entries s.tree.list.entries _) (omega arith) (λ p of. of);
-    }
-    outcome asks f (commands.Compress reset) reply g does = absurd does.0
-    outcome asks f (commands.Canonical reset) (Changed result) g does = record {
-      raised = λ onward. rw onward at (ap (λ c. c.generation) does.0.0);
-      change = relays (λ i e found. generation-numbered _ 1 (map (λ e. e.item) s.tree.list.entries) i e (ap (λ (c : Chain T). entry_at c.entries i) (sym does.0.0) ∙ found)
-          ∙ sym (ap (λ c. c.generation) does.0.0))
-          (ap (λ (c : Chain T). map (λ e. r.key e.item) c.entries) does.0.0 ∙ keys-numbered r.key s.tree.list.entries _ 1) (omega arith) (λ p of. of);
-    }
-    outcome asks f (commands.Canonical reset) reply g does = absurd does.0
-    outcome asks f (commands.Reserve n) Done g does =
-        record { raised = λ _. ap (λ t. t.list.generation) does.0.1; change = stays (ap (λ t. t.list.entries) does.0.1) }
-    outcome asks f (commands.Reserve n) (Refused BeyondMaxCapacity) g does = still does.0.1
-    outcome asks f (commands.Reserve n) (Refused AllocError) g does = still does.0.2
-    outcome asks f (commands.Reserve n) reply g does = absurd does.0
-    outcome asks f (commands.SetMax n) Done g does =
-        record { raised = λ _. ap (λ t. t.list.generation) does.0.1; change = stays (ap (λ t. t.list.entries) does.0.1) }
-    outcome asks f (commands.SetMax n) ReductionRefused g does = still does.0.1
-    outcome asks f (commands.SetMax n) reply g does = absurd does.0
-    outcome asks f (commands.DrainOrdered num) (Entries pairs) g does =
-        let first = take num s.tree.list.entries in
-        let count : suc (length first) ≡ length pairs.items + 1 = omega (arith, ap length does.0.0, length-map pairs.items (entry_of r.pointer)) in
-        gone (ap (λ t. t.list.entries) does.0.1)
-        (ap (λ t. t.list.generation) does.0.1 ∙ risen-each r.greatest s.tree.list first ∙ ap (λ k. risen r.greatest k s.tree.list.generation) count) (omega arith) (λ p of. of)
-    outcome asks f (commands.DrainOrdered num) (Refused AllocError) g does = still does.0.1
-    outcome asks f (commands.DrainOrdered num) reply g does = absurd does.0
-    outcome asks f commands.FindWith reply g does = still does.1
-    outcome asks f commands.SimilarWith reply g does = still does.1
-    outcome asks f command reply g does = still does.0.1
+    kept : new ≡ s.tree → Outcome r s.tree new keeps back 0 Of Keeps
+    kept same = alone-raised (ap (λ t. t.shape) same) (ap (λ t. t.list.entries) same) (ap (λ t. t.list.generation) same)
+
+  outcome-insertion : {A Keeps : Type 0} (growth : Growth) (aim : Aim K) (item : T) → (IsTotalOrder r.cmp → Keeps → IsByKey r item aim) → (reply : Reply P T A I G)
+      → Inserts r.key r.cmp r.most growth aim r.pointer s.tree item reply new → Outcome r s.tree new (told_effect reply) false 0 (λ p. ReplacesAnother r p reply) Keeps
+  outcome-insertion growth aim item by (Inserted (New q) None) does =
+      let room = with_slot growth r.most s.tree.list in
+      let roomy = entries-with_slot growth r.most s.tree.list in
+      let era = generation-with_slot growth r.most s.tree.list in
+      let i = (r.pointer q).0 in
+      let after = after-insertion room new.list (with_between does.gap) item i (r.pointer q).1 does.inserted in
+      record {
+        affects = does.grown.tight;
+        raised = λ _. after.1 ∙ era;
+        change = λ _. comes does.gap i item (after.0 ∙ ap (λ g. does.gap.front ++ record { index = i; generation = g; item = item } ∷ does.gap.back) era)
+            (ap (times i) (sym does.gap.cut) ∙ ap (times i) (sym roomy) ∙ does.inserted.vacant.free) aim does.place by;
+      }
+  outcome-insertion growth aim item by (Inserted (Replacing q) (Some before)) does =
+      let e = does.entry in
+      record {
+        affects = inl (ap (λ t. t.shape) does.after);
+        raised = λ _. ap (λ t. t.list.generation) does.after;
+        change = λ distinct.
+            let here = replaced-here distinct aim e does.place in
+            writes e.index e.generation e.item item here (ap (λ t. t.list.entries) does.after)
+            (λ p there of. other_index es p (e.index, e.generation) (λ same. of (does.named ∙ same)) (ap is_some (there-found es (e.index, e.generation) e.item here)) there)
+            (λ total keeps. replaced-alike total item aim e does.place (by total keeps));
+      }
+  outcome-insertion growth aim item by (Refused refusal) does = kept does.after
+  outcome-insertion growth aim item by reply does = absurd does
+
+  pub outcome : {A F : Type 0} (asks : F → Shown T → F → Type 0) (f : F) (command : Command P T I G K) (reply : Reply P T A I G) (g : F) → Does r asks s f command reply new g
+      → Outcome r s.tree new (effect_of command reply) (resets command) (raises command reply) (λ p. IsOfOthers r p command reply) (KeepsApart r command)
+  outcome asks f (commands.Insert item) reply g does = outcome-insertion reallocating (at_key (r.key item)) item (λ total _. tied_itself total (r.key item)) reply does.0
+  outcome asks f (commands.InsertWithin item) reply g does = outcome-insertion within (at_key (r.key item)) item (λ total _. tied_itself total (r.key item)) reply does.0
+  outcome asks f (commands.Entry kind item) reply g does = outcome-insertion reallocating (aim_of r.index kind) item (λ _ by. by_kind kind item by) reply does.0
+  outcome asks f (commands.EntryWithin kind item) reply g does = outcome-insertion within (aim_of r.index kind) item (λ _ by. by_kind kind item by) reply does.0
+  outcome asks f (commands.Set q item) (Item None) g does = kept does.0.1
+  outcome asks f (commands.Set q item) (Item (Some before)) g does =
+      let there : IsSome (item_of es (r.pointer q)) = ap is_some (sym does.0.0) in
+      let found = found-there es (r.pointer q) there in
+      record {
+        affects = inl (ap (λ t. t.shape) does.0.1);
+        raised = λ _. ap (λ t. t.list.generation) does.0.1;
+        change = λ _. writes (r.pointer q).0 (r.pointer q).1 found.0 item found.1 (ap (λ t. t.list.entries) does.0.1)
+            (λ p here of. other_index es p (r.pointer q) of there here) (λ _ never. absurd never);
+      }
+  outcome asks f (commands.Set q item) reply g does = absurd does.0
+  outcome asks f (commands.Remove q) (Removed (Success taken)) g does =
+      lost (r.pointer q).0 does.0.2.list (λ p here of. other_index es p (r.pointer q) of (ap is_some does.0.1) here)
+  outcome asks f (commands.Remove q) (Removed (GenerationOverflow taken)) g does =
+      lost (r.pointer q).0 does.0.2.list (λ p here of. other_index es p (r.pointer q) of (ap is_some does.0.1) here)
+  outcome asks f (commands.Remove q) (Removed InvalidPtr) g does = kept does.0.1
+  outcome asks f (commands.Remove q) reply g does = absurd does.0
+  outcome asks f (commands.RemoveInx i) (Removed (Success taken)) g does = lost (r.index i) does.0.2.list (λ p here of same. of (sym same))
+  outcome asks f (commands.RemoveInx i) (Removed (GenerationOverflow taken)) g does = lost (r.index i) does.0.2.list (λ p here of same. of (sym same))
+  outcome asks f (commands.RemoveInx i) (Removed InvalidPtr) g does = kept does.0.1
+  outcome asks f (commands.RemoveInx i) reply g does = absurd does.0
+  outcome asks f (commands.Invalidate q) (Renewed (Success next)) g does = again (r.pointer q) does.0.0 does.0.3 (λ p of. of)
+  outcome asks f (commands.Invalidate q) (Renewed (GenerationOverflow next)) g does = again (r.pointer q) does.0.0 does.0.3 (λ p of. of)
+  outcome asks f (commands.Invalidate q) (Renewed InvalidPtr) g does = kept does.0.1
+  outcome asks f (commands.Invalidate q) reply g does = absurd does.0
+  outcome asks f commands.Clear (Changed result) g does =
+      gone (ap (λ t. t.shape) does.0.0) (ap (λ t. t.list.entries) does.0.0) (ap (λ t. t.list.generation) does.0.0) (omega arith) (λ p of. of)
+  outcome asks f commands.Clear reply g does = absurd does.0
+  outcome asks f commands.IncGeneration (Changed result) g does =
+      alone-raised (ap (λ t. t.shape) does.0.0) (ap (λ t. t.list.entries) does.0.0) (ap (λ t. t.list.generation) does.0.0)
+  outcome asks f commands.IncGeneration reply g does = absurd does.0
+  outcome asks f (commands.Compress reset) (Changed result) g does = record {
+    affects = does.0.1;
+    raised = λ onward. rw onward at (ap (λ c. c.generation) does.0.0);
+    change = λ _. relays (λ i e found. generation-relocated es _ es i e (ap (λ (c : Chain T). entry_at c.entries i) (sym does.0.0) ∙ found)
+        ∙ sym (ap (λ c. c.generation) does.0.0))
+        (ap (λ (c : Chain T). map (λ e. r.key e.item) c.entries) does.0.0 ∙ keys-relocated r.key es es _) (omega arith) (λ p of. of);
+  }
+  outcome asks f (commands.Compress reset) reply g does = absurd does.0
+  outcome asks f (commands.Canonical reset) (Changed result) g does = record {
+    affects = does.0.1;
+    raised = λ onward. rw onward at (ap (λ c. c.generation) does.0.0);
+    change = λ _. relays (λ i e found. generation-numbered _ 1 (map (λ e. e.item) es) i e (ap (λ (c : Chain T). entry_at c.entries i) (sym does.0.0) ∙ found)
+        ∙ sym (ap (λ c. c.generation) does.0.0))
+        (ap (λ (c : Chain T). map (λ e. r.key e.item) c.entries) does.0.0 ∙ keys-numbered r.key es _ 1) (omega arith) (λ p of. of);
+  }
+  outcome asks f (commands.Canonical reset) reply g does = absurd does.0
+  outcome asks f (commands.Reserve n) Done g does =
+      alone-raised (ap (λ t. t.shape) does.0.1) (ap (λ t. t.list.entries) does.0.1) (ap (λ t. t.list.generation) does.0.1)
+  outcome asks f (commands.Reserve n) (Refused BeyondMaxCapacity) g does = kept does.0.1
+  outcome asks f (commands.Reserve n) (Refused AllocError) g does = kept does.0.2
+  outcome asks f (commands.Reserve n) reply g does = absurd does.0
+  outcome asks f (commands.SetMax n) Done g does =
+      alone-raised (ap (λ t. t.shape) does.0.1) (ap (λ t. t.list.entries) does.0.1) (ap (λ t. t.list.generation) does.0.1)
+  outcome asks f (commands.SetMax n) ReductionRefused g does = kept does.0.1
+  outcome asks f (commands.SetMax n) reply g does = absurd does.0
+  outcome asks f (commands.DrainOrdered num) (Entries pairs) g does =
+      let first = take num es in
+      let count : suc (length first) ≡ length pairs.items + 1 = omega (arith, ap length does.0.0, length-map pairs.items (entry_of r.pointer)) in
+      gone (ap (λ t. t.shape) does.0.1) (ap (λ t. t.list.entries) does.0.1)
+      (ap (λ t. t.list.generation) does.0.1 ∙ risen-each r.greatest s.tree.list first ∙ ap (λ k. risen r.greatest k s.tree.list.generation) count) (omega arith) (λ p of. of)
+  outcome asks f (commands.DrainOrdered num) (Refused AllocError) g does = kept does.0.1
+  outcome asks f (commands.DrainOrdered num) reply g does = absurd does.0
+  outcome asks f commands.FindWith reply g does = still reply does.1
+  outcome asks f commands.SimilarWith reply g does = still reply does.1
+  outcome asks f command reply g does = still reply does.0.1

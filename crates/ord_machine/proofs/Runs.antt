@@ -47,6 +47,6 @@ module _ {P T I G A F K : Type 0} (r : Reading P T I G K) (asks : F → Shown T 
   RunsBetween-more asked told so_far marks holds =
       let run = so_far marks holds in (
         marks_after command reply new run.0,
-        AreTrue-does mid new run.0 step.sound run.1 r asks between g command reply (step.does run.0 run.1),
+        AreTrue-does r asks (record { tree = mid; marks = run.0 }) between command reply new g step.sound run.1 (step.does run.0 run.1),
         Runs-more r asks command reply _ between _ g (step_from run.0 run.1) (record { tree = old; marks = marks }) f asked told run.2,
       )
