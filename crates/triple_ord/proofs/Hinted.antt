@@ -1,5 +1,5 @@
 -- A search that first makes steps from a hint: what it answers, and how many entries it visits.
-use Rattle.std.proofs.Common.{◌≡◌, ℕ, true, false, ◌+◌, ◌-◌, ◌^◌, ◌<◌, ◌≤◌, List, Option, Some, None, is_some, refl, arith, inl, inr, ◌⊎◌}
+use Rattle.std.proofs.Common.{◌≡◌, ℕ, true, false, ◌+◌, ◌-◌, ◌^◌, ◌<◌, ◌≤◌, List, Option, Some, None, IfNone, is_some, refl, arith, inl, inr, ◌⊎◌}
 use Rattle.std.proofs.Math.Nat.{pow-le-pow_left}
 use Rattle.std.specs.Option.{option_map}
 use Rattle.std.specs.declared.cmp.Ordering.{Ordering}
@@ -57,3 +57,12 @@ hinted-steps n shape num c few within = record { steps = c; search = 0; sum = om
 pub hinted-whole : (n : ℕ) (shape : Shape) (num steps c : ℕ) → steps ≤ num → steps ≤ n → steps ≤ c → IsWithinBounds n shape (c - steps) → IsWithinHintedBounds n shape num c
 hinted-whole n shape num steps c few within more bounded =
     record { steps = steps; search = c - steps; sum = omega (arith, more); few = few; within = within; bounded = bounded }
+
+-- a whole search alone
+pub hinted-alone : (n : ℕ) (shape : Shape) (num c : ℕ) → IsWithinBounds n shape c → IsWithinHintedBounds n shape num c
+hinted-alone n shape num c bounded = record { steps = 0; search = c; sum = omega arith; few = omega arith; within = omega arith; bounded = bounded }
+
+-- where the hint has an entry, nothing is claimed of a hint without one
+pub named-unhinted : {X : Type 0} (P : Type 0) (o : Option X) → true ≡ is_some o → IfNone o P
+named-unhinted P None there = absurd (cc)
+named-unhinted P (Some x) there = tt

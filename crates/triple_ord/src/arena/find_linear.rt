@@ -34,7 +34,7 @@ impl<P: Ptr, T: SimpleOrdItem, A: Allocator> SimpleOrdArena<P, T, A> {
         ensures found { (visits : ℕ) × FindsKey T.key_of T.Key.cmp self.now.list.entries k.now
             (option_map P.numbers result) visits }
     {
-        prove!(self.len() <= self.capacity());
+        prove!(self.len() <= usize::MAX);
         self.find_key_linear_counted(p_init, num, k).0
     }
 
@@ -73,7 +73,7 @@ impl<P: Ptr, T: SimpleOrdItem, A: Allocator> SimpleOrdArena<P, T, A> {
         ensures found { (visits : ℕ) × FindsSimilar T.key_of T.Key.cmp
             self.now.list.entries k.now (option_map (λ a. (P.numbers a.0, a.1)) result) visits }
     {
-        prove!(self.len() <= self.capacity());
+        prove!(self.len() <= usize::MAX);
         self.find_similar_key_linear_counted(p_init, num, k).0
     }
 

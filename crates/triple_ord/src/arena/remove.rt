@@ -29,7 +29,7 @@ impl<P: Ptr, T, A: Allocator> SimpleOrdArena<P, T, A> {
         ensures shape { OnSome (valid_value result) (IsShrunk self.old.shape self.new.shape) }
         ensures invalid { IfNone (valid_value result) (self.new ≡ self.old) }
     {
-        prove!(self.len() <= self.capacity());
+        prove!(self.len() <= usize::MAX);
         if !self.contains(p) {
             return InvalidationResult::InvalidPtr;
         }
@@ -52,7 +52,7 @@ impl<P: Ptr, T, A: Allocator> SimpleOrdArena<P, T, A> {
         ensures shape { OnSome (valid_value result) (IsShrunk self.old.shape self.new.shape) }
         ensures invalid { IfNone (valid_value result) (self.new ≡ self.old) }
     {
-        prove!(self.len() <= self.capacity());
+        prove!(self.len() <= usize::MAX);
         self.tree.remove_inx(i)
     }
 

@@ -2,7 +2,7 @@ use Rattle.std.proofs.Common.{◌-◌, sym, subst, ◌∙◌, arith}
 use Rattle.ord_tree.specs.Tree.{Tree}
 use Rattle.triple_ord.specs.Hint.{IsNearHint}
 use Rattle.triple_ord.specs.Ties.{taken}
-use Rattle.triple_ord.proofs.Hinted.{FindsSimilar-more, settled-similar, settled-near, open-near, hinted-steps, hinted-whole}
+use Rattle.triple_ord.proofs.Hinted.{FindsSimilar-more, settled-similar, settled-near, open-near, hinted-steps, hinted-whole, hinted-alone, named-unhinted}
 use Rattle.triple_ord.proofs.arena.SimpleOrdArena.search_from.Goals as goal
 
 pub returns-then-is_some-clause-found : goal.returns-then-is_some-clause-found
@@ -38,3 +38,19 @@ returns-clause-near g c =
     subst (λ (t : Tree g.row.T.Denot). IsNearHint g.T.SimpleOrdItem.key_of g.T.Key.Ord.cmp t.list.entries c.args.k.now (g.P.Inx.PtrInx.number c.args.p_init) c.args.num c.visits-2.result)
     (c.new-probe.ensures.tree ∙ c.self.view_is)
     (open-near _ _ _ _ _ _ _ _ _ c.step_along-near.ensures.near (sym c.is_some.ensures ∙ c.if-is_some.false))
+
+pub returns-then-not-contains_inx-clause-visits : goal.returns-then-not-contains_inx-clause-visits
+returns-then-not-contains_inx-clause-visits g c = hinted-alone _ _ _ _ c.search.ensures.visits
+
+pub returns-then-not-contains_inx-clause-near : goal.returns-then-not-contains_inx-clause-near
+returns-then-not-contains_inx-clause-near g c = λ ordered there.
+    let none = rw c.self.view_is at c.if-not-contains_inx.ensures in absurd (let both = none ∙ there in cc)
+
+pub returns-then-is_some-clause-unhinted : goal.returns-then-is_some-clause-unhinted
+returns-then-is_some-clause-unhinted g c = named-unhinted _ _ (rw c.self.view_is at c.if-not-contains_inx.ensures)
+
+pub returns-clause-unhinted : goal.returns-clause-unhinted
+returns-clause-unhinted g c = named-unhinted _ _ (rw c.self.view_is at c.if-not-contains_inx.ensures)
+
+pub step_along-near-requires-clause-occupied : goal.step_along-near-requires-clause-occupied
+step_along-near-requires-clause-occupied g c = rw c.new-probe.ensures.tree (sym c.if-not-contains_inx.ensures)
