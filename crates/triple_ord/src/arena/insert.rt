@@ -32,9 +32,9 @@ impl<P: Ptr, T: SimpleOrdItem + Drop, A: Allocator> SimpleOrdArena<P, T, A> {
     {
         // with its length an arena tells what holds of its list
         let _ = self.len();
-        let entry = self.entry_insert_within_capacity(OrdInsertKind::Normal(t.key()))?;
-        let p = entry.ptr().any();
-        Ok((p, entry.insert(t)))
+        let prepared = self.prepare_within(OrdInsertKind::Normal(t.key()))?;
+        let p = prepared.shown.any();
+        Ok((p, self.insert_prepared(prepared, t)))
     }
 
     /// Inserts an item by its key, and returns its pointer.
@@ -59,9 +59,9 @@ impl<P: Ptr, T: SimpleOrdItem + Drop, A: Allocator> SimpleOrdArena<P, T, A> {
     {
         // with its length an arena tells what holds of its list
         let _ = self.len();
-        let entry = self.entry_insert_reallocating(OrdInsertKind::Normal(t.key()))?;
-        let p = entry.ptr().any();
-        Ok((p, entry.insert(t)))
+        let prepared = self.prepare_reallocating(OrdInsertKind::Normal(t.key()))?;
+        let p = prepared.shown.any();
+        Ok((p, self.insert_prepared(prepared, t)))
     }
 
     /// The same as `insert_reallocating`.

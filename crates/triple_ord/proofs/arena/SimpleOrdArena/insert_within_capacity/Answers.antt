@@ -1,12 +1,9 @@
-use Rattle.std.proofs.Common.{Ok, ap, subst, ◌∙◌, rules}
-use Rattle.triple_ord.specs.EntryKind.{pointer_of}
-use Rattle.triple_ord.specs.Insertion.{within, InsertsWithin}
+use Rattle.triple_ord.specs.Insertion.{within}
 use Rattle.triple_ord.proofs.CallerLemmas.{entry-told}
 use Rattle.triple_ord.proofs.arena.SimpleOrdArena.insert_within_capacity.Goals as goal
 
 pub returns-clause-inserts : goal.returns-clause-inserts
 returns-clause-inserts g c =
-    let done = entry-told g.T.SimpleOrdItem.key_of g.T.Key.Ord.cmp g.P.Ptr.numbers g.P.Inx.PtrInx.number within g.P.Inx.PtrInx.most c.args.self.now c.in_ok-entry.entry.arena.now
-    c.insert.new.self.0 c.len.ensures.sound.distinct _ _ _ _ c.args.t c.insert.result c.any-p.result c.key.ensures (c.any-p.ensures ∙ ap pointer_of c.ptr.ensures)
-    c.in_ok-entry.ensures.place c.insert.ensures.inserts in
-    subst (λ u. InsertsWithin g.T.SimpleOrdItem.key_of g.T.Key.Ord.cmp g.P.Inx.PtrInx.most g.P.Ptr.numbers c.args.self.now c.args.t (Ok (c.any-p.result, c.insert.result)) u) (search rules) done
+    entry-told g.T.SimpleOrdItem.key_of g.T.Key.Ord.cmp g.P.Ptr.numbers g.P.Inx.PtrInx.number within g.P.Inx.PtrInx.most c.args.self.now c.prepare_within.new.self
+    c.insert_prepared.new.self c.len.ensures.sound.distinct _ _ _ _ c.args.t c.insert_prepared.result c.any-p.result c.key.ensures c.any-p.ensures
+    c.in_ok-prepared.ensures.place c.insert_prepared.ensures.inserts
