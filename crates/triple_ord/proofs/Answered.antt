@@ -1,16 +1,8 @@
 -- A search by a closure whose answers lie in order along the list.
-use Rattle.std.proofs.Common.{◌≡◌, ◌≢◌, ◌↔◌, ℕ, inl, inr, List, [], ◌∷◌, ◌++◌, Option, Some, None, IfSome, refl, sym, ap, subst, ◌∙◌, append_assoc}
-use Rattle.std.proofs.lemmas.List.Elements.{recursion_from_All, All-from_recursion, All-append, All-weaker, All-contains, Contains-append_cases}
-use Rattle.std.proofs.lemmas.Option.{IfSome_then}
-use Rattle.std.specs.List.{All, AllByRecursion, Contains, FoldsTo}
-use Rattle.std.specs.Option.{option_map}
-use Rattle.std.specs.declared.cmp.Ordering.{Ordering}
-use Rattle.std.specs.declared.cmp.Ordering.TheVariants.{Less, Equal, Greater}
-use Rattle.chain_base.specs.Chain.{Entry}
-use Rattle.triple_ord.specs.Gap.{Gap, first_of, last_or, before, after}
-use Rattle.triple_ord.specs.Search.{pointer}
-use Rattle.triple_ord.specs.ClosureSearch.{Shown, where_equal, FindsWith}
-use Rattle.triple_ord.specs.OrderLaws.{AreAnsweredInOrder, AnsweredInOrderLaw}
+use Rattle.triple_ord.proofs.Words.{◌≡◌, ◌≢◌, ◌↔◌, ℕ, inl, inr, List, [], ◌∷◌, ◌++◌, Option, Some, None, IfSome, refl, sym, ap, subst, ◌∙◌, append_assoc, recursion_from_All}
+use Rattle.triple_ord.proofs.Words.{All-from_recursion, All-append, All-weaker, All-contains, Contains-append_cases, IfSome_then, All, AllByRecursion, Contains, FoldsTo, option_map}
+use Rattle.triple_ord.proofs.Words.{Ordering, Less, Equal, Greater, Entry, Gap, first_of, last_or, before, after, pointer, Shown, where_equal, FindsWith, AreAnsweredInOrder}
+use Rattle.triple_ord.proofs.Words.{AnsweredInOrderLaw}
 
 -- what is true of each is true of the last
 last_holds : {X : Type 0} (P : X → Type 0) (other : Option X) (xs : List X) → IfSome other P → AllByRecursion P xs → IfSome (last_or other xs) P

@@ -1,23 +1,13 @@
 -- A chain of nodes and the list of its items: each look-up in the one reads what the other has.
-use Rattle.std.proofs.Common.{◌≡◌, ℕ, ◌↔◌, length, List, [], ◌∷◌, ◌++◌, Option, Some, None, IsSome, IfSome, is_some, refl, sym, ap, subst, ◌∙◌, inl, inr, ◌⊎◌, map}
-use Rattle.std.proofs.lemmas.Bool.Decides.{eqb_tells}
-use Rattle.std.proofs.lemmas.List.{length-map, nil_from_length}
-use Rattle.std.proofs.lemmas.Option.{IfSome_then}
-use Rattle.std.specs.Option.{option_map}
-use Rattle.arena_base.specs.Arena.{Arena, slot, item_if}
-use Rattle.chain_base.specs.Link.{Link}
-use Rattle.chain_base.specs.Chain.{Entry, Chain, entry_at, item_of, first_or, link_between, link_at, last_pointer, times, generation_at, IsFirstIndex, IsLastIndex, IsArenaOf}
+use Rattle.triple_ord.proofs.Words.{◌≡◌, ℕ, ◌↔◌, length, List, [], ◌∷◌, ◌++◌, Option, Some, None, IsSome, IfSome, is_some, refl, sym, ap, subst, ◌∙◌, inl, inr, ◌⊎◌, map, eqb_tells}
+use Rattle.triple_ord.proofs.Words.{length-map, nil_from_length, IfSome_then, option_map, Arena, slot, item_if, Link, Entry, Chain, entry_at, first_or, link_between, link_at}
+use Rattle.triple_ord.proofs.Words.{last_pointer, times, generation_at, IsFirstIndex, IsLastIndex, IsArenaOf, SimpleOrdArenaNode, Shape, missing, node, root_of, walk, Tree, IsChainOf}
+use Rattle.triple_ord.proofs.Words.{IsSoundTree, IsPart, IsNodeIn, IsShown, entry_at-link, entry_at-bare, is_some-bare, times-bare, indexes-bare}
+use Rattle.chain_base.specs.Chain.{item_of}
 use Rattle.ord_tree.specs.declared.tree_links.TreeLinks.{TreeLinks}
-use Rattle.ord_tree.specs.declared.node.SimpleOrdArenaNode.{SimpleOrdArenaNode}
-use Rattle.ord_tree.specs.Shape.{Shape, missing, node, root_of, walk}
 use Rattle.ord_tree.specs.Parents.{HasParentUnder}
 use Rattle.ord_tree.specs.Slots.{Slots, Holds, Among}
 use Rattle.ord_tree.specs.Node.{bare_entry, links_in, slots_of, indexes}
-use Rattle.ord_tree.specs.Tree.{Tree, IsChainOf, IsSoundTree}
-use Rattle.triple_ord.specs.Node.{IsPart, IsNodeIn}
-use Rattle.triple_ord.specs.Descent.{IsShown}
-use Rattle.chain_base.proofs.CallerLemmas.{entry_at-link}
-use Rattle.ord_tree.proofs.CallerLemmas.{entry_at-bare, is_some-bare, times-bare, indexes-bare}
 
 -- the option of a mapped value
 pub is_some-map : {A B : Type 0} (f : A → B) (o : Option A) → is_some (option_map f o) ≡ is_some o

@@ -1,15 +1,8 @@
 -- A search that goes down once stays within the bounds on its visits.
-use Rattle.std.proofs.Common.{◌≡◌, ℕ, zero, suc, ◌+◌, ◌-◌, ◌^◌, ◌<◌, ◌≤◌, length, Option, Some, None, ap, ◌∙◌, arith}
-use Rattle.std.proofs.lemmas.List.{length-map}
+use Rattle.triple_ord.proofs.Words.{◌≡◌, ℕ, zero, suc, ◌+◌, ◌-◌, ◌^◌, ◌<◌, ◌≤◌, length, Option, Some, None, ap, ◌∙◌, arith, length-map, limit_of, IsSound, size_of, rank_of, height, fib}
+use Rattle.triple_ord.proofs.Words.{Tree, IsSoundTree, size_of-walk, height-le-size, IsWithinBounds, VisitsLaw}
 use Rattle.std.proofs.Math.Pow.{pow_mono}
-use Rattle.arena_base.specs.Arena.{limit_of}
-use Rattle.chain_base.specs.Chain.{IsSound}
-use Rattle.ord_tree.specs.Shape.{size_of, rank_of, height}
-use Rattle.ord_tree.specs.Numbers.{fib}
-use Rattle.ord_tree.specs.Tree.{Tree, IsSoundTree}
 use Rattle.ord_tree.specs.Laws.{HeightLaw, RankSquareLaw, TightRankLaw, RebuiltHeightLaw}
-use Rattle.ord_tree.proofs.CallerLemmas.{size_of-walk, height-le-size}
-use Rattle.triple_ord.specs.VisitBounds.{IsWithinBounds, VisitsLaw}
 
 -- the Fibonacci numbers don't fall
 fib-step : (n : ℕ) → fib n ≤ fib (suc n)

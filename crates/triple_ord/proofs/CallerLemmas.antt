@@ -1,36 +1,20 @@
 -- For callers: what pointers find after each change of an ordered arena.
-use Rattle.std.proofs.Common.{◌≡◌, ◌≢◌, ℕ, ◌+◌, true, false, List, [], ◌∷◌, ◌++◌, length, Option, Some, None, IsSome, is_some, Bool, slice_get, map}
-use Rattle.std.proofs.Common.{length-append, IfSome, IfNone, OnSome, Ok, refl, sym, ap, subst, ◌∙◌, arith, inl, inr, if◌then◌else◌}
-use Rattle.std.proofs.lemmas.Bool.{eq-eqb, ne_eqb, cases_eq}
-use Rattle.std.proofs.lemmas.Bool.Decides.{eqb_tells, nat_tests}
-use Rattle.std.specs.Option.{option_map}
-use Rattle.std.specs.declared.cmp.Ordering.{Ordering}
-use Rattle.arena_base.specs.Generation.{next_generation}
-use Rattle.arena_base.specs.Arena.{item_if}
-use Rattle.chain_base.specs.Chain.{Entry, Chain, times, IsDistinct, entry_at as entry_among, removed, renewed, with_capacity, grown_capacity, inserted_at, next_index}
-use Rattle.chain_base.specs.Insert.{IsInsertion}
-use Rattle.chain_base.specs.Compression.{moved, at_compressed_index, numbered, Transferring, TransferStep, IsTransfer}
+use Rattle.triple_ord.proofs.Words.{◌≡◌, ◌≢◌, ℕ, ◌+◌, true, false, List, [], ◌∷◌, ◌++◌, length, Option, Some, None, IsSome, is_some, Bool, slice_get, map, length-append, IfSome, IfNone}
+use Rattle.triple_ord.proofs.Words.{OnSome, Ok, refl, sym, ap, subst, ◌∙◌, arith, inl, inr, if◌then◌else◌, eq-eqb, ne_eqb, cases_eq, eqb_tells, nat_tests, option_map, Ordering}
+use Rattle.triple_ord.proofs.Words.{next_generation, item_if, Entry, Chain, times, IsDistinct, removed, renewed, grown_capacity, inserted_at, next_index, IsInsertion, moved}
+use Rattle.triple_ord.proofs.Words.{at_compressed_index, numbered, Transferring, TransferStep, IsTransfer, FoldsTo, length-map, entry_at-absent, entry_at-without_other, entry_at-without}
+use Rattle.triple_ord.proofs.Words.{length-without, entry_at-with_item_among_other, entry_at-with_item_among, length-with_item_among, entry_at-with_generation_other}
+use Rattle.triple_ord.proofs.Words.{entry_at-with_generation, length-with_generation, entry_at-between_other, entry_at-between, length-between, entry_at-numbered}
+use Rattle.triple_ord.proofs.Words.{entry_at-numbered_before, generation-numbered, items-numbered, generation-moved, generation-relocated, Tree, IsGrown, with_item, Gap, with_between}
+use Rattle.triple_ord.proofs.Words.{Equal, pointer, FindsKey, FindsSimilar, Aim, at_key, beside, Place, into, over, IsPlace, aim_of, Growth, within, reallocating, with_slot, InsertsBy}
+use Rattle.triple_ord.proofs.Words.{told, OrdEntryKind, New, Replacing, OrdInsertKind, item_of, items, count, Updates, Renews, FindsBy, IsOfGeneration, IsNumbered, FindsNothing}
+use Rattle.chain_base.specs.Chain.{entry_at as entry_among, with_capacity}
 use Rattle.arena_base.specs.declared.invalidation.InvalidationOption.{InvalidationOption}
-use Rattle.std.specs.List.{FoldsTo}
-use Rattle.std.proofs.lemmas.List.{length-map}
-use Rattle.chain_base.proofs.CallerLemmas.{entry_at-absent, entry_at-without_other, entry_at-without, length-without, entry_at-with_item_among_other}
-use Rattle.chain_base.proofs.CallerLemmas.{entry_at-with_item_among, length-with_item_among, entry_at-with_generation_other, entry_at-with_generation}
-use Rattle.chain_base.proofs.CallerLemmas.{length-with_generation, entry_at-between_other, entry_at-between, length-between, entry_at-numbered}
-use Rattle.chain_base.proofs.CallerLemmas.{entry_at-numbered_before, generation-numbered, items-numbered, generation-moved, generation-relocated}
-use Rattle.ord_tree.specs.Tree.{Tree, IsGrown, with_item}
-use Rattle.triple_ord.specs.Gap.{Gap, with_between}
-use Rattle.std.specs.declared.cmp.Ordering.TheVariants.{Equal}
-use Rattle.triple_ord.specs.Search.{pointer, FindsKey, FindsSimilar}
-use Rattle.triple_ord.specs.Place.{Aim, at_key, beside, Place, into, over, IsPlace, aim_of}
-use Rattle.triple_ord.specs.Insertion.{Growth, within, reallocating, with_slot, InsertsBy, told}
 use Rattle.triple_ord.specs.EntryKind.{pointer_of}
 use Rattle.triple_ord.specs.Entry.{InsertsThere, Awaits, IsEntryFor}
-use Rattle.triple_ord.specs.declared.entry_kind.OrdEntryKind.{OrdEntryKind}
-use Rattle.triple_ord.specs.declared.entry_kind.OrdEntryKind.TheVariants.{New, Replacing}
-use Rattle.triple_ord.specs.declared.insert_kind.OrdInsertKind.{OrdInsertKind}
 use Rattle.triple_ord.specs.declared.insert_kind.OrdInsertKind.TheVariants.{Normal}
 use Rattle.triple_ord.proofs.Inserting.{entry_at-after, similar-here, IsInsertion-same}
-use Rattle.triple_ord.specs.Arena.{item_of, entry_at, items, count, Updates, Renews, FindsBy, IsOfGeneration, IsNumbered, FindsNothing}
+use Rattle.triple_ord.specs.Arena.{entry_at}
 
 -- what an entry shows to its own generation, and to others
 pub item_if-own : {T : Type 0} (g : ℕ) (o : Option T) → item_if g (option_map (λ x. (g, x)) o) ≡ o

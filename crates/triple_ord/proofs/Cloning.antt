@@ -1,18 +1,12 @@
 -- A clone of an ordered arena whose calls each give the item that they are shown.
-use Rattle.std.proofs.Common.{◌≡◌, ℕ, ◌<◌, Option, Result, Ok, Err, OnOk, [], refl, ap, ◌∙◌, List, length, ◌⊎◌, inl, inr, arith}
-use Rattle.std.proofs.lemmas.List.{nil_from_length}
-use Rattle.std.specs.Borrow.{Bor}
+use Rattle.triple_ord.proofs.Words.{◌≡◌, ℕ, ◌<◌, Option, Result, Ok, Err, OnOk, [], refl, ap, ◌∙◌, List, length, ◌⊎◌, inl, inr, arith, nil_from_length, Bor, Entry, Chain, IsSound}
+use Rattle.triple_ord.proofs.Words.{greatest_index, clone-same, refused-some, Shape, Tree, count, FindSame}
 use Rattle.std.specs.declared.alloc.AllocError.{AllocError}
 use Rattle.arena_base.specs.Clone.{Grants}
 use Rattle.arena_base.specs.declared.error.ReallocationError.{ReallocationError}
 use Rattle.arena_base.specs.declared.error.ReallocationError.TheVariants.{BeyondMaxCapacity, AllocError as NoMemory}
-use Rattle.chain_base.specs.Chain.{Entry, Chain, IsSound, greatest_index}
 use Rattle.chain_base.specs.Clone.{taken_over}
-use Rattle.chain_base.proofs.CallerLemmas.{clone-same, refused-some}
-use Rattle.ord_tree.specs.Shape.{Shape}
-use Rattle.ord_tree.specs.Tree.{Tree}
 use Rattle.ord_tree.specs.Clone.{ShowsItem, IsClone, IsRefusedClone}
-use Rattle.triple_ord.specs.Arena.{count, FindSame}
 use Rattle.triple_ord.specs.Clone.{cloned, emptied}
 
 module _ {P T F : Type 0} (numbers : P → ℕ × ℕ) (step : F → P → Bor T → Result T AllocError → F → Type 0)

@@ -1,25 +1,18 @@
 -- The finite map that an ordered arena is, after changes of its capacity and compressions, and its first and last indexes.
-use Rattle.std.proofs.Common.{◌≡◌, ℕ, zero, suc, ◌+◌, ◌-◌, ◌<◌, ◌≤◌, ◌↔◌, Option, Some, None, Result, Ok, Err, List, [], ◌∷◌, ◌++◌, length, map, get_or, take}
-use Rattle.std.proofs.Common.{drop, reverse, replicate, slice_get, is_some, Bool, true, false, max, IsSome, refl, sym, ap, subst, ◌∙◌, add-one, arith, inl, inr}
-use Rattle.std.specs.Option.{option_map, IfSome}
-use Rattle.std.specs.Result.{OnOk}
-use Rattle.std.specs.List.{FoldsTo}
-use Rattle.std.proofs.lemmas.Bool.Decides.{eqb_tells, leb_tells}
-use Rattle.std.proofs.lemmas.Bool.{false≢true}
-use Rattle.std.proofs.lemmas.List.{same_lists, get_or_default, length-append, take-map, drop-map}
-use Rattle.std.proofs.lemmas.Option.{slice_get_past, same_Some, IfSome_then}
-use Rattle.arena_base.specs.Arena.{Arena, HoldsSame, slot, item_if, item_of, greatest_occupied, with_capacity, resized, IsFirstEntry, IsLastEntry, arena_len}
-use Rattle.arena_base.specs.Walk.{Walk, pointers_from, entries_from, entries_rising as arena_rising, walk_rest, WalkSteps}
+use Rattle.triple_ord.proofs.Words.{◌≡◌, ℕ, zero, suc, ◌+◌, ◌-◌, ◌<◌, ◌≤◌, ◌↔◌, Option, Some, None, Result, Ok, Err, List, [], ◌∷◌, ◌++◌, length, map, get_or, take, drop, reverse}
+use Rattle.triple_ord.proofs.Words.{replicate, slice_get, is_some, Bool, true, false, max, IsSome, refl, sym, ap, subst, ◌∙◌, add-one, arith, inl, inr, option_map, IfSome, OnOk, FoldsTo}
+use Rattle.triple_ord.proofs.Words.{eqb_tells, leb_tells, false≢true, same_lists, get_or_default, length-append, take-map, drop-map, slice_get_past, same_Some, IfSome_then, Arena}
+use Rattle.triple_ord.proofs.Words.{HoldsSame, slot, item_if, greatest_occupied, with_capacity, resized, IsFirstEntry, IsLastEntry, arena_len, Walk, pointers_from, entries_from}
+use Rattle.triple_ord.proofs.Words.{walk_rest, WalkSteps, Entry, Chain, entry_at, times, IsSound, greatest_index, IsFirstIndex, IsLastIndex, IsArenaOf, entry_before, rising_among}
+use Rattle.triple_ord.proofs.Words.{entries_rising, moved, entry_at-absent, length-entries, compressed-at, compressed-length, entry_at-compressed, occurs-entry, below-greatest}
+use Rattle.triple_ord.proofs.Words.{greatest-or_none, times-greatest, below-greatest_index, Link, SimpleOrdArenaNode, Tree, IsChainOf, slots_from, content_of, slot_is, item_is, len_is}
+use Rattle.triple_ord.proofs.Words.{length-slots, slots-within, slots-beyond, outside}
+use Rattle.arena_base.specs.Arena.{item_of}
+use Rattle.arena_base.specs.Walk.{entries_rising as arena_rising}
 use Rattle.arena_base.specs.Compression.{CompressionStep, IsCompression, compressed}
-use Rattle.chain_base.specs.Chain.{Entry, Chain, entry_at, times, IsSound, greatest_index, IsFirstIndex, IsLastIndex, IsArenaOf, with_capacity as chain_with_capacity}
-use Rattle.chain_base.specs.Compression.{entry_before, rising_among, entries_rising, moved, compressed as chain_compressed, IsCompression as IsChainCompression}
-use Rattle.chain_base.proofs.CallerLemmas.{entry_at-absent, length-entries, compressed-at, compressed-length, entry_at-compressed, occurs-entry, below-greatest, greatest-or_none, times-greatest, below-greatest_index}
-use Rattle.chain_base.specs.Link.{Link}
-use Rattle.ord_tree.specs.declared.node.SimpleOrdArenaNode.{SimpleOrdArenaNode}
-use Rattle.ord_tree.specs.Tree.{Tree, IsChainOf}
-use Rattle.triple_ord.specs.Content.{slots_from, content_of}
+use Rattle.chain_base.specs.Chain.{with_capacity as chain_with_capacity}
+use Rattle.chain_base.specs.Compression.{compressed as chain_compressed, IsCompression as IsChainCompression}
 use Rattle.triple_ord.specs.SlotWalk.{SlotWalkSteps}
-use Rattle.triple_ord.specs.ContentLaws.{slot_is, item_is, len_is, length-slots, slots-within, slots-beyond, outside}
 use Rattle.triple_ord.proofs.Bare.{link_generation-under, capacity-under}
 
 -- slots that are as many and show the same are the same

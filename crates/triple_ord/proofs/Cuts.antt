@@ -1,14 +1,7 @@
 -- A list cut at one of its elements: its ends, and what an entry's index finds where it stands once.
-use Rattle.std.proofs.Common.{◌≡◌, ℕ, List, [], ◌∷◌, ◌++◌, Option, Some, None, IsSome, length, refl, ap, arith, inl, inr}
-use Rattle.std.proofs.lemmas.Bool.{eq-eqb}
-use Rattle.std.proofs.lemmas.Bool.Decides.{eqb_tells}
-use Rattle.std.proofs.lemmas.Grind.{common_steps}
-use Rattle.std.specs.Option.{option_map}
-use Rattle.chain_base.specs.Link.{Link}
-use Rattle.chain_base.specs.Chain.{Entry, times, IsDistinct, entry_at, first_or, link_between, link_at, from_index, insert_after, insert_before, with_item_among}
-use Rattle.chain_base.proofs.CallerLemmas.{times-append, entry_at-between}
-use Rattle.triple_ord.specs.Gap.{first_of, last_or}
-use Rattle.triple_ord.specs.Hint.{position_of}
+use Rattle.triple_ord.proofs.Words.{◌≡◌, ℕ, List, [], ◌∷◌, ◌++◌, Option, Some, None, IsSome, length, refl, ap, arith, inl, inr, eq-eqb, eqb_tells, common_steps, option_map, Link, Entry}
+use Rattle.triple_ord.proofs.Words.{times, IsDistinct, entry_at, first_or, link_between, link_at, from_index, insert_after, insert_before, with_item_among, times-append, entry_at-between}
+use Rattle.triple_ord.proofs.Words.{first_of, last_or, position_of}
 
 module _ {X : Type 0} where
   -- the last of a list that goes on

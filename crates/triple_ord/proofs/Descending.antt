@@ -1,24 +1,11 @@
 -- A descent from the root: how it begins, goes down, and ends.
-use Rattle.std.proofs.Common.{◌≡◌, ◌≢◌, ℕ, true, false, ◌+◌, ◌-◌, ◌≤◌, List, [], ◌∷◌, ◌++◌, Option, Some, None, IsSome, IfSome, MatchOption, Contains}
-use Rattle.std.proofs.Common.{refl, sym, ap, subst, ◌∙◌, arith, inl, inr, ◌⊎◌, max, map, length, append_assoc}
-use Rattle.std.proofs.lemmas.Fn.{FoldsTo-push}
-use Rattle.std.proofs.lemmas.List.{append-nil, length_push, map_push}
-use Rattle.std.proofs.lemmas.List.Elements.{All-nil, All-cons, All-head, All-tail, All-push, Contains-append_left, Contains-append_right, Contains-push}
-use Rattle.std.proofs.lemmas.Option.{IfSome_then}
-use Rattle.std.specs.List.{All, FoldsTo}
-use Rattle.std.specs.Option.{option_map}
-use Rattle.std.specs.Ordering.{is_eq, ordering_then}
-use Rattle.std.specs.declared.cmp.Ordering.{Ordering}
-use Rattle.std.specs.declared.cmp.Ordering.TheVariants.{Less, Equal, Greater}
-use Rattle.chain_base.specs.Chain.{Entry, times, IsDistinct, entry_at}
-use Rattle.chain_base.proofs.CallerLemmas.{times-append}
-use Rattle.ord_tree.specs.Shape.{Shape, missing, node, root_of, walk, height}
-use Rattle.ord_tree.specs.Tree.{Tree}
-use Rattle.triple_ord.specs.Gap.{Gap, first_of, last_or}
-use Rattle.triple_ord.specs.Search.{order_to, pointer, IsFirstEqual, StopsAt, IsBeside, FindsKey, FindsSimilar}
-use Rattle.triple_ord.specs.Node.{IsPart}
-use Rattle.triple_ord.specs.ClosureSearch.{Shown, entries_of, but_last, IsSearch, where_equal, similar_of, FindsWith, FindsSimilarWith}
-use Rattle.triple_ord.specs.Descent.{IsShown, side_of, IsDescending, HasDescended}
+use Rattle.triple_ord.proofs.Words.{◌≡◌, ◌≢◌, ℕ, true, false, ◌+◌, ◌-◌, ◌≤◌, List, [], ◌∷◌, ◌++◌, Option, Some, None, IsSome, IfSome, MatchOption, refl, sym, ap, subst, ◌∙◌, arith, inl}
+use Rattle.triple_ord.proofs.Words.{inr, ◌⊎◌, max, map, length, append_assoc, FoldsTo-push, append-nil, length_push, map_push, All-nil, All-cons, All-head, All-tail, All-push}
+use Rattle.triple_ord.proofs.Words.{Contains-append_left, Contains-append_right, Contains-push, IfSome_then, All, FoldsTo, option_map, is_eq, ordering_then, Ordering, Less, Equal}
+use Rattle.triple_ord.proofs.Words.{Greater, Entry, times, IsDistinct, entry_at, times-append, Shape, missing, node, root_of, walk, height, Tree, Gap, first_of, last_or, order_to}
+use Rattle.triple_ord.proofs.Words.{pointer, IsFirstEqual, StopsAt, IsBeside, FindsKey, FindsSimilar, IsPart, Shown, entries_of, but_last, IsSearch, where_equal, similar_of, FindsWith}
+use Rattle.triple_ord.proofs.Words.{FindsSimilarWith, IsShown, side_of, IsDescending, HasDescended}
+use Rattle.std.proofs.Common.{Contains}
 use Rattle.triple_ord.proofs.Cuts.{last_or-append, no_first, no_last, entry_at-here}
 
 -- the sides of a part are parts

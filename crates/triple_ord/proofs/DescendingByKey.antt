@@ -1,20 +1,9 @@
 -- A descent by a key: how it begins, one step, and its end at the gap before the first of a group, or at one that fits.
-use Rattle.std.proofs.Common.{◌≡◌, ℕ, true, false, ◌+◌, ◌-◌, ◌≤◌, List, [], ◌∷◌, ◌++◌, Option, Some, None, IfSome, refl, sym, ap, ◌∙◌, arith, inl, inr, map, Contains, get_or, length}
-use Rattle.std.specs.Option.{option_map}
-use Rattle.std.specs.Ordering.{is_eq, ordering_then}
-use Rattle.std.specs.declared.cmp.Ordering.{Ordering}
-use Rattle.std.specs.declared.cmp.Ordering.TheVariants.{Less, Equal, Greater}
-use Rattle.std.proofs.lemmas.Bool.{cases_eq}
-use Rattle.std.proofs.lemmas.List.{length_push, get_or_default}
-use Rattle.std.proofs.lemmas.List.Elements.{All-nil, All-push, All-contains}
-use Rattle.std.proofs.lemmas.Option.{IfSome_then}
-use Rattle.chain_base.specs.Chain.{Entry, IsDistinct}
-use Rattle.ord_tree.specs.Shape.{root_of, walk}
-use Rattle.ord_tree.specs.Tree.{Tree}
-use Rattle.triple_ord.specs.Gap.{Gap, first_of, last_or, before, after, present}
-use Rattle.triple_ord.specs.Search.{order_to, pointer, StopsAt, FindsSimilar}
-use Rattle.triple_ord.specs.ClosureSearch.{Shown, where_equal}
-use Rattle.triple_ord.specs.Descent.{met_next, side_of, IsCompared, HasDescendedByKey}
+use Rattle.triple_ord.proofs.Words.{◌≡◌, ℕ, true, false, ◌+◌, ◌-◌, ◌≤◌, List, [], ◌∷◌, ◌++◌, Option, Some, None, IfSome, refl, sym, ap, ◌∙◌, arith, inl, inr, map, get_or, length}
+use Rattle.triple_ord.proofs.Words.{option_map, is_eq, ordering_then, Ordering, Less, Equal, Greater, cases_eq, length_push, get_or_default, All-nil, All-push, All-contains, IfSome_then}
+use Rattle.triple_ord.proofs.Words.{Entry, IsDistinct, root_of, walk, Tree, Gap, first_of, last_or, before, after, present, order_to, pointer, StopsAt, FindsSimilar, Shown, where_equal}
+use Rattle.triple_ord.proofs.Words.{met_next, side_of, IsCompared, HasDescendedByKey}
+use Rattle.std.proofs.Common.{Contains}
 use Rattle.triple_ord.proofs.Cuts.{last_or-append}
 use Rattle.triple_ord.proofs.Descending.{IsDescending-begin, step-entry, step-pointer, step-item, step-side, cut_there, descent-empty}
 

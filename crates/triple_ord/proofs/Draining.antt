@@ -1,13 +1,7 @@
 -- A removal, by what a walk by index still gives.
-use Rattle.std.proofs.Common.{◌≡◌, ℕ, zero, suc, ◌+◌, ◌-◌, ◌≤◌, Option, Some, None, List, [], ◌∷◌, Bool, true, false, set, take, drop, reverse, get_or, sym, ap, refl, ◌∙◌, arith}
-use Rattle.std.proofs.lemmas.List.{take-set-le, drop-set-lt}
-use Rattle.arena_base.specs.Arena.{item_if}
-use Rattle.arena_base.specs.Walk.{Walk, pointers_from, pointers, walk_rest, walk_from}
-use Rattle.chain_base.specs.Chain.{IsSound, removed}
-use Rattle.ord_tree.specs.Tree.{Tree}
-use Rattle.triple_ord.specs.Arena.{FindsNothing}
-use Rattle.triple_ord.specs.Content.{content_of}
-use Rattle.triple_ord.specs.ContentLaws.{item_is, content_removed}
+use Rattle.triple_ord.proofs.Words.{◌≡◌, ℕ, zero, suc, ◌+◌, ◌-◌, ◌≤◌, Option, Some, None, List, [], ◌∷◌, Bool, true, false, set, take, drop, reverse, get_or, sym, ap, refl, ◌∙◌, arith}
+use Rattle.triple_ord.proofs.Words.{take-set-le, drop-set-lt, item_if, Walk, pointers_from, pointers, walk_rest, walk_from, IsSound, removed, Tree, FindsNothing, content_of, item_is}
+use Rattle.triple_ord.proofs.Words.{content_removed}
 
 module _ {T : Type 0} where
   -- no pointer has an index before the first slot's

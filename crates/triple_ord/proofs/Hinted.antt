@@ -1,14 +1,7 @@
 -- A search that first makes steps from a hint: what it answers, and how many entries it visits.
-use Rattle.std.proofs.Common.{◌≡◌, ℕ, true, false, ◌+◌, ◌-◌, ◌^◌, ◌<◌, ◌≤◌, List, Option, Some, None, IfNone, is_some, refl, arith, inl, inr, ◌⊎◌}
+use Rattle.triple_ord.proofs.Words.{◌≡◌, ℕ, true, false, ◌+◌, ◌-◌, ◌^◌, ◌<◌, ◌≤◌, List, Option, Some, None, IfNone, is_some, refl, arith, inl, inr, ◌⊎◌, option_map, Ordering, Entry}
+use Rattle.triple_ord.proofs.Words.{Shape, IsFirstEqual, IsBeside, FindsSimilar, IsWithinBounds, IsWithinHintedBounds, IsNearHint, Settles, IsNear}
 use Rattle.std.proofs.Math.Nat.{pow-le-pow_left}
-use Rattle.std.specs.Option.{option_map}
-use Rattle.std.specs.declared.cmp.Ordering.{Ordering}
-use Rattle.chain_base.specs.Chain.{Entry}
-use Rattle.ord_tree.specs.Shape.{Shape}
-use Rattle.triple_ord.specs.Search.{IsFirstEqual, IsBeside, FindsSimilar}
-use Rattle.triple_ord.specs.VisitBounds.{IsWithinBounds, IsWithinHintedBounds}
-use Rattle.triple_ord.specs.Hint.{IsNearHint}
-use Rattle.triple_ord.specs.Steps.{Settles, IsNear}
 
 module _ {T K : Type 0} (key : T → K) (cmp : K → K → Ordering) (es : List (Entry T)) (k : K) where
   -- a search that visits more has seen no less

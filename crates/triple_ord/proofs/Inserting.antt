@@ -1,14 +1,8 @@
 -- Where an insertion by key puts its entry: from what the search answers to the gap in the list.
-use Rattle.std.proofs.Common.{◌≡◌, ◌≢◌, ℕ, ◌≤◌, true, false, List, [], ◌∷◌, ◌++◌, Some, IsSome, refl, sym, ap, ◌∙◌, arith, inl, inr, append_assoc}
+use Rattle.triple_ord.proofs.Words.{◌≡◌, ◌≢◌, ℕ, ◌≤◌, true, false, List, [], ◌∷◌, ◌++◌, Some, IsSome, refl, sym, ap, ◌∙◌, arith, inl, inr, append_assoc, is_eq, Ordering, Less, Equal}
+use Rattle.triple_ord.proofs.Words.{Greater, Entry, Chain, IsDistinct, entry_at, insert_after, insert_before, IsInsertion, put_on, Gap, before, after, present, with_between, order_to}
+use Rattle.triple_ord.proofs.Words.{StopsAt, IsFirstEqual, IsBeside, FindsSimilar}
 use Rattle.std.proofs.Math.Path.{fun_ext}
-use Rattle.std.specs.Ordering.{is_eq}
-use Rattle.std.specs.declared.cmp.Ordering.{Ordering}
-use Rattle.std.specs.declared.cmp.Ordering.TheVariants.{Less, Equal, Greater}
-use Rattle.chain_base.specs.Chain.{Entry, Chain, IsDistinct, entry_at, insert_after, insert_before}
-use Rattle.chain_base.specs.Insert.{IsInsertion}
-use Rattle.ord_tree.specs.Tree.{put_on}
-use Rattle.triple_ord.specs.Gap.{Gap, before, after, present, with_between}
-use Rattle.triple_ord.specs.Search.{order_to, StopsAt, IsFirstEqual, IsBeside, FindsSimilar}
 use Rattle.triple_ord.proofs.Cuts.{begins, ends, entry_at-here, insert_before-here, insert_after-here}
 use Rattle.triple_ord.proofs.Descending.{equal_by, first-of_equal, stop-of_other}
 

@@ -1,22 +1,8 @@
 -- An insertion by a key leaves a list in the order of its keys so.
-use Rattle.std.proofs.Common.{◌≡◌, ◌≢◌, ℕ, List, [], ◌∷◌, ◌++◌, Option, Some, None, IfSome, Result, Ok, Err, refl, sym, ap, subst, ◌∙◌, inl, inr, slice_get}
-use Rattle.std.proofs.lemmas.Option.{IfSome_then}
-use Rattle.std.specs.Cmp.{IsTotalOrder, alike_right}
-use Rattle.std.specs.Ordering.{ordering_reverse}
-use Rattle.std.specs.declared.cmp.Ordering.{Ordering}
-use Rattle.std.specs.declared.cmp.Ordering.TheVariants.{Less, Equal, Greater}
-use Rattle.chain_base.specs.Chain.{Entry, Chain, IsDistinct, inserted_at, with_item_among}
-use Rattle.chain_base.specs.Insert.{IsInsertion}
-use Rattle.ord_tree.specs.Tree.{Tree}
-use Rattle.triple_ord.specs.Gap.{Gap, first_of, last_or, before, after, with_between}
-use Rattle.triple_ord.specs.Search.{IsFirstEqual}
-use Rattle.triple_ord.specs.Order.{IsInOrder}
-use Rattle.triple_ord.specs.Place.{Aim, into, over, LiesBehind, IsPlace}
-use Rattle.triple_ord.specs.Insertion.{InsertsBy}
-use Rattle.triple_ord.specs.OrderLaws.{GoesBy, KeptOrderLaw}
-use Rattle.triple_ord.specs.declared.entry_kind.OrdEntryKind.{OrdEntryKind}
-use Rattle.triple_ord.specs.declared.entry_kind.OrdEntryKind.TheVariants.{New, Replacing}
-use Rattle.triple_ord.specs.declared.error.OrdInsertionError.{OrdInsertionError}
+use Rattle.triple_ord.proofs.Words.{◌≡◌, ◌≢◌, ℕ, List, [], ◌∷◌, ◌++◌, Option, Some, None, IfSome, Result, Ok, Err, refl, sym, ap, subst, ◌∙◌, inl, inr, slice_get, IfSome_then}
+use Rattle.triple_ord.proofs.Words.{IsTotalOrder, alike_right, ordering_reverse, Ordering, Less, Equal, Greater, Entry, Chain, IsDistinct, inserted_at, with_item_among, IsInsertion, Tree}
+use Rattle.triple_ord.proofs.Words.{Gap, first_of, last_or, before, after, with_between, IsFirstEqual, IsInOrder, Aim, into, over, LiesBehind, IsPlace, InsertsBy, GoesBy, KeptOrderLaw}
+use Rattle.triple_ord.proofs.Words.{OrdEntryKind, New, Replacing, OrdInsertionError}
 use Rattle.triple_ord.proofs.Cuts.{begins, with_item-here}
 use Rattle.triple_ord.proofs.Ordered.{IsInOrder-rest, in_order-one, in_order-more}
 

@@ -1,19 +1,8 @@
 -- The laws of lists in order and of rebuilt shapes.
-use Rattle.std.proofs.Common.{◌≡◌, ℕ, inl, inr, List, [], ◌∷◌, ◌++◌, Some, None, refl, sym, ap, subst, ◌∙◌, arith, ◌/◌, ◌-◌}
-use Rattle.std.proofs.lemmas.Bool.{cases_order}
-use Rattle.std.specs.List.{AllByRecursion, Contains}
-use Rattle.std.specs.Cmp.{IsTotalOrder}
-use Rattle.std.proofs.lemmas.List.Elements.{All-from_recursion, All-contains, Contains-append_cases, Contains-append_right}
-use Rattle.std.specs.declared.cmp.Ordering.{Ordering}
-use Rattle.std.specs.declared.cmp.Ordering.TheVariants.{Less, Greater}
-use Rattle.chain_base.specs.Chain.{Entry}
-use Rattle.ord_tree.specs.Numbers.{IsTop}
-use Rattle.ord_tree.specs.Shape.{Shape, missing, node, size_of}
+use Rattle.triple_ord.proofs.Words.{◌≡◌, ℕ, inl, inr, List, [], ◌∷◌, ◌++◌, Some, None, refl, sym, ap, subst, ◌∙◌, arith, ◌/◌, ◌-◌, cases_order, AllByRecursion, Contains, IsTotalOrder}
+use Rattle.triple_ord.proofs.Words.{All-from_recursion, All-contains, Contains-append_cases, Contains-append_right, Ordering, Less, Greater, Entry, IsTop, Shape, missing, node, size_of}
+use Rattle.triple_ord.proofs.Words.{Gap, order_to, Fits, IsFirstEqual, IsInOrder, IsAbsent, AbsentKeyLaw, IsPlaceOf, BesidePlaceLaw, ranks_of, SameRanksLaw}
 use Rattle.ord_tree.specs.Half.{IsHalf, half_rank}
-use Rattle.triple_ord.specs.Gap.{Gap}
-use Rattle.triple_ord.specs.Search.{order_to, Fits, IsFirstEqual}
-use Rattle.triple_ord.specs.Order.{IsInOrder}
-use Rattle.triple_ord.specs.OrderLaws.{IsAbsent, AbsentKeyLaw, IsPlaceOf, BesidePlaceLaw, ranks_of, SameRanksLaw}
 use Rattle.triple_ord.proofs.Cuts.{begins}
 use Rattle.triple_ord.proofs.Ordered.{IsInOrder-back, all_greater, all_less}
 

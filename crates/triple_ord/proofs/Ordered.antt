@@ -1,15 +1,7 @@
 -- A list in the order of its keys, with a gap that fits a key: the key is greater than all before the gap, and less than all after it.
-use Rattle.std.proofs.Common.{◌≡◌, ◌≢◌, ◌↔◌, true, false, ◌<◌, ◌≤◌, List, [], ◌∷◌, ◌++◌, IfSome, None, length, refl, sym, ap, subst, ◌∙◌, arith, inl, inr, length-append}
-use Rattle.std.proofs.lemmas.Bool.Decides.{leb_tells}
-use Rattle.std.specs.List.{AllByRecursion}
-use Rattle.std.specs.Cmp.{IsTotalOrder, alike_right}
-use Rattle.std.specs.Ordering.{ordering_reverse, is_gt}
-use Rattle.std.specs.declared.cmp.Ordering.{Ordering}
-use Rattle.std.specs.declared.cmp.Ordering.TheVariants.{Less, Equal, Greater}
-use Rattle.chain_base.specs.Chain.{Entry}
-use Rattle.triple_ord.specs.Gap.{Gap, first_of, last_or}
-use Rattle.triple_ord.specs.Search.{order_to, Fits}
-use Rattle.triple_ord.specs.Order.{IsInOrder}
+use Rattle.triple_ord.proofs.Words.{◌≡◌, ◌≢◌, ◌↔◌, true, false, ◌<◌, ◌≤◌, List, [], ◌∷◌, ◌++◌, IfSome, None, length, refl, sym, ap, subst, ◌∙◌, arith, inl, inr, length-append, leb_tells}
+use Rattle.triple_ord.proofs.Words.{AllByRecursion, IsTotalOrder, alike_right, ordering_reverse, is_gt, Ordering, Less, Equal, Greater, Entry, Gap, first_of, last_or, order_to, Fits}
+use Rattle.triple_ord.proofs.Words.{IsInOrder}
 
 -- what stands at a place of the front, and of the back, of a list that is cut in two
 module _ {X : Type 0} (P : X → Type 0) where

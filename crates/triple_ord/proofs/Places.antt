@@ -1,35 +1,16 @@
 -- The place of an insertion, from what a search answers or from an index.
-use Rattle.std.proofs.Common.{◌≡◌, ◌≢◌, ◌==◌, if◌then◌else◌, IfNone, is_some, ℕ, ◌+◌, ◌≤◌, false, true, length, slice_get, List, [], ◌∷◌, ◌++◌, Option, Some, None, IsSome, Result, Ok, Err, IfErr, refl, sym, ap, subst, ◌∙◌, arith, append_assoc}
-use Rattle.std.proofs.lemmas.Bool.{eq-eqb}
-use Rattle.std.proofs.lemmas.Bool.Decides.{nat_tests}
-use Rattle.std.proofs.lemmas.List.{nil_from_length}
-use Rattle.std.proofs.lemmas.Option.{IfSome_then}
-use Rattle.std.specs.Option.{option_map}
-use Rattle.std.specs.Ordering.{is_eq}
-use Rattle.std.specs.declared.cmp.Ordering.{Ordering}
-use Rattle.std.specs.declared.cmp.Ordering.TheVariants.{Less, Equal, Greater}
-use Rattle.std.specs.Result.{IsErrAnd}
-use Rattle.chain_base.specs.Chain.{Entry, Chain, entry_at, next_index, IsDistinct, IsSound}
-use Rattle.chain_base.specs.Insert.{IsInsertion}
-use Rattle.ord_tree.specs.Tree.{Tree, IsGrown, put_on, put_at, with_item}
-use Rattle.triple_ord.specs.Arena.{item_of, count, Updates}
+use Rattle.triple_ord.proofs.Words.{◌≡◌, ◌≢◌, ◌==◌, if◌then◌else◌, IfNone, is_some, ℕ, ◌+◌, ◌≤◌, false, true, length, slice_get, List, [], ◌∷◌, ◌++◌, Option, Some, None, IsSome, Result}
+use Rattle.triple_ord.proofs.Words.{Ok, Err, IfErr, refl, sym, ap, subst, ◌∙◌, arith, append_assoc, eq-eqb, nat_tests, nil_from_length, IfSome_then, option_map, is_eq, Ordering, Less}
+use Rattle.triple_ord.proofs.Words.{Equal, Greater, IsErrAnd, Entry, Chain, entry_at, next_index, IsDistinct, IsSound, IsInsertion, Tree, IsGrown, put_on, put_at, with_item, item_of}
+use Rattle.triple_ord.proofs.Words.{count, Updates, IsNearHint, IsWithinBounds, IsWithinHintedBounds, Gap, before, after, with_between, Fits, FindsSimilar, taken, Ties, Sought, Passed}
+use Rattle.triple_ord.proofs.Words.{Aim, alone, at_key, behind_key, beside, Place, into, over, nowhere, IsPlace, aim_of, Growth, within, reallocating, with_slot, LacksSlot, IsRefused}
+use Rattle.triple_ord.proofs.Words.{InsertsBeside, OrdInsertKind, OrdInsertionError, NotWithinCapacity}
 use Rattle.triple_ord.specs.EntryVisits.{HasSeen}
-use Rattle.triple_ord.specs.Hint.{IsNearHint}
-use Rattle.triple_ord.specs.VisitBounds.{IsWithinBounds, IsWithinHintedBounds}
-use Rattle.triple_ord.specs.Gap.{Gap, before, after, with_between}
-use Rattle.triple_ord.specs.Search.{Fits, FindsSimilar}
-use Rattle.triple_ord.specs.Ties.{taken}
-use Rattle.triple_ord.specs.declared.ties.Ties.{Ties}
-use Rattle.triple_ord.specs.declared.ties.Ties.TheVariants.{Sought, Passed}
 use Rattle.triple_ord.specs.declared.prepared.InsertPlace.{InsertPlace}
 use Rattle.triple_ord.proofs.Cuts.{last_or-append, stands}
 use Rattle.triple_ord.proofs.Taken.{taken-less, taken-greater, passed-unequal}
-use Rattle.triple_ord.specs.Place.{Aim, alone, at_key, behind_key, beside, Place, into, over, nowhere, IsPlace, aim_of}
 use Rattle.triple_ord.specs.Prepared.{Keeps, IsFoundPlace, IsPlaceBeside, IsPlaceFor, HasRoomAt, kind_by, kind_near}
-use Rattle.triple_ord.specs.Insertion.{Growth, within, reallocating, with_slot, LacksSlot, IsRefused, InsertsBeside}
-use Rattle.triple_ord.specs.declared.insert_kind.OrdInsertKind.{OrdInsertKind}
-use Rattle.triple_ord.specs.declared.error.OrdInsertionError.{OrdInsertionError}
-use Rattle.triple_ord.specs.declared.error.OrdInsertionError.TheVariants.{NotWithinCapacity, BeyondMaxCapacity, AllocError}
+use Rattle.triple_ord.specs.declared.error.OrdInsertionError.TheVariants.{BeyondMaxCapacity, AllocError}
 use Rattle.triple_ord.proofs.CallerLemmas.{entries-with_slot, updates-written, count-written, inserted-new}
 use Rattle.triple_ord.specs.declared.prepared.InsertPlace.TheVariants.{New, Replacing}
 use Rattle.triple_ord.proofs.Inserting.{HasPlace, place-alone, similar-placed, similar-occupied, similar-here, similar-first, similar-seen, not_equal, IsInsertion-same, puts-before, puts-after}

@@ -1,17 +1,8 @@
 -- How far a recast has come.
-use Rattle.std.proofs.Common.{◌≡◌, ◌≢◌, ◌⊎◌, ℕ, suc, ◌+◌, ◌<◌, ◌≤◌, List, [], ◌∷◌, ◌++◌, length, drop, is_some, false, Option, Some, None, Result, Ok, Err, refl, sym, ap, ◌∙◌, arith, inl, inr}
-use Rattle.std.proofs.lemmas.Bool.{cases_eq}
-use Rattle.std.proofs.lemmas.List.{drop_more, drop_all, append_assoc}
-use Rattle.std.proofs.lemmas.Fn.{FoldsTo-push}
-use Rattle.std.specs.List.{FoldsTo}
-use Rattle.std.specs.Option.{option_map}
-use Rattle.arena_base.specs.Walk.{pointers, pointers_from}
-use Rattle.chain_base.specs.Chain.{IsSound}
-use Rattle.chain_base.proofs.CallerLemmas.{entry_at-with_item_among, entry_at-with_item_among_other}
-use Rattle.ord_tree.specs.Tree.{Tree, with_item}
+use Rattle.triple_ord.proofs.Words.{◌≡◌, ◌≢◌, ◌⊎◌, ℕ, suc, ◌+◌, ◌<◌, ◌≤◌, List, [], ◌∷◌, ◌++◌, length, drop, is_some, false, Option, Some, None, Result, Ok, Err, refl, sym, ap, ◌∙◌}
+use Rattle.triple_ord.proofs.Words.{arith, inl, inr, cases_eq, drop_more, drop_all, append_assoc, FoldsTo-push, FoldsTo, option_map, pointers, pointers_from, IsSound}
+use Rattle.triple_ord.proofs.Words.{entry_at-with_item_among, entry_at-with_item_among_other, Tree, with_item, content_of, slot_is, length-slots}
 use Rattle.triple_ord.specs.Arena.{entry_at}
-use Rattle.triple_ord.specs.Content.{content_of}
-use Rattle.triple_ord.specs.ContentLaws.{slot_is, length-slots}
 use Rattle.triple_ord.proofs.Bare.{option_map-twice}
 use Rattle.triple_ord.specs.Recasting.{RecastsItem, RecastsNext, RecastsItems}
 

@@ -1,15 +1,7 @@
 -- A list of entries from its end: each entry's neighbours change places. So a walk back along a list is one along the list from its end.
-use Rattle.std.proofs.Common.{◌≡◌, ℕ, Bool, true, false, List, [], ◌∷◌, ◌++◌, map, reverse, Option, Some, None, IsSome, refl, sym, ap, ◌∙◌, append_assoc, arith, inl, inr}
-use Rattle.std.proofs.lemmas.List.{reverse-append}
-use Rattle.std.proofs.lemmas.Bool.Decides.{eqb_tells}
-use Rattle.std.specs.Option.{option_map, option_and_then}
-use Rattle.chain_base.specs.Link.{Link}
-use Rattle.chain_base.specs.Chain.{Entry, times, IsDistinct, link_at}
-use Rattle.chain_base.proofs.CallerLemmas.{times-append, entry_at-link}
-use Rattle.ord_tree.specs.Tree.{Tree}
-use Rattle.triple_ord.specs.Gap.{first_of, last_or}
-use Rattle.triple_ord.specs.Search.{pointer}
-use Rattle.triple_ord.specs.Arena.{item_of}
+use Rattle.triple_ord.proofs.Words.{◌≡◌, ℕ, Bool, true, false, List, [], ◌∷◌, ◌++◌, map, reverse, Option, Some, None, IsSome, refl, sym, ap, ◌∙◌, append_assoc, arith, inl, inr}
+use Rattle.triple_ord.proofs.Words.{reverse-append, eqb_tells, option_map, option_and_then, Link, Entry, times, IsDistinct, link_at, times-append, entry_at-link, Tree, first_of, last_or}
+use Rattle.triple_ord.proofs.Words.{pointer, item_of}
 use Rattle.triple_ord.specs.OrderedWalk.{ordered_rest, GivesEntry}
 use Rattle.triple_ord.proofs.Cuts.{ends, no_last, stands, link-read}
 use Rattle.triple_ord.proofs.Walking.{at_entry, from-absent, link-absent, walk-step, walk-end}

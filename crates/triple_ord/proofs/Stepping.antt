@@ -1,18 +1,8 @@
 -- Steps from a hint: how they begin, go on, and end.
-use Rattle.std.proofs.Common.{◌≡◌, ◌≢◌, ℕ, suc, true, false, not, ◌==◌, ◌+◌, ◌<◌, ◌≤◌, List, [], ◌∷◌, ◌++◌, Option, Some, None, IsSome, IfSome, length, refl, sym, ap, ◌∙◌, arith, inl, inr, ◌⊎◌, append_assoc, length-append}
-use Rattle.std.proofs.lemmas.Bool.Decides.{leb_tells}
-use Rattle.std.specs.Option.{option_map}
-use Rattle.std.specs.Cmp.{IsTotalOrder}
-use Rattle.std.specs.Ordering.{is_eq, ordering_index, ordering_reverse}
-use Rattle.std.specs.declared.cmp.Ordering.{Ordering}
-use Rattle.std.specs.declared.cmp.Ordering.TheVariants.{Less, Equal, Greater}
-use Rattle.chain_base.specs.Link.{Link}
-use Rattle.chain_base.specs.Chain.{Entry, IsDistinct, entry_at, link_at}
-use Rattle.triple_ord.specs.Gap.{Gap, first_of, last_or, present}
-use Rattle.triple_ord.specs.Search.{order_to, pointer, Fits, FindsSimilar}
-use Rattle.triple_ord.specs.Order.{IsInOrder}
-use Rattle.triple_ord.specs.Hint.{position_of, way_length}
-use Rattle.triple_ord.specs.Steps.{neighbour_towards, CameFrom, IsStepping}
+use Rattle.triple_ord.proofs.Words.{◌≡◌, ◌≢◌, ℕ, suc, true, false, not, ◌==◌, ◌+◌, ◌<◌, ◌≤◌, List, [], ◌∷◌, ◌++◌, Option, Some, None, IsSome, IfSome, length, refl, sym, ap, ◌∙◌, arith}
+use Rattle.triple_ord.proofs.Words.{inl, inr, ◌⊎◌, append_assoc, length-append, leb_tells, option_map, IsTotalOrder, is_eq, ordering_index, ordering_reverse, Ordering, Less, Equal}
+use Rattle.triple_ord.proofs.Words.{Greater, Link, Entry, IsDistinct, entry_at, link_at, Gap, first_of, last_or, present, order_to, pointer, Fits, FindsSimilar, IsInOrder, position_of}
+use Rattle.triple_ord.proofs.Words.{way_length, neighbour_towards, CameFrom, IsStepping}
 use Rattle.triple_ord.proofs.Cuts.{last_or-append, begins, ends, some_last, stands, IsLinked, link-read, entry_at-here}
 use Rattle.triple_ord.proofs.Ordered.{stands-before, stands-behind}
 

@@ -1,11 +1,5 @@
 -- The order that a search takes, beside the order of the keys.
-use Rattle.std.proofs.Common.{◌≡◌, ◌≢◌, refl}
-use Rattle.std.specs.Ordering.{ordering_then}
-use Rattle.std.specs.declared.cmp.Ordering.{Ordering}
-use Rattle.std.specs.declared.cmp.Ordering.TheVariants.{Less, Equal, Greater}
-use Rattle.triple_ord.specs.Ties.{taken}
-use Rattle.triple_ord.specs.declared.ties.Ties.{Ties}
-use Rattle.triple_ord.specs.declared.ties.Ties.TheVariants.{Sought, Passed}
+use Rattle.triple_ord.proofs.Words.{◌≡◌, ◌≢◌, refl, ordering_then, Ordering, Less, Equal, Greater, taken, Ties, Sought, Passed}
 
 then-less : (o : Ordering) → ordering_then o Greater ≡ Less → o ≡ Less
 then-less Less is = refl

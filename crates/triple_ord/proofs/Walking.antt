@@ -1,12 +1,6 @@
 -- One step of a walk along a list of entries.
-use Rattle.std.proofs.Common.{◌≡◌, ℕ, ◌-◌, ◌≤◌, List, [], ◌∷◌, ◌++◌, length, Option, Some, None, refl, sym, ap, ◌∙◌, append_assoc, arith, inl, inr}
-use Rattle.std.proofs.lemmas.Bool.{cases_lt}
-use Rattle.std.proofs.lemmas.Grind.{common_steps}
-use Rattle.std.specs.Option.{option_map}
-use Rattle.chain_base.specs.Link.{Link}
-use Rattle.chain_base.specs.Chain.{Entry, times, IsDistinct, link_at}
-use Rattle.chain_base.proofs.CallerLemmas.{entry_at-link, occurs-entry}
-use Rattle.triple_ord.specs.Gap.{first_of}
+use Rattle.triple_ord.proofs.Words.{◌≡◌, ℕ, ◌-◌, ◌≤◌, List, [], ◌∷◌, ◌++◌, length, Option, Some, None, refl, sym, ap, ◌∙◌, append_assoc, arith, inl, inr, cases_lt, common_steps}
+use Rattle.triple_ord.proofs.Words.{option_map, Link, Entry, times, IsDistinct, link_at, entry_at-link, occurs-entry, first_of}
 use Rattle.triple_ord.specs.Walk.{entries_from, IsWalking}
 use Rattle.triple_ord.proofs.Cuts.{stands, from_index-here, link-read}
 

@@ -1,4 +1,4 @@
-use Rattle.std.proofs.Common.{refl, ap}
+use Rattle.triple_ord.proofs.Words.{refl, ap}
 use Rattle.triple_ord.proofs.descent.compare.Goals as goal
 
 pub returns-clause-compared : goal.returns-clause-compared

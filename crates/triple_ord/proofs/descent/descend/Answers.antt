@@ -1,4 +1,4 @@
-use Rattle.std.proofs.Common.{arith, refl, sym, ◌∙◌, of_calls}
+use Rattle.triple_ord.proofs.Words.{arith, refl, sym, ◌∙◌, of_calls}
 use Rattle.triple_ord.proofs.Descending.{descent-begins, descent-ends, step-occupied, step-few, step-equal, step-on, equal_by}
 use Rattle.triple_ord.proofs.Bounds.{within_bounds}
 use Rattle.triple_ord.proofs.descent.descend.Goals as goal

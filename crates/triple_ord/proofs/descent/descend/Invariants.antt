@@ -1,8 +1,4 @@
-use Rattle.std.proofs.Common.{◌≡◌, ◌+◌, ◌-◌}
-use Rattle.std.specs.Option.{option_map}
-use Rattle.ord_tree.specs.Shape.{height}
-use Rattle.triple_ord.specs.ClosureSearch.{Asks}
-use Rattle.triple_ord.specs.Descent.{HasDescended}
+use Rattle.triple_ord.proofs.Words.{◌≡◌, ◌+◌, ◌-◌, option_map, height, Asks, HasDescended}
 use Rattle.triple_ord.proofs.descent.descend.Given as goal
 
 abbrev pub invariant-loop-at : goal.invariant-loop-at

@@ -1,5 +1,4 @@
-use Rattle.std.proofs.Common.{arith, refl, sym, ◌∙◌}
-use Rattle.std.specs.declared.cmp.Ordering.TheVariants.{Equal}
+use Rattle.triple_ord.proofs.Words.{arith, refl, sym, ◌∙◌, Equal}
 use Rattle.triple_ord.proofs.Descending.{step-occupied, equal_by}
 use Rattle.triple_ord.proofs.DescendingByKey.{by_key-begins, by_key-step, by_key-other, unmet}
 use Rattle.triple_ord.proofs.Bounds.{within_bounds}

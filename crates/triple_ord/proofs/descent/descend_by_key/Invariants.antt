@@ -1,8 +1,4 @@
-use Rattle.std.proofs.Common.{◌≡◌, None, ◌+◌, ◌-◌}
-use Rattle.std.specs.Option.{option_map}
-use Rattle.ord_tree.specs.Shape.{height}
-use Rattle.triple_ord.specs.Ties.{taken}
-use Rattle.triple_ord.specs.Descent.{HasDescendedByKey}
+use Rattle.triple_ord.proofs.Words.{◌≡◌, None, ◌+◌, ◌-◌, option_map, height, taken, HasDescendedByKey}
 use Rattle.triple_ord.proofs.descent.descend_by_key.Given as goal
 
 abbrev pub invariant-loop-at : goal.invariant-loop-at

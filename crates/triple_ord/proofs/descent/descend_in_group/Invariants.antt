@@ -1,9 +1,4 @@
-use Rattle.std.proofs.Common.{◌≡◌, ℕ, Some, ◌+◌, ◌-◌, ◌≤◌}
-use Rattle.std.specs.Option.{option_map}
-use Rattle.std.specs.declared.cmp.Ordering.TheVariants.{Equal}
-use Rattle.ord_tree.specs.Shape.{height}
-use Rattle.triple_ord.specs.Ties.{taken}
-use Rattle.triple_ord.specs.Descent.{HasDescendedByKey}
+use Rattle.triple_ord.proofs.Words.{◌≡◌, ℕ, Some, ◌+◌, ◌-◌, ◌≤◌, option_map, Equal, height, taken, HasDescendedByKey}
 use Rattle.triple_ord.proofs.descent.descend_in_group.Given as goal
 
 abbrev pub invariant-loop-at : goal.invariant-loop-at

@@ -1,6 +1,4 @@
-use Rattle.std.proofs.Common.{◌≡◌, ℕ, refl, sym, ap, ◌∙◌, arith}
-use Rattle.std.specs.Option.{option_map}
-use Rattle.triple_ord.specs.Ties.{taken}
+use Rattle.triple_ord.proofs.Words.{◌≡◌, ℕ, refl, sym, ap, ◌∙◌, arith, option_map, taken}
 use Rattle.triple_ord.proofs.Descending.{equal_by}
 use Rattle.triple_ord.proofs.Stepping.{stepping-begins, stepping-occupied, stepping-within, stepping-goes, stepping-order, stepping-settles, stepping-unequal, stepping-near, apart, alike}
 use Rattle.triple_ord.proofs.Taken.{taken-less, taken-greater, taken-equal}

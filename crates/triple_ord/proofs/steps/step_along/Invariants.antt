@@ -1,7 +1,4 @@
-use Rattle.std.proofs.Common.{◌≡◌}
-use Rattle.triple_ord.specs.Hint.{position_of}
-use Rattle.triple_ord.specs.Steps.{IsStepping}
-use Rattle.triple_ord.specs.Ties.{taken}
+use Rattle.triple_ord.proofs.Words.{◌≡◌, position_of, IsStepping, taken}
 use Rattle.triple_ord.proofs.steps.step_along.Given as goal
 
 abbrev pub invariant-loop-step : goal.invariant-loop-step

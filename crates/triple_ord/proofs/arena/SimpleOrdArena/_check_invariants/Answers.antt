@@ -1,4 +1,4 @@
-use Rattle.std.proofs.Common.{refl, sym}
+use Rattle.triple_ord.proofs.Words.{refl, sym}
 use Rattle.triple_ord.proofs.Ordered.{in_order-one, in_order-step, in_order-not}
 use Rattle.triple_ord.proofs.arena.SimpleOrdArena._check_invariants.Goals as goal
 

@@ -1,5 +1,4 @@
-use Rattle.std.proofs.Common.{◌↔◌, ◌∷◌}
-use Rattle.triple_ord.specs.Order.{IsInOrder}
+use Rattle.triple_ord.proofs.Words.{◌↔◌, ◌∷◌, IsInOrder}
 use Rattle.triple_ord.proofs.arena.SimpleOrdArena._check_invariants.Given as goal
 
 abbrev pub invariant-loop-entry : goal.invariant-loop-entry

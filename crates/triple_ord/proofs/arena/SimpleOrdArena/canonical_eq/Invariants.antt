@@ -1,6 +1,4 @@
-use Rattle.std.proofs.Common.{◌≡◌, map}
-use Rattle.std.specs.Cmp.Lexicographic.{pointwise}
-use Rattle.triple_ord.specs.Arena.{items}
+use Rattle.triple_ord.proofs.Words.{◌≡◌, map, pointwise, items}
 use Rattle.triple_ord.proofs.arena.SimpleOrdArena.canonical_eq.Given as goal
 
 abbrev pub invariant-loop-mine : goal.invariant-loop-mine

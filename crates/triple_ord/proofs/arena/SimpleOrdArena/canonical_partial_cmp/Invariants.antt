@@ -1,6 +1,4 @@
-use Rattle.std.proofs.Common.{◌≡◌, map}
-use Rattle.std.specs.Cmp.Lexicographic.{slice_partial_cmp}
-use Rattle.triple_ord.specs.Arena.{items}
+use Rattle.triple_ord.proofs.Words.{◌≡◌, map, slice_partial_cmp, items}
 use Rattle.triple_ord.proofs.arena.SimpleOrdArena.canonical_partial_cmp.Given as goal
 
 abbrev pub invariant-loop-mine : goal.invariant-loop-mine

@@ -1,5 +1,4 @@
-use Rattle.std.proofs.Common.{rules, inl, inr, ◌∙◌}
-use Rattle.chain_base.specs.Chain.{IsSound}
+use Rattle.triple_ord.proofs.Words.{rules, inl, inr, ◌∙◌, IsSound}
 use Rattle.triple_ord.proofs.Cloning.{clone-cloned, clone-emptied, cloned-found}
 use Rattle.triple_ord.proofs.arena.SimpleOrdArena.clone_from_arena.Goals as goal
 

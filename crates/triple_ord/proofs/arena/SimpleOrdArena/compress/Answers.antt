@@ -1,7 +1,4 @@
-use Rattle.std.proofs.Common.{ap, length, map, ◌∙◌}
-use Rattle.std.proofs.lemmas.List.{length-map}
-use Rattle.chain_base.specs.Chain.{Chain}
-use Rattle.chain_base.proofs.CallerLemmas.{relocated-items}
+use Rattle.triple_ord.proofs.Words.{ap, length, map, ◌∙◌, length-map, Chain, relocated-items}
 use Rattle.triple_ord.proofs.CallerLemmas.{ended-relocated}
 use Rattle.triple_ord.proofs.arena.SimpleOrdArena.compress.Goals as goal
 

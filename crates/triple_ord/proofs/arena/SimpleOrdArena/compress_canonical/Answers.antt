@@ -1,7 +1,4 @@
-use Rattle.std.proofs.Common.{ap, length, map, ◌∙◌, sym}
-use Rattle.std.proofs.lemmas.List.{length-map}
-use Rattle.chain_base.specs.Chain.{Chain}
-use Rattle.chain_base.proofs.CallerLemmas.{items-numbered}
+use Rattle.triple_ord.proofs.Words.{ap, length, map, ◌∙◌, sym, length-map, Chain, items-numbered}
 use Rattle.triple_ord.proofs.CallerLemmas.{found-numbered}
 use Rattle.triple_ord.proofs.arena.SimpleOrdArena.compress_canonical.Goals as goal
 

@@ -1,6 +1,4 @@
-use Rattle.std.proofs.Common.{ap, length, ◌∙◌}
-use Rattle.std.proofs.lemmas.List.{length-map}
-use Rattle.chain_base.specs.Chain.{Chain}
+use Rattle.triple_ord.proofs.Words.{ap, length, ◌∙◌, length-map, Chain}
 use Rattle.triple_ord.proofs.CallerLemmas.{ended-moved}
 use Rattle.triple_ord.proofs.arena.SimpleOrdArena.compress_with.Goals as goal
 

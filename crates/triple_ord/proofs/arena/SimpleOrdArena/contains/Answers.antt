@@ -1,4 +1,4 @@
-use Rattle.std.proofs.Common.{◌∙◌}
+use Rattle.triple_ord.proofs.Words.{◌∙◌}
 use Rattle.triple_ord.proofs.Bare.{contains-under}
 use Rattle.triple_ord.proofs.arena.SimpleOrdArena.contains.Goals as goal
 

@@ -1,4 +1,4 @@
-use Rattle.std.proofs.Common.{ℕ}
+use Rattle.triple_ord.proofs.Words.{ℕ}
 use Rattle.triple_ord.proofs.Descending.{finds_key-similar, where_equal-map}
 use Rattle.triple_ord.proofs.arena.SimpleOrdArena.find_key_counted.Goals as goal
 

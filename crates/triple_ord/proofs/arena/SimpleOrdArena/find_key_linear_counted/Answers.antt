@@ -1,4 +1,4 @@
-use Rattle.std.proofs.Common.{ℕ, ◌-◌, arith}
+use Rattle.triple_ord.proofs.Words.{ℕ, ◌-◌, arith}
 use Rattle.triple_ord.proofs.Descending.{finds_key-similar, where_equal-map}
 use Rattle.triple_ord.proofs.Hinted.{FindsSimilar-more, hinted-whole}
 use Rattle.triple_ord.proofs.arena.SimpleOrdArena.find_key_linear_counted.Goals as goal

@@ -1,4 +1,4 @@
-use Rattle.std.proofs.Common.{refl}
+use Rattle.triple_ord.proofs.Words.{refl}
 use Rattle.triple_ord.proofs.Bare.{entry_at-under}
 use Rattle.triple_ord.proofs.arena.SimpleOrdArena.get_inx.Goals as goal
 

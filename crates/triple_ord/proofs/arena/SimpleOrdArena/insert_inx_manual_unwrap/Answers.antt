@@ -1,4 +1,4 @@
-use Rattle.std.proofs.Common.{◌≡◌, Ok, Err, rules}
+use Rattle.triple_ord.proofs.Words.{◌≡◌, Ok, Err, rules}
 use Rattle.triple_ord.proofs.Places.{beside-replaced, beside-inserted, beside-refused}
 use Rattle.triple_ord.proofs.arena.SimpleOrdArena.insert_inx_manual_unwrap.Goals as goal
 

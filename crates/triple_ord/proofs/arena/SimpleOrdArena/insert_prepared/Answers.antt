@@ -1,4 +1,4 @@
-use Rattle.std.proofs.Common.{refl, sym}
+use Rattle.triple_ord.proofs.Words.{refl, sym}
 use Rattle.triple_ord.proofs.CallerLemmas.{updates-written, count-written, inserted-new}
 use Rattle.triple_ord.proofs.Inserting.{IsInsertion-same}
 use Rattle.triple_ord.proofs.Places.{put-gap, insertion-named}

@@ -1,4 +1,4 @@
-use Rattle.triple_ord.specs.Insertion.{reallocating}
+use Rattle.triple_ord.proofs.Words.{reallocating}
 use Rattle.triple_ord.proofs.CallerLemmas.{entry-told}
 use Rattle.triple_ord.proofs.arena.SimpleOrdArena.insert_reallocating.Goals as goal
 

@@ -1,4 +1,4 @@
-use Rattle.triple_ord.specs.Insertion.{within}
+use Rattle.triple_ord.proofs.Words.{within}
 use Rattle.triple_ord.proofs.CallerLemmas.{entry-told}
 use Rattle.triple_ord.proofs.arena.SimpleOrdArena.insert_within_capacity.Goals as goal
 

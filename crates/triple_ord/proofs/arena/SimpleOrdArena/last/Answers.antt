@@ -1,4 +1,4 @@
-use Rattle.std.proofs.Common.{◌∙◌}
+use Rattle.triple_ord.proofs.Words.{◌∙◌}
 use Rattle.triple_ord.proofs.Bare.{last_pointer-under}
 use Rattle.triple_ord.proofs.arena.SimpleOrdArena.last.Goals as goal
 

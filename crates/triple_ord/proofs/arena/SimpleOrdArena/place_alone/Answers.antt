@@ -1,4 +1,4 @@
-use Rattle.std.proofs.Common.{sym, ◌∙◌}
+use Rattle.triple_ord.proofs.Words.{sym, ◌∙◌}
 use Rattle.triple_ord.proofs.Places.{alone-here, alone-refused}
 use Rattle.triple_ord.proofs.arena.SimpleOrdArena.place_alone.Goals as goal
 

@@ -1,5 +1,4 @@
-use Rattle.std.proofs.Common.{sym, ap, ◌∙◌}
-use Rattle.std.specs.Option.{option_map}
+use Rattle.triple_ord.proofs.Words.{sym, ap, ◌∙◌, option_map}
 use Rattle.triple_ord.proofs.Places.{beside-over, beside-put}
 use Rattle.triple_ord.proofs.arena.SimpleOrdArena.place_beside.Goals as goal
 

@@ -1,7 +1,4 @@
-use Rattle.std.proofs.Common.{◌≡◌, sym, ap, ◌∙◌}
-use Rattle.std.specs.Ordering.{is_eq}
-use Rattle.std.specs.declared.cmp.Ordering.{Ordering}
-use Rattle.triple_ord.specs.Place.{at_key}
+use Rattle.triple_ord.proofs.Words.{◌≡◌, sym, ap, ◌∙◌, is_eq, Ordering, at_key}
 use Rattle.triple_ord.proofs.Places.{found-alone, found-beside, found-over}
 use Rattle.triple_ord.proofs.arena.SimpleOrdArena.place_found.Goals as goal
 

@@ -1,5 +1,4 @@
-use Rattle.std.proofs.Common.{◌≡◌, Err}
-use Rattle.triple_ord.specs.Insertion.{reallocating}
+use Rattle.triple_ord.proofs.Words.{◌≡◌, Err, reallocating}
 use Rattle.triple_ord.proofs.Places.{new-refused, err-and}
 use Rattle.triple_ord.proofs.arena.SimpleOrdArena.prepare_reallocating.Goals as goal
 

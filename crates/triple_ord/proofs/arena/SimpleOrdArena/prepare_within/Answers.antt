@@ -1,7 +1,4 @@
-use Rattle.std.proofs.Common.{◌≡◌, None, sym, ap, ◌∙◌}
-use Rattle.std.specs.Option.{option_map}
-use Rattle.triple_ord.specs.Insertion.{within}
-use Rattle.triple_ord.specs.declared.error.OrdInsertionError.TheVariants.{NotWithinCapacity}
+use Rattle.triple_ord.proofs.Words.{◌≡◌, None, sym, ap, ◌∙◌, option_map, within, NotWithinCapacity}
 use Rattle.triple_ord.proofs.Places.{new-refused, full}
 use Rattle.triple_ord.proofs.arena.SimpleOrdArena.prepare_within.Goals as goal
 

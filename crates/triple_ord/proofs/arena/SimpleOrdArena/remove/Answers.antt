@@ -1,4 +1,4 @@
-use Rattle.std.proofs.Common.{sym}
+use Rattle.triple_ord.proofs.Words.{sym}
 use Rattle.triple_ord.proofs.Bare.{found-occupied}
 use Rattle.triple_ord.proofs.CallerLemmas.{owed, updates-removed, count-removed}
 use Rattle.triple_ord.proofs.arena.SimpleOrdArena.remove.Goals as goal

@@ -1,4 +1,4 @@
-use Rattle.std.proofs.Common.{◌≡◌, ◌-◌, arith}
+use Rattle.triple_ord.proofs.Words.{◌≡◌, ◌-◌, arith}
 use Rattle.triple_ord.proofs.arena.SimpleOrdArena.search.Goals as goal
 
 pub returns-clause-found : goal.returns-clause-found

@@ -1,7 +1,4 @@
-use Rattle.std.proofs.Common.{◌-◌, sym, subst, ◌∙◌, arith}
-use Rattle.ord_tree.specs.Tree.{Tree}
-use Rattle.triple_ord.specs.Hint.{IsNearHint}
-use Rattle.triple_ord.specs.Ties.{taken}
+use Rattle.triple_ord.proofs.Words.{◌-◌, sym, subst, ◌∙◌, arith, Tree, IsNearHint, taken}
 use Rattle.triple_ord.proofs.Hinted.{FindsSimilar-more, settled-similar, settled-near, open-near, hinted-steps, hinted-whole, hinted-alone, named-unhinted}
 use Rattle.triple_ord.proofs.arena.SimpleOrdArena.search_from.Goals as goal
 

@@ -1,4 +1,4 @@
-use Rattle.std.proofs.Common.{Some, sym}
+use Rattle.triple_ord.proofs.Words.{Some, sym}
 use Rattle.triple_ord.proofs.Bare.{entry-looked_up, link-looked_up, slot-occupied, shown-under}
 use Rattle.triple_ord.proofs.probe.Probe.show_link.Goals as goal
 

@@ -1,5 +1,4 @@
-use Rattle.std.proofs.Common.{◌≡◌, [], Bor, arith, length, sym, ap, ◌∙◌}
-use Rattle.chain_base.specs.Link.{Link}
+use Rattle.triple_ord.proofs.Words.{◌≡◌, [], Bor, arith, length, sym, ap, ◌∙◌, Link}
 use Rattle.triple_ord.proofs.Walking.{walk-step, walk-left, walk-goes, walk-end}
 use Rattle.triple_ord.proofs.arena.iter.IterIterator.next.Goals as goal
 

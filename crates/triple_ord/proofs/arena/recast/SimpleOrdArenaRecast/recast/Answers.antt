@@ -1,4 +1,4 @@
-use Rattle.std.proofs.Common.{◌≡◌, ◌+◌, ◌≤◌, Err, is_some, sym, ap, ◌∙◌, rules, arith}
+use Rattle.triple_ord.proofs.Words.{◌≡◌, ◌+◌, ◌≤◌, Err, is_some, sym, ap, ◌∙◌, rules, arith}
 use Rattle.triple_ord.specs.Arena.{entry_at}
 use Rattle.triple_ord.proofs.Recasting.{recast-begins, recast-vacant, recast-next, recast-failed, recast-ends, vacant_of}
 use Rattle.triple_ord.proofs.arena.recast.SimpleOrdArenaRecast.recast.Goals.{then-contains_inx+in_ok-recast_at, else-contains_inx}

@@ -1,4 +1,4 @@
-use Rattle.std.proofs.Common.{◌+◌}
+use Rattle.triple_ord.proofs.Words.{◌+◌}
 use Rattle.triple_ord.proofs.Recasting.{RecastBelow}
 use Rattle.triple_ord.proofs.arena.recast.SimpleOrdArenaRecast.recast.Given as goal
 

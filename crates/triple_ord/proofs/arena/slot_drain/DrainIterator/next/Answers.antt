@@ -1,10 +1,5 @@
-use Rattle.std.proofs.Common.{◌≡◌, ◌∷◌, OnSome, length, rules, refl, sym, ap, ◌∙◌, subst, arith}
-use Rattle.arena_base.specs.Generation.{overflows_after}
+use Rattle.triple_ord.proofs.Words.{◌≡◌, ◌∷◌, OnSome, length, rules, refl, sym, ap, ◌∙◌, subst, arith, overflows_after, Walk, walk_rest, removed, IsShrunk, content_of}
 use Rattle.arena_base.specs.Invalidation.{allowed_value, has_overflowed}
-use Rattle.arena_base.specs.Walk.{Walk, walk_rest}
-use Rattle.chain_base.specs.Chain.{removed}
-use Rattle.ord_tree.specs.Tree.{IsShrunk}
-use Rattle.triple_ord.specs.Content.{content_of}
 use Rattle.triple_ord.proofs.Draining.{rest-removed, whole-removed, nothing-left}
 use Rattle.triple_ord.proofs.arena.slot_drain.DrainIterator.next.Goals as goal
 

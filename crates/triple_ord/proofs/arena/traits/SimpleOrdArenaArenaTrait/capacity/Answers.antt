@@ -1,4 +1,4 @@
-use Rattle.triple_ord.specs.ContentLaws.{lawful_is, capacity-within}
+use Rattle.triple_ord.proofs.Words.{lawful_is, capacity-within}
 use Rattle.triple_ord.proofs.arena.traits.SimpleOrdArenaArenaTrait.capacity.Goals as goal
 
 pub returns-clause-lawful : goal.returns-clause-lawful

@@ -1,10 +1,5 @@
-use Rattle.std.proofs.Common.{◌≡◌, ℕ, Option, refl, ap, Result, Ok, Err}
-use Rattle.std.specs.Result.{IfOk}
-use Rattle.arena_base.specs.Arena.{HoldsSame, new_arena, with_capacity}
-use Rattle.chain_base.specs.Chain.{new_chain, with_capacity as chain_with_capacity}
-use Rattle.ord_tree.specs.Shape.{missing}
-use Rattle.ord_tree.specs.Tree.{Tree}
-use Rattle.triple_ord.specs.Content.{content_of}
+use Rattle.triple_ord.proofs.Words.{◌≡◌, ℕ, Option, refl, ap, Result, Ok, Err, IfOk, HoldsSame, new_arena, with_capacity, new_chain, missing, Tree, content_of}
+use Rattle.chain_base.specs.Chain.{with_capacity as chain_with_capacity}
 use Rattle.triple_ord.proofs.Content.{content-capacity}
 use Rattle.triple_ord.proofs.arena.traits.SimpleOrdArenaArenaTrait.with_min_capacity.Goals as goal
 

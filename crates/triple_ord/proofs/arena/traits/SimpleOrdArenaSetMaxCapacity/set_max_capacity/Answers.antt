@@ -1,4 +1,4 @@
-use Rattle.triple_ord.specs.ContentLaws.{capacity_is}
+use Rattle.triple_ord.proofs.Words.{capacity_is}
 use Rattle.triple_ord.proofs.arena.traits.SimpleOrdArenaSetMaxCapacity.set_max_capacity.Goals as goal
 
 pub returns-clause-refused : goal.returns-clause-refused
