@@ -78,8 +78,8 @@ module _ {P T I G : Type 0} where
     pub item_missing-under : (p : ℕ × ℕ) → None ≡ item_of c.entries p → None ≡ item_of t.list.entries p
     item_missing-under p is = sym (item_of-under p ∙ rw (← is) refl)
 
-    pub last_pointer-under : last_pointer c.entries ≡ last_pointer t.list.entries
-    last_pointer-under = sym (last_pointer-bare c.entries) ∙ ap (λ (l : Chain T). last_pointer l.entries) under.list
+    pub last_pointer_under : last_pointer c.entries ≡ last_pointer t.list.entries
+    last_pointer_under = sym (last_pointer-bare c.entries) ∙ ap (λ (l : Chain T). last_pointer l.entries) under.list
 
     pub capacity-under : c.capacity ≡ t.list.capacity
     capacity-under = ap (λ (l : Chain T). l.capacity) under.list

@@ -19,6 +19,7 @@ impl<P: Ptr, T, A: Allocator> SimpleOrdArena<P, T, A> {
     }
 
     /// The pointer of the last entry of the list, in O(1).
+    #[tactic(auto, using(crate::proofs::Bare::last_pointer_under))]
     pub fn last(&self) -> Option<P>
         ensures { option_map P.numbers result ≡ last_pointer self.now.list.entries }
     {

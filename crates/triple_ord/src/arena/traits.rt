@@ -119,6 +119,7 @@ impl<P: Ptr, T, A: Allocator + Copy> ArenaTrait<P, T> for SimpleOrdArena<P, T, A
 
 impl<P: Ptr, T, A: Allocator> CompactArenaTrait for SimpleOrdArena<P, T, A> {}
 
+#[tactic(auto, using(crate::specs::ContentLaws::capacity_is))]
 impl<P: Ptr, T, A: Allocator + Copy> SetMaxCapacity<P, T> for SimpleOrdArena<P, T, A> {
     fn set_max_capacity(&mut self, n: usize) -> Result<(), MaxCapacityReductionError> {
         self.set_max_capacity(n)
