@@ -4,7 +4,7 @@ use Rattle.arena_base.proofs.Words.{map, sym, ap, ◌∙◌, subst, false, max, 
 use Rattle.arena_base.proofs.Words.{append-nil, map-id, FoldsTo, option_map, OnOk, AllocError, ReallocationError, Arena, greatest_occupied, HoldsSame}
 use Rattle.arena_base.proofs.Words.{arena_capacity, FindSame, item_if, CloneStep, IsClone, IsRefusedClone, StopsAtRefusal, Grants, with_items, replaced}
 use Rattle.arena_base.proofs.Words.{HasSamePointers, entries_from, entries_rising}
-use Rattle.arena_base.proofs.Occupied.{greatest_occupied-above, none-from_generation}
+use Rattle.arena_base.proofs.Occupied.{era, greatest_occupied-above, none-from_generation}
 use Rattle.arena_base.proofs.Resizing.{resized-same}
 
 -- Calls of one kind are calls of another: `state`, `from` and `to` give the other's states, the items that it is shown and those
@@ -20,16 +20,11 @@ module _ {P W X U T M F : Type 0} (numbers : P → ℕ × ℕ) (below : M → P 
       → FoldsTo {P = F × List T} (CloneStep numbers above) (state m, map to xs) (map reshown es) (state n, map to ys)
   clones-retold [] m n xs ys same = ap (λ (s : M × List X). (state s.0, map to s.1)) same
   clones-retold (e ∷ es) m n xs ys calls =
-      let s = calls.1 in (
+      let s = calls.1 in
+      let called = like m s.pointer e.2 s.item calls.0.0 s.called in
+      let behind = ap (map to) s.behind ∙ map_push to xs s.item in (
         (state calls.0.0, map to calls.0.1),
-        record {
-          pointer = s.pointer;
-          item = to s.item;
-          index = s.index;
-          generation = s.generation;
-          called = like m s.pointer e.2 s.item calls.0.0 s.called;
-          behind = ap (map to) s.behind ∙ map_push to xs s.item;
-        },
+        record { pointer = s.pointer; item = to s.item; index = s.index; generation = s.generation; called = called; behind = behind },
         clones-retold es calls.0.0 n calls.0.1 ys calls.2,
       )
 
@@ -64,29 +59,19 @@ module _ {P U T M F : Type 0} (numbers : P → ℕ × ℕ) (below : M → P → 
   pub clones-restated : (es : List (ℕ × ℕ × U)) (m n : M) (ys : List T) → FoldsTo {P = M × List T} (CloneStep numbers below) (m, []) es (n, ys)
       → FoldsTo {P = F × List T} (CloneStep numbers above) (state m, []) es (state n, ys)
   clones-restated es m n ys calls =
-      let told = clones-retold numbers below above state (λ u. u) (λ x. x) like es m n [] ys calls in
-      rw (map-id es, map-id ys) at told
+      rw (map-id es, map-id ys) at (clones-retold numbers below above state (λ u. u) (λ x. x) like es m n [] ys calls)
 
   pub clone-restated : (m : M) (source : Arena U) (old new : Arena T) → IsClone numbers below m source old new → IsClone numbers above (state m) source old new
-  clone-restated m source old new c = record {
-    items = c.items;
-    last = state c.last;
-    calls = clones-restated (entries_rising source 0) m c.last c.items c.calls;
-    after = c.after;
-  }
-
-  pub clone-restated_ok : (r : Result (Unit {0}) ReallocationError) (m : M) (source : Arena U) (old new : Arena T)
-      → OnOk r (IsClone numbers below m source old new) → OnOk r (IsClone numbers above (state m) source old new)
-  clone-restated_ok (Ok x) m source old new c = clone-restated m source old new c
-  clone-restated_ok (Err e) m source old new c = tt
+  clone-restated m source old new c =
+      let calls = clones-restated (entries_rising source 0) m c.last c.items c.calls in
+      record { items = c.items; last = state c.last; calls = calls; after = c.after }
 
 -- the same of a refusal
 module _ {P U T M F : Type 0} (numbers : P → ℕ × ℕ) (below : M → P → U → Result T AllocError → M → Type 0) (above : F → P → U → Result T AllocError → F → Type 0) (state : M → F)
     (like : (m : M) (p : P) (u : U) (r : Result T AllocError) (n : M) → below m p u r n → above (state m) p u r (state n)) where
   pub stops-restated : (m : M) (es : List (ℕ × ℕ × U)) → StopsAtRefusal numbers below m es → StopsAtRefusal numbers above (state m) es
   stops-restated m es s =
-      let told = stops-retold numbers below above state (λ u. u) (λ x. x) (λ m p u x n. like m p u (Ok x) n) (λ m p u e n. like m p u (Err e) n) m es s in
-      rw (map-id es) at told
+      rw (map-id es) at (stops-retold numbers below above state (λ u. u) (λ x. x) (λ m p u x. like m p u (Ok x)) (λ m p u e. like m p u (Err e)) m es s)
 
   pub refusal-restated : (m : M) (source : Arena U) (old new : Arena T) → IsRefusedClone numbers below m source old new → IsRefusedClone numbers above (state m) source old new
   refusal-restated m source old new c = record { stops = stops-restated m (entries_rising source 0) c.stops; after = c.after }
@@ -104,63 +89,43 @@ module _ {P F W X K : Type 0} (numbers : P → ℕ × ℕ) (step : F → P → W
 
 with_items-same : {U : Type 0} (i : ℕ) (slots : List (Option (ℕ × U))) → with_items slots (map (λ e. e.2) (entries_from i slots)) ≡ slots
 with_items-same i [] = refl
-with_items-same i (None ∷ slots) = ap (λ rest. None ∷ rest) (with_items-same (i + 1) slots)
-with_items-same i (Some e ∷ slots) = ap (λ rest. Some e ∷ rest) (with_items-same (i + 1) slots)
-
--- a clone by a closure that answers the item that it is shown has the source's slots
-pub clone-given_back : {P U F : Type 0} (numbers : P → ℕ × ℕ) (step : F → P → U → U → F → Type 0) → ((f : F) (p : P) (u : U) (x : U) (g : F) → step f p u x g → x ≡ u)
-    → (f : F) (source old new : Arena U) → IsClone numbers step f source old new → HoldsSame new (replaced source old source.slots)
-clone-given_back numbers step answers f source old new c =
-    let kept = clones-keep numbers step (λ u. u) (λ x. x) answers (entries_rising source 0) f c.last [] c.items c.calls in
-    let same = rw (map-id c.items) at kept in
-    subst (λ slots. HoldsSame new (replaced source old slots)) (ap (with_items source.slots) same ∙ with_items-same 0 source.slots) c.after
+with_items-same i (s ∷ slots) = grind (arith, with_items-same (i + 1) slots)
 
 -- with as many items as entries, each entry has one
-with_items-generations : {T U : Type 0} (i : ℕ) (slots : List (Option (ℕ × U))) (items : List T) → length items ≡ length (entries_from i slots) → (k : ℕ)
-    → option_map (λ (e : ℕ × T). e.0) (get_or (with_items slots items) k None) ≡ option_map (λ (e : ℕ × U). e.0) (get_or slots k None)
-with_items-generations i [] items count k = refl
-with_items-generations i (None ∷ slots) items count zero = refl
+with_items-generations : {T U : Type 0} (i : ℕ) (slots : List (Option (ℕ × U))) (items : List T) → length items ≡ length (entries_from i slots)
+    → (k : ℕ) → era (get_or (with_items slots items) k None) ≡ era (get_or slots k None)
 with_items-generations i (None ∷ slots) items count (suc k) = with_items-generations (i + 1) slots items count k
-with_items-generations i (Some e ∷ slots) [] count k = absurd (omega arith)
-with_items-generations i (Some e ∷ slots) (item ∷ items) count zero = refl
 with_items-generations i (Some e ∷ slots) (item ∷ items) count (suc k) = with_items-generations (i + 1) slots items (omega arith) k
+with_items-generations i slots items count k = grind arith
 
 -- whether a pointer finds an item is told by the entry's generation
-abbrev has_generation : ℕ → Option ℕ → Bool
-has_generation g None = false
-has_generation g (Some h) = eqb h g
-
-is_some-item_if : {T : Type 0} (g : ℕ) (s : Option (ℕ × T)) → is_some (item_if g s) ≡ has_generation g (option_map (λ (e : ℕ × T). e.0) s)
-is_some-item_if g None = refl
-is_some-item_if g (Some e) = tested (eqb e.0 g)
-  where
-    tested : (b : Bool) → is_some (cond b (Some e.1) None) ≡ b
-    tested true = refl
-    tested false = refl
+found-by_era : {T U : Type 0} (g : ℕ) (s : Option (ℕ × T)) (t : Option (ℕ × U)) → era s ≡ era t → is_some (item_if g s) ≡ is_some (item_if g t)
+found-by_era g s t same = grind arith
 
 -- its pointers are the source's
-pub clone-pointers : {P U T F : Type 0} (numbers : P → ℕ × ℕ) (step : F → P → U → T → F → Type 0) (f : F)
-    (source : Arena U) (old new : Arena T) → IsClone numbers step f source old new → HasSamePointers new source
-clone-pointers numbers step f source old new c =
-    let n = max (arena_capacity old) (greatest_occupied source.slots) + 1 in
-    let made = with_items source.slots c.items in
+pub clone-pointers : {P U T F : Type 0} (numbers : P → ℕ × ℕ) (step : F → P → U → T → F → Type 0) (f : F) (source : Arena U) (old new : Arena T)
+    → IsClone numbers step f source old new → HasSamePointers new source
+clone-pointers numbers step f source old new c = λ p.
     let es = entries_rising source 0 in
     let kept = clones-keep {K = ℕ} numbers step (λ u. 0) (λ x. 0) (λ f p u x g called. refl) es f c.last [] c.items c.calls in
     let count : length c.items ≡ length es = sym (length-map c.items (λ x. 0)) ∙ (ap length kept ∙ length-map es (λ e. 0)) in
     let told = with_items-generations 0 source.slots c.items count in
-    λ p.
-    let free : (k : ℕ) → n ≤ k → get_or made k None ≡ None =
-    λ k past. none-from_generation (get_or made k None) (told k ∙ ap (option_map (λ e. e.0)) (greatest_occupied-above source.slots k (omega arith))) in
-    is_some-item_if p.1 (get_or new.slots p.0 None)
-    ∙ (ap (has_generation p.1) (ap (option_map (λ e. e.0)) (ap (λ ss. get_or ss p.0 None) c.after.slots ∙ resized-same n made free p.0) ∙ told p.0)
-    ∙ sym (is_some-item_if p.1 (get_or source.slots p.0 None)))
+    let same = resized-same (max (arena_capacity old) (greatest_occupied source.slots) + 1) (with_items source.slots c.items) in
+    let above = greatest_occupied-above source.slots in
+    found-by_era p.1 _ _ (ap era (ap (λ ss. get_or ss p.0 None) c.after.slots
+    ∙ same (λ k past. none-from_generation _ (told k ∙ ap era (above k (omega arith)))) p.0) ∙ told p.0)
 
--- so each pointer finds the same in both
-pub copy-found : {P U F E : Type 0} (numbers : P → ℕ × ℕ) (step : F → P → U → U → F → Type 0) → ((f : F) (p : P) (u : U) (x : U) (g : F) → step f p u x g → x ≡ u)
-    → (r : Result (Unit {0}) E) (f : F) (source old new : Arena U) → OnOk r (IsClone numbers step f source old new) → OnOk r (FindSame new source)
-copy-found numbers step answers (Ok x) f source old new c = λ p.
-    let same = clone-given_back numbers step answers f source old new c in
-    let n = max (arena_capacity old) (greatest_occupied source.slots) + 1 in
-    ap (item_if p.1) (ap (λ ss. get_or ss p.0 None) same.slots
-    ∙ resized-same n source.slots (λ k past. greatest_occupied-above source.slots k (omega arith)) p.0)
-copy-found numbers step answers (Err e) f source old new c = tt
+-- a clone by a closure that answers the item that it is shown
+module _ {P U F : Type 0} (numbers : P → ℕ × ℕ) (step : F → P → U → U → F → Type 0) (answers : (f : F) (p : P) (u : U) (x : U) (g : F) → step f p u x g → x ≡ u)
+    (f : F) (source old new : Arena U) (c : IsClone numbers step f source old new) where
+  -- has the source's slots
+  pub clone-given_back : HoldsSame new (replaced source old source.slots)
+  clone-given_back =
+      let kept = clones-keep numbers step (λ u. u) (λ x. x) answers (entries_rising source 0) f c.last [] c.items c.calls in
+      rw ((rw (map-id c.items) at kept), with_items-same 0 source.slots) at c.after
+
+  -- so each pointer finds the same in both
+  pub copy-found : FindSame new source
+  copy-found p =
+      let same = resized-same (max (arena_capacity old) (greatest_occupied source.slots) + 1) source.slots in
+      ap (item_if p.1) (ap (λ ss. get_or ss p.0 None) clone-given_back.slots ∙ same (λ k past. greatest_occupied-above source.slots k (omega arith)) p.0)

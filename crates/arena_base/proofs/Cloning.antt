@@ -13,14 +13,13 @@ use Rattle.arena_base.proofs.Steps.{stored, capacity-is, relisted, relisted-soun
 module _ {X : Type 0} where
   -- where no slot has an entry, none is cloned
   entries-none : (i : ℕ) (slots : List (Option (ℕ × X))) → ((k : ℕ) → get_or slots k None ≡ None) → entries_from i slots ≡ []
-  entries-none i [] none = refl
   entries-none i (None ∷ slots) none = entries-none (i + 1) slots (λ k. none (suc k))
-  entries-none i (Some e ∷ slots) none = absurd (none-some e (sym (none 0)))
+  entries-none i slots none = let first = none 0 in cc
 
-with_items-none : {T U : Type 0} (slots : List (Option (ℕ × U))) → ((k : ℕ) → get_or slots k None ≡ None) → with_items {T = T} slots [] ≡ replicate (length slots) None
-with_items-none [] none = refl
-with_items-none (None ∷ slots) none = ap (λ rest. None ∷ rest) (with_items-none slots (λ k. none (suc k)))
-with_items-none (Some e ∷ slots) none = absurd (none-some e (sym (none 0)))
+  with_items-none : {T : Type 0} (slots : List (Option (ℕ × X))) → ((k : ℕ) → get_or slots k None ≡ None)
+      → with_items {T = T} slots [] ≡ replicate (length slots) None
+  with_items-none (None ∷ slots) none = ap (λ rest. None ∷ rest) (with_items-none slots (λ k. none (suc k)))
+  with_items-none slots none = let first = none 0 in cc
 
 module _ {P T U G F : Type 0} (numbers : P → ℕ × ℕ) (number : G → ℕ) (step : F → P → U → T → F → Type 0) where
   abbrev Calls : F × List T → List (ℕ × ℕ × U) → F × List T → Type 0
@@ -35,9 +34,8 @@ module _ {P T U G F : Type 0} (numbers : P → ℕ × ℕ) (number : G → ℕ) 
     pub shape : (rest : List T) → with_items source (items ++ rest) ≡ None ∷ map (entry_in number) slots ++ with_items (drop i source) rest
 
   pub cloned-begins : (f : F) (source : List (Option (ℕ × U))) → take 1 source ≡ None ∷ [] → ClonedBelow f source f [] 1
-  cloned-begins f [] begins = absurd (cc)
-  cloned-begins f (Some e ∷ source) begins = absurd (cc)
   cloned-begins f (None ∷ source) begins = record { items = []; before = []; split = refl; calls = refl; shape = λ rest. refl }
+  cloned-begins f source begins = absurd (cc)
 
 module _ {P T U G F : Type 0} {numbers : P → ℕ × ℕ} {number : G → ℕ} {step : F → P → U → T → F → Type 0} {first : F} {source : List (Option (ℕ × U))}
     {f : F} {slots : List (Slot T G)} {i : ℕ} (b : ClonedBelow numbers number step first source f slots i) where
@@ -112,12 +110,10 @@ module _ {P T U G F : Type 0} {numbers : P → ℕ × ℕ} {number : G → ℕ} 
 -- an entry with another item has the generation of the source's
 with_items-lawful : {T U : Type 0} (greatest : Option ℕ) (slots : List (Option (ℕ × U))) (items : List T)
     → AreLawful greatest slots → AreLawful greatest (with_items slots items)
-with_items-lawful greatest [] items lawful k e is = absurd (none-some e is)
-with_items-lawful greatest (None ∷ slots) items lawful zero e is = absurd (none-some e is)
 with_items-lawful greatest (None ∷ slots) items lawful (suc k) e is = with_items-lawful greatest slots items (λ j. lawful (suc j)) k e is
-with_items-lawful greatest (Some s ∷ slots) [] lawful k e is = absurd (none-some e is)
 with_items-lawful greatest (Some s ∷ slots) (item ∷ items) lawful zero e is = lawful-some greatest (s.0, item) (lawful 0 s refl) e is
 with_items-lawful greatest (Some s ∷ slots) (item ∷ items) lawful (suc k) e is = with_items-lawful greatest slots items (λ j. lawful (suc j)) k e is
+with_items-lawful greatest slots items lawful k e is = absurd (none-some e is)
 
 -- The slots that a clone leaves in memory, and the arena that they are: vacant ones come behind those that were cloned.
 module _ {P T A U Inx Gen F : Type 0} (numbers : P → ℕ × ℕ) (gen : Generations Gen) (inx : Indexes Inx) (step : F → P → U → Result T AllocError → F → Type 0)

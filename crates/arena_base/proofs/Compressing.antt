@@ -40,12 +40,10 @@ vacated zero x rest = refl
 vacated (suc n) x rest = ap (λ xs. x ∷ xs) (vacated n x rest)
 
 entry-none : {T G : Type 0} (s : Slot T G) → slot_entry s ≡ None → s ≡ Vacant
-entry-none (Occupied item e) is = absurd (none-some (e, item) (sym is))
-entry-none Vacant is = refl
+entry-none s is = grind arith
 
 entry-some : {T G : Type 0} (s : Slot T G) (e : G) (item : T) → slot_entry s ≡ Some (e, item) → s ≡ Occupied item e
-entry-some (Occupied x k) e item is = ap (λ (p : _ × _). Occupied p.1 p.0) (same_Some (k, x) (e, item) is)
-entry-some Vacant e item is = absurd (none-some (e, item) is)
+entry-some s e item is = grind arith
 
 module _ {P T G F : Type 0} {numbers : P → ℕ × ℕ} {number : G → ℕ} {step : F → P → T → P → T → F → Type 0} {generation : G} {first : F}
     {old : List (Slot T G)} {f : F} {slots : List (Slot T G)} {from to : ℕ} (b : CompressedBelow numbers number step generation first old f slots from to) where
@@ -162,14 +160,8 @@ pub compression-retold : {P T M F : Type 0} (numbers : P → ℕ × ℕ) (below 
     (g : ℕ) (state : M → F) → ((m : M) (p : P) (x : T) (q : P) (y : T) (n : M) → below m p x q y n → above (state m) p x q y (state n))
     → (m : M) (old new : Arena T) → IsCompression numbers below g m old new → IsCompression numbers above g (state m) old new
 compression-retold {P} {T} numbers below above g state like m old new c =
-    let es = entries_rising old 0 in
-    let calls = calls-retold numbers below above g state (λ x. x) like es m c.last [] c.items c.calls in
-    record {
-      items = c.items;
-      last = state c.last;
-      calls = rw (map-id es, map-id c.items) at calls;
-      after = c.after;
-    }
+    let calls = calls-retold numbers below above g state (λ x. x) like (entries_rising old 0) m c.last [] c.items c.calls in
+    record { items = c.items; last = state c.last; calls = rw (map-id (entries_rising old 0), map-id c.items) at calls; after = c.after }
 
 -- where each answer is the item that was shown, the items are those that were there
 pub compressed-given_back : {P F T : Type 0} (numbers : P → ℕ × ℕ) (step : F → P → T → P → T → F → Type 0) (g : ℕ)
@@ -179,12 +171,11 @@ compressed-given_back {P} {F} {T} numbers step g answers f old new h =
     let same = chained_keeps (CompressionStep numbers step g) (λ es t. t.1 ≡ map (λ (e : ℕ × ℕ × T). e.2) es)
     (λ es s e t is called. called.behind ∙ rw (is, map_push, answers s.0 called.from e.2 called.to called.item t.0 called.called) refl)
     (entries_rising old 0) (f, []) (h.last, h.items) refl h.calls in
-    subst (λ items. HoldsSame new (compressed old g items)) same h.after
+    rw same at h.after
 
 get_or-compressed : {T : Type 0} (g : ℕ) (items : List T) (k : ℕ) (e : ℕ × T) → get_or (map (λ item. Some (g, item)) items) k None ≡ Some e → g ≡ e.0
-get_or-compressed g [] k e is = absurd (none-some e is)
-get_or-compressed g (x ∷ items) zero e is = ap (λ (p : ℕ × _). p.0) (same_Some (g, x) e is)
 get_or-compressed g (x ∷ items) (suc k) e is = get_or-compressed g items k e is
+get_or-compressed g items k e is = grind arith
 
 -- the arena of the compressed slots
 module _ {T Gen : Type 0} (gen : Generations Gen) (n : ℕ) (next : List (Slot T Gen)) (generation : Gen) (items : List T) (fits : length items ≤ n)

@@ -10,36 +10,29 @@ module _ {T G : Type 0} (number : G → ℕ) where
 
   -- what a slot says by index, also beyond the last
   pub get_or-entries : (slots : List (Slot T G)) (k : ℕ) → get_or (entries slots) k None ≡ entry_in number (get_or slots k Vacant)
-  get_or-entries [] k = refl
-  get_or-entries (s ∷ slots) zero = refl
   get_or-entries (s ∷ slots) (suc k) = get_or-entries slots k
+  get_or-entries slots k = refl
 
   -- a slot without an entry
   pub entry-none : (s : Slot T G) → entry_in number s ≡ None → s ≡ Vacant
-  entry-none (Occupied item era) is = absurd (none-some (number era, item) (sym is))
-  entry-none Vacant is = refl
+  entry-none s is = grind arith
 
   -- the vacant slots in memory are the vacant ones by index
   pub vacant_slots-from : (from : ℕ) (slots : List (Slot T G)) → vacant_slots from slots ≡ vacant_from from (entries slots)
   vacant_slots-from from [] = refl
-  vacant_slots-from from (Vacant ∷ slots) = ap (λ rest. from ∷ rest) (vacant_slots-from (from + 1) slots)
-  vacant_slots-from from (Occupied item era ∷ slots) = vacant_slots-from (from + 1) slots
+  vacant_slots-from from (s ∷ slots) = grind (arith, vacant_slots-from (from + 1) slots)
 
 -- the vacant slots stand behind those that have entries
 pub vacant_slots-full : {T G : Type 0} (from full : ℕ) (slots : List (Slot T G)) → ((k : ℕ) → k < full → get_or slots k Vacant ≢ Vacant)
     → vacant_slots from slots ≡ vacant_slots (from + full) (drop full slots)
-vacant_slots-full from zero slots occupied = let same : from ≡ from + 0 = omega arith in ap (λ n. vacant_slots n slots) same
-vacant_slots-full from (suc full) [] occupied = absurd (occupied 0 (omega arith) refl)
-vacant_slots-full from (suc full) (Vacant ∷ slots) occupied = absurd (occupied 0 (omega arith) refl)
 vacant_slots-full from (suc full) (Occupied item era ∷ slots) occupied =
-    let later : from + 1 + full ≡ from + suc full = omega arith in
-    vacant_slots-full (from + 1) full slots (λ k below. occupied (suc k) (omega arith)) ∙ ap (λ n. vacant_slots n (drop full slots)) later
+    grind (arith, vacant_slots-full (from + 1) full slots (λ k below. occupied (suc k) (omega arith)))
+vacant_slots-full from full slots occupied = grind (arith, occupied 0)
 
 -- there are no more vacant slots than slots
 pub length-vacant_slots : {T G : Type 0} (from : ℕ) (slots : List (Slot T G)) → length (vacant_slots from slots) ≤ length slots
 length-vacant_slots from [] = omega arith
-length-vacant_slots from (Vacant ∷ slots) = let ih = length-vacant_slots (from + 1) slots in omega arith
-length-vacant_slots from (Occupied item era ∷ slots) = let ih = length-vacant_slots (from + 1) slots in omega arith
+length-vacant_slots from (s ∷ slots) = grind (arith, length-vacant_slots (from + 1) slots)
 
 -- a front of a list without its last item
 pub take-without_last : {X : Type 0} (xs ys : List X) (x : X) (m n : ℕ) → ys ++ x ∷ [] ≡ take n xs → n ≡ m + 1 → length ys ≡ m → ys ≡ take m xs

@@ -11,11 +11,9 @@ use Rattle.arena_base.proofs.Vacancies.{length-vacant_from-padded}
 use Rattle.arena_base.proofs.Steps.{stored, Sound, relisted, relisted-sound}
 
 pub get_or-padded : {X : Type 0} (xs : List X) (m k : ℕ) (d : X) → get_or (xs ++ replicate m d) k d ≡ get_or xs k d
-get_or-padded [] zero k d = refl
-get_or-padded [] (suc m) zero d = refl
 get_or-padded [] (suc m) (suc k) d = get_or-padded [] m k d
-get_or-padded (x ∷ xs) m zero d = refl
 get_or-padded (x ∷ xs) m (suc k) d = get_or-padded xs m k d
+get_or-padded xs m k d = refl
 
 -- as many as are missing were added
 pub length-padded : {X : Type 0} (n : ℕ) (xs padded : List X) (d : X) → padded ≡ xs ++ replicate (n - length xs) d → length xs ≤ n → length padded ≡ n
@@ -24,9 +22,7 @@ length-padded {X = X} n xs padded d is fits =
 
 module _ {X : Type 0} (n : ℕ) (slots : List (Option X)) where
   pub resized-cons : resized (n + 1) (None ∷ slots) ≡ None ∷ resized n slots
-  resized-cons =
-      let less : n + 1 - suc (length slots) ≡ n - length slots = omega arith in
-      rw (less, add-one) refl
+  resized-cons = let less : n + 1 - suc (length slots) ≡ n - length slots = omega arith in rw (less, add-one)
 
   pub length-resized : length (resized n slots) ≡ n
   length-resized = grind (arith, length-append {A = Option X}, length-take {A = Option X}, length-replicate {A = Option X})
@@ -45,27 +41,17 @@ module _ {X : Type 0} (n : ℕ) (slots : List (Option X)) where
   -- slots to which vacant ones were added, and from which those beyond were cut off
   pub resized-padded : take n (slots ++ replicate (n - length slots) None) ≡ resized n slots
   resized-padded =
-      let m = n - length slots in
-      let padded = slots ++ replicate {A = Option X} m None in
-      resized-is (take n padded)
-      (omega (arith, length-take n padded, length-append slots (replicate {A = Option X} m None), length-replicate {A = Option X} m None))
-      (λ k below. get_or-take n padded k None below ∙ get_or-padded slots m k None)
+      let padded = slots ++ replicate {A = Option X} (n - length slots) None in
+      resized-is (take n padded) (omega (arith, length-take {A = Option X}, length-append {A = Option X}, length-replicate {A = Option X}))
+      (λ k below. get_or-take n padded k None below ∙ get_or-padded slots (n - length slots) k None)
 
   -- an entry stood there before
   pub resized-some : (k : ℕ) (e : X) → get_or (resized n slots) k None ≡ Some e → get_or slots k None ≡ Some e
-  resized-some k e is =
-      elim (cases_lt k n) [
-        | inl below ↦ sym (get_or-resized k below) ∙ is
-        | inr past ↦ absurd (none-some e (sym (get_or-resized_past k past) ∙ is))
-      ]
+  resized-some k e is = grind (arith, get_or-resized k, get_or-resized_past k)
 
   -- where no entry is lost, each index has what it had
   pub resized-same : ((k : ℕ) → n ≤ k → get_or slots k None ≡ None) → (i : ℕ) → get_or (resized n slots) i None ≡ get_or slots i None
-  resized-same none i =
-      elim (cases_lt i n) [
-        | inl below ↦ get_or-resized i below
-        | inr past ↦ get_or-resized_past i past ∙ sym (none i past)
-      ]
+  resized-same none i = grind (arith, get_or-resized i, get_or-resized_past i, none i)
 
 -- vacant slots at the end make no difference
 pub resized-again : {X : Type 0} (n m : ℕ) (slots : List (Option X)) → resized n (slots ++ replicate m None) ≡ resized n slots
@@ -113,17 +99,13 @@ module _ {P T A Inx Gen : Type 0} (gen : Generations Gen) (inx : Indexes Inx) (s
 -- where no slot is vacant, room is made by a growth
 pub with_room-full : {T : Type 0} (most : ℕ) (a : Arena T) (n : ℕ) → a.vacant ≡ [] → n ≡ grown_capacity most a → with_capacity a n ≡ with_room most a
 with_room-full most a n full is =
-    ap (with_capacity a) is ∙ sym (ap (λ (vacant : List ℕ). cond (is_some (slice_get vacant 0)) a (with_capacity a (grown_capacity most a))) full)
+    rw (is, full)
 
 -- a greater capacity leaves a slot vacant
-pub with_capacity-room : {T : Type 0} (a : Arena T) (n : ℕ) → take 1 a.slots ≡ None ∷ [] → length a.slots - 1 < n → 0 < length (with_capacity a n).vacant
-with_capacity-room a n begins more = room a.slots begins more
-  where
-    room : {X : Type 0} (slots : List (Option X)) → take 1 slots ≡ None ∷ [] → length slots - 1 < n → 0 < length (vacant_from 1 (drop 1 (resized (n + 1) slots)))
-    room [] begins more = absurd (cc)
-    room (Some e ∷ slots) begins more = absurd (cc)
-    room (None ∷ slots) begins more =
-        rw (resized-cons n slots) (omega (arith, length-vacant_from-padded 1 (n - length slots) (take n slots)))
+pub resized-room : {X : Type 0} (n : ℕ) (slots : List (Option X)) → take 1 slots ≡ None ∷ [] → length slots - 1 < n
+    → 0 < length (vacant_from 1 (drop 1 (resized (n + 1) slots)))
+resized-room n (None ∷ slots) begins more = rw resized-cons (omega (arith, length-vacant_from-padded 1 (n - length slots) (take n slots)))
+resized-room n slots begins more = absurd (cc)
 
 -- slots of which none has an entry: n were added to none
 module _ {T Inx Gen : Type 0} (gen : Generations Gen) (inx : Indexes Inx) (n : ℕ) (next : List (Slot T Gen)) (is : next ≡ [] ++ replicate (n - 0) Vacant)

@@ -8,8 +8,7 @@ use Rattle.arena_base.proofs.Vacancies.{times-cons, times-append, length-vacant_
 
 -- the limit is an index of an entry
 pub limit_of-below : (most : ℕ) (maximum : Option ℕ) → limit_of most maximum ≤ most
-limit_of-below most None = omega arith
-limit_of-below most (Some n) = omega arith
+limit_of-below most maximum = grind arith
 
 module _ {T : Type 0} where
   -- the arena of these slots from index 1 on
@@ -67,31 +66,14 @@ module _ {T : Type 0} where
       generation_lawful = sound.generation_lawful;
       entries_lawful = lawful-cons greatest (set slots k new) (lawful-set k new within lawful);
       vacant_listed = λ i.
-          let own = vacant_from (k + 1) (get_or slots k None ∷ []) in
-          let put = vacant_from (k + 1) (new ∷ []) in
-          omega (
-            arith,
-            sound.vacant_listed i,
-            ap (times i) turn,
-            times-append i own listed,
-            times-append i put vacant,
-            times-written i 1 (k + 1) slots k new (omega arith) within,
-          );
+          omega (arith, sound.vacant_listed i, ap (times i) turn, times-append i, times-written i 1 (k + 1) slots k new (omega arith) within);
       counted =
-          let old = get_or slots k None in
-          omega (
-            arith,
-            sound.counted,
-            count_by-cons None slots,
-            count_by-cons None (set slots k new),
-            sum_by-set (λ x. cond (is_some x) 1 0) slots k new None within,
-            length-set slots k new,
-            ap length turn,
-            length-append (vacant_from (k + 1) (old ∷ [])) listed,
-            length-append (vacant_from (k + 1) (new ∷ [])) vacant,
-            length-vacant_from (k + 1) (old ∷ []),
-            length-vacant_from (k + 1) (new ∷ []),
-          );
+          let counts = sum_by-set (λ x. cond (is_some x) 1 0) slots k new None within in
+          let own = length-vacant_from (k + 1) (get_or slots k None ∷ []) in
+          let put = length-vacant_from (k + 1) (new ∷ []) in
+          let before = count_by-cons None slots in
+          let after = count_by-cons None (set slots k new) in
+          omega (arith, sound.counted, counts, own, put, before, after, length-set slots k new, ap length turn, length-append {A = ℕ});
     }
 
   -- the index that is taken next is that of a vacant slot
@@ -99,8 +81,7 @@ module _ {T : Type 0} where
       (sound : IsSound most greatest (arena slots (i ∷ rest) generation maximum)) where
     pub first-vacant : VacantAt 1 slots i
     first-vacant =
-        let one : times i (i ∷ rest) ≡ 1 + times i rest =
-        times-cons i rest i ∙ ap (λ b. cond b 1 0 + times i rest) (eq-eqb i i refl) in
+        let one : times i (i ∷ rest) ≡ 1 + times i rest = rw (times-cons i rest i, eq-eqb i i refl) in
         vacant_from-vacant 1 slots i (omega (arith, sound.vacant_listed i))
 
   -- an entry in its slot
@@ -132,5 +113,5 @@ module _ {T : Type 0} where
     }
       where
         least : (k + 1) ∷ rest ≡ vacant_from 1 slots → (j : ℕ) → 0 < j → j < k + 1 → is_some (get_or (None ∷ slots) j None) ≡ true
-        least fresh zero above before = absurd (omega arith)
         least fresh (suc j) above before = vacant_from-least 1 slots (k + 1) rest j (sym fresh) (omega arith)
+        least fresh zero above before = absurd (omega arith)

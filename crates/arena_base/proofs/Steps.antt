@@ -14,10 +14,7 @@ use Rattle.arena_base.proofs.Soundness.{arena, fresh_arena, AreLawful, lawful-so
 pub stack-top : {X : Type 0} (xs : List X) (k : X) → slice_get xs (length xs - 1) ≡ Some k → xs ≡ take (length xs - 1) xs ++ k ∷ []
 stack-top xs k is =
     let n = length xs - 1 in
-    let within = slice_get_within xs n k is in
-    let got : get_or xs n k ≡ k = get_or_from_slice_get xs n k k is in
-    let all : take (n + 1) xs ≡ xs = take_all (n + 1) xs (omega arith) in
-    sym all ∙ (take_more xs n k within ∙ ap (λ x. take n xs ++ x ∷ []) got)
+    sym (take_all (n + 1) xs (omega arith)) ∙ (take_more xs n k (slice_get_within xs n k is) ∙ rw (get_or_from_slice_get xs n k k is))
 
 -- what an occupied place holds
 some_of : {X : Type 0} (o : Option X) → is_some o ≡ true → (x : X) × (o ≡ Some x)
@@ -39,15 +36,11 @@ module _ {P T A Inx Gen : Type 0} (gen : Generations Gen) (inx : Indexes Inx) (s
 
     -- an index with an entry is not 0, and is within the capacity
     pub occupied-above : (i : ℕ) → is_some (slot a i) ≡ true → 0 < i
-    occupied-above zero there = absurd (false≢true (rw (← view) at there))
-    occupied-above (suc k) there = omega arith
+    occupied-above i there = grind (arith, view)
 
     pub occupied-within : (k i : ℕ) → i ≡ k + 1 → is_some (slot a i) ≡ true → k < arena_capacity a
     occupied-within k i position there =
-        elim (cases_lt k (length (entries gen.number s.slots.items))) [
-          | inl within ↦ omega (arith, capacity-is, length-map s.slots.items (entry_in gen.number))
-          | inr past ↦ absurd (false≢true (ap is_some (sym (get_or_past (entries gen.number s.slots.items) k None past)) ∙ rw (← view, position, add-one) at there))
-        ]
+        grind (arith, get_or_past (entries gen.number s.slots.items) k None, rw (← view, position, add-one) at there)
 
     module _ (k i : ℕ) (found : record { number : i ≡ k + 1; within : k < arena_capacity a }) where
       inside : k < length s.slots.items

@@ -10,16 +10,13 @@ use Rattle.arena_base.proofs.Vacancies.{vacant_from-some}
 
 -- later writes to the same two places alone count
 set-twice : {X : Type 0} (xs : List X) (p q : ℕ) (a b c d : X) → set (set (set (set xs p a) q b) p c) q d ≡ set (set xs p c) q d
-set-twice xs p q a b c d =
-    elim (cases_eq p q) [
-      | inl same ↦ rw same (simp set-set)
-      | inr other ↦ rw (set_comm (set xs p a) q p b c (λ e. other (sym e))) (simp set-set)
-    ]
+set-twice {X = X} xs p q a b c d =
+    grind (arith, set-set {A = X}, set_comm {A = X})
 
 -- a slot of which the generation is known
 occupied-by : {T G : Type 0} (s : Slot T G) (era : G) → option_map (λ (e : G × T). e.0) (slot_entry s) ≡ Some era → (item : T) × (s ≡ Occupied item era)
-occupied-by (Occupied item old) era is = (item, ap (Occupied item) (same_Some old era is))
-occupied-by Vacant era is = absurd (none-some era is)
+occupied-by (Occupied item old) era is = (item, cc)
+occupied-by Vacant era is = cc
 
 -- Slots xs, of which p and q have entries, become ys by an exchange; then s1 is written to p, and s2 to q.
 pub record IsExchange {T G : Type 0} (xs ys : List (Slot T G)) (p q : ℕ) (sp sq y1 y2 s1 s2 : Slot T G) (gp gq : G) : Type 0 where
@@ -62,16 +59,13 @@ module _ {T G : Type 0} {xs ys : List (Slot T G)} {p q : ℕ} {sp sq y1 y2 s1 s2
             let old : y2 ≡ s1 = h.second_old ∙ rw same (get_or-set_same ys p s1 y2 (omega (arith, h.p_within, h.same_len))) in
             let item : Occupied other.0 gq ≡ Occupied one.0 gp = sym (at_q sp) ∙ (ap (λ k. get_or xs k sp) same ∙ at_p sp) in
             ap (λ s. with_slot_generation s gq) (old ∙ first-is) ∙ ap (λ s. with_slot_generation s gq) item
-        | inr different ↦
-            ap (λ s. with_slot_generation s gq) (h.second_old ∙ (get_or-set_other ys p q s1 y2 different ∙ (h.q_after y2 ∙ at_p y2)))
+        | inr different ↦ ap (λ s. with_slot_generation s gq) (h.second_old ∙ (get_or-set_other ys p q s1 y2 different ∙ (h.q_after y2 ∙ at_p y2)))
       ]
 
   -- each place has the other's item
   exchanged : set (set ys p s1) q s2 ≡ set (set xs p (Occupied other.0 gp)) q (Occupied one.0 gq)
   exchanged =
-      ap (λ ss. set (set ss p s1) q s2) (h.after sp)
-      ∙ (set-twice xs p q (get_or xs q sp) (get_or xs p sp) s1 s2
-      ∙ (ap (λ x. set (set xs p x) q s2) first-is ∙ ap (set (set xs p (Occupied other.0 gp)) q) second-is))
+      cc (h.after sp, set-twice xs p q (get_or xs q sp) (get_or xs p sp) s1 s2, first-is, second-is)
 
 module _ {P T A Inx Gen : Type 0} (gen : Generations Gen) (inx : Indexes Inx) (s : Inside P T A Inx Gen) {ys : List (Slot T Gen)} {p q : ℕ}
     {sp sq y1 y2 s1 s2 : Slot T Gen} {gp gq : Gen} (h : IsExchange s.slots.items ys p q sp sq y1 y2 s1 s2 gp gq) where

@@ -16,15 +16,13 @@ module _ {X : Type 0} where
   -- slots are vacant or have entries
   pub length-vacant_from : (from : ℕ) (slots : List (Option X)) → count_by is_some slots + length (vacant_from from slots) ≡ length slots
   length-vacant_from from [] = refl
-  length-vacant_from from (None ∷ slots) = omega (arith, length-vacant_from (from + 1) slots, count_by-cons None slots)
-  length-vacant_from from (Some e ∷ slots) = omega (arith, length-vacant_from (from + 1) slots, count_by-cons (Some e) slots)
+  length-vacant_from from (s ∷ slots) = grind (arith, length-vacant_from (from + 1) slots, count_by-cons s slots)
 
   -- vacant slots at the end are listed
   pub length-vacant_from-padded : (from more : ℕ) (slots : List (Option X)) → more ≤ length (vacant_from from (slots ++ replicate more None))
   length-vacant_from-padded from zero [] = omega arith
   length-vacant_from-padded from (suc more) [] = omega (arith, length-vacant_from-padded (from + 1) more [])
-  length-vacant_from-padded from more (None ∷ slots) = omega (arith, length-vacant_from-padded (from + 1) more slots)
-  length-vacant_from-padded from more (Some e ∷ slots) = length-vacant_from-padded (from + 1) more slots
+  length-vacant_from-padded from more (s ∷ slots) = grind (arith, length-vacant_from-padded (from + 1) more slots)
 
   -- index i is that of a vacant slot, where the first slot has index `from`
   abbrev pub VacantAt : ℕ → List (Option X) → ℕ → Type 0
@@ -47,9 +45,8 @@ module _ {X : Type 0} where
 
   -- a listed index is not below the first
   vacant_from-above : (from : ℕ) (slots : List (Option X)) (i : ℕ) (rest : List ℕ) → vacant_from from slots ≡ i ∷ rest → from ≤ i
-  vacant_from-above from [] i rest e = absurd (cc)
-  vacant_from-above from (None ∷ slots) i rest e = let same : from ≡ i = cc in omega arith
   vacant_from-above from (Some s ∷ slots) i rest e = omega (arith, vacant_from-above (from + 1) slots i rest e)
+  vacant_from-above from slots i rest e = grind arith
 
   times-first : (n from : ℕ) (s : Option X) (slots : List (Option X))
       → times n (vacant_from from (s ∷ slots)) ≡ times n (vacant_from from (s ∷ [])) + times n (vacant_from (from + 1) slots)
@@ -70,41 +67,32 @@ module _ {X : Type 0} where
 
   -- a slot with an entry is not listed
   pub vacant_from-some : (i : ℕ) (s : Option X) → is_some s ≡ true → vacant_from i (s ∷ []) ≡ []
-  vacant_from-some i None there = absurd (false≢true there)
-  vacant_from-some i (Some e) there = refl
+  vacant_from-some i s there = grind arith
 
   -- below the first that is listed every index has an entry
   pub vacant_from-least : (from : ℕ) (slots : List (Option X)) (i : ℕ) (rest : List ℕ) (k : ℕ) → vacant_from from slots ≡ i ∷ rest
       → from + k < i → is_some (get_or slots k None) ≡ true
-  vacant_from-least from [] i rest k e before = absurd (cc)
-  vacant_from-least from (None ∷ slots) i rest k e before = absurd (let same : from ≡ i = cc in omega arith)
-  vacant_from-least from (Some s ∷ slots) i rest zero e before = refl
   vacant_from-least from (Some s ∷ slots) i rest (suc k) e before = vacant_from-least (from + 1) slots i rest k e (omega arith)
+  vacant_from-least from slots i rest k e before = grind arith
 
   -- filling the first that is listed leaves the others, in their order
   pub vacant_from-filled_first : (from : ℕ) (slots : List (Option X)) (k i : ℕ) (rest : List ℕ) (entry : X) → i ≡ from + k
       → vacant_from from slots ≡ i ∷ rest → vacant_from from (set slots k (Some entry)) ≡ rest
-  vacant_from-filled_first from [] k i rest entry position e = absurd (cc)
-  vacant_from-filled_first from (None ∷ slots) zero i rest entry position e = cc
-  vacant_from-filled_first from (None ∷ slots) (suc k) i rest entry position e = absurd (let same : from ≡ i = cc in omega arith)
   vacant_from-filled_first from (Some s ∷ slots) zero i rest entry position e =
       absurd (omega (arith, vacant_from-above (from + 1) slots i rest e))
   vacant_from-filled_first from (Some s ∷ slots) (suc k) i rest entry position e =
       vacant_from-filled_first (from + 1) slots k i rest entry (omega arith) e
+  vacant_from-filled_first from slots k i rest entry position e = grind arith
 
   -- where no slot is vacant, each has an entry
   all-occupied : (from : ℕ) (slots : List (Option X)) (k : ℕ) → length (vacant_from from slots) ≡ 0 → k < length slots
       → is_some (get_or slots k None) ≡ true
-  all-occupied from [] k none within = absurd (omega arith)
-  all-occupied from (None ∷ slots) k none within = absurd (omega arith)
-  all-occupied from (Some e ∷ slots) zero none within = refl
   all-occupied from (Some e ∷ slots) (suc k) none within = all-occupied (from + 1) slots k none (omega arith)
+  all-occupied from slots k none within = grind arith
 
   -- the same by index, where index 0 has none
   pub full-occupied : (slots : List (Option X)) → take 1 slots ≡ None ∷ [] → count_by is_some slots ≡ length slots - 1
       → (i : ℕ) → 0 < i → i ≤ length slots - 1 → is_some (get_or slots i None) ≡ true
-  full-occupied [] begins full i above within = absurd (cc)
-  full-occupied (Some e ∷ slots) begins full i above within = absurd (cc)
-  full-occupied (None ∷ slots) begins full zero above within = absurd (omega arith)
   full-occupied (None ∷ slots) begins full (suc k) above within =
       all-occupied 1 slots k (omega (arith, count_by-cons None slots, length-vacant_from 1 slots)) (omega arith)
+  full-occupied slots begins full i above within = grind arith

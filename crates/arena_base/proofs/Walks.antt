@@ -8,12 +8,7 @@ module _ {T : Type 0} where
   pointers_from-append : (from : ℕ) (xs ys : List (Option (ℕ × T)))
       → pointers_from from (xs ++ ys) ≡ pointers_from from xs ++ pointers_from (from + length xs) ys
   pointers_from-append from [] ys = ap (λ n. pointers_from n ys) (omega arith)
-  pointers_from-append from (None ∷ xs) ys =
-      let more : from + 1 + length xs ≡ from + suc (length xs) = omega arith in
-      rw (← more) (pointers_from-append (from + 1) xs ys)
-  pointers_from-append from (Some e ∷ xs) ys =
-      let more : from + 1 + length xs ≡ from + suc (length xs) = omega arith in
-      rw (← more) (ap (λ rest. (from, e.0) ∷ rest) (pointers_from-append (from + 1) xs ys))
+  pointers_from-append from (s ∷ xs) ys = grind (arith, pointers_from-append (from + 1) xs ys)
 
   pointers_from-next : (slots : List (Option (ℕ × T))) (i : ℕ) → i < length slots
       → pointers_from 0 (take (i + 1) slots) ≡ pointers_from 0 (take i slots) ++ pointers_from i (get_or slots i None ∷ [])
@@ -32,19 +27,15 @@ module _ {T : Type 0} where
         → reverse (pointers_from 0 (take (i + 1) slots)) ≡ (i, g) ∷ reverse (pointers_from 0 (take (k + 1) slots))
     falling-some g is =
         let found = entry-from_generation (get_or slots i None) g is in
-        let same : found.0.0 ≡ g = same_Some found.0.0 g (ap (option_map (λ (e : ℕ × T). e.0)) (sym found.1) ∙ is) in
-        rw (← next, pointers_from-next slots i within, found.1, same, reverse-append) refl
+        rw (← next, pointers_from-next slots i within, found.1, reverse-append)
 
   -- the first entry that comes stands at its index
   entries_from-first : (from : ℕ) (slots : List (Option (ℕ × T))) (e : ℕ × ℕ × T) (rest : List (ℕ × ℕ × T)) → entries_from from slots ≡ e ∷ rest
       → (k : ℕ) × (e.0 ≡ from + k) × (get_or slots k None ≡ Some (e.1, e.2))
-  entries_from-first from [] e rest is = absurd (cc)
   entries_from-first from (None ∷ slots) e rest is =
       let later = entries_from-first (from + 1) slots e rest is in
       (suc later.0, omega (arith, later.1), later.2)
-  entries_from-first from (Some s ∷ slots) e rest is =
-      let same : ◌≡◌ {A = ℕ × ℕ × T} (from, s.0, s.1) e = cc in
-      (0, omega (arith, ap (λ (x : ℕ × ℕ × T). x.0) same), ap (λ (x : ℕ × ℕ × T). Some (x.1, x.2)) same)
+  entries_from-first from slots e rest is = (0, grind arith, grind arith)
 
   pub entries_rising-first : (a : Arena T) (i : ℕ) (e : ℕ × ℕ × T) (rest : List (ℕ × ℕ × T)) → entries_rising a i ≡ e ∷ rest → slot a e.0 ≡ Some (e.1, e.2)
   entries_rising-first a i e rest is =
@@ -59,8 +50,7 @@ module _ {T : Type 0} where
   item-there : (a : Arena T) (i g : ℕ) → generation_at a i ≡ Some g → IsSome (item_of a (i, g))
   item-there a i g is =
       let found = entry-from_generation (slot a i) g is in
-      let same : found.0.0 ≡ g = same_Some found.0.0 g (ap (option_map (λ (e : ℕ × T). e.0)) (sym found.1) ∙ is) in
-      ap is_some (item_of-there a (i, g) found.0.1 (found.1 ∙ ap (λ n. Some (n, found.0.1)) same))
+      ap is_some (item_of-there a (i, g) found.0 found.1)
 
   pub item-pointed : (a : Arena T) (i g j h : ℕ) → generation_at a i ≡ Some g → j ≡ i → h ≡ g → IsSome (item_of a (j, h))
   item-pointed a i g j h is index era = rw (index, era) (item-there a i g is)

@@ -11,6 +11,7 @@ pub use Rattle.std.proofs.lemmas.List.{reverse-reverse, get_or-drop, map-id, set
 pub use Rattle.std.proofs.lemmas.List.{length-drop}
 pub use Rattle.std.proofs.lemmas.List.Sums.{sum_by-cons, sum_by-append, sum_by-set}
 pub use Rattle.std.proofs.lemmas.Option.{none-some, same_Some, slice_get_within, get_or_from_slice_get}
+pub use Rattle.std.proofs.lemmas.Result.{on_ok_weaker}
 pub use Rattle.std.proofs.lemmas.Simd.{map-map}
 pub use lib.LanesLaws.{map-replicate}
 pub use Rattle.std.specs.List.{list_any, FoldsTo}

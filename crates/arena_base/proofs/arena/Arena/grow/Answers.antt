@@ -1,6 +1,6 @@
 use Rattle.arena_base.proofs.Words.{◌<◌, length, arith, sym, subst, ◌∙◌}
 use Rattle.arena_base.proofs.Occupied.{greatest_occupied-below}
-use Rattle.arena_base.proofs.Resizing.{with_room-full, with_capacity-room}
+use Rattle.arena_base.proofs.Resizing.{with_room-full, resized-room}
 use Rattle.arena_base.proofs.arena.Arena.grow.Goals as goal
 
 pub set_capacity-requires-clause-entries : goal.set_capacity-requires-clause-entries
@@ -8,7 +8,7 @@ set_capacity-requires-clause-entries g c = omega (arith, greatest_occupied-below
 
 pub returns-in-Ok-clause-room : goal.returns-in-Ok-clause-room
 returns-in-Ok-clause-room g c =
-    subst (λ v. 0 < length v.vacant) (sym c.in-Ok.ensures.ok) (with_capacity-room c.args.self.now c.min.result c.capacity-capacity.ensures.sound.begins (omega arith))
+    rw c.in-Ok.ensures.ok (resized-room c.min.result c.args.self.now.slots c.capacity-capacity.ensures.sound.begins (omega arith))
 
 pub returns-in-Ok-clause-ok : goal.returns-in-Ok-clause-ok
 returns-in-Ok-clause-ok g c = c.in-Ok.ensures.ok ∙ with_room-full g.P.Inx.PtrInx.most c.args.self.now c.min.result c.requires (omega arith)

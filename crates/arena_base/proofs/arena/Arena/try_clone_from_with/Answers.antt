@@ -1,10 +1,10 @@
-use Rattle.arena_base.proofs.Words.{inl, inr}
-use Rattle.arena_base.proofs.CloneFacts.{clone-restated_ok, refusal-restated}
+use Rattle.arena_base.proofs.Words.{inl, inr, on_ok_weaker}
+use Rattle.arena_base.proofs.CloneFacts.{clone-restated, refusal-restated}
 use Rattle.arena_base.proofs.arena.Arena.try_clone_from_with.Goals as goal
 
 pub returns-clause-ok : goal.returns-clause-ok
 returns-clause-ok g c =
-    clone-restated_ok g.P.Ptr.numbers _ _ (λ m. m.f) (λ m p u x n called. called) c.clone_by.result _ _ _ _ c.clone_by.ensures.ok
+    on_ok_weaker _ (clone-restated g.P.Ptr.numbers _ _ (λ m. m.f) (λ m p u x n called. called) _ _ _ _) c.clone_by.ensures.ok
 
 pub returns-clause-memory : goal.returns-clause-memory
 returns-clause-memory g c = λ is.
