@@ -1,13 +1,12 @@
 -- How far a compression has come.
-use Rattle.arena_base.proofs.Words.{◌≡◌, ℕ, zero, suc, ◌+◌, ◌<◌, ◌≤◌, Option, Some, None, List, [], ◌∷◌, ◌++◌, length, get_or, set, replicate, ◌-◌, refl, arith}
-use Rattle.arena_base.proofs.Words.{drop, map, sym, ap, ◌∙◌, subst, reverse, chained_keeps, length-set, length-append, length-map, length-replicate, drop_more}
-use Rattle.arena_base.proofs.Words.{drop_all, set_at, get_or_at, append_assoc, map_push, length_push, append-nil, map-id, none-some, same_Some, map-map}
-use Rattle.arena_base.proofs.Words.{FoldsTo, Inside, Generations, Indexes, Slot, Occupied, Vacant, Arena, IsSound, limit_of, resized, HoldsSame}
-use Rattle.arena_base.proofs.Words.{CompressionStep, IsCompression, compressed, items_rising, CompressesSlots, IsLawfulGeneration, entry_in, vacant_slots}
-use Rattle.arena_base.proofs.Words.{arena_of, slot_entry, entries_from, entries_rising}
-use Rattle.arena_base.proofs.Positions.{entries}
+use Rattle.arena_base.proofs.Words.{◌≡◌, ℕ, zero, suc, ◌+◌, ◌<◌, ◌≤◌, Option, Some, None, List, [], ◌∷◌, ◌++◌, length, get_or, set}
+use Rattle.arena_base.proofs.Words.{replicate, ◌-◌, refl, arith, drop, map, sym, ap, ◌∙◌, reverse, chained_keeps, length-set, length-append}
+use Rattle.arena_base.proofs.Words.{length-map, length-replicate, drop_more, drop_all, set_at, get_or_at, append_assoc, map_push}
+use Rattle.arena_base.proofs.Words.{length_push, append-nil, map-id, map-map, FoldsTo, Inside, Generations, Indexes, Slot, Occupied, Vacant}
+use Rattle.arena_base.proofs.Words.{Arena, IsSound, limit_of, resized, HoldsSame, CompressionStep, IsCompression, compressed, items_rising}
+use Rattle.arena_base.proofs.Words.{CompressesSlots, IsLawfulGeneration, entry_in, vacant_slots, arena_of, slot_entry, entries_from}
 use Rattle.arena_base.proofs.Resizing.{resized-cons, length-resized, resized-some, entries-padded}
-use Rattle.arena_base.proofs.Steps.{stored, relisted-sound}
+use Rattle.arena_base.proofs.{Words.entries_rising, Slots.entries, Steps.stored, Steps.relisted-sound}
 
 module _ {P T G F : Type 0} (numbers : P → ℕ × ℕ) (number : G → ℕ) (step : F → P → T → P → T → F → Type 0) (generation : G) where
   abbrev filled : List T → List (Slot T G)

@@ -1,13 +1,9 @@
 pub mod CallerLemmas
-pub mod CloneFacts
-pub mod Cloning
+pub mod Clones
 pub mod Compressing
-pub mod Occupied
-pub mod Positions
 pub mod Resizing
-pub mod Soundness
+pub mod Slots
 pub mod Steps
 pub mod Swapping
-pub mod Vacancies
 pub mod Walks
 pub mod Words

@@ -1,13 +1,11 @@
 -- Changing the number of slots, and emptying them all.
-use Rattle.arena_base.proofs.Words.{inl, inr, ◌≡◌, ℕ, zero, suc, ◌+◌, ◌<◌, ◌≤◌, true, Option, Some, None, List, [], ◌∷◌, ◌++◌, length, get_or, replicate}
-use Rattle.arena_base.proofs.Words.{is_some, take, ◌-◌, refl, arith, ◌≢◌, drop, map, sym, ap, ◌∙◌, add-one, reverse, false≢true, cases_lt, get_or-take}
+use Rattle.arena_base.proofs.Words.{◌≡◌, ℕ, suc, ◌+◌, ◌<◌, ◌≤◌, true, Option, Some, None, List, [], ◌∷◌, ◌++◌, length, get_or, replicate}
+use Rattle.arena_base.proofs.Words.{is_some, take, ◌-◌, refl, arith, ◌≢◌, drop, map, sym, ap, ◌∙◌, add-one, reverse, false≢true, get_or-take}
 use Rattle.arena_base.proofs.Words.{length-append, map-append, take-map, take_all, length-map, length-replicate, length-take, ext_get_or, get_or_past}
 use Rattle.arena_base.proofs.Words.{none-some, map-replicate, Inside, Generations, Indexes, Slot, Vacant, vacant_from, Arena, IsSound, limit_of, resized}
 use Rattle.arena_base.proofs.Words.{new_arena, with_capacity, emptied, greatest_occupied, IsLawfulGeneration, first_generation, entry_in, vacant_slots}
-use Rattle.arena_base.proofs.Words.{arena_of, AllVacantFrom, cond, slice_get, grown_capacity, with_room}
-use Rattle.arena_base.proofs.Occupied.{greatest_occupied-above}
-use Rattle.arena_base.proofs.Positions.{entries, get_or-entries, entry-none}
-use Rattle.arena_base.proofs.Vacancies.{length-vacant_from-padded}
+use Rattle.arena_base.proofs.Words.{arena_of, AllVacantFrom, grown_capacity, with_room}
+use Rattle.arena_base.proofs.Slots.{greatest_occupied-above, entries, get_or-entries, entry-none, length-vacant_from-padded}
 use Rattle.arena_base.proofs.Steps.{stored, Sound, relisted, relisted-sound}
 
 pub get_or-padded : {X : Type 0} (xs : List X) (m k : ℕ) (d : X) → get_or (xs ++ replicate m d) k d ≡ get_or xs k d
@@ -98,8 +96,7 @@ module _ {P T A Inx Gen : Type 0} (gen : Generations Gen) (inx : Indexes Inx) (s
 
 -- where no slot is vacant, room is made by a growth
 pub with_room-full : {T : Type 0} (most : ℕ) (a : Arena T) (n : ℕ) → a.vacant ≡ [] → n ≡ grown_capacity most a → with_capacity a n ≡ with_room most a
-with_room-full most a n full is =
-    rw (is, full)
+with_room-full most a n full is = rw (is, full)
 
 -- a greater capacity leaves a slot vacant
 pub resized-room : {X : Type 0} (n : ℕ) (slots : List (Option X)) → take 1 slots ≡ None ∷ [] → length slots - 1 < n

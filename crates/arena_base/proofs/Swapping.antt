@@ -1,17 +1,13 @@
 -- Two entries whose slots change places and whose generations are then put back have exchanged their items.
-use Rattle.arena_base.proofs.Words.{inl, inr, ◌≡◌, ℕ, suc, ◌+◌, ◌<◌, true, Option, Some, None, List, length, get_or, set, is_some, refl, arith, map, sym, ap}
-use Rattle.arena_base.proofs.Words.{◌∙◌, add-one, reverse, cases_eq, length-set, get_or-set_same, get_or-set_other, length-map, map-set, get_or-map, set-set}
-use Rattle.arena_base.proofs.Words.{set_comm, get_or_default, none-some, same_Some, option_map, Inside, Generations, Indexes, Slot, Occupied, Vacant, Arena}
-use Rattle.arena_base.proofs.Words.{swapped, entry_in, slot_entry, with_slot_generation}
-use Rattle.arena_base.proofs.Positions.{entries}
-use Rattle.arena_base.proofs.Soundness.{sound-set, lawful-some}
-use Rattle.arena_base.proofs.Steps.{stored, Sound}
-use Rattle.arena_base.proofs.Vacancies.{vacant_from-some}
+use Rattle.arena_base.proofs.Words.{inl, inr, ◌≡◌, ℕ, suc, ◌+◌, ◌<◌, true, Option, Some, None, List, length, get_or, set, is_some, refl}
+use Rattle.arena_base.proofs.Words.{arith, map, sym, ap, ◌∙◌, add-one, reverse, cases_eq, length-set, get_or-set_same, get_or-set_other}
+use Rattle.arena_base.proofs.Words.{length-map, map-set, get_or-map, set-set, set_comm, get_or_default, option_map, Inside, Generations}
+use Rattle.arena_base.proofs.Words.{Indexes, Slot, Occupied, Vacant, Arena, swapped, entry_in, slot_entry, with_slot_generation}
+use Rattle.arena_base.proofs.{Slots.entries, Slots.vacant_from-some, Steps.sound-set, Steps.lawful-some, Steps.stored, Steps.Sound}
 
 -- later writes to the same two places alone count
 set-twice : {X : Type 0} (xs : List X) (p q : ℕ) (a b c d : X) → set (set (set (set xs p a) q b) p c) q d ≡ set (set xs p c) q d
-set-twice {X = X} xs p q a b c d =
-    grind (arith, set-set {A = X}, set_comm {A = X})
+set-twice {X = X} xs p q a b c d = grind (arith, set-set {A = X}, set_comm {A = X})
 
 -- a slot of which the generation is known
 occupied-by : {T G : Type 0} (s : Slot T G) (era : G) → option_map (λ (e : G × T). e.0) (slot_entry s) ≡ Some era → (item : T) × (s ≡ Occupied item era)
@@ -64,8 +60,7 @@ module _ {T G : Type 0} {xs ys : List (Slot T G)} {p q : ℕ} {sp sq y1 y2 s1 s2
 
   -- each place has the other's item
   exchanged : set (set ys p s1) q s2 ≡ set (set xs p (Occupied other.0 gp)) q (Occupied one.0 gq)
-  exchanged =
-      cc (h.after sp, set-twice xs p q (get_or xs q sp) (get_or xs p sp) s1 s2, first-is, second-is)
+  exchanged = cc (h.after sp, set-twice xs p q (get_or xs q sp) (get_or xs p sp) s1 s2, first-is, second-is)
 
 module _ {P T A Inx Gen : Type 0} (gen : Generations Gen) (inx : Indexes Inx) (s : Inside P T A Inx Gen) {ys : List (Slot T Gen)} {p q : ℕ}
     {sp sq y1 y2 s1 s2 : Slot T Gen} {gp gq : Gen} (h : IsExchange s.slots.items ys p q sp sq y1 y2 s1 s2 gp gq) where

@@ -2,7 +2,7 @@
 use Rattle.arena_base.proofs.Words.{◌≡◌, ℕ, suc, ◌+◌, ◌<◌, Option, Some, None, List, [], ◌∷◌, ◌++◌, cond, length, get_or, is_some, take, refl, arith, drop, sym}
 use Rattle.arena_base.proofs.Words.{ap, ◌∙◌, reverse, IsSome, eq-eqb, append-nil, take_more, reverse-append, get_or-drop, drop-set-lt, length-take-le}
 use Rattle.arena_base.proofs.Words.{same_Some, option_map, Arena, slot, item_if, generation_at, item_of, removed, entries_from, entries_rising, pointers_from}
-use Rattle.arena_base.proofs.Occupied.{entry-from_generation, none-from_generation}
+use Rattle.arena_base.proofs.Slots.{entry-from_generation, none-from_generation}
 
 module _ {T : Type 0} where
   pointers_from-append : (from : ℕ) (xs ys : List (Option (ℕ × T)))
@@ -48,9 +48,7 @@ module _ {T : Type 0} where
 
   -- where an index has an entry of this generation, the pointer to it finds an item
   item-there : (a : Arena T) (i g : ℕ) → generation_at a i ≡ Some g → IsSome (item_of a (i, g))
-  item-there a i g is =
-      let found = entry-from_generation (slot a i) g is in
-      ap is_some (item_of-there a (i, g) found.0 found.1)
+  item-there a i g is = let found = entry-from_generation (slot a i) g is in ap is_some (item_of-there a (i, g) found.0 found.1)
 
   pub item-pointed : (a : Arena T) (i g j h : ℕ) → generation_at a i ≡ Some g → j ≡ i → h ≡ g → IsSome (item_of a (j, h))
   item-pointed a i g j h is index era = rw (index, era) (item-there a i g is)

@@ -1,12 +1,9 @@
 -- What a contract sees of a drain of an arena.
 use Rattle.std.specs.Prelude.{◌≡◌, ℕ, ◌+◌, Option, List, [], ◌∷◌, MatchOption}
 use Rattle.std.specs.Borrow.{GName}
-use Rattle.arena_base.specs.Arena.{Arena, removed}
-use Rattle.arena_base.specs.Generation.{overflows_after}
-use Rattle.arena_base.specs.Walk.{entries_rising}
 use Rattle.arena_base.specs.Invalidation.{allowed_value, is_overflow}
 use Rattle.arena_base.specs.declared.invalidation.InvalidationOption.{InvalidationOption}
-use Rattle.arena_base.specs.declared.arena.drain.Drain.{Drain}
+use Rattle.arena_base.specs.{Arena.Arena, Arena.removed, Generation.overflows_after, Walk.entries_rising, declared.arena.drain.Drain.Drain}
 
 module _ {P T A Inx Gen : Type 0} where
   -- the arena, as it is now

@@ -1,11 +1,10 @@
 pub mod Arena
 pub mod Clone
-pub mod CloneSlots
 pub mod Compression
-pub mod CompressionSlots
 pub mod Drain
 pub mod Generation
 pub mod Invalidation
 pub mod Pointer
 pub mod Slot
+pub mod SlotMoves
 pub mod Walk

@@ -2,7 +2,7 @@
 ghost use Rattle.std.specs.Prelude.{◌≡◌, ◌<◌, ◌≤◌, ◌↔◌, ◌⊎◌, [], max, vec_len, vec_capacity, OnOk, OnErr};
 ghost use Rattle.arena_base.specs.Arena.{arena_limit, arena_capacity, greatest_occupied, IsFresh};
 ghost use Rattle.arena_base.specs.Clone.{Grants, HasSamePointers, IsClone, IsRefusedClone, IsShown, StopsAtRefusal};
-ghost use Rattle.arena_base.specs.CloneSlots.{ClonesSlots};
+ghost use Rattle.arena_base.specs.SlotMoves.{ClonesSlots};
 ghost use Rattle.arena_base.specs.Walk.{entries_rising};
 
 use super::Arena;

@@ -2,7 +2,7 @@
 ghost use Rattle.std.specs.Prelude.{◌≡◌, ◌≤◌, vec_len, vec_capacity};
 ghost use Rattle.arena_base.specs.Arena.{HoldsSame, IsFresh, IsSound};
 ghost use Rattle.arena_base.specs.Compression.{compressed, compressed_generation, compression_overflows, items_rising, IsCompression};
-ghost use Rattle.arena_base.specs.CompressionSlots.{CompressesSlots};
+ghost use Rattle.arena_base.specs.SlotMoves.{CompressesSlots};
 ghost use Rattle.arena_base.specs.Invalidation.{is_overflow};
 
 use super::Arena;

@@ -1,5 +1,4 @@
-use Rattle.arena_base.proofs.Words.{rules, on_ok_weaker}
-use Rattle.arena_base.proofs.CloneFacts.{copy-found}
+use Rattle.arena_base.proofs.{Words.rules, Words.on_ok_weaker, Clones.copy-found}
 use Rattle.arena_base.proofs.laws.copy.Goals as goal
 
 pub returns-clause-found : goal.returns-clause-found

@@ -1,4 +1,4 @@
-use Rattle.arena_base.proofs.CloneFacts.{clone-pointers}
+use Rattle.arena_base.proofs.Clones.{clone-pointers}
 use Rattle.arena_base.proofs.arena.Arena.clone_by.Goals as goal
 
 pub returns-in-Ok-clause-pointers : goal.returns-in-Ok-clause-pointers

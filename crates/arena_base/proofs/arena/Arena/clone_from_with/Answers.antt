@@ -1,5 +1,4 @@
-use Rattle.arena_base.proofs.Words.{on_ok_weaker}
-use Rattle.arena_base.proofs.CloneFacts.{clone-restated}
+use Rattle.arena_base.proofs.{Words.on_ok_weaker, Clones.clone-restated}
 use Rattle.arena_base.proofs.arena.Arena.clone_from_with.Goals as goal
 
 pub returns-clause-ok : goal.returns-clause-ok

@@ -1,5 +1,4 @@
-use Rattle.arena_base.proofs.Words.{rules}
-use Rattle.arena_base.proofs.Compressing.{compressed-given_back}
+use Rattle.arena_base.proofs.{Words.rules, Compressing.compressed-given_back}
 use Rattle.arena_base.proofs.arena.Arena.compress.Goals as goal
 
 pub returns-clause-after : goal.returns-clause-after

@@ -1,6 +1,5 @@
 use Rattle.arena_base.proofs.Words.{length, arith, ◌∙◌, length-map, entry_in}
-use Rattle.arena_base.proofs.Compressing.{compressed-after, compressed-sound}
-use Rattle.arena_base.proofs.Steps.{relisted-fresh}
+use Rattle.arena_base.proofs.{Compressing.compressed-after, Compressing.compressed-sound, Steps.relisted-fresh}
 use Rattle.arena_base.proofs.arena.Arena.compress_by.Goals as goal
 
 pub invariant_of-self : goal.invariant_of-self

@@ -1,5 +1,4 @@
-use Rattle.arena_base.proofs.Words.{is_some, sym, ap, ◌∙◌, false≢true, entry_in}
-use Rattle.arena_base.proofs.Steps.{read}
+use Rattle.arena_base.proofs.{Words.is_some, Words.sym, Words.ap, Words.◌∙◌, Words.false≢true, Words.entry_in, Steps.read}
 use Rattle.arena_base.proofs.arena.Arena.entry.Goals as goal
 
 pub unreachable-requires : goal.unreachable-requires

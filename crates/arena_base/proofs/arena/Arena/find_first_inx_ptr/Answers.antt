@@ -1,5 +1,5 @@
 use Rattle.arena_base.proofs.Words.{inl, inr, None, length, refl, arith, cases_lt, get_or_past}
-use Rattle.arena_base.proofs.Occupied.{counted_none}
+use Rattle.arena_base.proofs.Slots.{counted_none}
 use Rattle.arena_base.proofs.arena.Arena.find_first_inx_ptr.Goals as goal
 
 pub returns-clause-empty : goal.returns-clause-empty

@@ -1,5 +1,5 @@
 use Rattle.arena_base.proofs.Words.{inl, inr, ◌≡◌, None, get_or, refl, arith, sym, ap, ◌∙◌, cases_lt, get_or-take}
-use Rattle.arena_base.proofs.Occupied.{counted_none}
+use Rattle.arena_base.proofs.Slots.{counted_none}
 use Rattle.arena_base.proofs.arena.Arena.find_last_inx_ptr.Goals as goal
 
 pub returns-clause-empty : goal.returns-clause-empty

@@ -1,5 +1,5 @@
 use Rattle.arena_base.proofs.Words.{◌≡◌, length, arith, map, sym, ◌∙◌, eqb-true, length-map, length-reverse, entry_in, arena_of}
-use Rattle.arena_base.proofs.Vacancies.{full-occupied}
+use Rattle.arena_base.proofs.Slots.{full-occupied}
 use Rattle.arena_base.proofs.arena.Arena.full_positions.Goals as goal
 
 pub returns-then-is_empty : goal.returns-then-is_empty

@@ -1,5 +1,4 @@
-use Rattle.arena_base.proofs.Words.{sym, ap, ◌∙◌, entry_in}
-use Rattle.arena_base.proofs.Steps.{read}
+use Rattle.arena_base.proofs.{Words.sym, Words.ap, Words.◌∙◌, Words.entry_in, Steps.read}
 use Rattle.arena_base.proofs.arena.Arena.get_inx.Goals as goal
 
 pub returns-in-Occupied : goal.returns-in-Occupied

@@ -1,6 +1,4 @@
-use Rattle.arena_base.proofs.Words.{◌<◌, length, arith, sym, subst, ◌∙◌}
-use Rattle.arena_base.proofs.Occupied.{greatest_occupied-below}
-use Rattle.arena_base.proofs.Resizing.{with_room-full, resized-room}
+use Rattle.arena_base.proofs.{Words.arith, Words.◌∙◌, Slots.greatest_occupied-below, Resizing.with_room-full, Resizing.resized-room}
 use Rattle.arena_base.proofs.arena.Arena.grow.Goals as goal
 
 pub set_capacity-requires-clause-entries : goal.set_capacity-requires-clause-entries

@@ -1,5 +1,4 @@
-use Rattle.arena_base.proofs.Words.{ℕ, arith, ap}
-use Rattle.arena_base.proofs.Steps.{top-above, top-within, put-sound, insertion}
+use Rattle.arena_base.proofs.{Words.ℕ, Words.arith, Words.ap, Steps.top-above, Steps.top-within, Steps.put-sound, Steps.insertion}
 use Rattle.arena_base.proofs.arena.Arena.insert_next.Goals as goal
 
 pub position_at-requires : goal.position_at-requires

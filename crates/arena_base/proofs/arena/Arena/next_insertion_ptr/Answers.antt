@@ -1,5 +1,4 @@
-use Rattle.arena_base.proofs.Words.{ℕ, sym, ap}
-use Rattle.arena_base.proofs.Steps.{stack-top, top-vacant}
+use Rattle.arena_base.proofs.{Words.ℕ, Words.sym, Words.ap, Steps.stack-top, Steps.top-vacant}
 use Rattle.arena_base.proofs.arena.Arena.next_insertion_ptr.Goals as goal
 
 pub returns-clause-vacant : goal.returns-clause-vacant

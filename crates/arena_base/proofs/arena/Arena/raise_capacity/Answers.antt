@@ -1,5 +1,4 @@
-use Rattle.arena_base.proofs.Words.{arith}
-use Rattle.arena_base.proofs.Occupied.{greatest_occupied-below}
+use Rattle.arena_base.proofs.{Words.arith, Slots.greatest_occupied-below}
 use Rattle.arena_base.proofs.arena.Arena.raise_capacity.Goals as goal
 
 pub set_capacity-requires-clause-entries : goal.set_capacity-requires-clause-entries

@@ -1,7 +1,6 @@
 use Rattle.arena_base.proofs.Words.{◌≡◌, ◌+◌, ◌++◌, length, replicate, ◌-◌, arith, ap, add-one, length-take, Vacant}
 use Rattle.arena_base.proofs.Resizing.{padded-vacant, resized-full, resized-view, resized-sound}
-use Rattle.arena_base.proofs.arena.Arena.set_capacity.Given.{Over}
-use Rattle.arena_base.proofs.arena.Arena.set_capacity.Goals.{After-add_vacant}
+use Rattle.arena_base.proofs.{arena.Arena.set_capacity.Given.Over, arena.Arena.set_capacity.Goals.After-add_vacant}
 use Rattle.arena_base.proofs.arena.Arena.set_capacity.Goals as goal
 
 -- the slots, with vacant ones added

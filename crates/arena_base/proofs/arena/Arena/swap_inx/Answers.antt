@@ -1,8 +1,6 @@
-use Rattle.arena_base.proofs.Words.{◌<◌, arith, vec_len}
-use Rattle.arena_base.proofs.Steps.{read-occupied, slot-within, capacity-is}
-use Rattle.arena_base.proofs.Swapping.{IsExchange, swapped-view, swapped-sound}
-use Rattle.arena_base.proofs.arena.Arena.swap_inx.Given.{Over}
 use Rattle.arena_base.proofs.arena.Arena.swap_inx.Goals.{After-position_of_entry-second, After-renew-2}
+use Rattle.arena_base.proofs.{Words.◌<◌, Words.arith, Words.vec_len, Steps.read-occupied, Steps.slot-within, Steps.capacity-is}
+use Rattle.arena_base.proofs.{Swapping.IsExchange, Swapping.swapped-view, Swapping.swapped-sound, arena.Arena.swap_inx.Given.Over}
 use Rattle.arena_base.proofs.arena.Arena.swap_inx.Goals as goal
 
 pub generation-kept_first-requires : goal.generation-kept_first-requires
@@ -17,12 +15,10 @@ generation-kept_second-requires g c =
 
 -- both places are those of slots
 first-within : (g : Over) (c : After-position_of_entry-second g) → c.position_of_entry-first.result < vec_len c.self.inside.slots
-first-within g c =
-    slot-within g.P.Gen.PtrGen g.P.Inx.PtrInx c.self.inside _ c.self.view_is _ _ c.position_of_entry-first.ensures
+first-within g c = slot-within g.P.Gen.PtrGen g.P.Inx.PtrInx c.self.inside _ c.self.view_is _ _ c.position_of_entry-first.ensures
 
 second-within : (g : Over) (c : After-position_of_entry-second g) → c.position_of_entry-second.result < vec_len c.self.inside.slots
-second-within g c =
-    slot-within g.P.Gen.PtrGen g.P.Inx.PtrInx c.self.inside _ c.self.view_is _ _ c.position_of_entry-second.ensures
+second-within g c = slot-within g.P.Gen.PtrGen g.P.Inx.PtrInx c.self.inside _ c.self.view_is _ _ c.position_of_entry-second.ensures
 
 pub index-requires : goal.index-requires
 index-requires g c = first-within g c

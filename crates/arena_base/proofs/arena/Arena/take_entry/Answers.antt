@@ -1,6 +1,5 @@
-use Rattle.arena_base.proofs.Words.{refl, arith, ◌∙◌}
-use Rattle.arena_base.proofs.Occupied.{entry_in-slot_entry}
 use Rattle.arena_base.proofs.Steps.{read, read-occupied, taken, taken-sound}
+use Rattle.arena_base.proofs.{Words.refl, Words.arith, Words.◌∙◌, Slots.entry_in-slot_entry}
 use Rattle.arena_base.proofs.arena.Arena.take_entry.Goals as goal
 
 pub take-entry-requires : goal.take-entry-requires

@@ -1,5 +1,5 @@
 use Rattle.arena_base.proofs.Words.{◌≤◌, length, replicate, ◌-◌, arith, sym, ap, ◌∙◌, length-append, length-replicate, same_Some, option_map, Slot, Vacant}
-use Rattle.arena_base.proofs.Cloning.{clone-sound, clone-whole, clone-refused}
+use Rattle.arena_base.proofs.Clones.{clone-sound, clone-whole, clone-refused}
 use Rattle.arena_base.proofs.Steps.{capacity-is, relisted-fresh}
 use Rattle.arena_base.proofs.arena.Arena.take_over.Goals as goal
 

@@ -1,5 +1,4 @@
-use Rattle.arena_base.proofs.Words.{inl, inr, on_ok_weaker}
-use Rattle.arena_base.proofs.CloneFacts.{clone-restated, refusal-restated}
+use Rattle.arena_base.proofs.{Words.inl, Words.inr, Words.on_ok_weaker, Clones.clone-restated, Clones.refusal-restated}
 use Rattle.arena_base.proofs.arena.Arena.try_clone_from_with.Goals as goal
 
 pub returns-clause-ok : goal.returns-clause-ok

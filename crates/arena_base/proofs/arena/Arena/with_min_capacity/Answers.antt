@@ -1,5 +1,4 @@
-use Rattle.arena_base.proofs.Words.{arith}
-use Rattle.arena_base.proofs.Resizing.{made-length, made-view, made-sound}
+use Rattle.arena_base.proofs.{Words.arith, Resizing.made-length, Resizing.made-view, Resizing.made-sound}
 use Rattle.arena_base.proofs.arena.Arena.with_min_capacity.Goals as goal
 
 pub invariant_of-result : goal.invariant_of-result

@@ -1,5 +1,4 @@
-use Rattle.arena_base.proofs.Words.{◌≡◌, ◌+◌, vec_capacity, vec_len, Grants}
-use Rattle.arena_base.proofs.Cloning.{ClonedBelow}
+use Rattle.arena_base.proofs.{Words.◌≡◌, Words.◌+◌, Words.vec_capacity, Words.vec_len, Words.Grants, Clones.ClonedBelow}
 use Rattle.arena_base.proofs.arena.clone.clone_slots.Given as goal
 
 abbrev pub invariant-loop-position : goal.invariant-loop-position

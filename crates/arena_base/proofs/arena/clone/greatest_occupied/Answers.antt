@@ -1,5 +1,5 @@
 use Rattle.arena_base.proofs.Words.{refl, sym, ap, ◌∙◌, unwrap_or}
-use Rattle.arena_base.proofs.Occupied.{greatest_occupied-last, greatest_occupied-none, unwrap_or-index_number}
+use Rattle.arena_base.proofs.Slots.{greatest_occupied-last, greatest_occupied-none, unwrap_or-index_number}
 use Rattle.arena_base.proofs.arena.clone.greatest_occupied.Goals as goal
 
 pub returns-in-Some : goal.returns-in-Some

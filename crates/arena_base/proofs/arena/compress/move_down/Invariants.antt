@@ -1,5 +1,4 @@
-use Rattle.arena_base.proofs.Words.{◌≡◌, vec_capacity}
-use Rattle.arena_base.proofs.Compressing.{CompressedBelow}
+use Rattle.arena_base.proofs.{Words.◌≡◌, Words.vec_capacity, Compressing.CompressedBelow}
 use Rattle.arena_base.proofs.arena.compress.move_down.Given as goal
 
 abbrev pub invariant-loop-from : goal.invariant-loop-from

@@ -1,5 +1,5 @@
 use Rattle.arena_base.proofs.Words.{◌≡◌, get_or, arith, sym, ◌∙◌, Vacant}
-use Rattle.arena_base.proofs.Positions.{take-without_last, get_or-last}
+use Rattle.arena_base.proofs.Slots.{take-without_last, get_or-last}
 use Rattle.arena_base.proofs.arena.growth.cut_vacant.Goals as goal
 
 pub loop-slots-preserved : goal.loop-slots-preserved

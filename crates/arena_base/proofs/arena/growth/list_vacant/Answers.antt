@@ -1,5 +1,5 @@
 use Rattle.arena_base.proofs.Words.{◌≡◌, ◌+◌, length, arith, drop, sym, ap, ◌∙◌, reverse, length-map, length-reverse, length-drop, vacant_slots}
-use Rattle.arena_base.proofs.Positions.{length-vacant_slots, vacant_slots-full}
+use Rattle.arena_base.proofs.Slots.{length-vacant_slots, vacant_slots-full}
 use Rattle.arena_base.proofs.arena.growth.list_vacant.Goals as goal
 
 pub returns-clause-items : goal.returns-clause-items
@@ -19,8 +19,7 @@ push_reserved-requires g c =
       vacant.ok.0,
       length-map vacant.items g.I.PtrInx.number,
       ap length c.loop-position.invariant.items,
-      length-reverse
-          (vacant_slots (position + 1) rest),
+      length-reverse (vacant_slots (position + 1) rest),
       length-vacant_slots (position + 1) rest,
       length-drop position c.args.slots.now,
     )

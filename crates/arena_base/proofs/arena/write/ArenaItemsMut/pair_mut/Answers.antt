@@ -1,8 +1,7 @@
-use Rattle.arena_base.proofs.Words.{◌≡◌, ℕ, ◌+◌, ◌<◌, refl, ap, ◌∙◌, subst, option_map, ForSome, slot, arena_capacity, IsLawfulGeneration, with_slot_item}
-use Rattle.arena_base.proofs.Occupied.{entry_in-parts, item-slot_entry, entry_in-with_slot_item}
-use Rattle.arena_base.proofs.Steps.{read, read-occupied, written, written-sound}
-use Rattle.arena_base.proofs.arena.write.ArenaItemsMut.pair_mut.Given.{Over}
+use Rattle.arena_base.proofs.Words.{◌≡◌, ℕ, ◌+◌, ◌<◌, refl, ap, ◌∙◌, subst, option_map, ForSome, slot, arena_capacity, IsLawfulGeneration}
 use Rattle.arena_base.proofs.arena.write.ArenaItemsMut.pair_mut.Goals.{After-position_of_entry-position}
+use Rattle.arena_base.proofs.{Words.with_slot_item, Slots.entry_in-parts, Slots.item-slot_entry, Slots.entry_in-with_slot_item, Steps.read}
+use Rattle.arena_base.proofs.{Steps.read-occupied, Steps.written, Steps.written-sound, arena.write.ArenaItemsMut.pair_mut.Given.Over}
 use Rattle.arena_base.proofs.arena.write.ArenaItemsMut.pair_mut.Goals as goal
 
 found : (g : Over) (c : After-position_of_entry-position g)

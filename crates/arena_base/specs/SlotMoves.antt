@@ -1,0 +1,23 @@
+-- What a clone and a compression do to the slots in memory. No public clause cites this file.
+use Rattle.std.specs.Prelude.{◌≡◌, ℕ, ◌-◌, ◌≤◌, List, [], ◌∷◌, ◌++◌, length, map, replicate, Option, None}
+use Rattle.std.specs.List.{FoldsTo}
+use Rattle.arena_base.specs.{declared.slot.Slot.Slot, declared.slot.Slot.TheVariants.Occupied, declared.slot.Slot.TheVariants.Vacant}
+use Rattle.arena_base.specs.{Slot.entry_in, Walk.entries_from, Clone.CloneStep, Clone.with_items, Compression.CompressionStep}
+
+module _ {P T U G F : Type 0} (numbers : P → ℕ × ℕ) (number : G → ℕ) (step : F → P → U → T → F → Type 0) where
+  -- there are clones of all entries in the slots; behind these the source has vacant slots alone
+  pub record ClonesSlots (f : F) (source : List (Option (ℕ × U))) (slots : List (Slot T G)) : Type 0 where
+    pub items : List T
+    pub last : F
+    pub calls : FoldsTo (CloneStep numbers step) (f, []) (entries_from 0 source) (last, items)
+    pub vacant_behind : ℕ
+    pub after : with_items source items ≡ None ∷ map (entry_in number) slots ++ replicate vacant_behind None
+
+module _ {P T G F : Type 0} (numbers : P → ℕ × ℕ) (number : G → ℕ) (step : F → P → T → P → T → F → Type 0) (generation : G) where
+  -- the entries of all slots came to the first ones, the others are vacant
+  pub record CompressesSlots (f : F) (old new : List (Slot T G)) : Type 0 where
+    pub items : List T
+    pub last : F
+    pub calls : FoldsTo (CompressionStep numbers step (number generation)) (f, []) (entries_from 1 (map (entry_in number) old)) (last, items)
+    pub fits : length items ≤ length old
+    pub after : new ≡ map (λ item. Occupied item generation) items ++ replicate (length old - length items) Vacant
