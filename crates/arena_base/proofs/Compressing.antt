@@ -81,8 +81,7 @@ module _ {P T G F : Type 0} {numbers : P → ℕ × ℕ} {number : G → ℕ} {s
     -- the slots once the slot is vacated
     emptied : set slots from Vacant ≡ done ++ (Vacant ∷ (replicate b.gap Vacant ++ drop (from + 1) old))
     emptied =
-        ap (λ xs. set xs from Vacant) opened ∙ set_at before _ _ Vacant from length-before
-        ∙ (append_assoc done (replicate b.gap Vacant) (Vacant ∷ drop (from + 1) old) ∙ ap (λ xs. done ++ xs) (vacated b.gap Vacant (drop (from + 1) old)))
+        ap (λ xs. set xs from Vacant) opened ∙ rw (set_at before _ _ Vacant from length-before, append_assoc, vacated)
 
     -- the slot that the item comes to is vacant
     pub compressed-free : (x : Slot T G) → x ≡ get_or (set slots from Vacant) to x → x ≡ Vacant

@@ -1,5 +1,5 @@
 use Rattle.arena_base.proofs.arena.Arena.swap_inx.Goals.{After-position_of_entry-second, After-renew-2}
-use Rattle.arena_base.proofs.{Words.◌<◌, Words.arith, Words.vec_len, Steps.read-occupied, Steps.slot-within, Steps.capacity-is}
+use Rattle.arena_base.proofs.{Words.◌≡◌, Words.◌<◌, Words.arith, Words.length, Words.vec_len, Steps.read-occupied, Steps.slot-within, Steps.capacity-is}
 use Rattle.arena_base.proofs.{Swapping.IsExchange, Swapping.swapped-view, Swapping.swapped-sound, arena.Arena.swap_inx.Given.Over}
 use Rattle.arena_base.proofs.arena.Arena.swap_inx.Goals as goal
 
@@ -43,23 +43,14 @@ exchange : (g : Over) (c : After-renew-2 g)
     c.index.result.now c.index-2.result.now c.index_mut-slot.result.now c.index_mut-slot-2.result.now c.renew.new.self c.renew-2.new.self
     c.generation-kept_first.result c.generation-kept_second.result
 exchange g c =
+    let xs = c.self.inside.slots in
     let capacity = capacity-is g.P.Gen.PtrGen g.P.Inx.PtrInx c.self.inside _ c.self.view_is in
-    record {
-      p_within = omega (arith, capacity, c.position_of_entry-first.ensures.within);
-      q_within = omega (arith, capacity, c.position_of_entry-second.ensures.within);
-      p_is = c.index.ensures;
-      q_is = c.index-2.ensures;
-      p_era = c.generation-kept_first.ensures;
-      q_era = c.generation-kept_second.ensures;
-      same_len = omega (arith, c.swap.new.self.ok.0, c.self.inside.slots.ok.0, c.swap.ensures.len);
-      p_after = c.swap.ensures.by_index.0;
-      q_after = c.swap.ensures.by_index.1;
-      after = c.swap.ensures.by_index.3;
-      first_old = c.index_mut-slot.ensures.value;
-      first = c.renew.ensures;
-      second_old = c.index_mut-slot-2.ensures.value;
-      second = c.renew-2.ensures;
-    }
+    let first : c.position_of_entry-first.result < length xs.items = omega (arith, capacity, c.position_of_entry-first.ensures.within) in
+    let second : c.position_of_entry-second.result < length xs.items = omega (arith, capacity, c.position_of_entry-second.ensures.within) in
+    let same : length c.swap.new.self.items ≡ length xs.items = omega (arith, c.swap.new.self.ok.0, xs.ok.0, c.swap.ensures.len) in
+    let places = c.swap.ensures.by_index in
+    let old = c.index_mut-slot.ensures in let older = c.index_mut-slot-2.ensures in
+    assumption (first, second, same, places, old, older, c.index, c.index-2, c.generation-kept_first, c.generation-kept_second, c.renew, c.renew-2)
 
 pub invariant_of-self : goal.invariant_of-self
 invariant_of-self g c = (

@@ -1,6 +1,6 @@
-use Rattle.arena_base.proofs.Words.{◌≤◌, length, replicate, ◌-◌, arith, sym, ap, ◌∙◌, length-append, length-replicate, same_Some, option_map, Slot, Vacant}
+use Rattle.arena_base.proofs.Words.{◌≤◌, length, ◌-◌, arith, sym, ap, ◌∙◌, same_Some, option_map, Vacant}
 use Rattle.arena_base.proofs.Clones.{clone-sound, clone-whole, clone-refused}
-use Rattle.arena_base.proofs.Steps.{capacity-is, relisted-fresh}
+use Rattle.arena_base.proofs.{Steps.capacity-is, Steps.relisted-fresh, Resizing.length-padded}
 use Rattle.arena_base.proofs.arena.Arena.take_over.Goals as goal
 
 pub invariant_of-self : goal.invariant_of-self
@@ -12,21 +12,11 @@ invariant_of-self g c =
     let all = rw c.as_slice.ensures.value at c.list_vacant.ensures.items in
     let named = same_Some _ _ (ap (option_map g.P.Gen.PtrGen.number) (sym c.unwrap-self-inside.ensures) ∙ c.singular_generation.ensures) in
     let padded = rw (copies.ok.0, c.len-capacity.ensures, s.slots.ok.0) at c.add_vacant.ensures.items in
-    let capacity = capacity-is g.P.Gen.PtrGen g.P.Inx.PtrInx s _ c.self.view_is in (
+    let within : length copies.items ≤ length s.slots.items = omega (arith, copies.ok.0, capacity-is g.P.Gen.PtrGen g.P.Inx.PtrInx s _ c.self.view_is) in (
       clone-sound g.P.Ptr.numbers g.P.Gen.PtrGen g.P.Inx.PtrInx g.M.CloneEntry.step s copies.items next.items _ _ all c.args.self.now c.self.view_is
-          _ named (omega arith) (omega (arith, copies.ok.0, capacity)) padded c.args.map
+          _ named (omega arith) within padded c.args.map
           c.self.invariant.0 c.capacity.ensures.lawful granted.result granted.ensures.ok granted.ensures.none_left,
-      omega (
-        arith,
-        next.ok.0,
-        s.slots.ok.0,
-        ap length padded,
-        length-append copies.items (replicate (length s.slots.items - length copies.items) Vacant),
-        length-replicate {A = Slot g.row.T.Denot g.row.P-Gen.Denot} (length s.slots.items - length copies.items) Vacant,
-        copies.ok.0,
-        capacity,
-        c.self.invariant.1,
-      ),
+      omega (arith, next.ok.0, s.slots.ok.0, length-padded _ copies.items next.items Vacant padded within, c.self.invariant.1),
     )
 
 pub returns : goal.returns

@@ -1,4 +1,4 @@
-use Rattle.arena_base.proofs.Words.{◌≡◌, ◌+◌, length, arith, drop, sym, ap, ◌∙◌, reverse, length-map, length-reverse, length-drop, vacant_slots}
+use Rattle.arena_base.proofs.Words.{◌≡◌, ℕ, ◌+◌, length, arith, drop, sym, ap, ◌∙◌, reverse, length-map, length-reverse, length-drop, vacant_slots}
 use Rattle.arena_base.proofs.Slots.{length-vacant_slots, vacant_slots-full}
 use Rattle.arena_base.proofs.arena.growth.list_vacant.Goals as goal
 
@@ -12,14 +12,7 @@ returns-clause-items g c =
 pub push_reserved-requires : goal.push_reserved-requires
 push_reserved-requires g c =
     let position = c.loop-position.position in
-    let rest = drop position c.args.slots.now in
     let vacant = c.loop-position.vacant in
-    omega (
-      arith,
-      vacant.ok.0,
-      length-map vacant.items g.I.PtrInx.number,
-      ap length c.loop-position.invariant.items,
-      length-reverse (vacant_slots (position + 1) rest),
-      length-vacant_slots (position + 1) rest,
-      length-drop position c.args.slots.now,
-    )
+    let listed = length-map vacant.items g.I.PtrInx.number in
+    let few = length-vacant_slots (position + 1) (drop position c.args.slots.now) in
+    omega (arith, vacant.ok.0, listed, ap length c.loop-position.invariant.items, length-reverse {A = ℕ}, few, length-drop position c.args.slots.now)
