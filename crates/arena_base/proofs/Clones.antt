@@ -281,7 +281,8 @@ module _ {P T A U Inx Gen F : Type 0} (numbers : P → ℕ × ℕ) (gen : Genera
   clone-whole (Err e) p = tt
   clone-whole (Ok x) p =
       let view = replaced-view (with_items source.slots p.items) (made-cloned p) in
-      let same : HoldsSame after (replaced source a (with_items source.slots p.items)) = rw (← view) (record { slots = refl; generation = refl; maximum = refl }) in
+      let same : HoldsSame after (replaced source a (with_items source.slots p.items)) =
+      rw (← view) (record { slots = refl; generation = refl; maximum = refl }) in
       record { items = p.items; last = p.last; calls = p.calls; after = same }
 
   pub clone-refused : (r : Result (Unit {0}) AllocError) → OnErr r (StopsAtRefusal numbers step f (entries_rising source 0)) → OnErr r (copies ≡ [])

@@ -1,5 +1,6 @@
 use Rattle.arena_base.proofs.arena.Arena.swap_inx.Goals.{After-position_of_entry-second, After-renew-2}
-use Rattle.arena_base.proofs.{Words.◌≡◌, Words.◌<◌, Words.arith, Words.length, Words.vec_len, Steps.read-occupied, Steps.slot-within, Steps.capacity-is}
+use Rattle.arena_base.proofs.Words.{◌≡◌, ◌<◌, arith, length, vec_len}
+use Rattle.arena_base.proofs.Steps.{read-occupied, slot-within, capacity-is}
 use Rattle.arena_base.proofs.{Swapping.IsExchange, Swapping.swapped-view, Swapping.swapped-sound, arena.Arena.swap_inx.Given.Over}
 use Rattle.arena_base.proofs.arena.Arena.swap_inx.Goals as goal
 
@@ -49,8 +50,8 @@ exchange g c =
     let second : c.position_of_entry-second.result < length xs.items = omega (arith, capacity, c.position_of_entry-second.ensures.within) in
     let same : length c.swap.new.self.items ≡ length xs.items = omega (arith, c.swap.new.self.ok.0, xs.ok.0, c.swap.ensures.len) in
     let places = c.swap.ensures.by_index in
-    let old = c.index_mut-slot.ensures in let older = c.index_mut-slot-2.ensures in
-    assumption (first, second, same, places, old, older, c.index, c.index-2, c.generation-kept_first, c.generation-kept_second, c.renew, c.renew-2)
+    let old = c.index_mut-slot.ensures in let older = c.index_mut-slot-2.ensures in let era = c.generation-kept_first in
+    assumption (first, second, same, places, old, older, c.index, c.index-2, era, c.generation-kept_second, c.renew, c.renew-2)
 
 pub invariant_of-self : goal.invariant_of-self
 invariant_of-self g c = (

@@ -4,7 +4,7 @@ use Rattle.arena_base.proofs.arena.clone.greatest_occupied.Goals as goal
 
 pub returns-in-Some : goal.returns-in-Some
 returns-in-Some g c =
-    let number = c.unwrap_or.ensures ∙ (ap (λ o. unwrap_or o 0) c.try_into_usize.ensures ∙ unwrap_or-index_number (g.P.Inx.PtrInx.number c.inx.result)) in
+    let number = c.unwrap_or.ensures ∙ (ap (λ o. unwrap_or o 0) c.try_into_usize.ensures ∙ unwrap_or-index_number _) in
     record { value = number ∙ (c.inx.ensures ∙ sym (greatest_occupied-last c.in-Some.ensures.last)) }
 
 pub returns-in-None : goal.returns-in-None

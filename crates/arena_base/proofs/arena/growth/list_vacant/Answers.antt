@@ -1,5 +1,5 @@
-use Rattle.arena_base.proofs.Words.{◌≡◌, ℕ, ◌+◌, length, arith, drop, sym, ap, ◌∙◌, reverse, length-map, length-reverse, length-drop, vacant_slots}
-use Rattle.arena_base.proofs.Slots.{length-vacant_slots, vacant_slots-full}
+use Rattle.arena_base.proofs.Words.{◌≡◌, ℕ, ◌+◌, length, arith, drop, sym, ap, ◌∙◌, reverse, length-map, length-reverse, length-drop}
+use Rattle.arena_base.proofs.{Words.vacant_slots, Slots.length-vacant_slots, Slots.vacant_slots-full}
 use Rattle.arena_base.proofs.arena.growth.list_vacant.Goals as goal
 
 pub returns-clause-items : goal.returns-clause-items
@@ -15,4 +15,5 @@ push_reserved-requires g c =
     let vacant = c.loop-position.vacant in
     let listed = length-map vacant.items g.I.PtrInx.number in
     let few = length-vacant_slots (position + 1) (drop position c.args.slots.now) in
-    omega (arith, vacant.ok.0, listed, ap length c.loop-position.invariant.items, length-reverse {A = ℕ}, few, length-drop position c.args.slots.now)
+    let rest = length-drop position c.args.slots.now in
+    omega (arith, vacant.ok.0, listed, ap length c.loop-position.invariant.items, length-reverse {A = ℕ}, few, rest)
