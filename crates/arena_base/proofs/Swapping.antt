@@ -82,10 +82,8 @@ module _ {P T A Inx Gen : Type 0} (gen : Generations Gen) (inx : Indexes Inx) (s
 
   second-there : (e : ℕ × T) → is_some (get_or (set slots p (Some e)) q None) ≡ true
   second-there e =
-      elim (cases_eq q p) [
-        | inl same ↦ rw same (ap is_some (get_or-set_same slots p (Some e) None (omega (arith, h.p_within, length-map s.slots.items (entry_in gen.number)))))
-        | inr different ↦ ap is_some (get_or-set_other slots p q (Some e) None different ∙ second-entry)
-      ]
+      let long = length-map s.slots.items (entry_in gen.number) in
+      grind (arith, get_or-set_same slots p (Some e) None, get_or-set_other slots p q (Some e) None, second-entry, long, h.p_within)
 
   pub swapped-sound : Sound gen inx s (stored gen inx s s.slots.items s.vacant.items) → Sound gen inx s now
   swapped-sound sound =

@@ -5,12 +5,10 @@ pub returns-in-Occupied : goal.returns-in-Occupied
 returns-in-Occupied g c =
     let found = c.in_ok-position.ensures in
     sym (read g.P.Gen.PtrGen g.P.Inx.PtrInx c.self.inside _ c.self.view_is _ _
-    (record { number = found.number; within = found.within }) _ c.index.ensures
-    ∙ ap (entry_in g.P.Gen.PtrGen.number) c.in-Occupied.is)
+    (record { number = found.number; within = found.within }) _ c.index.ensures ∙ ap (entry_in g.P.Gen.PtrGen.number) c.in-Occupied.is)
 
 pub returns-in-Vacant : goal.returns-in-Vacant
 returns-in-Vacant g c =
     let found = c.in_ok-position.ensures in
     sym (read g.P.Gen.PtrGen g.P.Inx.PtrInx c.self.inside _ c.self.view_is _ _
-    (record { number = found.number; within = found.within }) _ c.index.ensures
-    ∙ ap (entry_in g.P.Gen.PtrGen.number) c.in-Vacant.is)
+    (record { number = found.number; within = found.within }) _ c.index.ensures ∙ ap (entry_in g.P.Gen.PtrGen.number) c.in-Vacant.is)

@@ -6,10 +6,9 @@ use Rattle.arena_base.proofs.arena.write.ArenaItemsMut.pair_mut.Goals as goal
 
 found : (g : Over) (c : After-position_of_entry-position g)
     → record { number : g.P.Inx.PtrInx.number c.args.i ≡ c.position_of_entry-position.result + 1; within : c.position_of_entry-position.result < arena_capacity c.args.self.now }
-found g c = record {
-  number = c.position_of_entry-position.ensures.number;
-  within = subst (λ v. c.position_of_entry-position.result < arena_capacity v) c.self.view_is c.position_of_entry-position.ensures.within;
-}
+found g c =
+    let at = c.position_of_entry-position in
+    record { number = at.ensures.number; within = subst (λ v. at.result < arena_capacity v) c.self.view_is at.ensures.within }
 
 pub generation-generation-requires : goal.generation-generation-requires
 generation-generation-requires g c =
