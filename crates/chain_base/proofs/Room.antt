@@ -1,5 +1,5 @@
 -- Room for one more entry: where a chain has it, and what a growth makes of it.
-use Rattle.std.proofs.Common.{◌≡◌, ℕ, zero, suc, ◌+◌, ◌<◌, ◌≤◌, List, [], ◌∷◌, length, refl, sym, ap, if◌then◌else◌, Option, IsSome, slice_get, Result, IfOk, OnErr, max, arith}
+use Rattle.std.proofs.Common.{◌≡◌, ℕ, zero, suc, ◌+◌, ◌<◌, ◌≤◌, List, length, Option, IsSome, slice_get, Result, IfOk, OnErr, max, arith}
 use Rattle.std.proofs.lemmas.Grind.{common_steps}
 use Rattle.chain_base.specs.Chain.{Entry, Chain, times, inserted_at, greatest_index, vacant_among, next_index, grown_capacity, with_capacity, with_room, IsSound}
 use Rattle.chain_base.specs.Insert.{IsInsertion}
@@ -18,18 +18,6 @@ module _ {T : Type 0} where
   vacant_among-some : (es : List (Entry T)) (from count k : ℕ) → from ≤ k → k < from + count → times k es ≡ 0 → IsSome (slice_get (vacant_among es from count) 0)
   vacant_among-some es from zero k above below free = absurd (omega arith)
   vacant_among-some es from (suc count) k above below free = grind (arith, common_steps, vacant_among-some es (from + 1) count k)
-
-  -- where not all slots are taken, there is a next one, and room is not made
-  module _ (c : Chain T) (counted : length c.entries + length c.vacant ≡ c.capacity) (less : length c.entries < c.capacity) where
-    pub next-there : IsSome (next_index c)
-    next-there = first c.vacant (omega arith)
-      where
-        first : (vacant : List ℕ) → 0 < length vacant → IsSome (slice_get vacant 0)
-        first [] some = absurd (omega arith)
-        first (i ∷ rest) some = refl
-
-    pub with_room-there : (most : ℕ) → c ≡ with_room most c
-    with_room-there most = sym (ap (λ b. if b then c else with_capacity c (grown_capacity most c)) next-there)
 
   module _ (most : ℕ) (greatest : Option ℕ) (c : Chain T) (sound : IsSound most greatest c) where
     -- the greatest index is within the capacity
