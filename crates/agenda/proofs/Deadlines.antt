@@ -39,24 +39,25 @@ module _ {J : Type 0} where
   in_order-back (x ∷ xs) ys sorted = in_order-back xs ys sorted.1
 
   -- a job between those whose deadline is at most its own and those with a greater one
-  pub in_order-between : (xs : List (Scheduled J)) (x : Scheduled J) (ys : List (Scheduled J)) → IsInOrder (xs ++ ys)
-      → AllByRecursion (λ y. y.deadline ≤ x.deadline) xs → AllByRecursion (λ y. x.deadline < y.deadline) ys → IsInOrder (xs ++ x ∷ ys)
-  in_order-between [] x ys sorted below above =
-      (All-from_recursion _ ys (recursion-map (λ y. x.deadline < y.deadline) (λ y. x.deadline ≤ y.deadline) (λ y more. omega (arith, more)) ys above), sorted)
-  in_order-between (z ∷ xs) x ys sorted below above =
-      let P : Scheduled J → Type 0 = λ y. z.deadline ≤ y.deadline in
-      let all = later z (xs ++ ys) sorted in
-      (All-from_recursion P (xs ++ x ∷ ys) (recursion-append P xs (x ∷ ys) (recursion-front P xs ys all) (below.0, recursion-back P xs ys all)), in_order-between xs x ys sorted.1 below.1 above)
+  module _ (x : Scheduled J) (ys : List (Scheduled J)) (above : AllByRecursion (λ y. x.deadline < y.deadline) ys) where
+    pub in_order-between : (xs : List (Scheduled J)) → IsInOrder (xs ++ ys) → AllByRecursion (λ y. y.deadline ≤ x.deadline) xs → IsInOrder (xs ++ x ∷ ys)
+    in_order-between [] sorted below =
+        (All-from_recursion _ ys (recursion-map (λ y. x.deadline < y.deadline) (λ y. x.deadline ≤ y.deadline) (λ y more. omega (arith, more)) ys above), sorted)
+    in_order-between (z ∷ xs) sorted below =
+        let P : Scheduled J → Type 0 = λ y. z.deadline ≤ y.deadline in
+        let all = later z (xs ++ ys) sorted in
+        (All-from_recursion P (xs ++ x ∷ ys) (recursion-append P xs (x ∷ ys) (recursion-front P xs ys all) (below.0, recursion-back P xs ys all)), in_order-between xs sorted.1 below.1)
 
   -- where the last of a front isn't later than a deadline, none of it is
-  pub none-later : (d : ℕ) (es fs : List (Entry (ℕ × J))) → IsInOrder (map scheduled es ++ map scheduled fs)
-      → IfSome (last_or None es) (λ e. nat_cmp d e.item.0 ≢ Less) → AllByRecursion (λ y. y.deadline ≤ d) (map scheduled es)
-  none-later d [] fs sorted last = tt
-  none-later d (e ∷ []) fs sorted last = (grind (arith, nat_tests, last), tt)
-  none-later d (e ∷ f ∷ es) fs sorted last =
-      let rest = none-later d (f ∷ es) fs sorted.1 last in
-      let next = later (scheduled e) (map scheduled (f ∷ es) ++ map scheduled fs) sorted in
-      (omega (arith, rest.0, next.0), rest)
+  module _ (d : ℕ) (ys : List (Scheduled J)) where
+    pub none-later : (es : List (Entry (ℕ × J))) → IsInOrder (map scheduled es ++ ys) → IfSome (last_or None es) (λ e. nat_cmp d e.item.0 ≢ Less)
+        → AllByRecursion (λ y. y.deadline ≤ d) (map scheduled es)
+    none-later [] sorted last = tt
+    none-later (e ∷ []) sorted last = (grind (arith, nat_tests, last), tt)
+    none-later (e ∷ f ∷ es) sorted last =
+        let rest = none-later (f ∷ es) sorted.1 last in
+        let next = later (scheduled e) (map scheduled (f ∷ es) ++ ys) sorted in
+        (omega (arith, rest.0, next.0), rest)
 
   -- where the first of a back is later than a deadline, all of it is
   pub all-later : (d : ℕ) (fs : List (Entry (ℕ × J))) → IsInOrder (map scheduled fs) → IfSome (first_of fs) (λ e. nat_cmp d e.item.0 ≡ Less)

@@ -79,7 +79,10 @@ module _ {J : Type 0} where
 
   -- what the removal of a ticket's entry leaves
   module _ (old new : Tree (ℕ × J)) (t : ℕ × ℕ) (distinct : AreDistinct old.list.entries) where
-    module _ (there : IsSome (item_of old.list.entries t)) (after : new.list ≡ removed greatest_generation old.list t.0) where
+    abbrev IsTaken : Type 0
+    IsTaken = new.list ≡ removed greatest_generation old.list t.0
+
+    module _ (there : IsSome (item_of old.list.entries t)) (after : IsTaken) where
       pub agenda-removed : agenda_of new ≡ with_left (agenda_of old) (without (agenda_of old).jobs t)
       agenda-removed = rw (after, without-found old.list.entries distinct t there) refl
 
@@ -94,7 +97,7 @@ module _ {J : Type 0} where
           omega (arith, ap count agenda-removed, length-without (agenda_of old).jobs t (subst (λ (o : Option (ℕ × J)). IsSome o) (sym (job_of-found old.list.entries distinct t)) there))
 
     -- what tickets name afterwards, whether the ticket had an entry or none
-    pub updates-removed : (o : Option (ℕ × J)) → o ≡ item_of old.list.entries t → OnSome o (new.list ≡ removed greatest_generation old.list t.0) → IfNone o (new ≡ old)
+    pub updates-removed : (o : Option (ℕ × J)) → o ≡ item_of old.list.entries t → OnSome o IsTaken → IfNone o (new ≡ old)
         → Updates (agenda_of old) (agenda_of new) t None
     updates-removed None value taken none = subst (λ (a : Tree (ℕ × J)). Updates (agenda_of old) (agenda_of a) t None) (sym none)
         (updates-none (agenda_of old) t (job_of-found old.list.entries distinct t ∙ sym value))

@@ -56,23 +56,27 @@ module _ {J : Type 0} (growth : Growth) (old new : Tree (ℕ × J)) (d : ℕ) (j
   abbrev entry : Entry (ℕ × J)
   entry = record { index = p.0; generation = p.1; item = (d, job) }
 
+  -- the list with room for one more
+  abbrev room : Chain (ℕ × J)
+  room = with_slot growth most_jobs old.list
+
   -- the list with an entry in the gap, under this index and generation
   abbrev put_list : List ℕ → ℕ → ℕ → Chain (ℕ × J)
-  put_list vacant i g = record (with_slot growth most_jobs old.list) { entries = gap.front ++ record { index = i; generation = g; item = (d, job) } ∷ gap.back; vacant = vacant }
+  put_list vacant i g = record room { entries = gap.front ++ record { index = i; generation = g; item = (d, job) } ∷ gap.back; vacant = vacant }
 
   module _ (at_most_before : IfSome (before gap) (λ e. nat_cmp d e.item.0 ≢ Less)) (greater_after : IfSome (after gap) (λ e. nat_cmp d e.item.0 ≡ Less))
-      (inserted : IsInsertion (with_slot growth most_jobs old.list) new.list (with_between gap) (d, job) p.0 p.1)
+      (inserted : IsInsertion room new.list (with_between gap) (d, job) p.0 p.1)
       (sound : IsSound most_jobs greatest_generation old.list) (holds : IsArenaOfJobs old) where
     -- the list afterwards
     after-put : (rest : List ℕ) × (new.list ≡ put_list rest p.0 p.1)
-    after-put = go (with_slot growth most_jobs old.list).vacant inserted.next inserted.after
+    after-put = go room.vacant inserted.next inserted.after
       where
-        go : (vacant : List ℕ) → slice_get vacant 0 ≡ Some p.0 → new.list ≡ inserted_at (with_slot growth most_jobs old.list) (with_between gap) (d, job) vacant
+        go : (vacant : List ℕ) → slice_get vacant 0 ≡ Some p.0 → new.list ≡ inserted_at room (with_between gap) (d, job) vacant
             → (rest : List ℕ) × (new.list ≡ put_list rest p.0 p.1)
         go [] next after = absurd (cc)
         go (j ∷ rest) next after =
             let here : j ≡ p.0 = cc in
-            (rest, after ∙ ap (λ i. put_list rest i (with_slot growth most_jobs old.list).generation) here ∙ ap (λ g. put_list rest p.0 g) (sym inserted.generation))
+            (rest, after ∙ ap (λ i. put_list rest i room.generation) here ∙ ap (λ g. put_list rest p.0 g) (sym inserted.generation))
 
     numbers-put : (new.list.generation ≡ old.list.generation) × (new.list.maximum ≡ old.list.maximum)
     numbers-put = let numbers = numbers-with_slot growth most_jobs old.list in
@@ -100,7 +104,7 @@ module _ {J : Type 0} (growth : Growth) (old new : Tree (ℕ × J)) (d : ℕ) (j
       later = map scheduled gap.back;
       before = jobs-before;
       after = jobs-after;
-      no_later_before = All-from_recursion _ _ (none-later d gap.front gap.back in_order at_most_before);
+      no_later_before = All-from_recursion _ _ (none-later d (map scheduled gap.back) gap.front in_order at_most_before);
       later_behind = All-from_recursion _ _ (all-later d gap.back (in_order-back _ _ in_order) greater_after);
       unused = job_of-found old.list.entries sound.distinct p ∙ rw (entry_at-absent old.list.entries p.0 (ap (times p.0) (sym (entries-with_slot growth most_jobs old.list)) ∙ inserted.vacant.free)) refl;
       of_generation = inserted.generation ∙ (numbers-with_slot growth most_jobs old.list).0;
@@ -110,20 +114,23 @@ module _ {J : Type 0} (growth : Growth) (old new : Tree (ℕ × J)) (d : ℕ) (j
 
     arena-put : IsArenaOfJobs new
     arena-put = record {
-      in_order = rw jobs-after (in_order-between (map scheduled gap.front) (scheduled entry) (map scheduled gap.back) in_order
-          (none-later d gap.front gap.back in_order at_most_before) (all-later d gap.back (in_order-back _ _ in_order) greater_after));
+      in_order = rw jobs-after (in_order-between (scheduled entry) (map scheduled gap.back) (all-later d gap.back (in_order-back _ _ in_order) greater_after)
+          (map scheduled gap.front) in_order (none-later d (map scheduled gap.back) gap.front in_order at_most_before));
       unlimited = numbers-put.1 ∙ holds.unlimited;
     }
 
 -- an insertion behind a key makes a new entry
-pub inserts-new : {P T K : Type 0} (key : T → K) (cmp : K → K → Ordering) (most : ℕ) (growth : Growth) (k : K) (numbers : P → ℕ × ℕ)
-    (old : Tree T) (item : T) (shown : OrdEntryKind P) (before : Option T) (new : Tree T)
-    → InsertsBy key cmp most growth (behind_key k) numbers old item (Ok (shown, before)) new
-    → InsertsNew key cmp most growth (behind_key k) old item (numbers (pointer_of shown)) new
-inserts-new key cmp most growth k numbers old item (New p) None new inserts = inserts
-inserts-new key cmp most growth k numbers old item (New p) (Some before) new inserts = absurd inserts
-inserts-new key cmp most growth k numbers old item (Replacing p) None new inserts = absurd inserts
-inserts-new key cmp most growth k numbers old item (Replacing p) (Some before) new inserts = absurd inserts.place
+module _ {P T K : Type 0} (key : T → K) (cmp : K → K → Ordering) (most : ℕ) (growth : Growth) (k : K) (numbers : P → ℕ × ℕ)
+    (old : Tree T) (item : T) (new : Tree T) where
+  abbrev IsNew : ℕ × ℕ → Type 0
+  IsNew p = InsertsNew key cmp most growth (behind_key k) old item p new
+
+  pub inserts-new : (told : OrdEntryKind P × Option T) → InsertsBy key cmp most growth (behind_key k) numbers old item (Ok told) new
+      → IsNew (numbers (pointer_of told.0))
+  inserts-new (New p, None) inserts = inserts
+  inserts-new (New p, Some before) inserts = absurd inserts
+  inserts-new (Replacing p, None) inserts = absurd inserts
+  inserts-new (Replacing p, Some before) inserts = absurd inserts.place
 
 -- what an insertion behind its deadline makes of an agenda
 module _ {J : Type 0} (growth : Growth) (old new : Tree (ℕ × J)) (d : ℕ) (job : J) (p : ℕ × ℕ)

@@ -42,28 +42,31 @@ module _ {T K : Type 0} (key : T → K) where
   ]
 
   -- what is true of each key, when an entry goes, comes, or gets another item
-  all-without : (P : K → Type 0) (es : List (Entry T)) (i : ℕ) → AllByRecursion P (keys es) → AllByRecursion P (keys (without i es))
-  all-without P [] i all = tt
-  all-without P (e ∷ es) i all = elim (eqb_tells e.index i) [
-    | inl h ↦ rw h.0 all.1
-    | inr h ↦ rw h.0 (all.0, all-without P es i all.1)
-  ]
+  module _ (P : K → Type 0) where
+    abbrev Each : List (Entry T) → Type 0
+    Each es = AllByRecursion P (keys es)
 
-  all-between : (P : K → Type 0) (front : List (Entry T)) (e : Entry T) (back : List (Entry T)) → P (key e.item)
-      → AllByRecursion P (keys (front ++ back)) → AllByRecursion P (keys (front ++ e ∷ back))
-  all-between P [] e back here all = (here, all)
-  all-between P (x ∷ front) e back here all = (all.0, all-between P front e back here all.1)
+    all-without : (es : List (Entry T)) (i : ℕ) → Each es → Each (without i es)
+    all-without [] i all = tt
+    all-without (e ∷ es) i all = elim (eqb_tells e.index i) [
+      | inl h ↦ rw h.0 all.1
+      | inr h ↦ rw h.0 (all.0, all-without es i all.1)
+    ]
 
-  all-written : (P : K → Type 0) (es : List (Entry T)) (i g : ℕ) (x item : T) → entry_at es i ≡ Some (g, x) → (P (key x) → P (key item)) → AllByRecursion P (keys es)
-      → AllByRecursion P (keys (with_item_among es i item))
-  all-written P [] i g x item there follows all = tt
-  all-written P (e ∷ es) i g x item there follows all = elim (eqb_tells e.index i) [
-    | inl h ↦
-        let first : Some (e.generation, e.item) ≡ Some (g, x) = rw h.0 at there in
-        let same : e.item ≡ x = (let both : (e.generation, e.item) ≡ (g, x) = cc in ap (λ (p : ℕ × T). p.1) both) in
-        rw h.0 (follows (rw same at all.0), all.1)
-    | inr h ↦ rw h.0 (all.0, all-written P es i g x item (rw h.0 at there) follows all.1)
-  ]
+    all-between : (front : List (Entry T)) (e : Entry T) (back : List (Entry T)) → P (key e.item) → Each (front ++ back) → Each (front ++ e ∷ back)
+    all-between [] e back here all = (here, all)
+    all-between (x ∷ front) e back here all = (all.0, all-between front e back here all.1)
+
+    all-written : (es : List (Entry T)) (i : ℕ) (was : ℕ × T) (item : T) → entry_at es i ≡ Some was → (P (key was.1) → P (key item))
+        → Each es → Each (with_item_among es i item)
+    all-written [] i was item there follows all = tt
+    all-written (e ∷ es) i was item there follows all = elim (eqb_tells e.index i) [
+      | inl h ↦
+          let first : Some (e.generation, e.item) ≡ Some was = rw h.0 at there in
+          let same : e.item ≡ was.1 = (let both : (e.generation, e.item) ≡ was = cc in ap (λ (p : ℕ × T). p.1) both) in
+          rw h.0 (follows (rw same at all.0), all.1)
+      | inr h ↦ rw h.0 (all.0, all-written es i was item (rw h.0 at there) follows all.1)
+    ]
 
   module _ (cmp : K → K → Ordering) (total : IsTotalOrder cmp) where
     abbrev Ascends : List (Entry T) → Type 0
@@ -76,23 +79,25 @@ module _ {T K : Type 0} (key : T → K) where
       | inr h ↦ rw h.0 (all-without (λ y. cmp (key e.item) y ≡ Less) es i sorted.0, ascends-without es i sorted.1)
     ]
 
-    ascends-between : (front : List (Entry T)) (e : Entry T) (back : List (Entry T)) → Ascends (front ++ back)
-        → AllByRecursion (λ l. cmp l (key e.item) ≡ Less) (keys front) → AllByRecursion (λ l. cmp (key e.item) l ≡ Less) (keys back) → Ascends (front ++ e ∷ back)
-    ascends-between [] e back sorted low high = (high, sorted)
-    ascends-between (x ∷ front) e back sorted low high =
-        (all-between (λ y. cmp (key x.item) y ≡ Less) front e back low.0 sorted.0, ascends-between front e back sorted.1 low.1 high)
+    module _ (e : Entry T) (back : List (Entry T)) (high : AllByRecursion (λ l. cmp (key e.item) l ≡ Less) (keys back)) where
+      ascends-between : (front : List (Entry T)) → Ascends (front ++ back) → AllByRecursion (λ l. cmp l (key e.item) ≡ Less) (keys front)
+          → Ascends (front ++ e ∷ back)
+      ascends-between [] sorted low = (high, sorted)
+      ascends-between (x ∷ front) sorted low =
+          (all-between (λ y. cmp (key x.item) y ≡ Less) front e back low.0 sorted.0, ascends-between front sorted.1 low.1)
 
-    ascends-written : (es : List (Entry T)) (i g : ℕ) (x item : T) → entry_at es i ≡ Some (g, x) → cmp (key x) (key item) ≡ Equal → Ascends es → Ascends (with_item_among es i item)
-    ascends-written [] i g x item there equal sorted = tt
-    ascends-written (e ∷ es) i g x item there equal sorted = elim (eqb_tells e.index i) [
+    ascends-written : (es : List (Entry T)) (i : ℕ) (was : ℕ × T) (item : T) → entry_at es i ≡ Some was → cmp (key was.1) (key item) ≡ Equal
+        → Ascends es → Ascends (with_item_among es i item)
+    ascends-written [] i was item there equal sorted = tt
+    ascends-written (e ∷ es) i was item there equal sorted = elim (eqb_tells e.index i) [
       | inl h ↦
-          let first : Some (e.generation, e.item) ≡ Some (g, x) = rw h.0 at there in
-          let same : e.item ≡ x = (let both : (e.generation, e.item) ≡ (g, x) = cc in ap (λ (p : ℕ × T). p.1) both) in
+          let first : Some (e.generation, e.item) ≡ Some was = rw h.0 at there in
+          let same : e.item ≡ was.1 = (let both : (e.generation, e.item) ≡ was = cc in ap (λ (p : ℕ × T). p.1) both) in
           let alike : cmp (key e.item) (key item) ≡ Equal = rw same equal in
           rw h.0 (recursion-map (λ y. cmp (key e.item) y ≡ Less) (λ y. cmp (key item) y ≡ Less) (λ y less. sym (total.congr (key e.item) (key item) y alike) ∙ less) (keys es) sorted.0, sorted.1)
       | inr h ↦ rw h.0 (
-        all-written (λ y. cmp (key e.item) y ≡ Less) es i g x item (rw h.0 at there) (λ less. sym (alike_right total (key x) (key item) (key e.item) equal) ∙ less) sorted.0,
-        ascends-written es i g x item (rw h.0 at there) equal sorted.1,
+        all-written (λ y. cmp (key e.item) y ≡ Less) es i was item (rw h.0 at there) (λ less. sym (alike_right total (key was.1) (key item) (key e.item) equal) ∙ less) sorted.0,
+        ascends-written es i was item (rw h.0 at there) equal sorted.1,
       )
     ]
 
@@ -124,35 +129,38 @@ module _ {P T I G K : Type 0} (r : Reading P T I G K) (total : IsTotalOrder r.cm
     (keeps : Keeps) (sorted : Ascends r.key r.cmp total old.entries) where
   apart-change : Change r old new n Of Keeps → Ascends r.key r.cmp total new.entries
   apart-change (stays same) = subst (λ es. Ascends r.key r.cmp total es) (sym same) sorted
-  apart-change (comes gap i item is free (at_key k) place by) =
+  apart-change (comes gap i item entered (at_key k) place by) =
       let cut = subst (λ es. Ascends r.key r.cmp total es) gap.cut sorted in
       let equal = by total keeps in
-      subst (λ es. Ascends r.key r.cmp total es) (sym is)
-      (ascends-between r.key r.cmp total gap.front _ gap.back cut
-      (all-lesser r.key r.cmp total k (r.key item) equal gap.front gap.back cut place.lesser_before)
-      (all-greater r.key r.cmp total k (r.key item) equal gap.back (ascends-back r.key r.cmp total gap.front gap.back cut) place.greater_after))
-  apart-change (comes gap i item is free aim place by) = absurd (by total keeps)
-  apart-change (writes i g x item at is spares alike) =
-      subst (λ es. Ascends r.key r.cmp total es) (sym is) (ascends-written r.key r.cmp total old.entries i g x item at (alike total keeps) sorted)
+      subst (λ es. Ascends r.key r.cmp total es) (sym entered.list)
+      (ascends-between r.key r.cmp total _ gap.back
+      (all-greater r.key r.cmp total k (r.key item) equal gap.back (ascends-back r.key r.cmp total gap.front gap.back cut) place.greater_after)
+      gap.front cut (all-lesser r.key r.cmp total k (r.key item) equal gap.front gap.back cut place.lesser_before))
+  apart-change (comes gap i item entered aim place by) = absurd (by total keeps)
+  apart-change (writes i was item at is spares alike) =
+      subst (λ es. Ascends r.key r.cmp total es) (sym is) (ascends-written r.key r.cmp total old.entries i was item at (alike total keeps) sorted)
   apart-change (leaves i is some spares) = subst (λ es. Ascends r.key r.cmp total es) (sym is) (ascends-without r.key r.cmp total old.entries i sorted)
   apart-change (renews i is some spares) = subst (λ ks. Climbs r.cmp ks) (sym (ap (λ es. keys r.key es) is ∙ keys-renewed r.key old.entries i new.generation)) sorted
   apart-change (relays all same some others) = subst (λ ks. Climbs r.cmp ks) (sym same) sorted
   apart-change (empties none some others) = rw none tt
 
 -- a run
-module _ {P T I G A F K : Type 0} (r : Reading P T I G K) (asks : F → Shown T → F → Type 0) (total : IsTotalOrder r.cmp) where
-  apart-along : (s : State T) (f : F) (asked : List (Command P T I G K)) (told : List (Reply P T A I G)) (t : State T) (g : F)
-      → AllByRecursion (KeepsApart r) asked → Runs r asks s f asked told t g
-      → IsDistinct s.tree.list.entries → Ascends r.key r.cmp total s.tree.list.entries → Ascends r.key r.cmp total t.tree.list.entries
-  apart-along s f [] [] t g keep run distinct sorted = rw run.0 sorted
-  apart-along s f [] (q ∷ told) t g keep run distinct sorted = absurd run
-  apart-along s f (c ∷ asked) [] t g keep run distinct sorted = absurd run
-  apart-along s f (c ∷ asked) (q ∷ told) t g keep run distinct sorted =
-      let step = run.2 in
-      let next = apart-change r total s.tree.list run.0.tree.list keep.0 sorted ((outcome r s run.0.tree asks f c q run.1 step.does).change distinct) in
-      apart-along run.0 run.1 asked told t g keep.1 run.3 step.lawful.distinct next
+module _ {P T I G K : Type 0} (r : Reading P T I G K) (total : IsTotalOrder r.cmp) where
+  abbrev IsApart : State T → Type 0
+  IsApart s = IsDistinct s.tree.list.entries × Ascends r.key r.cmp total s.tree.list.entries
+
+  module _ {A F : Type 0} (asks : F → Shown T → F → Type 0) where
+    along : (asked : List (Command P T I G K)) → AllByRecursion (KeepsApart r) asked → (told : List (Reply P T A I G)) (s t : State T) (f g : F)
+        → Runs r asks s f asked told t g → IsApart s → IsApart t
+    along [] keep [] s t f g run apart = rw run.0 apart
+    along [] keep (q ∷ told) s t f g run apart = absurd run
+    along (c ∷ asked) keep [] s t f g run apart = absurd run
+    along (c ∷ asked) keep (q ∷ told) s t f g run apart =
+        let step = run.2 in
+        let next = apart-change r total s.tree.list run.0.tree.list keep.0 apart.1 ((outcome r s run.0.tree asks f c q run.1 step.does).change apart.0) in
+        along asked keep.1 told run.0 t run.1 g run.3 (step.lawful.distinct, next)
 
 pub ascending_keys : (P T I G A K : Type 0) {F : Type 0} (asks : F → Shown T → F → Type 0) → AscendingKeysLaw P T I G A K asks
 ascending_keys P T I G A K asks r old new f g asked told total none keep run =
     sorted-climbs r.cmp (keys r.key new.tree.list.entries)
-    (apart-along r asks total old f asked told new g keep run (rw none (λ i. omega arith)) (rw none tt))
+    (along r total asks asked keep told old new f g run (rw none (λ i. omega arith), rw none tt)).1

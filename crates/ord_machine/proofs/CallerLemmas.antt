@@ -41,17 +41,21 @@ module _ {P T I G A F H K : Type 0} (r : Reading P T I G K) (asks : F → Shown 
       ((answers.0.0, searches-like asks asks' at like s.tree.list.entries f g answers.0.0 c answers.0.1, answers.0.2, answers.0.3), answers.1)
   similar-like s f reply g answers = absurd answers
 
-  does-like : (old : State T) (f : F) (command : Command P T I G K) (reply : Reply P T A I G) (new : Tree T) (g : F)
+  does-like : (old : State T) (f g : F) (command : Command P T I G K) (reply : Reply P T A I G) (new : Tree T)
       → Does r asks old f command reply new g → Does r asks' old (at f) command reply new (at g)
-  does-like old f commands.FindWith reply new g does = (answers-like old f reply g does.0, does.1)
-  does-like old f commands.SimilarWith reply new g does = (similar-like old f reply g does.0, does.1)
-  does-like old f command reply new g does = (does.0, ap at does.1)
+  does-like old f g commands.FindWith reply new does = (answers-like old f reply g does.0, does.1)
+  does-like old f g commands.SimilarWith reply new does = (similar-like old f reply g does.0, does.1)
+  does-like old f g command reply new does = (does.0, ap at does.1)
 
-  pub Runs-like : (old : State T) (f : F) (commands : List (Command P T I G K)) (replies : List (Reply P T A I G)) (new : State T) (g : F)
-      → Runs r asks old f commands replies new g → Runs r asks' old (at f) commands replies new (at g)
+  -- a run by the one closure is one by the other
+  abbrev AreLike : State T → F → List (Command P T I G K) → List (Reply P T A I G) → State T → F → Type 0
+  AreLike old f asked told new g = Runs r asks old f asked told new g → Runs r asks' old (at f) asked told new (at g)
+
+  pub Runs-like : (old : State T) (f : F) (asked : List (Command P T I G K)) (told : List (Reply P T A I G)) (new : State T) (g : F)
+      → AreLike old f asked told new g
   Runs-like old f [] [] new g run = (run.0, ap at run.1)
   Runs-like old f [] (q ∷ replies) new g run = absurd run
   Runs-like old f (c ∷ commands) [] new g run = absurd run
   Runs-like old f (c ∷ commands) (q ∷ replies) new g run =
       let step = run.2 in
-      (run.0, at run.1, record { does = does-like old f c q run.0.tree run.1 step.does; marks = step.marks; lawful = step.lawful; sound = step.sound }, Runs-like run.0 run.1 commands replies new g run.3)
+      (run.0, at run.1, record { does = does-like old f run.1 c q run.0.tree step.does; marks = step.marks; lawful = step.lawful; sound = step.sound }, Runs-like run.0 run.1 commands replies new g run.3)

@@ -7,10 +7,11 @@ use Rattle.ord_machine.specs.Machine.{removed_each, entry_of}
 use Rattle.ord_machine.proofs.Lists.{cut_more}
 
 -- one more
-removed_each-more : {T : Type 0} (greatest : Option ℕ) (c : Chain T) (es : List (Entry T)) (e : Entry T)
-    → removed_each greatest c (es ++ e ∷ []) ≡ removed greatest (removed_each greatest c es) e.index
-removed_each-more greatest c [] e = refl
-removed_each-more greatest c (f ∷ es) e = removed_each-more greatest (removed greatest c f.index) es e
+module _ {T : Type 0} (greatest : Option ℕ) where
+  removed_each-more : (c : Chain T) (es : List (Entry T)) (e : Entry T)
+      → removed_each greatest c (es ++ e ∷ []) ≡ removed greatest (removed_each greatest c es) e.index
+  removed_each-more c [] e = refl
+  removed_each-more c (f ∷ es) e = removed_each-more (removed greatest c f.index) es e
 
 -- the entries so far, in front of those of the chain as it is now; and then one more
 module _ {P T : Type 0} (greatest : Option ℕ) (pointer : P → ℕ × ℕ) (c now next : Chain T) (pairs : List (P × T)) (x : P × T)

@@ -94,26 +94,26 @@ module _ {P T I G K : Type 0} (r : Reading P T I G K) (old new : Chain T) (n : �
     entries = λ i e is. inl (e.1, ap (λ es. entry_at es i) (sym same) ∙ is);
     ended = λ p there none. absurd (let none = ap (λ es. item_of es p) (sym same) ∙ none in cc);
   }
-  goes-change (comes gap i item is free aim place by) =
-      let one : Entry T = record { index = i; generation = old.generation; item = item } in
-      let now : entry_at new.entries i ≡ Some (old.generation, item) = ap (λ es. entry_at es i) is ∙ entry_at-between gap.front one gap.back free in
+  goes-change (comes gap i item entered aim place by) =
+      let now : entry_at new.entries i ≡ Some (old.generation, item) =
+      ap (λ es. entry_at es i) entered.list ∙ entry_at-between gap.front _ gap.back entered.free in
       record {
         raised = raised;
         entries = λ j e found. elim (eqb_tells j i) [
           | inl h ↦ let late = same-first old.generation item e (sym now ∙ ap (entry_at new.entries) (sym h.1) ∙ found) in inr (omega (arith, late), omega (arith, late, raised))
-          | inr h ↦ inl (e.1, sym (elsewhere old.entries new.entries gap one is free j h.1) ∙ found)
+          | inr h ↦ inl (e.1, sym (elsewhere old new gap i item entered j h.1) ∙ found)
         ];
         ended = λ p there none. absurd (
             let mine = found-there old.entries p there in
-            let other = elsewhere old.entries new.entries gap one is free p.0 (unused old.entries new.entries gap one is free p there) in
+            let other = elsewhere old new gap i item entered p.0 (unused old new gap i item entered p there) in
             let some = there-found new.entries p mine.0 (other ∙ mine.1) in cc);
       }
-  goes-change (writes i g x item at is spares alike) =
-      let now : entry_at new.entries i ≡ Some (g, item) = rw (is, entry_at-with_item_among old.entries i item, at) refl in
+  goes-change (writes i was item at is spares alike) =
+      let now : entry_at new.entries i ≡ Some (was.0, item) = rw (is, entry_at-with_item_among old.entries i item, at) refl in
       record {
         raised = raised;
         entries = λ j e found. elim (eqb_tells j i) [
-          | inl h ↦ inl (x, ap (entry_at old.entries) h.1 ∙ at ∙ ap (λ g. Some (g, x)) (same-first g item e (sym now ∙ ap (entry_at new.entries) (sym h.1) ∙ found)))
+          | inl h ↦ inl (was.1, ap (entry_at old.entries) h.1 ∙ at ∙ ap (λ g. Some (g, was.1)) (same-first was.0 item e (sym now ∙ ap (entry_at new.entries) (sym h.1) ∙ found)))
           | inr h ↦ inl (e.1, sym (entry_at-with_item_among_other old.entries i j item h.1) ∙ sym (rw is refl) ∙ found)
         ];
         ended = λ p there none. absurd (kept p (found-there old.entries p there) none);
@@ -124,8 +124,8 @@ module _ {P T I G K : Type 0} (r : Reading P T I G K) (old new : Chain T) (n : �
         | inl h ↦ let now : entry_at new.entries p.0 ≡ Some (p.1, item) =
             rw (is, h.1, entry_at-with_item_among old.entries i item, ← h.1, there.1) refl in
             let some = there-found new.entries p item now in cc
-        | inr h ↦ let now : entry_at new.entries p.0 ≡ Some (p.1, there.0) =
-            rw (is, entry_at-with_item_among_other old.entries i p.0 item h.1) there.1 in
+        | inr h ↦
+            let now : entry_at new.entries p.0 ≡ Some (p.1, there.0) = rw (is, entry_at-with_item_among_other old.entries i p.0 item h.1) there.1 in
             let some = there-found new.entries p there.0 now in cc
       ]
   goes-change (leaves i is some spares) = record {
@@ -167,31 +167,37 @@ pub record Ends {T : Type 0} (most : ℕ) (greatest : Option ℕ) (Holds : Chain
   pub holds : Holds t.tree.list
 
 -- how a fact of lists goes along a run, whose steps go so
-module _ {P T I G A F K : Type 0} (r : Reading P T I G K) (asks : F → Shown T → F → Type 0) (top : ℕ) (counted : r.greatest ≡ Some top)
+module _ {P T I G K : Type 0} (r : Reading P T I G K) (top : ℕ) (counted : r.greatest ≡ Some top)
     (Holds : Chain T → Type 0) (goes : (old new : Chain T) (n : ℕ) → Goes old n new → Holds old → Holds new) where
-  along : (s : State T) (f : F) (asked : List (Command P T I G K)) (told : List (Reply P T A I G)) (t : State T) (g : F)
-      → Runs r asks s f asked told t g → AllByRecursion (λ command. resets command ≡ false) asked
-      → IsSound r.most r.greatest s.tree.list → Holds s.tree.list → s.tree.list.generation + raises_among asked told ≤ top → Ends r.most r.greatest Holds s (raises_among asked told) t
-  along s f [] [] t g run back lawful holds room = rw run.0 (record { lawful = lawful; raised = omega arith; holds = holds })
-  along s f [] (q ∷ told) t g run back lawful holds room = absurd run
-  along s f (c ∷ asked) [] t g run back lawful holds room = absurd run
-  along s f (c ∷ asked) (q ∷ told) t g run back lawful holds room =
-      let step = run.2 in
-      let leads = outcome r s run.0.tree asks f c q run.1 step.does in
-      let raised = leads.raised back.0 ∙ risen-counted r.greatest top (raises c q) s.tree.list.generation counted (omega (arith, room)) in
-      let first = goes-change r s.tree.list run.0.tree.list (raises c q) lawful.distinct raised (leads.change lawful.distinct) in
-      let rest = along run.0 run.1 asked told t g run.3 back.1 step.lawful (goes s.tree.list run.0.tree.list (raises c q) first holds) (omega (arith, room, first.raised)) in
-      record { lawful = rest.lawful; raised = omega (arith, rest.raised, first.raised); holds = rest.holds }
+  -- from a lawful arena of which the fact holds, and that has room for so many raises, to the end of the run
+  abbrev Leads : State T → ℕ → State T → Type 0
+  Leads s n t = IsSound r.most r.greatest s.tree.list → Holds s.tree.list → s.tree.list.generation + n ≤ top → Ends r.most r.greatest Holds s n t
 
-  along-part : (s : State T) (f : F) (n : ℕ) (t : State T) (g : F) → Part A r asks s f n t g → IsSound r.most r.greatest s.tree.list
-      → Holds s.tree.list → s.tree.list.generation + n ≤ top → Ends r.most r.greatest Holds s n t
-  along-part s f n t g part lawful holds room =
-      rw part.count (along s f part.commands part.replies t g part.run part.never_back lawful holds (omega (arith, room, part.count)))
+  abbrev NeverResets : List (Command P T I G K) → Type 0
+  NeverResets asked = AllByRecursion (λ command. resets command ≡ false) asked
+
+  module _ {A F : Type 0} (asks : F → Shown T → F → Type 0) where
+    along : (asked : List (Command P T I G K)) → NeverResets asked → (told : List (Reply P T A I G)) (s t : State T) (f g : F)
+        → Runs r asks s f asked told t g → Leads s (raises_among asked told) t
+    along [] back [] s t f g run lawful holds room = rw run.0 (record { lawful = lawful; raised = omega arith; holds = holds })
+    along [] back (q ∷ told) s t f g run lawful holds room = absurd run
+    along (c ∷ asked) back [] s t f g run lawful holds room = absurd run
+    along (c ∷ asked) back (q ∷ told) s t f g run lawful holds room =
+        let step = run.2 in
+        let leads = outcome r s run.0.tree asks f c q run.1 step.does in
+        let raised = leads.raised back.0 ∙ risen-counted r.greatest top (raises c q) s.tree.list.generation counted (omega (arith, room)) in
+        let first = goes-change r s.tree.list run.0.tree.list (raises c q) lawful.distinct raised (leads.change lawful.distinct) in
+        let rest = along asked back.1 told run.0 t run.1 g run.3 step.lawful (goes s.tree.list run.0.tree.list (raises c q) first holds) (omega (arith, room, first.raised)) in
+        record { lawful = rest.lawful; raised = omega (arith, rest.raised, first.raised); holds = rest.holds }
+
+    along-part : (s : State T) (f : F) (n : ℕ) (t : State T) (g : F) → Part A r asks s f n t g → Leads s n t
+    along-part s f n t g part lawful holds room =
+        rw part.count (along part.commands part.never_back part.replies s t f g part.run lawful holds (omega (arith, room, part.count)))
 
 pub ended_pointer : (P T I G A K : Type 0) {F : Type 0} (asks : F → Shown T → F → Type 0) → EndedPointerLaw P T I G A K asks
 ended_pointer P T I G A K asks r top s0 s1 s2 s3 f0 f1 f2 f3 k l m counted lawful below part1 part2 part3 room p there gone =
-    let first = along-part r asks top counted (λ c. IsBelow c) below-goes s0 f0 k s1 f1 part1 lawful below (omega (arith, room)) in
-    let second = along-part r asks top counted (Watches p) (watched-goes p) s1 f1 l s2 f2 part2 first.lawful (record { below = first.holds; named = λ none. absurd (cc) }) (omega (arith, room, first.raised)) in
-    let third = along-part r asks top counted (λ c. IsSpent c p) (λ old new n goes spent. spent-goes old new n goes p spent) s2 f2 m s3 f3
+    let first = along-part r top counted (λ c. IsBelow c) below-goes asks s0 f0 k s1 f1 part1 lawful below (omega (arith, room)) in
+    let second = along-part r top counted (Watches p) (watched-goes p) asks s1 f1 l s2 f2 part2 first.lawful (record { below = first.holds; named = λ none. absurd (cc) }) (omega (arith, room, first.raised)) in
+    let third = along-part r top counted (λ c. IsSpent c p) (λ old new n goes spent. spent-goes old new n goes p spent) asks s2 f2 m s3 f3
     part3 second.lawful (second.holds.named gone) (omega (arith, room, first.raised, second.raised)) in
     third.holds.nothing

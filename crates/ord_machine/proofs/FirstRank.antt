@@ -73,10 +73,12 @@ module _ {T K : Type 0} (key : T → K) (cmp : K → K → Ordering) (most : ℕ
       (first.0, ap (λ c. c.entries) inserts.inserted.after ∙ first.1)
 
 module _ {P T I G A K : Type 0} (r : Reading P T I G K) (old new : Tree T) (none : old.list.entries ≡ []) (sound : IsSoundTree new) where
+  abbrev Follows : Reply P T A I G → Reply P T A I G → Type 0
+  Follows second first = Ranked new second → AreFirstReplies (first ∷ second ∷ [])
+
   -- the ranks after a new entry
   ranks_of_new : (item : T) (p : P) (second : Reply P T A I G)
-      → InsertsNew r.key r.cmp r.most reallocating (at_key (r.key item)) old item (r.pointer p) new → Ranked new second
-      → AreFirstReplies (Inserted (New p) None ∷ second ∷ [])
+      → InsertsNew r.key r.cmp r.most reallocating (at_key (r.key item)) old item (r.pointer p) new → Follows second (Inserted (New p) None)
   ranks_of_new item p (Ranks ranks) inserts ranked =
       let first = new_alone r.key r.cmp r.most old new item (r.pointer p) none inserts in
       one_rank new.shape first.0 ranks.items (sound.listed ∙ ap (map (λ e. e.index)) first.1) sound.ranked (subst (λ (es : List (Entry T)). HaveRanks new.shape es ranks.items) first.1 ranked)
@@ -84,15 +86,14 @@ module _ {P T I G A K : Type 0} (r : Reading P T I G K) (old new : Tree T) (none
   ranks_of_new item p second inserts ranked = absurd ranked
 
   -- the ranks after a refusal
-  ranks_of_none : (refusal : OrdInsertionError) (second : Reply P T A I G) → new ≡ old → Ranked new second → AreFirstReplies (Refused refusal ∷ second ∷ [])
+  ranks_of_none : (refusal : OrdInsertionError) (second : Reply P T A I G) → new ≡ old → Follows second (Refused refusal)
   ranks_of_none refusal (Ranks ranks) same ranked = no_ranks new.shape new.list.entries ranks.items (ap (λ t. t.list.entries) same ∙ none) ranked
   ranks_of_none refusal (Refused AllocError) same ranked = absurd (omega (arith, ranked, ap length (ap (λ t. t.list.entries) same ∙ none)))
   ranks_of_none refusal second same ranked = absurd ranked
 
   -- both replies, from the first
   first_and_ranks : (item : T) (first second : Reply P T A I G)
-      → Inserts r.key r.cmp r.most reallocating (at_key (r.key item)) r.pointer old item first new → Ranked new second
-      → AreFirstReplies (first ∷ second ∷ [])
+      → Inserts r.key r.cmp r.most reallocating (at_key (r.key item)) r.pointer old item first new → Follows second first
   first_and_ranks item (Inserted (New p) None) second inserts ranked = ranks_of_new item p second inserts ranked
   first_and_ranks item (Inserted (Replacing p) (Some before)) second inserts ranked = absurd (let gap = inserts.place.gap in let here = rw (no_parts gap.front gap.back (sym none ∙ gap.cut)).1 at inserts.place.here in cc)
   first_and_ranks item (Refused refusal) second inserts ranked = ranks_of_none refusal second inserts.after ranked

@@ -15,10 +15,9 @@ module _ {P T I G K : Type 0} (r : Reading P T I G K) (old new : Chain T) (p : �
 
   keeps-change : {n : ℕ} {Of : ℕ × ℕ → Type 0} {Keeps : Type 0} → Of p → Change r old new n Of Keeps → item_of new.entries p ≡ item_of old.entries p
   keeps-change of (stays same) = keeps-there same refl
-  keeps-change of (comes gap i item is free aim place by) =
-      let e : Entry T = record { index = i; generation = old.generation; item = item } in
-      keeps-there refl (elsewhere old.entries new.entries gap e is free p.0 (unused old.entries new.entries gap e is free p there))
-  keeps-change of (writes i g x item at is spares alike) = keeps-there is (entry_at-with_item_among_other old.entries i p.0 item (spares p there of))
+  keeps-change of (comes gap i item entered aim place by) =
+      keeps-there refl (elsewhere old new gap i item entered p.0 (unused old new gap i item entered p there))
+  keeps-change of (writes i was item at is spares alike) = keeps-there is (entry_at-with_item_among_other old.entries i p.0 item (spares p there of))
   keeps-change of (leaves i is some spares) = keeps-there is (entry_at-without_other old.entries i p.0 (spares p there of))
   keeps-change of (renews i is some spares) = keeps-there is (entry_at-with_generation_other old.entries i p.0 new.generation (spares p there of))
   keeps-change of (relays all same some others) = absurd (others p of)

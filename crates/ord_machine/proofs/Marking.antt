@@ -39,8 +39,9 @@ AreTrue-marked keeps old new marks (inl same) holds = subst (λ (s : Shape). Are
 AreTrue-marked keeps old new marks (inr none) holds = subst (λ (s : Shape). AreTrue marks s) (sym none) (AreTrue-missing marks)
 
 -- so the marks after a step tell the truth
-pub AreTrue-does : {P T I G A F K : Type 0} (r : Reading P T I G K) (asks : F → Shown T → F → Type 0) (s : State T) (f : F) (command : Command P T I G K)
-    (reply : Reply P T A I G) (new : Tree T) (g : F) → IsSoundTree new → AreTrue s.marks s.tree.shape → Does r asks s f command reply new g
-    → AreTrue (marks_after command reply new s.marks) new.shape
-AreTrue-does r asks s f command reply new g sound holds does =
-    AreTrue-settled new _ sound (AreTrue-marked (effect_of command reply) s.tree.shape new.shape s.marks (outcome r s new asks f command reply g does).affects holds)
+module _ {P T I G A F K : Type 0} (r : Reading P T I G K) (asks : F → Shown T → F → Type 0) (s : State T) (f : F) (command : Command P T I G K)
+    (reply : Reply P T A I G) (new : Tree T) (g : F) where
+  pub AreTrue-does : IsSoundTree new → AreTrue s.marks s.tree.shape → Does r asks s f command reply new g
+      → AreTrue (marks_after command reply new s.marks) new.shape
+  AreTrue-does sound holds does = AreTrue-settled new _ sound
+      (AreTrue-marked (effect_of command reply) s.tree.shape new.shape s.marks (outcome r s new asks f command reply g does).affects holds)

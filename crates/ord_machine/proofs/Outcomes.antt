@@ -60,16 +60,6 @@ module _ {T : Type 0} where
       let pair : ◌≡◌ {A = ℕ × T} (q.1, one.0) (p.1, two.0) = cc in
       apart (ap (λ i. (i, q.1)) (sym same) ∙ ap (λ g. (p.0, g)) (ap (λ (e : ℕ × T). e.0) pair))
 
--- a list with a new entry in a gap
-module _ {T : Type 0} (old new : List (Entry T)) (gap : Gap old) (e : Entry T) (is : new ≡ gap.front ++ e ∷ gap.back) (free : times e.index (gap.front ++ gap.back) ≡ 0) where
-  pub elsewhere : (j : ℕ) → j ≢ e.index → entry_at new j ≡ entry_at old j
-  elsewhere j other = ap (λ es. entry_at es j) is ∙ entry_at-between_other gap.front e gap.back j other ∙ ap (λ es. entry_at es j) (sym gap.cut)
-
-  pub unused : (p : ℕ × ℕ) → IsSome (item_of old p) → p.0 ≢ e.index
-  unused p there same =
-      let nothing : entry_at old p.0 ≡ None = entry_at-absent old p.0 (ap (λ k. times k old) same ∙ ap (times e.index) gap.cut ∙ free) in
-      let some = (found-there old p there).1 in cc
-
 -- the generation after so many raises
 abbrev pub risen : Option ℕ → ℕ → ℕ → ℕ
 risen greatest zero g = g
@@ -86,24 +76,55 @@ abbrev pub IsByKey : {P T I G K : Type 0} → Reading P T I G K → T → Aim K 
 IsByKey r item (at_key k) = r.cmp k (r.key item) ≡ Equal
 IsByKey r item aim = ⊥
 
+-- so it is in a step that keeps the keys apart
+abbrev pub GoesByKey : {P T I G K : Type 0} → Reading P T I G K → Type 0 → T → Aim K → Type 0
+GoesByKey r Keeps item aim = IsTotalOrder r.cmp → Keeps → IsByKey r item aim
+
+-- two items have equal keys in a step that keeps the keys apart
+abbrev pub AreAlike : {P T I G K : Type 0} → Reading P T I G K → Type 0 → T → T → Type 0
+AreAlike r Keeps x item = IsTotalOrder r.cmp → Keeps → r.cmp (r.key x) (r.key item) ≡ Equal
+
+-- the keys of a list, one after another, are those of another
+abbrev pub HasKeysOf : {P T I G K : Type 0} → Reading P T I G K → Chain T → Chain T → Type 0
+HasKeysOf r old new = map (λ e. r.key e.item) new.entries ≡ map (λ e. r.key e.item) old.entries
+
+-- a list with a new entry of this index and item in a gap
+pub record Enters {T : Type 0} (old new : Chain T) (gap : Gap old.entries) (i : ℕ) (item : T) : Type 0 where
+  pub list : new.entries ≡ gap.front ++ record { index = i; generation = old.generation; item = item } ∷ gap.back
+  pub free : times i (gap.front ++ gap.back) ≡ 0
+
+module _ {T : Type 0} (old new : Chain T) (gap : Gap old.entries) (i : ℕ) (item : T) (entered : Enters old new gap i item) where
+  pub elsewhere : (j : ℕ) → j ≢ i → entry_at new.entries j ≡ entry_at old.entries j
+  elsewhere j other =
+      ap (λ es. entry_at es j) entered.list ∙ entry_at-between_other gap.front _ gap.back j other ∙ ap (λ es. entry_at es j) (sym gap.cut)
+
+  pub unused : (p : ℕ × ℕ) → IsSome (item_of old.entries p) → p.0 ≢ i
+  unused p there same =
+      let nothing : entry_at old.entries p.0 ≡ None =
+      entry_at-absent old.entries p.0 (ap (λ k. times k old.entries) same ∙ ap (times i) gap.cut ∙ entered.free) in
+      let some = (found-there old.entries p there).1 in cc
+
+-- calls to no entry
+abbrev pub IsOfNone : (ℕ × ℕ → Type 0) → Type 0
+IsOfNone Of = (p : ℕ × ℕ) → Of p → ⊥
+
 -- calls to others than the entry with this index
-abbrev pub Spares : {T : Type 0} → List (Entry T) → (ℕ × ℕ → Type 0) → ℕ → Type 0
-Spares es Of i = (p : ℕ × ℕ) → IsSome (item_of es p) → Of p → p.0 ≢ i
+abbrev pub Spares : {T : Type 0} → Chain T → (ℕ × ℕ → Type 0) → ℕ → Type 0
+Spares c Of i = (p : ℕ × ℕ) → IsSome (item_of c.entries p) → Of p → p.0 ≢ i
 
 -- What becomes of the entries: they stay; one comes, gets another item, leaves, or gets a new pointer; all get new pointers, or leave.
 -- Here n is how often the generation is raised, Of p that the call is to others than p's entry, Keeps that it keeps the keys apart.
 pub data Change {P T I G K : Type 0} (r : Reading P T I G K) (old new : Chain T) (n : ℕ) (Of : ℕ × ℕ → Type 0) (Keeps : Type 0) : Type 0 where
   stays : new.entries ≡ old.entries → Change r old new n Of Keeps
-  comes : (gap : Gap old.entries) (i : ℕ) (item : T) → new.entries ≡ gap.front ++ record { index = i; generation = old.generation; item = item } ∷ gap.back
-      → times i (gap.front ++ gap.back) ≡ 0 → (aim : Aim K) → IsPlace r.key r.cmp aim (into gap) → (IsTotalOrder r.cmp → Keeps → IsByKey r item aim)
+  comes : (gap : Gap old.entries) (i : ℕ) (item : T) → Enters old new gap i item → (aim : Aim K) → IsPlace r.key r.cmp aim (into gap)
+      → GoesByKey r Keeps item aim → Change r old new n Of Keeps
+  writes : (i : ℕ) (e : ℕ × T) (item : T) → entry_at old.entries i ≡ Some e → new.entries ≡ with_item_among old.entries i item
+      → Spares old Of i → AreAlike r Keeps e.1 item → Change r old new n Of Keeps
+  leaves : (i : ℕ) → new.entries ≡ without i old.entries → 0 < n → Spares old Of i → Change r old new n Of Keeps
+  renews : (i : ℕ) → new.entries ≡ with_generation old.entries i new.generation → 0 < n → Spares old Of i → Change r old new n Of Keeps
+  relays : ((i : ℕ) (e : ℕ × T) → entry_at new.entries i ≡ Some e → e.0 ≡ new.generation) → HasKeysOf r old new → 0 < n → IsOfNone Of
       → Change r old new n Of Keeps
-  writes : (i g : ℕ) (x item : T) → entry_at old.entries i ≡ Some (g, x) → new.entries ≡ with_item_among old.entries i item → Spares old.entries Of i
-      → (IsTotalOrder r.cmp → Keeps → r.cmp (r.key x) (r.key item) ≡ Equal) → Change r old new n Of Keeps
-  leaves : (i : ℕ) → new.entries ≡ without i old.entries → 0 < n → Spares old.entries Of i → Change r old new n Of Keeps
-  renews : (i : ℕ) → new.entries ≡ with_generation old.entries i new.generation → 0 < n → Spares old.entries Of i → Change r old new n Of Keeps
-  relays : ((i : ℕ) (e : ℕ × T) → entry_at new.entries i ≡ Some e → e.0 ≡ new.generation)
-      → map (λ e. r.key e.item) new.entries ≡ map (λ e. r.key e.item) old.entries → 0 < n → ((p : ℕ × ℕ) → Of p → ⊥) → Change r old new n Of Keeps
-  empties : new.entries ≡ [] → 0 < n → ((p : ℕ × ℕ) → Of p → ⊥) → Change r old new n Of Keeps
+  empties : new.entries ≡ [] → 0 < n → IsOfNone Of → Change r old new n Of Keeps
 
 -- what an effect says of the shapes before and after it
 abbrev pub Affects : Effect → Shape → Shape → Type 0
@@ -138,14 +159,18 @@ generation-with_slot reallocating most c = go (is_some (next_index c))
     go false = refl
 
 -- a new entry
-after-insertion : {T : Type 0} (room new : Chain T) (put : Entry T → List (Entry T)) (item : T) (i g : ℕ) → IsInsertion room new put item i g
-    → (new.entries ≡ put (record { index = i; generation = room.generation; item = item })) × (new.generation ≡ room.generation)
-after-insertion {T} room new put item i g inserted = go room.vacant inserted.next (ap (λ (c : Chain T). c.entries) inserted.after) (ap (λ (c : Chain T). c.generation) inserted.after)
-  where
-    go : (vacant : List ℕ) → slice_get vacant 0 ≡ Some i → new.entries ≡ (inserted_at room put item vacant).entries → new.generation ≡ (inserted_at room put item vacant).generation
-        → (new.entries ≡ put (record { index = i; generation = room.generation; item = item })) × (new.generation ≡ room.generation)
-    go [] next es gs = absurd (cc)
-    go (j ∷ rest) next es gs = let here : j ≡ i = cc in (es ∙ ap (λ k. put (record { index = k; generation = room.generation; item = item })) here, gs)
+module _ {T : Type 0} (room new : Chain T) (put : Entry T → List (Entry T)) (item : T) (i : ℕ) where
+  abbrev IsPut : Type 0
+  IsPut = (new.entries ≡ put (record { index = i; generation = room.generation; item = item })) × (new.generation ≡ room.generation)
+
+  put-taken : (vacant : List ℕ) → slice_get vacant 0 ≡ Some i → new.entries ≡ (inserted_at room put item vacant).entries
+      → new.generation ≡ (inserted_at room put item vacant).generation → IsPut
+  put-taken [] next es gs = absurd (cc)
+  put-taken (j ∷ rest) next es gs = let here : j ≡ i = cc in (es ∙ ap (λ k. put (record { index = k; generation = room.generation; item = item })) here, gs)
+
+  after-insertion : (g : ℕ) → IsInsertion room new put item i g → IsPut
+  after-insertion g inserted =
+      put-taken room.vacant inserted.next (ap (λ (c : Chain T). c.entries) inserted.after) (ap (λ (c : Chain T). c.generation) inserted.after)
 
 -- a step
 module _ {P T I G K : Type 0} (r : Reading P T I G K) (s : State T) (new : Tree T) where
@@ -183,7 +208,7 @@ module _ {P T I G K : Type 0} (r : Reading P T I G K) (s : State T) (new : Tree 
     still reply same =
         record { affects = alike reply (ap (λ t. t.shape) same); raised = λ _. ap (λ t. t.list.generation) same; change = λ _. stays (ap (λ t. t.list.entries) same) }
 
-    lost : (i : ℕ) → new.list ≡ removed r.greatest s.tree.list i → Spares es Of i → Outcome r s.tree new removes back 1 Of Keeps
+    lost : (i : ℕ) → new.list ≡ removed r.greatest s.tree.list i → Spares s.tree.list Of i → Outcome r s.tree new removes back 1 Of Keeps
     lost i is spares =
         record { affects = tt; raised = λ _. ap (λ c. c.generation) is; change = λ _. leaves i (ap (λ c. c.entries) is) (omega arith) spares }
 
@@ -195,8 +220,8 @@ module _ {P T I G K : Type 0} (r : Reading P T I G K) (s : State T) (new : Tree 
       change = λ _. renews q.0 (rw is refl) (omega arith) (λ p here of. other_index es p q (apart p of) there here);
     }
 
-    gone : {n : ℕ} → new.shape ≡ missing → new.list.entries ≡ [] → new.list.generation ≡ risen r.greatest n s.tree.list.generation → 0 < n → ((p : ℕ × ℕ) → Of p → ⊥)
-        → Outcome r s.tree new keeps back n Of Keeps
+    gone : {n : ℕ} → new.shape ≡ missing → new.list.entries ≡ [] → new.list.generation ≡ risen r.greatest n s.tree.list.generation → 0 < n
+        → IsOfNone Of → Outcome r s.tree new keeps back n Of Keeps
     gone bare none raised some of_none = record { affects = inr bare; raised = λ _. raised; change = λ _. empties none some of_none }
 
     -- the list keeps its entries, and the tree its shape
@@ -207,36 +232,46 @@ module _ {P T I G K : Type 0} (r : Reading P T I G K) (s : State T) (new : Tree 
     kept : new ≡ s.tree → Outcome r s.tree new keeps back 0 Of Keeps
     kept same = alone-raised (ap (λ t. t.shape) same) (ap (λ t. t.list.entries) same) (ap (λ t. t.list.generation) same)
 
-  outcome-insertion : {A Keeps : Type 0} (growth : Growth) (aim : Aim K) (item : T) → (IsTotalOrder r.cmp → Keeps → IsByKey r item aim) → (reply : Reply P T A I G)
-      → Inserts r.key r.cmp r.most growth aim r.pointer s.tree item reply new → Outcome r s.tree new (told_effect reply) false 0 (λ p. ReplacesAnother r p reply) Keeps
-  outcome-insertion growth aim item by (Inserted (New q) None) does =
-      let room = with_slot growth r.most s.tree.list in
-      let roomy = entries-with_slot growth r.most s.tree.list in
-      let era = generation-with_slot growth r.most s.tree.list in
-      let i = (r.pointer q).0 in
-      let after = after-insertion room new.list (with_between does.gap) item i (r.pointer q).1 does.inserted in
-      record {
-        affects = does.grown.tight;
-        raised = λ _. after.1 ∙ era;
-        change = λ _. comes does.gap i item (after.0 ∙ ap (λ g. does.gap.front ++ record { index = i; generation = g; item = item } ∷ does.gap.back) era)
-            (ap (times i) (sym does.gap.cut) ∙ ap (times i) (sym roomy) ∙ does.inserted.vacant.free) aim does.place by;
-      }
-  outcome-insertion growth aim item by (Inserted (Replacing q) (Some before)) does =
-      let e = does.entry in
-      record {
-        affects = inl (ap (λ t. t.shape) does.after);
-        raised = λ _. ap (λ t. t.list.generation) does.after;
-        change = λ distinct.
-            let here = replaced-here distinct aim e does.place in
-            writes e.index e.generation e.item item here (ap (λ t. t.list.entries) does.after)
-            (λ p there of. other_index es p (e.index, e.generation) (λ same. of (does.named ∙ same)) (ap is_some (there-found es (e.index, e.generation) e.item here)) there)
-            (λ total keeps. replaced-alike total item aim e does.place (by total keeps));
-      }
-  outcome-insertion growth aim item by (Refused refusal) does = kept does.after
-  outcome-insertion growth aim item by reply does = absurd does
+  module _ {A Keeps : Type 0} (growth : Growth) (aim : Aim K) (item : T) (by : GoesByKey r Keeps item aim) where
+    abbrev IsReply : Reply P T A I G → Type 0
+    IsReply reply = Inserts r.key r.cmp r.most growth aim r.pointer s.tree item reply new
 
-  pub outcome : {A F : Type 0} (asks : F → Shown T → F → Type 0) (f : F) (command : Command P T I G K) (reply : Reply P T A I G) (g : F) → Does r asks s f command reply new g
-      → Outcome r s.tree new (effect_of command reply) (resets command) (raises command reply) (λ p. IsOfOthers r p command reply) (KeepsApart r command)
+    outcome-insertion : (reply : Reply P T A I G) → IsReply reply → Outcome r s.tree new (told_effect reply) false 0 (λ p. ReplacesAnother r p reply) Keeps
+    outcome-insertion (Inserted (New q) None) does =
+        let room = with_slot growth r.most s.tree.list in
+        let roomy = entries-with_slot growth r.most s.tree.list in
+        let era = generation-with_slot growth r.most s.tree.list in
+        let i = (r.pointer q).0 in
+        let after = after-insertion room new.list (with_between does.gap) item i (r.pointer q).1 does.inserted in
+        record {
+          affects = does.grown.tight;
+          raised = λ _. after.1 ∙ era;
+          change = λ _. comes does.gap i item (record {
+            list = after.0 ∙ ap (λ g. does.gap.front ++ record { index = i; generation = g; item = item } ∷ does.gap.back) era;
+            free = ap (times i) (sym does.gap.cut) ∙ ap (times i) (sym roomy) ∙ does.inserted.vacant.free;
+          }) aim does.place by;
+        }
+    outcome-insertion (Inserted (Replacing q) (Some before)) does =
+        let e = does.entry in
+        record {
+          affects = inl (ap (λ t. t.shape) does.after);
+          raised = λ _. ap (λ t. t.list.generation) does.after;
+          change = λ distinct.
+              let here = replaced-here distinct aim e does.place in
+              writes e.index (e.generation, e.item) item here (ap (λ t. t.list.entries) does.after)
+              (λ p there of. other_index es p (e.index, e.generation) (λ same. of (does.named ∙ same)) (ap is_some (there-found es (e.index, e.generation) e.item here)) there)
+              (λ total keeps. replaced-alike total item aim e does.place (by total keeps));
+        }
+    outcome-insertion (Refused refusal) does = kept does.after
+    outcome-insertion reply does = absurd does
+
+  -- what a command leaves with this reply
+  abbrev pub After : {A : Type 0} → Command P T I G K → Reply P T A I G → Type 0
+  After command reply =
+      Outcome r s.tree new (effect_of command reply) (resets command) (raises command reply) (λ p. IsOfOthers r p command reply) (KeepsApart r command)
+
+  pub outcome : {A F : Type 0} (asks : F → Shown T → F → Type 0) (f : F) (command : Command P T I G K) (reply : Reply P T A I G) (g : F)
+      → Does r asks s f command reply new g → After command reply
   outcome asks f (commands.Insert item) reply g does = outcome-insertion reallocating (at_key (r.key item)) item (λ total _. tied_itself total (r.key item)) reply does.0
   outcome asks f (commands.InsertWithin item) reply g does = outcome-insertion within (at_key (r.key item)) item (λ total _. tied_itself total (r.key item)) reply does.0
   outcome asks f (commands.Entry kind item) reply g does = outcome-insertion reallocating (aim_of r.index kind) item (λ _ by. by_kind kind item by) reply does.0
@@ -248,7 +283,7 @@ module _ {P T I G K : Type 0} (r : Reading P T I G K) (s : State T) (new : Tree 
       record {
         affects = inl (ap (λ t. t.shape) does.0.1);
         raised = λ _. ap (λ t. t.list.generation) does.0.1;
-        change = λ _. writes (r.pointer q).0 (r.pointer q).1 found.0 item found.1 (ap (λ t. t.list.entries) does.0.1)
+        change = λ _. writes (r.pointer q).0 ((r.pointer q).1, found.0) item found.1 (ap (λ t. t.list.entries) does.0.1)
             (λ p here of. other_index es p (r.pointer q) of there here) (λ _ never. absurd never);
       }
   outcome asks f (commands.Set q item) reply g does = absurd does.0

@@ -24,8 +24,11 @@ module _ {P T I G A F K : Type 0} (r : Reading P T I G K) (asks : F → Shown T 
 module _ {P T I G A F K : Type 0} (r : Reading P T I G K) (asks : F → Shown T → F → Type 0) (command : Command P T I G K)
     (reply : Reply P T A I G) (mid : State T) (between : F) (new : State T) (g : F)
     (step : Step r asks mid between command reply new g) where
-  Runs-more : (old : State T) (f : F) (asked : List (Command P T I G K)) (told : List (Reply P T A I G))
-      → Runs r asks old f asked told mid between → Runs r asks old f (asked ++ command ∷ []) (told ++ reply ∷ []) new g
+  -- from the state old and the closure f
+  abbrev GoesOn : State T → F → List (Command P T I G K) → List (Reply P T A I G) → Type 0
+  GoesOn old f asked told = Runs r asks old f asked told mid between → Runs r asks old f (asked ++ command ∷ []) (told ++ reply ∷ []) new g
+
+  Runs-more : (old : State T) (f : F) (asked : List (Command P T I G K)) (told : List (Reply P T A I G)) → GoesOn old f asked told
   Runs-more old f [] [] run =
       (new, g, subst (λ (s : State T). Step r asks s f command reply new g) run.0 (subst (λ (h : F). Step r asks mid h command reply new g) run.1 step), (refl, refl))
   Runs-more old f [] (q ∷ told) run = absurd run
@@ -35,16 +38,16 @@ module _ {P T I G A F K : Type 0} (r : Reading P T I G K) (asks : F → Shown T 
 -- and so does one between trees
 module _ {P T I G A F K : Type 0} (r : Reading P T I G K) (asks : F → Shown T → F → Type 0) (command : Command P T I G K)
     (reply : Reply P T A I G) (old : Tree T) (f : F) (mid : Tree T) (between : F) (new : Tree T) (g : F)
-    (step : StepsBetween r asks mid between command reply new g) where
+    (step : StepsBetween r asks mid between command reply new g)
+    (asked : List (Command P T I G K)) (told : List (Reply P T A I G)) where
   -- a step between the states that the marks make of the trees
   step_from : (marks : Marks) → AreTrue marks mid.shape
       → Step r asks (record { tree = mid; marks = marks }) between command reply
       (record { tree = new; marks = marks_after command reply new marks }) g
   step_from marks holds = record { does = step.does marks holds; marks = refl; lawful = step.lawful; sound = step.sound }
 
-  pub RunsBetween-more : (asked : List (Command P T I G K)) (told : List (Reply P T A I G))
-      → RunsBetween r asks old f asked told mid between → RunsBetween r asks old f (asked ++ command ∷ []) (told ++ reply ∷ []) new g
-  RunsBetween-more asked told so_far marks holds =
+  pub RunsBetween-more : RunsBetween r asks old f asked told mid between → RunsBetween r asks old f (asked ++ command ∷ []) (told ++ reply ∷ []) new g
+  RunsBetween-more so_far marks holds =
       let run = so_far marks holds in (
         marks_after command reply new run.0,
         AreTrue-does r asks (record { tree = mid; marks = run.0 }) between command reply new g step.sound run.1 (step.does run.0 run.1),

@@ -17,6 +17,6 @@ returns-in-Ok-clause-ok g c =
     let step = entry-inserts deadline_of nat_cmp (λ (p : ℕ × ℕ). p) (λ (i : ℕ). i) reallocating most_jobs
     (Nonhereditary c.args.deadline) c.args.jobs.now c.in-Ok.entry.arena.now c.insert.new.self.0
     c.len.ensures.sound.distinct shown _ _ c.new.result c.insert.result c.in-Ok.ensures.place c.insert.ensures.inserts in
-    let done = inserts-new deadline_of nat_cmp most_jobs reallocating c.args.deadline (λ (p : ℕ × ℕ). p) c.args.jobs.now c.new.result shown c.insert.result c.insert.new.self.0 step in
+    let done = inserts-new deadline_of nat_cmp most_jobs reallocating c.args.deadline (λ (p : ℕ × ℕ). p) c.args.jobs.now c.new.result c.insert.new.self.0 (shown, c.insert.result) step in
     let told : InsertsNew deadline_of nat_cmp most_jobs reallocating (behind_key c.args.deadline) c.args.jobs.now item c.any-p.result c.insert.new.self.0 = rw (named, ← c.new.ensures) done in
     subst (λ u. InsertsNew deadline_of nat_cmp most_jobs reallocating (behind_key c.args.deadline) c.args.jobs.now item c.any-p.result u) (search rules) told

@@ -11,7 +11,7 @@ returns-in-Ok g c =
     let number = g.P.Inx.PtrInx.number in
     let most = g.P.Inx.PtrInx.most in
     let shown = c.in-Ok.entry.prepared.shown in
-    inserts-alike key g.T.Key.Ord.cmp most within number g.P.Ptr.numbers (kind_now c.as_ref.result) c.args.kind.now shown c.ptr-shown.result
-    c.args.arena.now c.insert-before.new.self.0 _ c.args.item c.insert-before.result c.as_ref.ensures c.ptr-shown.ensures (search rules)
+    inserts-alike key g.T.Key.Ord.cmp most within number g.P.Ptr.numbers c.args.arena.now c.args.item c.insert-before.result
+    (kind_now c.as_ref.result) c.args.kind.now shown c.ptr-shown.result c.insert-before.new.self.0 _ c.as_ref.ensures c.ptr-shown.ensures (search rules)
     (entry-inserts key g.T.Key.Ord.cmp g.P.Ptr.numbers number within most (kind_now c.as_ref.result) c.args.arena.now c.in-Ok.entry.arena.now
     c.insert-before.new.self.0 c.len.ensures.sound.distinct shown _ _ c.args.item c.insert-before.result c.in-Ok.ensures.place c.insert-before.ensures.inserts)
