@@ -10,6 +10,7 @@ use Rattle.chain_base.specs.Chain.{Entry, removed, IsSound as IsSoundChain, IsDi
 use Rattle.chain_base.proofs.CallerLemmas.{entry_at-absent}
 use Rattle.ord_tree.specs.Tree.{Tree}
 use Rattle.order_queue.specs.declared.side.Side.{Side}
+use Rattle.order_queue.specs.declared.order.Order.{Order}
 use Rattle.order_queue.specs.Queue.{Queue, most_orders, Updates, with_left, first_of, order_of, without, IsDistinct, IsSound}
 use Rattle.order_queue.specs.Layout.{greatest_generation, most_price, ranked, resting, queue_of, AreRanked, IsArenaOfOrders}
 use Rattle.order_queue.proofs.Naming.{updates-none, updates-left}
@@ -85,8 +86,11 @@ module _ (side : Side) where
   first-none [] none = refl
   first-none (e ∷ es) none = absurd (cc)
 
+  abbrev order_at : ℕ × ℕ → ℕ × ℕ → Order
+  order_at p item = record { id = record { side = side; pointer = p }; price = ranked side item.0; quantity = item.1 }
+
   pub first-some : (es : Entries) (p item : ℕ × ℕ) → Some p ≡ first_pointer es → Some item ≡ item_of es p
-      → first_of side (map (resting side) es) ≡ Some (record { id = record { side = side; pointer = p }; price = ranked side item.0; quantity = item.1 })
+      → first_of side (map (resting side) es) ≡ Some (order_at p item)
   first-some [] p item named found = absurd (cc)
   first-some (e ∷ es) p item named found =
       let here : p ≡ (e.index, e.generation) = cc in
@@ -112,11 +116,14 @@ module _ (side : Side) where
 
   -- what the removal of a pointer's entry leaves
   module _ (old new : Tree (ℕ × ℕ)) (p : ℕ × ℕ) (distinct : AreDistinct old.list.entries) where
-    pub queue-removed : IsSome (item_of old.list.entries p) → new.list ≡ removed greatest_generation old.list p.0 → queue_of side new ≡ with_left (queue_of side old) p
+    abbrev IsTaken : Type 0
+    IsTaken = new.list ≡ removed greatest_generation old.list p.0
+
+    pub queue-removed : IsSome (item_of old.list.entries p) → IsTaken → queue_of side new ≡ with_left (queue_of side old) p
     queue-removed there after = rw (after, without-found old.list.entries distinct p there) refl
 
     -- what pointers name afterwards, whether the pointer had an entry or none
-    pub updates-removed : (o : Option (ℕ × ℕ)) → o ≡ item_of old.list.entries p → OnSome o (new.list ≡ removed greatest_generation old.list p.0) → IfNone o (new ≡ old)
+    pub updates-removed : (o : Option (ℕ × ℕ)) → o ≡ item_of old.list.entries p → OnSome o IsTaken → IfNone o (new ≡ old)
         → Updates (queue_of side old) (queue_of side new) p None
     updates-removed None value taken none = subst (λ (a : Tree (ℕ × ℕ)). Updates (queue_of side old) (queue_of side a) p None) (sym none)
         (updates-none (queue_of side old) p (order_of-found old.list.entries distinct p ∙ ap (option_map told) (sym value)))

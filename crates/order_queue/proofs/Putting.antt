@@ -64,23 +64,27 @@ module _ (growth : Growth) (old new : Tree (ℕ × ℕ)) (d quantity : ℕ) (p :
   abbrev entry : Entry (ℕ × ℕ)
   entry = record { index = p.0; generation = p.1; item = (d, quantity) }
 
+  -- the list with room for one more
+  abbrev room : Chain (ℕ × ℕ)
+  room = with_slot growth most_orders old.list
+
   -- the list with an entry in the gap, under this index and generation
   abbrev put_list : List ℕ → ℕ → ℕ → Chain (ℕ × ℕ)
-  put_list vacant i g = record (with_slot growth most_orders old.list) { entries = gap.front ++ record { index = i; generation = g; item = (d, quantity) } ∷ gap.back; vacant = vacant }
+  put_list vacant i g = record room { entries = gap.front ++ record { index = i; generation = g; item = (d, quantity) } ∷ gap.back; vacant = vacant }
 
   module _ (at_most_before : IfSome (before gap) (λ e. nat_cmp d e.item.0 ≢ Less)) (greater_after : IfSome (after gap) (λ e. nat_cmp d e.item.0 ≡ Less))
-      (inserted : IsInsertion (with_slot growth most_orders old.list) new.list (with_between gap) (d, quantity) p.0 p.1)
+      (inserted : IsInsertion room new.list (with_between gap) (d, quantity) p.0 p.1)
       (sound : IsSound most_orders greatest_generation old.list) (holds : IsArenaOfOrders old) where
     -- the list afterwards
     after-put : (rest : List ℕ) × (new.list ≡ put_list rest p.0 p.1)
-    after-put = go (with_slot growth most_orders old.list).vacant inserted.next inserted.after
+    after-put = go room.vacant inserted.next inserted.after
       where
-        go : (vacant : List ℕ) → slice_get vacant 0 ≡ Some p.0 → new.list ≡ inserted_at (with_slot growth most_orders old.list) (with_between gap) (d, quantity) vacant
+        go : (vacant : List ℕ) → slice_get vacant 0 ≡ Some p.0 → new.list ≡ inserted_at room (with_between gap) (d, quantity) vacant
             → (rest : List ℕ) × (new.list ≡ put_list rest p.0 p.1)
         go [] next after = absurd (cc)
         go (j ∷ rest) next after =
             let here : j ≡ p.0 = cc in
-            (rest, after ∙ ap (λ i. put_list rest i (with_slot growth most_orders old.list).generation) here ∙ ap (λ g. put_list rest p.0 g) (sym inserted.generation))
+            (rest, after ∙ ap (λ i. put_list rest i room.generation) here ∙ ap (λ g. put_list rest p.0 g) (sym inserted.generation))
 
     numbers-put : (new.list.generation ≡ old.list.generation) × (new.list.maximum ≡ old.list.maximum)
     numbers-put = let numbers = numbers-with_slot growth most_orders old.list in
@@ -104,7 +108,7 @@ module _ (growth : Growth) (old new : Tree (ℕ × ℕ)) (d quantity : ℕ) (p :
 
     pub arena-put : d ≤ most_price → 0 < quantity → IsArenaOfOrders new
     arena-put bounded some = record {
-      ranked = rw entries-put (ranked-between gap.front entry gap.back sorted at_most-before greater-behind);
+      ranked = rw entries-put (ranked-between entry gap.back greater-behind gap.front sorted at_most-before);
       lawful = rw entries-put (recursion-append IsLawful gap.front (entry ∷ gap.back) (recursion-front IsLawful gap.front gap.back lawful)
           ((bounded, some), recursion-back IsLawful gap.front gap.back lawful));
       unlimited = numbers-put.1 ∙ holds.unlimited;
@@ -139,14 +143,17 @@ module _ (growth : Growth) (old new : Tree (ℕ × ℕ)) (d quantity : ℕ) (p :
       }
 
 -- an insertion behind a key makes a new entry
-pub inserts-new : {P T K : Type 0} (key : T → K) (cmp : K → K → Ordering) (most : ℕ) (growth : Growth) (k : K) (numbers : P → ℕ × ℕ)
-    (old : Tree T) (item : T) (shown : OrdEntryKind P) (before : Option T) (new : Tree T)
-    → InsertsBy key cmp most growth (behind_key k) numbers old item (Ok (shown, before)) new
-    → InsertsNew key cmp most growth (behind_key k) old item (numbers (pointer_of shown)) new
-inserts-new key cmp most growth k numbers old item (New p) None new inserts = inserts
-inserts-new key cmp most growth k numbers old item (New p) (Some before) new inserts = absurd inserts
-inserts-new key cmp most growth k numbers old item (Replacing p) None new inserts = absurd inserts
-inserts-new key cmp most growth k numbers old item (Replacing p) (Some before) new inserts = absurd inserts.place
+module _ {P T K : Type 0} (key : T → K) (cmp : K → K → Ordering) (most : ℕ) (growth : Growth) (k : K) (numbers : P → ℕ × ℕ)
+    (old : Tree T) (item : T) (new : Tree T) where
+  abbrev IsNew : ℕ × ℕ → Type 0
+  IsNew p = InsertsNew key cmp most growth (behind_key k) old item p new
+
+  pub inserts-new : (told : OrdEntryKind P × Option T) → InsertsBy key cmp most growth (behind_key k) numbers old item (Ok told) new
+      → IsNew (numbers (pointer_of told.0))
+  inserts-new (New p, None) inserts = inserts
+  inserts-new (New p, Some before) inserts = absurd inserts
+  inserts-new (Replacing p, None) inserts = absurd inserts
+  inserts-new (Replacing p, Some before) inserts = absurd inserts.place
 
 -- what an insertion behind the rank of its price makes of a queue
 module _ (growth : Growth) (side : Side) (old new : Tree (ℕ × ℕ)) (price quantity : ℕ) (p : ℕ × ℕ) (bounded : price ≤ most_price)

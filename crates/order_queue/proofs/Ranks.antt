@@ -73,14 +73,13 @@ ranked-back [] fs sorted = sorted
 ranked-back (e ∷ es) fs sorted = ranked-back es fs sorted.1
 
 -- an entry between those whose rank is at most its own and those with a greater one
-pub ranked-between : (es : Entries) (e : Entry (ℕ × ℕ)) (fs : Entries) → AreRanked (es ++ fs)
-    → AllByRecursion (λ (f : Entry (ℕ × ℕ)). f.item.0 ≤ e.item.0) es → AllByRecursion (λ (f : Entry (ℕ × ℕ)). e.item.0 < f.item.0) fs
-    → AreRanked (es ++ e ∷ fs)
-ranked-between [] e fs sorted below above =
-    (recursion-each (λ (f : Entry (ℕ × ℕ)). e.item.0 < f.item.0) (λ (f : Entry (ℕ × ℕ)). e.item.0 ≤ f.item.0) (λ f more. omega (arith, more)) fs above, sorted)
-ranked-between (h ∷ es) e fs sorted below above =
-    let P : Entry (ℕ × ℕ) → Type 0 = λ f. h.item.0 ≤ f.item.0 in
-    (recursion-append P es (e ∷ fs) (recursion-front P es fs sorted.0) (below.0, recursion-back P es fs sorted.0), ranked-between es e fs sorted.1 below.1 above)
+module _ (e : Entry (ℕ × ℕ)) (fs : Entries) (above : AllByRecursion (λ (f : Entry (ℕ × ℕ)). e.item.0 < f.item.0) fs) where
+  pub ranked-between : (es : Entries) → AreRanked (es ++ fs) → AllByRecursion (λ (f : Entry (ℕ × ℕ)). f.item.0 ≤ e.item.0) es → AreRanked (es ++ e ∷ fs)
+  ranked-between [] sorted below =
+      (recursion-each (λ (f : Entry (ℕ × ℕ)). e.item.0 < f.item.0) (λ (f : Entry (ℕ × ℕ)). e.item.0 ≤ f.item.0) (λ f more. omega (arith, more)) fs above, sorted)
+  ranked-between (h ∷ es) sorted below =
+      let P : Entry (ℕ × ℕ) → Type 0 = λ f. h.item.0 ≤ f.item.0 in
+      (recursion-append P es (e ∷ fs) (recursion-front P es fs sorted.0) (below.0, recursion-back P es fs sorted.0), ranked-between es sorted.1 below.1)
 
 -- where the last of a front isn't of a greater rank than this, none of it is
 pub none-greater : (d : ℕ) (es fs : Entries) → AreRanked (es ++ fs) → IfSome (last_or None es) (λ e. nat_cmp d e.item.0 ≢ Less)

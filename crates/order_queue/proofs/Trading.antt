@@ -41,6 +41,9 @@ module _ (side : Side) (limit : ℕ) where
   tradable-missed left x xs misses sorted = omega (arith, within-missed side limit x xs misses sorted)
 
   module _ (left : ℕ) (x : Resting) (xs : List Resting) (hits : meets side x.price limit ≡ true) where
+    abbrev trade : ℕ → Trade
+    trade n = record { order = record { side = side; pointer = x.name }; price = x.price; quantity = n }
+
     here : within side limit (x ∷ xs) ≡ x.quantity + within side limit xs
     here = rw hits refl
 
@@ -50,17 +53,16 @@ module _ (side : Side) (limit : ℕ) where
 
     -- and the next trade is that
     pub trades-next : 0 < left → 0 < x.quantity → trades_of_first side (tradable left (x ∷ xs)) (x ∷ xs)
-        ≡ record { order = record { side = side; pointer = x.name }; price = x.price; quantity = min left x.quantity }
-        ∷ trades_of_first side (tradable (left - min left x.quantity) xs) xs
+        ≡ trade (min left x.quantity) ∷ trades_of_first side (tradable (left - min left x.quantity) xs) xs
     trades-next wanted some =
         let traded : ℕ = tradable left (x ∷ xs) in
         let more : 0 < traded = omega (arith, here, wanted, some) in
         let first : min traded x.quantity ≡ min left x.quantity = omega (arith, here) in
         let rest : traded - x.quantity ≡ tradable (left - min left x.quantity) xs = omega (arith, here) in
-        trades-some traded more ∙ ap (λ n. record { order = record { side = side; pointer = x.name }; price = x.price; quantity = n } ∷ trades_of_first side (traded - x.quantity) xs) first
-        ∙ ap (λ n. record { order = record { side = side; pointer = x.name }; price = x.price; quantity = min left x.quantity } ∷ trades_of_first side n xs) rest
+        trades-some traded more ∙ ap (λ n. trade n ∷ trades_of_first side (traded - x.quantity) xs) first
+        ∙ ap (λ n. trade (min left x.quantity) ∷ trades_of_first side n xs) rest
       where
-        trades-some : (n : ℕ) → 0 < n → trades_of_first side n (x ∷ xs) ≡ record { order = record { side = side; pointer = x.name }; price = x.price; quantity = min n x.quantity } ∷ trades_of_first side (n - x.quantity) xs
+        trades-some : (n : ℕ) → 0 < n → trades_of_first side n (x ∷ xs) ≡ trade (min n x.quantity) ∷ trades_of_first side (n - x.quantity) xs
         trades-some n more = elim (eqb_tells n 0) [
           | inl h ↦ absurd (omega (arith, h.1, more))
           | inr h ↦ rw h.0 refl
@@ -74,8 +76,8 @@ trade_of side left e = record { order = record { side = side; pointer = (e.index
 -- is left and the trades become what is promised by what the offer still trades with those entries.
 pub record IsOffering (q : Queue) (limit quantity : ℕ) (before : List Trade) (left : ℕ) (trades : List Trade) (coming : Entries) : Type 0 where
   pub left_over : left + traded q limit quantity ≡ quantity + tradable q.side limit left (map (resting q.side) coming)
-  pub to_come : trades ++ trades_of_first q.side (tradable q.side limit left (map (resting q.side) coming)) (map (resting q.side) coming)
-      ≡ before ++ trades_of_first q.side (traded q limit quantity) q.orders
+  pub to_come : let xs = map (resting q.side) coming in
+      trades ++ trades_of_first q.side (tradable q.side limit left xs) xs ≡ before ++ trades_of_first q.side (traded q limit quantity) q.orders
   pub sorted : AreRanked coming
   pub lawful : AllByRecursion (λ (e : Entry (ℕ × ℕ)). (e.item.0 ≤ most_price) × (0 < e.item.1)) coming
   pub added : List Trade
@@ -95,7 +97,10 @@ offering-start side a limit quantity before holds = record {
 
 module _ (q : Queue) (limit quantity : ℕ) (before : List Trade) (left : ℕ) (trades : List Trade) where
   -- where it still trades nothing, it is done
-  module _ (coming : Entries) (h : IsOffering q limit quantity before left trades coming) (done : tradable q.side limit left (map (resting q.side) coming) ≡ 0) where
+  abbrev IsDone : Entries → Type 0
+  IsDone coming = tradable q.side limit left (map (resting q.side) coming) ≡ 0
+
+  module _ (coming : Entries) (h : IsOffering q limit quantity before left trades coming) (done : IsDone coming) where
     pub left-done : left + traded q limit quantity ≡ quantity
     left-done = omega (arith, h.left_over, done)
 
@@ -106,14 +111,14 @@ module _ (q : Queue) (limit quantity : ℕ) (before : List Trade) (left : ℕ) (
         sym (append-nil trades) ∙ ap (λ ts. trades ++ ts) (sym none) ∙ h.to_come
 
   -- which is so where no entry is to come, where nothing is left, and where the next order doesn't meet the limit
-  pub done-ended : (coming : Entries) → coming ≡ [] → tradable q.side limit left (map (resting q.side) coming) ≡ 0
+  pub done-ended : (coming : Entries) → coming ≡ [] → IsDone coming
   done-ended coming none = rw none (omega (arith))
 
-  pub done-filled : (coming : Entries) → left ≡ 0 → tradable q.side limit left (map (resting q.side) coming) ≡ 0
+  pub done-filled : (coming : Entries) → left ≡ 0 → IsDone coming
   done-filled coming none = omega (arith, none)
 
-  pub done-missed : (e : Entry (ℕ × ℕ)) (es : Entries) → IsOffering q limit quantity before left trades (e ∷ es) → meets q.side (ranked q.side e.item.0) limit ≡ false
-      → tradable q.side limit left (map (resting q.side) (e ∷ es)) ≡ 0
+  pub done-missed : (e : Entry (ℕ × ℕ)) (es : Entries) → IsOffering q limit quantity before left trades (e ∷ es)
+      → meets q.side (ranked q.side e.item.0) limit ≡ false → IsDone (e ∷ es)
   done-missed e es h misses = tradable-missed q.side limit left (resting q.side e) (map (resting q.side) es) misses (in_order-ranked q.side (e ∷ es) h.sorted)
 
   -- where the next order meets the limit, it is traded next

@@ -16,6 +16,6 @@ returns-in-Ok-clause-ok g c =
     let named : c.any-p.result ≡ pointer_of shown = c.any-p.ensures ∙ ap pointer_of c.ptr.ensures in
     let step = entry-inserts rank_of nat_cmp (λ (p : ℕ × ℕ). p) (λ (i : ℕ). i) reallocating most_orders (Nonhereditary c.args.rank) c.args.orders.now c.in-Ok.entry.arena.now c.insert.new.self.0
     c.len.ensures.sound.distinct shown _ _ c.new.result c.insert.result c.in-Ok.ensures.place c.insert.ensures.inserts in
-    let done = inserts-new rank_of nat_cmp most_orders reallocating c.args.rank (λ (p : ℕ × ℕ). p) c.args.orders.now c.new.result shown c.insert.result c.insert.new.self.0 step in
+    let done = inserts-new rank_of nat_cmp most_orders reallocating c.args.rank (λ (p : ℕ × ℕ). p) c.args.orders.now c.new.result c.insert.new.self.0 (shown, c.insert.result) step in
     let told : InsertsNew rank_of nat_cmp most_orders reallocating (behind_key c.args.rank) c.args.orders.now item c.any-p.result c.insert.new.self.0 = rw (named, ← c.new.ensures) done in
     subst (λ u. InsertsNew rank_of nat_cmp most_orders reallocating (behind_key c.args.rank) c.args.orders.now item c.any-p.result u) (search rules) told

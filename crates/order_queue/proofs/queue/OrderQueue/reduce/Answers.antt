@@ -9,4 +9,4 @@ pub invariant_of-self-2 : goal.invariant_of-self-2
 invariant_of-self-2 g c = arena-reduced c.self.inside.orders c.args.pointer _ c.args.quantity (sym c.in-Some.ensures.value) c.requires c.self.invariant
 
 pub returns : goal.returns
-returns g c = rw (← c.self.view_is) (λ x xs shown named. queue-reduced c.self.inside.side x xs c.self.inside.orders c.args.pointer _ c.args.quantity (sym c.in-Some.ensures.value) shown named)
+returns g c = rw (← c.self.view_is) (λ x xs shown named. queue-reduced c.self.inside.side x xs _ c.args.quantity c.self.inside.orders c.args.pointer named (sym c.in-Some.ensures.value) shown)
