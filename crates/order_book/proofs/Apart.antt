@@ -85,13 +85,13 @@ unmet-behind side limit (x ∷ xs) sorted = go (unmet-behind side limit xs sorte
     go rest false unmet = all-behind P (within side limit (x ∷ xs)) (x ∷ xs) (unmet-all side limit x xs sorted unmet)
 
 -- where something of an order is left, all that meets its limit was traded
-all-traded : (q : Queue) (limit quantity : ℕ) → 0 < quantity - traded q limit quantity → traded q limit quantity ≡ within q.side limit q.orders
-all-traded q limit quantity some = omega (arith, some)
+module _ (q : Queue) (limit quantity : ℕ) (some : 0 < quantity - traded q limit quantity) where
+  all-traded : traded q limit quantity ≡ within q.side limit q.orders
+  all-traded = omega (arith, some)
 
--- what is left of the other side doesn't meet an order of which something is left
-left-unmet : (q : Queue) (limit quantity : ℕ) → IsInOrder q.side q.orders → 0 < quantity - traded q limit quantity
-    → AllByRecursion (λ y. meets q.side y.price limit ≡ false) (behind (traded q limit quantity) q.orders)
-left-unmet q limit quantity sorted some = rw (all-traded q limit quantity some) (unmet-behind q.side limit q.orders sorted)
+  -- so what is left of the other side doesn't meet it
+  left-unmet : IsInOrder q.side q.orders → AllByRecursion (λ y. meets q.side y.price limit ≡ false) (behind (traded q limit quantity) q.orders)
+  left-unmet sorted = rw all-traded (unmet-behind q.side limit q.orders sorted)
 
 -- an order that comes in leaves bids and asks apart
 module _ (own other new : Queue) (price quantity : ℕ) (sorted : IsInOrder other.side other.orders) where
@@ -102,7 +102,7 @@ module _ (own other new : Queue) (price quantity : ℕ) (sorted : IsInOrder othe
   apart-bought None sells apart rests = rw rests.1 (apart-asks_behind own.orders other.orders apart (traded other price quantity))
   apart-bought (Some id) sells apart rests =
       let r : Rests own price (quantity - traded other price quantity) id.pointer new = rests.2 in
-      let unmet : AllByRecursion (λ y. meets other.side y.price price ≡ false) left = left-unmet other price quantity sorted rests.0 in
+      let unmet : AllByRecursion (λ y. meets other.side y.price price ≡ false) left = left-unmet other price quantity rests.0 sorted in
       let above : AllByRecursion (λ (ask : Resting). price < ask.price) left =
       all-weaker (λ y. meets Sell y.price price ≡ false) (λ y. price < y.price) (λ y none. grind (arith, nat_tests, none)) left
       (subst (λ side. AllByRecursion (λ y. meets side y.price price ≡ false) left) sells unmet) in
@@ -112,7 +112,7 @@ module _ (own other new : Queue) (price quantity : ℕ) (sorted : IsInOrder othe
   apart-sold None buys apart rests = rw rests.1 (apart-bids_behind other.orders own.orders apart (traded other price quantity))
   apart-sold (Some id) buys apart rests =
       let r : Rests own price (quantity - traded other price quantity) id.pointer new = rests.2 in
-      let unmet : AllByRecursion (λ y. meets other.side y.price price ≡ false) left = left-unmet other price quantity sorted rests.0 in
+      let unmet : AllByRecursion (λ y. meets other.side y.price price ≡ false) left = left-unmet other price quantity rests.0 sorted in
       let below : AllByRecursion (λ (bid : Resting). bid.price < price) left =
       all-weaker (λ y. meets Buy y.price price ≡ false) (λ y. y.price < price) (λ y none. grind (arith, nat_tests, none)) left
       (subst (λ side. AllByRecursion (λ y. meets side y.price price ≡ false) left) buys unmet) in

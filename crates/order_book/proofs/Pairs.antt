@@ -30,37 +30,48 @@ module _ (bids asks : Queue) (pair : IsPairOfQueues bids asks) where
 
   module _ (price quantity : ℕ) where
     -- an order to buy has come in
-    pair-bought : (new : Queue) (id : Option Id) → IsInOrder asks.side asks.orders → RestsOrNot bids price (quantity - traded asks price quantity) id new
-        → IsPairOfQueues new (taken (traded asks price quantity) asks)
+    abbrev bought : ℕ
+    bought = traded asks price quantity
+
+    pair-bought : (new : Queue) (id : Option Id) → IsInOrder asks.side asks.orders → RestsOrNot bids price (quantity - bought) id new
+        → IsPairOfQueues new (taken bought asks)
     pair-bought new id sorted rests = record {
-      buys = side-rested bids new price (quantity - traded asks price quantity) id rests ∙ pair.buys;
+      buys = side-rested bids new price (quantity - bought) id rests ∙ pair.buys;
       sells = pair.sells;
       uncrossed = apart-bought bids asks new price quantity sorted id pair.sells pair.uncrossed rests;
     }
 
     -- an order to sell has come in
-    pair-sold : (new : Queue) (id : Option Id) → IsInOrder bids.side bids.orders → RestsOrNot asks price (quantity - traded bids price quantity) id new
-        → IsPairOfQueues (taken (traded bids price quantity) bids) new
+    abbrev sold : ℕ
+    sold = traded bids price quantity
+
+    pair-sold : (new : Queue) (id : Option Id) → IsInOrder bids.side bids.orders → RestsOrNot asks price (quantity - sold) id new
+        → IsPairOfQueues (taken sold bids) new
     pair-sold new id sorted rests = record {
       buys = pair.buys;
-      sells = side-rested asks new price (quantity - traded bids price quantity) id rests ∙ pair.sells;
+      sells = side-rested asks new price (quantity - sold) id rests ∙ pair.sells;
       uncrossed = apart-sold asks bids new price quantity sorted id pair.buys pair.uncrossed rests;
     }
 
--- An order comes in, or is refused, which leaves both sides as they were. Before it comes, its own side may have lost an order.
-module _ {E : Type 0} (bids asks new_bids new_asks : Queue) (pair : IsPairOfQueues bids asks) (price quantity : ℕ) where
-  pub pair-settled_bid : (from : Queue) → IsPairOfQueues from asks → (r : Result (Option Id) E) → IsInOrder asks.side asks.orders
-      → IfOk r (λ id. RestsOrNot from price (quantity - traded asks price quantity) id new_bids) → OnOk r (new_asks ≡ taken (traded asks price quantity) asks)
-      → OnErr r (new_bids ≡ bids) → OnErr r (new_asks ≡ asks) → IsPairOfQueues new_bids new_asks
-  pair-settled_bid from paired (Ok id) sorted rests trades same also =
-      subst (λ q. IsPairOfQueues new_bids q) (sym trades) (pair-bought from asks paired price quantity new_bids id sorted rests)
-  pair-settled_bid from paired (Err e) sorted rests trades same also =
-      subst (λ q. IsPairOfQueues new_bids q) (sym also) (subst (λ q. IsPairOfQueues q asks) (sym same) pair)
+-- An order comes in, or is refused, which leaves both sides as they were. Before it comes, its own side may have lost an order, which leaves `from`.
+pub record IsSettled {E : Type 0} (price quantity : ℕ) (from own other new_own new_other : Queue) (r : Result (Option Id) E) : Type 0 where
+  pub in_order : IsInOrder other.side other.orders
+  pub rests : IfOk r (λ id. RestsOrNot from price (quantity - traded other price quantity) id new_own)
+  pub taken : OnOk r (new_other ≡ taken (traded other price quantity) other)
+  pub own_kept : OnErr r (new_own ≡ own)
+  pub other_kept : OnErr r (new_other ≡ other)
 
-  pub pair-settled_ask : (from : Queue) → IsPairOfQueues bids from → (r : Result (Option Id) E) → IsInOrder bids.side bids.orders
-      → IfOk r (λ id. RestsOrNot from price (quantity - traded bids price quantity) id new_asks) → OnOk r (new_bids ≡ taken (traded bids price quantity) bids)
-      → OnErr r (new_asks ≡ asks) → OnErr r (new_bids ≡ bids) → IsPairOfQueues new_bids new_asks
-  pair-settled_ask from paired (Ok id) sorted rests trades same also =
-      subst (λ q. IsPairOfQueues q new_asks) (sym trades) (pair-sold bids from paired price quantity new_asks id sorted rests)
-  pair-settled_ask from paired (Err e) sorted rests trades same also =
-      subst (λ q. IsPairOfQueues q new_asks) (sym also) (subst (λ q. IsPairOfQueues bids q) (sym same) pair)
+module _ {E : Type 0} (bids asks new_bids new_asks : Queue) (pair : IsPairOfQueues bids asks) (price quantity : ℕ) where
+  pub pair-settled_bid : (from : Queue) → IsPairOfQueues from asks → (r : Result (Option Id) E) → IsSettled price quantity from bids asks new_bids new_asks r
+      → IsPairOfQueues new_bids new_asks
+  pair-settled_bid from paired (Ok id) settled =
+      subst (λ q. IsPairOfQueues new_bids q) (sym settled.taken) (pair-bought from asks paired price quantity new_bids id settled.in_order settled.rests)
+  pair-settled_bid from paired (Err e) settled =
+      subst (λ q. IsPairOfQueues new_bids q) (sym settled.other_kept) (subst (λ q. IsPairOfQueues q asks) (sym settled.own_kept) pair)
+
+  pub pair-settled_ask : (from : Queue) → IsPairOfQueues bids from → (r : Result (Option Id) E) → IsSettled price quantity from asks bids new_asks new_bids r
+      → IsPairOfQueues new_bids new_asks
+  pair-settled_ask from paired (Ok id) settled =
+      subst (λ q. IsPairOfQueues q new_asks) (sym settled.taken) (pair-sold bids from paired price quantity new_asks id settled.in_order settled.rests)
+  pair-settled_ask from paired (Err e) settled =
+      subst (λ q. IsPairOfQueues q new_asks) (sym settled.other_kept) (subst (λ q. IsPairOfQueues bids q) (sym settled.own_kept) pair)

@@ -37,14 +37,14 @@ total-behind n (x ∷ xs) most = elim (leb_tells x.quantity n) [
 ]
 
 -- what an order trades and what is left of it come to its quantity, and the other side has so much less
-pub bought-traded : (side : Side) (q : Queue) (limit quantity : ℕ) → volume (trades_of_first side (traded q limit quantity) q.orders) + (quantity - traded q limit quantity) ≡ quantity
-bought-traded side q limit quantity =
-    omega (arith, volume-first side (traded q limit quantity) q.orders (traded-total q limit quantity), traded-most q limit quantity)
+module _ (side : Side) (q : Queue) (limit quantity : ℕ) where
+  pub bought-traded : volume (trades_of_first side (traded q limit quantity) q.orders) + (quantity - traded q limit quantity) ≡ quantity
+  bought-traded = omega (arith, volume-first side (traded q limit quantity) q.orders (traded-total q limit quantity), traded-most q limit quantity)
 
-pub sold-traded : (side : Side) (q new : Queue) (limit quantity : ℕ) → new ≡ taken (traded q limit quantity) q
-    → total new.orders + volume (trades_of_first side (traded q limit quantity) q.orders) ≡ total q.orders
-sold-traded side q new limit quantity after = rw after
-    (omega (arith, volume-first side (traded q limit quantity) q.orders (traded-total q limit quantity), total-behind (traded q limit quantity) q.orders (traded-total q limit quantity)))
+  pub sold-traded : (new : Queue) → new ≡ taken (traded q limit quantity) q
+      → total new.orders + volume (trades_of_first side (traded q limit quantity) q.orders) ≡ total q.orders
+  sold-traded new after = rw after
+      (omega (arith, volume-first side (traded q limit quantity) q.orders (traded-total q limit quantity), total-behind (traded q limit quantity) q.orders (traded-total q limit quantity)))
 
 -- both, for the prover
 pub ruleset settled = (bought-traded, sold-traded)

@@ -116,15 +116,21 @@ module _ {V : Type 0} where
     greater None fits = tt
     greater (Some d) fits = grind (arith, nat_tests, fits)
 
-    pub changed-inserted : (p : ℕ × ℕ) (b : Option (ℕ × Option V)) → InsertsBy time_of nat_cmp most within (at_key t) numbers old (t, value) (told (Ok (p, b))) new → IsChanged (changes_of old) t value (changes_of new)
+    abbrev IsSet : Type 0
+    IsSet = IsChanged (changes_of old) t value (changes_of new)
+
+    pub changed-inserted : (p : ℕ × ℕ) (b : Option (ℕ × Option V)) → InsertsBy time_of nat_cmp most within (at_key t) numbers old (t, value) (told (Ok (p, b))) new
+        → IsSet
     changed-inserted p None inserts =
         let gap = inserts.gap in
         let parts = changes-cut old.list.entries gap in
         let whole = subst IsRising parts rising in
         let low = before-last gap.front (rising-front (map change gap.front) (map change gap.back) whole) inserts.place.lesser_before in
         let high = after-first t gap.back (rising-back (map change gap.front) (map change gap.back) whole) (greater (after gap) inserts.place.greater_after) in
-        let early : earlier t (changes_of old) ≡ map change gap.front = ap (earlier t) parts ∙ cut-before t (map change gap.front) (map change gap.back) low (all-weaker _ _ (λ c is. omega (arith, is)) (map change gap.back) high) in
-        let late : later t (changes_of old) ≡ map change gap.back = ap (later t) parts ∙ cut-after t (map change gap.front) (map change gap.back) (all-weaker _ _ (λ c is. omega (arith, is)) (map change gap.front) low) high in
+        let front : List (Change V) = map change gap.front in
+        let back : List (Change V) = map change gap.back in
+        let early : earlier t (changes_of old) ≡ front = ap (earlier t) parts ∙ cut-before t front back low (all-weaker _ _ (λ c is. omega (arith, is)) back high) in
+        let late : later t (changes_of old) ≡ back = ap (later t) parts ∙ cut-after t front back (all-weaker _ _ (λ c is. omega (arith, is)) front low) high in
         let list = listed-new _ _ _ _ _ _ inserts.inserted in
         let here : change list.entry ≡ record { time = t; value = value } = ap (λ (x : ℕ × Option V). record { time = x.0; value = x.1 }) list.has in
         record {

@@ -110,7 +110,11 @@ module _ {V : Type 0} (es : List (Entry (ℕ × Option V))) (t : ℕ) where
       )
 
     -- by the index of the entry behind the cut
-    pub lasting-told : (i : ℕ) → IsDistinct es → Some i ≡ option_map (λ e. e.index) (after found.gap) → (g : ℕ) (item : ℕ × Option V) → Some (g, item) ≡ entry_at es i → HoldsUntil (map change es) t (Some item.0)
+    abbrev IsBehind : ℕ → Type 0
+    IsBehind i = Some i ≡ option_map (λ e. e.index) (after found.gap)
+
+    pub lasting-told : (i : ℕ) → IsDistinct es → IsBehind i → (g : ℕ) (item : ℕ × Option V) → Some (g, item) ≡ entry_at es i
+        → HoldsUntil (map change es) t (Some item.0)
     lasting-told i distinct told g item some = go (after found.gap) refl told
       where
         go : (o : Option (Entry (ℕ × Option V))) → after found.gap ≡ o → Some i ≡ option_map (λ e. e.index) o → HoldsUntil (map change es) t (Some item.0)
@@ -121,7 +125,7 @@ module _ {V : Type 0} (es : List (Entry (ℕ × Option V))) (t : ℕ) where
             let pair : ◌≡◌ {A = ℕ × (ℕ × Option V)} (g, item) (e.generation, e.item) = cc in
             subst (λ (x : ℕ × Option V). HoldsUntil (map change es) t (Some x.0)) (sym (ap (λ (a : ℕ × (ℕ × Option V)). a.1) pair)) (lasting-some e at)
 
-    pub missing-told : (i : ℕ) → IsDistinct es → Some i ≡ option_map (λ e. e.index) (after found.gap) → None ≡ entry_at es i → ⊥
+    pub missing-told : (i : ℕ) → IsDistinct es → IsBehind i → None ≡ entry_at es i → ⊥
     missing-told i distinct told none = go (after found.gap) refl told
       where
         go : (o : Option (Entry (ℕ × Option V))) → after found.gap ≡ o → Some i ≡ option_map (λ e. e.index) o → ⊥

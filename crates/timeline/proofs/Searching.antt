@@ -67,51 +67,57 @@ module _ {T : Type 0} where
   first-index (e ∷ es) = refl
 
   -- the link of an entry names its neighbours
-  link-here : (prev next : Option ℕ) (front : List (Entry T)) (e : Entry T) (back : List (Entry T)) → times e.index front ≡ 0
-      → link_between prev next (front ++ e ∷ back) e.index ≡ Some (e.generation, record { item = e.item; prev = last_index_or prev front; next = first_or next back })
-  link-here prev next [] e back unmet = grind (arith, common_steps)
-  link-here prev next (f ∷ front) e back unmet = grind (arith, common_steps, link-here (Some f.index) next front e back)
+  module _ (next : Option ℕ) (e : Entry T) (back : List (Entry T)) where
+    abbrev linked : Option ℕ → Link T
+    linked prev = record { item = e.item; prev = prev; next = first_or next back }
+
+    link-here : (prev : Option ℕ) (front : List (Entry T)) → times e.index front ≡ 0
+        → link_between prev next (front ++ e ∷ back) e.index ≡ Some (e.generation, linked (last_index_or prev front))
+    link-here prev [] unmet = grind (arith, common_steps)
+    link-here prev (f ∷ front) unmet = grind (arith, common_steps, link-here (Some f.index) front)
 
   unmet-before : (front : List (Entry T)) (e : Entry T) (back : List (Entry T)) → IsDistinct (front ++ e ∷ back) → times e.index front ≡ 0
   unmet-before front e back distinct = grind (arith, common_steps, distinct e.index, times-append e.index front (e ∷ back))
-
-  -- the entry before the cut of a list, by the link of the entry behind it
-  pub link-behind : (es : List (Entry T)) (gap : Gap es) (e : Entry T) → IsDistinct es → after gap ≡ Some e
-      → option_map (λ l. l.1.prev) (link_at es e.index) ≡ Some (option_map (λ d. d.index) (before gap))
-  link-behind es gap e distinct here =
-      let back = begins-with gap.back e here in
-      let cut : es ≡ gap.front ++ e ∷ back.0 = gap.cut ∙ ap (λ ys. gap.front ++ ys) back.1 in
-      let unmet = unmet-before gap.front e back.0 (subst (λ (xs : List (Entry T)). IsDistinct xs) cut distinct) in
-      ap (λ xs. option_map (λ l. l.1.prev) (link_at xs e.index)) cut ∙ ap (option_map (λ l. l.1.prev)) (link-here None None gap.front e back.0 unmet) ∙ ap Some (last-index gap.front)
-
-  -- the entry behind the cut of a list, by the link of the entry before it
-  pub link-before : (es : List (Entry T)) (gap : Gap es) (e : Entry T) → IsDistinct es → before gap ≡ Some e
-      → option_map (λ l. l.1.next) (link_at es e.index) ≡ Some (option_map (λ d. d.index) (after gap))
-  link-before es gap e distinct here =
-      let front = ends-with gap.front e here in
-      let cut : es ≡ front.0 ++ e ∷ gap.back = gap.cut ∙ ap (λ xs. xs ++ gap.back) front.1 ∙ append_assoc front.0 (e ∷ []) gap.back in
-      let unmet = unmet-before front.0 e gap.back (subst (λ (xs : List (Entry T)). IsDistinct xs) cut distinct) in
-      ap (λ xs. option_map (λ l. l.1.next) (link_at xs e.index)) cut ∙ ap (option_map (λ l. l.1.next)) (link-here None None front.0 e gap.back unmet) ∙ ap Some (first-index gap.back)
-
-  -- the entry before a gap is found by its index
-  pub entry-before : (es : List (Entry T)) (gap : Gap es) (e : Entry T) → IsDistinct es → before gap ≡ Some e → entry_at es e.index ≡ Some (e.generation, e.item)
-  entry-before es gap e distinct here =
-      let front = ends-with gap.front e here in
-      let cut : es ≡ front.0 ++ e ∷ gap.back = gap.cut ∙ ap (λ xs. xs ++ gap.back) front.1 ∙ append_assoc front.0 (e ∷ []) gap.back in
-      entry_at-after es e distinct (record { front = front.0; back = e ∷ gap.back; cut = cut }) refl
 
   -- without an entry in the middle
   pub without-middle : (front : List (Entry T)) (e : Entry T) (back : List (Entry T)) → times e.index front ≡ 0 → without e.index (front ++ e ∷ back) ≡ front ++ back
   without-middle [] e back unmet = grind (arith, common_steps)
   without-middle (f ∷ front) e back unmet = grind (arith, common_steps, without-middle front e back)
 
-  pub without-before : (es : List (Entry T)) (gap : Gap es) (e : Entry T) → IsDistinct es → before gap ≡ Some e
-      → (front : List (Entry T)) × (es ≡ front ++ e ∷ gap.back) × (gap.front ≡ front ++ e ∷ []) × (without e.index es ≡ front ++ gap.back)
-  without-before es gap e distinct here =
-      let front = ends-with gap.front e here in
-      let cut : es ≡ front.0 ++ e ∷ gap.back = gap.cut ∙ ap (λ xs. xs ++ gap.back) front.1 ∙ append_assoc front.0 (e ∷ []) gap.back in
-      let unmet = unmet-before front.0 e gap.back (subst (λ (xs : List (Entry T)). IsDistinct xs) cut distinct) in
-      (front.0, cut, front.1, ap (without e.index) cut ∙ without-middle front.0 e gap.back unmet)
+  -- the entry behind the cut of a list, whose link names the entry before it
+  module _ (es : List (Entry T)) (gap : Gap es) (e : Entry T) (distinct : IsDistinct es) where
+    pub link-behind : after gap ≡ Some e → option_map (λ l. l.1.prev) (link_at es e.index) ≡ Some (option_map (λ d. d.index) (before gap))
+    link-behind here =
+        let back = begins-with gap.back e here in
+        let cut : es ≡ gap.front ++ e ∷ back.0 = gap.cut ∙ ap (λ ys. gap.front ++ ys) back.1 in
+        let unmet = unmet-before gap.front e back.0 (subst (λ (xs : List (Entry T)). IsDistinct xs) cut distinct) in
+        ap (λ xs. option_map (λ l. l.1.prev) (link_at xs e.index)) cut ∙ ap (option_map (λ l. l.1.prev)) (link-here None e back.0 None gap.front unmet)
+        ∙ ap Some (last-index gap.front)
+
+    -- the entry before it
+    module _ (here : before gap ≡ Some e) where
+      its_front : (front : List (Entry T)) × (gap.front ≡ front ++ e ∷ [])
+      its_front = ends-with gap.front e here
+
+      cut_before : es ≡ its_front.0 ++ e ∷ gap.back
+      cut_before = gap.cut ∙ ap (λ xs. xs ++ gap.back) its_front.1 ∙ append_assoc its_front.0 (e ∷ []) gap.back
+
+      unmet_front : times e.index its_front.0 ≡ 0
+      unmet_front = unmet-before its_front.0 e gap.back (subst (λ (xs : List (Entry T)). IsDistinct xs) cut_before distinct)
+
+      -- its link names the entry behind it
+      pub link-before : option_map (λ l. l.1.next) (link_at es e.index) ≡ Some (option_map (λ d. d.index) (after gap))
+      link-before =
+          ap (λ xs. option_map (λ l. l.1.next) (link_at xs e.index)) cut_before ∙ ap (option_map (λ l. l.1.next)) (link-here None e gap.back None its_front.0 unmet_front)
+          ∙ ap Some (first-index gap.back)
+
+      -- it is found by its index
+      pub entry-before : entry_at es e.index ≡ Some (e.generation, e.item)
+      entry-before = entry_at-after es e distinct (record { front = its_front.0; back = e ∷ gap.back; cut = cut_before }) refl
+
+      -- and what the list is without it
+      pub without-before : (front : List (Entry T)) × (es ≡ front ++ e ∷ gap.back) × (gap.front ≡ front ++ e ∷ []) × (without e.index es ≡ front ++ gap.back)
+      without-before = (its_front.0, cut_before, its_front.1, ap (without e.index) cut_before ∙ without-middle its_front.0 e gap.back unmet_front)
 
 module _ {V : Type 0} where
   -- where the last of a rising list isn't later than a time, none of it is

@@ -18,7 +18,10 @@ module _ {V : Type 0} where
   -- the stretches by the changes are those of the timeline
   module _ (all : List (Change V)) where
     -- where one value holds all the time
-    are-held : (held : Option V) (from until : ℕ) → ((t : ℕ) → from ≤ t → t < until → value_at all t ≡ held) → AreSpans all from until (stretch held from until)
+    abbrev Holds : Option V → ℕ → ℕ → Type 0
+    Holds held from until = (t : ℕ) → from ≤ t → t < until → value_at all t ≡ held
+
+    are-held : (held : Option V) (from until : ℕ) → Holds held from until → AreSpans all from until (stretch held from until)
     are-held None from until holds = holds
     are-held (Some v) from until holds = elim (leb_tells until from) [
       | inl h ↦ rw h.0 (λ t past sooner. absurd (omega (arith, h.1, past, sooner)))
@@ -57,30 +60,35 @@ module _ {V : Type 0} where
     )
 
     -- where a value holds until another one does
-    are-more : (held : Option V) (from mid until : ℕ) (spans : List (Span V)) → from < mid → mid < until → ((t : ℕ) → from ≤ t → t < mid → value_at all t ≡ held)
-        → value_at all mid ≢ held → AreSpans all mid until spans → AreSpans all from until (stretch held from mid ++ spans)
-    are-more None from mid until spans early late holds another rest = are-later from mid until spans (omega (arith, early)) holds rest
-    are-more (Some v) from mid until spans early late holds another rest = rw (lt-leb mid from early) (
-      record {
-        begins = omega arith;
-        lasts = early;
-        ends = omega (arith, late);
-        none_before = λ t past sooner. absurd (omega (arith, past, sooner));
-        holds = holds;
-        another_after = λ _. another;
-      },
-      rest,
-    )
+    module _ (from mid until : ℕ) (early : from < mid) (late : mid < until) (spans : List (Span V)) (rest : AreSpans all mid until spans) where
+      are-more : (held : Option V) → Holds held from mid → value_at all mid ≢ held → AreSpans all from until (stretch held from mid ++ spans)
+      are-more None holds another = are-later from mid until spans (omega (arith, early)) holds rest
+      are-more (Some v) holds another = rw (lt-leb mid from early) (
+        record {
+          begins = omega arith;
+          lasts = early;
+          ends = omega (arith, late);
+          none_before = λ t past sooner. absurd (omega (arith, past, sooner));
+          holds = holds;
+          another_after = λ _. another;
+        },
+        rest,
+      )
 
-    are-after : (held : Option V) (cs : List (Change V)) (from until : ℕ) → IsRising cs → IsJoinedAfter held cs
-        → ((t : ℕ) → from ≤ t → value_at all t ≡ value_after held cs t) → AreSpans all from until (spans_after held cs from until)
+    -- where the changes that are still to come say what holds
+    abbrev Holds_by : Option V → List (Change V) → ℕ → Type 0
+    Holds_by held cs from = (t : ℕ) → from ≤ t → value_at all t ≡ value_after held cs t
+
+    are-after : (held : Option V) (cs : List (Change V)) (from until : ℕ) → IsRising cs → IsJoinedAfter held cs → Holds_by held cs from
+        → AreSpans all from until (spans_after held cs from until)
     are-after held [] from until rising joined same = are-held held from until (λ t past _. same t past)
     are-after held (c ∷ cs) from until rising joined same = elim (leb_tells c.time from) [
       | inl h ↦ rw h.0 (are-after c.value cs from until rising.1 joined.1 (λ t past. same t past ∙ value-past held c cs t (omega (arith, h.1, past))))
       | inr h ↦ elim (leb_tells until c.time) [
         | inl k ↦ rw (h.0, k.0) (are-held held from until (λ t past sooner. same t past ∙ value-yet held c cs t (omega (arith, k.1, sooner))))
-        | inr k ↦ rw (h.0, k.0) (are-more held from c.time until (spans_after c.value cs c.time until) h.1 k.1 (λ t past sooner. same t past ∙ value-yet held c cs t sooner) (λ is. joined.0 (sym (changed h.1) ∙ is))
-            (are-after c.value cs c.time until rising.1 joined.1 (λ t past. same t (omega (arith, past, h.1)) ∙ value-past held c cs t past)))
+        | inr k ↦ rw (h.0, k.0) (are-more from c.time until h.1 k.1 (spans_after c.value cs c.time until)
+            (are-after c.value cs c.time until rising.1 joined.1 (λ t past. same t (omega (arith, past, h.1)) ∙ value-past held c cs t past))
+            held (λ t past sooner. same t past ∙ value-yet held c cs t sooner) (λ is. joined.0 (sym (changed h.1) ∙ is)))
       ]
     ]
       where

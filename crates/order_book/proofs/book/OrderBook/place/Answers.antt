@@ -10,7 +10,13 @@ invariant_of-self g c =
     let settled = c.settle-settled in
     let lawful : IsBook (record { bids = bids; asks = asks }) = subst (λ (b : Book). IsBook b) (sym c.self.view_is) c.count.ensures.lawful in
     pair-settled_bid bids asks settled.new.own settled.new.other c.self.invariant c.args.price c.args.quantity bids c.self.invariant settled.result
-    lawful.asks.in_order settled.ensures.rests settled.ensures.taken settled.ensures.own_kept settled.ensures.other_kept
+    (record {
+      in_order = lawful.asks.in_order;
+      rests = settled.ensures.rests;
+      taken = settled.ensures.taken;
+      own_kept = settled.ensures.own_kept;
+      other_kept = settled.ensures.other_kept;
+    })
 
 pub invariant_of-self-in-Sell : goal.invariant_of-self-in-Sell
 invariant_of-self-in-Sell g c =
@@ -19,4 +25,10 @@ invariant_of-self-in-Sell g c =
     let settled = c.settle-settled-in-Sell in
     let lawful : IsBook (record { bids = bids; asks = asks }) = subst (λ (b : Book). IsBook b) (sym c.self.view_is) c.count.ensures.lawful in
     pair-settled_ask bids asks settled.new.other settled.new.own c.self.invariant c.args.price c.args.quantity asks c.self.invariant settled.result
-    lawful.bids.in_order settled.ensures.rests settled.ensures.taken settled.ensures.own_kept settled.ensures.other_kept
+    (record {
+      in_order = lawful.bids.in_order;
+      rests = settled.ensures.rests;
+      taken = settled.ensures.taken;
+      own_kept = settled.ensures.own_kept;
+      other_kept = settled.ensures.other_kept;
+    })

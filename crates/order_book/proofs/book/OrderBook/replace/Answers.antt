@@ -11,7 +11,13 @@ invariant_of-self g c =
     let settled = c.settle_anew-settled in
     let lawful : IsBook (record { bids = bids; asks = asks }) = subst (λ (b : Book). IsBook b) (sym c.self.view_is) c.count.ensures.lawful in
     pair-settled_bid bids asks settled.new.own settled.new.other c.self.invariant c.args.price c.args.quantity (with_left bids c.pointer-old.result) (pair-without_bid bids asks c.self.invariant c.pointer-old.result) settled.result
-    lawful.asks.in_order settled.ensures.rests settled.ensures.taken settled.ensures.own_kept settled.ensures.other_kept
+    (record {
+      in_order = lawful.asks.in_order;
+      rests = settled.ensures.rests;
+      taken = settled.ensures.taken;
+      own_kept = settled.ensures.own_kept;
+      other_kept = settled.ensures.other_kept;
+    })
 
 pub invariant_of-self-in-Sell : goal.invariant_of-self-in-Sell
 invariant_of-self-in-Sell g c =
@@ -20,4 +26,10 @@ invariant_of-self-in-Sell g c =
     let settled = c.settle_anew-settled-in-Sell in
     let lawful : IsBook (record { bids = bids; asks = asks }) = subst (λ (b : Book). IsBook b) (sym c.self.view_is) c.count.ensures.lawful in
     pair-settled_ask bids asks settled.new.other settled.new.own c.self.invariant c.args.price c.args.quantity (with_left asks c.pointer-old.result) (pair-without_ask bids asks c.self.invariant c.pointer-old.result) settled.result
-    lawful.bids.in_order settled.ensures.rests settled.ensures.taken settled.ensures.own_kept settled.ensures.other_kept
+    (record {
+      in_order = lawful.bids.in_order;
+      rests = settled.ensures.rests;
+      taken = settled.ensures.taken;
+      own_kept = settled.ensures.own_kept;
+      other_kept = settled.ensures.other_kept;
+    })
