@@ -16,7 +16,11 @@ module _ {A F : Type 0} (pointer_of : Pointer → ℕ × ℕ) (step : F → Poin
   abbrev IsRun : List (PairReply A) → Type 0
   IsRun replies = (end : State Pair) × Runs reading answers_equal beginning tt commands replies end tt
 
-  from_beginning : (replies : List (PairReply A)) → RunsBetween reading (Asks pointer_of step) old f commands replies new g → IsRun replies
+  -- and of one between these trees and closures
+  abbrev RunsThere : List (PairReply A) → Type 0
+  RunsThere replies = RunsBetween reading (Asks pointer_of step) old f commands replies new g
+
+  from_beginning : (replies : List (PairReply A)) → RunsThere replies → IsRun replies
   from_beginning replies between =
       let run = subst (λ (t : Tree Pair). RunsBetween reading (Asks pointer_of step) t f commands replies new g) empty between
       beginning.marks (AreTrue-missing beginning.marks) in (
@@ -28,7 +32,6 @@ module _ {A F : Type 0} (pointer_of : Pointer → ℕ × ℕ) (step : F → Poin
 
   -- the same of what a call answers
   pub answered : {V E : Type 0} (result : Result V E) (replies : V → List (PairReply A))
-      → IfOk result (λ v. RunsBetween reading (Asks pointer_of step) old f commands (replies v) new g)
-      → IfOk result (λ v. IsRun (replies v))
+      → IfOk result (λ v. RunsThere (replies v)) → IfOk result (λ v. IsRun (replies v))
   answered (Ok v) replies between = from_beginning (replies v) between
   answered (Err e) replies between = tt

@@ -26,13 +26,13 @@ unfolding arguments_in
 two_lines = refl
 
 -- the pointer of the first entry
-first_pointer : (item : Pair) (p : Pointer) (new : Tree Pair)
-    → InsertsNew reading.key reading.cmp reading.most reallocating (at_key (reading.key item)) beginning.tree item (reading.pointer p) new
-    → (p.0 ≡ 1) × (p.1 ≡ 2)
-first_pointer item p new inserts =
-    let next : Some 1 ≡ Some p.0 = inserts.inserted.next in
-    let index : 1 ≡ p.0 = cc in
-    (sym index, inserts.inserted.generation)
+module _ (item : Pair) (p : Pointer) (new : Tree Pair) where
+  first_pointer : InsertsNew reading.key reading.cmp reading.most reallocating (at_key (reading.key item)) beginning.tree item (reading.pointer p) new
+      → (p.0 ≡ 1) × (p.1 ≡ 2)
+  first_pointer inserts =
+      let next : Some 1 ≡ Some p.0 = inserts.inserted.next in
+      let index : 1 ≡ p.0 = cc in
+      (sym index, inserts.inserted.generation)
 
 -- the forms of their replies, and the commands
 abbrev both_forms : List Form

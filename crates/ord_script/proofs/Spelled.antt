@@ -61,9 +61,12 @@ module _ {X : Type 0} {reader : Reader X} {arguments : List Argument} {x : X} wh
       ap (λ words. Some (taking reader command words)) (sym (append-nil (map argument_text arguments)))
       ∙ ap (λ found. Some (none_left found >>= λ x. Ok (command x))) (read.reads range [])
 
+-- the line that a command is written as says the command
+abbrev IsSaid : PairCommand → Type 0
+IsSaid command = AllByRecursion IsInRange (saying_of command).arguments → said_by (spelled command) ≡ Some (Ok command)
+
 -- an insertion at a place that a line names, by the pair's own key if by one
-said_by-entry : (kind : OrdInsertKind Pointer ℤ ℕ ℕ) (pair : Pair) → GoesBy kind pair → AllByRecursion IsInRange (saying_of (commands.Entry kind pair)).arguments
-    → said_by (spelled (commands.Entry kind pair)) ≡ Some (Ok (commands.Entry kind pair))
+said_by-entry : (kind : OrdInsertKind Pointer ℤ ℕ ℕ) (pair : Pair) → GoesBy kind pair → IsSaid (commands.Entry kind pair)
 said_by-entry kinds.Empty pair by range = taken (commands.Entry kinds.Empty) (pair-reads pair) range
 said_by-entry (kinds.Normal k) pair by range = absurd by
 said_by-entry (kinds.Nonhereditary k) pair by range =
@@ -77,7 +80,7 @@ said_by-entry (kinds.Manual i Equal) pair by range = taken (beside Equal) (both-
 said_by-entry (kinds.Manual i Greater) pair by range = taken (beside Greater) (both-reads (index-reads i) (pair-reads pair)) range
 
 -- each command
-said_by-spelled : (command : PairCommand) → CanBeSaid command → AllByRecursion IsInRange (saying_of command).arguments → said_by (spelled command) ≡ Some (Ok command)
+said_by-spelled : (command : PairCommand) → CanBeSaid command → IsSaid command
 said_by-spelled (commands.Insert p) sayable range = taken commands.Insert (pair-reads p) range
 said_by-spelled (commands.InsertWithin p) sayable range = taken commands.InsertWithin (pair-reads p) range
 said_by-spelled (commands.Entry kind pair) sayable range = said_by-entry kind pair sayable.0 range
