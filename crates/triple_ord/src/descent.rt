@@ -128,8 +128,9 @@ fn compare<P: Ptr, T: SimpleOrdItem, A: Allocator>(
 ) -> (P, Ordering, Option<P::Inx>)
     requires occupied { IsSome (entry_at probe.old.tree.now.list.entries (P.Inx.number i)) }
     requires room { probe.old.visits + 1 < 2 ^ 128 }
-    ensures compared { IsCompared T.key_of (taken ties T.Key.cmp) probe.old.tree.now (P.Inx.number i)
-        k.now (P.numbers result.0) result.1 (option_map P.Inx.number result.2) }
+    ensures compared { IsCompared T.key_of (taken ties T.Key.cmp) probe.old.tree.now
+        (P.Inx.number i) k.now (P.numbers result.0) result.1
+        (option_map P.Inx.number result.2) }
     ensures counted { probe.new.visits ≡ probe.old.visits + 1 }
     ensures tree { probe.new.tree.now ≡ probe.old.tree.now }
 {

@@ -102,7 +102,8 @@ impl<K: fmt::Debug, V: fmt::Debug> fmt::Debug for OrdPair<K, V> {
 
 /// The value is recast; the key stays.
 impl<I, K, V: Recast<I>> Recast<I> for OrdPair<K, V> {
-    ghost recast_gives = { λ gives old result new. (new.0 ≡ old.0) × V.recast_gives gives old.1 result new.1 };
+    ghost recast_gives = { λ gives old result new.
+        (new.0 ≡ old.0) × V.recast_gives gives old.1 result new.1 };
 
     fn recast<R: Recaster<Item = I>>(&mut self, recaster: &R) -> Result<(), I> {
         self.v.recast(recaster)

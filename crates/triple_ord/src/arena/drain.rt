@@ -94,7 +94,8 @@ impl<P: Ptr, T: Drop, A: Allocator> Iterator for CapacityDrain<P, T, A> {
     type Item = (P, T);
 
     ghost next_gives = { YieldsFirstBy
-        (λ x. record { index = (P.numbers x.0).0; generation = (P.numbers x.0).1; item = x.1 }) (λ left. left) };
+        (λ x. record { index = (P.numbers x.0).0; generation = (P.numbers x.0).1; item = x.1 })
+        (λ left. left) };
 
     ghost remaining = { item_count (λ left. left) };
 

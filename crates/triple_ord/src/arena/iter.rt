@@ -33,7 +33,8 @@ impl<'a, P: Ptr, T, A: Allocator> Model for Iter<'a, P, T, A> {
 
     ghost view = { λ i. entries_from i.arena.now.list.entries (option_map P.Inx.number i.at) };
 
-    ghost invariant = { λ i. IsWalking i.arena.now.list.entries (option_map P.Inx.number i.at) i.left };
+    ghost invariant = { λ i. IsWalking i.arena.now.list.entries
+        (option_map P.Inx.number i.at) i.left };
 }
 
 impl<P: Ptr, T, A: Allocator> SimpleOrdArena<P, T, A> {
@@ -59,7 +60,8 @@ impl<'a, P: Ptr, T, A: Allocator> Iterator for Iter<'a, P, T, A> {
     type Item = (P, &'a T);
 
     ghost next_gives = { YieldsFirstBy
-        (λ x. record { index = (P.numbers x.0).0; generation = (P.numbers x.0).1; item = x.1.now }) (λ left. left) };
+        (λ x. record { index = (P.numbers x.0).0; generation = (P.numbers x.0).1; item = x.1.now })
+        (λ left. left) };
 
     ghost remaining = { item_count (λ left. left) };
 

@@ -12,7 +12,8 @@ use std::alloc::Allocator;
 impl<I, P: Ptr, T: Recast<I>, A: Allocator> Recast<I> for SimpleOrdArena<P, T, A> {
     ghost use Rattle.triple_ord.specs.Recasting.{RecastsItems};
 
-    ghost recast_gives = { λ gives old result new. RecastsItems (T.recast_gives gives) old result new };
+    ghost recast_gives = { λ gives old result new.
+        RecastsItems (T.recast_gives gives) old result new };
 
     fn recast<R: Recaster<Item = I>>(&mut self, recaster: &R) -> Result<(), I> {
         // With its length an arena tells what holds of every list.
