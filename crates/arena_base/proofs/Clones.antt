@@ -1,14 +1,14 @@
 -- What follows of a clone: its calls, told of another closure; its pointers; a clone with the same items. Then how far a clone has come.
-use Rattle.arena_base.proofs.Words.{◌≡◌, ℕ, zero, suc, ◌+◌, ◌≤◌, Option, Some, None, List, [], ◌∷◌, ◌++◌, length, get_or, is_some, refl}
-use Rattle.arena_base.proofs.Words.{arith, map, sym, ap, ◌∙◌, max, Result, Ok, Err, chained_keeps, map-append, length-map, append_assoc}
-use Rattle.arena_base.proofs.Words.{map_push, append-nil, map-id, FoldsTo, OnOk, AllocError, Arena, greatest_occupied, HoldsSame}
-use Rattle.arena_base.proofs.Words.{arena_capacity, FindSame, item_if, CloneStep, IsClone, IsRefusedClone, StopsAtRefusal, Grants}
-use Rattle.arena_base.proofs.Words.{with_items, replaced, HasSamePointers, entries_from, entries_rising, ◌<◌, replicate, take, ◌-◌, drop}
-use Rattle.arena_base.proofs.Words.{reverse, FoldsTo-push, drop_more, get_or-drop, none-some, OnErr, Inside, Generations, Indexes, Slot}
-use Rattle.arena_base.proofs.Words.{Occupied, Vacant, vacant_from, IsSound, resized, IsLawful, ClonesSlots, entry_in, vacant_slots}
-use Rattle.arena_base.proofs.Resizing.{resized-same, resized-cons, resized-again, resized-some, length-resized, entries-padded}
-use Rattle.arena_base.proofs.{Words.arena_of, Slots.era, Slots.greatest_occupied-above, Slots.none-from_generation, Slots.entries}
-use Rattle.arena_base.proofs.{Steps.AreLawful, Steps.lawful-some, Steps.stored, Steps.capacity-is, Steps.relisted, Steps.relisted-sound}
+use Rattle.arena_base.proofs.Words.{◌≡◌, ℕ, zero, suc, ◌+◌, ◌<◌, ◌≤◌, Option, Some, None, List, [], ◌∷◌, ◌++◌, length, get_or, replicate}
+use Rattle.arena_base.proofs.Words.{is_some, take, ◌-◌, refl, arith, drop, map, sym, ap, ◌∙◌, reverse, max, Result, Ok, Err, FoldsTo-push}
+use Rattle.arena_base.proofs.Words.{map-append, length-map, drop_more, append_assoc, map_push, append-nil, get_or-drop, map-id, none-some}
+use Rattle.arena_base.proofs.Words.{OnOk, OnErr, chained_keeps, FoldsTo, AllocError, Slot, Occupied, Vacant, Arena, vacant_from, resized}
+use Rattle.arena_base.proofs.Words.{greatest_occupied, HoldsSame, arena_capacity, IsLawful, FindSame, item_if, CloneStep, IsClone}
+use Rattle.arena_base.proofs.Words.{IsRefusedClone, StopsAtRefusal, Grants, with_items, replaced, HasSamePointers, entry_in, vacant_slots}
+use Rattle.arena_base.proofs.Steps.{AreLawful, lawful-some, current, Sound, capacity-is, get_or-padded, resized-cons, resized-same}
+use Rattle.arena_base.proofs.Words.{arena_of, entries_from, entries_rising, Inside, Generations, Indexes, ClonesSlots}
+use Rattle.arena_base.proofs.Slots.{era, entries, greatest_occupied-above, none-from_generation}
+use Rattle.arena_base.proofs.Steps.{resized-again, entries-padded, relisted, relisted-sound}
 
 -- Calls of one kind are calls of another: `state`, `from` and `to` give the other's states, the items that it is shown and those
 -- that it makes.
@@ -241,7 +241,7 @@ with_items-lawful greatest slots items lawful k e is = absurd (none-some e is)
 -- The slots that a clone leaves in memory, and the arena that they are: vacant ones come behind those that were cloned.
 module _ {P T A U Inx Gen F : Type 0} (numbers : P → ℕ × ℕ) (gen : Generations Gen) (inx : Indexes Inx) (step : F → P → U → Result T AllocError → F → Type 0)
     (s : Inside P T A Inx Gen) (copies next : List (Slot T Gen)) (generation : Gen) (listed : List Inx)
-    (all : map inx.number listed ≡ reverse (vacant_slots 1 next)) (a : Arena T) (seen : stored gen inx s s.slots.items s.vacant.items ≡ a)
+    (all : map inx.number listed ≡ reverse (vacant_slots 1 next)) (a : Arena T) (seen : current gen inx s ≡ a)
     (source : Arena U) (named : gen.number generation ≡ source.generation) (room : greatest_occupied source.slots ≤ arena_capacity a)
     (within : length copies ≤ length s.slots.items) (padded : next ≡ copies ++ replicate (length s.slots.items - length copies) Vacant) (f : F) where
   abbrev n : ℕ
@@ -290,14 +290,16 @@ module _ {P T A U Inx Gen F : Type 0} (numbers : P → ℕ × ℕ) (gen : Genera
   clone-refused (Ok x) stops none = tt
   clone-refused (Err e) stops none = record { stops = stops; after = replaced-view [] (made-none none) }
 
-  lawful-made : (r : Result (Unit {0}) AllocError) → Cloned r → OnErr r (copies ≡ []) → AreLawful gen.greatest source.slots → AreLawful gen.greatest (None ∷ entries gen.number next)
-  lawful-made (Ok x) p none lawful k e there =
-      with_items-lawful gen.greatest source.slots p.items lawful k e (resized-some (n + 1) (with_items source.slots p.items) k e (rw (made-cloned p) at there))
-  lawful-made (Err x) p none lawful k e there = absurd (none-some e (resized-some (n + 1) [] k e (rw (made-none none) at there)))
+  copies-lawful : (r : Result (Unit {0}) AllocError) → Cloned r → OnErr r (copies ≡ []) → AreLawful gen.greatest source.slots
+      → AreLawful gen.greatest (entries gen.number copies)
+  copies-lawful (Ok x) p none lawful k e there =
+      with_items-lawful gen.greatest source.slots p.items lawful (suc k) e
+      (ap (λ ss. get_or ss (suc k) None) p.after ∙ (get_or-padded (entries gen.number copies) p.vacant_behind k None ∙ there))
+  copies-lawful (Err x) p none lawful k e there = absurd (none-some e (rw none at there))
 
-  pub clone-sound : IsSound inx.most gen.greatest (stored gen inx s s.slots.items s.vacant.items) → IsLawful inx.most gen.greatest source
-      → (r : Result (Unit {0}) AllocError) → Cloned r → OnErr r (copies ≡ []) → IsSound inx.most gen.greatest after
+  pub clone-sound : Sound gen inx s (current gen inx s) → IsLawful inx.most gen.greatest source → (r : Result (Unit {0}) AllocError) → Cloned r
+      → OnErr r (copies ≡ []) → Sound gen inx s after
   clone-sound sound lawful r p none =
-      relisted-sound gen inx next listed generation s.maximum all
-      (omega (arith, sound.within_limit, ap length is, length-resized n (entries gen.number copies), length-map next (entry_in gen.number), length-map s.slots.items (entry_in gen.number)))
-      (rw named lawful.generation_lawful) (λ k e there. lawful-made r p none lawful.entries_lawful (suc k) e there)
+      relisted-sound gen inx next listed generation s.maximum all n (entries gen.number copies) is
+      (omega (arith, sound.within_limit, length-map s.slots.items (entry_in gen.number)))
+      (rw named lawful.generation_lawful) (copies-lawful r p none lawful.entries_lawful)

@@ -1,12 +1,12 @@
 -- How far a compression has come.
 use Rattle.arena_base.proofs.Words.{◌≡◌, ℕ, zero, suc, ◌+◌, ◌<◌, ◌≤◌, Option, Some, None, List, [], ◌∷◌, ◌++◌, length, get_or, set}
-use Rattle.arena_base.proofs.Words.{replicate, ◌-◌, refl, arith, drop, map, sym, ap, ◌∙◌, reverse, chained_keeps, length-set, length-append}
+use Rattle.arena_base.proofs.Words.{replicate, ◌-◌, refl, arith, drop, map, sym, ap, ◌∙◌, chained_keeps, length-set, length-append}
 use Rattle.arena_base.proofs.Words.{length-map, length-replicate, drop_more, drop_all, set_at, get_or_at, append_assoc, map_push}
-use Rattle.arena_base.proofs.Words.{length_push, append-nil, map-id, map-map, FoldsTo, Inside, Generations, Indexes, Slot, Occupied, Vacant}
-use Rattle.arena_base.proofs.Words.{Arena, IsSound, limit_of, resized, HoldsSame, CompressionStep, IsCompression, compressed, items_rising}
-use Rattle.arena_base.proofs.Words.{CompressesSlots, IsLawfulGeneration, entry_in, vacant_slots, arena_of, slot_entry, entries_from}
-use Rattle.arena_base.proofs.Resizing.{resized-cons, length-resized, resized-some, entries-padded}
-use Rattle.arena_base.proofs.{Words.entries_rising, Slots.entries, Steps.stored, Steps.relisted-sound}
+use Rattle.arena_base.proofs.Words.{length_push, append-nil, map-id, none-some, map-map, FoldsTo, Slot, Occupied, Vacant, Arena, resized}
+use Rattle.arena_base.proofs.Words.{HoldsSame, CompressionStep, IsCompression, compressed, items_rising, IsLawfulGeneration, entry_in}
+use Rattle.arena_base.proofs.Words.{slot_entry, entries_from, entries_rising, Inside, Generations, Indexes, CompressesSlots}
+use Rattle.arena_base.proofs.Slots.{entries}
+use Rattle.arena_base.proofs.Steps.{AreLawful, lawful-some, stored, current, resized-cons, entries-padded}
 
 module _ {P T G F : Type 0} (numbers : P → ℕ × ℕ) (number : G → ℕ) (step : F → P → T → P → T → F → Type 0) (generation : G) where
   abbrev filled : List T → List (Slot T G)
@@ -171,50 +171,39 @@ compressed-given_back {P} {F} {T} numbers step g answers f old new h =
     (entries_rising old 0) (f, []) (h.last, h.items) refl h.calls in
     rw same at h.after
 
-get_or-compressed : {T : Type 0} (g : ℕ) (items : List T) (k : ℕ) (e : ℕ × T) → get_or (map (λ item. Some (g, item)) items) k None ≡ Some e → g ≡ e.0
-get_or-compressed g (x ∷ items) (suc k) e is = get_or-compressed g items k e is
-get_or-compressed g items k e is = grind arith
+-- entries of a lawful generation are lawful
+pub compressed-lawful : {T : Type 0} (greatest : Option ℕ) (g : ℕ) (items : List T) → IsLawfulGeneration greatest g
+    → AreLawful greatest (map (λ item. Some (g, item)) items)
+compressed-lawful greatest g [] now k e is = absurd (none-some e is)
+compressed-lawful greatest g (x ∷ items) now zero e is = lawful-some greatest (g, x) now e is
+compressed-lawful greatest g (x ∷ items) now (suc k) e is = compressed-lawful greatest g items now k e is
 
--- the arena of the compressed slots
-module _ {T Gen : Type 0} (gen : Generations Gen) (n : ℕ) (next : List (Slot T Gen)) (generation : Gen) (items : List T) (fits : length items ≤ n)
-    (is : next ≡ map (λ item. Occupied item generation) items ++ replicate (n - length items) Vacant) where
-  abbrev made : List (Option (ℕ × T))
-  made = map (λ item. Some (gen.number generation, item)) items
+-- the compressed slots by index
+pub entries-compressed : {T Gen : Type 0} (number : Gen → ℕ) (n : ℕ) (next : List (Slot T Gen)) (generation : Gen) (items : List T)
+    → next ≡ map (λ item. Occupied item generation) items ++ replicate (n - length items) Vacant → length items ≤ n
+    → entries number next ≡ resized n (map (λ item. Some (number generation, item)) items)
+entries-compressed number n next generation items is fits =
+    let filled = map (λ item. Occupied item generation) items in
+    let long : length filled ≡ length items = length-map items (λ item. Occupied item generation) in
+    entries-padded number n filled next (rw (← long) at is) (omega arith)
+    ∙ ap (resized n) (map-map (entry_in number) (λ item. Occupied item generation) items)
 
-  entries-compressed : entries gen.number next ≡ resized n made
-  entries-compressed =
-      let filled = map (λ item. Occupied item generation) items in
-      let long : length filled ≡ length items = length-map items (λ item. Occupied item generation) in
-      entries-padded gen.number n filled next (rw (← long) at is) (omega arith)
-      ∙ ap (resized n) (map-map (entry_in gen.number) (λ item. Occupied item generation) items)
-
-  pub compressed-sound : {Inx : Type 0} (inx : Indexes Inx) (listed : List Inx) (maximum : Option ℕ) → map inx.number listed ≡ reverse (vacant_slots 1 next)
-      → IsLawfulGeneration gen.greatest (gen.number generation) → n ≤ limit_of inx.most maximum
-      → IsSound inx.most gen.greatest (arena_of gen.number next (map inx.number listed) generation maximum)
-  compressed-sound inx listed maximum all lawful within =
-      relisted-sound gen inx next listed generation maximum all
-      (omega (arith, ap length entries-compressed, length-map next (entry_in gen.number), length-resized n made)) lawful
-      (λ k e there. rw (get_or-compressed (gen.number generation) items k e (resized-some n made k e (rw entries-compressed at there))) at lawful)
-
-pub compressed-after : {P T A Inx Gen F : Type 0} (numbers : P → ℕ × ℕ) (gen : Generations Gen) (inx : Indexes Inx) (step : F → P → T → P → T → F → Type 0)
+module _ {P T A Inx Gen F : Type 0} (numbers : P → ℕ × ℕ) (gen : Generations Gen) (inx : Indexes Inx) (step : F → P → T → P → T → F → Type 0)
     (s : Inside P T A Inx Gen) (next : List (Slot T Gen)) (listed : List Inx) (f : F) (a : Arena T) (g : ℕ)
-    → stored gen inx s s.slots.items s.vacant.items ≡ record a { generation = g } → CompressesSlots numbers gen.number step s.generation f s.slots.items next
-    → IsCompression numbers step g f a (stored gen inx s next listed)
-compressed-after numbers gen inx step s next listed f a g seen p =
-    let same : None ∷ entries gen.number s.slots.items ≡ a.slots = ap (λ v. v.slots) seen in
-    let named : gen.number s.generation ≡ g = ap (λ v. v.generation) seen in
-    let n = length s.slots.items in
-    let count : n + 1 ≡ length a.slots = omega (arith, ap length same, length-map s.slots.items (entry_in gen.number)) in
-    record {
-      items = p.items;
-      last = p.last;
-      calls = rw (← same, ← named) p.calls;
-      after = record {
-        slots =
-            ap (λ ss. None ∷ ss) (entries-compressed gen n next s.generation p.items p.fits p.after)
-            ∙ (sym (resized-cons n (made gen n next s.generation p.items p.fits p.after))
-            ∙ (ap (λ h. resized (n + 1) (None ∷ map (λ item. Some (h, item)) p.items)) named ∙ ap (λ m. resized m (None ∷ map (λ item. Some (g, item)) p.items)) count));
-        generation = named;
-        maximum = ap (λ v. v.maximum) seen;
-      };
-    }
+    (seen : current gen inx s ≡ record a { generation = g }) where
+  pub compressed-after : CompressesSlots numbers gen.number step s.generation f s.slots.items next
+      → IsCompression numbers step g f a (stored gen inx s next listed)
+  compressed-after p =
+      let same : None ∷ entries gen.number s.slots.items ≡ a.slots = ap (λ v. v.slots) seen in
+      let named : gen.number s.generation ≡ g = ap (λ v. v.generation) seen in
+      let n = length s.slots.items in
+      let count : n + 1 ≡ length a.slots = omega (arith, ap length same, length-map s.slots.items (entry_in gen.number)) in
+      let made = map (λ item. Some (g, item)) p.items in
+      let slots : None ∷ entries gen.number next ≡ resized (length a.slots) (None ∷ made) =
+      rw (← count, resized-cons, ← named) (ap (λ ss. None ∷ ss) (entries-compressed gen.number n next s.generation p.items p.after p.fits)) in
+      record {
+        items = p.items;
+        last = p.last;
+        calls = rw (← same, ← named) p.calls;
+        after = record { slots = slots; generation = named; maximum = ap (λ v. v.maximum) seen };
+      }

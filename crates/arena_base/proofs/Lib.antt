@@ -1,9 +1,7 @@
 pub mod CallerLemmas
 pub mod Clones
 pub mod Compressing
-pub mod Resizing
 pub mod Slots
 pub mod Steps
-pub mod Swapping
 pub mod Walks
 pub mod Words

@@ -1,16 +1,20 @@
 -- Each step on the vector of slots and the stack of vacant indexes is the step of the arena that contracts name, and what is true of every
 -- arena stays so. In the first part the slots are those from index 1 on.
 use Rattle.arena_base.proofs.Words.{inl, inr, ◌≡◌, ℕ, zero, suc, ◌+◌, ◌<◌, ◌≤◌, true, Option, Some, None, List, [], ◌∷◌, ◌++◌, cond, length}
-use Rattle.arena_base.proofs.Words.{get_or, set, is_some, refl, arith, sym, ap, ◌∙◌, subst, add-one, cases_eq, eq-eqb, length-set}
-use Rattle.arena_base.proofs.Words.{length-append, get_or-set_same, get_or-set_other, sum_by-set, none-some, same_Some, vacant_from, times}
-use Rattle.arena_base.proofs.Words.{Arena, IsSound, IsInsertion, limit_of, IsLawfulGeneration, take, ◌-◌, map, reverse, slice_get}
-use Rattle.arena_base.proofs.Words.{false≢true, take_all, length-map, get_or_past, map_push, take_more, map-set, get_or-map}
-use Rattle.arena_base.proofs.Words.{reverse-append, reverse-reverse, slice_get_within, get_or_from_slice_get, option_map, Inside}
-use Rattle.arena_base.proofs.Words.{Generations, Indexes, Slot, Occupied, Vacant, IsFresh, slot, arena_capacity, with_slot, freed, IsVacant}
-use Rattle.arena_base.proofs.Words.{entry_in, vacant_slots, arena_of, slot_entry, with_slot_generation, vec_len}
-use Rattle.arena_base.proofs.Slots.{count_by-cons, times-cons, times-append, length-vacant_from, vacant_from-vacant, times-written}
-use Rattle.arena_base.proofs.Slots.{vacant_from-least, vacant_from-filled_first, VacantAt, is_some-slot_entry}
-use Rattle.arena_base.proofs.Slots.{entry_in-with_slot_generation, entries, vacant_slots-from, vacant_from-some}
+use Rattle.arena_base.proofs.Words.{get_or, set, replicate, is_some, take, ◌-◌, refl, arith, ◌≢◌, drop, map, sym, ap, ◌∙◌, subst, add-one}
+use Rattle.arena_base.proofs.Words.{reverse, slice_get, cases_eq, false≢true, eq-eqb, get_or-take, length-set, length-append}
+use Rattle.arena_base.proofs.Words.{get_or-set_same, get_or-set_other, map-append, take-map, take_all, length-map, length-replicate}
+use Rattle.arena_base.proofs.Words.{length-take, ext_get_or, get_or_past, map_push, take_more, map-set, get_or-map, reverse-append}
+use Rattle.arena_base.proofs.Words.{reverse-reverse, set-set, set_comm, get_or_default, sum_by-set, none-some, same_Some, slice_get_within}
+use Rattle.arena_base.proofs.Words.{get_or_from_slice_get, vec_len, map-replicate, option_map, ForSome, slot, Slot, Occupied, Vacant, Arena}
+use Rattle.arena_base.proofs.Words.{vacant_from, times, IsSound, IsInsertion, limit_of, resized, new_arena, with_capacity, emptied}
+use Rattle.arena_base.proofs.Words.{greatest_occupied, IsFresh, arena_capacity, with_slot, freed, IsVacant, swapped, grown_capacity}
+use Rattle.arena_base.proofs.Words.{IsLawfulGeneration, first_generation, entry_in, vacant_slots, arena_of, AllVacantFrom, slot_entry}
+use Rattle.arena_base.proofs.Slots.{entries, count_by-cons, greatest_occupied-above, is_some-slot_entry, entry_in-with_slot_generation}
+use Rattle.arena_base.proofs.Slots.{get_or-entries, entry-none, vacant_slots-from, times-cons, times-append, length-vacant_from}
+use Rattle.arena_base.proofs.Slots.{length-vacant_from-padded, vacant_from-vacant, times-written, vacant_from-some, vacant_from-least}
+use Rattle.arena_base.proofs.Words.{with_slot_generation, with_room, Inside, Generations, Indexes}
+use Rattle.arena_base.proofs.Slots.{vacant_from-filled_first}
 
 -- the limit is an index of an entry
 pub limit_of-below : (most : ℕ) (maximum : Option ℕ) → limit_of most maximum ≤ most
@@ -27,90 +31,74 @@ module _ {T : Type 0} where
 
   -- the entries are lawful
   abbrev pub AreLawful : Option ℕ → List (Option (ℕ × T)) → Type 0
-  AreLawful greatest slots = (k : ℕ) (e : ℕ × T) → get_or slots k None ≡ Some e → IsLawfulGeneration greatest e.0
+  AreLawful greatest slots = (k : ℕ) → ForSome (get_or slots k None) (λ e. IsLawfulGeneration greatest e.0)
 
-  pub lawful-some : (greatest : Option ℕ) (old : ℕ × T) → IsLawfulGeneration greatest old.0 → (e : ℕ × T) → Some old ≡ Some e
-      → IsLawfulGeneration greatest e.0
+  pub lawful-some : (greatest : Option ℕ) (old : ℕ × T) → IsLawfulGeneration greatest old.0 → ForSome (Some old) (λ e. IsLawfulGeneration greatest e.0)
   lawful-some greatest old ok e is = subst (λ (x : ℕ × T). IsLawfulGeneration greatest x.0) (same_Some old e is) ok
 
   lawful-cons : (greatest : Option ℕ) (slots : List (Option (ℕ × T))) → AreLawful greatest slots → AreLawful greatest (None ∷ slots)
   lawful-cons greatest slots lawful zero e is = absurd (none-some e is)
   lawful-cons greatest slots lawful (suc k) e is = lawful k e is
 
-  pub sound-fresh : (most : ℕ) (greatest : Option ℕ) (slots : List (Option (ℕ × T))) (generation : ℕ) (maximum : Option ℕ)
-      → length slots ≤ limit_of most maximum → IsLawfulGeneration greatest generation → AreLawful greatest slots
-      → IsSound most greatest (fresh_arena slots generation maximum)
-  sound-fresh most greatest slots generation maximum within now lawful = record {
-    begins = refl;
-    within_limit = omega arith;
-    generation_lawful = now;
-    entries_lawful = lawful-cons greatest slots lawful;
-    vacant_listed = λ i. refl;
-    counted = omega (arith, count_by-cons None slots, length-vacant_from 1 slots);
-  }
-
-  module _ (most : ℕ) (greatest : Option ℕ) (slots : List (Option (ℕ × T))) (vacant : List ℕ) (generation : ℕ) (maximum : Option ℕ)
+  module _ {most : ℕ} {greatest : Option ℕ} {slots : List (Option (ℕ × T))} {vacant : List ℕ} {generation : ℕ} {maximum : Option ℕ}
       (sound : IsSound most greatest (arena slots vacant generation maximum)) where
-    lawful-set : (k : ℕ) (new : Option (ℕ × T)) → k < length slots → ((e : ℕ × T) → new ≡ Some e → IsLawfulGeneration greatest e.0)
-        → AreLawful greatest (set slots k new)
-    lawful-set k new within lawful j e at =
-        elim (cases_eq j k) [
-          | inl same ↦ lawful e (sym (get_or-set_same slots k new None within) ∙ rw same at at)
-          | inr other ↦ sound.entries_lawful (suc j) e (sym (get_or-set_other slots k j new None other) ∙ at)
-        ]
-
     -- Another slot at a place. The list of vacant indexes changes with it: before one or the other, the place's own index stands
     -- if the slot is vacant.
-    pub sound-set : (k : ℕ) (new : Option (ℕ × T)) (listed : List ℕ) → k < length slots
-        → ((e : ℕ × T) → new ≡ Some e → IsLawfulGeneration greatest e.0)
-        → vacant_from (k + 1) (get_or slots k None ∷ []) ++ listed ≡ vacant_from (k + 1) (new ∷ []) ++ vacant
-        → IsSound most greatest (arena (set slots k new) listed generation maximum)
-    sound-set k new listed within lawful turn = record {
-      begins = refl;
-      within_limit = rw length-set sound.within_limit;
-      generation_lawful = sound.generation_lawful;
-      entries_lawful = lawful-cons greatest (set slots k new) (lawful-set k new within lawful);
-      vacant_listed = λ i.
-          omega (arith, sound.vacant_listed i, ap (times i) turn, times-append i, times-written i 1 (k + 1) slots k new (omega arith) within);
-      counted =
-          let counts = sum_by-set (λ x. cond (is_some x) 1 0) slots k new None within in
-          let own = length-vacant_from (k + 1) (get_or slots k None ∷ []) in
-          let put = length-vacant_from (k + 1) (new ∷ []) in
-          let before = count_by-cons None slots in
-          let after = count_by-cons None (set slots k new) in
-          omega (arith, sound.counted, counts, own, put, before, after, length-set slots k new, ap length turn, length-append {A = ℕ});
-    }
+    module _ (k : ℕ) (new : Option (ℕ × T)) (listed : List ℕ) (within : k < length slots)
+        (lawful : ForSome new (λ e. IsLawfulGeneration greatest e.0))
+        (turn : vacant_from (k + 1) (get_or slots k None ∷ []) ++ listed ≡ vacant_from (k + 1) (new ∷ []) ++ vacant) where
+      lawful-set : AreLawful greatest (set slots k new)
+      lawful-set j e at =
+          elim (cases_eq j k) [
+            | inl same ↦ lawful e (sym (get_or-set_same slots k new None within) ∙ rw same at at)
+            | inr other ↦ sound.entries_lawful (suc j) e (sym (get_or-set_other slots k j new None other) ∙ at)
+          ]
+
+      pub sound-set : IsSound most greatest (arena (set slots k new) listed generation maximum)
+      sound-set = record {
+        begins = refl;
+        within_limit = rw length-set sound.within_limit;
+        generation_lawful = sound.generation_lawful;
+        entries_lawful = lawful-cons greatest (set slots k new) lawful-set;
+        vacant_listed = λ i.
+            omega (arith, sound.vacant_listed i, ap (times i) turn, times-append i, times-written i 1 (k + 1) slots k new (omega arith) within);
+        counted =
+            let counts = sum_by-set (λ x. cond (is_some x) 1 0) slots k new None within in
+            let own = length-vacant_from (k + 1) (get_or slots k None ∷ []) in
+            let put = length-vacant_from (k + 1) (new ∷ []) in
+            let before = count_by-cons None slots in
+            let after = count_by-cons None (set slots k new) in
+            omega (arith, sound.counted, counts, own, put, before, after, length-set slots k new, ap length turn, length-append {A = ℕ});
+      }
 
   -- the index that is taken next is that of a vacant slot
-  module _ (most : ℕ) (greatest : Option ℕ) (slots : List (Option (ℕ × T))) (i : ℕ) (rest : List ℕ) (generation : ℕ) (maximum : Option ℕ)
+  module _ {most : ℕ} {greatest : Option ℕ} {slots : List (Option (ℕ × T))} {i : ℕ} {rest : List ℕ} {generation : ℕ} {maximum : Option ℕ}
       (sound : IsSound most greatest (arena slots (i ∷ rest) generation maximum)) where
-    pub first-vacant : VacantAt 1 slots i
+    pub first-vacant : IsVacant (arena slots (i ∷ rest) generation maximum) i
     first-vacant =
         let one : times i (i ∷ rest) ≡ 1 + times i rest = rw (times-cons i rest i, eq-eqb i i refl) in
-        vacant_from-vacant 1 slots i (omega (arith, sound.vacant_listed i))
+        let at = vacant_from-vacant 1 slots i (omega (arith, sound.vacant_listed i)) in
+        let next : i ≡ suc at.0 = omega (arith, at.1) in
+        record { above = omega (arith, next); within = omega (arith, next, at.2); free = rw next at.3 }
 
   -- an entry in its slot
-  module _ (most : ℕ) (greatest : Option ℕ) (slots : List (Option (ℕ × T))) (k : ℕ) (rest : List ℕ) (generation : ℕ) (maximum : Option ℕ)
+  module _ {most : ℕ} {greatest : Option ℕ} {slots : List (Option (ℕ × T))} (k : ℕ) {rest : List ℕ} {generation : ℕ} {maximum : Option ℕ}
       (sound : IsSound most greatest (arena slots ((k + 1) ∷ rest) generation maximum)) (item : T) where
-    vacant : (k < length slots) × (get_or slots k None ≡ None)
-    vacant =
-        let first = first-vacant most greatest slots (k + 1) rest generation maximum sound in
-        let same : k ≡ first.0 = omega (arith, first.1) in
-        rw same (first.2, first.3)
-
     abbrev pub filled : Arena T
     filled = arena (set slots k (Some (generation, item))) rest generation maximum
 
     pub sound-filled : IsSound most greatest filled
     sound-filled =
-        sound-set most greatest slots ((k + 1) ∷ rest) generation maximum sound k (Some (generation, item)) rest vacant.0
-        (lawful-some greatest (generation, item) sound.generation_lawful) (rw vacant.1 refl)
+        let vacant = first-vacant sound in
+        let free : get_or slots k None ≡ None = rw add-one at vacant.free in
+        sound-set sound k (Some (generation, item)) rest (omega (arith, vacant.within))
+        (lawful-some greatest (generation, item) sound.generation_lawful) (rw free refl)
 
     -- is an insertion
     pub insertion-filled : IsInsertion (arena slots ((k + 1) ∷ rest) generation maximum) filled item (k + 1) generation
     insertion-filled = record {
       next = refl;
-      vacant = record { above = omega arith; within = omega (arith, vacant.0); free = rw add-one vacant.1 };
+      vacant = first-vacant sound;
       least = least;
       generation = refl;
       after = rw add-one refl;
@@ -137,21 +125,17 @@ module _ {P T A Inx Gen : Type 0} (gen : Generations Gen) (inx : Indexes Inx) (s
   abbrev pub stored : List (Slot T Gen) → List Inx → Arena T
   stored slots stack = arena_of gen.number slots (map inx.number stack) s.generation s.maximum
 
+  -- the arena with its own
+  abbrev pub current : Arena T
+  current = stored s.slots.items s.vacant.items
+
   abbrev pub Sound : Arena T → Type 0
   Sound a = IsSound inx.most gen.greatest a
 
-  module _ (a : Arena T) (view : stored s.slots.items s.vacant.items ≡ a) where
+  module _ (a : Arena T) (view : current ≡ a) where
     -- the capacity is the number of slots
     pub capacity-is : arena_capacity a ≡ length s.slots.items
     capacity-is = rw (← view) (omega (arith, length-map s.slots.items (entry_in gen.number)))
-
-    -- an index with an entry is not 0, and is within the capacity
-    pub occupied-above : (i : ℕ) → is_some (slot a i) ≡ true → 0 < i
-    occupied-above i there = grind (arith, view)
-
-    pub occupied-within : (k i : ℕ) → i ≡ k + 1 → is_some (slot a i) ≡ true → k < arena_capacity a
-    occupied-within k i position there =
-        grind (arith, get_or_past (entries gen.number s.slots.items) k None, rw (← view, position, add-one) at there)
 
     module _ (k i : ℕ) (found : record { number : i ≡ k + 1; within : k < arena_capacity a }) where
       inside : k < length s.slots.items
@@ -164,7 +148,8 @@ module _ {P T A Inx Gen : Type 0} (gen : Generations Gen) (inx : Indexes Inx) (s
       -- a slot that was read, by its index
       pub read : (x : Slot T Gen) → x ≡ get_or s.slots.items k x → slot a i ≡ entry_in gen.number x
       read x is =
-          rw (← view, found.number, add-one) (get_or-map (entry_in gen.number) s.slots.items k x None inside ∙ ap (entry_in gen.number) (sym is))
+          rw (← view, found.number, add-one)
+          (get_or-map (entry_in gen.number) s.slots.items k x None inside ∙ ap (entry_in gen.number) (sym is))
 
       pub read-occupied : (x : Slot T Gen) → x ≡ get_or s.slots.items k x → is_some (slot a i) ≡ true → is_some (slot_entry x) ≡ true
       read-occupied x is there = is_some-slot_entry gen.number x (ap is_some (sym (read x is)) ∙ there)
@@ -180,14 +165,13 @@ module _ {P T A Inx Gen : Type 0} (gen : Generations Gen) (inx : Indexes Inx) (s
         pub written : stored (set s.slots.items k x) s.vacant.items ≡ with_slot a i (option_map f (slot a i))
         written = rw (← is, ← view, found.number, add-one, map-set) refl
 
-        pub written-sound : Sound (stored s.slots.items s.vacant.items) → is_some (slot a i) ≡ true
-            → ((e : ℕ × T) → slot a i ≡ Some e → IsLawfulGeneration gen.greatest (f e).0) → Sound (stored (set s.slots.items k x) s.vacant.items)
+        pub written-sound : Sound current → is_some (slot a i) ≡ true → ForSome (slot a i) (λ e. IsLawfulGeneration gen.greatest (f e).0)
+            → Sound (stored (set s.slots.items k x) s.vacant.items)
         written-sound sound there lawful =
             let old = some_of (slot a i) there in
             let put : entry_in gen.number x ≡ Some (f old.0) = is ∙ ap (option_map f) old.1 in
             rw (map-set, put)
-            (sound-set inx.most gen.greatest (entries gen.number s.slots.items) _ _ s.maximum sound k (Some (f old.0)) _ inside-entries
-            (lawful-some gen.greatest (f old.0) (lawful old.0 old.1))
+            (sound-set sound k (Some (f old.0)) _ inside-entries (lawful-some gen.greatest (f old.0) (lawful old.0 old.1))
             (rw (vacant_from-some (k + 1) _ (was-there there)) refl))
 
       -- an entry gets the arena's generation
@@ -196,65 +180,262 @@ module _ {P T A Inx Gen : Type 0} (gen : Generations Gen) (inx : Indexes Inx) (s
       renewed old x was is = rw (is, read old was, ← view) (entry_in-with_slot_generation gen.number old s.generation)
 
       -- an entry is taken out, and its index put on the stack
-      module _ (x : Slot T Gen) (empty : x ≡ Vacant) (stack : List Inx) (j : Inx) (same : inx.number j ≡ i) (pushed : stack ≡ s.vacant.items ++ j ∷ []) where
+      module _ (x : Slot T Gen) (empty : x ≡ Vacant) (stack : List Inx) (j : Inx) (same : inx.number j ≡ i)
+          (pushed : stack ≡ s.vacant.items ++ j ∷ []) where
         pub taken : stored (set s.slots.items k x) stack ≡ freed a i
         taken = rw (← view, empty, pushed, map_push, reverse-append, map-set, same, found.number, add-one) refl
 
-        pub taken-sound : Sound (stored s.slots.items s.vacant.items) → is_some (slot a i) ≡ true → Sound (stored (set s.slots.items k x) stack)
+        pub taken-sound : Sound current → is_some (slot a i) ≡ true → Sound (stored (set s.slots.items k x) stack)
         taken-sound sound there =
             rw (empty, pushed, map_push, reverse-append, map-set, same, found.number)
-            (sound-set inx.most gen.greatest (entries gen.number s.slots.items) _ _ s.maximum sound k None _ inside-entries (λ e is. absurd (none-some e is))
-            (rw (vacant_from-some (k + 1) _ (was-there there)) refl))
+            (sound-set sound k None _ inside-entries (λ e is. absurd (none-some e is)) (rw (vacant_from-some (k + 1) _ (was-there there)) refl))
 
   -- the index on top of the stack is taken next
-  module _ (a : Arena T) (view : stored s.slots.items s.vacant.items ≡ a) (sound : Sound (stored s.slots.items s.vacant.items))
-      (below : List Inx) (j : Inx) (top : s.vacant.items ≡ below ++ j ∷ []) where
-    first : VacantAt 1 (entries gen.number s.slots.items) (inx.number j)
-    first =
-        first-vacant inx.most gen.greatest _ (inx.number j) (reverse (map inx.number below)) _ s.maximum
-        (rw (top, map_push, reverse-append) at sound)
-
-    -- it is not 0
-    pub top-above : 0 < inx.number j
-    top-above = omega (arith, first.1)
-
-    -- it is the index of a slot that has no entry
+  module _ (a : Arena T) (view : current ≡ a) (sound : Sound current) (below : List Inx) (j : Inx) (top : s.vacant.items ≡ below ++ j ∷ []) where
+    -- it is that of a vacant slot
     pub top-vacant : IsVacant a (inx.number j)
-    top-vacant =
-        let next : inx.number j ≡ suc first.0 = omega (arith, first.1) in
-        rw (← view, next) (record { above = omega arith; within = omega (arith, first.2); free = first.3 })
+    top-vacant = rw (← view, top, map_push, reverse-append) (first-vacant (rw (top, map_push, reverse-append) at sound))
 
-    module _ (k : ℕ) (position : inx.number j ≡ k + 1) where
-      -- its place is one of the slots
-      pub top-within : k < length s.slots.items
-      top-within = omega (arith, position, first.1, first.2, length-map s.slots.items (entry_in gen.number))
-
-      sound-taken : Sound (arena (entries gen.number s.slots.items) ((k + 1) ∷ reverse (map inx.number below)) (gen.number s.generation) s.maximum)
-      sound-taken = rw (top, map_push, reverse-append, position) at sound
-
-      -- an entry is put in its slot
-      pub put-sound : (item : T) → Sound (stored (set s.slots.items k (Occupied item s.generation)) below)
-      put-sound item = rw map-set (sound-filled inx.most gen.greatest _ k _ (gen.number s.generation) s.maximum sound-taken item)
+    -- an entry is put in its slot
+    module _ (k : ℕ) (position : inx.number j ≡ k + 1) (item : T) where
+      pub put-sound : Sound (stored (set s.slots.items k (Occupied item s.generation)) below)
+      put-sound = rw map-set (sound-filled k (rw (top, map_push, reverse-append, position) at sound) item)
 
       -- which is an insertion
-      pub insertion : (item : T) (i g : ℕ) → i ≡ inx.number j → g ≡ gen.number s.generation
+      pub insertion : (i g : ℕ) → i ≡ inx.number j → g ≡ gen.number s.generation
           → IsInsertion a (stored (set s.slots.items k (Occupied item s.generation)) below) item i g
-      insertion item i g here now =
+      insertion i g here now =
           rw (← view, here, now, top, map_push, reverse-append, position, map-set)
-          (insertion-filled inx.most gen.greatest _ k _ (gen.number s.generation) s.maximum sound-taken item)
+          (insertion-filled k (rw (top, map_push, reverse-append, position) at sound) item)
+
+pub get_or-padded : {X : Type 0} (xs : List X) (m k : ℕ) (d : X) → get_or (xs ++ replicate m d) k d ≡ get_or xs k d
+get_or-padded [] (suc m) (suc k) d = get_or-padded [] m k d
+get_or-padded (x ∷ xs) m (suc k) d = get_or-padded xs m k d
+get_or-padded xs m k d = refl
+
+-- as many as are missing were added
+pub length-padded : {X : Type 0} (n : ℕ) (xs padded : List X) (d : X)
+    → padded ≡ xs ++ replicate (n - length xs) d → length xs ≤ n → length padded ≡ n
+length-padded {X = X} n xs padded d is fits =
+    rw is (omega (arith, length-append xs (replicate (n - length xs) d), length-replicate {A = X} (n - length xs) d))
+
+module _ {X : Type 0} (n : ℕ) (slots : List (Option X)) where
+  pub resized-cons : resized (n + 1) (None ∷ slots) ≡ None ∷ resized n slots
+  resized-cons = let less : n + 1 - suc (length slots) ≡ n - length slots = omega arith in rw (less, add-one)
+
+  pub length-resized : length (resized n slots) ≡ n
+  length-resized = grind (arith, length-append {A = Option X}, length-take {A = Option X}, length-replicate {A = Option X})
+
+  pub get_or-resized : (k : ℕ) → k < n → get_or (resized n slots) k None ≡ get_or slots k None
+  get_or-resized k below = get_or-padded (take n slots) (n - length slots) k None ∙ get_or-take n slots k None below
+
+  get_or-resized_past : (k : ℕ) → n ≤ k → get_or (resized n slots) k None ≡ None
+  get_or-resized_past k past = get_or_past (resized n slots) k None (omega (arith, length-resized))
+
+  -- as many slots, with the same at each place
+  pub resized-is : (ys : List (Option X)) → length ys ≡ n → ((k : ℕ) → k < n → get_or ys k None ≡ get_or slots k None) → ys ≡ resized n slots
+  resized-is ys long same =
+      ext_get_or None ys (resized n slots) (long ∙ sym length-resized)
+      (λ k below. same k (omega arith) ∙ sym (get_or-resized k (omega arith)))
+
+  -- slots to which vacant ones were added, and from which those beyond were cut off
+  pub resized-padded : take n (slots ++ replicate (n - length slots) None) ≡ resized n slots
+  resized-padded =
+      let padded = slots ++ replicate {A = Option X} (n - length slots) None in
+      resized-is (take n padded) (omega (arith, length-take {A = Option X}, length-append {A = Option X}, length-replicate {A = Option X}))
+      (λ k below. get_or-take n padded k None below ∙ get_or-padded slots (n - length slots) k None)
+
+  -- an entry stood there before
+  pub resized-some : (k : ℕ) (e : X) → get_or (resized n slots) k None ≡ Some e → get_or slots k None ≡ Some e
+  resized-some k e is = grind (arith, get_or-resized k, get_or-resized_past k)
+
+  -- where no entry is lost, each index has what it had
+  pub resized-same : ((k : ℕ) → n ≤ k → get_or slots k None ≡ None) → (i : ℕ) → get_or (resized n slots) i None ≡ get_or slots i None
+  resized-same none i = grind (arith, get_or-resized i, get_or-resized_past i, none i)
+
+-- vacant slots at the end make no difference
+pub resized-again : {X : Type 0} (n m : ℕ) (slots : List (Option X)) → resized n (slots ++ replicate m None) ≡ resized n slots
+resized-again n m slots =
+    resized-is n slots (resized n (slots ++ replicate m None)) (length-resized n (slots ++ replicate m None))
+    (λ k below. get_or-resized n (slots ++ replicate m None) k below ∙ get_or-padded slots m k None)
+
+module _ {T G : Type 0} (number : G → ℕ) (n : ℕ) (slots padded : List (Slot T G)) (is : padded ≡ slots ++ replicate (n - length slots) Vacant) where
+  pub entries-resized : entries number (take n padded) ≡ resized n (entries number slots)
+  entries-resized =
+      rw (is, ← take-map, map-append, map-replicate, ← length-map slots (entry_in number)) (resized-padded n (entries number slots))
+
+  pub entries-padded : length slots ≤ n → entries number padded ≡ resized n (entries number slots)
+  entries-padded fits = rw (← take_all n padded (omega (arith, length-padded n slots padded Vacant is fits))) entries-resized
+
+  module _ (least : greatest_occupied (None ∷ entries number slots) ≤ n) where
+    beyond : (k : ℕ) → n ≤ k → get_or (entries number slots) k None ≡ None
+    beyond k past = greatest_occupied-above (None ∷ entries number slots) (suc k) (omega arith)
+
+    -- slots beyond the greatest index with an entry, and slots that were added, are vacant
+    pub padded-vacant : AllVacantFrom n padded
+    padded-vacant = λ k past.
+        rw is (get_or-padded slots (n - length slots) k Vacant
+        ∙ entry-none number (get_or slots k Vacant) (sym (get_or-entries number slots k) ∙ beyond k past))
+
+    -- an entry keeps its slot
+    pub resized-full : (k : ℕ) → is_some (get_or (entries number slots) k None) ≡ true → get_or (take n padded) k Vacant ≢ Vacant
+    resized-full k there = λ vacant.
+        let none : get_or (entries number (take n padded)) k None ≡ None = get_or-entries number (take n padded) k ∙ ap (entry_in number) vacant in
+        let same = resized-same n (entries number slots) beyond k in
+        false≢true (ap is_some (sym none ∙ (ap (λ ss. get_or ss k None) entries-resized ∙ same)) ∙ there)
 
 -- the vacant indexes are listed anew
 module _ {T Inx Gen : Type 0} (gen : Generations Gen) (inx : Indexes Inx) (next : List (Slot T Gen)) (listed : List Inx) (generation : Gen)
     (maximum : Option ℕ) (all : map inx.number listed ≡ reverse (vacant_slots 1 next)) where
-  pub relisted : arena_of gen.number next (map inx.number listed) generation maximum
-      ≡ fresh_arena (entries gen.number next) (gen.number generation) maximum
+  abbrev pub listed_anew : Arena T
+  listed_anew = arena_of gen.number next (map inx.number listed) generation maximum
+
+  pub relisted : listed_anew ≡ fresh_arena (entries gen.number next) (gen.number generation) maximum
   relisted = rw (all, reverse-reverse, vacant_slots-from gen.number) refl
 
-  pub relisted-fresh : IsFresh (arena_of gen.number next (map inx.number listed) generation maximum)
+  pub relisted-fresh : IsFresh listed_anew
   relisted-fresh = subst (λ (v : Arena T). IsFresh v) (sym relisted) refl
 
-  pub relisted-sound : length next ≤ limit_of inx.most maximum → IsLawfulGeneration gen.greatest (gen.number generation)
-      → AreLawful gen.greatest (entries gen.number next)
-      → IsSound inx.most gen.greatest (arena_of gen.number next (map inx.number listed) generation maximum)
-  relisted-sound within now lawful =
-      rw relisted (sound-fresh inx.most gen.greatest (entries gen.number next) (gen.number generation) maximum (omega (arith, length-map next (entry_in gen.number))) now lawful)
+  module _ (n : ℕ) (slots : List (Option (ℕ × T))) (is : entries gen.number next ≡ resized n slots) where
+    pub relisted-sound : n ≤ limit_of inx.most maximum → IsLawfulGeneration gen.greatest (gen.number generation) → AreLawful gen.greatest slots
+        → IsSound inx.most gen.greatest listed_anew
+    relisted-sound within now lawful = rw (relisted, is) (record {
+      begins = refl;
+      within_limit = omega (arith, length-resized n slots);
+      generation_lawful = now;
+      entries_lawful = lawful-cons gen.greatest (resized n slots) (λ k e there. lawful k e (resized-some n slots k e there));
+      vacant_listed = λ i. refl;
+      counted = omega (arith, count_by-cons None (resized n slots), length-vacant_from 1 (resized n slots));
+    })
+
+module _ {P T A Inx Gen : Type 0} (gen : Generations Gen) (inx : Indexes Inx) (s : Inside P T A Inx Gen) (listed : List Inx)
+    (n : ℕ) (padded : List (Slot T Gen)) (is : padded ≡ s.slots.items ++ replicate (n - length s.slots.items) Vacant)
+    (all : map inx.number listed ≡ reverse (vacant_slots 1 (take n padded))) (a : Arena T) (view : current gen inx s ≡ a) where
+  pub resized-view : stored gen inx s (take n padded) listed ≡ with_capacity a n
+  resized-view =
+      relisted gen inx (take n padded) listed s.generation s.maximum all
+      ∙ rw (← view, entries-resized gen.number n s.slots.items padded is, resized-cons) refl
+
+-- where no slot is vacant, room is made by a growth
+pub with_room-full : {T : Type 0} (most : ℕ) (a : Arena T) (n : ℕ) → a.vacant ≡ [] → n ≡ grown_capacity most a → with_capacity a n ≡ with_room most a
+with_room-full most a n full is = rw (is, full)
+
+-- a greater capacity leaves a slot vacant
+pub resized-room : {X : Type 0} (n : ℕ) (slots : List (Option X)) → take 1 slots ≡ None ∷ [] → length slots - 1 < n
+    → 0 < length (vacant_from 1 (drop 1 (resized (n + 1) slots)))
+resized-room n (None ∷ slots) begins more = rw resized-cons (omega (arith, length-vacant_from-padded 1 (n - length slots) (take n slots)))
+resized-room n slots begins more = absurd (cc)
+
+-- slots of which none has an entry: n were added to none
+pub entries-made : {T G : Type 0} (number : G → ℕ) (n : ℕ) (next : List (Slot T G)) → next ≡ [] ++ replicate (n - 0) Vacant
+    → entries number next ≡ resized n []
+entries-made number n next is = entries-padded number n [] next is (omega arith)
+
+module _ {T Inx Gen : Type 0} (gen : Generations Gen) (inx : Indexes Inx) (n : ℕ) (next : List (Slot T Gen))
+    (is : next ≡ [] ++ replicate (n - 0) Vacant) (listed : List Inx) (all : map inx.number listed ≡ reverse (vacant_slots 1 next)) where
+  pub made-view : (two : Gen) → gen.number two ≡ first_generation gen.greatest
+      → arena_of gen.number next (map inx.number listed) two None ≡ with_capacity (new_arena gen.greatest) n
+  made-view two first = relisted gen inx next listed two None all ∙ rw (entries-made gen.number n next is, first, resized-cons) refl
+
+  pub emptied-view : {P A : Type 0} (s : Inside P T A Inx Gen) → n ≡ length s.slots.items → (a : Arena T) → current gen inx s ≡ a
+      → stored gen inx s next listed ≡ emptied a
+  emptied-view s whole a view =
+      let same : n - 0 ≡ length (entries gen.number s.slots.items) = omega (arith, whole, length-map s.slots.items (entry_in gen.number)) in
+      relisted gen inx next listed s.generation s.maximum all
+      ∙ rw (← view, is, map-replicate (entry_in gen.number) (n - 0) Vacant, same) refl
+
+-- Two entries whose slots change places and whose generations are then put back have exchanged their items.
+
+-- later writes to the same two places alone count
+set-twice : {X : Type 0} (xs : List X) (p q : ℕ) (a b c d : X) → set (set (set (set xs p a) q b) p c) q d ≡ set (set xs p c) q d
+set-twice {X = X} xs p q a b c d = grind (arith, set-set {A = X}, set_comm {A = X})
+
+-- a slot of which the generation is known
+occupied-by : {T G : Type 0} (s : Slot T G) (era : G) → option_map (λ (e : G × T). e.0) (slot_entry s) ≡ Some era → (item : T) × (s ≡ Occupied item era)
+occupied-by (Occupied item old) era is = (item, cc)
+occupied-by Vacant era is = cc
+
+-- Slots xs, of which p and q have entries, become ys by an exchange; then s1 is written to p, and s2 to q.
+pub record IsExchange {T G : Type 0} (xs ys : List (Slot T G)) (p q : ℕ) (sp sq y1 y2 s1 s2 : Slot T G) (gp gq : G) : Type 0 where
+  pub p_within : p < length xs
+  pub q_within : q < length xs
+  pub p_is : sp ≡ get_or xs p sp
+  pub q_is : sq ≡ get_or xs q sq
+  pub p_era : option_map (λ (e : G × T). e.0) (slot_entry sp) ≡ Some gp
+  pub q_era : option_map (λ (e : G × T). e.0) (slot_entry sq) ≡ Some gq
+  pub same_len : length ys ≡ length xs
+  pub p_after : (d : Slot T G) → get_or ys p d ≡ get_or xs q d
+  pub q_after : (d : Slot T G) → get_or ys q d ≡ get_or xs p d
+  pub after : (d : Slot T G) → ys ≡ set (set xs p (get_or xs q d)) q (get_or xs p d)
+  pub first_old : y1 ≡ get_or ys p y1
+  pub first : s1 ≡ with_slot_generation y1 gp
+  pub second_old : y2 ≡ get_or (set ys p s1) q y2
+  pub second : s2 ≡ with_slot_generation y2 gq
+
+module _ {T G : Type 0} {xs ys : List (Slot T G)} {p q : ℕ} {sp sq y1 y2 s1 s2 : Slot T G} {gp gq : G}
+    (h : IsExchange xs ys p q sp sq y1 y2 s1 s2 gp gq) where
+  one : (item : T) × (sp ≡ Occupied item gp)
+  one = occupied-by sp gp h.p_era
+
+  other : (item : T) × (sq ≡ Occupied item gq)
+  other = occupied-by sq gq h.q_era
+
+  at_p : (d : Slot T G) → get_or xs p d ≡ Occupied one.0 gp
+  at_p d = get_or_default xs p d sp h.p_within ∙ (sym h.p_is ∙ one.1)
+
+  at_q : (d : Slot T G) → get_or xs q d ≡ Occupied other.0 gq
+  at_q d = get_or_default xs q d sq h.q_within ∙ (sym h.q_is ∙ other.1)
+
+  first-is : s1 ≡ Occupied other.0 gp
+  first-is = h.first ∙ ap (λ s. with_slot_generation s gp) (h.first_old ∙ (h.p_after y1 ∙ at_q y1))
+
+  second-is : s2 ≡ Occupied one.0 gq
+  second-is =
+      h.second ∙ elim (cases_eq q p) [
+        | inl same ↦
+            let old : y2 ≡ s1 = h.second_old ∙ rw same (get_or-set_same ys p s1 y2 (omega (arith, h.p_within, h.same_len))) in
+            let item : Occupied other.0 gq ≡ Occupied one.0 gp = sym (at_q sp) ∙ (ap (λ k. get_or xs k sp) same ∙ at_p sp) in
+            ap (λ s. with_slot_generation s gq) (old ∙ first-is) ∙ ap (λ s. with_slot_generation s gq) item
+        | inr different ↦ ap (λ s. with_slot_generation s gq) (h.second_old ∙ (get_or-set_other ys p q s1 y2 different ∙ (h.q_after y2 ∙ at_p y2)))
+      ]
+
+  -- each place has the other's item
+  exchanged : set (set ys p s1) q s2 ≡ set (set xs p (Occupied other.0 gp)) q (Occupied one.0 gq)
+  exchanged = cc (h.after sp, set-twice xs p q (get_or xs q sp) (get_or xs p sp) s1 s2, first-is, second-is)
+
+module _ {P T A Inx Gen : Type 0} (gen : Generations Gen) (inx : Indexes Inx) (s : Inside P T A Inx Gen) {ys : List (Slot T Gen)} {p q : ℕ}
+    {sp sq y1 y2 s1 s2 : Slot T Gen} {gp gq : Gen} (h : IsExchange s.slots.items ys p q sp sq y1 y2 s1 s2 gp gq) where
+  abbrev slots : List (Option (ℕ × T))
+  slots = entries gen.number s.slots.items
+
+  abbrev now : Arena T
+  now = stored gen inx s (set (set ys p s1) q s2) s.vacant.items
+
+  first-entry : get_or slots p None ≡ Some (gen.number gp, (one h).0)
+  first-entry = get_or-map (entry_in gen.number) s.slots.items p Vacant None h.p_within ∙ ap (entry_in gen.number) (at_p h Vacant)
+
+  second-entry : get_or slots q None ≡ Some (gen.number gq, (other h).0)
+  second-entry = get_or-map (entry_in gen.number) s.slots.items q Vacant None h.q_within ∙ ap (entry_in gen.number) (at_q h Vacant)
+
+  pub swapped-view : (a : Arena T) → current gen inx s ≡ a → (i j : ℕ) → i ≡ p + 1 → j ≡ q + 1 → now ≡ swapped a i j
+  swapped-view a view i j first second =
+      rw (exchanged h, ← view, first, second, add-one p, add-one q, first-entry, second-entry, map-set, map-set) refl
+
+  second-there : (e : ℕ × T) → is_some (get_or (set slots p (Some e)) q None) ≡ true
+  second-there e =
+      let long = length-map s.slots.items (entry_in gen.number) in
+      grind (arith, get_or-set_same slots p (Some e) None, get_or-set_other slots p q (Some e) None, second-entry, long, h.p_within)
+
+  pub swapped-sound : Sound gen inx s (current gen inx s) → Sound gen inx s now
+  swapped-sound sound =
+      let e : ℕ × T = (gen.number gp, (other h).0) in
+      let d : ℕ × T = (gen.number gq, (one h).0) in
+      let count = length-map s.slots.items (entry_in gen.number) in
+      let stack = reverse (map inx.number s.vacant.items) in
+      let half =
+      sound-set sound p (Some e) stack (omega (arith, h.p_within))
+      (lawful-some gen.greatest e (sound.entries_lawful (suc p) (gen.number gp, (one h).0) first-entry)) (rw first-entry refl) in
+      rw (exchanged h, map-set, map-set)
+      (sound-set half q (Some d) stack (omega (arith, h.q_within, length-set slots p (Some e)))
+      (lawful-some gen.greatest d (sound.entries_lawful (suc q) (gen.number gq, (other h).0) second-entry))
+      (rw (vacant_from-some (q + 1) (get_or (set slots p (Some e)) q None) (second-there e)) refl))

@@ -58,10 +58,11 @@ module _ {T : Type 0} where
   entries_rising-behind greatest a i = ap (entries_from (i + 1)) (drop-set-lt (i + 1) a.slots i None (omega arith))
 
   -- the first entry that comes has been removed
-  pub entries_rising-removed : (greatest : Option ℕ) (a b : Arena T) (i n j g : ℕ) (item x : T)
-      → entries_rising a i ≡ (j, g, x) ∷ entries_rising a (n + 1) → n ≡ j → item_of a (j, g) ≡ Some item → b ≡ removed greatest a j
-      → entries_rising a i ≡ (j, g, item) ∷ entries_rising b (n + 1)
-  entries_rising-removed greatest a b i n j g item x is next there removed =
-      let named = item_of-there a (j, g) x (entries_rising-first a i (j, g, x) (entries_rising a (n + 1)) is) in
-      let same : x ≡ item = same_Some x item (sym named ∙ there) in
-      rw (removed, next, entries_rising-behind greatest a j, ← same) (rw next at is)
+  module _ (greatest : Option ℕ) (a : Arena T) (i : ℕ) {b : Arena T} {n j g : ℕ} {item x : T}
+      (is : entries_rising a i ≡ (j, g, x) ∷ entries_rising a (n + 1)) (next : n ≡ j) (there : item_of a (j, g) ≡ Some item)
+      (gone : b ≡ removed greatest a j) where
+    pub entries_rising-removed : entries_rising a i ≡ (j, g, item) ∷ entries_rising b (n + 1)
+    entries_rising-removed =
+        let named = item_of-there a (j, g) x (entries_rising-first a i (j, g, x) (entries_rising a (n + 1)) is) in
+        let same : x ≡ item = same_Some x item (sym named ∙ there) in
+        rw (gone, next, entries_rising-behind greatest a j, ← same) (rw next at is)

@@ -1,5 +1,6 @@
 use Rattle.arena_base.proofs.Words.{length, arith, ◌∙◌, length-map, entry_in}
-use Rattle.arena_base.proofs.{Compressing.compressed-after, Compressing.compressed-sound, Steps.relisted-fresh}
+use Rattle.arena_base.proofs.Steps.{relisted-fresh, relisted-sound}
+use Rattle.arena_base.proofs.Compressing.{compressed-lawful, entries-compressed, compressed-after}
 use Rattle.arena_base.proofs.arena.Arena.compress_by.Goals as goal
 
 pub invariant_of-self : goal.invariant_of-self
@@ -8,8 +9,10 @@ invariant_of-self g c =
     let p = c.move_down.ensures.items in
     let all = rw c.as_slice.ensures.value at c.list_vacant.ensures.items in
     let sound = c.self.invariant.0 in (
-      compressed-sound g.P.Gen.PtrGen (length s.slots.items) c.move_down.new.slots.items s.generation p.items p.fits p.after g.P.Inx.PtrInx _ s.maximum all
-          sound.generation_lawful (omega (arith, sound.within_limit, length-map s.slots.items (entry_in g.P.Gen.PtrGen.number))),
+      relisted-sound g.P.Gen.PtrGen g.P.Inx.PtrInx c.move_down.new.slots.items _ s.generation s.maximum all (length s.slots.items) _
+          (entries-compressed g.P.Gen.PtrGen.number (length s.slots.items) _ s.generation p.items p.after p.fits)
+          (omega (arith, sound.within_limit, length-map s.slots.items (entry_in g.P.Gen.PtrGen.number)))
+          sound.generation_lawful (compressed-lawful g.P.Gen.PtrGen.greatest (g.P.Gen.PtrGen.number s.generation) p.items sound.generation_lawful),
       omega (arith, c.move_down.ensures.len, c.list_vacant.ensures.capacity, c.self.invariant.1),
     )
 

@@ -1,15 +1,14 @@
-use Rattle.arena_base.proofs.{Words.ℕ, Words.arith, Words.ap, Steps.top-above, Steps.top-within, Steps.put-sound, Steps.insertion}
+use Rattle.arena_base.proofs.{Words.ℕ, Words.arith, Words.ap, Steps.insertion, Steps.capacity-is, Steps.top-vacant, Steps.put-sound}
 use Rattle.arena_base.proofs.arena.Arena.insert_next.Goals as goal
 
 pub position_at-requires : goal.position_at-requires
 position_at-requires g c =
-    top-above g.P.Gen.PtrGen g.P.Inx.PtrInx c.self.inside _ c.self.view_is c.self.invariant.0 _ _ c.take_last-i.ensures.items
+    (top-vacant g.P.Gen.PtrGen g.P.Inx.PtrInx c.self.inside _ c.self.view_is c.self.invariant.0 _ _ c.take_last-i.ensures.items).above
 
 pub index_mut-requires : goal.index_mut-requires
 index_mut-requires g c =
-    let within = top-within g.P.Gen.PtrGen g.P.Inx.PtrInx c.self.inside _ c.self.view_is c.self.invariant.0 _ _ c.take_last-i.ensures.items
-    _ c.position_at.ensures in
-    omega (arith, c.self.inside.slots.ok.0)
+    let top = top-vacant g.P.Gen.PtrGen g.P.Inx.PtrInx c.self.inside _ c.self.view_is c.self.invariant.0 _ _ c.take_last-i.ensures.items in
+    omega (arith, top.within, capacity-is g.P.Gen.PtrGen g.P.Inx.PtrInx c.self.inside _ c.self.view_is, c.position_at.ensures, c.self.inside.slots.ok.0)
 
 pub invariant_of-self : goal.invariant_of-self
 invariant_of-self g c = (

@@ -13,10 +13,6 @@ returns-in-Some-clause-pointers g c =
     ∙ (ap (λ (i : ℕ). (i, g.P.Gen.PtrGen.number c.in-Some.generation) ∷ falling_from a (n - 1)) index
     ∙ ap (λ (e : ℕ). ((g.P.Ptr.numbers c.pointer.result).0, e) ∷ falling_from a (n - 1)) (sym c.pointer.ensures.generation)))
 
-pub returns-in-Some-clause-there : goal.returns-in-Some-clause-there
-returns-in-Some-clause-there g c =
-    item-pointed c.args.self.now (c.loop-position.position - 1 + 1) (g.P.Gen.PtrGen.number c.in-Some.generation) _ _ (sym c.in-Some.ensures) c.pointer.ensures.index c.pointer.ensures.generation
-
 pub loop-position-preserved : goal.loop-position-preserved
 loop-position-preserved g c =
     let a = c.args.self.now in

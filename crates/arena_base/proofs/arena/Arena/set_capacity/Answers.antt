@@ -1,5 +1,5 @@
-use Rattle.arena_base.proofs.Words.{◌≡◌, ◌+◌, ◌++◌, length, replicate, ◌-◌, arith, ap, add-one, length-take, Vacant}
-use Rattle.arena_base.proofs.Resizing.{padded-vacant, resized-full, resized-view, resized-sound}
+use Rattle.arena_base.proofs.Words.{◌≡◌, suc, ◌+◌, ◌++◌, length, replicate, ◌-◌, arith, ap, add-one, length-take, Vacant}
+use Rattle.arena_base.proofs.Steps.{entries-resized, padded-vacant, resized-full, relisted-sound, resized-view}
 use Rattle.arena_base.proofs.{arena.Arena.set_capacity.Given.Over, arena.Arena.set_capacity.Goals.After-add_vacant}
 use Rattle.arena_base.proofs.arena.Arena.set_capacity.Goals as goal
 
@@ -25,7 +25,9 @@ invariant_of-self-2 g c =
     let all = rw (c.as_slice.ensures.value, c.cut_vacant.ensures.items) at c.list_vacant.ensures.items in
     let is = padded g (goal.at.invariant_of-self-2 g c).After-add_vacant in (
       rw c.cut_vacant.ensures.items
-          (resized-sound g.P.Gen.PtrGen g.P.Inx.PtrInx c.self.inside _ c.args.n _ is all c.self.invariant.0 (rw (← c.self.view_is) at c.requires.limit)),
+          (relisted-sound g.P.Gen.PtrGen g.P.Inx.PtrInx _ _ c.self.inside.generation c.self.inside.maximum all c.args.n _
+          (entries-resized g.P.Gen.PtrGen.number c.args.n c.self.inside.slots.items _ is) (rw (← c.self.view_is) at c.requires.limit)
+          c.self.invariant.0.generation_lawful (λ k. c.self.invariant.0.entries_lawful (suc k))),
       omega (arith, c.cut_vacant.new.slots.ok.0, ap length c.cut_vacant.ensures.items, length-take c.args.n c.add_vacant.new.slots.items, c.in_ok-reserve_exact-2.ensures.ok),
     )
 

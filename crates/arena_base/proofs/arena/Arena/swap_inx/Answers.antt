@@ -1,7 +1,6 @@
-use Rattle.arena_base.proofs.arena.Arena.swap_inx.Goals.{After-position_of_entry-second, After-renew-2}
-use Rattle.arena_base.proofs.Words.{◌≡◌, ◌<◌, arith, length, vec_len}
-use Rattle.arena_base.proofs.Steps.{read-occupied, slot-within, capacity-is}
-use Rattle.arena_base.proofs.{Swapping.IsExchange, Swapping.swapped-view, Swapping.swapped-sound, arena.Arena.swap_inx.Given.Over}
+use Rattle.arena_base.proofs.Words.{◌≡◌, ◌<◌, length, arith, vec_len}
+use Rattle.arena_base.proofs.Steps.{capacity-is, slot-within, read-occupied, IsExchange, swapped-view, swapped-sound}
+use Rattle.arena_base.proofs.arena.Arena.swap_inx.{Given.Over, Goals.After-position_of_entry-second, Goals.After-renew-2}
 use Rattle.arena_base.proofs.arena.Arena.swap_inx.Goals as goal
 
 pub generation-kept_first-requires : goal.generation-kept_first-requires
@@ -15,29 +14,29 @@ generation-kept_second-requires g c =
     _ c.index-2.ensures c.requires.second
 
 -- both places are those of slots
-first-within : (g : Over) (c : After-position_of_entry-second g) → c.position_of_entry-first.result < vec_len c.self.inside.slots
-first-within g c = slot-within g.P.Gen.PtrGen g.P.Inx.PtrInx c.self.inside _ c.self.view_is _ _ c.position_of_entry-first.ensures
-
-second-within : (g : Over) (c : After-position_of_entry-second g) → c.position_of_entry-second.result < vec_len c.self.inside.slots
-second-within g c = slot-within g.P.Gen.PtrGen g.P.Inx.PtrInx c.self.inside _ c.self.view_is _ _ c.position_of_entry-second.ensures
+within : (g : Over) (c : After-position_of_entry-second g) → record {
+  i_in_bounds : c.position_of_entry-first.result < vec_len c.self.inside.slots;
+  j_in_bounds : c.position_of_entry-second.result < vec_len c.self.inside.slots;
+}
+within g c = record {
+  i_in_bounds = slot-within g.P.Gen.PtrGen g.P.Inx.PtrInx c.self.inside _ c.self.view_is _ _ c.position_of_entry-first.ensures;
+  j_in_bounds = slot-within g.P.Gen.PtrGen g.P.Inx.PtrInx c.self.inside _ c.self.view_is _ _ c.position_of_entry-second.ensures;
+}
 
 pub index-requires : goal.index-requires
-index-requires g c = first-within g c
+index-requires g c = (within g c).i_in_bounds
 
 pub index-requires-2 : goal.index-requires-2
-index-requires-2 g c = second-within g (goal.at.index-requires-2 g c).After-position_of_entry-second
+index-requires-2 g c = (within g (goal.at.index-requires-2 g c).After-position_of_entry-second).j_in_bounds
 
-pub swap-requires-clause-i_in_bounds : goal.swap-requires-clause-i_in_bounds
-swap-requires-clause-i_in_bounds g c = first-within g (goal.at.swap-requires-clause-i_in_bounds g c).After-position_of_entry-second
-
-pub swap-requires-clause-j_in_bounds : goal.swap-requires-clause-j_in_bounds
-swap-requires-clause-j_in_bounds g c = second-within g (goal.at.swap-requires-clause-j_in_bounds g c).After-position_of_entry-second
+pub swap-requires : goal.swap-requires
+swap-requires g c = within g (goal.at.swap-requires g c).After-position_of_entry-second
 
 pub index_mut-slot-requires : goal.index_mut-slot-requires
-index_mut-slot-requires g c = rw c.swap.ensures.len (first-within g (goal.at.index_mut-slot-requires g c).After-position_of_entry-second)
+index_mut-slot-requires g c = rw c.swap.ensures.len (within g (goal.at.index_mut-slot-requires g c).After-position_of_entry-second).i_in_bounds
 
 pub index_mut-slot-requires-2 : goal.index_mut-slot-requires-2
-index_mut-slot-requires-2 g c = rw c.swap.ensures.len (second-within g (goal.at.index_mut-slot-requires-2 g c).After-position_of_entry-second)
+index_mut-slot-requires-2 g c = rw c.swap.ensures.len (within g (goal.at.index_mut-slot-requires-2 g c).After-position_of_entry-second).j_in_bounds
 
 exchange : (g : Over) (c : After-renew-2 g)
     → IsExchange c.self.inside.slots.items c.swap.new.self.items c.position_of_entry-first.result c.position_of_entry-second.result

@@ -1,6 +1,6 @@
-use Rattle.arena_base.proofs.Words.{◌≤◌, length, ◌-◌, arith, sym, ap, ◌∙◌, same_Some, option_map, Vacant}
-use Rattle.arena_base.proofs.Clones.{clone-sound, clone-whole, clone-refused}
-use Rattle.arena_base.proofs.{Steps.capacity-is, Steps.relisted-fresh, Resizing.length-padded}
+use Rattle.arena_base.proofs.Words.{◌≤◌, length, arith, sym, ap, ◌∙◌, same_Some, option_map, Vacant}
+use Rattle.arena_base.proofs.Steps.{capacity-is, length-padded, relisted-fresh}
+use Rattle.arena_base.proofs.Clones.{clone-whole, clone-refused, clone-sound}
 use Rattle.arena_base.proofs.arena.Arena.take_over.Goals as goal
 
 pub invariant_of-self : goal.invariant_of-self

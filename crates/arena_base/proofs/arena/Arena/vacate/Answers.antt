@@ -1,5 +1,5 @@
-use Rattle.arena_base.proofs.Words.{◌∙◌, arith, length-map, entry_in}
-use Rattle.arena_base.proofs.Resizing.{emptied-view, made-length, made-sound}
+use Rattle.arena_base.proofs.Words.{[], arith, ◌∙◌, length-map, none-some, Vacant, entry_in}
+use Rattle.arena_base.proofs.Steps.{length-padded, relisted-sound, entries-made, emptied-view}
 use Rattle.arena_base.proofs.arena.Arena.vacate.Goals as goal
 
 pub invariant_of-self : goal.invariant_of-self
@@ -9,9 +9,11 @@ invariant_of-self g c =
     let is = rw (c.clear.ensures.items, c.clear.ensures.len) at c.add_vacant.ensures.items in
     let all = rw c.as_slice.ensures.value at c.list_vacant.ensures.items in
     let sound = c.self.invariant.0 in (
-      made-sound g.P.Gen.PtrGen g.P.Inx.PtrInx c.len-n.result next.items is _ all s.generation s.maximum sound.generation_lawful
-          (omega (arith, sound.within_limit, s.slots.ok.0, length-map s.slots.items (entry_in g.P.Gen.PtrGen.number))),
-      omega (arith, next.ok.0, s.slots.ok.0, made-length g.P.Gen.PtrGen g.P.Inx.PtrInx c.len-n.result next.items is _ all, c.self.invariant.1),
+      relisted-sound g.P.Gen.PtrGen g.P.Inx.PtrInx next.items _ s.generation s.maximum all c.len-n.result []
+          (entries-made g.P.Gen.PtrGen.number c.len-n.result next.items is)
+          (omega (arith, sound.within_limit, s.slots.ok.0, length-map s.slots.items (entry_in g.P.Gen.PtrGen.number)))
+          sound.generation_lawful (λ k e there. absurd (none-some e there)),
+      omega (arith, next.ok.0, s.slots.ok.0, length-padded c.len-n.result [] next.items Vacant is (omega arith), c.self.invariant.1),
     )
 
 pub returns : goal.returns

@@ -1,4 +1,5 @@
-use Rattle.arena_base.proofs.{Words.arith, Resizing.made-length, Resizing.made-view, Resizing.made-sound}
+use Rattle.arena_base.proofs.Words.{None, [], arith, none-some, Vacant}
+use Rattle.arena_base.proofs.Steps.{length-padded, relisted-sound, entries-made, made-view}
 use Rattle.arena_base.proofs.arena.Arena.with_min_capacity.Goals as goal
 
 pub invariant_of-result : goal.invariant_of-result
@@ -7,8 +8,9 @@ invariant_of-result g c =
     let two = c.two-generation.ensures in
     let is = rw (c.in_ok-slots.slots.ok.0, c.in_ok-slots.ensures.items) at c.add_vacant.ensures.items in
     let all = rw c.as_slice.ensures.value at c.list_vacant.ensures.items in (
-      made-sound g.P.Gen.PtrGen g.P.Inx.PtrInx c.args.n next.items is _ all _ _ two.lawful (omega arith),
-      omega (arith, next.ok.0, made-length g.P.Gen.PtrGen g.P.Inx.PtrInx c.args.n next.items is _ all, c.in_ok-vacant.ensures.capacity),
+      relisted-sound g.P.Gen.PtrGen g.P.Inx.PtrInx next.items _ c.two-generation.result None all c.args.n []
+          (entries-made g.P.Gen.PtrGen.number c.args.n next.items is) (omega arith) two.lawful (λ k e there. absurd (none-some e there)),
+      omega (arith, next.ok.0, length-padded c.args.n [] next.items Vacant is (omega arith), c.in_ok-vacant.ensures.capacity),
     )
 
 pub returns-clause-ok : goal.returns-clause-ok
