@@ -10,6 +10,11 @@ use Rattle.arena_base.proofs.Words.{arena_of, entries_from, entries_rising, Insi
 use Rattle.arena_base.proofs.Slots.{era, entries, greatest_occupied-above, none-from_generation}
 use Rattle.arena_base.proofs.Steps.{resized-again, entries-padded, relisted, relisted-sound}
 
+-- the calls of the closure at these entries, from one state to another
+abbrev pub Calls : {P U T F : Type 0} (numbers : P → ℕ × ℕ) (step : F → P → U → T → F → Type 0)
+    → F × List T → List (ℕ × ℕ × U) → F × List T → Type 0
+Calls numbers step s entries t = FoldsTo (CloneStep numbers step) s entries t
+
 -- Calls of one kind are calls of another: `state`, `from` and `to` give the other's states, the items that it is shown and those
 -- that it makes.
 module _ {P W X U T M F : Type 0} (numbers : P → ℕ × ℕ) (below : M → P → W → X → M → Type 0) (above : F → P → U → T → F → Type 0)
@@ -19,8 +24,8 @@ module _ {P W X U T M F : Type 0} (numbers : P → ℕ × ℕ) (below : M → P 
   abbrev pub reshown : ℕ × ℕ × W → ℕ × ℕ × U
   reshown e = (e.0, e.1, from e.2)
 
-  pub clones-retold : (es : List (ℕ × ℕ × W)) (m n : M) (xs ys : List X) → FoldsTo {P = M × List X} (CloneStep numbers below) (m, xs) es (n, ys)
-      → FoldsTo {P = F × List T} (CloneStep numbers above) (state m, map to xs) (map reshown es) (state n, map to ys)
+  pub clones-retold : (es : List (ℕ × ℕ × W)) (m n : M) (xs ys : List X) → Calls numbers below (m, xs) es (n, ys)
+      → Calls numbers above (state m, map to xs) (map reshown es) (state n, map to ys)
   clones-retold [] m n xs ys same = ap (λ (s : M × List X). (state s.0, map to s.1)) same
   clones-retold (e ∷ es) m n xs ys calls =
       let s = calls.1 in
@@ -59,8 +64,8 @@ module _ {P W X U T M F : Type 0} (numbers : P → ℕ × ℕ) (below : M → P 
 -- the same items, in other states
 module _ {P U T M F : Type 0} (numbers : P → ℕ × ℕ) (below : M → P → U → T → M → Type 0) (above : F → P → U → T → F → Type 0) (state : M → F)
     (like : (m : M) (p : P) (u : U) (x : T) (n : M) → below m p u x n → above (state m) p u x (state n)) where
-  pub clones-restated : (es : List (ℕ × ℕ × U)) (m n : M) (ys : List T) → FoldsTo {P = M × List T} (CloneStep numbers below) (m, []) es (n, ys)
-      → FoldsTo {P = F × List T} (CloneStep numbers above) (state m, []) es (state n, ys)
+  pub clones-restated : (es : List (ℕ × ℕ × U)) (m n : M) (ys : List T) → Calls numbers below (m, []) es (n, ys)
+      → Calls numbers above (state m, []) es (state n, ys)
   clones-restated es m n ys calls =
       rw (map-id es, map-id ys) at (clones-retold numbers below above state (λ u. u) (λ x. x) like es m n [] ys calls)
 
@@ -82,7 +87,7 @@ module _ {P U T M F : Type 0} (numbers : P → ℕ × ℕ) (below : M → P → 
 -- each call keeps something of what it is shown
 module _ {P F W X K : Type 0} (numbers : P → ℕ × ℕ) (step : F → P → W → X → F → Type 0) (see : W → K) (keep : X → K)
     (keeps : (f : F) (p : P) (u : W) (x : X) (g : F) → step f p u x g → keep x ≡ see u) where
-  pub clones-keep : (es : List (ℕ × ℕ × W)) (f g : F) (xs ys : List X) → FoldsTo {P = F × List X} (CloneStep numbers step) (f, xs) es (g, ys)
+  pub clones-keep : (es : List (ℕ × ℕ × W)) (f g : F) (xs ys : List X) → Calls numbers step (f, xs) es (g, ys)
       → map keep ys ≡ map keep xs ++ map (λ (e : ℕ × ℕ × W). see e.2) es
   clones-keep es f g xs ys calls =
       chained_keeps (CloneStep numbers step) (λ es t. map keep t.1 ≡ map keep xs ++ map (λ (e : ℕ × ℕ × W). see e.2) es)
@@ -94,44 +99,41 @@ with_items-same : {U : Type 0} (i : ℕ) (slots : List (Option (ℕ × U))) → 
 with_items-same i [] = refl
 with_items-same i (s ∷ slots) = grind (arith, with_items-same (i + 1) slots)
 
--- with as many items as entries, each entry has one
-with_items-generations : {T U : Type 0} (i : ℕ) (slots : List (Option (ℕ × U))) (items : List T) → length items ≡ length (entries_from i slots)
-    → (k : ℕ) → era (get_or (with_items slots items) k None) ≡ era (get_or slots k None)
-with_items-generations i (None ∷ slots) items count (suc k) = with_items-generations (i + 1) slots items count k
-with_items-generations i (Some e ∷ slots) (item ∷ items) count (suc k) = with_items-generations (i + 1) slots items (omega arith) k
-with_items-generations i slots items count k = grind arith
+module _ {T U : Type 0} where
+  -- with as many items as entries, each entry has one
+  with_items-era : (i : ℕ) (slots : List (Option (ℕ × U))) (items : List T) (k : ℕ) → length items ≡ length (entries_from i slots)
+      → era (get_or (with_items slots items) k None) ≡ era (get_or slots k None)
+  with_items-era i (None ∷ slots) items (suc k) count = with_items-era (i + 1) slots items k count
+  with_items-era i (Some e ∷ slots) (item ∷ items) (suc k) count = with_items-era (i + 1) slots items k (omega arith)
+  with_items-era i slots items k count = grind arith
 
--- whether a pointer finds an item is told by the entry's generation
-found-by_era : {T U : Type 0} (g : ℕ) (s : Option (ℕ × T)) (t : Option (ℕ × U)) → era s ≡ era t → is_some (item_if g s) ≡ is_some (item_if g t)
-found-by_era g s t same = grind arith
+  -- whether a pointer finds an item is told by the entry's generation
+  found-by_era : (g : ℕ) (s : Option (ℕ × T)) (t : Option (ℕ × U)) → era s ≡ era t → is_some (item_if g s) ≡ is_some (item_if g t)
+  found-by_era g s t same = grind arith
 
 -- its pointers are the source's
-pub clone-pointers : {P U T F : Type 0} (numbers : P → ℕ × ℕ) (step : F → P → U → T → F → Type 0) (f : F) (source : Arena U) (old new : Arena T)
-    → IsClone numbers step f source old new → HasSamePointers new source
-clone-pointers numbers step f source old new c = λ p.
-    let es = entries_rising source 0 in
-    let kept = clones-keep {K = ℕ} numbers step (λ u. 0) (λ x. 0) (λ f p u x g called. refl) es f c.last [] c.items c.calls in
-    let count : length c.items ≡ length es = sym (length-map c.items (λ x. 0)) ∙ (ap length kept ∙ length-map es (λ e. 0)) in
-    let told = with_items-generations 0 source.slots c.items count in
-    let same = resized-same (max (arena_capacity old) (greatest_occupied source.slots) + 1) (with_items source.slots c.items) in
-    let above = greatest_occupied-above source.slots in
-    found-by_era p.1 _ _ (ap era (ap (λ ss. get_or ss p.0 None) c.after.slots
-    ∙ same (λ k past. none-from_generation _ (told k ∙ ap era (above k (omega arith)))) p.0) ∙ told p.0)
+module _ {P U T F : Type 0} (numbers : P → ℕ × ℕ) (step : F → P → U → T → F → Type 0) (f : F) (source : Arena U) (old new : Arena T) where
+  pub clone-pointers : IsClone numbers step f source old new → HasSamePointers new source
+  clone-pointers c = λ p.
+      let es = entries_rising source 0 in
+      let kept = clones-keep {K = ℕ} numbers step (λ u. 0) (λ x. 0) (λ f p u x g called. refl) es f c.last [] c.items c.calls in
+      let count : length c.items ≡ length es = sym (length-map c.items (λ x. 0)) ∙ (ap length kept ∙ length-map es (λ e. 0)) in
+      let told = λ (k : ℕ). with_items-era 0 source.slots c.items k count in
+      let same = resized-same (max (arena_capacity old) (greatest_occupied source.slots) + 1) (with_items source.slots c.items) in
+      let above = greatest_occupied-above source.slots in
+      found-by_era p.1 _ _ (ap era (ap (λ ss. get_or ss p.0 None) c.after.slots
+      ∙ same (λ k past. none-from_generation _ (told k ∙ ap era (above k (omega arith)))) p.0) ∙ told p.0)
 
 -- a clone by a closure that answers the item that it is shown
 module _ {P U F : Type 0} (numbers : P → ℕ × ℕ) (step : F → P → U → U → F → Type 0) (answers : (f : F) (p : P) (u : U) (x : U) (g : F) → step f p u x g → x ≡ u)
     (f : F) (source old new : Arena U) (c : IsClone numbers step f source old new) where
-  -- has the source's slots
-  pub clone-given_back : HoldsSame new (replaced source old source.slots)
-  clone-given_back =
-      let kept = clones-keep numbers step (λ u. u) (λ x. x) answers (entries_rising source 0) f c.last [] c.items c.calls in
-      rw ((rw (map-id c.items) at kept), with_items-same 0 source.slots) at c.after
-
-  -- so each pointer finds the same in both
+  -- each pointer finds the same in both
   pub copy-found : FindSame new source
   copy-found p =
+      let kept = clones-keep numbers step (λ u. u) (λ x. x) answers (entries_rising source 0) f c.last [] c.items c.calls in
+      let after : HoldsSame new (replaced source old source.slots) = rw ((rw (map-id c.items) at kept), with_items-same 0 source.slots) at c.after in
       let same = resized-same (max (arena_capacity old) (greatest_occupied source.slots) + 1) source.slots in
-      ap (item_if p.1) (ap (λ ss. get_or ss p.0 None) clone-given_back.slots ∙ same (λ k past. greatest_occupied-above source.slots k (omega arith)) p.0)
+      ap (item_if p.1) (ap (λ ss. get_or ss p.0 None) after.slots ∙ same (λ k past. greatest_occupied-above source.slots k (omega arith)) p.0)
 
 module _ {X : Type 0} where
   -- where no slot has an entry, none is cloned
@@ -145,15 +147,12 @@ module _ {X : Type 0} where
   with_items-none slots none = let first = none 0 in cc
 
 module _ {P T U G F : Type 0} (numbers : P → ℕ × ℕ) (number : G → ℕ) (step : F → P → U → T → F → Type 0) where
-  abbrev Calls : F × List T → List (ℕ × ℕ × U) → F × List T → Type 0
-  Calls s entries t = FoldsTo (CloneStep numbers step) s entries t
-
   -- the slots are clones of the source's slots with indexes from 1 on and below i
   pub record ClonedBelow (first : F) (source : List (Option (ℕ × U))) (f : F) (slots : List (Slot T G)) (i : ℕ) : Type 0 where
     pub items : List T
     pub before : List (ℕ × ℕ × U)
     pub split : entries_from 0 source ≡ before ++ entries_from i (drop i source)
-    pub calls : Calls (first, []) before (f, items)
+    pub calls : Calls numbers step (first, []) before (f, items)
     pub shape : (rest : List T) → with_items source (items ++ rest) ≡ None ∷ map (entry_in number) slots ++ with_items (drop i source) rest
 
   pub cloned-begins : (f : F) (source : List (Option (ℕ × U))) → take 1 source ≡ None ∷ [] → ClonedBelow f source f [] 1
@@ -192,29 +191,31 @@ module _ {P T U G F : Type 0} {numbers : P → ℕ × ℕ} {number : G → ℕ} 
       shape = λ rest. b.shape rest ∙ rw (opened None none) (behind Vacant (with_items (drop (i + 1) source) rest));
     }
 
-    pub cloned-entry : (e : G) (u : U) (p : P) (item : T) (next : F) → get_or source i None ≡ Some (number e, u) → (numbers p).0 ≡ i → (numbers p).1 ≡ number e
-        → step f p u item next → ClonedBelow numbers number step first source next (slots ++ Occupied item e ∷ []) (i + 1)
-    cloned-entry e u p item next there p_index p_generation called =
-        let made = b.items ++ item ∷ [] in
-        let at = opened (Some (number e, u)) there in
-        let stepped : CloneStep numbers step (f, b.items) (i, number e, u) (next, made) =
-        record { pointer = p; item = item; index = p_index; generation = p_generation; called = called; behind = refl } in
-        record {
-          items = made;
-          before = b.before ++ (i, number e, u) ∷ [];
-          split = b.split ∙ rw at (sym (append_assoc b.before ((i, number e, u) ∷ []) (entries_from (i + 1) (drop (i + 1) source))));
-          calls = FoldsTo-push {P = F × List T} (CloneStep numbers step) (first, []) b.before (f, b.items) (i, number e, u) (next, made) b.calls stepped;
-          shape = λ rest.
-              rw (append_assoc b.items (item ∷ []) rest) (b.shape (item ∷ rest) ∙ rw at (behind (Occupied item e) (with_items (drop (i + 1) source) rest)));
-        }
+    module _ (e : G) (u : U) (p : P) (item : T) (next : F) (there : get_or source i None ≡ Some (number e, u)) (p_index : (numbers p).0 ≡ i)
+        (p_generation : (numbers p).1 ≡ number e) (called : step f p u item next) where
+      pub cloned-entry : ClonedBelow numbers number step first source next (slots ++ Occupied item e ∷ []) (i + 1)
+      cloned-entry =
+          let at = opened (Some (number e, u)) there in
+          record {
+            items = b.items ++ item ∷ [];
+            before = b.before ++ (i, number e, u) ∷ [];
+            split = b.split ∙ rw at (sym (append_assoc b.before ((i, number e, u) ∷ []) (entries_from (i + 1) (drop (i + 1) source))));
+            calls =
+                FoldsTo-push (CloneStep numbers step) (first, []) b.before (f, b.items) (i, number e, u) (next, b.items ++ item ∷ []) b.calls
+                (record { pointer = p; item = item; index = p_index; generation = p_generation; called = called; behind = refl });
+            shape = λ rest.
+                rw (append_assoc b.items (item ∷ []) rest)
+                (b.shape (item ∷ rest) ∙ rw at (behind (Occupied item e) (with_items (drop (i + 1) source) rest)));
+          }
 
 -- a call was refused
 module _ {P T U G F : Type 0} {numbers : P → ℕ × ℕ} {number : G → ℕ} {step : F → P → U → Result T AllocError → F → Type 0} {first : F}
-    {source : List (Option (ℕ × U))} {f : F} {slots : List (Slot T G)} {i : ℕ} (b : ClonedBelow numbers number (Grants numbers step) first source f slots i)
-    (inside : i < length source) where
-  pub cloned-refused : (e : ℕ) (u : U) (p : P) (refusal : AllocError) (next : F) → get_or source i None ≡ Some (e, u) → (numbers p).0 ≡ i
-      → (numbers p).1 ≡ e → step f p u (Err refusal) next → StopsAtRefusal numbers step first (entries_from 0 source)
-  cloned-refused e u p refusal next there p_index p_generation called = record {
+    {source : List (Option (ℕ × U))} {f : F} {slots : List (Slot T G)} {i : ℕ}
+    (b : ClonedBelow numbers number (Grants numbers step) first source f slots i) (inside : i < length source)
+    (e : ℕ) (u : U) (p : P) (refusal : AllocError) (next : F) (there : get_or source i None ≡ Some (e, u)) (p_index : (numbers p).0 ≡ i)
+    (p_generation : (numbers p).1 ≡ e) (called : step f p u (Err refusal) next) where
+  pub cloned-refused : StopsAtRefusal numbers step first (entries_from 0 source)
+  cloned-refused = record {
     before = b.before;
     refused = (i, e, u);
     behind = entries_from (i + 1) (drop (i + 1) source);
@@ -256,39 +257,33 @@ module _ {P T A U Inx Gen F : Type 0} (numbers : P → ℕ × ℕ) (gen : Genera
   is : entries gen.number next ≡ resized n (entries gen.number copies)
   is = entries-padded gen.number n copies next padded within
 
-  -- these slots are those that the contract names
-  abbrev IsMade : List (Option (ℕ × T)) → Type 0
-  IsMade made = None ∷ entries gen.number next ≡ resized (n + 1) made
-
-  made-cloned : (p : ClonesSlots numbers gen.number (Grants numbers step) f source.slots copies) → IsMade (with_items source.slots p.items)
-  made-cloned p =
-      let more = p.vacant_behind in
-      ap (λ xs. None ∷ xs) (is ∙ sym (resized-again n more (entries gen.number copies)))
-      ∙ (sym (resized-cons n (entries gen.number copies ++ replicate more None)) ∙ ap (resized (n + 1)) (sym p.after))
-
-  made-none : copies ≡ [] → IsMade []
-  made-none none =
-      ap (λ xs. None ∷ xs) (is ∙ ap (λ cs. resized n (entries gen.number cs)) none) ∙ (sym (resized-cons n []) ∙ resized-again (n + 1) 1 [])
-
-  replaced-view : (made : List (Option (ℕ × T))) → IsMade made → after ≡ replaced source a made
+  -- where the slots are those that the contract names
+  replaced-view : (made : List (Option (ℕ × T))) → None ∷ entries gen.number next ≡ resized (n + 1) made → after ≡ replaced source a made
   replaced-view made shape =
       let same : n ≡ max (arena_capacity a) (greatest_occupied source.slots) = omega (arith, capacity-is gen inx s a seen, room) in
       relisted gen inx next listed generation s.maximum all
-      ∙ (ap (λ (ss : List (Option (ℕ × T))). record { slots = ss; vacant = vacant_from 1 (drop 1 ss); generation = gen.number generation; maximum = s.maximum }) shape
+      ∙ (ap (λ ss. record { slots = ss; vacant = vacant_from 1 (drop 1 ss); generation = gen.number generation; maximum = s.maximum }) shape
       ∙ rw (same, named, ← seen) refl)
 
   pub clone-whole : (r : Result (Unit {0}) AllocError) → Cloned r → OnOk r (IsClone numbers (Grants numbers step) f source a after)
   clone-whole (Err e) p = tt
   clone-whole (Ok x) p =
-      let view = replaced-view (with_items source.slots p.items) (made-cloned p) in
-      let same : HoldsSame after (replaced source a (with_items source.slots p.items)) =
-      rw (← view) (record { slots = refl; generation = refl; maximum = refl }) in
-      record { items = p.items; last = p.last; calls = p.calls; after = same }
+      let shape = ap (λ xs. None ∷ xs) (is ∙ sym (resized-again n p.vacant_behind (entries gen.number copies)))
+      ∙ (sym (resized-cons n (entries gen.number copies ++ replicate p.vacant_behind None)) ∙ ap (resized (n + 1)) (sym p.after)) in
+      let view = replaced-view (with_items source.slots p.items) shape in
+      record {
+        items = p.items;
+        last = p.last;
+        calls = p.calls;
+        after = record { slots = ap (λ v. v.slots) view; generation = ap (λ v. v.generation) view; maximum = ap (λ v. v.maximum) view };
+      }
 
-  pub clone-refused : (r : Result (Unit {0}) AllocError) → OnErr r (StopsAtRefusal numbers step f (entries_rising source 0)) → OnErr r (copies ≡ [])
-      → OnErr r (IsRefusedClone numbers step f source a after)
+  pub clone-refused : (r : Result (Unit {0}) AllocError) → OnErr r (StopsAtRefusal numbers step f (entries_rising source 0))
+      → OnErr r (copies ≡ []) → OnErr r (IsRefusedClone numbers step f source a after)
   clone-refused (Ok x) stops none = tt
-  clone-refused (Err e) stops none = record { stops = stops; after = replaced-view [] (made-none none) }
+  clone-refused (Err e) stops none =
+      let shape = ap (λ xs. None ∷ xs) (is ∙ ap (λ cs. resized n (entries gen.number cs)) none) ∙ (sym (resized-cons n []) ∙ resized-again (n + 1) 1 []) in
+      record { stops = stops; after = replaced-view [] shape }
 
   copies-lawful : (r : Result (Unit {0}) AllocError) → Cloned r → OnErr r (copies ≡ []) → AreLawful gen.greatest source.slots
       → AreLawful gen.greatest (entries gen.number copies)

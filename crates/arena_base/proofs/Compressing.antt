@@ -6,30 +6,24 @@ use Rattle.arena_base.proofs.Words.{length_push, append-nil, map-id, none-some, 
 use Rattle.arena_base.proofs.Words.{HoldsSame, CompressionStep, IsCompression, compressed, items_rising, IsLawfulGeneration, entry_in}
 use Rattle.arena_base.proofs.Words.{slot_entry, entries_from, entries_rising, Inside, Generations, Indexes, CompressesSlots}
 use Rattle.arena_base.proofs.Slots.{entries}
-use Rattle.arena_base.proofs.Steps.{AreLawful, lawful-some, stored, current, resized-cons, entries-padded}
+use Rattle.arena_base.proofs.Steps.{AreLawful, lawful-some, filled, stored, current, resized-cons, entries-padded}
 
+-- the calls of the closure at these entries, from one state to another
+abbrev pub Calls : {P T F : Type 0} (numbers : P → ℕ × ℕ) (step : F → P → T → P → T → F → Type 0) (g : ℕ)
+    → F × List T → List (ℕ × ℕ × T) → F × List T → Type 0
+Calls numbers step g s entries t = FoldsTo (CompressionStep numbers step g) s entries t
+
+-- the items that came to the first slots, the slots that were vacated, and those that are still to come
 module _ {P T G F : Type 0} (numbers : P → ℕ × ℕ) (number : G → ℕ) (step : F → P → T → P → T → F → Type 0) (generation : G) where
-  abbrev filled : List T → List (Slot T G)
-  filled items = map (λ item. Occupied item generation) items
-
-  -- the items that came to the first slots, the slots that were vacated, and those that are still to come
-  abbrev parts : List T → ℕ → List (Slot T G) → List (Slot T G)
-  parts items gap rest = filled items ++ (replicate gap Vacant ++ rest)
-
-  abbrev Calls : F × List T → List (ℕ × ℕ × T) → F × List T → Type 0
-  Calls s entries t = FoldsTo (CompressionStep numbers step (number generation)) s entries t
-
-  abbrev entries_of : ℕ → List (Slot T G) → List (ℕ × ℕ × T)
-  entries_of i slots = entries_from i (map (entry_in number) slots)
-
   pub record CompressedBelow (first : F) (old : List (Slot T G)) (f : F) (slots : List (Slot T G)) (from to : ℕ) : Type 0 where
     pub items : List T
     pub gap : ℕ
     pub answers : length items ≡ to
     pub visited : to + gap ≡ from
     pub within : length slots ≡ length old
-    pub shape : slots ≡ parts items gap (drop from old)
-    pub calls : (s : F × List T) → Calls (f, items) (entries_of (from + 1) (drop from old)) s → Calls (first, []) (entries_of 1 old) s
+    pub shape : slots ≡ map (λ item. Occupied item generation) items ++ (replicate gap Vacant ++ drop from old)
+    pub calls : (s : F × List T) → Calls numbers step (number generation) (f, items) (entries_from (from + 1) (entries number (drop from old))) s
+        → Calls numbers step (number generation) (first, []) (entries_from 1 (entries number old)) s
 
   pub compressed-begins : (f : F) (old : List (Slot T G)) → CompressedBelow f old f old 0 0
   compressed-begins f old = record { items = []; gap = 0; answers = refl; visited = refl; within = refl; shape = refl; calls = λ s p. p }
@@ -99,31 +93,38 @@ module _ {P T G F : Type 0} {numbers : P → ℕ × ℕ} {number : G → ℕ} {s
         calls = λ s p. b.calls s (rw (drop_more old from Vacant inside, at_from now read ∙ entry-none now none) p);
       }
 
-      pub compressed-filled : (e : G) (was new : T) (p q : P) (next : F) → slot_entry now ≡ Some (e, was) → record { index : (numbers p).0 ≡ from + 1; generation : (numbers p).1 ≡ number e }
-          → record { index : (numbers q).0 ≡ to + 1; generation : (numbers q).1 ≡ number generation } → step f p was q new next
-          → CompressedBelow numbers number step generation first old next (set (set slots from Vacant) to (Occupied new generation)) (from + 1) (to + 1)
-      compressed-filled e was new p q next is old_pointer new_pointer called =
-          let more = replicate b.gap Vacant ++ drop (from + 1) old in
-          let stepped : CompressionStep numbers step (number generation) (f, b.items) (from + 1, number e, was) (next, b.items ++ new ∷ []) = record {
-            from = p;
-            to = q;
-            item = new;
-            from_index = old_pointer.index;
-            from_generation = old_pointer.generation;
-            to_index = rw b.answers new_pointer.index;
-            to_generation = new_pointer.generation;
-            called = called;
-            behind = refl;
-          } in
-          record {
-            items = b.items ++ new ∷ [];
-            gap = b.gap;
-            answers = length_push b.items new ∙ ap (λ n. n + 1) b.answers;
-            visited = omega (arith, b.visited);
-            within = rw (length-set, length-set) b.within;
-            shape = rw (emptied, set_at done Vacant more (Occupied new generation) to length-done, map_push) (sym (append_assoc done (Occupied new generation ∷ []) more));
-            calls = λ s c. b.calls s (rw (drop_more old from Vacant inside, at_from now read ∙ entry-some now e was is) ((next, b.items ++ new ∷ []), stepped, c));
-          }
+      module _ (e : G) (was new : T) (p q : P) (next : F) (is : slot_entry now ≡ Some (e, was))
+          (old_pointer : record { index : (numbers p).0 ≡ from + 1; generation : (numbers p).1 ≡ number e })
+          (new_pointer : record { index : (numbers q).0 ≡ to + 1; generation : (numbers q).1 ≡ number generation }) (called : step f p was q new next) where
+        abbrev after : List (Slot T G)
+        after = set (set slots from Vacant) to (Occupied new generation)
+
+        pub compressed-filled : CompressedBelow numbers number step generation first old next after (from + 1) (to + 1)
+        compressed-filled = record {
+          items = b.items ++ new ∷ [];
+          gap = b.gap;
+          answers = length_push b.items new ∙ ap (λ n. n + 1) b.answers;
+          visited = omega (arith, b.visited);
+          within = rw (length-set, length-set) b.within;
+          shape =
+              rw (emptied, set_at done Vacant (replicate b.gap Vacant ++ drop (from + 1) old) (Occupied new generation) to length-done, map_push)
+              (sym (append_assoc done (Occupied new generation ∷ []) _));
+          calls = λ s c. b.calls s (rw (drop_more old from Vacant inside, at_from now read ∙ entry-some now e was is) (
+            (next, b.items ++ new ∷ []),
+            record {
+              from = p;
+              to = q;
+              item = new;
+              from_index = old_pointer.index;
+              from_generation = old_pointer.generation;
+              to_index = rw b.answers new_pointer.index;
+              to_generation = new_pointer.generation;
+              called = called;
+              behind = refl;
+            },
+            c,
+          ));
+        }
 
 -- Calls of one kind are calls of another: `state` and `item` give the other's states and items.
 module _ {P X T M F : Type 0} (numbers : P → ℕ × ℕ) (below : M → P → X → P → X → M → Type 0) (above : F → P → T → P → T → F → Type 0)
@@ -133,8 +134,8 @@ module _ {P X T M F : Type 0} (numbers : P → ℕ × ℕ) (below : M → P → 
   abbrev pub retold : ℕ × ℕ × X → ℕ × ℕ × T
   retold e = (e.0, e.1, item e.2)
 
-  pub calls-retold : (es : List (ℕ × ℕ × X)) (m n : M) (xs ys : List X) → FoldsTo {P = M × List X} (CompressionStep numbers below g) (m, xs) es (n, ys)
-      → FoldsTo {P = F × List T} (CompressionStep numbers above g) (state m, map item xs) (map retold es) (state n, map item ys)
+  pub calls-retold : (es : List (ℕ × ℕ × X)) (m n : M) (xs ys : List X) → Calls numbers below g (m, xs) es (n, ys)
+      → Calls numbers above g (state m, map item xs) (map retold es) (state n, map item ys)
   calls-retold [] m n xs ys same = ap (λ (s : M × List X). (state s.0, map item s.1)) same
   calls-retold (e ∷ es) m n xs ys calls =
       let s = calls.1 in (
@@ -154,22 +155,22 @@ module _ {P X T M F : Type 0} (numbers : P → ℕ × ℕ) (below : M → P → 
       )
 
 -- the same items, in other states
-pub compression-retold : {P T M F : Type 0} (numbers : P → ℕ × ℕ) (below : M → P → T → P → T → M → Type 0) (above : F → P → T → P → T → F → Type 0)
-    (g : ℕ) (state : M → F) → ((m : M) (p : P) (x : T) (q : P) (y : T) (n : M) → below m p x q y n → above (state m) p x q y (state n))
-    → (m : M) (old new : Arena T) → IsCompression numbers below g m old new → IsCompression numbers above g (state m) old new
-compression-retold {P} {T} numbers below above g state like m old new c =
-    let calls = calls-retold numbers below above g state (λ x. x) like (entries_rising old 0) m c.last [] c.items c.calls in
-    record { items = c.items; last = state c.last; calls = rw (map-id (entries_rising old 0), map-id c.items) at calls; after = c.after }
+module _ {P T M F : Type 0} (numbers : P → ℕ × ℕ) (below : M → P → T → P → T → M → Type 0) (above : F → P → T → P → T → F → Type 0)
+    (g : ℕ) (state : M → F) (like : (m : M) (p : P) (x : T) (q : P) (y : T) (n : M) → below m p x q y n → above (state m) p x q y (state n)) where
+  pub compression-retold : (m : M) (old new : Arena T) → IsCompression numbers below g m old new → IsCompression numbers above g (state m) old new
+  compression-retold m old new c =
+      let calls = calls-retold numbers below above g state (λ x. x) like (entries_rising old 0) m c.last [] c.items c.calls in
+      record { items = c.items; last = state c.last; calls = rw (map-id (entries_rising old 0), map-id c.items) at calls; after = c.after }
 
 -- where each answer is the item that was shown, the items are those that were there
-pub compressed-given_back : {P F T : Type 0} (numbers : P → ℕ × ℕ) (step : F → P → T → P → T → F → Type 0) (g : ℕ)
-    → ((f : F) (p : P) (item : T) (q : P) (new : T) (f' : F) → step f p item q new f' → new ≡ item)
-    → (f : F) (old new : Arena T) → IsCompression numbers step g f old new → HoldsSame new (compressed old g (items_rising old))
-compressed-given_back {P} {F} {T} numbers step g answers f old new h =
-    let same = chained_keeps (CompressionStep numbers step g) (λ es t. t.1 ≡ map (λ (e : ℕ × ℕ × T). e.2) es)
-    (λ es s e t is called. called.behind ∙ rw (is, map_push, answers s.0 called.from e.2 called.to called.item t.0 called.called) refl)
-    (entries_rising old 0) (f, []) (h.last, h.items) refl h.calls in
-    rw same at h.after
+module _ {P F T : Type 0} (numbers : P → ℕ × ℕ) (step : F → P → T → P → T → F → Type 0) (g : ℕ)
+    (answers : (f : F) (p : P) (item : T) (q : P) (new : T) (f' : F) → step f p item q new f' → new ≡ item) where
+  pub compressed-given_back : (f : F) (old new : Arena T) → IsCompression numbers step g f old new → HoldsSame new (compressed old g (items_rising old))
+  compressed-given_back f old new h =
+      let same = chained_keeps (CompressionStep numbers step g) (λ es t. t.1 ≡ map (λ (e : ℕ × ℕ × T). e.2) es)
+      (λ es s e t is called. called.behind ∙ rw (is, map_push, answers s.0 called.from e.2 called.to called.item t.0 called.called) refl)
+      (entries_rising old 0) (f, []) (h.last, h.items) refl h.calls in
+      rw same at h.after
 
 -- entries of a lawful generation are lawful
 pub compressed-lawful : {T : Type 0} (greatest : Option ℕ) (g : ℕ) (items : List T) → IsLawfulGeneration greatest g
@@ -179,14 +180,14 @@ compressed-lawful greatest g (x ∷ items) now zero e is = lawful-some greatest 
 compressed-lawful greatest g (x ∷ items) now (suc k) e is = compressed-lawful greatest g items now k e is
 
 -- the compressed slots by index
-pub entries-compressed : {T Gen : Type 0} (number : Gen → ℕ) (n : ℕ) (next : List (Slot T Gen)) (generation : Gen) (items : List T)
-    → next ≡ map (λ item. Occupied item generation) items ++ replicate (n - length items) Vacant → length items ≤ n
-    → entries number next ≡ resized n (map (λ item. Some (number generation, item)) items)
-entries-compressed number n next generation items is fits =
-    let filled = map (λ item. Occupied item generation) items in
-    let long : length filled ≡ length items = length-map items (λ item. Occupied item generation) in
-    entries-padded number n filled next (rw (← long) at is) (omega arith)
-    ∙ ap (resized n) (map-map (entry_in number) (λ item. Occupied item generation) items)
+module _ {T Gen : Type 0} (number : Gen → ℕ) (n : ℕ) (next : List (Slot T Gen)) (generation : Gen) (items : List T)
+    (is : next ≡ map (λ item. Occupied item generation) items ++ replicate (n - length items) Vacant) (fits : length items ≤ n) where
+  pub entries-compressed : entries number next ≡ resized n (map (λ item. Some (number generation, item)) items)
+  entries-compressed =
+      let filled = map (λ item. Occupied item generation) items in
+      let long : length filled ≡ length items = length-map items (λ item. Occupied item generation) in
+      entries-padded number n filled next (rw (← long) at is) (omega arith)
+      ∙ ap (resized n) (map-map (entry_in number) (λ item. Occupied item generation) items)
 
 module _ {P T A Inx Gen F : Type 0} (numbers : P → ℕ × ℕ) (gen : Generations Gen) (inx : Indexes Inx) (step : F → P → T → P → T → F → Type 0)
     (s : Inside P T A Inx Gen) (next : List (Slot T Gen)) (listed : List Inx) (f : F) (a : Arena T) (g : ℕ)

@@ -75,10 +75,7 @@ pub unwrap_or-index_number : (n : ℕ) → unwrap_or (index_number n) 0 ≡ n
 unwrap_or-index_number n = grind arith
 
 module _ {T G : Type 0} (number : G → ℕ) where
-  -- a slot with an entry, seen by index or in memory
-  pub is_some-slot_entry : (s : Slot T G) → is_some (entry_in number s) ≡ true → is_some (slot_entry s) ≡ true
-  is_some-slot_entry s h = grind arith
-
+  -- the entry of a slot, seen by index or in memory
   pub entry_in-slot_entry : (s : Slot T G) (e : G × T) → slot_entry s ≡ Some e → entry_in number s ≡ Some (number e.0, e.1)
   entry_in-slot_entry s e is = grind arith
 
@@ -90,16 +87,12 @@ module _ {T G : Type 0} (number : G → ℕ) where
   pub entry_in-with_slot_item : (s : Slot T G) (item : T) → entry_in number (with_slot_item s item) ≡ option_map (λ e. (e.0, item)) (entry_in number s)
   entry_in-with_slot_item s item = grind arith
 
-  -- the item of a slot, seen by index or in memory
-  pub item-slot_entry : (s : Slot T G) → option_map (λ (e : ℕ × T). e.1) (entry_in number s) ≡ option_map (λ (e : G × T). e.1) (slot_entry s)
-  item-slot_entry s = grind arith
-
   -- an entry that is read in two parts
-  pub entry_in-parts : (s : Slot T G) (era : G) (item : T) (e : Option (ℕ × T)) → e ≡ entry_in number s
-      → option_map (λ (x : G × T). x.0) (slot_entry s) ≡ Some era → option_map (λ (x : ℕ × T). x.1) e ≡ Some item → e ≡ Some (number era, item)
-  entry_in-parts s era item e is first second = grind arith
+  module _ (s t : Slot T G) (same : entry_in number s ≡ entry_in number t) where
+    pub entry_in-parts : (era : G) (item : T) → option_map (λ e. e.0) (slot_entry s) ≡ Some era → option_map (λ e. e.1) (slot_entry t) ≡ Some item
+        → entry_in number s ≡ Some (number era, item)
+    entry_in-parts era item first second = grind arith
 
-module _ {T G : Type 0} (number : G → ℕ) where
   -- the slots by index, from index 1 on
   abbrev pub entries : List (Slot T G) → List (Option (ℕ × T))
   entries slots = map (entry_in number) slots

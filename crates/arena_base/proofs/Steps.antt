@@ -10,7 +10,7 @@ use Rattle.arena_base.proofs.Words.{get_or_from_slice_get, vec_len, map-replicat
 use Rattle.arena_base.proofs.Words.{vacant_from, times, IsSound, IsInsertion, limit_of, resized, new_arena, with_capacity, emptied}
 use Rattle.arena_base.proofs.Words.{greatest_occupied, IsFresh, arena_capacity, with_slot, freed, IsVacant, swapped, grown_capacity}
 use Rattle.arena_base.proofs.Words.{IsLawfulGeneration, first_generation, entry_in, vacant_slots, arena_of, AllVacantFrom, slot_entry}
-use Rattle.arena_base.proofs.Slots.{entries, count_by-cons, greatest_occupied-above, is_some-slot_entry, entry_in-with_slot_generation}
+use Rattle.arena_base.proofs.Slots.{entries, count_by-cons, greatest_occupied-above, entry_in-with_slot_generation}
 use Rattle.arena_base.proofs.Slots.{get_or-entries, entry-none, vacant_slots-from, times-cons, times-append, length-vacant_from}
 use Rattle.arena_base.proofs.Slots.{length-vacant_from-padded, vacant_from-vacant, times-written, vacant_from-some, vacant_from-least}
 use Rattle.arena_base.proofs.Words.{with_slot_generation, with_room, Inside, Generations, Indexes}
@@ -137,6 +137,11 @@ module _ {P T A Inx Gen : Type 0} (gen : Generations Gen) (inx : Indexes Inx) (s
     pub capacity-is : arena_capacity a ≡ length s.slots.items
     capacity-is = rw (← view) (omega (arith, length-map s.slots.items (entry_in gen.number)))
 
+    -- the place of an entry, found in what is inside
+    pub found-viewed : (k i : ℕ) → record { number : i ≡ k + 1; within : k < arena_capacity current }
+        → record { number : i ≡ k + 1; within : k < arena_capacity a }
+    found-viewed k i at = record { number = at.number; within = rw (← view) at.within }
+
     module _ (k i : ℕ) (found : record { number : i ≡ k + 1; within : k < arena_capacity a }) where
       inside : k < length s.slots.items
       inside = omega (arith, found.within, capacity-is)
@@ -152,7 +157,7 @@ module _ {P T A Inx Gen : Type 0} (gen : Generations Gen) (inx : Indexes Inx) (s
           (get_or-map (entry_in gen.number) s.slots.items k x None inside ∙ ap (entry_in gen.number) (sym is))
 
       pub read-occupied : (x : Slot T Gen) → x ≡ get_or s.slots.items k x → is_some (slot a i) ≡ true → is_some (slot_entry x) ≡ true
-      read-occupied x is there = is_some-slot_entry gen.number x (ap is_some (sym (read x is)) ∙ there)
+      read-occupied x is there = grind (arith, read x is)
 
       was-there : is_some (slot a i) ≡ true → is_some (get_or (entries gen.number s.slots.items) k None) ≡ true
       was-there there = rw (← view, found.number, add-one) at there

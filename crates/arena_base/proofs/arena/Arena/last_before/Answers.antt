@@ -1,5 +1,5 @@
 use Rattle.arena_base.proofs.Words.{◌≡◌, ℕ, ◌+◌, None, ◌∷◌, ◌-◌, arith, sym, ap, ◌∙◌, option_map, generation_at, falling_from}
-use Rattle.arena_base.proofs.Walks.{falling-none, falling-some, item-pointed}
+use Rattle.arena_base.proofs.Walks.{falling-none, falling-some}
 use Rattle.arena_base.proofs.arena.Arena.last_before.Goals as goal
 
 pub returns-in-Some-clause-pointers : goal.returns-in-Some-clause-pointers

@@ -1,6 +1,6 @@
 -- `get_inx_mut` by hand: it asks whether there is an entry, by `occupied`, and wraps what `pair_mut` gives. What comes back of the write is
 -- what `pair_mut` says of it, and where nothing is found the container is as it was.
-use Rattle.std.proofs.Common.{◌≡◌, ℕ, List, [], ◌∷◌, refl, sym, ap, lit<, MutBor, Bool, ◌∙◌, Option, Some, None, is_some, false, true}
+use Rattle.std.proofs.Common.{◌≡◌, ℕ, List, [], ◌∷◌, refl, sym, ap, lit<, arith, MutBor, Bool, ◌∙◌, Option, Some, None, is_some, false, true}
 use Rattle.std.proofs.Common.{subst}
 use Rattle.std.proofs.raw_atomic.Walks.{proved, leaves}
 use Rattle.std.proofs.{VecSteps.Element.Some-of, VecSteps.Element.none_of, VecSteps.Shapes.after}
@@ -13,7 +13,7 @@ use denote.{Exit.no, Floats.is_true, Follow.follows, Follow.follows_by, Laws.sho
 use denote.{Param.Laws.copied_laws, Param.Laws.copied_copy, Ref.MutRef, Ref.mut_vals, Ref.mut_Tells, Signature.mut_ref_to, Signature.plain}
 use denote.{Signature.type_at, Struct.Declared.shape, Struct.Struct.within, Struct.Tuple.tuple_type, Triple.Call.calls_at}
 use denote.{Triple.Clauses.lasts, Triple.Clauses.Lasts, Triple.Entry.alive, Triple.Spec.triple_of, Triple.Table.framed}
-use lib.Dec.{T}
+use lib.Ieee.Bits.{is_false}
 use mathlib.{Core.Bool.not, Core.List.◌++◌}
 use mir.Val.{vptr, vbool, Val, vstruct, of_list}
 use mir.{Facts.yes_and, MapTy.inst_fn, Syntax.named, Syntax.Fn, Syntax.a_type, Syntax.dcons, Syntax.dnil}
@@ -27,15 +27,9 @@ use Rattle.arena_base.proofs.items_mut.ItemsMut.get_inx_mut.Code as code
 use Rattle.arena_base.specs.contracts.items_mut.occupied as test
 use Rattle.arena_base.specs.contracts.items_mut.ItemsMut.pair_mut as pair
 
--- a test that doesn't hold
-is_false : (b : Bool) → T (not b) → b ≡ false
-is_false true t = absurd t
-is_false false t = refl
-
 -- an option that isn't there is `None`
 is_none : {X : Type 0} (o : Option X) → is_some o ≡ false → None ≡ o
-is_none None e = refl
-is_none {X = X} (Some y) e = absurd (subst (λ (b : Bool). T b) e tt)
+is_none o e = grind arith
 
 pub get_inx_mut_spec : {M : Type 1} → statement M
 unfolding follows_by
