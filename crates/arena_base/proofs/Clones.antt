@@ -101,11 +101,11 @@ with_items-same i (s ∷ slots) = grind (arith, with_items-same (i + 1) slots)
 
 module _ {T U : Type 0} where
   -- with as many items as entries, each entry has one
-  with_items-era : (i : ℕ) (slots : List (Option (ℕ × U))) (items : List T) (k : ℕ) → length items ≡ length (entries_from i slots)
+  with_items-era : (slots : List (Option (ℕ × U))) (items : List T) (i k : ℕ) → length items ≡ length (entries_from i slots)
       → era (get_or (with_items slots items) k None) ≡ era (get_or slots k None)
-  with_items-era i (None ∷ slots) items (suc k) count = with_items-era (i + 1) slots items k count
-  with_items-era i (Some e ∷ slots) (item ∷ items) (suc k) count = with_items-era (i + 1) slots items k (omega arith)
-  with_items-era i slots items k count = grind arith
+  with_items-era (None ∷ slots) items i (suc k) count = with_items-era slots items (i + 1) k count
+  with_items-era (Some e ∷ slots) (item ∷ items) i (suc k) count = with_items-era slots items (i + 1) k (omega arith)
+  with_items-era slots items i k count = grind arith
 
   -- whether a pointer finds an item is told by the entry's generation
   found-by_era : (g : ℕ) (s : Option (ℕ × T)) (t : Option (ℕ × U)) → era s ≡ era t → is_some (item_if g s) ≡ is_some (item_if g t)
@@ -118,7 +118,7 @@ module _ {P U T F : Type 0} (numbers : P → ℕ × ℕ) (step : F → P → U �
       let es = entries_rising source 0 in
       let kept = clones-keep {K = ℕ} numbers step (λ u. 0) (λ x. 0) (λ f p u x g called. refl) es f c.last [] c.items c.calls in
       let count : length c.items ≡ length es = sym (length-map c.items (λ x. 0)) ∙ (ap length kept ∙ length-map es (λ e. 0)) in
-      let told = λ (k : ℕ). with_items-era 0 source.slots c.items k count in
+      let told = λ (k : ℕ). with_items-era source.slots c.items 0 k count in
       let same = resized-same (max (arena_capacity old) (greatest_occupied source.slots) + 1) (with_items source.slots c.items) in
       let above = greatest_occupied-above source.slots in
       found-by_era p.1 _ _ (ap era (ap (λ ss. get_or ss p.0 None) c.after.slots
@@ -251,7 +251,7 @@ module _ {P T A U Inx Gen F : Type 0} (numbers : P → ℕ × ℕ) (gen : Genera
   abbrev after : Arena T
   after = arena_of gen.number next (map inx.number listed) generation s.maximum
 
-  abbrev Cloned : Result (Unit {0}) AllocError → Type 0
+  abbrev Cloned : Result Unit AllocError → Type 0
   Cloned r = OnOk r (ClonesSlots numbers gen.number (Grants numbers step) f source.slots copies)
 
   is : entries gen.number next ≡ resized n (entries gen.number copies)
@@ -265,9 +265,8 @@ module _ {P T A U Inx Gen F : Type 0} (numbers : P → ℕ × ℕ) (gen : Genera
       ∙ (ap (λ ss. record { slots = ss; vacant = vacant_from 1 (drop 1 ss); generation = gen.number generation; maximum = s.maximum }) shape
       ∙ rw (same, named, ← seen) refl)
 
-  pub clone-whole : (r : Result (Unit {0}) AllocError) → Cloned r → OnOk r (IsClone numbers (Grants numbers step) f source a after)
-  clone-whole (Err e) p = tt
-  clone-whole (Ok x) p =
+  pub clone-whole : ClonesSlots numbers gen.number (Grants numbers step) f source.slots copies → IsClone numbers (Grants numbers step) f source a after
+  clone-whole p =
       let shape = ap (λ xs. None ∷ xs) (is ∙ sym (resized-again n p.vacant_behind (entries gen.number copies)))
       ∙ (sym (resized-cons n (entries gen.number copies ++ replicate p.vacant_behind None)) ∙ ap (resized (n + 1)) (sym p.after)) in
       let view = replaced-view (with_items source.slots p.items) shape in
@@ -278,21 +277,21 @@ module _ {P T A U Inx Gen F : Type 0} (numbers : P → ℕ × ℕ) (gen : Genera
         after = record { slots = ap (λ v. v.slots) view; generation = ap (λ v. v.generation) view; maximum = ap (λ v. v.maximum) view };
       }
 
-  pub clone-refused : (r : Result (Unit {0}) AllocError) → OnErr r (StopsAtRefusal numbers step f (entries_rising source 0))
+  pub clone-refused : (r : Result Unit AllocError) → OnErr r (StopsAtRefusal numbers step f (entries_rising source 0))
       → OnErr r (copies ≡ []) → OnErr r (IsRefusedClone numbers step f source a after)
   clone-refused (Ok x) stops none = tt
   clone-refused (Err e) stops none =
       let shape = ap (λ xs. None ∷ xs) (is ∙ ap (λ cs. resized n (entries gen.number cs)) none) ∙ (sym (resized-cons n []) ∙ resized-again (n + 1) 1 []) in
       record { stops = stops; after = replaced-view [] shape }
 
-  copies-lawful : (r : Result (Unit {0}) AllocError) → Cloned r → OnErr r (copies ≡ []) → AreLawful gen.greatest source.slots
+  copies-lawful : (r : Result Unit AllocError) → Cloned r → OnErr r (copies ≡ []) → AreLawful gen.greatest source.slots
       → AreLawful gen.greatest (entries gen.number copies)
   copies-lawful (Ok x) p none lawful k e there =
       with_items-lawful gen.greatest source.slots p.items lawful (suc k) e
       (ap (λ ss. get_or ss (suc k) None) p.after ∙ (get_or-padded (entries gen.number copies) p.vacant_behind k None ∙ there))
   copies-lawful (Err x) p none lawful k e there = absurd (none-some e (rw none at there))
 
-  pub clone-sound : Sound gen inx s (current gen inx s) → IsLawful inx.most gen.greatest source → (r : Result (Unit {0}) AllocError) → Cloned r
+  pub clone-sound : Sound gen inx s (current gen inx s) → IsLawful inx.most gen.greatest source → (r : Result Unit AllocError) → Cloned r
       → OnErr r (copies ≡ []) → Sound gen inx s after
   clone-sound sound lawful r p none =
       relisted-sound gen inx next listed generation s.maximum all n (entries gen.number copies) is

@@ -356,9 +356,13 @@ set-twice : {X : Type 0} (xs : List X) (p q : ℕ) (a b c d : X) → set (set (s
 set-twice {X = X} xs p q a b c d = grind (arith, set-set {A = X}, set_comm {A = X})
 
 -- a slot of which the generation is known
-occupied-by : {T G : Type 0} (s : Slot T G) (era : G) → option_map (λ (e : G × T). e.0) (slot_entry s) ≡ Some era → (item : T) × (s ≡ Occupied item era)
-occupied-by (Occupied item old) era is = (item, cc)
-occupied-by Vacant era is = cc
+module _ {T G : Type 0} (xs : List (Slot T G)) (k : ℕ) (within : k < length xs) where
+  occupied-by : (s : Slot T G) (era : G) → s ≡ get_or xs k s → option_map (λ e. e.0) (slot_entry s) ≡ Some era
+      → (item : T) × ((d : Slot T G) → get_or xs k d ≡ Occupied item era)
+  occupied-by (Occupied item old) era is at =
+      let same : Occupied item old ≡ Occupied item era = cc in
+      (item, λ d. get_or_default xs k d (Occupied item old) within ∙ (sym is ∙ same))
+  occupied-by Vacant era is at = cc
 
 -- Slots xs, of which p and q have entries, become ys by an exchange; then s1 is written to p, and s2 to q.
 pub record IsExchange {T G : Type 0} (xs ys : List (Slot T G)) (p q : ℕ) (sp sq y1 y2 s1 s2 : Slot T G) (gp gq : G) : Type 0 where
@@ -379,34 +383,20 @@ pub record IsExchange {T G : Type 0} (xs ys : List (Slot T G)) (p q : ℕ) (sp s
 
 module _ {T G : Type 0} {xs ys : List (Slot T G)} {p q : ℕ} {sp sq y1 y2 s1 s2 : Slot T G} {gp gq : G}
     (h : IsExchange xs ys p q sp sq y1 y2 s1 s2 gp gq) where
-  one : (item : T) × (sp ≡ Occupied item gp)
-  one = occupied-by sp gp h.p_era
+  one : (item : T) × ((d : Slot T G) → get_or xs p d ≡ Occupied item gp)
+  one = occupied-by xs p h.p_within sp gp h.p_is h.p_era
 
-  other : (item : T) × (sq ≡ Occupied item gq)
-  other = occupied-by sq gq h.q_era
-
-  at_p : (d : Slot T G) → get_or xs p d ≡ Occupied one.0 gp
-  at_p d = get_or_default xs p d sp h.p_within ∙ (sym h.p_is ∙ one.1)
-
-  at_q : (d : Slot T G) → get_or xs q d ≡ Occupied other.0 gq
-  at_q d = get_or_default xs q d sq h.q_within ∙ (sym h.q_is ∙ other.1)
-
-  first-is : s1 ≡ Occupied other.0 gp
-  first-is = h.first ∙ ap (λ s. with_slot_generation s gp) (h.first_old ∙ (h.p_after y1 ∙ at_q y1))
-
-  second-is : s2 ≡ Occupied one.0 gq
-  second-is =
-      h.second ∙ elim (cases_eq q p) [
-        | inl same ↦
-            let old : y2 ≡ s1 = h.second_old ∙ rw same (get_or-set_same ys p s1 y2 (omega (arith, h.p_within, h.same_len))) in
-            let item : Occupied other.0 gq ≡ Occupied one.0 gp = sym (at_q sp) ∙ (ap (λ k. get_or xs k sp) same ∙ at_p sp) in
-            ap (λ s. with_slot_generation s gq) (old ∙ first-is) ∙ ap (λ s. with_slot_generation s gq) item
-        | inr different ↦ ap (λ s. with_slot_generation s gq) (h.second_old ∙ (get_or-set_other ys p q s1 y2 different ∙ (h.q_after y2 ∙ at_p y2)))
-      ]
+  other : (item : T) × ((d : Slot T G) → get_or xs q d ≡ Occupied item gq)
+  other = occupied-by xs q h.q_within sq gq h.q_is h.q_era
 
   -- each place has the other's item
   exchanged : set (set ys p s1) q s2 ≡ set (set xs p (Occupied other.0 gp)) q (Occupied one.0 gq)
-  exchanged = cc (h.after sp, set-twice xs p q (get_or xs q sp) (get_or xs p sp) s1 s2, first-is, second-is)
+  exchanged =
+      let first : s1 ≡ Occupied other.0 gp = h.first ∙ ap (λ s. with_slot_generation s gp) (h.first_old ∙ (h.p_after y1 ∙ other.1 y1)) in
+      let same = get_or-set_same ys p s1 y2 in
+      let second : s2 ≡ Occupied one.0 gq =
+      grind (arith, h.second, h.second_old, same, get_or-set_other ys p q s1 y2, h.q_after y2, one.1 y2, other.1 y2, h.p_within, h.same_len) in
+      cc (h.after sp, set-twice xs p q (get_or xs q sp) (get_or xs p sp) s1 s2, first, second)
 
 module _ {P T A Inx Gen : Type 0} (gen : Generations Gen) (inx : Indexes Inx) (s : Inside P T A Inx Gen) {ys : List (Slot T Gen)} {p q : ℕ}
     {sp sq y1 y2 s1 s2 : Slot T Gen} {gp gq : Gen} (h : IsExchange s.slots.items ys p q sp sq y1 y2 s1 s2 gp gq) where
@@ -417,30 +407,26 @@ module _ {P T A Inx Gen : Type 0} (gen : Generations Gen) (inx : Indexes Inx) (s
   now = stored gen inx s (set (set ys p s1) q s2) s.vacant.items
 
   first-entry : get_or slots p None ≡ Some (gen.number gp, (one h).0)
-  first-entry = get_or-map (entry_in gen.number) s.slots.items p Vacant None h.p_within ∙ ap (entry_in gen.number) (at_p h Vacant)
+  first-entry = get_or-entries gen.number s.slots.items p ∙ ap (entry_in gen.number) ((one h).1 Vacant)
 
   second-entry : get_or slots q None ≡ Some (gen.number gq, (other h).0)
-  second-entry = get_or-map (entry_in gen.number) s.slots.items q Vacant None h.q_within ∙ ap (entry_in gen.number) (at_q h Vacant)
+  second-entry = get_or-entries gen.number s.slots.items q ∙ ap (entry_in gen.number) ((other h).1 Vacant)
 
   pub swapped-view : (a : Arena T) → current gen inx s ≡ a → (i j : ℕ) → i ≡ p + 1 → j ≡ q + 1 → now ≡ swapped a i j
   swapped-view a view i j first second =
       rw (exchanged h, ← view, first, second, add-one p, add-one q, first-entry, second-entry, map-set, map-set) refl
-
-  second-there : (e : ℕ × T) → is_some (get_or (set slots p (Some e)) q None) ≡ true
-  second-there e =
-      let long = length-map s.slots.items (entry_in gen.number) in
-      grind (arith, get_or-set_same slots p (Some e) None, get_or-set_other slots p q (Some e) None, second-entry, long, h.p_within)
 
   pub swapped-sound : Sound gen inx s (current gen inx s) → Sound gen inx s now
   swapped-sound sound =
       let e : ℕ × T = (gen.number gp, (other h).0) in
       let d : ℕ × T = (gen.number gq, (one h).0) in
       let count = length-map s.slots.items (entry_in gen.number) in
-      let stack = reverse (map inx.number s.vacant.items) in
+      let there : is_some (get_or (set slots p (Some e)) q None) ≡ true =
+      grind (arith, get_or-set_same slots p (Some e) None, get_or-set_other slots p q (Some e) None, second-entry, count, h.p_within) in
       let half =
-      sound-set sound p (Some e) stack (omega (arith, h.p_within))
+      sound-set sound p (Some e) (reverse (map inx.number s.vacant.items)) (omega (arith, h.p_within))
       (lawful-some gen.greatest e (sound.entries_lawful (suc p) (gen.number gp, (one h).0) first-entry)) (rw first-entry refl) in
       rw (exchanged h, map-set, map-set)
-      (sound-set half q (Some d) stack (omega (arith, h.q_within, length-set slots p (Some e)))
+      (sound-set half q (Some d) _ (omega (arith, h.q_within, length-set slots p (Some e)))
       (lawful-some gen.greatest d (sound.entries_lawful (suc q) (gen.number gq, (other h).0) second-entry))
-      (rw (vacant_from-some (q + 1) (get_or (set slots p (Some e)) q None) (second-there e)) refl))
+      (rw (vacant_from-some (q + 1) (get_or (set slots p (Some e)) q None) there) refl))

@@ -14,34 +14,37 @@ generation-kept_second-requires g c =
     _ c.index-2.ensures c.requires.second
 
 -- both places are those of slots
-within : (g : Over) (c : After-position_of_entry-second g) → record {
-  i_in_bounds : c.position_of_entry-first.result < vec_len c.self.inside.slots;
-  j_in_bounds : c.position_of_entry-second.result < vec_len c.self.inside.slots;
-}
-within g c = record {
-  i_in_bounds = slot-within g.P.Gen.PtrGen g.P.Inx.PtrInx c.self.inside _ c.self.view_is _ _ c.position_of_entry-first.ensures;
-  j_in_bounds = slot-within g.P.Gen.PtrGen g.P.Inx.PtrInx c.self.inside _ c.self.view_is _ _ c.position_of_entry-second.ensures;
-}
+within : (g : Over) (c : After-position_of_entry-second g) → (c.position_of_entry-first.result < vec_len c.self.inside.slots)
+    × (c.position_of_entry-second.result < vec_len c.self.inside.slots)
+within g c = (
+  slot-within g.P.Gen.PtrGen g.P.Inx.PtrInx c.self.inside _ c.self.view_is _ _ c.position_of_entry-first.ensures,
+  slot-within g.P.Gen.PtrGen g.P.Inx.PtrInx c.self.inside _ c.self.view_is _ _ c.position_of_entry-second.ensures,
+)
 
 pub index-requires : goal.index-requires
-index-requires g c = (within g c).i_in_bounds
+index-requires g c = (within g c).0
 
 pub index-requires-2 : goal.index-requires-2
-index-requires-2 g c = (within g (goal.at.index-requires-2 g c).After-position_of_entry-second).j_in_bounds
+index-requires-2 g c = (within g (goal.at.index-requires-2 g c).After-position_of_entry-second).1
 
 pub swap-requires : goal.swap-requires
-swap-requires g c = within g (goal.at.swap-requires g c).After-position_of_entry-second
+swap-requires g c =
+    let at = within g (goal.at.swap-requires g c).After-position_of_entry-second in
+    record { i_in_bounds = at.0; j_in_bounds = at.1 }
 
 pub index_mut-slot-requires : goal.index_mut-slot-requires
-index_mut-slot-requires g c = rw c.swap.ensures.len (within g (goal.at.index_mut-slot-requires g c).After-position_of_entry-second).i_in_bounds
+index_mut-slot-requires g c = rw c.swap.ensures.len (within g (goal.at.index_mut-slot-requires g c).After-position_of_entry-second).0
 
 pub index_mut-slot-requires-2 : goal.index_mut-slot-requires-2
-index_mut-slot-requires-2 g c = rw c.swap.ensures.len (within g (goal.at.index_mut-slot-requires-2 g c).After-position_of_entry-second).j_in_bounds
+index_mut-slot-requires-2 g c = rw c.swap.ensures.len (within g (goal.at.index_mut-slot-requires-2 g c).After-position_of_entry-second).1
 
-exchange : (g : Over) (c : After-renew-2 g)
-    → IsExchange c.self.inside.slots.items c.swap.new.self.items c.position_of_entry-first.result c.position_of_entry-second.result
+abbrev Exchange : (g : Over) → After-renew-2 g → Type 0
+Exchange g c =
+    IsExchange c.self.inside.slots.items c.swap.new.self.items c.position_of_entry-first.result c.position_of_entry-second.result
     c.index.result.now c.index-2.result.now c.index_mut-slot.result.now c.index_mut-slot-2.result.now c.renew.new.self c.renew-2.new.self
     c.generation-kept_first.result c.generation-kept_second.result
+
+exchange : (g : Over) (c : After-renew-2 g) → Exchange g c
 exchange g c =
     let xs = c.self.inside.slots in
     let capacity = capacity-is g.P.Gen.PtrGen g.P.Inx.PtrInx c.self.inside _ c.self.view_is in

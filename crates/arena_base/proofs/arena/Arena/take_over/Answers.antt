@@ -1,4 +1,4 @@
-use Rattle.arena_base.proofs.Words.{◌≤◌, length, arith, sym, ap, ◌∙◌, same_Some, option_map, Vacant}
+use Rattle.arena_base.proofs.Words.{◌≤◌, length, arith, sym, ap, ◌∙◌, same_Some, on_ok_weaker, option_map, Vacant}
 use Rattle.arena_base.proofs.Steps.{capacity-is, length-padded, relisted-fresh}
 use Rattle.arena_base.proofs.Clones.{clone-whole, clone-refused, clone-sound}
 use Rattle.arena_base.proofs.arena.Arena.take_over.Goals as goal
@@ -9,10 +9,11 @@ invariant_of-self g c =
     let granted = c.clone_slots-granted in
     let copies = granted.new.slots in
     let next = c.add_vacant.new.slots in
+    let capacity = capacity-is g.P.Gen.PtrGen g.P.Inx.PtrInx s _ c.self.view_is in
+    let within : length copies.items ≤ length s.slots.items = omega (arith, copies.ok.0, capacity) in
     let all = rw c.as_slice.ensures.value at c.list_vacant.ensures.items in
     let named = same_Some _ _ (ap (option_map g.P.Gen.PtrGen.number) (sym c.unwrap-self-inside.ensures) ∙ c.singular_generation.ensures) in
-    let padded = rw (copies.ok.0, c.len-capacity.ensures, s.slots.ok.0) at c.add_vacant.ensures.items in
-    let within : length copies.items ≤ length s.slots.items = omega (arith, copies.ok.0, capacity-is g.P.Gen.PtrGen g.P.Inx.PtrInx s _ c.self.view_is) in (
+    let padded = rw (copies.ok.0, c.len-capacity.ensures, s.slots.ok.0) at c.add_vacant.ensures.items in (
       clone-sound g.P.Ptr.numbers g.P.Gen.PtrGen g.P.Inx.PtrInx g.M.CloneEntry.step s copies.items next.items _ _ all c.args.self.now c.self.view_is
           _ named (omega arith) within padded c.args.map
           c.self.invariant.0 c.capacity.ensures.lawful granted.result granted.ensures.ok granted.ensures.none_left,
@@ -31,8 +32,8 @@ returns g c =
     let within : length copies.items ≤ length s.slots.items = omega (arith, copies.ok.0, capacity-is g.P.Gen.PtrGen g.P.Inx.PtrInx s _ c.self.view_is) in
     record {
       ok =
-          clone-whole g.P.Ptr.numbers g.P.Gen.PtrGen g.P.Inx.PtrInx g.M.CloneEntry.step s copies.items next _ _ all c.args.self.now c.self.view_is
-          _ named (omega arith) within padded c.args.map granted.result granted.ensures.ok;
+          on_ok_weaker granted.result (clone-whole g.P.Ptr.numbers g.P.Gen.PtrGen g.P.Inx.PtrInx g.M.CloneEntry.step s copies.items next _ _ all
+          c.args.self.now c.self.view_is _ named (omega arith) within padded c.args.map) granted.ensures.ok;
       fresh = relisted-fresh g.P.Gen.PtrGen g.P.Inx.PtrInx next _ c.unwrap-self-inside.result s.maximum all;
       refused =
           clone-refused g.P.Ptr.numbers g.P.Gen.PtrGen g.P.Inx.PtrInx g.M.CloneEntry.step s copies.items next _ _ all c.args.self.now c.self.view_is
