@@ -1,13 +1,13 @@
 -- What follows of a clone: its calls, told of another closure; its pointers; a clone with the same items. Then how far a clone has come.
 use Rattle.arena_base.proofs.Words.{◌≡◌, ℕ, zero, suc, ◌+◌, ◌<◌, ◌≤◌, Option, Some, None, List, [], ◌∷◌, ◌++◌, length, get_or, replicate}
-use Rattle.arena_base.proofs.Words.{is_some, take, ◌-◌, refl, arith, drop, map, sym, ap, ◌∙◌, reverse, max, Result, Ok, Err, FoldsTo-push}
-use Rattle.arena_base.proofs.Words.{map-append, length-map, drop_more, append_assoc, map_push, append-nil, get_or-drop, map-id, none-some}
-use Rattle.arena_base.proofs.Words.{OnOk, OnErr, chained_keeps, FoldsTo, AllocError, Slot, Occupied, Vacant, Arena, vacant_from, resized}
-use Rattle.arena_base.proofs.Words.{greatest_occupied, HoldsSame, arena_capacity, IsLawful, FindSame, item_if, CloneStep, IsClone}
-use Rattle.arena_base.proofs.Words.{IsRefusedClone, StopsAtRefusal, Grants, with_items, replaced, HasSamePointers, entry_in, vacant_slots}
-use Rattle.arena_base.proofs.Steps.{AreLawful, lawful-some, current, Sound, capacity-is, get_or-padded, resized-cons, resized-same}
-use Rattle.arena_base.proofs.Words.{arena_of, entries_from, entries_rising, Inside, Generations, Indexes, ClonesSlots}
+use Rattle.arena_base.proofs.Words.{take, ◌-◌, refl, arith, drop, map, sym, ap, ◌∙◌, reverse, max, Result, Ok, Err, map-append, length-map}
+use Rattle.arena_base.proofs.Words.{drop_more, append_assoc, map_push, append-nil, get_or-drop, map-id, FoldsTo-push, none-some, AllocError}
+use Rattle.arena_base.proofs.Words.{OnOk, OnErr, FoldsTo, Arena, vacant_from, resized, greatest_occupied, HoldsSame, arena_capacity}
+use Rattle.arena_base.proofs.Words.{IsLawful, FindSame, item_if, CloneStep, IsClone, IsRefusedClone, StopsAtRefusal, Grants, with_items}
+use Rattle.arena_base.proofs.Words.{replaced, HasSamePointers, Slot, entry_in, vacant_slots, arena_of, entries_from, entries_rising}
+use Rattle.arena_base.proofs.Words.{chained_keeps, ClonesSlots, Inside, Generations, Indexes, Occupied, Vacant}
 use Rattle.arena_base.proofs.Slots.{era, entries, greatest_occupied-above, none-from_generation}
+use Rattle.arena_base.proofs.Steps.{AreLawful, lawful-some, current, Sound, capacity-is, get_or-padded, resized-cons, resized-same}
 use Rattle.arena_base.proofs.Steps.{resized-again, entries-padded, relisted, relisted-sound}
 
 -- the calls of the closure at these entries, from one state to another
@@ -107,10 +107,6 @@ module _ {T U : Type 0} where
   with_items-era (Some e ∷ slots) (item ∷ items) i (suc k) count = with_items-era slots items (i + 1) k (omega arith)
   with_items-era slots items i k count = grind arith
 
-  -- whether a pointer finds an item is told by the entry's generation
-  found-by_era : (g : ℕ) (s : Option (ℕ × T)) (t : Option (ℕ × U)) → era s ≡ era t → is_some (item_if g s) ≡ is_some (item_if g t)
-  found-by_era g s t same = grind arith
-
 -- its pointers are the source's
 module _ {P U T F : Type 0} (numbers : P → ℕ × ℕ) (step : F → P → U → T → F → Type 0) (f : F) (source : Arena U) (old new : Arena T) where
   pub clone-pointers : IsClone numbers step f source old new → HasSamePointers new source
@@ -121,8 +117,10 @@ module _ {P U T F : Type 0} (numbers : P → ℕ × ℕ) (step : F → P → U �
       let told = λ (k : ℕ). with_items-era source.slots c.items 0 k count in
       let same = resized-same (max (arena_capacity old) (greatest_occupied source.slots) + 1) (with_items source.slots c.items) in
       let above = greatest_occupied-above source.slots in
-      found-by_era p.1 _ _ (ap era (ap (λ ss. get_or ss p.0 None) c.after.slots
-      ∙ same (λ k past. none-from_generation _ (told k ∙ ap era (above k (omega arith)))) p.0) ∙ told p.0)
+      let kept : era (get_or new.slots p.0 None) ≡ era (get_or source.slots p.0 None) =
+      ap era (ap (λ ss. get_or ss p.0 None) c.after.slots
+      ∙ same (λ k past. none-from_generation _ (told k ∙ ap era (above k (omega arith)))) p.0) ∙ told p.0 in
+      grind (arith, kept)
 
 -- a clone by a closure that answers the item that it is shown
 module _ {P U F : Type 0} (numbers : P → ℕ × ℕ) (step : F → P → U → U → F → Type 0) (answers : (f : F) (p : P) (u : U) (x : U) (g : F) → step f p u x g → x ≡ u)

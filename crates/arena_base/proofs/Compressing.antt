@@ -6,15 +6,19 @@ use Rattle.arena_base.proofs.Words.{length_push, append-nil, map-id, none-some, 
 use Rattle.arena_base.proofs.Words.{HoldsSame, CompressionStep, IsCompression, compressed, items_rising, IsLawfulGeneration, entry_in}
 use Rattle.arena_base.proofs.Words.{slot_entry, entries_from, entries_rising, Inside, Generations, Indexes, CompressesSlots}
 use Rattle.arena_base.proofs.Slots.{entries}
-use Rattle.arena_base.proofs.Steps.{AreLawful, lawful-some, filled, stored, current, resized-cons, entries-padded}
+use Rattle.arena_base.proofs.Steps.{AreLawful, lawful-some, stored, current, resized-cons, entries-padded}
 
 -- the calls of the closure at these entries, from one state to another
 abbrev pub Calls : {P T F : Type 0} (numbers : P → ℕ × ℕ) (step : F → P → T → P → T → F → Type 0) (g : ℕ)
     → F × List T → List (ℕ × ℕ × T) → F × List T → Type 0
 Calls numbers step g s entries t = FoldsTo (CompressionStep numbers step g) s entries t
 
--- the items that came to the first slots, the slots that were vacated, and those that are still to come
 module _ {P T G F : Type 0} (numbers : P → ℕ × ℕ) (number : G → ℕ) (step : F → P → T → P → T → F → Type 0) (generation : G) where
+  -- the calls at the entries of these slots, of which the first has index i
+  abbrev CallsAt : F × List T → ℕ → List (Slot T G) → F × List T → Type 0
+  CallsAt s i slots t = Calls numbers step (number generation) s (entries_from i (entries number slots)) t
+
+  -- the items that came to the first slots, the slots that were vacated, and those that are still to come
   pub record CompressedBelow (first : F) (old : List (Slot T G)) (f : F) (slots : List (Slot T G)) (from to : ℕ) : Type 0 where
     pub items : List T
     pub gap : ℕ
@@ -22,8 +26,7 @@ module _ {P T G F : Type 0} (numbers : P → ℕ × ℕ) (number : G → ℕ) (s
     pub visited : to + gap ≡ from
     pub within : length slots ≡ length old
     pub shape : slots ≡ map (λ item. Occupied item generation) items ++ (replicate gap Vacant ++ drop from old)
-    pub calls : (s : F × List T) → Calls numbers step (number generation) (f, items) (entries_from (from + 1) (entries number (drop from old))) s
-        → Calls numbers step (number generation) (first, []) (entries_from 1 (entries number old)) s
+    pub calls : (s : F × List T) → CallsAt (f, items) (from + 1) (drop from old) s → CallsAt (first, []) 1 old s
 
   pub compressed-begins : (f : F) (old : List (Slot T G)) → CompressedBelow f old f old 0 0
   compressed-begins f old = record { items = []; gap = 0; answers = refl; visited = refl; within = refl; shape = refl; calls = λ s p. p }
@@ -31,12 +34,6 @@ module _ {P T G F : Type 0} (numbers : P → ℕ × ℕ) (number : G → ℕ) (s
 vacated : {X : Type 0} (gap : ℕ) (x : X) (rest : List X) → replicate gap x ++ (x ∷ rest) ≡ x ∷ (replicate gap x ++ rest)
 vacated zero x rest = refl
 vacated (suc n) x rest = ap (λ xs. x ∷ xs) (vacated n x rest)
-
-entry-none : {T G : Type 0} (s : Slot T G) → slot_entry s ≡ None → s ≡ Vacant
-entry-none s is = grind arith
-
-entry-some : {T G : Type 0} (s : Slot T G) (e : G) (item : T) → slot_entry s ≡ Some (e, item) → s ≡ Occupied item e
-entry-some s e item is = grind arith
 
 module _ {P T G F : Type 0} {numbers : P → ℕ × ℕ} {number : G → ℕ} {step : F → P → T → P → T → F → Type 0} {generation : G} {first : F}
     {old : List (Slot T G)} {f : F} {slots : List (Slot T G)} {from to : ℕ} (b : CompressedBelow numbers number step generation first old f slots from to) where
@@ -83,15 +80,17 @@ module _ {P T G F : Type 0} {numbers : P → ℕ × ℕ} {number : G → ℕ} {s
 
     module _ (now : Slot T G) (read : now ≡ get_or slots from now) where
       pub compressed-vacant : slot_entry now ≡ None → CompressedBelow numbers number step generation first old f (set slots from Vacant) (from + 1) to
-      compressed-vacant none = record {
-        items = b.items;
-        gap = suc b.gap;
-        answers = b.answers;
-        visited = omega (arith, b.visited);
-        within = length-set slots from Vacant ∙ b.within;
-        shape = emptied;
-        calls = λ s p. b.calls s (rw (drop_more old from Vacant inside, at_from now read ∙ entry-none now none) p);
-      }
+      compressed-vacant none =
+          let vacant : now ≡ Vacant = grind arith in
+          record {
+            items = b.items;
+            gap = suc b.gap;
+            answers = b.answers;
+            visited = omega (arith, b.visited);
+            within = length-set slots from Vacant ∙ b.within;
+            shape = emptied;
+            calls = λ s p. b.calls s (rw (drop_more old from Vacant inside, at_from now read ∙ vacant) p);
+          }
 
       module _ (e : G) (was new : T) (p q : P) (next : F) (is : slot_entry now ≡ Some (e, was))
           (old_pointer : record { index : (numbers p).0 ≡ from + 1; generation : (numbers p).1 ≡ number e })
@@ -100,31 +99,33 @@ module _ {P T G F : Type 0} {numbers : P → ℕ × ℕ} {number : G → ℕ} {s
         after = set (set slots from Vacant) to (Occupied new generation)
 
         pub compressed-filled : CompressedBelow numbers number step generation first old next after (from + 1) (to + 1)
-        compressed-filled = record {
-          items = b.items ++ new ∷ [];
-          gap = b.gap;
-          answers = length_push b.items new ∙ ap (λ n. n + 1) b.answers;
-          visited = omega (arith, b.visited);
-          within = rw (length-set, length-set) b.within;
-          shape =
-              rw (emptied, set_at done Vacant (replicate b.gap Vacant ++ drop (from + 1) old) (Occupied new generation) to length-done, map_push)
-              (sym (append_assoc done (Occupied new generation ∷ []) _));
-          calls = λ s c. b.calls s (rw (drop_more old from Vacant inside, at_from now read ∙ entry-some now e was is) (
-            (next, b.items ++ new ∷ []),
+        compressed-filled =
+            let occupied : now ≡ Occupied was e = grind arith in
             record {
-              from = p;
-              to = q;
-              item = new;
-              from_index = old_pointer.index;
-              from_generation = old_pointer.generation;
-              to_index = rw b.answers new_pointer.index;
-              to_generation = new_pointer.generation;
-              called = called;
-              behind = refl;
-            },
-            c,
-          ));
-        }
+              items = b.items ++ new ∷ [];
+              gap = b.gap;
+              answers = length_push b.items new ∙ ap (λ n. n + 1) b.answers;
+              visited = omega (arith, b.visited);
+              within = rw (length-set, length-set) b.within;
+              shape =
+                  rw (emptied, set_at done Vacant (replicate b.gap Vacant ++ drop (from + 1) old) (Occupied new generation) to length-done, map_push)
+                  (sym (append_assoc done (Occupied new generation ∷ []) _));
+              calls = λ s c. b.calls s (rw (drop_more old from Vacant inside, at_from now read ∙ occupied) (
+                (next, b.items ++ new ∷ []),
+                record {
+                  from = p;
+                  to = q;
+                  item = new;
+                  from_index = old_pointer.index;
+                  from_generation = old_pointer.generation;
+                  to_index = rw b.answers new_pointer.index;
+                  to_generation = new_pointer.generation;
+                  called = called;
+                  behind = refl;
+                },
+                c,
+              ));
+            }
 
 -- Calls of one kind are calls of another: `state` and `item` give the other's states and items.
 module _ {P X T M F : Type 0} (numbers : P → ℕ × ℕ) (below : M → P → X → P → X → M → Type 0) (above : F → P → T → P → T → F → Type 0)
@@ -172,7 +173,6 @@ module _ {P F T : Type 0} (numbers : P → ℕ × ℕ) (step : F → P → T →
       (entries_rising old 0) (f, []) (h.last, h.items) refl h.calls in
       rw same at h.after
 
--- entries of a lawful generation are lawful
 pub compressed-lawful : {T : Type 0} (greatest : Option ℕ) (g : ℕ) (items : List T) → IsLawfulGeneration greatest g
     → AreLawful greatest (map (λ item. Some (g, item)) items)
 compressed-lawful greatest g [] now k e is = absurd (none-some e is)

@@ -1,10 +1,9 @@
 -- Slots by index and in memory: entries that are read or written, the greatest index with an entry, and the vacant indexes.
-use Rattle.arena_base.proofs.Words.{inl, inr, ◌≡◌, ℕ, zero, suc, ◌+◌, ◌<◌, ◌≤◌, true, Option, Some, None, List, [], ◌∷◌, cond, length}
-use Rattle.arena_base.proofs.Words.{get_or, is_some, count_by, ◌-◌, refl, arith, sym, ap, ◌∙◌, false, unwrap_or, ne_eqb}
-use Rattle.arena_base.proofs.Words.{sum_by-cons, none-some, list_any, option_map, Slot, Occupied, Vacant, Arena}
-use Rattle.arena_base.proofs.Words.{greatest_occupied, IsLastEntry, index_number, entry_in, slot_entry, with_slot_item}
-use Rattle.arena_base.proofs.Words.{with_slot_generation, ◌++◌, take, ◌≢◌, drop, map, take_at, take-take, get_or-take, get_or_push}
-use Rattle.arena_base.proofs.Words.{vacant_from, vacant_slots, ◌==◌, eqb, set, replicate, cases_eq, sum_by-append, times}
+use Rattle.arena_base.proofs.Words.{◌==◌, inl, inr, ◌≡◌, ℕ, zero, suc, ◌+◌, ◌<◌, ◌≤◌, true, Option, Some, None, List, [], ◌∷◌, ◌++◌, cond}
+use Rattle.arena_base.proofs.Words.{eqb, length, get_or, set, replicate, is_some, count_by, take, ◌-◌, refl, arith, ◌≢◌, drop, map, sym, ap}
+use Rattle.arena_base.proofs.Words.{◌∙◌, false, unwrap_or, take_at, take-take, get_or-take, get_or_push, cases_eq, ne_eqb, sum_by-cons}
+use Rattle.arena_base.proofs.Words.{sum_by-append, none-some, list_any, option_map, Arena, vacant_from, times, greatest_occupied}
+use Rattle.arena_base.proofs.Words.{IsLastEntry, Slot, entry_in, vacant_slots, slot_entry, with_slot_item, index_number, Occupied, Vacant}
 
 module _ {X : Type 0} where
   -- an entry is counted, a slot without one is not
@@ -50,39 +49,29 @@ module _ {X : Type 0} where
   greatest_occupied-below (s ∷ (s' ∷ slots)) = grind (arith, greatest_occupied-below (s' ∷ slots))
   greatest_occupied-below slots = omega arith
 
-  -- where no entry is counted, there is none
-  none_counted : (slots : List (Option X)) (i : ℕ) → count_by is_some slots ≡ 0 → get_or slots i None ≡ None
-  none_counted (Some e ∷ slots) i h = absurd (omega (arith, count_by-cons (Some e) slots))
-  none_counted (None ∷ slots) (suc i) h = none_counted slots i (omega (arith, count_by-cons None slots))
-  none_counted slots i h = refl
+  none_counted : (slots : List (Option X)) → count_by is_some slots ≡ 0 → list_any is_some slots ≡ false
+  none_counted [] h = refl
+  none_counted (s ∷ slots) h = grind (arith, none_counted slots, count_by-cons s slots)
 
-  -- then the greatest index is 0
+  -- where no entry is counted, the greatest index is 0
   pub greatest_occupied-none : (slots : List (Option X)) → count_by is_some slots ≡ 0 → greatest_occupied slots ≡ 0
   greatest_occupied-none [] h = refl
-  greatest_occupied-none (s ∷ slots) h = rw (any-none slots (λ k. none_counted (s ∷ slots) (suc k) h))
+  greatest_occupied-none (s ∷ slots) h = grind (arith, none_counted slots, count_by-cons s slots)
 
   -- where there is no entry, none is counted
   pub counted_none : (slots : List (Option X)) → ((k : ℕ) → get_or slots k None ≡ None) → count_by is_some slots ≡ 0
   counted_none (None ∷ slots) free = omega (arith, count_by-cons None slots, counted_none slots (λ k. free (suc k)))
   counted_none slots free = let first = free 0 in cc
 
--- the last entry's index is the greatest
 pub greatest_occupied-last : {T : Type 0} {a : Arena T} {i g : ℕ} → IsLastEntry a i g → greatest_occupied a.slots ≡ i
 greatest_occupied-last {a = a} {i = i} last = greatest_occupied-is a.slots i (grind arith) last.greatest
 
--- the number of an index, or 0
 pub unwrap_or-index_number : (n : ℕ) → unwrap_or (index_number n) 0 ≡ n
 unwrap_or-index_number n = grind arith
 
 module _ {T G : Type 0} (number : G → ℕ) where
-  -- the entry of a slot, seen by index or in memory
   pub entry_in-slot_entry : (s : Slot T G) (e : G × T) → slot_entry s ≡ Some e → entry_in number s ≡ Some (number e.0, e.1)
   entry_in-slot_entry s e is = grind arith
-
-  -- the entry of a slot after a write
-  pub entry_in-with_slot_generation : (s : Slot T G) (era : G)
-      → entry_in number (with_slot_generation s era) ≡ option_map (λ e. (number era, e.1)) (entry_in number s)
-  entry_in-with_slot_generation s era = grind arith
 
   pub entry_in-with_slot_item : (s : Slot T G) (item : T) → entry_in number (with_slot_item s item) ≡ option_map (λ e. (e.0, item)) (entry_in number s)
   entry_in-with_slot_item s item = grind arith
@@ -102,7 +91,6 @@ module _ {T G : Type 0} (number : G → ℕ) where
   get_or-entries (s ∷ slots) (suc k) = get_or-entries slots k
   get_or-entries slots k = refl
 
-  -- a slot without an entry
   pub entry-none : (s : Slot T G) → entry_in number s ≡ None → s ≡ Vacant
   entry-none s is = grind arith
 
@@ -111,31 +99,29 @@ module _ {T G : Type 0} (number : G → ℕ) where
   vacant_slots-from from [] = refl
   vacant_slots-from from (s ∷ slots) = grind (arith, vacant_slots-from (from + 1) slots)
 
--- the vacant slots stand behind those that have entries
-pub vacant_slots-full : {T G : Type 0} (from full : ℕ) (slots : List (Slot T G)) → ((k : ℕ) → k < full → get_or slots k Vacant ≢ Vacant)
-    → vacant_slots from slots ≡ vacant_slots (from + full) (drop full slots)
-vacant_slots-full from (suc full) (Occupied item era ∷ slots) occupied =
-    grind (arith, vacant_slots-full (from + 1) full slots (λ k below. occupied (suc k) (omega arith)))
-vacant_slots-full from full slots occupied = grind (arith, occupied 0)
+module _ {T G : Type 0} where
+  -- the vacant slots stand behind those that have entries
+  pub vacant_slots-full : (from full : ℕ) (slots : List (Slot T G)) → ((k : ℕ) → k < full → get_or slots k Vacant ≢ Vacant)
+      → vacant_slots from slots ≡ vacant_slots (from + full) (drop full slots)
+  vacant_slots-full from (suc full) (Occupied item era ∷ slots) occupied =
+      grind (arith, vacant_slots-full (from + 1) full slots (λ k below. occupied (suc k) (omega arith)))
+  vacant_slots-full from full slots occupied = grind (arith, occupied 0)
 
--- there are no more vacant slots than slots
-pub length-vacant_slots : {T G : Type 0} (from : ℕ) (slots : List (Slot T G)) → length (vacant_slots from slots) ≤ length slots
-length-vacant_slots from [] = omega arith
-length-vacant_slots from (s ∷ slots) = grind (arith, length-vacant_slots (from + 1) slots)
+  pub length-vacant_slots : (from : ℕ) (slots : List (Slot T G)) → length (vacant_slots from slots) ≤ length slots
+  length-vacant_slots from [] = omega arith
+  length-vacant_slots from (s ∷ slots) = grind (arith, length-vacant_slots (from + 1) slots)
 
--- a front of a list without its last item
-pub take-without_last : {X : Type 0} (xs ys : List X) (x : X) (m n : ℕ) → ys ++ x ∷ [] ≡ take n xs → n ≡ m + 1 → length ys ≡ m → ys ≡ take m xs
-take-without_last xs ys x m n e more l = sym (take_at ys (x ∷ []) m l) ∙ (ap (take m) e ∙ take-take m n xs (omega arith))
+-- a front of a list without its last item, and that item
+module _ {X : Type 0} (xs ys : List X) (x d : X) (m n : ℕ) (front : ys ++ x ∷ [] ≡ take n xs) (more : n ≡ m + 1) (long : length ys ≡ m) where
+  pub front-parts : (ys ≡ take m xs) × (get_or xs m d ≡ x)
+  front-parts = (
+    sym (take_at ys (x ∷ []) m long) ∙ (ap (take m) front ∙ take-take m n xs (omega arith)),
+    sym (get_or-take n xs m d (omega arith)) ∙ (ap (λ zs. get_or zs m d) (sym front) ∙ get_or_push ys x d m long),
+  )
 
--- the last item of a front of a list
-pub get_or-last : {X : Type 0} (xs ys : List X) (x d : X) (m n : ℕ) → ys ++ x ∷ [] ≡ take n xs → n ≡ m + 1 → length ys ≡ m → get_or xs m d ≡ x
-get_or-last xs ys x d m n e more l = sym (get_or-take n xs m d (omega arith)) ∙ (ap (λ zs. get_or zs m d) (sym e) ∙ get_or_push ys x d m l)
-
--- a number in front is counted if it is the one
 pub times-cons : (m : ℕ) (ns : List ℕ) (n : ℕ) → times n (m ∷ ns) ≡ cond (eqb m n) 1 0 + times n ns
 times-cons m ns n = sum_by-cons (λ x. cond (x == n) 1 0) m ns
 
--- in two lists it is counted as in both
 pub times-append : (n : ℕ) (ms ns : List ℕ) → times n (ms ++ ns) ≡ times n ms + times n ns
 times-append n ms ns = sum_by-append (λ x. cond (x == n) 1 0) ms ns
 
@@ -155,9 +141,6 @@ module _ {X : Type 0} where
   abbrev pub VacantAt : ℕ → List (Option X) → ℕ → Type 0
   VacantAt from slots i = (k : ℕ) × (i ≡ from + k) × (k < length slots) × (get_or slots k None ≡ None)
 
-  later : (from : ℕ) (s : Option X) (slots : List (Option X)) (i : ℕ) → VacantAt (from + 1) slots i → VacantAt from (s ∷ slots) i
-  later from s slots i p = (suc p.0, omega (arith, p.1), omega (arith, p.2), p.3)
-
   -- an index that is listed as vacant is one
   pub vacant_from-vacant : (from : ℕ) (slots : List (Option X)) (i : ℕ) → 0 < times i (vacant_from from slots) → VacantAt from slots i
   vacant_from-vacant from [] i h = absurd (omega arith)
@@ -166,50 +149,54 @@ module _ {X : Type 0} where
         | inl e ↦ (0, omega arith, omega arith, refl)
         | inr n ↦
             let first = rw (ne_eqb from i n) at (times-cons from (vacant_from (from + 1) slots) i) in
-            later from None slots i (vacant_from-vacant (from + 1) slots i (omega arith))
+            let p = vacant_from-vacant (from + 1) slots i (omega arith) in
+            (suc p.0, omega (arith, p.1), omega (arith, p.2), p.3)
       ]
-  vacant_from-vacant from (Some e ∷ slots) i h = later from (Some e) slots i (vacant_from-vacant (from + 1) slots i h)
+  vacant_from-vacant from (Some e ∷ slots) i h =
+      let p = vacant_from-vacant (from + 1) slots i h in
+      (suc p.0, omega (arith, p.1), omega (arith, p.2), p.3)
 
-  -- a listed index is not below the first
-  vacant_from-above : (from : ℕ) (slots : List (Option X)) (i : ℕ) (rest : List ℕ) → vacant_from from slots ≡ i ∷ rest → from ≤ i
-  vacant_from-above from (Some s ∷ slots) i rest e = omega (arith, vacant_from-above (from + 1) slots i rest e)
-  vacant_from-above from slots i rest e = grind arith
+  module _ (n : ℕ) where
+    -- how often n is listed
+    abbrev pub listings : ℕ → List (Option X) → ℕ
+    listings from slots = times n (vacant_from from slots)
 
-  times-first : (n from : ℕ) (s : Option X) (slots : List (Option X))
-      → times n (vacant_from from (s ∷ slots)) ≡ times n (vacant_from from (s ∷ [])) + times n (vacant_from (from + 1) slots)
-  times-first n from None slots = times-append n (from ∷ []) (vacant_from (from + 1) slots)
-  times-first n from (Some e) slots = omega arith
+    listings-cons : (from : ℕ) (s : Option X) (slots : List (Option X)) → listings from (s ∷ slots) ≡ listings from (s ∷ []) + listings (from + 1) slots
+    listings-cons from None slots = times-append n (from ∷ []) (vacant_from (from + 1) slots)
+    listings-cons from (Some e) slots = omega arith
 
-  -- a write changes how often the slot's own index is listed
-  pub times-written : (n from i : ℕ) (slots : List (Option X)) (k : ℕ) (new : Option X) → i ≡ from + k → k < length slots
-      → times n (vacant_from from (set slots k new)) + times n (vacant_from i (get_or slots k None ∷ []))
-      ≡ times n (vacant_from from slots) + times n (vacant_from i (new ∷ []))
-  times-written n from i [] k new is within = absurd (omega arith)
-  times-written n from i (s ∷ slots) zero new is within =
-      let same : i ≡ from = omega arith in
-      rw same (omega (arith, times-first n from s slots, times-first n from new slots))
-  times-written n from i (s ∷ slots) (suc k) new is within =
-      let ih = times-written n (from + 1) i slots k new (omega arith) (omega arith) in
-      omega (arith, times-first n from s slots, times-first n from s (set slots k new))
+    -- a write changes how often the slot's own index is listed
+    module _ (i : ℕ) (new : Option X) where
+      pub listings-written : (from : ℕ) (slots : List (Option X)) (k : ℕ) → i ≡ from + k → k < length slots
+          → listings from (set slots k new) + listings i (get_or slots k None ∷ []) ≡ listings from slots + listings i (new ∷ [])
+      listings-written from [] k is within = absurd (omega arith)
+      listings-written from (s ∷ slots) zero is within =
+          let same : i ≡ from = omega arith in
+          rw same (omega (arith, listings-cons from s slots, listings-cons from new slots))
+      listings-written from (s ∷ slots) (suc k) is within =
+          let ih = listings-written (from + 1) slots k (omega arith) (omega arith) in
+          omega (arith, listings-cons from s slots, listings-cons from s (set slots k new))
 
-  -- a slot with an entry is not listed
   pub vacant_from-some : (i : ℕ) (s : Option X) → is_some s ≡ true → vacant_from i (s ∷ []) ≡ []
   vacant_from-some i s there = grind arith
 
-  -- below the first that is listed every index has an entry
-  pub vacant_from-least : (from : ℕ) (slots : List (Option X)) (i : ℕ) (rest : List ℕ) (k : ℕ) → vacant_from from slots ≡ i ∷ rest
-      → from + k < i → is_some (get_or slots k None) ≡ true
-  vacant_from-least from (Some s ∷ slots) i rest (suc k) e before = vacant_from-least (from + 1) slots i rest k e (omega arith)
-  vacant_from-least from slots i rest k e before = grind arith
+  module _ (i : ℕ) (rest : List ℕ) where
+    vacant_from-above : (from : ℕ) (slots : List (Option X)) → vacant_from from slots ≡ i ∷ rest → from ≤ i
+    vacant_from-above from (Some s ∷ slots) e = omega (arith, vacant_from-above (from + 1) slots e)
+    vacant_from-above from slots e = grind arith
 
-  -- filling the first that is listed leaves the others, in their order
-  pub vacant_from-filled_first : (from : ℕ) (slots : List (Option X)) (k i : ℕ) (rest : List ℕ) (entry : X) → i ≡ from + k
-      → vacant_from from slots ≡ i ∷ rest → vacant_from from (set slots k (Some entry)) ≡ rest
-  vacant_from-filled_first from (Some s ∷ slots) zero i rest entry position e =
-      absurd (omega (arith, vacant_from-above (from + 1) slots i rest e))
-  vacant_from-filled_first from (Some s ∷ slots) (suc k) i rest entry position e =
-      vacant_from-filled_first (from + 1) slots k i rest entry (omega arith) e
-  vacant_from-filled_first from slots k i rest entry position e = grind arith
+    -- below the first that is listed every index has an entry
+    pub vacant_from-least : (from : ℕ) (slots : List (Option X)) (k : ℕ) → vacant_from from slots ≡ i ∷ rest
+        → from + k < i → is_some (get_or slots k None) ≡ true
+    vacant_from-least from (Some s ∷ slots) (suc k) e before = vacant_from-least (from + 1) slots k e (omega arith)
+    vacant_from-least from slots k e before = grind arith
+
+    -- filling the first that is listed leaves the others, in their order
+    pub vacant_from-filled_first : (from : ℕ) (slots : List (Option X)) (k : ℕ) (entry : X) → i ≡ from + k
+        → vacant_from from slots ≡ i ∷ rest → vacant_from from (set slots k (Some entry)) ≡ rest
+    vacant_from-filled_first from (Some s ∷ slots) zero entry position e = absurd (omega (arith, vacant_from-above (from + 1) slots e))
+    vacant_from-filled_first from (Some s ∷ slots) (suc k) entry position e = vacant_from-filled_first (from + 1) slots k entry (omega arith) e
+    vacant_from-filled_first from slots k entry position e = grind arith
 
   -- where no slot is vacant, each has an entry
   all-occupied : (from : ℕ) (slots : List (Option X)) (k : ℕ) → length (vacant_from from slots) ≡ 0 → k < length slots

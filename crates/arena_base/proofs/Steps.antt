@@ -7,16 +7,13 @@ use Rattle.arena_base.proofs.Words.{get_or-set_same, get_or-set_other, map-appen
 use Rattle.arena_base.proofs.Words.{length-take, ext_get_or, get_or_past, map_push, take_more, map-set, get_or-map, reverse-append}
 use Rattle.arena_base.proofs.Words.{reverse-reverse, set-set, set_comm, get_or_default, sum_by-set, none-some, same_Some, slice_get_within}
 use Rattle.arena_base.proofs.Words.{get_or_from_slice_get, vec_len, map-replicate, option_map, ForSome, slot, Slot, Occupied, Vacant, Arena}
-use Rattle.arena_base.proofs.Words.{vacant_from, times, IsSound, IsInsertion, limit_of, resized, new_arena, with_capacity, emptied}
-use Rattle.arena_base.proofs.Words.{greatest_occupied, IsFresh, arena_capacity, with_slot, freed, IsVacant, swapped, grown_capacity}
-use Rattle.arena_base.proofs.Words.{IsLawfulGeneration, first_generation, entry_in, vacant_slots, arena_of, AllVacantFrom, slot_entry}
-use Rattle.arena_base.proofs.Slots.{entries, count_by-cons, greatest_occupied-above, entry_in-with_slot_generation}
-use Rattle.arena_base.proofs.Slots.{get_or-entries, entry-none, vacant_slots-from, times-cons, times-append, length-vacant_from}
-use Rattle.arena_base.proofs.Slots.{length-vacant_from-padded, vacant_from-vacant, times-written, vacant_from-some, vacant_from-least}
-use Rattle.arena_base.proofs.Words.{with_slot_generation, with_room, Inside, Generations, Indexes}
-use Rattle.arena_base.proofs.Slots.{vacant_from-filled_first}
+use Rattle.arena_base.proofs.Words.{vacant_from, times, IsSound, IsInsertion, limit_of, resized, greatest_occupied, IsFresh, arena_capacity}
+use Rattle.arena_base.proofs.Words.{with_slot, freed, IsVacant, swapped, IsLawfulGeneration, entry_in, vacant_slots, arena_of}
+use Rattle.arena_base.proofs.Words.{AllVacantFrom, slot_entry, with_slot_generation, Inside, Generations, Indexes}
+use Rattle.arena_base.proofs.Slots.{entries, count_by-cons, greatest_occupied-above, get_or-entries, entry-none, vacant_slots-from}
+use Rattle.arena_base.proofs.Slots.{times-cons, times-append, length-vacant_from, length-vacant_from-padded, vacant_from-vacant}
+use Rattle.arena_base.proofs.Slots.{listings-written, vacant_from-some, vacant_from-least, vacant_from-filled_first}
 
--- the limit is an index of an entry
 pub limit_of-below : (most : ℕ) (maximum : Option ℕ) → limit_of most maximum ≤ most
 limit_of-below most maximum = grind arith
 
@@ -24,10 +21,6 @@ module _ {T : Type 0} where
   -- the arena of these slots from index 1 on
   abbrev pub arena : List (Option (ℕ × T)) → List ℕ → ℕ → Option ℕ → Arena T
   arena slots vacant generation maximum = record { slots = None ∷ slots; vacant = vacant; generation = generation; maximum = maximum }
-
-  -- the same, all its vacant slots counting as never used
-  abbrev pub fresh_arena : List (Option (ℕ × T)) → ℕ → Option ℕ → Arena T
-  fresh_arena slots generation maximum = arena slots (vacant_from 1 slots) generation maximum
 
   -- the entries are lawful
   abbrev pub AreLawful : Option ℕ → List (Option (ℕ × T)) → Type 0
@@ -61,7 +54,7 @@ module _ {T : Type 0} where
         generation_lawful = sound.generation_lawful;
         entries_lawful = lawful-cons greatest (set slots k new) lawful-set;
         vacant_listed = λ i.
-            omega (arith, sound.vacant_listed i, ap (times i) turn, times-append i, times-written i 1 (k + 1) slots k new (omega arith) within);
+            omega (arith, sound.vacant_listed i, ap (times i) turn, times-append i, listings-written i (k + 1) new 1 slots k (omega arith) within);
         counted =
             let counts = sum_by-set (λ x. cond (is_some x) 1 0) slots k new None within in
             let own = length-vacant_from (k + 1) (get_or slots k None ∷ []) in
@@ -94,7 +87,6 @@ module _ {T : Type 0} where
         sound-set sound k (Some (generation, item)) rest (omega (arith, vacant.within))
         (lawful-some greatest (generation, item) sound.generation_lawful) (rw free refl)
 
-    -- is an insertion
     pub insertion-filled : IsInsertion (arena slots ((k + 1) ∷ rest) generation maximum) filled item (k + 1) generation
     insertion-filled = record {
       next = refl;
@@ -102,14 +94,13 @@ module _ {T : Type 0} where
       least = least;
       generation = refl;
       after = rw add-one refl;
-      fresh = λ fresh. sym (vacant_from-filled_first 1 slots k (k + 1) rest (generation, item) (omega arith) (sym fresh));
+      fresh = λ fresh. sym (vacant_from-filled_first (k + 1) rest 1 slots k (generation, item) (omega arith) (sym fresh));
     }
       where
         least : (k + 1) ∷ rest ≡ vacant_from 1 slots → (j : ℕ) → 0 < j → j < k + 1 → is_some (get_or (None ∷ slots) j None) ≡ true
-        least fresh (suc j) above before = vacant_from-least 1 slots (k + 1) rest j (sym fresh) (omega arith)
+        least fresh (suc j) above before = vacant_from-least (k + 1) rest 1 slots j (sym fresh) (omega arith)
         least fresh zero above before = absurd (omega arith)
 
--- the top of a stack, and the stack below it
 pub stack-top : {X : Type 0} (xs : List X) (k : X) → slice_get xs (length xs - 1) ≡ Some k → xs ≡ take (length xs - 1) xs ++ k ∷ []
 stack-top xs k is =
     let n = length xs - 1 in
@@ -133,7 +124,6 @@ module _ {P T A Inx Gen : Type 0} (gen : Generations Gen) (inx : Indexes Inx) (s
   Sound a = IsSound inx.most gen.greatest a
 
   module _ (a : Arena T) (view : current ≡ a) where
-    -- the capacity is the number of slots
     pub capacity-is : arena_capacity a ≡ length s.slots.items
     capacity-is = rw (← view) (omega (arith, length-map s.slots.items (entry_in gen.number)))
 
@@ -146,7 +136,6 @@ module _ {P T A Inx Gen : Type 0} (gen : Generations Gen) (inx : Indexes Inx) (s
       inside : k < length s.slots.items
       inside = omega (arith, found.within, capacity-is)
 
-      -- the vector has a slot there
       pub slot-within : k < vec_len s.slots
       slot-within = omega (arith, inside, s.slots.ok.0)
 
@@ -182,7 +171,7 @@ module _ {P T A Inx Gen : Type 0} (gen : Generations Gen) (inx : Indexes Inx) (s
       -- an entry gets the arena's generation
       pub renewed : (old x : Slot T Gen) → old ≡ get_or s.slots.items k old → x ≡ with_slot_generation old s.generation
           → entry_in gen.number x ≡ option_map (λ e. (a.generation, e.1)) (slot a i)
-      renewed old x was is = rw (is, read old was, ← view) (entry_in-with_slot_generation gen.number old s.generation)
+      renewed old x was is = rw (is, read old was, ← view) (grind arith)
 
       -- an entry is taken out, and its index put on the stack
       module _ (x : Slot T Gen) (empty : x ≡ Vacant) (stack : List Inx) (j : Inx) (same : inx.number j ≡ i)
@@ -206,7 +195,6 @@ module _ {P T A Inx Gen : Type 0} (gen : Generations Gen) (inx : Indexes Inx) (s
       pub put-sound : Sound (stored (set s.slots.items k (Occupied item s.generation)) below)
       put-sound = rw map-set (sound-filled k (rw (top, map_push, reverse-append, position) at sound) item)
 
-      -- which is an insertion
       pub insertion : (i g : ℕ) → i ≡ inx.number j → g ≡ gen.number s.generation
           → IsInsertion a (stored (set s.slots.items k (Occupied item s.generation)) below) item i g
       insertion i g here now =
@@ -295,7 +283,7 @@ module _ {T Inx Gen : Type 0} (gen : Generations Gen) (inx : Indexes Inx) (next 
   abbrev pub listed_anew : Arena T
   listed_anew = arena_of gen.number next (map inx.number listed) generation maximum
 
-  pub relisted : listed_anew ≡ fresh_arena (entries gen.number next) (gen.number generation) maximum
+  pub relisted : listed_anew ≡ arena (entries gen.number next) (vacant_from 1 (entries gen.number next)) (gen.number generation) maximum
   relisted = rw (all, reverse-reverse, vacant_slots-from gen.number) refl
 
   pub relisted-fresh : IsFresh listed_anew
@@ -313,18 +301,6 @@ module _ {T Inx Gen : Type 0} (gen : Generations Gen) (inx : Indexes Inx) (next 
       counted = omega (arith, count_by-cons None (resized n slots), length-vacant_from 1 (resized n slots));
     })
 
-module _ {P T A Inx Gen : Type 0} (gen : Generations Gen) (inx : Indexes Inx) (s : Inside P T A Inx Gen) (listed : List Inx)
-    (n : ℕ) (padded : List (Slot T Gen)) (is : padded ≡ s.slots.items ++ replicate (n - length s.slots.items) Vacant)
-    (all : map inx.number listed ≡ reverse (vacant_slots 1 (take n padded))) (a : Arena T) (view : current gen inx s ≡ a) where
-  pub resized-view : stored gen inx s (take n padded) listed ≡ with_capacity a n
-  resized-view =
-      relisted gen inx (take n padded) listed s.generation s.maximum all
-      ∙ rw (← view, entries-resized gen.number n s.slots.items padded is, resized-cons) refl
-
--- where no slot is vacant, room is made by a growth
-pub with_room-full : {T : Type 0} (most : ℕ) (a : Arena T) (n : ℕ) → a.vacant ≡ [] → n ≡ grown_capacity most a → with_capacity a n ≡ with_room most a
-with_room-full most a n full is = rw (is, full)
-
 -- a greater capacity leaves a slot vacant
 pub resized-room : {X : Type 0} (n : ℕ) (slots : List (Option X)) → take 1 slots ≡ None ∷ [] → length slots - 1 < n
     → 0 < length (vacant_from 1 (drop 1 (resized (n + 1) slots)))
@@ -335,19 +311,6 @@ resized-room n slots begins more = absurd (cc)
 pub entries-made : {T G : Type 0} (number : G → ℕ) (n : ℕ) (next : List (Slot T G)) → next ≡ [] ++ replicate (n - 0) Vacant
     → entries number next ≡ resized n []
 entries-made number n next is = entries-padded number n [] next is (omega arith)
-
-module _ {T Inx Gen : Type 0} (gen : Generations Gen) (inx : Indexes Inx) (n : ℕ) (next : List (Slot T Gen))
-    (is : next ≡ [] ++ replicate (n - 0) Vacant) (listed : List Inx) (all : map inx.number listed ≡ reverse (vacant_slots 1 next)) where
-  pub made-view : (two : Gen) → gen.number two ≡ first_generation gen.greatest
-      → arena_of gen.number next (map inx.number listed) two None ≡ with_capacity (new_arena gen.greatest) n
-  made-view two first = relisted gen inx next listed two None all ∙ rw (entries-made gen.number n next is, first, resized-cons) refl
-
-  pub emptied-view : {P A : Type 0} (s : Inside P T A Inx Gen) → n ≡ length s.slots.items → (a : Arena T) → current gen inx s ≡ a
-      → stored gen inx s next listed ≡ emptied a
-  emptied-view s whole a view =
-      let same : n - 0 ≡ length (entries gen.number s.slots.items) = omega (arith, whole, length-map s.slots.items (entry_in gen.number)) in
-      relisted gen inx next listed s.generation s.maximum all
-      ∙ rw (← view, is, map-replicate (entry_in gen.number) (n - 0) Vacant, same) refl
 
 -- Two entries whose slots change places and whose generations are then put back have exchanged their items.
 

@@ -1,8 +1,8 @@
 -- One step of a walk by index.
-use Rattle.arena_base.proofs.Words.{◌≡◌, ℕ, suc, ◌+◌, ◌<◌, Option, Some, None, List, [], ◌∷◌, ◌++◌, cond, length, get_or, is_some, take, refl, arith, drop, sym}
-use Rattle.arena_base.proofs.Words.{ap, ◌∙◌, reverse, IsSome, eq-eqb, append-nil, take_more, reverse-append, get_or-drop, drop-set-lt, length-take-le}
-use Rattle.arena_base.proofs.Words.{same_Some, option_map, Arena, slot, item_if, generation_at, item_of, removed, entries_from, entries_rising, pointers_from}
-use Rattle.arena_base.proofs.Slots.{entry-from_generation, none-from_generation}
+use Rattle.arena_base.proofs.Words.{◌≡◌, ℕ, suc, ◌+◌, ◌<◌, Option, Some, None, List, [], ◌∷◌, ◌++◌, cond, length, get_or, take, refl, arith}
+use Rattle.arena_base.proofs.Words.{drop, sym, ap, ◌∙◌, reverse, append-nil, take_more, reverse-append, get_or-drop, drop-set-lt}
+use Rattle.arena_base.proofs.Words.{length-take-le, eq-eqb, same_Some, option_map, Arena, slot, item_if, item_of, removed, entries_from}
+use Rattle.arena_base.proofs.{Words.entries_rising, Words.pointers_from, Slots.entry-from_generation, Slots.none-from_generation}
 
 module _ {T : Type 0} where
   pointers_from-append : (from : ℕ) (xs ys : List (Option (ℕ × T)))
@@ -30,32 +30,18 @@ module _ {T : Type 0} where
         rw (← next, pointers_from-next slots i within, found.1, reverse-append)
 
   -- the first entry that comes stands at its index
-  entries_from-first : (from : ℕ) (slots : List (Option (ℕ × T))) (e : ℕ × ℕ × T) (rest : List (ℕ × ℕ × T)) → entries_from from slots ≡ e ∷ rest
-      → (k : ℕ) × (e.0 ≡ from + k) × (get_or slots k None ≡ Some (e.1, e.2))
-  entries_from-first from (None ∷ slots) e rest is =
-      let later = entries_from-first (from + 1) slots e rest is in
-      (suc later.0, omega (arith, later.1), later.2)
-  entries_from-first from slots e rest is = (0, grind arith, grind arith)
+  module _ (e : ℕ × ℕ × T) (rest : List (ℕ × ℕ × T)) where
+    entries_from-first : (from : ℕ) (slots : List (Option (ℕ × T))) → entries_from from slots ≡ e ∷ rest
+        → (k : ℕ) × (e.0 ≡ from + k) × (get_or slots k None ≡ Some (e.1, e.2))
+    entries_from-first from (None ∷ slots) is =
+        let later = entries_from-first (from + 1) slots is in
+        (suc later.0, omega (arith, later.1), later.2)
+    entries_from-first from slots is = (0, grind arith, grind arith)
 
-  pub entries_rising-first : (a : Arena T) (i : ℕ) (e : ℕ × ℕ × T) (rest : List (ℕ × ℕ × T)) → entries_rising a i ≡ e ∷ rest → slot a e.0 ≡ Some (e.1, e.2)
-  entries_rising-first a i e rest is =
-      let first = entries_from-first i (drop i a.slots) e rest is in
-      ap (λ n. get_or a.slots n None) first.1 ∙ (sym (get_or-drop i a.slots first.0 None) ∙ first.2)
-
-  -- what stands at an index is what its pointer names
-  pub item_of-there : (a : Arena T) (p : ℕ × ℕ) (item : T) → slot a p.0 ≡ Some (p.1, item) → item_of a p ≡ Some item
-  item_of-there a p item is = ap (item_if p.1) is ∙ ap (λ b. cond b (Some item) None) (eq-eqb p.1 p.1 refl)
-
-  -- where an index has an entry of this generation, the pointer to it finds an item
-  item-there : (a : Arena T) (i g : ℕ) → generation_at a i ≡ Some g → IsSome (item_of a (i, g))
-  item-there a i g is = let found = entry-from_generation (slot a i) g is in ap is_some (item_of-there a (i, g) found.0 found.1)
-
-  pub item-pointed : (a : Arena T) (i g j h : ℕ) → generation_at a i ≡ Some g → j ≡ i → h ≡ g → IsSome (item_of a (j, h))
-  item-pointed a i g j h is index era = rw (index, era) (item-there a i g is)
-
-  -- a removal leaves the entries that come later
-  pub entries_rising-behind : (greatest : Option ℕ) (a : Arena T) (i : ℕ) → entries_rising (removed greatest a i) (i + 1) ≡ entries_rising a (i + 1)
-  entries_rising-behind greatest a i = ap (entries_from (i + 1)) (drop-set-lt (i + 1) a.slots i None (omega arith))
+    entries_rising-first : (a : Arena T) (i : ℕ) → entries_rising a i ≡ e ∷ rest → slot a e.0 ≡ Some (e.1, e.2)
+    entries_rising-first a i is =
+        let first = entries_from-first i (drop i a.slots) is in
+        ap (λ n. get_or a.slots n None) first.1 ∙ (sym (get_or-drop i a.slots first.0 None) ∙ first.2)
 
   -- the first entry that comes has been removed
   module _ (greatest : Option ℕ) (a : Arena T) (i : ℕ) {b : Arena T} {n j g : ℕ} {item x : T}
@@ -63,6 +49,10 @@ module _ {T : Type 0} where
       (gone : b ≡ removed greatest a j) where
     pub entries_rising-removed : entries_rising a i ≡ (j, g, item) ∷ entries_rising b (n + 1)
     entries_rising-removed =
-        let named = item_of-there a (j, g) x (entries_rising-first a i (j, g, x) (entries_rising a (n + 1)) is) in
+        let named : item_of a (j, g) ≡ Some x =
+        ap (item_if g) (entries_rising-first (j, g, x) (entries_rising a (n + 1)) a i is) ∙ ap (λ b. cond b (Some x) None) (eq-eqb g g refl) in
         let same : x ≡ item = same_Some x item (sym named ∙ there) in
-        rw (gone, next, entries_rising-behind greatest a j, ← same) (rw next at is)
+        -- a removal leaves the entries that come later
+        let behind : entries_rising (removed greatest a j) (j + 1) ≡ entries_rising a (j + 1) =
+        ap (entries_from (j + 1)) (drop-set-lt (j + 1) a.slots j None (omega arith)) in
+        rw (gone, next, behind, ← same) (rw next at is)

@@ -1,7 +1,6 @@
 -- An arena as contracts see it: its slots by index, and the order in which the vacant ones are taken.
 use Rattle.std.specs.Prelude.{◌≡◌, ◌≢◌, ◌⊎◌, ℕ, ◌+◌, ◌-◌, ◌*◌, ◌<◌, ◌≤◌, Option, Some, None, List, [], ◌∷◌, ◌++◌, ◌==◌, min, max, if◌then◌else◌, is_some, length, take, drop, replicate, count_by, slice_get, slice_index_or, slice_set, IsSome}
-use Rattle.std.specs.Option.{option_map, ForSome}
-use Rattle.std.specs.List.{list_any}
+use Rattle.std.specs.{Option.option_map, Option.ForSome, List.list_any}
 use Rattle.arena_base.specs.Generation.{first_generation, next_generation, IsLawfulGeneration}
 
 -- The slots stand at their indexes: a `Some` is an entry, with its generation and its item. Index 0 has none.

@@ -1,9 +1,8 @@
 -- What a contract sees of a drain of an arena.
 use Rattle.std.specs.Prelude.{◌≡◌, ℕ, ◌+◌, Option, List, [], ◌∷◌, MatchOption}
 use Rattle.std.specs.Borrow.{GName}
-use Rattle.arena_base.specs.Invalidation.{allowed_value, is_overflow}
-use Rattle.arena_base.specs.declared.invalidation.InvalidationOption.{InvalidationOption}
-use Rattle.arena_base.specs.{Arena.Arena, Arena.removed, Generation.overflows_after, Walk.entries_rising, declared.arena.drain.Drain.Drain}
+use Rattle.arena_base.specs.{Arena.Arena, Arena.removed, Generation.overflows_after, Invalidation.allowed_value, Invalidation.is_overflow}
+use Rattle.arena_base.specs.{Walk.entries_rising, declared.arena.drain.Drain.Drain, declared.invalidation.InvalidationOption.InvalidationOption}
 
 module _ {P T A Inx Gen : Type 0} where
   -- the arena, as it is now

@@ -1,7 +1,6 @@
 -- How an arena lies in memory: a vector of slots, of which the first has index 1, and a stack of vacant indexes.
 use Rattle.std.specs.Prelude.{◌≡◌, ℕ, ◌+◌, Option, Some, None, List, [], ◌∷◌, map, reverse, slice_index_or, ◌≤◌}
-use Rattle.arena_base.specs.declared.slot.Slot.TheVariants.{Occupied, Vacant}
-use Rattle.arena_base.specs.{Arena.Arena, declared.slot.Slot.Slot}
+use Rattle.arena_base.specs.{Arena.Arena, declared.slot.Slot.Slot, declared.slot.Slot.TheVariants.Occupied, declared.slot.Slot.TheVariants.Vacant}
 
 -- the entry in a slot, its generation as a number
 abbrev pub entry_in : {T G : Type 0} → (G → ℕ) → Slot T G → Option (ℕ × T)

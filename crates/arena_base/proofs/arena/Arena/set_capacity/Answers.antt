@@ -1,5 +1,5 @@
-use Rattle.arena_base.proofs.Words.{◌≡◌, suc, ◌+◌, ◌++◌, length, replicate, ◌-◌, arith, ap, add-one, length-take, Vacant}
-use Rattle.arena_base.proofs.Steps.{entries-resized, padded-vacant, resized-full, relisted-sound, resized-view}
+use Rattle.arena_base.proofs.Words.{◌≡◌, suc, ◌+◌, ◌++◌, length, replicate, ◌-◌, refl, arith, ap, ◌∙◌, add-one, length-take, Vacant}
+use Rattle.arena_base.proofs.Steps.{resized-cons, entries-resized, padded-vacant, resized-full, relisted, relisted-sound}
 use Rattle.arena_base.proofs.{arena.Arena.set_capacity.Given.Over, arena.Arena.set_capacity.Goals.After-add_vacant}
 use Rattle.arena_base.proofs.arena.Arena.set_capacity.Goals as goal
 
@@ -34,5 +34,6 @@ invariant_of-self-2 g c =
 pub returns-clause-ok : goal.returns-clause-ok
 returns-clause-ok g c =
     let all = rw (c.as_slice.ensures.value, c.cut_vacant.ensures.items) at c.list_vacant.ensures.items in
+    let is = entries-resized g.P.Gen.PtrGen.number c.args.n c.self.inside.slots.items _ (padded g (goal.at.returns-clause-ok g c).After-add_vacant) in
     rw c.cut_vacant.ensures.items
-    (resized-view g.P.Gen.PtrGen g.P.Inx.PtrInx c.self.inside _ c.args.n _ (padded g (goal.at.returns-clause-ok g c).After-add_vacant) all _ c.self.view_is)
+    (relisted g.P.Gen.PtrGen g.P.Inx.PtrInx _ _ c.self.inside.generation c.self.inside.maximum all ∙ rw (← c.self.view_is, is, resized-cons) refl)

@@ -1,5 +1,5 @@
-use Rattle.arena_base.proofs.Words.{[], arith, ◌∙◌, length-map, none-some, Vacant, entry_in}
-use Rattle.arena_base.proofs.Steps.{length-padded, relisted-sound, entries-made, emptied-view}
+use Rattle.arena_base.proofs.Words.{◌≡◌, [], length, ◌-◌, refl, arith, ◌∙◌, length-map, none-some, map-replicate, Vacant, entry_in}
+use Rattle.arena_base.proofs.{Slots.entries, Steps.length-padded, Steps.relisted, Steps.relisted-sound, Steps.entries-made}
 use Rattle.arena_base.proofs.arena.Arena.vacate.Goals as goal
 
 pub invariant_of-self : goal.invariant_of-self
@@ -21,4 +21,7 @@ returns g c =
     let s = c.self.inside in
     let is = rw (c.clear.ensures.items, c.clear.ensures.len) at c.add_vacant.ensures.items in
     let all = rw c.as_slice.ensures.value at c.list_vacant.ensures.items in
-    emptied-view g.P.Gen.PtrGen g.P.Inx.PtrInx _ c.add_vacant.new.slots.items is _ all s (c.len-n.ensures ∙ s.slots.ok.0) _ c.self.view_is
+    let same : c.len-n.result - 0 ≡ length (entries g.P.Gen.PtrGen.number s.slots.items) =
+    omega (arith, c.len-n.ensures, s.slots.ok.0, length-map s.slots.items (entry_in g.P.Gen.PtrGen.number)) in
+    relisted g.P.Gen.PtrGen g.P.Inx.PtrInx c.add_vacant.new.slots.items _ s.generation s.maximum all
+    ∙ rw (← c.self.view_is, is, map-replicate (entry_in g.P.Gen.PtrGen.number) _ Vacant, same) refl

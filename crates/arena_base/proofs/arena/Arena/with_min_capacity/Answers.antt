@@ -1,5 +1,5 @@
-use Rattle.arena_base.proofs.Words.{None, [], arith, none-some, Vacant}
-use Rattle.arena_base.proofs.Steps.{length-padded, relisted-sound, entries-made, made-view}
+use Rattle.arena_base.proofs.Words.{None, [], refl, arith, ◌∙◌, none-some, Vacant}
+use Rattle.arena_base.proofs.Steps.{length-padded, resized-cons, relisted, relisted-sound, entries-made}
 use Rattle.arena_base.proofs.arena.Arena.with_min_capacity.Goals as goal
 
 pub invariant_of-result : goal.invariant_of-result
@@ -17,4 +17,5 @@ pub returns-clause-ok : goal.returns-clause-ok
 returns-clause-ok g c =
     let is = rw (c.in_ok-slots.slots.ok.0, c.in_ok-slots.ensures.items) at c.add_vacant.ensures.items in
     let all = rw c.as_slice.ensures.value at c.list_vacant.ensures.items in
-    made-view g.P.Gen.PtrGen g.P.Inx.PtrInx c.args.n c.add_vacant.new.slots.items is _ all _ c.two-generation.ensures.value
+    relisted g.P.Gen.PtrGen g.P.Inx.PtrInx c.add_vacant.new.slots.items _ c.two-generation.result None all
+    ∙ rw (entries-made g.P.Gen.PtrGen.number c.args.n c.add_vacant.new.slots.items is, c.two-generation.ensures.value, resized-cons) refl

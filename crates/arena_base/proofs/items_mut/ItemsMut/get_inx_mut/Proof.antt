@@ -14,7 +14,7 @@ use denote.{Param.Laws.copied_laws, Param.Laws.copied_copy, Ref.MutRef, Ref.mut_
 use denote.{Signature.type_at, Struct.Declared.shape, Struct.Struct.within, Struct.Tuple.tuple_type, Triple.Call.calls_at}
 use denote.{Triple.Clauses.lasts, Triple.Clauses.Lasts, Triple.Entry.alive, Triple.Spec.triple_of, Triple.Table.framed}
 use lib.Ieee.Bits.{is_false}
-use mathlib.{Core.Bool.not, Core.List.◌++◌}
+use mathlib.{Core.List.◌++◌}
 use mir.Val.{vptr, vbool, Val, vstruct, of_list}
 use mir.{Facts.yes_and, MapTy.inst_fn, Syntax.named, Syntax.Fn, Syntax.a_type, Syntax.dcons, Syntax.dnil}
 use types.ByLocal.{alloc_all, pass_all, free_all, look_at, get, get_in, through, sets, sets_last, lands_as, env}
@@ -27,7 +27,6 @@ use Rattle.arena_base.proofs.items_mut.ItemsMut.get_inx_mut.Code as code
 use Rattle.arena_base.specs.contracts.items_mut.occupied as test
 use Rattle.arena_base.specs.contracts.items_mut.ItemsMut.pair_mut as pair
 
--- an option that isn't there is `None`
 is_none : {X : Type 0} (o : Option X) → is_some o ≡ false → None ≡ o
 is_none o e = grind arith
 
