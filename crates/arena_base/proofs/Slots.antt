@@ -158,24 +158,24 @@ module _ {X : Type 0} where
 
   module _ (n : ℕ) where
     -- how often n is listed
-    abbrev pub listings : ℕ → List (Option X) → ℕ
-    listings from slots = times n (vacant_from from slots)
+    abbrev pub listed : ℕ → List (Option X) → ℕ
+    listed from slots = times n (vacant_from from slots)
 
-    listings-cons : (from : ℕ) (s : Option X) (slots : List (Option X)) → listings from (s ∷ slots) ≡ listings from (s ∷ []) + listings (from + 1) slots
-    listings-cons from None slots = times-append n (from ∷ []) (vacant_from (from + 1) slots)
-    listings-cons from (Some e) slots = omega arith
+    listed-cons : (from : ℕ) (s : Option X) (slots : List (Option X)) → listed from (s ∷ slots) ≡ listed from (s ∷ []) + listed (from + 1) slots
+    listed-cons from None slots = times-append n (from ∷ []) (vacant_from (from + 1) slots)
+    listed-cons from (Some e) slots = omega arith
 
     -- a write changes how often the slot's own index is listed
     module _ (i : ℕ) (new : Option X) where
-      pub listings-written : (from : ℕ) (slots : List (Option X)) (k : ℕ) → i ≡ from + k → k < length slots
-          → listings from (set slots k new) + listings i (get_or slots k None ∷ []) ≡ listings from slots + listings i (new ∷ [])
-      listings-written from [] k is within = absurd (omega arith)
-      listings-written from (s ∷ slots) zero is within =
+      pub times-set : (slots : List (Option X)) (from k : ℕ) → i ≡ from + k → k < length slots
+          → listed from (set slots k new) + listed i (get_or slots k None ∷ []) ≡ listed from slots + listed i (new ∷ [])
+      times-set [] from k is within = absurd (omega arith)
+      times-set (s ∷ slots) from zero is within =
           let same : i ≡ from = omega arith in
-          rw same (omega (arith, listings-cons from s slots, listings-cons from new slots))
-      listings-written from (s ∷ slots) (suc k) is within =
-          let ih = listings-written (from + 1) slots k (omega arith) (omega arith) in
-          omega (arith, listings-cons from s slots, listings-cons from s (set slots k new))
+          rw same (omega (arith, listed-cons from s slots, listed-cons from new slots))
+      times-set (s ∷ slots) from (suc k) is within =
+          let ih = times-set slots (from + 1) k (omega arith) (omega arith) in
+          omega (arith, listed-cons from s slots, listed-cons from s (set slots k new))
 
   pub vacant_from-some : (i : ℕ) (s : Option X) → is_some s ≡ true → vacant_from i (s ∷ []) ≡ []
   vacant_from-some i s there = grind arith

@@ -12,7 +12,7 @@ use Rattle.arena_base.proofs.Words.{with_slot, freed, IsVacant, swapped, IsLawfu
 use Rattle.arena_base.proofs.Words.{AllVacantFrom, slot_entry, with_slot_generation, Inside, Generations, Indexes}
 use Rattle.arena_base.proofs.Slots.{entries, count_by-cons, greatest_occupied-above, get_or-entries, entry-none, vacant_slots-from}
 use Rattle.arena_base.proofs.Slots.{times-cons, times-append, length-vacant_from, length-vacant_from-padded, vacant_from-vacant}
-use Rattle.arena_base.proofs.Slots.{listings-written, vacant_from-some, vacant_from-least, vacant_from-filled_first}
+use Rattle.arena_base.proofs.Slots.{times-set, vacant_from-some, vacant_from-least, vacant_from-filled_first}
 
 pub limit_of-below : (most : ℕ) (maximum : Option ℕ) → limit_of most maximum ≤ most
 limit_of-below most maximum = grind arith
@@ -54,7 +54,7 @@ module _ {T : Type 0} where
         generation_lawful = sound.generation_lawful;
         entries_lawful = lawful-cons greatest (set slots k new) lawful-set;
         vacant_listed = λ i.
-            omega (arith, sound.vacant_listed i, ap (times i) turn, times-append i, listings-written i (k + 1) new 1 slots k (omega arith) within);
+            omega (arith, sound.vacant_listed i, ap (times i) turn, times-append i, times-set i (k + 1) new slots 1 k (omega arith) within);
         counted =
             let counts = sum_by-set (λ x. cond (is_some x) 1 0) slots k new None within in
             let own = length-vacant_from (k + 1) (get_or slots k None ∷ []) in
