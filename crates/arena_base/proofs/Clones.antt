@@ -125,13 +125,12 @@ module _ {P U T F : Type 0} (numbers : P → ℕ × ℕ) (step : F → P → U �
 -- a clone by a closure that answers the item that it is shown
 module _ {P U F : Type 0} (numbers : P → ℕ × ℕ) (step : F → P → U → U → F → Type 0) (answers : (f : F) (p : P) (u : U) (x : U) (g : F) → step f p u x g → x ≡ u)
     (f : F) (source old new : Arena U) (c : IsClone numbers step f source old new) where
-  -- each pointer finds the same in both
   pub copy-found : FindSame new source
   copy-found p =
       let kept = clones-keep numbers step (λ u. u) (λ x. x) answers (entries_rising source 0) f c.last [] c.items c.calls in
-      let after : HoldsSame new (replaced source old source.slots) = rw ((rw (map-id c.items) at kept), with_items-same 0 source.slots) at c.after in
+      let after = rw ((rw (map-id c.items) at kept), with_items-same 0 source.slots) at c.after in
       let same = resized-same (max (arena_capacity old) (greatest_occupied source.slots) + 1) source.slots in
-      ap (item_if p.1) (ap (λ ss. get_or ss p.0 None) after.slots ∙ same (λ k past. greatest_occupied-above source.slots k (omega arith)) p.0)
+      ap (item_if p.1) (ap (λ ss. get_or ss p.0 None) after.slots ∙ same (λ k h. greatest_occupied-above source.slots k (omega arith)) p.0)
 
 module _ {X : Type 0} where
   -- where no slot has an entry, none is cloned
@@ -199,14 +198,13 @@ module _ {P T U G F : Type 0} {numbers : P → ℕ × ℕ} {number : G → ℕ} 
             before = b.before ++ (i, number e, u) ∷ [];
             split = b.split ∙ rw at (sym (append_assoc b.before ((i, number e, u) ∷ []) (entries_from (i + 1) (drop (i + 1) source))));
             calls =
-                FoldsTo-push (CloneStep numbers step) (first, []) b.before (f, b.items) (i, number e, u) (next, b.items ++ item ∷ []) b.calls
+                FoldsTo-push (CloneStep numbers step) (first, []) b.before _ (i, number e, u) (next, b.items ++ item ∷ []) b.calls
                 (record { pointer = p; item = item; index = p_index; generation = p_generation; called = called; behind = refl });
             shape = λ rest.
                 rw (append_assoc b.items (item ∷ []) rest)
                 (b.shape (item ∷ rest) ∙ rw at (behind (Occupied item e) (with_items (drop (i + 1) source) rest)));
           }
 
--- a call was refused
 module _ {P T U G F : Type 0} {numbers : P → ℕ × ℕ} {number : G → ℕ} {step : F → P → U → Result T AllocError → F → Type 0} {first : F}
     {source : List (Option (ℕ × U))} {f : F} {slots : List (Slot T G)} {i : ℕ}
     (b : ClonedBelow numbers number (Grants numbers step) first source f slots i) (inside : i < length source)
@@ -263,7 +261,8 @@ module _ {P T A U Inx Gen F : Type 0} (numbers : P → ℕ × ℕ) (gen : Genera
       ∙ (ap (λ ss. record { slots = ss; vacant = vacant_from 1 (drop 1 ss); generation = gen.number generation; maximum = s.maximum }) shape
       ∙ rw (same, named, ← seen) refl)
 
-  pub clone-whole : ClonesSlots numbers gen.number (Grants numbers step) f source.slots copies → IsClone numbers (Grants numbers step) f source a after
+  pub clone-whole : ClonesSlots numbers gen.number (Grants numbers step) f source.slots copies
+      → IsClone numbers (Grants numbers step) f source a after
   clone-whole p =
       let shape = ap (λ xs. None ∷ xs) (is ∙ sym (resized-again n p.vacant_behind (entries gen.number copies)))
       ∙ (sym (resized-cons n (entries gen.number copies ++ replicate p.vacant_behind None)) ∙ ap (resized (n + 1)) (sym p.after)) in

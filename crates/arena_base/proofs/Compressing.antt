@@ -108,7 +108,7 @@ module _ {P T G F : Type 0} {numbers : P → ℕ × ℕ} {number : G → ℕ} {s
               visited = omega (arith, b.visited);
               within = rw (length-set, length-set) b.within;
               shape =
-                  rw (emptied, set_at done Vacant (replicate b.gap Vacant ++ drop (from + 1) old) (Occupied new generation) to length-done, map_push)
+                  rw (emptied, set_at done Vacant _ (Occupied new generation) to length-done, map_push)
                   (sym (append_assoc done (Occupied new generation ∷ []) _));
               calls = λ s c. b.calls s (rw (drop_more old from Vacant inside, at_from now read ∙ occupied) (
                 (next, b.items ++ new ∷ []),
@@ -158,7 +158,8 @@ module _ {P X T M F : Type 0} (numbers : P → ℕ × ℕ) (below : M → P → 
 -- the same items, in other states
 module _ {P T M F : Type 0} (numbers : P → ℕ × ℕ) (below : M → P → T → P → T → M → Type 0) (above : F → P → T → P → T → F → Type 0)
     (g : ℕ) (state : M → F) (like : (m : M) (p : P) (x : T) (q : P) (y : T) (n : M) → below m p x q y n → above (state m) p x q y (state n)) where
-  pub compression-retold : (m : M) (old new : Arena T) → IsCompression numbers below g m old new → IsCompression numbers above g (state m) old new
+  pub compression-retold : (m : M) (old new : Arena T) → IsCompression numbers below g m old new
+      → IsCompression numbers above g (state m) old new
   compression-retold m old new c =
       let calls = calls-retold numbers below above g state (λ x. x) like (entries_rising old 0) m c.last [] c.items c.calls in
       record { items = c.items; last = state c.last; calls = rw (map-id (entries_rising old 0), map-id c.items) at calls; after = c.after }
@@ -166,7 +167,8 @@ module _ {P T M F : Type 0} (numbers : P → ℕ × ℕ) (below : M → P → T 
 -- where each answer is the item that was shown, the items are those that were there
 module _ {P F T : Type 0} (numbers : P → ℕ × ℕ) (step : F → P → T → P → T → F → Type 0) (g : ℕ)
     (answers : (f : F) (p : P) (item : T) (q : P) (new : T) (f' : F) → step f p item q new f' → new ≡ item) where
-  pub compressed-given_back : (f : F) (old new : Arena T) → IsCompression numbers step g f old new → HoldsSame new (compressed old g (items_rising old))
+  pub compressed-given_back : (f : F) (old new : Arena T) → IsCompression numbers step g f old new
+      → HoldsSame new (compressed old g (items_rising old))
   compressed-given_back f old new h =
       let same = chained_keeps (CompressionStep numbers step g) (λ es t. t.1 ≡ map (λ (e : ℕ × ℕ × T). e.2) es)
       (λ es s e t is called. called.behind ∙ rw (is, map_push, answers s.0 called.from e.2 called.to called.item t.0 called.called) refl)
@@ -179,7 +181,6 @@ compressed-lawful greatest g [] now k e is = absurd (none-some e is)
 compressed-lawful greatest g (x ∷ items) now zero e is = lawful-some greatest (g, x) now e is
 compressed-lawful greatest g (x ∷ items) now (suc k) e is = compressed-lawful greatest g items now k e is
 
--- the compressed slots by index
 module _ {T Gen : Type 0} (number : Gen → ℕ) (n : ℕ) (next : List (Slot T Gen)) (generation : Gen) (items : List T)
     (is : next ≡ map (λ item. Occupied item generation) items ++ replicate (n - length items) Vacant) (fits : length items ≤ n) where
   pub entries-compressed : entries number next ≡ resized n (map (λ item. Some (number generation, item)) items)
@@ -189,9 +190,9 @@ module _ {T Gen : Type 0} (number : Gen → ℕ) (n : ℕ) (next : List (Slot T 
       entries-padded number n filled next (rw (← long) at is) (omega arith)
       ∙ ap (resized n) (map-map (entry_in number) (λ item. Occupied item generation) items)
 
-module _ {P T A Inx Gen F : Type 0} (numbers : P → ℕ × ℕ) (gen : Generations Gen) (inx : Indexes Inx) (step : F → P → T → P → T → F → Type 0)
-    (s : Inside P T A Inx Gen) (next : List (Slot T Gen)) (listed : List Inx) (f : F) (a : Arena T) (g : ℕ)
-    (seen : current gen inx s ≡ record a { generation = g }) where
+module _ {P T A Inx Gen F : Type 0} (numbers : P → ℕ × ℕ) (gen : Generations Gen) (inx : Indexes Inx)
+    (step : F → P → T → P → T → F → Type 0) (s : Inside P T A Inx Gen) (next : List (Slot T Gen)) (listed : List Inx) (f : F)
+    (a : Arena T) (g : ℕ) (seen : current gen inx s ≡ record a { generation = g }) where
   pub compressed-after : CompressesSlots numbers gen.number step s.generation f s.slots.items next
       → IsCompression numbers step g f a (stored gen inx s next listed)
   compressed-after p =
@@ -201,7 +202,7 @@ module _ {P T A Inx Gen F : Type 0} (numbers : P → ℕ × ℕ) (gen : Generati
       let count : n + 1 ≡ length a.slots = omega (arith, ap length same, length-map s.slots.items (entry_in gen.number)) in
       let made = map (λ item. Some (g, item)) p.items in
       let slots : None ∷ entries gen.number next ≡ resized (length a.slots) (None ∷ made) =
-      rw (← count, resized-cons, ← named) (ap (λ ss. None ∷ ss) (entries-compressed gen.number n next s.generation p.items p.after p.fits)) in
+      rw (← count, resized-cons, ← named) (ap (λ r. None ∷ r) (entries-compressed gen.number n next s.generation p.items p.after p.fits)) in
       record {
         items = p.items;
         last = p.last;

@@ -14,7 +14,6 @@ module _ {X : Type 0} where
   none_past (None ∷ slots) (suc i) h = none_past slots i h
   none_past slots i h = cc
 
-  -- beyond the greatest index with an entry there is none
   pub greatest_occupied-above : (slots : List (Option X)) (i : ℕ) → greatest_occupied slots < i → get_or slots i None ≡ None
   greatest_occupied-above (s ∷ slots) (suc i) h = grind (arith, greatest_occupied-above slots i, none_past slots i)
   greatest_occupied-above slots i h = grind arith
@@ -78,8 +77,8 @@ module _ {T G : Type 0} (number : G → ℕ) where
 
   -- an entry that is read in two parts
   module _ (s t : Slot T G) (same : entry_in number s ≡ entry_in number t) where
-    pub entry_in-parts : (era : G) (item : T) → option_map (λ e. e.0) (slot_entry s) ≡ Some era → option_map (λ e. e.1) (slot_entry t) ≡ Some item
-        → entry_in number s ≡ Some (number era, item)
+    pub entry_in-parts : (era : G) (item : T) → option_map (λ e. e.0) (slot_entry s) ≡ Some era
+        → option_map (λ e. e.1) (slot_entry t) ≡ Some item → entry_in number s ≡ Some (number era, item)
     entry_in-parts era item first second = grind arith
 
   -- the slots by index, from index 1 on
@@ -112,7 +111,7 @@ module _ {T G : Type 0} where
   length-vacant_slots from (s ∷ slots) = grind (arith, length-vacant_slots (from + 1) slots)
 
 -- a front of a list without its last item, and that item
-module _ {X : Type 0} (xs ys : List X) (x d : X) (m n : ℕ) (front : ys ++ x ∷ [] ≡ take n xs) (more : n ≡ m + 1) (long : length ys ≡ m) where
+module _ {X : Type 0} (xs ys : List X) (x d : X) (m n : ℕ) (front : ys ++ x ∷ [] ≡ take n xs) (one : n ≡ m + 1) (long : length ys ≡ m) where
   pub front-parts : (ys ≡ take m xs) × (get_or xs m d ≡ x)
   front-parts = (
     sym (take_at ys (x ∷ []) m long) ∙ (ap (take m) front ∙ take-take m n xs (omega arith)),
@@ -161,7 +160,8 @@ module _ {X : Type 0} where
     abbrev pub listed : ℕ → List (Option X) → ℕ
     listed from slots = times n (vacant_from from slots)
 
-    listed-cons : (from : ℕ) (s : Option X) (slots : List (Option X)) → listed from (s ∷ slots) ≡ listed from (s ∷ []) + listed (from + 1) slots
+    listed-cons : (from : ℕ) (s : Option X) (slots : List (Option X))
+        → listed from (s ∷ slots) ≡ listed from (s ∷ []) + listed (from + 1) slots
     listed-cons from None slots = times-append n (from ∷ []) (vacant_from (from + 1) slots)
     listed-cons from (Some e) slots = omega arith
 
@@ -194,9 +194,9 @@ module _ {X : Type 0} where
     -- filling the first that is listed leaves the others, in their order
     pub vacant_from-filled_first : (from : ℕ) (slots : List (Option X)) (k : ℕ) (entry : X) → i ≡ from + k
         → vacant_from from slots ≡ i ∷ rest → vacant_from from (set slots k (Some entry)) ≡ rest
-    vacant_from-filled_first from (Some s ∷ slots) zero entry position e = absurd (omega (arith, vacant_from-above (from + 1) slots e))
-    vacant_from-filled_first from (Some s ∷ slots) (suc k) entry position e = vacant_from-filled_first (from + 1) slots k entry (omega arith) e
-    vacant_from-filled_first from slots k entry position e = grind arith
+    vacant_from-filled_first from (Some s ∷ slots) zero entry at e = absurd (omega (arith, vacant_from-above (from + 1) slots e))
+    vacant_from-filled_first from (Some s ∷ slots) (suc k) entry at e = vacant_from-filled_first (from + 1) slots k entry (omega arith) e
+    vacant_from-filled_first from slots k entry at e = grind arith
 
   -- where no slot is vacant, each has an entry
   all-occupied : (from : ℕ) (slots : List (Option X)) (k : ℕ) → length (vacant_from from slots) ≡ 0 → k < length slots

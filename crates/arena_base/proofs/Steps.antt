@@ -26,7 +26,8 @@ module _ {T : Type 0} where
   abbrev pub AreLawful : Option ℕ → List (Option (ℕ × T)) → Type 0
   AreLawful greatest slots = (k : ℕ) → ForSome (get_or slots k None) (λ e. IsLawfulGeneration greatest e.0)
 
-  pub lawful-some : (greatest : Option ℕ) (old : ℕ × T) → IsLawfulGeneration greatest old.0 → ForSome (Some old) (λ e. IsLawfulGeneration greatest e.0)
+  pub lawful-some : (greatest : Option ℕ) (old : ℕ × T) → IsLawfulGeneration greatest old.0
+      → ForSome (Some old) (λ e. IsLawfulGeneration greatest e.0)
   lawful-some greatest old ok e is = subst (λ (x : ℕ × T). IsLawfulGeneration greatest x.0) (same_Some old e is) ok
 
   lawful-cons : (greatest : Option ℕ) (slots : List (Option (ℕ × T))) → AreLawful greatest slots → AreLawful greatest (None ∷ slots)
@@ -106,7 +107,6 @@ stack-top xs k is =
     let n = length xs - 1 in
     sym (take_all (n + 1) xs (omega arith)) ∙ (take_more xs n k (slice_get_within xs n k is) ∙ rw (get_or_from_slice_get xs n k k is))
 
--- what an occupied place holds
 some_of : {X : Type 0} (o : Option X) → is_some o ≡ true → (x : X) × (o ≡ Some x)
 some_of None h = absurd (false≢true h)
 some_of (Some x) h = (x, refl)
@@ -182,11 +182,12 @@ module _ {P T A Inx Gen : Type 0} (gen : Generations Gen) (inx : Indexes Inx) (s
         pub taken-sound : Sound current → is_some (slot a i) ≡ true → Sound (stored (set s.slots.items k x) stack)
         taken-sound sound there =
             rw (empty, pushed, map_push, reverse-append, map-set, same, found.number)
-            (sound-set sound k None _ inside-entries (λ e is. absurd (none-some e is)) (rw (vacant_from-some (k + 1) _ (was-there there)) refl))
+            (sound-set sound k None _ inside-entries (λ e is. absurd (none-some e is))
+            (rw (vacant_from-some (k + 1) _ (was-there there)) refl))
 
   -- the index on top of the stack is taken next
-  module _ (a : Arena T) (view : current ≡ a) (sound : Sound current) (below : List Inx) (j : Inx) (top : s.vacant.items ≡ below ++ j ∷ []) where
-    -- it is that of a vacant slot
+  module _ (a : Arena T) (view : current ≡ a) (sound : Sound current) (below : List Inx) (j : Inx)
+      (top : s.vacant.items ≡ below ++ j ∷ []) where
     pub top-vacant : IsVacant a (inx.number j)
     top-vacant = rw (← view, top, map_push, reverse-append) (first-vacant (rw (top, map_push, reverse-append) at sound))
 
@@ -290,8 +291,8 @@ module _ {T Inx Gen : Type 0} (gen : Generations Gen) (inx : Indexes Inx) (next 
   relisted-fresh = subst (λ (v : Arena T). IsFresh v) (sym relisted) refl
 
   module _ (n : ℕ) (slots : List (Option (ℕ × T))) (is : entries gen.number next ≡ resized n slots) where
-    pub relisted-sound : n ≤ limit_of inx.most maximum → IsLawfulGeneration gen.greatest (gen.number generation) → AreLawful gen.greatest slots
-        → IsSound inx.most gen.greatest listed_anew
+    pub relisted-sound : n ≤ limit_of inx.most maximum → IsLawfulGeneration gen.greatest (gen.number generation)
+        → AreLawful gen.greatest slots → IsSound inx.most gen.greatest listed_anew
     relisted-sound within now lawful = rw (relisted, is) (record {
       begins = refl;
       within_limit = omega (arith, length-resized n slots);

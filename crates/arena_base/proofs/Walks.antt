@@ -50,9 +50,8 @@ module _ {T : Type 0} where
     pub entries_rising-removed : entries_rising a i ≡ (j, g, item) ∷ entries_rising b (n + 1)
     entries_rising-removed =
         let named : item_of a (j, g) ≡ Some x =
-        ap (item_if g) (entries_rising-first (j, g, x) (entries_rising a (n + 1)) a i is) ∙ ap (λ b. cond b (Some x) None) (eq-eqb g g refl) in
+        ap (item_if g) (entries_rising-first (j, g, x) _ a i is) ∙ ap (λ b. cond b (Some x) None) (eq-eqb g g refl) in
         let same : x ≡ item = same_Some x item (sym named ∙ there) in
-        -- a removal leaves the entries that come later
         let behind : entries_rising (removed greatest a j) (j + 1) ≡ entries_rising a (j + 1) =
         ap (entries_from (j + 1)) (drop-set-lt (j + 1) a.slots j None (omega arith)) in
         rw (gone, next, behind, ← same) (rw next at is)

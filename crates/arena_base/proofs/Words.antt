@@ -9,8 +9,8 @@ pub use Rattle.std.proofs.lemmas.List.{append-nil, take_more, map-set, get_or-ma
 pub use Rattle.std.proofs.lemmas.List.{set-set, set_comm, get_or_default, drop-set-lt, length-take-le, length-reverse, length-drop}
 pub use Rattle.std.proofs.lemmas.{Bool.cases_eq, Bool.ne_eqb, Bool.false≢true, Bool.eq-eqb, Bool.cases_lt, Bool.eqb-true, Fn.FoldsTo-push}
 pub use Rattle.std.proofs.lemmas.{Fn.chained_keeps, List.Sums.sum_by-cons, List.Sums.sum_by-append, List.Sums.sum_by-set, Option.none-some}
-pub use Rattle.std.proofs.lemmas.{Option.same_Some, Option.slice_get_within, Option.get_or_from_slice_get, Result.on_ok_weaker, Simd.map-map}
-pub use Rattle.std.{proofs.Common.vec_capacity, specs.declared.alloc.AllocError.AllocError}
+pub use Rattle.std.proofs.lemmas.{Option.same_Some, Option.slice_get_within, Option.get_or_from_slice_get, Result.on_ok_weaker}
+pub use Rattle.std.{proofs.Common.vec_capacity, proofs.lemmas.Simd.map-map, specs.declared.alloc.AllocError.AllocError}
 pub use Rattle.std.specs.{Result.OnOk, Result.OnErr, List.list_any, List.FoldsTo, Option.option_map, Option.ForSome}
 pub use lib.LanesLaws.{map-replicate}
 pub use Rattle.arena_base.specs.Arena.{vacant_from, times, Arena, IsSound, IsInsertion, limit_of, resized, greatest_occupied, HoldsSame}

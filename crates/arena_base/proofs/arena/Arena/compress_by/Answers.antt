@@ -12,7 +12,7 @@ invariant_of-self g c =
       relisted-sound g.P.Gen.PtrGen g.P.Inx.PtrInx c.move_down.new.slots.items _ s.generation s.maximum all (length s.slots.items) _
           (entries-compressed g.P.Gen.PtrGen.number (length s.slots.items) _ s.generation p.items p.after p.fits)
           (omega (arith, sound.within_limit, length-map s.slots.items (entry_in g.P.Gen.PtrGen.number)))
-          sound.generation_lawful (compressed-lawful g.P.Gen.PtrGen.greatest (g.P.Gen.PtrGen.number s.generation) p.items sound.generation_lawful),
+          sound.generation_lawful (compressed-lawful g.P.Gen.PtrGen.greatest _ p.items sound.generation_lawful),
       omega (arith, c.move_down.ensures.len, c.list_vacant.ensures.capacity, c.self.invariant.1),
     )
 

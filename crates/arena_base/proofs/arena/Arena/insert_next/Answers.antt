@@ -8,7 +8,7 @@ position_at-requires g c =
 pub index_mut-requires : goal.index_mut-requires
 index_mut-requires g c =
     let top = top-vacant g.P.Gen.PtrGen g.P.Inx.PtrInx c.self.inside _ c.self.view_is c.self.invariant.0 _ _ c.take_last-i.ensures.items in
-    omega (arith, top.within, capacity-is g.P.Gen.PtrGen g.P.Inx.PtrInx c.self.inside _ c.self.view_is, c.position_at.ensures, c.self.inside.slots.ok.0)
+    omega (arith, top.within, capacity-is g.P.Gen.PtrGen g.P.Inx.PtrInx c.self.inside _ c.self.view_is, c.self.inside.slots.ok.0)
 
 pub invariant_of-self : goal.invariant_of-self
 invariant_of-self g c = (

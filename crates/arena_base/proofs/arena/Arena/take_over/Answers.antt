@@ -32,8 +32,8 @@ returns g c =
     let within : length copies.items ≤ length s.slots.items = omega (arith, copies.ok.0, capacity-is g.P.Gen.PtrGen g.P.Inx.PtrInx s _ c.self.view_is) in
     record {
       ok =
-          on_ok_weaker granted.result (clone-whole g.P.Ptr.numbers g.P.Gen.PtrGen g.P.Inx.PtrInx g.M.CloneEntry.step s copies.items next _ _ all
-          c.args.self.now c.self.view_is _ named (omega arith) within padded c.args.map) granted.ensures.ok;
+          on_ok_weaker granted.result (clone-whole g.P.Ptr.numbers g.P.Gen.PtrGen g.P.Inx.PtrInx g.M.CloneEntry.step s copies.items next
+          _ _ all c.args.self.now c.self.view_is _ named (omega arith) within padded c.args.map) granted.ensures.ok;
       fresh = relisted-fresh g.P.Gen.PtrGen g.P.Inx.PtrInx next _ c.unwrap-self-inside.result s.maximum all;
       refused =
           clone-refused g.P.Ptr.numbers g.P.Gen.PtrGen g.P.Inx.PtrInx g.M.CloneEntry.step s copies.items next _ _ all c.args.self.now c.self.view_is

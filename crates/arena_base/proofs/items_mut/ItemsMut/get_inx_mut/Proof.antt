@@ -1,7 +1,7 @@
 -- `get_inx_mut` by hand: it asks whether there is an entry, by `occupied`, and wraps what `pair_mut` gives. What comes back of the write is
 -- what `pair_mut` says of it, and where nothing is found the container is as it was.
-use Rattle.std.proofs.Common.{◌≡◌, ℕ, List, [], ◌∷◌, refl, sym, ap, lit<, arith, MutBor, Bool, ◌∙◌, Option, Some, None, is_some, false, true}
-use Rattle.std.proofs.Common.{subst}
+use Rattle.std.proofs.Common.{◌≡◌, ℕ, List, [], ◌∷◌, refl, sym, ap, lit<, MutBor, Bool, ◌∙◌, Option, Some, None, is_some, false, true}
+use Rattle.std.proofs.Common.{arith, subst}
 use Rattle.std.proofs.raw_atomic.Walks.{proved, leaves}
 use Rattle.std.proofs.{VecSteps.Element.Some-of, VecSteps.Element.none_of, VecSteps.Shapes.after}
 use Rattle.arena_base.proofs.{items_mut.ItemsMut.get_inx_mut.Statement.statement, items_mut.occupied.Met.met as test_met}
