@@ -278,7 +278,8 @@ module _ {P T A U Inx Gen F : Type 0} (numbers : P → ℕ × ℕ) (gen : Genera
       → OnErr r (copies ≡ []) → OnErr r (IsRefusedClone numbers step f source a after)
   clone-refused (Ok x) stops none = tt
   clone-refused (Err e) stops none =
-      let shape = ap (λ xs. None ∷ xs) (is ∙ ap (λ cs. resized n (entries gen.number cs)) none) ∙ (sym (resized-cons n []) ∙ resized-again (n + 1) 1 []) in
+      let shape = ap (λ xs. None ∷ xs) (is ∙ ap (λ cs. resized n (entries gen.number cs)) none)
+      ∙ (sym (resized-cons n []) ∙ resized-again (n + 1) 1 []) in
       record { stops = stops; after = replaced-view [] shape }
 
   copies-lawful : (r : Result Unit AllocError) → Cloned r → OnErr r (copies ≡ []) → AreLawful gen.greatest source.slots

@@ -357,9 +357,9 @@ module _ {T G : Type 0} {xs ys : List (Slot T G)} {p q : ℕ} {sp sq y1 y2 s1 s2
   exchanged : set (set ys p s1) q s2 ≡ set (set xs p (Occupied other.0 gp)) q (Occupied one.0 gq)
   exchanged =
       let first : s1 ≡ Occupied other.0 gp = h.first ∙ ap (λ s. with_slot_generation s gp) (h.first_old ∙ (h.p_after y1 ∙ other.1 y1)) in
-      let same = get_or-set_same ys p s1 y2 in
+      let same = get_or-set_same ys p s1 y2 (omega (arith, h.p_within, h.same_len)) in
       let second : s2 ≡ Occupied one.0 gq =
-      grind (arith, h.second, h.second_old, same, get_or-set_other ys p q s1 y2, h.q_after y2, one.1 y2, other.1 y2, h.p_within, h.same_len) in
+      grind (arith, h.second, h.second_old, same, get_or-set_other ys p q s1 y2, h.q_after y2, one.1 y2, other.1 y2) in
       cc (h.after sp, set-twice xs p q (get_or xs q sp) (get_or xs p sp) s1 s2, first, second)
 
 module _ {P T A Inx Gen : Type 0} (gen : Generations Gen) (inx : Indexes Inx) (s : Inside P T A Inx Gen) {ys : List (Slot T Gen)} {p q : ℕ}

@@ -7,23 +7,23 @@ unwrap-requires g c = ap is_some c.remove.ensures.value ∙ c.in_ok-at.ensures.t
 
 pub returns-in-Success : goal.returns-in-Success
 returns-in-Success g c =
-    let value = c.in-Success.ensures.value in
-    let gone = rw value at c.remove.ensures.removed in
+    let arm = c.in-Success.ensures in
+    let gone = rw arm.value at c.remove.ensures.removed in
     let first = entries_rising-removed g.P.Gen.PtrGen.greatest c.args.self.now.arena.now (c.args.self.now.at + 1)
-    c.in_ok-at.ensures.entries.1 c.in_ok-at.ensures.next (sym c.remove.ensures.value ∙ value) gone in
+    c.in_ok-at.ensures.entries.1 c.in_ok-at.ensures.next (sym c.remove.ensures.value ∙ arm.value) gone in
     record {
-      steps = (refl, record { first = first; removed = gone; overflow = c.in-Success.ensures.overflow ∙ rw value at c.remove.ensures.overflow });
+      steps = (refl, record { first = first; removed = gone; overflow = arm.overflow ∙ rw arm.value at c.remove.ensures.overflow });
       goes = record { on = λ h. (tt, tt, omega (arith, ap length first)); keeps = tt; rests = λ h. tt };
     }
 
 pub returns-in-GenerationOverflow : goal.returns-in-GenerationOverflow
 returns-in-GenerationOverflow g c =
-    let value = c.in-GenerationOverflow.ensures.value in
-    let gone = rw value at c.remove.ensures.removed in
+    let arm = c.in-GenerationOverflow.ensures in
+    let gone = rw arm.value at c.remove.ensures.removed in
     let first = entries_rising-removed g.P.Gen.PtrGen.greatest c.args.self.now.arena.now (c.args.self.now.at + 1)
-    c.in_ok-at.ensures.entries.1 c.in_ok-at.ensures.next (sym c.remove.ensures.value ∙ value) gone in
+    c.in_ok-at.ensures.entries.1 c.in_ok-at.ensures.next (sym c.remove.ensures.value ∙ arm.value) gone in
     record {
-      steps = (refl, record { first = first; removed = gone; overflow = c.in-GenerationOverflow.ensures.overflow ∙ rw value at c.remove.ensures.overflow });
+      steps = (refl, record { first = first; removed = gone; overflow = arm.overflow ∙ rw arm.value at c.remove.ensures.overflow });
       goes = record { on = λ h. (tt, tt, omega (arith, ap length first)); keeps = tt; rests = λ h. tt };
     }
 

@@ -24,16 +24,16 @@ pub returns : goal.returns
 returns g c =
     let here = found-viewed g.P.Gen.PtrGen g.P.Inx.PtrInx c.self.inside _ c.self.view_is _ _ c.position_of_entry-position.ensures in
     let old = c.index_mut-slot.result.now in
-    let seen = read g.P.Gen.PtrGen g.P.Inx.PtrInx c.self.inside _ c.self.view_is _ _ here _ c.index.ensures in
-    let lent = read g.P.Gen.PtrGen g.P.Inx.PtrInx c.self.inside _ c.self.view_is _ _ here _ c.index_mut-slot.ensures.value in (
+    let was = read g.P.Gen.PtrGen g.P.Inx.PtrInx c.self.inside _ c.self.view_is _ _ here _ c.index.ensures in
+    let at = read g.P.Gen.PtrGen g.P.Inx.PtrInx c.self.inside _ c.self.view_is _ _ here _ c.index_mut-slot.ensures.value in (
       (
         refl,
         λ w.
             written g.P.Gen.PtrGen g.P.Inx.PtrInx c.self.inside _ c.self.view_is _ _ here (with_slot_item old w) (λ e. (e.0, w))
-            (rw lent (entry_in-with_slot_item g.P.Gen.PtrGen.number old w)),
+            (rw at (entry_in-with_slot_item g.P.Gen.PtrGen.number old w)),
       ),
       record {
         writes_back = tt;
-        value = seen ∙ entry_in-parts g.P.Gen.PtrGen.number _ _ (sym seen ∙ lent) _ _ c.generation-generation.ensures c.item_mut.ensures.value;
+        value = was ∙ entry_in-parts g.P.Gen.PtrGen.number _ _ (sym was ∙ at) _ _ c.generation-generation.ensures c.item_mut.ensures.value;
       },
     )
