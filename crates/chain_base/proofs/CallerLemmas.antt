@@ -81,17 +81,19 @@ module _ {T : Type 0} where
   pub length-between : (front : List (Entry T)) (new : Entry T) (back : List (Entry T)) → length (front ++ new ∷ back) ≡ length (front ++ back) + 1
   length-between front new back = omega (arith, length-append front (new ∷ back), length-append front back)
 
+  -- a list in two stretches, between which a new entry is put
+  abbrev pub Parted : List (Entry T) → (Entry T → List (Entry T)) → Type 0
+  Parted es put = (front : List (Entry T)) × (back : List (Entry T)) × (es ≡ front ++ back) × ((new : Entry T) → put new ≡ front ++ new ∷ back)
+
   -- a new entry directly after one that is there stands between two stretches
-  pub insert_after-between : (es : List (Entry T)) (i : ℕ) → IsSome (entry_at es i)
-      → (front : List (Entry T)) × (back : List (Entry T)) × (es ≡ front ++ back) × ((new : Entry T) → insert_after i new es ≡ front ++ new ∷ back)
+  pub insert_after-between : (es : List (Entry T)) (i : ℕ) → IsSome (entry_at es i) → Parted es (λ new. insert_after i new es)
   insert_after-between es i there =
       let s = Stands-occurs es i (entry-occurs es i there) in
       let behind = λ (xs : List (Entry T)). append_assoc s.front (s.entry ∷ []) xs in
       (s.front ++ s.entry ∷ [], s.back, s.split ∙ sym (behind s.back), λ new. s.after new ∙ sym (behind (new ∷ s.back)))
 
   -- and so directly before it
-  pub insert_before-between : (es : List (Entry T)) (i : ℕ) → IsSome (entry_at es i)
-      → (front : List (Entry T)) × (back : List (Entry T)) × (es ≡ front ++ back) × ((new : Entry T) → insert_before i new es ≡ front ++ new ∷ back)
+  pub insert_before-between : (es : List (Entry T)) (i : ℕ) → IsSome (entry_at es i) → Parted es (λ new. insert_before i new es)
   insert_before-between es i there = let s = Stands-occurs es i (entry-occurs es i there) in (s.front, s.entry ∷ s.back, s.split, s.before)
 
 module _ {T : Type 0} where

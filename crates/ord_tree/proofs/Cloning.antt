@@ -15,7 +15,7 @@ use Rattle.chain_base.specs.Compression.{lesser, entry_before, refilled}
 use Rattle.chain_base.specs.Walk.{pointers}
 use Rattle.chain_base.specs.Clone.{links_among, links_rising, taken_over, IsClone as IsClonedList, IsRefusedClone as IsRefusedList}
 use Rattle.chain_base.proofs.CallerLemmas.{clone-kept}
-use Rattle.ord_tree.specs.declared.node.SimpleOrdArenaNode.{SimpleOrdArenaNode}
+use Rattle.ord_tree.specs.declared.node.SimpleOrdArenaNode.{SimpleOrdArenaNode as Node}
 use Rattle.ord_tree.specs.Node.{bare_entry, bare, entry_in, links_in, slots_of, indexes}
 use Rattle.ord_tree.specs.Tree.{Tree}
 use Rattle.ord_tree.specs.Layout.{shape_in, tree_of, IsLaidOut}
@@ -26,124 +26,115 @@ use Rattle.ord_tree.proofs.Compressing.{bare-refilled, lesser-bare}
 
 module _ {P T I G : Type 0} where
   -- a link without its node
-  abbrev pub bare_link : Link (SimpleOrdArenaNode P T I G) → Link T
+  abbrev pub bare_link : Link (Node P T I G) → Link T
   bare_link l = record { item = l.item.t; prev = l.prev; next = l.next }
 
   -- index, generation and link of an entry, without its node
-  abbrev pub linked_in : ℕ × ℕ × Link (SimpleOrdArenaNode P T I G) → ℕ × ℕ × Link T
+  abbrev pub linked_in : ℕ × ℕ × Link (Node P T I G) → ℕ × ℕ × Link T
   linked_in e = (e.0, e.1, bare_link e.2)
 
-  first_or-bare : (after : Option ℕ) (es : List (Entry (SimpleOrdArenaNode P T I G))) → first_or after (map bare_entry es) ≡ first_or after es
+  first_or-bare : (after : Option ℕ) (es : List (Entry (Node P T I G))) → first_or after (map bare_entry es) ≡ first_or after es
   first_or-bare after [] = refl
   first_or-bare after (e ∷ es) = refl
 
-  link_between-bare : (before after : Option ℕ) (es : List (Entry (SimpleOrdArenaNode P T I G))) (i : ℕ)
-      → link_between before after (map bare_entry es) i ≡ option_map (λ e. (e.0, bare_link e.1)) (link_between before after es i)
-  link_between-bare before after [] i = refl
-  link_between-bare before after (e ∷ es) i =
-      ⊎_elim (λ (same : e.index ≡ i). rw (eq-eqb e.index i same, first_or-bare after es) refl)
-      (λ (other : e.index ≢ i). rw (ne_eqb e.index i other) (link_between-bare (Some e.index) after es i)) (cases_eq e.index i)
+  -- a generation with a link, without its node
+  abbrev pub bare_held : ℕ × Link (Node P T I G) → ℕ × Link T
+  bare_held e = (e.0, bare_link e.1)
 
-  links_among-bare : (es : List (Entry (SimpleOrdArenaNode P T I G))) (from count : ℕ) → links_among (map bare_entry es) from count ≡ map linked_in (links_among es from count)
+  module _ (i : ℕ) (after : Option ℕ) where
+    link_between-bare : (before : Option ℕ) (es : List (Entry (Node P T I G))) → link_between before after (map bare_entry es) i ≡ option_map bare_held (link_between before after es i)
+    link_between-bare before [] = refl
+    link_between-bare before (e ∷ es) =
+        ⊎_elim (λ (same : e.index ≡ i). rw (eq-eqb e.index i same, first_or-bare after es) refl)
+        (λ (other : e.index ≢ i). rw (ne_eqb e.index i other) (link_between-bare (Some e.index) es)) (cases_eq e.index i)
+
+  links_among-bare : (es : List (Entry (Node P T I G))) (from count : ℕ) → links_among (map bare_entry es) from count ≡ map linked_in (links_among es from count)
   links_among-bare es from zero = refl
   links_among-bare es from (suc count) =
-      rw (link_between-bare None None es from, links_among-bare es (from + 1) count) (before (link_at es from) (links_among es (from + 1) count))
+      rw (link_between-bare from None None es, links_among-bare es (from + 1) count) (before (link_at es from) (links_among es (from + 1) count))
     where
-      before : (o : Option (ℕ × Link (SimpleOrdArenaNode P T I G))) (rest : List (ℕ × ℕ × Link (SimpleOrdArenaNode P T I G)))
-          → entry_before from (option_map (λ e. (e.0, bare_link e.1)) o) (map linked_in rest) ≡ map linked_in (entry_before from o rest)
+      before : (o : Option (ℕ × Link (Node P T I G))) (rest : List _) → entry_before from (option_map bare_held o) (map linked_in rest) ≡ map linked_in (entry_before from o rest)
       before None rest = refl
       before (Some e) rest = refl
 
-  pointers-bare : (es : List (Entry (SimpleOrdArenaNode P T I G))) → pointers (map bare_entry es) ≡ pointers es
+  pointers-bare : (es : List (Entry (Node P T I G))) → pointers (map bare_entry es) ≡ pointers es
   pointers-bare [] = refl
   pointers-bare (e ∷ es) = ap (λ ps. (e.index, e.generation) ∷ ps) (pointers-bare es)
 
-  indexes-pointers : (es : List (Entry (SimpleOrdArenaNode P T I G))) → indexes es ≡ map (λ (p : ℕ × ℕ). p.0) (pointers es)
+  indexes-pointers : (es : List (Entry (Node P T I G))) → indexes es ≡ map (λ (p : ℕ × ℕ). p.0) (pointers es)
   indexes-pointers [] = refl
   indexes-pointers (e ∷ es) = ap (λ ps. e.index ∷ ps) (indexes-pointers es)
 
   -- a tree without entries has no root
-  pub no-root : (c : Chain (SimpleOrdArenaNode P T I G)) (root : Option ℕ) → IsLaidOut c root (shape_in c root) → length c.entries ≡ 0 → root ≡ None
+  pub no-root : (c : Chain (Node P T I G)) (root : Option ℕ) → IsLaidOut c root (shape_in c root) → length c.entries ≡ 0 → root ≡ None
   no-root c root laid none = by c.entries refl none
     where
-      by : (es : List (Entry (SimpleOrdArenaNode P T I G))) → c.entries ≡ es → length es ≡ 0 → root ≡ None
+      by : (es : List (Entry (Node P T I G))) → c.entries ≡ es → length es ≡ 0 → root ≡ None
       by [] is none = let held = laid.held in rw is at held
       by (e ∷ es) is none = absurd cc
 
 module _ {P T U I G : Type 0} where
-  bare-taken_over : (source : Chain (SimpleOrdArenaNode P U I G)) (old : Chain (SimpleOrdArenaNode P T I G)) (es : List (Entry (SimpleOrdArenaNode P T I G)))
-      → bare (taken_over source old es) ≡ taken_over (bare source) (bare old) (map bare_entry es)
-  bare-taken_over source old es =
-      bare-refilled (record old { capacity = max old.capacity (greatest_index source.entries) }) source.generation es
-      ∙ ap (λ n. refilled (record (bare old) { capacity = max old.capacity n }) source.generation (map bare_entry es)) (sym (greatest_index-bare source.entries))
+  module _ (source : Chain (Node P U I G)) (old : Chain (Node P T I G)) (es : List (Entry (Node P T I G))) where
+    bare-taken_over : bare (taken_over source old es) ≡ taken_over (bare source) (bare old) (map bare_entry es)
+    bare-taken_over =
+        bare-refilled (record old { capacity = max old.capacity (greatest_index source.entries) }) source.generation es
+        ∙ ap (λ n. refilled (record (bare old) { capacity = max old.capacity n }) source.generation (map bare_entry es)) (sym (greatest_index-bare source.entries))
 
 -- A clone into a chain of other items, by calls that are shown the nodes' items, is one of the list of these items.
-module _ {P T U I G M F : Type 0} (numbers : P → ℕ × ℕ) (below : M → P → Link (SimpleOrdArenaNode P U I G) → T → M → Type 0) (above : F → P → Link U → T → F → Type 0) (state : M → F)
-    (like : (m : M) (p : P) (l : Link (SimpleOrdArenaNode P U I G)) (x : T) (n : M) → below m p l x n → above (state m) p (bare_link l) x (state n)) where
-  pub list-told : {E : Type 0} (r : Result (Unit {0}) E) (m : M) (source : Chain (SimpleOrdArenaNode P U I G)) (old new : Chain T) (list : Chain U) → bare source ≡ list
-      → OnOk r (IsClonedList numbers below m source old new) → OnOk r (IsClonedList numbers above (state m) list old new)
-  list-told (Err e) m source old new list is h = tt
-  list-told (Ok x) m source old new list is h = rw (← is) (record {
-    items = h.items;
-    last = state h.last;
-    calls = rw (links_among-bare source.entries 1 source.capacity)
-        (let told = clones-retold numbers below above state bare_link (λ x. x) like (links_rising source) m h.last [] h.items h.calls in rw (map-id h.items) at told);
-    entries = record {
-      order = h.entries.order ∙ sym (pointers-bare source.entries);
-      made = λ i there. rw (lesser-bare source.entries i) (h.entries.made i (rw (times-bare source.entries i) at there));
-    };
-    after = h.after ∙ ap (λ n. refilled (record old { capacity = max old.capacity n }) source.generation new.entries) (sym (greatest_index-bare source.entries));
-  })
+module _ {P T U I G M F : Type 0} (numbers : P → ℕ × ℕ) (below : M → P → Link (Node P U I G) → T → M → Type 0) (above : F → P → Link U → T → F → Type 0) (state : M → F)
+    (like : (m : M) (p : P) (l : Link (Node P U I G)) (x : T) (n : M) → below m p l x n → above (state m) p (bare_link l) x (state n)) where
+  module _ (m : M) (source : Chain (Node P U I G)) (old new : Chain T) (list : Chain U) (is : bare source ≡ list) where
+    pub list-told : {E : Type 0} (r : Result (Unit {0}) E) → OnOk r (IsClonedList numbers below m source old new) → OnOk r (IsClonedList numbers above (state m) list old new)
+    list-told (Err e) h = tt
+    list-told (Ok x) h = rw (← is) (record {
+      items = h.items;
+      last = state h.last;
+      calls = rw (links_among-bare source.entries 1 source.capacity)
+          (let told = clones-retold numbers below above state bare_link (λ x. x) like (links_rising source) m h.last [] h.items h.calls in rw (map-id h.items) at told);
+      entries = record {
+        order = h.entries.order ∙ sym (pointers-bare source.entries);
+        made = λ i there. rw (lesser-bare source.entries i) (h.entries.made i (rw (times-bare source.entries i) at there));
+      };
+      after = h.after ∙ ap (λ n. refilled (record old { capacity = max old.capacity n }) source.generation new.entries) (sym (greatest_index-bare source.entries));
+    })
 
 -- The step of a clone of nodes, from that of their items.
 abbrev pub node_step : {P T U I G M N : Type 0} → (M → P → U → Result T AllocError → M → Type 0) → (N → M)
-    → N → P → Link (SimpleOrdArenaNode P U I G) → Result (SimpleOrdArenaNode P T I G) AllocError → N → Type 0
+    → N → P → Link (Node P U I G) → Result (Node P T I G) AllocError → N → Type 0
 node_step below wrapped m p link answer n =
     MatchResult answer (λ new. ClonesNode below (wrapped m) p link.item new (wrapped n)) (λ refusal. below (wrapped m) p link.item.t (Err refusal) (wrapped n))
 
 -- where what makes the items calls a closure
 module _ {P T U I G M N F : Type 0} (numbers : P → ℕ × ℕ) (below : M → P → U → Result T AllocError → M → Type 0) (wrapped : N → M) (step : F → P → Bor U → Result T AllocError → F → Type 0) (closure : M → F)
     (like : (m : M) (p : P) (u : U) (r : Result T AllocError) (n : M) → below m p u r n → IsShown step (closure m) p u r (closure n)) where
-  abbrev outer : N → P → Link (SimpleOrdArenaNode P U I G) → Result (SimpleOrdArenaNode P T I G) AllocError → N → Type 0
+  abbrev outer : N → P → Link (Node P U I G) → Result (Node P T I G) AllocError → N → Type 0
   outer = node_step below wrapped
 
-  calls-bare : (es : List (ℕ × ℕ × Link (SimpleOrdArenaNode P U I G))) (s t : N) (ys : List (SimpleOrdArenaNode P T I G)) → FoldsTo {P = N × List (SimpleOrdArenaNode P T I G)} (CloneStep numbers (Grants numbers outer)) (s, []) es (t, ys)
-      → FoldsTo {P = F × List T} (CloneStep numbers (Grants numbers (ShowsItem step))) (closure (wrapped s), []) (map linked_in es) (closure (wrapped t), map (λ n. n.t) ys)
-  calls-bare es s t ys calls =
-      clones-retold numbers (Grants numbers outer) (Grants numbers (ShowsItem step)) (λ n. closure (wrapped n)) bare_link (λ n. n.t) (λ s p l x t made. like (wrapped s) p l.item.t (Ok x.t) (wrapped t) made.called) es s t [] ys calls
+  module _ (s : N) (source : Chain (Node P U I G)) (old new : Chain (Node P T I G)) where
+    stops-bare : StopsAtRefusal {T = Node P T I G} numbers outer s (links_rising source) → StopsAtRefusal numbers (ShowsItem step) (closure (wrapped s)) (links_rising (bare source))
+    stops-bare h =
+        rw (links_among-bare source.entries 1 source.capacity)
+        (stops-retold numbers outer (ShowsItem step) (λ n. closure (wrapped n)) bare_link (λ n. n.t) (λ s p l x t made. like (wrapped s) p l.item.t (Ok x.t) (wrapped t) made.called)
+        (λ s p l e t called. like (wrapped s) p l.item.t (Err e) (wrapped t) called) s (links_rising source) h)
 
-  stops-bare : (source : Chain (SimpleOrdArenaNode P U I G)) (s : N) → StopsAtRefusal {T = SimpleOrdArenaNode P T I G} numbers outer s (links_rising source)
-      → StopsAtRefusal numbers (ShowsItem step) (closure (wrapped s)) (links_rising (bare source))
-  stops-bare source s h =
-      rw (links_among-bare source.entries 1 source.capacity)
-      (stops-retold numbers outer (ShowsItem step) (λ n. closure (wrapped n)) bare_link (λ n. n.t) (λ s p l x t made. like (wrapped s) p l.item.t (Ok x.t) (wrapped t) made.called)
-      (λ s p l e t called. like (wrapped s) p l.item.t (Err e) (wrapped t) called) s (links_rising source) h)
-
-  module _ (s : N) (source : Chain (SimpleOrdArenaNode P U I G)) (old new : Chain (SimpleOrdArenaNode P T I G)) where
     list-bare : IsClonedList numbers (Grants numbers outer) s source old new
         → IsClonedList numbers (Grants numbers (ShowsItem step)) (closure (wrapped s)) (bare source) (bare old) (bare new)
     list-bare h = record {
       items = map (λ n. n.t) h.items;
       last = closure (wrapped h.last);
-      calls = rw (links_among-bare source.entries 1 source.capacity) (calls-bare (links_rising source) s h.last h.items h.calls);
+      calls = rw (links_among-bare source.entries 1 source.capacity) (clones-retold numbers (Grants numbers outer) (Grants numbers (ShowsItem step)) (λ n. closure (wrapped n)) bare_link (λ n. n.t)
+          (λ s p l x t made. like (wrapped s) p l.item.t (Ok x.t) (wrapped t) made.called) (links_rising source) s h.last [] h.items h.calls);
       entries = record {
         order = pointers-bare new.entries ∙ (h.entries.order ∙ sym (pointers-bare source.entries));
-        made = λ i there. rw (entry_at-bare new.entries i, lesser-bare source.entries i, slice_get-map (λ (n : SimpleOrdArenaNode P T I G). n.t) h.items (lesser source.entries i))
-            (twice (entry_at new.entries i) ∙ ap (option_map (λ (n : SimpleOrdArenaNode P T I G). n.t)) (h.entries.made i (rw (times-bare source.entries i) at there)));
+        made = λ i there. rw (entry_at-bare new.entries i, lesser-bare source.entries i, slice_get-map (λ (n : Node P T I G). n.t) h.items (lesser source.entries i))
+            (twice (entry_at new.entries i) ∙ ap (option_map (λ (n : Node P T I G). n.t)) (h.entries.made i (rw (times-bare source.entries i) at there)));
       };
       after = ap bare h.after ∙ bare-taken_over source old new.entries;
     }
       where
-        twice : (o : Option (ℕ × SimpleOrdArenaNode P T I G)) → option_map (λ e. e.1) (option_map entry_in o) ≡ option_map (λ n. n.t) (option_map {U = SimpleOrdArenaNode P T I G} (λ e. e.1) o)
+        twice : (o : Option (ℕ × Node P T I G)) → option_map (λ e. e.1) (option_map entry_in o) ≡ option_map (λ n. n.t) (option_map {U = Node P T I G} (λ e. e.1) o)
         twice None = refl
         twice (Some e) = refl
-
-    pub refused-tree : (root before : Option ℕ) (x : Tree U) (y : Tree T) → tree_of source root ≡ x → tree_of old before ≡ y → IsRefusedList numbers outer s source old new
-        → IsRefusedClone numbers step (closure (wrapped s)) x y (tree_of new None)
-    refused-tree root before x y is_x is_y h = record {
-      list = rw (← is_x, ← is_y) (record { stops = stops-bare source s h.stops; after = ap bare h.after ∙ bare-taken_over source old [] });
-      shape = rw h.after refl;
-    }
 
     module _ (most : ℕ) (greatest : Option ℕ) (sound : IsSound most greatest source) (root : Option ℕ) (laid : IsLaidOut source root (shape_in source root))
         (h : IsClonedList numbers (Grants numbers outer) s source old new) where
@@ -159,16 +150,23 @@ module _ {P T U I G M N F : Type 0} (numbers : P → ℕ × ℕ) (below : M → 
       tree-cloned : (before : Option ℕ) → IsClone numbers step (closure (wrapped s)) (tree_of source root) (tree_of old before) (tree_of new root)
       tree-cloned before = record { list = list-bare h; shape = shape_in-linked source new root links order laid }
 
-    pub clone-told : {E : Type 0} (r : Result (Unit {0}) E) (most : ℕ) (greatest : Option ℕ) → IsSound most greatest source → (root before : Option ℕ) → IsLaidOut source root (shape_in source root)
-        → (x : Tree U) (y : Tree T) → tree_of source root ≡ x → tree_of old before ≡ y → OnOk r (IsClonedList numbers (Grants numbers outer) s source old new)
-        → OnOk r (IsClone numbers step (closure (wrapped s)) x y (tree_of new root))
-    clone-told (Ok done) most greatest sound root before laid x y is_x is_y h = rw (← is_x, ← is_y) (tree-cloned most greatest sound root laid h before)
-    clone-told (Err e) most greatest sound root before laid x y is_x is_y h = tt
+    module _ (root before : Option ℕ) (x : Tree U) (y : Tree T) (is_x : tree_of source root ≡ x) (is_y : tree_of old before ≡ y) where
+      pub refused-tree : IsRefusedList numbers outer s source old new → IsRefusedClone numbers step (closure (wrapped s)) x y (tree_of new None)
+      refused-tree h = record {
+        list = rw (← is_x, ← is_y) (record { stops = stops-bare h.stops; after = ap bare h.after ∙ bare-taken_over source old [] });
+        shape = rw h.after refl;
+      }
+
+      module _ (most : ℕ) (greatest : Option ℕ) (sound : IsSound most greatest source) (laid : IsLaidOut source root (shape_in source root)) where
+        pub clone-told : {E : Type 0} (r : Result (Unit {0}) E) → OnOk r (IsClonedList numbers (Grants numbers outer) s source old new)
+            → OnOk r (IsClone numbers step (closure (wrapped s)) x y (tree_of new root))
+        clone-told (Ok done) h = rw (← is_x, ← is_y) (tree-cloned most greatest sound root laid h before)
+        clone-told (Err e) h = tt
 
 -- a chain that was kept, and has no entry, is the tree that it was without a root
-pub kept-tree : {P T I G : Type 0} (old new : Chain (SimpleOrdArenaNode P T I G)) (root : Option ℕ) → IsLaidOut old root (shape_in old root) → new ≡ old
-    → (length new.entries == 0) ≡ true → tree_of new None ≡ tree_of old root
-kept-tree old new root laid kept empty =
-    let gone : length new.entries ≡ 0 = elim (eqb_tells (length new.entries) 0) [ inl h ↦ h.1 | inr h ↦ absurd (false≢true (sym h.0 ∙ empty)) ] in
-    let none = rw kept at gone in
-    rw (kept, no-root old root laid none) refl
+module _ {P T I G : Type 0} (old new : Chain (Node P T I G)) (root : Option ℕ) (laid : IsLaidOut old root (shape_in old root)) (kept : new ≡ old) where
+  pub kept-tree : (length new.entries == 0) ≡ true → tree_of new None ≡ tree_of old root
+  kept-tree empty =
+      let gone : length new.entries ≡ 0 = elim (eqb_tells (length new.entries) 0) [ inl h ↦ h.1 | inr h ↦ absurd (false≢true (sym h.0 ∙ empty)) ] in
+      let none = rw kept at gone in
+      rw (kept, no-root old root laid none) refl

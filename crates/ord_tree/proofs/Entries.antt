@@ -5,7 +5,7 @@ use Rattle.std.proofs.lemmas.Bool.Decides.{eqb_tells}
 use Rattle.std.proofs.lemmas.Option.{same_Some}
 use Rattle.chain_base.specs.Chain.{Entry, Chain, entry_at, with_item_among, with_item as chain_with_item}
 use Rattle.chain_base.proofs.CallerLemmas.{entry_at-with_item_among, entry_at-with_item_among_other}
-use Rattle.ord_tree.specs.declared.node.SimpleOrdArenaNode.{SimpleOrdArenaNode}
+use Rattle.ord_tree.specs.declared.node.SimpleOrdArenaNode.{SimpleOrdArenaNode as Node}
 use Rattle.ord_tree.specs.declared.tree_links.TreeLinks.{TreeLinks}
 use Rattle.ord_tree.specs.declared.tree_links.Side.{Side}
 use Rattle.ord_tree.specs.declared.tree_links.Side.TheVariants.{Lesser, Greater}
@@ -18,21 +18,21 @@ back-with_child Lesser child l = refl
 back-with_child Greater child l = refl
 
 module _ {P T I G : Type 0} where
-  pub bare-with_item : (es : List (Entry (SimpleOrdArenaNode P T I G))) (i : ℕ) (e : ℕ × SimpleOrdArenaNode P T I G) (x : SimpleOrdArenaNode P T I G)
-      → entry_at es i ≡ Some e → x.t ≡ e.1.t → map bare_entry (with_item_among es i x) ≡ map bare_entry es
-  bare-with_item [] i e x h t = refl
-  bare-with_item (a ∷ es) i e x h t = elim (eqb_tells a.index i) [
-    | inl same ↦
-        let found : Some (a.generation, a.item) ≡ Some e = rw same.0 at h in
-        let item : a.item ≡ e.1 = ap (λ (p : ℕ × SimpleOrdArenaNode P T I G). p.1) (same_Some (a.generation, a.item) e found) in
-        rw same.0 (ap (λ (y : T). record { index = a.index; generation = a.generation; item = y } ∷ map bare_entry es) (t ∙ sym (ap (λ (n : SimpleOrdArenaNode P T I G). n.t) item)))
-    | inr other ↦ rw other.0 (ap (λ ys. bare_entry a ∷ ys) (bare-with_item es i e x (rw other.0 at h) t))
-  ]
+  module _ (i : ℕ) (e : ℕ × Node P T I G) (x : Node P T I G) (t : x.t ≡ e.1.t) where
+    bare-with_item : (es : List (Entry (Node P T I G))) → entry_at es i ≡ Some e → map bare_entry (with_item_among es i x) ≡ map bare_entry es
+    bare-with_item [] h = refl
+    bare-with_item (a ∷ es) h = elim (eqb_tells a.index i) [
+      | inl same ↦
+          let found : Some (a.generation, a.item) ≡ Some e = rw same.0 at h in
+          let item : a.item ≡ e.1 = ap (λ (p : ℕ × Node P T I G). p.1) (same_Some (a.generation, a.item) e found) in
+          rw same.0 (ap (λ (y : T). record { index = a.index; generation = a.generation; item = y } ∷ map bare_entry es) (t ∙ sym (ap (λ (n : Node P T I G). n.t) item)))
+      | inr other ↦ rw other.0 (ap (λ ys. bare_entry a ∷ ys) (bare-with_item es (rw other.0 at h)))
+    ]
 
   -- the same of a whole chain
-  module _ (c : Chain (SimpleOrdArenaNode P T I G)) (i : ℕ) (e : ℕ × SimpleOrdArenaNode P T I G) (x : SimpleOrdArenaNode P T I G) (there : entry_at c.entries i ≡ Some e) where
+  module _ (c : Chain (Node P T I G)) (i : ℕ) (e : ℕ × Node P T I G) (x : Node P T I G) (there : entry_at c.entries i ≡ Some e) where
     pub slots_of-written : slots_of (chain_with_item c i x) i ≡ Some (links_in x)
-    slots_of-written = ap (option_map (λ (e : ℕ × SimpleOrdArenaNode P T I G). links_in e.1)) (entry_at-with_item_among c.entries i x ∙ ap (option_map (λ d. (d.0, x))) there)
+    slots_of-written = ap (option_map (λ (e : ℕ × Node P T I G). links_in e.1)) (entry_at-with_item_among c.entries i x ∙ ap (option_map (λ d. (d.0, x))) there)
 
     pub slots_of-linked : (n : TreeLinks ℕ) → x.p_back ≡ n.back → x.p_tree0 ≡ n.lesser → x.p_tree1 ≡ n.greater → x.rank ≡ n.rank → slots_of (chain_with_item c i x) i ≡ Some n
     slots_of-linked n back lesser greater rank =
@@ -42,15 +42,15 @@ module _ {P T I G : Type 0} where
     -- links that are changed in part
     pub slots_of-changed : (change : TreeLinks ℕ → TreeLinks ℕ) → links_in x ≡ change (links_in e.1) → (n : TreeLinks ℕ) → slots_of c i ≡ Some n → slots_of (chain_with_item c i x) i ≡ Some (change n)
     slots_of-changed change made n is =
-        let read : slots_of c i ≡ Some (links_in e.1) = ap (option_map (λ (e : ℕ × SimpleOrdArenaNode P T I G). links_in e.1)) there in
+        let read : slots_of c i ≡ Some (links_in e.1) = ap (option_map (λ (e : ℕ × Node P T I G). links_in e.1)) there in
         slots_of-written ∙ (ap (λ (m : TreeLinks ℕ). Some m) made ∙ ap (λ (m : TreeLinks ℕ). Some (change m)) (same_Some (links_in e.1) n (sym read ∙ is)))
 
     pub slots_of-elsewhere : (j : ℕ) → j ≢ i → slots_of (chain_with_item c i x) j ≡ slots_of c j
-    slots_of-elsewhere j ne = ap (option_map (λ (e : ℕ × SimpleOrdArenaNode P T I G). links_in e.1)) (entry_at-with_item_among_other c.entries i j x ne)
+    slots_of-elsewhere j ne = ap (option_map (λ (e : ℕ × Node P T I G). links_in e.1)) (entry_at-with_item_among_other c.entries i j x ne)
 
     pub slots_of-occupied : (j : ℕ) → is_some (slots_of (chain_with_item c i x) j) ≡ is_some (slots_of c j)
     slots_of-occupied j =
         ⊎_elim (λ (same : j ≡ i). rw (same, slots_of-written, there) refl) (λ (other : j ≢ i). ap is_some (slots_of-elsewhere j other)) (cases_eq j i)
 
     pub bare-written : x.t ≡ e.1.t → bare (chain_with_item c i x) ≡ bare c
-    bare-written t = ap (λ (es : List (Entry T)). record { entries = es; capacity = c.capacity; vacant = c.vacant; generation = c.generation; maximum = c.maximum }) (bare-with_item c.entries i e x there t)
+    bare-written t = ap (λ (es : List (Entry T)). record { entries = es; capacity = c.capacity; vacant = c.vacant; generation = c.generation; maximum = c.maximum }) (bare-with_item i e x t c.entries there)

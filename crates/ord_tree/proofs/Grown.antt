@@ -8,7 +8,7 @@ use Rattle.chain_base.specs.Chain.{Entry, Chain, entry_at, times as entry_times,
 use Rattle.chain_base.specs.Insert.{placed, CanPlace, IsInsertion}
 use Rattle.chain_base.specs.declared.chain.insert.LinkInsertKind.{LinkInsertKind}
 use Rattle.ord_tree.specs.declared.tree_links.Branch.{Branch}
-use Rattle.ord_tree.specs.declared.node.SimpleOrdArenaNode.{SimpleOrdArenaNode}
+use Rattle.ord_tree.specs.declared.node.SimpleOrdArenaNode.{SimpleOrdArenaNode as Node}
 use Rattle.ord_tree.specs.Shape.{Shape, missing, node, walk}
 use Rattle.ord_tree.specs.Ranks.{IsRanked}
 use Rattle.ord_tree.specs.Slots.{Holds, times, IsOnce, shape_under}
@@ -24,7 +24,7 @@ use Rattle.ord_tree.proofs.Slack.{IsRanked-balanced, IsBalanced-ranked, IsTight-
 use Rattle.ord_tree.proofs.Forks.{times-walk, apart-from}
 use Rattle.ord_tree.proofs.Frames.{Holds-frame}
 use Rattle.ord_tree.proofs.Views.{MovesAtMost-backs}
-use Rattle.ord_tree.proofs.Trees.{times-bare, indexes-bare, vacant_among-bare, shape_in-held, is_some-bare}
+use Rattle.ord_tree.proofs.Trees.{links_at, times-bare, indexes-bare, vacant_among-bare, shape_in-held, is_some-bare}
 use Rattle.ord_tree.proofs.LeafBranches.{times-indexes, IsOnce-distinct, within-occupied}
 use Rattle.ord_tree.proofs.Spots.{times-beside-ge, length-beside_in}
 use Rattle.ord_tree.proofs.Puts.{put-same, put-other, put-indexes, put-bare}
@@ -52,52 +52,51 @@ module _ (P G : Type 0) {T I : Type 0} (number : I → ℕ) where
 -- an insertion's chain
 module _ {T : Type 0} where
   -- the entry that an insertion puts into the list
-  pub inserted-entries : (old new : Chain T) (place : Entry T → List (Entry T)) (item : T) (i g : ℕ) → IsInsertion old new place item i g
-      → new.entries ≡ place (record { index = i; generation = g; item = item })
-  inserted-entries old new place item i g h = go old.vacant h.next h.after
+  pub inserted-entries : (old new : Chain T) (place : Entry T → List (Entry T)) (e : Entry T)
+      → IsInsertion old new place e.item e.index e.generation → new.entries ≡ place e
+  inserted-entries old new place e h = go old.vacant h.next h.after
     where
-      go : (vacant : List ℕ) → slice_get vacant 0 ≡ Some i → new ≡ inserted (record old { vacant = vacant }) place item → new.entries ≡ place (record { index = i; generation = g; item = item })
+      go : (vacant : List ℕ) → slice_get vacant 0 ≡ Some e.index → new ≡ inserted (record old { vacant = vacant }) place e.item → new.entries ≡ place e
       go [] next after = absurd cc
       go (j ∷ rest) next after =
-          let same : j ≡ i = cc in
-          ap (λ (c : Chain T). c.entries) after ∙ ap (λ (j : ℕ). place (record { index = j; generation = old.generation; item = item })) same
-          ∙ ap (λ (g : ℕ). place (record { index = i; generation = g; item = item })) (sym h.generation)
+          let same : j ≡ e.index = cc in
+          ap (λ (c : Chain T). c.entries) after ∙ ap (λ (j : ℕ). place (record { index = j; generation = old.generation; item = e.item })) same
+          ∙ ap (λ (g : ℕ). place (record e { generation = g })) (sym h.generation)
 
 module _ {P T I G : Type 0} where
-  IsFresh-bare : (c : Chain (SimpleOrdArenaNode P T I G)) → IsFresh (bare c) → IsFresh c
+  IsFresh-bare : (c : Chain (Node P T I G)) → IsFresh (bare c) → IsFresh c
   IsFresh-bare c h = h ∙ vacant_among-bare c.entries 1 c.capacity
 
-  bare_fresh : (c : Chain (SimpleOrdArenaNode P T I G)) → IsFresh c → IsFresh (bare c)
+  bare_fresh : (c : Chain (Node P T I G)) → IsFresh c → IsFresh (bare c)
   bare_fresh c h = h ∙ sym (vacant_among-bare c.entries 1 c.capacity)
 
-  bare_inserted : (c : Chain (SimpleOrdArenaNode P T I G)) (place : Entry (SimpleOrdArenaNode P T I G) → List (Entry (SimpleOrdArenaNode P T I G))) (put : Entry T → List (Entry T)) (item : SimpleOrdArenaNode P T I G)
-      → ((e : Entry (SimpleOrdArenaNode P T I G)) → map bare_entry (place e) ≡ put (bare_entry e)) → bare (inserted c place item) ≡ inserted (bare c) put item.t
-  bare_inserted c place put item same = go c.vacant
-    where
-      go : (vacant : List ℕ) → bare (inserted (record c { vacant = vacant }) place item) ≡ inserted (record (bare c) { vacant = vacant }) put item.t
-      go [] = refl
-      go (i ∷ rest) = ap (λ (es : List (Entry T)). record { entries = es; capacity = c.capacity; vacant = rest; generation = c.generation; maximum = c.maximum }) (same (record { index = i; generation = c.generation; item = item }))
+  module _ (old new last : Chain (Node P T I G)) (place : Entry (Node P T I G) → List (Entry (Node P T I G))) (put : Entry T → List (Entry T)) (item : Node P T I G) (i g : ℕ)
+      (same : (e : Entry (Node P T I G)) → map bare_entry (place e) ≡ put (bare_entry e)) (kept : bare last ≡ bare new) where
+    bare_inserted : (vacant : List ℕ) → bare (inserted (record old { vacant = vacant }) place item) ≡ inserted (record (bare old) { vacant = vacant }) put item.t
+    bare_inserted [] = refl
+    bare_inserted (i ∷ rest) = ap (λ (es : List (Entry T)). record { entries = es; capacity = old.capacity; vacant = rest; generation = old.generation; maximum = old.maximum }) (same (record { index = i; generation = old.generation; item = item }))
 
-  -- the insertion as the list sees it
-  pub IsInsertion-bare : (old new last : Chain (SimpleOrdArenaNode P T I G)) (place : Entry (SimpleOrdArenaNode P T I G) → List (Entry (SimpleOrdArenaNode P T I G)))
-      (put : Entry T → List (Entry T)) (item : SimpleOrdArenaNode P T I G) (i g : ℕ)
-      → ((e : Entry (SimpleOrdArenaNode P T I G)) → map bare_entry (place e) ≡ put (bare_entry e)) → bare last ≡ bare new → IsInsertion old new place item i g → IsInsertion (bare old) (bare last) put item.t i g
-  IsInsertion-bare old new last place put item i g same kept h =
-      let Fresh : Chain T → Type 0 = λ c. IsFresh (bare old) → IsFresh c in
-      record {
-        next = h.next;
-        vacant = record { above = h.vacant.above; within = h.vacant.within; free = times-bare old.entries i ∙ h.vacant.free };
-        least = λ fresh k low high. is_some-bare old.entries k ∙ h.least (IsFresh-bare old fresh) k low high;
-        generation = h.generation;
-        after = kept ∙ ap bare h.after ∙ bare_inserted old place put item same;
-        fresh = subst Fresh (sym kept) (λ fresh. bare_fresh new (h.fresh (IsFresh-bare old fresh)));
-      }
+    -- the insertion as the list sees it
+    pub IsInsertion-bare : IsInsertion old new place item i g → IsInsertion (bare old) (bare last) put item.t i g
+    IsInsertion-bare h =
+        let Fresh : Chain T → Type 0 = λ c. IsFresh (bare old) → IsFresh c in
+        record {
+          next = h.next;
+          vacant = record { above = h.vacant.above; within = h.vacant.within; free = times-bare old.entries i ∙ h.vacant.free };
+          least = λ fresh k low high. is_some-bare old.entries k ∙ h.least (IsFresh-bare old fresh) k low high;
+          generation = h.generation;
+          after = kept ∙ ap bare h.after ∙ bare_inserted old.vacant;
+          fresh = subst Fresh (sym kept) (λ fresh. bare_fresh new (h.fresh (IsFresh-bare old fresh)));
+        }
 
 -- the tree with the new entry beside another
-module _ {P T I G : Type 0} (number : I → ℕ) (c d : Chain (SimpleOrdArenaNode P T I G)) (root : Option ℕ) (at : I × Ordering) (x g : ℕ) (leaf : SimpleOrdArenaNode P T I G)
-    (laid : IsLaidOut c root (shape_in c root)) (occupied : is_some (entry_at c.entries (number at.0)) ≡ true) (free : entry_times x c.entries ≡ 0)
-    (entries : d.entries ≡ put_on at.1 (number at.0) c.entries (record { index = x; generation = g; item = leaf }))
+module _ {P T I G : Type 0} (number : I → ℕ) (c d : Chain (Node P T I G)) (root : Option ℕ) (at : I × Ordering) (new_entry : Entry (Node P T I G))
+    (laid : IsLaidOut c root (shape_in c root)) (occupied : is_some (entry_at c.entries (number at.0)) ≡ true) (free : entry_times new_entry.index c.entries ≡ 0)
+    (entries : d.entries ≡ put_on at.1 (number at.0) c.entries new_entry)
     (most : ℕ) (greatest : Option ℕ) (sound : IsSound most greatest d) (fits : most + 1 < 2 ^ 64) where
+  abbrev x : ℕ
+  x = new_entry.index
+
   abbrev order : List ℕ
   order = indexes c.entries
 
@@ -106,18 +105,17 @@ module _ {P T I G : Type 0} (number : I → ℕ) (c d : Chain (SimpleOrdArenaNod
 
   slots_other : (j : ℕ) → j ≢ x → slots_of d j ≡ slots_of c j
   slots_other j ne =
-      ap (λ (es : List (Entry (SimpleOrdArenaNode P T I G))). option_map (λ (e : ℕ × SimpleOrdArenaNode P T I G). links_in e.1) (entry_at es j)) entries
-      ∙ ap (option_map (λ (e : ℕ × SimpleOrdArenaNode P T I G). links_in e.1)) (put-other at.1 c.entries (number at.0) j (record { index = x; generation = g; item = leaf }) occupied ne)
+      ap (λ (es : List (Entry (Node P T I G))). links_at es j) entries
+      ∙ ap (option_map (λ (e : ℕ × Node P T I G). links_in e.1)) (put-other at.1 c.entries (number at.0) occupied new_entry j ne)
 
-  slots_x : slots_of d x ≡ Some (links_in leaf)
+  slots_x : slots_of d x ≡ Some (links_in new_entry.item)
   slots_x =
-      ap (λ (es : List (Entry (SimpleOrdArenaNode P T I G))). option_map (λ (e : ℕ × SimpleOrdArenaNode P T I G). links_in e.1) (entry_at es x)) entries
-      ∙ ap (option_map (λ (e : ℕ × SimpleOrdArenaNode P T I G). links_in e.1)) (put-same at.1 c.entries (number at.0) (record { index = x; generation = g; item = leaf }) occupied free)
+      ap (λ (es : List (Entry (Node P T I G))). links_at es x) entries
+      ∙ ap (option_map (λ (e : ℕ × Node P T I G). links_in e.1)) (put-same at.1 c.entries (number at.0) occupied new_entry free)
 
   pub order_is : indexes d.entries ≡ beside (side_at at.1) (number at.0) x order
   order_is =
-      ap (λ (es : List (Entry (SimpleOrdArenaNode P T I G))). indexes es) entries
-      ∙ put-indexes at.1 c.entries (number at.0) (record { index = x; generation = g; item = leaf })
+      ap (λ (es : List (Entry (Node P T I G))). indexes es) entries ∙ put-indexes at.1 c.entries (number at.0) new_entry
 
   fresh : times x order ≡ 0
   fresh = times-indexes c.entries x ∙ free
@@ -134,7 +132,7 @@ module _ {P T I G : Type 0} (number : I → ℕ) (c d : Chain (SimpleOrdArenaNod
         arith,
         length-beside_in (side_at at.1) (number at.0) x order (within-occupied c.entries (number at.0) occupied),
         ap length order_is,
-        length-map d.entries (λ (e : Entry (SimpleOrdArenaNode P T I G)). e.index),
+        length-map d.entries (λ (e : Entry (Node P T I G)). e.index),
         sound.counted,
         sound.within_limit,
         limit_of-below most d.maximum,
@@ -146,19 +144,20 @@ module _ {P T I G : Type 0} (number : I → ℕ) (c d : Chain (SimpleOrdArenaNod
       Holds-frame (slots_of c) (slots_of d) before None root
       (λ j inside. slots_other j (apart-from x j (λ j. times j order) fresh (omega (arith, inside, times-walk j before, ap (times j) laid.listed)))) laid.held
 
-  pub new_leaf : (slack : ℕ) (branch : Branch I) → IsBalanced slack before → IsLeafBranch number (number at.0) (side_at at.1) (slots_of c) order branch → links_in leaf ≡ leaf_links (Some (number branch.parent))
-      → IsNewLeaf (slots_of d) root branch.side (number branch.parent) x order slack
-  new_leaf slack branch balanced bud leaf_is = record {
-    built = record { shape = before; held = held_d; listed = laid.listed; balanced = balanced };
-    within = bud.within;
-    bare = λ n e. bud.bare n (sym (slots_other (number branch.parent) (apart-from x (number branch.parent) (λ j. times j order) fresh bud.within)) ∙ e);
-    leaf = slots_x ∙ ap Some leaf_is;
-    fresh = fresh;
-    once = once;
-    few = few;
-  }
+  module _ (branch : Branch I) (bud : IsLeafBranch number (number at.0) (side_at at.1) (slots_of c) order branch)
+      (leaf_is : links_in new_entry.item ≡ leaf_links (Some (number branch.parent))) where
+    pub new_leaf : (slack : ℕ) → IsBalanced slack before → IsNewLeaf (slots_of d) root branch.side (number branch.parent) x order slack
+    new_leaf slack balanced = record {
+      built = record { shape = before; held = held_d; listed = laid.listed; balanced = balanced };
+      within = bud.within;
+      bare = λ n e. bud.bare n (sym (slots_other (number branch.parent) (apart-from x (number branch.parent) (λ j. times j order) fresh bud.within)) ∙ e);
+      leaf = slots_x ∙ ap Some leaf_is;
+      fresh = fresh;
+      once = once;
+      few = few;
+    }
 
-  module _ (new : Chain (SimpleOrdArenaNode P T I G)) (root' : Option ℕ) (branch : Branch I) (bud : IsLeafBranch number (number at.0) (side_at at.1) (slots_of c) order branch) (kept : bare new ≡ bare d)
+  module _ (new : Chain (Node P T I G)) (root' : Option ℕ) (branch : Branch I) (bud : IsLeafBranch number (number at.0) (side_at at.1) (slots_of c) order branch) (kept : bare new ≡ bare d)
       (repaired : (slack : ℕ) → IsBalanced slack before → IsRepaired (slots_of d) (slots_of new) root' (beside branch.side (number branch.parent) x order) slack) where
     listed_new : beside branch.side (number branch.parent) x order ≡ indexes new.entries
     listed_new = bud.put x ∙ sym order_is ∙ sym (indexes-bare d.entries) ∙ ap (λ (c : Chain T). indexes c.entries) (sym kept) ∙ indexes-bare new.entries
@@ -187,21 +186,21 @@ module _ {P T I G : Type 0} (number : I → ℕ) (c d : Chain (SimpleOrdArenaNod
         }
 
 -- the tree of one entry
-module _ {P T I G : Type 0} (c d : Chain (SimpleOrdArenaNode P T I G)) (root : Option ℕ) (x g : ℕ) (leaf : SimpleOrdArenaNode P T I G)
+module _ {P T I G : Type 0} (c d : Chain (Node P T I G)) (root : Option ℕ) (x g : ℕ) (leaf : Node P T I G)
     (empty : c.entries ≡ []) (entries : d.entries ≡ record { index = x; generation = g; item = leaf } ∷ []) (leaf_is : links_in leaf ≡ leaf_links None) where
   slots_alone : slots_of d x ≡ Some (leaf_links None)
   slots_alone =
-      ap (λ (es : List (Entry (SimpleOrdArenaNode P T I G))). option_map (λ (e : ℕ × SimpleOrdArenaNode P T I G). links_in e.1) (entry_at es x)) entries
+      ap (λ (es : List (Entry (Node P T I G))). links_at es x) entries
       ∙ rw (eq-eqb x x refl) (ap Some leaf_is)
 
   held_alone : Holds (slots_of d) None (Some x) (node missing x 1 missing)
   held_alone = (leaf_links None, refl, slots_alone, refl, refl, refl, refl)
 
   shape_alone : shape_in d (Some x) ≡ node missing x 1 missing
-  shape_alone = shape_in-held d (Some x) (node missing x 1 missing) held_alone (ap (λ (es : List (Entry (SimpleOrdArenaNode P T I G))). indexes es) (sym entries))
+  shape_alone = shape_in-held d (Some x) (node missing x 1 missing) held_alone (ap (λ (es : List (Entry (Node P T I G))). indexes es) (sym entries))
 
   shape_none : shape_in c root ≡ missing
-  shape_none = ap (λ (es : List (Entry (SimpleOrdArenaNode P T I G))). shape_under (length es) (slots_of c) root) empty
+  shape_none = ap (λ (es : List (Entry (Node P T I G))). shape_under (length es) (slots_of c) root) empty
 
   ranked_alone : IsRanked (node missing x 1 missing)
   ranked_alone = (record { lesser = omega arith; greater = omega arith; leaf = λ _ _. refl }, tt, tt)
@@ -209,7 +208,7 @@ module _ {P T I G : Type 0} (c d : Chain (SimpleOrdArenaNode P T I G)) (root : O
   pub IsLaidOut-alone : IsLaidOut d (Some x) (shape_in d (Some x))
   IsLaidOut-alone =
       let L : Shape → Type 0 = λ s. IsLaidOut d (Some x) s in
-      subst L (sym shape_alone) (record { held = held_alone; listed = ap (λ (es : List (Entry (SimpleOrdArenaNode P T I G))). indexes es) (sym entries); ranked = ranked_alone })
+      subst L (sym shape_alone) (record { held = held_alone; listed = ap (λ (es : List (Entry (Node P T I G))). indexes es) (sym entries); ranked = ranked_alone })
 
   pub IsGrown-alone : IsGrown (shape_in c root) (shape_in d (Some x))
   IsGrown-alone =
@@ -217,101 +216,123 @@ module _ {P T I G : Type 0} (c d : Chain (SimpleOrdArenaNode P T I G)) (root : O
       let B : Shape → Type 0 = λ s. IsGrown missing s in
       subst A (sym shape_none) (subst B (sym shape_alone) (record { ranked = ranked_alone; tight = λ _. (inl refl, tt, tt); moved = ([], omega arith, λ i p q old new. elim old [ ]) }))
 
--- an insertion as a whole
-module _ {P T I G : Type 0} (number : I → ℕ) (c d : Chain (SimpleOrdArenaNode P T I G)) (root : Option ℕ) (x g : ℕ) (leaf : SimpleOrdArenaNode P T I G)
-    (laid : IsLaidOut c root (shape_in c root)) (free : entry_times x c.entries ≡ 0)
-    (most : ℕ) (greatest : Option ℕ) (sound : IsSound most greatest d) (fits : most + 1 < 2 ^ 64) where
-  pub grow_allowed : (at : Option (I × Ordering)) (branch : Option (Branch I)) → CanPutAt number at c
-      → ((root : Option ℕ) (s : Shape) → IsLaidOut c root s → IsDistinct c.entries → IsLeafBranchAt number at (slots_of c) (indexes c.entries) branch)
-      → d.entries ≡ put_at number at c.entries (record { index = x; generation = g; item = leaf }) → links_in leaf ≡ leaf_links (option_map (λ (p : Branch I). number p.parent) branch)
-      → MatchOption branch (Unit {0}) (λ p. (order : List ℕ) × (slack : ℕ) × IsNewLeaf (slots_of d) root p.side (number p.parent) x order slack)
-  grow_allowed at None can bud entries leaf_is = tt
-  grow_allowed None (Some branch) can bud entries leaf_is = absurd (let none = bud root (shape_in c root) laid (λ i. let e = ap (entry_times i) can in omega arith) in cc)
-  grow_allowed (Some at) (Some branch) can bud entries leaf_is =
-      let apart = distinct number c d root at x g leaf laid can.0 free entries most greatest sound fits in
-      (indexes c.entries, 1, new_leaf number c d root at x g leaf laid can.0 free entries most greatest sound fits 1 branch (IsBalanced-ranked (shape_in c root) laid.ranked) (bud root (shape_in c root) laid apart) leaf_is)
+-- what the steps of an insertion say to each other, where `branch` is the one under which the new entry x hangs
+module _ {P T I G : Type 0} (number : I → ℕ) (branch : Option (Branch I)) where
+  -- it is the one for this place, in each tree that lies in the chain
+  abbrev pub IsBranchFor : Chain (Node P T I G) → Option (I × Ordering) → Type 0
+  IsBranchFor c at = (root : Option ℕ) (s : Shape) → IsLaidOut c root s → IsDistinct c.entries → IsLeafBranchAt number at (slots_of c) (indexes c.entries) branch
 
-  pub grown_whole : (at : Option (I × Ordering)) (branch : Option (Branch I)) → CanPutAt number at c
-      → ((root : Option ℕ) (s : Shape) → IsLaidOut c root s → IsDistinct c.entries → IsLeafBranchAt number at (slots_of c) (indexes c.entries) branch)
-      → d.entries ≡ put_at number at c.entries (record { index = x; generation = g; item = leaf }) → links_in leaf ≡ leaf_links (option_map (λ (p : Branch I). number p.parent) branch)
-      → (new : Chain (SimpleOrdArenaNode P T I G)) (root' : Option I) (y : I) → number y ≡ x → bare new ≡ bare d
-      → MatchOption branch ((new ≡ d) × (root' ≡ Some y))
-      (λ p. (order : List ℕ) (slack : ℕ) → IsNewLeaf (slots_of d) root p.side (number p.parent) x order slack → IsRepaired (slots_of d) (slots_of new) (option_map number root') (beside p.side (number p.parent) x order) slack)
-      → IsLaidOut new (option_map number root') (shape_in new (option_map number root')) × IsGrown (shape_in c root) (shape_in new (option_map number root'))
-  grown_whole None None can bud entries leaf_is new root' y y_is kept same =
-      let e : List (Entry (SimpleOrdArenaNode P T I G)) = record { index = x; generation = g; item = leaf } ∷ [] in
-      let alone = entries ∙ ap (λ (es : List (Entry (SimpleOrdArenaNode P T I G))). record { index = x; generation = g; item = leaf } ∷ es) can in
-      let named : option_map number root' ≡ Some x = ap (option_map number) same.1 ∙ ap Some y_is in
-      let R : Option ℕ → Type 0 = λ r. IsLaidOut new r (shape_in new r) × IsGrown (shape_in c root) (shape_in new r) in
-      let N : Chain (SimpleOrdArenaNode P T I G) → Type 0 = λ n. IsLaidOut n (Some x) (shape_in n (Some x)) × IsGrown (shape_in c root) (shape_in n (Some x)) in
-      subst R (sym named) (subst N (sym same.0) (IsLaidOut-alone c d root x g leaf can alone leaf_is, IsGrown-alone c d root x g leaf can alone leaf_is))
-  grown_whole (Some at) None can bud entries leaf_is new root' y y_is kept same =
-      absurd (elim (bud root (shape_in c root) laid (distinct number c d root at x g leaf laid can.0 free entries most greatest sound fits)) [ ])
-  grown_whole None (Some branch) can bud entries leaf_is new root' y y_is kept repaired = absurd (let none = bud root (shape_in c root) laid (λ i. let e = ap (entry_times i) can in omega arith) in cc)
-  grown_whole (Some at) (Some branch) can bud entries leaf_is new root' y y_is kept repaired =
-      let here = bud root (shape_in c root) laid (distinct number c d root at x g leaf laid can.0 free entries most greatest sound fits) in
-      let again : (slack : ℕ) → IsBalanced slack (shape_in c root) → IsRepaired (slots_of d) (slots_of new) (option_map number root') (beside branch.side (number branch.parent) x (indexes c.entries)) slack
-      = λ slack balanced. repaired (indexes c.entries) slack (new_leaf number c d root at x g leaf laid can.0 free entries most greatest sound fits slack branch balanced here leaf_is) in (
-        IsLaidOut-planted number c d root at x g leaf laid can.0 free entries most greatest sound fits new (option_map number root') branch here kept again,
-        IsGrown-planted number c d root at x g leaf laid can.0 free entries most greatest sound fits new (option_map number root') branch here kept again,
-      )
+  -- x is a new leaf there
+  abbrev pub CanGrow : Chain (Node P T I G) → Option ℕ → ℕ → Type 0
+  CanGrow d root x = MatchOption branch (Unit {0}) (λ p. (order : List ℕ) × (slack : ℕ) × IsNewLeaf (slots_of d) root p.side (number p.parent) x order slack)
+
+  -- the tree is repaired, or x is all of it
+  abbrev pub HasGrown : Chain (Node P T I G) → Option ℕ → I → Chain (Node P T I G) → Option I → Type 0
+  HasGrown d root x new root' = MatchOption branch ((new ≡ d) × (root' ≡ Some x)) (λ p. (order : List ℕ) (slack : ℕ) → IsNewLeaf (slots_of d) root p.side (number p.parent) (number x) order slack
+      → IsRepaired (slots_of d) (slots_of new) (option_map number root') (beside p.side (number p.parent) (number x) order) slack)
+
+  -- the new entry e was put into the list at this place, and its node has the links of a leaf under the branch
+  pub record IsPut (c d : Chain (Node P T I G)) (at : Option (I × Ordering)) (e : Entry (Node P T I G)) : Type 0 where
+    pub can : CanPutAt number at c
+    pub found : IsBranchFor c at
+    pub entries : d.entries ≡ put_at number at c.entries e
+    pub links : links_in e.item ≡ leaf_links (option_map (λ (p : Branch I). number p.parent) branch)
+
+-- the tree that lies in a chain, grown out of this shape
+abbrev pub IsGrownTo : {P T I G : Type 0} → Shape → Chain (Node P T I G) → Option ℕ → Type 0
+IsGrownTo old new root = IsLaidOut new root (shape_in new root) × IsGrown old (shape_in new root)
+
+-- an insertion as a whole
+module _ {P T I G : Type 0} (number : I → ℕ) (c d : Chain (Node P T I G)) (root : Option ℕ) (x : I) (g : ℕ) (leaf : Node P T I G)
+    (laid : IsLaidOut c root (shape_in c root)) (free : entry_times (number x) c.entries ≡ 0)
+    (most : ℕ) (greatest : Option ℕ) (sound : IsSound most greatest d) (fits : most + 1 < 2 ^ 64) where
+  abbrev new_entry : Entry (Node P T I G)
+  new_entry = record { index = number x; generation = g; item = leaf }
+
+  grow_allowed : (at : Option (I × Ordering)) (branch : Option (Branch I)) → IsPut number branch c d at new_entry → CanGrow number branch d root (number x)
+  grow_allowed at None put = tt
+  grow_allowed None (Some branch) put = absurd (let none = put.found root (shape_in c root) laid (λ i. let e = ap (entry_times i) put.can in omega arith) in cc)
+  grow_allowed (Some at) (Some branch) put =
+      let here = put.found root (shape_in c root) laid (distinct number c d root at new_entry laid put.can.0 free put.entries most greatest sound fits) in
+      (indexes c.entries, 1, new_leaf number c d root at new_entry laid put.can.0 free put.entries most greatest sound fits branch here put.links 1 (IsBalanced-ranked (shape_in c root) laid.ranked))
+
+  module _ (new : Chain (Node P T I G)) (root' : Option I) (kept : bare new ≡ bare d) where
+    grown_whole : (at : Option (I × Ordering)) (branch : Option (Branch I)) → IsPut number branch c d at new_entry
+        → HasGrown number branch d root x new root' → IsGrownTo (shape_in c root) new (option_map number root')
+    grown_whole None None put same =
+        let alone = put.entries ∙ ap (λ (es : List (Entry (Node P T I G))). new_entry ∷ es) put.can in
+        let R : Option ℕ → Type 0 = λ r. IsGrownTo (shape_in c root) new r in
+        let N : Chain (Node P T I G) → Type 0 = λ n. IsGrownTo (shape_in c root) n (Some (number x)) in
+        subst R (sym (ap (option_map number) same.1))
+        (subst N (sym same.0) (IsLaidOut-alone c d root (number x) g leaf put.can alone put.links, IsGrown-alone c d root (number x) g leaf put.can alone put.links))
+    grown_whole (Some at) None put same =
+        absurd (elim (put.found root (shape_in c root) laid (distinct number c d root at new_entry laid put.can.0 free put.entries most greatest sound fits)) [ ])
+    grown_whole None (Some branch) put repaired = absurd (let none = put.found root (shape_in c root) laid (λ i. let e = ap (entry_times i) put.can in omega arith) in cc)
+    grown_whole (Some at) (Some branch) put repaired =
+        let here = put.found root (shape_in c root) laid (distinct number c d root at new_entry laid put.can.0 free put.entries most greatest sound fits) in
+        let leaves = new_leaf number c d root at new_entry laid put.can.0 free put.entries most greatest sound fits branch here put.links in
+        let again = λ (slack : ℕ) (balanced : IsBalanced slack (shape_in c root)). repaired (indexes c.entries) slack (leaves slack balanced) in (
+          IsLaidOut-planted number c d root at new_entry laid put.can.0 free put.entries most greatest sound fits new (option_map number root') branch here kept again,
+          IsGrown-planted number c d root at new_entry laid put.can.0 free put.entries most greatest sound fits new (option_map number root') branch here kept again,
+        )
 
 -- small steps of an insertion's call
-bare_empty : {P T I G : Type 0} (es : List (Entry (SimpleOrdArenaNode P T I G))) → map bare_entry es ≡ [] → es ≡ []
+bare_empty : {P T I G : Type 0} (es : List (Entry (Node P T I G))) → map bare_entry es ≡ [] → es ≡ []
 bare_empty [] h = refl
 bare_empty (e ∷ es) h = absurd cc
 
 module _ {P T I G : Type 0} (number : I → ℕ) where
-  pub CanPutAt-bare : (at : Option (I × Ordering)) (c : Chain (SimpleOrdArenaNode P T I G)) → CanPutAt number at (bare c) → CanPutAt number at c
+  pub CanPutAt-bare : (at : Option (I × Ordering)) (c : Chain (Node P T I G)) → CanPutAt number at (bare c) → CanPutAt number at c
   CanPutAt-bare None c h = bare_empty c.entries h
   CanPutAt-bare (Some at) c h = (sym (is_some-bare c.entries (number at.0)) ∙ h.0, h.1)
 
-put_at-bare : {P T I G : Type 0} (number : I → ℕ) (at : Option (I × Ordering)) (es : List (Entry (SimpleOrdArenaNode P T I G))) (e : Entry (SimpleOrdArenaNode P T I G))
-    → map bare_entry (put_at number at es e) ≡ put_at number at (map bare_entry es) (bare_entry e)
-put_at-bare number None es e = refl
-put_at-bare number (Some at) es e = put-bare at.1 es (number at.0) e
+module _ {P T I G : Type 0} (number : I → ℕ) (es : List (Entry (Node P T I G))) (e : Entry (Node P T I G)) where
+  put_at-bare : (at : Option (I × Ordering)) → map bare_entry (put_at number at es e) ≡ put_at number at (map bare_entry es) (bare_entry e)
+  put_at-bare None = refl
+  put_at-bare (Some at) = put-bare at.1 es (number at.0) e
 
 mapped-twice : {I : Type 0} (number : I → ℕ) (branch : Option (Branch I)) → option_map number (option_map (λ (p : Branch I). p.parent) branch) ≡ option_map (λ (p : Branch I). number p.parent) branch
 mapped-twice number None = refl
 mapped-twice number (Some p) = refl
 
 -- the call of an insertion, from what its steps ensure
-module _ {P T I G : Type 0} (number : I → ℕ) (c : Chain (SimpleOrdArenaNode P T I G)) (root : Option ℕ) (at : Option (I × Ordering)) (branch : Option (Branch I))
-    {d : Chain (SimpleOrdArenaNode P T I G)} {kind : LinkInsertKind P I G}
-    {back : Option I} {t : T} {leaf : SimpleOrdArenaNode P T I G} {index era : ℕ} {x : I}
+module _ {P T I G : Type 0} (number : I → ℕ) (c : Chain (Node P T I G)) (root : Option ℕ) (at : Option (I × Ordering)) (branch : Option (Branch I))
+    {d : Chain (Node P T I G)} {kind : LinkInsertKind P I G}
+    {back : Option I} {t : T} {leaf : Node P T I G} {index era : ℕ} {x : I}
     (laid : IsLaidOut c root (shape_in c root)) (can : CanPutAt number at c)
-    (branch_is : (root : Option ℕ) (s : Shape) → IsLaidOut c root s → IsDistinct c.entries → IsLeafBranchAt number at (slots_of c) (indexes c.entries) branch)
+    (branch_is : IsBranchFor number branch c at)
     (back_is : back ≡ option_map (λ (p : Branch I). p.parent) branch)
     (leaf_is : leaf ≡ record { p_tree0 = None; p_tree1 = None; t = t; p_back = option_map number back; rank = 1 }) (kind_is : kind ≡ kind_at at)
     (insertion : IsInsertion c d (placed number kind c.entries) leaf index era) (x_is : number x ≡ index)
     (most : ℕ) (greatest : Option ℕ) (sound : IsSound most greatest d) (fits : most + 1 < 2 ^ 64) where
-  put_is : (e : Entry (SimpleOrdArenaNode P T I G)) → placed number kind c.entries e ≡ put_at number at c.entries e
+  put_is : (e : Entry (Node P T I G)) → placed number kind c.entries e ≡ put_at number at c.entries e
   put_is e = ap (λ (kind : LinkInsertKind P I G). placed number kind c.entries e) kind_is ∙ placed-put P G number at c.entries e
 
   entries_are : d.entries ≡ put_at number at c.entries (record { index = number x; generation = era; item = leaf })
   entries_are =
-      inserted-entries c d (placed number kind c.entries) leaf index era insertion ∙ put_is (record { index = index; generation = era; item = leaf })
+      inserted-entries c d (placed number kind c.entries) (record { index = index; generation = era; item = leaf }) insertion
+      ∙ put_is (record { index = index; generation = era; item = leaf })
       ∙ ap (λ (i : ℕ). put_at number at c.entries (record { index = i; generation = era; item = leaf })) (sym x_is)
 
   links_are : links_in leaf ≡ leaf_links (option_map (λ (p : Branch I). number p.parent) branch)
   links_are = ap (links_in) leaf_is ∙ ap (λ (b : Option I). leaf_links (option_map number b)) back_is ∙ ap leaf_links (mapped-twice number branch)
 
+  put : IsPut number branch c d at (record { index = number x; generation = era; item = leaf })
+  put = record { can = can; found = branch_is; entries = entries_are; links = links_are }
+
   x_free : entry_times (number x) c.entries ≡ 0
   x_free = ap (λ (i : ℕ). entry_times i c.entries) x_is ∙ insertion.vacant.free
 
-  pub call_allowed : MatchOption branch (Unit {0}) (λ p. (order : List ℕ) × (slack : ℕ) × IsNewLeaf (slots_of d) root p.side (number p.parent) (number x) order slack)
-  call_allowed = grow_allowed number c d root (number x) era leaf laid x_free most greatest sound fits at branch can branch_is entries_are links_are
+  pub call_allowed : CanGrow number branch d root (number x)
+  call_allowed = grow_allowed number c d root x era leaf laid x_free most greatest sound fits at branch put
 
-  module _ (new : Chain (SimpleOrdArenaNode P T I G)) (root' : Option I) (kept : bare new ≡ bare d)
-      (grown : MatchOption branch ((new ≡ d) × (root' ≡ Some x))
-      (λ p. (order : List ℕ) (slack : ℕ) → IsNewLeaf (slots_of d) root p.side (number p.parent) (number x) order slack
-      → IsRepaired (slots_of d) (slots_of new) (option_map number root') (beside p.side (number p.parent) (number x) order) slack)) where
-    pub call_grown : IsLaidOut new (option_map number root') (shape_in new (option_map number root')) × IsGrown (shape_in c root) (shape_in new (option_map number root'))
-    call_grown = grown_whole number c d root (number x) era leaf laid x_free most greatest sound fits at branch can branch_is entries_are links_are new root' x refl kept grown
+  module _ (new : Chain (Node P T I G)) (root' : Option I) (kept : bare new ≡ bare d) (grown : HasGrown number branch d root x new root') where
+    pub call_grown : IsGrownTo (shape_in c root) new (option_map number root')
+    call_grown = grown_whole number c d root x era leaf laid x_free most greatest sound fits new root' kept at branch put grown
 
     pub call_listed : IsInsertion (bare c) (bare new) (put_at number at (map bare_entry c.entries)) t index era
     call_listed =
         let L : T → Type 0 = λ t. IsInsertion (bare c) (bare new) (put_at number at (map bare_entry c.entries)) t index era in
-        subst L (ap (λ (n : SimpleOrdArenaNode P T I G). n.t) leaf_is)
+        subst L (ap (λ (n : Node P T I G). n.t) leaf_is)
         (IsInsertion-bare c d new (placed number kind c.entries) (put_at number at (map bare_entry c.entries)) leaf index era
-        (λ e. ap (λ (es : List (Entry (SimpleOrdArenaNode P T I G))). map bare_entry es) (put_is e) ∙ put_at-bare number at c.entries e) kept insertion)
+        (λ e. ap (λ (es : List (Entry (Node P T I G))). map bare_entry es) (put_is e) ∙ put_at-bare number c.entries e at) kept insertion)

@@ -35,16 +35,17 @@ module _ {T : Type 0} where
   head-first_or [] = refl
   head-first_or (e ∷ es) = refl
 
-  pub neighbours-linked : (before : Option ℕ) (es : List (Entry T)) (i g : ℕ) (l : Link T) → link_between before None es i ≡ Some (g, l)
-      → (l.prev ≡ previous before i (indexes es)) × (l.next ≡ following i (indexes es))
-  neighbours-linked before [] i g l h = absurd cc
-  neighbours-linked before (e ∷ es) i g l h =
-      ⊎_elim (λ (same : e.index ≡ i).
-      let first = rw (eq-eqb e.index i same) at h in
-      let link : ◌≡◌ {A = Link T} (record { item = e.item; prev = before; next = first_or None es }) l =
-      ap (λ (p : ℕ × Link T). p.1) (let d : (e.generation, (let r : Link T = record { item = e.item; prev = before; next = first_or None es } in r)) ≡ (g, l) = cc in d) in
-      rw (eq-eqb e.index i same) (sym (ap (λ (l : Link T). l.prev) link), sym (ap (λ (l : Link T). l.next) link) ∙ head-first_or es))
-      (λ (other : e.index ≢ i). rw (ne_eqb e.index i other) (neighbours-linked (Some e.index) es i g l (rw (ne_eqb e.index i other) at h))) (cases_eq e.index i)
+  module _ (i g : ℕ) (l : Link T) where
+    pub neighbours-linked : (before : Option ℕ) (es : List (Entry T)) → link_between before None es i ≡ Some (g, l)
+        → (l.prev ≡ previous before i (indexes es)) × (l.next ≡ following i (indexes es))
+    neighbours-linked before [] h = absurd cc
+    neighbours-linked before (e ∷ es) h =
+        ⊎_elim (λ (same : e.index ≡ i).
+        let first = rw (eq-eqb e.index i same) at h in
+        let link : ◌≡◌ {A = Link T} (record { item = e.item; prev = before; next = first_or None es }) l =
+        ap (λ (p : ℕ × Link T). p.1) (let d : (e.generation, (let r : Link T = record { item = e.item; prev = before; next = first_or None es } in r)) ≡ (g, l) = cc in d) in
+        rw (eq-eqb e.index i same) (sym (ap (λ (l : Link T). l.prev) link), sym (ap (λ (l : Link T). l.next) link) ∙ head-first_or es))
+        (λ (other : e.index ≢ i). rw (ne_eqb e.index i other) (neighbours-linked (Some e.index) es (rw (ne_eqb e.index i other) at h))) (cases_eq e.index i)
 
   -- what is linked to an entry is linked to it whatever its generation
   pub linked-some : (o : Option (ℕ × Link T)) (l : Link T) → option_map (λ (e : ℕ × Link T). e.1) o ≡ Some l → (g : ℕ) × (o ≡ Some (g, l))
@@ -65,34 +66,35 @@ pub record NextLeafBranch (side : Side) (i : ℕ) (slots : Slots) (order : List 
   pub bare : (n : TreeLinks ℕ) → slots index ≡ Some n → child_at (other_side side) n ≡ None
   pub put : (x : ℕ) → beside (other_side side) index x order ≡ beside side i x order
 
-pub next_bud : (slots : Slots) (root : Option ℕ) (s : Shape) (order : List ℕ) → Holds slots None root s → walk s ≡ order → IsOnce order → (i : ℕ)
-    → 0 < times i order → (n : TreeLinks ℕ) → slots i ≡ Some n → (side : Side) (j : ℕ) → child_at side n ≡ Some j → NextLeafBranch side i slots order
-next_bud slots root s order held listed once i within n e Lesser j some =
-    let b = before_in slots root s order held listed i within n e j some in
-    record {
-      index = b.index;
-      is = previous-neighbour order b.front b.back b.index i once b.is;
-      within = first-within order b.front b.back b.index i once b.is;
-      bare = b.bare;
-      put = between order b.front b.back b.index i once b.is;
-    }
-next_bud slots root s order held listed once i within n e Greater j some =
-    let b = after_in slots root s order held listed i within n e j some in
-    record {
-      index = b.index;
-      is = following-neighbour order b.front b.back i b.index once b.is;
-      within = second-within order b.front b.back i b.index once b.is;
-      bare = b.bare;
-      put = λ x. sym (between order b.front b.back i b.index once b.is x);
-    }
+module _ (slots : Slots) (root : Option ℕ) (s : Shape) (order : List ℕ) (held : Holds slots None root s) (listed : walk s ≡ order) (once : IsOnce order)
+    (i : ℕ) (within : 0 < times i order) (n : TreeLinks ℕ) (e : slots i ≡ Some n) where
+  pub next_bud : (side : Side) (j : ℕ) → child_at side n ≡ Some j → NextLeafBranch side i slots order
+  next_bud Lesser j some =
+      let b = before_in slots root s order held listed i within n e j some in
+      record {
+        index = b.index;
+        is = previous-neighbour order b.front b.back b.index i once b.is;
+        within = first-within order b.front b.back b.index i once b.is;
+        bare = b.bare;
+        put = between order b.front b.back b.index i once b.is;
+      }
+  next_bud Greater j some =
+      let b = after_in slots root s order held listed i within n e j some in
+      record {
+        index = b.index;
+        is = following-neighbour order b.front b.back i b.index once b.is;
+        within = second-within order b.front b.back i b.index once b.is;
+        bare = b.bare;
+        put = λ x. sym (between order b.front b.back i b.index once b.is x);
+      }
 
-pub IsLeafBranch-next : {I : Type 0} (number : I → ℕ) {side : Side} {i : ℕ} {slots : Slots} {order : List ℕ} (bud : NextLeafBranch side i slots order) (branch : Branch I)
-    → number branch.parent ≡ bud.index → branch.side ≡ other_side side → IsLeafBranch number i side slots order branch
-IsLeafBranch-next number {side} {i} {slots} {order} bud branch parent_is side_is = record {
-  within = rw parent_is bud.within;
-  bare = λ n e. rw side_is (bud.bare n (ap slots (sym parent_is) ∙ e));
-  put = λ x. rw (parent_is, side_is) (bud.put x);
-}
+module _ {I : Type 0} (number : I → ℕ) {side : Side} {i : ℕ} {slots : Slots} {order : List ℕ} (bud : NextLeafBranch side i slots order) (branch : Branch I) where
+  pub IsLeafBranch-next : number branch.parent ≡ bud.index → branch.side ≡ other_side side → IsLeafBranch number i side slots order branch
+  IsLeafBranch-next parent_is side_is = record {
+    within = rw parent_is bud.within;
+    bare = λ n e. rw side_is (bud.bare n (ap slots (sym parent_is) ∙ e));
+    put = λ x. rw (parent_is, side_is) (bud.put x);
+  }
 
 -- options
 pub is_some-mapped : {A B : Type 0} (f : A → B) (o : Option A) → is_some (option_map f o) ≡ is_some o

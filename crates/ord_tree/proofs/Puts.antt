@@ -4,9 +4,9 @@ use Rattle.std.proofs.lemmas.Bool.{cases_eq, eq-eqb, ne_eqb}
 use Rattle.std.specs.declared.cmp.Ordering.{Ordering}
 use Rattle.std.specs.declared.cmp.Ordering.TheVariants.{Less, Equal, Greater}
 use Rattle.chain_base.specs.Chain.{Entry, entry_at, times as entry_times, insert_after, insert_before}
-use Rattle.chain_base.proofs.CallerLemmas.{entry_at-between, entry_at-between_other, insert_after-between, insert_before-between}
+use Rattle.chain_base.proofs.CallerLemmas.{entry_at-between, entry_at-between_other, Parted, insert_after-between, insert_before-between}
 use Rattle.ord_tree.specs.declared.tree_links.Side.TheVariants.{Lesser, Greater as OnGreater}
-use Rattle.ord_tree.specs.declared.node.SimpleOrdArenaNode.{SimpleOrdArenaNode}
+use Rattle.ord_tree.specs.declared.node.SimpleOrdArenaNode.{SimpleOrdArenaNode as Node}
 use Rattle.ord_tree.specs.Node.{indexes, bare_entry}
 use Rattle.ord_tree.specs.Leaf.{beside}
 use Rattle.ord_tree.specs.Tree.{put_on}
@@ -26,23 +26,20 @@ module _ {T : Type 0} where
       (λ (other : a.index ≢ i). rw (ne_eqb a.index i other) (ap (λ ys. a.index ∷ ys) (before-indexes es i new))) (cases_eq a.index i)
 
   -- on either side: between two stretches
-  put-between : (o : Ordering) (es : List (Entry T)) (i : ℕ) → is_some (entry_at es i) ≡ true
-      → (front : List (Entry T)) × (back : List (Entry T)) × (es ≡ front ++ back) × ((new : Entry T) → put_on o i es new ≡ front ++ new ∷ back)
+  put-between : (o : Ordering) (es : List (Entry T)) (i : ℕ) → is_some (entry_at es i) ≡ true → Parted es (put_on o i es)
   put-between Less es i there = insert_before-between es i there
   put-between Equal es i there = insert_after-between es i there
   put-between Greater es i there = insert_after-between es i there
 
-  pub put-same : (o : Ordering) (es : List (Entry T)) (i : ℕ) (new : Entry T) → is_some (entry_at es i) ≡ true → entry_times new.index es ≡ 0
-      → entry_at (put_on o i es new) new.index ≡ Some (new.generation, new.item)
-  put-same o es i new there none =
-      let s = put-between o es i there in
-      ap (λ xs. entry_at xs new.index) (s.3 new) ∙ entry_at-between s.0 new s.1 (ap (entry_times new.index) (sym s.2) ∙ none)
+  module _ (o : Ordering) (es : List (Entry T)) (i : ℕ) (there : is_some (entry_at es i) ≡ true) (new : Entry T) where
+    abbrev parted : Parted es (put_on o i es)
+    parted = put-between o es i there
 
-  pub put-other : (o : Ordering) (es : List (Entry T)) (i j : ℕ) (new : Entry T) → is_some (entry_at es i) ≡ true → j ≢ new.index
-      → entry_at (put_on o i es new) j ≡ entry_at es j
-  put-other o es i j new there other =
-      let s = put-between o es i there in
-      ap (λ xs. entry_at xs j) (s.3 new) ∙ entry_at-between_other s.0 new s.1 j other ∙ ap (λ xs. entry_at xs j) (sym s.2)
+    pub put-same : entry_times new.index es ≡ 0 → entry_at (put_on o i es new) new.index ≡ Some (new.generation, new.item)
+    put-same none = ap (λ xs. entry_at xs new.index) (parted.3 new) ∙ entry_at-between parted.0 new parted.1 (ap (entry_times new.index) (sym parted.2) ∙ none)
+
+    pub put-other : (j : ℕ) → j ≢ new.index → entry_at (put_on o i es new) j ≡ entry_at es j
+    put-other j other = ap (λ xs. entry_at xs j) (parted.3 new) ∙ entry_at-between_other parted.0 new parted.1 j other ∙ ap (λ xs. entry_at xs j) (sym parted.2)
 
   pub put-indexes : (o : Ordering) (es : List (Entry T)) (i : ℕ) (new : Entry T) → indexes (put_on o i es new) ≡ beside (side_at o) i new.index (indexes es)
   put-indexes Less es i new = before-indexes es i new
@@ -50,21 +47,21 @@ module _ {T : Type 0} where
   put-indexes Greater es i new = after-indexes es i new
 
 module _ {P T I G : Type 0} where
-  after-bare : (es : List (Entry (SimpleOrdArenaNode P T I G))) (i : ℕ) (new : Entry (SimpleOrdArenaNode P T I G))
+  after-bare : (es : List (Entry (Node P T I G))) (i : ℕ) (new : Entry (Node P T I G))
       → map bare_entry (insert_after i new es) ≡ insert_after i (bare_entry new) (map bare_entry es)
   after-bare [] i new = refl
   after-bare (a ∷ es) i new =
       ⊎_elim (λ (same : a.index ≡ i). rw (eq-eqb a.index i same) refl)
       (λ (other : a.index ≢ i). rw (ne_eqb a.index i other) (ap (λ ys. bare_entry a ∷ ys) (after-bare es i new))) (cases_eq a.index i)
 
-  before-bare : (es : List (Entry (SimpleOrdArenaNode P T I G))) (i : ℕ) (new : Entry (SimpleOrdArenaNode P T I G))
+  before-bare : (es : List (Entry (Node P T I G))) (i : ℕ) (new : Entry (Node P T I G))
       → map bare_entry (insert_before i new es) ≡ insert_before i (bare_entry new) (map bare_entry es)
   before-bare [] i new = refl
   before-bare (a ∷ es) i new =
       ⊎_elim (λ (same : a.index ≡ i). rw (eq-eqb a.index i same) refl)
       (λ (other : a.index ≢ i). rw (ne_eqb a.index i other) (ap (λ ys. bare_entry a ∷ ys) (before-bare es i new))) (cases_eq a.index i)
 
-  pub put-bare : (o : Ordering) (es : List (Entry (SimpleOrdArenaNode P T I G))) (i : ℕ) (new : Entry (SimpleOrdArenaNode P T I G))
+  pub put-bare : (o : Ordering) (es : List (Entry (Node P T I G))) (i : ℕ) (new : Entry (Node P T I G))
       → map bare_entry (put_on o i es new) ≡ put_on o i (map bare_entry es) (bare_entry new)
   put-bare Less es i new = before-bare es i new
   put-bare Equal es i new = after-bare es i new

@@ -4,7 +4,7 @@ use Rattle.std.proofs.lemmas.Bool.{eq-eqb, ne_eqb}
 use Rattle.arena_base.specs.Pointer.{index_number}
 use Rattle.chain_base.specs.Chain.{Entry, Chain, entry_at, first_pointer, IsSound}
 use Rattle.chain_base.proofs.CallerLemmas.{occurs-entry}
-use Rattle.ord_tree.specs.declared.node.SimpleOrdArenaNode.{SimpleOrdArenaNode}
+use Rattle.ord_tree.specs.declared.node.SimpleOrdArenaNode.{SimpleOrdArenaNode as Node}
 use Rattle.ord_tree.specs.Slots.{times}
 use Rattle.ord_tree.specs.Node.{bare_entry, bare, links_in, slots_of, indexes}
 use Rattle.arena_base.proofs.CallerLemmas.{limit_of-below}
@@ -27,12 +27,12 @@ first-occupied (e ∷ es) i g first =
     let both : ◌≡◌ {A = ℕ × ℕ} (i, g) (e.index, e.generation) = cc in
     rw (eq-eqb e.index i (sym (ap (λ (p : ℕ × ℕ). p.0) both))) refl
 
-module _ {P T I G : Type 0} (c : Chain (SimpleOrdArenaNode P T I G)) where
+module _ {P T I G : Type 0} (c : Chain (Node P T I G)) where
   pub entry-occupied : (i : ℕ) → is_some (slots_of c i) ≡ true → is_some (entry_at c.entries i) ≡ true
-  entry-occupied i some = sym (is_some-mapped (λ (e : ℕ × SimpleOrdArenaNode P T I G). links_in e.1) (entry_at c.entries i)) ∙ some
+  entry-occupied i some = sym (is_some-mapped (λ (e : ℕ × Node P T I G). links_in e.1) (entry_at c.entries i)) ∙ some
 
   pub slots-within : (i : ℕ) → 0 < times i (indexes c.entries) → is_some (slots_of c i) ≡ true
-  slots-within i some = is_some-mapped (λ (e : ℕ × SimpleOrdArenaNode P T I G). links_in e.1) (entry_at c.entries i) ∙ occurs-entry c.entries i (omega (arith, some, times-indexes c.entries i))
+  slots-within i some = is_some-mapped (λ (e : ℕ × Node P T I G). links_in e.1) (entry_at c.entries i) ∙ occurs-entry c.entries i (omega (arith, some, times-indexes c.entries i))
 
   -- so in the bare list
   pub slots-within_bare : (i : ℕ) → 0 < times i (indexes (map bare_entry c.entries)) → is_some (slots_of c i) ≡ true
@@ -47,18 +47,16 @@ module _ {P T I G : Type 0} (c : Chain (SimpleOrdArenaNode P T I G)) where
       (inside.0, omega (arith, inside.1, sound.within_limit, limit_of-below most c.maximum))
 
 -- what a rebuild owes of the chain: the nodes spell a rebuilt shape along it, and so the tree's shape is a rebuilt one
-module _ {P T I G : Type 0} (c new : Chain (SimpleOrdArenaNode P T I G)) (kept : bare new ≡ bare c) where
-  laid_rebuilt : (root : Option ℕ) (s : Shape) → walk s ≡ indexes (map bare_entry c.entries) → IsRebuilt s → Holds (slots_of new) None root s → IsLaidOut new root s
-  laid_rebuilt root s listed rebuilt held = record {
-    held = held;
-    listed = listed ∙ ap (λ (b : Chain T). indexes b.entries) (sym kept) ∙ indexes-bare new.entries;
-    ranked = IsRanked-from_rebuilt s rebuilt;
+module _ {P T I G : Type 0} (c new : Chain (Node P T I G)) (kept : bare new ≡ bare c) (root : Option ℕ)
+    (r : (s : Shape) × (walk s ≡ indexes (map bare_entry c.entries)) × IsRebuilt s × Holds (slots_of new) None root s) where
+  laid_rebuilt : IsLaidOut new root r.0
+  laid_rebuilt = record {
+    held = r.3;
+    listed = r.1 ∙ ap (λ (b : Chain T). indexes b.entries) (sym kept) ∙ indexes-bare new.entries;
+    ranked = IsRanked-from_rebuilt r.0 r.2;
   }
 
-  pub rebuilt-shape_in : (root : Option ℕ)
-      → (s : Shape) × (walk s ≡ indexes (map bare_entry c.entries)) × IsRebuilt s × Holds (slots_of new) None root s
-      → IsLaidOut new root (shape_in new root) × IsRebuilt (shape_in new root)
-  rebuilt-shape_in root r =
-      let laid = laid_rebuilt root r.0 r.1 r.2 r.3 in
+  pub rebuilt-shape_in : IsLaidOut new root (shape_in new root) × IsRebuilt (shape_in new root)
+  rebuilt-shape_in =
       let P : Shape → Type 0 = λ s. IsLaidOut new root s × IsRebuilt s in
-      subst P (sym (shape_in-held new root r.0 laid.held laid.listed)) (laid, r.2)
+      subst P (sym (shape_in-held new root r.0 laid_rebuilt.held laid_rebuilt.listed)) (laid_rebuilt, r.2)

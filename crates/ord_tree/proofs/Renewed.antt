@@ -4,14 +4,14 @@ use Rattle.std.proofs.lemmas.Bool.{cases_eq, eq-eqb, ne_eqb}
 use Rattle.arena_base.specs.Arena.{item_if}
 use Rattle.arena_base.specs.Generation.{next_generation}
 use Rattle.chain_base.specs.Chain.{Entry, Chain, entry_at, item_of, with_generation, renewed}
-use Rattle.ord_tree.specs.declared.node.SimpleOrdArenaNode.{SimpleOrdArenaNode}
-use Rattle.ord_tree.specs.Node.{bare_entry, bare, entry_in, links_in, indexes}
+use Rattle.ord_tree.specs.declared.node.SimpleOrdArenaNode.{SimpleOrdArenaNode as Node}
+use Rattle.ord_tree.specs.Node.{bare_entry, bare, entry_in, indexes}
 use Rattle.ord_tree.specs.Layout.{shape_in, tree_of, IsLaidOut}
-use Rattle.ord_tree.proofs.Trees.{entry_at-bare, IsLaidOut-linked, shape_in-linked, either_option, on_some, if_none}
+use Rattle.ord_tree.proofs.Trees.{links_at, entry_at-bare, IsLaidOut-linked, shape_in-linked, either_option, on_some, if_none}
 
 module _ {P T I G : Type 0} where
   -- a pointer names an entry of the list where it names a node
-  is_some-item_if : (g : ℕ) (o : Option (ℕ × SimpleOrdArenaNode P T I G)) → is_some (item_if g (option_map entry_in o)) ≡ is_some (item_if g o)
+  is_some-item_if : (g : ℕ) (o : Option (ℕ × Node P T I G)) → is_some (item_if g (option_map entry_in o)) ≡ is_some (item_if g o)
   is_some-item_if g None = refl
   is_some-item_if g (Some e) = go (eqb e.0 g)
     where
@@ -19,29 +19,28 @@ module _ {P T I G : Type 0} where
       go true = refl
       go false = refl
 
-  pub item_of-bare : (es : List (Entry (SimpleOrdArenaNode P T I G))) (p : ℕ × ℕ) → is_some (item_of (map bare_entry es) p) ≡ is_some (item_of es p)
+  pub item_of-bare : (es : List (Entry (Node P T I G))) (p : ℕ × ℕ) → is_some (item_of (map bare_entry es) p) ≡ is_some (item_of es p)
   item_of-bare es p = ap (λ (o : Option (ℕ × T)). is_some (item_if p.1 o)) (entry_at-bare es p.0) ∙ is_some-item_if p.1 (entry_at es p.0)
 
   -- another generation of an entry
-  links-renewed : (es : List (Entry (SimpleOrdArenaNode P T I G))) (i g j : ℕ)
-      → option_map (λ e. links_in e.1) (entry_at (with_generation es i g) j) ≡ option_map (λ (e : ℕ × SimpleOrdArenaNode P T I G). links_in e.1) (entry_at es j)
+  links-renewed : (es : List (Entry (Node P T I G))) (i g j : ℕ) → links_at (with_generation es i g) j ≡ links_at es j
   links-renewed [] i g j = refl
   links-renewed (e ∷ es) i g j =
       ⊎_elim (λ (same : e.index ≡ i). rw (eq-eqb e.index i same) (⊎_elim (λ (here : e.index ≡ j). rw (eq-eqb e.index j here) refl) (λ (there : e.index ≢ j). rw (ne_eqb e.index j there) refl) (cases_eq e.index j)))
       (λ (other : e.index ≢ i). rw (ne_eqb e.index i other) (⊎_elim (λ (here : e.index ≡ j). rw (eq-eqb e.index j here) refl) (λ (there : e.index ≢ j). rw (ne_eqb e.index j there) (links-renewed es i g j)) (cases_eq e.index j)))
       (cases_eq e.index i)
 
-  indexes-renewed : (es : List (Entry (SimpleOrdArenaNode P T I G))) (i g : ℕ) → indexes (with_generation es i g) ≡ indexes es
+  indexes-renewed : (es : List (Entry (Node P T I G))) (i g : ℕ) → indexes (with_generation es i g) ≡ indexes es
   indexes-renewed [] i g = refl
   indexes-renewed (e ∷ es) i g =
       ⊎_elim (λ (same : e.index ≡ i). rw (eq-eqb e.index i same) refl) (λ (other : e.index ≢ i). rw (ne_eqb e.index i other) (ap (λ is. e.index ∷ is) (indexes-renewed es i g))) (cases_eq e.index i)
 
-  bare-renewed : (es : List (Entry (SimpleOrdArenaNode P T I G))) (i g : ℕ) → map bare_entry (with_generation es i g) ≡ with_generation (map bare_entry es) i g
+  bare-renewed : (es : List (Entry (Node P T I G))) (i g : ℕ) → map bare_entry (with_generation es i g) ≡ with_generation (map bare_entry es) i g
   bare-renewed [] i g = refl
   bare-renewed (e ∷ es) i g =
       ⊎_elim (λ (same : e.index ≡ i). rw (eq-eqb e.index i same) refl) (λ (other : e.index ≢ i). rw (ne_eqb e.index i other) (ap (λ bs. bare_entry e ∷ bs) (bare-renewed es i g))) (cases_eq e.index i)
 
-  module _ (greatest : Option ℕ) (c : Chain (SimpleOrdArenaNode P T I G)) (root : Option ℕ) (i : ℕ) (laid : IsLaidOut c root (shape_in c root)) where
+  module _ (greatest : Option ℕ) (c : Chain (Node P T I G)) (root : Option ℕ) (i : ℕ) (laid : IsLaidOut c root (shape_in c root)) where
     pub IsLaidOut-renewed : IsLaidOut (renewed greatest c i) root (shape_in (renewed greatest c i) root)
     IsLaidOut-renewed =
         IsLaidOut-linked c (renewed greatest c i) root (λ j. links-renewed c.entries i (next_generation greatest c.generation) j) (indexes-renewed c.entries i (next_generation greatest c.generation)) laid
@@ -55,14 +54,14 @@ module _ {P T I G : Type 0} where
         ∙ ap (λ s. record { list = list; shape = s }) same
 
     -- the call, from what the chain's ensures
-    module _ {X : Type 0} (o : Option X) (new : Chain (SimpleOrdArenaNode P T I G)) (renewing : OnSome o (new ≡ renewed greatest c i)) where
+    module _ {X : Type 0} (o : Option X) (new : Chain (Node P T I G)) (renewing : OnSome o (new ≡ renewed greatest c i)) where
       pub call_laid_out : IfNone o (new ≡ c) → IsLaidOut new root (shape_in new root)
       call_laid_out keeping =
-          let L : Chain (SimpleOrdArenaNode P T I G) → Type 0 = λ c. IsLaidOut c root (shape_in c root) in
+          let L : Chain (Node P T I G) → Type 0 = λ c. IsLaidOut c root (shape_in c root) in
           let A : Type 0 = L new in
           either_option o A (on_some o (new ≡ renewed greatest c i) A renewing (λ e. subst L (sym e) IsLaidOut-renewed)) (if_none o (new ≡ c) A keeping (λ e. subst L (sym e) laid))
 
       pub call_renewed : OnSome o (tree_of new root ≡ record (tree_of c root) { list = renewed greatest (bare c) i })
       call_renewed =
           on_some o (new ≡ renewed greatest c i) (tree_of new root ≡ record (tree_of c root) { list = renewed greatest (bare c) i }) renewing
-          (λ e. ap (λ (c : Chain (SimpleOrdArenaNode P T I G)). tree_of c root) e ∙ tree_of-renewed)
+          (λ e. ap (λ (c : Chain (Node P T I G)). tree_of c root) e ∙ tree_of-renewed)

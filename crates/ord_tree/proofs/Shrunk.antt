@@ -4,7 +4,7 @@ use Rattle.std.proofs.lemmas.Bool.{cases_eq, eq-eqb, ne_eqb}
 use Rattle.std.proofs.lemmas.List.{length-map}
 use Rattle.chain_base.specs.Chain.{Entry, Chain, entry_at, link_at, IsSound, removed, without as entries_without}
 use Rattle.chain_base.specs.Link.{Link}
-use Rattle.ord_tree.specs.declared.node.SimpleOrdArenaNode.{SimpleOrdArenaNode}
+use Rattle.ord_tree.specs.declared.node.SimpleOrdArenaNode.{SimpleOrdArenaNode as Node}
 use Rattle.ord_tree.specs.Shape.{Shape, walk}
 use Rattle.ord_tree.specs.Slots.{Holds, times, IsOnce, MovesBacks}
 use Rattle.ord_tree.specs.Promote.{IsBuilt}
@@ -38,32 +38,34 @@ module _ {T : Type 0} where
       (λ (other : e.index ≢ i). rw (ne_eqb e.index i other) (ap (λ is. e.index ∷ is) (indexes-without es i))) (cases_eq e.index i)
 
 module _ {P T I G : Type 0} where
-  pub bare-without : (es : List (Entry (SimpleOrdArenaNode P T I G))) (i : ℕ) → map bare_entry (entries_without i es) ≡ entries_without i (map bare_entry es)
+  pub bare-without : (es : List (Entry (Node P T I G))) (i : ℕ) → map bare_entry (entries_without i es) ≡ entries_without i (map bare_entry es)
   bare-without [] i = refl
   bare-without (e ∷ es) i =
       ⊎_elim (λ (same : e.index ≡ i). rw (eq-eqb e.index i same) refl)
       (λ (other : e.index ≢ i). rw (ne_eqb e.index i other) (ap (λ bs. bare_entry e ∷ bs) (bare-without es i))) (cases_eq e.index i)
 
+  -- a generation with a link's item, without the node
+  abbrev linked_item : ℕ × Link (Node P T I G) → ℕ × T
+  linked_item e = (e.0, e.1.item.t)
+
   -- what the list says of an entry, from the link in the chain of nodes
-  pub entry_at-bare_link : (c d : Chain (SimpleOrdArenaNode P T I G)) (x : ℕ) → bare d ≡ bare c
-      → entry_at (map bare_entry c.entries) x ≡ option_map (λ (e : ℕ × Link (SimpleOrdArenaNode P T I G)). (e.0, e.1.item.t)) (link_at d.entries x)
+  entry_at-bare_link : (c d : Chain (Node P T I G)) (x : ℕ) → bare d ≡ bare c → entry_at (map bare_entry c.entries) x ≡ option_map linked_item (link_at d.entries x)
   entry_at-bare_link c d x kept =
       ap (λ (b : Chain T). entry_at b.entries x) (sym kept) ∙ entry_at-bare d.entries x ∙ ap (option_map entry_in) (entry_at-link None None d.entries x) ∙ over (link_at d.entries x)
     where
-      over : (o : Option (ℕ × Link (SimpleOrdArenaNode P T I G))) → option_map entry_in (option_map (λ (e : ℕ × Link (SimpleOrdArenaNode P T I G)). (e.0, e.1.item)) o)
-          ≡ option_map (λ (e : ℕ × Link (SimpleOrdArenaNode P T I G)). (e.0, e.1.item.t)) o
+      over : (o : Option (ℕ × Link (Node P T I G))) → option_map entry_in (option_map (λ (e : ℕ × Link (Node P T I G)). (e.0, e.1.item)) o) ≡ option_map linked_item o
       over None = refl
       over (Some e) = refl
 
 -- what a removal owes: `new` is the chain c without the entry x, and `answer` what the entry was, its generation by `gen`
-pub record Removal {P T I G : Type 0} (greatest : Option ℕ) (c new : Chain (SimpleOrdArenaNode P T I G)) (root root' : Option ℕ) (x : ℕ) (gen : G → ℕ) (answer : G × T) : Type 0 where
+pub record Removal {P T I G : Type 0} (greatest : Option ℕ) (c new : Chain (Node P T I G)) (root root' : Option ℕ) (x : ℕ) (gen : G → ℕ) (answer : G × T) : Type 0 where
   pub laid : IsLaidOut new root' (shape_in new root')
   pub listed : bare new ≡ removed greatest (bare c) x
   pub shrunk : IsShrunk (shape_in c root) (shape_in new root')
   pub value : entry_at (map bare_entry c.entries) x ≡ Some (gen answer.0, answer.1)
 
 -- the tree without the entry x: c is its chain, d the chain once the node is taken out of the tree
-module _ {P T I G : Type 0} (c : Chain (SimpleOrdArenaNode P T I G)) (root : Option ℕ) (x : ℕ)
+module _ {P T I G : Type 0} (c : Chain (Node P T I G)) (root : Option ℕ) (x : ℕ)
     (laid : IsLaidOut c root (shape_in c root)) (occupied : is_some (entry_at c.entries x) ≡ true)
     (most : ℕ) (greatest : Option ℕ) (sound : IsSound most greatest c) (fits : most + 1 < 2 ^ 64) where
   abbrev order : List ℕ
@@ -73,7 +75,7 @@ module _ {P T I G : Type 0} (c : Chain (SimpleOrdArenaNode P T I G)) (root : Opt
   once = IsOnce-distinct c.entries sound.distinct
 
   few : length order < 2 ^ 64
-  few = omega (arith, length-map c.entries (λ (e : Entry (SimpleOrdArenaNode P T I G)). e.index), sound.counted, sound.within_limit, limit_of-below most c.maximum, fits)
+  few = omega (arith, length-map c.entries (λ (e : Entry (Node P T I G)). e.index), sound.counted, sound.within_limit, limit_of-below most c.maximum, fits)
 
   pub detachable : (before : Option ℕ) → before ≡ previous None x order → IsDetachable (slots_of c) root x before order
   detachable before is = record {
@@ -84,7 +86,7 @@ module _ {P T I G : Type 0} (c : Chain (SimpleOrdArenaNode P T I G)) (root : Opt
     is_before = is;
   }
 
-  module _ (before : Option ℕ) (is_before : before ≡ previous None x order) (d : Chain (SimpleOrdArenaNode P T I G)) (root' : Option ℕ) (kept : bare d ≡ bare c)
+  module _ (before : Option ℕ) (is_before : before ≡ previous None x order) (d : Chain (Node P T I G)) (root' : Option ℕ) (kept : bare d ≡ bare c)
       (builds : (order : List ℕ) → IsDetachable (slots_of c) root x before order → IsBuilt (slots_of d) root' (without x order) 1)
       (moves : (order : List ℕ) → IsDetachable (slots_of c) root x before order → MovesBacks 9 (slots_of c) (slots_of d)) where
     built : IsBuilt (slots_of d) root' (without x order) 1
@@ -93,7 +95,7 @@ module _ {P T I G : Type 0} (c : Chain (SimpleOrdArenaNode P T I G)) (root : Opt
     backs : MovesBacks 9 (slots_of c) (slots_of d)
     backs = moves order (detachable before is_before)
 
-    abbrev last : Chain (SimpleOrdArenaNode P T I G)
+    abbrev last : Chain (Node P T I G)
     last = removed greatest d x
 
     same_order : indexes d.entries ≡ order
@@ -102,7 +104,7 @@ module _ {P T I G : Type 0} (c : Chain (SimpleOrdArenaNode P T I G)) (root : Opt
     held_last : Holds (slots_of last) None root' built.shape
     held_last =
         Holds-frame (slots_of d) (slots_of last) built.shape None root'
-        (λ j inside. ap (option_map (λ (e : ℕ × SimpleOrdArenaNode P T I G). links_in e.1)) (entry_at-without_other d.entries x j
+        (λ j inside. ap (option_map (λ (e : ℕ × Node P T I G). links_in e.1)) (entry_at-without_other d.entries x j
         (apart-from x j (λ j. times j (without x order)) (times-without_same x order (once x)) (omega (arith, inside, times-walk j built.shape, ap (times j) built.listed)))))
         built.held
 
@@ -135,17 +137,17 @@ module _ {P T I G : Type 0} (c : Chain (SimpleOrdArenaNode P T I G)) (root : Opt
     still_there = sym (is_some-bare d.entries x) ∙ ap (λ (b : Chain T). is_some (entry_at b.entries x)) kept ∙ is_some-bare c.entries x ∙ occupied
 
     -- the call, from what its steps ensure: the chain's answer, and the same with the item alone
-    module _ (new : Chain (SimpleOrdArenaNode P T I G)) (gen : G → ℕ) (taken : G × Link (SimpleOrdArenaNode P T I G)) (answer : G × T)
+    module _ (new : Chain (Node P T I G)) (gen : G → ℕ) (taken : G × Link (Node P T I G)) (answer : G × T)
         (value : link_at d.entries x ≡ Some (gen taken.0, taken.1)) (new_is : new ≡ removed greatest d x) (answer_is : answer ≡ (taken.0, taken.1.item.t)) where
       pub removal : Removal greatest c new root root' x gen answer
       removal =
-          let Laid : Chain (SimpleOrdArenaNode P T I G) → Type 0 = λ n. IsLaidOut n root' (shape_in n root') in
-          let Shrunk : Chain (SimpleOrdArenaNode P T I G) → Type 0 = λ n. IsShrunk (shape_in c root) (shape_in n root') in
+          let Laid : Chain (Node P T I G) → Type 0 = λ n. IsLaidOut n root' (shape_in n root') in
+          let Shrunk : Chain (Node P T I G) → Type 0 = λ n. IsShrunk (shape_in c root) (shape_in n root') in
           record {
             laid = subst Laid (sym new_is) IsLaidOut-removed;
             listed = ap bare new_is ∙ bare_removed;
             shrunk = subst Shrunk (sym new_is) IsShrunk-removed;
             value =
-                entry_at-bare_link c d x kept ∙ ap (option_map {U = ℕ × T} (λ (e : ℕ × Link (SimpleOrdArenaNode P T I G)). (e.0, e.1.item.t))) value
+                entry_at-bare_link c d x kept ∙ ap (option_map linked_item) value
                 ∙ ap (λ (e : G × T). Some (gen e.0, e.1)) (sym answer_is);
           }

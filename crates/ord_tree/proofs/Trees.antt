@@ -9,7 +9,7 @@ use Rattle.chain_base.specs.Chain.{Entry, Chain, entry_at, times, with_item_amon
 use Rattle.std.specs.Option.{ForSome}
 use Rattle.arena_base.specs.Arena.{times as times_among}
 use Rattle.arena_base.specs.Generation.{IsLawfulGeneration}
-use Rattle.ord_tree.specs.declared.node.SimpleOrdArenaNode.{SimpleOrdArenaNode}
+use Rattle.ord_tree.specs.declared.node.SimpleOrdArenaNode.{SimpleOrdArenaNode as Node}
 use Rattle.ord_tree.specs.Shape.{Shape, missing, node, size_of, height, walk}
 use Rattle.ord_tree.specs.Slots.{Slots, Holds, shape_under}
 use Rattle.ord_tree.specs.Node.{bare_entry, bare, entry_in, links_in, slots_of, indexes}
@@ -57,98 +57,100 @@ height-le-size (node l i k r) = omega (arith, height-le-size l, height-le-size r
 
 module _ {P T I G : Type 0} where
   -- the bare list
-  pub entry_at-bare : (es : List (Entry (SimpleOrdArenaNode P T I G))) (i : ℕ) → entry_at (map bare_entry es) i ≡ option_map entry_in (entry_at es i)
+  pub entry_at-bare : (es : List (Entry (Node P T I G))) (i : ℕ) → entry_at (map bare_entry es) i ≡ option_map entry_in (entry_at es i)
   entry_at-bare [] i = refl
   entry_at-bare (e ∷ es) i =
       ⊎_elim (λ (same : e.index ≡ i). rw (eq-eqb e.index i same) refl) (λ (other : e.index ≢ i). rw (ne_eqb e.index i other) (entry_at-bare es i)) (cases_eq e.index i)
 
-  pub is_some-bare : (es : List (Entry (SimpleOrdArenaNode P T I G))) (i : ℕ) → is_some (entry_at (map bare_entry es) i) ≡ is_some (entry_at es i)
+  pub is_some-bare : (es : List (Entry (Node P T I G))) (i : ℕ) → is_some (entry_at (map bare_entry es) i) ≡ is_some (entry_at es i)
   is_some-bare [] i = refl
   is_some-bare (e ∷ es) i =
       ⊎_elim (λ (same : e.index ≡ i). rw (eq-eqb e.index i same) refl) (λ (other : e.index ≢ i). rw (ne_eqb e.index i other) (is_some-bare es i)) (cases_eq e.index i)
 
-  pub times-bare : (es : List (Entry (SimpleOrdArenaNode P T I G))) (i : ℕ) → times i (map bare_entry es) ≡ times i es
+  pub times-bare : (es : List (Entry (Node P T I G))) (i : ℕ) → times i (map bare_entry es) ≡ times i es
   times-bare [] i = refl
   times-bare (e ∷ es) i = omega (arith, times-bare es i)
 
-  pub indexes-bare : (es : List (Entry (SimpleOrdArenaNode P T I G))) → indexes (map bare_entry es) ≡ indexes es
+  pub indexes-bare : (es : List (Entry (Node P T I G))) → indexes (map bare_entry es) ≡ indexes es
   indexes-bare [] = refl
   indexes-bare (e ∷ es) = ap (λ ys. e.index ∷ ys) (indexes-bare es)
 
-  pub vacant_among-bare : (es : List (Entry (SimpleOrdArenaNode P T I G))) (from count : ℕ) → vacant_among (map bare_entry es) from count ≡ vacant_among es from count
+  pub vacant_among-bare : (es : List (Entry (Node P T I G))) (from count : ℕ) → vacant_among (map bare_entry es) from count ≡ vacant_among es from count
   vacant_among-bare es from zero = refl
   vacant_among-bare es from (suc count) = rw (times-bare es from, vacant_among-bare es (from + 1) count) refl
 
-  pub greatest_index-bare : (es : List (Entry (SimpleOrdArenaNode P T I G))) → greatest_index (map bare_entry es) ≡ greatest_index es
+  pub greatest_index-bare : (es : List (Entry (Node P T I G))) → greatest_index (map bare_entry es) ≡ greatest_index es
   greatest_index-bare [] = refl
   greatest_index-bare (e ∷ es) = ap (max e.index) (greatest_index-bare es)
 
-  pub bare-with_capacity : (c : Chain (SimpleOrdArenaNode P T I G)) (n : ℕ) → bare (with_capacity c n) ≡ with_capacity (bare c) n
+  pub bare-with_capacity : (c : Chain (Node P T I G)) (n : ℕ) → bare (with_capacity c n) ≡ with_capacity (bare c) n
   bare-with_capacity c n = ap (λ vs. record { entries = map bare_entry c.entries; capacity = n; vacant = vs; generation = c.generation; maximum = c.maximum }) (sym (vacant_among-bare c.entries 1 n))
 
+  -- the links at an index of a list
+  abbrev pub links_at : List (Entry (Node P T I G)) → Slots
+  links_at es j = option_map (λ e. links_in e.1) (entry_at es j)
+
   -- another item in a node
-  pub entry_at-below : (es : List (Entry (SimpleOrdArenaNode P T I G))) (i j : ℕ) (x : T)
-      → option_map (λ e. links_in e.1) (entry_at (with_item_below es i x) j) ≡ option_map (λ (e : ℕ × SimpleOrdArenaNode P T I G). links_in e.1) (entry_at es j)
+  pub entry_at-below : (es : List (Entry (Node P T I G))) (i j : ℕ) (x : T) → links_at (with_item_below es i x) j ≡ links_at es j
   entry_at-below [] i j x = refl
   entry_at-below (e ∷ es) i j x =
       ⊎_elim (λ (same : e.index ≡ i). rw (eq-eqb e.index i same) (⊎_elim (λ (here : e.index ≡ j). rw (eq-eqb e.index j here) refl) (λ (there : e.index ≢ j). rw (ne_eqb e.index j there) refl) (cases_eq e.index j)))
       (λ (other : e.index ≢ i). rw (ne_eqb e.index i other) (⊎_elim (λ (here : e.index ≡ j). rw (eq-eqb e.index j here) refl) (λ (there : e.index ≢ j). rw (ne_eqb e.index j there) (entry_at-below es i j x)) (cases_eq e.index j)))
       (cases_eq e.index i)
 
-  pub bare-below : (es : List (Entry (SimpleOrdArenaNode P T I G))) (i : ℕ) (x : T) → map bare_entry (with_item_below es i x) ≡ with_item_among (map bare_entry es) i x
+  pub bare-below : (es : List (Entry (Node P T I G))) (i : ℕ) (x : T) → map bare_entry (with_item_below es i x) ≡ with_item_among (map bare_entry es) i x
   bare-below [] i x = refl
   bare-below (e ∷ es) i x =
       ⊎_elim (λ (same : e.index ≡ i). rw (eq-eqb e.index i same) refl) (λ (other : e.index ≢ i). rw (ne_eqb e.index i other) (ap (λ ys. bare_entry e ∷ ys) (bare-below es i x))) (cases_eq e.index i)
 
-  pub below-written : (es : List (Entry (SimpleOrdArenaNode P T I G))) (i : ℕ) (e : ℕ × SimpleOrdArenaNode P T I G) (x : T)
+  pub below-written : (es : List (Entry (Node P T I G))) (i : ℕ) (e : ℕ × Node P T I G) (x : T)
       → entry_at es i ≡ Some e → with_item_among es i (record (e.1) { t = x }) ≡ with_item_below es i x
   below-written [] i e x h = refl
   below-written (a ∷ es) i e x h = elim (eqb_tells a.index i) [
     | inl same ↦
         let found : Some (a.generation, a.item) ≡ Some e = rw same.0 at h in
-        let item : a.item ≡ e.1 = ap (λ (p : ℕ × SimpleOrdArenaNode P T I G). p.1) (same_Some (a.generation, a.item) e found) in
-        rw same.0 (ap (λ (n : SimpleOrdArenaNode P T I G). record { index = a.index; generation = a.generation; item = record n { t = x } } ∷ es) (sym item))
+        let item : a.item ≡ e.1 = ap (λ (p : ℕ × Node P T I G). p.1) (same_Some (a.generation, a.item) e found) in
+        rw same.0 (ap (λ (n : Node P T I G). record { index = a.index; generation = a.generation; item = record n { t = x } } ∷ es) (sym item))
     | inr other ↦ rw other.0 (ap (λ ys. a ∷ ys) (below-written es i e x (rw other.0 at h)))
   ]
 
-  pub below-written_chain : (c : Chain (SimpleOrdArenaNode P T I G)) (i : ℕ) (e : ℕ × SimpleOrdArenaNode P T I G) (x : T)
+  pub below-written_chain : (c : Chain (Node P T I G)) (i : ℕ) (e : ℕ × Node P T I G) (x : T)
       → entry_at c.entries i ≡ Some e → chain_with_item c i (record (e.1) { t = x }) ≡ with_node_item c i x
-  below-written_chain c i e x h = ap (λ (es : List (Entry (SimpleOrdArenaNode P T I G))). record c { entries = es }) (below-written c.entries i e x h)
+  below-written_chain c i e x h = ap (λ (es : List (Entry (Node P T I G))). record c { entries = es }) (below-written c.entries i e x h)
 
-  indexes-below : (es : List (Entry (SimpleOrdArenaNode P T I G))) (i : ℕ) (x : T) → indexes (with_item_below es i x) ≡ indexes es
+  indexes-below : (es : List (Entry (Node P T I G))) (i : ℕ) (x : T) → indexes (with_item_below es i x) ≡ indexes es
   indexes-below [] i x = refl
   indexes-below (e ∷ es) i x =
       ⊎_elim (λ (same : e.index ≡ i). rw (eq-eqb e.index i same) refl) (λ (other : e.index ≢ i). rw (ne_eqb e.index i other) (ap (λ ys. e.index ∷ ys) (indexes-below es i x))) (cases_eq e.index i)
 
   -- a shape that the nodes spell is the view's
-  pub shape_in-held : (c : Chain (SimpleOrdArenaNode P T I G)) (root : Option ℕ) (s : Shape) → Holds (slots_of c) None root s → walk s ≡ indexes c.entries → shape_in c root ≡ s
+  pub shape_in-held : (c : Chain (Node P T I G)) (root : Option ℕ) (s : Shape) → Holds (slots_of c) None root s → walk s ≡ indexes c.entries → shape_in c root ≡ s
   shape_in-held c root s h listed =
-      let counted : size_of s ≡ length c.entries = size_of-walk s ∙ ap length listed ∙ length-map c.entries (λ (e : Entry (SimpleOrdArenaNode P T I G)). e.index) in
+      let counted : size_of s ≡ length c.entries = size_of-walk s ∙ ap length listed ∙ length-map c.entries (λ (e : Entry (Node P T I G)). e.index) in
       shape_under-held (length c.entries) (slots_of c) None root s h (omega (arith, height-le-size s, counted))
 
   -- the layout depends on the entries alone
-  pub IsLaidOut-entries : (c d : Chain (SimpleOrdArenaNode P T I G)) (root : Option ℕ) → d.entries ≡ c.entries → IsLaidOut c root (shape_in c root) → IsLaidOut d root (shape_in d root)
+  pub IsLaidOut-entries : (c d : Chain (Node P T I G)) (root : Option ℕ) → d.entries ≡ c.entries → IsLaidOut c root (shape_in c root) → IsLaidOut d root (shape_in d root)
   IsLaidOut-entries c d root e h =
-      let at : List (Entry (SimpleOrdArenaNode P T I G)) → Slots = λ es i. option_map (λ (e : ℕ × SimpleOrdArenaNode P T I G). links_in e.1) (entry_at es i) in
-      let Spelled : List (Entry (SimpleOrdArenaNode P T I G)) → Shape = λ es. shape_under (length es) (at es) root in
-      let Held : List (Entry (SimpleOrdArenaNode P T I G)) → Type 0 = λ es. Holds (at es) None root (Spelled es) in
-      let Listed : List (Entry (SimpleOrdArenaNode P T I G)) → Type 0 = λ es. walk (Spelled es) ≡ indexes es in
-      let Ranks : List (Entry (SimpleOrdArenaNode P T I G)) → Type 0 = λ es. IsRanked (Spelled es) in
+      let Spelled : List (Entry (Node P T I G)) → Shape = λ es. shape_under (length es) (links_at es) root in
+      let Held : List (Entry (Node P T I G)) → Type 0 = λ es. Holds (links_at es) None root (Spelled es) in
+      let Listed : List (Entry (Node P T I G)) → Type 0 = λ es. walk (Spelled es) ≡ indexes es in
+      let Ranks : List (Entry (Node P T I G)) → Type 0 = λ es. IsRanked (Spelled es) in
       record { held = subst Held (sym e) h.held; listed = subst Listed (sym e) h.listed; ranked = subst Ranks (sym e) h.ranked }
 
   -- what holds of a tree that lies in a chain
-  pub IsSoundTree-laid_out : (c : Chain (SimpleOrdArenaNode P T I G)) (root : Option ℕ) → IsLaidOut c root (shape_in c root) → IsSoundTree (tree_of c root)
+  pub IsSoundTree-laid_out : (c : Chain (Node P T I G)) (root : Option ℕ) → IsLaidOut c root (shape_in c root) → IsSoundTree (tree_of c root)
   IsSoundTree-laid_out c root h = record { listed = h.listed ∙ sym (indexes-bare c.entries); ranked = h.ranked }
 
   -- a new capacity
-  pub tree_of-with_capacity : (c : Chain (SimpleOrdArenaNode P T I G)) (root : Option ℕ) (n : ℕ)
-      → tree_of (with_capacity c (max n (greatest_index c.entries))) root ≡ record (tree_of c root) { list = with_capacity (bare c) (max n (greatest_index (map bare_entry c.entries))) }
+  pub tree_of-with_capacity : (c : Chain (Node P T I G)) (root : Option ℕ) (n : ℕ) → tree_of (with_capacity c (max n (greatest_index c.entries))) root
+      ≡ record { list = with_capacity (bare c) (max n (greatest_index (bare c).entries)); shape = shape_in c root }
   tree_of-with_capacity c root n =
       ap (λ (l : Chain T). record { list = l; shape = shape_in c root })
       (bare-with_capacity c (max n (greatest_index c.entries)) ∙ ap (λ (k : ℕ). with_capacity (bare c) (max n k)) (sym (greatest_index-bare c.entries)))
 
   -- a growth that makes room
-  pub tree_of-with_room : (most : ℕ) (c : Chain (SimpleOrdArenaNode P T I G)) (root : Option ℕ)
+  pub tree_of-with_room : (most : ℕ) (c : Chain (Node P T I G)) (root : Option ℕ)
       → tree_of (with_room most c) root ≡ record (tree_of c root) { list = with_room most (bare c) }
   tree_of-with_room most c root = go (is_some (next_index c))
     where
@@ -158,7 +160,7 @@ module _ {P T I G : Type 0} where
       go false = ap (λ (l : Chain T). record { list = l; shape = shape_in c root }) (bare-with_capacity c (grown_capacity most c))
 
   -- the shape depends on the links and the order of the nodes alone
-  module _ {U : Type 0} (c : Chain (SimpleOrdArenaNode P U I G)) (d : Chain (SimpleOrdArenaNode P T I G)) (root : Option ℕ) (links : (j : ℕ) → slots_of d j ≡ slots_of c j) (order : indexes d.entries ≡ indexes c.entries)
+  module _ {U : Type 0} (c : Chain (Node P U I G)) (d : Chain (Node P T I G)) (root : Option ℕ) (links : (j : ℕ) → slots_of d j ≡ slots_of c j) (order : indexes d.entries ≡ indexes c.entries)
       (h : IsLaidOut c root (shape_in c root)) where
     held-linked : Holds (slots_of d) None root (shape_in c root)
     held-linked = Holds-same (slots_of c) (slots_of d) links (shape_in c root) None root h.held
@@ -172,11 +174,11 @@ module _ {P T I G : Type 0} where
         subst Laid (sym shape_in-linked) (record { held = held-linked; listed = h.listed ∙ sym order; ranked = h.ranked })
 
   -- another item
-  pub IsLaidOut-below : (c : Chain (SimpleOrdArenaNode P T I G)) (root : Option ℕ) (i : ℕ) (x : T) → IsLaidOut c root (shape_in c root)
+  pub IsLaidOut-below : (c : Chain (Node P T I G)) (root : Option ℕ) (i : ℕ) (x : T) → IsLaidOut c root (shape_in c root)
       → IsLaidOut (with_node_item c i x) root (shape_in (with_node_item c i x) root)
   IsLaidOut-below c root i x h = IsLaidOut-linked c (with_node_item c i x) root (λ j. entry_at-below c.entries i j x) (indexes-below c.entries i x) h
 
-  pub tree_of-below : (c : Chain (SimpleOrdArenaNode P T I G)) (root : Option ℕ) (i : ℕ) (x : T) → IsLaidOut c root (shape_in c root)
+  pub tree_of-below : (c : Chain (Node P T I G)) (root : Option ℕ) (i : ℕ) (x : T) → IsLaidOut c root (shape_in c root)
       → tree_of (with_node_item c i x) root ≡ with_item (tree_of c root) i x
   tree_of-below c root i x h =
       let same = shape_in-linked c (with_node_item c i x) root (λ j. entry_at-below c.entries i j x) (indexes-below c.entries i x) h in
@@ -184,14 +186,14 @@ module _ {P T I G : Type 0} where
       ∙ ap (λ (t : Shape). record { list = chain_with_item (bare c) i x; shape = t }) same
 
   -- what chain arenas promise holds of the bare chain too
-  entries_lawful-bare : (Q : ℕ → Type 0) (o : Option (ℕ × SimpleOrdArenaNode P T I G)) (b : Option (ℕ × T)) → b ≡ option_map entry_in o → ForSome o (λ e. Q e.0) → ForSome b (λ e. Q e.0)
+  entries_lawful-bare : (Q : ℕ → Type 0) (o : Option (ℕ × Node P T I G)) (b : Option (ℕ × T)) → b ≡ option_map entry_in o → ForSome o (λ e. Q e.0) → ForSome b (λ e. Q e.0)
   entries_lawful-bare Q o b e h = rw e (cases o h)
     where
-      cases : (o : Option (ℕ × SimpleOrdArenaNode P T I G)) → ForSome o (λ e. Q e.0) → ForSome (option_map entry_in o) (λ e. Q e.0)
+      cases : (o : Option (ℕ × Node P T I G)) → ForSome o (λ e. Q e.0) → ForSome (option_map entry_in o) (λ e. Q e.0)
       cases None h = λ x e. absurd cc
       cases (Some n) h = λ x e. let same : (n.0, n.1.t) ≡ x = cc in let P : ℕ × T → Type 0 = λ x. Q x.0 in subst P same (h n refl)
 
-  pub IsSound-bare : (most : ℕ) (greatest : Option ℕ) (c : Chain (SimpleOrdArenaNode P T I G)) → IsSound most greatest c → IsSound most greatest (bare c)
+  pub IsSound-bare : (most : ℕ) (greatest : Option ℕ) (c : Chain (Node P T I G)) → IsSound most greatest c → IsSound most greatest (bare c)
   IsSound-bare most greatest c h = record {
     distinct = λ i. rw (times-bare c.entries i) (h.distinct i);
     within = λ i inside. h.within i (rw (times-bare c.entries i) at inside);
@@ -199,5 +201,5 @@ module _ {P T I G : Type 0} where
     generation_lawful = h.generation_lawful;
     entries_lawful = λ i. entries_lawful-bare (λ g. IsLawfulGeneration greatest g) (entry_at c.entries i) (entry_at (map bare_entry c.entries) i) (entry_at-bare c.entries i) (h.entries_lawful i);
     vacant_listed = λ i. h.vacant_listed i ∙ ap (λ vs. times_among i vs) (sym (vacant_among-bare c.entries 1 c.capacity));
-    counted = omega (arith, h.counted, length-map c.entries (λ (e : Entry (SimpleOrdArenaNode P T I G)). bare_entry e));
+    counted = omega (arith, h.counted, length-map c.entries (λ (e : Entry (Node P T I G)). bare_entry e));
   }

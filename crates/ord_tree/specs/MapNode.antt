@@ -2,11 +2,11 @@
 use Rattle.std.specs.Prelude.{◌≡◌}
 use Rattle.arena_base.specs.Invalidation.{allowed_value, is_overflow}
 use Rattle.arena_base.specs.declared.invalidation.InvalidationOption.{InvalidationOption}
-use Rattle.ord_tree.specs.declared.node.SimpleOrdArenaNode.{SimpleOrdArenaNode}
+use Rattle.ord_tree.specs.declared.node.SimpleOrdArenaNode.{SimpleOrdArenaNode as Node}
 
 -- the call made a new item of the item of the node that was taken
 pub record MapsTaken {Q U J H P T I G M : Type 0} (step : M → Q → InvalidationOption U → P → T → M → Type 0) (m : M) (old : Q)
-    (taken : InvalidationOption (SimpleOrdArenaNode Q U J H)) (new : P) (answer : SimpleOrdArenaNode P T I G) (n : M) : Type 0 where
+    (taken : InvalidationOption (Node Q U J H)) (new : P) (answer : Node P T I G) (n : M) : Type 0 where
   pub plain : InvalidationOption U
   pub item : allowed_value plain ≡ (allowed_value taken).t
   pub overflow : is_overflow plain ≡ is_overflow taken

@@ -3,7 +3,7 @@ use Rattle.std.specs.Prelude.{ℕ, List, map}
 use Rattle.std.specs.Option.{option_map}
 use Rattle.chain_base.specs.Chain.{Entry, Chain, entry_at}
 use Rattle.ord_tree.specs.declared.tree_links.TreeLinks.{TreeLinks}
-use Rattle.ord_tree.specs.declared.node.SimpleOrdArenaNode.{SimpleOrdArenaNode}
+use Rattle.ord_tree.specs.declared.node.SimpleOrdArenaNode.{SimpleOrdArenaNode as Node}
 use Rattle.ord_tree.specs.Slots.{Slots}
 
 -- the indexes of the entries, in order
@@ -12,21 +12,21 @@ indexes es = map (λ e. e.index) es
 
 module _ {P T I G : Type 0} where
   -- the entry with the item alone, without its node
-  abbrev pub bare_entry : Entry (SimpleOrdArenaNode P T I G) → Entry T
+  abbrev pub bare_entry : Entry (Node P T I G) → Entry T
   bare_entry e = record { index = e.index; generation = e.generation; item = e.item.t }
 
   -- a generation with a node's item, without the node
-  abbrev pub entry_in : ℕ × SimpleOrdArenaNode P T I G → ℕ × T
+  abbrev pub entry_in : ℕ × Node P T I G → ℕ × T
   entry_in e = (e.0, e.1.t)
 
   -- the chain with the items alone
-  abbrev pub bare : Chain (SimpleOrdArenaNode P T I G) → Chain T
+  abbrev pub bare : Chain (Node P T I G) → Chain T
   bare c = record { entries = map bare_entry c.entries; capacity = c.capacity; vacant = c.vacant; generation = c.generation; maximum = c.maximum }
 
   -- the links that a node holds, as numbers
-  abbrev pub links_in : SimpleOrdArenaNode P T I G → TreeLinks ℕ
+  abbrev pub links_in : Node P T I G → TreeLinks ℕ
   links_in n = record { back = n.p_back; lesser = n.p_tree0; greater = n.p_tree1; rank = n.rank }
 
   -- the links at each index of a chain
-  abbrev pub slots_of : Chain (SimpleOrdArenaNode P T I G) → Slots
+  abbrev pub slots_of : Chain (Node P T I G) → Slots
   slots_of c = λ i. option_map (λ e. links_in e.1) (entry_at c.entries i)

@@ -10,7 +10,7 @@ use Rattle.ord_tree.specs.Ranks.{IsRanked, IsTight}
 use Rattle.ord_tree.specs.Parents.{MovesAtMost}
 use Rattle.ord_tree.specs.Slots.{Holds}
 use Rattle.ord_tree.specs.Node.{indexes, bare, slots_of}
-use Rattle.ord_tree.specs.declared.node.SimpleOrdArenaNode.{SimpleOrdArenaNode}
+use Rattle.ord_tree.specs.declared.node.SimpleOrdArenaNode.{SimpleOrdArenaNode as Node}
 
 -- the list of entries with the numbers around it, as a chain arena has them, and the shape over the entries' indexes
 pub record Tree (T : Type 0) : Type 0 where
@@ -40,7 +40,7 @@ pub record IsSoundTree {T : Type 0} (t : Tree T) : Type 0 where
   pub ranked : IsRanked t.shape
 
 -- the chain of nodes under the tree: it has the list, and its nodes' links and ranks spell the shape
-pub record IsChainOf {P T I G : Type 0} (t : Tree T) (c : Chain (SimpleOrdArenaNode P T I G)) : Type 0 where
+pub record IsChainOf {P T I G : Type 0} (t : Tree T) (c : Chain (Node P T I G)) : Type 0 where
   pub list : bare c ≡ t.list
   pub held : Holds (slots_of c) None (root_of t.shape) t.shape
 

@@ -14,7 +14,7 @@ invariant_of-self g c =
 pub returns-in-Ok-clause-ok : goal.returns-in-Ok-clause-ok
 returns-in-Ok-clause-ok g c =
     clone-told g.P.Ptr.numbers _ (λ m. m.map) _ (λ m. m.f) (λ m p u r n called. called) _
-    c.source.inside.chain c.self.inside.chain c.clone_by-cloned.new.self c.clone_by-cloned.result _ _ c.len.ensures.sound _ _ c.source.invariant _ _ c.source.view_is c.self.view_is c.clone_by-cloned.ensures.ok
+    c.source.inside.chain c.self.inside.chain c.clone_by-cloned.new.self _ _ _ _ c.source.view_is c.self.view_is _ _ c.len.ensures.sound c.source.invariant c.clone_by-cloned.result c.clone_by-cloned.ensures.ok
 
 pub returns-in-Ok-clause-beyond : goal.returns-in-Ok-clause-beyond
 returns-in-Ok-clause-beyond g c = rw (← c.self.view_is, ← c.source.view_is, greatest_index-bare c.source.inside.chain.entries) c.clone_by-cloned.ensures.beyond

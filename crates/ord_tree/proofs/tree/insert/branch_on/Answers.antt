@@ -1,4 +1,5 @@
 use Rattle.std.proofs.Common.{◌≡◌, ◌∙◌, refl, sym, ap, option_map}
+use Rattle.std.proofs.lemmas.Option.{same_Some}
 use Rattle.ord_tree.specs.TreeLinks.{child_at, numbered}
 use Rattle.ord_tree.specs.Node.{indexes, slots_of}
 use Rattle.ord_tree.proofs.Rotations.{child-numbered}
@@ -14,8 +15,7 @@ returns-then-is_none g c = λ root s laid distinct.
     let within = within-occupied entries (number c.args.i) c.requires in
     record {
       within = within;
-      bare = λ n e. let same : n ≡ numbered number c.links-links.result = (let f = c.links-links.ensures in cc) in
-          ap (child_at c.args.side) same ∙ child_is ∙ ap (option_map number) (none_of c.child.result c.if-is_none.ensures);
+      bare = λ n e. ap (child_at c.args.side) (same_Some n _ (sym e ∙ c.links-links.ensures)) ∙ child_is ∙ ap (option_map number) (none_of c.child.result c.if-is_none.ensures);
       put = λ x. refl;
     }
 
