@@ -2,12 +2,11 @@
 use Rattle.std.proofs.Common.{◌≡◌, ℕ, zero, suc, ◌+◌, inl, inr, max, Option, Some, None, List, [], ◌∷◌, map, length, Result, Ok, Err, MatchResult, OnOk, refl, sym, ◌∙◌, ap, option_map, ⊎_elim, ◌==◌, true, ◌≢◌}
 use Rattle.std.proofs.lemmas.Bool.{cases_eq, eq-eqb, ne_eqb, false≢true}
 use Rattle.std.proofs.lemmas.Bool.Decides.{eqb_tells}
-use Rattle.std.proofs.lemmas.List.{map-append, map-id}
+use Rattle.std.proofs.lemmas.List.{map-id}
 use Rattle.std.proofs.lemmas.Option.{slice_get-map}
 use Rattle.std.specs.Borrow.{Bor}
-use Rattle.std.specs.List.{FoldsTo}
 use Rattle.std.specs.declared.alloc.AllocError.{AllocError}
-use Rattle.arena_base.specs.Clone.{CloneStep, Grants, IsShown, StopsAtRefusal}
+use Rattle.arena_base.specs.Clone.{Grants, IsShown, StopsAtRefusal}
 use Rattle.arena_base.proofs.CallerLemmas.{clones-retold, stops-retold}
 use Rattle.chain_base.specs.Link.{Link}
 use Rattle.chain_base.specs.Chain.{Entry, Chain, entry_at, first_or, link_between, link_at, greatest_index, IsSound}
@@ -157,8 +156,8 @@ module _ {P T U I G M N F : Type 0} (numbers : P → ℕ × ℕ) (below : M → 
         shape = rw h.after refl;
       }
 
-      module _ (most : ℕ) (greatest : Option ℕ) (sound : IsSound most greatest source) (laid : IsLaidOut source root (shape_in source root)) where
-        pub clone-told : {E : Type 0} (r : Result (Unit {0}) E) → OnOk r (IsClonedList numbers (Grants numbers outer) s source old new)
+      module _ {E : Type 0} (most : ℕ) (greatest : Option ℕ) (sound : IsSound most greatest source) (laid : IsLaidOut source root (shape_in source root)) where
+        pub clone-told : (r : Result (Unit {0}) E) → OnOk r (IsClonedList numbers (Grants numbers outer) s source old new)
             → OnOk r (IsClone numbers step (closure (wrapped s)) x y (tree_of new root))
         clone-told (Ok done) h = rw (← is_x, ← is_y) (tree-cloned most greatest sound root laid h before)
         clone-told (Err e) h = tt

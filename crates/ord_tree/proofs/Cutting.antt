@@ -1,23 +1,23 @@
 -- Taking out a node of which one side is empty: what hangs on its other side takes its place.
-use Rattle.std.proofs.Common.{◌≡◌, ◌≢◌, ℕ, ◌+◌, ◌<◌, ◌≤◌, ◌^◌, Option, Some, None, List, [], ◌∷◌, ◌++◌, length, arith, refl, sym, ◌∙◌, ap, subst, inl, inr, ⊎_elim, option_map, is_some, true, append_assoc, length-append, MatchOption}
-use Rattle.std.specs.Option.{IfSome, option_to_list}
+use Rattle.std.proofs.Common.{◌≡◌, ◌≢◌, ℕ, ◌+◌, ◌<◌, ◌≤◌, Option, Some, None, List, [], ◌∷◌, ◌++◌, length, arith, refl, sym, ◌∙◌, ap, subst, inl, inr, ⊎_elim, option_map, is_some, true, append_assoc, length-append}
+use Rattle.std.specs.Option.{option_to_list}
 use Rattle.std.proofs.lemmas.Bool.{cases_eq, cases_lt, eq-eqb, ne_eqb}
 use Rattle.ord_tree.specs.declared.tree_links.Side.{Side}
 use Rattle.ord_tree.specs.declared.tree_links.Side.TheVariants.{Lesser, Greater}
 use Rattle.ord_tree.specs.declared.tree_links.TreeLinks.{TreeLinks}
 use Rattle.ord_tree.specs.declared.tree_links.Branch.{Branch}
-use Rattle.ord_tree.specs.TreeLinks.{other_side, child_at, with_child_at}
+use Rattle.ord_tree.specs.TreeLinks.{other_side, child_at}
 use Rattle.ord_tree.specs.Shape.{Shape, missing, node, fork, rank_of, root_of, walk}
-use Rattle.ord_tree.specs.Slots.{Slots, Holds, Way, top, up, plug, above, HoldsWay, here, times, times_in, times_way, IsOnce, back_at, MovesBacks}
+use Rattle.ord_tree.specs.Slots.{Slots, Holds, top, plug, above, HoldsWay, here, times, times_in, times_way, MovesBacks}
 use Rattle.ord_tree.specs.Balance.{IsOver, IsBalanced, IsBalancedWay}
-use Rattle.ord_tree.specs.Promote.{IsBuilt}
 use Rattle.ord_tree.specs.Demote.{IsFallen}
 use Rattle.ord_tree.specs.Detach.{without, IsLoose}
 use Rattle.ord_tree.proofs.Forks.{Holds-fork, Holds-plug, link-root, fork_balanced, here-same, times-append, times-walk, times_in-plug, times_in-fork, rank-fork}
-use Rattle.ord_tree.proofs.Frames.{root-in, Holds-frame, HoldsWay-frame, Holds-rehung, HoldsWay-replaced}
+use Rattle.ord_tree.proofs.Frames.{last_step, no_step, occupied-above, root-in, Holds-frame, HoldsWay-frame, Holds-rehung, IsReplaced, HoldsWay-replaced}
 use Rattle.ord_tree.proofs.Rotations.{above-in, occupied-link, cases_link}
 use Rattle.ord_tree.proofs.Spots.{Spot, spot_in, plug_balanced, Around, around}
 use Rattle.ord_tree.proofs.NewLeaf.{rootless}
+use Rattle.ord_tree.proofs.Demoting.{IsBranchOf, BuiltOrFallen}
 use Rattle.ord_tree.proofs.Doubles.{Among-root, length-root}
 
 -- lists without an index
@@ -103,17 +103,10 @@ module _ {old : Slots} {root : Option ℕ} {v : ℕ} {side : Side} {order : List
     rest_occupied i link = occupied-link old (Some v) (child_at (other_side side) nv) spot.far i rest_held link
 
     pub parent_occupied : (p : ℕ) → nv.back ≡ Some p → is_some (old p) ≡ true
-    parent_occupied p b = go spot.way spot.held_way (sym back_is ∙ b)
-      where
-        go : (w : Way) → HoldsWay old root w (Some v) → above w ≡ Some p → is_some (old p) ≡ true
-        go top h a = absurd cc
-        go (up d i k far rest) h a = let same : p ≡ i = cc in rw (same, h.1) refl
+    parent_occupied p b = occupied-above old root (Some v) spot.way spot.held_way p (sym back_is ∙ b)
 
     module _ (replaced new : Slots) (root' : Option ℕ)
-        (at_top : nv.back ≡ None → root' ≡ child_at (other_side side) nv) (root_stays : (p : ℕ) → nv.back ≡ Some p → root' ≡ root)
-        (parent : (p : ℕ) (n : TreeLinks ℕ) (s : Side) → nv.back ≡ Some p → old p ≡ Some n → child_at s n ≡ Some v → child_at (other_side s) n ≢ Some v → replaced p ≡ Some (with_child_at s (child_at (other_side side) nv) n))
-        (but_parent : (j : ℕ) → nv.back ≢ Some j → replaced j ≡ old j)
-        (backs : (j : ℕ) → back_at old j ≡ back_at replaced j)
+        (parent : IsReplaced old replaced nv.back root root' v (child_at (other_side side) nv))
         (hung : (i : ℕ) (n : TreeLinks ℕ) → child_at (other_side side) nv ≡ Some i → replaced i ≡ Some n → new i ≡ Some (record n { back = nv.back }))
         (but_hung : (j : ℕ) → child_at (other_side side) nv ≢ Some j → new j ≡ replaced j) where
       in_far : (j : ℕ) → child_at (other_side side) nv ≡ Some j → 0 < times_in j spot.far
@@ -123,71 +116,60 @@ module _ {old : Slots} {root : Option ℕ} {v : ℕ} {side : Side} {order : List
       in_way j b = above-in spot.way j (sym back_is ∙ b)
 
       far_replaced : (j : ℕ) → 0 < times_in j spot.far → replaced j ≡ old j
-      far_replaced j inside = but_parent j (λ b. omega (arith, inside, in_way j b, total j, loose.once j))
+      far_replaced j inside = parent.elsewhere j (λ b. omega (arith, inside, in_way j b, total j, loose.once j))
 
       far_held : Holds new (above spot.way) (child_at (other_side side) nv) spot.far
       far_held =
-          Holds-rehung replaced new spot.far (Some v) (above spot.way) (child_at (other_side side) nv)
-          (λ j n link d. hung j n link d ∙ ap (λ (b : Option ℕ). Some (record n { back = b })) back_is)
+          Holds-rehung replaced new (Some v) (above spot.way) (child_at (other_side side) nv)
+          (λ j n link d. hung j n link d ∙ ap (λ (b : Option ℕ). Some (record n { back = b })) back_is) spot.far
           (λ j other inside. but_hung j other) (λ j. omega (arith, total j, loose.once j))
           (Holds-frame old replaced spot.far (Some v) (child_at (other_side side) nv) far_replaced rest_held)
 
       way_held : HoldsWay new root' spot.way (child_at (other_side side) nv)
       way_held =
+          let P : Option ℕ → Type 0 = λ b. IsReplaced old replaced b root root' v (child_at (other_side side) nv) in
           HoldsWay-frame replaced new spot.way root' (child_at (other_side side) nv) (λ j inside. but_hung j (λ link. omega (arith, inside, in_far j link, total j, loose.once j)))
-          (HoldsWay-replaced old replaced spot.way root root' (child_at (other_side side) nv) v (λ a. at_top (back_is ∙ a))
-          (λ p a. root_stays p (back_is ∙ a)) (λ p n s a. parent p n s (back_is ∙ a)) (λ j a. but_parent j (λ b. a (sym back_is ∙ b)))
-          (λ j. omega (arith, total j, loose.once j)) (omega (arith, total v, here-same v, loose.once v)) spot.held_way)
+          (HoldsWay-replaced spot.way (subst P back_is parent) (λ j. omega (arith, total j, loose.once j)) spot.held_way)
 
       pub moves_one : MovesBacks 1 old new
       moves_one = (
         option_to_list (root_of spot.far) ++ [],
         omega (arith, length-append (option_to_list (root_of spot.far)) [], length-root (root_of spot.far)),
         λ j. ⊎_elim (λ link. inl (Among-root spot.far j [] (sym rest_root ∙ link)))
-            (λ other. inr (backs j ∙ ap (λ (o : Option (TreeLinks ℕ)). option_map (λ (n : TreeLinks ℕ). n.back) o) (sym (but_hung j other)))) (cases_link (child_at (other_side side) nv) j),
+            (λ other. inr (parent.backs j ∙ ap (λ (o : Option (TreeLinks ℕ)). option_map (λ (n : TreeLinks ℕ). n.back) o) (sym (but_hung j other)))) (cases_link (child_at (other_side side) nv) j),
       )
 
-      pub cut_branch : {I : Type 0} (number : I → ℕ) (result : Option (Branch I)) → option_map (λ (p : Branch I). number p.parent) result ≡ nv.back
-          → IfSome result (λ branch. (p : TreeLinks ℕ) (s : Side) → old (number branch.parent) ≡ Some p → child_at s p ≡ Some v → child_at (other_side s) p ≢ Some v → branch.side ≡ s)
-          → MatchOption result (IsBuilt new root' (without v order) 1) (λ branch. IsFallen new root' (number branch.parent) branch.side (without v order))
-      cut_branch {I} number result b sides =
-          go spot.way spot.held_way way_held far_held listed_without parts.0 result (b ∙ back_is) sides (λ j. omega (arith, total j, loose.once j))
-        where
-          fewer : length (without v order) < 2 ^ 64
-          fewer = omega (arith, length-without v order, loose.few)
-
-          once_less : IsOnce (without v order)
-          once_less j = omega (arith, times-without v j order, loose.once j)
-
-          go : (w : Way) → HoldsWay old root w (Some v) → HoldsWay new root' w (child_at (other_side side) nv)
-              → Holds new (above w) (child_at (other_side side) nv) spot.far → walk (plug w spot.far) ≡ without v order
-              → IsBalancedWay 1 w (rank_of spot.far + 1) → (result : Option (Branch I)) → option_map (λ (p : Branch I). number p.parent) result ≡ above w
-              → IfSome result (λ branch. (p : TreeLinks ℕ) (s : Side) → old (number branch.parent) ≡ Some p → child_at s p ≡ Some v → child_at (other_side s) p ≢ Some v → branch.side ≡ s)
-              → ((j : ℕ) → times_way j w + here j v ≤ 1)
-              → MatchOption result (IsBuilt new root' (without v order) 1) (λ branch. IsFallen new root' (number branch.parent) branch.side (without v order))
-          go top was w h listed balanced None a sides alone =
-              record { shape = spot.far; held = Holds-plug new root' top spot.far (child_at (other_side side) nv) w h; listed = listed; balanced = parts.1 }
-          go top was w h listed balanced (Some branch) a sides alone = absurd cc
-          go (up d i k far rest) was w h listed balanced None a sides alone = absurd cc
-          go (up d i k far rest) was w h listed balanced (Some branch) a sides alone =
-              let same : number branch.parent ≡ i = cc in
-              let not_far : child_at (other_side d) was.0 ≢ Some v = λ f. let inside = root-in far v (sym (link-root old (Some i) (child_at (other_side d) was.0) far was.5) ∙ f) in omega (arith, alone v, here-same v) in
-              let d_is : branch.side ≡ d = sides was.0 d (rw same was.1) was.4 not_far in
-              let P : Option ℕ → Type 0 = λ link. Holds new (Some i) link spot.far in
-              let Q : ℕ → Type 0 = λ p. IsFallen new root' p branch.side (without v order) in
-              let R : Side → Type 0 = λ d. IsFallen new root' i d (without v order) in
-              subst Q (sym same) (subst R (sym d_is) (record {
-                way = rest;
-                low = spot.far;
-                far = far;
-                rank = k;
-                held_way = w.6;
-                held = Holds-fork new (above rest) (Some i) d spot.far far i k (w.0, refl, w.1, w.2, w.3, subst P (sym w.4) h, w.5);
-                listed = listed;
-                over = balanced.0;
-                balanced_low = parts.1;
-                balanced_far = balanced.1;
-                balanced_way = balanced.2;
-                once = once_less;
-                few = fewer;
-              }))
+      pub cut_branch : {I : Type 0} (number : I → ℕ) (branch : Option (Branch I)) → IsBranchOf number old v branch → BuiltOrFallen number new root' (without v order) branch
+      cut_branch number None by = record {
+        shape = plug spot.way spot.far;
+        held = Holds-plug new root' spot.way spot.far (child_at (other_side side) nv) way_held far_held;
+        listed = listed_without;
+        balanced = rw (no_step spot.way (sym (by.parent nv e ∙ back_is))) parts.1;
+      }
+      cut_branch number (Some b) by =
+          let z = number b.parent in
+          let last = last_step spot.way z (sym (by.parent nv e ∙ back_is)) in
+          let was = rw last.is at spot.held_way in
+          let w = rw last.is at way_held in
+          let h = rw last.is at far_held in
+          let balanced = rw last.is at parts.0 in
+          let not_far : child_at (other_side last.side) was.0 ≢ Some v
+          = λ f. let inside = root-in last.far v (sym (link-root old (Some z) (child_at (other_side last.side) was.0) last.far was.5) ∙ f) in
+          omega (arith, ap (times_way v) last.is, total v, here-same v, loose.once v) in
+          let P : Option ℕ → Type 0 = λ link. Holds new (Some z) link spot.far in
+          let Q : Side → Type 0 = λ side. IsFallen new root' z side (without v order) in
+          subst Q (sym (by.side was.0 last.side was.1 was.4 not_far)) (record {
+            way = last.rest;
+            low = spot.far;
+            far = last.far;
+            rank = last.rank;
+            held_way = w.6;
+            held = Holds-fork new (above last.rest) (Some z) last.side spot.far last.far z last.rank (w.0, refl, w.1, w.2, w.3, subst P (sym w.4) h, w.5);
+            listed = rw last.is at listed_without;
+            over = balanced.0;
+            balanced_low = parts.1;
+            balanced_far = balanced.1;
+            balanced_way = balanced.2;
+            once = λ j. omega (arith, times-without v j order, loose.once j);
+            few = omega (arith, length-without v order, loose.few);
+          })

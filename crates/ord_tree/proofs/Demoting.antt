@@ -6,19 +6,29 @@ use Rattle.ord_tree.specs.declared.tree_links.TreeLinks.{TreeLinks}
 use Rattle.ord_tree.specs.declared.tree_links.Branch.{Branch}
 use Rattle.ord_tree.specs.TreeLinks.{other_side, child_at}
 use Rattle.ord_tree.specs.Shape.{Shape, missing, node, fork, rank_of, root_of, size_of, walk}
-use Rattle.ord_tree.specs.Slots.{Slots, Holds, Way, top, up, plug, above, HoldsWay, here, times_in, times_way, IsApart, rank_at}
+use Rattle.ord_tree.specs.Slots.{Slots, Holds, up, plug, above, here, times_in, times_way, IsApart, rank_at}
 use Rattle.ord_tree.specs.Balance.{IsOver, IsBalanced, IsBalancedWay}
 use Rattle.ord_tree.specs.Promote.{IsBuilt, IsRepaired}
 use Rattle.ord_tree.specs.Demote.{IsFallen, IsDemoted, IsLeaning, HasDemoted}
 use Rattle.ord_tree.proofs.Slack.{IsRanked-balanced, rank-small}
 use Rattle.ord_tree.proofs.Halves.{size_of-walk}
 use Rattle.ord_tree.proofs.Forks.{fork-other, rank-fork, size-fork, walk-ranked, walk-plug, link-root, Holds-fork, Holds-plug, fork_balanced, IsBalanced-fork, IsBalanced-plug, here-same, times_in-fork, IsApart-once, apart-from}
-use Rattle.ord_tree.proofs.Frames.{root-in, HoldsWay-frame, Holds-reranked, backs-ranked}
+use Rattle.ord_tree.proofs.Frames.{last_step, no_step, occupied-above, root-in, HoldsWay-frame, IsReranked, Holds-reranked, backs-ranked}
 use Rattle.ord_tree.proofs.Rotations.{ForkAt, ForkAt-holds, occupied-link}
 use Rattle.ord_tree.proofs.Promoting.{size-plug, root_holds}
 use Rattle.ord_tree.proofs.Leaning.{some_of}
 use Rattle.ord_tree.proofs.Doubles.{fork_of, rank_at-held}
 use Rattle.ord_tree.proofs.NewLeaf.{rootless}
+
+-- the branch on which a node hangs, if it hangs on one
+pub record IsBranchOf {I : Type 0} (number : I → ℕ) (at : Slots) (y : ℕ) (branch : Option (Branch I)) : Type 0 where
+  pub parent : (n : TreeLinks ℕ) → at y ≡ Some n → option_map (λ (p : Branch I). number p.parent) branch ≡ n.back
+  pub side : IfSome branch (λ b. (n : TreeLinks ℕ) (side : Side) → at (number b.parent) ≡ Some n → child_at side n ≡ Some y → child_at (other_side side) n ≢ Some y
+      → b.side ≡ side)
+
+-- a balanced tree, or one of which this branch has fallen
+abbrev pub BuiltOrFallen : {I : Type 0} → (I → ℕ) → Slots → Option ℕ → List ℕ → Option (Branch I) → Type 0
+BuiltOrFallen number at root order branch = MatchOption branch (IsBuilt at root order 1) (λ b. IsFallen at root (number b.parent) b.side order)
 
 -- where a node is, a rank is
 rank-positive : (slack : ℕ) (s : Shape) (i : ℕ) → IsBalanced slack s → root_of s ≡ Some i → 0 < rank_of s
@@ -77,22 +87,23 @@ module _ {at : Slots} {root : Option ℕ} {y : ℕ} {side : Side} {order : List 
   -- the rank stays small
   rank-bound : fallen.rank < 256
   rank-bound =
-      let few : size_of fallen.low < 2 ^ 64 = omega (arith, size-plug fallen.way whole, size-fork side fallen.low fallen.far y fallen.rank, size_of-walk (plug fallen.way whole), ap length fallen.listed, fallen.few) in
+      let few : size_of fallen.low < 2 ^ 64 = omega (arith, size-plug fallen.way whole, size-fork side fallen.low fallen.far y fallen.rank, size_of-walk (plug fallen.way whole), ap length fallen.listed) in
       omega (arith, fallen.over.lesser, rank-small fallen.low (IsRanked-balanced 1 fallen.low fallen.balanced_low) few)
 
   -- y gets the rank one lower
-  pub IsDemoted-written : (new : Slots) (rank : ℕ) → rank + 1 ≡ fallen.rank → IsOver 1 rank (rank_of fallen.low) (rank_of fallen.far)
-      → ((n : TreeLinks ℕ) → at y ≡ Some n → new y ≡ Some (record n { rank = rank })) → ((j : ℕ) → j ≢ y → new j ≡ at j) → (ny : TreeLinks ℕ) → at y ≡ Some ny → IsDemoted at new root y order
-  IsDemoted-written new rank lower over written elsewhere ny e =
+  pub IsDemoted-written : {new : Slots} {rank : ℕ} → IsReranked at new y rank → rank + 1 ≡ fallen.rank → IsOver 1 rank (rank_of fallen.low) (rank_of fallen.far)
+      → IsDemoted at new root y order
+  IsDemoted-written {new} {rank} by lower over =
       let P : ℕ → Type 0 = λ k. IsBalancedWay 1 fallen.way k in
       let rank_is = rank-fork side fallen.low fallen.far y rank in
+      let some = some_of (at y) y_occupied in
       let rank_was = rank_at-held at (above fallen.way) (Some y) whole fallen.held ∙ rank-fork side fallen.low fallen.far y fallen.rank in
       record {
         demoted = record {
           way = fallen.way;
           shape = fork side fallen.low y rank fallen.far;
-          held_way = HoldsWay-frame at new fallen.way root (Some y) (λ j in_way. elsewhere j (apart-from y j (λ j. times_way j fallen.way) (omega (arith, parts_apart y, here-same y)) in_way)) fallen.held_way;
-          held = Holds-reranked at new (above fallen.way) (Some y) side fallen.low fallen.far y fallen.rank rank written elsewhere (omega (arith, parts_apart y, here-same y)) (omega (arith, parts_apart y, here-same y)) fallen.held;
+          held_way = HoldsWay-frame at new fallen.way root (Some y) (λ j in_way. by.elsewhere j (apart-from y j (λ j. times_way j fallen.way) (omega (arith, parts_apart y, here-same y)) in_way)) fallen.held_way;
+          held = Holds-reranked by (above fallen.way) (Some y) side fallen.low fallen.far fallen.rank (omega (arith, parts_apart y, here-same y)) fallen.held;
           listed = walk-plug fallen.way (fork side fallen.low y rank fallen.far) whole (walk-ranked side fallen.low fallen.far y rank fallen.rank) ∙ fallen.listed;
           balanced = IsBalanced-fork 1 side fallen.low fallen.far y rank over fallen.balanced_low fallen.balanced_far;
           balanced_way = subst P (omega (arith, rank_is, lower)) fallen.balanced_way;
@@ -101,7 +112,7 @@ module _ {at : Slots} {root : Option ℕ} {y : ℕ} {side : Side} {order : List 
         };
         rank = omega (arith, rank_is, rank_was, lower);
         fits = omega (arith, rank_was, rank-bound);
-        backs = backs-ranked at new y rank ny e written elsewhere;
+        backs = backs-ranked by some.0 some.1;
       }
 
   -- where nothing hangs on the other side
@@ -146,82 +157,62 @@ module _ {at : Slots} {root : Option ℕ} {y : ℕ} {side : Side} {order : List 
 
 -- a node that has demoted, and its parent
 module _ {old new : Slots} {root : Option ℕ} {y : ℕ} {order : List ℕ} (demoted : IsDemoted old new root y order) where
-  abbrev way : Way
-  way = demoted.demoted.way
-
   pub demoted_occupied : is_some (new y) ≡ true
-  demoted_occupied = occupied-link new (above way) (Some y) demoted.demoted.shape y demoted.demoted.held refl
+  demoted_occupied = occupied-link new (above demoted.demoted.way) (Some y) demoted.demoted.shape y demoted.demoted.held refl
 
-  demoted_back : (n : TreeLinks ℕ) → new y ≡ Some n → above way ≡ n.back
-  demoted_back n e = sym (root_holds new (above way) y demoted.demoted.shape n demoted.demoted.held e).0
+  demoted_back : (n : TreeLinks ℕ) → new y ≡ Some n → above demoted.demoted.way ≡ n.back
+  demoted_back n e = sym (root_holds new (above demoted.demoted.way) y demoted.demoted.shape n demoted.demoted.held e).0
 
   pub parent_occupied : (n : TreeLinks ℕ) (p : ℕ) → new y ≡ Some n → n.back ≡ Some p → is_some (new p) ≡ true
-  parent_occupied n p e back = go way demoted.demoted.held_way (demoted_back n e ∙ back)
-    where
-      go : (w : Way) → HoldsWay new root w (Some y) → above w ≡ Some p → is_some (new p) ≡ true
-      go top h a = absurd cc
-      go (up side i k far rest) h a = let same : p ≡ i = cc in rw (same, h.1) refl
+  parent_occupied n p e back = occupied-above new root (Some y) demoted.demoted.way demoted.demoted.held_way p (demoted_back n e ∙ back)
 
-  pub IsRepaired-top : (n : TreeLinks ℕ) → new y ≡ Some n → n.back ≡ None → IsRepaired old new root order 1
-  IsRepaired-top n e back = record {
-    built = go way demoted.demoted.held_way demoted.demoted.held demoted.demoted.listed (demoted_back n e ∙ back);
-    backs = ([], omega arith, λ j. inr (demoted.backs j));
-  }
-    where
-      go : (w : Way) → HoldsWay new root w (Some y) → Holds new (above w) (Some y) demoted.demoted.shape → walk (plug w demoted.demoted.shape) ≡ order → above w ≡ None → IsBuilt new root order 1
-      go top h held listed a = record { shape = demoted.demoted.shape; held = Holds-plug new root top demoted.demoted.shape (Some y) h held; listed = listed; balanced = demoted.demoted.balanced }
-      go (up side i k far rest) h held listed a = absurd cc
+  -- what the branch on which it hangs says
+  module _ {I : Type 0} (number : I → ℕ) where
+    demoted_above : (branch : Option (Branch I)) → IsBranchOf number new y branch → above demoted.demoted.way ≡ option_map (λ (p : Branch I). number p.parent) branch
+    demoted_above branch by = let n = some_of (new y) demoted_occupied in demoted_back n.0 n.1 ∙ sym (by.parent n.0 n.1)
 
-  pub HasDemoted-up : (n : TreeLinks ℕ) (z : ℕ) (d : Side) → new y ≡ Some n → n.back ≡ Some z
-      → ((pz : TreeLinks ℕ) (side : Side) → new z ≡ Some pz → child_at side pz ≡ Some y → child_at (other_side side) pz ≢ Some y → d ≡ side) → HasDemoted old new root y z d order
-  HasDemoted-up n z d e back side_is = go way demoted.demoted.held_way demoted.demoted.held demoted.demoted.listed demoted.demoted.balanced_way (demoted_back n e ∙ back)
-    where
-      shape : Shape
-      shape = demoted.demoted.shape
-
-      under : (side : Side) (i k : ℕ) (far : Shape) (rest : Way) → HoldsWay new root (up side i k far rest) (Some y)
-          → Holds new (Some i) (Some y) demoted.demoted.shape → walk (plug rest (fork side demoted.demoted.shape i k far)) ≡ order
-          → IsBalancedWay 1 (up side i k far rest) (rank_of demoted.demoted.shape + 1) → i ≡ z → HasDemoted old new root y i side order
-      under side i k far rest h held listed balanced same =
-          let P : Option ℕ → Type 0 = λ link. Holds new (Some i) link demoted.demoted.shape in
-          record {
-            fallen = record {
-              way = rest;
-              low = demoted.demoted.shape;
-              far = far;
-              rank = k;
-              held_way = h.6;
-              held = Holds-fork new (above rest) (Some i) side demoted.demoted.shape far i k (h.0, refl, h.1, h.2, h.3, subst P (sym h.4) held, h.5);
-              listed = listed;
-              over = balanced.0;
-              balanced_low = demoted.demoted.balanced;
-              balanced_far = balanced.1;
-              balanced_way = balanced.2;
-              once = demoted.demoted.once;
-              few = demoted.demoted.few;
-            };
-            higher = rw h.1 (omega (arith, h.3, demoted.rank, balanced.0.lesser));
-            fits = demoted.fits;
-            backs = demoted.backs;
-          }
-
-      go : (w : Way) → HoldsWay new root w (Some y) → Holds new (above w) (Some y) demoted.demoted.shape → walk (plug w demoted.demoted.shape) ≡ order
-          → IsBalancedWay 1 w (rank_of demoted.demoted.shape + 1) → above w ≡ Some z → HasDemoted old new root y z d order
-      go top h held listed balanced a = absurd cc
-      go (up side i k far rest) h held listed balanced a =
-          let same : i ≡ z = cc in
-          let apart = IsApart-once (up side i k far rest) demoted.demoted.shape order listed demoted.demoted.once y in
-          let in_shape = root-in demoted.demoted.shape y (sym (link-root new (Some i) (Some y) demoted.demoted.shape held)) in
-          let not_far : child_at (other_side side) h.0 ≢ Some y = λ f. let in_far = root-in far y (sym (link-root new (Some i) (child_at (other_side side) h.0) far h.5) ∙ f) in omega arith in
-          let d_is : d ≡ side = side_is h.0 side (rw (← same) h.1) h.4 not_far in
-          let P : ℕ → Type 0 = λ z. HasDemoted old new root y z d order in
-          let Q : Side → Type 0 = λ d. HasDemoted old new root y i d order in
-          subst P same (subst Q (sym d_is) (under side i k far rest h held listed balanced same))
-
-  -- what the parent's branch says
-  pub demoted_branch : {I : Type 0} (number : I → ℕ) (result : Option (Branch I))
-      → ((n : TreeLinks ℕ) → new y ≡ Some n → option_map (λ (p : Branch I). number p.parent) result ≡ n.back)
-      → IfSome result (λ branch. (p : TreeLinks ℕ) (side : Side) → new (number branch.parent) ≡ Some p → child_at side p ≡ Some y → child_at (other_side side) p ≢ Some y → branch.side ≡ side)
-      → MatchOption result (IsRepaired old new root order 1) (λ branch. HasDemoted old new root y (number branch.parent) branch.side order)
-  demoted_branch number None back sides = let n = some_of (new y) demoted_occupied in IsRepaired-top n.0 n.1 (sym (back n.0 n.1))
-  demoted_branch number (Some branch) back sides = let n = some_of (new y) demoted_occupied in HasDemoted-up n.0 (number branch.parent) branch.side n.1 (sym (back n.0 n.1)) sides
+    pub demoted_branch : (branch : Option _) → IsBranchOf number new y branch
+        → MatchOption branch (IsRepaired old new root order 1) (λ b. HasDemoted old new root y (number b.parent) b.side order)
+    demoted_branch None by = let now = demoted.demoted in record {
+      built = record {
+        shape = plug now.way now.shape;
+        held = Holds-plug new root now.way now.shape (Some y) now.held_way now.held;
+        listed = now.listed;
+        balanced = rw (no_step now.way (demoted_above None by)) now.balanced;
+      };
+      backs = ([], omega arith, λ j. inr (demoted.backs j));
+    }
+    demoted_branch (Some b) by =
+        let now = demoted.demoted in
+        let z = number b.parent in
+        let last = last_step now.way z (demoted_above (Some b) by) in
+        let h = rw last.is at now.held_way in
+        let held = rw last.is at now.held in
+        let listed = rw last.is at now.listed in
+        let balanced = rw last.is at now.balanced_way in
+        let apart = IsApart-once (up last.side z last.rank last.far last.rest) now.shape order listed now.once y in
+        let in_shape = root-in now.shape y (sym (link-root new (Some z) (Some y) now.shape held)) in
+        let not_far : child_at (other_side last.side) h.0 ≢ Some y
+        = λ f. let in_far = root-in last.far y (sym (link-root new (Some z) (child_at (other_side last.side) h.0) last.far h.5) ∙ f) in omega arith in
+        let P : Option ℕ → Type 0 = λ link. Holds new (Some z) link now.shape in
+        let Q : Side → Type 0 = λ side. HasDemoted old new root y z side order in
+        subst Q (sym (by.side h.0 last.side h.1 h.4 not_far)) (record {
+          fallen = record {
+            way = last.rest;
+            low = now.shape;
+            far = last.far;
+            rank = last.rank;
+            held_way = h.6;
+            held = Holds-fork new (above last.rest) (Some z) last.side now.shape last.far z last.rank (h.0, refl, h.1, h.2, h.3, subst P (sym h.4) held, h.5);
+            listed = listed;
+            over = balanced.0;
+            balanced_low = now.balanced;
+            balanced_far = balanced.1;
+            balanced_way = balanced.2;
+            once = now.once;
+            few = now.few;
+          };
+          higher = rw h.1 (omega (arith, h.3, demoted.rank, balanced.0.lesser));
+          fits = demoted.fits;
+          backs = demoted.backs;
+        })

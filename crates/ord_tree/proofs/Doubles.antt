@@ -9,7 +9,7 @@ use Rattle.ord_tree.specs.Shape.{Shape, missing, node, fork, rank_of, root_of, w
 use Rattle.ord_tree.specs.Slots.{Slots, Holds, up, plug, above, HoldsWay, times_in, IsApart, Among, rank_at, MovesBacks}
 use Rattle.ord_tree.specs.Balance.{IsOver, IsBalanced, IsBalancedWay}
 use Rattle.ord_tree.specs.Rotate.{Site, IsRotated}
-use Rattle.ord_tree.specs.Promote.{IsBuilt}
+use Rattle.ord_tree.specs.Promote.{IsRepaired}
 use Rattle.ord_tree.proofs.Rotations.{ForkAt-holds, fork_at_low}
 use Rattle.ord_tree.proofs.Forks.{fork-other, rank-fork, walk-rotated, walk-fork_near, walk-plug, HoldsFork, HoldsFork-holds, Holds-fork, link-root, Holds-plug, IsBalanced-fork, fork_balanced, IsBalanced-plug, times_in-fork}
 
@@ -68,31 +68,38 @@ module _ {old : Slots} {old_root : Option ℕ} {side : Side} {z y : ℕ} (site :
   pub inner_root : (ny : TreeLinks ℕ) → old y ≡ Some ny → child_at (other_side side) ny ≡ root_of site.inner
   inner_root ny e = link-root old (Some y) (child_at (other_side side) ny) site.inner (fork_at_low old old_root side z y site ny e).far_held
 
-  -- a single rotation moves three parents at most
-  pub backs_single : (new : Slots) (root : Option ℕ) (rank_z rank_y : ℕ) → IsRotated site new root rank_z rank_y → MovesBacks 5 old new
-  backs_single new root rank_z rank_y r = (
-    z ∷ y ∷ (option_to_list (root_of site.inner) ++ []),
-    omega (arith, length-append (option_to_list (root_of site.inner)) [], length-root (root_of site.inner)),
-    λ j. ⊎_elim (λ e. inl (inl e)) (⊎_elim (λ e. inl (inr (inl e))) (⊎_elim (λ e. inl (inr (inr (Among-root site.inner j [] e)))) (λ e. inr e))) (r.backs j),
-  )
+  -- the whole shape there
+  abbrev pub site_shape : Shape
+  site_shape = fork side (fork side site.outer y site.low site.inner) z site.high site.far
 
-  -- after a single rotation a balanced tree stands there again, where the new ranks fit
-  pub IsBuilt-single : (new : Slots) (root : Option ℕ) (rank_z rank_y slack : ℕ) (order : List ℕ) → IsRotated site new root rank_z rank_y
-      → IsOver slack rank_z (rank_of site.inner) (rank_of site.far) → IsOver slack rank_y (rank_of site.outer) rank_z
-      → IsBalanced slack site.outer → IsBalanced slack site.inner → IsBalanced slack site.far → IsBalancedWay slack site.way rank_y
-      → walk (plug site.way (fork side (fork side site.outer y site.low site.inner) z site.high site.far)) ≡ order → IsBuilt new root order slack
-  IsBuilt-single new root rank_z rank_y slack order r over_z over_y outer inner far way listed =
-      let below = fork side site.inner z rank_z site.far in
-      let whole = fork side site.outer y rank_y below in
-      let P : ℕ → Type 0 = λ rank. IsOver slack rank_y (rank_of site.outer) rank in
-      let Q : ℕ → Type 0 = λ rank. IsBalancedWay slack site.way rank in
-      record {
-        shape = plug site.way whole;
-        held = Holds-plug new root site.way whole (Some y) r.held_way r.held;
-        listed = sym (walk-plug site.way (fork side (fork side site.outer y site.low site.inner) z site.high site.far) whole (walk-rotated side site.outer site.inner site.far y z site.low site.high rank_y rank_z)) ∙ listed;
-        balanced = IsBalanced-plug slack site.way whole (subst Q (sym (rank-fork side site.outer below y rank_y)) way)
-            (IsBalanced-fork slack side site.outer below y rank_y (subst P (sym (rank-fork side site.inner site.far z rank_z)) over_y) outer (IsBalanced-fork slack side site.inner site.far z rank_z over_z inner far));
-      }
+  module _ {new : Slots} {root : Option ℕ} {rank_z rank_y : ℕ} (r : IsRotated site new root rank_z rank_y) where
+    -- a single rotation moves three parents at most
+    backs_single : MovesBacks 5 old new
+    backs_single = (
+      z ∷ y ∷ (option_to_list (root_of site.inner) ++ []),
+      omega (arith, length-append (option_to_list (root_of site.inner)) [], length-root (root_of site.inner)),
+      λ j. ⊎_elim (λ e. inl (inl e)) (⊎_elim (λ e. inl (inr (inl e))) (⊎_elim (λ e. inl (inr (inr (Among-root site.inner j [] e)))) (λ e. inr e))) (r.backs j),
+    )
+
+    -- after it a balanced tree stands there again, where the new ranks fit
+    module _ {slack : ℕ} {order : List ℕ} (over_z : IsOver slack rank_z (rank_of site.inner) (rank_of site.far)) (over_y : IsOver slack rank_y (rank_of site.outer) rank_z)
+        (outer : IsBalanced slack site.outer) (inner : IsBalanced slack site.inner) (far : IsBalanced slack site.far) (way : IsBalancedWay slack site.way rank_y) where
+      pub IsRepaired-rotated : walk (plug site.way site_shape) ≡ order → IsRepaired old new root order slack
+      IsRepaired-rotated listed =
+          let below = fork side site.inner z rank_z site.far in
+          let whole = fork side site.outer y rank_y below in
+          let P : ℕ → Type 0 = λ rank. IsOver slack rank_y (rank_of site.outer) rank in
+          let Q : ℕ → Type 0 = λ rank. IsBalancedWay slack site.way rank in
+          record {
+            built = record {
+              shape = plug site.way whole;
+              held = Holds-plug new root site.way whole (Some y) r.held_way r.held;
+              listed = sym (walk-plug site.way site_shape whole (walk-rotated side site.outer site.inner site.far y z site.low site.high rank_y rank_z)) ∙ listed;
+              balanced = IsBalanced-plug slack site.way whole (subst Q (sym (rank-fork side site.outer below y rank_y)) way)
+                  (IsBalanced-fork slack side site.outer below y rank_y (subst P (sym (rank-fork side site.inner site.far z rank_z)) over_y) outer (IsBalanced-fork slack side site.inner site.far z rank_z over_z inner far));
+            };
+            backs = backs_single;
+          }
 
   module _ (x : ℕ) (root_is : root_of site.inner ≡ Some x) where
     -- what stands between y and z, told from the other side
@@ -105,12 +112,13 @@ module _ {old : Slots} {old_root : Option ℕ} {side : Side} {z y : ℕ} (site :
         (ForkAt-holds old (Some y) (child_at (other_side side) ny) (other_side side) middle.near x middle.rank middle.far nx d (subst P middle.is (fork_at_low old old_root side z y site ny e).far_held)).rank
 
     -- the ranks and the balance of what stood between y and z
-    pub middle_over : (slack : ℕ) → IsBalanced slack site.inner
-        → (rank_of site.inner ≡ middle.rank) × IsOver slack middle.rank (rank_of middle.near) (rank_of middle.far) × IsBalanced slack middle.near × IsBalanced slack middle.far
+    pub middle_rank_is : rank_of site.inner ≡ middle.rank
+    middle_rank_is = ap rank_of middle.is ∙ rank-fork (other_side side) middle.near middle.far x middle.rank
+
+    pub middle_over : (slack : ℕ) → IsBalanced slack site.inner → IsOver slack middle.rank (rank_of middle.near) (rank_of middle.far) × IsBalanced slack middle.near × IsBalanced slack middle.far
     middle_over slack h =
         let P : Shape → Type 0 = λ s. IsBalanced slack s in
-        let inner = fork_balanced slack (other_side side) middle.near middle.far x middle.rank (subst P middle.is h) in
-        (ap rank_of middle.is ∙ rank-fork (other_side side) middle.near middle.far x middle.rank, inner.0, inner.1, inner.2)
+        fork_balanced slack (other_side side) middle.near middle.far x middle.rank (subst P middle.is h)
 
     -- y over what it carries, told from the other side
     shape_below : fork side site.outer y site.low site.inner ≡ fork (other_side side) (fork (other_side side) middle.near x middle.rank middle.far) y site.low site.outer
@@ -150,24 +158,28 @@ module _ {old : Slots} {old_root : Option ℕ} {side : Side} {z y : ℕ} (site :
     }
 
     module _ {mid : Slots} {mid_root : Option ℕ} {rank_low rank_high : ℕ} (r : IsRotated site_below mid mid_root rank_low rank_high) where
-      shape_above : fork (other_side side) middle.near x rank_high (fork (other_side side) middle.far y rank_low site.outer) ≡ fork side (fork side site.outer y rank_low middle.far) x rank_high middle.near
+      -- y with what it carries after the first rotation
+      abbrev pub lifted : Shape
+      lifted = fork side site.outer y rank_low middle.far
+
+      shape_above : fork (other_side side) middle.near x rank_high (fork (other_side side) middle.far y rank_low site.outer) ≡ fork side lifted x rank_high middle.near
       shape_above = fork-other side middle.near (fork (other_side side) middle.far y rank_low site.outer) x rank_high ∙ ap (λ s. fork side s x rank_high middle.near) (fork-other side middle.far site.outer y rank_low)
 
-      pub held_above : Holds mid (above site.way) (Some z) (fork side (fork side (fork side site.outer y rank_low middle.far) x rank_high middle.near) z site.high site.far)
+      pub held_above : Holds mid (above site.way) (Some z) (fork side (fork side lifted x rank_high middle.near) z site.high site.far)
       held_above =
           let w = r.held_way in
-          let P : Option ℕ → Type 0 = λ link. Holds mid (Some z) link (fork side (fork side site.outer y rank_low middle.far) x rank_high middle.near) in
+          let P : Option ℕ → Type 0 = λ link. Holds mid (Some z) link (fork side lifted x rank_high middle.near) in
           let Q : Shape → Type 0 = λ s. Holds mid (Some z) (Some x) s in
-          Holds-fork mid (above site.way) (Some z) side (fork side (fork side site.outer y rank_low middle.far) x rank_high middle.near) site.far z site.high
+          Holds-fork mid (above site.way) (Some z) side (fork side lifted x rank_high middle.near) site.far z site.high
           (w.0, refl, w.1, w.2, w.3, subst P (sym w.4) (subst Q shape_above r.held), w.5)
 
-      pub apart_above : IsApart site.way (fork side (fork side (fork side site.outer y rank_low middle.far) x rank_high middle.near) z site.high site.far)
+      pub apart_above : IsApart site.way (fork side (fork side lifted x rank_high middle.near) z site.high site.far)
       apart_above j =
           omega (
             arith,
             apart_below j,
-            times_in-fork j side (fork side (fork side site.outer y rank_low middle.far) x rank_high middle.near) site.far z site.high,
-            times_in-fork j side (fork side site.outer y rank_low middle.far) middle.near x rank_high,
+            times_in-fork j side (fork side lifted x rank_high middle.near) site.far z site.high,
+            times_in-fork j side lifted middle.near x rank_high,
             times_in-fork j side site.outer middle.far y rank_low,
             times_in-fork j (other_side side) (fork (other_side side) middle.near x middle.rank middle.far) site.outer y site.low,
             times_in-fork j (other_side side) middle.near middle.far x middle.rank,
@@ -177,7 +189,7 @@ module _ {old : Slots} {old_root : Option ℕ} {side : Side} {z y : ℕ} (site :
       abbrev pub site_above : Site mid mid_root side z x
       site_above = record {
         way = site.way;
-        outer = fork side site.outer y rank_low middle.far;
+        outer = lifted;
         inner = middle.near;
         far = site.far;
         low = rank_high;
@@ -187,54 +199,57 @@ module _ {old : Slots} {old_root : Option ℕ} {side : Side} {z y : ℕ} (site :
         apart = apart_above;
       }
 
-      -- the walk stays
-      pub walk_double : (rank_x : ℕ) → walk (plug site.way (fork side (fork side site.outer y rank_low middle.far) x rank_x (fork side middle.near z rank_low site.far)))
-          ≡ walk (plug site.way (fork side (fork side site.outer y site.low site.inner) z site.high site.far))
-      walk_double rank_x =
-          let lifted = fork side site.outer y rank_low middle.far in
-          let inner_is : site.inner ≡ fork side middle.far x middle.rank middle.near = middle.is ∙ fork-other side middle.near middle.far x middle.rank in
-          let first : walk (fork side lifted x rank_x middle.near) ≡ walk (fork side site.outer y site.low site.inner)
-          = walk-rotated side site.outer middle.far middle.near y x rank_low rank_x site.low middle.rank ∙ ap (λ s. walk (fork side site.outer y site.low s)) (sym inner_is) in
-          let second = walk-rotated side lifted middle.near site.far x z rank_x site.high rank_x rank_low in
-          walk-plug site.way (fork side lifted x rank_x (fork side middle.near z rank_low site.far)) (fork side (fork side site.outer y site.low site.inner) z site.high site.far)
-          (sym second ∙ walk-fork_near side (fork side lifted x rank_x middle.near) (fork side site.outer y site.low site.inner) site.far z site.high first)
+      module _ {new : Slots} {root : Option ℕ} (t : IsRotated site_above new root rank_low rank_high) where
+        abbrev upper : Shape
+        upper = fork side middle.near z rank_low site.far
 
-      -- and so do the parents of all but five
-      pub backs_double : (new : Slots) (root : Option ℕ) (rank_z rank_x : ℕ) → IsRotated site_above new root rank_z rank_x → MovesBacks 5 old new
-      backs_double new root rank_z rank_x t = (
-        z ∷ y ∷ x ∷ (option_to_list (root_of middle.near) ++ (option_to_list (root_of middle.far) ++ [])),
-        omega (
-          arith,
-          length-append (option_to_list (root_of middle.near)) (option_to_list (root_of middle.far) ++ []),
-          length-append
-              (option_to_list (root_of middle.far)) [],
-          length-root (root_of middle.near),
-          length-root (root_of middle.far),
-        ),
-        λ j. ⊎_elim (λ e. inl (inr (inl e))) (⊎_elim (λ e. inl (inr (inr (inl e))))
-            (⊎_elim (λ e. inl (inr (inr (inr (Among-behind (option_to_list (root_of middle.near)) (option_to_list (root_of middle.far) ++ []) j (Among-root middle.far j [] e))))))
-            (λ first. ⊎_elim (λ e. inl (inl e)) (⊎_elim (λ e. inl (inr (inr (inl e))))
-            (⊎_elim (λ e. inl (inr (inr (inr (Among-root middle.near j (option_to_list (root_of middle.far) ++ []) e))))) (λ second. inr (first ∙ second)))) (t.backs j)))) (r.backs j),
-      )
+        -- the walk stays
+        walk_double : walk (plug site.way (fork side lifted x rank_high upper)) ≡ walk (plug site.way site_shape)
+        walk_double =
+            let inner_is : site.inner ≡ fork side middle.far x middle.rank middle.near = middle.is ∙ fork-other side middle.near middle.far x middle.rank in
+            let first : walk (fork side lifted x rank_high middle.near) ≡ walk (fork side site.outer y site.low site.inner)
+            = walk-rotated side site.outer middle.far middle.near y x rank_low rank_high site.low middle.rank ∙ ap (λ s. walk (fork side site.outer y site.low s)) (sym inner_is) in
+            let second = walk-rotated side lifted middle.near site.far x z rank_high site.high rank_high rank_low in
+            walk-plug site.way (fork side lifted x rank_high upper) site_shape
+            (sym second ∙ walk-fork_near side (fork side lifted x rank_high middle.near) (fork side site.outer y site.low site.inner) site.far z site.high first)
 
-      -- after a double rotation a balanced tree stands there again, where the new ranks fit
-      pub IsBuilt-double : (new : Slots) (root : Option ℕ) (slack : ℕ) (order : List ℕ) → IsRotated site_above new root rank_low rank_high
-          → IsOver slack rank_low (rank_of site.outer) (rank_of middle.far) → IsOver slack rank_low (rank_of middle.near) (rank_of site.far) → IsOver slack rank_high rank_low rank_low
-          → IsBalanced slack site.outer → IsBalanced slack middle.near → IsBalanced slack middle.far → IsBalanced slack site.far → IsBalancedWay slack site.way rank_high
-          → walk (plug site.way (fork side (fork side site.outer y site.low site.inner) z site.high site.far)) ≡ order → IsBuilt new root order slack
-      IsBuilt-double new root slack order t over_y over_z over_x outer near far other way listed =
-          let lower = fork side site.outer y rank_low middle.far in
-          let upper = fork side middle.near z rank_low site.far in
-          let whole = fork side lower x rank_high upper in
-          let P : ℕ → Type 0 = λ rank. IsOver slack rank_high rank (rank_of upper) in
-          let R : ℕ → Type 0 = λ rank. IsOver slack rank_high rank_low rank in
-          let Q : ℕ → Type 0 = λ rank. IsBalancedWay slack site.way rank in
-          record {
-            shape = plug site.way whole;
-            held = Holds-plug new root site.way whole (Some x) t.held_way t.held;
-            listed = walk_double rank_high ∙ listed;
-            balanced = IsBalanced-plug slack site.way whole (subst Q (sym (rank-fork side lower upper x rank_high)) way)
-                (IsBalanced-fork slack side lower upper x rank_high
-                (subst P (sym (rank-fork side site.outer middle.far y rank_low)) (subst R (sym (rank-fork side middle.near site.far z rank_low)) over_x))
-                (IsBalanced-fork slack side site.outer middle.far y rank_low over_y outer far) (IsBalanced-fork slack side middle.near site.far z rank_low over_z near other));
-          }
+        -- and so do the parents of all but five
+        backs_double : MovesBacks 5 old new
+        backs_double = (
+          z ∷ y ∷ x ∷ (option_to_list (root_of middle.near) ++ (option_to_list (root_of middle.far) ++ [])),
+          omega (
+            arith,
+            length-append (option_to_list (root_of middle.near)) (option_to_list (root_of middle.far) ++ []),
+            length-append (option_to_list (root_of middle.far)) [],
+            length-root (root_of middle.near),
+            length-root (root_of middle.far),
+          ),
+          λ j. ⊎_elim (λ e. inl (inr (inl e))) (⊎_elim (λ e. inl (inr (inr (inl e))))
+              (⊎_elim (λ e. inl (inr (inr (inr (Among-behind (option_to_list (root_of middle.near)) (option_to_list (root_of middle.far) ++ []) j (Among-root middle.far j [] e))))))
+              (λ first. ⊎_elim (λ e. inl (inl e)) (⊎_elim (λ e. inl (inr (inr (inl e))))
+              (⊎_elim (λ e. inl (inr (inr (inr (Among-root middle.near j (option_to_list (root_of middle.far) ++ []) e))))) (λ second. inr (first ∙ second)))) (t.backs j)))) (r.backs j),
+        )
+
+        -- after a double rotation a balanced tree stands there again, where the new ranks fit
+        module _ {slack : ℕ} {order : List ℕ} (over_y : IsOver slack rank_low (rank_of site.outer) (rank_of middle.far))
+            (over_z : IsOver slack rank_low (rank_of middle.near) (rank_of site.far)) (over_x : IsOver slack rank_high rank_low rank_low)
+            (outer : IsBalanced slack site.outer) (inner : IsBalanced slack site.inner) (far : IsBalanced slack site.far) (way : IsBalancedWay slack site.way rank_high) where
+          pub IsRepaired-rotated_twice : walk (plug site.way site_shape) ≡ order → IsRepaired old new root order slack
+          IsRepaired-rotated_twice listed =
+              let whole = fork side lifted x rank_high upper in
+              let balanced = middle_over slack inner in
+              let P : ℕ → Type 0 = λ rank. IsOver slack rank_high rank (rank_of upper) in
+              let R : ℕ → Type 0 = λ rank. IsOver slack rank_high rank_low rank in
+              let Q : ℕ → Type 0 = λ rank. IsBalancedWay slack site.way rank in
+              record {
+                built = record {
+                  shape = plug site.way whole;
+                  held = Holds-plug new root site.way whole (Some x) t.held_way t.held;
+                  listed = walk_double ∙ listed;
+                  balanced = IsBalanced-plug slack site.way whole (subst Q (sym (rank-fork side lifted upper x rank_high)) way)
+                      (IsBalanced-fork slack side lifted upper x rank_high
+                      (subst P (sym (rank-fork side site.outer middle.far y rank_low)) (subst R (sym (rank-fork side middle.near site.far z rank_low)) over_x))
+                      (IsBalanced-fork slack side site.outer middle.far y rank_low over_y outer balanced.2) (IsBalanced-fork slack side middle.near site.far z rank_low over_z balanced.1 far));
+                };
+                backs = backs_double;
+              }

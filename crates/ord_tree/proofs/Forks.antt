@@ -100,21 +100,22 @@ Holds-plug at root (up side i k far rest) s link w h =
 pub IsOver-turned : {slack k l r : ℕ} → IsOver slack k l r → IsOver slack k r l
 IsOver-turned h = record { lesser = h.greater; greater = h.lesser; leaf = λ a b. h.leaf b a; tight = omega (arith, h.tight) }
 
-pub IsBalanced-fork : (slack : ℕ) (side : Side) (near far : Shape) (i k : ℕ) → IsOver slack k (rank_of near) (rank_of far) → IsBalanced slack near
-    → IsBalanced slack far → IsBalanced slack (fork side near i k far)
-IsBalanced-fork slack Lesser near far i k o n f = (o, n, f)
-IsBalanced-fork slack Greater near far i k o n f = (IsOver-turned o, f, n)
+module _ (slack : ℕ) where
+  pub IsBalanced-fork : (side : Side) (near far : _) (i k : ℕ) → IsOver slack k (rank_of near) (rank_of far) → IsBalanced slack near → IsBalanced slack far
+      → IsBalanced slack (fork side near i k far)
+  IsBalanced-fork Lesser near far i k o n f = (o, n, f)
+  IsBalanced-fork Greater near far i k o n f = (IsOver-turned o, f, n)
 
-pub fork_balanced : (slack : ℕ) (side : Side) (near far : Shape) (i k : ℕ) → IsBalanced slack (fork side near i k far)
-    → IsOver slack k (rank_of near) (rank_of far) × IsBalanced slack near × IsBalanced slack far
-fork_balanced slack Lesser near far i k h = h
-fork_balanced slack Greater near far i k h = (IsOver-turned h.0, h.2, h.1)
+  pub fork_balanced : (side : Side) (near far : Shape) (i k : ℕ) → IsBalanced slack (fork side near i k far)
+      → IsOver slack k (rank_of near) (rank_of far) × IsBalanced slack near × IsBalanced slack far
+  fork_balanced Lesser near far i k h = h
+  fork_balanced Greater near far i k h = (IsOver-turned h.0, h.2, h.1)
 
-pub IsBalanced-plug : (slack : ℕ) (way : Way) (s : Shape) → IsBalancedWay slack way (rank_of s) → IsBalanced slack s → IsBalanced slack (plug way s)
-IsBalanced-plug slack top s w h = h
-IsBalanced-plug slack (up side i k far rest) s w h =
-    IsBalanced-plug slack rest (fork side s i k far) (let P : ℕ → Type 0 = λ j. IsBalancedWay slack rest j in subst P (sym (rank-fork side s far i k)) w.2)
-    (IsBalanced-fork slack side s far i k w.0 h w.1)
+  pub IsBalanced-plug : (way : Way) (s : Shape) → IsBalancedWay slack way (rank_of s) → IsBalanced slack s → IsBalanced slack (plug way s)
+  IsBalanced-plug top s w h = h
+  IsBalanced-plug (up side i k far rest) s w h =
+      IsBalanced-plug rest (fork side s i k far) (let P : ℕ → Type 0 = λ j. IsBalancedWay slack rest j in subst P (sym (rank-fork side s far i k)) w.2)
+      (IsBalanced-fork side s far i k w.0 h w.1)
 
 pub here-same : (i : ℕ) → here i i ≡ 1
 here-same i = rw (eq-eqb i i refl) refl

@@ -1,12 +1,12 @@
 -- What nodes hold stays where no write touches them, and what a write of one link makes of it.
-use Rattle.std.proofs.Common.{◌≡◌, ◌≢◌, ℕ, ◌<◌, ◌≤◌, Option, Some, None, arith, refl, sym, ◌∙◌, ap, subst, ⊎_elim, option_map}
+use Rattle.std.proofs.Common.{◌≡◌, ◌≢◌, ℕ, ◌+◌, ◌<◌, ◌≤◌, Option, Some, None, arith, refl, sym, ◌∙◌, ap, subst, ⊎_elim, option_map, is_some, true}
 use Rattle.std.proofs.lemmas.Bool.{cases_eq}
 use Rattle.ord_tree.specs.declared.tree_links.Side.{Side}
 use Rattle.ord_tree.specs.declared.tree_links.Side.TheVariants.{Lesser, Greater}
 use Rattle.ord_tree.specs.declared.tree_links.TreeLinks.{TreeLinks}
 use Rattle.ord_tree.specs.TreeLinks.{other_side, child_at, with_child_at}
 use Rattle.ord_tree.specs.Shape.{Shape, missing, node, fork, root_of}
-use Rattle.ord_tree.specs.Slots.{Slots, Holds, Way, top, up, above, HoldsWay, times_in, times_way, back_at}
+use Rattle.ord_tree.specs.Slots.{Slots, Holds, Way, top, up, above, HoldsWay, here, times_in, times_way, back_at}
 use Rattle.ord_tree.proofs.Forks.{HoldsFork-holds, Holds-fork, here-same, apart-from, link-root, child-with_child, other_child-with_child, back-with_child, rank-with_child}
 
 -- the root stands in the shape
@@ -16,6 +16,26 @@ root-in (node l j k r) i e = let same : j ≡ i = cc in rw same (omega (arith, h
 
 Some-apart : (i j : ℕ) → j ≢ i → ◌≡◌ {A = Option ℕ} (Some i) (Some j) → ⊥
 Some-apart i j ne e = ne cc
+
+-- the step with which a way ends
+pub record LastStep (way : Way) (z : ℕ) : Type 0 where
+  pub side : Side
+  pub rank : ℕ
+  pub far : Shape
+  pub rest : Way
+  pub is : way ≡ up side z rank far rest
+
+pub last_step : (way : Way) (z : ℕ) → above way ≡ Some z → LastStep way z
+last_step top z e = absurd cc
+last_step (up side i k far rest) z e = let same : i ≡ z = cc in record { side = side; rank = k; far = far; rest = rest; is = ap (λ i. up side i k far rest) same }
+
+pub no_step : (way : Way) → above way ≡ None → way ≡ top
+no_step top e = refl
+no_step (up side i k far rest) e = absurd cc
+
+pub occupied-above : (at : Slots) (root link : Option ℕ) (way : Way) → HoldsWay at root way link → (p : ℕ) → above way ≡ Some p → is_some (at p) ≡ true
+occupied-above at root link top h p e = absurd cc
+occupied-above at root link (up side i k far rest) h p e = let same : p ≡ i = cc in rw (same, h.1) refl
 
 module _ (old new : Slots) where
   pub Holds-frame : (s : Shape) (over link : Option ℕ) → ((j : ℕ) → 0 < times_in j s → new j ≡ old j) → Holds old over link s → Holds new over link s
@@ -43,46 +63,52 @@ module _ (old new : Slots) where
   )
 
   -- the root of a shape gets another parent
-  pub Holds-rehung : (s : Shape) (over over' link : Option ℕ)
-      → ((j : ℕ) (n : TreeLinks ℕ) → link ≡ Some j → old j ≡ Some n → new j ≡ Some (record n { back = over' }))
-      → ((j : ℕ) → link ≢ Some j → 0 < times_in j s → new j ≡ old j)
-      → ((j : ℕ) → times_in j s ≤ 1) → Holds old over link s → Holds new over' link s
-  Holds-rehung missing over over' link written same once h = h
-  Holds-rehung (node l i k r) over over' link written same once h =
-      let alone = once i in
-      let below : (t : Shape) (child : Option ℕ) → times_in i t ≡ 0 → ((j : ℕ) → 0 < times_in j t → 0 < times_in j (node l i k r)) → Holds old (Some i) child t → Holds new (Some i) child t
-      = λ t child none inside. Holds-frame t (Some i) child (λ j in_t. same j (λ e. Some-apart i j (apart-from i j (λ j. times_in j t) none in_t) (sym h.1 ∙ e)) (inside j in_t)) in (
-        record (h.0) { back = over' },
-        h.1,
-        written i h.0 h.1 h.2,
-        refl,
-        h.4,
-        below l h.0.lesser (omega (arith, here-same i)) (λ j in_l. omega arith) h.5,
-        below r h.0.greater (omega (arith, here-same i)) (λ j in_r. omega arith) h.6,
-      )
+  module _ (over over' link : Option ℕ) (written : (j : ℕ) (n : TreeLinks ℕ) → link ≡ Some j → old j ≡ Some n → new j ≡ Some (record n { back = over' })) where
+    pub Holds-rehung : (s : Shape) → ((j : ℕ) → link ≢ Some j → 0 < times_in j s → new j ≡ old j) → ((j : ℕ) → times_in j s ≤ 1)
+        → Holds old over link s → Holds new over' link s
+    Holds-rehung missing same once h = h
+    Holds-rehung (node l i k r) same once h =
+        let alone = once i in
+        let below = λ (t : Shape) (child : Option ℕ) (none : times_in i t ≡ 0) (inside : (j : ℕ) → 0 < times_in j t → 0 < times_in j (node l i k r)). Holds-frame t (Some i) child
+        (λ j in_t. same j (λ e. Some-apart i j (apart-from i j (λ j. times_in j t) none in_t) (sym h.1 ∙ e)) (inside j in_t)) in (
+          record (h.0) { back = over' },
+          h.1,
+          written i h.0 h.1 h.2,
+          refl,
+          h.4,
+          below l h.0.lesser (omega (arith, here-same i)) (λ j in_l. omega arith) h.5,
+          below r h.0.greater (omega (arith, here-same i)) (λ j in_r. omega arith) h.6,
+        )
 
-  -- the link at the end of a way is replaced
-  pub HoldsWay-replaced : (way : Way) (root root' link' : Option ℕ) (y : ℕ)
-      → (above way ≡ None → root' ≡ link')
-      → ((p : ℕ) → above way ≡ Some p → root' ≡ root)
-      → ((p : ℕ) (n : TreeLinks ℕ) (side : Side) → above way ≡ Some p → old p ≡ Some n → child_at side n ≡ Some y → child_at (other_side side) n ≢ Some y → new p ≡ Some (with_child_at side link' n))
-      → ((j : ℕ) → above way ≢ Some j → new j ≡ old j)
-      → ((j : ℕ) → times_way j way ≤ 1) → times_way y way ≡ 0 → HoldsWay old root way (Some y) → HoldsWay new root' way link'
-  HoldsWay-replaced top root root' link' y at_top below written same once absent h = at_top refl
-  HoldsWay-replaced (up side i k far rest) root root' link' y at_top below written same once absent h =
+-- the link to y from its parent, or that to the root, is replaced by another; nothing else is written, and no parent moves
+pub record IsReplaced (old new : Slots) (parent root root' : Option ℕ) (y : ℕ) (link : Option ℕ) : Type 0 where
+  pub at_top : parent ≡ None → root' ≡ link
+  pub below : (p : ℕ) → parent ≡ Some p → root' ≡ root
+  pub here : (p : ℕ) (n : TreeLinks ℕ) (side : Side) → parent ≡ Some p → old p ≡ Some n
+      → child_at side n ≡ Some y → child_at (other_side side) n ≢ Some y → new p ≡ Some (with_child_at side link n)
+  pub elsewhere : (j : ℕ) → parent ≢ Some j → new j ≡ old j
+  pub backs : (j : ℕ) → back_at old j ≡ back_at new j
+
+module _ {old new : Slots} {root root' link : Option ℕ} {y : ℕ} where
+  -- so at the end of a way
+  pub HoldsWay-replaced : (way : Way) → IsReplaced old new (above way) root root' y link → ((j : ℕ) → times_way j way + here j y ≤ 1)
+      → HoldsWay old root way (Some y) → HoldsWay new root' way link
+  HoldsWay-replaced top by once h = by.at_top refl
+  HoldsWay-replaced (up side i k far rest) by once h =
       let alone = once i in
-      let elsewhere : (child : Option ℕ) → Holds old (Some i) child far → Holds new (Some i) child far
-      = λ child. Holds-frame far (Some i) child (λ j in_far. same j (Some-apart i j (apart-from i j (λ j. times_in j far) (omega (arith, here-same i)) in_far))) in
-      let rest_held = HoldsWay-frame rest root (Some i) (λ j in_rest. same j (Some-apart i j (apart-from i j (λ j. times_way j rest) (omega (arith, here-same i)) in_rest))) h.6 in
+      let absent = once y in
+      let elsewhere = λ (child : Option ℕ). Holds-frame old new far (Some i) child
+      (λ j in_far. by.elsewhere j (Some-apart i j (apart-from i j (λ j. times_in j far) (omega (arith, here-same i)) in_far))) in
+      let rest_held = HoldsWay-frame old new rest root (Some i) (λ j in_rest. by.elsewhere j (Some-apart i j (apart-from i j (λ j. times_way j rest) (omega (arith, here-same i)) in_rest))) h.6 in
       let not_far : child_at (other_side side) h.0 ≢ Some y
-      = λ e. let inside = root-in far y (sym (link-root old (Some i) (child_at (other_side side) h.0) far h.5) ∙ e) in omega arith in
-      let root_is = below i refl in (
-        with_child_at side link' h.0,
-        written i h.0 side refl h.1 h.4 not_far,
-        back-with_child side link' h.0 ∙ h.2,
-        rank-with_child side link' h.0 ∙ h.3,
-        child-with_child side link' h.0,
-        rw (other_child-with_child side link' h.0) (elsewhere (child_at (other_side side) h.0) h.5),
+      = λ e. let inside = root-in far y (sym (link-root old (Some i) (child_at (other_side side) h.0) far h.5) ∙ e) in omega (arith, here-same y) in
+      let root_is = by.below i refl in (
+        with_child_at side link h.0,
+        by.here i h.0 side refl h.1 h.4 not_far,
+        back-with_child side link h.0 ∙ h.2,
+        rank-with_child side link h.0 ∙ h.3,
+        child-with_child side link h.0,
+        rw (other_child-with_child side link h.0) (elsewhere (child_at (other_side side) h.0) h.5),
         (let P : Option ℕ → Type 0 = λ r. HoldsWay new r rest (Some i) in subst P (sym root_is) rest_held),
       )
 
@@ -90,28 +116,31 @@ child-ranked : (side : Side) (rank : ℕ) (n : TreeLinks ℕ) → child_at side 
 child-ranked Lesser rank n = refl
 child-ranked Greater rank n = refl
 
--- the root of a shape gets another rank
-pub Holds-reranked : (old new : Slots) (over link : Option ℕ) (side : Side) (near far : Shape) (i k rank : ℕ)
-    → ((n : TreeLinks ℕ) → old i ≡ Some n → new i ≡ Some (record n { rank = rank })) → ((j : ℕ) → j ≢ i → new j ≡ old j)
-    → times_in i near ≡ 0 → times_in i far ≡ 0 → Holds old over link (fork side near i k far) → Holds new over link (fork side near i rank far)
-Holds-reranked old new over link side near far i k rank written elsewhere not_near not_far h =
-    let f = HoldsFork-holds old over link side near far i k h in
-    let P : Option ℕ → Type 0 = λ child. Holds new (Some i) child near in
-    let Q : Option ℕ → Type 0 = λ child. Holds new (Some i) child far in
-    Holds-fork new over link side near far i rank (
-      record (f.0) { rank = rank },
-      f.1,
-      written f.0 f.2,
-      f.3,
-      refl,
-      subst P (sym (child-ranked side rank f.0)) (Holds-frame old new near (Some i) (child_at side f.0) (λ j in_near. elsewhere j (apart-from i j (λ j. times_in j near) not_near in_near)) f.5),
-      subst Q (sym (child-ranked (other_side side) rank f.0)) (Holds-frame old new far (Some i) (child_at (other_side side) f.0) (λ j in_far. elsewhere j (apart-from i j (λ j. times_in j far) not_far in_far)) f.6),
-    )
+-- the node i gets another rank, and nothing else is written
+pub record IsReranked (old new : Slots) (i rank : ℕ) : Type 0 where
+  pub here : (n : TreeLinks ℕ) → old i ≡ Some n → new i ≡ Some (record n { rank = rank })
+  pub elsewhere : (j : ℕ) → j ≢ i → new j ≡ old j
 
--- a write of a rank moves no parent
-pub backs-ranked : (old new : Slots) (i rank : ℕ) (n : TreeLinks ℕ) → old i ≡ Some n
-    → ((n : TreeLinks ℕ) → old i ≡ Some n → new i ≡ Some (record n { rank = rank })) → ((j : ℕ) → j ≢ i → new j ≡ old j) → (j : ℕ)
-    → back_at old j ≡ back_at new j
-backs-ranked old new i rank n e written elsewhere j =
-    ⊎_elim (λ (same : j ≡ i). rw (same, e, written n e) refl)
-    (λ other. ap (λ (o : Option (TreeLinks ℕ)). option_map (λ (n : TreeLinks ℕ). n.back) o) (sym (elsewhere j other))) (cases_eq j i)
+module _ {old new : Slots} {i rank : ℕ} (by : IsReranked old new i rank) where
+  -- so at the root of a shape
+  module _ (over link : Option ℕ) (side : Side) (near far : Shape) (k : ℕ) where
+    pub Holds-reranked : times_in i near + times_in i far ≡ 0 → Holds old over link (fork side near i k far) → Holds new over link (fork side near i rank far)
+    Holds-reranked none h =
+        let f = HoldsFork-holds old over link side near far i k h in
+        let P : Option ℕ → Type 0 = λ child. Holds new (Some i) child near in
+        let Q : Option ℕ → Type 0 = λ child. Holds new (Some i) child far in
+        Holds-fork new over link side near far i rank (
+          record (f.0) { rank = rank },
+          f.1,
+          by.here f.0 f.2,
+          f.3,
+          refl,
+          subst P (sym (child-ranked side rank f.0)) (Holds-frame old new near (Some i) (child_at side f.0) (λ j in_near. by.elsewhere j (apart-from i j (λ j. times_in j near) (omega (arith, none)) in_near)) f.5),
+          subst Q (sym (child-ranked (other_side side) rank f.0)) (Holds-frame old new far (Some i) (child_at (other_side side) f.0) (λ j in_far. by.elsewhere j (apart-from i j (λ j. times_in j far) (omega (arith, none)) in_far)) f.6),
+        )
+
+  -- it moves no parent
+  pub backs-ranked : (n : TreeLinks ℕ) → old i ≡ Some n → (j : ℕ) → back_at old j ≡ back_at new j
+  backs-ranked n e j =
+      ⊎_elim (λ (same : j ≡ i). rw (same, e, by.here n e) refl)
+      (λ other. ap (λ (o : Option (TreeLinks ℕ)). option_map (λ (n : TreeLinks ℕ). n.back) o) (sym (by.elsewhere j other))) (cases_eq j i)

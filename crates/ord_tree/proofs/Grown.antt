@@ -257,7 +257,7 @@ module _ {P T I G : Type 0} (number : I → ℕ) (c d : Chain (Node P T I G)) (r
       (indexes c.entries, 1, new_leaf number c d root at new_entry laid put.can.0 free put.entries most greatest sound fits branch here put.links 1 (IsBalanced-ranked (shape_in c root) laid.ranked))
 
   module _ (new : Chain (Node P T I G)) (root' : Option I) (kept : bare new ≡ bare d) where
-    grown_whole : (at : Option (I × Ordering)) (branch : Option (Branch I)) → IsPut number branch c d at new_entry
+    grown_whole : (at : Option _) (branch : Option _) → IsPut number branch c d at new_entry
         → HasGrown number branch d root x new root' → IsGrownTo (shape_in c root) new (option_map number root')
     grown_whole None None put same =
         let alone = put.entries ∙ ap (λ (es : List (Entry (Node P T I G))). new_entry ∷ es) put.can in

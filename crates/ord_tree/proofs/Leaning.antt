@@ -12,9 +12,9 @@ use Rattle.ord_tree.specs.Demote.{IsDemoted, IsLeaning}
 use Rattle.ord_tree.proofs.Slack.{IsRanked-balanced, rank-small}
 use Rattle.ord_tree.proofs.Halves.{size_of-walk}
 use Rattle.ord_tree.proofs.Forks.{rank-fork, size-fork, walk-ranked, walk-fork_near, walk-plug, HoldsFork-holds, Holds-fork, IsBalanced-fork, here-same, times_in-fork, apart-from}
-use Rattle.ord_tree.proofs.Frames.{Holds-frame, HoldsWay-frame, Holds-reranked, backs-ranked}
+use Rattle.ord_tree.proofs.Frames.{Holds-frame, HoldsWay-frame, IsReranked, Holds-reranked, backs-ranked}
 use Rattle.ord_tree.proofs.Promoting.{size-plug}
-use Rattle.ord_tree.proofs.Doubles.{root-some, rank_at-held, inner_root, backs_single, IsBuilt-single, site_below, site_above, middle_over, backs_double, IsBuilt-double}
+use Rattle.ord_tree.proofs.Doubles.{root-some, rank_at-held, inner_root, IsRepaired-rotated, middle_rank_is, middle_over, site_below, site_above, IsRepaired-rotated_twice}
 
 -- what stands in a Some
 pub some_of : (o : Option (TreeLinks ℕ)) → is_some o ≡ true → (n : TreeLinks ℕ) × (o ≡ Some n)
@@ -27,43 +27,37 @@ module _ {old : Slots} {old_root : Option ℕ} {side : Side} {y s : ℕ} {order 
   inner_some ns e not_two = rw (inner_root lean.site ns e) (root-some lean.site.inner (omega (arith, lean.over, lean.low, lean.sibling)))
 
   -- s takes the place of y
-  pub IsRepaired-lifted : (new : Slots) (root : Option ℕ) (rank_y rank_s : ℕ) → rank_y ≡ rank_of lean.site.inner + 1 → rank_s ≡ lean.site.high → rank_of lean.site.outer + 1 ≡ lean.site.low
-      → IsRotated lean.site new root rank_y rank_s → IsRepaired old new root order 1
-  IsRepaired-lifted new root rank_y rank_s is_y is_s outer r =
-      let P : ℕ → Type 0 = λ rank. IsBalancedWay 1 lean.site.way rank in
-      record {
-        built = IsBuilt-single lean.site new root rank_y rank_s 1 order r (omega (arith, lean.low, lean.sibling, lean.over)) (omega (arith, lean.sibling, lean.over))
-            lean.balanced_outer lean.balanced_inner lean.balanced_low (subst P (sym is_s) lean.balanced_way) lean.listed;
-        backs = backs_single lean.site new root rank_y rank_s r;
-      }
+  module _ {new : Slots} {root : Option ℕ} {rank_y rank_s : ℕ} (r : IsRotated lean.site new root rank_y rank_s) where
+    pub IsRepaired-lifted : rank_y ≡ rank_of lean.site.inner + 1 → rank_s ≡ lean.site.high → rank_of lean.site.outer + 1 ≡ lean.site.low → IsRepaired old new root order 1
+    IsRepaired-lifted is_y is_s outer =
+        let P : ℕ → Type 0 = λ rank. IsBalancedWay 1 lean.site.way rank in
+        IsRepaired-rotated lean.site r (omega (arith, lean.low, lean.sibling, lean.over)) (omega (arith, lean.sibling, lean.over))
+        lean.balanced_outer lean.balanced_inner lean.balanced_low (subst P (sym is_s) lean.balanced_way) lean.listed
 
   -- the inner child of s takes the place of y
-  pub IsRepaired-between : (x : ℕ) (root_is : root_of lean.site.inner ≡ Some x) {mid : Slots} {mid_root : Option ℕ} {rank_low rank_high : ℕ} (r : IsRotated (site_below lean.site x root_is) mid mid_root rank_low rank_high)
-      (new : Slots) (root : Option ℕ) → rank_low ≡ rank_of lean.site.inner → rank_high ≡ lean.site.high → rank_of lean.site.inner + 1 ≡ lean.site.low → rank_of lean.site.outer + 2 ≡ lean.site.low
-      → IsRotated (site_above lean.site x root_is r) new root rank_low rank_high → IsRepaired old new root order 1
-  IsRepaired-between x root_is {rank_low = rank_low} {rank_high = rank_high} r new root is_low is_high inner_one outer_two t =
-      let inner = middle_over lean.site x root_is 1 lean.balanced_inner in
-      let P : ℕ → Type 0 = λ rank. IsBalancedWay 1 lean.site.way rank in
-      record {
-        built = IsBuilt-double lean.site x root_is r new root 1 order t
-            (omega (arith, inner.0, inner.1)) (omega (arith, lean.low, lean.sibling, inner.0, inner.1)) (omega (arith, lean.sibling))
-            lean.balanced_outer inner.2 inner.3 lean.balanced_low (subst P (sym is_high) lean.balanced_way) lean.listed;
-        backs = backs_double lean.site x root_is r new root rank_low rank_high t;
-      }
+  module _ (x : ℕ) (root_is : root_of lean.site.inner ≡ Some x) {mid : Slots} {mid_root : Option ℕ} {rank_low rank_high : ℕ} (r : IsRotated (site_below lean.site x root_is) mid mid_root rank_low rank_high)
+      {new : Slots} {root : Option ℕ} (t : IsRotated (site_above lean.site x root_is r) new root rank_low rank_high) where
+    pub IsRepaired-between : rank_low ≡ rank_of lean.site.inner → rank_high ≡ lean.site.high → rank_low + 1 ≡ lean.site.low → rank_of lean.site.outer + 2 ≡ lean.site.low
+        → IsRepaired old new root order 1
+    IsRepaired-between is_low is_high inner_one outer_two =
+        let inner = middle_over lean.site x root_is 1 lean.balanced_inner in
+        let rank_is = middle_rank_is lean.site x root_is in
+        let P : ℕ → Type 0 = λ rank. IsBalancedWay 1 lean.site.way rank in
+        IsRepaired-rotated_twice lean.site x root_is r t
+        (omega (arith, rank_is, inner.0)) (omega (arith, lean.low, lean.sibling, rank_is, inner.0)) (omega (arith, lean.sibling))
+        lean.balanced_outer lean.balanced_inner lean.balanced_low (subst P (sym is_high) lean.balanced_way) lean.listed
 
   -- ranks stay small
   pub low-small : lean.site.low < 128
   low-small =
       let t = fork side lean.site.outer s lean.site.low lean.site.inner in
       let whole = fork side t y lean.site.high lean.site.far in
-      let few : size_of t < 2 ^ 64 = omega (arith, size-plug lean.site.way whole, size-fork side t lean.site.far y lean.site.high, size_of-walk (plug lean.site.way whole), ap length lean.listed, lean.few) in
+      let few : size_of t < 2 ^ 64 = omega (arith, size-plug lean.site.way whole, size-fork side t lean.site.far y lean.site.high, size_of-walk (plug lean.site.way whole), ap length lean.listed) in
       let balanced = IsBalanced-fork 1 side lean.site.outer lean.site.inner s lean.site.low lean.over lean.balanced_outer lean.balanced_inner in
       omega (arith, rank-fork side lean.site.outer lean.site.inner s lean.site.low, rank-small t (IsRanked-balanced 1 t balanced) few)
 
   -- both are demoted
-  module _ (mid new : Slots) (rank_y : ℕ)
-      (written_s : (n : TreeLinks ℕ) → old s ≡ Some n → mid s ≡ Some (record n { rank = lean.site.low - 1 })) (elsewhere_s : (j : ℕ) → j ≢ s → mid j ≡ old j)
-      (written_y : (n : TreeLinks ℕ) → mid y ≡ Some n → new y ≡ Some (record n { rank = lean.site.high - 1 })) (elsewhere_y : (j : ℕ) → j ≢ y → new j ≡ mid j) where
+  module _ {mid new : Slots} (by_s : IsReranked old mid s (lean.site.low - 1)) (by_y : IsReranked mid new y (lean.site.high - 1)) where
     total : (j : ℕ) → times_way j lean.site.way + times_in j lean.site.outer + here j s + times_in j lean.site.inner + here j y + times_in j lean.site.far ≤ 1
     total j = omega (arith, lean.site.apart j, times_in-fork j side (fork side lean.site.outer s lean.site.low lean.site.inner) lean.site.far y lean.site.high, times_in-fork j side lean.site.outer lean.site.inner s lean.site.low)
 
@@ -79,17 +73,17 @@ module _ {old : Slots} {old_root : Option ℕ} {side : Side} {y s : ℕ} {order 
         Holds-fork mid (above lean.site.way) (Some y) side lowered lean.site.far y lean.site.high (
           f.0,
           refl,
-          elsewhere_s y (λ e. s≢y (sym e)) ∙ f.2,
+          by_s.elsewhere y (λ e. s≢y (sym e)) ∙ f.2,
           f.3,
           f.4,
-          Holds-reranked old mid (Some y) (child_at side f.0) side lean.site.outer lean.site.inner s lean.site.low (lean.site.low - 1) written_s elsewhere_s (omega (arith, total s, here-same s)) (omega (arith, total s, here-same s)) f.5,
-          Holds-frame old mid lean.site.far (Some y) (child_at (other_side side) f.0) (λ j in_far. elsewhere_s j (apart-from s j (λ j. times_in j lean.site.far) (omega (arith, total s, here-same s)) in_far)) f.6,
+          Holds-reranked by_s (Some y) (child_at side f.0) side lean.site.outer lean.site.inner lean.site.low (omega (arith, total s, here-same s)) f.5,
+          Holds-frame old mid lean.site.far (Some y) (child_at (other_side side) f.0) (λ j in_far. by_s.elsewhere j (apart-from s j (λ j. times_in j lean.site.far) (omega (arith, total s, here-same s)) in_far)) f.6,
         )
 
     held_both : Holds new (above lean.site.way) (Some y) (fork side lowered y (lean.site.high - 1) lean.site.far)
     held_both =
-        Holds-reranked mid new (above lean.site.way) (Some y) side lowered lean.site.far y lean.site.high (lean.site.high - 1) written_y elsewhere_y
-        (omega (arith, total y, here-same y, times_in-fork y side lean.site.outer lean.site.inner s (lean.site.low - 1))) (omega (arith, total y, here-same y)) held_lowered
+        Holds-reranked by_y (above lean.site.way) (Some y) side lowered lean.site.far lean.site.high
+        (omega (arith, total y, here-same y, times_in-fork y side lean.site.outer lean.site.inner s (lean.site.low - 1))) held_lowered
 
     pub IsDemoted-both : rank_of lean.site.outer + 2 ≡ lean.site.low → rank_of lean.site.inner + 2 ≡ lean.site.low → is_some (old s) ≡ true
         → is_some (old y) ≡ true → IsDemoted old new old_root y order
@@ -106,8 +100,8 @@ module _ {old : Slots} {old_root : Option ℕ} {side : Side} {y s : ℕ} {order 
             way = site.way;
             shape = whole;
             held_way = HoldsWay-frame old new site.way old_root (Some y)
-                (λ j in_way. elsewhere_y j (apart-from y j (λ j. times_way j site.way) (omega (arith, total y, here-same y)) in_way)
-                ∙ elsewhere_s j (apart-from s j (λ j. times_way j site.way) (omega (arith, total s, here-same s)) in_way)) site.held_way;
+                (λ j in_way. by_y.elsewhere j (apart-from y j (λ j. times_way j site.way) (omega (arith, total y, here-same y)) in_way)
+                ∙ by_s.elsewhere j (apart-from s j (λ j. times_way j site.way) (omega (arith, total s, here-same s)) in_way)) site.held_way;
             held = held_both;
             listed = walk-plug site.way whole before
                 (walk-ranked side lowered site.far y (site.high - 1) site.high
@@ -120,6 +114,6 @@ module _ {old : Slots} {old_root : Option ℕ} {side : Side} {y s : ℕ} {order 
           };
           rank = omega (arith, rank_is, rank_was, lean.sibling);
           fits = omega (arith, rank_was, lean.sibling, low-small);
-          backs = λ j. backs-ranked old mid s (site.low - 1) (some_of (old s) some_s).0 (some_of (old s) some_s).1 written_s elsewhere_s j
-              ∙ backs-ranked mid new y (site.high - 1) (some_of (old y) some_y).0 (elsewhere_s y (λ e. s≢y (sym e)) ∙ (some_of (old y) some_y).1) written_y elsewhere_y j;
+          backs = λ j. backs-ranked by_s (some_of (old s) some_s).0 (some_of (old s) some_s).1 j
+              ∙ backs-ranked by_y (some_of (old y) some_y).0 (by_s.elsewhere y (λ e. s≢y (sym e)) ∙ (some_of (old y) some_y).1) j;
         }

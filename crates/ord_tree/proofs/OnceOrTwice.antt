@@ -9,7 +9,7 @@ use Rattle.ord_tree.specs.Balance.{IsOver, IsBalanced, IsBalancedWay}
 use Rattle.ord_tree.specs.Rotate.{IsRotated}
 use Rattle.ord_tree.specs.Promote.{IsSteep, IsRepaired}
 use Rattle.ord_tree.proofs.Forks.{fork_balanced}
-use Rattle.ord_tree.proofs.Doubles.{root-some, low_rank, inner_root, backs_single, IsBuilt-single, middle, site_below, site_above, middle_over, backs_double, IsBuilt-double}
+use Rattle.ord_tree.proofs.Doubles.{root-some, low_rank, inner_root, IsRepaired-rotated, middle, middle_rank_is, middle_over, site_below, site_above, IsRepaired-rotated_twice}
 
 module _ {old : Slots} {old_root : Option ℕ} {side : Side} {z y : ℕ} {order : List ℕ} {slack : ℕ} (steep : IsSteep old old_root side z y order slack) where
   parts : IsOver slack steep.site.low (rank_of steep.site.outer) (rank_of steep.site.inner) × IsBalanced slack steep.site.outer × IsBalanced slack steep.site.inner
@@ -21,26 +21,21 @@ module _ {old : Slots} {old_root : Option ℕ} {side : Side} {z y : ℕ} {order 
       rw (inner_root steep.site ny e) (root-some steep.site.inner (omega (arith, low_rank steep.site ny e, steep.equal, steep.sibling, steep.uneven, parts.0.lesser)))
 
   -- the single one
-  pub IsRepaired-single : (new : Slots) (root : Option ℕ) (rank_z rank_y : ℕ) → rank_z ≡ rank_of steep.site.outer → rank_y ≡ steep.site.low → rank_y ≡ rank_z + 1
-      → IsRotated steep.site new root rank_z rank_y → IsRepaired old new root order slack
-  IsRepaired-single new root rank_z rank_y is_z is_y outer r =
-      let P : ℕ → Type 0 = λ rank. IsBalancedWay slack steep.site.way rank in
-      record {
-        built = IsBuilt-single steep.site new root rank_z rank_y slack order r (omega (arith, steep.sibling, steep.equal, steep.uneven)) (omega (arith, steep.equal)) parts.1 parts.2 steep.balanced_far
-            (subst P (omega (arith, steep.equal)) steep.balanced_way) steep.listed;
-        backs = backs_single steep.site new root rank_z rank_y r;
-      }
+  module _ {new : Slots} {root : Option ℕ} {rank_z rank_y : ℕ} (r : IsRotated steep.site new root rank_z rank_y) where
+    pub IsRepaired-single : rank_z ≡ rank_of steep.site.outer → rank_y ≡ steep.site.low → rank_y ≡ rank_z + 1 → IsRepaired old new root order slack
+    IsRepaired-single is_z is_y outer =
+        let P : ℕ → Type 0 = λ rank. IsBalancedWay slack steep.site.way rank in
+        IsRepaired-rotated steep.site r (omega (arith, steep.sibling, steep.equal, steep.uneven)) (omega (arith, steep.equal)) parts.1 parts.2 steep.balanced_far
+        (subst P (omega (arith, steep.equal)) steep.balanced_way) steep.listed
 
   -- the double one
-  pub IsRepaired-double : (x : ℕ) (root_is : root_of steep.site.inner ≡ Some x) {mid : Slots} {mid_root : Option ℕ} {rank_low rank_high : ℕ} (r : IsRotated (site_below steep.site x root_is) mid mid_root rank_low rank_high)
-      (new : Slots) (root : Option ℕ) → rank_low ≡ (middle steep.site x root_is).rank → rank_high ≡ steep.site.low → rank_high ≢ rank_of steep.site.outer + 1
-      → IsRotated (site_above steep.site x root_is r) new root rank_low rank_high → IsRepaired old new root order slack
-  IsRepaired-double x root_is {rank_low = rank_low} {rank_high = rank_high} r new root is_low is_high not_outer t =
-      let inner = middle_over steep.site x root_is slack parts.2 in
-      let P : ℕ → Type 0 = λ rank. IsBalancedWay slack steep.site.way rank in
-      record {
-        built = IsBuilt-double steep.site x root_is r new root slack order t
-            (omega (arith, steep.equal, steep.uneven, parts.0, inner.0, inner.1)) (omega (arith, steep.sibling, steep.equal, steep.uneven, parts.0, inner.0, inner.1)) (omega (arith, steep.equal, steep.uneven, parts.0, inner.0))
-            parts.1 inner.2 inner.3 steep.balanced_far (subst P (omega (arith, steep.equal)) steep.balanced_way) steep.listed;
-        backs = backs_double steep.site x root_is r new root rank_low rank_high t;
-      }
+  module _ (x : ℕ) (root_is : root_of steep.site.inner ≡ Some x) {mid : Slots} {mid_root : Option ℕ} {rank_low rank_high : ℕ} (r : IsRotated (site_below steep.site x root_is) mid mid_root rank_low rank_high)
+      {new : Slots} {root : Option ℕ} (t : IsRotated (site_above steep.site x root_is r) new root rank_low rank_high) where
+    pub IsRepaired-double : rank_low ≡ (middle steep.site x root_is).rank → rank_high ≡ steep.site.low → rank_high ≢ rank_of steep.site.outer + 1 → IsRepaired old new root order slack
+    IsRepaired-double is_low is_high not_outer =
+        let inner = middle_over steep.site x root_is slack parts.2 in
+        let rank_is = middle_rank_is steep.site x root_is in
+        let P : ℕ → Type 0 = λ rank. IsBalancedWay slack steep.site.way rank in
+        IsRepaired-rotated_twice steep.site x root_is r t
+        (omega (arith, steep.equal, steep.uneven, parts.0, rank_is, inner.0)) (omega (arith, steep.sibling, steep.equal, steep.uneven, parts.0, rank_is, inner.0)) (omega (arith, steep.equal, steep.uneven, parts.0, rank_is))
+        parts.1 parts.2 steep.balanced_far (subst P (omega (arith, steep.equal)) steep.balanced_way) steep.listed

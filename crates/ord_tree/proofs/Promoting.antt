@@ -10,7 +10,7 @@ use Rattle.ord_tree.specs.Promote.{IsBuilt, IsRising, IsSteep, IsRepaired, IsPro
 use Rattle.ord_tree.proofs.Slack.{IsRanked-balanced, rank-small, IsUneven-fork, fork_uneven}
 use Rattle.ord_tree.proofs.Halves.{size_of-walk}
 use Rattle.ord_tree.proofs.Forks.{rank-fork, size-fork, walk-ranked, walk-plug, Holds-fork, link-root, Holds-plug, IsBalanced-fork, IsBalanced-plug, here-same, times_in-fork, IsApart-once, apart-from}
-use Rattle.ord_tree.proofs.Frames.{root-in, HoldsWay-frame, Holds-reranked, backs-ranked}
+use Rattle.ord_tree.proofs.Frames.{last_step, no_step, root-in, HoldsWay-frame, IsReranked, Holds-reranked, backs-ranked}
 use Rattle.ord_tree.proofs.Rotations.{occupied-link}
 use Rattle.ord_tree.proofs.Doubles.{fork_of, Forked, rank_at-held}
 
@@ -58,47 +58,44 @@ module _ {at : Slots} {root : Option ℕ} {y : ℕ} {order : List ℕ} {slack : 
 
   -- at the root the repair is over
   pub IsBuilt-top : above rising.way ≡ None → IsBuilt at root order slack
-  IsBuilt-top = go rising.way rising.held_way rising.held rising.listed
-    where
-      go : (way : Way) → HoldsWay at root way (Some y) → Holds at (above way) (Some y) rising.shape → walk (plug way rising.shape) ≡ order → above way ≡ None → IsBuilt at root order slack
-      go top w h l e = record { shape = rising.shape; held = Holds-plug at root top rising.shape (Some y) w h; listed = l; balanced = rising.balanced }
-      go (up side i k far rest) w h l e = absurd cc
+  IsBuilt-top e = record {
+    shape = plug rising.way rising.shape;
+    held = Holds-plug at root rising.way rising.shape (Some y) rising.held_way rising.held;
+    listed = rising.listed;
+    balanced = rw (no_step rising.way e) rising.balanced;
+  }
 
   -- elsewhere it hangs under its parent
   pub rising_under : (z : ℕ) → above rising.way ≡ Some z → IsRisingUnder at root z y order slack
-  rising_under z = go rising.way rising.held_way rising.held rising.listed rising.balanced_way
-    where
-      go : (way : Way) → HoldsWay at root way (Some y) → Holds at (above way) (Some y) rising.shape → walk (plug way rising.shape) ≡ order
-          → IsBalancedWay slack way rising.low → above way ≡ Some z → IsRisingUnder at root z y order slack
-      go top w h l b e = absurd cc
-      go (up side i k far rest) w h l b e =
-          let same : i ≡ z = cc in
-          let P : ℕ → Type 0 = λ z. IsRisingUnder at root z y order slack in
-          subst P same (record {
-            side = side;
-            rest = rest;
-            far = far;
-            shape = rising.shape;
-            high = k;
-            low = rising.low;
-            nz = w.0;
-            held_rest = w.6;
-            at_z = w.1;
-            back = w.2;
-            rank = w.3;
-            child = w.4;
-            held_far = w.5;
-            held = h;
-            listed = l;
-            over = b.0;
-            balanced = rising.balanced;
-            balanced_far = b.1;
-            balanced_rest = b.2;
-            risen = rising.risen;
-            uneven = rising.uneven;
-            once = rising.once;
-            few = rising.few;
-          })
+  rising_under z e =
+      let last = last_step rising.way z e in
+      let w = rw last.is at rising.held_way in
+      let b = rw last.is at rising.balanced_way in
+      record {
+        side = last.side;
+        rest = last.rest;
+        far = last.far;
+        shape = rising.shape;
+        high = last.rank;
+        low = rising.low;
+        nz = w.0;
+        held_rest = w.6;
+        at_z = w.1;
+        back = w.2;
+        rank = w.3;
+        child = w.4;
+        held_far = w.5;
+        held = rw last.is at rising.held;
+        listed = rw last.is at rising.listed;
+        over = b.0;
+        balanced = rising.balanced;
+        balanced_far = b.1;
+        balanced_rest = b.2;
+        risen = rising.risen;
+        uneven = rising.uneven;
+        once = rising.once;
+        few = rising.few;
+      }
 
 pub size-plug : (way : Way) (s : Shape) → size_of s ≤ size_of (plug way s)
 size-plug top s = omega arith
@@ -167,15 +164,15 @@ module _ {at : Slots} {root : Option ℕ} {z y : ℕ} {order : List ℕ} {slack 
       omega (arith, u.risen, rank-small u.shape (IsRanked-balanced slack u.shape u.balanced) few)
 
   -- a promotion
-  module _ (new : Slots) (written : (n : TreeLinks ℕ) → at z ≡ Some n → new z ≡ Some (record n { rank = u.high + 1 })) (elsewhere : (j : ℕ) → j ≢ z → new j ≡ at j) where
+  module _ (new : Slots) (by : IsReranked at new z (u.high + 1)) where
     stays : (f : ℕ → ℕ) → f z ≡ 0 → (j : ℕ) → 0 < f j → new j ≡ at j
-    stays f none j in_f = elsewhere j (apart-from z j f none in_f)
+    stays f none j in_f = by.elsewhere j (apart-from z j f none in_f)
 
     alone : (times_way z u.rest ≡ 0) × (times_in z u.shape ≡ 0) × (times_in z u.far ≡ 0)
     alone = omega (arith, apart z, times_in-fork z u.side u.shape u.far z u.high, here-same z)
 
     promoted_z : Holds new (above u.rest) (Some z) (fork u.side u.shape z (u.high + 1) u.far)
-    promoted_z = Holds-reranked at new (above u.rest) (Some z) u.side u.shape u.far z u.high (u.high + 1) written elsewhere alone.1 alone.2 held_z
+    promoted_z = Holds-reranked by (above u.rest) (Some z) u.side u.shape u.far u.high (omega (arith, alone)) held_z
 
     rank_at_y : rank_at at (Some y) ≡ u.low + 1
     rank_at_y = rank_at-held at (Some z) (Some y) u.shape u.held ∙ u.risen
@@ -196,8 +193,8 @@ module _ {at : Slots} {root : Option ℕ} {z y : ℕ} {order : List ℕ} {slack 
         once = u.once;
         few = u.few;
       };
-      backs = backs-ranked at new z (u.high + 1) u.nz u.at_z written elsewhere;
-      higher = rw (rank_at_y, written u.nz u.at_z) (omega arith);
+      backs = backs-ranked by u.nz u.at_z;
+      higher = rw (rank_at_y, by.here u.nz u.at_z) (omega arith);
       fits = omega (arith, rank_at_y, low-small);
     }
 
@@ -243,6 +240,6 @@ module _ {at : Slots} {root : Option ℕ} {z y : ℕ} {order : List ℕ} {slack 
         }
 
 -- a repair that follows steps that move no parent
-pub IsRepaired-after : {first old new : Slots} {root : Option ℕ} {order : List ℕ} {slack : ℕ} → ((j : ℕ) → back_at first j ≡ back_at old j)
-    → IsRepaired old new root order slack → IsRepaired first new root order slack
-IsRepaired-after same r = record { built = r.built; backs = (r.backs.0, r.backs.1, λ j. ⊎_elim (λ e. inl e) (λ e. inr (same j ∙ e)) (r.backs.2 j)) }
+module _ {first old new : Slots} {root : Option ℕ} {order : List ℕ} {slack : ℕ} where
+  pub IsRepaired-after : ((j : ℕ) → back_at first j ≡ back_at old j) → IsRepaired old new root order slack → IsRepaired first new root order slack
+  IsRepaired-after same r = record { built = r.built; backs = (r.backs.0, r.backs.1, λ j. ⊎_elim (λ e. inl e) (λ e. inr (same j ∙ e)) (r.backs.2 j)) }

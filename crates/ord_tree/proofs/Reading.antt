@@ -18,8 +18,8 @@ module _ {I : Type 0} (number : I → ℕ) where
   child-read : (side : Side) (n : TreeLinks I) (link : Option I) → link ≡ child_at side n → option_map number link ≡ child_at side (numbered number n)
   child-read side n link is = ap (option_map number) is ∙ child-numbered number side n
 
-  child_other-read : (side other : Side) → other ≡ other_side side → (n : TreeLinks I) (link : Option I) → link ≡ child_at other n
-      → option_map number link ≡ child_at (other_side side) (numbered number n)
+  child_other-read : (side other : Side) → other ≡ other_side side → (n : TreeLinks I) (o : Option I) → o ≡ child_at other n
+      → option_map number o ≡ child_at (other_side side) (numbered number n)
   child_other-read side other other_is n link is = child-read (other_side side) n link (is ∙ ap (λ s. child_at s n) other_is)
 
   -- at the site of a single or double rotation: the nodes y and s, and the ranks under s
@@ -31,14 +31,14 @@ module _ {I : Type 0} (number : I → ℕ) where
       pub low_is : low.rank ≡ site.low
       pub high_is : high.rank ≡ site.high
 
-    pub site_read : (a b : Option I) → a ≡ child_at side low → b ≡ child_at other low
-        → (outer inner : ℕ) → outer ≡ rank_at at (option_map number a) → inner ≡ rank_at at (option_map number b) → SiteRead outer inner
-    site_read a b a_is b_is outer inner outer_is inner_is = record {
-      outer_is = outer_is ∙ ap (rank_at at) (child-read side low a a_is) ∙ outer_rank site (numbered number low) at_s;
-      inner_is = inner_is ∙ ap (rank_at at) (child_other-read _ other other_is low b b_is) ∙ inner_rank site (numbered number low) at_s;
-      low_is = site_low site (numbered number low) at_s;
-      high_is = high_rank site (numbered number high) at_y;
-    }
+    module _ (a b : Option I) (a_is : a ≡ child_at side low) (b_is : b ≡ child_at other low) where
+      pub site_read : (outer inner : ℕ) → outer ≡ rank_at at (option_map number a) → inner ≡ rank_at at (option_map number b) → SiteRead outer inner
+      site_read outer inner outer_is inner_is = record {
+        outer_is = outer_is ∙ ap (rank_at at) (child-read side low a a_is) ∙ outer_rank site (numbered number low) at_s;
+        inner_is = inner_is ∙ ap (rank_at at) (child_other-read _ other other_is low b b_is) ∙ inner_rank site (numbered number low) at_s;
+        low_is = site_low site (numbered number low) at_s;
+        high_is = high_rank site (numbered number high) at_y;
+      }
 
     -- the inner child of s
     pub inner-read : (b : Option I) → b ≡ child_at other low → (x : I) → b ≡ Some x → root_of site.inner ≡ Some (number x)

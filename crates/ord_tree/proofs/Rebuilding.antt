@@ -117,64 +117,63 @@ module _ where
 
   -- what the frames say stays where no write touches the nodes that are met
   module _ (old new : Slots) where
-    IsMiddle-frame : (side : Side) (i k : ℕ) (far : Shape) (middle : Option ℕ) → ((j : ℕ) → 0 < here j i + times_in j far → new j ≡ old j)
-        → IsMiddle old side i k far middle → IsMiddle new side i k far middle
-    IsMiddle-frame Lesser i k far middle same h = h
-    IsMiddle-frame Greater i k far middle same h =
-        (h.0, h.1, same i (omega (arith, here-same i)) ∙ h.2, h.3, h.4, Holds-frame old new far (Some i) h.1.lesser (λ j inside. same j (omega arith)) h.5)
+    module _ (i k : ℕ) (far : Shape) (middle : Option ℕ) (same : (j : ℕ) → 0 < here j i + times_in j far → new j ≡ old j) where
+      IsMiddle-frame : (side : Side) → IsMiddle old side i k far middle → IsMiddle new side i k far middle
+      IsMiddle-frame Lesser h = h
+      IsMiddle-frame Greater h =
+          (h.0, h.1, same i (omega (arith, here-same i)) ∙ h.2, h.3, h.4, Holds-frame old new far (Some i) h.1.lesser (λ j inside. same j (omega arith)) h.5)
 
     pub IsStack-frame : (way : Way) (n : ℕ) (frames : List Frame) → ((j : ℕ) → 0 < times_way j way → new j ≡ old j) → IsStack old way n frames → IsStack new way n frames
     IsStack-frame top n frames same h = h
     IsStack-frame (up side i k far rest) n frames same h =
-        (h.0, h.1, h.2, IsMiddle-frame side i k far h.1.middle (λ j inside. same j (omega arith)) h.3, h.4, h.5, IsStack-frame rest (n + 1 + size_of far) h.0 (λ j inside. same j (omega arith)) h.6)
+        (h.0, h.1, h.2, IsMiddle-frame i k far h.1.middle (λ j inside. same j (omega arith)) side h.3, h.4, h.5, IsStack-frame rest (n + 1 + size_of far) h.0 (λ j inside. same j (omega arith)) h.6)
+
+  pub sizeless : (s : Shape) → size_of s ≡ 0 → s ≡ missing
+  sizeless missing none = refl
+  sizeless (node l i k r) none = absurd (omega arith)
 
   -- opening
   abbrev frame_over : ℕ → ℕ → Frame
   frame_over start len = record { start = start; len = len; middle = None }
 
   module _ {at : Slots} {q : ℕ} {s : Shape} (plan : IsPlan at q s) {todo : List ℕ} where
-    -- one frame more
-    pub opened-more : {frames : List Frame} {start len : ℕ} → IsUnopened at frames s start len todo → 0 < len
-        → (length frames < 64) × IsOpening at (frames ++ frame_over start len ∷ []) s start (len / 2) todo
-    opened-more {frames} {start} {len} u some = go u.way u.run u.whole u.stack u.size u.position u.todo_is
-      where
-        go : (way : Way) (run : Shape) → plug way run ≡ s → IsStack at way (size_of run) frames → len ≡ size_of run → start ≡ behind way → walk run ++ ahead way ≡ todo
-            → (length frames < 64) × IsOpening at (frames ++ frame_over start len ∷ []) s start (len / 2) todo
-        go way missing whole stack size inside todo_is = absurd (omega (arith, some, size))
-        go way (node l i k r) whole stack size inside todo_is =
-            let P : Shape → Type 0 = λ s. IsHalf q s in
-            let half = IsHalf-plug way (node l i k r) q (q - depth way) refl (subst P (sym whole) plan.half) in (
-              omega (arith, length-stack at way (size_of (node l i k r)) frames stack, few-steps way (node l i k r) plan whole (omega arith) 64 plan.few),
-              record {
-                unopened = record {
-                  way = up Lesser i k r way;
-                  run = l;
-                  whole = whole;
-                  stack = (frames, frame_over start len, refl, refl, size, inside, stack);
-                  size = omega (arith, half.0, size);
-                  position = inside;
-                  todo_is = sym (append_assoc (walk l) (i ∷ walk r) (ahead way)) ∙ todo_is;
-                };
-                facing = inr tt;
-              },
-            )
+    module _ {frames : List Frame} {start len : ℕ} (u : IsUnopened at frames s start len todo) where
+      -- one frame more
+      pub opened-more : 0 < len → (length frames < 64) × IsOpening at (frames ++ frame_over start len ∷ []) s start (len / 2) todo
+      opened-more some = go u.run refl
+        where
+          go : (run : Shape) → u.run ≡ run → (length frames < 64) × IsOpening at (frames ++ frame_over start len ∷ []) s start (len / 2) todo
+          go missing is = absurd (omega (arith, some, u.size, ap size_of is))
+          go (node l i k r) is =
+              let whole = rw is at u.whole in
+              let stack = rw is at u.stack in
+              let size = rw is at u.size in
+              let P : Shape → Type 0 = λ s. IsHalf q s in
+              let half = IsHalf-plug u.way (node l i k r) q (q - depth u.way) refl (subst P (sym whole) plan.half) in (
+                omega (arith, length-stack at u.way (size_of (node l i k r)) frames stack, few-steps u.way (node l i k r) plan whole (omega arith) 64 plan.few),
+                record {
+                  unopened = record {
+                    way = up Lesser i k r u.way;
+                    run = l;
+                    whole = whole;
+                    stack = (frames, frame_over start len, refl, refl, size, u.position, stack);
+                    size = omega (arith, half.0, size);
+                    position = u.position;
+                    todo_is = sym (append_assoc (walk l) (i ∷ walk r) (ahead u.way)) ∙ rw is at u.todo_is;
+                  };
+                  facing = inr tt;
+                },
+              )
 
-    -- nothing is left to open
-    pub IsReady-empty : {frames : List Frame} {start len : ℕ} (u : IsUnopened at frames s start len todo) → len ≡ 0
-        → IsFinished at frames s None todo × (IsFacing u.way → IsReady at frames s None todo)
-    IsReady-empty {frames} {start} {len} u none = go u.way u.run u.whole u.stack u.size u.todo_is
-      where
-        go : (way : Way) (run : Shape) → plug way run ≡ s → IsStack at way (size_of run) frames → len ≡ size_of run → walk run ++ ahead way ≡ todo
-            → IsFinished at frames s None todo × (IsFacing way → IsReady at frames s None todo)
-        go way missing whole stack size todo_is = (
-          record { way = way; done = missing; whole = whole; stack = stack; held = refl; todo_is = todo_is },
-          λ facing. record { finished = record { way = way; done = missing; whole = whole; stack = stack; held = refl; todo_is = todo_is }; facing = facing },
-        )
-        go way (node l i k r) whole stack size todo_is = absurd (omega (arith, none, size))
+      -- nothing is left to open
+      abbrev pub IsFinished-empty : len ≡ 0 → IsFinished at frames s None todo
+      IsFinished-empty none =
+          let is : u.run ≡ missing = sizeless u.run (omega (arith, none, u.size)) in
+          record { way = u.way; done = missing; whole = rw is at u.whole; stack = rw is at u.stack; held = refl; todo_is = rw is at u.todo_is }
 
     pub IsReady-opened : {frames : List Frame} {start len : ℕ} → IsOpening at frames s start len todo → len ≡ 0 → IsReady at frames s None todo
     IsReady-opened {frames} {start} {len} o none =
-        ⊎_elim (λ some. absurd (omega (arith, some, none))) (λ facing. (IsReady-empty o.unopened none).1 facing) o.facing
+        ⊎_elim (λ some. absurd (omega (arith, some, none))) (λ facing. record { finished = IsFinished-empty o.unopened none; facing = facing }) o.facing
 
   -- the run whose middle is met next
   pub record IsNext {at : Slots} {q : ℕ} {s : Shape} (plan : IsPlan at q s) (below : List Frame) (f : Frame) (link : Option ℕ) (x : ℕ) (todo : List ℕ) : Type 0 where
@@ -189,32 +188,31 @@ module _ where
     pub held : Holds at None link l
     pub todo_is : walk r ++ ahead rest ≡ todo
 
-  pub next-run : {at : Slots} {q : ℕ} {s : Shape} (plan : IsPlan at q s) {frames : List Frame} {link : Option ℕ} {x : ℕ} {todo : List ℕ}
-      → IsReady at frames s link (x ∷ todo) → (below : List Frame) (f : Frame) → frames ≡ below ++ f ∷ [] → IsNext plan below f link x todo
-  next-run {at} {q} {s} plan {frames} {link} {x} {todo} ready below f e =
-      go ready.finished.way ready.finished.done ready.finished.whole ready.finished.stack ready.finished.held ready.finished.todo_is ready.facing
-    where
-      go : (way : Way) (done : Shape) → plug way done ≡ s → IsStack at way (size_of done) frames → Holds at None link done → ahead way ≡ x ∷ todo → IsFacing way → IsNext plan below f link x todo
-      go top done whole stack held todo_is facing = absurd cc
-      go (up Greater i k far rest) done whole stack held todo_is facing = absurd facing
-      go (up Lesser i k far rest) done whole stack held todo_is facing =
-          let same = snoc-same stack.0 below stack.1 f (sym stack.2 ∙ e) in
-          let first : i ≡ x = cc in
-          let tail : walk far ++ ahead rest ≡ todo = cc in
-          let P : ℕ → Type 0 = λ i. plug rest (node done i k far) ≡ s in
-          let Q : List Frame → Type 0 = λ frames. IsStack at rest (size_of done + 1 + size_of far) frames in
-          record {
-            rest = rest;
-            l = done;
-            k = k;
-            r = far;
-            whole = subst P first whole;
-            stack = subst Q same.0 stack.6;
-            len = ap (λ (f : Frame). f.len) (sym same.1) ∙ stack.4;
-            start = ap (λ (f : Frame). f.start) (sym same.1) ∙ stack.5;
-            held = held;
-            todo_is = tail;
-          }
+  module _ {at : Slots} {q : ℕ} {s : Shape} (plan : IsPlan at q s) {frames : List Frame} {link : Option ℕ} {x : ℕ} {todo : List ℕ} (ready : IsReady at frames s link (x ∷ todo)) where
+    pub next-run : (below : List Frame) (f : Frame) → frames ≡ below ++ f ∷ [] → IsNext plan below f link x todo
+    next-run below f e = go ready.finished.way ready.finished.done ready.finished.whole ready.finished.stack ready.finished.held ready.finished.todo_is ready.facing
+      where
+        go : (way : Way) (done : Shape) → plug way done ≡ s → IsStack at way (size_of done) frames → Holds at None link done → ahead way ≡ x ∷ todo → IsFacing way → IsNext plan below f link x todo
+        go top done whole stack held todo_is facing = absurd cc
+        go (up Greater i k far rest) done whole stack held todo_is facing = absurd facing
+        go (up Lesser i k far rest) done whole stack held todo_is facing =
+            let same = snoc-same stack.0 below stack.1 f (sym stack.2 ∙ e) in
+            let first : i ≡ x = cc in
+            let tail : walk far ++ ahead rest ≡ todo = cc in
+            let P : ℕ → Type 0 = λ i. plug rest (node done i k far) ≡ s in
+            let Q : List Frame → Type 0 = λ frames. IsStack at rest (size_of done + 1 + size_of far) frames in
+            record {
+              rest = rest;
+              l = done;
+              k = k;
+              r = far;
+              whole = subst P first whole;
+              stack = subst Q same.0 stack.6;
+              len = ap (λ (f : Frame). f.len) (sym same.1) ∙ stack.4;
+              start = ap (λ (f : Frame). f.start) (sym same.1) ∙ stack.5;
+              held = held;
+              todo_is = tail;
+            }
 
   module _ {at : Slots} {q : ℕ} {s : Shape} {plan : IsPlan at q s} {below : List Frame} {f : Frame} {link : Option ℕ} {x : ℕ} {todo : List ℕ} (next : IsNext plan below f link x todo) where
     pub next-room : length below < 64
@@ -275,7 +273,7 @@ module _ where
                 but_hung x (not_hung x (omega (arith, alone x, here-same x))) ∙ here_is,
                 refl,
                 rank_met,
-                Holds-rehung written new next.l None (Some x) link hung (λ j other inside. but_hung j other) (λ j. omega (arith, alone j))
+                Holds-rehung written new None (Some x) link hung next.l (λ j other inside. but_hung j other) (λ j. omega (arith, alone j))
                     (Holds-frame at written next.l None link (λ j inside. but_x j (not_x j (omega arith))) next.held),
               ),
               omega (arith, next.len),
@@ -384,7 +382,7 @@ module _ where
             ending.back,
             ending.rank,
             Holds-frame at new ending.l (Some m) ending.n.lesser (λ j inside. kept j (omega arith)) ending.lesser,
-            Holds-rehung written new ending.r None (Some m) link hung (λ j other inside. but_hung j other) (λ j. omega (arith, alone-ending j))
+            Holds-rehung written new None (Some m) link hung ending.r (λ j other inside. but_hung j other) (λ j. omega (arith, alone-ending j))
                 (Holds-frame at written ending.r None link (λ j inside. but_m j (not_m j (omega arith))) ending.greater),
           );
           todo_is = ending.todo_is;
@@ -491,14 +489,14 @@ module _ {at : Slots} {s : Shape} {order : List ℕ} where
         go (up Greater i k far rest) facing whole e held = absurd facing
 
 -- one entry more is met
-pub IsPassing-next : {at new : Slots} {s : Shape} {order : List ℕ} {frames frames' : List Frame} {link link' target target' : Option ℕ} {position x : ℕ}
-    (passing : IsPassing at frames s order link position target) (is : IsTarget passing x) → IsOnce order → target' ≡ following x order → IsReady new frames' s link' is.rest
-    → IsPassing new frames' s order link' (position + 1) target'
-IsPassing-next {x = x} passing is once next ready = record {
-  met = passing.met ++ x ∷ [];
-  todo = is.rest;
-  split = is.split ∙ sym (append_assoc passing.met (x ∷ []) is.rest);
-  count = omega (arith, passing.count, length-append passing.met (x ∷ []));
-  target_is = next ∙ ap (following x) is.split ∙ following-at x passing.met is.rest (omega (arith, once x, ap (times x) is.split, times-append x passing.met (x ∷ is.rest), here-same x));
-  ready = ready;
-}
+module _ {at : Slots} {s : Shape} {order : List ℕ} {frames : List Frame} {link target : Option ℕ} {position x : ℕ}
+    (passing : IsPassing at frames s order link position target) (is : IsTarget passing x) (once : IsOnce order) {next : Option ℕ} (next_is : next ≡ following x order) where
+  pub IsPassing-next : {new : Slots} {frames' : List Frame} {link' : Option ℕ} → IsReady new frames' s link' is.rest → IsPassing new frames' s order link' (position + 1) next
+  IsPassing-next ready = record {
+    met = passing.met ++ x ∷ [];
+    todo = is.rest;
+    split = is.split ∙ sym (append_assoc passing.met (x ∷ []) is.rest);
+    count = omega (arith, passing.count, length-append passing.met (x ∷ []));
+    target_is = next_is ∙ ap (following x) is.split ∙ following-at x passing.met is.rest (omega (arith, once x, ap (times x) is.split, times-append x passing.met (x ∷ is.rest), here-same x));
+    ready = ready;
+  }

@@ -7,17 +7,22 @@ use Rattle.ord_tree.specs.declared.tree_links.Side.TheVariants.{Lesser, Greater}
 use Rattle.ord_tree.specs.declared.tree_links.TreeLinks.{TreeLinks}
 use Rattle.ord_tree.specs.declared.tree_links.Branch.{Branch}
 use Rattle.ord_tree.specs.Shape.{Shape, fork, rank_of, walk}
-use Rattle.ord_tree.specs.Slots.{Slots, Holds, Way, top, plug, above, HoldsWay, here, times, MovesBacks}
+use Rattle.ord_tree.specs.Slots.{Slots, Holds, Way, top, plug, above, HoldsWay, here, times}
 use Rattle.ord_tree.specs.Balance.{IsOver}
 use Rattle.ord_tree.specs.Promote.{IsBuilt}
 use Rattle.ord_tree.specs.Demote.{IsFallen}
 use Rattle.ord_tree.specs.Detach.{without, stand_in, renamed, IsLoose, CanStandIn, IsDetachable}
 use Rattle.ord_tree.proofs.Forks.{Holds-plug, HoldsFork-holds, here-same, times-append, times-walk}
 use Rattle.ord_tree.proofs.Spots.{Spot, spot_in}
+use Rattle.ord_tree.proofs.Demoting.{BuiltOrFallen}
 use Rattle.ord_tree.proofs.Cutting.{without-split, times-without, length-without}
 use Rattle.ord_tree.proofs.Neighbours.{BeforeIn, before_in, previous-neighbour, first-within}
 use Rattle.ord_tree.proofs.Standing.{stand_in-same}
 use Rattle.ord_tree.proofs.Displacing.{renamed_way, renamed-fork, renamed-plug, rank-renamed, IsBalanced-renamed, IsBalancedWay-renamed, walk-renamed, map-absent, plug_held}
+
+-- the other branch is the first, with v for z
+abbrev pub IsRenamed : {I : Type 0} → (I → ℕ) → ℕ → ℕ → Option (Branch I) → Option (Branch I) → Type 0
+IsRenamed number z v cut branch = MatchOption cut (branch ≡ None) (λ p. IsSomeAnd branch (λ q. (number q.parent ≡ stand_in z v (number p.parent)) × (q.side ≡ p.side)))
 
 module _ {old : Slots} {root : Option ℕ} {z : ℕ} {before : Option ℕ} {order : List ℕ} (can : IsDetachable old root z before order) where
   spot : Spot old root Lesser z can.built.shape
@@ -81,8 +86,7 @@ module _ {old : Slots} {root : Option ℕ} {z : ℕ} {before : Option ℕ} {orde
               (Holds-plug mid root' fallen.way (fork side fallen.low y fallen.rank fallen.far) (Some y) fallen.held_way fallen.held) fallen.listed
 
           pub can_stand : {I : Type 0} (number : I → ℕ) (cut : Option (Branch I))
-              → MatchOption cut (IsBuilt mid root' (without v order) 1) (λ p. IsFallen mid root' (number p.parent) p.side (without v order))
-              → (s : Shape) × CanStandIn mid root' z v s
+              → BuiltOrFallen number mid root' (without v order) cut → (s : Shape) × CanStandIn mid root' z v s
           can_stand number None h = (h.shape, built_stands h)
           can_stand number (Some p) h = (plug h.way (fork p.side h.low (number p.parent) h.rank h.far), fallen_stands h)
 
@@ -145,14 +149,13 @@ module _ {old : Slots} {root : Option ℕ} {z : ℕ} {before : Option ℕ} {orde
                       few = omega (arith, length-without z order, can.few);
                     }
 
-            pub displaced : {I : Type 0} (number : I → ℕ) (cut result : Option (Branch I))
-                → MatchOption cut (result ≡ None) (λ p. IsSomeAnd result (λ q. (number q.parent ≡ stand_in z v (number p.parent)) × (q.side ≡ p.side)))
-                → MatchOption cut (IsBuilt mid root' (without v order) 1) (λ p. IsFallen mid root' (number p.parent) p.side (without v order))
-                → MatchOption result (IsBuilt new root'' (without z order) 1) (λ p. IsFallen new root'' (number p.parent) p.side (without z order))
-            displaced number None None is h = built_renamed h
-            displaced number None (Some q) is h = absurd cc
-            displaced number (Some p) None is h = elim is [ ]
-            displaced number (Some p) (Some q) is h = fallen_renamed (number p.parent) (number q.parent) p.side q.side is.0 is.1 h
+            module _ {I : Type 0} (number : I → ℕ) where
+              pub displaced : (cut branch : Option (Branch I)) → IsRenamed number z v cut branch → BuiltOrFallen number mid root' (without v order) cut
+                  → BuiltOrFallen number new root'' (without z order) branch
+              displaced None None is h = built_renamed h
+              displaced None (Some q) is h = absurd cc
+              displaced (Some p) None is h = elim is [ ]
+              displaced (Some p) (Some q) is h = fallen_renamed (number p.parent) (number q.parent) p.side q.side is.0 is.1 h
 
 -- a link that leads somewhere, with numbers for indexes
 pub mapped : {I : Type 0} (number : I → ℕ) (o : Option I) → is_some o ≡ true → (j : ℕ) × option_map number o ≡ Some j

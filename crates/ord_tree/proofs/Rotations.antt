@@ -9,7 +9,7 @@ use Rattle.ord_tree.specs.Shape.{Shape, missing, node, fork, root_of}
 use Rattle.ord_tree.specs.Slots.{Slots, Holds, Way, top, up, above, HoldsWay, here, times_in, times_way, back_at}
 use Rattle.ord_tree.specs.Rotate.{Site, IsRotated}
 use Rattle.ord_tree.proofs.Forks.{HoldsFork-holds, Holds-fork, here-same, times_in-fork, apart-from, link-root, child-with_child, other_child-with_child, child-with_other, other_child-with_other}
-use Rattle.ord_tree.proofs.Frames.{root-in, Holds-frame, HoldsWay-frame, Holds-rehung, HoldsWay-replaced}
+use Rattle.ord_tree.proofs.Frames.{root-in, Holds-frame, HoldsWay-frame, Holds-rehung, IsReplaced, HoldsWay-replaced}
 
 -- the numbers of links
 pub child-numbered : {I : Type 0} (number : I → ℕ) (side : Side) (n : TreeLinks I) → option_map number (child_at side n) ≡ child_at side (numbered number n)
@@ -31,13 +31,13 @@ pub record ForkAt (at : Slots) (over : Option ℕ) (side : Side) (near : Shape) 
   pub near_held : Holds at (Some i) (child_at side n) near
   pub far_held : Holds at (Some i) (child_at (other_side side) n) far
 
-pub ForkAt-holds : (at : Slots) (over link : Option ℕ) (side : Side) (near : Shape) (i k : ℕ) (far : Shape) (n : TreeLinks ℕ) → at i ≡ Some n
-    → Holds at over link (fork side near i k far) → ForkAt at over side near i k far n
-ForkAt-holds at over link side near i k far n e h =
-    let f = HoldsFork-holds at over link side near far i k h in
-    let same : f.0 ≡ n = cc in
-    let P : TreeLinks ℕ → Type 0 = λ m. ForkAt at over side near i k far m in
-    subst P same (record { back = f.3; rank = f.4; near_held = f.5; far_held = f.6 })
+module _ (at : Slots) (over link : Option ℕ) (side : Side) (near : Shape) (i k : ℕ) (far : Shape) (n : TreeLinks ℕ) where
+  pub ForkAt-holds : at i ≡ Some n → Holds at over link (fork side near i k far) → ForkAt at over side near i k far n
+  ForkAt-holds e h =
+      let f = HoldsFork-holds at over link side near far i k h in
+      let same : f.0 ≡ n = cc in
+      let P : TreeLinks ℕ → Type 0 = λ m. ForkAt at over side near i k far m in
+      subst P same (record { back = f.3; rank = f.4; near_held = f.5; far_held = f.6 })
 
 pub above-in : (way : Way) (p : ℕ) → above way ≡ Some p → 0 < times_way p way
 above-in top p e = absurd cc
@@ -48,16 +48,17 @@ pub occupied-link : (at : Slots) (over link : Option ℕ) (s : Shape) (i : ℕ) 
 occupied-link at over link missing i h e = absurd cc
 occupied-link at over link (node l j k r) i h e = let same : i ≡ j = cc in rw (same, h.2) refl
 
--- what the lower node of a rotation holds
-pub fork_at_low : (at : Slots) (root : Option ℕ) (side : Side) (z y : ℕ) (site : Site at root side z y) (ny : TreeLinks ℕ) → at y ≡ Some ny → ForkAt at (Some z) side site.outer y site.low site.inner ny
-fork_at_low at root side z y site ny e =
-    let f = HoldsFork-holds at (above site.way) (Some z) side (fork side site.outer y site.low site.inner) site.far z site.high site.held in
-    ForkAt-holds at (Some z) (child_at side f.0) side site.outer y site.low site.inner ny e f.5
+-- the lower node of a rotation
+module _ (at : Slots) (root : Option ℕ) (side : Side) (z y : ℕ) (site : Site at root side z y) (ny : TreeLinks ℕ) (e : at y ≡ Some ny) where
+  -- what it holds
+  pub fork_at_low : ForkAt at (Some z) side site.outer y site.low site.inner ny
+  fork_at_low =
+      let f = HoldsFork-holds at (above site.way) (Some z) side (fork side site.outer y site.low site.inner) site.far z site.high site.held in
+      ForkAt-holds at (Some z) (child_at side f.0) side site.outer y site.low site.inner ny e f.5
 
--- the link to what stands between the two nodes of a rotation leads to a node
-pub occupied-inner : (at : Slots) (root : Option ℕ) (side : Side) (z y : ℕ) (ny : TreeLinks ℕ) (i : ℕ) → Site at root side z y → at y ≡ Some ny
-    → child_at (other_side side) ny ≡ Some i → is_some (at i) ≡ true
-occupied-inner at root side z y ny i site e link = occupied-link at (Some y) (child_at (other_side side) ny) site.inner i (fork_at_low at root side z y site ny e).far_held link
+  -- its link to what stands between the two nodes leads to a node
+  pub occupied-inner : (i : ℕ) → child_at (other_side side) ny ≡ Some i → is_some (at i) ≡ true
+  occupied-inner i link = occupied-link at (Some y) (child_at (other_side side) ny) site.inner i fork_at_low.far_held link
 
 -- whether a link leads to an index
 pub cases_link : (link : Option ℕ) (j : ℕ) → (link ≡ Some j) ⊎ (link ≢ Some j)
@@ -66,10 +67,7 @@ cases_link (Some i) j = ⊎_elim (λ same. inl (ap Some same)) (λ other. inr (�
 
 module _ (old replaced hung below new : Slots) (root root' : Option ℕ) (side : Side) (z y : ℕ) (rank_z rank_y : ℕ) (ny nz : TreeLinks ℕ)
     (site : Site old root side z y) (is_y : old y ≡ Some ny) (is_z : old z ≡ Some nz)
-    (at_top : nz.back ≡ None → root' ≡ Some y) (root_stays : (p : ℕ) → nz.back ≡ Some p → root' ≡ root)
-    (parent : (p : ℕ) (n : TreeLinks ℕ) (s : Side) → nz.back ≡ Some p → old p ≡ Some n → child_at s n ≡ Some z → child_at (other_side s) n ≢ Some z → replaced p ≡ Some (with_child_at s (Some y) n))
-    (but_parent : (j : ℕ) → nz.back ≢ Some j → replaced j ≡ old j)
-    (backs : (j : ℕ) → back_at old j ≡ back_at replaced j)
+    (parent : IsReplaced old replaced nz.back root root' z (Some y))
     (middle : (i : ℕ) (n : TreeLinks ℕ) → child_at (other_side side) ny ≡ Some i → replaced i ≡ Some n → hung i ≡ Some (record n { back = Some z }))
     (but_middle : (j : ℕ) → child_at (other_side side) ny ≢ Some j → hung j ≡ replaced j)
     (at_z : (n : TreeLinks ℕ) → hung z ≡ Some n → below z ≡ Some (placed (Some y) rank_z (with_child_at side (child_at (other_side side) ny) n)))
@@ -100,13 +98,13 @@ module _ (old replaced hung below new : Slots) (root root' : Option ℕ) (side :
 
   -- neither of the two nodes was written before
   z_stays : hung z ≡ Some nz
-  z_stays = but_middle z (λ e. omega (arith, total z, here-same z, in_inner z e)) ∙ but_parent z (λ e. omega (arith, total z, here-same z, in_way z e)) ∙ is_z
+  z_stays = but_middle z (λ e. omega (arith, total z, here-same z, in_inner z e)) ∙ parent.elsewhere z (λ e. omega (arith, total z, here-same z, in_way z e)) ∙ is_z
 
   y_stays : below y ≡ Some ny
-  y_stays = but_z y y≢z ∙ but_middle y (λ e. omega (arith, total y, here-same y, in_inner y e)) ∙ but_parent y (λ e. omega (arith, total y, here-same y, in_way y e)) ∙ is_y
+  y_stays = but_z y y≢z ∙ but_middle y (λ e. omega (arith, total y, here-same y, in_inner y e)) ∙ parent.elsewhere y (λ e. omega (arith, total y, here-same y, in_way y e)) ∙ is_y
 
   elsewhere : (j : ℕ) → j ≢ z → j ≢ y → child_at (other_side side) ny ≢ Some j → nz.back ≢ Some j → new j ≡ old j
-  elsewhere j not_z not_y not_middle not_parent = but_y j not_y ∙ but_z j not_z ∙ but_middle j not_middle ∙ but_parent j not_parent
+  elsewhere j not_z not_y not_middle not_parent = but_y j not_y ∙ but_z j not_z ∙ but_middle j not_middle ∙ parent.elsewhere j not_parent
 
   -- a part that holds none of the written indexes stays
   stays : (f : ℕ → ℕ) → ((j : ℕ) → f j + times_way j site.way + here j y + times_in j site.inner + here j z ≤ 1) → (j : ℕ) → 0 < f j → new j ≡ old j
@@ -127,10 +125,10 @@ module _ (old replaced hung below new : Slots) (root root' : Option ℕ) (side :
 
   inner_held : Holds new (Some z) (child_at (other_side side) ny) site.inner
   inner_held =
-      Holds-rehung old new site.inner (Some y) (Some z) (child_at (other_side side) ny)
+      Holds-rehung old new (Some y) (Some z) (child_at (other_side side) ny)
       (λ j n is e. but_y j (apart-from y j (λ j. times_in j site.inner) (omega (arith, total y, here-same y)) (in_inner j is))
       ∙ but_z j (apart-from z j (λ j. times_in j site.inner) (omega (arith, total z, here-same z)) (in_inner j is))
-      ∙ middle j n is (but_parent j (λ p. omega (arith, total j, in_inner j is, in_way j p)) ∙ e))
+      ∙ middle j n is (parent.elsewhere j (λ p. omega (arith, total j, in_inner j is, in_way j p)) ∙ e)) site.inner
       inner_stays (λ j. omega (arith, total j)) fork_y.far_held
 
   way_stays : (j : ℕ) → 0 < times_way j site.way → new j ≡ replaced j
@@ -141,14 +139,14 @@ module _ (old replaced hung below new : Slots) (root root' : Option ℕ) (side :
 
   way_held : HoldsWay new root' site.way (Some y)
   way_held =
+      let P : Option ℕ → Type 0 = λ b. IsReplaced old replaced b root root' z (Some y) in
       HoldsWay-frame replaced new site.way root' (Some y) way_stays
-      (HoldsWay-replaced old replaced site.way root root' (Some y) z (λ e. at_top (fork_z.back ∙ e)) (λ p e. root_stays p (fork_z.back ∙ e)) (λ p n s e. parent p n s (fork_z.back ∙ e)) (λ j e. but_parent j (λ b. e (sym fork_z.back ∙ b)))
-      (λ j. omega (arith, total j)) (omega (arith, total z, here-same z)) site.held_way)
+      (HoldsWay-replaced site.way (subst P fork_z.back parent) (λ j. omega (arith, total j)) site.held_way)
 
   backs_held : (j : ℕ) → (j ≡ z) ⊎ (j ≡ y) ⊎ (root_of site.inner ≡ Some j) ⊎ (back_at old j ≡ back_at new j)
   backs_held j =
       ⊎_elim (λ e. inl e) (λ not_z. inr (⊎_elim (λ e. inl e) (λ not_y. inr (⊎_elim (λ e. inl e)
-      (λ not_middle. inr (backs j ∙ ap (λ (o : Option (TreeLinks ℕ)). option_map (λ (n : TreeLinks ℕ). n.back) o) (sym (but_y j not_y ∙ but_z j not_z ∙ but_middle j (λ e. not_middle (sym middle_is ∙ e))))))
+      (λ not_middle. inr (parent.backs j ∙ ap (λ (o : Option (TreeLinks ℕ)). option_map (λ (n : TreeLinks ℕ). n.back) o) (sym (but_y j not_y ∙ but_z j not_z ∙ but_middle j (λ e. not_middle (sym middle_is ∙ e))))))
       (cases_link (root_of site.inner) j))) (cases_eq j y))) (cases_eq j z)
 
   held_z : (link : Option ℕ) → link ≡ Some z → Holds new (Some y) link (fork side site.inner z rank_z site.far)

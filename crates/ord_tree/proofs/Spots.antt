@@ -23,45 +23,46 @@ pub record Spot (at : Slots) (root : Option ℕ) (side : Side) (y : ℕ) (whole 
   pub holds : ForkAt at (above way) side near y rank far links
   pub is : plug way (fork side near y rank far) ≡ whole
 
-spot_here : (at : Slots) (root : Option ℕ) (side : Side) (way : Way) (l r : Shape) (i k : ℕ) (link : Option ℕ) → HoldsWay at root way link
-    → Holds at (above way) link (node l i k r) → Spot at root side i (plug way (node l i k r))
-spot_here at root Lesser way l r i k link w h =
-    record {
-      way = way;
-      near = l;
-      rank = k;
-      far = r;
-      links = h.0;
-      held_way = (let P : Option ℕ → Type 0 = λ link. HoldsWay at root way link in subst P h.1 w);
-      at_y = h.2;
-      holds = record { back = h.3; rank = h.4; near_held = h.5; far_held = h.6 };
-      is = refl;
-    }
-spot_here at root Greater way l r i k link w h =
-    record {
-      way = way;
-      near = r;
-      rank = k;
-      far = l;
-      links = h.0;
-      held_way = (let P : Option ℕ → Type 0 = λ link. HoldsWay at root way link in subst P h.1 w);
-      at_y = h.2;
-      holds = record { back = h.3; rank = h.4; near_held = h.6; far_held = h.5 };
-      is = refl;
-    }
+module _ (at : Slots) (root : Option ℕ) where
+  spot_here : (side : Side) (way : Way) (l r : Shape) (i k : ℕ) (link : Option ℕ) → HoldsWay at root way link
+      → Holds at (above way) link (node l i k r) → Spot at root side i (plug way (node l i k r))
+  spot_here Lesser way l r i k link w h =
+      record {
+        way = way;
+        near = l;
+        rank = k;
+        far = r;
+        links = h.0;
+        held_way = (let P : Option ℕ → Type 0 = λ link. HoldsWay at root way link in subst P h.1 w);
+        at_y = h.2;
+        holds = record { back = h.3; rank = h.4; near_held = h.5; far_held = h.6 };
+        is = refl;
+      }
+  spot_here Greater way l r i k link w h =
+      record {
+        way = way;
+        near = r;
+        rank = k;
+        far = l;
+        links = h.0;
+        held_way = (let P : Option ℕ → Type 0 = λ link. HoldsWay at root way link in subst P h.1 w);
+        at_y = h.2;
+        holds = record { back = h.3; rank = h.4; near_held = h.6; far_held = h.5 };
+        is = refl;
+      }
 
--- each index of a tree has its spot
-pub spot_in : (at : Slots) (root : Option ℕ) (side : Side) (y : ℕ) (s : Shape) (way : Way) (link : Option ℕ) → HoldsWay at root way link
-    → Holds at (above way) link s → 0 < times_in y s → Spot at root side y (plug way s)
-spot_in at root side y missing way link w h b = absurd (omega (arith, b))
-spot_in at root side y (node l i k r) way link w h b =
-    let P : Option ℕ → Type 0 = λ link. HoldsWay at root way link in
-    let w' = subst P h.1 w in
-    let in_l = spot_in at root side y l (up Lesser i k r way) h.0.lesser (h.0, h.2, h.3, h.4, refl, h.6, w') h.5 in
-    let in_r = spot_in at root side y r (up Greater i k l way) h.0.greater (h.0, h.2, h.3, h.4, refl, h.5, w') h.6 in
-    ⊎_elim (λ (same : y ≡ i). let Q : ℕ → Type 0 = λ y. Spot at root side y (plug way (node l i k r)) in subst Q (sym same) (spot_here at root side way l r i k link w h))
-    (λ (other : y ≢ i). ⊎_elim (λ (some : 0 < times_in y l). in_l some) (λ (none : times_in y l ≤ 0). in_r (omega (arith, b, here-other y i other))) (cases_lt 0 (times_in y l)))
-    (cases_eq y i)
+  -- each index of a tree has its spot
+  pub spot_in : (side : Side) (y : ℕ) (s : Shape) (way : Way) (link : Option ℕ) → HoldsWay at root way link
+      → Holds at (above way) link s → 0 < times_in y s → Spot at root side y (plug way s)
+  spot_in side y missing way link w h b = absurd (omega (arith, b))
+  spot_in side y (node l i k r) way link w h b =
+      let P : Option ℕ → Type 0 = λ link. HoldsWay at root way link in
+      let w' = subst P h.1 w in
+      let in_l = spot_in side y l (up Lesser i k r way) h.0.lesser (h.0, h.2, h.3, h.4, refl, h.6, w') h.5 in
+      let in_r = spot_in side y r (up Greater i k l way) h.0.greater (h.0, h.2, h.3, h.4, refl, h.5, w') h.6 in
+      ⊎_elim (λ (same : y ≡ i). let Q : ℕ → Type 0 = λ y. Spot at root side y (plug way (node l i k r)) in subst Q (sym same) (spot_here side way l r i k link w h))
+      (λ (other : y ≢ i). ⊎_elim (λ (some : 0 < times_in y l). in_l some) (λ (none : times_in y l ≤ 0). in_r (omega (arith, b, here-other y i other))) (cases_lt 0 (times_in y l)))
+      (cases_eq y i)
 
 -- balance along a way
 pub plug_balanced : (slack : ℕ) (way : Way) (s : Shape) → IsBalanced slack (plug way s) → IsBalancedWay slack way (rank_of s) × IsBalanced slack s

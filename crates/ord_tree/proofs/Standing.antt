@@ -2,15 +2,13 @@
 use Rattle.std.proofs.Common.{◌≡◌, ◌≢◌, ℕ, ◌+◌, ◌<◌, Option, Some, None, [], ◌∷◌, ◌++◌, arith, refl, sym, ◌∙◌, ap, subst, inl, inr, ⊎_elim, option_map, is_some, true, length-append}
 use Rattle.std.specs.Option.{option_to_list}
 use Rattle.std.proofs.lemmas.Bool.{cases_eq, eq-eqb, ne_eqb}
-use Rattle.ord_tree.specs.declared.tree_links.Side.{Side}
 use Rattle.ord_tree.specs.declared.tree_links.Side.TheVariants.{Lesser, Greater}
 use Rattle.ord_tree.specs.declared.tree_links.TreeLinks.{TreeLinks}
-use Rattle.ord_tree.specs.TreeLinks.{other_side, child_at, with_child_at}
 use Rattle.ord_tree.specs.Shape.{Shape, missing, node, root_of}
-use Rattle.ord_tree.specs.Slots.{Slots, Holds, Way, top, up, plug, above, HoldsWay, here, times_in, times_way, back_at, MovesBacks}
+use Rattle.ord_tree.specs.Slots.{Slots, Holds, Way, top, up, plug, above, HoldsWay, here, times_in, times_way, MovesBacks}
 use Rattle.ord_tree.specs.Detach.{stand_in, renamed, CanStandIn}
 use Rattle.ord_tree.proofs.Forks.{Holds-plug, link-root, here-same, times_in-plug, apart-from}
-use Rattle.ord_tree.proofs.Frames.{root-in, HoldsWay-frame, Holds-rehung, HoldsWay-replaced}
+use Rattle.ord_tree.proofs.Frames.{occupied-above, root-in, HoldsWay-frame, Holds-rehung, IsReplaced, HoldsWay-replaced}
 use Rattle.ord_tree.proofs.Rotations.{above-in, occupied-link, cases_link}
 use Rattle.ord_tree.proofs.Spots.{Spot, spot_in}
 use Rattle.ord_tree.proofs.Doubles.{Among-root, Among-behind, length-root}
@@ -83,11 +81,7 @@ module _ {old : Slots} {root : Option ℕ} {z v : ℕ} {s : Shape} (can : CanSta
     greater_occupied i link = occupied-link old (Some z) nz.greater r i r_held link
 
     pub parent_occupied : (p : ℕ) → nz.back ≡ Some p → is_some (old p) ≡ true
-    parent_occupied p b = go spot.way spot.held_way (sym back_is ∙ b)
-      where
-        go : (w : Way) → HoldsWay old root w (Some z) → above w ≡ Some p → is_some (old p) ≡ true
-        go top h a = absurd cc
-        go (up d i k far rest) h a = let same : p ≡ i = cc in rw (same, h.1) refl
+    parent_occupied p b = occupied-above old root (Some z) spot.way spot.held_way p (sym back_is ∙ b)
 
     in_l : (j : ℕ) → nz.lesser ≡ Some j → 0 < times_in j l
     in_l j link = root-in l j (sym (link-root old (Some z) nz.lesser l l_held) ∙ link)
@@ -99,10 +93,7 @@ module _ {old : Slots} {root : Option ℕ} {z v : ℕ} {s : Shape} (can : CanSta
     in_way j b = above-in spot.way j (sym back_is ∙ b)
 
     module _ (replaced hung both new : Slots) (root' : Option ℕ)
-        (at_top : nz.back ≡ None → root' ≡ Some v) (root_stays : (p : ℕ) → nz.back ≡ Some p → root' ≡ root)
-        (parent : (p : ℕ) (n : TreeLinks ℕ) (s : Side) → nz.back ≡ Some p → old p ≡ Some n → child_at s n ≡ Some z → child_at (other_side s) n ≢ Some z → replaced p ≡ Some (with_child_at s (Some v) n))
-        (but_parent : (j : ℕ) → nz.back ≢ Some j → replaced j ≡ old j)
-        (backs : (j : ℕ) → back_at old j ≡ back_at replaced j)
+        (parent : IsReplaced old replaced nz.back root root' z (Some v))
         (lesser : (i : ℕ) (n : TreeLinks ℕ) → nz.lesser ≡ Some i → replaced i ≡ Some n → hung i ≡ Some (record n { back = Some v }))
         (but_lesser : (j : ℕ) → nz.lesser ≢ Some j → hung j ≡ replaced j)
         (greater : (i : ℕ) (n : TreeLinks ℕ) → nz.greater ≡ Some i → hung i ≡ Some n → both i ≡ Some (record n { back = Some v }))
@@ -113,25 +104,25 @@ module _ {old : Slots} {root : Option ℕ} {z v : ℕ} {s : Shape} (can : CanSta
 
       way_held : HoldsWay new root' spot.way (Some v)
       way_held =
+          let P : Option ℕ → Type 0 = λ b. IsReplaced old replaced b root root' z (Some v) in
           HoldsWay-frame replaced new spot.way root' (Some v)
           (λ j inside. but_v j (not_v j (omega (arith, total j))) ∙ but_greater j (λ link. omega (arith, in_r j link, total j, can.apart j)) ∙ but_lesser j (λ link. omega (arith, in_l j link, total j, can.apart j)))
-          (HoldsWay-replaced old replaced spot.way root root' (Some v) z (λ a. at_top (back_is ∙ a)) (λ p a. root_stays p (back_is ∙ a)) (λ p n s a. parent p n s (back_is ∙ a)) (λ j a. but_parent j (λ b. a (sym back_is ∙ b)))
-          (λ j. omega (arith, total j, can.apart j)) (omega (arith, total z, here-same z, can.apart z)) spot.held_way)
+          (HoldsWay-replaced spot.way (subst P back_is parent) (λ j. omega (arith, total j, can.apart j)) spot.held_way)
 
       l_new : Holds new (Some v) nz.lesser l
       l_new =
-          Holds-rehung old new l (Some z) (Some v) nz.lesser
+          Holds-rehung old new (Some z) (Some v) nz.lesser
           (λ j n link d. let inside = in_l j link in but_v j (not_v j (omega (arith, total j))) ∙ but_greater j (λ other. omega (arith, in_r j other, total j, can.apart j))
-          ∙ lesser j n link (but_parent j (λ b. omega (arith, in_way j b, total j, can.apart j)) ∙ d))
-          (λ j other inside. but_v j (not_v j (omega (arith, total j))) ∙ but_greater j (λ link. omega (arith, in_r j link, total j, can.apart j)) ∙ but_lesser j other ∙ but_parent j (λ b. omega (arith, in_way j b, total j, can.apart j)))
+          ∙ lesser j n link (parent.elsewhere j (λ b. omega (arith, in_way j b, total j, can.apart j)) ∙ d)) l
+          (λ j other inside. but_v j (not_v j (omega (arith, total j))) ∙ but_greater j (λ link. omega (arith, in_r j link, total j, can.apart j)) ∙ but_lesser j other ∙ parent.elsewhere j (λ b. omega (arith, in_way j b, total j, can.apart j)))
           (λ j. omega (arith, total j, can.apart j)) l_held
 
       r_new : Holds new (Some v) nz.greater r
       r_new =
-          Holds-rehung old new r (Some z) (Some v) nz.greater
+          Holds-rehung old new (Some z) (Some v) nz.greater
           (λ j n link d. let inside = in_r j link in but_v j (not_v j (omega (arith, total j)))
-          ∙ greater j n link (but_lesser j (λ other. omega (arith, in_l j other, total j, can.apart j)) ∙ but_parent j (λ b. omega (arith, in_way j b, total j, can.apart j)) ∙ d))
-          (λ j other inside. but_v j (not_v j (omega (arith, total j))) ∙ but_greater j other ∙ but_lesser j (λ link. omega (arith, in_l j link, total j, can.apart j)) ∙ but_parent j (λ b. omega (arith, in_way j b, total j, can.apart j)))
+          ∙ greater j n link (but_lesser j (λ other. omega (arith, in_l j other, total j, can.apart j)) ∙ parent.elsewhere j (λ b. omega (arith, in_way j b, total j, can.apart j)) ∙ d)) r
+          (λ j other inside. but_v j (not_v j (omega (arith, total j))) ∙ but_greater j other ∙ but_lesser j (λ link. omega (arith, in_l j link, total j, can.apart j)) ∙ parent.elsewhere j (λ b. omega (arith, in_way j b, total j, can.apart j)))
           (λ j. omega (arith, total j, can.apart j)) r_held
 
       pub Holds-substituted : Holds new None root' (renamed z v s)
@@ -145,6 +136,6 @@ module _ {old : Slots} {root : Option ℕ} {z v : ℕ} {s : Shape} (can : CanSta
         omega (arith, length-append (option_to_list (root_of l)) (option_to_list (root_of r) ++ []), length-append (option_to_list (root_of r)) [], length-root (root_of l), length-root (root_of r)),
         λ j. ⊎_elim (λ same. inl (inl same)) (λ not_v'. ⊎_elim (λ link. inl (inr (Among-root l j (option_to_list (root_of r) ++ []) (sym (link-root old (Some z) nz.lesser l l_held) ∙ link))))
             (λ not_l. ⊎_elim (λ link. inl (inr (Among-behind (option_to_list (root_of l)) (option_to_list (root_of r) ++ []) j (Among-root r j [] (sym (link-root old (Some z) nz.greater r r_held) ∙ link)))))
-            (λ not_r. inr (backs j ∙ ap (λ (o : Option (TreeLinks ℕ)). option_map (λ (n : TreeLinks ℕ). n.back) o) (sym (but_v j not_v' ∙ but_greater j not_r ∙ but_lesser j not_l))))
+            (λ not_r. inr (parent.backs j ∙ ap (λ (o : Option (TreeLinks ℕ)). option_map (λ (n : TreeLinks ℕ). n.back) o) (sym (but_v j not_v' ∙ but_greater j not_r ∙ but_lesser j not_l))))
             (cases_link nz.greater j)) (cases_link nz.lesser j)) (cases_eq j v),
       )

@@ -143,11 +143,11 @@ module _ {P T I G : Type 0} where
   IsSoundTree-laid_out c root h = record { listed = h.listed ∙ sym (indexes-bare c.entries); ranked = h.ranked }
 
   -- a new capacity
-  pub tree_of-with_capacity : (c : Chain (Node P T I G)) (root : Option ℕ) (n : ℕ) → tree_of (with_capacity c (max n (greatest_index c.entries))) root
-      ≡ record { list = with_capacity (bare c) (max n (greatest_index (bare c).entries)); shape = shape_in c root }
-  tree_of-with_capacity c root n =
-      ap (λ (l : Chain T). record { list = l; shape = shape_in c root })
-      (bare-with_capacity c (max n (greatest_index c.entries)) ∙ ap (λ (k : ℕ). with_capacity (bare c) (max n k)) (sym (greatest_index-bare c.entries)))
+  module _ (c : Chain (Node P T I G)) (root : Option ℕ) (n : ℕ) where
+    pub tree_of-with_capacity : tree_of (with_capacity c (max n (greatest_index c.entries))) root ≡ record (tree_of c root) { list = with_capacity (bare c) (max n (greatest_index (bare c).entries)) }
+    tree_of-with_capacity =
+        ap (λ (l : Chain T). record { list = l; shape = shape_in c root })
+        (bare-with_capacity c (max n (greatest_index c.entries)) ∙ ap (λ (k : ℕ). with_capacity (bare c) (max n k)) (sym (greatest_index-bare c.entries)))
 
   -- a growth that makes room
   pub tree_of-with_room : (most : ℕ) (c : Chain (Node P T I G)) (root : Option ℕ)

@@ -1,6 +1,5 @@
-use Rattle.std.proofs.Common.{◌-◌, sym, ◌∙◌, ap, subst, option_map, arith}
+use Rattle.std.proofs.Common.{sym, ◌∙◌, ap, subst, option_map, arith}
 use Rattle.ord_tree.specs.declared.tree_links.Side.{Side}
-use Rattle.ord_tree.specs.TreeLinks.{numbered}
 use Rattle.ord_tree.specs.Demote.{IsLeaning}
 use Rattle.ord_tree.proofs.Demoting.{IsRepaired-stop, IsDemoted-written, IsOver-bare, IsLeaning-fallen}
 use Rattle.ord_tree.proofs.Reading.{low-read, fallen-read, far-read, sibling-read}
@@ -11,8 +10,7 @@ returns-in_default-clause-mended g c = λ order fallen.
     let number = g.N.Nodes.number in
     let none = far-read number fallen _ c.other-other.ensures _ c.links-links.ensures _ c.child-2.ensures ∙ ap (option_map number) c.in_default.is in
     let bare = IsOver-bare fallen none in
-    IsDemoted-written fallen (g.N.Nodes.at c.set_rank.new.self) 1 (omega (arith, bare.0)) bare.1
-    c.set_rank.ensures.here c.set_rank.ensures.elsewhere (numbered number c.links-links.result) c.links-links.ensures
+    IsDemoted-written fallen (record { here = c.set_rank.ensures.here; elsewhere = c.set_rank.ensures.elsewhere }) (omega (arith, bare.0)) bare.1
 
 pub returns-then-links-low-le2-clause-mended : goal.returns-then-links-low-le2-clause-mended
 returns-then-links-low-le2-clause-mended g c = λ order fallen.
@@ -37,8 +35,8 @@ returns-then-links-sibling-eq2-clause-mended g c = λ order fallen.
     let rank_is = fallen-read number fallen _ c.other-other.ensures _ c.links-links.ensures in
     let sibling_is = sibling-read number fallen _ c.other-other.ensures _ c.links-links.ensures _ c.child-2.ensures _ c.in-Some.is _ c.links-sibling.ensures in
     let written = c.set_rank-then-links-sibling-eq2.ensures in
-    IsDemoted-written fallen (g.N.Nodes.at c.set_rank-then-links-sibling-eq2.new.self) (c.links-links.result.rank - 1) (omega (arith, rank_is, fallen.over.lesser))
-    (omega (arith, rank_is, low_is, sibling_is, fallen.over)) written.here written.elsewhere (numbered number c.links-links.result) c.links-links.ensures
+    IsDemoted-written fallen (record { here = written.here; elsewhere = written.elsewhere }) (omega (arith, rank_is, fallen.over.lesser))
+    (omega (arith, rank_is, low_is, sibling_is, fallen.over))
 
 pub demote_or_rotate-requires : goal.demote_or_rotate-requires
 demote_or_rotate-requires g c =

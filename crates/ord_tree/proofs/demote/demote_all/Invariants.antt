@@ -6,11 +6,15 @@ use Rattle.ord_tree.proofs.demote.demote_all.Given as goal
 -- what has fallen when the repair began has fallen here, and no node has another parent
 abbrev pub invariant-loop-next : goal.invariant-loop-next
 invariant-loop-next g l =
-    let at = g.N.Nodes.at in
+    let was = g.N.Nodes.at l.fn.nodes in
+    let now = g.N.Nodes.at l.nodes in
     let number = g.N.Nodes.number in
+    let first = l.fn.fallen in
+    let was_root = option_map number l.fn.root in
+    let root = option_map number l.root in
     record {
-      fallen : (order : List ℕ) → IsFallen (at l.fn.nodes) (option_map number l.fn.root) (number l.fn.fallen.parent) l.fn.fallen.side order
-          → IsFallen (at l.nodes) (option_map number l.root) (number l.branch.parent) l.branch.side order × ((j : ℕ) → back_at (at l.fn.nodes) j ≡ back_at (at l.nodes) j);
+      fallen : (order : List ℕ) → IsFallen was was_root (number first.parent) first.side order
+          → IsFallen now root (number l.branch.parent) l.branch.side order × ((j : ℕ) → back_at was j ≡ back_at now j);
       kept : g.N.Nodes.list l.nodes ≡ g.N.Nodes.list l.fn.nodes;
     }
 

@@ -9,4 +9,4 @@ branch_of-requires-clause-parent g c = parent_occupied (c.if-not-demote.ensures.
 
 pub returns-clause-demoted : goal.returns-clause-demoted
 returns-clause-demoted g c = λ order fallen.
-    demoted_branch (c.if-not-demote.ensures.mended order fallen) g.N.Nodes.number c.branch_of.result c.branch_of.ensures.parent c.branch_of.ensures.side
+    demoted_branch (c.if-not-demote.ensures.mended order fallen) g.N.Nodes.number c.branch_of.result (record { parent = c.branch_of.ensures.parent; side = c.branch_of.ensures.side })

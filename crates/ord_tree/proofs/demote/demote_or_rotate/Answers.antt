@@ -1,8 +1,8 @@
-use Rattle.std.proofs.Common.{◌≡◌, ℕ, ◌+◌, ◌-◌, Some, sym, ap, subst, option_map, is_some, arith}
+use Rattle.std.proofs.Common.{ℕ, ◌-◌, sym, ap, subst, option_map, is_some, arith}
 use Rattle.ord_tree.specs.declared.tree_links.Side.{Side}
-use Rattle.ord_tree.specs.declared.tree_links.TreeLinks.{TreeLinks}
 use Rattle.ord_tree.specs.TreeLinks.{numbered}
 use Rattle.ord_tree.specs.Rotate.{Site, IsRotated}
+use Rattle.ord_tree.proofs.Frames.{IsReranked}
 use Rattle.ord_tree.proofs.Doubles.{site_below, site_above}
 use Rattle.ord_tree.proofs.Leaning.{low-small, inner_some, IsRepaired-lifted, IsRepaired-between, IsDemoted-both}
 use Rattle.ord_tree.proofs.Reading.{site_read, inner-read, inner-there}
@@ -25,8 +25,7 @@ returns-then-links-outer-eq1-clause-mended g c = λ order lean.
     let site = lean.site in
     let r = site_read number site _ c.other-other.ensures _ _ c.links-rank.ensures c.links-links.ensures
     _ _ c.child.ensures c.child-2.ensures _ _ c.rank_of-outer.ensures c.rank_of-inner.ensures in
-    IsRepaired-lifted lean (g.N.Nodes.at c.rotate.new.nodes) (option_map number c.rotate.new.root) (c.rank_of-inner.result + 1) c.links-rank.result.rank
-    (omega (arith, r)) r.high_is (omega (arith, r)) (c.rotate.ensures.rotated site)
+    IsRepaired-lifted lean (c.rotate.ensures.rotated site) (omega (arith, r)) r.high_is (omega (arith, r))
 
 pub returns-then-links-inner-eq2-clause-mended : goal.returns-then-links-inner-eq2-clause-mended
 returns-then-links-inner-eq2-clause-mended g c = λ order lean.
@@ -37,10 +36,11 @@ returns-then-links-inner-eq2-clause-mended g c = λ order lean.
     let at = g.N.Nodes.at in
     let s = number c.args.s in
     let y = number c.args.y in
-    let P : ℕ → Type 0 = λ k. (n : TreeLinks ℕ) → at c.args.nodes.now s ≡ Some n → at c.set_rank.new.self s ≡ Some (record n { rank = k - 1 }) in
-    let Q : ℕ → Type 0 = λ k. (n : TreeLinks ℕ) → at c.set_rank.new.self y ≡ Some n → at c.set_rank-then-links-inner-eq2.new.self y ≡ Some (record n { rank = k - 1 }) in
-    IsDemoted-both lean (at c.set_rank.new.self) (at c.set_rank-then-links-inner-eq2.new.self) c.links-rank.result.rank
-    (subst P r.low_is c.set_rank.ensures.here) c.set_rank.ensures.elsewhere (subst Q r.high_is c.set_rank-then-links-inner-eq2.ensures.here) c.set_rank-then-links-inner-eq2.ensures.elsewhere
+    let first = c.set_rank.ensures in
+    let second = c.set_rank-then-links-inner-eq2.ensures in
+    let P : ℕ → Type 0 = λ k. IsReranked (at c.args.nodes.now) (at c.set_rank.new.self) s (k - 1) in
+    let Q : ℕ → Type 0 = λ k. IsReranked (at c.set_rank.new.self) (at c.set_rank-then-links-inner-eq2.new.self) y (k - 1) in
+    IsDemoted-both lean (subst P r.low_is (record { here = first.here; elsewhere = first.elsewhere })) (subst Q r.high_is (record { here = second.here; elsewhere = second.elsewhere }))
     (omega (arith, r, lean.over)) (omega (arith, r)) (ap is_some c.links-links.ensures) (ap is_some c.links-rank.ensures)
 
 pub unwrap-a-requires : goal.unwrap-a-requires
@@ -83,5 +83,4 @@ returns-clause-mended g c = λ order lean.
     let P : Side → Type 0 = λ side. (site : Site (g.N.Nodes.at c.args.nodes.now) (option_map number c.args.root.now) side (number c.args.s) x)
     → IsRotated site (g.N.Nodes.at c.rotate-2.new.nodes) (option_map number c.rotate-2.new.root) c.rank_of-inner.result c.links-rank.result.rank in
     let rotated = subst P c.other-other.ensures c.rotate-2.ensures.rotated (site_below site x x_is) in
-    IsRepaired-between lean x x_is rotated (g.N.Nodes.at c.rotate-3.new.nodes) (option_map number c.rotate-3.new.root)
-    r.inner_is r.high_is (omega (arith, r, lean.over)) (omega (arith, r, lean.over)) (c.rotate-3.ensures.rotated (site_above site x x_is rotated))
+    IsRepaired-between lean x x_is rotated (c.rotate-3.ensures.rotated (site_above site x x_is rotated)) r.inner_is r.high_is (omega (arith, r, lean.over)) (omega (arith, r, lean.over))

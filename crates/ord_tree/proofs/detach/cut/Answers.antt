@@ -1,7 +1,6 @@
-use Rattle.std.proofs.Common.{◌≡◌, ◌≢◌, ℕ, Option, Some, sym, ◌∙◌, subst, option_map}
-use Rattle.ord_tree.specs.declared.tree_links.Side.{Side}
-use Rattle.ord_tree.specs.declared.tree_links.TreeLinks.{TreeLinks}
-use Rattle.ord_tree.specs.TreeLinks.{other_side, child_at, with_child_at, numbered}
+use Rattle.std.proofs.Common.{◌≡◌, sym, ◌∙◌, subst, option_map}
+use Rattle.ord_tree.specs.TreeLinks.{other_side, child_at, numbered}
+use Rattle.ord_tree.proofs.Frames.{IsReplaced}
 use Rattle.ord_tree.proofs.Rotations.{child-numbered}
 use Rattle.ord_tree.proofs.Cutting.{v_occupied, rest_occupied, parent_occupied, moves_one, cut_branch}
 use Rattle.ord_tree.proofs.detach.cut.Goals as goal
@@ -29,12 +28,12 @@ returns-clause-fallen g c = λ order loose.
     let links = numbered number c.links-links.result in
     let rest_is : option_map number c.child-rest.result ≡ child_at (other_side c.args.bare) links
     = rw (c.child-rest.ensures, c.other.ensures) (child-numbered number (other_side c.args.bare) c.links-links.result) in
-    let P : Option ℕ → Type 0 = λ rest. (p : ℕ) (n : TreeLinks ℕ) (s : Side) → links.back ≡ Some p → at c.args.nodes.now p ≡ Some n → child_at s n ≡ Some (number c.args.v) → child_at (other_side s) n ≢ Some (number c.args.v)
-    → at c.replace_child.new.nodes p ≡ Some (with_child_at s rest n) in
+    let r = c.replace_child.ensures in
+    let P = IsReplaced (at c.args.nodes.now) (at c.replace_child.new.nodes) links.back (option_map number c.args.root.now) (option_map number c.replace_child.new.root) (number c.args.v) in
     cut_branch loose links c.links-links.ensures (at c.replace_child.new.nodes) (at c.hang.new.nodes) (option_map number c.replace_child.new.root)
-    (λ top. c.replace_child.ensures.at_top top ∙ rest_is) c.replace_child.ensures.below (subst P rest_is c.replace_child.ensures.here) c.replace_child.ensures.elsewhere c.replace_child.ensures.backs
+    (subst P rest_is (record { at_top = r.at_top; below = r.below; here = r.here; elsewhere = r.elsewhere; backs = r.backs }))
     (λ i n link. c.hang.ensures.here i n (rest_is ∙ link)) (λ j other. c.hang.ensures.elsewhere j (λ link. other (sym rest_is ∙ link)))
-    number c.branch_of-branch.result (c.branch_of-branch.ensures.parent links c.links-links.ensures) c.branch_of-branch.ensures.side
+    number c.branch_of-branch.result (record { parent = c.branch_of-branch.ensures.parent; side = c.branch_of-branch.ensures.side })
 
 pub returns-clause-backs : goal.returns-clause-backs
 returns-clause-backs g c = λ order loose.
@@ -43,8 +42,8 @@ returns-clause-backs g c = λ order loose.
     let links = numbered number c.links-links.result in
     let rest_is : option_map number c.child-rest.result ≡ child_at (other_side c.args.bare) links
     = rw (c.child-rest.ensures, c.other.ensures) (child-numbered number (other_side c.args.bare) c.links-links.result) in
-    let P : Option ℕ → Type 0 = λ rest. (p : ℕ) (n : TreeLinks ℕ) (s : Side) → links.back ≡ Some p → at c.args.nodes.now p ≡ Some n → child_at s n ≡ Some (number c.args.v) → child_at (other_side s) n ≢ Some (number c.args.v)
-    → at c.replace_child.new.nodes p ≡ Some (with_child_at s rest n) in
+    let r = c.replace_child.ensures in
+    let P = IsReplaced (at c.args.nodes.now) (at c.replace_child.new.nodes) links.back (option_map number c.args.root.now) (option_map number c.replace_child.new.root) (number c.args.v) in
     moves_one loose links c.links-links.ensures (at c.replace_child.new.nodes) (at c.hang.new.nodes) (option_map number c.replace_child.new.root)
-    (λ top. c.replace_child.ensures.at_top top ∙ rest_is) c.replace_child.ensures.below (subst P rest_is c.replace_child.ensures.here) c.replace_child.ensures.elsewhere c.replace_child.ensures.backs
+    (subst P rest_is (record { at_top = r.at_top; below = r.below; here = r.here; elsewhere = r.elsewhere; backs = r.backs }))
     (λ i n link. c.hang.ensures.here i n (rest_is ∙ link)) (λ j other. c.hang.ensures.elsewhere j (λ link. other (sym rest_is ∙ link)))

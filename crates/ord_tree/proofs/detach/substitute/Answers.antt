@@ -20,12 +20,12 @@ pub returns-clause-held : goal.returns-clause-held
 returns-clause-held g c = λ s can.
     let at = g.N.Nodes.at in
     Holds-substituted can (numbered g.N.Nodes.number c.links-links.result) c.links-links.ensures (at c.replace_child.new.nodes) (at c.hang.new.nodes) (at c.hang-2.new.nodes) (at c.set_links.new.self) _
-    c.replace_child.ensures.at_top c.replace_child.ensures.below c.replace_child.ensures.here c.replace_child.ensures.elsewhere c.replace_child.ensures.backs
+    (let r = c.replace_child.ensures in record { at_top = r.at_top; below = r.below; here = r.here; elsewhere = r.elsewhere; backs = r.backs })
     c.hang.ensures.here c.hang.ensures.elsewhere c.hang-2.ensures.here c.hang-2.ensures.elsewhere c.set_links.ensures.here c.set_links.ensures.elsewhere
 
 pub returns-clause-backs : goal.returns-clause-backs
 returns-clause-backs g c = λ s can.
     let at = g.N.Nodes.at in
     moves_three can (numbered g.N.Nodes.number c.links-links.result) c.links-links.ensures (at c.replace_child.new.nodes) (at c.hang.new.nodes) (at c.hang-2.new.nodes) (at c.set_links.new.self) _
-    c.replace_child.ensures.at_top c.replace_child.ensures.below c.replace_child.ensures.here c.replace_child.ensures.elsewhere c.replace_child.ensures.backs
+    (let r = c.replace_child.ensures in record { at_top = r.at_top; below = r.below; here = r.here; elsewhere = r.elsewhere; backs = r.backs })
     c.hang.ensures.here c.hang.ensures.elsewhere c.hang-2.ensures.here c.hang-2.ensures.elsewhere c.set_links.ensures.here c.set_links.ensures.elsewhere

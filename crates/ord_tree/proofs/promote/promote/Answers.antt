@@ -1,8 +1,8 @@
-use Rattle.std.proofs.Common.{◌≡◌, ℕ, ◌+◌, Some, [], refl, inr, sym, ◌∙◌, ap, subst, option_map, arith}
+use Rattle.std.proofs.Common.{ℕ, ◌+◌, [], refl, inr, sym, ◌∙◌, ap, subst, option_map, arith}
 use Rattle.ord_tree.specs.declared.tree_links.Side.{Side}
-use Rattle.ord_tree.specs.declared.tree_links.TreeLinks.{TreeLinks}
 use Rattle.ord_tree.specs.TreeLinks.{numbered}
 use Rattle.ord_tree.specs.Promote.{IsSteep}
+use Rattle.ord_tree.proofs.Frames.{IsReranked}
 use Rattle.ord_tree.proofs.Promoting.{y_occupied, y_back, rising_under, IsBuilt-top, z_occupied, IsBuilt-stop, low-small, IsPromoted-promoted, IsSteep-rising}
 use Rattle.ord_tree.proofs.Reading.{ranks-read, side-read, beside-read, beside-occupied}
 use Rattle.ord_tree.proofs.promote.promote.Goals as goal
@@ -57,8 +57,8 @@ returns-then-high-sibling-eq1-clause-promoted g c = λ order slack rising.
     let ranks = ranks-read number u _ _ c.links-low.ensures c.links-high.ensures in
     let sibling_is = beside-read number u _ _ c.links-low.ensures c.links-high.ensures _ c.side_of-side.ensures _ c.other.ensures _ c.child.ensures _ c.rank_of-sibling.ensures in
     let z = number c.in-Some.z in
-    let P : ℕ → Type 0 = λ k. (n : TreeLinks ℕ) → g.N.Nodes.at c.args.nodes.now z ≡ Some n → g.N.Nodes.at c.set_rank.new.self z ≡ Some (record n { rank = k + 1 }) in
-    IsPromoted-promoted u (g.N.Nodes.at c.set_rank.new.self) (subst P ranks.0 c.set_rank.ensures.here) c.set_rank.ensures.elsewhere
+    let P : ℕ → Type 0 = λ k. IsReranked (g.N.Nodes.at c.args.nodes.now) (g.N.Nodes.at c.set_rank.new.self) z (k + 1) in
+    IsPromoted-promoted u (g.N.Nodes.at c.set_rank.new.self) (subst P ranks.0 (record { here = c.set_rank.ensures.here; elsewhere = c.set_rank.ensures.elsewhere }))
     (omega (arith, ranks, u.over.lesser)) (omega (arith, ranks, sibling_is))
 
 pub rotate_once_or_twice-requires : goal.rotate_once_or_twice-requires

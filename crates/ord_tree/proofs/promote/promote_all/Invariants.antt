@@ -6,11 +6,14 @@ use Rattle.ord_tree.proofs.promote.promote_all.Given as goal
 -- what has risen when the repair began has risen here, and no node has another parent
 abbrev pub invariant-loop-z : goal.invariant-loop-z
 invariant-loop-z g l =
-    let at = g.N.Nodes.at in
+    let was = g.N.Nodes.at l.fn.nodes in
+    let now = g.N.Nodes.at l.nodes in
     let number = g.N.Nodes.number in
+    let was_root = option_map number l.fn.root in
+    let root = option_map number l.root in
     record {
-      rising : (order : List ℕ) (slack : ℕ) → IsRising (at l.fn.nodes) (option_map number l.fn.root) (number l.fn.y) order slack
-          → IsRising (at l.nodes) (option_map number l.root) (number l.rising) order slack × ((j : ℕ) → back_at (at l.fn.nodes) j ≡ back_at (at l.nodes) j);
+      rising : (order : List ℕ) (slack : ℕ) → IsRising was was_root (number l.fn.y) order slack
+          → IsRising now root (number l.rising) order slack × ((j : ℕ) → back_at was j ≡ back_at now j);
       kept : g.N.Nodes.list l.nodes ≡ g.N.Nodes.list l.fn.nodes;
     }
 

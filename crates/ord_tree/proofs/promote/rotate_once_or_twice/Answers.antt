@@ -17,8 +17,7 @@ returns-then-low-outer-eq1-clause-repaired g c = λ order slack steep.
     let low = numbered number c.links-low.result in
     let outer_is : c.rank_of-outer.result ≡ rank_of steep.site.outer
     = rw (c.rank_of-outer.ensures, c.child.ensures, child-numbered number c.args.side c.links-low.result) (outer_rank steep.site low c.links-low.ensures) in
-    IsRepaired-single steep (g.N.Nodes.at c.rotate.new.nodes) (option_map number c.rotate.new.root) c.rank_of-outer.result c.links-low.result.rank
-    outer_is (low_rank steep.site low c.links-low.ensures) (omega arith) (c.rotate.ensures.rotated steep.site)
+    IsRepaired-single steep (c.rotate.ensures.rotated steep.site) outer_is (low_rank steep.site low c.links-low.ensures) (omega arith)
 
 pub unwrap-x-requires : goal.unwrap-x-requires
 unwrap-x-requires g c =
@@ -72,6 +71,5 @@ returns-clause-repaired g c = λ order slack steep.
     let P : Side → Type 0 = λ side. (site : Site (g.N.Nodes.at c.args.nodes.now) (option_map number c.args.root.now) side (number c.args.y) x)
     → IsRotated site (g.N.Nodes.at c.rotate-2.new.nodes) (option_map number c.rotate-2.new.root) c.links-rank.result.rank c.links-low.result.rank in
     let rotated = subst P c.other-other.ensures c.rotate-2.ensures.rotated (site_below steep.site x x_is) in
-    IsRepaired-double steep x x_is rotated (g.N.Nodes.at c.rotate-3.new.nodes) (option_map number c.rotate-3.new.root)
+    IsRepaired-double steep x x_is rotated (c.rotate-3.ensures.rotated (site_above steep.site x x_is rotated))
     (middle_rank steep.site x x_is low (numbered number c.links-rank.result) c.links-low.ensures c.links-rank.ensures) (low_rank steep.site low c.links-low.ensures) (omega arith)
-    (c.rotate-3.ensures.rotated (site_above steep.site x x_is rotated))

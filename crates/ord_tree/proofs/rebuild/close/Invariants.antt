@@ -6,12 +6,13 @@ use Rattle.ord_tree.proofs.rebuild.close.Given as goal
 -- what was finished is finished still, with all that hangs on it now
 abbrev pub invariant-loop-middle : goal.invariant-loop-middle
 invariant-loop-middle g l =
-    let at = g.N.Nodes.at in
+    let was = g.N.Nodes.at l.fn.nodes in
+    let now = g.N.Nodes.at l.nodes in
     let number = g.N.Nodes.number in
     record {
-      plan : (s : Shape) (top : ℕ) → IsPlan (at l.fn.nodes) top s → IsPlan (at l.nodes) top s;
-      finished : (s : Shape) (top : ℕ) (todo : List ℕ) → IsPlan (at l.fn.nodes) top s → IsFinished (at l.fn.nodes) l.fn.stack.items s None todo
-          → IsFinished (at l.nodes) l.stack.items s (option_map number l.finished) todo;
+      plan : (s : Shape) (top : ℕ) → IsPlan was top s → IsPlan now top s;
+      finished : (s : Shape) (top : ℕ) (todo : List ℕ) → IsPlan was top s → IsFinished was l.fn.stack.items s None todo
+          → IsFinished now l.stack.items s (option_map number l.finished) todo;
       few : length l.stack.items ≤ length l.fn.stack.items;
       kept : g.N.Nodes.list l.nodes ≡ g.N.Nodes.list l.fn.nodes;
     }

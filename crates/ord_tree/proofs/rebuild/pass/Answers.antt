@@ -1,5 +1,5 @@
 use Rattle.std.proofs.Common.{arith, inl}
-use Rattle.ord_tree.proofs.Rebuilding.{IsReady-empty, IsReady-few}
+use Rattle.ord_tree.proofs.Rebuilding.{IsFinished-empty, IsReady-few}
 use Rattle.ord_tree.proofs.rebuild.pass.Goals as goal
 
 pub open-requires : goal.open-requires
@@ -15,7 +15,7 @@ pub close-requires : goal.close-requires
 close-requires g c =
     let r = c.requires in
     let plan = c.meet-start.ensures.plan r.0 r.2 in
-    (r.0, c.args.top, r.1, plan, (IsReady-empty plan (c.meet-start.ensures.met r.0 r.1 r.2 r.3) (omega (arith, c.if-len-gt0.false))).0)
+    (r.0, c.args.top, r.1, plan, IsFinished-empty plan (c.meet-start.ensures.met r.0 r.1 r.2 r.3) (omega (arith, c.if-len-gt0.false)))
 
 pub returns-clause-plan : goal.returns-clause-plan
 returns-clause-plan g c = λ s plan. c.close.ensures.plan s c.args.top (c.meet-start.ensures.plan s plan)
@@ -23,7 +23,7 @@ returns-clause-plan g c = λ s plan. c.close.ensures.plan s c.args.top (c.meet-s
 pub returns-clause-passed : goal.returns-clause-passed
 returns-clause-passed g c = λ s todo plan ready.
     let met = c.meet-start.ensures.plan s plan in
-    c.close.ensures.closed s c.args.top todo met (IsReady-empty met (c.meet-start.ensures.met s todo plan ready) (omega (arith, c.if-len-gt0.false))).0
+    c.close.ensures.closed s c.args.top todo met (IsFinished-empty met (c.meet-start.ensures.met s todo plan ready) (omega (arith, c.if-len-gt0.false)))
 
 pub returns-then-len-gt0-clause-few : goal.returns-then-len-gt0-clause-few
 returns-then-len-gt0-clause-few g c = λ s todo plan ready.

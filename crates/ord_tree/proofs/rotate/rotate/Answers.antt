@@ -9,7 +9,7 @@ hang-requires g c =
     let number = g.N.Nodes.number in
     let inner_is : option_map number c.child-inner.result ≡ child_at (other_side c.args.side) (numbered number c.links-low.result)
     = rw (c.child-inner.ensures, c.other-other.ensures) (child-numbered number (other_side c.args.side) c.links-low.result) in
-    λ i e. c.replace_child.ensures.occupied i ∙ occupied-inner _ _ c.args.side _ _ (numbered number c.links-low.result) i c.requires c.links-low.ensures (sym inner_is ∙ e)
+    λ i e. c.replace_child.ensures.occupied i ∙ occupied-inner _ _ c.args.side _ _ c.requires (numbered number c.links-low.result) c.links-low.ensures i (sym inner_is ∙ e)
 
 pub relink-requires : goal.relink-requires
 relink-requires g c = c.hang.ensures.occupied _ ∙ c.replace_child.ensures.occupied _ ∙ ap is_some c.links-high.ensures
@@ -28,7 +28,7 @@ returns-clause-rotated g c = λ site.
     IsRotated-written (g.N.Nodes.at c.args.nodes.now) (g.N.Nodes.at c.replace_child.new.nodes) (g.N.Nodes.at c.hang.new.nodes) (g.N.Nodes.at c.relink.new.nodes) (g.N.Nodes.at c.relink-2.new.nodes)
     (option_map number c.args.root.now) (option_map number c.replace_child.new.root) side (number c.args.z) (number c.args.y) c.args.rank_z c.args.rank_y low high
     site c.links-low.ensures c.links-high.ensures
-    c.replace_child.ensures.at_top c.replace_child.ensures.below c.replace_child.ensures.here c.replace_child.ensures.elsewhere c.replace_child.ensures.backs
+    (let r = c.replace_child.ensures in record { at_top = r.at_top; below = r.below; here = r.here; elsewhere = r.elsewhere; backs = r.backs })
     (λ i n e. c.hang.ensures.here i n (inner_is ∙ e)) (λ j e. c.hang.ensures.elsewhere j (λ m. e (sym inner_is ∙ m)))
     (λ n is. c.relink.ensures.here n is ∙ ap (λ (o : Option ℕ). Some (placed (Some (number c.args.y)) c.args.rank_z (with_child_at side o n))) inner_is)
     c.relink.ensures.elsewhere
