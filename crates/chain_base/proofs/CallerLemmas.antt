@@ -8,24 +8,19 @@ use Rattle.chain_base.specs.Compression.{lesser, compressed_index, moved, at_com
 use Rattle.chain_base.proofs.Lists.{Stands-occurs, with_item_among-changed_at, with_generation-changed_at, entry_at-changed_at_other, entry_at-changed_at, same-changed_at}
 use Rattle.chain_base.proofs.Canonical.{entry-absent}
 use Rattle.chain_base.proofs.Ranking.{place-found, place-injective}
-use Rattle.chain_base.proofs.Renumbering.{times-source}
+use Rattle.chain_base.proofs.Renumbering.{times-source, entry_at-renumbered}
 -- the steps of a transfer, told of other items
 pub use Rattle.chain_base.proofs.Transferring.{steps-retold}
--- a list in two parts
-pub use Rattle.chain_base.proofs.Lists.{option_or-none, times-append, last_or-append, link_between-append, link_between-absent}
--- an entry is its link without the neighbours
-pub use Rattle.chain_base.proofs.Lists.{entry_at-link}
--- an index that no entry has finds none, and one that finds an entry stands in the list
-pub use Rattle.chain_base.proofs.Lists.{entry_at-absent}
-pub use Rattle.chain_base.proofs.Canonical.{occurs-entry, entry-occurs}
+-- a list in two parts; an entry is its link without the neighbours; an index that no entry has finds none
+pub use Rattle.chain_base.proofs.Lists.{option_or-none, times-append, last_or-append, link_between-append, link_between-absent, entry_at-link, entry_at-absent}
+-- an index that finds an entry stands in the list; entries at their places by rising index have the items that they had
+pub use Rattle.chain_base.proofs.Canonical.{occurs-entry, entry-occurs, relocated-items}
 -- the places of indexes by rising index
 pub use Rattle.chain_base.proofs.Ranking.{lesser-zero, lesser-next, lesser-most, lesser-all, compressed-at, compressed-length, length-entries}
 -- the greatest index with an entry
 pub use Rattle.chain_base.proofs.Vacancy.{below-greatest, greatest-or_none, times-greatest, below-greatest_index}
 -- an insertion keeps the capacity
 pub use Rattle.chain_base.proofs.Room.{inserted-capacity}
--- entries at their places by rising index have the items that they had
-pub use Rattle.chain_base.proofs.Canonical.{relocated-items}
 -- what the calls of a clone keep of the items
 pub use Rattle.chain_base.proofs.CloneKept.{clone-kept, clone-same, refused-some}
 
@@ -73,7 +68,7 @@ module _ {T : Type 0} where
   entry_at-between_other (f ∷ front) new back j other = grind (arith, common_steps, entry_at-between_other front new back j other)
 
   -- and its own index finds it, where no other entry has that
-  pub entry_at-between : (front : List (Entry T)) (new : Entry T) (back : List (Entry T)) → times new.index (front ++ back) ≡ 0
+  pub entry_at-between : (front : List (Entry T)) (new : Entry T) (back : List _) → times new.index (front ++ back) ≡ 0
       → entry_at (front ++ new ∷ back) new.index ≡ Some (new.generation, new.item)
   entry_at-between [] new back never = grind (arith, common_steps)
   entry_at-between (f ∷ front) new back never = grind (arith, common_steps, entry_at-between front new back)
@@ -132,13 +127,6 @@ module _ {T : Type 0} where
   past-end : (items : List T) (k : ℕ) → slice_get items k ≡ None → length items ≤ k
   past-end items k none = grind (arith, common_steps, slice_get_cases, items)
 
-  -- a moved list has at the place of an index what it had there, with the item of that place
-  pub entry_at-moved : (all : List (Entry T)) (g : ℕ) (items : List T) (es : List (Entry T)) (i : ℕ)
-      → ((y : ℕ) → 1 ≤ times y es → compressed_index all y ≡ compressed_index all i → y ≡ i)
-      → entry_at (map (moved all g items) es) (compressed_index all i) ≡ option_map (λ e. (g, slice_index_or items (lesser all i) e.1)) (entry_at es i)
-  entry_at-moved all g items [] i apart = refl
-  entry_at-moved all g items (e ∷ es) i apart = grind (arith, common_steps, entry_at-moved all g items es i)
-
 -- A compression of a list: the entry of a place has the item of that place, and there are no others.
 module _ {T : Type 0} (es : List (Entry T)) (distinct : IsDistinct es) (g : ℕ) (items : List T) (long : length items ≡ length es) where
   pub entry_at-compressed : (m : ℕ) → ((i : ℕ) → 1 ≤ times i es → i < m) → (k : ℕ)
@@ -154,6 +142,6 @@ module _ {T : Type 0} (es : List (Entry T)) (distinct : IsDistinct es) (g : ℕ)
       ]
       by (Some item) is =
           let found = place-found es distinct m k (omega (arith, lesser-all es m below, long, slice_get_within items k item is)) in
-          let here = entry_at-moved es g items es found.0 (λ y there same. place-injective es y found.0 there found.3 same) in
+          let here = entry_at-renumbered (compressed_index es) (λ x p. (g, slice_index_or items (lesser es x) p.1)) es found.0 (λ y there same. place-injective es y found.0 there found.3 same) in
           let place = found.2 in
           grind (arith, common_steps, entry-absent es found.0, found.3, get_or_from_slice_get items k item)

@@ -1,17 +1,16 @@
 -- What the calls of a chain arena owe: from what the arena's calls ensure to the step on the list.
 use Rattle.std.proofs.Common.{◌≡◌, ℕ, ◌≤◌, List, Option, Some, None, IsSome, refl, sym, ap, subst, ◌∙◌, arith, max, OnSome, IfNone, Result, Ok, Err, OnOk, OnErr, ◌⊎◌, inl, inr, option_and_then}
 use Rattle.std.proofs.lemmas.Grind.{common_steps}
-use Rattle.arena_base.specs.Arena.{Arena, slot, arena_capacity, new_arena, with_capacity as arena_with_capacity}
-use Rattle.arena_base.specs.Arena.{removed as arena_removed, renewed as arena_renewed, greatest_occupied, IsSound as IsSoundArena, IsInsertion as IsArenaInsertion}
+use Rattle.arena_base.specs.Arena.{Arena, slot, arena_capacity, new_arena, with_capacity as arena_with_capacity, removed as arena_removed, renewed as arena_renewed, greatest_occupied, IsSound as IsSoundArena, IsInsertion as IsArenaInsertion}
 use Rattle.arena_base.specs.Pointer.{named_of}
 use Rattle.chain_base.specs.Link.{Link}
-use Rattle.chain_base.specs.Chain.{Entry, times, new_chain, with_capacity, greatest_index, renewed, removed}
+use Rattle.chain_base.specs.Chain.{Entry, Chain, times, new_chain, with_capacity, greatest_index, renewed, removed}
 use Rattle.chain_base.specs.Insert.{IsPlace}
 use Rattle.chain_base.specs.Layout.{chain_of, IsLaidOut}
 use Rattle.chain_base.specs.Naming.{neighbour_on}
 use Rattle.chain_base.specs.declared.chain.compress.Side.{Side}
 use Rattle.chain_base.proofs.Lists.{times-append, times-last, times-first, other_index}
-use Rattle.chain_base.proofs.LaidOut.{bridged, end_beside, slot-written, slot-within}
+use Rattle.chain_base.proofs.LaidOut.{IsChainIn, bridged, end_beside, slot-written, slot-within}
 use Rattle.chain_base.proofs.Vacancy.{HoldIndexes, held-is, past-greatest, greatest-links}
 use Rattle.chain_base.proofs.Renumbering.{beside-other}
 use Rattle.chain_base.proofs.Sound.{occupied-within}
@@ -26,73 +25,86 @@ module _ {T : Type 0} where
   held-inserted : (a a1 : Arena (Link T)) (link : Link T) (j g : ℕ) → IsArenaInsertion a a1 link j g → (k : ℕ) → IsSome (slot a k) → IsSome (slot a1 k)
   held-inserted a a1 link j g ins k held = grind (arith, common_steps)
 
-  module _ (a : Arena (Link T)) (first last : Option ℕ) (laid : IsLaidOut a.slots first last (chain_of a first).entries) where
-    held : HoldIndexes a.slots (chain_of a first).entries
-    held = held-laid a.slots first last _ laid
+  module _ (a : Arena (Link T)) (first last : Option ℕ) (laid : IsChainIn a first last) where
+    abbrev c : Chain T
+    c = chain_of a first
 
-    -- the neighbours of a place occur in the list
-    beside-occurs : (place : Entry T → List (Entry T)) (prev next : Option ℕ) → IsPlace (chain_of a first).entries place prev next → (k : ℕ) → (prev ≡ Some k) ⊎ (next ≡ Some k)
-        → 1 ≤ times k (chain_of a first).entries
-    beside-occurs place prev next at k is = grind (arith, common_steps, times-last at.front k, times-first at.back k, at.split, times-append k at.front at.back)
+    held : HoldIndexes a.slots c.entries
+    held = held-laid a.slots first last _ laid
 
     -- an insertion into the arena, for an entry beside these two neighbours
     module _ (a1 : Arena (Link T)) (link : Link T) (j g : ℕ) (ins : IsArenaInsertion a a1 link j g)
-        (place : Entry T → List (Entry T)) (prev next : Option ℕ) (at : IsPlace (chain_of a first).entries place prev next) where
-      -- the neighbours have entries after it too
+        (place : Entry T → List (Entry T)) (prev next : Option ℕ) (at : IsPlace c.entries place prev next) where
+      -- the neighbours of the place occur in the list
+      beside-occurs : (k : ℕ) → (prev ≡ Some k) ⊎ (next ≡ Some k) → 1 ≤ times k c.entries
+      beside-occurs k is = grind (arith, common_steps, times-last at.front k, times-first at.back k, at.split, times-append k at.front at.back)
+
+      -- they have entries after it too
       pub beside-inserted : (k : ℕ) → (prev ≡ Some k) ⊎ (next ≡ Some k) → IsSome (slot a1 k)
-      beside-inserted k is = held-inserted a a1 link j g ins k (held-is a.slots _ k held (beside-occurs place prev next at k is))
+      beside-inserted k is = held-inserted a a1 link j g ins k (held-is a.slots _ k held (beside-occurs k is))
 
       module _ (most : ℕ) (greatest : Option ℕ) (sound : IsSoundArena most greatest a1) where
         -- an index of the list is within reach where the arena after an insertion is sound
         within-most : arena_capacity a ≤ most
         within-most = grind (arith, common_steps)
 
-        named-occurs : (o : Option ℕ) → ((k : ℕ) → o ≡ Some k → 1 ≤ times k (chain_of a first).entries) → named_of most o ≡ o
+        named-occurs : (o : Option ℕ) → ((k : ℕ) → o ≡ Some k → 1 ≤ times k c.entries) → named_of most o ≡ o
         named-occurs o there =
-            named_of-within most o (λ k is. omega (arith, within-most, occupied-within a (chain_of a first).entries k held (there k is)))
+            named_of-within most o (λ k is. omega (arith, within-most, occupied-within a c.entries k held (there k is)))
 
         -- the chain after it, from what the writes of links ensure
-        pub Inserts-linked : (item : T) → link.item ≡ item → link.prev ≡ named_of most prev → link.next ≡ named_of most next
-            → (b : Arena (Link T)) (first2 last2 : Option ℕ) → b ≡ bridged a1 prev (named_of most (Some j)) next (named_of most (Some j))
-            → first2 ≡ end_beside prev first (Some j) → last2 ≡ end_beside next last (Some j) → Inserts a b first first2 last2 place item j g
-        Inserts-linked item item_is prev_is next_is b first2 last2 joined first_is last_is =
-            let named_prev = named-occurs prev (λ k is. beside-occurs place prev next at k (inl is)) in
-            let named_next = named-occurs next (λ k is. beside-occurs place prev next at k (inr is)) in
-            let named_new : named_of most (Some j) ≡ Some j
-            = named_of-within most (Some j) (λ k is. let same : j ≡ k = cc in omega (arith, within-most, ins.vacant.within)) in
-            let whole : link ≡ record { item = item; prev = prev; next = next } = rw (← item_is, ← named_prev, ← named_next, ← prev_is, ← next_is) refl in
-            let ins2 = subst (λ (l : Link T). IsArenaInsertion a a1 l j g) whole ins in
-            rw (joined, first_is, last_is, named_new) (Inserts-joined a a1 first last place prev next item j g laid at ins2)
+        module _ (item : T) (item_is : link.item ≡ item) (prev_is : link.prev ≡ named_of most prev)
+            (next_is : link.next ≡ named_of most next) (b : Arena (Link T)) (first2 last2 : Option ℕ)
+            (joined : b ≡ bridged a1 prev (named_of most (Some j)) next (named_of most (Some j)))
+            (first_is : first2 ≡ end_beside prev first (Some j)) where
+          pub Inserts-linked : last2 ≡ end_beside next last (Some j) → Inserts a b first first2 last2 place item j g
+          Inserts-linked last_is =
+              let named_prev = named-occurs prev (λ k is. beside-occurs k (inl is)) in
+              let named_next = named-occurs next (λ k is. beside-occurs k (inr is)) in
+              let named_new : named_of most (Some j) ≡ Some j
+              = named_of-within most (Some j) (λ k is. let same : j ≡ k = cc in omega (arith, within-most, ins.vacant.within)) in
+              let whole : link ≡ record { item = item; prev = prev; next = next } = rw (← item_is, ← named_prev, ← named_next, ← prev_is, ← next_is) refl in
+              let ins2 = subst (λ (l : Link T). IsArenaInsertion a a1 l j g) whole ins in
+              rw (joined, first_is, last_is, named_new) (Inserts-joined a a1 first last place prev next item j g laid at ins2)
 
     module _ (greatest : Option ℕ) (i : ℕ) (e : ℕ × Link T) (at : slot a i ≡ Some e) where
       -- the writes of links after a removal find their entries
       pub beside-held : (side : Side) (k : ℕ) → neighbour_on side e.1 ≡ Some k → IsSome (slot (arena_removed greatest a i) k)
       beside-held side k is =
-          let other = beside-other side (chain_of a first).entries laid.distinct i k (ap (option_and_then (λ e. neighbour_on side e.1)) (sym (laid.links i) ∙ at) ∙ is) in
+          let other = beside-other side c.entries laid.distinct i k (ap (option_and_then (λ e. neighbour_on side e.1)) (sym (laid.links i) ∙ at) ∙ is) in
           rw (slot-written a i k None (slot-within a i e at), other_index i k other.0) (held-is a.slots _ k held other.1)
 
       -- a removal, from what the arena's removal and the writes of links ensure
       module _ (most : ℕ) (prev next : Option ℕ) (prev_is : prev ≡ e.1.prev) (next_is : next ≡ e.1.next)
-          (named_prev : named_of most e.1.prev ≡ e.1.prev) (named_next : named_of most e.1.next ≡ e.1.next) where
-        pub Removes-linked : (a1 b : Arena (Link T)) (first2 last2 : Option ℕ) → a1 ≡ arena_removed greatest a i
-            → b ≡ bridged a1 prev (named_of most next) next (named_of most prev)
-            → first2 ≡ end_beside prev first next → last2 ≡ end_beside next last prev → Lies b first2 last2 (removed greatest (chain_of a first) i)
-        Removes-linked a1 b first2 last2 without joined first_is last_is = grind (arith, common_steps, Removes-joined)
+          (named_prev : named_of most e.1.prev ≡ e.1.prev) (named_next : named_of most e.1.next ≡ e.1.next) (a1 b : Arena (Link T))
+          (first2 last2 : Option ℕ) (without : a1 ≡ arena_removed greatest a i)
+          (joined : b ≡ bridged a1 prev (named_of most next) next (named_of most prev)) (first_is : first2 ≡ end_beside prev first next) where
+        pub Removes-linked : last2 ≡ end_beside next last prev → Lies b first2 last2 (removed greatest c i)
+        Removes-linked last_is = grind (arith, common_steps, Removes-joined)
 
     -- a call that renews an entry, or changes nothing
-    pub renewed-or_kept : {X : Type 0} (greatest : Option ℕ) (b : Arena (Link T)) (i : ℕ) (o : Option X) → OnSome o (b ≡ arena_renewed greatest a i)
-        → IfNone o (b ≡ a) → IsLaidOut b.slots first last (chain_of b first).entries × OnSome o (chain_of b first ≡ renewed greatest (chain_of a first) i)
-    renewed-or_kept greatest b i None renews keeps = (rw keeps laid, tt)
-    renewed-or_kept greatest b i (Some x) renews keeps = let done = Renews-at a first last laid greatest i in (rw renews done.laid, rw renews done.chain)
+    module _ {X : Type 0} (greatest : Option ℕ) (b : Arena (Link T)) (i : ℕ) where
+      pub renewed-or_kept : (o : Option X) → OnSome o (b ≡ arena_renewed greatest a i) → IfNone o (b ≡ a)
+          → IsChainIn b first last × OnSome o (chain_of b first ≡ renewed greatest c i)
+      renewed-or_kept None renews keeps = (rw keeps laid, tt)
+      renewed-or_kept (Some x) renews keeps = let done = Renews-at a first last laid greatest i in (rw renews done.laid, rw renews done.chain)
 
     -- a call that makes the capacity n or what is needed, or changes nothing
-    pub resized-or_kept : {X E : Type 0} (b : Arena (Link T)) (n : ℕ) (r : Result X E)
-        → OnOk r (b ≡ arena_with_capacity a (max n (greatest_occupied a.slots))) → OnErr r (b ≡ a)
-        → IsLaidOut b.slots first last (chain_of b first).entries × OnOk r (chain_of b first ≡ with_capacity (chain_of a first) (max n (greatest_index (chain_of a first).entries)))
-    resized-or_kept b n (Err e) ok err = (rw err laid, tt)
-    resized-or_kept b n (Ok x) ok err =
-        let done = Lies-resized a first last laid (max n (greatest_occupied a.slots)) (λ k far. past-greatest a.slots k (omega arith)) in
-        (rw ok done.laid, rw ok (done.chain ∙ ap (λ m. with_capacity (chain_of a first) (max n m)) (greatest-links a.slots _ held)))
+    module _ (b : Arena (Link T)) (n : ℕ) where
+      abbrev needed : ℕ
+      needed = max n (greatest_occupied a.slots)
+
+      resized : Lies (arena_with_capacity a needed) first last (with_capacity c needed)
+      resized = Lies-resized a first last laid needed (λ k far. past-greatest a.slots k (omega arith))
+
+      pub resized-laid : {X E : Type 0} (r : Result X E) → OnOk r (b ≡ arena_with_capacity a needed) → OnErr r (b ≡ a) → IsChainIn b first last
+      resized-laid (Err e) ok err = rw err laid
+      resized-laid (Ok x) ok err = rw ok resized.laid
+
+      pub resized-chain : {X E : Type 0} (r : Result X E) → OnOk r (b ≡ arena_with_capacity a needed)
+          → OnOk r (chain_of b first ≡ with_capacity c (max n (greatest_index c.entries)))
+      resized-chain (Err e) ok = tt
+      resized-chain (Ok x) ok = rw ok (resized.chain ∙ ap (λ m. with_capacity c (max n m)) (greatest-links a.slots _ held))
 
   pub Lies-made : (greatest : Option ℕ) (a : Arena (Link T)) (n : ℕ) → a ≡ arena_with_capacity (new_arena greatest) n → Lies a None None (with_capacity (new_chain greatest) n)
   Lies-made greatest a n made = rw made (Lies-resized (new_arena greatest) None None (IsLaidOut-cleared {T = T} 1) n (λ k far. grind (arith, common_steps)))

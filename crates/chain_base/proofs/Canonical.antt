@@ -22,9 +22,9 @@ map-kept v f kept [] = refl
 map-kept v f kept (x ∷ xs) = rw (kept x, map-kept v f kept xs) refl
 
 -- what stands behind an entry, or behind none
-entry_before-at : {X : Type 0} (from : ℕ) (o : Option (ℕ × X)) (xs : List (ℕ × ℕ × X)) (m k : ℕ) (y : ℕ × ℕ × X) → slice_get xs m ≡ Some y
-    → k ≡ cond (is_some o) 1 0 + m → slice_get (entry_before from o xs) k ≡ Some y
-entry_before-at from o xs m k y is at = grind (arith, common_steps)
+module _ {X : Type 0} (from : ℕ) (o : Option (ℕ × X)) (xs : List (ℕ × ℕ × X)) (m k : ℕ) where
+  entry_before-at : (y : ℕ × ℕ × X) → slice_get xs m ≡ Some y → k ≡ cond (is_some o) 1 0 + m → slice_get (entry_before from o xs) k ≡ Some y
+  entry_before-at y is at = grind (arith, common_steps)
 
 module _ {T : Type 0} where
   pub occurs-entry : (es : List (Entry T)) (i : ℕ) → 1 ≤ times i es → is_some (entry_at es i) ≡ true
@@ -47,19 +47,20 @@ module _ {T : Type 0} where
   times-numbered g from (x ∷ xs) i = let ih = times-numbered g (from + 1) xs i in grind (arith, nat_tests)
 
   -- an entry stands at its place among those by rising index
-  rising-at : (es : List (Entry T)) → IsDistinct es → (count from x k : ℕ) (e : ℕ × T) → entry_at es x ≡ Some e → from ≤ x → x < from + count
-      → lesser es from + k ≡ lesser es x → slice_get (rising_among es from count) k ≡ Some (x, e.0, e.1)
-  rising-at es distinct zero from x k e is above below same = absurd (omega arith)
-  rising-at es distinct (suc n) from x k e is above below same =
-      elim (eqb_tells from x) [
-        | inl h ↦ let none : k ≡ 0 = omega (arith, same, ap (lesser es) h.1) in rw (h.1, is, none) refl
-        | inr h ↦
-            let m = lesser es x - lesser es (from + 1) in
-            let far : lesser es (from + 1) ≤ lesser es x = lesser-le es (from + 1) x (omega (arith, h.1)) in
-            let once : times from es ≡ cond (is_some (entry_at es from)) 1 0 = times-link es distinct from ∙ ap (λ b. cond b 1 0) (sym (entry_at-some es from)) in
-            entry_before-at from (entry_at es from) _ m k _ (rising-at es distinct n (from + 1) x m e is (omega (arith, h.1)) (omega arith) (omega arith))
-            (omega (arith, once, lesser-next es from))
-      ]
+  module _ (es : List (Entry T)) (distinct : IsDistinct es) where
+    rising-at : (count from x k : ℕ) (e : ℕ × T) → entry_at es x ≡ Some e → from ≤ x → x < from + count
+        → lesser es from + k ≡ lesser es x → slice_get (rising_among es from count) k ≡ Some (x, e.0, e.1)
+    rising-at zero from x k e is above below same = absurd (omega arith)
+    rising-at (suc n) from x k e is above below same =
+        elim (eqb_tells from x) [
+          | inl h ↦ let none : k ≡ 0 = omega (arith, same, ap (lesser es) h.1) in rw (h.1, is, none) refl
+          | inr h ↦
+              let m = lesser es x - lesser es (from + 1) in
+              let far : lesser es (from + 1) ≤ lesser es x = lesser-le es (from + 1) x (omega (arith, h.1)) in
+              let once : times from es ≡ cond (is_some (entry_at es from)) 1 0 = times-link es distinct from ∙ ap (λ b. cond b 1 0) (sym (entry_at-some es from)) in
+              entry_before-at from (entry_at es from) _ m k _ (rising-at n (from + 1) x m e is (omega (arith, h.1)) (omega arith) (omega arith))
+              (omega (arith, once, lesser-next es from))
+        ]
 
   module _ (most : ℕ) (greatest : Option ℕ) (c : Chain T) (sound : IsSound most greatest c) where
     pub rising-entry : (i : ℕ) (e : ℕ × T) → entry_at c.entries i ≡ Some e → slice_get (entries_rising c) (lesser c.entries i) ≡ Some (i, e.0, e.1)
@@ -87,27 +88,31 @@ module _ {T : Type 0} where
     relocated-indexes g items long i = grind (arith, nat_tests, relocated-inside g i, relocated-within g i, times-numbered g 1 items i)
 
   -- lists whose calls gave each item back
-  map-moved : (all : List (Entry T)) (g : ℕ) (items : List T) (es : List (Entry T)) → IsDistinct es
-      → ((i : ℕ) (e : ℕ × T) → entry_at es i ≡ Some e → slice_index_or items (lesser all i) e.1 ≡ e.1) → map (moved all g items) es ≡ map (at_compressed_index all g) es
-  map-moved all g items [] distinct same = refl
-  map-moved all g items (e ∷ es) distinct same =
-      let here : slice_index_or items (lesser all e.index) e.item ≡ e.item = same e.index (e.generation, e.item) (rw (same_index e.index) refl) in
-      let behind : (i : ℕ) (f : ℕ × T) → entry_at es i ≡ Some f → entry_at (e ∷ es) i ≡ Some f =
-      λ i f is. grind (arith, common_steps, entry-occurs es i, distinct i) in
-      rw (here, map-moved all g items es (λ i. omega (arith, distinct i)) (λ i f is. same i f (behind i f is))) refl
+  module _ (all : List (Entry T)) (g : ℕ) (items : List T) where
+    -- each entry has the item of its place
+    abbrev HasItems : List (Entry T) → Type 0
+    HasItems es = (i : ℕ) (e : ℕ × T) → entry_at es i ≡ Some e → slice_index_or items (lesser all i) e.1 ≡ e.1
+
+    map-moved : (es : List (Entry T)) → IsDistinct es → HasItems es → map (moved all g items) es ≡ map (at_compressed_index all g) es
+    map-moved [] distinct same = refl
+    map-moved (e ∷ es) distinct same =
+        let here : slice_index_or items (lesser all e.index) e.item ≡ e.item = same e.index (e.generation, e.item) (rw (same_index e.index) refl) in
+        let behind : (i : ℕ) (f : ℕ × T) → entry_at es i ≡ Some f → entry_at (e ∷ es) i ≡ Some f =
+        λ i f is. grind (arith, common_steps, entry-occurs es i, distinct i) in
+        rw (here, map-moved es (λ i. omega (arith, distinct i)) (λ i f is. same i f (behind i f is))) refl
 
   -- a compression whose calls give each item back
-  pub compression-relocates : {P F : Type 0} (numbers : P → ℕ × ℕ) (step : F → P → T → P → T → F → Type 0) (g most : ℕ) (greatest : Option ℕ)
-      → ((f : F) (p : P) (x : T) (q : P) (y : T) (h : F) → step f p x q y h → y ≡ x)
-      → (f : F) (old new : Chain T) → IsSound most greatest old → IsCompression numbers step g f old new → new ≡ relocated old g
-  compression-relocates {P} {F} numbers step g most greatest back f old new sound c =
-      let items : c.items ≡ map (λ (e : ℕ × ℕ × T). e.2) (entries_rising old) =
-      sym (map-id c.items) ∙ calls-keep numbers step g (λ (x : T). x) back (entries_rising old) f c.last [] c.items c.calls in
-      let place = λ (i : ℕ). lesser old.entries i in
-      let same = λ (i : ℕ) (e : ℕ × T) (is : entry_at old.entries i ≡ Some e).
-      get_or_from_slice_get c.items (place i) e.1 e.1 (ap (λ xs. slice_get xs (place i)) items
-      ∙ (slice_get-map (λ (e : ℕ × ℕ × T). e.2) (entries_rising old) (place i) ∙ ap (option_map (λ (e : ℕ × ℕ × T). e.2)) (rising-entry most greatest old sound i e is))) in
-      c.after ∙ ap (refilled old g) (map-moved old.entries g c.items old.entries sound.distinct same)
+  module _ {P F : Type 0} (numbers : P → ℕ × ℕ) (step : F → P → T → P → T → F → Type 0) (g most : ℕ) (greatest : Option ℕ)
+      (back : (f : F) (p : P) (x : T) (q : P) (y : T) (h : F) → step f p x q y h → y ≡ x) (f : F) (old new : Chain T) where
+    pub compression-relocates : IsSound most greatest old → IsCompression numbers step g f old new → new ≡ relocated old g
+    compression-relocates sound c =
+        let items : c.items ≡ map (λ (e : ℕ × ℕ × T). e.2) (entries_rising old) =
+        sym (map-id c.items) ∙ calls-keep numbers step g (λ (x : T). x) back c.last c.items (entries_rising old) f [] c.calls in
+        let place = λ (i : ℕ). lesser old.entries i in
+        let same = λ (i : ℕ) (e : ℕ × T) (is : entry_at old.entries i ≡ Some e).
+        get_or_from_slice_get c.items (place i) e.1 e.1 (ap (λ xs. slice_get xs (place i)) items
+        ∙ (slice_get-map (λ (e : ℕ × ℕ × T). e.2) (entries_rising old) (place i) ∙ ap (option_map (λ (e : ℕ × ℕ × T). e.2)) (rising-entry most greatest old sound i e is))) in
+        c.after ∙ ap (refilled old g) (map-moved old.entries g c.items old.entries sound.distinct same)
 
   -- all entries have generation g
   abbrev pub eras : List (Entry T) → List ℕ
@@ -160,9 +165,10 @@ module _ {T : Type 0} where
     pub kept : now ≡ record c { entries = now.entries }
     pub era : c.generation ≡ g
 
-  pub canonical-begins : (most : ℕ) (greatest : Option ℕ) (c c1 : Chain T) (g : ℕ) (at : Option ℕ) → IsSound most greatest c → c1 ≡ relocated c g → at ≡ first_or None c1.entries
-      → CanonicalBelow (relocated c g) g (length c.entries) (map (λ e. e.item) c.entries) c1 at 0
-  canonical-begins most greatest c c1 g at sound is first = grind (arith, common_steps, relocated-items, length-map, relocated-indexes, relocated-eras)
+  module _ (most : ℕ) (greatest : Option ℕ) (c c1 : Chain T) (g : ℕ) (at : Option ℕ) (sound : IsSound most greatest c)
+      (is : c1 ≡ relocated c g) (first : at ≡ first_or None c1.entries) where
+    pub canonical-begins : CanonicalBelow (relocated c g) g (length c.entries) (map (λ e. e.item) c.entries) c1 at 0
+    canonical-begins = grind (arith, common_steps, relocated-items, length-map, relocated-indexes, relocated-eras)
 
   module _ {c : Chain T} {g n : ℕ} {items : List T} {now : Chain T} {at : Option ℕ} {k : ℕ} (b : CanonicalBelow c g n items now at k) where
     distinct : IsDistinct now.entries
@@ -244,9 +250,10 @@ module _ {T : Type 0} where
   vacant-same xs ys (suc n) from same = rw (same from (omega arith), vacant-same xs ys n (from + 1) (λ m far. same m (omega (arith, far)))) refl
 
   -- at last all have
-  pub canonical-ends : (most : ℕ) (greatest : Option ℕ) (c : Chain T) (g : ℕ) (now : Chain T) (at : Option ℕ) (k : ℕ) → IsSound most greatest c → length c.entries ≤ k
-      → CanonicalBelow (relocated c g) g (length c.entries) (map (λ e. e.item) c.entries) now at k → now ≡ canonical c g
-  canonical-ends most greatest c g now at k sound past b = grind (arith, common_steps, lengths, append-nil, vacant-same, relocated-indexes, length-map)
+  module _ (most : ℕ) (greatest : Option ℕ) (c : Chain T) (g : ℕ) (now : Chain T) (at : Option ℕ) (k : ℕ) (sound : IsSound most greatest c)
+      (past : length c.entries ≤ k) where
+    pub canonical-ends : CanonicalBelow (relocated c g) g (length c.entries) (map (λ e. e.item) c.entries) now at k → now ≡ canonical c g
+    canonical-ends b = grind (arith, common_steps, lengths, append-nil, vacant-same, relocated-indexes, length-map)
 
 -- an index that a chosen one is
 pub chosen : {I : Type 0} (number : I → ℕ) (o : Option I) (k : ℕ) → option_map number o ≡ Some k → is_some o ≡ true

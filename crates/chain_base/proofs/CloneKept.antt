@@ -14,16 +14,17 @@ use Rattle.chain_base.proofs.Canonical.{entry-absent, entry-occurs, rising-entry
 use Rattle.chain_base.proofs.Cloning.{alike-pointers}
 
 -- the links by rising index are the entries by rising index
-links-entries : {U K : Type 0} (see : U → K) (es : List (Entry U)) (from count : ℕ)
-    → map (λ (e : ℕ × ℕ × Link U). see e.2.item) (links_among es from count) ≡ map (λ (e : ℕ × ℕ × U). see e.2) (rising_among es from count)
-links-entries see es from zero = refl
-links-entries see es from (suc count) = grind (arith, common_steps, entry_at-link None None es from, links-entries see es (from + 1) count)
+module _ {U K : Type 0} (see : U → K) where
+  links-entries : (es : List (Entry U)) (from count : ℕ)
+      → map (λ (e : ℕ × ℕ × Link U). see e.2.item) (links_among es from count) ≡ map (λ (e : ℕ × ℕ × U). see e.2) (rising_among es from count)
+  links-entries es from zero = refl
+  links-entries es from (suc count) = grind (arith, common_steps, entry_at-link None None es from, links-entries es (from + 1) count)
 
 module _ {P T U F K : Type 0} (numbers : P → ℕ × ℕ) (step : F → P → Link U → T → F → Type 0) (see : U → K) (keep : T → K)
-    (keeps : (f : F) (p : P) (u : Link U) (x : T) (g : F) → step f p u x g → keep x ≡ see u.item) where
-  pub clone-kept : (most : ℕ) (greatest : Option ℕ) (f : F) (source : Chain U) → IsSound most greatest source → (old new : Chain T) → IsClone numbers step f source old new
-      → (i : ℕ) → option_map (λ e. keep e.1) (entry_at new.entries i) ≡ option_map (λ e. see e.1) (entry_at source.entries i)
-  clone-kept most greatest f source sound old new c i = by (entry_at source.entries i) refl
+    (keeps : (f : F) (p : P) (u : Link U) (x : T) (g : F) → step f p u x g → keep x ≡ see u.item) (most : ℕ) (greatest : Option ℕ) (f : F)
+    (source : Chain U) (sound : IsSound most greatest source) (old new : Chain T) (c : IsClone numbers step f source old new) where
+  pub clone-kept : (i : ℕ) → option_map (λ e. keep e.1) (entry_at new.entries i) ≡ option_map (λ e. see e.1) (entry_at source.entries i)
+  clone-kept i = by (entry_at source.entries i) refl
     where
       items : map keep c.items ≡ map (λ (e : ℕ × ℕ × U). see e.2) (entries_rising source)
       items = clones-keep numbers step (λ (u : Link U). see u.item) keep keeps (links_rising source) f c.last [] c.items c.calls ∙ links-entries see source.entries 1 source.capacity
@@ -40,24 +41,27 @@ module _ {P T U F K : Type 0} (numbers : P → ℕ × ℕ) (step : F → P → L
           grind (arith, common_steps, made, kept, rises)
 
 -- lists of the same pointers whose indexes find the same items
-pub same_entries : {T : Type 0} (es fs : List (Entry T)) → IsDistinct es → pointers fs ≡ pointers es
-    → ((i : ℕ) → option_map (λ e. e.1) (entry_at fs i) ≡ option_map (λ e. e.1) (entry_at es i)) → fs ≡ es
-same_entries [] [] distinct order items = refl
-same_entries {T} (e ∷ es) (f ∷ fs) distinct order items =
-    let rest : pointers fs ≡ pointers es = cc in
-    let alike = alike-pointers fs es rest in
-    let here = items e.index in
-    let more = same_entries es fs (λ i. omega (arith, distinct i)) rest
-    (λ i. grind (arith, common_steps, items i, distinct i, alike.count i, entry_at-absent fs i, entry_at-absent es i)) in
-    grind (arith, common_steps)
-same_entries es fs distinct order items = absurd cc
+module _ {T : Type 0} where
+  pub same_entries : (es fs : List (Entry T)) → IsDistinct es → pointers fs ≡ pointers es
+      → ((i : ℕ) → option_map (λ e. e.1) (entry_at fs i) ≡ option_map (λ e. e.1) (entry_at es i)) → fs ≡ es
+  same_entries [] [] distinct order items = refl
+  same_entries (e ∷ es) (f ∷ fs) distinct order items =
+      let rest : pointers fs ≡ pointers es = cc in
+      let alike = alike-pointers fs es rest in
+      let here = items e.index in
+      let more = same_entries es fs (λ i. omega (arith, distinct i)) rest
+      (λ i. grind (arith, common_steps, items i, distinct i, alike.count i, entry_at-absent fs i, entry_at-absent es i)) in
+      grind (arith, common_steps)
+  same_entries es fs distinct order items = absurd cc
 
 -- a clone by calls that each answer the item that they are shown
-pub clone-same : {P U F : Type 0} (numbers : P → ℕ × ℕ) (step : F → P → Link U → U → F → Type 0) → ((f : F) (p : P) (u : Link U) (x : U) (g : F) → step f p u x g → x ≡ u.item)
-    → (most : ℕ) (greatest : Option ℕ) (f : F) (source : Chain U) → IsSound most greatest source → (old new : Chain U) → IsClone numbers step f source old new → new ≡ taken_over source old source.entries
-clone-same {U = U} numbers step answers most greatest f source sound old new c =
-    c.after
-    ∙ ap (taken_over source old) (same_entries source.entries new.entries sound.distinct c.entries.order (clone-kept numbers step (λ (u : U). u) (λ (u : U). u) answers most greatest f source sound old new c))
+module _ {P U F : Type 0} (numbers : P → ℕ × ℕ) (step : F → P → Link U → U → F → Type 0)
+    (answers : (f : F) (p : P) (u : Link U) (x : U) (g : F) → step f p u x g → x ≡ u.item) (most : ℕ) (greatest : Option ℕ) (f : F)
+    (source : Chain U) (sound : IsSound most greatest source) where
+  pub clone-same : (old new : Chain U) → IsClone numbers step f source old new → new ≡ taken_over source old source.entries
+  clone-same old new c =
+      c.after
+      ∙ ap (taken_over source old) (same_entries source.entries new.entries sound.distinct c.entries.order (clone-kept numbers step (λ (u : U). u) (λ (u : U). u) answers most greatest f source sound old new c))
 
 -- no links are shown of a list without entries
 links-none : {U : Type 0} (from count : ℕ) → links_among {U = U} [] from count ≡ []
@@ -65,10 +69,10 @@ links-none from zero = refl
 links-none from (suc count) = links-none (from + 1) count
 
 -- where an item was refused, there are entries
-pub refused-some : {P T U F : Type 0} (numbers : P → ℕ × ℕ) (step : F → P → Link U → Result T AllocError → F → Type 0) (f : F) (source : Chain U) (old new : Chain T) → IsRefusedClone numbers step f source old new
-    → 0 < length source.entries
-refused-some {U = U} numbers step f source old new c = by source.entries refl c.stops.split
-  where
-    by : (es : List (Entry U)) → source.entries ≡ es → links_among es 1 source.capacity ≡ c.stops.before ++ c.stops.refused ∷ c.stops.behind → 0 < length source.entries
-    by [] is split = absurd (omega (arith, ap length split, length-append c.stops.before (c.stops.refused ∷ c.stops.behind), ap length (links-none {U = U} 1 source.capacity)))
-    by (e ∷ es) is split = rw is (omega arith)
+module _ {P T U F : Type 0} (numbers : P → ℕ × ℕ) (step : F → P → Link U → Result T AllocError → F → Type 0) (f : F) where
+  pub refused-some : (source : Chain U) (old new : Chain T) → IsRefusedClone numbers step f source old new → 0 < length source.entries
+  refused-some source old new c = by source.entries refl c.stops.split
+    where
+      by : (es : List (Entry U)) → source.entries ≡ es → links_among es 1 source.capacity ≡ c.stops.before ++ c.stops.refused ∷ c.stops.behind → 0 < length source.entries
+      by [] is split = absurd (omega (arith, ap length split, length-append c.stops.before (c.stops.refused ∷ c.stops.behind), ap length (links-none {U = U} 1 source.capacity)))
+      by (e ∷ es) is split = rw is (omega arith)

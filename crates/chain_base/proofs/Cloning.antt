@@ -1,6 +1,5 @@
 -- A clone of a chain: its slots hold the source's links with other items, so it is the source's list with these items.
-use Rattle.std.proofs.Common.{OnOk, Ok, ◌≡◌, ℕ, suc, ◌+◌, ◌<◌, ◌≤◌, max, List, [], ◌∷◌, length, map, take, get_or, slice_get}
-use Rattle.std.proofs.Common.{Option, Some, None, Result, Err, MatchResult, count_by, is_some, refl, sym, ap, ◌∙◌, arith, inl, inr, ◌⊎◌, ◌==◌, true, false, map-id, option_map}
+use Rattle.std.proofs.Common.{OnOk, Ok, ◌≡◌, ℕ, suc, ◌+◌, ◌<◌, ◌≤◌, max, List, [], ◌∷◌, length, map, take, get_or, slice_get, Option, Some, None, Result, Err, MatchResult, count_by, is_some, refl, sym, ap, ◌∙◌, arith, inl, inr, ◌⊎◌, ◌==◌, true, false, map-id, option_map}
 use Rattle.std.proofs.lemmas.Grind.{common_steps}
 use Rattle.std.proofs.lemmas.Bool.{false≢true}
 use Rattle.std.specs.List.{FoldsTo}
@@ -17,7 +16,7 @@ use Rattle.chain_base.specs.Walk.{pointers}
 use Rattle.chain_base.specs.Clone.{links_among, links_rising, HasItems, taken_over, ClonesLink, IsClone, IsRefusedClone}
 use Rattle.chain_base.specs.Layout.{chain_of, met, IsLaidOut}
 use Rattle.chain_base.proofs.Lists.{option_map-itself, IsRow, IsRow-links, link_between-absent, entry_at-link, SameIndexes}
-use Rattle.chain_base.proofs.LaidOut.{laid-held, IsLaidOut-walked}
+use Rattle.chain_base.proofs.LaidOut.{IsChainIn, laid-held, IsLaidOut-walked}
 use Rattle.chain_base.proofs.Ranking.{place-slots, among-arena}
 use Rattle.chain_base.proofs.Vacancy.{HoldIndexes, held-some, held-is, get_or-resized, length-resized, vacant-held, greatest-links, past-greatest, held-occurs}
 use Rattle.chain_base.proofs.Steps.{Lies, lies, held-laid, IsLaidOut-resized, IsLaidOut-cleared}
@@ -55,7 +54,10 @@ module _ {T U : Type 0} where
     row-links before (e ∷ es) row i there = grind (arith, common_steps, row-links (Some e.index) es row.1 i, row)
 
   -- slots with items have the source's generations and neighbours
-  with_items-frame : (i : ℕ) (slots : List (Option (ℕ × Link U))) (items : List (Link T)) → map ends_of items ≡ map (λ (e : ℕ × ℕ × Link U). ends_of e.2) (entries_from i slots)
+  abbrev KeepEnds : ℕ → List (Option (ℕ × Link U)) → List (Link T) → Type 0
+  KeepEnds i slots items = map ends_of items ≡ map (λ (e : ℕ × ℕ × Link U). ends_of e.2) (entries_from i slots)
+
+  with_items-frame : (i : ℕ) (slots : List (Option _)) (items : List (Link T)) → KeepEnds i slots items
       → (k : ℕ) → frame (get_or (with_items slots items) k None) ≡ frame (get_or slots k None)
   with_items-frame i (None ∷ slots) items same (suc k) = with_items-frame (i + 1) slots items same k
   with_items-frame i (Some e ∷ slots) (x ∷ items) same (suc k) = with_items-frame (i + 1) slots items (cc) k
@@ -95,11 +97,12 @@ link_step step inner m p link answer n = MatchResult answer (λ new. ClonesLink 
 
 module _ {P T U M N : Type 0} (numbers : P → ℕ × ℕ) (step : M → P → Link U → Result T AllocError → M → Type 0) (inner : N → M) where
   -- the calls, told of items
-  items-told : (es : List (ℕ × ℕ × Link U)) (m n : N) (ys : List (Link T)) → FoldsTo {P = N × List (Link T)} (CloneStep numbers (Grants numbers (link_step step inner))) (m, []) es (n, ys)
-      → FoldsTo {P = M × List T} (CloneStep numbers (Grants numbers step)) (inner m, []) es (inner n, map (λ l. l.item) ys)
-  items-told es m n ys calls =
-      let told = clones-retold numbers (Grants numbers (link_step step inner)) (Grants numbers step) inner (λ u. u) (λ l. l.item) (λ m p u x n made. made.called) es m n [] ys calls in
-      rw (map-id es) at told
+  module _ (es : List (ℕ × ℕ × Link U)) (m n : N) (ys : List (Link T))
+      (calls : FoldsTo {P = N × List (Link T)} (CloneStep numbers (Grants numbers (link_step step inner))) (m, []) es (n, ys)) where
+    items-told : FoldsTo {P = M × List T} (CloneStep numbers (Grants numbers step)) (inner m, []) es (inner n, map (λ l. l.item) ys)
+    items-told =
+        let told = clones-retold numbers (Grants numbers (link_step step inner)) (Grants numbers step) inner (λ u. u) (λ l. l.item) (λ m p u x n made. made.called) es m n [] ys calls in
+        rw (map-id es) at told
 
   -- the same of a refusal
   stops-told : (m : N) (es : List (ℕ × ℕ × Link U)) → StopsAtRefusal {T = Link T} numbers (link_step step inner) m es → StopsAtRefusal numbers step (inner m) es
@@ -107,7 +110,7 @@ module _ {P T U M N : Type 0} (numbers : P → ℕ × ℕ) (step : M → P → L
       let told = stops-retold numbers (link_step step inner) step inner (λ u. u) (λ l. l.item) (λ m p u x n made. made.called) (λ m p u e n called. called) m es s in
       rw (map-id es) at told
 
-  module _ (most : ℕ) (greatest : Option ℕ) (a0 : Arena (Link U)) (first last : Option ℕ) (laid : IsLaidOut a0.slots first last (chain_of a0 first).entries)
+  module _ (most : ℕ) (greatest : Option ℕ) (a0 : Arena (Link U)) (first last : Option ℕ) (laid : IsChainIn a0 first last)
       (sound : IsSound most greatest (chain_of a0 first)) (a b : Arena (Link T)) (m : N) where
     abbrev es : List (Entry U)
     es = (chain_of a0 first).entries
@@ -178,20 +181,21 @@ module _ {P T U M N : Type 0} (numbers : P → ℕ × ℕ) (step : M → P → L
     rising-told stops = rw (← rising) (stops-told m (entries_rising a0 0) stops)
 
 -- a refusal leaves no entry
-pub refused-chain : {T U : Type 0} (a0 : Arena (Link U)) (first last : Option ℕ) → IsLaidOut a0.slots first last (chain_of a0 first).entries → (a b : Arena (Link T)) (first1 : Option ℕ)
-    → b ≡ replaced a0 a [] → chain_of b None ≡ taken_over (chain_of a0 first) (chain_of a first1) []
-refused-chain {T} a0 first last laid a b first1 is =
-    let size = max (arena_capacity a) (greatest_occupied a0.slots) in
-    let none : IsLaidOut b.slots None None [] = rw is (resized-laid (size + 1)) in
-    let long : length b.slots ≡ size + 1 = ap (λ (x : Arena (Link T)). length x.slots) is ∙ length-resized (size + 1) [] in
-    let capacity : arena_capacity b ≡ max (arena_capacity a) (greatest_index (chain_of a0 first).entries) = omega (arith, long, greatest-links a0.slots _ (held-laid a0.slots first last _ laid)) in
-    let fresh : IsFresh b = rw is refl in
-    let done = lies b None None (taken_over (chain_of a0 first) (chain_of a first1) []) none capacity
-    (fresh ∙ vacant-held {T = T} b.slots [] (held-laid b.slots None None [] none) ∙ ap (vacant_indexes {T = T} []) capacity) (ap (λ (x : Arena (Link T)). x.generation) is) (ap (λ (x : Arena (Link T)). x.maximum) is) in
-    done.chain
+module _ {T U : Type 0} (a0 : Arena (Link U)) (first last : Option ℕ) (laid : IsChainIn a0 first last)
+    (a b : Arena (Link T)) where
+  pub refused-chain : (first1 : Option ℕ) → b ≡ replaced a0 a [] → chain_of b None ≡ taken_over (chain_of a0 first) (chain_of a first1) []
+  refused-chain first1 is =
+      let size = max (arena_capacity a) (greatest_occupied a0.slots) in
+      let none : IsLaidOut b.slots None None [] = rw is (resized-laid (size + 1)) in
+      let long : length b.slots ≡ size + 1 = ap (λ (x : Arena (Link T)). length x.slots) is ∙ length-resized (size + 1) [] in
+      let capacity : arena_capacity b ≡ max (arena_capacity a) (greatest_index (chain_of a0 first).entries) = omega (arith, long, greatest-links a0.slots _ (held-laid a0.slots first last _ laid)) in
+      let fresh : IsFresh b = rw is refl in
+      let done = lies b None None (taken_over (chain_of a0 first) (chain_of a first1) []) none capacity
+      (fresh ∙ vacant-held {T = T} b.slots [] (held-laid b.slots None None [] none) ∙ ap (vacant_indexes {T = T} []) capacity) (ap (λ (x : Arena (Link T)). x.generation) is) (ap (λ (x : Arena (Link T)). x.maximum) is) in
+      done.chain
 
 -- the receiver after a refusal: as it was, or without entries
-module _ {T U : Type 0} (a0 : Arena (Link U)) (a b : Arena (Link T)) (first last : Option ℕ) (laid : IsLaidOut a.slots first last (chain_of a first).entries)
+module _ {T U : Type 0} (a0 : Arena (Link U)) (a b : Arena (Link T)) (first last : Option ℕ) (laid : IsChainIn a first last)
     (r : Result (Unit {0}) ReallocationError) (e : ReallocationError) (is : r ≡ Err e) (beyond : r ≡ Err BeyondMaxCapacity → b ≡ a) {A B : Type 0} (stops : B → b ≡ replaced a0 a []) (memory : r ≡ Err NoMemory → (A × (b ≡ a)) ⊎ B) where
   left : (b ≡ a) ⊎ (b ≡ replaced a0 a [])
   left = grind (arith, common_steps, beyond)
@@ -199,28 +203,30 @@ module _ {T U : Type 0} (a0 : Arena (Link U)) (a b : Arena (Link T)) (first last
   no-ends : arena_len a ≡ 0 → (first ≡ None) × (last ≡ None)
   no-ends none = grind (arith, common_steps)
 
-  pub empty-laid : (arena_len b == 0) ≡ true → IsLaidOut b.slots None None (chain_of b None).entries
+  pub empty-laid : (arena_len b == 0) ≡ true → IsChainIn b None None
   empty-laid empty = grind (arith, common_steps, IsLaidOut-walked, left, no-ends, resized-laid)
 
   pub unrefused : (arena_len b == 0) ≡ false → b ≡ replaced a0 a [] → ⊥
   unrefused some gone = grind (arith, common_steps, false≢true, resized-laid)
 
-  pub filled-laid : (arena_len b == 0) ≡ false → IsLaidOut b.slots first last (chain_of b first).entries
+  pub filled-laid : (arena_len b == 0) ≡ false → IsChainIn b first last
   filled-laid some = elim left [ inl kept ↦ rw kept laid | inr gone ↦ absurd (unrefused some gone) ]
 
   pub kept-chain : b ≡ a → (arena_len b == 0) ≡ true → chain_of b None ≡ chain_of a first
   kept-chain kept empty = grind (arith, common_steps, no-ends)
 
 -- A clone in states of one kind is one in those of another.
-module _ {P T U M F : Type 0} (numbers : P → ℕ × ℕ) (below : M → P → Link U → T → M → Type 0) (above : F → P → Link U → T → F → Type 0) (state : M → F)
+module _ {P T U M F X E : Type 0} (numbers : P → ℕ × ℕ) (below : M → P → Link U → T → M → Type 0) (above : F → P → Link U → T → F → Type 0) (state : M → F)
     (like : (m : M) (p : P) (u : Link U) (x : T) (n : M) → below m p u x n → above (state m) p u x (state n)) where
-  pub clone-restated : {E : Type 0} (r : Result (Unit {0}) E) (m : M) (source : Chain U) (old new : Chain T) → OnOk r (IsClone numbers below m source old new) → OnOk r (IsClone numbers above (state m) source old new)
+  pub clone-restated : (r : Result X E) (m : M) (source : Chain U) (old new : Chain T) → OnOk r (IsClone numbers below m source old new) → OnOk r (IsClone numbers above (state m) source old new)
   clone-restated (Ok x) m source old new c =
       record { items = c.items; last = state c.last; calls = clones-restated numbers below above state like (links_rising source) m c.last c.items c.calls; entries = c.entries; after = c.after }
   clone-restated (Err e) m source old new c = tt
 
 -- the same of a refusal
-pub refusal-restated : {P T U M F : Type 0} (numbers : P → ℕ × ℕ) (below : M → P → Link U → Result T AllocError → M → Type 0) (above : F → P → Link U → Result T AllocError → F → Type 0) (state : M → F)
-    → ((m : M) (p : P) (u : Link U) (r : Result T AllocError) (n : M) → below m p u r n → above (state m) p u r (state n))
-    → (m : M) (source : Chain U) (old new : Chain T) → IsRefusedClone numbers below m source old new → IsRefusedClone numbers above (state m) source old new
-refusal-restated numbers below above state like m source old new c = grind (arith, common_steps, stops-restated)
+module _ {P T U M F : Type 0} (numbers : P → ℕ × ℕ) (below : M → P → Link U → Result T AllocError → M → Type 0)
+    (above : F → P → Link U → Result T AllocError → F → Type 0) (state : M → F)
+    (like : (m : M) (p : P) (u : Link U) (r : Result T AllocError) (n : M) → below m p u r n → above (state m) p u r (state n)) (m : M)
+    (source : Chain U) (old new : Chain T) where
+  pub refusal-restated : IsRefusedClone numbers below m source old new → IsRefusedClone numbers above (state m) source old new
+  refusal-restated c = grind (arith, common_steps, stops-restated)

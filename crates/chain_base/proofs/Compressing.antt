@@ -1,6 +1,5 @@
 -- A chain is compressed: its entries learn their places, the arena is compressed, and the places are linked back.
-use Rattle.std.proofs.Common.{◌≡◌, ℕ, zero, suc, ◌+◌, ◌-◌, ◌<◌, ◌≤◌, true, List, [], ◌∷◌, length, map}
-use Rattle.std.proofs.Common.{take, slice_get, slice_index_or, Option, Some, None, is_some, count_by, cond, get_or, refl, sym, ap, ◌∙◌, arith, inl, inr, add-one, option_map, option_and_then}
+use Rattle.std.proofs.Common.{◌≡◌, ℕ, zero, suc, ◌+◌, ◌-◌, ◌<◌, ◌≤◌, true, List, [], ◌∷◌, length, map, take, slice_get, slice_index_or, Option, Some, None, is_some, count_by, cond, get_or, refl, sym, ap, ◌∙◌, arith, inl, inr, add-one, option_map, option_and_then}
 use Rattle.std.proofs.lemmas.Grind.{common_steps}
 use Rattle.std.proofs.lemmas.Bool.{false≢true}
 use Rattle.std.proofs.lemmas.Bool.Decides.{eqb_tells}
@@ -25,13 +24,17 @@ use Rattle.chain_base.proofs.Sound.{first-vacant}
 use Rattle.chain_base.proofs.Steps.{Lies, lies, held-laid}
 
 module _ {T : Type 0} where
-  -- the links that the calls made, beside those that they were shown
-  link-at : (ls : List (Link T)) (rs : List (ℕ × ℕ × Link T)) → map (λ l. l.prev) ls ≡ map (λ r. r.2.prev) rs → map (λ l. l.next) ls ≡ map (λ r. r.2.next) rs
-      → (k : ℕ) (r : ℕ × ℕ × Link T) → slice_get rs k ≡ Some r → (l : Link T) × (slice_get ls k ≡ Some l) × (l.prev ≡ r.2.prev) × (l.next ≡ r.2.next)
-  link-at ls [] prev next k r is = absurd cc
-  link-at [] (s ∷ rs) prev next k r is = absurd cc
-  link-at (l ∷ ls) (s ∷ rs) prev next zero r is = (l, refl, (cc), (cc))
-  link-at (l ∷ ls) (s ∷ rs) prev next (suc k) r is = link-at ls rs (cc) (cc) k r is
+  -- links with the neighbours of those that were shown
+  abbrev HaveEnds : List (Link T) → List (ℕ × ℕ × Link T) → Type 0
+  HaveEnds ls rs = (map (λ l. l.prev) ls ≡ map (λ r. r.2.prev) rs) × (map (λ l. l.next) ls ≡ map (λ r. r.2.next) rs)
+
+  module _ (r : ℕ × ℕ × Link T) where
+    link-at : (ls : List (Link T)) (rs : List (ℕ × ℕ × Link T)) → HaveEnds ls rs → (k : ℕ) → slice_get rs k ≡ Some r
+        → (l : Link T) × (slice_get ls k ≡ Some l) × (l.prev ≡ r.2.prev) × (l.next ≡ r.2.next)
+    link-at ls [] ends k is = absurd cc
+    link-at [] (s ∷ rs) ends k is = absurd (let prev = ends.0 in cc)
+    link-at (l ∷ ls) (s ∷ rs) ends zero is = let prev = ends.0 in let next = ends.1 in (l, refl, (cc), (cc))
+    link-at (l ∷ ls) (s ∷ rs) ends (suc k) is = let prev = ends.0 in let next = ends.1 in link-at ls rs ((cc), (cc)) k is
 
   link-is : (l : Link T) (item : T) (prev next : Option ℕ) → item ≡ l.item → l.prev ≡ prev → l.next ≡ next → l ≡ record { item = item; prev = prev; next = next }
   link-is l item prev next i p n = rw (i, ← p, ← n) refl
@@ -40,9 +43,13 @@ module _ {T : Type 0} where
   fewer slots some none = grind (arith, common_steps, sum_by-cons, count_by-le-length)
 
   -- links with other previous neighbours, or with next ones that have learnt their places
-  next-kept : (o : Option (ℕ × Link T)) (p : Option ℕ) → (option_and_then (λ e. e.1.next) (option_map (with_prev p) o) ≡ option_and_then (λ e. e.1.next) o)
-      × (is_some (option_map (with_prev p) o) ≡ is_some o) × (option_map (with_prev p) (option_map (with_prev p) o) ≡ option_map (with_prev p) o)
-      × (option_map (with_prev (option_map (λ i. i) (option_and_then (λ e. e.1.prev) o))) (option_map (with_prev p) o) ≡ o)
+  record KeepsNext (o : Option (ℕ × Link T)) (p : Option ℕ) : Type 0 where
+    next : option_and_then (λ e. e.1.next) (option_map (with_prev p) o) ≡ option_and_then (λ e. e.1.next) o
+    held : is_some (option_map (with_prev p) o) ≡ is_some o
+    again : option_map (with_prev p) (option_map (with_prev p) o) ≡ option_map (with_prev p) o
+    back : option_map (with_prev (option_map (λ i. i) (option_and_then (λ e. e.1.prev) o))) (option_map (with_prev p) o) ≡ o
+
+  next-kept : (o : Option (ℕ × Link T)) (p : Option ℕ) → KeepsNext o p
   next-kept o p = grind (arith, common_steps, option_map-itself)
 
   unlinked : (o : Option (ℕ × Link T)) → option_and_then (λ e. e.1.next) o ≡ None → option_map (with_next None) o ≡ o
@@ -51,9 +58,11 @@ module _ {T : Type 0} where
   abbrev to_place : (ℕ → ℕ) → ℕ × Link T → ℕ × Link T
   to_place place e = (e.0, record e.1 { next = option_map place e.1.next })
 
-  linked : (place : ℕ → ℕ) (o : Option (ℕ × Link T)) → (option_map (with_next (option_map place (option_and_then (λ e. e.1.next) o))) o ≡ option_map (to_place place) o)
-      × (option_map {U = ℕ × T} (λ e. (e.0, e.1.item)) (option_map (to_place place) o) ≡ option_map (λ e. (e.0, e.1.item)) o)
+  linked : (place : ℕ → ℕ) (o : Option (ℕ × Link T)) → option_map (with_next (option_map place (option_and_then (λ e. e.1.next) o))) o ≡ option_map (to_place place) o
   linked place o = grind (arith, common_steps)
+
+  placed-entry : (place : ℕ → ℕ) (o : Option (ℕ × Link T)) → option_map {U = ℕ × T} (λ e. (e.0, e.1.item)) (option_map (to_place place) o) ≡ option_map (λ e. (e.0, e.1.item)) o
+  placed-entry place o = grind (arith, common_steps)
 
   module _ (a0 : Arena (Link T)) (first last : Option ℕ) (es : List (Entry T)) (laid : IsLaidOut a0.slots first last es) where
     abbrev place : ℕ → ℕ
@@ -76,7 +85,7 @@ module _ {T : Type 0} where
       after1 : (k : ℕ) → slot a1 k ≡ option_map (to_place place) (link_at es k)
       after1 k =
           learnt Before a0 es laid.distinct held0 names0 a1 end1 n1 place place-first k (λ none. rw (laid.links k) (unlinked (link_at es k) none))
-          ∙ rw (laid.links k) (linked place (link_at es k)).0
+          ∙ rw (laid.links k) (linked place (link_at es k))
 
       held1 : HoldIndexes a1.slots es
       held1 k = held0 k ∙ ap (λ b. cond b 1 0) (sym (n1.held k))
@@ -107,15 +116,16 @@ module _ {T : Type 0} where
         at2 k = ap (λ ss. get_or ss (suc k) None) c.after.slots ∙ compressed-at (length a1.slots) g c.links k fits
 
         -- an entry's link has come to its place
-        after2 : (x : ℕ) (e : ℕ × Link T) → link_at es x ≡ Some e
-            → slot a2 (place x) ≡ Some (g, record { item = slice_index_or items (lesser es x) e.1.item; prev = e.1.prev; next = option_map place e.1.next })
-        after2 x e is =
-            let ranks = rw (place-slots a1.slots es held1 x) at (entry-placed 0 a1.slots x (to_place place e) (rw is at (after1 x))) in
-            let l = link-at c.links ranked c.before c.behind (lesser es x) _ ranks in
-            let item : slice_index_or items (lesser es x) e.1.item ≡ l.0.item =
-            get_or_from_slice_get items (lesser es x) l.0.item e.1.item (slice_get-map (λ (l : Link T). l.item) c.links (lesser es x) ∙ ap (option_map (λ l. l.item)) l.1) in
-            ap (slot a2) (add-one (lesser es x)) ∙ (at2 (lesser es x) ∙ ap (option_map (with_era g)) l.1
-            ∙ ap (λ (l : Link T). Some (g, l)) (link-is l.0 (slice_index_or items (lesser es x) e.1.item) e.1.prev (option_map place e.1.next) item l.2 l.3))
+        module _ (x : ℕ) where
+          after2 : (e : ℕ × Link T) → link_at es x ≡ Some e
+              → slot a2 (place x) ≡ Some (g, record { item = slice_index_or items (lesser es x) e.1.item; prev = e.1.prev; next = option_map place e.1.next })
+          after2 e is =
+              let ranks = rw (place-slots a1.slots es held1 x) at (entry-placed 0 a1.slots x (to_place place e) (rw is at (after1 x))) in
+              let l = link-at _ c.links ranked (c.before, c.behind) (lesser es x) ranks in
+              let item : slice_index_or items (lesser es x) e.1.item ≡ l.0.item =
+              get_or_from_slice_get items (lesser es x) l.0.item e.1.item (slice_get-map (λ (l : Link T). l.item) c.links (lesser es x) ∙ ap (option_map (λ l. l.item)) l.1) in
+              ap (slot a2) (add-one (lesser es x)) ∙ (at2 (lesser es x) ∙ ap (option_map (with_era g)) l.1
+              ∙ ap (λ (l : Link T). Some (g, l)) (link-is l.0 (slice_index_or items (lesser es x) e.1.item) e.1.prev (option_map place e.1.next) item l.2 l.3))
 
         -- what stands in the compressed arena came from the list
         source2 : (k : ℕ) → is_some (slot a2 k) ≡ true → (x : ℕ) × (place x ≡ k) × (1 ≤ times x es)
@@ -130,7 +140,10 @@ module _ {T : Type 0} where
         distinct2 = distinct-renumbered place alter es laid.distinct (place-injective es)
 
         -- so the arena holds the links of the list now, but for the previous neighbours, which have the names that they had
-        met2 : (k : ℕ) → (p : Option ℕ) × (slot a2 k ≡ option_map (with_prev p) (link_at now k)) × (beside Before now k ≡ None → p ≡ None)
+        abbrev HoldsNow : ℕ → Type 0
+        HoldsNow k = (p : Option ℕ) × (slot a2 k ≡ option_map (with_prev p) (link_at now k)) × (beside Before now k ≡ None → p ≡ None)
+
+        met2 : (k : ℕ) → HoldsNow k
         met2 k = elim (eqb_tells (times k now) 0) [
           | inl h ↦ (None, vacant (slot a2 k) refl h.1 ∙ sym (ap (option_map (with_prev None)) (link_between-absent None None now k h.1)), λ none. refl)
           | inr h ↦ let x = times-source place alter es k (omega (arith, h.1)) in let e = held-link es x.0 x.2 in at x.0 x.1 e.0 e.1 (link_at-renumbered place alter es laid.distinct (place-injective es) x.0 x.2)
@@ -145,15 +158,14 @@ module _ {T : Type 0} where
             unmapped : (o : Option ℕ) → option_map place o ≡ None → o ≡ None
             unmapped o none = grind (arith, common_steps)
 
-            at : (x : ℕ) → place x ≡ k → (e : ℕ × Link T) → link_at es x ≡ Some e → link_at now (place x) ≡ option_map (followed place alter x) (link_at es x)
-                → (p : Option ℕ) × (slot a2 k ≡ option_map (with_prev p) (link_at now k)) × (beside Before now k ≡ None → p ≡ None)
+            at : (x : ℕ) → place x ≡ k → (e : ℕ × Link T) → link_at es x ≡ Some e → link_at now (place x) ≡ option_map (followed place alter x) (link_at es x) → HoldsNow k
             at x is e link now_is = rw (← is, now_is, link) (e.1.prev, after2 x e link, λ none. unmapped e.1.prev none)
 
         held2 : HoldIndexes a2.slots now
-        held2 k = let m = met2 k in times-link now distinct2 k ∙ ap (λ b. cond b 1 0) (sym (ap is_some m.1 ∙ (next-kept (link_at now k) m.0).1))
+        held2 k = let m = met2 k in times-link now distinct2 k ∙ ap (λ b. cond b 1 0) (sym (ap is_some m.1 ∙ (next-kept (link_at now k) m.0).held))
 
         names2 : (k : ℕ) → named After a2 k ≡ beside After now k
-        names2 k = let m = met2 k in ap (option_and_then (λ e. e.1.next)) m.1 ∙ (next-kept (link_at now k) m.0).0
+        names2 k = let m = met2 k in ap (option_and_then (λ e. e.1.next)) m.1 ∙ (next-kept (link_at now k) m.0).next
 
         pub paired-after : IsPaired After a2
         paired-after = paired After a2 now distinct2 held2 names2
@@ -169,8 +181,8 @@ module _ {T : Type 0} where
           links3 : (k : ℕ) → slot a3 k ≡ link_at now k
           links3 k =
               let m = met2 k in
-              learnt After a2 now distinct2 held2 names2 a3 end2 n2 (λ i. i) place-second k (λ none. rw (m.1, m.2 none) (next-kept (link_at now k) None).2)
-              ∙ rw m.1 (next-kept (link_at now k) m.0).3
+              learnt After a2 now distinct2 held2 names2 a3 end2 n2 (λ i. i) place-second k (λ none. rw (m.1, m.2 none) (next-kept (link_at now k) None).again)
+              ∙ rw m.1 (next-kept (link_at now k) m.0).back
 
           laid-compressed : IsLaidOut a3.slots end1 end2 now
           laid-compressed =
@@ -183,7 +195,7 @@ module _ {T : Type 0} where
           rising =
               among-arena (λ (l : Link T). l.item) (entry_at es) (rising_among es) (λ i. refl) (λ i n. refl) a1.slots
               (entry_at-link None None es 0 ∙ ap (option_map (λ e. (e.0, e.1.item))) (sym (laid.links 0) ∙ (first-vacant a0.slots begins).0))
-              (λ i. ap (option_map (λ e. (e.0, e.1.item))) (after1 i) ∙ (linked place (link_at es i)).1 ∙ sym (entry_at-link None None es i))
+              (λ i. ap (option_map (λ e. (e.0, e.1.item))) (after1 i) ∙ placed-entry place (link_at es i) ∙ sym (entry_at-link None None es i))
               ∙ ap (λ n. rising_among es 1 (n - 1)) n1.within
 
           pub Lies-compressed : IsFresh a2 → Lies a3 end1 end2 (compressed (chain_of a0 first) g items)
@@ -200,6 +212,6 @@ module _ {T : Type 0} where
           chain-compressed fresh = record { items = items; last = c.last; calls = rw (walk-laid_out a0 first last es laid, ← rising) c.calls; after = (Lies-compressed fresh).chain }
 
 -- a compression of a chain that is seen in another way
-pub compression-of : {P T M : Type 0} (numbers : P → ℕ × ℕ) (step : M → P → T → P → T → M → Type 0) (m : M) (seen old new : Chain T) (g h : ℕ)
-    → seen ≡ old → g ≡ h → IsCompression numbers step g m seen new → IsCompression numbers step h m old new
-compression-of numbers step m seen old new g h is same c = grind (arith, common_steps)
+module _ {P T M : Type 0} (numbers : P → ℕ × ℕ) (step : M → P → T → P → T → M → Type 0) (m : M) (seen old new : Chain T) where
+  pub compression-of : (g h : ℕ) → seen ≡ old → g ≡ h → IsCompression numbers step g m seen new → IsCompression numbers step h m old new
+  compression-of g h is same c = grind (arith, common_steps)

@@ -5,6 +5,7 @@ use Rattle.arena_base.specs.Arena.{Arena, slot, item_of as slot_item, IsFirstEnt
 use Rattle.chain_base.specs.Link.{Link}
 use Rattle.chain_base.specs.Chain.{Entry, times, entry_at, link_at, last_or, last_pointer, pointed, item_of, generation_at, IsFirstIndex, IsLastIndex}
 use Rattle.chain_base.specs.Layout.{chain_of, IsLaidOut}
+use Rattle.chain_base.proofs.LaidOut.{IsChainIn}
 use Rattle.chain_base.proofs.Lists.{times-here, times-there, times-last, times-unlinked, entry_at-link, entry_at-some}
 
 -- an option is there where what it is mapped to is there
@@ -38,7 +39,7 @@ module _ {T : Type 0} where
       record { entry = generation_at-link es i (slot a i) (links i) ∙ last.entry; greatest = λ k above. times-unlinked None None es k (sym (links k) ∙ last.greatest k above) }
 
   -- What the slots of an arena say of the chain that lies in it.
-  module _ (a : Arena (Link T)) (first last : Option ℕ) (laid : IsLaidOut a.slots first last (chain_of a first).entries) where
+  module _ (a : Arena (Link T)) (first last : Option ℕ) (laid : IsChainIn a first last) where
     pub entry_at-laid_out : (i : ℕ) → entry_at (chain_of a first).entries i ≡ option_map (λ e. (e.0, e.1.item)) (slot a i)
     entry_at-laid_out i = entry_at-link None None (chain_of a first).entries i ∙ ap (option_map (λ e. (e.0, e.1.item))) (sym (laid.links i))
 
@@ -53,10 +54,12 @@ module _ {T : Type 0} where
     occupied-laid_out i some = ap is_some (laid.links i) ∙ sym (entry_at-some (chain_of a first).entries i) ∙ some
 
   -- the pointer to the last index of a chain that lies in an arena
-  pub last-found : {I : Type 0} (number : I → ℕ) (a : Arena (Link T)) (first : Option ℕ) (last : Option I) (i : I) → IsLaidOut a.slots first (option_map number last) (chain_of a first).entries
-      → last ≡ Some i → pointed (number i) (entry_at (chain_of a first).entries (number i)) ≡ last_pointer (chain_of a first).entries
-  last-found number a first last i laid is = pointed-last (chain_of a first).entries (number i) (laid.distinct (number i)) (sym laid.last_is ∙ ap (option_map number) is)
+  module _ {I : Type 0} (number : I → ℕ) (a : Arena (Link T)) (first : Option ℕ) (last : Option I) (i : I)
+      (laid : IsChainIn a first (option_map number last)) (is : last ≡ Some i) where
+    pub last-found : pointed (number i) (entry_at (chain_of a first).entries (number i)) ≡ last_pointer (chain_of a first).entries
+    last-found = pointed-last (chain_of a first).entries (number i) (laid.distinct (number i)) (sym laid.last_is ∙ ap (option_map number) is)
 
-  pub last-missing : {I : Type 0} (number : I → ℕ) (a : Arena (Link T)) (first : Option ℕ) (last : Option I) → IsLaidOut a.slots first (option_map number last) (chain_of a first).entries
-      → last ≡ None → None ≡ last_pointer (chain_of a first).entries
-  last-missing number a first last laid is = sym (last_pointer-none (chain_of a first).entries (sym laid.last_is ∙ ap (option_map number) is))
+  module _ {I : Type 0} (number : I → ℕ) (a : Arena (Link T)) (first : Option ℕ) (last : Option I)
+      (laid : IsChainIn a first (option_map number last)) where
+    pub last-missing : last ≡ None → None ≡ last_pointer (chain_of a first).entries
+    last-missing is = sym (last_pointer-none (chain_of a first).entries (sym laid.last_is ∙ ap (option_map number) is))

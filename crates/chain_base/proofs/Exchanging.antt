@@ -11,7 +11,7 @@ use Rattle.chain_base.specs.Exchange.{exchanged_index, in_exchange, exchanged, I
 use Rattle.chain_base.specs.declared.chain.compress.Side.{Side}
 use Rattle.chain_base.specs.declared.chain.compress.Side.TheVariants.{Before, After}
 use Rattle.chain_base.proofs.Lists.{entry_at-link, entry_at-absent, entry_at-some}
-use Rattle.chain_base.proofs.LaidOut.{slot-relinked, Alike, alike-next, alike-prev}
+use Rattle.chain_base.proofs.LaidOut.{IsChainIn, slot-relinked, Alike, alike-next, alike-prev}
 use Rattle.chain_base.proofs.Vacancy.{HoldIndexes, held-is, held-occurs, held-link}
 use Rattle.chain_base.proofs.Renumbering.{opposite, beside, beside-occurs, facing, facing-back, followed, IsLaidOut-renumbered}
 use Rattle.chain_base.proofs.Naming.{neighbour-within}
@@ -31,11 +31,16 @@ module _ (i j : ℕ) where
   pub other-holds : (Q : ℕ → Type 0) → Q i → Q j → (k : ℕ) → Q k → Q (other k)
   other-holds Q of_i of_j k of_k = grind (arith, common_steps)
 
+-- the neighbour that an entry has after two writes: w where the second one names its index, else v where the first does
+abbrev written_twice : Option ℕ → Option ℕ → Option ℕ → Option ℕ → ℕ → Option ℕ → Option ℕ
+written_twice first v second w k o = if names second k then w else (if names first k then v else o)
+
 module _ {T : Type 0} where
   -- a link after two pairs of writes
-  relinked-twice : (a b c d v w : Option ℕ) (k : ℕ) (e : ℕ × Link T) → relinked c w d w k (relinked a v b v k (Some e))
-      ≡ Some (e.0, record { item = e.1.item; prev = if names d k then w else (if names b k then v else e.1.prev); next = if names c k then w else (if names a k then v else e.1.next) })
-  relinked-twice a b c d v w k e = grind (arith, common_steps)
+  module _ (a b c d v w : Option ℕ) where
+    relinked-twice : (k : ℕ) (e : ℕ × Link T) → relinked c w d w k (relinked a v b v k (Some e))
+        ≡ Some (e.0, record (e.1) { prev = written_twice b v d w k e.1.prev; next = written_twice a v c w k e.1.next })
+    relinked-twice k e = grind (arith, common_steps)
 
   -- entries of one generation that are swapped stand at each other's index
   slot-swapped : (a : Arena (Link T)) (i j x : ℕ) (e f : ℕ × Link T) → slot a i ≡ Some e → slot a j ≡ Some f → e.0 ≡ f.0 → slot (swapped a i j) (other i j x) ≡ slot a x
@@ -52,9 +57,10 @@ module _ {T : Type 0} where
     pub at_j : IsOccupied c j
     pub even : IsEven c
 
-  pub can_exchange : (a : Arena (Link T)) (first last : Option ℕ) (c : Chain T) (i j : ℕ) → chain_of a first ≡ c → IsLaidOut a.slots first last (chain_of a first).entries
-      → IsOccupied c i → IsOccupied c j → IsEven c → CanExchange a first last c i j
-  can_exchange a first last c i j seen laid at_i at_j even = grind (arith, common_steps)
+  module _ (a : Arena (Link T)) (first last : Option ℕ) (c : Chain T) (i j : ℕ) (seen : chain_of a first ≡ c)
+      (laid : IsChainIn a first last) where
+    pub can_exchange : IsOccupied c i → IsOccupied c j → IsEven c → CanExchange a first last c i j
+    can_exchange at_i at_j even = grind (arith, common_steps)
 
   module _ {a0 : Arena (Link T)} {first last : Option ℕ} {c : Chain T} {i j : ℕ} (can : CanExchange a0 first last c i j) where
     abbrev es : List (Entry T)
@@ -81,46 +87,44 @@ module _ {T : Type 0} where
         rw made (record { held = λ k. held-swapped a0 i j k e.0 f.0 e.1 f.1; long = length-set _ j _ ∙ length-set a0.slots i _; kept = refl })
 
     -- what an exchanged link names has an entry, in an arena that holds entries at the same indexes
-    pub target : {I : Type 0} (number : I → ℕ) (side : Side) (k : ℕ) (a : Arena (Link T)) → Alike a a0 → (r : Option I) (p : Option ℕ) → option_map number r ≡ option_map (other i j) p → p ≡ beside side es k
-        → (x : I) → r ≡ Some x → IsSome (slot a (number x))
-    target number side k a same r p is at y names =
-        let x = number y in
-        let to : beside side es k ≡ Some (other i j x) = grind (arith, common_steps, p, other-twice i j) in
-        let there = held-is a0.slots es _ held (beside-occurs (opposite side) es _ k (facing side es can.laid.distinct k _ to)) in
-        let held_too = other-holds i j (λ n. is_some (slot a0 n) ≡ true) (slot-some i can.at_i) (slot-some j can.at_j) _ there in
-        same.held x ∙ subst (λ n. is_some (slot a0 n) ≡ true) (other-twice i j x) held_too
+    module _ {I : Type 0} (number : I → ℕ) (side : Side) (k : ℕ) (a : Arena (Link T)) (same : Alike a a0) (r : Option I) (p : Option ℕ) where
+      pub target : option_map number r ≡ option_map (other i j) p → p ≡ beside side es k → (x : I) → r ≡ Some x → IsSome (slot a (number x))
+      target is at y names =
+          let x = number y in
+          let to : beside side es k ≡ Some (other i j x) = grind (arith, common_steps, p, other-twice i j) in
+          let there = held-is a0.slots es _ held (beside-occurs (opposite side) es _ k (facing side es can.laid.distinct k _ to)) in
+          let held_too = other-holds i j (λ n. is_some (slot a0 n) ≡ true) (slot-some i can.at_i) (slot-some j can.at_j) _ there in
+          same.held x ∙ subst (λ n. is_some (slot a0 n) ≡ true) (other-twice i j x) held_too
+
+    -- the name of a neighbour, as it is to be
+    abbrev to : Side → ℕ → Option ℕ
+    to side k = option_map (other i j) (beside side es k)
 
     -- what the writes make of a neighbour's name
-    renamed : (named_i named_j : Option ℕ) (x : ℕ) (o : Option ℕ)
-        → (named_i ≡ Some x → o ≡ Some i) → (named_j ≡ Some x → o ≡ Some j) → (o ≡ Some i → named_i ≡ Some x) → (o ≡ Some j → named_j ≡ Some x)
-        → (if names (option_map (other i j) named_j) (other i j x) then Some i else (if names (option_map (other i j) named_i) (other i j x) then Some j else o)) ≡ option_map (other i j) o
-    renamed named_i named_j x o from_i from_j to_i to_j = grind (arith, common_steps)
+    module _ (named_i named_j : Option ℕ) (x : ℕ) (o : Option ℕ) (from_i : named_i ≡ Some x → o ≡ Some i)
+        (from_j : named_j ≡ Some x → o ≡ Some j) (to_i : o ≡ Some i → named_i ≡ Some x) (to_j : o ≡ Some j → named_j ≡ Some x) where
+      renamed : written_twice (option_map (other i j) named_i) (Some j) (option_map (other i j) named_j) (Some i) (other i j x) o ≡ option_map (other i j) o
+      renamed = grind (arith, common_steps)
 
-    renamed-on : (side : Side) (x : ℕ)
-        → (if names (option_map (other i j) (beside side es j)) (other i j x) then Some i else (if names (option_map (other i j) (beside side es i)) (other i j x) then Some j else beside (opposite side) es x))
-        ≡ option_map (other i j) (beside (opposite side) es x)
+    renamed-on : (side : Side) (x : ℕ) → written_twice (to side i) (Some j) (to side j) (Some i) (other i j x) (beside (opposite side) es x) ≡ to (opposite side) x
     renamed-on side x =
         let d = can.laid.distinct in
         renamed (beside side es i) (beside side es j) x (beside (opposite side) es x) (facing side es d i x) (facing side es d j x) (facing-back side es d x i) (facing-back side es d x j)
 
     abbrev linked : Arena (Link T) → Arena (Link T)
     linked b0 =
-        let b2 = linked_prev (linked_next b0 (option_map (other i j) (beside Before es i)) (Some j)) (option_map (other i j) (beside After es i)) (Some j) in
-        linked_prev (linked_next b2 (option_map (other i j) (beside Before es j)) (Some i)) (option_map (other i j) (beside After es j)) (Some i)
+        linked_prev (linked_next (linked_prev (linked_next b0 (to Before i) (Some j)) (to After i) (Some j)) (to Before j) (Some i)) (to After j) (Some i)
 
     alike-linked : Alike (linked (swapped a0 i j)) a0
     alike-linked =
-        let to = option_map (other i j) in
-        let one = alike-next _ a0 _ (to (beside Before es i)) (Some j) refl (alike-swap (swapped a0 i j) refl) in
-        let two = alike-prev _ a0 _ (to (beside After es i)) (Some j) refl one in
-        alike-prev _ a0 _ (to (beside After es j)) (Some i) refl (alike-next _ a0 _ (to (beside Before es j)) (Some i) refl two)
+        let two = alike-prev _ a0 _ (to After i) (Some j) refl (alike-next _ a0 _ (to Before i) (Some j) refl (alike-swap (swapped a0 i j) refl)) in
+        alike-prev _ a0 _ (to After j) (Some i) refl (alike-next _ a0 _ (to Before j) (Some i) refl two)
 
     linked-slot : (x : ℕ) (e : ℕ × Link T) → link_at es x ≡ Some e → slot (linked (swapped a0 i j)) (other i j x) ≡ Some (followed (other i j) (λ x p. p) x e)
     linked-slot x e is =
         let prev : beside Before es x ≡ e.1.prev = ap (option_and_then (λ e. e.1.prev)) is in
         let next : beside After es x ≡ e.1.next = ap (option_and_then (λ e. e.1.next)) is in
         let at = other i j x in
-        let to = λ (side : Side) (k : ℕ). option_map (other i j) (beside side es k) in
         slot-relinked _ (to Before j) (Some i) (to After j) (Some i) at
         ∙ ap (relinked (to Before j) (Some i) (to After j) (Some i) at) (slot-relinked (swapped a0 i j) (to Before i) (Some j) (to After i) (Some j) at
         ∙ ap (relinked (to Before i) (Some j) (to After i) (Some j) at) (moved x ∙ can.laid.links x ∙ is))
@@ -142,13 +146,15 @@ module _ {T : Type 0} where
         can.seen (lies-alike a0 (linked (swapped a0 i j)) _ _ _ same laid2)
 
     -- the arenas between the writes, as the calls give them
-    pub Lies-written : (v w o1 o2 o3 o4 p1 p2 p3 p4 end1 end2 : Option ℕ) → v ≡ Some j → w ≡ Some i
-        → o1 ≡ option_map (other i j) p1 → p1 ≡ beside Before es i → o2 ≡ option_map (other i j) p2 → p2 ≡ beside After es i
-        → o3 ≡ option_map (other i j) p3 → p3 ≡ beside Before es j → o4 ≡ option_map (other i j) p4 → p4 ≡ beside After es j
-        → end1 ≡ option_map (other i j) first → end2 ≡ option_map (other i j) last → (b0 b1 b2 b3 b4 : Arena (Link T)) → b0 ≡ swapped a0 i j
-        → b1 ≡ linked_next b0 o1 v → b2 ≡ linked_prev b1 o2 v → b3 ≡ linked_next b2 o3 w → b4 ≡ linked_prev b3 o4 w → Lies b4 end1 end2 (exchanged c i j)
-    Lies-written v w o1 o2 o3 o4 p1 p2 p3 p4 end1 end2 to_j to_i is1 at1 is2 at2 is3 at3 is4 at4 is_first is_last b0 b1 b2 b3 b4 made0 made1 made2 made3 made4 =
-        rw (made4, made3, made2, made1, made0, is1, is2, is3, is4, at1, at2, at3, at4, to_j, to_i, is_first, is_last) Lies-exchanged
+    module _ (v w o1 o2 o3 o4 p1 p2 p3 p4 end1 end2 : Option ℕ) (to_j : v ≡ Some j) (to_i : w ≡ Some i)
+        (is1 : o1 ≡ option_map (other i j) p1) (at1 : p1 ≡ beside Before es i) (is2 : o2 ≡ option_map (other i j) p2)
+        (at2 : p2 ≡ beside After es i) (is3 : o3 ≡ option_map (other i j) p3) (at3 : p3 ≡ beside Before es j)
+        (is4 : o4 ≡ option_map (other i j) p4) (at4 : p4 ≡ beside After es j) (is_first : end1 ≡ option_map (other i j) first)
+        (is_last : end2 ≡ option_map (other i j) last) (b0 b1 b2 b3 b4 : Arena (Link T)) (made0 : b0 ≡ swapped a0 i j)
+        (made1 : b1 ≡ linked_next b0 o1 v) (made2 : b2 ≡ linked_prev b1 o2 v) where
+      pub Lies-written : b3 ≡ linked_next b2 o3 w → b4 ≡ linked_prev b3 o4 w → Lies b4 end1 end2 (exchanged c i j)
+      Lies-written made3 made4 =
+          rw (made4, made3, made2, made1, made0, is1, is2, is3, is4, at1, at2, at3, at4, to_j, to_i, is_first, is_last) Lies-exchanged
 
   -- an index with an entry can be named in a link
   pub occupied-named : (most : ℕ) (greatest : Option ℕ) (c : Chain T) (i : ℕ) → IsSound most greatest c → is_some (entry_at c.entries i) ≡ true → named_of most (Some i) ≡ Some i

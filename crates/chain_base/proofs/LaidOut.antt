@@ -6,8 +6,7 @@ use Rattle.arena_base.specs.Arena.{Arena, slot, with_slot, with_entry_at, remove
 use Rattle.chain_base.specs.Link.{Link}
 use Rattle.chain_base.specs.Chain.{Entry, IsDistinct, times, first_or, last_or, link_at}
 use Rattle.chain_base.specs.Layout.{chain_of, walk, linked_next, linked_prev, relinked, IsLaidOut}
-use Rattle.chain_base.proofs.Lists.{names_tells, same_index, times-append, times-here, times-there, times-last, times-first, first_or-append, last_or-append, link_between-append, link_between-absent}
-use Rattle.chain_base.proofs.Lists.{times-unlinked, seam-relinked, IsRow-links, walk-row, changed_at, changed_link, link_between-changed_at, same-changed_at}
+use Rattle.chain_base.proofs.Lists.{names_tells, same_index, times-append, times-here, times-there, times-last, times-first, first_or-append, last_or-append, link_between-append, link_between-absent, times-unlinked, seam-relinked, IsRow-links, walk-row, changed_at, changed_link, link_between-changed_at, same-changed_at}
 use Rattle.chain_base.proofs.Vacancy.{held-links}
 use Rattle.chain_base.proofs.Ranking.{counted-held}
 
@@ -16,17 +15,24 @@ abbrev pub end_beside : Option ℕ → Option ℕ → Option ℕ → Option ℕ
 end_beside beside old new = if is_some beside then old else new
 
 module _ {T : Type 0} where
+  -- the entries that are met from this first index on lie in the arena, up to this last one
+  abbrev pub IsChainIn : Arena (Link T) → Option ℕ → Option ℕ → Type 0
+  IsChainIn a first last = IsLaidOut a.slots first last (chain_of a first).entries
+
   -- slots that hold just a list's links, between these ends
-  pub laid-links : (slots : List (Option (ℕ × Link T))) (first last : Option ℕ) (es : List (Entry T)) → ((i : ℕ) → get_or slots i None ≡ link_at es i) → IsDistinct es
-      → first ≡ first_or None es → last ≡ last_or None es → IsLaidOut slots first last es
-  laid-links slots first last es links distinct first_is last_is =
-      record { links = links; distinct = distinct; first_is = first_is; last_is = last_is; counted = counted-held slots es (held-links slots es distinct links) }
+  module _ (slots : List (Option (ℕ × Link T))) (first last : Option ℕ) (es : List (Entry T))
+      (links : (i : ℕ) → get_or slots i None ≡ link_at es i) where
+    pub laid-links : IsDistinct es → first ≡ first_or None es → last ≡ last_or None es → IsLaidOut slots first last es
+    laid-links distinct first_is last_is =
+        record { links = links; distinct = distinct; first_is = first_is; last_is = last_is; counted = counted-held slots es (held-links slots es distinct links) }
 
   -- slots that hold the links of a list's indexes, and nothing else
-  pub laid-held : (slots : List (Option (ℕ × Link T))) (first last : Option ℕ) (es : List (Entry T)) → ((i : ℕ) → 1 ≤ times i es → get_or slots i None ≡ link_at es i)
-      → ((i : ℕ) → is_some (get_or slots i None) ≡ true → 1 ≤ times i es) → IsDistinct es → first ≡ first_or None es → last ≡ last_or None es → IsLaidOut slots first last es
-  laid-held slots first last es links back =
-      laid-links slots first last es (λ i. grind (arith, common_steps, links i, back i, link_between-absent None None es i))
+  module _ (slots : List (Option (ℕ × Link T))) (first last : Option ℕ) (es : List (Entry T))
+      (links : (i : ℕ) → 1 ≤ times i es → get_or slots i None ≡ link_at es i)
+      (back : (i : ℕ) → is_some (get_or slots i None) ≡ true → 1 ≤ times i es) where
+    pub laid-held : IsDistinct es → first ≡ first_or None es → last ≡ last_or None es → IsLaidOut slots first last es
+    laid-held =
+        laid-links slots first last es (λ i. grind (arith, common_steps, links i, back i, link_between-absent None None es i))
 
   -- what the slots hold once one is filled or emptied
   pub slot-written : (a : Arena (Link T)) (j k : ℕ) (o : Option (ℕ × Link T)) → j < length a.slots → slot (with_slot a j o) k ≡ (if j == k then o else slot a k)
@@ -45,7 +51,7 @@ module _ {T : Type 0} where
   walk-laid_out a first last es laid =
       grind (arith, common_steps, IsRow-links (slot a) None es laid.distinct, count_by-le-length is_some a.slots, walk-row (slot a) None es (length a.slots))
 
-  pub IsLaidOut-walked : (a : Arena (Link T)) (first last : Option ℕ) (es : List (Entry T)) → IsLaidOut a.slots first last es → IsLaidOut a.slots first last (chain_of a first).entries
+  pub IsLaidOut-walked : (a : Arena (Link T)) (first last : Option ℕ) (es : List (Entry T)) → IsLaidOut a.slots first last es → IsChainIn a first last
   IsLaidOut-walked a first last es laid = rw (walk-laid_out a first last es laid) laid
 
   -- two arenas hold entries at the same indexes, and differ in their slots alone
@@ -84,31 +90,34 @@ module _ {T : Type 0} where
   closed a xs ys = bridged a (last_or None xs) (first_or None ys) (first_or None ys) (last_or None xs)
 
   -- what the slots hold after an insertion between two stretches
-  slots-inserted : (xs ys : List (Entry T)) (new : Entry T) (k : ℕ) (o : Option (ℕ × Link T)) → times new.index xs ≡ 0 → times new.index ys ≡ 0 → times k xs + times k ys ≤ 1 → o ≡ link_at (xs ++ ys) k
-      → relinked (last_or None xs) (Some new.index) (first_or None ys) (Some new.index) k
-      (if new.index == k then Some (new.generation, link_amid xs new.item ys) else o) ≡ link_at (xs ++ new ∷ ys) k
-  slots-inserted xs ys new k o left right once was = grind (arith, common_steps, link_between-append, left, link_between-absent, relinked-apart, seam-relinked)
+  module _ (xs ys : List (Entry T)) (e : Entry T) (k : ℕ) (o : Option (ℕ × Link T)) (left : times e.index xs ≡ 0) (right : times e.index ys ≡ 0)
+      (once : times k xs + times k ys ≤ 1) (was : o ≡ link_at (xs ++ ys) k) where
+    slots-inserted : relinked (last_or None xs) (Some e.index) (first_or None ys) (Some e.index) k (if e.index == k then Some (e.generation, link_amid xs e.item ys) else o)
+        ≡ link_at (xs ++ e ∷ ys) k
+    slots-inserted = grind (arith, common_steps, link_between-append, left, link_between-absent, relinked-apart, seam-relinked)
 
   -- a new entry between two stretches of the list
-  module _ (a : Arena (Link T)) (first last : Option ℕ) (xs ys : List (Entry T)) (j : ℕ) (rest : List ℕ) (item : T) where
-    pub IsLaidOut-inserted : IsLaidOut a.slots first last (xs ++ ys) → slot a j ≡ None → j < length a.slots
-        → IsLaidOut (joined (with_entry_at a (j ∷ rest) (link_amid xs item ys)) j xs ys).slots
-        (first_or (Some j) xs) (last_or (Some j) ys) (xs ++ record { index = j; generation = a.generation; item = item } ∷ ys)
-    IsLaidOut-inserted laid vacant within =
-        let new : Entry T = record { index = j; generation = a.generation; item = item } in
+  module _ (a : Arena (Link T)) (first last : Option ℕ) (xs ys : List (Entry T)) (j : ℕ) (rest : List ℕ) (item : T)
+      (laid : IsLaidOut a.slots first last (xs ++ ys)) (vacant : slot a j ≡ None) (within : j < length a.slots) where
+    abbrev new_entry : Entry T
+    new_entry = record { index = j; generation = a.generation; item = item }
+
+    pub IsLaidOut-inserted : IsLaidOut (joined (with_entry_at a (j ∷ rest) (link_amid xs item ys)) j xs ys).slots (first_or (Some j) xs) (last_or (Some j) ys) (xs ++ new_entry ∷ ys)
+    IsLaidOut-inserted =
         let absent : times j (xs ++ ys) ≡ 0 = times-unlinked None None (xs ++ ys) j (sym (laid.links j) ∙ vacant) in
         let parts : times j xs + times j ys ≡ 0 = sym (times-append j xs ys) ∙ absent in
         laid-links _ _ _ _
         (λ k. slot-relinked (with_entry_at a (j ∷ rest) (link_amid xs item ys)) (last_or None xs) (Some j) (first_or None ys) (Some j) k
         ∙ ap (relinked (last_or None xs) (Some j) (first_or None ys) (Some j) k) (slot-written a j k (Some (a.generation, link_amid xs item ys)) within)
-        ∙ slots-inserted xs ys new k (slot a k) (omega arith) (omega arith) (omega (arith, times-append k xs ys, laid.distinct k)) (laid.links k))
-        (λ k. grind (arith, common_steps, times-append k xs ys, times-append k xs (new ∷ ys), parts, laid.distinct k))
-        (sym (first_or-append None xs (new ∷ ys))) (sym (last_or-append None xs (new ∷ ys)))
+        ∙ slots-inserted xs ys new_entry k (slot a k) (omega arith) (omega arith) (omega (arith, times-append k xs ys, laid.distinct k)) (laid.links k))
+        (λ k. grind (arith, common_steps, times-append k xs ys, times-append k xs (new_entry ∷ ys), parts, laid.distinct k))
+        (sym (first_or-append None xs (new_entry ∷ ys))) (sym (last_or-append None xs (new_entry ∷ ys)))
 
   -- what the slots hold after the entry between two stretches is taken out
-  slots-removed : (xs : List (Entry T)) (e : Entry T) (ys : List (Entry T)) (k : ℕ) (o : Option (ℕ × Link T)) → times k (xs ++ e ∷ ys) ≤ 1 → o ≡ link_at (xs ++ e ∷ ys) k
-      → relinked (last_or None xs) (first_or None ys) (first_or None ys) (last_or None xs) k (if e.index == k then None else o) ≡ link_at (xs ++ ys) k
-  slots-removed xs e ys k o once was = grind (arith, common_steps, link_between-append, times-append, times-here, link_between-absent, relinked-apart, times-there, seam-relinked)
+  module _ (xs : List (Entry T)) (e : Entry T) (ys : List (Entry T)) (k : ℕ) (o : Option (ℕ × Link T)) (once : times k (xs ++ e ∷ ys) ≤ 1) where
+    slots-removed : o ≡ link_at (xs ++ e ∷ ys) k
+        → relinked (last_or None xs) (first_or None ys) (first_or None ys) (last_or None xs) k (if e.index == k then None else o) ≡ link_at (xs ++ ys) k
+    slots-removed was = grind (arith, common_steps, link_between-append, times-append, times-here, link_between-absent, relinked-apart, times-there, seam-relinked)
 
   -- an entry stands in its slot
   module _ (a : Arena (Link T)) (first last : Option ℕ) (xs : List (Entry T)) (e : Entry T) (ys : List (Entry T)) where
@@ -120,11 +129,10 @@ module _ {T : Type 0} where
   slot-within a i e held = grind (arith, common_steps)
 
   -- the entry between two stretches of the list is taken out
-  module _ (greatest : Option ℕ) (a : Arena (Link T)) (first last : Option ℕ) (xs : List (Entry T)) (e : Entry T) (ys : List (Entry T)) where
-    pub IsLaidOut-removed : IsLaidOut a.slots first last (xs ++ e ∷ ys)
-        → IsLaidOut (closed (arena_removed greatest a e.index) xs ys).slots
-        (first_or (first_or None ys) xs) (last_or (last_or None xs) ys) (xs ++ ys)
-    IsLaidOut-removed laid =
+  module _ (greatest : Option ℕ) (a : Arena (Link T)) (first last : Option ℕ) (xs : List (Entry T)) (e : Entry T) (ys : List (Entry T))
+      (laid : IsLaidOut a.slots first last (xs ++ e ∷ ys)) where
+    pub IsLaidOut-removed : IsLaidOut (closed (arena_removed greatest a e.index) xs ys).slots (first_or (first_or None ys) xs) (last_or (last_or None xs) ys) (xs ++ ys)
+    IsLaidOut-removed =
         laid-links _ _ _ _
         (λ k. slot-relinked (arena_removed greatest a e.index) (last_or None xs) (first_or None ys) (first_or None ys) (last_or None xs) k
         ∙ ap (relinked (last_or None xs) (first_or None ys) (first_or None ys) (last_or None xs) k) (slot-written a e.index k None (slot-within a e.index _ (slot-laid_out a first last xs e ys laid)))
@@ -137,4 +145,4 @@ module _ {T : Type 0} where
     pub IsLaidOut-changed_at : (f : ℕ × T → ℕ × T) → IsLaidOut a.slots first last es
         → IsLaidOut (with_slot a i (option_map (changed_link f) (slot a i))).slots first last (changed_at f es i)
     IsLaidOut-changed_at f laid =
-        grind (arith, common_steps, same-changed_at f es i, laid-links, slot-mapped a i, link_between-changed_at f None None es i)
+        grind (arith, common_steps, same-changed_at f es i, laid-links, slot-mapped a i, λ (k : ℕ). link_between-changed_at f None i k None es)

@@ -52,9 +52,13 @@ module _ {T : Type 0} where
   last_or-there i [] = refl
   last_or-there i (e ∷ es) = last_or-there e.index es
 
+  -- two stretches of a chain, of which the first goes on to `next` and the second comes from `prev`
+  abbrev pub seam : Option ℕ → List (Entry T) → Option ℕ → Option ℕ → List (Entry T) → Option ℕ → ℕ → Option (ℕ × Link T)
+  seam before xs next prev ys after i = option_or (link_between before next xs i) (link_between prev after ys i)
+
   -- a stretch of a chain in two parts
   pub link_between-append : (before after : Option ℕ) (xs ys : List (Entry T)) (i : ℕ)
-      → link_between before after (xs ++ ys) i ≡ option_or (link_between before (first_or after ys) xs i) (link_between (last_or before xs) after ys i)
+      → link_between before after (xs ++ ys) i ≡ seam before xs (first_or after ys) (last_or before xs) ys after i
   link_between-append before after [] ys i = refl
   link_between-append before after (x ∷ xs) ys i = grind (arith, common_steps, link_between-append (Some x.index) after xs ys i)
 
@@ -89,18 +93,24 @@ module _ {T : Type 0} where
   pub linked-occurs : (es : List (Entry T)) (i : ℕ) (e : ℕ × Link T) → link_at es i ≡ Some e → 1 ≤ times i es
   linked-occurs es i e is = grind (arith, common_steps, i, link_between-absent)
 
+  -- what an index holds, changed where the option names it
+  abbrev pub if_named : Option ℕ → ℕ → (ℕ × Link T → ℕ × Link T) → Option (ℕ × Link T) → Option (ℕ × Link T)
+  if_named named i change o = if names named i then option_map change o else o
+
   -- another far end is seen by the last index alone
-  pub link_between-after : (before after other : Option ℕ) (es : List (Entry T)) (i : ℕ) → times i es ≤ 1
-      → link_between before other es i ≡ (let o = link_between before after es i in if names (last_or None es) i then option_map (with_next other) o else o)
-  link_between-after before after other [] i once = refl
-  link_between-after before after other (e ∷ []) i once = grind (arith, common_steps)
-  link_between-after before after other (e ∷ f ∷ es) i once =
-      grind (arith, common_steps, link_between-after (Some e.index) after other (f ∷ es) i, times-last (f ∷ es) i, names_tells (last_or None (f ∷ es)) i)
+  module _ (after other : Option ℕ) (i : ℕ) where
+    pub link_between-after : (before : Option ℕ) (es : List (Entry T)) → times i es ≤ 1
+        → link_between before other es i ≡ if_named (last_or None es) i (with_next other) (link_between before after es i)
+    link_between-after before [] once = refl
+    link_between-after before (e ∷ []) once = grind (arith, common_steps)
+    link_between-after before (e ∷ f ∷ es) once =
+        grind (arith, common_steps, link_between-after (Some e.index) (f ∷ es), times-last (f ∷ es) i, names_tells (last_or None (f ∷ es)) i)
 
   -- another near end is seen by the first index alone
-  pub link_between-before : (before after other : Option ℕ) (es : List (Entry T)) (i : ℕ)
-      → link_between other after es i ≡ (let o = link_between before after es i in if names (first_or None es) i then option_map (with_prev other) o else o)
-  link_between-before before after other es i = grind (arith, common_steps)
+  module _ (before after other : Option ℕ) (es : List (Entry T)) where
+    pub link_between-before : (i : ℕ)
+        → link_between other after es i ≡ if_named (first_or None es) i (with_prev other) (link_between before after es i)
+    link_between-before i = grind (arith, common_steps)
 
   -- where an index stands in a list, for the first time, and what becomes of the list by a change there
   pub record Stands (es : List (Entry T)) (i : ℕ) : Type 0 where
@@ -149,28 +159,24 @@ module _ {T : Type 0} where
   entry_at-absent [] i absent = refl
   entry_at-absent (e ∷ es) i absent = grind (arith, common_steps, entry_at-absent es i)
 
-  -- two stretches of a chain, of which the first ends at `after` and the second begins at `before`
-  abbrev pub seam : List (Entry T) → Option ℕ → Option ℕ → List (Entry T) → ℕ → Option (ℕ × Link T)
-  seam xs after before ys i = option_or (link_between None after xs i) (link_between before None ys i)
-
   -- the seam of two stretches is moved by two writes
-  pub seam-relinked : (xs ys : List (Entry T)) (after before next prev : Option ℕ) (i : ℕ) → times i xs + times i ys ≤ 1
-      → seam xs next prev ys i ≡ relinked (last_or None xs) next (first_or None ys) prev i (seam xs after before ys i)
-  seam-relinked xs ys after before next prev i once =
-      grind (
-        arith,
-        common_steps,
-        link_between-after None after next xs i,
-        link_between-before before None prev ys i,
-        link_between-absent None after xs i,
-        link_between-absent None next xs i,
-        link_between-absent before None ys i,
-        link_between-absent prev None ys i,
-        times-last xs i,
-        times-first ys i,
-        names_tells (last_or None xs) i,
-        names_tells (first_or None ys) i,
-      )
+  module _ (xs ys : List (Entry T)) (after before next prev : Option ℕ) (i : ℕ) (once : times i xs + times i ys ≤ 1) where
+    pub seam-relinked : seam None xs next prev ys None i ≡ relinked (last_or None xs) next (first_or None ys) prev i (seam None xs after before ys None i)
+    seam-relinked =
+        grind (
+          arith,
+          common_steps,
+          link_between-after after next i None xs,
+          link_between-before before None prev ys i,
+          link_between-absent None after xs i,
+          link_between-absent None next xs i,
+          link_between-absent before None ys i,
+          link_between-absent prev None ys i,
+          times-last xs i,
+          times-first ys i,
+          names_tells (last_or None xs) i,
+          names_tells (first_or None ys) i,
+        )
 
   -- the slots hold these entries, linked in this order from `before` on
   abbrev pub IsRow : (ℕ → Option (ℕ × Link T)) → Option ℕ → List (Entry T) → Type 0
@@ -179,10 +185,11 @@ module _ {T : Type 0} where
       (at e.index ≡ Some (e.generation, record { item = e.item; prev = before; next = first_or None es }))
       × IsRow at (Some e.index) es
 
-  pub IsRow-links : (at : ℕ → Option (ℕ × Link T)) (before : Option ℕ) (es : List (Entry T)) → ((i : ℕ) → times i es ≤ 1)
-      → ((i : ℕ) → 1 ≤ times i es → at i ≡ link_between before None es i) → IsRow at before es
-  IsRow-links at before [] once holds = tt
-  IsRow-links at before (e ∷ es) once holds = grind (arith, common_steps, IsRow-links at (Some e.index) es, other_index, same_index, times-here)
+  module _ (at : ℕ → Option (ℕ × Link T)) where
+    pub IsRow-links : (before : Option ℕ) (es : List (Entry T)) → ((i : ℕ) → times i es ≤ 1)
+        → ((i : ℕ) → 1 ≤ times i es → at i ≡ link_between before None es i) → IsRow at before es
+    IsRow-links before [] once holds = tt
+    IsRow-links before (e ∷ es) once holds = grind (arith, common_steps, IsRow-links (Some e.index) es, other_index, same_index, times-here)
 
   pub walk-row : (at : ℕ → Option (ℕ × Link T)) (before : Option ℕ) (es : List (Entry T)) (n : ℕ) → length es ≤ n → IsRow at before es → walk at n (first_or None es) ≡ es
   walk-row at before [] zero fits row = refl
@@ -225,8 +232,8 @@ module _ {T : Type 0} where
     changed_link e = let p = f (e.0, e.1.item) in (p.0, record e.1 { item = p.1 })
 
     -- it changes no neighbour
-    pub link_between-changed_at : (before after : Option ℕ) (es : List (Entry T)) (i k : ℕ)
-        → link_between before after (changed_at f es i) k
-        ≡ (if i == k then option_map changed_link (link_between before after es k) else link_between before after es k)
-    link_between-changed_at before after [] i k = grind (arith, common_steps)
-    link_between-changed_at before after (e ∷ es) i k = grind (arith, common_steps, (same-changed_at es i).first after, link_between-changed_at (Some e.index) after es i k)
+    module _ (after : Option ℕ) (i k : ℕ) where
+      pub link_between-changed_at : (before : Option ℕ) (es : List (Entry T)) → link_between before after (changed_at f es i) k
+          ≡ if_named (Some i) k changed_link (link_between before after es k)
+      link_between-changed_at before [] = grind (arith, common_steps)
+      link_between-changed_at before (e ∷ es) = grind (arith, common_steps, (same-changed_at es i).first after, link_between-changed_at (Some e.index) es)

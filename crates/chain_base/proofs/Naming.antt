@@ -1,6 +1,5 @@
 -- How far the entries have learnt the places of their neighbours.
-use Rattle.std.proofs.Common.{◌≡◌, ◌≢◌, ℕ, ◌+◌, ◌<◌, ◌≤◌, true, false, List, [], ◌∷◌, length, Option, Some, cond}
-use Rattle.std.proofs.Common.{None, IsSome, IfSome, ◌↔◌, is_some, count_by, take, get_or, refl, sym, ap, ◌∙◌, arith, if◌then◌else◌, inl, inr, option_map, option_and_then}
+use Rattle.std.proofs.Common.{◌≡◌, ◌≢◌, ℕ, ◌+◌, ◌<◌, ◌≤◌, true, false, List, [], ◌∷◌, length, Option, Some, cond, None, IsSome, IfSome, ◌↔◌, is_some, count_by, take, get_or, refl, sym, ap, ◌∙◌, arith, if◌then◌else◌, inl, inr, option_map, option_and_then}
 use Rattle.std.proofs.lemmas.Grind.{common_steps}
 use Rattle.std.proofs.lemmas.Bool.Decides.{eqb_tells}
 use Rattle.std.proofs.lemmas.Bool.{false≢true}
@@ -35,9 +34,9 @@ module _ {T : Type 0} where
   named-begins side a begins = grind (arith, common_steps)
 
   -- a slot once the entry of an index, if one is named, has another neighbour
-  slot-facing : (side : Side) (a : Arena (Link T)) (at other : Option ℕ) (j : ℕ)
-      → slot (linked_facing side a at other) j ≡ (if names at j then option_map (with_facing side other) (slot a j) else slot a j)
-  slot-facing side a at other j = grind (arith, common_steps)
+  module _ (side : Side) (a : Arena (Link T)) (at other : Option ℕ) (j : ℕ) where
+    slot-facing : slot (linked_facing side a at other) j ≡ (if names at j then option_map (with_facing side other) (slot a j) else slot a j)
+    slot-facing = grind (arith, common_steps)
 
   -- the arena holds entries at the same indexes, which have the same neighbours on the side itself
   alike-facing : (side : Side) (a b : Arena (Link T)) (at other : Option ℕ) → Alike a b → Alike (linked_facing side a at other) b
@@ -49,31 +48,32 @@ module _ {T : Type 0} where
   module _ (side : Side) (old now : Arena (Link T)) (count : ℕ) (end : Option ℕ) (c : ℕ) (b : NamedBelow side old now count end c) (inside : c < length old.slots)
       (paired : IsPaired side old) where
     -- the index c has told its place: to the neighbour that it names, or as the end where it has an entry and names none
-    told : (next : Arena (Link T)) (more : ℕ) (last : Option ℕ)
-        → ((j : ℕ) → slot next j ≡ (if names (named side old c) j then option_map (with_facing side (Some (compressed_index_in old c))) (slot now j) else slot now j))
-        → more ≡ count_by is_some (take (c + 1) old.slots) → more < c + 1 → ((i : ℕ) → named side next i ≡ named side old i) → Alike next old
-        → (IsSome (slot old c) → named side old c ≡ None → last ≡ Some (compressed_index_in old c))
-        → ((IsSome (slot old c) → named side old c ≢ None) → last ≡ end) → NamedBelow side old next more last (c + 1)
-    told next more last slots counted fewer same alike ends goes =
-        record {
-          met = λ i j within is. elim (eqb_tells i c) [
-            | inl h ↦
-                let here : named side old c ≡ Some j = cc in
-                let fresh : slot now j ≡ slot old j = b.unmet j (λ k less is'. let clash = paired.once k c j is' here in absurd (omega arith)) in
-                grind (arith, common_steps, slots j)
-            | inr h ↦ grind (arith, common_steps, slots j, b.met i j, paired.once i c j, names_tells (named side old c) j)
-          ];
-          unmet = λ j no. grind (arith, common_steps, slots j, no c, b.unmet j (λ i less. no i (omega arith)), names_tells (named side old c) j);
-          end_is = λ i within there is. elim (eqb_tells i c) [
-            | inl h ↦ grind (arith, common_steps)
-            | inr h ↦ goes (λ some none. h.1 (paired.alone i c there some is none)) ∙ b.end_is i (omega arith) there is
-          ];
-          no_end = λ no. goes (no c (omega arith)) ∙ b.no_end (λ i less. no i (omega arith));
-          counted = counted;
-          fewer = fewer;
-          names_same = same;
-          alike = alike;
-        }
+    module _ (next : Arena (Link T)) (more : ℕ) (last : Option ℕ)
+        (slots : (j : ℕ) → slot next j ≡ (if names (named side old c) j then option_map (with_facing side (Some (compressed_index_in old c))) (slot now j) else slot now j))
+        (counted : more ≡ count_by is_some (take (c + 1) old.slots)) (fewer : more < c + 1)
+        (same : (i : ℕ) → named side next i ≡ named side old i) (alike : Alike next old)
+        (ends : IsSome (slot old c) → named side old c ≡ None → last ≡ Some (compressed_index_in old c)) where
+      told : ((IsSome (slot old c) → named side old c ≢ None) → last ≡ end) → NamedBelow side old next more last (c + 1)
+      told goes =
+          record {
+            met = λ i j within is. elim (eqb_tells i c) [
+              | inl h ↦
+                  let here : named side old c ≡ Some j = cc in
+                  let fresh : slot now j ≡ slot old j = b.unmet j (λ k less is'. let clash = paired.once k c j is' here in absurd (omega arith)) in
+                  grind (arith, common_steps, slots j)
+              | inr h ↦ grind (arith, common_steps, slots j, b.met i j, paired.once i c j, names_tells (named side old c) j)
+            ];
+            unmet = λ j no. grind (arith, common_steps, slots j, no c, b.unmet j (λ i less. no i (omega arith)), names_tells (named side old c) j);
+            end_is = λ i within there is. elim (eqb_tells i c) [
+              | inl h ↦ grind (arith, common_steps)
+              | inr h ↦ goes (λ some none. h.1 (paired.alone i c there some is none)) ∙ b.end_is i (omega arith) there is
+            ];
+            no_end = λ no. goes (no c (omega arith)) ∙ b.no_end (λ i less. no i (omega arith));
+            counted = counted;
+            fewer = fewer;
+            names_same = same;
+            alike = alike;
+          }
 
     -- the slot at c is vacant
     pub named-vacant : slot now c ≡ None → NamedBelow side old now count end (c + 1)
@@ -95,15 +95,16 @@ module _ {T : Type 0} where
       named-target k is = let there : is_some (slot old k) ≡ true = paired.there c k (name ∙ is) in b.alike.held k ∙ there
 
       -- its neighbour, if it has one, learns the place
-      pub named-step : (o : Option ℕ) → o ≡ neighbour_on side e.1 → (last : Option ℕ) → (is_some o ≡ false → last ≡ Some (count + 1)) → (is_some o ≡ true → last ≡ end)
-          → (next : Arena (Link T)) → next ≡ linked_facing side now o (Some (count + 1)) → NamedBelow side old next (count + 1) last (c + 1)
-      named-step o is last ends goes next linked =
-          let here : named side old c ≡ o = name ∙ sym is in
-          let place : Some (count + 1) ≡ Some (compressed_index_in old c) = ap (λ n. Some (n + 1)) b.counted in
-          told next (count + 1) last (λ j. rw (linked, here, ← place) (slot-facing side now o (Some (count + 1)) j))
-          (ap (λ n. n + 1) b.counted ∙ sym (count_by_more_yes is_some old.slots c None inside is_held)) (let f = b.fewer in omega arith)
-          (λ i. rw linked (names-facing side now o (Some (count + 1)) i ∙ b.names_same i)) (rw linked (alike-facing side now old o (Some (count + 1)) b.alike))
-          (λ some none. ends (ap is_some (sym here ∙ none)) ∙ place) (λ some. goes (grind (arith, common_steps, some is_held)))
+      module _ (o : Option ℕ) (is : o ≡ neighbour_on side e.1) (last : Option ℕ) (ends : is_some o ≡ false → last ≡ Some (count + 1))
+          (goes : is_some o ≡ true → last ≡ end) (next : Arena (Link T)) where
+        pub named-step : next ≡ linked_facing side now o (Some (count + 1)) → NamedBelow side old next (count + 1) last (c + 1)
+        named-step linked =
+            let here : named side old c ≡ o = name ∙ sym is in
+            let place : Some (count + 1) ≡ Some (compressed_index_in old c) = ap (λ n. Some (n + 1)) b.counted in
+            told next (count + 1) last (λ j. rw (linked, here, ← place) (slot-facing side now o (Some (count + 1)) j))
+            (ap (λ n. n + 1) b.counted ∙ sym (count_by_more_yes is_some old.slots c None inside is_held)) (let f = b.fewer in omega arith)
+            (λ i. rw linked (names-facing side now o (Some (count + 1)) i ∙ b.names_same i)) (rw linked (alike-facing side now old o (Some (count + 1)) b.alike))
+            (λ some none. ends (ap is_some (sym here ∙ none)) ∙ place) (λ some. goes (grind (arith, common_steps, some is_held)))
 
   -- an index with an entry lies within the slots
   held-inside : (slots : List (Option (ℕ × Link T))) (i : ℕ) → is_some (get_or slots i None) ≡ true → i < length slots
@@ -114,19 +115,19 @@ module _ {T : Type 0} where
   named-within side a i k is = grind (arith, common_steps)
 
   -- at last all have
-  pub named-ends : (side : Side) (old now : Arena (Link T)) (count : ℕ) (end : Option ℕ) (c : ℕ) → NamedBelow side old now count end c
-      → length old.slots ≤ c → take 1 old.slots ≡ None ∷ [] → NamesCompressedIndexes side old now end
-  named-ends side old now count end c b past begins =
-      record {
-        met = λ i k is. let within = named-within side old i k is in b.met i k (omega arith) is;
-        unmet = λ k no. b.unmet k (λ i less. no i);
-        end_is = λ i held is. let within = held-inside old.slots i held in b.end_is i (omega arith) held is;
-        no_end = λ no. b.no_end (λ i less. no i);
-        kept = b.alike.kept;
-        begins = begins;
-        held = b.alike.held;
-        within = b.alike.long;
-      }
+  module _ (side : Side) (old now : Arena (Link T)) (count : ℕ) (end : Option ℕ) (c : ℕ) (b : NamedBelow side old now count end c) where
+    pub named-ends : length old.slots ≤ c → take 1 old.slots ≡ None ∷ [] → NamesCompressedIndexes side old now end
+    named-ends past begins =
+        record {
+          met = λ i k is. let within = named-within side old i k is in b.met i k (omega arith) is;
+          unmet = λ k no. b.unmet k (λ i less. no i);
+          end_is = λ i held is. let within = held-inside old.slots i held in b.end_is i (omega arith) held is;
+          no_end = λ no. b.no_end (λ i less. no i);
+          kept = b.alike.kept;
+          begins = begins;
+          held = b.alike.held;
+          within = b.alike.long;
+        }
 
 -- What is learnt where an arena's links name the neighbours that a list has, on this side; `place` tells the list's compressed indexes.
 module _ {T : Type 0} (side : Side) (old : Arena (Link T)) (es : List (Entry T)) (distinct : IsDistinct es) (held : HoldIndexes old.slots es)
@@ -141,15 +142,15 @@ module _ {T : Type 0} (side : Side) (old : Arena (Link T)) (es : List (Entry T))
 
   module _ (new : Arena (Link T)) (end : Option ℕ) (n : NamesCompressedIndexes side old new end) (place : ℕ → ℕ) (placed : (i : ℕ) → 1 ≤ times i es → compressed_index_in old i ≡ place i) where
     -- each entry has learnt the place of its neighbour on the other side
-    pub learnt : (k : ℕ) → (beside (opposite side) es k ≡ None → option_map (with_facing side None) (slot old k) ≡ slot old k)
-        → slot new k ≡ option_map (with_facing side (option_map place (beside (opposite side) es k))) (slot old k)
-    learnt k ends = by (beside (opposite side) es k) refl
-      where
-        by : (o : Option ℕ) → beside (opposite side) es k ≡ o → slot new k ≡ option_map (with_facing side (option_map place o)) (slot old k)
-        by None none = n.unmet k (λ i is. none-some i (sym none ∙ facing side es distinct i k (sym (names i) ∙ is))) ∙ sym (ends none)
-        by (Some i) is =
-            let back = facing-back side es distinct k i is in
-            rw (← placed i (beside-occurs side es i k back)) (n.met i k (names i ∙ back))
+    module _ (k : ℕ) (ends : beside (opposite side) es k ≡ None → option_map (with_facing side None) (slot old k) ≡ slot old k) where
+      pub learnt : slot new k ≡ option_map (with_facing side (option_map place (beside (opposite side) es k))) (slot old k)
+      learnt = by (beside (opposite side) es k) refl
+        where
+          by : (o : Option ℕ) → beside (opposite side) es k ≡ o → slot new k ≡ option_map (with_facing side (option_map place o)) (slot old k)
+          by None none = n.unmet k (λ i is. none-some i (sym none ∙ facing side es distinct i k (sym (names i) ∙ is))) ∙ sym (ends none)
+          by (Some i) is =
+              let back = facing-back side es distinct k i is in
+              rw (← placed i (beside-occurs side es i k back)) (n.met i k (names i ∙ back))
 
     pub end-learnt : end ≡ option_map place (end_on side es)
     end-learnt = by (end_on side es) refl

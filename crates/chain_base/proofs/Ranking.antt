@@ -74,7 +74,7 @@ module _ {X : Type 0} where
   length-entries from (None ∷ slots) = omega (arith, length-entries (from + 1) slots, sum_by-cons (λ (o : Option (ℕ × X)). cond (is_some o) 1 0) None slots)
   length-entries from (Some e ∷ slots) = omega (arith, length-entries (from + 1) slots, sum_by-cons (λ o. cond (is_some o) 1 0) (Some e) slots)
 
-  pub entry-placed : (from : ℕ) (slots : List (Option (ℕ × X))) (x : ℕ) (e : ℕ × X) → get_or slots x None ≡ Some e
+  pub entry-placed : (from : ℕ) (slots : List _) (x : ℕ) (e : ℕ × X) → get_or slots x None ≡ Some e
       → slice_get (entries_from from slots) (count_by is_some (take x slots)) ≡ Some (from + x, e.0, e.1)
   entry-placed from (None ∷ slots) (suc x) e is = grind (arith, common_steps, entry-placed (from + 1) slots x e is)
   entry-placed from (Some f ∷ slots) (suc x) e is = grind (arith, common_steps, entry-placed (from + 1) slots x e is)
@@ -125,13 +125,12 @@ module _ {X Y : Type 0} (see : X → Y) (at : ℕ → Option (ℕ × Y)) (among 
       → all_seen (entries_from from slots) ≡ among from (length slots)
   among-slots from [] same = sym (none from)
   among-slots from (o ∷ slots) same =
-      by o (let here : seen o ≡ at (from + 0) = same 0 (omega arith) in rw add-zero at here)
+      by o _ (let here : seen o ≡ at (from + 0) = same 0 (omega arith) in rw add-zero at here)
       (among-slots (from + 1) slots (λ k within. let shift : from + suc k ≡ from + 1 + k = omega arith in rw shift at (same (suc k) (omega arith)))) ∙ sym (next from (length slots))
     where
-      by : (o : Option (ℕ × X)) → seen o ≡ at from → all_seen (entries_from (from + 1) slots) ≡ among (from + 1) (length slots)
-          → all_seen (entries_from from (o ∷ slots)) ≡ entry_before from (at from) (among (from + 1) (length slots))
-      by None here more = rw (← here) more
-      by (Some e) here more = rw (← here) (ap (λ rest. (from, e.0, see e.1) ∷ rest) more)
+      by : (o : Option (ℕ × X)) (rest : List _) → seen o ≡ at from → all_seen (entries_from (from + 1) slots) ≡ rest → all_seen (entries_from from (o ∷ slots)) ≡ entry_before from (at from) rest
+      by None rest here more = rw (← here) more
+      by (Some e) rest here more = rw (← here) (ap (λ rest. (from, e.0, see e.1) ∷ rest) more)
 
   pub among-arena : (slots : List (Option (ℕ × X))) → at 0 ≡ None → ((i : ℕ) → seen (get_or slots i None) ≡ at i)
       → all_seen (entries_from 0 slots) ≡ among 1 (length slots - 1)

@@ -3,7 +3,7 @@ use Rattle.std.proofs.Common.{◌≡◌, ◌≢◌, ℕ, ◌+◌, ◌≤◌, Lis
 use Rattle.std.proofs.lemmas.Grind.{common_steps}
 use Rattle.std.proofs.lemmas.Option.{none-some, same_Some}
 use Rattle.chain_base.specs.Link.{Link}
-use Rattle.chain_base.specs.Chain.{Entry, IsDistinct, times, first_or, last_or, link_between, link_at}
+use Rattle.chain_base.specs.Chain.{Entry, IsDistinct, times, entry_at, first_or, last_or, link_between, link_at}
 use Rattle.chain_base.specs.Layout.{IsLaidOut}
 use Rattle.chain_base.specs.Naming.{neighbour_on}
 use Rattle.chain_base.specs.declared.chain.compress.Side.{Side}
@@ -18,9 +18,10 @@ opposite After = Before
 
 module _ {T : Type 0} where
   -- the link of an entry at its place
-  pub link_at-split : (es xs : List (Entry T)) (e : Entry T) (ys : List (Entry T)) → es ≡ xs ++ e ∷ ys → IsDistinct es → (i : ℕ) → e.index ≡ i
-      → link_at es i ≡ Some (e.generation, record { item = e.item; prev = last_or None xs; next = first_or None ys })
-  link_at-split es xs e ys split distinct i here = grind (arith, common_steps, split, distinct, times-append, times-here, here, link_between-append, link_between-absent, same_index)
+  module _ (es xs : List (Entry T)) (e : Entry T) (ys : List (Entry T)) (split : es ≡ xs ++ e ∷ ys) (distinct : IsDistinct es) (i : ℕ)
+      (here : e.index ≡ i) where
+    pub link_at-split : link_at es i ≡ Some (e.generation, record { item = e.item; prev = last_or None xs; next = first_or None ys })
+    link_at-split = grind (arith, common_steps, split, distinct, times-append, times-here, here, link_between-append, link_between-absent, same_index)
 
   -- the neighbour on a side that the link of an entry names, where the list stands behind `before`
   abbrev beside_in : Side → Option ℕ → List (Entry T) → ℕ → Option ℕ
@@ -67,9 +68,10 @@ module _ {T : Type 0} where
   facing-back After es distinct x i is = facing Before es distinct x i is
 
   -- a neighbour is another entry
-  side-occurs : (side : Side) (front : List (Entry T)) (e : Entry T) (back : List (Entry T)) (k : ℕ)
-      → neighbour_on side (record { item = e.item; prev = last_or None front; next = first_or None back }) ≡ Some k → 1 ≤ times k front + times k back
-  side-occurs side front e back k is = grind (arith, common_steps, times-last, times-first)
+  module _ (side : Side) (front : List (Entry T)) (e : Entry T) (back : List (Entry T)) (k : ℕ)
+      (is : neighbour_on side (record { item = e.item; prev = last_or None front; next = first_or None back }) ≡ Some k) where
+    side-occurs : 1 ≤ times k front + times k back
+    side-occurs = grind (arith, common_steps, times-last, times-first)
 
   pub beside-other : (side : Side) (es : List (Entry T)) → IsDistinct es → (i k : ℕ) → beside side es i ≡ Some k → (i ≢ k) × (1 ≤ times k es)
   beside-other side es distinct i k is =
@@ -119,15 +121,23 @@ module _ {T : Type 0} where
     end-renumbered Before xs = first_or-renumbered xs
     end-renumbered After xs = last_or-renumbered None xs
 
-    -- an index that no other becomes stands as often, and has the same neighbours
-    pub times-renumbered : (es : List (Entry T)) (x : ℕ) → ((y : ℕ) → 1 ≤ times y es → renumber y ≡ renumber x → y ≡ x) → times (renumber x) (map altered es) ≡ times x es
+    -- no other index of the list becomes what this one becomes
+    abbrev pub IsAlone : List (Entry T) → ℕ → Type 0
+    IsAlone es x = (y : ℕ) → 1 ≤ times y es → renumber y ≡ renumber x → y ≡ x
+
+    -- then it stands as often, and has the same neighbours
+    pub times-renumbered : (es : List (Entry T)) (x : ℕ) → IsAlone es x → times (renumber x) (map altered es) ≡ times x es
     times-renumbered [] x apart = refl
     times-renumbered (e ∷ es) x apart = grind (arith, common_steps, times-renumbered es x)
 
-    link_between-renumbered : (before : Option ℕ) (es : List (Entry T)) (x : ℕ) → ((y : ℕ) → 1 ≤ times y es → renumber y ≡ renumber x → y ≡ x)
-        → link_between (option_map renumber before) None (map altered es) (renumber x) ≡ option_map (followed x) (link_between before None es x)
-    link_between-renumbered before [] x apart = refl
-    link_between-renumbered before (e ∷ es) x apart = grind (arith, common_steps, first_or-renumbered es, link_between-renumbered (Some e.index) es x)
+    pub entry_at-renumbered : (es : List (Entry T)) (x : ℕ) → IsAlone es x → entry_at (map altered es) (renumber x) ≡ option_map (alter x) (entry_at es x)
+    entry_at-renumbered [] x apart = refl
+    entry_at-renumbered (e ∷ es) x apart = grind (arith, common_steps, entry_at-renumbered es x)
+
+    link-renumbered : (b : Option ℕ) (es : List _) (x : ℕ) → IsAlone es x
+        → link_between (option_map renumber b) None (map altered es) (renumber x) ≡ option_map (followed x) (link_between b None es x)
+    link-renumbered b [] x apart = refl
+    link-renumbered b (e ∷ es) x apart = grind (arith, common_steps, first_or-renumbered es, link-renumbered (Some e.index) es x)
 
     -- an index of the new list was another of the old one
     pub times-source : (es : List (Entry T)) (k : ℕ) → 1 ≤ times k (map altered es) → (x : ℕ) × (renumber x ≡ k) × (1 ≤ times x es)
@@ -142,15 +152,16 @@ module _ {T : Type 0} where
       distinct-renumbered k = grind (arith, common_steps, times-source, distinct, times-changed)
 
       pub link_at-renumbered : (x : ℕ) → 1 ≤ times x es → link_at (map altered es) (renumber x) ≡ option_map (followed x) (link_at es x)
-      link_at-renumbered x occurs = link_between-renumbered None es x (λ y there same. apart y x there occurs same)
+      link_at-renumbered x occurs = link-renumbered None es x (λ y there same. apart y x there occurs same)
 
       -- Slots that hold each changed entry with its neighbours renumbered, and nothing else, hold the changed list.
-      pub IsLaidOut-renumbered : (slots : List (Option (ℕ × Link T))) (first last : Option ℕ)
-          → ((x : ℕ) → 1 ≤ times x es → get_or slots (renumber x) None ≡ option_map (followed x) (link_at es x))
-          → ((k : ℕ) → is_some (get_or slots k None) ≡ true → (x : ℕ) × (renumber x ≡ k) × (1 ≤ times x es))
-          → first ≡ option_map renumber (first_or None es) → last ≡ option_map renumber (last_or None es) → IsLaidOut slots first last (map altered es)
-      IsLaidOut-renumbered slots first last held back first_is last_is =
-          laid-held slots first last (map altered es)
-          (λ k there. let s = times-source es k there in subst (λ i. get_or slots i None ≡ link_at (map altered es) i) s.1 (held s.0 s.2 ∙ sym (link_at-renumbered s.0 s.2)))
-          (λ k some. let s = back k some in subst (λ i. 1 ≤ times i (map altered es)) s.1 (omega (arith, times-changed s.0 s.2, s.2)))
-          distinct-renumbered (first_is ∙ sym (end-renumbered Before es)) (last_is ∙ sym (end-renumbered After es))
+      module _ (slots : List (Option (ℕ × Link T))) (first last : Option ℕ)
+          (held : (x : ℕ) → 1 ≤ times x es → get_or slots (renumber x) None ≡ option_map (followed x) (link_at es x))
+          (back : (k : ℕ) → is_some (get_or slots k None) ≡ true → (x : ℕ) × (renumber x ≡ k) × (1 ≤ times x es))
+          (first_is : first ≡ option_map renumber (first_or None es)) where
+        pub IsLaidOut-renumbered : last ≡ option_map renumber (last_or None es) → IsLaidOut slots first last (map altered es)
+        IsLaidOut-renumbered last_is =
+            laid-held slots first last (map altered es)
+            (λ k there. let s = times-source es k there in subst (λ i. get_or slots i None ≡ link_at (map altered es) i) s.1 (held s.0 s.2 ∙ sym (link_at-renumbered s.0 s.2)))
+            (λ k some. let s = back k some in subst (λ i. 1 ≤ times i (map altered es)) s.1 (omega (arith, times-changed s.0 s.2, s.2)))
+            distinct-renumbered (first_is ∙ sym (end-renumbered Before es)) (last_is ∙ sym (end-renumbered After es))

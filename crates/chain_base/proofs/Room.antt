@@ -10,9 +10,10 @@ module _ {T : Type 0} where
   pub inserted-capacity : (c : Chain T) (place : Entry T → List (Entry T)) (item : T) (vacant : List ℕ) → (inserted_at c place item vacant).capacity ≡ c.capacity
   inserted-capacity c place item vacant = grind (arith, common_steps)
 
-  pub capacity-kept : {P E : Type 0} (old new : Chain T) (place : Entry T → List (Entry T)) (item : T) (numbers : P → ℕ × ℕ) (r : Result P E)
-      → IfOk r (λ p. IsInsertion old new place item (numbers p).0 (numbers p).1) → OnErr r (new ≡ old) → new.capacity ≡ old.capacity
-  capacity-kept old new place item numbers r ok err = grind (arith, common_steps, inserted-capacity)
+  module _ {P E : Type 0} (old new : Chain T) (place : Entry T → List (Entry T)) (item : T) (numbers : P → ℕ × ℕ) (r : Result P E)
+      (ok : IfOk r (λ p. IsInsertion old new place item (numbers p).0 (numbers p).1)) where
+    pub capacity-kept : OnErr r (new ≡ old) → new.capacity ≡ old.capacity
+    capacity-kept err = grind (arith, common_steps, inserted-capacity)
 
   -- an index that no entry has is among the vacant ones, so that there is a first of them
   vacant_among-some : (es : List (Entry T)) (from count k : ℕ) → from ≤ k → k < from + count → times k es ≡ 0 → IsSome (slice_get (vacant_among es from count) 0)

@@ -7,6 +7,7 @@ use Rattle.arena_base.specs.Arena.{Arena, arena_capacity, times as times_among, 
 use Rattle.chain_base.specs.Link.{Link}
 use Rattle.chain_base.specs.Chain.{Entry, times, IsSound}
 use Rattle.chain_base.specs.Layout.{chain_of, IsLaidOut}
+use Rattle.chain_base.proofs.LaidOut.{IsChainIn}
 use Rattle.chain_base.proofs.Lists.{entry_at-link}
 use Rattle.chain_base.proofs.Vacancy.{HoldIndexes, held-within, vacant-held}
 use Rattle.chain_base.proofs.Steps.{held-laid}
@@ -21,24 +22,25 @@ module _ {T : Type 0} where
   first-vacant slots begins = grind (arith, common_steps)
 
   -- a lawful slot has a lawful entry
-  lawful-entry : (greatest : Option ℕ) (o : Option (ℕ × Link T)) → ForSome o (λ e. IsLawfulGeneration greatest e.0)
-      → ForSome {T = ℕ × T} (option_map (λ e. (e.0, e.1.item)) o) (λ e. IsLawfulGeneration greatest e.0)
-  lawful-entry greatest o lawful = grind (arith, common_steps)
+  module _ (greatest : Option ℕ) (o : Option (ℕ × Link T)) (lawful : ForSome o (λ e. IsLawfulGeneration greatest e.0)) where
+    lawful-entry : ForSome {T = ℕ × T} (option_map (λ e. (e.0, e.1.item)) o) (λ e. IsLawfulGeneration greatest e.0)
+    lawful-entry = grind (arith, common_steps)
 
-  pub IsSound-laid_out : (most : ℕ) (greatest : Option ℕ) (a : Arena (Link T)) (first last : Option ℕ)
-      → IsLaidOut a.slots first last (chain_of a first).entries → IsSoundArena most greatest a → IsSound most greatest (chain_of a first)
-  IsSound-laid_out most greatest a first last laid sound =
-      let es = (chain_of a first).entries in
-      let held = held-laid a.slots first last es laid in
-      record {
-        distinct = laid.distinct;
-        within = λ i occurs. (grind (arith, common_steps, first-vacant a.slots sound.begins, held i), occupied-within a es i held occurs);
-        within_limit = sound.within_limit;
-        generation_lawful = sound.generation_lawful;
-        entries_lawful = λ i. rw (entry_at-link None None es i, ← laid.links i) (lawful-entry greatest _ (sound.entries_lawful i));
-        vacant_listed = λ i. sound.vacant_listed i ∙ ap (times_among i) (vacant-held a.slots es held);
-        counted = omega (arith, laid.counted, sound.counted);
-      }
+  module _ (most : ℕ) (greatest : Option ℕ) (a : Arena (Link T)) (first last : Option ℕ)
+      (laid : IsChainIn a first last) where
+    pub IsSound-laid_out : IsSoundArena most greatest a → IsSound most greatest (chain_of a first)
+    IsSound-laid_out sound =
+        let es = (chain_of a first).entries in
+        let held = held-laid a.slots first last es laid in
+        record {
+          distinct = laid.distinct;
+          within = λ i occurs. (grind (arith, common_steps, first-vacant a.slots sound.begins, held i), occupied-within a es i held occurs);
+          within_limit = sound.within_limit;
+          generation_lawful = sound.generation_lawful;
+          entries_lawful = λ i. rw (entry_at-link None None es i, ← laid.links i) (lawful-entry greatest _ (sound.entries_lawful i));
+          vacant_listed = λ i. sound.vacant_listed i ∙ ap (times_among i) (vacant-held a.slots es held);
+          counted = omega (arith, laid.counted, sound.counted);
+        }
 
   -- a call that may set the maximum keeps the slots
   pub slots-kept : {X E : Type 0} (r : Result X E) (old new : Arena (Link T)) (maximum : Option ℕ) → OnOk r (new ≡ record old { maximum = maximum }) → OnErr r (new ≡ old) → new.slots ≡ old.slots

@@ -2,14 +2,13 @@
 use Rattle.std.proofs.Common.{◌≡◌, ℕ, ◌+◌, ◌-◌, ◌<◌, List, [], ◌∷◌, ◌++◌, length, Option, Some, None, is_some, cond, refl, sym, ap, subst, ◌∙◌, arith, if◌then◌else◌, slice_get, length-set, replicate}
 use Rattle.std.proofs.lemmas.Grind.{common_steps}
 use Rattle.std.proofs.lemmas.List.{length-replicate}
-use Rattle.arena_base.specs.Arena.{Arena, slot, with_entry_at, arena_capacity, with_capacity as arena_with_capacity, removed as arena_removed}
-use Rattle.arena_base.specs.Arena.{renewed as arena_renewed, cleared as arena_cleared, resized, IsInsertion as IsArenaInsertion}
+use Rattle.arena_base.specs.Arena.{Arena, slot, with_entry_at, arena_capacity, with_capacity as arena_with_capacity, removed as arena_removed, renewed as arena_renewed, cleared as arena_cleared, resized, IsInsertion as IsArenaInsertion}
 use Rattle.chain_base.specs.Link.{Link}
 use Rattle.chain_base.specs.Chain.{Entry, Chain, first_or, last_or, inserted_at, with_capacity, vacant_indexes, removed, renewed, cleared, with_item}
 use Rattle.chain_base.specs.Insert.{IsInsertion, IsPlace}
 use Rattle.chain_base.specs.Layout.{chain_of, rewritten, IsLaidOut}
 use Rattle.chain_base.proofs.Lists.{entry_at-some, linked-occurs, last_or-append, times-unlinked, Stands-occurs, Stands, last_or-there, with_item_among-changed_at, with_generation-changed_at}
-use Rattle.chain_base.proofs.LaidOut.{laid-links, IsLaidOut-walked, Alike, alike-bridged, bridged, end_beside, link_amid, closed, walk-laid_out, slot-laid_out, joined, IsLaidOut-inserted, IsLaidOut-removed, IsLaidOut-changed_at}
+use Rattle.chain_base.proofs.LaidOut.{IsChainIn, laid-links, IsLaidOut-walked, Alike, alike-bridged, bridged, end_beside, link_amid, closed, walk-laid_out, slot-laid_out, joined, IsLaidOut-inserted, IsLaidOut-removed, IsLaidOut-changed_at}
 use Rattle.chain_base.proofs.Vacancy.{HoldIndexes, held-links, vacant-held, get_or-vacant, get_or-resized, length-resized}
 
 -- the list of vacant indexes begins with the next one
@@ -20,20 +19,22 @@ next-first (k ∷ rest) i next = let same : k ≡ i = cc in (rest, ap (λ n. n �
 module _ {T : Type 0} where
   -- the chain c lies in an arena, between these ends
   pub record Lies (a : Arena (Link T)) (first last : Option ℕ) (c : Chain T) : Type 0 where
-    pub laid : IsLaidOut a.slots first last (chain_of a first).entries
+    pub laid : IsChainIn a first last
     pub chain : chain_of a first ≡ c
 
-  pub lies : (a : Arena (Link T)) (first last : Option ℕ) (c : Chain T) → IsLaidOut a.slots first last c.entries → arena_capacity a ≡ c.capacity → a.vacant ≡ c.vacant
-      → a.generation ≡ c.generation → a.maximum ≡ c.maximum → Lies a first last c
-  lies a first last c laid capacity vacant generation maximum =
-      record { laid = IsLaidOut-walked a first last c.entries laid; chain = rw (walk-laid_out a first last c.entries laid, capacity, vacant, generation, maximum) refl }
+  module _ (a : Arena (Link T)) (first last : Option ℕ) (c : Chain T) (laid : IsLaidOut a.slots first last c.entries)
+      (capacity : arena_capacity a ≡ c.capacity) where
+    pub lies : a.vacant ≡ c.vacant → a.generation ≡ c.generation → a.maximum ≡ c.maximum → Lies a first last c
+    lies vacant generation maximum =
+        record { laid = IsLaidOut-walked a first last c.entries laid; chain = rw (walk-laid_out a first last c.entries laid, capacity, vacant, generation, maximum) refl }
 
   -- an arena with other slots that hold entries at the same indexes
-  pub lies-alike : (a b : Arena (Link T)) (first last : Option ℕ) (es : List (Entry T)) → Alike b a → IsLaidOut b.slots first last es
-      → Lies b first last (record { entries = es; capacity = arena_capacity a; vacant = a.vacant; generation = a.generation; maximum = a.maximum })
-  lies-alike a b first last es same laid =
-      lies b first last _ laid (ap (λ n. n - 1) same.long) (ap (λ (a : Arena (Link T)). a.vacant) same.kept)
-      (ap (λ (a : Arena (Link T)). a.generation) same.kept) (ap (λ (a : Arena (Link T)). a.maximum) same.kept)
+  module _ (a b : Arena (Link T)) (first last : Option ℕ) (es : List (Entry T)) (same : Alike b a) where
+    pub lies-alike : IsLaidOut b.slots first last es
+        → Lies b first last (record { entries = es; capacity = arena_capacity a; vacant = a.vacant; generation = a.generation; maximum = a.maximum })
+    lies-alike laid =
+        lies b first last _ laid (ap (λ n. n - 1) same.long) (ap (λ (a : Arena (Link T)). a.vacant) same.kept)
+        (ap (λ (a : Arena (Link T)). a.generation) same.kept) (ap (λ (a : Arena (Link T)). a.maximum) same.kept)
 
   -- an index of a laid list is one whose slot holds a link
   pub held-laid : (slots : List (Option (ℕ × Link T))) (first last : Option ℕ) (es : List (Entry T)) → IsLaidOut slots first last es → HoldIndexes slots es
@@ -49,60 +50,59 @@ module _ {T : Type 0} where
 
   -- what an insertion between two neighbours makes of a chain
   pub record Inserts (a b : Arena (Link T)) (first first2 last2 : Option ℕ) (place : Entry T → List (Entry T)) (item : T) (j g : ℕ) : Type 0 where
-    pub laid : IsLaidOut b.slots first2 last2 (chain_of b first2).entries
+    pub laid : IsChainIn b first2 last2
     pub insertion : IsInsertion (chain_of a first) (chain_of b first2) place item j g
 
-  Joins-between : (a a1 : Arena (Link T)) (first last : Option ℕ) (front back : List (Entry T)) (item : T) (j : ℕ) (rest : List ℕ) → IsLaidOut a.slots first last (front ++ back)
-      → slot a j ≡ None → j < length a.slots → a1 ≡ with_entry_at a (j ∷ rest) (link_amid front item back)
-      → Lies (joined a1 j front back) (end_beside (last_or None front) first (Some j)) (end_beside (first_or None back) last (Some j))
-      (record { entries = front ++ record { index = j; generation = a.generation; item = item } ∷ back; capacity = arena_capacity a; vacant = rest; generation = a.generation; maximum = a.maximum })
-  Joins-between a a1 first last front back item j rest laid vacant within after =
-      let filled : Arena (Link T) = with_entry_at a (j ∷ rest) (link_amid front item back) in
-      let first2 : end_beside (last_or None front) first (Some j) ≡ first_or (Some j) front = rw laid.first_is (first_or-end front back (Some j)) in
-      let last2 : end_beside (first_or None back) last (Some j) ≡ last_or (Some j) back = rw laid.last_is (last_or-end front back (Some j)) in
-      let done = lies-alike filled (joined filled j front back) _ _ _ (alike-bridged filled (last_or None front) (Some j) (first_or None back) (Some j)) (IsLaidOut-inserted a first last front back j rest item laid vacant within) in
-      rw (after, first2, last2) (rw (length-set a.slots j (Some (a.generation, link_amid front item back))) at done)
+  module _ (a a1 : Arena (Link T)) (first last : Option ℕ) (front back : List (Entry T)) (place : Entry T → List (Entry T)) (puts : (new : Entry T) → place new ≡ front ++ new ∷ back)
+      (item : T) (j : ℕ) (rest : List ℕ) (laid : IsLaidOut a.slots first last (front ++ back))
+      (vacant : slot a j ≡ None) (within : j < length a.slots) (after : a1 ≡ with_entry_at a (j ∷ rest) (link_amid front item back)) where
+    Joins-between : Lies (joined a1 j front back) (end_beside (last_or None front) first (Some j)) (end_beside (first_or None back) last (Some j))
+        (inserted_at (chain_of a first) place item (j ∷ rest))
+    Joins-between =
+        let filled : Arena (Link T) = with_entry_at a (j ∷ rest) (link_amid front item back) in
+        let first2 : end_beside (last_or None front) first (Some j) ≡ first_or (Some j) front = rw laid.first_is (first_or-end front back (Some j)) in
+        let last2 : end_beside (first_or None back) last (Some j) ≡ last_or (Some j) back = rw laid.last_is (last_or-end front back (Some j)) in
+        let done = lies-alike filled (joined filled j front back) _ _ _ (alike-bridged filled (last_or None front) (Some j) (first_or None back) (Some j)) (IsLaidOut-inserted a first last front back j rest item laid vacant within) in
+        rw (after, first2, last2, puts (record { index = j; generation = a.generation; item = item })) (rw (length-set a.slots j (Some (a.generation, link_amid front item back))) at done)
 
-  pub Inserts-joined : (a a1 : Arena (Link T)) (first last : Option ℕ) (place : Entry T → List (Entry T)) (prev next : Option ℕ) (item : T) (j g : ℕ)
-      → IsLaidOut a.slots first last (chain_of a first).entries → IsPlace (chain_of a first).entries place prev next
-      → IsArenaInsertion a a1 (record { item = item; prev = prev; next = next }) j g
-      → Inserts a (bridged a1 prev (Some j) next (Some j)) first (end_beside prev first (Some j)) (end_beside next last (Some j)) place item j g
-  Inserts-joined a a1 first last place prev next item j g laid at ins =
-      let head = next-first a.vacant j ins.next in
-      let laid2 = subst (λ (es : List (Entry T)). IsLaidOut a.slots first last es) at.split laid in
-      let ins2 = rw (at.prev_is, at.next_is) at ins in
-      let after : a1 ≡ with_entry_at a (j ∷ head.0) (link_amid at.front item at.back) = rw head.1 at ins2.after in
-      let b : Arena (Link T) = joined a1 j at.front at.back in
-      let joins = Joins-between a a1 first last at.front at.back item j head.0 laid2 ins.vacant.free (omega (arith, ins.vacant.within, ins.vacant.above)) after in
-      let same = alike-bridged a1 (last_or None at.front) (Some j) (first_or None at.back) (Some j) in
-      let fresh = vacant-held a.slots _ (held-laid a.slots first last _ laid) in
-      rw (at.prev_is, at.next_is) (record {
-        laid = joins.laid;
-        insertion = record {
-          next = ins.next;
-          vacant = record { above = ins.vacant.above; within = ins.vacant.within; free = times-unlinked None None _ j (sym (laid.links j) ∙ ins.vacant.free) };
-          least = λ new k above below. entry_at-some _ k ∙ ap is_some (sym (laid.links k)) ∙ ins.least (new ∙ sym fresh) k above below;
-          generation = ins.generation;
-          after = joins.chain
-              ∙ ap (λ es. record { entries = es; capacity = arena_capacity a; vacant = head.0; generation = a.generation; maximum = a.maximum }) (sym (at.puts (record { index = j; generation = a.generation; item = item })))
-              ∙ sym (ap (inserted_at (chain_of a first) place item) head.1);
-          fresh = λ new. ap (λ (a : Arena (Link T)). a.vacant) same.kept ∙ ins.fresh (new ∙ sym fresh)
-              ∙ vacant-held a1.slots _ (λ k. held-laid b.slots _ _ _ joins.laid k ∙ ap (λ b. cond b 1 0) (same.held k)) ∙ ap (λ n. vacant_indexes (chain_of b (end_beside (last_or None at.front) first (Some j))).entries (n - 1)) (sym same.long);
-        };
-      })
+  module _ (a a1 : Arena (Link T)) (first last : Option ℕ) (place : Entry T → List (Entry T)) (prev next : Option ℕ) (item : T) (j g : ℕ)
+      (laid : IsChainIn a first last) (at : IsPlace (chain_of a first).entries place prev next)
+      (ins : IsArenaInsertion a a1 (record { item = item; prev = prev; next = next }) j g) where
+    pub Inserts-joined : Inserts a (bridged a1 prev (Some j) next (Some j)) first (end_beside prev first (Some j)) (end_beside next last (Some j)) place item j g
+    Inserts-joined =
+        let head = next-first a.vacant j ins.next in
+        let laid2 = subst (λ (es : List (Entry T)). IsLaidOut a.slots first last es) at.split laid in
+        let ins2 = rw (at.prev_is, at.next_is) at ins in
+        let after : a1 ≡ with_entry_at a (j ∷ head.0) (link_amid at.front item at.back) = rw head.1 at ins2.after in
+        let b : Arena (Link T) = joined a1 j at.front at.back in
+        let joins = Joins-between a a1 first last at.front at.back place at.puts item j head.0 laid2 ins.vacant.free (omega (arith, ins.vacant.within, ins.vacant.above)) after in
+        let same = alike-bridged a1 (last_or None at.front) (Some j) (first_or None at.back) (Some j) in
+        let fresh = vacant-held a.slots _ (held-laid a.slots first last _ laid) in
+        rw (at.prev_is, at.next_is) (record {
+          laid = joins.laid;
+          insertion = record {
+            next = ins.next;
+            vacant = record { above = ins.vacant.above; within = ins.vacant.within; free = times-unlinked None None _ j (sym (laid.links j) ∙ ins.vacant.free) };
+            least = λ new k above below. entry_at-some _ k ∙ ap is_some (sym (laid.links k)) ∙ ins.least (new ∙ sym fresh) k above below;
+            generation = ins.generation;
+            after = joins.chain ∙ sym (ap (inserted_at (chain_of a first) place item) head.1);
+            fresh = λ new. ap (λ (a : Arena (Link T)). a.vacant) same.kept ∙ ins.fresh (new ∙ sym fresh)
+                ∙ vacant-held a1.slots _ (λ k. held-laid b.slots _ _ _ joins.laid k ∙ ap (λ b. cond b 1 0) (same.held k)) ∙ ap (λ n. vacant_indexes (chain_of b (end_beside (last_or None at.front) first (Some j))).entries (n - 1)) (sym same.long);
+          };
+        })
 
   -- where all slots beyond n are vacant, a capacity of n keeps the list
-  pub IsLaidOut-resized : (a : Arena (Link T)) (first last : Option ℕ) (es : List (Entry T)) (n : ℕ) → ((k : ℕ) → n < k → slot a k ≡ None)
-      → IsLaidOut a.slots first last es → IsLaidOut (resized (n + 1) a.slots) first last es
-  IsLaidOut-resized a first last es n rest laid =
-      laid-links _ _ _ _ (λ i. get_or-resized (n + 1) a.slots i (λ k far. rest k (omega arith)) ∙ laid.links i) laid.distinct laid.first_is laid.last_is
+  module _ (a : Arena (Link T)) (first last : Option ℕ) (es : List (Entry T)) (n : ℕ) (rest : (k : ℕ) → n < k → slot a k ≡ None) where
+    pub IsLaidOut-resized : IsLaidOut a.slots first last es → IsLaidOut (resized (n + 1) a.slots) first last es
+    IsLaidOut-resized laid =
+        laid-links _ _ _ _ (λ i. get_or-resized (n + 1) a.slots i (λ k far. rest k (omega arith)) ∙ laid.links i) laid.distinct laid.first_is laid.last_is
 
   -- the chain without an entry that stood between these two neighbours, which are linked to each other
   abbrev pub Unlinks : Option ℕ → Arena (Link T) → Option ℕ → Option ℕ → ℕ → Option ℕ → Option ℕ → Type 0
   Unlinks greatest a first last i prev next =
       Lies (bridged (arena_removed greatest a i) prev next next prev) (end_beside prev first next) (end_beside next last prev) (removed greatest (chain_of a first) i)
 
-  module _ (a : Arena (Link T)) (first last : Option ℕ) (laid : IsLaidOut a.slots first last (chain_of a first).entries) where
+  module _ (a : Arena (Link T)) (first last : Option ℕ) (laid : IsChainIn a first last) where
     -- so the chain with that capacity lies there
     pub Lies-resized : (n : ℕ) → ((k : ℕ) → n < k → slot a k ≡ None) → Lies (arena_with_capacity a n) first last (with_capacity (chain_of a first) n)
     Lies-resized n rest =

@@ -1,6 +1,5 @@
 -- The steps of a transfer.
-use Rattle.std.proofs.Common.{◌≡◌, ℕ, zero, suc, ◌+◌, ◌-◌, ◌<◌, ◌≤◌, max, List, [], ◌∷◌, ◌++◌, map, length, length-append, append_assoc, Option}
-use Rattle.std.proofs.Common.{Some, None, OnSome, OnOk, IsOk, IsErr, Result, Ok, Err, is_some, true, slice_get, refl, sym, ap, ◌∙◌, arith, option_map}
+use Rattle.std.proofs.Common.{◌≡◌, ℕ, zero, suc, ◌+◌, ◌-◌, ◌<◌, ◌≤◌, max, List, [], ◌∷◌, ◌++◌, map, length, length-append, append_assoc, Option, Some, None, OnSome, OnOk, IsOk, IsErr, Result, Ok, Err, is_some, true, slice_get, refl, sym, ap, ◌∙◌, arith, option_map}
 use Rattle.std.proofs.lemmas.Grind.{common_steps}
 use Rattle.std.specs.List.{FoldsTo}
 use Rattle.std.proofs.lemmas.Fn.{FoldsTo-push}
@@ -24,36 +23,40 @@ on_taken f y o A is some = grind (arith, common_steps)
 
 module _ {T : Type 0} where
   -- a capacity that is raised
-  pub capacity-raised : {X E : Type 0} (most : ℕ) (greatest : Option ℕ) (c new : Chain T) (n : ℕ) (r : Result X E) → IsSound most greatest c → c.capacity < n
-      → OnOk r (new ≡ with_capacity c (max n (greatest_index c.entries))) → OnOk r (new.capacity ≡ max c.capacity n)
-  capacity-raised most greatest c new n r sound less is = grind (arith, common_steps, greatest-within)
+  module _ {X E : Type 0} (most : ℕ) (greatest : Option ℕ) (c new : Chain T) (n : ℕ) (r : Result X E) (sound : IsSound most greatest c)
+      (less : c.capacity < n) where
+    pub capacity-raised : OnOk r (new ≡ with_capacity c (max n (greatest_index c.entries))) → OnOk r (new.capacity ≡ max c.capacity n)
+    capacity-raised is = grind (arith, common_steps, greatest-within)
 
   -- the item in a link, under a generation or its number
-  pub item-numbered : {G : Type 0} (number : G → ℕ) (o : Option (G × Link T))
-      → option_map (λ (e : ℕ × Link T). e.1.item) (option_map (λ (e : G × Link T). (number e.0, e.1)) o) ≡ option_map (λ (e : G × Link T). e.1.item) o
-  item-numbered number o = grind (arith, common_steps)
+  module _ {G : Type 0} (number : G → ℕ) where
+    pub item-numbered : (o : Option (G × Link T))
+        → option_map (λ (e : ℕ × Link T). e.1.item) (option_map (λ (e : G × Link T). (number e.0, e.1)) o) ≡ option_map (λ (e : G × Link T). e.1.item) o
+    item-numbered o = grind (arith, common_steps)
 
   -- the first entry is taken out
-  pub takes-out : {Q : Type 0} (numbers : Q → ℕ × ℕ) (greatest : Option ℕ) (old new : Chain T) (from : Q) (taken : InvalidationOption T)
-      → Some (numbers from) ≡ first_pointer old.entries → Some (allowed_value taken) ≡ option_map (λ e. e.1.item) (link_at old.entries (numbers from).0)
-      → is_overflow taken ≡ overflows_after greatest old.generation → new ≡ removed greatest old (numbers from).0 → (es : List (Entry T)) → old.entries ≡ es → TakesOut numbers greatest old new from taken
-  takes-out numbers greatest old new from taken head value overflow gone [] is = absurd (let none : Some (numbers from) ≡ None = rw is at head in cc)
-  takes-out numbers greatest old new from taken head value overflow gone (e ∷ rest) is =
-      let pair : ◌≡◌ {A = ℕ × ℕ} (numbers from) (e.index, e.generation) = same_Some (numbers from) (e.index, e.generation) (rw is at head) in
-      let at : (numbers from).0 ≡ e.index = ap (λ (p : ℕ × ℕ). p.0) pair in
-      record {
-        entry = e;
-        rest = rest;
-        split = is;
-        from_index = at;
-        from_generation = ap (λ (p : ℕ × ℕ). p.1) pair;
-        taken_item = same_Some (allowed_value taken) e.item (rw (is, at, same_index e.index) at value);
-        taken_overflow = overflow;
-        left = ap (λ (c : Chain T). c.entries) gone ∙ rw (is, at, same_index e.index) refl;
-        capacity = ap (λ (c : Chain T). c.capacity) gone;
-        maximum = ap (λ (c : Chain T). c.maximum) gone;
-        raised = ap (λ (c : Chain T). c.generation) gone;
-      }
+  module _ {Q : Type 0} (numbers : Q → ℕ × ℕ) (greatest : Option ℕ) (old new : Chain T) (from : Q) (taken : InvalidationOption T)
+      (head : Some (numbers from) ≡ first_pointer old.entries)
+      (value : Some (allowed_value taken) ≡ option_map (λ e. e.1.item) (link_at old.entries (numbers from).0))
+      (overflow : is_overflow taken ≡ overflows_after greatest old.generation) (gone : new ≡ removed greatest old (numbers from).0) where
+    pub takes-out : (es : List (Entry T)) → old.entries ≡ es → TakesOut numbers greatest old new from taken
+    takes-out [] is = absurd (let none : Some (numbers from) ≡ None = rw is at head in cc)
+    takes-out (e ∷ rest) is =
+        let pair : ◌≡◌ {A = ℕ × ℕ} (numbers from) (e.index, e.generation) = same_Some (numbers from) (e.index, e.generation) (rw is at head) in
+        let at : (numbers from).0 ≡ e.index = ap (λ (p : ℕ × ℕ). p.0) pair in
+        record {
+          entry = e;
+          rest = rest;
+          split = is;
+          from_index = at;
+          from_generation = ap (λ (p : ℕ × ℕ). p.1) pair;
+          taken_item = same_Some (allowed_value taken) e.item (rw (is, at, same_index e.index) at value);
+          taken_overflow = overflow;
+          left = ap (λ (c : Chain T). c.entries) gone ∙ rw (is, at, same_index e.index) refl;
+          capacity = ap (λ (c : Chain T). c.capacity) gone;
+          maximum = ap (λ (c : Chain T). c.maximum) gone;
+          raised = ap (λ (c : Chain T). c.generation) gone;
+        }
 
   insert_after-last : (g from : ℕ) (x : T) (xs : List T) (new : Entry T) → insert_after (from + length xs) new (numbered g from (x ∷ xs)) ≡ numbered g from (x ∷ xs) ++ new ∷ []
   insert_after-last g from x [] new = grind (arith, common_steps)
@@ -64,14 +67,18 @@ module _ {T : Type 0} where
   entry_at-last g from x (y ∷ ys) = grind (arith, common_steps, entry_at-last g (from + 1) y ys)
 
   module _ (P G : Type 0) {I : Type 0} (number : I → ℕ) where
-    pub can_place-behind : (last : Option I) (c : Chain T) (items : List T) → option_map number last ≡ last_of (length items)
+    -- the pointer to the last of so many entries in a row
+    abbrev IsLast : Option I → List T → Type 0
+    IsLast last items = option_map number last ≡ last_of (length items)
+
+    pub can_place-behind : (last : Option I) (c : Chain T) (items : List T) → IsLast last items
         → CanPlace {P = P} {I = I} {G = G} number (place_behind last) (filled_with c items)
     can_place-behind None c [] is = refl
     can_place-behind (Some i) c (x ∷ xs) is = grind (arith, common_steps, number i, i, entry_at-last c.generation 1 x xs)
     can_place-behind last c items is = absurd cc
 
-    pub placed-behind : (last : Option I) (g : ℕ) (items : List T) (new : Entry T) → option_map number last ≡ last_of (length items)
-        → placed {P = P} {I = I} {G = G} number (place_behind last) (numbered g 1 items) new ≡ numbered g 1 items ++ new ∷ []
+    pub placed-behind : (last : Option _) (g : ℕ) (items : List _) (e : Entry _) → IsLast last items
+        → placed {P = P} {G = G} number (place_behind last) (numbered g 1 items) e ≡ numbered g 1 items ++ e ∷ []
     placed-behind None g [] new is = refl
     placed-behind (Some i) g (x ∷ xs) new is = grind (arith, common_steps, number i, i, insert_after-last g 1 x xs new)
     placed-behind last g items new is = absurd cc
@@ -97,9 +104,10 @@ module _ {T : Type 0} where
       ∙ ap (λ is. (1 + length items) ∷ is) (sym (ap (vacant_among (numbered c.generation 1 (items ++ x ∷ [])) 1) after ∙ vacant-numbered c.generation (items ++ x ∷ []) m ∙ ap (λ i. vacant_among {T = T} [] i m) later))
 
   -- one more
-  pub filled-more : (c : Chain T) (items : List T) (x : T) (place : Entry T → List (Entry T)) → length items < c.capacity
-      → ((new : Entry T) → place new ≡ numbered c.generation 1 items ++ new ∷ []) → inserted (filled_with c items) place x ≡ filled_with c (items ++ x ∷ [])
-  filled-more c items x place less puts = grind (arith, common_steps, vacant-next, numbered-push)
+  module _ (c : Chain T) (items : List T) (x : T) (place : Entry T → List (Entry T)) (less : length items < c.capacity)
+      (puts : (new : Entry T) → place new ≡ numbered c.generation 1 items ++ new ∷ []) where
+    pub filled-more : inserted (filled_with c items) place x ≡ filled_with c (items ++ x ∷ [])
+    filled-more = grind (arith, common_steps, vacant-next, numbered-push)
 
   -- there is room
   length-numbered : (g from : ℕ) (xs : List T) → length (numbered g from xs) ≡ length xs
@@ -129,49 +137,51 @@ module _ {P Q T U M : Type 0} (numbers_from : Q → ℕ × ℕ) (numbers_to : P 
   abbrev pub taken-none : c ≡ filled_with c [] → Taken source c m
   taken-none empty = record { gone = []; items = []; split = refl; calls = refl; count = refl; put = empty; capacity = refl; maximum = refl }
 
-  abbrev pub taken-more : (rest after : Chain U) (now then_now : Chain T) (n n' : M) (from : Q) (taken : InvalidationOption U) (to : P) (item : T) (h : Taken rest now n)
-      → TakesOut numbers_from greatest rest after from taken → (numbers_to to).0 ≡ length h.items + 1 → (numbers_to to).1 ≡ c.generation → step n from taken to item n'
-      → then_now ≡ filled_with c (h.items ++ item ∷ []) → Taken after then_now n'
-  taken-more rest after now then_now n n' from taken to item h t at of called put = record {
-    gone = h.gone ++ t.entry ∷ [];
-    items = h.items ++ item ∷ [];
-    split = h.split ∙ ap (λ es. h.gone ++ es) (t.split ∙ ap (λ es. t.entry ∷ es) (sym t.left)) ∙ sym (append_assoc h.gone (t.entry ∷ []) after.entries);
-    calls =
-        FoldsTo-push (TransferStep numbers_from numbers_to greatest step c.generation) (record { closure = m; items = []; generation = source.generation }) h.gone
-        (record { closure = n; items = h.items; generation = rest.generation }) t.entry (record { closure = n'; items = h.items ++ item ∷ []; generation = after.generation }) h.calls
-        (record {
-          from = from;
-          taken = taken;
-          to = to;
-          item = item;
-          from_index = t.from_index;
-          from_generation = t.from_generation;
-          taken_item = t.taken_item;
-          taken_overflow = t.taken_overflow;
-          to_index = at;
-          to_generation = of;
-          called = called;
-          behind = refl;
-          raised = t.raised;
-        });
-    count = omega (arith, h.count, length-append h.items (item ∷ []), length-append h.gone (t.entry ∷ []));
-    put = put;
-    capacity = t.capacity ∙ h.capacity;
-    maximum = t.maximum ∙ h.maximum;
-  }
+  module _ (rest after : Chain U) (now then_now : Chain T) (n n' : M) (from : Q) (taken : InvalidationOption U) (to : P) (item : T)
+      (h : Taken rest now n) (t : TakesOut numbers_from greatest rest after from taken) (at : (numbers_to to).0 ≡ length h.items + 1)
+      (of : (numbers_to to).1 ≡ c.generation) where
+    abbrev pub taken-more : step n from taken to item n' → then_now ≡ filled_with c (h.items ++ item ∷ []) → Taken after then_now n'
+    taken-more called put = record {
+      gone = h.gone ++ t.entry ∷ [];
+      items = h.items ++ item ∷ [];
+      split = h.split ∙ ap (λ es. h.gone ++ es) (t.split ∙ ap (λ es. t.entry ∷ es) (sym t.left)) ∙ sym (append_assoc h.gone (t.entry ∷ []) after.entries);
+      calls =
+          FoldsTo-push (TransferStep numbers_from numbers_to greatest step c.generation) (record { closure = m; items = []; generation = source.generation }) h.gone
+          (record { closure = n; items = h.items; generation = rest.generation }) t.entry (record { closure = n'; items = h.items ++ item ∷ []; generation = after.generation }) h.calls
+          (record {
+            from = from;
+            taken = taken;
+            to = to;
+            item = item;
+            from_index = t.from_index;
+            from_generation = t.from_generation;
+            taken_item = t.taken_item;
+            taken_overflow = t.taken_overflow;
+            to_index = at;
+            to_generation = of;
+            called = called;
+            behind = refl;
+            raised = t.raised;
+          });
+      count = omega (arith, h.count, length-append h.items (item ∷ []), length-append h.gone (t.entry ∷ []));
+      put = put;
+      capacity = t.capacity ∙ h.capacity;
+      maximum = t.maximum ∙ h.maximum;
+    }
 
 -- the last index is one more
 pub last-more : {I T : Type 0} (number : I → ℕ) (i : I) (items : List T) (item : T) → number i ≡ length items + 1 → Some (number i) ≡ last_of (length (items ++ item ∷ []))
 last-more number i items item at = grind (arith, common_steps)
 
 -- a whole transfer
-module _ {P Q T U M : Type 0} (numbers_from : Q → ℕ × ℕ) (numbers_to : P → ℕ × ℕ) (greatest : Option ℕ) (step : M → Q → InvalidationOption U → P → T → M → Type 0) where
-  pub transferred : {X E : Type 0} (g : ℕ) (m n : M) (source rest source_after : Chain U) (old base new : Chain T) (r : Result X E) (x : X)
-      → base.generation ≡ g → base.capacity ≡ max old.capacity (length source.entries) → base.maximum ≡ old.maximum
-      → HasTaken numbers_from numbers_to greatest step m source rest base new n → rest.entries ≡ []
-      → r ≡ Ok x → OnOk r (source_after ≡ with_capacity rest (max rest.capacity (greatest_index rest.entries)))
-      → IsTransfer numbers_from numbers_to greatest step g m source source_after old new
-  transferred g m n source rest source_after old base new r x era capacity maximum h all is sized =
+module _ {P Q T U M : Type 0} (numbers_from : Q → ℕ × ℕ) (numbers_to : P → ℕ × ℕ) (greatest : Option ℕ)
+    (step : M → Q → InvalidationOption U → P → T → M → Type 0) {X E : Type 0} (g : ℕ) (m n : M) (source rest source_after : Chain U)
+    (old base new : Chain T) (r : Result X E) (x : X) (era : base.generation ≡ g)
+    (capacity : base.capacity ≡ max old.capacity (length source.entries)) (maximum : base.maximum ≡ old.maximum)
+    (h : HasTaken numbers_from numbers_to greatest step m source rest base new n) (all : rest.entries ≡ []) (is : r ≡ Ok x)
+    (sized : OnOk r (source_after ≡ with_capacity rest (max rest.capacity (greatest_index rest.entries)))) where
+  pub transferred : IsTransfer numbers_from numbers_to greatest step g m source source_after old new
+  transferred =
       let whole : source.entries ≡ h.gone = h.split ∙ ap (λ es. h.gone ++ es) all ∙ append-nil h.gone in
       let size : max rest.capacity (greatest_index rest.entries) ≡ source.capacity = omega (arith, h.capacity, ap greatest_index all) in
       let count : max old.capacity (length source.entries) ≡ max old.capacity (length h.items) = ap (max old.capacity) (ap length whole ∙ sym h.count) in
@@ -194,8 +204,11 @@ module _ {P Q S F X T V U : Type 0} (numbers_from : Q → ℕ × ℕ) (numbers_t
   abbrev pub part_entry : Entry V → Entry U
   part_entry e = record { index = e.index; generation = e.generation; item = part e.item }
 
-  pub steps-retold : (g : ℕ) (es : List (Entry V)) (s t : Transferring S X) → FoldsTo (TransferStep numbers_from numbers_to greatest below g) s es t
-      → FoldsTo (TransferStep numbers_from numbers_to greatest above g) (retold s) (map part_entry es) (retold t)
+  -- the calls of the other kind
+  abbrev pub Retold : ℕ → List (Entry V) → Transferring S X → Transferring S X → Type 0
+  Retold g es s t = FoldsTo (TransferStep numbers_from numbers_to greatest above g) (retold s) (map part_entry es) (retold t)
+
+  pub steps-retold : (g : ℕ) (es : List (Entry V)) (s t : Transferring S X) → FoldsTo (TransferStep numbers_from numbers_to greatest below g) s es t → Retold g es s t
   steps-retold g [] s t h = ap retold h
   steps-retold g (e ∷ es) s t h =
       let one = h.1 in
@@ -220,18 +233,19 @@ module _ {P Q S F X T V U : Type 0} (numbers_from : Q → ℕ × ℕ) (numbers_t
       )
 
 -- the same items, in other states
-pub transfer-retold : {P Q S F T U X E : Type 0} (numbers_from : Q → ℕ × ℕ) (numbers_to : P → ℕ × ℕ) (greatest : Option ℕ)
+module _ {P Q S F T U X E : Type 0} (from : Q → ℕ × ℕ) (to : P → ℕ × ℕ) (greatest : Option ℕ)
     (below : S → Q → InvalidationOption U → P → T → S → Type 0) (above : F → Q → InvalidationOption U → P → T → F → Type 0) (state : S → F)
-    → ((s : S) (q : Q) (taken : InvalidationOption U) (p : P) (x : T) (t : S) → below s q taken p x t → above (state s) q taken p x (state t))
-    → (g : ℕ) (s : S) (source source_after : Chain U) (old new : Chain T) (r : Result X E) → OnOk r (IsTransfer numbers_from numbers_to greatest below g s source source_after old new)
-    → OnOk r (IsTransfer numbers_from numbers_to greatest above g (state s) source source_after old new)
-transfer-retold {T = T} {U = U} numbers_from numbers_to greatest below above state like g s source source_after old new (Ok x) h =
-    let steps = steps-retold numbers_from numbers_to greatest below above state (λ x. x) (λ x. x) (λ s q taken p x t called. (taken, refl, refl, like s q taken p x t called)) g source.entries
-    (record { closure = s; items = []; generation = source.generation }) h.last h.calls in
-    record {
-      last = record { closure = state h.last.closure; items = h.last.items; generation = h.last.generation };
-      calls = rw (map-id source.entries, map-id h.last.items) at steps;
-      left = h.left;
-      after = h.after;
-    }
-transfer-retold numbers_from numbers_to greatest below above state like g s source source_after old new (Err e) h = tt
+    (like : (s : S) (q : Q) (taken : InvalidationOption U) (p : P) (x : T) (t : S) → below s q taken p x t → above (state s) q taken p x (state t))
+    (g : ℕ) (s : S) (source left : Chain U) (old new : Chain T) where
+  pub transfer-retold : (r : Result X E) → OnOk r (IsTransfer from to greatest below g s source left old new)
+      → OnOk r (IsTransfer from to greatest above g (state s) source left old new)
+  transfer-retold (Ok x) h =
+      let steps = steps-retold from to greatest below above state (λ x. x) (λ x. x) (λ s q taken p x t called. (taken, refl, refl, like s q taken p x t called)) g source.entries
+      (record { closure = s; items = []; generation = source.generation }) h.last h.calls in
+      record {
+        last = record { closure = state h.last.closure; items = h.last.items; generation = h.last.generation };
+        calls = rw (map-id source.entries, map-id h.last.items) at steps;
+        left = h.left;
+        after = h.after;
+      }
+  transfer-retold (Err e) h = tt

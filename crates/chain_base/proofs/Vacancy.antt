@@ -1,6 +1,5 @@
 -- The vacant indexes and the greatest occupied one: what an arena's slots say, said of the chain's list.
-use Rattle.std.proofs.Common.{◌≡◌, ℕ, suc, ◌+◌, ◌-◌, ◌<◌, ◌≤◌, true, List, [], ◌∷◌, length, drop, replicate}
-use Rattle.std.proofs.Common.{Option, Some, None, is_some, cond, max, refl, sym, ap, ◌∙◌, arith, inl, inr, ◌⊎◌, get_or, add-one, add-zero}
+use Rattle.std.proofs.Common.{◌≡◌, ℕ, suc, ◌+◌, ◌-◌, ◌<◌, ◌≤◌, true, List, [], ◌∷◌, length, drop, replicate, Option, Some, None, is_some, cond, max, refl, sym, ap, ◌∙◌, arith, inl, inr, ◌⊎◌, get_or, add-one, add-zero}
 use Rattle.std.proofs.lemmas.Grind.{common_steps, get_or_after_one}
 use Rattle.std.proofs.lemmas.List.{length-replicate, length-drop, get_or_past}
 use Rattle.std.proofs.lemmas.List.Folds.{list_any_at}
@@ -66,20 +65,21 @@ module _ {X T : Type 0} where
   held-occurs slots es i held there = grind (arith, common_steps, held i)
 
   -- the vacant indexes
-  vacant_from-held : (xs : List (Option X)) (es : List (Entry T)) (from : ℕ)
-      → ((k : ℕ) → k < length xs → times (from + k) es ≡ cond (is_some (get_or xs k None)) 1 0) → vacant_from from xs ≡ vacant_among es from (length xs)
-  vacant_from-held [] es from held = refl
-  vacant_from-held (x ∷ xs) es from held =
-      by x (let here : times (from + 0) es ≡ cond (is_some x) 1 0 = held 0 (omega arith) in rw add-zero at here)
-      (vacant_from-held xs es (from + 1) (λ k within. let same : from + suc k ≡ from + 1 + k = omega arith in rw same at (held (suc k) (omega arith))))
-    where
-      by : (o : Option X) → times from es ≡ cond (is_some o) 1 0 → vacant_from (from + 1) xs ≡ vacant_among es (from + 1) (length xs)
-          → vacant_from from (o ∷ xs) ≡ vacant_among es from (suc (length xs))
-      by None here more = rw here (ap (λ is. from ∷ is) more)
-      by (Some e) here more = rw here more
+  module _ (es : List (Entry T)) where
+    vacant_from-held : (xs : List (Option X)) (from : ℕ)
+        → ((k : ℕ) → k < length xs → times (from + k) es ≡ cond (is_some (get_or xs k None)) 1 0) → vacant_from from xs ≡ vacant_among es from (length xs)
+    vacant_from-held [] from held = refl
+    vacant_from-held (x ∷ xs) from held =
+        by x (let here : times (from + 0) es ≡ cond (is_some x) 1 0 = held 0 (omega arith) in rw add-zero at here)
+        (vacant_from-held xs (from + 1) (λ k within. let same : from + suc k ≡ from + 1 + k = omega arith in rw same at (held (suc k) (omega arith))))
+      where
+        by : (o : Option X) → times from es ≡ cond (is_some o) 1 0 → vacant_from (from + 1) xs ≡ vacant_among es (from + 1) (length xs)
+            → vacant_from from (o ∷ xs) ≡ vacant_among es from (suc (length xs))
+        by None here more = rw here (ap (λ is. from ∷ is) more)
+        by (Some e) here more = rw here more
 
   pub vacant-held : (slots : List (Option X)) (es : List (Entry T)) → HoldIndexes slots es → slots_vacant slots ≡ vacant_indexes es (length slots - 1)
-  vacant-held slots es held = grind (arith, common_steps, vacant_from-held (drop 1 slots) es 1, get_or_after_one slots, length-drop 1 slots)
+  vacant-held slots es held = grind (arith, common_steps, vacant_from-held es (drop 1 slots) 1, get_or_after_one slots, length-drop 1 slots)
 
 module _ {T : Type 0} where
   -- an index of a list has a link

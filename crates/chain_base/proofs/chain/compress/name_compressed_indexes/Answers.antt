@@ -18,9 +18,9 @@ overflow_add-count g c =
     omega (arith, c.loop-position.invariant.fewer, c.try_from_usize.ensures.variant, c.capacity-position-end.ensures.limit, c.capacity-position-end.ensures.value)
 
 -- what stands at the index that is met
-read : {I G X L : Type 0} (number : I → ℕ) (era : G → ℕ) (seen : X → L) (a : _) (i : I) (n : ℕ) → number i ≡ n → (r o : Option (G × X))
-    → option_map (λ (e : G × X). (era e.0, seen e.1)) r ≡ slot a (number i) → r ≡ o → slot a n ≡ option_map (λ e. (era e.0, seen e.1)) o
-read number era seen a i n at r o is same = rw (← at, ← same) (sym is)
+module _ {I G X L : Type 0} (number : I → ℕ) (era : G → ℕ) (seen : X → L) (a : _) (i : I) (n : ℕ) (at : number i ≡ n) (r o : Option (G × X)) where
+  read : option_map (λ (e : G × X). (era e.0, seen e.1)) r ≡ slot a (number i) → r ≡ o → slot a n ≡ option_map (λ e. (era e.0, seen e.1)) o
+  read is same = rw (← at, ← same) (sym is)
 
 pub link_facing-requires : goal.link_facing-requires
 link_facing-requires g c = λ i is.
