@@ -1,5 +1,6 @@
 -- A clone of a chain of nodes is one of the list of its items, and lies in a tree of the same shape.
-use Rattle.std.proofs.Common.{◌≡◌, ℕ, zero, suc, ◌+◌, inl, inr, max, Option, Some, None, List, [], ◌∷◌, map, length, Result, Ok, Err, MatchResult, OnOk, refl, sym, ◌∙◌, ap, option_map, ⊎_elim, ◌==◌, true, ◌≢◌}
+use Rattle.std.proofs.Common.{arith, ◌≡◌, ℕ, zero, suc, ◌+◌, inl, inr, max, Option, Some, None, List, [], ◌∷◌, map, length, Result, Ok, Err, MatchResult, OnOk, refl, sym, ◌∙◌, ap, option_map, ⊎_elim, ◌==◌, true, ◌≢◌}
+use Rattle.std.proofs.lemmas.Grind.{common_steps}
 use Rattle.std.proofs.lemmas.Bool.{cases_eq, eq-eqb, ne_eqb, false≢true}
 use Rattle.std.proofs.lemmas.Bool.Decides.{eqb_tells}
 use Rattle.std.proofs.lemmas.List.{map-id}
@@ -43,9 +44,7 @@ module _ {P T I G : Type 0} where
   module _ (i : ℕ) (after : Option ℕ) where
     link_between-bare : (before : Option ℕ) (es : List (Entry (Node P T I G))) → link_between before after (map bare_entry es) i ≡ option_map bare_held (link_between before after es i)
     link_between-bare before [] = refl
-    link_between-bare before (e ∷ es) =
-        ⊎_elim (λ (same : e.index ≡ i). rw (eq-eqb e.index i same, first_or-bare after es) refl)
-        (λ (other : e.index ≢ i). rw (ne_eqb e.index i other) (link_between-bare (Some e.index) es)) (cases_eq e.index i)
+    link_between-bare before (e ∷ es) = grind (arith, common_steps, link_between-bare (Some e.index) es)
 
   links_among-bare : (es : List (Entry (Node P T I G))) (from count : ℕ) → links_among (map bare_entry es) from count ≡ map linked_in (links_among es from count)
   links_among-bare es from zero = refl
@@ -72,30 +71,30 @@ module _ {P T I G : Type 0} where
       by [] is none = let held = laid.held in rw is at held
       by (e ∷ es) is none = absurd cc
 
-module _ {P T U I G : Type 0} where
-  module _ (source : Chain (Node P U I G)) (old : Chain (Node P T I G)) (es : List (Entry (Node P T I G))) where
-    bare-taken_over : bare (taken_over source old es) ≡ taken_over (bare source) (bare old) (map bare_entry es)
-    bare-taken_over =
-        bare-refilled (record old { capacity = max old.capacity (greatest_index source.entries) }) source.generation es
-        ∙ ap (λ n. refilled (record (bare old) { capacity = max old.capacity n }) source.generation (map bare_entry es)) (sym (greatest_index-bare source.entries))
+module _ {P T U I G : Type 0} (source : Chain (Node P U I G)) (old : Chain (Node P T I G)) (es : List (Entry (Node P T I G))) where
+  bare-taken_over : bare (taken_over source old es) ≡ taken_over (bare source) (bare old) (map bare_entry es)
+  bare-taken_over =
+      bare-refilled (record old { capacity = max old.capacity (greatest_index source.entries) }) source.generation es
+      ∙ ap (λ n. refilled (record (bare old) { capacity = max old.capacity n }) source.generation (map bare_entry es)) (sym (greatest_index-bare source.entries))
 
 -- A clone into a chain of other items, by calls that are shown the nodes' items, is one of the list of these items.
-module _ {P T U I G M F : Type 0} (numbers : P → ℕ × ℕ) (below : M → P → Link (Node P U I G) → T → M → Type 0) (above : F → P → Link U → T → F → Type 0) (state : M → F)
-    (like : (m : M) (p : P) (l : Link (Node P U I G)) (x : T) (n : M) → below m p l x n → above (state m) p (bare_link l) x (state n)) where
-  module _ (m : M) (source : Chain (Node P U I G)) (old new : Chain T) (list : Chain U) (is : bare source ≡ list) where
-    pub list-told : {E : Type 0} (r : Result (Unit {0}) E) → OnOk r (IsClonedList numbers below m source old new) → OnOk r (IsClonedList numbers above (state m) list old new)
-    list-told (Err e) h = tt
-    list-told (Ok x) h = rw (← is) (record {
-      items = h.items;
-      last = state h.last;
-      calls = rw (links_among-bare source.entries 1 source.capacity)
-          (let told = clones-retold numbers below above state bare_link (λ x. x) like (links_rising source) m h.last [] h.items h.calls in rw (map-id h.items) at told);
-      entries = record {
-        order = h.entries.order ∙ sym (pointers-bare source.entries);
-        made = λ i there. rw (lesser-bare source.entries i) (h.entries.made i (rw (times-bare source.entries i) at there));
-      };
-      after = h.after ∙ ap (λ n. refilled (record old { capacity = max old.capacity n }) source.generation new.entries) (sym (greatest_index-bare source.entries));
-    })
+module _ {P T U I G M F : Type 0} (numbers : P → ℕ × ℕ) (below : M → P → Link (Node P U I G) → T → M → Type 0)
+    (above : F → P → Link U → T → F → Type 0) (state : M → F)
+    (like : (m : M) (p : P) (l : Link (Node P U I G)) (x : T) (n : M) → below m p l x n → above (state m) p (bare_link l) x (state n))
+    (m : M) (source : Chain (Node P U I G)) (old new : Chain T) (list : Chain U) (is : bare source ≡ list) where
+  pub list-told : {E : Type 0} (r : Result (Unit {0}) E) → OnOk r (IsClonedList numbers below m source old new) → OnOk r (IsClonedList numbers above (state m) list old new)
+  list-told (Err e) h = tt
+  list-told (Ok x) h = rw (← is) (record {
+    items = h.items;
+    last = state h.last;
+    calls = rw (links_among-bare source.entries 1 source.capacity)
+        (let told = clones-retold numbers below above state bare_link (λ x. x) like (links_rising source) m h.last [] h.items h.calls in rw (map-id h.items) at told);
+    entries = record {
+      order = h.entries.order ∙ sym (pointers-bare source.entries);
+      made = λ i there. rw (lesser-bare source.entries i) (h.entries.made i (rw (times-bare source.entries i) at there));
+    };
+    after = h.after ∙ ap (λ n. refilled (record old { capacity = max old.capacity n }) source.generation new.entries) (sym (greatest_index-bare source.entries));
+  })
 
 -- The step of a clone of nodes, from that of their items.
 abbrev pub node_step : {P T U I G M N : Type 0} → (M → P → U → Result T AllocError → M → Type 0) → (N → M)

@@ -1,5 +1,6 @@
 -- Taking out a node of which one side is empty: what hangs on its other side takes its place.
 use Rattle.std.proofs.Common.{◌≡◌, ◌≢◌, ℕ, ◌+◌, ◌<◌, ◌≤◌, Option, Some, None, List, [], ◌∷◌, ◌++◌, length, arith, refl, sym, ◌∙◌, ap, subst, inl, inr, ⊎_elim, option_map, is_some, true, append_assoc, length-append}
+use Rattle.std.proofs.lemmas.Grind.{common_steps}
 use Rattle.std.specs.Option.{option_to_list}
 use Rattle.std.proofs.lemmas.Bool.{cases_eq, cases_lt, eq-eqb, ne_eqb}
 use Rattle.ord_tree.specs.declared.tree_links.Side.{Side}
@@ -23,19 +24,15 @@ use Rattle.ord_tree.proofs.Doubles.{Among-root, length-root}
 -- lists without an index
 pub without-split : (i : ℕ) (front back : List ℕ) → times i front ≡ 0 → without i (front ++ i ∷ back) ≡ front ++ back
 without-split i [] back none = rw (eq-eqb i i refl) refl
-without-split i (j ∷ js) back none =
-    let other : j ≢ i = λ e. let one = here-same i in let same = ap (here i) e in omega arith in
-    rw (ne_eqb j i other) (ap (λ ys. j ∷ ys) (without-split i js back (omega (arith, none))))
+without-split i (j ∷ js) back none = grind (arith, common_steps, without-split i js back)
 
 pub times-without : (i j : ℕ) (xs : List ℕ) → times j (without i xs) ≤ times j xs
 times-without i j [] = omega arith
-times-without i j (x ∷ xs) =
-    ⊎_elim (λ (same : x ≡ i). rw (eq-eqb x i same) (omega arith)) (λ (other : x ≢ i). rw (ne_eqb x i other) (omega (arith, times-without i j xs))) (cases_eq x i)
+times-without i j (x ∷ xs) = grind (arith, common_steps, times-without i j xs)
 
 pub length-without : (i : ℕ) (xs : List ℕ) → length (without i xs) ≤ length xs
 length-without i [] = omega arith
-length-without i (x ∷ xs) =
-    ⊎_elim (λ (same : x ≡ i). rw (eq-eqb x i same) (omega arith)) (λ (other : x ≢ i). rw (ne_eqb x i other) (omega (arith, length-without i xs))) (cases_eq x i)
+length-without i (x ∷ xs) = grind (arith, common_steps, length-without i xs)
 
 -- a node with one empty side is one above the other side
 bare_rank : (k m : ℕ) → IsOver 1 k 0 m → k ≡ m + 1

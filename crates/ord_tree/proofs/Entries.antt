@@ -1,5 +1,6 @@
 -- Entries of a chain of nodes: what a write of a node changes and keeps.
-use Rattle.std.proofs.Common.{◌≡◌, ◌≢◌, ℕ, Option, Some, List, [], ◌∷◌, map, refl, sym, ◌∙◌, ap, ⊎_elim, inl, inr, is_some, option_map}
+use Rattle.std.proofs.Common.{arith, ◌≡◌, ◌≢◌, ℕ, Option, Some, List, [], ◌∷◌, map, refl, sym, ◌∙◌, ap, ⊎_elim, inl, inr, is_some, option_map}
+use Rattle.std.proofs.lemmas.Grind.{common_steps}
 use Rattle.std.proofs.lemmas.Bool.{cases_eq}
 use Rattle.std.proofs.lemmas.Bool.Decides.{eqb_tells}
 use Rattle.std.proofs.lemmas.Option.{same_Some}
@@ -21,13 +22,7 @@ module _ {P T I G : Type 0} where
   module _ (i : ℕ) (e : ℕ × Node P T I G) (x : Node P T I G) (t : x.t ≡ e.1.t) where
     bare-with_item : (es : List (Entry (Node P T I G))) → entry_at es i ≡ Some e → map bare_entry (with_item_among es i x) ≡ map bare_entry es
     bare-with_item [] h = refl
-    bare-with_item (a ∷ es) h = elim (eqb_tells a.index i) [
-      | inl same ↦
-          let found : Some (a.generation, a.item) ≡ Some e = rw same.0 at h in
-          let item : a.item ≡ e.1 = ap (λ (p : ℕ × Node P T I G). p.1) (same_Some (a.generation, a.item) e found) in
-          rw same.0 (ap (λ (y : T). record { index = a.index; generation = a.generation; item = y } ∷ map bare_entry es) (t ∙ sym (ap (λ (n : Node P T I G). n.t) item)))
-      | inr other ↦ rw other.0 (ap (λ ys. bare_entry a ∷ ys) (bare-with_item es (rw other.0 at h)))
-    ]
+    bare-with_item (a ∷ es) h = grind (arith, common_steps, bare-with_item es)
 
   -- the same of a whole chain
   module _ (c : Chain (Node P T I G)) (i : ℕ) (e : ℕ × Node P T I G) (x : Node P T I G) (there : entry_at c.entries i ≡ Some e) where

@@ -1,5 +1,6 @@
 -- Where a new leaf hangs.
 use Rattle.std.proofs.Common.{◌≡◌, ◌≢◌, ℕ, ◌<◌, Option, Some, None, List, [], ◌∷◌, arith, refl, sym, ◌∙◌, ap, ⊎_elim, is_some, true, false, option_map}
+use Rattle.std.proofs.lemmas.Grind.{common_steps}
 use Rattle.std.proofs.lemmas.Bool.{cases_eq, eq-eqb, ne_eqb}
 use Rattle.chain_base.specs.Chain.{Entry, entry_at, times as entry_times, link_between, first_or, IsDistinct}
 use Rattle.chain_base.specs.Link.{Link}
@@ -20,9 +21,7 @@ module _ {T : Type 0} where
   -- the indexes and the entries
   pub times-indexes : (es : List (Entry T)) (i : ℕ) → times i (indexes es) ≡ entry_times i es
   times-indexes [] i = refl
-  times-indexes (e ∷ es) i =
-      ⊎_elim (λ (same : e.index ≡ i). rw (eq-eqb e.index i same, eq-eqb i e.index (sym same)) (omega (arith, times-indexes es i)))
-      (λ (other : e.index ≢ i). rw (ne_eqb e.index i other, ne_eqb i e.index (λ d. other (sym d))) (omega (arith, times-indexes es i))) (cases_eq e.index i)
+  times-indexes (e ∷ es) i = grind (arith, common_steps, times-indexes es i)
 
   pub IsOnce-distinct : (es : List (Entry T)) → IsDistinct es → IsOnce (indexes es)
   IsOnce-distinct es h j = omega (arith, h j, times-indexes es j)
@@ -39,13 +38,7 @@ module _ {T : Type 0} where
     pub neighbours-linked : (before : Option ℕ) (es : List (Entry T)) → link_between before None es i ≡ Some (g, l)
         → (l.prev ≡ previous before i (indexes es)) × (l.next ≡ following i (indexes es))
     neighbours-linked before [] h = absurd cc
-    neighbours-linked before (e ∷ es) h =
-        ⊎_elim (λ (same : e.index ≡ i).
-        let first = rw (eq-eqb e.index i same) at h in
-        let link : ◌≡◌ {A = Link T} (record { item = e.item; prev = before; next = first_or None es }) l =
-        ap (λ (p : ℕ × Link T). p.1) (let d : (e.generation, (let r : Link T = record { item = e.item; prev = before; next = first_or None es } in r)) ≡ (g, l) = cc in d) in
-        rw (eq-eqb e.index i same) (sym (ap (λ (l : Link T). l.prev) link), sym (ap (λ (l : Link T). l.next) link) ∙ head-first_or es))
-        (λ (other : e.index ≢ i). rw (ne_eqb e.index i other) (neighbours-linked (Some e.index) es (rw (ne_eqb e.index i other) at h))) (cases_eq e.index i)
+    neighbours-linked before (e ∷ es) h = grind (arith, common_steps, neighbours-linked (Some e.index) es)
 
   -- what is linked to an entry is linked to it whatever its generation
   pub linked-some : (o : Option (ℕ × Link T)) (l : Link T) → option_map (λ (e : ℕ × Link T). e.1) o ≡ Some l → (g : ℕ) × (o ≡ Some (g, l))
@@ -54,9 +47,7 @@ module _ {T : Type 0} where
 
   pub linked-occupied : (before : Option ℕ) (es : List (Entry T)) (i : ℕ) → is_some (entry_at es i) ≡ true → is_some (link_between before None es i) ≡ true
   linked-occupied before [] i h = absurd cc
-  linked-occupied before (e ∷ es) i h =
-      ⊎_elim (λ (same : e.index ≡ i). rw (eq-eqb e.index i same) refl)
-      (λ (other : e.index ≢ i). rw (ne_eqb e.index i other) (linked-occupied (Some e.index) es i (rw (ne_eqb e.index i other) at h))) (cases_eq e.index i)
+  linked-occupied before (e ∷ es) i h = grind (arith, common_steps, linked-occupied (Some e.index) es i)
 
 -- the neighbour under which a new leaf hangs where that side of i is taken
 pub record NextLeafBranch (side : Side) (i : ℕ) (slots : Slots) (order : List ℕ) : Type 0 where

@@ -1,12 +1,12 @@
 -- The ends of a walk, and the neighbours of an index in a list.
 use Rattle.std.proofs.Common.{◌≡◌, ◌≢◌, ℕ, ◌+◌, ◌<◌, ◌≤◌, Option, Some, None, List, [], ◌∷◌, ◌++◌, arith, refl, sym, ◌∙◌, ap, append_assoc}
+use Rattle.std.proofs.lemmas.Grind.{common_steps}
 use Rattle.std.proofs.lemmas.Bool.{eq-eqb, ne_eqb}
 use Rattle.ord_tree.specs.declared.tree_links.Side.TheVariants.{Lesser, Greater}
 use Rattle.ord_tree.specs.declared.tree_links.TreeLinks.{TreeLinks}
 use Rattle.ord_tree.specs.Shape.{Shape, missing, node, root_of, walk}
-use Rattle.ord_tree.specs.Slots.{Slots, Holds, here, times}
+use Rattle.ord_tree.specs.Slots.{Slots, Holds, here, times, top, IsOnce}
 use Rattle.ord_tree.specs.Leaf.{previous, following, beside}
-use Rattle.ord_tree.specs.Slots.{top, IsOnce}
 use Rattle.ord_tree.proofs.Forks.{here-same, times-append, times-walk, link-root}
 use Rattle.ord_tree.proofs.Spots.{Spot, spot_in, around, beside-split}
 
@@ -34,9 +34,7 @@ pub previous-split : (first : Option ℕ) (z v : ℕ) (front back : List ℕ) �
 previous-split first z v [] back none =
     let not_z : v ≢ z = λ e. let one = here-same z in let same = ap (here z) e in omega arith in
     rw (ne_eqb v z not_z, eq-eqb z z refl) refl
-previous-split first z v (x ∷ xs) back none =
-    let not_z : x ≢ z = λ e. let one = here-same z in let same = ap (here z) e in omega arith in
-    rw (ne_eqb x z not_z) (previous-split (Some x) z v xs back (omega (arith, none)))
+previous-split first z v (x ∷ xs) back none = grind (arith, common_steps, previous-split (Some x) z v xs back)
 
 -- the first node of a shape that isn't empty: nothing hangs on its lesser side
 pub record FirstOf (s : Shape) : Type 0 where
@@ -59,9 +57,7 @@ first_of (node (node a b c d) i k r) j e =
 
 pub following-split : (z v : ℕ) (front back : List ℕ) → times z front ≡ 0 → following z (front ++ z ∷ v ∷ back) ≡ Some v
 following-split z v [] back none = rw (eq-eqb z z refl) refl
-following-split z v (x ∷ xs) back none =
-    let not_z : x ≢ z = λ e. let one = here-same z in let same = ap (here z) e in omega arith in
-    rw (ne_eqb x z not_z) (following-split z v xs back (omega (arith, none)))
+following-split z v (x ∷ xs) back none = grind (arith, common_steps, following-split z v xs back)
 
 -- v stands directly before z, and nothing hangs on its greater side
 pub record BeforeIn (at : Slots) (z : ℕ) (order : List ℕ) : Type 0 where

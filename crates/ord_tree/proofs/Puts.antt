@@ -1,5 +1,6 @@
 -- A new entry in a list of entries: what is found by index, the indexes, the items.
-use Rattle.std.proofs.Common.{◌≡◌, ◌≢◌, ℕ, Some, List, [], ◌∷◌, ◌∙◌, map, refl, sym, ap, ⊎_elim, is_some, true}
+use Rattle.std.proofs.Common.{arith, ◌≡◌, ◌≢◌, ℕ, Some, List, [], ◌∷◌, ◌∙◌, map, refl, sym, ap, ⊎_elim, is_some, true}
+use Rattle.std.proofs.lemmas.Grind.{common_steps}
 use Rattle.std.proofs.lemmas.Bool.{cases_eq, eq-eqb, ne_eqb}
 use Rattle.std.specs.declared.cmp.Ordering.{Ordering}
 use Rattle.std.specs.declared.cmp.Ordering.TheVariants.{Less, Equal, Greater}
@@ -15,15 +16,11 @@ use Rattle.ord_tree.specs.LeafBranch.{side_at}
 module _ {T : Type 0} where
   after-indexes : (es : List (Entry T)) (i : ℕ) (new : Entry T) → indexes (insert_after i new es) ≡ beside OnGreater i new.index (indexes es)
   after-indexes [] i new = refl
-  after-indexes (a ∷ es) i new =
-      ⊎_elim (λ (same : a.index ≡ i). rw (eq-eqb a.index i same) (ap (λ (y : ℕ). y ∷ new.index ∷ indexes es) same))
-      (λ (other : a.index ≢ i). rw (ne_eqb a.index i other) (ap (λ ys. a.index ∷ ys) (after-indexes es i new))) (cases_eq a.index i)
+  after-indexes (a ∷ es) i new = grind (arith, common_steps, after-indexes es i new)
 
   before-indexes : (es : List (Entry T)) (i : ℕ) (new : Entry T) → indexes (insert_before i new es) ≡ beside Lesser i new.index (indexes es)
   before-indexes [] i new = refl
-  before-indexes (a ∷ es) i new =
-      ⊎_elim (λ (same : a.index ≡ i). rw (eq-eqb a.index i same) (ap (λ (y : ℕ). new.index ∷ y ∷ indexes es) same))
-      (λ (other : a.index ≢ i). rw (ne_eqb a.index i other) (ap (λ ys. a.index ∷ ys) (before-indexes es i new))) (cases_eq a.index i)
+  before-indexes (a ∷ es) i new = grind (arith, common_steps, before-indexes es i new)
 
   -- on either side: between two stretches
   put-between : (o : Ordering) (es : List (Entry T)) (i : ℕ) → is_some (entry_at es i) ≡ true → Parted es (put_on o i es)
@@ -50,16 +47,12 @@ module _ {P T I G : Type 0} where
   after-bare : (es : List (Entry (Node P T I G))) (i : ℕ) (new : Entry (Node P T I G))
       → map bare_entry (insert_after i new es) ≡ insert_after i (bare_entry new) (map bare_entry es)
   after-bare [] i new = refl
-  after-bare (a ∷ es) i new =
-      ⊎_elim (λ (same : a.index ≡ i). rw (eq-eqb a.index i same) refl)
-      (λ (other : a.index ≢ i). rw (ne_eqb a.index i other) (ap (λ ys. bare_entry a ∷ ys) (after-bare es i new))) (cases_eq a.index i)
+  after-bare (a ∷ es) i new = grind (arith, common_steps, after-bare es i new)
 
   before-bare : (es : List (Entry (Node P T I G))) (i : ℕ) (new : Entry (Node P T I G))
       → map bare_entry (insert_before i new es) ≡ insert_before i (bare_entry new) (map bare_entry es)
   before-bare [] i new = refl
-  before-bare (a ∷ es) i new =
-      ⊎_elim (λ (same : a.index ≡ i). rw (eq-eqb a.index i same) refl)
-      (λ (other : a.index ≢ i). rw (ne_eqb a.index i other) (ap (λ ys. bare_entry a ∷ ys) (before-bare es i new))) (cases_eq a.index i)
+  before-bare (a ∷ es) i new = grind (arith, common_steps, before-bare es i new)
 
   pub put-bare : (o : Ordering) (es : List (Entry (Node P T I G))) (i : ℕ) (new : Entry (Node P T I G))
       → map bare_entry (put_on o i es new) ≡ put_on o i (map bare_entry es) (bare_entry new)

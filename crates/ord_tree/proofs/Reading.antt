@@ -15,10 +15,10 @@ use Rattle.ord_tree.proofs.Promoting.{IsRisingUnder, z_rank, y_rank as risen_ran
 
 module _ {I : Type 0} (number : I → ℕ) where
   -- what a link leads to, as a number
-  child-read : (side : Side) (n : TreeLinks I) (link : Option I) → link ≡ child_at side n → option_map number link ≡ child_at side (numbered number n)
+  pub child-read : (side : Side) (n : TreeLinks I) (link : Option I) → link ≡ child_at side n → option_map number link ≡ child_at side (numbered number n)
   child-read side n link is = ap (option_map number) is ∙ child-numbered number side n
 
-  child_other-read : (side other : Side) → other ≡ other_side side → (n : TreeLinks I) (o : Option I) → o ≡ child_at other n
+  pub child_other-read : (side other : Side) → other ≡ other_side side → (n : TreeLinks I) (o : Option I) → o ≡ child_at other n
       → option_map number o ≡ child_at (other_side side) (numbered number n)
   child_other-read side other other_is n link is = child-read (other_side side) n link (is ∙ ap (λ s. child_at s n) other_is)
 

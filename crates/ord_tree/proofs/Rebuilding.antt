@@ -1,5 +1,6 @@
 -- The steps of a rebuild: opening a run, meeting an entry, ending a run.
 use Rattle.std.proofs.Common.{◌≡◌, ◌≢◌, ℕ, zero, suc, ◌+◌, ◌-◌, ◌*◌, ◌/◌, ◌^◌, ◌<◌, ◌≤◌, inr, ⊎_elim, Option, Some, None, List, [], ◌∷◌, ◌++◌, length, length-append, append_assoc, arith, refl, sym, ◌∙◌, ap, subst, is_some, true, slice_get}
+use Rattle.std.proofs.lemmas.Grind.{common_steps}
 use Rattle.std.proofs.Math.Nat.{mul-le-mul_right, one-le-pow, pow-suc, two-pow-succ}
 use Rattle.std.proofs.Math.Pow.{pow_mono}
 use Rattle.std.proofs.lemmas.Bool.{cases_lt, eq-eqb, ne_eqb}
@@ -406,9 +407,7 @@ IsTop-same n p q a b =
 -- what follows an entry in a list
 pub following-at : (z : ℕ) (front back : List ℕ) → times z front ≡ 0 → following z (front ++ z ∷ back) ≡ list_head back
 following-at z [] back none = rw (eq-eqb z z refl) refl
-following-at z (x ∷ xs) back none =
-    let not_z : x ≢ z = λ e. let one = here-same z in let same = ap (here z) e in omega arith in
-    rw (ne_eqb x z not_z) (following-at z xs back (omega (arith, none)))
+following-at z (x ∷ xs) back none = grind (arith, common_steps, following-at z xs back)
 
 -- a list that is to be rebuilt
 module _ (at : Slots) (order : List ℕ) (n top_rank : ℕ) (len : n ≡ length order) (fits : n < 2 ^ 64) (once : IsOnce order) (there : (j : ℕ) → 0 < times j order → is_some (at j) ≡ true) (top_is : IsTop n top_rank) where

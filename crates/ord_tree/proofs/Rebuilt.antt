@@ -1,17 +1,17 @@
 -- A rebuild over a chain of nodes: what it asks of the chain, and what it makes of the tree.
 use Rattle.std.proofs.Common.{◌≡◌, ℕ, ◌<◌, ◌≤◌, Option, Some, None, List, [], ◌∷◌, map, arith, refl, sym, ◌∙◌, ap, subst, is_some, true}
+use Rattle.std.proofs.lemmas.Grind.{common_steps}
 use Rattle.std.proofs.lemmas.Bool.{eq-eqb, ne_eqb}
 use Rattle.arena_base.specs.Pointer.{index_number}
 use Rattle.chain_base.specs.Chain.{Entry, Chain, entry_at, first_pointer, IsSound}
 use Rattle.chain_base.proofs.CallerLemmas.{occurs-entry}
 use Rattle.ord_tree.specs.declared.node.SimpleOrdArenaNode.{SimpleOrdArenaNode as Node}
-use Rattle.ord_tree.specs.Slots.{times}
+use Rattle.ord_tree.specs.Slots.{times, Holds, IsOnce}
 use Rattle.ord_tree.specs.Node.{bare_entry, bare, links_in, slots_of, indexes}
 use Rattle.arena_base.proofs.CallerLemmas.{limit_of-below}
 use Rattle.ord_tree.proofs.LeafBranches.{is_some-mapped, times-indexes, within-occupied, IsOnce-distinct}
 use Rattle.ord_tree.proofs.Trees.{indexes-bare, shape_in-held}
 use Rattle.ord_tree.specs.Shape.{Shape, walk}
-use Rattle.ord_tree.specs.Slots.{Holds, IsOnce}
 use Rattle.ord_tree.specs.Half.{IsRebuilt}
 use Rattle.ord_tree.specs.Layout.{shape_in, IsLaidOut}
 use Rattle.ord_tree.proofs.Halves.{IsRanked-from_rebuilt}
@@ -23,9 +23,7 @@ index-some n some = rw (ne_eqb n 0 (λ e. omega arith)) refl
 -- the first pointer is that of an entry
 pub first-occupied : {T : Type 0} (es : List (Entry T)) (i g : ℕ) → Some (i, g) ≡ first_pointer es → is_some (entry_at es i) ≡ true
 first-occupied [] i g first = absurd (cc)
-first-occupied (e ∷ es) i g first =
-    let both : ◌≡◌ {A = ℕ × ℕ} (i, g) (e.index, e.generation) = cc in
-    rw (eq-eqb e.index i (sym (ap (λ (p : ℕ × ℕ). p.0) both))) refl
+first-occupied (e ∷ es) i g first = grind (arith, common_steps)
 
 module _ {P T I G : Type 0} (c : Chain (Node P T I G)) where
   pub entry-occupied : (i : ℕ) → is_some (slots_of c i) ≡ true → is_some (entry_at c.entries i) ≡ true

@@ -31,131 +31,130 @@ module _ {old : Slots} {root : Option ℕ} {z : ℕ} {before : Option ℕ} {orde
   pub z_occupied : is_some (old z) ≡ true
   z_occupied = ap is_some spot.at_y
 
-  module _ (nz : TreeLinks ℕ) (e : old z ≡ Some nz) where
-    module _ (j : ℕ) (some : nz.lesser ≡ Some j) where
-      abbrev b : BeforeIn old z order
-      b = before_in old root can.built.shape order can.built.held can.built.listed z can.within nz e j some
+  module _ (nz : TreeLinks ℕ) (e : old z ≡ Some nz) (j : ℕ) (some : nz.lesser ≡ Some j) where
+    abbrev b : BeforeIn old z order
+    b = before_in old root can.built.shape order can.built.held can.built.listed z can.within nz e j some
 
-      pub v_is : before ≡ Some b.index
-      v_is = can.is_before ∙ previous-neighbour order b.front b.back b.index z can.once b.is
+    pub v_is : before ≡ Some b.index
+    v_is = can.is_before ∙ previous-neighbour order b.front b.back b.index z can.once b.is
 
-      module _ (v : ℕ) (is_v : before ≡ Some v) where
-        same : b.index ≡ v
-        same = let e = v_is in cc
+    module _ (v : ℕ) (is_v : before ≡ Some v) where
+      same : b.index ≡ v
+      same = let e = v_is in cc
 
-        listed : order ≡ b.front ++ v ∷ z ∷ b.back
-        listed = b.is ∙ ap (λ i. b.front ++ i ∷ z ∷ b.back) same
+      listed : order ≡ b.front ++ v ∷ z ∷ b.back
+      listed = b.is ∙ ap (λ i. b.front ++ i ∷ z ∷ b.back) same
 
-        pub loose_v : IsLoose old root v Greater order
-        loose_v =
-            let P : ℕ → Type 0 = λ v. (n : TreeLinks ℕ) → old v ≡ Some n → n.greater ≡ None in
-            record { built = can.built; within = first-within order b.front b.back v z can.once listed; bare = subst P same b.bare; once = can.once; few = can.few }
+      pub loose_v : IsLoose old root v Greater order
+      loose_v =
+          let P : ℕ → Type 0 = λ v. (n : TreeLinks ℕ) → old v ≡ Some n → n.greater ≡ None in
+          record { built = can.built; within = first-within order b.front b.back v z can.once listed; bare = subst P same b.bare; once = can.once; few = can.few }
 
-        counts : (i : ℕ) → times i b.front + (here i v + (here i z + times i b.back)) ≤ 1
-        counts i = omega (arith, can.once i, ap (times i) listed, times-append i b.front (v ∷ z ∷ b.back))
+      counts : (i : ℕ) → times i b.front + (here i v + (here i z + times i b.back)) ≤ 1
+      counts i = omega (arith, can.once i, ap (times i) listed, times-append i b.front (v ∷ z ∷ b.back))
 
-        rest : without v order ≡ b.front ++ z ∷ b.back
-        rest = ap (without v) listed ∙ without-split v b.front (z ∷ b.back) (omega (arith, counts v, here-same v))
+      rest : without v order ≡ b.front ++ z ∷ b.back
+      rest = ap (without v) listed ∙ without-split v b.front (z ∷ b.back) (omega (arith, counts v, here-same v))
 
-        gone : without z order ≡ b.front ++ v ∷ b.back
-        gone =
-            ap (without z) (listed ∙ sym (append_assoc b.front (v ∷ []) (z ∷ b.back)))
-            ∙ without-split z (b.front ++ v ∷ []) b.back (omega (arith, counts z, here-same z, times-append z b.front (v ∷ [])))
-            ∙ append_assoc b.front (v ∷ []) b.back
+      gone : without z order ≡ b.front ++ v ∷ b.back
+      gone =
+          ap (without z) (listed ∙ sym (append_assoc b.front (v ∷ []) (z ∷ b.back)))
+          ∙ without-split z (b.front ++ v ∷ []) b.back (omega (arith, counts z, here-same z, times-append z b.front (v ∷ [])))
+          ∙ append_assoc b.front (v ∷ []) b.back
 
-        order_renamed : map (stand_in z v) (without v order) ≡ without z order
-        order_renamed =
-            ap (map (stand_in z v)) rest ∙ map-append (stand_in z v) b.front (z ∷ b.back)
-            ∙ rw (stand_in-same z v, map-absent z v b.front (omega (arith, counts z, here-same z)), map-absent z v b.back (omega (arith, counts z, here-same z))) (sym gone)
+      order_renamed : map (stand_in z v) (without v order) ≡ without z order
+      order_renamed =
+          ap (map (stand_in z v)) rest ∙ map-append (stand_in z v) b.front (z ∷ b.back)
+          ∙ rw (stand_in-same z v, map-absent z v b.front (omega (arith, counts z, here-same z)), map-absent z v b.back (omega (arith, counts z, here-same z))) (sym gone)
 
-        module _ (mid : Slots) (root' : Option ℕ) (spare : is_some (mid v) ≡ true) where
-          stands : (s : Shape) → Holds mid None root' s → walk s ≡ without v order → CanStandIn mid root' z v s
-          stands s held is = record {
-            held = held;
-            within = omega (arith, times-walk z s, ap (times z) (is ∙ rest), times-append z b.front (z ∷ b.back), here-same z);
-            fresh = omega (arith, times-walk v s, ap (times v) (is ∙ rest), times-append v b.front (z ∷ b.back), counts v, here-same v);
-            apart = λ i. omega (arith, times-walk i s, ap (times i) is, times-without v i order, can.once i);
-            spare = spare;
+      module _ (mid : Slots) (root' : Option ℕ) (spare : is_some (mid v) ≡ true) where
+        stands : (s : Shape) → Holds mid None root' s → walk s ≡ without v order → CanStandIn mid root' z v s
+        stands s held is = record {
+          held = held;
+          within = omega (arith, times-walk z s, ap (times z) (is ∙ rest), times-append z b.front (z ∷ b.back), here-same z);
+          fresh = omega (arith, times-walk v s, ap (times v) (is ∙ rest), times-append v b.front (z ∷ b.back), counts v, here-same v);
+          apart = λ i. omega (arith, times-walk i s, ap (times i) is, times-without v i order, can.once i);
+          spare = spare;
+        }
+
+        built_stands : (built : IsBuilt mid root' (without v order) 1) → CanStandIn mid root' z v built.shape
+        built_stands built = stands built.shape built.held built.listed
+
+        fallen_stands : {y : ℕ} {side : Side} (fallen : IsFallen mid root' y side (without v order)) → CanStandIn mid root' z v (plug fallen.way (fork side fallen.low y fallen.rank fallen.far))
+        fallen_stands {y} {side} fallen = stands (plug fallen.way (fork side fallen.low y fallen.rank fallen.far))
+            (Holds-plug mid root' fallen.way (fork side fallen.low y fallen.rank fallen.far) (Some y) fallen.held_way fallen.held) fallen.listed
+
+        pub can_stand : {I : Type 0} (number : I → ℕ) (cut : Option (Branch I))
+            → BuiltOrFallen number mid root' (without v order) cut → (s : Shape) × CanStandIn mid root' z v s
+        can_stand number None h = (h.shape, built_stands h)
+        can_stand number (Some p) h = (plug h.way (fork p.side h.low (number p.parent) h.rank h.far), fallen_stands h)
+
+        module _ (new : Slots) (root'' : Option ℕ) (held : (s : Shape) → CanStandIn mid root' z v s → Holds new None root'' (renamed z v s)) where
+          built_renamed : IsBuilt mid root' (without v order) 1 → IsBuilt new root'' (without z order) 1
+          built_renamed built = record {
+            shape = renamed z v built.shape;
+            held = held built.shape (built_stands built);
+            listed = walk-renamed z v built.shape ∙ ap (map (stand_in z v)) built.listed ∙ order_renamed;
+            balanced = IsBalanced-renamed 1 z v built.shape built.balanced;
           }
 
-          built_stands : (built : IsBuilt mid root' (without v order) 1) → CanStandIn mid root' z v built.shape
-          built_stands built = stands built.shape built.held built.listed
+          fallen_renamed : (y y' : ℕ) (side side' : Side) → y' ≡ stand_in z v y → side' ≡ side → IsFallen mid root' y side (without v order) → IsFallen new root'' y' side' (without z order)
+          fallen_renamed y y' side side' is_y is_side f =
+              let P : ℕ → Type 0 = λ y. IsFallen new root'' y side' (without z order) in
+              let Q : Side → Type 0 = λ side. IsFallen new root'' (stand_in z v y) side (without z order) in
+              subst P (sym is_y) (subst Q (sym is_side) go)
+            where
+              s : Shape
+              s = plug f.way (fork side f.low y f.rank f.far)
 
-          fallen_stands : {y : ℕ} {side : Side} (fallen : IsFallen mid root' y side (without v order)) → CanStandIn mid root' z v (plug fallen.way (fork side fallen.low y fallen.rank fallen.far))
-          fallen_stands {y} {side} fallen = stands (plug fallen.way (fork side fallen.low y fallen.rank fallen.far))
-              (Holds-plug mid root' fallen.way (fork side fallen.low y fallen.rank fallen.far) (Some y) fallen.held_way fallen.held) fallen.listed
+              way' : Way
+              way' = renamed_way z v f.way
 
-          pub can_stand : {I : Type 0} (number : I → ℕ) (cut : Option (Branch I))
-              → BuiltOrFallen number mid root' (without v order) cut → (s : Shape) × CanStandIn mid root' z v s
-          can_stand number None h = (h.shape, built_stands h)
-          can_stand number (Some p) h = (plug h.way (fork p.side h.low (number p.parent) h.rank h.far), fallen_stands h)
+              fork' : Shape
+              fork' = fork side (renamed z v f.low) (stand_in z v y) f.rank (renamed z v f.far)
 
-          module _ (new : Slots) (root'' : Option ℕ) (held : (s : Shape) → CanStandIn mid root' z v s → Holds new None root'' (renamed z v s)) where
-            built_renamed : IsBuilt mid root' (without v order) 1 → IsBuilt new root'' (without z order) 1
-            built_renamed built = record {
-              shape = renamed z v built.shape;
-              held = held built.shape (built_stands built);
-              listed = walk-renamed z v built.shape ∙ ap (map (stand_in z v)) built.listed ∙ order_renamed;
-              balanced = IsBalanced-renamed 1 z v built.shape built.balanced;
-            }
+              same_shape : renamed z v s ≡ plug way' fork'
+              same_shape = renamed-plug z v f.way (fork side f.low y f.rank f.far) ∙ ap (plug way') (renamed-fork z v side f.low f.far y f.rank)
 
-            fallen_renamed : (y y' : ℕ) (side side' : Side) → y' ≡ stand_in z v y → side' ≡ side → IsFallen mid root' y side (without v order) → IsFallen new root'' y' side' (without z order)
-            fallen_renamed y y' side side' is_y is_side f =
-                let P : ℕ → Type 0 = λ y. IsFallen new root'' y side' (without z order) in
-                let Q : Side → Type 0 = λ side. IsFallen new root'' (stand_in z v y) side (without z order) in
-                subst P (sym is_y) (subst Q (sym is_side) go)
-              where
-                s : Shape
-                s = plug f.way (fork side f.low y f.rank f.far)
+              whole : Holds new None root'' (plug way' fork')
+              whole = let P : Shape → Type 0 = λ s. Holds new None root'' s in subst P same_shape (held s (fallen_stands f))
 
-                way' : Way
-                way' = renamed_way z v f.way
+              parts : (link : Option ℕ) × HoldsWay new root'' way' link × Holds new (above way') link fork'
+              parts = plug_held new root'' way' fork' whole
 
-                fork' : Shape
-                fork' = fork side (renamed z v f.low) (stand_in z v y) f.rank (renamed z v f.far)
+              link_is : parts.0 ≡ Some (stand_in z v y)
+              link_is = (HoldsFork-holds new (above way') parts.0 side (renamed z v f.low) (renamed z v f.far) (stand_in z v y) f.rank parts.2).1
 
-                same_shape : renamed z v s ≡ plug way' fork'
-                same_shape = renamed-plug z v f.way (fork side f.low y f.rank f.far) ∙ ap (plug way') (renamed-fork z v side f.low f.far y f.rank)
+              over' : IsOver 1 f.rank (rank_of (renamed z v f.low) + 1) (rank_of (renamed z v f.far))
+              over' = rw (rank-renamed z v f.low, rank-renamed z v f.far) f.over
 
-                whole : Holds new None root'' (plug way' fork')
-                whole = let P : Shape → Type 0 = λ s. Holds new None root'' s in subst P same_shape (held s (fallen_stands f))
+              go : IsFallen new root'' (stand_in z v y) side (without z order)
+              go =
+                  let W : Option ℕ → Type 0 = λ link. HoldsWay new root'' way' link in
+                  let H : Option ℕ → Type 0 = λ link. Holds new (above way') link fork' in
+                  record {
+                    way = way';
+                    low = renamed z v f.low;
+                    far = renamed z v f.far;
+                    rank = f.rank;
+                    held_way = subst W link_is parts.1;
+                    held = subst H link_is parts.2;
+                    listed = ap walk (sym same_shape) ∙ walk-renamed z v s ∙ ap (map (stand_in z v)) f.listed ∙ order_renamed;
+                    over = over';
+                    balanced_low = IsBalanced-renamed 1 z v f.low f.balanced_low;
+                    balanced_far = IsBalanced-renamed 1 z v f.far f.balanced_far;
+                    balanced_way = IsBalancedWay-renamed 1 z v f.way f.rank f.balanced_way;
+                    once = λ i. omega (arith, times-without z i order, can.once i);
+                    few = omega (arith, length-without z order, can.few);
+                  }
 
-                parts : (link : Option ℕ) × HoldsWay new root'' way' link × Holds new (above way') link fork'
-                parts = plug_held new root'' way' fork' whole
-
-                link_is : parts.0 ≡ Some (stand_in z v y)
-                link_is = (HoldsFork-holds new (above way') parts.0 side (renamed z v f.low) (renamed z v f.far) (stand_in z v y) f.rank parts.2).1
-
-                over' : IsOver 1 f.rank (rank_of (renamed z v f.low) + 1) (rank_of (renamed z v f.far))
-                over' = rw (rank-renamed z v f.low, rank-renamed z v f.far) f.over
-
-                go : IsFallen new root'' (stand_in z v y) side (without z order)
-                go =
-                    let W : Option ℕ → Type 0 = λ link. HoldsWay new root'' way' link in
-                    let H : Option ℕ → Type 0 = λ link. Holds new (above way') link fork' in
-                    record {
-                      way = way';
-                      low = renamed z v f.low;
-                      far = renamed z v f.far;
-                      rank = f.rank;
-                      held_way = subst W link_is parts.1;
-                      held = subst H link_is parts.2;
-                      listed = ap walk (sym same_shape) ∙ walk-renamed z v s ∙ ap (map (stand_in z v)) f.listed ∙ order_renamed;
-                      over = over';
-                      balanced_low = IsBalanced-renamed 1 z v f.low f.balanced_low;
-                      balanced_far = IsBalanced-renamed 1 z v f.far f.balanced_far;
-                      balanced_way = IsBalancedWay-renamed 1 z v f.way f.rank f.balanced_way;
-                      once = λ i. omega (arith, times-without z i order, can.once i);
-                      few = omega (arith, length-without z order, can.few);
-                    }
-
-            module _ {I : Type 0} (number : I → ℕ) where
-              pub displaced : (cut branch : Option (Branch I)) → IsRenamed number z v cut branch → BuiltOrFallen number mid root' (without v order) cut
-                  → BuiltOrFallen number new root'' (without z order) branch
-              displaced None None is h = built_renamed h
-              displaced None (Some q) is h = absurd cc
-              displaced (Some p) None is h = elim is [ ]
-              displaced (Some p) (Some q) is h = fallen_renamed (number p.parent) (number q.parent) p.side q.side is.0 is.1 h
+          module _ {I : Type 0} (number : I → ℕ) where
+            pub displaced : (cut branch : Option (Branch I)) → IsRenamed number z v cut branch → BuiltOrFallen number mid root' (without v order) cut
+                → BuiltOrFallen number new root'' (without z order) branch
+            displaced None None is h = built_renamed h
+            displaced None (Some q) is h = absurd cc
+            displaced (Some p) None is h = elim is [ ]
+            displaced (Some p) (Some q) is h = fallen_renamed (number p.parent) (number q.parent) p.side q.side is.0 is.1 h
 
 -- a link that leads somewhere, with numbers for indexes
 pub mapped : {I : Type 0} (number : I → ℕ) (o : Option I) → is_some o ≡ true → (j : ℕ) × option_map number o ≡ Some j

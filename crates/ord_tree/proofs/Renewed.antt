@@ -1,5 +1,6 @@
 -- A new pointer for an entry: the tree stays.
-use Rattle.std.proofs.Common.{◌≡◌, ◌≢◌, ℕ, Option, Some, None, List, [], ◌∷◌, map, refl, sym, ◌∙◌, ap, ⊎_elim, is_some, option_map, OnSome, IfNone, subst, Bool, true, false, cond, eqb}
+use Rattle.std.proofs.Common.{arith, ◌≡◌, ◌≢◌, ℕ, Option, Some, None, List, [], ◌∷◌, map, refl, sym, ◌∙◌, ap, ⊎_elim, is_some, option_map, OnSome, IfNone, subst, Bool, true, false, cond, eqb}
+use Rattle.std.proofs.lemmas.Grind.{common_steps}
 use Rattle.std.proofs.lemmas.Bool.{cases_eq, eq-eqb, ne_eqb}
 use Rattle.arena_base.specs.Arena.{item_if}
 use Rattle.arena_base.specs.Generation.{next_generation}
@@ -25,20 +26,15 @@ module _ {P T I G : Type 0} where
   -- another generation of an entry
   links-renewed : (es : List (Entry (Node P T I G))) (i g j : ℕ) → links_at (with_generation es i g) j ≡ links_at es j
   links-renewed [] i g j = refl
-  links-renewed (e ∷ es) i g j =
-      ⊎_elim (λ (same : e.index ≡ i). rw (eq-eqb e.index i same) (⊎_elim (λ (here : e.index ≡ j). rw (eq-eqb e.index j here) refl) (λ (there : e.index ≢ j). rw (ne_eqb e.index j there) refl) (cases_eq e.index j)))
-      (λ (other : e.index ≢ i). rw (ne_eqb e.index i other) (⊎_elim (λ (here : e.index ≡ j). rw (eq-eqb e.index j here) refl) (λ (there : e.index ≢ j). rw (ne_eqb e.index j there) (links-renewed es i g j)) (cases_eq e.index j)))
-      (cases_eq e.index i)
+  links-renewed (e ∷ es) i g j = grind (arith, common_steps, links-renewed es i g j)
 
   indexes-renewed : (es : List (Entry (Node P T I G))) (i g : ℕ) → indexes (with_generation es i g) ≡ indexes es
   indexes-renewed [] i g = refl
-  indexes-renewed (e ∷ es) i g =
-      ⊎_elim (λ (same : e.index ≡ i). rw (eq-eqb e.index i same) refl) (λ (other : e.index ≢ i). rw (ne_eqb e.index i other) (ap (λ is. e.index ∷ is) (indexes-renewed es i g))) (cases_eq e.index i)
+  indexes-renewed (e ∷ es) i g = grind (arith, common_steps, indexes-renewed es i g)
 
   bare-renewed : (es : List (Entry (Node P T I G))) (i g : ℕ) → map bare_entry (with_generation es i g) ≡ with_generation (map bare_entry es) i g
   bare-renewed [] i g = refl
-  bare-renewed (e ∷ es) i g =
-      ⊎_elim (λ (same : e.index ≡ i). rw (eq-eqb e.index i same) refl) (λ (other : e.index ≢ i). rw (ne_eqb e.index i other) (ap (λ bs. bare_entry e ∷ bs) (bare-renewed es i g))) (cases_eq e.index i)
+  bare-renewed (e ∷ es) i g = grind (arith, common_steps, bare-renewed es i g)
 
   module _ (greatest : Option ℕ) (c : Chain (Node P T I G)) (root : Option ℕ) (i : ℕ) (laid : IsLaidOut c root (shape_in c root)) where
     pub IsLaidOut-renewed : IsLaidOut (renewed greatest c i) root (shape_in (renewed greatest c i) root)

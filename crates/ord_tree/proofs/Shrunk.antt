@@ -1,5 +1,6 @@
 -- A removal: from the tree without a node to the chain without its entry.
 use Rattle.std.proofs.Common.{◌≡◌, ◌≢◌, ℕ, ◌+◌, ◌<◌, ◌≤◌, ◌^◌, Option, Some, None, List, [], ◌∷◌, map, length, arith, refl, sym, ◌∙◌, ap, subst, ⊎_elim, is_some, true, option_map}
+use Rattle.std.proofs.lemmas.Grind.{common_steps}
 use Rattle.std.proofs.lemmas.Bool.{cases_eq, eq-eqb, ne_eqb}
 use Rattle.std.proofs.lemmas.List.{length-map}
 use Rattle.chain_base.specs.Chain.{Entry, Chain, entry_at, link_at, IsSound, removed, without as entries_without}
@@ -25,24 +26,18 @@ use Rattle.ord_tree.proofs.LeafBranches.{IsOnce-distinct, within-occupied}
 -- a list without one of its indexes
 pub times-without_same : (i : ℕ) (xs : List ℕ) → times i xs ≤ 1 → times i (without i xs) ≡ 0
 times-without_same i [] once = refl
-times-without_same i (x ∷ xs) once =
-    ⊎_elim (λ (same : x ≡ i). rw (eq-eqb x i same) (let one = rw same at once in omega (arith, one, here-same i)))
-    (λ (other : x ≢ i). rw (ne_eqb x i other) (omega (arith, here-other i x (λ e. other (sym e)), times-without_same i xs (omega (arith, once))))) (cases_eq x i)
+times-without_same i (x ∷ xs) once = grind (arith, common_steps, times-without_same i xs)
 
 -- the entries without one
 module _ {T : Type 0} where
   pub indexes-without : (es : List (Entry T)) (i : ℕ) → indexes (entries_without i es) ≡ without i (indexes es)
   indexes-without [] i = refl
-  indexes-without (e ∷ es) i =
-      ⊎_elim (λ (same : e.index ≡ i). rw (eq-eqb e.index i same) refl)
-      (λ (other : e.index ≢ i). rw (ne_eqb e.index i other) (ap (λ is. e.index ∷ is) (indexes-without es i))) (cases_eq e.index i)
+  indexes-without (e ∷ es) i = grind (arith, common_steps, indexes-without es i)
 
 module _ {P T I G : Type 0} where
   pub bare-without : (es : List (Entry (Node P T I G))) (i : ℕ) → map bare_entry (entries_without i es) ≡ entries_without i (map bare_entry es)
   bare-without [] i = refl
-  bare-without (e ∷ es) i =
-      ⊎_elim (λ (same : e.index ≡ i). rw (eq-eqb e.index i same) refl)
-      (λ (other : e.index ≢ i). rw (ne_eqb e.index i other) (ap (λ bs. bare_entry e ∷ bs) (bare-without es i))) (cases_eq e.index i)
+  bare-without (e ∷ es) i = grind (arith, common_steps, bare-without es i)
 
   -- a generation with a link's item, without the node
   abbrev linked_item : ℕ × Link (Node P T I G) → ℕ × T

@@ -1,5 +1,6 @@
 -- Where an index stands in a tree, and what stands before and behind it.
 use Rattle.std.proofs.Common.{◌≡◌, ◌≢◌, ℕ, ◌+◌, ◌<◌, ◌≤◌, Option, Some, List, [], ◌∷◌, ◌++◌, length, arith, refl, sym, ◌∙◌, ap, subst, ⊎_elim, append_assoc}
+use Rattle.std.proofs.lemmas.Grind.{common_steps}
 use Rattle.std.proofs.lemmas.Bool.{cases_eq, cases_lt, eq-eqb, ne_eqb}
 use Rattle.ord_tree.specs.declared.tree_links.Side.{Side}
 use Rattle.ord_tree.specs.declared.tree_links.Side.TheVariants.{Lesser, Greater}
@@ -8,7 +9,7 @@ use Rattle.ord_tree.specs.Shape.{Shape, missing, node, fork, rank_of, walk}
 use Rattle.ord_tree.specs.Slots.{Slots, Holds, Way, top, up, plug, above, HoldsWay, here, times, times_in}
 use Rattle.ord_tree.specs.Balance.{IsBalanced, IsBalancedWay}
 use Rattle.ord_tree.specs.Leaf.{paired, beside}
-use Rattle.ord_tree.proofs.Forks.{rank-fork, here-same, here-other, fork_balanced}
+use Rattle.ord_tree.proofs.Forks.{HoldsFork-holds, rank-fork, here-same, here-other, fork_balanced}
 use Rattle.ord_tree.proofs.Rotations.{ForkAt}
 
 -- y stands at the end of a way; told from a side
@@ -24,30 +25,20 @@ pub record Spot (at : Slots) (root : Option ℕ) (side : Side) (y : ℕ) (whole 
   pub is : plug way (fork side near y rank far) ≡ whole
 
 module _ (at : Slots) (root : Option ℕ) where
-  spot_here : (side : Side) (way : Way) (l r : Shape) (i k : ℕ) (link : Option ℕ) → HoldsWay at root way link
-      → Holds at (above way) link (node l i k r) → Spot at root side i (plug way (node l i k r))
-  spot_here Lesser way l r i k link w h =
+  spot_here : (side : Side) (way : Way) (near far : Shape) (i k : ℕ) (link : Option ℕ) → HoldsWay at root way link
+      → Holds at (above way) link (fork side near i k far) → Spot at root side i (plug way (fork side near i k far))
+  spot_here side way near far i k link w h =
+      let f = HoldsFork-holds at (above way) link side near far i k h in
+      let P : Option ℕ → Type 0 = λ link. HoldsWay at root way link in
       record {
         way = way;
-        near = l;
+        near = near;
         rank = k;
-        far = r;
-        links = h.0;
-        held_way = (let P : Option ℕ → Type 0 = λ link. HoldsWay at root way link in subst P h.1 w);
-        at_y = h.2;
-        holds = record { back = h.3; rank = h.4; near_held = h.5; far_held = h.6 };
-        is = refl;
-      }
-  spot_here Greater way l r i k link w h =
-      record {
-        way = way;
-        near = r;
-        rank = k;
-        far = l;
-        links = h.0;
-        held_way = (let P : Option ℕ → Type 0 = λ link. HoldsWay at root way link in subst P h.1 w);
-        at_y = h.2;
-        holds = record { back = h.3; rank = h.4; near_held = h.6; far_held = h.5 };
+        far = far;
+        links = f.0;
+        held_way = subst P f.1 w;
+        at_y = f.2;
+        holds = record { back = f.3; rank = f.4; near_held = f.5; far_held = f.6 };
         is = refl;
       }
 
@@ -60,9 +51,13 @@ module _ (at : Slots) (root : Option ℕ) where
       let w' = subst P h.1 w in
       let in_l = spot_in side y l (up Lesser i k r way) h.0.lesser (h.0, h.2, h.3, h.4, refl, h.6, w') h.5 in
       let in_r = spot_in side y r (up Greater i k l way) h.0.greater (h.0, h.2, h.3, h.4, refl, h.5, w') h.6 in
-      ⊎_elim (λ (same : y ≡ i). let Q : ℕ → Type 0 = λ y. Spot at root side y (plug way (node l i k r)) in subst Q (sym same) (spot_here side way l r i k link w h))
+      ⊎_elim (λ (same : y ≡ i). let Q : ℕ → Type 0 = λ y. Spot at root side y (plug way (node l i k r)) in subst Q (sym same) (here_on side))
       (λ (other : y ≢ i). ⊎_elim (λ (some : 0 < times_in y l). in_l some) (λ (none : times_in y l ≤ 0). in_r (omega (arith, b, here-other y i other))) (cases_lt 0 (times_in y l)))
       (cases_eq y i)
+    where
+      here_on : (side : Side) → Spot at root side i (plug way (node l i k r))
+      here_on Lesser = spot_here Lesser way l r i k link w h
+      here_on Greater = spot_here Greater way r l i k link w h
 
 -- balance along a way
 pub plug_balanced : (slack : ℕ) (way : Way) (s : Shape) → IsBalanced slack (plug way s) → IsBalancedWay slack way (rank_of s) × IsBalanced slack s
@@ -95,42 +90,20 @@ around (up Greater i k far rest) =
 -- x beside y in a list that has y once
 pub beside-split : (side : Side) (y x : ℕ) (front back : List ℕ) → times y front ≡ 0 → beside side y x (front ++ y ∷ back) ≡ front ++ paired side y x back
 beside-split side y x [] back none = rw (eq-eqb y y refl) refl
-beside-split side y x (i ∷ is) back none =
-    let not_y : i ≢ y = λ e. let one = here-same y in let same = ap (here y) e in omega arith in
-    rw (ne_eqb i y not_y) (ap (λ ys. i ∷ ys) (beside-split side y x is back (omega (arith, none))))
+beside-split side y x (i ∷ is) back none = grind (arith, common_steps, beside-split side y x is back)
 
 pub times-beside : (side : Side) (y x j : ℕ) (order : List ℕ) → times j (beside side y x order) ≤ times j order + here j x
 times-beside side y x j [] = omega arith
-times-beside side y x j (i ∷ is) =
-    ⊎_elim (λ (same : i ≡ y). rw (eq-eqb i y same) (pair side same)) (λ (other : i ≢ y). rw (ne_eqb i y other) (omega (arith, times-beside side y x j is))) (cases_eq i y)
-  where
-    pair : (side : Side) → i ≡ y → times j (paired side y x is) ≤ times j (i ∷ is) + here j x
-    pair Lesser same = let e = ap (here j) same in omega arith
-    pair Greater same = let e = ap (here j) same in omega arith
+times-beside side y x j (i ∷ is) = grind (arith, common_steps, times-beside side y x j is)
 
 pub length-beside : (side : Side) (y x : ℕ) (order : List ℕ) → length (beside side y x order) ≤ length order + 1
 length-beside side y x [] = omega arith
-length-beside side y x (i ∷ is) =
-    ⊎_elim (λ (same : i ≡ y). rw (eq-eqb i y same) (pair side)) (λ (other : i ≢ y). rw (ne_eqb i y other) (omega (arith, length-beside side y x is))) (cases_eq i y)
-  where
-    pair : (side : Side) → length (paired side y x is) ≤ length (i ∷ is) + 1
-    pair Lesser = omega arith
-    pair Greater = omega arith
+length-beside side y x (i ∷ is) = grind (arith, common_steps, length-beside side y x is)
 
 pub times-beside-ge : (side : Side) (y x j : ℕ) (order : List ℕ) → times j order ≤ times j (beside side y x order)
 times-beside-ge side y x j [] = omega arith
-times-beside-ge side y x j (i ∷ is) =
-    ⊎_elim (λ (same : i ≡ y). rw (eq-eqb i y same) (pair side same)) (λ (other : i ≢ y). rw (ne_eqb i y other) (omega (arith, times-beside-ge side y x j is))) (cases_eq i y)
-  where
-    pair : (side : Side) → i ≡ y → times j (i ∷ is) ≤ times j (paired side y x is)
-    pair Lesser same = let e = ap (here j) same in omega arith
-    pair Greater same = let e = ap (here j) same in omega arith
+times-beside-ge side y x j (i ∷ is) = grind (arith, common_steps, times-beside-ge side y x j is)
 
 pub length-beside_in : (side : Side) (y x : ℕ) (order : List ℕ) → 0 < times y order → length (beside side y x order) ≡ length order + 1
 length-beside_in side y x [] b = absurd (omega (arith, b))
-length-beside_in side y x (i ∷ is) b =
-    ⊎_elim (λ (same : i ≡ y). rw (eq-eqb i y same) (pair side)) (λ (other : i ≢ y). rw (ne_eqb i y other) (omega (arith, length-beside_in side y x is (omega (arith, b, here-other y i (λ e. other (sym e))))))) (cases_eq i y)
-  where
-    pair : (side : Side) → length (paired side y x is) ≡ length (i ∷ is) + 1
-    pair Lesser = omega arith
-    pair Greater = omega arith
+length-beside_in side y x (i ∷ is) b = grind (arith, common_steps, length-beside_in side y x is)

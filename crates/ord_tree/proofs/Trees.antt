@@ -1,6 +1,6 @@
 -- A tree that lies in a chain: what its view is, and what changes of the chain keep it.
-use Rattle.std.proofs.Common.{◌≡◌, ◌≢◌, ℕ, zero, suc, ◌+◌, ◌≤◌, Option, Some, None, List, [], ◌∷◌, map, length, arith, refl, sym, ◌∙◌}
-use Rattle.std.proofs.Common.{ap, subst, ⊎_elim, inl, inr, is_some, option_map, max, Result, Ok, Err, OnOk, OnErr, OnSome, IfNone, true, false, cond, Bool}
+use Rattle.std.proofs.Common.{◌≡◌, ◌≢◌, ℕ, zero, suc, ◌+◌, ◌≤◌, Option, Some, None, List, [], ◌∷◌, map, length, arith, refl, sym, ◌∙◌, ap, subst, ⊎_elim, inl, inr, is_some, option_map, max, Result, Ok, Err, OnOk, OnErr, OnSome, IfNone, true, false, cond, Bool}
+use Rattle.std.proofs.lemmas.Grind.{common_steps}
 use Rattle.std.proofs.lemmas.Bool.{cases_eq, eq-eqb, ne_eqb}
 use Rattle.std.proofs.lemmas.Bool.Decides.{eqb_tells}
 use Rattle.std.proofs.lemmas.Option.{same_Some}
@@ -59,13 +59,11 @@ module _ {P T I G : Type 0} where
   -- the bare list
   pub entry_at-bare : (es : List (Entry (Node P T I G))) (i : ℕ) → entry_at (map bare_entry es) i ≡ option_map entry_in (entry_at es i)
   entry_at-bare [] i = refl
-  entry_at-bare (e ∷ es) i =
-      ⊎_elim (λ (same : e.index ≡ i). rw (eq-eqb e.index i same) refl) (λ (other : e.index ≢ i). rw (ne_eqb e.index i other) (entry_at-bare es i)) (cases_eq e.index i)
+  entry_at-bare (e ∷ es) i = grind (arith, common_steps, entry_at-bare es i)
 
   pub is_some-bare : (es : List (Entry (Node P T I G))) (i : ℕ) → is_some (entry_at (map bare_entry es) i) ≡ is_some (entry_at es i)
   is_some-bare [] i = refl
-  is_some-bare (e ∷ es) i =
-      ⊎_elim (λ (same : e.index ≡ i). rw (eq-eqb e.index i same) refl) (λ (other : e.index ≢ i). rw (ne_eqb e.index i other) (is_some-bare es i)) (cases_eq e.index i)
+  is_some-bare (e ∷ es) i = grind (arith, common_steps, is_some-bare es i)
 
   pub times-bare : (es : List (Entry (Node P T I G))) (i : ℕ) → times i (map bare_entry es) ≡ times i es
   times-bare [] i = refl
@@ -93,26 +91,16 @@ module _ {P T I G : Type 0} where
   -- another item in a node
   pub entry_at-below : (es : List (Entry (Node P T I G))) (i j : ℕ) (x : T) → links_at (with_item_below es i x) j ≡ links_at es j
   entry_at-below [] i j x = refl
-  entry_at-below (e ∷ es) i j x =
-      ⊎_elim (λ (same : e.index ≡ i). rw (eq-eqb e.index i same) (⊎_elim (λ (here : e.index ≡ j). rw (eq-eqb e.index j here) refl) (λ (there : e.index ≢ j). rw (ne_eqb e.index j there) refl) (cases_eq e.index j)))
-      (λ (other : e.index ≢ i). rw (ne_eqb e.index i other) (⊎_elim (λ (here : e.index ≡ j). rw (eq-eqb e.index j here) refl) (λ (there : e.index ≢ j). rw (ne_eqb e.index j there) (entry_at-below es i j x)) (cases_eq e.index j)))
-      (cases_eq e.index i)
+  entry_at-below (e ∷ es) i j x = grind (arith, common_steps, entry_at-below es i j x)
 
   pub bare-below : (es : List (Entry (Node P T I G))) (i : ℕ) (x : T) → map bare_entry (with_item_below es i x) ≡ with_item_among (map bare_entry es) i x
   bare-below [] i x = refl
-  bare-below (e ∷ es) i x =
-      ⊎_elim (λ (same : e.index ≡ i). rw (eq-eqb e.index i same) refl) (λ (other : e.index ≢ i). rw (ne_eqb e.index i other) (ap (λ ys. bare_entry e ∷ ys) (bare-below es i x))) (cases_eq e.index i)
+  bare-below (e ∷ es) i x = grind (arith, common_steps, bare-below es i x)
 
   pub below-written : (es : List (Entry (Node P T I G))) (i : ℕ) (e : ℕ × Node P T I G) (x : T)
       → entry_at es i ≡ Some e → with_item_among es i (record (e.1) { t = x }) ≡ with_item_below es i x
   below-written [] i e x h = refl
-  below-written (a ∷ es) i e x h = elim (eqb_tells a.index i) [
-    | inl same ↦
-        let found : Some (a.generation, a.item) ≡ Some e = rw same.0 at h in
-        let item : a.item ≡ e.1 = ap (λ (p : ℕ × Node P T I G). p.1) (same_Some (a.generation, a.item) e found) in
-        rw same.0 (ap (λ (n : Node P T I G). record { index = a.index; generation = a.generation; item = record n { t = x } } ∷ es) (sym item))
-    | inr other ↦ rw other.0 (ap (λ ys. a ∷ ys) (below-written es i e x (rw other.0 at h)))
-  ]
+  below-written (a ∷ es) i e x h = grind (arith, common_steps, below-written es i e x)
 
   pub below-written_chain : (c : Chain (Node P T I G)) (i : ℕ) (e : ℕ × Node P T I G) (x : T)
       → entry_at c.entries i ≡ Some e → chain_with_item c i (record (e.1) { t = x }) ≡ with_node_item c i x
@@ -120,8 +108,7 @@ module _ {P T I G : Type 0} where
 
   indexes-below : (es : List (Entry (Node P T I G))) (i : ℕ) (x : T) → indexes (with_item_below es i x) ≡ indexes es
   indexes-below [] i x = refl
-  indexes-below (e ∷ es) i x =
-      ⊎_elim (λ (same : e.index ≡ i). rw (eq-eqb e.index i same) refl) (λ (other : e.index ≢ i). rw (ne_eqb e.index i other) (ap (λ ys. e.index ∷ ys) (indexes-below es i x))) (cases_eq e.index i)
+  indexes-below (e ∷ es) i x = grind (arith, common_steps, indexes-below es i x)
 
   -- a shape that the nodes spell is the view's
   pub shape_in-held : (c : Chain (Node P T I G)) (root : Option ℕ) (s : Shape) → Holds (slots_of c) None root s → walk s ≡ indexes c.entries → shape_in c root ≡ s

@@ -10,9 +10,7 @@ use Rattle.ord_tree.proofs.demote.demote_or_rotate.Goals as goal
 
 pub overflow_add-inner : goal.overflow_add-inner
 overflow_add-inner g c =
-    let number = g.N.Nodes.number in
-    let site = c.requires.1.site in
-    let r = site_read number site _ c.other-other.ensures _ _ c.links-rank.ensures c.links-links.ensures
+    let r = site_read g.N.Nodes.number c.requires.1.site _ c.other-other.ensures _ _ c.links-rank.ensures c.links-links.ensures
     _ _ c.child.ensures c.child-2.ensures _ _ c.rank_of-outer.ensures c.rank_of-inner.ensures in
     record { fits = omega (arith, r, c.requires.1.over, low-small c.requires.1) }
 
@@ -21,17 +19,15 @@ rotate-requires g c = c.requires.1.site
 
 pub returns-then-links-outer-eq1-clause-mended : goal.returns-then-links-outer-eq1-clause-mended
 returns-then-links-outer-eq1-clause-mended g c = λ order lean.
-    let number = g.N.Nodes.number in
     let site = lean.site in
-    let r = site_read number site _ c.other-other.ensures _ _ c.links-rank.ensures c.links-links.ensures
+    let r = site_read g.N.Nodes.number site _ c.other-other.ensures _ _ c.links-rank.ensures c.links-links.ensures
     _ _ c.child.ensures c.child-2.ensures _ _ c.rank_of-outer.ensures c.rank_of-inner.ensures in
     IsRepaired-lifted lean (c.rotate.ensures.rotated site) (omega (arith, r)) r.high_is (omega (arith, r))
 
 pub returns-then-links-inner-eq2-clause-mended : goal.returns-then-links-inner-eq2-clause-mended
 returns-then-links-inner-eq2-clause-mended g c = λ order lean.
     let number = g.N.Nodes.number in
-    let site = lean.site in
-    let r = site_read number site _ c.other-other.ensures _ _ c.links-rank.ensures c.links-links.ensures
+    let r = site_read number lean.site _ c.other-other.ensures _ _ c.links-rank.ensures c.links-links.ensures
     _ _ c.child.ensures c.child-2.ensures _ _ c.rank_of-outer.ensures c.rank_of-inner.ensures in
     let at = g.N.Nodes.at in
     let s = number c.args.s in
@@ -69,8 +65,7 @@ rotate-requires-3 g c =
     let x_is = inner-read number site _ c.other-other.ensures _ _ c.links-rank.ensures c.links-links.ensures _ c.child-3.ensures _ c.unwrap-a.ensures in
     let P : Side → Type 0 = λ side. (site : Site (g.N.Nodes.at c.args.nodes.now) (option_map number c.args.root.now) side (number c.args.s) x)
     → IsRotated site (g.N.Nodes.at c.rotate-2.new.nodes) (option_map number c.rotate-2.new.root) c.rank_of-inner.result c.links-rank.result.rank in
-    let rotated = subst P c.other-other.ensures c.rotate-2.ensures.rotated (site_below site x x_is) in
-    site_above site x x_is rotated
+    site_above site x x_is (subst P c.other-other.ensures c.rotate-2.ensures.rotated (site_below site x x_is))
 
 pub returns-clause-mended : goal.returns-clause-mended
 returns-clause-mended g c = λ order lean.

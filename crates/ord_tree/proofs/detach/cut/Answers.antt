@@ -1,7 +1,7 @@
 use Rattle.std.proofs.Common.{◌≡◌, sym, ◌∙◌, subst, option_map}
 use Rattle.ord_tree.specs.TreeLinks.{other_side, child_at, numbered}
 use Rattle.ord_tree.proofs.Frames.{IsReplaced}
-use Rattle.ord_tree.proofs.Rotations.{child-numbered}
+use Rattle.ord_tree.proofs.Reading.{child_other-read}
 use Rattle.ord_tree.proofs.Cutting.{v_occupied, rest_occupied, parent_occupied, moves_one, cut_branch}
 use Rattle.ord_tree.proofs.detach.cut.Goals as goal
 
@@ -17,8 +17,7 @@ replace_child-requires g c = parent_occupied c.requires.1 (numbered g.N.Nodes.nu
 pub hang-requires : goal.hang-requires
 hang-requires g c = λ i e.
     let number = g.N.Nodes.number in
-    let rest_is : option_map number c.child-rest.result ≡ child_at (other_side c.args.bare) (numbered number c.links-links.result)
-    = rw (c.child-rest.ensures, c.other.ensures) (child-numbered number (other_side c.args.bare) c.links-links.result) in
+    let rest_is = child_other-read number c.args.bare _ c.other.ensures c.links-links.result c.child-rest.result c.child-rest.ensures in
     c.replace_child.ensures.occupied i ∙ rest_occupied c.requires.1 (numbered number c.links-links.result) c.links-links.ensures i (sym rest_is ∙ e)
 
 pub returns-clause-fallen : goal.returns-clause-fallen
@@ -26,8 +25,7 @@ returns-clause-fallen g c = λ order loose.
     let number = g.N.Nodes.number in
     let at = g.N.Nodes.at in
     let links = numbered number c.links-links.result in
-    let rest_is : option_map number c.child-rest.result ≡ child_at (other_side c.args.bare) links
-    = rw (c.child-rest.ensures, c.other.ensures) (child-numbered number (other_side c.args.bare) c.links-links.result) in
+    let rest_is = child_other-read number c.args.bare _ c.other.ensures c.links-links.result c.child-rest.result c.child-rest.ensures in
     let r = c.replace_child.ensures in
     let P = IsReplaced (at c.args.nodes.now) (at c.replace_child.new.nodes) links.back (option_map number c.args.root.now) (option_map number c.replace_child.new.root) (number c.args.v) in
     cut_branch loose links c.links-links.ensures (at c.replace_child.new.nodes) (at c.hang.new.nodes) (option_map number c.replace_child.new.root)
@@ -40,8 +38,7 @@ returns-clause-backs g c = λ order loose.
     let number = g.N.Nodes.number in
     let at = g.N.Nodes.at in
     let links = numbered number c.links-links.result in
-    let rest_is : option_map number c.child-rest.result ≡ child_at (other_side c.args.bare) links
-    = rw (c.child-rest.ensures, c.other.ensures) (child-numbered number (other_side c.args.bare) c.links-links.result) in
+    let rest_is = child_other-read number c.args.bare _ c.other.ensures c.links-links.result c.child-rest.result c.child-rest.ensures in
     let r = c.replace_child.ensures in
     let P = IsReplaced (at c.args.nodes.now) (at c.replace_child.new.nodes) links.back (option_map number c.args.root.now) (option_map number c.replace_child.new.root) (number c.args.v) in
     moves_one loose links c.links-links.ensures (at c.replace_child.new.nodes) (at c.hang.new.nodes) (option_map number c.replace_child.new.root)

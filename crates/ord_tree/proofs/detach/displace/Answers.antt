@@ -23,13 +23,12 @@ cut-branch-requires g c =
 pub substitute-requires : goal.substitute-requires
 substitute-requires g c =
     let number = g.N.Nodes.number in
-    let at = g.N.Nodes.at in
     let v = number c.unwrap-v.result in
     let links = numbered number c.links.result in
     let some = mapped number c.links.result.lesser c.if-is_none.ensures in
     let is_v = ap (option_map number) c.unwrap-v.ensures in
     let loose = loose_v c.requires.1 links c.links.ensures some.0 some.1 v is_v in
-    can_stand c.requires.1 links c.links.ensures some.0 some.1 v is_v (at c.cut-branch.new.nodes) (option_map number c.cut-branch.new.root)
+    can_stand c.requires.1 links c.links.ensures some.0 some.1 v is_v (g.N.Nodes.at c.cut-branch.new.nodes) (option_map number c.cut-branch.new.root)
     (c.cut-branch.ensures.occupied v ∙ v_occupied loose) number c.cut-branch.result (c.cut-branch.ensures.fallen c.requires.0 loose)
 
 pub returns-clause-fallen : goal.returns-clause-fallen

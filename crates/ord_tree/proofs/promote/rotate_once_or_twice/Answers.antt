@@ -3,20 +3,18 @@ use Rattle.ord_tree.specs.declared.tree_links.Side.{Side}
 use Rattle.ord_tree.specs.TreeLinks.{other_side, child_at, numbered}
 use Rattle.ord_tree.specs.Shape.{rank_of, root_of}
 use Rattle.ord_tree.specs.Rotate.{Site, IsRotated}
-use Rattle.ord_tree.proofs.Rotations.{child-numbered}
+use Rattle.ord_tree.proofs.LeafBranches.{is_some-mapped}
+use Rattle.ord_tree.proofs.Reading.{child-read, child_other-read}
 use Rattle.ord_tree.proofs.Doubles.{low_rank, outer_rank, inner_root, middle_rank, site_below, site_above}
 use Rattle.ord_tree.proofs.OnceOrTwice.{inner_some, IsRepaired-single, IsRepaired-double}
 use Rattle.ord_tree.proofs.promote.rotate_once_or_twice.Goals as goal
-
-is_some-mapped : {A B : Type 0} (f : A → B) (o : Option A) → is_some (option_map f o) ≡ is_some o
-is_some-mapped f = elim [ Rattle.std.proofs.Common.None ↦ Rattle.std.proofs.Common.refl | Some x ↦ Rattle.std.proofs.Common.refl ]
 
 pub returns-then-low-outer-eq1-clause-repaired : goal.returns-then-low-outer-eq1-clause-repaired
 returns-then-low-outer-eq1-clause-repaired g c = λ order slack steep.
     let number = g.N.Nodes.number in
     let low = numbered number c.links-low.result in
     let outer_is : c.rank_of-outer.result ≡ rank_of steep.site.outer
-    = rw (c.rank_of-outer.ensures, c.child.ensures, child-numbered number c.args.side c.links-low.result) (outer_rank steep.site low c.links-low.ensures) in
+    = rw (c.rank_of-outer.ensures, child-read number c.args.side c.links-low.result c.child.result c.child.ensures) (outer_rank steep.site low c.links-low.ensures) in
     IsRepaired-single steep (c.rotate.ensures.rotated steep.site) outer_is (low_rank steep.site low c.links-low.ensures) (omega arith)
 
 pub unwrap-x-requires : goal.unwrap-x-requires
@@ -25,37 +23,31 @@ unwrap-x-requires g c =
     let low = numbered number c.links-low.result in
     let steep = c.requires.2 in
     let outer_is : c.rank_of-outer.result ≡ rank_of steep.site.outer
-    = rw (c.rank_of-outer.ensures, c.child.ensures, child-numbered number c.args.side c.links-low.result) (outer_rank steep.site low c.links-low.ensures) in
-    let inner_is : option_map number c.child-2.result ≡ child_at (other_side c.args.side) low
-    = rw (c.child-2.ensures, c.other-other.ensures) (child-numbered number (other_side c.args.side) c.links-low.result) in
+    = rw (c.rank_of-outer.ensures, child-read number c.args.side c.links-low.result c.child.result c.child.ensures) (outer_rank steep.site low c.links-low.ensures) in
+    let inner_is = child_other-read number c.args.side _ c.other-other.ensures c.links-low.result c.child-2.result c.child-2.ensures in
     sym (is_some-mapped number c.child-2.result) ∙ ap is_some inner_is ∙ inner_some steep low c.links-low.ensures (omega arith)
 
 pub rotate-requires-2 : goal.rotate-requires-2
 rotate-requires-2 g c =
     let number = g.N.Nodes.number in
-    let low = numbered number c.links-low.result in
     let steep = c.requires.2 in
-    let inner_is : option_map number c.child-2.result ≡ child_at (other_side c.args.side) low
-    = rw (c.child-2.ensures, c.other-other.ensures) (child-numbered number (other_side c.args.side) c.links-low.result) in
+    let inner_is = child_other-read number c.args.side _ c.other-other.ensures c.links-low.result c.child-2.result c.child-2.ensures in
     let x_is : root_of steep.site.inner ≡ Some (number c.unwrap-x.result)
-    = sym (inner_root steep.site low c.links-low.ensures) ∙ sym inner_is ∙ ap (option_map number) c.unwrap-x.ensures in
+    = sym (inner_root steep.site (numbered number c.links-low.result) c.links-low.ensures) ∙ sym inner_is ∙ ap (option_map number) c.unwrap-x.ensures in
     let P : Side → Type 0 = λ side. Site (g.N.Nodes.at c.args.nodes.now) (option_map number c.args.root.now) side (number c.args.y) (number c.unwrap-x.result) in
     subst P (sym c.other-other.ensures) (site_below steep.site (number c.unwrap-x.result) x_is)
 
 pub rotate-requires-3 : goal.rotate-requires-3
 rotate-requires-3 g c =
     let number = g.N.Nodes.number in
-    let low = numbered number c.links-low.result in
     let steep = c.requires.2 in
     let x = number c.unwrap-x.result in
-    let inner_is : option_map number c.child-2.result ≡ child_at (other_side c.args.side) low
-    = rw (c.child-2.ensures, c.other-other.ensures) (child-numbered number (other_side c.args.side) c.links-low.result) in
+    let inner_is = child_other-read number c.args.side _ c.other-other.ensures c.links-low.result c.child-2.result c.child-2.ensures in
     let x_is : root_of steep.site.inner ≡ Some x
-    = sym (inner_root steep.site low c.links-low.ensures) ∙ sym inner_is ∙ ap (option_map number) c.unwrap-x.ensures in
+    = sym (inner_root steep.site (numbered number c.links-low.result) c.links-low.ensures) ∙ sym inner_is ∙ ap (option_map number) c.unwrap-x.ensures in
     let P : Side → Type 0 = λ side. (site : Site (g.N.Nodes.at c.args.nodes.now) (option_map number c.args.root.now) side (number c.args.y) x)
     → IsRotated site (g.N.Nodes.at c.rotate-2.new.nodes) (option_map number c.rotate-2.new.root) c.links-rank.result.rank c.links-low.result.rank in
-    let rotated = subst P c.other-other.ensures c.rotate-2.ensures.rotated (site_below steep.site x x_is) in
-    site_above steep.site x x_is rotated
+    site_above steep.site x x_is (subst P c.other-other.ensures c.rotate-2.ensures.rotated (site_below steep.site x x_is))
 
 pub returns-clause-repaired : goal.returns-clause-repaired
 returns-clause-repaired g c = λ order slack steep.
@@ -63,9 +55,8 @@ returns-clause-repaired g c = λ order slack steep.
     let low = numbered number c.links-low.result in
     let x = number c.unwrap-x.result in
     let outer_is : c.rank_of-outer.result ≡ rank_of steep.site.outer
-    = rw (c.rank_of-outer.ensures, c.child.ensures, child-numbered number c.args.side c.links-low.result) (outer_rank steep.site low c.links-low.ensures) in
-    let inner_is : option_map number c.child-2.result ≡ child_at (other_side c.args.side) low
-    = rw (c.child-2.ensures, c.other-other.ensures) (child-numbered number (other_side c.args.side) c.links-low.result) in
+    = rw (c.rank_of-outer.ensures, child-read number c.args.side c.links-low.result c.child.result c.child.ensures) (outer_rank steep.site low c.links-low.ensures) in
+    let inner_is = child_other-read number c.args.side _ c.other-other.ensures c.links-low.result c.child-2.result c.child-2.ensures in
     let x_is : root_of steep.site.inner ≡ Some x
     = sym (inner_root steep.site low c.links-low.ensures) ∙ sym inner_is ∙ ap (option_map number) c.unwrap-x.ensures in
     let P : Side → Type 0 = λ side. (site : Site (g.N.Nodes.at c.args.nodes.now) (option_map number c.args.root.now) side (number c.args.y) x)

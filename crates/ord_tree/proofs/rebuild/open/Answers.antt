@@ -5,13 +5,11 @@ use Rattle.ord_tree.proofs.rebuild.open.Goals as goal
 pub put-requires : goal.put-requires
 put-requires c =
     let r = c.requires in
-    let o = c.loop-rest.invariant r.0 r.1 r.2 r.3 r.4 r.5 in
-    record { not_full = (opened-more r.4 o.unopened c.loop-rest-test.true).0 }
+    record { not_full = (opened-more r.4 (c.loop-rest.invariant r.0 r.1 r.2 r.3 r.4 r.5).unopened c.loop-rest-test.true).0 }
 
 pub loop-rest-preserved : goal.loop-rest-preserved
 loop-rest-preserved c = λ at s top todo plan opening.
-    let o = c.loop-rest.invariant at s top todo plan opening in
-    rw c.put.ensures (opened-more plan o.unopened c.loop-rest-test.true).1
+    rw c.put.ensures (opened-more plan (c.loop-rest.invariant at s top todo plan opening).unopened c.loop-rest-test.true).1
 
 pub returns-clause-opened : goal.returns-clause-opened
 returns-clause-opened c = λ at s top todo plan opening.

@@ -1,14 +1,14 @@
 use Rattle.std.proofs.Common.{◌≡◌, ℕ, Option, Some, sym, ◌∙◌, ap, option_map, is_some}
 use Rattle.ord_tree.specs.declared.tree_links.Side.{Side}
 use Rattle.ord_tree.specs.TreeLinks.{other_side, child_at, with_child_at, numbered}
-use Rattle.ord_tree.proofs.Rotations.{placed, child-numbered, occupied-inner, IsRotated-written}
+use Rattle.ord_tree.proofs.Rotations.{placed, occupied-inner, IsRotated-written}
+use Rattle.ord_tree.proofs.Reading.{child_other-read}
 use Rattle.ord_tree.proofs.rotate.rotate.Goals as goal
 
 pub hang-requires : goal.hang-requires
 hang-requires g c =
     let number = g.N.Nodes.number in
-    let inner_is : option_map number c.child-inner.result ≡ child_at (other_side c.args.side) (numbered number c.links-low.result)
-    = rw (c.child-inner.ensures, c.other-other.ensures) (child-numbered number (other_side c.args.side) c.links-low.result) in
+    let inner_is = child_other-read number c.args.side _ c.other-other.ensures c.links-low.result c.child-inner.result c.child-inner.ensures in
     λ i e. c.replace_child.ensures.occupied i ∙ occupied-inner _ _ c.args.side _ _ c.requires (numbered number c.links-low.result) c.links-low.ensures i (sym inner_is ∙ e)
 
 pub relink-requires : goal.relink-requires
@@ -23,8 +23,7 @@ returns-clause-rotated g c = λ site.
     let side = c.args.side in
     let low = numbered number c.links-low.result in
     let high = numbered number c.links-high.result in
-    let inner_is : option_map number c.child-inner.result ≡ child_at (other_side side) low
-    = rw (c.child-inner.ensures, c.other-other.ensures) (child-numbered number (other_side side) c.links-low.result) in
+    let inner_is = child_other-read number side _ c.other-other.ensures c.links-low.result c.child-inner.result c.child-inner.ensures in
     IsRotated-written (g.N.Nodes.at c.args.nodes.now) (g.N.Nodes.at c.replace_child.new.nodes) (g.N.Nodes.at c.hang.new.nodes) (g.N.Nodes.at c.relink.new.nodes) (g.N.Nodes.at c.relink-2.new.nodes)
     (option_map number c.args.root.now) (option_map number c.replace_child.new.root) side (number c.args.z) (number c.args.y) c.args.rank_z c.args.rank_y low high
     site c.links-low.ensures c.links-high.ensures

@@ -21,18 +21,16 @@ grow-requires g c =
     let number = g.P.Inx.PtrInx.number in
     let can = CanPutAt-bare number c.args.at c.self.inside.chain (rw (← c.self.view_is) at c.requires) in
     let root = option_map number c.self.inside.root in
-    let x_is = ap number c.new.ensures ∙ c.inx.ensures in
     call_allowed number c.self.inside.chain root c.args.at _ c.self.invariant can c.branch_at-branch.ensures c.parent_in.ensures c.leaf-node.ensures c.kind_of.ensures
-    c.in_ok-p.ensures.ok x_is g.P.Inx.PtrInx.most g.P.Gen.PtrGen.greatest c.len.ensures.sound g.met.P.Inx.PtrInx.fits
+    c.in_ok-p.ensures.ok (ap number c.new.ensures ∙ c.inx.ensures) g.P.Inx.PtrInx.most g.P.Gen.PtrGen.greatest c.len.ensures.sound g.met.P.Inx.PtrInx.fits
 
 pub invariant_of-self-2 : goal.invariant_of-self-2
 invariant_of-self-2 g c =
     let number = g.P.Inx.PtrInx.number in
     let can = CanPutAt-bare number c.args.at c.self.inside.chain (rw (← c.self.view_is) at c.requires) in
     let root = option_map number c.self.inside.root in
-    let x_is = ap number c.new.ensures ∙ c.inx.ensures in
     (call_grown number c.self.inside.chain root c.args.at _ c.self.invariant can c.branch_at-branch.ensures c.parent_in.ensures c.leaf-node.ensures c.kind_of.ensures
-    c.in_ok-p.ensures.ok x_is g.P.Inx.PtrInx.most g.P.Gen.PtrGen.greatest c.len.ensures.sound g.met.P.Inx.PtrInx.fits
+    c.in_ok-p.ensures.ok (ap number c.new.ensures ∙ c.inx.ensures) g.P.Inx.PtrInx.most g.P.Gen.PtrGen.greatest c.len.ensures.sound g.met.P.Inx.PtrInx.fits
     c.grow.new.chain c.grow.new.root c.grow.ensures.kept c.grow.ensures.grown).0
 
 pub returns-clause-ok : goal.returns-clause-ok

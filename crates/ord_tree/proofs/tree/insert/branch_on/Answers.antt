@@ -2,17 +2,15 @@ use Rattle.std.proofs.Common.{◌≡◌, ◌∙◌, refl, sym, ap, option_map}
 use Rattle.std.proofs.lemmas.Option.{same_Some}
 use Rattle.ord_tree.specs.TreeLinks.{child_at, numbered}
 use Rattle.ord_tree.specs.Node.{indexes, slots_of}
-use Rattle.ord_tree.proofs.Rotations.{child-numbered}
+use Rattle.ord_tree.proofs.Reading.{child-read}
 use Rattle.ord_tree.proofs.LeafBranches.{within-occupied, IsOnce-distinct, next_bud, IsLeafBranch-next, none_of, some_in}
 use Rattle.ord_tree.proofs.tree.insert.branch_on.Goals as goal
 
 pub returns-then-is_none : goal.returns-then-is_none
 returns-then-is_none g c = λ root s laid distinct.
     let number = g.P.Inx.PtrInx.number in
-    let entries = c.args.chain.now.entries in
-    let child_is : child_at c.args.side (numbered number c.links-links.result) ≡ option_map number c.child.result
-    = sym (child-numbered number c.args.side c.links-links.result) ∙ ap (option_map number) (sym c.child.ensures) in
-    let within = within-occupied entries (number c.args.i) c.requires in
+    let child_is = sym (child-read number c.args.side c.links-links.result c.child.result c.child.ensures) in
+    let within = within-occupied c.args.chain.now.entries (number c.args.i) c.requires in
     record {
       within = within;
       bare = λ n e. ap (child_at c.args.side) (same_Some n _ (sym e ∙ c.links-links.ensures)) ∙ child_is ∙ ap (option_map number) (none_of c.child.result c.if-is_none.ensures);
@@ -23,8 +21,7 @@ pub returns-in_default : goal.returns-in_default
 returns-in_default g c = λ root s laid distinct.
     let number = g.P.Inx.PtrInx.number in
     let entries = c.args.chain.now.entries in
-    let child_is : child_at c.args.side (numbered number c.links-links.result) ≡ option_map number c.child.result
-    = sym (child-numbered number c.args.side c.links-links.result) ∙ ap (option_map number) (sym c.child.ensures) in
+    let child_is = sym (child-read number c.args.side c.links-links.result c.child.result c.child.ensures) in
     let within = within-occupied entries (number c.args.i) c.requires in
     let child = some_in c.child.result c.if-is_none.ensures in
     let bud = next_bud (slots_of c.args.chain.now) root s (indexes entries) laid.held laid.listed (IsOnce-distinct entries distinct) (number c.args.i) within
@@ -37,8 +34,7 @@ pub returns : goal.returns
 returns g c = λ root s laid distinct.
     let number = g.P.Inx.PtrInx.number in
     let entries = c.args.chain.now.entries in
-    let child_is : child_at c.args.side (numbered number c.links-links.result) ≡ option_map number c.child.result
-    = sym (child-numbered number c.args.side c.links-links.result) ∙ ap (option_map number) (sym c.child.ensures) in
+    let child_is = sym (child-read number c.args.side c.links-links.result c.child.result c.child.ensures) in
     let within = within-occupied entries (number c.args.i) c.requires in
     let child = some_in c.child.result c.if-is_none.ensures in
     let bud = next_bud (slots_of c.args.chain.now) root s (indexes entries) laid.held laid.listed (IsOnce-distinct entries distinct) (number c.args.i) within
