@@ -48,12 +48,7 @@ module _ {P T I G : Type 0} where
 
   links_among-bare : (es : List (Entry (Node P T I G))) (from count : ℕ) → links_among (map bare_entry es) from count ≡ map linked_in (links_among es from count)
   links_among-bare es from zero = refl
-  links_among-bare es from (suc count) =
-      rw (link_between-bare from None None es, links_among-bare es (from + 1) count) (before (link_at es from) (links_among es (from + 1) count))
-    where
-      before : (o : Option (ℕ × Link (Node P T I G))) (rest : List _) → entry_before from (option_map bare_held o) (map linked_in rest) ≡ map linked_in (entry_before from o rest)
-      before None rest = refl
-      before (Some e) rest = refl
+  links_among-bare es from (suc count) = grind (arith, common_steps, link_between-bare from None None es, links_among-bare es (from + 1) count)
 
   pointers-bare : (es : List (Entry (Node P T I G))) → pointers (map bare_entry es) ≡ pointers es
   pointers-bare [] = refl

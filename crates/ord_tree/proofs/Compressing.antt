@@ -1,5 +1,6 @@
 -- A chain of nodes in which all entries are moved, as the list without the nodes sees it.
-use Rattle.std.proofs.Common.{◌≡◌, ℕ, zero, suc, ◌+◌, Option, Some, None, List, [], ◌∷◌, map, length, refl, sym, ◌∙◌, ap, option_map, max, slice_index_or, nat_lt, if◌then◌else◌}
+use Rattle.std.proofs.Common.{arith, ◌≡◌, ℕ, zero, suc, ◌+◌, Option, Some, None, List, [], ◌∷◌, map, length, refl, sym, ◌∙◌, ap, option_map, max, slice_index_or, nat_lt, if◌then◌else◌}
+use Rattle.std.proofs.lemmas.Grind.{common_steps}
 use Rattle.std.proofs.lemmas.List.{length-map}
 use Rattle.chain_base.specs.Chain.{Entry, Chain, entry_at}
 use Rattle.chain_base.specs.Compression.{lesser, entry_before, rising_among, entries_rising, refilled, moved, compressed, at_compressed_index, relocated, numbered, canonical, replaced, left_empty, IsCompression, Transferring, IsTransfer}
@@ -66,8 +67,7 @@ module _ {P T I G : Type 0} where
     moved-bare : (nodes : List (Node P T I G)) (es : List (Entry (Node P T I G)))
         → map bare_entry (map (moved all g nodes) es) ≡ map (moved (map bare_entry all) g (items_in nodes)) (map bare_entry es)
     moved-bare nodes [] = refl
-    moved-bare nodes (e ∷ es) =
-        rw (lesser-bare all e.index, item-at nodes (lesser all e.index) e.item) (ap (λ rest. bare_entry (moved all g nodes e) ∷ rest) (moved-bare nodes es))
+    moved-bare nodes (e ∷ es) = grind (arith, common_steps, lesser-bare all e.index, item-at nodes (lesser all e.index) e.item, moved-bare nodes es)
 
   pub bare-relocated : (c : Chain (Node P T I G)) (g : ℕ) → bare (relocated c g) ≡ relocated (bare c) g
   bare-relocated c g =
@@ -84,8 +84,7 @@ module _ {P T I G : Type 0} where
 
   rising-bare : (es : List (Entry (Node P T I G))) (from count : ℕ) → rising_among (map bare_entry es) from count ≡ map shown_in (rising_among es from count)
   rising-bare es from zero = refl
-  rising-bare es from (suc count) =
-      rw (entry_at-bare es from, rising-bare es (from + 1) count) (before-bare from (entry_at es from) (rising_among es (from + 1) count))
+  rising-bare es from (suc count) = grind (arith, common_steps, entry_at-bare es from, rising-bare es (from + 1) count)
 
   -- where the closure that was called on nodes calls f on their items
   module _ {S F : Type 0} (numbers : P → ℕ × ℕ) (outer : S → P → Node P T I G → P → Node P T I G → S → Type 0) (step : F → P → T → P → T → F → Type 0) (inner : S → F)

@@ -1,5 +1,6 @@
 -- A node is taken out: the entry before it stands in its place, and the branch that has fallen goes along.
 use Rattle.std.proofs.Common.{◌≡◌, ◌≢◌, ℕ, ◌+◌, Option, None, List, [], ◌∷◌, ◌++◌, map, arith, refl, sym, ◌∙◌, ap, subst, inl, inr, ⊎_elim, length-append}
+use Rattle.std.proofs.lemmas.Grind.{common_steps}
 use Rattle.ord_tree.specs.declared.tree_links.Side.{Side}
 use Rattle.ord_tree.specs.declared.tree_links.Side.TheVariants.{Lesser, Greater}
 use Rattle.ord_tree.specs.TreeLinks.{child_at}
@@ -45,9 +46,7 @@ walk-renamed z v (node l i k r) = rw (walk-renamed z v l, walk-renamed z v r) (s
 
 pub map-absent : (z v : ℕ) (xs : List ℕ) → times z xs ≡ 0 → map (stand_in z v) xs ≡ xs
 map-absent z v [] none = refl
-map-absent z v (x ∷ xs) none =
-    let not_z : x ≢ z = λ e. let one = here-same z in let same = ap (here z) e in omega arith in
-    rw (stand_in-other z v x not_z, map-absent z v xs (omega (arith, none))) refl
+map-absent z v (x ∷ xs) none = grind (arith, common_steps, map-absent z v xs)
 
 -- what holds a whole tree holds a way and what stands at its end
 pub plug_held : (at : Slots) (root : Option ℕ) (way : Way) (s : Shape) → Holds at None root (plug way s) → (link : Option ℕ) × HoldsWay at root way link × Holds at (above way) link s

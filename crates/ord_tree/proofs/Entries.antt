@@ -44,8 +44,7 @@ module _ {P T I G : Type 0} where
     slots_of-elsewhere j ne = ap (option_map (λ (e : ℕ × Node P T I G). links_in e.1)) (entry_at-with_item_among_other c.entries i j x ne)
 
     pub slots_of-occupied : (j : ℕ) → is_some (slots_of (chain_with_item c i x) j) ≡ is_some (slots_of c j)
-    slots_of-occupied j =
-        ⊎_elim (λ (same : j ≡ i). rw (same, slots_of-written, there) refl) (λ (other : j ≢ i). ap is_some (slots_of-elsewhere j other)) (cases_eq j i)
+    slots_of-occupied j = grind (arith, common_steps, j, slots_of-written, there, slots_of-elsewhere j)
 
     pub bare-written : x.t ≡ e.1.t → bare (chain_with_item c i x) ≡ bare c
     bare-written t = ap (λ (es : List (Entry T)). record { entries = es; capacity = c.capacity; vacant = c.vacant; generation = c.generation; maximum = c.maximum }) (bare-with_item i e x t c.entries there)

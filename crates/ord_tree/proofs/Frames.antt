@@ -1,5 +1,6 @@
 -- What nodes hold stays where no write touches them, and what a write of one link makes of it.
 use Rattle.std.proofs.Common.{◌≡◌, ◌≢◌, ℕ, ◌+◌, ◌<◌, ◌≤◌, Option, Some, None, arith, refl, sym, ◌∙◌, ap, subst, ⊎_elim, option_map, is_some, true}
+use Rattle.std.proofs.lemmas.Grind.{common_steps}
 use Rattle.std.proofs.lemmas.Bool.{cases_eq}
 use Rattle.ord_tree.specs.declared.tree_links.Side.{Side}
 use Rattle.ord_tree.specs.declared.tree_links.Side.TheVariants.{Lesser, Greater}
@@ -141,6 +142,4 @@ module _ {old new : Slots} {i rank : ℕ} (by : IsReranked old new i rank) where
 
   -- it moves no parent
   pub backs-ranked : (n : TreeLinks ℕ) → old i ≡ Some n → (j : ℕ) → back_at old j ≡ back_at new j
-  backs-ranked n e j =
-      ⊎_elim (λ (same : j ≡ i). rw (same, e, by.here n e) refl)
-      (λ other. ap (λ (o : Option (TreeLinks ℕ)). option_map (λ (n : TreeLinks ℕ). n.back) o) (sym (by.elsewhere j other))) (cases_eq j i)
+  backs-ranked n e j = grind (arith, common_steps, j, by.here n, by.elsewhere j)

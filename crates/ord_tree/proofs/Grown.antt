@@ -1,5 +1,6 @@
 -- An insertion: from the chain's new entry to the tree with it.
 use Rattle.std.proofs.Common.{◌≡◌, ◌≢◌, ℕ, ◌+◌, ◌<◌, ◌^◌, Option, Some, None, List, [], ◌∷◌, map, length, arith, refl, sym, ◌∙◌, ap, subst, inl, is_some, true, option_map, MatchOption, slice_get}
+use Rattle.std.proofs.lemmas.Grind.{common_steps}
 use Rattle.std.proofs.lemmas.Bool.{eq-eqb}
 use Rattle.std.proofs.lemmas.List.{length-map}
 use Rattle.std.specs.declared.cmp.Ordering.{Ordering}
@@ -33,21 +34,11 @@ module _ (P G : Type 0) {T I : Type 0} (number : I → ℕ) where
   -- the place in the chain that is named is the one in the list
   pub placed-put : (at : Option (I × Ordering)) (es : List (Entry T)) (new : Entry T) → placed {P = P} {G = G} number (kind_at at) es new ≡ put_at number at es new
   placed-put None es new = refl
-  placed-put (Some at) es new = on at.1
-    where
-      on : (o : Ordering) → placed {P = P} {G = G} number (kind_on o at.0) es new ≡ put_on o (number at.0) es new
-      on Less = refl
-      on Equal = refl
-      on Greater = refl
+  placed-put (Some at) es new = grind (arith, common_steps)
 
   pub CanPlace-put : (at : Option (I × Ordering)) (c : Chain T) → CanPutAt number at c → CanPlace {P = P} {G = G} number (kind_at at) c
   CanPlace-put None c h = h
-  CanPlace-put (Some at) c h = on at.1
-    where
-      on : (o : Ordering) → CanPlace {P = P} {G = G} number (kind_on o at.0) c
-      on Less = h.0
-      on Equal = h.0
-      on Greater = h.0
+  CanPlace-put (Some at) c h = grind (arith, common_steps)
 
 -- an insertion's chain
 module _ {T : Type 0} where

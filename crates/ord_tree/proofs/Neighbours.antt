@@ -31,9 +31,7 @@ last_of (node l i k (node a b c d)) j e =
 
 -- the index before this one, where the list is split there
 pub previous-split : (first : Option ℕ) (z v : ℕ) (front back : List ℕ) → times z (front ++ v ∷ []) ≡ 0 → previous first z (front ++ v ∷ z ∷ back) ≡ Some v
-previous-split first z v [] back none =
-    let not_z : v ≢ z = λ e. let one = here-same z in let same = ap (here z) e in omega arith in
-    rw (ne_eqb v z not_z, eq-eqb z z refl) refl
+previous-split first z v [] back none = grind (arith, common_steps)
 previous-split first z v (x ∷ xs) back none = grind (arith, common_steps, previous-split (Some x) z v xs back)
 
 -- the first node of a shape that isn't empty: nothing hangs on its lesser side

@@ -1,5 +1,6 @@
 -- A leaf that is hung on its parent has risen there.
 use Rattle.std.proofs.Common.{◌≡◌, ◌≢◌, ℕ, ◌+◌, Option, Some, None, List, ◌∷◌, ◌++◌, arith, refl, sym, ◌∙◌, ap, subst, inl, ⊎_elim, option_map, is_some, true, append_assoc}
+use Rattle.std.proofs.lemmas.Grind.{common_steps}
 use Rattle.std.proofs.lemmas.Bool.{cases_eq}
 use Rattle.ord_tree.specs.declared.tree_links.Side.{Side}
 use Rattle.ord_tree.specs.declared.tree_links.Side.TheVariants.{Lesser, Greater}
@@ -97,6 +98,4 @@ module _ {at : Slots} {root : Option ℕ} {side : Side} {y x : ℕ} {order : Lis
         }
 
     pub backs-attached : (j : ℕ) → back_at at j ≡ back_at new j
-    backs-attached j =
-        ⊎_elim (λ (same : j ≡ y). rw (same, spot.at_y, written spot.links spot.at_y) (ap Some (sym (back-with_child side (Some x) spot.links))))
-        (λ other. ap (λ (o : Option (TreeLinks ℕ)). option_map (λ (n : TreeLinks ℕ). n.back) o) (sym (elsewhere j other))) (cases_eq j y)
+    backs-attached j = grind (arith, common_steps, j, spot.at_y, written spot.links, elsewhere j, back-with_child side (Some x) spot.links)

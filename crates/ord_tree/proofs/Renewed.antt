@@ -14,11 +14,7 @@ module _ {P T I G : Type 0} where
   -- a pointer names an entry of the list where it names a node
   is_some-item_if : (g : ℕ) (o : Option (ℕ × Node P T I G)) → is_some (item_if g (option_map entry_in o)) ≡ is_some (item_if g o)
   is_some-item_if g None = refl
-  is_some-item_if g (Some e) = go (eqb e.0 g)
-    where
-      go : (b : Bool) → is_some (cond b (Some e.1.t) None) ≡ is_some (cond b (Some e.1) None)
-      go true = refl
-      go false = refl
+  is_some-item_if g (Some e) = grind (arith, common_steps)
 
   pub item_of-bare : (es : List (Entry (Node P T I G))) (p : ℕ × ℕ) → is_some (item_of (map bare_entry es) p) ≡ is_some (item_of es p)
   item_of-bare es p = ap (λ (o : Option (ℕ × T)). is_some (item_if p.1 o)) (entry_at-bare es p.0) ∙ is_some-item_if p.1 (entry_at es p.0)

@@ -1,5 +1,6 @@
 -- A node stands in the place of another.
 use Rattle.std.proofs.Common.{◌≡◌, ◌≢◌, ℕ, ◌+◌, ◌<◌, Option, Some, None, [], ◌∷◌, ◌++◌, arith, refl, sym, ◌∙◌, ap, subst, inl, inr, ⊎_elim, option_map, is_some, true, length-append}
+use Rattle.std.proofs.lemmas.Grind.{common_steps}
 use Rattle.std.specs.Option.{option_to_list}
 use Rattle.std.proofs.lemmas.Bool.{cases_eq, eq-eqb, ne_eqb}
 use Rattle.ord_tree.specs.declared.tree_links.Side.TheVariants.{Lesser, Greater}
@@ -25,17 +26,12 @@ index-other i z none e = let one = here-same z in let same = ap (here z) e in om
 
 pub renamed-absent : (z v : ℕ) (s : Shape) → times_in z s ≡ 0 → renamed z v s ≡ s
 renamed-absent z v missing none = refl
-renamed-absent z v (node l i k r) none =
-    rw (renamed-absent z v l (omega (arith, none)), renamed-absent z v r (omega (arith, none)), stand_in-other z v i (index-other i z (omega (arith, none)))) refl
+renamed-absent z v (node l i k r) none = grind (arith, common_steps, renamed-absent z v l, renamed-absent z v r)
 
 renamed-plug : (z v : ℕ) (way : Way) (s : Shape) → times_way z way ≡ 0 → renamed z v (plug way s) ≡ plug way (renamed z v s)
 renamed-plug z v top s none = refl
-renamed-plug z v (up Lesser i k far rest) s none =
-    renamed-plug z v rest (node s i k far) (omega (arith, none))
-    ∙ rw (renamed-absent z v far (omega (arith, none)), stand_in-other z v i (index-other i z (omega (arith, none)))) refl
-renamed-plug z v (up Greater i k far rest) s none =
-    renamed-plug z v rest (node far i k s) (omega (arith, none))
-    ∙ rw (renamed-absent z v far (omega (arith, none)), stand_in-other z v i (index-other i z (omega (arith, none)))) refl
+renamed-plug z v (up Lesser i k far rest) s none = grind (arith, common_steps, renamed-plug z v rest (node s i k far), renamed-absent z v far)
+renamed-plug z v (up Greater i k far rest) s none = grind (arith, common_steps, renamed-plug z v rest (node far i k s), renamed-absent z v far)
 
 module _ {old : Slots} {root : Option ℕ} {z v : ℕ} {s : Shape} (can : CanStandIn old root z v s) where
   spot : Spot old root Lesser z s

@@ -139,12 +139,7 @@ module _ {P T I G : Type 0} where
   -- a growth that makes room
   pub tree_of-with_room : (most : ℕ) (c : Chain (Node P T I G)) (root : Option ℕ)
       → tree_of (with_room most c) root ≡ record (tree_of c root) { list = with_room most (bare c) }
-  tree_of-with_room most c root = go (is_some (next_index c))
-    where
-      go : (b : Bool) → tree_of (cond b c (with_capacity c (grown_capacity most c))) root
-          ≡ record (tree_of c root) { list = cond b (bare c) (with_capacity (bare c) (grown_capacity most (bare c))) }
-      go true = refl
-      go false = ap (λ (l : Chain T). record { list = l; shape = shape_in c root }) (bare-with_capacity c (grown_capacity most c))
+  tree_of-with_room most c root = grind (arith, common_steps, bare-with_capacity c (grown_capacity most c))
 
   -- the shape depends on the links and the order of the nodes alone
   module _ {U : Type 0} (c : Chain (Node P U I G)) (d : Chain (Node P T I G)) (root : Option ℕ) (links : (j : ℕ) → slots_of d j ≡ slots_of c j) (order : indexes d.entries ≡ indexes c.entries)
@@ -174,11 +169,7 @@ module _ {P T I G : Type 0} where
 
   -- what chain arenas promise holds of the bare chain too
   entries_lawful-bare : (Q : ℕ → Type 0) (o : Option (ℕ × Node P T I G)) (b : Option (ℕ × T)) → b ≡ option_map entry_in o → ForSome o (λ e. Q e.0) → ForSome b (λ e. Q e.0)
-  entries_lawful-bare Q o b e h = rw e (cases o h)
-    where
-      cases : (o : Option (ℕ × Node P T I G)) → ForSome o (λ e. Q e.0) → ForSome (option_map entry_in o) (λ e. Q e.0)
-      cases None h = λ x e. absurd cc
-      cases (Some n) h = λ x e. let same : (n.0, n.1.t) ≡ x = cc in let P : ℕ × T → Type 0 = λ x. Q x.0 in subst P same (h n refl)
+  entries_lawful-bare Q o b e h = grind (arith, common_steps)
 
   pub IsSound-bare : (most : ℕ) (greatest : Option ℕ) (c : Chain (Node P T I G)) → IsSound most greatest c → IsSound most greatest (bare c)
   IsSound-bare most greatest c h = record {
