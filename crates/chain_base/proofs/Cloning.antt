@@ -64,8 +64,10 @@ module _ {T U : Type 0} where
   with_items-frame i slots items same k = grind (arith, common_steps)
 
   -- and each the item of its number
-  with_items-item : (slots : List (Option (ℕ × Link U))) (items : List (Link T)) (k : ℕ) (e : ℕ × Link U) → get_or slots k None ≡ Some e
-      → option_map (λ (e : ℕ × Link T). e.1.item) (get_or (with_items slots items) k None) ≡ slice_get (map (λ l. l.item) items) (count_by is_some (take k slots))
+  abbrev HasItem : List (Option (ℕ × Link U)) → List (Link T) → ℕ → Type 0
+  HasItem slots items k = option_map (λ (e : ℕ × Link T). e.1.item) (get_or (with_items slots items) k None) ≡ slice_get (map (λ l. l.item) items) (count_by is_some (take k slots))
+
+  with_items-item : (slots : List (Option (ℕ × Link U))) (items : List (Link T)) (k : ℕ) (e : ℕ × Link U) → get_or slots k None ≡ Some e → HasItem slots items k
   with_items-item (None ∷ slots) items (suc k) e is = grind (arith, common_steps, with_items-item slots items k e is)
   with_items-item (Some d ∷ slots) (x ∷ items) (suc k) e is = grind (arith, common_steps, with_items-item slots items k e is)
   with_items-item slots items k e is = grind (arith, common_steps)

@@ -37,10 +37,10 @@ written_twice first v second w k o = if names second k then w else (if names fir
 
 module _ {T : Type 0} where
   -- a link after two pairs of writes
-  module _ (a b c d v w : Option ℕ) where
-    relinked-twice : (k : ℕ) (e : ℕ × Link T) → relinked c w d w k (relinked a v b v k (Some e))
+  module _ (a b c d v w : Option ℕ) (k : ℕ) where
+    relinked-twice : (e : ℕ × Link T) → relinked c w d w k (relinked a v b v k (Some e))
         ≡ Some (e.0, record (e.1) { prev = written_twice b v d w k e.1.prev; next = written_twice a v c w k e.1.next })
-    relinked-twice k e = grind (arith, common_steps)
+    relinked-twice e = grind (arith, common_steps)
 
   -- entries of one generation that are swapped stand at each other's index
   slot-swapped : (a : Arena (Link T)) (i j x : ℕ) (e f : ℕ × Link T) → slot a i ≡ Some e → slot a j ≡ Some f → e.0 ≡ f.0 → slot (swapped a i j) (other i j x) ≡ slot a x

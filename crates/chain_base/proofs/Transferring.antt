@@ -77,7 +77,7 @@ module _ {T : Type 0} where
     can_place-behind (Some i) c (x ∷ xs) is = grind (arith, common_steps, number i, i, entry_at-last c.generation 1 x xs)
     can_place-behind last c items is = absurd cc
 
-    pub placed-behind : (last : Option _) (g : ℕ) (items : List _) (e : Entry _) → IsLast last items
+    pub placed-behind : (last : _) (g : ℕ) (items : List _) (e : Entry _) → IsLast last items
         → placed {P = P} {G = G} number (place_behind last) (numbered g 1 items) e ≡ numbered g 1 items ++ e ∷ []
     placed-behind None g [] new is = refl
     placed-behind (Some i) g (x ∷ xs) new is = grind (arith, common_steps, number i, i, insert_after-last g 1 x xs new)

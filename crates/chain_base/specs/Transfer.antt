@@ -7,7 +7,7 @@ use Rattle.arena_base.specs.declared.invalidation.InvalidationOption.{Invalidati
 use Rattle.chain_base.specs.declared.chain.insert.LinkInsertKind.{LinkInsertKind}
 use Rattle.chain_base.specs.declared.chain.insert.LinkInsertKind.TheVariants.{Disconnected, NextToInx}
 use Rattle.chain_base.specs.Chain.{Entry, Chain}
-use Rattle.chain_base.specs.Compression.{numbered, refilled, TransferStep}
+use Rattle.chain_base.specs.Compression.{numbered, refilled, Transferring, TransferStep}
 
 -- c with entries of these items alone, at the indexes from 1 on
 abbrev pub filled_with : {T : Type 0} → Chain T → List T → Chain T
@@ -37,15 +37,17 @@ pub record TakesOut {Q U : Type 0} (numbers : Q → ℕ × ℕ) (greatest : Opti
   pub maximum : new.maximum ≡ old.maximum
   pub raised : new.generation ≡ next_generation greatest old.generation
 
+-- the state of a transfer after some calls
+abbrev pub after_calls : {M T U : Type 0} → M → List T → Chain U → Transferring M T
+after_calls m items source = record { closure = m; items = items; generation = source.generation }
+
 module _ {P Q T U M : Type 0} (numbers_from : Q → ℕ × ℕ) (numbers_to : P → ℕ × ℕ) (greatest : Option ℕ) (step : M → Q → InvalidationOption U → P → T → M → Type 0) where
   -- some entries went from the source to c, which had none
   pub record HasTaken (m : M) (source source_now : Chain U) (c now : Chain T) (n : M) : Type 0 where
     pub gone : List (Entry U)
     pub items : List T
     pub split : source.entries ≡ gone ++ source_now.entries
-    pub calls : FoldsTo (TransferStep numbers_from numbers_to greatest step c.generation)
-        (record { closure = m; items = []; generation = source.generation }) gone
-        (record { closure = n; items = items; generation = source_now.generation })
+    pub calls : FoldsTo (TransferStep numbers_from numbers_to greatest step c.generation) (after_calls m [] source) gone (after_calls n items source_now)
     pub count : length items ≡ length gone
     pub put : now ≡ filled_with c items
     pub capacity : source_now.capacity ≡ source.capacity

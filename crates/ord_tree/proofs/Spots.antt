@@ -25,22 +25,22 @@ pub record Spot (at : Slots) (root : Option ℕ) (side : Side) (y : ℕ) (whole 
   pub is : plug way (fork side near y rank far) ≡ whole
 
 module _ (at : Slots) (root : Option ℕ) where
-  spot_here : (side : Side) (way : Way) (near far : Shape) (i k : ℕ) (link : Option ℕ) → HoldsWay at root way link
-      → Holds at (above way) link (fork side near i k far) → Spot at root side i (plug way (fork side near i k far))
-  spot_here side way near far i k link w h =
-      let f = HoldsFork-holds at (above way) link side near far i k h in
-      let P : Option ℕ → Type 0 = λ link. HoldsWay at root way link in
-      record {
-        way = way;
-        near = near;
-        rank = k;
-        far = far;
-        links = f.0;
-        held_way = subst P f.1 w;
-        at_y = f.2;
-        holds = record { back = f.3; rank = f.4; near_held = f.5; far_held = f.6 };
-        is = refl;
-      }
+  module _ (side : Side) (way : Way) (near far : Shape) (i k : ℕ) (link : Option ℕ) where
+    spot_here : HoldsWay at root way link → Holds at (above way) link (fork side near i k far) → Spot at root side i (plug way (fork side near i k far))
+    spot_here w h =
+        let f = HoldsFork-holds at (above way) link side near far i k h in
+        let P : Option ℕ → Type 0 = λ link. HoldsWay at root way link in
+        record {
+          way = way;
+          near = near;
+          rank = k;
+          far = far;
+          links = f.0;
+          held_way = subst P f.1 w;
+          at_y = f.2;
+          holds = record { back = f.3; rank = f.4; near_held = f.5; far_held = f.6 };
+          is = refl;
+        }
 
   -- each index of a tree has its spot
   pub spot_in : (side : Side) (y : ℕ) (s : Shape) (way : Way) (link : Option ℕ) → HoldsWay at root way link
