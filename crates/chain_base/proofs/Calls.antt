@@ -6,7 +6,7 @@ use Rattle.arena_base.specs.Pointer.{named_of}
 use Rattle.chain_base.specs.Link.{Link}
 use Rattle.chain_base.specs.Chain.{Entry, Chain, times, new_chain, with_capacity, greatest_index, renewed, removed}
 use Rattle.chain_base.specs.Insert.{IsPlace}
-use Rattle.chain_base.specs.Layout.{chain_of, IsLaidOut}
+use Rattle.chain_base.specs.Layout.{chain_of}
 use Rattle.chain_base.specs.Naming.{neighbour_on}
 use Rattle.chain_base.specs.declared.chain.compress.Side.{Side}
 use Rattle.chain_base.proofs.Lists.{times-append, times-last, times-first, other_index}

@@ -4,7 +4,7 @@ use Rattle.std.proofs.lemmas.Grind.{common_steps}
 use Rattle.arena_base.specs.Arena.{Arena, slot, item_of as slot_item, IsFirstEntry, IsLastEntry}
 use Rattle.chain_base.specs.Link.{Link}
 use Rattle.chain_base.specs.Chain.{Entry, times, entry_at, link_at, last_or, last_pointer, pointed, item_of, generation_at, IsFirstIndex, IsLastIndex}
-use Rattle.chain_base.specs.Layout.{chain_of, IsLaidOut}
+use Rattle.chain_base.specs.Layout.{chain_of}
 use Rattle.chain_base.proofs.LaidOut.{IsChainIn}
 use Rattle.chain_base.proofs.Lists.{times-here, times-there, times-last, times-unlinked, entry_at-link, entry_at-some}
 
@@ -54,12 +54,9 @@ module _ {T : Type 0} where
     occupied-laid_out i some = ap is_some (laid.links i) ∙ sym (entry_at-some (chain_of a first).entries i) ∙ some
 
   -- the pointer to the last index of a chain that lies in an arena
-  module _ {I : Type 0} (number : I → ℕ) (a : Arena (Link T)) (first : Option ℕ) (last : Option I) (i : I)
-      (laid : IsChainIn a first (option_map number last)) (is : last ≡ Some i) where
-    pub last-found : pointed (number i) (entry_at (chain_of a first).entries (number i)) ≡ last_pointer (chain_of a first).entries
-    last-found = pointed-last (chain_of a first).entries (number i) (laid.distinct (number i)) (sym laid.last_is ∙ ap (option_map number) is)
+  module _ {I : Type 0} (number : I → ℕ) (a : Arena (Link T)) (first : Option ℕ) (last : Option I) (laid : IsChainIn a first (option_map number last)) where
+    pub last-found : (i : I) → last ≡ Some i → pointed (number i) (entry_at (chain_of a first).entries (number i)) ≡ last_pointer (chain_of a first).entries
+    last-found i is = pointed-last (chain_of a first).entries (number i) (laid.distinct (number i)) (sym laid.last_is ∙ ap (option_map number) is)
 
-  module _ {I : Type 0} (number : I → ℕ) (a : Arena (Link T)) (first : Option ℕ) (last : Option I)
-      (laid : IsChainIn a first (option_map number last)) where
     pub last-missing : last ≡ None → None ≡ last_pointer (chain_of a first).entries
     last-missing is = sym (last_pointer-none (chain_of a first).entries (sym laid.last_is ∙ ap (option_map number) is))

@@ -6,7 +6,7 @@ use Rattle.arena_base.specs.Generation.{IsLawfulGeneration}
 use Rattle.arena_base.specs.Arena.{Arena, arena_capacity, times as times_among, IsSound as IsSoundArena}
 use Rattle.chain_base.specs.Link.{Link}
 use Rattle.chain_base.specs.Chain.{Entry, times, IsSound}
-use Rattle.chain_base.specs.Layout.{chain_of, IsLaidOut}
+use Rattle.chain_base.specs.Layout.{chain_of}
 use Rattle.chain_base.proofs.LaidOut.{IsChainIn}
 use Rattle.chain_base.proofs.Lists.{entry_at-link}
 use Rattle.chain_base.proofs.Vacancy.{HoldIndexes, held-within, vacant-held}
