@@ -1,7 +1,7 @@
 -- A clone of a chain of nodes is one of the list of its items, and lies in a tree of the same shape.
-use Rattle.std.proofs.Common.{arith, ◌≡◌, ℕ, zero, suc, ◌+◌, inl, inr, max, Option, Some, None, List, [], ◌∷◌, map, length, Result, Ok, Err, MatchResult, OnOk, refl, sym, ◌∙◌, ap, option_map, ⊎_elim, ◌==◌, true, ◌≢◌}
+use Rattle.std.proofs.Common.{arith, ◌≡◌, ℕ, zero, suc, ◌+◌, inl, inr, max, Option, Some, None, List, [], ◌∷◌, map, length, Result, Ok, Err, MatchResult, OnOk, refl, sym, ◌∙◌, ap, option_map, ◌==◌, true}
 use Rattle.std.proofs.lemmas.Grind.{common_steps}
-use Rattle.std.proofs.lemmas.Bool.{cases_eq, eq-eqb, ne_eqb, false≢true}
+use Rattle.std.proofs.lemmas.Bool.{false≢true}
 use Rattle.std.proofs.lemmas.Bool.Decides.{eqb_tells}
 use Rattle.std.proofs.lemmas.List.{map-id}
 use Rattle.std.proofs.lemmas.Option.{slice_get-map}
@@ -10,8 +10,8 @@ use Rattle.std.specs.declared.alloc.AllocError.{AllocError}
 use Rattle.arena_base.specs.Clone.{Grants, IsShown, StopsAtRefusal}
 use Rattle.arena_base.proofs.CallerLemmas.{clones-retold, stops-retold}
 use Rattle.chain_base.specs.Link.{Link}
-use Rattle.chain_base.specs.Chain.{Entry, Chain, entry_at, first_or, link_between, link_at, greatest_index, IsSound}
-use Rattle.chain_base.specs.Compression.{lesser, entry_before, refilled}
+use Rattle.chain_base.specs.Chain.{Entry, Chain, entry_at, first_or, link_between, greatest_index, IsSound}
+use Rattle.chain_base.specs.Compression.{lesser, refilled}
 use Rattle.chain_base.specs.Walk.{pointers}
 use Rattle.chain_base.specs.Clone.{links_among, links_rising, taken_over, IsClone as IsClonedList, IsRefusedClone as IsRefusedList}
 use Rattle.chain_base.proofs.CallerLemmas.{clone-kept}

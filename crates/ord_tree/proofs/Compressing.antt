@@ -2,7 +2,7 @@
 use Rattle.std.proofs.Common.{arith, ◌≡◌, ℕ, zero, suc, ◌+◌, Option, Some, None, List, [], ◌∷◌, map, length, refl, sym, ◌∙◌, ap, option_map, max, slice_index_or, nat_lt, if◌then◌else◌}
 use Rattle.std.proofs.lemmas.Grind.{common_steps}
 use Rattle.std.proofs.lemmas.List.{length-map}
-use Rattle.chain_base.specs.Chain.{Entry, Chain, entry_at}
+use Rattle.chain_base.specs.Chain.{Entry, Chain}
 use Rattle.chain_base.specs.Compression.{lesser, entry_before, rising_among, entries_rising, refilled, moved, compressed, at_compressed_index, relocated, numbered, canonical, replaced, left_empty, IsCompression, Transferring, IsTransfer}
 use Rattle.arena_base.specs.declared.invalidation.InvalidationOption.{InvalidationOption}
 use Rattle.chain_base.proofs.CallerLemmas.{steps-retold}

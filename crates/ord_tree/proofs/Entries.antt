@@ -1,8 +1,6 @@
 -- Entries of a chain of nodes: what a write of a node changes and keeps.
-use Rattle.std.proofs.Common.{arith, ◌≡◌, ◌≢◌, ℕ, Option, Some, List, [], ◌∷◌, map, refl, sym, ◌∙◌, ap, ⊎_elim, inl, inr, is_some, option_map}
+use Rattle.std.proofs.Common.{arith, ◌≡◌, ◌≢◌, ℕ, Option, Some, List, [], ◌∷◌, map, refl, sym, ◌∙◌, ap, is_some, option_map}
 use Rattle.std.proofs.lemmas.Grind.{common_steps}
-use Rattle.std.proofs.lemmas.Bool.{cases_eq}
-use Rattle.std.proofs.lemmas.Bool.Decides.{eqb_tells}
 use Rattle.std.proofs.lemmas.Option.{same_Some}
 use Rattle.chain_base.specs.Chain.{Entry, Chain, entry_at, with_item_among, with_item as chain_with_item}
 use Rattle.chain_base.proofs.CallerLemmas.{entry_at-with_item_among, entry_at-with_item_among_other}

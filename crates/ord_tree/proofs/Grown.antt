@@ -4,7 +4,6 @@ use Rattle.std.proofs.lemmas.Grind.{common_steps}
 use Rattle.std.proofs.lemmas.Bool.{eq-eqb}
 use Rattle.std.proofs.lemmas.List.{length-map}
 use Rattle.std.specs.declared.cmp.Ordering.{Ordering}
-use Rattle.std.specs.declared.cmp.Ordering.TheVariants.{Less, Equal, Greater}
 use Rattle.chain_base.specs.Chain.{Entry, Chain, entry_at, times as entry_times, IsFresh, IsSound, IsDistinct, inserted}
 use Rattle.chain_base.specs.Insert.{placed, CanPlace, IsInsertion}
 use Rattle.chain_base.specs.declared.chain.insert.LinkInsertKind.{LinkInsertKind}
@@ -19,7 +18,7 @@ use Rattle.ord_tree.specs.Leaf.{beside, leaf_links, IsNewLeaf}
 use Rattle.ord_tree.specs.Node.{bare_entry, bare, links_in, slots_of, indexes}
 use Rattle.ord_tree.specs.Tree.{put_on, put_at, CanPutAt, IsGrown}
 use Rattle.ord_tree.specs.Layout.{shape_in, IsLaidOut}
-use Rattle.ord_tree.specs.LeafBranch.{side_at, kind_on, kind_at, IsLeafBranch, IsLeafBranchAt}
+use Rattle.ord_tree.specs.LeafBranch.{side_at, kind_at, IsLeafBranch, IsLeafBranchAt}
 use Rattle.arena_base.proofs.CallerLemmas.{limit_of-below}
 use Rattle.ord_tree.proofs.Slack.{IsRanked-balanced, IsBalanced-ranked, IsTight-balanced, IsBalanced-tight}
 use Rattle.ord_tree.proofs.Forks.{times-walk, apart-from}

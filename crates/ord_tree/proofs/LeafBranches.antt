@@ -1,7 +1,6 @@
 -- Where a new leaf hangs.
-use Rattle.std.proofs.Common.{◌≡◌, ◌≢◌, ℕ, ◌<◌, Option, Some, None, List, [], ◌∷◌, arith, refl, sym, ◌∙◌, ap, ⊎_elim, is_some, true, false, option_map}
+use Rattle.std.proofs.Common.{◌≡◌, ℕ, ◌<◌, Option, Some, None, List, [], ◌∷◌, arith, refl, sym, ◌∙◌, ap, is_some, true, false, option_map}
 use Rattle.std.proofs.lemmas.Grind.{common_steps}
-use Rattle.std.proofs.lemmas.Bool.{cases_eq, eq-eqb, ne_eqb}
 use Rattle.chain_base.specs.Chain.{Entry, entry_at, times as entry_times, link_between, first_or, IsDistinct}
 use Rattle.chain_base.specs.Link.{Link}
 use Rattle.chain_base.proofs.CallerLemmas.{entry-occurs}

@@ -1,5 +1,5 @@
 -- A leaf that is hung on its parent has risen there.
-use Rattle.std.proofs.Common.{◌≡◌, ◌≢◌, ℕ, ◌+◌, Option, Some, None, List, ◌∷◌, ◌++◌, arith, refl, sym, ◌∙◌, ap, subst, inl, ⊎_elim, option_map, is_some, true, append_assoc}
+use Rattle.std.proofs.Common.{◌≡◌, ◌≢◌, ℕ, ◌+◌, Option, Some, None, List, ◌∷◌, ◌++◌, arith, refl, sym, ◌∙◌, ap, subst, inl, ⊎_elim, is_some, true, append_assoc}
 use Rattle.std.proofs.lemmas.Grind.{common_steps}
 use Rattle.std.proofs.lemmas.Bool.{cases_eq}
 use Rattle.ord_tree.specs.declared.tree_links.Side.{Side}

@@ -1,7 +1,6 @@
 -- A new entry in a list of entries: what is found by index, the indexes, the items.
-use Rattle.std.proofs.Common.{arith, ◌≡◌, ◌≢◌, ℕ, Some, List, [], ◌∷◌, ◌∙◌, map, refl, sym, ap, ⊎_elim, is_some, true}
+use Rattle.std.proofs.Common.{arith, ◌≡◌, ◌≢◌, ℕ, Some, List, [], ◌∷◌, ◌∙◌, map, refl, sym, ap, is_some, true}
 use Rattle.std.proofs.lemmas.Grind.{common_steps}
-use Rattle.std.proofs.lemmas.Bool.{cases_eq, eq-eqb, ne_eqb}
 use Rattle.std.specs.declared.cmp.Ordering.{Ordering}
 use Rattle.std.specs.declared.cmp.Ordering.TheVariants.{Less, Equal, Greater}
 use Rattle.chain_base.specs.Chain.{Entry, entry_at, times as entry_times, insert_after, insert_before}

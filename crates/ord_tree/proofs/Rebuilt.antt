@@ -1,7 +1,7 @@
 -- A rebuild over a chain of nodes: what it asks of the chain, and what it makes of the tree.
 use Rattle.std.proofs.Common.{◌≡◌, ℕ, ◌<◌, ◌≤◌, Option, Some, None, List, [], ◌∷◌, map, arith, refl, sym, ◌∙◌, ap, subst, is_some, true}
 use Rattle.std.proofs.lemmas.Grind.{common_steps}
-use Rattle.std.proofs.lemmas.Bool.{eq-eqb, ne_eqb}
+use Rattle.std.proofs.lemmas.Bool.{ne_eqb}
 use Rattle.arena_base.specs.Pointer.{index_number}
 use Rattle.chain_base.specs.Chain.{Entry, Chain, entry_at, first_pointer, IsSound}
 use Rattle.chain_base.proofs.CallerLemmas.{occurs-entry}

@@ -1,7 +1,6 @@
 -- A new pointer for an entry: the tree stays.
-use Rattle.std.proofs.Common.{arith, ◌≡◌, ◌≢◌, ℕ, Option, Some, None, List, [], ◌∷◌, map, refl, sym, ◌∙◌, ap, ⊎_elim, is_some, option_map, OnSome, IfNone, subst, Bool, true, false, cond, eqb}
+use Rattle.std.proofs.Common.{arith, ◌≡◌, ℕ, Option, Some, None, List, [], ◌∷◌, map, refl, sym, ◌∙◌, ap, is_some, option_map, OnSome, IfNone, subst}
 use Rattle.std.proofs.lemmas.Grind.{common_steps}
-use Rattle.std.proofs.lemmas.Bool.{cases_eq, eq-eqb, ne_eqb}
 use Rattle.arena_base.specs.Arena.{item_if}
 use Rattle.arena_base.specs.Generation.{next_generation}
 use Rattle.chain_base.specs.Chain.{Entry, Chain, entry_at, item_of, with_generation, renewed}

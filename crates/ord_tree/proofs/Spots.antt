@@ -1,7 +1,7 @@
 -- Where an index stands in a tree, and what stands before and behind it.
 use Rattle.std.proofs.Common.{◌≡◌, ◌≢◌, ℕ, ◌+◌, ◌<◌, ◌≤◌, Option, Some, List, [], ◌∷◌, ◌++◌, length, arith, refl, sym, ◌∙◌, ap, subst, ⊎_elim, append_assoc}
 use Rattle.std.proofs.lemmas.Grind.{common_steps}
-use Rattle.std.proofs.lemmas.Bool.{cases_eq, cases_lt, eq-eqb, ne_eqb}
+use Rattle.std.proofs.lemmas.Bool.{cases_eq, cases_lt, eq-eqb}
 use Rattle.ord_tree.specs.declared.tree_links.Side.{Side}
 use Rattle.ord_tree.specs.declared.tree_links.Side.TheVariants.{Lesser, Greater}
 use Rattle.ord_tree.specs.declared.tree_links.TreeLinks.{TreeLinks}
@@ -9,7 +9,7 @@ use Rattle.ord_tree.specs.Shape.{Shape, missing, node, fork, rank_of, walk}
 use Rattle.ord_tree.specs.Slots.{Slots, Holds, Way, top, up, plug, above, HoldsWay, here, times, times_in}
 use Rattle.ord_tree.specs.Balance.{IsBalanced, IsBalancedWay}
 use Rattle.ord_tree.specs.Leaf.{paired, beside}
-use Rattle.ord_tree.proofs.Forks.{HoldsFork-holds, rank-fork, here-same, here-other, fork_balanced}
+use Rattle.ord_tree.proofs.Forks.{HoldsFork-holds, rank-fork, here-other, fork_balanced}
 use Rattle.ord_tree.proofs.Rotations.{ForkAt}
 
 -- y stands at the end of a way; told from a side

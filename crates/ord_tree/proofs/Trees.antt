@@ -1,11 +1,8 @@
 -- A tree that lies in a chain: what its view is, and what changes of the chain keep it.
-use Rattle.std.proofs.Common.{◌≡◌, ◌≢◌, ℕ, zero, suc, ◌+◌, ◌≤◌, Option, Some, None, List, [], ◌∷◌, map, length, arith, refl, sym, ◌∙◌, ap, subst, ⊎_elim, inl, inr, is_some, option_map, max, Result, Ok, Err, OnOk, OnErr, OnSome, IfNone, true, false, cond, Bool}
+use Rattle.std.proofs.Common.{◌≡◌, ℕ, zero, suc, ◌+◌, ◌≤◌, Option, Some, None, List, [], ◌∷◌, map, length, arith, refl, sym, ◌∙◌, ap, subst, is_some, option_map, max, Result, Ok, Err, OnOk, OnErr, OnSome, IfNone}
 use Rattle.std.proofs.lemmas.Grind.{common_steps}
-use Rattle.std.proofs.lemmas.Bool.{cases_eq, eq-eqb, ne_eqb}
-use Rattle.std.proofs.lemmas.Bool.Decides.{eqb_tells}
-use Rattle.std.proofs.lemmas.Option.{same_Some}
 use Rattle.std.proofs.lemmas.List.{length-map}
-use Rattle.chain_base.specs.Chain.{Entry, Chain, entry_at, times, with_item_among, with_item as chain_with_item, vacant_among, with_capacity, with_room, grown_capacity, next_index, greatest_index, IsSound}
+use Rattle.chain_base.specs.Chain.{Entry, Chain, entry_at, times, with_item_among, with_item as chain_with_item, vacant_among, with_capacity, with_room, grown_capacity, greatest_index, IsSound}
 use Rattle.std.specs.Option.{ForSome}
 use Rattle.arena_base.specs.Arena.{times as times_among}
 use Rattle.arena_base.specs.Generation.{IsLawfulGeneration}

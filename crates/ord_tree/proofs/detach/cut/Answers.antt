@@ -1,5 +1,5 @@
-use Rattle.std.proofs.Common.{◌≡◌, sym, ◌∙◌, subst, option_map}
-use Rattle.ord_tree.specs.TreeLinks.{other_side, child_at, numbered}
+use Rattle.std.proofs.Common.{sym, ◌∙◌, subst, option_map}
+use Rattle.ord_tree.specs.TreeLinks.{numbered}
 use Rattle.ord_tree.proofs.Frames.{IsReplaced}
 use Rattle.ord_tree.proofs.Reading.{child_other-read}
 use Rattle.ord_tree.proofs.Cutting.{v_occupied, rest_occupied, parent_occupied, moves_one, cut_branch}

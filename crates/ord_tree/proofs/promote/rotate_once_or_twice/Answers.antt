@@ -1,6 +1,6 @@
-use Rattle.std.proofs.Common.{◌≡◌, ◌≢◌, ℕ, ◌+◌, Option, Some, sym, ◌∙◌, ap, subst, option_map, is_some, true, arith}
+use Rattle.std.proofs.Common.{◌≡◌, Some, sym, ◌∙◌, ap, subst, option_map, is_some, arith}
 use Rattle.ord_tree.specs.declared.tree_links.Side.{Side}
-use Rattle.ord_tree.specs.TreeLinks.{other_side, child_at, numbered}
+use Rattle.ord_tree.specs.TreeLinks.{numbered}
 use Rattle.ord_tree.specs.Shape.{rank_of, root_of}
 use Rattle.ord_tree.specs.Rotate.{Site, IsRotated}
 use Rattle.ord_tree.proofs.LeafBranches.{is_some-mapped}

@@ -1,4 +1,4 @@
-use Rattle.std.proofs.Common.{◌≡◌, ◌∙◌, refl, sym, ap, option_map}
+use Rattle.std.proofs.Common.{◌∙◌, refl, sym, ap, option_map}
 use Rattle.std.proofs.lemmas.Option.{same_Some}
 use Rattle.ord_tree.specs.TreeLinks.{child_at, numbered}
 use Rattle.ord_tree.specs.Node.{indexes, slots_of}
