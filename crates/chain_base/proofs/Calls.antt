@@ -3,18 +3,12 @@ use Rattle.std.proofs.Common.{◌≡◌, ℕ, ◌≤◌, List, Option, Some, Non
 use Rattle.std.proofs.lemmas.Grind.{common_steps}
 use Rattle.arena_base.specs.Arena.{Arena, slot, arena_capacity, new_arena, with_capacity as arena_with_capacity, removed as arena_removed, renewed as arena_renewed, greatest_occupied, IsSound as IsSoundArena, IsInsertion as IsArenaInsertion}
 use Rattle.arena_base.specs.Pointer.{named_of}
-use Rattle.chain_base.specs.Link.{Link}
 use Rattle.chain_base.specs.Chain.{Entry, Chain, times, new_chain, with_capacity, greatest_index, renewed, removed}
-use Rattle.chain_base.specs.Insert.{IsPlace}
-use Rattle.chain_base.specs.Layout.{chain_of}
-use Rattle.chain_base.specs.Naming.{neighbour_on}
-use Rattle.chain_base.specs.declared.chain.compress.Side.{Side}
-use Rattle.chain_base.proofs.Lists.{times-append, times-last, times-first, other_index}
-use Rattle.chain_base.proofs.LaidOut.{IsChainIn, bridged, end_beside, slot-written, slot-within}
-use Rattle.chain_base.proofs.Vacancy.{HoldIndexes, held-is, past-greatest, greatest-links}
-use Rattle.chain_base.proofs.Renumbering.{beside-other}
-use Rattle.chain_base.proofs.Sound.{occupied-within}
+use Rattle.chain_base.specs.{declared.chain.compress.Side.Side, Naming.neighbour_on, Layout.chain_of, Insert.IsPlace, Link.Link}
 use Rattle.chain_base.proofs.Steps.{Lies, held-laid, Inserts, Inserts-joined, Removes-joined, Renews-at, Lies-resized, IsLaidOut-cleared}
+use Rattle.chain_base.proofs.LaidOut.{IsChainIn, bridged, end_beside, slot-written, slot-within}
+use Rattle.chain_base.proofs.{Vacancy.HoldIndexes, Vacancy.held-is, Vacancy.past-greatest, Vacancy.greatest-links, Renumbering.beside-other}
+use Rattle.chain_base.proofs.{Lists.times-append, Lists.times-last, Lists.times-first, Lists.other_index, Sound.occupied-within}
 
 -- an index within reach names what it says
 pub named_of-within : (most : ℕ) (o : Option ℕ) → ((k : ℕ) → o ≡ Some k → k ≤ most) → named_of most o ≡ o

@@ -1,21 +1,16 @@
 -- A chain gets its canonical order: once its entries have the least indexes, each in turn is exchanged to that of its place.
 use Rattle.std.proofs.Common.{◌≡◌, ◌≢◌, ℕ, zero, suc, ◌+◌, ◌-◌, ◌<◌, ◌≤◌, true, List, [], ◌∷◌, ◌++◌, length, map, replicate, slice_get, slice_index_or, Option, Some, None, IsSome, is_some, cond, if◌then◌else◌, refl, sym, ap, ◌∙◌, arith, inl, inr, length-append}
-use Rattle.std.proofs.lemmas.Grind.{common_steps}
-use Rattle.std.proofs.lemmas.Bool.Decides.{eqb_tells, nat_tests}
-use Rattle.std.proofs.lemmas.Option.{same_Some, slice_get-map, get_or_from_slice_get}
 use Rattle.std.proofs.lemmas.List.{map-append, map-id, append_assoc, append-nil, length-map}
-use Rattle.std.specs.Prelude.{nat_lt}
-use Rattle.std.specs.Option.{option_map, option_and_then, ForSome}
-use Rattle.chain_base.specs.Chain.{Entry, Chain, IsDistinct, IsSound, times, entry_at, first_or, vacant_among}
-use Rattle.chain_base.specs.Walk.{index_after}
+use Rattle.std.proofs.{lemmas.Option.same_Some, lemmas.Option.slice_get-map, lemmas.Option.get_or_from_slice_get, lemmas.Grind.common_steps}
+use Rattle.std.proofs.lemmas.Bool.Decides.{eqb_tells, nat_tests}
+use Rattle.std.specs.{Option.option_map, Option.option_and_then, Option.ForSome, Prelude.nat_lt}
 use Rattle.chain_base.specs.Compression.{lesser, compressed_index, entry_before, rising_among, entries_rising, moved, at_compressed_index, relocated, numbered, canonical, IsCompression, refilled}
-use Rattle.chain_base.specs.Exchange.{exchanged_index, in_exchange, exchanged}
+use Rattle.chain_base.specs.Chain.{Entry, Chain, IsDistinct, IsSound, times, entry_at, first_or, vacant_among}
+use Rattle.chain_base.specs.{Exchange.exchanged_index, Exchange.in_exchange, Exchange.exchanged, Walk.index_after}
 use Rattle.chain_base.proofs.Lists.{same_index, times-append, times-here, entry_at-some, entry_at-link, entry_at-absent, times-unlinked, other_index}
-use Rattle.chain_base.proofs.Vacancy.{held-link, times-link}
-use Rattle.chain_base.proofs.Renumbering.{link_at-split, times-renumbered, times-changed, times-source}
 use Rattle.chain_base.proofs.Ranking.{lesser-zero, lesser-next, lesser-le, lesser-below, lesser-all, place-found, place-injective}
-use Rattle.chain_base.proofs.Exchanging.{other-twice, other-injective}
-use Rattle.chain_base.proofs.Kept.{calls-keep}
+use Rattle.chain_base.proofs.Renumbering.{link_at-split, times-renumbered, times-changed, times-source}
+use Rattle.chain_base.proofs.{Exchanging.other-twice, Exchanging.other-injective, Vacancy.held-link, Vacancy.times-link, Kept.calls-keep}
 
 map-kept : {A B : Type 0} (v : A → B) (f : A → A) → ((x : A) → v (f x) ≡ v x) → (xs : List A) → map v (map f xs) ≡ map v xs
 map-kept v f kept [] = refl

@@ -1,17 +1,13 @@
 -- What each call of a clone keeps of its item is found at the index of its entry.
 use Rattle.std.proofs.Common.{◌≡◌, ℕ, zero, suc, ◌+◌, ◌<◌, List, [], ◌∷◌, ◌++◌, length, length-append, map, slice_get, Option, Some, None, is_some, Result, refl, sym, ap, ◌∙◌, arith, option_map}
-use Rattle.std.proofs.lemmas.Grind.{common_steps}
-use Rattle.std.proofs.lemmas.Option.{slice_get-map}
+use Rattle.std.proofs.{lemmas.Option.slice_get-map, lemmas.Grind.common_steps}
 use Rattle.std.specs.declared.alloc.AllocError.{AllocError}
 use Rattle.arena_base.proofs.CallerLemmas.{clones-keep}
-use Rattle.chain_base.specs.Link.{Link}
-use Rattle.chain_base.specs.Chain.{Entry, Chain, IsDistinct, IsSound, entry_at}
+use Rattle.chain_base.specs.{Clone.links_among, Clone.links_rising, Clone.taken_over, Clone.IsClone, Clone.IsRefusedClone, Walk.pointers}
+use Rattle.chain_base.specs.{Chain.Entry, Chain.Chain, Chain.IsDistinct, Chain.IsSound, Chain.entry_at, Link.Link}
 use Rattle.chain_base.specs.Compression.{lesser, rising_among, entries_rising}
-use Rattle.chain_base.specs.Walk.{pointers}
-use Rattle.chain_base.specs.Clone.{links_among, links_rising, taken_over, IsClone, IsRefusedClone}
+use Rattle.chain_base.proofs.{Canonical.entry-absent, Canonical.entry-occurs, Canonical.rising-entry, Cloning.alike-pointers}
 use Rattle.chain_base.proofs.Lists.{entry_at-link, entry_at-absent}
-use Rattle.chain_base.proofs.Canonical.{entry-absent, entry-occurs, rising-entry}
-use Rattle.chain_base.proofs.Cloning.{alike-pointers}
 
 -- the links by rising index are the entries by rising index
 module _ {U K : Type 0} (see : U → K) where

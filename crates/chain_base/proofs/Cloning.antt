@@ -1,25 +1,19 @@
 -- A clone of a chain: its slots hold the source's links with other items, so it is the source's list with these items.
 use Rattle.std.proofs.Common.{OnOk, Ok, ◌≡◌, ℕ, suc, ◌+◌, ◌<◌, ◌≤◌, max, List, [], ◌∷◌, length, map, take, get_or, slice_get, Option, Some, None, Result, Err, MatchResult, count_by, is_some, refl, sym, ap, ◌∙◌, arith, inl, inr, ◌⊎◌, ◌==◌, true, false, map-id, option_map}
-use Rattle.std.proofs.lemmas.Grind.{common_steps}
-use Rattle.std.proofs.lemmas.Bool.{false≢true}
-use Rattle.std.specs.List.{FoldsTo}
-use Rattle.std.specs.declared.alloc.AllocError.{AllocError}
-use Rattle.arena_base.specs.Arena.{Arena, slot, arena_capacity, arena_len, greatest_occupied, resized, IsFresh}
-use Rattle.arena_base.specs.declared.error.ReallocationError.{ReallocationError}
+use Rattle.std.proofs.{lemmas.Grind.common_steps, lemmas.Bool.false≢true}
+use Rattle.std.specs.{declared.alloc.AllocError.AllocError, List.FoldsTo}
 use Rattle.arena_base.specs.declared.error.ReallocationError.TheVariants.{BeyondMaxCapacity, AllocError as NoMemory}
-use Rattle.arena_base.specs.Walk.{entries_from, entries_rising}
+use Rattle.arena_base.specs.Arena.{Arena, slot, arena_capacity, arena_len, greatest_occupied, resized, IsFresh}
 use Rattle.arena_base.specs.Clone.{CloneStep, Grants, with_items, IsClone as IsArenaClone, StopsAtRefusal, replaced}
+use Rattle.arena_base.specs.{declared.error.ReallocationError.ReallocationError, Walk.entries_from, Walk.entries_rising}
 use Rattle.arena_base.proofs.CallerLemmas.{clones-retold, clones-restated, clones-keep, stops-retold, stops-restated}
-use Rattle.chain_base.specs.Link.{Link}
 use Rattle.chain_base.specs.Chain.{Entry, Chain, times, link_at, link_between, greatest_index, vacant_indexes, IsSound}
-use Rattle.chain_base.specs.Walk.{pointers}
 use Rattle.chain_base.specs.Clone.{links_among, links_rising, HasItems, taken_over, ClonesLink, IsClone, IsRefusedClone}
-use Rattle.chain_base.specs.Layout.{chain_of, met, IsLaidOut}
-use Rattle.chain_base.proofs.Lists.{option_map-itself, IsRow, IsRow-links, link_between-absent, entry_at-link, SameIndexes}
-use Rattle.chain_base.proofs.LaidOut.{IsChainIn, laid-held, IsLaidOut-walked}
-use Rattle.chain_base.proofs.Ranking.{place-slots, among-arena}
+use Rattle.chain_base.specs.{Layout.chain_of, Layout.met, Layout.IsLaidOut, Walk.pointers, Link.Link}
 use Rattle.chain_base.proofs.Vacancy.{HoldIndexes, held-some, held-is, get_or-resized, length-resized, vacant-held, greatest-links, past-greatest, held-occurs}
+use Rattle.chain_base.proofs.Lists.{option_map-itself, IsRow, IsRow-links, link_between-absent, entry_at-link, SameIndexes}
 use Rattle.chain_base.proofs.Steps.{Lies, lies, held-laid, IsLaidOut-resized, IsLaidOut-cleared}
+use Rattle.chain_base.proofs.{LaidOut.IsChainIn, LaidOut.laid-held, LaidOut.IsLaidOut-walked, Ranking.place-slots, Ranking.among-arena}
 
 -- what a clone keeps of a link
 abbrev ends_of : {X : Type 0} → Link X → Option ℕ × Option ℕ

@@ -2,11 +2,10 @@
 use Rattle.std.proofs.Common.{◌≡◌, ℕ, ◌≤◌, List, ◌∷◌, Option, Some, None, IsSome, is_some, false, sym, ap, ◌∙◌, arith, option_map}
 use Rattle.std.proofs.lemmas.Grind.{common_steps}
 use Rattle.arena_base.specs.Arena.{Arena, slot, item_of as slot_item, IsFirstEntry, IsLastEntry}
-use Rattle.chain_base.specs.Link.{Link}
 use Rattle.chain_base.specs.Chain.{Entry, times, entry_at, link_at, last_or, last_pointer, pointed, item_of, generation_at, IsFirstIndex, IsLastIndex}
-use Rattle.chain_base.specs.Layout.{chain_of}
-use Rattle.chain_base.proofs.LaidOut.{IsChainIn}
+use Rattle.chain_base.specs.{Layout.chain_of, Link.Link}
 use Rattle.chain_base.proofs.Lists.{times-here, times-there, times-last, times-unlinked, entry_at-link, entry_at-some}
+use Rattle.chain_base.proofs.LaidOut.{IsChainIn}
 
 -- an option is there where what it is mapped to is there
 pub some-of : {A B : Type 0} (f : A → B) (o : Option A) (p : Option B) → option_map f o ≡ p → IsSome p → IsSome o

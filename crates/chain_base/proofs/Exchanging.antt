@@ -1,20 +1,17 @@
 -- Two entries of a chain change their indexes with each other: a swap in the arena, and the links that named them.
 use Rattle.std.proofs.Common.{◌≡◌, ℕ, true, List, map, Option, Some, None, IsSome, is_some, refl, sym, ap, ◌∙◌, subst, arith, if◌then◌else◌, length-set, option_map, option_and_then}
 use Rattle.std.proofs.lemmas.Grind.{common_steps}
-use Rattle.arena_base.specs.Pointer.{named_of}
-use Rattle.arena_base.specs.Arena.{Arena, slot, swapped}
+use Rattle.arena_base.specs.{Arena.Arena, Arena.slot, Arena.swapped, Pointer.named_of}
 use Rattle.arena_base.proofs.CallerLemmas.{limit_of-below}
-use Rattle.chain_base.specs.Link.{Link}
-use Rattle.chain_base.specs.Chain.{Entry, Chain, entry_at, link_at, IsOccupied, IsSound}
 use Rattle.chain_base.specs.Layout.{chain_of, names, linked_next, linked_prev, relinked, IsLaidOut}
+use Rattle.chain_base.specs.{declared.chain.compress.Side.TheVariants.Before, declared.chain.compress.Side.TheVariants.After, Link.Link}
+use Rattle.chain_base.specs.Chain.{Entry, Chain, entry_at, link_at, IsOccupied, IsSound}
 use Rattle.chain_base.specs.Exchange.{exchanged_index, in_exchange, exchanged, IsEven}
 use Rattle.chain_base.specs.declared.chain.compress.Side.{Side}
-use Rattle.chain_base.specs.declared.chain.compress.Side.TheVariants.{Before, After}
-use Rattle.chain_base.proofs.Lists.{entry_at-link, entry_at-absent, entry_at-some}
-use Rattle.chain_base.proofs.LaidOut.{IsChainIn, slot-relinked, Alike, alike-next, alike-prev}
-use Rattle.chain_base.proofs.Vacancy.{HoldIndexes, held-is, held-occurs, held-link}
 use Rattle.chain_base.proofs.Renumbering.{opposite, beside, beside-occurs, facing, facing-back, followed, IsLaidOut-renumbered}
-use Rattle.chain_base.proofs.Naming.{neighbour-within}
+use Rattle.chain_base.proofs.LaidOut.{IsChainIn, slot-relinked, Alike, alike-next, alike-prev}
+use Rattle.chain_base.proofs.{Vacancy.HoldIndexes, Vacancy.held-is, Vacancy.held-occurs, Vacancy.held-link, Naming.neighbour-within}
+use Rattle.chain_base.proofs.Lists.{entry_at-link, entry_at-absent, entry_at-some}
 use Rattle.chain_base.proofs.Steps.{Lies, lies-alike, held-laid}
 
 module _ (i j : ℕ) where

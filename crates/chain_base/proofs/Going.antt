@@ -1,11 +1,8 @@
 -- One step along a chain.
 use Rattle.std.proofs.Common.{◌≡◌, ℕ, List, [], ◌∷◌, ◌++◌, Option, Some, None, refl, sym, ap, ◌∙◌, arith, inl, inr, option_and_then}
-use Rattle.std.proofs.lemmas.Grind.{common_steps}
-use Rattle.std.proofs.lemmas.Bool.Decides.{eqb_tells}
-use Rattle.std.proofs.lemmas.Option.{same_Some}
-use Rattle.chain_base.specs.Link.{Link}
+use Rattle.std.proofs.{lemmas.Bool.Decides.eqb_tells, lemmas.Grind.common_steps, lemmas.Option.same_Some}
 use Rattle.chain_base.specs.Chain.{Entry, Chain, times, IsDistinct, link_at, first_or, from_index}
-use Rattle.chain_base.specs.Walk.{pointers, pointers_from, GivesEntry}
+use Rattle.chain_base.specs.{Walk.pointers, Walk.pointers_from, Walk.GivesEntry, Link.Link}
 use Rattle.chain_base.proofs.Lists.{linked-occurs, times-unlinked, times-append, times-here, Stands-occurs}
 use Rattle.chain_base.proofs.Renumbering.{link_at-split}
 

@@ -2,14 +2,10 @@
 use Rattle.std.proofs.Common.{◌≡◌, ℕ, List, [], ◌∷◌, ◌++◌, map, sym, ap, ◌∙◌, arith, map-id, append-nil}
 use Rattle.std.proofs.lemmas.Grind.{common_steps}
 use Rattle.std.specs.List.{FoldsTo}
-use Rattle.arena_base.specs.Arena.{Arena}
-use Rattle.arena_base.specs.Walk.{entries_rising}
-use Rattle.arena_base.specs.Compression.{CompressionStep, IsCompression}
+use Rattle.arena_base.specs.{Compression.CompressionStep, Compression.IsCompression, Walk.entries_rising, Arena.Arena}
 use Rattle.arena_base.proofs.CallerLemmas.{calls-retold}
-use Rattle.chain_base.specs.Link.{Link}
-use Rattle.chain_base.specs.Chain.{Chain}
-use Rattle.chain_base.specs.Compression.{entries_rising as chain_rising, IsCompression as IsChainCompression}
-use Rattle.chain_base.specs.Naming.{MapsItem, CompressesItems}
+use Rattle.chain_base.specs.{Compression.entries_rising as chain_rising, Compression.IsCompression as IsChainCompression, Chain.Chain}
+use Rattle.chain_base.specs.{Naming.MapsItem, Naming.CompressesItems, Link.Link}
 
 module _ {P X M B : Type 0} (numbers : P → ℕ × ℕ) (step : M → P → X → P → X → M → Type 0) (g : ℕ) (part : X → B) (keeps : (m : M) (p : P) (x : X) (q : P) (y : X) (n : M) → step m p x q y n → part y ≡ part x) (n : M) (ys : List X) where
   -- a part that each call keeps

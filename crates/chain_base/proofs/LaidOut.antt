@@ -1,14 +1,11 @@
 -- How each step of a chain keeps its list laid out in the arena.
 use Rattle.std.proofs.Common.{◌≡◌, ℕ, ◌+◌, ◌<◌, ◌≤◌, ◌==◌, List, ◌∷◌, ◌++◌, length, Option, Some, None, is_some, sym, ap, ◌∙◌, arith, if◌then◌else◌, get_or, true, option_map}
-use Rattle.std.proofs.lemmas.Grind.{common_steps}
-use Rattle.std.proofs.lemmas.List.Sums.{count_by-le-length}
+use Rattle.std.proofs.{lemmas.List.Sums.count_by-le-length, lemmas.Grind.common_steps}
 use Rattle.arena_base.specs.Arena.{Arena, slot, with_slot, with_entry_at, removed as arena_removed}
-use Rattle.chain_base.specs.Link.{Link}
-use Rattle.chain_base.specs.Chain.{Entry, IsDistinct, times, first_or, last_or, link_at}
 use Rattle.chain_base.specs.Layout.{chain_of, walk, linked_next, linked_prev, relinked, IsLaidOut}
+use Rattle.chain_base.specs.{Chain.Entry, Chain.IsDistinct, Chain.times, Chain.first_or, Chain.last_or, Chain.link_at, Link.Link}
 use Rattle.chain_base.proofs.Lists.{names_tells, same_index, times-append, times-here, times-there, times-last, times-first, first_or-append, last_or-append, link_between-append, link_between-absent, times-unlinked, seam-relinked, IsRow-links, walk-row, changed_at, changed_link, link_between-changed_at, same-changed_at}
-use Rattle.chain_base.proofs.Vacancy.{held-links}
-use Rattle.chain_base.proofs.Ranking.{counted-held}
+use Rattle.chain_base.proofs.{Ranking.counted-held, Vacancy.held-links}
 
 -- an end of the list where an entry comes or goes: the old one where an entry stands on that side, else the new one
 abbrev pub end_beside : Option ℕ → Option ℕ → Option ℕ → Option ℕ

@@ -1,11 +1,9 @@
 -- Lists of entries: where an index stands, and what an insertion or a removal there does to the links.
 use Rattle.std.proofs.Common.{◌≡◌, ◌≢◌, ℕ, zero, suc, ◌+◌, ◌≤◌, ◌==◌, true, false, List, [], ◌∷◌, ◌++◌, length, Option, Some, None, is_some, refl, ap, arith, if◌then◌else◌, inl, inr, ◌⊎◌}
-use Rattle.std.proofs.lemmas.Grind.{common_steps}
-use Rattle.std.proofs.lemmas.Bool.Decides.{nat_tests, eqb_tells}
+use Rattle.std.proofs.{lemmas.Bool.Decides.nat_tests, lemmas.Bool.Decides.eqb_tells, lemmas.Grind.common_steps}
 use Rattle.std.specs.Option.{option_or, option_map}
-use Rattle.chain_base.specs.Link.{Link}
-use Rattle.chain_base.specs.Layout.{walk, names, with_next, with_prev, relinked}
 use Rattle.chain_base.specs.Chain.{Entry, times, entry_at, first_or, last_or, link_at, link_between, insert_after, insert_before, without, with_item_among, with_generation}
+use Rattle.chain_base.specs.{Layout.walk, Layout.names, Layout.with_next, Layout.with_prev, Layout.relinked, Link.Link}
 
 pub option_or-none : {A : Type 0} (o : Option A) → option_or o None ≡ o
 option_or-none o = grind (arith, common_steps)

@@ -1,21 +1,13 @@
 -- How far the entries have learnt the places of their neighbours.
 use Rattle.std.proofs.Common.{◌≡◌, ◌≢◌, ℕ, ◌+◌, ◌<◌, ◌≤◌, true, false, List, [], ◌∷◌, length, Option, Some, cond, None, IsSome, IfSome, ◌↔◌, is_some, count_by, take, get_or, refl, sym, ap, ◌∙◌, arith, if◌then◌else◌, inl, inr, option_map, option_and_then}
-use Rattle.std.proofs.lemmas.Grind.{common_steps}
-use Rattle.std.proofs.lemmas.Bool.Decides.{eqb_tells}
-use Rattle.std.proofs.lemmas.Bool.{false≢true}
-use Rattle.std.proofs.lemmas.Option.{none-some, same_Some}
-use Rattle.std.proofs.lemmas.List.Sums.{count_by_more_no, count_by_more_yes}
-use Rattle.arena_base.specs.Arena.{Arena, slot}
-use Rattle.arena_base.specs.Pointer.{named_of}
-use Rattle.chain_base.specs.Link.{Link}
-use Rattle.chain_base.specs.Layout.{names}
+use Rattle.std.proofs.{lemmas.List.Sums.count_by_more_no, lemmas.List.Sums.count_by_more_yes, lemmas.Bool.Decides.eqb_tells}
+use Rattle.std.proofs.{lemmas.Option.none-some, lemmas.Option.same_Some, lemmas.Grind.common_steps, lemmas.Bool.false≢true}
+use Rattle.arena_base.specs.{Arena.Arena, Arena.slot, Pointer.named_of}
 use Rattle.chain_base.specs.Naming.{neighbour_on, with_facing, linked_facing, named, compressed_index_in, IsPaired, NamesCompressedIndexes}
-use Rattle.chain_base.specs.declared.chain.compress.Side.{Side}
-use Rattle.chain_base.specs.Chain.{Entry, IsDistinct, times}
-use Rattle.chain_base.proofs.Lists.{names_tells}
-use Rattle.chain_base.proofs.LaidOut.{Alike, alike-next, alike-prev}
-use Rattle.chain_base.proofs.Vacancy.{HoldIndexes, held-is, held-occurs}
+use Rattle.chain_base.specs.{Chain.Entry, Chain.IsDistinct, Chain.times, declared.chain.compress.Side.Side, Layout.names, Link.Link}
 use Rattle.chain_base.proofs.Renumbering.{opposite, beside, end_on, beside-occurs, facing, facing-back, end-is, end-occurs, end-none}
+use Rattle.chain_base.proofs.{Vacancy.HoldIndexes, Vacancy.held-is, Vacancy.held-occurs, Lists.names_tells}
+use Rattle.chain_base.proofs.LaidOut.{Alike, alike-next, alike-prev}
 
 module _ {T : Type 0} where
   -- the indexes below c have told their places; so many of them have an entry

@@ -1,15 +1,11 @@
 -- The places of indexes among those with an entry, counted by rising index.
 use Rattle.std.proofs.Common.{◌≡◌, ℕ, zero, suc, ◌+◌, ◌-◌, ◌<◌, ◌≤◌, List, [], ◌∷◌, ◌++◌, length, map, take, replicate, slice_get, Option, Some, None, is_some, count_by, cond, get_or, add-zero, refl, sym, ap, ◌∙◌, arith, add-one, inl, inr, option_map}
-use Rattle.std.proofs.lemmas.Grind.{common_steps}
-use Rattle.std.proofs.lemmas.Bool.Decides.{nat_tests, leb_tells}
-use Rattle.std.proofs.lemmas.List.{take_all, get_or_past}
-use Rattle.std.proofs.lemmas.List.Sums.{sum_by-cons, sum_by_more}
-use Rattle.arena_base.specs.Arena.{resized}
-use Rattle.arena_base.specs.Walk.{entries_from}
-use Rattle.chain_base.specs.Chain.{Entry, IsDistinct, times}
+use Rattle.std.proofs.{lemmas.Bool.Decides.nat_tests, lemmas.Bool.Decides.leb_tells, lemmas.List.take_all, lemmas.List.get_or_past}
+use Rattle.std.proofs.{lemmas.List.Sums.sum_by-cons, lemmas.List.Sums.sum_by_more, lemmas.Grind.common_steps}
+use Rattle.arena_base.specs.{Walk.entries_from, Arena.resized}
 use Rattle.chain_base.specs.Compression.{lesser, compressed_index, entry_before}
-use Rattle.chain_base.proofs.Lists.{times-here}
-use Rattle.chain_base.proofs.Vacancy.{get_or-vacant, HoldIndexes, held-within}
+use Rattle.chain_base.specs.Chain.{Entry, IsDistinct, times}
+use Rattle.chain_base.proofs.{Vacancy.get_or-vacant, Vacancy.HoldIndexes, Vacancy.held-within, Lists.times-here}
 
 module _ {T : Type 0} where
   pub lesser-zero : (es : List (Entry T)) → lesser es 0 ≡ 0

@@ -1,13 +1,9 @@
 -- The links of a list: neighbours name each other; and of a list whose entries get other indexes.
 use Rattle.std.proofs.Common.{◌≡◌, ◌≢◌, ℕ, ◌+◌, ◌≤◌, List, [], ◌∷◌, ◌++◌, map, Option, Some, None, is_some, get_or, refl, sym, ap, ◌∙◌, subst, arith, true, append_assoc, option_map, option_and_then, ◌↔◌}
-use Rattle.std.proofs.lemmas.Grind.{common_steps}
-use Rattle.std.proofs.lemmas.Option.{none-some, same_Some}
-use Rattle.chain_base.specs.Link.{Link}
+use Rattle.std.proofs.{lemmas.Option.none-some, lemmas.Option.same_Some, lemmas.Grind.common_steps}
 use Rattle.chain_base.specs.Chain.{Entry, IsDistinct, times, entry_at, first_or, last_or, link_between, link_at}
-use Rattle.chain_base.specs.Layout.{IsLaidOut}
-use Rattle.chain_base.specs.Naming.{neighbour_on}
-use Rattle.chain_base.specs.declared.chain.compress.Side.{Side}
-use Rattle.chain_base.specs.declared.chain.compress.Side.TheVariants.{Before, After}
+use Rattle.chain_base.specs.{declared.chain.compress.Side.TheVariants.Before, declared.chain.compress.Side.TheVariants.After, Link.Link}
+use Rattle.chain_base.specs.{declared.chain.compress.Side.Side, Naming.neighbour_on, Layout.IsLaidOut}
 use Rattle.chain_base.proofs.Lists.{same_index, times-append, times-here, times-first, times-last, last_or-append, link_between-append, link_between-absent, Stands-occurs, last_or-there}
 use Rattle.chain_base.proofs.LaidOut.{laid-held}
 

@@ -2,14 +2,10 @@
 use Rattle.std.proofs.Common.{◌≡◌, ℕ, ◌<◌, ◌≤◌, List, [], ◌∷◌, length, Option, None, ap, ◌∙◌, arith, get_or, take, Result, OnOk, OnErr}
 use Rattle.std.proofs.lemmas.Grind.{common_steps}
 use Rattle.std.specs.Option.{option_map, ForSome}
-use Rattle.arena_base.specs.Generation.{IsLawfulGeneration}
 use Rattle.arena_base.specs.Arena.{Arena, arena_capacity, times as times_among, IsSound as IsSoundArena}
-use Rattle.chain_base.specs.Link.{Link}
-use Rattle.chain_base.specs.Chain.{Entry, times, IsSound}
-use Rattle.chain_base.specs.Layout.{chain_of}
-use Rattle.chain_base.proofs.LaidOut.{IsChainIn}
-use Rattle.chain_base.proofs.Lists.{entry_at-link}
-use Rattle.chain_base.proofs.Vacancy.{HoldIndexes, held-within, vacant-held}
+use Rattle.arena_base.specs.Generation.{IsLawfulGeneration}
+use Rattle.chain_base.specs.{Chain.Entry, Chain.times, Chain.IsSound, Layout.chain_of, Link.Link}
+use Rattle.chain_base.proofs.{Vacancy.HoldIndexes, Vacancy.held-within, Vacancy.vacant-held, Lists.entry_at-link, LaidOut.IsChainIn}
 use Rattle.chain_base.proofs.Steps.{held-laid}
 
 module _ {T : Type 0} where

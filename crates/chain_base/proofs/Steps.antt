@@ -1,14 +1,11 @@
 -- What each call does to the chain that lies in the arena.
 use Rattle.std.proofs.Common.{◌≡◌, ℕ, ◌+◌, ◌-◌, ◌<◌, List, [], ◌∷◌, ◌++◌, length, Option, Some, None, is_some, cond, refl, sym, ap, subst, ◌∙◌, arith, if◌then◌else◌, slice_get, length-set, replicate}
-use Rattle.std.proofs.lemmas.Grind.{common_steps}
-use Rattle.std.proofs.lemmas.List.{length-replicate}
+use Rattle.std.proofs.{lemmas.List.length-replicate, lemmas.Grind.common_steps}
 use Rattle.arena_base.specs.Arena.{Arena, slot, with_entry_at, arena_capacity, with_capacity as arena_with_capacity, removed as arena_removed, renewed as arena_renewed, cleared as arena_cleared, resized, IsInsertion as IsArenaInsertion}
-use Rattle.chain_base.specs.Link.{Link}
 use Rattle.chain_base.specs.Chain.{Entry, Chain, first_or, last_or, inserted_at, with_capacity, vacant_indexes, removed, renewed, cleared, with_item}
-use Rattle.chain_base.specs.Insert.{IsInsertion, IsPlace}
-use Rattle.chain_base.specs.Layout.{chain_of, rewritten, IsLaidOut}
-use Rattle.chain_base.proofs.Lists.{entry_at-some, linked-occurs, last_or-append, times-unlinked, Stands-occurs, Stands, last_or-there, with_item_among-changed_at, with_generation-changed_at}
+use Rattle.chain_base.specs.{Layout.chain_of, Layout.rewritten, Layout.IsLaidOut, Insert.IsInsertion, Insert.IsPlace, Link.Link}
 use Rattle.chain_base.proofs.LaidOut.{IsChainIn, laid-links, IsLaidOut-walked, Alike, alike-bridged, bridged, end_beside, link_amid, closed, walk-laid_out, slot-laid_out, joined, IsLaidOut-inserted, IsLaidOut-removed, IsLaidOut-changed_at}
+use Rattle.chain_base.proofs.Lists.{entry_at-some, linked-occurs, last_or-append, times-unlinked, Stands-occurs, Stands, last_or-there, with_item_among-changed_at, with_generation-changed_at}
 use Rattle.chain_base.proofs.Vacancy.{HoldIndexes, held-links, vacant-held, get_or-vacant, get_or-resized, length-resized}
 
 -- the list of vacant indexes begins with the next one

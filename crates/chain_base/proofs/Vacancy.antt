@@ -1,8 +1,7 @@
 -- The vacant indexes and the greatest occupied one: what an arena's slots say, said of the chain's list.
 use Rattle.std.proofs.Common.{◌≡◌, ℕ, suc, ◌+◌, ◌-◌, ◌<◌, ◌≤◌, true, List, [], ◌∷◌, length, drop, replicate, Option, Some, None, is_some, cond, max, refl, sym, ap, ◌∙◌, arith, inl, inr, ◌⊎◌, get_or, add-one, add-zero}
+use Rattle.std.proofs.{lemmas.List.length-replicate, lemmas.List.length-drop, lemmas.List.get_or_past, lemmas.List.Folds.list_any_at}
 use Rattle.std.proofs.lemmas.Grind.{common_steps, get_or_after_one}
-use Rattle.std.proofs.lemmas.List.{length-replicate, length-drop, get_or_past}
-use Rattle.std.proofs.lemmas.List.Folds.{list_any_at}
 use Rattle.std.specs.List.{list_any}
 use Rattle.arena_base.specs.Arena.{vacant_from, vacant_indexes as slots_vacant, greatest_occupied, resized}
 use Rattle.chain_base.specs.Chain.{Entry, times, IsDistinct, link_at, vacant_among, vacant_indexes, greatest_index}

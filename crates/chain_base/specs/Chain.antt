@@ -1,8 +1,8 @@
 -- A chain arena as its users see it: one list of entries, and the numbers around it.
 use Rattle.std.specs.Prelude.{◌≡◌, ℕ, zero, suc, ◌+◌, ◌*◌, ◌<◌, ◌≤◌, ◌==◌, if◌then◌else◌, min, max, List, [], ◌∷◌, length, Option, Some, None, IsSome, is_some, slice_get}
 use Rattle.std.specs.Option.{option_map, ForSome}
-use Rattle.arena_base.specs.Generation.{first_generation, next_generation, IsLawfulGeneration}
 use Rattle.arena_base.specs.Arena.{Arena, times as times_among, limit_of, slot, item_if, arena_capacity}
+use Rattle.arena_base.specs.Generation.{first_generation, next_generation, IsLawfulGeneration}
 use Rattle.chain_base.specs.Link.{Link}
 
 -- an entry: its index and generation, which make its pointer, and its item

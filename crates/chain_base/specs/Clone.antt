@@ -1,14 +1,9 @@
 -- What a clone of one chain into another is: the source's pointers in its order, with items that are made of the source's.
 use Rattle.std.specs.Prelude.{◌≡◌, ℕ, zero, suc, ◌+◌, ◌≤◌, max, List, [], Option, Result, Ok, slice_get}
-use Rattle.std.specs.Borrow.{Bor}
-use Rattle.std.specs.List.{FoldsTo}
-use Rattle.std.specs.Option.{option_map}
-use Rattle.std.specs.declared.alloc.AllocError.{AllocError}
+use Rattle.std.specs.{declared.alloc.AllocError.AllocError, Option.option_map, List.FoldsTo, Borrow.Bor}
 use Rattle.arena_base.specs.Clone.{CloneStep, StopsAtRefusal}
-use Rattle.chain_base.specs.Link.{Link}
-use Rattle.chain_base.specs.Chain.{Entry, Chain, times, entry_at, link_at, greatest_index}
-use Rattle.chain_base.specs.Compression.{lesser, entry_before, refilled}
-use Rattle.chain_base.specs.Walk.{pointers}
+use Rattle.chain_base.specs.{Chain.Entry, Chain.Chain, Chain.times, Chain.entry_at, Chain.link_at, Chain.greatest_index, Walk.pointers}
+use Rattle.chain_base.specs.{Compression.lesser, Compression.entry_before, Compression.refilled, Link.Link}
 
 module _ {U : Type 0} where
   -- index, generation and link of each entry by rising index, among so many indexes from `from` on

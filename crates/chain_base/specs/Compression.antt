@@ -1,10 +1,8 @@
 -- What a compression, the canonical order and a transfer make of a chain.
 use Rattle.std.specs.Prelude.{◌≡◌, ℕ, zero, suc, ◌+◌, nat_lt, if◌then◌else◌, max, List, [], ◌∷◌, ◌++◌, length, map, slice_index_or, Option, Some, None}
 use Rattle.std.specs.List.{FoldsTo}
-use Rattle.arena_base.specs.Generation.{next_generation, overflows_after}
-use Rattle.arena_base.specs.Invalidation.{allowed_value, is_overflow}
-use Rattle.arena_base.specs.Compression.{CompressionStep}
-use Rattle.arena_base.specs.declared.invalidation.InvalidationOption.{InvalidationOption}
+use Rattle.arena_base.specs.{declared.invalidation.InvalidationOption.InvalidationOption, Compression.CompressionStep}
+use Rattle.arena_base.specs.{Generation.next_generation, Generation.overflows_after, Invalidation.allowed_value, Invalidation.is_overflow}
 use Rattle.chain_base.specs.Chain.{Entry, Chain, entry_at, vacant_indexes}
 
 module _ {T : Type 0} where

@@ -1,8 +1,8 @@
 -- Where a new entry of a chain stands, and what an insertion does.
 use Rattle.std.specs.Prelude.{◌≡◌, ℕ, ◌<◌, ◌≤◌, List, [], ◌∷◌, ◌++◌, Option, Some, None}
+use Rattle.chain_base.specs.declared.chain.insert.LinkInsertKind.TheVariants.{Disconnected, NextToInx, PrevToInx}
 use Rattle.chain_base.specs.Chain.{Entry, Chain, times, first_or, last_or, insert_after, insert_before, IsOccupied, IsFresh, next_index, inserted}
 use Rattle.chain_base.specs.declared.chain.insert.LinkInsertKind.{LinkInsertKind}
-use Rattle.chain_base.specs.declared.chain.insert.LinkInsertKind.TheVariants.{Disconnected, NextToInx, PrevToInx}
 
 module _ {P I G T : Type 0} (number : I → ℕ) where
   -- the list with a new entry at the place that `kind` names

@@ -2,8 +2,7 @@
 use Rattle.std.specs.Prelude.{◌≡◌, ℕ, zero, suc, ◌==◌, Bool, false, if◌then◌else◌, List, [], ◌∷◌, length, Option, Some, None, is_some, count_by, slice_index_or}
 use Rattle.std.specs.Option.{option_map}
 use Rattle.arena_base.specs.Arena.{Arena, slot, with_slot, arena_capacity}
-use Rattle.chain_base.specs.Link.{Link}
-use Rattle.chain_base.specs.Chain.{Entry, Chain, IsDistinct, first_or, last_or, link_at}
+use Rattle.chain_base.specs.{Chain.Entry, Chain.Chain, Chain.IsDistinct, Chain.first_or, Chain.last_or, Chain.link_at, Link.Link}
 
 -- the option names this index
 abbrev pub names : Option ℕ → ℕ → Bool

@@ -1,14 +1,10 @@
 -- How each entry of a chain learns the new indexes of its neighbours, from these. No public clause cites this file.
 use Rattle.std.specs.Prelude.{◌≡◌, ◌≢◌, ℕ, ◌+◌, List, [], ◌∷◌, map, Option, Some, None, IsSome, is_some, count_by, take, length}
-use Rattle.std.specs.Option.{option_map, option_and_then}
-use Rattle.std.specs.List.{FoldsTo}
-use Rattle.arena_base.specs.Arena.{Arena, HoldsSame, slot}
-use Rattle.arena_base.specs.Compression.{CompressionStep, compressed}
+use Rattle.std.specs.{Option.option_map, Option.option_and_then, List.FoldsTo}
+use Rattle.arena_base.specs.{Compression.CompressionStep, Compression.compressed, Arena.Arena, Arena.HoldsSame, Arena.slot}
 use Rattle.arena_base.specs.Walk.{entries_rising}
-use Rattle.chain_base.specs.Link.{Link}
-use Rattle.chain_base.specs.Layout.{with_next, with_prev, linked_next, linked_prev}
-use Rattle.chain_base.specs.declared.chain.compress.Side.{Side}
-use Rattle.chain_base.specs.declared.chain.compress.Side.TheVariants.{Before, After}
+use Rattle.chain_base.specs.{declared.chain.compress.Side.TheVariants.Before, declared.chain.compress.Side.TheVariants.After, Link.Link}
+use Rattle.chain_base.specs.{Layout.with_next, Layout.with_prev, Layout.linked_next, Layout.linked_prev, declared.chain.compress.Side.Side}
 
 module _ {T : Type 0} where
   -- the neighbour on a side

@@ -1,13 +1,11 @@
 -- The steps of a transfer. No public clause cites this file.
 use Rattle.std.specs.Prelude.{◌≡◌, ℕ, zero, suc, List, [], ◌∷◌, ◌++◌, length, Option, Some, None}
 use Rattle.std.specs.List.{FoldsTo}
-use Rattle.arena_base.specs.Generation.{next_generation, overflows_after}
-use Rattle.arena_base.specs.Invalidation.{allowed_value, is_overflow}
 use Rattle.arena_base.specs.declared.invalidation.InvalidationOption.{InvalidationOption}
-use Rattle.chain_base.specs.declared.chain.insert.LinkInsertKind.{LinkInsertKind}
+use Rattle.arena_base.specs.{Generation.next_generation, Generation.overflows_after, Invalidation.allowed_value, Invalidation.is_overflow}
 use Rattle.chain_base.specs.declared.chain.insert.LinkInsertKind.TheVariants.{Disconnected, NextToInx}
-use Rattle.chain_base.specs.Chain.{Entry, Chain}
 use Rattle.chain_base.specs.Compression.{numbered, refilled, Transferring, TransferStep}
+use Rattle.chain_base.specs.{declared.chain.insert.LinkInsertKind.LinkInsertKind, Chain.Entry, Chain.Chain}
 
 -- c with entries of these items alone, at the indexes from 1 on
 abbrev pub filled_with : {T : Type 0} → Chain T → List T → Chain T

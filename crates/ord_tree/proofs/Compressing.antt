@@ -1,15 +1,13 @@
 -- A chain of nodes in which all entries are moved, as the list without the nodes sees it.
 use Rattle.std.proofs.Common.{arith, ◌≡◌, ℕ, zero, suc, ◌+◌, Option, Some, None, List, [], ◌∷◌, map, length, refl, sym, ◌∙◌, ap, option_map, max, slice_index_or, nat_lt, if◌then◌else◌}
-use Rattle.std.proofs.lemmas.Grind.{common_steps}
-use Rattle.std.proofs.lemmas.List.{length-map}
-use Rattle.chain_base.specs.Chain.{Entry, Chain}
+use Rattle.std.proofs.{lemmas.Grind.common_steps, lemmas.List.length-map}
 use Rattle.chain_base.specs.Compression.{lesser, entry_before, rising_among, entries_rising, refilled, moved, compressed, at_compressed_index, relocated, numbered, canonical, replaced, left_empty, IsCompression, Transferring, IsTransfer}
+use Rattle.chain_base.specs.Chain.{Entry, Chain}
 use Rattle.arena_base.specs.declared.invalidation.InvalidationOption.{InvalidationOption}
 use Rattle.chain_base.proofs.CallerLemmas.{steps-retold}
+use Rattle.ord_tree.specs.{declared.node.SimpleOrdArenaNode.SimpleOrdArenaNode as Node, Node.bare_entry, Node.bare, Node.entry_in}
 use Rattle.ord_tree.specs.MapNode.{MapsTaken}
 use Rattle.arena_base.proofs.CallerLemmas.{calls-retold}
-use Rattle.ord_tree.specs.declared.node.SimpleOrdArenaNode.{SimpleOrdArenaNode as Node}
-use Rattle.ord_tree.specs.Node.{bare_entry, bare, entry_in}
 use Rattle.ord_tree.proofs.Trees.{entry_at-bare, vacant_among-bare}
 
 module _ {P T I G : Type 0} where

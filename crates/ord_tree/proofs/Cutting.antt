@@ -1,24 +1,17 @@
 -- Taking out a node of which one side is empty: what hangs on its other side takes its place.
 use Rattle.std.proofs.Common.{◌≡◌, ◌≢◌, ℕ, ◌+◌, ◌<◌, ◌≤◌, Option, Some, None, List, [], ◌∷◌, ◌++◌, length, arith, refl, sym, ◌∙◌, ap, subst, inl, inr, ⊎_elim, option_map, is_some, true, append_assoc, length-append}
-use Rattle.std.proofs.lemmas.Grind.{common_steps}
+use Rattle.std.proofs.{lemmas.Bool.cases_lt, lemmas.Bool.eq-eqb, lemmas.Grind.common_steps}
 use Rattle.std.specs.Option.{option_to_list}
-use Rattle.std.proofs.lemmas.Bool.{cases_lt, eq-eqb}
-use Rattle.ord_tree.specs.declared.tree_links.Side.{Side}
-use Rattle.ord_tree.specs.declared.tree_links.Side.TheVariants.{Lesser, Greater}
-use Rattle.ord_tree.specs.declared.tree_links.TreeLinks.{TreeLinks}
-use Rattle.ord_tree.specs.declared.tree_links.Branch.{Branch}
-use Rattle.ord_tree.specs.TreeLinks.{other_side, child_at}
-use Rattle.ord_tree.specs.Shape.{Shape, missing, node, fork, rank_of, root_of, walk}
 use Rattle.ord_tree.specs.Slots.{Slots, Holds, top, plug, above, HoldsWay, here, times, times_in, times_way, MovesBacks}
-use Rattle.ord_tree.specs.Balance.{IsOver, IsBalanced, IsBalancedWay}
-use Rattle.ord_tree.specs.Demote.{IsFallen}
-use Rattle.ord_tree.specs.Detach.{without, IsLoose}
+use Rattle.ord_tree.specs.{Shape.Shape, Shape.missing, Shape.node, Shape.fork, Shape.rank_of, Shape.root_of, Shape.walk, Demote.IsFallen}
+use Rattle.ord_tree.specs.declared.tree_links.Side.TheVariants.{Lesser, Greater}
+use Rattle.ord_tree.specs.{Balance.IsOver, Balance.IsBalanced, Balance.IsBalancedWay, TreeLinks.other_side, TreeLinks.child_at}
+use Rattle.ord_tree.specs.{declared.tree_links.TreeLinks.TreeLinks, declared.tree_links.Branch.Branch, Detach.without, Detach.IsLoose}
+use Rattle.ord_tree.specs.declared.tree_links.Side.{Side}
 use Rattle.ord_tree.proofs.Forks.{Holds-fork, Holds-plug, link-root, fork_balanced, here-same, times-append, times-walk, times_in-plug, times_in-fork, rank-fork}
 use Rattle.ord_tree.proofs.Frames.{last_step, no_step, occupied-above, root-in, Holds-frame, HoldsWay-frame, Holds-rehung, IsReplaced, HoldsWay-replaced}
-use Rattle.ord_tree.proofs.Rotations.{above-in, occupied-link, cases_link}
-use Rattle.ord_tree.proofs.Spots.{Spot, spot_in, plug_balanced, Around, around}
-use Rattle.ord_tree.proofs.NewLeaf.{rootless}
-use Rattle.ord_tree.proofs.Demoting.{IsBranchOf, BuiltOrFallen}
+use Rattle.ord_tree.proofs.{Spots.Spot, Spots.spot_in, Spots.plug_balanced, Spots.Around, Spots.around, NewLeaf.rootless}
+use Rattle.ord_tree.proofs.{Rotations.above-in, Rotations.occupied-link, Rotations.cases_link, Demoting.IsBranchOf, Demoting.BuiltOrFallen}
 use Rattle.ord_tree.proofs.Doubles.{Among-root, length-root}
 
 -- lists without an index

@@ -1,24 +1,16 @@
 -- One step of the repair after a removal, and the way from a node that has demoted to its parent.
 use Rattle.std.proofs.Common.{◌≡◌, ◌≢◌, ℕ, ◌+◌, ◌^◌, ◌<◌, ◌≤◌, Option, Some, None, List, [], length, arith, refl, inr, sym, ◌∙◌, ap, subst, is_some, true, option_map, MatchOption}
 use Rattle.std.specs.Option.{IfSome}
-use Rattle.ord_tree.specs.declared.tree_links.Side.{Side}
-use Rattle.ord_tree.specs.declared.tree_links.TreeLinks.{TreeLinks}
-use Rattle.ord_tree.specs.declared.tree_links.Branch.{Branch}
-use Rattle.ord_tree.specs.TreeLinks.{other_side, child_at}
-use Rattle.ord_tree.specs.Shape.{Shape, missing, node, fork, rank_of, root_of, size_of, walk}
 use Rattle.ord_tree.specs.Slots.{Slots, Holds, up, plug, above, here, times_in, times_way, IsApart, rank_at}
-use Rattle.ord_tree.specs.Balance.{IsOver, IsBalanced, IsBalancedWay}
-use Rattle.ord_tree.specs.Promote.{IsBuilt, IsRepaired}
-use Rattle.ord_tree.specs.Demote.{IsFallen, IsDemoted, IsLeaning, HasDemoted}
-use Rattle.ord_tree.proofs.Slack.{IsRanked-balanced, rank-small}
-use Rattle.ord_tree.proofs.Halves.{size_of-walk}
+use Rattle.ord_tree.specs.Shape.{Shape, missing, node, fork, rank_of, root_of, size_of, walk}
+use Rattle.ord_tree.specs.{Demote.IsFallen, Demote.IsDemoted, Demote.IsLeaning, Demote.HasDemoted, TreeLinks.other_side, TreeLinks.child_at}
+use Rattle.ord_tree.specs.{Balance.IsOver, Balance.IsBalanced, Balance.IsBalancedWay, declared.tree_links.TreeLinks.TreeLinks}
+use Rattle.ord_tree.specs.{Promote.IsBuilt, Promote.IsRepaired, declared.tree_links.Branch.Branch, declared.tree_links.Side.Side}
 use Rattle.ord_tree.proofs.Forks.{fork-other, rank-fork, size-fork, walk-ranked, walk-plug, link-root, Holds-fork, Holds-plug, fork_balanced, IsBalanced-fork, IsBalanced-plug, here-same, times_in-fork, IsApart-once, apart-from}
 use Rattle.ord_tree.proofs.Frames.{last_step, no_step, occupied-above, root-in, HoldsWay-frame, IsReranked, Holds-reranked, backs-ranked}
-use Rattle.ord_tree.proofs.Rotations.{ForkAt, ForkAt-holds, occupied-link}
-use Rattle.ord_tree.proofs.Promoting.{size-plug, root_holds}
-use Rattle.ord_tree.proofs.Leaning.{some_of}
-use Rattle.ord_tree.proofs.Doubles.{fork_of, rank_at-held}
-use Rattle.ord_tree.proofs.NewLeaf.{rootless}
+use Rattle.ord_tree.proofs.{Rotations.ForkAt, Rotations.ForkAt-holds, Rotations.occupied-link, Slack.IsRanked-balanced, Slack.rank-small}
+use Rattle.ord_tree.proofs.{Promoting.size-plug, Promoting.root_holds, Doubles.fork_of, Doubles.rank_at-held, Halves.size_of-walk}
+use Rattle.ord_tree.proofs.{NewLeaf.rootless, Leaning.some_of}
 
 -- the branch on which a node hangs, if it hangs on one
 pub record IsBranchOf {I : Type 0} (number : I → ℕ) (at : Slots) (y : ℕ) (branch : Option (Branch I)) : Type 0 where

@@ -1,16 +1,11 @@
 -- A node is taken out: the entry before it stands in its place, and the branch that has fallen goes along.
 use Rattle.std.proofs.Common.{◌≡◌, ℕ, ◌+◌, Option, None, List, [], ◌∷◌, ◌++◌, map, arith, refl, sym, ◌∙◌, ap, subst, inl, inr, ⊎_elim, length-append}
-use Rattle.std.proofs.lemmas.Grind.{common_steps}
-use Rattle.ord_tree.specs.declared.tree_links.Side.{Side}
-use Rattle.ord_tree.specs.declared.tree_links.Side.TheVariants.{Lesser, Greater}
-use Rattle.ord_tree.specs.TreeLinks.{child_at}
-use Rattle.ord_tree.specs.Shape.{Shape, missing, node, fork, rank_of, walk}
+use Rattle.std.proofs.{lemmas.Grind.common_steps, lemmas.List.map-append}
 use Rattle.ord_tree.specs.Slots.{Slots, Holds, Way, top, up, plug, above, HoldsWay, times, Among, MovesBacks}
-use Rattle.ord_tree.specs.Balance.{IsBalanced, IsBalancedWay}
-use Rattle.ord_tree.specs.Detach.{stand_in, renamed}
-use Rattle.ord_tree.proofs.Forks.{HoldsFork-holds}
-use Rattle.ord_tree.proofs.Doubles.{Among-behind}
-use Rattle.std.proofs.lemmas.List.{map-append}
+use Rattle.ord_tree.specs.{declared.tree_links.Side.TheVariants.Lesser, declared.tree_links.Side.TheVariants.Greater, TreeLinks.child_at}
+use Rattle.ord_tree.specs.{Shape.Shape, Shape.missing, Shape.node, Shape.fork, Shape.rank_of, Shape.walk, Detach.stand_in, Detach.renamed}
+use Rattle.ord_tree.specs.{Balance.IsBalanced, Balance.IsBalancedWay, declared.tree_links.Side.Side}
+use Rattle.ord_tree.proofs.{Forks.HoldsFork-holds, Doubles.Among-behind}
 
 -- the way with v in the place of z
 abbrev pub renamed_way : ℕ → ℕ → Way → Way

@@ -1,17 +1,13 @@
 -- Single and double rotations: their sites, what they keep, and how many parents they move.
 use Rattle.std.proofs.Common.{◌≡◌, ℕ, ◌<◌, ◌≤◌, Option, Some, None, List, [], ◌∷◌, ◌++◌, length, arith, refl, sym, ◌∙◌, ap, subst, inl, inr, ⊎_elim, is_some, true, length-append}
 use Rattle.std.specs.Option.{option_to_list}
-use Rattle.ord_tree.specs.declared.tree_links.Side.{Side}
-use Rattle.ord_tree.specs.declared.tree_links.Side.TheVariants.{Lesser, Greater}
-use Rattle.ord_tree.specs.declared.tree_links.TreeLinks.{TreeLinks}
-use Rattle.ord_tree.specs.TreeLinks.{other_side, child_at}
-use Rattle.ord_tree.specs.Shape.{Shape, missing, node, fork, rank_of, root_of, walk}
 use Rattle.ord_tree.specs.Slots.{Slots, Holds, up, plug, above, HoldsWay, times_in, IsApart, Among, rank_at, MovesBacks}
-use Rattle.ord_tree.specs.Balance.{IsOver, IsBalanced, IsBalancedWay}
-use Rattle.ord_tree.specs.Rotate.{Site, IsRotated}
-use Rattle.ord_tree.specs.Promote.{IsRepaired}
-use Rattle.ord_tree.proofs.Rotations.{ForkAt-holds, fork_at_low}
+use Rattle.ord_tree.specs.{Shape.Shape, Shape.missing, Shape.node, Shape.fork, Shape.rank_of, Shape.root_of, Shape.walk, Promote.IsRepaired}
+use Rattle.ord_tree.specs.declared.tree_links.Side.TheVariants.{Lesser, Greater}
+use Rattle.ord_tree.specs.{Balance.IsOver, Balance.IsBalanced, Balance.IsBalancedWay, TreeLinks.other_side, TreeLinks.child_at}
+use Rattle.ord_tree.specs.{declared.tree_links.TreeLinks.TreeLinks, declared.tree_links.Side.Side, Rotate.Site, Rotate.IsRotated}
 use Rattle.ord_tree.proofs.Forks.{fork-other, rank-fork, walk-rotated, walk-fork_near, walk-plug, HoldsFork, HoldsFork-holds, Holds-fork, link-root, Holds-plug, IsBalanced-fork, fork_balanced, IsBalanced-plug, times_in-fork}
+use Rattle.ord_tree.proofs.Rotations.{ForkAt-holds, fork_at_low}
 
 pub root-fork : (side : Side) (near far : Shape) (i k : ℕ) → root_of (fork side near i k far) ≡ Some i
 root-fork Lesser near far i k = refl

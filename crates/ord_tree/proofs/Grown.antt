@@ -1,33 +1,21 @@
 -- An insertion: from the chain's new entry to the tree with it.
 use Rattle.std.proofs.Common.{◌≡◌, ◌≢◌, ℕ, ◌+◌, ◌<◌, ◌^◌, Option, Some, None, List, [], ◌∷◌, map, length, arith, refl, sym, ◌∙◌, ap, subst, inl, is_some, true, option_map, MatchOption, slice_get}
-use Rattle.std.proofs.lemmas.Grind.{common_steps}
-use Rattle.std.proofs.lemmas.Bool.{eq-eqb}
-use Rattle.std.proofs.lemmas.List.{length-map}
+use Rattle.std.proofs.{lemmas.Grind.common_steps, lemmas.List.length-map, lemmas.Bool.eq-eqb}
 use Rattle.std.specs.declared.cmp.Ordering.{Ordering}
 use Rattle.chain_base.specs.Chain.{Entry, Chain, entry_at, times as entry_times, IsFresh, IsSound, IsDistinct, inserted}
-use Rattle.chain_base.specs.Insert.{placed, CanPlace, IsInsertion}
-use Rattle.chain_base.specs.declared.chain.insert.LinkInsertKind.{LinkInsertKind}
-use Rattle.ord_tree.specs.declared.tree_links.Branch.{Branch}
-use Rattle.ord_tree.specs.declared.node.SimpleOrdArenaNode.{SimpleOrdArenaNode as Node}
-use Rattle.ord_tree.specs.Shape.{Shape, missing, node, walk}
+use Rattle.chain_base.specs.{declared.chain.insert.LinkInsertKind.LinkInsertKind, Insert.placed, Insert.CanPlace, Insert.IsInsertion}
+use Rattle.ord_tree.specs.{LeafBranch.side_at, LeafBranch.kind_at, LeafBranch.IsLeafBranch, LeafBranch.IsLeafBranchAt, Balance.IsBalanced}
+use Rattle.ord_tree.specs.{Node.bare_entry, Node.bare, Node.links_in, Node.slots_of, Node.indexes, declared.tree_links.Branch.Branch}
+use Rattle.ord_tree.specs.{declared.node.SimpleOrdArenaNode.SimpleOrdArenaNode as Node, Shape.Shape, Shape.missing, Shape.node, Shape.walk}
+use Rattle.ord_tree.specs.{Slots.Holds, Slots.times, Slots.IsOnce, Slots.shape_under, Tree.put_on, Tree.put_at, Tree.CanPutAt, Tree.IsGrown}
+use Rattle.ord_tree.specs.{Leaf.beside, Leaf.leaf_links, Leaf.IsNewLeaf, Layout.shape_in, Layout.IsLaidOut, Promote.IsRepaired}
 use Rattle.ord_tree.specs.Ranks.{IsRanked}
-use Rattle.ord_tree.specs.Slots.{Holds, times, IsOnce, shape_under}
-use Rattle.ord_tree.specs.Balance.{IsBalanced}
-use Rattle.ord_tree.specs.Promote.{IsRepaired}
-use Rattle.ord_tree.specs.Leaf.{beside, leaf_links, IsNewLeaf}
-use Rattle.ord_tree.specs.Node.{bare_entry, bare, links_in, slots_of, indexes}
-use Rattle.ord_tree.specs.Tree.{put_on, put_at, CanPutAt, IsGrown}
-use Rattle.ord_tree.specs.Layout.{shape_in, IsLaidOut}
-use Rattle.ord_tree.specs.LeafBranch.{side_at, kind_at, IsLeafBranch, IsLeafBranchAt}
 use Rattle.arena_base.proofs.CallerLemmas.{limit_of-below}
-use Rattle.ord_tree.proofs.Slack.{IsRanked-balanced, IsBalanced-ranked, IsTight-balanced, IsBalanced-tight}
-use Rattle.ord_tree.proofs.Forks.{times-walk, apart-from}
-use Rattle.ord_tree.proofs.Frames.{Holds-frame}
-use Rattle.ord_tree.proofs.Views.{MovesAtMost-backs}
 use Rattle.ord_tree.proofs.Trees.{links_at, times-bare, indexes-bare, vacant_among-bare, shape_in-held, is_some-bare}
-use Rattle.ord_tree.proofs.LeafBranches.{times-indexes, IsOnce-distinct, within-occupied}
-use Rattle.ord_tree.proofs.Spots.{times-beside-ge, length-beside_in}
-use Rattle.ord_tree.proofs.Puts.{put-same, put-other, put-indexes, put-bare}
+use Rattle.ord_tree.proofs.Slack.{IsRanked-balanced, IsBalanced-ranked, IsTight-balanced, IsBalanced-tight}
+use Rattle.ord_tree.proofs.{LeafBranches.times-indexes, LeafBranches.IsOnce-distinct, LeafBranches.within-occupied, Views.MovesAtMost-backs}
+use Rattle.ord_tree.proofs.{Puts.put-same, Puts.put-other, Puts.put-indexes, Puts.put-bare, Spots.times-beside-ge, Spots.length-beside_in}
+use Rattle.ord_tree.proofs.{Forks.times-walk, Forks.apart-from, Frames.Holds-frame}
 
 module _ (P G : Type 0) {T I : Type 0} (number : I → ℕ) where
   -- the place in the chain that is named is the one in the list

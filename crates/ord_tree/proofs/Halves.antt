@@ -1,14 +1,10 @@
 -- Rebuilt shapes: they exist, keep the rank rules and are as high as their size has digits.
 use Rattle.std.proofs.Common.{◌≡◌, ℕ, zero, suc, ◌+◌, ◌-◌, ◌*◌, ◌/◌, ◌^◌, ◌<◌, ◌≤◌, List, [], ◌∷◌, ◌++◌, length, arith, refl, sym, ◌∙◌, ap, inl, inr, ⊎_elim, ◌⊎◌, length-append, below_more}
-use Rattle.std.proofs.Math.Nat.{two-pow-succ, one-le-pow}
-use Rattle.std.proofs.Math.Numerals.{add-one}
+use Rattle.std.proofs.{Math.Nat.two-pow-succ, Math.Nat.one-le-pow, lemmas.Bool.Decides.nat_tests, Math.Numerals.add-one}
 use Rattle.std.proofs.lemmas.Bool.{cases_lt}
-use Rattle.std.proofs.lemmas.Bool.Decides.{nat_tests}
 use Rattle.ord_tree.specs.Shape.{Shape, missing, node, rank_of, size_of, walk, height}
-use Rattle.ord_tree.specs.Ranks.{IsRankOver, IsRanked}
-use Rattle.ord_tree.specs.Numbers.{IsLeast, IsTop}
-use Rattle.ord_tree.specs.Half.{half_rank, IsHalf}
 use Rattle.ord_tree.specs.Laws.{RebuiltRanksLaw, RebuiltHeightLaw, RebuiltExistsLaw, DigitsExistLaw}
+use Rattle.ord_tree.specs.{Ranks.IsRankOver, Ranks.IsRanked, Numbers.IsLeast, Numbers.IsTop, Half.half_rank, Half.IsHalf}
 
 -- the height
 height-half-le : (s : Shape) (q d : ℕ) → IsHalf q s → size_of s < 2 ^ d → height s ≤ d

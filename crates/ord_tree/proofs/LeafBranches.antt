@@ -4,15 +4,10 @@ use Rattle.std.proofs.lemmas.Grind.{common_steps}
 use Rattle.chain_base.specs.Chain.{Entry, entry_at, times as entry_times, link_between, first_or, IsDistinct}
 use Rattle.chain_base.specs.Link.{Link}
 use Rattle.chain_base.proofs.CallerLemmas.{entry-occurs}
-use Rattle.ord_tree.specs.declared.tree_links.Side.{Side}
-use Rattle.ord_tree.specs.declared.tree_links.Side.TheVariants.{Lesser, Greater}
-use Rattle.ord_tree.specs.declared.tree_links.TreeLinks.{TreeLinks}
-use Rattle.ord_tree.specs.declared.tree_links.Branch.{Branch}
-use Rattle.ord_tree.specs.TreeLinks.{other_side, child_at}
-use Rattle.ord_tree.specs.Shape.{Shape, walk}
-use Rattle.ord_tree.specs.Slots.{Slots, Holds, times, IsOnce}
-use Rattle.ord_tree.specs.Node.{indexes}
-use Rattle.ord_tree.specs.Leaf.{list_head, previous, following, neighbour_in, beside}
+use Rattle.ord_tree.specs.{declared.tree_links.Side.TheVariants.Lesser, declared.tree_links.Side.TheVariants.Greater, Node.indexes}
+use Rattle.ord_tree.specs.{Leaf.list_head, Leaf.previous, Leaf.following, Leaf.neighbour_in, Leaf.beside, declared.tree_links.Branch.Branch}
+use Rattle.ord_tree.specs.{Slots.Slots, Slots.Holds, Slots.times, Slots.IsOnce, TreeLinks.other_side, TreeLinks.child_at}
+use Rattle.ord_tree.specs.{declared.tree_links.TreeLinks.TreeLinks, declared.tree_links.Side.Side, Shape.Shape, Shape.walk}
 use Rattle.ord_tree.specs.LeafBranch.{IsLeafBranch}
 use Rattle.ord_tree.proofs.Neighbours.{before_in, after_in, previous-neighbour, following-neighbour, between, first-within, second-within}
 

@@ -1,20 +1,13 @@
 -- The rotations after a removal, where the sibling is one below.
 use Rattle.std.proofs.Common.{◌≡◌, ◌≢◌, ℕ, ◌+◌, ◌-◌, ◌<◌, ◌≤◌, Option, Some, None, List, length, ◌^◌, arith, refl, sym, ◌∙◌, ap, subst, is_some, true}
-use Rattle.ord_tree.specs.declared.tree_links.Side.{Side}
-use Rattle.ord_tree.specs.declared.tree_links.TreeLinks.{TreeLinks}
-use Rattle.ord_tree.specs.TreeLinks.{other_side, child_at}
-use Rattle.ord_tree.specs.Shape.{Shape, fork, rank_of, root_of, size_of}
 use Rattle.ord_tree.specs.Slots.{Slots, Holds, plug, above, here, times_in, times_way, rank_at}
-use Rattle.ord_tree.specs.Balance.{IsOver, IsBalancedWay}
-use Rattle.ord_tree.specs.Rotate.{IsRotated}
-use Rattle.ord_tree.specs.Promote.{IsRepaired}
-use Rattle.ord_tree.specs.Demote.{IsDemoted, IsLeaning}
-use Rattle.ord_tree.proofs.Slack.{IsRanked-balanced, rank-small}
-use Rattle.ord_tree.proofs.Halves.{size_of-walk}
+use Rattle.ord_tree.specs.{Shape.Shape, Shape.fork, Shape.rank_of, Shape.root_of, Shape.size_of, TreeLinks.other_side, TreeLinks.child_at}
+use Rattle.ord_tree.specs.{declared.tree_links.TreeLinks.TreeLinks, Balance.IsOver, Balance.IsBalancedWay, declared.tree_links.Side.Side}
+use Rattle.ord_tree.specs.{Demote.IsDemoted, Demote.IsLeaning, Promote.IsRepaired, Rotate.IsRotated}
 use Rattle.ord_tree.proofs.Forks.{rank-fork, size-fork, walk-ranked, walk-fork_near, walk-plug, HoldsFork-holds, Holds-fork, IsBalanced-fork, here-same, times_in-fork, apart-from}
-use Rattle.ord_tree.proofs.Frames.{Holds-frame, HoldsWay-frame, IsReranked, Holds-reranked, backs-ranked}
-use Rattle.ord_tree.proofs.Promoting.{size-plug}
 use Rattle.ord_tree.proofs.Doubles.{root-some, rank_at-held, inner_root, IsRepaired-rotated, middle_rank_is, middle_over, site_below, site_above, IsRepaired-rotated_twice}
+use Rattle.ord_tree.proofs.Frames.{Holds-frame, HoldsWay-frame, IsReranked, Holds-reranked, backs-ranked}
+use Rattle.ord_tree.proofs.{Slack.IsRanked-balanced, Slack.rank-small, Halves.size_of-walk, Promoting.size-plug}
 
 -- what stands in a Some
 pub some_of : (o : Option (TreeLinks ℕ)) → is_some o ≡ true → (n : TreeLinks ℕ) × (o ≡ Some n)

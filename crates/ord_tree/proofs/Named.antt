@@ -1,7 +1,6 @@
 -- Indexes of entries name something: none of them is that of pointers that name nothing.
 use Rattle.std.proofs.Common.{◌≡◌, ◌≢◌, ℕ, ◌+◌, ◌≤◌, Option, List, arith, refl, is_some, true}
-use Rattle.chain_base.specs.Chain.{Entry, Chain, entry_at, times, inserted_at, IsSound}
-use Rattle.chain_base.specs.Insert.{IsInsertion}
+use Rattle.chain_base.specs.{Chain.Entry, Chain.Chain, Chain.entry_at, Chain.times, Chain.inserted_at, Chain.IsSound, Insert.IsInsertion}
 use Rattle.chain_base.proofs.CallerLemmas.{inserted-capacity}
 use Rattle.arena_base.proofs.CallerLemmas.{limit_of-below}
 use Rattle.ord_tree.proofs.LeafBranches.{times-indexes, within-occupied}

@@ -1,12 +1,10 @@
 -- The ends of a walk, and the neighbours of an index in a list.
 use Rattle.std.proofs.Common.{◌≡◌, ℕ, ◌+◌, ◌<◌, ◌≤◌, Option, Some, None, List, [], ◌∷◌, ◌++◌, arith, refl, sym, ◌∙◌, ap, append_assoc}
-use Rattle.std.proofs.lemmas.Grind.{common_steps}
-use Rattle.std.proofs.lemmas.Bool.{eq-eqb}
+use Rattle.std.proofs.{lemmas.Grind.common_steps, lemmas.Bool.eq-eqb}
 use Rattle.ord_tree.specs.declared.tree_links.Side.TheVariants.{Lesser, Greater}
-use Rattle.ord_tree.specs.declared.tree_links.TreeLinks.{TreeLinks}
-use Rattle.ord_tree.specs.Shape.{Shape, missing, node, root_of, walk}
 use Rattle.ord_tree.specs.Slots.{Slots, Holds, here, times, top, IsOnce}
-use Rattle.ord_tree.specs.Leaf.{previous, following, beside}
+use Rattle.ord_tree.specs.{Shape.Shape, Shape.missing, Shape.node, Shape.root_of, Shape.walk, Leaf.previous, Leaf.following, Leaf.beside}
+use Rattle.ord_tree.specs.declared.tree_links.TreeLinks.{TreeLinks}
 use Rattle.ord_tree.proofs.Forks.{here-same, times-append, times-walk, link-root}
 use Rattle.ord_tree.proofs.Spots.{Spot, spot_in, around, beside-split}
 

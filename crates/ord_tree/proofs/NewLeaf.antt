@@ -1,19 +1,14 @@
 -- A leaf that is hung on its parent has risen there.
 use Rattle.std.proofs.Common.{◌≡◌, ◌≢◌, ℕ, ◌+◌, Option, Some, None, List, ◌∷◌, ◌++◌, arith, refl, sym, ◌∙◌, ap, subst, inl, ⊎_elim, is_some, true, append_assoc}
-use Rattle.std.proofs.lemmas.Grind.{common_steps}
-use Rattle.std.proofs.lemmas.Bool.{cases_eq}
-use Rattle.ord_tree.specs.declared.tree_links.Side.{Side}
-use Rattle.ord_tree.specs.declared.tree_links.Side.TheVariants.{Lesser, Greater}
-use Rattle.ord_tree.specs.declared.tree_links.TreeLinks.{TreeLinks}
-use Rattle.ord_tree.specs.TreeLinks.{other_side, child_at, with_child_at}
-use Rattle.ord_tree.specs.Shape.{Shape, missing, node, fork, root_of, walk}
+use Rattle.std.proofs.{lemmas.Grind.common_steps, lemmas.Bool.cases_eq}
 use Rattle.ord_tree.specs.Slots.{Slots, top, up, plug, here, times, times_in, times_way, back_at}
-use Rattle.ord_tree.specs.Balance.{IsBalanced, IsBalancedWay}
-use Rattle.ord_tree.specs.Promote.{IsRising}
-use Rattle.ord_tree.specs.Leaf.{beside, leaf_links, IsNewLeaf}
+use Rattle.ord_tree.specs.{declared.tree_links.Side.TheVariants.Lesser, declared.tree_links.Side.TheVariants.Greater, Promote.IsRising}
+use Rattle.ord_tree.specs.{Shape.Shape, Shape.missing, Shape.node, Shape.fork, Shape.root_of, Shape.walk, declared.tree_links.Side.Side}
+use Rattle.ord_tree.specs.{TreeLinks.other_side, TreeLinks.child_at, TreeLinks.with_child_at, Leaf.beside, Leaf.leaf_links, Leaf.IsNewLeaf}
+use Rattle.ord_tree.specs.{Balance.IsBalanced, Balance.IsBalancedWay, declared.tree_links.TreeLinks.TreeLinks}
 use Rattle.ord_tree.proofs.Forks.{rank-fork, link-root, fork_balanced, here-same, here-other, times-append, times-walk, times_in-plug, times_in-fork, apart-from, child-with_child, other_child-with_child, back-with_child, rank-with_child}
-use Rattle.ord_tree.proofs.Frames.{Holds-frame, HoldsWay-frame}
 use Rattle.ord_tree.proofs.Spots.{Spot, spot_in, plug_balanced, Around, around, beside-split, times-beside, length-beside}
+use Rattle.ord_tree.proofs.Frames.{Holds-frame, HoldsWay-frame}
 
 pub rootless : (s : Shape) → root_of s ≡ None → s ≡ missing
 rootless missing e = refl

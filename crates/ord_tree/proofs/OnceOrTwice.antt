@@ -1,15 +1,10 @@
 -- The single or double rotation that ends a repair after an insertion.
 use Rattle.std.proofs.Common.{◌≡◌, ◌≢◌, ℕ, ◌+◌, Option, Some, List, arith, subst, is_some, true}
-use Rattle.ord_tree.specs.declared.tree_links.Side.{Side}
-use Rattle.ord_tree.specs.declared.tree_links.TreeLinks.{TreeLinks}
-use Rattle.ord_tree.specs.TreeLinks.{other_side, child_at}
-use Rattle.ord_tree.specs.Shape.{rank_of, root_of}
-use Rattle.ord_tree.specs.Slots.{Slots}
-use Rattle.ord_tree.specs.Balance.{IsOver, IsBalanced, IsBalancedWay}
-use Rattle.ord_tree.specs.Rotate.{IsRotated}
-use Rattle.ord_tree.specs.Promote.{IsSteep, IsRepaired}
-use Rattle.ord_tree.proofs.Forks.{fork_balanced}
+use Rattle.ord_tree.specs.{Balance.IsOver, Balance.IsBalanced, Balance.IsBalancedWay, TreeLinks.other_side, TreeLinks.child_at, Slots.Slots}
+use Rattle.ord_tree.specs.{declared.tree_links.TreeLinks.TreeLinks, Promote.IsSteep, Promote.IsRepaired, declared.tree_links.Side.Side}
+use Rattle.ord_tree.specs.{Shape.rank_of, Shape.root_of, Rotate.IsRotated}
 use Rattle.ord_tree.proofs.Doubles.{root-some, low_rank, inner_root, IsRepaired-rotated, middle, middle_rank_is, middle_over, site_below, site_above, IsRepaired-rotated_twice}
+use Rattle.ord_tree.proofs.Forks.{fork_balanced}
 
 module _ {old : Slots} {old_root : Option ℕ} {side : Side} {z y : ℕ} {order : List ℕ} {slack : ℕ} (steep : IsSteep old old_root side z y order slack) where
   parts : IsOver slack steep.site.low (rank_of steep.site.outer) (rank_of steep.site.inner) × IsBalanced slack steep.site.outer × IsBalanced slack steep.site.inner

@@ -1,18 +1,14 @@
 -- One step of the repair after an insertion, at a node that has risen.
 use Rattle.std.proofs.Common.{◌≡◌, ◌≢◌, ℕ, ◌+◌, ◌*◌, ◌^◌, ◌<◌, ◌≤◌, Option, Some, None, List, length, arith, refl, sym, ◌∙◌, ap, subst, inl, inr, ⊎_elim, is_some, true}
-use Rattle.ord_tree.specs.declared.tree_links.Side.{Side}
-use Rattle.ord_tree.specs.declared.tree_links.TreeLinks.{TreeLinks}
-use Rattle.ord_tree.specs.TreeLinks.{other_side, child_at}
-use Rattle.ord_tree.specs.Shape.{Shape, missing, node, fork, rank_of, root_of, size_of, walk}
 use Rattle.ord_tree.specs.Slots.{Slots, Holds, Way, top, up, plug, above, HoldsWay, times_in, times_way, IsOnce, IsApart, back_at, rank_at}
-use Rattle.ord_tree.specs.Balance.{IsOver, IsBalanced, IsBalancedWay, IsUneven}
+use Rattle.ord_tree.specs.Shape.{Shape, missing, node, fork, rank_of, root_of, size_of, walk}
 use Rattle.ord_tree.specs.Promote.{IsBuilt, IsRising, IsSteep, IsRepaired, IsPromoted}
-use Rattle.ord_tree.proofs.Slack.{IsRanked-balanced, rank-small, IsUneven-fork, fork_uneven}
-use Rattle.ord_tree.proofs.Halves.{size_of-walk}
+use Rattle.ord_tree.specs.{Balance.IsOver, Balance.IsBalanced, Balance.IsBalancedWay, Balance.IsUneven, declared.tree_links.Side.Side}
+use Rattle.ord_tree.specs.{TreeLinks.other_side, TreeLinks.child_at, declared.tree_links.TreeLinks.TreeLinks}
 use Rattle.ord_tree.proofs.Forks.{rank-fork, size-fork, walk-ranked, walk-plug, Holds-fork, link-root, Holds-plug, IsBalanced-fork, IsBalanced-plug, here-same, times_in-fork, IsApart-once, apart-from}
 use Rattle.ord_tree.proofs.Frames.{last_step, no_step, root-in, HoldsWay-frame, IsReranked, Holds-reranked, backs-ranked}
-use Rattle.ord_tree.proofs.Rotations.{occupied-link}
-use Rattle.ord_tree.proofs.Doubles.{fork_of, Forked, rank_at-held}
+use Rattle.ord_tree.proofs.{Slack.IsRanked-balanced, Slack.rank-small, Slack.IsUneven-fork, Slack.fork_uneven, Rotations.occupied-link}
+use Rattle.ord_tree.proofs.{Doubles.fork_of, Doubles.Forked, Doubles.rank_at-held, Halves.size_of-walk}
 
 -- y hangs on a side of z
 pub record IsRisingUnder (at : Slots) (root : Option ℕ) (z y : ℕ) (order : List ℕ) (slack : ℕ) : Type 0 where

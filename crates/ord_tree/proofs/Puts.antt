@@ -1,16 +1,13 @@
 -- A new entry in a list of entries: what is found by index, the indexes, the items.
 use Rattle.std.proofs.Common.{arith, ◌≡◌, ◌≢◌, ℕ, Some, List, [], ◌∷◌, ◌∙◌, map, refl, sym, ap, is_some, true}
 use Rattle.std.proofs.lemmas.Grind.{common_steps}
-use Rattle.std.specs.declared.cmp.Ordering.{Ordering}
 use Rattle.std.specs.declared.cmp.Ordering.TheVariants.{Less, Equal, Greater}
+use Rattle.std.specs.declared.cmp.Ordering.{Ordering}
 use Rattle.chain_base.specs.Chain.{Entry, entry_at, times as entry_times, insert_after, insert_before}
 use Rattle.chain_base.proofs.CallerLemmas.{entry_at-between, entry_at-between_other, Parted, insert_after-between, insert_before-between}
 use Rattle.ord_tree.specs.declared.tree_links.Side.TheVariants.{Lesser, Greater as OnGreater}
-use Rattle.ord_tree.specs.declared.node.SimpleOrdArenaNode.{SimpleOrdArenaNode as Node}
-use Rattle.ord_tree.specs.Node.{indexes, bare_entry}
-use Rattle.ord_tree.specs.Leaf.{beside}
-use Rattle.ord_tree.specs.Tree.{put_on}
-use Rattle.ord_tree.specs.LeafBranch.{side_at}
+use Rattle.ord_tree.specs.{declared.node.SimpleOrdArenaNode.SimpleOrdArenaNode as Node, Node.indexes, Node.bare_entry, LeafBranch.side_at}
+use Rattle.ord_tree.specs.{Leaf.beside, Tree.put_on}
 
 module _ {T : Type 0} where
   after-indexes : (es : List (Entry T)) (i : ℕ) (new : Entry T) → indexes (insert_after i new es) ≡ beside OnGreater i new.index (indexes es)

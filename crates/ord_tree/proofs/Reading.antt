@@ -1,17 +1,12 @@
 -- What the reads before a change say of the shapes that stand there.
 use Rattle.std.proofs.Common.{◌≡◌, ◌≢◌, ℕ, ◌+◌, Option, Some, List, sym, ◌∙◌, ap, option_map, is_some, true}
-use Rattle.ord_tree.specs.declared.tree_links.Side.{Side}
-use Rattle.ord_tree.specs.declared.tree_links.TreeLinks.{TreeLinks}
-use Rattle.ord_tree.specs.TreeLinks.{other_side, child_at, numbered}
-use Rattle.ord_tree.specs.Shape.{rank_of, root_of}
-use Rattle.ord_tree.specs.Slots.{Slots, rank_at}
+use Rattle.ord_tree.specs.{TreeLinks.other_side, TreeLinks.child_at, TreeLinks.numbered, declared.tree_links.TreeLinks.TreeLinks}
+use Rattle.ord_tree.specs.{declared.tree_links.Side.Side, Shape.rank_of, Shape.root_of, Slots.Slots, Slots.rank_at, Demote.IsFallen}
 use Rattle.ord_tree.specs.Rotate.{Site}
-use Rattle.ord_tree.specs.Demote.{IsFallen}
-use Rattle.ord_tree.proofs.Rotations.{child-numbered}
-use Rattle.ord_tree.proofs.LeafBranches.{is_some-mapped}
+use Rattle.ord_tree.proofs.Promoting.{IsRisingUnder, z_rank, y_rank as risen_rank, z_child, z_not_far, sibling_rank, sibling_occupied}
 use Rattle.ord_tree.proofs.Doubles.{high_rank, low_rank as site_low, outer_rank, inner_rank, inner_root}
 use Rattle.ord_tree.proofs.Demoting.{y_rank as fallen_rank, low_rank as fallen_low, far_root, far_rank}
-use Rattle.ord_tree.proofs.Promoting.{IsRisingUnder, z_rank, y_rank as risen_rank, z_child, z_not_far, sibling_rank, sibling_occupied}
+use Rattle.ord_tree.proofs.{LeafBranches.is_some-mapped, Rotations.child-numbered}
 
 module _ {I : Type 0} (number : I → ℕ) where
   -- what a link leads to, as a number

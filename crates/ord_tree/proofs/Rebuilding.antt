@@ -1,25 +1,16 @@
 -- The steps of a rebuild: opening a run, meeting an entry, ending a run.
 use Rattle.std.proofs.Common.{◌≡◌, ◌≢◌, ℕ, zero, suc, ◌+◌, ◌-◌, ◌*◌, ◌/◌, ◌^◌, ◌<◌, ◌≤◌, inr, ⊎_elim, Option, Some, None, List, [], ◌∷◌, ◌++◌, length, length-append, append_assoc, arith, refl, sym, ◌∙◌, ap, subst, is_some, true, slice_get}
-use Rattle.std.proofs.lemmas.Grind.{common_steps}
-use Rattle.std.proofs.Math.Nat.{mul-le-mul_right, one-le-pow, pow-suc, two-pow-succ}
-use Rattle.std.proofs.Math.Pow.{pow_mono}
-use Rattle.std.proofs.lemmas.Bool.{cases_lt, eq-eqb}
-use Rattle.std.proofs.lemmas.Nat.{leading_length}
+use Rattle.std.proofs.{Math.Nat.mul-le-mul_right, Math.Nat.one-le-pow, Math.Nat.pow-suc, Math.Nat.two-pow-succ, lemmas.Grind.common_steps}
+use Rattle.std.proofs.{lemmas.Bool.cases_lt, lemmas.Bool.eq-eqb, lemmas.Nat.leading_length, lemmas.List.append-nil, Math.Pow.pow_mono}
 use Rattle.std.specs.Int.Count.{count_leading_zeros}
-use Rattle.std.proofs.lemmas.List.{append-nil}
-use Rattle.ord_tree.specs.declared.tree_links.Side.{Side}
-use Rattle.ord_tree.specs.declared.tree_links.Side.TheVariants.{Lesser, Greater}
-use Rattle.ord_tree.specs.declared.tree_links.TreeLinks.{TreeLinks}
-use Rattle.ord_tree.specs.declared.rebuild.Frame.{Frame}
-use Rattle.ord_tree.specs.Shape.{Shape, missing, node, fork, size_of, walk}
-use Rattle.ord_tree.specs.Slots.{Slots, Holds, Way, top, up, plug, here, times, times_in, times_way, IsOnce}
-use Rattle.ord_tree.specs.Half.{half_rank, IsHalf, IsRebuilt}
-use Rattle.ord_tree.specs.Numbers.{IsTop}
-use Rattle.ord_tree.specs.Leaf.{list_head, following}
 use Rattle.ord_tree.specs.Rebuild.{ahead, behind, IsFacing, IsFew, IsPlan, IsMiddle, IsStack, IsUnopened, IsFinished, IsReady, IsOpening, IsPassing}
+use Rattle.ord_tree.specs.Slots.{Slots, Holds, Way, top, up, plug, here, times, times_in, times_way, IsOnce}
+use Rattle.ord_tree.specs.{declared.tree_links.Side.TheVariants.Lesser, declared.tree_links.Side.TheVariants.Greater, Numbers.IsTop}
+use Rattle.ord_tree.specs.{Shape.Shape, Shape.missing, Shape.node, Shape.fork, Shape.size_of, Shape.walk, Leaf.list_head, Leaf.following}
+use Rattle.ord_tree.specs.{Half.half_rank, Half.IsHalf, Half.IsRebuilt, declared.tree_links.TreeLinks.TreeLinks}
+use Rattle.ord_tree.specs.{declared.tree_links.Side.Side, declared.rebuild.Frame.Frame}
 use Rattle.ord_tree.proofs.Forks.{here-same, times-append, times-walk, times_in-plug, link-root, apart-from}
-use Rattle.ord_tree.proofs.Halves.{rebuilt_exists, size_of-walk}
-use Rattle.ord_tree.proofs.Frames.{root-in, Holds-frame, Holds-rehung}
+use Rattle.ord_tree.proofs.{Frames.root-in, Frames.Holds-frame, Frames.Holds-rehung, Halves.rebuilt_exists, Halves.size_of-walk}
 use Rattle.ord_tree.proofs.Rotations.{occupied-link}
 
 -- how many steps a way has

@@ -1,24 +1,17 @@
 -- What the code of a removal finds at each of its steps.
 use Rattle.std.proofs.Common.{◌≡◌, ℕ, ◌+◌, ◌≤◌, Option, Some, None, List, [], ◌∷◌, ◌++◌, map, arith, refl, sym, ◌∙◌, ap, subst, option_map, is_some, true, append_assoc, MatchOption}
-use Rattle.std.specs.Option.{IsSomeAnd}
 use Rattle.std.proofs.lemmas.List.{map-append}
-use Rattle.ord_tree.specs.declared.tree_links.Side.{Side}
-use Rattle.ord_tree.specs.declared.tree_links.Side.TheVariants.{Lesser, Greater}
-use Rattle.ord_tree.specs.declared.tree_links.TreeLinks.{TreeLinks}
-use Rattle.ord_tree.specs.declared.tree_links.Branch.{Branch}
-use Rattle.ord_tree.specs.Shape.{Shape, fork, rank_of, walk}
+use Rattle.std.specs.Option.{IsSomeAnd}
 use Rattle.ord_tree.specs.Slots.{Slots, Holds, Way, top, plug, above, HoldsWay, here, times}
-use Rattle.ord_tree.specs.Balance.{IsOver}
-use Rattle.ord_tree.specs.Promote.{IsBuilt}
-use Rattle.ord_tree.specs.Demote.{IsFallen}
 use Rattle.ord_tree.specs.Detach.{without, stand_in, renamed, IsLoose, CanStandIn, IsDetachable}
-use Rattle.ord_tree.proofs.Forks.{Holds-plug, HoldsFork-holds, here-same, times-append, times-walk}
-use Rattle.ord_tree.proofs.Spots.{Spot, spot_in}
-use Rattle.ord_tree.proofs.Demoting.{BuiltOrFallen}
-use Rattle.ord_tree.proofs.Cutting.{without-split, times-without, length-without}
-use Rattle.ord_tree.proofs.Neighbours.{BeforeIn, before_in, previous-neighbour, first-within}
-use Rattle.ord_tree.proofs.Standing.{stand_in-same}
+use Rattle.ord_tree.specs.{declared.tree_links.Side.TheVariants.Lesser, declared.tree_links.Side.TheVariants.Greater, Promote.IsBuilt}
+use Rattle.ord_tree.specs.{Shape.Shape, Shape.fork, Shape.rank_of, Shape.walk, declared.tree_links.TreeLinks.TreeLinks, Demote.IsFallen}
+use Rattle.ord_tree.specs.{declared.tree_links.Branch.Branch, declared.tree_links.Side.Side, Balance.IsOver}
 use Rattle.ord_tree.proofs.Displacing.{renamed_way, renamed-fork, renamed-plug, rank-renamed, IsBalanced-renamed, IsBalancedWay-renamed, walk-renamed, map-absent, plug_held}
+use Rattle.ord_tree.proofs.Neighbours.{BeforeIn, before_in, previous-neighbour, first-within}
+use Rattle.ord_tree.proofs.Forks.{Holds-plug, HoldsFork-holds, here-same, times-append, times-walk}
+use Rattle.ord_tree.proofs.{Cutting.without-split, Cutting.times-without, Cutting.length-without, Spots.Spot, Spots.spot_in}
+use Rattle.ord_tree.proofs.{Demoting.BuiltOrFallen, Standing.stand_in-same}
 
 -- the other branch is the first, with v for z
 abbrev pub IsRenamed : {I : Type 0} → (I → ℕ) → ℕ → ℕ → Option (Branch I) → Option (Branch I) → Type 0

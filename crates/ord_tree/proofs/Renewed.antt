@@ -1,12 +1,10 @@
 -- A new pointer for an entry: the tree stays.
 use Rattle.std.proofs.Common.{arith, ◌≡◌, ℕ, Option, Some, None, List, [], ◌∷◌, map, refl, sym, ◌∙◌, ap, is_some, option_map, OnSome, IfNone, subst}
 use Rattle.std.proofs.lemmas.Grind.{common_steps}
-use Rattle.arena_base.specs.Arena.{item_if}
-use Rattle.arena_base.specs.Generation.{next_generation}
+use Rattle.arena_base.specs.{Generation.next_generation, Arena.item_if}
 use Rattle.chain_base.specs.Chain.{Entry, Chain, entry_at, item_of, with_generation, renewed}
-use Rattle.ord_tree.specs.declared.node.SimpleOrdArenaNode.{SimpleOrdArenaNode as Node}
+use Rattle.ord_tree.specs.{declared.node.SimpleOrdArenaNode.SimpleOrdArenaNode as Node, Layout.shape_in, Layout.tree_of, Layout.IsLaidOut}
 use Rattle.ord_tree.specs.Node.{bare_entry, bare, entry_in, indexes}
-use Rattle.ord_tree.specs.Layout.{shape_in, tree_of, IsLaidOut}
 use Rattle.ord_tree.proofs.Trees.{links_at, entry_at-bare, IsLaidOut-linked, shape_in-linked, either_option, on_some, if_none}
 
 module _ {P T I G : Type 0} where

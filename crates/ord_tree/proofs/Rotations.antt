@@ -1,13 +1,11 @@
 -- What the four writes of a rotation come to.
 use Rattle.std.proofs.Common.{◌≡◌, ◌≢◌, ℕ, ◌+◌, ◌<◌, ◌≤◌, Option, Some, None, arith, refl, sym, ◌∙◌, ap, subst, inl, inr, ⊎_elim, ◌⊎◌, option_map, is_some, true}
 use Rattle.std.proofs.lemmas.Bool.{cases_eq}
-use Rattle.ord_tree.specs.declared.tree_links.Side.{Side}
-use Rattle.ord_tree.specs.declared.tree_links.Side.TheVariants.{Lesser, Greater}
-use Rattle.ord_tree.specs.declared.tree_links.TreeLinks.{TreeLinks}
-use Rattle.ord_tree.specs.TreeLinks.{other_side, child_at, with_child_at, numbered}
-use Rattle.ord_tree.specs.Shape.{Shape, missing, node, fork, root_of}
 use Rattle.ord_tree.specs.Slots.{Slots, Holds, Way, top, up, above, HoldsWay, here, times_in, times_way, back_at}
-use Rattle.ord_tree.specs.Rotate.{Site, IsRotated}
+use Rattle.ord_tree.specs.declared.tree_links.Side.TheVariants.{Lesser, Greater}
+use Rattle.ord_tree.specs.TreeLinks.{other_side, child_at, with_child_at, numbered}
+use Rattle.ord_tree.specs.{Shape.Shape, Shape.missing, Shape.node, Shape.fork, Shape.root_of, declared.tree_links.TreeLinks.TreeLinks}
+use Rattle.ord_tree.specs.{declared.tree_links.Side.Side, Rotate.Site, Rotate.IsRotated}
 use Rattle.ord_tree.proofs.Forks.{HoldsFork-holds, Holds-fork, here-same, times_in-fork, apart-from, link-root, child-with_child, other_child-with_child, child-with_other, other_child-with_other}
 use Rattle.ord_tree.proofs.Frames.{root-in, Holds-frame, HoldsWay-frame, Holds-rehung, IsReplaced, HoldsWay-replaced}
 

@@ -1,26 +1,17 @@
 -- A removal: from the tree without a node to the chain without its entry.
 use Rattle.std.proofs.Common.{◌≡◌, ℕ, ◌+◌, ◌<◌, ◌≤◌, ◌^◌, Option, Some, None, List, [], ◌∷◌, map, length, arith, refl, sym, ◌∙◌, ap, subst, is_some, true, option_map}
-use Rattle.std.proofs.lemmas.Grind.{common_steps}
-use Rattle.std.proofs.lemmas.List.{length-map}
+use Rattle.std.proofs.{lemmas.Grind.common_steps, lemmas.List.length-map}
 use Rattle.chain_base.specs.Chain.{Entry, Chain, entry_at, link_at, IsSound, removed, without as entries_without}
 use Rattle.chain_base.specs.Link.{Link}
-use Rattle.ord_tree.specs.declared.node.SimpleOrdArenaNode.{SimpleOrdArenaNode as Node}
-use Rattle.ord_tree.specs.Shape.{Shape, walk}
-use Rattle.ord_tree.specs.Slots.{Holds, times, IsOnce, MovesBacks}
-use Rattle.ord_tree.specs.Promote.{IsBuilt}
-use Rattle.ord_tree.specs.Leaf.{previous}
-use Rattle.ord_tree.specs.Detach.{without, IsDetachable}
-use Rattle.ord_tree.specs.Node.{bare_entry, bare, entry_in, links_in, slots_of, indexes}
+use Rattle.ord_tree.specs.{Node.bare_entry, Node.bare, Node.entry_in, Node.links_in, Node.slots_of, Node.indexes, Shape.Shape, Shape.walk}
+use Rattle.ord_tree.specs.{declared.node.SimpleOrdArenaNode.SimpleOrdArenaNode as Node, Detach.without, Detach.IsDetachable, Leaf.previous}
+use Rattle.ord_tree.specs.{Slots.Holds, Slots.times, Slots.IsOnce, Slots.MovesBacks, Layout.shape_in, Layout.IsLaidOut, Promote.IsBuilt}
 use Rattle.ord_tree.specs.Tree.{IsShrunk}
-use Rattle.ord_tree.specs.Layout.{shape_in, IsLaidOut}
 use Rattle.arena_base.proofs.CallerLemmas.{limit_of-below}
 use Rattle.chain_base.proofs.CallerLemmas.{entry_at-link, entry_at-without_other}
-use Rattle.ord_tree.proofs.Slack.{IsRanked-balanced, IsBalanced-ranked}
-use Rattle.ord_tree.proofs.Forks.{times-walk, apart-from}
-use Rattle.ord_tree.proofs.Frames.{Holds-frame}
-use Rattle.ord_tree.proofs.Views.{MovesAtMost-backs}
-use Rattle.ord_tree.proofs.Trees.{entry_at-bare, is_some-bare, indexes-bare, shape_in-held}
-use Rattle.ord_tree.proofs.LeafBranches.{IsOnce-distinct, within-occupied}
+use Rattle.ord_tree.proofs.{Trees.entry_at-bare, Trees.is_some-bare, Trees.indexes-bare, Trees.shape_in-held, Views.MovesAtMost-backs}
+use Rattle.ord_tree.proofs.{LeafBranches.IsOnce-distinct, LeafBranches.within-occupied, Slack.IsRanked-balanced, Slack.IsBalanced-ranked}
+use Rattle.ord_tree.proofs.{Forks.times-walk, Forks.apart-from, Frames.Holds-frame}
 
 -- a list without one of its indexes
 pub times-without_same : (i : ℕ) (xs : List ℕ) → times i xs ≤ 1 → times i (without i xs) ≡ 0

@@ -1,13 +1,10 @@
 -- Rank rules and sizes: how long a way down can be, and how few nodes a rank needs.
 use Rattle.std.proofs.Common.{◌≡◌, ℕ, zero, suc, ◌+◌, ◌*◌, ◌^◌, ◌<◌, ◌≤◌, arith, ⊎_elim}
-use Rattle.std.proofs.Math.Nat.{mul-le-mul, mul-le-mul_left, two-pow-succ}
-use Rattle.std.proofs.Math.Numerals.{add-one, add-two}
+use Rattle.std.proofs.{Math.Nat.mul-le-mul, Math.Nat.mul-le-mul_left, Math.Nat.two-pow-succ, Math.Numerals.add-one, Math.Numerals.add-two}
 use Rattle.std.proofs.lemmas.Bool.{cases_lt}
 use borrow.Author.Numbers.{squared}
-use Rattle.ord_tree.specs.Shape.{Shape, missing, node, rank_of, size_of}
-use Rattle.ord_tree.specs.Ranks.{IsRankOver, IsRanked, IsTight}
-use Rattle.ord_tree.specs.Numbers.{fib}
-use Rattle.ord_tree.specs.Laws.{HeightLaw, RankSquareLaw, TightRankLaw}
+use Rattle.ord_tree.specs.{Shape.Shape, Shape.missing, Shape.node, Shape.rank_of, Shape.size_of, Numbers.fib}
+use Rattle.ord_tree.specs.{Laws.HeightLaw, Laws.RankSquareLaw, Laws.TightRankLaw, Ranks.IsRankOver, Ranks.IsRanked, Ranks.IsTight}
 
 pub height-le-rank : HeightLaw
 height-le-rank missing h = omega arith

@@ -1,12 +1,9 @@
 -- Balance with a slack, and the rank rules with and without tightness.
 use Rattle.std.proofs.Common.{◌≡◌, ℕ, ◌+◌, ◌*◌, ◌^◌, ◌<◌, ◌≤◌, arith, inl, inr, ⊎_elim, ◌⊎◌}
-use Rattle.std.proofs.Math.Nat.{mul-le-mul}
-use Rattle.std.proofs.lemmas.Bool.{cases_lt}
-use Rattle.ord_tree.specs.declared.tree_links.Side.{Side}
+use Rattle.std.proofs.{lemmas.Bool.cases_lt, Math.Nat.mul-le-mul}
 use Rattle.ord_tree.specs.declared.tree_links.Side.TheVariants.{Lesser, Greater}
-use Rattle.ord_tree.specs.Shape.{Shape, missing, node, fork, rank_of, size_of}
-use Rattle.ord_tree.specs.Ranks.{IsRanked, IsTight}
-use Rattle.ord_tree.specs.Balance.{IsBalanced, IsUneven}
+use Rattle.ord_tree.specs.{Shape.Shape, Shape.missing, Shape.node, Shape.fork, Shape.rank_of, Shape.size_of, declared.tree_links.Side.Side}
+use Rattle.ord_tree.specs.{Balance.IsBalanced, Balance.IsUneven, Ranks.IsRanked, Ranks.IsTight}
 use Rattle.ord_tree.proofs.Sizes.{nodes_over_rank}
 
 pub IsRanked-balanced : (slack : ℕ) (s : Shape) → IsBalanced slack s → IsRanked s

@@ -1,16 +1,11 @@
 -- Where an index stands in a tree, and what stands before and behind it.
 use Rattle.std.proofs.Common.{◌≡◌, ◌≢◌, ℕ, ◌+◌, ◌<◌, ◌≤◌, Option, Some, List, [], ◌∷◌, ◌++◌, length, arith, refl, sym, ◌∙◌, ap, subst, ⊎_elim, append_assoc}
-use Rattle.std.proofs.lemmas.Grind.{common_steps}
-use Rattle.std.proofs.lemmas.Bool.{cases_eq, cases_lt, eq-eqb}
-use Rattle.ord_tree.specs.declared.tree_links.Side.{Side}
-use Rattle.ord_tree.specs.declared.tree_links.Side.TheVariants.{Lesser, Greater}
-use Rattle.ord_tree.specs.declared.tree_links.TreeLinks.{TreeLinks}
-use Rattle.ord_tree.specs.Shape.{Shape, missing, node, fork, rank_of, walk}
+use Rattle.std.proofs.{lemmas.Bool.cases_eq, lemmas.Bool.cases_lt, lemmas.Bool.eq-eqb, lemmas.Grind.common_steps}
 use Rattle.ord_tree.specs.Slots.{Slots, Holds, Way, top, up, plug, above, HoldsWay, here, times, times_in}
-use Rattle.ord_tree.specs.Balance.{IsBalanced, IsBalancedWay}
-use Rattle.ord_tree.specs.Leaf.{paired, beside}
-use Rattle.ord_tree.proofs.Forks.{HoldsFork-holds, rank-fork, here-other, fork_balanced}
-use Rattle.ord_tree.proofs.Rotations.{ForkAt}
+use Rattle.ord_tree.specs.declared.tree_links.Side.TheVariants.{Lesser, Greater}
+use Rattle.ord_tree.specs.{Shape.Shape, Shape.missing, Shape.node, Shape.fork, Shape.rank_of, Shape.walk, declared.tree_links.Side.Side}
+use Rattle.ord_tree.specs.{Balance.IsBalanced, Balance.IsBalancedWay, declared.tree_links.TreeLinks.TreeLinks, Leaf.paired, Leaf.beside}
+use Rattle.ord_tree.proofs.{Forks.HoldsFork-holds, Forks.rank-fork, Forks.here-other, Forks.fork_balanced, Rotations.ForkAt}
 
 -- y stands at the end of a way; told from a side
 pub record Spot (at : Slots) (root : Option ℕ) (side : Side) (y : ℕ) (whole : Shape) : Type 0 where

@@ -1,17 +1,14 @@
 -- A node stands in the place of another.
 use Rattle.std.proofs.Common.{◌≡◌, ◌≢◌, ℕ, ◌+◌, ◌<◌, Option, Some, None, [], ◌∷◌, ◌++◌, arith, refl, sym, ◌∙◌, ap, subst, inl, inr, ⊎_elim, option_map, is_some, true, length-append}
-use Rattle.std.proofs.lemmas.Grind.{common_steps}
+use Rattle.std.proofs.{lemmas.Bool.cases_eq, lemmas.Bool.eq-eqb, lemmas.Bool.ne_eqb, lemmas.Grind.common_steps}
 use Rattle.std.specs.Option.{option_to_list}
-use Rattle.std.proofs.lemmas.Bool.{cases_eq, eq-eqb, ne_eqb}
-use Rattle.ord_tree.specs.declared.tree_links.Side.TheVariants.{Lesser, Greater}
-use Rattle.ord_tree.specs.declared.tree_links.TreeLinks.{TreeLinks}
-use Rattle.ord_tree.specs.Shape.{Shape, missing, node, root_of}
 use Rattle.ord_tree.specs.Slots.{Slots, Holds, Way, top, up, plug, above, HoldsWay, here, times_in, times_way, MovesBacks}
-use Rattle.ord_tree.specs.Detach.{stand_in, renamed, CanStandIn}
-use Rattle.ord_tree.proofs.Forks.{Holds-plug, link-root, here-same, times_in-plug, apart-from}
+use Rattle.ord_tree.specs.declared.tree_links.Side.TheVariants.{Lesser, Greater}
+use Rattle.ord_tree.specs.{Shape.Shape, Shape.missing, Shape.node, Shape.root_of, Detach.stand_in, Detach.renamed, Detach.CanStandIn}
+use Rattle.ord_tree.specs.declared.tree_links.TreeLinks.{TreeLinks}
 use Rattle.ord_tree.proofs.Frames.{occupied-above, root-in, HoldsWay-frame, Holds-rehung, IsReplaced, HoldsWay-replaced}
-use Rattle.ord_tree.proofs.Rotations.{above-in, occupied-link, cases_link}
-use Rattle.ord_tree.proofs.Spots.{Spot, spot_in}
+use Rattle.ord_tree.proofs.Forks.{Holds-plug, link-root, here-same, times_in-plug, apart-from}
+use Rattle.ord_tree.proofs.{Rotations.above-in, Rotations.occupied-link, Rotations.cases_link, Spots.Spot, Spots.spot_in}
 use Rattle.ord_tree.proofs.Doubles.{Among-root, Among-behind, length-root}
 
 -- another index stays

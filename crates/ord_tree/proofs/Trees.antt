@@ -1,21 +1,15 @@
 -- A tree that lies in a chain: what its view is, and what changes of the chain keep it.
 use Rattle.std.proofs.Common.{◌≡◌, ℕ, zero, suc, ◌+◌, ◌≤◌, Option, Some, None, List, [], ◌∷◌, map, length, arith, refl, sym, ◌∙◌, ap, subst, is_some, option_map, max, Result, Ok, Err, OnOk, OnErr, OnSome, IfNone}
-use Rattle.std.proofs.lemmas.Grind.{common_steps}
-use Rattle.std.proofs.lemmas.List.{length-map}
+use Rattle.std.proofs.{lemmas.Grind.common_steps, lemmas.List.length-map}
 use Rattle.chain_base.specs.Chain.{Entry, Chain, entry_at, times, with_item_among, with_item as chain_with_item, vacant_among, with_capacity, with_room, grown_capacity, greatest_index, IsSound}
 use Rattle.std.specs.Option.{ForSome}
-use Rattle.arena_base.specs.Arena.{times as times_among}
-use Rattle.arena_base.specs.Generation.{IsLawfulGeneration}
-use Rattle.ord_tree.specs.declared.node.SimpleOrdArenaNode.{SimpleOrdArenaNode as Node}
-use Rattle.ord_tree.specs.Shape.{Shape, missing, node, size_of, height, walk}
-use Rattle.ord_tree.specs.Slots.{Slots, Holds, shape_under}
+use Rattle.arena_base.specs.{Generation.IsLawfulGeneration, Arena.times as times_among}
+use Rattle.ord_tree.specs.{Layout.shape_in, Layout.tree_of, Layout.IsLaidOut, Layout.with_item_below, Layout.with_node_item, Ranks.IsRanked}
 use Rattle.ord_tree.specs.Node.{bare_entry, bare, entry_in, links_in, slots_of, indexes}
+use Rattle.ord_tree.specs.Shape.{Shape, missing, node, size_of, height, walk}
+use Rattle.ord_tree.specs.{declared.node.SimpleOrdArenaNode.SimpleOrdArenaNode as Node, Slots.Slots, Slots.Holds, Slots.shape_under}
 use Rattle.ord_tree.specs.Tree.{IsSoundTree, with_item}
-use Rattle.ord_tree.specs.Layout.{shape_in, tree_of, IsLaidOut, with_item_below, with_node_item}
-use Rattle.ord_tree.proofs.Halves.{size_of-walk}
-use Rattle.ord_tree.specs.Ranks.{IsRanked}
-use Rattle.ord_tree.proofs.Frames.{Holds-frame}
-use Rattle.ord_tree.proofs.Views.{shape_under-held}
+use Rattle.ord_tree.proofs.{Views.shape_under-held, Halves.size_of-walk, Frames.Holds-frame}
 
 -- nodes with the same links hold the same
 Holds-same : (old new : Slots) → ((j : ℕ) → new j ≡ old j) → (s : Shape) (over link : Option ℕ) → Holds old over link s → Holds new over link s

@@ -1,10 +1,9 @@
 -- The shape that nodes spell is a function of them, and their parents are the shape's.
 use Rattle.std.proofs.Common.{◌≡◌, ℕ, zero, suc, ◌≤◌, Option, Some, None, List, [], ◌∷◌, arith, refl, sym, ◌∙◌, ap, inl, inr, ⊎_elim}
-use Rattle.std.specs.List.{Contains}
 use Rattle.std.proofs.lemmas.List.Elements.{Contains-append_right}
-use Rattle.ord_tree.specs.Shape.{Shape, missing, node, height}
-use Rattle.ord_tree.specs.Parents.{HasParentUnder, MovesAtMost}
+use Rattle.std.specs.List.{Contains}
 use Rattle.ord_tree.specs.Slots.{Slots, Holds, Among, back_at, MovesBacks, shape_under}
+use Rattle.ord_tree.specs.{Shape.Shape, Shape.missing, Shape.node, Shape.height, Parents.HasParentUnder, Parents.MovesAtMost}
 
 pub shape_under-held : (n : ℕ) (at : Slots) (over link : Option ℕ) (s : Shape) → Holds at over link s → height s ≤ n → shape_under n at link ≡ s
 shape_under-held zero at over link missing h b = refl

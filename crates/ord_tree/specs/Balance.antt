@@ -1,7 +1,6 @@
 -- The rank rules and tightness in one, for the steps of a repair.
 use Rattle.std.specs.Prelude.{◌≡◌, ℕ, ◌+◌, ◌*◌, ◌<◌, ◌≤◌, ◌⊎◌}
-use Rattle.ord_tree.specs.Shape.{Shape, missing, node, rank_of}
-use Rattle.ord_tree.specs.Slots.{Way, top, up}
+use Rattle.ord_tree.specs.{Shape.Shape, Shape.missing, Shape.node, Shape.rank_of, Slots.Way, Slots.top, Slots.up}
 
 -- a node may have rank k over sides of ranks l and r; where the slack is 0 its two differences are not both 2
 pub record IsOver (slack k l r : ℕ) : Type 0 where

@@ -1,13 +1,9 @@
 -- What a clone of one tree into another is: the source's pointers in its order, in a tree of its shape, with items that are made of
 -- the source's.
-use Rattle.std.specs.Prelude.{◌≡◌, ℕ, Result}
-use Rattle.std.specs.Borrow.{Bor}
-use Rattle.std.specs.declared.alloc.AllocError.{AllocError}
+use Rattle.std.specs.{Prelude.◌≡◌, Prelude.ℕ, Prelude.Result, declared.alloc.AllocError.AllocError, Borrow.Bor}
 use Rattle.arena_base.specs.Clone.{Grants, IsShown}
-use Rattle.chain_base.specs.Link.{Link}
-use Rattle.chain_base.specs.Clone.{IsClone as IsClonedList, IsRefusedClone as IsRefusedList}
-use Rattle.ord_tree.specs.Shape.{missing}
-use Rattle.ord_tree.specs.Tree.{Tree}
+use Rattle.chain_base.specs.{Clone.IsClone as IsClonedList, Clone.IsRefusedClone as IsRefusedList, Link.Link}
+use Rattle.ord_tree.specs.{Shape.missing, Tree.Tree}
 
 -- a call by which a closure was shown the item at a link
 abbrev pub ShowsItem : {P U R F : Type 0} → (F → P → Bor U → R → F → Type 0) → F → P → Link U → R → F → Type 0

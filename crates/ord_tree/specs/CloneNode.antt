@@ -1,8 +1,6 @@
 -- How the node of a clone is made. No public clause cites this file.
-use Rattle.std.specs.Prelude.{◌≡◌, Result, Ok}
-use Rattle.std.specs.declared.alloc.AllocError.{AllocError}
-use Rattle.ord_tree.specs.declared.node.SimpleOrdArenaNode.{SimpleOrdArenaNode as Node}
-use Rattle.ord_tree.specs.Node.{links_in}
+use Rattle.std.specs.{Prelude.◌≡◌, Prelude.Result, Prelude.Ok, declared.alloc.AllocError.AllocError}
+use Rattle.ord_tree.specs.{declared.node.SimpleOrdArenaNode.SimpleOrdArenaNode as Node, Node.links_in}
 
 -- the call made an item of the node's item, and the new node has the node's links and rank
 pub record ClonesNode {P T U I G M : Type 0} (step : M → P → U → Result T AllocError → M → Type 0) (m : M) (p : P)

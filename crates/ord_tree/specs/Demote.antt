@@ -1,10 +1,8 @@
 -- The states of the repair after a removal.
 use Rattle.std.specs.Prelude.{◌≡◌, ℕ, ◌+◌, ◌^◌, ◌<◌, Option, Some, List, length}
-use Rattle.ord_tree.specs.declared.tree_links.Side.{Side}
-use Rattle.ord_tree.specs.Shape.{Shape, fork, rank_of, walk}
 use Rattle.ord_tree.specs.Slots.{Slots, Holds, Way, plug, above, HoldsWay, IsOnce, back_at, rank_at}
-use Rattle.ord_tree.specs.Balance.{IsOver, IsBalanced, IsBalancedWay}
-use Rattle.ord_tree.specs.Rotate.{Site}
+use Rattle.ord_tree.specs.{Balance.IsOver, Balance.IsBalanced, Balance.IsBalancedWay, Shape.Shape, Shape.fork, Shape.rank_of, Shape.walk}
+use Rattle.ord_tree.specs.{declared.tree_links.Side.Side, Rotate.Site}
 
 -- the nodes would spell a balanced tree over this list, if that side of y were higher by one: it has fallen
 pub record IsFallen (at : Slots) (root : Option ℕ) (y : ℕ) (side : Side) (order : List ℕ) : Type 0 where

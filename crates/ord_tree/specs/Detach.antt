@@ -1,12 +1,8 @@
 -- Taking a node out: the list without it, and what takes its place.
 use Rattle.std.specs.Prelude.{◌≡◌, ℕ, ◌^◌, ◌<◌, ◌≤◌, ◌==◌, if◌then◌else◌, Option, None, Some, List, [], ◌∷◌, length, IsSome}
-use Rattle.ord_tree.specs.declared.tree_links.Side.{Side}
-use Rattle.ord_tree.specs.declared.tree_links.TreeLinks.{TreeLinks}
-use Rattle.ord_tree.specs.TreeLinks.{child_at}
-use Rattle.ord_tree.specs.Shape.{Shape, missing, node}
-use Rattle.ord_tree.specs.Slots.{Slots, Holds, times, times_in, IsOnce}
+use Rattle.ord_tree.specs.{Slots.Slots, Slots.Holds, Slots.times, Slots.times_in, Slots.IsOnce, declared.tree_links.TreeLinks.TreeLinks}
+use Rattle.ord_tree.specs.{Shape.Shape, Shape.missing, Shape.node, declared.tree_links.Side.Side, TreeLinks.child_at, Promote.IsBuilt}
 use Rattle.ord_tree.specs.Leaf.{previous}
-use Rattle.ord_tree.specs.Promote.{IsBuilt}
 
 -- the list without this index
 abbrev pub without : ℕ → List ℕ → List ℕ

@@ -1,7 +1,6 @@
 -- The shape that a rebuild gives: each node stands in the middle of its run.
 use Rattle.std.specs.Prelude.{◌≡◌, ℕ, ◌+◌, ◌-◌, ◌/◌, nat_le, if◌then◌else◌}
-use Rattle.ord_tree.specs.Shape.{Shape, missing, node, size_of}
-use Rattle.ord_tree.specs.Numbers.{IsTop}
+use Rattle.ord_tree.specs.{Shape.Shape, Shape.missing, Shape.node, Shape.size_of, Numbers.IsTop}
 
 -- the rank over a run of n nodes: 1, 2, 3, 3 for the first four lengths, and q from five on
 abbrev pub half_rank : ℕ → ℕ → ℕ

@@ -1,9 +1,7 @@
 -- The laws of balance: what the rank rules say of a tree's size and of the ways down in it.
 use Rattle.std.specs.Prelude.{◌≡◌, ℕ, ◌+◌, ◌^◌, ◌<◌, ◌≤◌, List}
-use Rattle.ord_tree.specs.Shape.{Shape, rank_of, size_of, walk, height}
-use Rattle.ord_tree.specs.Ranks.{IsRanked, IsTight}
-use Rattle.ord_tree.specs.Numbers.{fib, HasDigits}
-use Rattle.ord_tree.specs.Half.{IsRebuilt}
+use Rattle.ord_tree.specs.{Shape.Shape, Shape.rank_of, Shape.size_of, Shape.walk, Shape.height, Numbers.fib, Numbers.HasDigits}
+use Rattle.ord_tree.specs.{Ranks.IsRanked, Ranks.IsTight, Half.IsRebuilt}
 
 -- no way down is longer than the root's rank
 abbrev pub HeightLaw : Type 0

@@ -1,12 +1,8 @@
 -- How a tree lies in a chain of nodes. No public clause cites this file.
 use Rattle.std.specs.Prelude.{◌≡◌, ℕ, Option, None, List, [], ◌∷◌, ◌==◌, if◌then◌else◌, length}
 use Rattle.chain_base.specs.Chain.{Entry, Chain}
-use Rattle.ord_tree.specs.declared.node.SimpleOrdArenaNode.{SimpleOrdArenaNode as Node}
-use Rattle.ord_tree.specs.Shape.{Shape, walk}
-use Rattle.ord_tree.specs.Ranks.{IsRanked}
-use Rattle.ord_tree.specs.Slots.{Holds, shape_under}
-use Rattle.ord_tree.specs.Node.{indexes, bare, slots_of}
-use Rattle.ord_tree.specs.Tree.{Tree}
+use Rattle.ord_tree.specs.{declared.node.SimpleOrdArenaNode.SimpleOrdArenaNode as Node, Node.indexes, Node.bare, Node.slots_of, Tree.Tree}
+use Rattle.ord_tree.specs.{Slots.Holds, Slots.shape_under, Shape.Shape, Shape.walk, Ranks.IsRanked}
 
 module _ {P T I G : Type 0} where
   -- the shape that a chain's nodes spell from this root

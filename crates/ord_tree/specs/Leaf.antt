@@ -1,10 +1,7 @@
 -- A new leaf: where it stands in the list, and what attaching it finds.
 use Rattle.std.specs.Prelude.{◌≡◌, ℕ, ◌+◌, ◌^◌, ◌<◌, ◌==◌, if◌then◌else◌, Option, None, Some, List, [], ◌∷◌, length}
-use Rattle.ord_tree.specs.declared.tree_links.Side.{Side}
-use Rattle.ord_tree.specs.declared.tree_links.Side.TheVariants.{Lesser, Greater}
-use Rattle.ord_tree.specs.declared.tree_links.TreeLinks.{TreeLinks}
-use Rattle.ord_tree.specs.TreeLinks.{child_at}
-use Rattle.ord_tree.specs.Slots.{Slots, times, IsOnce}
+use Rattle.ord_tree.specs.{declared.tree_links.Side.TheVariants.Lesser, declared.tree_links.Side.TheVariants.Greater, TreeLinks.child_at}
+use Rattle.ord_tree.specs.{declared.tree_links.TreeLinks.TreeLinks, Slots.Slots, Slots.times, Slots.IsOnce, declared.tree_links.Side.Side}
 use Rattle.ord_tree.specs.Promote.{IsBuilt}
 
 -- two indexes in a row, x on that side of y

@@ -1,16 +1,12 @@
 -- Where a new entry is put, in the list and in the tree. No public clause cites this file.
+use Rattle.std.specs.declared.cmp.Ordering.TheVariants.{Less, Equal, Greater}
 use Rattle.std.specs.Prelude.{◌≡◌, ℕ, ◌<◌, Option, None, Some, IsSomeAnd, List}
 use Rattle.std.specs.declared.cmp.Ordering.{Ordering}
-use Rattle.std.specs.declared.cmp.Ordering.TheVariants.{Less, Equal, Greater}
-use Rattle.chain_base.specs.declared.chain.insert.LinkInsertKind.{LinkInsertKind}
 use Rattle.chain_base.specs.declared.chain.insert.LinkInsertKind.TheVariants.{Disconnected, NextToInx, PrevToInx}
-use Rattle.ord_tree.specs.declared.tree_links.TreeLinks.{TreeLinks}
-use Rattle.ord_tree.specs.declared.tree_links.Branch.{Branch}
-use Rattle.ord_tree.specs.declared.tree_links.Side.{Side}
+use Rattle.chain_base.specs.declared.chain.insert.LinkInsertKind.{LinkInsertKind}
 use Rattle.ord_tree.specs.declared.tree_links.Side.TheVariants.{Lesser as OnLesser, Greater as OnGreater}
-use Rattle.ord_tree.specs.TreeLinks.{child_at}
-use Rattle.ord_tree.specs.Slots.{Slots, times}
-use Rattle.ord_tree.specs.Leaf.{beside}
+use Rattle.ord_tree.specs.{declared.tree_links.TreeLinks.TreeLinks, declared.tree_links.Branch.Branch, declared.tree_links.Side.Side}
+use Rattle.ord_tree.specs.{Slots.Slots, Slots.times, TreeLinks.child_at, Leaf.beside}
 
 -- the side of an entry on which another stands
 abbrev pub side_at : Ordering → Side

@@ -1,7 +1,7 @@
 -- How an item is made within a node. No public clause cites this file.
 use Rattle.std.specs.Prelude.{◌≡◌}
-use Rattle.arena_base.specs.Invalidation.{allowed_value, is_overflow}
 use Rattle.arena_base.specs.declared.invalidation.InvalidationOption.{InvalidationOption}
+use Rattle.arena_base.specs.Invalidation.{allowed_value, is_overflow}
 use Rattle.ord_tree.specs.declared.node.SimpleOrdArenaNode.{SimpleOrdArenaNode as Node}
 
 -- the call made a new item of the item of the node that was taken

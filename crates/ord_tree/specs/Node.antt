@@ -1,9 +1,7 @@
 -- What the nodes in a chain say: their links as numbers, and the list without them.
-use Rattle.std.specs.Prelude.{ℕ, List, map}
-use Rattle.std.specs.Option.{option_map}
+use Rattle.std.specs.{Prelude.ℕ, Prelude.List, Prelude.map, Option.option_map}
 use Rattle.chain_base.specs.Chain.{Entry, Chain, entry_at}
-use Rattle.ord_tree.specs.declared.tree_links.TreeLinks.{TreeLinks}
-use Rattle.ord_tree.specs.declared.node.SimpleOrdArenaNode.{SimpleOrdArenaNode as Node}
+use Rattle.ord_tree.specs.{declared.node.SimpleOrdArenaNode.SimpleOrdArenaNode as Node, declared.tree_links.TreeLinks.TreeLinks}
 use Rattle.ord_tree.specs.Slots.{Slots}
 
 -- the indexes of the entries, in order

@@ -1,10 +1,8 @@
 -- The states of the repair after an insertion.
 use Rattle.std.specs.Prelude.{◌≡◌, ℕ, ◌+◌, ◌*◌, ◌^◌, ◌<◌, Option, None, Some, List, length}
-use Rattle.ord_tree.specs.declared.tree_links.Side.{Side}
-use Rattle.ord_tree.specs.Shape.{Shape, fork, rank_of, walk}
 use Rattle.ord_tree.specs.Slots.{Slots, Holds, Way, plug, above, HoldsWay, IsOnce, back_at, rank_at, MovesBacks}
-use Rattle.ord_tree.specs.Balance.{IsBalanced, IsBalancedWay, IsUneven}
-use Rattle.ord_tree.specs.Rotate.{Site}
+use Rattle.ord_tree.specs.{Balance.IsBalanced, Balance.IsBalancedWay, Balance.IsUneven, Shape.Shape, Shape.fork, Shape.rank_of, Shape.walk}
+use Rattle.ord_tree.specs.{declared.tree_links.Side.Side, Rotate.Site}
 
 -- the nodes spell a balanced tree over this list
 pub record IsBuilt (at : Slots) (root : Option ℕ) (order : List ℕ) (slack : ℕ) : Type 0 where

@@ -1,14 +1,9 @@
 -- The states of a rebuild: what the stack of open runs says of the shape that is being built.
 use Rattle.std.specs.Prelude.{◌≡◌, ℕ, ◌+◌, ◌^◌, ◌<◌, ◌≤◌, ◌⊎◌, Option, None, Some, List, [], ◌∷◌, ◌++◌, length, IsSome}
-use Rattle.ord_tree.specs.declared.tree_links.Side.{Side}
-use Rattle.ord_tree.specs.declared.tree_links.Side.TheVariants.{Lesser, Greater}
-use Rattle.ord_tree.specs.declared.tree_links.TreeLinks.{TreeLinks}
-use Rattle.ord_tree.specs.declared.rebuild.Frame.{Frame}
-use Rattle.ord_tree.specs.Shape.{Shape, size_of, walk}
-use Rattle.ord_tree.specs.Slots.{Slots, Holds, Way, top, up, plug, times_in}
-use Rattle.ord_tree.specs.Numbers.{HasDigits}
-use Rattle.ord_tree.specs.Half.{IsHalf}
-use Rattle.ord_tree.specs.Leaf.{list_head}
+use Rattle.ord_tree.specs.{declared.tree_links.Side.TheVariants.Lesser, declared.tree_links.Side.TheVariants.Greater, Numbers.HasDigits}
+use Rattle.ord_tree.specs.{Slots.Slots, Slots.Holds, Slots.Way, Slots.top, Slots.up, Slots.plug, Slots.times_in, Leaf.list_head}
+use Rattle.ord_tree.specs.{declared.tree_links.TreeLinks.TreeLinks, Shape.Shape, Shape.size_of, Shape.walk, declared.tree_links.Side.Side}
+use Rattle.ord_tree.specs.{declared.rebuild.Frame.Frame, Half.IsHalf}
 
 -- what comes behind the end of a way, in order
 abbrev pub ahead : Way → List ℕ

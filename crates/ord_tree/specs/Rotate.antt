@@ -1,8 +1,7 @@
 -- What a rotation finds and what it leaves.
 use Rattle.std.specs.Prelude.{◌≡◌, ℕ, ◌⊎◌, Option, Some}
-use Rattle.ord_tree.specs.declared.tree_links.Side.{Side}
-use Rattle.ord_tree.specs.Shape.{Shape, fork, root_of}
 use Rattle.ord_tree.specs.Slots.{Slots, Holds, Way, above, HoldsWay, back_at, IsApart}
+use Rattle.ord_tree.specs.{Shape.Shape, Shape.fork, Shape.root_of, declared.tree_links.Side.Side}
 
 -- z stands at the end of a way, and y on that side of it, nearer to `outer` than to `inner`
 pub record Site (at : Slots) (root : Option ℕ) (side : Side) (z y : ℕ) : Type 0 where

@@ -1,16 +1,11 @@
 -- A tree as its users see it: one list of entries, with a shape.
 use Rattle.std.specs.Prelude.{◌≡◌, ◌≢◌, ℕ, Option, None, Some, List, [], ◌∷◌, refl}
-use Rattle.std.specs.declared.cmp.Ordering.{Ordering}
 use Rattle.std.specs.declared.cmp.Ordering.TheVariants.{Less, Equal, Greater}
 use Rattle.std.specs.Coded.{Coded, code_by, coded×, coded_ℕ, coded_list, coded_option}
+use Rattle.std.specs.declared.cmp.Ordering.{Ordering}
 use Rattle.chain_base.specs.Chain.{Entry, Chain, insert_after, insert_before, with_item as chain_with_item, IsOccupied}
-use Rattle.ord_tree.specs.Shape.{Shape, root_of, walk}
-use Rattle.ord_tree.specs.ShapeCode.{shape_code}
-use Rattle.ord_tree.specs.Ranks.{IsRanked, IsTight}
-use Rattle.ord_tree.specs.Parents.{MovesAtMost}
-use Rattle.ord_tree.specs.Slots.{Holds}
-use Rattle.ord_tree.specs.Node.{indexes, bare, slots_of}
-use Rattle.ord_tree.specs.declared.node.SimpleOrdArenaNode.{SimpleOrdArenaNode as Node}
+use Rattle.ord_tree.specs.{declared.node.SimpleOrdArenaNode.SimpleOrdArenaNode as Node, Shape.Shape, Shape.root_of, Shape.walk, Slots.Holds}
+use Rattle.ord_tree.specs.{Node.indexes, Node.bare, Node.slots_of, Ranks.IsRanked, Ranks.IsTight, ShapeCode.shape_code, Parents.MovesAtMost}
 
 -- the list of entries with the numbers around it, as a chain arena has them, and the shape over the entries' indexes
 pub record Tree (T : Type 0) : Type 0 where

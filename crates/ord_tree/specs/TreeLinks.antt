@@ -1,8 +1,7 @@
 -- The tree links of a node: parent, sides and rank.
 use Rattle.std.specs.Prelude.{ℕ, Option, option_map}
-use Rattle.ord_tree.specs.declared.tree_links.Side.{Side}
 use Rattle.ord_tree.specs.declared.tree_links.Side.TheVariants.{Lesser, Greater}
-use Rattle.ord_tree.specs.declared.tree_links.TreeLinks.{TreeLinks}
+use Rattle.ord_tree.specs.{declared.tree_links.TreeLinks.TreeLinks, declared.tree_links.Side.Side}
 
 -- the opposite side
 abbrev pub other_side : Side → Side

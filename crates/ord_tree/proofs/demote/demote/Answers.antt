@@ -1,6 +1,5 @@
 use Rattle.std.proofs.Common.{sym, ◌∙◌, ap, subst, option_map, arith}
-use Rattle.ord_tree.specs.declared.tree_links.Side.{Side}
-use Rattle.ord_tree.specs.Demote.{IsLeaning}
+use Rattle.ord_tree.specs.{declared.tree_links.Side.Side, Demote.IsLeaning}
 use Rattle.ord_tree.proofs.Demoting.{IsRepaired-stop, IsDemoted-written, IsOver-bare, IsLeaning-fallen}
 use Rattle.ord_tree.proofs.Reading.{low-read, fallen-read, far-read, sibling-read}
 use Rattle.ord_tree.proofs.demote.demote.Goals as goal

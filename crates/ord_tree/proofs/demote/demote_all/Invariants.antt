@@ -1,6 +1,5 @@
 use Rattle.std.proofs.Common.{◌≡◌, ℕ, ◌-◌, Some, List, option_map}
-use Rattle.ord_tree.specs.Slots.{back_at, rank_at}
-use Rattle.ord_tree.specs.Demote.{IsFallen}
+use Rattle.ord_tree.specs.{Slots.back_at, Slots.rank_at, Demote.IsFallen}
 use Rattle.ord_tree.proofs.demote.demote_all.Given as goal
 
 -- what has fallen when the repair began has fallen here, and no node has another parent

@@ -1,11 +1,8 @@
 use Rattle.std.proofs.Common.{ℕ, ◌-◌, sym, ap, subst, option_map, is_some, arith}
-use Rattle.ord_tree.specs.declared.tree_links.Side.{Side}
-use Rattle.ord_tree.specs.TreeLinks.{numbered}
-use Rattle.ord_tree.specs.Rotate.{Site, IsRotated}
-use Rattle.ord_tree.proofs.Frames.{IsReranked}
-use Rattle.ord_tree.proofs.Doubles.{site_below, site_above}
+use Rattle.ord_tree.specs.{declared.tree_links.Side.Side, Rotate.Site, Rotate.IsRotated, TreeLinks.numbered}
 use Rattle.ord_tree.proofs.Leaning.{low-small, inner_some, IsRepaired-lifted, IsRepaired-between, IsDemoted-both}
-use Rattle.ord_tree.proofs.Reading.{site_read, inner-read, inner-there}
+use Rattle.ord_tree.proofs.{Reading.site_read, Reading.inner-read, Reading.inner-there, Doubles.site_below, Doubles.site_above}
+use Rattle.ord_tree.proofs.Frames.{IsReranked}
 use Rattle.ord_tree.proofs.demote.demote_or_rotate.Goals as goal
 
 pub overflow_add-inner : goal.overflow_add-inner

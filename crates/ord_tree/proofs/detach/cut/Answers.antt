@@ -1,8 +1,7 @@
 use Rattle.std.proofs.Common.{sym, ◌∙◌, subst, option_map}
 use Rattle.ord_tree.specs.TreeLinks.{numbered}
-use Rattle.ord_tree.proofs.Frames.{IsReplaced}
-use Rattle.ord_tree.proofs.Reading.{child_other-read}
 use Rattle.ord_tree.proofs.Cutting.{v_occupied, rest_occupied, parent_occupied, moves_one, cut_branch}
+use Rattle.ord_tree.proofs.{Reading.child_other-read, Frames.IsReplaced}
 use Rattle.ord_tree.proofs.detach.cut.Goals as goal
 
 pub links-links-requires : goal.links-links-requires

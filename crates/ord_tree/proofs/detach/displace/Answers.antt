@@ -1,8 +1,7 @@
 use Rattle.std.proofs.Common.{◌∙◌, ap, option_map}
 use Rattle.ord_tree.specs.TreeLinks.{numbered}
-use Rattle.ord_tree.proofs.Cutting.{v_occupied}
-use Rattle.ord_tree.proofs.Displacing.{MovesBacks-then}
 use Rattle.ord_tree.proofs.Removing.{z_occupied, v_is, loose_v, can_stand, displaced, mapped, unmapped}
+use Rattle.ord_tree.proofs.{Displacing.MovesBacks-then, Cutting.v_occupied}
 use Rattle.ord_tree.proofs.detach.displace.Goals as goal
 
 pub links-requires : goal.links-requires

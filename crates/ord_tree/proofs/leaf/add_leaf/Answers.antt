@@ -1,5 +1,4 @@
-use Rattle.ord_tree.proofs.NewLeaf.{y_occupied, IsRising-attached, backs-attached}
-use Rattle.ord_tree.proofs.Promoting.{IsRepaired-after}
+use Rattle.ord_tree.proofs.{NewLeaf.y_occupied, NewLeaf.IsRising-attached, NewLeaf.backs-attached, Promoting.IsRepaired-after}
 use Rattle.ord_tree.specs.Leaf.{beside}
 use Rattle.ord_tree.proofs.leaf.add_leaf.Goals as goal
 

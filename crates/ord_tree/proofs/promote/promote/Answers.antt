@@ -1,10 +1,7 @@
 use Rattle.std.proofs.Common.{ℕ, ◌+◌, [], refl, inr, sym, ◌∙◌, ap, subst, option_map, arith}
-use Rattle.ord_tree.specs.declared.tree_links.Side.{Side}
-use Rattle.ord_tree.specs.TreeLinks.{numbered}
-use Rattle.ord_tree.specs.Promote.{IsSteep}
-use Rattle.ord_tree.proofs.Frames.{IsReranked}
+use Rattle.ord_tree.specs.{declared.tree_links.Side.Side, TreeLinks.numbered, Promote.IsSteep}
 use Rattle.ord_tree.proofs.Promoting.{y_occupied, y_back, rising_under, IsBuilt-top, z_occupied, IsBuilt-stop, low-small, IsPromoted-promoted, IsSteep-rising}
-use Rattle.ord_tree.proofs.Reading.{ranks-read, side-read, beside-read, beside-occupied}
+use Rattle.ord_tree.proofs.{Reading.ranks-read, Reading.side-read, Reading.beside-read, Reading.beside-occupied, Frames.IsReranked}
 use Rattle.ord_tree.proofs.promote.promote.Goals as goal
 
 pub links-low-requires : goal.links-low-requires

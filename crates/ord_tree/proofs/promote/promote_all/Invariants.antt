@@ -1,6 +1,5 @@
 use Rattle.std.proofs.Common.{◌≡◌, ℕ, ◌-◌, Some, List, option_map}
-use Rattle.ord_tree.specs.Slots.{back_at, rank_at}
-use Rattle.ord_tree.specs.Promote.{IsRising}
+use Rattle.ord_tree.specs.{Slots.back_at, Slots.rank_at, Promote.IsRising}
 use Rattle.ord_tree.proofs.promote.promote_all.Given as goal
 
 -- what has risen when the repair began has risen here, and no node has another parent

@@ -1,12 +1,8 @@
 use Rattle.std.proofs.Common.{◌≡◌, Some, sym, ◌∙◌, ap, subst, option_map, is_some, arith}
-use Rattle.ord_tree.specs.declared.tree_links.Side.{Side}
-use Rattle.ord_tree.specs.TreeLinks.{numbered}
-use Rattle.ord_tree.specs.Shape.{rank_of, root_of}
-use Rattle.ord_tree.specs.Rotate.{Site, IsRotated}
-use Rattle.ord_tree.proofs.LeafBranches.{is_some-mapped}
-use Rattle.ord_tree.proofs.Reading.{child-read, child_other-read}
+use Rattle.ord_tree.specs.{declared.tree_links.Side.Side, Rotate.Site, Rotate.IsRotated, Shape.rank_of, Shape.root_of, TreeLinks.numbered}
 use Rattle.ord_tree.proofs.Doubles.{low_rank, outer_rank, inner_root, middle_rank, site_below, site_above}
 use Rattle.ord_tree.proofs.OnceOrTwice.{inner_some, IsRepaired-single, IsRepaired-double}
+use Rattle.ord_tree.proofs.{Reading.child-read, Reading.child_other-read, LeafBranches.is_some-mapped}
 use Rattle.ord_tree.proofs.promote.rotate_once_or_twice.Goals as goal
 
 pub returns-then-low-outer-eq1-clause-repaired : goal.returns-then-low-outer-eq1-clause-repaired

@@ -1,6 +1,5 @@
 use Rattle.std.proofs.Common.{◌≡◌, ◌≤◌, ℕ, None, List, option_map, length}
-use Rattle.ord_tree.specs.Shape.{Shape}
-use Rattle.ord_tree.specs.Rebuild.{IsPlan, IsFinished}
+use Rattle.ord_tree.specs.{Rebuild.IsPlan, Rebuild.IsFinished, Shape.Shape}
 use Rattle.ord_tree.proofs.rebuild.close.Given as goal
 
 -- what was finished is finished still, with all that hangs on it now

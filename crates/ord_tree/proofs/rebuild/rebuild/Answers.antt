@@ -1,8 +1,7 @@
 use Rattle.std.proofs.Common.{[], refl, sym, ◌∙◌, ap, option_map, arith}
 use Rattle.ord_tree.specs.Node.{indexes}
-use Rattle.ord_tree.proofs.Halves.{rebuilt_exists}
-use Rattle.ord_tree.proofs.LeafBranches.{is_some-mapped}
 use Rattle.ord_tree.proofs.Rebuilding.{plan_for, IsOpening-start, target_of, target-there, target-some, IsPassing-next, Holds-passed}
+use Rattle.ord_tree.proofs.{LeafBranches.is_some-mapped, Halves.rebuilt_exists}
 use Rattle.ord_tree.proofs.rebuild.rebuild.Goals as goal
 
 pub open-requires : goal.open-requires

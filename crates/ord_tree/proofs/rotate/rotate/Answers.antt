@@ -1,8 +1,6 @@
 use Rattle.std.proofs.Common.{ℕ, Option, Some, sym, ◌∙◌, ap, option_map, is_some}
-use Rattle.ord_tree.specs.declared.tree_links.Side.{Side}
-use Rattle.ord_tree.specs.TreeLinks.{with_child_at, numbered}
-use Rattle.ord_tree.proofs.Rotations.{placed, occupied-inner, IsRotated-written}
-use Rattle.ord_tree.proofs.Reading.{child_other-read}
+use Rattle.ord_tree.specs.{TreeLinks.with_child_at, TreeLinks.numbered, declared.tree_links.Side.Side}
+use Rattle.ord_tree.proofs.{Rotations.placed, Rotations.occupied-inner, Rotations.IsRotated-written, Reading.child_other-read}
 use Rattle.ord_tree.proofs.rotate.rotate.Goals as goal
 
 pub hang-requires : goal.hang-requires

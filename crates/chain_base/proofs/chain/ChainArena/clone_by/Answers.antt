@@ -1,8 +1,7 @@
 use Rattle.std.proofs.Common.{None, inl, inr, sym, ap, ◌∙◌, option_map}
 use Rattle.chain_base.specs.Layout.{chain_of}
-use Rattle.chain_base.proofs.Vacancy.{greatest-links}
-use Rattle.chain_base.proofs.Steps.{held-laid}
 use Rattle.chain_base.proofs.Cloning.{Lies-cloned, clone-chain, rising-told, refused-chain, empty-laid, unrefused, filled-laid, kept-chain}
+use Rattle.chain_base.proofs.{Vacancy.greatest-links, Steps.held-laid}
 use Rattle.chain_base.proofs.chain.ChainArena.clone_by.Goals as goal
 
 pub invariant_of-self : goal.invariant_of-self

@@ -1,7 +1,5 @@
 use Rattle.std.proofs.Common.{◌≡◌, ◌+◌, ◌<◌, None, length, is_some, true, sym, ap, ◌∙◌, rules, arith, subst, option_map}
-use Rattle.chain_base.specs.Chain.{entry_at, first_or}
-use Rattle.chain_base.specs.Exchange.{exchanged}
-use Rattle.chain_base.specs.Walk.{index_after}
+use Rattle.chain_base.specs.{Chain.entry_at, Chain.first_or, Exchange.exchanged, Walk.index_after}
 use Rattle.chain_base.proofs.Canonical.{canonical-begins, canonical-even, canonical-step, canonical-ends, met-at, met-occurs, next-occurs, occurs-entry, chosen, chosen-is}
 use Rattle.chain_base.proofs.chain.ChainArena.compress_canonical.Goals as goal
 

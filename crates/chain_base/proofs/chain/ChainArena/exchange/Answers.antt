@@ -1,7 +1,6 @@
 use Rattle.chain_base.specs.declared.chain.compress.Side.TheVariants.{Before, After}
-use Rattle.chain_base.proofs.Ends.{occupied-laid_out}
-use Rattle.chain_base.proofs.LaidOut.{alike-next, alike-prev}
 use Rattle.chain_base.proofs.Exchanging.{can_exchange, alike-swap, target, occupied-named, Lies-written}
+use Rattle.chain_base.proofs.{LaidOut.alike-next, LaidOut.alike-prev, Ends.occupied-laid_out}
 use Rattle.chain_base.proofs.chain.ChainArena.exchange.Goals as goal
 
 pub swap_inx-requires-clause-first : goal.swap_inx-requires-clause-first

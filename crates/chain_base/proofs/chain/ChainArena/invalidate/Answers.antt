@@ -1,5 +1,4 @@
-use Rattle.chain_base.proofs.Calls.{renewed-or_kept}
-use Rattle.chain_base.proofs.Ends.{contains-laid_out}
+use Rattle.chain_base.proofs.{Ends.contains-laid_out, Calls.renewed-or_kept}
 use Rattle.chain_base.proofs.chain.ChainArena.invalidate.Goals as goal
 
 pub invariant_of-self : goal.invariant_of-self

@@ -1,7 +1,6 @@
 use Rattle.std.proofs.Common.{◌∙◌, sym, ap, option_map}
 use Rattle.chain_base.specs.declared.chain.compress.Side.TheVariants.{Before, After}
-use Rattle.chain_base.proofs.Calls.{beside-held, Removes-linked}
-use Rattle.chain_base.proofs.Ends.{occupied-laid_out}
+use Rattle.chain_base.proofs.{Calls.beside-held, Calls.Removes-linked, Ends.occupied-laid_out}
 use Rattle.chain_base.proofs.chain.ChainArena.remove_entry.Goals as goal
 
 pub entry-requires : goal.entry-requires

@@ -1,9 +1,8 @@
 use Rattle.std.proofs.Common.{◌≡◌, ℕ, ◌+◌, ◌<◌, ◌≤◌, length, Option, Some, sym, ap, ◌∙◌, rules, arith, refl, option_map}
-use Rattle.arena_base.specs.Arena.{slot}
-use Rattle.arena_base.specs.Pointer.{named_of}
+use Rattle.arena_base.specs.{Pointer.named_of, Arena.slot}
 use Rattle.chain_base.specs.Naming.{linked_facing}
-use Rattle.chain_base.proofs.Naming.{named-begins, named-vacant, named-step, named-target, named-ends, index-made, neighbour-within}
 use Rattle.chain_base.proofs.chain.compress.name_compressed_indexes.Goals.{in-Some, then-is_none, else-is_none, in_default}
+use Rattle.chain_base.proofs.Naming.{named-begins, named-vacant, named-step, named-target, named-ends, index-made, neighbour-within}
 use Rattle.chain_base.proofs.chain.compress.name_compressed_indexes.Goals as goal
 
 pub loop-position-init : goal.loop-position-init

@@ -1,7 +1,6 @@
 use Rattle.std.proofs.Common.{inl, inr, ap}
 use Rattle.ord_tree.specs.Tree.{Tree}
-use Rattle.ord_tree.proofs.Trees.{greatest_index-bare}
-use Rattle.ord_tree.proofs.Cloning.{list-told}
+use Rattle.ord_tree.proofs.{Trees.greatest_index-bare, Cloning.list-told}
 use Rattle.ord_tree.proofs.tree.OrdTree.clone_to_chain_arena.Goals as goal
 
 pub returns-clause-ok : goal.returns-clause-ok

@@ -1,6 +1,6 @@
 use Rattle.std.proofs.Common.{◌∙◌, ap, option_map}
-use Rattle.ord_tree.proofs.Named.{inserted-named}
 use Rattle.ord_tree.proofs.Grown.{CanPutAt-bare, CanPlace-put, call_allowed, call_grown, call_listed}
+use Rattle.ord_tree.proofs.Named.{inserted-named}
 use Rattle.ord_tree.proofs.tree.OrdTree.insert_within_capacity.Goals as goal
 
 pub branch_at-branch-requires : goal.branch_at-branch-requires

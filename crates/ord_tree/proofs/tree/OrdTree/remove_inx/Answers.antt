@@ -1,6 +1,5 @@
 use Rattle.std.proofs.Common.{◌∙◌, sym}
-use Rattle.ord_tree.proofs.Trees.{is_some-bare}
-use Rattle.ord_tree.proofs.LeafBranches.{none_of}
+use Rattle.ord_tree.proofs.{LeafBranches.none_of, Trees.is_some-bare}
 use Rattle.ord_tree.proofs.tree.OrdTree.remove_inx.Goals as goal
 
 pub returns-then-not-contains_inx-clause-value : goal.returns-then-not-contains_inx-clause-value

@@ -1,9 +1,7 @@
-use Rattle.std.proofs.Common.{inl, inr, sym, ap, ◌∙◌, option_map}
-use Rattle.std.proofs.lemmas.Bool.{false≢true}
+use Rattle.std.proofs.{Common.inl, Common.inr, Common.sym, Common.ap, Common.◌∙◌, Common.option_map, lemmas.Bool.false≢true}
 use Rattle.chain_base.specs.Chain.{Chain}
 use Rattle.ord_tree.specs.Layout.{tree_of}
-use Rattle.ord_tree.proofs.Trees.{greatest_index-bare}
-use Rattle.ord_tree.proofs.Cloning.{laid-cloned, clone-told, refused-tree, kept-tree}
+use Rattle.ord_tree.proofs.{Cloning.laid-cloned, Cloning.clone-told, Cloning.refused-tree, Cloning.kept-tree, Trees.greatest_index-bare}
 use Rattle.ord_tree.proofs.tree.OrdTree.try_clone_from_with.Goals as goal
 
 pub invariant_of-self : goal.invariant_of-self

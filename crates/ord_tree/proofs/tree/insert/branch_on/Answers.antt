@@ -1,9 +1,7 @@
-use Rattle.std.proofs.Common.{◌∙◌, refl, sym, ap, option_map}
-use Rattle.std.proofs.lemmas.Option.{same_Some}
-use Rattle.ord_tree.specs.TreeLinks.{child_at, numbered}
-use Rattle.ord_tree.specs.Node.{indexes, slots_of}
-use Rattle.ord_tree.proofs.Reading.{child-read}
+use Rattle.std.proofs.{Common.◌∙◌, Common.refl, Common.sym, Common.ap, Common.option_map, lemmas.Option.same_Some}
+use Rattle.ord_tree.specs.{TreeLinks.child_at, TreeLinks.numbered, Node.indexes, Node.slots_of}
 use Rattle.ord_tree.proofs.LeafBranches.{within-occupied, IsOnce-distinct, next_bud, IsLeafBranch-next, none_of, some_in}
+use Rattle.ord_tree.proofs.Reading.{child-read}
 use Rattle.ord_tree.proofs.tree.insert.branch_on.Goals as goal
 
 pub returns-then-is_none : goal.returns-then-is_none

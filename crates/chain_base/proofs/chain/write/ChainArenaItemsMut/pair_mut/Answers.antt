@@ -1,6 +1,5 @@
 use Rattle.std.proofs.Common.{is_some, ◌∙◌, ap, refl, sym}
-use Rattle.chain_base.proofs.Ends.{entry_at-laid_out}
-use Rattle.chain_base.proofs.Steps.{Writes-at}
+use Rattle.chain_base.proofs.{Ends.entry_at-laid_out, Steps.Writes-at}
 use Rattle.chain_base.proofs.chain.write.ChainArenaItemsMut.pair_mut.Goals as goal
 
 pub link_item_mut-requires : goal.link_item_mut-requires
