@@ -1,14 +1,10 @@
 -- The order of deadlines: where a new job stands among jobs in order.
 use Rattle.std.proofs.Common.{◌≡◌, ◌≢◌, ℕ, ◌<◌, ◌≤◌, List, [], ◌∷◌, ◌++◌, map, None, IfSome, arith}
-use Rattle.std.proofs.lemmas.Bool.Decides.{nat_tests}
-use Rattle.std.specs.List.{AllByRecursion}
-use Rattle.std.specs.Ordering.{nat_cmp}
-use Rattle.std.specs.declared.cmp.Ordering.TheVariants.{Less}
-use Rattle.std.proofs.lemmas.List.Elements.{All-from_recursion, recursion_from_All}
+use Rattle.std.proofs.{lemmas.List.Elements.All-from_recursion, lemmas.List.Elements.recursion_from_All, lemmas.Bool.Decides.nat_tests}
+use Rattle.std.specs.{declared.cmp.Ordering.TheVariants.Less, List.AllByRecursion, Ordering.nat_cmp}
 use Rattle.chain_base.specs.Chain.{Entry}
 use Rattle.triple_ord.specs.Gap.{first_of, last_or}
-use Rattle.agenda.specs.Agenda.{Scheduled, IsInOrder}
-use Rattle.agenda.specs.Layout.{scheduled}
+use Rattle.agenda.specs.{Agenda.Scheduled, Agenda.IsInOrder, Layout.scheduled}
 
 module _ {X : Type 0} where
   -- what follows from a fact of each element is true of each

@@ -1,17 +1,15 @@
 -- The jobs of an agenda and the entries of its arena: what a ticket names, and what a removal leaves.
 use Rattle.std.proofs.Common.{◌≡◌, ℕ, ◌≤◌, List, [], ◌∷◌, map, Option, Some, None, IsSome, IfNone, OnSome, is_some, refl, sym, ap, ◌+◌, subst, ◌∙◌, arith, inl, inr, true, false, if◌then◌else◌}
-use Rattle.std.proofs.lemmas.Grind.{common_steps}
-use Rattle.std.proofs.lemmas.Bool.Decides.{eqb_tells}
+use Rattle.std.proofs.{lemmas.List.Elements.All-from_recursion, lemmas.List.Elements.recursion_from_All, lemmas.Bool.Decides.eqb_tells}
+use Rattle.std.proofs.{lemmas.Grind.common_steps, lemmas.List.length-map}
 use Rattle.std.specs.List.{All, AllByRecursion}
-use Rattle.std.proofs.lemmas.List.{length-map}
-use Rattle.std.proofs.lemmas.List.Elements.{All-from_recursion, recursion_from_All}
 use Rattle.arena_base.specs.Arena.{limit_of}
 use Rattle.chain_base.specs.Chain.{Entry, removed, IsSound as IsSoundChain, IsDistinct as AreDistinct, entry_at, item_of, without as without_index}
 use Rattle.chain_base.proofs.CallerLemmas.{entry_at-absent}
 use Rattle.ord_tree.specs.Tree.{Tree}
 use Rattle.agenda.specs.Agenda.{Scheduled, Agenda, most_jobs, count, Updates, with_left, is_named_by, job_of, without, IsInOrder, IsDistinct, IsSound}
-use Rattle.agenda.proofs.Naming.{length-without, updates-none, updates-left}
 use Rattle.agenda.specs.Layout.{greatest_generation, scheduled, agenda_of, IsArenaOfJobs}
+use Rattle.agenda.proofs.Naming.{length-without, updates-none, updates-left}
 
 module _ {J : Type 0} where
   -- the entries behind the first have pairwise different indexes too, and none has the first's

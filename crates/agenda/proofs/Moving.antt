@@ -3,13 +3,11 @@ use Rattle.std.proofs.Common.{◌≡◌, ℕ, ◌∙◌, Some, ap, is_some, subs
 use Rattle.std.specs.Ordering.{nat_cmp}
 use Rattle.chain_base.specs.Chain.{removed, item_of, IsSound}
 use Rattle.ord_tree.specs.Tree.{Tree}
-use Rattle.triple_ord.specs.Insertion.{within, InsertsNew}
-use Rattle.triple_ord.specs.Place.{behind_key}
+use Rattle.triple_ord.specs.{Insertion.within, Insertion.InsertsNew, Place.behind_key}
 use Rattle.agenda.specs.Agenda.{Agenda, Schedules, Reschedules, Moves, count, most_jobs}
 use Rattle.agenda.specs.Layout.{greatest_generation, deadline_of, agenda_of, IsArenaOfJobs}
 use Rattle.agenda.proofs.Leaving.{job_of-found, distinct-found, agenda-removed, arena-removed}
-use Rattle.agenda.proofs.Naming.{moves-rescheduled, count-rescheduled}
-use Rattle.agenda.proofs.Putting.{schedules-inserted, arena-inserted}
+use Rattle.agenda.proofs.{Naming.moves-rescheduled, Naming.count-rescheduled, Putting.schedules-inserted, Putting.arena-inserted}
 
 -- the arena before, without the job, and with it again
 module _ {J : Type 0} (old between new : Tree (ℕ × J)) (t u : ℕ × ℕ) (d : ℕ) (job : ℕ × J)

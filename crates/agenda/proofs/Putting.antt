@@ -1,26 +1,21 @@
 -- A new entry behind all whose key is at most its own: the job is put on the agenda.
 use Rattle.std.proofs.Common.{◌≡◌, ◌≢◌, ℕ, Bool, true, false, List, [], ◌∷◌, ◌++◌, map, Option, Some, None, IfSome, is_some, Ok, slice_get, refl, sym, ap, ◌∙◌, ◌+◌, ◌*◌, min, max, nat_lt, length, arith, if◌then◌else◌}
+use Rattle.std.proofs.{lemmas.List.map-append, lemmas.List.length-map, lemmas.List.Elements.All-from_recursion}
 use Rattle.std.proofs.lemmas.Bool.{lt-ltb, le-ltb}
-use Rattle.std.proofs.lemmas.List.{map-append, length-map}
-use Rattle.std.proofs.lemmas.List.Elements.{All-from_recursion}
-use Rattle.std.specs.Ordering.{nat_cmp}
-use Rattle.std.specs.declared.cmp.Ordering.{Ordering}
-use Rattle.std.specs.declared.cmp.Ordering.TheVariants.{Less}
+use Rattle.std.specs.{declared.cmp.Ordering.TheVariants.Less, declared.cmp.Ordering.Ordering, Ordering.nat_cmp}
 use Rattle.chain_base.specs.Chain.{Entry, Chain, times, IsSound, inserted_at, next_index, with_capacity, grown_capacity}
 use Rattle.chain_base.specs.Insert.{IsInsertion}
 use Rattle.chain_base.proofs.CallerLemmas.{entry_at-absent}
 use Rattle.ord_tree.specs.Tree.{Tree}
-use Rattle.triple_ord.specs.Gap.{Gap, before, after, with_between}
 use Rattle.triple_ord.specs.Insertion.{Growth, within, reallocating, with_slot, InsertsBy, InsertsNew}
-use Rattle.triple_ord.specs.EntryKind.{pointer_of}
-use Rattle.triple_ord.specs.Place.{behind_key}
-use Rattle.triple_ord.specs.declared.entry_kind.OrdEntryKind.{OrdEntryKind}
 use Rattle.triple_ord.specs.declared.entry_kind.OrdEntryKind.TheVariants.{New, Replacing}
+use Rattle.triple_ord.specs.{Gap.Gap, Gap.before, Gap.after, Gap.with_between, declared.entry_kind.OrdEntryKind.OrdEntryKind}
+use Rattle.triple_ord.specs.{EntryKind.pointer_of, Place.behind_key}
 use Rattle.triple_ord.proofs.CallerLemmas.{entries-with_slot}
-use Rattle.agenda.specs.Agenda.{Schedules, IsInOrder, most_jobs, grown, count}
 use Rattle.agenda.specs.Layout.{greatest_generation, scheduled, deadline_of, agenda_of, IsArenaOfJobs}
-use Rattle.agenda.proofs.Leaving.{job_of-found}
+use Rattle.agenda.specs.Agenda.{Schedules, IsInOrder, most_jobs, grown, count}
 use Rattle.agenda.proofs.Deadlines.{in_order-between, in_order-back, none-later, all-later}
+use Rattle.agenda.proofs.Leaving.{job_of-found}
 
 -- a growth leaves generation and maximum
 numbers-with_slot : {T : Type 0} (growth : Growth) (most : ℕ) (c : Chain T) → ((with_slot growth most c).generation ≡ c.generation) × ((with_slot growth most c).maximum ≡ c.maximum)

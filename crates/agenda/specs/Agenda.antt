@@ -1,7 +1,6 @@
 -- What an agenda is: one list of jobs, each with its ticket and its deadline, in the order in which they leave.
 use Rattle.std.specs.Prelude.{◌≡◌, ◌≢◌, ℕ, ◌≤◌, ◌<◌, ◌*◌, min, max, ◌==◌, ◌&&◌, leb, nat_lt, if◌then◌else◌, Bool, List, [], ◌∷◌, ◌++◌, length, Option, Some, None}
-use Rattle.std.specs.List.{All}
-use Rattle.std.specs.Option.{option_map}
+use Rattle.std.specs.{Option.option_map, List.All}
 use Rattle.arena_base.specs.Generation.{next_generation}
 
 -- a job on the agenda: the ticket that names it, which is an index and a generation; its deadline; and the job itself

@@ -1,22 +1,14 @@
 -- Keys stay apart along a run.
 use Rattle.std.proofs.Common.{◌≡◌, ℕ, inl, inr, List, [], ◌∷◌, ◌++◌, map, Some, None, IfSome, refl, sym, ap, subst, ◌∙◌, arith}
 use Rattle.std.proofs.lemmas.Bool.Decides.{eqb_tells}
-use Rattle.std.specs.Cmp.{IsTotalOrder, alike_right}
-use Rattle.std.specs.List.{AllByRecursion}
-use Rattle.std.specs.List.Sorted.{IsStrictlySortedBy}
-use Rattle.std.specs.Ordering.{ordering_reverse}
-use Rattle.std.specs.declared.cmp.Ordering.{Ordering}
 use Rattle.std.specs.declared.cmp.Ordering.TheVariants.{Less, Equal, Greater}
+use Rattle.std.specs.{Cmp.IsTotalOrder, Cmp.alike_right, List.Sorted.IsStrictlySortedBy, declared.cmp.Ordering.Ordering}
+use Rattle.std.specs.{Ordering.ordering_reverse, List.AllByRecursion}
 use Rattle.chain_base.specs.Chain.{Entry, Chain, IsDistinct, entry_at, without, with_item_among, with_generation}
-use Rattle.triple_ord.specs.ClosureSearch.{Shown}
-use Rattle.triple_ord.specs.Gap.{first_of, last_or}
-use Rattle.triple_ord.specs.Search.{order_to}
-use Rattle.triple_ord.specs.Place.{at_key}
+use Rattle.triple_ord.specs.{Gap.first_of, Gap.last_or, ClosureSearch.Shown, Search.order_to, Place.at_key}
 use Rattle.triple_ord.proofs.OrderLaws.{recursion-map}
-use Rattle.ord_machine.specs.declared.command.Command.{Command}
-use Rattle.ord_machine.specs.declared.reply.Reply.{Reply}
-use Rattle.ord_machine.specs.Machine.{Reading, State, Runs}
-use Rattle.ord_machine.specs.Ascending.{KeepsApart, AscendingKeysLaw}
+use Rattle.ord_machine.specs.{Ascending.KeepsApart, Ascending.AscendingKeysLaw, Machine.Reading, Machine.State, Machine.Runs}
+use Rattle.ord_machine.specs.{declared.command.Command.Command, declared.reply.Reply.Reply}
 use Rattle.ord_machine.proofs.Outcomes.{Change, stays, comes, writes, leaves, renews, relays, empties, outcome}
 
 -- each key is less than those behind it, one after another

@@ -1,16 +1,13 @@
 -- Lemmas on public definitions, for this crate and those above.
 use Rattle.std.proofs.Common.{ℕ, List, [], ◌∷◌, Option, refl, ap, arith}
-use Rattle.ord_tree.specs.Shape.{missing}
-use Rattle.ord_tree.specs.Half.{IsRebuilt}
+use Rattle.ord_tree.specs.{Half.IsRebuilt, Shape.missing, Tree.Tree}
 use Rattle.std.specs.List.{FoldsTo}
 use Rattle.chain_base.specs.Chain.{Entry}
-use Rattle.ord_tree.specs.Tree.{Tree}
 use Rattle.triple_ord.specs.ClosureSearch.{Shown, Searches}
+use Rattle.ord_machine.specs.Machine.{Reading, Marks, State, AreTrue, AnswersWith, AnswersSimilarWith, Does, Runs}
+use Rattle.ord_machine.specs.{declared.reply.Reply.TheVariants.Found, declared.reply.Reply.TheVariants.Similar, declared.reply.Reply.Reply}
 use Rattle.ord_machine.specs.declared.command.Command.{Command}
 use Rattle.ord_machine.specs.declared.command.Command.TheVariants as commands
-use Rattle.ord_machine.specs.declared.reply.Reply.{Reply}
-use Rattle.ord_machine.specs.declared.reply.Reply.TheVariants.{Found, Similar}
-use Rattle.ord_machine.specs.Machine.{Reading, Marks, State, AreTrue, AnswersWith, AnswersSimilarWith, Does, Runs}
 
 -- the shape without a node is rebuilt
 rebuilt_missing : IsRebuilt missing

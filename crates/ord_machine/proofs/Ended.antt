@@ -1,18 +1,15 @@
 -- Pointers that ended stay so: how generations go along a run.
 use Rattle.std.proofs.Common.{◌≡◌, ℕ, zero, suc, ◌+◌, ◌<◌, ◌≤◌, ◌⊎◌, inl, inr, false, List, [], ◌∷◌, Option, Some, None, IsSome, is_some, refl, sym, ap, ◌∙◌, arith}
 use Rattle.std.proofs.lemmas.Bool.Decides.{eqb_tells}
-use Rattle.std.specs.List.{AllByRecursion}
-use Rattle.std.specs.Option.{ForSome, option_map}
+use Rattle.std.specs.{Option.ForSome, Option.option_map, List.AllByRecursion}
 use Rattle.arena_base.specs.Generation.{next_generation}
 use Rattle.chain_base.specs.Chain.{Entry, Chain, IsSound, IsDistinct, entry_at, item_of}
 use Rattle.chain_base.proofs.CallerLemmas.{entry_at-without, entry_at-without_other, entry_at-with_item_among, entry_at-with_item_among_other}
 use Rattle.chain_base.proofs.CallerLemmas.{entry_at-with_generation, entry_at-with_generation_other, entry_at-between}
 use Rattle.triple_ord.specs.ClosureSearch.{Shown}
-use Rattle.ord_machine.specs.declared.command.Command.{Command}
-use Rattle.ord_machine.specs.declared.reply.Reply.{Reply}
-use Rattle.ord_machine.specs.Machine.{Reading, State, Runs}
-use Rattle.ord_machine.proofs.Outcomes.{found-there, there-found, elsewhere, unused, risen, Change, stays, comes, writes, leaves, renews, relays, empties, outcome}
 use Rattle.ord_machine.specs.Pointers.{resets, raises, raises_among, Part, EndedPointerLaw}
+use Rattle.ord_machine.specs.{Machine.Reading, Machine.State, Machine.Runs, declared.command.Command.Command, declared.reply.Reply.Reply}
+use Rattle.ord_machine.proofs.Outcomes.{found-there, there-found, elsewhere, unused, risen, Change, stays, comes, writes, leaves, renews, relays, empties, outcome}
 
 -- how generations go from one list to the next: the arena's rises by so many; an entry that wasn't there with its pointer has one from
 -- the old one to the new one; and where an entry's pointer ended, it rose

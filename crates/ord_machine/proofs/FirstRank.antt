@@ -2,21 +2,13 @@
 use Rattle.std.proofs.Common.{◌≡◌, ℕ, inl, inr, List, [], ◌∷◌, ◌++◌, length, map, Some, None, refl, sym, ap, subst, ◌∙◌, arith, length-append}
 use Rattle.std.specs.declared.cmp.Ordering.{Ordering}
 use Rattle.chain_base.specs.Chain.{Entry, Chain, next_index, inserted, with_room}
-use Rattle.ord_tree.specs.Shape.{Shape, missing, node, walk}
-use Rattle.ord_tree.specs.Ranks.{IsRanked}
-use Rattle.ord_tree.specs.Tree.{Tree, IsSoundTree}
-use Rattle.triple_ord.specs.ClosureSearch.{Shown}
-use Rattle.triple_ord.specs.Gap.{with_between}
-use Rattle.triple_ord.specs.Node.{IsPart}
-use Rattle.triple_ord.specs.Insertion.{reallocating, InsertsNew}
-use Rattle.triple_ord.specs.Place.{at_key}
+use Rattle.ord_tree.specs.{Shape.Shape, Shape.missing, Shape.node, Shape.walk, Tree.Tree, Tree.IsSoundTree, Ranks.IsRanked}
 use Rattle.triple_ord.specs.declared.entry_kind.OrdEntryKind.TheVariants.{New, Replacing}
-use Rattle.triple_ord.specs.declared.error.OrdInsertionError.{OrdInsertionError}
-use Rattle.triple_ord.specs.declared.error.OrdInsertionError.TheVariants.{AllocError}
-use Rattle.ord_machine.specs.declared.reply.Reply.{Reply}
+use Rattle.triple_ord.specs.{declared.error.OrdInsertionError.TheVariants.AllocError, declared.error.OrdInsertionError.OrdInsertionError}
+use Rattle.triple_ord.specs.{Insertion.reallocating, Insertion.InsertsNew, ClosureSearch.Shown, Gap.with_between, Place.at_key, Node.IsPart}
 use Rattle.ord_machine.specs.declared.reply.Reply.TheVariants.{Inserted, Refused, Ranks}
 use Rattle.ord_machine.specs.Machine.{Reading, HasRank, HaveRanks, Inserts, Ranked}
-use Rattle.ord_machine.specs.Laws.{AreFirstReplies, FirstRankLaw}
+use Rattle.ord_machine.specs.{Laws.AreFirstReplies, Laws.FirstRankLaw, declared.reply.Reply.Reply}
 
 -- where nothing is cut in two, both parts are nothing
 no_parts : {X : Type 0} (front back : List X) → [] ≡ front ++ back → (front ≡ []) × (back ≡ [])

@@ -2,11 +2,8 @@
 use Rattle.std.proofs.Common.{◌≡◌, ℕ, Option, Result, Ok, Err, sym, subst}
 use Rattle.std.specs.declared.cmp.Ordering.{Ordering}
 use Rattle.ord_tree.specs.Tree.{Tree}
-use Rattle.triple_ord.specs.Insertion.{Growth, InsertsBy}
-use Rattle.triple_ord.specs.Place.{Aim, aim_of}
-use Rattle.triple_ord.specs.declared.entry_kind.OrdEntryKind.{OrdEntryKind}
-use Rattle.triple_ord.specs.declared.insert_kind.OrdInsertKind.{OrdInsertKind}
-use Rattle.triple_ord.specs.declared.error.OrdInsertionError.{OrdInsertionError}
+use Rattle.triple_ord.specs.{declared.error.OrdInsertionError.OrdInsertionError, declared.insert_kind.OrdInsertKind.OrdInsertKind}
+use Rattle.triple_ord.specs.{declared.entry_kind.OrdEntryKind.OrdEntryKind, Insertion.Growth, Insertion.InsertsBy, Place.Aim, Place.aim_of}
 use Rattle.ord_machine.specs.Machine.{Inserts, insertion_reply}
 
 module _ {P T K : Type 0} (I G A : Type 0) (key : T → K) (cmp : K → K → Ordering) (most : ℕ) (growth : Growth) (aim : Aim K)

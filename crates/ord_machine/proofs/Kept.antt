@@ -4,8 +4,7 @@ use Rattle.arena_base.specs.Arena.{item_if}
 use Rattle.chain_base.specs.Chain.{Entry, Chain, entry_at, item_of}
 use Rattle.chain_base.proofs.CallerLemmas.{entry_at-without_other, entry_at-with_item_among_other, entry_at-with_generation_other}
 use Rattle.triple_ord.specs.ClosureSearch.{Shown}
-use Rattle.ord_machine.specs.Machine.{Reading, State}
-use Rattle.ord_machine.specs.Pointers.{KeptPointerLaw}
+use Rattle.ord_machine.specs.{Machine.Reading, Machine.State, Pointers.KeptPointerLaw}
 use Rattle.ord_machine.proofs.Outcomes.{elsewhere, unused, Change, stays, comes, writes, leaves, renews, relays, empties, outcome}
 
 -- a change

@@ -1,15 +1,11 @@
 -- The marks of a state keep telling the truth.
 use Rattle.std.proofs.Common.{◌≡◌, ℕ, zero, suc, ◌==◌, cond, true, inl, inr, ◌∷◌, length, refl, sym, subst, arith, length-append}
-use Rattle.std.proofs.lemmas.List.{length-map}
-use Rattle.std.proofs.Math.Dec.{eqb-suc-zero}
-use Rattle.ord_tree.specs.Shape.{Shape, missing, node, walk}
-use Rattle.ord_tree.specs.Tree.{Tree, IsSoundTree}
+use Rattle.std.proofs.{lemmas.List.length-map, Math.Dec.eqb-suc-zero}
+use Rattle.ord_tree.specs.{Shape.Shape, Shape.missing, Shape.node, Shape.walk, Tree.Tree, Tree.IsSoundTree}
 use Rattle.triple_ord.specs.ClosureSearch.{Shown}
-use Rattle.ord_machine.specs.declared.command.Command.{Command}
-use Rattle.ord_machine.specs.declared.reply.Reply.{Reply}
 use Rattle.ord_machine.specs.Machine.{Reading, State, Marks, Effect, adds, removes, rebuilds, keeps, marked_by, AreTrue, settled, Does, effect_of, marks_after}
-use Rattle.ord_machine.proofs.CallerLemmas.{AreTrue-missing}
-use Rattle.ord_machine.proofs.Outcomes.{Affects, outcome}
+use Rattle.ord_machine.specs.{declared.command.Command.Command, declared.reply.Reply.Reply}
+use Rattle.ord_machine.proofs.{Outcomes.Affects, Outcomes.outcome, CallerLemmas.AreTrue-missing}
 
 -- where there is no entry, there is no node
 no_node : (shape : Shape) (n : ℕ) → length (walk shape) ≡ n → n ≡ 0 → shape ≡ missing

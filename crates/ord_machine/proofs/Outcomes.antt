@@ -1,37 +1,26 @@
 -- What a step makes of the list: all that the laws of pointers and keys look at.
 use Rattle.std.proofs.Common.{◌≡◌, ◌≢◌, ℕ, zero, suc, ◌+◌, ◌<◌, Bool, true, false, List, [], ◌∷◌, ◌++◌, ◌⊎◌, inl, inr, length, map, take, Option, Some, None, IsSome, is_some, slice_get, refl, sym, ap, subst, ◌∙◌, arith, if◌then◌else◌}
-use Rattle.std.proofs.lemmas.Bool.Decides.{eqb_tells}
-use Rattle.std.proofs.lemmas.List.{length-map}
-use Rattle.std.proofs.lemmas.Cmp.{tied_itself}
-use Rattle.std.specs.Cmp.{IsTotalOrder}
+use Rattle.std.proofs.{lemmas.Bool.Decides.eqb_tells, lemmas.List.length-map, lemmas.Cmp.tied_itself}
 use Rattle.std.specs.declared.cmp.Ordering.TheVariants.{Less, Equal, Greater}
-use Rattle.arena_base.specs.Generation.{next_generation}
+use Rattle.std.specs.Cmp.{IsTotalOrder}
 use Rattle.arena_base.specs.declared.invalidation.InvalidationResult.TheVariants.{Success, GenerationOverflow, InvalidPtr}
+use Rattle.arena_base.specs.Generation.{next_generation}
 use Rattle.chain_base.specs.Chain.{Entry, Chain, renewed, removed, times, next_index, with_capacity, grown_capacity, IsDistinct, entry_at, item_of, without, with_item_among, with_generation, inserted_at}
-use Rattle.chain_base.specs.Compression.{at_compressed_index, numbered}
-use Rattle.chain_base.specs.Insert.{IsInsertion}
+use Rattle.chain_base.specs.{Compression.at_compressed_index, Compression.numbered, Insert.IsInsertion}
 use Rattle.chain_base.proofs.CallerLemmas.{entry_at-absent, entry_at-between_other, generation-relocated, generation-numbered}
-use Rattle.ord_tree.specs.Half.{IsRebuilt}
-use Rattle.ord_tree.specs.Ranks.{IsTight}
-use Rattle.ord_tree.specs.Shape.{Shape, missing}
-use Rattle.ord_tree.specs.Tree.{Tree}
-use Rattle.triple_ord.specs.ClosureSearch.{Shown}
-use Rattle.triple_ord.specs.Gap.{Gap, with_between}
-use Rattle.triple_ord.specs.Insertion.{Growth, within, reallocating, with_slot}
+use Rattle.ord_tree.specs.{Shape.Shape, Shape.missing, Half.IsRebuilt, Ranks.IsTight, Tree.Tree}
 use Rattle.triple_ord.specs.Place.{Aim, alone, at_key, behind_key, beside, into, over, IsPlace, aim_of}
-use Rattle.triple_ord.specs.declared.entry_kind.OrdEntryKind.TheVariants.{New, Replacing}
 use Rattle.triple_ord.specs.declared.error.OrdInsertionError.TheVariants.{BeyondMaxCapacity, AllocError}
-use Rattle.triple_ord.specs.declared.insert_kind.OrdInsertKind.{OrdInsertKind}
 use Rattle.triple_ord.specs.declared.insert_kind.OrdInsertKind.TheVariants.{Normal, Linear}
-use Rattle.triple_ord.proofs.CallerLemmas.{entries-with_slot}
-use Rattle.triple_ord.proofs.Inserting.{entry_at-after}
-use Rattle.ord_machine.specs.declared.command.Command.{Command}
-use Rattle.ord_machine.specs.declared.command.Command.TheVariants as commands
-use Rattle.ord_machine.specs.declared.reply.Reply.{Reply}
+use Rattle.triple_ord.specs.declared.entry_kind.OrdEntryKind.TheVariants.{New, Replacing}
+use Rattle.triple_ord.specs.{Insertion.Growth, Insertion.within, Insertion.reallocating, Insertion.with_slot, Gap.Gap, Gap.with_between}
+use Rattle.triple_ord.specs.{declared.insert_kind.OrdInsertKind.OrdInsertKind, ClosureSearch.Shown}
+use Rattle.triple_ord.proofs.{CallerLemmas.entries-with_slot, Inserting.entry_at-after}
 use Rattle.ord_machine.specs.declared.reply.Reply.TheVariants.{Inserted, Refused, Item, Removed, Renewed, Changed, Entries, Done, ReductionRefused}
 use Rattle.ord_machine.specs.Machine.{Reading, State, Effect, adds, removes, rebuilds, keeps, told_effect, effect_of, Inserts, Does, entry_of, removed_each}
-use Rattle.ord_machine.specs.Pointers.{resets, raises, ReplacesAnother, IsOfOthers}
-use Rattle.ord_machine.specs.Ascending.{IsPlacedByKey, KeepsApart}
+use Rattle.ord_machine.specs.{Pointers.resets, Pointers.raises, Pointers.ReplacesAnother, Pointers.IsOfOthers, declared.reply.Reply.Reply}
+use Rattle.ord_machine.specs.{Ascending.IsPlacedByKey, Ascending.KeepsApart, declared.command.Command.Command}
+use Rattle.ord_machine.specs.declared.command.Command.TheVariants as commands
 
 module _ {T : Type 0} where
   -- what a pointer finds is at its index, with its generation

@@ -3,9 +3,8 @@ use Rattle.std.proofs.Common.{◌≡◌, List, [], ◌∷◌, ◌++◌, refl, su
 use Rattle.chain_base.specs.Chain.{IsSound}
 use Rattle.ord_tree.specs.Tree.{Tree, IsSoundTree}
 use Rattle.triple_ord.specs.ClosureSearch.{Shown}
-use Rattle.ord_machine.specs.declared.command.Command.{Command}
-use Rattle.ord_machine.specs.declared.reply.Reply.{Reply}
 use Rattle.ord_machine.specs.Machine.{Reading, Marks, State, AreTrue, Does, marks_after, Step, Runs, RunsBetween}
+use Rattle.ord_machine.specs.{declared.command.Command.Command, declared.reply.Reply.Reply}
 use Rattle.ord_machine.proofs.Marking.{AreTrue-does}
 
 module _ {P T I G A F K : Type 0} (r : Reading P T I G K) (asks : F → Shown T → F → Type 0) where

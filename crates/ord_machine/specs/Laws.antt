@@ -1,12 +1,10 @@
 -- What is true of every run, as a statement of its own.
 use Rattle.std.specs.Prelude.{◌≡◌, List, [], ◌∷◌, None}
+use Rattle.triple_ord.specs.{declared.error.OrdInsertionError.TheVariants.AllocError, declared.entry_kind.OrdEntryKind.TheVariants.New}
 use Rattle.triple_ord.specs.ClosureSearch.{Shown}
-use Rattle.triple_ord.specs.declared.entry_kind.OrdEntryKind.TheVariants.{New}
-use Rattle.triple_ord.specs.declared.error.OrdInsertionError.TheVariants.{AllocError}
 use Rattle.ord_machine.specs.declared.command.Command.TheVariants as commands
-use Rattle.ord_machine.specs.declared.reply.Reply.{Reply}
 use Rattle.ord_machine.specs.declared.reply.Reply.TheVariants.{Inserted, Refused, Ranks}
-use Rattle.ord_machine.specs.Machine.{Reading, State, Runs}
+use Rattle.ord_machine.specs.{Machine.Reading, Machine.State, Machine.Runs, declared.reply.Reply.Reply}
 
 -- The replies to an insertion and to `ranks`, where there was no entry: one new entry of rank 1, if memory isn't refused to
 -- the ranks; or a refusal, and no ranks.

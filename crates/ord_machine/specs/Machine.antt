@@ -1,34 +1,23 @@
 -- The list machine: what each command may answer on an ordered arena, and what it leaves.
 use Rattle.std.specs.Prelude.{◌≡◌, ℕ, ◌+◌, ◌^◌, ◌<◌, ◌≤◌, ◌==◌, ◌↔◌, Bool, true, false, if◌then◌else◌, List, [], ◌∷◌, length, map, take, max, Option, Some, None, IsSome, IfNone, MatchOption, Result, Ok, Err}
-use Rattle.std.specs.Option.{option_map}
-use Rattle.std.specs.declared.cmp.Ordering.{Ordering}
+use Rattle.std.specs.{declared.cmp.Ordering.Ordering, Option.option_map}
+use Rattle.arena_base.specs.declared.invalidation.InvalidationResult.TheVariants.{Success, GenerationOverflow}
+use Rattle.arena_base.specs.Invalidation.{valid_value, has_overflowed, is_overflow}
 use Rattle.arena_base.specs.Compression.{compressed_generation, compression_overflows}
 use Rattle.arena_base.specs.Generation.{next_generation, overflows_after}
-use Rattle.arena_base.specs.Invalidation.{valid_value, has_overflowed, is_overflow}
-use Rattle.arena_base.specs.declared.invalidation.InvalidationResult.TheVariants.{Success, GenerationOverflow}
-use Rattle.chain_base.specs.Link.{Link}
 use Rattle.chain_base.specs.Chain.{Entry, Chain, IsSound, entry_at, item_of, link_at, first_pointer, last_pointer, removed, renewed, cleared, raised, chain_limit, greatest_index, with_capacity}
-use Rattle.chain_base.specs.Compression.{relocated, canonical}
-use Rattle.ord_tree.specs.Shape.{Shape, missing, node}
-use Rattle.ord_tree.specs.Ranks.{IsTight}
-use Rattle.ord_tree.specs.Half.{IsRebuilt}
-use Rattle.ord_tree.specs.Numbers.{fib, HasDigits}
-use Rattle.ord_tree.specs.Tree.{Tree, IsSoundTree, IsShrunk, with_item}
-use Rattle.triple_ord.specs.Node.{IsPart}
-use Rattle.triple_ord.specs.Search.{FindsKey, FindsSimilar}
-use Rattle.triple_ord.specs.ClosureSearch.{Shown, FindsWith, FindsSimilarWith}
-use Rattle.triple_ord.specs.Hint.{IsNearHint}
-use Rattle.triple_ord.specs.Order.{IsInOrder}
-use Rattle.triple_ord.specs.Insertion.{Growth, within, reallocating, InsertsBy}
-use Rattle.triple_ord.specs.Place.{Aim, at_key, aim_of}
-use Rattle.triple_ord.specs.declared.entry_kind.OrdEntryKind.{OrdEntryKind}
-use Rattle.triple_ord.specs.declared.entry_kind.OrdEntryKind.TheVariants.{New}
-use Rattle.triple_ord.specs.declared.error.OrdInsertionError.{OrdInsertionError}
+use Rattle.chain_base.specs.{Compression.relocated, Compression.canonical, Link.Link}
+use Rattle.ord_tree.specs.{Tree.Tree, Tree.IsSoundTree, Tree.IsShrunk, Tree.with_item, Shape.Shape, Shape.missing, Shape.node}
+use Rattle.ord_tree.specs.{Numbers.fib, Numbers.HasDigits, Half.IsRebuilt, Ranks.IsTight}
 use Rattle.triple_ord.specs.declared.error.OrdInsertionError.TheVariants.{BeyondMaxCapacity, AllocError}
-use Rattle.ord_machine.specs.declared.command.Command.{Command}
-use Rattle.ord_machine.specs.declared.command.Command.TheVariants as commands
-use Rattle.ord_machine.specs.declared.reply.Reply.{Reply}
+use Rattle.triple_ord.specs.{Insertion.Growth, Insertion.within, Insertion.reallocating, Insertion.InsertsBy, Hint.IsNearHint, Node.IsPart}
+use Rattle.triple_ord.specs.{ClosureSearch.Shown, ClosureSearch.FindsWith, ClosureSearch.FindsSimilarWith, Order.IsInOrder}
+use Rattle.triple_ord.specs.{declared.error.OrdInsertionError.OrdInsertionError, declared.entry_kind.OrdEntryKind.TheVariants.New}
+use Rattle.triple_ord.specs.{declared.entry_kind.OrdEntryKind.OrdEntryKind, Place.Aim, Place.at_key, Place.aim_of}
+use Rattle.triple_ord.specs.Search.{FindsKey, FindsSimilar}
 use Rattle.ord_machine.specs.declared.reply.Reply.TheVariants.{Inserted, Refused, Found, Similar, Count, Item, Removed, Renewed, Changed, At, Links, Entries, Ranks, Done, ReductionRefused, Sorted, Stats}
+use Rattle.ord_machine.specs.{declared.command.Command.Command, declared.reply.Reply.Reply}
+use Rattle.ord_machine.specs.declared.command.Command.TheVariants as commands
 
 -- how items and pointers are read
 pub record Reading (P T I G K : Type 0) : Type 0 where

@@ -1,16 +1,12 @@
 -- What pointers name along a run: that an entry keeps its pointer while others come and go, and that a pointer which ended stays so.
 use Rattle.std.specs.Prelude.{◌≡◌, ◌≢◌, ℕ, ◌+◌, ◌≤◌, Bool, false, List, ◌∷◌, length, Some, None, IsSome}
-use Rattle.std.specs.List.{AllByRecursion}
-use Rattle.std.specs.Option.{ForSome}
+use Rattle.std.specs.{List.AllByRecursion, Option.ForSome}
 use Rattle.arena_base.specs.declared.invalidation.InvalidationResult.TheVariants.{Success, GenerationOverflow}
 use Rattle.chain_base.specs.Chain.{IsSound, entry_at, item_of}
-use Rattle.triple_ord.specs.ClosureSearch.{Shown}
-use Rattle.triple_ord.specs.declared.entry_kind.OrdEntryKind.TheVariants.{Replacing}
-use Rattle.ord_machine.specs.declared.command.Command.{Command}
-use Rattle.ord_machine.specs.declared.command.Command.TheVariants as commands
-use Rattle.ord_machine.specs.declared.reply.Reply.{Reply}
+use Rattle.triple_ord.specs.{declared.entry_kind.OrdEntryKind.TheVariants.Replacing, ClosureSearch.Shown}
 use Rattle.ord_machine.specs.declared.reply.Reply.TheVariants.{Inserted, Removed, Renewed, Changed, Entries}
-use Rattle.ord_machine.specs.Machine.{Reading, State, Runs}
+use Rattle.ord_machine.specs.{Machine.Reading, Machine.State, Machine.Runs, declared.command.Command.Command, declared.reply.Reply.Reply}
+use Rattle.ord_machine.specs.declared.command.Command.TheVariants as commands
 
 -- the command sets the generation back to the first
 abbrev pub resets : {P T I G K : Type 0} → Command P T I G K → Bool

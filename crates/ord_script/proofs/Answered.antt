@@ -1,7 +1,6 @@
 -- The replies of a script's run, from where it begins.
 use Rattle.std.proofs.Common.{◌≡◌, ℕ, List, Result, Ok, Err, IfOk, Bor, subst}
-use Rattle.std.specs.declared.cmp.Ordering.{Ordering}
-use Rattle.std.specs.declared.cmp.Ordering.TheVariants.{Equal}
+use Rattle.std.specs.{declared.cmp.Ordering.TheVariants.Equal, declared.cmp.Ordering.Ordering}
 use Rattle.ord_tree.specs.Tree.{Tree}
 use Rattle.triple_ord.specs.ClosureSearch.{Asks}
 use Rattle.ord_machine.specs.Machine.{State, Runs, RunsBetween}

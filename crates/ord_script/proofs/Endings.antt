@@ -1,9 +1,7 @@
 -- How a script ends, from what was read, answered and written.
 use Rattle.std.proofs.Common.{◌≡◌, ℕ, ◌<◌, ◌≤◌, List, ◌++◌, length, sym, subst}
-use Rattle.ord_script.specs.declared.script_end.ScriptEnd.TheVariants.{WriteFailed}
+use Rattle.ord_script.specs.{declared.script_end.ScriptEnd.TheVariants.WriteFailed, Service.Answers, Service.Ends, Script.script_of}
 use Rattle.ord_script.specs.Devices.{limit}
-use Rattle.ord_script.specs.Script.{script_of}
-use Rattle.ord_script.specs.Service.{Answers, Ends}
 
 -- an answer of which a part was written
 module _ {A : Type 0} (read bytes text written rest : List ℕ) (same : read ≡ bytes) (short : length read ≤ limit) (answer : Answers A (script_of bytes) text) where

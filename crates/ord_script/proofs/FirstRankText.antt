@@ -1,23 +1,15 @@
 -- The script of two lines, an insertion and `ranks`, from its bytes to those of its answers.
 use Rattle.std.proofs.Common.{◌≡◌, ℕ, pos, List, [], ◌∷◌, Contains, codes, Some, None, refl, sym, ◌∙◌, subst, arith, append-nil}
 use Rattle.std.proofs.lemmas.Fmt.{decimal_digit}
-use Rattle.triple_ord.specs.Insertion.{reallocating, InsertsNew}
-use Rattle.triple_ord.specs.Place.{at_key}
-use Rattle.triple_ord.specs.declared.entry_kind.OrdEntryKind.TheVariants.{New}
 use Rattle.triple_ord.specs.declared.error.OrdInsertionError.TheVariants.{FailedOrdRequirement, NotWithinCapacity, BeyondMaxCapacity, AllocError}
+use Rattle.triple_ord.specs.{declared.entry_kind.OrdEntryKind.TheVariants.New, Insertion.reallocating, Insertion.InsertsNew, Place.at_key}
 use Rattle.ord_tree.specs.Tree.{Tree}
 use Rattle.ord_machine.specs.declared.command.Command.TheVariants as commands
 use Rattle.ord_machine.specs.declared.reply.Reply.TheVariants.{Inserted, Refused, Ranks}
-use Rattle.ord_script.specs.declared.form.Form.{Form}
-use Rattle.ord_script.specs.declared.form.Form.TheVariants.{Plain}
-use Rattle.ord_script.specs.Arguments.{arguments_in}
-use Rattle.ord_machine.specs.Machine.{State, Inserts, Runs}
+use Rattle.ord_machine.specs.{Machine.State, Machine.Inserts, Machine.Runs, Laws.AreFirstReplies}
 use Rattle.ord_script.specs.Pairs.{Pair, Pointer, PairCommand, PairReply, reading, beginning, answers_equal}
-use Rattle.ord_script.specs.Script.{Script, script_of}
-use Rattle.ord_script.specs.Service.{Answers}
-use Rattle.ord_script.specs.Text.{reply_lines}
-use Rattle.ord_machine.specs.Laws.{AreFirstReplies}
-use Rattle.ord_script.specs.Laws.{FirstRankTextLaw, first_answers}
+use Rattle.ord_script.specs.{Laws.FirstRankTextLaw, Laws.first_answers, declared.form.Form.TheVariants.Plain, declared.form.Form.Form}
+use Rattle.ord_script.specs.{Script.Script, Script.script_of, Arguments.arguments_in, Text.reply_lines, Service.Answers}
 use Rattle.ord_machine.proofs.FirstRank.{first_rank}
 
 -- the script, read

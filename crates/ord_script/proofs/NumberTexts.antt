@@ -1,20 +1,14 @@
 -- Numbers and pointers in decimal, and what is read of their texts.
 use Rattle.std.proofs.Common.{◌≡◌, ℕ, suc, ◌-◌, ◌^◌, ◌<◌, ◌≤◌, Bool, true, false, ℤ, pos, negsuc, neg_ℤ, List, [], ◌∷◌, ◌++◌, length, decimal, Some, option_map, refl, ◌∙◌, ap, arith, append_assoc}
-use Rattle.std.specs.Fmt.{signed_decimal}
-use Rattle.std.specs.Int.{IsInRange}
-use Rattle.std.specs.List.{AllByRecursion, position_or_len, before_first, after_first}
-use Rattle.std.specs.Str.{all_ascii_digits}
-use Rattle.std.specs.Str.Parse.{digits_value}
-use Rattle.std.proofs.Math.Numerals.{one-add}
-use Rattle.std.proofs.Math.Seq.{take-append_seam, drop-append-add}
-use Rattle.std.proofs.lemmas.Bool.{lt-ltb, le-leb, ne_eqb}
-use Rattle.std.proofs.lemmas.Fmt.{decimal_nonempty, digits_decimal, digits_value-decimal}
-use Rattle.std.proofs.lemmas.Int.{ints}
 use Rattle.std.proofs.lemmas.Str.Parse.{IsNumeralModel, tells_all_ascii_digits, numerals_by_value}
+use Rattle.std.proofs.{lemmas.Fmt.decimal_nonempty, lemmas.Fmt.digits_decimal, lemmas.Fmt.digits_value-decimal, Math.Numerals.one-add}
+use Rattle.std.proofs.{lemmas.Bool.lt-ltb, lemmas.Bool.le-leb, lemmas.Bool.ne_eqb, Math.Seq.take-append_seam, Math.Seq.drop-append-add}
+use Rattle.std.proofs.lemmas.Int.{ints}
+use Rattle.std.specs.{List.AllByRecursion, List.position_or_len, List.before_first, List.after_first, Str.Parse.digits_value, Int.IsInRange}
+use Rattle.std.specs.{Str.all_ascii_digits, Fmt.signed_decimal}
 use Rattle.ord_script.specs.Numbers.{number_up_to, key_of, value_of, index_of, flag_of, pointer_of, is_point}
-use Rattle.ord_script.specs.Pairs.{Pointer}
+use Rattle.ord_script.specs.{Text.pointer_text, Pairs.Pointer}
 use Rattle.ord_script.specs.Spelling as spelling
-use Rattle.ord_script.specs.Text.{pointer_text}
 
 own : IsNumeralModel (λ ds. all_ascii_digits ds ≡ true) (digits_value 10)
 own = numerals_by_value (λ ds. all_ascii_digits ds ≡ true) tells_all_ascii_digits

@@ -1,13 +1,9 @@
 -- The first line of some bytes, and the first word of a line.
 use Rattle.std.proofs.Common.{◌≡◌, ℕ, ◌+◌, ◌<◌, ◌≤◌, ◌==◌, suc, Bool, true, false, cond, not, List, [], ◌∷◌, length, take, drop, get_or, filter, refl, sym, ◌∙◌, ap, arith, Some, None, position, nat_lt, subst}
-use Rattle.std.proofs.Math.Numerals.{one-add}
-use Rattle.std.specs.List.{slice_split, onto_first, position_or_len}
+use Rattle.std.proofs.{lemmas.List.drop_more, lemmas.List.drop_all, lemmas.List.take_all, lemmas.Bool.ltb-true, lemmas.Bool.ltb-false}
+use Rattle.std.proofs.{lemmas.List.Sums.prefix_len_stops, lemmas.Option.cond_some, Math.Numerals.one-add, Math.Dec.eqb-suc-zero}
 use Rattle.std.specs.Str.Lines.{lines, lines_of_parts, strip_carriage_return}
-use Rattle.std.proofs.lemmas.Option.{cond_some}
-use Rattle.std.proofs.lemmas.Bool.{ltb-true, ltb-false}
-use Rattle.std.proofs.Math.Dec.{eqb-suc-zero}
-use Rattle.std.proofs.lemmas.List.{drop_more, drop_all, take_all}
-use Rattle.std.proofs.lemmas.List.Sums.{prefix_len_stops}
+use Rattle.std.specs.List.{slice_split, onto_first, position_or_len}
 use Rattle.ord_script.specs.Script.{is_blank, words_of}
 
 -- the parts after the first

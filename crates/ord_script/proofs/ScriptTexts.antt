@@ -1,23 +1,18 @@
 -- The lines of some commands, cut into lines and words again.
 use Rattle.std.proofs.Common.{◌≡◌, ℕ, ◌+◌, ◌-◌, ◌^◌, ◌<◌, ◌==◌, Bool, true, false, nat_lt, ◌&&◌, pos, negsuc, List, [], ◌∷◌, ◌++◌, length, get_or, map, All, Some, None, Ok, decimal, suc, refl, ◌∙◌, ap, arith, append_assoc, length-append}
-use Rattle.std.specs.List.{AllByRecursion, list_all, slice_split, join_with_byte}
-use Rattle.std.specs.Str.Lines.{lines, lines_of_parts, strip_carriage_return}
-use Rattle.std.proofs.lemmas.Bool.{ltb-true, ne_eqb}
-use Rattle.std.proofs.lemmas.Fmt.{decimal_nonempty}
-use Rattle.std.proofs.lemmas.Int.{ints}
 use Rattle.std.proofs.lemmas.List.Elements.{All-from_recursion, recursion_from_All, All-nil, All-cons, All-head, All-tail, All-append, All-map, All-weaker, All-get_or}
-use Rattle.std.proofs.lemmas.List.Recursion.{and_at}
-use Rattle.std.proofs.lemmas.List.Splits.{slice_split_none, slice_split_at}
+use Rattle.std.proofs.{lemmas.List.Splits.slice_split_none, lemmas.List.Splits.slice_split_at, lemmas.Bool.ltb-true, lemmas.Bool.ne_eqb}
+use Rattle.std.proofs.{lemmas.List.Recursion.and_at, lemmas.Fmt.decimal_nonempty, lemmas.Int.ints}
 use Rattle.std.specs.declared.cmp.Ordering.TheVariants.{Less, Equal, Greater}
+use Rattle.std.specs.Str.Lines.{lines, lines_of_parts, strip_carriage_return}
+use Rattle.std.specs.List.{AllByRecursion, list_all, slice_split, join_with_byte}
 use Rattle.triple_ord.specs.declared.insert_kind.OrdInsertKind.TheVariants as kinds
 use Rattle.ord_machine.specs.declared.command.Command.TheVariants as commands
-use Rattle.ord_script.specs.Pairs.{PairCommand}
-use Rattle.ord_script.specs.Script.{is_blank, words_of, and_then, script_from, script_of}
-use Rattle.ord_script.specs.Commands.{said_by}
 use Rattle.ord_script.specs.Spelling.{Argument, key, value, index, count, pointer, flag, argument_text, IsInRange, saying_of, spelled, CanBeSaid, script_text}
+use Rattle.ord_script.specs.{Script.is_blank, Script.words_of, Script.and_then, Script.script_from, Script.script_of, Pairs.PairCommand}
+use Rattle.ord_script.specs.Commands.{said_by}
+use Rattle.ord_script.proofs.{Parts.words_among, Parts.words_among-cons, Parts.lines_onto, Spelled.command_text, Spelled.in_range}
 use Rattle.ord_script.proofs.NumberTexts.{digits_all, decimal_digits}
-use Rattle.ord_script.proofs.Parts.{words_among, words_among-cons, lines_onto}
-use Rattle.ord_script.proofs.Spelled.{command_text, in_range}
 
 -- a word that isn't cut: it has a byte, and none of its bytes is a blank or ends a line
 record IsWhole (word : List ℕ) : Type 0 where

@@ -1,8 +1,7 @@
 -- Words that begin a command, looked up one after another.
 use Rattle.std.proofs.Common.{◌≡◌, ℕ, ◌+◌, ◌<◌, false, List, length, drop, get_or, bytes_eq, refl}
 use Rattle.std.proofs.lemmas.List.{drop_more}
-use Rattle.ord_script.specs.declared.word.Word.{Word}
-use Rattle.ord_script.specs.Commands.{word_text, word_in}
+use Rattle.ord_script.specs.{Commands.word_text, Commands.word_in, declared.word.Word.Word}
 
 -- a word with another text is passed over
 module _ (words : List Word) (text : List ℕ) (i : ℕ) (default : Word) (within : i < length words) where

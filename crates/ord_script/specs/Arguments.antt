@@ -1,10 +1,8 @@
 -- The arguments of a command: what the words behind its first one are read as.
 use Rattle.std.specs.Prelude.{ℕ, List, [], ◌∷◌, ok_or, Option, Some, None, option_map, option_and_then, Result, Err}
 use Rattle.std.specs.Option.{option_zip}
-use Rattle.ord_script.specs.declared.fault.FaultKind.{FaultKind}
 use Rattle.ord_script.specs.declared.fault.FaultKind.TheVariants.{WrongArguments, BadNumber}
-use Rattle.ord_script.specs.Numbers.{key_of, value_of}
-use Rattle.ord_script.specs.Pairs.{Pair}
+use Rattle.ord_script.specs.{declared.fault.FaultKind.FaultKind, Numbers.key_of, Numbers.value_of, Pairs.Pair}
 
 -- How an X is read from the front of some words. Where they are too few, it isn't; else the words behind it are left, and the X is
 -- what those in front say, if they say one.

@@ -1,16 +1,14 @@
 -- Commands as the words of a line spell them.
 use Rattle.std.specs.Prelude.{ℕ, ℤ, List, [], ◌∷◌, ◌==◌, ok_or, Option, Some, None, Result, Ok, Err, codes, bytes_eq, slice_index, if◌then◌else◌}
-use Rattle.std.specs.declared.cmp.Ordering.{Ordering}
 use Rattle.std.specs.declared.cmp.Ordering.TheVariants.{Less, Equal, Greater}
+use Rattle.std.specs.declared.cmp.Ordering.{Ordering}
 use Rattle.triple_ord.specs.declared.insert_kind.OrdInsertKind.TheVariants as kinds
-use Rattle.ord_script.specs.declared.fault.FaultKind.{FaultKind}
-use Rattle.ord_script.specs.declared.fault.FaultKind.TheVariants.{UnknownCommand}
-use Rattle.ord_machine.specs.declared.command.Command.TheVariants as commands
-use Rattle.ord_script.specs.declared.word.Word.{Word}
-use Rattle.ord_script.specs.declared.word.Word.TheVariants as words
-use Rattle.ord_script.specs.Numbers.{key_of, value_of, index_of, flag_of, pointer_of}
 use Rattle.ord_script.specs.Arguments.{Reader, nothing, one, both, key_and_value, arguments_in}
-use Rattle.ord_script.specs.Pairs.{Pair, Pointer, PairCommand}
+use Rattle.ord_script.specs.Numbers.{key_of, value_of, index_of, flag_of, pointer_of}
+use Rattle.ord_script.specs.{declared.fault.FaultKind.TheVariants.UnknownCommand, Pairs.Pair, Pairs.Pointer, Pairs.PairCommand}
+use Rattle.ord_script.specs.{declared.fault.FaultKind.FaultKind, declared.word.Word.Word}
+use Rattle.ord_machine.specs.declared.command.Command.TheVariants as commands
+use Rattle.ord_script.specs.declared.word.Word.TheVariants as words
 
 -- how a script writes the words that begin a command
 abbrev pub word_text : Word → List ℕ

@@ -1,8 +1,8 @@
 -- What a watched device shows, and what goes through it.
 use Rattle.std.specs.Prelude.{◌≡◌, ℕ, ◌+◌, ◌<◌, ◌≤◌, Bool, true, false, ◌&&◌, ◌==◌, nat_lt, List, [], ◌++◌, length, Option, Result, Ok, Err, MatchResult}
 use Rattle.std.specs.Io.KnownBytes.{Consumes, Appends, IsAtEnd}
-use Rattle.ord_script.specs.declared.reading.ReadError.{ReadError}
 use Rattle.ord_script.specs.declared.reading.ReadError.TheVariants.{TooLong, Memory, Failed}
+use Rattle.ord_script.specs.declared.reading.ReadError.{ReadError}
 
 -- a device, whether a call of it has failed, and whether a read of it has met its end
 pub record Watch (D : Type 0) : Type 0 where

@@ -1,11 +1,8 @@
 -- What is true of every script, each as a statement of its own.
 use Rattle.std.specs.Prelude.{◌≡◌, ℕ, ℤ, List, [], ◌∷◌, All, Contains, codes, Some, None, Ok}
-use Rattle.ord_script.specs.Pairs.{Pointer, PairCommand}
-use Rattle.ord_script.specs.Numbers.{key_of, pointer_of}
-use Rattle.ord_script.specs.Commands.{word_text, word_of, said_by}
-use Rattle.ord_script.specs.Script.{script_of}
-use Rattle.ord_script.specs.Service.{Answers}
 use Rattle.ord_script.specs.Spelling.{key, pointer, argument_text, IsInRange, saying_of, spelled, CanBeSaid, script_text}
+use Rattle.ord_script.specs.{Commands.word_text, Commands.word_of, Commands.said_by, Numbers.key_of, Numbers.pointer_of, Script.script_of}
+use Rattle.ord_script.specs.{Pairs.Pointer, Pairs.PairCommand, Service.Answers}
 
 -- the answers to a script of these two commands: where memory is refused to one of them, it says so
 abbrev pub first_answers : List (List ℕ)

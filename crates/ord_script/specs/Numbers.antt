@@ -1,8 +1,6 @@
 -- Numbers and pointers as a script writes them.
 use Rattle.std.specs.Prelude.{ℕ, ◌-◌, ◌^◌, ◌==◌, ℤ, pos, neg_ℤ, List, [], ◌∷◌, Bool, ◌&&◌, nat_lt, nat_le, length, if◌then◌else◌, Option, Some, None, option_and_then, option_map}
-use Rattle.std.specs.List.{before_first, after_first}
-use Rattle.std.specs.Str.{all_ascii_digits}
-use Rattle.std.specs.Str.Parse.{digits_value}
+use Rattle.std.specs.{List.before_first, List.after_first, Str.Parse.digits_value, Str.all_ascii_digits}
 use Rattle.ord_script.specs.Pairs.{Pointer}
 
 -- one or more digits, of which the number is at most the greatest one; leading zeros are allowed

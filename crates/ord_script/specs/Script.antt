@@ -1,11 +1,7 @@
 -- A script: bytes cut into lines, lines cut into words, and the commands up to the first fault.
 use Rattle.std.specs.Prelude.{ℕ, ◌+◌, ◌==◌, ◌||◌, Bool, not, List, [], ◌∷◌, length, filter, Option, Some, None, Result, Ok, Err}
-use Rattle.std.specs.List.{slice_split}
-use Rattle.std.specs.Str.Lines.{lines}
-use Rattle.ord_script.specs.declared.fault.Fault.{Fault}
-use Rattle.ord_script.specs.declared.fault.FaultKind.{FaultKind}
-use Rattle.ord_script.specs.Commands.{said_by}
-use Rattle.ord_script.specs.Pairs.{PairCommand}
+use Rattle.std.specs.{List.slice_split, Str.Lines.lines}
+use Rattle.ord_script.specs.{declared.fault.FaultKind.FaultKind, declared.fault.Fault.Fault, Pairs.PairCommand, Commands.said_by}
 
 -- a space or a tab
 abbrev pub is_blank : ℕ → Bool

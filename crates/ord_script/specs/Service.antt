@@ -1,14 +1,11 @@
 -- What a script answers, and what is written of it.
 use Rattle.std.specs.Prelude.{◌≡◌, ℕ, ◌+◌, ◌<◌, ◌≤◌, Bool, true, false, List, [], ◌++◌, length, map, codes, Option, Some, None}
 use Rattle.std.specs.Io.KnownBytes.{Consumes, Appends}
-use Rattle.ord_script.specs.declared.fault.Fault.{Fault}
-use Rattle.ord_script.specs.declared.script_end.ScriptEnd.{ScriptEnd}
-use Rattle.ord_script.specs.declared.script_end.ScriptEnd.TheVariants as ends
-use Rattle.ord_script.specs.Devices.{limit}
-use Rattle.ord_machine.specs.Machine.{State, Runs}
-use Rattle.ord_script.specs.Pairs.{Pair, PairReply, reading, beginning, answers_equal}
+use Rattle.ord_script.specs.{Pairs.Pair, Pairs.PairReply, Pairs.reading, Pairs.beginning, Pairs.answers_equal, declared.fault.Fault.Fault}
+use Rattle.ord_script.specs.{Text.form_of, Text.reply_lines, Text.fault_line, declared.script_end.ScriptEnd.ScriptEnd, Devices.limit}
 use Rattle.ord_script.specs.Script.{Script, script_of}
-use Rattle.ord_script.specs.Text.{form_of, reply_lines, fault_line}
+use Rattle.ord_script.specs.declared.script_end.ScriptEnd.TheVariants as ends
+use Rattle.ord_machine.specs.Machine.{State, Runs}
 
 -- The text answers the script: the replies of a run over its commands from an empty arena, and then its fault.
 pub record Answers (A : Type 0) (script : Script) (text : List ℕ) : Type 0 where

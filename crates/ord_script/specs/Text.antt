@@ -1,23 +1,18 @@
 -- The lines that a script answers.
 use Rattle.std.specs.Prelude.{◌≡◌, Result, OnOk, String, string_bytes, ℕ, Bool, true, false, List, [], ◌∷◌, ◌++◌, Option, Some, None, codes, decimal, flat_map}
-use Rattle.std.specs.Fmt.{signed_decimal}
-use Rattle.std.specs.declared.cmp.Ordering.{Ordering}
 use Rattle.std.specs.declared.cmp.Ordering.TheVariants.{Less, Equal, Greater}
-use Rattle.arena_base.specs.Invalidation.{is_overflow}
-use Rattle.arena_base.specs.declared.invalidation.InvalidationResult.{InvalidationResult}
+use Rattle.std.specs.{declared.cmp.Ordering.Ordering, Fmt.signed_decimal}
 use Rattle.arena_base.specs.declared.invalidation.InvalidationResult.TheVariants.{Success, GenerationOverflow, InvalidPtr}
-use Rattle.triple_ord.specs.declared.entry_kind.OrdEntryKind.{OrdEntryKind}
-use Rattle.triple_ord.specs.declared.entry_kind.OrdEntryKind.TheVariants.{New, Replacing}
-use Rattle.triple_ord.specs.declared.error.OrdInsertionError.{OrdInsertionError}
+use Rattle.arena_base.specs.{declared.invalidation.InvalidationResult.InvalidationResult, Invalidation.is_overflow}
 use Rattle.triple_ord.specs.declared.error.OrdInsertionError.TheVariants.{FailedOrdRequirement, NotWithinCapacity, BeyondMaxCapacity, AllocError}
+use Rattle.triple_ord.specs.declared.entry_kind.OrdEntryKind.TheVariants.{New, Replacing}
+use Rattle.triple_ord.specs.{declared.error.OrdInsertionError.OrdInsertionError, declared.entry_kind.OrdEntryKind.OrdEntryKind}
 use Rattle.ord_machine.specs.declared.command.Command.TheVariants as commands
-use Rattle.ord_script.specs.declared.form.Form.{Form}
 use Rattle.ord_script.specs.declared.form.Form.TheVariants.{Plain, Replaced, WithPointer, Cleared, Drained}
-use Rattle.ord_machine.specs.declared.reply.Reply.TheVariants.{Inserted, Refused, Found, Similar, Count, Item, Removed, Renewed, Changed, At, Links, Entries, Ranks, Done, ReductionRefused, Sorted, Stats}
-use Rattle.ord_script.specs.declared.fault.Fault.{Fault}
-use Rattle.ord_script.specs.declared.fault.FaultKind.{FaultKind}
 use Rattle.ord_script.specs.declared.fault.FaultKind.TheVariants.{UnknownCommand, WrongArguments, BadNumber}
-use Rattle.ord_script.specs.Pairs.{Pair, Pointer, PairCommand, PairReply}
+use Rattle.ord_script.specs.{Pairs.Pair, Pairs.Pointer, Pairs.PairCommand, Pairs.PairReply, declared.fault.FaultKind.FaultKind}
+use Rattle.ord_script.specs.{declared.fault.Fault.Fault, declared.form.Form.Form}
+use Rattle.ord_machine.specs.declared.reply.Reply.TheVariants.{Inserted, Refused, Found, Similar, Count, Item, Removed, Renewed, Changed, At, Links, Entries, Ranks, Done, ReductionRefused, Sorted, Stats}
 
 -- index and generation, as 1.2
 abbrev pub pointer_text : Pointer → List ℕ

@@ -1,15 +1,11 @@
 -- Bids below asks: what stays so, and why nothing that is left crosses an order that comes to rest.
 use Rattle.std.proofs.Common.{◌≡◌, ℕ, ◌+◌, ◌-◌, ◌<◌, Bool, true, false, List, [], ◌∷◌, ◌++◌, Option, Some, None, refl, subst, arith, inl, inr, if◌then◌else◌}
-use Rattle.std.proofs.lemmas.Bool.{lt-ltb, le-ltb}
-use Rattle.std.proofs.lemmas.Bool.Decides.{leb_tells, nat_tests}
-use Rattle.std.specs.List.{AllByRecursion}
-use Rattle.order_queue.specs.declared.side.Side.{Side}
-use Rattle.order_queue.specs.declared.side.Side.TheVariants.{Buy, Sell}
-use Rattle.order_queue.specs.Id.{Id}
+use Rattle.std.proofs.{lemmas.Bool.Decides.leb_tells, lemmas.Bool.Decides.nat_tests, lemmas.Bool.lt-ltb, lemmas.Bool.le-ltb}
+use Rattle.std.specs.{List.AllByRecursion, Prelude.IfSome}
 use Rattle.order_queue.specs.Queue.{Resting, Queue, IsInOrder, Rests, first_of, is_named_by, meets, within, traded, behind, without}
+use Rattle.order_queue.specs.{declared.side.Side.TheVariants.Buy, declared.side.Side.TheVariants.Sell, declared.side.Side.Side, Id.Id}
 use Rattle.order_queue.proofs.CallerLemmas.{unmet-worse}
 use Rattle.order_book.specs.Book.{RestsOrNot}
-use Rattle.std.specs.Prelude.{IfSome}
 
 module _ {X : Type 0} where
   -- what follows from two facts of each element is true of each

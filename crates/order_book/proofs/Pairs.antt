@@ -1,9 +1,7 @@
 -- Bids and asks stay a pair of queues after each call.
 use Rattle.std.proofs.Common.{◌≡◌, ℕ, ◌-◌, Option, Some, None, Result, Ok, Err, IfOk, OnOk, OnErr, IfNone, OnSome, sym, ap, subst, ◌∙◌}
-use Rattle.order_queue.specs.Id.{Id}
-use Rattle.order_queue.specs.Queue.{Queue, IsInOrder, traded, taken, with_left}
-use Rattle.order_book.specs.Book.{RestsOrNot}
-use Rattle.order_book.specs.Layout.{IsPairOfQueues}
+use Rattle.order_queue.specs.{Queue.Queue, Queue.IsInOrder, Queue.traded, Queue.taken, Queue.with_left, Id.Id}
+use Rattle.order_book.specs.{Layout.IsPairOfQueues, Book.RestsOrNot}
 use Rattle.order_book.proofs.Apart.{apart-asks_without, apart-bids_without, apart-bought, apart-sold}
 
 -- an order that comes to rest is on its queue's side

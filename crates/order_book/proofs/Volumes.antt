@@ -1,9 +1,8 @@
 -- How much trades come to, and how much is left of the orders behind them.
 use Rattle.std.proofs.Common.{◌≡◌, ℕ, ◌+◌, ◌-◌, ◌≤◌, true, false, List, [], ◌∷◌, sym, arith, inl, inr, if◌then◌else◌}
-use Rattle.std.proofs.lemmas.Bool.{lt-ltb, le-ltb}
-use Rattle.std.proofs.lemmas.Bool.Decides.{leb_tells, eqb_tells}
-use Rattle.order_queue.specs.declared.side.Side.{Side}
+use Rattle.std.proofs.{lemmas.Bool.Decides.leb_tells, lemmas.Bool.Decides.eqb_tells, lemmas.Bool.lt-ltb, lemmas.Bool.le-ltb}
 use Rattle.order_queue.specs.Queue.{Resting, Queue, meets, total, within, traded, trades_of_first, volume, behind, taken}
+use Rattle.order_queue.specs.declared.side.Side.{Side}
 
 -- what meets a limit is at most all, and so is what is traded
 within-total : (side : Side) (limit : ℕ) (xs : List Resting) → within side limit xs ≤ total xs

@@ -1,11 +1,9 @@
 -- What an order book is: bids and asks that rest until they trade, and what an order that comes in does to them.
 use Rattle.std.specs.Prelude.{◌≡◌, ◌≢◌, ℕ, ◌+◌, ◌-◌, ◌<◌, List, [], length, Option, Some, None}
 use Rattle.std.specs.List.{AllByRecursion}
-use Rattle.order_queue.specs.declared.side.Side.{Side}
-use Rattle.order_queue.specs.declared.side.Side.TheVariants.{Buy, Sell}
-use Rattle.order_queue.specs.declared.order.Trade.{Trade}
-use Rattle.order_queue.specs.Id.{Id}
 use Rattle.order_queue.specs.Queue.{Resting, Queue, IsSound, Rests, order_of, traded, trades_of_first, taken, with_left}
+use Rattle.order_queue.specs.{declared.side.Side.TheVariants.Buy, declared.side.Side.TheVariants.Sell, declared.order.Trade.Trade, Id.Id}
+use Rattle.order_queue.specs.declared.side.Side.{Side}
 
 -- a book: those who want to buy, the highest price first, and those who want to sell, the lowest first
 pub record Book : Type 0 where

@@ -1,9 +1,7 @@
 -- For the crates above: what follows from the public definitions.
-use Rattle.std.proofs.Common.{◌≡◌, ℕ, false, arith}
-use Rattle.std.proofs.lemmas.Bool.Decides.{nat_tests}
+use Rattle.std.proofs.{Common.◌≡◌, Common.ℕ, Common.false, Common.arith, lemmas.Bool.Decides.nat_tests}
+use Rattle.order_queue.specs.{declared.side.Side.TheVariants.Buy, declared.side.Side.TheVariants.Sell, Queue.IsNoWorse, Queue.meets}
 use Rattle.order_queue.specs.declared.side.Side.{Side}
-use Rattle.order_queue.specs.declared.side.Side.TheVariants.{Buy, Sell}
-use Rattle.order_queue.specs.Queue.{IsNoWorse, meets}
 
 -- where an order doesn't meet a limit, one whose price is no better doesn't either
 pub unmet-worse : (side : Side) (p q limit : ℕ) → IsNoWorse side p q → meets side p limit ≡ false → meets side q limit ≡ false

@@ -1,20 +1,15 @@
 -- The orders of a queue and the entries of its arena: what a pointer names, and what a removal leaves.
 use Rattle.std.proofs.Common.{◌≡◌, ℕ, ◌≤◌, ◌<◌, ◌==◌, [], ◌∷◌, map, Option, Some, None, IsSome, IfNone, OnSome, is_some, refl, sym, ap, subst, ◌∙◌, arith, inl, inr, true, false, if◌then◌else◌}
-use Rattle.std.proofs.lemmas.Grind.{common_steps}
-use Rattle.std.proofs.lemmas.Bool.Decides.{eqb_tells}
-use Rattle.std.specs.List.{AllByRecursion}
-use Rattle.std.specs.Option.{option_map}
-use Rattle.std.proofs.lemmas.List.{length-map}
+use Rattle.std.proofs.{lemmas.Bool.Decides.eqb_tells, lemmas.Grind.common_steps, lemmas.List.length-map}
+use Rattle.std.specs.{List.AllByRecursion, Option.option_map}
 use Rattle.arena_base.specs.Arena.{limit_of}
 use Rattle.chain_base.specs.Chain.{Entry, removed, IsSound as IsSoundChain, IsDistinct as AreDistinct, entry_at, item_of, first_pointer, without as without_index}
 use Rattle.chain_base.proofs.CallerLemmas.{entry_at-absent}
 use Rattle.ord_tree.specs.Tree.{Tree}
-use Rattle.order_queue.specs.declared.side.Side.{Side}
-use Rattle.order_queue.specs.declared.order.Order.{Order}
 use Rattle.order_queue.specs.Queue.{Queue, most_orders, Updates, with_left, first_of, order_of, without, IsDistinct, IsSound}
 use Rattle.order_queue.specs.Layout.{greatest_generation, most_price, ranked, resting, queue_of, AreRanked, IsArenaOfOrders}
-use Rattle.order_queue.proofs.Naming.{updates-none, updates-left}
-use Rattle.order_queue.proofs.Ranks.{Entries, recursion-map, in_order-ranked}
+use Rattle.order_queue.specs.{declared.order.Order.Order, declared.side.Side.Side}
+use Rattle.order_queue.proofs.{Ranks.Entries, Ranks.recursion-map, Ranks.in_order-ranked, Naming.updates-none, Naming.updates-left}
 
 -- the entries behind the first have pairwise different indexes too, and none has the first's
 distinct-rest : (e : Entry (ℕ × ℕ)) (es : Entries) → AreDistinct (e ∷ es) → AreDistinct es

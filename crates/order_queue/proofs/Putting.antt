@@ -1,30 +1,23 @@
 -- A new entry behind all whose rank is at most its own: the order comes to rest.
 use Rattle.std.proofs.Common.{◌≡◌, ◌≢◌, ℕ, Bool, true, false, List, [], ◌∷◌, ◌++◌, map, Option, Some, None, IfSome, is_some, Result, Ok, Err, IfOk, OnErr, slice_get, refl, sym, ap}
 use Rattle.std.proofs.Common.{subst, ◌∙◌, ◌+◌, ◌*◌, ◌<◌, ◌≤◌, min, max, nat_lt, length, arith, if◌then◌else◌}
-use Rattle.std.proofs.lemmas.Bool.{lt-ltb, le-ltb}
-use Rattle.std.proofs.lemmas.List.{map-append, length-map}
-use Rattle.std.specs.List.{AllByRecursion}
-use Rattle.std.specs.Option.{option_map}
+use Rattle.std.proofs.{lemmas.List.map-append, lemmas.List.length-map, lemmas.Bool.lt-ltb, lemmas.Bool.le-ltb}
+use Rattle.std.specs.{declared.cmp.Ordering.TheVariants.Less, declared.cmp.Ordering.Ordering, List.AllByRecursion, Option.option_map}
 use Rattle.std.specs.Ordering.{nat_cmp}
-use Rattle.std.specs.declared.cmp.Ordering.{Ordering}
-use Rattle.std.specs.declared.cmp.Ordering.TheVariants.{Less}
 use Rattle.chain_base.specs.Chain.{Entry, Chain, times, item_of, IsSound, inserted_at, next_index, with_capacity, grown_capacity}
 use Rattle.chain_base.specs.Insert.{IsInsertion}
 use Rattle.chain_base.proofs.CallerLemmas.{entry_at-absent}
 use Rattle.ord_tree.specs.Tree.{Tree}
-use Rattle.triple_ord.specs.Gap.{Gap, before, after, with_between}
 use Rattle.triple_ord.specs.Insertion.{Growth, within, reallocating, with_slot, InsertsBy, InsertsNew}
-use Rattle.triple_ord.specs.EntryKind.{pointer_of}
-use Rattle.triple_ord.specs.Place.{behind_key}
-use Rattle.triple_ord.specs.declared.entry_kind.OrdEntryKind.{OrdEntryKind}
 use Rattle.triple_ord.specs.declared.entry_kind.OrdEntryKind.TheVariants.{New, Replacing}
+use Rattle.triple_ord.specs.{Gap.Gap, Gap.before, Gap.after, Gap.with_between, declared.entry_kind.OrdEntryKind.OrdEntryKind}
+use Rattle.triple_ord.specs.{EntryKind.pointer_of, Place.behind_key}
 use Rattle.triple_ord.proofs.CallerLemmas.{entries-with_slot}
-use Rattle.order_queue.specs.declared.side.Side.{Side}
-use Rattle.order_queue.specs.Queue.{Rests, Updates, IsNoWorse, IsWorse, most_orders, grown}
 use Rattle.order_queue.specs.Layout.{greatest_generation, most_price, rank_of, ranked, resting, queue_of, AreRanked, IsArenaOfOrders}
-use Rattle.order_queue.proofs.Naming.{updates-rested}
-use Rattle.order_queue.proofs.Leaving.{told, order_of-found}
+use Rattle.order_queue.specs.Queue.{Rests, Updates, IsNoWorse, IsWorse, most_orders, grown}
+use Rattle.order_queue.specs.declared.side.Side.{Side}
 use Rattle.order_queue.proofs.Ranks.{no_worse-ranked, worse-ranked, ranked-twice, ranked-lawful, recursion-map, recursion-both, recursion-append, recursion-front, recursion-back, ranked-between, ranked-back, none-greater, all-greater}
+use Rattle.order_queue.proofs.{Leaving.told, Leaving.order_of-found, Naming.updates-rested}
 
 -- a growth leaves generation and maximum
 numbers-with_slot : {T : Type 0} (growth : Growth) (most : ℕ) (c : Chain T) → ((with_slot growth most c).generation ≡ c.generation) × ((with_slot growth most c).maximum ≡ c.maximum)

@@ -1,15 +1,12 @@
 -- The order of ranks: where a new order stands among entries in order, and what that says of prices.
 use Rattle.std.proofs.Common.{◌≡◌, ◌≢◌, ℕ, ◌<◌, ◌≤◌, List, [], ◌∷◌, ◌++◌, map, None, IfSome, refl, arith}
 use Rattle.std.proofs.lemmas.Bool.Decides.{nat_tests}
-use Rattle.std.specs.List.{AllByRecursion}
-use Rattle.std.specs.Ordering.{nat_cmp}
-use Rattle.std.specs.declared.cmp.Ordering.TheVariants.{Less}
+use Rattle.std.specs.{declared.cmp.Ordering.TheVariants.Less, List.AllByRecursion, Ordering.nat_cmp}
 use Rattle.chain_base.specs.Chain.{Entry}
 use Rattle.triple_ord.specs.Gap.{first_of, last_or}
-use Rattle.order_queue.specs.declared.side.Side.{Side}
-use Rattle.order_queue.specs.declared.side.Side.TheVariants.{Buy, Sell}
-use Rattle.order_queue.specs.Queue.{IsNoWorse, IsWorse, IsInOrder}
+use Rattle.order_queue.specs.{declared.side.Side.TheVariants.Buy, declared.side.Side.TheVariants.Sell, declared.side.Side.Side}
 use Rattle.order_queue.specs.Layout.{most_price, ranked, resting, AreRanked}
+use Rattle.order_queue.specs.Queue.{IsNoWorse, IsWorse, IsInOrder}
 
 -- of a lesser rank a price is no worse, and of a greater one it is worse
 pub no_worse-ranked : (side : Side) (r s : ℕ) → r ≤ s → IsNoWorse side (ranked side r) (ranked side s)

@@ -5,11 +5,9 @@ use Rattle.std.specs.List.{AllByRecursion}
 use Rattle.arena_base.specs.Arena.{item_if}
 use Rattle.chain_base.specs.Chain.{Entry, entry_at, item_of, with_item_among}
 use Rattle.ord_tree.specs.Tree.{Tree, with_item}
+use Rattle.order_queue.specs.{Layout.most_price, Layout.resting, Layout.queue_of, Layout.AreRanked, Layout.IsArenaOfOrders, Queue.Resting}
 use Rattle.order_queue.specs.declared.side.Side.{Side}
-use Rattle.order_queue.specs.Queue.{Resting}
-use Rattle.order_queue.specs.Layout.{most_price, resting, queue_of, AreRanked, IsArenaOfOrders}
-use Rattle.order_queue.proofs.Ranks.{Entries}
-use Rattle.order_queue.proofs.Leaving.{first-item}
+use Rattle.order_queue.proofs.{Leaving.first-item, Ranks.Entries}
 
 -- what a pointer finds stands at its index
 found-at : (g : ℕ) (o : Option (ℕ × (ℕ × ℕ))) (item : ℕ × ℕ) → item_if g o ≡ Some item → o ≡ Some (g, item)

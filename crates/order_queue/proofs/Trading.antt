@@ -1,17 +1,13 @@
 -- An offer goes along the queue: how much is traded with what is left of it, and what its trades are.
 use Rattle.std.proofs.Common.{◌≡◌, ℕ, ◌+◌, ◌-◌, ◌≤◌, ◌<◌, min, List, [], ◌∷◌, ◌++◌, map, take, length, length-append, append_assoc, true, false, refl, sym, ap, ◌∙◌, arith, inl, inr, if◌then◌else◌}
-use Rattle.std.proofs.lemmas.List.{append-nil}
-use Rattle.std.proofs.Math.Seq.{take-append_seam}
-use Rattle.std.proofs.lemmas.Bool.Decides.{eqb_tells}
+use Rattle.std.proofs.{lemmas.Bool.Decides.eqb_tells, Math.Seq.take-append_seam, lemmas.List.append-nil}
 use Rattle.std.specs.List.{AllByRecursion}
 use Rattle.chain_base.specs.Chain.{Entry}
-use Rattle.order_queue.specs.declared.side.Side.{Side}
-use Rattle.order_queue.specs.declared.order.Trade.{Trade}
-use Rattle.ord_tree.specs.Tree.{Tree}
 use Rattle.order_queue.specs.Queue.{Resting, Queue, IsNoWorse, IsInOrder, meets, within, traded, trades_of_first}
 use Rattle.order_queue.specs.Layout.{most_price, ranked, resting, queue_of, AreRanked, IsArenaOfOrders}
-use Rattle.order_queue.proofs.CallerLemmas.{unmet-worse}
-use Rattle.order_queue.proofs.Ranks.{Entries, in_order-ranked}
+use Rattle.order_queue.specs.{declared.order.Trade.Trade, declared.side.Side.Side}
+use Rattle.ord_tree.specs.Tree.{Tree}
+use Rattle.order_queue.proofs.{Ranks.Entries, Ranks.in_order-ranked, CallerLemmas.unmet-worse}
 
 -- orders of which none meets the limit offer nothing
 within-no_better : (side : Side) (limit p : ℕ) (xs : List Resting) → meets side p limit ≡ false → AllByRecursion (λ x. IsNoWorse side p x.price) xs

@@ -3,9 +3,8 @@ use Rattle.std.specs.Prelude.{◌≡◌, ℕ, ◌-◌, ◌≤◌, ◌<◌, List,
 use Rattle.std.specs.List.{AllByRecursion}
 use Rattle.chain_base.specs.Chain.{Entry}
 use Rattle.ord_tree.specs.Tree.{Tree}
+use Rattle.order_queue.specs.{declared.side.Side.TheVariants.Buy, declared.side.Side.TheVariants.Sell, Queue.Resting, Queue.Queue}
 use Rattle.order_queue.specs.declared.side.Side.{Side}
-use Rattle.order_queue.specs.declared.side.Side.TheVariants.{Buy, Sell}
-use Rattle.order_queue.specs.Queue.{Resting, Queue}
 
 -- the greatest generation of a pointer
 abbrev pub greatest_generation : Option ℕ

@@ -2,10 +2,8 @@
 use Rattle.std.specs.Prelude.{◌≡◌, ◌≢◌, ℕ, ◌+◌, ◌-◌, ◌≤◌, ◌<◌, ◌*◌, min, max, ◌==◌, ◌&&◌, leb, nat_lt, if◌then◌else◌, Bool, List, [], ◌∷◌, ◌++◌, length, Option, Some, None}
 use Rattle.std.specs.List.{AllByRecursion}
 use Rattle.arena_base.specs.Generation.{next_generation}
-use Rattle.order_queue.specs.declared.side.Side.{Side}
-use Rattle.order_queue.specs.declared.side.Side.TheVariants.{Buy, Sell}
-use Rattle.order_queue.specs.declared.order.Order.{Order}
-use Rattle.order_queue.specs.declared.order.Trade.{Trade}
+use Rattle.order_queue.specs.{declared.side.Side.TheVariants.Buy, declared.side.Side.TheVariants.Sell, declared.order.Order.Order}
+use Rattle.order_queue.specs.{declared.order.Trade.Trade, declared.side.Side.Side}
 
 -- a resting order: the pointer that names it, an index and a generation; its price; and how much of it is left
 pub record Resting : Type 0 where

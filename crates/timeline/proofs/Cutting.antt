@@ -1,10 +1,9 @@
 -- Lists of changes: cutting them at a time, and putting changes between.
 use Rattle.std.proofs.Common.{◌≡◌, ℕ, ◌<◌, ◌≤◌, List, [], ◌∷◌, ◌++◌, Option, refl, sym, ap, ◌∙◌, arith, inl, inr}
-use Rattle.std.proofs.lemmas.Bool.Decides.{leb_tells}
-use Rattle.std.proofs.lemmas.List.{append-nil}
+use Rattle.std.proofs.{lemmas.Bool.Decides.leb_tells, lemmas.List.append-nil}
 use Rattle.std.specs.List.{AllByRecursion}
-use Rattle.timeline.specs.Timeline.{Change, IsRising, IsJoinedAfter}
 use Rattle.timeline.specs.Layout.{earlier, later, last_value, Brings}
+use Rattle.timeline.specs.Timeline.{Change, IsRising, IsJoinedAfter}
 
 module _ {V : Type 0} where
   -- all changes are before a time, at most at it, at least at it, or after it

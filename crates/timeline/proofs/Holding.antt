@@ -1,20 +1,15 @@
 -- What the private calls make of the changes in an arena.
 use Rattle.std.proofs.Common.{◌≡◌, ◌≢◌, ℕ, ◌<◌, ◌≤◌, inl, inr, List, [], ◌∷◌, ◌++◌, map, length, Option, Some, None, IsSome, is_some, IfSome, OnSome, Ok, refl, sym, ap, subst, ◌∙◌, arith}
-use Rattle.std.proofs.lemmas.Bool.Decides.{nat_tests}
-use Rattle.std.proofs.lemmas.List.{map-append, length-append}
-use Rattle.std.specs.List.{AllByRecursion}
-use Rattle.std.specs.Option.{option_map}
-use Rattle.std.specs.Ordering.{nat_cmp}
-use Rattle.std.specs.declared.cmp.Ordering.TheVariants.{Less, Greater}
+use Rattle.std.proofs.{lemmas.List.map-append, lemmas.List.length-append, lemmas.Bool.Decides.nat_tests}
+use Rattle.std.specs.{declared.cmp.Ordering.TheVariants.Less, declared.cmp.Ordering.TheVariants.Greater, List.AllByRecursion}
+use Rattle.std.specs.{Option.option_map, Ordering.nat_cmp}
 use Rattle.chain_base.specs.Chain.{Entry, IsDistinct, entry_at, without}
 use Rattle.ord_tree.specs.Tree.{Tree}
-use Rattle.triple_ord.specs.Gap.{Gap, before, after, last_or}
-use Rattle.triple_ord.specs.Insertion.{within, InsertsBy, told}
-use Rattle.triple_ord.specs.Place.{at_key}
-use Rattle.triple_ord.specs.Search.{IsFirstEqual}
+use Rattle.triple_ord.specs.{Insertion.within, Insertion.InsertsBy, Insertion.told, Gap.Gap, Gap.before, Gap.after, Gap.last_or}
+use Rattle.triple_ord.specs.{Search.IsFirstEqual, Place.at_key}
 use Rattle.triple_ord.proofs.KeptOrder.{listed-new}
-use Rattle.timeline.specs.Timeline.{Change, value_at, IsRising}
 use Rattle.timeline.specs.Layout.{change, told_of, changes_of, earlier, later, last_value, IsChanged, IsLastUntil, IsTakenOut}
+use Rattle.timeline.specs.Timeline.{Change, value_at, IsRising}
 use Rattle.timeline.proofs.Cutting.{AreBefore, AreUntil, AreFrom, AreAfter, all-back, all-weaker, cut-before, cut-after, cut-earlier, earlier-before, later-after, rising-front, rising-back, rising-last, rising-without, earlier-without, later-without}
 use Rattle.timeline.proofs.Searching.{ends-with, none-last, begins-with, none-mapped, entry-before, without-before, after-first}
 use Rattle.timeline.proofs.Values.{value-cut}

@@ -2,16 +2,14 @@
 use Rattle.std.proofs.Common.{◌≡◌, ◌≢◌, ℕ, ◌<◌, ◌≤◌, List, [], ◌∷◌, ◌++◌, map, Option, Some, None, refl, sym, ap, subst, ◌∙◌, arith}
 use Rattle.std.proofs.lemmas.List.{append_assoc}
 use Rattle.std.specs.Option.{option_map}
-use Rattle.chain_base.specs.Link.{Link}
-use Rattle.chain_base.specs.Chain.{Entry, IsDistinct, entry_at, link_at, first_pointer}
+use Rattle.chain_base.specs.{Chain.Entry, Chain.IsDistinct, Chain.entry_at, Chain.link_at, Chain.first_pointer, Link.Link}
 use Rattle.triple_ord.specs.Gap.{before, after, first_of}
 use Rattle.triple_ord.proofs.Inserting.{entry_at-after}
 use Rattle.timeline.specs.Timeline.{Change, value_at, IsRising, IsJoinedAfter, IsTimeline}
 use Rattle.timeline.specs.Layout.{change, told_of, last_value, IsLastUntil, HoldsUntil}
 use Rattle.timeline.proofs.Cutting.{AreAfter, all-append, all-weaker, rising-back, joined-back}
-use Rattle.timeline.proofs.Searching.{none-last, begins-with, none-mapped, link-before}
+use Rattle.timeline.proofs.{Searching.none-last, Searching.begins-with, Searching.none-mapped, Searching.link-before, Holding.changes-cut}
 use Rattle.timeline.proofs.Values.{value-cut}
-use Rattle.timeline.proofs.Holding.{changes-cut}
 
 -- numbers read as themselves
 pub unmapped : (o : Option ℕ) → option_map (λ i. i) o ≡ o

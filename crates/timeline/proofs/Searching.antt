@@ -1,21 +1,15 @@
 -- Where a search for a time ends among the entries of an arena, and which entry is the last at or before it.
 use Rattle.std.proofs.Common.{◌≡◌, ◌≢◌, ℕ, ◌<◌, ◌≤◌, ◌⊎◌, inl, inr, List, [], ◌∷◌, ◌++◌, map, Option, Some, None, IfSome, refl, sym, ap, subst, ◌∙◌, arith}
-use Rattle.std.proofs.lemmas.Grind.{common_steps}
-use Rattle.std.proofs.lemmas.Bool.Decides.{nat_tests}
-use Rattle.std.proofs.lemmas.List.{map-append, append_assoc}
-use Rattle.std.specs.List.{AllByRecursion}
-use Rattle.std.specs.Option.{option_map}
-use Rattle.std.specs.Ordering.{nat_cmp}
-use Rattle.std.specs.declared.cmp.Ordering.{Ordering}
+use Rattle.std.proofs.{lemmas.List.map-append, lemmas.List.append_assoc, lemmas.Bool.Decides.nat_tests, lemmas.Grind.common_steps}
 use Rattle.std.specs.declared.cmp.Ordering.TheVariants.{Less, Equal, Greater}
-use Rattle.chain_base.specs.Link.{Link}
+use Rattle.std.specs.{declared.cmp.Ordering.Ordering, List.AllByRecursion, Option.option_map, Ordering.nat_cmp}
 use Rattle.chain_base.specs.Chain.{Entry, times, IsDistinct, entry_at, link_between, link_at, first_or, last_or as last_index_or, without}
+use Rattle.chain_base.specs.Link.{Link}
 use Rattle.chain_base.proofs.CallerLemmas.{times-append}
 use Rattle.triple_ord.specs.Gap.{Gap, before, after, first_of, last_or}
 use Rattle.triple_ord.specs.Search.{IsFirstEqual, IsBeside, FindsSimilar}
 use Rattle.triple_ord.proofs.Inserting.{entry_at-after}
-use Rattle.timeline.specs.Timeline.{Change, IsRising}
-use Rattle.timeline.specs.Layout.{change, told_of, IsLastUntil}
+use Rattle.timeline.specs.{Layout.change, Layout.told_of, Layout.IsLastUntil, Timeline.Change, Timeline.IsRising}
 use Rattle.timeline.proofs.Cutting.{AreUntil, AreAfter, rising-front, rising-back}
 
 module _ {X : Type 0} where

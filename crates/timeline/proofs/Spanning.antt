@@ -1,10 +1,8 @@
 -- The stretches of a timeline, one after another.
 use Rattle.std.proofs.Common.{◌≡◌, ◌≢◌, ℕ, ◌<◌, ◌≤◌, List, [], ◌∷◌, ◌++◌, Option, Some, None, inl, inr, refl, sym, ap, subst, ◌∙◌, arith}
-use Rattle.std.proofs.lemmas.Bool.{le-leb, lt-leb}
-use Rattle.std.proofs.lemmas.Bool.Decides.{leb_tells}
-use Rattle.timeline.specs.declared.span.Span.{Span}
+use Rattle.std.proofs.{lemmas.Bool.le-leb, lemmas.Bool.lt-leb, lemmas.Bool.Decides.leb_tells}
 use Rattle.timeline.specs.Timeline.{Change, value_after, value_at, IsRising, IsJoinedAfter, IsTimeline, IsNextSpan, HasNone, AreSpans}
-use Rattle.timeline.specs.Layout.{stretch, spans_after, spans_of}
+use Rattle.timeline.specs.{Layout.stretch, Layout.spans_after, Layout.spans_of, declared.span.Span.Span}
 use Rattle.timeline.proofs.Values.{value-early}
 
 module _ {V : Type 0} where

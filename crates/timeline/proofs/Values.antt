@@ -1,7 +1,6 @@
 -- Values along lists of changes, and what setting a value from one time to another makes of them.
 use Rattle.std.proofs.Common.{◌≡◌, ℕ, ◌+◌, ◌<◌, ◌≤◌, List, [], ◌∷◌, ◌++◌, Option, None, refl, sym, ap, subst, ◌∙◌, arith, inl, inr}
-use Rattle.std.proofs.lemmas.Bool.Decides.{leb_tells}
-use Rattle.std.proofs.lemmas.List.{append_assoc}
+use Rattle.std.proofs.{lemmas.Bool.Decides.leb_tells, lemmas.List.append_assoc}
 use Rattle.std.specs.List.{AllByRecursion}
 use Rattle.timeline.specs.Timeline.{Change, value_after, value_at, IsRising, IsJoinedAfter, IsTimeline}
 use Rattle.timeline.specs.Layout.{earlier, later, last_value, Brings}

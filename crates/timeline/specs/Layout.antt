@@ -1,12 +1,10 @@
 -- How a timeline lies in its arena, and what its private calls leave (layout).
 use Rattle.std.specs.Prelude.{◌≡◌, ◌≢◌, ℕ, ◌≤◌, ◌<◌, leb, if◌then◌else◌, List, [], ◌∷◌, ◌++◌, length, map, Option, Some, None, IsSome, ◌⊎◌}
-use Rattle.std.specs.List.{AllByRecursion}
-use Rattle.std.specs.Option.{option_map}
+use Rattle.std.specs.{List.AllByRecursion, Option.option_map}
 use Rattle.chain_base.specs.Chain.{Entry}
 use Rattle.ord_tree.specs.Tree.{Tree}
 use Rattle.triple_ord.specs.Gap.{Gap, before}
-use Rattle.timeline.specs.declared.span.Span.{Span}
-use Rattle.timeline.specs.Timeline.{Change, value_at, IsTimeline}
+use Rattle.timeline.specs.{Timeline.Change, Timeline.value_at, Timeline.IsTimeline, declared.span.Span.Span}
 
 module _ {V : Type 0} where
   -- the changes before a time

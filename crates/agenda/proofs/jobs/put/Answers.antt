@@ -1,11 +1,8 @@
 use Rattle.std.proofs.Common.{ℕ, ap, subst, ◌∙◌, ◌≡◌, nat_cmp, rules}
-use Rattle.triple_ord.specs.EntryKind.{pointer_of}
-use Rattle.triple_ord.specs.Insertion.{reallocating, InsertsNew}
-use Rattle.triple_ord.specs.Place.{behind_key}
-use Rattle.triple_ord.specs.declared.insert_kind.OrdInsertKind.TheVariants.{Nonhereditary}
+use Rattle.triple_ord.specs.{declared.insert_kind.OrdInsertKind.TheVariants.Nonhereditary, Insertion.reallocating, Insertion.InsertsNew}
+use Rattle.triple_ord.specs.{EntryKind.pointer_of, Place.behind_key}
 use Rattle.triple_ord.proofs.CallerLemmas.{entry-inserts}
-use Rattle.agenda.specs.Agenda.{most_jobs}
-use Rattle.agenda.specs.Layout.{deadline_of}
+use Rattle.agenda.specs.{Layout.deadline_of, Agenda.most_jobs}
 use Rattle.agenda.proofs.Putting.{inserts-new}
 use Rattle.agenda.proofs.jobs.put.Goals as goal
 

@@ -1,9 +1,8 @@
 use Rattle.std.proofs.Common.{◌≡◌, ℕ, zero, suc, ◌<◌, false, true, ◌++◌, ◌∷◌, [], length, Result, Ok, Err, OnErr, refl, sym, ◌∙◌, arith}
 use Rattle.std.proofs.lemmas.Grind.{common_steps}
-use Rattle.ord_machine.proofs.Lists.{cut_more, cut_all}
+use Rattle.ord_machine.proofs.{Runs.RunsBetween-none, Runs.RunsBetween-more, Lists.cut_more, Lists.cut_all}
 use Rattle.triple_ord.specs.ClosureSearch.{Asks}
 use Rattle.ord_machine.specs.Machine.{reading_by}
-use Rattle.ord_machine.proofs.Runs.{RunsBetween-none, RunsBetween-more}
 use Rattle.ord_machine.proofs.running.run.Goals as goal
 
 pub loop-command-init : goal.loop-command-init

@@ -1,6 +1,5 @@
 use Rattle.std.proofs.Common.{rules}
-use Rattle.triple_ord.specs.Insertion.{reallocating}
-use Rattle.triple_ord.specs.Place.{kind_now}
+use Rattle.triple_ord.specs.{Insertion.reallocating, Place.kind_now}
 use Rattle.triple_ord.proofs.CallerLemmas.{entry-inserts}
 use Rattle.ord_machine.proofs.Insertions.{inserts-alike}
 use Rattle.ord_machine.proofs.steps.entry.Goals as goal

@@ -1,7 +1,6 @@
 use Rattle.std.proofs.Common.{◌≡◌, [], ◌∷◌, ◌++◌}
 use Rattle.ord_machine.specs.Machine.{HasRank}
-use Rattle.ord_machine.proofs.Lists.{cut_more}
-use Rattle.ord_machine.proofs.Ranking.{link_next, HaveRanks-more}
+use Rattle.ord_machine.proofs.{Ranking.link_next, Ranking.HaveRanks-more, Lists.cut_more}
 use Rattle.ord_machine.proofs.steps.ranks_of.Goals as goal
 
 pub unwrap-rank-requires : goal.unwrap-rank-requires

@@ -1,6 +1,4 @@
-use Rattle.std.proofs.Common.{◌<◌, length, arith}
-use Rattle.std.proofs.lemmas.Bool.Decides.{nat_tests}
-use Rattle.std.proofs.lemmas.List.{take_rest, drop_all}
+use Rattle.std.proofs.{lemmas.List.take_rest, lemmas.List.drop_all, Common.◌<◌, Common.length, Common.arith, lemmas.Bool.Decides.nat_tests}
 use Rattle.ord_script.proofs.Parts.{lines_some, lines_none}
 use Rattle.ord_script.proofs.cutting.first_line.Goals as goal
 

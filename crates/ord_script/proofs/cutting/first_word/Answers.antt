@@ -1,5 +1,4 @@
-use Rattle.std.proofs.Common.{length, arith, drop}
-use Rattle.std.proofs.lemmas.List.{take_rest, drop_all}
+use Rattle.std.proofs.{lemmas.List.take_rest, lemmas.List.drop_all, Common.length, Common.arith, Common.drop}
 use Rattle.ord_script.proofs.Parts.{words_some, words_last, words_none}
 use Rattle.ord_script.proofs.cutting.first_word.Goals as goal
 

@@ -1,10 +1,7 @@
 use Rattle.std.proofs.Common.{◌≡◌, ◌<◌, ℕ, ◌+◌, true, false, get_or, length, nat_lt, nat_le, cond, ◌&&◌, List, None, Some, arith, refl, sym}
-use Rattle.std.specs.Str.{all_ascii_digits}
-use Rattle.std.specs.Str.Parse.{digits_value}
-use Rattle.std.proofs.lemmas.Str.Parse.{digits_value-take-le}
-use Rattle.std.proofs.lemmas.Int.Digits.{digits_value_more}
-use Rattle.std.proofs.lemmas.Str.{digit_value_digit}
+use Rattle.std.proofs.{lemmas.Str.Parse.digits_value-take-le, lemmas.Int.Digits.digits_value_more, lemmas.Str.digit_value_digit}
 use Rattle.std.proofs.lemmas.Bool.{lt-leb}
+use Rattle.std.specs.{Str.Parse.digits_value, Str.all_ascii_digits}
 use Rattle.ord_script.specs.Numbers.{number_up_to}
 use Rattle.ord_script.proofs.Digits.{all_ascii_digits_bad, all_ascii_digits_more}
 use Rattle.ord_script.proofs.numbers.number_up_to.Goals as goal

@@ -1,6 +1,5 @@
 use Rattle.std.proofs.Common.{◌≡◌, ◌≤◌, true, take}
-use Rattle.std.specs.Str.{all_ascii_digits}
-use Rattle.std.specs.Str.Parse.{digits_value}
+use Rattle.std.specs.{Str.Parse.digits_value, Str.all_ascii_digits}
 use Rattle.ord_script.proofs.numbers.number_up_to.Given as goal
 
 -- the digits so far write the number so far

@@ -1,9 +1,8 @@
 use Rattle.std.proofs.Common.{◌++◌, ◌≤◌, Option, List, ℕ, Err, length, length-append, append-nil, arith}
-use Rattle.std.specs.Io.KnownBytes.{Consumes}
 use Rattle.std.proofs.lemmas.Result.{err_from_is_err_and}
-use Rattle.ord_script.specs.declared.reading.ReadError.{ReadError}
+use Rattle.std.specs.Io.KnownBytes.{Consumes}
 use Rattle.ord_script.specs.declared.reading.ReadError.TheVariants.{TooLong, Memory, Failed}
-use Rattle.ord_script.specs.Devices.{limit, ReadsSome, ReadsAll}
+use Rattle.ord_script.specs.{Devices.limit, Devices.ReadsSome, Devices.ReadsAll, declared.reading.ReadError.ReadError}
 use Rattle.ord_script.proofs.KnownBytes.{Consumes-append}
 use Rattle.ord_script.proofs.reading.read_all.Goals as goal
 

@@ -1,10 +1,7 @@
 use Rattle.std.proofs.Common.{◌≡◌, ◌++◌, ◌⊎◌, inl, inr, List, [], ◌∷◌, string_bytes, refl, sym, ◌∙◌, ap, append-nil}
 use Rattle.std.proofs.lemmas.Slice.Zip.{either_empty_from_Zip}
-use Rattle.std.specs.Iterator.Adapters.{zip_first, zip_second}
-use Rattle.std.specs.Slice.Iter.{iter_rest}
-use Rattle.ord_script.specs.declared.form.Form.{Form}
-use Rattle.ord_script.specs.Pairs.{PairReply}
-use Rattle.ord_script.specs.Text.{reply_lines}
+use Rattle.std.specs.{Iterator.Adapters.zip_first, Iterator.Adapters.zip_second, Slice.Iter.iter_rest}
+use Rattle.ord_script.specs.{declared.form.Form.Form, Text.reply_lines, Pairs.PairReply}
 use Rattle.ord_script.proofs.text.lines_of.Goals as goal
 
 -- no line is left where forms or replies have ended

@@ -1,6 +1,5 @@
 use Rattle.std.proofs.Common.{◌≡◌, false, bytes_eq, get_or, ◌∙◌, arith, rules}
-use Rattle.ord_script.specs.Commands.{all_words, word_text}
-use Rattle.ord_script.specs.declared.word.Word.TheVariants.{Insert}
+use Rattle.ord_script.specs.{Commands.all_words, Commands.word_text, declared.word.Word.TheVariants.Insert}
 use Rattle.ord_script.proofs.Words.{word_in-drop}
 use Rattle.ord_script.proofs.word.word_in.Goals as goal
 

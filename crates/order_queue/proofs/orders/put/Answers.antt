@@ -1,11 +1,8 @@
 use Rattle.std.proofs.Common.{ℕ, ap, subst, ◌∙◌, ◌≡◌, nat_cmp, rules}
-use Rattle.triple_ord.specs.EntryKind.{pointer_of}
-use Rattle.triple_ord.specs.Insertion.{reallocating, InsertsNew}
-use Rattle.triple_ord.specs.Place.{behind_key}
-use Rattle.triple_ord.specs.declared.insert_kind.OrdInsertKind.TheVariants.{Nonhereditary}
+use Rattle.triple_ord.specs.{declared.insert_kind.OrdInsertKind.TheVariants.Nonhereditary, Insertion.reallocating, Insertion.InsertsNew}
+use Rattle.triple_ord.specs.{EntryKind.pointer_of, Place.behind_key}
 use Rattle.triple_ord.proofs.CallerLemmas.{entry-inserts}
-use Rattle.order_queue.specs.Queue.{most_orders}
-use Rattle.order_queue.specs.Layout.{rank_of}
+use Rattle.order_queue.specs.{Queue.most_orders, Layout.rank_of}
 use Rattle.order_queue.proofs.Putting.{inserts-new}
 use Rattle.order_queue.proofs.orders.put.Goals as goal
 

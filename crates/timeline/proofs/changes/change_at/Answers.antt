@@ -1,6 +1,5 @@
 use Rattle.std.proofs.Common.{sym, ◌∙◌}
-use Rattle.timeline.specs.Timeline.{most_changes}
-use Rattle.timeline.specs.Layout.{changes_of}
+use Rattle.timeline.specs.{Timeline.most_changes, Layout.changes_of}
 use Rattle.timeline.proofs.Holding.{changed-same, changed-inserted}
 use Rattle.timeline.proofs.changes.change_at.Goals as goal
 

@@ -1,6 +1,5 @@
 use Rattle.std.proofs.Common.{sym, ◌∙◌}
-use Rattle.timeline.proofs.Searching.{none-mapped}
-use Rattle.timeline.proofs.Lasting.{lasting-none, lasting-told, missing-told}
+use Rattle.timeline.proofs.{Lasting.lasting-none, Lasting.lasting-told, Lasting.missing-told, Searching.none-mapped}
 use Rattle.timeline.proofs.changes.next_after.Goals as goal
 
 pub returns-in_err-i : goal.returns-in_err-i

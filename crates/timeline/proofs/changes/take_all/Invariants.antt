@@ -1,6 +1,5 @@
 use Rattle.std.proofs.Common.{◌≡◌, length}
-use Rattle.timeline.specs.Timeline.{IsRising}
-use Rattle.timeline.specs.Layout.{changes_of, earlier, later, KeepsRoom}
+use Rattle.timeline.specs.{Layout.changes_of, Layout.earlier, Layout.later, Layout.KeepsRoom, Timeline.IsRising}
 use Rattle.timeline.proofs.changes.take_all.Given as goal
 
 -- what is before the one time and after the other stays

@@ -1,6 +1,5 @@
 use Rattle.std.proofs.Common.{◌∙◌, sym, ap, is_some}
-use Rattle.agenda.proofs.Leaving.{job_of-found}
-use Rattle.agenda.proofs.Moving.{arena-moved, rescheduled, moves-moved, count-moved}
+use Rattle.agenda.proofs.{Moving.arena-moved, Moving.rescheduled, Moving.moves-moved, Moving.count-moved, Leaving.job_of-found}
 use Rattle.agenda.proofs.agenda.Agenda.move_to.Goals as goal
 
 pub returns-in_err-moved-clause-value : goal.returns-in_err-moved-clause-value

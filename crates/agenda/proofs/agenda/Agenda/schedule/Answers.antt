@@ -1,6 +1,5 @@
 use Rattle.triple_ord.specs.Insertion.{reallocating}
-use Rattle.agenda.proofs.Naming.{updates-scheduled, count-scheduled}
-use Rattle.agenda.proofs.Putting.{schedules-inserted, arena-inserted}
+use Rattle.agenda.proofs.{Putting.schedules-inserted, Putting.arena-inserted, Naming.updates-scheduled, Naming.count-scheduled}
 use Rattle.agenda.proofs.agenda.Agenda.schedule.Goals as goal
 
 pub invariant_of-self-2 : goal.invariant_of-self-2

@@ -1,9 +1,6 @@
 use Rattle.std.proofs.Common.{◌≡◌, ℕ, ◌<◌, List, [], ◌∷◌, ◌++◌, length, take, Bool, true, false, Result, Ok, Err, OnErr, is_ok, is_err, if◌then◌else◌, refl, sym, ap, ◌∙◌, arith, rules}
 use Rattle.chain_base.specs.Chain.{Entry}
-use Rattle.order_queue.specs.declared.order.Trade.{Trade}
-use Rattle.order_queue.specs.declared.side.Side.{Side}
-use Rattle.order_queue.specs.Queue.{Queue, meets}
-use Rattle.order_queue.specs.Layout.{ranked, queue_of}
+use Rattle.order_queue.specs.{Layout.ranked, Layout.queue_of, declared.order.Trade.Trade, Queue.Queue, Queue.meets, declared.side.Side.Side}
 use Rattle.order_queue.proofs.Trading.{IsOffering, trade_of, offering-start, offering-next, left-done, trades-done, done-ended, done-filled, done-missed, room-wanted, front-kept}
 use Rattle.order_queue.proofs.queue.OrderQueue.offer.Goals as goal
 
