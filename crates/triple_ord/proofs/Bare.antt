@@ -1,28 +1,25 @@
 -- A chain of nodes and the list of its items: each look-up in the one reads what the other has.
-use Rattle.triple_ord.proofs.Words.{◌≡◌, ℕ, ◌↔◌, length, List, [], ◌∷◌, ◌++◌, Option, Some, None, IsSome, IfSome, is_some, refl, sym, ap, subst, ◌∙◌, inl, inr, ◌⊎◌, map, eqb_tells}
-use Rattle.triple_ord.proofs.Words.{length-map, nil_from_length, IfSome_then, option_map, Arena, slot, item_if, Link, Entry, Chain, entry_at, first_or, link_between, link_at}
-use Rattle.triple_ord.proofs.Words.{last_pointer, times, generation_at, IsFirstIndex, IsLastIndex, IsArenaOf, SimpleOrdArenaNode, Shape, missing, node, root_of, walk, Tree, IsChainOf}
-use Rattle.triple_ord.proofs.Words.{IsSoundTree, IsPart, IsNodeIn, IsShown, entry_at-link, entry_at-bare, is_some-bare, times-bare, indexes-bare}
 use Rattle.chain_base.specs.Chain.{item_of}
-use Rattle.ord_tree.specs.declared.tree_links.TreeLinks.{TreeLinks}
-use Rattle.ord_tree.specs.Parents.{HasParentUnder}
-use Rattle.ord_tree.specs.Slots.{Slots, Holds, Among}
 use Rattle.ord_tree.specs.Node.{bare_entry, links_in, slots_of, indexes}
+use Rattle.ord_tree.specs.{Parents.HasParentUnder, Slots.Slots, Slots.Holds, Slots.Among, declared.tree_links.TreeLinks.TreeLinks}
+use Rattle.triple_ord.proofs.Words.{◌≡◌, ℕ, ◌↔◌, length, List, [], ◌∷◌, ◌++◌, Option, Some, None, IsSome, IfSome, is_some, refl, sym, ap}
+use Rattle.triple_ord.proofs.Words.{subst, ◌∙◌, inl, inr, ◌⊎◌, map, length-map, nil_from_length, option_map, Arena, slot, item_if, Link}
+use Rattle.triple_ord.proofs.Words.{Entry, Chain, entry_at, first_or, link_between, link_at, last_pointer, times, generation_at}
+use Rattle.triple_ord.proofs.Words.{IsFirstIndex, IsLastIndex, IsArenaOf, SimpleOrdArenaNode, Shape, missing, node, root_of, walk, Tree}
+use Rattle.triple_ord.proofs.Words.{IsChainOf, IsSoundTree, IsPart, IsNodeIn, IsShown, entry_at-link, entry_at-bare, arith, common_steps}
+use Rattle.triple_ord.proofs.Words.{is_some-bare, times-bare, indexes-bare}
 
 -- the option of a mapped value
 pub is_some-map : {A B : Type 0} (f : A → B) (o : Option A) → is_some (option_map f o) ≡ is_some o
-is_some-map f None = refl
-is_some-map f (Some x) = refl
+is_some-map f o = grind (arith, common_steps)
 
 -- mapped twice
 pub option_map-twice : {A B C : Type 0} (f : A → B) (g : B → C) (o : Option A) → option_map (λ x. g (f x)) o ≡ option_map g (option_map f o)
-option_map-twice f g None = refl
-option_map-twice f g (Some x) = refl
+option_map-twice f g o = grind (arith, common_steps)
 
 module _ {P T I G : Type 0} where
   item_if-bare : (g : ℕ) (o : Option (ℕ × SimpleOrdArenaNode P T I G)) → item_if g (option_map {U = ℕ × T} (λ e. (e.0, e.1.t)) o) ≡ option_map (λ n. n.t) (item_if g o)
-  item_if-bare g None = refl
-  item_if-bare g (Some e) = elim (eqb_tells e.0 g) [ inl h ↦ rw h.0 refl | inr h ↦ rw h.0 refl ]
+  item_if-bare g o = grind (arith, common_steps)
 
   last_pointer-bare : (es : List (Entry (SimpleOrdArenaNode P T I G))) → last_pointer (map bare_entry es) ≡ last_pointer es
   last_pointer-bare [] = refl
@@ -30,8 +27,7 @@ module _ {P T I G : Type 0} where
   last_pointer-bare (e ∷ f ∷ es) = last_pointer-bare (f ∷ es)
 
   first_or-bare : (after : Option ℕ) (es : List (Entry (SimpleOrdArenaNode P T I G))) → first_or after (map bare_entry es) ≡ first_or after es
-  first_or-bare after [] = refl
-  first_or-bare after (e ∷ es) = refl
+  first_or-bare after es = grind (arith, common_steps)
 
   generation_at-link : (es : List (Entry (SimpleOrdArenaNode P T I G))) (i : ℕ) → generation_at es i ≡ option_map (λ e. e.0) (link_at es i)
   generation_at-link es i =
@@ -42,13 +38,10 @@ module _ {P T I G : Type 0} where
   abbrev pub bare_link : ℕ × Link (SimpleOrdArenaNode P T I G) → ℕ × Link T
   bare_link e = (e.0, record { item = e.1.item.t; prev = e.1.prev; next = e.1.next })
 
-  link_between-bare : (before after : Option ℕ) (es : List (Entry (SimpleOrdArenaNode P T I G))) (i : ℕ)
-      → link_between before after (map bare_entry es) i ≡ option_map bare_link (link_between before after es i)
-  link_between-bare before after [] i = refl
-  link_between-bare before after (e ∷ es) i = elim (eqb_tells e.index i) [
-    | inl h ↦ rw (h.0, first_or-bare after es) refl
-    | inr h ↦ rw h.0 (link_between-bare (Some e.index) after es i)
-  ]
+  link_between-bare : (low high : Option ℕ) (es : List (Entry (SimpleOrdArenaNode P T I G))) (i : ℕ)
+      → link_between low high (map bare_entry es) i ≡ option_map bare_link (link_between low high es i)
+  link_between-bare low high [] i = refl
+  link_between-bare low high (e ∷ es) i = grind (arith, common_steps, first_or-bare high es, link_between-bare (Some e.index) high es i)
 
   -- what the chain of nodes under a tree says of the tree's list
   module _ (t : Tree T) (c : Chain (SimpleOrdArenaNode P T I G)) (under : IsChainOf t c) where
@@ -72,12 +65,6 @@ module _ {P T I G : Type 0} where
     length-under : length c.entries ≡ length t.list.entries
     length-under = sym (length-map c.entries bare_entry) ∙ ap (λ (l : Chain T). length l.entries) under.list
 
-    pub item_found-under : (p : ℕ × ℕ) (n : SimpleOrdArenaNode P T I G) → Some n ≡ item_of c.entries p → Some n.t ≡ item_of t.list.entries p
-    item_found-under p n is = sym (item_of-under p ∙ rw (← is) refl)
-
-    pub item_missing-under : (p : ℕ × ℕ) → None ≡ item_of c.entries p → None ≡ item_of t.list.entries p
-    item_missing-under p is = sym (item_of-under p ∙ rw (← is) refl)
-
     pub last_pointer_under : last_pointer c.entries ≡ last_pointer t.list.entries
     last_pointer_under = sym (last_pointer-bare c.entries) ∙ ap (λ (l : Chain T). last_pointer l.entries) under.list
 
@@ -88,17 +75,11 @@ module _ {P T I G : Type 0} where
     link_generation-under i = sym (generation_at-link c.entries i) ∙ generation_at-under i
 
     -- the entries with the least and the greatest index
-    pub first_index-under : {X : Type 0} (o : Option X) (numbers : X → ℕ × ℕ)
-        → IfSome o (λ p. IsFirstIndex c.entries (numbers p).0 (numbers p).1)
-        → IfSome o (λ p. IsFirstIndex t.list.entries (numbers p).0 (numbers p).1)
-    first_index-under o numbers h = IfSome_then o h
-        (λ p first. record { entry = sym (generation_at-under (numbers p).0) ∙ first.entry; least = λ k below. sym (times-under k) ∙ first.least k below })
+    pub first_index-under : (i g : ℕ) → IsFirstIndex c.entries i g → IsFirstIndex t.list.entries i g
+    first_index-under i g h = record { entry = sym (generation_at-under i) ∙ h.entry; least = λ k below. sym (times-under k) ∙ h.least k below }
 
-    pub last_index-under : {X : Type 0} (o : Option X) (numbers : X → ℕ × ℕ)
-        → IfSome o (λ p. IsLastIndex c.entries (numbers p).0 (numbers p).1)
-        → IfSome o (λ p. IsLastIndex t.list.entries (numbers p).0 (numbers p).1)
-    last_index-under o numbers h = IfSome_then o h
-        (λ p last. record { entry = sym (generation_at-under (numbers p).0) ∙ last.entry; greatest = λ k above. sym (times-under k) ∙ last.greatest k above })
+    pub last_index-under : (i g : ℕ) → IsLastIndex c.entries i g → IsLastIndex t.list.entries i g
+    last_index-under i g h = record { entry = sym (generation_at-under i) ∙ h.entry; greatest = λ k above. sym (times-under k) ∙ h.greatest k above }
 
     pub none-under : (N : Type 0) → N ↔ (c.entries ≡ []) → N ↔ (length t.list.entries ≡ 0)
     none-under N h = (λ n. sym length-under ∙ ap length (h.0 n), λ z. h.1 (nil_from_length c.entries (length-under ∙ z)))
@@ -108,10 +89,7 @@ module _ {P T I G : Type 0} where
 
 Among-append : (j : ℕ) (xs ys : List ℕ) → Among j (xs ++ ys) → Among j xs ⊎ Among j ys
 Among-append j [] ys there = inr there
-Among-append j (x ∷ xs) ys there = elim there [
-  | inl here ↦ inl (inl here)
-  | inr rest ↦ elim (Among-append j xs ys rest) [ inl p ↦ inl (inr p) | inr q ↦ inr q ]
-]
+Among-append j (x ∷ xs) ys there = grind (arith, common_steps, Among-append j xs ys)
 
 -- an index of a walk is that of a part's root
 part_at : (s : Shape) (i : ℕ) → Among i (walk s) → (l : Shape) × (k : ℕ) × (r : Shape) × IsPart (node l i k r) s
@@ -130,8 +108,11 @@ held-root at back link missing h = h
 held-root at back link (node l i k r) h = h.1
 
 -- the links that nodes hold at i, in the tree that they spell
-held-part : (at : Slots) (back link : Option ℕ) (s l r : Shape) (i k : ℕ) (n : TreeLinks ℕ) → Holds at back link s → IsPart (node l i k r) s → at i ≡ Some n
-    → (n.rank ≡ k) × HasParentUnder back s i n.back × (n.lesser ≡ root_of l) × (n.greater ≡ root_of r)
+abbrev HoldsLinks : (back : Option ℕ) (s l r : Shape) (i k : ℕ) (n : TreeLinks ℕ) → Type 0
+HoldsLinks back s l r i k n = (n.rank ≡ k) × HasParentUnder back s i n.back × (n.lesser ≡ root_of l) × (n.greater ≡ root_of r)
+
+held-part : (at : Slots) (back link : Option ℕ) (s l r : Shape) (i k : ℕ) (n : TreeLinks ℕ) → Holds at back link s
+    → IsPart (node l i k r) s → at i ≡ Some n → HoldsLinks back s l r i k n
 held-part at back link missing l r i k n h part is = absurd (cc)
 held-part at back link (node l' i' k' r') l r i k n h part is = elim part [
   | inl same ↦
@@ -150,22 +131,9 @@ held-part at back link (node l' i' k' r') l r i k n h part is = elim part [
   ]
 ]
 
--- a node of the chain under a tree shows the entry, and the roots of its sides
-pub shown-under : {P T I G : Type 0} (t : Tree T) (c : Chain (SimpleOrdArenaNode P T I G)) → IsChainOf t c → (i : ℕ) (e : ℕ × SimpleOrdArenaNode P T I G)
-    → entry_at c.entries i ≡ Some e → IsShown t i e.0 e.1.t e.1.p_tree0 e.1.p_tree1
-shown-under t c under i e is =
-    record { entry = entry_at-under t c under i ∙ rw is refl; lesser_root = λ l r k part. (sides l r k part).2; greater_root = λ l r k part. (sides l r k part).3 }
-  where
-    sides : (l r : Shape) (k : ℕ) → IsPart (node l i k r) t.shape
-        → (e.1.rank ≡ k) × HasParentUnder None t.shape i e.1.p_back × (e.1.p_tree0 ≡ root_of l) × (e.1.p_tree1 ≡ root_of r)
-    sides l r k part = held-part (slots_of c) None (root_of t.shape) t.shape l r i k (links_in e.1) under.held part (rw is refl)
-
 among-entries : {T : Type 0} (es : List (Entry T)) (i : ℕ) (e : ℕ × T) → entry_at es i ≡ Some e → Among i (indexes es)
 among-entries [] i e found = absurd (cc)
-among-entries (f ∷ es) i e found = elim (eqb_tells f.index i) [
-  | inl h ↦ inl (sym h.1)
-  | inr h ↦ inr (among-entries es i e (rw h.0 at found))
-]
+among-entries (f ∷ es) i e found = grind (arith, common_steps, among-entries es i e)
 
 -- a look-up in the arena under a chain reads the chain's entry
 pub entry-looked_up : {X Y : Type 0} (c : Chain Y) (a : Arena (Link Y)) (lies : IsArenaOf c a) (f : X → ℕ × Link Y) (o : Option X) (i : ℕ)
@@ -176,8 +144,21 @@ entry-looked_up {X} {Y} c a lies f o i is =
 
 -- a pointer that finds an item has an entry at its index
 pub found-occupied : {T : Type 0} (g : ℕ) (o : Option (ℕ × T)) → IsSome (item_if g o) → IsSome o
-found-occupied g None some = some
-found-occupied g (Some e) some = refl
+found-occupied g o some = grind (arith, common_steps)
+
+module _ {P T I G : Type 0} (t : Tree T) (c : Chain (SimpleOrdArenaNode P T I G)) (under : IsChainOf t c) where
+  -- the links of a node of the chain under a tree, by its place in the tree
+  held_at : (i : ℕ) (e : ℕ × SimpleOrdArenaNode P T I G) → entry_at c.entries i ≡ Some e → (l r : Shape) (k : ℕ) → IsPart (node l i k r) t.shape
+      → HoldsLinks None t.shape l r i k (links_in e.1)
+  held_at i e is l r k part = held-part (slots_of c) None (root_of t.shape) t.shape l r i k (links_in e.1) under.held part (rw is refl)
+
+  -- it shows the entry, and the roots of its sides
+  pub shown-under : (i : ℕ) (e : ℕ × SimpleOrdArenaNode P T I G) → entry_at c.entries i ≡ Some e → IsShown t i e.0 e.1.t e.1.p_tree0 e.1.p_tree1
+  shown-under i e is = record {
+    entry = entry_at-under t c under i ∙ rw is refl;
+    lesser_root = λ l r k part. (held_at i e is l r k part).2;
+    greater_root = λ l r k part. (held_at i e is l r k part).3;
+  }
 
 module _ {P T I G : Type 0} (t : Tree T) (c : Chain (SimpleOrdArenaNode P T I G)) (under : IsChainOf t c) (sound : IsSoundTree t)
     (a : Arena (Link (SimpleOrdArenaNode P T I G))) (lies : IsArenaOf c a) where
@@ -188,7 +169,7 @@ module _ {P T I G : Type 0} (t : Tree T) (c : Chain (SimpleOrdArenaNode P T I G)
       let listed : indexes c.entries ≡ walk t.shape = sym (indexes-bare c.entries) ∙ ap (λ (l : Chain T). indexes l.entries) under.list ∙ sym sound.listed in
       let there : Among i (walk t.shape) = subst (λ (js : List ℕ). Among i js) listed (among-entries c.entries i (e.0, e.1.item) entry) in
       let p = part_at t.shape i there in
-      let held = held-part (slots_of c) None (root_of t.shape) t.shape p.0 p.2 i p.1 (links_in e.1.item) under.held p.3 (rw entry refl) in
+      let held = held_at t c under i (e.0, e.1.item) entry p.0 p.2 p.1 p.3 in
       record { lesser_side = p.0; greater_side = p.2; part = subst (λ (k : ℕ). IsPart (node p.0 i k p.2) t.shape) (sym held.0) p.3; has_parent = held.1; lesser_root = held.2; greater_root = held.3 }
 
   -- where the tree's list has an entry, the arena has a link

@@ -1,29 +1,34 @@
 -- For callers: what pointers find after each change of an ordered arena.
-use Rattle.triple_ord.proofs.Words.{◌≡◌, ◌≢◌, ℕ, ◌+◌, true, false, List, [], ◌∷◌, ◌++◌, length, Option, Some, None, IsSome, is_some, Bool, slice_get, map, length-append, IfSome, IfNone}
-use Rattle.triple_ord.proofs.Words.{OnSome, Ok, refl, sym, ap, subst, ◌∙◌, arith, inl, inr, if◌then◌else◌, eq-eqb, ne_eqb, cases_eq, eqb_tells, nat_tests, option_map, Ordering}
-use Rattle.triple_ord.proofs.Words.{next_generation, item_if, Entry, Chain, times, IsDistinct, removed, renewed, grown_capacity, inserted_at, next_index, IsInsertion, moved}
-use Rattle.triple_ord.proofs.Words.{at_compressed_index, numbered, Transferring, TransferStep, IsTransfer, FoldsTo, length-map, entry_at-absent, entry_at-without_other, entry_at-without}
-use Rattle.triple_ord.proofs.Words.{length-without, entry_at-with_item_among_other, entry_at-with_item_among, length-with_item_among, entry_at-with_generation_other}
-use Rattle.triple_ord.proofs.Words.{entry_at-with_generation, length-with_generation, entry_at-between_other, entry_at-between, length-between, entry_at-numbered}
-use Rattle.triple_ord.proofs.Words.{entry_at-numbered_before, generation-numbered, items-numbered, generation-moved, generation-relocated, Tree, IsGrown, with_item, Gap, with_between}
-use Rattle.triple_ord.proofs.Words.{Equal, pointer, FindsKey, FindsSimilar, Aim, at_key, beside, Place, into, over, IsPlace, aim_of, Growth, within, reallocating, with_slot, InsertsBy}
-use Rattle.triple_ord.proofs.Words.{told, OrdEntryKind, New, Replacing, OrdInsertKind, item_of, items, count, Updates, Renews, FindsBy, IsOfGeneration, IsNumbered, FindsNothing}
-use Rattle.chain_base.specs.Chain.{entry_at as entry_among, with_capacity}
+use Rattle.std.specs.declared.alloc.AllocError.{AllocError}
+use Rattle.arena_base.specs.{Clone.Grants, declared.error.ReallocationError.ReallocationError}
+use Rattle.arena_base.specs.declared.error.ReallocationError.TheVariants.{BeyondMaxCapacity, AllocError as NoMemory}
 use Rattle.arena_base.specs.declared.invalidation.InvalidationOption.{InvalidationOption}
-use Rattle.triple_ord.specs.EntryKind.{pointer_of}
-use Rattle.triple_ord.specs.Entry.{InsertsThere, Awaits, IsEntryFor}
-use Rattle.triple_ord.specs.declared.insert_kind.OrdInsertKind.TheVariants.{Normal}
+use Rattle.chain_base.specs.{Chain.entry_at as entry_among, Clone.taken_over}
+use Rattle.ord_tree.specs.Clone.{ShowsItem, IsClone, IsRefusedClone}
 use Rattle.triple_ord.proofs.Inserting.{entry_at-after, similar-here, IsInsertion-same}
-use Rattle.triple_ord.specs.Arena.{entry_at}
+use Rattle.triple_ord.proofs.Words.{OrdInsertionError, ◌≡◌, ◌≢◌, ℕ, ◌+◌, List, [], ◌∷◌, ◌++◌, length, Option, Some, None, IsSome, is_some, slice_get, map}
+use Rattle.triple_ord.proofs.Words.{length-append, IfSome, IfNone, OnSome, Ok, refl, sym, ap, subst, ◌∙◌, arith, inl, inr, if◌then◌else◌}
+use Rattle.triple_ord.proofs.Words.{eq-eqb, cases_eq, eqb_tells, option_map, Ordering, next_generation, item_if, Entry, Chain, times}
+use Rattle.triple_ord.proofs.Words.{IsDistinct, removed, renewed, inserted_at, IsInsertion, moved, at_compressed_index, numbered}
+use Rattle.triple_ord.proofs.Words.{Transferring, TransferStep, IsTransfer, FoldsTo, length-map, entry_at-absent, entry_at-without_other}
+use Rattle.triple_ord.proofs.Words.{entry_at-without, length-without, entry_at-with_item_among_other, entry_at-with_item_among}
+use Rattle.triple_ord.proofs.Words.{length-with_item_among, entry_at-with_generation_other, entry_at-with_generation}
+use Rattle.triple_ord.proofs.Words.{length-with_generation, entry_at-between_other, entry_at-between, length-between, entry_at-numbered}
+use Rattle.triple_ord.proofs.Words.{entry_at-numbered_before, generation-numbered, items-numbered, generation-moved, generation-relocated}
+use Rattle.triple_ord.proofs.Words.{Tree, IsGrown, with_item, Gap, with_between, Equal, pointer, FindsKey, FindsSimilar, Aim, at_key}
+use Rattle.triple_ord.proofs.Words.{beside, Place, into, over, IsPlace, aim_of, Growth, within, reallocating, with_slot, InsertsBy, told}
+use Rattle.triple_ord.proofs.Words.{OrdEntryKind, New, Replacing, OrdInsertKind, item_of, items, count, Updates, Renews, FindsBy}
+use Rattle.triple_ord.proofs.Words.{IsOfGeneration, IsNumbered, FindsNothing, ◌<◌, Result, Err, ◌⊎◌, nil_from_length, Bor, IsSound}
+use Rattle.triple_ord.proofs.Words.{greatest_index, clone-same, common_steps, refused-some, Shape}
+use Rattle.triple_ord.specs.{Arena.entry_at, Clone.cloned, Clone.emptied, Entry.InsertsThere, Entry.Awaits, Entry.IsEntryFor}
+use Rattle.triple_ord.specs.{EntryKind.pointer_of, declared.insert_kind.OrdInsertKind.TheVariants.Normal}
 
 -- what an entry shows to its own generation, and to others
 pub item_if-own : {T : Type 0} (g : ℕ) (o : Option T) → item_if g (option_map (λ x. (g, x)) o) ≡ o
-item_if-own g None = refl
-item_if-own g (Some x) = rw (eq-eqb g g refl) refl
+item_if-own g o = grind (arith, common_steps)
 
 item_if-other : {T : Type 0} (g h : ℕ) (o : Option (ℕ × T)) → IfSome o (λ e. e.0 ≡ g) → h ≢ g → item_if h o ≡ None
-item_if-other g h None has apart = refl
-item_if-other g h (Some e) has apart = rw (ne_eqb e.0 h (λ same. apart (sym same ∙ has))) refl
+item_if-other g h o has apart = grind (arith, common_steps)
 
 item_if-found : {T : Type 0} (g : ℕ) (o : Option (ℕ × T)) → IsSome (item_if g o) → (x : T) × (o ≡ Some (g, x))
 item_if-found g None there = absurd (cc)
@@ -56,8 +61,7 @@ module _ {T : Type 0} where
   }
     where
       own : (o : Option T) → IfSome {T = ℕ × T} (option_map (λ x. (p.1, x)) o) (λ e. e.0 ≡ p.1)
-      own None = tt
-      own (Some x) = refl
+      own o = grind (arith, common_steps)
 
   -- a removal
   pub updates-removed : (greatest : Option ℕ) (old new : Tree T) (p : ℕ × ℕ) → IsDistinct old.list.entries → IsSome (item_of old p)
@@ -141,8 +145,7 @@ module _ {T : Type 0} where
     }
 
 pub owed : {X P : Type 0} (o : Option X) → P → OnSome o P
-owed None fact = tt
-owed (Some x) fact = fact
+owed o fact = grind (arith, common_steps)
 
 -- what the calls return of these changes
 module _ {T : Type 0} where
@@ -177,11 +180,7 @@ module _ {T : Type 0} where
 -- growing leaves the entries
 pub entries-with_slot : {T : Type 0} (growth : Growth) (most : ℕ) (c : Chain T) → (with_slot growth most c).entries ≡ c.entries
 entries-with_slot within most c = refl
-entries-with_slot reallocating most c = go (is_some (next_index c))
-  where
-    go : (b : Bool) → (if b then c else with_capacity c (grown_capacity most c)).entries ≡ c.entries
-    go true = refl
-    go false = refl
+entries-with_slot reallocating most c = grind (arith, common_steps)
 
 -- an insertion through an entry that was asked for is one step over its place
 module _ {T K : Type 0} (key : T → K) (cmp : K → K → Ordering) where
@@ -195,49 +194,55 @@ module _ {T K : Type 0} (key : T → K) (cmp : K → K → Ordering) where
   over-found old distinct aim e at = rw (over-here old.list.entries distinct aim e at, eq-eqb e.generation e.generation refl) refl
 
   -- what an entry of an insertion inserts
-  pub entry-inserts : {P I G : Type 0} (numbers : P → ℕ × ℕ) (number : I → ℕ) (growth : Growth) (most : ℕ)
-      (kind : OrdInsertKind P K I G) (old arena new : Tree T) → IsDistinct old.list.entries
-      → (shown : OrdEntryKind P) (put : Entry T → List (Entry T)) (visits : ℕ) (item : T) (before : Option T)
-      → IsEntryFor numbers key cmp number growth most kind old shown put visits arena → InsertsThere numbers shown put arena item before new
-      → InsertsBy key cmp most growth (aim_of number kind) numbers old item (Ok (shown, before)) new
-  entry-inserts {P} numbers number growth most kind old arena new distinct shown put visits item before asked there =
-      go (aim_of number kind) asked.place shown before asked.chosen asked.awaits there
-    where
-      go : (aim : Aim K) (place : Place old.list.entries) (shown : OrdEntryKind P) (before : Option T) → IsPlace key cmp aim place → Awaits numbers growth most old arena place put shown
-          → InsertsThere numbers shown put arena item before new → InsertsBy key cmp most growth aim numbers old item (Ok (shown, before)) new
-      go aim (into gap) (New p) None at awaits there = record {
-        gap = gap;
-        place = at;
-        inserted = subst (λ (c : Chain T). IsInsertion c new.list (with_between gap) item (numbers p).0 (numbers p).1)
-            (ap (λ (t : Tree T). t.list) awaits.room) (IsInsertion-same _ _ _ _ item _ _ awaits.puts there.0);
-        grown = subst (λ (t : Tree T). IsGrown t.shape new.shape) awaits.room there.1;
-      }
-      go aim (over e) (Replacing p) (Some before) at awaits there =
-          let had : item_of arena (numbers p) ≡ Some e.item = ap (λ (t : Tree T). item_of t (numbers p)) awaits.1 ∙ ap (item_of old) awaits.0 ∙ over-found old distinct aim e at in
-          record {
-            entry = e;
-            place = at;
-            named = awaits.0;
-            taken = cc;
-            after = there.1 ∙ ap (λ (t : Tree T). with_item t (numbers p).0 item) awaits.1 ∙ ap (λ (q : ℕ × ℕ). with_item old q.0 item) awaits.0;
-          }
-      go aim (into gap) (New p) before at awaits there = absurd there
-      go aim (over e) (Replacing p) before at awaits there = absurd there
-      go aim place shown before at awaits there = absurd awaits
+  module _ {P I G : Type 0} (numbers : P → ℕ × ℕ) (number : I → ℕ) (growth : Growth) (most : ℕ) (kind : OrdInsertKind P K I G)
+      (old arena new : Tree T) (distinct : IsDistinct old.list.entries) (shown : OrdEntryKind P) (put : Entry T → List (Entry T))
+      (visits : ℕ) (item : T) (before : Option T) (asked : IsEntryFor numbers key cmp number growth most kind old shown put visits arena) where
+    abbrev Inserted : OrdEntryKind P → Option T → Type 0
+    Inserted shown before = InsertsBy key cmp most growth (aim_of number kind) numbers old item (Ok (shown, before)) new
+
+    pub entry-inserts : InsertsThere numbers shown put arena item before new → Inserted shown before
+    entry-inserts there = go asked.place shown before asked.chosen asked.awaits there
+      where
+        go : (place : Place old.list.entries) (shown : OrdEntryKind P) (before : Option T) → IsPlace key cmp (aim_of number kind) place
+            → Awaits numbers growth most old arena place put shown → InsertsThere numbers shown put arena item before new → Inserted shown before
+        go (into gap) (New p) None at awaits there = record {
+          gap = gap;
+          place = at;
+          inserted = subst (λ (c : Chain T). IsInsertion c new.list (with_between gap) item (numbers p).0 (numbers p).1)
+              (ap (λ (t : Tree T). t.list) awaits.room) (IsInsertion-same _ _ _ _ item _ _ awaits.puts there.0);
+          grown = subst (λ (t : Tree T). IsGrown t.shape new.shape) awaits.room there.1;
+        }
+        go (over e) (Replacing p) (Some before) at awaits there =
+            let found = over-found old distinct (aim_of number kind) e at in
+            let had : item_of arena (numbers p) ≡ Some e.item = ap (λ (t : Tree T). item_of t (numbers p)) awaits.1 ∙ ap (item_of old) awaits.0 ∙ found in
+            record {
+              entry = e;
+              place = at;
+              named = awaits.0;
+              taken = cc;
+              after = there.1 ∙ ap (λ (t : Tree T). with_item t (numbers p).0 item) awaits.1 ∙ ap (λ (q : ℕ × ℕ). with_item old q.0 item) awaits.0;
+            }
+        go (into gap) (New p) before at awaits there = absurd there
+        go (over e) (Replacing p) before at awaits there = absurd there
+        go place shown before at awaits there = absurd awaits
 
   -- the same by the item's key, told by the pointer and the item that was replaced
-  pub entry-told : {P I G : Type 0} (numbers : P → ℕ × ℕ) (number : I → ℕ) (growth : Growth) (most : ℕ) (old arena new : Tree T)
-      → IsDistinct old.list.entries → (k : K) (shown : OrdEntryKind P) (put : Entry T → List (Entry T)) (visits : ℕ) (item : T) (before : Option T) (p : P)
-      → k ≡ key item → p ≡ pointer_of shown → IsEntryFor numbers {G = G} key cmp number growth most (Normal k) old shown put visits arena
-      → InsertsThere numbers shown put arena item before new → InsertsBy key cmp most growth (at_key (key item)) numbers old item (told (Ok (p, before))) new
-  entry-told numbers number growth most old arena new distinct k shown put visits item before p key_is pointer_is asked there =
-      rw (← key_is) (by_pointer shown before pointer_is (entry-inserts numbers number growth most (Normal k) old arena new distinct shown put visits item before asked there))
-    where
-      by_pointer : (shown : OrdEntryKind _) (before : Option T) → p ≡ pointer_of shown → InsertsBy key cmp most growth (at_key k) numbers old item (Ok (shown, before)) new
-          → InsertsBy key cmp most growth (at_key k) numbers old item (told (Ok (p, before))) new
-      by_pointer (New q) None is ins = rw is ins
-      by_pointer (Replacing q) (Some before) is ins = rw is ins
-      by_pointer shown before is ins = absurd ins
+  module _ {P I G : Type 0} (numbers : P → ℕ × ℕ) (number : I → ℕ) (growth : Growth) (most : ℕ) (old arena new : Tree T)
+      (distinct : IsDistinct old.list.entries) (k : K) (shown : OrdEntryKind P) (put : Entry T → List (Entry T)) (visits : ℕ) (item : T)
+      (before : Option T) (p : P) (key_is : k ≡ key item) (pointer_is : p ≡ pointer_of shown)
+      (asked : IsEntryFor numbers {G = G} key cmp number growth most (Normal k) old shown put visits arena) where
+    abbrev InsertsKey : K → Result (OrdEntryKind P × Option T) OrdInsertionError → Type 0
+    InsertsKey k answer = InsertsBy key cmp most growth (at_key k) numbers old item answer new
+
+    pub entry-told : InsertsThere numbers shown put arena item before new → InsertsKey (key item) (told (Ok (p, before)))
+    entry-told there =
+        rw (← key_is) (go shown before pointer_is
+        (entry-inserts numbers number growth most (Normal k) old arena new distinct shown put visits item before asked there))
+      where
+        go : (shown : OrdEntryKind P) (before : Option T) → p ≡ pointer_of shown → InsertsKey k (Ok (shown, before)) → InsertsKey k (told (Ok (p, before)))
+        go (New q) None is ins = rw is ins
+        go (Replacing q) (Some before) is ins = rw is ins
+        go shown before is ins = absurd ins
 
 -- a write through a reference that went out, by what pointers find
 module _ {T : Type 0} (a : Tree T) (p : ℕ × ℕ) (item : T) where
@@ -245,8 +250,7 @@ module _ {T : Type 0} (a : Tree T) (p : ℕ × ℕ) (item : T) where
   found-written = rw (entry_at-with_item_among a.list.entries p.0 item) (go (entry_at a p.0))
     where
       go : (o : Option (ℕ × T)) → item_if p.1 (option_map (λ e. (e.0, item)) o) ≡ option_map (λ old. item) (item_if p.1 o)
-      go None = refl
-      go (Some e) = grind (arith, nat_tests)
+      go o = grind (arith, common_steps)
 
   pub others-written : IsSome (item_of a p) → (q : ℕ × ℕ) → q ≢ p → item_of (with_item a p.0 item) q ≡ item_of a q
   others-written there q apart = (updates-written a p item there).others q apart
@@ -320,3 +324,36 @@ module _ {P Q T U F : Type 0} (numbers_from : Q → ℕ × ℕ) (numbers_to : P 
 
     pub emptied-transferred : FindsNothing left
     emptied-transferred p = item_of-absent left p (ap (λ (c : Chain U). entry_among c.entries p.0) h.left)
+
+-- A clone of an ordered arena whose calls each give the item that they are shown.
+module _ {P T F : Type 0} (numbers : P → ℕ × ℕ) (step : F → P → Bor T → Result T AllocError → F → Type 0)
+    (answers : (f : F) (p : P) (u : Bor T) (x : T) (g : F) → step f p u (Ok x) g → x ≡ u.now) where
+  pub clone-cloned : (most : ℕ) (greatest : Option ℕ) (f : F) (source : Tree T) → IsSound most greatest source.list → (old new : Tree T)
+      → IsClone numbers step f source old new → new ≡ cloned source old
+  clone-cloned most greatest f source sound old new h =
+      ap (λ (l : Chain T). record { list = l; shape = new.shape })
+      (clone-same numbers (Grants numbers (ShowsItem step)) (λ f p u x g called. answers f p called.0 x g called.2 ∙ called.1) most greatest f
+      source.list sound old.list new.list h.list)
+      ∙ ap (λ (s : Shape). record { list = taken_over source.list old.list source.list.entries; shape = s }) h.shape
+
+module _ {P T F : Type 0} (numbers : P → ℕ × ℕ) (step : F → P → Bor T → Result T AllocError → F → Type 0) where
+  pub clone-emptied : (f : F) (source old new : Tree T) → IsRefusedClone numbers step f source old new → (0 < count source) × (new ≡ emptied source old)
+  clone-emptied f source old new h = (
+    refused-some numbers (ShowsItem step) f source.list old.list new.list h.list,
+    ap (λ (l : Chain _). record { list = l; shape = new.shape }) h.list.after
+        ∙ ap (λ (s : Shape). record { list = taken_over source.list old.list []; shape = s }) h.shape,
+  )
+
+-- nothing refuses a clone of an arena without entries
+module _ {T A B : Type 0} (r : Result (Unit {0}) ReallocationError) (source : Tree T) (limit capacity : ℕ)
+    (beyond : r ≡ Err BeyondMaxCapacity → limit < greatest_index source.list.entries)
+    (memory : r ≡ Err NoMemory → ((capacity < greatest_index source.list.entries) × A) ⊎ ((0 < count source) × B)) (none : count source ≡ 0) where
+  least : greatest_index source.list.entries ≡ 0
+  least = ap greatest_index (nil_from_length source.list.entries none)
+
+  pub empty-unrefused : (e : ReallocationError) → r ≡ Err e → ⊥
+  empty-unrefused BeyondMaxCapacity is = let far = beyond is in omega (arith, least)
+  empty-unrefused NoMemory is = elim (memory is) [
+    | inl kept ↦ let far = kept.0 in omega (arith, least)
+    | inr refused ↦ let some = refused.0 in omega arith
+  ]

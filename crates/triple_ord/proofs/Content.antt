@@ -1,19 +1,24 @@
--- The finite map that an ordered arena is, after changes of its capacity and compressions, and its first and last indexes.
-use Rattle.triple_ord.proofs.Words.{◌≡◌, ℕ, zero, suc, ◌+◌, ◌-◌, ◌<◌, ◌≤◌, ◌↔◌, Option, Some, None, Result, Ok, Err, List, [], ◌∷◌, ◌++◌, length, map, get_or, take, drop, reverse}
-use Rattle.triple_ord.proofs.Words.{replicate, slice_get, is_some, Bool, true, false, max, IsSome, refl, sym, ap, subst, ◌∙◌, add-one, arith, inl, inr, option_map, IfSome, OnOk, FoldsTo}
-use Rattle.triple_ord.proofs.Words.{eqb_tells, leb_tells, false≢true, same_lists, get_or_default, length-append, take-map, drop-map, slice_get_past, same_Some, IfSome_then, Arena}
-use Rattle.triple_ord.proofs.Words.{HoldsSame, slot, item_if, greatest_occupied, with_capacity, resized, IsFirstEntry, IsLastEntry, arena_len, Walk, pointers_from, entries_from}
-use Rattle.triple_ord.proofs.Words.{walk_rest, WalkSteps, Entry, Chain, entry_at, times, IsSound, greatest_index, IsFirstIndex, IsLastIndex, IsArenaOf, entry_before, rising_among}
-use Rattle.triple_ord.proofs.Words.{entries_rising, moved, entry_at-absent, length-entries, compressed-at, compressed-length, entry_at-compressed, occurs-entry, below-greatest}
-use Rattle.triple_ord.proofs.Words.{greatest-or_none, times-greatest, below-greatest_index, Link, SimpleOrdArenaNode, Tree, IsChainOf, slots_from, content_of, slot_is, item_is, len_is}
-use Rattle.triple_ord.proofs.Words.{length-slots, slots-within, slots-beyond, outside}
-use Rattle.arena_base.specs.Arena.{item_of}
+-- The finite map that an ordered arena is, after changes of its capacity, compressions, removals and recasts; its first and last indexes.
+use Rattle.arena_base.specs.{Arena.item_of, Compression.CompressionStep, Compression.IsCompression, Compression.compressed}
 use Rattle.arena_base.specs.Walk.{entries_rising as arena_rising}
-use Rattle.arena_base.specs.Compression.{CompressionStep, IsCompression, compressed}
 use Rattle.chain_base.specs.Chain.{with_capacity as chain_with_capacity}
 use Rattle.chain_base.specs.Compression.{compressed as chain_compressed, IsCompression as IsChainCompression}
-use Rattle.triple_ord.specs.SlotWalk.{SlotWalkSteps}
-use Rattle.triple_ord.proofs.Bare.{link_generation-under, capacity-under}
+use Rattle.triple_ord.proofs.Bare.{link_generation-under, capacity-under, option_map-twice}
+use Rattle.triple_ord.proofs.Words.{◌≡◌, ℕ, zero, suc, ◌+◌, ◌-◌, ◌<◌, ◌≤◌, ◌↔◌, Option, Some, None, Result, Ok, Err, List, [], ◌∷◌, ◌++◌}
+use Rattle.triple_ord.proofs.Words.{length, map, get_or, take, drop, reverse, replicate, slice_get, is_some, Bool, true, false, max, IsSome}
+use Rattle.triple_ord.proofs.Words.{refl, sym, ap, subst, ◌∙◌, add-one, arith, inl, inr, option_map, FoldsTo, eqb_tells, leb_tells}
+use Rattle.triple_ord.proofs.Words.{false≢true, same_lists, get_or_default, length-append, take-map, drop-map, slice_get_past, Arena}
+use Rattle.triple_ord.proofs.Words.{HoldsSame, slot, item_if, greatest_occupied, with_capacity, resized, IsFirstEntry, IsLastEntry}
+use Rattle.triple_ord.proofs.Words.{arena_len, Walk, pointers_from, entries_from, walk_rest, WalkSteps, Entry, Chain, entry_at, times}
+use Rattle.triple_ord.proofs.Words.{IsSound, greatest_index, IsFirstIndex, IsLastIndex, IsArenaOf, entry_before, rising_among}
+use Rattle.triple_ord.proofs.Words.{entries_rising, moved, entry_at-absent, length-entries, compressed-at, compressed-length}
+use Rattle.triple_ord.proofs.Words.{entry_at-compressed, occurs-entry, below-greatest, greatest-or_none, times-greatest}
+use Rattle.triple_ord.proofs.Words.{below-greatest_index, Link, SimpleOrdArenaNode, Tree, IsChainOf, slots_from, content_of, slot_is}
+use Rattle.triple_ord.proofs.Words.{item_is, len_is, length-slots, slots-within, slots-beyond, outside, set, take-set-le, drop-set-lt}
+use Rattle.triple_ord.proofs.Words.{pointers, walk_from, removed, FindsNothing, content_removed, ◌≢◌, ◌⊎◌, cases_eq, drop_more, drop_all}
+use Rattle.triple_ord.proofs.Words.{common_steps, append_assoc, FoldsTo-push, entry_at-with_item_among, entry_at-with_item_among_other}
+use Rattle.triple_ord.proofs.Words.{with_item}
+use Rattle.triple_ord.specs.{Recasting.RecastsItem, Recasting.RecastsNext, Recasting.RecastsItems, SlotWalk.SlotWalkSteps}
 
 -- slots that are as many and show the same are the same
 same-slots : {X : Type 0} (xs ys : List (Option X)) → length xs ≡ length ys → ((k : ℕ) → get_or xs k None ≡ get_or ys k None) → xs ≡ ys
@@ -29,12 +34,12 @@ module _ {T : Type 0} where
   -- the entries by rising index, read from the slots
   rising-is : (es : List (Entry T)) (from n : ℕ) → entries_from from (slots_from es from n) ≡ rising_among es from n
   rising-is es from zero = refl
-  rising-is es from (suc n) = step (entry_at es from) (rising-is es (from + 1) n)
+  rising-is es from (suc n) = step (entry_at es from) _ _ (rising-is es (from + 1) n)
     where
-      step : (o : Option (ℕ × T)) → entries_from (from + 1) (slots_from es (from + 1) n) ≡ rising_among es (from + 1) n
-          → entries_from from (o ∷ slots_from es (from + 1) n) ≡ entry_before from o (rising_among es (from + 1) n)
-      step None more = more
-      step (Some e) more = ap (λ rest. (from, e.0, e.1) ∷ rest) more
+      step : (o : Option (ℕ × T)) (slots : List (Option (ℕ × T))) (rising : List (ℕ × ℕ × T)) → entries_from (from + 1) slots ≡ rising
+          → entries_from from (o ∷ slots) ≡ entry_before from o rising
+      step None slots rising more = more
+      step (Some e) slots rising more = ap (λ rest. (from, e.0, e.1) ∷ rest) more
 
   -- the slots of a list within another capacity, where no entry is beyond the old one
   slots-resized : (es : List (Entry T)) (from n c : ℕ) → ((k : ℕ) → from + c ≤ k → entry_at es k ≡ None)
@@ -56,8 +61,10 @@ module _ {T : Type 0} where
   resized-slots n xs = let less : suc n - suc (length xs) ≡ n - length xs = omega arith in rw (add-one, less) refl
 
   -- another capacity
-  pub content-capacity : (t u : Tree T) (n : ℕ) → ((k : ℕ) → 1 + t.list.capacity ≤ k → entry_at t.list.entries k ≡ None) → u.list ≡ chain_with_capacity t.list n
-      → HoldsSame (content_of u) (with_capacity (content_of t) n)
+  abbrev pub NoneBeyond : Tree T → Type 0
+  NoneBeyond t = (k : ℕ) → 1 + t.list.capacity ≤ k → entry_at t.list.entries k ≡ None
+
+  pub content-capacity : (t u : Tree T) (n : ℕ) → NoneBeyond t → u.list ≡ chain_with_capacity t.list n → HoldsSame (content_of u) (with_capacity (content_of t) n)
   content-capacity t u n none is =
       let slots : List (Option (ℕ × T)) = slots_from t.list.entries 1 t.list.capacity in
       let same = ap (λ ss. None ∷ ss) (slots-resized t.list.entries 1 n t.list.capacity none)
@@ -65,25 +72,21 @@ module _ {T : Type 0} where
       rw is (record { slots = same; generation = refl; maximum = refl })
 
   module _ (most : ℕ) (greatest : Option ℕ) (t : Tree T) (sound : IsSound most greatest t.list) where
-    beyond : (k : ℕ) → 1 + t.list.capacity ≤ k → entry_at t.list.entries k ≡ None
+    beyond : NoneBeyond t
     beyond k above = outside most greatest t sound k (λ first within. omega (arith, above, within))
 
     -- the least and the greatest index
-    pub first-found : {X : Type 0} (o : Option X) (numbers : X → ℕ × ℕ)
-        → IfSome o (λ p. IsFirstIndex t.list.entries (numbers p).0 (numbers p).1)
-        → IfSome o (λ p. IsFirstEntry (content_of t) (numbers p).0 (numbers p).1)
-    first-found o numbers h = IfSome_then o h (λ p is. record {
-      entry = ap (option_map (λ (e : ℕ × T). e.0)) (slot_is most greatest t sound (numbers p).0) ∙ is.entry;
-      least = λ k below. slot_is most greatest t sound k ∙ entry_at-absent t.list.entries k (is.least k below);
-    })
+    slot_entry : (i g : ℕ) → option_map (λ e. e.0) (entry_at t.list.entries i) ≡ Some g → option_map (λ e. e.0) (slot (content_of t) i) ≡ Some g
+    slot_entry i g is = ap (option_map (λ (e : ℕ × T). e.0)) (slot_is most greatest t sound i) ∙ is
 
-    pub last-found : {X : Type 0} (o : Option X) (numbers : X → ℕ × ℕ)
-        → IfSome o (λ p. IsLastIndex t.list.entries (numbers p).0 (numbers p).1)
-        → IfSome o (λ p. IsLastEntry (content_of t) (numbers p).0 (numbers p).1)
-    last-found o numbers h = IfSome_then o h (λ p is. record {
-      entry = ap (option_map (λ (e : ℕ × T). e.0)) (slot_is most greatest t sound (numbers p).0) ∙ is.entry;
-      greatest = λ k above. slot_is most greatest t sound k ∙ entry_at-absent t.list.entries k (is.greatest k above);
-    })
+    no_slot : (k : ℕ) → times k t.list.entries ≡ 0 → slot (content_of t) k ≡ None
+    no_slot k none = slot_is most greatest t sound k ∙ entry_at-absent t.list.entries k none
+
+    pub first-found : (i g : ℕ) → IsFirstIndex t.list.entries i g → IsFirstEntry (content_of t) i g
+    first-found i g is = record { entry = slot_entry i g is.entry; least = λ k below. no_slot k (is.least k below) }
+
+    pub last-found : (i g : ℕ) → IsLastIndex t.list.entries i g → IsLastEntry (content_of t) i g
+    last-found i g is = record { entry = slot_entry i g is.entry; greatest = λ k above. no_slot k (is.greatest k above) }
 
     -- the greatest index that has an entry
     greatest-above : greatest_index t.list.entries ≤ greatest_occupied (content_of t).slots
@@ -103,16 +106,16 @@ module _ {T : Type 0} where
         elim (greatest-or_none (content_of t).slots) [
           | inl h ↦ omega (arith, h, greatest-above)
           | inr h ↦ elim (eqb_tells (times i t.list.entries) 0) [
-            | inl z ↦ absurd (false≢true (ap is_some (sym (slot_is most greatest t sound i ∙ entry_at-absent t.list.entries i z.1)) ∙ h))
+            | inl z ↦ absurd (false≢true (ap is_some (sym (no_slot i z.1)) ∙ h))
             | inr z ↦ omega (arith, greatest-above, below-greatest_index t.list.entries i (omega (arith, z.1)))
           ]
         ]
 
-    pub content-reallocated : {E : Type 0} (r : Result (Unit {0}) E) (u : Tree T) (n : ℕ) → OnOk r (u ≡ record t { list = chain_with_capacity t.list (max n (greatest_index t.list.entries)) })
-        → OnOk r (HoldsSame (content_of u) (with_capacity (content_of t) (max n (greatest_occupied (content_of t).slots))))
-    content-reallocated (Err e) u n h = h
-    content-reallocated (Ok x) u n h =
-        subst (λ m. HoldsSame (content_of u) (with_capacity (content_of t) (max n m))) (sym greatest-is) (content-capacity t u (max n (greatest_index t.list.entries)) beyond (ap (λ v. v.list) h))
+    pub content-reallocated : (u : Tree T) (n : ℕ) → u ≡ record t { list = chain_with_capacity t.list (max n (greatest_index t.list.entries)) }
+        → HoldsSame (content_of u) (with_capacity (content_of t) (max n (greatest_occupied (content_of t).slots)))
+    content-reallocated u n h =
+        let same = content-capacity t u (max n (greatest_index t.list.entries)) beyond (ap (λ v. v.list) h) in
+        subst (λ m. HoldsSame (content_of u) (with_capacity (content_of t) (max n m))) (sym greatest-is) same
 
     pub none-found : (N : Type 0) → N ↔ (length t.list.entries ≡ 0) → N ↔ (arena_len (content_of t) ≡ 0)
     none-found N h = (λ n. len_is most greatest t sound ∙ h.0 n, λ z. h.1 (sym (len_is most greatest t sound) ∙ z))
@@ -136,15 +139,20 @@ module _ {T : Type 0} where
             ∙ ap (option_map (λ item. (g, item))) (sym (slice_get_past items k (omega (arith, h.1, long, sound.counted))))
       ]
 
-      slots-compressed : None ∷ slots_from (map (moved t.list.entries g items) t.list.entries) 1 t.list.capacity ≡ resized (suc t.list.capacity) (None ∷ map (λ item. Some (g, item)) items)
-      slots-compressed = same-slots (None ∷ slots_from (map (moved t.list.entries g items) t.list.entries) 1 t.list.capacity) (resized (suc t.list.capacity) (None ∷ map (λ item. Some (g, item)) items))
-          (omega (arith, length-slots (map (moved t.list.entries g items) t.list.entries) 1 t.list.capacity, compressed-length (suc t.list.capacity) g items fits)) at
-        where
-          at : (k : ℕ)
-              → get_or (None ∷ slots_from (map (moved t.list.entries g items) t.list.entries) 1 t.list.capacity) k None
-              ≡ get_or (resized (suc t.list.capacity) (None ∷ map (λ item. Some (g, item)) items)) k None
-          at zero = refl
-          at (suc k) = moved-slot k ∙ sym (compressed-at (suc t.list.capacity) g items k fits)
+      abbrev slots_moved : List (Option (ℕ × T))
+      slots_moved = None ∷ slots_from (map (moved t.list.entries g items) t.list.entries) 1 t.list.capacity
+
+      abbrev slots_made : List (Option (ℕ × T))
+      slots_made = resized (suc t.list.capacity) (None ∷ map (λ item. Some (g, item)) items)
+
+      slot-compressed : (k : ℕ) → get_or slots_moved k None ≡ get_or slots_made k None
+      slot-compressed zero = refl
+      slot-compressed (suc k) = moved-slot k ∙ sym (compressed-at (suc t.list.capacity) g items k fits)
+
+      slots-compressed : slots_moved ≡ slots_made
+      slots-compressed =
+          let long = length-slots (map (moved t.list.entries g items) t.list.entries) 1 t.list.capacity in
+          same-slots slots_moved slots_made (omega (arith, long, compressed-length (suc t.list.capacity) g items fits)) slot-compressed
 
       content-compressed : u.list ≡ chain_compressed t.list g items → HoldsSame (content_of u) (compressed (content_of t) g items)
       content-compressed is =
@@ -178,9 +186,8 @@ module _ {X Y : Type 0} where
 
   alike-by_index : (xs : List (Option (ℕ × X))) (ys : List (Option (ℕ × Y))) → length xs ≡ length ys
       → ((k : ℕ) → option_map (λ e. e.0) (get_or xs k None) ≡ option_map (λ e. e.0) (get_or ys k None)) → IsAlike xs ys
-  alike-by_index [] [] long same = refl
   alike-by_index (x ∷ xs) (y ∷ ys) long same = rw (same 0, alike-by_index xs ys (omega (arith, long)) (λ k. same (suc k))) refl
-  alike-by_index xs ys long same = absurd (omega (arith, long))
+  alike-by_index xs ys long same = grind (arith, common_steps)
 
   pointers-alike : (from : ℕ) (xs : List (Option (ℕ × X))) (ys : List (Option (ℕ × Y))) → IsAlike xs ys → pointers_from from xs ≡ pointers_from from ys
   pointers-alike from [] [] alike = refl
@@ -197,12 +204,7 @@ module _ {X Y : Type 0} where
 
   -- a pointer that finds an item in the one finds an item in the other
   there-alike : (g : ℕ) (x : Option (ℕ × X)) (y : Option (ℕ × Y)) → option_map (λ e. e.0) x ≡ option_map (λ e. e.0) y → IsSome (item_if g x) → IsSome (item_if g y)
-  there-alike g None None alike some = some
-  there-alike g (Some x) (Some y) alike some = elim (eqb_tells y.0 g) [
-    | inl h ↦ rw h.0 refl
-    | inr h ↦ absurd (let none = rw (same_Some x.0 y.0 alike, h.0) at some in cc)
-  ]
-  there-alike g x y alike some = absurd (cc)
+  there-alike g x y alike some = grind (arith, common_steps)
 
   -- a step over the one is a step over the other
   steps-alike : {P : Type 0} (numbers : P → ℕ × ℕ) (a : Arena X) (b : Arena Y) → ((w : Walk) → walk_rest w a ≡ walk_rest w b)
@@ -221,8 +223,7 @@ module _ {P T I G : Type 0} (most : ℕ) (greatest : Option ℕ) (t : Tree T) (s
       told r (steps-alike numbers a (content_of t) (rest-alike a (content_of t) (alike-by_index a.slots (content_of t).slots long same)) there old new r step)
     where
       some-slots : (slots : List (Option (ℕ × Link (SimpleOrdArenaNode P T I G)))) → take 1 slots ≡ None ∷ [] → 1 ≤ length slots
-      some-slots [] none = absurd (cc)
-      some-slots (s ∷ slots) first = omega arith
+      some-slots slots first = grind (arith, common_steps)
 
       long : length a.slots ≡ length (content_of t).slots
       long = omega (arith, some-slots a.slots begins, laid.capacity, capacity-under t c under, length-slots t.list.entries 1 t.list.capacity)
@@ -236,3 +237,127 @@ module _ {P T I G : Type 0} (most : ℕ) (greatest : Option ℕ) (t : Tree T) (s
       told : (r : Option Q) → WalkSteps numbers old (content_of t) r new → SlotWalkSteps numbers old t r new
       told None step = record { step = step; there = tt }
       told (Some p) step = record { step = step; there = rw (item_is most greatest t sound (numbers p)) at step.there }
+
+-- A removal, by what a walk by index still gives.
+module _ {T : Type 0} where
+  -- no pointer has an index before the first slot's
+  first-above : (from : ℕ) (slots : List (Option (ℕ × T))) (p : ℕ × ℕ) (rest : List (ℕ × ℕ)) → pointers_from from slots ≡ p ∷ rest → from ≤ p.0
+  first-above from [] p rest is = absurd (cc)
+  first-above from (None ∷ slots) p rest is = omega (arith, first-above (from + 1) slots p rest is)
+  first-above from (Some e ∷ slots) p rest is =
+      let same : ◌≡◌ {A = ℕ × ℕ} (from, e.0) p = cc in
+      omega (arith, ap (λ (q : ℕ × ℕ). q.0) same)
+
+  -- without the first entry the others are left
+  others-left : (from k i g : ℕ) (slots : List (Option (ℕ × T))) (rest : List (ℕ × ℕ)) → i ≡ from + k
+      → pointers_from from slots ≡ (i, g) ∷ rest → pointers_from from (set slots k None) ≡ rest
+  others-left from k i g [] rest at is = absurd (cc)
+  others-left from zero i g (None ∷ slots) rest at is = absurd (omega (arith, at, first-above (from + 1) slots (i, g) rest is))
+  others-left from (suc k) i g (None ∷ slots) rest at is = others-left (from + 1) k i g slots rest (omega (arith, at)) is
+  others-left from zero i g (Some e ∷ slots) rest at is = cc
+  others-left from (suc k) i g (Some e ∷ slots) rest at is =
+      let same : ◌≡◌ {A = ℕ × ℕ} (from, e.0) (i, g) = cc in
+      absurd (omega (arith, at, ap (λ (q : ℕ × ℕ). q.0) same))
+
+  -- where there is no pointer, no slot has an entry
+  none-there : (from : ℕ) (slots : List (Option (ℕ × T))) (k : ℕ) → pointers_from from slots ≡ [] → get_or slots k None ≡ None
+  none-there from (None ∷ slots) (suc k) is = none-there (from + 1) slots k is
+  none-there from slots k is = grind (arith, common_steps)
+
+  -- a walk that had all entries to give, and has none, goes over an arena without entries
+  pub nothing-left : (most : ℕ) (greatest : Option ℕ) (t : Tree T) (rest : List (ℕ × ℕ)) → IsSound most greatest t.list → rest ≡ []
+      → rest ≡ pointers (content_of t) → FindsNothing t
+  nothing-left most greatest t rest sound none whole p =
+      sym (item_is most greatest t sound p) ∙ ap (item_if p.1) (none-there 0 (content_of t).slots p.0 (sym whole ∙ none))
+
+  module _ (most : ℕ) (greatest : Option ℕ) (t u : Tree T) (i : ℕ) (sound : IsSound most greatest t.list) (removal : u.list ≡ removed greatest t.list i) where
+    slots-removed : (content_of u).slots ≡ set (content_of t).slots i None
+    slots-removed = (content_removed most greatest t u i sound removal).slots
+
+    -- a walk that has given the entry gives what it would have given
+    pub rest-removed : (w : Walk) → walk_rest (walk_from w i) (content_of t) ≡ walk_rest (walk_from w i) (content_of u)
+    rest-removed w = sym (go w.falling)
+      where
+        front : (i : ℕ) → take (i - 1 + 1) (set (content_of t).slots i None) ≡ take (i - 1 + 1) (content_of t).slots
+        front zero = refl
+        front (suc k) = let same : suc k - 1 + 1 ≡ suc k = omega arith in rw same (take-set-le (suc k) (content_of t).slots (suc k) None (omega arith))
+
+        go : (falling : Bool) → walk_rest (walk_from (record { at = w.at; falling = falling }) i) (content_of u) ≡ walk_rest (walk_from (record { at = w.at; falling = falling }) i) (content_of t)
+        go true = ap (λ slots. reverse (pointers_from 0 (take (i - 1 + 1) slots))) slots-removed ∙ ap (λ slots. reverse (pointers_from 0 slots)) (front i)
+        go false = ap (λ slots. pointers_from (i + 1) (drop (i + 1) slots)) slots-removed ∙ ap (pointers_from (i + 1)) (drop-set-lt (i + 1) (content_of t).slots i None (omega arith))
+
+    -- where its rest had all entries, it has all that are left
+    pub whole-removed : (g : ℕ) (before after : List (ℕ × ℕ)) → before ≡ (i, g) ∷ after → before ≡ pointers (content_of t) → after ≡ pointers (content_of u)
+    whole-removed g before after first whole = sym (ap (pointers_from 0) slots-removed ∙ others-left 0 i i g (content_of t).slots after (omega arith) (sym whole ∙ first))
+
+-- How far a recast has come.
+-- what is shown to be missing is
+pub vacant_of : {X : Type 0} (o : Option X) → is_some o ≡ false → o ≡ None
+vacant_of o is = grind (arith, common_steps)
+
+module _ {T I : Type 0} (gives : T → Result (Unit {0}) I → T → Type 0) (old : Tree T) where
+  abbrev generation_at : Tree T → ℕ → Option ℕ
+  generation_at t i = option_map (λ (e : ℕ × T). e.0) (entry_at t.list.entries i)
+
+  -- what is still to come, from index i on
+  abbrev rest_from : ℕ → List (ℕ × ℕ)
+  rest_from i = pointers_from i (drop i (content_of old).slots)
+
+  -- the items at the indexes below i were recast
+  pub record RecastBelow (now : Tree T) (i : ℕ) : Type 0 where
+    pub recast : List (ℕ × ℕ)
+    pub split : pointers (content_of old) ≡ recast ++ rest_from i
+    pub calls : FoldsTo (RecastsNext gives) old recast now
+    pub kept : (k : ℕ) → generation_at now k ≡ generation_at old k
+
+  pub recast-begins : RecastBelow old 1
+  recast-begins = record { recast = []; split = refl; calls = refl; kept = λ k. refl }
+
+  length-content : length (content_of old).slots ≡ suc old.list.capacity
+  length-content = ap suc (length-slots old.list.entries 1 old.list.capacity)
+
+  module _ (most : ℕ) (greatest : Option ℕ) (sound : IsSound most greatest old.list) (now : Tree T) (i : ℕ) (b : RecastBelow now i) (within : i ≤ old.list.capacity) where
+    slots_at : drop i (content_of old).slots ≡ entry_at old.list.entries i ∷ drop (i + 1) (content_of old).slots
+    slots_at = drop_more (content_of old).slots i None (omega (arith, length-content, within)) ∙ ap (λ s. s ∷ drop (i + 1) (content_of old).slots) (slot_is most greatest old sound i)
+
+    -- what is still to come, where an entry is next and where none is
+    pointer_at : (o : Option (ℕ × T)) (rest : List (Option (ℕ × T))) (g : ℕ) → option_map (λ (e : ℕ × T). e.0) o ≡ Some g
+        → pointers_from i (o ∷ rest) ≡ (i, g) ∷ pointers_from (i + 1) rest
+    pointer_at o rest g is = grind (arith, common_steps)
+
+    no_pointer : (o : Option (ℕ × T)) (rest : List (Option (ℕ × T))) → option_map (λ (e : ℕ × T). e.0) o ≡ None → pointers_from i (o ∷ rest) ≡ pointers_from (i + 1) rest
+    no_pointer o rest is = grind (arith, common_steps)
+
+    -- no entry has the index
+    pub recast-vacant : entry_at now.list.entries i ≡ None → RecastBelow now (i + 1)
+    recast-vacant none =
+        let skipped = no_pointer (entry_at old.list.entries i) (drop (i + 1) (content_of old).slots) (sym (b.kept i) ∙ ap (option_map (λ (e : ℕ × T). e.0)) none) in
+        record { recast = b.recast; split = b.split ∙ ap (λ ps. b.recast ++ ps) (ap (pointers_from i) slots_at ∙ skipped); calls = b.calls; kept = b.kept }
+
+    -- the pointer of the entry at the index, and those behind it
+    next : (e : ℕ × T) → entry_at now.list.entries i ≡ Some e → rest_from i ≡ (i, e.0) ∷ rest_from (i + 1)
+    next e is = ap (pointers_from i) slots_at ∙ pointer_at (entry_at old.list.entries i) (drop (i + 1) (content_of old).slots) e.0 (sym (b.kept i) ∙ ap (option_map (λ (e : ℕ × T). e.0)) is)
+
+    pub recast-next : (after : Tree T) → RecastsItem gives (Ok tt) now i after → RecastBelow after (i + 1)
+    recast-next after step =
+        record {
+          recast = b.recast ++ (i, step.entry.0) ∷ [];
+          split = b.split ∙ (ap (λ ps. b.recast ++ ps) (next step.entry step.found) ∙ sym (append_assoc b.recast ((i, step.entry.0) ∷ []) (rest_from (i + 1))));
+          calls = FoldsTo-push (RecastsNext gives) old b.recast now (i, step.entry.0) after b.calls step;
+          kept = λ k. ap (λ t. generation_at t k) step.after ∙ (written step.item k (cases_eq k i) ∙ b.kept k);
+        }
+      where
+        written : (item : T) (k : ℕ) → (k ≡ i) ⊎ (k ≢ i) → generation_at (with_item now i item) k ≡ generation_at now k
+        written item k (inl same) =
+            rw same (ap (option_map (λ (e : ℕ × T). e.0)) (entry_at-with_item_among now.list.entries i item)
+            ∙ sym (option_map-twice (λ (e : ℕ × T). (e.0, item)) (λ (e : ℕ × T). e.0) (entry_at now.list.entries i)))
+        written item k (inr other) = ap (option_map (λ (e : ℕ × T). e.0)) (entry_at-with_item_among_other now.list.entries i k item other)
+
+    pub recast-failed : (err : I) (after : Tree T) → RecastsItem gives (Err err) now i after → RecastsItems gives old (Err err) after
+    recast-failed err after step =
+        record { recast = b.recast; left = rest_from i; split = b.split; reached = now; calls = b.calls; ends = ((i, step.entry.0), rest_from (i + 1), next step.entry step.found, step) }
+
+  pub recast-ends : (now : Tree T) (i : ℕ) → RecastBelow now i → old.list.capacity < i → RecastsItems gives old (Ok tt) now
+  recast-ends now i b past =
+      let none : rest_from i ≡ [] = ap (pointers_from i) (drop_all i (content_of old).slots (omega (arith, length-content, past))) in
+      record { recast = b.recast; left = rest_from i; split = b.split; reached = now; calls = b.calls; ends = (none, refl) }

@@ -1,12 +1,18 @@
--- A descent from the root: how it begins, goes down, and ends.
-use Rattle.triple_ord.proofs.Words.{◌≡◌, ◌≢◌, ℕ, true, false, ◌+◌, ◌-◌, ◌≤◌, List, [], ◌∷◌, ◌++◌, Option, Some, None, IsSome, IfSome, MatchOption, refl, sym, ap, subst, ◌∙◌, arith, inl}
-use Rattle.triple_ord.proofs.Words.{inr, ◌⊎◌, max, map, length, append_assoc, FoldsTo-push, append-nil, length_push, map_push, All-nil, All-cons, All-head, All-tail, All-push}
-use Rattle.triple_ord.proofs.Words.{Contains-append_left, Contains-append_right, Contains-push, IfSome_then, All, FoldsTo, option_map, is_eq, ordering_then, Ordering, Less, Equal}
-use Rattle.triple_ord.proofs.Words.{Greater, Entry, times, IsDistinct, entry_at, times-append, Shape, missing, node, root_of, walk, height, Tree, Gap, first_of, last_or, order_to}
-use Rattle.triple_ord.proofs.Words.{pointer, IsFirstEqual, StopsAt, IsBeside, FindsKey, FindsSimilar, IsPart, Shown, entries_of, but_last, IsSearch, where_equal, similar_of, FindsWith}
-use Rattle.triple_ord.proofs.Words.{FindsSimilarWith, IsShown, side_of, IsDescending, HasDescended}
-use Rattle.std.proofs.Common.{Contains}
-use Rattle.triple_ord.proofs.Cuts.{last_or-append, no_first, no_last, entry_at-here}
+-- A descent from the root, by a closure or by a key: how it begins, goes down, and ends, and how few entries it visits.
+use Rattle.std.proofs.{Common.Contains, Math.Pow.pow_mono}
+use Rattle.ord_tree.specs.Laws.{HeightLaw, RankSquareLaw, TightRankLaw, RebuiltHeightLaw}
+use Rattle.triple_ord.proofs.Inserting.{last_or-append, no_first, no_last, entry_at-here}
+use Rattle.triple_ord.proofs.Words.{◌≡◌, ◌≢◌, ℕ, true, false, ◌+◌, ◌-◌, ◌≤◌, List, [], ◌∷◌, ◌++◌, Option, Some, None, IsSome, IfSome}
+use Rattle.triple_ord.proofs.Words.{MatchOption, refl, sym, ap, subst, ◌∙◌, arith, inl, inr, max, map, length, append_assoc, FoldsTo-push}
+use Rattle.triple_ord.proofs.Words.{append-nil, length_push, map_push, All-nil, All-cons, All-head, All-tail, All-push}
+use Rattle.triple_ord.proofs.Words.{Contains-append_left, Contains-append_right, Contains-push, IfSome_then, All, FoldsTo, option_map}
+use Rattle.triple_ord.proofs.Words.{is_eq, ordering_then, Ordering, Less, Equal, Greater, Entry, times, IsDistinct, entry_at, times-append}
+use Rattle.triple_ord.proofs.Words.{Shape, missing, node, root_of, walk, height, Tree, Gap, first_of, last_or, order_to, pointer, StopsAt}
+use Rattle.triple_ord.proofs.Words.{FindsSimilar, IsPart, Shown, entries_of, but_last, IsSearch, where_equal, similar_of, FindsWith}
+use Rattle.triple_ord.proofs.Words.{FindsSimilarWith, IsShown, side_of, IsDescending, HasDescended, get_or, cases_eq, get_or_default}
+use Rattle.triple_ord.proofs.Words.{All-contains, before, after, present, met_next, IsCompared, HasDescendedByKey, zero, suc, ◌^◌, ◌<◌}
+use Rattle.triple_ord.proofs.Words.{length-map, IsSound, size_of, rank_of, fib, IsSoundTree, size_of-walk, height-le-size, common_steps}
+use Rattle.triple_ord.proofs.Words.{limit_of-below, IsWithinBounds, VisitsLaw}
 
 -- the sides of a part are parts
 IsPart-whole : (s : Shape) → IsPart s s
@@ -16,10 +22,7 @@ IsPart-whole (node l i k r) = inl refl
 IsPart-sides : (s l r : Shape) (i k : ℕ) → IsPart (node l i k r) s → IsPart l s × IsPart r s
 IsPart-sides missing l r i k part = absurd (cc)
 IsPart-sides (node l' i' k' r') l r i k part = elim part [
-  | inl same ↦
-      let lesser : l ≡ l' = cc in
-      let greater : r ≡ r' = cc in
-      (inr (inl (subst (λ x. IsPart l x) lesser (IsPart-whole l))), inr (inr (subst (λ x. IsPart r x) greater (IsPart-whole r))))
+  | inl same ↦ subst (λ s. IsPart l s × IsPart r s) same (inr (inl (IsPart-whole l)), inr (inr (IsPart-whole r)))
   | inr rest ↦ elim rest [
     | inl p ↦ let sides = IsPart-sides l' l r i k p in (inr (inl sides.0), inr (inl sides.1))
     | inr p ↦ let sides = IsPart-sides r' l r i k p in (inr (inr sides.0), inr (inr sides.1))
@@ -39,8 +42,7 @@ All-but_last P (x ∷ (y ∷ ys)) all =
     All-cons P x (but_last (y ∷ ys)) (All-head P x (y ∷ ys) all) (All-but_last P (y ∷ ys) (All-tail P x (y ∷ ys) all))
 
 IfSome-from_match : {X : Type 0} (o : Option X) (P : Type 0) (Q : X → Type 0) → MatchOption o P Q → IfSome o Q
-IfSome-from_match None P Q is = tt
-IfSome-from_match (Some x) P Q is = is
+IfSome-from_match o P Q is = grind (arith, common_steps)
 
 module _ {T : Type 0} where
   -- entries whose indexes are these, cut where the indexes are
@@ -196,7 +198,7 @@ module _ {T : Type 0} (t : Tree T) (distinct : IsDistinct t.list.entries) (shown
 
     step-greater : (e : IsDescending t.list.entries t.shape (more Greater) greater) × (first_of e.back ≡ first_of d.back)
     step-greater =
-        let before : last_or None ((d.front ++ face.cut.front) ++ step-entry ∷ []) ≡ Some step-entry = last_or-append None (d.front ++ face.cut.front) step-entry [] in (
+        let before = last_or-append None (d.front ++ face.cut.front) step-entry [] in (
           record {
             part = face.greater;
             within = (IsPart-sides t.shape face.lesser face.greater i face.rank part_here).1;
@@ -246,6 +248,11 @@ module _ {T : Type 0} (es : List (Entry T)) (shape : Shape) (shown : List (Shown
   pub descent-empty : (last : Option (Shown T)) → last_or None shown ≡ last → MatchOption (similar_of last) (es ≡ []) (λ a. Unit {0})
   descent-empty None is = let none = rw is at d.last_beside in rw (cut_there, no_last d.front none.0, no_first d.back none.1) refl
   descent-empty (Some s) is = tt
+
+-- an answer that isn't Equal is the way that it leads
+turned : (o : Ordering) → is_eq o ≡ false → ordering_then o Less ≡ o
+turned Equal other = absurd (cc)
+turned o other = refl
 
 -- One step of a descent in a tree: the entry at the link is shown to the closure.
 module _ {T F : Type 0} (asks : F → Shown T → F → Type 0) (t : Tree T) (distinct : IsDistinct t.list.entries) (f : F) (before : ℕ) where
@@ -298,55 +305,173 @@ module _ {T F : Type 0} (asks : F → Shown T → F → Type 0) (t : Tree T) (di
         count = omega (arith, d.count, length_push d.shown (entry, o));
         last_is = last_more;
       }
-        where
-          turned : (o : Ordering) → is_eq o ≡ false → ordering_then o Less ≡ o
-          turned Equal other = absurd (cc)
-          turned o other = refl
-
--- the answer, by its test
-pub equal_by : (o : Ordering) → is_eq o ≡ true → o ≡ Equal
-equal_by Equal test = refl
-equal_by o test = absurd (cc)
-
--- a search for a similar key tells whether an equal one is there
-module _ {T K : Type 0} (key : T → K) (cmp : K → K → Ordering) (es : List (Entry T)) (k : K) (c : ℕ) where
-  beside-other : (e : Entry T) → IsBeside key cmp es k c e → order_to key cmp k e ≢ Equal
-  beside-other e b equal = elim b.2 [
-    | inl low ↦ let more = rw low at b.1.fits.lesser_before in cc
-    | inr high ↦ let less = rw high at b.1.fits.greater_after in cc
-  ]
-
-  -- an entry that compares equal is the first of its group
-  pub first-of_equal : (e : Entry T) → (IsFirstEqual key cmp es k e × (1 ≤ c)) ⊎ IsBeside key cmp es k c e → order_to key cmp k e ≡ Equal → IsFirstEqual key cmp es k e × (1 ≤ c)
-  first-of_equal e found equal = elim found [ inl first ↦ first | inr beside ↦ absurd (beside-other e beside equal) ]
-
-  -- an entry that doesn't compare equal stands beside a gap that fits
-  pub stop-of_other : (e : Entry T) → (IsFirstEqual key cmp es k e × (1 ≤ c)) ⊎ IsBeside key cmp es k c e → order_to key cmp k e ≢ Equal → IsBeside key cmp es k c e
-  stop-of_other e found other = elim found [ inl first ↦ absurd (other first.0.equal) | inr beside ↦ beside ]
-
-  -- in an empty list there is one gap, and it fits
-  pub stop-of_empty : es ≡ [] → (gap : Gap es) × StopsAt key cmp gap k c
-  stop-of_empty empty =
-      let gap : Gap es = record { front = []; back = []; cut = empty } in
-      (gap, record { fits = record { lesser_before = tt; greater_after = tt }; seen = omega arith })
-
-  -- the search found an equal entry, or stopped at a gap that fits
-  pub finds_key-similar : (found : Option ((ℕ × ℕ) × Ordering)) → FindsSimilar key cmp es k found c → FindsKey key cmp es k (where_equal found) c
-  finds_key-similar None empty = stop-of_empty empty
-  finds_key-similar (Some (p, Equal)) found =
-      let first = first-of_equal found.0 found.2 (sym (ap (λ a. a.1) found.1)) in
-      (found.0, ap (λ a. a.0) found.1, first.0, first.1)
-  finds_key-similar (Some (p, o)) found =
-      let beside = stop-of_other found.0 found.2 (λ same. let is : o ≡ Equal = ap (λ a. a.1) found.1 ∙ same in cc) in
-      (beside.0, beside.1)
 
 -- what came with Equal, mapped
-pub where_equal-map : {X Y : Type 0} (f : X → Y) (found : Option (X × Ordering)) → where_equal (option_map (λ a. (f a.0, a.1)) found) ≡ option_map f (where_equal found)
-where_equal-map f None = refl
-where_equal-map f (Some (x, Equal)) = refl
-where_equal-map f (Some (x, o)) = refl
+where_equal-map : {X Y : Type 0} (f : X → Y) (found : Option (X × Ordering)) → where_equal (option_map (λ a. (f a.0, a.1)) found) ≡ option_map f (where_equal found)
+where_equal-map f found = grind (arith, common_steps)
 
 -- what a search for a similar entry says of one for an equal one
-pub finds_with-similar : {T F : Type 0} (asks : F → Shown T → F → Type 0) (es : List (Entry T)) (f g : F) (c : ℕ)
-    (found : Option ((ℕ × ℕ) × Ordering)) → FindsSimilarWith asks es f g found c → FindsWith asks es f g (where_equal found) c
-finds_with-similar asks es f g c found search = (search.0, search.1, ap where_equal search.2 ∙ where_equal-map pointer search.0)
+module _ {P T F : Type 0} (numbers : P → ℕ × ℕ) (asks : F → Shown T → F → Type 0) (es : List (Entry T)) (f g : F) (c : ℕ) where
+  pub finds_with-similar : (found : Option (P × Ordering)) → FindsSimilarWith asks es f g (option_map (λ a. (numbers a.0, a.1)) found) c
+      → FindsWith asks es f g (option_map numbers (where_equal found)) c
+  finds_with-similar found search =
+      (search.0, search.1, sym (where_equal-map numbers found) ∙ ap where_equal search.2 ∙ where_equal-map pointer search.0)
+
+-- A descent by a key: how it begins, one step, and its end at the gap before the first of a group, or at one that fits.
+-- a key's order to an entry, by the way down from there
+greater_of : (o : Ordering) → Greater ≡ ordering_then o Less → o ≡ Greater
+greater_of Greater turn = refl
+greater_of o turn = absurd (cc)
+
+-- no equal entry was met by another answer
+pub unmet : {X : Type 0} (x : X) (o : Ordering) → is_eq o ≡ false → met_next None x o ≡ None
+unmet x o test = grind (arith, common_steps)
+
+-- the same of its pointer
+pub met_next-map : {X Y : Type 0} (f : X → Y) (met : Option X) (x : X) (o : Ordering) → option_map f (met_next met x o) ≡ met_next (option_map f met) (f x) o
+met_next-map f met x o = grind (arith, common_steps)
+
+-- answers that differ were given at two entries
+neighbours_shown : {T : Type 0} (low high : Option (Entry T)) (shown : List (Shown T)) → IfSome low (λ e. Contains shown (e, Greater))
+    → IfSome high (λ e. Contains shown (e, Less)) → present low + present high ≤ length shown
+neighbours_shown None None shown l h = omega arith
+neighbours_shown (Some a) None shown l h = omega (arith, l.1)
+neighbours_shown None (Some b) shown l h = omega (arith, h.1)
+neighbours_shown (Some a) (Some b) shown l h = elim (cases_eq l.0 h.0) [
+  | inl same ↦
+      let there = get_or_default shown l.0 (a, Greater) (b, Less) l.1 in
+      let clash = sym l.2 ∙ there ∙ ap (λ k. get_or shown k (b, Less)) same ∙ h.2 in
+      absurd (let both : Greater ≡ Less = ap (λ s. s.1) clash in cc)
+  | inr other ↦ omega (arith, l.1, h.1)
+]
+
+module _ {T K : Type 0} (key : T → K) (cmp : K → K → Ordering) (t : Tree T) (distinct : IsDistinct t.list.entries) (k : K) (start : ℕ) where
+  abbrev Turned : Shown T → Type 0
+  Turned s = s.1 ≡ ordering_then (order_to key cmp k s.0) Less
+
+  -- the entry of a gap with the order of k to its key
+  abbrev answer_at : Option (Entry T) → Option ((ℕ × ℕ) × Ordering)
+  answer_at o = option_map (λ e. (pointer e, order_to key cmp k e)) o
+
+  pub by_key-begins : map (λ e. e.index) t.list.entries ≡ walk t.shape → HasDescendedByKey key cmp t.list.entries t.shape k start (root_of t.shape) start None None
+  by_key-begins listed =
+      let begin = IsDescending-begin t listed distinct in
+      record { shown = []; turned = All-nil Turned; descending = begin.0; count = omega arith; last_is = refl; met_is = rw begin.1 refl }
+
+  -- the key is compared with that of the entry at the link
+  module _ (i visits : ℕ) (last : Option ((ℕ × ℕ) × Ordering)) (met : Option (ℕ × ℕ)) (d : HasDescendedByKey key cmp t.list.entries t.shape k start (Some i) visits last met)
+      (p : ℕ × ℕ) (o : Ordering) (next : Option ℕ) (seen : IsCompared key cmp t i k p o next) where
+    abbrev compared : Entry T
+    compared = step-entry t distinct d.shown i d.descending
+
+    entry_order : order_to key cmp k compared ≡ o
+    entry_order = ap (λ x. cmp k (key x)) (step-item t distinct d.shown i d.descending p.1 seen.item seen.lesser seen.greater seen.there) ∙ sym seen.order_is
+
+    entry_is : answer_at (Some compared) ≡ Some (p, o)
+    entry_is = rw (entry_order, step-pointer t distinct d.shown i d.descending p.1 seen.item seen.lesser seen.greater seen.there, ← seen.here) refl
+
+    met_step : (o : Ordering) → answer_at (Some compared) ≡ Some (p, o)
+        → met_next met p o ≡ where_equal (answer_at (side_of o (Some compared) (first_of d.descending.back)))
+    met_step Greater is = d.met_is
+    met_step o is = ap where_equal (sym is)
+
+    pub by_key-step : HasDescendedByKey key cmp t.list.entries t.shape k start next (visits + 1) (Some (p, o)) (met_next met p o)
+    by_key-step =
+        let step = step-side t distinct d.shown i d.descending p.1 seen.item seen.lesser seen.greater seen.there o in
+        rw seen.next_is (record {
+          shown = d.shown ++ (compared, ordering_then o Less) ∷ [];
+          turned = All-push Turned d.shown (compared, ordering_then o Less) d.turned (rw entry_order refl);
+          descending = step.0;
+          count = omega (arith, d.count, length_push d.shown (compared, ordering_then o Less));
+          last_is = rw last_or-append (sym entry_is);
+          met_is = rw step.1 (met_step o entry_is);
+        })
+
+  -- the way has come to its end
+  module _ (visits : ℕ) (last : Option ((ℕ × ℕ) × Ordering)) (met : Option (ℕ × ℕ)) (d : HasDescendedByKey key cmp t.list.entries t.shape k start None visits last met) where
+    abbrev end : Gap t.list.entries
+    end = record { front = d.descending.front; back = d.descending.back; cut = cut_there t.list.entries t.shape d.shown d.descending }
+
+    lesser : IfSome (before end) (λ e. order_to key cmp k e ≡ Greater)
+    lesser = IfSome_then (before end) d.descending.greater_before (λ e shown. greater_of _ (All-contains Turned d.shown (e, Greater) d.turned shown))
+
+    -- the entry behind the gap is equal, so it is the first of its group
+    pub by_key-equal : (p : ℕ × ℕ) → met ≡ Some p → FindsSimilar key cmp t.list.entries k (Some (p, Equal)) (visits - start)
+    by_key-equal p is = go (after end) refl d.descending.less_after d.met_is
+      where
+        told : (q : ℕ × ℕ) (o : Ordering) → Some p ≡ where_equal (Some (q, o)) → (p ≡ q) × (o ≡ Equal)
+        told q Equal same = (cc, refl)
+        told q o same = absurd (cc)
+
+        go : (o : Option (Entry T)) → after end ≡ o → IfSome o (λ e. Contains d.shown (e, Less)) → met ≡ where_equal (answer_at o)
+            → FindsSimilar key cmp t.list.entries k (Some (p, Equal)) (visits - start)
+        go None none shown met_is = absurd (cc)
+        go (Some e) some shown met_is =
+            let both = told (pointer e) (order_to key cmp k e) (sym is ∙ met_is) in
+            (e, rw (both.0, both.1) refl, inl (record { gap = end; here = some; lesser_before = lesser; equal = both.1 }, omega (arith, shown.1, d.count)))
+
+    -- the entry behind the gap, if any, isn't equal, so the gap fits
+    pub by_key-other : met ≡ None → FindsSimilar key cmp t.list.entries k last (visits - start)
+    by_key-other is = go (last_or None d.shown) refl
+      where
+        unequal : (q : ℕ × ℕ) (o : Ordering) → None ≡ where_equal (Some (q, o)) → is_eq o ≡ false
+        unequal q Equal same = absurd (cc)
+        unequal q o same = refl
+
+        greater : (o : Option (Entry T)) → IfSome o (λ e. Contains d.shown (e, Less)) → met ≡ where_equal (answer_at o) → IfSome o (λ e. order_to key cmp k e ≡ Less)
+        greater None shown met_is = tt
+        greater (Some e) shown met_is =
+            let other = turned _ (unequal (pointer e) (order_to key cmp k e) (sym is ∙ met_is)) in
+            sym (All-contains Turned d.shown (e, Less) d.turned shown ∙ other)
+
+        stops : StopsAt key cmp end k (visits - start)
+        stops = record {
+          fits = record { lesser_before = lesser; greater_after = greater (after end) d.descending.less_after d.met_is };
+          seen = omega (arith, neighbours_shown (before end) (after end) d.shown d.descending.greater_before d.descending.less_after, d.count);
+        }
+
+        go : (o : Option (Shown T)) → last_or None d.shown ≡ o → FindsSimilar key cmp t.list.entries k last (visits - start)
+        go None none = rw (d.last_is, none) (descent-empty t.list.entries t.shape d.shown d.descending None none)
+        go (Some s) some = rw (d.last_is, some) (s.0, refl, inr (end, stops, rw some at d.descending.last_beside))
+
+-- A search that goes down once stays within the bounds on its visits.
+-- the Fibonacci numbers don't fall
+fib-step : (n : ℕ) → fib n ≤ fib (suc n)
+fib-step (suc (suc n)) = omega arith
+fib-step n = omega arith
+
+fib_more : (n d : ℕ) → fib n ≤ fib (d + n)
+fib_more n zero = let same : 0 + n ≡ n = omega arith in rw same (omega arith)
+fib_more n (suc d) = let same : suc d + n ≡ suc (d + n) = omega arith in rw same (omega (arith, fib_more n d, fib-step (d + n)))
+
+fib-mono : (m n : ℕ) → m ≤ n → fib m ≤ fib n
+fib-mono m n least = let same : (n - m) + m ≡ n = omega (arith, least) in rw same at (fib_more m (n - m))
+
+-- a search that visits no more entries than stand on the longest way down stays within the bounds, by the laws of balance
+pub visits-bounded : HeightLaw → RankSquareLaw → TightRankLaw → RebuiltHeightLaw → VisitsLaw
+visits-bounded height_law square_law tight_law rebuilt_law s c ranked few =
+    record {
+      ranked = λ some.
+          let law = square_law s ranked some in
+          let power : 2 ^ (c + 1) ≤ 2 ^ (rank_of s + 1) = pow_mono (omega (arith, few, height_law s ranked)) in
+          omega (arith, law, power);
+      tight = λ tight.
+          let law = tight_law s ranked tight in
+          let less : fib (c + 2) ≤ fib (rank_of s + 2) = fib-mono (c + 2) (rank_of s + 2) (omega (arith, few, height_law s ranked)) in
+          omega (arith, law, less);
+      rebuilt = λ rebuilt digits has. omega (arith, few, rebuilt_law s digits rebuilt has);
+      empty = λ none. omega (arith, few, none, height-le-size s);
+    }
+
+module _ {T : Type 0} (t : Tree T) (sound : IsSoundTree t) where
+  pub size-listed : size_of t.shape ≡ length t.list.entries
+  size-listed = size_of-walk t.shape ∙ ap length sound.listed ∙ length-map t.list.entries (λ e. e.index)
+
+  -- no way down is as long as a machine's number can say
+  pub height-fits : (most : ℕ) (greatest : Option ℕ) → IsSound most greatest t.list → most + 1 < 2 ^ 64 → height t.shape < 2 ^ 64
+  height-fits most greatest list fits =
+      omega (arith, height-le-size t.shape, size-listed, list.counted, list.within_limit, limit_of-below most t.list.maximum)
+
+  -- what the law says of the tree's list
+  pub within_bounds : VisitsLaw → (c : ℕ) → c ≤ height t.shape → IsWithinBounds (length t.list.entries) t.shape c
+  within_bounds law c few = rw (← size-listed) (law t.shape c sound.ranked few)

@@ -1,11 +1,174 @@
--- Where an insertion by key puts its entry: from what the search answers to the gap in the list.
-use Rattle.triple_ord.proofs.Words.{◌≡◌, ◌≢◌, ℕ, ◌≤◌, true, false, List, [], ◌∷◌, ◌++◌, Some, IsSome, refl, sym, ap, ◌∙◌, arith, inl, inr, append_assoc, is_eq, Ordering, Less, Equal}
-use Rattle.triple_ord.proofs.Words.{Greater, Entry, Chain, IsDistinct, entry_at, insert_after, insert_before, IsInsertion, put_on, Gap, before, after, present, with_between, order_to}
-use Rattle.triple_ord.proofs.Words.{StopsAt, IsFirstEqual, IsBeside, FindsSimilar}
+-- A list cut at one of its elements: its ends, what an entry's index finds where it stands once, and the gap where a search by a key
+-- that answered there puts a new entry.
 use Rattle.std.proofs.Math.Path.{fun_ext}
-use Rattle.triple_ord.proofs.Cuts.{begins, ends, entry_at-here, insert_before-here, insert_after-here}
-use Rattle.triple_ord.proofs.Descending.{equal_by, first-of_equal, stop-of_other}
+use Rattle.triple_ord.proofs.Words.{◌≡◌, ℕ, List, [], ◌∷◌, ◌++◌, Option, Some, None, IsSome, length, refl, ap, arith, inl, inr, eq-eqb}
+use Rattle.triple_ord.proofs.Words.{eqb_tells, common_steps, option_map, Link, Entry, times, IsDistinct, entry_at, first_or, link_between}
+use Rattle.triple_ord.proofs.Words.{link_at, from_index, insert_after, insert_before, with_item_among, times-append, entry_at-between}
+use Rattle.triple_ord.proofs.Words.{first_of, last_or, position_of, ◌≢◌, true, false, ◌+◌, ◌-◌, ◌≤◌, sym, ◌∙◌, ◌⊎◌, append_assoc, is_eq}
+use Rattle.triple_ord.proofs.Words.{Ordering, Less, Equal, Greater, Gap, order_to, IsFirstEqual, StopsAt, IsBeside, FindsKey, FindsSimilar}
+use Rattle.triple_ord.proofs.Words.{where_equal, Chain, IsInsertion, put_on, before, after, present, with_between}
 
+module _ {X : Type 0} where
+  -- the last of a list that goes on
+  pub last_or-append : (other : Option X) (xs : List X) (x : X) (ys : List X) → last_or other (xs ++ x ∷ ys) ≡ last_or (Some x) ys
+  last_or-append other [] x ys = refl
+  last_or-append other (y ∷ xs) x ys = last_or-append (Some y) xs x ys
+
+  -- what begins a list, and what ends one
+  pub begins : (xs : List X) (x : X) → first_of xs ≡ Some x → (ys : List X) × (xs ≡ x ∷ ys)
+  begins [] x is = absurd (cc)
+  begins (y ∷ ys) x is = (ys, cc)
+
+  ends_with : (other : Option X) (y : X) (ys : List X) (x : X) → last_or other (y ∷ ys) ≡ Some x → (front : List X) × (y ∷ ys ≡ front ++ x ∷ [])
+  ends_with other y [] x is = ([], cc)
+  ends_with other y (z ∷ zs) x is = let rest = ends_with (Some y) z zs x is in (y ∷ rest.0, ap (λ xs. y ∷ xs) rest.1)
+
+  pub ends : (xs : List X) (x : X) → last_or None xs ≡ Some x → (front : List X) × (xs ≡ front ++ x ∷ [])
+  ends [] x is = absurd (cc)
+  ends (y ∷ ys) x is = ends_with None y ys x is
+
+  -- a list with an element has a first and a last one
+  pub some_last : (x : X) (xs : List X) → (y : X) × (last_or (Some x) xs ≡ Some y)
+  some_last x [] = (x, refl)
+  some_last x (y ∷ ys) = some_last y ys
+
+  pub no_first : (xs : List X) → first_of xs ≡ None → xs ≡ []
+  no_first xs none = grind (arith, common_steps)
+
+  pub no_last : (xs : List X) → last_or None xs ≡ None → xs ≡ []
+  no_last [] none = refl
+  no_last (x ∷ xs) none = absurd (let last = (some_last x xs).1 in cc)
+
+module _ {T : Type 0} where
+  -- an entry that is there stands at its place
+  pub record StandsAt (es : List (Entry T)) (i : ℕ) : Type 0 where
+    pub front : List (Entry T)
+    pub entry : Entry T
+    pub back : List (Entry T)
+    pub cut : es ≡ front ++ entry ∷ back
+    pub here : entry.index ≡ i
+    pub place : length front ≡ position_of es i
+
+  pub stands : (es : List (Entry T)) (i : ℕ) → IsSome (entry_at es i) → StandsAt es i
+  stands [] i some = absurd (cc)
+  stands (e ∷ es) i some = elim (eqb_tells e.index i) [
+    | inl h ↦ record { front = []; entry = e; back = es; cut = refl; here = h.1; place = rw h.0 refl }
+    | inr h ↦
+        let rest = stands es i (rw h.0 at some) in
+        record { front = e ∷ rest.front; entry = rest.entry; back = rest.back; cut = ap (λ xs. e ∷ xs) rest.cut; here = rest.here; place = rw h.0 (omega (arith, rest.place)) }
+  ]
+
+  put_before : (new : Entry T) (front : List (Entry T)) (e : Entry T) (back : List (Entry T)) → times e.index front ≡ 0
+      → insert_before e.index new (front ++ e ∷ back) ≡ front ++ new ∷ e ∷ back
+  put_before new [] e back none = grind (arith, common_steps)
+  put_before new (f ∷ front) e back none = grind (arith, common_steps, put_before new front e back)
+
+  put_after : (new : Entry T) (front : List (Entry T)) (e : Entry T) (back : List (Entry T)) → times e.index front ≡ 0
+      → insert_after e.index new (front ++ e ∷ back) ≡ front ++ e ∷ new ∷ back
+  put_after new [] e back none = grind (arith, common_steps)
+  put_after new (f ∷ front) e back none = grind (arith, common_steps, put_after new front e back)
+
+  put_instead : (item : T) (front : List (Entry T)) (e : Entry T) (back : List (Entry T)) → times e.index front ≡ 0
+      → with_item_among (front ++ e ∷ back) e.index item ≡ front ++ record e { item = item } ∷ back
+  put_instead item [] e back none = grind (arith, common_steps)
+  put_instead item (f ∷ front) e back none = grind (arith, common_steps, put_instead item front e back)
+
+  from_here : (front : List (Entry T)) (e : Entry T) (back : List (Entry T)) → times e.index front ≡ 0 → from_index (front ++ e ∷ back) e.index ≡ e ∷ back
+  from_here [] e back none = grind (arith, common_steps)
+  from_here (f ∷ front) e back none = grind (arith, common_steps, from_here front e back)
+
+  abbrev pub index_of : Option (Entry T) → Option ℕ
+  index_of o = option_map (λ e. e.index) o
+
+  -- the link of an entry has the indexes of the entries beside it
+  first_or-index : (es : List (Entry T)) → first_or None es ≡ index_of (first_of es)
+  first_or-index es = grind (arith, common_steps)
+
+  abbrev entry_link : Option (Entry T) → Entry T → Option (Entry T) → ℕ × Link T
+  entry_link low e high = (e.generation, record { item = e.item; prev = index_of low; next = index_of high })
+
+  link_here : (o : Option (Entry T)) (front : List (Entry T)) (e : Entry T) (back : List (Entry T)) → times e.index front ≡ 0
+      → link_between (index_of o) None (front ++ e ∷ back) e.index ≡ Some (entry_link (last_or o front) e (first_of back))
+  link_here o [] e back none = rw (eq-eqb e.index e.index refl, first_or-index back) refl
+  link_here o (f ∷ front) e back none = grind (arith, common_steps, link_here (Some f) front e back)
+
+  -- this generation and this link are the entry's
+  pub record IsLinked (front : List (Entry T)) (e : Entry T) (back : List (Entry T)) (g : ℕ) (l : Link T) : Type 0 where
+    pub generation : e.generation ≡ g
+    pub item : e.item ≡ l.item
+    pub prev : index_of (last_or None front) ≡ l.prev
+    pub next : index_of (first_of back) ≡ l.next
+
+  -- an entry of a list in which each index stands once
+  module _ (es : List (Entry T)) (distinct : IsDistinct es) (front : List (Entry T)) (e : Entry T) (back : List (Entry T)) (cut : es ≡ front ++ e ∷ back) where
+    pub nowhere_else : times e.index (front ++ back) ≡ 0
+    nowhere_else =
+        let once = rw cut at (distinct e.index) in
+        grind (arith, common_steps, once, times-append e.index front (e ∷ back), times-append e.index front back)
+
+    pub not_before : times e.index front ≡ 0
+    not_before = omega (arith, nowhere_else, times-append e.index front back)
+
+    pub entry_at-here : entry_at es e.index ≡ Some (e.generation, e.item)
+    entry_at-here = rw cut (entry_at-between front e back nowhere_else)
+
+    pub insert_before-here : (new : Entry T) → insert_before e.index new es ≡ front ++ new ∷ e ∷ back
+    insert_before-here new = rw cut (put_before new front e back not_before)
+
+    pub insert_after-here : (new : Entry T) → insert_after e.index new es ≡ front ++ e ∷ new ∷ back
+    insert_after-here new = rw cut (put_after new front e back not_before)
+
+    pub with_item-here : (item : T) → with_item_among es e.index item ≡ front ++ record e { item = item } ∷ back
+    with_item-here item = rw cut (put_instead item front e back not_before)
+
+    pub from_index-here : from_index es e.index ≡ e ∷ back
+    from_index-here = rw cut (from_here front e back not_before)
+
+    pub link-read : (g : ℕ) (l : Link T) → link_at es e.index ≡ Some (g, l) → IsLinked front e back g l
+    link-read g l is =
+        let here = link_here None front e back not_before in
+        let found = rw cut at is in
+        let read : entry_link (last_or None front) e (first_of back) ≡ (g, l) = cc in
+        record { generation = ap (λ x. x.0) read; item = ap (λ x. x.1.item) read; prev = ap (λ x. x.1.prev) read; next = ap (λ x. x.1.next) read }
+
+-- the answer, by its test
+pub equal_by : (o : Ordering) → is_eq o ≡ true → o ≡ Equal
+equal_by o test = grind (arith, common_steps)
+
+-- a search for a similar key tells whether an equal one is there
+module _ {T K : Type 0} (key : T → K) (cmp : K → K → Ordering) (es : List (Entry T)) (k : K) (c : ℕ) where
+  beside-other : (e : Entry T) → IsBeside key cmp es k c e → order_to key cmp k e ≢ Equal
+  beside-other e b equal = elim b.2 [
+    | inl low ↦ let more = rw low at b.1.fits.lesser_before in cc
+    | inr high ↦ let less = rw high at b.1.fits.greater_after in cc
+  ]
+
+  -- an entry that compares equal is the first of its group
+  pub first-of_equal : (e : Entry T) → (IsFirstEqual key cmp es k e × (1 ≤ c)) ⊎ IsBeside key cmp es k c e → order_to key cmp k e ≡ Equal → IsFirstEqual key cmp es k e × (1 ≤ c)
+  first-of_equal e found equal = elim found [ inl first ↦ first | inr beside ↦ absurd (beside-other e beside equal) ]
+
+  -- an entry that doesn't compare equal stands beside a gap that fits
+  pub stop-of_other : (e : Entry T) → (IsFirstEqual key cmp es k e × (1 ≤ c)) ⊎ IsBeside key cmp es k c e → order_to key cmp k e ≢ Equal → IsBeside key cmp es k c e
+  stop-of_other e found other = elim found [ inl first ↦ absurd (other first.0.equal) | inr beside ↦ beside ]
+
+  -- in an empty list there is one gap, and it fits
+  pub stop-of_empty : es ≡ [] → (gap : Gap es) × StopsAt key cmp gap k c
+  stop-of_empty empty =
+      let gap : Gap es = record { front = []; back = []; cut = empty } in
+      (gap, record { fits = record { lesser_before = tt; greater_after = tt }; seen = omega arith })
+
+  -- the search found an equal entry, or stopped at a gap that fits
+  pub finds_key-similar : {P : Type 0} (numbers : P → ℕ × ℕ) (found : Option (P × Ordering))
+      → FindsSimilar key cmp es k (option_map (λ a. (numbers a.0, a.1)) found) c → FindsKey key cmp es k (option_map numbers (where_equal found)) c
+  finds_key-similar numbers None empty = stop-of_empty empty
+  finds_key-similar numbers (Some (p, Equal)) found =
+      let first = first-of_equal found.0 found.2 (sym (ap (λ a. a.1) found.1)) in
+      (found.0, ap (λ a. a.0) found.1, first.0, first.1)
+  finds_key-similar numbers (Some (p, o)) found =
+      let beside = stop-of_other found.0 found.2 (λ same. let is : o ≡ Equal = ap (λ a. a.1) found.1 ∙ same in cc) in
+      (beside.0, beside.1)
+
+-- Where an insertion by key puts its entry: from what the search answers to the gap in the list.
 -- the entry behind a gap, and the one before it, are found by their indexes, and a new entry beside them goes into the gap
 module _ {T : Type 0} (es : List (Entry T)) (e : Entry T) (distinct : IsDistinct es) (gap : Gap es) where
   cut-after : (back : List (Entry T)) → gap.back ≡ e ∷ back → es ≡ gap.front ++ e ∷ back

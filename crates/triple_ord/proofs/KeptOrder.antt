@@ -3,8 +3,8 @@ use Rattle.triple_ord.proofs.Words.{◌≡◌, ◌≢◌, ℕ, List, [], ◌∷�
 use Rattle.triple_ord.proofs.Words.{IsTotalOrder, alike_right, ordering_reverse, Ordering, Less, Equal, Greater, Entry, Chain, IsDistinct, inserted_at, with_item_among, IsInsertion, Tree}
 use Rattle.triple_ord.proofs.Words.{Gap, first_of, last_or, before, after, with_between, IsFirstEqual, IsInOrder, Aim, into, over, LiesBehind, IsPlace, InsertsBy, GoesBy, KeptOrderLaw}
 use Rattle.triple_ord.proofs.Words.{OrdEntryKind, New, Replacing, OrdInsertionError}
-use Rattle.triple_ord.proofs.Cuts.{begins, with_item-here}
-use Rattle.triple_ord.proofs.Ordered.{IsInOrder-rest, in_order-one, in_order-more}
+use Rattle.triple_ord.proofs.Inserting.{begins, with_item-here}
+use Rattle.triple_ord.proofs.OrderLaws.{IsInOrder-rest, in_order-one, in_order-more}
 
 -- the list after an insertion of a new entry
 pub record IsListed {T : Type 0} (put : Entry T → List (Entry T)) (item : T) (es : List (Entry T)) : Type 0 where

@@ -1,19 +1,19 @@
 -- The place of an insertion, from what a search answers or from an index.
-use Rattle.triple_ord.proofs.Words.{◌≡◌, ◌≢◌, ◌==◌, if◌then◌else◌, IfNone, is_some, ℕ, ◌+◌, ◌≤◌, false, true, length, slice_get, List, [], ◌∷◌, ◌++◌, Option, Some, None, IsSome, Result}
-use Rattle.triple_ord.proofs.Words.{Ok, Err, IfErr, refl, sym, ap, subst, ◌∙◌, arith, append_assoc, eq-eqb, nat_tests, nil_from_length, IfSome_then, option_map, is_eq, Ordering, Less}
-use Rattle.triple_ord.proofs.Words.{Equal, Greater, IsErrAnd, Entry, Chain, entry_at, next_index, IsDistinct, IsSound, IsInsertion, Tree, IsGrown, put_on, put_at, with_item, item_of}
-use Rattle.triple_ord.proofs.Words.{count, Updates, IsNearHint, IsWithinBounds, IsWithinHintedBounds, Gap, before, after, with_between, Fits, FindsSimilar, taken, Ties, Sought, Passed}
-use Rattle.triple_ord.proofs.Words.{Aim, alone, at_key, behind_key, beside, Place, into, over, nowhere, IsPlace, aim_of, Growth, within, reallocating, with_slot, LacksSlot, IsRefused}
-use Rattle.triple_ord.proofs.Words.{InsertsBeside, OrdInsertKind, OrdInsertionError, NotWithinCapacity}
-use Rattle.triple_ord.specs.EntryVisits.{HasSeen}
-use Rattle.triple_ord.specs.declared.prepared.InsertPlace.{InsertPlace}
-use Rattle.triple_ord.proofs.Cuts.{last_or-append, stands}
-use Rattle.triple_ord.proofs.Taken.{taken-less, taken-greater, passed-unequal}
+use Rattle.triple_ord.proofs.CallerLemmas.{entries-with_slot, updates-written, count-written, inserted-new}
+use Rattle.triple_ord.proofs.Inserting.{last_or-append, stands, HasPlace, place-alone, similar-placed, similar-occupied, similar-here}
+use Rattle.triple_ord.proofs.Inserting.{similar-first, similar-seen, not_equal, IsInsertion-same, puts-before, puts-after}
+use Rattle.triple_ord.proofs.OrderLaws.{taken-less, taken-greater, passed-unequal}
+use Rattle.triple_ord.proofs.Words.{◌≡◌, ◌≢◌, ◌==◌, if◌then◌else◌, IfNone, is_some, ℕ, ◌+◌, ◌≤◌, false, true, length, List, [], ◌∷◌, ◌++◌}
+use Rattle.triple_ord.proofs.Words.{Option, Some, None, IsSome, Result, Ok, Err, IfErr, refl, sym, ap, ◌∙◌, arith, append_assoc, eq-eqb}
+use Rattle.triple_ord.proofs.Words.{nat_tests, nil_from_length, IfSome_then, option_map, is_eq, Ordering, Less, Equal, Greater, IsErrAnd}
+use Rattle.triple_ord.proofs.Words.{Entry, Chain, entry_at, next_index, IsDistinct, IsSound, IsInsertion, Tree, IsGrown, put_on, put_at}
+use Rattle.triple_ord.proofs.Words.{with_item, item_of, count, Updates, IsNearHint, IsWithinBounds, IsWithinHintedBounds, Gap, before}
+use Rattle.triple_ord.proofs.Words.{after, with_between, FindsSimilar, taken, Ties, Sought, Passed, Aim, alone, at_key, behind_key, beside}
+use Rattle.triple_ord.proofs.Words.{Place, into, over, nowhere, IsPlace, aim_of, Growth, within, reallocating, slice_get_cases, with_slot}
+use Rattle.triple_ord.proofs.Words.{LacksSlot, IsRefused, InsertsBeside, OrdInsertKind, OrdInsertionError, NotWithinCapacity, common_steps}
 use Rattle.triple_ord.specs.Prepared.{Keeps, IsFoundPlace, IsPlaceBeside, IsPlaceFor, HasRoomAt, kind_by, kind_near}
 use Rattle.triple_ord.specs.declared.error.OrdInsertionError.TheVariants.{BeyondMaxCapacity, AllocError}
-use Rattle.triple_ord.proofs.CallerLemmas.{entries-with_slot, updates-written, count-written, inserted-new}
-use Rattle.triple_ord.specs.declared.prepared.InsertPlace.TheVariants.{New, Replacing}
-use Rattle.triple_ord.proofs.Inserting.{HasPlace, place-alone, similar-placed, similar-occupied, similar-here, similar-first, similar-seen, not_equal, IsInsertion-same, puts-before, puts-after}
+use Rattle.triple_ord.specs.declared.prepared.InsertPlace.{InsertPlace, TheVariants.New, TheVariants.Replacing}
 
 pub item_here : {T : Type 0} (t : Tree T) (i : ℕ) (x : ℕ × T) → entry_at t.list.entries i ≡ Some x → IsSome (item_of t (i, x.0))
 item_here t i x there = rw (there, eq-eqb x.0 x.0 refl) refl
@@ -39,79 +39,61 @@ module _ {T K : Type 0} (key : T → K) (cmp : K → K → Ordering) (es : List 
 
 module _ {P T K : Type 0} (numbers : P → ℕ × ℕ) (key : T → K) (cmp : K → K → Ordering) (t : Tree T) where
   module _ (k : K) (c : ℕ) where
-    -- a gap where a search stops is a place by a key, whichever
-    pub found-gap : (aim : Aim K) → ((gap : Gap t.list.entries) → Fits key cmp gap k → IsPlace key cmp aim (into gap)) → (at : Option (P × Ordering))
-        → HasRoomAt numbers at t.list → HasPlace key cmp t.list.entries k c (put_at (λ p. (numbers p).0) at t.list.entries) → (t.list.entries ≢ [] → 1 ≤ c)
-        → IsFoundPlace numbers key cmp t aim c (New at)
-    found-gap aim lift at can place some = record {
-      place = into place.gap;
-      chosen = lift place.gap place.stops.fits;
-      keeps = (can, place.puts);
-      seen = record { some = some; beside = place.stops.seen };
-    }
+    -- a gap where a search by a key stops is its place
+    found-gap : (at : Option (P × Ordering)) → HasRoomAt numbers at t.list
+        → HasPlace key cmp t.list.entries k c (put_at (λ p. (numbers p).0) at t.list.entries) → (t.list.entries ≢ [] → 1 ≤ c)
+        → IsFoundPlace numbers key cmp t (at_key k) c (New at)
+    found-gap at can place some =
+        record { place = into place.gap; chosen = place.stops.fits; keeps = (can, place.puts); seen = record { some = some; beside = place.stops.seen } }
 
-    pub found-alone : (aim : Aim K) → ((gap : Gap t.list.entries) → Fits key cmp gap k → IsPlace key cmp aim (into gap))
-        → t.list.entries ≡ [] → IsFoundPlace numbers key cmp t aim c (New None)
-    found-alone aim lift empty = found-gap aim lift None (ap length empty) (place-alone key cmp t.list.entries k empty c) (λ some. absurd (some empty))
+    pub found-alone : t.list.entries ≡ [] → IsFoundPlace numbers key cmp t (at_key k) c (New None)
+    found-alone empty = found-gap None (ap length empty) (place-alone key cmp t.list.entries k empty c) (λ some. absurd (some empty))
 
     module _ (distinct : IsDistinct t.list.entries) (p : P) (o : Ordering) (found : FindsSimilar key cmp t.list.entries k (Some (numbers p, o)) c) where
-      pub found-beside : (aim : Aim K) → ((gap : Gap t.list.entries) → Fits key cmp gap k → IsPlace key cmp aim (into gap))
-          → is_eq o ≡ false → IsFoundPlace numbers key cmp t aim c (New (Some (p, o)))
-      found-beside aim lift test =
-          found-gap aim lift (Some (p, o)) (similar-occupied key cmp t.list.entries k distinct (numbers p) o c found, not_equal o test)
+      pub found-beside : is_eq o ≡ false → IsFoundPlace numbers key cmp t (at_key k) c (New (Some (p, o)))
+      found-beside test =
+          found-gap (Some (p, o)) (similar-occupied key cmp t.list.entries k distinct (numbers p) o c found, not_equal o test)
           (similar-placed key cmp t.list.entries k distinct (numbers p) o c found test)
           (λ some. similar-seen key cmp t.list.entries k distinct (numbers p) o c found)
 
       pub found-over : is_eq o ≡ true → IsFoundPlace numbers key cmp t (at_key k) c (Replacing p)
-      found-over test = record {
-        place = over found.0;
-        chosen = similar-first key cmp t.list.entries k distinct (numbers p) o c found test;
-        keeps = (ap (λ a. a.0) found.1, here);
-        seen = record { some = λ some. similar-seen key cmp t.list.entries k distinct (numbers p) o c found; beside = tt };
-      }
-        where
-          here : IsSome (item_of t (numbers p))
-          here =
-              let there = item_here t found.0.index (found.0.generation, found.0.item) (similar-here key cmp t.list.entries k distinct (numbers p) o c found) in
-              rw (ap (λ a. a.0) found.1) there
+      found-over test =
+          let there = similar-here key cmp t.list.entries k distinct (numbers p) o c found in
+          let here = item_here t found.0.index (found.0.generation, found.0.item) there in
+          record {
+            place = over found.0;
+            chosen = similar-first key cmp t.list.entries k distinct (numbers p) o c found test;
+            keeps = (ap (λ a. a.0) found.1, rw (ap (λ a. a.0) found.1) here);
+            seen = record { some = λ some. similar-seen key cmp t.list.entries k distinct (numbers p) o c found; beside = tt };
+          }
 
   -- a place by the order in which equal keys count as lesser lies behind the key
-  found-behind : (k : K) (c : ℕ) (kept : InsertPlace P) → IsFoundPlace numbers key (taken Passed cmp) t (at_key k) c kept → IsFoundPlace numbers key cmp t (behind_key k) c kept
-  found-behind k c kept found = go found.place found.chosen found.keeps found.seen
-    where
-      go : (place : Place t.list.entries) → IsPlace key (taken Passed cmp) (at_key k) place → Keeps numbers t kept place → HasSeen place c
-          → IsFoundPlace numbers key cmp t (behind_key k) c kept
-      go (into gap) chosen keeps seen = record {
-        place = into gap;
-        chosen = record {
-          at_most_before = IfSome_then (before gap) chosen.lesser_before (λ e lesser. taken-greater cmp k (key e.item) Passed lesser);
-          greater_after = IfSome_then (after gap) chosen.greater_after (λ e more. taken-less cmp k (key e.item) Passed more);
-        };
-        keeps = keeps;
-        seen = seen;
-      }
-      go (over e) chosen keeps seen = absurd (passed-unequal cmp k (key e.item) chosen.equal)
-      go nowhere chosen keeps seen = absurd chosen
+  behind : (k : K) (place : Place t.list.entries) → IsPlace key (taken Passed cmp) (at_key k) place → IsPlace key cmp (behind_key k) place
+  behind k (into gap) at = record {
+    at_most_before = IfSome_then (before gap) at.lesser_before (λ e lesser. taken-greater cmp k (key e.item) Passed lesser);
+    greater_after = IfSome_then (after gap) at.greater_after (λ e more. taken-less cmp k (key e.item) Passed more);
+  }
+  behind k (over e) at = absurd (passed-unequal cmp k (key e.item) at.equal)
+  behind k nowhere at = absurd at
 
   -- the place by a key, by what the search made of equal keys
   module _ {I G : Type 0} (number : I → ℕ) (k : K) (c : ℕ) (kept : InsertPlace P) where
     pub placed-by : (ties : Ties) → IsFoundPlace numbers key (taken ties cmp) t (at_key k) c kept → IsWithinBounds (length t.list.entries) t.shape c
         → IsPlaceFor numbers key cmp t {G = G} number (kind_by ties k) kept c
     placed-by Sought f bounded = record { place = f.place; chosen = f.chosen; keeps = f.keeps; visits = record { seen = f.seen; bounded = bounded } }
-    placed-by Passed found bounded =
-        let f = found-behind k c kept found in record { place = f.place; chosen = f.chosen; keeps = f.keeps; visits = record { seen = f.seen; bounded = bounded } }
+    placed-by Passed f bounded =
+        record { place = f.place; chosen = behind k f.place f.chosen; keeps = f.keeps; visits = record { seen = f.seen; bounded = bounded } }
 
-    pub placed-near : (ties : Ties) (i : I) (num : ℕ) → IsFoundPlace numbers key (taken ties cmp) t (at_key k) c kept
-        → IsWithinHintedBounds (length t.list.entries) t.shape num c → IfNone (entry_at t.list.entries (number i)) (IsWithinBounds (length t.list.entries) t.shape c)
-        → IsNearHint key cmp t.list.entries k (number i) num c → IsPlaceFor numbers key cmp t {G = G} number (kind_near ties i num k) kept c
-    placed-near ties i num found bounded unhinted near = go ties found
-      where
-        go : (ties : Ties) → IsFoundPlace numbers key (taken ties cmp) t (at_key k) c kept → IsPlaceFor numbers key cmp t {G = G} number (kind_near ties i num k) kept c
-        go Sought f =
-            record { place = f.place; chosen = f.chosen; keeps = f.keeps; visits = record { seen = f.seen; bounded = bounded; unhinted = unhinted; near = near } }
-        go Passed found =
-            let f = found-behind k c kept found in
-            record { place = f.place; chosen = f.chosen; keeps = f.keeps; visits = record { seen = f.seen; bounded = bounded; unhinted = unhinted; near = near } }
+    module _ (i : I) (num : ℕ) (bounded : IsWithinHintedBounds (length t.list.entries) t.shape num c)
+        (unhinted : IfNone (entry_at t.list.entries (number i)) (IsWithinBounds (length t.list.entries) t.shape c))
+        (near : IsNearHint key cmp t.list.entries k (number i) num c) where
+      pub placed-near : (ties : Ties) → IsFoundPlace numbers key (taken ties cmp) t (at_key k) c kept
+          → IsPlaceFor numbers key cmp t {G = G} number (kind_near ties i num k) kept c
+      placed-near Sought f =
+          record { place = f.place; chosen = f.chosen; keeps = f.keeps; visits = record { seen = f.seen; bounded = bounded; unhinted = unhinted; near = near } }
+      placed-near Passed f =
+          let chosen = behind k f.place f.chosen in
+          record { place = f.place; chosen = chosen; keeps = f.keeps; visits = record { seen = f.seen; bounded = bounded; unhinted = unhinted; near = near } }
 
   -- the entry that has an index: beside it, or in its place
   module _ (distinct : IsDistinct t.list.entries) (p : P) (i g : ℕ) (item : T) (named : numbers p ≡ (i, g)) (there : entry_at t.list.entries i ≡ Some (g, item)) where
@@ -150,42 +132,38 @@ module _ {P T : Type 0} (numbers : P → ℕ × ℕ) (t : Tree T) (distinct : Is
       record { gap = side.gap; puts = side.puts }
 
 -- an insertion gives the pointer that was next
-pub insertion-named : {T : Type 0} (c d : Chain T) (put : Entry T → List (Entry T)) (item : T) (i g j h : ℕ) → next_index c ≡ Some j
-    → h ≡ c.generation → IsInsertion c d put item i g → IsInsertion c d put item j h
-insertion-named c d put item i g j h next generation ins =
-    let index : i ≡ j = let was = ins.next in cc in
-    let era : g ≡ h = ins.generation ∙ sym generation in
-    subst (λ (k : ℕ). IsInsertion c d put item j k) era (subst (λ (k : ℕ). IsInsertion c d put item k g) index ins)
+module _ {T : Type 0} (c d : Chain T) (put : Entry T → List (Entry T)) (item : T) (i g j h : ℕ) (next : next_index c ≡ Some j) (era : h ≡ c.generation) where
+  pub insertion-named : IsInsertion c d put item i g → IsInsertion c d put item j h
+  insertion-named ins =
+      let index : i ≡ j = let was = ins.next in cc in
+      rw (← index, era ∙ sym ins.generation) ins
 
 -- a refusal that a `?` passes on
 pub err-and : {X E : Type 0} {Q R : E → Type 0} (r : Result X E) → IsErrAnd r Q → ((e : E) → Q e → R e) → IfErr r R
-err-and (Ok x) none step = tt
-err-and (Err e) has step = step e has
+err-and r has step = grind (arith, common_steps)
 
 -- at a gap that is its place a new entry that has no slot is refused
-gap-refused : {T K : Type 0} (key : T → K) (cmp : K → K → Ordering) (most : ℕ) (aim : Aim K) (old : Tree T) (gap : Gap old.list.entries) → IsPlace key cmp aim (into gap)
-    → (growth : Growth) (e : OrdInsertionError) → LacksSlot growth most old.list e → IsRefused key cmp most growth aim old e
-gap-refused key cmp most aim old gap chosen within NotWithinCapacity lacks = (gap, chosen, lacks)
-gap-refused key cmp most aim old gap chosen reallocating BeyondMaxCapacity lacks = (gap, chosen, lacks)
-gap-refused key cmp most aim old gap chosen reallocating AllocError lacks = (gap, chosen, lacks)
-gap-refused key cmp most aim old gap chosen growth e lacks = absurd lacks
+module _ {T K : Type 0} (key : T → K) (cmp : K → K → Ordering) (most : ℕ) (aim : Aim K) (old : Tree T) (gap : Gap old.list.entries) (at : IsPlace key cmp aim (into gap)) where
+  gap-refused : (growth : Growth) (e : OrdInsertionError) → LacksSlot growth most old.list e → IsRefused key cmp most growth aim old e
+  gap-refused within NotWithinCapacity lacks = (gap, at, lacks)
+  gap-refused reallocating BeyondMaxCapacity lacks = (gap, at, lacks)
+  gap-refused reallocating AllocError lacks = (gap, at, lacks)
+  gap-refused growth e lacks = absurd lacks
 
-pub new-refused : {P T K I G : Type 0} (numbers : P → ℕ × ℕ) (key : T → K) (cmp : K → K → Ordering) (number : I → ℕ) (growth : Growth) (most : ℕ)
-    (old : Tree T) (kind : OrdInsertKind P K I G) (c : ℕ) (at : Option (P × Ordering)) → IsPlaceFor numbers key cmp old number kind (New at) c
-    → (e : OrdInsertionError) → LacksSlot growth most old.list e → IsRefused key cmp most growth (aim_of number kind) old e
-new-refused numbers key cmp number growth most old kind c at found e lacks = go found.place found.chosen found.keeps
-  where
-    go : (place : Place old.list.entries) → IsPlace key cmp (aim_of number kind) place → Keeps numbers old (New at) place → IsRefused key cmp most growth (aim_of number kind) old e
-    go (into gap) chosen keeps = gap-refused key cmp most (aim_of number kind) old gap chosen growth e lacks
-    go place chosen keeps = absurd keeps
+module _ {P T K I G : Type 0} (numbers : P → ℕ × ℕ) (key : T → K) (cmp : K → K → Ordering) (number : I → ℕ) (growth : Growth) (most : ℕ)
+    (old : Tree T) (kind : OrdInsertKind P K I G) (c : ℕ) (at : Option (P × Ordering)) (found : IsPlaceFor numbers key cmp old number kind (New at) c)
+    (e : OrdInsertionError) (lacks : LacksSlot growth most old.list e) where
+  pub new-refused : IsRefused key cmp most growth (aim_of number kind) old e
+  new-refused = go found.place found.chosen found.keeps
+    where
+      go : (place : Place old.list.entries) → IsPlace key cmp (aim_of number kind) place → Keeps numbers old (New at) place
+          → IsRefused key cmp most growth (aim_of number kind) old e
+      go (into gap) chosen keeps = gap-refused key cmp most (aim_of number kind) old gap chosen growth e lacks
+      go place chosen keeps = absurd keeps
 
 -- no slot is vacant where no index comes next
 pub full : {T : Type 0} (most : ℕ) (greatest : Option ℕ) (c : Chain T) → IsSound most greatest c → next_index c ≡ None → length c.entries ≡ c.capacity
-full most greatest c sound none = go c.vacant refl none
-  where
-    go : (vacant : List ℕ) → c.vacant ≡ vacant → slice_get vacant 0 ≡ None → length c.entries ≡ c.capacity
-    go [] is none = omega (arith, sound.counted, ap length is)
-    go (i ∷ rest) is none = absurd (cc)
+full most greatest c sound none = grind (arith, common_steps, slice_get_cases c.vacant 0, sound.counted)
 
 -- an insertion beside the entry that has an index
 module _ {T : Type 0} (most : ℕ) (old new : Tree T) (distinct : IsDistinct old.list.entries) (item : T) (i : ℕ) where
@@ -194,7 +172,8 @@ module _ {T : Type 0} (most : ℕ) (old new : Tree T) (distinct : IsDistinct old
     pub updates : (q : ℕ × ℕ) × Updates old new q (Some item)
     pub counted : count new ≡ (if is_some before then count old else count old + 1)
 
-  pub beside-replaced : (before : T) → option_map (λ e. e.1) (entry_at old.list.entries i) ≡ Some before → new ≡ with_item old i item → IsBesideDone Equal (Some before)
+  pub beside-replaced : (before : T) → option_map (λ e. e.1) (entry_at old.list.entries i) ≡ Some before → new ≡ with_item old i item
+      → IsBesideDone Equal (Some before)
   beside-replaced before had after = go (entry_at old.list.entries i) refl had
     where
       go : (x : Option (ℕ × T)) → entry_at old.list.entries i ≡ x → option_map (λ e. e.1) x ≡ Some before → IsBesideDone Equal (Some before)
@@ -216,8 +195,8 @@ module _ {T : Type 0} (most : ℕ) (old new : Tree T) (distinct : IsDistinct old
         let done = inserted-new old new (with_slot reallocating most old.list) (entries-with_slot reallocating most old.list) side.gap item p there in
         record { inserts = (p, record { gap = side.gap; place = side.at; inserted = there; grown = grown }); updates = (p, done.updates); counted = done.count }
 
-    pub beside-refused : (f : OrdInsertionError) → LacksSlot reallocating most old.list f → new ≡ old
-        → (r : Result (Option T) OrdInsertionError) → IsErrAnd r (λ e. e ≡ f) → InsertsBeside most i o old item r new
+    pub beside-refused : (f : OrdInsertionError) → LacksSlot reallocating most old.list f → new ≡ old → (r : Result (Option T) OrdInsertionError)
+        → IsErrAnd r (λ e. e ≡ f) → InsertsBeside most i o old item r new
     beside-refused f lacks same (Ok x) none = absurd none
     beside-refused f lacks same (Err e) is =
         record { refused = gap-refused (λ item. tt {0}) (λ k l. Equal) most (beside i o) old side.gap side.at reallocating e (rw is lacks); after = same }

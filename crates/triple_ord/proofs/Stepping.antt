@@ -1,15 +1,18 @@
--- Steps from a hint: how they begin, go on, and end.
-use Rattle.triple_ord.proofs.Words.{◌≡◌, ◌≢◌, ℕ, suc, true, false, not, ◌==◌, ◌+◌, ◌<◌, ◌≤◌, List, [], ◌∷◌, ◌++◌, Option, Some, None, IsSome, IfSome, length, refl, sym, ap, ◌∙◌, arith}
-use Rattle.triple_ord.proofs.Words.{inl, inr, ◌⊎◌, append_assoc, length-append, leb_tells, option_map, IsTotalOrder, is_eq, ordering_index, ordering_reverse, Ordering, Less, Equal}
-use Rattle.triple_ord.proofs.Words.{Greater, Link, Entry, IsDistinct, entry_at, link_at, Gap, first_of, last_or, present, order_to, pointer, Fits, FindsSimilar, IsInOrder, position_of}
-use Rattle.triple_ord.proofs.Words.{way_length, neighbour_towards, CameFrom, IsStepping}
-use Rattle.triple_ord.proofs.Cuts.{last_or-append, begins, ends, some_last, stands, IsLinked, link-read, entry_at-here}
-use Rattle.triple_ord.proofs.Ordered.{stands-before, stands-behind}
+-- Steps from a hint, and a search that first makes them: how they begin, go on, and end, and how many entries are visited.
+use Rattle.std.proofs.Math.Nat.{pow-le-pow_left}
+use Rattle.triple_ord.proofs.Inserting.{last_or-append, begins, ends, some_last, stands, IsLinked, link-read, entry_at-here}
+use Rattle.triple_ord.proofs.OrderLaws.{stands-before, stands-behind}
+use Rattle.triple_ord.proofs.Words.{◌≡◌, ◌≢◌, ℕ, suc, true, false, not, ◌==◌, ◌+◌, ◌<◌, ◌≤◌, List, [], ◌∷◌, ◌++◌, Option, Some, None}
+use Rattle.triple_ord.proofs.Words.{IsSome, IfSome, length, refl, sym, ap, ◌∙◌, arith, inl, inr, ◌⊎◌, append_assoc, length-append}
+use Rattle.triple_ord.proofs.Words.{leb_tells, option_map, IsTotalOrder, is_eq, ordering_index, ordering_reverse, Ordering, Less, Equal}
+use Rattle.triple_ord.proofs.Words.{Greater, Link, Entry, IsDistinct, entry_at, link_at, Gap, first_of, last_or, present, order_to, pointer}
+use Rattle.triple_ord.proofs.Words.{Fits, FindsSimilar, IsInOrder, position_of, way_length, neighbour_towards, CameFrom, IsStepping, ◌-◌}
+use Rattle.triple_ord.proofs.Words.{◌^◌, IfNone, is_some, common_steps, Shape, IsFirstEqual, IsBeside, IsWithinBounds, IsWithinHintedBounds}
+use Rattle.triple_ord.proofs.Words.{IsNearHint, Settles, IsNear}
 
 -- a gap has a neighbour on each side where there are entries
 after-count : {X : Type 0} (back : List X) → (present (first_of back) ≡ 1) ⊎ ((present (first_of back) ≡ 0) × (length back ≡ 0))
-after-count [] = inr (refl, refl)
-after-count (x ∷ back) = inl refl
+after-count back = grind (arith, common_steps)
 
 before-count : {X : Type 0} (front : List X) → (present (last_or None front) ≡ 1) ⊎ ((present (last_or None front) ≡ 0) × (length front ≡ 0))
 before-count [] = inr (refl, refl)
@@ -25,7 +28,17 @@ module _ {T K : Type 0} (key : T → K) (cmp : K → K → Ordering) (es : List 
   pub stepping-begins : (i : ℕ) → IsSome (entry_at es i) → IsStepping key cmp es k (position_of es i) i 0 Equal
   stepping-begins i some =
       let s = stands es i some in
-      record { front = s.front; entry = s.entry; back = s.back; cut = s.cut; here = s.here; from = (refl, s.place); within = let n = ap length s.cut in omega (arith, n, s.place, length-append s.front (s.entry ∷ s.back)) }
+      let all = ap length s.cut ∙ length-append s.front (s.entry ∷ s.back) in
+      record {
+        front = s.front;
+        entry = s.entry;
+        back = s.back;
+        cut = s.cut;
+        here = s.here;
+        from = (refl, s.place);
+        within = omega (arith, all, s.place);
+        few = omega (arith, all);
+      }
 
   module _ (start visits : ℕ) (front back : List (Entry T)) where
     -- as long as the order stays, each step goes one place further
@@ -55,15 +68,6 @@ module _ {T K : Type 0} (key : T → K) (cmp : K → K → Ordering) (es : List 
     high-answered came from (Some f) is turned = absurd (cc)
 
   module _ (start i visits : ℕ) (came : Ordering) (s : IsStepping key cmp es k start i visits came) where
-    -- no entry is met twice
-    pub stepping-within : visits < length es
-    stepping-within = go came s.from
-      where
-        go : (came : Ordering) → CameFrom key cmp es k start visits s.front s.back came → visits < length es
-        go Less from = omega (arith, from.4, s.within)
-        go Equal from = omega (arith, from.0, s.within)
-        go Greater from = let n = ap length s.cut in omega (arith, from.4, n, length-append s.front (s.entry ∷ s.back))
-
     pub stepping-occupied : IsSome (entry_at es i)
     stepping-occupied = rw (← s.here, entry_at-here es distinct s.front s.entry s.back s.cut) refl
 
@@ -81,14 +85,16 @@ module _ {T K : Type 0} (key : T → K) (cmp : K → K → Ordering) (es : List 
           let n = read_index (last_or None s.front) j (linked.prev ∙ next) in
           let end = ends s.front n.0 n.1 in
           let place = place-less start visits s.front s.back came s.from ahead in
+          let length-front = ap length end.1 ∙ length-append end.0 (n.0 ∷ []) in
           record {
             front = end.0;
             entry = n.0;
             back = s.entry ∷ s.back;
             cut = s.cut ∙ (ap (λ (xs : List (Entry T)). xs ++ s.entry ∷ s.back) end.1 ∙ simp append_assoc);
             here = n.2;
-            from = (s.entry, refl, stepping-order Less order, omega arith, omega (arith, place, ap length end.1, length-append end.0 (n.0 ∷ [])));
+            from = (s.entry, refl, stepping-order Less order, omega arith, omega (arith, place, length-front));
             within = s.within;
+            few = omega (arith, place, length-front, s.within);
           }
       stepping-goes Equal order j next ahead = absurd (cc)
       stepping-goes Greater order j next ahead =
@@ -103,6 +109,7 @@ module _ {T K : Type 0} (key : T → K) (cmp : K → K → Ordering) (es : List 
             here = n.2;
             from = (s.entry, last_or-append None s.front s.entry [], stepping-order Greater order, omega arith, omega (arith, place, length-append s.front (s.entry ∷ [])));
             within = s.within;
+            few = omega (arith, place, ap length s.cut, length-append s.front (s.entry ∷ s.back), ap length begin.1);
           }
 
       named : (pointer s.entry) ≡ (i, generation)
@@ -141,16 +148,16 @@ module _ {T K : Type 0} (key : T → K) (cmp : K → K → Ordering) (es : List 
         cut-here : length es ≡ length s.front + (1 + length s.back)
         cut-here = let n = ap length s.cut in omega (arith, n, length-append s.front (s.entry ∷ s.back))
 
-        up : (length s.front ≡ start + visits) → (length s.front ≤ length gap.front) → start < length gap.front → visits + 1 ≤ way_length gap start
-        up place reach below = elim (leb_tells (suc start) (length gap.front)) [
-          | inl h ↦ rw h.0 (elim (after-count gap.back) [ inl one ↦ omega (arith, one, place, reach) | inr none ↦ omega (arith, none.0, none.1, cut-gap, cut-here, place) ])
-          | inr h ↦ absurd (omega (arith, h.1, below))
-        ]
+        Up : Type 0
+        Up = (length s.front ≡ start + visits) × (length s.front ≤ length gap.front) × (start < length gap.front)
 
-        down : (length s.front + visits ≡ start) → (length gap.front ≤ length s.front + 1) → length gap.front ≤ start → visits + 1 ≤ way_length gap start
-        down place reach behind = elim (leb_tells (suc start) (length gap.front)) [
-          | inl h ↦ absurd (omega (arith, h.1, behind))
-          | inr h ↦ rw h.0 (elim (before-count gap.front) [ inl one ↦ omega (arith, one, place, reach) | inr none ↦ omega (arith, none.0, none.1, place) ])
+        Down : Type 0
+        Down = (length s.front + visits ≡ start) × (length gap.front ≤ length s.front + 1) × (length gap.front ≤ start)
+
+        along : Up ⊎ Down → visits + 1 ≤ way_length gap start
+        along way = elim (leb_tells (suc start) (length gap.front)) [
+          | inl h ↦ rw h.0 (omega (arith, h.1, way, after-count gap.back, cut-gap, cut-here))
+          | inr h ↦ rw h.0 (omega (arith, h.1, way, before-count gap.front))
         ]
 
         by_way : (came : Ordering) → CameFrom key cmp es k start visits s.front s.back came → visits + 1 ≤ way_length gap start
@@ -159,25 +166,78 @@ module _ {T K : Type 0} (key : T → K) (cmp : K → K → Ordering) (es : List 
             let cut : es ≡ (s.front ++ s.entry ∷ []) ++ from.0 ∷ begin.0 = s.cut ∙ (ap (λ (xs : List (Entry T)). s.front ++ s.entry ∷ xs) begin.1 ∙ simp append_assoc) in
             let behind = stands-behind key real total k es ordered gap fits (s.front ++ s.entry ∷ []) begin.0 from.0 cut (λ more. let less = lesser _ from.2 in cc) in
             let reach : length gap.front ≤ length s.front + 1 = omega (arith, behind, length-append s.front (s.entry ∷ [])) in
-            down from.4 reach (omega (arith, reach, from.3, from.4))
+            along (inr (from.4, reach, omega (arith, reach, from.3, from.4)))
         by_way Equal from = elim (leb_tells (suc start) (length gap.front)) [
-          | inl h ↦ up (omega (arith, from.0, from.1)) (omega (arith, h.1, from.1)) h.1
-          | inr h ↦ down (omega (arith, from.0, from.1)) (omega (arith, h.1, from.1)) (omega (arith, h.1))
+          | inl h ↦ along (inl (omega (arith, from.0, from.1), omega (arith, h.1, from.1), h.1))
+          | inr h ↦ along (inr (omega (arith, from.0, from.1), omega (arith, h.1, from.1), omega (arith, h.1)))
         ]
         by_way Greater from =
             let end = ends s.front from.0 from.1 in
             let cut : es ≡ end.0 ++ from.0 ∷ (s.entry ∷ s.back) = s.cut ∙ (ap (λ (xs : List (Entry T)). xs ++ s.entry ∷ s.back) end.1 ∙ simp append_assoc) in
             let before = stands-before key real total k es ordered gap fits end.0 (s.entry ∷ s.back) from.0 cut (greater _ from.2) in
             let reach : length s.front ≤ length gap.front = omega (arith, before, ap length end.1, length-append end.0 (from.0 ∷ [])) in
-            up from.4 reach (omega (arith, reach, from.3, from.4))
+            along (inl (from.4, reach, omega (arith, reach, from.3, from.4)))
 
 -- orders that are told apart by a test
 pub apart : (o p : Ordering) → not (ordering_index o == ordering_index p) ≡ true → o ≢ p
-apart Less p test same = let other = rw (← same) at test in cc
-apart o p test same = let other = rw (← same) at test in cc
+apart o p test same = grind (arith, common_steps)
 
 pub alike : (o p : Ordering) → not (ordering_index o == ordering_index p) ≡ false → o ≡ p
-alike Less Less test = refl
-alike Equal Equal test = refl
-alike Greater Greater test = refl
-alike o p test = absurd (cc)
+alike o p test = grind (arith, common_steps)
+
+-- A search that first makes steps from a hint: what it answers, and how many entries it visits.
+module _ {T K : Type 0} (key : T → K) (cmp : K → K → Ordering) (es : List (Entry T)) (k : K) where
+  -- a search that visits more has seen no less
+  pub FindsSimilar-more : (found : Option ((ℕ × ℕ) × Ordering)) (c d : ℕ) → c ≤ d → FindsSimilar key cmp es k found c → FindsSimilar key cmp es k found d
+  FindsSimilar-more None c d more empty = empty
+  FindsSimilar-more (Some a) c d more found = (found.0, found.1, seen found.2)
+    where
+      seen : (IsFirstEqual key cmp es k found.0 × (1 ≤ c)) ⊎ IsBeside key cmp es k c found.0 → (IsFirstEqual key cmp es k found.0 × (1 ≤ d)) ⊎ IsBeside key cmp es k d found.0
+      seen (inl first) = inl (first.0, omega (arith, first.1, more))
+      seen (inr beside) = let stop = beside.1 in inr (beside.0, record { fits = stop.fits; seen = omega (arith, stop.seen, more) }, beside.2)
+
+  module _ {P : Type 0} (pointer_of : P → ℕ × ℕ) (visits : ℕ) where
+    -- where the steps have an answer, it is the search's
+    pub settled-similar : (found : Option (P × Ordering)) → Settles key cmp es k (option_map (λ a. (pointer_of a.0, a.1)) found) visits
+        → is_some found ≡ true → FindsSimilar key cmp es k (option_map (λ a. (pointer_of a.0, a.1)) found) visits
+    settled-similar (Some a) settled some = settled
+    settled-similar None settled some = absurd (cc)
+
+  -- the steps leave it open only where the hint is too far away
+  module _ {X : Type 0} (i num visits : ℕ) where
+    pub settled-near : (found : Option X) → IsNear key cmp es k i num found visits → is_some found ≡ true → IsNearHint key cmp es k i num visits
+    settled-near None near some = absurd (cc)
+    settled-near (Some x) near some = λ ordered there gap fits few. near ordered gap fits
+
+    pub open-near : (found : Option X) (c : ℕ) → IsNear key cmp es k i num found visits → is_some found ≡ false → IsNearHint key cmp es k i num c
+    open-near None c near none = λ ordered there gap fits few. let far = near ordered gap fits in absurd (omega (arith, far, few))
+    open-near (Some x) c near none = absurd (cc)
+
+-- no visit at all is within the bounds
+unvisited : (n : ℕ) (shape : Shape) → IsWithinBounds n shape 0
+unvisited n shape =
+    record {
+      ranked = λ some. square n some;
+      tight = λ tight. omega arith;
+      rebuilt = λ rebuilt digits has. omega arith;
+      empty = λ none. refl;
+    }
+  where
+    square : (n : ℕ) → 0 < n → 2 ^ (0 + 1) ≤ (n + 1) ^ 2
+    square n some = let four : 2 ^ 2 ≤ (n + 1) ^ 2 = pow-le-pow_left {n = 2} {m = n + 1} (omega (arith, some)) 2 in omega (arith, four)
+
+-- steps alone, and steps with a whole search
+pub hinted-steps : (n : ℕ) (shape : Shape) (num c : ℕ) → c ≤ num → c ≤ n → IsWithinHintedBounds n shape num c
+hinted-steps n shape num c few within = record { steps = c; search = 0; sum = omega arith; few = few; within = within; bounded = unvisited n shape }
+
+pub hinted-whole : (n : ℕ) (shape : Shape) (num steps c : ℕ) → steps ≤ num → steps ≤ n → steps ≤ c → IsWithinBounds n shape (c - steps) → IsWithinHintedBounds n shape num c
+hinted-whole n shape num steps c few within more bounded =
+    record { steps = steps; search = c - steps; sum = omega (arith, more); few = few; within = within; bounded = bounded }
+
+-- a whole search alone
+pub hinted-alone : (n : ℕ) (shape : Shape) (num c : ℕ) → IsWithinBounds n shape c → IsWithinHintedBounds n shape num c
+hinted-alone n shape num c bounded = record { steps = 0; search = c; sum = omega arith; few = omega arith; within = omega arith; bounded = bounded }
+
+-- where the hint has an entry, nothing is claimed of a hint without one
+pub named-unhinted : {X : Type 0} (P : Type 0) (o : Option X) → true ≡ is_some o → IfNone o P
+named-unhinted P o there = grind (arith, common_steps)

@@ -1,8 +1,7 @@
 -- What a clone of an ordered arena is: the source's entries in their order, with its shape and its generation.
 use Rattle.std.specs.Prelude.{[]}
 use Rattle.chain_base.specs.Clone.{taken_over}
-use Rattle.ord_tree.specs.Shape.{missing}
-use Rattle.ord_tree.specs.Tree.{Tree}
+use Rattle.ord_tree.specs.{Shape.missing, Tree.Tree}
 
 module _ {T : Type 0} where
   -- The receiver as a clone of the source: its capacity is raised to the source's greatest index, where it was less; its maximum stays,

@@ -1,14 +1,10 @@
 -- What a search by a closure returns on a list of entries: the entries that it showed to the closure, and what the closure said.
-use Rattle.std.specs.Prelude.{◌≡◌, ◌≢◌, ℕ, ◌⊎◌, if◌then◌else◌, List, [], ◌∷◌, Option, Some, None, IfSome, MatchOption, Contains, length, map}
-use Rattle.std.specs.List.{All, FoldsTo}
-use Rattle.std.specs.Option.{option_map}
-use Rattle.std.specs.Borrow.{Bor}
-use Rattle.std.specs.Ordering.{is_eq}
-use Rattle.std.specs.declared.cmp.Ordering.{Ordering}
+use Rattle.std.specs.{Borrow.Bor, List.All, List.FoldsTo, Option.option_map, Ordering.is_eq}
+use Rattle.std.specs.Prelude.{◌≡◌, ◌≢◌, ℕ, ◌⊎◌, if◌then◌else◌, List, [], ◌∷◌, Option, Some, None, IfSome, MatchOption, Contains, length}
+use Rattle.std.specs.{Prelude.map, declared.cmp.Ordering.Ordering}
 use Rattle.std.specs.declared.cmp.Ordering.TheVariants.{Less, Equal, Greater}
 use Rattle.chain_base.specs.Chain.{Entry, IsDistinct}
-use Rattle.triple_ord.specs.Gap.{Gap, before, after, last_or}
-use Rattle.triple_ord.specs.Search.{pointer}
+use Rattle.triple_ord.specs.{Gap.Gap, Gap.before, Gap.after, Gap.last_or, Search.pointer}
 
 -- an entry that was shown, with the answer that it got
 abbrev pub Shown : Type 0 → Type 0

@@ -1,17 +1,11 @@
 -- How far a descent from the root of a tree has come. No public clause cites this file.
+use Rattle.std.specs.{List.All, List.FoldsTo, Option.option_map, Ordering.ordering_then}
 use Rattle.std.specs.Prelude.{◌≡◌, ◌≢◌, ℕ, ◌+◌, ◌-◌, ◌≤◌, ◌⊎◌, List, ◌++◌, Option, Some, None, IfSome, MatchOption, Contains, length, map}
-use Rattle.std.specs.List.{All, FoldsTo}
-use Rattle.std.specs.Option.{option_map}
-use Rattle.std.specs.Ordering.{ordering_then}
-use Rattle.std.specs.declared.cmp.Ordering.{Ordering}
-use Rattle.std.specs.declared.cmp.Ordering.TheVariants.{Less, Equal, Greater}
+use Rattle.std.specs.declared.cmp.Ordering.{Ordering, TheVariants.Less, TheVariants.Equal, TheVariants.Greater}
 use Rattle.chain_base.specs.Chain.{Entry, times, entry_at}
-use Rattle.ord_tree.specs.Shape.{Shape, node, root_of, walk, height}
-use Rattle.ord_tree.specs.Tree.{Tree}
-use Rattle.triple_ord.specs.Node.{IsPart}
-use Rattle.triple_ord.specs.Gap.{first_of, last_or}
-use Rattle.triple_ord.specs.Search.{order_to, pointer, FindsSimilar}
+use Rattle.ord_tree.specs.{Shape.Shape, Shape.node, Shape.root_of, Shape.walk, Shape.height, Tree.Tree}
 use Rattle.triple_ord.specs.ClosureSearch.{Shown, entries_of, where_equal, similar_of}
+use Rattle.triple_ord.specs.{Gap.first_of, Gap.last_or, Node.IsPart, Search.order_to, Search.pointer, Search.FindsSimilar}
 
 -- the entry at index i, with the roots of its sides
 pub record IsShown {T : Type 0} (t : Tree T) (i generation : ℕ) (item : T) (lesser greater : Option ℕ) : Type 0 where

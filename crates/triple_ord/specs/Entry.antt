@@ -1,17 +1,10 @@
 -- What an entry of an insertion shows, and what it inserts.
-use Rattle.std.specs.Prelude.{◌≡◌, ℕ, List, Option, Some, None}
-use Rattle.std.specs.declared.cmp.Ordering.{Ordering}
-use Rattle.chain_base.specs.Chain.{Entry, next_index}
-use Rattle.chain_base.specs.Insert.{IsInsertion}
+use Rattle.std.specs.{Prelude.◌≡◌, Prelude.ℕ, Prelude.List, Prelude.Option, Prelude.Some, Prelude.None, declared.cmp.Ordering.Ordering}
+use Rattle.chain_base.specs.{Chain.Entry, Chain.next_index, Insert.IsInsertion}
 use Rattle.ord_tree.specs.Tree.{Tree, IsGrown, with_item}
-use Rattle.triple_ord.specs.Arena.{item_of}
-use Rattle.triple_ord.specs.EntryVisits.{VisitsFor}
-use Rattle.triple_ord.specs.Gap.{Gap, with_between}
-use Rattle.triple_ord.specs.Insertion.{Growth, with_slot}
-use Rattle.triple_ord.specs.Place.{Place, into, over, IsPlace, aim_of}
-use Rattle.triple_ord.specs.Search.{pointer}
-use Rattle.triple_ord.specs.declared.entry_kind.OrdEntryKind.{OrdEntryKind}
-use Rattle.triple_ord.specs.declared.entry_kind.OrdEntryKind.TheVariants.{New, Replacing}
+use Rattle.triple_ord.specs.{Arena.item_of, EntryVisits.VisitsFor, Gap.Gap, Gap.with_between, Insertion.Growth, Insertion.with_slot}
+use Rattle.triple_ord.specs.{Place.Place, Place.into, Place.over, Place.IsPlace, Place.aim_of, Search.pointer}
+use Rattle.triple_ord.specs.declared.entry_kind.OrdEntryKind.{OrdEntryKind, TheVariants.New, TheVariants.Replacing}
 use Rattle.triple_ord.specs.declared.insert_kind.OrdInsertKind.{OrdInsertKind}
 
 module _ {P T : Type 0} (numbers : P → ℕ × ℕ) where

@@ -1,6 +1,5 @@
 -- The two kinds of entries that an insertion can make.
-use Rattle.triple_ord.specs.declared.entry_kind.OrdEntryKind.{OrdEntryKind}
-use Rattle.triple_ord.specs.declared.entry_kind.OrdEntryKind.TheVariants.{New, Replacing}
+use Rattle.triple_ord.specs.declared.entry_kind.OrdEntryKind.{OrdEntryKind, TheVariants.New, TheVariants.Replacing}
 
 -- the pointer of either kind
 abbrev pub pointer_of : {P : Type 0} → OrdEntryKind P → P

@@ -2,9 +2,7 @@
 use Rattle.std.specs.Prelude.{ℕ, ◌+◌, ◌-◌, ◌≤◌, ◌==◌, nat_lt, if◌then◌else◌, List, [], ◌∷◌, length, IsSome}
 use Rattle.std.specs.declared.cmp.Ordering.{Ordering}
 use Rattle.chain_base.specs.Chain.{Entry, entry_at}
-use Rattle.triple_ord.specs.Gap.{Gap, before, after, present}
-use Rattle.triple_ord.specs.Search.{Fits}
-use Rattle.triple_ord.specs.Order.{IsInOrder}
+use Rattle.triple_ord.specs.{Gap.Gap, Gap.before, Gap.after, Gap.present, Order.IsInOrder, Search.Fits}
 
 module _ {T : Type 0} where
   -- how many entries stand before the one with this index

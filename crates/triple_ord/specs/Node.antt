@@ -1,7 +1,6 @@
 -- Where an entry stands in the shape.
 use Rattle.std.specs.Prelude.{◌≡◌, ℕ, ◌⊎◌, Option}
-use Rattle.ord_tree.specs.Shape.{Shape, missing, node, root_of}
-use Rattle.ord_tree.specs.Parents.{HasParent}
+use Rattle.ord_tree.specs.{Parents.HasParent, Shape.Shape, Shape.missing, Shape.node, Shape.root_of}
 
 -- a shape is a part of another: the whole, or a part of one of its sides
 abbrev pub IsPart : Shape → Shape → Type 0

@@ -1,20 +1,13 @@
 -- What is true of searches and insertions on a list in order, and of rebuilt shapes: each a statement of its own.
-use Rattle.std.specs.Prelude.{◌≡◌, ◌≢◌, ◌↔◌, ℕ, ◌⊎◌, List, [], ◌∷◌, ◌++◌, Option, Some, None, Result, Contains}
 use Rattle.std.specs.List.{All}
-use Rattle.std.specs.declared.cmp.Ordering.{Ordering}
-use Rattle.std.specs.declared.cmp.Ordering.TheVariants.{Less, Equal, Greater}
+use Rattle.std.specs.Prelude.{◌≡◌, ◌≢◌, ◌↔◌, ℕ, ◌⊎◌, List, [], ◌∷◌, ◌++◌, Option, Some, None, Result, Contains}
+use Rattle.std.specs.declared.cmp.Ordering.{Ordering, TheVariants.Less, TheVariants.Equal, TheVariants.Greater}
 use Rattle.chain_base.specs.Chain.{Entry, IsDistinct}
-use Rattle.ord_tree.specs.Shape.{Shape, missing, node, size_of}
-use Rattle.ord_tree.specs.Half.{IsRebuilt}
-use Rattle.ord_tree.specs.Tree.{Tree}
-use Rattle.triple_ord.specs.Gap.{Gap, before, after}
-use Rattle.triple_ord.specs.ClosureSearch.{Shown, FindsWith}
+use Rattle.ord_tree.specs.{Half.IsRebuilt, Shape.Shape, Shape.missing, Shape.node, Shape.size_of, Tree.Tree}
+use Rattle.triple_ord.specs.{ClosureSearch.Shown, ClosureSearch.FindsWith, Gap.Gap, Gap.before, Gap.after}
+use Rattle.triple_ord.specs.{Insertion.Growth, Insertion.InsertsBy, Order.IsInOrder, Place.Aim, Place.at_key, Place.behind_key}
 use Rattle.triple_ord.specs.Search.{pointer, order_to, FindsKey, FindsSimilar}
-use Rattle.triple_ord.specs.Order.{IsInOrder}
-use Rattle.triple_ord.specs.Place.{Aim, at_key, behind_key}
-use Rattle.triple_ord.specs.Insertion.{Growth, InsertsBy}
-use Rattle.triple_ord.specs.declared.entry_kind.OrdEntryKind.{OrdEntryKind}
-use Rattle.triple_ord.specs.declared.error.OrdInsertionError.{OrdInsertionError}
+use Rattle.triple_ord.specs.declared.{entry_kind.OrdEntryKind.OrdEntryKind, error.OrdInsertionError.OrdInsertionError}
 
 module _ {T K : Type 0} (key : T → K) (cmp : K → K → Ordering) where
   -- no entry has an equal key

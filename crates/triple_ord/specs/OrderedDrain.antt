@@ -1,13 +1,11 @@
 -- What a contract sees of a drain of an ordered arena in the order of its list.
-use Rattle.std.specs.Prelude.{◌≡◌, ℕ, Option, Some, None, List, [], ◌∷◌, MatchOption}
 use Rattle.std.specs.Borrow.{GName}
-use Rattle.arena_base.specs.Generation.{overflows_after}
-use Rattle.arena_base.specs.Invalidation.{allowed_value, is_overflow}
+use Rattle.std.specs.Prelude.{◌≡◌, ℕ, Option, Some, None, List, [], ◌∷◌, MatchOption}
+use Rattle.arena_base.specs.{Generation.overflows_after, Invalidation.allowed_value, Invalidation.is_overflow}
 use Rattle.arena_base.specs.declared.invalidation.InvalidationOption.{InvalidationOption}
 use Rattle.chain_base.specs.Chain.{Entry, removed}
 use Rattle.ord_tree.specs.Tree.{Tree, IsShrunk}
-use Rattle.triple_ord.specs.Arena.{item_of, Updates}
-use Rattle.triple_ord.specs.declared.arena.drain.OrderedDrain.{OrderedDrain}
+use Rattle.triple_ord.specs.{Arena.item_of, Arena.Updates, declared.arena.drain.OrderedDrain.OrderedDrain}
 
 module _ {P T A Inx Gen : Type 0} where
   -- the arena, as it is now

@@ -1,11 +1,9 @@
 -- A walk along the list of an arena that borrows nothing: it stands at the index of the entry that it gives next, or at none.
-use Rattle.std.specs.Prelude.{◌≡◌, ℕ, Bool, Option, Some, None, List, [], ◌∷◌, if◌then◌else◌, map, reverse, MatchOption, IsSome}
 use Rattle.std.specs.Option.{option_and_then}
+use Rattle.std.specs.Prelude.{◌≡◌, ℕ, Bool, Option, Some, None, List, [], ◌∷◌, if◌then◌else◌, map, reverse, MatchOption, IsSome}
 use Rattle.chain_base.specs.Chain.{link_at}
 use Rattle.ord_tree.specs.Tree.{Tree}
-use Rattle.triple_ord.specs.Search.{pointer}
-use Rattle.triple_ord.specs.Walk.{entries_from}
-use Rattle.triple_ord.specs.Arena.{item_of}
+use Rattle.triple_ord.specs.{Arena.item_of, Search.pointer, Walk.entries_from}
 
 -- where a walk stands, and whether it goes back along the list
 pub record OrderedWalk : Type 0 where

@@ -1,23 +1,16 @@
 -- The place of an insertion as the arena keeps it: beside an entry, or an entry's pointer. No public clause cites this file.
-use Rattle.std.specs.Prelude.{◌≡◌, ◌≢◌, ℕ, Option, Some, None, IsSome, length}
-use Rattle.std.specs.declared.cmp.Ordering.{Ordering}
-use Rattle.std.specs.declared.cmp.Ordering.TheVariants.{Equal}
 use Rattle.std.proofs.Props.{props}
+use Rattle.std.specs.Prelude.{◌≡◌, ◌≢◌, ℕ, Option, Some, None, IsSome, length}
+use Rattle.std.specs.declared.cmp.Ordering.{Ordering, TheVariants.Equal}
 use Rattle.chain_base.specs.Chain.{Entry, Chain, entry_at, next_index}
 use Rattle.ord_tree.specs.Tree.{Tree, put_at}
-use Rattle.triple_ord.specs.Arena.{item_of}
-use Rattle.triple_ord.specs.Gap.{with_between}
-use Rattle.triple_ord.specs.Place.{Aim, Place, into, over, nowhere, IsPlace, aim_of}
-use Rattle.triple_ord.specs.Search.{pointer}
-use Rattle.triple_ord.specs.EntryVisits.{HasSeen, VisitsFor}
-use Rattle.triple_ord.specs.declared.entry_kind.OrdEntryKind.{OrdEntryKind}
-use Rattle.triple_ord.specs.declared.entry_kind.OrdEntryKind.TheVariants as shown
-use Rattle.triple_ord.specs.declared.insert_kind.OrdInsertKind.{OrdInsertKind}
+use Rattle.triple_ord.specs.{Arena.item_of, EntryVisits.HasSeen, EntryVisits.VisitsFor, Gap.with_between}
+use Rattle.triple_ord.specs.{Place.Aim, Place.Place, Place.into, Place.over, Place.nowhere, Place.IsPlace, Place.aim_of, Search.pointer}
+use Rattle.triple_ord.specs.declared.{entry_kind.OrdEntryKind.OrdEntryKind, insert_kind.OrdInsertKind.OrdInsertKind}
 use Rattle.triple_ord.specs.declared.insert_kind.OrdInsertKind.TheVariants.{Normal, Nonhereditary, Linear, NonhereditaryLinear}
-use Rattle.triple_ord.specs.declared.prepared.InsertPlace.{InsertPlace}
-use Rattle.triple_ord.specs.declared.prepared.InsertPlace.TheVariants.{New, Replacing}
-use Rattle.triple_ord.specs.declared.ties.Ties.{Ties}
-use Rattle.triple_ord.specs.declared.ties.Ties.TheVariants.{Sought, Passed}
+use Rattle.triple_ord.specs.declared.prepared.InsertPlace.{InsertPlace, TheVariants.New, TheVariants.Replacing}
+use Rattle.triple_ord.specs.declared.ties.Ties.{Ties, TheVariants.Sought, TheVariants.Passed}
+use Rattle.triple_ord.specs.declared.entry_kind.OrdEntryKind.TheVariants as shown
 
 -- the index of a pointer
 abbrev pub index_in : {P : Type 0} → (P → ℕ × ℕ) → P → ℕ

@@ -1,10 +1,9 @@
 -- What recasting an arena's items does: one after another by rising index, up to the first error.
-use Rattle.std.specs.Prelude.{◌≡◌, ℕ, Some, Result, Ok, Err, List, [], ◌∷◌, ◌++◌, MatchResult}
 use Rattle.std.specs.List.{FoldsTo}
+use Rattle.std.specs.Prelude.{◌≡◌, ℕ, Some, Result, Ok, Err, List, [], ◌∷◌, ◌++◌, MatchResult}
 use Rattle.arena_base.specs.Walk.{pointers}
 use Rattle.ord_tree.specs.Tree.{Tree, with_item}
-use Rattle.triple_ord.specs.Arena.{entry_at}
-use Rattle.triple_ord.specs.Content.{content_of}
+use Rattle.triple_ord.specs.{Arena.entry_at, Content.content_of}
 
 -- `gives` says what an item may be after it was recast, and what was returned of it
 module _ {T I : Type 0} (gives : T → Result (Unit {0}) I → T → Type 0) where

@@ -1,8 +1,8 @@
 -- The refusals of insertions, by those of the tree.
 use Rattle.arena_base.specs.declared.error.InsertionError.{InsertionError}
-use Rattle.arena_base.specs.declared.error.InsertionError.TheVariants as tree
 use Rattle.triple_ord.specs.declared.error.OrdInsertionError.{OrdInsertionError}
 use Rattle.triple_ord.specs.declared.error.OrdInsertionError.TheVariants.{NotWithinCapacity, BeyondMaxCapacity, AllocError}
+use Rattle.arena_base.specs.declared.error.InsertionError.TheVariants as tree
 
 -- the refusal of an insertion where the tree refuses
 abbrev pub refusal_of : InsertionError → OrdInsertionError

@@ -1,15 +1,11 @@
 -- What a contract sees of a drain of an ordered arena by index.
-use Rattle.std.specs.Prelude.{◌≡◌, ℕ, Option, Some, None, List, [], ◌∷◌, MatchOption}
 use Rattle.std.specs.Borrow.{GName}
-use Rattle.arena_base.specs.Generation.{overflows_after}
-use Rattle.arena_base.specs.Invalidation.{allowed_value, is_overflow}
-use Rattle.arena_base.specs.Walk.{pointers, walk_rest}
-use Rattle.arena_base.specs.declared.invalidation.InvalidationOption.{InvalidationOption}
+use Rattle.std.specs.Prelude.{◌≡◌, ℕ, Option, Some, None, List, [], ◌∷◌, MatchOption}
+use Rattle.arena_base.specs.{Generation.overflows_after, Invalidation.allowed_value, Invalidation.is_overflow}
+use Rattle.arena_base.specs.{Walk.pointers, Walk.walk_rest, declared.invalidation.InvalidationOption.InvalidationOption}
 use Rattle.chain_base.specs.Chain.{removed}
 use Rattle.ord_tree.specs.Tree.{Tree, IsShrunk}
-use Rattle.triple_ord.specs.Arena.{item_of, Updates, FindsNothing}
-use Rattle.triple_ord.specs.Content.{content_of}
-use Rattle.triple_ord.specs.declared.arena.slot_drain.Drain.{Drain}
+use Rattle.triple_ord.specs.{Arena.item_of, Arena.Updates, Arena.FindsNothing, Content.content_of, declared.arena.slot_drain.Drain.Drain}
 
 module _ {P T A Inx Gen : Type 0} where
   -- the arena, as it is now

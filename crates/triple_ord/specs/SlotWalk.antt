@@ -2,8 +2,7 @@
 use Rattle.std.specs.Prelude.{ℕ, Option, IfSome, IsSome}
 use Rattle.arena_base.specs.Walk.{Walk, WalkSteps}
 use Rattle.ord_tree.specs.Tree.{Tree}
-use Rattle.triple_ord.specs.Arena.{item_of}
-use Rattle.triple_ord.specs.Content.{content_of}
+use Rattle.triple_ord.specs.{Arena.item_of, Content.content_of}
 
 -- a step over the arena took the walk `old` to `new`, and gave this pointer or nothing: it is a step over the finite map that the
 -- arena is, and the pointer finds an item

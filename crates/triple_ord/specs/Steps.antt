@@ -1,12 +1,8 @@
 -- How far the steps from a hint have come. No public clause cites this file.
 use Rattle.std.specs.Prelude.{◌≡◌, ℕ, ◌+◌, ◌<◌, ◌≤◌, List, ◌∷◌, ◌++◌, Option, Some, None, IfSome, MatchOption, length}
-use Rattle.std.specs.declared.cmp.Ordering.{Ordering}
-use Rattle.std.specs.declared.cmp.Ordering.TheVariants.{Less, Equal, Greater}
-use Rattle.chain_base.specs.Chain.{Entry}
-use Rattle.chain_base.specs.Link.{Link}
-use Rattle.triple_ord.specs.Gap.{Gap, first_of, last_or}
-use Rattle.triple_ord.specs.Hint.{position_of, way_length}
-use Rattle.triple_ord.specs.Order.{IsInOrder}
+use Rattle.std.specs.declared.cmp.Ordering.{Ordering, TheVariants.Less, TheVariants.Equal, TheVariants.Greater}
+use Rattle.chain_base.specs.{Chain.Entry, Link.Link}
+use Rattle.triple_ord.specs.{Gap.Gap, Gap.first_of, Gap.last_or, Hint.position_of, Hint.way_length, Order.IsInOrder}
 use Rattle.triple_ord.specs.Search.{order_to, Fits, FindsSimilar}
 
 -- the neighbour on the side on which a key lies, none for an equal key
@@ -45,3 +41,4 @@ module _ {T K : Type 0} (key : T → K) (cmp : K → K → Ordering) (entries : 
     pub here : entry.index ≡ i
     pub from : CameFrom start visits front back came
     pub within : start < length entries
+    pub few : visits < length entries

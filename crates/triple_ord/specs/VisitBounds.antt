@@ -1,9 +1,7 @@
 -- How few entries a search visits.
 use Rattle.std.specs.Prelude.{◌≡◌, ℕ, ◌+◌, ◌^◌, ◌<◌, ◌≤◌}
+use Rattle.ord_tree.specs.{Half.IsRebuilt, Numbers.fib, Numbers.HasDigits, Ranks.IsRanked, Ranks.IsTight}
 use Rattle.ord_tree.specs.Shape.{Shape, size_of, height}
-use Rattle.ord_tree.specs.Ranks.{IsRanked, IsTight}
-use Rattle.ord_tree.specs.Numbers.{fib, HasDigits}
-use Rattle.ord_tree.specs.Half.{IsRebuilt}
 
 -- the bounds on the visits c of a search among n entries that hang in this shape
 pub record IsWithinBounds (n : ℕ) (shape : Shape) (c : ℕ) : Type 0 where

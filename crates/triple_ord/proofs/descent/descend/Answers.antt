@@ -1,6 +1,5 @@
-use Rattle.triple_ord.proofs.Words.{arith, refl, sym, ◌∙◌, of_calls}
-use Rattle.triple_ord.proofs.Descending.{descent-begins, descent-ends, step-occupied, step-few, step-equal, step-on, equal_by}
-use Rattle.triple_ord.proofs.Bounds.{within_bounds}
+use Rattle.triple_ord.proofs.Descending.{descent-begins, descent-ends, step-occupied, step-few, step-equal, step-on, within_bounds}
+use Rattle.triple_ord.proofs.{Inserting.equal_by, Words.arith, Words.refl, Words.sym, Words.◌∙◌, Words.of_calls}
 use Rattle.triple_ord.proofs.descent.descend.Goals as goal
 
 pub loop-at-init : goal.loop-at-init

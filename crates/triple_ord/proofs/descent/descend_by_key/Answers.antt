@@ -1,7 +1,5 @@
-use Rattle.triple_ord.proofs.Words.{arith, refl, sym, ◌∙◌, Equal}
-use Rattle.triple_ord.proofs.Descending.{step-occupied, equal_by}
-use Rattle.triple_ord.proofs.DescendingByKey.{by_key-begins, by_key-step, by_key-other, unmet}
-use Rattle.triple_ord.proofs.Bounds.{within_bounds}
+use Rattle.triple_ord.proofs.Descending.{step-occupied, by_key-begins, by_key-step, by_key-other, unmet, within_bounds}
+use Rattle.triple_ord.proofs.{Inserting.equal_by, Words.arith, Words.refl, Words.sym, Words.◌∙◌}
 use Rattle.triple_ord.proofs.descent.descend_by_key.Goals as goal
 
 pub loop-at-init : goal.loop-at-init

@@ -1,6 +1,5 @@
-use Rattle.triple_ord.proofs.Words.{ℕ, arith, refl, sym, ap, ◌∙◌, option_map}
-use Rattle.triple_ord.proofs.Descending.{step-occupied, step-few}
-use Rattle.triple_ord.proofs.DescendingByKey.{by_key-step, by_key-equal, by_key-other, met_next-map}
+use Rattle.triple_ord.proofs.Descending.{step-occupied, step-few, by_key-step, by_key-equal, by_key-other, met_next-map}
+use Rattle.triple_ord.proofs.Words.{ℕ, arith, refl, ap, ◌∙◌, option_map}
 use Rattle.triple_ord.proofs.descent.descend_in_group.Goals as goal
 
 pub loop-at-init : goal.loop-at-init

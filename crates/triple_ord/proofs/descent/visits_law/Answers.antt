@@ -1,4 +1,4 @@
-use Rattle.triple_ord.proofs.Bounds.{visits-bounded}
+use Rattle.triple_ord.proofs.Descending.{visits-bounded}
 use Rattle.triple_ord.proofs.descent.visits_law.Goals as goal
 
 pub returns : goal.returns

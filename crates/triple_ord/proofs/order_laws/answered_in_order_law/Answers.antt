@@ -1,4 +1,4 @@
-use Rattle.triple_ord.proofs.Answered.{answered_in_order}
+use Rattle.triple_ord.proofs.OrderLaws.{answered_in_order}
 use Rattle.triple_ord.proofs.order_laws.answered_in_order_law.Goals as goal
 
 pub returns : goal.returns

@@ -1,9 +1,9 @@
+use Rattle.triple_ord.proofs.{Inserting.equal_by, OrderLaws.taken-less, OrderLaws.taken-greater, OrderLaws.taken-equal}
+use Rattle.triple_ord.proofs.Stepping.{stepping-begins, stepping-occupied, stepping-goes, stepping-order, stepping-settles}
+use Rattle.triple_ord.proofs.Stepping.{stepping-unequal, stepping-near, apart, alike}
 use Rattle.triple_ord.proofs.Words.{◌≡◌, ℕ, refl, sym, ap, ◌∙◌, arith, option_map, taken}
-use Rattle.triple_ord.proofs.Descending.{equal_by}
-use Rattle.triple_ord.proofs.Stepping.{stepping-begins, stepping-occupied, stepping-within, stepping-goes, stepping-order, stepping-settles, stepping-unequal, stepping-near, apart, alike}
-use Rattle.triple_ord.proofs.Taken.{taken-less, taken-greater, taken-equal}
-use Rattle.triple_ord.proofs.steps.step_along.Goals as goal
 use Rattle.triple_ord.proofs.steps.step_along.Goals.{in_default-via-in-Some+else-ne, in_default-via-in_default}
+use Rattle.triple_ord.proofs.steps.step_along.Goals as goal
 
 pub loop-step-init : goal.loop-step-init
 loop-step-init g c = record {
@@ -57,12 +57,3 @@ returns-then-is_eq-clause-near g c = λ ordered gap fits.
     let order = c.order-order.ensures ∙ ap (taken c.args.ties g.T.Key.Ord.cmp c.args.k.now) (c.key.ensures ∙ ap (λ l. g.T.SimpleOrdItem.key_of l.item.t) c.link.view_is) in
     let equal = stepping-order _ _ _ _ c.requires.distinct _ _ _ _ c.loop-step.invariant.stepping _ _ linked _ order ∙ equal_by _ (sym c.is_eq.ensures ∙ c.if-is_eq.true) in
     absurd (stepping-unequal _ _ _ _ c.requires.distinct _ _ _ _ c.loop-step.invariant.stepping _ g.met.T.Key.Ord.total ordered gap fits (taken-equal _ _ _ c.args.ties equal))
-
-pub returns-then-is_eq-clause-within : goal.returns-then-is_eq-clause-within
-returns-then-is_eq-clause-within g c = omega (arith, stepping-within _ _ _ _ c.requires.distinct _ _ _ _ c.loop-step.invariant.stepping, c.show_link-generation.ensures.counted)
-
-pub returns-in_default-clause-within : goal.returns-in_default-clause-within
-returns-in_default-clause-within g c = omega (arith, stepping-within _ _ _ _ c.requires.distinct _ _ _ _ c.loop-step.invariant.stepping, c.show_link-generation.ensures.counted)
-
-pub returns-clause-within : goal.returns-clause-within
-returns-clause-within g c = omega (arith, stepping-within _ _ _ _ c.requires.distinct _ _ _ _ c.loop-step.invariant.stepping)

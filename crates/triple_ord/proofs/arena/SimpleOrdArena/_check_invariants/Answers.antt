@@ -1,5 +1,4 @@
-use Rattle.triple_ord.proofs.Words.{refl, sym}
-use Rattle.triple_ord.proofs.Ordered.{in_order-one, in_order-step, in_order-not}
+use Rattle.triple_ord.proofs.{OrderLaws.in_order-one, OrderLaws.in_order-step, OrderLaws.in_order-not, Words.refl, Words.sym}
 use Rattle.triple_ord.proofs.arena.SimpleOrdArena._check_invariants.Goals as goal
 
 pub returns-clause-in_order : goal.returns-clause-in_order

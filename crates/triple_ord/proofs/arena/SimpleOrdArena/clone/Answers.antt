@@ -1,5 +1,7 @@
-use Rattle.triple_ord.proofs.Cloning.{empty-unrefused}
+use Rattle.triple_ord.proofs.CallerLemmas.{empty-unrefused}
 use Rattle.triple_ord.proofs.arena.SimpleOrdArena.clone.Goals as goal
 
 pub returns-in-Err-clause-none : goal.returns-in-Err-clause-none
-returns-in-Err-clause-none g c = λ none. absurd (empty-unrefused c.clone_from_arena.result c.in-Err.field-0 c.in-Err.is c.args.self.now _ _ c.clone_from_arena.ensures.beyond.0 c.clone_from_arena.ensures.memory none)
+returns-in-Err-clause-none g c = λ none.
+    let clone = c.clone_from_arena.ensures in
+    absurd (empty-unrefused c.clone_from_arena.result c.args.self.now _ _ clone.beyond.0 clone.memory none c.in-Err.field-0 c.in-Err.is)

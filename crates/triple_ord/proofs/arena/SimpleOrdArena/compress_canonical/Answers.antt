@@ -1,5 +1,5 @@
-use Rattle.triple_ord.proofs.Words.{ap, length, map, ◌∙◌, sym, length-map, Chain, items-numbered}
 use Rattle.triple_ord.proofs.CallerLemmas.{found-numbered}
+use Rattle.triple_ord.proofs.Words.{ap, length, map, ◌∙◌, sym, length-map, Chain, items-numbered}
 use Rattle.triple_ord.proofs.arena.SimpleOrdArena.compress_canonical.Goals as goal
 
 pub returns-clause-items : goal.returns-clause-items

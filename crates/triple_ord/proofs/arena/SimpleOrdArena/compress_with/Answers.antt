@@ -1,5 +1,4 @@
-use Rattle.triple_ord.proofs.Words.{ap, length, ◌∙◌, length-map, Chain}
-use Rattle.triple_ord.proofs.CallerLemmas.{ended-moved}
+use Rattle.triple_ord.proofs.{CallerLemmas.ended-moved, Words.ap, Words.length, Words.◌∙◌, Words.length-map, Words.Chain}
 use Rattle.triple_ord.proofs.arena.SimpleOrdArena.compress_with.Goals as goal
 
 pub returns-clause-count : goal.returns-clause-count

@@ -1,5 +1,4 @@
-use Rattle.triple_ord.proofs.Words.{◌∙◌}
-use Rattle.triple_ord.proofs.Bare.{contains-under}
+use Rattle.triple_ord.proofs.{Bare.contains-under, Words.◌∙◌}
 use Rattle.triple_ord.proofs.arena.SimpleOrdArena.contains.Goals as goal
 
 pub returns : goal.returns

@@ -1,16 +1,17 @@
-use Rattle.triple_ord.proofs.Words.{ℕ, ◌-◌, arith}
-use Rattle.triple_ord.proofs.Descending.{finds_key-similar, where_equal-map}
-use Rattle.triple_ord.proofs.Hinted.{FindsSimilar-more, hinted-whole}
+use Rattle.triple_ord.proofs.{Inserting.finds_key-similar, Stepping.FindsSimilar-more, Stepping.hinted-whole, Words.◌-◌, Words.arith}
 use Rattle.triple_ord.proofs.arena.SimpleOrdArena.find_key_linear_counted.Goals as goal
 
 pub returns-clause-found : goal.returns-clause-found
 returns-clause-found g c =
     let found = rw c.step_along-near.ensures.tree at c.descend_by_key-found.ensures.found in
-    rw (← c.self.view_is, ← c.new-probe.ensures.tree, c.visits.ensures, c.equal_alone.ensures, ← where_equal-map {Y = ℕ × ℕ} g.P.Ptr.numbers c.descend_by_key-found.result)
-    (finds_key-similar g.T.SimpleOrdItem.key_of g.T.Key.Ord.cmp _ _ _ _ (FindsSimilar-more g.T.SimpleOrdItem.key_of g.T.Key.Ord.cmp _ _ _ (c.descend_by_key-found.new.probe.visits - c.step_along-near.new.probe.visits) _ (omega arith) found))
+    let visits = c.descend_by_key-found.new.probe.visits - c.step_along-near.new.probe.visits in
+    rw (← c.self.view_is, ← c.new-probe.ensures.tree, c.visits.ensures, c.equal_alone.ensures)
+    (finds_key-similar g.T.SimpleOrdItem.key_of g.T.Key.Ord.cmp _ _ _ g.P.Ptr.numbers _
+    (FindsSimilar-more g.T.SimpleOrdItem.key_of g.T.Key.Ord.cmp _ _ _ visits _ (omega arith) found))
 
 pub returns-clause-visits : goal.returns-clause-visits
 returns-clause-visits g c =
     let near = c.step_along-near.ensures in
     let bounded = rw near.tree at c.descend_by_key-found.ensures.visits in
-    rw (← c.self.view_is, ← c.new-probe.ensures.tree, c.visits.ensures) (hinted-whole _ _ _ _ _ near.few near.within c.descend_by_key-found.ensures.counted bounded)
+    rw (← c.self.view_is, ← c.new-probe.ensures.tree, c.visits.ensures)
+    (hinted-whole _ _ _ _ _ near.few near.within c.descend_by_key-found.ensures.counted bounded)

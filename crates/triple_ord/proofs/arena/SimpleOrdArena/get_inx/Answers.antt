@@ -1,5 +1,4 @@
-use Rattle.triple_ord.proofs.Words.{refl}
-use Rattle.triple_ord.proofs.Bare.{entry_at-under}
+use Rattle.triple_ord.proofs.{Bare.entry_at-under, Words.refl}
 use Rattle.triple_ord.proofs.arena.SimpleOrdArena.get_inx.Goals as goal
 
 pub returns-in_err-entry : goal.returns-in_err-entry

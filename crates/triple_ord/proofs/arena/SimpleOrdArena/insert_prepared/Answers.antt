@@ -1,7 +1,5 @@
-use Rattle.triple_ord.proofs.Words.{refl, sym}
 use Rattle.triple_ord.proofs.CallerLemmas.{updates-written, count-written, inserted-new}
-use Rattle.triple_ord.proofs.Inserting.{IsInsertion-same}
-use Rattle.triple_ord.proofs.Places.{put-gap, insertion-named}
+use Rattle.triple_ord.proofs.{Inserting.IsInsertion-same, Places.put-gap, Places.insertion-named, Words.refl, Words.sym}
 use Rattle.triple_ord.proofs.arena.SimpleOrdArena.insert_prepared.Goals as goal
 
 pub returns-in-Replacing-clause-updates : goal.returns-in-Replacing-clause-updates

@@ -1,9 +1,7 @@
-use Rattle.triple_ord.proofs.Words.{within}
-use Rattle.triple_ord.proofs.CallerLemmas.{entry-told}
+use Rattle.triple_ord.proofs.{CallerLemmas.entry-told, Words.within}
 use Rattle.triple_ord.proofs.arena.SimpleOrdArena.insert_within_capacity.Goals as goal
 
 pub returns-clause-inserts : goal.returns-clause-inserts
 returns-clause-inserts g c =
-    entry-told g.T.SimpleOrdItem.key_of g.T.Key.Ord.cmp g.P.Ptr.numbers g.P.Inx.PtrInx.number within g.P.Inx.PtrInx.most c.args.self.now c.prepare_within.new.self
-    c.insert_prepared.new.self c.len.ensures.sound.distinct _ _ _ _ c.args.t c.insert_prepared.result c.any-p.result c.key.ensures c.any-p.ensures
-    c.in_ok-prepared.ensures.place c.insert_prepared.ensures.inserts
+    entry-told _ _ _ _ within _ c.args.self.now c.prepare_within.new.self c.insert_prepared.new.self c.len.ensures.sound.distinct _ _ _ _ c.args.t
+    c.insert_prepared.result _ c.key.ensures c.any-p.ensures c.in_ok-prepared.ensures.place c.insert_prepared.ensures.inserts

@@ -1,5 +1,4 @@
-use Rattle.triple_ord.proofs.Words.{sym, ◌∙◌}
-use Rattle.triple_ord.proofs.Places.{alone-here, alone-refused}
+use Rattle.triple_ord.proofs.{Places.alone-here, Places.alone-refused, Words.sym, Words.◌∙◌}
 use Rattle.triple_ord.proofs.arena.SimpleOrdArena.place_alone.Goals as goal
 
 pub returns-then-is_empty : goal.returns-then-is_empty

@@ -1,5 +1,4 @@
-use Rattle.triple_ord.proofs.Words.{sym, ap, ◌∙◌, option_map}
-use Rattle.triple_ord.proofs.Places.{beside-over, beside-put}
+use Rattle.triple_ord.proofs.{Places.beside-over, Places.beside-put, Words.sym, Words.ap, Words.◌∙◌, Words.option_map}
 use Rattle.triple_ord.proofs.arena.SimpleOrdArena.place_beside.Goals as goal
 
 pub returns-in-Equal : goal.returns-in-Equal

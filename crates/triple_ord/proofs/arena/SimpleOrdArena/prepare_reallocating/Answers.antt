@@ -1,5 +1,4 @@
-use Rattle.triple_ord.proofs.Words.{◌≡◌, Err, reallocating}
-use Rattle.triple_ord.proofs.Places.{new-refused, err-and}
+use Rattle.triple_ord.proofs.{Places.new-refused, Places.err-and, Words.◌≡◌, Words.Err, Words.reallocating}
 use Rattle.triple_ord.proofs.arena.SimpleOrdArena.prepare_reallocating.Goals as goal
 
 pub returns-in_err-make_room-in-New-clause-refused : goal.returns-in_err-make_room-in-New-clause-refused

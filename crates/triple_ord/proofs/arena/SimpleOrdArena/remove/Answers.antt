@@ -1,6 +1,4 @@
-use Rattle.triple_ord.proofs.Words.{sym}
-use Rattle.triple_ord.proofs.Bare.{found-occupied}
-use Rattle.triple_ord.proofs.CallerLemmas.{owed, updates-removed, count-removed}
+use Rattle.triple_ord.proofs.{Bare.found-occupied, CallerLemmas.owed, CallerLemmas.updates-removed, CallerLemmas.count-removed, Words.sym}
 use Rattle.triple_ord.proofs.arena.SimpleOrdArena.remove.Goals as goal
 
 pub remove_entry-requires : goal.remove_entry-requires

@@ -1,5 +1,5 @@
 use Rattle.triple_ord.proofs.Words.{◌-◌, sym, subst, ◌∙◌, arith, Tree, IsNearHint, taken}
-use Rattle.triple_ord.proofs.Hinted.{FindsSimilar-more, settled-similar, settled-near, open-near, hinted-steps, hinted-whole, hinted-alone, named-unhinted}
+use Rattle.triple_ord.proofs.Stepping.{FindsSimilar-more, settled-similar, settled-near, open-near, hinted-steps, hinted-whole, hinted-alone, named-unhinted}
 use Rattle.triple_ord.proofs.arena.SimpleOrdArena.search_from.Goals as goal
 
 pub returns-then-is_some-clause-found : goal.returns-then-is_some-clause-found

@@ -1,4 +1,4 @@
-use Rattle.triple_ord.proofs.Bounds.{height-fits}
+use Rattle.triple_ord.proofs.Descending.{height-fits}
 use Rattle.triple_ord.proofs.probe.Probe.root.Goals as goal
 
 pub returns-clause-few : goal.returns-clause-few

@@ -1,5 +1,4 @@
-use Rattle.triple_ord.proofs.Words.{Some, sym}
-use Rattle.triple_ord.proofs.Bare.{entry-looked_up, link-looked_up, slot-occupied, shown-under}
+use Rattle.triple_ord.proofs.{Bare.entry-looked_up, Bare.link-looked_up, Bare.slot-occupied, Bare.shown-under, Words.Some, Words.sym}
 use Rattle.triple_ord.proofs.probe.Probe.show_link.Goals as goal
 
 pub entry-requires : goal.entry-requires

@@ -1,7 +1,7 @@
+use Rattle.triple_ord.proofs.Content.{recast-begins, recast-vacant, recast-next, recast-failed, recast-ends, vacant_of}
 use Rattle.triple_ord.proofs.Words.{◌≡◌, ◌+◌, ◌≤◌, Err, is_some, sym, ap, ◌∙◌, rules, arith}
-use Rattle.triple_ord.specs.Arena.{entry_at}
-use Rattle.triple_ord.proofs.Recasting.{recast-begins, recast-vacant, recast-next, recast-failed, recast-ends, vacant_of}
 use Rattle.triple_ord.proofs.arena.recast.SimpleOrdArenaRecast.recast.Goals.{then-contains_inx+in_ok-recast_at, else-contains_inx}
+use Rattle.triple_ord.specs.Arena.{entry_at}
 use Rattle.triple_ord.proofs.arena.recast.SimpleOrdArenaRecast.recast.Goals as goal
 
 pub loop-position-init : goal.loop-position-init

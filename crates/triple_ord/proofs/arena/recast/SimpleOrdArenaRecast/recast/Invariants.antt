@@ -1,5 +1,4 @@
-use Rattle.triple_ord.proofs.Words.{◌+◌}
-use Rattle.triple_ord.proofs.Recasting.{RecastBelow}
+use Rattle.triple_ord.proofs.{Content.RecastBelow, Words.◌+◌}
 use Rattle.triple_ord.proofs.arena.recast.SimpleOrdArenaRecast.recast.Given as goal
 
 abbrev pub invariant-loop-position : goal.invariant-loop-position
