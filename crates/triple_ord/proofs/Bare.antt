@@ -167,8 +167,7 @@ module _ {P T I G : Type 0} (t : Tree T) (c : Chain (SimpleOrdArenaNode P T I G)
   node-shown i e is =
       let entry : entry_at c.entries i ≡ Some (e.0, e.1.item) = entry_at-link None None c.entries i ∙ rw (← lies.slots i, is) refl in
       let listed : indexes c.entries ≡ walk t.shape = sym (indexes-bare c.entries) ∙ ap (λ (l : Chain T). indexes l.entries) under.list ∙ sym sound.listed in
-      let there : Among i (walk t.shape) = subst (λ (js : List ℕ). Among i js) listed (among-entries c.entries i (e.0, e.1.item) entry) in
-      let p = part_at t.shape i there in
+      let p = part_at t.shape i (subst (λ (js : List ℕ). Among i js) listed (among-entries c.entries i (e.0, e.1.item) entry)) in
       let held = held_at t c under i (e.0, e.1.item) entry p.0 p.2 p.1 p.3 in
       record { lesser_side = p.0; greater_side = p.2; part = subst (λ (k : ℕ). IsPart (node p.0 i k p.2) t.shape) (sym held.0) p.3; has_parent = held.1; lesser_root = held.2; greater_root = held.3 }
 

@@ -96,8 +96,7 @@ module _ {T : Type 0} where
         go [] is = omega arith
         go (e ∷ es) is =
             let i = greatest_index (e ∷ es) in
-            let there = occurs-entry (e ∷ es) i (times-greatest e es) in
-            let found = some-shown (entry_at (e ∷ es) i) there in
+            let found = some-shown (entry_at (e ∷ es) i) (occurs-entry (e ∷ es) i (times-greatest e es)) in
             below-greatest (content_of t).slots i found.0 (slot_is most greatest t sound i ∙ (ap (λ fs. entry_at fs i) is ∙ found.1))
 
     greatest-is : greatest_occupied (content_of t).slots ≡ greatest_index t.list.entries

@@ -146,9 +146,8 @@ module _ {T : Type 0} (t : Tree T) (distinct : IsDistinct t.list.entries) (shown
 
     new_more : (j : ℕ) → times j (entries_of more) + (times j face.cut.front + times j face.cut.back) ≤ 1
     new_more j =
-        let middle = ap (times j) face.cut.cut ∙ times-append j face.cut.front (step-entry ∷ face.cut.back) in
         let all = ap (times j) (map_push (λ s. s.0) shown (step-entry, o)) ∙ times-append j (entries_of shown) (step-entry ∷ []) in
-        omega (arith, d.new j, middle, all)
+        omega (arith, d.new j, ap (times j) face.cut.cut ∙ times-append j face.cut.front (step-entry ∷ face.cut.back), all)
 
   -- the descent has met an entry that was answered Equal
   pub step-met : IsSearch t.list.entries (more Equal)
@@ -339,8 +338,7 @@ neighbours_shown (Some a) None shown l h = omega (arith, l.1)
 neighbours_shown None (Some b) shown l h = omega (arith, h.1)
 neighbours_shown (Some a) (Some b) shown l h = elim (cases_eq l.0 h.0) [
   | inl same ↦
-      let there = get_or_default shown l.0 (a, Greater) (b, Less) l.1 in
-      let clash = sym l.2 ∙ there ∙ ap (λ k. get_or shown k (b, Less)) same ∙ h.2 in
+      let clash = sym l.2 ∙ (get_or_default shown l.0 (a, Greater) (b, Less) l.1) ∙ ap (λ k. get_or shown k (b, Less)) same ∙ h.2 in
       absurd (let both : Greater ≡ Less = ap (λ s. s.1) clash in cc)
   | inr other ↦ omega (arith, l.1, h.1)
 ]
@@ -456,9 +454,8 @@ visits-bounded height_law square_law tight_law rebuilt_law s c ranked few =
           let power : 2 ^ (c + 1) ≤ 2 ^ (rank_of s + 1) = pow_mono (omega (arith, few, height_law s ranked)) in
           omega (arith, law, power);
       tight = λ tight.
-          let law = tight_law s ranked tight in
           let less : fib (c + 2) ≤ fib (rank_of s + 2) = fib-mono (c + 2) (rank_of s + 2) (omega (arith, few, height_law s ranked)) in
-          omega (arith, law, less);
+          omega (arith, tight_law s ranked tight, less);
       rebuilt = λ rebuilt digits has. omega (arith, few, rebuilt_law s digits rebuilt has);
       empty = λ none. omega (arith, few, none, height-le-size s);
     }

@@ -103,8 +103,7 @@ module _ {T : Type 0} where
   module _ (es : List (Entry T)) (distinct : IsDistinct es) (front : List (Entry T)) (e : Entry T) (back : List (Entry T)) (cut : es ≡ front ++ e ∷ back) where
     pub nowhere_else : times e.index (front ++ back) ≡ 0
     nowhere_else =
-        let once = rw cut at (distinct e.index) in
-        grind (arith, common_steps, once, times-append e.index front (e ∷ back), times-append e.index front back)
+        grind (arith, common_steps, rw cut at (distinct e.index), times-append e.index front (e ∷ back), times-append e.index front back)
 
     pub not_before : times e.index front ≡ 0
     not_before = omega (arith, nowhere_else, times-append e.index front back)

@@ -48,10 +48,7 @@ module _ {T K : Type 0} (key : T → K) (cmp : K → K → Ordering) (total : Is
   -- what is equal to k lies to others as k does
   module _ (k : K) (item : T) (equal : cmp k (key item) ≡ Equal) where
     behind : (l : K) → cmp k l ≢ Less → cmp l (key item) ≢ Greater
-    behind l most more =
-        let turned : cmp k l ≡ ordering_reverse (cmp l k) = total.antisymm k l in
-        let is : cmp l k ≡ Greater = alike_right total k (key item) l equal ∙ more in
-        most (turned ∙ ap ordering_reverse is)
+    behind l most more = most ((total.antisymm k l) ∙ ap ordering_reverse (alike_right total k (key item) l equal ∙ more))
 
     ahead : (l : K) → cmp k l ≡ Less → cmp (key item) l ≢ Greater
     ahead l less more =

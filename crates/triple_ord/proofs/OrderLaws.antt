@@ -169,8 +169,7 @@ same_half missing missing q a b same = refl
 same_half (node l i k r) (node l' i' k' r') q a b same =
     let lesser : size_of l ≡ size_of l' = a.0 ∙ ap (λ n. n / 2) same ∙ sym b.0 in
     let greater : size_of r ≡ size_of r' = omega (arith, same, lesser) in
-    let rank : k ≡ k' = a.1 ∙ ap (λ n. half_rank n q) same ∙ sym b.1 in
-    rw (same_half l l' (q - 1) a.2 b.2 lesser, same_half r r' (q - 1) a.3 b.3 greater, rank) refl
+    rw (same_half l l' (q - 1) a.2 b.2 lesser, same_half r r' (q - 1) a.3 b.3 greater, a.1 ∙ ap (λ n. half_rank n q) same ∙ sym b.1) refl
 same_half s t q a b same = absurd (omega (arith, same))
 
 -- the top rank is one number
@@ -181,9 +180,7 @@ same_top n m p q same a b = elim (cases_order a.0 b.0) [
 ]
 
 pub same_ranks : SameRanksLaw
-same_ranks s t a b same =
-    let top = same_top (size_of s) (size_of t) a.0 b.0 same a.1 b.1 in
-    same_half s t b.0 (subst (λ q. IsHalf q s) top a.2) b.2 same
+same_ranks s t a b same = same_half s t b.0 (subst (λ q. IsHalf q s) (same_top (size_of s) (size_of t) a.0 b.0 same a.1 b.1) a.2) b.2 same
 
 -- A search by a closure whose answers lie in order along the list.
 -- what is true of each is true of the last

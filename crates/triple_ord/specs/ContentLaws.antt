@@ -126,11 +126,9 @@ module _ {T : Type 0} where
   pub slots-counted : (es : List (Entry T)) → IsDistinct es → (from n : ℕ) → lesser es from + count_by is_some (slots_from es from n) ≡ lesser es (from + n)
   slots-counted es distinct from zero = let at : from + 0 ≡ from = omega arith in rw at (omega arith)
   slots-counted es distinct from (suc n) =
-      let more = slots-counted es distinct (from + 1) n in
       let at : from + 1 + n ≡ from + suc n = omega arith in
       let met = sum_by-cons (λ (o : Option (ℕ × T)). cond (is_some o) 1 0) (entry_at es from) (slots_from es (from + 1) n) in
-      let all : lesser es (from + 1 + n) ≡ lesser es (from + suc n) = ap (lesser es) at in
-      omega (arith, more, met, all, lesser-next es from, times-shown es from distinct)
+      omega (arith, slots-counted es distinct (from + 1) n, met, ap (lesser es) at, lesser-next es from, times-shown es from distinct)
 
   pub len_is : (most : ℕ) (greatest : Option ℕ) (t : Tree T) → IsSound most greatest t.list → arena_len (content_of t) ≡ length t.list.entries
   len_is most greatest t sound =

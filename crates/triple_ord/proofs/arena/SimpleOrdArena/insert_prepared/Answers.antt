@@ -4,9 +4,8 @@ use Rattle.triple_ord.proofs.arena.SimpleOrdArena.insert_prepared.Goals as goal
 
 pub returns-in-Replacing-clause-updates : goal.returns-in-Replacing-clause-updates
 returns-in-Replacing-clause-updates g c =
-    let there = rw c.in-Replacing.is at c.requires in
     rw (c.in-Replacing.is, c.replace.ensures.after, c.inx.ensures)
-    (updates-written c.args.self.now (g.P.Ptr.numbers c.in-Replacing.p) c.args.t there)
+    (updates-written c.args.self.now (g.P.Ptr.numbers c.in-Replacing.p) c.args.t (rw c.in-Replacing.is at c.requires))
 
 pub returns-in-Replacing-clause-count : goal.returns-in-Replacing-clause-count
 returns-in-Replacing-clause-count g c = rw c.replace.ensures.after (count-written c.args.self.now _ c.args.t)

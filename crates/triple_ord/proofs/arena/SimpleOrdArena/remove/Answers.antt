@@ -2,9 +2,7 @@ use Rattle.triple_ord.proofs.{Bare.found-occupied, CallerLemmas.owed, CallerLemm
 use Rattle.triple_ord.proofs.arena.SimpleOrdArena.remove.Goals as goal
 
 pub remove_entry-requires : goal.remove_entry-requires
-remove_entry-requires g c =
-    let there = rw (← c.self.view_is) at c.if-not-contains.ensures in
-    rw c.inx.ensures (found-occupied _ _ (sym there))
+remove_entry-requires g c = rw c.inx.ensures (found-occupied _ _ (sym (rw (← c.self.view_is) at c.if-not-contains.ensures)))
 
 pub returns-clause-updates : goal.returns-clause-updates
 returns-clause-updates g c =

@@ -14,9 +14,7 @@ returns-clause-steps g c =
     sym c.self.view_is ∙ rw (c.in_ok-i.was, c._from_raw.ensures, next, item) (walk-step _ _ _ _ c.self.invariant.distinct c.in_ok-entry.ensures)
 
 pub returns-clause-goes : goal.returns-clause-goes
-returns-clause-goes g c =
-    let shorter = ap length (returns-clause-steps g c) in
-    record { on = λ _. (tt, tt, omega (arith, shorter)); keeps = tt; rests = λ _. tt }
+returns-clause-goes g c = record { on = λ _. (tt, tt, omega (arith, ap length (returns-clause-steps g c))); keeps = tt; rests = λ _. tt }
 
 pub overflow_sub-self : goal.overflow_sub-self
 overflow_sub-self g c = walk-left _ _ _ _ _ (rw c.in_ok-i.was at c.self.invariant) c.in_ok-entry.ensures

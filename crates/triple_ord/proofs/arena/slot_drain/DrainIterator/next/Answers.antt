@@ -43,5 +43,4 @@ returns-clause-steps g c =
 
 pub returns-clause-goes : goal.returns-clause-goes
 returns-clause-goes g c =
-    let shorter = ap length (returns-clause-steps g c).1.first in
-    record { on = λ _. (tt, tt, omega (arith, shorter)); keeps = tt; rests = λ _. tt }
+    record { on = λ _. (tt, tt, omega (arith, ap length (returns-clause-steps g c).1.first)); keeps = tt; rests = λ _. tt }
