@@ -22,9 +22,8 @@ module _ {P T I G : Type 0} where
   item_if-bare g o = grind (arith, common_steps)
 
   last_pointer-bare : (es : List (Entry (SimpleOrdArenaNode P T I G))) → last_pointer (map bare_entry es) ≡ last_pointer es
-  last_pointer-bare [] = refl
-  last_pointer-bare (e ∷ []) = refl
   last_pointer-bare (e ∷ f ∷ es) = last_pointer-bare (f ∷ es)
+  last_pointer-bare es = grind (arith, common_steps)
 
   first_or-bare : (after : Option ℕ) (es : List (Entry (SimpleOrdArenaNode P T I G))) → first_or after (map bare_entry es) ≡ first_or after es
   first_or-bare after es = grind (arith, common_steps)

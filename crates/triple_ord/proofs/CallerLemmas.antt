@@ -55,13 +55,10 @@ module _ {T : Type 0} where
   updates-at old new p found has here others = record {
     changed = rw here (item_if-own p.1 found);
     others = λ q apart. elim (cases_eq q.0 p.0) [
-      | inl same ↦ item_of-other new p q (rw here (own found)) same apart ∙ sym (item_of-other old p q has same apart)
+      | inl same ↦ item_of-other new p q (rw here (grind (arith, common_steps))) same apart ∙ sym (item_of-other old p q has same apart)
       | inr other ↦ ap (item_if q.1) (others q.0 other)
     ];
   }
-    where
-      own : (o : Option T) → IfSome {T = ℕ × T} (option_map (λ x. (p.1, x)) o) (λ e. e.0 ≡ p.1)
-      own o = grind (arith, common_steps)
 
   -- a removal
   pub updates-removed : (greatest : Option ℕ) (old new : Tree T) (p : ℕ × ℕ) → IsDistinct old.list.entries → IsSome (item_of old p)
@@ -87,28 +84,25 @@ module _ {T : Type 0} where
   count-written a i item = length-with_item_among a.list.entries i item
 
   -- a renewal
-  pub updates-renewed : (greatest : Option ℕ) (old : Tree T) (p : ℕ × ℕ) → IsSome (item_of old p)
-      → let new : Tree T = record old { list = renewed greatest old.list p.0 } in Renews old new p (p.0, new.list.generation)
-  updates-renewed greatest old p there = record {
-    found = ap (item_if next) here ∙ item_if-own next (Some found.0) ∙ sym (ap (item_if p.1) found.1 ∙ item_if-own p.1 (Some found.0));
-    ended = λ apart. item_of-other new (p.0, next) p (rw here refl) refl (λ same. apart (sym same));
-    others = λ r other third. elim (cases_eq r.0 p.0) [
-      | inl same ↦ item_of-other new (p.0, next) r (rw here refl) same third ∙ sym (item_of-other old p r (rw found.1 refl) same other)
-      | inr elsewhere ↦ ap (item_if r.1) (entry_at-with_generation_other old.list.entries p.0 r.0 next elsewhere)
-    ];
-  }
-    where
-      next : ℕ
-      next = (renewed greatest old.list p.0).generation
+  module _ (greatest : Option ℕ) (old : Tree T) (p : ℕ × ℕ) (there : IsSome (item_of old p)) where
+    abbrev next : ℕ
+    next = (renewed greatest old.list p.0).generation
 
-      new : Tree T
-      new = record old { list = renewed greatest old.list p.0 }
+    abbrev renewal : Tree T
+    renewal = record old { list = renewed greatest old.list p.0 }
 
-      found : (x : T) × (entry_at old p.0 ≡ Some (p.1, x))
-      found = item_if-found p.1 (entry_at old p.0) there
-
-      here : entry_at new p.0 ≡ Some (next, found.0)
-      here = entry_at-with_generation old.list.entries p.0 next ∙ ap (option_map (λ d. (next, d.1))) found.1
+    pub updates-renewed : Renews old renewal p (p.0, next)
+    updates-renewed =
+        let found = item_if-found p.1 (entry_at old p.0) there in
+        let here = entry_at-with_generation old.list.entries p.0 next ∙ ap (option_map (λ (d : ℕ × T). (next, d.1))) found.1 in
+        record {
+          found = ap (item_if next) here ∙ item_if-own next (Some found.0) ∙ sym (ap (item_if p.1) found.1 ∙ item_if-own p.1 (Some found.0));
+          ended = λ apart. item_of-other renewal (p.0, next) p (rw here refl) refl (λ same. apart (sym same));
+          others = λ r other third. elim (cases_eq r.0 p.0) [
+            | inl same ↦ item_of-other renewal (p.0, next) r (rw here refl) same third ∙ sym (item_of-other old p r (rw found.1 refl) same other)
+            | inr elsewhere ↦ ap (item_if r.1) (entry_at-with_generation_other old.list.entries p.0 r.0 next elsewhere)
+          ];
+        }
 
   -- from old to new, the item is new at this pointer
   pub record IsInserted (old new : Tree T) (item : T) (p : ℕ × ℕ) : Type 0 where
@@ -127,8 +121,7 @@ module _ {T : Type 0} where
     listed = ap (λ (c : Chain T). c.entries) inserted.after ∙ first room.vacant inserted.next
       where
         first : (vacant : List ℕ) → slice_get vacant 0 ≡ Some p.0 → (inserted_at room (with_between gap) item vacant).entries ≡ gap.front ++ entry ∷ gap.back
-        first [] next = absurd (cc)
-        first (i ∷ rest) next = let same : i ≡ p.0 = cc in rw (same, inserted.generation) refl
+        first vacant next = grind (arith, common_steps, inserted.generation)
 
     unused : times p.0 (gap.front ++ gap.back) ≡ 0
     unused = ap (times p.0) (sym gap.cut) ∙ ap (times p.0) (sym roomy) ∙ inserted.vacant.free
@@ -179,8 +172,7 @@ module _ {T : Type 0} where
 
 -- growing leaves the entries
 pub entries-with_slot : {T : Type 0} (growth : Growth) (most : ℕ) (c : Chain T) → (with_slot growth most c).entries ≡ c.entries
-entries-with_slot within most c = refl
-entries-with_slot reallocating most c = grind (arith, common_steps)
+entries-with_slot growth most c = grind (arith, common_steps)
 
 -- an insertion through an entry that was asked for is one step over its place
 module _ {T K : Type 0} (key : T → K) (cmp : K → K → Ordering) where

@@ -1,4 +1,5 @@
 -- The finite map that an ordered arena is, after changes of its capacity, compressions, removals and recasts; its first and last indexes.
+use Rattle.std.proofs.Common.{length-take}
 use Rattle.arena_base.specs.{Arena.item_of, Compression.CompressionStep, Compression.IsCompression, Compression.compressed}
 use Rattle.arena_base.specs.Walk.{entries_rising as arena_rising}
 use Rattle.chain_base.specs.Chain.{with_capacity as chain_with_capacity}
@@ -38,24 +39,21 @@ module _ {T : Type 0} where
     where
       step : (o : Option (ℕ × T)) (slots : List (Option (ℕ × T))) (rising : List (ℕ × ℕ × T)) → entries_from (from + 1) slots ≡ rising
           → entries_from from (o ∷ slots) ≡ entry_before from o rising
-      step None slots rising more = more
-      step (Some e) slots rising more = ap (λ rest. (from, e.0, e.1) ∷ rest) more
+      step o slots rising more = grind (arith, common_steps)
+
+  take-none : (n : ℕ) → let none : List (Option (ℕ × T)) = [] in take n none ≡ none
+  take-none n = grind (arith, common_steps)
 
   -- the slots of a list within another capacity, where no entry is beyond the old one
   slots-resized : (es : List (Entry T)) (from n c : ℕ) → ((k : ℕ) → from + c ≤ k → entry_at es k ≡ None)
       → slots_from es from n ≡ take n (slots_from es from c) ++ replicate (n - c) None
-  slots-resized es from zero c none = let nothing : zero - c ≡ 0 = omega arith in rw nothing refl
+  slots-resized es from zero c none = grind (arith, common_steps)
   slots-resized es from (suc n) zero none =
       let whole : suc n - zero ≡ suc n = omega arith in
       rw whole (ap (λ s. s ∷ slots_from es (from + 1) n) (none from (omega arith))
       ∙ ap (λ ss. None ∷ ss) (slots-resized es (from + 1) n zero (λ k h. none k (omega (arith, h))) ∙ (let all : n - zero ≡ n = omega arith in rw (all, take-none n) refl)))
-    where
-      take-none : (n : ℕ) → let none : List (Option (ℕ × T)) = [] in take n none ≡ none
-      take-none zero = refl
-      take-none (suc n) = refl
   slots-resized es from (suc n) (suc c) none =
-      let less : suc n - suc c ≡ n - c = omega arith in
-      rw less (ap (λ ss. entry_at es from ∷ ss) (slots-resized es (from + 1) n c (λ k h. none k (omega (arith, h)))))
+      grind (arith, common_steps, slots-resized es (from + 1) n c (λ k h. none k (omega (arith, h))))
 
   resized-slots : (n : ℕ) (xs : List (Option (ℕ × T))) → resized (n + 1) (None ∷ xs) ≡ None ∷ (take n xs ++ replicate (n - length xs) None)
   resized-slots n xs = let less : suc n - suc (length xs) ≡ n - length xs = omega arith in rw (add-one, less) refl
@@ -102,13 +100,7 @@ module _ {T : Type 0} where
     greatest-is : greatest_occupied (content_of t).slots ≡ greatest_index t.list.entries
     greatest-is =
         let i = greatest_occupied (content_of t).slots in
-        elim (greatest-or_none (content_of t).slots) [
-          | inl h ↦ omega (arith, h, greatest-above)
-          | inr h ↦ elim (eqb_tells (times i t.list.entries) 0) [
-            | inl z ↦ absurd (false≢true (ap is_some (sym (no_slot i z.1)) ∙ h))
-            | inr z ↦ omega (arith, greatest-above, below-greatest_index t.list.entries i (omega (arith, z.1)))
-          ]
-        ]
+        grind (arith, common_steps, greatest-above, greatest-or_none (content_of t).slots, no_slot i, below-greatest_index t.list.entries i)
 
     pub content-reallocated : (u : Tree T) (n : ℕ) → u ≡ record t { list = chain_with_capacity t.list (max n (greatest_index t.list.entries)) }
         → HoldsSame (content_of u) (with_capacity (content_of t) (max n (greatest_occupied (content_of t).slots)))
@@ -128,15 +120,10 @@ module _ {T : Type 0} where
       fits = omega (arith, long, sound.counted)
 
       moved-slot : (k : ℕ) → get_or (slots_from (map (moved t.list.entries g items) t.list.entries) 1 t.list.capacity) k None ≡ option_map (λ item. (g, item)) (slice_get items k)
-      moved-slot k = elim (leb_tells (suc k) t.list.capacity) [
-        | inl h ↦
-            slots-within (map (moved t.list.entries g items) t.list.entries) 1 t.list.capacity k (omega (arith, h.1))
-            ∙ (ap (entry_at (map (moved t.list.entries g items) t.list.entries)) (let e : 1 + k ≡ k + 1 = omega arith in e)
-            ∙ entry_at-compressed t.list.entries sound.distinct g items long (1 + t.list.capacity) below k)
-        | inr h ↦
-            slots-beyond (map (moved t.list.entries g items) t.list.entries) 1 t.list.capacity k (omega (arith, h.1))
-            ∙ ap (option_map (λ item. (g, item))) (sym (slice_get_past items k (omega (arith, h.1, long, sound.counted))))
-      ]
+      moved-slot k =
+          let es = map (moved t.list.entries g items) t.list.entries in
+          let moved = entry_at-compressed t.list.entries sound.distinct g items long (1 + t.list.capacity) below k in
+          grind (arith, common_steps, slots-within es 1 t.list.capacity k, slots-beyond es 1 t.list.capacity k, moved, slice_get_past items k, sound.counted)
 
       abbrev slots_moved : List (Option (ℕ × T))
       slots_moved = None ∷ slots_from (map (moved t.list.entries g items) t.list.entries) 1 t.list.capacity
@@ -189,9 +176,8 @@ module _ {X Y : Type 0} where
   alike-by_index xs ys long same = grind (arith, common_steps)
 
   pointers-alike : (from : ℕ) (xs : List (Option (ℕ × X))) (ys : List (Option (ℕ × Y))) → IsAlike xs ys → pointers_from from xs ≡ pointers_from from ys
+  pointers-alike from (x ∷ xs) (y ∷ ys) alike = grind (arith, common_steps, pointers-alike (from + 1) xs ys (cc))
   pointers-alike from [] [] alike = refl
-  pointers-alike from (None ∷ xs) (None ∷ ys) alike = pointers-alike (from + 1) xs ys (cc)
-  pointers-alike from (Some x ∷ xs) (Some y ∷ ys) alike = let same : x.0 ≡ y.0 = cc in rw (same, pointers-alike (from + 1) xs ys (cc)) refl
   pointers-alike from xs ys alike = absurd (cc)
 
   rest-alike : (a : Arena X) (b : Arena Y) → IsAlike a.slots b.slots → (w : Walk) → walk_rest w a ≡ walk_rest w b
@@ -221,11 +207,8 @@ module _ {P T I G : Type 0} (most : ℕ) (greatest : Option ℕ) (t : Tree T) (s
   steps-under {Q = Q} numbers c a under laid begins old new r step =
       told r (steps-alike numbers a (content_of t) (rest-alike a (content_of t) (alike-by_index a.slots (content_of t).slots long same)) there old new r step)
     where
-      some-slots : (slots : List (Option (ℕ × Link (SimpleOrdArenaNode P T I G)))) → take 1 slots ≡ None ∷ [] → 1 ≤ length slots
-      some-slots slots first = grind (arith, common_steps)
-
       long : length a.slots ≡ length (content_of t).slots
-      long = omega (arith, some-slots a.slots begins, laid.capacity, capacity-under t c under, length-slots t.list.entries 1 t.list.capacity)
+      long = omega (arith, ap length begins, length-take 1 a.slots, laid.capacity, capacity-under t c under, length-slots t.list.entries 1 t.list.capacity)
 
       same : (k : ℕ) → option_map (λ e. e.0) (get_or a.slots k None) ≡ option_map (λ e. e.0) (get_or (content_of t).slots k None)
       same k = ap (option_map (λ e. e.0)) (laid.slots k) ∙ (link_generation-under t c under k ∙ ap (option_map (λ e. e.0)) (sym (slot_is most greatest t sound k)))
@@ -241,22 +224,15 @@ module _ {P T I G : Type 0} (most : ℕ) (greatest : Option ℕ) (t : Tree T) (s
 module _ {T : Type 0} where
   -- no pointer has an index before the first slot's
   first-above : (from : ℕ) (slots : List (Option (ℕ × T))) (p : ℕ × ℕ) (rest : List (ℕ × ℕ)) → pointers_from from slots ≡ p ∷ rest → from ≤ p.0
-  first-above from [] p rest is = absurd (cc)
   first-above from (None ∷ slots) p rest is = omega (arith, first-above (from + 1) slots p rest is)
-  first-above from (Some e ∷ slots) p rest is =
-      let same : ◌≡◌ {A = ℕ × ℕ} (from, e.0) p = cc in
-      omega (arith, ap (λ (q : ℕ × ℕ). q.0) same)
+  first-above from slots p rest is = grind (arith, common_steps)
 
   -- without the first entry the others are left
   others-left : (from k i g : ℕ) (slots : List (Option (ℕ × T))) (rest : List (ℕ × ℕ)) → i ≡ from + k
       → pointers_from from slots ≡ (i, g) ∷ rest → pointers_from from (set slots k None) ≡ rest
-  others-left from k i g [] rest at is = absurd (cc)
   others-left from zero i g (None ∷ slots) rest at is = absurd (omega (arith, at, first-above (from + 1) slots (i, g) rest is))
   others-left from (suc k) i g (None ∷ slots) rest at is = others-left (from + 1) k i g slots rest (omega (arith, at)) is
-  others-left from zero i g (Some e ∷ slots) rest at is = cc
-  others-left from (suc k) i g (Some e ∷ slots) rest at is =
-      let same : ◌≡◌ {A = ℕ × ℕ} (from, e.0) (i, g) = cc in
-      absurd (omega (arith, at, ap (λ (q : ℕ × ℕ). q.0) same))
+  others-left from k i g slots rest at is = grind (arith, common_steps)
 
   -- where there is no pointer, no slot has an entry
   none-there : (from : ℕ) (slots : List (Option (ℕ × T))) (k : ℕ) → pointers_from from slots ≡ [] → get_or slots k None ≡ None
@@ -343,14 +319,14 @@ module _ {T I : Type 0} (gives : T → Result (Unit {0}) I → T → Type 0) (ol
           recast = b.recast ++ (i, step.entry.0) ∷ [];
           split = b.split ∙ (ap (λ ps. b.recast ++ ps) (next step.entry step.found) ∙ sym (append_assoc b.recast ((i, step.entry.0) ∷ []) (rest_from (i + 1))));
           calls = FoldsTo-push (RecastsNext gives) old b.recast now (i, step.entry.0) after b.calls step;
-          kept = λ k. ap (λ t. generation_at t k) step.after ∙ (written step.item k (cases_eq k i) ∙ b.kept k);
+          kept = λ k. ap (λ t. generation_at t k) step.after ∙ (written step.item k ∙ b.kept k);
         }
       where
-        written : (item : T) (k : ℕ) → (k ≡ i) ⊎ (k ≢ i) → generation_at (with_item now i item) k ≡ generation_at now k
-        written item k (inl same) =
-            rw same (ap (option_map (λ (e : ℕ × T). e.0)) (entry_at-with_item_among now.list.entries i item)
-            ∙ sym (option_map-twice (λ (e : ℕ × T). (e.0, item)) (λ (e : ℕ × T). e.0) (entry_at now.list.entries i)))
-        written item k (inr other) = ap (option_map (λ (e : ℕ × T). e.0)) (entry_at-with_item_among_other now.list.entries i k item other)
+        written : (item : T) (k : ℕ) → generation_at (with_item now i item) k ≡ generation_at now k
+        written item k =
+            let here = option_map-twice (λ (e : ℕ × T). (e.0, item)) (λ (e : ℕ × T). e.0) (entry_at now.list.entries i) in
+            let es = now.list.entries in
+            grind (arith, common_steps, cases_eq k i, here, entry_at-with_item_among es i item, entry_at-with_item_among_other es i k item)
 
     pub recast-failed : (err : I) (after : Tree T) → RecastsItem gives (Err err) now i after → RecastsItems gives old (Err err) after
     recast-failed err after step =

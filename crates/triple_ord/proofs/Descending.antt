@@ -31,15 +31,13 @@ IsPart-sides (node l' i' k' r') l r i k part = elim part [
 
 -- what is true of each is true of each but the last
 but_last-push : {X : Type 0} (xs : List X) (x : X) → but_last (xs ++ x ∷ []) ≡ xs
-but_last-push [] x = refl
-but_last-push (y ∷ []) x = refl
 but_last-push (y ∷ (z ∷ zs)) x = ap (λ l. y ∷ l) (but_last-push (z ∷ zs) x)
+but_last-push xs x = refl
 
 All-but_last : {X : Type 0} (P : X → Type 0) (xs : List X) → All P xs → All P (but_last xs)
-All-but_last P [] all = All-nil P
-All-but_last P (x ∷ []) all = All-nil P
 All-but_last P (x ∷ (y ∷ ys)) all =
     All-cons P x (but_last (y ∷ ys)) (All-head P x (y ∷ ys) all) (All-but_last P (y ∷ ys) (All-tail P x (y ∷ ys) all))
+All-but_last P xs all = All-nil P
 
 IfSome-from_match : {X : Type 0} (o : Option X) (P : Type 0) (Q : X → Type 0) → MatchOption o P Q → IfSome o Q
 IfSome-from_match o P Q is = grind (arith, common_steps)
@@ -250,8 +248,7 @@ module _ {T : Type 0} (es : List (Entry T)) (shape : Shape) (shown : List (Shown
 
 -- an answer that isn't Equal is the way that it leads
 turned : (o : Ordering) → is_eq o ≡ false → ordering_then o Less ≡ o
-turned Equal other = absurd (cc)
-turned o other = refl
+turned o other = grind (arith, common_steps)
 
 -- One step of a descent in a tree: the entry at the link is shown to the closure.
 module _ {T F : Type 0} (asks : F → Shown T → F → Type 0) (t : Tree T) (distinct : IsDistinct t.list.entries) (f : F) (before : ℕ) where
@@ -319,8 +316,7 @@ module _ {P T F : Type 0} (numbers : P → ℕ × ℕ) (asks : F → Shown T →
 -- A descent by a key: how it begins, one step, and its end at the gap before the first of a group, or at one that fits.
 -- a key's order to an entry, by the way down from there
 greater_of : (o : Ordering) → Greater ≡ ordering_then o Less → o ≡ Greater
-greater_of Greater turn = refl
-greater_of o turn = absurd (cc)
+greater_of o turn = grind (arith, common_steps)
 
 -- no equal entry was met by another answer
 pub unmet : {X : Type 0} (x : X) (o : Ordering) → is_eq o ≡ false → met_next None x o ≡ None
@@ -333,15 +329,13 @@ met_next-map f met x o = grind (arith, common_steps)
 -- answers that differ were given at two entries
 neighbours_shown : {T : Type 0} (low high : Option (Entry T)) (shown : List (Shown T)) → IfSome low (λ e. Contains shown (e, Greater))
     → IfSome high (λ e. Contains shown (e, Less)) → present low + present high ≤ length shown
-neighbours_shown None None shown l h = omega arith
-neighbours_shown (Some a) None shown l h = omega (arith, l.1)
-neighbours_shown None (Some b) shown l h = omega (arith, h.1)
 neighbours_shown (Some a) (Some b) shown l h = elim (cases_eq l.0 h.0) [
   | inl same ↦
       let clash = sym l.2 ∙ (get_or_default shown l.0 (a, Greater) (b, Less) l.1) ∙ ap (λ k. get_or shown k (b, Less)) same ∙ h.2 in
       absurd (let both : Greater ≡ Less = ap (λ s. s.1) clash in cc)
   | inr other ↦ omega (arith, l.1, h.1)
 ]
+neighbours_shown low high shown l h = grind (arith, common_steps)
 
 module _ {T K : Type 0} (key : T → K) (cmp : K → K → Ordering) (t : Tree T) (distinct : IsDistinct t.list.entries) (k : K) (start : ℕ) where
   abbrev Turned : Shown T → Type 0
@@ -398,8 +392,7 @@ module _ {T K : Type 0} (key : T → K) (cmp : K → K → Ordering) (t : Tree T
     by_key-equal p is = go (after end) refl d.descending.less_after d.met_is
       where
         told : (q : ℕ × ℕ) (o : Ordering) → Some p ≡ where_equal (Some (q, o)) → (p ≡ q) × (o ≡ Equal)
-        told q Equal same = (cc, refl)
-        told q o same = absurd (cc)
+        told q o same = grind (arith, common_steps)
 
         go : (o : Option (Entry T)) → after end ≡ o → IfSome o (λ e. Contains d.shown (e, Less)) → met ≡ where_equal (answer_at o)
             → FindsSimilar key cmp t.list.entries k (Some (p, Equal)) (visits - start)
@@ -413,8 +406,7 @@ module _ {T K : Type 0} (key : T → K) (cmp : K → K → Ordering) (t : Tree T
     by_key-other is = go (last_or None d.shown) refl
       where
         unequal : (q : ℕ × ℕ) (o : Ordering) → None ≡ where_equal (Some (q, o)) → is_eq o ≡ false
-        unequal q Equal same = absurd (cc)
-        unequal q o same = refl
+        unequal q o same = grind (arith, common_steps)
 
         greater : (o : Option (Entry T)) → IfSome o (λ e. Contains d.shown (e, Less)) → met ≡ where_equal (answer_at o) → IfSome o (λ e. order_to key cmp k e ≡ Less)
         greater None shown met_is = tt

@@ -137,10 +137,7 @@ equal_by o test = grind (arith, common_steps)
 -- a search for a similar key tells whether an equal one is there
 module _ {T K : Type 0} (key : T → K) (cmp : K → K → Ordering) (es : List (Entry T)) (k : K) (c : ℕ) where
   beside-other : (e : Entry T) → IsBeside key cmp es k c e → order_to key cmp k e ≢ Equal
-  beside-other e b equal = elim b.2 [
-    | inl low ↦ let more = rw low at b.1.fits.lesser_before in cc
-    | inr high ↦ let less = rw high at b.1.fits.greater_after in cc
-  ]
+  beside-other e b equal = grind (arith, common_steps, b.1.fits.lesser_before, b.1.fits.greater_after, b.2)
 
   -- an entry that compares equal is the first of its group
   pub first-of_equal : (e : Entry T) → (IsFirstEqual key cmp es k e × (1 ≤ c)) ⊎ IsBeside key cmp es k c e → order_to key cmp k e ≡ Equal → IsFirstEqual key cmp es k e × (1 ≤ c)
@@ -221,20 +218,11 @@ module _ {T K : Type 0} (key : T → K) (cmp : K → K → Ordering) (es : List 
 
     -- the search saw an entry
     pub similar-seen : 1 ≤ c
-    similar-seen = elim found.2 [
-      | inl first ↦ first.1
-      | inr beside ↦ elim beside.2 [
-        | inl low ↦ let one : present (before beside.0) ≡ 1 = ap present low in omega (arith, one, beside.1.seen)
-        | inr high ↦ let one : present (after beside.0) ≡ 1 = ap present high in omega (arith, one, beside.1.seen)
-      ]
-    ]
+    similar-seen = grind (arith, common_steps, found.2)
 
     -- the entry that was returned is found by its index
     pub similar-here : entry_at es found.0.index ≡ Some (found.0.generation, found.0.item)
-    similar-here = elim found.2 [
-      | inl first ↦ entry_at-after es found.0 distinct first.0.gap first.0.here
-      | inr beside ↦ elim beside.2 [ inl low ↦ entry_at-before es found.0 distinct beside.0 low | inr high ↦ entry_at-after es found.0 distinct beside.0 high ]
-    ]
+    similar-here = grind (arith, common_steps, found.2, entry_at-after es found.0 distinct, entry_at-before es found.0 distinct)
 
     pub similar-occupied : IsSome (entry_at es p.0)
     similar-occupied = rw (← named, similar-here) refl

@@ -30,17 +30,17 @@ module _ {K : Type 0} (cmp : K → K → Ordering) (k other : K) where
 -- A list in the order of its keys, with a gap that fits a key: the key is greater than all before the gap, and less than all after it.
 -- what stands at a place of the front, and of the back, of a list that is cut in two
 module _ {X : Type 0} (P : X → Type 0) where
-  pub in_front : (low high front back : List X) (x : X) → low ++ high ≡ front ++ x ∷ back → length front < length low → AllByRecursion P low → P x
-  in_front [] high front back x cut within all = absurd (omega arith)
-  in_front (y ∷ low) high [] back x cut within all = let same : y ≡ x = cc in subst P same all.0
-  in_front (y ∷ low) high (z ∷ front) back x cut within all = in_front low high front back x (cc) (omega (arith, within)) all.1
+  in_front : (low high front back : List X) (x : X) → low ++ high ≡ front ++ x ∷ back → AllByRecursion P low → length front < length low → P x
+  in_front [] high front back x cut all within = absurd (omega arith)
+  in_front (y ∷ low) high [] back x cut all within = let same : y ≡ x = cc in subst P same all.0
+  in_front (y ∷ low) high (z ∷ front) back x cut all within = in_front low high front back x (cc) all.1 (omega (arith, within))
 
-  pub in_back : (low high front back : List X) (x : X) → low ++ high ≡ front ++ x ∷ back → length low ≤ length front → AllByRecursion P high → P x
-  in_back [] (y ∷ high) [] back x cut within all = let same : y ≡ x = cc in subst P same all.0
-  in_back [] (y ∷ high) (z ∷ front) back x cut within all = in_back [] high front back x (cc) (omega arith) all.1
-  in_back (y ∷ low) high (z ∷ front) back x cut within all = in_back low high front back x (cc) (omega (arith, within)) all
-  in_back [] [] (z ∷ front) back x cut within all = absurd (cc)
-  in_back low high [] back x cut within all = absurd (grind (arith, common_steps))
+  in_back : (low high front back : List X) (x : X) → low ++ high ≡ front ++ x ∷ back → AllByRecursion P high → length low ≤ length front → P x
+  in_back [] (y ∷ high) [] back x cut all within = let same : y ≡ x = cc in subst P same all.0
+  in_back [] (y ∷ high) (z ∷ front) back x cut all within = in_back [] high front back x (cc) all.1 (omega arith)
+  in_back (y ∷ low) high (z ∷ front) back x cut all within = in_back low high front back x (cc) all (omega (arith, within))
+  in_back [] [] (z ∷ front) back x cut all within = absurd (cc)
+  in_back low high [] back x cut all within = absurd (grind (arith, common_steps))
 
 -- in a total order: what is not greater than something lesser is lesser, and what is not less than something greater is greater
 module _ {K : Type 0} (cmp : K → K → Ordering) (total : IsTotalOrder cmp) where
@@ -79,10 +79,7 @@ module _ {T K : Type 0} (key : T → K) (cmp : K → K → Ordering) where
     in_order-step less = (IsInOrder-rest e (f ∷ es), in_order-more e f es (λ greater. let both = rw (is ∙ greater) at less in cc))
 
     pub in_order-not : is_gt o ≡ true → IsInOrder key cmp (e ∷ f ∷ es) → ⊥
-    in_order-not more order = order [] es e f refl (sym is ∙ told o more)
-      where
-        told : (o : Ordering) → is_gt o ≡ true → o ≡ Greater
-        told o more = grind (arith, common_steps)
+    in_order-not more order = order [] es e f refl (grind (arith, common_steps, is, more))
 
   pub IsInOrder-back : (front back : List (Entry T)) → IsInOrder key cmp (front ++ back) → IsInOrder key cmp back
   IsInOrder-back front back order low high f g cut = order (front ++ low) high f g (ap (λ xs. front ++ xs) cut ∙ simp append_assoc)
@@ -126,16 +123,12 @@ module _ {T K : Type 0} (key : T → K) (cmp : K → K → Ordering) where
     -- an entry to which k doesn't lie Less stands before the gap, one to which it doesn't lie Greater behind it
     module _ (front back : List (Entry T)) (e : Entry T) (cut : es ≡ front ++ e ∷ back) where
       pub stands-before : order_to key cmp k e ≢ Less → length front < length gap.front
-      stands-before more = elim (leb_tells (length gap.front) (length front)) [
-        | inl h ↦ absurd (more (in_back (λ x. order_to key cmp k x ≡ Less) gap.front gap.back front back e (sym gap.cut ∙ cut) h.1 back_less))
-        | inr h ↦ h.1
-      ]
+      stands-before more =
+          grind (arith, more, in_back (λ x. order_to key cmp k x ≡ Less) gap.front gap.back front back e (sym gap.cut ∙ cut) back_less)
 
       pub stands-behind : order_to key cmp k e ≢ Greater → length gap.front ≤ length front
-      stands-behind less = elim (leb_tells (length gap.front) (length front)) [
-        | inl h ↦ h.1
-        | inr h ↦ absurd (less (in_front (λ x. order_to key cmp k x ≡ Greater) gap.front gap.back front back e (sym gap.cut ∙ cut) h.1 front_greater))
-      ]
+      stands-behind less =
+          grind (arith, less, in_front (λ x. order_to key cmp k x ≡ Greater) gap.front gap.back front back e (sym gap.cut ∙ cut) front_greater)
 
   -- an entry that a search met is there
   not_absent : (k : K) (es : List (Entry T)) (e : Entry T) → IsFirstEqual key cmp es k e → IsAbsent key cmp es k → ⊥

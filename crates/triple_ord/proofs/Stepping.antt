@@ -43,14 +43,12 @@ module _ {T K : Type 0} (key : T → K) (cmp : K → K → Ordering) (es : List 
   module _ (start visits : ℕ) (front back : List (Entry T)) where
     -- as long as the order stays, each step goes one place further
     place-less : (came : Ordering) → CameFrom key cmp es k start visits front back came → Less ≢ ordering_reverse came → length front + visits ≡ start
-    place-less Less from ahead = from.4
-    place-less Equal from ahead = omega (arith, from.0, from.1)
     place-less Greater from ahead = absurd (ahead refl)
+    place-less came from ahead = omega arith
 
     place-greater : (came : Ordering) → CameFrom key cmp es k start visits front back came → Greater ≢ ordering_reverse came → length front ≡ start + visits
     place-greater Less from ahead = absurd (ahead refl)
-    place-greater Equal from ahead = omega (arith, from.0, from.1)
-    place-greater Greater from ahead = from.4
+    place-greater came from ahead = omega arith
 
     -- where the order turns, the steps came from the entry on the other side; else there is none
     low-answered : (came : Ordering) → CameFrom key cmp es k start visits front back came → (o : Option (Entry T)) → last_or None front ≡ o
@@ -148,35 +146,19 @@ module _ {T K : Type 0} (key : T → K) (cmp : K → K → Ordering) (es : List 
         cut-here : length es ≡ length s.front + (1 + length s.back)
         cut-here = let n = ap length s.cut in omega (arith, n, length-append s.front (s.entry ∷ s.back))
 
-        Up : Type 0
-        Up = (length s.front ≡ start + visits) × (length s.front ≤ length gap.front) × (start < length gap.front)
-
-        Down : Type 0
-        Down = (length s.front + visits ≡ start) × (length gap.front ≤ length s.front + 1) × (length gap.front ≤ start)
-
-        along : Up ⊎ Down → visits + 1 ≤ way_length gap start
-        along way = elim (leb_tells (suc start) (length gap.front)) [
-          | inl h ↦ rw h.0 (omega (arith, h.1, way, after-count gap.back, cut-gap, cut-here))
-          | inr h ↦ rw h.0 (omega (arith, h.1, way, before-count gap.front))
-        ]
-
         by_way : (came : Ordering) → CameFrom key cmp es k start visits s.front s.back came → visits + 1 ≤ way_length gap start
         by_way Less from =
             let begin = begins s.back from.0 from.1 in
             let cut : es ≡ (s.front ++ s.entry ∷ []) ++ from.0 ∷ begin.0 = s.cut ∙ (ap (λ (xs : List (Entry T)). s.front ++ s.entry ∷ xs) begin.1 ∙ simp append_assoc) in
             let behind = stands-behind key real total k es ordered gap fits (s.front ++ s.entry ∷ []) begin.0 from.0 cut (λ more. let less = lesser _ from.2 in cc) in
-            let reach : length gap.front ≤ length s.front + 1 = omega (arith, behind, length-append s.front (s.entry ∷ [])) in
-            along (inr (from.4, reach, omega (arith, reach, from.3, from.4)))
-        by_way Equal from = elim (leb_tells (suc start) (length gap.front)) [
-          | inl h ↦ along (inl (omega (arith, from.0, from.1), omega (arith, h.1, from.1), h.1))
-          | inr h ↦ along (inr (omega (arith, from.0, from.1), omega (arith, h.1, from.1), omega (arith, h.1)))
-        ]
+            grind (arith, common_steps, from.3, from.4, behind, length-append s.front (s.entry ∷ []), before-count gap.front)
+        by_way Equal from = grind (arith, common_steps, from.0, from.1, after-count gap.back, before-count gap.front, cut-gap, cut-here)
         by_way Greater from =
             let end = ends s.front from.0 from.1 in
             let cut : es ≡ end.0 ++ from.0 ∷ (s.entry ∷ s.back) = s.cut ∙ (ap (λ (xs : List (Entry T)). xs ++ s.entry ∷ s.back) end.1 ∙ simp append_assoc) in
             let before = stands-before key real total k es ordered gap fits end.0 (s.entry ∷ s.back) from.0 cut (greater _ from.2) in
-            let reach : length s.front ≤ length gap.front = omega (arith, before, ap length end.1, length-append end.0 (from.0 ∷ [])) in
-            along (inl (from.4, reach, omega (arith, reach, from.3, from.4)))
+            let counted = ap length end.1 ∙ length-append end.0 (from.0 ∷ []) in
+            grind (arith, common_steps, from.3, from.4, before, counted, after-count gap.back, cut-gap, cut-here)
 
 -- orders that are told apart by a test
 pub apart : (o p : Ordering) → not (ordering_index o == ordering_index p) ≡ true → o ≢ p
@@ -215,16 +197,12 @@ module _ {T K : Type 0} (key : T → K) (cmp : K → K → Ordering) (es : List 
 
 -- no visit at all is within the bounds
 unvisited : (n : ℕ) (shape : Shape) → IsWithinBounds n shape 0
-unvisited n shape =
-    record {
-      ranked = λ some. square n some;
-      tight = λ tight. omega arith;
-      rebuilt = λ rebuilt digits has. omega arith;
-      empty = λ none. refl;
-    }
-  where
-    square : (n : ℕ) → 0 < n → 2 ^ (0 + 1) ≤ (n + 1) ^ 2
-    square n some = let four : 2 ^ 2 ≤ (n + 1) ^ 2 = pow-le-pow_left {n = 2} {m = n + 1} (omega (arith, some)) 2 in omega (arith, four)
+unvisited n shape = record {
+  ranked = λ some. let four : 2 ^ 2 ≤ (n + 1) ^ 2 = pow-le-pow_left {n = 2} {m = n + 1} (omega (arith, some)) 2 in omega (arith, four);
+  tight = λ tight. omega arith;
+  rebuilt = λ rebuilt digits has. omega arith;
+  empty = λ none. refl;
+}
 
 -- steps alone, and steps with a whole search
 pub hinted-steps : (n : ℕ) (shape : Shape) (num c : ℕ) → c ≤ num → c ≤ n → IsWithinHintedBounds n shape num c

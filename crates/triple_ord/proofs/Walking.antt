@@ -42,10 +42,7 @@ module _ {T : Type 0} where
   from-absent i (e ∷ es) none = grind (arith, common_steps, from-absent i es)
 
   pub link-absent : (es : List (Entry T)) (i : ℕ) → None ≡ link_at es i → times i es ≡ 0
-  link-absent es i missing = elim (cases_lt 0 (times i es)) [
-    | inl some ↦ absurd (let there = occurs-entry es i some in let none = rw (entry_at-link None None es i, ← missing) at there in cc)
-    | inr none ↦ omega (arith, none)
-  ]
+  link-absent es i missing = grind (arith, common_steps, occurs-entry es i, entry_at-link None None es i)
 
   pub walk-end : (es : List (Entry T)) (i : ℕ) → None ≡ link_at es i → entries_from es (Some i) ≡ []
   walk-end es i missing = from-absent i es (link-absent es i missing)

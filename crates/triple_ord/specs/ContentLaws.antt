@@ -4,7 +4,7 @@ use Rattle.std.proofs.Common.{◌≡◌, ◌≢◌, ℕ, zero, suc, ◌+◌, ◌
 use Rattle.std.proofs.lemmas.Bool.Decides.{eqb_tells, leb_tells}
 use Rattle.std.proofs.lemmas.List.Sums.{sum_by-cons}
 use Rattle.std.specs.Option.{option_map}
-use Rattle.arena_base.specs.Generation.{next_generation}
+use Rattle.arena_base.{proofs.CallerLemmas.limit_of-below, specs.Generation.next_generation}
 use Rattle.arena_base.specs.Arena.{HoldsSame, arena_len, arena_capacity, removed as arena_removed, renewed as arena_renewed, cleared as arena_cleared, with_item as arena_with_item, slot, item_of, item_if, limit_of, IsLawful}
 use Rattle.chain_base.specs.Chain.{Entry, Chain, entry_at, times, IsSound, IsDistinct, without, with_generation, removed, renewed, cleared, item_of as item_among, with_item_among}
 use Rattle.chain_base.specs.Compression.{lesser}
@@ -20,10 +20,10 @@ module _ {T : Type 0} where
 
   -- a slot has the entry of its index
   pub slots-within : (es : List (Entry T)) (from n k : ℕ) → k < n → get_or (slots_from es from n) k None ≡ entry_at es (from + k)
-  slots-within es from zero k h = absurd (omega (arith, h))
   slots-within es from (suc n) zero h = ap (entry_at es) (let e : from ≡ from + 0 = omega arith in e)
   slots-within es from (suc n) (suc k) h =
       slots-within es (from + 1) n k (omega (arith, h)) ∙ ap (entry_at es) (let e : from + 1 + k ≡ from + suc k = omega arith in e)
+  slots-within es from n k h = absurd (omega (arith, h))
 
   pub slots-beyond : (es : List (Entry T)) (from n k : ℕ) → n ≤ k → get_or (slots_from es from n) k None ≡ None
   slots-beyond es from zero k h = refl
@@ -157,8 +157,4 @@ module _ {T : Type 0} where
 
   -- the capacity is within what indexes can name
   pub capacity-within : (most : ℕ) (greatest : Option ℕ) (t : Tree T) → IsSound most greatest t.list → arena_capacity (content_of t) ≤ most
-  capacity-within most greatest t sound = rw (capacity_is t) (go t.list.maximum sound.within_limit)
-    where
-      go : (maximum : Option ℕ) → t.list.capacity ≤ limit_of most maximum → t.list.capacity ≤ most
-      go None within = within
-      go (Some m) within = omega (arith, within)
+  capacity-within most greatest t sound = rw (capacity_is t) (omega (arith, sound.within_limit, limit_of-below most t.list.maximum))
