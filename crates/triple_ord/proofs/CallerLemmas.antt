@@ -205,15 +205,8 @@ module _ {T K : Type 0} (key : T → K) (cmp : K → K → Ordering) where
           grown = subst (λ (t : Tree T). IsGrown t.shape new.shape) awaits.room there.1;
         }
         go (over e) (Replacing p) (Some before) at awaits there =
-            let found = over-found old distinct (aim_of number kind) e at in
-            let had : item_of arena (numbers p) ≡ Some e.item = ap (λ (t : Tree T). item_of t (numbers p)) awaits.1 ∙ ap (item_of old) awaits.0 ∙ found in
-            record {
-              entry = e;
-              place = at;
-              named = awaits.0;
-              taken = cc;
-              after = there.1 ∙ ap (λ (t : Tree T). with_item t (numbers p).0 item) awaits.1 ∙ ap (λ (q : ℕ × ℕ). with_item old q.0 item) awaits.0;
-            }
+            let had : item_of arena (numbers p) ≡ Some e.item = rw (awaits.1, awaits.0) (over-found old distinct (aim_of number kind) e at) in
+            record { entry = e; place = at; named = awaits.0; taken = cc; after = rw (awaits.1, awaits.0) at there.1 }
         go (into gap) (New p) before at awaits there = absurd there
         go (over e) (Replacing p) before at awaits there = absurd there
         go place shown before at awaits there = absurd awaits

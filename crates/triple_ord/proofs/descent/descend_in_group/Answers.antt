@@ -2,9 +2,6 @@ use Rattle.triple_ord.proofs.Descending.{step-occupied, step-few, by_key-step, b
 use Rattle.triple_ord.proofs.Words.{ℕ, arith, refl, ap, ◌∙◌, option_map}
 use Rattle.triple_ord.proofs.descent.descend_in_group.Goals as goal
 
-pub loop-at-init : goal.loop-at-init
-loop-at-init g c = record { tree = refl; more = omega arith; descended = λ before d. d }
-
 pub compare-p-requires-clause-occupied : goal.compare-p-requires-clause-occupied
 compare-p-requires-clause-occupied g c =
     let d = rw c.in-Some.is at (c.loop-at.invariant.descended c.requires.descended.0 c.requires.descended.1) in

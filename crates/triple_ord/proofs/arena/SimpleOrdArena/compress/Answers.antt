@@ -13,6 +13,3 @@ returns-clause-count g c =
 pub returns-clause-ended : goal.returns-clause-ended
 returns-clause-ended g c =
     rw (← c.self.view_is) (ended-relocated c.compress.new.self _ _ _ (ap (λ (c : Chain _). c.entries) c.compress.ensures.after))
-
-pub returns-clause-after : goal.returns-clause-after
-returns-clause-after g c = rw (← c.self.view_is) c.compress.ensures.after

@@ -39,15 +39,8 @@ returns-clause-near g c =
 pub returns-then-not-contains_inx-clause-visits : goal.returns-then-not-contains_inx-clause-visits
 returns-then-not-contains_inx-clause-visits g c = hinted-alone _ _ _ _ c.search.ensures.visits
 
-pub returns-then-not-contains_inx-clause-near : goal.returns-then-not-contains_inx-clause-near
-returns-then-not-contains_inx-clause-near g c = λ ordered there.
-    let none = rw c.self.view_is at c.if-not-contains_inx.ensures in absurd (let both = none ∙ there in cc)
-
 pub returns-then-is_some-clause-unhinted : goal.returns-then-is_some-clause-unhinted
 returns-then-is_some-clause-unhinted g c = named-unhinted _ _ (rw c.self.view_is at c.if-not-contains_inx.ensures)
 
 pub returns-clause-unhinted : goal.returns-clause-unhinted
 returns-clause-unhinted g c = named-unhinted _ _ (rw c.self.view_is at c.if-not-contains_inx.ensures)
-
-pub step_along-near-requires-clause-occupied : goal.step_along-near-requires-clause-occupied
-step_along-near-requires-clause-occupied g c = rw c.new-probe.ensures.tree (sym c.if-not-contains_inx.ensures)

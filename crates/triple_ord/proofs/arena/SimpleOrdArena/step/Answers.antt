@@ -12,6 +12,4 @@ returns g c =
     (gives-rising c.args.self.now (g.P.Inx.PtrInx.number c.args.i) c.len.ensures.sound.distinct _ _ c.in_ok-entry.ensures)
 
 pub returns-in_err-entry : goal.returns-in_err-entry
-returns-in_err-entry g c =
-    rw c.from_residual.ensures
-    (rest-missing c.args.self.now (g.P.Inx.PtrInx.number c.args.i) c.len.ensures.sound.distinct c.args.falling c.in_err-entry.ensures)
+returns-in_err-entry g c = rw c.from_residual.ensures (rest-missing c.args.self.now _ c.len.ensures.sound.distinct _ c.in_err-entry.ensures)
