@@ -9,11 +9,9 @@ use Rattle.triple_ord.proofs.Words.{IsFirstIndex, IsLastIndex, IsArenaOf, Simple
 use Rattle.triple_ord.proofs.Words.{IsChainOf, IsSoundTree, IsPart, IsNodeIn, IsShown, entry_at-link, entry_at-bare, arith, common_steps}
 use Rattle.triple_ord.proofs.Words.{is_some-bare, times-bare, indexes-bare}
 
--- the option of a mapped value
 pub is_some-map : {A B : Type 0} (f : A → B) (o : Option A) → is_some (option_map f o) ≡ is_some o
 is_some-map f o = grind (arith, common_steps)
 
--- mapped twice
 pub option_map-twice : {A B C : Type 0} (f : A → B) (g : B → C) (o : Option A) → option_map (λ x. g (f x)) o ≡ option_map g (option_map f o)
 option_map-twice f g o = grind (arith, common_steps)
 
@@ -135,11 +133,11 @@ among-entries [] i e found = absurd (cc)
 among-entries (f ∷ es) i e found = grind (arith, common_steps, among-entries es i e)
 
 -- a look-up in the arena under a chain reads the chain's entry
-pub entry-looked_up : {X Y : Type 0} (c : Chain Y) (a : Arena (Link Y)) (lies : IsArenaOf c a) (f : X → ℕ × Link Y) (o : Option X) (i : ℕ)
-    → option_map f o ≡ slot a i → option_map (λ x. ((f x).0, (f x).1.item)) o ≡ entry_at c.entries i
-entry-looked_up {X} {Y} c a lies f o i is =
-    let bare_of : ℕ × Link Y → ℕ × Y = λ e. (e.0, e.1.item) in
-    option_map-twice f bare_of o ∙ ap (option_map bare_of) (is ∙ lies.slots i) ∙ sym (entry_at-link None None c.entries i)
+module _ {X Y : Type 0} (c : Chain Y) (a : Arena (Link Y)) (lies : IsArenaOf c a) (f : X → ℕ × Link Y) (o : Option X) (i : ℕ) where
+  pub entry-looked_up : option_map f o ≡ slot a i → option_map (λ x. ((f x).0, (f x).1.item)) o ≡ entry_at c.entries i
+  entry-looked_up is =
+      let bare_of : ℕ × Link Y → ℕ × Y = λ e. (e.0, e.1.item) in
+      option_map-twice f bare_of o ∙ ap (option_map bare_of) (is ∙ lies.slots i) ∙ sym (entry_at-link None None c.entries i)
 
 -- a pointer that finds an item has an entry at its index
 pub found-occupied : {T : Type 0} (g : ℕ) (o : Option (ℕ × T)) → IsSome (item_if g o) → IsSome o

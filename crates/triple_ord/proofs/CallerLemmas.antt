@@ -6,9 +6,9 @@ use Rattle.arena_base.specs.declared.invalidation.InvalidationOption.{Invalidati
 use Rattle.chain_base.specs.{Chain.entry_at as entry_among, Clone.taken_over}
 use Rattle.ord_tree.specs.Clone.{ShowsItem, IsClone, IsRefusedClone}
 use Rattle.triple_ord.proofs.Inserting.{entry_at-after, similar-here, IsInsertion-same}
-use Rattle.triple_ord.proofs.Words.{OrdInsertionError, ◌≡◌, ◌≢◌, ℕ, ◌+◌, List, [], ◌∷◌, ◌++◌, length, Option, Some, None, IsSome, is_some, slice_get, map}
-use Rattle.triple_ord.proofs.Words.{length-append, IfSome, IfNone, OnSome, Ok, refl, sym, ap, subst, ◌∙◌, arith, inl, inr, if◌then◌else◌}
-use Rattle.triple_ord.proofs.Words.{eq-eqb, cases_eq, eqb_tells, option_map, Ordering, next_generation, item_if, Entry, Chain, times}
+use Rattle.triple_ord.proofs.Words.{OrdInsertionError, ◌≡◌, ◌≢◌, ℕ, ◌+◌, List, [], ◌∷◌, ◌++◌, length, Option, Some, None, IsSome, is_some}
+use Rattle.triple_ord.proofs.Words.{slice_get, map, length-append, IfSome, IfNone, OnSome, Ok, refl, sym, ap, subst, ◌∙◌, arith, inl, inr}
+use Rattle.triple_ord.proofs.Words.{if◌then◌else◌, eq-eqb, cases_eq, option_map, Ordering, next_generation, item_if, Entry, Chain, times}
 use Rattle.triple_ord.proofs.Words.{IsDistinct, removed, renewed, inserted_at, IsInsertion, moved, at_compressed_index, numbered}
 use Rattle.triple_ord.proofs.Words.{Transferring, TransferStep, IsTransfer, FoldsTo, length-map, entry_at-absent, entry_at-without_other}
 use Rattle.triple_ord.proofs.Words.{entry_at-without, length-without, entry_at-with_item_among_other, entry_at-with_item_among}
@@ -16,10 +16,10 @@ use Rattle.triple_ord.proofs.Words.{length-with_item_among, entry_at-with_genera
 use Rattle.triple_ord.proofs.Words.{length-with_generation, entry_at-between_other, entry_at-between, length-between, entry_at-numbered}
 use Rattle.triple_ord.proofs.Words.{entry_at-numbered_before, generation-numbered, items-numbered, generation-moved, generation-relocated}
 use Rattle.triple_ord.proofs.Words.{Tree, IsGrown, with_item, Gap, with_between, Equal, pointer, FindsKey, FindsSimilar, Aim, at_key}
-use Rattle.triple_ord.proofs.Words.{beside, Place, into, over, IsPlace, aim_of, Growth, within, reallocating, with_slot, InsertsBy, told}
-use Rattle.triple_ord.proofs.Words.{OrdEntryKind, New, Replacing, OrdInsertKind, item_of, items, count, Updates, Renews, FindsBy}
-use Rattle.triple_ord.proofs.Words.{IsOfGeneration, IsNumbered, FindsNothing, ◌<◌, Result, Err, ◌⊎◌, nil_from_length, Bor, IsSound}
-use Rattle.triple_ord.proofs.Words.{greatest_index, clone-same, common_steps, refused-some, Shape}
+use Rattle.triple_ord.proofs.Words.{beside, Place, into, over, IsPlace, aim_of, Growth, with_slot, InsertsBy, told, OrdEntryKind, New}
+use Rattle.triple_ord.proofs.Words.{Replacing, OrdInsertKind, item_of, items, count, Updates, Renews, FindsBy, IsOfGeneration, IsNumbered}
+use Rattle.triple_ord.proofs.Words.{FindsNothing, ◌<◌, Result, Err, ◌⊎◌, nil_from_length, Bor, IsSound, greatest_index, clone-same}
+use Rattle.triple_ord.proofs.Words.{common_steps, refused-some, Shape}
 use Rattle.triple_ord.specs.{Arena.entry_at, Clone.cloned, Clone.emptied, Entry.InsertsThere, Entry.Awaits, Entry.IsEntryFor}
 use Rattle.triple_ord.specs.{EntryKind.pointer_of, declared.insert_kind.OrdInsertKind.TheVariants.Normal}
 
@@ -32,22 +32,13 @@ item_if-other g h o has apart = grind (arith, common_steps)
 
 item_if-found : {T : Type 0} (g : ℕ) (o : Option (ℕ × T)) → IsSome (item_if g o) → (x : T) × (o ≡ Some (g, x))
 item_if-found g None there = absurd (cc)
-item_if-found g (Some e) there = elim (eqb_tells e.0 g) [
-  | inl h ↦ (e.1, ap (λ k. Some (k, e.1)) h.1)
-  | inr h ↦ absurd (let none = rw h.0 at there in cc)
-]
-
-same-pointer : (p q : ℕ × ℕ) → q.0 ≡ p.0 → q.1 ≡ p.1 → q ≡ p
-same-pointer p q index generation = ap (λ i. (i, q.1)) index ∙ ap (λ g. (p.0, g)) generation
+item_if-found g (Some e) there = (e.1, ap (λ k. Some (k, e.1)) (grind (arith, common_steps)))
 
 module _ {T : Type 0} where
-  -- a pointer finds nothing at an index that has no entry
-  item_of-absent : (a : Tree T) (p : ℕ × ℕ) → entry_at a p.0 ≡ None → item_of a p ≡ None
-  item_of-absent a p none = rw none refl
-
   -- where the entry at its index, if any, has the generation of one pointer, another finds nothing there
   item_of-other : (a : Tree T) (p q : ℕ × ℕ) → IfSome (entry_at a p.0) (λ e. e.0 ≡ p.1) → q.0 ≡ p.0 → q ≢ p → item_of a q ≡ None
-  item_of-other a p q has same apart = rw same (item_if-other p.1 q.1 (entry_at a p.0) has (λ era. apart (same-pointer p q same era)))
+  item_of-other a p q has same apart =
+      rw same (item_if-other p.1 q.1 (entry_at a p.0) has (λ era. apart (ap (λ i. (i, q.1)) same ∙ ap (λ g. (p.0, g)) era)))
 
   -- a change at the index of the pointer that names its entry, if any
   updates-at : (old new : Tree T) (p : ℕ × ℕ) (found : Option T) → IfSome (entry_at old p.0) (λ e. e.0 ≡ p.1)
@@ -60,7 +51,6 @@ module _ {T : Type 0} where
     ];
   }
 
-  -- a removal
   pub updates-removed : (greatest : Option ℕ) (old new : Tree T) (p : ℕ × ℕ) → IsDistinct old.list.entries → IsSome (item_of old p)
       → new.list ≡ removed greatest old.list p.0 → Updates old new p None
   updates-removed greatest old new p distinct there is =
@@ -73,7 +63,6 @@ module _ {T : Type 0} where
       let found = item_if-found p.1 (entry_at old p.0) there in
       rw is (length-without old.list.entries p.0 (rw found.1 refl))
 
-  -- a write in place
   pub updates-written : (a : Tree T) (p : ℕ × ℕ) (item : T) → IsSome (item_of a p) → Updates a (with_item a p.0 item) p (Some item)
   updates-written a p item there =
       let found = item_if-found p.1 (entry_at a p.0) there in
@@ -83,7 +72,6 @@ module _ {T : Type 0} where
   pub count-written : (a : Tree T) (i : ℕ) (item : T) → count (with_item a i item) ≡ count a
   count-written a i item = length-with_item_among a.list.entries i item
 
-  -- a renewal
   module _ (greatest : Option ℕ) (old : Tree T) (p : ℕ × ℕ) (there : IsSome (item_of old p)) where
     abbrev next : ℕ
     next = (renewed greatest old.list p.0).generation
@@ -116,7 +104,6 @@ module _ {T : Type 0} where
     abbrev entry : Entry T
     entry = record { index = p.0; generation = p.1; item = item }
 
-    -- the list afterwards
     listed : new.list.entries ≡ gap.front ++ entry ∷ gap.back
     listed = ap (λ (c : Chain T). c.entries) inserted.after ∙ first room.vacant inserted.next
       where
@@ -131,7 +118,7 @@ module _ {T : Type 0} where
 
     pub inserted-new : IsInserted old new item p
     inserted-new = record {
-      nothing = item_of-absent old p none_there;
+      nothing = rw none_there refl;
       updates = updates-at old new p (Some item) (rw none_there tt) (rw listed (entry_at-between gap.front entry gap.back unused))
           (λ i other. rw (listed, gap.cut) (entry_at-between_other gap.front entry gap.back i other));
       count = rw (listed, gap.cut) (length-between gap.front entry gap.back);
@@ -143,7 +130,6 @@ owed o fact = grind (arith, common_steps)
 -- what the calls return of these changes
 module _ {T : Type 0} where
   module _ (greatest : Option ℕ) (old new : Tree T) (distinct : IsDistinct old.list.entries) where
-    -- of a removal by index
     module _ {G : Type 0} (number : G → ℕ) (i : ℕ) where
       found_there : (e : G × T) → Some (number e.0, e.1) ≡ entry_at old i → IsSome (item_of old (i, number e.0))
       found_there e value = rw (← value, eq-eqb (number e.0) (number e.0) refl) refl
@@ -158,7 +144,6 @@ module _ {T : Type 0} where
       count-taken_at None value after = tt
       count-taken_at (Some e) value after = count-removed greatest old new (i, number e.0) (found_there e value) after
 
-  -- of a renewal
   module _ {P : Type 0} (numbers : P → ℕ × ℕ) (greatest : Option ℕ) (old new : Tree T) (p : ℕ × ℕ) where
     pub renews-renewed : (o : Option P) → is_some o ≡ is_some (item_of old p) → IfSome o (λ q. (numbers q).0 ≡ p.0)
         → IfSome o (λ q. (numbers q).1 ≡ next_generation greatest old.list.generation)
@@ -246,9 +231,9 @@ pub ruleset written = (found-written, others-written, count-written)
 -- what the searches by key find
 module _ {T K : Type 0} (key : T → K) (cmp : K → K → Ordering) (t : Tree T) (k : K) (distinct : IsDistinct t.list.entries) where
   module _ {P : Type 0} (numbers : P → ℕ × ℕ) where
-    finds_here : (e : Entry T) → entry_at t e.index ≡ Some (e.generation, e.item) → (p : P) → numbers p ≡ pointer e → (order : Ordering)
-        → cmp k (key e.item) ≡ order → FindsBy key cmp t k (numbers p) order
-    finds_here e there p named order lies = rw (named, there, eq-eqb e.generation e.generation refl) lies
+    finds_here : (e : Entry T) → entry_at t e.index ≡ Some (e.generation, e.item) → (p : P) → numbers p ≡ pointer e → (o : Ordering)
+        → cmp k (key e.item) ≡ o → FindsBy key cmp t k (numbers p) o
+    finds_here e there p named o lies = rw (named, there, eq-eqb e.generation e.generation refl) lies
 
     pub finds-similar : (o : Option (P × Ordering)) (c : ℕ)
         → FindsSimilar key cmp t.list.entries k (option_map (λ a. (numbers a.0, a.1)) o) c
@@ -268,7 +253,7 @@ module _ {T : Type 0} (a : Tree T) (g : ℕ) where
   ended-of same p apart = go (entry_at a p.0) refl
     where
       go : (o : Option (ℕ × T)) → entry_at a p.0 ≡ o → item_of a p ≡ None
-      go None is = item_of-absent a p is
+      go None is = rw is refl
       go (Some e) is = rw is (item_if-other g p.1 (Some e) (same p.0 e is) apart)
 
   pub ended-moved : (all es : List (Entry T)) (xs : List T) → a.list.entries ≡ map (moved all g xs) es → IsOfGeneration a g
@@ -280,7 +265,7 @@ module _ {T : Type 0} (a : Tree T) (g : ℕ) where
   pub found-numbered : (xs : List T) → a.list.entries ≡ numbered g 1 xs → IsNumbered a g xs
   found-numbered xs is = record {
     inside = λ k. let later : k + 1 ≡ 1 + k = omega arith in rw (is, later, entry_at-numbered g 1 xs k) (item_if-own g (slice_get xs k));
-    outside = λ k. item_of-absent a (0, k) (rw is (entry_at-numbered_before g 1 xs 0 (omega arith)));
+    outside = λ k. rw (is, entry_at-numbered_before g 1 xs 0 (omega arith)) refl;
     ended = ended-of (λ i e found. generation-numbered g 1 xs i e (ap (λ (es : List (Entry T)). entry_among es i) (sym is) ∙ found));
   }
 
@@ -308,7 +293,7 @@ module _ {P Q T U F : Type 0} (numbers_from : Q → ℕ × ℕ) (numbers_to : P 
         omega (arith, items, length-map new.list.entries (λ e. e.item), items-counted source.list.entries (record { closure = f; items = []; generation = source.list.generation }) h.last h.calls)
 
     pub emptied-transferred : FindsNothing left
-    emptied-transferred p = item_of-absent left p (ap (λ (c : Chain U). entry_among c.entries p.0) h.left)
+    emptied-transferred p = ap (λ (c : Chain U). item_if p.1 (entry_among c.entries p.0)) h.left
 
 -- A clone of an ordered arena whose calls each give the item that they are shown.
 module _ {P T F : Type 0} (numbers : P → ℕ × ℕ) (step : F → P → Bor T → Result T AllocError → F → Type 0)

@@ -7,18 +7,17 @@ use Rattle.chain_base.specs.Compression.{compressed as chain_compressed, IsCompr
 use Rattle.triple_ord.proofs.Bare.{link_generation-under, capacity-under, option_map-twice}
 use Rattle.triple_ord.proofs.Words.{◌≡◌, ℕ, zero, suc, ◌+◌, ◌-◌, ◌<◌, ◌≤◌, ◌↔◌, Option, Some, None, Result, Ok, Err, List, [], ◌∷◌, ◌++◌}
 use Rattle.triple_ord.proofs.Words.{length, map, get_or, take, drop, reverse, replicate, slice_get, is_some, Bool, true, false, max, IsSome}
-use Rattle.triple_ord.proofs.Words.{refl, sym, ap, subst, ◌∙◌, add-one, arith, inl, inr, option_map, FoldsTo, eqb_tells, leb_tells}
-use Rattle.triple_ord.proofs.Words.{false≢true, same_lists, get_or_default, length-append, take-map, drop-map, slice_get_past, Arena}
-use Rattle.triple_ord.proofs.Words.{HoldsSame, slot, item_if, greatest_occupied, with_capacity, resized, IsFirstEntry, IsLastEntry}
-use Rattle.triple_ord.proofs.Words.{arena_len, Walk, pointers_from, entries_from, walk_rest, WalkSteps, Entry, Chain, entry_at, times}
-use Rattle.triple_ord.proofs.Words.{IsSound, greatest_index, IsFirstIndex, IsLastIndex, IsArenaOf, entry_before, rising_among}
-use Rattle.triple_ord.proofs.Words.{entries_rising, moved, entry_at-absent, length-entries, compressed-at, compressed-length}
-use Rattle.triple_ord.proofs.Words.{entry_at-compressed, occurs-entry, below-greatest, greatest-or_none, times-greatest}
-use Rattle.triple_ord.proofs.Words.{below-greatest_index, Link, SimpleOrdArenaNode, Tree, IsChainOf, slots_from, content_of, slot_is}
-use Rattle.triple_ord.proofs.Words.{item_is, len_is, length-slots, slots-within, slots-beyond, outside, set, take-set-le, drop-set-lt}
-use Rattle.triple_ord.proofs.Words.{pointers, walk_from, removed, FindsNothing, content_removed, ◌≢◌, ◌⊎◌, cases_eq, drop_more, drop_all}
-use Rattle.triple_ord.proofs.Words.{common_steps, append_assoc, FoldsTo-push, entry_at-with_item_among, entry_at-with_item_among_other}
-use Rattle.triple_ord.proofs.Words.{with_item}
+use Rattle.triple_ord.proofs.Words.{refl, sym, ap, subst, ◌∙◌, add-one, arith, option_map, FoldsTo, false≢true, same_lists, get_or_default}
+use Rattle.triple_ord.proofs.Words.{length-append, take-map, drop-map, slice_get_past, Arena, HoldsSame, slot, item_if, greatest_occupied}
+use Rattle.triple_ord.proofs.Words.{with_capacity, resized, IsFirstEntry, IsLastEntry, arena_len, Walk, pointers_from, entries_from}
+use Rattle.triple_ord.proofs.Words.{walk_rest, WalkSteps, Entry, Chain, entry_at, times, IsSound, greatest_index, IsFirstIndex, IsLastIndex}
+use Rattle.triple_ord.proofs.Words.{IsArenaOf, entry_before, rising_among, entries_rising, moved, entry_at-absent, length-entries}
+use Rattle.triple_ord.proofs.Words.{compressed-at, compressed-length, entry_at-compressed, occurs-entry, below-greatest, greatest-or_none}
+use Rattle.triple_ord.proofs.Words.{times-greatest, below-greatest_index, Link, SimpleOrdArenaNode, Tree, IsChainOf, slots_from, content_of}
+use Rattle.triple_ord.proofs.Words.{slot_is, item_is, len_is, length-slots, slots-within, slots-beyond, outside, set, take-set-le}
+use Rattle.triple_ord.proofs.Words.{drop-set-lt, pointers, walk_from, removed, FindsNothing, content_removed, ◌≢◌, cases_eq, drop_more}
+use Rattle.triple_ord.proofs.Words.{drop_all, common_steps, append_assoc, FoldsTo-push, entry_at-with_item_among}
+use Rattle.triple_ord.proofs.Words.{entry_at-with_item_among_other, with_item}
 use Rattle.triple_ord.specs.{Recasting.RecastsItem, Recasting.RecastsNext, Recasting.RecastsItems, SlotWalk.SlotWalkSteps}
 
 -- slots that are as many and show the same are the same
@@ -26,7 +25,6 @@ same-slots : {X : Type 0} (xs ys : List (Option X)) → length xs ≡ length ys 
 same-slots xs ys long same =
     same_lists xs ys long (λ k d within. get_or_default xs k d None within ∙ (same k ∙ get_or_default ys k None d (omega (arith, within, long))))
 
--- what is shown to be there is there
 some-shown : {X : Type 0} (o : Option X) → is_some o ≡ true → (x : X) × (o ≡ Some x)
 some-shown None h = absurd (false≢true h)
 some-shown (Some x) h = (x, refl)
@@ -58,7 +56,6 @@ module _ {T : Type 0} where
   resized-slots : (n : ℕ) (xs : List (Option (ℕ × T))) → resized (n + 1) (None ∷ xs) ≡ None ∷ (take n xs ++ replicate (n - length xs) None)
   resized-slots n xs = let less : suc n - suc (length xs) ≡ n - length xs = omega arith in rw (add-one, less) refl
 
-  -- another capacity
   abbrev pub NoneBeyond : Tree T → Type 0
   NoneBeyond t = (k : ℕ) → 1 + t.list.capacity ≤ k → entry_at t.list.entries k ≡ None
 
@@ -151,18 +148,18 @@ module _ {P T F : Type 0} (numbers : P → ℕ × ℕ) (step : F → P → T →
   items-counted [] s t same = omega (arith, ap (λ (s : F × List T). length s.1) same)
   items-counted (e ∷ es) s t calls = omega (arith, items-counted es calls.0 t calls.2, ap length calls.1.behind, length-append s.1 (calls.1.item ∷ []))
 
-  pub content-compression : (most : ℕ) (greatest : Option ℕ) (t u : Tree T) (f : F) → IsSound most greatest t.list
-      → IsChainCompression numbers step g f t.list u.list → IsCompression numbers step g f (content_of t) (content_of u)
-  content-compression most greatest t u f sound is =
-      let rising : arena_rising (content_of t) 0 ≡ entries_rising t.list = rising-is t.list.entries 1 t.list.capacity in
-      let many : length (arena_rising (content_of t) 0) ≡ length t.list.entries = length-entries 0 (content_of t).slots ∙ len_is most greatest t sound in
-      let calls : FoldsTo (CompressionStep numbers step g) (f, []) (arena_rising (content_of t) 0) (is.last, is.items) = rw rising is.calls in
-      record {
-        items = is.items;
-        last = is.last;
-        calls = calls;
-        after = content-compressed most greatest t sound u g is.items (omega (arith, items-counted (arena_rising (content_of t) 0) (f, []) (is.last, is.items) calls, many)) is.after;
-      }
+  module _ (most : ℕ) (greatest : Option ℕ) (t u : Tree T) (f : F) (sound : IsSound most greatest t.list) where
+    pub content-compression : IsChainCompression numbers step g f t.list u.list → IsCompression numbers step g f (content_of t) (content_of u)
+    content-compression is =
+        let rising : arena_rising (content_of t) 0 ≡ entries_rising t.list = rising-is t.list.entries 1 t.list.capacity in
+        let many : length (arena_rising (content_of t) 0) ≡ length t.list.entries = length-entries 0 (content_of t).slots ∙ len_is most greatest t sound in
+        let calls : FoldsTo (CompressionStep numbers step g) (f, []) (arena_rising (content_of t) 0) (is.last, is.items) = rw rising is.calls in
+        record {
+          items = is.items;
+          last = is.last;
+          calls = calls;
+          after = content-compressed most greatest t sound u g is.items (omega (arith, items-counted (arena_rising (content_of t) 0) (f, []) (is.last, is.items) calls, many)) is.after;
+        }
 
 -- What a walk by index gives hangs on the generations at the indexes alone.
 module _ {X Y : Type 0} where
@@ -192,19 +189,18 @@ module _ {X Y : Type 0} where
   there-alike g x y alike some = grind (arith, common_steps)
 
   -- a step over the one is a step over the other
-  steps-alike : {P : Type 0} (numbers : P → ℕ × ℕ) (a : Arena X) (b : Arena Y) → ((w : Walk) → walk_rest w a ≡ walk_rest w b)
-      → ((p : ℕ × ℕ) → IsSome (item_of a p) → IsSome (item_of b p))
-      → (old new : Walk) (r : Option P) → WalkSteps numbers old a r new → WalkSteps numbers old b r new
-  steps-alike numbers a b same there old new None step = record { none_left = sym (same old) ∙ step.none_left; stays = step.stays }
-  steps-alike numbers a b same there old new (Some p) step =
-      record { there = there (numbers p) step.there; first = sym (same old) ∙ (step.first ∙ ap (λ rest. (numbers p) ∷ rest) (same new)); stands = step.stands }
+  module _ {P : Type 0} (numbers : P → ℕ × ℕ) (a : Arena X) (b : Arena Y) (same : (w : Walk) → walk_rest w a ≡ walk_rest w b)
+      (there : (p : ℕ × ℕ) → IsSome (item_of a p) → IsSome (item_of b p)) where
+    steps-alike : (old new : Walk) (r : Option P) → WalkSteps numbers old a r new → WalkSteps numbers old b r new
+    steps-alike old new None step = record { none_left = sym (same old) ∙ step.none_left; stays = step.stays }
+    steps-alike old new (Some p) step =
+        record { there = there (numbers p) step.there; first = sym (same old) ∙ (step.first ∙ ap (λ rest. (numbers p) ∷ rest) (same new)); stands = step.stands }
 
 -- A walk over the arena under the chain under a tree is one over the tree's entries.
-module _ {P T I G : Type 0} (most : ℕ) (greatest : Option ℕ) (t : Tree T) (sound : IsSound most greatest t.list) where
-  pub steps-under : {Q : Type 0} (numbers : Q → ℕ × ℕ) (c : Chain (SimpleOrdArenaNode P T I G)) (a : Arena (Link (SimpleOrdArenaNode P T I G)))
-      → IsChainOf t c → IsArenaOf c a → take 1 a.slots ≡ None ∷ []
-      → (old new : Walk) (r : Option Q) → WalkSteps numbers old a r new → SlotWalkSteps numbers old t r new
-  steps-under {Q = Q} numbers c a under laid begins old new r step =
+module _ {P T I G Q : Type 0} (most : ℕ) (greatest : Option ℕ) (t : Tree T) (sound : IsSound most greatest t.list) (numbers : Q → ℕ × ℕ)
+    (c : Chain (SimpleOrdArenaNode P T I G)) (a : Arena (Link (SimpleOrdArenaNode P T I G))) (under : IsChainOf t c) (laid : IsArenaOf c a) where
+  pub steps-under : take 1 a.slots ≡ None ∷ [] → (old new : Walk) (r : Option Q) → WalkSteps numbers old a r new → SlotWalkSteps numbers old t r new
+  steps-under begins old new r step =
       told r (steps-alike numbers a (content_of t) (rest-alike a (content_of t) (alike-by_index a.slots (content_of t).slots long same)) there old new r step)
     where
       long : length a.slots ≡ length (content_of t).slots
@@ -265,7 +261,6 @@ module _ {T : Type 0} where
     pub whole-removed : (g : ℕ) (before after : List (ℕ × ℕ)) → before ≡ (i, g) ∷ after → before ≡ pointers (content_of t) → after ≡ pointers (content_of u)
     whole-removed g before after first whole = sym (ap (pointers_from 0) slots-removed ∙ others-left 0 i i g (content_of t).slots after (omega arith) (sym whole ∙ first))
 
--- How far a recast has come.
 -- what is shown to be missing is
 pub vacant_of : {X : Type 0} (o : Option X) → is_some o ≡ false → o ≡ None
 vacant_of o is = grind (arith, common_steps)

@@ -2,9 +2,9 @@
 use Rattle.std.proofs.{Common.Contains, Math.Pow.pow_mono}
 use Rattle.ord_tree.specs.Laws.{HeightLaw, RankSquareLaw, TightRankLaw, RebuiltHeightLaw}
 use Rattle.triple_ord.proofs.Inserting.{last_or-append, no_first, no_last, entry_at-here}
-use Rattle.triple_ord.proofs.Words.{◌≡◌, ◌≢◌, ℕ, true, false, ◌+◌, ◌-◌, ◌≤◌, List, [], ◌∷◌, ◌++◌, Option, Some, None, IsSome, IfSome}
-use Rattle.triple_ord.proofs.Words.{MatchOption, refl, sym, ap, subst, ◌∙◌, arith, inl, inr, max, map, length, append_assoc, FoldsTo-push}
-use Rattle.triple_ord.proofs.Words.{append-nil, length_push, map_push, All-nil, All-cons, All-head, All-tail, All-push}
+use Rattle.triple_ord.proofs.Words.{length-append, ◌≡◌, ◌≢◌, ℕ, true, false, ◌+◌, ◌-◌, ◌≤◌, List, [], ◌∷◌, ◌++◌, Option, Some, None, IsSome}
+use Rattle.triple_ord.proofs.Words.{IfSome, MatchOption, refl, sym, ap, subst, ◌∙◌, arith, inl, inr, max, map, length, append_assoc}
+use Rattle.triple_ord.proofs.Words.{FoldsTo-push, append-nil, length_push, map_push, All-nil, All-cons, All-head, All-tail, All-push}
 use Rattle.triple_ord.proofs.Words.{Contains-append_left, Contains-append_right, Contains-push, IfSome_then, All, FoldsTo, option_map}
 use Rattle.triple_ord.proofs.Words.{is_eq, ordering_then, Ordering, Less, Equal, Greater, Entry, times, IsDistinct, entry_at, times-append}
 use Rattle.triple_ord.proofs.Words.{Shape, missing, node, root_of, walk, height, Tree, Gap, first_of, last_or, order_to, pointer, StopsAt}
@@ -54,8 +54,7 @@ module _ {T : Type 0} where
     pub high_is : map (λ e. e.index) back ≡ high
 
   cut_at : (es : List (Entry T)) (low : List ℕ) (i : ℕ) (high : List ℕ) → map (λ e. e.index) es ≡ low ++ i ∷ high → IsCutAt es low i high
-  cut_at [] [] i high same = absurd (cc)
-  cut_at [] (j ∷ low) i high same = absurd (cc)
+  cut_at [] low i high same = absurd (omega (arith, ap length same, length-append low (i ∷ high)))
   cut_at (e ∷ es) [] i high same = record { front = []; entry = e; back = es; cut = refl; low_is = refl; here = cc; high_is = cc }
   cut_at (e ∷ es) (j ∷ low) i high same =
       let rest = cut_at es low i high (cc) in
@@ -308,12 +307,11 @@ where_equal-map f found = grind (arith, common_steps)
 
 -- what a search for a similar entry says of one for an equal one
 module _ {P T F : Type 0} (numbers : P → ℕ × ℕ) (asks : F → Shown T → F → Type 0) (es : List (Entry T)) (f g : F) (c : ℕ) where
-  pub finds_with-similar : (found : Option (P × Ordering)) → FindsSimilarWith asks es f g (option_map (λ a. (numbers a.0, a.1)) found) c
-      → FindsWith asks es f g (option_map numbers (where_equal found)) c
-  finds_with-similar found search =
-      (search.0, search.1, sym (where_equal-map numbers found) ∙ ap where_equal search.2 ∙ where_equal-map pointer search.0)
+  pub finds_with-similar : (o : Option (P × Ordering)) → FindsSimilarWith asks es f g (option_map (λ a. (numbers a.0, a.1)) o) c
+      → FindsWith asks es f g (option_map numbers (where_equal o)) c
+  finds_with-similar o search =
+      (search.0, search.1, sym (where_equal-map numbers o) ∙ ap where_equal search.2 ∙ where_equal-map pointer search.0)
 
--- A descent by a key: how it begins, one step, and its end at the gap before the first of a group, or at one that fits.
 -- a key's order to an entry, by the way down from there
 greater_of : (o : Ordering) → Greater ≡ ordering_then o Less → o ≡ Greater
 greater_of o turn = grind (arith, common_steps)
@@ -322,7 +320,6 @@ greater_of o turn = grind (arith, common_steps)
 pub unmet : {X : Type 0} (x : X) (o : Ordering) → is_eq o ≡ false → met_next None x o ≡ None
 unmet x o test = grind (arith, common_steps)
 
--- the same of its pointer
 pub met_next-map : {X Y : Type 0} (f : X → Y) (met : Option X) (x : X) (o : Ordering) → option_map f (met_next met x o) ≡ met_next (option_map f met) (f x) o
 met_next-map f met x o = grind (arith, common_steps)
 
@@ -424,8 +421,6 @@ module _ {T K : Type 0} (key : T → K) (cmp : K → K → Ordering) (t : Tree T
         go None none = rw (d.last_is, none) (descent-empty t.list.entries t.shape d.shown d.descending None none)
         go (Some s) some = rw (d.last_is, some) (s.0, refl, inr (end, stops, rw some at d.descending.last_beside))
 
--- A search that goes down once stays within the bounds on its visits.
--- the Fibonacci numbers don't fall
 fib-step : (n : ℕ) → fib n ≤ fib (suc n)
 fib-step (suc (suc n)) = omega arith
 fib-step n = omega arith

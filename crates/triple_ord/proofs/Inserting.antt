@@ -6,7 +6,7 @@ use Rattle.triple_ord.proofs.Words.{eqb_tells, common_steps, option_map, Link, E
 use Rattle.triple_ord.proofs.Words.{link_at, from_index, insert_after, insert_before, with_item_among, times-append, entry_at-between}
 use Rattle.triple_ord.proofs.Words.{first_of, last_or, position_of, ◌≢◌, true, false, ◌+◌, ◌-◌, ◌≤◌, sym, ◌∙◌, ◌⊎◌, append_assoc, is_eq}
 use Rattle.triple_ord.proofs.Words.{Ordering, Less, Equal, Greater, Gap, order_to, IsFirstEqual, StopsAt, IsBeside, FindsKey, FindsSimilar}
-use Rattle.triple_ord.proofs.Words.{where_equal, Chain, IsInsertion, put_on, before, after, present, with_between}
+use Rattle.triple_ord.proofs.Words.{where_equal, Chain, IsInsertion, put_on, before, after, with_between}
 
 module _ {X : Type 0} where
   -- the last of a list that goes on
@@ -68,8 +68,8 @@ module _ {T : Type 0} where
   put_after new [] e back none = grind (arith, common_steps)
   put_after new (f ∷ front) e back none = grind (arith, common_steps, put_after new front e back)
 
-  put_instead : (item : T) (front : List (Entry T)) (e : Entry T) (back : List (Entry T)) → times e.index front ≡ 0
-      → with_item_among (front ++ e ∷ back) e.index item ≡ front ++ record e { item = item } ∷ back
+  put_instead : (x : T) (front : List (Entry T)) (e : Entry T) (back : List (Entry T)) → times e.index front ≡ 0
+      → with_item_among (front ++ e ∷ back) e.index x ≡ front ++ record e { item = x } ∷ back
   put_instead item [] e back none = grind (arith, common_steps)
   put_instead item (f ∷ front) e back none = grind (arith, common_steps, put_instead item front e back)
 
@@ -130,7 +130,6 @@ module _ {T : Type 0} where
         let read : entry_link (last_or None front) e (first_of back) ≡ (g, l) = cc in
         record { generation = ap (λ x. x.0) read; item = ap (λ x. x.1.item) read; prev = ap (λ x. x.1.prev) read; next = ap (λ x. x.1.next) read }
 
--- the answer, by its test
 pub equal_by : (o : Ordering) → is_eq o ≡ true → o ≡ Equal
 equal_by o test = grind (arith, common_steps)
 
@@ -164,7 +163,6 @@ module _ {T K : Type 0} (key : T → K) (cmp : K → K → Ordering) (es : List 
       let beside = stop-of_other found.0 found.2 (λ same. let is : o ≡ Equal = ap (λ a. a.1) found.1 ∙ same in cc) in
       (beside.0, beside.1)
 
--- Where an insertion by key puts its entry: from what the search answers to the gap in the list.
 -- the entry behind a gap, and the one before it, are found by their indexes, and a new entry beside them goes into the gap
 module _ {T : Type 0} (es : List (Entry T)) (e : Entry T) (distinct : IsDistinct es) (gap : Gap es) where
   cut-after : (back : List (Entry T)) → gap.back ≡ e ∷ back → es ≡ gap.front ++ e ∷ back
@@ -189,11 +187,10 @@ module _ {T : Type 0} (es : List (Entry T)) (e : Entry T) (distinct : IsDistinct
   puts-after here = let front = ends gap.front e here in puts-behind front.0 front.1
 
 -- an insertion by another word for the same place
-pub IsInsertion-same : {T : Type 0} (c d : Chain T) (place other : Entry T → List (Entry T)) (item : T) (i g : ℕ)
-    → ((new : Entry T) → place new ≡ other new) → IsInsertion c d place item i g → IsInsertion c d other item i g
-IsInsertion-same c d place other item i g same ins = rw (fun_ext same) at ins
+module _ {T : Type 0} (c d : Chain T) (place other : Entry T → List (Entry T)) (item : T) (i g : ℕ) (same : (new : Entry T) → place new ≡ other new) where
+  pub IsInsertion-same : IsInsertion c d place item i g → IsInsertion c d other item i g
+  IsInsertion-same ins = rw (fun_ext same) at ins
 
--- a comparison whose test for equality failed
 pub not_equal : (o : Ordering) → is_eq o ≡ false → o ≢ Equal
 not_equal o test same = let yes : is_eq o ≡ true = ap is_eq same in cc
 

@@ -1,5 +1,5 @@
 -- An insertion by a key leaves a list in the order of its keys so.
-use Rattle.triple_ord.proofs.Words.{◌≡◌, ◌≢◌, ℕ, List, [], ◌∷◌, ◌++◌, Option, Some, None, IfSome, Result, Ok, Err, refl, sym, ap, subst, ◌∙◌, inl, inr, slice_get, IfSome_then}
+use Rattle.triple_ord.proofs.Words.{arith, ◌≡◌, ◌≢◌, ℕ, List, [], ◌∷◌, ◌++◌, Option, Some, None, IfSome, Result, Ok, Err, refl, sym, ap, subst, ◌∙◌, inl, inr, slice_get, IfSome_then}
 use Rattle.triple_ord.proofs.Words.{IsTotalOrder, alike_right, ordering_reverse, Ordering, Less, Equal, Greater, Entry, Chain, IsDistinct, inserted_at, with_item_among, IsInsertion, Tree}
 use Rattle.triple_ord.proofs.Words.{Gap, first_of, last_or, before, after, with_between, IsFirstEqual, IsInOrder, Aim, into, over, LiesBehind, IsPlace, InsertsBy, GoesBy, KeptOrderLaw}
 use Rattle.triple_ord.proofs.Words.{OrdEntryKind, New, Replacing, OrdInsertionError}
@@ -51,9 +51,7 @@ module _ {T K : Type 0} (key : T → K) (cmp : K → K → Ordering) (total : Is
     behind l most more = most ((total.antisymm k l) ∙ ap ordering_reverse (alike_right total k (key item) l equal ∙ more))
 
     ahead : (l : K) → cmp k l ≡ Less → cmp (key item) l ≢ Greater
-    ahead l less more =
-        let is : cmp k l ≡ Greater = total.congr k (key item) l equal ∙ more in
-        absurd (cc)
+    ahead l less more = grind (arith, total.congr k (key item) l equal)
 
     module _ (entries : List (Entry T)) (sorted : IsInOrder key cmp entries) where
       -- the place of an insertion by k

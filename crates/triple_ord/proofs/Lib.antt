@@ -6,6 +6,5 @@ pub mod Descending
 pub mod Stepping
 pub mod Bare
 pub mod Content
-pub mod Walking
 pub mod CallerLemmas
 pub mod Places

@@ -1,15 +1,14 @@
 -- The order of keys, lists in it, and lists in the order of a closure's answers: what searches and insertions by key make of them.
 use Rattle.ord_tree.specs.Half.{IsHalf, half_rank}
 use Rattle.triple_ord.proofs.Inserting.{begins}
-use Rattle.triple_ord.proofs.Words.{◌≡◌, ◌≢◌, refl, ordering_then, Ordering, Less, Equal, Greater, taken, Ties, Sought, Passed, ◌↔◌, true}
-use Rattle.triple_ord.proofs.Words.{false, ◌<◌, ◌≤◌, List, [], ◌∷◌, ◌++◌, IfSome, None, length, sym, ap, subst, ◌∙◌, arith, inl, inr}
-use Rattle.triple_ord.proofs.Words.{length-append, leb_tells, AllByRecursion, IsTotalOrder, alike_right, ordering_reverse, is_gt, Entry}
-use Rattle.triple_ord.proofs.Words.{Gap, first_of, last_or, order_to, Fits, IsInOrder, ℕ, Some, ◌/◌, ◌-◌, cases_order, Contains}
-use Rattle.triple_ord.proofs.Words.{All-from_recursion, All-contains, Contains-append_cases, Contains-append_right, IsTop, Shape, missing}
-use Rattle.triple_ord.proofs.Words.{node, size_of, IsFirstEqual, IsAbsent, AbsentKeyLaw, IsPlaceOf, BesidePlaceLaw, ranks_of, SameRanksLaw}
-use Rattle.triple_ord.proofs.Words.{Option, append_assoc, recursion_from_All, All-append, All-weaker, IfSome_then, FoldsTo, option_map}
-use Rattle.triple_ord.proofs.Words.{common_steps, before, after, pointer, Shown, where_equal, FindsWith, AreAnsweredInOrder}
-use Rattle.triple_ord.proofs.Words.{AnsweredInOrderLaw}
+use Rattle.triple_ord.proofs.Words.{◌≡◌, ◌≢◌, refl, Ordering, Less, Equal, Greater, taken, Ties, Sought, Passed, ◌↔◌, true, false, ◌<◌, ◌≤◌}
+use Rattle.triple_ord.proofs.Words.{List, [], ◌∷◌, ◌++◌, IfSome, None, length, sym, ap, subst, ◌∙◌, arith, inl, inr, length-append}
+use Rattle.triple_ord.proofs.Words.{AllByRecursion, IsTotalOrder, alike_right, ordering_reverse, is_gt, Entry, Gap, first_of, last_or}
+use Rattle.triple_ord.proofs.Words.{order_to, Fits, IsInOrder, ℕ, Some, ◌/◌, ◌-◌, cases_order, Contains, All-from_recursion, All-contains}
+use Rattle.triple_ord.proofs.Words.{Contains-append_cases, Contains-append_right, IsTop, Shape, missing, node, size_of, IsFirstEqual}
+use Rattle.triple_ord.proofs.Words.{IsAbsent, AbsentKeyLaw, IsPlaceOf, BesidePlaceLaw, ranks_of, SameRanksLaw, Option, append_assoc}
+use Rattle.triple_ord.proofs.Words.{recursion_from_All, All-append, All-weaker, IfSome_then, FoldsTo, option_map, common_steps, before}
+use Rattle.triple_ord.proofs.Words.{after, pointer, Shown, where_equal, FindsWith, AreAnsweredInOrder, AnsweredInOrderLaw}
 
 module _ {K : Type 0} (cmp : K → K → Ordering) (k other : K) where
   pub taken-less : (ties : Ties) → taken ties cmp k other ≡ Less → cmp k other ≡ Less
@@ -27,7 +26,6 @@ module _ {K : Type 0} (cmp : K → K → Ordering) (k other : K) where
   taken-equal Sought equal = equal
   taken-equal Passed equal = absurd (passed-unequal equal)
 
--- A list in the order of its keys, with a gap that fits a key: the key is greater than all before the gap, and less than all after it.
 -- what stands at a place of the front, and of the back, of a list that is cut in two
 module _ {X : Type 0} (P : X → Type 0) where
   in_front : (low high front back : List X) (x : X) → low ++ high ≡ front ++ x ∷ back → AllByRecursion P low → length front < length low → P x
@@ -137,7 +135,6 @@ module _ {T K : Type 0} (key : T → K) (cmp : K → K → Ordering) where
       let has = Contains-append_right met.gap.front (e ∷ back.0) e (0, omega arith, refl) in
       absent e (subst (λ es. Contains es e) (sym (met.gap.cut ∙ ap (λ ys. met.gap.front ++ ys) back.1)) has) met.equal
 
--- what follows of each element
 pub recursion-map : {X : Type 0} (P Q : X → Type 0) → ((x : X) → P x → Q x) → (xs : List X) → AllByRecursion P xs → AllByRecursion Q xs
 recursion-map P Q follows [] all = tt
 recursion-map P Q follows (x ∷ xs) all = (follows x all.0, recursion-map P Q follows xs all.1)
@@ -175,7 +172,6 @@ same_top n m p q same a b = elim (cases_order a.0 b.0) [
 pub same_ranks : SameRanksLaw
 same_ranks s t a b same = same_half s t b.0 (subst (λ q. IsHalf q s) (same_top (size_of s) (size_of t) a.0 b.0 same a.1 b.1) a.2) b.2 same
 
--- A search by a closure whose answers lie in order along the list.
 -- what is true of each is true of the last
 last_holds : {X : Type 0} (P : X → Type 0) (other : Option X) (xs : List X) → IfSome other P → AllByRecursion P xs → IfSome (last_or other xs) P
 last_holds P other [] is all = is

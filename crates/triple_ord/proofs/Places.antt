@@ -110,26 +110,22 @@ module _ {P T K : Type 0} (numbers : P → ℕ × ℕ) (key : T → K) (cmp : K 
   -- alone, where there is no entry
   pub alone-here : (length t.list.entries == 0) ≡ true → IsPlaceBeside numbers key cmp t alone (Some (New None))
   alone-here test =
-      let none : length t.list.entries ≡ 0 = grind (arith, nat_tests) in
-      let is = nil_from_length t.list.entries none in
-      (into (record { front = []; back = []; cut = is }), is, (none, λ new. ap (λ xs. new ∷ xs) is))
+      let is = nil_from_length t.list.entries (grind (arith, nat_tests)) in
+      (into (record { front = []; back = []; cut = is }), is, (ap length is, λ new. ap (λ xs. new ∷ xs) is))
 
   pub alone-refused : (length t.list.entries == 0) ≡ false → IsPlaceBeside numbers key cmp t alone None
   alone-refused test empty = absurd (let n : length t.list.entries ≡ 0 = ap length empty in grind (arith, nat_tests))
 
 -- a place beside an entry, or alone, is a gap
 module _ {P T : Type 0} (numbers : P → ℕ × ℕ) (t : Tree T) (distinct : IsDistinct t.list.entries) where
-  pub record PutsInto (put : Entry T → List (Entry T)) : Type 0 where
-    pub gap : Gap t.list.entries
-    pub puts : (new : Entry T) → put new ≡ with_between gap new
-
-  pub put-gap : (at : Option (P × Ordering)) → HasRoomAt numbers at t.list → PutsInto (put_at (λ p. (numbers p).0) at t.list.entries)
+  pub put-gap : (at : Option (P × Ordering)) → HasRoomAt numbers at t.list
+      → (gap : Gap t.list.entries) × ((new : Entry T) → put_at (λ p. (numbers p).0) at t.list.entries new ≡ with_between gap new)
   put-gap None none =
       let empty = nil_from_length t.list.entries none in
-      record { gap = record { front = []; back = []; cut = empty }; puts = λ new. ap (λ xs. new ∷ xs) empty }
+      (record { front = []; back = []; cut = empty }, λ new. ap (λ xs. new ∷ xs) empty)
   put-gap (Some (p, o)) can =
       let side = on-side (λ (item : T). tt {0}) (λ k l. Equal) t.list.entries distinct (numbers p).0 can.0 o can.1 in
-      record { gap = side.gap; puts = side.puts }
+      (side.gap, side.puts)
 
 -- an insertion gives the pointer that was next
 module _ {T : Type 0} (c d : Chain T) (put : Entry T → List (Entry T)) (item : T) (i g j h : ℕ) (next : next_index c ≡ Some j) (era : h ≡ c.generation) where

@@ -1,9 +1,9 @@
 -- The words of std and of the definitions that the proofs of this crate speak with.
 pub use Rattle.std.proofs.Common.{◌≡◌, ◌≢◌, ◌↔◌, ℕ, inl, inr, List, [], ◌∷◌, ◌++◌, Option, Some, None, IfSome, refl, sym, ap, subst, ◌∙◌}
 pub use Rattle.std.proofs.Common.{append_assoc, length, IsSome, is_some, ◌⊎◌, map, zero, suc, ◌+◌, ◌-◌, ◌^◌, ◌<◌, ◌≤◌, arith, true, false}
-pub use Rattle.std.proofs.Common.{Bool, slice_get, length-append, IfNone, OnSome, Ok, if◌then◌else◌, Result, Err, OnOk, Bor, get_or, take}
-pub use Rattle.std.proofs.Common.{drop, reverse, replicate, max, add-one, MatchOption, set, ◌/◌, ◌==◌, IfErr, not, rules, of_calls}
-pub use Rattle.std.proofs.lemmas.Bool.{eq-eqb, ne_eqb, cases_eq, false≢true, cases_order, cases_lt}
+pub use Rattle.std.proofs.Common.{Bool, slice_get, length-append, IfNone, OnSome, Ok, if◌then◌else◌, Result, Err, Bor, get_or, take, drop}
+pub use Rattle.std.proofs.Common.{reverse, replicate, max, add-one, MatchOption, set, ◌/◌, ◌==◌, IfErr, not, rules, of_calls}
+pub use Rattle.std.proofs.lemmas.Bool.{eq-eqb, cases_eq, false≢true, cases_order, cases_lt}
 pub use Rattle.std.proofs.lemmas.Bool.Decides.{eqb_tells, nat_tests, leb_tells}
 pub use Rattle.std.proofs.lemmas.{Fn.FoldsTo-push, Grind.common_steps}
 pub use Rattle.std.proofs.lemmas.List.{length-map, nil_from_length, same_lists, get_or_default, take-map, drop-map, append-nil, length_push}
@@ -11,16 +11,16 @@ pub use Rattle.std.proofs.lemmas.List.{map_push, take-set-le, drop-set-lt, drop_
 pub use Rattle.std.proofs.lemmas.List.Elements.{recursion_from_All, All-from_recursion, All-append, All-weaker, All-contains}
 pub use Rattle.std.proofs.lemmas.List.Elements.{Contains-append_cases, All-nil, All-cons, All-head, All-tail, All-push}
 pub use Rattle.std.proofs.lemmas.List.Elements.{Contains-append_left, Contains-append_right, Contains-push}
-pub use Rattle.std.proofs.lemmas.{Option.IfSome_then, Option.slice_get_cases, Option.slice_get_past, Option.same_Some, Result.IfOk-weaker, Result.MatchResult-weaker}
+pub use Rattle.std.proofs.lemmas.Option.{IfSome_then, slice_get_cases, slice_get_past}
+pub use Rattle.std.proofs.lemmas.Result.{IfOk-weaker, MatchResult-weaker}
 pub use Rattle.std.specs.Cmp.{IsTotalOrder, alike_right, Lexicographic.slice_cmp, Lexicographic.pointwise, Lexicographic.slice_partial_cmp}
 pub use Rattle.std.specs.{List.All, List.AllByRecursion, List.Contains, List.FoldsTo, Option.option_map, Option.option_and_then}
 pub use Rattle.std.specs.Ordering.{is_eq, ordering_then, ordering_reverse, is_gt, ordering_index}
-pub use Rattle.std.specs.Result.{IsErrAnd, IfOk}
-pub use Rattle.std.specs.declared.cmp.Ordering.{Ordering, TheVariants.Less, TheVariants.Equal, TheVariants.Greater}
+pub use Rattle.std.specs.{Result.IsErrAnd, declared.cmp.Ordering.Ordering}
+pub use Rattle.std.specs.declared.cmp.Ordering.TheVariants.{Less, Equal, Greater}
 pub use Rattle.arena_base.proofs.CallerLemmas.{limit_of-below}
-pub use Rattle.arena_base.specs.Arena.{Arena, slot, item_if, limit_of, HoldsSame, greatest_occupied, with_capacity, resized, IsFirstEntry}
-pub use Rattle.arena_base.specs.Arena.{IsLastEntry, arena_len, new_arena}
-pub use Rattle.arena_base.specs.Generation.{next_generation, overflows_after}
+pub use Rattle.arena_base.specs.Arena.{Arena, slot, item_if, HoldsSame, greatest_occupied, with_capacity, resized, IsFirstEntry}
+pub use Rattle.arena_base.specs.{Arena.IsLastEntry, Arena.arena_len, Generation.next_generation, Generation.overflows_after}
 pub use Rattle.arena_base.specs.Walk.{Walk, pointers_from, entries_from, walk_rest, WalkSteps, pointers, walk_from}
 pub use Rattle.chain_base.proofs.CallerLemmas.{entry_at-link, entry_at-absent, entry_at-without_other, entry_at-without, length-without}
 pub use Rattle.chain_base.proofs.CallerLemmas.{entry_at-with_item_among_other, entry_at-with_item_among, length-with_item_among}
@@ -31,9 +31,8 @@ pub use Rattle.chain_base.proofs.CallerLemmas.{generation-relocated, clone-same,
 pub use Rattle.chain_base.proofs.CallerLemmas.{compressed-length, entry_at-compressed, occurs-entry, below-greatest, greatest-or_none}
 pub use Rattle.chain_base.proofs.CallerLemmas.{times-greatest, below-greatest_index, times-append, relocated-items}
 pub use Rattle.chain_base.specs.Chain.{Entry, Chain, entry_at, first_or, link_between, link_at, last_pointer, times, generation_at}
-pub use Rattle.chain_base.specs.Chain.{IsFirstIndex, IsLastIndex, IsArenaOf, IsSound, IsDistinct, removed, renewed, grown_capacity}
-pub use Rattle.chain_base.specs.Chain.{inserted_at, next_index, greatest_index, from_index, insert_after, insert_before, with_item_among}
-pub use Rattle.chain_base.specs.Chain.{new_chain}
+pub use Rattle.chain_base.specs.Chain.{IsFirstIndex, IsLastIndex, IsArenaOf, IsSound, IsDistinct, removed, renewed, inserted_at, next_index}
+pub use Rattle.chain_base.specs.Chain.{greatest_index, from_index, insert_after, insert_before, with_item_among, new_chain}
 pub use Rattle.chain_base.specs.Compression.{moved, at_compressed_index, numbered, Transferring, TransferStep, IsTransfer, entry_before}
 pub use Rattle.chain_base.specs.{Compression.rising_among, Compression.entries_rising, Insert.IsInsertion, Link.Link}
 pub use Rattle.ord_tree.proofs.CallerLemmas.{entry_at-bare, is_some-bare, times-bare, indexes-bare, size_of-walk, height-le-size}
@@ -41,11 +40,11 @@ pub use Rattle.ord_tree.specs.Numbers.{fib, IsTop}
 pub use Rattle.ord_tree.specs.Shape.{Shape, missing, node, root_of, walk, size_of, rank_of, height}
 pub use Rattle.ord_tree.specs.Tree.{Tree, IsChainOf, IsSoundTree, IsGrown, with_item, put_on, put_at, IsShrunk}
 pub use Rattle.ord_tree.specs.declared.node.SimpleOrdArenaNode.{SimpleOrdArenaNode}
-pub use Rattle.triple_ord.specs.Arena.{item_of, items, count, Updates, Renews, FindsBy, IsOfGeneration, IsNumbered, FindsNothing, FindSame}
+pub use Rattle.triple_ord.specs.Arena.{item_of, items, count, Updates, Renews, FindsBy, IsOfGeneration, IsNumbered, FindsNothing}
 pub use Rattle.triple_ord.specs.ClosureSearch.{Shown, where_equal, FindsWith, entries_of, but_last, IsSearch, similar_of, FindsSimilarWith}
 pub use Rattle.triple_ord.specs.{ClosureSearch.Asks, Content.slots_from, Content.content_of}
 pub use Rattle.triple_ord.specs.ContentLaws.{slot_is, item_is, len_is, length-slots, slots-within, slots-beyond, outside, content_removed}
-pub use Rattle.triple_ord.specs.ContentLaws.{lawful_is, capacity-within, capacity_is}
+pub use Rattle.triple_ord.specs.ContentLaws.{lawful_is, capacity-within}
 pub use Rattle.triple_ord.specs.Descent.{IsShown, side_of, IsDescending, HasDescended, met_next, IsCompared, HasDescendedByKey}
 pub use Rattle.triple_ord.specs.Gap.{Gap, first_of, last_or, before, after, with_between, present}
 pub use Rattle.triple_ord.specs.Hint.{position_of, IsNearHint, way_length}

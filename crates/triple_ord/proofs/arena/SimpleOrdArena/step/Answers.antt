@@ -1,4 +1,4 @@
-use Rattle.triple_ord.proofs.Walking.{gives-rising, gives-falling, rest-missing}
+use Rattle.triple_ord.proofs.Stepping.{gives-rising, gives-falling, rest-missing}
 use Rattle.triple_ord.proofs.arena.SimpleOrdArena.step.Goals as goal
 
 pub returns-then-falling : goal.returns-then-falling

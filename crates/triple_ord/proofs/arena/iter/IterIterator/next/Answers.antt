@@ -1,4 +1,4 @@
-use Rattle.triple_ord.proofs.Walking.{walk-step, walk-left, walk-goes, walk-end}
+use Rattle.triple_ord.proofs.Stepping.{walk-step, walk-left, walk-goes, walk-end}
 use Rattle.triple_ord.proofs.Words.{◌≡◌, [], Bor, arith, length, sym, ap, ◌∙◌, Link}
 use Rattle.triple_ord.proofs.arena.iter.IterIterator.next.Goals as goal
 
@@ -20,5 +20,4 @@ pub overflow_sub-self : goal.overflow_sub-self
 overflow_sub-self g c = walk-left _ _ _ _ _ (rw c.in_ok-i.was at c.self.invariant) c.in_ok-entry.ensures
 
 pub invariant_of-self : goal.invariant_of-self
-invariant_of-self g c =
-    walk-goes _ _ _ _ _ _ (rw c.in_ok-i.was at c.self.invariant) c.in_ok-entry.ensures c.next-self-inside.ensures.value
+invariant_of-self g c = walk-goes _ _ _ _ _ _ (rw c.in_ok-i.was at c.self.invariant) c.in_ok-entry.ensures c.next-self-inside.ensures.value
