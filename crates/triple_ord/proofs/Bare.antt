@@ -4,10 +4,10 @@ use Rattle.ord_tree.specs.Node.{bare_entry, links_in, slots_of, indexes}
 use Rattle.ord_tree.specs.{Parents.HasParentUnder, Slots.Slots, Slots.Holds, Slots.Among, declared.tree_links.TreeLinks.TreeLinks}
 use Rattle.triple_ord.proofs.Words.{◌≡◌, ℕ, ◌↔◌, length, List, [], ◌∷◌, ◌++◌, Option, Some, None, IsSome, IfSome, is_some, refl, sym, ap}
 use Rattle.triple_ord.proofs.Words.{subst, ◌∙◌, inl, inr, ◌⊎◌, map, length-map, nil_from_length, option_map, Arena, slot, item_if, Link}
-use Rattle.triple_ord.proofs.Words.{Entry, Chain, entry_at, first_or, link_between, link_at, last_pointer, times, generation_at}
-use Rattle.triple_ord.proofs.Words.{IsFirstIndex, IsLastIndex, IsArenaOf, SimpleOrdArenaNode, Shape, missing, node, root_of, walk, Tree}
-use Rattle.triple_ord.proofs.Words.{IsChainOf, IsSoundTree, IsPart, IsNodeIn, IsShown, entry_at-link, entry_at-bare, arith, common_steps}
-use Rattle.triple_ord.proofs.Words.{is_some-bare, times-bare, indexes-bare}
+use Rattle.triple_ord.proofs.Words.{Entry, Chain, entry_at, link_between, link_at, last_pointer, times, generation_at, IsFirstIndex}
+use Rattle.triple_ord.proofs.Words.{IsLastIndex, IsArenaOf, SimpleOrdArenaNode, Shape, missing, node, root_of, walk, Tree, IsChainOf}
+use Rattle.triple_ord.proofs.Words.{IsSoundTree, IsPart, IsNodeIn, IsShown, entry_at-link, entry_at-bare, arith, common_steps, is_some-bare}
+use Rattle.triple_ord.proofs.Words.{times-bare, indexes-bare}
 
 pub is_some-map : {A B : Type 0} (f : A → B) (o : Option A) → is_some (option_map f o) ≡ is_some o
 is_some-map f o = grind (arith, common_steps)
@@ -23,9 +23,6 @@ module _ {P T I G : Type 0} where
   last_pointer-bare (e ∷ f ∷ es) = last_pointer-bare (f ∷ es)
   last_pointer-bare es = grind (arith, common_steps)
 
-  first_or-bare : (after : Option ℕ) (es : List (Entry (SimpleOrdArenaNode P T I G))) → first_or after (map bare_entry es) ≡ first_or after es
-  first_or-bare after es = grind (arith, common_steps)
-
   generation_at-link : (es : List (Entry (SimpleOrdArenaNode P T I G))) (i : ℕ) → generation_at es i ≡ option_map (λ e. e.0) (link_at es i)
   generation_at-link es i =
       ap (option_map (λ (e : ℕ × SimpleOrdArenaNode P T I G). e.0)) (entry_at-link None None es i)
@@ -38,7 +35,7 @@ module _ {P T I G : Type 0} where
   link_between-bare : (low high : Option ℕ) (es : List (Entry (SimpleOrdArenaNode P T I G))) (i : ℕ)
       → link_between low high (map bare_entry es) i ≡ option_map bare_link (link_between low high es i)
   link_between-bare low high [] i = refl
-  link_between-bare low high (e ∷ es) i = grind (arith, common_steps, first_or-bare high es, link_between-bare (Some e.index) high es i)
+  link_between-bare low high (e ∷ es) i = grind (arith, common_steps, link_between-bare (Some e.index) high es i)
 
   -- what the chain of nodes under a tree says of the tree's list
   module _ (t : Tree T) (c : Chain (SimpleOrdArenaNode P T I G)) (under : IsChainOf t c) where
@@ -71,12 +68,13 @@ module _ {P T I G : Type 0} where
     pub link_generation-under : (i : ℕ) → option_map (λ e. e.0) (link_at c.entries i) ≡ option_map (λ e. e.0) (entry_at t.list.entries i)
     link_generation-under i = sym (generation_at-link c.entries i) ∙ generation_at-under i
 
-    -- the entries with the least and the greatest index
     pub first_index-under : (i g : ℕ) → IsFirstIndex c.entries i g → IsFirstIndex t.list.entries i g
-    first_index-under i g h = record { entry = sym (generation_at-under i) ∙ h.entry; least = λ k below. sym (times-under k) ∙ h.least k below }
+    first_index-under i g h =
+        record { entry = sym (generation_at-under i) ∙ h.entry; least = λ k below. sym (times-under k) ∙ h.least k below }
 
     pub last_index-under : (i g : ℕ) → IsLastIndex c.entries i g → IsLastIndex t.list.entries i g
-    last_index-under i g h = record { entry = sym (generation_at-under i) ∙ h.entry; greatest = λ k above. sym (times-under k) ∙ h.greatest k above }
+    last_index-under i g h =
+        record { entry = sym (generation_at-under i) ∙ h.entry; greatest = λ k above. sym (times-under k) ∙ h.greatest k above }
 
     pub none-under : (N : Type 0) → N ↔ (c.entries ≡ []) → N ↔ (length t.list.entries ≡ 0)
     none-under N h = (λ n. sym length-under ∙ ap length (h.0 n), λ z. h.1 (nil_from_length c.entries (length-under ∙ z)))
@@ -145,12 +143,14 @@ found-occupied g o some = grind (arith, common_steps)
 
 module _ {P T I G : Type 0} (t : Tree T) (c : Chain (SimpleOrdArenaNode P T I G)) (under : IsChainOf t c) where
   -- the links of a node of the chain under a tree, by its place in the tree
-  held_at : (i : ℕ) (e : ℕ × SimpleOrdArenaNode P T I G) → entry_at c.entries i ≡ Some e → (l r : Shape) (k : ℕ) → IsPart (node l i k r) t.shape
+  held_at : (i : ℕ) (e : ℕ × SimpleOrdArenaNode P T I G) → entry_at c.entries i ≡ Some e → (l r : Shape) (k : ℕ)
+      → IsPart (node l i k r) t.shape
       → HoldsLinks None t.shape l r i k (links_in e.1)
   held_at i e is l r k part = held-part (slots_of c) None (root_of t.shape) t.shape l r i k (links_in e.1) under.held part (rw is refl)
 
   -- it shows the entry, and the roots of its sides
-  pub shown-under : (i : ℕ) (e : ℕ × SimpleOrdArenaNode P T I G) → entry_at c.entries i ≡ Some e → IsShown t i e.0 e.1.t e.1.p_tree0 e.1.p_tree1
+  pub shown-under : (i : ℕ) (e : ℕ × SimpleOrdArenaNode P T I G) → entry_at c.entries i ≡ Some e
+      → IsShown t i e.0 e.1.t e.1.p_tree0 e.1.p_tree1
   shown-under i e is = record {
     entry = entry_at-under t c under i ∙ rw is refl;
     lesser_root = λ l r k part. (held_at i e is l r k part).2;

@@ -87,16 +87,11 @@ module _ {T : Type 0} where
           found = ap (item_if next) here ∙ item_if-own next (Some found.0) ∙ sym (ap (item_if p.1) found.1 ∙ item_if-own p.1 (Some found.0));
           ended = λ apart. item_of-other renewal (p.0, next) p (rw here refl) refl (λ same. apart (sym same));
           others = λ r other third. elim (cases_eq r.0 p.0) [
-            | inl same ↦ item_of-other renewal (p.0, next) r (rw here refl) same third ∙ sym (item_of-other old p r (rw found.1 refl) same other)
+            | inl same ↦ item_of-other renewal (p.0, next) r (rw here refl) same third
+                ∙ sym (item_of-other old p r (rw found.1 refl) same other)
             | inr elsewhere ↦ ap (item_if r.1) (entry_at-with_generation_other old.list.entries p.0 r.0 next elsewhere)
           ];
         }
-
-  -- from old to new, the item is new at this pointer
-  pub record IsInserted (old new : Tree T) (item : T) (p : ℕ × ℕ) : Type 0 where
-    pub nothing : item_of old p ≡ None
-    pub updates : Updates old new p (Some item)
-    pub count : count new ≡ count old + 1
 
   -- an insertion of a new entry, where the list was grown for it or not
   module _ (old new : Tree T) (room : Chain T) (roomy : room.entries ≡ old.list.entries) (gap : Gap old.list.entries) (item : T) (p : ℕ × ℕ)
@@ -116,13 +111,14 @@ module _ {T : Type 0} where
     none_there : entry_at old p.0 ≡ None
     none_there = ap (λ es. entry_among es p.0) gap.cut ∙ entry_at-absent (gap.front ++ gap.back) p.0 unused
 
-    pub inserted-new : IsInserted old new item p
-    inserted-new = record {
-      nothing = rw none_there refl;
-      updates = updates-at old new p (Some item) (rw none_there tt) (rw listed (entry_at-between gap.front entry gap.back unused))
-          (λ i other. rw (listed, gap.cut) (entry_at-between_other gap.front entry gap.back i other));
-      count = rw (listed, gap.cut) (length-between gap.front entry gap.back);
-    }
+    -- the item is new at this pointer
+    pub inserted-new : (item_of old p ≡ None) × Updates old new p (Some item) × (count new ≡ count old + 1)
+    inserted-new = (
+      rw none_there refl,
+      updates-at old new p (Some item) (rw none_there tt) (rw listed (entry_at-between gap.front entry gap.back unused))
+          (λ i other. rw (listed, gap.cut) (entry_at-between_other gap.front entry gap.back i other)),
+      rw (listed, gap.cut) (length-between gap.front entry gap.back),
+    )
 
 pub owed : {X P : Type 0} (o : Option X) → P → OnSome o P
 owed o fact = grind (arith, common_steps)
@@ -155,7 +151,6 @@ module _ {T : Type 0} where
     count-renewed None after same = ap count same
     count-renewed (Some q) after same = ap count after ∙ length-with_generation old.list.entries p.0 (next_generation greatest old.list.generation)
 
--- growing leaves the entries
 pub entries-with_slot : {T : Type 0} (growth : Growth) (most : ℕ) (c : Chain T) → (with_slot growth most c).entries ≡ c.entries
 entries-with_slot growth most c = grind (arith, common_steps)
 
@@ -173,7 +168,8 @@ module _ {T K : Type 0} (key : T → K) (cmp : K → K → Ordering) where
   -- what an entry of an insertion inserts
   module _ {P I G : Type 0} (numbers : P → ℕ × ℕ) (number : I → ℕ) (growth : Growth) (most : ℕ) (kind : OrdInsertKind P K I G)
       (old arena new : Tree T) (distinct : IsDistinct old.list.entries) (shown : OrdEntryKind P) (put : Entry T → List (Entry T))
-      (visits : ℕ) (item : T) (before : Option T) (asked : IsEntryFor numbers key cmp number growth most kind old shown put visits arena) where
+      (visits : ℕ) (item : T) (before : Option T)
+      (asked : IsEntryFor numbers key cmp number growth most kind old shown put visits arena) where
     abbrev Inserted : OrdEntryKind P → Option T → Type 0
     Inserted shown before = InsertsBy key cmp most growth (aim_of number kind) numbers old item (Ok (shown, before)) new
 
@@ -181,7 +177,8 @@ module _ {T K : Type 0} (key : T → K) (cmp : K → K → Ordering) where
     entry-inserts there = go asked.place shown before asked.chosen asked.awaits there
       where
         go : (place : Place old.list.entries) (shown : OrdEntryKind P) (before : Option T) → IsPlace key cmp (aim_of number kind) place
-            → Awaits numbers growth most old arena place put shown → InsertsThere numbers shown put arena item before new → Inserted shown before
+            → Awaits numbers growth most old arena place put shown → InsertsThere numbers shown put arena item before new
+            → Inserted shown before
         go (into gap) (New p) None at awaits there = record {
           gap = gap;
           place = at;
@@ -190,7 +187,8 @@ module _ {T K : Type 0} (key : T → K) (cmp : K → K → Ordering) where
           grown = subst (λ (t : Tree T). IsGrown t.shape new.shape) awaits.room there.1;
         }
         go (over e) (Replacing p) (Some before) at awaits there =
-            let had : item_of arena (numbers p) ≡ Some e.item = rw (awaits.1, awaits.0) (over-found old distinct (aim_of number kind) e at) in
+            let had : item_of arena (numbers p) ≡ Some e.item = rw (awaits.1, awaits.0)
+            (over-found old distinct (aim_of number kind) e at) in
             record { entry = e; place = at; named = awaits.0; taken = cc; after = rw (awaits.1, awaits.0) at there.1 }
         go (into gap) (New p) before at awaits there = absurd there
         go (over e) (Replacing p) before at awaits there = absurd there
@@ -209,7 +207,8 @@ module _ {T K : Type 0} (key : T → K) (cmp : K → K → Ordering) where
         rw (← key_is) (go shown before pointer_is
         (entry-inserts numbers number growth most (Normal k) old arena new distinct shown put visits item before asked there))
       where
-        go : (shown : OrdEntryKind P) (before : Option T) → p ≡ pointer_of shown → InsertsKey k (Ok (shown, before)) → InsertsKey k (told (Ok (p, before)))
+        go : (shown : OrdEntryKind P) (before : Option T) → p ≡ pointer_of shown → InsertsKey k (Ok (shown, before))
+            → InsertsKey k (told (Ok (p, before)))
         go (New q) None is ins = rw is ins
         go (Replacing q) (Some before) is ins = rw is ins
         go shown before is ins = absurd ins
@@ -307,7 +306,8 @@ module _ {P T F : Type 0} (numbers : P → ℕ × ℕ) (step : F → P → Bor T
       ∙ ap (λ (s : Shape). record { list = taken_over source.list old.list source.list.entries; shape = s }) h.shape
 
 module _ {P T F : Type 0} (numbers : P → ℕ × ℕ) (step : F → P → Bor T → Result T AllocError → F → Type 0) where
-  pub clone-emptied : (f : F) (source old new : Tree T) → IsRefusedClone numbers step f source old new → (0 < count source) × (new ≡ emptied source old)
+  pub clone-emptied : (f : F) (source old new : Tree T) → IsRefusedClone numbers step f source old new
+      → (0 < count source) × (new ≡ emptied source old)
   clone-emptied f source old new h = (
     refused-some numbers (ShowsItem step) f source.list old.list new.list h.list,
     ap (λ (l : Chain _). record { list = l; shape = new.shape }) h.list.after
@@ -317,7 +317,8 @@ module _ {P T F : Type 0} (numbers : P → ℕ × ℕ) (step : F → P → Bor T
 -- nothing refuses a clone of an arena without entries
 module _ {T A B : Type 0} (r : Result (Unit {0}) ReallocationError) (source : Tree T) (limit capacity : ℕ)
     (beyond : r ≡ Err BeyondMaxCapacity → limit < greatest_index source.list.entries)
-    (memory : r ≡ Err NoMemory → ((capacity < greatest_index source.list.entries) × A) ⊎ ((0 < count source) × B)) (none : count source ≡ 0) where
+    (memory : r ≡ Err NoMemory → ((capacity < greatest_index source.list.entries) × A) ⊎ ((0 < count source) × B))
+    (none : count source ≡ 0) where
   least : greatest_index source.list.entries ≡ 0
   least = ap greatest_index (nil_from_length source.list.entries none)
 

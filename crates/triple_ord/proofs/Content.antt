@@ -7,7 +7,7 @@ use Rattle.chain_base.specs.Compression.{compressed as chain_compressed, IsCompr
 use Rattle.triple_ord.proofs.Bare.{link_generation-under, capacity-under, option_map-twice}
 use Rattle.triple_ord.proofs.Words.{◌≡◌, ℕ, zero, suc, ◌+◌, ◌-◌, ◌<◌, ◌≤◌, ◌↔◌, Option, Some, None, Result, Ok, Err, List, [], ◌∷◌, ◌++◌}
 use Rattle.triple_ord.proofs.Words.{length, map, get_or, take, drop, reverse, replicate, slice_get, is_some, Bool, true, false, max, IsSome}
-use Rattle.triple_ord.proofs.Words.{refl, sym, ap, subst, ◌∙◌, add-one, arith, option_map, FoldsTo, false≢true, same_lists, get_or_default}
+use Rattle.triple_ord.proofs.Words.{refl, sym, ap, subst, ◌∙◌, add-one, arith, option_map, FoldsTo, same_lists, get_or_default}
 use Rattle.triple_ord.proofs.Words.{length-append, take-map, drop-map, slice_get_past, Arena, HoldsSame, slot, item_if, greatest_occupied}
 use Rattle.triple_ord.proofs.Words.{with_capacity, resized, IsFirstEntry, IsLastEntry, arena_len, Walk, pointers_from, entries_from}
 use Rattle.triple_ord.proofs.Words.{walk_rest, WalkSteps, Entry, Chain, entry_at, times, IsSound, greatest_index, IsFirstIndex, IsLastIndex}
@@ -15,19 +15,15 @@ use Rattle.triple_ord.proofs.Words.{IsArenaOf, entry_before, rising_among, entri
 use Rattle.triple_ord.proofs.Words.{compressed-at, compressed-length, entry_at-compressed, occurs-entry, below-greatest, greatest-or_none}
 use Rattle.triple_ord.proofs.Words.{times-greatest, below-greatest_index, Link, SimpleOrdArenaNode, Tree, IsChainOf, slots_from, content_of}
 use Rattle.triple_ord.proofs.Words.{slot_is, item_is, len_is, length-slots, slots-within, slots-beyond, outside, set, take-set-le}
-use Rattle.triple_ord.proofs.Words.{drop-set-lt, pointers, walk_from, removed, FindsNothing, content_removed, ◌≢◌, cases_eq, drop_more}
-use Rattle.triple_ord.proofs.Words.{drop_all, common_steps, append_assoc, FoldsTo-push, entry_at-with_item_among}
-use Rattle.triple_ord.proofs.Words.{entry_at-with_item_among_other, with_item}
+use Rattle.triple_ord.proofs.Words.{drop-set-lt, pointers, walk_from, removed, FindsNothing, content_removed, cases_eq, drop_more, drop_all}
+use Rattle.triple_ord.proofs.Words.{common_steps, append_assoc, FoldsTo-push, entry_at-with_item_among, entry_at-with_item_among_other}
+use Rattle.triple_ord.proofs.Words.{with_item}
 use Rattle.triple_ord.specs.{Recasting.RecastsItem, Recasting.RecastsNext, Recasting.RecastsItems, SlotWalk.SlotWalkSteps}
 
 -- slots that are as many and show the same are the same
 same-slots : {X : Type 0} (xs ys : List (Option X)) → length xs ≡ length ys → ((k : ℕ) → get_or xs k None ≡ get_or ys k None) → xs ≡ ys
 same-slots xs ys long same =
     same_lists xs ys long (λ k d within. get_or_default xs k d None within ∙ (same k ∙ get_or_default ys k None d (omega (arith, within, long))))
-
-some-shown : {X : Type 0} (o : Option X) → is_some o ≡ true → (x : X) × (o ≡ Some x)
-some-shown None h = absurd (false≢true h)
-some-shown (Some x) h = (x, refl)
 
 module _ {T : Type 0} where
   -- the entries by rising index, read from the slots
@@ -59,7 +55,8 @@ module _ {T : Type 0} where
   abbrev pub NoneBeyond : Tree T → Type 0
   NoneBeyond t = (k : ℕ) → 1 + t.list.capacity ≤ k → entry_at t.list.entries k ≡ None
 
-  pub content-capacity : (t u : Tree T) (n : ℕ) → NoneBeyond t → u.list ≡ chain_with_capacity t.list n → HoldsSame (content_of u) (with_capacity (content_of t) n)
+  pub content-capacity : (t u : Tree T) (n : ℕ) → NoneBeyond t → u.list ≡ chain_with_capacity t.list n
+      → HoldsSame (content_of u) (with_capacity (content_of t) n)
   content-capacity t u n none is =
       let slots : List (Option (ℕ × T)) = slots_from t.list.entries 1 t.list.capacity in
       let same = ap (λ ss. None ∷ ss) (slots-resized t.list.entries 1 n t.list.capacity none)
@@ -70,8 +67,8 @@ module _ {T : Type 0} where
     beyond : NoneBeyond t
     beyond k above = outside most greatest t sound k (λ first within. omega (arith, above, within))
 
-    -- the least and the greatest index
-    slot_entry : (i g : ℕ) → option_map (λ e. e.0) (entry_at t.list.entries i) ≡ Some g → option_map (λ e. e.0) (slot (content_of t) i) ≡ Some g
+    slot_entry : (i g : ℕ) → option_map (λ e. e.0) (entry_at t.list.entries i) ≡ Some g
+        → option_map (λ e. e.0) (slot (content_of t) i) ≡ Some g
     slot_entry i g is = ap (option_map (λ (e : ℕ × T). e.0)) (slot_is most greatest t sound i) ∙ is
 
     no_slot : (k : ℕ) → times k t.list.entries ≡ 0 → slot (content_of t) k ≡ None
@@ -83,7 +80,6 @@ module _ {T : Type 0} where
     pub last-found : (i g : ℕ) → IsLastIndex t.list.entries i g → IsLastEntry (content_of t) i g
     last-found i g is = record { entry = slot_entry i g is.entry; greatest = λ k above. no_slot k (is.greatest k above) }
 
-    -- the greatest index that has an entry
     greatest-above : greatest_index t.list.entries ≤ greatest_occupied (content_of t).slots
     greatest-above = go t.list.entries refl
       where
@@ -91,15 +87,16 @@ module _ {T : Type 0} where
         go [] is = omega arith
         go (e ∷ es) is =
             let i = greatest_index (e ∷ es) in
-            let found = some-shown (entry_at (e ∷ es) i) (occurs-entry (e ∷ es) i (times-greatest e es)) in
-            below-greatest (content_of t).slots i found.0 (slot_is most greatest t sound i ∙ (ap (λ fs. entry_at fs i) is ∙ found.1))
+            let there = occurs-entry (e ∷ es) i (times-greatest e es) in
+            grind (arith, common_steps, there, below-greatest (content_of t).slots i, slot_is most greatest t sound i, is)
 
     greatest-is : greatest_occupied (content_of t).slots ≡ greatest_index t.list.entries
     greatest-is =
         let i = greatest_occupied (content_of t).slots in
         grind (arith, common_steps, greatest-above, greatest-or_none (content_of t).slots, no_slot i, below-greatest_index t.list.entries i)
 
-    pub content-reallocated : (u : Tree T) (n : ℕ) → u ≡ record t { list = chain_with_capacity t.list (max n (greatest_index t.list.entries)) }
+    pub content-reallocated : (u : Tree T) (n : ℕ)
+        → u ≡ record t { list = chain_with_capacity t.list (max n (greatest_index t.list.entries)) }
         → HoldsSame (content_of u) (with_capacity (content_of t) (max n (greatest_occupied (content_of t).slots)))
     content-reallocated u n h =
         let same = content-capacity t u (max n (greatest_index t.list.entries)) beyond (ap (λ v. v.list) h) in
@@ -116,26 +113,25 @@ module _ {T : Type 0} where
       fits : length items < suc t.list.capacity
       fits = omega (arith, long, sound.counted)
 
-      moved-slot : (k : ℕ) → get_or (slots_from (map (moved t.list.entries g items) t.list.entries) 1 t.list.capacity) k None ≡ option_map (λ item. (g, item)) (slice_get items k)
+      abbrev moved_entries : List (Entry T)
+      moved_entries = map (moved t.list.entries g items) t.list.entries
+
+      moved-slot : (k : ℕ) → get_or (slots_from moved_entries 1 t.list.capacity) k None ≡ option_map (λ item. (g, item)) (slice_get items k)
       moved-slot k =
-          let es = map (moved t.list.entries g items) t.list.entries in
-          let moved = entry_at-compressed t.list.entries sound.distinct g items long (1 + t.list.capacity) below k in
-          grind (arith, common_steps, slots-within es 1 t.list.capacity k, slots-beyond es 1 t.list.capacity k, moved, slice_get_past items k, sound.counted)
+          let here = entry_at-compressed t.list.entries sound.distinct g items long (1 + t.list.capacity) below k in
+          let within = slots-within moved_entries 1 t.list.capacity k in
+          grind (arith, common_steps, within, slots-beyond moved_entries 1 t.list.capacity k, here, slice_get_past items k, sound.counted)
 
-      abbrev slots_moved : List (Option (ℕ × T))
-      slots_moved = None ∷ slots_from (map (moved t.list.entries g items) t.list.entries) 1 t.list.capacity
-
-      abbrev slots_made : List (Option (ℕ × T))
-      slots_made = resized (suc t.list.capacity) (None ∷ map (λ item. Some (g, item)) items)
-
-      slot-compressed : (k : ℕ) → get_or slots_moved k None ≡ get_or slots_made k None
+      slot-compressed : (k : ℕ) → get_or (None ∷ slots_from moved_entries 1 t.list.capacity) k None
+          ≡ get_or (resized (suc t.list.capacity) (None ∷ map (λ item. Some (g, item)) items)) k None
       slot-compressed zero = refl
       slot-compressed (suc k) = moved-slot k ∙ sym (compressed-at (suc t.list.capacity) g items k fits)
 
-      slots-compressed : slots_moved ≡ slots_made
+      slots-compressed : None ∷ slots_from moved_entries 1 t.list.capacity
+          ≡ resized (suc t.list.capacity) (None ∷ map (λ item. Some (g, item)) items)
       slots-compressed =
-          let long = length-slots (map (moved t.list.entries g items) t.list.entries) 1 t.list.capacity in
-          same-slots slots_moved slots_made (omega (arith, long, compressed-length (suc t.list.capacity) g items fits)) slot-compressed
+          let long = length-slots moved_entries 1 t.list.capacity in
+          same-slots _ _ (omega (arith, long, compressed-length (suc t.list.capacity) g items fits)) slot-compressed
 
       content-compressed : u.list ≡ chain_compressed t.list g items → HoldsSame (content_of u) (compressed (content_of t) g items)
       content-compressed is =
@@ -149,7 +145,8 @@ module _ {P T F : Type 0} (numbers : P → ℕ × ℕ) (step : F → P → T →
   items-counted (e ∷ es) s t calls = omega (arith, items-counted es calls.0 t calls.2, ap length calls.1.behind, length-append s.1 (calls.1.item ∷ []))
 
   module _ (most : ℕ) (greatest : Option ℕ) (t u : Tree T) (f : F) (sound : IsSound most greatest t.list) where
-    pub content-compression : IsChainCompression numbers step g f t.list u.list → IsCompression numbers step g f (content_of t) (content_of u)
+    pub content-compression : IsChainCompression numbers step g f t.list u.list
+        → IsCompression numbers step g f (content_of t) (content_of u)
     content-compression is =
         let rising : arena_rising (content_of t) 0 ≡ entries_rising t.list = rising-is t.list.entries 1 t.list.capacity in
         let many : length (arena_rising (content_of t) 0) ≡ length t.list.entries = length-entries 0 (content_of t).slots ∙ len_is most greatest t sound in
@@ -198,13 +195,17 @@ module _ {X Y : Type 0} where
 
 -- A walk over the arena under the chain under a tree is one over the tree's entries.
 module _ {P T I G Q : Type 0} (most : ℕ) (greatest : Option ℕ) (t : Tree T) (sound : IsSound most greatest t.list) (numbers : Q → ℕ × ℕ)
-    (c : Chain (SimpleOrdArenaNode P T I G)) (a : Arena (Link (SimpleOrdArenaNode P T I G))) (under : IsChainOf t c) (laid : IsArenaOf c a) where
-  pub steps-under : take 1 a.slots ≡ None ∷ [] → (old new : Walk) (r : Option Q) → WalkSteps numbers old a r new → SlotWalkSteps numbers old t r new
+    (c : Chain (SimpleOrdArenaNode P T I G)) (a : Arena (Link (SimpleOrdArenaNode P T I G))) (under : IsChainOf t c)
+    (laid : IsArenaOf c a) where
+  pub steps-under : take 1 a.slots ≡ None ∷ [] → (old new : Walk) (r : Option Q) → WalkSteps numbers old a r new
+      → SlotWalkSteps numbers old t r new
   steps-under begins old new r step =
       told r (steps-alike numbers a (content_of t) (rest-alike a (content_of t) (alike-by_index a.slots (content_of t).slots long same)) there old new r step)
     where
       long : length a.slots ≡ length (content_of t).slots
-      long = omega (arith, ap length begins, length-take 1 a.slots, laid.capacity, capacity-under t c under, length-slots t.list.entries 1 t.list.capacity)
+      long =
+          let all = length-slots t.list.entries 1 t.list.capacity in
+          omega (arith, ap length begins, length-take 1 a.slots, laid.capacity, capacity-under t c under, all)
 
       same : (k : ℕ) → option_map (λ e. e.0) (get_or a.slots k None) ≡ option_map (λ e. e.0) (get_or (content_of t).slots k None)
       same k = ap (option_map (λ e. e.0)) (laid.slots k) ∙ (link_generation-under t c under k ∙ ap (option_map (λ e. e.0)) (sym (slot_is most greatest t sound k)))
@@ -280,9 +281,6 @@ module _ {T I : Type 0} (gives : T → Result (Unit {0}) I → T → Type 0) (ol
     pub calls : FoldsTo (RecastsNext gives) old recast now
     pub kept : (k : ℕ) → generation_at now k ≡ generation_at old k
 
-  pub recast-begins : RecastBelow old 1
-  recast-begins = record { recast = []; split = refl; calls = refl; kept = λ k. refl }
-
   length-content : length (content_of old).slots ≡ suc old.list.capacity
   length-content = ap suc (length-slots old.list.entries 1 old.list.capacity)
 
@@ -301,7 +299,8 @@ module _ {T I : Type 0} (gives : T → Result (Unit {0}) I → T → Type 0) (ol
     -- no entry has the index
     pub recast-vacant : entry_at now.list.entries i ≡ None → RecastBelow now (i + 1)
     recast-vacant none =
-        let skipped = no_pointer (entry_at old.list.entries i) (drop (i + 1) (content_of old).slots) (sym (b.kept i) ∙ ap (option_map (λ (e : ℕ × T). e.0)) none) in
+        let skipped = no_pointer (entry_at old.list.entries i) (drop (i + 1) (content_of old).slots)
+        (sym (b.kept i) ∙ ap (option_map (λ (e : ℕ × T). e.0)) none) in
         record { recast = b.recast; split = b.split ∙ ap (λ ps. b.recast ++ ps) (ap (pointers_from i) slots_at ∙ skipped); calls = b.calls; kept = b.kept }
 
     -- the pointer of the entry at the index, and those behind it

@@ -82,7 +82,6 @@ module _ {T : Type 0} where
       let here : j ≡ i = cc in
       record { lesser = l; rank = k; greater = r; node_is = rw here refl; cut = cut_at middle (walk l) i (walk r) (rw here at left) }
 
-  -- a descent begins at the root
   pub IsDescending-begin : (t : Tree T) → map (λ e. e.index) t.list.entries ≡ walk t.shape → IsDistinct t.list.entries
       → (d : IsDescending t.list.entries t.shape [] (root_of t.shape)) × (first_of d.back ≡ None)
   IsDescending-begin t listed distinct = (
@@ -120,14 +119,12 @@ module _ {T : Type 0} (t : Tree T) (distinct : IsDistinct t.list.entries) (shown
   step-found : entry_at t.list.entries i ≡ Some (step-entry.generation, step-entry.item)
   step-found = ap (entry_at t.list.entries) (sym face.cut.here) ∙ entry_at-here t.list.entries distinct (d.front ++ face.cut.front) step-entry (face.cut.back ++ d.back) whole
 
-  -- an entry stands at the link
   pub step-occupied : IsSome (entry_at t.list.entries i)
   step-occupied = rw step-found refl
 
   tall : height d.part ≡ max (height face.lesser) (height face.greater) + 1
   tall = ap height face.node_is
 
-  -- so there is a step left
   pub step-few : length shown + 1 ≤ height t.shape
   step-few = omega (arith, d.few, tall)
 
@@ -302,7 +299,8 @@ module _ {T F : Type 0} (asks : F → Shown T → F → Type 0) (t : Tree T) (di
       }
 
 -- what came with Equal, mapped
-where_equal-map : {X Y : Type 0} (f : X → Y) (found : Option (X × Ordering)) → where_equal (option_map (λ a. (f a.0, a.1)) found) ≡ option_map f (where_equal found)
+where_equal-map : {X Y : Type 0} (f : X → Y) (found : Option (X × Ordering))
+    → where_equal (option_map (λ a. (f a.0, a.1)) found) ≡ option_map f (where_equal found)
 where_equal-map f found = grind (arith, common_steps)
 
 -- what a search for a similar entry says of one for an equal one
@@ -405,7 +403,8 @@ module _ {T K : Type 0} (key : T → K) (cmp : K → K → Ordering) (t : Tree T
         unequal : (q : ℕ × ℕ) (o : Ordering) → None ≡ where_equal (Some (q, o)) → is_eq o ≡ false
         unequal q o same = grind (arith, common_steps)
 
-        greater : (o : Option (Entry T)) → IfSome o (λ e. Contains d.shown (e, Less)) → met ≡ where_equal (answer_at o) → IfSome o (λ e. order_to key cmp k e ≡ Less)
+        greater : (o : Option (Entry T)) → IfSome o (λ e. Contains d.shown (e, Less)) → met ≡ where_equal (answer_at o)
+            → IfSome o (λ e. order_to key cmp k e ≡ Less)
         greater None shown met_is = tt
         greater (Some e) shown met_is =
             let other = turned _ (unequal (pointer e) (order_to key cmp k e) (sym is ∙ met_is)) in
@@ -425,12 +424,9 @@ fib-step : (n : ℕ) → fib n ≤ fib (suc n)
 fib-step (suc (suc n)) = omega arith
 fib-step n = omega arith
 
-fib_more : (n d : ℕ) → fib n ≤ fib (d + n)
-fib_more n zero = let same : 0 + n ≡ n = omega arith in rw same (omega arith)
-fib_more n (suc d) = let same : suc d + n ≡ suc (d + n) = omega arith in rw same (omega (arith, fib_more n d, fib-step (d + n)))
-
 fib-mono : (m n : ℕ) → m ≤ n → fib m ≤ fib n
-fib-mono m n least = let same : (n - m) + m ≡ n = omega (arith, least) in rw same at (fib_more m (n - m))
+fib-mono m zero least = let same : m ≡ 0 = omega arith in rw same (omega arith)
+fib-mono m (suc n) least = grind (arith, common_steps, fib-mono m n, fib-step n)
 
 -- a search that visits no more entries than stand on the longest way down stays within the bounds, by the laws of balance
 pub visits-bounded : HeightLaw → RankSquareLaw → TightRankLaw → RebuiltHeightLaw → VisitsLaw

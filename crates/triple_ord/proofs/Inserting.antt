@@ -1,15 +1,14 @@
 -- A list cut at one of its elements: its ends, what an entry's index finds where it stands once, and the gap where a search by a key
 -- that answered there puts a new entry.
 use Rattle.std.proofs.Math.Path.{fun_ext}
-use Rattle.triple_ord.proofs.Words.{◌≡◌, ℕ, List, [], ◌∷◌, ◌++◌, Option, Some, None, IsSome, length, refl, ap, arith, inl, inr, eq-eqb}
-use Rattle.triple_ord.proofs.Words.{eqb_tells, common_steps, option_map, Link, Entry, times, IsDistinct, entry_at, first_or, link_between}
-use Rattle.triple_ord.proofs.Words.{link_at, from_index, insert_after, insert_before, with_item_among, times-append, entry_at-between}
-use Rattle.triple_ord.proofs.Words.{first_of, last_or, position_of, ◌≢◌, true, false, ◌+◌, ◌-◌, ◌≤◌, sym, ◌∙◌, ◌⊎◌, append_assoc, is_eq}
-use Rattle.triple_ord.proofs.Words.{Ordering, Less, Equal, Greater, Gap, order_to, IsFirstEqual, StopsAt, IsBeside, FindsKey, FindsSimilar}
-use Rattle.triple_ord.proofs.Words.{where_equal, Chain, IsInsertion, put_on, before, after, with_between}
+use Rattle.triple_ord.proofs.Words.{◌≡◌, ℕ, List, [], ◌∷◌, ◌++◌, Option, Some, None, IsSome, length, refl, ap, arith, inl, inr, eqb_tells}
+use Rattle.triple_ord.proofs.Words.{common_steps, option_map, Link, Entry, times, IsDistinct, entry_at, link_between, link_at, from_index}
+use Rattle.triple_ord.proofs.Words.{insert_after, insert_before, with_item_among, times-append, entry_at-between, first_of, last_or}
+use Rattle.triple_ord.proofs.Words.{position_of, ◌≢◌, true, false, ◌+◌, ◌-◌, ◌≤◌, sym, ◌∙◌, ◌⊎◌, append_assoc, is_eq, Ordering, Less, Equal}
+use Rattle.triple_ord.proofs.Words.{Greater, Gap, order_to, IsFirstEqual, StopsAt, IsBeside, FindsKey, FindsSimilar, where_equal, Chain}
+use Rattle.triple_ord.proofs.Words.{IsInsertion, put_on, before, after, with_between}
 
 module _ {X : Type 0} where
-  -- the last of a list that goes on
   pub last_or-append : (other : Option X) (xs : List X) (x : X) (ys : List X) → last_or other (xs ++ x ∷ ys) ≡ last_or (Some x) ys
   last_or-append other [] x ys = refl
   last_or-append other (y ∷ xs) x ys = last_or-append (Some y) xs x ys
@@ -77,27 +76,22 @@ module _ {T : Type 0} where
   from_here [] e back none = grind (arith, common_steps)
   from_here (f ∷ front) e back none = grind (arith, common_steps, from_here front e back)
 
-  abbrev pub index_of : Option (Entry T) → Option ℕ
-  index_of o = option_map (λ e. e.index) o
+  abbrev entry_link : Option (Entry T) → Entry T → Option (Entry T) → ℕ × Link T
+  entry_link low e high =
+      (e.generation, record { item = e.item; prev = option_map (λ e. e.index) low; next = option_map (λ e. e.index) high })
 
   -- the link of an entry has the indexes of the entries beside it
-  first_or-index : (es : List (Entry T)) → first_or None es ≡ index_of (first_of es)
-  first_or-index es = grind (arith, common_steps)
-
-  abbrev entry_link : Option (Entry T) → Entry T → Option (Entry T) → ℕ × Link T
-  entry_link low e high = (e.generation, record { item = e.item; prev = index_of low; next = index_of high })
-
   link_here : (o : Option (Entry T)) (front : List (Entry T)) (e : Entry T) (back : List (Entry T)) → times e.index front ≡ 0
-      → link_between (index_of o) None (front ++ e ∷ back) e.index ≡ Some (entry_link (last_or o front) e (first_of back))
-  link_here o [] e back none = rw (eq-eqb e.index e.index refl, first_or-index back) refl
+      → link_between (option_map (λ x. x.index) o) None (front ++ e ∷ back) e.index ≡ Some (entry_link (last_or o front) e (first_of back))
+  link_here o [] e back none = grind (arith, common_steps)
   link_here o (f ∷ front) e back none = grind (arith, common_steps, link_here (Some f) front e back)
 
   -- this generation and this link are the entry's
   pub record IsLinked (front : List (Entry T)) (e : Entry T) (back : List (Entry T)) (g : ℕ) (l : Link T) : Type 0 where
     pub generation : e.generation ≡ g
     pub item : e.item ≡ l.item
-    pub prev : index_of (last_or None front) ≡ l.prev
-    pub next : index_of (first_of back) ≡ l.next
+    pub prev : option_map (λ e. e.index) (last_or None front) ≡ l.prev
+    pub next : option_map (λ e. e.index) (first_of back) ≡ l.next
 
   -- an entry of a list in which each index stands once
   module _ (es : List (Entry T)) (distinct : IsDistinct es) (front : List (Entry T)) (e : Entry T) (back : List (Entry T)) (cut : es ≡ front ++ e ∷ back) where
@@ -154,7 +148,8 @@ module _ {T K : Type 0} (key : T → K) (cmp : K → K → Ordering) (es : List 
 
   -- the search found an equal entry, or stopped at a gap that fits
   pub finds_key-similar : {P : Type 0} (numbers : P → ℕ × ℕ) (found : Option (P × Ordering))
-      → FindsSimilar key cmp es k (option_map (λ a. (numbers a.0, a.1)) found) c → FindsKey key cmp es k (option_map numbers (where_equal found)) c
+      → FindsSimilar key cmp es k (option_map (λ a. (numbers a.0, a.1)) found) c
+      → FindsKey key cmp es k (option_map numbers (where_equal found)) c
   finds_key-similar numbers None empty = stop-of_empty empty
   finds_key-similar numbers (Some (p, Equal)) found =
       let first = first-of_equal found.0 found.2 (sym (ap (λ a. a.1) found.1)) in
@@ -187,7 +182,8 @@ module _ {T : Type 0} (es : List (Entry T)) (e : Entry T) (distinct : IsDistinct
   puts-after here = let front = ends gap.front e here in puts-behind front.0 front.1
 
 -- an insertion by another word for the same place
-module _ {T : Type 0} (c d : Chain T) (place other : Entry T → List (Entry T)) (item : T) (i g : ℕ) (same : (new : Entry T) → place new ≡ other new) where
+module _ {T : Type 0} (c d : Chain T) (place other : Entry T → List (Entry T)) (item : T) (i g : ℕ)
+    (same : (new : Entry T) → place new ≡ other new) where
   pub IsInsertion-same : IsInsertion c d place item i g → IsInsertion c d other item i g
   IsInsertion-same ins = rw (fun_ext same) at ins
 
@@ -213,11 +209,9 @@ module _ {T K : Type 0} (key : T → K) (cmp : K → K → Ordering) (es : List 
     ordered : order_to key cmp k found.0 ≡ o
     ordered = sym (ap (λ a. a.1) found.1)
 
-    -- the search saw an entry
     pub similar-seen : 1 ≤ c
     similar-seen = grind (arith, common_steps, found.2)
 
-    -- the entry that was returned is found by its index
     pub similar-here : entry_at es found.0.index ≡ Some (found.0.generation, found.0.item)
     similar-here = grind (arith, common_steps, found.2, entry_at-after es found.0 distinct, entry_at-before es found.0 distinct)
 

@@ -1,10 +1,11 @@
 -- An insertion by a key leaves a list in the order of its keys so.
-use Rattle.triple_ord.proofs.Words.{arith, ◌≡◌, ◌≢◌, ℕ, List, [], ◌∷◌, ◌++◌, Option, Some, None, IfSome, Result, Ok, Err, refl, sym, ap, subst, ◌∙◌, inl, inr, slice_get, IfSome_then}
-use Rattle.triple_ord.proofs.Words.{IsTotalOrder, alike_right, ordering_reverse, Ordering, Less, Equal, Greater, Entry, Chain, IsDistinct, inserted_at, with_item_among, IsInsertion, Tree}
-use Rattle.triple_ord.proofs.Words.{Gap, first_of, last_or, before, after, with_between, IsFirstEqual, IsInOrder, Aim, into, over, LiesBehind, IsPlace, InsertsBy, GoesBy, KeptOrderLaw}
-use Rattle.triple_ord.proofs.Words.{OrdEntryKind, New, Replacing, OrdInsertionError}
 use Rattle.triple_ord.proofs.Inserting.{begins, with_item-here}
 use Rattle.triple_ord.proofs.OrderLaws.{IsInOrder-rest, in_order-one, in_order-more}
+use Rattle.triple_ord.proofs.Words.{arith, ◌≡◌, ◌≢◌, ℕ, List, [], ◌∷◌, ◌++◌, Option, Some, None, IfSome, Result, Ok, Err, refl, sym, ap}
+use Rattle.triple_ord.proofs.Words.{subst, ◌∙◌, inl, inr, slice_get, IfSome_then, IsTotalOrder, alike_right, ordering_reverse, Ordering}
+use Rattle.triple_ord.proofs.Words.{Less, Equal, Greater, Entry, Chain, IsDistinct, inserted_at, with_item_among, IsInsertion, Tree, Gap}
+use Rattle.triple_ord.proofs.Words.{first_of, last_or, before, after, with_between, IsFirstEqual, IsInOrder, Aim, into, over, LiesBehind}
+use Rattle.triple_ord.proofs.Words.{IsPlace, InsertsBy, GoesBy, KeptOrderLaw, OrdEntryKind, New, Replacing, OrdInsertionError}
 
 -- the list after an insertion of a new entry
 pub record IsListed {T : Type 0} (put : Entry T → List (Entry T)) (item : T) (es : List (Entry T)) : Type 0 where
@@ -82,16 +83,15 @@ module _ {T K : Type 0} (key : T → K) (cmp : K → K → Ordering) (total : Is
 pub kept_order : {P T K : Type 0} (numbers : P → ℕ × ℕ) (key : T → K) (cmp : K → K → Ordering) → IsTotalOrder cmp → KeptOrderLaw numbers key cmp
 kept_order {P} {T} {K} numbers key cmp total most growth aim k old new item answer by equal distinct sorted inserts = go answer inserts
   where
-    entries : List (Entry T)
-    entries = old.list.entries
-
     go : (answer : Result (OrdEntryKind P × Option T) OrdInsertionError) → InsertsBy key cmp most growth aim numbers old item answer new → IsInOrder key cmp new.list.entries
     go (Ok (New p, None)) ins =
-        let place = lies key cmp total k item equal entries sorted aim by ins.gap ins.place in
+        let place = lies key cmp total k item equal old.list.entries sorted aim by ins.gap ins.place in
         let list = listed-new _ _ _ _ _ _ ins.inserted in
-        subst (λ es. IsInOrder key cmp es) (sym list.listed) (kept-between key cmp total k item equal entries sorted ins.gap place list.entry list.has)
+        subst (λ es. IsInOrder key cmp es) (sym list.listed)
+        (kept-between key cmp total k item equal old.list.entries sorted ins.gap place list.entry list.has)
     go (Ok (Replacing p, Some b)) ins =
-        let met = first key cmp total k item equal entries sorted aim by ins.entry ins.place in
-        subst (λ (t : Tree T). IsInOrder key cmp t.list.entries) (sym ins.after) (kept-instead key cmp total k item equal entries sorted distinct ins.entry met)
+        let met = first key cmp total k item equal old.list.entries sorted aim by ins.entry ins.place in
+        subst (λ (t : Tree T). IsInOrder key cmp t.list.entries) (sym ins.after)
+        (kept-instead key cmp total k item equal old.list.entries sorted distinct ins.entry met)
     go (Ok answer) ins = absurd ins
     go (Err refusal) ins = subst (λ (t : Tree T). IsInOrder key cmp t.list.entries) (sym ins.after) sorted

@@ -28,12 +28,14 @@ module _ {K : Type 0} (cmp : K → K → Ordering) (k other : K) where
 
 -- what stands at a place of the front, and of the back, of a list that is cut in two
 module _ {X : Type 0} (P : X → Type 0) where
-  in_front : (low high front back : List X) (x : X) → low ++ high ≡ front ++ x ∷ back → AllByRecursion P low → length front < length low → P x
+  in_front : (low high front back : List X) (x : X) → low ++ high ≡ front ++ x ∷ back → AllByRecursion P low → length front < length low
+      → P x
   in_front [] high front back x cut all within = absurd (omega arith)
   in_front (y ∷ low) high [] back x cut all within = let same : y ≡ x = cc in subst P same all.0
   in_front (y ∷ low) high (z ∷ front) back x cut all within = in_front low high front back x (cc) all.1 (omega (arith, within))
 
-  in_back : (low high front back : List X) (x : X) → low ++ high ≡ front ++ x ∷ back → AllByRecursion P high → length low ≤ length front → P x
+  in_back : (low high front back : List X) (x : X) → low ++ high ≡ front ++ x ∷ back → AllByRecursion P high → length low ≤ length front
+      → P x
   in_back [] (y ∷ high) [] back x cut all within = let same : y ≡ x = cc in subst P same all.0
   in_back [] (y ∷ high) (z ∷ front) back x cut all within = in_back [] high front back x (cc) all.1 (omega arith)
   in_back (y ∷ low) high (z ∷ front) back x cut all within = in_back low high front back x (cc) all (omega (arith, within))
@@ -65,10 +67,7 @@ module _ {T K : Type 0} (key : T → K) (cmp : K → K → Ordering) where
   in_order-one e front back f g cut = absurd (omega (arith, ap length cut, length-append front (f ∷ g ∷ back)))
 
   pub in_order-more : (e f : Entry T) (es : List (Entry T)) → cmp (key e.item) (key f.item) ≢ Greater → IsInOrder key cmp (f ∷ es) → IsInOrder key cmp (e ∷ f ∷ es)
-  in_order-more e f es two rest [] back x y cut =
-      let first : e ≡ x = cc in
-      let second : f ≡ y = cc in
-      rw (← first, ← second) two
+  in_order-more e f es two rest [] back x y cut = grind (arith, common_steps, two)
   in_order-more e f es two rest (z ∷ front) back x y cut = rest front back x y (cc)
 
   -- where the key of the first is greater than that of the second, or isn't
@@ -99,7 +98,8 @@ module _ {T K : Type 0} (key : T → K) (cmp : K → K → Ordering) where
         (first, all_less (f ∷ back) (IsInOrder-rest e (f ∷ back) order) next)
 
   -- a gap that fits k is its place
-  module _ (total : IsTotalOrder cmp) (k : K) (es : List (Entry T)) (sorted : IsInOrder key cmp es) (gap : Gap es) (fits : Fits key cmp gap k) where
+  module _ (total : IsTotalOrder cmp) (k : K) (es : List (Entry T)) (sorted : IsInOrder key cmp es) (gap : Gap es)
+      (fits : Fits key cmp gap k) where
     ordered : IsInOrder key cmp (gap.front ++ gap.back)
     ordered = rw gap.cut at sorted
 
@@ -140,8 +140,10 @@ recursion-map P Q follows [] all = tt
 recursion-map P Q follows (x ∷ xs) all = (follows x all.0, recursion-map P Q follows xs all.1)
 
 pub absent_key : {T K : Type 0} (key : T → K) (cmp : K → K → Ordering) → IsTotalOrder cmp → AbsentKeyLaw key cmp
-absent_key key cmp total entries k None c sorted finds = (λ none. absent-fits key cmp total k entries sorted finds.0 finds.1.fits, λ absent. refl)
-absent_key key cmp total entries k (Some p) c sorted finds = (λ none. absurd (cc), λ absent. absurd (not_absent key cmp k entries finds.0 finds.2 absent))
+absent_key key cmp total entries k None c sorted finds =
+    (λ none. absent-fits key cmp total k entries sorted finds.0 finds.1.fits, λ absent. refl)
+absent_key key cmp total entries k (Some p) c sorted finds =
+    (λ none. absurd (cc), λ absent. absurd (not_absent key cmp k entries finds.0 finds.2 absent))
 
 pub beside_place : {T K : Type 0} (key : T → K) (cmp : K → K → Ordering) → IsTotalOrder cmp → BesidePlaceLaw key cmp
 beside_place key cmp total entries k p order c sorted absent finds = (

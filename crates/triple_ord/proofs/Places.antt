@@ -11,6 +11,7 @@ use Rattle.triple_ord.proofs.Words.{with_item, item_of, count, Updates, IsNearHi
 use Rattle.triple_ord.proofs.Words.{after, with_between, FindsSimilar, taken, Ties, Sought, Passed, Aim, alone, at_key, behind_key, beside}
 use Rattle.triple_ord.proofs.Words.{Place, into, over, nowhere, IsPlace, aim_of, Growth, within, reallocating, slice_get_cases, with_slot}
 use Rattle.triple_ord.proofs.Words.{LacksSlot, IsRefused, InsertsBeside, OrdInsertKind, OrdInsertionError, NotWithinCapacity, common_steps}
+use Rattle.triple_ord.specs.EntryVisits.{HasSeen}
 use Rattle.triple_ord.specs.Prepared.{Keeps, IsFoundPlace, IsPlaceBeside, IsPlaceFor, HasRoomAt, kind_by, kind_near}
 use Rattle.triple_ord.specs.declared.error.OrdInsertionError.TheVariants.{BeyondMaxCapacity, AllocError}
 use Rattle.triple_ord.specs.declared.prepared.InsertPlace.{InsertPlace, TheVariants.New, TheVariants.Replacing}
@@ -44,7 +45,8 @@ module _ {P T K : Type 0} (numbers : P → ℕ × ℕ) (key : T → K) (cmp : K 
         → HasPlace key cmp t.list.entries k c (put_at (λ p. (numbers p).0) at t.list.entries) → (t.list.entries ≢ [] → 1 ≤ c)
         → IsFoundPlace numbers key cmp t (at_key k) c (New at)
     found-gap at can place some =
-        record { place = into place.gap; chosen = place.stops.fits; keeps = (can, place.puts); seen = record { some = some; beside = place.stops.seen } }
+        let seen : HasSeen (into place.gap) c = record { some = some; beside = place.stops.seen } in
+        record { place = into place.gap; chosen = place.stops.fits; keeps = (can, place.puts); seen = seen }
 
     pub found-alone : t.list.entries ≡ [] → IsFoundPlace numbers key cmp t (at_key k) c (New None)
     found-alone empty = found-gap None (ap length empty) (place-alone key cmp t.list.entries k empty c) (λ some. absurd (some empty))
@@ -82,7 +84,8 @@ module _ {P T K : Type 0} (numbers : P → ℕ × ℕ) (key : T → K) (cmp : K 
         → IsPlaceFor numbers key cmp t {G = G} number (kind_by ties k) kept c
     placed-by Sought f bounded = record { place = f.place; chosen = f.chosen; keeps = f.keeps; visits = record { seen = f.seen; bounded = bounded } }
     placed-by Passed f bounded =
-        record { place = f.place; chosen = behind k f.place f.chosen; keeps = f.keeps; visits = record { seen = f.seen; bounded = bounded } }
+        let at = behind k f.place f.chosen in
+        record { place = f.place; chosen = at; keeps = f.keeps; visits = record { seen = f.seen; bounded = bounded } }
 
     module _ (i : I) (num : ℕ) (bounded : IsWithinHintedBounds (length t.list.entries) t.shape num c)
         (unhinted : IfNone (entry_at t.list.entries (number i)) (IsWithinBounds (length t.list.entries) t.shape c))
@@ -128,7 +131,8 @@ module _ {P T : Type 0} (numbers : P → ℕ × ℕ) (t : Tree T) (distinct : Is
       (side.gap, side.puts)
 
 -- an insertion gives the pointer that was next
-module _ {T : Type 0} (c d : Chain T) (put : Entry T → List (Entry T)) (item : T) (i g j h : ℕ) (next : next_index c ≡ Some j) (era : h ≡ c.generation) where
+module _ {T : Type 0} (c d : Chain T) (put : Entry T → List (Entry T)) (item : T) (i g j h : ℕ) (next : next_index c ≡ Some j)
+    (era : h ≡ c.generation) where
   pub insertion-named : IsInsertion c d put item i g → IsInsertion c d put item j h
   insertion-named ins =
       let index : i ≡ j = let was = ins.next in cc in
@@ -139,7 +143,8 @@ pub err-and : {X E : Type 0} {Q R : E → Type 0} (r : Result X E) → IsErrAnd 
 err-and r has step = grind (arith, common_steps)
 
 -- at a gap that is its place a new entry that has no slot is refused
-module _ {T K : Type 0} (key : T → K) (cmp : K → K → Ordering) (most : ℕ) (aim : Aim K) (old : Tree T) (gap : Gap old.list.entries) (at : IsPlace key cmp aim (into gap)) where
+module _ {T K : Type 0} (key : T → K) (cmp : K → K → Ordering) (most : ℕ) (aim : Aim K) (old : Tree T) (gap : Gap old.list.entries)
+    (at : IsPlace key cmp aim (into gap)) where
   gap-refused : (growth : Growth) (e : OrdInsertionError) → LacksSlot growth most old.list e → IsRefused key cmp most growth aim old e
   gap-refused within NotWithinCapacity lacks = (gap, at, lacks)
   gap-refused reallocating BeyondMaxCapacity lacks = (gap, at, lacks)
@@ -147,7 +152,8 @@ module _ {T K : Type 0} (key : T → K) (cmp : K → K → Ordering) (most : ℕ
   gap-refused growth e lacks = absurd lacks
 
 module _ {P T K I G : Type 0} (numbers : P → ℕ × ℕ) (key : T → K) (cmp : K → K → Ordering) (number : I → ℕ) (growth : Growth) (most : ℕ)
-    (old : Tree T) (kind : OrdInsertKind P K I G) (c : ℕ) (at : Option (P × Ordering)) (found : IsPlaceFor numbers key cmp old number kind (New at) c)
+    (old : Tree T) (kind : OrdInsertKind P K I G) (c : ℕ) (at : Option (P × Ordering))
+    (found : IsPlaceFor numbers key cmp old number kind (New at) c)
     (e : OrdInsertionError) (lacks : LacksSlot growth most old.list e) where
   pub new-refused : IsRefused key cmp most growth (aim_of number kind) old e
   new-refused = go found.place found.chosen found.keeps
@@ -189,9 +195,10 @@ module _ {T : Type 0} (most : ℕ) (old new : Tree T) (distinct : IsDistinct old
     beside-inserted p inserted grown =
         let there = IsInsertion-same _ _ _ _ item _ _ side.puts inserted in
         let done = inserted-new old new (with_slot reallocating most old.list) (entries-with_slot reallocating most old.list) side.gap item p there in
-        record { inserts = (p, record { gap = side.gap; place = side.at; inserted = there; grown = grown }); updates = (p, done.updates); counted = done.count }
+        record { inserts = (p, record { gap = side.gap; place = side.at; inserted = there; grown = grown }); updates = (p, done.1); counted = done.2 }
 
-    pub beside-refused : (f : OrdInsertionError) → LacksSlot reallocating most old.list f → new ≡ old → (r : Result (Option T) OrdInsertionError)
+    pub beside-refused : (f : OrdInsertionError) → LacksSlot reallocating most old.list f → new ≡ old
+        → (r : Result (Option T) OrdInsertionError)
         → IsErrAnd r (λ e. e ≡ f) → InsertsBeside most i o old item r new
     beside-refused f lacks same (Ok x) none = absurd none
     beside-refused f lacks same (Err e) is =

@@ -12,6 +12,10 @@ use Rattle.triple_ord.proofs.Words.{IsNear, times, entry_at-link, occurs-entry, 
 use Rattle.triple_ord.proofs.Words.{option_and_then, times-append, Tree, item_of}
 use Rattle.triple_ord.specs.{OrderedWalk.ordered_rest, OrderedWalk.GivesEntry, Walk.entries_from, Walk.IsWalking}
 
+first-reverse : {X : Type 0} (xs : List X) (o : Option X) → last_or None xs ≡ o → first_of (reverse xs) ≡ o
+first-reverse xs None is = ap (λ ys. first_of (reverse ys)) (no_last xs is)
+first-reverse xs (Some x) is = let front = ends xs x is in ap (λ ys. first_of (reverse ys)) front.1 ∙ ap first_of (reverse-append front.0 (x ∷ []))
+
 module _ {T : Type 0} where
   -- the entries from an entry's neighbour on
   follows : (es front : List (Entry T)) (e : Entry T) (back : List (Entry T)) → IsDistinct es → es ≡ front ++ e ∷ back
@@ -19,16 +23,17 @@ module _ {T : Type 0} where
   follows es front e [] distinct cut = refl
   follows es front e (f ∷ back) distinct cut = from_index-here es distinct (front ++ e ∷ []) f back (cut ∙ simp append_assoc)
 
-  module _ (es front : List (Entry T)) (e : Entry T) (back : List (Entry T)) (i g : ℕ) (item : T) (next : Option ℕ) (distinct : IsDistinct es)
-      (cut : es ≡ front ++ e ∷ back) (index : e.index ≡ i) (generation : e.generation ≡ g) (same : e.item ≡ item) where
+  module _ (es front : List (Entry T)) (e : Entry T) (back : List (Entry T)) (i g : ℕ) (item : T) (next : Option ℕ)
+      (distinct : IsDistinct es) (cut : es ≡ front ++ e ∷ back) (index : e.index ≡ i) (era : e.generation ≡ g) (same : e.item ≡ item) where
     at_entry : option_map (λ e. e.index) (first_of back) ≡ next
         → entries_from es (Some i) ≡ record { index = i; generation = g; item = item } ∷ entries_from es next
     at_entry after =
-        rw (← index, ← generation, ← same, ← after, follows es front e back distinct cut) (from_index-here es distinct front e back cut)
+        rw (← index, ← era, ← same, ← after, follows es front e back distinct cut) (from_index-here es distinct front e back cut)
 
   -- the entry that is shown at an index, and then the entries from its neighbour on
   module _ (es : List (Entry T)) (i g : ℕ) (l : Link T) (distinct : IsDistinct es) where
-    pub walk-step : Some (g, l) ≡ link_at es i → entries_from es (Some i) ≡ record { index = i; generation = g; item = l.item } ∷ entries_from es l.next
+    pub walk-step : Some (g, l) ≡ link_at es i
+        → entries_from es (Some i) ≡ record { index = i; generation = g; item = l.item } ∷ entries_from es l.next
     walk-step found =
         let s = stands es i (rw (entry_at-link None None es i, ← found) refl) in
         let linked = link-read es distinct s.front s.entry s.back s.cut g l (ap (link_at es) s.here ∙ sym found) in
@@ -54,12 +59,7 @@ module _ {T : Type 0} where
   pub walk-end : (es : List (Entry T)) (i : ℕ) → None ≡ link_at es i → entries_from es (Some i) ≡ []
   walk-end es i missing = from-absent i es (link-absent es i missing)
 
--- A list of entries from its end: each entry's neighbours change places. So a walk back along a list is one along the list from its end.
-first-reverse : {X : Type 0} (xs : List X) (o : Option X) → last_or None xs ≡ o → first_of (reverse xs) ≡ o
-first-reverse xs None is = ap (λ ys. first_of (reverse ys)) (no_last xs is)
-first-reverse xs (Some x) is = let front = ends xs x is in ap (λ ys. first_of (reverse ys)) front.1 ∙ ap first_of (reverse-append front.0 (x ∷ []))
-
-module _ {T : Type 0} where
+  -- A list of entries from its end: each entry's neighbours change places. So a walk back along a list is one along the list from its end.
   times-reverse : (i : ℕ) (es : List (Entry T)) → times i (reverse es) ≡ times i es
   times-reverse i [] = refl
   times-reverse i (e ∷ es) = ap (times i) (reverse-append (e ∷ []) es) ∙ omega (arith, times-reverse i es, times-append i (reverse es) (e ∷ []))
@@ -96,7 +96,6 @@ module _ {T : Type 0} where
             stands = ap (λ o. record { at = o; falling = true }) (ap (option_and_then (λ (e : ℕ × Link T). e.1.prev)) found);
           }
 
-    -- no entry has the index
     pub rest-missing : (falling : Bool) → None ≡ link_at a.list.entries i → ordered_rest (record { at = Some i; falling = falling }) a ≡ []
     rest-missing false none = ap (map pointer) (walk-end a.list.entries i none)
     rest-missing true none = ap (map pointer) (from-absent i (reverse a.list.entries) (times-reverse i a.list.entries ∙ link-absent a.list.entries i none))
@@ -286,7 +285,7 @@ module _ {T K : Type 0} (key : T → K) (cmp : K → K → Ordering) (es : List 
     open-near (Some x) c near none = absurd (cc)
 
 -- no visit at all is within the bounds
-unvisited : (n : ℕ) (shape : Shape) → IsWithinBounds n shape 0
+pub unvisited : (n : ℕ) (shape : Shape) → IsWithinBounds n shape 0
 unvisited n shape = record {
   ranked = λ some. let four : 2 ^ 2 ≤ (n + 1) ^ 2 = pow-le-pow_left {n = 2} {m = n + 1} (omega (arith, some)) 2 in omega (arith, four);
   tight = λ tight. omega arith;
@@ -294,17 +293,9 @@ unvisited n shape = record {
   empty = λ none. refl;
 }
 
--- steps alone, and steps with a whole search
-pub hinted-steps : (n : ℕ) (shape : Shape) (num c : ℕ) → c ≤ num → c ≤ n → IsWithinHintedBounds n shape num c
-hinted-steps n shape num c few within = record { steps = c; search = 0; sum = omega arith; few = few; within = within; bounded = unvisited n shape }
-
 pub hinted-whole : (n : ℕ) (shape : Shape) (num steps c : ℕ) → steps ≤ num → steps ≤ n → steps ≤ c → IsWithinBounds n shape (c - steps) → IsWithinHintedBounds n shape num c
 hinted-whole n shape num steps c few within more bounded =
     record { steps = steps; search = c - steps; sum = omega (arith, more); few = few; within = within; bounded = bounded }
-
--- a whole search alone
-pub hinted-alone : (n : ℕ) (shape : Shape) (num c : ℕ) → IsWithinBounds n shape c → IsWithinHintedBounds n shape num c
-hinted-alone n shape num c bounded = record { steps = 0; search = c; sum = omega arith; few = omega arith; within = omega arith; bounded = bounded }
 
 -- where the hint has an entry, nothing is claimed of a hint without one
 pub named-unhinted : {X : Type 0} (P : Type 0) (o : Option X) → true ≡ is_some o → IfNone o P

@@ -1,12 +1,15 @@
 -- What the calls of an ordered arena do to the finite map that it is. The impl of `ArenaTrait` cites these laws; no public clause
 -- does.
-use Rattle.std.proofs.Common.{◌≡◌, ◌≢◌, ℕ, zero, suc, ◌+◌, ◌<◌, ◌≤◌, length, count_by, is_some, cond, replicate, Option, None, List, [], ◌∷◌, get_or, set, refl, sym, ap, ◌∙◌, arith, inl, inr}
+use Rattle.std.proofs.Common.{◌≡◌, ◌≢◌, ℕ, zero, suc, ◌+◌, ◌<◌, ◌≤◌, length, count_by, is_some, cond, replicate, Option, None, List, []}
+use Rattle.std.proofs.Common.{◌∷◌, get_or, set, refl, sym, ap, ◌∙◌, arith, inl, inr}
 use Rattle.std.proofs.lemmas.Bool.Decides.{eqb_tells, leb_tells}
 use Rattle.std.proofs.lemmas.List.Sums.{sum_by-cons}
 use Rattle.std.specs.Option.{option_map}
 use Rattle.arena_base.{proofs.CallerLemmas.limit_of-below, specs.Generation.next_generation}
-use Rattle.arena_base.specs.Arena.{HoldsSame, arena_len, arena_capacity, removed as arena_removed, renewed as arena_renewed, cleared as arena_cleared, with_item as arena_with_item, slot, item_of, item_if, IsLawful}
-use Rattle.chain_base.specs.Chain.{Entry, entry_at, times, IsSound, IsDistinct, without, with_generation, removed, renewed, cleared, item_of as item_among, with_item_among}
+use Rattle.arena_base.specs.Arena.{HoldsSame, arena_len, arena_capacity, removed as arena_removed, renewed as arena_renewed}
+use Rattle.arena_base.specs.Arena.{cleared as arena_cleared, with_item as arena_with_item, slot, item_of, item_if, IsLawful}
+use Rattle.chain_base.specs.Chain.{Entry, entry_at, times, IsSound, IsDistinct, without, with_generation, removed, renewed, cleared}
+use Rattle.chain_base.specs.Chain.{item_of as item_among, with_item_among}
 use Rattle.chain_base.specs.Compression.{lesser}
 use Rattle.chain_base.proofs.CallerLemmas.{entry_at-absent, entry_at-with_item_among, entry_at-with_item_among_other, entry_at-without, entry_at-without_other}
 use Rattle.chain_base.proofs.CallerLemmas.{entry_at-with_generation, entry_at-with_generation_other, lesser-zero, lesser-next, lesser-all}

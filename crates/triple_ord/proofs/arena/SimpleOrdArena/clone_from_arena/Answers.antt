@@ -7,7 +7,8 @@ returns-clause-ok g c =
     let sound : IsSound g.P.Inx.PtrInx.most g.P.Gen.PtrGen.greatest c.source.inside.tree.list = rw c.source.view_is c.len.ensures.sound in
     rw (← c.self.view_is, ← c.source.view_is)
     (MatchResult-weaker c.try_clone_from_with.result c.try_clone_from_with.ensures.ok
-    (λ done. clone-cloned g.P.Ptr.numbers _ (λ f p u x h called. c.requires.clones u.now x (search rules)) _ _ _ c.source.inside.tree sound _ _) (λ e none. tt))
+    (λ done. clone-cloned g.P.Ptr.numbers _ (λ f p u x h called. c.requires.clones u.now x (search rules)) _ _ _
+    c.source.inside.tree sound _ _) (λ e none. tt))
 
 pub returns-clause-found : goal.returns-clause-found
 returns-clause-found g c = IfOk-weaker c.try_clone_from_with.result _ _ (λ done is p. rw is refl) (returns-clause-ok g c)

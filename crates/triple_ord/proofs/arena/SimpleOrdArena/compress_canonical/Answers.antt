@@ -8,8 +8,8 @@ returns-clause-items g c =
 
 pub returns-clause-count : goal.returns-clause-count
 returns-clause-count g c =
-    let items = ap (λ (c : Chain _). map (λ e. e.item) c.entries) c.compress_canonical.ensures.after ∙ items-numbered _ 1 _ in
-    rw (← c.self.view_is) (sym (length-map c.compress_canonical.new.self.list.entries (λ e. e.item)) ∙ ap length items ∙ length-map c.self.inside.tree.list.entries (λ e. e.item))
+    sym (length-map c.compress_canonical.new.self.list.entries (λ e. e.item)) ∙ ap length (returns-clause-items g c)
+    ∙ length-map c.args.self.now.list.entries (λ e. e.item)
 
 pub returns-clause-found : goal.returns-clause-found
 returns-clause-found g c =

@@ -15,6 +15,7 @@ returns-in-New g c =
     let ready = rw c.in-New.is at c.requires in
     let place = put-gap g.P.Ptr.numbers c.args.self.now c.len.ensures.sound.distinct c.args.prepared.at ready.0 in
     let named = insertion-named _ _ _ _ _ _ _ _ ready.1 ready.2 c.put-inserted.ensures.inserted in
-    let done = inserted-new c.args.self.now c.put-inserted.new.self c.args.self.now.list refl place.0 c.args.t (g.P.Ptr.numbers c.in-New._shown)
+    let done = inserted-new c.args.self.now c.put-inserted.new.self c.args.self.now.list refl place.0 c.args.t
+    (g.P.Ptr.numbers c.in-New._shown)
     (IsInsertion-same _ _ _ _ c.args.t _ _ place.1 named) in
-    rw c.in-New.is (record { inserts = (named, c.put-inserted.ensures.grown); updates = done.updates; before = sym done.nothing; count = done.count })
+    rw c.in-New.is (record { inserts = (named, c.put-inserted.ensures.grown); updates = done.1; before = sym done.0; count = done.2 })

@@ -3,7 +3,8 @@ use Rattle.triple_ord.proofs.Words.{◌≡◌, sym, ap, ◌∙◌, is_eq, Orderi
 use Rattle.triple_ord.proofs.arena.SimpleOrdArena.place_found.Goals as goal
 
 pub returns-in-None : goal.returns-in-None
-returns-in-None g c cmp k visits found = found-alone g.P.Ptr.numbers g.T.SimpleOrdItem.key_of cmp c.args.self.now k visits (rw c.in-None.is at found)
+returns-in-None g c cmp k visits found =
+    found-alone g.P.Ptr.numbers g.T.SimpleOrdItem.key_of cmp c.args.self.now k visits (rw c.in-None.is at found)
 
 pub returns-in-Some : goal.returns-in-Some
 returns-in-Some g c cmp k visits found =

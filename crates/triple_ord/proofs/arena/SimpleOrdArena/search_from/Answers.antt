@@ -1,5 +1,5 @@
+use Rattle.triple_ord.proofs.Stepping.{FindsSimilar-more, settled-similar, settled-near, open-near, unvisited, hinted-whole, named-unhinted}
 use Rattle.triple_ord.proofs.Words.{◌-◌, sym, subst, ◌∙◌, arith, Tree, IsNearHint, taken}
-use Rattle.triple_ord.proofs.Stepping.{FindsSimilar-more, settled-similar, settled-near, open-near, hinted-steps, hinted-whole, hinted-alone, named-unhinted}
 use Rattle.triple_ord.proofs.arena.SimpleOrdArena.search_from.Goals as goal
 
 pub returns-then-is_some-clause-found : goal.returns-then-is_some-clause-found
@@ -9,7 +9,9 @@ returns-then-is_some-clause-found g c =
 
 pub returns-then-is_some-clause-visits : goal.returns-then-is_some-clause-visits
 returns-then-is_some-clause-visits g c =
-    rw (← c.self.view_is, ← c.new-probe.ensures.tree, c.visits.ensures) (hinted-steps _ _ _ _ c.step_along-near.ensures.few c.step_along-near.ensures.within)
+    let near = c.step_along-near.ensures in
+    rw (← c.self.view_is, ← c.new-probe.ensures.tree, c.visits.ensures)
+    (record { steps = c.step_along-near.new.probe.visits; search = 0; sum = omega arith; few = near.few; within = near.within; bounded = unvisited _ _ })
 
 pub returns-then-is_some-clause-near : goal.returns-then-is_some-clause-near
 returns-then-is_some-clause-near g c =
@@ -37,7 +39,8 @@ returns-clause-near g c =
     (open-near _ _ _ _ _ _ _ _ _ c.step_along-near.ensures.near (sym c.is_some.ensures ∙ c.if-is_some.false))
 
 pub returns-then-not-contains_inx-clause-visits : goal.returns-then-not-contains_inx-clause-visits
-returns-then-not-contains_inx-clause-visits g c = hinted-alone _ _ _ _ c.search.ensures.visits
+returns-then-not-contains_inx-clause-visits g c =
+    record { steps = 0; search = _; sum = omega arith; few = omega arith; within = omega arith; bounded = c.search.ensures.visits }
 
 pub returns-then-is_some-clause-unhinted : goal.returns-then-is_some-clause-unhinted
 returns-then-is_some-clause-unhinted g c = named-unhinted _ _ (rw c.self.view_is at c.if-not-contains_inx.ensures)

@@ -1,11 +1,11 @@
-use Rattle.triple_ord.proofs.Content.{recast-begins, recast-vacant, recast-next, recast-failed, recast-ends, vacant_of}
-use Rattle.triple_ord.proofs.Words.{◌≡◌, ◌+◌, ◌≤◌, Err, is_some, sym, ap, ◌∙◌, rules, arith}
+use Rattle.triple_ord.proofs.Content.{recast-vacant, recast-next, recast-failed, recast-ends, vacant_of}
+use Rattle.triple_ord.proofs.Words.{[], refl, ◌≡◌, ◌+◌, ◌≤◌, Err, is_some, sym, ap, ◌∙◌, rules, arith}
 use Rattle.triple_ord.proofs.arena.recast.SimpleOrdArenaRecast.recast.Goals.{then-contains_inx+in_ok-recast_at, else-contains_inx}
 use Rattle.triple_ord.specs.Arena.{entry_at}
 use Rattle.triple_ord.proofs.arena.recast.SimpleOrdArenaRecast.recast.Goals as goal
 
 pub loop-position-init : goal.loop-position-init
-loop-position-init g c = recast-begins (g.T.Recast.recast_gives (g.R.Recaster.item_gives c.args.recaster.now)) c.args.self.now
+loop-position-init g c = record { recast = []; split = refl; calls = refl; kept = λ k. refl }
 
 pub returns-in_err-recast_at : goal.returns-in_err-recast_at
 returns-in_err-recast_at g c =
