@@ -175,11 +175,11 @@ module _ {P T I G : Type 0} (t : Tree T) (c : Chain (SimpleOrdArenaNode P T I G)
       ∙ sym (is_some-bare c.entries i) ∙ ap (λ (l : Chain T). is_some (entry_at l.entries i)) under.list ∙ some
 
   -- what a look-up in the arena shows
-  pub node-looked_up : {X : Type 0} (f : X → ℕ × Link (SimpleOrdArenaNode P T I G)) (o : Option X) (i : ℕ) → option_map f o ≡ slot a i
-      → IfSome o (λ x. IsNodeIn t.shape i (f x).1.item.p_back (f x).1.item.p_tree0 (f x).1.item.p_tree1 (f x).1.item.rank)
-  node-looked_up f None i is = tt
-  node-looked_up f (Some x) i is = node-shown i (f x) (sym is)
+  module _ {X : Type 0} (f : X → ℕ × Link (SimpleOrdArenaNode P T I G)) where
+    pub node-looked_up : (o : Option X) (i : ℕ) → option_map f o ≡ slot a i
+        → IfSome o (λ x. IsNodeIn t.shape i (f x).1.item.p_back (f x).1.item.p_tree0 (f x).1.item.p_tree1 (f x).1.item.rank)
+    node-looked_up None i is = tt
+    node-looked_up (Some x) i is = node-shown i (f x) (sym is)
 
-  pub link-looked_up : {X : Type 0} (f : X → ℕ × Link (SimpleOrdArenaNode P T I G)) (o : Option X) (i : ℕ) → option_map f o ≡ slot a i
-      → option_map (λ x. bare_link (f x)) o ≡ link_at t.list.entries i
-  link-looked_up f o i is = option_map-twice f bare_link o ∙ ap (option_map bare_link) (is ∙ lies.slots i) ∙ link_at-under t c under i
+    pub link-looked_up : (o : Option X) (i : ℕ) → option_map f o ≡ slot a i → option_map (λ x. bare_link (f x)) o ≡ link_at t.list.entries i
+    link-looked_up o i is = option_map-twice f bare_link o ∙ ap (option_map bare_link) (is ∙ lies.slots i) ∙ link_at-under t c under i

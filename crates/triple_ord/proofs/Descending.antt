@@ -82,28 +82,28 @@ module _ {T : Type 0} where
       let here : j ≡ i = cc in
       record { lesser = l; rank = k; greater = r; node_is = rw here refl; cut = cut_at middle (walk l) i (walk r) (rw here at left) }
 
-  pub IsDescending-begin : (t : Tree T) → map (λ e. e.index) t.list.entries ≡ walk t.shape → IsDistinct t.list.entries
-      → (d : IsDescending t.list.entries t.shape [] (root_of t.shape)) × (first_of d.back ≡ None)
-  IsDescending-begin t listed distinct = (
-    record {
-      part = t.shape;
-      within = IsPart-whole t.shape;
-      led = refl;
-      front = [];
-      middle = t.list.entries;
-      back = [];
-      cut = sym (append-nil t.list.entries);
-      left = listed;
-      greater_before = tt;
-      less_after = tt;
-      last_beside = (refl, refl);
-      few = omega arith;
-      new = λ j. omega (arith, distinct j);
-      inside = All-nil (λ (s : Shown T). Contains t.list.entries s.0);
-      no_equal = All-nil (λ (s : Shown T). s.1 ≢ Equal);
-    },
-    refl,
-  )
+  module _ (t : Tree T) (listed : map (λ e. e.index) t.list.entries ≡ walk t.shape) (distinct : IsDistinct t.list.entries) where
+    pub IsDescending-begin : (d : IsDescending t.list.entries t.shape [] (root_of t.shape)) × (first_of d.back ≡ None)
+    IsDescending-begin = (
+      record {
+        part = t.shape;
+        within = IsPart-whole t.shape;
+        led = refl;
+        front = [];
+        middle = t.list.entries;
+        back = [];
+        cut = sym (append-nil t.list.entries);
+        left = listed;
+        greater_before = tt;
+        less_after = tt;
+        last_beside = (refl, refl);
+        few = omega arith;
+        new = λ j. omega (arith, distinct j);
+        inside = All-nil (λ (s : Shown T). Contains t.list.entries s.0);
+        no_equal = All-nil (λ (s : Shown T). s.1 ≢ Equal);
+      },
+      refl,
+    )
 
 -- a descent that has come to a link: the entry there
 module _ {T : Type 0} (t : Tree T) (distinct : IsDistinct t.list.entries) (shown : List (Shown T)) (i : ℕ) (d : IsDescending t.list.entries t.shape shown (Some i)) where
@@ -251,15 +251,15 @@ module _ {T F : Type 0} (asks : F → Shown T → F → Type 0) (t : Tree T) (di
   pub descent-begins : map (λ e. e.index) t.list.entries ≡ walk t.shape → HasDescended asks t.list.entries t.shape before f f (root_of t.shape) before None
   descent-begins listed = record { shown = []; calls = refl; descending = (IsDescending-begin t listed distinct).0; count = omega arith; last_is = refl }
 
-  pub descent-ends : (g : F) (visits : ℕ) (last : Option ((ℕ × ℕ) × Ordering))
-      → HasDescended asks t.list.entries t.shape before f g None visits last
-      → FindsSimilarWith asks t.list.entries f g last (visits - before)
-  descent-ends g visits last d = (
-    last_or None d.shown,
-    record { shown = d.shown; calls = d.calls; search = descent-search t.list.entries t.shape d.shown d.descending; last_is = refl; count = omega (arith, d.count) },
-    d.last_is,
-    rw d.last_is (descent-empty t.list.entries t.shape d.shown d.descending (last_or None d.shown) refl),
-  )
+  module _ (g : F) (visits : ℕ) (last : Option ((ℕ × ℕ) × Ordering)) where
+    pub descent-ends : HasDescended asks t.list.entries t.shape before f g None visits last
+        → FindsSimilarWith asks t.list.entries f g last (visits - before)
+    descent-ends d = (
+      last_or None d.shown,
+      record { shown = d.shown; calls = d.calls; search = descent-search t.list.entries t.shape d.shown d.descending; last_is = refl; count = omega (arith, d.count) },
+      d.last_is,
+      rw d.last_is (descent-empty t.list.entries t.shape d.shown d.descending (last_or None d.shown) refl),
+    )
 
   module _ (g : F) (i visits : ℕ) (last : Option ((ℕ × ℕ) × Ordering)) (d : HasDescended asks t.list.entries t.shape before f g (Some i) visits last)
       (generation : ℕ) (item : T) (lesser greater : Option ℕ) (there : IsShown t i generation item lesser greater) where

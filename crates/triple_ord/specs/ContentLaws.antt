@@ -99,12 +99,12 @@ module _ {T : Type 0} where
       (λ k other. entry_at-with_generation_other es i k next other) refl t.list.capacity in
       rw is (record { slots = slots; generation = refl; maximum = refl })
 
-  pub content_removed : (most : ℕ) (greatest : Option ℕ) (t u : Tree T) (i : ℕ) → IsSound most greatest t.list
-      → u.list ≡ removed greatest t.list i → HoldsSame (content_of u) (arena_removed greatest (content_of t) i)
-  content_removed most greatest t u i sound is =
-      let es = t.list.entries in
-      let slots = slots-changed (λ s. None) i es (without i es) (entry_at-without es i sound.distinct) (λ k other. entry_at-without_other es i k other) refl t.list.capacity in
-      rw is (record { slots = slots; generation = refl; maximum = refl })
+  module _ (most : ℕ) (greatest : Option ℕ) (t u : Tree T) (i : ℕ) (sound : IsSound most greatest t.list) where
+    pub content_removed : u.list ≡ removed greatest t.list i → HoldsSame (content_of u) (arena_removed greatest (content_of t) i)
+    content_removed is =
+        let es = t.list.entries in
+        let slots = slots-changed (λ s. None) i es (without i es) (entry_at-without es i sound.distinct) (λ k other. entry_at-without_other es i k other) refl t.list.capacity in
+        rw is (record { slots = slots; generation = refl; maximum = refl })
 
   -- an empty list has no slot with an entry
   slots-empty : (from n : ℕ) → slots_from {T = T} [] from n ≡ replicate {A = Option (ℕ × T)} n None
