@@ -41,12 +41,12 @@ module _ {T K : Type 0} (key : T → K) (cmp : K → K → Ordering) (es : List 
 module _ {P T K : Type 0} (numbers : P → ℕ × ℕ) (key : T → K) (cmp : K → K → Ordering) (t : Tree T) where
   module _ (k : K) (c : ℕ) where
     -- a gap where a search by a key stops is its place
-    found-gap : (at : Option (P × Ordering)) → HasRoomAt numbers at t.list
-        → HasPlace key cmp t.list.entries k c (put_at (λ p. (numbers p).0) at t.list.entries) → (t.list.entries ≢ [] → 1 ≤ c)
-        → IsFoundPlace numbers key cmp t (at_key k) c (New at)
-    found-gap at can place some =
-        let seen : HasSeen (into place.gap) c = record { some = some; beside = place.stops.seen } in
-        record { place = into place.gap; chosen = place.stops.fits; keeps = (can, place.puts); seen = seen }
+    module _ (at : Option (P × Ordering)) (can : HasRoomAt numbers at t.list) where
+      found-gap : HasPlace key cmp t.list.entries k c (put_at (λ p. (numbers p).0) at t.list.entries) → (t.list.entries ≢ [] → 1 ≤ c)
+          → IsFoundPlace numbers key cmp t (at_key k) c (New at)
+      found-gap place some =
+          let seen : HasSeen (into place.gap) c = record { some = some; beside = place.stops.seen } in
+          record { place = into place.gap; chosen = place.stops.fits; keeps = (can, place.puts); seen = seen }
 
     pub found-alone : t.list.entries ≡ [] → IsFoundPlace numbers key cmp t (at_key k) c (New None)
     found-alone empty = found-gap None (ap length empty) (place-alone key cmp t.list.entries k empty c) (λ some. absurd (some empty))
@@ -197,9 +197,8 @@ module _ {T : Type 0} (most : ℕ) (old new : Tree T) (distinct : IsDistinct old
         let done = inserted-new old new (with_slot reallocating most old.list) (entries-with_slot reallocating most old.list) side.gap item p there in
         record { inserts = (p, record { gap = side.gap; place = side.at; inserted = there; grown = grown }); updates = (p, done.1); counted = done.2 }
 
-    pub beside-refused : (f : OrdInsertionError) → LacksSlot reallocating most old.list f → new ≡ old
-        → (r : Result (Option T) OrdInsertionError)
-        → IsErrAnd r (λ e. e ≡ f) → InsertsBeside most i o old item r new
-    beside-refused f lacks same (Ok x) none = absurd none
-    beside-refused f lacks same (Err e) is =
-        record { refused = gap-refused (λ item. tt {0}) (λ k l. Equal) most (beside i o) old side.gap side.at reallocating e (rw is lacks); after = same }
+    module _ (f : OrdInsertionError) (lacks : LacksSlot reallocating most old.list f) (same : new ≡ old) where
+      pub beside-refused : (r : Result (Option T) OrdInsertionError) → IsErrAnd r (λ e. e ≡ f) → InsertsBeside most i o old item r new
+      beside-refused (Ok x) none = absurd none
+      beside-refused (Err e) is =
+          record { refused = gap-refused (λ item. tt {0}) (λ k l. Equal) most (beside i o) old side.gap side.at reallocating e (rw is lacks); after = same }
