@@ -4,9 +4,9 @@ use Rattle.ord_tree.specs.Node.{bare_entry, links_in, slots_of, indexes}
 use Rattle.ord_tree.specs.{Parents.HasParentUnder, Slots.Slots, Slots.Holds, Slots.Among, declared.tree_links.TreeLinks.TreeLinks}
 use Rattle.triple_ord.proofs.Words.{◌≡◌, ℕ, ◌↔◌, length, List, [], ◌∷◌, ◌++◌, Option, Some, None, IsSome, IfSome, is_some, refl, sym, ap}
 use Rattle.triple_ord.proofs.Words.{subst, ◌∙◌, inl, inr, ◌⊎◌, map, length-map, nil_from_length, option_map, Arena, slot, item_if, Link}
-use Rattle.triple_ord.proofs.Words.{Entry, Chain, entry_at, link_between, link_at, last_pointer, times, generation_at, IsFirstIndex}
-use Rattle.triple_ord.proofs.Words.{IsLastIndex, IsArenaOf, SimpleOrdArenaNode, Shape, missing, node, root_of, walk, Tree, IsChainOf}
 use Rattle.triple_ord.proofs.Words.{IsSoundTree, IsPart, IsNodeIn, IsShown, entry_at-link, entry_at-bare, arith, common_steps, is_some-bare}
+use Rattle.triple_ord.proofs.Words.{IsLastIndex, IsArenaOf, SimpleOrdArenaNode, Shape, missing, node, root_of, walk, Tree, IsChainOf}
+use Rattle.triple_ord.proofs.Words.{Entry, Chain, entry_at, link_between, link_at, last_pointer, times, generation_at, IsFirstIndex}
 use Rattle.triple_ord.proofs.Words.{times-bare, indexes-bare}
 
 pub is_some-map : {A B : Type 0} (f : A → B) (o : Option A) → is_some (option_map f o) ≡ is_some o
@@ -24,8 +24,7 @@ module _ {P T I G : Type 0} where
   last_pointer-bare es = grind (arith, common_steps)
 
   generation_at-link : (es : List (Entry (SimpleOrdArenaNode P T I G))) (i : ℕ) → generation_at es i ≡ option_map (λ e. e.0) (link_at es i)
-  generation_at-link es i =
-      ap (option_map (λ (e : ℕ × SimpleOrdArenaNode P T I G). e.0)) (entry_at-link None None es i)
+  generation_at-link es i = ap (option_map (λ (e : ℕ × SimpleOrdArenaNode P T I G). e.0)) (entry_at-link None None es i)
       ∙ sym (option_map-twice (λ (e : ℕ × Link (SimpleOrdArenaNode P T I G)). (e.0, e.1.item)) (λ (e : ℕ × SimpleOrdArenaNode P T I G). e.0) (link_at es i))
 
   -- a link to a node, seen as a link to its item
@@ -52,8 +51,7 @@ module _ {P T I G : Type 0} where
     times-under i = sym (times-bare c.entries i) ∙ ap (λ (l : Chain T). times i l.entries) under.list
 
     generation_at-under : (i : ℕ) → generation_at c.entries i ≡ generation_at t.list.entries i
-    generation_at-under i =
-        sym (ap (option_map (λ (e : ℕ × T). e.0)) (entry_at-under i)
+    generation_at-under i = sym (ap (option_map (λ (e : ℕ × T). e.0)) (entry_at-under i)
         ∙ sym (option_map-twice (λ (e : ℕ × SimpleOrdArenaNode P T I G). (e.0, e.1.t)) (λ (e : ℕ × T). e.0) (entry_at c.entries i)))
 
     length-under : length c.entries ≡ length t.list.entries
@@ -144,8 +142,7 @@ found-occupied g o some = grind (arith, common_steps)
 module _ {P T I G : Type 0} (t : Tree T) (c : Chain (SimpleOrdArenaNode P T I G)) (under : IsChainOf t c) where
   -- the links of a node of the chain under a tree, by its place in the tree
   held_at : (i : ℕ) (e : ℕ × SimpleOrdArenaNode P T I G) → entry_at c.entries i ≡ Some e → (l r : Shape) (k : ℕ)
-      → IsPart (node l i k r) t.shape
-      → HoldsLinks None t.shape l r i k (links_in e.1)
+      → IsPart (node l i k r) t.shape → HoldsLinks None t.shape l r i k (links_in e.1)
   held_at i e is l r k part = held-part (slots_of c) None (root_of t.shape) t.shape l r i k (links_in e.1) under.held part (rw is refl)
 
   -- it shows the entry, and the roots of its sides

@@ -5,20 +5,20 @@ use Rattle.arena_base.specs.declared.error.ReallocationError.TheVariants.{Beyond
 use Rattle.arena_base.specs.declared.invalidation.InvalidationOption.{InvalidationOption}
 use Rattle.chain_base.specs.{Chain.entry_at as entry_among, Clone.taken_over}
 use Rattle.ord_tree.specs.Clone.{ShowsItem, IsClone, IsRefusedClone}
-use Rattle.triple_ord.proofs.Inserting.{entry_at-after, similar-here, IsInsertion-same}
 use Rattle.triple_ord.proofs.Words.{OrdInsertionError, ◌≡◌, ◌≢◌, ℕ, ◌+◌, List, [], ◌∷◌, ◌++◌, length, Option, Some, None, IsSome, is_some}
 use Rattle.triple_ord.proofs.Words.{slice_get, map, length-append, IfSome, IfNone, OnSome, Ok, refl, sym, ap, subst, ◌∙◌, arith, inl, inr}
+use Rattle.triple_ord.proofs.Words.{beside, Place, into, over, IsPlace, aim_of, Growth, with_slot, InsertsBy, told, OrdEntryKind, New}
+use Rattle.triple_ord.proofs.Words.{Tree, IsGrown, with_item, Gap, with_between, Equal, pointer, FindsKey, FindsSimilar, Aim, at_key}
+use Rattle.triple_ord.proofs.Words.{Replacing, OrdInsertKind, item_of, items, count, Updates, Renews, FindsBy, IsOfGeneration, IsNumbered}
 use Rattle.triple_ord.proofs.Words.{if◌then◌else◌, eq-eqb, cases_eq, option_map, Ordering, next_generation, item_if, Entry, Chain, times}
-use Rattle.triple_ord.proofs.Words.{IsDistinct, removed, renewed, inserted_at, IsInsertion, moved, at_compressed_index, numbered}
+use Rattle.triple_ord.proofs.Words.{FindsNothing, ◌<◌, Result, Err, ◌⊎◌, nil_from_length, Bor, IsSound, greatest_index, clone-same}
 use Rattle.triple_ord.proofs.Words.{Transferring, TransferStep, IsTransfer, FoldsTo, length-map, entry_at-absent, entry_at-without_other}
+use Rattle.triple_ord.proofs.Words.{IsDistinct, removed, renewed, inserted_at, IsInsertion, moved, at_compressed_index, numbered}
+use Rattle.triple_ord.proofs.Words.{entry_at-numbered_before, generation-numbered, items-numbered, generation-moved, generation-relocated}
+use Rattle.triple_ord.proofs.Words.{length-with_generation, entry_at-between_other, entry_at-between, length-between, entry_at-numbered}
 use Rattle.triple_ord.proofs.Words.{entry_at-without, length-without, entry_at-with_item_among_other, entry_at-with_item_among}
 use Rattle.triple_ord.proofs.Words.{length-with_item_among, entry_at-with_generation_other, entry_at-with_generation}
-use Rattle.triple_ord.proofs.Words.{length-with_generation, entry_at-between_other, entry_at-between, length-between, entry_at-numbered}
-use Rattle.triple_ord.proofs.Words.{entry_at-numbered_before, generation-numbered, items-numbered, generation-moved, generation-relocated}
-use Rattle.triple_ord.proofs.Words.{Tree, IsGrown, with_item, Gap, with_between, Equal, pointer, FindsKey, FindsSimilar, Aim, at_key}
-use Rattle.triple_ord.proofs.Words.{beside, Place, into, over, IsPlace, aim_of, Growth, with_slot, InsertsBy, told, OrdEntryKind, New}
-use Rattle.triple_ord.proofs.Words.{Replacing, OrdInsertKind, item_of, items, count, Updates, Renews, FindsBy, IsOfGeneration, IsNumbered}
-use Rattle.triple_ord.proofs.Words.{FindsNothing, ◌<◌, Result, Err, ◌⊎◌, nil_from_length, Bor, IsSound, greatest_index, clone-same}
+use Rattle.triple_ord.proofs.Inserting.{entry_at-after, similar-here, IsInsertion-same}
 use Rattle.triple_ord.proofs.Words.{common_steps, refused-some, Shape}
 use Rattle.triple_ord.specs.{Arena.entry_at, Clone.cloned, Clone.emptied, Entry.InsertsThere, Entry.Awaits, Entry.IsEntryFor}
 use Rattle.triple_ord.specs.{EntryKind.pointer_of, declared.insert_kind.OrdInsertKind.TheVariants.Normal}
@@ -41,15 +41,16 @@ module _ {T : Type 0} where
       rw same (item_if-other p.1 q.1 (entry_at a p.0) has (λ era. apart (ap (λ i. (i, q.1)) same ∙ ap (λ g. (p.0, g)) era)))
 
   -- a change at the index of the pointer that names its entry, if any
-  updates-at : (old new : Tree T) (p : ℕ × ℕ) (found : Option T) → IfSome (entry_at old p.0) (λ e. e.0 ≡ p.1)
-      → entry_at new p.0 ≡ option_map (λ x. (p.1, x)) found → ((i : ℕ) → i ≢ p.0 → entry_at new i ≡ entry_at old i) → Updates old new p found
-  updates-at old new p found has here others = record {
-    changed = rw here (item_if-own p.1 found);
-    others = λ q apart. elim (cases_eq q.0 p.0) [
-      | inl same ↦ item_of-other new p q (rw here (grind (arith, common_steps))) same apart ∙ sym (item_of-other old p q has same apart)
-      | inr other ↦ ap (item_if q.1) (others q.0 other)
-    ];
-  }
+  module _ (old new : Tree T) (p : ℕ × ℕ) (found : Option T) where
+    updates-at : IfSome (entry_at old p.0) (λ e. e.0 ≡ p.1) → entry_at new p.0 ≡ option_map (λ x. (p.1, x)) found
+        → ((i : ℕ) → i ≢ p.0 → entry_at new i ≡ entry_at old i) → Updates old new p found
+    updates-at has here others = record {
+      changed = rw here (item_if-own p.1 found);
+      others = λ q apart. elim (cases_eq q.0 p.0) [
+        | inl same ↦ item_of-other new p q (rw here (grind (arith, common_steps))) same apart ∙ sym (item_of-other old p q has same apart)
+        | inr other ↦ ap (item_if q.1) (others q.0 other)
+      ];
+    }
 
   pub updates-removed : (greatest : Option ℕ) (old new : Tree T) (p : ℕ × ℕ) → IsDistinct old.list.entries → IsSome (item_of old p)
       → new.list ≡ removed greatest old.list p.0 → Updates old new p None
@@ -130,24 +131,31 @@ module _ {T : Type 0} where
       found_there : (e : G × T) → Some (number e.0, e.1) ≡ entry_at old i → IsSome (item_of old (i, number e.0))
       found_there e value = rw (← value, eq-eqb (number e.0) (number e.0) refl) refl
 
-      pub updates-taken_at : (o : Option (G × T)) → option_map (λ e. (number e.0, e.1)) o ≡ entry_at old i
-          → OnSome o (new.list ≡ removed greatest old.list i) → IfSome o (λ e. Updates old new (i, number e.0) None)
+      abbrev IsTaken : Option (G × T) → Type 0
+      IsTaken o = OnSome o (new.list ≡ removed greatest old.list i)
+
+      pub updates-taken_at : (o : Option (G × T)) → option_map (λ e. (number e.0, e.1)) o ≡ entry_at old i → IsTaken o
+          → IfSome o (λ e. Updates old new (i, number e.0) None)
       updates-taken_at None value after = tt
       updates-taken_at (Some e) value after = updates-removed greatest old new (i, number e.0) distinct (found_there e value) after
 
-      pub count-taken_at : (o : Option (G × T)) → option_map (λ e. (number e.0, e.1)) o ≡ entry_at old i
-          → OnSome o (new.list ≡ removed greatest old.list i) → OnSome o (count old ≡ count new + 1)
+      pub count-taken_at : (o : Option (G × T)) → option_map (λ e. (number e.0, e.1)) o ≡ entry_at old i → IsTaken o → OnSome o (count old ≡ count new + 1)
       count-taken_at None value after = tt
       count-taken_at (Some e) value after = count-removed greatest old new (i, number e.0) (found_there e value) after
 
   module _ {P : Type 0} (numbers : P → ℕ × ℕ) (greatest : Option ℕ) (old new : Tree T) (p : ℕ × ℕ) where
-    pub renews-renewed : (o : Option P) → is_some o ≡ is_some (item_of old p) → IfSome o (λ q. (numbers q).0 ≡ p.0)
-        → IfSome o (λ q. (numbers q).1 ≡ next_generation greatest old.list.generation)
-        → OnSome o (new ≡ record old { list = renewed greatest old.list p.0 }) → IfSome o (λ q. Renews old new p (numbers q))
-    renews-renewed None valid at raised after = tt
-    renews-renewed (Some q) valid at raised after = rw (at, raised, after) (updates-renewed greatest old p (sym valid))
+    abbrev IsRenewed : Option P → Type 0
+    IsRenewed o = OnSome o (new ≡ record old { list = renewed greatest old.list p.0 })
 
-    pub count-renewed : (o : Option P) → OnSome o (new ≡ record old { list = renewed greatest old.list p.0 }) → IfNone o (new ≡ old) → count new ≡ count old
+    -- the new pointer, if any, is of the next generation at the same index
+    abbrev IsNext : Option P → Type 0
+    IsNext o = IfSome o (λ q. (numbers q).0 ≡ p.0) × IfSome o (λ q. (numbers q).1 ≡ next_generation greatest old.list.generation)
+
+    pub renews-renewed : (o : Option P) → is_some o ≡ is_some (item_of old p) → IsNext o → IsRenewed o → IfSome o (λ q. Renews old new p (numbers q))
+    renews-renewed None valid next after = tt
+    renews-renewed (Some q) valid next after = rw (next.0, next.1, after) (updates-renewed greatest old p (sym valid))
+
+    pub count-renewed : (o : Option P) → IsRenewed o → IfNone o (new ≡ old) → count new ≡ count old
     count-renewed None after same = ap count same
     count-renewed (Some q) after same = ap count after ∙ length-with_generation old.list.entries p.0 (next_generation greatest old.list.generation)
 
@@ -173,26 +181,28 @@ module _ {T K : Type 0} (key : T → K) (cmp : K → K → Ordering) where
     abbrev Inserted : OrdEntryKind P → Option T → Type 0
     Inserted shown before = InsertsBy key cmp most growth (aim_of number kind) numbers old item (Ok (shown, before)) new
 
+    abbrev IsAwaited : Place old.list.entries → OrdEntryKind P → Type 0
+    IsAwaited place shown = IsPlace key cmp (aim_of number kind) place × Awaits numbers growth most old arena place put shown
+
     pub entry-inserts : InsertsThere numbers shown put arena item before new → Inserted shown before
-    entry-inserts there = go asked.place shown before asked.chosen asked.awaits there
+    entry-inserts there = go asked.place shown before (asked.chosen, asked.awaits) there
       where
-        go : (place : Place old.list.entries) (shown : OrdEntryKind P) (before : Option T) → IsPlace key cmp (aim_of number kind) place
-            → Awaits numbers growth most old arena place put shown → InsertsThere numbers shown put arena item before new
-            → Inserted shown before
-        go (into gap) (New p) None at awaits there = record {
+        go : (place : Place old.list.entries) (shown : OrdEntryKind P) (before : Option T) → IsAwaited place shown
+            → InsertsThere numbers shown put arena item before new → Inserted shown before
+        go (into gap) (New p) None (at, awaits) there = record {
           gap = gap;
           place = at;
           inserted = subst (λ (c : Chain T). IsInsertion c new.list (with_between gap) item (numbers p).0 (numbers p).1)
               (ap (λ (t : Tree T). t.list) awaits.room) (IsInsertion-same _ _ _ _ item _ _ awaits.puts there.0);
           grown = subst (λ (t : Tree T). IsGrown t.shape new.shape) awaits.room there.1;
         }
-        go (over e) (Replacing p) (Some before) at awaits there =
+        go (over e) (Replacing p) (Some before) (at, awaits) there =
             let had : item_of arena (numbers p) ≡ Some e.item = rw (awaits.1, awaits.0)
             (over-found old distinct (aim_of number kind) e at) in
             record { entry = e; place = at; named = awaits.0; taken = cc; after = rw (awaits.1, awaits.0) at there.1 }
-        go (into gap) (New p) before at awaits there = absurd there
-        go (over e) (Replacing p) before at awaits there = absurd there
-        go place shown before at awaits there = absurd awaits
+        go (into gap) (New p) before awaited there = absurd there
+        go (over e) (Replacing p) before awaited there = absurd there
+        go place shown before awaited there = absurd awaited.1
 
   -- the same by the item's key, told by the pointer and the item that was replaced
   module _ {P I G : Type 0} (numbers : P → ℕ × ℕ) (number : I → ℕ) (growth : Growth) (most : ℕ) (old arena new : Tree T)
@@ -203,8 +213,7 @@ module _ {T K : Type 0} (key : T → K) (cmp : K → K → Ordering) where
     InsertsKey k answer = InsertsBy key cmp most growth (at_key k) numbers old item answer new
 
     pub entry-told : InsertsThere numbers shown put arena item before new → InsertsKey (key item) (told (Ok (p, before)))
-    entry-told there =
-        rw (← key_is) (go shown before pointer_is
+    entry-told there = rw (← key_is) (go shown before pointer_is
         (entry-inserts numbers number growth most (Normal k) old arena new distinct shown put visits item before asked there))
       where
         go : (shown : OrdEntryKind P) (before : Option T) → p ≡ pointer_of shown → InsertsKey k (Ok (shown, before))
@@ -299,8 +308,7 @@ module _ {P T F : Type 0} (numbers : P → ℕ × ℕ) (step : F → P → Bor T
     (answers : (f : F) (p : P) (u : Bor T) (x : T) (g : F) → step f p u (Ok x) g → x ≡ u.now) where
   pub clone-cloned : (most : ℕ) (greatest : Option ℕ) (f : F) (source : Tree T) → IsSound most greatest source.list → (old new : Tree T)
       → IsClone numbers step f source old new → new ≡ cloned source old
-  clone-cloned most greatest f source sound old new h =
-      ap (λ (l : Chain T). record { list = l; shape = new.shape })
+  clone-cloned most greatest f source sound old new h = ap (λ (l : Chain T). record { list = l; shape = new.shape })
       (clone-same numbers (Grants numbers (ShowsItem step)) (λ f p u x g called. answers f p called.0 x g called.2 ∙ called.1) most greatest f
       source.list sound old.list new.list h.list)
       ∙ ap (λ (s : Shape). record { list = taken_over source.list old.list source.list.entries; shape = s }) h.shape

@@ -2,22 +2,21 @@
 use Rattle.std.proofs.Common.{length-take}
 use Rattle.arena_base.specs.{Arena.item_of, Compression.CompressionStep, Compression.IsCompression, Compression.compressed}
 use Rattle.arena_base.specs.Walk.{entries_rising as arena_rising}
-use Rattle.chain_base.specs.Chain.{with_capacity as chain_with_capacity}
 use Rattle.chain_base.specs.Compression.{compressed as chain_compressed, IsCompression as IsChainCompression}
-use Rattle.triple_ord.proofs.Bare.{link_generation-under, capacity-under, option_map-twice}
+use Rattle.chain_base.specs.Chain.{with_capacity as chain_with_capacity}
 use Rattle.triple_ord.proofs.Words.{◌≡◌, ℕ, zero, suc, ◌+◌, ◌-◌, ◌<◌, ◌≤◌, ◌↔◌, Option, Some, None, Result, Ok, Err, List, [], ◌∷◌, ◌++◌}
 use Rattle.triple_ord.proofs.Words.{length, map, get_or, take, drop, reverse, replicate, slice_get, is_some, Bool, true, false, max, IsSome}
+use Rattle.triple_ord.proofs.Words.{walk_rest, WalkSteps, Entry, Chain, entry_at, times, IsSound, greatest_index, IsFirstIndex, IsLastIndex}
+use Rattle.triple_ord.proofs.Words.{drop-set-lt, pointers, walk_from, removed, FindsNothing, content_removed, cases_eq, drop_more, drop_all}
 use Rattle.triple_ord.proofs.Words.{refl, sym, ap, subst, ◌∙◌, add-one, arith, option_map, FoldsTo, same_lists, get_or_default}
 use Rattle.triple_ord.proofs.Words.{length-append, take-map, drop-map, slice_get_past, Arena, HoldsSame, slot, item_if, greatest_occupied}
-use Rattle.triple_ord.proofs.Words.{with_capacity, resized, IsFirstEntry, IsLastEntry, arena_len, Walk, pointers_from, entries_from}
-use Rattle.triple_ord.proofs.Words.{walk_rest, WalkSteps, Entry, Chain, entry_at, times, IsSound, greatest_index, IsFirstIndex, IsLastIndex}
-use Rattle.triple_ord.proofs.Words.{IsArenaOf, entry_before, rising_among, entries_rising, moved, entry_at-absent, length-entries}
-use Rattle.triple_ord.proofs.Words.{compressed-at, compressed-length, entry_at-compressed, occurs-entry, below-greatest, greatest-or_none}
 use Rattle.triple_ord.proofs.Words.{times-greatest, below-greatest_index, Link, SimpleOrdArenaNode, Tree, IsChainOf, slots_from, content_of}
 use Rattle.triple_ord.proofs.Words.{slot_is, item_is, len_is, length-slots, slots-within, slots-beyond, outside, set, take-set-le}
-use Rattle.triple_ord.proofs.Words.{drop-set-lt, pointers, walk_from, removed, FindsNothing, content_removed, cases_eq, drop_more, drop_all}
+use Rattle.triple_ord.proofs.Words.{with_capacity, resized, IsFirstEntry, IsLastEntry, arena_len, Walk, pointers_from, entries_from}
+use Rattle.triple_ord.proofs.Words.{compressed-at, compressed-length, entry_at-compressed, occurs-entry, below-greatest, greatest-or_none}
+use Rattle.triple_ord.proofs.Words.{IsArenaOf, entry_before, rising_among, entries_rising, moved, entry_at-absent, length-entries}
 use Rattle.triple_ord.proofs.Words.{common_steps, append_assoc, FoldsTo-push, entry_at-with_item_among, entry_at-with_item_among_other}
-use Rattle.triple_ord.proofs.Words.{with_item}
+use Rattle.triple_ord.proofs.{Bare.link_generation-under, Bare.capacity-under, Bare.option_map-twice, Words.with_item}
 use Rattle.triple_ord.specs.{Recasting.RecastsItem, Recasting.RecastsNext, Recasting.RecastsItems, SlotWalk.SlotWalkSteps}
 
 -- slots that are as many and show the same are the same
@@ -95,8 +94,10 @@ module _ {T : Type 0} where
         let i = greatest_occupied (content_of t).slots in
         grind (arith, common_steps, greatest-above, greatest-or_none (content_of t).slots, no_slot i, below-greatest_index t.list.entries i)
 
-    pub content-reallocated : (u : Tree T) (n : ℕ)
-        → u ≡ record t { list = chain_with_capacity t.list (max n (greatest_index t.list.entries)) }
+    abbrev reallocated : ℕ → Tree T
+    reallocated n = record t { list = chain_with_capacity t.list (max n (greatest_index t.list.entries)) }
+
+    pub content-reallocated : (u : Tree T) (n : ℕ) → u ≡ reallocated n
         → HoldsSame (content_of u) (with_capacity (content_of t) (max n (greatest_occupied (content_of t).slots)))
     content-reallocated u n h =
         let same = content-capacity t u (max n (greatest_index t.list.entries)) beyond (ap (λ v. v.list) h) in
@@ -164,8 +165,10 @@ module _ {X Y : Type 0} where
   abbrev IsAlike : List (Option (ℕ × X)) → List (Option (ℕ × Y)) → Type 0
   IsAlike xs ys = map (option_map (λ e. e.0)) xs ≡ map (option_map (λ e. e.0)) ys
 
-  alike-by_index : (xs : List (Option (ℕ × X))) (ys : List (Option (ℕ × Y))) → length xs ≡ length ys
-      → ((k : ℕ) → option_map (λ e. e.0) (get_or xs k None) ≡ option_map (λ e. e.0) (get_or ys k None)) → IsAlike xs ys
+  abbrev AgreeAt : List (Option (ℕ × X)) → List (Option (ℕ × Y)) → ℕ → Type 0
+  AgreeAt xs ys k = option_map (λ e. e.0) (get_or xs k None) ≡ option_map (λ e. e.0) (get_or ys k None)
+
+  alike-by_index : (xs : List (Option (ℕ × X))) (ys : List (Option (ℕ × Y))) → length xs ≡ length ys → ((k : ℕ) → AgreeAt xs ys k) → IsAlike xs ys
   alike-by_index (x ∷ xs) (y ∷ ys) long same = rw (same 0, alike-by_index xs ys (omega (arith, long)) (λ k. same (suc k))) refl
   alike-by_index xs ys long same = grind (arith, common_steps)
 

@@ -1,17 +1,17 @@
 -- A descent from the root, by a closure or by a key: how it begins, goes down, and ends, and how few entries it visits.
 use Rattle.std.proofs.{Common.Contains, Math.Pow.pow_mono}
 use Rattle.ord_tree.specs.Laws.{HeightLaw, RankSquareLaw, TightRankLaw, RebuiltHeightLaw}
-use Rattle.triple_ord.proofs.Inserting.{last_or-append, no_first, no_last, entry_at-here}
 use Rattle.triple_ord.proofs.Words.{length-append, ◌≡◌, ◌≢◌, ℕ, true, false, ◌+◌, ◌-◌, ◌≤◌, List, [], ◌∷◌, ◌++◌, Option, Some, None, IsSome}
 use Rattle.triple_ord.proofs.Words.{IfSome, MatchOption, refl, sym, ap, subst, ◌∙◌, arith, inl, inr, max, map, length, append_assoc}
-use Rattle.triple_ord.proofs.Words.{FoldsTo-push, append-nil, length_push, map_push, All-nil, All-cons, All-head, All-tail, All-push}
-use Rattle.triple_ord.proofs.Words.{Contains-append_left, Contains-append_right, Contains-push, IfSome_then, All, FoldsTo, option_map}
-use Rattle.triple_ord.proofs.Words.{is_eq, ordering_then, Ordering, Less, Equal, Greater, Entry, times, IsDistinct, entry_at, times-append}
 use Rattle.triple_ord.proofs.Words.{Shape, missing, node, root_of, walk, height, Tree, Gap, first_of, last_or, order_to, pointer, StopsAt}
-use Rattle.triple_ord.proofs.Words.{FindsSimilar, IsPart, Shown, entries_of, but_last, IsSearch, where_equal, similar_of, FindsWith}
-use Rattle.triple_ord.proofs.Words.{FindsSimilarWith, IsShown, side_of, IsDescending, HasDescended, get_or, cases_eq, get_or_default}
+use Rattle.triple_ord.proofs.Words.{is_eq, ordering_then, Ordering, Less, Equal, Greater, Entry, times, IsDistinct, entry_at, times-append}
 use Rattle.triple_ord.proofs.Words.{All-contains, before, after, present, met_next, IsCompared, HasDescendedByKey, zero, suc, ◌^◌, ◌<◌}
 use Rattle.triple_ord.proofs.Words.{length-map, IsSound, size_of, rank_of, fib, IsSoundTree, size_of-walk, height-le-size, common_steps}
+use Rattle.triple_ord.proofs.Words.{FoldsTo-push, append-nil, length_push, map_push, All-nil, All-cons, All-head, All-tail, All-push}
+use Rattle.triple_ord.proofs.Words.{FindsSimilar, IsPart, Shown, entries_of, but_last, IsSearch, where_equal, similar_of, FindsWith}
+use Rattle.triple_ord.proofs.Words.{FindsSimilarWith, IsShown, side_of, IsDescending, HasDescended, get_or, cases_eq, get_or_default}
+use Rattle.triple_ord.proofs.Words.{Contains-append_left, Contains-append_right, Contains-push, IfSome_then, All, FoldsTo, option_map}
+use Rattle.triple_ord.proofs.Inserting.{last_or-append, no_first, no_last, entry_at-here}
 use Rattle.triple_ord.proofs.Words.{limit_of-below, IsWithinBounds, VisitsLaw}
 
 -- the sides of a part are parts
@@ -268,8 +268,7 @@ module _ {T F : Type 0} (asks : F → Shown T → F → Type 0) (t : Tree T) (di
 
     module _ (o : Ordering) (h : F) (asked : (e : Entry T) → pointer e ≡ (i, generation) → e.item ≡ item → asks g (e, o) h) where
       calls_more : FoldsTo asks f (d.shown ++ (entry, o) ∷ []) h
-      calls_more =
-          FoldsTo-push asks f d.shown g (entry, o) h d.calls
+      calls_more = FoldsTo-push asks f d.shown g (entry, o) h d.calls
           (asked entry (step-pointer t distinct d.shown i d.descending generation item lesser greater there) (step-item t distinct d.shown i d.descending generation item lesser greater there))
 
       last_more : Some ((i, generation), o) ≡ similar_of (last_or None (d.shown ++ (entry, o) ∷ []))
@@ -322,15 +321,16 @@ pub met_next-map : {X Y : Type 0} (f : X → Y) (met : Option X) (x : X) (o : Or
 met_next-map f met x o = grind (arith, common_steps)
 
 -- answers that differ were given at two entries
-neighbours_shown : {T : Type 0} (low high : Option (Entry T)) (shown : List (Shown T)) → IfSome low (λ e. Contains shown (e, Greater))
-    → IfSome high (λ e. Contains shown (e, Less)) → present low + present high ≤ length shown
-neighbours_shown (Some a) (Some b) shown l h = elim (cases_eq l.0 h.0) [
-  | inl same ↦
-      let clash = sym l.2 ∙ (get_or_default shown l.0 (a, Greater) (b, Less) l.1) ∙ ap (λ k. get_or shown k (b, Less)) same ∙ h.2 in
-      absurd (let both : Greater ≡ Less = ap (λ s. s.1) clash in cc)
-  | inr other ↦ omega (arith, l.1, h.1)
-]
-neighbours_shown low high shown l h = grind (arith, common_steps)
+module _ {T : Type 0} (shown : List (Shown T)) where
+  neighbours_shown : (low high : Option (Entry T)) → IfSome low (λ e. Contains shown (e, Greater)) → IfSome high (λ e. Contains shown (e, Less))
+      → present low + present high ≤ length shown
+  neighbours_shown (Some a) (Some b) l h = elim (cases_eq l.0 h.0) [
+    | inl same ↦
+        let clash = sym l.2 ∙ (get_or_default shown l.0 (a, Greater) (b, Less) l.1) ∙ ap (λ k. get_or shown k (b, Less)) same ∙ h.2 in
+        absurd (let both : Greater ≡ Less = ap (λ s. s.1) clash in cc)
+    | inr other ↦ omega (arith, l.1, h.1)
+  ]
+  neighbours_shown low high l h = grind (arith, common_steps)
 
 module _ {T K : Type 0} (key : T → K) (cmp : K → K → Ordering) (t : Tree T) (distinct : IsDistinct t.list.entries) (k : K) (start : ℕ) where
   abbrev Turned : Shown T → Type 0
@@ -413,7 +413,7 @@ module _ {T K : Type 0} (key : T → K) (cmp : K → K → Ordering) (t : Tree T
         stops : StopsAt key cmp end k (visits - start)
         stops = record {
           fits = record { lesser_before = lesser; greater_after = greater (after end) d.descending.less_after d.met_is };
-          seen = omega (arith, neighbours_shown (before end) (after end) d.shown d.descending.greater_before d.descending.less_after, d.count);
+          seen = omega (arith, neighbours_shown d.shown (before end) (after end) d.descending.greater_before d.descending.less_after, d.count);
         }
 
         go : (o : Option (Shown T)) → last_or None d.shown ≡ o → FindsSimilar key cmp t.list.entries k last (visits - start)

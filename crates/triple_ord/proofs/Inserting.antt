@@ -2,10 +2,10 @@
 -- that answered there puts a new entry.
 use Rattle.std.proofs.Math.Path.{fun_ext}
 use Rattle.triple_ord.proofs.Words.{◌≡◌, ℕ, List, [], ◌∷◌, ◌++◌, Option, Some, None, IsSome, length, refl, ap, arith, inl, inr, eqb_tells}
-use Rattle.triple_ord.proofs.Words.{common_steps, option_map, Link, Entry, times, IsDistinct, entry_at, link_between, link_at, from_index}
-use Rattle.triple_ord.proofs.Words.{insert_after, insert_before, with_item_among, times-append, entry_at-between, first_of, last_or}
 use Rattle.triple_ord.proofs.Words.{position_of, ◌≢◌, true, false, ◌+◌, ◌-◌, ◌≤◌, sym, ◌∙◌, ◌⊎◌, append_assoc, is_eq, Ordering, Less, Equal}
+use Rattle.triple_ord.proofs.Words.{common_steps, option_map, Link, Entry, times, IsDistinct, entry_at, link_between, link_at, from_index}
 use Rattle.triple_ord.proofs.Words.{Greater, Gap, order_to, IsFirstEqual, StopsAt, IsBeside, FindsKey, FindsSimilar, where_equal, Chain}
+use Rattle.triple_ord.proofs.Words.{insert_after, insert_before, with_item_among, times-append, entry_at-between, first_of, last_or}
 use Rattle.triple_ord.proofs.Words.{IsInsertion, put_on, before, after, with_between}
 
 module _ {X : Type 0} where
@@ -81,10 +81,14 @@ module _ {T : Type 0} where
       (e.generation, record { item = e.item; prev = option_map (λ e. e.index) low; next = option_map (λ e. e.index) high })
 
   -- the link of an entry has the indexes of the entries beside it
-  link_here : (o : Option (Entry T)) (front : List (Entry T)) (e : Entry T) (back : List (Entry T)) → times e.index front ≡ 0
-      → link_between (option_map (λ x. x.index) o) None (front ++ e ∷ back) e.index ≡ Some (entry_link (last_or o front) e (first_of back))
-  link_here o [] e back none = grind (arith, common_steps)
-  link_here o (f ∷ front) e back none = grind (arith, common_steps, link_here (Some f) front e back)
+  module _ (e : Entry T) (back : List (Entry T)) where
+    abbrev IsLinkedBehind : Option (Entry T) → List (Entry T) → Type 0
+    IsLinkedBehind o front =
+        link_between (option_map (λ x. x.index) o) None (front ++ e ∷ back) e.index ≡ Some (entry_link (last_or o front) e (first_of back))
+
+    link_here : (o : Option (Entry T)) (front : List (Entry T)) → times e.index front ≡ 0 → IsLinkedBehind o front
+    link_here o [] none = grind (arith, common_steps)
+    link_here o (f ∷ front) none = grind (arith, common_steps, link_here (Some f) front)
 
   -- this generation and this link are the entry's
   pub record IsLinked (front : List (Entry T)) (e : Entry T) (back : List (Entry T)) (g : ℕ) (l : Link T) : Type 0 where
@@ -119,7 +123,7 @@ module _ {T : Type 0} where
 
     pub link-read : (g : ℕ) (l : Link T) → link_at es e.index ≡ Some (g, l) → IsLinked front e back g l
     link-read g l is =
-        let here = link_here None front e back not_before in
+        let here = link_here e back None front not_before in
         let found = rw cut at is in
         let read : entry_link (last_or None front) e (first_of back) ≡ (g, l) = cc in
         record { generation = ap (λ x. x.0) read; item = ap (λ x. x.1.item) read; prev = ap (λ x. x.1.prev) read; next = ap (λ x. x.1.next) read }
@@ -147,16 +151,16 @@ module _ {T K : Type 0} (key : T → K) (cmp : K → K → Ordering) (es : List 
       (gap, record { fits = record { lesser_before = tt; greater_after = tt }; seen = omega arith })
 
   -- the search found an equal entry, or stopped at a gap that fits
-  pub finds_key-similar : {P : Type 0} (numbers : P → ℕ × ℕ) (found : Option (P × Ordering))
-      → FindsSimilar key cmp es k (option_map (λ a. (numbers a.0, a.1)) found) c
-      → FindsKey key cmp es k (option_map numbers (where_equal found)) c
-  finds_key-similar numbers None empty = stop-of_empty empty
-  finds_key-similar numbers (Some (p, Equal)) found =
-      let first = first-of_equal found.0 found.2 (sym (ap (λ a. a.1) found.1)) in
-      (found.0, ap (λ a. a.0) found.1, first.0, first.1)
-  finds_key-similar numbers (Some (p, o)) found =
-      let beside = stop-of_other found.0 found.2 (λ same. let is : o ≡ Equal = ap (λ a. a.1) found.1 ∙ same in cc) in
-      (beside.0, beside.1)
+  module _ {P : Type 0} (numbers : P → ℕ × ℕ) where
+    pub finds_key-similar : (found : Option (P × Ordering)) → FindsSimilar key cmp es k (option_map (λ a. (numbers a.0, a.1)) found) c
+        → FindsKey key cmp es k (option_map numbers (where_equal found)) c
+    finds_key-similar None empty = stop-of_empty empty
+    finds_key-similar (Some (p, Equal)) found =
+        let first = first-of_equal found.0 found.2 (sym (ap (λ a. a.1) found.1)) in
+        (found.0, ap (λ a. a.0) found.1, first.0, first.1)
+    finds_key-similar (Some (p, o)) found =
+        let beside = stop-of_other found.0 found.2 (λ same. let is : o ≡ Equal = ap (λ a. a.1) found.1 ∙ same in cc) in
+        (beside.0, beside.1)
 
 -- the entry behind a gap, and the one before it, are found by their indexes, and a new entry beside them goes into the gap
 module _ {T : Type 0} (es : List (Entry T)) (e : Entry T) (distinct : IsDistinct es) (gap : Gap es) where

@@ -1,11 +1,11 @@
 -- An insertion by a key leaves a list in the order of its keys so.
-use Rattle.triple_ord.proofs.Inserting.{begins, with_item-here}
-use Rattle.triple_ord.proofs.OrderLaws.{IsInOrder-rest, in_order-one, in_order-more}
 use Rattle.triple_ord.proofs.Words.{arith, ◌≡◌, ◌≢◌, ℕ, List, [], ◌∷◌, ◌++◌, Option, Some, None, IfSome, Result, Ok, Err, refl, sym, ap}
-use Rattle.triple_ord.proofs.Words.{subst, ◌∙◌, inl, inr, slice_get, IfSome_then, IsTotalOrder, alike_right, ordering_reverse, Ordering}
 use Rattle.triple_ord.proofs.Words.{Less, Equal, Greater, Entry, Chain, IsDistinct, inserted_at, with_item_among, IsInsertion, Tree, Gap}
 use Rattle.triple_ord.proofs.Words.{first_of, last_or, before, after, with_between, IsFirstEqual, IsInOrder, Aim, into, over, LiesBehind}
+use Rattle.triple_ord.proofs.Words.{subst, ◌∙◌, inl, inr, slice_get, IfSome_then, IsTotalOrder, alike_right, ordering_reverse, Ordering}
 use Rattle.triple_ord.proofs.Words.{IsPlace, InsertsBy, GoesBy, KeptOrderLaw, OrdEntryKind, New, Replacing, OrdInsertionError}
+use Rattle.triple_ord.proofs.OrderLaws.{IsInOrder-rest, in_order-one, in_order-more}
+use Rattle.triple_ord.proofs.Inserting.{begins, with_item-here}
 
 -- the list after an insertion of a new entry
 pub record IsListed {T : Type 0} (put : Entry T → List (Entry T)) (item : T) (es : List (Entry T)) : Type 0 where
@@ -22,29 +22,31 @@ listed-new {T} c d put item i g ins = go c.vacant ins.next (ap (λ (x : Chain T)
 
 module _ {T K : Type 0} (key : T → K) (cmp : K → K → Ordering) (total : IsTotalOrder cmp) where
   -- a new entry between one that isn't greater and one that isn't lesser
-  in_order-between : (front : List (Entry T)) (e : Entry T) (back : List (Entry T)) → IsInOrder key cmp (front ++ back)
-      → IfSome (last_or None front) (λ f. cmp (key f.item) (key e.item) ≢ Greater) → IfSome (first_of back) (λ f. cmp (key e.item) (key f.item) ≢ Greater)
-      → IsInOrder key cmp (front ++ e ∷ back)
-  in_order-between [] e [] order low high = in_order-one key cmp e
-  in_order-between [] e (f ∷ back) order low high = in_order-more key cmp e f back high order
-  in_order-between (x ∷ []) e back order low high =
-      in_order-more key cmp x e back low (in_order-between [] e back (IsInOrder-rest key cmp x back order) tt high)
-  in_order-between (x ∷ (y ∷ front)) e back order low high =
-      in_order-more key cmp x y (front ++ e ∷ back) (order [] (front ++ back) x y refl)
-      (in_order-between (y ∷ front) e back (IsInOrder-rest key cmp x (y ∷ front ++ back) order) low high)
+  module _ (e : Entry T) where
+    abbrev LiesBetween : List (Entry T) → List (Entry T) → Type 0
+    LiesBetween front back = IfSome (last_or None front) (λ f. cmp (key f.item) (key e.item) ≢ Greater)
+        × IfSome (first_of back) (λ f. cmp (key e.item) (key f.item) ≢ Greater)
+
+    in_order-between : (front back : List (Entry T)) → IsInOrder key cmp (front ++ back) → LiesBetween front back → IsInOrder key cmp (front ++ e ∷ back)
+    in_order-between [] [] order lies = in_order-one key cmp e
+    in_order-between [] (f ∷ back) order lies = in_order-more key cmp e f back lies.1 order
+    in_order-between (x ∷ []) back order lies =
+        in_order-more key cmp x e back lies.0 (in_order-between [] back (IsInOrder-rest key cmp x back order) (tt, lies.1))
+    in_order-between (x ∷ (y ∷ front)) back order lies = in_order-more key cmp x y (front ++ e ∷ back) (order [] (front ++ back) x y refl)
+        (in_order-between (y ∷ front) back (IsInOrder-rest key cmp x (y ∷ front ++ back) order) lies)
 
   -- another entry with an equal key in the place of one
-  in_order-instead : (front : List (Entry T)) (e other : Entry T) (back : List (Entry T)) → cmp (key e.item) (key other.item) ≡ Equal
-      → IsInOrder key cmp (front ++ e ∷ back) → IsInOrder key cmp (front ++ other ∷ back)
-  in_order-instead [] e other [] same order = in_order-one key cmp other
-  in_order-instead [] e other (f ∷ back) same order =
-      in_order-more key cmp other f back (λ more. order [] back e f refl (total.congr (key e.item) (key other.item) (key f.item) same ∙ more)) (IsInOrder-rest key cmp e (f ∷ back) order)
-  in_order-instead (x ∷ []) e other back same order =
-      in_order-more key cmp x other back (λ more. order [] back x e refl (alike_right total (key e.item) (key other.item) (key x.item) same ∙ more))
-      (in_order-instead [] e other back same (IsInOrder-rest key cmp x (e ∷ back) order))
-  in_order-instead (x ∷ (y ∷ front)) e other back same order =
-      in_order-more key cmp x y (front ++ other ∷ back) (order [] (front ++ e ∷ back) x y refl)
-      (in_order-instead (y ∷ front) e other back same (IsInOrder-rest key cmp x (y ∷ front ++ e ∷ back) order))
+  module _ (e other : Entry T) (same : cmp (key e.item) (key other.item) ≡ Equal) where
+    in_order-instead : (front back : List (Entry T)) → IsInOrder key cmp (front ++ e ∷ back) → IsInOrder key cmp (front ++ other ∷ back)
+    in_order-instead [] [] order = in_order-one key cmp other
+    in_order-instead [] (f ∷ back) order =
+        in_order-more key cmp other f back (λ more. order [] back e f refl (total.congr (key e.item) (key other.item) (key f.item) same ∙ more)) (IsInOrder-rest key cmp e (f ∷ back) order)
+    in_order-instead (x ∷ []) back order =
+        in_order-more key cmp x other back (λ more. order [] back x e refl (alike_right total (key e.item) (key other.item) (key x.item) same ∙ more))
+        (in_order-instead [] back (IsInOrder-rest key cmp x (e ∷ back) order))
+    in_order-instead (x ∷ (y ∷ front)) back order =
+        in_order-more key cmp x y (front ++ other ∷ back) (order [] (front ++ e ∷ back) x y refl)
+        (in_order-instead (y ∷ front) back (IsInOrder-rest key cmp x (y ∷ front ++ e ∷ back) order))
 
   -- what is equal to k lies to others as k does
   module _ (k : K) (item : T) (equal : cmp k (key item) ≡ Equal) where
@@ -68,9 +70,10 @@ module _ {T K : Type 0} (key : T → K) (cmp : K → K → Ordering) (total : Is
 
       kept-between : (gap : Gap entries) → LiesBehind key cmp gap k → (e : Entry T) → e.item ≡ item → IsInOrder key cmp (with_between gap e)
       kept-between gap place e has =
-          in_order-between gap.front e gap.back (subst (λ es. IsInOrder key cmp es) gap.cut sorted)
-          (IfSome_then (before gap) place.at_most_before (λ f most. rw has (behind (key f.item) most)))
-          (IfSome_then (after gap) place.greater_after (λ f less. rw has (ahead (key f.item) less)))
+          in_order-between e gap.front gap.back (subst (λ es. IsInOrder key cmp es) gap.cut sorted) (
+            IfSome_then (before gap) place.at_most_before (λ f most. rw has (behind (key f.item) most)),
+            IfSome_then (after gap) place.greater_after (λ f less. rw has (ahead (key f.item) less)),
+          )
 
       kept-instead : IsDistinct entries → (e : Entry T) → IsFirstEqual key cmp entries k e → IsInOrder key cmp (with_item_among entries e.index item)
       kept-instead distinct e met =
@@ -78,7 +81,7 @@ module _ {T K : Type 0} (key : T → K) (cmp : K → K → Ordering) (total : Is
           let back = begins met.gap.back e met.here in
           let cut : entries ≡ met.gap.front ++ e ∷ back.0 = met.gap.cut ∙ ap (λ ys. met.gap.front ++ ys) back.1 in
           rw (with_item-here entries distinct met.gap.front e back.0 cut item)
-          (in_order-instead met.gap.front e (record e { item = item }) back.0 same (rw cut at sorted))
+          (in_order-instead e (record e { item = item }) same met.gap.front back.0 (rw cut at sorted))
 
 pub kept_order : {P T K : Type 0} (numbers : P → ℕ × ℕ) (key : T → K) (cmp : K → K → Ordering) → IsTotalOrder cmp → KeptOrderLaw numbers key cmp
 kept_order {P} {T} {K} numbers key cmp total most growth aim k old new item answer by equal distinct sorted inserts = go answer inserts

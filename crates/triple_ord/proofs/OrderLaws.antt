@@ -1,14 +1,14 @@
 -- The order of keys, lists in it, and lists in the order of a closure's answers: what searches and insertions by key make of them.
 use Rattle.ord_tree.specs.Half.{IsHalf, half_rank}
-use Rattle.triple_ord.proofs.Inserting.{begins}
 use Rattle.triple_ord.proofs.Words.{◌≡◌, ◌≢◌, refl, Ordering, Less, Equal, Greater, taken, Ties, Sought, Passed, ◌↔◌, true, false, ◌<◌, ◌≤◌}
 use Rattle.triple_ord.proofs.Words.{List, [], ◌∷◌, ◌++◌, IfSome, None, length, sym, ap, subst, ◌∙◌, arith, inl, inr, length-append}
-use Rattle.triple_ord.proofs.Words.{AllByRecursion, IsTotalOrder, alike_right, ordering_reverse, is_gt, Entry, Gap, first_of, last_or}
 use Rattle.triple_ord.proofs.Words.{order_to, Fits, IsInOrder, ℕ, Some, ◌/◌, ◌-◌, cases_order, Contains, All-from_recursion, All-contains}
+use Rattle.triple_ord.proofs.Words.{AllByRecursion, IsTotalOrder, alike_right, ordering_reverse, is_gt, Entry, Gap, first_of, last_or}
+use Rattle.triple_ord.proofs.Words.{recursion_from_All, All-append, All-weaker, IfSome_then, FoldsTo, option_map, common_steps, before}
 use Rattle.triple_ord.proofs.Words.{Contains-append_cases, Contains-append_right, IsTop, Shape, missing, node, size_of, IsFirstEqual}
 use Rattle.triple_ord.proofs.Words.{IsAbsent, AbsentKeyLaw, IsPlaceOf, BesidePlaceLaw, ranks_of, SameRanksLaw, Option, append_assoc}
-use Rattle.triple_ord.proofs.Words.{recursion_from_All, All-append, All-weaker, IfSome_then, FoldsTo, option_map, common_steps, before}
 use Rattle.triple_ord.proofs.Words.{after, pointer, Shown, where_equal, FindsWith, AreAnsweredInOrder, AnsweredInOrderLaw}
+use Rattle.triple_ord.proofs.Inserting.{begins}
 
 module _ {K : Type 0} (cmp : K → K → Ordering) (k other : K) where
   pub taken-less : (ties : Ties) → taken ties cmp k other ≡ Less → cmp k other ≡ Less
@@ -82,8 +82,11 @@ module _ {T K : Type 0} (key : T → K) (cmp : K → K → Ordering) where
   IsInOrder-back front back order low high f g cut = order (front ++ low) high f g (ap (λ xs. front ++ xs) cut ∙ simp append_assoc)
 
   module _ (total : IsTotalOrder cmp) (k : K) where
-    pub all_greater : (front back : List (Entry T)) → IsInOrder key cmp (front ++ back)
-        → IfSome (last_or None front) (λ e. order_to key cmp k e ≡ Greater) → AllByRecursion (λ e. order_to key cmp k e ≡ Greater) front
+    abbrev IsAnswered : Ordering → Entry T → Type 0
+    IsAnswered o e = order_to key cmp k e ≡ o
+
+    pub all_greater : (front back : List (Entry T)) → IsInOrder key cmp (front ++ back) → IfSome (last_or None front) (λ e. IsAnswered Greater e)
+        → AllByRecursion (λ e. IsAnswered Greater e) front
     all_greater [] back order last = tt
     all_greater (e ∷ []) back order last = (last, tt)
     all_greater (e ∷ (f ∷ front)) back order last =

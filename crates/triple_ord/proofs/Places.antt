@@ -1,20 +1,20 @@
 -- The place of an insertion, from what a search answers or from an index.
-use Rattle.triple_ord.proofs.CallerLemmas.{entries-with_slot, updates-written, count-written, inserted-new}
-use Rattle.triple_ord.proofs.Inserting.{last_or-append, stands, HasPlace, place-alone, similar-placed, similar-occupied, similar-here}
-use Rattle.triple_ord.proofs.Inserting.{similar-first, similar-seen, not_equal, IsInsertion-same, puts-before, puts-after}
-use Rattle.triple_ord.proofs.OrderLaws.{taken-less, taken-greater, passed-unequal}
 use Rattle.triple_ord.proofs.Words.{◌≡◌, ◌≢◌, ◌==◌, if◌then◌else◌, IfNone, is_some, ℕ, ◌+◌, ◌≤◌, false, true, length, List, [], ◌∷◌, ◌++◌}
 use Rattle.triple_ord.proofs.Words.{Option, Some, None, IsSome, Result, Ok, Err, IfErr, refl, sym, ap, ◌∙◌, arith, append_assoc, eq-eqb}
-use Rattle.triple_ord.proofs.Words.{nat_tests, nil_from_length, IfSome_then, option_map, is_eq, Ordering, Less, Equal, Greater, IsErrAnd}
-use Rattle.triple_ord.proofs.Words.{Entry, Chain, entry_at, next_index, IsDistinct, IsSound, IsInsertion, Tree, IsGrown, put_on, put_at}
-use Rattle.triple_ord.proofs.Words.{with_item, item_of, count, Updates, IsNearHint, IsWithinBounds, IsWithinHintedBounds, Gap, before}
 use Rattle.triple_ord.proofs.Words.{after, with_between, FindsSimilar, taken, Ties, Sought, Passed, Aim, alone, at_key, behind_key, beside}
 use Rattle.triple_ord.proofs.Words.{Place, into, over, nowhere, IsPlace, aim_of, Growth, within, reallocating, slice_get_cases, with_slot}
+use Rattle.triple_ord.proofs.Words.{Entry, Chain, entry_at, next_index, IsDistinct, IsSound, IsInsertion, Tree, IsGrown, put_on, put_at}
+use Rattle.triple_ord.proofs.Inserting.{last_or-append, stands, HasPlace, place-alone, similar-placed, similar-occupied, similar-here}
+use Rattle.triple_ord.proofs.Words.{nat_tests, nil_from_length, IfSome_then, option_map, is_eq, Ordering, Less, Equal, Greater, IsErrAnd}
+use Rattle.triple_ord.proofs.Words.{with_item, item_of, count, Updates, IsNearHint, IsWithinBounds, IsWithinHintedBounds, Gap, before}
 use Rattle.triple_ord.proofs.Words.{LacksSlot, IsRefused, InsertsBeside, OrdInsertKind, OrdInsertionError, NotWithinCapacity, common_steps}
-use Rattle.triple_ord.specs.EntryVisits.{HasSeen}
+use Rattle.triple_ord.proofs.Inserting.{similar-first, similar-seen, not_equal, IsInsertion-same, puts-before, puts-after}
+use Rattle.triple_ord.proofs.CallerLemmas.{entries-with_slot, updates-written, count-written, inserted-new}
+use Rattle.triple_ord.proofs.OrderLaws.{taken-less, taken-greater, passed-unequal}
+use Rattle.triple_ord.specs.declared.prepared.InsertPlace.{InsertPlace, TheVariants.New, TheVariants.Replacing}
 use Rattle.triple_ord.specs.Prepared.{Keeps, IsFoundPlace, IsPlaceBeside, IsPlaceFor, HasRoomAt, kind_by, kind_near}
 use Rattle.triple_ord.specs.declared.error.OrdInsertionError.TheVariants.{BeyondMaxCapacity, AllocError}
-use Rattle.triple_ord.specs.declared.prepared.InsertPlace.{InsertPlace, TheVariants.New, TheVariants.Replacing}
+use Rattle.triple_ord.specs.EntryVisits.{HasSeen}
 
 pub item_here : {T : Type 0} (t : Tree T) (i : ℕ) (x : ℕ × T) → entry_at t.list.entries i ≡ Some x → IsSome (item_of t (i, x.0))
 item_here t i x there = rw (there, eq-eqb x.0 x.0 refl) refl
@@ -79,8 +79,11 @@ module _ {P T K : Type 0} (numbers : P → ℕ × ℕ) (key : T → K) (cmp : K 
   behind k nowhere at = absurd at
 
   -- the place by a key, by what the search made of equal keys
+  abbrev IsFoundBy : K → ℕ → InsertPlace P → Ties → Type 0
+  IsFoundBy k c kept ties = IsFoundPlace numbers key (taken ties cmp) t (at_key k) c kept
+
   module _ {I G : Type 0} (number : I → ℕ) (k : K) (c : ℕ) (kept : InsertPlace P) where
-    pub placed-by : (ties : Ties) → IsFoundPlace numbers key (taken ties cmp) t (at_key k) c kept → IsWithinBounds (length t.list.entries) t.shape c
+    pub placed-by : (ties : Ties) → IsFoundBy k c kept ties → IsWithinBounds (length t.list.entries) t.shape c
         → IsPlaceFor numbers key cmp t {G = G} number (kind_by ties k) kept c
     placed-by Sought f bounded = record { place = f.place; chosen = f.chosen; keeps = f.keeps; visits = record { seen = f.seen; bounded = bounded } }
     placed-by Passed f bounded =
@@ -90,8 +93,7 @@ module _ {P T K : Type 0} (numbers : P → ℕ × ℕ) (key : T → K) (cmp : K 
     module _ (i : I) (num : ℕ) (bounded : IsWithinHintedBounds (length t.list.entries) t.shape num c)
         (unhinted : IfNone (entry_at t.list.entries (number i)) (IsWithinBounds (length t.list.entries) t.shape c))
         (near : IsNearHint key cmp t.list.entries k (number i) num c) where
-      pub placed-near : (ties : Ties) → IsFoundPlace numbers key (taken ties cmp) t (at_key k) c kept
-          → IsPlaceFor numbers key cmp t {G = G} number (kind_near ties i num k) kept c
+      pub placed-near : (ties : Ties) → IsFoundBy k c kept ties → IsPlaceFor numbers key cmp t {G = G} number (kind_near ties i num k) kept c
       placed-near Sought f =
           record { place = f.place; chosen = f.chosen; keeps = f.keeps; visits = record { seen = f.seen; bounded = bounded; unhinted = unhinted; near = near } }
       placed-near Passed f =

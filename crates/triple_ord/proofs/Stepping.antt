@@ -1,15 +1,15 @@
 -- Going along a list: walks, forward and back; steps from a hint, and a search that first makes them, with how many entries are visited.
 use Rattle.std.proofs.Math.Nat.{pow-le-pow_left}
-use Rattle.triple_ord.proofs.Inserting.{last_or-append, begins, ends, some_last, stands, IsLinked, link-read, entry_at-here}
-use Rattle.triple_ord.proofs.{Inserting.from_index-here, Inserting.no_last, OrderLaws.stands-before, OrderLaws.stands-behind}
 use Rattle.triple_ord.proofs.Words.{◌≡◌, ◌≢◌, ℕ, true, false, not, ◌==◌, ◌+◌, ◌≤◌, List, [], ◌∷◌, ◌++◌, Option, Some, None, IsSome, IfSome}
 use Rattle.triple_ord.proofs.Words.{length, refl, sym, ap, ◌∙◌, arith, inl, inr, ◌⊎◌, append_assoc, length-append, option_map, IsTotalOrder}
-use Rattle.triple_ord.proofs.Words.{is_eq, ordering_index, ordering_reverse, Ordering, Less, Equal, Greater, Link, Entry, IsDistinct}
 use Rattle.triple_ord.proofs.Words.{entry_at, link_at, Gap, first_of, last_or, present, order_to, pointer, Fits, FindsSimilar, IsInOrder}
-use Rattle.triple_ord.proofs.Words.{position_of, way_length, neighbour_towards, CameFrom, IsStepping, ◌-◌, ◌^◌, IfNone, is_some}
+use Rattle.triple_ord.proofs.Inserting.{last_or-append, begins, ends, some_last, stands, IsLinked, link-read, entry_at-here}
+use Rattle.triple_ord.proofs.Words.{is_eq, ordering_index, ordering_reverse, Ordering, Less, Equal, Greater, Link, Entry, IsDistinct}
 use Rattle.triple_ord.proofs.Words.{common_steps, Shape, IsFirstEqual, IsBeside, IsWithinBounds, IsWithinHintedBounds, IsNearHint, Settles}
+use Rattle.triple_ord.proofs.Words.{position_of, way_length, neighbour_towards, CameFrom, IsStepping, ◌-◌, ◌^◌, IfNone, is_some}
 use Rattle.triple_ord.proofs.Words.{IsNear, times, entry_at-link, occurs-entry, Bool, map, reverse, reverse-append, eqb_tells}
 use Rattle.triple_ord.proofs.Words.{option_and_then, times-append, Tree, item_of}
+use Rattle.triple_ord.proofs.{Inserting.from_index-here, Inserting.no_last, OrderLaws.stands-before, OrderLaws.stands-behind}
 use Rattle.triple_ord.specs.{OrderedWalk.ordered_rest, OrderedWalk.GivesEntry, Walk.entries_from, Walk.IsWalking}
 
 first-reverse : {X : Type 0} (xs : List X) (o : Option X) → last_or None xs ≡ o → first_of (reverse xs) ≡ o
@@ -129,27 +129,35 @@ module _ {T K : Type 0} (key : T → K) (cmp : K → K → Ordering) (es : List 
         few = omega (arith, all);
       }
 
+  -- the order turned, if there is an entry on this side
+  abbrev HasTurned : Ordering → Ordering → Option ℕ → Type 0
+  HasTurned came o beside = IfSome beside (λ j. o ≡ ordering_reverse came)
+
   module _ (start visits : ℕ) (front back : List (Entry T)) where
+    abbrev CameHere : Ordering → Type 0
+    CameHere came = CameFrom key cmp es k start visits front back came
+
+    abbrev IsAnswered : Ordering → Option (Entry T) → Type 0
+    IsAnswered o beside = IfSome beside (λ e. order_to key cmp k e ≡ o) × (present beside ≤ visits)
+
     -- as long as the order stays, each step goes one place further
-    place-less : (came : Ordering) → CameFrom key cmp es k start visits front back came → Less ≢ ordering_reverse came → length front + visits ≡ start
+    place-less : (came : Ordering) → CameHere came → Less ≢ ordering_reverse came → length front + visits ≡ start
     place-less Greater from ahead = absurd (ahead refl)
     place-less came from ahead = omega arith
 
-    place-greater : (came : Ordering) → CameFrom key cmp es k start visits front back came → Greater ≢ ordering_reverse came → length front ≡ start + visits
+    place-greater : (came : Ordering) → CameHere came → Greater ≢ ordering_reverse came → length front ≡ start + visits
     place-greater Less from ahead = absurd (ahead refl)
     place-greater came from ahead = omega arith
 
     -- where the order turns, the steps came from the entry on the other side; else there is none
-    low-answered : (came : Ordering) → CameFrom key cmp es k start visits front back came → (o : Option (Entry T)) → last_or None front ≡ o
-        → IfSome (option_map (λ e. e.index) o) (λ j. Less ≡ ordering_reverse came)
-        → IfSome o (λ e. order_to key cmp k e ≡ Greater) × (present o ≤ visits)
+    low-answered : (came : Ordering) → CameHere came → (o : Option (Entry T)) → last_or None front ≡ o
+        → HasTurned came Less (option_map (λ e. e.index) o) → IsAnswered Greater o
     low-answered came from None is turned = (tt, omega arith)
     low-answered Greater from (Some f) is turned = let same : from.0 ≡ f = (let both = from.1 in cc) in (rw same at from.2, from.3)
     low-answered came from (Some f) is turned = absurd (cc)
 
-    high-answered : (came : Ordering) → CameFrom key cmp es k start visits front back came → (o : Option (Entry T)) → first_of back ≡ o
-        → IfSome (option_map (λ e. e.index) o) (λ j. Greater ≡ ordering_reverse came)
-        → IfSome o (λ e. order_to key cmp k e ≡ Less) × (present o ≤ visits)
+    high-answered : (came : Ordering) → CameHere came → (o : Option (Entry T)) → first_of back ≡ o
+        → HasTurned came Greater (option_map (λ e. e.index) o) → IsAnswered Less o
     high-answered came from None is turned = (tt, omega arith)
     high-answered Less from (Some f) is turned = let same : from.0 ≡ f = (let both = from.1 in cc) in (rw same at from.2, from.3)
     high-answered came from (Some f) is turned = absurd (cc)
@@ -203,8 +211,7 @@ module _ {T K : Type 0} (key : T → K) (cmp : K → K → Ordering) (es : List 
       named = let g = linked.generation in let h = s.here in cc
 
       -- the steps end with an answer
-      pub stepping-settles : (o : Ordering) → o ≡ cmp k (key l.item) → is_eq o ≡ false
-          → IfSome (neighbour_towards l o) (λ j. o ≡ ordering_reverse came)
+      pub stepping-settles : (o : Ordering) → o ≡ cmp k (key l.item) → is_eq o ≡ false → HasTurned came o (neighbour_towards l o)
           → FindsSimilar key cmp es k (Some ((i, generation), o)) (visits + 1)
       stepping-settles Less order other turned =
           let low = low-answered start visits s.front s.back came s.from (last_or None s.front) refl (rw (← linked.prev) at turned) in
@@ -218,36 +225,37 @@ module _ {T K : Type 0} (key : T → K) (cmp : K → K → Ordering) (es : List 
           (s.entry, rw (named, stepping-order Greater order) refl, inr (gap, record { fits = record { lesser_before = rw last (stepping-order Greater order); greater_after = high.0 }; seen = rw last (omega (arith, high.1)) }, inl last))
 
     -- on a list in the order of its keys, with a gap that fits, no entry is equal
-    pub stepping-unequal : (real : K → K → Ordering) → IsTotalOrder real → IsInOrder key real es → (gap : Gap es) → Fits key real gap k → order_to key real k s.entry ≢ Equal
-    stepping-unequal real total ordered gap fits equal =
-        let low = stands-before key real total k es ordered gap fits s.front s.back s.entry s.cut (λ less. let both = equal in cc) in
-        let high = stands-behind key real total k es ordered gap fits s.front s.back s.entry s.cut (λ greater. let both = equal in cc) in
-        absurd (omega (arith, low, high))
+    module _ (real : K → K → Ordering) (total : IsTotalOrder real) (ordered : IsInOrder key real es) (gap : Gap es) (fits : Fits key real gap k) where
+      pub stepping-unequal : order_to key real k s.entry ≢ Equal
+      stepping-unequal equal =
+          let low = stands-before key real total k es ordered gap fits s.front s.back s.entry s.cut (λ less. let both = equal in cc) in
+          let high = stands-behind key real total k es ordered gap fits s.front s.back s.entry s.cut (λ greater. let both = equal in cc) in
+          absurd (omega (arith, low, high))
 
-    -- the steps go towards that gap, and this one not beyond its far neighbour, where an order that is taken is not the contrary
-    pub stepping-near : (real : K → K → Ordering) → ((other : K) → cmp k other ≡ Less → real k other ≡ Less) → ((other : K) → cmp k other ≡ Greater → real k other ≢ Less)
-        → IsTotalOrder real → IsInOrder key real es → (gap : Gap es) → Fits key real gap k → visits + 1 ≤ way_length gap start
-    stepping-near real lesser greater total ordered gap fits = by_way came s.from
-      where
-        cut-gap : length es ≡ length gap.front + length gap.back
-        cut-gap = ap length gap.cut ∙ length-append gap.front gap.back
+      -- the steps go towards that gap, and this one not beyond its far neighbour, where an order that is taken is not the contrary
+      pub stepping-near : ((other : K) → cmp k other ≡ Less → real k other ≡ Less) → ((other : K) → cmp k other ≡ Greater → real k other ≢ Less)
+          → visits + 1 ≤ way_length gap start
+      stepping-near lesser greater = by_way came s.from
+        where
+          cut-gap : length es ≡ length gap.front + length gap.back
+          cut-gap = ap length gap.cut ∙ length-append gap.front gap.back
 
-        cut-here : length es ≡ length s.front + (1 + length s.back)
-        cut-here = let n = ap length s.cut in omega (arith, n, length-append s.front (s.entry ∷ s.back))
+          cut-here : length es ≡ length s.front + (1 + length s.back)
+          cut-here = let n = ap length s.cut in omega (arith, n, length-append s.front (s.entry ∷ s.back))
 
-        by_way : (came : Ordering) → CameFrom key cmp es k start visits s.front s.back came → visits + 1 ≤ way_length gap start
-        by_way Less from =
-            let begin = begins s.back from.0 from.1 in
-            let cut : es ≡ (s.front ++ s.entry ∷ []) ++ from.0 ∷ begin.0 = s.cut ∙ (ap (λ (xs : List (Entry T)). s.front ++ s.entry ∷ xs) begin.1 ∙ simp append_assoc) in
-            let behind = stands-behind key real total k es ordered gap fits (s.front ++ s.entry ∷ []) begin.0 from.0 cut (λ more. let less = lesser _ from.2 in cc) in
-            grind (arith, common_steps, from.3, from.4, behind, length-append s.front (s.entry ∷ []), before-count gap.front)
-        by_way Equal from = grind (arith, common_steps, from.0, from.1, after-count gap.back, before-count gap.front, cut-gap, cut-here)
-        by_way Greater from =
-            let end = ends s.front from.0 from.1 in
-            let cut : es ≡ end.0 ++ from.0 ∷ (s.entry ∷ s.back) = s.cut ∙ (ap (λ (xs : List (Entry T)). xs ++ s.entry ∷ s.back) end.1 ∙ simp append_assoc) in
-            let before = stands-before key real total k es ordered gap fits end.0 (s.entry ∷ s.back) from.0 cut (greater _ from.2) in
-            let counted = ap length end.1 ∙ length-append end.0 (from.0 ∷ []) in
-            grind (arith, common_steps, from.3, from.4, before, counted, after-count gap.back, cut-gap, cut-here)
+          by_way : (came : Ordering) → CameFrom key cmp es k start visits s.front s.back came → visits + 1 ≤ way_length gap start
+          by_way Less from =
+              let begin = begins s.back from.0 from.1 in
+              let cut : es ≡ (s.front ++ s.entry ∷ []) ++ from.0 ∷ begin.0 = s.cut ∙ (ap (λ (xs : List (Entry T)). s.front ++ s.entry ∷ xs) begin.1 ∙ simp append_assoc) in
+              let behind = stands-behind key real total k es ordered gap fits (s.front ++ s.entry ∷ []) begin.0 from.0 cut (λ more. let less = lesser _ from.2 in cc) in
+              grind (arith, common_steps, from.3, from.4, behind, length-append s.front (s.entry ∷ []), before-count gap.front)
+          by_way Equal from = grind (arith, common_steps, from.0, from.1, after-count gap.back, before-count gap.front, cut-gap, cut-here)
+          by_way Greater from =
+              let end = ends s.front from.0 from.1 in
+              let cut : es ≡ end.0 ++ from.0 ∷ (s.entry ∷ s.back) = s.cut ∙ (ap (λ (xs : List (Entry T)). xs ++ s.entry ∷ s.back) end.1 ∙ simp append_assoc) in
+              let before = stands-before key real total k es ordered gap fits end.0 (s.entry ∷ s.back) from.0 cut (greater _ from.2) in
+              let counted = ap length end.1 ∙ length-append end.0 (from.0 ∷ []) in
+              grind (arith, common_steps, from.3, from.4, before, counted, after-count gap.back, cut-gap, cut-here)
 
 -- orders that are told apart by a test
 pub apart : (o p : Ordering) → not (ordering_index o == ordering_index p) ≡ true → o ≢ p
@@ -268,9 +276,12 @@ module _ {T K : Type 0} (key : T → K) (cmp : K → K → Ordering) (es : List 
       seen (inr beside) = let stop = beside.1 in inr (beside.0, record { fits = stop.fits; seen = omega (arith, stop.seen, more) }, beside.2)
 
   module _ {P : Type 0} (pointer_of : P → ℕ × ℕ) (visits : ℕ) where
+    abbrev named_by : Option (P × Ordering) → Option ((ℕ × ℕ) × Ordering)
+    named_by found = option_map (λ a. (pointer_of a.0, a.1)) found
+
     -- where the steps have an answer, it is the search's
-    pub settled-similar : (found : Option (P × Ordering)) → Settles key cmp es k (option_map (λ a. (pointer_of a.0, a.1)) found) visits
-        → is_some found ≡ true → FindsSimilar key cmp es k (option_map (λ a. (pointer_of a.0, a.1)) found) visits
+    pub settled-similar : (found : Option (P × Ordering)) → Settles key cmp es k (named_by found) visits → is_some found ≡ true
+        → FindsSimilar key cmp es k (named_by found) visits
     settled-similar (Some a) settled some = settled
     settled-similar None settled some = absurd (cc)
 

@@ -1,8 +1,8 @@
 -- What a search by a closure returns on a list of entries: the entries that it showed to the closure, and what the closure said.
 use Rattle.std.specs.{Borrow.Bor, List.All, List.FoldsTo, Option.option_map, Ordering.is_eq}
 use Rattle.std.specs.Prelude.{◌≡◌, ◌≢◌, ℕ, ◌⊎◌, if◌then◌else◌, List, [], ◌∷◌, Option, Some, None, IfSome, MatchOption, Contains, length}
-use Rattle.std.specs.{Prelude.map, declared.cmp.Ordering.Ordering}
 use Rattle.std.specs.declared.cmp.Ordering.TheVariants.{Less, Equal, Greater}
+use Rattle.std.specs.{Prelude.map, declared.cmp.Ordering.Ordering}
 use Rattle.chain_base.specs.Chain.{Entry, IsDistinct}
 use Rattle.triple_ord.specs.{Gap.Gap, Gap.before, Gap.after, Gap.last_or, Search.pointer}
 
@@ -57,14 +57,12 @@ module _ {T F : Type 0} (asks : F → Shown T → F → Type 0) where
 
   -- a search by a closure: it returns the pointer of the entry that was answered Equal, or none
   abbrev pub FindsWith : List (Entry T) → F → F → Option (ℕ × ℕ) → ℕ → Type 0
-  FindsWith entries f g found c =
-      (last : Option (Shown T)) × Searches entries f g last c × (found ≡ option_map pointer (where_equal last))
+  FindsWith entries f g found c = (last : Option (Shown T)) × Searches entries f g last c × (found ≡ option_map pointer (where_equal last))
 
   -- a search for a similar entry: it returns the pointer of the entry that was shown last with its answer, and none in an empty
   -- list alone
   abbrev pub FindsSimilarWith : List (Entry T) → F → F → Option ((ℕ × ℕ) × Ordering) → ℕ → Type 0
-  FindsSimilarWith entries f g found c =
-      (last : Option (Shown T)) × Searches entries f g last c × (found ≡ similar_of last)
+  FindsSimilarWith entries f g found c = (last : Option (Shown T)) × Searches entries f g last c × (found ≡ similar_of last)
       × MatchOption found (entries ≡ []) (λ a. Unit {0})
 
 -- f was called at an entry's pointer and at its item, by this step of the closure

@@ -2,15 +2,13 @@
 -- does.
 use Rattle.std.proofs.Common.{◌≡◌, ◌≢◌, ℕ, zero, suc, ◌+◌, ◌<◌, ◌≤◌, length, count_by, is_some, cond, replicate, Option, None, List, []}
 use Rattle.std.proofs.Common.{◌∷◌, get_or, set, refl, sym, ap, ◌∙◌, arith, inl, inr}
-use Rattle.std.proofs.lemmas.Bool.Decides.{eqb_tells, leb_tells}
-use Rattle.std.proofs.lemmas.List.Sums.{sum_by-cons}
+use Rattle.std.proofs.{lemmas.Bool.Decides.eqb_tells, lemmas.Bool.Decides.leb_tells, lemmas.List.Sums.sum_by-cons}
 use Rattle.std.specs.Option.{option_map}
 use Rattle.arena_base.{proofs.CallerLemmas.limit_of-below, specs.Generation.next_generation}
-use Rattle.arena_base.specs.Arena.{HoldsSame, arena_len, arena_capacity, removed as arena_removed, renewed as arena_renewed}
 use Rattle.arena_base.specs.Arena.{cleared as arena_cleared, with_item as arena_with_item, slot, item_of, item_if, IsLawful}
+use Rattle.arena_base.specs.Arena.{HoldsSame, arena_len, arena_capacity, removed as arena_removed, renewed as arena_renewed}
 use Rattle.chain_base.specs.Chain.{Entry, entry_at, times, IsSound, IsDistinct, without, with_generation, removed, renewed, cleared}
-use Rattle.chain_base.specs.Chain.{item_of as item_among, with_item_among}
-use Rattle.chain_base.specs.Compression.{lesser}
+use Rattle.chain_base.specs.{Chain.item_of as item_among, Chain.with_item_among, Compression.lesser}
 use Rattle.chain_base.proofs.CallerLemmas.{entry_at-absent, entry_at-with_item_among, entry_at-with_item_among_other, entry_at-without, entry_at-without_other}
 use Rattle.chain_base.proofs.CallerLemmas.{entry_at-with_generation, entry_at-with_generation_other, lesser-zero, lesser-next, lesser-all}
 use Rattle.ord_tree.specs.Tree.{Tree, with_item}
@@ -37,8 +35,7 @@ module _ {T : Type 0} where
   pub slots-alike : (es fs : List (Entry T)) (from n : ℕ) → ((i : ℕ) → from ≤ i → i < from + n → entry_at fs i ≡ entry_at es i)
       → slots_from fs from n ≡ slots_from es from n
   slots-alike es fs from zero same = refl
-  slots-alike es fs from (suc n) same =
-      ap (λ s. s ∷ slots_from fs (from + 1) n) (same from (omega arith) (omega arith))
+  slots-alike es fs from (suc n) same = ap (λ s. s ∷ slots_from fs (from + 1) n) (same from (omega arith) (omega arith))
       ∙ ap (λ ss. entry_at es from ∷ ss) (slots-alike es fs (from + 1) n (λ i least most. same i (omega (arith, least)) (omega (arith, most))))
 
   -- the slots of fs, which is es but that `h` was done to what stands at index i; nothing is made of nothing
@@ -50,8 +47,7 @@ module _ {T : Type 0} where
         let at : i ≡ from = omega (arith, is) in
         ap (λ s. s ∷ slots_from fs (from + 1) n) (rw at at here)
         ∙ ap (λ ss. h (entry_at es from) ∷ ss) (slots-alike es fs (from + 1) n (λ j least most. others j (omega (arith, least, at))))
-    slots-changed_from from (suc n) (suc k) is =
-        ap (λ s. s ∷ slots_from fs (from + 1) n) (others from (omega (arith, is)))
+    slots-changed_from from (suc n) (suc k) is = ap (λ s. s ∷ slots_from fs (from + 1) n) (others from (omega (arith, is)))
         ∙ ap (λ ss. entry_at es from ∷ ss) (slots-changed_from (from + 1) n k (omega (arith, is)))
 
     slots-changed : h None ≡ None → (n : ℕ)

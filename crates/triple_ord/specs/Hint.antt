@@ -13,13 +13,11 @@ module _ {T : Type 0} where
   -- How many entries there are from the one at this place to the far neighbour of a gap, both counted: from a place before the gap
   -- to the entry after it, from a place behind the gap to the entry before it, and to the end of the list where there is none.
   abbrev pub way_length : {entries : List (Entry T)} → Gap entries → ℕ → ℕ
-  way_length gap at =
-      if nat_lt at (length gap.front) then length gap.front + present (after gap) - at
+  way_length gap at = if nat_lt at (length gap.front) then length gap.front + present (after gap) - at
       else at + 1 - (length gap.front - present (before gap))
 
 -- On a list in the order of its keys, with a gap that fits k, a search from the entry with index i makes c visits: no more than there
 -- are entries from there to the far neighbour of the gap, where these are no more than num.
 abbrev pub IsNearHint : {T K : Type 0} → (T → K) → (K → K → Ordering) → List (Entry T) → K → ℕ → ℕ → ℕ → Type 0
-IsNearHint key cmp entries k i num c =
-    IsInOrder key cmp entries → IsSome (entry_at entries i) → (gap : Gap entries) → Fits key cmp gap k
+IsNearHint key cmp entries k i num c = IsInOrder key cmp entries → IsSome (entry_at entries i) → (gap : Gap entries) → Fits key cmp gap k
     → way_length gap (position_of entries i) ≤ num → c ≤ way_length gap (position_of entries i)

@@ -3,12 +3,11 @@ use Rattle.std.specs.Prelude.{◌≡◌, ◌≢◌, ℕ, Option, Some, None, Res
 use Rattle.std.specs.declared.cmp.Ordering.{Ordering, TheVariants.Equal}
 use Rattle.chain_base.specs.{Chain.Entry, Chain.Chain, Chain.chain_limit, Chain.with_room, Insert.IsInsertion}
 use Rattle.ord_tree.specs.Tree.{Tree, IsGrown, with_item}
+use Rattle.triple_ord.specs.declared.error.OrdInsertionError.TheVariants.{FailedOrdRequirement, NotWithinCapacity, BeyondMaxCapacity}
+use Rattle.triple_ord.specs.declared.entry_kind.OrdEntryKind.{OrdEntryKind, TheVariants.New, TheVariants.Replacing}
+use Rattle.triple_ord.specs.{declared.error.OrdInsertionError.TheVariants.AllocError, declared.error.OrdInsertionError.OrdInsertionError}
 use Rattle.triple_ord.specs.Gap.{Gap, with_between}
 use Rattle.triple_ord.specs.{Place.Aim, Place.at_key, Place.beside, Place.into, Place.over, Place.nowhere, Place.IsPlace, Search.pointer}
-use Rattle.triple_ord.specs.declared.entry_kind.OrdEntryKind.{OrdEntryKind, TheVariants.New, TheVariants.Replacing}
-use Rattle.triple_ord.specs.declared.error.OrdInsertionError.{OrdInsertionError}
-use Rattle.triple_ord.specs.declared.error.OrdInsertionError.TheVariants.{FailedOrdRequirement, NotWithinCapacity, BeyondMaxCapacity}
-use Rattle.triple_ord.specs.declared.error.OrdInsertionError.TheVariants.{AllocError}
 
 -- whether an insertion keeps within the capacity, or grows where no slot is vacant
 pub data Growth : Type 0 where

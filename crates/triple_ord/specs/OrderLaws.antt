@@ -1,13 +1,13 @@
 -- What is true of searches and insertions on a list in order, and of rebuilt shapes: each a statement of its own.
-use Rattle.std.specs.List.{All}
 use Rattle.std.specs.Prelude.{◌≡◌, ◌≢◌, ◌↔◌, ℕ, ◌⊎◌, List, [], ◌∷◌, ◌++◌, Option, Some, None, Result, Contains}
 use Rattle.std.specs.declared.cmp.Ordering.{Ordering, TheVariants.Less, TheVariants.Equal, TheVariants.Greater}
+use Rattle.std.specs.List.{All}
 use Rattle.chain_base.specs.Chain.{Entry, IsDistinct}
 use Rattle.ord_tree.specs.{Half.IsRebuilt, Shape.Shape, Shape.missing, Shape.node, Shape.size_of, Tree.Tree}
 use Rattle.triple_ord.specs.{ClosureSearch.Shown, ClosureSearch.FindsWith, Gap.Gap, Gap.before, Gap.after}
 use Rattle.triple_ord.specs.{Insertion.Growth, Insertion.InsertsBy, Order.IsInOrder, Place.Aim, Place.at_key, Place.behind_key}
-use Rattle.triple_ord.specs.Search.{pointer, order_to, FindsKey, FindsSimilar}
 use Rattle.triple_ord.specs.declared.{entry_kind.OrdEntryKind.OrdEntryKind, error.OrdInsertionError.OrdInsertionError}
+use Rattle.triple_ord.specs.Search.{pointer, order_to, FindsKey, FindsSimilar}
 
 module _ {T K : Type 0} (key : T → K) (cmp : K → K → Ordering) where
   -- no entry has an equal key
@@ -16,8 +16,7 @@ module _ {T K : Type 0} (key : T → K) (cmp : K → K → Ordering) where
 
   -- On a list in the order of its keys a search for a key finds nothing exactly where no entry has an equal one.
   abbrev pub AbsentKeyLaw : Type 0
-  AbsentKeyLaw =
-      (entries : List (Entry T)) (k : K) (found : Option (ℕ × ℕ)) (c : ℕ)
+  AbsentKeyLaw = (entries : List (Entry T)) (k : K) (found : Option (ℕ × ℕ)) (c : ℕ)
       → IsInOrder key cmp entries → FindsKey key cmp entries k found c → (found ≡ None) ↔ IsAbsent entries k
 
   -- a gap is the place of a key: all keys before it are lesser, and all keys behind it greater
@@ -28,11 +27,9 @@ module _ {T K : Type 0} (key : T → K) (cmp : K → K → Ordering) where
   -- On a list in the order of its keys, of which none is equal, the entry of a search for a similar key stands directly before or
   -- after the key's place.
   abbrev pub BesidePlaceLaw : Type 0
-  BesidePlaceLaw =
-      (entries : List (Entry T)) (k : K) (p : ℕ × ℕ) (order : Ordering) (c : ℕ)
+  BesidePlaceLaw = (entries : List (Entry T)) (k : K) (p : ℕ × ℕ) (order : Ordering) (c : ℕ)
       → IsInOrder key cmp entries → IsAbsent entries k → FindsSimilar key cmp entries k (Some (p, order)) c
-      → (e : Entry T) × (p ≡ pointer e)
-      × ((gap : Gap entries) × IsPlaceOf gap k × ((before gap ≡ Some e) ⊎ (after gap ≡ Some e)))
+      → (e : Entry T) × (p ≡ pointer e) × ((gap : Gap entries) × IsPlaceOf gap k × ((before gap ≡ Some e) ⊎ (after gap ≡ Some e)))
 
 -- the answers to the entries of a list: first Greater, then Equal, and then Less, each to some of them or to none
 pub record AreAnsweredInOrder {T : Type 0} (answer : Entry T → Ordering) (entries : List (Entry T)) : Type 0 where
@@ -47,8 +44,7 @@ pub record AreAnsweredInOrder {T : Type 0} (answer : Entry T → Ordering) (entr
 -- Where a closure's answers are a fixed function of the entry, and lie in order along the list, a search by the closure finds nothing
 -- exactly where it answers Equal to no entry.
 abbrev pub AnsweredInOrderLaw : {T F : Type 0} → (F → Shown T → F → Type 0) → Type 0
-AnsweredInOrderLaw {T} {F} asks =
-    (answer : Entry T → Ordering) (entries : List (Entry T)) (f g : F) (found : Option (ℕ × ℕ)) (c : ℕ)
+AnsweredInOrderLaw {T} {F} asks = (answer : Entry T → Ordering) (entries : List (Entry T)) (f g : F) (found : Option (ℕ × ℕ)) (c : ℕ)
     → ((before after : F) (s : Shown T) → asks before s after → s.1 ≡ answer s.0)
     → AreAnsweredInOrder answer entries → FindsWith asks entries f g found c
     → (found ≡ None) ↔ ((e : Entry T) → Contains entries e → answer e ≢ Equal)
@@ -61,10 +57,8 @@ GoesBy aim k = (aim ≡ at_key k) ⊎ (aim ≡ behind_key k)
 abbrev pub KeptOrderLaw : {P T K : Type 0} → (P → ℕ × ℕ) → (T → K) → (K → K → Ordering) → Type 0
 KeptOrderLaw {P} {T} {K} numbers key cmp =
     (most : ℕ) (growth : Growth) (aim : Aim K) (k : K) (old new : Tree T) (item : T) (answer : Result (OrdEntryKind P × Option T) OrdInsertionError)
-    → GoesBy aim k → cmp k (key item) ≡ Equal
-    → IsDistinct old.list.entries → IsInOrder key cmp old.list.entries
-    → InsertsBy key cmp most growth aim numbers old item answer new
-    → IsInOrder key cmp new.list.entries
+    → GoesBy aim k → cmp k (key item) ≡ Equal → IsDistinct old.list.entries → IsInOrder key cmp old.list.entries
+    → InsertsBy key cmp most growth aim numbers old item answer new → IsInOrder key cmp new.list.entries
 
 -- the ranks of the nodes, in order
 abbrev pub ranks_of : Shape → List ℕ

@@ -6,10 +6,10 @@ use Rattle.chain_base.specs.Chain.{Entry, Chain, entry_at, next_index}
 use Rattle.ord_tree.specs.Tree.{Tree, put_at}
 use Rattle.triple_ord.specs.{Arena.item_of, EntryVisits.HasSeen, EntryVisits.VisitsFor, Gap.with_between}
 use Rattle.triple_ord.specs.{Place.Aim, Place.Place, Place.into, Place.over, Place.nowhere, Place.IsPlace, Place.aim_of, Search.pointer}
-use Rattle.triple_ord.specs.declared.{entry_kind.OrdEntryKind.OrdEntryKind, insert_kind.OrdInsertKind.OrdInsertKind}
 use Rattle.triple_ord.specs.declared.insert_kind.OrdInsertKind.TheVariants.{Normal, Nonhereditary, Linear, NonhereditaryLinear}
 use Rattle.triple_ord.specs.declared.prepared.InsertPlace.{InsertPlace, TheVariants.New, TheVariants.Replacing}
 use Rattle.triple_ord.specs.declared.ties.Ties.{Ties, TheVariants.Sought, TheVariants.Passed}
+use Rattle.triple_ord.specs.declared.{entry_kind.OrdEntryKind.OrdEntryKind, insert_kind.OrdInsertKind.OrdInsertKind}
 use Rattle.triple_ord.specs.declared.entry_kind.OrdEntryKind.TheVariants as shown
 
 -- the index of a pointer
@@ -64,8 +64,7 @@ module _ {P T : Type 0} (numbers : P → ℕ × ℕ) where
 
   -- an item can go there without memory: beside an entry, under the next pointer; or in the place of an item that the pointer finds
   abbrev pub IsReady : OrdEntryKind P → Option (P × Ordering) → Tree T → Type 0
-  IsReady (shown.New p) at t =
-      HasRoomAt at t.list × (next_index t.list ≡ Some (numbers p).0) × ((numbers p).1 ≡ t.list.generation)
+  IsReady (shown.New p) at t = HasRoomAt at t.list × (next_index t.list ≡ Some (numbers p).0) × ((numbers p).1 ≡ t.list.generation)
   IsReady (shown.Replacing p) at t = IsSome (item_of t (numbers p))
 
   -- each is a fact, and no datum

@@ -1,7 +1,7 @@
 -- The refusals of insertions, by those of the tree.
 use Rattle.arena_base.specs.declared.error.InsertionError.{InsertionError}
-use Rattle.triple_ord.specs.declared.error.OrdInsertionError.{OrdInsertionError}
 use Rattle.triple_ord.specs.declared.error.OrdInsertionError.TheVariants.{NotWithinCapacity, BeyondMaxCapacity, AllocError}
+use Rattle.triple_ord.specs.declared.error.OrdInsertionError.{OrdInsertionError}
 use Rattle.arena_base.specs.declared.error.InsertionError.TheVariants as tree
 
 -- the refusal of an insertion where the tree refuses

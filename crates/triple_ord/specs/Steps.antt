@@ -19,8 +19,7 @@ module _ {T K : Type 0} (key : T → K) (cmp : K → K → Ordering) (entries : 
   -- from the index i, on a list in order with a gap that fits k: the steps return after no more visits than there are entries on the
   -- way to the gap, and leave it open only where there are more than num
   abbrev pub IsNear : {X : Type 0} → ℕ → ℕ → Option X → ℕ → Type 0
-  IsNear i num found visits =
-      IsInOrder key cmp entries → (gap : Gap entries) → Fits key cmp gap k
+  IsNear i num found visits = IsInOrder key cmp entries → (gap : Gap entries) → Fits key cmp gap k
       → MatchOption found (num < way_length gap (position_of entries i)) (λ answer. visits ≤ way_length gap (position_of entries i))
 
   -- the steps went so many entries from a place: to the one with `front` before it and `back` behind it; the entry that they came

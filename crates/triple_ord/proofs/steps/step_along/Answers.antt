@@ -1,8 +1,8 @@
 use Rattle.triple_ord.proofs.{Inserting.equal_by, OrderLaws.taken-less, OrderLaws.taken-greater, OrderLaws.taken-equal}
 use Rattle.triple_ord.proofs.Stepping.{stepping-begins, stepping-occupied, stepping-goes, stepping-order, stepping-settles}
-use Rattle.triple_ord.proofs.Stepping.{stepping-unequal, stepping-near, apart, alike}
 use Rattle.triple_ord.proofs.Words.{◌≡◌, ℕ, refl, sym, ap, ◌∙◌, arith, option_map, taken}
 use Rattle.triple_ord.proofs.steps.step_along.Goals.{in_default-via-in-Some+else-ne, in_default-via-in_default}
+use Rattle.triple_ord.proofs.Stepping.{stepping-unequal, stepping-near, apart, alike}
 use Rattle.triple_ord.proofs.steps.step_along.Goals as goal
 
 pub loop-step-init : goal.loop-step-init
@@ -32,7 +32,8 @@ returns-in_default-clause-settled g c =
 pub returns-in_default-clause-near : goal.returns-in_default-clause-near
 returns-in_default-clause-near g c = λ ordered gap fits.
     rw c.show_link-generation.ensures.counted
-    (stepping-near _ _ _ _ c.requires.distinct _ _ _ _ c.loop-step.invariant.stepping _ (λ o. taken-less _ _ o c.args.ties) (λ o. taken-greater _ _ o c.args.ties) g.met.T.Key.Ord.total ordered gap fits)
+    (stepping-near _ _ _ _ c.requires.distinct _ _ _ _ c.loop-step.invariant.stepping _ g.met.T.Key.Ord.total ordered gap fits
+    (λ o. taken-less _ _ o c.args.ties) (λ o. taken-greater _ _ o c.args.ties))
 
 pub loop-step-preserved : goal.loop-step-preserved
 loop-step-preserved g c =
@@ -48,7 +49,8 @@ loop-step-preserved g c =
 
 pub returns-clause-near : goal.returns-clause-near
 returns-clause-near g c = λ ordered gap fits.
-    let near = stepping-near _ _ _ _ c.requires.distinct _ _ _ _ c.loop-step.invariant.stepping _ (λ o. taken-less _ _ o c.args.ties) (λ o. taken-greater _ _ o c.args.ties) g.met.T.Key.Ord.total ordered gap fits in
+    let near = stepping-near _ _ _ _ c.requires.distinct _ _ _ _ c.loop-step.invariant.stepping _ g.met.T.Key.Ord.total ordered gap fits
+    (λ o. taken-less _ _ o c.args.ties) (λ o. taken-greater _ _ o c.args.ties) in
     omega (arith, near, c.loop-step-test.false, c.loop-step.invariant.counted)
 
 pub returns-then-is_eq-clause-near : goal.returns-then-is_eq-clause-near

@@ -1,5 +1,5 @@
-use Rattle.triple_ord.proofs.CallerLemmas.{clone-cloned, clone-emptied}
 use Rattle.triple_ord.proofs.Words.{rules, inl, inr, refl, IsSound, IfOk-weaker, MatchResult-weaker}
+use Rattle.triple_ord.proofs.CallerLemmas.{clone-cloned, clone-emptied}
 use Rattle.triple_ord.proofs.arena.SimpleOrdArena.clone_from_arena.Goals as goal
 
 pub returns-clause-ok : goal.returns-clause-ok

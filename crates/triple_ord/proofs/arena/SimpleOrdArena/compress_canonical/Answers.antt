@@ -1,5 +1,5 @@
-use Rattle.triple_ord.proofs.CallerLemmas.{found-numbered}
 use Rattle.triple_ord.proofs.Words.{ap, length, map, ◌∙◌, sym, length-map, Chain, items-numbered}
+use Rattle.triple_ord.proofs.CallerLemmas.{found-numbered}
 use Rattle.triple_ord.proofs.arena.SimpleOrdArena.compress_canonical.Goals as goal
 
 pub returns-clause-items : goal.returns-clause-items
@@ -7,8 +7,7 @@ returns-clause-items g c =
     rw (← c.self.view_is) (ap (λ (c : Chain _). map (λ e. e.item) c.entries) c.compress_canonical.ensures.after ∙ items-numbered _ 1 _)
 
 pub returns-clause-count : goal.returns-clause-count
-returns-clause-count g c =
-    sym (length-map c.compress_canonical.new.self.list.entries (λ e. e.item)) ∙ ap length (returns-clause-items g c)
+returns-clause-count g c = sym (length-map c.compress_canonical.new.self.list.entries (λ e. e.item)) ∙ ap length (returns-clause-items g c)
     ∙ length-map c.args.self.now.list.entries (λ e. e.item)
 
 pub returns-clause-found : goal.returns-clause-found

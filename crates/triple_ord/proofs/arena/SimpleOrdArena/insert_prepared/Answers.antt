@@ -3,8 +3,7 @@ use Rattle.triple_ord.proofs.{Inserting.IsInsertion-same, Places.put-gap, Places
 use Rattle.triple_ord.proofs.arena.SimpleOrdArena.insert_prepared.Goals as goal
 
 pub returns-in-Replacing-clause-updates : goal.returns-in-Replacing-clause-updates
-returns-in-Replacing-clause-updates g c =
-    rw (c.in-Replacing.is, c.replace.ensures.after, c.inx.ensures)
+returns-in-Replacing-clause-updates g c = rw (c.in-Replacing.is, c.replace.ensures.after, c.inx.ensures)
     (updates-written c.args.self.now (g.P.Ptr.numbers c.in-Replacing.p) c.args.t (rw c.in-Replacing.is at c.requires))
 
 pub returns-in-Replacing-clause-count : goal.returns-in-Replacing-clause-count

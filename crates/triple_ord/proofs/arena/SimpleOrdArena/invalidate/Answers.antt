@@ -4,7 +4,7 @@ use Rattle.triple_ord.proofs.arena.SimpleOrdArena.invalidate.Goals as goal
 pub returns-clause-renews : goal.returns-clause-renews
 returns-clause-renews g c =
     let q = c.invalidate.ensures in
-    rw (← c.self.view_is) (renews-renewed g.P.Ptr.numbers g.P.Gen.PtrGen.greatest c.self.inside.tree _ (g.P.Ptr.numbers c.args.p) _ q.valid q.index q.generation q.renewed)
+    rw (← c.self.view_is) (renews-renewed g.P.Ptr.numbers g.P.Gen.PtrGen.greatest c.self.inside.tree _ (g.P.Ptr.numbers c.args.p) _ q.valid (q.index, q.generation) q.renewed)
 
 pub returns-clause-count : goal.returns-clause-count
 returns-clause-count g c =

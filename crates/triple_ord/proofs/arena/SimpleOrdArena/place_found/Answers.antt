@@ -1,5 +1,5 @@
-use Rattle.triple_ord.proofs.Places.{found-alone, found-beside, found-over}
 use Rattle.triple_ord.proofs.Words.{◌≡◌, sym, ap, ◌∙◌, is_eq, Ordering}
+use Rattle.triple_ord.proofs.Places.{found-alone, found-beside, found-over}
 use Rattle.triple_ord.proofs.arena.SimpleOrdArena.place_found.Goals as goal
 
 pub returns-in-None : goal.returns-in-None

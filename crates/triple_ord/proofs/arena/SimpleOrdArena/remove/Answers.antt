@@ -10,8 +10,7 @@ returns-clause-updates g c =
     (sym c.if-not-contains.ensures) (rw (c.self.view_is, c.inx.ensures) at c.remove_entry.ensures.removed)
 
 pub returns-clause-count : goal.returns-clause-count
-returns-clause-count g c =
-    owed _ (count-removed g.P.Gen.PtrGen.greatest c.args.self.now c.remove_entry.new.self (g.P.Ptr.numbers c.args.p)
+returns-clause-count g c = owed _ (count-removed g.P.Gen.PtrGen.greatest c.args.self.now c.remove_entry.new.self (g.P.Ptr.numbers c.args.p)
     (sym c.if-not-contains.ensures) (rw (c.self.view_is, c.inx.ensures) at c.remove_entry.ensures.removed))
 
 pub returns-clause-shape : goal.returns-clause-shape

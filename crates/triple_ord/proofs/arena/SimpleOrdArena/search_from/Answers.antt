@@ -3,8 +3,7 @@ use Rattle.triple_ord.proofs.Words.{◌-◌, sym, subst, ◌∙◌, arith, Tree,
 use Rattle.triple_ord.proofs.arena.SimpleOrdArena.search_from.Goals as goal
 
 pub returns-then-is_some-clause-found : goal.returns-then-is_some-clause-found
-returns-then-is_some-clause-found g c =
-    rw (← c.self.view_is, ← c.new-probe.ensures.tree, c.visits.ensures)
+returns-then-is_some-clause-found g c = rw (← c.self.view_is, ← c.new-probe.ensures.tree, c.visits.ensures)
     (settled-similar g.T.SimpleOrdItem.key_of (taken c.args.ties g.T.Key.Ord.cmp) _ _ _ _ _ c.step_along-near.ensures.settled (sym c.is_some.ensures ∙ c.if-is_some.true))
 
 pub returns-then-is_some-clause-visits : goal.returns-then-is_some-clause-visits

@@ -2,13 +2,11 @@ use Rattle.triple_ord.proofs.Stepping.{gives-rising, gives-falling, rest-missing
 use Rattle.triple_ord.proofs.arena.SimpleOrdArena.step.Goals as goal
 
 pub returns-then-falling : goal.returns-then-falling
-returns-then-falling g c =
-    rw (c.if-falling.true, c._from_raw-p.ensures, c.prev.ensures.value)
+returns-then-falling g c = rw (c.if-falling.true, c._from_raw-p.ensures, c.prev.ensures.value)
     (gives-falling c.args.self.now (g.P.Inx.PtrInx.number c.args.i) c.len.ensures.sound.distinct _ _ c.in_ok-entry.ensures)
 
 pub returns : goal.returns
-returns g c =
-    rw (c.if-falling.false, c._from_raw-p.ensures, c.next.ensures.value)
+returns g c = rw (c.if-falling.false, c._from_raw-p.ensures, c.next.ensures.value)
     (gives-rising c.args.self.now (g.P.Inx.PtrInx.number c.args.i) c.len.ensures.sound.distinct _ _ c.in_ok-entry.ensures)
 
 pub returns-in_err-entry : goal.returns-in_err-entry

@@ -7,8 +7,7 @@ returns-clause-found g c =
     c.in_ok-transfer_canonical_reallocating.ensures.ok
 
 pub returns-clause-count : goal.returns-clause-count
-returns-clause-count g c =
-    rw (← c.source.view_is)
+returns-clause-count g c = rw (← c.source.view_is)
     (count-transferred _ _ _ _ _ _ c.source.inside.tree c.transfer_canonical_reallocating.new.source c.self.inside.tree c.transfer_canonical_reallocating.new.self
     c.in_ok-transfer_canonical_reallocating.ensures.ok)
 

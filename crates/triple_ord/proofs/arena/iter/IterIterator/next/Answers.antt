@@ -1,5 +1,5 @@
-use Rattle.triple_ord.proofs.Stepping.{walk-step, walk-left, walk-goes, walk-end}
 use Rattle.triple_ord.proofs.Words.{◌≡◌, [], Bor, arith, length, sym, ap, ◌∙◌, Link}
+use Rattle.triple_ord.proofs.Stepping.{walk-step, walk-left, walk-goes, walk-end}
 use Rattle.triple_ord.proofs.arena.iter.IterIterator.next.Goals as goal
 
 pub returns-in_err-entry-clause-steps : goal.returns-in_err-entry-clause-steps

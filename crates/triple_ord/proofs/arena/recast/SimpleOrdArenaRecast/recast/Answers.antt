@@ -1,6 +1,6 @@
-use Rattle.triple_ord.proofs.Content.{recast-vacant, recast-next, recast-failed, recast-ends, vacant_of}
-use Rattle.triple_ord.proofs.Words.{[], refl, ◌≡◌, ◌+◌, ◌≤◌, Err, is_some, sym, ap, ◌∙◌, rules, arith}
 use Rattle.triple_ord.proofs.arena.recast.SimpleOrdArenaRecast.recast.Goals.{then-contains_inx+in_ok-recast_at, else-contains_inx}
+use Rattle.triple_ord.proofs.Words.{[], refl, ◌≡◌, ◌+◌, ◌≤◌, Err, is_some, sym, ap, ◌∙◌, rules, arith}
+use Rattle.triple_ord.proofs.Content.{recast-vacant, recast-next, recast-failed, recast-ends, vacant_of}
 use Rattle.triple_ord.specs.Arena.{entry_at}
 use Rattle.triple_ord.proofs.arena.recast.SimpleOrdArenaRecast.recast.Goals as goal
 
