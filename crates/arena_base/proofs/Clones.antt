@@ -2,7 +2,7 @@
 use Rattle.arena_base.proofs.Words.{◌≡◌, ℕ, zero, suc, ◌+◌, ◌<◌, ◌≤◌, Option, Some, None, List, [], ◌∷◌, ◌++◌, length, get_or, replicate}
 use Rattle.arena_base.proofs.Words.{take, ◌-◌, refl, arith, drop, map, sym, ap, ◌∙◌, reverse, max, Result, Ok, Err, map-append, length-map}
 use Rattle.arena_base.proofs.Words.{drop_more, append_assoc, map_push, append-nil, get_or-drop, map-id, FoldsTo-push, none-some, AllocError}
-use Rattle.arena_base.proofs.Words.{OnOk, OnErr, FoldsTo, Arena, vacant_from, resized, greatest_occupied, HoldsSame, arena_capacity}
+use Rattle.arena_base.proofs.Words.{OnOk, OnErr, FoldsTo, Arena, vacant_from, resized, greatest_occupied, arena_capacity}
 use Rattle.arena_base.proofs.Words.{IsLawful, FindSame, item_if, CloneStep, IsClone, IsRefusedClone, StopsAtRefusal, Grants, with_items}
 use Rattle.arena_base.proofs.Words.{replaced, HasSamePointers, Slot, entry_in, vacant_slots, arena_of, entries_from, entries_rising}
 use Rattle.arena_base.proofs.Words.{chained_keeps, ClonesSlots, Inside, Generations, Indexes, Occupied, Vacant}

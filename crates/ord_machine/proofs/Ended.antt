@@ -3,7 +3,7 @@ use Rattle.std.proofs.Common.{◌≡◌, ℕ, zero, suc, ◌+◌, ◌<◌, ◌�
 use Rattle.std.proofs.lemmas.Bool.Decides.{eqb_tells}
 use Rattle.std.specs.{Option.ForSome, Option.option_map, List.AllByRecursion}
 use Rattle.arena_base.specs.Generation.{next_generation}
-use Rattle.chain_base.specs.Chain.{Entry, Chain, IsSound, IsDistinct, entry_at, item_of}
+use Rattle.chain_base.specs.Chain.{Chain, IsSound, IsDistinct, entry_at, item_of}
 use Rattle.chain_base.proofs.CallerLemmas.{entry_at-without, entry_at-without_other, entry_at-with_item_among, entry_at-with_item_among_other}
 use Rattle.chain_base.proofs.CallerLemmas.{entry_at-with_generation, entry_at-with_generation_other, entry_at-between}
 use Rattle.triple_ord.specs.ClosureSearch.{Shown}

@@ -10,7 +10,7 @@ use Rattle.triple_ord.proofs.Words.{slice_get, map, length-append, IfSome, IfNon
 use Rattle.triple_ord.proofs.Words.{beside, Place, into, over, IsPlace, aim_of, Growth, with_slot, InsertsBy, told, OrdEntryKind, New}
 use Rattle.triple_ord.proofs.Words.{Tree, IsGrown, with_item, Gap, with_between, Equal, pointer, FindsKey, FindsSimilar, Aim, at_key}
 use Rattle.triple_ord.proofs.Words.{Replacing, OrdInsertKind, item_of, items, count, Updates, Renews, FindsBy, IsOfGeneration, IsNumbered}
-use Rattle.triple_ord.proofs.Words.{if◌then◌else◌, eq-eqb, cases_eq, option_map, Ordering, next_generation, item_if, Entry, Chain, times}
+use Rattle.triple_ord.proofs.Words.{eq-eqb, cases_eq, option_map, Ordering, next_generation, item_if, Entry, Chain, times}
 use Rattle.triple_ord.proofs.Words.{FindsNothing, ◌<◌, Result, Err, ◌⊎◌, nil_from_length, Bor, IsSound, greatest_index, clone-same}
 use Rattle.triple_ord.proofs.Words.{Transferring, TransferStep, IsTransfer, FoldsTo, length-map, entry_at-absent, entry_at-without_other}
 use Rattle.triple_ord.proofs.Words.{IsDistinct, removed, renewed, inserted_at, IsInsertion, moved, at_compressed_index, numbered}

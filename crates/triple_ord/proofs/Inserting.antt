@@ -2,7 +2,7 @@
 -- that answered there puts a new entry.
 use Rattle.std.proofs.Math.Path.{fun_ext}
 use Rattle.triple_ord.proofs.Words.{◌≡◌, ℕ, List, [], ◌∷◌, ◌++◌, Option, Some, None, IsSome, length, refl, ap, arith, inl, inr, eqb_tells}
-use Rattle.triple_ord.proofs.Words.{position_of, ◌≢◌, true, false, ◌+◌, ◌-◌, ◌≤◌, sym, ◌∙◌, ◌⊎◌, append_assoc, is_eq, Ordering, Less, Equal}
+use Rattle.triple_ord.proofs.Words.{position_of, ◌≢◌, true, false, ◌≤◌, sym, ◌∙◌, ◌⊎◌, append_assoc, is_eq, Ordering, Less, Equal}
 use Rattle.triple_ord.proofs.Words.{common_steps, option_map, Link, Entry, times, IsDistinct, entry_at, link_between, link_at, from_index}
 use Rattle.triple_ord.proofs.Words.{Greater, Gap, order_to, IsFirstEqual, StopsAt, IsBeside, FindsKey, FindsSimilar, where_equal, Chain}
 use Rattle.triple_ord.proofs.Words.{insert_after, insert_before, with_item_among, times-append, entry_at-between, first_of, last_or}
