@@ -2,27 +2,40 @@
 
 use std::alloc::Global;
 use std::test::Fail;
-use triple_ord::{OrdInsertionError, OrdPair, P0, Ptr};
-use triple_ord_uses::catalogue::{Book, Catalogue, find, pages, put, renumber, take_first};
+use triple_ord::{OrdInsertionError, OrdPair, OrderedPtrAdvancer, P0, Ptr, PtrAdvancer};
+use triple_ord_uses::catalogue::{
+    Book, BookPtr, Catalogue, find, pages, put, renumber, take_first,
+};
 use triple_ord_uses::entries::{add, add_near, put_behind, schedule_within, would_replace};
 use triple_ord_uses::rounds::{
     first_of_drain, last_job, least_job, least_of_drain, next_by_index, next_of_round, round_from,
 };
 use triple_ord_uses::scheduler::{Jobs, cancel, cancel_all, next, pop, replace, schedule};
 
+// Whether a job is written over, and gone once it is cancelled.
+fn is_cancelled_once(jobs: &mut Jobs, early: P0) -> bool {
+    replace(jobs, early, 7)
+        && next(jobs) == Some((early, 30, 7))
+        && cancel(jobs, early)
+        && !cancel(jobs, early)
+        && !replace(jobs, early, 8)
+}
+
+// Whether there is no job.
+fn has_none(jobs: &mut Jobs) -> bool {
+    next(jobs).is_none() && pop(jobs).is_none()
+}
+
 #[test]
 fn jobs_come_by_deadline_and_leave_when_they_are_cancelled(rt: HostRuntime) -> Result<(), Fail> {
     let mut jobs = Jobs::new(rt.alloc());
     let late = schedule(&mut jobs, 90, 1)?;
     let early = schedule(&mut jobs, 30, 2)?;
-    assert!(rt; replace(&mut jobs, early, 7));
-    assert!(rt; next(&jobs) == Some((early, 30, 7)));
-    assert!(rt; cancel(&mut jobs, early) && !cancel(&mut jobs, early));
-    assert!(rt; !replace(&mut jobs, early, 8));
+    assert!(rt; is_cancelled_once(&mut jobs, early));
     assert!(rt; pop(&mut jobs) == Some((late, 90, 1)));
     let _ = schedule(&mut jobs, 10, 3)?;
     cancel_all(&mut jobs);
-    assert!(rt; next(&jobs).is_none() && pop(&mut jobs).is_none());
+    assert!(rt; has_none(&mut jobs));
     Ok(())
 }
 
@@ -46,32 +59,63 @@ fn job_of(found: Option<(P0, u64, u64)>) -> Option<(u64, u64)> {
     Some((deadline, job))
 }
 
+// Whether a round that has given the first job goes on to the second, where the first is cancelled meanwhile.
+fn goes_on_behind(round: &mut OrderedPtrAdvancer<P0>, jobs: &mut Jobs, first: P0) -> bool {
+    next_of_round(round, jobs) == Some((first, 10, 1))
+        && cancel(jobs, first)
+        && round_from(jobs, first).is_none()
+        && job_of(next_of_round(round, jobs)) == Some((20, 2))
+}
+
+// Whether it gives the third job as its last, where a drain takes the second meanwhile.
+fn ends_behind(round: &mut OrderedPtrAdvancer<P0>, jobs: &mut Jobs) -> bool {
+    job_of(first_of_drain(jobs)) == Some((20, 2))
+        && job_of(next_of_round(round, jobs)) == Some((30, 3))
+        && next_of_round(round, jobs).is_none()
+}
+
+// Whether the third job is the last, and the only one.
+fn has_the_third_alone(jobs: &mut Jobs) -> bool {
+    last_job(jobs) == Some((30, 3)) && last_job(jobs).is_none() && first_of_drain(jobs).is_none()
+}
+
 #[test]
 fn rounds_go_on_over_changes(rt: HostRuntime) -> Result<(), Fail> {
     let (mut jobs, first) = three_jobs(rt.alloc(), false)?;
     let mut round = round_from(&jobs, first).ok_or("the first job")?;
-    assert!(rt; next_of_round(&mut round, &jobs) == Some((first, 10, 1)));
-    assert!(rt; cancel(&mut jobs, first) && round_from(&jobs, first).is_none());
-    assert!(rt; job_of(next_of_round(&mut round, &jobs)) == Some((20, 2)));
-    assert!(rt; job_of(first_of_drain(&mut jobs)) == Some((20, 2)));
-    assert!(rt; job_of(next_of_round(&mut round, &jobs)) == Some((30, 3)));
-    assert!(rt; next_of_round(&mut round, &jobs).is_none());
-    assert!(rt; last_job(&mut jobs) == Some((30, 3)));
-    assert!(rt; last_job(&mut jobs).is_none() && first_of_drain(&mut jobs).is_none());
+    assert!(rt; goes_on_behind(&mut round, &mut jobs, first));
+    assert!(rt; ends_behind(&mut round, &mut jobs));
+    assert!(rt; has_the_third_alone(&mut jobs));
     Ok(())
+}
+
+// Whether a walk by index gives the third job, which came first, and then the second.
+fn goes_by_index(walk: &mut PtrAdvancer<P0>, jobs: &Jobs, late: P0) -> bool {
+    next_by_index(walk, jobs) == Some((late, 30, 3))
+        && job_of(next_by_index(walk, jobs)) == Some((20, 2))
+}
+
+// Whether it gives the first job as its last, where a drain by index takes the third meanwhile.
+fn ends_by_index(walk: &mut PtrAdvancer<P0>, jobs: &mut Jobs) -> bool {
+    job_of(least_of_drain(jobs)) == Some((30, 3))
+        && job_of(next_by_index(walk, jobs)) == Some((10, 1))
+        && next_by_index(walk, jobs).is_none()
+}
+
+// Whether the second job has the least index, and whoever takes it leaves none.
+fn has_the_second_first(jobs: &mut Jobs) -> bool {
+    job_of(least_job(jobs)) == Some((20, 2))
+        && least_job(jobs).is_none()
+        && least_of_drain(jobs).is_none()
 }
 
 #[test]
 fn jobs_are_met_by_index(rt: HostRuntime) -> Result<(), Fail> {
     let (mut jobs, late) = three_jobs(rt.alloc(), true)?;
     let mut walk = jobs.advancer();
-    assert!(rt; next_by_index(&mut walk, &jobs) == Some((late, 30, 3)));
-    assert!(rt; job_of(next_by_index(&mut walk, &jobs)) == Some((20, 2)));
-    assert!(rt; job_of(least_of_drain(&mut jobs)) == Some((30, 3)));
-    assert!(rt; job_of(next_by_index(&mut walk, &jobs)) == Some((10, 1)));
-    assert!(rt; next_by_index(&mut walk, &jobs).is_none());
-    assert!(rt; job_of(least_job(&mut jobs)) == Some((20, 2)));
-    assert!(rt; least_job(&mut jobs).is_none() && least_of_drain(&mut jobs).is_none());
+    assert!(rt; goes_by_index(&mut walk, &jobs, late));
+    assert!(rt; ends_by_index(&mut walk, &mut jobs));
+    assert!(rt; has_the_second_first(&mut jobs));
     Ok(())
 }
 
@@ -83,43 +127,72 @@ fn book(number: u64) -> Book {
     }
 }
 
+// Gives the book 500 the number 100, and tells whether it is found by that alone, and under a new pointer.
+fn is_renumbered(catalogue: &mut Catalogue, p: BookPtr) -> Result<bool, OrdInsertionError> {
+    let moved = renumber(catalogue, p, 100)?;
+    let is_moved = find(catalogue, 500).is_none() && find(catalogue, 100) == moved;
+    Ok(is_moved && pages(catalogue, p).is_none() && renumber(catalogue, p, 900)?.is_none())
+}
+
+// Whether these are the books, in order.
+fn has_books(catalogue: &mut Catalogue) -> bool {
+    let renumbered = Book {
+        number: 100,
+        pages: 50,
+    };
+    take_first(catalogue) == Some(renumbered)
+        && take_first(catalogue) == Some(book(300))
+        && take_first(catalogue).is_none()
+}
+
 #[test]
 fn books_are_found_by_number_and_by_pointer(rt: HostRuntime) -> Result<(), Fail> {
     let mut catalogue = Catalogue::new(rt.alloc());
     let p = put(&mut catalogue, book(500))?;
     let q = put(&mut catalogue, book(300))?;
     assert!(rt; find(&catalogue, 500) == Some(p) && pages(&catalogue, q) == Some(30));
-    let moved = renumber(&mut catalogue, p, 100)?;
-    assert!(rt; find(&catalogue, 500).is_none() && find(&catalogue, 100) == moved);
-    assert!(rt; pages(&catalogue, p).is_none());
-    assert!(rt; renumber(&mut catalogue, p, 900)?.is_none());
-    let renumbered = Book {
-        number: 100,
-        pages: 50,
-    };
-    assert!(rt; take_first(&mut catalogue) == Some(renumbered));
-    assert!(rt; take_first(&mut catalogue) == Some(book(300)));
-    assert!(rt; take_first(&mut catalogue).is_none());
+    assert!(rt; is_renumbered(&mut catalogue, p)?);
+    assert!(rt; has_books(&mut catalogue));
     Ok(())
+}
+
+// Adds two jobs of the deadline 30, and tells the pointer of the second, where the first comes first.
+fn two_jobs(jobs: &mut Jobs) -> Option<P0> {
+    let first = add(jobs, OrdPair::new(30, 1)).ok()?;
+    let second = add(jobs, OrdPair::new(30, 2)).ok()?;
+    let comes_first = first != second && next(jobs) == Some((first, 30, 1));
+    if comes_first { Some(second) } else { None }
+}
+
+// Whether a job of the deadline 30 would replace one, and not of 40; and one goes behind the second job, and none behind nothing.
+fn are_told(jobs: &mut Jobs, second: P0) -> Result<bool, OrdInsertionError> {
+    let replaces = would_replace(jobs, 30)? && !would_replace(jobs, 40)?;
+    let is_put = put_behind(jobs, second, OrdPair::new(5, 3))?;
+    Ok(replaces && is_put && !put_behind(jobs, P0::invalid(), OrdPair::new(5, 3))?)
+}
+
+// Adds a job, and tells whether another of its deadline, sought from there, replaces it.
+fn is_replaced(jobs: &mut Jobs) -> Result<bool, OrdInsertionError> {
+    let third = schedule_within(jobs, 90, 4)?;
+    let replaced = add_near(jobs, third, OrdPair::new(90, 5))?;
+    Ok(replaced == (third, Some(OrdPair::new(90, 4))))
+}
+
+// Whether a job comes back where there is no room and can't be, and where there is none within the capacity.
+fn are_refused(jobs: &mut Jobs) -> bool {
+    let refused = (OrdPair::new(7, 7), OrdInsertionError::BeyondMaxCapacity);
+    add(jobs, OrdPair::new(7, 7)) == Err(refused)
+        && schedule_within(jobs, 8, 8) == Err(OrdInsertionError::NotWithinCapacity)
+        && jobs.len() == 4
 }
 
 #[test]
 fn jobs_come_back_where_they_are_refused(rt: HostRuntime) -> Result<(), Fail> {
     let mut jobs = Jobs::new(rt.alloc());
-    let first = add(&mut jobs, OrdPair::new(30, 1)).ok().ok_or("a job")?;
-    let second = add(&mut jobs, OrdPair::new(30, 2)).ok().ok_or("a job")?;
-    assert!(rt; first != second && next(&jobs) == Some((first, 30, 1)));
-    assert!(rt; would_replace(&mut jobs, 30)? && !would_replace(&mut jobs, 40)?);
-    assert!(rt; put_behind(&mut jobs, second, OrdPair::new(5, 3))?);
-    assert!(rt; !put_behind(&mut jobs, P0::invalid(), OrdPair::new(5, 3))?);
-    let third = schedule_within(&mut jobs, 90, 4)?;
-    let replaced = add_near(&mut jobs, third, OrdPair::new(90, 5))?;
-    assert!(rt; replaced == (third, Some(OrdPair::new(90, 4))));
+    let second = two_jobs(&mut jobs).ok_or("two jobs")?;
+    assert!(rt; are_told(&mut jobs, second)?);
+    assert!(rt; is_replaced(&mut jobs)?);
     jobs.set_max_capacity(4)?;
-    let refused = (OrdPair::new(7, 7), OrdInsertionError::BeyondMaxCapacity);
-    assert!(rt; add(&mut jobs, OrdPair::new(7, 7)) == Err(refused));
-    let refusal = OrdInsertionError::NotWithinCapacity;
-    assert!(rt; schedule_within(&mut jobs, 8, 8) == Err(refusal));
-    assert!(rt; jobs.len() == 4);
+    assert!(rt; are_refused(&mut jobs));
     Ok(())
 }
