@@ -74,10 +74,10 @@ module _ {V : Type 0} where
       )
 
     -- where the changes that are still to come say what holds
-    abbrev Holds_by : Option V → List (Change V) → ℕ → Type 0
-    Holds_by held cs from = (t : ℕ) → from ≤ t → value_at all t ≡ value_after held cs t
+    abbrev HoldsBy : Option V → List (Change V) → ℕ → Type 0
+    HoldsBy held cs from = (t : ℕ) → from ≤ t → value_at all t ≡ value_after held cs t
 
-    are-after : (held : Option V) (cs : List (Change V)) (from until : ℕ) → IsRising cs → IsJoinedAfter held cs → Holds_by held cs from
+    are-after : (held : Option V) (cs : List (Change V)) (from until : ℕ) → IsRising cs → IsJoinedAfter held cs → HoldsBy held cs from
         → AreSpans all from until (spans_after held cs from until)
     are-after held [] from until rising joined same = are-held held from until (λ t past _. same t past)
     are-after held (c ∷ cs) from until rising joined same = elim (leb_tells c.time from) [
