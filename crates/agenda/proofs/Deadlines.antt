@@ -3,7 +3,7 @@ use Rattle.std.proofs.Common.{◌≡◌, ◌≢◌, ℕ, ◌<◌, ◌≤◌, Lis
 use Rattle.std.proofs.{lemmas.List.Elements.All-from_recursion, lemmas.List.Elements.recursion_from_All, lemmas.Bool.Decides.nat_tests}
 use Rattle.std.specs.{declared.cmp.Ordering.TheVariants.Less, List.AllByRecursion, Ordering.nat_cmp}
 use Rattle.chain_base.specs.Chain.{Entry}
-use Rattle.triple_ord.specs.Gap.{first_of, last_or}
+use Rattle.triple_ord.specs.Gap.{first_of, last_of}
 use Rattle.agenda.specs.{Agenda.Scheduled, Agenda.IsInOrder, Layout.scheduled}
 
 module _ {X : Type 0} where
@@ -46,7 +46,7 @@ module _ {J : Type 0} where
 
   -- where the last of a front isn't later than a deadline, none of it is
   module _ (d : ℕ) (ys : List (Scheduled J)) where
-    pub none-later : (es : List (Entry (ℕ × J))) → IsInOrder (map scheduled es ++ ys) → IfSome (last_or None es) (λ e. nat_cmp d e.item.0 ≢ Less)
+    pub none-later : (es : List (Entry (ℕ × J))) → IsInOrder (map scheduled es ++ ys) → IfSome (last_of None es) (λ e. nat_cmp d e.item.0 ≢ Less)
         → AllByRecursion (λ y. y.deadline ≤ d) (map scheduled es)
     none-later [] sorted last = tt
     none-later (e ∷ []) sorted last = (grind (arith, nat_tests, last), tt)

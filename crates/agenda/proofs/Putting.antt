@@ -7,45 +7,15 @@ use Rattle.chain_base.specs.Chain.{Entry, Chain, times, IsSound, inserted_at, ne
 use Rattle.chain_base.specs.Insert.{IsInsertion}
 use Rattle.chain_base.proofs.CallerLemmas.{entry_at-absent}
 use Rattle.ord_tree.specs.Tree.{Tree}
-use Rattle.triple_ord.specs.Insertion.{Growth, within, reallocating, with_slot, InsertsBy, InsertsNew}
+use Rattle.triple_ord.specs.Insertion.{Growth, within, reallocating, with_room_by, InsertsBy, InsertsNew}
 use Rattle.triple_ord.specs.declared.entry_kind.OrdEntryKind.TheVariants.{New, Replacing}
 use Rattle.triple_ord.specs.{Gap.Gap, Gap.before, Gap.after, Gap.with_between, declared.entry_kind.OrdEntryKind.OrdEntryKind}
-use Rattle.triple_ord.specs.{EntryKind.pointer_of, Place.behind_key}
-use Rattle.triple_ord.proofs.CallerLemmas.{entries-with_slot}
+use Rattle.triple_ord.specs.{EntryKind.pointer_of_kind, Place.behind_key}
+use Rattle.triple_ord.proofs.CallerLemmas.{entries-with_room_by, numbers-with_room_by, capacity-with_room_by}
 use Rattle.agenda.specs.Layout.{greatest_generation, scheduled, deadline_of, agenda_of, IsArenaOfJobs}
 use Rattle.agenda.specs.Agenda.{Schedules, IsInOrder, most_jobs, grown, count}
 use Rattle.agenda.proofs.Deadlines.{in_order-between, in_order-back, none-later, all-later}
 use Rattle.agenda.proofs.Leaving.{job_of-found}
-
--- a growth leaves generation and maximum
-numbers-with_slot : {T : Type 0} (growth : Growth) (most : ℕ) (c : Chain T) → ((with_slot growth most c).generation ≡ c.generation) × ((with_slot growth most c).maximum ≡ c.maximum)
-numbers-with_slot within most c = (refl, refl)
-numbers-with_slot reallocating most c = go (is_some (next_index c))
-  where
-    go : (b : Bool) → let grown = (if b then c else with_capacity c (grown_capacity most c)) in (grown.generation ≡ c.generation) × (grown.maximum ≡ c.maximum)
-    go true = (refl, refl)
-    go false = (refl, refl)
-
--- The capacity of a list with a slot for one entry more: it grew where there was none.
-module _ {T : Type 0} (most : ℕ) (c : Chain T) (counted : length c.entries + length c.vacant ≡ c.capacity) (unlimited : c.maximum ≡ None) where
-  abbrev wanted : ℕ
-  wanted = if nat_lt (length c.entries) c.capacity then c.capacity else min most (max 4 (2 * c.capacity))
-
-  roomy : (vacant : List ℕ) → length c.entries + length vacant ≡ c.capacity → is_some (slice_get vacant 0) ≡ true → c.capacity ≡ wanted
-  roomy [] all some = absurd (cc)
-  roomy (j ∷ rest) all some = rw (lt-ltb (length c.entries) c.capacity (omega (arith, all))) refl
-
-  full : (vacant : List ℕ) → length c.entries + length vacant ≡ c.capacity → is_some (slice_get vacant 0) ≡ false → grown_capacity most c ≡ wanted
-  full [] all none = rw (le-ltb (length c.entries) c.capacity (omega (arith, all)), unlimited) refl
-  full (j ∷ rest) all none = absurd (cc)
-
-  capacity-with_slot : (growth : Growth) (i : ℕ) → next_index (with_slot growth most c) ≡ Some i → (with_slot growth most c).capacity ≡ wanted
-  capacity-with_slot within i next = roomy c.vacant counted (ap is_some next)
-  capacity-with_slot reallocating i next = go (is_some (next_index c)) refl
-    where
-      go : (b : Bool) → is_some (next_index c) ≡ b → (if b then c else with_capacity c (grown_capacity most c)).capacity ≡ wanted
-      go true some = roomy c.vacant counted some
-      go false none = full c.vacant counted none
 
 module _ {J : Type 0} (growth : Growth) (old new : Tree (ℕ × J)) (d : ℕ) (job : J) (p : ℕ × ℕ) (gap : Gap old.list.entries) where
   abbrev entry : Entry (ℕ × J)
@@ -53,7 +23,7 @@ module _ {J : Type 0} (growth : Growth) (old new : Tree (ℕ × J)) (d : ℕ) (j
 
   -- the list with room for one more
   abbrev room : Chain (ℕ × J)
-  room = with_slot growth most_jobs old.list
+  room = with_room_by growth most_jobs old.list
 
   -- the list with an entry in the gap, under this index and generation
   abbrev put_list : List ℕ → ℕ → ℕ → Chain (ℕ × J)
@@ -74,7 +44,7 @@ module _ {J : Type 0} (growth : Growth) (old new : Tree (ℕ × J)) (d : ℕ) (j
             (rest, after ∙ ap (λ i. put_list rest i room.generation) here ∙ ap (λ g. put_list rest p.0 g) (sym inserted.generation))
 
     numbers-put : (new.list.generation ≡ old.list.generation) × (new.list.maximum ≡ old.list.maximum)
-    numbers-put = let numbers = numbers-with_slot growth most_jobs old.list in
+    numbers-put = let numbers = numbers-with_room_by growth most_jobs old.list in
         (ap (λ (c : Chain (ℕ × J)). c.generation) after-put.1 ∙ numbers.0, ap (λ (c : Chain (ℕ × J)). c.maximum) after-put.1 ∙ numbers.1)
 
     -- the jobs before and afterwards
@@ -90,7 +60,7 @@ module _ {J : Type 0} (growth : Growth) (old new : Tree (ℕ × J)) (d : ℕ) (j
     -- the capacity grows where there was no room
     capacity-put : new.list.capacity ≡ (if nat_lt (count (agenda_of old)) old.list.capacity then old.list.capacity else grown old.list.capacity)
     capacity-put =
-        ap (λ (c : Chain (ℕ × J)). c.capacity) after-put.1 ∙ capacity-with_slot most_jobs old.list sound.counted holds.unlimited growth p.0 inserted.next
+        ap (λ (c : Chain (ℕ × J)). c.capacity) after-put.1 ∙ capacity-with_room_by growth most_jobs old.list sound.counted holds.unlimited (ap is_some inserted.next)
         ∙ ap (λ n. if nat_lt n old.list.capacity then old.list.capacity else grown old.list.capacity) (sym (length-map old.list.entries (scheduled {J = J})))
 
     schedules-put : Schedules (agenda_of old) p d job (agenda_of new)
@@ -101,8 +71,8 @@ module _ {J : Type 0} (growth : Growth) (old new : Tree (ℕ × J)) (d : ℕ) (j
       after = jobs-after;
       no_later_before = All-from_recursion _ _ (none-later d (map scheduled gap.back) gap.front in_order at_most_before);
       later_behind = All-from_recursion _ _ (all-later d gap.back (in_order-back _ _ in_order) greater_after);
-      unused = job_of-found old.list.entries sound.distinct p ∙ rw (entry_at-absent old.list.entries p.0 (ap (times p.0) (sym (entries-with_slot growth most_jobs old.list)) ∙ inserted.vacant.free)) refl;
-      of_generation = inserted.generation ∙ (numbers-with_slot growth most_jobs old.list).0;
+      unused = job_of-found old.list.entries sound.distinct p ∙ rw (entry_at-absent old.list.entries p.0 (ap (times p.0) (sym (entries-with_room_by growth most_jobs old.list)) ∙ inserted.vacant.free)) refl;
+      of_generation = inserted.generation ∙ (numbers-with_room_by growth most_jobs old.list).0;
       generation = numbers-put.0;
       capacity = capacity-put;
     }
@@ -121,7 +91,7 @@ module _ {P T K : Type 0} (key : T → K) (cmp : K → K → Ordering) (most : �
   IsNew p = InsertsNew key cmp most growth (behind_key k) old item p new
 
   pub inserts-new : (told : OrdEntryKind P × Option T) → InsertsBy key cmp most growth (behind_key k) numbers old item (Ok told) new
-      → IsNew (numbers (pointer_of told.0))
+      → IsNew (numbers (pointer_of_kind told.0))
   inserts-new (New p, None) inserts = inserts
   inserts-new (New p, Some before) inserts = absurd inserts
   inserts-new (Replacing p, None) inserts = absurd inserts

@@ -4,7 +4,7 @@ use Rattle.arena_base.proofs.Words.{take, ◌-◌, refl, arith, drop, map, sym, 
 use Rattle.arena_base.proofs.Words.{drop_more, append_assoc, map_push, append-nil, get_or-drop, map-id, FoldsTo-push, none-some, AllocError}
 use Rattle.arena_base.proofs.Words.{OnOk, OnErr, FoldsTo, Arena, vacant_from, resized, greatest_occupied, arena_capacity}
 use Rattle.arena_base.proofs.Words.{IsLawful, FindSame, item_if, CloneStep, IsClone, IsRefusedClone, StopsAtRefusal, Grants, with_items}
-use Rattle.arena_base.proofs.Words.{replaced, HasSamePointers, Slot, entry_in, vacant_slots, arena_of, entries_from, entries_rising}
+use Rattle.arena_base.proofs.Words.{taken_over, HasSamePointers, Slot, entry_in, vacant_slots, arena_of, entries_from, entries_rising}
 use Rattle.arena_base.proofs.Words.{chained_keeps, ClonesSlots, Inside, Generations, Indexes, Occupied, Vacant}
 use Rattle.arena_base.proofs.Slots.{era, entries, greatest_occupied-above, none-from_generation}
 use Rattle.arena_base.proofs.Steps.{AreLawful, lawful-some, current, Sound, capacity-is, get_or-padded, resized-cons, resized-same}
@@ -254,8 +254,8 @@ module _ {P T A U Inx Gen F : Type 0} (numbers : P → ℕ × ℕ) (gen : Genera
   is = entries-padded gen.number n copies next padded within
 
   -- where the slots are those that the contract names
-  replaced-view : (made : List (Option (ℕ × T))) → None ∷ entries gen.number next ≡ resized (n + 1) made → after ≡ replaced source a made
-  replaced-view made shape =
+  taken_over-view : (made : List (Option (ℕ × T))) → None ∷ entries gen.number next ≡ resized (n + 1) made → after ≡ taken_over source a made
+  taken_over-view made shape =
       let same : n ≡ max (arena_capacity a) (greatest_occupied source.slots) = omega (arith, capacity-is gen inx s a seen, room) in
       relisted gen inx next listed generation s.maximum all
       ∙ (ap (λ ss. record { slots = ss; vacant = vacant_from 1 (drop 1 ss); generation = gen.number generation; maximum = s.maximum }) shape
@@ -266,7 +266,7 @@ module _ {P T A U Inx Gen F : Type 0} (numbers : P → ℕ × ℕ) (gen : Genera
   clone-whole p =
       let shape = ap (λ xs. None ∷ xs) (is ∙ sym (resized-again n p.vacant_behind (entries gen.number copies)))
       ∙ (sym (resized-cons n (entries gen.number copies ++ replicate p.vacant_behind None)) ∙ ap (resized (n + 1)) (sym p.after)) in
-      let view = replaced-view (with_items source.slots p.items) shape in
+      let view = taken_over-view (with_items source.slots p.items) shape in
       record {
         items = p.items;
         last = p.last;
@@ -280,7 +280,7 @@ module _ {P T A U Inx Gen F : Type 0} (numbers : P → ℕ × ℕ) (gen : Genera
   clone-refused (Err e) stops none =
       let shape = ap (λ xs. None ∷ xs) (is ∙ ap (λ cs. resized n (entries gen.number cs)) none)
       ∙ (sym (resized-cons n []) ∙ resized-again (n + 1) 1 []) in
-      record { stops = stops; after = replaced-view [] shape }
+      record { stops = stops; after = taken_over-view [] shape }
 
   copies-lawful : (r : Result Unit AllocError) → Cloned r → OnErr r (copies ≡ []) → AreLawful gen.greatest source.slots
       → AreLawful gen.greatest (entries gen.number copies)

@@ -16,7 +16,7 @@ pub use lib.LanesLaws.{map-replicate}
 pub use Rattle.arena_base.specs.Arena.{vacant_from, times, Arena, IsSound, IsInsertion, limit_of, resized, greatest_occupied, HoldsSame}
 pub use Rattle.arena_base.specs.Arena.{IsFresh, slot, arena_capacity, with_slot, freed, IsVacant, IsLawful, FindSame, item_if, swapped}
 pub use Rattle.arena_base.specs.Arena.{generation_at, item_of, removed, IsLastEntry}
-pub use Rattle.arena_base.specs.Clone.{CloneStep, IsClone, IsRefusedClone, StopsAtRefusal, Grants, with_items, replaced, HasSamePointers}
+pub use Rattle.arena_base.specs.Clone.{CloneStep, IsClone, IsRefusedClone, StopsAtRefusal, Grants, with_items, taken_over, HasSamePointers}
 pub use Rattle.arena_base.specs.Compression.{CompressionStep, IsCompression, compressed, items_rising}
 pub use Rattle.arena_base.specs.Slot.{entry_in, vacant_slots, arena_of, AllVacantFrom, slot_entry, with_slot_item, with_slot_generation}
 pub use Rattle.arena_base.specs.Walk.{entries_from, entries_rising, pointers_from, falling_from, rising_from}

@@ -18,13 +18,13 @@ module _ {T U : Type 0} where
 
   -- the receiver with the source's generation and these slots, in place of its own. Its capacity is raised to the source's greatest
   -- index with an entry, where it was less; its maximum stays, and its vacant slots count as never used.
-  abbrev pub replaced : Arena U → Arena T → List (Option (ℕ × T)) → Arena T
-  replaced source old slots = let all = resized (max (arena_capacity old) (greatest_occupied source.slots) + 1) slots in
+  abbrev pub taken_over : Arena U → Arena T → List (Option (ℕ × T)) → Arena T
+  taken_over source old slots = let all = resized (max (arena_capacity old) (greatest_occupied source.slots) + 1) slots in
       record old { slots = all; vacant = vacant_indexes all; generation = source.generation }
 
   -- the receiver with the source's entries and generation, but with these items
   abbrev pub cloned : Arena U → Arena T → List T → Arena T
-  cloned source old items = replaced source old (with_items source.slots items)
+  cloned source old items = taken_over source old (with_items source.slots items)
 
 -- a call by which a closure was shown an item
 abbrev pub IsShown : {P U R F : Type 0} → (F → P → Bor U → R → F → Type 0) → F → P → U → R → F → Type 0
@@ -74,4 +74,4 @@ module _ {P T U F : Type 0} (numbers : P → ℕ × ℕ) (step : F → P → U �
   -- an item was refused, and the receiver is empty, with the generation and the capacity of a clone
   pub record IsRefusedClone (f : F) (source : Arena U) (old new : Arena T) : Type 0 where
     pub stops : StopsAtRefusal f (entries_rising source 0)
-    pub after : new ≡ replaced source old []
+    pub after : new ≡ taken_over source old []

@@ -17,8 +17,8 @@ pub use Rattle.chain_base.proofs.Canonical.{occurs-entry, entry-occurs, relocate
 pub use Rattle.chain_base.proofs.Ranking.{lesser-zero, lesser-next, lesser-most, lesser-all, compressed-at, compressed-length, length-entries}
 -- the greatest index with an entry
 pub use Rattle.chain_base.proofs.Vacancy.{below-greatest, greatest-or_none, times-greatest, below-greatest_index}
--- an insertion keeps the capacity
-pub use Rattle.chain_base.proofs.Room.{inserted-capacity}
+-- an insertion keeps the capacity; room for one entry more changes it where there was none
+pub use Rattle.chain_base.proofs.Room.{inserted-capacity, roomy_capacity, capacity-vacant, capacity-with_room}
 -- what the calls of a clone keep of the items
 pub use Rattle.chain_base.proofs.CloneKept.{clone-kept, clone-same, refused-some}
 
@@ -66,10 +66,10 @@ module _ {T : Type 0} where
   entry_at-between_other (f ∷ front) new back j other = grind (arith, common_steps, entry_at-between_other front new back j other)
 
   -- and its own index finds it, where no other entry has that
-  pub entry_at-between : (front : List (Entry T)) (new : Entry T) (back : List _) → times new.index (front ++ back) ≡ 0
-      → entry_at (front ++ new ∷ back) new.index ≡ Some (new.generation, new.item)
-  entry_at-between [] new back never = grind (arith, common_steps)
-  entry_at-between (f ∷ front) new back never = grind (arith, common_steps, entry_at-between front new back)
+  pub entry_at-between : (front : List (Entry T)) (e : Entry T) (back : List (Entry T)) → times e.index (front ++ back) ≡ 0
+      → entry_at (front ++ e ∷ back) e.index ≡ Some (e.generation, e.item)
+  entry_at-between [] e back never = grind (arith, common_steps)
+  entry_at-between (f ∷ front) e back never = grind (arith, common_steps, entry_at-between front e back)
 
   pub length-between : (front : List (Entry T)) (new : Entry T) (back : List (Entry T)) → length (front ++ new ∷ back) ≡ length (front ++ back) + 1
   length-between front new back = omega (arith, length-append front (new ∷ back), length-append front back)

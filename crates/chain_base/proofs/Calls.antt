@@ -4,7 +4,7 @@ use Rattle.std.proofs.lemmas.Grind.{common_steps}
 use Rattle.arena_base.specs.Arena.{Arena, slot, arena_capacity, new_arena, with_capacity as arena_with_capacity, removed as arena_removed, renewed as arena_renewed, greatest_occupied, IsSound as IsSoundArena, IsInsertion as IsArenaInsertion}
 use Rattle.arena_base.specs.Pointer.{named_of}
 use Rattle.chain_base.specs.Chain.{Entry, Chain, times, new_chain, with_capacity, greatest_index, renewed, removed}
-use Rattle.chain_base.specs.{declared.chain.compress.Side.Side, Naming.neighbour_on, Layout.chain_of, Insert.IsPlace, Link.Link}
+use Rattle.chain_base.specs.{declared.chain.compress.Side.Side, Naming.neighbour_on, Layout.chain_of, Insert.PutsBetween, Link.Link}
 use Rattle.chain_base.proofs.Steps.{Lies, held-laid, Inserts, Inserts-joined, Removes-joined, Renews-at, Lies-resized, IsLaidOut-cleared}
 use Rattle.chain_base.proofs.LaidOut.{IsChainIn, bridged, end_beside, slot-written, slot-within}
 use Rattle.chain_base.proofs.{Vacancy.HoldIndexes, Vacancy.held-is, Vacancy.past-greatest, Vacancy.greatest-links, Renumbering.beside-other}
@@ -28,7 +28,7 @@ module _ {T : Type 0} where
 
     -- an insertion into the arena, for an entry beside these two neighbours
     module _ (a1 : Arena (Link T)) (link : Link T) (j g : ℕ) (ins : IsArenaInsertion a a1 link j g)
-        (place : Entry T → List (Entry T)) (prev next : Option ℕ) (at : IsPlace c.entries place prev next) where
+        (place : Entry T → List (Entry T)) (prev next : Option ℕ) (at : PutsBetween c.entries place prev next) where
       -- the neighbours of the place occur in the list
       beside-occurs : (k : ℕ) → (prev ≡ Some k) ⊎ (next ≡ Some k) → 1 ≤ times k c.entries
       beside-occurs k is = grind (arith, common_steps, times-last at.front k, times-first at.back k, at.split, times-append k at.front at.back)
@@ -43,8 +43,7 @@ module _ {T : Type 0} where
         within-most = grind (arith, common_steps)
 
         named-occurs : (o : Option ℕ) → ((k : ℕ) → o ≡ Some k → 1 ≤ times k c.entries) → named_of most o ≡ o
-        named-occurs o there =
-            named_of-within most o (λ k is. omega (arith, within-most, occupied-within a c.entries k held (there k is)))
+        named-occurs o there = named_of-within most o (λ k is. omega (arith, within-most, occupied-within a c.entries k held (there k is)))
 
         -- the chain after it, from what the writes of links ensure
         module _ (item : T) (item_is : link.item ≡ item) (prev_is : link.prev ≡ named_of most prev)

@@ -125,8 +125,7 @@ module _ {T : Type 0} where
   relocated-items fs es g = map-kept (λ (e : Entry T). e.item) (at_compressed_index es g) (λ e. refl) fs
 
   exchanged-times : (es : List (Entry T)) → IsDistinct es → (i j : ℕ) → 1 ≤ times i es → 1 ≤ times j es → (k : ℕ) → times k (map (in_exchange i j) es) ≡ times k es
-  exchanged-times es distinct i j at_i at_j k =
-      ap (λ m. times m (map (in_exchange i j) es)) (sym (other-twice i j k))
+  exchanged-times es distinct i j at_i at_j k = ap (λ m. times m (map (in_exchange i j) es)) (sym (other-twice i j k))
       ∙ times-renumbered (exchanged_index i j) (λ x p. p) es (exchanged_index i j k) (λ y occurs same. other-injective i j y (exchanged_index i j k) same)
       ∙ grind (arith, nat_tests, distinct i, distinct j)
 

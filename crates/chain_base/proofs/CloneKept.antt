@@ -55,8 +55,7 @@ module _ {P U F : Type 0} (numbers : P → ℕ × ℕ) (step : F → P → Link 
     (answers : (f : F) (p : P) (u : Link U) (x : U) (g : F) → step f p u x g → x ≡ u.item) (most : ℕ) (greatest : Option ℕ) (f : F)
     (source : Chain U) (sound : IsSound most greatest source) where
   pub clone-same : (old new : Chain U) → IsClone numbers step f source old new → new ≡ taken_over source old source.entries
-  clone-same old new c =
-      c.after
+  clone-same old new c = c.after
       ∙ ap (taken_over source old) (same_entries source.entries new.entries sound.distinct c.entries.order (clone-kept numbers step (λ (u : U). u) (λ (u : U). u) answers most greatest f source sound old new c))
 
 -- no links are shown of a list without entries

@@ -4,7 +4,7 @@ use Rattle.std.proofs.{lemmas.Grind.common_steps, lemmas.Bool.false≢true}
 use Rattle.std.specs.{declared.alloc.AllocError.AllocError, List.FoldsTo}
 use Rattle.arena_base.specs.declared.error.ReallocationError.TheVariants.{BeyondMaxCapacity, AllocError as NoMemory}
 use Rattle.arena_base.specs.Arena.{Arena, slot, arena_capacity, arena_len, greatest_occupied, resized, IsFresh}
-use Rattle.arena_base.specs.Clone.{CloneStep, Grants, with_items, IsClone as IsArenaClone, StopsAtRefusal, replaced}
+use Rattle.arena_base.specs.Clone.{CloneStep, Grants, with_items, IsClone as IsArenaClone, StopsAtRefusal, taken_over as arena_taken_over}
 use Rattle.arena_base.specs.{declared.error.ReallocationError.ReallocationError, Walk.entries_from, Walk.entries_rising}
 use Rattle.arena_base.proofs.CallerLemmas.{clones-retold, clones-restated, clones-keep, stops-retold, stops-restated}
 use Rattle.chain_base.specs.Chain.{Entry, Chain, times, link_at, link_between, greatest_index, vacant_indexes, IsSound}
@@ -51,11 +51,11 @@ module _ {T U : Type 0} where
   abbrev KeepEnds : ℕ → List (Option (ℕ × Link U)) → List (Link T) → Type 0
   KeepEnds i slots items = map ends_of items ≡ map (λ (e : ℕ × ℕ × Link U). ends_of e.2) (entries_from i slots)
 
-  with_items-frame : (i : ℕ) (slots : List (Option _)) (items : List (Link T)) → KeepEnds i slots items
-      → (k : ℕ) → frame (get_or (with_items slots items) k None) ≡ frame (get_or slots k None)
-  with_items-frame i (None ∷ slots) items same (suc k) = with_items-frame (i + 1) slots items same k
-  with_items-frame i (Some e ∷ slots) (x ∷ items) same (suc k) = with_items-frame (i + 1) slots items (cc) k
-  with_items-frame i slots items same k = grind (arith, common_steps)
+  with_items-frame : (i : ℕ) (slots : List (Option (ℕ × Link U))) (xs : List (Link T)) → KeepEnds i slots xs
+      → (k : ℕ) → frame (get_or (with_items slots xs) k None) ≡ frame (get_or slots k None)
+  with_items-frame i (None ∷ slots) xs same (suc k) = with_items-frame (i + 1) slots xs same k
+  with_items-frame i (Some e ∷ slots) (x ∷ xs) same (suc k) = with_items-frame (i + 1) slots xs (cc) k
+  with_items-frame i slots xs same k = grind (arith, common_steps)
 
   -- and each the item of its number
   abbrev HasItem : List (Option (ℕ × Link U)) → List (Link T) → ℕ → Type 0
@@ -78,8 +78,7 @@ module _ {T U : Type 0} where
     alike = alike-pointers (relisted at es) es row.1
 
     laid-relisted : IsLaidOut slots first last (relisted at es)
-    laid-relisted =
-        laid-held slots first last (relisted at es) (row-links at (λ i. get_or slots0 i None) same None (relisted at es) row.0)
+    laid-relisted = laid-held slots first last (relisted at es) (row-links at (λ i. get_or slots0 i None) same None (relisted at es) row.0)
         (λ i some. omega (arith, alike.count i, held-occurs slots0 es i (held-laid slots0 first last es laid) (framed (at i) (get_or slots0 i None) (same i) some)))
         (λ i. omega (arith, alike.count i, laid.distinct i)) (laid.first_is ∙ sym (alike.first None)) (laid.last_is ∙ sym (alike.last None))
 
@@ -115,8 +114,7 @@ module _ {P T U M N : Type 0} (numbers : P → ℕ × ℕ) (step : M → P → L
     held = held-laid a0.slots first last es laid
 
     rising : entries_rising a0 0 ≡ links_rising (chain_of a0 first)
-    rising =
-        sym (map-id (entries_rising a0 0))
+    rising = sym (map-id (entries_rising a0 0))
         ∙ among-arena (λ (l : Link U). l) (link_at es) (links_among es) (λ i. refl) (λ i n. refl) a0.slots
         (link_between-absent None None es 0 (grind (arith, common_steps, sound.within 0))) (λ i. option_map-itself (slot a0 i) ∙ laid.links i)
 
@@ -179,7 +177,7 @@ module _ {P T U M N : Type 0} (numbers : P → ℕ × ℕ) (step : M → P → L
 -- a refusal leaves no entry
 module _ {T U : Type 0} (a0 : Arena (Link U)) (first last : Option ℕ) (laid : IsChainIn a0 first last)
     (a b : Arena (Link T)) where
-  pub refused-chain : (first1 : Option ℕ) → b ≡ replaced a0 a [] → chain_of b None ≡ taken_over (chain_of a0 first) (chain_of a first1) []
+  pub refused-chain : (first1 : Option ℕ) → b ≡ arena_taken_over a0 a [] → chain_of b None ≡ taken_over (chain_of a0 first) (chain_of a first1) []
   refused-chain first1 is =
       let size = max (arena_capacity a) (greatest_occupied a0.slots) in
       let none : IsLaidOut b.slots None None [] = rw is (resized-laid (size + 1)) in
@@ -192,8 +190,8 @@ module _ {T U : Type 0} (a0 : Arena (Link U)) (first last : Option ℕ) (laid : 
 
 -- the receiver after a refusal: as it was, or without entries
 module _ {T U : Type 0} (a0 : Arena (Link U)) (a b : Arena (Link T)) (first last : Option ℕ) (laid : IsChainIn a first last)
-    (r : Result (Unit {0}) ReallocationError) (e : ReallocationError) (is : r ≡ Err e) (beyond : r ≡ Err BeyondMaxCapacity → b ≡ a) {A B : Type 0} (stops : B → b ≡ replaced a0 a []) (memory : r ≡ Err NoMemory → (A × (b ≡ a)) ⊎ B) where
-  left : (b ≡ a) ⊎ (b ≡ replaced a0 a [])
+    (r : Result (Unit {0}) ReallocationError) (e : ReallocationError) (is : r ≡ Err e) (beyond : r ≡ Err BeyondMaxCapacity → b ≡ a) {A B : Type 0} (stops : B → b ≡ arena_taken_over a0 a []) (memory : r ≡ Err NoMemory → (A × (b ≡ a)) ⊎ B) where
+  left : (b ≡ a) ⊎ (b ≡ arena_taken_over a0 a [])
   left = grind (arith, common_steps, beyond)
 
   no-ends : arena_len a ≡ 0 → (first ≡ None) × (last ≡ None)
@@ -202,7 +200,7 @@ module _ {T U : Type 0} (a0 : Arena (Link U)) (a b : Arena (Link T)) (first last
   pub empty-laid : (arena_len b == 0) ≡ true → IsChainIn b None None
   empty-laid empty = grind (arith, common_steps, IsLaidOut-walked, left, no-ends, resized-laid)
 
-  pub unrefused : (arena_len b == 0) ≡ false → b ≡ replaced a0 a [] → ⊥
+  pub unrefused : (arena_len b == 0) ≡ false → b ≡ arena_taken_over a0 a [] → ⊥
   unrefused some gone = grind (arith, common_steps, false≢true, resized-laid)
 
   pub filled-laid : (arena_len b == 0) ≡ false → IsChainIn b first last

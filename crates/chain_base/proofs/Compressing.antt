@@ -5,7 +5,7 @@ use Rattle.std.proofs.{lemmas.List.Sums.sum_by-cons, lemmas.List.Sums.count_by-l
 use Rattle.std.proofs.{lemmas.Grind.common_steps, lemmas.Bool.false≢true, lemmas.List.length-map}
 use Rattle.arena_base.specs.{Arena.Arena, Arena.slot, Arena.arena_capacity, Arena.IsFresh, Walk.entries_rising as slots_rising}
 use Rattle.chain_base.specs.Compression.{lesser, compressed_index, rising_among, moved, compressed, IsCompression}
-use Rattle.chain_base.specs.Naming.{named, bare, compressed_index_in, IsPaired, NamesCompressedIndexes, CompressesItems}
+use Rattle.chain_base.specs.Naming.{named_neighbour, bare, compressed_index_in, IsPaired, NamesCompressedIndexes, CompressesItems}
 use Rattle.chain_base.specs.Chain.{Entry, Chain, IsDistinct, times, entry_at, last_or, link_at, vacant_indexes}
 use Rattle.chain_base.specs.{declared.chain.compress.Side.TheVariants.Before, declared.chain.compress.Side.TheVariants.After, Link.Link}
 use Rattle.chain_base.specs.Layout.{chain_of, with_next, with_prev, IsLaidOut}
@@ -13,7 +13,7 @@ use Rattle.chain_base.proofs.Ranking.{lesser-all, lesser-most, place-found, plac
 use Rattle.chain_base.proofs.Renumbering.{beside, followed, times-source, link_at-renumbered, distinct-renumbered, end-renumbered, times-changed}
 use Rattle.chain_base.proofs.Vacancy.{HoldIndexes, held-within, held-link, times-link, vacant-held, held-some}
 use Rattle.chain_base.proofs.{Lists.option_map-itself, Lists.link_between-absent, Lists.entry_at-link, Sound.first-vacant}
-use Rattle.chain_base.proofs.{Naming.paired, Naming.learnt, Naming.end-learnt, LaidOut.laid-links, LaidOut.walk-laid_out}
+use Rattle.chain_base.proofs.{Naming.paired, Naming.learnt, Naming.end-learnt, LaidOut.laid-links, LaidOut.entries_met-laid_out}
 use Rattle.chain_base.proofs.Steps.{Lies, lies, held-laid}
 
 module _ {T : Type 0} where
@@ -67,7 +67,7 @@ module _ {T : Type 0} where
     place-first : (i : ℕ) → 1 ≤ times i es → compressed_index_in a0 i ≡ place i
     place-first i occurs = ap (λ n. n + 1) (place-slots a0.slots es held0 i)
 
-    names0 : (i : ℕ) → named Before a0 i ≡ beside Before es i
+    names0 : (i : ℕ) → named_neighbour Before a0 i ≡ beside Before es i
     names0 i = ap (option_and_then (λ e. e.1.prev)) (laid.links i)
 
     pub paired-before : IsPaired Before a0
@@ -157,7 +157,7 @@ module _ {T : Type 0} where
         held2 : HoldIndexes a2.slots now
         held2 k = let m = met2 k in times-link now distinct2 k ∙ ap (λ b. cond b 1 0) (sym (ap is_some m.1 ∙ (next-kept (link_at now k) m.0).held))
 
-        names2 : (k : ℕ) → named After a2 k ≡ beside After now k
+        names2 : (k : ℕ) → named_neighbour After a2 k ≡ beside After now k
         names2 k = let m = met2 k in ap (option_and_then (λ e. e.1.next)) m.1 ∙ (next-kept (link_at now k) m.0).next
 
         pub paired-after : IsPaired After a2
@@ -178,15 +178,13 @@ module _ {T : Type 0} where
               ∙ rw m.1 (next-kept (link_at now k) m.0).back
 
           laid-compressed : IsLaidOut a3.slots end1 end2 now
-          laid-compressed =
-              laid-links a3.slots end1 end2 now links3 distinct2
+          laid-compressed = laid-links a3.slots end1 end2 now links3 distinct2
               (end-learnt Before a0 es laid.distinct held0 names0 a1 end1 n1 place place-first ∙ sym (end-renumbered place alter Before es))
               (end-learnt After a2 now distinct2 held2 names2 a3 end2 n2 (λ i. i) place-second ∙ option_map-itself (last_or None now))
 
           -- the entries by rising index, as the list has them
           rising : map (bare numbers step g) ranked ≡ rising_among es 1 (arena_capacity a0)
-          rising =
-              among-arena (λ (l : Link T). l.item) (entry_at es) (rising_among es) (λ i. refl) (λ i n. refl) a1.slots
+          rising = among-arena (λ (l : Link T). l.item) (entry_at es) (rising_among es) (λ i. refl) (λ i n. refl) a1.slots
               (entry_at-link None None es 0 ∙ ap (option_map (λ e. (e.0, e.1.item))) (sym (laid.links 0) ∙ (first-vacant a0.slots begins).0))
               (λ i. ap (option_map (λ e. (e.0, e.1.item))) (after1 i) ∙ placed-entry place (link_at es i) ∙ sym (entry_at-link None None es i))
               ∙ ap (λ n. rising_among es 1 (n - 1)) n1.within
@@ -194,7 +192,7 @@ module _ {T : Type 0} where
           pub Lies-compressed : IsFresh a2 → Lies a3 end1 end2 (compressed (chain_of a0 first) g items)
           Lies-compressed fresh =
               let long : length a2.slots ≡ length a0.slots = ap length c.after.slots ∙ compressed-length (length a1.slots) g c.links fits ∙ n1.within in
-              rw (walk-laid_out a0 first last es laid) (lies a3 end1 end2
+              rw (entries_met-laid_out a0 first last es laid) (lies a3 end1 end2
               (record { entries = now; capacity = arena_capacity a0; vacant = vacant_indexes now (arena_capacity a0); generation = g; maximum = a0.maximum })
               laid-compressed (ap (λ n. n - 1) (n2.within ∙ long))
               (ap (λ (a : Arena (Link T)). a.vacant) n2.kept ∙ fresh ∙ vacant-held a2.slots now held2 ∙ ap (λ n. vacant_indexes now (n - 1)) long)
@@ -202,7 +200,7 @@ module _ {T : Type 0} where
               (ap (λ (a : Arena (Link T)). a.maximum) n2.kept ∙ c.after.maximum ∙ ap (λ (a : Arena (Link T)). a.maximum) n1.kept))
 
           pub chain-compressed : IsFresh a2 → IsCompression numbers step g m (chain_of a0 first) (chain_of a3 end1)
-          chain-compressed fresh = record { items = items; last = c.last; calls = rw (walk-laid_out a0 first last es laid, ← rising) c.calls; after = (Lies-compressed fresh).chain }
+          chain-compressed fresh = record { items = items; last = c.last; calls = rw (entries_met-laid_out a0 first last es laid, ← rising) c.calls; after = (Lies-compressed fresh).chain }
 
 -- a compression of a chain that is seen in another way
 module _ {P T M : Type 0} (numbers : P → ℕ × ℕ) (step : M → P → T → P → T → M → Type 0) (m : M) (seen old new : Chain T) where

@@ -2,7 +2,7 @@
 use Rattle.std.proofs.Common.{◌≡◌, ℕ, List, [], ◌∷◌, ◌++◌, Option, Some, None, refl, sym, ap, ◌∙◌, arith, inl, inr, option_and_then}
 use Rattle.std.proofs.{lemmas.Bool.Decides.eqb_tells, lemmas.Grind.common_steps, lemmas.Option.same_Some}
 use Rattle.chain_base.specs.Chain.{Entry, Chain, times, IsDistinct, link_at, first_or, from_index}
-use Rattle.chain_base.specs.{Walk.pointers, Walk.pointers_from, Walk.GivesEntry, Link.Link}
+use Rattle.chain_base.specs.{Walk.pointers, Walk.pointers_left, Walk.GivesEntry, Link.Link}
 use Rattle.chain_base.proofs.Lists.{linked-occurs, times-unlinked, times-append, times-here, Stands-occurs}
 use Rattle.chain_base.proofs.Renumbering.{link_at-split}
 
@@ -16,12 +16,12 @@ module _ {T : Type 0} where
   from_index-absent (e ∷ es) i absent = grind (arith, common_steps, from_index-absent es i)
 
   -- no entry has the index
-  pub pointers_from-none : (es : List (Entry T)) (i : ℕ) → None ≡ link_at es i → pointers (from_index es i) ≡ []
-  pointers_from-none es i none = ap pointers (from_index-absent es i (times-unlinked None None es i (sym none)))
+  pub pointers_left-none : (es : List (Entry T)) (i : ℕ) → None ≡ link_at es i → pointers (from_index es i) ≡ []
+  pointers_left-none es i none = ap pointers (from_index-absent es i (times-unlinked None None es i (sym none)))
 
   -- what stands behind an entry is what its link leads to
   behind : (c : Chain T) (front : List (Entry T)) (e : Entry T) (back : List (Entry T)) → IsDistinct c.entries
-      → c.entries ≡ front ++ e ∷ back → pointers_from (first_or None back) c ≡ pointers back
+      → c.entries ≡ front ++ e ∷ back → pointers_left (first_or None back) c ≡ pointers back
   behind c front e [] distinct split = refl
   behind c front e (f ∷ back) distinct split =
       grind (arith, common_steps, times-append f.index (front ++ e ∷ []) (f ∷ back), times-here f.index f back refl, from_index-split (front ++ e ∷ []) f back f.index refl)
@@ -31,7 +31,7 @@ module _ {T : Type 0} where
   gives-from_link c i g l distinct held =
       let s = Stands-occurs c.entries i (linked-occurs c.entries i (g, l) (sym held)) in
       let pair = same_Some (g, l) _ (held ∙ link_at-split c.entries s.front s.entry s.back s.split distinct i s.here) in
-      let here : pointers_from (Some i) c ≡ (s.entry.index, s.entry.generation) ∷ pointers s.back =
+      let here : pointers_left (Some i) c ≡ (s.entry.index, s.entry.generation) ∷ pointers s.back =
       ap pointers (ap (λ es. from_index es i) s.split ∙ from_index-split s.front s.entry s.back i s.here s.unmet) in
       let era : g ≡ s.entry.generation = ap (λ x. x.0) pair in
       let next : l.next ≡ first_or None s.back = ap (λ x. x.1.next) pair in

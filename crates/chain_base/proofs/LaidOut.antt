@@ -2,9 +2,9 @@
 use Rattle.std.proofs.Common.{◌≡◌, ℕ, ◌+◌, ◌<◌, ◌≤◌, ◌==◌, List, ◌∷◌, ◌++◌, length, Option, Some, None, is_some, sym, ap, ◌∙◌, arith, if◌then◌else◌, get_or, true, option_map}
 use Rattle.std.proofs.{lemmas.List.Sums.count_by-le-length, lemmas.Grind.common_steps}
 use Rattle.arena_base.specs.Arena.{Arena, slot, with_slot, with_entry_at, removed as arena_removed}
-use Rattle.chain_base.specs.Layout.{chain_of, walk, linked_next, linked_prev, relinked, IsLaidOut}
+use Rattle.chain_base.specs.Layout.{chain_of, entries_met, linked_next, linked_prev, relinked, IsLaidOut}
 use Rattle.chain_base.specs.{Chain.Entry, Chain.IsDistinct, Chain.times, Chain.first_or, Chain.last_or, Chain.link_at, Link.Link}
-use Rattle.chain_base.proofs.Lists.{names_tells, same_index, times-append, times-here, times-there, times-last, times-first, first_or-append, last_or-append, link_between-append, link_between-absent, times-unlinked, seam-relinked, IsRow-links, walk-row, changed_at, changed_link, link_between-changed_at, same-changed_at}
+use Rattle.chain_base.proofs.Lists.{names_tells, same_index, times-append, times-here, times-there, times-last, times-first, first_or-append, last_or-append, link_between-append, link_between-absent, times-unlinked, seam-relinked, IsRow-links, entries_met-row, changed_at, changed_link, link_between-changed_at, same-changed_at}
 use Rattle.chain_base.proofs.{Ranking.counted-held, Vacancy.held-links}
 
 -- an end of the list where an entry comes or goes: the old one where an entry stands on that side, else the new one
@@ -28,8 +28,7 @@ module _ {T : Type 0} where
       (links : (i : ℕ) → 1 ≤ times i es → get_or slots i None ≡ link_at es i)
       (back : (i : ℕ) → is_some (get_or slots i None) ≡ true → 1 ≤ times i es) where
     pub laid-held : IsDistinct es → first ≡ first_or None es → last ≡ last_or None es → IsLaidOut slots first last es
-    laid-held =
-        laid-links slots first last es (λ i. grind (arith, common_steps, links i, back i, link_between-absent None None es i))
+    laid-held = laid-links slots first last es (λ i. grind (arith, common_steps, links i, back i, link_between-absent None None es i))
 
   -- what the slots hold once one is filled or emptied
   pub slot-written : (a : Arena (Link T)) (j k : ℕ) (o : Option (ℕ × Link T)) → j < length a.slots → slot (with_slot a j o) k ≡ (if j == k then o else slot a k)
@@ -44,12 +43,12 @@ module _ {T : Type 0} where
   slot-relinked a left next right prev k = grind (arith, common_steps)
 
   -- the walk from the first index meets just the entries
-  pub walk-laid_out : (a : Arena (Link T)) (first last : Option ℕ) (es : List (Entry T)) → IsLaidOut a.slots first last es → walk (slot a) (length a.slots) first ≡ es
-  walk-laid_out a first last es laid =
-      grind (arith, common_steps, IsRow-links (slot a) None es laid.distinct, count_by-le-length is_some a.slots, walk-row (slot a) None es (length a.slots))
+  pub entries_met-laid_out : (a : Arena (Link T)) (first last : Option ℕ) (es : List (Entry T)) → IsLaidOut a.slots first last es → entries_met (slot a) (length a.slots) first ≡ es
+  entries_met-laid_out a first last es laid =
+      grind (arith, common_steps, IsRow-links (slot a) None es laid.distinct, count_by-le-length is_some a.slots, entries_met-row (slot a) None es (length a.slots))
 
   pub IsLaidOut-walked : (a : Arena (Link T)) (first last : Option ℕ) (es : List (Entry T)) → IsLaidOut a.slots first last es → IsChainIn a first last
-  IsLaidOut-walked a first last es laid = rw (walk-laid_out a first last es laid) laid
+  IsLaidOut-walked a first last es laid = rw (entries_met-laid_out a first last es laid) laid
 
   -- two arenas hold entries at the same indexes, and differ in their slots alone
   pub record Alike (a b : Arena (Link T)) : Type 0 where
@@ -129,8 +128,7 @@ module _ {T : Type 0} where
   module _ (greatest : Option ℕ) (a : Arena (Link T)) (first last : Option ℕ) (xs : List (Entry T)) (e : Entry T) (ys : List (Entry T))
       (laid : IsLaidOut a.slots first last (xs ++ e ∷ ys)) where
     pub IsLaidOut-removed : IsLaidOut (closed (arena_removed greatest a e.index) xs ys).slots (first_or (first_or None ys) xs) (last_or (last_or None xs) ys) (xs ++ ys)
-    IsLaidOut-removed =
-        laid-links _ _ _ _
+    IsLaidOut-removed = laid-links _ _ _ _
         (λ k. slot-relinked (arena_removed greatest a e.index) (last_or None xs) (first_or None ys) (first_or None ys) (last_or None xs) k
         ∙ ap (relinked (last_or None xs) (first_or None ys) (first_or None ys) (last_or None xs) k) (slot-written a e.index k None (slot-within a e.index _ (slot-laid_out a first last xs e ys laid)))
         ∙ slots-removed xs e ys k (slot a k) (laid.distinct k) (laid.links k))

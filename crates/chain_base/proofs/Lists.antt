@@ -3,7 +3,7 @@ use Rattle.std.proofs.Common.{◌≡◌, ◌≢◌, ℕ, zero, suc, ◌+◌, ◌
 use Rattle.std.proofs.{lemmas.Bool.Decides.nat_tests, lemmas.Bool.Decides.eqb_tells, lemmas.Grind.common_steps}
 use Rattle.std.specs.Option.{option_or, option_map}
 use Rattle.chain_base.specs.Chain.{Entry, times, entry_at, first_or, last_or, link_at, link_between, insert_after, insert_before, without, with_item_among, with_generation}
-use Rattle.chain_base.specs.{Layout.walk, Layout.names, Layout.with_next, Layout.with_prev, Layout.relinked, Link.Link}
+use Rattle.chain_base.specs.{Layout.entries_met, Layout.names, Layout.with_next, Layout.with_prev, Layout.relinked, Link.Link}
 
 pub option_or-none : {A : Type 0} (o : Option A) → option_or o None ≡ o
 option_or-none o = grind (arith, common_steps)
@@ -179,8 +179,7 @@ module _ {T : Type 0} where
   -- the slots hold these entries, linked in this order from `before` on
   abbrev pub IsRow : (ℕ → Option (ℕ × Link T)) → Option ℕ → List (Entry T) → Type 0
   IsRow at before [] = Unit {0}
-  IsRow at before (e ∷ es) =
-      (at e.index ≡ Some (e.generation, record { item = e.item; prev = before; next = first_or None es }))
+  IsRow at before (e ∷ es) = (at e.index ≡ Some (e.generation, record { item = e.item; prev = before; next = first_or None es }))
       × IsRow at (Some e.index) es
 
   module _ (at : ℕ → Option (ℕ × Link T)) where
@@ -189,11 +188,11 @@ module _ {T : Type 0} where
     IsRow-links before [] once holds = tt
     IsRow-links before (e ∷ es) once holds = grind (arith, common_steps, IsRow-links (Some e.index) es, other_index, same_index, times-here)
 
-  pub walk-row : (at : ℕ → Option (ℕ × Link T)) (before : Option ℕ) (es : List (Entry T)) (n : ℕ) → length es ≤ n → IsRow at before es → walk at n (first_or None es) ≡ es
-  walk-row at before [] zero fits row = refl
-  walk-row at before [] (suc n) fits row = refl
-  walk-row at before (e ∷ es) zero fits row = absurd (omega arith)
-  walk-row at before (e ∷ es) (suc n) fits row = rw row.0 (ap (λ xs. e ∷ xs) (walk-row at (Some e.index) es n (omega arith) row.1))
+  pub entries_met-row : (at : ℕ → Option (ℕ × Link T)) (before : Option ℕ) (es : List (Entry T)) (n : ℕ) → length es ≤ n → IsRow at before es → entries_met at n (first_or None es) ≡ es
+  entries_met-row at before [] zero fits row = refl
+  entries_met-row at before [] (suc n) fits row = refl
+  entries_met-row at before (e ∷ es) zero fits row = absurd (omega arith)
+  entries_met-row at before (e ∷ es) (suc n) fits row = rw row.0 (ap (λ xs. e ∷ xs) (entries_met-row at (Some e.index) es n (omega arith) row.1))
 
   -- the list with another generation and another item at this index, by a map of the two
   abbrev pub changed_at : (ℕ × T → ℕ × T) → List (Entry T) → ℕ → List (Entry T)

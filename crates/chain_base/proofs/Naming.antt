@@ -3,7 +3,7 @@ use Rattle.std.proofs.Common.{◌≡◌, ◌≢◌, ℕ, ◌+◌, ◌<◌, ◌�
 use Rattle.std.proofs.{lemmas.List.Sums.count_by_more_no, lemmas.List.Sums.count_by_more_yes, lemmas.Bool.Decides.eqb_tells}
 use Rattle.std.proofs.{lemmas.Option.none-some, lemmas.Option.same_Some, lemmas.Grind.common_steps, lemmas.Bool.false≢true}
 use Rattle.arena_base.specs.{Arena.Arena, Arena.slot, Pointer.named_of}
-use Rattle.chain_base.specs.Naming.{neighbour_on, with_facing, linked_facing, named, compressed_index_in, IsPaired, NamesCompressedIndexes}
+use Rattle.chain_base.specs.Naming.{neighbour_on, with_facing, linked_facing, named_neighbour, compressed_index_in, IsPaired, NamesCompressedIndexes}
 use Rattle.chain_base.specs.{Chain.Entry, Chain.IsDistinct, Chain.times, declared.chain.compress.Side.Side, Layout.names, Link.Link}
 use Rattle.chain_base.proofs.Renumbering.{opposite, beside, end_on, beside-occurs, facing, facing-back, end-is, end-occurs, end-none}
 use Rattle.chain_base.proofs.{Vacancy.HoldIndexes, Vacancy.held-is, Vacancy.held-occurs, Lists.names_tells}
@@ -12,18 +12,18 @@ use Rattle.chain_base.proofs.LaidOut.{Alike, alike-next, alike-prev}
 module _ {T : Type 0} where
   -- the indexes below c have told their places; so many of them have an entry
   pub record NamedBelow (side : Side) (old now : Arena (Link T)) (count : ℕ) (end : Option ℕ) (c : ℕ) : Type 0 where
-    pub met : (i k : ℕ) → i < c → named side old i ≡ Some k → slot now k ≡ option_map (with_facing side (Some (compressed_index_in old i))) (slot old k)
-    pub unmet : (k : ℕ) → ((i : ℕ) → i < c → named side old i ≢ Some k) → slot now k ≡ slot old k
-    pub end_is : (i : ℕ) → i < c → IsSome (slot old i) → named side old i ≡ None → end ≡ Some (compressed_index_in old i)
-    pub no_end : ((i : ℕ) → i < c → IsSome (slot old i) → named side old i ≢ None) → end ≡ None
+    pub met : (i k : ℕ) → i < c → named_neighbour side old i ≡ Some k → slot now k ≡ option_map (with_facing side (Some (compressed_index_in old i))) (slot old k)
+    pub unmet : (k : ℕ) → ((i : ℕ) → i < c → named_neighbour side old i ≢ Some k) → slot now k ≡ slot old k
+    pub end_is : (i : ℕ) → i < c → IsSome (slot old i) → named_neighbour side old i ≡ None → end ≡ Some (compressed_index_in old i)
+    pub no_end : ((i : ℕ) → i < c → IsSome (slot old i) → named_neighbour side old i ≢ None) → end ≡ None
     pub counted : count ≡ count_by is_some (take c old.slots)
     pub fewer : count < c
-    pub names_same : (i : ℕ) → named side now i ≡ named side old i
+    pub names_same : (i : ℕ) → named_neighbour side now i ≡ named_neighbour side old i
     pub alike : Alike now old
 
   -- at first: slot 0 has nothing
-  pub named-begins : (side : Side) (a : Arena (Link T)) → take 1 a.slots ≡ None ∷ [] → NamedBelow side a a 0 None 1
-  named-begins side a begins = grind (arith, common_steps)
+  pub named_neighbour-begins : (side : Side) (a : Arena (Link T)) → take 1 a.slots ≡ None ∷ [] → NamedBelow side a a 0 None 1
+  named_neighbour-begins side a begins = grind (arith, common_steps)
 
   -- a slot once the entry of an index, if one is named, has another neighbour
   module _ (side : Side) (a : Arena (Link T)) (at other : Option ℕ) (j : ℕ) where
@@ -34,28 +34,28 @@ module _ {T : Type 0} where
   alike-facing : (side : Side) (a b : Arena (Link T)) (at other : Option ℕ) → Alike a b → Alike (linked_facing side a at other) b
   alike-facing side a b at other same = grind (arith, common_steps, alike-next, alike-prev)
 
-  names-facing : (side : Side) (a : Arena (Link T)) (at other : Option ℕ) (j : ℕ) → named side (linked_facing side a at other) j ≡ named side a j
+  names-facing : (side : Side) (a : Arena (Link T)) (at other : Option ℕ) (j : ℕ) → named_neighbour side (linked_facing side a at other) j ≡ named_neighbour side a j
   names-facing side a at other j = grind (arith, common_steps)
 
   module _ (side : Side) (old now : Arena (Link T)) (count : ℕ) (end : Option ℕ) (c : ℕ) (b : NamedBelow side old now count end c) (inside : c < length old.slots)
       (paired : IsPaired side old) where
     -- the index c has told its place: to the neighbour that it names, or as the end where it has an entry and names none
     module _ (next : Arena (Link T)) (more : ℕ) (last : Option ℕ)
-        (slots : (j : ℕ) → slot next j ≡ (if names (named side old c) j then option_map (with_facing side (Some (compressed_index_in old c))) (slot now j) else slot now j))
+        (slots : (j : ℕ) → slot next j ≡ (if names (named_neighbour side old c) j then option_map (with_facing side (Some (compressed_index_in old c))) (slot now j) else slot now j))
         (counted : more ≡ count_by is_some (take (c + 1) old.slots)) (fewer : more < c + 1)
-        (same : (i : ℕ) → named side next i ≡ named side old i) (alike : Alike next old)
-        (ends : IsSome (slot old c) → named side old c ≡ None → last ≡ Some (compressed_index_in old c)) where
-      told : ((IsSome (slot old c) → named side old c ≢ None) → last ≡ end) → NamedBelow side old next more last (c + 1)
+        (same : (i : ℕ) → named_neighbour side next i ≡ named_neighbour side old i) (alike : Alike next old)
+        (ends : IsSome (slot old c) → named_neighbour side old c ≡ None → last ≡ Some (compressed_index_in old c)) where
+      told : ((IsSome (slot old c) → named_neighbour side old c ≢ None) → last ≡ end) → NamedBelow side old next more last (c + 1)
       told goes =
           record {
             met = λ i j within is. elim (eqb_tells i c) [
               | inl h ↦
-                  let here : named side old c ≡ Some j = cc in
+                  let here : named_neighbour side old c ≡ Some j = cc in
                   let fresh : slot now j ≡ slot old j = b.unmet j (λ k less is'. let clash = paired.once k c j is' here in absurd (omega arith)) in
                   grind (arith, common_steps, slots j)
-              | inr h ↦ grind (arith, common_steps, slots j, b.met i j, paired.once i c j, names_tells (named side old c) j)
+              | inr h ↦ grind (arith, common_steps, slots j, b.met i j, paired.once i c j, names_tells (named_neighbour side old c) j)
             ];
-            unmet = λ j no. grind (arith, common_steps, slots j, no c, b.unmet j (λ i less. no i (omega arith)), names_tells (named side old c) j);
+            unmet = λ j no. grind (arith, common_steps, slots j, no c, b.unmet j (λ i less. no i (omega arith)), names_tells (named_neighbour side old c) j);
             end_is = λ i within there is. elim (eqb_tells i c) [
               | inl h ↦ grind (arith, common_steps)
               | inr h ↦ goes (λ some none. h.1 (paired.alone i c there some is none)) ∙ b.end_is i (omega arith) there is
@@ -68,10 +68,10 @@ module _ {T : Type 0} where
           }
 
     -- the slot at c is vacant
-    pub named-vacant : slot now c ≡ None → NamedBelow side old now count end (c + 1)
-    named-vacant vacant =
+    pub named_neighbour-vacant : slot now c ≡ None → NamedBelow side old now count end (c + 1)
+    named_neighbour-vacant vacant =
         let empty : is_some (slot old c) ≡ false = sym (b.alike.held c) ∙ ap is_some vacant in
-        let unnamed : named side old c ≡ None = sym (b.names_same c) ∙ ap (option_and_then (λ e. neighbour_on side e.1)) vacant in
+        let unnamed : named_neighbour side old c ≡ None = sym (b.names_same c) ∙ ap (option_and_then (λ e. neighbour_on side e.1)) vacant in
         told now count end (λ j. rw unnamed refl) (b.counted ∙ sym (count_by_more_no is_some old.slots c None inside empty)) (let f = b.fewer in omega arith)
         b.names_same b.alike (λ some. absurd (false≢true (sym empty ∙ some))) (λ some. refl)
 
@@ -79,19 +79,19 @@ module _ {T : Type 0} where
       is_held : is_some (slot old c) ≡ true
       is_held = sym (b.alike.held c) ∙ ap is_some held
 
-      name : named side old c ≡ neighbour_on side e.1
+      name : named_neighbour side old c ≡ neighbour_on side e.1
       name = sym (b.names_same c) ∙ ap (option_and_then (λ e. neighbour_on side e.1)) held
 
       -- the neighbour that the entry at c has is an entry
-      pub named-target : (k : ℕ) → neighbour_on side e.1 ≡ Some k → IsSome (slot now k)
-      named-target k is = let there : is_some (slot old k) ≡ true = paired.there c k (name ∙ is) in b.alike.held k ∙ there
+      pub named_neighbour-target : (k : ℕ) → neighbour_on side e.1 ≡ Some k → IsSome (slot now k)
+      named_neighbour-target k is = let there : is_some (slot old k) ≡ true = paired.there c k (name ∙ is) in b.alike.held k ∙ there
 
       -- its neighbour, if it has one, learns the place
       module _ (o : Option ℕ) (is : o ≡ neighbour_on side e.1) (last : Option ℕ) (ends : is_some o ≡ false → last ≡ Some (count + 1))
           (goes : is_some o ≡ true → last ≡ end) (next : Arena (Link T)) where
-        pub named-step : next ≡ linked_facing side now o (Some (count + 1)) → NamedBelow side old next (count + 1) last (c + 1)
-        named-step linked =
-            let here : named side old c ≡ o = name ∙ sym is in
+        pub named_neighbour-step : next ≡ linked_facing side now o (Some (count + 1)) → NamedBelow side old next (count + 1) last (c + 1)
+        named_neighbour-step linked =
+            let here : named_neighbour side old c ≡ o = name ∙ sym is in
             let place : Some (count + 1) ≡ Some (compressed_index_in old c) = ap (λ n. Some (n + 1)) b.counted in
             told next (count + 1) last (λ j. rw (linked, here, ← place) (slot-facing side now o (Some (count + 1)) j))
             (ap (λ n. n + 1) b.counted ∙ sym (count_by_more_yes is_some old.slots c None inside is_held)) (let f = b.fewer in omega arith)
@@ -103,15 +103,15 @@ module _ {T : Type 0} where
   held-inside slots i held = grind (arith, common_steps)
 
   -- an index that is named lies within the slots
-  named-within : (side : Side) (a : Arena (Link T)) (i k : ℕ) → named side a i ≡ Some k → i < length a.slots
-  named-within side a i k is = grind (arith, common_steps)
+  named_neighbour-within : (side : Side) (a : Arena (Link T)) (i k : ℕ) → named_neighbour side a i ≡ Some k → i < length a.slots
+  named_neighbour-within side a i k is = grind (arith, common_steps)
 
   -- at last all have
   module _ (side : Side) (old now : Arena (Link T)) (count : ℕ) (end : Option ℕ) (c : ℕ) (b : NamedBelow side old now count end c) where
-    pub named-ends : length old.slots ≤ c → take 1 old.slots ≡ None ∷ [] → NamesCompressedIndexes side old now end
-    named-ends past begins =
+    pub named_neighbour-ends : length old.slots ≤ c → take 1 old.slots ≡ None ∷ [] → NamesCompressedIndexes side old now end
+    named_neighbour-ends past begins =
         record {
-          met = λ i k is. let within = named-within side old i k is in b.met i k (omega arith) is;
+          met = λ i k is. let within = named_neighbour-within side old i k is in b.met i k (omega arith) is;
           unmet = λ k no. b.unmet k (λ i less. no i);
           end_is = λ i held is. let within = held-inside old.slots i held in b.end_is i (omega arith) held is;
           no_end = λ no. b.no_end (λ i less. no i);
@@ -123,7 +123,7 @@ module _ {T : Type 0} where
 
 -- What is learnt where an arena's links name the neighbours that a list has, on this side; `place` tells the list's compressed indexes.
 module _ {T : Type 0} (side : Side) (old : Arena (Link T)) (es : List (Entry T)) (distinct : IsDistinct es) (held : HoldIndexes old.slots es)
-    (names : (i : ℕ) → named side old i ≡ beside side es i) where
+    (names : (i : ℕ) → named_neighbour side old i ≡ beside side es i) where
   pub paired : IsPaired side old
   paired = record {
     there = λ i k is. held-is old.slots es k held (beside-occurs (opposite side) es k i (facing side es distinct i k (sym (names i) ∙ is)));

@@ -2,7 +2,7 @@
 use Rattle.std.proofs.Common.{◌≡◌, ℕ, List, [], ◌∷◌, ◌++◌, Some, None, sym, ap, ◌∙◌, arith, append_assoc, option_map}
 use Rattle.std.proofs.lemmas.Grind.{common_steps}
 use Rattle.chain_base.specs.{Chain.Entry, Chain.link_at, Chain.first_or, Chain.last_or, Chain.insert_after, Chain.insert_before, Link.Link}
-use Rattle.chain_base.specs.Insert.{IsPlace}
+use Rattle.chain_base.specs.Insert.{PutsBetween}
 use Rattle.chain_base.proofs.Lists.{link_between-append, link_between-absent, last_or-append, same_index, Stands, Stands-occurs}
 
 module _ {T : Type 0} where
@@ -12,8 +12,8 @@ module _ {T : Type 0} where
   link_at-ends es i l linked s = grind (arith, common_steps, s.here, s.unmet, i, s.split, linked, link_between-absent, link_between-append, same_index)
 
   -- directly after an entry
-  pub IsPlace-after : (es : List (Entry T)) (i : ℕ) (l : Link T) → option_map (λ e. e.1) (link_at es i) ≡ Some l → IsPlace es (λ new. insert_after i new es) (Some i) l.next
-  IsPlace-after es i l linked =
+  pub PutsBetween-after : (es : List (Entry T)) (i : ℕ) (l : Link T) → option_map (λ e. e.1) (link_at es i) ≡ Some l → PutsBetween es (λ new. insert_after i new es) (Some i) l.next
+  PutsBetween-after es i l linked =
       let s = Stands-occurs es i (grind (arith, common_steps, link_between-absent None None es i)) in
       record {
         front = s.front ++ s.entry ∷ [];
@@ -25,5 +25,5 @@ module _ {T : Type 0} where
       }
 
   -- directly before an entry
-  pub IsPlace-before : (es : List (Entry T)) (i : ℕ) (l : Link T) → option_map (λ e. e.1) (link_at es i) ≡ Some l → IsPlace es (λ new. insert_before i new es) l.prev (Some i)
-  IsPlace-before es i l linked = grind (arith, common_steps, Stands-occurs es i, link_between-absent None None es i, link_at-ends es i l linked)
+  pub PutsBetween-before : (es : List (Entry T)) (i : ℕ) (l : Link T) → option_map (λ e. e.1) (link_at es i) ≡ Some l → PutsBetween es (λ new. insert_before i new es) l.prev (Some i)
+  PutsBetween-before es i l linked = grind (arith, common_steps, Stands-occurs es i, link_between-absent None None es i, link_at-ends es i l linked)

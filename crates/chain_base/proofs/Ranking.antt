@@ -70,11 +70,11 @@ module _ {X : Type 0} where
   length-entries from (None ∷ slots) = omega (arith, length-entries (from + 1) slots, sum_by-cons (λ (o : Option (ℕ × X)). cond (is_some o) 1 0) None slots)
   length-entries from (Some e ∷ slots) = omega (arith, length-entries (from + 1) slots, sum_by-cons (λ o. cond (is_some o) 1 0) (Some e) slots)
 
-  pub entry-placed : (from : ℕ) (slots : List _) (x : ℕ) (e : ℕ × X) → get_or slots x None ≡ Some e
-      → slice_get (entries_from from slots) (count_by is_some (take x slots)) ≡ Some (from + x, e.0, e.1)
-  entry-placed from (None ∷ slots) (suc x) e is = grind (arith, common_steps, entry-placed (from + 1) slots x e is)
-  entry-placed from (Some f ∷ slots) (suc x) e is = grind (arith, common_steps, entry-placed (from + 1) slots x e is)
-  entry-placed from slots x e is = grind (arith, common_steps)
+  pub entry-placed : (i : ℕ) (os : List (Option (ℕ × X))) (x : ℕ) (e : ℕ × X) → get_or os x None ≡ Some e
+      → slice_get (entries_from i os) (count_by is_some (take x os)) ≡ Some (i + x, e.0, e.1)
+  entry-placed i (None ∷ os) (suc x) e is = grind (arith, common_steps, entry-placed (i + 1) os x e is)
+  entry-placed i (Some f ∷ os) (suc x) e is = grind (arith, common_steps, entry-placed (i + 1) os x e is)
+  entry-placed i os x e is = grind (arith, common_steps)
 
   -- an entry of generation g
   abbrev pub with_era : ℕ → X → ℕ × X
@@ -120,11 +120,10 @@ module _ {X Y : Type 0} (see : X → Y) (at : ℕ → Option (ℕ × Y)) (among 
   among-slots : (from : ℕ) (slots : List (Option (ℕ × X))) → ((k : ℕ) → k < length slots → seen (get_or slots k None) ≡ at (from + k))
       → all_seen (entries_from from slots) ≡ among from (length slots)
   among-slots from [] same = sym (none from)
-  among-slots from (o ∷ slots) same =
-      by o _ (let here : seen o ≡ at (from + 0) = same 0 (omega arith) in rw add-zero at here)
+  among-slots from (o ∷ slots) same = by o _ (let here : seen o ≡ at (from + 0) = same 0 (omega arith) in rw add-zero at here)
       (among-slots (from + 1) slots (λ k within. let shift : from + suc k ≡ from + 1 + k = omega arith in rw shift at (same (suc k) (omega arith)))) ∙ sym (next from (length slots))
     where
-      by : (o : Option (ℕ × X)) (rest : List _) → seen o ≡ at from → all_seen (entries_from (from + 1) slots) ≡ rest → all_seen (entries_from from (o ∷ slots)) ≡ entry_before from (at from) rest
+      by : (o : Option (ℕ × X)) (rest : List (ℕ × ℕ × Y)) → seen o ≡ at from → all_seen (entries_from (from + 1) slots) ≡ rest → all_seen (entries_from from (o ∷ slots)) ≡ entry_before from (at from) rest
       by None rest here more = rw (← here) more
       by (Some e) rest here more = rw (← here) (ap (λ rest. (from, e.0, see e.1) ∷ rest) more)
 

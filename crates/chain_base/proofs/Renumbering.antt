@@ -130,10 +130,10 @@ module _ {T : Type 0} where
     entry_at-renumbered [] x apart = refl
     entry_at-renumbered (e ∷ es) x apart = grind (arith, common_steps, entry_at-renumbered es x)
 
-    link-renumbered : (b : Option ℕ) (es : List _) (x : ℕ) → IsAlone es x
+    link-kept : (b : Option ℕ) (es : List (Entry T)) (x : ℕ) → IsAlone es x
         → link_between (option_map renumber b) None (map altered es) (renumber x) ≡ option_map (followed x) (link_between b None es x)
-    link-renumbered b [] x apart = refl
-    link-renumbered b (e ∷ es) x apart = grind (arith, common_steps, first_or-renumbered es, link-renumbered (Some e.index) es x)
+    link-kept b [] x apart = refl
+    link-kept b (e ∷ es) x apart = grind (arith, common_steps, first_or-renumbered es, link-kept (Some e.index) es x)
 
     -- an index of the new list was another of the old one
     pub times-source : (es : List (Entry T)) (k : ℕ) → 1 ≤ times k (map altered es) → (x : ℕ) × (renumber x ≡ k) × (1 ≤ times x es)
@@ -148,7 +148,7 @@ module _ {T : Type 0} where
       distinct-renumbered k = grind (arith, common_steps, times-source, distinct, times-changed)
 
       pub link_at-renumbered : (x : ℕ) → 1 ≤ times x es → link_at (map altered es) (renumber x) ≡ option_map (followed x) (link_at es x)
-      link_at-renumbered x occurs = link-renumbered None es x (λ y there same. apart y x there occurs same)
+      link_at-renumbered x occurs = link-kept None es x (λ y there same. apart y x there occurs same)
 
       -- Slots that hold each changed entry with its neighbours renumbered, and nothing else, hold the changed list.
       module _ (slots : List (Option (ℕ × Link T))) (first last : Option ℕ)
@@ -156,8 +156,7 @@ module _ {T : Type 0} where
           (back : (k : ℕ) → is_some (get_or slots k None) ≡ true → (x : ℕ) × (renumber x ≡ k) × (1 ≤ times x es))
           (first_is : first ≡ option_map renumber (first_or None es)) where
         pub IsLaidOut-renumbered : last ≡ option_map renumber (last_or None es) → IsLaidOut slots first last (map altered es)
-        IsLaidOut-renumbered last_is =
-            laid-held slots first last (map altered es)
+        IsLaidOut-renumbered last_is = laid-held slots first last (map altered es)
             (λ k there. let s = times-source es k there in subst (λ i. get_or slots i None ≡ link_at (map altered es) i) s.1 (held s.0 s.2 ∙ sym (link_at-renumbered s.0 s.2)))
             (λ k some. let s = back k some in subst (λ i. 1 ≤ times i (map altered es)) s.1 (omega (arith, times-changed s.0 s.2, s.2)))
             distinct-renumbered (first_is ∙ sym (end-renumbered Before es)) (last_is ∙ sym (end-renumbered After es))

@@ -1,5 +1,5 @@
 -- Room for one more entry: where a chain has it, and what a growth makes of it.
-use Rattle.std.proofs.Common.{◌≡◌, ℕ, zero, suc, ◌+◌, ◌<◌, ◌≤◌, List, length, Option, IsSome, slice_get, Result, IfOk, OnErr, max, arith}
+use Rattle.std.proofs.Common.{◌≡◌, ℕ, zero, suc, ◌+◌, ◌*◌, ◌<◌, ◌≤◌, List, [], ◌∷◌, length, Option, None, IsSome, is_some, Bool, true, false, refl, slice_get, Result, IfOk, OnErr, min, max, nat_lt, if◌then◌else◌, arith}
 use Rattle.std.proofs.lemmas.Grind.{common_steps}
 use Rattle.chain_base.specs.Chain.{Entry, Chain, times, inserted_at, greatest_index, vacant_among, next_index, grown_capacity, with_capacity, with_room, IsSound}
 use Rattle.chain_base.specs.Insert.{IsInsertion}
@@ -9,6 +9,26 @@ module _ {T : Type 0} where
   -- an insertion keeps the capacity
   pub inserted-capacity : (c : Chain T) (place : Entry T → List (Entry T)) (item : T) (vacant : List ℕ) → (inserted_at c place item vacant).capacity ≡ c.capacity
   inserted-capacity c place item vacant = grind (arith, common_steps)
+
+  module _ (most : ℕ) (c : Chain T) where
+    -- without a maximum the capacity grows just where no slot is vacant
+    abbrev pub roomy_capacity : ℕ
+    roomy_capacity = if nat_lt (length c.entries) c.capacity then c.capacity else min most (max 4 (2 * c.capacity))
+
+    module _ (counted : length c.entries + length c.vacant ≡ c.capacity) where
+      pub capacity-vacant : is_some (next_index c) ≡ true → c.capacity ≡ roomy_capacity
+      capacity-vacant some = grind (arith, common_steps, c.vacant)
+
+      pub capacity-with_room : c.maximum ≡ None → (with_room most c).capacity ≡ roomy_capacity
+      capacity-with_room unlimited = go (is_some (next_index c)) refl
+        where
+          full : (vacant : List ℕ) → length c.entries + length vacant ≡ c.capacity → is_some (slice_get vacant 0) ≡ false → grown_capacity most c ≡ roomy_capacity
+          full [] all none = grind (arith, common_steps, unlimited, all)
+          full (j ∷ rest) all none = absurd (cc)
+
+          go : (b : Bool) → is_some (next_index c) ≡ b → (if b then c else with_capacity c (grown_capacity most c)).capacity ≡ roomy_capacity
+          go true some = capacity-vacant some
+          go false none = full c.vacant counted none
 
   module _ {P E : Type 0} (old new : Chain T) (place : Entry T → List (Entry T)) (item : T) (numbers : P → ℕ × ℕ) (r : Result P E)
       (ok : IfOk r (λ p. IsInsertion old new place item (numbers p).0 (numbers p).1)) where

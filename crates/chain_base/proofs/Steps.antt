@@ -3,8 +3,8 @@ use Rattle.std.proofs.Common.{◌≡◌, ℕ, ◌+◌, ◌-◌, ◌<◌, List, [
 use Rattle.std.proofs.{lemmas.List.length-replicate, lemmas.Grind.common_steps}
 use Rattle.arena_base.specs.Arena.{Arena, slot, with_entry_at, arena_capacity, with_capacity as arena_with_capacity, removed as arena_removed, renewed as arena_renewed, cleared as arena_cleared, resized, IsInsertion as IsArenaInsertion}
 use Rattle.chain_base.specs.Chain.{Entry, Chain, first_or, last_or, inserted_at, with_capacity, vacant_indexes, removed, renewed, cleared, with_item}
-use Rattle.chain_base.specs.{Layout.chain_of, Layout.rewritten, Layout.IsLaidOut, Insert.IsInsertion, Insert.IsPlace, Link.Link}
-use Rattle.chain_base.proofs.LaidOut.{IsChainIn, laid-links, IsLaidOut-walked, Alike, alike-bridged, bridged, end_beside, link_amid, closed, walk-laid_out, slot-laid_out, joined, IsLaidOut-inserted, IsLaidOut-removed, IsLaidOut-changed_at}
+use Rattle.chain_base.specs.{Layout.chain_of, Layout.rewritten, Layout.IsLaidOut, Insert.IsInsertion, Insert.PutsBetween, Link.Link}
+use Rattle.chain_base.proofs.LaidOut.{IsChainIn, laid-links, IsLaidOut-walked, Alike, alike-bridged, bridged, end_beside, link_amid, closed, entries_met-laid_out, slot-laid_out, joined, IsLaidOut-inserted, IsLaidOut-removed, IsLaidOut-changed_at}
 use Rattle.chain_base.proofs.Lists.{entry_at-some, linked-occurs, last_or-append, times-unlinked, Stands-occurs, Stands, last_or-there, with_item_among-changed_at, with_generation-changed_at}
 use Rattle.chain_base.proofs.Vacancy.{HoldIndexes, held-links, vacant-held, get_or-vacant, get_or-resized, length-resized}
 
@@ -23,14 +23,13 @@ module _ {T : Type 0} where
       (capacity : arena_capacity a ≡ c.capacity) where
     pub lies : a.vacant ≡ c.vacant → a.generation ≡ c.generation → a.maximum ≡ c.maximum → Lies a first last c
     lies vacant generation maximum =
-        record { laid = IsLaidOut-walked a first last c.entries laid; chain = rw (walk-laid_out a first last c.entries laid, capacity, vacant, generation, maximum) refl }
+        record { laid = IsLaidOut-walked a first last c.entries laid; chain = rw (entries_met-laid_out a first last c.entries laid, capacity, vacant, generation, maximum) refl }
 
   -- an arena with other slots that hold entries at the same indexes
   module _ (a b : Arena (Link T)) (first last : Option ℕ) (es : List (Entry T)) (same : Alike b a) where
     pub lies-alike : IsLaidOut b.slots first last es
         → Lies b first last (record { entries = es; capacity = arena_capacity a; vacant = a.vacant; generation = a.generation; maximum = a.maximum })
-    lies-alike laid =
-        lies b first last _ laid (ap (λ n. n - 1) same.long) (ap (λ (a : Arena (Link T)). a.vacant) same.kept)
+    lies-alike laid = lies b first last _ laid (ap (λ n. n - 1) same.long) (ap (λ (a : Arena (Link T)). a.vacant) same.kept)
         (ap (λ (a : Arena (Link T)). a.generation) same.kept) (ap (λ (a : Arena (Link T)). a.maximum) same.kept)
 
   -- an index of a laid list is one whose slot holds a link
@@ -63,7 +62,7 @@ module _ {T : Type 0} where
         rw (after, first2, last2, puts (record { index = j; generation = a.generation; item = item })) (rw (length-set a.slots j (Some (a.generation, link_amid front item back))) at done)
 
   module _ (a a1 : Arena (Link T)) (first last : Option ℕ) (place : Entry T → List (Entry T)) (prev next : Option ℕ) (item : T) (j g : ℕ)
-      (laid : IsChainIn a first last) (at : IsPlace (chain_of a first).entries place prev next)
+      (laid : IsChainIn a first last) (at : PutsBetween (chain_of a first).entries place prev next)
       (ins : IsArenaInsertion a a1 (record { item = item; prev = prev; next = next }) j g) where
     pub Inserts-joined : Inserts a (bridged a1 prev (Some j) next (Some j)) first (end_beside prev first (Some j)) (end_beside next last (Some j)) place item j g
     Inserts-joined =

@@ -6,7 +6,7 @@ use Rattle.std.specs.List.{FoldsTo}
 use Rattle.arena_base.specs.{declared.invalidation.InvalidationOption.InvalidationOption, Generation.overflows_after}
 use Rattle.arena_base.specs.Invalidation.{allowed_value, is_overflow}
 use Rattle.chain_base.specs.Chain.{Entry, Chain, times, entry_at, first_pointer, link_at, insert_after, vacant_among, removed, with_capacity, greatest_index, inserted, IsSound}
-use Rattle.chain_base.specs.{Transfer.filled_with, Transfer.last_of, Transfer.place_behind, Transfer.TakesOut, Transfer.HasTaken, Link.Link}
+use Rattle.chain_base.specs.{Transfer.filled_with, Transfer.last_index_of, Transfer.place_behind, Transfer.TakesOut, Transfer.HasTaken, Link.Link}
 use Rattle.chain_base.specs.Compression.{numbered, Transferring, TransferStep, IsTransfer}
 use Rattle.chain_base.specs.Insert.{placed, CanPlace}
 use Rattle.chain_base.proofs.{Canonical.numbered-push, Canonical.times-numbered, Canonical.vacant-same, Room.greatest-within}
@@ -64,7 +64,7 @@ module _ {T : Type 0} where
   module _ (P G : Type 0) {I : Type 0} (number : I → ℕ) where
     -- the pointer to the last of so many entries in a row
     abbrev IsLast : Option I → List T → Type 0
-    IsLast last items = option_map number last ≡ last_of (length items)
+    IsLast last items = option_map number last ≡ last_index_of (length items)
 
     pub can_place-behind : (last : Option I) (c : Chain T) (items : List T) → IsLast last items
         → CanPlace {P = P} {I = I} {G = G} number (place_behind last) (filled_with c items)
@@ -72,11 +72,11 @@ module _ {T : Type 0} where
     can_place-behind (Some i) c (x ∷ xs) is = grind (arith, common_steps, number i, i, entry_at-last c.generation 1 x xs)
     can_place-behind last c items is = absurd cc
 
-    pub placed-behind : (last : _) (g : ℕ) (items : List _) (e : Entry _) → IsLast last items
-        → placed {P = P} {G = G} number (place_behind last) (numbered g 1 items) e ≡ numbered g 1 items ++ e ∷ []
+    pub placed-behind : (last : Option I) (g : ℕ) (ts : List T) (e : Entry T) → IsLast last ts
+        → placed {P = P} {G = G} number (place_behind last) (numbered g 1 ts) e ≡ numbered g 1 ts ++ e ∷ []
     placed-behind None g [] new is = refl
     placed-behind (Some i) g (x ∷ xs) new is = grind (arith, common_steps, number i, i, insert_after-last g 1 x xs new)
-    placed-behind last g items new is = absurd cc
+    placed-behind last g ts new is = absurd cc
 
   vacant-none : (es : List (Entry T)) (from n m : ℕ) → ((j : ℕ) → from ≤ j → j < from + n → times j es ≡ 1) → vacant_among es from (n + m) ≡ vacant_among es (from + n) m
   vacant-none es from zero m all = let same : from ≡ from + 0 = omega arith in let none : 0 + m ≡ m = omega arith in ap (λ n. vacant_among es from n) none ∙ ap (λ i. vacant_among es i m) same
@@ -114,8 +114,7 @@ module _ {T : Type 0} where
 
   module _ {P : Type 0} (numbers : P → ℕ × ℕ) (c chain : Chain T) (items : List T) (less : length items < c.capacity) (put : chain ≡ filled_with c items) where
     next-is : (o : Option P) (vacant : List ℕ) → vacant ≡ chain.vacant → option_map (λ p. (numbers p).0) o ≡ slice_get vacant 0 → option_map (λ p. (numbers p).0) o ≡ Some (1 + length items)
-    next-is o vacant same is =
-        is ∙ ap (λ is. slice_get is 0) (same ∙ ap (λ (c : Chain T). c.vacant) put)
+    next-is o vacant same is = is ∙ ap (λ is. slice_get is 0) (same ∙ ap (λ (c : Chain T). c.vacant) put)
         ∙ grind (arith, common_steps, vacant-numbered c.generation items (suc (c.capacity - length items - 1)))
 
     pub next-some : (o : Option P) (vacant : List ℕ) → vacant ≡ chain.vacant → option_map (λ p. (numbers p).0) o ≡ slice_get vacant 0 → is_some o ≡ true
@@ -165,7 +164,7 @@ module _ {P Q T U M : Type 0} (numbers_from : Q → ℕ × ℕ) (numbers_to : P 
     }
 
 -- the last index is one more
-pub last-more : {I T : Type 0} (number : I → ℕ) (i : I) (items : List T) (item : T) → number i ≡ length items + 1 → Some (number i) ≡ last_of (length (items ++ item ∷ []))
+pub last-more : {I T : Type 0} (number : I → ℕ) (i : I) (items : List T) (item : T) → number i ≡ length items + 1 → Some (number i) ≡ last_index_of (length (items ++ item ∷ []))
 last-more number i items item at = grind (arith, common_steps)
 
 -- a whole transfer

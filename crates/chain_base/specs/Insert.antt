@@ -34,7 +34,7 @@ module _ {T : Type 0} where
     pub fresh : IsFresh old → IsFresh new
 
   -- `place` puts a new entry into the list between these two neighbours
-  pub record IsPlace (es : List (Entry T)) (place : Entry T → List (Entry T)) (prev next : Option ℕ) : Type 0 where
+  pub record PutsBetween (es : List (Entry T)) (place : Entry T → List (Entry T)) (prev next : Option ℕ) : Type 0 where
     pub front : List (Entry T)
     pub back : List (Entry T)
     pub split : es ≡ front ++ back

@@ -47,16 +47,16 @@ module _ {T : Type 0} where
   met i (Some e) rest = record { index = i; generation = e.0; item = e.1.item } ∷ rest e.1.next
 
   -- the entries that are met on the way from this index, at most so many
-  abbrev pub walk : (ℕ → Option (ℕ × Link T)) → ℕ → Option ℕ → List (Entry T)
-  walk at zero link = []
-  walk at (suc n) None = []
-  walk at (suc n) (Some i) = met i (at i) (walk at n)
+  abbrev pub entries_met : (ℕ → Option (ℕ × Link T)) → ℕ → Option ℕ → List (Entry T)
+  entries_met at zero link = []
+  entries_met at (suc n) None = []
+  entries_met at (suc n) (Some i) = met i (at i) (entries_met at n)
 
   -- the chain that lies in an arena, where this index is the first
   abbrev pub chain_of : Arena (Link T) → Option ℕ → Chain T
   chain_of a first =
       record {
-        entries = walk (slot a) (length a.slots) first;
+        entries = entries_met (slot a) (length a.slots) first;
         capacity = arena_capacity a;
         vacant = a.vacant;
         generation = a.generation;

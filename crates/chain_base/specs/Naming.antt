@@ -23,8 +23,8 @@ module _ {T : Type 0} where
   linked_facing After a at other = linked_prev a at other
 
   -- the index that the entry at index i has for its neighbour on a side
-  abbrev pub named : Side → Arena (Link T) → ℕ → Option ℕ
-  named side a i = option_and_then (λ e. neighbour_on side e.1) (slot a i)
+  abbrev pub named_neighbour : Side → Arena (Link T) → ℕ → Option ℕ
+  named_neighbour side a i = option_and_then (λ e. neighbour_on side e.1) (slot a i)
 
   -- the compressed index of the entry at index i: its number among the indexes with an entry, counted from 1
   abbrev pub compressed_index_in : Arena (Link T) → ℕ → ℕ
@@ -32,17 +32,17 @@ module _ {T : Type 0} where
 
   -- the names on a side name entries, each at most one, and at most one entry names none
   pub record IsPaired (side : Side) (a : Arena (Link T)) : Type 0 where
-    pub there : (i k : ℕ) → named side a i ≡ Some k → IsSome (slot a k)
-    pub once : (i j k : ℕ) → named side a i ≡ Some k → named side a j ≡ Some k → i ≡ j
-    pub alone : (i j : ℕ) → IsSome (slot a i) → IsSome (slot a j) → named side a i ≡ None → named side a j ≡ None → i ≡ j
+    pub there : (i k : ℕ) → named_neighbour side a i ≡ Some k → IsSome (slot a k)
+    pub once : (i j k : ℕ) → named_neighbour side a i ≡ Some k → named_neighbour side a j ≡ Some k → i ≡ j
+    pub alone : (i j : ℕ) → IsSome (slot a i) → IsSome (slot a j) → named_neighbour side a i ≡ None → named_neighbour side a j ≡ None → i ≡ j
 
   -- Each entry that one names on this side names that one's compressed index on the other side. `end` is that of the entry that
   -- names none.
   pub record NamesCompressedIndexes (side : Side) (old new : Arena (Link T)) (end : Option ℕ) : Type 0 where
-    pub met : (i k : ℕ) → named side old i ≡ Some k → slot new k ≡ option_map (with_facing side (Some (compressed_index_in old i))) (slot old k)
-    pub unmet : (k : ℕ) → ((i : ℕ) → named side old i ≢ Some k) → slot new k ≡ slot old k
-    pub end_is : (i : ℕ) → IsSome (slot old i) → named side old i ≡ None → end ≡ Some (compressed_index_in old i)
-    pub no_end : ((i : ℕ) → IsSome (slot old i) → named side old i ≢ None) → end ≡ None
+    pub met : (i k : ℕ) → named_neighbour side old i ≡ Some k → slot new k ≡ option_map (with_facing side (Some (compressed_index_in old i))) (slot old k)
+    pub unmet : (k : ℕ) → ((i : ℕ) → named_neighbour side old i ≢ Some k) → slot new k ≡ slot old k
+    pub end_is : (i : ℕ) → IsSome (slot old i) → named_neighbour side old i ≡ None → end ≡ Some (compressed_index_in old i)
+    pub no_end : ((i : ℕ) → IsSome (slot old i) → named_neighbour side old i ≢ None) → end ≡ None
     pub kept : new ≡ record old { slots = new.slots }
     pub begins : take 1 old.slots ≡ None ∷ []
     pub held : (i : ℕ) → is_some (slot new i) ≡ is_some (slot old i)

@@ -12,9 +12,9 @@ abbrev pub filled_with : {T : Type 0} → Chain T → List T → Chain T
 filled_with c items = refilled c c.generation (numbered c.generation 1 items)
 
 -- the last index among so many from 1 on
-abbrev pub last_of : ℕ → Option ℕ
-last_of zero = None
-last_of (suc n) = Some (suc n)
+abbrev pub last_index_of : ℕ → Option ℕ
+last_index_of zero = None
+last_index_of (suc n) = Some (suc n)
 
 -- the place behind the last entry, or alone where there is none
 abbrev pub place_behind : {P I G : Type 0} → Option I → LinkInsertKind P I G

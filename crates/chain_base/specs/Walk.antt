@@ -9,9 +9,9 @@ module _ {T : Type 0} where
   pointers es = map (λ e. (e.index, e.generation)) es
 
   -- the pointers from the entry with this index on; none without an index
-  abbrev pub pointers_from : Option ℕ → Chain T → List (ℕ × ℕ)
-  pointers_from None c = []
-  pointers_from (Some i) c = pointers (from_index c.entries i)
+  abbrev pub pointers_left : Option ℕ → Chain T → List (ℕ × ℕ)
+  pointers_left None c = []
+  pointers_left (Some i) c = pointers (from_index c.entries i)
 
   -- the index of the entry after the one with this index, which the link of that one names
   abbrev pub index_after : List (Entry T) → ℕ → Option ℕ
@@ -21,12 +21,12 @@ module _ {T : Type 0} where
   -- generation g. It stands at the index of the entry after that one, or at none.
   pub record GivesEntry (old new : Option ℕ) (c : Chain T) (i g : ℕ) : Type 0 where
     pub stood : old ≡ Some i
-    pub first : pointers_from old c ≡ (i, g) ∷ pointers_from new c
+    pub first : pointers_left old c ≡ (i, g) ∷ pointers_left new c
     pub stands : new ≡ index_after c.entries i
 
   -- a step gave nothing: no entry has the index, and the walk has ended
   pub record GivesNothing (old new : Option ℕ) (c : Chain T) : Type 0 where
-    pub none_left : pointers_from old c ≡ []
+    pub none_left : pointers_left old c ≡ []
     pub ends : new ≡ None
 
   -- a step over the chain took the walk from `old` to `new`, and gave this pointer or nothing

@@ -5,7 +5,7 @@ use Rattle.std.specs.declared.cmp.Ordering.TheVariants.{Less, Equal, Greater}
 use Rattle.std.specs.{Cmp.IsTotalOrder, Cmp.alike_right, List.Sorted.IsStrictlySortedBy, declared.cmp.Ordering.Ordering}
 use Rattle.std.specs.{Ordering.ordering_reverse, List.AllByRecursion}
 use Rattle.chain_base.specs.Chain.{Entry, Chain, IsDistinct, entry_at, without, with_item_among, with_generation}
-use Rattle.triple_ord.specs.{Gap.first_of, Gap.last_or, ClosureSearch.Shown, Search.order_to, Place.at_key}
+use Rattle.triple_ord.specs.{Gap.first_of, Gap.last_of, ClosureSearch.Shown, Search.order_to, Place.at_key}
 use Rattle.triple_ord.proofs.OrderLaws.{recursion-map}
 use Rattle.ord_machine.specs.{Ascending.KeepsApart, Ascending.AscendingKeysLaw, Machine.Reading, Machine.State, Machine.Runs}
 use Rattle.ord_machine.specs.{declared.command.Command.Command, declared.reply.Reply.Reply}
@@ -98,7 +98,7 @@ module _ {T K : Type 0} (key : T → K) where
       lesser : (m : K) → cmp k m ≡ Greater → cmp m l ≡ Less
       lesser m more = sym (alike_right total k l m equal) ∙ total.antisymm m k ∙ ap ordering_reverse more
 
-      all-lesser : (front back : List (Entry T)) → Ascends (front ++ back) → IfSome (last_or None front) (λ e. order_to key cmp k e ≡ Greater)
+      all-lesser : (front back : List (Entry T)) → Ascends (front ++ back) → IfSome (last_of None front) (λ e. order_to key cmp k e ≡ Greater)
           → AllByRecursion (λ m. cmp m l ≡ Less) (keys front)
       all-lesser [] back sorted last = tt
       all-lesser (x ∷ []) back sorted last = (lesser (key x.item) last, tt)

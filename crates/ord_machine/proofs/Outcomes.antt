@@ -13,9 +13,9 @@ use Rattle.triple_ord.specs.Place.{Aim, alone, at_key, behind_key, beside, into,
 use Rattle.triple_ord.specs.declared.error.OrdInsertionError.TheVariants.{BeyondMaxCapacity, AllocError}
 use Rattle.triple_ord.specs.declared.insert_kind.OrdInsertKind.TheVariants.{Normal, Linear}
 use Rattle.triple_ord.specs.declared.entry_kind.OrdEntryKind.TheVariants.{New, Replacing}
-use Rattle.triple_ord.specs.{Insertion.Growth, Insertion.within, Insertion.reallocating, Insertion.with_slot, Gap.Gap, Gap.with_between}
+use Rattle.triple_ord.specs.{Insertion.Growth, Insertion.within, Insertion.reallocating, Insertion.with_room_by, Gap.Gap, Gap.with_between}
 use Rattle.triple_ord.specs.{declared.insert_kind.OrdInsertKind.OrdInsertKind, ClosureSearch.Shown}
-use Rattle.triple_ord.proofs.{CallerLemmas.entries-with_slot, Inserting.entry_at-after}
+use Rattle.triple_ord.proofs.{CallerLemmas.entries-with_room_by, CallerLemmas.numbers-with_room_by, Inserting.entry_at-after}
 use Rattle.ord_machine.specs.declared.reply.Reply.TheVariants.{Inserted, Refused, Item, Removed, Renewed, Changed, Entries, Done, ReductionRefused}
 use Rattle.ord_machine.specs.Machine.{Reading, State, Effect, adds, removes, rebuilds, keeps, told_effect, effect_of, Inserts, Does, entry_of, removed_each}
 use Rattle.ord_machine.specs.{Pointers.resets, Pointers.raises, Pointers.ReplacesAnother, Pointers.IsOfOthers, declared.reply.Reply.Reply}
@@ -138,15 +138,6 @@ module _ {T K : Type 0} (key : T → K) where
   keys-numbered [] g from = refl
   keys-numbered (e ∷ es) g from = ap (λ ks. key e.item ∷ ks) (keys-numbered es g (from + 1))
 
--- an arena that may grow for a new entry
-generation-with_slot : {T : Type 0} (growth : Growth) (most : ℕ) (c : Chain T) → (with_slot growth most c).generation ≡ c.generation
-generation-with_slot within most c = refl
-generation-with_slot reallocating most c = go (is_some (next_index c))
-  where
-    go : (b : Bool) → (if b then c else with_capacity c (grown_capacity most c)).generation ≡ c.generation
-    go true = refl
-    go false = refl
-
 -- a new entry
 module _ {T : Type 0} (room new : Chain T) (put : Entry T → List (Entry T)) (item : T) (i : ℕ) where
   abbrev IsPut : Type 0
@@ -227,9 +218,9 @@ module _ {P T I G K : Type 0} (r : Reading P T I G K) (s : State T) (new : Tree 
 
     outcome-insertion : (reply : Reply P T A I G) → IsReply reply → Outcome r s.tree new (told_effect reply) false 0 (λ p. ReplacesAnother r p reply) Keeps
     outcome-insertion (Inserted (New q) None) does =
-        let room = with_slot growth r.most s.tree.list in
-        let roomy = entries-with_slot growth r.most s.tree.list in
-        let era = generation-with_slot growth r.most s.tree.list in
+        let room = with_room_by growth r.most s.tree.list in
+        let roomy = entries-with_room_by growth r.most s.tree.list in
+        let era = (numbers-with_room_by growth r.most s.tree.list).0 in
         let i = (r.pointer q).0 in
         let after = after-insertion room new.list (with_between does.gap) item i (r.pointer q).1 does.inserted in
         record {

@@ -6,8 +6,8 @@ use Rattle.std.specs.List.{All, AllByRecursion}
 use Rattle.triple_ord.specs.declared.insert_kind.OrdInsertKind.{OrdInsertKind}
 use Rattle.triple_ord.specs.declared.insert_kind.OrdInsertKind.TheVariants as kinds
 use Rattle.ord_machine.specs.declared.command.Command.TheVariants as commands
-use Rattle.ord_script.specs.Spelling.{Argument, pair_arguments, key, value, index, count, pointer, flag, argument_text, IsInRange, saying_of, spelled, GoesBy, CanBeSaid}
-use Rattle.ord_script.specs.Commands.{◌>>=◌, taking, word_text, word_of, said_by, nonhereditary, linear, nonhereditary_linear, beside, hint_and_pair}
+use Rattle.ord_script.specs.Spelling.{Argument, pair_arguments, key, value, index, count, pointer, flag, argument_text, IsInRange, saying_of, spelled, GoesByItsKey, CanBeSaid}
+use Rattle.ord_script.specs.Commands.{◌>>=◌, taking, word_text, word_of, said_by, nonhereditary, linear, nonhereditary_linear, entry_beside, hint_and_pair}
 use Rattle.ord_script.specs.Arguments.{Reader, nothing, one, both, key_and_value, none_left, arguments_in}
 use Rattle.ord_script.specs.Numbers.{key_of, value_of, index_of, flag_of, pointer_of}
 use Rattle.ord_script.specs.Pairs.{Pair, Pointer, PairCommand}
@@ -66,7 +66,7 @@ abbrev IsSaid : PairCommand → Type 0
 IsSaid command = AllByRecursion IsInRange (saying_of command).arguments → said_by (spelled command) ≡ Some (Ok command)
 
 -- an insertion at a place that a line names, by the pair's own key if by one
-said_by-entry : (kind : OrdInsertKind Pointer ℤ ℕ ℕ) (pair : Pair) → GoesBy kind pair → IsSaid (commands.Entry kind pair)
+said_by-entry : (kind : OrdInsertKind Pointer ℤ ℕ ℕ) (pair : Pair) → GoesByItsKey kind pair → IsSaid (commands.Entry kind pair)
 said_by-entry kinds.Empty pair by range = taken (commands.Entry kinds.Empty) (pair-reads pair) range
 said_by-entry (kinds.Normal k) pair by range = absurd by
 said_by-entry (kinds.Nonhereditary k) pair by range =
@@ -75,9 +75,9 @@ said_by-entry (kinds.Linear i n k) pair by range =
     taken linear (hint-reads i n pair) range ∙ ap (λ key. Some (Ok (commands.Entry (kinds.Linear i n key) pair))) by
 said_by-entry (kinds.NonhereditaryLinear i n k) pair by range =
     taken nonhereditary_linear (hint-reads i n pair) range ∙ ap (λ key. Some (Ok (commands.Entry (kinds.NonhereditaryLinear i n key) pair))) by
-said_by-entry (kinds.Manual i Less) pair by range = taken (beside Less) (both-reads (index-reads i) (pair-reads pair)) range
-said_by-entry (kinds.Manual i Equal) pair by range = taken (beside Equal) (both-reads (index-reads i) (pair-reads pair)) range
-said_by-entry (kinds.Manual i Greater) pair by range = taken (beside Greater) (both-reads (index-reads i) (pair-reads pair)) range
+said_by-entry (kinds.Manual i Less) pair by range = taken (entry_beside Less) (both-reads (index-reads i) (pair-reads pair)) range
+said_by-entry (kinds.Manual i Equal) pair by range = taken (entry_beside Equal) (both-reads (index-reads i) (pair-reads pair)) range
+said_by-entry (kinds.Manual i Greater) pair by range = taken (entry_beside Greater) (both-reads (index-reads i) (pair-reads pair)) range
 
 -- each command
 said_by-spelled : (command : PairCommand) → CanBeSaid command → IsSaid command

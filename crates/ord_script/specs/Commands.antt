@@ -85,8 +85,8 @@ linear a = commands.Entry (kinds.Linear a.0 a.1.0 a.1.1.0) a.1.1
 abbrev pub nonhereditary_linear : ℕ × (ℕ × Pair) → PairCommand
 nonhereditary_linear a = commands.Entry (kinds.NonhereditaryLinear a.0 a.1.0 a.1.1.0) a.1.1
 
-abbrev pub beside : Ordering → ℕ × Pair → PairCommand
-beside order a = commands.Entry (kinds.Manual a.0 order) a.1
+abbrev pub entry_beside : Ordering → ℕ × Pair → PairCommand
+entry_beside order a = commands.Entry (kinds.Manual a.0 order) a.1
 
 -- another item for the entry that a pointer names
 abbrev pub set : Pointer × Pair → PairCommand
@@ -114,9 +114,9 @@ command_by words.Empty = taking key_and_value (commands.Entry kinds.Empty)
 command_by words.Nonhereditary = taking key_and_value nonhereditary
 command_by words.Linear = taking hint_and_pair linear
 command_by words.NonhereditaryLinear = taking hint_and_pair nonhereditary_linear
-command_by words.Before = taking index_and_pair (beside Less)
-command_by words.At = taking index_and_pair (beside Equal)
-command_by words.After = taking index_and_pair (beside Greater)
+command_by words.Before = taking index_and_pair (entry_beside Less)
+command_by words.At = taking index_and_pair (entry_beside Equal)
+command_by words.After = taking index_and_pair (entry_beside Greater)
 command_by words.Set = taking (both (one pointer_of) key_and_value) set
 command_by words.Remove = taking (one pointer_of) commands.Remove
 command_by words.RemoveInx = taking (one index_of) commands.RemoveInx

@@ -97,13 +97,13 @@ abbrev pub spelled : PairCommand → List (List ℕ)
 spelled command = (saying_of command).word ∷ map argument_text (saying_of command).arguments
 
 -- a line says where a pair goes: by its own key, if by one
-abbrev pub GoesBy : OrdInsertKind Pointer ℤ ℕ ℕ → Pair → Type 0
-GoesBy kinds.Empty pair = Unit {0}
-GoesBy (kinds.Normal k) pair = ⊥
-GoesBy (kinds.Nonhereditary k) pair = pair.0 ≡ k
-GoesBy (kinds.Linear i n k) pair = pair.0 ≡ k
-GoesBy (kinds.NonhereditaryLinear i n k) pair = pair.0 ≡ k
-GoesBy (kinds.Manual i order) pair = Unit {0}
+abbrev pub GoesByItsKey : OrdInsertKind Pointer ℤ ℕ ℕ → Pair → Type 0
+GoesByItsKey kinds.Empty pair = Unit {0}
+GoesByItsKey (kinds.Normal k) pair = ⊥
+GoesByItsKey (kinds.Nonhereditary k) pair = pair.0 ≡ k
+GoesByItsKey (kinds.Linear i n k) pair = pair.0 ≡ k
+GoesByItsKey (kinds.NonhereditaryLinear i n k) pair = pair.0 ≡ k
+GoesByItsKey (kinds.Manual i order) pair = Unit {0}
 
 -- a script can say it: it isn't a search by a closure nor an insertion that a line can't ask for, and its numbers are within their
 -- ranges
@@ -111,7 +111,7 @@ abbrev pub CanBeSaid : PairCommand → Type 0
 CanBeSaid commands.FindWith = ⊥
 CanBeSaid commands.SimilarWith = ⊥
 CanBeSaid (commands.EntryWithin kind pair) = ⊥
-CanBeSaid (commands.Entry kind pair) = GoesBy kind pair × All IsInRange (saying_of (commands.Entry kind pair)).arguments
+CanBeSaid (commands.Entry kind pair) = GoesByItsKey kind pair × All IsInRange (saying_of (commands.Entry kind pair)).arguments
 CanBeSaid command = All IsInRange (saying_of command).arguments
 
 -- a line for each command, the words joined by a space

@@ -1,6 +1,6 @@
 //! Reads the command that a line gives.
 ghost use Rattle.std.specs.Prelude.{◌≡◌};
-ghost use Rattle.ord_script.specs.Commands.{alone, command_by, said_by, nonhereditary, linear, nonhereditary_linear, beside, set, find_linear, similar_linear};
+ghost use Rattle.ord_script.specs.Commands.{alone, command_by, said_by, nonhereditary, linear, nonhereditary_linear, entry_beside, set, find_linear, similar_linear};
 ghost use Rattle.ord_script.specs.Commands as spec;
 ghost use Rattle.ord_script.specs.Script.{words_of};
 
@@ -46,9 +46,9 @@ fn command_by(word: Word, arguments: Words<'_>) -> Result<PairCommand, FaultKind
         Word::Nonhereditary => Ok(nonhereditary(arguments_in(arguments)?)),
         Word::Linear => Ok(linear(arguments_in(arguments)?)),
         Word::NonhereditaryLinear => Ok(nonhereditary_linear(arguments_in(arguments)?)),
-        Word::Before => Ok(beside(Ordering::Less, arguments_in(arguments)?)),
-        Word::At => Ok(beside(Ordering::Equal, arguments_in(arguments)?)),
-        Word::After => Ok(beside(Ordering::Greater, arguments_in(arguments)?)),
+        Word::Before => Ok(entry_beside(Ordering::Less, arguments_in(arguments)?)),
+        Word::At => Ok(entry_beside(Ordering::Equal, arguments_in(arguments)?)),
+        Word::After => Ok(entry_beside(Ordering::Greater, arguments_in(arguments)?)),
         Word::Set => Ok(set(arguments_in(arguments)?)),
         Word::Remove => Ok(Command::Remove(arguments_in(arguments)?)),
         Word::RemoveInx => Ok(Command::RemoveInx(arguments_in(arguments)?)),
@@ -102,8 +102,8 @@ fn nonhereditary_linear(arguments: (u32, (usize, Pair))) -> PairCommand
 }
 
 /// A pair before, at or after the entry with an index.
-fn beside(direction: Ordering, arguments: (u32, Pair)) -> PairCommand
-    ensures { result ≡ beside direction arguments }
+fn entry_beside(direction: Ordering, arguments: (u32, Pair)) -> PairCommand
+    ensures { result ≡ entry_beside direction arguments }
 {
     let (p_target, pair) = arguments;
     Command::Entry(

@@ -163,8 +163,8 @@ module _ {old new : Slots} {root : Option ℕ} {y : ℕ} {order : List ℕ} (dem
     demoted_above : (branch : Option (Branch I)) → IsBranchOf number new y branch → above demoted.demoted.way ≡ option_map (λ (p : Branch I). number p.parent) branch
     demoted_above branch by = let n = some_of (new y) demoted_occupied in demoted_back n.0 n.1 ∙ sym (by.parent n.0 n.1)
 
-    pub demoted_branch : (branch : Option _) → IsBranchOf number new y branch
-        → MatchOption branch (IsRepaired old new root order 1) (λ b. HasDemoted old new root y (number b.parent) b.side order)
+    pub demoted_branch : (on : Option (Branch I)) → IsBranchOf number new y on
+        → MatchOption on (IsRepaired old new root order 1) (λ b. HasDemoted old new root y (number b.parent) b.side order)
     demoted_branch None by = let now = demoted.demoted in record {
       built = record {
         shape = plug now.way now.shape;

@@ -99,8 +99,8 @@ pub IsOver-turned : {slack k l r : ℕ} → IsOver slack k l r → IsOver slack 
 IsOver-turned h = record { lesser = h.greater; greater = h.lesser; leaf = λ a b. h.leaf b a; tight = omega (arith, h.tight) }
 
 module _ (slack : ℕ) where
-  pub IsBalanced-fork : (side : Side) (near far : _) (i k : ℕ) → IsOver slack k (rank_of near) (rank_of far) → IsBalanced slack near → IsBalanced slack far
-      → IsBalanced slack (fork side near i k far)
+  pub IsBalanced-fork : (s : Side) (near far : Shape) (i k : ℕ) → IsOver slack k (rank_of near) (rank_of far) → IsBalanced slack near → IsBalanced slack far
+      → IsBalanced slack (fork s near i k far)
   IsBalanced-fork Lesser near far i k o n f = (o, n, f)
   IsBalanced-fork Greater near far i k o n f = (IsOver-turned o, f, n)
 

@@ -52,7 +52,9 @@ module _ {P T I G : Type 0} where
       (same : (e : Entry (Node P T I G)) → map bare_entry (place e) ≡ put (bare_entry e)) (kept : bare last ≡ bare new) where
     bare_inserted : (vacant : List ℕ) → bare (inserted (record old { vacant = vacant }) place item) ≡ inserted (record (bare old) { vacant = vacant }) put item.t
     bare_inserted [] = refl
-    bare_inserted (i ∷ rest) = ap (λ (es : List (Entry T)). record { entries = es; capacity = old.capacity; vacant = rest; generation = old.generation; maximum = old.maximum }) (same (record { index = i; generation = old.generation; item = item }))
+    bare_inserted (i ∷ rest) =
+        ap (λ (es : List (Entry T)). record { entries = es; capacity = old.capacity; vacant = rest; generation = old.generation; maximum = old.maximum })
+        (same (record { index = i; generation = old.generation; item = item }))
 
     -- the insertion as the list sees it
     pub IsInsertion-bare : IsInsertion old new place item i g → IsInsertion (bare old) (bare last) put item.t i g
@@ -235,18 +237,18 @@ module _ {P T I G : Type 0} (number : I → ℕ) (c d : Chain (Node P T I G)) (r
       (indexes c.entries, 1, new_leaf number c d root at new_entry laid put.can.0 free put.entries most greatest sound fits branch here put.links 1 (IsBalanced-ranked (shape_in c root) laid.ranked))
 
   module _ (new : Chain (Node P T I G)) (root' : Option I) (kept : bare new ≡ bare d) where
-    grown_whole : (at : Option _) (branch : Option _) → IsPut number branch c d at new_entry
-        → HasGrown number branch d root x new root' → IsGrownTo (shape_in c root) new (option_map number root')
-    grown_whole None None put same =
+    has_grown : (at : Option (I × Ordering)) (on : Option (Branch I)) → IsPut number on c d at new_entry
+        → HasGrown number on d root x new root' → IsGrownTo (shape_in c root) new (option_map number root')
+    has_grown None None put same =
         let alone = put.entries ∙ ap (λ (es : List (Entry (Node P T I G))). new_entry ∷ es) put.can in
         let R : Option ℕ → Type 0 = λ r. IsGrownTo (shape_in c root) new r in
         let N : Chain (Node P T I G) → Type 0 = λ n. IsGrownTo (shape_in c root) n (Some (number x)) in
         subst R (sym (ap (option_map number) same.1))
         (subst N (sym same.0) (IsLaidOut-alone c d root (number x) g leaf put.can alone put.links, IsGrown-alone c d root (number x) g leaf put.can alone put.links))
-    grown_whole (Some at) None put same =
+    has_grown (Some at) None put same =
         absurd (elim (put.found root (shape_in c root) laid (distinct number c d root at new_entry laid put.can.0 free put.entries most greatest sound fits)) [ ])
-    grown_whole None (Some branch) put repaired = absurd (let none = put.found root (shape_in c root) laid (λ i. let e = ap (entry_times i) put.can in omega arith) in cc)
-    grown_whole (Some at) (Some branch) put repaired =
+    has_grown None (Some branch) put repaired = absurd (let none = put.found root (shape_in c root) laid (λ i. let e = ap (entry_times i) put.can in omega arith) in cc)
+    has_grown (Some at) (Some branch) put repaired =
         let here = put.found root (shape_in c root) laid (distinct number c d root at new_entry laid put.can.0 free put.entries most greatest sound fits) in
         let leaves = new_leaf number c d root at new_entry laid put.can.0 free put.entries most greatest sound fits branch here put.links in
         let again = λ (slack : ℕ) (balanced : IsBalanced slack (shape_in c root)). repaired (indexes c.entries) slack (leaves slack balanced) in (
@@ -306,7 +308,7 @@ module _ {P T I G : Type 0} (number : I → ℕ) (c : Chain (Node P T I G)) (roo
 
   module _ (new : Chain (Node P T I G)) (root' : Option I) (kept : bare new ≡ bare d) (grown : HasGrown number branch d root x new root') where
     pub call_grown : IsGrownTo (shape_in c root) new (option_map number root')
-    call_grown = grown_whole number c d root x era leaf laid x_free most greatest sound fits new root' kept at branch put grown
+    call_grown = has_grown number c d root x era leaf laid x_free most greatest sound fits new root' kept at branch put grown
 
     pub call_listed : IsInsertion (bare c) (bare new) (put_at number at (map bare_entry c.entries)) t index era
     call_listed =

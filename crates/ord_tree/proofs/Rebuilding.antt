@@ -3,7 +3,7 @@ use Rattle.std.proofs.Common.{◌≡◌, ◌≢◌, ℕ, zero, suc, ◌+◌, ◌
 use Rattle.std.proofs.{Math.Nat.mul-le-mul_right, Math.Nat.one-le-pow, Math.Nat.pow-suc, Math.Nat.two-pow-succ, lemmas.Grind.common_steps}
 use Rattle.std.proofs.{lemmas.Bool.cases_lt, lemmas.Bool.eq-eqb, lemmas.Nat.leading_length, lemmas.List.append-nil, Math.Pow.pow_mono}
 use Rattle.std.specs.Int.Count.{count_leading_zeros}
-use Rattle.ord_tree.specs.Rebuild.{ahead, behind, IsFacing, IsFew, IsPlan, IsMiddle, IsStack, IsUnopened, IsFinished, IsReady, IsOpening, IsPassing}
+use Rattle.ord_tree.specs.Rebuild.{ahead, behind, IsFacing, IsFew, IsPlan, IsMiddle, IsStack, IsUnopened, IsFinished, IsWaiting, IsOpening, IsPassing}
 use Rattle.ord_tree.specs.Slots.{Slots, Holds, Way, top, up, plug, here, times, times_in, times_way, IsOnce}
 use Rattle.ord_tree.specs.{declared.tree_links.Side.TheVariants.Lesser, declared.tree_links.Side.TheVariants.Greater, Numbers.IsTop}
 use Rattle.ord_tree.specs.{Shape.Shape, Shape.missing, Shape.node, Shape.fork, Shape.size_of, Shape.walk, Leaf.list_head, Leaf.following}
@@ -104,8 +104,8 @@ module _ where
   few-frames {at} {q} {s} frames plan (up side i k far rest) t whole stack d digits =
       omega (arith, length-stack at (up side i k far rest) (size_of t) frames stack, few-steps rest (fork side t i k far) plan whole (size-fork-some side t far i k) d digits.0)
 
-  pub IsReady-few : {at : Slots} {q : ℕ} {s : Shape} {frames : List Frame} {link : Option ℕ} {todo : List ℕ} → IsPlan at q s → IsReady at frames s link todo → IsFew frames s
-  IsReady-few {frames = frames} plan ready = few-frames frames plan ready.finished.way ready.finished.done ready.finished.whole ready.finished.stack
+  pub IsWaiting-few : {at : Slots} {q : ℕ} {s : Shape} {frames : List Frame} {link : Option ℕ} {todo : List ℕ} → IsPlan at q s → IsWaiting at frames s link todo → IsFew frames s
+  IsWaiting-few {frames = frames} plan ready = few-frames frames plan ready.finished.way ready.finished.done ready.finished.whole ready.finished.stack
 
   -- what the frames say stays where no write touches the nodes that are met
   module _ (old new : Slots) where
@@ -163,8 +163,8 @@ module _ where
           let is : u.run ≡ missing = sizeless u.run (omega (arith, none, u.size)) in
           record { way = u.way; done = missing; whole = rw is at u.whole; stack = rw is at u.stack; held = refl; todo_is = rw is at u.todo_is }
 
-    pub IsReady-opened : {frames : List Frame} {start len : ℕ} → IsOpening at frames s start len todo → len ≡ 0 → IsReady at frames s None todo
-    IsReady-opened {frames} {start} {len} o none =
+    pub IsWaiting-opened : {frames : List Frame} {start len : ℕ} → IsOpening at frames s start len todo → len ≡ 0 → IsWaiting at frames s None todo
+    IsWaiting-opened {frames} {start} {len} o none =
         ⊎_elim (λ some. absurd (omega (arith, some, none))) (λ facing. record { finished = IsFinished-empty o.unopened none; facing = facing }) o.facing
 
   -- the run whose middle is met next
@@ -180,7 +180,7 @@ module _ where
     pub held : Holds at None link l
     pub todo_is : walk r ++ ahead rest ≡ todo
 
-  module _ {at : Slots} {q : ℕ} {s : Shape} (plan : IsPlan at q s) {frames : List Frame} {link : Option ℕ} {x : ℕ} {todo : List ℕ} (ready : IsReady at frames s link (x ∷ todo)) where
+  module _ {at : Slots} {q : ℕ} {s : Shape} (plan : IsPlan at q s) {frames : List Frame} {link : Option ℕ} {x : ℕ} {todo : List ℕ} (ready : IsWaiting at frames s link (x ∷ todo)) where
     pub next-run : (below : List Frame) (f : Frame) → frames ≡ below ++ f ∷ [] → IsNext plan below f link x todo
     next-run below f e = go ready.finished.way ready.finished.done ready.finished.whole ready.finished.stack ready.finished.held ready.finished.todo_is ready.facing
       where
@@ -280,8 +280,8 @@ module _ where
   -- ending a run
   module _ {at : Slots} {q : ℕ} {s : Shape} (plan : IsPlan at q s) {frames : List Frame} {link : Option ℕ} {todo : List ℕ} (finished : IsFinished at frames s link todo) where
     -- where the innermost run has no middle yet, or there is none, the next entry can be met
-    pub IsReady-bare : ((below : List Frame) (f : Frame) → frames ≡ below ++ f ∷ [] → f.middle ≡ None) → IsReady at frames s link todo
-    IsReady-bare bare = record { finished = finished; facing = go finished.way finished.stack }
+    pub IsWaiting-bare : ((below : List Frame) (f : Frame) → frames ≡ below ++ f ∷ [] → f.middle ≡ None) → IsWaiting at frames s link todo
+    IsWaiting-bare bare = record { finished = finished; facing = go finished.way finished.stack }
       where
         go : (way : Way) → IsStack at way (size_of finished.done) frames → IsFacing way
         go top stack = tt
@@ -441,17 +441,17 @@ module _ {at : Slots} {s : Shape} {order : List ℕ} where
     pub record IsTarget (x : ℕ) : Type 0 where
       pub rest : List ℕ
       pub split : order ≡ passing.met ++ x ∷ rest
-      pub ready : IsReady at frames s link (x ∷ rest)
+      pub ready : IsWaiting at frames s link (x ∷ rest)
 
     pub target_of : (x : ℕ) → target ≡ Some x → IsTarget x
     target_of x e = go passing.todo passing.split passing.ready (sym passing.target_is ∙ e)
       where
-        go : (todo : List ℕ) → order ≡ passing.met ++ todo → IsReady at frames s link todo → list_head todo ≡ Some x → IsTarget x
+        go : (todo : List ℕ) → order ≡ passing.met ++ todo → IsWaiting at frames s link todo → list_head todo ≡ Some x → IsTarget x
         go [] split ready h = absurd cc
         go (y ∷ rest) split ready h =
             let same : y ≡ x = cc in
             let P : ℕ → Type 0 = λ y. order ≡ passing.met ++ y ∷ rest in
-            let Q : ℕ → Type 0 = λ y. IsReady at frames s link (y ∷ rest) in
+            let Q : ℕ → Type 0 = λ y. IsWaiting at frames s link (y ∷ rest) in
             record { rest = rest; split = subst P same split; ready = subst Q same ready }
 
     pub target-there : {q x : ℕ} → IsPlan at q s → walk s ≡ order → IsTarget x → is_some (at x) ≡ true
@@ -481,7 +481,7 @@ module _ {at : Slots} {s : Shape} {order : List ℕ} where
 -- one entry more is met
 module _ {at : Slots} {s : Shape} {order : List ℕ} {frames : List Frame} {link target : Option ℕ} {position x : ℕ}
     (passing : IsPassing at frames s order link position target) (is : IsTarget passing x) (once : IsOnce order) {next : Option ℕ} (next_is : next ≡ following x order) where
-  pub IsPassing-next : {new : Slots} {frames' : List Frame} {link' : Option ℕ} → IsReady new frames' s link' is.rest → IsPassing new frames' s order link' (position + 1) next
+  pub IsPassing-next : {new : Slots} {frames' : List Frame} {link' : Option ℕ} → IsWaiting new frames' s link' is.rest → IsPassing new frames' s order link' (position + 1) next
   IsPassing-next ready = record {
     met = passing.met ++ x ∷ [];
     todo = is.rest;

@@ -3,16 +3,16 @@ use Rattle.std.proofs.Common.{◌≡◌, ◌≢◌, ℕ, ◌+◌, ◌<◌, ◌�
 use Rattle.std.proofs.lemmas.Bool.{cases_eq}
 use Rattle.ord_tree.specs.Slots.{Slots, Holds, Way, top, up, above, HoldsWay, here, times_in, times_way, back_at}
 use Rattle.ord_tree.specs.declared.tree_links.Side.TheVariants.{Lesser, Greater}
-use Rattle.ord_tree.specs.TreeLinks.{other_side, child_at, with_child_at, numbered}
+use Rattle.ord_tree.specs.TreeLinks.{other_side, child_at, with_child_at, as_numbers}
 use Rattle.ord_tree.specs.{Shape.Shape, Shape.missing, Shape.node, Shape.fork, Shape.root_of, declared.tree_links.TreeLinks.TreeLinks}
 use Rattle.ord_tree.specs.{declared.tree_links.Side.Side, Rotate.Site, Rotate.IsRotated}
 use Rattle.ord_tree.proofs.Forks.{HoldsFork-holds, Holds-fork, here-same, times_in-fork, apart-from, link-root, child-with_child, other_child-with_child, child-with_other, other_child-with_other}
 use Rattle.ord_tree.proofs.Frames.{root-in, Holds-frame, HoldsWay-frame, Holds-rehung, IsReplaced, HoldsWay-replaced}
 
 -- the numbers of links
-pub child-numbered : {I : Type 0} (number : I → ℕ) (side : Side) (n : TreeLinks I) → option_map number (child_at side n) ≡ child_at side (numbered number n)
-child-numbered number Lesser n = refl
-child-numbered number Greater n = refl
+pub child-as_numbers : {I : Type 0} (number : I → ℕ) (side : Side) (n : TreeLinks I) → option_map number (child_at side n) ≡ child_at side (as_numbers number n)
+child-as_numbers number Lesser n = refl
+child-as_numbers number Greater n = refl
 
 -- links with another parent and rank
 abbrev pub placed : Option ℕ → ℕ → TreeLinks ℕ → TreeLinks ℕ

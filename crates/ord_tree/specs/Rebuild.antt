@@ -69,7 +69,7 @@ pub record IsFinished (at : Slots) (frames : List Frame) (s : Shape) (link : Opt
   pub todo_is : ahead way ≡ todo
 
 -- so, and the innermost run waits for its middle
-pub record IsReady (at : Slots) (frames : List Frame) (s : Shape) (link : Option ℕ) (todo : List ℕ) : Type 0 where
+pub record IsWaiting (at : Slots) (frames : List Frame) (s : Shape) (link : Option ℕ) (todo : List ℕ) : Type 0 where
   pub finished : IsFinished at frames s link todo
   pub facing : IsFacing finished.way
 
@@ -85,4 +85,4 @@ pub record IsPassing (at : Slots) (frames : List Frame) (s : Shape) (order : Lis
   pub split : order ≡ met ++ todo
   pub count : length met ≡ position
   pub target_is : target ≡ list_head todo
-  pub ready : IsReady at frames s link todo
+  pub ready : IsWaiting at frames s link todo

@@ -19,8 +19,8 @@ with_child_at Lesser child n = record n { lesser = child }
 with_child_at Greater child n = record n { greater = child }
 
 -- the links with each index as its number
-abbrev pub numbered : {I : Type 0} → (I → ℕ) → TreeLinks I → TreeLinks ℕ
-numbered number n = record {
+abbrev pub as_numbers : {I : Type 0} → (I → ℕ) → TreeLinks I → TreeLinks ℕ
+as_numbers number n = record {
   back = option_map number n.back;
   lesser = option_map number n.lesser;
   greater = option_map number n.greater;

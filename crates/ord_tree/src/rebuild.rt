@@ -7,7 +7,7 @@ ghost use Rattle.ord_tree.specs.Slots.{Slots, Holds, times, IsOnce};
 ghost use Rattle.ord_tree.specs.Node.{indexes};
 ghost use Rattle.ord_tree.specs.Numbers.{IsTop};
 ghost use Rattle.ord_tree.specs.Half.{half_rank, IsHalf, IsRebuilt};
-ghost use Rattle.ord_tree.specs.Rebuild.{IsFew, IsPlan, IsUnopened, IsOpening, IsFinished, IsReady};
+ghost use Rattle.ord_tree.specs.Rebuild.{IsFew, IsPlan, IsUnopened, IsOpening, IsFinished, IsWaiting};
 
 use crate::nodes::{Nodes, hang};
 use crate::tree_links::{Side, TreeLinks};
@@ -62,7 +62,7 @@ pub fn open(stack: &mut Stack, start: usize, len: usize)
     requires { (at : Slots) × (s : Shape) × (top : ℕ) × (todo : List ℕ) × IsPlan at top s
         × IsOpening at stack.old.items s start len todo }
     ensures opened { (at : Slots) (s : Shape) (top : ℕ) (todo : List ℕ) → IsPlan at top s
-        → IsOpening at stack.old.items s start len todo → IsReady at stack.new.items s None todo }
+        → IsOpening at stack.old.items s start len todo → IsWaiting at stack.new.items s None todo }
     ensures few { (at : Slots) (s : Shape) (top : ℕ) (todo : List ℕ) → IsPlan at top s
         → IsOpening at stack.old.items s start len todo → IsFew stack.new.items s }
 {
@@ -88,11 +88,11 @@ pub fn meet<N: Nodes>(
     lesser: Option<N::Inx>,
 ) -> (usize, usize)
     requires { (s : Shape) × (todo : List ℕ) × IsPlan (N.at nodes.old) top s
-        × IsReady (N.at nodes.old) stack.old.items s
+        × IsWaiting (N.at nodes.old) stack.old.items s
         (option_map N.number lesser) (N.number x ∷ todo) }
     ensures plan { (s : Shape) → IsPlan (N.at nodes.old) top s → IsPlan (N.at nodes.new) top s }
     ensures met { (s : Shape) (todo : List ℕ) → IsPlan (N.at nodes.old) top s
-        → IsReady (N.at nodes.old) stack.old.items s
+        → IsWaiting (N.at nodes.old) stack.old.items s
         (option_map N.number lesser) (N.number x ∷ todo)
         → IsUnopened (N.at nodes.new) stack.new.items s (result.0) (result.1) todo }
     ensures few { array_vec_len stack.new ≡ array_vec_len stack.old }
@@ -133,7 +133,7 @@ pub fn close_one<N: Nodes>(
     ensures closed { (s : Shape) (top : ℕ) (todo : List ℕ) → IsPlan (N.at nodes.old) top s
         → IsFinished (N.at nodes.old) stack.old.items s (option_map N.number greater) todo
         → MatchOption result
-        (IsReady (N.at nodes.new) stack.new.items s (option_map N.number greater) todo)
+        (IsWaiting (N.at nodes.new) stack.new.items s (option_map N.number greater) todo)
         (λ m. IsFinished (N.at nodes.new) stack.new.items s (Some (N.number m)) todo) }
     ensures fewer { MatchOption result (stack.new ≡ stack.old)
         (λ m. array_vec_len stack.new < array_vec_len stack.old) }
@@ -155,7 +155,7 @@ pub fn close<N: Nodes>(nodes: &mut N, stack: &mut Stack) -> Option<N::Inx>
         → IsPlan (N.at nodes.new) top s }
     ensures closed { (s : Shape) (top : ℕ) (todo : List ℕ) → IsPlan (N.at nodes.old) top s
         → IsFinished (N.at nodes.old) stack.old.items s None todo
-        → IsReady (N.at nodes.new) stack.new.items s (option_map N.number result) todo }
+        → IsWaiting (N.at nodes.new) stack.new.items s (option_map N.number result) todo }
     ensures few { array_vec_len stack.new ≤ array_vec_len stack.old }
     ensures kept { N.list nodes.new ≡ N.list nodes.old }
 {
@@ -175,15 +175,15 @@ pub fn pass<N: Nodes>(
     lesser: Option<N::Inx>,
 ) -> Option<N::Inx>
     requires { (s : Shape) × (todo : List ℕ) × IsPlan (N.at nodes.old) top s
-        × IsReady (N.at nodes.old) stack.old.items s
+        × IsWaiting (N.at nodes.old) stack.old.items s
         (option_map N.number lesser) (N.number x ∷ todo) }
     ensures plan { (s : Shape) → IsPlan (N.at nodes.old) top s → IsPlan (N.at nodes.new) top s }
     ensures passed { (s : Shape) (todo : List ℕ) → IsPlan (N.at nodes.old) top s
-        → IsReady (N.at nodes.old) stack.old.items s
+        → IsWaiting (N.at nodes.old) stack.old.items s
         (option_map N.number lesser) (N.number x ∷ todo)
-        → IsReady (N.at nodes.new) stack.new.items s (option_map N.number result) todo }
+        → IsWaiting (N.at nodes.new) stack.new.items s (option_map N.number result) todo }
     ensures few { (s : Shape) (todo : List ℕ) → IsPlan (N.at nodes.old) top s
-        → IsReady (N.at nodes.old) stack.old.items s
+        → IsWaiting (N.at nodes.old) stack.old.items s
         (option_map N.number lesser) (N.number x ∷ todo)
         → IsFew stack.new.items s }
     ensures kept { N.list nodes.new ≡ N.list nodes.old }

@@ -1,7 +1,7 @@
 //! The tree links of a node, and what the repairs ask of whatever keeps the nodes.
 
 ghost use Rattle.std.specs.Prelude.{◌≡◌, ◌≢◌, ℕ, ◌↔◌, IsTrue, IsSome, Option, Some, option_map};
-ghost use Rattle.ord_tree.specs.TreeLinks.{other_side, child_at, with_child_at, numbered};
+ghost use Rattle.ord_tree.specs.TreeLinks.{other_side, child_at, with_child_at, as_numbers};
 
 /// A side of a node.
 #[derive(Clone, Copy, Debug, PartialEq, Eq)]

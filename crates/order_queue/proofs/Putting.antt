@@ -8,46 +8,16 @@ use Rattle.chain_base.specs.Chain.{Entry, Chain, times, item_of, IsSound, insert
 use Rattle.chain_base.specs.Insert.{IsInsertion}
 use Rattle.chain_base.proofs.CallerLemmas.{entry_at-absent}
 use Rattle.ord_tree.specs.Tree.{Tree}
-use Rattle.triple_ord.specs.Insertion.{Growth, within, reallocating, with_slot, InsertsBy, InsertsNew}
+use Rattle.triple_ord.specs.Insertion.{Growth, within, reallocating, with_room_by, InsertsBy, InsertsNew}
 use Rattle.triple_ord.specs.declared.entry_kind.OrdEntryKind.TheVariants.{New, Replacing}
 use Rattle.triple_ord.specs.{Gap.Gap, Gap.before, Gap.after, Gap.with_between, declared.entry_kind.OrdEntryKind.OrdEntryKind}
-use Rattle.triple_ord.specs.{EntryKind.pointer_of, Place.behind_key}
-use Rattle.triple_ord.proofs.CallerLemmas.{entries-with_slot}
+use Rattle.triple_ord.specs.{EntryKind.pointer_of_kind, Place.behind_key}
+use Rattle.triple_ord.proofs.CallerLemmas.{entries-with_room_by, numbers-with_room_by, capacity-with_room_by}
 use Rattle.order_queue.specs.Layout.{greatest_generation, most_price, rank_of, ranked, resting, queue_of, AreRanked, IsArenaOfOrders}
 use Rattle.order_queue.specs.Queue.{Rests, Updates, IsNoWorse, IsWorse, most_orders, grown}
 use Rattle.order_queue.specs.declared.side.Side.{Side}
 use Rattle.order_queue.proofs.Ranks.{no_worse-ranked, worse-ranked, ranked-twice, ranked-lawful, recursion-map, recursion-both, recursion-append, recursion-front, recursion-back, ranked-between, ranked-back, none-greater, all-greater}
 use Rattle.order_queue.proofs.{Leaving.told, Leaving.order_of-found, Naming.updates-rested}
-
--- a growth leaves generation and maximum
-numbers-with_slot : {T : Type 0} (growth : Growth) (most : ℕ) (c : Chain T) → ((with_slot growth most c).generation ≡ c.generation) × ((with_slot growth most c).maximum ≡ c.maximum)
-numbers-with_slot within most c = (refl, refl)
-numbers-with_slot reallocating most c = go (is_some (next_index c))
-  where
-    go : (b : Bool) → let grown = (if b then c else with_capacity c (grown_capacity most c)) in (grown.generation ≡ c.generation) × (grown.maximum ≡ c.maximum)
-    go true = (refl, refl)
-    go false = (refl, refl)
-
--- The capacity of a list with a slot for one entry more: it grew where there was none.
-module _ {T : Type 0} (most : ℕ) (c : Chain T) (counted : length c.entries + length c.vacant ≡ c.capacity) (unlimited : c.maximum ≡ None) where
-  abbrev wanted : ℕ
-  wanted = if nat_lt (length c.entries) c.capacity then c.capacity else min most (max 4 (2 * c.capacity))
-
-  roomy : (vacant : List ℕ) → length c.entries + length vacant ≡ c.capacity → is_some (slice_get vacant 0) ≡ true → c.capacity ≡ wanted
-  roomy [] all some = absurd (cc)
-  roomy (j ∷ rest) all some = rw (lt-ltb (length c.entries) c.capacity (omega (arith, all))) refl
-
-  full : (vacant : List ℕ) → length c.entries + length vacant ≡ c.capacity → is_some (slice_get vacant 0) ≡ false → grown_capacity most c ≡ wanted
-  full [] all none = rw (le-ltb (length c.entries) c.capacity (omega (arith, all)), unlimited) refl
-  full (j ∷ rest) all none = absurd (cc)
-
-  capacity-with_slot : (growth : Growth) (i : ℕ) → next_index (with_slot growth most c) ≡ Some i → (with_slot growth most c).capacity ≡ wanted
-  capacity-with_slot within i next = roomy c.vacant counted (ap is_some next)
-  capacity-with_slot reallocating i next = go (is_some (next_index c)) refl
-    where
-      go : (b : Bool) → is_some (next_index c) ≡ b → (if b then c else with_capacity c (grown_capacity most c)).capacity ≡ wanted
-      go true some = roomy c.vacant counted some
-      go false none = full c.vacant counted none
 
 -- what is true of each entry of a queue's arena
 abbrev IsLawful : Entry (ℕ × ℕ) → Type 0
@@ -59,7 +29,7 @@ module _ (growth : Growth) (old new : Tree (ℕ × ℕ)) (d quantity : ℕ) (p :
 
   -- the list with room for one more
   abbrev room : Chain (ℕ × ℕ)
-  room = with_slot growth most_orders old.list
+  room = with_room_by growth most_orders old.list
 
   -- the list with an entry in the gap, under this index and generation
   abbrev put_list : List ℕ → ℕ → ℕ → Chain (ℕ × ℕ)
@@ -80,7 +50,7 @@ module _ (growth : Growth) (old new : Tree (ℕ × ℕ)) (d quantity : ℕ) (p :
             (rest, after ∙ ap (λ i. put_list rest i room.generation) here ∙ ap (λ g. put_list rest p.0 g) (sym inserted.generation))
 
     numbers-put : (new.list.generation ≡ old.list.generation) × (new.list.maximum ≡ old.list.maximum)
-    numbers-put = let numbers = numbers-with_slot growth most_orders old.list in
+    numbers-put = let numbers = numbers-with_room_by growth most_orders old.list in
         (ap (λ (c : Chain (ℕ × ℕ)). c.generation) after-put.1 ∙ numbers.0, ap (λ (c : Chain (ℕ × ℕ)). c.maximum) after-put.1 ∙ numbers.1)
 
     entries-put : new.list.entries ≡ gap.front ++ entry ∷ gap.back
@@ -111,11 +81,11 @@ module _ (growth : Growth) (old new : Tree (ℕ × ℕ)) (d quantity : ℕ) (p :
       -- the capacity grows where there was no room
       capacity-put : new.list.capacity ≡ (if nat_lt (length (queue_of side old).orders) old.list.capacity then old.list.capacity else grown old.list.capacity)
       capacity-put =
-          ap (λ (c : Chain (ℕ × ℕ)). c.capacity) after-put.1 ∙ capacity-with_slot most_orders old.list sound.counted holds.unlimited growth p.0 inserted.next
+          ap (λ (c : Chain (ℕ × ℕ)). c.capacity) after-put.1 ∙ capacity-with_room_by growth most_orders old.list sound.counted holds.unlimited (ap is_some inserted.next)
           ∙ ap (λ n. if nat_lt n old.list.capacity then old.list.capacity else grown old.list.capacity) (sym (length-map old.list.entries (resting side)))
 
       absent-put : item_of old.list.entries p ≡ None
-      absent-put = rw (entry_at-absent old.list.entries p.0 (ap (times p.0) (sym (entries-with_slot growth most_orders old.list)) ∙ inserted.vacant.free)) refl
+      absent-put = rw (entry_at-absent old.list.entries p.0 (ap (times p.0) (sym (entries-with_room_by growth most_orders old.list)) ∙ inserted.vacant.free)) refl
 
       pub rests-put : Rests (queue_of side old) (ranked side d) quantity p (queue_of side new)
       rests-put = record {
@@ -129,7 +99,7 @@ module _ (growth : Growth) (old new : Tree (ℕ × ℕ)) (d quantity : ℕ) (p :
             (λ e worse. worse) gap.back (recursion-both (λ (e : Entry (ℕ × ℕ)). d < e.item.0) IsLawful (λ (e : Entry (ℕ × ℕ)). IsWorse side (ranked side e.item.0) (ranked side d))
             (λ e more bounded. worse-ranked side e.item.0 d bounded.0 more) gap.back greater-behind (recursion-back IsLawful gap.front gap.back lawful));
         unused = order_of-found side old.list.entries sound.distinct p ∙ ap (option_map (told side)) absent-put;
-        of_generation = inserted.generation ∙ (numbers-with_slot growth most_orders old.list).0;
+        of_generation = inserted.generation ∙ (numbers-with_room_by growth most_orders old.list).0;
         generation = numbers-put.0;
         side = refl;
         capacity = capacity-put;
@@ -142,7 +112,7 @@ module _ {P T K : Type 0} (key : T → K) (cmp : K → K → Ordering) (most : �
   IsNew p = InsertsNew key cmp most growth (behind_key k) old item p new
 
   pub inserts-new : (told : OrdEntryKind P × Option T) → InsertsBy key cmp most growth (behind_key k) numbers old item (Ok told) new
-      → IsNew (numbers (pointer_of told.0))
+      → IsNew (numbers (pointer_of_kind told.0))
   inserts-new (New p, None) inserts = inserts
   inserts-new (New p, Some before) inserts = absurd inserts
   inserts-new (Replacing p, None) inserts = absurd inserts

@@ -3,7 +3,7 @@ use Rattle.std.proofs.Common.{◌≡◌, ◌≢◌, ℕ, ◌<◌, ◌≤◌, Lis
 use Rattle.std.proofs.lemmas.Bool.Decides.{nat_tests}
 use Rattle.std.specs.{declared.cmp.Ordering.TheVariants.Less, List.AllByRecursion, Ordering.nat_cmp}
 use Rattle.chain_base.specs.Chain.{Entry}
-use Rattle.triple_ord.specs.Gap.{first_of, last_or}
+use Rattle.triple_ord.specs.Gap.{first_of, last_of}
 use Rattle.order_queue.specs.{declared.side.Side.TheVariants.Buy, declared.side.Side.TheVariants.Sell, declared.side.Side.Side}
 use Rattle.order_queue.specs.Layout.{most_price, ranked, resting, AreRanked}
 use Rattle.order_queue.specs.Queue.{IsNoWorse, IsWorse, IsInOrder}
@@ -79,7 +79,7 @@ module _ (e : Entry (ℕ × ℕ)) (fs : Entries) (above : AllByRecursion (λ (f 
       (recursion-append P es (e ∷ fs) (recursion-front P es fs sorted.0) (below.0, recursion-back P es fs sorted.0), ranked-between es sorted.1 below.1)
 
 -- where the last of a front isn't of a greater rank than this, none of it is
-pub none-greater : (d : ℕ) (es fs : Entries) → AreRanked (es ++ fs) → IfSome (last_or None es) (λ e. nat_cmp d e.item.0 ≢ Less)
+pub none-greater : (d : ℕ) (es fs : Entries) → AreRanked (es ++ fs) → IfSome (last_of None es) (λ e. nat_cmp d e.item.0 ≢ Less)
     → AllByRecursion (λ (f : Entry (ℕ × ℕ)). f.item.0 ≤ d) es
 none-greater d [] fs sorted last = tt
 none-greater d (e ∷ []) fs sorted last = (grind (arith, nat_tests, last), tt)

@@ -5,7 +5,7 @@ use Rattle.std.specs.{declared.cmp.Ordering.TheVariants.Less, declared.cmp.Order
 use Rattle.std.specs.{Option.option_map, Ordering.nat_cmp}
 use Rattle.chain_base.specs.Chain.{Entry, IsDistinct, entry_at, without}
 use Rattle.ord_tree.specs.Tree.{Tree}
-use Rattle.triple_ord.specs.{Insertion.within, Insertion.InsertsBy, Insertion.told, Gap.Gap, Gap.before, Gap.after, Gap.last_or}
+use Rattle.triple_ord.specs.{Insertion.within, Insertion.InsertsBy, Insertion.told, Gap.Gap, Gap.before, Gap.after, Gap.last_of}
 use Rattle.triple_ord.specs.{Search.IsFirstEqual, Place.at_key}
 use Rattle.triple_ord.proofs.KeptOrder.{listed-new}
 use Rattle.timeline.specs.Layout.{change, told_of, changes_of, earlier, later, last_value, IsChanged, IsLastUntil, IsTakenOut}
@@ -25,11 +25,11 @@ module _ {V : Type 0} where
   value_of None = None
   value_of (Some e) = e.item.1
 
-  last-changed : (es : List (Entry (ℕ × Option V))) → last_value None (map change es) ≡ value_of (last_or None es)
+  last-changed : (es : List (Entry (ℕ × Option V))) → last_value None (map change es) ≡ value_of (last_of None es)
   last-changed [] = refl
   last-changed (e ∷ es) = go e es
     where
-      go : (d : Entry (ℕ × Option V)) (es : List (Entry (ℕ × Option V))) → last_value d.item.1 (map change es) ≡ value_of (last_or (Some d) es)
+      go : (d : Entry (ℕ × Option V)) (es : List (Entry (ℕ × Option V))) → last_value d.item.1 (map change es) ≡ value_of (last_of (Some d) es)
       go d [] = refl
       go d (e ∷ es) = go e es
 
@@ -99,7 +99,7 @@ module _ {V : Type 0} where
         let at : e.item.0 ≡ t = grind (arith, nat_tests, found.equal) in
         (all-back _ (map change found.gap.front) (change e ∷ map change back.0) (subst (AllByRecursion (λ (c : Change V). c.time ≢ t)) cut apart)).0 at
 
-    before-last : (es : List (Entry (ℕ × Option V))) → IsRising (map change es) → IfSome (last_or None es) (λ e. nat_cmp t e.item.0 ≡ Greater) → AreBefore t (map change es)
+    before-last : (es : List (Entry (ℕ × Option V))) → IsRising (map change es) → IfSome (last_of None es) (λ e. nat_cmp t e.item.0 ≡ Greater) → AreBefore t (map change es)
     before-last [] all last = tt
     before-last (e ∷ []) all last = (grind (arith, nat_tests, last), tt)
     before-last (e ∷ f ∷ es) all last =

@@ -3,10 +3,10 @@ use Rattle.std.proofs.Common.{◌≡◌, ◌≢◌, ℕ, ◌<◌, ◌≤◌, ◌
 use Rattle.std.proofs.{lemmas.List.map-append, lemmas.List.append_assoc, lemmas.Bool.Decides.nat_tests, lemmas.Grind.common_steps}
 use Rattle.std.specs.declared.cmp.Ordering.TheVariants.{Less, Equal, Greater}
 use Rattle.std.specs.{declared.cmp.Ordering.Ordering, List.AllByRecursion, Option.option_map, Ordering.nat_cmp}
-use Rattle.chain_base.specs.Chain.{Entry, times, IsDistinct, entry_at, link_between, link_at, first_or, last_or as last_index_or, without}
+use Rattle.chain_base.specs.Chain.{Entry, times, IsDistinct, entry_at, link_between, link_at, first_or, last_or, without}
 use Rattle.chain_base.specs.Link.{Link}
 use Rattle.chain_base.proofs.CallerLemmas.{times-append}
-use Rattle.triple_ord.specs.Gap.{Gap, before, after, first_of, last_or}
+use Rattle.triple_ord.specs.Gap.{Gap, before, after, first_of, last_of}
 use Rattle.triple_ord.specs.Search.{IsFirstEqual, IsBeside, FindsSimilar}
 use Rattle.triple_ord.proofs.Inserting.{entry_at-after}
 use Rattle.timeline.specs.{Layout.change, Layout.told_of, Layout.IsLastUntil, Timeline.Change, Timeline.IsRising}
@@ -14,25 +14,25 @@ use Rattle.timeline.proofs.Cutting.{AreUntil, AreAfter, rising-front, rising-bac
 
 module _ {X : Type 0} where
   -- a list whose last is this ends with it
-  pub ends-with : (xs : List X) (x : X) → last_or None xs ≡ Some x → (front : List X) × (xs ≡ front ++ x ∷ [])
+  pub ends-with : (xs : List X) (x : X) → last_of None xs ≡ Some x → (front : List X) × (xs ≡ front ++ x ∷ [])
   ends-with [] x is = absurd (cc)
   ends-with (y ∷ xs) x is = go y xs is
     where
-      go : (y : X) (xs : List X) → last_or (Some y) xs ≡ Some x → (front : List X) × (y ∷ xs ≡ front ++ x ∷ [])
+      go : (y : X) (xs : List X) → last_of (Some y) xs ≡ Some x → (front : List X) × (y ∷ xs ≡ front ++ x ∷ [])
       go y [] is = ([], let same : y ≡ x = cc in ap (λ z. z ∷ []) same)
       go y (z ∷ xs) is = let rest = go z xs is in (y ∷ rest.0, ap (λ zs. y ∷ zs) rest.1)
 
   -- a list without a last is empty
-  pub none-last : (xs : List X) → last_or None xs ≡ None → xs ≡ []
+  pub none-last : (xs : List X) → last_of None xs ≡ None → xs ≡ []
   none-last [] is = refl
   none-last (y ∷ xs) is = absurd (go y xs is)
     where
-      go : (y : X) (xs : List X) → last_or (Some y) xs ≡ None → ⊥
+      go : (y : X) (xs : List X) → last_of (Some y) xs ≡ None → ⊥
       go y [] is = cc
       go y (z ∷ xs) is = go z xs is
 
   -- the last of a list with one more behind
-  pub last-behind : (o : Option X) (xs : List X) (x : X) → last_or o (xs ++ x ∷ []) ≡ Some x
+  pub last-behind : (o : Option X) (xs : List X) (x : X) → last_of o (xs ++ x ∷ []) ≡ Some x
   last-behind o [] x = refl
   last-behind o (y ∷ xs) x = last-behind (Some y) xs x
 
@@ -48,11 +48,11 @@ none-mapped f (Some x) is = absurd (cc)
 
 module _ {T : Type 0} where
   -- the index of the last entry
-  last-index : (es : List (Entry T)) → last_index_or None es ≡ option_map (λ e. e.index) (last_or None es)
+  last-index : (es : List (Entry T)) → last_or None es ≡ option_map (λ e. e.index) (last_of None es)
   last-index [] = refl
   last-index (e ∷ es) = go e es
     where
-      go : (d : Entry T) (es : List (Entry T)) → last_index_or (Some d.index) es ≡ option_map (λ e. e.index) (last_or (Some d) es)
+      go : (d : Entry T) (es : List (Entry T)) → last_or (Some d.index) es ≡ option_map (λ e. e.index) (last_of (Some d) es)
       go d [] = refl
       go d (e ∷ es) = go e es
 
@@ -66,7 +66,7 @@ module _ {T : Type 0} where
     linked prev = record { item = e.item; prev = prev; next = first_or next back }
 
     link-here : (prev : Option ℕ) (front : List (Entry T)) → times e.index front ≡ 0
-        → link_between prev next (front ++ e ∷ back) e.index ≡ Some (e.generation, linked (last_index_or prev front))
+        → link_between prev next (front ++ e ∷ back) e.index ≡ Some (e.generation, linked (last_or prev front))
     link-here prev [] unmet = grind (arith, common_steps)
     link-here prev (f ∷ front) unmet = grind (arith, common_steps, link-here (Some f.index) front)
 
@@ -115,7 +115,7 @@ module _ {T : Type 0} where
 
 module _ {V : Type 0} where
   -- where the last of a rising list isn't later than a time, none of it is
-  until-last : (t : ℕ) (es : List (Entry (ℕ × Option V))) → IsRising (map change es) → IfSome (last_or None es) (λ e. e.item.0 ≤ t) → AreUntil t (map change es)
+  until-last : (t : ℕ) (es : List (Entry (ℕ × Option V))) → IsRising (map change es) → IfSome (last_of None es) (λ e. e.item.0 ≤ t) → AreUntil t (map change es)
   until-last t [] rising last = tt
   until-last t (e ∷ []) rising last = (last, tt)
   until-last t (e ∷ f ∷ es) rising last =
@@ -139,7 +139,7 @@ module _ {V : Type 0} where
     pub until : AreUntil t (map change gap.front)
     pub after : AreAfter t (map change gap.back)
     pub behind : order ≡ Less → first_of gap.back ≡ Some e
-    pub here : order ≢ Less → last_or None gap.front ≡ Some e
+    pub here : order ≢ Less → last_of None gap.front ≡ Some e
 
   module _ (es : List (Entry (ℕ × Option V))) (rising : IsRising (map change es)) (t : ℕ) (e : Entry (ℕ × Option V)) where
     abbrev time_of : ℕ × Option V → ℕ

@@ -4,7 +4,7 @@ use Rattle.ord_tree.specs.Node.{bare_entry, links_in, slots_of, indexes}
 use Rattle.ord_tree.specs.{Parents.HasParentUnder, Slots.Slots, Slots.Holds, Slots.Among, declared.tree_links.TreeLinks.TreeLinks}
 use Rattle.triple_ord.proofs.Words.{◌≡◌, ℕ, ◌↔◌, length, List, [], ◌∷◌, ◌++◌, Option, Some, None, IsSome, IfSome, is_some, refl, sym, ap}
 use Rattle.triple_ord.proofs.Words.{subst, ◌∙◌, inl, inr, ◌⊎◌, map, length-map, nil_from_length, option_map, Arena, slot, item_if, Link}
-use Rattle.triple_ord.proofs.Words.{IsSoundTree, IsPart, IsNodeIn, IsShown, entry_at-link, entry_at-bare, arith, common_steps, is_some-bare}
+use Rattle.triple_ord.proofs.Words.{IsSoundTree, IsPart, IsNodeIn, IsNodeAt, entry_at-link, entry_at-bare, arith, common_steps, is_some-bare}
 use Rattle.triple_ord.proofs.Words.{IsLastIndex, IsArenaOf, SimpleOrdArenaNode, Shape, missing, node, root_of, walk, Tree, IsChainOf}
 use Rattle.triple_ord.proofs.Words.{Entry, Chain, entry_at, link_between, link_at, last_pointer, times, generation_at, IsFirstIndex}
 use Rattle.triple_ord.proofs.Words.{times-bare, indexes-bare}
@@ -147,7 +147,7 @@ module _ {P T I G : Type 0} (t : Tree T) (c : Chain (SimpleOrdArenaNode P T I G)
 
   -- it shows the entry, and the roots of its sides
   pub shown-under : (i : ℕ) (e : ℕ × SimpleOrdArenaNode P T I G) → entry_at c.entries i ≡ Some e
-      → IsShown t i e.0 e.1.t e.1.p_tree0 e.1.p_tree1
+      → IsNodeAt t i e.0 e.1.t e.1.p_tree0 e.1.p_tree1
   shown-under i e is = record {
     entry = entry_at-under t c under i ∙ rw is refl;
     lesser_root = λ l r k part. (held_at i e is l r k part).2;

@@ -7,7 +7,7 @@ use Rattle.chain_base.specs.{Chain.entry_at as entry_among, Clone.taken_over}
 use Rattle.ord_tree.specs.Clone.{ShowsItem, IsClone, IsRefusedClone}
 use Rattle.triple_ord.proofs.Words.{OrdInsertionError, ◌≡◌, ◌≢◌, ℕ, ◌+◌, List, [], ◌∷◌, ◌++◌, length, Option, Some, None, IsSome, is_some}
 use Rattle.triple_ord.proofs.Words.{slice_get, map, length-append, IfSome, IfNone, OnSome, Ok, refl, sym, ap, subst, ◌∙◌, arith, inl, inr}
-use Rattle.triple_ord.proofs.Words.{beside, Place, into, over, IsPlace, aim_of, Growth, with_slot, InsertsBy, told, OrdEntryKind, New}
+use Rattle.triple_ord.proofs.Words.{beside, Place, into, over, IsPlace, aim_of, Growth, with_room_by, InsertsBy, told, OrdEntryKind, New}
 use Rattle.triple_ord.proofs.Words.{Tree, IsGrown, with_item, Gap, with_between, Equal, pointer, FindsKey, FindsSimilar, Aim, at_key}
 use Rattle.triple_ord.proofs.Words.{Replacing, OrdInsertKind, item_of, items, count, Updates, Renews, FindsBy, IsOfGeneration, IsNumbered}
 use Rattle.triple_ord.proofs.Words.{eq-eqb, cases_eq, option_map, Ordering, next_generation, item_if, Entry, Chain, times}
@@ -19,9 +19,10 @@ use Rattle.triple_ord.proofs.Words.{length-with_generation, entry_at-between_oth
 use Rattle.triple_ord.proofs.Words.{entry_at-without, length-without, entry_at-with_item_among_other, entry_at-with_item_among}
 use Rattle.triple_ord.proofs.Words.{length-with_item_among, entry_at-with_generation_other, entry_at-with_generation}
 use Rattle.triple_ord.proofs.Inserting.{entry_at-after, similar-here, IsInsertion-same}
-use Rattle.triple_ord.proofs.Words.{common_steps, refused-some, Shape}
-use Rattle.triple_ord.specs.{Arena.entry_at, Clone.cloned, Clone.emptied, Entry.InsertsThere, Entry.Awaits, Entry.IsEntryFor}
-use Rattle.triple_ord.specs.{EntryKind.pointer_of, declared.insert_kind.OrdInsertKind.TheVariants.Normal}
+use Rattle.triple_ord.proofs.Words.{common_steps, refused-some, Shape, within, reallocating, next_index, true}
+use Rattle.chain_base.proofs.CallerLemmas.{roomy_capacity, capacity-vacant, capacity-with_room}
+use Rattle.triple_ord.specs.{Arena.entry_at, Clone.cloned, Clone.refused_clone, Entry.InsertsThere, Entry.Awaits, Entry.IsEntryFor}
+use Rattle.triple_ord.specs.{EntryKind.pointer_of_kind, declared.insert_kind.OrdInsertKind.TheVariants.Normal}
 
 -- what an entry shows to its own generation, and to others
 pub item_if-own : {T : Type 0} (g : ℕ) (o : Option T) → item_if g (option_map (λ x. (g, x)) o) ≡ o
@@ -159,8 +160,18 @@ module _ {T : Type 0} where
     count-renewed None after same = ap count same
     count-renewed (Some q) after same = ap count after ∙ length-with_generation old.list.entries p.0 (next_generation greatest old.list.generation)
 
-pub entries-with_slot : {T : Type 0} (growth : Growth) (most : ℕ) (c : Chain T) → (with_slot growth most c).entries ≡ c.entries
-entries-with_slot growth most c = grind (arith, common_steps)
+-- room for one entry more changes neither the entries nor generation and maximum; without a maximum the capacity grows where none is vacant
+module _ {T : Type 0} where
+  pub entries-with_room_by : (growth : Growth) (most : ℕ) (c : Chain T) → (with_room_by growth most c).entries ≡ c.entries
+  entries-with_room_by growth most c = grind (arith, common_steps)
+
+  pub numbers-with_room_by : (growth : Growth) (most : ℕ) (c : Chain T) → let d = with_room_by growth most c in (d.generation ≡ c.generation) × (d.maximum ≡ c.maximum)
+  numbers-with_room_by growth most c = (grind (arith, common_steps), grind (arith, common_steps))
+
+  pub capacity-with_room_by : (growth : Growth) (most : ℕ) (c : Chain T) → length c.entries + length c.vacant ≡ c.capacity → c.maximum ≡ None
+      → is_some (next_index (with_room_by growth most c)) ≡ true → (with_room_by growth most c).capacity ≡ roomy_capacity most c
+  capacity-with_room_by within most c counted unlimited some = capacity-vacant most c counted some
+  capacity-with_room_by reallocating most c counted unlimited some = capacity-with_room most c counted unlimited
 
 -- an insertion through an entry that was asked for is one step over its place
 module _ {T K : Type 0} (key : T → K) (cmp : K → K → Ordering) where
@@ -207,7 +218,7 @@ module _ {T K : Type 0} (key : T → K) (cmp : K → K → Ordering) where
   -- the same by the item's key, told by the pointer and the item that was replaced
   module _ {P I G : Type 0} (numbers : P → ℕ × ℕ) (number : I → ℕ) (growth : Growth) (most : ℕ) (old arena new : Tree T)
       (distinct : IsDistinct old.list.entries) (k : K) (shown : OrdEntryKind P) (put : Entry T → List (Entry T)) (visits : ℕ) (item : T)
-      (before : Option T) (p : P) (key_is : k ≡ key item) (pointer_is : p ≡ pointer_of shown)
+      (before : Option T) (p : P) (key_is : k ≡ key item) (pointer_is : p ≡ pointer_of_kind shown)
       (asked : IsEntryFor numbers {G = G} key cmp number growth most (Normal k) old shown put visits arena) where
     abbrev InsertsKey : K → Result (OrdEntryKind P × Option T) OrdInsertionError → Type 0
     InsertsKey k answer = InsertsBy key cmp most growth (at_key k) numbers old item answer new
@@ -216,7 +227,7 @@ module _ {T K : Type 0} (key : T → K) (cmp : K → K → Ordering) where
     entry-told there = rw (← key_is) (go shown before pointer_is
         (entry-inserts numbers number growth most (Normal k) old arena new distinct shown put visits item before asked there))
       where
-        go : (shown : OrdEntryKind P) (before : Option T) → p ≡ pointer_of shown → InsertsKey k (Ok (shown, before))
+        go : (shown : OrdEntryKind P) (before : Option T) → p ≡ pointer_of_kind shown → InsertsKey k (Ok (shown, before))
             → InsertsKey k (told (Ok (p, before)))
         go (New q) None is ins = rw is ins
         go (Replacing q) (Some before) is ins = rw is ins
@@ -314,9 +325,9 @@ module _ {P T F : Type 0} (numbers : P → ℕ × ℕ) (step : F → P → Bor T
       ∙ ap (λ (s : Shape). record { list = taken_over source.list old.list source.list.entries; shape = s }) h.shape
 
 module _ {P T F : Type 0} (numbers : P → ℕ × ℕ) (step : F → P → Bor T → Result T AllocError → F → Type 0) where
-  pub clone-emptied : (f : F) (source old new : Tree T) → IsRefusedClone numbers step f source old new
-      → (0 < count source) × (new ≡ emptied source old)
-  clone-emptied f source old new h = (
+  pub clone-refused_clone : (f : F) (source old new : Tree T) → IsRefusedClone numbers step f source old new
+      → (0 < count source) × (new ≡ refused_clone source old)
+  clone-refused_clone f source old new h = (
     refused-some numbers (ShowsItem step) f source.list old.list new.list h.list,
     ap (λ (l : Chain _). record { list = l; shape = new.shape }) h.list.after
         ∙ ap (λ (s : Shape). record { list = taken_over source.list old.list []; shape = s }) h.shape,

@@ -3,15 +3,15 @@ use Rattle.std.proofs.{Common.Contains, Math.Pow.pow_mono}
 use Rattle.ord_tree.specs.Laws.{HeightLaw, RankSquareLaw, TightRankLaw, RebuiltHeightLaw}
 use Rattle.triple_ord.proofs.Words.{length-append, ◌≡◌, ◌≢◌, ℕ, false, ◌+◌, ◌-◌, ◌≤◌, List, [], ◌∷◌, ◌++◌, Option, Some, None, IsSome}
 use Rattle.triple_ord.proofs.Words.{IfSome, MatchOption, refl, sym, ap, subst, ◌∙◌, arith, inl, inr, max, map, length, append_assoc}
-use Rattle.triple_ord.proofs.Words.{Shape, missing, node, root_of, walk, height, Tree, Gap, first_of, last_or, order_to, pointer, StopsAt}
+use Rattle.triple_ord.proofs.Words.{Shape, missing, node, root_of, walk, height, Tree, Gap, first_of, last_of, order_to, pointer, StopsAt}
 use Rattle.triple_ord.proofs.Words.{is_eq, ordering_then, Ordering, Less, Equal, Greater, Entry, times, IsDistinct, entry_at, times-append}
 use Rattle.triple_ord.proofs.Words.{All-contains, before, after, present, met_next, IsCompared, HasDescendedByKey, zero, suc, ◌^◌, ◌<◌}
 use Rattle.triple_ord.proofs.Words.{length-map, IsSound, size_of, rank_of, fib, IsSoundTree, size_of-walk, height-le-size, common_steps}
 use Rattle.triple_ord.proofs.Words.{FoldsTo-push, append-nil, length_push, map_push, All-nil, All-cons, All-head, All-tail, All-push}
 use Rattle.triple_ord.proofs.Words.{FindsSimilar, IsPart, Shown, entries_of, but_last, IsSearch, where_equal, similar_of, FindsWith}
-use Rattle.triple_ord.proofs.Words.{FindsSimilarWith, IsShown, side_of, IsDescending, HasDescended, get_or, cases_eq, get_or_default}
+use Rattle.triple_ord.proofs.Words.{FindsSimilarWith, IsNodeAt, side_of, IsDescending, HasDescended, get_or, cases_eq, get_or_default}
 use Rattle.triple_ord.proofs.Words.{Contains-append_left, Contains-append_right, Contains-push, IfSome_then, All, FoldsTo, option_map}
-use Rattle.triple_ord.proofs.Inserting.{last_or-append, no_first, no_last, entry_at-here}
+use Rattle.triple_ord.proofs.Inserting.{last_of-append, no_first, no_last, entry_at-here}
 use Rattle.triple_ord.proofs.Words.{limit_of-below, IsWithinBounds, VisitsLaw}
 
 -- the sides of a part are parts
@@ -150,10 +150,10 @@ module _ {T : Type 0} (t : Tree T) (distinct : IsDistinct t.list.entries) (shown
         within = inside_more Equal;
         different = λ j. omega (arith, new_more Equal j);
         equal_last = rw (but_last-push shown (step-entry, Equal)) d.no_equal;
-        ends = inl (step-entry, last_or-append None shown (step-entry, Equal) []);
+        ends = inl (step-entry, last_of-append None shown (step-entry, Equal) []);
       }
 
-  module _ (generation : ℕ) (item : T) (lesser greater : Option ℕ) (there : IsShown t i generation item lesser greater) where
+  module _ (generation : ℕ) (item : T) (lesser greater : Option ℕ) (there : IsNodeAt t i generation item lesser greater) where
     step-named : ◌≡◌ {A = ℕ × T} (step-entry.generation, step-entry.item) (generation, item)
     step-named = let h = step-found in let s = there.entry in cc
 
@@ -178,9 +178,9 @@ module _ {T : Type 0} (t : Tree T) (distinct : IsDistinct t.list.entries) (shown
         back = step-entry ∷ (face.cut.back ++ d.back);
         cut = whole ∙ simp append_assoc;
         left = face.cut.low_is;
-        greater_before = IfSome_then (last_or None d.front) d.greater_before (λ e. Contains-append_left shown ((step-entry, Less) ∷ []) (e, Greater));
+        greater_before = IfSome_then (last_of None d.front) d.greater_before (λ e. Contains-append_left shown ((step-entry, Less) ∷ []) (e, Greater));
         less_after = Contains-push shown (step-entry, Less);
-        last_beside = rw last_or-append (inr refl);
+        last_beside = rw last_of-append (inr refl);
         few = omega (arith, d.few, tall, length_push shown (step-entry, Less));
         new = λ j. omega (arith, new_more Less j);
         inside = inside_more Less;
@@ -191,7 +191,7 @@ module _ {T : Type 0} (t : Tree T) (distinct : IsDistinct t.list.entries) (shown
 
     step-greater : (e : IsDescending t.list.entries t.shape (more Greater) greater) × (first_of e.back ≡ first_of d.back)
     step-greater =
-        let before = last_or-append None (d.front ++ face.cut.front) step-entry [] in (
+        let before = last_of-append None (d.front ++ face.cut.front) step-entry [] in (
           record {
             part = face.greater;
             within = (IsPart-sides t.shape face.lesser face.greater i face.rank part_here).1;
@@ -203,7 +203,7 @@ module _ {T : Type 0} (t : Tree T) (distinct : IsDistinct t.list.entries) (shown
             left = face.cut.high_is;
             greater_before = rw before (Contains-push shown (step-entry, Greater));
             less_after = IfSome_then (first_of d.back) d.less_after (λ e. Contains-append_left shown ((step-entry, Greater) ∷ []) (e, Less));
-            last_beside = rw (last_or-append None shown (step-entry, Greater) [], before) (inl refl);
+            last_beside = rw (last_of-append None shown (step-entry, Greater) [], before) (inl refl);
             few = omega (arith, d.few, tall, length_push shown (step-entry, Greater));
             new = λ j. omega (arith, new_more Greater j);
             inside = inside_more Greater;
@@ -234,11 +234,11 @@ module _ {T : Type 0} (es : List (Entry T)) (shape : Shape) (shown : List (Shown
     equal_last = All-but_last (λ (s : Shown T). s.1 ≢ Equal) shown d.no_equal;
     ends =
         let gap : Gap es = record { front = d.front; back = d.back; cut = cut_there } in
-        inr (gap, record { greater_before = d.greater_before; less_after = d.less_after; last_beside = IfSome-from_match (last_or None shown) _ _ d.last_beside });
+        inr (gap, record { greater_before = d.greater_before; less_after = d.less_after; last_beside = IfSome-from_match (last_of None shown) _ _ d.last_beside });
   }
 
   -- nothing was shown in an empty list alone
-  pub descent-empty : (last : Option (Shown T)) → last_or None shown ≡ last → MatchOption (similar_of last) (es ≡ []) (λ a. Unit {0})
+  pub descent-empty : (last : Option (Shown T)) → last_of None shown ≡ last → MatchOption (similar_of last) (es ≡ []) (λ a. Unit {0})
   descent-empty None is = let none = rw is at d.last_beside in rw (cut_there, no_last d.front none.0, no_first d.back none.1) refl
   descent-empty (Some s) is = tt
 
@@ -255,14 +255,14 @@ module _ {T F : Type 0} (asks : F → Shown T → F → Type 0) (t : Tree T) (di
     pub descent-ends : HasDescended asks t.list.entries t.shape before f g None visits last
         → FindsSimilarWith asks t.list.entries f g last (visits - before)
     descent-ends d = (
-      last_or None d.shown,
+      last_of None d.shown,
       record { shown = d.shown; calls = d.calls; search = descent-search t.list.entries t.shape d.shown d.descending; last_is = refl; count = omega (arith, d.count) },
       d.last_is,
-      rw d.last_is (descent-empty t.list.entries t.shape d.shown d.descending (last_or None d.shown) refl),
+      rw d.last_is (descent-empty t.list.entries t.shape d.shown d.descending (last_of None d.shown) refl),
     )
 
   module _ (g : F) (i visits : ℕ) (last : Option ((ℕ × ℕ) × Ordering)) (d : HasDescended asks t.list.entries t.shape before f g (Some i) visits last)
-      (generation : ℕ) (item : T) (lesser greater : Option ℕ) (there : IsShown t i generation item lesser greater) where
+      (generation : ℕ) (item : T) (lesser greater : Option ℕ) (there : IsNodeAt t i generation item lesser greater) where
     abbrev entry : Entry T
     entry = step-entry t distinct d.shown i d.descending
 
@@ -271,12 +271,12 @@ module _ {T F : Type 0} (asks : F → Shown T → F → Type 0) (t : Tree T) (di
       calls_more = FoldsTo-push asks f d.shown g (entry, o) h d.calls
           (asked entry (step-pointer t distinct d.shown i d.descending generation item lesser greater there) (step-item t distinct d.shown i d.descending generation item lesser greater there))
 
-      last_more : Some ((i, generation), o) ≡ similar_of (last_or None (d.shown ++ (entry, o) ∷ []))
-      last_more = rw (last_or-append None d.shown (entry, o) [], step-pointer t distinct d.shown i d.descending generation item lesser greater there) refl
+      last_more : Some ((i, generation), o) ≡ similar_of (last_of None (d.shown ++ (entry, o) ∷ []))
+      last_more = rw (last_of-append None d.shown (entry, o) [], step-pointer t distinct d.shown i d.descending generation item lesser greater there) refl
 
       pub step-equal : o ≡ Equal → FindsSimilarWith asks t.list.entries f h (Some ((i, generation), o)) (visits + 1 - before)
       step-equal is = (
-        last_or None (d.shown ++ (entry, o) ∷ []),
+        last_of None (d.shown ++ (entry, o) ∷ []),
         record {
           shown = d.shown ++ (entry, o) ∷ [];
           calls = calls_more;
@@ -370,7 +370,7 @@ module _ {T K : Type 0} (key : T → K) (cmp : K → K → Ordering) (t : Tree T
           turned = All-push Turned d.shown (compared, ordering_then o Less) d.turned (rw entry_order refl);
           descending = step.0;
           count = omega (arith, d.count, length_push d.shown (compared, ordering_then o Less));
-          last_is = rw last_or-append (sym entry_is);
+          last_is = rw last_of-append (sym entry_is);
           met_is = rw step.1 (met_step o entry_is);
         })
 
@@ -398,7 +398,7 @@ module _ {T K : Type 0} (key : T → K) (cmp : K → K → Ordering) (t : Tree T
 
     -- the entry behind the gap, if any, isn't equal, so the gap fits
     pub by_key-other : met ≡ None → FindsSimilar key cmp t.list.entries k last (visits - start)
-    by_key-other is = go (last_or None d.shown) refl
+    by_key-other is = go (last_of None d.shown) refl
       where
         unequal : (q : ℕ × ℕ) (o : Ordering) → None ≡ where_equal (Some (q, o)) → is_eq o ≡ false
         unequal q o same = grind (arith, common_steps)
@@ -416,7 +416,7 @@ module _ {T K : Type 0} (key : T → K) (cmp : K → K → Ordering) (t : Tree T
           seen = omega (arith, neighbours_shown d.shown (before end) (after end) d.descending.greater_before d.descending.less_after, d.count);
         }
 
-        go : (o : Option (Shown T)) → last_or None d.shown ≡ o → FindsSimilar key cmp t.list.entries k last (visits - start)
+        go : (o : Option (Shown T)) → last_of None d.shown ≡ o → FindsSimilar key cmp t.list.entries k last (visits - start)
         go None none = rw (d.last_is, none) (descent-empty t.list.entries t.shape d.shown d.descending None none)
         go (Some s) some = rw (d.last_is, some) (s.0, refl, inr (end, stops, rw some at d.descending.last_beside))
 

@@ -5,36 +5,36 @@ use Rattle.triple_ord.proofs.Words.{◌≡◌, ℕ, List, [], ◌∷◌, ◌++�
 use Rattle.triple_ord.proofs.Words.{position_of, ◌≢◌, true, false, ◌≤◌, sym, ◌∙◌, ◌⊎◌, append_assoc, is_eq, Ordering, Less, Equal}
 use Rattle.triple_ord.proofs.Words.{common_steps, option_map, Link, Entry, times, IsDistinct, entry_at, link_between, link_at, from_index}
 use Rattle.triple_ord.proofs.Words.{Greater, Gap, order_to, IsFirstEqual, StopsAt, IsBeside, FindsKey, FindsSimilar, where_equal, Chain}
-use Rattle.triple_ord.proofs.Words.{insert_after, insert_before, with_item_among, times-append, entry_at-between, first_of, last_or}
+use Rattle.triple_ord.proofs.Words.{insert_after, insert_before, with_item_among, times-append, entry_at-between, first_of, last_of}
 use Rattle.triple_ord.proofs.Words.{IsInsertion, put_on, before, after, with_between}
 
 module _ {X : Type 0} where
-  pub last_or-append : (other : Option X) (xs : List X) (x : X) (ys : List X) → last_or other (xs ++ x ∷ ys) ≡ last_or (Some x) ys
-  last_or-append other [] x ys = refl
-  last_or-append other (y ∷ xs) x ys = last_or-append (Some y) xs x ys
+  pub last_of-append : (other : Option X) (xs : List X) (x : X) (ys : List X) → last_of other (xs ++ x ∷ ys) ≡ last_of (Some x) ys
+  last_of-append other [] x ys = refl
+  last_of-append other (y ∷ xs) x ys = last_of-append (Some y) xs x ys
 
   -- what begins a list, and what ends one
   pub begins : (xs : List X) (x : X) → first_of xs ≡ Some x → (ys : List X) × (xs ≡ x ∷ ys)
   begins [] x is = absurd (cc)
   begins (y ∷ ys) x is = (ys, cc)
 
-  ends_with : (other : Option X) (y : X) (ys : List X) (x : X) → last_or other (y ∷ ys) ≡ Some x → (front : List X) × (y ∷ ys ≡ front ++ x ∷ [])
+  ends_with : (other : Option X) (y : X) (ys : List X) (x : X) → last_of other (y ∷ ys) ≡ Some x → (front : List X) × (y ∷ ys ≡ front ++ x ∷ [])
   ends_with other y [] x is = ([], cc)
   ends_with other y (z ∷ zs) x is = let rest = ends_with (Some y) z zs x is in (y ∷ rest.0, ap (λ xs. y ∷ xs) rest.1)
 
-  pub ends : (xs : List X) (x : X) → last_or None xs ≡ Some x → (front : List X) × (xs ≡ front ++ x ∷ [])
+  pub ends : (xs : List X) (x : X) → last_of None xs ≡ Some x → (front : List X) × (xs ≡ front ++ x ∷ [])
   ends [] x is = absurd (cc)
   ends (y ∷ ys) x is = ends_with None y ys x is
 
   -- a list with an element has a first and a last one
-  pub some_last : (x : X) (xs : List X) → (y : X) × (last_or (Some x) xs ≡ Some y)
+  pub some_last : (x : X) (xs : List X) → (y : X) × (last_of (Some x) xs ≡ Some y)
   some_last x [] = (x, refl)
   some_last x (y ∷ ys) = some_last y ys
 
   pub no_first : (xs : List X) → first_of xs ≡ None → xs ≡ []
   no_first xs none = grind (arith, common_steps)
 
-  pub no_last : (xs : List X) → last_or None xs ≡ None → xs ≡ []
+  pub no_last : (xs : List X) → last_of None xs ≡ None → xs ≡ []
   no_last [] none = refl
   no_last (x ∷ xs) none = absurd (let last = (some_last x xs).1 in cc)
 
@@ -84,7 +84,7 @@ module _ {T : Type 0} where
   module _ (e : Entry T) (back : List (Entry T)) where
     abbrev IsLinkedBehind : Option (Entry T) → List (Entry T) → Type 0
     IsLinkedBehind o front =
-        link_between (option_map (λ x. x.index) o) None (front ++ e ∷ back) e.index ≡ Some (entry_link (last_or o front) e (first_of back))
+        link_between (option_map (λ x. x.index) o) None (front ++ e ∷ back) e.index ≡ Some (entry_link (last_of o front) e (first_of back))
 
     link_here : (o : Option (Entry T)) (front : List (Entry T)) → times e.index front ≡ 0 → IsLinkedBehind o front
     link_here o [] none = grind (arith, common_steps)
@@ -94,7 +94,7 @@ module _ {T : Type 0} where
   pub record IsLinked (front : List (Entry T)) (e : Entry T) (back : List (Entry T)) (g : ℕ) (l : Link T) : Type 0 where
     pub generation : e.generation ≡ g
     pub item : e.item ≡ l.item
-    pub prev : option_map (λ e. e.index) (last_or None front) ≡ l.prev
+    pub prev : option_map (λ e. e.index) (last_of None front) ≡ l.prev
     pub next : option_map (λ e. e.index) (first_of back) ≡ l.next
 
   -- an entry of a list in which each index stands once
@@ -125,7 +125,7 @@ module _ {T : Type 0} where
     link-read g l is =
         let here = link_here e back None front not_before in
         let found = rw cut at is in
-        let read : entry_link (last_or None front) e (first_of back) ≡ (g, l) = cc in
+        let read : entry_link (last_of None front) e (first_of back) ≡ (g, l) = cc in
         record { generation = ap (λ x. x.0) read; item = ap (λ x. x.1.item) read; prev = ap (λ x. x.1.prev) read; next = ap (λ x. x.1.next) read }
 
 pub equal_by : (o : Ordering) → is_eq o ≡ true → o ≡ Equal

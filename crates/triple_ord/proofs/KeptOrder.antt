@@ -1,7 +1,7 @@
 -- An insertion by a key leaves a list in the order of its keys so.
 use Rattle.triple_ord.proofs.Words.{arith, ◌≡◌, ◌≢◌, ℕ, List, [], ◌∷◌, ◌++◌, Option, Some, None, IfSome, Result, Ok, Err, refl, sym, ap}
 use Rattle.triple_ord.proofs.Words.{Less, Equal, Greater, Entry, Chain, IsDistinct, inserted_at, with_item_among, IsInsertion, Tree, Gap}
-use Rattle.triple_ord.proofs.Words.{first_of, last_or, before, after, with_between, IsFirstEqual, IsInOrder, Aim, into, over, LiesBehind}
+use Rattle.triple_ord.proofs.Words.{first_of, last_of, before, after, with_between, IsFirstEqual, IsInOrder, Aim, into, over, LiesBehind}
 use Rattle.triple_ord.proofs.Words.{subst, ◌∙◌, inl, inr, slice_get, IfSome_then, IsTotalOrder, alike_right, ordering_reverse, Ordering}
 use Rattle.triple_ord.proofs.Words.{IsPlace, InsertsBy, GoesBy, KeptOrderLaw, OrdEntryKind, New, Replacing, OrdInsertionError}
 use Rattle.triple_ord.proofs.OrderLaws.{IsInOrder-rest, in_order-one, in_order-more}
@@ -24,7 +24,7 @@ module _ {T K : Type 0} (key : T → K) (cmp : K → K → Ordering) (total : Is
   -- a new entry between one that isn't greater and one that isn't lesser
   module _ (e : Entry T) where
     abbrev LiesBetween : List (Entry T) → List (Entry T) → Type 0
-    LiesBetween front back = IfSome (last_or None front) (λ f. cmp (key f.item) (key e.item) ≢ Greater)
+    LiesBetween front back = IfSome (last_of None front) (λ f. cmp (key f.item) (key e.item) ≢ Greater)
         × IfSome (first_of back) (λ f. cmp (key e.item) (key f.item) ≢ Greater)
 
     in_order-between : (front back : List (Entry T)) → IsInOrder key cmp (front ++ back) → LiesBetween front back → IsInOrder key cmp (front ++ e ∷ back)

@@ -3,7 +3,7 @@ use Rattle.ord_tree.specs.Half.{IsHalf, half_rank}
 use Rattle.triple_ord.proofs.Words.{◌≡◌, ◌≢◌, refl, Ordering, Less, Equal, Greater, taken, Ties, Sought, Passed, ◌↔◌, true, false, ◌<◌, ◌≤◌}
 use Rattle.triple_ord.proofs.Words.{List, [], ◌∷◌, ◌++◌, IfSome, None, length, sym, ap, subst, ◌∙◌, arith, inl, inr, length-append}
 use Rattle.triple_ord.proofs.Words.{order_to, Fits, IsInOrder, ℕ, Some, ◌/◌, ◌-◌, cases_order, Contains, All-from_recursion, All-contains}
-use Rattle.triple_ord.proofs.Words.{AllByRecursion, IsTotalOrder, alike_right, ordering_reverse, is_gt, Entry, Gap, first_of, last_or}
+use Rattle.triple_ord.proofs.Words.{AllByRecursion, IsTotalOrder, alike_right, ordering_reverse, is_gt, Entry, Gap, first_of, last_of}
 use Rattle.triple_ord.proofs.Words.{recursion_from_All, All-append, All-weaker, IfSome_then, FoldsTo, option_map, common_steps, before}
 use Rattle.triple_ord.proofs.Words.{Contains-append_cases, Contains-append_right, IsTop, Shape, missing, node, size_of, IsFirstEqual}
 use Rattle.triple_ord.proofs.Words.{IsAbsent, AbsentKeyLaw, IsPlaceOf, BesidePlaceLaw, ranks_of, SameRanksLaw, Option, append_assoc}
@@ -85,7 +85,7 @@ module _ {T K : Type 0} (key : T → K) (cmp : K → K → Ordering) where
     abbrev IsAnswered : Ordering → Entry T → Type 0
     IsAnswered o e = order_to key cmp k e ≡ o
 
-    pub all_greater : (front back : List (Entry T)) → IsInOrder key cmp (front ++ back) → IfSome (last_or None front) (λ e. IsAnswered Greater e)
+    pub all_greater : (front back : List (Entry T)) → IsInOrder key cmp (front ++ back) → IfSome (last_of None front) (λ e. IsAnswered Greater e)
         → AllByRecursion (λ e. IsAnswered Greater e) front
     all_greater [] back order last = tt
     all_greater (e ∷ []) back order last = (last, tt)
@@ -178,14 +178,14 @@ pub same_ranks : SameRanksLaw
 same_ranks s t a b same = same_half s t b.0 (subst (λ q. IsHalf q s) (same_top (size_of s) (size_of t) a.0 b.0 same a.1 b.1) a.2) b.2 same
 
 -- what is true of each is true of the last
-last_holds : {X : Type 0} (P : X → Type 0) (other : Option X) (xs : List X) → IfSome other P → AllByRecursion P xs → IfSome (last_or other xs) P
+last_holds : {X : Type 0} (P : X → Type 0) (other : Option X) (xs : List X) → IfSome other P → AllByRecursion P xs → IfSome (last_of other xs) P
 last_holds P other [] is all = is
 last_holds P other (x ∷ xs) is all = last_holds P (Some x) xs all.0 all.1
 
 -- of a list whose one part is so throughout, and whose other part isn't, all before one that is so are so, and all behind one
 module _ {X : Type 0} (P Q : X → Type 0) (apart : (x : X) → P x → Q x → ⊥) where
   all_before : (low high front back : List X) → low ++ high ≡ front ++ back → AllByRecursion P low → AllByRecursion Q high
-      → IfSome (last_or None front) P → AllByRecursion P front
+      → IfSome (last_of None front) P → AllByRecursion P front
   all_before low high [] back cut lows highs last = tt
   all_before (y ∷ low) high (x ∷ []) back cut lows highs last = (last, tt)
   all_before (y ∷ low) high (x ∷ (z ∷ front)) back cut lows highs last =
@@ -246,7 +246,7 @@ module _ {T F : Type 0} (asks : F → Shown T → F → Type 0) (answer : Entry 
     answered : (s : Shown T) → Contains shown s → answer s.0 ≡ s.1
     answered s has = sym (All-contains (λ s. s.1 ≡ answer s.0) shown s (All-from_recursion _ shown answers) has)
 
-    found_by : (last : Option (Shown T)) → last_or None shown ≡ last → found ≡ option_map pointer (where_equal last)
+    found_by : (last : Option (Shown T)) → last_of None shown ≡ last → found ≡ option_map pointer (where_equal last)
     found_by last is = finds.2 ∙ ap (λ l. option_map pointer (where_equal l)) (finds.1.last_is ∙ is)
 
     nothing : found ≡ None → (e : Entry T) → Contains entries e → answer e ≢ Equal
@@ -258,9 +258,9 @@ module _ {T F : Type 0} (asks : F → Shown T → F → Type 0) (answer : Entry 
     ]
 
     is_none : ((e : Entry T) → Contains entries e → answer e ≢ Equal) → found ≡ None
-    is_none none = go (last_or None shown) refl
+    is_none none = go (last_of None shown) refl
       where
-        go : (last : Option (Shown T)) → last_or None shown ≡ last → found ≡ None
+        go : (last : Option (Shown T)) → last_of None shown ≡ last → found ≡ None
         go None is = found_by None is
         go (Some s) is =
             let said : s.1 ≡ answer s.0 = rw is at (last_holds (λ s. s.1 ≡ answer s.0) None shown tt answers) in

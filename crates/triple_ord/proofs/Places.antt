@@ -2,14 +2,14 @@
 use Rattle.triple_ord.proofs.Words.{◌≡◌, ◌≢◌, ◌==◌, if◌then◌else◌, IfNone, is_some, ℕ, ◌+◌, ◌≤◌, false, true, length, List, [], ◌∷◌, ◌++◌}
 use Rattle.triple_ord.proofs.Words.{Option, Some, None, IsSome, Result, Ok, Err, IfErr, refl, sym, ap, ◌∙◌, arith, append_assoc, eq-eqb}
 use Rattle.triple_ord.proofs.Words.{after, with_between, FindsSimilar, taken, Ties, Sought, Passed, Aim, alone, at_key, behind_key, beside}
-use Rattle.triple_ord.proofs.Words.{Place, into, over, nowhere, IsPlace, aim_of, Growth, within, reallocating, slice_get_cases, with_slot}
+use Rattle.triple_ord.proofs.Words.{Place, into, over, nowhere, IsPlace, aim_of, Growth, within, reallocating, slice_get_cases, with_room_by}
 use Rattle.triple_ord.proofs.Words.{Entry, Chain, entry_at, next_index, IsDistinct, IsSound, IsInsertion, Tree, IsGrown, put_on, put_at}
-use Rattle.triple_ord.proofs.Inserting.{last_or-append, stands, HasPlace, place-alone, similar-placed, similar-occupied, similar-here}
+use Rattle.triple_ord.proofs.Inserting.{last_of-append, stands, HasPlace, place-alone, similar-placed, similar-occupied, similar-here}
 use Rattle.triple_ord.proofs.Words.{nat_tests, nil_from_length, IfSome_then, option_map, is_eq, Ordering, Less, Equal, Greater, IsErrAnd}
 use Rattle.triple_ord.proofs.Words.{with_item, item_of, count, Updates, IsNearHint, IsWithinBounds, IsWithinHintedBounds, Gap, before}
 use Rattle.triple_ord.proofs.Words.{LacksSlot, IsRefused, InsertsBeside, OrdInsertKind, OrdInsertionError, NotWithinCapacity, common_steps}
 use Rattle.triple_ord.proofs.Inserting.{similar-first, similar-seen, not_equal, IsInsertion-same, puts-before, puts-after}
-use Rattle.triple_ord.proofs.CallerLemmas.{entries-with_slot, updates-written, count-written, inserted-new}
+use Rattle.triple_ord.proofs.CallerLemmas.{entries-with_room_by, updates-written, count-written, inserted-new}
 use Rattle.triple_ord.proofs.OrderLaws.{taken-less, taken-greater, passed-unequal}
 use Rattle.triple_ord.specs.declared.prepared.InsertPlace.{InsertPlace, TheVariants.New, TheVariants.Replacing}
 use Rattle.triple_ord.specs.Prepared.{Keeps, IsFoundPlace, IsPlaceBeside, IsPlaceFor, HasRoomAt, kind_by, kind_near}
@@ -35,7 +35,7 @@ module _ {T K : Type 0} (key : T → K) (cmp : K → K → Ordering) (es : List 
   on-side Greater other =
       let s = stands es i there in
       let gap : Gap es = record { front = s.front ++ s.entry ∷ []; back = s.back; cut = s.cut ∙ simp append_assoc } in
-      let last = last_or-append None s.front s.entry [] in
+      let last = last_of-append None s.front s.entry [] in
       record { gap = gap; at = rw last s.here; puts = λ new. rw s.here at (puts-after es s.entry distinct gap last new) }
 
 module _ {P T K : Type 0} (numbers : P → ℕ × ℕ) (key : T → K) (cmp : K → K → Ordering) (t : Tree T) where
@@ -192,11 +192,11 @@ module _ {T : Type 0} (most : ℕ) (old new : Tree T) (distinct : IsDistinct old
     side : OnSide (λ (item : T). tt {0}) (λ k l. Equal) old.list.entries distinct i occupied o
     side = on-side (λ (item : T). tt {0}) (λ k l. Equal) old.list.entries distinct i occupied o other
 
-    pub beside-inserted : (p : ℕ × ℕ) → IsInsertion (with_slot reallocating most old.list) new.list (put_on o i old.list.entries) item p.0 p.1
+    pub beside-inserted : (p : ℕ × ℕ) → IsInsertion (with_room_by reallocating most old.list) new.list (put_on o i old.list.entries) item p.0 p.1
         → IsGrown old.shape new.shape → IsBesideDone o None
     beside-inserted p inserted grown =
         let there = IsInsertion-same _ _ _ _ item _ _ side.puts inserted in
-        let done = inserted-new old new (with_slot reallocating most old.list) (entries-with_slot reallocating most old.list) side.gap item p there in
+        let done = inserted-new old new (with_room_by reallocating most old.list) (entries-with_room_by reallocating most old.list) side.gap item p there in
         record { inserts = (p, record { gap = side.gap; place = side.at; inserted = there; grown = grown }); updates = (p, done.1); counted = done.2 }
 
     module _ (f : OrdInsertionError) (lacks : LacksSlot reallocating most old.list f) (same : new ≡ old) where

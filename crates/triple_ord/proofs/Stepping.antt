@@ -2,38 +2,38 @@
 use Rattle.std.proofs.Math.Nat.{pow-le-pow_left}
 use Rattle.triple_ord.proofs.Words.{◌≡◌, ◌≢◌, ℕ, true, false, not, ◌==◌, ◌+◌, ◌≤◌, List, [], ◌∷◌, ◌++◌, Option, Some, None, IsSome, IfSome}
 use Rattle.triple_ord.proofs.Words.{length, refl, sym, ap, ◌∙◌, arith, inl, inr, ◌⊎◌, append_assoc, length-append, option_map, IsTotalOrder}
-use Rattle.triple_ord.proofs.Words.{entry_at, link_at, Gap, first_of, last_or, present, order_to, pointer, Fits, FindsSimilar, IsInOrder}
-use Rattle.triple_ord.proofs.Inserting.{last_or-append, begins, ends, some_last, stands, IsLinked, link-read, entry_at-here}
+use Rattle.triple_ord.proofs.Words.{entry_at, link_at, Gap, first_of, last_of, present, order_to, pointer, Fits, FindsSimilar, IsInOrder}
+use Rattle.triple_ord.proofs.Inserting.{last_of-append, begins, ends, some_last, stands, IsLinked, link-read, entry_at-here}
 use Rattle.triple_ord.proofs.Words.{is_eq, ordering_index, ordering_reverse, Ordering, Less, Equal, Greater, Link, Entry, IsDistinct}
 use Rattle.triple_ord.proofs.Words.{common_steps, Shape, IsFirstEqual, IsBeside, IsWithinBounds, IsWithinHintedBounds, IsNearHint, Settles}
 use Rattle.triple_ord.proofs.Words.{position_of, way_length, neighbour_towards, CameFrom, IsStepping, ◌-◌, ◌^◌, IfNone, is_some}
 use Rattle.triple_ord.proofs.Words.{IsNear, times, entry_at-link, occurs-entry, Bool, map, reverse, reverse-append, eqb_tells}
 use Rattle.triple_ord.proofs.Words.{option_and_then, times-append, Tree, item_of}
 use Rattle.triple_ord.proofs.{Inserting.from_index-here, Inserting.no_last, OrderLaws.stands-before, OrderLaws.stands-behind}
-use Rattle.triple_ord.specs.{OrderedWalk.ordered_rest, OrderedWalk.GivesEntry, Walk.entries_from, Walk.IsWalking}
+use Rattle.triple_ord.specs.{OrderedWalk.ordered_rest, OrderedWalk.GivesEntry, Walk.entries_left, Walk.IsWalking}
 
-first-reverse : {X : Type 0} (xs : List X) (o : Option X) → last_or None xs ≡ o → first_of (reverse xs) ≡ o
+first-reverse : {X : Type 0} (xs : List X) (o : Option X) → last_of None xs ≡ o → first_of (reverse xs) ≡ o
 first-reverse xs None is = ap (λ ys. first_of (reverse ys)) (no_last xs is)
 first-reverse xs (Some x) is = let front = ends xs x is in ap (λ ys. first_of (reverse ys)) front.1 ∙ ap first_of (reverse-append front.0 (x ∷ []))
 
 module _ {T : Type 0} where
   -- the entries from an entry's neighbour on
   follows : (es front : List (Entry T)) (e : Entry T) (back : List (Entry T)) → IsDistinct es → es ≡ front ++ e ∷ back
-      → entries_from es (option_map (λ e. e.index) (first_of back)) ≡ back
+      → entries_left es (option_map (λ e. e.index) (first_of back)) ≡ back
   follows es front e [] distinct cut = refl
   follows es front e (f ∷ back) distinct cut = from_index-here es distinct (front ++ e ∷ []) f back (cut ∙ simp append_assoc)
 
   module _ (es front : List (Entry T)) (e : Entry T) (back : List (Entry T)) (i g : ℕ) (item : T) (next : Option ℕ)
       (distinct : IsDistinct es) (cut : es ≡ front ++ e ∷ back) (index : e.index ≡ i) (era : e.generation ≡ g) (same : e.item ≡ item) where
     at_entry : option_map (λ e. e.index) (first_of back) ≡ next
-        → entries_from es (Some i) ≡ record { index = i; generation = g; item = item } ∷ entries_from es next
+        → entries_left es (Some i) ≡ record { index = i; generation = g; item = item } ∷ entries_left es next
     at_entry after =
         rw (← index, ← era, ← same, ← after, follows es front e back distinct cut) (from_index-here es distinct front e back cut)
 
   -- the entry that is shown at an index, and then the entries from its neighbour on
   module _ (es : List (Entry T)) (i g : ℕ) (l : Link T) (distinct : IsDistinct es) where
     pub walk-step : Some (g, l) ≡ link_at es i
-        → entries_from es (Some i) ≡ record { index = i; generation = g; item = l.item } ∷ entries_from es l.next
+        → entries_left es (Some i) ≡ record { index = i; generation = g; item = l.item } ∷ entries_left es l.next
     walk-step found =
         let s = stands es i (rw (entry_at-link None None es i, ← found) refl) in
         let linked = link-read es distinct s.front s.entry s.back s.cut g l (ap (link_at es) s.here ∙ sym found) in
@@ -49,14 +49,14 @@ module _ {T : Type 0} where
       rw goes record { distinct = walking.distinct; counted = omega (arith, walking.counted, ap length (walk-step es i g l walking.distinct found)) }
 
   -- from an index without an entry nothing is left
-  pub from-absent : (i : ℕ) (es : List (Entry T)) → times i es ≡ 0 → entries_from es (Some i) ≡ []
+  pub from-absent : (i : ℕ) (es : List (Entry T)) → times i es ≡ 0 → entries_left es (Some i) ≡ []
   from-absent i [] none = refl
   from-absent i (e ∷ es) none = grind (arith, common_steps, from-absent i es)
 
   pub link-absent : (es : List (Entry T)) (i : ℕ) → None ≡ link_at es i → times i es ≡ 0
   link-absent es i missing = grind (arith, common_steps, occurs-entry es i, entry_at-link None None es i)
 
-  pub walk-end : (es : List (Entry T)) (i : ℕ) → None ≡ link_at es i → entries_from es (Some i) ≡ []
+  pub walk-end : (es : List (Entry T)) (i : ℕ) → None ≡ link_at es i → entries_left es (Some i) ≡ []
   walk-end es i missing = from-absent i es (link-absent es i missing)
 
   -- A list of entries from its end: each entry's neighbours change places. So a walk back along a list is one along the list from its end.
@@ -92,7 +92,7 @@ module _ {T : Type 0} where
             stood = refl;
             there = there;
             first = ap (map pointer) (at_entry (reverse a.list.entries) (reverse s.back) s.entry (reverse s.front) i g l.item l.prev distinct-reverse cut
-                s.here linked.generation linked.item (ap (option_map (λ e. e.index)) (first-reverse s.front (last_or None s.front) refl) ∙ linked.prev));
+                s.here linked.generation linked.item (ap (option_map (λ e. e.index)) (first-reverse s.front (last_of None s.front) refl) ∙ linked.prev));
             stands = ap (λ o. record { at = o; falling = true }) (ap (option_and_then (λ (e : ℕ × Link T). e.1.prev)) found);
           }
 
@@ -104,7 +104,7 @@ module _ {T : Type 0} where
 after-count : {X : Type 0} (back : List X) → (present (first_of back) ≡ 1) ⊎ ((present (first_of back) ≡ 0) × (length back ≡ 0))
 after-count back = grind (arith, common_steps)
 
-before-count : {X : Type 0} (front : List X) → (present (last_or None front) ≡ 1) ⊎ ((present (last_or None front) ≡ 0) × (length front ≡ 0))
+before-count : {X : Type 0} (front : List X) → (present (last_of None front) ≡ 1) ⊎ ((present (last_of None front) ≡ 0) × (length front ≡ 0))
 before-count [] = inr (refl, refl)
 before-count (x ∷ front) = inl (ap present (some_last x front).1)
 
@@ -150,7 +150,7 @@ module _ {T K : Type 0} (key : T → K) (cmp : K → K → Ordering) (es : List 
     place-greater came from ahead = omega arith
 
     -- where the order turns, the steps came from the entry on the other side; else there is none
-    low-answered : (came : Ordering) → CameHere came → (o : Option (Entry T)) → last_or None front ≡ o
+    low-answered : (came : Ordering) → CameHere came → (o : Option (Entry T)) → last_of None front ≡ o
         → HasTurned came Less (option_map (λ e. e.index) o) → IsAnswered Greater o
     low-answered came from None is turned = (tt, omega arith)
     low-answered Greater from (Some f) is turned = let same : from.0 ≡ f = (let both = from.1 in cc) in (rw same at from.2, from.3)
@@ -177,7 +177,7 @@ module _ {T K : Type 0} (key : T → K) (cmp : K → K → Ordering) (es : List 
       pub stepping-goes : (o : Ordering) → o ≡ cmp k (key l.item) → (j : ℕ) → neighbour_towards l o ≡ Some j → o ≢ ordering_reverse came
           → IsStepping key cmp es k start j (visits + 1) o
       stepping-goes Less order j next ahead =
-          let n = read_index (last_or None s.front) j (linked.prev ∙ next) in
+          let n = read_index (last_of None s.front) j (linked.prev ∙ next) in
           let end = ends s.front n.0 n.1 in
           let place = place-less start visits s.front s.back came s.from ahead in
           let length-front = ap length end.1 ∙ length-append end.0 (n.0 ∷ []) in
@@ -202,7 +202,7 @@ module _ {T K : Type 0} (key : T → K) (cmp : K → K → Ordering) (es : List 
             back = begin.0;
             cut = s.cut ∙ (ap (λ (xs : List (Entry T)). s.front ++ s.entry ∷ xs) begin.1 ∙ simp append_assoc);
             here = n.2;
-            from = (s.entry, last_or-append None s.front s.entry [], stepping-order Greater order, omega arith, omega (arith, place, length-append s.front (s.entry ∷ [])));
+            from = (s.entry, last_of-append None s.front s.entry [], stepping-order Greater order, omega arith, omega (arith, place, length-append s.front (s.entry ∷ [])));
             within = s.within;
             few = omega (arith, place, ap length s.cut, length-append s.front (s.entry ∷ s.back), ap length begin.1);
           }
@@ -214,13 +214,13 @@ module _ {T K : Type 0} (key : T → K) (cmp : K → K → Ordering) (es : List 
       pub stepping-settles : (o : Ordering) → o ≡ cmp k (key l.item) → is_eq o ≡ false → HasTurned came o (neighbour_towards l o)
           → FindsSimilar key cmp es k (Some ((i, generation), o)) (visits + 1)
       stepping-settles Less order other turned =
-          let low = low-answered start visits s.front s.back came s.from (last_or None s.front) refl (rw (← linked.prev) at turned) in
+          let low = low-answered start visits s.front s.back came s.from (last_of None s.front) refl (rw (← linked.prev) at turned) in
           let gap : Gap es = record { front = s.front; back = s.entry ∷ s.back; cut = s.cut } in
           (s.entry, rw (named, stepping-order Less order) refl, inr (gap, record { fits = record { lesser_before = low.0; greater_after = stepping-order Less order }; seen = omega (arith, low.1) }, inr refl))
       stepping-settles Equal order other turned = absurd (cc)
       stepping-settles Greater order other turned =
           let high = high-answered start visits s.front s.back came s.from (first_of s.back) refl (rw (← linked.next) at turned) in
-          let last = last_or-append None s.front s.entry [] in
+          let last = last_of-append None s.front s.entry [] in
           let gap : Gap es = record { front = s.front ++ s.entry ∷ []; back = s.back; cut = s.cut ∙ simp append_assoc } in
           (s.entry, rw (named, stepping-order Greater order) refl, inr (gap, record { fits = record { lesser_before = rw last (stepping-order Greater order); greater_after = high.0 }; seen = rw last (omega (arith, high.1)) }, inl last))
 

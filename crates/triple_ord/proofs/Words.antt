@@ -5,14 +5,13 @@ pub use Rattle.std.proofs.Common.{Bool, slice_get, length-append, IfNone, OnSome
 pub use Rattle.std.proofs.Common.{reverse, replicate, max, add-one, MatchOption, set, ◌/◌, ◌==◌, IfErr, not, rules, of_calls}
 pub use Rattle.std.proofs.lemmas.Bool.{eq-eqb, cases_eq, false≢true, cases_order, cases_lt}
 pub use Rattle.std.proofs.lemmas.Bool.Decides.{eqb_tells, nat_tests, leb_tells}
-pub use Rattle.std.proofs.lemmas.{Fn.FoldsTo-push, Grind.common_steps}
+pub use Rattle.std.proofs.lemmas.{Fn.FoldsTo-push, Grind.common_steps, Result.IfOk-weaker, Result.MatchResult-weaker}
 pub use Rattle.std.proofs.lemmas.List.{length-map, nil_from_length, same_lists, get_or_default, take-map, drop-map, append-nil, length_push}
 pub use Rattle.std.proofs.lemmas.List.{map_push, take-set-le, drop-set-lt, drop_more, drop_all, reverse-append}
 pub use Rattle.std.proofs.lemmas.List.Elements.{recursion_from_All, All-from_recursion, All-append, All-weaker, All-contains}
 pub use Rattle.std.proofs.lemmas.List.Elements.{Contains-append_cases, All-nil, All-cons, All-head, All-tail, All-push}
 pub use Rattle.std.proofs.lemmas.List.Elements.{Contains-append_left, Contains-append_right, Contains-push}
 pub use Rattle.std.proofs.lemmas.Option.{IfSome_then, slice_get_cases, slice_get_past}
-pub use Rattle.std.proofs.lemmas.Result.{IfOk-weaker, MatchResult-weaker}
 pub use Rattle.std.specs.Cmp.{IsTotalOrder, alike_right, Lexicographic.slice_cmp, Lexicographic.pointwise, Lexicographic.slice_partial_cmp}
 pub use Rattle.std.specs.{List.All, List.AllByRecursion, List.Contains, List.FoldsTo, Option.option_map, Option.option_and_then}
 pub use Rattle.std.specs.Ordering.{is_eq, ordering_then, ordering_reverse, is_gt, ordering_index}
@@ -36,20 +35,18 @@ pub use Rattle.chain_base.specs.Chain.{greatest_index, from_index, insert_after,
 pub use Rattle.chain_base.specs.Compression.{moved, at_compressed_index, numbered, Transferring, TransferStep, IsTransfer, entry_before}
 pub use Rattle.chain_base.specs.{Compression.rising_among, Compression.entries_rising, Insert.IsInsertion, Link.Link}
 pub use Rattle.ord_tree.proofs.CallerLemmas.{entry_at-bare, is_some-bare, times-bare, indexes-bare, size_of-walk, height-le-size}
-pub use Rattle.ord_tree.specs.Numbers.{fib, IsTop}
+pub use Rattle.ord_tree.specs.{Numbers.fib, Numbers.IsTop, declared.node.SimpleOrdArenaNode.SimpleOrdArenaNode}
 pub use Rattle.ord_tree.specs.Shape.{Shape, missing, node, root_of, walk, size_of, rank_of, height}
 pub use Rattle.ord_tree.specs.Tree.{Tree, IsChainOf, IsSoundTree, IsGrown, with_item, put_on, put_at, IsShrunk}
-pub use Rattle.ord_tree.specs.declared.node.SimpleOrdArenaNode.{SimpleOrdArenaNode}
 pub use Rattle.triple_ord.specs.Arena.{item_of, items, count, Updates, Renews, FindsBy, IsOfGeneration, IsNumbered, FindsNothing}
 pub use Rattle.triple_ord.specs.ClosureSearch.{Shown, where_equal, FindsWith, entries_of, but_last, IsSearch, similar_of, FindsSimilarWith}
 pub use Rattle.triple_ord.specs.{ClosureSearch.Asks, Content.slots_from, Content.content_of}
 pub use Rattle.triple_ord.specs.ContentLaws.{slot_is, item_is, len_is, length-slots, slots-within, slots-beyond, outside, content_removed}
-pub use Rattle.triple_ord.specs.ContentLaws.{lawful_is, capacity-within}
-pub use Rattle.triple_ord.specs.Descent.{IsShown, side_of, IsDescending, HasDescended, met_next, IsCompared, HasDescendedByKey}
-pub use Rattle.triple_ord.specs.Gap.{Gap, first_of, last_or, before, after, with_between, present}
+pub use Rattle.triple_ord.specs.{ContentLaws.lawful_is, ContentLaws.capacity-within, Node.IsPart, Node.IsNodeIn, Order.IsInOrder}
+pub use Rattle.triple_ord.specs.Descent.{IsNodeAt, side_of, IsDescending, HasDescended, met_next, IsCompared, HasDescendedByKey}
+pub use Rattle.triple_ord.specs.Gap.{Gap, first_of, last_of, before, after, with_between, present}
 pub use Rattle.triple_ord.specs.Hint.{position_of, IsNearHint, way_length}
-pub use Rattle.triple_ord.specs.Insertion.{Growth, within, reallocating, with_slot, InsertsBy, told, LacksSlot, IsRefused, InsertsBeside}
-pub use Rattle.triple_ord.specs.{Node.IsPart, Node.IsNodeIn, Order.IsInOrder}
+pub use Rattle.triple_ord.specs.Insertion.{Growth, within, reallocating, with_room_by, InsertsBy, told, LacksSlot, IsRefused, InsertsBeside}
 pub use Rattle.triple_ord.specs.OrderLaws.{AreAnsweredInOrder, AnsweredInOrderLaw, GoesBy, KeptOrderLaw, IsAbsent, AbsentKeyLaw, IsPlaceOf}
 pub use Rattle.triple_ord.specs.OrderLaws.{BesidePlaceLaw, ranks_of, SameRanksLaw}
 pub use Rattle.triple_ord.specs.Place.{Aim, at_key, beside, Place, into, over, IsPlace, aim_of, LiesBehind, alone, behind_key, nowhere}

@@ -10,5 +10,5 @@ module _ {T : Type 0} where
   cloned source old = record { list = taken_over source.list old.list source.list.entries; shape = source.shape }
 
   -- the receiver without entries, with the generation and the capacity of a clone
-  abbrev pub emptied : Tree T → Tree T → Tree T
-  emptied source old = record { list = taken_over source.list old.list []; shape = missing }
+  abbrev pub refused_clone : Tree T → Tree T → Tree T
+  refused_clone source old = record { list = taken_over source.list old.list []; shape = missing }

@@ -1,10 +1,9 @@
 -- What a search by a closure returns on a list of entries: the entries that it showed to the closure, and what the closure said.
-use Rattle.std.specs.{Borrow.Bor, List.All, List.FoldsTo, Option.option_map, Ordering.is_eq}
+use Rattle.std.specs.{Borrow.Bor, List.All, List.FoldsTo, Option.option_map, Ordering.is_eq, Prelude.map, declared.cmp.Ordering.Ordering}
 use Rattle.std.specs.Prelude.{◌≡◌, ◌≢◌, ℕ, ◌⊎◌, if◌then◌else◌, List, [], ◌∷◌, Option, Some, None, IfSome, MatchOption, Contains, length}
 use Rattle.std.specs.declared.cmp.Ordering.TheVariants.{Less, Equal, Greater}
-use Rattle.std.specs.{Prelude.map, declared.cmp.Ordering.Ordering}
 use Rattle.chain_base.specs.Chain.{Entry, IsDistinct}
-use Rattle.triple_ord.specs.{Gap.Gap, Gap.before, Gap.after, Gap.last_or, Search.pointer}
+use Rattle.triple_ord.specs.{Gap.Gap, Gap.before, Gap.after, Gap.last_of, Search.pointer}
 
 -- an entry that was shown, with the answer that it got
 abbrev pub Shown : Type 0 → Type 0
@@ -31,7 +30,7 @@ module _ {T : Type 0} where
   pub record StopsAfter {entries : List (Entry T)} (gap : Gap entries) (shown : List (Shown T)) : Type 0 where
     pub greater_before : IfSome (before gap) (λ e. Contains shown (e, Greater))
     pub less_after : IfSome (after gap) (λ e. Contains shown (e, Less))
-    pub last_beside : IfSome (last_or None shown) (λ s. (before gap ≡ Some s.0) ⊎ (after gap ≡ Some s.0))
+    pub last_beside : IfSome (last_of None shown) (λ s. (before gap ≡ Some s.0) ⊎ (after gap ≡ Some s.0))
 
   -- different entries of the list were shown; Equal was answered at the last of them or nowhere, and without it the search stops
   -- at a gap
@@ -39,7 +38,7 @@ module _ {T : Type 0} where
     pub within : All (λ s. Contains entries s.0) shown
     pub different : IsDistinct (entries_of shown)
     pub equal_last : All (λ s. s.1 ≢ Equal) (but_last shown)
-    pub ends : ((e : Entry T) × (last_or None shown ≡ Some (e, Equal))) ⊎ ((gap : Gap entries) × StopsAfter gap shown)
+    pub ends : ((e : Entry T) × (last_of None shown ≡ Some (e, Equal))) ⊎ ((gap : Gap entries) × StopsAfter gap shown)
 
   -- the entry that was shown last, with its answer
   abbrev pub similar_of : Option (Shown T) → Option ((ℕ × ℕ) × Ordering)
@@ -52,7 +51,7 @@ module _ {T F : Type 0} (asks : F → Shown T → F → Type 0) where
     pub shown : List (Shown T)
     pub calls : FoldsTo asks f shown g
     pub search : IsSearch entries shown
-    pub last_is : last ≡ last_or None shown
+    pub last_is : last ≡ last_of None shown
     pub count : c ≡ length shown
 
   -- a search by a closure: it returns the pointer of the entry that was answered Equal, or none

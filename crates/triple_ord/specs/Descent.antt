@@ -5,10 +5,10 @@ use Rattle.std.specs.declared.cmp.Ordering.{Ordering, TheVariants.Less, TheVaria
 use Rattle.chain_base.specs.Chain.{Entry, times, entry_at}
 use Rattle.ord_tree.specs.{Shape.Shape, Shape.node, Shape.root_of, Shape.walk, Shape.height, Tree.Tree}
 use Rattle.triple_ord.specs.ClosureSearch.{Shown, entries_of, where_equal, similar_of}
-use Rattle.triple_ord.specs.{Gap.first_of, Gap.last_or, Node.IsPart, Search.order_to, Search.pointer, Search.FindsSimilar}
+use Rattle.triple_ord.specs.{Gap.first_of, Gap.last_of, Node.IsPart, Search.order_to, Search.pointer, Search.FindsSimilar}
 
 -- the entry at index i, with the roots of its sides
-pub record IsShown {T : Type 0} (t : Tree T) (i generation : ℕ) (item : T) (lesser greater : Option ℕ) : Type 0 where
+pub record IsNodeAt {T : Type 0} (t : Tree T) (i generation : ℕ) (item : T) (lesser greater : Option ℕ) : Type 0 where
   pub entry : entry_at t.list.entries i ≡ Some (generation, item)
   pub lesser_root : (l r : Shape) (k : ℕ) → IsPart (node l i k r) t.shape → lesser ≡ root_of l
   pub greater_root : (l r : Shape) (k : ℕ) → IsPart (node l i k r) t.shape → greater ≡ root_of r
@@ -23,7 +23,7 @@ pub record IsCompared {T K : Type 0} (key : T → K) (cmp : K → K → Ordering
   pub item : T
   pub lesser : Option ℕ
   pub greater : Option ℕ
-  pub there : IsShown t i p.1 item lesser greater
+  pub there : IsNodeAt t i p.1 item lesser greater
   pub here : p.0 ≡ i
   pub order_is : order ≡ cmp k (key item)
   pub next_is : next ≡ side_of order lesser greater
@@ -46,9 +46,9 @@ module _ {T : Type 0} where
     pub back : List (Entry T)
     pub cut : entries ≡ front ++ (middle ++ back)
     pub left : map (λ e. e.index) middle ≡ walk part
-    pub greater_before : IfSome (last_or None front) (λ e. Contains shown (e, Greater))
+    pub greater_before : IfSome (last_of None front) (λ e. Contains shown (e, Greater))
     pub less_after : IfSome (first_of back) (λ e. Contains shown (e, Less))
-    pub last_beside : MatchOption (last_or None shown) ((last_or None front ≡ None) × (first_of back ≡ None)) (λ s. (last_or None front ≡ Some s.0) ⊎ (first_of back ≡ Some s.0))
+    pub last_beside : MatchOption (last_of None shown) ((last_of None front ≡ None) × (first_of back ≡ None)) (λ s. (last_of None front ≡ Some s.0) ⊎ (first_of back ≡ Some s.0))
     pub few : length shown + height part ≤ height shape
     pub new : (j : ℕ) → times j (entries_of shown) + times j middle ≤ 1
     pub inside : All (λ s. Contains entries s.0) shown
@@ -61,7 +61,7 @@ module _ {T : Type 0} where
     pub calls : FoldsTo asks f shown g
     pub descending : IsDescending entries shape shown link
     pub count : visits ≡ before + length shown
-    pub last_is : last ≡ similar_of (last_or None shown)
+    pub last_is : last ≡ similar_of (last_of None shown)
 
   -- The comparisons with k so far have led to this link, after so many visits, added to those from before; where k is equal the way led
   -- to the lesser side. The entry that was shown last, with the order of k to its key, and
@@ -72,7 +72,7 @@ module _ {T : Type 0} where
     pub turned : All (λ s. s.1 ≡ ordering_then (order_to key cmp k s.0) Less) shown
     pub descending : IsDescending entries shape shown link
     pub count : visits ≡ before + length shown
-    pub last_is : last ≡ option_map (λ s. (pointer s.0, order_to key cmp k s.0)) (last_or None shown)
+    pub last_is : last ≡ option_map (λ s. (pointer s.0, order_to key cmp k s.0)) (last_of None shown)
     pub met_is : met ≡ where_equal (option_map (λ e. (pointer e, order_to key cmp k e)) (first_of descending.back))
 
   -- a search for k from the root, begun after so many visits, has come to this end

@@ -2,7 +2,7 @@
 use Rattle.std.specs.{Prelude.◌≡◌, Prelude.ℕ, Prelude.List, Prelude.Option, Prelude.Some, Prelude.None, declared.cmp.Ordering.Ordering}
 use Rattle.chain_base.specs.{Chain.Entry, Chain.next_index, Insert.IsInsertion}
 use Rattle.ord_tree.specs.Tree.{Tree, IsGrown, with_item}
-use Rattle.triple_ord.specs.{Arena.item_of, EntryVisits.VisitsFor, Gap.Gap, Gap.with_between, Insertion.Growth, Insertion.with_slot}
+use Rattle.triple_ord.specs.{Arena.item_of, EntryVisits.VisitsFor, Gap.Gap, Gap.with_between, Insertion.Growth, Insertion.with_room_by}
 use Rattle.triple_ord.specs.{Place.Place, Place.into, Place.over, Place.IsPlace, Place.aim_of, Search.pointer}
 use Rattle.triple_ord.specs.declared.entry_kind.OrdEntryKind.{OrdEntryKind, TheVariants.New, TheVariants.Replacing}
 use Rattle.triple_ord.specs.declared.insert_kind.OrdInsertKind.{OrdInsertKind}
@@ -20,7 +20,7 @@ module _ {P T : Type 0} (numbers : P → ℕ × ℕ) where
   module _ (growth : Growth) (most : ℕ) (old : Tree T) (arena : Tree T) where
     -- a new entry will have the pointer p, and go into the gap; the arena has a slot for it, and is `old` otherwise
     pub record AwaitsNew (gap : Gap old.list.entries) (put : Entry T → List (Entry T)) (p : ℕ × ℕ) : Type 0 where
-      pub room : arena ≡ record old { list = with_slot growth most old.list }
+      pub room : arena ≡ record old { list = with_room_by growth most old.list }
       pub next : next_index arena.list ≡ Some p.0
       pub generation : p.1 ≡ arena.list.generation
       pub puts : (new : Entry T) → put new ≡ with_between gap new

@@ -8,9 +8,9 @@ module _ {X : Type 0} where
   first_of (x ∷ xs) = Some x
 
   -- the last of a list, or this where the list is empty
-  abbrev pub last_or : Option X → List X → Option X
-  last_or other [] = other
-  last_or other (x ∷ xs) = last_or (Some x) xs
+  abbrev pub last_of : Option X → List X → Option X
+  last_of other [] = other
+  last_of other (x ∷ xs) = last_of (Some x) xs
 
   -- a gap cuts a list in two: what stands before it, and what stands after it
   pub record Gap (xs : List X) : Type 0 where
@@ -20,7 +20,7 @@ module _ {X : Type 0} where
 
   -- the neighbour before a gap, and the one after it
   abbrev pub before : {xs : List X} → Gap xs → Option X
-  before gap = last_or None gap.front
+  before gap = last_of None gap.front
 
   abbrev pub after : {xs : List X} → Gap xs → Option X
   after gap = first_of gap.back

@@ -16,9 +16,9 @@ pub data Growth : Type 0 where
 
 module _ {T : Type 0} where
   -- the list as an insertion finds it that needs a slot: grown, where it may grow and no slot is vacant
-  abbrev pub with_slot : Growth → ℕ → Chain T → Chain T
-  with_slot within most c = c
-  with_slot reallocating most c = with_room most c
+  abbrev pub with_room_by : Growth → ℕ → Chain T → Chain T
+  with_room_by within most c = c
+  with_room_by reallocating most c = with_room most c
 
   -- no slot is to be had: none is vacant within the capacity; the length is at the limit; or memory is refused to a growth that is
   -- needed and allowed
@@ -35,7 +35,7 @@ module _ {T K : Type 0} (key : T → K) (cmp : K → K → Ordering) (most : ℕ
   pub record InsertsNew (old : Tree T) (item : T) (p : ℕ × ℕ) (new : Tree T) : Type 0 where
     pub gap : Gap old.list.entries
     pub place : IsPlace key cmp aim (into gap)
-    pub inserted : IsInsertion (with_slot growth most old.list) new.list (with_between gap) item p.0 p.1
+    pub inserted : IsInsertion (with_room_by growth most old.list) new.list (with_between gap) item p.0 p.1
     pub grown : IsGrown old.shape new.shape
 
   -- the entry that is the place keeps its pointer and its place in the list, and gets the item; all else stays

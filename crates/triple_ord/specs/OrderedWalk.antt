@@ -3,7 +3,7 @@ use Rattle.std.specs.Prelude.{◌≡◌, ℕ, Bool, Option, Some, None, List, []
 use Rattle.std.specs.Option.{option_and_then}
 use Rattle.chain_base.specs.Chain.{link_at}
 use Rattle.ord_tree.specs.Tree.{Tree}
-use Rattle.triple_ord.specs.{Arena.item_of, Search.pointer, Walk.entries_from}
+use Rattle.triple_ord.specs.{Arena.item_of, Search.pointer, Walk.entries_left}
 
 -- where a walk stands, and whether it goes back along the list
 pub record OrderedWalk : Type 0 where
@@ -13,7 +13,7 @@ pub record OrderedWalk : Type 0 where
 module _ {T : Type 0} where
   -- what a walk gives, as long as the list stays as it is: the pointers from where it stands to the end in its direction
   abbrev pub ordered_rest : OrderedWalk → Tree T → List (ℕ × ℕ)
-  ordered_rest w a = map pointer (entries_from (if w.falling then reverse a.list.entries else a.list.entries) w.at)
+  ordered_rest w a = map pointer (entries_left (if w.falling then reverse a.list.entries else a.list.entries) w.at)
 
   -- the index of the neighbour of the entry at index i, of the one before it where the walk goes back
   abbrev pub neighbour_at : Tree T → Bool → ℕ → Option ℕ

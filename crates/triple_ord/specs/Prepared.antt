@@ -1,7 +1,6 @@
 -- The place of an insertion as the arena keeps it: beside an entry, or an entry's pointer. No public clause cites this file.
-use Rattle.std.proofs.Props.{props}
 use Rattle.std.specs.Prelude.{◌≡◌, ◌≢◌, ℕ, Option, Some, None, IsSome, length}
-use Rattle.std.specs.declared.cmp.Ordering.{Ordering, TheVariants.Equal}
+use Rattle.std.{proofs.Props.props, specs.declared.cmp.Ordering.Ordering, specs.declared.cmp.Ordering.TheVariants.Equal}
 use Rattle.chain_base.specs.Chain.{Entry, Chain, entry_at, next_index}
 use Rattle.ord_tree.specs.Tree.{Tree, put_at}
 use Rattle.triple_ord.specs.{Arena.item_of, EntryVisits.HasSeen, EntryVisits.VisitsFor, Gap.with_between}

@@ -2,7 +2,7 @@
 use Rattle.std.specs.Prelude.{◌≡◌, ℕ, ◌+◌, ◌<◌, ◌≤◌, List, ◌∷◌, ◌++◌, Option, Some, None, IfSome, MatchOption, length}
 use Rattle.std.specs.declared.cmp.Ordering.{Ordering, TheVariants.Less, TheVariants.Equal, TheVariants.Greater}
 use Rattle.chain_base.specs.{Chain.Entry, Link.Link}
-use Rattle.triple_ord.specs.{Gap.Gap, Gap.first_of, Gap.last_or, Hint.position_of, Hint.way_length, Order.IsInOrder}
+use Rattle.triple_ord.specs.{Gap.Gap, Gap.first_of, Gap.last_of, Hint.position_of, Hint.way_length, Order.IsInOrder}
 use Rattle.triple_ord.specs.Search.{order_to, Fits, FindsSimilar}
 
 -- the neighbour on the side on which a key lies, none for an equal key
@@ -29,7 +29,7 @@ module _ {T K : Type 0} (key : T → K) (cmp : K → K → Ordering) (entries : 
       (e : Entry T) × (first_of back ≡ Some e) × (order_to key cmp k e ≡ Less) × (1 ≤ visits) × (length front + visits ≡ start)
   CameFrom start visits front back Equal = (visits ≡ 0) × (length front ≡ start)
   CameFrom start visits front back Greater =
-      (e : Entry T) × (last_or None front ≡ Some e) × (order_to key cmp k e ≡ Greater) × (1 ≤ visits) × (length front ≡ start + visits)
+      (e : Entry T) × (last_of None front ≡ Some e) × (order_to key cmp k e ≡ Greater) × (1 ≤ visits) × (length front ≡ start + visits)
 
   -- the steps from a place have come to the entry with index i after so many visits
   pub record IsStepping (start i visits : ℕ) (came : Ordering) : Type 0 where

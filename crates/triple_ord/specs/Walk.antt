@@ -3,11 +3,11 @@ use Rattle.std.specs.Prelude.{◌≡◌, ℕ, List, [], Option, Some, None, leng
 use Rattle.chain_base.specs.Chain.{Entry, IsDistinct, from_index}
 
 -- the entries from the one with this index on; without an index none is left
-abbrev pub entries_from : {T : Type 0} → List (Entry T) → Option ℕ → List (Entry T)
-entries_from es None = []
-entries_from es (Some i) = from_index es i
+abbrev pub entries_left : {T : Type 0} → List (Entry T) → Option ℕ → List (Entry T)
+entries_left es None = []
+entries_left es (Some i) = from_index es i
 
 -- a walk has come to this index, and knows how many entries are left; no two entries have one index
 pub record IsWalking {T : Type 0} (es : List (Entry T)) (at : Option ℕ) (left : ℕ) : Type 0 where
   pub distinct : IsDistinct es
-  pub counted : left ≡ length (entries_from es at)
+  pub counted : left ≡ length (entries_left es at)

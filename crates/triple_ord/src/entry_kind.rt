@@ -1,6 +1,6 @@
 //! `OrdEntryKind`: whether an entry is new or replaces another's item.
 ghost use Rattle.std.specs.Prelude.{◌≡◌};
-ghost use Rattle.triple_ord.specs.EntryKind.{pointer_of};
+ghost use Rattle.triple_ord.specs.EntryKind.{pointer_of_kind};
 
 /// The pointer of an entry, and whether an insertion makes it new or replaces the item that it has.
 #[derive(Debug, Clone, Copy, PartialEq, Eq)]
@@ -14,7 +14,7 @@ pub enum OrdEntryKind<P> {
 impl<P> OrdEntryKind<P> {
     /// The pointer, whichever it is.
     pub fn any(self) -> P
-        ensures { result ≡ pointer_of self }
+        ensures { result ≡ pointer_of_kind self }
     {
         match self {
             OrdEntryKind::New(p) => p,

@@ -4,7 +4,7 @@ ghost use Rattle.std.specs.Option.{option_map};
 ghost use Rattle.chain_base.specs.Chain.{entry_at, link_at, IsDistinct};
 ghost use Rattle.ord_tree.specs.Shape.{root_of, height};
 ghost use Rattle.ord_tree.specs.Tree.{IsSoundTree};
-ghost use Rattle.triple_ord.specs.Descent.{IsShown};
+ghost use Rattle.triple_ord.specs.Descent.{IsNodeAt};
 
 use crate::visits::Visits;
 use arena_base::Ptr;
@@ -55,7 +55,7 @@ impl<'a, P: Ptr, T, A: Allocator> Probe<'a, P, T, A> {
     pub fn show(&mut self, i: P::Inx) -> (P::Gen, &'a SimpleOrdArenaNode<P, T>)
         requires occupied { IsSome (entry_at self.old.tree.now.list.entries (P.Inx.number i)) }
         requires room { self.old.visits + 1 < 2 ^ 128 }
-        ensures shown { IsShown self.old.tree.now (P.Inx.number i) (P.Gen.number result.0)
+        ensures shown { IsNodeAt self.old.tree.now (P.Inx.number i) (P.Gen.number result.0)
             result.1.now.t result.1.now.p_tree0 result.1.now.p_tree1 }
         ensures counted { self.new.visits ≡ self.old.visits + 1 }
         ensures tree { self.new.tree.now ≡ self.old.tree.now }
@@ -68,7 +68,7 @@ impl<'a, P: Ptr, T, A: Allocator> Probe<'a, P, T, A> {
     pub fn show_link(&mut self, i: P::Inx) -> (P::Gen, &'a LinkNoGen<P, SimpleOrdArenaNode<P, T>>)
         requires occupied { IsSome (entry_at self.old.tree.now.list.entries (P.Inx.number i)) }
         requires room { self.old.visits + 1 < 2 ^ 128 }
-        ensures shown { IsShown self.old.tree.now (P.Inx.number i)
+        ensures shown { IsNodeAt self.old.tree.now (P.Inx.number i)
             (P.Gen.number result.0) result.1.now.item.t
             result.1.now.item.p_tree0 result.1.now.item.p_tree1 }
         ensures linked { link_at self.old.tree.now.list.entries (P.Inx.number i) ≡ Some (

@@ -2,7 +2,7 @@
 ghost use Rattle.std.specs.Prelude.{◌≡◌, ◌≤◌, ◌↔◌, ◌⊎◌, Some, IsErr, IfOk, IfErr, OnErr, length};
 ghost use Rattle.std.specs.Option.{option_map};
 ghost use Rattle.chain_base.specs.Chain.{chain_limit, with_room};
-ghost use Rattle.chain_base.specs.Insert.{placed, CanPlace, IsInsertion, IsPlace};
+ghost use Rattle.chain_base.specs.Insert.{placed, CanPlace, IsInsertion, PutsBetween};
 
 use super::ChainArena;
 use super::links::relink;
@@ -83,7 +83,7 @@ impl<P: Ptr, T: Drop, A: Allocator> ChainArena<P, T, A> {
     // The neighbours of a new entry.
     fn neighbours(&self, kind: LinkInsertKind<P>) -> (Option<P::Inx>, Option<P::Inx>)
         requires { CanPlace P.Inx.number kind self.now }
-        ensures { IsPlace self.now.entries (placed P.Inx.number kind self.now.entries)
+        ensures { PutsBetween self.now.entries (placed P.Inx.number kind self.now.entries)
             (option_map P.Inx.number result.0) (option_map P.Inx.number result.1) }
     {
         match kind {

@@ -5,7 +5,7 @@ ghost use Rattle.arena_base.specs.Generation.{IsLawfulGeneration};
 ghost use Rattle.arena_base.specs.Invalidation.{valid_value, has_overflowed};
 ghost use Rattle.chain_base.specs.Chain.{Chain, chain_limit};
 ghost use Rattle.chain_base.specs.Compression.{IsTransfer};
-ghost use Rattle.chain_base.specs.Transfer.{filled_with, last_of, place_behind, TakesOut, HasTaken};
+ghost use Rattle.chain_base.specs.Transfer.{filled_with, last_index_of, place_behind, TakesOut, HasTaken};
 
 use super::ChainArena;
 use super::insert::LinkInsertKind;
@@ -153,10 +153,10 @@ fn put_last<P: Ptr, T: Drop, A: Allocator>(
 )
     requires { (c : Chain T) × (items : List T)
         × (chain.old ≡ filled_with c items) × (length items < c.capacity)
-        × (option_map P.Inx.number last ≡ last_of (length items)) }
+        × (option_map P.Inx.number last ≡ last_index_of (length items)) }
     ensures { (c : Chain T) (items : List T)
         → chain.old ≡ filled_with c items → length items < c.capacity
-        → option_map P.Inx.number last ≡ last_of (length items)
+        → option_map P.Inx.number last ≡ last_index_of (length items)
         → chain.new ≡ filled_with c (items ++ item ∷ []) }
 {
     chain

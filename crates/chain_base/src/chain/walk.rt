@@ -2,7 +2,7 @@
 ghost use Rattle.std.specs.Prelude.{◌≡◌, [], Some, None, MatchOption, IfSome, is_some};
 ghost use Rattle.std.specs.Option.{option_map};
 ghost use Rattle.chain_base.specs.Chain.{item_of};
-ghost use Rattle.chain_base.specs.Walk.{pointers_from, GivesEntry, WalkSteps};
+ghost use Rattle.chain_base.specs.Walk.{pointers_left, GivesEntry, WalkSteps};
 
 use super::ChainArena;
 use arena_base::{Advancer, Ptr};
@@ -64,7 +64,7 @@ impl<P: Ptr, T, A: Allocator> ChainArena<P, T, A> {
     // The pointer of the entry at an index, and the index after it.
     fn step(&self, i: P::Inx) -> Option<(P, Option<P::Inx>)>
         ensures { MatchOption result
-            (pointers_from (Some (P.Inx.number i)) self.now ≡ [])
+            (pointers_left (Some (P.Inx.number i)) self.now ≡ [])
             (λ e. GivesEntry (Some (P.Inx.number i)) (option_map P.Inx.number e.1) self.now
             (P.numbers e.0).0 (P.numbers e.0).1) }
     {

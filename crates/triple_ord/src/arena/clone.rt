@@ -3,7 +3,7 @@ ghost use Rattle.std.specs.Prelude.{◌≡◌, ◌<◌, ◌↔◌, ◌⊎◌, If
 ghost use Rattle.chain_base.specs.Chain.{new_chain, chain_limit, greatest_index};
 ghost use Rattle.ord_tree.specs.Shape.{missing};
 ghost use Rattle.triple_ord.specs.Arena.{count, FindSame};
-ghost use Rattle.triple_ord.specs.Clone.{cloned, emptied};
+ghost use Rattle.triple_ord.specs.Clone.{cloned, refused_clone};
 
 use super::SimpleOrdArena;
 use arena_base::{Ptr, ReallocationError};
@@ -31,7 +31,7 @@ impl<P: Ptr, T: Clone + Drop, A: Allocator + Copy> SimpleOrdArena<P, T, A> {
         ensures memory { result ≡ Err ReallocationError.AllocError
             → ((self.old.list.capacity < greatest_index source.now.list.entries)
             × (self.new ≡ self.old))
-            ⊎ ((0 < count source.now) × (self.new ≡ emptied source.now self.old)) }
+            ⊎ ((0 < count source.now) × (self.new ≡ refused_clone source.now self.old)) }
     {
         // With its length an arena tells what holds of its list.
         let _ = source.len();

@@ -7,7 +7,7 @@ ghost use Rattle.chain_base.specs.Insert.{IsInsertion};
 ghost use Rattle.ord_tree.specs.Tree.{CanPutAt, IsGrown, put_at};
 ghost use Rattle.triple_ord.specs.Arena.{item_of, count, Updates, FindSame};
 ghost use Rattle.triple_ord.specs.Entry.{InsertsThere, IsEntryFor};
-ghost use Rattle.triple_ord.specs.EntryKind.{pointer_of};
+ghost use Rattle.triple_ord.specs.EntryKind.{pointer_of_kind};
 ghost use Rattle.triple_ord.specs.Insertion.{within, reallocating, IsRefused};
 ghost use Rattle.triple_ord.specs.InsertEntry.{entry_arena, entry_shown, entry_put, entry_visits, entry_lender, rests_if_refused};
 ghost use Rattle.triple_ord.specs.Place.{aim_of, kind_now};
@@ -49,9 +49,9 @@ impl<'a, P: Ptr, T: Drop, A: Allocator> SimpleOrdArenaInsertEntry<'a, P, T, A> {
         ensures inserts { InsertsThere P.numbers (entry_shown self.entry)
             (entry_put P.numbers self.entry) (entry_arena self.entry) t result self.exit.0.now }
         ensures updates { Updates (entry_arena self.entry) self.exit.0.now
-            (P.numbers (pointer_of (entry_shown self.entry))) (Some t) }
+            (P.numbers (pointer_of_kind (entry_shown self.entry))) (Some t) }
         ensures before { result ≡ item_of (entry_arena self.entry)
-            (P.numbers (pointer_of (entry_shown self.entry))) }
+            (P.numbers (pointer_of_kind (entry_shown self.entry))) }
         ensures count { count self.exit.0.now
             ≡ (if is_some result then count (entry_arena self.entry)
             else count (entry_arena self.entry) + 1) }

@@ -6,7 +6,7 @@ ghost use Rattle.chain_base.specs.Chain.{IsOccupied};
 ghost use Rattle.triple_ord.specs.Arena.{item_of, entry_at, count, Updates};
 ghost use Rattle.chain_base.specs.Insert.{IsInsertion};
 ghost use Rattle.ord_tree.specs.Tree.{CanPutAt, IsGrown, put_at};
-ghost use Rattle.triple_ord.specs.Insertion.{reallocating, with_slot, LacksSlot, Inserts, InsertsWithin, InsertsBeside};
+ghost use Rattle.triple_ord.specs.Insertion.{reallocating, with_room_by, LacksSlot, Inserts, InsertsWithin, InsertsBeside};
 
 use super::SimpleOrdArena;
 use crate::error::OrdInsertionError;
@@ -117,7 +117,7 @@ impl<P: Ptr, T: Drop, A: Allocator> SimpleOrdArena<P, T, A> {
     fn put_growing(&mut self, at: (P::Inx, Ordering), t: T) -> Result<P, OrdInsertionError>
         requires { CanPutAt P.Inx.number (Some at) self.old.list }
         ensures inserted { IfOk result
-            (λ p. IsInsertion (with_slot reallocating P.Inx.most self.old.list) self.new.list
+            (λ p. IsInsertion (with_room_by reallocating P.Inx.most self.old.list) self.new.list
             (put_at P.Inx.number (Some at) self.old.list.entries)
             t (P.numbers p).0 (P.numbers p).1) }
         ensures grown { OnOk result (IsGrown self.old.shape self.new.shape) }

@@ -29,9 +29,9 @@ impl<'a, P: Ptr, T, A: Allocator> Model for Iter<'a, P, T, A> {
 
     ghost coded = { coded_list (entry_code T.code) };
 
-    ghost use Rattle.triple_ord.specs.Walk.{entries_from, IsWalking};
+    ghost use Rattle.triple_ord.specs.Walk.{entries_left, IsWalking};
 
-    ghost view = { λ i. entries_from i.arena.now.list.entries (option_map P.Inx.number i.at) };
+    ghost view = { λ i. entries_left i.arena.now.list.entries (option_map P.Inx.number i.at) };
 
     ghost invariant = { λ i. IsWalking i.arena.now.list.entries
         (option_map P.Inx.number i.at) i.left };

@@ -6,8 +6,8 @@ ghost use Rattle.chain_base.specs.Insert.{IsInsertion};
 ghost use Rattle.ord_tree.specs.Tree.{IsGrown, put_at, with_item};
 ghost use Rattle.triple_ord.specs.Arena.{item_of, entry_at, count, Updates, FindSame};
 ghost use Rattle.triple_ord.specs.Entry.{InsertsThere, IsEntryFor};
-ghost use Rattle.triple_ord.specs.EntryKind.{pointer_of};
-ghost use Rattle.triple_ord.specs.Insertion.{within, reallocating, with_slot, LacksSlot, IsRefused};
+ghost use Rattle.triple_ord.specs.EntryKind.{pointer_of_kind};
+ghost use Rattle.triple_ord.specs.Insertion.{within, reallocating, with_room_by, LacksSlot, IsRefused};
 ghost use Rattle.triple_ord.specs.Place.{aim_of, kind_now};
 ghost use Rattle.triple_ord.specs.Prepared.{HasRoomAt, IsReady, by_number};
 
@@ -102,9 +102,9 @@ impl<P: Ptr, T: Drop, A: Allocator> SimpleOrdArena<P, T, A> {
             (put_at (λ p. (P.numbers p).0) prepared.at self.old.list.entries)
             self.old t result self.new }
         ensures updates { Updates self.old self.new
-            (P.numbers (pointer_of prepared.shown)) (Some t) }
+            (P.numbers (pointer_of_kind prepared.shown)) (Some t) }
         ensures before { result
-            ≡ item_of self.old (P.numbers (pointer_of prepared.shown)) }
+            ≡ item_of self.old (P.numbers (pointer_of_kind prepared.shown)) }
         ensures count { count self.new
             ≡ (if is_some result then count self.old else count self.old + 1) }
     {
@@ -150,7 +150,7 @@ impl<P: Ptr, T: Drop, A: Allocator> SimpleOrdArena<P, T, A> {
     fn make_room(&mut self) -> Result<(), OrdInsertionError>
         ensures ok { OnOk result
             (self.new ≡ record self.old {
-              list = with_slot reallocating P.Inx.most self.old.list;
+              list = with_room_by reallocating P.Inx.most self.old.list;
             }) }
         ensures next { OnOk result (IsSome (next_index self.new.list)) }
         ensures entries { self.new.list.entries ≡ self.old.list.entries }

@@ -1,6 +1,6 @@
 use Rattle.std.proofs.Common.{ℕ, ap, subst, ◌∙◌, ◌≡◌, nat_cmp, rules}
 use Rattle.triple_ord.specs.{declared.insert_kind.OrdInsertKind.TheVariants.Nonhereditary, Insertion.within, Insertion.InsertsNew}
-use Rattle.triple_ord.specs.{EntryKind.pointer_of, Place.behind_key}
+use Rattle.triple_ord.specs.{EntryKind.pointer_of_kind, Place.behind_key}
 use Rattle.triple_ord.proofs.CallerLemmas.{entry-inserts}
 use Rattle.agenda.specs.{Layout.deadline_of, Agenda.most_jobs}
 use Rattle.agenda.proofs.Putting.{inserts-new}
@@ -10,7 +10,7 @@ pub returns-clause-inserted : goal.returns-clause-inserted
 returns-clause-inserted g c =
     let item : ℕ × g.row.J.Denot = (c.args.deadline, c.args.job) in
     let shown = c.in-Ok.entry.prepared.shown in
-    let named : c.any-p.result ≡ pointer_of shown = c.any-p.ensures ∙ ap pointer_of c.ptr.ensures in
+    let named : c.any-p.result ≡ pointer_of_kind shown = c.any-p.ensures ∙ ap pointer_of_kind c.ptr.ensures in
     let step = entry-inserts deadline_of nat_cmp (λ (p : ℕ × ℕ). p) (λ (i : ℕ). i) within most_jobs (Nonhereditary c.args.deadline) c.args.jobs.now c.in-Ok.entry.arena.now c.insert.new.self.0
     c.len.ensures.sound.distinct shown _ _ c.new.result c.insert.result c.in-Ok.ensures.place c.insert.ensures.inserts in
     let done = inserts-new deadline_of nat_cmp most_jobs within c.args.deadline (λ (p : ℕ × ℕ). p) c.args.jobs.now c.new.result c.insert.new.self.0 (shown, c.insert.result) step in

@@ -1,5 +1,5 @@
 use Rattle.std.proofs.Common.{ℕ, ◌-◌, sym, ap, subst, option_map, is_some, arith}
-use Rattle.ord_tree.specs.{declared.tree_links.Side.Side, Rotate.Site, Rotate.IsRotated, TreeLinks.numbered}
+use Rattle.ord_tree.specs.{declared.tree_links.Side.Side, Rotate.Site, Rotate.IsRotated, TreeLinks.as_numbers}
 use Rattle.ord_tree.proofs.Leaning.{low-small, inner_some, IsRepaired-lifted, IsRepaired-between, IsDemoted-both}
 use Rattle.ord_tree.proofs.{Reading.site_read, Reading.inner-read, Reading.inner-there, Doubles.site_below, Doubles.site_above}
 use Rattle.ord_tree.proofs.Frames.{IsReranked}
@@ -42,7 +42,7 @@ unwrap-a-requires g c =
     let site = c.requires.1.site in
     let r = site_read number site _ c.other-other.ensures _ _ c.links-rank.ensures c.links-links.ensures
     _ _ c.child.ensures c.child-2.ensures _ _ c.rank_of-outer.ensures c.rank_of-inner.ensures in
-    let there = inner_some c.requires.1 (numbered number c.links-links.result) c.links-links.ensures (omega (arith, r)) in
+    let there = inner_some c.requires.1 (as_numbers number c.links-links.result) c.links-links.ensures (omega (arith, r)) in
     inner-there number site _ c.other-other.ensures _ _ c.links-rank.ensures c.links-links.ensures _ c.child-3.ensures there
 
 pub rotate-requires-2 : goal.rotate-requires-2

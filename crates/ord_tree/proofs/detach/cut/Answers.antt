@@ -1,5 +1,5 @@
 use Rattle.std.proofs.Common.{sym, ◌∙◌, subst, option_map}
-use Rattle.ord_tree.specs.TreeLinks.{numbered}
+use Rattle.ord_tree.specs.TreeLinks.{as_numbers}
 use Rattle.ord_tree.proofs.Cutting.{v_occupied, rest_occupied, parent_occupied, moves_one, cut_branch}
 use Rattle.ord_tree.proofs.{Reading.child_other-read, Frames.IsReplaced}
 use Rattle.ord_tree.proofs.detach.cut.Goals as goal
@@ -11,19 +11,19 @@ pub branch_of-branch-requires-clause-parent : goal.branch_of-branch-requires-cla
 branch_of-branch-requires-clause-parent g c = λ n p e b. parent_occupied c.requires.1 n e p b
 
 pub replace_child-requires : goal.replace_child-requires
-replace_child-requires g c = parent_occupied c.requires.1 (numbered g.N.Nodes.number c.links-links.result) c.links-links.ensures
+replace_child-requires g c = parent_occupied c.requires.1 (as_numbers g.N.Nodes.number c.links-links.result) c.links-links.ensures
 
 pub hang-requires : goal.hang-requires
 hang-requires g c = λ i e.
     let number = g.N.Nodes.number in
     let rest_is = child_other-read number c.args.bare _ c.other.ensures c.links-links.result c.child-rest.result c.child-rest.ensures in
-    c.replace_child.ensures.occupied i ∙ rest_occupied c.requires.1 (numbered number c.links-links.result) c.links-links.ensures i (sym rest_is ∙ e)
+    c.replace_child.ensures.occupied i ∙ rest_occupied c.requires.1 (as_numbers number c.links-links.result) c.links-links.ensures i (sym rest_is ∙ e)
 
 pub returns-clause-fallen : goal.returns-clause-fallen
 returns-clause-fallen g c = λ order loose.
     let number = g.N.Nodes.number in
     let at = g.N.Nodes.at in
-    let links = numbered number c.links-links.result in
+    let links = as_numbers number c.links-links.result in
     let rest_is = child_other-read number c.args.bare _ c.other.ensures c.links-links.result c.child-rest.result c.child-rest.ensures in
     let r = c.replace_child.ensures in
     let P = IsReplaced (at c.args.nodes.now) (at c.replace_child.new.nodes) links.back (option_map number c.args.root.now) (option_map number c.replace_child.new.root) (number c.args.v) in
@@ -36,7 +36,7 @@ pub returns-clause-backs : goal.returns-clause-backs
 returns-clause-backs g c = λ order loose.
     let number = g.N.Nodes.number in
     let at = g.N.Nodes.at in
-    let links = numbered number c.links-links.result in
+    let links = as_numbers number c.links-links.result in
     let rest_is = child_other-read number c.args.bare _ c.other.ensures c.links-links.result c.child-rest.result c.child-rest.ensures in
     let r = c.replace_child.ensures in
     let P = IsReplaced (at c.args.nodes.now) (at c.replace_child.new.nodes) links.back (option_map number c.args.root.now) (option_map number c.replace_child.new.root) (number c.args.v) in

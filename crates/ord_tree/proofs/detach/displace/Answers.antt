@@ -1,5 +1,5 @@
 use Rattle.std.proofs.Common.{◌∙◌, ap, option_map}
-use Rattle.ord_tree.specs.TreeLinks.{numbered}
+use Rattle.ord_tree.specs.TreeLinks.{as_numbers}
 use Rattle.ord_tree.proofs.Removing.{z_occupied, v_is, loose_v, can_stand, displaced, mapped, unmapped}
 use Rattle.ord_tree.proofs.{Displacing.MovesBacks-then, Cutting.v_occupied}
 use Rattle.ord_tree.proofs.detach.displace.Goals as goal
@@ -11,19 +11,19 @@ pub unwrap-v-requires : goal.unwrap-v-requires
 unwrap-v-requires g c =
     let number = g.N.Nodes.number in
     let some = mapped number c.links.result.lesser c.if-is_none.ensures in
-    unmapped number c.args.before _ (v_is c.requires.1 (numbered number c.links.result) c.links.ensures some.0 some.1)
+    unmapped number c.args.before _ (v_is c.requires.1 (as_numbers number c.links.result) c.links.ensures some.0 some.1)
 
 pub cut-branch-requires : goal.cut-branch-requires
 cut-branch-requires g c =
     let number = g.N.Nodes.number in
     let some = mapped number c.links.result.lesser c.if-is_none.ensures in
-    (c.requires.0, loose_v c.requires.1 (numbered number c.links.result) c.links.ensures some.0 some.1 (number c.unwrap-v.result) (ap (option_map number) c.unwrap-v.ensures))
+    (c.requires.0, loose_v c.requires.1 (as_numbers number c.links.result) c.links.ensures some.0 some.1 (number c.unwrap-v.result) (ap (option_map number) c.unwrap-v.ensures))
 
 pub substitute-requires : goal.substitute-requires
 substitute-requires g c =
     let number = g.N.Nodes.number in
     let v = number c.unwrap-v.result in
-    let links = numbered number c.links.result in
+    let links = as_numbers number c.links.result in
     let some = mapped number c.links.result.lesser c.if-is_none.ensures in
     let is_v = ap (option_map number) c.unwrap-v.ensures in
     let loose = loose_v c.requires.1 links c.links.ensures some.0 some.1 v is_v in
@@ -35,7 +35,7 @@ returns-clause-fallen g c = λ order can.
     let number = g.N.Nodes.number in
     let at = g.N.Nodes.at in
     let v = number c.unwrap-v.result in
-    let links = numbered number c.links.result in
+    let links = as_numbers number c.links.result in
     let some = mapped number c.links.result.lesser c.if-is_none.ensures in
     let is_v = ap (option_map number) c.unwrap-v.ensures in
     let loose = loose_v can links c.links.ensures some.0 some.1 v is_v in
@@ -48,7 +48,7 @@ returns-clause-backs g c = λ order can.
     let number = g.N.Nodes.number in
     let at = g.N.Nodes.at in
     let v = number c.unwrap-v.result in
-    let links = numbered number c.links.result in
+    let links = as_numbers number c.links.result in
     let some = mapped number c.links.result.lesser c.if-is_none.ensures in
     let is_v = ap (option_map number) c.unwrap-v.ensures in
     let loose = loose_v can links c.links.ensures some.0 some.1 v is_v in

@@ -1,5 +1,5 @@
 use Rattle.std.proofs.Common.{ℕ, ◌+◌, [], refl, inr, sym, ◌∙◌, ap, subst, option_map, arith}
-use Rattle.ord_tree.specs.{declared.tree_links.Side.Side, TreeLinks.numbered, Promote.IsSteep}
+use Rattle.ord_tree.specs.{declared.tree_links.Side.Side, TreeLinks.as_numbers, Promote.IsSteep}
 use Rattle.ord_tree.proofs.Promoting.{y_occupied, y_back, rising_under, IsBuilt-top, z_occupied, IsBuilt-stop, low-small, IsPromoted-promoted, IsSteep-rising}
 use Rattle.ord_tree.proofs.{Reading.ranks-read, Reading.side-read, Reading.beside-read, Reading.beside-occupied, Frames.IsReranked}
 use Rattle.ord_tree.proofs.promote.promote.Goals as goal
@@ -10,32 +10,32 @@ links-low-requires g c = y_occupied c.requires.2
 pub links-high-requires : goal.links-high-requires
 links-high-requires g c =
     let number = g.N.Nodes.number in
-    let u = rising_under c.requires.2 (number c.in-Some.z) (y_back c.requires.2 (numbered number c.links-low.result) c.links-low.ensures ∙ ap (option_map number) c.in-Some.is) in
+    let u = rising_under c.requires.2 (number c.in-Some.z) (y_back c.requires.2 (as_numbers number c.links-low.result) c.links-low.ensures ∙ ap (option_map number) c.in-Some.is) in
     z_occupied u
 
 pub returns-in_default-clause-promoted : goal.returns-in_default-clause-promoted
 returns-in_default-clause-promoted g c = λ order slack rising.
     let number = g.N.Nodes.number in
-    let top = y_back rising (numbered number c.links-low.result) c.links-low.ensures ∙ ap (option_map number) c.in_default.is in
+    let top = y_back rising (as_numbers number c.links-low.result) c.links-low.ensures ∙ ap (option_map number) c.in_default.is in
     record { built = IsBuilt-top rising top; backs = ([], omega arith, λ j. inr refl) }
 
 pub returns-then-high-low-clause-promoted : goal.returns-then-high-low-clause-promoted
 returns-then-high-low-clause-promoted g c = λ order slack rising.
     let number = g.N.Nodes.number in
-    let u = rising_under rising (number c.in-Some.z) (y_back rising (numbered number c.links-low.result) c.links-low.ensures ∙ ap (option_map number) c.in-Some.is) in
+    let u = rising_under rising (number c.in-Some.z) (y_back rising (as_numbers number c.links-low.result) c.links-low.ensures ∙ ap (option_map number) c.in-Some.is) in
     let ranks = ranks-read number u _ _ c.links-low.ensures c.links-high.ensures in
     record { built = IsBuilt-stop u (omega (arith, ranks)); backs = ([], omega arith, λ j. inr refl) }
 
 pub rank_of-sibling-requires : goal.rank_of-sibling-requires
 rank_of-sibling-requires g c =
     let number = g.N.Nodes.number in
-    let u = rising_under c.requires.2 (number c.in-Some.z) (y_back c.requires.2 (numbered number c.links-low.result) c.links-low.ensures ∙ ap (option_map number) c.in-Some.is) in
+    let u = rising_under c.requires.2 (number c.in-Some.z) (y_back c.requires.2 (as_numbers number c.links-low.result) c.links-low.ensures ∙ ap (option_map number) c.in-Some.is) in
     beside-occupied number u _ _ c.links-low.ensures c.links-high.ensures _ c.side_of-side.ensures _ c.other.ensures _ c.child.ensures
 
 pub overflow_sub-high : goal.overflow_sub-high
 overflow_sub-high g c =
     let number = g.N.Nodes.number in
-    let u = rising_under c.requires.2 (number c.in-Some.z) (y_back c.requires.2 (numbered number c.links-low.result) c.links-low.ensures ∙ ap (option_map number) c.in-Some.is) in
+    let u = rising_under c.requires.2 (number c.in-Some.z) (y_back c.requires.2 (as_numbers number c.links-low.result) c.links-low.ensures ∙ ap (option_map number) c.in-Some.is) in
     let ranks = ranks-read number u _ _ c.links-low.ensures c.links-high.ensures in
     let sibling_is = beside-read number u _ _ c.links-low.ensures c.links-high.ensures _ c.side_of-side.ensures _ c.other.ensures _ c.child.ensures _ c.rank_of-sibling.ensures in
     omega (arith, ranks, sibling_is, u.over.greater)
@@ -43,14 +43,14 @@ overflow_sub-high g c =
 pub overflow_add-high : goal.overflow_add-high
 overflow_add-high g c =
     let number = g.N.Nodes.number in
-    let u = rising_under c.requires.2 (number c.in-Some.z) (y_back c.requires.2 (numbered number c.links-low.result) c.links-low.ensures ∙ ap (option_map number) c.in-Some.is) in
+    let u = rising_under c.requires.2 (number c.in-Some.z) (y_back c.requires.2 (as_numbers number c.links-low.result) c.links-low.ensures ∙ ap (option_map number) c.in-Some.is) in
     let ranks = ranks-read number u _ _ c.links-low.ensures c.links-high.ensures in
     record { fits = omega (arith, ranks, low-small u) }
 
 pub returns-then-high-sibling-eq1-clause-promoted : goal.returns-then-high-sibling-eq1-clause-promoted
 returns-then-high-sibling-eq1-clause-promoted g c = λ order slack rising.
     let number = g.N.Nodes.number in
-    let u = rising_under rising (number c.in-Some.z) (y_back rising (numbered number c.links-low.result) c.links-low.ensures ∙ ap (option_map number) c.in-Some.is) in
+    let u = rising_under rising (number c.in-Some.z) (y_back rising (as_numbers number c.links-low.result) c.links-low.ensures ∙ ap (option_map number) c.in-Some.is) in
     let ranks = ranks-read number u _ _ c.links-low.ensures c.links-high.ensures in
     let sibling_is = beside-read number u _ _ c.links-low.ensures c.links-high.ensures _ c.side_of-side.ensures _ c.other.ensures _ c.child.ensures _ c.rank_of-sibling.ensures in
     let z = number c.in-Some.z in
@@ -61,7 +61,7 @@ returns-then-high-sibling-eq1-clause-promoted g c = λ order slack rising.
 pub rotate_once_or_twice-requires : goal.rotate_once_or_twice-requires
 rotate_once_or_twice-requires g c =
     let number = g.N.Nodes.number in
-    let u = rising_under c.requires.2 (number c.in-Some.z) (y_back c.requires.2 (numbered number c.links-low.result) c.links-low.ensures ∙ ap (option_map number) c.in-Some.is) in
+    let u = rising_under c.requires.2 (number c.in-Some.z) (y_back c.requires.2 (as_numbers number c.links-low.result) c.links-low.ensures ∙ ap (option_map number) c.in-Some.is) in
     let ranks = ranks-read number u _ _ c.links-low.ensures c.links-high.ensures in
     let side_is = side-read number u _ _ c.links-low.ensures c.links-high.ensures _ c.side_of-side.ensures in
     let sibling_is = beside-read number u _ _ c.links-low.ensures c.links-high.ensures _ c.side_of-side.ensures _ c.other.ensures _ c.child.ensures _ c.rank_of-sibling.ensures in
@@ -71,7 +71,7 @@ rotate_once_or_twice-requires g c =
 pub returns-clause-promoted : goal.returns-clause-promoted
 returns-clause-promoted g c = λ order slack rising.
     let number = g.N.Nodes.number in
-    let u = rising_under rising (number c.in-Some.z) (y_back rising (numbered number c.links-low.result) c.links-low.ensures ∙ ap (option_map number) c.in-Some.is) in
+    let u = rising_under rising (number c.in-Some.z) (y_back rising (as_numbers number c.links-low.result) c.links-low.ensures ∙ ap (option_map number) c.in-Some.is) in
     let ranks = ranks-read number u _ _ c.links-low.ensures c.links-high.ensures in
     let side_is = side-read number u _ _ c.links-low.ensures c.links-high.ensures _ c.side_of-side.ensures in
     let sibling_is = beside-read number u _ _ c.links-low.ensures c.links-high.ensures _ c.side_of-side.ensures _ c.other.ensures _ c.child.ensures _ c.rank_of-sibling.ensures in

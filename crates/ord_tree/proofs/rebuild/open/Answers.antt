@@ -1,5 +1,5 @@
 use Rattle.std.proofs.Common.{arith}
-use Rattle.ord_tree.proofs.Rebuilding.{opened-more, IsReady-opened, IsReady-few}
+use Rattle.ord_tree.proofs.Rebuilding.{opened-more, IsWaiting-opened, IsWaiting-few}
 use Rattle.ord_tree.proofs.rebuild.open.Goals as goal
 
 pub put-requires : goal.put-requires
@@ -13,8 +13,8 @@ loop-rest-preserved c = λ at s top todo plan opening.
 
 pub returns-clause-opened : goal.returns-clause-opened
 returns-clause-opened c = λ at s top todo plan opening.
-    IsReady-opened plan (c.loop-rest.invariant at s top todo plan opening) (omega (arith, c.loop-rest-test.false))
+    IsWaiting-opened plan (c.loop-rest.invariant at s top todo plan opening) (omega (arith, c.loop-rest-test.false))
 
 pub returns-clause-few : goal.returns-clause-few
 returns-clause-few c = λ at s top todo plan opening.
-    IsReady-few plan (IsReady-opened plan (c.loop-rest.invariant at s top todo plan opening) (omega (arith, c.loop-rest-test.false)))
+    IsWaiting-few plan (IsWaiting-opened plan (c.loop-rest.invariant at s top todo plan opening) (omega (arith, c.loop-rest-test.false)))

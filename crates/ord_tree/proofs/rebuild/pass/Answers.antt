@@ -1,5 +1,5 @@
 use Rattle.std.proofs.Common.{arith, inl}
-use Rattle.ord_tree.proofs.Rebuilding.{IsFinished-empty, IsReady-few}
+use Rattle.ord_tree.proofs.Rebuilding.{IsFinished-empty, IsWaiting-few}
 use Rattle.ord_tree.proofs.rebuild.pass.Goals as goal
 
 pub open-requires : goal.open-requires
@@ -31,4 +31,4 @@ returns-then-len-gt0-clause-few g c = λ s todo plan ready.
 
 pub returns-clause-few : goal.returns-clause-few
 returns-clause-few g c = λ s todo plan ready. λ d digits.
-    omega (arith, IsReady-few plan ready d digits, c.meet-start.ensures.few, c.close.ensures.few)
+    omega (arith, IsWaiting-few plan ready d digits, c.meet-start.ensures.few, c.close.ensures.few)

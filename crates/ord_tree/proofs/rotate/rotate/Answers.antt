@@ -1,5 +1,5 @@
 use Rattle.std.proofs.Common.{ℕ, Option, Some, sym, ◌∙◌, ap, option_map, is_some}
-use Rattle.ord_tree.specs.{TreeLinks.with_child_at, TreeLinks.numbered, declared.tree_links.Side.Side}
+use Rattle.ord_tree.specs.{TreeLinks.with_child_at, TreeLinks.as_numbers, declared.tree_links.Side.Side}
 use Rattle.ord_tree.proofs.{Rotations.placed, Rotations.occupied-inner, Rotations.IsRotated-written, Reading.child_other-read}
 use Rattle.ord_tree.proofs.rotate.rotate.Goals as goal
 
@@ -7,7 +7,7 @@ pub hang-requires : goal.hang-requires
 hang-requires g c =
     let number = g.N.Nodes.number in
     let inner_is = child_other-read number c.args.side _ c.other-other.ensures c.links-low.result c.child-inner.result c.child-inner.ensures in
-    λ i e. c.replace_child.ensures.occupied i ∙ occupied-inner _ _ c.args.side _ _ c.requires (numbered number c.links-low.result) c.links-low.ensures i (sym inner_is ∙ e)
+    λ i e. c.replace_child.ensures.occupied i ∙ occupied-inner _ _ c.args.side _ _ c.requires (as_numbers number c.links-low.result) c.links-low.ensures i (sym inner_is ∙ e)
 
 pub relink-requires : goal.relink-requires
 relink-requires g c = c.hang.ensures.occupied _ ∙ c.replace_child.ensures.occupied _ ∙ ap is_some c.links-high.ensures
@@ -19,8 +19,8 @@ pub returns-clause-rotated : goal.returns-clause-rotated
 returns-clause-rotated g c = λ site.
     let number = g.N.Nodes.number in
     let side = c.args.side in
-    let low = numbered number c.links-low.result in
-    let high = numbered number c.links-high.result in
+    let low = as_numbers number c.links-low.result in
+    let high = as_numbers number c.links-high.result in
     let inner_is = child_other-read number side _ c.other-other.ensures c.links-low.result c.child-inner.result c.child-inner.ensures in
     IsRotated-written (g.N.Nodes.at c.args.nodes.now) (g.N.Nodes.at c.replace_child.new.nodes) (g.N.Nodes.at c.hang.new.nodes) (g.N.Nodes.at c.relink.new.nodes) (g.N.Nodes.at c.relink-2.new.nodes)
     (option_map number c.args.root.now) (option_map number c.replace_child.new.root) side (number c.args.z) (number c.args.y) c.args.rank_z c.args.rank_y low high

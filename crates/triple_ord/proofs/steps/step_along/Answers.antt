@@ -30,8 +30,7 @@ returns-in_default-clause-settled g c =
     ])))
 
 pub returns-in_default-clause-near : goal.returns-in_default-clause-near
-returns-in_default-clause-near g c = λ ordered gap fits.
-    rw c.show_link-generation.ensures.counted
+returns-in_default-clause-near g c = λ ordered gap fits. rw c.show_link-generation.ensures.counted
     (stepping-near _ _ _ _ c.requires.distinct _ _ _ _ c.loop-step.invariant.stepping _ g.met.T.Key.Ord.total ordered gap fits
     (λ o. taken-less _ _ o c.args.ties) (λ o. taken-greater _ _ o c.args.ties))
 

@@ -21,8 +21,7 @@ invariant_of-self-else-is_empty g c =
     (λ refused. refused.after) c.clone_by-cloned.ensures.memory (sym c.is_empty.ensures ∙ c.if-is_empty.false)
 
 pub returns-in-Ok-clause-ok : goal.returns-in-Ok-clause-ok
-returns-in-Ok-clause-ok g c =
-    rw (c.in-Ok.is, ← c.self.view_is, ← c.source.view_is)
+returns-in-Ok-clause-ok g c = rw (c.in-Ok.is, ← c.self.view_is, ← c.source.view_is)
     (clone-chain g.P.Ptr.numbers g.M.CloneEntry.step (λ m. m.map) g.P.Inx.PtrInx.most g.P.Gen.PtrGen.greatest c.source.inside.arena _ _ c.source.invariant
     (rw c.source.view_is c.len.ensures.sound) c.self.inside.arena c.clone_by-cloned.new.self _ c.in-Ok.ensures.ok _ c.in-Ok.ensures.fresh)
 

@@ -2,11 +2,11 @@ use Rattle.std.proofs.Common.{◌≡◌, ℕ, ◌+◌, ◌<◌, ◌≤◌, lengt
 use Rattle.arena_base.specs.{Pointer.named_of, Arena.slot}
 use Rattle.chain_base.specs.Naming.{linked_facing}
 use Rattle.chain_base.proofs.chain.compress.name_compressed_indexes.Goals.{in-Some, then-is_none, else-is_none, in_default}
-use Rattle.chain_base.proofs.Naming.{named-begins, named-vacant, named-step, named-target, named-ends, index-made, neighbour-within}
+use Rattle.chain_base.proofs.Naming.{named_neighbour-begins, named_neighbour-vacant, named_neighbour-step, named_neighbour-target, named_neighbour-ends, index-made, neighbour-within}
 use Rattle.chain_base.proofs.chain.compress.name_compressed_indexes.Goals as goal
 
 pub loop-position-init : goal.loop-position-init
-loop-position-init g c = named-begins c.args.side c.args.arena.now c.capacity-position-end.ensures.sound.begins
+loop-position-init g c = named_neighbour-begins c.args.side c.args.arena.now c.capacity-position-end.ensures.sound.begins
 
 pub unwrap-index-requires : goal.unwrap-index-requires
 unwrap-index-requires g c =
@@ -26,7 +26,7 @@ link_facing-requires g c = λ i is.
     let at = c.loop-position in
     let number = g.P.Inx.PtrInx.number in
     let held = read number g.P.Gen.PtrGen.number _ at.arena c.unwrap-index.result (at.position + 1) (search rules) c.get_inx.result _ c.get_inx.ensures c.in-Some.is in
-    named-target c.args.side c.args.arena.now at.arena at.count _ (at.position + 1) at.invariant (omega (arith, c.capacity-position-end.ensures.value)) c.requires _ held (number i)
+    named_neighbour-target c.args.side c.args.arena.now at.arena at.count _ (at.position + 1) at.invariant (omega (arith, c.capacity-position-end.ensures.value)) c.requires _ held (number i)
     (sym c.neighbour_on-neighbour.ensures ∙ ap (option_map number) is)
 
 pub loop-position-preserved : goal.loop-position-preserved
@@ -43,20 +43,17 @@ loop-position-preserved g c =
           let linked = w.link_facing.ensures ∙ ap (linked_facing c.args.side at.arena (option_map number w.neighbour_on-neighbour.result))
           (ap (named_of g.P.Inx.PtrInx.most) made ∙ neighbour-within g.P.Inx.PtrInx.most (at.count + 1) within) in
           elim w.if-is_none.branch [
-            | then-is_none v ↦
-                rw (w.arena-is, w.end-is, v.end-is, w.count-is)
-                (named-step c.args.side c.args.arena.now at.arena at.count _ (at.position + 1) at.invariant inside c.requires _ held _ w.neighbour_on-neighbour.ensures _ (λ none. made) (λ some. grind arith) _ linked)
-            | else-is_none v ↦
-                rw (w.arena-is, w.end-is, v.end-is, w.count-is)
-                (named-step c.args.side c.args.arena.now at.arena at.count _ (at.position + 1) at.invariant inside c.requires _ held _ w.neighbour_on-neighbour.ensures (option_map number at.end) (λ none. grind arith) (λ some. refl) _ linked)
+            | then-is_none v ↦ rw (w.arena-is, w.end-is, v.end-is, w.count-is)
+                (named_neighbour-step c.args.side c.args.arena.now at.arena at.count _ (at.position + 1) at.invariant inside c.requires _ held _ w.neighbour_on-neighbour.ensures _ (λ none. made) (λ some. grind arith) _ linked)
+            | else-is_none v ↦ rw (w.arena-is, w.end-is, v.end-is, w.count-is)
+                (named_neighbour-step c.args.side c.args.arena.now at.arena at.count _ (at.position + 1) at.invariant inside c.requires _ held _ w.neighbour_on-neighbour.ensures (option_map number at.end) (λ none. grind arith) (λ some. refl) _ linked)
           ]
-      | in_default w ↦
-          rw (w.arena-is, w.end-is, w.count-is)
-          (named-vacant c.args.side c.args.arena.now at.arena at.count _ (at.position + 1) at.invariant inside c.requires
+      | in_default w ↦ rw (w.arena-is, w.end-is, w.count-is)
+          (named_neighbour-vacant c.args.side c.args.arena.now at.arena at.count _ (at.position + 1) at.invariant inside c.requires
           (read number g.P.Gen.PtrGen.number _ at.arena c.unwrap-index.result (at.position + 1) (search rules) c.get_inx.result _ c.get_inx.ensures w.in_default.is))
     ]
 
 pub returns : goal.returns
 returns g c =
-    named-ends c.args.side c.args.arena.now c.loop-position.arena c.loop-position.count _ (c.loop-position.position + 1) c.loop-position.invariant
+    named_neighbour-ends c.args.side c.args.arena.now c.loop-position.arena c.loop-position.count _ (c.loop-position.position + 1) c.loop-position.invariant
     (omega (arith, c.capacity-position-end.ensures.value)) c.capacity-position-end.ensures.sound.begins

@@ -1,11 +1,11 @@
 use Rattle.std.proofs.Common.{refl}
-use Rattle.ord_tree.specs.TreeLinks.{numbered}
+use Rattle.ord_tree.specs.TreeLinks.{as_numbers}
 use Rattle.ord_tree.proofs.Entries.{slots_of-linked, slots_of-elsewhere, slots_of-occupied, bare-written}
 use Rattle.ord_tree.proofs.store.ChainArenaSimpleOrdArenaNodeNodes.set_links.Goals as goal
 
 pub returns-clause-here : goal.returns-clause-here
 returns-clause-here g c =
-    rw (← c.get.ensures.value) (slots_of-linked c.args.self.now _ _ _ c.pair_mut-pair.ensures.value (numbered g.P.Inx.PtrInx.number c.args.links) c.kept-node.ensures c.kept-node-2.ensures c.kept-node-3.ensures refl)
+    rw (← c.get.ensures.value) (slots_of-linked c.args.self.now _ _ _ c.pair_mut-pair.ensures.value (as_numbers g.P.Inx.PtrInx.number c.args.links) c.kept-node.ensures c.kept-node-2.ensures c.kept-node-3.ensures refl)
 
 pub returns-clause-elsewhere : goal.returns-clause-elsewhere
 returns-clause-elsewhere g c = rw (← c.get.ensures.value) (slots_of-elsewhere c.args.self.now _ _ _ c.pair_mut-pair.ensures.value)

@@ -1,5 +1,5 @@
 use Rattle.triple_ord.proofs.Words.{rules, inl, inr, refl, IsSound, IfOk-weaker, MatchResult-weaker}
-use Rattle.triple_ord.proofs.CallerLemmas.{clone-cloned, clone-emptied}
+use Rattle.triple_ord.proofs.CallerLemmas.{clone-cloned, clone-refused_clone}
 use Rattle.triple_ord.proofs.arena.SimpleOrdArena.clone_from_arena.Goals as goal
 
 pub returns-clause-ok : goal.returns-clause-ok
@@ -14,9 +14,8 @@ pub returns-clause-found : goal.returns-clause-found
 returns-clause-found g c = IfOk-weaker c.try_clone_from_with.result _ _ (λ done is p. rw is refl) (returns-clause-ok g c)
 
 pub returns-clause-memory : goal.returns-clause-memory
-returns-clause-memory g c = λ is.
-    rw (← c.self.view_is, ← c.source.view_is)
+returns-clause-memory g c = λ is. rw (← c.self.view_is, ← c.source.view_is)
     (elim (c.try_clone_from_with.ensures.memory is) [
       | inl kept ↦ inl kept
-      | inr refused ↦ inr (clone-emptied g.P.Ptr.numbers _ _ c.source.inside.tree c.self.inside.tree c.try_clone_from_with.new.self refused)
+      | inr refused ↦ inr (clone-refused_clone g.P.Ptr.numbers _ _ c.source.inside.tree c.self.inside.tree c.try_clone_from_with.new.self refused)
     ])

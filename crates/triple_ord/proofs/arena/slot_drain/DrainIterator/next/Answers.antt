@@ -19,8 +19,7 @@ returns-in_err-p-clause-steps g c =
 pub returns-clause-steps : goal.returns-clause-steps
 returns-clause-steps g c =
     let a = c.args.self.now.arena.now in
-    let p = c.in_ok-p.p in
-    let i = (g.P.Ptr.numbers p).0 in
+    let p = c.in_ok-p.p in let i = (g.P.Ptr.numbers p).0 in
     let walk = c.in_ok-p.ensures.step in
     let valid = c.unwrap-taken.ensures.value in
     let removal = subst (λ o. OnSome o (c.remove.new.self.list ≡ removed g.P.Gen.PtrGen.greatest a.list i)) valid c.remove.ensures.removed in
