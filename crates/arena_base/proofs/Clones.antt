@@ -28,8 +28,7 @@ module _ {P W X U T M F : Type 0} (numbers : P → ℕ × ℕ) (below : M → P 
       → Calls numbers above (state m, map to xs) (map reshown es) (state n, map to ys)
   clones-retold [] m n xs ys same = ap (λ (s : M × List X). (state s.0, map to s.1)) same
   clones-retold (e ∷ es) m n xs ys calls =
-      let s = calls.1 in
-      let called = like m s.pointer e.2 s.item calls.0.0 s.called in
+      let s = calls.1 in let called = like m s.pointer e.2 s.item calls.0.0 s.called in
       let behind = ap (map to) s.behind ∙ map_push to xs s.item in (
         (state calls.0.0, map to calls.0.1),
         record { pointer = s.pointer; item = to s.item; index = s.index; generation = s.generation; called = called; behind = behind },

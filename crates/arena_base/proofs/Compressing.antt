@@ -71,8 +71,7 @@ module _ {P T G F : Type 0} {numbers : P → ℕ × ℕ} {number : G → ℕ} {s
 
     -- the slots once the slot is vacated
     emptied : set slots from Vacant ≡ done ++ (Vacant ∷ (replicate b.gap Vacant ++ drop (from + 1) old))
-    emptied =
-        ap (λ xs. set xs from Vacant) opened ∙ rw (set_at before _ _ Vacant from length-before, append_assoc, vacated)
+    emptied = ap (λ xs. set xs from Vacant) opened ∙ rw (set_at before _ _ Vacant from length-before, append_assoc, vacated)
 
     -- the slot that the item comes to is vacant
     pub compressed-free : (x : Slot T G) → x ≡ get_or (set slots from Vacant) to x → x ≡ Vacant
@@ -197,8 +196,7 @@ module _ {P T A Inx Gen F : Type 0} (numbers : P → ℕ × ℕ) (gen : Generati
       → IsCompression numbers step g f a (stored gen inx s next listed)
   compressed-after p =
       let same : None ∷ entries gen.number s.slots.items ≡ a.slots = ap (λ v. v.slots) seen in
-      let named : gen.number s.generation ≡ g = ap (λ v. v.generation) seen in
-      let n = length s.slots.items in
+      let named : gen.number s.generation ≡ g = ap (λ v. v.generation) seen in let n = length s.slots.items in
       let count : n + 1 ≡ length a.slots = omega (arith, ap length same, length-map s.slots.items (entry_in gen.number)) in
       let made = map (λ item. Some (g, item)) p.items in
       let slots : None ∷ entries gen.number next ≡ resized (length a.slots) (None ∷ made) =

@@ -58,10 +58,8 @@ module _ {T : Type 0} where
             omega (arith, sound.vacant_listed i, ap (times i) turn, times-append i, times-set i (k + 1) new slots 1 k (omega arith) within);
         counted =
             let counts = sum_by-set (λ x. cond (is_some x) 1 0) slots k new None within in
-            let own = length-vacant_from (k + 1) (get_or slots k None ∷ []) in
-            let put = length-vacant_from (k + 1) (new ∷ []) in
-            let before = count_by-cons None slots in
-            let after = count_by-cons None (set slots k new) in
+            let own = length-vacant_from (k + 1) (get_or slots k None ∷ []) in let put = length-vacant_from (k + 1) (new ∷ []) in
+            let before = count_by-cons None slots in let after = count_by-cons None (set slots k new) in
             omega (arith, sound.counted, counts, own, put, before, after, length-set slots k new, ap length turn, length-append {A = ℕ});
       }
 
@@ -71,8 +69,7 @@ module _ {T : Type 0} where
     pub first-vacant : IsVacant (arena slots (i ∷ rest) generation maximum) i
     first-vacant =
         let one : times i (i ∷ rest) ≡ 1 + times i rest = rw (times-cons i rest i, eq-eqb i i refl) in
-        let at = vacant_from-vacant 1 slots i (omega (arith, sound.vacant_listed i)) in
-        let next : i ≡ suc at.0 = omega (arith, at.1) in
+        let at = vacant_from-vacant 1 slots i (omega (arith, sound.vacant_listed i)) in let next : i ≡ suc at.0 = omega (arith, at.1) in
         record { above = omega (arith, next); within = omega (arith, next, at.2); free = rw next at.3 }
 
   -- an entry in its slot
@@ -83,8 +80,7 @@ module _ {T : Type 0} where
 
     pub sound-filled : IsSound most greatest filled
     sound-filled =
-        let vacant = first-vacant sound in
-        let free : get_or slots k None ≡ None = rw add-one at vacant.free in
+        let vacant = first-vacant sound in let free : get_or slots k None ≡ None = rw add-one at vacant.free in
         sound-set sound k (Some (generation, item)) rest (omega (arith, vacant.within))
         (lawful-some greatest (generation, item) sound.generation_lawful) (rw free refl)
 
@@ -162,8 +158,7 @@ module _ {P T A Inx Gen : Type 0} (gen : Generations Gen) (inx : Indexes Inx) (s
         pub written-sound : Sound current → is_some (slot a i) ≡ true → ForSome (slot a i) (λ e. IsLawfulGeneration gen.greatest (f e).0)
             → Sound (stored (set s.slots.items k x) s.vacant.items)
         written-sound sound there lawful =
-            let old = some_of (slot a i) there in
-            let put : entry_in gen.number x ≡ Some (f old.0) = is ∙ ap (option_map f) old.1 in
+            let old = some_of (slot a i) there in let put : entry_in gen.number x ≡ Some (f old.0) = is ∙ ap (option_map f) old.1 in
             rw (map-set, put)
             (sound-set sound k (Some (f old.0)) _ inside-entries (lawful-some gen.greatest (f old.0) (lawful old.0 old.1))
             (rw (vacant_from-some (k + 1) _ (was-there there)) refl))
@@ -382,8 +377,7 @@ module _ {P T A Inx Gen : Type 0} (gen : Generations Gen) (inx : Indexes Inx) (s
 
   pub swapped-sound : Sound gen inx s (current gen inx s) → Sound gen inx s now
   swapped-sound sound =
-      let e : ℕ × T = (gen.number gp, (other h).0) in
-      let d : ℕ × T = (gen.number gq, (one h).0) in
+      let e : ℕ × T = (gen.number gp, (other h).0) in let d : ℕ × T = (gen.number gq, (one h).0) in
       let count = length-map s.slots.items (entry_in gen.number) in
       let there : is_some (get_or (set slots p (Some e)) q None) ≡ true =
       grind (arith, get_or-set_same slots p (Some e) None, get_or-set_other slots p q (Some e) None, second-entry, count, h.p_within) in

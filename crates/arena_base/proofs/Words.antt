@@ -12,6 +12,7 @@ pub use Rattle.std.proofs.lemmas.{Fn.chained_keeps, List.Sums.sum_by-cons, List.
 pub use Rattle.std.proofs.lemmas.{Option.same_Some, Option.slice_get_within, Option.get_or_from_slice_get, Result.on_ok_weaker}
 pub use Rattle.std.{proofs.Common.vec_capacity, proofs.lemmas.Simd.map-map, specs.declared.alloc.AllocError.AllocError}
 pub use Rattle.std.specs.{Result.OnOk, Result.OnErr, List.list_any, List.FoldsTo, Option.option_map, Option.ForSome}
+pub use Rattle.std.proofs.lemmas.Grind.{common_steps}
 pub use lib.LanesLaws.{map-replicate}
 pub use Rattle.arena_base.specs.Arena.{vacant_from, times, Arena, IsSound, IsInsertion, limit_of, resized, greatest_occupied, HoldsSame}
 pub use Rattle.arena_base.specs.Arena.{IsFresh, slot, arena_capacity, with_slot, freed, IsVacant, IsLawful, FindSame, item_if, swapped}

@@ -5,9 +5,7 @@ use Rattle.arena_base.proofs.arena.Arena.compress_by.Goals as goal
 
 pub invariant_of-self : goal.invariant_of-self
 invariant_of-self g c =
-    let s = c.self.inside in
-    let p = c.move_down.ensures.items in
-    let all = rw c.as_slice.ensures.value at c.list_vacant.ensures.items in
+    let s = c.self.inside in let p = c.move_down.ensures.items in let all = rw c.as_slice.ensures.value at c.list_vacant.ensures.items in
     let sound = c.self.invariant.0 in (
       relisted-sound g.P.Gen.PtrGen g.P.Inx.PtrInx c.move_down.new.slots.items _ s.generation s.maximum all (length s.slots.items) _
           (entries-compressed g.P.Gen.PtrGen.number (length s.slots.items) _ s.generation p.items p.after p.fits)

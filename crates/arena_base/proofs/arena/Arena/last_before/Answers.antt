@@ -4,9 +4,7 @@ use Rattle.arena_base.proofs.arena.Arena.last_before.Goals as goal
 
 pub returns-in-Some-clause-pointers : goal.returns-in-Some-clause-pointers
 returns-in-Some-clause-pointers g c =
-    let a = c.args.self.now in
-    let n = c.loop-position.position in
-    let next : n ≡ n - 1 + 1 = omega arith in
+    let a = c.args.self.now in let n = c.loop-position.position in let next : n ≡ n - 1 + 1 = omega arith in
     let index : n ≡ (g.P.Ptr.numbers c.pointer.result).0 = next ∙ sym c.pointer.ensures.index in
     sym c.loop-position.invariant
     ∙ (falling-some a.slots n (n - 1) next (omega arith) (g.P.Gen.PtrGen.number c.in-Some.generation) (rw (← next) at (sym c.in-Some.ensures))
@@ -15,8 +13,6 @@ returns-in-Some-clause-pointers g c =
 
 pub loop-position-preserved : goal.loop-position-preserved
 loop-position-preserved g c =
-    let a = c.args.self.now in
-    let n = c.loop-position.position in
-    let next : n ≡ n - 1 + 1 = omega arith in
+    let a = c.args.self.now in let n = c.loop-position.position in let next : n ≡ n - 1 + 1 = omega arith in
     let none : generation_at a (n - 1 + 1) ≡ None = sym c.generation_at.ensures ∙ ap (option_map g.P.Gen.PtrGen.number) c.in_default.is in
     sym (falling-none a.slots n (n - 1) next (omega arith) (rw (← next) at none)) ∙ c.loop-position.invariant

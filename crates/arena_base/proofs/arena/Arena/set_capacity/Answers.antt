@@ -1,6 +1,6 @@
 use Rattle.arena_base.proofs.Words.{◌≡◌, suc, ◌+◌, ◌++◌, length, replicate, ◌-◌, refl, arith, ap, ◌∙◌, add-one, length-take, Vacant}
 use Rattle.arena_base.proofs.Steps.{resized-cons, entries-resized, padded-vacant, resized-full, relisted, relisted-sound}
-use Rattle.arena_base.proofs.{arena.Arena.set_capacity.Given.Over, arena.Arena.set_capacity.Goals.After-add_vacant}
+use Rattle.arena_base.proofs.{Words.common_steps, arena.Arena.set_capacity.Given.Over, arena.Arena.set_capacity.Goals.After-add_vacant}
 use Rattle.arena_base.proofs.arena.Arena.set_capacity.Goals as goal
 
 -- the slots, with vacant ones added
@@ -37,3 +37,15 @@ returns-clause-ok g c =
     let is = entries-resized g.P.Gen.PtrGen.number c.args.n c.self.inside.slots.items _ (padded g (goal.at.returns-clause-ok g c).After-add_vacant) in
     rw c.cut_vacant.ensures.items
     (relisted g.P.Gen.PtrGen g.P.Inx.PtrInx _ _ c.self.inside.generation c.self.inside.maximum all ∙ rw (← c.self.view_is, is, resized-cons) refl)
+
+pub list_vacant-requires-clause-room : goal.list_vacant-requires-clause-room
+list_vacant-requires-clause-room g c = grind (arith, common_steps)
+
+pub list_vacant-requires-clause-named : goal.list_vacant-requires-clause-named
+list_vacant-requires-clause-named g c = grind (arith, common_steps)
+
+pub returns-in_err-reserve_exact-clause-memory : goal.returns-in_err-reserve_exact-clause-memory
+returns-in_err-reserve_exact-clause-memory g c = grind (arith, common_steps)
+
+pub returns-in_err-reserve_exact-2-clause-memory : goal.returns-in_err-reserve_exact-2-clause-memory
+returns-in_err-reserve_exact-2-clause-memory g c = grind (arith, common_steps)

@@ -46,8 +46,7 @@ Exchange g c =
 
 exchange : (g : Over) (c : After-renew-2 g) → Exchange g c
 exchange g c =
-    let xs = c.self.inside.slots in
-    let capacity = capacity-is g.P.Gen.PtrGen g.P.Inx.PtrInx c.self.inside _ c.self.view_is in
+    let xs = c.self.inside.slots in let capacity = capacity-is g.P.Gen.PtrGen g.P.Inx.PtrInx c.self.inside _ c.self.view_is in
     let first : c.position_of_entry-first.result < length xs.items = omega (arith, capacity, c.position_of_entry-first.ensures.within) in
     let second : c.position_of_entry-second.result < length xs.items = omega (arith, capacity, c.position_of_entry-second.ensures.within) in
     let same : length c.swap.new.self.items ≡ length xs.items = omega (arith, c.swap.new.self.ok.0, xs.ok.0, c.swap.ensures.len) in

@@ -1,14 +1,11 @@
-use Rattle.arena_base.proofs.Words.{◌≤◌, length, arith, sym, ap, ◌∙◌, same_Some, on_ok_weaker, option_map, Vacant}
+use Rattle.arena_base.proofs.Words.{◌≤◌, length, arith, sym, ap, ◌∙◌, same_Some, on_ok_weaker, option_map, common_steps, Vacant}
 use Rattle.arena_base.proofs.Steps.{capacity-is, length-padded, relisted-fresh}
 use Rattle.arena_base.proofs.Clones.{clone-whole, clone-refused, clone-sound}
 use Rattle.arena_base.proofs.arena.Arena.take_over.Goals as goal
 
 pub invariant_of-self : goal.invariant_of-self
 invariant_of-self g c =
-    let s = c.self.inside in
-    let granted = c.clone_slots-granted in
-    let copies = granted.new.slots in
-    let next = c.add_vacant.new.slots in
+    let s = c.self.inside in let granted = c.clone_slots-granted in let copies = granted.new.slots in let next = c.add_vacant.new.slots in
     let capacity = capacity-is g.P.Gen.PtrGen g.P.Inx.PtrInx s _ c.self.view_is in
     let within : length copies.items ≤ length s.slots.items = omega (arith, copies.ok.0, capacity) in
     let all = rw c.as_slice.ensures.value at c.list_vacant.ensures.items in
@@ -22,11 +19,8 @@ invariant_of-self g c =
 
 pub returns : goal.returns
 returns g c =
-    let s = c.self.inside in
-    let granted = c.clone_slots-granted in
-    let copies = granted.new.slots in
-    let next = c.add_vacant.new.slots.items in
-    let all = rw c.as_slice.ensures.value at c.list_vacant.ensures.items in
+    let s = c.self.inside in let granted = c.clone_slots-granted in let copies = granted.new.slots in
+    let next = c.add_vacant.new.slots.items in let all = rw c.as_slice.ensures.value at c.list_vacant.ensures.items in
     let named = same_Some _ _ (ap (option_map g.P.Gen.PtrGen.number) (sym c.unwrap-self-inside.ensures) ∙ c.singular_generation.ensures) in
     let padded = rw (copies.ok.0, c.len-capacity.ensures, s.slots.ok.0) at c.add_vacant.ensures.items in
     let within : length copies.items ≤ length s.slots.items = omega (arith, copies.ok.0, capacity-is g.P.Gen.PtrGen g.P.Inx.PtrInx s _ c.self.view_is) in
@@ -39,3 +33,9 @@ returns g c =
           clone-refused g.P.Ptr.numbers g.P.Gen.PtrGen g.P.Inx.PtrInx g.M.CloneEntry.step s copies.items next _ _ all c.args.self.now c.self.view_is
           _ named (omega arith) within padded c.args.map granted.result granted.ensures.refused granted.ensures.none_left;
     }
+
+pub list_vacant-requires : goal.list_vacant-requires
+list_vacant-requires g c = record { room = grind (arith, common_steps); named = grind (arith, common_steps); full = λ k below. absurd (omega arith) }
+
+pub clone_slots-granted-requires-clause-room : goal.clone_slots-granted-requires-clause-room
+clone_slots-granted-requires-clause-room g c = grind (arith, common_steps)

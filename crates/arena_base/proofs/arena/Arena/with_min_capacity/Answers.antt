@@ -4,8 +4,7 @@ use Rattle.arena_base.proofs.arena.Arena.with_min_capacity.Goals as goal
 
 pub invariant_of-result : goal.invariant_of-result
 invariant_of-result g c =
-    let next = c.add_vacant.new.slots in
-    let two = c.two-generation.ensures in
+    let next = c.add_vacant.new.slots in let two = c.two-generation.ensures in
     let is = rw (c.in_ok-slots.slots.ok.0, c.in_ok-slots.ensures.items) at c.add_vacant.ensures.items in
     let all = rw c.as_slice.ensures.value at c.list_vacant.ensures.items in (
       relisted-sound g.P.Gen.PtrGen g.P.Inx.PtrInx next.items _ c.two-generation.result None all c.args.n []

@@ -26,8 +26,7 @@ returns-in-Err-clause-refused g c =
 
 pub loop-position-preserved : goal.loop-position-preserved
 loop-position-preserved g c =
-    let at = c.loop-position.invariant in
-    let a = g.S.ArenaTrait.content c.args.source.now in
+    let at = c.loop-position.invariant in let a = g.S.ArenaTrait.content c.args.source.now in
     let inside : c.loop-position.position + 1 < length a.slots = omega (arith, greatest_occupied-below a.slots) in
     let shown = sym (c.get_inx.ensures ∙ ap (slot a) c.inx_at-i.ensures) in
     elim c.match-get_inx.branch [

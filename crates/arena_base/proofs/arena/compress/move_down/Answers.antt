@@ -15,8 +15,7 @@ fill-requires g c =
 
 pub loop-from-preserved : goal.loop-from-preserved
 loop-from-preserved g c =
-    let at = c.loop-from in
-    let inside : at.from < length c.args.slots.now.items = search rules in
+    let at = c.loop-from in let inside : at.from < length c.args.slots.now.items = search rules in
     elim c.match-vacate.branch [
       | in-Some w ↦
           rw (w.slots-is, w.map-is, w.to-is, w.fill.ensures, c.vacate.ensures.after) (

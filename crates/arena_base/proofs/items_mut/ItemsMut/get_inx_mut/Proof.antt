@@ -61,8 +61,7 @@ get_inx_mut_spec {M} 𝓤 𝓛 𝓜 𝓡 wired S P T I G LS LP LT LI LG CP CI CG
     let fits = (((copied_laws 3 I LI).lawful 𝓛).typed n (w ∷ []) are.1.0).0 in
     let Test = triple_of 𝓛 (test.signature S P T I G) (test.spec S P T I G s s' p p' pc pc' pe pe' pq pq' i
     i' ic ic' ie ie' iq iq' g g' gc gc' ge ge' gq gq' 𝓛 𝓜.mem 𝓡.returns) in
-    let z : Test.Ghost = ((κs, qs, (bounds.0, tt), a, (vs, (w ∷ [], tt))), tt) in
-    let Alive = raw (alive 𝓛 En.signature κs qs) in
+    let z : Test.Ghost = ((κs, qs, (bounds.0, tt), a, (vs, (w ∷ [], tt))), tt) in let Alive = raw (alive 𝓛 En.signature κs qs) in
     let LivesS = κs.1.0 ⊑ S.lives in let LivesP = κs.1.1.0 ⊑ P.lives in let LivesT = κs.1.1.1.0 ⊑ T.lives in
     let LivesI = κs.1.1.1.1.0 ⊑ I.lives in let LivesG = κs.1.1.1.1.1.0 ⊑ G.lives in
     qed 𝓛 ((Alive ⊛ ‵ (Ref.own_val r vs) ⊛ ‵ (Inx.own_val n (w ∷ [])) ⊛ ‵ ftrue)
@@ -77,8 +76,7 @@ get_inx_mut_spec {M} 𝓤 𝓛 𝓜 𝓡 wired S P T I G LS LP LT LI LG CP CI CG
     use1 𝓛 (‵ (Inx.own_val n (w ∷ [])) ⊛ ‵ (Inx.own_val n (w ∷ []))) ((copy_inx.copies _ 𝓤 𝓛).twice n (w ∷ [])) $ split ! $
     -- [the index; the index; nothing; the reference; the tokens; what lives]
     move ! (0 ∷ 2 ∷ []) $ join ! $ move ! (2 ∷ 0 ∷ []) $ join ! $ move ! (2 ∷ 0 ∷ []) $ join ! $ move ! (0 ∷ 2 ∷ []) $
-    use2 𝓛 (raw (Test.pre z)) (id⊢ 𝓤 _) $
-    enter ! _ _ _ _ _ $ alloc_all ! (λ l. pass_all ! refl ((tt, tt), (fits, tt)) $
+    use2 𝓛 (raw (Test.pre z)) (id⊢ 𝓤 _) $ enter ! _ _ _ _ _ $ alloc_all ! (λ l. pass_all ! refl ((tt, tt), (fits, tt)) $
     sets ! (addr ! (through ! refl (stop !))) refl (tt, tt) $
     -- [what is asked; the index]
     calls_at ! (framed 𝓤 𝓛.H 𝓜 (tables 𝓤 𝓛.H 𝓜 𝓡 𝓡.env)) Test (test_met 𝓤 𝓛 𝓜 𝓡 (code.calls-arena_base::items_mut::occupied 𝓡.env wired)
@@ -102,8 +100,7 @@ get_inx_mut_spec {M} 𝓤 𝓛 𝓜 𝓡 wired S P T I G LS LP LT LI LG CP CI CG
     -- [the reference; nothing; the tokens; the index]
     sets ! (of_opd ! (get_in ! (fld ! refl (stop !)) (sub ! 0 refl (whole !)))) refl (tt, tt) $
     sets ! (of_opd ! (get_in ! (fld ! refl (stop !)) (sub ! 1 refl (whole !)))) refl (tt, tt) $
-    sets ! (of_opd ! (get ! refl)) refl (tt, tt) $
-    first ! $ branches ! (get ! refl)
+    sets ! (of_opd ! (get ! refl)) refl (tt, tt) $ first ! $ branches ! (get ! refl)
     (λ t.
     let found : is_some (s.entry_at b.1.now number) ≡ true = ap (λ (m : S.Denot). is_some (s.entry_at m number)) same ∙ sym is ∙ is_true
     b.0 t in
@@ -116,8 +113,7 @@ get_inx_mut_spec {M} 𝓤 𝓛 𝓜 𝓡 wired S P T I G LS LP LT LI LG CP CI CG
     use0 𝓛 (raw (fact 𝓤 (is_some (s.entry_at b.1.now number) ≡ true))) (fact_i 𝓤 _ (emp 𝓤) found) $
     use0 𝓛 (raw (fact 𝓤 LivesG)) (fact_i 𝓤 _ (emp 𝓤) livesG) $ join ! $ use0 𝓛 (raw (fact 𝓤 LivesI)) (fact_i 𝓤 _ (emp 𝓤) livesI) $ join ! $
     use0 𝓛 (raw (fact 𝓤 LivesT)) (fact_i 𝓤 _ (emp 𝓤) livesT) $ join ! $ use0 𝓛 (raw (fact 𝓤 LivesP)) (fact_i 𝓤 _ (emp 𝓤) livesP) $ join ! $
-    use0 𝓛 (raw (fact 𝓤 LivesS)) (fact_i 𝓤 _ (emp 𝓤) livesS) $ join ! $
-    move ! (1 ∷ 0 ∷ []) $ use2 𝓛 (raw (Pair.pre y)) (id⊢ 𝓤 _) $
+    use0 𝓛 (raw (fact 𝓤 LivesS)) (fact_i 𝓤 _ (emp 𝓤) livesS) $ join ! $ move ! (1 ∷ 0 ∷ []) $ use2 𝓛 (raw (Pair.pre y)) (id⊢ 𝓤 _) $
     calls_at ! (framed 𝓤 𝓛.H 𝓜 (tables 𝓤 𝓛.H 𝓜 𝓡 𝓡.env)) Pair ms.pair_mut y
     (and_then ! (get ! refl) (and_then ! (get ! refl) (no_more !))) (λ v'.
     use1 𝓛 (later (some (λ (e : G.Denot × MutBor T.Denot). (Alive ⊛ ‵ (Two.own_val e (v' ∷ []))) ⊛
@@ -142,8 +138,7 @@ get_inx_mut_spec {M} 𝓤 𝓛 𝓜 𝓡 wired S P T I G LS LP LT LI LG CP CI CG
         record { fits = lit< tt },
         ((era_fits.1, (tt, tt)), tt),
       ),
-    ) $
-    exec ! (tables 𝓤 𝓛.H 𝓜 𝓡 𝓡.env).C (tables 𝓤 𝓛.H 𝓜 𝓡 𝓡.env).Λ (env fn.locals l) (after 6 fn.body) (at_ret _ (W.post x)) $
+    ) $ exec ! (tables 𝓤 𝓛.H 𝓜 𝓡 𝓡.env).C (tables 𝓤 𝓛.H 𝓜 𝓡 𝓡.env).Λ (env fn.locals l) (after 6 fn.body) (at_ret _ (W.post x)) $
     sets ! (of_opd ! (get ! refl)) refl (yes_and _ true typed tt, (record { fits = lit< tt }, ((era_fits.1, (tt, tt)), tt))) $
     returns ! (look_at ! 0 refl) $ free_all ! refl $ keep ! (0 ∷ 1 ∷ 2 ∷ 3 ∷ 4 ∷ []) $
     fjoin ! $ move ! (1 ∷ 0 ∷ []) $ fjoin ! $ feq_i ! (List Val) (word ∷ []) (vstruct (of_list (us'.0 ++ (us'.1.0 ++ []))) ∷ []) (ap (λ
