@@ -148,12 +148,10 @@ module _ {X : Type 0} where
         | inl e ↦ (0, omega arith, omega arith, refl)
         | inr n ↦
             let first = rw (ne_eqb from i n) at (times-cons from (vacant_from (from + 1) slots) i) in
-            let p = vacant_from-vacant (from + 1) slots i (omega arith) in
-            (suc p.0, omega (arith, p.1), omega (arith, p.2), p.3)
+            let p = vacant_from-vacant (from + 1) slots i (omega arith) in (suc p.0, omega (arith, p.1), omega (arith, p.2), p.3)
       ]
   vacant_from-vacant from (Some e ∷ slots) i h =
-      let p = vacant_from-vacant (from + 1) slots i h in
-      (suc p.0, omega (arith, p.1), omega (arith, p.2), p.3)
+      let p = vacant_from-vacant (from + 1) slots i h in (suc p.0, omega (arith, p.1), omega (arith, p.2), p.3)
 
   module _ (n : ℕ) where
     -- how often n is listed
@@ -171,8 +169,7 @@ module _ {X : Type 0} where
           → listed from (set slots k new) + listed i (get_or slots k None ∷ []) ≡ listed from slots + listed i (new ∷ [])
       times-set [] from k is within = absurd (omega arith)
       times-set (s ∷ slots) from zero is within =
-          let same : i ≡ from = omega arith in
-          rw same (omega (arith, listed-cons from s slots, listed-cons from new slots))
+          let same : i ≡ from = omega arith in rw same (omega (arith, listed-cons from s slots, listed-cons from new slots))
       times-set (s ∷ slots) from (suc k) is within =
           let ih = times-set slots (from + 1) k (omega arith) (omega arith) in
           omega (arith, listed-cons from s slots, listed-cons from s (set slots k new))

@@ -34,8 +34,7 @@ module _ {T : Type 0} where
     entries_from-first : (from : ℕ) (slots : List (Option (ℕ × T))) → entries_from from slots ≡ e ∷ rest
         → (k : ℕ) × (e.0 ≡ from + k) × (get_or slots k None ≡ Some (e.1, e.2))
     entries_from-first from (None ∷ slots) is =
-        let later = entries_from-first (from + 1) slots is in
-        (suc later.0, omega (arith, later.1), later.2)
+        let later = entries_from-first (from + 1) slots is in (suc later.0, omega (arith, later.1), later.2)
     entries_from-first from slots is = (0, grind arith, grind arith)
 
     entries_rising-first : (a : Arena T) (i : ℕ) → entries_rising a i ≡ e ∷ rest → slot a e.0 ≡ Some (e.1, e.2)

@@ -29,8 +29,7 @@ index-requires-2 g c = (within g (goal.at.index-requires-2 g c).After-position_o
 
 pub swap-requires : goal.swap-requires
 swap-requires g c =
-    let at = within g (goal.at.swap-requires g c).After-position_of_entry-second in
-    record { i_in_bounds = at.0; j_in_bounds = at.1 }
+    let at = within g (goal.at.swap-requires g c).After-position_of_entry-second in record { i_in_bounds = at.0; j_in_bounds = at.1 }
 
 pub index_mut-slot-requires : goal.index_mut-slot-requires
 index_mut-slot-requires g c = rw c.swap.ensures.len (within g (goal.at.index_mut-slot-requires g c).After-position_of_entry-second).0

@@ -13,5 +13,4 @@ unreachable-requires g c =
     let rest = c.take_last.new.self in
     let parts = front-parts c.args.slots.now.items rest.items c.take_last.result Vacant rest.len c.loop-slots.slots.len
     (sym c.take_last.ensures.items ∙ c.loop-slots.invariant.items) (omega arith) (omega (arith, rest.ok.0)) in
-    let vacant = c.requires rest.len (omega arith) in
-    cc parts.1
+    let vacant = c.requires rest.len (omega arith) in cc parts.1
