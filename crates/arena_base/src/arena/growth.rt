@@ -1,5 +1,5 @@
 //! Making an arena, and changing its capacity.
-ghost use Rattle.std.specs.Prelude.{◌≡◌, ◌≢◌, ◌+◌, ◌-◌, ◌<◌, ◌≤◌, ◌↔◌, ◌++◌, ℕ, map, max, reverse, take, replicate, length, vec_len, vec_capacity, slice_index_or, IsOk, IsErr, IfOk, OnOk, OnErr, MatchResult};
+ghost use Rattle.std.specs.Prelude.{◌≡◌, ◌≢◌, ◌+◌, ◌-◌, ◌<◌, ◌≤◌, ◌↔◌, ◌++◌, ◌⊎◌, ℕ, map, max, reverse, take, replicate, length, vec_len, vec_capacity, slice_index_or, IsOk, IsErr, IfOk, OnOk, OnErr, MatchResult};
 ghost use Rattle.arena_base.specs.Arena.{IsOccupied, slot, arena_len, arena_capacity, arena_limit, new_arena, with_capacity, cleared, emptied, greatest_occupied};
 ghost use Rattle.arena_base.specs.Generation.{overflows_after};
 ghost use Rattle.arena_base.specs.Invalidation.{is_overflow};
@@ -154,15 +154,30 @@ impl<P: Ptr, T, A: Allocator> Arena<P, T, A> {
         ensures err { OnErr result (self.new ≡ self.old) }
     {
         let full = self.full_positions();
-        self.slots
-            .reserve_exact(n.saturating_sub(self.slots.len()))?;
-        self.vacant
-            .reserve_exact(n.saturating_sub(self.vacant.len()))?;
+        reserve(&mut self.slots, &mut self.vacant, n)?;
         add_vacant(&mut self.slots, n);
         cut_vacant(&mut self.slots, n);
         list_vacant(self.slots.as_slice(), full, &mut self.vacant);
         Ok(())
     }
+}
+
+// Gets memory for `n` slots in all, and for as many vacant indexes.
+fn reserve<S, I, A: Allocator>(
+    slots: &mut Vec<S, A>,
+    vacant: &mut Vec<I, A>,
+    n: usize,
+) -> Result<(), AllocError>
+    ensures slots { slots.new.items ≡ slots.old.items }
+    ensures vacant { vacant.new.items ≡ vacant.old.items }
+    ensures grown { vec_capacity vacant.old ≤ vec_capacity vacant.new }
+    ensures room { OnOk result
+        ((n ≤ vec_capacity slots.new) × (n ≤ vec_capacity vacant.new)) }
+    ensures memory { OnErr result
+        ((vec_capacity slots.old < n) ⊎ (vec_capacity vacant.old < n)) }
+{
+    slots.reserve_exact(n.saturating_sub(slots.len()))?;
+    vacant.reserve_exact(n.saturating_sub(vacant.len()))
 }
 
 // Adds vacant slots until there are `n`.

@@ -6,7 +6,7 @@ use Rattle.arena_base.proofs.arena.Arena.set_capacity.Goals as goal
 -- the slots, with vacant ones added
 padded : (g : Over) (c : After-add_vacant g)
     → c.add_vacant.new.slots.items ≡ c.self.inside.slots.items ++ replicate (c.args.n - length c.self.inside.slots.items) Vacant
-padded g c = rw (c.reserve_exact.new.self.ok.0, c.reserve_exact.ensures.items) at c.add_vacant.ensures.items
+padded g c = rw (c.reserve.new.slots.ok.0, c.reserve.ensures.slots) at c.add_vacant.ensures.items
 
 pub cut_vacant-requires : goal.cut_vacant-requires
 cut_vacant-requires g c =
@@ -28,7 +28,7 @@ invariant_of-self-2 g c =
           (relisted-sound g.P.Gen.PtrGen g.P.Inx.PtrInx _ _ c.self.inside.generation c.self.inside.maximum all c.args.n _
           (entries-resized g.P.Gen.PtrGen.number c.args.n c.self.inside.slots.items _ is) (rw (← c.self.view_is) at c.requires.limit)
           c.self.invariant.0.generation_lawful (λ k. c.self.invariant.0.entries_lawful (suc k))),
-      omega (arith, c.cut_vacant.new.slots.ok.0, ap length c.cut_vacant.ensures.items, length-take c.args.n c.add_vacant.new.slots.items, c.in_ok-reserve_exact-2.ensures.ok),
+      omega (arith, c.cut_vacant.new.slots.ok.0, ap length c.cut_vacant.ensures.items, length-take c.args.n c.add_vacant.new.slots.items, c.in_ok-reserve.ensures.room),
     )
 
 pub returns-clause-ok : goal.returns-clause-ok
@@ -44,8 +44,5 @@ list_vacant-requires-clause-room g c = grind (arith, common_steps)
 pub list_vacant-requires-clause-named : goal.list_vacant-requires-clause-named
 list_vacant-requires-clause-named g c = grind (arith, common_steps)
 
-pub returns-in_err-reserve_exact-clause-memory : goal.returns-in_err-reserve_exact-clause-memory
-returns-in_err-reserve_exact-clause-memory g c = grind (arith, common_steps)
-
-pub returns-in_err-reserve_exact-2-clause-memory : goal.returns-in_err-reserve_exact-2-clause-memory
-returns-in_err-reserve_exact-2-clause-memory g c = grind (arith, common_steps)
+pub returns-in_err-reserve-clause-memory : goal.returns-in_err-reserve-clause-memory
+returns-in_err-reserve-clause-memory g c = grind (arith, common_steps)
