@@ -1,4 +1,4 @@
-use Rattle.arena_base.proofs.Words.{length, arith, ◌∙◌, length-map, entry_in}
+use Rattle.arena_base.proofs.Words.{length, arith, common_steps, ◌∙◌, length-map, entry_in}
 use Rattle.arena_base.proofs.Steps.{relisted-fresh, relisted-sound}
 use Rattle.arena_base.proofs.Compressing.{compressed-lawful, entries-compressed, compressed-after}
 use Rattle.arena_base.proofs.arena.Arena.compress_by.Goals as goal
@@ -23,3 +23,6 @@ pub returns-clause-fresh : goal.returns-clause-fresh
 returns-clause-fresh g c =
     let all = rw c.as_slice.ensures.value at c.list_vacant.ensures.items in
     relisted-fresh g.P.Gen.PtrGen g.P.Inx.PtrInx c.move_down.new.slots.items _ c.self.inside.generation c.self.inside.maximum all
+
+pub list_vacant-requires-clause-named : goal.list_vacant-requires-clause-named
+list_vacant-requires-clause-named g c = grind (arith, common_steps)

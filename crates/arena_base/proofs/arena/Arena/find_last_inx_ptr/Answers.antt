@@ -1,4 +1,4 @@
-use Rattle.arena_base.proofs.Words.{inl, inr, ◌≡◌, None, get_or, refl, arith, sym, ap, ◌∙◌, cases_lt, get_or-take}
+use Rattle.arena_base.proofs.Words.{inl, inr, ◌≡◌, None, get_or, refl, arith, common_steps, sym, ap, ◌∙◌, cases_lt, get_or-take}
 use Rattle.arena_base.proofs.Slots.{counted_none}
 use Rattle.arena_base.proofs.arena.Arena.find_last_inx_ptr.Goals as goal
 
@@ -7,3 +7,6 @@ returns-clause-empty g c =
     let slots = c.args.self.now.slots in
     let first : get_or slots 0 None ≡ None = sym (get_or-take 1 slots 0 None (omega arith)) ∙ ap (λ ss. get_or ss 0 None) c.capacity-position.ensures.sound.begins in
     (λ h. counted_none slots (λ k. elim (cases_lt 0 k) [ inl above ↦ c.loop-position.invariant k (omega arith) | inr zero ↦ let same : k ≡ 0 = omega arith in rw same first ]), λ h. refl)
+
+pub returns-in-Some-clause-empty : goal.returns-in-Some-clause-empty
+returns-in-Some-clause-empty g c = grind (arith, common_steps)
