@@ -249,12 +249,12 @@ resized-again n m slots =
     (λ k below. get_or-resized n (slots ++ replicate m None) k below ∙ get_or-padded slots m k None)
 
 module _ {T G : Type 0} (number : G → ℕ) (n : ℕ) (slots padded : List (Slot T G)) (is : padded ≡ slots ++ replicate (n - length slots) Vacant) where
-  pub entries-resized : entries number (take n padded) ≡ resized n (entries number slots)
-  entries-resized =
-      rw (is, ← take-map, map-append, map-replicate, ← length-map slots (entry_in number)) (resized-padded n (entries number slots))
+  pub entries-resized : (cut : List (Slot T G)) → cut ≡ take n padded → entries number cut ≡ resized n (entries number slots)
+  entries-resized cut same =
+      rw (same, is, ← take-map, map-append, map-replicate, ← length-map slots (entry_in number)) (resized-padded n (entries number slots))
 
   pub entries-padded : length slots ≤ n → entries number padded ≡ resized n (entries number slots)
-  entries-padded fits = rw (← take_all n padded (omega (arith, length-padded n slots padded Vacant is fits))) entries-resized
+  entries-padded fits = entries-resized padded (sym (take_all n padded (omega (arith, length-padded n slots padded Vacant is fits))))
 
   module _ (least : greatest_occupied (None ∷ entries number slots) ≤ n) where
     beyond : (k : ℕ) → n ≤ k → get_or (entries number slots) k None ≡ None
@@ -271,7 +271,7 @@ module _ {T G : Type 0} (number : G → ℕ) (n : ℕ) (slots padded : List (Slo
     resized-full k there = λ vacant.
         let none : get_or (entries number (take n padded)) k None ≡ None = get_or-entries number (take n padded) k ∙ ap (entry_in number) vacant in
         let same = resized-same n (entries number slots) beyond k in
-        false≢true (ap is_some (sym none ∙ (ap (λ ss. get_or ss k None) entries-resized ∙ same)) ∙ there)
+        false≢true (ap is_some (sym none ∙ (ap (λ ss. get_or ss k None) (entries-resized (take n padded) refl) ∙ same)) ∙ there)
 
 -- the vacant indexes are listed anew
 module _ {T Inx Gen : Type 0} (gen : Generations Gen) (inx : Indexes Inx) (next : List (Slot T Gen)) (listed : List Inx) (generation : Gen)
