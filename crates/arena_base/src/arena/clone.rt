@@ -7,7 +7,7 @@ ghost use Rattle.arena_base.specs.Walk.{entries_rising};
 
 use super::Arena;
 use super::get::inx_at;
-use super::growth::{add_vacant, list_vacant};
+use super::growth::fill_up;
 use crate::clone_entry::{CloneEntry, TryCalls};
 use crate::error::ReallocationError;
 use crate::map_entry::Calls;
@@ -140,8 +140,7 @@ impl<P: Ptr, T: Drop, A: Allocator> Arena<P, T, A> {
         let capacity = self.slots.len();
         self.slots.clear();
         let granted = clone_slots::<P, T, A, U, S, M>(&mut self.slots, source, n, map);
-        add_vacant(&mut self.slots, capacity);
-        list_vacant(self.slots.as_slice(), 0, &mut self.vacant);
+        fill_up(&mut self.slots, &mut self.vacant, capacity);
         self.generation = source.singular_generation().unwrap();
         granted
     }

@@ -42,8 +42,7 @@ impl<P: Ptr, T, A: Allocator> Arena<P, T, A> {
         // The slots come last, so that where they are refused there is nothing yet that could hold an item.
         let mut vacant = Vec::with_capacity(alloc, n)?;
         let mut slots = Vec::with_capacity(alloc, n)?;
-        add_vacant(&mut slots, n);
-        list_vacant(slots.as_slice(), 0, &mut vacant);
+        fill_up(&mut slots, &mut vacant, n);
         let generation = P::Gen::two();
         Ok(Arena {
             slots,
@@ -110,8 +109,7 @@ impl<P: Ptr, T, A: Allocator> Arena<P, T, A> {
     {
         let n = self.slots.len();
         self.slots.clear();
-        add_vacant(&mut self.slots, n);
-        list_vacant(self.slots.as_slice(), 0, &mut self.vacant);
+        fill_up(&mut self.slots, &mut self.vacant, n);
     }
 
     // Gives back the memory that no slot needs.
@@ -180,8 +178,27 @@ fn reserve<S, I, A: Allocator>(
     vacant.reserve_exact(n.saturating_sub(vacant.len()))
 }
 
+// Adds vacant slots until there are `n`, and lists the indexes of all vacant ones.
+pub(super) fn fill_up<T, G, I: PtrInx, A: Allocator>(
+    slots: &mut Vec<Slot<T, G>, A>,
+    vacant: &mut Vec<I, A>,
+    n: usize,
+)
+    requires room { n ≤ vec_capacity slots.old }
+    requires listed { n ≤ vec_capacity vacant.old }
+    requires named { n ≤ I.most }
+    requires fits { vec_len slots.old ≤ n }
+    ensures items { slots.new.items
+        ≡ slots.old.items ++ replicate (n - vec_len slots.old) Slot.Vacant }
+    ensures vacant { map I.number vacant.new.items ≡ reverse (vacant_slots 1 slots.new.items) }
+    ensures capacity { vec_capacity vacant.new ≡ vec_capacity vacant.old }
+{
+    add_vacant(slots, n);
+    list_vacant(slots.as_slice(), 0, vacant);
+}
+
 // Adds vacant slots until there are `n`.
-pub(super) fn add_vacant<T, G, A: Allocator>(slots: &mut Vec<Slot<T, G>, A>, n: usize)
+fn add_vacant<T, G, A: Allocator>(slots: &mut Vec<Slot<T, G>, A>, n: usize)
     requires { n ≤ vec_capacity slots.old }
     ensures items { slots.new.items
         ≡ slots.old.items ++ replicate (n - vec_len slots.old) Slot.Vacant }

@@ -8,3 +8,6 @@ returns-clause-vacant g c =
 
 pub returns-clause-full : goal.returns-clause-full
 returns-clause-full g c = grind (arith, common_steps)
+
+pub returns-in_err-i-clause-full : goal.returns-in_err-i-clause-full
+returns-in_err-i-clause-full g c = grind (arith, common_steps)

@@ -5,12 +5,12 @@ use Rattle.arena_base.proofs.arena.Arena.take_over.Goals as goal
 
 pub invariant_of-self : goal.invariant_of-self
 invariant_of-self g c =
-    let s = c.self.inside in let granted = c.clone_slots-granted in let copies = granted.new.slots in let next = c.add_vacant.new.slots in
+    let s = c.self.inside in let granted = c.clone_slots-granted in let copies = granted.new.slots in let next = c.fill_up.new.slots in
     let capacity = capacity-is g.P.Gen.PtrGen g.P.Inx.PtrInx s _ c.self.view_is in
     let within : length copies.items ≤ length s.slots.items = omega (arith, copies.ok.0, capacity) in
-    let all = rw c.as_slice.ensures.value at c.list_vacant.ensures.items in let room = rw c.requires.greatest at c.requires.room in
+    let all = c.fill_up.ensures.vacant in let room = rw c.requires.greatest at c.requires.room in
     let named = same_Some _ _ (ap (option_map g.P.Gen.PtrGen.number) (sym c.unwrap-self-inside.ensures) ∙ c.singular_generation.ensures) in
-    let padded = rw (copies.ok.0, c.len-capacity.ensures, s.slots.ok.0) at c.add_vacant.ensures.items in (
+    let padded = rw (copies.ok.0, c.len-capacity.ensures, s.slots.ok.0) at c.fill_up.ensures.items in (
       clone-sound g.P.Ptr.numbers g.P.Gen.PtrGen g.P.Inx.PtrInx g.M.CloneEntry.step s copies.items next.items _ _ all c.args.self.now c.self.view_is
           _ named room within padded c.args.map
           c.self.invariant.0 c.capacity.ensures.lawful granted.result granted.ensures.ok granted.ensures.none_left,
@@ -20,10 +20,9 @@ invariant_of-self g c =
 pub returns : goal.returns
 returns g c =
     let s = c.self.inside in let granted = c.clone_slots-granted in let copies = granted.new.slots in
-    let next = c.add_vacant.new.slots.items in let room = rw c.requires.greatest at c.requires.room in
-    let all = rw c.as_slice.ensures.value at c.list_vacant.ensures.items in
+    let next = c.fill_up.new.slots.items in let room = rw c.requires.greatest at c.requires.room in let all = c.fill_up.ensures.vacant in
     let named = same_Some _ _ (ap (option_map g.P.Gen.PtrGen.number) (sym c.unwrap-self-inside.ensures) ∙ c.singular_generation.ensures) in
-    let padded = rw (copies.ok.0, c.len-capacity.ensures, s.slots.ok.0) at c.add_vacant.ensures.items in
+    let padded = rw (copies.ok.0, c.len-capacity.ensures, s.slots.ok.0) at c.fill_up.ensures.items in
     let within : length copies.items ≤ length s.slots.items = omega (arith, copies.ok.0, capacity-is g.P.Gen.PtrGen g.P.Inx.PtrInx s _ c.self.view_is) in
     record {
       ok =
@@ -34,9 +33,6 @@ returns g c =
           clone-refused g.P.Ptr.numbers g.P.Gen.PtrGen g.P.Inx.PtrInx g.M.CloneEntry.step s copies.items next _ _ all c.args.self.now c.self.view_is
           _ named room within padded c.args.map granted.result granted.ensures.refused granted.ensures.none_left;
     }
-
-pub list_vacant-requires : goal.list_vacant-requires
-list_vacant-requires g c = record { room = grind (arith, common_steps); named = grind (arith, common_steps); full = λ k below. absurd (omega arith) }
 
 pub clone_slots-granted-requires-clause-room : goal.clone_slots-granted-requires-clause-room
 clone_slots-granted-requires-clause-room g c = grind (arith, common_steps)

@@ -1,12 +1,11 @@
-use Rattle.arena_base.proofs.Words.{◌≡◌, [], length, ◌-◌, refl, arith, ◌∙◌, length-map, none-some, common_steps, map-replicate, Vacant, entry_in}
+use Rattle.arena_base.proofs.Words.{◌≡◌, [], length, ◌-◌, refl, arith, ◌∙◌, length-map, none-some, map-replicate, Vacant, entry_in}
 use Rattle.arena_base.proofs.{Slots.entries, Steps.length-padded, Steps.relisted, Steps.relisted-sound, Steps.entries-made}
 use Rattle.arena_base.proofs.arena.Arena.vacate.Goals as goal
 
 pub invariant_of-self : goal.invariant_of-self
 invariant_of-self g c =
-    let s = c.self.inside in let next = c.add_vacant.new.slots in
-    let is = rw (c.clear.ensures.items, c.clear.ensures.len) at c.add_vacant.ensures.items in
-    let all = rw c.as_slice.ensures.value at c.list_vacant.ensures.items in
+    let s = c.self.inside in let next = c.fill_up.new.slots in
+    let is = rw (c.clear.ensures.items, c.clear.ensures.len) at c.fill_up.ensures.items in let all = c.fill_up.ensures.vacant in
     let sound = c.self.invariant.0 in (
       relisted-sound g.P.Gen.PtrGen g.P.Inx.PtrInx next.items _ s.generation s.maximum all c.len-n.result []
           (entries-made g.P.Gen.PtrGen.number c.len-n.result next.items is)
@@ -17,12 +16,9 @@ invariant_of-self g c =
 
 pub returns : goal.returns
 returns g c =
-    let s = c.self.inside in let is = rw (c.clear.ensures.items, c.clear.ensures.len) at c.add_vacant.ensures.items in
-    let all = rw c.as_slice.ensures.value at c.list_vacant.ensures.items in
+    let s = c.self.inside in let is = rw (c.clear.ensures.items, c.clear.ensures.len) at c.fill_up.ensures.items in
+    let all = c.fill_up.ensures.vacant in
     let same : c.len-n.result - 0 ≡ length (entries g.P.Gen.PtrGen.number s.slots.items) =
     omega (arith, c.len-n.ensures, s.slots.ok.0, length-map s.slots.items (entry_in g.P.Gen.PtrGen.number)) in
-    relisted g.P.Gen.PtrGen g.P.Inx.PtrInx c.add_vacant.new.slots.items _ s.generation s.maximum all
+    relisted g.P.Gen.PtrGen g.P.Inx.PtrInx c.fill_up.new.slots.items _ s.generation s.maximum all
     ∙ rw (← c.self.view_is, is, map-replicate (entry_in g.P.Gen.PtrGen.number) _ Vacant, same) refl
-
-pub list_vacant-requires : goal.list_vacant-requires
-list_vacant-requires g c = record { room = grind (arith, common_steps); named = grind (arith, common_steps); full = λ k below. absurd (omega arith) }

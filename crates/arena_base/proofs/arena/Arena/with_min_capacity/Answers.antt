@@ -4,9 +4,9 @@ use Rattle.arena_base.proofs.arena.Arena.with_min_capacity.Goals as goal
 
 pub invariant_of-result : goal.invariant_of-result
 invariant_of-result g c =
-    let next = c.add_vacant.new.slots in let two = c.two-generation.ensures in
-    let is = rw (c.in_ok-slots.slots.ok.0, c.in_ok-slots.ensures.items) at c.add_vacant.ensures.items in
-    let all = rw c.as_slice.ensures.value at c.list_vacant.ensures.items in (
+    let next = c.fill_up.new.slots in let two = c.two-generation.ensures in
+    let is = rw (c.in_ok-slots.slots.ok.0, c.in_ok-slots.ensures.items) at c.fill_up.ensures.items in
+    let all = c.fill_up.ensures.vacant in (
       relisted-sound g.P.Gen.PtrGen g.P.Inx.PtrInx next.items _ c.two-generation.result None all c.args.n []
           (entries-made g.P.Gen.PtrGen.number c.args.n next.items is) (omega arith) two.lawful (λ k e there. absurd (none-some e there)),
       omega (arith, next.ok.0, length-padded c.args.n [] next.items Vacant is (omega arith), c.in_ok-vacant.ensures.capacity),
@@ -14,7 +14,6 @@ invariant_of-result g c =
 
 pub returns-clause-ok : goal.returns-clause-ok
 returns-clause-ok g c =
-    let is = rw (c.in_ok-slots.slots.ok.0, c.in_ok-slots.ensures.items) at c.add_vacant.ensures.items in
-    let all = rw c.as_slice.ensures.value at c.list_vacant.ensures.items in
-    relisted g.P.Gen.PtrGen g.P.Inx.PtrInx c.add_vacant.new.slots.items _ c.two-generation.result None all
-    ∙ rw (entries-made g.P.Gen.PtrGen.number c.args.n c.add_vacant.new.slots.items is, c.two-generation.ensures.value, resized-cons) refl
+    let is = rw (c.in_ok-slots.slots.ok.0, c.in_ok-slots.ensures.items) at c.fill_up.ensures.items in let all = c.fill_up.ensures.vacant in
+    relisted g.P.Gen.PtrGen g.P.Inx.PtrInx c.fill_up.new.slots.items _ c.two-generation.result None all
+    ∙ rw (entries-made g.P.Gen.PtrGen.number c.args.n c.fill_up.new.slots.items is, c.two-generation.ensures.value, resized-cons) refl
