@@ -190,7 +190,8 @@ pub(super) fn fill_up<T, G, I: PtrInx, A: Allocator>(
     requires fits { vec_len slots.old ≤ n }
     ensures items { slots.new.items
         ≡ slots.old.items ++ replicate (n - vec_len slots.old) Slot.Vacant }
-    ensures vacant { map I.number vacant.new.items ≡ reverse (vacant_slots 1 slots.new.items) }
+    ensures vacant { map I.number vacant.new.items
+        ≡ reverse (vacant_slots 1 slots.new.items) }
     ensures capacity { vec_capacity vacant.new ≡ vec_capacity vacant.old }
 {
     add_vacant(slots, n);

@@ -24,8 +24,8 @@ pub invariant_of-self-2 : goal.invariant_of-self-2
 invariant_of-self-2 g c =
     let all = rw c.as_slice.ensures.value at c.list_vacant.ensures.items in
     let is = padded g (goal.at.invariant_of-self-2 g c).After-add_vacant in (
-      relisted-sound g.P.Gen.PtrGen g.P.Inx.PtrInx c.cut_vacant.new.slots.items _ c.self.inside.generation c.self.inside.maximum all c.args.n _
-          (entries-resized g.P.Gen.PtrGen.number c.args.n c.self.inside.slots.items _ is _ c.cut_vacant.ensures.items)
+      relisted-sound g.P.Gen.PtrGen g.P.Inx.PtrInx c.cut_vacant.new.slots.items _ c.self.inside.generation c.self.inside.maximum all
+          c.args.n _ (entries-resized g.P.Gen.PtrGen.number c.args.n c.self.inside.slots.items _ is _ c.cut_vacant.ensures.items)
           (rw (← c.self.view_is) at c.requires.limit) c.self.invariant.0.generation_lawful (λ k. c.self.invariant.0.entries_lawful (suc k)),
       omega (arith, c.cut_vacant.new.slots.ok.0, ap length c.cut_vacant.ensures.items, length-take c.args.n c.add_vacant.new.slots.items, c.in_ok-reserve.ensures.room),
     )
