@@ -1,8 +1,8 @@
 //! An arena among others, through the traits; indexes and generations of each type.
 use super::{numbers, p0};
 use arena_base::{Arena, ArenaTrait, P0, PtrGen, PtrInx, SetMaxCapacity, laws};
+use std::alloc::Global;
 use std::process::Abort;
-use std::test::Fail;
 
 /// The numbers of an arena: entries, capacity, and those of the first and of the last pointer by index.
 fn ends<A: ArenaTrait<P0, u64>>(
@@ -22,30 +22,38 @@ fn written<A: ArenaTrait<P0, u64>>(arena: &mut A, p: P0, item: u64) -> Option<u6
     Some(*arena.get(p)?)
 }
 
-/// The calls of the trait, as any arena has them: one that has the items 10 and 20 at the indexes 1 and 2, and a capacity of 4.
-fn through_the_trait<A: ArenaTrait<P0, u64> + SetMaxCapacity<P0, u64>>(
-    rt: &impl Abort,
-    arena: &mut A,
-) {
-    assert!(rt; ends(arena) == (2, 4, Some((1, 2)), Some((2, 2))));
-    assert!(rt; laws::put(arena, p0(1, 2), 11));
-    assert!(rt; written(arena, p0(1, 2), 12) == Some(12));
-    assert!(rt; laws::renew(arena, p0(1, 2)) == Some(p0(1, 3)));
-    assert!(rt; laws::take(arena, p0(1, 3)) == Some(12));
-    assert!(rt; arena.reallocate_min_capacity(0).is_ok());
-    assert!(rt; arena.set_max_capacity(1).is_err());
-    assert!(rt; ends(arena) == (1, 2, Some((2, 2)), Some((2, 2))));
-    laws::empty(arena);
-    assert!(rt; ends(arena) == (0, 2, None, None));
+/// Whether the item of a pointer is replaced, and taken out by the next pointer.
+fn is_taken<A: ArenaTrait<P0, u64>>(arena: &mut A, p: P0, next: P0) -> bool {
+    laws::put(arena, p, 11)
+        && written(arena, p, 12) == Some(12)
+        && laws::renew(arena, p) == Some(next)
+        && laws::take(arena, next) == Some(12)
 }
 
+/// Whether the capacity goes down as far as it may, and a maximum below it is refused.
+fn is_cut<A: ArenaTrait<P0, u64> + SetMaxCapacity<P0, u64>>(arena: &mut A) -> bool {
+    arena.reallocate_min_capacity(0).is_ok() && arena.set_max_capacity(1).is_err()
+}
+
+/// The items 10 and 20 at the indexes 1 and 2, and a capacity of 4.
+fn two(rt: &impl Abort, alloc: Global) -> Arena<P0, u64> {
+    let mut arena: Arena<P0, u64> = ArenaTrait::with_min_capacity(alloc, 4).expect(rt, "memory");
+    for item in &[10u64, 20] {
+        let _ = arena.insert_within_capacity(*item);
+    }
+    arena
+}
+
+/// The calls of the trait, as any arena has them.
 #[test]
-fn as_any_arena(rt: HostRuntime) -> Result<(), Fail> {
-    let mut arena: Arena<P0, u64> = ArenaTrait::with_min_capacity(rt.alloc(), 4)?;
-    let _ = arena.insert_within_capacity(10)?;
-    let _ = arena.insert_within_capacity(20)?;
-    through_the_trait(&rt, &mut arena);
-    Ok(())
+fn as_any_arena(rt: HostRuntime) {
+    let mut arena = two(&rt, rt.alloc());
+    assert!(rt; ends(&arena) == (2, 4, Some((1, 2)), Some((2, 2))));
+    assert!(rt; is_taken(&mut arena, p0(1, 2), p0(1, 3)));
+    assert!(rt; is_cut(&mut arena));
+    assert!(rt; ends(&arena) == (1, 2, Some((2, 2)), Some((2, 2))));
+    laws::empty(&mut arena);
+    assert!(rt; ends(&arena) == (0, 2, None, None));
 }
 
 // Indexes and generations of each type, through their bounds.

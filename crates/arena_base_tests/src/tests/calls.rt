@@ -1,10 +1,7 @@
 //! Calls in a row, with what each gives and leaves, and generations that begin again.
 use super::{Counts, counts, numbers, p0};
-use arena_base::{
-    Arena, InsertionError, InvalidationOption, InvalidationResult, ItemsMut, P0, P8, Ptr,
-};
+use arena_base::{Arena, InvalidationOption, InvalidationResult, ItemsMut, P0, P8, Ptr};
 use std::process::Abort;
-use std::test::Fail;
 
 /// A call on an arena of numbers.
 #[derive(Clone, Copy)]
@@ -93,16 +90,17 @@ fn calls_give_and_leave(rt: HostRuntime) {
 }
 
 #[test]
-fn generations_begin_again(rt: HostRuntime) -> Result<(), Fail> {
+fn generations_begin_again(rt: HostRuntime) {
     let mut arena: Arena<P8, u64> = Arena::new(rt.alloc());
     for generation in 2..=255u8 {
-        let taken = put_and_take(&rt, &mut arena, generation)?;
-        let is_last = generation == 255;
-        assert!(rt; taken == InvalidationResult::Success(7) || is_last);
-        assert!(rt; taken == InvalidationResult::GenerationOverflow(7) || !is_last);
+        let wanted = if generation == 255 {
+            InvalidationResult::GenerationOverflow(7)
+        } else {
+            InvalidationResult::Success(7)
+        };
+        assert!(rt; put_and_take(&rt, &mut arena, generation) == wanted);
     }
     assert!(rt; arena.generation() == 2);
-    Ok(())
 }
 
 /// Inserts the item 7, which has to get the index 1 and this generation, and takes it out again. Answers what the removal said.
@@ -110,8 +108,8 @@ fn put_and_take(
     rt: &impl Abort,
     arena: &mut Arena<P8, u64>,
     generation: u8,
-) -> Result<InvalidationResult<u64>, InsertionError> {
-    let p = arena.insert_reallocating(7)?;
+) -> InvalidationResult<u64> {
+    let p = arena.insert_reallocating(7).expect(rt, "memory");
     assert!(rt; (p.inx(), p.generation()) == (1, generation));
-    Ok(arena.remove(p))
+    arena.remove(p)
 }

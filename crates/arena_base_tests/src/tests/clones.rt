@@ -1,20 +1,20 @@
 //! Clones of arenas, and an arena of pointers as a recaster.
 use super::{Counts, counts, p0};
-use arena_base::{Arena, InsertionError, P0, Ptr, ReallocationError, Recast, laws};
+use arena_base::{Arena, P0, Ptr, ReallocationError, Recast, laws};
 use linked_list_allocator::LocalHeap;
 use std::alloc::{AllocError, Global};
 use std::process::Abort;
-use std::test::Fail;
 
 /// Three entries at the indexes 2, 3 and 5, two of them of the first generation; indexes 4 and 1 were freed, in this order.
-fn source(alloc: Global) -> Result<Arena<P0, char>, InsertionError> {
+fn source(alloc: Global) -> Arena<P0, char> {
     let mut arena = Arena::new(alloc);
-    for item in ['a', 'b', 'c', 'd', 'e'] {
-        arena.insert_reallocating(item)?;
+    for item in &['a', 'b', 'c', 'd', 'e'] {
+        let _ = arena.insert_reallocating(*item);
     }
-    let _ = (arena.remove(p0(4, 2)), arena.remove(p0(1, 2)));
+    let _ = arena.remove(p0(4, 2));
+    let _ = arena.remove(p0(1, 2));
     let _ = arena.invalidate(p0(3, 2));
-    Ok(arena)
+    arena
 }
 
 /// An arena of vectors of letters, all on one heap.
@@ -39,8 +39,11 @@ fn clone_into<'a>(
     })
 }
 
-/// What is left by a clone on a heap, and how many letters the arena has at the indexes 1 and 5; nothing where not even the arena has room.
-fn left_on(heap: &LocalHeap, source: &Arena<P0, char>) -> Option<(bool, Counts, usize, usize)> {
+/// What is left by a clone: whether it is one, its counts, and how many letters it has at the indexes 1 and 5.
+type Left = (bool, Counts, usize, usize);
+
+/// What is left by a clone on a heap; nothing where not even the arena has room.
+fn left_on(heap: &LocalHeap, source: &Arena<P0, char>) -> Option<Left> {
     let mut arena = one(heap)?;
     let is_cloned = clone_into(heap, &mut arena, source).is_ok();
     Some((
@@ -59,38 +62,58 @@ fn letters_at(arena: &Letters, inx: u32) -> usize {
 }
 
 /// The clone; the arena as it was, where its growth was refused; and one that lost all, where an item was refused.
-const LEFT: [(bool, Counts, usize, usize); 3] = [
+const LEFT: [Left; 3] = [
     (true, (3, 5, 5, Some((1, 5))), 0, 40),
     (false, (1, 4, 2, Some((2, 2))), 2, 0),
     (false, (0, 5, 5, Some((1, 5))), 0, 0),
 ];
 
-#[test]
-fn each_refused_request_of_a_clone(rt: HostRuntime) -> Result<(), Fail> {
-    let source = source(rt.alloc())?;
-    let mut is_met = [false; 3];
-    for units in 1..128usize {
-        let heap = LocalHeap::new(rt.alloc(), 16 * units)?;
-        if let Some(left) = left_on(&heap, &source) {
-            let case = LEFT.iter().position(|wanted| *wanted == left);
-            let place = case.and_then(|case| is_met.get_mut(case));
-            *place.ok_or("a known case")? = true;
+/// Which of these it is.
+fn case_of(rt: &impl Abort, left: &Left) -> usize {
+    let mut case = 0usize;
+    for wanted in &LEFT {
+        if *wanted == *left {
+            return case;
         }
-        assert!(rt; heap.used() == 0);
+        case = case.wrapping_add(1);
     }
-    assert!(rt; is_met == [true; 3]);
-    Ok(())
+    panic!(rt; "a known case")
 }
 
-/// The pointers from 1.2 to 4.2, which find 3.4, 1.4, 4.4 and 2.4; a copy.
-fn recaster(alloc: Global) -> Result<Arena<P0, P0>, Fail> {
-    let mut pointers = Arena::new(alloc);
-    for index in [3, 1, 4, 2] {
-        pointers.insert_reallocating(p0(index, 4))?;
+/// What is left by a clone on a heap of so many units, on which nothing is left in the end.
+fn left_by(rt: &impl Abort, alloc: Global, units: usize, source: &Arena<P0, char>) -> Option<Left> {
+    let heap = LocalHeap::new(alloc, units.saturating_mul(16)).expect(rt, "a heap");
+    let left = left_on(&heap, source);
+    assert!(rt; heap.used() == 0);
+    left
+}
+
+#[test]
+fn each_refused_request_of_a_clone(rt: HostRuntime) {
+    let source = source(rt.alloc());
+    let mut is_met = [false; 3];
+    for units in 1..128usize {
+        if let Some(left) = left_by(&rt, rt.alloc(), units, &source) {
+            is_met[case_of(&rt, &left) % 3] = true;
+        }
     }
+    assert!(rt; is_met == [true; 3]);
+}
+
+/// The pointers 3.4, 1.4, 4.4 and 2.4.
+fn pointers(alloc: Global) -> Arena<P0, P0> {
+    let mut pointers = Arena::new(alloc);
+    for index in &[3u32, 1, 4, 2] {
+        let _ = pointers.insert_reallocating(p0(*index, 4));
+    }
+    pointers
+}
+
+/// The pointers from 1.2 to 4.2, which find these; a copy.
+fn recaster(alloc: Global) -> Arena<P0, P0> {
     let mut recaster = Arena::new(alloc);
-    laws::copy(&pointers, &mut recaster)?;
-    Ok(recaster)
+    let _ = laws::copy(&pointers(alloc), &mut recaster);
+    recaster
 }
 
 /// What becomes of a pointer that is recast, and what the call says.
@@ -101,15 +124,14 @@ fn recast(recaster: &Arena<P0, P0>, p: P0) -> (P0, Result<(), P0>) {
 }
 
 #[test]
-fn an_arena_of_pointers_recasts(rt: HostRuntime) -> Result<(), Fail> {
-    let recaster = recaster(rt.alloc())?;
+fn an_arena_of_pointers_recasts(rt: HostRuntime) {
+    let recaster = recaster(rt.alloc());
     let cases = [
         (p0(2, 2), p0(1, 4), Ok(())),
         (p0(2, 4), p0(2, 4), Err(p0(2, 4))),
         (p0(9, 2), p0(9, 2), Err(p0(9, 2))),
     ];
-    for (p, recast_p, outcome) in cases {
-        assert!(rt; recast(&recaster, p) == (recast_p, outcome));
+    for (p, recast_p, outcome) in &cases {
+        assert!(rt; recast(&recaster, *p) == (*recast_p, *outcome));
     }
-    Ok(())
 }

@@ -1,8 +1,7 @@
 //! Compressions.
 use super::{Counts, counts, p0};
-use arena_base::{Arena, InsertionError, InvalidationOption, P0, Ptr};
+use arena_base::{Arena, InvalidationOption, P0, Ptr};
 use std::alloc::Global;
-use std::test::Fail;
 
 /// The place of a call among all, the pointers that it was shown, and the item.
 type Call = (u8, P0, P0, char);
@@ -10,18 +9,18 @@ type Call = (u8, P0, P0, char);
 type Calls = Arena<P0, Call>;
 
 /// The letters e and d at the indexes 1 and 4, under the pointers 1.5 and 4.2; the next generation is 6.
-fn scattered(alloc: Global) -> Result<Calls, InsertionError> {
+fn scattered(alloc: Global) -> Calls {
     let mut arena = Calls::new(alloc);
-    for letter in ['a', 'b', 'c', 'd', 'e'] {
-        if letter == 'e' {
+    for letter in &['a', 'b', 'c', 'd', 'e'] {
+        if *letter == 'e' {
             let _ = arena.remove_inx(3);
             let _ = arena.remove_inx(1);
         }
-        arena.insert_reallocating((0, P0::invalid(), P0::invalid(), letter))?;
+        let _ = arena.insert_reallocating((0, P0::invalid(), P0::invalid(), *letter));
     }
     let _ = arena.invalidate(p0(1, 4));
     let _ = arena.remove_inx(2);
-    Ok(arena)
+    arena
 }
 
 /// A compression that writes into each item the call that met it. Answers how many calls there were.
@@ -36,12 +35,11 @@ fn compress_calling(arena: &mut Calls) -> (InvalidationOption<()>, u8) {
 }
 
 #[test]
-fn a_compression_goes_by_rising_index(rt: HostRuntime) -> Result<(), Fail> {
-    let mut arena = scattered(rt.alloc())?;
+fn a_compression_goes_by_rising_index(rt: HostRuntime) {
+    let mut arena = scattered(rt.alloc());
     assert!(rt; compress_calling(&mut arena) == (InvalidationOption::Success(()), 2));
-    for (call, old, new, letter) in [(1, p0(1, 5), p0(1, 7), 'e'), (2, p0(4, 2), p0(2, 7), 'd')] {
-        assert!(rt; arena.get(new).copied() == Some((call, old, new, letter)));
+    for call in &[(1, p0(1, 5), p0(1, 7), 'e'), (2, p0(4, 2), p0(2, 7), 'd')] {
+        assert!(rt; arena.get(call.2) == Some(call));
     }
     assert!(rt; counts(&arena) == (2, 4, 7, Some((3, 7))));
-    Ok(())
 }

@@ -2,46 +2,60 @@
 use arena_base::{
     Arena, InsertionError, MaxCapacityReductionError, P0, P8, PN, Ptr, Q0, ReallocationError,
 };
-use std::test::Fail;
+use std::alloc::Global;
+use std::process::Abort;
+
+/// Two words in an arena.
+fn words(alloc: Global) -> Arena<P0, &'static str> {
+    let mut arena = Arena::new(alloc);
+    let _ = arena.insert_reallocating("test");
+    let _ = arena.insert_reallocating("hello");
+    arena
+}
+
+/// The text of an arena.
+fn text_of(rt: &impl Abort, alloc: Global, arena: &Arena<P0, &'static str>) -> String {
+    format!(in alloc; "{arena:?} {arena:#?}").expect(rt, "memory")
+}
+
+/// That of two words.
+const WORDS: &str =
+    "{P0[1](2): \"test\", P0[2](2): \"hello\"} {\n    P0[1](2): \"test\",\n    P0[2](2): \"hello\",\n}";
 
 #[test]
-fn texts_of_an_arena(rt: HostRuntime) -> Result<(), Fail> {
-    let mut arena: Arena<P0, &'static str> = Arena::new(rt.alloc());
-    for text in ["test", "hello"] {
-        arena.insert_reallocating(text)?;
-    }
-    let text = format!(in rt.alloc(); "{arena:?} {arena:#?}")?;
-    assert!(rt;
-        text.as_str()
-            == "{P0[1](2): \"test\", P0[2](2): \"hello\"} {\n    P0[1](2): \"test\",\n    P0[2](2): \"hello\",\n}"
-    );
-    Ok(())
+fn texts_of_an_arena(rt: HostRuntime) {
+    let words = words(rt.alloc());
+    assert!(rt; text_of(&rt, rt.alloc(), &words).as_str() == WORDS);
+}
+
+/// The texts of pointers of four types.
+fn text_of_pointers(rt: &impl Abort, alloc: Global) -> String {
+    let (p, q) = (P0::invalid(), Q0::_from_raw(7, 3));
+    let (small, plain) = (P8::invalid(), PN::_from_raw(1, ()));
+    format!(in alloc; "{p:?} {q:#?} {small:?} {plain:?}").expect(rt, "memory")
 }
 
 #[test]
-fn texts_of_pointers(rt: HostRuntime) -> Result<(), Fail> {
-    let (p, q, small, plain) = (
-        P0::invalid(),
-        Q0::_from_raw(7, 3),
-        P8::invalid(),
-        PN::_from_raw(1, ()),
-    );
-    let text = format!(in rt.alloc(); "{p:?} {q:#?} {small:?} {plain:?}")?;
+fn texts_of_pointers(rt: HostRuntime) {
+    let text = text_of_pointers(&rt, rt.alloc());
     assert!(rt; text.as_str() == "P0[4294967295](1) Q0[7](3) P8[255](1) PN[1](())");
-    Ok(())
 }
 
-#[test]
-fn texts_of_refusals(rt: HostRuntime) -> Result<(), Fail> {
+/// The texts of refusals.
+fn text_of_refusals(rt: &impl Abort, alloc: Global) -> String {
     let (a, b, c) = (
         ReallocationError::BeyondMaxCapacity,
         InsertionError::NotWithinCapacity,
         InsertionError::AllocError,
     );
-    let refusals = format!(in rt.alloc(); "{a}; {b}; {c}; {MaxCapacityReductionError}")?;
-    assert!(rt;
-        refusals.as_str()
-            == "the capacity would go beyond its maximum; no room within the capacity; out of memory; the maximum is below the capacity"
-    );
-    Ok(())
+    format!(in alloc; "{a}; {b}; {c}; {MaxCapacityReductionError}").expect(rt, "memory")
+}
+
+/// What they are.
+const REFUSALS: &str =
+    "the capacity would go beyond its maximum; no room within the capacity; out of memory; the maximum is below the capacity";
+
+#[test]
+fn texts_of_refusals(rt: HostRuntime) {
+    assert!(rt; text_of_refusals(&rt, rt.alloc()).as_str() == REFUSALS);
 }

@@ -1,17 +1,16 @@
 //! Walks by index and drains.
 use super::p0;
-use arena_base::{Advancer, Arena, InsertionError, InvalidationOption, P0};
+use arena_base::{Advancer, Arena, InvalidationOption, P0};
 use std::alloc::Global;
 use std::mem;
-use std::test::Fail;
 
 /// Entries with generation 2 at the indexes from 1 to 3, whose items are their indexes.
-fn three(alloc: Global) -> Result<Arena<P0, u32>, InsertionError> {
+fn three(alloc: Global) -> Arena<P0, u32> {
     let mut arena: Arena<P0, u32> = Arena::new(alloc);
     for item in 1..4u32 {
-        arena.insert_reallocating(item)?;
+        let _ = arena.insert_reallocating(item);
     }
-    Ok(arena)
+    arena
 }
 
 /// A drain takes the first entry, and is then forgotten or dropped. Answers what is left.
@@ -28,18 +27,30 @@ fn left_by_drain(mut arena: Arena<P0, u32>, is_forgotten: bool) -> Option<(usize
 }
 
 #[test]
-fn drains_are_dropped_and_forgotten(rt: HostRuntime) -> Result<(), Fail> {
-    for (is_forgotten, left) in [(false, 0), (true, 2)] {
-        let found = left_by_drain(three(rt.alloc())?, is_forgotten);
-        assert!(rt; found == Some((left, true)));
+fn drains_are_dropped_and_forgotten(rt: HostRuntime) {
+    for (is_forgotten, left) in &[(false, 0usize), (true, 2)] {
+        let found = left_by_drain(three(rt.alloc()), *is_forgotten);
+        assert!(rt; found == Some((*left, true)));
     }
-    Ok(())
 }
 
-/// Two entries leave after the first step of each walk, and one comes later.
+/// What comes before a step of both walks: two entries leave before the third one, and one comes before the last.
+fn come_and_go(arena: &mut Arena<P0, u32>, step: usize) {
+    match step {
+        2 => {
+            let _ = arena.remove_inx(1);
+            let _ = arena.remove_inx(3);
+        }
+        3 => {
+            let _ = arena.insert_reallocating(3);
+        }
+        _ => {}
+    }
+}
+
 #[test]
-fn a_walk_goes_on_with_later_entries(rt: HostRuntime) -> Result<(), Fail> {
-    let mut arena = three(rt.alloc())?;
+fn a_walk_goes_on_with_later_entries(rt: HostRuntime) {
+    let mut arena = three(rt.alloc());
     let mut up = arena.advancer();
     let mut down = arena.advancer_inx(3, true);
     let wanted = [
@@ -49,14 +60,7 @@ fn a_walk_goes_on_with_later_entries(rt: HostRuntime) -> Result<(), Fail> {
         (Some(p0(3, 4)), None),
     ];
     for (step, pair) in wanted.iter().enumerate() {
-        if step == 2 {
-            let _ = arena.remove_inx(1);
-            let _ = arena.remove_inx(3);
-        }
-        if step == 3 {
-            arena.insert_reallocating(3)?;
-        }
+        come_and_go(&mut arena, step);
         assert!(rt; (up.advance(&arena), down.advance(&arena)) == *pair);
     }
-    Ok(())
 }
