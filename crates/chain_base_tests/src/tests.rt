@@ -5,10 +5,9 @@ mod memory;
 mod rebuild;
 
 use arena_base::{Advancer, InsertionError, InvalidationOption, ItemsMut, P0, Ptr};
-use chain_base::{ChainArena, LinkInsertKind};
+use chain_base::{ChainArena, ChainPtrAdvancer, LinkInsertKind};
 use std::alloc::{Allocator, Global};
 use std::process::Abort;
-use std::test::Fail;
 
 type Letters<A = Global> = ChainArena<P0, char, A>;
 
@@ -47,43 +46,69 @@ fn insert<A: Allocator>(
 /// Index, generation and letter of an entry.
 type Entry = (u32, u64, char);
 
-/// The entries in order, as an advancer gives them. The links of each name the ones before and after it.
-fn entries<A: Allocator>(alloc: Global, chain: &Letters<A>) -> Result<Vec<Entry>, Fail> {
-    let mut entries = Vec::new(alloc);
-    let Some(first) = chain.first() else {
-        return Ok(entries);
-    };
-    let mut advancer = chain.advancer_chain(first).ok_or("the first")?;
-    let mut ends = (None, Some(first.inx()));
-    for _ in 0..chain.len() {
-        let p = advancer.advance(chain).ok_or("an entry for each")?;
-        let (generation, link) = chain.get_inx_link_no_gen(p.inx()).ok_or("its link")?;
-        let letter = *link.t;
-        if (link.prev(), Some(p.inx())) != ends {
-            return Err("a link for each".into());
-        }
-        ends = (Some(p.inx()), link.next());
-        entries.push((p.inx(), generation, letter))?;
-    }
-    if advancer.advance(chain).is_some() || ends.1.is_some() {
-        return Err("an end".into());
-    }
-    Ok(entries)
+/// Where a list in a table ends that is shorter than the others.
+const END: Entry = (0, 0, ' ');
+
+/// An entry at an index, and the indexes of both its neighbours.
+fn seen<A: Allocator>(chain: &Letters<A>, i: u32) -> Option<(Entry, Option<u32>, Option<u32>)> {
+    let (generation, link) = chain.get_inx_link_no_gen(i)?;
+    Some(((i, generation, *link.t), link.prev(), link.next()))
 }
 
+/// Whether an advancer gives these entries, as many as there are. The links of each name the ones before and after it.
+fn gives<A: Allocator>(
+    chain: &Letters<A>,
+    advancer: &mut ChainPtrAdvancer<P0>,
+    first: P0,
+    wanted: &[Entry],
+) -> bool {
+    let (mut before, mut at, mut count) = (None, Some(first.inx()), 0usize);
+    for entry in wanted {
+        if *entry == END {
+            break;
+        }
+        let Some(p) = advancer.advance(chain) else {
+            return false;
+        };
+        let inx = Some(p.inx());
+        let Some((found, prev, next)) = seen(chain, p.inx()) else {
+            return false;
+        };
+        if found != *entry || (prev, inx) != (before, at) {
+            return false;
+        }
+        (before, at, count) = (inx, next, count.wrapping_add(1));
+    }
+    advancer.advance(chain).is_none() && at.is_none() && count == chain.len()
+}
+
+/// Whether these are the entries in order, as an advancer gives them.
+fn is_listed<A: Allocator>(chain: &Letters<A>, wanted: &[Entry]) -> bool {
+    let Some(first) = chain.first() else {
+        return wanted.first().is_none_or(|entry| *entry == END);
+    };
+    match chain.advancer_chain(first) {
+        Some(mut advancer) => gives(chain, &mut advancer, first, wanted),
+        None => false,
+    }
+}
+
+/// Letters, each with its place.
+const PLACED: [(Place, char); 4] = [
+    (Place::Alone, 'a'),
+    (Place::Before(1), 'c'),
+    (Place::After(1), 'e'),
+    (Place::After(2), 'd'),
+];
+
 /// The list c, d, a with the indexes 2, 4, 1, the index 3 being vacant, and the generation 3.
-fn scattered(rt: &impl Abort, alloc: Global) -> Result<Letters, InsertionError> {
+fn scattered(rt: &impl Abort, alloc: Global) -> Letters {
     let mut chain = Letters::new(alloc);
-    for (place, letter) in [
-        (Place::Alone, 'a'),
-        (Place::Before(1), 'c'),
-        (Place::After(1), 'e'),
-        (Place::After(2), 'd'),
-    ] {
-        insert(rt, &mut chain, place, letter)?;
+    for (place, letter) in &PLACED {
+        let _ = insert(rt, &mut chain, *place, *letter);
     }
     let _ = chain.remove_inx_link_no_gen(3);
-    Ok(chain)
+    chain
 }
 
 /// The entries of `scattered`.

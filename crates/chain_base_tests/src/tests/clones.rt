@@ -1,8 +1,7 @@
 //! Clones of other chains.
-use super::{Letters, SCATTERED, entries, scattered};
+use super::{Letters, SCATTERED, is_listed, scattered};
 use arena_base::{P0, Ptr, ReallocationError};
 use std::alloc::AllocError;
-use std::test::Fail;
 
 /// Makes a chain a clone of the source, where the letter at an index is refused. Answers the outcome, and how often the closure was called.
 fn clone_but(
@@ -32,23 +31,21 @@ fn clone_all(chain: &mut Letters, source: &Letters) -> (Result<(), ReallocationE
 }
 
 #[test]
-fn a_clone_has_the_pointers_in_order(rt: HostRuntime) -> Result<(), Fail> {
-    let source = scattered(&rt, rt.alloc())?;
+fn a_clone_has_the_pointers_in_order(rt: HostRuntime) {
+    let source = scattered(&rt, rt.alloc());
     let mut chain = Letters::new(rt.alloc());
     assert!(rt; clone_all(&mut chain, &source) == (Ok(()), 3));
-    assert!(rt; entries(rt.alloc(), &chain)?.as_slice() == SCATTERED);
+    assert!(rt; is_listed(&chain, SCATTERED));
     assert!(rt; (chain.capacity(), chain.generation()) == (4, 3));
-    Ok(())
 }
 
 #[test]
-fn a_refused_item_leaves_no_entry(rt: HostRuntime) -> Result<(), Fail> {
-    let source = scattered(&rt, rt.alloc())?;
+fn a_refused_item_leaves_no_entry(rt: HostRuntime) {
+    let source = scattered(&rt, rt.alloc());
     let mut chain = Letters::new(rt.alloc());
     assert!(rt; clone_but(&mut chain, &source, 0) == (Ok(()), 3));
     assert!(rt; chain.len() == 3);
     let refused = Err(ReallocationError::AllocError);
     assert!(rt; clone_but(&mut chain, &source, 2) == (refused, 2));
     assert!(rt; (chain.len(), chain.capacity(), chain.generation()) == (0, 4, 3));
-    Ok(())
 }

@@ -1,10 +1,9 @@
 //! Memory that is refused.
-use super::{Entry, Letters, Place, SCATTERED, entries, insert, scattered};
+use super::{Entry, Letters, Place, SCATTERED, insert, is_listed, scattered};
 use arena_base::{InsertionError, InvalidationOption, P0, Ptr, ReallocationError};
 use linked_list_allocator::LocalHeap;
 use std::alloc::Global;
 use std::process::Abort;
-use std::test::Fail;
 
 /// Ten entries, each inserted after the last.
 const TEN: [Entry; 10] = [
@@ -23,8 +22,8 @@ const TEN: [Entry; 10] = [
 /// Inserts the ten letters, each after the last, until memory is refused. Answers the refusal.
 fn fill(rt: &impl Abort, chain: &mut Letters<&LocalHeap>) -> Option<InsertionError> {
     let mut place = Place::Alone;
-    for (_, _, letter) in TEN {
-        match insert(rt, chain, place, letter) {
+    for (_, _, letter) in &TEN {
+        match insert(rt, chain, place, *letter) {
             Ok(p) => place = Place::After(p.inx()),
             Err(refusal) => return Some(refusal),
         }
@@ -32,28 +31,40 @@ fn fill(rt: &impl Abort, chain: &mut Letters<&LocalHeap>) -> Option<InsertionErr
     None
 }
 
-/// Fills a chain on a heap of so many units. Answers how many entries are there.
-fn filled(rt: &impl Abort, alloc: Global, units: usize) -> Result<usize, Fail> {
-    let heap = LocalHeap::new(alloc, units.saturating_mul(16))?;
-    let mut chain = Letters::new(&heap);
-    let refusal = fill(rt, &mut chain);
+/// Whether the first of the ten entries are there: all of them, or as many as there is room for where memory is refused.
+fn has_first(chain: &Letters<&LocalHeap>, refusal: Option<InsertionError>) -> bool {
     let len = chain.len();
-    assert!(rt; refusal == Some(InsertionError::AllocError) || len == 10);
-    assert!(rt; chain.capacity() == len || refusal.is_none());
-    assert!(rt; TEN.starts_with(entries(alloc, &chain)?.as_slice()));
-    Ok(len)
+    if len > 10 || !is_listed(chain, &TEN[..len]) {
+        return false;
+    }
+    match refusal {
+        Some(refusal) => refusal == InsertionError::AllocError && chain.capacity() == len,
+        None => len == 10,
+    }
+}
+
+/// Fills a chain on a heap. Answers how many entries are there.
+fn filled(rt: &impl Abort, heap: &LocalHeap) -> usize {
+    let mut chain = Letters::new(heap);
+    let refusal = fill(rt, &mut chain);
+    assert!(rt; has_first(&chain, refusal));
+    chain.len()
+}
+
+/// The same on a heap of so many units.
+fn filled_in(rt: &impl Abort, alloc: Global, units: usize) -> usize {
+    let heap = LocalHeap::new(alloc, units.saturating_mul(16)).expect(rt, "a heap");
+    filled(rt, &heap)
 }
 
 #[test]
-fn keeps_all_where_memory_is_refused(rt: HostRuntime) -> Result<(), Fail> {
+fn keeps_all_where_memory_is_refused(rt: HostRuntime) {
     let mut is_met = [false; 11];
-    for units in 1..80 {
-        let len = filled(&rt, rt.alloc(), units)?;
-        *is_met.get_mut(len).ok_or("ten at most")? = true;
+    for units in 1..80usize {
+        is_met[filled_in(&rt, rt.alloc(), units) % 11] = true;
     }
     // each growth was refused in turn: from nothing, from 4, from 8
     assert!(rt; (is_met[0], is_met[4], is_met[8], is_met[10]) == (true, true, true, true));
-    Ok(())
 }
 
 /// Transfers all letters with generation 5. Tells whether it is done, and how often the closure was called.
@@ -73,30 +84,43 @@ fn transfer_all(
     (outcome, calls)
 }
 
-/// Transfers three letters into a chain on a heap of so many units. Tells whether it is done.
-fn is_transferred(rt: &impl Abort, alloc: Global, units: usize) -> Result<bool, Fail> {
-    let heap = LocalHeap::new(alloc, units.saturating_mul(16))?;
-    let mut source = scattered(rt, alloc)?;
-    let mut chain = Letters::new(&heap);
-    let (outcome, calls) = transfer_all(&mut chain, &mut source);
-    let seen = (chain.len(), chain.capacity(), chain.generation(), calls);
+/// Length, capacity and generation of a chain.
+fn counts(chain: &Letters<&LocalHeap>) -> (usize, usize, u64) {
+    (chain.len(), chain.capacity(), chain.generation())
+}
+
+/// Transfers three letters into a chain. Tells whether it is done; where it isn't, nothing has changed.
+fn is_transferred(rt: &impl Abort, chain: &mut Letters<&LocalHeap>, source: &mut Letters) -> bool {
+    let (outcome, calls) = transfer_all(chain, source);
     if outcome.is_ok() {
-        assert!(rt; seen == (3, 3, 5, 3) && source.is_empty());
-        return Ok(true);
+        assert!(rt; (counts(chain), calls) == ((3, 3, 5), 3) && source.is_empty());
+        return true;
     }
-    assert!(rt; outcome == Err(ReallocationError::AllocError) && seen == (0, 0, 2, 0));
-    assert!(rt; entries(alloc, &source)?.as_slice() == SCATTERED);
-    Ok(false)
+    assert!(rt; outcome == Err(ReallocationError::AllocError));
+    assert!(rt; (counts(chain), calls) == ((0, 0, 2), 0) && is_listed(source, SCATTERED));
+    false
+}
+
+/// The same with a new chain on a heap.
+fn is_transferred_on(rt: &impl Abort, alloc: Global, heap: &LocalHeap) -> bool {
+    let mut source = scattered(rt, alloc);
+    let mut chain = Letters::new(heap);
+    is_transferred(rt, &mut chain, &mut source)
+}
+
+/// The same with a heap of so many units.
+fn is_transferred_in(rt: &impl Abort, alloc: Global, units: usize) -> bool {
+    let heap = LocalHeap::new(alloc, units.saturating_mul(16)).expect(rt, "a heap");
+    is_transferred_on(rt, alloc, &heap)
 }
 
 #[test]
-fn a_transfer_without_memory_changes_nothing(rt: HostRuntime) -> Result<(), Fail> {
+fn a_transfer_without_memory_changes_nothing(rt: HostRuntime) {
     let mut done = 0usize;
-    for units in 1..40 {
-        if is_transferred(&rt, rt.alloc(), units)? {
+    for units in 1..40usize {
+        if is_transferred_in(&rt, rt.alloc(), units) {
             done = done.saturating_add(1);
         }
     }
     assert!(rt; done > 0 && done < 39);
-    Ok(())
 }
