@@ -46,9 +46,6 @@ fn insert<A: Allocator>(
 /// Index, generation and letter of an entry.
 type Entry = (u32, u64, char);
 
-/// Where a list in a table ends that is shorter than the others.
-const END: Entry = (0, 0, ' ');
-
 /// An entry at an index, and the indexes of both its neighbours.
 fn seen<A: Allocator>(chain: &Letters<A>, i: u32) -> Option<(Entry, Option<u32>, Option<u32>)> {
     let (generation, link) = chain.get_inx_link_no_gen(i)?;
@@ -64,9 +61,6 @@ fn gives<A: Allocator>(
 ) -> bool {
     let (mut before, mut at, mut count) = (None, Some(first.inx()), 0usize);
     for entry in wanted {
-        if *entry == END {
-            break;
-        }
         let Some(p) = advancer.advance(chain) else {
             return false;
         };
@@ -85,7 +79,7 @@ fn gives<A: Allocator>(
 /// Whether these are the entries in order, as an advancer gives them.
 fn is_listed<A: Allocator>(chain: &Letters<A>, wanted: &[Entry]) -> bool {
     let Some(first) = chain.first() else {
-        return wanted.first().is_none_or(|entry| *entry == END);
+        return wanted.is_empty();
     };
     match chain.advancer_chain(first) {
         Some(mut advancer) => gives(chain, &mut advancer, first, wanted),

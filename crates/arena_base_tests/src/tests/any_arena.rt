@@ -35,6 +35,21 @@ fn is_cut<A: ArenaTrait<P0, u64> + SetMaxCapacity<P0, u64>>(arena: &mut A) -> bo
     arena.reallocate_min_capacity(0).is_ok() && arena.set_max_capacity(1).is_err()
 }
 
+/// Whether an arena loses all entries.
+fn is_emptied<A: ArenaTrait<P0, u64>>(arena: &mut A) -> bool {
+    laws::empty(arena);
+    ends(arena) == (0, 2, None, None)
+}
+
+/// Whether the calls of the trait do what they do at any arena: one that has two items at the indexes 1 and 2, and a capacity of 4.
+fn is_an_arena<A: ArenaTrait<P0, u64> + SetMaxCapacity<P0, u64>>(arena: &mut A) -> bool {
+    ends(arena) == (2, 4, Some((1, 2)), Some((2, 2)))
+        && is_taken(arena, p0(1, 2), p0(1, 3))
+        && is_cut(arena)
+        && ends(arena) == (1, 2, Some((2, 2)), Some((2, 2)))
+        && is_emptied(arena)
+}
+
 /// The items 10 and 20 at the indexes 1 and 2, and a capacity of 4.
 fn two(rt: &impl Abort, alloc: Global) -> Arena<P0, u64> {
     let mut arena: Arena<P0, u64> = ArenaTrait::with_min_capacity(alloc, 4).expect(rt, "memory");
@@ -44,16 +59,10 @@ fn two(rt: &impl Abort, alloc: Global) -> Arena<P0, u64> {
     arena
 }
 
-/// The calls of the trait, as any arena has them.
 #[test]
 fn as_any_arena(rt: HostRuntime) {
     let mut arena = two(&rt, rt.alloc());
-    assert!(rt; ends(&arena) == (2, 4, Some((1, 2)), Some((2, 2))));
-    assert!(rt; is_taken(&mut arena, p0(1, 2), p0(1, 3)));
-    assert!(rt; is_cut(&mut arena));
-    assert!(rt; ends(&arena) == (1, 2, Some((2, 2)), Some((2, 2))));
-    laws::empty(&mut arena);
-    assert!(rt; ends(&arena) == (0, 2, None, None));
+    assert!(rt; is_an_arena(&mut arena));
 }
 
 // Indexes and generations of each type, through their bounds.
