@@ -10,7 +10,7 @@ use std::alloc::Global;
 use std::process::Abort;
 
 /// Scripts with their whole answers. That of the fifth is `EQUAL_KEYS`.
-const SCRIPTS: [(&str, &str); 6] = [
+const SCRIPTS: &[(&str, &str)] = &[
     LIMITS,
     (
         "max 2\ninsert 1 10\ninsert 2 20\nwithin 1 11\nwithin 3 30\ninsert 3 30\nlist\nmax 1\n",

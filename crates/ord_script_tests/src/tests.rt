@@ -7,7 +7,7 @@ use ord_script::{FaultKind, ScriptEnd, Watched, serve};
 use std::process::Abort;
 
 /// Scripts that are done, each with its answer.
-const ANSWERS: [(&[u8], &str); 44] = [
+const ANSWERS: &[(&[u8], &str)] = &[
     // the commands
     (
         b"insert 50 1\ninsert 30 2\nfind 30\nlist\n",
@@ -175,7 +175,7 @@ const ANSWERS: [(&[u8], &str); 44] = [
 ];
 
 /// Scripts that end at a fault, each with its answer, the fault's line and its kind.
-const FAULTS: [(&[u8], &str, usize, FaultKind); 6] = [
+const FAULTS: &[(&[u8], &str, usize, FaultKind)] = &[
     // a fault ends the script
     (
         b"insert 1 1\nfnd 1\nlist\n",
@@ -218,7 +218,7 @@ const FAULTS: [(&[u8], &str, usize, FaultKind); 6] = [
 ];
 
 /// Lines that are a fault of this kind.
-const BAD_LINES: [(&[u8], FaultKind); 93] = [
+const BAD_LINES: &[(&[u8], FaultKind)] = &[
     // the tree, and what stands around the entries
     (b"visits", FaultKind::WrongArguments),
     (b"get 1.2 3", FaultKind::WrongArguments),
@@ -347,21 +347,21 @@ fn expect_answer<R: Abort + AllocGlobal>(rt: &R, script: &[u8], answer: &str, en
 
 #[test]
 fn answers_scripts(rt: HostRuntime) {
-    for (script, answer) in &ANSWERS {
+    for (script, answer) in ANSWERS {
         expect_answer(&rt, script, answer, ScriptEnd::Done);
     }
 }
 
 #[test]
 fn answers_up_to_a_fault(rt: HostRuntime) {
-    for (script, answer, line, kind) in &FAULTS {
+    for (script, answer, line, kind) in FAULTS {
         expect_answer(&rt, script, answer, ScriptEnd::Fault(*line, *kind));
     }
 }
 
 #[test]
 fn tells_what_is_wrong(rt: HostRuntime) {
-    for (line, kind) in &BAD_LINES {
+    for (line, kind) in BAD_LINES {
         let answer = match kind {
             FaultKind::UnknownCommand => "line 1: unknown command\n",
             FaultKind::WrongArguments => "line 1: wrong arguments\n",

@@ -99,7 +99,7 @@ fn each_byte_at_each_place(rt: HostRuntime) {
 }
 
 /// Numbers at their limits, each with what stands before it in a line, and the next one; with what follows them.
-const LIMITS: [(&str, &str, &str); 15] = [
+const LIMITS: &[(&str, &str, &str)] = &[
     ("find ", "9223372036854775807", "9223372036854775808"),
     ("find -", "9223372036854775808", "9223372036854775809"),
     ("insert -", "9223372036854775808 0", "9223372036854775809 0"),
@@ -183,7 +183,7 @@ fn is_limit(rt: &impl Abort, alloc: Global, row: &(&str, &str, &str), count: usi
 
 /// Every limit with so many zeros.
 fn each_limit(rt: &impl Abort, alloc: Global, count: usize) {
-    for row in &LIMITS {
+    for row in LIMITS {
         is_limit(rt, alloc, row, count);
     }
 }
@@ -204,7 +204,7 @@ fn longest(rt: &impl Abort, alloc: Global, before: &str, byte: u8, after: &str) 
 }
 
 /// Scripts of the greatest length, each with its answer.
-const LONG: [(&str, u8, &str, &str); 9] = [
+const LONG: &[(&str, u8, &str, &str)] = &[
     ("#", b'x', "", ""),
     ("", b'\n', "", ""),
     ("", b'\n', "x", "line 1048576: unknown command\n"),
@@ -218,7 +218,7 @@ const LONG: [(&str, u8, &str, &str); 9] = [
 
 #[test]
 fn lines_of_a_megabyte(rt: HostRuntime) {
-    for (before, byte, after, answer) in &LONG {
+    for (before, byte, after, answer) in LONG {
         let script = longest(&rt, rt.alloc(), *before, *byte, *after);
         answers(&rt, rt.alloc(), &script, *answer);
     }

@@ -6,7 +6,7 @@ use std::process::Abort;
 
 /// What is wrong with the last line of each beginning of the scripts, from the empty one on: its first word, how many words follow it,
 /// a number, or nothing.
-const FAULTS: [&str; 6] = [
+const FAULTS: &[&str] = &[
     ".uuuuuwwwwwwwwwwwwwwwwwwwwwww.....................uuu..uuuuuwwwwwwwwwwwwwwwwwwwwwwbb",
     ".uuww..uuuuuwwww...uuuuuwwww...uuuuuwwww...uuuuuwwww...uuuuuwwww...uuu..uuww..",
     ".uuuuuwwwwww..uuuuuwwww..uuuuuwwww..uuuuuwwww..uuuuwwww..uuuuuwwwwww..uuuu..uuu..uuuww..uuuuuww..uuuu..",
@@ -92,7 +92,7 @@ fn faults_of(place: usize) -> &'static str {
 #[test]
 fn each_beginning_of_a_script(rt: HostRuntime) {
     let mut place = 0usize;
-    for (script, answer) in &SCRIPTS {
+    for (script, answer) in SCRIPTS {
         each_beginning(&rt, rt.alloc(), *script, *answer, faults_of(place));
         place = place.saturating_add(1);
     }

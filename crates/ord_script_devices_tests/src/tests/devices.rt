@@ -165,7 +165,7 @@ fn read_fails(rt: &impl Abort, alloc: Global, script: &str, left: usize) {
 
 #[test]
 fn reads_that_fail_after_each_byte(rt: HostRuntime) {
-    for (script, _) in &SCRIPTS {
+    for (script, _) in SCRIPTS {
         for left in 0..=script.len() {
             read_fails(&rt, rt.alloc(), *script, left);
         }
@@ -183,7 +183,7 @@ fn write_fails(rt: &impl Abort, alloc: Global, script: &str, answer: &[u8], left
 
 #[test]
 fn writes_that_fail_after_each_byte(rt: HostRuntime) {
-    for (script, answer) in &SCRIPTS {
+    for (script, answer) in SCRIPTS {
         for left in 0..answer.len() {
             write_fails(&rt, rt.alloc(), *script, answer.as_bytes(), left);
         }
@@ -199,7 +199,7 @@ fn is_served_slowly(rt: &impl Abort, alloc: Global, script: &str, answer: &str, 
 
 #[test]
 fn slow_devices(rt: HostRuntime) {
-    for (script, answer) in &SCRIPTS {
+    for (script, answer) in SCRIPTS {
         for step in [1usize, 2, 3, 7] {
             is_served_slowly(&rt, rt.alloc(), *script, *answer, step);
         }

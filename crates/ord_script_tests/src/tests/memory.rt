@@ -9,7 +9,7 @@ const GROWING: &[u8] =
     b"insert 9 1\ninsert 8 2\ninsert 7 3\ninsert 6 4\nlist\nranks\ninsert 5 5\nget 1.2\nlist\nranks\ndrain 2\n";
 
 /// What each of its lines may be: a command that is refused memory says so, and the script goes on.
-const LINES: [&[&str]; 11] = [
+const LINES: &[&[&str]] = &[
     &["refused memory", "new 1.2"],
     &["refused memory", "new 2.2"],
     &["refused memory", "new 3.2"],
@@ -49,7 +49,7 @@ const WHOLE: &str =
 /// Whether the answer has these lines.
 fn is_possible(answer: &str) -> bool {
     let mut lines = answer.lines();
-    for known in &LINES {
+    for known in LINES {
         match lines.next() {
             Some(line) if known.contains(&line) => {}
             _ => return false,

@@ -36,7 +36,7 @@ fn forgotten_by_index(alloc: Global, taken: usize) -> Keys {
 }
 
 /// How many a drain takes; the generation after it, and the keys that it leaves, in order and by index.
-const LEFT: [(usize, u64, &[u64], &[u64]); 5] = [
+const LEFT: &[(usize, u64, &[u64], &[u64])] = &[
     (0, 3, &[1, 2, 3, 5], &[1, 2, 3, 5]),
     (1, 4, &[2, 3, 5], &[1, 2, 5]),
     (3, 6, &[5], &[2]),
@@ -47,7 +47,7 @@ const LEFT: [(usize, u64, &[u64], &[u64]); 5] = [
 /// A drain that is forgotten leaves the rest.
 #[test]
 fn forgotten_drains(rt: HostRuntime) {
-    for (taken, generation, in_order, by_index) in &LEFT {
+    for (taken, generation, in_order, by_index) in LEFT {
         let a = forgotten(rt.alloc(), *taken);
         assert!(rt; a.generation() == *generation && has_keys(&a, in_order));
         let b = forgotten_by_index(rt.alloc(), *taken);

@@ -56,7 +56,7 @@ fn compared(a: &Keys, b: &Keys) -> (bool, Ordering, Option<Ordering>) {
 }
 
 /// Keys, and how they compare with 1, 2 and 3.
-const WORDS: [(&[u64], Ordering); 4] = [
+const WORDS: &[(&[u64], Ordering)] = &[
     (&[2, 1, 3], Ordering::Equal),
     (&[2, 1], Ordering::Less),
     (&[], Ordering::Less),
@@ -67,7 +67,7 @@ const WORDS: [(&[u64], Ordering); 4] = [
 #[test]
 fn arenas_compare_by_their_items(rt: HostRuntime) {
     let word = keys(rt.alloc(), &[3, 1, 2]);
-    for (list, order) in &WORDS {
+    for (list, order) in WORDS {
         let a = keys(rt.alloc(), list);
         assert!(rt; compared(&a, &word) == (order.is_eq(), *order, Some(*order)));
     }

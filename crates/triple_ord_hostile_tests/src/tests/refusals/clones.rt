@@ -80,7 +80,7 @@ fn filled<'h>(
 }
 
 /// The texts of the source.
-const ROWS: [(u64, &str); 4] = [
+const ROWS: &[(u64, &str)] = &[
     (2, "a text that needs room of its own"),
     (4, ""),
     (3, "a third one, no shorter than the first"),
@@ -89,7 +89,7 @@ const ROWS: [(u64, &str); 4] = [
 
 /// The source: the second text is taken out again, and the indexes 4, 1 and 3 stay, in order.
 fn source<'h>(rt: &impl Abort, heap: &'h LocalHeap) -> Texts<'h> {
-    let mut texts = filled(rt, heap, 4, &ROWS);
+    let mut texts = filled(rt, heap, 4, ROWS);
     let _ = texts.remove(P0::_from_raw(2, 2));
     texts
 }
@@ -99,7 +99,7 @@ const SOURCE: &str =
     "(3, 4, None, 3) P0[4](2)=(1, Text { text: \"the first in order\" }):1 P0[1](2)=(2, Text { text: \"a text that needs room of its own\" }):3 P0[3](2)=(3, Text { text: \"a third one, no shorter than the first\" }):1";
 
 /// The texts of a receiver with entries.
-const OLD: [(u64, &str); 2] = [(7, "an old one"), (6, "an older one")];
+const OLD: &[(u64, &str)] = &[(7, "an old one"), (6, "an older one")];
 
 /// What a receiver with room for two looks like where its growth is refused: as it was.
 const KEPT: &str =
@@ -135,7 +135,7 @@ struct Receivers<'h> {
 fn make_receivers<'h>(rt: &impl Abort, heap: &'h LocalHeap, kind: Kind) -> Receivers<'h> {
     let capacity = if matches!(kind, Kind::Growing) { 2 } else { 4 };
     Receivers {
-        texts: filled(rt, heap, capacity, &OLD),
+        texts: filled(rt, heap, capacity, OLD),
         arena: Arena::new(heap),
         chain: ChainArena::new(heap),
     }
