@@ -1,13 +1,12 @@
 -- A new entry behind all whose key is at most its own: the job is put on the agenda.
-use Rattle.std.proofs.Common.{◌≡◌, ◌≢◌, ℕ, Bool, true, false, List, [], ◌∷◌, ◌++◌, map, Option, Some, None, IfSome, is_some, Ok, slice_get, refl, sym, ap, ◌∙◌, ◌+◌, ◌*◌, min, max, nat_lt, length, arith, if◌then◌else◌}
+use Rattle.std.proofs.Common.{◌≡◌, ◌≢◌, ℕ, List, [], ◌∷◌, ◌++◌, map, Option, Some, None, IfSome, is_some, Ok, slice_get, refl, sym, ap, ◌∙◌, ◌+◌, nat_lt, if◌then◌else◌}
 use Rattle.std.proofs.{lemmas.List.map-append, lemmas.List.length-map, lemmas.List.Elements.All-from_recursion}
-use Rattle.std.proofs.lemmas.Bool.{lt-ltb, le-ltb}
 use Rattle.std.specs.{declared.cmp.Ordering.TheVariants.Less, declared.cmp.Ordering.Ordering, Ordering.nat_cmp}
-use Rattle.chain_base.specs.Chain.{Entry, Chain, times, IsSound, inserted_at, next_index, with_capacity, grown_capacity}
+use Rattle.chain_base.specs.Chain.{Entry, Chain, times, IsSound, inserted_at}
 use Rattle.chain_base.specs.Insert.{IsInsertion}
 use Rattle.chain_base.proofs.CallerLemmas.{entry_at-absent}
 use Rattle.ord_tree.specs.Tree.{Tree}
-use Rattle.triple_ord.specs.Insertion.{Growth, within, reallocating, with_room_by, InsertsBy, InsertsNew}
+use Rattle.triple_ord.specs.Insertion.{Growth, with_room_by, InsertsBy, InsertsNew}
 use Rattle.triple_ord.specs.declared.entry_kind.OrdEntryKind.TheVariants.{New, Replacing}
 use Rattle.triple_ord.specs.{Gap.Gap, Gap.before, Gap.after, Gap.with_between, declared.entry_kind.OrdEntryKind.OrdEntryKind}
 use Rattle.triple_ord.specs.{EntryKind.pointer_of_kind, Place.behind_key}
@@ -60,7 +59,7 @@ module _ {J : Type 0} (growth : Growth) (old new : Tree (ℕ × J)) (d : ℕ) (j
     -- the capacity grows where there was no room
     capacity-put : new.list.capacity ≡ (if nat_lt (count (agenda_of old)) old.list.capacity then old.list.capacity else grown old.list.capacity)
     capacity-put =
-        ap (λ (c : Chain (ℕ × J)). c.capacity) after-put.1 ∙ capacity-with_room_by growth most_jobs old.list sound.counted holds.unlimited (ap is_some inserted.next)
+        ap (λ (c : Chain (ℕ × J)). c.capacity) after-put.1 ∙ capacity-with_room_by most_jobs old.list sound.counted holds.unlimited growth (ap is_some inserted.next)
         ∙ ap (λ n. if nat_lt n old.list.capacity then old.list.capacity else grown old.list.capacity) (sym (length-map old.list.entries (scheduled {J = J})))
 
     schedules-put : Schedules (agenda_of old) p d job (agenda_of new)

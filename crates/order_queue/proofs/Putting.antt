@@ -1,14 +1,14 @@
 -- A new entry behind all whose rank is at most its own: the order comes to rest.
-use Rattle.std.proofs.Common.{◌≡◌, ◌≢◌, ℕ, Bool, true, false, List, [], ◌∷◌, ◌++◌, map, Option, Some, None, IfSome, is_some, Result, Ok, Err, IfOk, OnErr, slice_get, refl, sym, ap}
-use Rattle.std.proofs.Common.{subst, ◌∙◌, ◌+◌, ◌*◌, ◌<◌, ◌≤◌, min, max, nat_lt, length, arith, if◌then◌else◌}
-use Rattle.std.proofs.{lemmas.List.map-append, lemmas.List.length-map, lemmas.Bool.lt-ltb, lemmas.Bool.le-ltb}
+use Rattle.std.proofs.Common.{◌≡◌, ◌≢◌, ℕ, List, [], ◌∷◌, ◌++◌, map, Option, Some, None, IfSome, is_some, Result, Ok, Err, IfOk, OnErr, slice_get, refl, sym, ap}
+use Rattle.std.proofs.Common.{subst, ◌∙◌, ◌+◌, ◌<◌, ◌≤◌, nat_lt, length, if◌then◌else◌}
+use Rattle.std.proofs.{lemmas.List.map-append, lemmas.List.length-map}
 use Rattle.std.specs.{declared.cmp.Ordering.TheVariants.Less, declared.cmp.Ordering.Ordering, List.AllByRecursion, Option.option_map}
 use Rattle.std.specs.Ordering.{nat_cmp}
-use Rattle.chain_base.specs.Chain.{Entry, Chain, times, item_of, IsSound, inserted_at, next_index, with_capacity, grown_capacity}
+use Rattle.chain_base.specs.Chain.{Entry, Chain, times, item_of, IsSound, inserted_at}
 use Rattle.chain_base.specs.Insert.{IsInsertion}
 use Rattle.chain_base.proofs.CallerLemmas.{entry_at-absent}
 use Rattle.ord_tree.specs.Tree.{Tree}
-use Rattle.triple_ord.specs.Insertion.{Growth, within, reallocating, with_room_by, InsertsBy, InsertsNew}
+use Rattle.triple_ord.specs.Insertion.{Growth, reallocating, with_room_by, InsertsBy, InsertsNew}
 use Rattle.triple_ord.specs.declared.entry_kind.OrdEntryKind.TheVariants.{New, Replacing}
 use Rattle.triple_ord.specs.{Gap.Gap, Gap.before, Gap.after, Gap.with_between, declared.entry_kind.OrdEntryKind.OrdEntryKind}
 use Rattle.triple_ord.specs.{EntryKind.pointer_of_kind, Place.behind_key}
@@ -81,7 +81,7 @@ module _ (growth : Growth) (old new : Tree (ℕ × ℕ)) (d quantity : ℕ) (p :
       -- the capacity grows where there was no room
       capacity-put : new.list.capacity ≡ (if nat_lt (length (queue_of side old).orders) old.list.capacity then old.list.capacity else grown old.list.capacity)
       capacity-put =
-          ap (λ (c : Chain (ℕ × ℕ)). c.capacity) after-put.1 ∙ capacity-with_room_by growth most_orders old.list sound.counted holds.unlimited (ap is_some inserted.next)
+          ap (λ (c : Chain (ℕ × ℕ)). c.capacity) after-put.1 ∙ capacity-with_room_by most_orders old.list sound.counted holds.unlimited growth (ap is_some inserted.next)
           ∙ ap (λ n. if nat_lt n old.list.capacity then old.list.capacity else grown old.list.capacity) (sym (length-map old.list.entries (resting side)))
 
       absent-put : item_of old.list.entries p ≡ None

@@ -168,10 +168,10 @@ module _ {T : Type 0} where
   pub numbers-with_room_by : (growth : Growth) (most : ℕ) (c : Chain T) → let d = with_room_by growth most c in (d.generation ≡ c.generation) × (d.maximum ≡ c.maximum)
   numbers-with_room_by growth most c = (grind (arith, common_steps), grind (arith, common_steps))
 
-  pub capacity-with_room_by : (growth : Growth) (most : ℕ) (c : Chain T) → length c.entries + length c.vacant ≡ c.capacity → c.maximum ≡ None
-      → is_some (next_index (with_room_by growth most c)) ≡ true → (with_room_by growth most c).capacity ≡ roomy_capacity most c
-  capacity-with_room_by within most c counted unlimited some = capacity-vacant most c counted some
-  capacity-with_room_by reallocating most c counted unlimited some = capacity-with_room most c counted unlimited
+  module _ (most : ℕ) (c : Chain T) (counted : length c.entries + length c.vacant ≡ c.capacity) (unlimited : c.maximum ≡ None) where
+    pub capacity-with_room_by : (growth : Growth) → let d = with_room_by growth most c in is_some (next_index d) ≡ true → d.capacity ≡ roomy_capacity most c
+    capacity-with_room_by within some = capacity-vacant most c counted some
+    capacity-with_room_by reallocating some = capacity-with_room most c counted unlimited
 
 -- an insertion through an entry that was asked for is one step over its place
 module _ {T K : Type 0} (key : T → K) (cmp : K → K → Ordering) where
