@@ -8,7 +8,7 @@ type Wanted = (usize, u64, u64);
 /// An order: its side, its price and its quantity; its trades; and how much of it comes to rest. Orders are counted from 1.
 type Row = (Side, u64, u64, &'static [Wanted], u64);
 
-const DAY: [Row; 30] = [
+const DAY: &[Row] = &[
     (Side::Buy, 100, 30, &[], 30),
     (Side::Buy, 101, 10, &[], 10),
     (Side::Buy, 100, 20, &[], 20),
@@ -137,7 +137,7 @@ fn sell_all(
 fn a_trading_day(rt: HostRuntime) -> Result<(), AllocError> {
     let mut book = OrderBook::new(rt.alloc());
     let (mut names, mut trades) = (Vec::new(rt.alloc()), Vec::new(rt.alloc()));
-    for row in &DAY {
+    for row in DAY {
         assert!(rt; place(&mut book, &mut names, &mut trades, row)?);
     }
     assert!(rt; has_bids(&book, &names, &AT_THE_END));
