@@ -71,8 +71,8 @@ abbrev pub taking : {X : Type 0} → Reader X → (X → PairCommand) → List (
 taking reader command arguments = arguments_in reader arguments >>= λ x. Ok (command x)
 
 -- a command without arguments
-abbrev pub alone : PairCommand → List (List ℕ) → Result PairCommand FaultKind
-alone command = taking nothing (λ _. command)
+abbrev pub without_arguments : PairCommand → List (List ℕ) → Result PairCommand FaultKind
+without_arguments command = taking nothing (λ _. command)
 
 -- insertions at a place that the line names: as a new entry beside those with the pair's key; from a hint, an index and a number of
 -- steps; and before, at or after the entry with an index
@@ -121,8 +121,8 @@ command_by words.Set = taking (both (one pointer_of) key_and_value) set
 command_by words.Remove = taking (one pointer_of) commands.Remove
 command_by words.RemoveInx = taking (one index_of) commands.RemoveInx
 command_by words.Invalidate = taking (one pointer_of) commands.Invalidate
-command_by words.Clear = alone commands.Clear
-command_by words.IncGeneration = alone commands.IncGeneration
+command_by words.Clear = without_arguments commands.Clear
+command_by words.IncGeneration = without_arguments commands.IncGeneration
 command_by words.Compress = taking (one flag_of) commands.Compress
 command_by words.Canonical = taking (one flag_of) commands.Canonical
 command_by words.Find = taking (one key_of) commands.Find
@@ -131,16 +131,16 @@ command_by words.Similar = taking (one key_of) commands.Similar
 command_by words.SimilarLinear = taking (both (one index_of) (both (one value_of) (one key_of))) similar_linear
 command_by words.Visits = taking (one key_of) commands.Visits
 command_by words.Get = taking (one pointer_of) commands.Get
-command_by words.First = alone commands.First
-command_by words.Last = alone commands.Last
+command_by words.First = without_arguments commands.First
+command_by words.Last = without_arguments commands.Last
 command_by words.Neighbours = taking (one index_of) commands.Neighbours
-command_by words.List = alone commands.List
-command_by words.Ranks = alone commands.Ranks
-command_by words.Check = alone commands.Check
+command_by words.List = without_arguments commands.List
+command_by words.Ranks = without_arguments commands.Ranks
+command_by words.Check = without_arguments commands.Check
 command_by words.Reserve = taking (one value_of) commands.Reserve
 command_by words.SetMax = taking (one value_of) commands.SetMax
 command_by words.DrainOrdered = taking (one value_of) commands.DrainOrdered
-command_by words.Stats = alone commands.Stats
+command_by words.Stats = without_arguments commands.Stats
 
 -- the word that begins a command
 abbrev pub word_of : PairCommand → Word

@@ -1,6 +1,6 @@
 //! Reads the command that a line gives.
 ghost use Rattle.std.specs.Prelude.{◌≡◌};
-ghost use Rattle.ord_script.specs.Commands.{alone, command_by, said_by, nonhereditary, linear, nonhereditary_linear, entry_beside, set, find_linear, similar_linear};
+ghost use Rattle.ord_script.specs.Commands.{without_arguments, command_by, said_by, nonhereditary, linear, nonhereditary_linear, entry_beside, set, find_linear, similar_linear};
 ghost use Rattle.ord_script.specs.Commands as spec;
 ghost use Rattle.ord_script.specs.Script.{words_of};
 
@@ -53,8 +53,8 @@ fn command_by(word: Word, arguments: Words<'_>) -> Result<PairCommand, FaultKind
         Word::Remove => Ok(Command::Remove(arguments_in(arguments)?)),
         Word::RemoveInx => Ok(Command::RemoveInx(arguments_in(arguments)?)),
         Word::Invalidate => Ok(Command::Invalidate(arguments_in(arguments)?)),
-        Word::Clear => alone(Command::Clear, arguments),
-        Word::IncGeneration => alone(Command::IncGeneration, arguments),
+        Word::Clear => without_arguments(Command::Clear, arguments),
+        Word::IncGeneration => without_arguments(Command::IncGeneration, arguments),
         Word::Compress => Ok(Command::Compress(arguments_in(arguments)?)),
         Word::Canonical => Ok(Command::Canonical(arguments_in(arguments)?)),
         Word::Find => Ok(Command::Find(arguments_in(arguments)?)),
@@ -63,16 +63,16 @@ fn command_by(word: Word, arguments: Words<'_>) -> Result<PairCommand, FaultKind
         Word::SimilarLinear => Ok(similar_linear(arguments_in(arguments)?)),
         Word::Visits => Ok(Command::Visits(arguments_in(arguments)?)),
         Word::Get => Ok(Command::Get(arguments_in(arguments)?)),
-        Word::First => alone(Command::First, arguments),
-        Word::Last => alone(Command::Last, arguments),
+        Word::First => without_arguments(Command::First, arguments),
+        Word::Last => without_arguments(Command::Last, arguments),
         Word::Neighbours => Ok(Command::Neighbours(arguments_in(arguments)?)),
-        Word::List => alone(Command::List, arguments),
-        Word::Ranks => alone(Command::Ranks, arguments),
-        Word::Check => alone(Command::Check, arguments),
+        Word::List => without_arguments(Command::List, arguments),
+        Word::Ranks => without_arguments(Command::Ranks, arguments),
+        Word::Check => without_arguments(Command::Check, arguments),
         Word::Reserve => Ok(Command::Reserve(arguments_in(arguments)?)),
         Word::SetMax => Ok(Command::SetMax(arguments_in(arguments)?)),
         Word::DrainOrdered => Ok(Command::DrainOrdered(arguments_in(arguments)?)),
-        Word::Stats => alone(Command::Stats, arguments),
+        Word::Stats => without_arguments(Command::Stats, arguments),
     }
 }
 
@@ -140,8 +140,8 @@ fn similar_linear(arguments: (u32, (usize, i64))) -> PairCommand
 }
 
 /// A command without arguments.
-fn alone(command: PairCommand, arguments: Words<'_>) -> Result<PairCommand, FaultKind>
-    ensures { result ≡ alone command arguments.entry }
+fn without_arguments(command: PairCommand, arguments: Words<'_>) -> Result<PairCommand, FaultKind>
+    ensures { result ≡ without_arguments command arguments.entry }
 {
     arguments_in::<()>(arguments)?;
     Ok(command)
