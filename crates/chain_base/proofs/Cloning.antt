@@ -190,7 +190,8 @@ module _ {T U : Type 0} (a0 : Arena (Link U)) (first last : Option ℕ) (laid : 
 
 -- the receiver after a refusal: as it was, or without entries
 module _ {T U : Type 0} (a0 : Arena (Link U)) (a b : Arena (Link T)) (first last : Option ℕ) (laid : IsChainIn a first last)
-    (r : Result (Unit {0}) ReallocationError) (e : ReallocationError) (is : r ≡ Err e) (beyond : r ≡ Err BeyondMaxCapacity → b ≡ a) {A B : Type 0} (stops : B → b ≡ arena_taken_over a0 a []) (memory : r ≡ Err NoMemory → (A × (b ≡ a)) ⊎ B) where
+    (r : Result (Unit {0}) ReallocationError) (e : ReallocationError) (is : r ≡ Err e) (beyond : r ≡ Err BeyondMaxCapacity → b ≡ a)
+    {A B : Type 0} (stops : B → b ≡ arena_taken_over a0 a []) (memory : r ≡ Err NoMemory → (A × (b ≡ a)) ⊎ B) where
   left : (b ≡ a) ⊎ (b ≡ arena_taken_over a0 a [])
   left = grind (arith, common_steps, beyond)
 

@@ -1,5 +1,5 @@
 use Rattle.std.proofs.Common.{◌≡◌, ℕ, ◌+◌, ◌<◌, ◌≤◌, length, Option, Some, sym, ap, ◌∙◌, rules, arith, refl, option_map}
-use Rattle.arena_base.specs.{Pointer.named_of, Arena.slot}
+use Rattle.arena_base.specs.{Pointer.named_of, Arena.Arena, Arena.slot}
 use Rattle.chain_base.specs.Naming.{linked_facing}
 use Rattle.chain_base.proofs.chain.compress.name_compressed_indexes.Goals.{in-Some, then-is_none, else-is_none, in_default}
 use Rattle.chain_base.proofs.Naming.{named_neighbour-begins, named_neighbour-vacant, named_neighbour-step, named_neighbour-target, named_neighbour-ends, index-made, neighbour-within}
@@ -17,7 +17,7 @@ overflow_add-count g c =
     omega (arith, c.loop-position.invariant.fewer, c.try_from_usize.ensures.variant, c.capacity-position-end.ensures.limit, c.capacity-position-end.ensures.value)
 
 -- what stands at the index that is met
-module _ {I G X L : Type 0} (number : I → ℕ) (era : G → ℕ) (seen : X → L) (a : _) (i : I) (n : ℕ) (at : number i ≡ n) (r o : Option (G × X)) where
+module _ {I G X L : Type 0} (number : I → ℕ) (era : G → ℕ) (seen : X → L) (a : Arena L) (i : I) (n : ℕ) (at : number i ≡ n) (r o : Option (G × X)) where
   read : option_map (λ (e : G × X). (era e.0, seen e.1)) r ≡ slot a (number i) → r ≡ o → slot a n ≡ option_map (λ e. (era e.0, seen e.1)) o
   read is same = rw (← at, ← same) (sym is)
 
