@@ -8,3 +8,6 @@ returns-then-not-contains_inx-clause-value g c =
 
 pub remove_entry-requires : goal.remove_entry-requires
 remove_entry-requires g c = rw (← c.self.view_is) (is_some-bare c.self.inside.chain.entries _ ∙ sym c.contains_inx.ensures ∙ c.if-not-contains_inx.false)
+
+pub returns-clause-shape : goal.returns-clause-shape
+returns-clause-shape g c = rw c.valid.ensures.value c.remove_entry.ensures.shape
