@@ -1,5 +1,5 @@
 -- A chain of nodes in which all entries are moved, as the list without the nodes sees it.
-use Rattle.std.proofs.Common.{arith, ◌≡◌, ℕ, zero, suc, ◌+◌, Option, Some, None, List, [], ◌∷◌, map, length, refl, sym, ◌∙◌, ap, option_map, max, slice_index_or, nat_lt, if◌then◌else◌}
+use Rattle.std.proofs.Common.{Result, Ok, Err, OnErr, arith, ◌≡◌, ℕ, zero, suc, ◌+◌, Option, Some, None, List, [], ◌∷◌, map, length, refl, sym, ◌∙◌, ap, option_map, max, slice_index_or, nat_lt, if◌then◌else◌}
 use Rattle.std.proofs.{lemmas.Grind.common_steps, lemmas.List.length-map}
 use Rattle.chain_base.specs.Compression.{lesser, entry_before, rising_among, entries_rising, refilled, moved, compressed, at_compressed_index, relocated, numbered, canonical, replaced, left_empty, IsCompression, Transferring, IsTransfer}
 use Rattle.chain_base.specs.Chain.{Entry, Chain}
@@ -9,6 +9,11 @@ use Rattle.ord_tree.specs.{declared.node.SimpleOrdArenaNode.SimpleOrdArenaNode a
 use Rattle.ord_tree.specs.MapNode.{MapsTaken}
 use Rattle.arena_base.proofs.CallerLemmas.{calls-retold}
 use Rattle.ord_tree.proofs.Trees.{entry_at-bare, vacant_among-bare}
+
+-- what holds in any case holds of a refusal
+pub refused_always : {X Y A : Type 0} (r : Result X Y) → A → OnErr r A
+refused_always (Ok x) a = tt
+refused_always (Err y) a = a
 
 module _ {P T I G : Type 0} where
   -- the items of some nodes

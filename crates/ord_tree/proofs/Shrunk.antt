@@ -1,5 +1,5 @@
 -- A removal: from the tree without a node to the chain without its entry.
-use Rattle.std.proofs.Common.{◌≡◌, ℕ, ◌+◌, ◌<◌, ◌≤◌, ◌^◌, Option, Some, None, List, [], ◌∷◌, map, length, arith, refl, sym, ◌∙◌, ap, subst, is_some, true, option_map}
+use Rattle.std.proofs.Common.{◌≡◌, ℕ, ◌+◌, ◌<◌, ◌≤◌, ◌^◌, Option, Some, None, OnSome, List, [], ◌∷◌, map, length, arith, refl, sym, ◌∙◌, ap, subst, is_some, true, option_map}
 use Rattle.std.proofs.{lemmas.Grind.common_steps, lemmas.List.length-map}
 use Rattle.chain_base.specs.Chain.{Entry, Chain, entry_at, link_at, IsSound, removed, without as entries_without}
 use Rattle.chain_base.specs.Link.{Link}
@@ -12,6 +12,11 @@ use Rattle.chain_base.proofs.CallerLemmas.{entry_at-link, entry_at-without_other
 use Rattle.ord_tree.proofs.{Trees.entry_at-bare, Trees.is_some-bare, Trees.indexes-bare, Trees.shape_in-held, Views.MovesAtMost-backs}
 use Rattle.ord_tree.proofs.{LeafBranches.IsOnce-distinct, LeafBranches.within-occupied, Slack.IsRanked-balanced, Slack.IsBalanced-ranked}
 use Rattle.ord_tree.proofs.{Forks.times-walk, Forks.apart-from, Frames.Holds-frame}
+
+-- what holds in any case holds of an option
+pub some_always : {X A : Type 0} (o : Option X) → A → OnSome o A
+some_always None a = tt
+some_always (Some x) a = a
 
 -- a list without one of its indexes
 pub times-without_same : (i : ℕ) (xs : List ℕ) → times i xs ≤ 1 → times i (without i xs) ≡ 0

@@ -1,5 +1,5 @@
 use Rattle.std.proofs.Common.{◌∙◌, sym}
-use Rattle.ord_tree.proofs.{LeafBranches.none_of, Trees.is_some-bare}
+use Rattle.ord_tree.proofs.{LeafBranches.none_of, Shrunk.some_always, Trees.is_some-bare}
 use Rattle.ord_tree.proofs.tree.OrdTree.remove_inx.Goals as goal
 
 pub returns-then-not-contains_inx-clause-value : goal.returns-then-not-contains_inx-clause-value
@@ -10,4 +10,4 @@ pub remove_entry-requires : goal.remove_entry-requires
 remove_entry-requires g c = rw (← c.self.view_is) (is_some-bare c.self.inside.chain.entries _ ∙ sym c.contains_inx.ensures ∙ c.if-not-contains_inx.false)
 
 pub returns-clause-shape : goal.returns-clause-shape
-returns-clause-shape g c = rw c.valid.ensures.value c.remove_entry.ensures.shape
+returns-clause-shape g c = some_always _ c.remove_entry.ensures.shape
