@@ -1,5 +1,5 @@
 -- A new entry behind all whose key is at most its own: the job is put on the agenda.
-use Rattle.std.proofs.Common.{◌≡◌, ◌≢◌, ℕ, List, [], ◌∷◌, ◌++◌, map, Option, Some, None, IfSome, is_some, Ok, slice_get, refl, sym, ap, ◌∙◌, ◌+◌, nat_lt, if◌then◌else◌}
+use Rattle.std.proofs.Common.{◌≡◌, ◌≢◌, ℕ, List, [], ◌∷◌, ◌++◌, map, Option, Some, None, IfSome, is_some, Ok, slice_get, refl, sym, ap, ◌∙◌, nat_lt, if◌then◌else◌}
 use Rattle.std.proofs.{lemmas.List.map-append, lemmas.List.length-map, lemmas.List.Elements.All-from_recursion}
 use Rattle.std.specs.{declared.cmp.Ordering.TheVariants.Less, declared.cmp.Ordering.Ordering, Ordering.nat_cmp}
 use Rattle.chain_base.specs.Chain.{Entry, Chain, times, IsSound, inserted_at}

@@ -76,9 +76,51 @@ fn has_counts(book: &Book, asks: usize, bids: usize) -> bool {
     book.count(Side::Sell) == asks && book.count(Side::Buy) == bids
 }
 
-/// Places an order for 22 units at the price 7. Tells whether it was placed, and not refused memory.
-fn place(rt: &impl Abort, book: &mut Book, side: Side, trades: &mut Trades) -> bool {
-    match book.place(side, 7, 22, trades) {
+/// A book on a heap, the trades that its orders made, and the orders that were put on it.
+#[derive(Drop)]
+struct Market<'h> {
+    book: Book<'h>,
+    trades: Trades<'h>,
+    asks: Vec<OrderId>,
+    bids: Vec<OrderId>,
+}
+
+/// A market with so many asks and bids.
+fn new_market<'h>(
+    rt: &impl Abort,
+    alloc: Global,
+    heap: &'h LocalHeap,
+    asks: usize,
+    bids: usize,
+) -> Market<'h> {
+    let mut book = OrderBook::new(heap);
+    let asks = put(rt, alloc, &mut book, Side::Sell, asks);
+    let bids = put(rt, alloc, &mut book, Side::Buy, bids);
+    Market {
+        book,
+        trades: Vec::new(heap),
+        asks,
+        bids,
+    }
+}
+
+/// Whether nothing was traded, and all orders that were put on the book rest there.
+fn is_untouched(market: &Market) -> bool {
+    market.trades.is_empty()
+        && has_all(&market.book, Side::Sell, &market.asks)
+        && has_all(&market.book, Side::Buy, &market.bids)
+}
+
+/// An order: a new one for 22 units at the price 7, or one for 10 units at the price 5 in place of the first ask.
+#[derive(Clone, Copy)]
+enum Order {
+    New(Side),
+    Replacing,
+}
+
+/// Places a new order. Tells whether it was placed, and not refused memory.
+fn place(rt: &impl Abort, market: &mut Market, side: Side) -> bool {
+    match market.book.place(side, 7, 22, &mut market.trades) {
         Ok(_) => true,
         Err(refusal) => {
             assert!(rt; refusal == PlacingError::AllocError);
@@ -87,37 +129,75 @@ fn place(rt: &impl Abort, book: &mut Book, side: Side, trades: &mut Trades) -> b
     }
 }
 
-/// Whether a book that had so many asks has traded with all of them, where the order was a bid, or has one ask more.
-fn is_placed(book: &Book, side: Side, held: usize, traded: usize) -> bool {
-    match side {
-        Side::Buy => traded == held && has_counts(book, 0, 1),
-        Side::Sell => traded == 0 && has_counts(book, held.wrapping_add(1), 0),
+/// Replaces the first ask. Tells whether it was replaced, and not refused memory.
+fn replace(rt: &impl Abort, market: &mut Market) -> bool {
+    let ask = market.asks.first().copied().expect(rt, "an ask");
+    match market.book.replace(ask, 5, 10, &mut market.trades) {
+        Ok(_) => true,
+        Err(refusal) => {
+            assert!(rt; refusal == ReplacingError::AllocError);
+            false
+        }
     }
 }
 
-/// Places an order on a book with so many asks, with so many units of memory left, and where that is refused again with more memory.
-/// Tells whether it was refused.
-fn place_twice(rt: &impl Abort, alloc: Global, side: Side, held: usize, units: usize) -> bool {
-    let heap = new_heap(rt, alloc);
-    let (mut book, mut trades): (Book, Trades) = (OrderBook::new(&heap), Vec::new(&heap));
-    let asks = put(rt, alloc, &mut book, Side::Sell, held);
-    let blocks = leave(rt, alloc, &heap, units);
-    let at_once = place(rt, &mut book, side, &mut trades);
-    if !at_once {
-        assert!(rt; trades.is_empty() && has_counts(&book, held, 0));
-        assert!(rt; has_all(&book, Side::Sell, &asks));
+/// Gives an order. Tells whether it was taken, and not refused memory.
+fn give(rt: &impl Abort, market: &mut Market, order: Order) -> bool {
+    match order {
+        Order::New(side) => place(rt, market, side),
+        Order::Replacing => replace(rt, market),
     }
-    drop(blocks);
-    assert!(rt; at_once || place(rt, &mut book, side, &mut trades));
-    assert!(rt; is_placed(&book, side, held, trades.len()));
+}
+
+/// Whether an order has traded with all that rested on the other side, and what is left of it rests beside the other orders of its side.
+fn is_done(market: &Market, order: Order) -> bool {
+    let (asks, bids) = (market.asks.len(), market.bids.len());
+    let (traded, asks, bids) = match order {
+        Order::New(Side::Buy) => (asks, 0, 1),
+        Order::New(Side::Sell) => (0, asks.wrapping_add(1), 0),
+        Order::Replacing => (bids, 1, 0),
+    };
+    market.trades.len() == traded && has_counts(&market.book, asks, bids)
+}
+
+/// Gives an order with so many units of memory left. Tells whether it was taken; where it was refused, nothing has changed.
+fn give_in_little<'h>(
+    rt: &impl Abort,
+    alloc: Global,
+    heap: &'h LocalHeap,
+    units: usize,
+    market: &mut Market<'h>,
+    order: Order,
+) -> bool {
+    let _blocks = leave(rt, alloc, heap, units);
+    let is_taken = give(rt, market, order);
+    assert!(rt; is_taken || is_untouched(market));
+    is_taken
+}
+
+/// Gives an order on a book with so many asks and bids, with so many units of memory left, and where that is refused again with more
+/// memory. Tells whether it was refused.
+fn is_refused(
+    rt: &impl Abort,
+    alloc: Global,
+    order: Order,
+    asks: usize,
+    bids: usize,
+    units: usize,
+) -> bool {
+    let heap = new_heap(rt, alloc);
+    let mut market = new_market(rt, alloc, &heap, asks, bids);
+    let at_once = give_in_little(rt, alloc, &heap, units, &mut market, order);
+    assert!(rt; at_once || give(rt, &mut market, order));
+    assert!(rt; is_done(&market, order));
     !at_once
 }
 
-/// Places an order with no memory left, with one unit, with two and so on, and tells how often it was refused.
-fn refusals(rt: &impl Abort, alloc: Global, side: Side, held: usize) -> u32 {
+/// Gives an order with no memory left, with one unit, with two and so on, and tells how often it was refused.
+fn refusals(rt: &impl Abort, alloc: Global, order: Order, asks: usize, bids: usize) -> u32 {
     let mut refused = 0u32;
     for units in 0..128usize {
-        if place_twice(rt, alloc, side, held, units) {
+        if is_refused(rt, alloc, order, asks, bids, units) {
             refused = refused.wrapping_add(1);
         }
     }
@@ -127,61 +207,25 @@ fn refusals(rt: &impl Abort, alloc: Global, side: Side, held: usize) -> u32 {
 #[test]
 fn a_bid_is_placed_or_refused_as_a_whole(rt: HostRuntime) {
     // it trades with all asks, and what is left wants room of its own
-    for held in &[0usize, 1, 4, 5, 9] {
-        let refused = refusals(&rt, rt.alloc(), Side::Buy, *held);
+    for asks in &[0usize, 1, 4, 5, 9] {
+        let refused = refusals(&rt, rt.alloc(), Order::New(Side::Buy), *asks, 0);
         assert!(rt; 0 < refused && refused < 128);
     }
 }
 
 #[test]
 fn an_ask_is_refused_where_its_side_has_to_grow(rt: HostRuntime) {
-    for held in &[0usize, 4, 8, 16] {
-        let refused = refusals(&rt, rt.alloc(), Side::Sell, *held);
+    for asks in &[0usize, 4, 8, 16] {
+        let refused = refusals(&rt, rt.alloc(), Order::New(Side::Sell), *asks, 0);
         assert!(rt; 0 < refused && refused < 128);
     }
-    for held in &[1usize, 3, 5, 15] {
-        assert!(rt; refusals(&rt, rt.alloc(), Side::Sell, *held) == 0);
+    for asks in &[1usize, 3, 5, 15] {
+        assert!(rt; refusals(&rt, rt.alloc(), Order::New(Side::Sell), *asks, 0) == 0);
     }
-}
-
-/// Replaces an ask by one for 10 units at the price 5. Tells whether it was replaced, and not refused memory.
-fn replace(rt: &impl Abort, book: &mut Book, ask: OrderId, trades: &mut Trades) -> bool {
-    match book.replace(ask, 5, 10, trades) {
-        Ok(_) => true,
-        Err(refusal) => {
-            assert!(rt; refusal == ReplacingError::AllocError);
-            false
-        }
-    }
-}
-
-/// Replaces an ask on a book with nine bids, with so many units of memory left, and where that is refused again with more memory.
-/// Tells whether it was refused.
-fn replace_twice(rt: &impl Abort, alloc: Global, units: usize) -> bool {
-    let heap = new_heap(rt, alloc);
-    let (mut book, mut trades): (Book, Trades) = (OrderBook::new(&heap), Vec::new(&heap));
-    let bids = put(rt, alloc, &mut book, Side::Buy, 9);
-    let asks = put(rt, alloc, &mut book, Side::Sell, 1);
-    let ask = asks.first().copied().expect(rt, "an ask");
-    let blocks = leave(rt, alloc, &heap, units);
-    let at_once = replace(rt, &mut book, ask, &mut trades);
-    if !at_once {
-        assert!(rt; trades.is_empty() && has_all(&book, Side::Buy, &bids));
-        assert!(rt; has_all(&book, Side::Sell, &asks));
-    }
-    drop(blocks);
-    assert!(rt; at_once || replace(rt, &mut book, ask, &mut trades));
-    assert!(rt; trades.len() == 9 && has_counts(&book, 1, 0));
-    !at_once
 }
 
 #[test]
 fn an_order_is_replaced_or_refused_as_a_whole(rt: HostRuntime) {
-    let mut refused = 0u32;
-    for units in 0..128usize {
-        if replace_twice(&rt, rt.alloc(), units) {
-            refused = refused.wrapping_add(1);
-        }
-    }
+    let refused = refusals(&rt, rt.alloc(), Order::Replacing, 1, 9);
     assert!(rt; 0 < refused && refused < 128);
 }

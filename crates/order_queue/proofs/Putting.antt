@@ -1,6 +1,6 @@
 -- A new entry behind all whose rank is at most its own: the order comes to rest.
 use Rattle.std.proofs.Common.{◌≡◌, ◌≢◌, ℕ, List, [], ◌∷◌, ◌++◌, map, Option, Some, None, IfSome, is_some, Result, Ok, Err, IfOk, OnErr, slice_get, refl, sym, ap}
-use Rattle.std.proofs.Common.{subst, ◌∙◌, ◌+◌, ◌<◌, ◌≤◌, nat_lt, length, if◌then◌else◌}
+use Rattle.std.proofs.Common.{subst, ◌∙◌, ◌<◌, ◌≤◌, nat_lt, length, if◌then◌else◌}
 use Rattle.std.proofs.{lemmas.List.map-append, lemmas.List.length-map}
 use Rattle.std.specs.{declared.cmp.Ordering.TheVariants.Less, declared.cmp.Ordering.Ordering, List.AllByRecursion, Option.option_map}
 use Rattle.std.specs.Ordering.{nat_cmp}

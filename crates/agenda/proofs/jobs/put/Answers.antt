@@ -1,3 +1,4 @@
+use Rattle.std.proofs.{Common.arith, lemmas.Grind.common_steps}
 use Rattle.std.proofs.Common.{ℕ, ap, subst, ◌∙◌, ◌≡◌, nat_cmp, rules}
 use Rattle.triple_ord.specs.{declared.insert_kind.OrdInsertKind.TheVariants.Nonhereditary, Insertion.reallocating, Insertion.InsertsNew}
 use Rattle.triple_ord.specs.{EntryKind.pointer_of_kind, Place.behind_key}
@@ -17,3 +18,6 @@ returns-in-Ok-clause-ok g c =
     let done = inserts-new deadline_of nat_cmp most_jobs reallocating c.args.deadline (λ (p : ℕ × ℕ). p) c.args.jobs.now c.new.result c.insert.new.self.0 (shown, c.insert.result) step in
     let told : InsertsNew deadline_of nat_cmp most_jobs reallocating (behind_key c.args.deadline) c.args.jobs.now item c.any-p.result c.insert.new.self.0 = rw (named, ← c.new.ensures) done in
     subst (λ u. InsertsNew deadline_of nat_cmp most_jobs reallocating (behind_key c.args.deadline) c.args.jobs.now item c.any-p.result u) (search rules) told
+
+pub returns-in-Err-AllocError-clause-ok : goal.returns-in-Err-AllocError-clause-ok
+returns-in-Err-AllocError-clause-ok g c = grind (arith, common_steps)

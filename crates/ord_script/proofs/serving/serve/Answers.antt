@@ -1,4 +1,4 @@
-use Rattle.std.proofs.Common.{sym, ◌∙◌}
+use Rattle.std.proofs.{Common.arith, Common.sym, Common.◌∙◌, lemmas.Grind.common_steps}
 use Rattle.ord_script.proofs.Endings.{Ends-part}
 use Rattle.ord_script.proofs.serving.serve.Goals as goal
 
@@ -15,3 +15,15 @@ returns-clause-served g c =
       writes = output.appends;
       ends = Ends-part _ c.deref.result.now _ _ output.rest same input.input.1 c.in-Ok-answer_to.ensures.text parts output.whole;
     }
+
+pub returns-in-Err-TooLong-clause-served : goal.returns-in-Err-TooLong-clause-served
+returns-in-Err-TooLong-clause-served g c = grind (arith, common_steps)
+
+pub returns-in-Err-TooLong-clause-ended : goal.returns-in-Err-TooLong-clause-ended
+returns-in-Err-TooLong-clause-ended g c = grind (arith, common_steps)
+
+pub returns-in-Err-TooLong-clause-nothing_unread : goal.returns-in-Err-TooLong-clause-nothing_unread
+returns-in-Err-TooLong-clause-nothing_unread g c = grind (arith, common_steps)
+
+pub returns-in_default-clause-read_failed : goal.returns-in_default-clause-read_failed
+returns-in_default-clause-read_failed g c = grind (arith, common_steps)

@@ -1,5 +1,5 @@
 use Rattle.std.proofs.Common.{◌≡◌, ◌++◌, ◌⊎◌, inl, inr, List, [], ◌∷◌, string_bytes, refl, sym, ◌∙◌, ap, append-nil}
-use Rattle.std.proofs.lemmas.Slice.Zip.{either_empty_from_Zip}
+use Rattle.std.proofs.{Common.arith, lemmas.Grind.common_steps, lemmas.Slice.Zip.either_empty_from_Zip}
 use Rattle.std.specs.{Iterator.Adapters.zip_first, Iterator.Adapters.zip_second, Slice.Iter.iter_rest}
 use Rattle.ord_script.specs.{declared.form.Form.Form, Text.reply_lines, Pairs.PairReply}
 use Rattle.ord_script.proofs.text.lines_of.Goals as goal
@@ -16,3 +16,6 @@ returns g c =
     let left = c.loop-form.form-iterator in
     let none = reply_lines_none (iter_rest (zip_first left)) (iter_rest (zip_second left)) (either_empty_from_Zip left c.next.new.self c.next.result c.in-None.is c.next.ensures.steps) in
     sym (append-nil (string_bytes c.loop-form.text)) ∙ ap (λ lines. string_bytes c.loop-form.text ++ lines) (sym none) ∙ c.loop-form.invariant
+
+pub loop-form-preserved : goal.loop-form-preserved
+loop-form-preserved g c = grind (arith, common_steps)
