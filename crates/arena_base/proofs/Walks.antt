@@ -1,7 +1,6 @@
 -- One step of a walk by index.
-use Rattle.arena_base.proofs.Words.{◌≡◌, ℕ, suc, ◌+◌, ◌<◌, Option, Some, None, List, [], ◌∷◌, ◌++◌, cond, length, get_or, take, refl, arith}
-use Rattle.arena_base.proofs.Words.{drop, sym, ap, ◌∙◌, reverse, append-nil, take_more, reverse-append, get_or-drop, drop-set-lt}
-use Rattle.arena_base.proofs.Words.{length-take-le, eq-eqb, same_Some, option_map, Arena, slot, item_if, item_of, removed, entries_from}
+use Rattle.arena_base.proofs.Words.{◌≡◌, ℕ, suc, ◌+◌, ◌<◌, Option, Some, None, List, [], ◌∷◌, ◌++◌, cond, length, get_or, take, refl, arith, drop, sym, ap, ◌∙◌, reverse, append-nil, take_more}
+use Rattle.arena_base.proofs.Words.{reverse-append, get_or-drop, drop-set-lt, length-take-le, eq-eqb, same_Some, option_map, Arena, slot, item_if, item_of, removed, entries_from}
 use Rattle.arena_base.proofs.{Words.entries_rising, Words.pointers_from, Slots.entry-from_generation, Slots.none-from_generation}
 
 module _ {T : Type 0} where

@@ -1,12 +1,12 @@
 //! `ArenaTrait`: what every arena is, as a finite map from pointers to items with at most one pointer for an index.
-ghost use Rattle.std.specs.Prelude.{◌≡◌, ◌==◌, ◌<◌, ◌≤◌, ◌↔◌, ℕ, Some, None, max, is_some, IsSome, IsNone, IsOk, IsErr, IfOk, OnOk, OnErr, IfSome, IfNone, OnSome};
+ghost use Rattle.std.specs.Prelude.{◌≡◌, ◌==◌, ◌<◌, ◌≤◌, ◌↔◌, ℕ, Some, max, is_some, IsNone, IsOk, IsErr, IfOk, OnOk, OnErr, IfSome};
 ghost use Rattle.std.specs.Option.{option_copied, option_copied_mut, option_map};
 ghost use Rattle.std.specs.Borrow.{sem, LendsIf};
-ghost use Rattle.arena_base.specs.Arena.{Arena as Content, HoldsSame, slot, item_of, arena_len, arena_capacity, arena_limit, new_arena, with_capacity, with_item, removed, renewed, cleared, greatest_occupied, IsLawful, IsOccupied, IsFirstEntry, IsLastEntry};
+ghost use Rattle.arena_base.specs.Arena.{Arena as Content, HoldsSame, slot, item_of, arena_len, arena_capacity, arena_limit, new_arena, with_capacity, with_item, removed, renewed, cleared, greatest_occupied, IsLawful, IsFirstEntry, IsLastEntry};
 ghost use Rattle.arena_base.specs.Clone.{HasSamePointers, IsClone, IsShown};
 ghost use Rattle.arena_base.specs.Compression.{compressed, compressed_generation, compression_overflows, items_rising, IsCompression};
-ghost use Rattle.arena_base.specs.Generation.{next_generation, overflows_after};
-ghost use Rattle.arena_base.specs.Invalidation.{valid_value, has_overflowed, is_overflow};
+ghost use Rattle.arena_base.specs.Generation.{overflows_after};
+ghost use Rattle.arena_base.specs.Invalidation.{valid_value, is_overflow, IsRemoval, IsRenewal};
 
 use crate::error::{MaxCapacityReductionError, ReallocationError};
 use crate::invalidation::{InvalidationOption, InvalidationResult};
@@ -103,41 +103,31 @@ pub trait ArenaTrait<P: Ptr, T>: ItemsMut<P, T> {
         ensures empty { IsNone result ↔ (arena_len (content self.now) ≡ 0) };
 
     /// Gives the entry that the pointer names a new pointer, at the same index and with the raised generation.
+    ///
+    /// For a pointer that names no entry it returns `InvalidPtr`, and nothing changes.
     fn invalidate(&mut self, p: P) -> InvalidationResult<P>
-        ensures valid { is_some (valid_value result)
-            ≡ is_some (item_of (content self.old) (P.numbers p)) }
-        ensures index { IfSome (valid_value result) (λ q. (P.numbers q).0 ≡ (P.numbers p).0) }
-        ensures generation { IfSome (valid_value result)
-            (λ q. (P.numbers q).1 ≡ next_generation P.Gen.greatest (content self.old).generation) }
-        ensures overflow { OnSome (valid_value result)
-            (has_overflowed result ≡ overflows_after P.Gen.greatest (content self.old).generation) }
-        ensures renewed { OnSome (valid_value result)
-            (HoldsSame (content self.new)
-            (renewed P.Gen.greatest (content self.old) (P.numbers p).0)) }
-        ensures invalid { IfNone (valid_value result)
+        ensures { IsRenewal P.numbers P.Gen.greatest (content self.old).generation result
+            (P.numbers p).0 (is_some (item_of (content self.old) (P.numbers p)))
+            (HoldsSame (content self.new) (renewed P.Gen.greatest (content self.old) (P.numbers p).0))
             (HoldsSame (content self.new) (content self.old)) };
 
     /// Takes the entry out that the pointer names, and raises the generation.
+    ///
+    /// For a pointer that names no entry it returns `InvalidPtr`, and nothing changes.
     fn remove(&mut self, p: P) -> InvalidationResult<T>
-        ensures value { valid_value result ≡ item_of (content self.old) (P.numbers p) }
-        ensures overflow { OnSome (valid_value result)
-            (has_overflowed result ≡ overflows_after P.Gen.greatest (content self.old).generation) }
-        ensures removed { OnSome (valid_value result)
-            (HoldsSame (content self.new)
-            (removed P.Gen.greatest (content self.old) (P.numbers p).0)) }
-        ensures invalid { IfNone (valid_value result)
+        ensures { IsRemoval P.Gen.greatest (content self.old).generation result
+            (valid_value result) (item_of (content self.old) (P.numbers p))
+            (HoldsSame (content self.new) (removed P.Gen.greatest (content self.old) (P.numbers p).0))
             (HoldsSame (content self.new) (content self.old)) };
 
     /// Takes the entry at the index out, with its generation, and raises the arena's.
+    ///
+    /// At an index without an entry it returns `InvalidPtr`, and nothing changes.
     fn remove_inx(&mut self, i: P::Inx) -> InvalidationResult<(P::Gen, T)>
-        ensures value { option_map (λ e. (P.Gen.number e.0, e.1)) (valid_value result)
-            ≡ slot (content self.old) (P.Inx.number i) }
-        ensures overflow { OnSome (valid_value result)
-            (has_overflowed result ≡ overflows_after P.Gen.greatest (content self.old).generation) }
-        ensures removed { OnSome (valid_value result)
-            (HoldsSame (content self.new)
-            (removed P.Gen.greatest (content self.old) (P.Inx.number i))) }
-        ensures invalid { IfNone (valid_value result)
+        ensures { IsRemoval P.Gen.greatest (content self.old).generation result
+            (option_map (λ e. (P.Gen.number e.0, e.1)) (valid_value result))
+            (slot (content self.old) (P.Inx.number i))
+            (HoldsSame (content self.new) (removed P.Gen.greatest (content self.old) (P.Inx.number i)))
             (HoldsSame (content self.new) (content self.old)) };
 
     /// Drops all entries, and raises the generation once.

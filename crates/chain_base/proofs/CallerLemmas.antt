@@ -1,12 +1,10 @@
 -- For callers: what an index finds in the list, and how many entries there are, after each change.
 use Rattle.std.proofs.Common.{◌≡◌, ◌≢◌, ℕ, suc, ◌+◌, ◌<◌, ◌≤◌, List, [], ◌∷◌, ◌++◌, length, map, slice_get, slice_index_or, Option, Some, None, IsSome, append_assoc, refl, sym, ap, ◌∙◌, arith, inl, inr, option_map, length-append}
-use Rattle.std.proofs.lemmas.Option.{slice_get_cases, slice_get_within, get_or_from_slice_get}
-use Rattle.std.proofs.{lemmas.Bool.Decides.eqb_tells, lemmas.Grind.common_steps}
+use Rattle.std.proofs.{lemmas.Option.slice_get_cases, lemmas.Option.slice_get_within, lemmas.Option.get_or_from_slice_get, lemmas.Bool.Decides.eqb_tells, lemmas.Grind.common_steps}
 use Rattle.chain_base.specs.Chain.{Entry, times, IsDistinct, entry_at, insert_after, insert_before, without, with_item_among, with_generation}
 use Rattle.chain_base.specs.Compression.{lesser, compressed_index, moved, at_compressed_index, numbered}
 use Rattle.chain_base.proofs.Lists.{Stands-occurs, with_item_among-changed_at, with_generation-changed_at, entry_at-changed_at_other, entry_at-changed_at, same-changed_at}
-use Rattle.chain_base.proofs.{Renumbering.times-source, Renumbering.entry_at-renumbered, Ranking.place-found, Ranking.place-injective}
-use Rattle.chain_base.proofs.Canonical.{entry-absent}
+use Rattle.chain_base.proofs.{Renumbering.times-source, Renumbering.entry_at-renumbered, Ranking.place-found, Ranking.place-injective, Canonical.entry-absent}
 -- the steps of a transfer, told of other items
 pub use Rattle.chain_base.proofs.Transferring.{steps-retold}
 -- a list in two parts; an entry is its link without the neighbours; an index that no entry has finds none

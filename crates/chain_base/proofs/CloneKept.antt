@@ -4,10 +4,8 @@ use Rattle.std.proofs.{lemmas.Option.slice_get-map, lemmas.Grind.common_steps}
 use Rattle.std.specs.declared.alloc.AllocError.{AllocError}
 use Rattle.arena_base.proofs.CallerLemmas.{clones-keep}
 use Rattle.chain_base.specs.{Clone.links_among, Clone.links_rising, Clone.taken_over, Clone.IsClone, Clone.IsRefusedClone, Walk.pointers}
-use Rattle.chain_base.specs.{Chain.Entry, Chain.Chain, Chain.IsDistinct, Chain.IsSound, Chain.entry_at, Link.Link}
-use Rattle.chain_base.specs.Compression.{lesser, rising_among, entries_rising}
-use Rattle.chain_base.proofs.{Canonical.entry-absent, Canonical.entry-occurs, Canonical.rising-entry, Cloning.alike-pointers}
-use Rattle.chain_base.proofs.Lists.{entry_at-link, entry_at-absent}
+use Rattle.chain_base.specs.{Chain.Entry, Chain.Chain, Chain.IsDistinct, Chain.IsSound, Chain.entry_at, Link.Link, Compression.lesser, Compression.rising_among, Compression.entries_rising}
+use Rattle.chain_base.proofs.{Canonical.entry-absent, Canonical.entry-occurs, Canonical.rising-entry, Cloning.alike-pointers, Lists.entry_at-link, Lists.entry_at-absent}
 
 -- the links by rising index are the entries by rising index
 module _ {U K : Type 0} (see : U → K) where

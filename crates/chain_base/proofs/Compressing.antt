@@ -1,8 +1,7 @@
 -- A chain is compressed: its entries learn their places, the arena is compressed, and the places are linked back.
 use Rattle.std.proofs.Common.{◌≡◌, ℕ, zero, suc, ◌+◌, ◌-◌, ◌<◌, ◌≤◌, true, List, [], ◌∷◌, length, map, take, slice_get, slice_index_or, Option, Some, None, is_some, count_by, cond, get_or, refl, sym, ap, ◌∙◌, arith, inl, inr, add-one, option_map, option_and_then}
 use Rattle.std.proofs.lemmas.Option.{slice_get-map, slice_get_within, get_or_from_slice_get}
-use Rattle.std.proofs.{lemmas.List.Sums.sum_by-cons, lemmas.List.Sums.count_by-le-length, lemmas.Bool.Decides.eqb_tells}
-use Rattle.std.proofs.{lemmas.Grind.common_steps, lemmas.Bool.false≢true, lemmas.List.length-map}
+use Rattle.std.proofs.{lemmas.List.Sums.sum_by-cons, lemmas.List.Sums.count_by-le-length, lemmas.Bool.Decides.eqb_tells, lemmas.Grind.common_steps, lemmas.Bool.false≢true, lemmas.List.length-map}
 use Rattle.arena_base.specs.{Arena.Arena, Arena.slot, Arena.arena_capacity, Arena.IsFresh, Walk.entries_rising as slots_rising}
 use Rattle.chain_base.specs.Compression.{lesser, compressed_index, rising_among, moved, compressed, IsCompression}
 use Rattle.chain_base.specs.Naming.{named_neighbour, bare, compressed_index_in, IsPaired, NamesCompressedIndexes, CompressesItems}
@@ -13,8 +12,7 @@ use Rattle.chain_base.proofs.Ranking.{lesser-all, lesser-most, place-found, plac
 use Rattle.chain_base.proofs.Renumbering.{beside, followed, times-source, link_at-renumbered, distinct-renumbered, end-renumbered, times-changed}
 use Rattle.chain_base.proofs.Vacancy.{HoldIndexes, held-within, held-link, times-link, vacant-held, held-some}
 use Rattle.chain_base.proofs.{Lists.option_map-itself, Lists.link_between-absent, Lists.entry_at-link, Sound.first-vacant}
-use Rattle.chain_base.proofs.{Naming.paired, Naming.learnt, Naming.end-learnt, LaidOut.laid-links, LaidOut.entries_met-laid_out}
-use Rattle.chain_base.proofs.Steps.{Lies, lies, held-laid}
+use Rattle.chain_base.proofs.{Naming.paired, Naming.learnt, Naming.end-learnt, LaidOut.laid-links, LaidOut.entries_met-laid_out, Steps.Lies, Steps.lies, Steps.held-laid}
 
 module _ {T : Type 0} where
   -- links with the neighbours of those that were shown

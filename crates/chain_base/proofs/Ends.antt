@@ -4,8 +4,7 @@ use Rattle.std.proofs.lemmas.Grind.{common_steps}
 use Rattle.arena_base.specs.Arena.{Arena, slot, item_of as slot_item, IsFirstEntry, IsLastEntry}
 use Rattle.chain_base.specs.Chain.{Entry, times, entry_at, link_at, last_or, last_pointer, pointed, item_of, generation_at, IsFirstIndex, IsLastIndex}
 use Rattle.chain_base.specs.{Layout.chain_of, Link.Link}
-use Rattle.chain_base.proofs.Lists.{times-here, times-there, times-last, times-unlinked, entry_at-link, entry_at-some}
-use Rattle.chain_base.proofs.LaidOut.{IsChainIn}
+use Rattle.chain_base.proofs.{Lists.times-here, Lists.times-there, Lists.times-last, Lists.times-unlinked, Lists.entry_at-link, Lists.entry_at-some, LaidOut.IsChainIn}
 
 -- an option is there where what it is mapped to is there
 pub some-of : {A B : Type 0} (f : A → B) (o : Option A) (p : Option B) → option_map f o ≡ p → IsSome p → IsSome o

@@ -6,13 +6,11 @@ use Rattle.arena_base.proofs.CallerLemmas.{limit_of-below}
 use Rattle.chain_base.specs.Layout.{chain_of, names, linked_next, linked_prev, relinked, IsLaidOut}
 use Rattle.chain_base.specs.{declared.chain.compress.Side.TheVariants.Before, declared.chain.compress.Side.TheVariants.After, Link.Link}
 use Rattle.chain_base.specs.Chain.{Entry, Chain, entry_at, link_at, IsOccupied, IsSound}
-use Rattle.chain_base.specs.Exchange.{exchanged_index, in_exchange, exchanged, IsEven}
-use Rattle.chain_base.specs.declared.chain.compress.Side.{Side}
+use Rattle.chain_base.specs.{Exchange.exchanged_index, Exchange.in_exchange, Exchange.exchanged, Exchange.IsEven, declared.chain.compress.Side.Side}
 use Rattle.chain_base.proofs.Renumbering.{opposite, beside, beside-occurs, facing, facing-back, followed, IsLaidOut-renumbered}
 use Rattle.chain_base.proofs.LaidOut.{IsChainIn, slot-relinked, Alike, alike-next, alike-prev}
 use Rattle.chain_base.proofs.{Vacancy.HoldIndexes, Vacancy.held-is, Vacancy.held-occurs, Vacancy.held-link, Naming.neighbour-within}
-use Rattle.chain_base.proofs.Lists.{entry_at-link, entry_at-absent, entry_at-some}
-use Rattle.chain_base.proofs.Steps.{Lies, lies-alike, held-laid}
+use Rattle.chain_base.proofs.{Lists.entry_at-link, Lists.entry_at-absent, Lists.entry_at-some, Steps.Lies, Steps.lies-alike, Steps.held-laid}
 
 module _ (i j : ℕ) where
   abbrev pub other : ℕ → ℕ

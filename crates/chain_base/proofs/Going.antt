@@ -1,10 +1,8 @@
 -- One step along a chain.
 use Rattle.std.proofs.Common.{◌≡◌, ℕ, List, [], ◌∷◌, ◌++◌, Option, Some, None, refl, sym, ap, ◌∙◌, arith, inl, inr, option_and_then}
 use Rattle.std.proofs.{lemmas.Bool.Decides.eqb_tells, lemmas.Grind.common_steps, lemmas.Option.same_Some}
-use Rattle.chain_base.specs.Chain.{Entry, Chain, times, IsDistinct, link_at, first_or, from_index}
-use Rattle.chain_base.specs.{Walk.pointers, Walk.pointers_left, Walk.GivesEntry, Link.Link}
-use Rattle.chain_base.proofs.Lists.{linked-occurs, times-unlinked, times-append, times-here, Stands-occurs}
-use Rattle.chain_base.proofs.Renumbering.{link_at-split}
+use Rattle.chain_base.specs.{Chain.Entry, Chain.Chain, Chain.times, Chain.IsDistinct, Chain.link_at, Chain.first_or, Chain.from_index, Walk.pointers, Walk.pointers_left, Walk.GivesEntry, Link.Link}
+use Rattle.chain_base.proofs.{Lists.linked-occurs, Lists.times-unlinked, Lists.times-append, Lists.times-here, Lists.Stands-occurs, Renumbering.link_at-split}
 
 module _ {T : Type 0} where
   from_index-split : (front : List (Entry T)) (e : Entry T) (back : List (Entry T)) (i : ℕ) → e.index ≡ i → times i front ≡ 0 → from_index (front ++ e ∷ back) i ≡ e ∷ back

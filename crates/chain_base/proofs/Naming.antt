@@ -6,8 +6,7 @@ use Rattle.arena_base.specs.{Arena.Arena, Arena.slot, Pointer.named_of}
 use Rattle.chain_base.specs.Naming.{neighbour_on, with_facing, linked_facing, named_neighbour, compressed_index_in, IsPaired, NamesCompressedIndexes}
 use Rattle.chain_base.specs.{Chain.Entry, Chain.IsDistinct, Chain.times, declared.chain.compress.Side.Side, Layout.names, Link.Link}
 use Rattle.chain_base.proofs.Renumbering.{opposite, beside, end_on, beside-occurs, facing, facing-back, end-is, end-occurs, end-none}
-use Rattle.chain_base.proofs.{Vacancy.HoldIndexes, Vacancy.held-is, Vacancy.held-occurs, Lists.names_tells}
-use Rattle.chain_base.proofs.LaidOut.{Alike, alike-next, alike-prev}
+use Rattle.chain_base.proofs.{Vacancy.HoldIndexes, Vacancy.held-is, Vacancy.held-occurs, Lists.names_tells, LaidOut.Alike, LaidOut.alike-next, LaidOut.alike-prev}
 
 module _ {T : Type 0} where
   -- the indexes below c have told their places; so many of them have an entry

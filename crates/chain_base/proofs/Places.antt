@@ -1,8 +1,7 @@
 -- Where a new entry stands: the two stretches of the list that an insertion parts.
 use Rattle.std.proofs.Common.{◌≡◌, ℕ, List, [], ◌∷◌, ◌++◌, Some, None, sym, ap, ◌∙◌, arith, append_assoc, option_map}
 use Rattle.std.proofs.lemmas.Grind.{common_steps}
-use Rattle.chain_base.specs.{Chain.Entry, Chain.link_at, Chain.first_or, Chain.last_or, Chain.insert_after, Chain.insert_before, Link.Link}
-use Rattle.chain_base.specs.Insert.{PutsBetween}
+use Rattle.chain_base.specs.{Chain.Entry, Chain.link_at, Chain.first_or, Chain.last_or, Chain.insert_after, Chain.insert_before, Link.Link, Insert.PutsBetween}
 use Rattle.chain_base.proofs.Lists.{link_between-append, link_between-absent, last_or-append, same_index, Stands, Stands-occurs}
 
 module _ {T : Type 0} where

@@ -3,8 +3,7 @@ use Rattle.std.proofs.Common.{◌≡◌, ℕ, zero, suc, ◌+◌, ◌-◌, ◌<�
 use Rattle.std.proofs.{lemmas.Bool.Decides.nat_tests, lemmas.Bool.Decides.leb_tells, lemmas.List.take_all, lemmas.List.get_or_past}
 use Rattle.std.proofs.{lemmas.List.Sums.sum_by-cons, lemmas.List.Sums.sum_by_more, lemmas.Grind.common_steps}
 use Rattle.arena_base.specs.{Walk.entries_from, Arena.resized}
-use Rattle.chain_base.specs.Compression.{lesser, compressed_index, entry_before}
-use Rattle.chain_base.specs.Chain.{Entry, IsDistinct, times}
+use Rattle.chain_base.specs.{Compression.lesser, Compression.compressed_index, Compression.entry_before, Chain.Entry, Chain.IsDistinct, Chain.times}
 use Rattle.chain_base.proofs.{Vacancy.get_or-vacant, Vacancy.HoldIndexes, Vacancy.held-within, Lists.times-here}
 
 module _ {T : Type 0} where

@@ -5,8 +5,7 @@ use Rattle.std.specs.Option.{option_map, ForSome}
 use Rattle.arena_base.specs.Arena.{Arena, arena_capacity, times as times_among, IsSound as IsSoundArena}
 use Rattle.arena_base.specs.Generation.{IsLawfulGeneration}
 use Rattle.chain_base.specs.{Chain.Entry, Chain.times, Chain.IsSound, Layout.chain_of, Link.Link}
-use Rattle.chain_base.proofs.{Vacancy.HoldIndexes, Vacancy.held-within, Vacancy.vacant-held, Lists.entry_at-link, LaidOut.IsChainIn}
-use Rattle.chain_base.proofs.Steps.{held-laid}
+use Rattle.chain_base.proofs.{Vacancy.HoldIndexes, Vacancy.held-within, Vacancy.vacant-held, Lists.entry_at-link, LaidOut.IsChainIn, Steps.held-laid}
 
 module _ {T : Type 0} where
   -- an index of the list is within the capacity

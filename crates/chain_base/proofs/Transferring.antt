@@ -1,16 +1,12 @@
 -- The steps of a transfer.
 use Rattle.std.proofs.Common.{◌≡◌, ℕ, zero, suc, ◌+◌, ◌-◌, ◌<◌, ◌≤◌, max, List, [], ◌∷◌, ◌++◌, map, length, length-append, append_assoc, Option, Some, None, OnSome, OnOk, IsOk, IsErr, Result, Ok, Err, is_some, true, slice_get, refl, sym, ap, ◌∙◌, arith, option_map}
-use Rattle.std.proofs.{lemmas.List.append-nil, lemmas.List.length-map, lemmas.List.map-id, lemmas.List.map_push, lemmas.Grind.common_steps}
-use Rattle.std.proofs.{lemmas.Option.same_Some, lemmas.Fn.FoldsTo-push}
+use Rattle.std.proofs.{lemmas.List.append-nil, lemmas.List.length-map, lemmas.List.map-id, lemmas.List.map_push, lemmas.Grind.common_steps, lemmas.Option.same_Some, lemmas.Fn.FoldsTo-push}
 use Rattle.std.specs.List.{FoldsTo}
-use Rattle.arena_base.specs.{declared.invalidation.InvalidationOption.InvalidationOption, Generation.overflows_after}
-use Rattle.arena_base.specs.Invalidation.{allowed_value, is_overflow}
+use Rattle.arena_base.specs.{declared.invalidation.InvalidationOption.InvalidationOption, Generation.overflows_after, Invalidation.allowed_value, Invalidation.is_overflow}
 use Rattle.chain_base.specs.Chain.{Entry, Chain, times, entry_at, first_pointer, link_at, insert_after, vacant_among, removed, with_capacity, greatest_index, inserted, IsSound}
 use Rattle.chain_base.specs.{Transfer.filled_with, Transfer.last_index_of, Transfer.place_behind, Transfer.TakesOut, Transfer.HasTaken, Link.Link}
-use Rattle.chain_base.specs.Compression.{numbered, Transferring, TransferStep, IsTransfer}
-use Rattle.chain_base.specs.Insert.{placed, CanPlace}
-use Rattle.chain_base.proofs.{Canonical.numbered-push, Canonical.times-numbered, Canonical.vacant-same, Room.greatest-within}
-use Rattle.chain_base.proofs.Lists.{same_index}
+use Rattle.chain_base.specs.{Compression.numbered, Compression.Transferring, Compression.TransferStep, Compression.IsTransfer, Insert.placed, Insert.CanPlace}
+use Rattle.chain_base.proofs.{Canonical.numbered-push, Canonical.times-numbered, Canonical.vacant-same, Room.greatest-within, Lists.same_index}
 
 -- what is there is said
 pub on_taken : {X Y : Type 0} (f : X → Y) (y : Y) (o : Option X) (A : Type 0) → option_map f o ≡ Some y → OnSome o A → A

@@ -268,18 +268,18 @@ module _ {P T I G K : Type 0} (r : Reading P T I G K) (s : State T) (new : Tree 
       }
   outcome asks f (commands.Set q item) reply g does = absurd does.0
   outcome asks f (commands.Remove q) (Removed (Success taken)) g does =
-      lost (r.pointer q).0 does.0.2.list (λ p here of. other_index es p (r.pointer q) of (ap is_some does.0.1) here)
+      lost (r.pointer q).0 does.0.1.removed.0 (λ p here of. other_index es p (r.pointer q) of (ap is_some (sym does.0.1.value)) here)
   outcome asks f (commands.Remove q) (Removed (GenerationOverflow taken)) g does =
-      lost (r.pointer q).0 does.0.2.list (λ p here of. other_index es p (r.pointer q) of (ap is_some does.0.1) here)
-  outcome asks f (commands.Remove q) (Removed InvalidPtr) g does = kept does.0.1
+      lost (r.pointer q).0 does.0.1.removed.0 (λ p here of. other_index es p (r.pointer q) of (ap is_some (sym does.0.1.value)) here)
+  outcome asks f (commands.Remove q) (Removed InvalidPtr) g does = kept does.0.1.invalid
   outcome asks f (commands.Remove q) reply g does = absurd does.0
-  outcome asks f (commands.RemoveInx i) (Removed (Success taken)) g does = lost (r.index i) does.0.2.list (λ p here of same. of (sym same))
-  outcome asks f (commands.RemoveInx i) (Removed (GenerationOverflow taken)) g does = lost (r.index i) does.0.2.list (λ p here of same. of (sym same))
-  outcome asks f (commands.RemoveInx i) (Removed InvalidPtr) g does = kept does.0.1
+  outcome asks f (commands.RemoveInx i) (Removed (Success taken)) g does = lost (r.index i) does.0.1.removed.0 (λ p here of same. of (sym same))
+  outcome asks f (commands.RemoveInx i) (Removed (GenerationOverflow taken)) g does = lost (r.index i) does.0.1.removed.0 (λ p here of same. of (sym same))
+  outcome asks f (commands.RemoveInx i) (Removed InvalidPtr) g does = kept does.0.1.invalid
   outcome asks f (commands.RemoveInx i) reply g does = absurd does.0
-  outcome asks f (commands.Invalidate q) (Renewed (Success next)) g does = again (r.pointer q) does.0.0 does.0.3 (λ p of. of)
-  outcome asks f (commands.Invalidate q) (Renewed (GenerationOverflow next)) g does = again (r.pointer q) does.0.0 does.0.3 (λ p of. of)
-  outcome asks f (commands.Invalidate q) (Renewed InvalidPtr) g does = kept does.0.1
+  outcome asks f (commands.Invalidate q) (Renewed (Success next)) g does = again (r.pointer q) (sym does.0.valid) does.0.renewed (λ p of. of)
+  outcome asks f (commands.Invalidate q) (Renewed (GenerationOverflow next)) g does = again (r.pointer q) (sym does.0.valid) does.0.renewed (λ p of. of)
+  outcome asks f (commands.Invalidate q) (Renewed InvalidPtr) g does = kept does.0.invalid
   outcome asks f (commands.Invalidate q) reply g does = absurd does.0
   outcome asks f commands.Clear (Changed result) g does =
       gone (ap (λ t. t.shape) does.0.0) (ap (λ t. t.list.entries) does.0.0) (ap (λ t. t.list.generation) does.0.0) (omega arith) (λ p of. of)

@@ -1,10 +1,10 @@
 -- The list machine: what each command may answer on an ordered arena, and what it leaves.
-use Rattle.std.specs.Prelude.{◌≡◌, ℕ, ◌+◌, ◌^◌, ◌<◌, ◌≤◌, ◌==◌, ◌↔◌, Bool, true, false, if◌then◌else◌, List, [], ◌∷◌, length, map, take, max, Option, Some, None, IsSome, IfNone, MatchOption, Result, Ok, Err}
+use Rattle.std.specs.Prelude.{◌≡◌, ℕ, ◌+◌, ◌^◌, ◌<◌, ◌≤◌, ◌==◌, ◌↔◌, Bool, true, false, if◌then◌else◌, List, [], ◌∷◌, length, map, take, max, Option, Some, IsSome, is_some, IfSome, IfNone, MatchOption, Result, Ok, Err}
 use Rattle.std.specs.{declared.cmp.Ordering.Ordering, Option.option_map}
 use Rattle.arena_base.specs.declared.invalidation.InvalidationResult.TheVariants.{Success, GenerationOverflow}
-use Rattle.arena_base.specs.Invalidation.{valid_value, has_overflowed, is_overflow}
+use Rattle.arena_base.specs.Invalidation.{valid_value, is_overflow, IsRemoval, IsRenewal}
 use Rattle.arena_base.specs.Compression.{compressed_generation, compression_overflows}
-use Rattle.arena_base.specs.Generation.{next_generation, overflows_after}
+use Rattle.arena_base.specs.Generation.{overflows_after}
 use Rattle.chain_base.specs.Chain.{Entry, Chain, IsSound, entry_at, item_of, link_at, first_pointer, last_pointer, removed, renewed, cleared, raised, chain_limit, greatest_index, with_capacity}
 use Rattle.chain_base.specs.{Compression.relocated, Compression.canonical, Link.Link}
 use Rattle.ord_tree.specs.{Tree.Tree, Tree.IsSoundTree, Tree.IsShrunk, Tree.with_item, Shape.Shape, Shape.missing, Shape.node}
@@ -90,11 +90,9 @@ pub record IsWithinHintedBoundsByMarks {T : Type 0} (s : State T) (num c : ℕ) 
   pub within : steps ≤ length s.tree.list.entries
   pub bounded : IsWithinBoundsByMarks s search
 
--- the entry at index i is taken out, and the generation raised: with an overflow where it begins again
-pub record IsRemoval {T : Type 0} (greatest : Option ℕ) (old : Tree T) (i : ℕ) (overflow : Bool) (new : Tree T) : Type 0 where
-  pub list : new.list ≡ removed greatest old.list i
-  pub shape : IsShrunk old.shape new.shape
-  pub begins_again : overflow ≡ overflows_after greatest old.list.generation
+-- the entry at index i is taken out, and the generation raised
+abbrev pub IsTakenOut : {T : Type 0} → Option ℕ → Tree T → ℕ → Tree T → Type 0
+IsTakenOut greatest old i new = (new.list ≡ removed greatest old.list i) × IsShrunk old.shape new.shape
 
 -- the chain after these entries have been taken out one after another, each by a removal
 abbrev pub removed_each : {T : Type 0} → Option ℕ → Chain T → List (Entry T) → Chain T
@@ -183,27 +181,24 @@ module _ {P T I G A : Type 0} where
   -- the entry under a pointer, taken out
   abbrev pub Removes : Option ℕ → (P → ℕ × ℕ) → Tree T → P → Reply P T A I G → Tree T → Type 0
   Removes greatest pointer old p (Removed result) new =
-      let item = item_of old.list.entries (pointer p) in
-      MatchOption (valid_value result) ((item ≡ None) × (new ≡ old))
-      (λ taken. (taken.0 ≡ p) × (item ≡ Some taken.1) × IsRemoval greatest old (pointer p).0 (has_overflowed result) new)
+      IfSome (valid_value result) (λ taken. taken.0 ≡ p)
+      × IsRemoval greatest old.list.generation result (option_map (λ taken. taken.1) (valid_value result)) (item_of old.list.entries (pointer p))
+      (IsTakenOut greatest old (pointer p).0 new) (new ≡ old)
   Removes greatest pointer old p reply new = ⊥
 
   -- the entry at an index, taken out
   abbrev pub RemovesAt : Option ℕ → (P → ℕ × ℕ) → Tree T → ℕ → Reply P T A I G → Tree T → Type 0
   RemovesAt greatest pointer old i (Removed result) new =
-      let entry = entry_at old.list.entries i in
-      MatchOption (valid_value result) ((entry ≡ None) × (new ≡ old))
-      (λ taken. ((pointer taken.0).0 ≡ i) × (entry ≡ Some ((pointer taken.0).1, taken.1)) × IsRemoval greatest old i (has_overflowed result) new)
+      IfSome (valid_value result) (λ taken. (pointer taken.0).0 ≡ i)
+      × IsRemoval greatest old.list.generation result (option_map (λ taken. ((pointer taken.0).1, taken.1)) (valid_value result)) (entry_at old.list.entries i)
+      (IsTakenOut greatest old i new) (new ≡ old)
   RemovesAt greatest pointer old i reply new = ⊥
 
   -- the entry under a pointer, under a new one of the same index and the raised generation; the shape stays
   abbrev pub Renews : Option ℕ → (P → ℕ × ℕ) → Tree T → P → Reply P T A I G → Tree T → Type 0
   Renews greatest pointer old p (Renewed result) new =
-      let item = item_of old.list.entries (pointer p) in
-      MatchOption (valid_value result) ((item ≡ None) × (new ≡ old))
-      (λ q. IsSome item × (pointer q ≡ ((pointer p).0, next_generation greatest old.list.generation))
-      × (has_overflowed result ≡ overflows_after greatest old.list.generation)
-      × (new ≡ record old { list = renewed greatest old.list (pointer p).0 }))
+      IsRenewal pointer greatest old.list.generation result (pointer p).0 (is_some (item_of old.list.entries (pointer p)))
+      (new ≡ record old { list = renewed greatest old.list (pointer p).0 }) (new ≡ old)
   Renews greatest pointer old p reply new = ⊥
 
   -- a change of all that raises the generation

@@ -1,9 +1,9 @@
 //! Ending entries and their pointers.
-ghost use Rattle.std.specs.Prelude.{◌≡◌, ◌<◌, ◌&&◌, Some, None, is_some, IsSome, IfSome, IfNone, OnSome};
+ghost use Rattle.std.specs.Prelude.{◌≡◌, ◌<◌, Some, is_some};
 ghost use Rattle.std.specs.Option.{option_map};
 ghost use Rattle.arena_base.specs.Arena.{slot, item_of, freed, with_slot, removed, renewed, IsOccupied};
-ghost use Rattle.arena_base.specs.Generation.{next_generation, overflows_after};
-ghost use Rattle.arena_base.specs.Invalidation.{valid_value, has_overflowed, allowed_value, is_overflow};
+ghost use Rattle.arena_base.specs.Generation.{overflows_after};
+ghost use Rattle.arena_base.specs.Invalidation.{valid_value, IsRemoval, IsRenewal, allowed_value, is_overflow};
 
 use super::Arena;
 use crate::invalidation::{InvalidationOption, InvalidationResult};
@@ -13,13 +13,12 @@ use std::alloc::Allocator;
 
 impl<P: Ptr, T, A: Allocator> Arena<P, T, A> {
     /// Takes the entry out that the pointer names, and raises the generation. The next insertion takes its slot.
+    ///
+    /// For a pointer that names no entry it returns `InvalidPtr`, and nothing changes. It takes O(1) time.
     pub fn remove(&mut self, p: P) -> InvalidationResult<T>
-        ensures value { valid_value result ≡ item_of self.old (P.numbers p) }
-        ensures overflow { OnSome (valid_value result)
-            (has_overflowed result ≡ overflows_after P.Gen.greatest self.old.generation) }
-        ensures removed { OnSome (valid_value result)
-            (self.new ≡ removed P.Gen.greatest self.old (P.numbers p).0) }
-        ensures invalid { IfNone (valid_value result) (self.new ≡ self.old) }
+        ensures { IsRemoval P.Gen.greatest self.old.generation result
+            (valid_value result) (item_of self.old (P.numbers p))
+            (self.new ≡ removed P.Gen.greatest self.old (P.numbers p).0) (self.new ≡ self.old) }
     {
         if self.contains(p) {
             self.remove_entry(p.inx())
@@ -31,14 +30,13 @@ impl<P: Ptr, T, A: Allocator> Arena<P, T, A> {
     }
 
     /// Takes the entry at the index out, with its generation, and raises the arena's. The next insertion takes its slot.
+    ///
+    /// At an index without an entry it returns `InvalidPtr`, and nothing changes. It takes O(1) time.
     pub fn remove_inx(&mut self, i: P::Inx) -> InvalidationResult<(P::Gen, T)>
-        ensures value { option_map (λ e. (P.Gen.number e.0, e.1)) (valid_value result)
-            ≡ slot self.old (P.Inx.number i) }
-        ensures overflow { OnSome (valid_value result)
-            (has_overflowed result ≡ overflows_after P.Gen.greatest self.old.generation) }
-        ensures removed { OnSome (valid_value result)
-            (self.new ≡ removed P.Gen.greatest self.old (P.Inx.number i)) }
-        ensures invalid { IfNone (valid_value result) (self.new ≡ self.old) }
+        ensures { IsRemoval P.Gen.greatest self.old.generation result
+            (option_map (λ e. (P.Gen.number e.0, e.1)) (valid_value result))
+            (slot self.old (P.Inx.number i))
+            (self.new ≡ removed P.Gen.greatest self.old (P.Inx.number i)) (self.new ≡ self.old) }
     {
         if !self.contains_inx(i) {
             return InvalidationResult::InvalidPtr;
@@ -65,16 +63,12 @@ impl<P: Ptr, T, A: Allocator> Arena<P, T, A> {
     }
 
     /// Gives the entry that the pointer names a new pointer, at the same index and with the raised generation.
+    ///
+    /// For a pointer that names no entry it returns `InvalidPtr`, and nothing changes. It takes O(1) time.
     pub fn invalidate(&mut self, p: P) -> InvalidationResult<P>
-        ensures valid { is_some (valid_value result) ≡ is_some (item_of self.old (P.numbers p)) }
-        ensures index { IfSome (valid_value result) (λ q. (P.numbers q).0 ≡ (P.numbers p).0) }
-        ensures generation { IfSome (valid_value result)
-            (λ q. (P.numbers q).1 ≡ next_generation P.Gen.greatest self.old.generation) }
-        ensures overflow { OnSome (valid_value result)
-            (has_overflowed result ≡ overflows_after P.Gen.greatest self.old.generation) }
-        ensures renewed { OnSome (valid_value result)
-            (self.new ≡ renewed P.Gen.greatest self.old (P.numbers p).0) }
-        ensures invalid { IfNone (valid_value result) (self.new ≡ self.old) }
+        ensures { IsRenewal P.numbers P.Gen.greatest self.old.generation result (P.numbers p).0
+            (is_some (item_of self.old (P.numbers p)))
+            (self.new ≡ renewed P.Gen.greatest self.old (P.numbers p).0) (self.new ≡ self.old) }
     {
         if !self.contains(p) {
             return InvalidationResult::InvalidPtr;

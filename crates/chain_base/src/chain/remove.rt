@@ -1,8 +1,8 @@
 //! Ending entries and their pointers.
-ghost use Rattle.std.specs.Prelude.{◌≡◌, Some, IfSome, IfNone, OnSome, is_some};
+ghost use Rattle.std.specs.Prelude.{◌≡◌, Some, is_some};
 ghost use Rattle.std.specs.Option.{option_map};
-ghost use Rattle.arena_base.specs.Generation.{next_generation, overflows_after};
-ghost use Rattle.arena_base.specs.Invalidation.{valid_value, has_overflowed, allowed_value, is_overflow};
+ghost use Rattle.arena_base.specs.Generation.{overflows_after};
+ghost use Rattle.arena_base.specs.Invalidation.{valid_value, IsRemoval, IsRenewal, allowed_value, is_overflow};
 ghost use Rattle.chain_base.specs.Chain.{IsOccupied, link_at, item_of, removed, renewed};
 
 use super::ChainArena;
@@ -20,13 +20,10 @@ impl<P: Ptr, T, A: Allocator> ChainArena<P, T, A> {
         &mut self,
         i: P::Inx,
     ) -> InvalidationResult<(P::Gen, LinkNoGen<P, T>)>
-        ensures value { option_map (λ e. (P.Gen.number e.0, e.1)) (valid_value result)
-            ≡ link_at self.old.entries (P.Inx.number i) }
-        ensures overflow { OnSome (valid_value result)
-            (has_overflowed result ≡ overflows_after P.Gen.greatest self.old.generation) }
-        ensures removed { OnSome (valid_value result)
-            (self.new ≡ removed P.Gen.greatest self.old (P.Inx.number i)) }
-        ensures invalid { IfNone (valid_value result) (self.new ≡ self.old) }
+        ensures { IsRemoval P.Gen.greatest self.old.generation result
+            (option_map (λ e. (P.Gen.number e.0, e.1)) (valid_value result))
+            (link_at self.old.entries (P.Inx.number i))
+            (self.new ≡ removed P.Gen.greatest self.old (P.Inx.number i)) (self.new ≡ self.old) }
     {
         if !self.contains_inx(i) {
             return InvalidationResult::InvalidPtr;
@@ -62,16 +59,9 @@ impl<P: Ptr, T, A: Allocator> ChainArena<P, T, A> {
     ///
     /// For a pointer that names no entry it returns `InvalidPtr`, and nothing changes.
     pub fn invalidate(&mut self, p: P) -> InvalidationResult<P>
-        ensures valid { is_some (valid_value result)
-            ≡ is_some (item_of self.old.entries (P.numbers p)) }
-        ensures index { IfSome (valid_value result) (λ q. (P.numbers q).0 ≡ (P.numbers p).0) }
-        ensures generation { IfSome (valid_value result)
-            (λ q. (P.numbers q).1 ≡ next_generation P.Gen.greatest self.old.generation) }
-        ensures overflow { OnSome (valid_value result)
-            (has_overflowed result ≡ overflows_after P.Gen.greatest self.old.generation) }
-        ensures renewed { OnSome (valid_value result)
-            (self.new ≡ renewed P.Gen.greatest self.old (P.numbers p).0) }
-        ensures invalid { IfNone (valid_value result) (self.new ≡ self.old) }
+        ensures { IsRenewal P.numbers P.Gen.greatest self.old.generation result (P.numbers p).0
+            (is_some (item_of self.old.entries (P.numbers p)))
+            (self.new ≡ renewed P.Gen.greatest self.old (P.numbers p).0) (self.new ≡ self.old) }
     {
         self.arena.invalidate(p)
     }

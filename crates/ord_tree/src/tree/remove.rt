@@ -1,9 +1,9 @@
 //! Ending entries and their pointers.
 
-ghost use Rattle.std.specs.Prelude.{◌≡◌, Some, IfSome, IfNone, OnSome, is_some};
+ghost use Rattle.std.specs.Prelude.{◌≡◌, Some, OnSome, is_some};
 ghost use Rattle.std.specs.Option.{option_map};
-ghost use Rattle.arena_base.specs.Generation.{next_generation, overflows_after};
-ghost use Rattle.arena_base.specs.Invalidation.{valid_value, has_overflowed, allowed_value, is_overflow};
+ghost use Rattle.arena_base.specs.Generation.{overflows_after};
+ghost use Rattle.arena_base.specs.Invalidation.{valid_value, IsRemoval, IsRenewal, allowed_value, is_overflow};
 ghost use Rattle.chain_base.specs.Chain.{IsOccupied, entry_at, item_of, removed, renewed, cleared};
 ghost use Rattle.ord_tree.specs.Shape.{missing};
 ghost use Rattle.ord_tree.specs.Tree.{IsShrunk};
@@ -25,14 +25,12 @@ impl<P: Ptr, T, A: Allocator> OrdTree<P, T, A> {
     /// At an index without an entry it returns `InvalidPtr`, and nothing changes. For n entries it takes O(log n) time, and
     /// no memory.
     pub fn remove_inx(&mut self, i: P::Inx) -> InvalidationResult<(P::Gen, T)>
-        ensures value { option_map (λ e. (P.Gen.number e.0, e.1)) (valid_value result)
-            ≡ entry_at self.old.list.entries (P.Inx.number i) }
-        ensures overflow { OnSome (valid_value result)
-            (has_overflowed result ≡ overflows_after P.Gen.greatest self.old.list.generation) }
-        ensures removed { OnSome (valid_value result)
-            (self.new.list ≡ removed P.Gen.greatest self.old.list (P.Inx.number i)) }
+        ensures removal { IsRemoval P.Gen.greatest self.old.list.generation result
+            (option_map (λ e. (P.Gen.number e.0, e.1)) (valid_value result))
+            (entry_at self.old.list.entries (P.Inx.number i))
+            (self.new.list ≡ removed P.Gen.greatest self.old.list (P.Inx.number i))
+            (self.new ≡ self.old) }
         ensures shape { OnSome (valid_value result) (IsShrunk self.old.shape self.new.shape) }
-        ensures invalid { IfNone (valid_value result) (self.new ≡ self.old) }
     {
         if !self.chain.contains_inx(i) {
             return InvalidationResult::InvalidPtr;
@@ -65,19 +63,11 @@ impl<P: Ptr, T, A: Allocator> OrdTree<P, T, A> {
     ///
     /// For a pointer that names no entry it returns `InvalidPtr`, and nothing changes.
     pub fn invalidate(&mut self, p: P) -> InvalidationResult<P>
-        ensures valid { is_some (valid_value result)
-            ≡ is_some (item_of self.old.list.entries (P.numbers p)) }
-        ensures index { IfSome (valid_value result) (λ q. (P.numbers q).0 ≡ (P.numbers p).0) }
-        ensures generation { IfSome (valid_value result)
-            (λ q. (P.numbers q).1 ≡ next_generation P.Gen.greatest self.old.list.generation) }
-        ensures overflow { OnSome (valid_value result)
-            (has_overflowed result ≡ overflows_after P.Gen.greatest self.old.list.generation) }
-        ensures renewed { OnSome (valid_value result)
+        ensures { IsRenewal P.numbers P.Gen.greatest self.old.list.generation result (P.numbers p).0
+            (is_some (item_of self.old.list.entries (P.numbers p)))
             (self.new ≡ record self.old {
-              list = renewed P.Gen.greatest self.old.list
-                  (P.numbers p).0;
-            }) }
-        ensures invalid { IfNone (valid_value result) (self.new ≡ self.old) }
+              list = renewed P.Gen.greatest self.old.list (P.numbers p).0;
+            }) (self.new ≡ self.old) }
     {
         self.chain.invalidate(p)
     }

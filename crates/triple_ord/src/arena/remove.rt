@@ -1,8 +1,8 @@
 //! Ending entries and their pointers. None of these calls takes memory.
-ghost use Rattle.std.specs.Prelude.{◌≡◌, ◌+◌, None, IfSome, IfNone, OnSome, is_some};
+ghost use Rattle.std.specs.Prelude.{◌≡◌, ◌+◌, None, IfSome, OnSome, is_some};
 ghost use Rattle.std.specs.Option.{option_map};
-ghost use Rattle.arena_base.specs.Generation.{next_generation, overflows_after};
-ghost use Rattle.arena_base.specs.Invalidation.{valid_value, has_overflowed, is_overflow};
+ghost use Rattle.arena_base.specs.Generation.{overflows_after};
+ghost use Rattle.arena_base.specs.Invalidation.{valid_value, has_overflowed, is_overflow, IsRemoval, IsRenewal};
 ghost use Rattle.chain_base.specs.Chain.{removed, renewed, cleared};
 ghost use Rattle.ord_tree.specs.Shape.{missing};
 ghost use Rattle.ord_tree.specs.Tree.{IsShrunk};
@@ -19,15 +19,13 @@ impl<P: Ptr, T, A: Allocator> SimpleOrdArena<P, T, A> {
     /// For a pointer that names no entry it returns `InvalidPtr`, and nothing changes. It compares no keys, and takes
     /// O(log n) time for n entries: O(1) for the list, and the repair of the ranks.
     pub fn remove(&mut self, p: P) -> InvalidationResult<T>
-        ensures value { valid_value result ≡ item_of self.old (P.numbers p) }
-        ensures overflow { OnSome (valid_value result)
-            (has_overflowed result ≡ overflows_after P.Gen.greatest self.old.list.generation) }
+        ensures removal { IsRemoval P.Gen.greatest self.old.list.generation result
+            (valid_value result) (item_of self.old (P.numbers p))
+            (self.new.list ≡ removed P.Gen.greatest self.old.list (P.numbers p).0)
+            (self.new ≡ self.old) }
         ensures updates { Updates self.old self.new (P.numbers p) None }
         ensures count { OnSome (valid_value result) (count self.old ≡ count self.new + 1) }
-        ensures removed { OnSome (valid_value result)
-            (self.new.list ≡ removed P.Gen.greatest self.old.list (P.numbers p).0) }
         ensures shape { OnSome (valid_value result) (IsShrunk self.old.shape self.new.shape) }
-        ensures invalid { IfNone (valid_value result) (self.new ≡ self.old) }
     {
         prove!(self.len() <= usize::MAX);
         if !self.contains(p) {
@@ -40,17 +38,15 @@ impl<P: Ptr, T, A: Allocator> SimpleOrdArena<P, T, A> {
     ///
     /// At an index without an entry it returns `InvalidPtr`, and nothing changes.
     pub fn remove_inx(&mut self, i: P::Inx) -> InvalidationResult<(P::Gen, T)>
-        ensures value { option_map (λ e. (P.Gen.number e.0, e.1)) (valid_value result)
-            ≡ entry_at self.old (P.Inx.number i) }
-        ensures overflow { OnSome (valid_value result)
-            (has_overflowed result ≡ overflows_after P.Gen.greatest self.old.list.generation) }
+        ensures removal { IsRemoval P.Gen.greatest self.old.list.generation result
+            (option_map (λ e. (P.Gen.number e.0, e.1)) (valid_value result))
+            (entry_at self.old (P.Inx.number i))
+            (self.new.list ≡ removed P.Gen.greatest self.old.list (P.Inx.number i))
+            (self.new ≡ self.old) }
         ensures updates { IfSome (valid_value result)
             (λ e. Updates self.old self.new (P.Inx.number i, P.Gen.number e.0) None) }
         ensures count { OnSome (valid_value result) (count self.old ≡ count self.new + 1) }
-        ensures removed { OnSome (valid_value result)
-            (self.new.list ≡ removed P.Gen.greatest self.old.list (P.Inx.number i)) }
         ensures shape { OnSome (valid_value result) (IsShrunk self.old.shape self.new.shape) }
-        ensures invalid { IfNone (valid_value result) (self.new ≡ self.old) }
     {
         prove!(self.len() <= usize::MAX);
         self.tree.remove_inx(i)
@@ -60,20 +56,14 @@ impl<P: Ptr, T, A: Allocator> SimpleOrdArena<P, T, A> {
     ///
     /// For a pointer that names no entry it returns `InvalidPtr`, and nothing changes. It takes O(1) time.
     pub fn invalidate(&mut self, p: P) -> InvalidationResult<P>
-        ensures valid { is_some (valid_value result) ≡ is_some (item_of self.old (P.numbers p)) }
-        ensures index { IfSome (valid_value result) (λ q. (P.numbers q).0 ≡ (P.numbers p).0) }
-        ensures generation { IfSome (valid_value result)
-            (λ q. (P.numbers q).1 ≡ next_generation P.Gen.greatest self.old.list.generation) }
-        ensures overflow { OnSome (valid_value result)
-            (has_overflowed result ≡ overflows_after P.Gen.greatest self.old.list.generation) }
+        ensures renewal { IsRenewal P.numbers P.Gen.greatest self.old.list.generation result
+            (P.numbers p).0 (is_some (item_of self.old (P.numbers p)))
+            (self.new ≡ record self.old {
+              list = renewed P.Gen.greatest self.old.list (P.numbers p).0;
+            }) (self.new ≡ self.old) }
         ensures renews { IfSome (valid_value result)
             (λ q. Renews self.old self.new (P.numbers p) (P.numbers q)) }
         ensures count { count self.new ≡ count self.old }
-        ensures renewed { OnSome (valid_value result)
-            (self.new ≡ record self.old {
-              list = renewed P.Gen.greatest self.old.list (P.numbers p).0;
-            }) }
-        ensures invalid { IfNone (valid_value result) (self.new ≡ self.old) }
     {
         self.tree.invalidate(p)
     }

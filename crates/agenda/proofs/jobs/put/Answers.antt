@@ -1,7 +1,6 @@
 use Rattle.std.proofs.{Common.arith, lemmas.Grind.common_steps}
 use Rattle.std.proofs.Common.{ℕ, ap, subst, ◌∙◌, ◌≡◌, nat_cmp, rules}
-use Rattle.triple_ord.specs.{declared.insert_kind.OrdInsertKind.TheVariants.Nonhereditary, Insertion.reallocating, Insertion.InsertsNew}
-use Rattle.triple_ord.specs.{EntryKind.pointer_of_kind, Place.behind_key}
+use Rattle.triple_ord.specs.{declared.insert_kind.OrdInsertKind.TheVariants.Nonhereditary, Insertion.reallocating, Insertion.InsertsNew, EntryKind.pointer_of_kind, Place.behind_key}
 use Rattle.triple_ord.proofs.CallerLemmas.{entry-inserts}
 use Rattle.agenda.specs.{Layout.deadline_of, Agenda.most_jobs}
 use Rattle.agenda.proofs.Putting.{inserts-new}

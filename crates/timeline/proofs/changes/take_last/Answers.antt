@@ -6,7 +6,7 @@ pub returns-in-Some-clause-taken : goal.returns-in-Some-clause-taken
 returns-in-Some-clause-taken g c _ =
     let there = occupied-until c.args.changes.now.list.entries c.len.ensures.sound.distinct c.args.until c.in-Some.i c.in-Some.time c.in-Some.field-0-2 c.in-Some.ensures in
     taken-out c.args.changes.now.list.entries c.remove_inx.new.self.list.entries c.len.ensures.sound.distinct c.args.from c.args.until c.in-Some.i c.in-Some.time c.in-Some.field-0-2 c.in-Some.ensures
-    c.if-time-from.true (ap (λ d. d.entries) (owed _ _ _ c.remove_inx.ensures.value there c.remove_inx.ensures.removed))
+    c.if-time-from.true (ap (λ d. d.entries) (owed _ _ _ c.remove_inx.ensures.removal.value there c.remove_inx.ensures.removal.removed))
 
 pub returns-in_default-clause-left : goal.returns-in_default-clause-left
 returns-in_default-clause-left g c _ =

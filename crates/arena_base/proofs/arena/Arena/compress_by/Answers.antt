@@ -1,6 +1,5 @@
 use Rattle.arena_base.proofs.Words.{length, arith, common_steps, ◌∙◌, length-map, entry_in}
-use Rattle.arena_base.proofs.Steps.{relisted-fresh, relisted-sound}
-use Rattle.arena_base.proofs.Compressing.{compressed-lawful, entries-compressed, compressed-after}
+use Rattle.arena_base.proofs.{Steps.relisted-fresh, Steps.relisted-sound, Compressing.compressed-lawful, Compressing.entries-compressed, Compressing.compressed-after}
 use Rattle.arena_base.proofs.arena.Arena.compress_by.Goals as goal
 
 pub invariant_of-self : goal.invariant_of-self

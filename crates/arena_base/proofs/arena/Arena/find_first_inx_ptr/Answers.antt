@@ -1,5 +1,4 @@
-use Rattle.arena_base.proofs.Words.{inl, inr, None, length, refl, arith, common_steps, cases_lt, get_or_past}
-use Rattle.arena_base.proofs.Slots.{counted_none}
+use Rattle.arena_base.proofs.{Words.inl, Words.inr, Words.None, Words.length, Words.refl, Words.arith, Words.common_steps, Words.cases_lt, Words.get_or_past, Slots.counted_none}
 use Rattle.arena_base.proofs.arena.Arena.find_first_inx_ptr.Goals as goal
 
 pub returns-clause-empty : goal.returns-clause-empty

@@ -1,6 +1,5 @@
 use Rattle.arena_base.proofs.Words.{◌≤◌, length, arith, sym, ap, ◌∙◌, same_Some, on_ok_weaker, option_map, common_steps, Vacant}
-use Rattle.arena_base.proofs.Steps.{capacity-is, length-padded, relisted-fresh}
-use Rattle.arena_base.proofs.Clones.{clone-whole, clone-refused, clone-sound}
+use Rattle.arena_base.proofs.{Steps.capacity-is, Steps.length-padded, Steps.relisted-fresh, Clones.clone-whole, Clones.clone-refused, Clones.clone-sound}
 use Rattle.arena_base.proofs.arena.Arena.take_over.Goals as goal
 
 pub invariant_of-self : goal.invariant_of-self

@@ -1,25 +1,21 @@
 -- `get_inx_mut` by hand: it asks whether there is an entry, by `occupied`, and wraps what `pair_mut` gives. What comes back of the write is
 -- what `pair_mut` says of it, and where nothing is found the container is as it was.
 use Rattle.std.proofs.Common.{◌≡◌, ℕ, List, [], ◌∷◌, refl, sym, ap, lit<, MutBor, Bool, ◌∙◌, Option, Some, None, is_some, false, true}
-use Rattle.std.proofs.Common.{arith, subst}
-use Rattle.std.proofs.raw_atomic.Walks.{proved, leaves}
-use Rattle.std.proofs.{VecSteps.Element.Some-of, VecSteps.Element.none_of, VecSteps.Shapes.after}
+use Rattle.std.proofs.{Common.arith, Common.subst, raw_atomic.Walks.proved, raw_atomic.Walks.leaves, VecSteps.Element.Some-of, VecSteps.Element.none_of, VecSteps.Shapes.after}
 use Rattle.arena_base.proofs.{items_mut.ItemsMut.get_inx_mut.Statement.statement, items_mut.occupied.Met.met as test_met}
 use base.{Fml.ftrue, Fml.fres, Logic.id⊢, Logic.emp}
 use contract.{BorrowLft.◌⊑◌, Monad.fact, Monad.fact_i, Running.tables}
 use denote.Steps.{nothing, heard, peeks, only}
 use denote.Triple.Walked.{Stays, walk_of, stay_dropped, Goes-dropped, Goes-spent_ref}
-use denote.{Exit.no, Floats.is_true, Follow.follows, Follow.follows_by, Laws.shows, Laws.Is, Param.param, Param.copied, Param.bounded}
-use denote.{Param.Laws.copied_laws, Param.Laws.copied_copy, Ref.MutRef, Ref.mut_vals, Ref.mut_Tells, Signature.mut_ref_to, Signature.plain}
-use denote.{Signature.type_at, Struct.Declared.shape, Struct.Struct.within, Struct.Tuple.tuple_type, Triple.Call.calls_at}
+use denote.{Exit.no, Floats.is_true, Follow.follows, Follow.follows_by, Laws.shows, Laws.Is, Param.param, Param.copied, Param.bounded, Param.Laws.copied_laws, Param.Laws.copied_copy, Ref.MutRef}
+use denote.{Ref.mut_vals, Ref.mut_Tells, Signature.mut_ref_to, Signature.plain, Signature.type_at, Struct.Declared.shape, Struct.Struct.within, Struct.Tuple.tuple_type, Triple.Call.calls_at}
 use denote.{Triple.Clauses.lasts, Triple.Clauses.Lasts, Triple.Entry.alive, Triple.Spec.triple_of, Triple.Table.framed}
 use lib.Ieee.Bits.{is_false}
 use mathlib.{Core.List.◌++◌}
 use mir.Val.{vptr, vbool, Val, vstruct, of_list}
 use mir.{Facts.yes_and, MapTy.inst_fn, Syntax.named, Syntax.Fn, Syntax.a_type, Syntax.dcons, Syntax.dnil}
 use types.ByLocal.{alloc_all, pass_all, free_all, look_at, get, get_in, through, sets, sets_last, lands_as, env}
-use types.Kit.{‵, raw, ◌⊛◌, some, later, at_ret, ◌$◌, ◌∵◌, !, qed, by, move, keep, drop, use0, use1, use2, split, join, fsplit, fsplit3}
-use types.Kit.{fjoin, fpick, fpack, feq_l, feq_i, pick, await, rewrite}
+use types.Kit.{‵, raw, ◌⊛◌, some, later, at_ret, ◌$◌, ◌∵◌, !, qed, by, move, keep, drop, use0, use1, use2, split, join, fsplit, fsplit3, fjoin, fpick, fpack, feq_l, feq_i, pick, await, rewrite}
 use types.Run.{enter, of_opd, addr, lit, stop, fld, no_more, and_then, first, branches, exec, returns}
 use types.{Match.live, Part.agg, Part.whole, Part.sub}
 use Rattle.arena_base.specs.contracts.items_mut.ItemsMut.get_inx_mut as f

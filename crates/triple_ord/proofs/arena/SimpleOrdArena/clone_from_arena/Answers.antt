@@ -1,5 +1,4 @@
-use Rattle.triple_ord.proofs.Words.{rules, inl, inr, refl, IsSound, IfOk-weaker, MatchResult-weaker}
-use Rattle.triple_ord.proofs.CallerLemmas.{clone-cloned, clone-refused_clone}
+use Rattle.triple_ord.proofs.{Words.rules, Words.inl, Words.inr, Words.refl, Words.IsSound, Words.IfOk-weaker, Words.MatchResult-weaker, CallerLemmas.clone-cloned, CallerLemmas.clone-refused_clone}
 use Rattle.triple_ord.proofs.arena.SimpleOrdArena.clone_from_arena.Goals as goal
 
 pub returns-clause-ok : goal.returns-clause-ok

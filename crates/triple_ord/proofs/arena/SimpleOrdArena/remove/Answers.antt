@@ -1,4 +1,5 @@
-use Rattle.triple_ord.proofs.{Bare.found-occupied, CallerLemmas.owed, CallerLemmas.updates-removed, CallerLemmas.count-removed, Words.sym}
+use Rattle.triple_ord.proofs.{Bare.found-occupied, CallerLemmas.updates-removed, CallerLemmas.count-removed, Words.sym}
+use Rattle.ord_tree.proofs.Shrunk.{some_always}
 use Rattle.triple_ord.proofs.arena.SimpleOrdArena.remove.Goals as goal
 
 pub remove_entry-requires : goal.remove_entry-requires
@@ -10,8 +11,8 @@ returns-clause-updates g c =
     (sym c.if-not-contains.ensures) (rw (c.self.view_is, c.inx.ensures) at c.remove_entry.ensures.removed)
 
 pub returns-clause-count : goal.returns-clause-count
-returns-clause-count g c = owed _ (count-removed g.P.Gen.PtrGen.greatest c.args.self.now c.remove_entry.new.self (g.P.Ptr.numbers c.args.p)
+returns-clause-count g c = some_always _ (count-removed g.P.Gen.PtrGen.greatest c.args.self.now c.remove_entry.new.self (g.P.Ptr.numbers c.args.p)
     (sym c.if-not-contains.ensures) (rw (c.self.view_is, c.inx.ensures) at c.remove_entry.ensures.removed))
 
 pub returns-clause-shape : goal.returns-clause-shape
-returns-clause-shape g c = rw (← c.self.view_is) (owed _ c.remove_entry.ensures.shape)
+returns-clause-shape g c = rw (← c.self.view_is) (some_always _ c.remove_entry.ensures.shape)

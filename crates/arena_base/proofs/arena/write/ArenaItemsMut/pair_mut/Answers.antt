@@ -1,6 +1,5 @@
 use Rattle.arena_base.proofs.Words.{refl, sym, ◌∙◌, subst, ForSome, slot, IsLawfulGeneration, with_slot_item}
-use Rattle.arena_base.proofs.{Slots.entry_in-parts, Slots.entry_in-with_slot_item, Steps.found-viewed, Steps.read, Steps.read-occupied}
-use Rattle.arena_base.proofs.Steps.{written, written-sound}
+use Rattle.arena_base.proofs.{Slots.entry_in-parts, Slots.entry_in-with_slot_item, Steps.found-viewed, Steps.read, Steps.read-occupied, Steps.written, Steps.written-sound}
 use Rattle.arena_base.proofs.arena.write.ArenaItemsMut.pair_mut.Goals as goal
 
 pub generation-generation-requires : goal.generation-generation-requires
