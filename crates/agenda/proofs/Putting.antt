@@ -1,16 +1,15 @@
 -- A new entry behind all whose key is at most its own: the job is put on the agenda.
-use Rattle.std.proofs.Common.{◌≡◌, ◌≢◌, ℕ, List, [], ◌∷◌, ◌++◌, map, Option, Some, None, IfSome, is_some, Ok, slice_get, refl, sym, ap, ◌∙◌, nat_lt, if◌then◌else◌}
+use Rattle.std.proofs.Common.{◌≡◌, ◌≢◌, ℕ, ◌∷◌, ◌++◌, map, IfSome, refl, sym, ap, ◌∙◌, nat_lt, if◌then◌else◌}
 use Rattle.std.proofs.{lemmas.List.map-append, lemmas.List.length-map, lemmas.List.Elements.All-from_recursion}
-use Rattle.std.specs.{declared.cmp.Ordering.TheVariants.Less, declared.cmp.Ordering.Ordering, Ordering.nat_cmp}
-use Rattle.chain_base.specs.Chain.{Entry, Chain, times, IsSound, inserted_at}
+use Rattle.std.specs.{declared.cmp.Ordering.TheVariants.Less, Ordering.nat_cmp}
+use Rattle.chain_base.specs.Chain.{Entry, Chain, times, IsSound}
 use Rattle.chain_base.specs.Insert.{IsInsertion}
-use Rattle.chain_base.proofs.CallerLemmas.{entry_at-absent}
+use Rattle.chain_base.proofs.CallerLemmas.{after-insertion, entry_at-absent}
 use Rattle.ord_tree.specs.Tree.{Tree}
-use Rattle.triple_ord.specs.Insertion.{Growth, with_room_by, InsertsBy, InsertsNew}
-use Rattle.triple_ord.specs.declared.entry_kind.OrdEntryKind.TheVariants.{New, Replacing}
-use Rattle.triple_ord.specs.{Gap.Gap, Gap.before, Gap.after, Gap.with_between, declared.entry_kind.OrdEntryKind.OrdEntryKind}
-use Rattle.triple_ord.specs.{EntryKind.pointer_of_kind, Place.behind_key}
-use Rattle.triple_ord.proofs.CallerLemmas.{entries-with_room_by, numbers-with_room_by, capacity-with_room_by}
+use Rattle.triple_ord.specs.Insertion.{Growth, with_room_by, InsertsNew}
+use Rattle.triple_ord.specs.{Gap.Gap, Gap.before, Gap.after, Gap.with_between}
+use Rattle.triple_ord.specs.{Place.behind_key}
+use Rattle.triple_ord.proofs.CallerLemmas.{entries-with_room_by, numbers-with_room_by, numbers-inserted, capacity-inserted}
 use Rattle.agenda.specs.Layout.{greatest_generation, scheduled, deadline_of, agenda_of, IsArenaOfJobs}
 use Rattle.agenda.specs.Agenda.{Schedules, IsInOrder, most_jobs, grown, count}
 use Rattle.agenda.proofs.Deadlines.{in_order-between, in_order-back, none-later, all-later}
@@ -24,34 +23,18 @@ module _ {J : Type 0} (growth : Growth) (old new : Tree (ℕ × J)) (d : ℕ) (j
   abbrev room : Chain (ℕ × J)
   room = with_room_by growth most_jobs old.list
 
-  -- the list with an entry in the gap, under this index and generation
-  abbrev put_list : List ℕ → ℕ → ℕ → Chain (ℕ × J)
-  put_list vacant i g = record room { entries = gap.front ++ record { index = i; generation = g; item = (d, job) } ∷ gap.back; vacant = vacant }
-
   module _ (at_most_before : IfSome (before gap) (λ e. nat_cmp d e.item.0 ≢ Less)) (greater_after : IfSome (after gap) (λ e. nat_cmp d e.item.0 ≡ Less))
       (inserted : IsInsertion room new.list (with_between gap) (d, job) p.0 p.1)
       (sound : IsSound most_jobs greatest_generation old.list) (holds : IsArenaOfJobs old) where
-    -- the list afterwards
-    after-put : (rest : List ℕ) × (new.list ≡ put_list rest p.0 p.1)
-    after-put = go room.vacant inserted.next inserted.after
-      where
-        go : (vacant : List ℕ) → slice_get vacant 0 ≡ Some p.0 → new.list ≡ inserted_at room (with_between gap) (d, job) vacant
-            → (rest : List ℕ) × (new.list ≡ put_list rest p.0 p.1)
-        go [] next after = absurd (cc)
-        go (j ∷ rest) next after =
-            let here : j ≡ p.0 = cc in
-            (rest, after ∙ ap (λ i. put_list rest i room.generation) here ∙ ap (λ g. put_list rest p.0 g) (sym inserted.generation))
-
     numbers-put : (new.list.generation ≡ old.list.generation) × (new.list.maximum ≡ old.list.maximum)
-    numbers-put = let numbers = numbers-with_room_by growth most_jobs old.list in
-        (ap (λ (c : Chain (ℕ × J)). c.generation) after-put.1 ∙ numbers.0, ap (λ (c : Chain (ℕ × J)). c.maximum) after-put.1 ∙ numbers.1)
+    numbers-put = numbers-inserted growth most_jobs old.list new.list (with_between gap) (d, job) p.0 p.1 inserted
 
     -- the jobs before and afterwards
     jobs-before : map scheduled old.list.entries ≡ map scheduled gap.front ++ map scheduled gap.back
     jobs-before = ap (map scheduled) gap.cut ∙ map-append scheduled gap.front gap.back
 
     jobs-after : map scheduled new.list.entries ≡ map scheduled gap.front ++ scheduled entry ∷ map scheduled gap.back
-    jobs-after = ap (λ (c : Chain (ℕ × J)). map scheduled c.entries) after-put.1 ∙ map-append scheduled gap.front (entry ∷ gap.back)
+    jobs-after = ap (λ (c : Chain (ℕ × J)). map scheduled c.entries) (after-insertion room new.list (with_between gap) (d, job) p.0 p.1 inserted).1 ∙ map-append scheduled gap.front (entry ∷ gap.back)
 
     in_order : IsInOrder (map scheduled gap.front ++ map scheduled gap.back)
     in_order = rw (← jobs-before) holds.in_order
@@ -59,7 +42,7 @@ module _ {J : Type 0} (growth : Growth) (old new : Tree (ℕ × J)) (d : ℕ) (j
     -- the capacity grows where there was no room
     capacity-put : new.list.capacity ≡ (if nat_lt (count (agenda_of old)) old.list.capacity then old.list.capacity else grown old.list.capacity)
     capacity-put =
-        ap (λ (c : Chain (ℕ × J)). c.capacity) after-put.1 ∙ capacity-with_room_by most_jobs old.list sound.counted holds.unlimited growth (ap is_some inserted.next)
+        capacity-inserted growth most_jobs old.list new.list (with_between gap) (d, job) p.0 p.1 inserted sound.counted holds.unlimited
         ∙ ap (λ n. if nat_lt n old.list.capacity then old.list.capacity else grown old.list.capacity) (sym (length-map old.list.entries (scheduled {J = J})))
 
     schedules-put : Schedules (agenda_of old) p d job (agenda_of new)
@@ -82,19 +65,6 @@ module _ {J : Type 0} (growth : Growth) (old new : Tree (ℕ × J)) (d : ℕ) (j
           (map scheduled gap.front) in_order (none-later d (map scheduled gap.back) gap.front in_order at_most_before));
       unlimited = numbers-put.1 ∙ holds.unlimited;
     }
-
--- an insertion behind a key makes a new entry
-module _ {P T K : Type 0} (key : T → K) (cmp : K → K → Ordering) (most : ℕ) (growth : Growth) (k : K) (numbers : P → ℕ × ℕ)
-    (old : Tree T) (item : T) (new : Tree T) where
-  abbrev IsNew : ℕ × ℕ → Type 0
-  IsNew p = InsertsNew key cmp most growth (behind_key k) old item p new
-
-  pub inserts-new : (told : OrdEntryKind P × Option T) → InsertsBy key cmp most growth (behind_key k) numbers old item (Ok told) new
-      → IsNew (numbers (pointer_of_kind told.0))
-  inserts-new (New p, None) inserts = inserts
-  inserts-new (New p, Some before) inserts = absurd inserts
-  inserts-new (Replacing p, None) inserts = absurd inserts
-  inserts-new (Replacing p, Some before) inserts = absurd inserts.place
 
 -- what an insertion behind its deadline makes of an agenda
 module _ {J : Type 0} (growth : Growth) (old new : Tree (ℕ × J)) (d : ℕ) (job : J) (p : ℕ × ℕ)

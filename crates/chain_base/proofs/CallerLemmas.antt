@@ -15,8 +15,8 @@ pub use Rattle.chain_base.proofs.Canonical.{occurs-entry, entry-occurs, relocate
 pub use Rattle.chain_base.proofs.Ranking.{lesser-zero, lesser-next, lesser-most, lesser-all, compressed-at, compressed-length, length-entries}
 -- the greatest index with an entry
 pub use Rattle.chain_base.proofs.Vacancy.{below-greatest, greatest-or_none, times-greatest, below-greatest_index}
--- an insertion keeps the capacity; room for one entry more changes it where there was none
-pub use Rattle.chain_base.proofs.Room.{inserted-capacity, roomy_capacity, capacity-vacant, capacity-with_room}
+-- the chain after an insertion; room for one entry more changes the capacity where there was none
+pub use Rattle.chain_base.proofs.Room.{with_new, after-insertion, roomy_capacity, capacity-vacant, capacity-with_room}
 -- what the calls of a clone keep of the items
 pub use Rattle.chain_base.proofs.CloneKept.{clone-kept, clone-same, refused-some}
 

@@ -4,8 +4,7 @@ use Rattle.std.proofs.lemmas.Grind.{common_steps}
 use Rattle.std.specs.List.{FoldsTo}
 use Rattle.arena_base.specs.{Compression.CompressionStep, Compression.IsCompression, Walk.entries_rising, Arena.Arena}
 use Rattle.arena_base.proofs.CallerLemmas.{calls-retold}
-use Rattle.chain_base.specs.{Compression.entries_rising as chain_rising, Compression.IsCompression as IsChainCompression, Chain.Chain}
-use Rattle.chain_base.specs.{Naming.MapsItem, Naming.CompressesItems, Link.Link}
+use Rattle.chain_base.specs.{Compression.entries_rising as chain_rising, Compression.IsCompression as IsChainCompression, Chain.Chain, Naming.MapsItem, Naming.CompressesItems, Link.Link}
 
 module _ {P X M B : Type 0} (numbers : P → ℕ × ℕ) (step : M → P → X → P → X → M → Type 0) (g : ℕ) (part : X → B) (keeps : (m : M) (p : P) (x : X) (q : P) (y : X) (n : M) → step m p x q y n → part y ≡ part x) (n : M) (ys : List X) where
   -- a part that each call keeps

@@ -1,14 +1,24 @@
 -- Room for one more entry: where a chain has it, and what a growth makes of it.
-use Rattle.std.proofs.Common.{◌≡◌, ℕ, zero, suc, ◌+◌, ◌*◌, ◌<◌, ◌≤◌, List, [], ◌∷◌, length, Option, None, IsSome, is_some, Bool, true, false, refl, slice_get, Result, IfOk, OnErr, min, max, nat_lt, if◌then◌else◌, arith}
+use Rattle.std.proofs.Common.{◌≡◌, ℕ, zero, suc, ◌+◌, ◌*◌, ◌<◌, ◌≤◌, List, [], ◌∷◌, length, Option, None, IsSome, is_some, Bool, true, false, refl, sym, ap, ◌∙◌, slice_get, Some, Result, Ok, Err, IfOk, OnErr, min, max, nat_lt, if◌then◌else◌, arith}
 use Rattle.std.proofs.lemmas.Grind.{common_steps}
 use Rattle.chain_base.specs.Chain.{Entry, Chain, times, inserted_at, greatest_index, vacant_among, next_index, grown_capacity, with_capacity, with_room, IsSound}
 use Rattle.chain_base.specs.Insert.{IsInsertion}
 use Rattle.chain_base.proofs.Vacancy.{greatest-occurs}
 
 module _ {T : Type 0} where
-  -- an insertion keeps the capacity
-  pub inserted-capacity : (c : Chain T) (place : Entry T → List (Entry T)) (item : T) (vacant : List ℕ) → (inserted_at c place item vacant).capacity ≡ c.capacity
-  inserted-capacity c place item vacant = grind (arith, common_steps)
+  -- a chain with a new entry of this index and generation at a place, and these vacant indexes
+  abbrev pub with_new : Chain T → (Entry T → List (Entry T)) → T → ℕ → ℕ → List ℕ → Chain T
+  with_new c place item i g vacant = record c { entries = place (record { index = i; generation = g; item = item }); vacant = vacant }
+
+  -- an insertion makes that of a chain, and takes the first vacant index
+  pub after-insertion : (old new : Chain T) (place : Entry T → List (Entry T)) (item : T) (i g : ℕ) → IsInsertion old new place item i g
+      → (rest : List ℕ) × (new ≡ with_new old place item i g rest)
+  after-insertion old new place item i g inserted = go old.vacant inserted.next inserted.after
+    where
+      go : (vacant : List ℕ) → slice_get vacant 0 ≡ Some i → new ≡ inserted_at old place item vacant → (rest : List ℕ) × (new ≡ with_new old place item i g rest)
+      go [] next after = absurd (cc)
+      go (j ∷ rest) next after = let here : j ≡ i = cc in
+          (rest, after ∙ ap (λ k. with_new old place item k old.generation rest) here ∙ ap (λ era. with_new old place item i era rest) (sym inserted.generation))
 
   module _ (most : ℕ) (c : Chain T) where
     -- without a maximum the capacity grows just where no slot is vacant
@@ -30,10 +40,10 @@ module _ {T : Type 0} where
           go true some = capacity-vacant some
           go false none = full c.vacant counted none
 
-  module _ {P E : Type 0} (old new : Chain T) (place : Entry T → List (Entry T)) (item : T) (numbers : P → ℕ × ℕ) (r : Result P E)
-      (ok : IfOk r (λ p. IsInsertion old new place item (numbers p).0 (numbers p).1)) where
-    pub capacity-kept : OnErr r (new ≡ old) → new.capacity ≡ old.capacity
-    capacity-kept err = grind (arith, common_steps, inserted-capacity)
+  pub capacity-kept : {P E : Type 0} (old new : Chain T) (place : Entry T → List (Entry T)) (item : T) (numbers : P → ℕ × ℕ) (r : Result P E)
+      → IfOk r (λ p. IsInsertion old new place item (numbers p).0 (numbers p).1) → OnErr r (new ≡ old) → new.capacity ≡ old.capacity
+  capacity-kept old new place item numbers (Ok p) inserted same = ap (λ (c : Chain T). c.capacity) (after-insertion old new place item (numbers p).0 (numbers p).1 inserted).1
+  capacity-kept old new place item numbers (Err e) inserted same = ap (λ (c : Chain T). c.capacity) same
 
   -- an index that no entry has is among the vacant ones, so that there is a first of them
   vacant_among-some : (es : List (Entry T)) (from count k : ℕ) → from ≤ k → k < from + count → times k es ≡ 0 → IsSome (slice_get (vacant_among es from count) 0)

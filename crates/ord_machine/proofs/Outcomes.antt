@@ -1,13 +1,13 @@
 -- What a step makes of the list: all that the laws of pointers and keys look at.
-use Rattle.std.proofs.Common.{◌≡◌, ◌≢◌, ℕ, zero, suc, ◌+◌, ◌<◌, Bool, false, List, [], ◌∷◌, ◌++◌, ◌⊎◌, inl, inr, length, map, take, Option, Some, None, IsSome, is_some, slice_get, refl, sym, ap, subst, ◌∙◌, arith}
+use Rattle.std.proofs.Common.{◌≡◌, ◌≢◌, ℕ, zero, suc, ◌+◌, ◌<◌, Bool, false, List, [], ◌∷◌, ◌++◌, ◌⊎◌, inl, inr, length, map, take, Option, Some, None, IsSome, is_some, refl, sym, ap, subst, ◌∙◌, arith}
 use Rattle.std.proofs.{lemmas.Bool.Decides.eqb_tells, lemmas.List.length-map, lemmas.Cmp.tied_itself}
 use Rattle.std.specs.declared.cmp.Ordering.TheVariants.{Less, Equal, Greater}
 use Rattle.std.specs.Cmp.{IsTotalOrder}
 use Rattle.arena_base.specs.declared.invalidation.InvalidationResult.TheVariants.{Success, GenerationOverflow, InvalidPtr}
 use Rattle.arena_base.specs.Generation.{next_generation}
-use Rattle.chain_base.specs.Chain.{Entry, Chain, renewed, removed, times, IsDistinct, entry_at, item_of, without, with_item_among, with_generation, inserted_at}
+use Rattle.chain_base.specs.Chain.{Entry, Chain, renewed, removed, times, IsDistinct, entry_at, item_of, without, with_item_among, with_generation}
 use Rattle.chain_base.specs.{Compression.at_compressed_index, Compression.numbered, Insert.IsInsertion}
-use Rattle.chain_base.proofs.CallerLemmas.{entry_at-absent, entry_at-between_other, generation-relocated, generation-numbered}
+use Rattle.chain_base.proofs.CallerLemmas.{after-insertion, entry_at-absent, entry_at-between_other, generation-relocated, generation-numbered}
 use Rattle.ord_tree.specs.{Shape.Shape, Shape.missing, Half.IsRebuilt, Ranks.IsTight, Tree.Tree}
 use Rattle.triple_ord.specs.Place.{Aim, alone, at_key, behind_key, beside, into, over, IsPlace, aim_of}
 use Rattle.triple_ord.specs.declared.error.OrdInsertionError.TheVariants.{BeyondMaxCapacity, AllocError}
@@ -143,14 +143,9 @@ module _ {T : Type 0} (room new : Chain T) (put : Entry T → List (Entry T)) (i
   abbrev IsPut : Type 0
   IsPut = (new.entries ≡ put (record { index = i; generation = room.generation; item = item })) × (new.generation ≡ room.generation)
 
-  put-taken : (vacant : List ℕ) → slice_get vacant 0 ≡ Some i → new.entries ≡ (inserted_at room put item vacant).entries
-      → new.generation ≡ (inserted_at room put item vacant).generation → IsPut
-  put-taken [] next es gs = absurd (cc)
-  put-taken (j ∷ rest) next es gs = let here : j ≡ i = cc in (es ∙ ap (λ k. put (record { index = k; generation = room.generation; item = item })) here, gs)
-
-  after-insertion : (g : ℕ) → IsInsertion room new put item i g → IsPut
-  after-insertion g inserted =
-      put-taken room.vacant inserted.next (ap (λ (c : Chain T). c.entries) inserted.after) (ap (λ (c : Chain T). c.generation) inserted.after)
+  is-put : (g : ℕ) → IsInsertion room new put item i g → IsPut
+  is-put g inserted = let after = (after-insertion room new put item i g inserted).1 in
+      (ap (λ (c : Chain T). c.entries) after ∙ ap (λ era. put (record { index = i; generation = era; item = item })) inserted.generation, ap (λ (c : Chain T). c.generation) after)
 
 -- a step
 module _ {P T I G K : Type 0} (r : Reading P T I G K) (s : State T) (new : Tree T) where
@@ -222,7 +217,7 @@ module _ {P T I G K : Type 0} (r : Reading P T I G K) (s : State T) (new : Tree 
         let roomy = entries-with_room_by growth r.most s.tree.list in
         let era = (numbers-with_room_by growth r.most s.tree.list).0 in
         let i = (r.pointer q).0 in
-        let after = after-insertion room new.list (with_between does.gap) item i (r.pointer q).1 does.inserted in
+        let after = is-put room new.list (with_between does.gap) item i (r.pointer q).1 does.inserted in
         record {
           affects = does.grown.tight;
           raised = λ _. after.1 ∙ era;

@@ -1,7 +1,7 @@
 -- Indexes of entries name something: none of them is that of pointers that name nothing.
-use Rattle.std.proofs.Common.{◌≡◌, ◌≢◌, ℕ, ◌+◌, ◌≤◌, Option, List, arith, refl, is_some, true}
-use Rattle.chain_base.specs.{Chain.Entry, Chain.Chain, Chain.entry_at, Chain.times, Chain.inserted_at, Chain.IsSound, Insert.IsInsertion}
-use Rattle.chain_base.proofs.CallerLemmas.{inserted-capacity}
+use Rattle.std.proofs.Common.{◌≡◌, ◌≢◌, ℕ, ◌+◌, ◌≤◌, Option, List, arith, ap, is_some, true}
+use Rattle.chain_base.specs.{Chain.Entry, Chain.Chain, Chain.entry_at, Chain.times, Chain.IsSound, Insert.IsInsertion}
+use Rattle.chain_base.proofs.CallerLemmas.{after-insertion}
 use Rattle.arena_base.proofs.CallerLemmas.{limit_of-below}
 use Rattle.ord_tree.proofs.LeafBranches.{times-indexes, within-occupied}
 
@@ -15,5 +15,5 @@ module _ {T : Type 0} (most : ℕ) (greatest : Option ℕ) (c : Chain T) (sound 
   -- the index of a new entry
   pub inserted-named : (room : Chain T) (place : Entry T → List (Entry T)) (item : T) (i era : ℕ) → IsInsertion room c place item i era → i ≢ most + 1
   inserted-named room place item i era insertion = λ e.
-      let same : c.capacity ≡ (inserted_at room place item room.vacant).capacity = rw insertion.after refl in
-      omega (arith, insertion.vacant.within, same, inserted-capacity room place item room.vacant, sound.within_limit, limit_of-below most c.maximum, e)
+      let same : c.capacity ≡ room.capacity = ap (λ (d : Chain T). d.capacity) (after-insertion room c place item i era insertion).1 in
+      omega (arith, insertion.vacant.within, same, sound.within_limit, limit_of-below most c.maximum, e)

@@ -1,18 +1,17 @@
 -- A new entry behind all whose rank is at most its own: the order comes to rest.
-use Rattle.std.proofs.Common.{◌≡◌, ◌≢◌, ℕ, List, [], ◌∷◌, ◌++◌, map, Option, Some, None, IfSome, is_some, Result, Ok, Err, IfOk, OnErr, slice_get, refl, sym, ap}
+use Rattle.std.proofs.Common.{◌≡◌, ◌≢◌, ℕ, ◌∷◌, ◌++◌, map, Some, None, IfSome, Result, Ok, Err, IfOk, OnErr, refl, sym, ap}
 use Rattle.std.proofs.Common.{subst, ◌∙◌, ◌<◌, ◌≤◌, nat_lt, length, if◌then◌else◌}
 use Rattle.std.proofs.{lemmas.List.map-append, lemmas.List.length-map}
-use Rattle.std.specs.{declared.cmp.Ordering.TheVariants.Less, declared.cmp.Ordering.Ordering, List.AllByRecursion, Option.option_map}
+use Rattle.std.specs.{declared.cmp.Ordering.TheVariants.Less, List.AllByRecursion, Option.option_map}
 use Rattle.std.specs.Ordering.{nat_cmp}
-use Rattle.chain_base.specs.Chain.{Entry, Chain, times, item_of, IsSound, inserted_at}
+use Rattle.chain_base.specs.Chain.{Entry, Chain, times, item_of, IsSound}
 use Rattle.chain_base.specs.Insert.{IsInsertion}
-use Rattle.chain_base.proofs.CallerLemmas.{entry_at-absent}
+use Rattle.chain_base.proofs.CallerLemmas.{after-insertion, entry_at-absent}
 use Rattle.ord_tree.specs.Tree.{Tree}
-use Rattle.triple_ord.specs.Insertion.{Growth, reallocating, with_room_by, InsertsBy, InsertsNew}
-use Rattle.triple_ord.specs.declared.entry_kind.OrdEntryKind.TheVariants.{New, Replacing}
-use Rattle.triple_ord.specs.{Gap.Gap, Gap.before, Gap.after, Gap.with_between, declared.entry_kind.OrdEntryKind.OrdEntryKind}
-use Rattle.triple_ord.specs.{EntryKind.pointer_of_kind, Place.behind_key}
-use Rattle.triple_ord.proofs.CallerLemmas.{entries-with_room_by, numbers-with_room_by, capacity-with_room_by}
+use Rattle.triple_ord.specs.Insertion.{Growth, reallocating, with_room_by, InsertsNew}
+use Rattle.triple_ord.specs.{Gap.Gap, Gap.before, Gap.after, Gap.with_between}
+use Rattle.triple_ord.specs.{Place.behind_key}
+use Rattle.triple_ord.proofs.CallerLemmas.{entries-with_room_by, numbers-with_room_by, numbers-inserted, capacity-inserted}
 use Rattle.order_queue.specs.Layout.{greatest_generation, most_price, rank_of, ranked, resting, queue_of, AreRanked, IsArenaOfOrders}
 use Rattle.order_queue.specs.Queue.{Rests, Updates, IsNoWorse, IsWorse, most_orders, grown}
 use Rattle.order_queue.specs.declared.side.Side.{Side}
@@ -31,30 +30,14 @@ module _ (growth : Growth) (old new : Tree (ℕ × ℕ)) (d quantity : ℕ) (p :
   abbrev room : Chain (ℕ × ℕ)
   room = with_room_by growth most_orders old.list
 
-  -- the list with an entry in the gap, under this index and generation
-  abbrev put_list : List ℕ → ℕ → ℕ → Chain (ℕ × ℕ)
-  put_list vacant i g = record room { entries = gap.front ++ record { index = i; generation = g; item = (d, quantity) } ∷ gap.back; vacant = vacant }
-
   module _ (at_most_before : IfSome (before gap) (λ e. nat_cmp d e.item.0 ≢ Less)) (greater_after : IfSome (after gap) (λ e. nat_cmp d e.item.0 ≡ Less))
       (inserted : IsInsertion room new.list (with_between gap) (d, quantity) p.0 p.1)
       (sound : IsSound most_orders greatest_generation old.list) (holds : IsArenaOfOrders old) where
-    -- the list afterwards
-    after-put : (rest : List ℕ) × (new.list ≡ put_list rest p.0 p.1)
-    after-put = go room.vacant inserted.next inserted.after
-      where
-        go : (vacant : List ℕ) → slice_get vacant 0 ≡ Some p.0 → new.list ≡ inserted_at room (with_between gap) (d, quantity) vacant
-            → (rest : List ℕ) × (new.list ≡ put_list rest p.0 p.1)
-        go [] next after = absurd (cc)
-        go (j ∷ rest) next after =
-            let here : j ≡ p.0 = cc in
-            (rest, after ∙ ap (λ i. put_list rest i room.generation) here ∙ ap (λ g. put_list rest p.0 g) (sym inserted.generation))
-
     numbers-put : (new.list.generation ≡ old.list.generation) × (new.list.maximum ≡ old.list.maximum)
-    numbers-put = let numbers = numbers-with_room_by growth most_orders old.list in
-        (ap (λ (c : Chain (ℕ × ℕ)). c.generation) after-put.1 ∙ numbers.0, ap (λ (c : Chain (ℕ × ℕ)). c.maximum) after-put.1 ∙ numbers.1)
+    numbers-put = numbers-inserted growth most_orders old.list new.list (with_between gap) (d, quantity) p.0 p.1 inserted
 
     entries-put : new.list.entries ≡ gap.front ++ entry ∷ gap.back
-    entries-put = ap (λ (c : Chain (ℕ × ℕ)). c.entries) after-put.1
+    entries-put = ap (λ (c : Chain (ℕ × ℕ)). c.entries) (after-insertion room new.list (with_between gap) (d, quantity) p.0 p.1 inserted).1
 
     -- how the new entry lies to those before and behind it
     sorted : AreRanked (gap.front ++ gap.back)
@@ -81,7 +64,7 @@ module _ (growth : Growth) (old new : Tree (ℕ × ℕ)) (d quantity : ℕ) (p :
       -- the capacity grows where there was no room
       capacity-put : new.list.capacity ≡ (if nat_lt (length (queue_of side old).orders) old.list.capacity then old.list.capacity else grown old.list.capacity)
       capacity-put =
-          ap (λ (c : Chain (ℕ × ℕ)). c.capacity) after-put.1 ∙ capacity-with_room_by most_orders old.list sound.counted holds.unlimited growth (ap is_some inserted.next)
+          capacity-inserted growth most_orders old.list new.list (with_between gap) (d, quantity) p.0 p.1 inserted sound.counted holds.unlimited
           ∙ ap (λ n. if nat_lt n old.list.capacity then old.list.capacity else grown old.list.capacity) (sym (length-map old.list.entries (resting side)))
 
       absent-put : item_of old.list.entries p ≡ None
@@ -104,19 +87,6 @@ module _ (growth : Growth) (old new : Tree (ℕ × ℕ)) (d quantity : ℕ) (p :
         side = refl;
         capacity = capacity-put;
       }
-
--- an insertion behind a key makes a new entry
-module _ {P T K : Type 0} (key : T → K) (cmp : K → K → Ordering) (most : ℕ) (growth : Growth) (k : K) (numbers : P → ℕ × ℕ)
-    (old : Tree T) (item : T) (new : Tree T) where
-  abbrev IsNew : ℕ × ℕ → Type 0
-  IsNew p = InsertsNew key cmp most growth (behind_key k) old item p new
-
-  pub inserts-new : (told : OrdEntryKind P × Option T) → InsertsBy key cmp most growth (behind_key k) numbers old item (Ok told) new
-      → IsNew (numbers (pointer_of_kind told.0))
-  inserts-new (New p, None) inserts = inserts
-  inserts-new (New p, Some before) inserts = absurd inserts
-  inserts-new (Replacing p, None) inserts = absurd inserts
-  inserts-new (Replacing p, Some before) inserts = absurd inserts.place
 
 -- what an insertion behind the rank of its price makes of a queue
 module _ (growth : Growth) (side : Side) (old new : Tree (ℕ × ℕ)) (price quantity : ℕ) (p : ℕ × ℕ) (bounded : price ≤ most_price)

@@ -9,14 +9,14 @@ use Rattle.triple_ord.proofs.Words.{refl, sym, ap, subst, ◌∙◌, arith, inl,
 use Rattle.triple_ord.proofs.Words.{with_item, Gap, with_between, Equal, pointer, FindsKey, FindsSimilar, Aim, at_key, Replacing, OrdInsertKind, item_of, items, count, Updates, Renews, FindsBy}
 use Rattle.triple_ord.proofs.Words.{IsOfGeneration, IsNumbered, eq-eqb, cases_eq, option_map, Ordering, next_generation, item_if, Entry, Chain, times, FindsNothing, ◌<◌, Result, Err, ◌⊎◌}
 use Rattle.triple_ord.proofs.Words.{nil_from_length, Bor, IsSound, greatest_index, clone-same, Transferring, TransferStep, IsTransfer, FoldsTo, length-map, entry_at-absent, entry_at-without_other}
-use Rattle.triple_ord.proofs.Words.{IsDistinct, removed, renewed, inserted_at, IsInsertion, moved, at_compressed_index, numbered, entry_at-numbered_before, generation-numbered, items-numbered}
+use Rattle.triple_ord.proofs.Words.{IsDistinct, removed, renewed, after-insertion, IsInsertion, moved, at_compressed_index, numbered, entry_at-numbered_before, generation-numbered, items-numbered}
 use Rattle.triple_ord.proofs.Words.{generation-moved, generation-relocated, length-with_generation, entry_at-between_other, entry_at-between, length-between, entry_at-numbered, entry_at-without}
 use Rattle.triple_ord.proofs.Words.{length-without, entry_at-with_item_among_other, entry_at-with_item_among, length-with_item_among, entry_at-with_generation_other, entry_at-with_generation}
 use Rattle.triple_ord.proofs.Inserting.{entry_at-after, similar-here, IsInsertion-same}
 use Rattle.triple_ord.proofs.Words.{common_steps, refused-some, Shape, within, reallocating, next_index, true}
-use Rattle.chain_base.proofs.CallerLemmas.{roomy_capacity, capacity-vacant, capacity-with_room}
+use Rattle.chain_base.proofs.CallerLemmas.{with_new, roomy_capacity, capacity-vacant, capacity-with_room}
 use Rattle.triple_ord.specs.{Arena.entry_at, Clone.cloned, Clone.refused_clone, Entry.InsertsThere, Entry.Awaits, Entry.IsEntryFor}
-use Rattle.triple_ord.specs.{EntryKind.pointer_of_kind, declared.insert_kind.OrdInsertKind.TheVariants.Normal}
+use Rattle.triple_ord.specs.{EntryKind.pointer_of_kind, Insertion.InsertsNew, Place.behind_key, declared.insert_kind.OrdInsertKind.TheVariants.Normal}
 
 -- what an entry shows to its own generation, and to others
 pub item_if-own : {T : Type 0} (g : ℕ) (o : Option T) → item_if g (option_map (λ x. (g, x)) o) ≡ o
@@ -96,10 +96,7 @@ module _ {T : Type 0} where
     entry = record { index = p.0; generation = p.1; item = item }
 
     listed : new.list.entries ≡ gap.front ++ entry ∷ gap.back
-    listed = ap (λ (c : Chain T). c.entries) inserted.after ∙ first room.vacant inserted.next
-      where
-        first : (vacant : List ℕ) → slice_get vacant 0 ≡ Some p.0 → (inserted_at room (with_between gap) item vacant).entries ≡ gap.front ++ entry ∷ gap.back
-        first vacant next = grind (arith, common_steps, inserted.generation)
+    listed = ap (λ (c : Chain T). c.entries) (after-insertion room new.list (with_between gap) item p.0 p.1 inserted).1
 
     unused : times p.0 (gap.front ++ gap.back) ≡ 0
     unused = ap (times p.0) (sym gap.cut) ∙ ap (times p.0) (sym roomy) ∙ inserted.vacant.free
@@ -163,6 +160,30 @@ module _ {T : Type 0} where
     pub capacity-with_room_by : (growth : Growth) → let d = with_room_by growth most c in is_some (next_index d) ≡ true → d.capacity ≡ roomy_capacity most c
     capacity-with_room_by within some = capacity-vacant most c counted some
     capacity-with_room_by reallocating some = capacity-with_room most c counted unlimited
+
+  -- a new entry keeps generation and maximum, and the capacity that there is with room for it
+  module _ (growth : Growth) (most : ℕ) (old new : Chain T) (place : Entry T → List (Entry T)) (item : T) (i g : ℕ)
+      (inserted : IsInsertion (with_room_by growth most old) new place item i g) where
+    after : (rest : List ℕ) × (new ≡ with_new (with_room_by growth most old) place item i g rest)
+    after = after-insertion (with_room_by growth most old) new place item i g inserted
+
+    pub numbers-inserted : (new.generation ≡ old.generation) × (new.maximum ≡ old.maximum)
+    numbers-inserted = let numbers = numbers-with_room_by growth most old in
+        (ap (λ (c : Chain T). c.generation) after.1 ∙ numbers.0, ap (λ (c : Chain T). c.maximum) after.1 ∙ numbers.1)
+
+    pub capacity-inserted : length old.entries + length old.vacant ≡ old.capacity → old.maximum ≡ None → new.capacity ≡ roomy_capacity most old
+    capacity-inserted counted unlimited =
+        ap (λ (c : Chain T). c.capacity) after.1 ∙ capacity-with_room_by most old counted unlimited growth (ap is_some inserted.next)
+
+-- an insertion behind a key makes a new entry
+module _ {P T K : Type 0} (key : T → K) (cmp : K → K → Ordering) (most : ℕ) (growth : Growth) (k : K) (numbers : P → ℕ × ℕ)
+    (old : Tree T) (item : T) (new : Tree T) where
+  pub inserts-new : (told : OrdEntryKind P × Option T) → InsertsBy key cmp most growth (behind_key k) numbers old item (Ok told) new
+      → InsertsNew key cmp most growth (behind_key k) old item (numbers (pointer_of_kind told.0)) new
+  inserts-new (New p, None) inserts = inserts
+  inserts-new (New p, Some before) inserts = absurd inserts
+  inserts-new (Replacing p, None) inserts = absurd inserts
+  inserts-new (Replacing p, Some before) inserts = absurd inserts.place
 
 -- an insertion through an entry that was asked for is one step over its place
 module _ {T K : Type 0} (key : T → K) (cmp : K → K → Ordering) where

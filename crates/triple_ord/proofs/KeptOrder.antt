@@ -1,7 +1,7 @@
 -- An insertion by a key leaves a list in the order of its keys so.
-use Rattle.triple_ord.proofs.Words.{arith, ◌≡◌, ◌≢◌, ℕ, List, [], ◌∷◌, ◌++◌, Option, Some, None, IfSome, Result, Ok, Err, refl, sym, ap, Less, Equal, Greater, Entry, Chain, IsDistinct, inserted_at}
+use Rattle.triple_ord.proofs.Words.{arith, ◌≡◌, ◌≢◌, ℕ, List, [], ◌∷◌, ◌++◌, Option, Some, None, IfSome, Result, Ok, Err, refl, sym, ap, Less, Equal, Greater, Entry, Chain, IsDistinct, after-insertion}
 use Rattle.triple_ord.proofs.Words.{with_item_among, IsInsertion, Tree, Gap, first_of, last_of, before, after, with_between, IsFirstEqual, IsInOrder, Aim, into, over, LiesBehind, subst, ◌∙◌, inl, inr}
-use Rattle.triple_ord.proofs.Words.{slice_get, IfSome_then, IsTotalOrder, alike_right, ordering_reverse, Ordering, IsPlace, InsertsBy, GoesBy, KeptOrderLaw, OrdEntryKind, New, Replacing}
+use Rattle.triple_ord.proofs.Words.{IfSome_then, IsTotalOrder, alike_right, ordering_reverse, Ordering, IsPlace, InsertsBy, GoesBy, KeptOrderLaw, OrdEntryKind, New, Replacing}
 use Rattle.triple_ord.proofs.Words.{OrdInsertionError}
 use Rattle.triple_ord.proofs.{OrderLaws.IsInOrder-rest, OrderLaws.in_order-one, OrderLaws.in_order-more, Inserting.begins, Inserting.with_item-here}
 
@@ -12,11 +12,8 @@ pub record IsListed {T : Type 0} (put : Entry T → List (Entry T)) (item : T) (
   pub listed : es ≡ put entry
 
 pub listed-new : {T : Type 0} (c d : Chain T) (put : Entry T → List (Entry T)) (item : T) (i g : ℕ) → IsInsertion c d put item i g → IsListed put item d.entries
-listed-new {T} c d put item i g ins = go c.vacant ins.next (ap (λ (x : Chain T). x.entries) ins.after)
-  where
-    go : (vacant : List ℕ) → slice_get vacant 0 ≡ Some i → d.entries ≡ (inserted_at c put item vacant).entries → IsListed put item d.entries
-    go [] next is = absurd (cc)
-    go (j ∷ rest) next is = record { entry = record { index = j; generation = c.generation; item = item }; has = refl; listed = is }
+listed-new {T} c d put item i g ins =
+    record { entry = record { index = i; generation = g; item = item }; has = refl; listed = ap (λ (x : Chain T). x.entries) (after-insertion c d put item i g ins).1 }
 
 module _ {T K : Type 0} (key : T → K) (cmp : K → K → Ordering) (total : IsTotalOrder cmp) where
   -- a new entry between one that isn't greater and one that isn't lesser

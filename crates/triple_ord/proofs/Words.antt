@@ -28,9 +28,9 @@ pub use Rattle.chain_base.proofs.CallerLemmas.{entry_at-between_other, entry_at-
 pub use Rattle.chain_base.proofs.CallerLemmas.{entry_at-numbered_before, generation-numbered, items-numbered, generation-moved}
 pub use Rattle.chain_base.proofs.CallerLemmas.{generation-relocated, clone-same, refused-some, length-entries, compressed-at}
 pub use Rattle.chain_base.proofs.CallerLemmas.{compressed-length, entry_at-compressed, occurs-entry, below-greatest, greatest-or_none}
-pub use Rattle.chain_base.proofs.CallerLemmas.{times-greatest, below-greatest_index, times-append, relocated-items}
+pub use Rattle.chain_base.proofs.CallerLemmas.{times-greatest, below-greatest_index, times-append, relocated-items, after-insertion}
 pub use Rattle.chain_base.specs.Chain.{Entry, Chain, entry_at, first_or, link_between, link_at, last_pointer, times, generation_at}
-pub use Rattle.chain_base.specs.Chain.{IsFirstIndex, IsLastIndex, IsArenaOf, IsSound, IsDistinct, removed, renewed, inserted_at, next_index}
+pub use Rattle.chain_base.specs.Chain.{IsFirstIndex, IsLastIndex, IsArenaOf, IsSound, IsDistinct, removed, renewed, next_index}
 pub use Rattle.chain_base.specs.Chain.{greatest_index, from_index, insert_after, insert_before, with_item_among, new_chain}
 pub use Rattle.chain_base.specs.Compression.{moved, at_compressed_index, numbered, Transferring, TransferStep, IsTransfer, entry_before}
 pub use Rattle.chain_base.specs.{Compression.rising_among, Compression.entries_rising, Insert.IsInsertion, Link.Link}

@@ -1,9 +1,8 @@
 use Rattle.std.proofs.Common.{ℕ, ap, subst, ◌∙◌, ◌≡◌, nat_cmp, rules}
 use Rattle.triple_ord.specs.{declared.insert_kind.OrdInsertKind.TheVariants.Nonhereditary, Insertion.within, Insertion.InsertsNew}
 use Rattle.triple_ord.specs.{EntryKind.pointer_of_kind, Place.behind_key}
-use Rattle.triple_ord.proofs.CallerLemmas.{entry-inserts}
+use Rattle.triple_ord.proofs.CallerLemmas.{entry-inserts, inserts-new}
 use Rattle.agenda.specs.{Layout.deadline_of, Agenda.most_jobs}
-use Rattle.agenda.proofs.Putting.{inserts-new}
 use Rattle.agenda.proofs.jobs.put_within.Goals as goal
 
 pub returns-clause-inserted : goal.returns-clause-inserted

@@ -1,9 +1,8 @@
 use Rattle.std.proofs.Common.{ℕ, ap, subst, ◌∙◌, ◌≡◌, nat_cmp, rules}
 use Rattle.triple_ord.specs.{declared.insert_kind.OrdInsertKind.TheVariants.Nonhereditary, Insertion.reallocating, Insertion.InsertsNew}
 use Rattle.triple_ord.specs.{EntryKind.pointer_of_kind, Place.behind_key}
-use Rattle.triple_ord.proofs.CallerLemmas.{entry-inserts}
+use Rattle.triple_ord.proofs.CallerLemmas.{entry-inserts, inserts-new}
 use Rattle.order_queue.specs.{Queue.most_orders, Layout.rank_of}
-use Rattle.order_queue.proofs.Putting.{inserts-new}
 use Rattle.order_queue.proofs.orders.put.Goals as goal
 
 pub returns-in-Ok-clause-ok : goal.returns-in-Ok-clause-ok
