@@ -1,4 +1,5 @@
-//! Tests of `ord_script`, as a program that depends on it sees it: the worked examples, and what no clause can say.
+//! Tests of `ord_script`, as a program that depends on it sees it: the worked examples, broken input, failing devices, heaps of little
+//! room, and what else no clause can say.
 #![tactic(auto)]
 
 #[cfg(test)]

@@ -5,11 +5,17 @@ ghost use Rattle.std.specs.Cmp.Rules.{comparing};
 ghost use Rattle.std.specs.Ordering.{nat_cmp, on, as_partial_cmp};
 
 mod closures;
+mod disorder;
 mod drains;
+mod each_call;
 mod entries;
+mod equal_keys;
 mod every_order;
 mod hints;
 mod rebuild;
+mod recast_transfer;
+mod recasting;
+mod refusals;
 mod removal;
 mod slots;
 mod walks;

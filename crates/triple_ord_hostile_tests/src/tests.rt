@@ -1,3 +1,0 @@
-//! Refused memory and disorder.
-mod disorder;
-mod refusals;
