@@ -40,10 +40,10 @@ module _ {T : Type 0} where
           go true some = capacity-vacant some
           go false none = full c.vacant counted none
 
-  pub capacity-kept : {P E : Type 0} (old new : Chain T) (place : Entry T → List (Entry T)) (item : T) (numbers : P → ℕ × ℕ) (r : Result P E)
-      → IfOk r (λ p. IsInsertion old new place item (numbers p).0 (numbers p).1) → OnErr r (new ≡ old) → new.capacity ≡ old.capacity
-  capacity-kept old new place item numbers (Ok p) inserted same = ap (λ (c : Chain T). c.capacity) (after-insertion old new place item (numbers p).0 (numbers p).1 inserted).1
-  capacity-kept old new place item numbers (Err e) inserted same = ap (λ (c : Chain T). c.capacity) same
+  module _ {P E : Type 0} (old new : Chain T) (place : Entry T → List (Entry T)) (item : T) (numbers : P → ℕ × ℕ) where
+    pub capacity-kept : (r : Result P E) → IfOk r (λ p. IsInsertion old new place item (numbers p).0 (numbers p).1) → OnErr r (new ≡ old) → new.capacity ≡ old.capacity
+    capacity-kept (Ok p) inserted same = ap (λ (c : Chain T). c.capacity) (after-insertion old new place item (numbers p).0 (numbers p).1 inserted).1
+    capacity-kept (Err e) inserted same = ap (λ (c : Chain T). c.capacity) same
 
   -- an index that no entry has is among the vacant ones, so that there is a first of them
   vacant_among-some : (es : List (Entry T)) (from count k : ℕ) → from ≤ k → k < from + count → times k es ≡ 0 → IsSome (slice_get (vacant_among es from count) 0)

@@ -178,8 +178,11 @@ module _ {T : Type 0} where
 -- an insertion behind a key makes a new entry
 module _ {P T K : Type 0} (key : T → K) (cmp : K → K → Ordering) (most : ℕ) (growth : Growth) (k : K) (numbers : P → ℕ × ℕ)
     (old : Tree T) (item : T) (new : Tree T) where
+  abbrev IsNew : ℕ × ℕ → Type 0
+  IsNew p = InsertsNew key cmp most growth (behind_key k) old item p new
+
   pub inserts-new : (told : OrdEntryKind P × Option T) → InsertsBy key cmp most growth (behind_key k) numbers old item (Ok told) new
-      → InsertsNew key cmp most growth (behind_key k) old item (numbers (pointer_of_kind told.0)) new
+      → IsNew (numbers (pointer_of_kind told.0))
   inserts-new (New p, None) inserts = inserts
   inserts-new (New p, Some before) inserts = absurd inserts
   inserts-new (Replacing p, None) inserts = absurd inserts
