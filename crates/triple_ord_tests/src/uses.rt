@@ -1,4 +1,4 @@
-//! The scheduler, its rounds, the entries and the catalogue.
+//! The uses of `triple_ord_uses`, run: the scheduler, its rounds, the entries and the catalogue.
 
 use std::alloc::Global;
 use std::test::Fail;
