@@ -1,4 +1,4 @@
-use Rattle.ord_tree_tests.proofs.tests.rebuild.+add_run.Given as goal
+use Rattle.container_tests.proofs.trees.rebuild.+add_run.Given as goal
 
 abbrev pub decreases-add_run : goal.decreases-add_run
 decreases-add_run l = l.len

@@ -17,7 +17,7 @@ const COMPRESSED: &[Entry] = &[(2, 2, 'c'), (3, 2, 'd'), (1, 2, 'a')];
 
 #[test]
 fn a_compression_calls_once_an_entry(rt: HostRuntime) {
-    let mut chain = scattered(&rt, rt.alloc());
+    let mut chain = scattered(rt.alloc());
     assert!(rt; compress_calling(&mut chain) == (InvalidationOption::Success(()), 3));
     assert!(rt; is_listed(&chain, COMPRESSED));
 }

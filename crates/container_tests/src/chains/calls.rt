@@ -1,7 +1,6 @@
 //! Calls in a row, with what each gives and leaves.
 use super::{Entry, Letters, Place, insert, is_listed};
 use arena_base::{InvalidationOption, Ptr};
-use std::process::Abort;
 
 /// A call on a chain of letters.
 #[derive(Clone, Copy)]
@@ -15,10 +14,10 @@ enum Call {
 /// Index and generation of the entry that a call adds or takes, or nothing where it is refused.
 type Given = Option<(u32, u64)>;
 
-fn given(rt: &impl Abort, chain: &mut Letters, call: Call) -> Given {
+fn given(chain: &mut Letters, call: Call) -> Given {
     match call {
         Call::Insert(place, letter) => {
-            let p = insert(rt, chain, place, letter).ok()?;
+            let p = insert(chain, place, letter)?.ok()?;
             Some((p.inx(), p.generation()))
         }
         Call::Remove(i) => Some((i, chain.remove_inx_link_no_gen(i).allow()?.0)),
@@ -134,9 +133,9 @@ const ROWS: &[Row] = &[
 ];
 
 /// Whether a call gives and leaves what its row says.
-fn is_right(rt: &impl Abort, chain: &mut Letters, row: &Row) -> bool {
+fn is_right(chain: &mut Letters, row: &Row) -> bool {
     let (call, wanted, left, counts) = row;
-    given(rt, chain, *call) == *wanted
+    given(chain, *call) == *wanted
         && is_listed(chain, left)
         && (chain.capacity(), chain.generation()) == *counts
 }
@@ -145,6 +144,6 @@ fn is_right(rt: &impl Abort, chain: &mut Letters, row: &Row) -> bool {
 fn calls_give_and_leave(rt: HostRuntime) {
     let mut chain = Letters::with_min_capacity(rt.alloc(), 3).expect(&rt, "memory");
     for row in ROWS {
-        assert!(rt; is_right(&rt, &mut chain, row));
+        assert!(rt; is_right(&mut chain, row));
     }
 }

@@ -3,7 +3,6 @@ use super::{Counts, counts, p0};
 use arena_base::{Arena, P0, Ptr, ReallocationError, Recast, laws};
 use linked_list_allocator::LocalHeap;
 use std::alloc::{AllocError, Global};
-use std::process::Abort;
 
 /// Three entries at the indexes 2, 3 and 5, two of them of the first generation; indexes 4 and 1 were freed, in this order.
 fn source(alloc: Global) -> Arena<P0, char> {
@@ -69,23 +68,13 @@ const LEFT: [Left; 3] = [
 ];
 
 /// Which of these it is.
-fn case_of(rt: &impl Abort, left: &Left) -> usize {
-    let mut case = 0usize;
-    for wanted in &LEFT {
+fn case_of(left: &Left) -> Option<usize> {
+    for (case, wanted) in LEFT.iter().enumerate() {
         if *wanted == *left {
-            return case;
+            return Some(case);
         }
-        case = case.wrapping_add(1);
     }
-    panic!(rt; "a known case")
-}
-
-/// What is left by a clone on a heap of so many units, on which nothing is left in the end.
-fn left_by(rt: &impl Abort, alloc: Global, units: usize, source: &Arena<P0, char>) -> Option<Left> {
-    let heap = LocalHeap::new(alloc, units.saturating_mul(16)).expect(rt, "a heap");
-    let left = left_on(&heap, source);
-    assert!(rt; heap.used() == 0);
-    left
+    None
 }
 
 #[test]
@@ -93,9 +82,11 @@ fn each_refused_request_of_a_clone(rt: HostRuntime) {
     let source = source(rt.alloc());
     let mut is_met = [false; 3];
     for units in 1..128usize {
-        if let Some(left) = left_by(&rt, rt.alloc(), units, &source) {
-            is_met[case_of(&rt, &left) % 3] = true;
+        let heap = LocalHeap::new(rt.alloc(), 16 * units).expect(&rt, "a heap");
+        if let Some(left) = left_on(&heap, &source) {
+            is_met[case_of(&left).expect(&rt, "a known case") % 3] = true;
         }
+        assert!(rt; heap.used() == 0);
     }
     assert!(rt; is_met == [true; 3]);
 }

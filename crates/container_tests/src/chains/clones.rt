@@ -32,7 +32,7 @@ fn clone_all(chain: &mut Letters, source: &Letters) -> (Result<(), ReallocationE
 
 #[test]
 fn a_clone_has_the_pointers_in_order(rt: HostRuntime) {
-    let source = scattered(&rt, rt.alloc());
+    let source = scattered(rt.alloc());
     let mut chain = Letters::new(rt.alloc());
     assert!(rt; clone_all(&mut chain, &source) == (Ok(()), 3));
     assert!(rt; is_listed(&chain, SCATTERED));
@@ -41,7 +41,7 @@ fn a_clone_has_the_pointers_in_order(rt: HostRuntime) {
 
 #[test]
 fn a_refused_item_leaves_no_entry(rt: HostRuntime) {
-    let source = scattered(&rt, rt.alloc());
+    let source = scattered(rt.alloc());
     let mut chain = Letters::new(rt.alloc());
     assert!(rt; clone_but(&mut chain, &source, 0) == (Ok(()), 3));
     assert!(rt; chain.len() == 3);

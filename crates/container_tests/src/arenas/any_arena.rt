@@ -2,7 +2,6 @@
 use super::{numbers, p0};
 use arena_base::{Arena, ArenaTrait, P0, PtrGen, PtrInx, SetMaxCapacity, laws};
 use std::alloc::Global;
-use std::process::Abort;
 
 /// The numbers of an arena: entries, capacity, and those of the first and of the last pointer by index.
 fn ends<A: ArenaTrait<P0, u64>>(
@@ -50,18 +49,18 @@ fn is_an_arena<A: ArenaTrait<P0, u64> + SetMaxCapacity<P0, u64>>(arena: &mut A) 
         && is_emptied(arena)
 }
 
-/// The items 10 and 20 at the indexes 1 and 2, and a capacity of 4.
-fn two(rt: &impl Abort, alloc: Global) -> Arena<P0, u64> {
-    let mut arena: Arena<P0, u64> = ArenaTrait::with_min_capacity(alloc, 4).expect(rt, "memory");
+/// The items 10 and 20 at the indexes 1 and 2, and a capacity of 4; nothing where memory is refused.
+fn two(alloc: Global) -> Option<Arena<P0, u64>> {
+    let mut arena: Arena<P0, u64> = ArenaTrait::with_min_capacity(alloc, 4).ok()?;
     for item in &[10u64, 20] {
         let _ = arena.insert_within_capacity(*item);
     }
-    arena
+    Some(arena)
 }
 
 #[test]
 fn as_any_arena(rt: HostRuntime) {
-    let mut arena = two(&rt, rt.alloc());
+    let mut arena = two(rt.alloc()).expect(&rt, "memory");
     assert!(rt; is_an_arena(&mut arena));
 }
 

@@ -1,7 +1,6 @@
 //! Insertions and removals in every order, beside a plain vector.
 use super::{Keys, Place, moved, places, toggle};
 use std::alloc::Global;
-use std::process::Abort;
 
 /// The rank of a child.
 fn rank_at(places: &[Place], index: Option<u32>) -> u8 {
@@ -53,22 +52,22 @@ fn is_balanced(places: &[Place], root: Option<u32>, sorted: &[u8]) -> bool {
 }
 
 /// The order of the keys from 1 to `count` that has this number among all orders.
-fn order_of(rt: &impl Abort, alloc: Global, count: u8, number: usize) -> Vec<u8> {
+fn order_of(alloc: Global, count: u8, number: usize) -> Vec<u8> {
     let mut order = Vec::new(alloc);
     let mut number = number;
     for key in 1..=count {
         let places = order.len().saturating_add(1);
-        order.insert(number % places, key).expect(rt, "memory");
+        let _ = order.insert(number % places, key);
         number /= places;
     }
     order
 }
 
 /// Inserts or removes a key in a plain vector. Answers how many parents the tree may move.
-fn toggle_sorted(rt: &impl Abort, sorted: &mut Vec<u8>, key: u8) -> usize {
+fn toggle_sorted(sorted: &mut Vec<u8>, key: u8) -> usize {
     match sorted.binary_search(&key) {
         Err(at) => {
-            sorted.insert(at, key).expect(rt, "memory");
+            let _ = sorted.insert(at, key);
             5
         }
         Ok(at) => {
@@ -86,28 +85,31 @@ struct Both {
     sorted: Vec<u8>,
 }
 
-/// Inserts or removes a key in both, which must agree. Only a removal leaves a tree that isn't tight.
-fn toggle_in_both(rt: &impl Abort, alloc: Global, both: &mut Both, key: u8, stays_tight: bool) {
-    toggle(rt, &mut both.tree, &both.places, key);
-    let most = toggle_sorted(rt, &mut both.sorted, key);
-    let new = places(rt, alloc, &both.tree);
-    assert!(rt;
-        is_balanced(&new, both.tree.root(), &both.sorted) && moved(&both.places, &new) <= most
-    );
-    assert!(rt; !stays_tight || is_tight(&new));
+/// Inserts or removes a key in both. Tells whether they agree then: only a removal leaves a tree that isn't tight.
+fn agree_on(alloc: Global, both: &mut Both, key: u8, stays_tight: bool) -> bool {
+    let is_done = toggle(&mut both.tree, &both.places, key);
+    let most = toggle_sorted(&mut both.sorted, key);
+    let new = places(alloc, &both.tree);
+    let is_right = is_done
+        && is_balanced(&new, both.tree.root(), &both.sorted)
+        && moved(&both.places, &new) <= most
+        && (!stays_tight || is_tight(&new));
     both.places = new;
+    is_right
 }
 
-/// Inserts or removes keys one after another, in a tree and in a plain vector.
-fn toggle_all_in_both(rt: &impl Abort, alloc: Global, keys: &[u8], stays_tight: bool) {
+/// Whether a tree and a plain vector agree after each of these keys, which are inserted or removed one after another.
+fn agree_on_all(alloc: Global, keys: &[u8], stays_tight: bool) -> bool {
     let mut both = Both {
         tree: Keys::new(alloc),
         places: Vec::new(alloc),
         sorted: Vec::new(alloc),
     };
+    let mut agree = true;
     for key in keys {
-        toggle_in_both(rt, alloc, &mut both, *key, stays_tight);
+        agree = agree_on(alloc, &mut both, *key, stays_tight) && agree;
     }
+    agree
 }
 
 #[test]
@@ -116,8 +118,9 @@ fn keeps_the_balance_in_every_order(rt: HostRuntime) {
     for count in 1..=7u8 {
         orders = orders.saturating_mul(usize::from(count));
         for number in 0..orders {
-            let order = order_of(&rt, rt.alloc(), count, number);
-            toggle_all_in_both(&rt, rt.alloc(), &order, true);
+            let order = order_of(rt.alloc(), count, number);
+            assert!(rt; order.len() == usize::from(count));
+            assert!(rt; agree_on_all(rt.alloc(), &order, true));
         }
     }
 }
@@ -125,7 +128,7 @@ fn keeps_the_balance_in_every_order(rt: HostRuntime) {
 #[test]
 fn inserts_and_removes_in_every_mix(rt: HostRuntime) {
     for word in 0..78_125usize {
-        toggle_all_in_both(&rt, rt.alloc(), &digits_of(word), false);
+        assert!(rt; agree_on_all(rt.alloc(), &digits_of(word), false));
     }
 }
 

@@ -3,7 +3,6 @@ use super::{Keys, Place, insert_at, places};
 use arena_base::{InvalidationOption, P0, Ptr, ReallocationError};
 use std::alloc::{AllocError, Global};
 use std::cmp::Ordering;
-use std::process::Abort;
 
 /// The index in the middle of a run.
 fn middle_of(start: u32, len: u32) -> Option<u32> {
@@ -50,8 +49,8 @@ fn add_run(
     add_run(places, after, rest, Some(index), below)
 }
 
-/// The places of the rebuilt tree of `len` entries, whose indexes rise from 1.
-fn rebuilt(rt: &impl Abort, alloc: Global, len: u32) -> Vec<Place> {
+/// The places of the rebuilt tree of `len` entries, whose indexes rise from 1, as far as there is memory.
+fn rebuilt(alloc: Global, len: u32) -> Vec<Place> {
     let (mut power, mut top) = (1u32, 1u8);
     for _ in 0..32 {
         if power < len.saturating_sub(1) {
@@ -60,32 +59,35 @@ fn rebuilt(rt: &impl Abort, alloc: Global, len: u32) -> Vec<Place> {
         }
     }
     let mut places = Vec::new(alloc);
-    add_run(&mut places, 1, len, None, top).expect(rt, "memory");
+    let _ = add_run(&mut places, 1, len, None, top);
     places
 }
 
-/// Inserts `len` entries, each behind the last, so that their indexes rise from 1. Their keys are never asked.
-fn fill(rt: &impl Abort, tree: &mut Keys, len: u32) {
+/// Inserts `len` entries, each behind the last, so that their indexes rise from 1. Their keys are never asked. Tells whether it is done.
+fn fill(tree: &mut Keys, len: u32) -> bool {
     let mut last = None;
     for _ in 0..len {
-        let p = insert_at(rt, tree, last, 0).expect(rt, "memory");
+        let Some(Ok(p)) = insert_at(tree, last, 0) else {
+            return false;
+        };
         last = Some((p.inx(), Ordering::Greater));
     }
+    true
 }
 
 /// Whether a tree is what the recursive function says.
-fn is_rebuilt(rt: &impl Abort, alloc: Global, tree: &Keys, len: u32) -> bool {
-    let found = places(rt, alloc, tree);
-    found.as_slice() == rebuilt(rt, alloc, len).as_slice() && tree.root() == middle_of(1, len)
+fn is_rebuilt(alloc: Global, tree: &Keys, len: u32) -> bool {
+    let found = places(alloc, tree);
+    found.len() == tree.len()
+        && found.as_slice() == rebuilt(alloc, len).as_slice()
+        && tree.root() == middle_of(1, len)
 }
 
-/// Rebuilds a tree of `len` entries.
-fn rebuild(rt: &impl Abort, alloc: Global, len: u32) -> Keys {
-    let mut tree = Keys::new(alloc);
-    fill(rt, &mut tree, len);
+/// Rebuilds a tree of `len` entries. Tells whether it is what the recursive function says then.
+fn rebuild(alloc: Global, tree: &mut Keys, len: u32) -> bool {
+    let is_filled = fill(tree, len);
     let _ = tree.compress(false);
-    assert!(rt; is_rebuilt(rt, alloc, &tree, len));
-    tree
+    is_filled && is_rebuilt(alloc, tree, len)
 }
 
 #[test]
@@ -94,7 +96,7 @@ fn rebuilds_in_halves(rt: HostRuntime) {
         511, 512, 513, 1023, 1024, 1025, 2047, 2048, 2049, 4095, 4096, 4097,
     ];
     for len in (0..301u32).chain(powers) {
-        let _ = rebuild(&rt, rt.alloc(), len);
+        assert!(rt; rebuild(rt.alloc(), &mut Keys::new(rt.alloc()), len));
     }
 }
 
@@ -124,8 +126,9 @@ fn has_ranks(places: &[Place], wanted: &[u8]) -> bool {
 #[test]
 fn ranks_after_a_rebuild(rt: HostRuntime) {
     for (len, ranks) in RANKS {
-        let tree = rebuild(&rt, rt.alloc(), *len);
-        assert!(&rt; has_ranks(&places(&rt, rt.alloc(), &tree), ranks));
+        let mut tree = Keys::new(rt.alloc());
+        assert!(rt; rebuild(rt.alloc(), &mut tree, *len));
+        assert!(rt; has_ranks(&places(rt.alloc(), &tree), ranks));
     }
 }
 
@@ -146,28 +149,25 @@ fn transfer_all(tree: &mut Keys, source: &mut Keys) -> (Result<(), ReallocationE
 /// Lets a tree that may hold `maximum` entries take over `len` from another one. Tells how, and whether one of both is as the recursive
 /// function says then.
 fn taken(
-    rt: &impl Abort,
     alloc: Global,
     len: u32,
     maximum: usize,
 ) -> (Result<(), ReallocationError>, u32, usize, bool) {
-    let mut source = Keys::new(alloc);
-    fill(rt, &mut source, len);
-    let mut tree = Keys::new(alloc);
-    fill(rt, &mut tree, 1);
+    let (mut source, mut tree) = (Keys::new(alloc), Keys::new(alloc));
+    let is_filled = fill(&mut source, len) && fill(&mut tree, 1);
     let _ = tree.reallocate_min_capacity(0);
     let _ = tree.set_max_capacity(maximum);
     let (outcome, calls) = transfer_all(&mut tree, &mut source);
-    let is_right = is_rebuilt(rt, alloc, &tree, if outcome.is_ok() { len } else { 1 });
-    (outcome, calls, source.len(), is_right)
+    let is_right = is_rebuilt(alloc, &tree, if outcome.is_ok() { len } else { 1 });
+    (outcome, calls, source.len(), is_filled && is_right)
 }
 
 #[test]
 fn transfers_at_the_limit(rt: HostRuntime) {
     for len in 1..40u32 {
-        let found = taken(&rt, rt.alloc(), len, len as usize);
+        let found = taken(rt.alloc(), len, len as usize);
         assert!(&rt; found == (Ok(()), len, 0, true));
     }
     let refusal = Err(ReallocationError::BeyondMaxCapacity);
-    assert!(&rt; taken(&rt, rt.alloc(), 4, 3) == (refusal, 0, 4, true));
+    assert!(&rt; taken(rt.alloc(), 4, 3) == (refusal, 0, 4, true));
 }

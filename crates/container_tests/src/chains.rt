@@ -7,7 +7,6 @@ mod rebuild;
 use arena_base::{Advancer, InsertionError, InvalidationOption, ItemsMut, P0, Ptr};
 use chain_base::{ChainArena, ChainPtrAdvancer, LinkInsertKind};
 use std::alloc::{Allocator, Global};
-use std::process::Abort;
 
 type Letters<A = Global> = ChainArena<P0, char, A>;
 
@@ -19,28 +18,19 @@ enum Place {
     Before(u32),
 }
 
-/// Inserts a letter at its place.
+/// Inserts a letter at its place. Answers what the call gives; nothing where the chain has no such place.
 fn insert<A: Allocator>(
-    rt: &impl Abort,
     chain: &mut Letters<A>,
     place: Place,
     letter: char,
-) -> Result<P0, InsertionError> {
+) -> Option<Result<P0, InsertionError>> {
     let kind = match place {
-        Place::Alone => {
-            assert!(rt; chain.is_empty());
-            LinkInsertKind::Disconnected
-        }
-        Place::After(i) => {
-            assert!(rt; chain.contains_inx(i));
-            LinkInsertKind::NextToInx(i)
-        }
-        Place::Before(i) => {
-            assert!(rt; chain.contains_inx(i));
-            LinkInsertKind::PrevToInx(i)
-        }
+        Place::Alone if chain.is_empty() => LinkInsertKind::Disconnected,
+        Place::After(i) if chain.contains_inx(i) => LinkInsertKind::NextToInx(i),
+        Place::Before(i) if chain.contains_inx(i) => LinkInsertKind::PrevToInx(i),
+        _ => return None,
     };
-    chain.insert_reallocating(kind, letter)
+    Some(chain.insert_reallocating(kind, letter))
 }
 
 /// Index, generation and letter of an entry.
@@ -96,10 +86,10 @@ const PLACED: [(Place, char); 4] = [
 ];
 
 /// The list c, d, a with the indexes 2, 4, 1, the index 3 being vacant, and the generation 3.
-fn scattered(rt: &impl Abort, alloc: Global) -> Letters {
+fn scattered(alloc: Global) -> Letters {
     let mut chain = Letters::new(alloc);
     for (place, letter) in &PLACED {
-        let _ = insert(rt, &mut chain, *place, *letter);
+        let _ = insert(&mut chain, *place, *letter);
     }
     let _ = chain.remove_inx_link_no_gen(3);
     chain

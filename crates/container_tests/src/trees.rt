@@ -5,10 +5,10 @@ mod rebuild;
 mod repairs;
 
 use arena_base::{Advancer, InsertionError, ItemsMut, P0, Ptr};
+use chain_base::ChainPtrAdvancer;
 use ord_tree::OrdTree;
 use std::alloc::{Allocator, Global};
 use std::cmp::Ordering;
-use std::process::Abort;
 
 type Keys<A = Global> = OrdTree<P0, u8, A>;
 
@@ -22,28 +22,28 @@ struct Place {
     children: (Option<u32>, Option<u32>),
 }
 
-/// The place that this pointer names.
-fn named_place<A: Allocator>(rt: &impl Abort, tree: &Keys<A>, p: P0) -> Place {
-    let node = tree.chain().get(p).expect(rt, "a node for each entry");
-    Place {
+/// The place of the entry that an advancer gives next.
+fn next_place<A: Allocator>(tree: &Keys<A>, advancer: &mut ChainPtrAdvancer<P0>) -> Option<Place> {
+    let p = advancer.advance(tree.chain())?;
+    let node = tree.chain().get(p)?;
+    Some(Place {
         index: p.inx(),
         key: node.t,
         rank: node.rank,
         parent: node.p_back.get(),
         children: (node.p_tree0.get(), node.p_tree1.get()),
-    }
+    })
 }
 
-/// Each key in order, with its place in the tree.
-fn places<A: Allocator>(rt: &impl Abort, alloc: Global, tree: &Keys<A>) -> Vec<Place> {
+/// Each key in order, with its place in the tree. It is shorter than the tree where a node or memory is missing.
+fn places<A: Allocator>(alloc: Global, tree: &Keys<A>) -> Vec<Place> {
     let mut places = Vec::new(alloc);
     let first = tree.chain().first().unwrap_or(P0::invalid());
     if let Some(mut advancer) = tree.chain().advancer_chain(first) {
         for _ in 0..tree.len() {
-            let p = advancer
-                .advance(tree.chain())
-                .expect(rt, "an entry for each");
-            places.push(named_place(rt, tree, p)).expect(rt, "memory");
+            if let Some(place) = next_place(tree, &mut advancer) {
+                let _ = places.push(place);
+            }
         }
     }
     places
@@ -62,21 +62,20 @@ fn place_of(places: &[Place], key: u8) -> Option<(u32, Ordering)> {
     at
 }
 
-/// Inserts a key at its place.
+/// Inserts a key at a place. Answers what the call gives; nothing where the tree has no such place.
 fn insert_at<A: Allocator>(
-    rt: &impl Abort,
     tree: &mut Keys<A>,
     at: Option<(u32, Ordering)>,
     key: u8,
-) -> Result<P0, InsertionError> {
-    match at {
-        None => assert!(rt; tree.is_empty()),
-        Some((index, side)) => {
-            assert!(rt; tree.contains_inx(index));
-            assert!(rt; side != Ordering::Equal);
-        }
+) -> Option<Result<P0, InsertionError>> {
+    let is_there = match at {
+        None => tree.is_empty(),
+        Some((index, side)) => tree.contains_inx(index) && side != Ordering::Equal,
+    };
+    if !is_there {
+        return None;
     }
-    tree.insert_reallocating(at, key)
+    Some(tree.insert_reallocating(at, key))
 }
 
 /// The index of a key.
@@ -89,11 +88,14 @@ fn index_of(places: &[Place], key: u8) -> Option<u32> {
     None
 }
 
-/// Inserts a key that isn't there, or removes one that is.
-fn toggle<A: Allocator>(rt: &impl Abort, tree: &mut Keys<A>, places: &[Place], key: u8) {
+/// Inserts a key that isn't there, or removes one that is. Tells whether it is done, with the places of all entries.
+fn toggle<A: Allocator>(tree: &mut Keys<A>, places: &[Place], key: u8) -> bool {
+    if places.len() != tree.len() {
+        return false;
+    }
     match index_of(places, key) {
-        None => assert!(rt; insert_at(rt, tree, place_of(places, key), key).is_ok()),
-        Some(index) => assert!(rt; tree.remove_inx(index).allow().is_some()),
+        None => matches!(insert_at(tree, place_of(places, key), key), Some(Ok(_))),
+        Some(index) => tree.remove_inx(index).allow().is_some(),
     }
 }
 

@@ -1,7 +1,6 @@
 //! Repairs by a table, the rows of which were worked out apart from the code.
 use super::{Keys, Place, moved, places, toggle};
 use std::alloc::Global;
-use std::process::Abort;
 
 /// A key, its rank and its parent's key, which is 0 for the root.
 type Node = (u8, u8, u8);
@@ -334,48 +333,48 @@ fn key_at(places: &[Place], index: Option<u32>) -> u8 {
     0
 }
 
-fn nodes(rt: &impl Abort, alloc: Global, places: &[Place]) -> Vec<Node> {
-    let mut nodes = Vec::new(alloc);
+/// Whether the places are those of these nodes, in order.
+fn has_nodes(places: &[Place], wanted: &[Node]) -> bool {
+    let mut left = wanted.iter();
     for place in places {
         let node = (place.key, place.rank, key_at(places, place.parent));
-        nodes.push(node).expect(rt, "memory");
+        if left.next() != Some(&node) {
+            return false;
+        }
     }
-    nodes
+    left.next().is_none()
 }
 
-/// Inserts or removes keys one after another. Answers how many parents the last one moves.
-fn moved_by(rt: &impl Abort, alloc: Global, tree: &mut Keys, keys: &[u8]) -> usize {
-    let mut last = 0;
+/// Inserts or removes keys one after another. Answers how many parents the last one moves; nothing where one isn't done.
+fn moved_by(alloc: Global, tree: &mut Keys, keys: &[u8]) -> Option<usize> {
+    let (mut last, mut is_done) = (0, true);
     for key in keys {
-        let old = places(rt, alloc, tree);
-        toggle(rt, tree, &old, *key);
-        last = moved(&old, &places(rt, alloc, tree));
+        let old = places(alloc, tree);
+        is_done = toggle(tree, &old, *key) && is_done;
+        last = moved(&old, &places(alloc, tree));
     }
-    last
+    is_done.then_some(last)
 }
 
-/// Whether a tree has these nodes in order.
-fn has_nodes(rt: &impl Abort, alloc: Global, tree: &Keys, wanted: &[Node]) -> bool {
-    let places = places(rt, alloc, tree);
-    nodes(rt, alloc, &places).as_slice() == wanted
-}
-
-/// Compares the tree of each row and the parents that its last key moves with the row.
-fn repairs(rt: &impl Abort, alloc: Global, rows: &[Row]) {
-    for (keys, changes, wanted, moves) in rows {
-        let mut tree = Keys::new(alloc);
-        let _ = moved_by(rt, alloc, &mut tree, keys);
-        assert!(rt; moved_by(rt, alloc, &mut tree, changes) == *moves);
-        assert!(rt; has_nodes(rt, alloc, &tree, wanted));
-    }
+/// Whether the tree of a row, and the parents that its last key moves, are what the row says.
+fn is_repaired(alloc: Global, row: &Row) -> bool {
+    let (keys, changes, wanted, moves) = row;
+    let mut tree = Keys::new(alloc);
+    moved_by(alloc, &mut tree, keys).is_some()
+        && moved_by(alloc, &mut tree, changes) == Some(*moves)
+        && has_nodes(&places(alloc, &tree), wanted)
 }
 
 #[test]
 fn repairs_by_the_table(rt: HostRuntime) {
-    repairs(&rt, rt.alloc(), INSERTIONS);
+    for row in INSERTIONS {
+        assert!(rt; is_repaired(rt.alloc(), row));
+    }
 }
 
 #[test]
 fn repairs_removals_by_the_table(rt: HostRuntime) {
-    repairs(&rt, rt.alloc(), REMOVALS);
+    for row in REMOVALS {
+        assert!(rt; is_repaired(rt.alloc(), row));
+    }
 }

@@ -1,7 +1,6 @@
 //! Calls in a row, with what each gives and leaves, and generations that begin again.
 use super::{Counts, counts, numbers, p0};
 use arena_base::{Arena, InvalidationOption, InvalidationResult, ItemsMut, P0, P8, Ptr};
-use std::process::Abort;
 
 /// A call on an arena of numbers.
 #[derive(Clone, Copy)]
@@ -98,18 +97,13 @@ fn generations_begin_again(rt: HostRuntime) {
         } else {
             InvalidationResult::Success(7)
         };
-        assert!(rt; put_and_take(&rt, &mut arena, generation) == wanted);
+        assert!(rt; put_and_take(&mut arena) == Some(((1, generation), wanted)));
     }
     assert!(rt; arena.generation() == 2);
 }
 
-/// Inserts the item 7, which has to get the index 1 and this generation, and takes it out again. Answers what the removal said.
-fn put_and_take(
-    rt: &impl Abort,
-    arena: &mut Arena<P8, u64>,
-    generation: u8,
-) -> InvalidationResult<u64> {
-    let p = arena.insert_reallocating(7).expect(rt, "memory");
-    assert!(rt; (p.inx(), p.generation()) == (1, generation));
-    arena.remove(p)
+/// Inserts the item 7, and takes it out again. Answers the numbers of its pointer, and what the removal said.
+fn put_and_take(arena: &mut Arena<P8, u64>) -> Option<((u8, u8), InvalidationResult<u64>)> {
+    let p = arena.insert_reallocating(7).ok()?;
+    Some(((p.inx(), p.generation()), arena.remove(p)))
 }

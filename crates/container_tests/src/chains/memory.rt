@@ -2,8 +2,6 @@
 use super::{Entry, Letters, Place, SCATTERED, insert, is_listed, scattered};
 use arena_base::{InsertionError, InvalidationOption, P0, Ptr, ReallocationError};
 use linked_list_allocator::LocalHeap;
-use std::alloc::Global;
-use std::process::Abort;
 
 /// Ten entries, each inserted after the last.
 const TEN: [Entry; 10] = [
@@ -19,49 +17,45 @@ const TEN: [Entry; 10] = [
     (10, 2, 'j'),
 ];
 
-/// Inserts the ten letters, each after the last, until memory is refused. Answers the refusal.
-fn fill(rt: &impl Abort, chain: &mut Letters<&LocalHeap>) -> Option<InsertionError> {
+/// Inserts the ten letters, each after the last, until memory is refused. Answers the outcome; nothing where a place is missing.
+fn fill(chain: &mut Letters<&LocalHeap>) -> Option<Result<(), InsertionError>> {
     let mut place = Place::Alone;
     for (_, _, letter) in &TEN {
-        match insert(rt, chain, place, *letter) {
+        match insert(chain, place, *letter)? {
             Ok(p) => place = Place::After(p.inx()),
-            Err(refusal) => return Some(refusal),
+            Err(refusal) => return Some(Err(refusal)),
         }
     }
-    None
+    Some(Ok(()))
 }
 
 /// Whether the first of the ten entries are there: all of them, or as many as there is room for where memory is refused.
-fn has_first(chain: &Letters<&LocalHeap>, refusal: Option<InsertionError>) -> bool {
+fn has_first(chain: &Letters<&LocalHeap>, outcome: Option<Result<(), InsertionError>>) -> bool {
     let len = chain.len();
     if len > 10 || !is_listed(chain, &TEN[..len]) {
         return false;
     }
-    match refusal {
-        Some(refusal) => refusal == InsertionError::AllocError && chain.capacity() == len,
-        None => len == 10,
+    match outcome {
+        Some(Ok(())) => len == 10,
+        Some(Err(refusal)) => refusal == InsertionError::AllocError && chain.capacity() == len,
+        None => false,
     }
 }
 
-/// Fills a chain on a heap. Answers how many entries are there.
-fn filled(rt: &impl Abort, heap: &LocalHeap) -> usize {
+/// Fills a chain on a heap. Answers how many entries are there; nothing where they are not the first ones.
+fn filled(heap: &LocalHeap) -> Option<usize> {
     let mut chain = Letters::new(heap);
-    let refusal = fill(rt, &mut chain);
-    assert!(rt; has_first(&chain, refusal));
-    chain.len()
-}
-
-/// The same on a heap of so many units.
-fn filled_in(rt: &impl Abort, alloc: Global, units: usize) -> usize {
-    let heap = LocalHeap::new(alloc, units.saturating_mul(16)).expect(rt, "a heap");
-    filled(rt, &heap)
+    let outcome = fill(&mut chain);
+    has_first(&chain, outcome).then_some(chain.len())
 }
 
 #[test]
 fn keeps_all_where_memory_is_refused(rt: HostRuntime) {
     let mut is_met = [false; 11];
     for units in 1..80usize {
-        is_met[filled_in(&rt, rt.alloc(), units) % 11] = true;
+        let heap = LocalHeap::new(rt.alloc(), 16 * units).expect(&rt, "a heap");
+        let len = filled(&heap).expect(&rt, "the first entries");
+        is_met[len % 11] = true;
     }
     // each growth was refused in turn: from nothing, from 4, from 8
     assert!(rt; (is_met[0], is_met[4], is_met[8], is_met[10]) == (true, true, true, true));
@@ -89,36 +83,29 @@ fn counts(chain: &Letters<&LocalHeap>) -> (usize, usize, u64) {
     (chain.len(), chain.capacity(), chain.generation())
 }
 
-/// Transfers three letters into a chain. Tells whether it is done; where it isn't, nothing has changed.
-fn is_transferred(rt: &impl Abort, chain: &mut Letters<&LocalHeap>, source: &mut Letters) -> bool {
-    let (outcome, calls) = transfer_all(chain, source);
-    if outcome.is_ok() {
-        assert!(rt; (counts(chain), calls) == ((3, 3, 5), 3) && source.is_empty());
-        return true;
-    }
-    assert!(rt; outcome == Err(ReallocationError::AllocError));
-    assert!(rt; (counts(chain), calls) == ((0, 0, 2), 0) && is_listed(source, SCATTERED));
-    false
-}
-
-/// The same with a new chain on a heap.
-fn is_transferred_on(rt: &impl Abort, alloc: Global, heap: &LocalHeap) -> bool {
-    let mut source = scattered(rt, alloc);
+/// Transfers three letters into a chain on a heap. Tells whether it is done; nothing where it isn't, and anything has changed.
+fn transferred(heap: &LocalHeap, source: &mut Letters) -> Option<bool> {
     let mut chain = Letters::new(heap);
-    is_transferred(rt, &mut chain, &mut source)
-}
-
-/// The same with a heap of so many units.
-fn is_transferred_in(rt: &impl Abort, alloc: Global, units: usize) -> bool {
-    let heap = LocalHeap::new(alloc, units.saturating_mul(16)).expect(rt, "a heap");
-    is_transferred_on(rt, alloc, &heap)
+    let (outcome, calls) = transfer_all(&mut chain, source);
+    let counts = (counts(&chain), calls);
+    let is_right = match outcome {
+        Ok(()) => counts == ((3, 3, 5), 3) && source.is_empty(),
+        Err(refusal) => {
+            refusal == ReallocationError::AllocError
+                && counts == ((0, 0, 2), 0)
+                && is_listed(source, SCATTERED)
+        }
+    };
+    is_right.then_some(outcome.is_ok())
 }
 
 #[test]
 fn a_transfer_without_memory_changes_nothing(rt: HostRuntime) {
     let mut done = 0usize;
     for units in 1..40usize {
-        if is_transferred_in(&rt, rt.alloc(), units) {
+        let heap = LocalHeap::new(rt.alloc(), 16 * units).expect(&rt, "a heap");
+        let is_done = transferred(&heap, &mut scattered(rt.alloc()));
+        if is_done.expect(&rt, "done, or nothing has changed") {
             done = done.saturating_add(1);
         }
     }

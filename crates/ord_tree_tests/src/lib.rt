@@ -1,5 +1,0 @@
-//! Tests of `ord_tree`, as a program that depends on it sees it: the worked examples, and what no clause can say.
-#![tactic(auto)]
-
-#[cfg(test)]
-mod tests;
