@@ -1,8 +1,7 @@
 //! Books on a heap of which little is left: what is refused changes nothing, and the same call made again with memory succeeds.
 use linked_list_allocator::LocalHeap;
 use order_book::{OrderBook, OrderId, PlacingError, ReplacingError, Side, Trade};
-use std::alloc::Global;
-use std::process::Abort;
+use std::alloc::{AllocError, Global};
 
 /// A book on a heap.
 type Book<'h> = OrderBook<&'h LocalHeap>;
@@ -13,44 +12,46 @@ type Trades<'h> = Vec<Trade, &'h LocalHeap>;
 /// The blocks that were taken of a heap.
 type Blocks<'h> = Vec<Vec<u8, &'h LocalHeap>>;
 
-/// A heap that has room for all of a test.
-fn new_heap(rt: &impl Abort, alloc: Global) -> LocalHeap {
-    LocalHeap::new(alloc, 1 << 14).expect(rt, "a heap")
-}
-
 /// Takes up to four blocks of this size.
-fn take<'h>(rt: &impl Abort, heap: &'h LocalHeap, blocks: &mut Blocks<'h>, size: usize) {
+fn take<'h>(heap: &'h LocalHeap, blocks: &mut Blocks<'h>, size: usize) -> Result<(), AllocError> {
     for _ in 0u32..4 {
         if let Ok(block) = Vec::with_capacity(heap, size) {
-            blocks.push(block).expect(rt, "memory");
+            blocks.push(block)?;
         }
     }
+    Ok(())
+}
+
+/// Takes all the room of a heap, in ever smaller blocks.
+fn take_all<'h>(heap: &'h LocalHeap, blocks: &mut Blocks<'h>) -> Result<(), AllocError> {
+    for size in &[8192usize, 4096, 2048, 1024, 512, 256, 128, 64, 32, 16] {
+        take(heap, blocks, *size)?;
+    }
+    Ok(())
 }
 
 /// Takes the room of a heap but for so many units of 16 bytes in one piece.
-fn leave<'h>(rt: &impl Abort, alloc: Global, heap: &'h LocalHeap, units: usize) -> Blocks<'h> {
-    let room: Vec<u8, &LocalHeap> = Vec::with_capacity(heap, units.saturating_mul(16)).expect(
-        rt, "room",
-    );
-    let mut blocks = Vec::new(alloc);
-    for size in &[8192usize, 4096, 2048, 1024, 512, 256, 128, 64, 32, 16] {
-        take(rt, heap, &mut blocks, *size);
-    }
-    drop(room);
-    blocks
+fn leave<'h>(heap: &'h LocalHeap, blocks: &mut Blocks<'h>, units: usize) -> Result<(), AllocError> {
+    let _room: Vec<u8, &LocalHeap> = Vec::with_capacity(heap, units.saturating_mul(16))?;
+    take_all(heap, blocks)
 }
 
-/// Puts so many orders on the book, each of one unit, asks at the price 7 or bids at 5, and answers their names.
-fn put(rt: &impl Abort, alloc: Global, book: &mut Book, side: Side, count: usize) -> Vec<OrderId> {
-    let (mut names, mut trades) = (Vec::new(alloc), Vec::new(alloc));
-    for _ in 0..count {
-        let placed = book.place(side, price_on(side), 1, &mut trades);
-        let name = placed.expect(rt, "memory");
-        names
-            .push(name.expect(rt, "an order that rests"))
-            .expect(rt, "memory");
+/// Puts an order of one unit on the book, and its name to the others; tells whether it rests, and there was memory.
+fn put_one(book: &mut Book, side: Side, names: &mut Vec<OrderId>, trades: &mut Vec<Trade>) -> bool {
+    match book.place(side, price_on(side), 1, trades) {
+        Ok(Some(name)) => names.push(name).is_ok(),
+        _ => false,
     }
-    names
+}
+
+/// Puts so many orders on the book, each of one unit, asks at the price 7 or bids at 5, and their names to the others; tells whether all rest.
+fn put(alloc: Global, book: &mut Book, side: Side, names: &mut Vec<OrderId>, count: usize) -> bool {
+    let mut trades = Vec::new(alloc);
+    let mut are_put = true;
+    for _ in 0..count {
+        are_put = are_put && put_one(book, side, names, &mut trades);
+    }
+    are_put
 }
 
 /// The price at which orders of a side rest.
@@ -85,23 +86,20 @@ struct Market<'h> {
     bids: Vec<OrderId>,
 }
 
-/// A market with so many asks and bids.
-fn new_market<'h>(
-    rt: &impl Abort,
-    alloc: Global,
-    heap: &'h LocalHeap,
-    asks: usize,
-    bids: usize,
-) -> Market<'h> {
-    let mut book = OrderBook::new(heap);
-    let asks = put(rt, alloc, &mut book, Side::Sell, asks);
-    let bids = put(rt, alloc, &mut book, Side::Buy, bids);
+/// A market without an order.
+fn new_market<'h>(alloc: Global, heap: &'h LocalHeap) -> Market<'h> {
     Market {
-        book,
+        book: OrderBook::new(heap),
         trades: Vec::new(heap),
-        asks,
-        bids,
+        asks: Vec::new(alloc),
+        bids: Vec::new(alloc),
     }
+}
+
+/// Puts so many asks and bids on a market; tells whether all rest.
+fn open(alloc: Global, market: &mut Market, asks: usize, bids: usize) -> bool {
+    put(alloc, &mut market.book, Side::Sell, &mut market.asks, asks)
+        && put(alloc, &mut market.book, Side::Buy, &mut market.bids, bids)
 }
 
 /// Whether nothing was traded, and all orders that were put on the book rest there.
@@ -118,34 +116,30 @@ enum Order {
     Replacing,
 }
 
-/// Places a new order. Tells whether it was placed, and not refused memory.
-fn place(rt: &impl Abort, market: &mut Market, side: Side) -> bool {
+/// Places a new order. Tells whether it was placed, and not refused memory; None of any other refusal.
+fn place(market: &mut Market, side: Side) -> Option<bool> {
     match market.book.place(side, 7, 22, &mut market.trades) {
-        Ok(_) => true,
-        Err(refusal) => {
-            assert!(rt; refusal == PlacingError::AllocError);
-            false
-        }
+        Ok(_) => Some(true),
+        Err(PlacingError::AllocError) => Some(false),
+        Err(_) => None,
     }
 }
 
-/// Replaces the first ask. Tells whether it was replaced, and not refused memory.
-fn replace(rt: &impl Abort, market: &mut Market) -> bool {
-    let ask = market.asks.first().copied().expect(rt, "an ask");
+/// Replaces the first ask. Tells whether it was replaced, and not refused memory; None of any other refusal.
+fn replace(market: &mut Market) -> Option<bool> {
+    let ask = *market.asks.first()?;
     match market.book.replace(ask, 5, 10, &mut market.trades) {
-        Ok(_) => true,
-        Err(refusal) => {
-            assert!(rt; refusal == ReplacingError::AllocError);
-            false
-        }
+        Ok(_) => Some(true),
+        Err(ReplacingError::AllocError) => Some(false),
+        Err(_) => None,
     }
 }
 
-/// Gives an order. Tells whether it was taken, and not refused memory.
-fn give(rt: &impl Abort, market: &mut Market, order: Order) -> bool {
+/// Gives an order. Tells whether it was taken, and not refused memory; None of any other refusal.
+fn give(market: &mut Market, order: Order) -> Option<bool> {
     match order {
-        Order::New(side) => place(rt, market, side),
-        Order::Replacing => replace(rt, market),
+        Order::New(side) => place(market, side),
+        Order::Replacing => replace(market),
     }
 }
 
@@ -160,72 +154,90 @@ fn is_done(market: &Market, order: Order) -> bool {
     market.trades.len() == traded && has_counts(&market.book, asks, bids)
 }
 
-/// Gives an order with so many units of memory left. Tells whether it was taken; where it was refused, nothing has changed.
+/// Gives an order with so many units of memory left. Tells whether it was taken; None where a refusal changed something.
 fn give_in_little<'h>(
-    rt: &impl Abort,
     alloc: Global,
     heap: &'h LocalHeap,
     units: usize,
     market: &mut Market<'h>,
     order: Order,
-) -> bool {
-    let _blocks = leave(rt, alloc, heap, units);
-    let is_taken = give(rt, market, order);
-    assert!(rt; is_taken || is_untouched(market));
-    is_taken
+) -> Option<bool> {
+    let mut blocks = Vec::new(alloc);
+    let is_little = leave(heap, &mut blocks, units).is_ok();
+    let is_taken = give(market, order);
+    let is_whole = is_taken == Some(true) || is_untouched(market);
+    if is_little && is_whole {
+        is_taken
+    } else {
+        None
+    }
 }
 
-/// Gives an order on a book with so many asks and bids, with so many units of memory left, and where that is refused again with more
-/// memory. Tells whether it was refused.
-fn is_refused(
-    rt: &impl Abort,
+/// Gives an order with so many units of memory left, and where that is refused again with more memory. Tells whether it was refused; None
+/// where it wasn't done as a whole then.
+fn is_refused_at_first<'h>(
     alloc: Global,
-    order: Order,
-    asks: usize,
-    bids: usize,
+    heap: &'h LocalHeap,
     units: usize,
-) -> bool {
-    let heap = new_heap(rt, alloc);
-    let mut market = new_market(rt, alloc, &heap, asks, bids);
-    let at_once = give_in_little(rt, alloc, &heap, units, &mut market, order);
-    assert!(rt; at_once || give(rt, &mut market, order));
-    assert!(rt; is_done(&market, order));
-    !at_once
+    market: &mut Market<'h>,
+    order: Order,
+) -> Option<bool> {
+    let at_once = give_in_little(alloc, heap, units, market, order)?;
+    let is_taken = at_once || give(market, order) == Some(true);
+    (is_taken && is_done(market, order)).then_some(!at_once)
 }
 
-/// Gives an order with no memory left, with one unit, with two and so on, and tells how often it was refused.
-fn refusals(rt: &impl Abort, alloc: Global, order: Order, asks: usize, bids: usize) -> u32 {
+/// Whether an order on a book with so many asks and bids is refused with so many units of memory left; None where the book doesn't do as it
+/// should.
+fn is_refused(alloc: Global, order: Order, asks: usize, bids: usize, units: usize) -> Option<bool> {
+    // a heap that has room for all of a test
+    let heap = LocalHeap::new(alloc, 1 << 14).ok()?;
+    let mut market = new_market(alloc, &heap);
+    if open(alloc, &mut market, asks, bids) {
+        is_refused_at_first(alloc, &heap, units, &mut market, order)
+    } else {
+        None
+    }
+}
+
+/// How often an order is refused with no memory left, with one unit, with two and so on; None where the book doesn't do as it should.
+fn refusals(alloc: Global, order: Order, asks: usize, bids: usize) -> Option<u32> {
     let mut refused = 0u32;
     for units in 0..128usize {
-        if is_refused(rt, alloc, order, asks, bids, units) {
+        if is_refused(alloc, order, asks, bids, units)? {
             refused = refused.wrapping_add(1);
         }
     }
-    refused
+    Some(refused)
+}
+
+/// Whether an order was refused at least once, and taken at least once.
+fn is_sometimes(refused: Option<u32>) -> bool {
+    matches!(refused, Some(1..=127))
 }
 
 #[test]
 fn a_bid_is_placed_or_refused_as_a_whole(rt: HostRuntime) {
     // it trades with all asks, and what is left wants room of its own
     for asks in &[0usize, 1, 4, 5, 9] {
-        let refused = refusals(&rt, rt.alloc(), Order::New(Side::Buy), *asks, 0);
-        assert!(rt; 0 < refused && refused < 128);
+        let refused = refusals(rt.alloc(), Order::New(Side::Buy), *asks, 0);
+        assert!(rt; is_sometimes(refused));
     }
 }
 
 #[test]
 fn an_ask_is_refused_where_its_side_has_to_grow(rt: HostRuntime) {
     for asks in &[0usize, 4, 8, 16] {
-        let refused = refusals(&rt, rt.alloc(), Order::New(Side::Sell), *asks, 0);
-        assert!(rt; 0 < refused && refused < 128);
+        let refused = refusals(rt.alloc(), Order::New(Side::Sell), *asks, 0);
+        assert!(rt; is_sometimes(refused));
     }
     for asks in &[1usize, 3, 5, 15] {
-        assert!(rt; refusals(&rt, rt.alloc(), Order::New(Side::Sell), *asks, 0) == 0);
+        assert!(rt; refusals(rt.alloc(), Order::New(Side::Sell), *asks, 0) == Some(0));
     }
 }
 
 #[test]
 fn an_order_is_replaced_or_refused_as_a_whole(rt: HostRuntime) {
-    let refused = refusals(&rt, rt.alloc(), Order::Replacing, 1, 9);
-    assert!(rt; 0 < refused && refused < 128);
+    let refused = refusals(rt.alloc(), Order::Replacing, 1, 9);
+    assert!(rt; is_sometimes(refused));
 }

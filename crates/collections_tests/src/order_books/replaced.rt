@@ -1,29 +1,23 @@
 //! Orders that are replaced and cancelled.
 use order_book::{OrderBook, OrderId, PlacingError, ReplacingError, Side, Trade};
 use std::alloc::Global;
-use std::process::Abort;
 
 /// A side, a price and a quantity.
 type Placed = (Side, u64, u64);
 
-/// Places an order of which something comes to rest.
-fn put(rt: &impl Abort, book: &mut OrderBook, order: Placed, trades: &mut Vec<Trade>) -> OrderId {
-    let placed = book.place(order.0, order.1, order.2, trades);
-    let id = placed.expect(rt, "memory");
-    id.expect(rt, "an order that rests")
+/// Places an order, and answers its name, if something of it comes to rest.
+fn put(book: &mut OrderBook, order: Placed, trades: &mut Vec<Trade>) -> Option<OrderId> {
+    book.place(order.0, order.1, order.2, trades).ok()?
 }
 
-/// Replaces an order, of which something comes to rest again.
+/// Replaces an order, and answers its new name, if something of it comes to rest again.
 fn put_anew(
-    rt: &impl Abort,
     book: &mut OrderBook,
     id: OrderId,
     order: (u64, u64),
     trades: &mut Vec<Trade>,
-) -> OrderId {
-    let replaced = book.replace(id, order.0, order.1, trades);
-    let id = replaced.expect(rt, "an order, and memory");
-    id.expect(rt, "an order that rests")
+) -> Option<OrderId> {
+    book.replace(id, order.0, order.1, trades).ok()?
 }
 
 /// Whether this ask is the first, and so much is left of it.
@@ -49,55 +43,53 @@ fn are_trades(trades: &[Trade], price: u64, wanted: &[(OrderId, u64)]) -> bool {
     left.is_empty()
 }
 
-/// Whether two asks of 5 and 6 units at the price 50, of which the first is replaced by what it was, trade in the other order.
-fn goes_behind_its_equals(rt: &impl Abort, book: &mut OrderBook, trades: &mut Vec<Trade>) -> bool {
-    let a = put(rt, book, (Side::Sell, 50, 5), trades);
-    let b = put(rt, book, (Side::Sell, 50, 6), trades);
+/// Whether two asks of 5 and 6 units at the price 50, of which the first is replaced by what it was, trade in the other order; None where
+/// one of the orders doesn't come to rest.
+fn goes_behind_its_equals(book: &mut OrderBook, trades: &mut Vec<Trade>) -> Option<bool> {
+    let a = put(book, (Side::Sell, 50, 5), trades)?;
+    let b = put(book, (Side::Sell, 50, 6), trades)?;
     if !is_first_ask(book, a, 5) {
-        return false;
+        return Some(false);
     }
-    let anew = put_anew(rt, book, a, (50, 5), trades);
+    let anew = put_anew(book, a, (50, 5), trades)?;
     if !is_first_ask(book, b, 6) || book.get(a).is_some() {
-        return false;
+        return Some(false);
     }
-    let bid = put(rt, book, (Side::Buy, 50, 12), trades);
-    book.get(bid) == Some((50, 1)) && are_trades(trades, 50, &[(b, 6), (anew, 5)])
+    let bid = put(book, (Side::Buy, 50, 12), trades)?;
+    Some(book.get(bid) == Some((50, 1)) && are_trades(trades, 50, &[(b, 6), (anew, 5)]))
 }
 
 #[test]
 fn an_order_that_is_replaced_stands_behind_its_equals(rt: HostRuntime) {
     let alloc: Global = rt.alloc();
     let (mut book, mut trades) = (OrderBook::new(alloc), Vec::new(alloc));
-    assert!(rt; goes_behind_its_equals(&rt, &mut book, &mut trades));
+    assert!(rt; goes_behind_its_equals(&mut book, &mut trades) == Some(true));
     assert!(rt; book.count(Side::Sell) == 0);
 }
 
-/// Whether a bid at 40 that is raised to 50 trades with an ask of which a part was sold already, and rests with what is left.
-fn trades_when_it_is_raised(
-    rt: &impl Abort,
-    book: &mut OrderBook,
-    trades: &mut Vec<Trade>,
-) -> bool {
-    let ask = put(rt, book, (Side::Sell, 50, 6), trades);
-    let bid = put(rt, book, (Side::Buy, 40, 7), trades);
+/// Whether a bid at 40 that is raised to 50 trades with an ask of which a part was sold already, and rests with what is left; None where
+/// one of the orders doesn't come to rest.
+fn trades_when_it_is_raised(book: &mut OrderBook, trades: &mut Vec<Trade>) -> Option<bool> {
+    let ask = put(book, (Side::Sell, 50, 6), trades)?;
+    let bid = put(book, (Side::Buy, 40, 7), trades)?;
     let Ok(None) = book.place(Side::Buy, 50, 2, trades) else {
-        return false;
+        return Some(false);
     };
     if !is_first_ask(book, ask, 4) {
-        return false;
+        return Some(false);
     }
-    let raised = put_anew(rt, book, bid, (50, 10), trades);
+    let raised = put_anew(book, bid, (50, 10), trades)?;
     if book.get(raised) != Some((50, 6)) || book.get(bid).is_some() {
-        return false;
+        return Some(false);
     }
-    book.cancel(ask).is_none() && are_trades(trades, 50, &[(ask, 2), (ask, 4)])
+    Some(book.cancel(ask).is_none() && are_trades(trades, 50, &[(ask, 2), (ask, 4)]))
 }
 
 #[test]
 fn a_bid_that_is_raised_trades(rt: HostRuntime) {
     let alloc: Global = rt.alloc();
     let (mut book, mut trades) = (OrderBook::new(alloc), Vec::new(alloc));
-    assert!(rt; trades_when_it_is_raised(&rt, &mut book, &mut trades));
+    assert!(rt; trades_when_it_is_raised(&mut book, &mut trades) == Some(true));
     assert!(rt; book.count(Side::Buy) == 1);
 }
 
@@ -116,7 +108,7 @@ fn is_gone(book: &mut OrderBook, id: OrderId, trades: &mut Vec<Trade>) -> bool {
 fn an_order_that_was_cancelled_is_gone(rt: HostRuntime) {
     let alloc: Global = rt.alloc();
     let (mut book, mut trades) = (OrderBook::new(alloc), Vec::new(alloc));
-    let bid = put(&rt, &mut book, (Side::Buy, 40, 7), &mut trades);
+    let bid = put(&mut book, (Side::Buy, 40, 7), &mut trades).expect(&rt, "an order that rests");
     assert!(rt; is_gone(&mut book, bid, &mut trades));
     assert!(rt; book.count(Side::Buy) == 0);
     assert!(rt; trades.is_empty());

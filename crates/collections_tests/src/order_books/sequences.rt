@@ -1,7 +1,6 @@
 //! Every sequence of up to five orders, against a plain list.
 use order_book::{Order, OrderBook, OrderId, Side, Trade};
 use std::alloc::Global;
-use std::process::Abort;
 
 /// A side, a price and a quantity.
 type Placed = (Side, u64, u64);
@@ -147,13 +146,7 @@ fn is_uncrossed(book: &OrderBook) -> bool {
 }
 
 /// Puts what is left of an order into the list, where it has a name; tells whether that is so just where something is left.
-fn rest(
-    rt: &impl Abort,
-    list: &mut Vec<Resting>,
-    order: Placed,
-    id: Option<OrderId>,
-    left: u64,
-) -> bool {
+fn rest(list: &mut Vec<Resting>, order: Placed, id: Option<OrderId>, left: u64) -> bool {
     let Some(id) = id else {
         return left == 0;
     };
@@ -163,13 +156,11 @@ fn rest(
         price: order.1,
         quantity: left,
     };
-    list.push(resting).expect(rt, "memory");
-    left > 0
+    list.push(resting).is_ok() && left > 0
 }
 
 /// Places an order on the book and in the list, and tells whether they do the same.
 fn place(
-    rt: &impl Abort,
     book: &mut OrderBook,
     list: &mut Vec<Resting>,
     trades: &mut Vec<Trade>,
@@ -182,13 +173,12 @@ fn place(
     let Some(left) = trade(list, order, trades) else {
         return false;
     };
-    rest(rt, list, order, id, left) && are_alike(book, list) && is_uncrossed(book)
+    rest(list, order, id, left) && are_alike(book, list) && is_uncrossed(book)
 }
 
 /// Places the orders of the sequence with this number, and tells whether the book and the list do the same all along: its digits to the
 /// base 6 are those of its orders.
 fn place_all(
-    rt: &impl Abort,
     book: &mut OrderBook,
     list: &mut Vec<Resting>,
     trades: &mut Vec<Trade>,
@@ -196,7 +186,7 @@ fn place_all(
 ) -> bool {
     let mut digits = number;
     for _ in 0..5u32 {
-        if !place(rt, book, list, trades, order_of(digits)) {
+        if !place(book, list, trades, order_of(digits)) {
             return false;
         }
         digits /= 6;
@@ -205,15 +195,15 @@ fn place_all(
 }
 
 /// Whether a new book does what a new list does.
-fn is_plain(rt: &impl Abort, alloc: Global, number: u32) -> bool {
+fn is_plain(alloc: Global, number: u32) -> bool {
     let mut book = OrderBook::new(alloc);
     let (mut list, mut trades) = (Vec::new(alloc), Vec::new(alloc));
-    place_all(rt, &mut book, &mut list, &mut trades, number)
+    place_all(&mut book, &mut list, &mut trades, number)
 }
 
 #[test]
 fn every_sequence_of_up_to_five_orders(rt: HostRuntime) {
     for number in 0..7776u32 {
-        assert!(rt; is_plain(&rt, rt.alloc(), number));
+        assert!(rt; is_plain(rt.alloc(), number));
     }
 }
