@@ -1,11 +1,9 @@
 -- What follows of a clone: its calls, told of another closure; its pointers; a clone with the same items. Then how far a clone has come.
-use Rattle.arena_base.proofs.Words.{◌≡◌, ℕ, zero, suc, ◌+◌, ◌<◌, ◌≤◌, Option, Some, None, List, [], ◌∷◌, ◌++◌, length, get_or, replicate, take, ◌-◌, refl, arith, drop, map, sym, ap, ◌∙◌, reverse, max}
-use Rattle.arena_base.proofs.Words.{Result, Ok, Err, map-append, length-map, drop_more, append_assoc, map_push, append-nil, get_or-drop, map-id, FoldsTo-push, none-some, AllocError, OnOk, OnErr}
-use Rattle.arena_base.proofs.Words.{FoldsTo, Arena, vacant_from, resized, greatest_occupied, arena_capacity, IsLawful, FindSame, item_if, CloneStep, IsClone, IsRefusedClone, StopsAtRefusal, Grants}
-use Rattle.arena_base.proofs.Words.{with_items, taken_over, HasSamePointers, Slot, entry_in, vacant_slots, arena_of, entries_from, entries_rising, chained_keeps, ClonesSlots, Inside, Generations}
-use Rattle.arena_base.proofs.Words.{Indexes, Occupied, Vacant}
-use Rattle.arena_base.proofs.Slots.{era, entries, greatest_occupied-above, none-from_generation}
+use Rattle.arena_base.proofs.Words.{◌≡◌, ℕ, zero, suc, ◌+◌, ◌<◌, ◌≤◌, Option, Some, None, List, [], ◌∷◌, ◌++◌, length, get_or, replicate, take, ◌-◌, refl, arith, drop, map, sym, ap, ◌∙◌, reverse, max, Result, Ok, Err, map-append}
+use Rattle.arena_base.proofs.Words.{length-map, drop_more, append_assoc, map_push, append-nil, get_or-drop, map-id, FoldsTo-push, none-some, AllocError, OnOk, OnErr, FoldsTo, Arena, vacant_from, resized, greatest_occupied, arena_capacity}
+use Rattle.arena_base.proofs.Words.{IsLawful, FindSame, item_if, CloneStep, IsClone, IsRefusedClone, StopsAtRefusal, Grants, with_items, taken_over, HasSamePointers, Slot, entry_in, vacant_slots, arena_of, entries_from, entries_rising}
 use Rattle.arena_base.proofs.Steps.{AreLawful, lawful-some, current, Sound, capacity-is, get_or-padded, resized-cons, resized-same, resized-again, entries-padded, relisted, relisted-sound}
+use Rattle.arena_base.proofs.{Words.chained_keeps, Words.ClonesSlots, Words.Inside, Words.Generations, Words.Indexes, Words.Occupied, Words.Vacant, Slots.era, Slots.entries, Slots.greatest_occupied-above, Slots.none-from_generation}
 
 -- the calls of the closure at these entries, from one state to another
 abbrev pub Calls : {P U T F : Type 0} (numbers : P → ℕ × ℕ) (step : F → P → U → T → F → Type 0)

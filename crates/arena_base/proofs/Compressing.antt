@@ -1,9 +1,8 @@
 -- How far a compression has come.
-use Rattle.arena_base.proofs.Words.{◌≡◌, ℕ, zero, suc, ◌+◌, ◌<◌, ◌≤◌, Option, Some, None, List, [], ◌∷◌, ◌++◌, length, get_or, set, replicate, ◌-◌, refl, arith, drop, map, sym, ap, ◌∙◌, chained_keeps}
-use Rattle.arena_base.proofs.Words.{length-set, length-append, length-map, length-replicate, drop_more, drop_all, set_at, get_or_at, append_assoc, map_push, length_push, append-nil, map-id, none-some}
-use Rattle.arena_base.proofs.Words.{map-map, FoldsTo, Slot, Occupied, Vacant, Arena, resized, HoldsSame, CompressionStep, IsCompression, compressed, items_rising, IsLawfulGeneration, entry_in}
-use Rattle.arena_base.proofs.{Words.slot_entry, Words.entries_from, Words.entries_rising, Words.Inside, Words.Generations, Words.Indexes, Words.CompressesSlots, Slots.entries}
-use Rattle.arena_base.proofs.Steps.{AreLawful, lawful-some, stored, current, resized-cons, entries-padded}
+use Rattle.arena_base.proofs.Words.{◌≡◌, ℕ, zero, suc, ◌+◌, ◌<◌, ◌≤◌, Option, Some, None, List, [], ◌∷◌, ◌++◌, length, get_or, set, replicate, ◌-◌, refl, arith, drop, map, sym, ap, ◌∙◌, chained_keeps, length-set, length-append, length-map}
+use Rattle.arena_base.proofs.Words.{length-replicate, drop_more, drop_all, set_at, get_or_at, append_assoc, map_push, length_push, append-nil, map-id, none-some, map-map, FoldsTo, Slot, Occupied, Vacant, Arena, resized, HoldsSame}
+use Rattle.arena_base.proofs.Words.{CompressionStep, IsCompression, compressed, items_rising, IsLawfulGeneration, entry_in, slot_entry, entries_from, entries_rising, Inside, Generations, Indexes, CompressesSlots}
+use Rattle.arena_base.proofs.{Steps.AreLawful, Steps.lawful-some, Steps.stored, Steps.current, Steps.resized-cons, Steps.entries-padded, Slots.entries}
 
 -- the calls of the closure at these entries, from one state to another
 abbrev pub Calls : {P T F : Type 0} (numbers : P → ℕ × ℕ) (step : F → P → T → P → T → F → Type 0) (g : ℕ)

@@ -1,8 +1,7 @@
 -- Slots by index and in memory: entries that are read or written, the greatest index with an entry, and the vacant indexes.
-use Rattle.arena_base.proofs.Words.{◌==◌, inl, inr, ◌≡◌, ℕ, zero, suc, ◌+◌, ◌<◌, ◌≤◌, true, Option, Some, None, List, [], ◌∷◌, ◌++◌, cond, eqb, length, get_or, set, replicate, is_some, count_by, take}
-use Rattle.arena_base.proofs.Words.{◌-◌, refl, arith, ◌≢◌, drop, map, sym, ap, ◌∙◌, false, unwrap_or, take_at, take-take, get_or-take, get_or_push, cases_eq, ne_eqb, sum_by-cons, sum_by-append}
-use Rattle.arena_base.proofs.Words.{none-some, list_any, option_map, Arena, vacant_from, times, greatest_occupied, IsLastEntry, Slot, entry_in, vacant_slots, slot_entry, with_slot_item, index_number}
-use Rattle.arena_base.proofs.Words.{Occupied, Vacant}
+use Rattle.arena_base.proofs.Words.{◌==◌, inl, inr, ◌≡◌, ℕ, zero, suc, ◌+◌, ◌<◌, ◌≤◌, true, Option, Some, None, List, [], ◌∷◌, ◌++◌, cond, eqb, length, get_or, set, replicate, is_some, count_by, take, ◌-◌, refl, arith, ◌≢◌, drop, map, sym}
+use Rattle.arena_base.proofs.Words.{ap, ◌∙◌, false, unwrap_or, take_at, take-take, get_or-take, get_or_push, cases_eq, ne_eqb, sum_by-cons, sum_by-append, none-some, list_any, option_map, Arena, vacant_from, times, greatest_occupied}
+use Rattle.arena_base.proofs.Words.{IsLastEntry, Slot, entry_in, vacant_slots, slot_entry, with_slot_item, index_number, Occupied, Vacant}
 
 module _ {X : Type 0} where
   -- an entry is counted, a slot without one is not

@@ -1,14 +1,12 @@
 -- Each step on the vector of slots and the stack of vacant indexes is the step of the arena that contracts name, and what is true of every
 -- arena stays so. In the first part the slots are those from index 1 on.
-use Rattle.arena_base.proofs.Words.{inl, inr, ◌≡◌, ℕ, zero, suc, ◌+◌, ◌<◌, ◌≤◌, true, Option, Some, None, List, [], ◌∷◌, ◌++◌, cond, length, get_or, set, replicate, is_some, take, ◌-◌, refl, arith}
-use Rattle.arena_base.proofs.Words.{◌≢◌, drop, map, sym, ap, ◌∙◌, subst, add-one, reverse, slice_get, cases_eq, false≢true, eq-eqb, get_or-take, length-set, length-append, get_or-set_same}
-use Rattle.arena_base.proofs.Words.{get_or-set_other, map-append, take-map, take_all, length-map, length-replicate, length-take, ext_get_or, get_or_past, map_push, take_more, map-set, get_or-map}
-use Rattle.arena_base.proofs.Words.{reverse-append, reverse-reverse, set-set, set_comm, get_or_default, sum_by-set, none-some, same_Some, slice_get_within, get_or_from_slice_get, vec_len}
-use Rattle.arena_base.proofs.Words.{map-replicate, option_map, ForSome, slot, Slot, Occupied, Vacant, Arena, vacant_from, times, IsSound, IsInsertion, limit_of, resized, greatest_occupied, IsFresh}
-use Rattle.arena_base.proofs.Words.{arena_capacity, with_slot, freed, IsVacant, swapped, IsLawfulGeneration, entry_in, vacant_slots, arena_of, AllVacantFrom, slot_entry, with_slot_generation, Inside}
-use Rattle.arena_base.proofs.Words.{Generations, Indexes}
-use Rattle.arena_base.proofs.Slots.{entries, count_by-cons, greatest_occupied-above, get_or-entries, entry-none, vacant_slots-from, times-cons, times-append, length-vacant_from}
-use Rattle.arena_base.proofs.Slots.{length-vacant_from-padded, vacant_from-vacant, times-set, vacant_from-some, vacant_from-least, vacant_from-filled_first}
+use Rattle.arena_base.proofs.Words.{inl, inr, ◌≡◌, ℕ, zero, suc, ◌+◌, ◌<◌, ◌≤◌, true, Option, Some, None, List, [], ◌∷◌, ◌++◌, cond, length, get_or, set, replicate, is_some, take, ◌-◌, refl, arith, ◌≢◌, drop, map, sym, ap, ◌∙◌, subst}
+use Rattle.arena_base.proofs.Words.{add-one, reverse, slice_get, cases_eq, false≢true, eq-eqb, get_or-take, length-set, length-append, get_or-set_same, get_or-set_other, map-append, take-map, take_all, length-map, length-replicate}
+use Rattle.arena_base.proofs.Words.{length-take, ext_get_or, get_or_past, map_push, take_more, map-set, get_or-map, reverse-append, reverse-reverse, set-set, set_comm, get_or_default, sum_by-set, none-some, same_Some, slice_get_within}
+use Rattle.arena_base.proofs.Words.{get_or_from_slice_get, vec_len, map-replicate, option_map, ForSome, slot, Slot, Occupied, Vacant, Arena, vacant_from, times, IsSound, IsInsertion, limit_of, resized, greatest_occupied, IsFresh}
+use Rattle.arena_base.proofs.Slots.{entries, count_by-cons, greatest_occupied-above, get_or-entries, entry-none, vacant_slots-from, times-cons, times-append, length-vacant_from, length-vacant_from-padded, vacant_from-vacant, times-set}
+use Rattle.arena_base.proofs.Words.{arena_capacity, with_slot, freed, IsVacant, swapped, IsLawfulGeneration, entry_in, vacant_slots, arena_of, AllVacantFrom, slot_entry, with_slot_generation, Inside, Generations, Indexes}
+use Rattle.arena_base.proofs.Slots.{vacant_from-some, vacant_from-least, vacant_from-filled_first}
 
 pub limit_of-below : (most : ℕ) (maximum : Option ℕ) → limit_of most maximum ≤ most
 limit_of-below most maximum = grind arith

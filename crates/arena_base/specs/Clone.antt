@@ -1,8 +1,7 @@
 -- What a clone of one arena into another is: the source's pointers, with items that are made of the source's.
 use Rattle.std.specs.Prelude.{◌≡◌, ℕ, ◌+◌, Option, Some, None, Result, Ok, Err, List, [], ◌∷◌, ◌++◌, max, is_some}
 use Rattle.std.specs.{Borrow.Bor, List.FoldsTo, declared.alloc.AllocError.AllocError}
-use Rattle.arena_base.specs.Arena.{Arena, HoldsSame, arena_capacity, greatest_occupied, item_of, resized, vacant_indexes}
-use Rattle.arena_base.specs.Walk.{entries_rising}
+use Rattle.arena_base.specs.{Arena.Arena, Arena.HoldsSame, Arena.arena_capacity, Arena.greatest_occupied, Arena.item_of, Arena.resized, Arena.vacant_indexes, Walk.entries_rising}
 
 module _ {T U : Type 0} where
   -- the same pointers find something in both

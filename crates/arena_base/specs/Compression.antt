@@ -1,8 +1,7 @@
 -- What a compression makes of an arena: its items lie at the indexes from 1 on, in the order of their old indexes.
 use Rattle.std.specs.Prelude.{◌≡◌, ℕ, ◌+◌, Bool, false, if◌then◌else◌, Option, Some, None, List, [], ◌∷◌, ◌++◌, length, map}
 use Rattle.std.specs.List.{FoldsTo}
-use Rattle.arena_base.specs.Arena.{Arena, HoldsSame, resized, vacant_indexes}
-use Rattle.arena_base.specs.{Generation.first_generation, Generation.next_generation, Generation.overflows_after, Walk.entries_rising}
+use Rattle.arena_base.specs.{Generation.first_generation, Generation.next_generation, Generation.overflows_after, Arena.Arena, Arena.HoldsSame, Arena.resized, Arena.vacant_indexes, Walk.entries_rising}
 
 -- the generation after a compression: the first where it is reset, else the next
 abbrev pub compressed_generation : Option ℕ → Bool → ℕ → ℕ

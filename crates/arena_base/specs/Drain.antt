@@ -1,6 +1,5 @@
 -- What a contract sees of a drain of an arena.
-use Rattle.std.specs.Prelude.{◌≡◌, ℕ, ◌+◌, Option, List, [], ◌∷◌, MatchOption}
-use Rattle.std.specs.Borrow.{GName}
+use Rattle.std.specs.{Prelude.◌≡◌, Prelude.ℕ, Prelude.◌+◌, Prelude.Option, Prelude.List, Prelude.[], Prelude.◌∷◌, Prelude.MatchOption, Borrow.GName}
 use Rattle.arena_base.specs.{Arena.Arena, Arena.removed, Generation.overflows_after, Invalidation.allowed_value, Invalidation.is_overflow}
 use Rattle.arena_base.specs.{Walk.entries_rising, declared.arena.drain.Drain.Drain, declared.invalidation.InvalidationOption.InvalidationOption}
 

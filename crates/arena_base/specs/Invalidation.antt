@@ -1,8 +1,7 @@
 -- What a call returns that ends or renews a pointer.
 use Rattle.std.specs.Prelude.{◌≡◌, Bool, true, false, ℕ, Option, Some, None, is_some, OnSome, IfSome, IfNone}
-use Rattle.arena_base.specs.Generation.{next_generation, overflows_after}
-use Rattle.arena_base.specs.declared.invalidation.{InvalidationResult.InvalidationResult, InvalidationOption.InvalidationOption}
 use Rattle.arena_base.specs.declared.invalidation.InvalidationResult.TheVariants.{Success, GenerationOverflow, InvalidPtr}
+use Rattle.arena_base.specs.{declared.invalidation.InvalidationResult.InvalidationResult, declared.invalidation.InvalidationOption.InvalidationOption, Generation.next_generation, Generation.overflows_after}
 use Rattle.arena_base.specs.declared.invalidation.InvalidationOption.TheVariants.{Success as Succeeded, GenerationOverflow as Overflowed}
 
 module _ {T : Type 0} where

@@ -1,6 +1,5 @@
 -- The numbers of indexes.
-use Rattle.std.specs.Prelude.{ℕ, Option, Some, None, ◌+◌, ◌==◌, if◌then◌else◌}
-use Rattle.std.specs.Option.{option_and_then}
+use Rattle.std.specs.{Prelude.ℕ, Prelude.Option, Prelude.Some, Prelude.None, Prelude.◌+◌, Prelude.◌==◌, Prelude.if◌then◌else◌, Option.option_and_then}
 
 -- what an index says as a number: 0 names nothing
 abbrev pub index_number : ℕ → Option ℕ

@@ -1,8 +1,6 @@
 -- What a clone and a compression do to the slots in memory. No public clause cites this file.
-use Rattle.std.specs.Prelude.{◌≡◌, ℕ, ◌-◌, ◌≤◌, List, [], ◌∷◌, ◌++◌, length, map, replicate, Option, None}
-use Rattle.std.specs.List.{FoldsTo}
-use Rattle.arena_base.specs.{declared.slot.Slot.Slot, declared.slot.Slot.TheVariants.Occupied, declared.slot.Slot.TheVariants.Vacant}
-use Rattle.arena_base.specs.{Slot.entry_in, Walk.entries_from, Clone.CloneStep, Clone.with_items, Compression.CompressionStep}
+use Rattle.std.specs.{Prelude.◌≡◌, Prelude.ℕ, Prelude.◌-◌, Prelude.◌≤◌, Prelude.List, Prelude.[], Prelude.◌∷◌, Prelude.◌++◌, Prelude.length, Prelude.map, Prelude.replicate, Prelude.Option, Prelude.None, List.FoldsTo}
+use Rattle.arena_base.specs.{declared.slot.Slot.TheVariants.Occupied, declared.slot.Slot.TheVariants.Vacant, Clone.CloneStep, Clone.with_items, Compression.CompressionStep, declared.slot.Slot.Slot, Walk.entries_from, Slot.entry_in}
 
 module _ {P T U G F : Type 0} (numbers : P → ℕ × ℕ) (number : G → ℕ) (step : F → P → U → T → F → Type 0) where
   -- there are clones of all entries in the slots; behind these the source has vacant slots alone

@@ -1,10 +1,9 @@
 -- A chain of nodes and the list of its items: each look-up in the one reads what the other has.
 use Rattle.chain_base.specs.Chain.{item_of}
 use Rattle.ord_tree.specs.{Node.bare_entry, Node.links_in, Node.slots_of, Node.indexes, Parents.HasParentUnder, Slots.Slots, Slots.Holds, Slots.Among, declared.tree_links.TreeLinks.TreeLinks}
-use Rattle.triple_ord.proofs.Words.{◌≡◌, ℕ, ◌↔◌, length, List, [], ◌∷◌, ◌++◌, Option, Some, None, IsSome, IfSome, is_some, refl, sym, ap, subst, ◌∙◌, inl, inr, ◌⊎◌, map, length-map, nil_from_length}
-use Rattle.triple_ord.proofs.Words.{option_map, Arena, slot, item_if, Link, IsSoundTree, IsPart, IsNodeIn, IsNodeAt, entry_at-link, entry_at-bare, arith, common_steps, is_some-bare, IsLastIndex}
-use Rattle.triple_ord.proofs.Words.{IsArenaOf, SimpleOrdArenaNode, Shape, missing, node, root_of, walk, Tree, IsChainOf, Entry, Chain, entry_at, link_between, link_at, last_pointer, times}
-use Rattle.triple_ord.proofs.Words.{generation_at, IsFirstIndex, times-bare, indexes-bare}
+use Rattle.triple_ord.proofs.Words.{◌≡◌, ℕ, ◌↔◌, length, List, [], ◌∷◌, ◌++◌, Option, Some, None, IsSome, IfSome, is_some, refl, sym, ap, subst, ◌∙◌, inl, inr, ◌⊎◌, map, length-map, nil_from_length, option_map, Arena, slot, item_if, Link}
+use Rattle.triple_ord.proofs.Words.{IsSoundTree, IsPart, IsNodeIn, IsNodeAt, entry_at-link, entry_at-bare, arith, common_steps, is_some-bare, IsLastIndex, IsArenaOf, SimpleOrdArenaNode, Shape, missing, node, root_of, walk, Tree, IsChainOf}
+use Rattle.triple_ord.proofs.Words.{Entry, Chain, entry_at, link_between, link_at, last_pointer, times, generation_at, IsFirstIndex, times-bare, indexes-bare}
 
 pub is_some-map : {A B : Type 0} (f : A → B) (o : Option A) → is_some (option_map f o) ≡ is_some o
 is_some-map f o = grind (arith, common_steps)

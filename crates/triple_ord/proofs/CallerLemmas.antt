@@ -4,16 +4,14 @@ use Rattle.arena_base.specs.{Clone.Grants, declared.error.ReallocationError.Real
 use Rattle.arena_base.specs.declared.error.ReallocationError.TheVariants.{BeyondMaxCapacity, AllocError as NoMemory}
 use Rattle.chain_base.specs.{Chain.entry_at as entry_among, Clone.taken_over}
 use Rattle.ord_tree.specs.Clone.{ShowsItem, IsClone, IsRefusedClone}
-use Rattle.triple_ord.proofs.Words.{OrdInsertionError, ◌≡◌, ◌≢◌, ℕ, ◌+◌, List, [], ◌∷◌, ◌++◌, length, Option, Some, None, IsSome, is_some, slice_get, map, length-append, IfSome, IfNone, OnSome, Ok}
-use Rattle.triple_ord.proofs.Words.{refl, sym, ap, subst, ◌∙◌, arith, inl, inr, beside, Place, into, over, IsPlace, aim_of, Growth, with_room_by, InsertsBy, told, OrdEntryKind, New, Tree, IsGrown}
-use Rattle.triple_ord.proofs.Words.{with_item, Gap, with_between, Equal, pointer, FindsKey, FindsSimilar, Aim, at_key, Replacing, OrdInsertKind, item_of, items, count, Updates, Renews, FindsBy}
-use Rattle.triple_ord.proofs.Words.{IsOfGeneration, IsNumbered, eq-eqb, cases_eq, option_map, Ordering, next_generation, item_if, Entry, Chain, times, FindsNothing, ◌<◌, Result, Err, ◌⊎◌}
-use Rattle.triple_ord.proofs.Words.{nil_from_length, Bor, IsSound, greatest_index, clone-same, Transferring, TransferStep, IsTransfer, FoldsTo, length-map, entry_at-absent, entry_at-without_other}
-use Rattle.triple_ord.proofs.Words.{IsDistinct, removed, renewed, after-insertion, IsInsertion, moved, at_compressed_index, numbered, entry_at-numbered_before, generation-numbered, items-numbered}
-use Rattle.triple_ord.proofs.Words.{generation-moved, generation-relocated, length-with_generation, entry_at-between_other, entry_at-between, length-between, entry_at-numbered, entry_at-without}
-use Rattle.triple_ord.proofs.Words.{length-without, entry_at-with_item_among_other, entry_at-with_item_among, length-with_item_among, entry_at-with_generation_other, entry_at-with_generation}
+use Rattle.triple_ord.proofs.Words.{OrdInsertionError, ◌≡◌, ◌≢◌, ℕ, ◌+◌, List, [], ◌∷◌, ◌++◌, length, Option, Some, None, IsSome, is_some, slice_get, map, length-append, IfSome, IfNone, OnSome, Ok, refl, sym, ap, subst, ◌∙◌, arith, inl}
+use Rattle.triple_ord.proofs.Words.{inr, beside, Place, into, over, IsPlace, aim_of, Growth, with_room_by, InsertsBy, told, OrdEntryKind, New, Tree, IsGrown, with_item, Gap, with_between, Equal, pointer, FindsKey, FindsSimilar, Aim, at_key}
+use Rattle.triple_ord.proofs.Words.{Replacing, OrdInsertKind, item_of, items, count, Updates, Renews, FindsBy, IsOfGeneration, IsNumbered, eq-eqb, cases_eq, option_map, Ordering, next_generation, item_if, Entry, Chain, times, FindsNothing}
+use Rattle.triple_ord.proofs.Words.{◌<◌, Result, Err, ◌⊎◌, nil_from_length, Bor, IsSound, greatest_index, clone-same, Transferring, TransferStep, IsTransfer, FoldsTo, length-map, entry_at-absent, entry_at-without_other, IsDistinct, removed}
+use Rattle.triple_ord.proofs.Words.{renewed, after-insertion, IsInsertion, moved, at_compressed_index, numbered, entry_at-numbered_before, generation-numbered, items-numbered, generation-moved, generation-relocated, length-with_generation}
+use Rattle.triple_ord.proofs.Words.{entry_at-between_other, entry_at-between, length-between, entry_at-numbered, entry_at-without, length-without, entry_at-with_item_among_other, entry_at-with_item_among, length-with_item_among}
+use Rattle.triple_ord.proofs.Words.{entry_at-with_generation_other, entry_at-with_generation, common_steps, refused-some, Shape, within, reallocating, next_index, true}
 use Rattle.triple_ord.proofs.Inserting.{entry_at-after, similar-here, IsInsertion-same}
-use Rattle.triple_ord.proofs.Words.{common_steps, refused-some, Shape, within, reallocating, next_index, true}
 use Rattle.chain_base.proofs.CallerLemmas.{with_new, roomy_capacity, capacity-vacant, capacity-with_room}
 use Rattle.triple_ord.specs.{Arena.entry_at, Clone.cloned, Clone.refused_clone, Entry.InsertsThere, Entry.Awaits, Entry.IsEntryFor}
 use Rattle.triple_ord.specs.{EntryKind.pointer_of_kind, Insertion.InsertsNew, Place.behind_key, declared.insert_kind.OrdInsertKind.TheVariants.Normal}

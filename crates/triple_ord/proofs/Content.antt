@@ -4,15 +4,13 @@ use Rattle.arena_base.specs.{Arena.item_of, Compression.CompressionStep, Compres
 use Rattle.arena_base.specs.Walk.{entries_rising as arena_rising}
 use Rattle.chain_base.specs.Compression.{compressed as chain_compressed, IsCompression as IsChainCompression}
 use Rattle.chain_base.specs.Chain.{with_capacity as chain_with_capacity}
-use Rattle.triple_ord.proofs.Words.{◌≡◌, ℕ, zero, suc, ◌+◌, ◌-◌, ◌<◌, ◌≤◌, ◌↔◌, Option, Some, None, Result, Ok, Err, List, [], ◌∷◌, ◌++◌, length, map, get_or, take, drop, reverse, replicate}
-use Rattle.triple_ord.proofs.Words.{slice_get, is_some, Bool, true, false, max, IsSome, walk_rest, WalkSteps, Entry, Chain, entry_at, times, IsSound, greatest_index, IsFirstIndex, IsLastIndex}
-use Rattle.triple_ord.proofs.Words.{drop-set-lt, pointers, walk_from, removed, FindsNothing, content_removed, cases_eq, drop_more, drop_all, refl, sym, ap, subst, ◌∙◌, add-one, arith, option_map}
-use Rattle.triple_ord.proofs.Words.{FoldsTo, same_lists, get_or_default, length-append, take-map, drop-map, slice_get_past, Arena, HoldsSame, slot, item_if, greatest_occupied, times-greatest}
-use Rattle.triple_ord.proofs.Words.{below-greatest_index, Link, SimpleOrdArenaNode, Tree, IsChainOf, slots_from, content_of, slot_is, item_is, len_is, length-slots, slots-within, slots-beyond}
-use Rattle.triple_ord.proofs.Words.{outside, set, take-set-le, with_capacity, resized, IsFirstEntry, IsLastEntry, arena_len, Walk, pointers_from, entries_from, compressed-at, compressed-length}
-use Rattle.triple_ord.proofs.Words.{entry_at-compressed, occurs-entry, below-greatest, greatest-or_none, IsArenaOf, entry_before, rising_among, entries_rising, moved, entry_at-absent, length-entries}
-use Rattle.triple_ord.proofs.Words.{common_steps, append_assoc, FoldsTo-push, entry_at-with_item_among, entry_at-with_item_among_other}
-use Rattle.triple_ord.proofs.{Bare.link_generation-under, Bare.capacity-under, Bare.option_map-twice, Words.with_item}
+use Rattle.triple_ord.proofs.Words.{◌≡◌, ℕ, zero, suc, ◌+◌, ◌-◌, ◌<◌, ◌≤◌, ◌↔◌, Option, Some, None, Result, Ok, Err, List, [], ◌∷◌, ◌++◌, length, map, get_or, take, drop, reverse, replicate, slice_get, is_some, Bool, true, false, max}
+use Rattle.triple_ord.proofs.Words.{IsSome, walk_rest, WalkSteps, Entry, Chain, entry_at, times, IsSound, greatest_index, IsFirstIndex, IsLastIndex, drop-set-lt, pointers, walk_from, removed, FindsNothing, content_removed, cases_eq}
+use Rattle.triple_ord.proofs.Words.{drop_more, drop_all, refl, sym, ap, subst, ◌∙◌, add-one, arith, option_map, FoldsTo, same_lists, get_or_default, length-append, take-map, drop-map, slice_get_past, Arena, HoldsSame, slot, item_if}
+use Rattle.triple_ord.proofs.Words.{greatest_occupied, times-greatest, below-greatest_index, Link, SimpleOrdArenaNode, Tree, IsChainOf, slots_from, content_of, slot_is, item_is, len_is, length-slots, slots-within, slots-beyond, outside}
+use Rattle.triple_ord.proofs.Words.{set, take-set-le, with_capacity, resized, IsFirstEntry, IsLastEntry, arena_len, Walk, pointers_from, entries_from, compressed-at, compressed-length, entry_at-compressed, occurs-entry, below-greatest}
+use Rattle.triple_ord.proofs.Words.{greatest-or_none, IsArenaOf, entry_before, rising_among, entries_rising, moved, entry_at-absent, length-entries, common_steps, append_assoc, FoldsTo-push, entry_at-with_item_among}
+use Rattle.triple_ord.proofs.{Bare.link_generation-under, Bare.capacity-under, Bare.option_map-twice, Words.entry_at-with_item_among_other, Words.with_item}
 use Rattle.triple_ord.specs.{Recasting.RecastsItem, Recasting.RecastsNext, Recasting.RecastsItems, SlotWalk.SlotWalkSteps}
 
 -- slots that are as many and show the same are the same

@@ -1,13 +1,11 @@
 -- A descent from the root, by a closure or by a key: how it begins, goes down, and ends, and how few entries it visits.
 use Rattle.std.proofs.{Common.Contains, Math.Pow.pow_mono}
 use Rattle.ord_tree.specs.Laws.{HeightLaw, RankSquareLaw, TightRankLaw, RebuiltHeightLaw}
-use Rattle.triple_ord.proofs.Words.{length-append, ◌≡◌, ◌≢◌, ℕ, false, ◌+◌, ◌-◌, ◌≤◌, List, [], ◌∷◌, ◌++◌, Option, Some, None, IsSome, IfSome, MatchOption, refl, sym, ap, subst, ◌∙◌, arith, inl, inr}
-use Rattle.triple_ord.proofs.Words.{max, map, length, append_assoc, Shape, missing, node, root_of, walk, height, Tree, Gap, first_of, last_of, order_to, pointer, StopsAt, is_eq, ordering_then}
-use Rattle.triple_ord.proofs.Words.{Ordering, Less, Equal, Greater, Entry, times, IsDistinct, entry_at, times-append, All-contains, before, after, present, met_next, IsCompared, HasDescendedByKey}
-use Rattle.triple_ord.proofs.Words.{zero, suc, ◌^◌, ◌<◌, length-map, IsSound, size_of, rank_of, fib, IsSoundTree, size_of-walk, height-le-size, common_steps, FoldsTo-push, append-nil, length_push}
-use Rattle.triple_ord.proofs.Words.{map_push, All-nil, All-cons, All-head, All-tail, All-push, FindsSimilar, IsPart, Shown, entries_of, but_last, IsSearch, where_equal, similar_of, FindsWith}
-use Rattle.triple_ord.proofs.Words.{FindsSimilarWith, IsNodeAt, side_of, IsDescending, HasDescended, get_or, cases_eq, get_or_default, Contains-append_left, Contains-append_right, Contains-push}
-use Rattle.triple_ord.proofs.Words.{IfSome_then, All, FoldsTo, option_map}
+use Rattle.triple_ord.proofs.Words.{length-append, ◌≡◌, ◌≢◌, ℕ, false, ◌+◌, ◌-◌, ◌≤◌, List, [], ◌∷◌, ◌++◌, Option, Some, None, IsSome, IfSome, MatchOption, refl, sym, ap, subst, ◌∙◌, arith, inl, inr, max, map, length, append_assoc, Shape}
+use Rattle.triple_ord.proofs.Words.{missing, node, root_of, walk, height, Tree, Gap, first_of, last_of, order_to, pointer, StopsAt, is_eq, ordering_then, Ordering, Less, Equal, Greater, Entry, times, IsDistinct, entry_at, times-append}
+use Rattle.triple_ord.proofs.Words.{All-contains, before, after, present, met_next, IsCompared, HasDescendedByKey, zero, suc, ◌^◌, ◌<◌, length-map, IsSound, size_of, rank_of, fib, IsSoundTree, size_of-walk, height-le-size, common_steps}
+use Rattle.triple_ord.proofs.Words.{FoldsTo-push, append-nil, length_push, map_push, All-nil, All-cons, All-head, All-tail, All-push, FindsSimilar, IsPart, Shown, entries_of, but_last, IsSearch, where_equal, similar_of, FindsWith}
+use Rattle.triple_ord.proofs.Words.{FindsSimilarWith, IsNodeAt, side_of, IsDescending, HasDescended, get_or, cases_eq, get_or_default, Contains-append_left, Contains-append_right, Contains-push, IfSome_then, All, FoldsTo, option_map}
 use Rattle.triple_ord.proofs.{Inserting.last_of-append, Inserting.no_first, Inserting.no_last, Inserting.entry_at-here, Words.limit_of-below, Words.IsWithinBounds, Words.VisitsLaw}
 
 -- the sides of a part are parts

@@ -1,10 +1,9 @@
 -- A list cut at one of its elements: its ends, what an entry's index finds where it stands once, and the gap where a search by a key
 -- that answered there puts a new entry.
 use Rattle.std.proofs.Math.Path.{fun_ext}
-use Rattle.triple_ord.proofs.Words.{◌≡◌, ℕ, List, [], ◌∷◌, ◌++◌, Option, Some, None, IsSome, length, refl, ap, arith, inl, inr, eqb_tells, position_of, ◌≢◌, true, false, ◌≤◌, sym, ◌∙◌, ◌⊎◌}
-use Rattle.triple_ord.proofs.Words.{append_assoc, is_eq, Ordering, Less, Equal, common_steps, option_map, Link, Entry, times, IsDistinct, entry_at, link_between, link_at, from_index, Greater, Gap}
-use Rattle.triple_ord.proofs.Words.{order_to, IsFirstEqual, StopsAt, IsBeside, FindsKey, FindsSimilar, where_equal, Chain, insert_after, insert_before, with_item_among, times-append, entry_at-between}
-use Rattle.triple_ord.proofs.Words.{first_of, last_of, IsInsertion, put_on, before, after, with_between}
+use Rattle.triple_ord.proofs.Words.{◌≡◌, ℕ, List, [], ◌∷◌, ◌++◌, Option, Some, None, IsSome, length, refl, ap, arith, inl, inr, eqb_tells, position_of, ◌≢◌, true, false, ◌≤◌, sym, ◌∙◌, ◌⊎◌, append_assoc, is_eq, Ordering, Less, Equal}
+use Rattle.triple_ord.proofs.Words.{common_steps, option_map, Link, Entry, times, IsDistinct, entry_at, link_between, link_at, from_index, Greater, Gap, order_to, IsFirstEqual, StopsAt, IsBeside, FindsKey, FindsSimilar, where_equal, Chain}
+use Rattle.triple_ord.proofs.Words.{insert_after, insert_before, with_item_among, times-append, entry_at-between, first_of, last_of, IsInsertion, put_on, before, after, with_between}
 
 module _ {X : Type 0} where
   pub last_of-append : (other : Option X) (xs : List X) (x : X) (ys : List X) → last_of other (xs ++ x ∷ ys) ≡ last_of (Some x) ys

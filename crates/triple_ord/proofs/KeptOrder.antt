@@ -1,9 +1,8 @@
 -- An insertion by a key leaves a list in the order of its keys so.
-use Rattle.triple_ord.proofs.Words.{arith, ◌≡◌, ◌≢◌, ℕ, List, [], ◌∷◌, ◌++◌, Option, Some, None, IfSome, Result, Ok, Err, refl, sym, ap, Less, Equal, Greater, Entry, Chain, IsDistinct, after-insertion}
-use Rattle.triple_ord.proofs.Words.{with_item_among, IsInsertion, Tree, Gap, first_of, last_of, before, after, with_between, IsFirstEqual, IsInOrder, Aim, into, over, LiesBehind, subst, ◌∙◌, inl, inr}
-use Rattle.triple_ord.proofs.Words.{IfSome_then, IsTotalOrder, alike_right, ordering_reverse, Ordering, IsPlace, InsertsBy, GoesBy, KeptOrderLaw, OrdEntryKind, New, Replacing}
-use Rattle.triple_ord.proofs.Words.{OrdInsertionError}
-use Rattle.triple_ord.proofs.{OrderLaws.IsInOrder-rest, OrderLaws.in_order-one, OrderLaws.in_order-more, Inserting.begins, Inserting.with_item-here}
+use Rattle.triple_ord.proofs.Words.{arith, ◌≡◌, ◌≢◌, ℕ, List, [], ◌∷◌, ◌++◌, Option, Some, None, IfSome, Result, Ok, Err, refl, sym, ap, Less, Equal, Greater, Entry, Chain, IsDistinct, after-insertion, with_item_among, IsInsertion, Tree}
+use Rattle.triple_ord.proofs.Words.{Gap, first_of, last_of, before, after, with_between, IsFirstEqual, IsInOrder, Aim, into, over, LiesBehind, subst, ◌∙◌, inl, inr, IfSome_then, IsTotalOrder, alike_right, ordering_reverse, Ordering}
+use Rattle.triple_ord.proofs.{Words.IsPlace, Words.InsertsBy, Words.GoesBy, Words.KeptOrderLaw, Words.OrdEntryKind, Words.New, Words.Replacing, Words.OrdInsertionError, Inserting.begins, Inserting.with_item-here}
+use Rattle.triple_ord.proofs.OrderLaws.{IsInOrder-rest, in_order-one, in_order-more}
 
 -- the list after an insertion of a new entry
 pub record IsListed {T : Type 0} (put : Entry T → List (Entry T)) (item : T) (es : List (Entry T)) : Type 0 where

@@ -1,11 +1,10 @@
 -- The order of keys, lists in it, and lists in the order of a closure's answers: what searches and insertions by key make of them.
 use Rattle.ord_tree.specs.Half.{IsHalf, half_rank}
-use Rattle.triple_ord.proofs.Words.{◌≡◌, ◌≢◌, refl, Ordering, Less, Equal, Greater, taken, Ties, Sought, Passed, ◌↔◌, true, false, ◌<◌, ◌≤◌, List, [], ◌∷◌, ◌++◌, IfSome, None, length, sym, ap, subst}
-use Rattle.triple_ord.proofs.Words.{◌∙◌, arith, inl, inr, length-append, order_to, Fits, IsInOrder, ℕ, Some, ◌/◌, ◌-◌, cases_order, Contains, All-from_recursion, All-contains, AllByRecursion}
-use Rattle.triple_ord.proofs.Words.{IsTotalOrder, alike_right, ordering_reverse, is_gt, Entry, Gap, first_of, last_of, recursion_from_All, All-append, All-weaker, IfSome_then, FoldsTo, option_map}
-use Rattle.triple_ord.proofs.Words.{common_steps, before, Contains-append_cases, Contains-append_right, IsTop, Shape, missing, node, size_of, IsFirstEqual, IsAbsent, AbsentKeyLaw, IsPlaceOf}
-use Rattle.triple_ord.proofs.Words.{BesidePlaceLaw, ranks_of, SameRanksLaw, Option, append_assoc}
-use Rattle.triple_ord.proofs.{Words.after, Words.pointer, Words.Shown, Words.where_equal, Words.FindsWith, Words.AreAnsweredInOrder, Words.AnsweredInOrderLaw, Inserting.begins}
+use Rattle.triple_ord.proofs.Words.{◌≡◌, ◌≢◌, refl, Ordering, Less, Equal, Greater, taken, Ties, Sought, Passed, ◌↔◌, true, false, ◌<◌, ◌≤◌, List, [], ◌∷◌, ◌++◌, IfSome, None, length, sym, ap, subst, ◌∙◌, arith, inl, inr, length-append}
+use Rattle.triple_ord.proofs.Words.{order_to, Fits, IsInOrder, ℕ, Some, ◌/◌, ◌-◌, cases_order, Contains, All-from_recursion, All-contains, AllByRecursion, IsTotalOrder, alike_right, ordering_reverse, is_gt, Entry, Gap, first_of, last_of}
+use Rattle.triple_ord.proofs.Words.{recursion_from_All, All-append, All-weaker, IfSome_then, FoldsTo, option_map, common_steps, before, Contains-append_cases, Contains-append_right, IsTop, Shape, missing, node, size_of, IsFirstEqual}
+use Rattle.triple_ord.proofs.Words.{IsAbsent, AbsentKeyLaw, IsPlaceOf, BesidePlaceLaw, ranks_of, SameRanksLaw, Option, append_assoc, after, pointer, Shown, where_equal, FindsWith, AreAnsweredInOrder, AnsweredInOrderLaw}
+use Rattle.triple_ord.proofs.Inserting.{begins}
 
 module _ {K : Type 0} (cmp : K → K → Ordering) (k other : K) where
   pub taken-less : (ties : Ties) → taken ties cmp k other ≡ Less → cmp k other ≡ Less

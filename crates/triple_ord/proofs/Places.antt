@@ -1,14 +1,11 @@
 -- The place of an insertion, from what a search answers or from an index.
-use Rattle.triple_ord.proofs.Words.{◌≡◌, ◌≢◌, ◌==◌, if◌then◌else◌, IfNone, is_some, ℕ, ◌+◌, ◌≤◌, false, true, length, List, [], ◌∷◌, ◌++◌, Option, Some, None, IsSome, Result, Ok, Err, IfErr, refl}
-use Rattle.triple_ord.proofs.Words.{sym, ap, ◌∙◌, arith, append_assoc, eq-eqb, after, with_between, FindsSimilar, taken, Ties, Sought, Passed, Aim, alone, at_key, behind_key, beside, Place, into}
-use Rattle.triple_ord.proofs.Words.{over, nowhere, IsPlace, aim_of, Growth, within, reallocating, slice_get_cases, with_room_by, Entry, Chain, entry_at, next_index, IsDistinct, IsSound, IsInsertion}
-use Rattle.triple_ord.proofs.Words.{Tree, IsGrown, put_on, put_at}
-use Rattle.triple_ord.proofs.Inserting.{last_of-append, stands, HasPlace, place-alone, similar-placed, similar-occupied, similar-here}
-use Rattle.triple_ord.proofs.Words.{nat_tests, nil_from_length, IfSome_then, option_map, is_eq, Ordering, Less, Equal, Greater, IsErrAnd, with_item, item_of, count, Updates, IsNearHint}
-use Rattle.triple_ord.proofs.Words.{IsWithinBounds, IsWithinHintedBounds, Gap, before, LacksSlot, IsRefused, InsertsBeside, OrdInsertKind, OrdInsertionError, NotWithinCapacity, common_steps}
-use Rattle.triple_ord.proofs.Inserting.{similar-first, similar-seen, not_equal, IsInsertion-same, puts-before, puts-after}
-use Rattle.triple_ord.proofs.CallerLemmas.{entries-with_room_by, updates-written, count-written, inserted-new}
-use Rattle.triple_ord.proofs.OrderLaws.{taken-less, taken-greater, passed-unequal}
+use Rattle.triple_ord.proofs.Words.{◌≡◌, ◌≢◌, ◌==◌, if◌then◌else◌, IfNone, is_some, ℕ, ◌+◌, ◌≤◌, false, true, length, List, [], ◌∷◌, ◌++◌, Option, Some, None, IsSome, Result, Ok, Err, IfErr, refl, sym, ap, ◌∙◌, arith, append_assoc, eq-eqb}
+use Rattle.triple_ord.proofs.Words.{after, with_between, FindsSimilar, taken, Ties, Sought, Passed, Aim, alone, at_key, behind_key, beside, Place, into, over, nowhere, IsPlace, aim_of, Growth, within, reallocating, slice_get_cases}
+use Rattle.triple_ord.proofs.Words.{with_room_by, Entry, Chain, entry_at, next_index, IsDistinct, IsSound, IsInsertion, Tree, IsGrown, put_on, put_at, nat_tests, nil_from_length, IfSome_then, option_map, is_eq, Ordering, Less, Equal}
+use Rattle.triple_ord.proofs.Words.{Greater, IsErrAnd, with_item, item_of, count, Updates, IsNearHint, IsWithinBounds, IsWithinHintedBounds, Gap, before, LacksSlot, IsRefused, InsertsBeside, OrdInsertKind, OrdInsertionError}
+use Rattle.triple_ord.proofs.Inserting.{last_of-append, stands, HasPlace, place-alone, similar-placed, similar-occupied, similar-here, similar-first, similar-seen, not_equal, IsInsertion-same, puts-before, puts-after}
+use Rattle.triple_ord.proofs.{CallerLemmas.entries-with_room_by, CallerLemmas.updates-written, CallerLemmas.count-written, CallerLemmas.inserted-new, OrderLaws.taken-less, OrderLaws.taken-greater, OrderLaws.passed-unequal}
+use Rattle.triple_ord.proofs.Words.{NotWithinCapacity, common_steps}
 use Rattle.triple_ord.specs.declared.prepared.InsertPlace.{InsertPlace, TheVariants.New, TheVariants.Replacing}
 use Rattle.triple_ord.specs.Prepared.{Keeps, IsFoundPlace, IsPlaceBeside, IsPlaceFor, HasRoomAt, kind_by, kind_near}
 use Rattle.triple_ord.specs.{declared.error.OrdInsertionError.TheVariants.BeyondMaxCapacity, declared.error.OrdInsertionError.TheVariants.AllocError, EntryVisits.HasSeen}

@@ -1,12 +1,11 @@
 -- Going along a list: walks, forward and back; steps from a hint, and a search that first makes them, with how many entries are visited.
 use Rattle.std.proofs.Math.Nat.{pow-le-pow_left}
-use Rattle.triple_ord.proofs.Words.{◌≡◌, ◌≢◌, ℕ, true, false, not, ◌==◌, ◌+◌, ◌≤◌, List, [], ◌∷◌, ◌++◌, Option, Some, None, IsSome, IfSome, length, refl, sym, ap, ◌∙◌, arith, inl, inr, ◌⊎◌}
-use Rattle.triple_ord.proofs.Words.{append_assoc, length-append, option_map, IsTotalOrder, entry_at, link_at, Gap, first_of, last_of, present, order_to, pointer, Fits, FindsSimilar, IsInOrder}
-use Rattle.triple_ord.proofs.Inserting.{last_of-append, begins, ends, some_last, stands, IsLinked, link-read, entry_at-here}
-use Rattle.triple_ord.proofs.Words.{is_eq, ordering_index, ordering_reverse, Ordering, Less, Equal, Greater, Link, Entry, IsDistinct, common_steps, Shape, IsFirstEqual, IsBeside}
-use Rattle.triple_ord.proofs.Words.{IsWithinBounds, IsWithinHintedBounds, IsNearHint, Settles, position_of, way_length, neighbour_towards, CameFrom, IsStepping, ◌-◌, ◌^◌, IfNone}
-use Rattle.triple_ord.proofs.Words.{is_some, IsNear, times, entry_at-link, occurs-entry, Bool, map, reverse, reverse-append, eqb_tells}
-use Rattle.triple_ord.proofs.{Words.option_and_then, Words.times-append, Words.Tree, Words.item_of, Inserting.from_index-here, Inserting.no_last, OrderLaws.stands-before, OrderLaws.stands-behind}
+use Rattle.triple_ord.proofs.Words.{◌≡◌, ◌≢◌, ℕ, true, false, not, ◌==◌, ◌+◌, ◌≤◌, List, [], ◌∷◌, ◌++◌, Option, Some, None, IsSome, IfSome, length, refl, sym, ap, ◌∙◌, arith, inl, inr, ◌⊎◌, append_assoc, length-append, option_map}
+use Rattle.triple_ord.proofs.Words.{IsTotalOrder, entry_at, link_at, Gap, first_of, last_of, present, order_to, pointer, Fits, FindsSimilar, IsInOrder, is_eq, ordering_index, ordering_reverse, Ordering, Less, Equal, Greater, Link, Entry}
+use Rattle.triple_ord.proofs.Words.{IsDistinct, common_steps, Shape, IsFirstEqual, IsBeside, IsWithinBounds, IsWithinHintedBounds, IsNearHint, Settles, position_of, way_length, neighbour_towards, CameFrom, IsStepping, ◌-◌, ◌^◌, IfNone}
+use Rattle.triple_ord.proofs.Words.{is_some, IsNear, times, entry_at-link, occurs-entry, Bool, map, reverse, reverse-append, eqb_tells, option_and_then, times-append, Tree, item_of}
+use Rattle.triple_ord.proofs.Inserting.{last_of-append, begins, ends, some_last, stands, IsLinked, link-read, entry_at-here, from_index-here, no_last}
+use Rattle.triple_ord.proofs.OrderLaws.{stands-before, stands-behind}
 use Rattle.triple_ord.specs.{OrderedWalk.ordered_rest, OrderedWalk.GivesEntry, Walk.entries_left, Walk.IsWalking}
 
 first-reverse : {X : Type 0} (xs : List X) (o : Option X) → last_of None xs ≡ o → first_of (reverse xs) ≡ o

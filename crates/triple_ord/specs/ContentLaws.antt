@@ -1,7 +1,6 @@
 -- What the calls of an ordered arena do to the finite map that it is. The impl of `ArenaTrait` cites these laws; no public clause
 -- does.
-use Rattle.std.proofs.Common.{◌≡◌, ◌≢◌, ℕ, zero, suc, ◌+◌, ◌<◌, ◌≤◌, length, count_by, is_some, cond, replicate, Option, None, List, []}
-use Rattle.std.proofs.Common.{◌∷◌, get_or, set, refl, sym, ap, ◌∙◌, arith, inl, inr}
+use Rattle.std.proofs.Common.{◌≡◌, ◌≢◌, ℕ, zero, suc, ◌+◌, ◌<◌, ◌≤◌, length, count_by, is_some, cond, replicate, Option, None, List, [], ◌∷◌, get_or, set, refl, sym, ap, ◌∙◌, arith, inl, inr}
 use Rattle.std.proofs.{lemmas.Bool.Decides.eqb_tells, lemmas.Bool.Decides.leb_tells, lemmas.List.Sums.sum_by-cons}
 use Rattle.std.specs.Option.{option_map}
 use Rattle.arena_base.{proofs.CallerLemmas.limit_of-below, specs.Generation.next_generation}

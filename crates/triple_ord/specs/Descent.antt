@@ -4,8 +4,7 @@ use Rattle.std.specs.Prelude.{◌≡◌, ◌≢◌, ℕ, ◌+◌, ◌-◌, ◌�
 use Rattle.std.specs.declared.cmp.Ordering.{Ordering, TheVariants.Less, TheVariants.Equal, TheVariants.Greater}
 use Rattle.chain_base.specs.Chain.{Entry, times, entry_at}
 use Rattle.ord_tree.specs.{Shape.Shape, Shape.node, Shape.root_of, Shape.walk, Shape.height, Tree.Tree}
-use Rattle.triple_ord.specs.ClosureSearch.{Shown, entries_of, where_equal, similar_of}
-use Rattle.triple_ord.specs.{Gap.first_of, Gap.last_of, Node.IsPart, Search.order_to, Search.pointer, Search.FindsSimilar}
+use Rattle.triple_ord.specs.{ClosureSearch.Shown, ClosureSearch.entries_of, ClosureSearch.where_equal, ClosureSearch.similar_of, Search.order_to, Search.pointer, Search.FindsSimilar, Gap.first_of, Gap.last_of, Node.IsPart}
 
 -- the entry at index i, with the roots of its sides
 pub record IsNodeAt {T : Type 0} (t : Tree T) (i generation : ℕ) (item : T) (lesser greater : Option ℕ) : Type 0 where

@@ -1,12 +1,9 @@
 -- How few entries an insertion's search for its place visits.
-use Rattle.std.specs.Prelude.{◌≡◌, ◌≢◌, ℕ, ◌≤◌, ⊤, List, [], IfNone, length}
-use Rattle.std.specs.declared.cmp.Ordering.{Ordering}
+use Rattle.std.specs.{Prelude.◌≡◌, Prelude.◌≢◌, Prelude.ℕ, Prelude.◌≤◌, Prelude.⊤, Prelude.List, Prelude.[], Prelude.IfNone, Prelude.length, declared.cmp.Ordering.Ordering}
 use Rattle.chain_base.specs.Chain.{Entry, entry_at}
 use Rattle.ord_tree.specs.Tree.{Tree}
-use Rattle.triple_ord.specs.{Gap.neighbour_count, Hint.IsNearHint, Place.Place, Place.into}
-use Rattle.triple_ord.specs.{VisitBounds.IsWithinBounds, VisitBounds.IsWithinHintedBounds, declared.insert_kind.OrdInsertKind.OrdInsertKind}
-use Rattle.triple_ord.specs.declared.insert_kind.OrdInsertKind.TheVariants.{Empty, Normal, Nonhereditary, Linear, NonhereditaryLinear}
-use Rattle.triple_ord.specs.declared.insert_kind.OrdInsertKind.TheVariants.{Manual}
+use Rattle.triple_ord.specs.declared.insert_kind.OrdInsertKind.TheVariants.{Empty, Normal, Nonhereditary, Linear, NonhereditaryLinear, Manual}
+use Rattle.triple_ord.specs.{VisitBounds.IsWithinBounds, VisitBounds.IsWithinHintedBounds, declared.insert_kind.OrdInsertKind.OrdInsertKind, Place.Place, Place.into, Gap.neighbour_count, Hint.IsNearHint}
 
 module _ {T : Type 0} where
   -- the neighbours of a place are seen that is a gap

@@ -1,6 +1,5 @@
 -- How near a hint is: how many entries there are from the one that it names to the gap where a key belongs.
-use Rattle.std.specs.Prelude.{ℕ, ◌+◌, ◌-◌, ◌≤◌, ◌==◌, nat_lt, if◌then◌else◌, List, [], ◌∷◌, length, IsSome}
-use Rattle.std.specs.declared.cmp.Ordering.{Ordering}
+use Rattle.std.specs.{Prelude.ℕ, Prelude.◌+◌, Prelude.◌-◌, Prelude.◌≤◌, Prelude.◌==◌, Prelude.nat_lt, Prelude.if◌then◌else◌, Prelude.List, Prelude.[], Prelude.◌∷◌, Prelude.length, Prelude.IsSome, declared.cmp.Ordering.Ordering}
 use Rattle.chain_base.specs.Chain.{Entry, entry_at}
 use Rattle.triple_ord.specs.{Gap.Gap, Gap.before, Gap.after, Gap.present, Order.IsInOrder, Search.Fits}
 

@@ -1,13 +1,10 @@
 -- What an insertion does: one step over its place.
-use Rattle.std.specs.Prelude.{◌≡◌, ◌≢◌, ℕ, Option, Some, None, Result, Ok, Err, length}
-use Rattle.std.specs.declared.cmp.Ordering.{Ordering, TheVariants.Equal}
+use Rattle.std.specs.{Prelude.◌≡◌, Prelude.◌≢◌, Prelude.ℕ, Prelude.Option, Prelude.Some, Prelude.None, Prelude.Result, Prelude.Ok, Prelude.Err, Prelude.length, declared.cmp.Ordering.Ordering, declared.cmp.Ordering.TheVariants.Equal}
 use Rattle.chain_base.specs.{Chain.Entry, Chain.Chain, Chain.chain_limit, Chain.with_room, Insert.IsInsertion}
 use Rattle.ord_tree.specs.Tree.{Tree, IsGrown, with_item}
-use Rattle.triple_ord.specs.declared.error.OrdInsertionError.TheVariants.{FailedOrdRequirement, NotWithinCapacity, BeyondMaxCapacity}
-use Rattle.triple_ord.specs.declared.entry_kind.OrdEntryKind.{OrdEntryKind, TheVariants.New, TheVariants.Replacing}
-use Rattle.triple_ord.specs.{declared.error.OrdInsertionError.TheVariants.AllocError, declared.error.OrdInsertionError.OrdInsertionError}
-use Rattle.triple_ord.specs.Gap.{Gap, with_between}
-use Rattle.triple_ord.specs.{Place.Aim, Place.at_key, Place.beside, Place.into, Place.over, Place.nowhere, Place.IsPlace, Search.pointer}
+use Rattle.triple_ord.specs.declared.error.OrdInsertionError.TheVariants.{FailedOrdRequirement, NotWithinCapacity, BeyondMaxCapacity, AllocError}
+use Rattle.triple_ord.specs.{declared.entry_kind.OrdEntryKind.OrdEntryKind, declared.entry_kind.OrdEntryKind.TheVariants.New, declared.entry_kind.OrdEntryKind.TheVariants.Replacing, declared.error.OrdInsertionError.OrdInsertionError}
+use Rattle.triple_ord.specs.{Place.Aim, Place.at_key, Place.beside, Place.into, Place.over, Place.nowhere, Place.IsPlace, Gap.Gap, Gap.with_between, Search.pointer}
 
 -- whether an insertion keeps within the capacity, or grows where no slot is vacant
 pub data Growth : Type 0 where

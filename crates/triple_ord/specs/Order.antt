@@ -1,6 +1,5 @@
 -- When a list is in the order of its keys.
-use Rattle.std.specs.declared.cmp.Ordering.{Ordering, TheVariants.Greater}
-use Rattle.std.specs.Prelude.{◌≡◌, ◌≢◌, List, ◌∷◌, ◌++◌}
+use Rattle.std.specs.{declared.cmp.Ordering.Ordering, declared.cmp.Ordering.TheVariants.Greater, Prelude.◌≡◌, Prelude.◌≢◌, Prelude.List, Prelude.◌∷◌, Prelude.◌++◌}
 use Rattle.chain_base.specs.Chain.{Entry}
 
 -- no entry's key is greater than that of the entry directly after it

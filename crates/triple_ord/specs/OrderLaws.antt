@@ -1,13 +1,10 @@
 -- What is true of searches and insertions on a list in order, and of rebuilt shapes: each a statement of its own.
-use Rattle.std.specs.Prelude.{◌≡◌, ◌≢◌, ◌↔◌, ℕ, ◌⊎◌, List, [], ◌∷◌, ◌++◌, Option, Some, None, Result, Contains}
+use Rattle.std.specs.{Prelude.◌≡◌, Prelude.◌≢◌, Prelude.◌↔◌, Prelude.ℕ, Prelude.◌⊎◌, Prelude.List, Prelude.[], Prelude.◌∷◌, Prelude.◌++◌, Prelude.Option, Prelude.Some, Prelude.None, Prelude.Result, Prelude.Contains, List.All}
 use Rattle.std.specs.declared.cmp.Ordering.{Ordering, TheVariants.Less, TheVariants.Equal, TheVariants.Greater}
-use Rattle.std.specs.List.{All}
 use Rattle.chain_base.specs.Chain.{Entry, IsDistinct}
 use Rattle.ord_tree.specs.{Half.IsRebuilt, Shape.Shape, Shape.missing, Shape.node, Shape.size_of, Tree.Tree}
-use Rattle.triple_ord.specs.{ClosureSearch.Shown, ClosureSearch.FindsWith, Gap.Gap, Gap.before, Gap.after}
-use Rattle.triple_ord.specs.{Insertion.Growth, Insertion.InsertsBy, Order.IsInOrder, Place.Aim, Place.at_key, Place.behind_key}
-use Rattle.triple_ord.specs.declared.{entry_kind.OrdEntryKind.OrdEntryKind, error.OrdInsertionError.OrdInsertionError}
-use Rattle.triple_ord.specs.Search.{pointer, order_to, FindsKey, FindsSimilar}
+use Rattle.triple_ord.specs.{declared.entry_kind.OrdEntryKind.OrdEntryKind, declared.error.OrdInsertionError.OrdInsertionError, Search.pointer, Search.order_to, Search.FindsKey, Search.FindsSimilar, Insertion.Growth, Insertion.InsertsBy}
+use Rattle.triple_ord.specs.{ClosureSearch.Shown, ClosureSearch.FindsWith, Place.Aim, Place.at_key, Place.behind_key, Gap.Gap, Gap.before, Gap.after, Order.IsInOrder}
 
 module _ {T K : Type 0} (key : T → K) (cmp : K → K → Ordering) where
   -- no entry has an equal key

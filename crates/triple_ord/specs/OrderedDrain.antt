@@ -1,6 +1,5 @@
 -- What a contract sees of a drain of an ordered arena in the order of its list.
-use Rattle.std.specs.Prelude.{◌≡◌, ℕ, Option, Some, None, List, [], ◌∷◌, MatchOption}
-use Rattle.std.specs.Borrow.{GName}
+use Rattle.std.specs.{Prelude.◌≡◌, Prelude.ℕ, Prelude.Option, Prelude.Some, Prelude.None, Prelude.List, Prelude.[], Prelude.◌∷◌, Prelude.MatchOption, Borrow.GName}
 use Rattle.arena_base.specs.{Generation.overflows_after, Invalidation.allowed_value, Invalidation.is_overflow}
 use Rattle.arena_base.specs.declared.invalidation.InvalidationOption.{InvalidationOption}
 use Rattle.chain_base.specs.Chain.{Entry, removed}

@@ -1,11 +1,9 @@
 -- The place of an insertion: where in the list its item goes.
-use Rattle.std.specs.declared.cmp.Ordering.{Ordering, TheVariants.Less, TheVariants.Equal, TheVariants.Greater}
+use Rattle.std.specs.{declared.cmp.Ordering.Ordering, declared.cmp.Ordering.TheVariants.Less, declared.cmp.Ordering.TheVariants.Equal, declared.cmp.Ordering.TheVariants.Greater, Borrow.Bor}
 use Rattle.std.specs.Prelude.{◌≡◌, ◌≢◌, ℕ, List, [], Option, Some, None, IfSome, IsSomeAnd}
-use Rattle.std.specs.Borrow.{Bor}
 use Rattle.chain_base.specs.Chain.{Entry, entry_at}
-use Rattle.triple_ord.specs.declared.insert_kind.OrdInsertKind.TheVariants.{Empty, Normal, Nonhereditary, Linear, NonhereditaryLinear}
-use Rattle.triple_ord.specs.{declared.insert_kind.OrdInsertKind.TheVariants.Manual, Gap.Gap, Gap.before, Gap.after}
-use Rattle.triple_ord.specs.{Search.order_to, Search.Fits, Search.IsFirstEqual, declared.insert_kind.OrdInsertKind.OrdInsertKind}
+use Rattle.triple_ord.specs.declared.insert_kind.OrdInsertKind.TheVariants.{Empty, Normal, Nonhereditary, Linear, NonhereditaryLinear, Manual}
+use Rattle.triple_ord.specs.{Search.order_to, Search.Fits, Search.IsFirstEqual, declared.insert_kind.OrdInsertKind.OrdInsertKind, Gap.Gap, Gap.before, Gap.after}
 
 -- What an insertion goes by: nothing, as the list is to be empty; a key, whose entry's item is to be replaced, or behind whose entries
 -- a new one is to go; or a side of the entry with an index, or that entry itself.

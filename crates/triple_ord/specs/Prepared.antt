@@ -3,12 +3,10 @@ use Rattle.std.specs.Prelude.{◌≡◌, ◌≢◌, ℕ, Option, Some, None, IsS
 use Rattle.std.{proofs.Props.props, specs.declared.cmp.Ordering.Ordering, specs.declared.cmp.Ordering.TheVariants.Equal}
 use Rattle.chain_base.specs.Chain.{Entry, Chain, entry_at, next_index}
 use Rattle.ord_tree.specs.Tree.{Tree, put_at}
-use Rattle.triple_ord.specs.{Arena.item_of, EntryVisits.HasSeen, EntryVisits.VisitsFor, Gap.with_between}
-use Rattle.triple_ord.specs.{Place.Aim, Place.Place, Place.into, Place.over, Place.nowhere, Place.IsPlace, Place.aim_of, Search.pointer}
 use Rattle.triple_ord.specs.declared.insert_kind.OrdInsertKind.TheVariants.{Normal, Nonhereditary, Linear, NonhereditaryLinear}
-use Rattle.triple_ord.specs.declared.prepared.InsertPlace.{InsertPlace, TheVariants.New, TheVariants.Replacing}
-use Rattle.triple_ord.specs.declared.ties.Ties.{Ties, TheVariants.Sought, TheVariants.Passed}
-use Rattle.triple_ord.specs.declared.{entry_kind.OrdEntryKind.OrdEntryKind, insert_kind.OrdInsertKind.OrdInsertKind}
+use Rattle.triple_ord.specs.{declared.prepared.InsertPlace.InsertPlace, declared.prepared.InsertPlace.TheVariants.New, declared.prepared.InsertPlace.TheVariants.Replacing, EntryVisits.HasSeen, EntryVisits.VisitsFor, Gap.with_between}
+use Rattle.triple_ord.specs.{declared.ties.Ties.Ties, declared.ties.Ties.TheVariants.Sought, declared.ties.Ties.TheVariants.Passed, declared.entry_kind.OrdEntryKind.OrdEntryKind, declared.insert_kind.OrdInsertKind.OrdInsertKind}
+use Rattle.triple_ord.specs.{Place.Aim, Place.Place, Place.into, Place.over, Place.nowhere, Place.IsPlace, Place.aim_of, Search.pointer, Arena.item_of}
 use Rattle.triple_ord.specs.declared.entry_kind.OrdEntryKind.TheVariants as shown
 
 -- the index of a pointer

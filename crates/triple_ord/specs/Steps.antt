@@ -2,8 +2,7 @@
 use Rattle.std.specs.Prelude.{◌≡◌, ℕ, ◌+◌, ◌<◌, ◌≤◌, List, ◌∷◌, ◌++◌, Option, Some, None, IfSome, MatchOption, length}
 use Rattle.std.specs.declared.cmp.Ordering.{Ordering, TheVariants.Less, TheVariants.Equal, TheVariants.Greater}
 use Rattle.chain_base.specs.{Chain.Entry, Link.Link}
-use Rattle.triple_ord.specs.{Gap.Gap, Gap.first_of, Gap.last_of, Hint.position_of, Hint.way_length, Order.IsInOrder}
-use Rattle.triple_ord.specs.Search.{order_to, Fits, FindsSimilar}
+use Rattle.triple_ord.specs.{Search.order_to, Search.Fits, Search.FindsSimilar, Gap.Gap, Gap.first_of, Gap.last_of, Hint.position_of, Hint.way_length, Order.IsInOrder}
 
 -- the neighbour on the side on which a key lies, none for an equal key
 abbrev pub neighbour_towards : {X : Type 0} → Link X → Ordering → Option ℕ

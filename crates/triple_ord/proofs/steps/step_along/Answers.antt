@@ -1,8 +1,6 @@
-use Rattle.triple_ord.proofs.{Inserting.equal_by, OrderLaws.taken-less, OrderLaws.taken-greater, OrderLaws.taken-equal}
-use Rattle.triple_ord.proofs.Stepping.{stepping-begins, stepping-occupied, stepping-goes, stepping-order, stepping-settles}
-use Rattle.triple_ord.proofs.Words.{◌≡◌, ℕ, refl, sym, ap, ◌∙◌, arith, option_map, taken}
+use Rattle.triple_ord.proofs.Stepping.{stepping-begins, stepping-occupied, stepping-goes, stepping-order, stepping-settles, stepping-unequal, stepping-near, apart, alike}
+use Rattle.triple_ord.proofs.{Words.◌≡◌, Words.ℕ, Words.refl, Words.sym, Words.ap, Words.◌∙◌, Words.arith, Words.option_map, Words.taken, OrderLaws.taken-less, OrderLaws.taken-greater, OrderLaws.taken-equal, Inserting.equal_by}
 use Rattle.triple_ord.proofs.steps.step_along.Goals.{in_default-via-in-Some+else-ne, in_default-via-in_default}
-use Rattle.triple_ord.proofs.Stepping.{stepping-unequal, stepping-near, apart, alike}
 use Rattle.triple_ord.proofs.steps.step_along.Goals as goal
 
 pub loop-step-init : goal.loop-step-init

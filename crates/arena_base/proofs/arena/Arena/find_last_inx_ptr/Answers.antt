@@ -1,5 +1,4 @@
-use Rattle.arena_base.proofs.Words.{inl, inr, ◌≡◌, None, get_or, refl, arith, common_steps, sym, ap, ◌∙◌, cases_lt, get_or-take}
-use Rattle.arena_base.proofs.Slots.{counted_none}
+use Rattle.arena_base.proofs.{Words.inl, Words.inr, Words.◌≡◌, Words.None, Words.get_or, Words.refl, Words.arith, Words.common_steps, Words.sym, Words.ap, Words.◌∙◌, Words.cases_lt, Words.get_or-take, Slots.counted_none}
 use Rattle.arena_base.proofs.arena.Arena.find_last_inx_ptr.Goals as goal
 
 pub returns-clause-empty : goal.returns-clause-empty

@@ -1,5 +1,4 @@
-use Rattle.arena_base.proofs.Words.{◌≡◌, length, arith, map, sym, ◌∙◌, eqb-true, length-map, length-reverse, entry_in, arena_of}
-use Rattle.arena_base.proofs.Slots.{full-occupied}
+use Rattle.arena_base.proofs.{Words.◌≡◌, Words.length, Words.arith, Words.map, Words.sym, Words.◌∙◌, Words.eqb-true, Words.length-map, Words.length-reverse, Words.entry_in, Words.arena_of, Slots.full-occupied}
 use Rattle.arena_base.proofs.arena.Arena.full_positions.Goals as goal
 
 pub returns-then-is_empty : goal.returns-then-is_empty

@@ -1,5 +1,4 @@
-use Rattle.arena_base.proofs.Words.{◌≡◌, ℕ, ◌+◌, None, ◌∷◌, ◌-◌, arith, sym, ap, ◌∙◌, option_map, generation_at, falling_from}
-use Rattle.arena_base.proofs.Walks.{falling-none, falling-some}
+use Rattle.arena_base.proofs.{Words.◌≡◌, Words.ℕ, Words.◌+◌, Words.None, Words.◌∷◌, Words.◌-◌, Words.arith, Words.sym, Words.ap, Words.◌∙◌, Words.option_map, Words.generation_at, Words.falling_from, Walks.falling-none, Walks.falling-some}
 use Rattle.arena_base.proofs.arena.Arena.last_before.Goals as goal
 
 pub returns-in-Some-clause-pointers : goal.returns-in-Some-clause-pointers

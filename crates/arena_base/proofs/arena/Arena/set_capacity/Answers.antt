@@ -1,6 +1,5 @@
-use Rattle.arena_base.proofs.Words.{◌≡◌, suc, ◌+◌, ◌++◌, length, replicate, ◌-◌, refl, arith, ap, ◌∙◌, add-one, length-take, Vacant}
-use Rattle.arena_base.proofs.Steps.{resized-cons, entries-resized, padded-vacant, resized-full, relisted, relisted-sound}
-use Rattle.arena_base.proofs.{Words.common_steps, arena.Arena.set_capacity.Given.Over, arena.Arena.set_capacity.Goals.After-add_vacant}
+use Rattle.arena_base.proofs.Words.{◌≡◌, suc, ◌+◌, ◌++◌, length, replicate, ◌-◌, refl, arith, ap, ◌∙◌, add-one, length-take, Vacant, common_steps}
+use Rattle.arena_base.proofs.{Steps.resized-cons, Steps.entries-resized, Steps.padded-vacant, Steps.resized-full, Steps.relisted, Steps.relisted-sound, arena.Arena.set_capacity.Goals.After-add_vacant, arena.Arena.set_capacity.Given.Over}
 use Rattle.arena_base.proofs.arena.Arena.set_capacity.Goals as goal
 
 -- the slots, with vacant ones added

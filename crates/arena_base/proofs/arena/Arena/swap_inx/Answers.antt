@@ -1,6 +1,5 @@
-use Rattle.arena_base.proofs.Words.{◌≡◌, ◌<◌, length, arith, vec_len}
+use Rattle.arena_base.proofs.{arena.Arena.swap_inx.Given.Over, arena.Arena.swap_inx.Goals.After-position_of_entry-second, arena.Arena.swap_inx.Goals.After-renew-2, Words.◌≡◌, Words.◌<◌, Words.length, Words.arith, Words.vec_len}
 use Rattle.arena_base.proofs.Steps.{capacity-is, slot-within, read-occupied, IsExchange, swapped-view, swapped-sound}
-use Rattle.arena_base.proofs.arena.Arena.swap_inx.{Given.Over, Goals.After-position_of_entry-second, Goals.After-renew-2}
 use Rattle.arena_base.proofs.arena.Arena.swap_inx.Goals as goal
 
 pub generation-kept_first-requires : goal.generation-kept_first-requires

@@ -1,5 +1,4 @@
-use Rattle.arena_base.proofs.Steps.{read, read-occupied, taken, taken-sound}
-use Rattle.arena_base.proofs.{Words.refl, Words.arith, Words.◌∙◌, Slots.entry_in-slot_entry}
+use Rattle.arena_base.proofs.{Steps.read, Steps.read-occupied, Steps.taken, Steps.taken-sound, Words.refl, Words.arith, Words.◌∙◌, Slots.entry_in-slot_entry}
 use Rattle.arena_base.proofs.arena.Arena.take_entry.Goals as goal
 
 pub take-entry-requires : goal.take-entry-requires

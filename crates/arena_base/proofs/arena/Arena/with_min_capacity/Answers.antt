@@ -1,5 +1,4 @@
-use Rattle.arena_base.proofs.Words.{None, [], refl, arith, ◌∙◌, none-some, Vacant}
-use Rattle.arena_base.proofs.Steps.{length-padded, resized-cons, relisted, relisted-sound, entries-made}
+use Rattle.arena_base.proofs.{Steps.length-padded, Steps.resized-cons, Steps.relisted, Steps.relisted-sound, Steps.entries-made, Words.None, Words.[], Words.refl, Words.arith, Words.◌∙◌, Words.none-some, Words.Vacant}
 use Rattle.arena_base.proofs.arena.Arena.with_min_capacity.Goals as goal
 
 pub invariant_of-result : goal.invariant_of-result

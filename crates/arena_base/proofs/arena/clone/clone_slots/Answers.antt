@@ -1,6 +1,5 @@
-use Rattle.arena_base.proofs.Words.{ℕ, ◌+◌, ◌<◌, length, refl, arith, sym, ap, ◌∙◌, slot, Grants}
-use Rattle.arena_base.proofs.Clones.{cloned-begins, cloned-vacant, cloned-entry, cloned-ends, cloned-refused}
-use Rattle.arena_base.proofs.{Slots.greatest_occupied-below, arena.clone.clone_slots.Goals.in-Some+in-Ok, arena.clone.clone_slots.Goals.in-None}
+use Rattle.arena_base.proofs.{Words.ℕ, Words.◌+◌, Words.◌<◌, Words.length, Words.refl, Words.arith, Words.sym, Words.ap, Words.◌∙◌, Words.slot, Words.Grants, Slots.greatest_occupied-below}
+use Rattle.arena_base.proofs.{Clones.cloned-begins, Clones.cloned-vacant, Clones.cloned-entry, Clones.cloned-ends, Clones.cloned-refused, arena.clone.clone_slots.Goals.in-Some+in-Ok, arena.clone.clone_slots.Goals.in-None}
 use Rattle.arena_base.proofs.arena.clone.clone_slots.Goals as goal
 
 pub loop-position-init : goal.loop-position-init

@@ -1,5 +1,4 @@
-use Rattle.arena_base.proofs.Words.{refl, sym, ap, ◌∙◌, unwrap_or}
-use Rattle.arena_base.proofs.Slots.{greatest_occupied-last, greatest_occupied-none, unwrap_or-index_number}
+use Rattle.arena_base.proofs.{Slots.greatest_occupied-last, Slots.greatest_occupied-none, Slots.unwrap_or-index_number, Words.refl, Words.sym, Words.ap, Words.◌∙◌, Words.unwrap_or}
 use Rattle.arena_base.proofs.arena.clone.greatest_occupied.Goals as goal
 
 pub returns-in-Some : goal.returns-in-Some

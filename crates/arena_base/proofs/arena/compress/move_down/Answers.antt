@@ -1,6 +1,5 @@
-use Rattle.arena_base.proofs.Words.{◌<◌, length, get_or, set, refl, arith, sym, ap, ◌∙◌, rules}
 use Rattle.arena_base.proofs.Compressing.{compressed-begins, compressed-vacant, compressed-free, compressed-filled, compressed-ends}
-use Rattle.arena_base.proofs.arena.compress.move_down.Goals.{in-Some, in_default}
+use Rattle.arena_base.proofs.{Words.◌<◌, Words.length, Words.get_or, Words.set, Words.refl, Words.arith, Words.sym, Words.ap, Words.◌∙◌, Words.rules, arena.compress.move_down.Goals.in-Some, arena.compress.move_down.Goals.in_default}
 use Rattle.arena_base.proofs.arena.compress.move_down.Goals as goal
 
 pub loop-from-init : goal.loop-from-init

@@ -1,4 +1,4 @@
-use Rattle.std.proofs.Common.{ap, inl, inr, option_map}
+use Rattle.std.proofs.{Common.ap, Common.inl, Common.inr, Common.option_map, Common.arith, lemmas.Grind.common_steps}
 use Rattle.chain_base.proofs.Calls.{beside-inserted, Inserts-linked}
 use Rattle.chain_base.proofs.chain.ChainArena.insert_within_capacity.Goals as goal
 
@@ -32,3 +32,9 @@ returns-clause-ok g c =
 
 pub neighbours-requires : goal.neighbours-requires
 neighbours-requires g c = c.requires
+
+pub returns-in_err-p-clause-refusal : goal.returns-in_err-p-clause-refusal
+returns-in_err-p-clause-refusal g c = grind (arith, common_steps)
+
+pub returns-clause-full : goal.returns-clause-full
+returns-clause-full g c = grind (arith, common_steps)

@@ -1,5 +1,4 @@
-use Rattle.triple_ord.proofs.Words.{ap, length, map, ◌∙◌, length-map, Chain, relocated-items}
-use Rattle.triple_ord.proofs.CallerLemmas.{ended-relocated}
+use Rattle.triple_ord.proofs.{Words.ap, Words.length, Words.map, Words.◌∙◌, Words.length-map, Words.Chain, Words.relocated-items, CallerLemmas.ended-relocated}
 use Rattle.triple_ord.proofs.arena.SimpleOrdArena.compress.Goals as goal
 
 pub returns-clause-items : goal.returns-clause-items

@@ -1,5 +1,4 @@
-use Rattle.triple_ord.proofs.Words.{ap, length, map, ◌∙◌, sym, length-map, Chain, items-numbered}
-use Rattle.triple_ord.proofs.CallerLemmas.{found-numbered}
+use Rattle.triple_ord.proofs.{Words.ap, Words.length, Words.map, Words.◌∙◌, Words.sym, Words.length-map, Words.Chain, Words.items-numbered, CallerLemmas.found-numbered}
 use Rattle.triple_ord.proofs.arena.SimpleOrdArena.compress_canonical.Goals as goal
 
 pub returns-clause-items : goal.returns-clause-items

@@ -1,5 +1,4 @@
-use Rattle.triple_ord.proofs.Places.{beside-replaced, beside-inserted, beside-refused}
-use Rattle.triple_ord.proofs.Words.{◌≡◌, Ok, Err, rules}
+use Rattle.triple_ord.proofs.{Places.beside-replaced, Places.beside-inserted, Places.beside-refused, Words.◌≡◌, Words.Ok, Words.Err, Words.rules}
 use Rattle.triple_ord.proofs.arena.SimpleOrdArena.insert_inx_manual_unwrap.Goals as goal
 
 pub returns-in-Equal : goal.returns-in-Equal

@@ -1,5 +1,4 @@
-use Rattle.triple_ord.proofs.CallerLemmas.{updates-written, count-written, inserted-new}
-use Rattle.triple_ord.proofs.{Inserting.IsInsertion-same, Places.put-gap, Places.insertion-named, Words.refl, Words.sym}
+use Rattle.triple_ord.proofs.{CallerLemmas.updates-written, CallerLemmas.count-written, CallerLemmas.inserted-new, Places.put-gap, Places.insertion-named, Inserting.IsInsertion-same, Words.refl, Words.sym}
 use Rattle.triple_ord.proofs.arena.SimpleOrdArena.insert_prepared.Goals as goal
 
 pub returns-in-Replacing-clause-updates : goal.returns-in-Replacing-clause-updates

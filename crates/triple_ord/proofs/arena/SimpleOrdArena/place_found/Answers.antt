@@ -1,5 +1,4 @@
-use Rattle.triple_ord.proofs.Words.{◌≡◌, sym, ap, ◌∙◌, is_eq, Ordering}
-use Rattle.triple_ord.proofs.Places.{found-alone, found-beside, found-over}
+use Rattle.triple_ord.proofs.{Words.◌≡◌, Words.sym, Words.ap, Words.◌∙◌, Words.is_eq, Words.Ordering, Places.found-alone, Places.found-beside, Places.found-over}
 use Rattle.triple_ord.proofs.arena.SimpleOrdArena.place_found.Goals as goal
 
 pub returns-in-None : goal.returns-in-None

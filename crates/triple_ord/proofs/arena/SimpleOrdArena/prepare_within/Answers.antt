@@ -1,5 +1,4 @@
-use Rattle.triple_ord.proofs.Words.{◌≡◌, None, sym, ap, ◌∙◌, option_map, within, NotWithinCapacity}
-use Rattle.triple_ord.proofs.Places.{new-refused, full}
+use Rattle.triple_ord.proofs.{Words.◌≡◌, Words.None, Words.sym, Words.ap, Words.◌∙◌, Words.option_map, Words.within, Words.NotWithinCapacity, Places.new-refused, Places.full}
 use Rattle.triple_ord.proofs.arena.SimpleOrdArena.prepare_within.Goals as goal
 
 pub returns-in_default-clause-refused : goal.returns-in_default-clause-refused

@@ -1,5 +1,4 @@
-use Rattle.arena_base.proofs.Words.{◌+◌, is_some, length, arith, refl, sym, ap, ◌∙◌}
-use Rattle.arena_base.proofs.Walks.{entries_rising-removed}
+use Rattle.arena_base.proofs.{Words.◌+◌, Words.is_some, Words.length, Words.arith, Words.refl, Words.sym, Words.ap, Words.◌∙◌, Walks.entries_rising-removed}
 use Rattle.arena_base.proofs.arena.drain.DrainIterator.next.Goals as goal
 
 pub unwrap-requires : goal.unwrap-requires

@@ -1,5 +1,4 @@
-use Rattle.triple_ord.proofs.Words.{◌≡◌, [], Bor, arith, length, sym, ap, ◌∙◌, Link}
-use Rattle.triple_ord.proofs.Stepping.{walk-step, walk-left, walk-goes, walk-end}
+use Rattle.triple_ord.proofs.{Words.◌≡◌, Words.[], Words.Bor, Words.arith, Words.length, Words.sym, Words.ap, Words.◌∙◌, Words.Link, Stepping.walk-step, Stepping.walk-left, Stepping.walk-goes, Stepping.walk-end}
 use Rattle.triple_ord.proofs.arena.iter.IterIterator.next.Goals as goal
 
 pub returns-in_err-entry-clause-steps : goal.returns-in_err-entry-clause-steps
