@@ -5,7 +5,7 @@ mod memory;
 mod runs;
 
 use ord_script::{FaultKind, ScriptEnd, Watched, serve};
-use std::process::Abort;
+use std::alloc::Global;
 
 /// Scripts that are done, each with its answer.
 const ANSWERS: &[(&[u8], &str)] = &[
@@ -336,27 +336,31 @@ const BAD_LINES: &[(&[u8], FaultKind)] = &[
     ),
 ];
 
-/// Asserts what a script answers and how it ends.
-fn expect_answer<R: Abort + AllocGlobal>(rt: &R, script: &[u8], answer: &str, end: ScriptEnd) {
-    let mut output = Vec::new(rt.alloc());
+/// Whether a script is answered so and ends so, and its reader and writer say that all went well.
+fn is_answered(alloc: Global, script: &[u8], answer: &str, end: ScriptEnd) -> bool {
+    let mut output = Vec::new(alloc);
     let mut reader = Watched::new(script);
     let mut writer = Watched::new(&mut output);
-    let ended = serve(rt.alloc(), &mut reader, &mut writer);
-    assert!(rt; ended == end && reader.ended() && !reader.failed() && !writer.failed());
-    assert!(rt; output.as_slice() == answer.as_bytes(), "{script:?}");
+    let ended = serve(alloc, &mut reader, &mut writer);
+    let is_ended = ended == end && reader.ended() && !reader.failed() && !writer.failed();
+    is_ended && output.as_slice() == answer.as_bytes()
 }
 
 #[test]
 fn answers_scripts(rt: HostRuntime) {
     for (script, answer) in ANSWERS {
-        expect_answer(&rt, script, answer, ScriptEnd::Done);
+        assert!(rt;
+            is_answered(rt.alloc(), script, answer, ScriptEnd::Done),
+            "{script:?}"
+        );
     }
 }
 
 #[test]
 fn answers_up_to_a_fault(rt: HostRuntime) {
     for (script, answer, line, kind) in FAULTS {
-        expect_answer(&rt, script, answer, ScriptEnd::Fault(*line, *kind));
+        let end = ScriptEnd::Fault(*line, *kind);
+        assert!(rt; is_answered(rt.alloc(), script, answer, end), "{script:?}");
     }
 }
 
@@ -368,6 +372,7 @@ fn tells_what_is_wrong(rt: HostRuntime) {
             FaultKind::WrongArguments => "line 1: wrong arguments\n",
             FaultKind::BadNumber => "line 1: bad number\n",
         };
-        expect_answer(&rt, line, answer, ScriptEnd::Fault(1, *kind));
+        let end = ScriptEnd::Fault(1, *kind);
+        assert!(rt; is_answered(rt.alloc(), line, answer, end), "{line:?}");
     }
 }

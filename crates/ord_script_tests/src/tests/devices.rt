@@ -2,10 +2,9 @@
 ghost use Rattle.std.specs.Prelude.{◌≤◌, IfOk};
 
 use ord_script::{FaultKind, ScriptEnd, Watched, serve};
-use std::alloc::AllocError;
+use std::alloc::{AllocError, Global};
 use std::io;
 use std::io::{ErrorKind, Read, Write};
-use std::process::Abort;
 use std::test::Fail;
 
 /// How a device goes: at most so many bytes a call, and perhaps one call that fails. It counts its calls.
@@ -109,55 +108,55 @@ struct Calls {
     writes: usize,
 }
 
-/// Serves the script with devices that go so, and asserts its end, what is written, and what the marks say.
-fn expect_end<R: Abort + AllocGlobal>(
-    rt: &R,
+/// Whether a reader and a writer say of themselves what the end says.
+fn are_marked(end: ScriptEnd, read_ended: bool, read_failed: bool, write_failed: bool) -> bool {
+    read_ended == (end == END || end == ScriptEnd::WriteFailed)
+        && read_failed == (end == ScriptEnd::ReadFailed)
+        && write_failed == (end == ScriptEnd::WriteFailed)
+}
+
+/// The calls of devices that go so, where the script ends so, as the marks say too, and this is written.
+fn calls_of(
+    alloc: Global,
     reading: Pace,
     writing: Pace,
-    end: ScriptEnd,
+    wanted_end: ScriptEnd,
     written: &[u8],
-) -> Calls {
+) -> Option<Calls> {
     let mut source = Source {
         bytes: SCRIPT,
         pace: reading,
     };
     let mut sink = Sink {
-        bytes: Vec::new(rt.alloc()),
+        bytes: Vec::new(alloc),
         pace: writing,
         flushes: 0,
     };
     let mut reader = Watched::new(&mut source);
     let mut writer = Watched::new(&mut sink);
-    assert!(rt; serve(rt.alloc(), &mut reader, &mut writer) == end);
-    let is_answered = end == END || end == ScriptEnd::WriteFailed;
-    let told = (reader.ended(), reader.failed(), writer.failed());
-    assert!(rt;
-        told == (
-            is_answered,
-            end == ScriptEnd::ReadFailed,
-            end == ScriptEnd::WriteFailed
-        )
-    );
-    assert!(rt; sink.bytes.as_slice() == written);
-    Calls {
+    let end = serve(alloc, &mut reader, &mut writer);
+    let is_told = are_marked(end, reader.ended(), reader.failed(), writer.failed());
+    let is_right = end == wanted_end && is_told && sink.bytes.as_slice() == written;
+    let calls = Calls {
         reads: source.pace.calls,
         unread: source.bytes.len(),
         writes: sink.pace.calls,
-    }
+    };
+    is_right.then_some(calls)
 }
 
 #[test]
 fn reads_and_writes_in_pieces(rt: HostRuntime) {
     for step in [1, 2, 3, 7, 50] {
         let pace = Pace { step, ..AT_ONCE };
-        let calls = expect_end(&rt, pace, pace, END, ANSWER);
+        let calls = calls_of(rt.alloc(), pace, pace, END, ANSWER);
         // the last read is the one that meets the end
         let expected = Calls {
             reads: SCRIPT.len().div_ceil(step) + 1,
             unread: 0,
             writes: ANSWER.len().div_ceil(step),
         };
-        assert!(rt; calls == expected);
+        assert!(rt; calls == Some(expected));
     }
 }
 
@@ -166,13 +165,13 @@ fn each_read_fails_in_turn(rt: HostRuntime) {
     for call in 0..=SCRIPT.len() {
         let failure = Failure::ErrorAt(call);
         let pace = Pace { failure, ..BY_BYTE };
-        let calls = expect_end(&rt, pace, AT_ONCE, ScriptEnd::ReadFailed, b"");
+        let calls = calls_of(rt.alloc(), pace, AT_ONCE, ScriptEnd::ReadFailed, b"");
         let expected = Calls {
             reads: call + 1,
             unread: SCRIPT.len() - call,
             writes: 0,
         };
-        assert!(rt; calls == expected);
+        assert!(rt; calls == Some(expected));
     }
 }
 
@@ -182,13 +181,13 @@ fn each_write_fails_in_turn(rt: HostRuntime) {
         for failure in [Failure::ErrorAt(call), Failure::NothingAt(call)] {
             let pace = Pace { failure, ..BY_BYTE };
             let written = &ANSWER[..call];
-            let calls = expect_end(&rt, AT_ONCE, pace, ScriptEnd::WriteFailed, written);
+            let calls = calls_of(rt.alloc(), AT_ONCE, pace, ScriptEnd::WriteFailed, written);
             let expected = Calls {
                 reads: 2,
                 unread: 0,
                 writes: call + 1,
             };
-            assert!(rt; calls == expected);
+            assert!(rt; calls == Some(expected));
         }
     }
 }
@@ -236,22 +235,22 @@ fn a_watched_writer_is_asked_once_a_write(rt: HostRuntime) {
     }
 }
 
-/// Serves so many line feeds, of which none is answered: how it ends, after how many reads, and how many bytes are left unread.
-fn serve_line_feeds<R: Abort + AllocGlobal>(
-    rt: &R,
+/// Whether so many line feeds, of which none is answered, end so, after so many reads, with so many bytes unread.
+fn is_end_of_line_feeds(
+    alloc: Global,
     count: usize,
     failure: Failure,
-) -> Result<(ScriptEnd, usize, usize), AllocError> {
-    let script = vec![in rt.alloc(); b'\n'; count]?;
+    wanted: (ScriptEnd, usize, usize),
+) -> Result<bool, AllocError> {
+    let script = vec![in alloc; b'\n'; count]?;
     let mut source = Source {
         bytes: &script,
         pace: Pace { failure, ..AT_ONCE },
     };
-    let mut output = Vec::new(rt.alloc());
+    let mut output = Vec::new(alloc);
     let mut reader = Watched::new(&mut source);
-    let end = serve(rt.alloc(), &mut reader, &mut Watched::new(&mut output));
-    assert!(rt; output.is_empty());
-    Ok((end, source.pace.calls, source.bytes.len()))
+    let end = serve(alloc, &mut reader, &mut Watched::new(&mut output));
+    Ok(output.is_empty() && (end, source.pace.calls, source.bytes.len()) == wanted)
 }
 
 /// Line feeds, the call that fails, and how it ends, after how many reads, with how many bytes unread. 256 reads of 4096 bytes reach the limit.
@@ -275,7 +274,7 @@ const LINE_FEEDS: [(usize, Failure, (ScriptEnd, usize, usize)); 5] = [
 #[test]
 fn reads_one_byte_beyond_the_limit(rt: HostRuntime) -> Result<(), Fail> {
     for (count, failure, wanted) in &LINE_FEEDS {
-        assert!(rt; serve_line_feeds(&rt, *count, *failure)? == *wanted);
+        assert!(rt; is_end_of_line_feeds(rt.alloc(), *count, *failure, *wanted)?);
     }
     Ok(())
 }

@@ -92,27 +92,26 @@ const KEY_FACTOR: u64 = 7919;
 const TURN_FACTOR: u64 = 17_679;
 
 #[test]
-fn a_long_script_is_answered(rt: HostRuntime) -> Result<(), Fail> {
+fn a_long_script_is_answered(rt: HostRuntime) {
     let mut script = String::new(rt.alloc());
     let mut answer = String::new(rt.alloc());
     for turn in 0..COUNT {
         let key = turn * KEY_FACTOR % COUNT;
         let index = turn + 1;
-        write!(script, "insert {key} {turn}\n")?;
-        write!(answer, "new {index}.2\n")?;
+        write!(script, "insert {key} {turn}\n").expect(&rt, "memory");
+        write!(answer, "new {index}.2\n").expect(&rt, "memory");
     }
-    write!(script, "list\n")?;
-    write!(answer, "list")?;
+    write!(script, "list\n").expect(&rt, "memory");
+    write!(answer, "list").expect(&rt, "memory");
     for key in 0..COUNT {
         let turn = key * TURN_FACTOR % COUNT;
         let index = turn + 1;
-        write!(answer, " {index}.2={key}:{turn}")?;
+        write!(answer, " {index}.2={key}:{turn}").expect(&rt, "memory");
     }
-    write!(answer, "\n")?;
+    write!(answer, "\n").expect(&rt, "memory");
     let mut output = Vec::new(rt.alloc());
     let mut reader = Watched::new(script.as_bytes());
     let end = serve(rt.alloc(), &mut reader, &mut Watched::new(&mut output));
     assert!(rt; end == ScriptEnd::Done);
     assert!(rt; output.as_slice() == answer.as_bytes());
-    Ok(())
 }

@@ -3,8 +3,6 @@ use arena_base::{InvalidationOption, InvalidationResult, P8, Ptr};
 use ord_script::{Command, Reply, run};
 use std::alloc::{AllocError, Global};
 use std::cmp::Ordering;
-use std::process::Abort;
-use std::test::Fail;
 use triple_ord::{OrdInsertKind, OrdInsertionError, SimpleOrdArena, SimpleOrdItem};
 
 /// An item of the tests' own: a letter, found by its number.
@@ -32,18 +30,14 @@ fn item(number: u16, letter: char) -> Letter {
 /// A reply from the global heap.
 type Answer = Reply<P8, Letter, Global>;
 
-/// A run of these commands, each of which is answered.
+/// The replies to these commands.
 fn replies_to(
-    rt: &impl Abort,
     alloc: Global,
     arena: &mut SimpleOrdArena<P8, Letter>,
     commands: Vec<Command<P8, Letter>>,
 ) -> Result<Vec<Answer>, AllocError> {
-    let count = commands.len();
     let mut closure = |_p: P8, _l: &Letter| Ordering::Equal;
-    let replies = run(alloc, arena, commands, &mut closure)?;
-    assert!(rt; replies.len() == count);
-    Ok(replies)
+    run(alloc, arena, commands, &mut closure)
 }
 
 /// Whether the reply at this place is that a search found a pointer, or none, after so many visits.
@@ -134,12 +128,17 @@ fn is_listed(replies: &[Answer], place: usize, wanted: &[(u8, Letter)]) -> bool 
 }
 
 #[test]
-fn an_entry_goes_by_its_own_key(rt: HostRuntime) -> Result<(), Fail> {
+fn an_entry_goes_by_its_own_key(rt: HostRuntime) {
     let mut arena = SimpleOrdArena::new(rt.alloc());
-    let replies = replies_to(&rt, rt.alloc(), &mut arena, entry_commands(rt.alloc())?)?;
+    let replies = replies_to(
+        rt.alloc(),
+        &mut arena,
+        entry_commands(rt.alloc()).expect(&rt, "memory"),
+    )
+    .expect(&rt, "memory");
+    assert!(rt; replies.len() == 7);
     assert!(rt; refusal_at(&replies, 5) == Some(OrdInsertionError::NotWithinCapacity));
     assert!(rt; is_listed(&replies, 6, LISTED));
-    Ok(())
 }
 
 /// How a raised generation is told, and one that begins again.
@@ -147,69 +146,72 @@ const RAISED: InvalidationOption<()> = InvalidationOption::Success(());
 
 const BEGUN_AGAIN: InvalidationOption<()> = InvalidationOption::GenerationOverflow(());
 
-/// An arena of one entry under the pointer 1.2, at the greatest generation of eight bits.
-fn at_last_generation(
-    rt: &impl Abort,
+/// Whether an arena, which is empty, now has one entry under the pointer 1.2, at the greatest generation of eight bits.
+fn reaches_last_generation(
     alloc: Global,
-) -> Result<SimpleOrdArena<P8, Letter>, AllocError> {
-    let mut arena = SimpleOrdArena::new(alloc);
+    arena: &mut SimpleOrdArena<P8, Letter>,
+) -> Result<bool, AllocError> {
     let mut commands = Vec::new(alloc);
     commands.push(Command::Insert(item(1, 'a')))?;
     for _ in 2u8..255 {
         commands.push(Command::IncGeneration)?;
     }
-    let replies = replies_to(rt, alloc, &mut arena, commands)?;
-    assert!(rt; is_changed(&replies, 253, RAISED));
-    Ok(arena)
+    let replies = replies_to(alloc, arena, commands)?;
+    Ok(replies.len() == 254 && is_changed(&replies, 253, RAISED))
 }
 
 #[test]
-fn generations_of_eight_bits_begin_again(rt: HostRuntime) -> Result<(), Fail> {
-    let mut arena = at_last_generation(&rt, rt.alloc())?;
-    let commands = vec![in rt.alloc(); Command::Invalidate(P8::_from_raw(1, 2)), Command::Clear]?;
-    let replies = replies_to(&rt, rt.alloc(), &mut arena, commands)?;
+fn generations_of_eight_bits_begin_again(rt: HostRuntime) {
+    let mut arena = SimpleOrdArena::new(rt.alloc());
+    assert!(rt; reaches_last_generation(rt.alloc(), &mut arena).expect(&rt, "memory"));
+    let commands = vec![in rt.alloc();
+        Command::Invalidate(P8::_from_raw(1, 2)),
+        Command::Clear,
+    ].expect(&rt, "memory");
+    let replies = replies_to(rt.alloc(), &mut arena, commands).expect(&rt, "memory");
+    assert!(rt; replies.len() == 2);
     assert!(rt;
         matches!(replies.get(0), Some(Reply::Renewed(InvalidationResult::GenerationOverflow(q))) if q.generation() == 2)
     );
     assert!(rt; is_changed(&replies, 1, RAISED) && arena.generation() == 3);
-    Ok(())
 }
 
 #[test]
-fn a_compression_begins_the_generations_again(rt: HostRuntime) -> Result<(), Fail> {
-    let mut arena = at_last_generation(&rt, rt.alloc())?;
-    let commands = vec![in rt.alloc(); Command::Compress(false), Command::Canonical(false)]?;
-    let replies = replies_to(&rt, rt.alloc(), &mut arena, commands)?;
+fn a_compression_begins_the_generations_again(rt: HostRuntime) {
+    let mut arena = SimpleOrdArena::new(rt.alloc());
+    assert!(rt; reaches_last_generation(rt.alloc(), &mut arena).expect(&rt, "memory"));
+    let commands = vec![in rt.alloc(); Command::Compress(false), Command::Canonical(false)].expect(
+        &rt, "memory",
+    );
+    let replies = replies_to(rt.alloc(), &mut arena, commands).expect(&rt, "memory");
+    assert!(rt; replies.len() == 2);
     assert!(rt; is_changed(&replies, 0, BEGUN_AGAIN) && is_changed(&replies, 1, RAISED));
     assert!(rt; arena.generation() == 3);
-    Ok(())
 }
 
-/// An arena of these numbers, at the indexes from 1 on, and the refusal of the last one.
-fn inserted(
-    rt: &impl Abort,
+/// The replies to insertions of these numbers, which get the indexes from 1 on in an arena that is empty.
+fn insert_all(
     alloc: Global,
+    arena: &mut SimpleOrdArena<P8, Letter>,
     numbers: &[u16],
-) -> Result<(SimpleOrdArena<P8, Letter>, Option<OrdInsertionError>), AllocError> {
-    let mut arena = SimpleOrdArena::new(alloc);
+) -> Result<Vec<Answer>, AllocError> {
     let mut commands = Vec::new(alloc);
     for number in numbers {
         commands.push(Command::Insert(item(*number, 'x')))?;
     }
-    let replies = replies_to(rt, alloc, &mut arena, commands)?;
-    let refusal = refusal_at(&replies, numbers.len().saturating_sub(1));
-    Ok((arena, refusal))
+    replies_to(alloc, arena, commands)
 }
 
 #[test]
-fn indexes_of_eight_bits_run_out(rt: HostRuntime) -> Result<(), Fail> {
+fn indexes_of_eight_bits_run_out(rt: HostRuntime) {
     let mut numbers = Vec::new(rt.alloc());
     for number in 0u16..255 {
-        numbers.push(number)?;
+        numbers.push(number).expect(&rt, "memory");
     }
-    let (arena, refusal) = inserted(&rt, rt.alloc(), &numbers)?;
-    assert!(rt; refusal == Some(OrdInsertionError::BeyondMaxCapacity) && arena.len() == 254);
-    Ok(())
+    let mut arena = SimpleOrdArena::new(rt.alloc());
+    let replies = insert_all(rt.alloc(), &mut arena, &numbers).expect(&rt, "memory");
+    assert!(rt; replies.len() == 255 && arena.len() == 254);
+    assert!(rt; refusal_at(&replies, 254) == Some(OrdInsertionError::BeyondMaxCapacity));
 }
 
 /// Numbers of which 50 gets the index 1, and 10 the index 5.
@@ -217,9 +219,17 @@ const FIVE: &[u16] = &[50, 30, 70, 60, 10];
 
 /// Searches by a closure that says one order after another, whatever it is shown.
 #[test]
-fn searches_by_a_closure(rt: HostRuntime) -> Result<(), Fail> {
-    let (mut arena, _) = inserted(&rt, rt.alloc(), FIVE)?;
-    let commands = vec![in rt.alloc(); Command::SimilarWith, Command::FindWith]?;
+fn searches_by_a_closure(rt: HostRuntime) {
+    let mut arena = SimpleOrdArena::new(rt.alloc());
+    assert!(rt;
+        insert_all(rt.alloc(), &mut arena, FIVE)
+            .expect(&rt, "memory")
+            .len()
+            == 5
+    );
+    let commands = vec![in rt.alloc(); Command::SimilarWith, Command::FindWith].expect(
+        &rt, "memory",
+    );
     let mut calls = 0u8;
     let mut closure = |_p: P8, _l: &Letter| {
         calls = calls.wrapping_add(1);
@@ -229,18 +239,23 @@ fn searches_by_a_closure(rt: HostRuntime) -> Result<(), Fail> {
             _ => Ordering::Equal,
         }
     };
-    let replies = run(rt.alloc(), &mut arena, commands, &mut closure)?;
+    let replies = run(rt.alloc(), &mut arena, commands, &mut closure).expect(&rt, "memory");
     assert!(rt; (calls, replies.len()) == (5, 2));
     // 50, 70, 60; then 50, 30
     let p60 = P8::_from_raw(4, 2);
     assert!(rt; is_similar(&replies, 0, (p60, Ordering::Greater), 3));
     assert!(rt; is_found(&replies, 1, Some(P8::_from_raw(2, 2)), 2));
-    Ok(())
 }
 
 #[test]
-fn searches_from_a_hint(rt: HostRuntime) -> Result<(), Fail> {
-    let (mut arena, _) = inserted(&rt, rt.alloc(), FIVE)?;
+fn searches_from_a_hint(rt: HostRuntime) {
+    let mut arena = SimpleOrdArena::new(rt.alloc());
+    assert!(rt;
+        insert_all(rt.alloc(), &mut arena, FIVE)
+            .expect(&rt, "memory")
+            .len()
+            == 5
+    );
     let (p50, p60, p10) = (
         P8::_from_raw(1, 2),
         P8::_from_raw(4, 2),
@@ -250,10 +265,11 @@ fn searches_from_a_hint(rt: HostRuntime) -> Result<(), Fail> {
         Command::Similar(53),
         Command::SimilarLinear(2, 2, 40),
         Command::FindLinear(p10, 2, 60),
-    ]?;
-    let replies = replies_to(&rt, rt.alloc(), &mut arena, commands)?;
+    ]
+    .expect(&rt, "memory");
+    let replies = replies_to(rt.alloc(), &mut arena, commands).expect(&rt, "memory");
+    assert!(rt; replies.len() == 3);
     assert!(rt; is_similar(&replies, 0, (p60, Ordering::Less), 3));
     assert!(rt; is_similar(&replies, 1, (p50, Ordering::Less), 2));
     assert!(rt; is_found(&replies, 2, Some(p60), 5));
-    Ok(())
 }

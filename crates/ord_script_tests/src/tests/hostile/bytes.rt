@@ -1,8 +1,7 @@
 //! Bytes where no one puts them, numbers at and beyond their limits, and lines as long as an input may be.
-use super::{answers, served};
+use super::{is_answered, served};
 use ord_script::ScriptEnd;
-use std::alloc::Global;
-use std::process::Abort;
+use std::alloc::{AllocError, Global};
 
 /// The longest input.
 const LONGEST: usize = 1_048_576;
@@ -83,19 +82,20 @@ fn wanted(place: &Place, byte: u8) -> &'static str {
     }
 }
 
-/// Every byte at a place.
-fn each_byte_at(rt: &impl Abort, alloc: Global, place: &Place) {
-    for byte in 0u8..=255 {
-        let script = filled(rt, alloc, place.before, byte, 1, place.after);
-        answers(rt, alloc, &script, wanted(place, byte));
-    }
+/// Whether a script with this byte at a place is answered as it should.
+fn is_byte_answered(alloc: Global, place: &Place, byte: u8) -> Result<bool, AllocError> {
+    let script = filled(alloc, place.before, byte, 1, place.after)?;
+    Ok(is_answered(alloc, &script, wanted(place, byte)))
 }
 
 #[test]
-fn each_byte_at_each_place(rt: HostRuntime) {
+fn each_byte_at_each_place(rt: HostRuntime) -> Result<(), AllocError> {
     for place in &PLACES {
-        each_byte_at(&rt, rt.alloc(), place);
+        for byte in 0u8..=255 {
+            assert!(rt; is_byte_answered(rt.alloc(), place, byte)?);
+        }
     }
+    Ok(())
 }
 
 /// Numbers at their limits, each with what stands before it in a line, and the next one; with what follows them.
@@ -125,24 +125,32 @@ const LIMITS: &[(&str, &str, &str)] = &[
     ("canonical ", "1", "2"),
 ];
 
+/// Puts so many equal bytes between two texts at the end of a line.
+fn fill(
+    line: &mut Vec<u8>,
+    before: &str,
+    byte: u8,
+    count: usize,
+    after: &str,
+) -> Result<(), AllocError> {
+    line.extend_from_slice(before.as_bytes())?;
+    for _ in 0..count {
+        line.push(byte)?;
+    }
+    line.extend_from_slice(after.as_bytes())
+}
+
 /// So many equal bytes between two texts.
 fn filled(
-    rt: &impl Abort,
     alloc: Global,
     before: &str,
     byte: u8,
     count: usize,
     after: &str,
-) -> Vec<u8> {
+) -> Result<Vec<u8>, AllocError> {
     let mut line = Vec::new(alloc);
-    line.extend_from_slice(before.as_bytes())
-        .expect(rt, "memory");
-    for _ in 0..count {
-        line.push(byte).expect(rt, "memory");
-    }
-    line.extend_from_slice(after.as_bytes())
-        .expect(rt, "memory");
-    line
+    fill(&mut line, before, byte, count, after)?;
+    Ok(line)
 }
 
 /// How many line feeds an answer has.
@@ -156,51 +164,48 @@ fn count_lines(answer: &[u8]) -> usize {
     count
 }
 
-/// The line is a command, and answered by one line.
-fn is_command(rt: &impl Abort, alloc: Global, line: &[u8]) {
-    let (output, end) = served(alloc, line);
-    assert!(rt; end == ScriptEnd::Done && count_lines(output.as_slice()) == 1);
+/// Whether a number after so many zeros makes a line a command, which is answered by one line.
+fn is_command(alloc: Global, before: &str, zeros: usize, most: &str) -> Result<bool, AllocError> {
+    let line = filled(alloc, before, b'0', zeros, most)?;
+    let (output, end) = served(alloc, &line);
+    Ok(end == ScriptEnd::Done && count_lines(output.as_slice()) == 1)
 }
 
-/// A number at its limit, with zeros in front, the next one, and one far above, with nines in front.
-fn is_limit(rt: &impl Abort, alloc: Global, row: &(&str, &str, &str), count: usize) {
-    let (before, most, next) = *row;
-    is_command(rt, alloc, &filled(rt, alloc, before, b'0', count, most));
-    answers(
-        rt,
-        alloc,
-        &filled(rt, alloc, before, b'0', count, next),
-        BAD,
-    );
-    let nines = count.saturating_add(1);
-    answers(
-        rt,
-        alloc,
-        &filled(rt, alloc, before, b'9', nines, next),
-        BAD,
-    );
-}
-
-/// Every limit with so many zeros.
-fn each_limit(rt: &impl Abort, alloc: Global, count: usize) {
-    for row in LIMITS {
-        is_limit(rt, alloc, row, count);
-    }
+/// Whether a number after so many equal digits is none.
+fn is_bad(
+    alloc: Global,
+    before: &str,
+    digit: u8,
+    count: usize,
+    next: &str,
+) -> Result<bool, AllocError> {
+    let line = filled(alloc, before, digit, count, next)?;
+    Ok(is_answered(alloc, &line, BAD))
 }
 
 #[test]
-fn numbers_at_and_beyond_their_limits(rt: HostRuntime) {
+fn numbers_at_and_beyond_their_limits(rt: HostRuntime) -> Result<(), AllocError> {
     for count in [0usize, 1, 50, 3000] {
-        each_limit(&rt, rt.alloc(), count);
+        for (before, most, next) in LIMITS {
+            assert!(rt; is_command(rt.alloc(), *before, count, *most)?);
+            assert!(rt; is_bad(rt.alloc(), *before, b'0', count, *next)?);
+            assert!(rt; is_bad(rt.alloc(), *before, b'9', count + 1, *next)?);
+        }
     }
+    Ok(())
 }
 
-/// A script of the greatest length: so many equal bytes between two texts.
-fn longest(rt: &impl Abort, alloc: Global, before: &str, byte: u8, after: &str) -> Vec<u8> {
+/// Whether a script of the greatest length, of so many equal bytes between two texts, is answered so.
+fn is_longest_answered(
+    alloc: Global,
+    before: &str,
+    byte: u8,
+    after: &str,
+    answer: &str,
+) -> Result<bool, AllocError> {
     let count = LONGEST.saturating_sub(before.len().saturating_add(after.len()));
-    let script = filled(rt, alloc, before, byte, count, after);
-    assert!(rt; script.len() == LONGEST);
-    script
+    let script = filled(alloc, before, byte, count, after)?;
+    Ok(script.len() == LONGEST && is_answered(alloc, &script, answer))
 }
 
 /// Scripts of the greatest length, each with its answer.
@@ -217,16 +222,17 @@ const LONG: &[(&str, u8, &str, &str)] = &[
 ];
 
 #[test]
-fn lines_of_a_megabyte(rt: HostRuntime) {
+fn lines_of_a_megabyte(rt: HostRuntime) -> Result<(), AllocError> {
     for (before, byte, after, answer) in LONG {
-        let script = longest(&rt, rt.alloc(), *before, *byte, *after);
-        answers(&rt, rt.alloc(), &script, *answer);
+        assert!(rt; is_longest_answered(rt.alloc(), *before, *byte, *after, *answer)?);
     }
+    Ok(())
 }
 
 #[test]
-fn one_byte_more(rt: HostRuntime) {
-    let more = filled(&rt, rt.alloc(), "", b'\n', LONGEST, "\n");
+fn one_byte_more(rt: HostRuntime) -> Result<(), AllocError> {
+    let more = filled(rt.alloc(), "", b'\n', LONGEST, "\n")?;
     let (output, end) = served(rt.alloc(), &more);
     assert!(rt; end == ScriptEnd::TooLong && output.is_empty());
+    Ok(())
 }

@@ -1,8 +1,7 @@
 //! Scripts that are cut after each of their bytes.
-use super::{SCRIPTS, answers, is_told, served};
+use super::{SCRIPTS, is_answered, is_told, served};
 use ord_script::{FaultKind, ScriptEnd};
 use std::alloc::Global;
-use std::process::Abort;
 
 /// What is wrong with the last line of each beginning of the scripts, from the empty one on: its first word, how many words follow it,
 /// a number, or nothing.
@@ -47,20 +46,16 @@ fn are_lines(script: &str, answer: &str, cut: &str, told: &str) -> bool {
         && (told.is_empty() || told.ends_with('\n'))
 }
 
-/// Cuts a script after so many bytes: whole lines are answered as in the whole script, the rest of a line by what is wrong with it.
-fn is_cut_answered(
-    rt: &impl Abort,
-    alloc: Global,
-    script: &str,
-    answer: &str,
-    count: usize,
-    fault: u8,
-) -> bool {
-    let (cut, _) = script.split_at_checked(count).expect(rt, "a boundary");
+/// Whether a script that is cut after so many bytes is answered right: whole lines as in the whole script, the rest of a line by what is
+/// wrong with it.
+fn is_cut_answered(alloc: Global, script: &str, answer: &str, count: usize, fault: u8) -> bool {
+    let Some((cut, _)) = script.split_at_checked(count) else {
+        return false;
+    };
     let (output, end) = served(alloc, cut.as_bytes());
     let told = std::str::from_utf8(&output).unwrap_or("no text");
     are_lines(script, answer, cut, told)
-        && is_told(rt, alloc, told, end)
+        && is_told(alloc, told, end)
         && letter_of(end, cut.lines().count()) == fault
 }
 
@@ -72,13 +67,15 @@ fn fault_at(faults: &str, count: usize) -> u8 {
     }
 }
 
-/// Each beginning of a script, and the whole one.
-fn each_beginning(rt: &impl Abort, alloc: Global, script: &str, answer: &str, faults: &str) {
+/// Whether each beginning of a script is answered right, and the whole one.
+fn is_each_beginning_answered(alloc: Global, script: &str, answer: &str, faults: &str) -> bool {
     for count in 0..=script.len() {
         let fault = fault_at(faults, count);
-        assert!(rt; is_cut_answered(rt, alloc, script, answer, count, fault));
+        if !is_cut_answered(alloc, script, answer, count, fault) {
+            return false;
+        }
     }
-    answers(rt, alloc, script.as_bytes(), answer);
+    is_answered(alloc, script.as_bytes(), answer)
 }
 
 /// What is wrong with the beginnings of the script at a place.
@@ -93,7 +90,8 @@ fn faults_of(place: usize) -> &'static str {
 fn each_beginning_of_a_script(rt: HostRuntime) {
     let mut place = 0usize;
     for (script, answer) in SCRIPTS {
-        each_beginning(&rt, rt.alloc(), *script, *answer, faults_of(place));
+        let faults = faults_of(place);
+        assert!(rt; is_each_beginning_answered(rt.alloc(), *script, *answer, faults));
         place = place.saturating_add(1);
     }
 }

@@ -6,7 +6,6 @@ use ord_script::{ScriptEnd, Watched, serve};
 use std::alloc::Global;
 use std::io;
 use std::io::{ErrorKind, Read, Write};
-use std::process::Abort;
 
 /// How a device goes: so many bytes a call, until so many have gone; then each call fails.
 #[derive(Clone, Copy)]
@@ -102,42 +101,31 @@ fn are_marked(end: ScriptEnd, read_failed: bool, read_ended: bool, write_failed:
         && write_failed == (end == ScriptEnd::WriteFailed)
 }
 
-/// Serves a script with devices that go so: the end, and what is written.
-fn serve_with(
-    rt: &impl Abort,
-    alloc: Global,
-    script: &str,
-    reading: Pace,
-    writing: Pace,
-) -> (ScriptEnd, Vec<u8>) {
-    let mut sink = Sink {
-        bytes: Vec::new(alloc),
-        pace: writing,
-    };
+/// How a script ends with a reader that goes so and this writer, where these say of themselves what the end says.
+fn end_with(alloc: Global, script: &str, reading: Pace, sink: &mut Sink) -> Option<ScriptEnd> {
     let mut reader = Watched::new(Source {
         bytes: script.as_bytes(),
         pace: reading,
     });
-    let mut writer = Watched::new(&mut sink);
+    let mut writer = Watched::new(sink);
     let end = serve(alloc, &mut reader, &mut writer);
-    assert!(rt;
-        are_marked(end, reader.failed(), reader.ended(), writer.failed()),
-        "{end:?}"
-    );
-    (end, sink.bytes)
+    are_marked(end, reader.failed(), reader.ended(), writer.failed()).then_some(end)
 }
 
-/// A script is served with devices that go so: this is written, and it ends so.
+/// Whether a script that is served with devices that go so ends so, and this is written.
 fn goes(
-    rt: &impl Abort,
     alloc: Global,
     script: &str,
     (reading, writing): (Pace, Pace),
     wanted: &[u8],
     wanted_end: ScriptEnd,
-) {
-    let (end, written) = serve_with(rt, alloc, script, reading, writing);
-    assert!(rt; end == wanted_end && written.as_slice() == wanted);
+) -> bool {
+    let mut sink = Sink {
+        bytes: Vec::new(alloc),
+        pace: writing,
+    };
+    let end = end_with(alloc, script, reading, &mut sink);
+    end == Some(wanted_end) && sink.bytes.as_slice() == wanted
 }
 
 /// How many bytes go a call.
@@ -155,53 +143,65 @@ fn pace_of(number: usize, left: usize) -> Pace {
     }
 }
 
-/// Reads fail after so many bytes, and nothing is written.
-fn read_fails(rt: &impl Abort, alloc: Global, script: &str, left: usize) {
+/// Whether reads that fail after so many bytes end the script, and nothing is written.
+fn read_fails(alloc: Global, script: &str, left: usize) -> bool {
     for number in 0usize..6 {
         let paces = (pace_of(number, left), WELL);
-        goes(rt, alloc, script, paces, &[], ScriptEnd::ReadFailed);
+        if !goes(alloc, script, paces, &[], ScriptEnd::ReadFailed) {
+            return false;
+        }
     }
+    true
 }
 
 #[test]
 fn reads_that_fail_after_each_byte(rt: HostRuntime) {
     for (script, _) in SCRIPTS {
         for left in 0..=script.len() {
-            read_fails(&rt, rt.alloc(), *script, left);
+            assert!(rt; read_fails(rt.alloc(), *script, left));
         }
     }
 }
 
-/// Writes fail after so many bytes, which are a beginning of the answer.
-fn write_fails(rt: &impl Abort, alloc: Global, script: &str, answer: &[u8], left: usize) {
+/// Whether writes that fail after so many bytes, which are a beginning of the answer, end the script.
+fn write_fails(alloc: Global, script: &str, answer: &[u8], left: usize) -> bool {
     let wanted = answer.get(..left).unwrap_or(&[]);
     for number in 0usize..9 {
         let paces = (WELL, pace_of(number, left));
-        goes(rt, alloc, script, paces, wanted, ScriptEnd::WriteFailed);
+        if !goes(alloc, script, paces, wanted, ScriptEnd::WriteFailed) {
+            return false;
+        }
     }
+    true
 }
 
 #[test]
 fn writes_that_fail_after_each_byte(rt: HostRuntime) {
     for (script, answer) in SCRIPTS {
         for left in 0..answer.len() {
-            write_fails(&rt, rt.alloc(), *script, answer.as_bytes(), left);
+            assert!(rt; write_fails(rt.alloc(), *script, answer.as_bytes(), left));
         }
     }
 }
 
-/// Devices that go on, by so many bytes a call.
-fn is_served_slowly(rt: &impl Abort, alloc: Global, script: &str, answer: &str, step: usize) {
+/// Whether a script is answered so with devices that go on, by so many bytes a call.
+fn is_served_slowly(alloc: Global, script: &str, answer: &str, step: usize) -> bool {
     let pace = Pace { step, ..WELL };
-    let (end, written) = serve_with(rt, alloc, script, pace, pace);
-    assert!(rt; is_told(rt, alloc, answer, end) && written.as_slice() == answer.as_bytes());
+    let mut sink = Sink {
+        bytes: Vec::new(alloc),
+        pace,
+    };
+    match end_with(alloc, script, pace, &mut sink) {
+        Some(end) => is_told(alloc, answer, end) && sink.bytes.as_slice() == answer.as_bytes(),
+        None => false,
+    }
 }
 
 #[test]
 fn slow_devices(rt: HostRuntime) {
     for (script, answer) in SCRIPTS {
         for step in [1usize, 2, 3, 7] {
-            is_served_slowly(&rt, rt.alloc(), *script, *answer, step);
+            assert!(rt; is_served_slowly(rt.alloc(), *script, *answer, step));
         }
     }
 }

@@ -2,19 +2,16 @@
 use super::{COMPRESSED, LIMITS, is_told};
 use linked_list_allocator::LocalHeap;
 use ord_script::{ScriptEnd, Watched, serve};
-use std::alloc::Global;
+use std::alloc::{AllocError, Global};
 use std::fmt::Write;
-use std::process::Abort;
 
-/// What a script answers on a heap of this size, and how it ends.
-fn served_on(rt: &impl Abort, alloc: Global, script: &[u8], size: usize) -> (Vec<u8>, ScriptEnd) {
-    let heap = LocalHeap::new(alloc, size).expect(rt, "a heap");
-    let mut output = Vec::new(alloc);
+/// How a script ends on a heap of this size, where all memory is given back.
+fn end_on(alloc: Global, script: &[u8], size: usize, output: &mut Vec<u8>) -> Option<ScriptEnd> {
+    let heap = LocalHeap::new(alloc, size).ok()?;
     let mut reader = Watched::new(script);
-    let end = serve(&heap, &mut reader, &mut Watched::new(&mut output));
+    let end = serve(&heap, &mut reader, &mut Watched::new(output));
     // what `serve` took it has given back, so the same call finds the same room
-    assert!(rt; heap.used() == 0);
-    (output, end)
+    (heap.used() == 0).then_some(end)
 }
 
 /// A script with what it answers where there is memory, and where no entry finds room; the second is empty for a script of entries that
@@ -62,26 +59,28 @@ fn number_of(case: &Case, told: &str, is_refused: bool) -> usize {
     }
 }
 
-/// Serves a script on a heap of this size.
-fn number_on(rt: &impl Abort, alloc: Global, case: &Case, size: usize) -> usize {
-    let (output, end) = served_on(rt, alloc, case.script.as_bytes(), size);
+/// The number of what a script answers on a heap of this size; 3 also where it doesn't end as its answer, or keeps memory.
+fn number_on(alloc: Global, case: &Case, size: usize) -> usize {
+    let mut output = Vec::new(alloc);
+    let end = end_on(alloc, case.script.as_bytes(), size, &mut output);
     let told = std::str::from_utf8(&output).unwrap_or("no text");
-    let is_refused = end == ScriptEnd::Memory;
-    assert!(rt; is_refused || is_told(rt, alloc, told, end), "{told}");
-    number_of(case, told, is_refused)
+    match end {
+        Some(ScriptEnd::Memory) => number_of(case, told, true),
+        Some(end) if is_told(alloc, told, end) => number_of(case, told, false),
+        _ => 3,
+    }
 }
 
-/// Serves a script on heaps that grow by so many bytes: it is refused on some, and whole on the last. Tells whether there was an answer
-/// with refusals.
-fn each_request_of(rt: &impl Abort, alloc: Global, case: &Case, step: usize) -> bool {
+/// Whether an answer with refusals is among those on heaps that grow by so many bytes, where the script is refused on some, and its answer
+/// is whole on the last.
+fn has_refusals(alloc: Global, case: &Case, step: usize) -> Option<bool> {
     let mut met = [false; 4];
     let mut last = 0;
     for size in 0usize..200 {
-        last = number_on(rt, alloc, case, size.saturating_mul(step));
+        last = number_on(alloc, case, size.saturating_mul(step));
         met[last % 4] = true;
     }
-    assert!(rt; met[0] && !met[3] && last == 2, "{}", case.script);
-    met[1]
+    (met[0] && !met[3] && last == 2).then_some(met[1])
 }
 
 /// The answer of `LIMITS` where no entry finds room.
@@ -91,82 +90,76 @@ const BARE_LIMITS: &str = "refused memory\nlist\nline 3: bad number\n";
 const BARE_COMPRESSED: &str =
     "refused memory\nrefused memory\nrefused memory\nrefused memory\ninvalid\nok\nlist\nranks\nok\nlist\nok\nlist\n";
 
-/// A script and its answer, with the one where no entry finds room.
-fn each_request_with(
-    rt: &impl Abort,
-    alloc: Global,
-    script: (&'static str, &'static str),
-    bare: &'static str,
-) {
-    let (script, whole) = script;
+/// Whether a script, with its answer and the one where no entry finds room, is refused on some heaps, and its answer is whole on the last.
+fn is_refused_and_whole(alloc: Global, (script, whole): (&str, &str), bare: &str) -> bool {
     let case = Case {
         script,
         whole,
         bare,
     };
-    let _ = each_request_of(rt, alloc, &case, 16);
+    has_refusals(alloc, &case, 16).is_some()
 }
 
 #[test]
 fn each_request_of_a_script(rt: HostRuntime) {
-    each_request_with(&rt, rt.alloc(), LIMITS, BARE_LIMITS);
-    each_request_with(&rt, rt.alloc(), COMPRESSED, BARE_COMPRESSED);
+    assert!(rt; is_refused_and_whole(rt.alloc(), LIMITS, BARE_LIMITS));
+    assert!(rt; is_refused_and_whole(rt.alloc(), COMPRESSED, BARE_COMPRESSED));
 }
 
 /// How many entries are inserted.
 const ENTRIES: u64 = 40;
 
-/// Writes a line so often.
-fn repeat(rt: &impl Abort, text: &mut String, line: &str, count: usize) {
-    for _ in 0..count {
-        write!(text, "{line}\n").expect(rt, "memory");
-    }
-}
-
-/// A short script, whose answer is as long as all its lists together.
-fn listing(rt: &impl Abort, alloc: Global, lists: usize) -> String {
-    let mut script = String::new(alloc);
+/// Writes a short script, whose answer is as long as all its lists together.
+fn write_script(script: &mut String, lists: usize) -> Result<(), AllocError> {
     for key in 0..ENTRIES {
-        write!(script, "insert {key} 0\n").expect(rt, "memory");
+        write!(script, "insert {key} 0\n")?;
     }
-    repeat(rt, &mut script, "list", lists);
-    script
+    for _ in 0..lists {
+        script.push_str("list\n")?;
+    }
+    Ok(())
 }
 
-/// The line of a whole list.
-fn whole_list(rt: &impl Abort, alloc: Global) -> String {
-    let mut list = format!(in alloc; "list").expect(rt, "memory");
+/// Writes the line of a whole list.
+fn write_list(answer: &mut String) -> Result<(), AllocError> {
+    answer.push_str("list")?;
     for key in 0..ENTRIES {
         let index = key.saturating_add(1);
-        write!(list, " {index}.2={key}:0").expect(rt, "memory");
+        write!(answer, " {index}.2={key}:0")?;
     }
-    list
+    answer.push_str("\n")
 }
 
-/// The whole answer.
-fn whole_listing(rt: &impl Abort, alloc: Global, lists: usize) -> String {
-    let mut whole = String::new(alloc);
+/// Writes the whole answer.
+fn write_answer(answer: &mut String, lists: usize) -> Result<(), AllocError> {
     for index in 1..=ENTRIES {
-        write!(whole, "new {index}.2\n").expect(rt, "memory");
+        write!(answer, "new {index}.2\n")?;
     }
-    repeat(rt, &mut whole, whole_list(rt, alloc).as_str(), lists);
-    whole
+    for _ in 0..lists {
+        write_list(answer)?;
+    }
+    Ok(())
 }
 
-/// Lists all entries so often on heaps of growing size. Tells whether there was an answer with refusals.
-fn is_refused_lists(rt: &impl Abort, alloc: Global, lists: usize) -> bool {
-    let script = listing(rt, alloc, lists);
-    let whole = whole_listing(rt, alloc, lists);
+/// Whether an answer with refusals is among those on heaps of growing size, where all entries are listed so often.
+fn has_refused_lists(alloc: Global, lists: usize) -> Option<bool> {
+    let (mut script, mut whole) = (String::new(alloc), String::new(alloc));
+    let is_written = write_script(&mut script, lists).is_ok()
+        && write_answer(&mut whole, lists).is_ok();
     let case = Case {
         script: script.as_str(),
         whole: whole.as_str(),
         bare: "",
     };
-    each_request_of(rt, alloc, &case, 800)
+    if is_written {
+        has_refusals(alloc, &case, 800)
+    } else {
+        None
+    }
 }
 
 #[test]
 fn lists_again_and_again(rt: HostRuntime) {
-    assert!(rt; is_refused_lists(&rt, rt.alloc(), 3));
-    let _ = is_refused_lists(&rt, rt.alloc(), 60);
+    assert!(rt; has_refused_lists(rt.alloc(), 3) == Some(true));
+    assert!(rt; has_refused_lists(rt.alloc(), 60).is_some());
 }

@@ -3,7 +3,6 @@ use linked_list_allocator::LocalHeap;
 use ord_script::{Command, Reply, run};
 use std::alloc::{AllocError, Global};
 use std::cmp::Ordering;
-use std::process::Abort;
 use triple_ord::{OrdEntryKind, OrdInsertionError, OrdPair, P0, SimpleOrdArena};
 
 type Item = OrdPair<u64, u64>;
@@ -105,14 +104,11 @@ fn are_first(plain: &[(P0, u64)], entries: &[(P0, Item)], count: usize) -> bool 
     entries.len() == plain.len().min(count)
 }
 
-/// Does to the vector what an insertion did.
-fn insert(rt: &impl Abort, plain: &mut Plain, key: u64, p: P0) -> bool {
+/// Does to the vector what an insertion did, and tells whether the key is new there, and finds memory.
+fn insert(plain: &mut Plain, key: u64, p: P0) -> bool {
     let place = place_of(plain, key);
     let is_new = pointer_of(plain, key).is_none();
-    if place <= plain.len() {
-        plain.insert(place, (p, key)).expect(rt, "memory");
-    }
-    is_new
+    place <= plain.len() && plain.insert(place, (p, key)).is_ok() && is_new
 }
 
 /// A reply of the run.
@@ -124,9 +120,9 @@ fn is_refusal(reply: &Told) -> bool {
 }
 
 /// Whether a reply is that of an insertion, which is done to the vector too.
-fn is_insertion(rt: &impl Abort, plain: &mut Plain, key: u64, reply: &Told) -> bool {
+fn is_insertion(plain: &mut Plain, key: u64, reply: &Told) -> bool {
     match reply {
-        Reply::Inserted(OrdEntryKind::New(p), None) => insert(rt, plain, key, *p),
+        Reply::Inserted(OrdEntryKind::New(p), None) => insert(plain, key, *p),
         _ => is_refusal(reply) && pointer_of(plain, key).is_none(),
     }
 }
@@ -165,9 +161,9 @@ fn is_drain(plain: &mut Plain, count: usize, reply: &Told) -> bool {
 }
 
 /// Whether a reply is that of a command over these entries, and does the same to them.
-fn is_reply(rt: &impl Abort, plain: &mut Plain, line: Line, reply: &Told) -> bool {
+fn is_reply(plain: &mut Plain, line: Line, reply: &Told) -> bool {
     match line {
-        Insert(key) => is_insertion(rt, plain, key, reply),
+        Insert(key) => is_insertion(plain, key, reply),
         Find(key) => is_search(plain, key, reply),
         List => is_list(plain, usize::MAX, reply),
         Ranks => is_ranks(plain, reply),
@@ -189,37 +185,29 @@ fn place_among(line: Line) -> usize {
 }
 
 /// The commands of the run, on a heap.
-fn commands<'h>(rt: &impl Abort, heap: &'h LocalHeap) -> Vec<Command<P0, Item>, &'h LocalHeap> {
-    let mut commands = Vec::with_capacity(heap, LINES.len()).expect(rt, "memory");
+type Commands<'h> = Vec<Command<P0, Item>, &'h LocalHeap>;
+
+/// Adds the commands of the run, where there is memory.
+fn add_commands(commands: &mut Commands) -> Result<(), AllocError> {
+    commands.reserve_exact(LINES.len())?;
     for line in &LINES {
-        commands.push(command(*line)).expect(rt, "memory");
+        commands.push(command(*line))?;
     }
-    commands
+    Ok(())
 }
 
 /// Whether a reply is that of a command to these entries, to which the same is done; a refusal is marked.
-fn is_marked(
-    rt: &impl Abort,
-    plain: &mut Plain,
-    line: Line,
-    reply: &Told,
-    refused: &mut Refusals,
-) -> bool {
+fn is_marked(plain: &mut Plain, line: Line, reply: &Told, refused: &mut Refusals) -> bool {
     if is_refusal(reply) {
         refused[place_among(line) % 5] = true;
     }
-    is_reply(rt, plain, line, reply)
+    is_reply(plain, line, reply)
 }
 
 /// Whether the replies are those of the commands.
-fn are_replies(
-    rt: &impl Abort,
-    plain: &mut Plain,
-    replies: &[Told],
-    refused: &mut Refusals,
-) -> bool {
+fn are_replies(plain: &mut Plain, replies: &[Told], refused: &mut Refusals) -> bool {
     for place in 0..replies.len() {
-        if !is_marked(rt, plain, LINES[place % 32], &replies[place], refused) {
+        if !is_marked(plain, LINES[place % 32], &replies[place], refused) {
             return false;
         }
     }
@@ -231,14 +219,13 @@ type Outcome<'h> = Result<Vec<Told<'h>, &'h LocalHeap>, AllocError>;
 
 /// Whether the replies are those of the commands; where the replies were refused the arena has to have taken no memory.
 fn is_outcome(
-    rt: &impl Abort,
     plain: &mut Plain,
     outcome: &Outcome,
     capacity: usize,
     refused: &mut Refusals,
 ) -> bool {
     match outcome {
-        Ok(replies) => are_replies(rt, plain, replies, refused),
+        Ok(replies) => are_replies(plain, replies, refused),
         Err(AllocError) => {
             refused[0] = true;
             capacity == 0
@@ -250,7 +237,7 @@ fn is_outcome(
 fn outcome_of<'h>(
     heap: &'h LocalHeap,
     arena: &mut Numbers<'h>,
-    commands: Vec<Command<P0, Item>, &'h LocalHeap>,
+    commands: Commands<'h>,
 ) -> Outcome<'h> {
     let mut closure = |_p: P0, _item: &Item| Ordering::Equal;
     run(heap, arena, commands, &mut closure)
@@ -258,41 +245,44 @@ fn outcome_of<'h>(
 
 /// Whether the commands do on an arena what they do to the vector, which has the same entries.
 fn is_run<'h>(
-    rt: &impl Abort,
     heap: &'h LocalHeap,
     arena: &mut Numbers<'h>,
-    commands: Vec<Command<P0, Item>, &'h LocalHeap>,
+    commands: Commands<'h>,
     plain: &mut Plain,
     refused: &mut Refusals,
 ) -> bool {
     let outcome = outcome_of(heap, arena, commands);
-    is_outcome(rt, plain, &outcome, arena.capacity(), refused)
+    is_outcome(plain, &outcome, arena.capacity(), refused)
 }
 
-/// Runs the commands where so many units of room are left beside them. Answers what was refused.
+/// What is refused to the commands where so many units of room are left beside them, if they do what they should.
 fn run_in<'h>(
-    rt: &impl Abort,
     heap: &'h LocalHeap,
     units: usize,
     arena: &mut Numbers<'h>,
     plain: &mut Plain,
-) -> Refusals {
+) -> Option<Refusals> {
     let mut refused = [false; 5];
-    let commands = commands(rt, heap);
+    let mut commands = Vec::new(heap);
+    let is_full = add_commands(&mut commands).is_ok();
     let room = heap.free().saturating_sub(units.saturating_mul(16));
-    let _taken: Vec<u8, &LocalHeap> = Vec::with_capacity(heap, room).expect(rt, "room");
-    assert!(rt; is_run(rt, heap, arena, commands, plain, &mut refused));
-    refused
+    let taken: Result<Vec<u8, &LocalHeap>, AllocError> = Vec::with_capacity(heap, room);
+    let is_right = is_run(heap, arena, commands, plain, &mut refused);
+    (is_full && taken.is_ok() && is_right).then_some(refused)
 }
 
-/// Runs the commands on an arena without an entry where so many units of room are left, and then once more with memory, where nothing
-/// is refused and the first list tells what the first run left. Answers what was refused.
-fn run_twice(rt: &impl Abort, alloc: Global, heap: &LocalHeap, units: usize) -> Refusals {
+/// What is refused to the commands on an arena without an entry where so many units of room are left, if they do what they should then,
+/// and once more with memory, where nothing is refused and the first list tells what the first run left.
+fn run_twice(alloc: Global, heap: &LocalHeap, units: usize) -> Option<Refusals> {
     let mut arena = SimpleOrdArena::new(heap);
     let mut plain = Vec::new(alloc);
-    let refused = run_in(rt, heap, units, &mut arena, &mut plain);
-    assert!(rt; run_in(rt, heap, usize::MAX, &mut arena, &mut plain) == [false; 5]);
-    refused
+    let refused = run_in(heap, units, &mut arena, &mut plain);
+    let again = run_in(heap, usize::MAX, &mut arena, &mut plain);
+    if again == Some([false; 5]) {
+        refused
+    } else {
+        None
+    }
 }
 
 #[test]
@@ -301,7 +291,7 @@ fn each_request_of_a_run(rt: HostRuntime) {
     let mut met = [false; 5];
     let mut is_met_nothing = false;
     for units in 0usize..400 {
-        let refused = run_twice(&rt, rt.alloc(), &heap, units);
+        let refused = run_twice(rt.alloc(), &heap, units).expect(&rt, "the replies of the run");
         for place in 0usize..5 {
             met[place] = met[place] || refused[place];
         }
