@@ -2,7 +2,6 @@
 use agenda::{Agenda, ReallocationError, Ticket};
 use linked_list_allocator::LocalHeap;
 use std::alloc::{AllocError, Allocator, Global};
-use std::test::Fail;
 
 type Letters<A = Global> = Agenda<char, A>;
 
@@ -118,10 +117,10 @@ fn rest_of(alloc: Global, heap: &LocalHeap) -> Result<Vec<Vec<u8, &LocalHeap>>, 
 }
 
 #[test]
-fn a_job_comes_back_where_memory_is_refused(rt: HostRuntime) -> Result<(), Fail> {
+fn a_job_comes_back_where_memory_is_refused(rt: HostRuntime) {
     let mut met = [false; 10];
     for units in 1..120usize {
-        let heap = LocalHeap::new(rt.alloc(), units * 16)?;
+        let heap = LocalHeap::new(rt.alloc(), units * 16).expect(&rt, "a heap");
         let mut letters: Letters<&LocalHeap> = Agenda::new(&heap);
         let held = fill(&mut letters).expect(&rt, "the letter back");
         if let Some(place) = met.get_mut(held) {
@@ -134,7 +133,6 @@ fn a_job_comes_back_where_memory_is_refused(rt: HostRuntime) -> Result<(), Fail>
     }
     // each growth was refused in turn: from nothing, from 4, from 8
     assert!(rt; (met[0], met[4], met[8], met[9]) == (true, true, true, true));
-    Ok(())
 }
 
 /// Calls before all memory is taken, without any, and with memory again.
@@ -170,14 +168,13 @@ fn are_right(letters: &mut Letters<&LocalHeap>, tickets: &mut Vec<Ticket>, rows:
 }
 
 #[test]
-fn moving_asks_for_no_memory(rt: HostRuntime) -> Result<(), Fail> {
-    let heap = LocalHeap::new(rt.alloc(), 2048)?;
+fn moving_asks_for_no_memory(rt: HostRuntime) {
+    let heap = LocalHeap::new(rt.alloc(), 2048).expect(&rt, "a heap");
     let mut letters: Letters<&LocalHeap> = Agenda::new(&heap);
     let mut tickets = Vec::new(rt.alloc());
     assert!(rt; are_right(&mut letters, &mut tickets, &BEFORE));
-    let rest = rest_of(rt.alloc(), &heap)?;
+    let rest = rest_of(rt.alloc(), &heap).expect(&rt, "memory");
     assert!(rt; are_right(&mut letters, &mut tickets, &WITHOUT));
     drop(rest);
     assert!(rt; are_right(&mut letters, &mut tickets, &AFTER));
-    Ok(())
 }

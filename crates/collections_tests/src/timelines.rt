@@ -1,7 +1,6 @@
 //! Timelines of small numbers, as a program sees them.
 use linked_list_allocator::LocalHeap;
 use std::alloc::{AllocError, Global};
-use std::test::Fail;
 use timeline::{ReallocationError, Span, Timeline};
 
 type Numbers<A = Global> = Timeline<u8, A>;
@@ -53,7 +52,7 @@ fn step(day: &mut Numbers, step: &Step<'_>, changes: usize) -> Result<bool, Real
 }
 
 #[test]
-fn a_day_with_a_meeting(rt: HostRuntime) -> Result<(), Fail> {
+fn a_day_with_a_meeting(rt: HostRuntime) {
     const END: u64 = u64::MAX;
     let mut day = Numbers::new(rt.alloc());
     let steps: [(Step<'_>, usize); 11] = [
@@ -89,9 +88,8 @@ fn a_day_with_a_meeting(rt: HostRuntime) -> Result<(), Fail> {
         (((0, END, None), &[]), 0),
     ];
     for (wanted, changes) in &steps {
-        assert!(rt; step(&mut day, wanted, *changes)?);
+        assert!(rt; step(&mut day, wanted, *changes).expect(&rt, "memory"));
     }
-    Ok(())
 }
 
 /// At work from 9 until 17, at lunch from 12 until 13.
@@ -103,8 +101,8 @@ fn a_day(alloc: Global) -> Result<Numbers, ReallocationError> {
 }
 
 #[test]
-fn stretches_are_cut_at_the_time_that_is_asked_for(rt: HostRuntime) -> Result<(), Fail> {
-    let day = a_day(rt.alloc())?;
+fn stretches_are_cut_at_the_time_that_is_asked_for(rt: HostRuntime) {
+    let day = a_day(rt.alloc()).expect(&rt, "memory");
     let wanted: [(u64, u64, &[(u64, u64, u8)]); 7] = [
         (0, 24, &[(9, 12, 1), (12, 13, 2), (13, 17, 1)]),
         (10, 14, &[(10, 12, 1), (12, 13, 2), (13, 14, 1)]),
@@ -117,7 +115,6 @@ fn stretches_are_cut_at_the_time_that_is_asked_for(rt: HostRuntime) -> Result<()
     for (from, until, spans) in &wanted {
         assert!(rt; has_spans(&day, *from, *until, spans));
     }
-    Ok(())
 }
 
 /// The number of times that the tests with many settings look at.
@@ -187,17 +184,18 @@ fn setting(n: u64) -> Setting {
 }
 
 #[test]
-fn each_two_settings(rt: HostRuntime) -> Result<(), Fail> {
+fn each_two_settings(rt: HostRuntime) {
     for first in 0..108u64 {
         for second in 0..108u64 {
-            assert!(rt; is_plain(rt.alloc(), &[setting(first), setting(second)])?);
+            assert!(rt;
+                is_plain(rt.alloc(), &[setting(first), setting(second)]).expect(&rt, "memory")
+            );
         }
     }
-    Ok(())
 }
 
 #[test]
-fn five_settings_in_many_orders(rt: HostRuntime) -> Result<(), Fail> {
+fn five_settings_in_many_orders(rt: HostRuntime) {
     let mut n = 7u64;
     for _ in 0..2000u64 {
         n = n
@@ -209,9 +207,8 @@ fn five_settings_in_many_orders(rt: HostRuntime) -> Result<(), Fail> {
             part >>= 9;
             *place = setting(part);
         }
-        assert!(rt; is_plain(rt.alloc(), settings.as_slice())?);
+        assert!(rt; is_plain(rt.alloc(), settings.as_slice()).expect(&rt, "memory"));
     }
-    Ok(())
 }
 
 /// Sets stretches apart from each other until memory is refused, and tells how many there were; 10 where one isn't as it was set, or
@@ -233,10 +230,10 @@ fn set_until_refused(numbers: &mut Numbers<&LocalHeap>) -> u64 {
 }
 
 #[test]
-fn nothing_changes_where_memory_is_refused(rt: HostRuntime) -> Result<(), AllocError> {
+fn nothing_changes_where_memory_is_refused(rt: HostRuntime) {
     let mut met = [false; 10];
     for units in 1..320usize {
-        let heap = LocalHeap::new(rt.alloc(), units * 16)?;
+        let heap = LocalHeap::new(rt.alloc(), units * 16).expect(&rt, "a heap");
         let mut numbers: Numbers<&LocalHeap> = Timeline::new(&heap);
         let set = set_until_refused(&mut numbers);
         assert!(rt; set < 10);
@@ -244,5 +241,4 @@ fn nothing_changes_where_memory_is_refused(rt: HostRuntime) -> Result<(), AllocE
     }
     // each growth was refused in turn: from nothing, from 4, from 8, from 16
     assert!(rt; met[0] && met[2] && met[4] && met[8] && met[9]);
-    Ok(())
 }

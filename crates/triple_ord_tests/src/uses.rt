@@ -1,7 +1,6 @@
 //! The uses of `triple_ord_uses`, run: the scheduler, its rounds, the entries and the catalogue.
 
 use std::alloc::Global;
-use std::test::Fail;
 use triple_ord::{OrdInsertionError, OrdPair, OrderedPtrAdvancer, P0, Ptr, PtrAdvancer};
 use triple_ord_uses::catalogue::{
     Book, BookPtr, Catalogue, find, pages, put, renumber, take_first,
@@ -27,16 +26,15 @@ fn has_none(jobs: &mut Jobs) -> bool {
 }
 
 #[test]
-fn jobs_come_by_deadline_and_leave_when_they_are_cancelled(rt: HostRuntime) -> Result<(), Fail> {
+fn jobs_come_by_deadline_and_leave_when_they_are_cancelled(rt: HostRuntime) {
     let mut jobs = Jobs::new(rt.alloc());
-    let late = schedule(&mut jobs, 90, 1)?;
-    let early = schedule(&mut jobs, 30, 2)?;
+    let late = schedule(&mut jobs, 90, 1).expect(&rt, "memory");
+    let early = schedule(&mut jobs, 30, 2).expect(&rt, "memory");
     assert!(rt; is_cancelled_once(&mut jobs, early));
     assert!(rt; pop(&mut jobs) == Some((late, 90, 1)));
-    let _ = schedule(&mut jobs, 10, 3)?;
+    let _ = schedule(&mut jobs, 10, 3).expect(&rt, "memory");
     cancel_all(&mut jobs);
     assert!(rt; has_none(&mut jobs));
-    Ok(())
 }
 
 // Jobs 1, 2 and 3 of the deadlines 10, 20 and 30, in this order or the other way round, and the pointer of the first.
@@ -80,13 +78,12 @@ fn has_the_third_alone(jobs: &mut Jobs) -> bool {
 }
 
 #[test]
-fn rounds_go_on_over_changes(rt: HostRuntime) -> Result<(), Fail> {
-    let (mut jobs, first) = three_jobs(rt.alloc(), false)?;
-    let mut round = round_from(&jobs, first).ok_or("the first job")?;
+fn rounds_go_on_over_changes(rt: HostRuntime) {
+    let (mut jobs, first) = three_jobs(rt.alloc(), false).expect(&rt, "memory");
+    let mut round = round_from(&jobs, first).expect(&rt, "the first job");
     assert!(rt; goes_on_behind(&mut round, &mut jobs, first));
     assert!(rt; ends_behind(&mut round, &mut jobs));
     assert!(rt; has_the_third_alone(&mut jobs));
-    Ok(())
 }
 
 // Whether a walk by index gives the third job, which came first, and then the second.
@@ -110,13 +107,12 @@ fn has_the_second_first(jobs: &mut Jobs) -> bool {
 }
 
 #[test]
-fn jobs_are_met_by_index(rt: HostRuntime) -> Result<(), Fail> {
-    let (mut jobs, late) = three_jobs(rt.alloc(), true)?;
+fn jobs_are_met_by_index(rt: HostRuntime) {
+    let (mut jobs, late) = three_jobs(rt.alloc(), true).expect(&rt, "memory");
     let mut walk = jobs.advancer();
     assert!(rt; goes_by_index(&mut walk, &jobs, late));
     assert!(rt; ends_by_index(&mut walk, &mut jobs));
     assert!(rt; has_the_second_first(&mut jobs));
-    Ok(())
 }
 
 // A book of a page for each ten of its number.
@@ -146,14 +142,13 @@ fn has_books(catalogue: &mut Catalogue) -> bool {
 }
 
 #[test]
-fn books_are_found_by_number_and_by_pointer(rt: HostRuntime) -> Result<(), Fail> {
+fn books_are_found_by_number_and_by_pointer(rt: HostRuntime) {
     let mut catalogue = Catalogue::new(rt.alloc());
-    let p = put(&mut catalogue, book(500))?;
-    let q = put(&mut catalogue, book(300))?;
+    let p = put(&mut catalogue, book(500)).expect(&rt, "memory");
+    let q = put(&mut catalogue, book(300)).expect(&rt, "memory");
     assert!(rt; find(&catalogue, 500) == Some(p) && pages(&catalogue, q) == Some(30));
-    assert!(rt; is_renumbered(&mut catalogue, p)?);
+    assert!(rt; is_renumbered(&mut catalogue, p).expect(&rt, "memory"));
     assert!(rt; has_books(&mut catalogue));
-    Ok(())
 }
 
 // Adds two jobs of the deadline 30, and tells the pointer of the second, where the first comes first.
@@ -187,12 +182,11 @@ fn are_refused(jobs: &mut Jobs) -> bool {
 }
 
 #[test]
-fn jobs_come_back_where_they_are_refused(rt: HostRuntime) -> Result<(), Fail> {
+fn jobs_come_back_where_they_are_refused(rt: HostRuntime) {
     let mut jobs = Jobs::new(rt.alloc());
-    let second = two_jobs(&mut jobs).ok_or("two jobs")?;
-    assert!(rt; are_told(&mut jobs, second)?);
-    assert!(rt; is_replaced(&mut jobs)?);
-    jobs.set_max_capacity(4)?;
+    let second = two_jobs(&mut jobs).expect(&rt, "two jobs");
+    assert!(rt; are_told(&mut jobs, second).expect(&rt, "memory"));
+    assert!(rt; is_replaced(&mut jobs).expect(&rt, "memory"));
+    jobs.set_max_capacity(4).expect(&rt, "room for four");
     assert!(rt; are_refused(&mut jobs));
-    Ok(())
 }

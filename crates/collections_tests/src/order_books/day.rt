@@ -134,13 +134,12 @@ fn sell_all(
 }
 
 #[test]
-fn a_trading_day(rt: HostRuntime) -> Result<(), AllocError> {
+fn a_trading_day(rt: HostRuntime) {
     let mut book = OrderBook::new(rt.alloc());
     let (mut names, mut trades) = (Vec::new(rt.alloc()), Vec::new(rt.alloc()));
     for row in DAY {
-        assert!(rt; place(&mut book, &mut names, &mut trades, row)?);
+        assert!(rt; place(&mut book, &mut names, &mut trades, row).expect(&rt, "memory"));
     }
     assert!(rt; has_bids(&book, &names, &AT_THE_END));
     assert!(rt; sell_all(&mut book, &names, &mut trades, &AT_THE_END));
-    Ok(())
 }

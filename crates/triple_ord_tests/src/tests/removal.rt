@@ -3,7 +3,6 @@ use super::{Keys, at, five, has_keys, has_ranks, keys, write_key};
 use arena_base::{InvalidationResult, P0, P8, Ptr};
 use linked_list_allocator::LocalHeap;
 use std::alloc::Global;
-use std::test::Fail;
 use triple_ord::{OrdInsertionError, OrdPair, SimpleOrdArena};
 
 /// The parent of the entry at an index, if there is one.
@@ -119,8 +118,8 @@ fn eight(heap: &LocalHeap) -> Keys<&LocalHeap> {
 }
 
 #[test]
-fn removals_take_no_memory(rt: HostRuntime) -> Result<(), Fail> {
-    let heap = LocalHeap::new(rt.alloc(), 4096)?;
+fn removals_take_no_memory(rt: HostRuntime) {
+    let heap = LocalHeap::new(rt.alloc(), 4096).expect(&rt, "a heap");
     let mut a = eight(&heap);
     let _blocks = drained(rt.alloc(), &heap);
     assert!(rt; refusal_of(&mut a, 40) == Some(OrdInsertionError::AllocError));
@@ -131,7 +130,6 @@ fn removals_take_no_memory(rt: HostRuntime) -> Result<(), Fail> {
     assert!(rt; refusal_of(&mut a, 40).is_none());
     a.clear().allow();
     assert!(rt; (a.len(), a.capacity()) == (0, 8));
-    Ok(())
 }
 
 /// Keys under pointers of eight bits.
@@ -165,18 +163,17 @@ fn have_ended(a: &SmallKeys, kept: P8, ended: &[P8]) -> bool {
 }
 
 #[test]
-fn ended_pointers_stay_so_up_to_the_overflow(rt: HostRuntime) -> Result<(), Fail> {
+fn ended_pointers_stay_so_up_to_the_overflow(rt: HostRuntime) {
     let mut a = SmallKeys::new(rt.alloc());
     let kept = put(&mut a, 0);
     let mut ended = Vec::new(rt.alloc());
     for n in 1u64..255 {
         let p = put(&mut a, n);
         assert!(rt; begins_again(&mut a, p) == Some(n == 254));
-        ended.push(p)?;
+        ended.push(p).expect(&rt, "memory");
         assert!(rt; have_ended(&a, kept, ended.as_slice()));
     }
     assert!(rt; (a.generation(), a.len()) == (2, 1));
     // the next entry has the index and the generation of the first that ended
     assert!(rt; ended.first() == Some(&put(&mut a, 1)));
-    Ok(())
 }

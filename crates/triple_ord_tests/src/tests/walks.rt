@@ -3,7 +3,6 @@
 use super::{Keys, at, five, keys, write_key};
 use arena_base::{P0, Ptr};
 use std::cmp::Ordering;
-use std::test::Fail;
 use triple_ord::{Advancer, OrdPair, OrderedPtrAdvancer, SimpleOrdArena};
 
 /// A step of a walk.
@@ -23,27 +22,25 @@ fn is_removed(a: &mut Keys, p: P0) -> bool {
 
 /// The slot at which a walk stands has another entry, and then one comes in between.
 #[test]
-fn a_walk_goes_on_with_another_entry(rt: HostRuntime) -> Result<(), Fail> {
+fn a_walk_goes_on_with_another_entry(rt: HostRuntime) {
     let mut a = five(rt.alloc());
-    let mut walk = a.advancer_ordered(at(1), false).ok_or("50")?;
+    let mut walk = a.advancer_ordered(at(1), false).expect(&rt, "50");
     assert!(rt; step(&mut walk, &a) == Some(at(1)));
     assert!(rt; is_removed(&mut a, at(4)) && is_put(&mut a, 55));
     assert!(rt; step(&mut walk, &a) == Some(P0::_from_raw(4, 3)));
     assert!(rt; is_put(&mut a, 65));
     assert!(rt; step(&mut walk, &a) == Some(at(3)));
     assert!(rt; step(&mut walk, &a).is_none());
-    Ok(())
 }
 
 /// The entry at which a walk back stands goes, and another one takes its slot.
 #[test]
-fn a_walk_ends_where_its_entry_is_gone(rt: HostRuntime) -> Result<(), Fail> {
+fn a_walk_ends_where_its_entry_is_gone(rt: HostRuntime) {
     let mut a = five(rt.alloc());
-    let mut walk = a.advancer_ordered(at(1), true).ok_or("50")?;
+    let mut walk = a.advancer_ordered(at(1), true).expect(&rt, "50");
     assert!(rt; step(&mut walk, &a) == Some(at(1)));
     assert!(rt; is_removed(&mut a, at(2)) && step(&mut walk, &a).is_none());
     assert!(rt; is_put(&mut a, 35) && step(&mut walk, &a).is_none());
-    Ok(())
 }
 
 /// What one arena answers of another: whether it is equal, its order, and its order as it may be lacking.
@@ -84,14 +81,13 @@ fn misplaced_keys_are_told(rt: HostRuntime) {
 }
 
 #[test]
-fn printed_in_order(rt: HostRuntime) -> Result<(), Fail> {
+fn printed_in_order(rt: HostRuntime) {
     let a = keys(rt.alloc(), &[50, 30]);
-    let short = format!(in rt.alloc(); "{a:?}")?;
+    let short = format!(in rt.alloc(); "{a:?}").expect(&rt, "memory");
     assert!(rt; short.as_str() == "{P0[2](2): (30, ()), P0[1](2): (50, ())}");
-    let long = format!(in rt.alloc(); "{a:#?}")?;
+    let long = format!(in rt.alloc(); "{a:#?}").expect(&rt, "memory");
     assert!(rt;
         long.as_str()
             == "{\n    P0[2](2): (\n        30,\n        (),\n    ),\n    P0[1](2): (\n        50,\n        (),\n    ),\n}"
     );
-    Ok(())
 }
