@@ -1,5 +1,5 @@
 use Rattle.std.proofs.Common.{◌++◌, ◌≤◌, Option, List, ℕ, Err, length, length-append, append-nil, arith}
-use Rattle.std.proofs.lemmas.Result.{err_from_is_err_and}
+use Rattle.std.proofs.lemmas.{Result.err_from_is_err_and, Grind.common_steps}
 use Rattle.std.specs.Io.KnownBytes.{Consumes}
 use Rattle.ord_script.specs.declared.reading.ReadError.TheVariants.{TooLong, Memory, Failed}
 use Rattle.ord_script.specs.{Devices.limit, Devices.ReadsSome, Devices.ReadsAll, declared.reading.ReadError.ReadError}
@@ -27,3 +27,6 @@ returns-in_err-read_some-clause-bytes g c =
     let short : length c.loop-reader.bytes.items ≤ limit = omega (arith, c.loop-reader.bytes.ok.0) in
     let some = c.in_err-read_some.ensures.bytes in
     rw (p.1) (rw (p.2) (ends _ _ _ c.loop-reader.bytes.items c.read_some.new.bytes.items c.loop-reader.invariant.taken short _ some))
+
+pub returns-clause-bytes : goal.returns-clause-bytes
+returns-clause-bytes g c = grind (arith, common_steps)
