@@ -1,4 +1,4 @@
-use Rattle.std.proofs.Common.{rules}
+use Rattle.std.proofs.{Common.rules, Common.arith, lemmas.Grind.common_steps}
 use Rattle.triple_ord.specs.{Insertion.within, Place.kind_now}
 use Rattle.triple_ord.proofs.CallerLemmas.{entry-inserts}
 use Rattle.ord_machine.proofs.Insertions.{inserts-alike}
@@ -14,3 +14,6 @@ returns-in-Ok g c =
     (kind_now c.as_ref.result) c.args.kind.now shown c.ptr-shown.result c.insert-before.new.self.0 _ c.as_ref.ensures c.ptr-shown.ensures (search rules)
     (entry-inserts key g.T.Key.Ord.cmp g.P.Ptr.numbers number within most (kind_now c.as_ref.result) c.args.arena.now c.in-Ok.entry.arena.now
     c.insert-before.new.self.0 c.len.ensures.sound.distinct shown _ _ c.args.item c.insert-before.result c.in-Ok.ensures.place c.insert-before.ensures.inserts)
+
+pub returns-in-Err : goal.returns-in-Err
+returns-in-Err g c = grind (arith, common_steps)
