@@ -1,4 +1,4 @@
-use Rattle.triple_ord.proofs.{Inserting.finds_key-similar, Stepping.FindsSimilar-more, Stepping.hinted-whole, Words.◌-◌, Words.arith}
+use Rattle.triple_ord.proofs.{Inserting.finds_key-similar, Stepping.FindsSimilar-more, Stepping.hinted-whole, Words.◌-◌, Words.arith, Words.common_steps}
 use Rattle.triple_ord.proofs.arena.SimpleOrdArena.find_key_linear_counted.Goals as goal
 
 pub returns-clause-found : goal.returns-clause-found
@@ -15,3 +15,6 @@ returns-clause-visits g c =
     let bounded = rw near.tree at c.descend_by_key-found.ensures.visits in
     rw (← c.self.view_is, ← c.new-probe.ensures.tree, c.visits.ensures)
     (hinted-whole _ _ _ _ _ near.few near.within c.descend_by_key-found.ensures.counted bounded)
+
+pub returns-clause-unhinted : goal.returns-clause-unhinted
+returns-clause-unhinted g c = grind (arith, common_steps)
