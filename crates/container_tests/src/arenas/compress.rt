@@ -34,12 +34,25 @@ fn compress_calling(arena: &mut Calls) -> (InvalidationOption<()>, u8) {
     (overflow, calls)
 }
 
+/// The calls of the compression, in their order.
+const CALLS: &[(u8, (u32, u64), (u32, u64), char)] = &[
+    (1, (1, 5), (1, 7), 'e'),
+    (2, (4, 2), (2, 7), 'd'),
+];
+
+/// Whether an arena has the item of a call at the pointer that it was shown last.
+fn has_call(arena: &Calls, call: &(u8, (u32, u64), (u32, u64), char)) -> bool {
+    let (count, (old_inx, old_generation), (inx, generation), letter) = *call;
+    let new = p0(inx, generation);
+    arena.get(new) == Some(&(count, p0(old_inx, old_generation), new, letter))
+}
+
 #[test]
 fn a_compression_goes_by_rising_index(rt: HostRuntime) {
     let mut arena = scattered(rt.alloc());
     assert!(rt; compress_calling(&mut arena) == (InvalidationOption::Success(()), 2));
-    for call in &[(1, p0(1, 5), p0(1, 7), 'e'), (2, p0(4, 2), p0(2, 7), 'd')] {
-        assert!(rt; arena.get(call.2) == Some(call));
+    for call in CALLS {
+        assert!(rt; has_call(&arena, call));
     }
     assert!(rt; counts(&arena) == (2, 4, 7, Some((3, 7))));
 }

@@ -20,17 +20,21 @@ fn is_as_before(arena: &mut Numbers, before: (Counts, Option<u64>)) -> bool {
 }
 
 /// Inserts nine items until memory is refused. Answers how many found room; nothing where a refusal is wrong.
-fn inserted(heap: &LocalHeap) -> Option<usize> {
-    let mut arena = Numbers::new(heap);
+fn inserted_into(arena: &mut Numbers) -> Option<usize> {
     for item in 0..9u64 {
-        let before = seen(&arena);
+        let before = seen(arena);
         if let Err(refusal) = arena.insert_reallocating(item) {
-            let is_right = refusal == InsertionError::AllocError
-                && is_as_before(&mut arena, before);
+            let is_right = refusal == InsertionError::AllocError && is_as_before(arena, before);
             return is_right.then_some(arena.len());
         }
     }
     Some(9)
+}
+
+/// The same on a heap.
+fn inserted(heap: &LocalHeap) -> Option<usize> {
+    let mut arena = Numbers::new(heap);
+    inserted_into(&mut arena)
 }
 
 #[test]

@@ -3,12 +3,11 @@ use super::{Letters, SCATTERED, is_listed, scattered};
 use arena_base::{P0, Ptr, ReallocationError};
 use std::alloc::AllocError;
 
-/// Makes a chain a clone of the source, where the letter at an index is refused. Answers the outcome, and how often the closure was called.
-fn clone_but(
-    chain: &mut Letters,
-    source: &Letters,
-    refused: u32,
-) -> (Result<(), ReallocationError>, u8) {
+/// Whether a clone is refused memory, how often its closure was called, and how many entries it leaves.
+type Cloned = (bool, u8, usize);
+
+/// Makes a chain a clone of the source, where the letter at an index is refused.
+fn clone_but(chain: &mut Letters, source: &Letters, refused: u32) -> Cloned {
     let mut calls = 0u8;
     let outcome = chain.try_clone_from_with(source, |p: P0, letter: &char, _neighbours| {
         calls = calls.wrapping_add(1);
@@ -17,35 +16,44 @@ fn clone_but(
         }
         Ok(*letter)
     });
-    (outcome, calls)
+    let is_refused = outcome == Err(ReallocationError::AllocError);
+    (is_refused, calls, chain.len())
 }
 
 /// The same with no refusal.
-fn clone_all(chain: &mut Letters, source: &Letters) -> (Result<(), ReallocationError>, u8) {
+fn clone_all(chain: &mut Letters, source: &Letters) -> Cloned {
     let mut calls = 0u8;
     let outcome = chain.clone_from_with(source, |_p: P0, letter: &char, _neighbours| {
         calls = calls.wrapping_add(1);
         *letter
     });
-    (outcome, calls)
+    (outcome.is_err(), calls, chain.len())
+}
+
+/// Whether a clone has the pointers of the source, in its order.
+fn is_cloned(chain: &mut Letters, source: &Letters) -> bool {
+    clone_all(chain, source) == (false, 3, 3)
+        && is_listed(chain, SCATTERED)
+        && (chain.capacity(), chain.generation()) == (4, 3)
 }
 
 #[test]
 fn a_clone_has_the_pointers_in_order(rt: HostRuntime) {
     let source = scattered(rt.alloc());
     let mut chain = Letters::new(rt.alloc());
-    assert!(rt; clone_all(&mut chain, &source) == (Ok(()), 3));
-    assert!(rt; is_listed(&chain, SCATTERED));
-    assert!(rt; (chain.capacity(), chain.generation()) == (4, 3));
+    assert!(rt; is_cloned(&mut chain, &source));
+}
+
+/// Whether a clone that is whole loses all entries at the next one, of which a letter is refused.
+fn is_emptied(chain: &mut Letters, source: &Letters) -> bool {
+    clone_but(chain, source, 0) == (false, 3, 3)
+        && clone_but(chain, source, 2) == (true, 2, 0)
+        && (chain.capacity(), chain.generation()) == (4, 3)
 }
 
 #[test]
 fn a_refused_item_leaves_no_entry(rt: HostRuntime) {
     let source = scattered(rt.alloc());
     let mut chain = Letters::new(rt.alloc());
-    assert!(rt; clone_but(&mut chain, &source, 0) == (Ok(()), 3));
-    assert!(rt; chain.len() == 3);
-    let refused = Err(ReallocationError::AllocError);
-    assert!(rt; clone_but(&mut chain, &source, 2) == (refused, 2));
-    assert!(rt; (chain.len(), chain.capacity(), chain.generation()) == (0, 4, 3));
+    assert!(rt; is_emptied(&mut chain, &source));
 }

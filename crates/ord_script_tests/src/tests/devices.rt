@@ -1,5 +1,5 @@
-//! Devices that go slowly, that fail in one call and go well again, and that count their calls: nothing is tried again.
-ghost use Rattle.std.specs.Prelude.{◌≤◌, IfOk};
+//! Devices that go slowly, that fail and go well again, and that count their calls: nothing is tried again.
+ghost use Rattle.std.specs.Prelude.{◌≤◌, ◌≡◌, IfOk};
 
 use ord_script::{FaultKind, ScriptEnd, Watched, serve};
 use std::alloc::{AllocError, Global};
@@ -7,37 +7,51 @@ use std::io;
 use std::io::{ErrorKind, Read, Write};
 use std::test::Fail;
 
-/// How a device goes: at most so many bytes a call, and perhaps one call that fails. It counts its calls.
+/// How a device goes: at most so many bytes a call. One call fails, counted from 0, and each call once so many bytes have gone.
 #[derive(Clone, Copy)]
-struct Pace {
-    step: usize,
-    failure: Failure,
-    calls: usize,
+pub(super) struct Pace {
+    pub(super) step: usize,
+    pub(super) left: usize,
+    pub(super) failing: usize,
+    pub(super) failure: Failure,
+    pub(super) calls: usize,
 }
 
-/// The one call that fails, counted from 0, and how. The calls after it go well.
+/// How a call fails.
 #[derive(Clone, Copy)]
-enum Failure {
-    Never,
+pub(super) enum Failure {
+    /// By an error.
+    Broken,
     /// By an interruption, which is an error like any other.
-    ErrorAt(usize),
+    Interrupted,
     /// It moves no byte.
-    NothingAt(usize),
+    Nothing,
 }
 
 /// All at once, and no failure.
-const AT_ONCE: Pace = Pace {
+pub(super) const AT_ONCE: Pace = Pace {
     step: usize::MAX,
-    failure: Failure::Never,
+    left: usize::MAX,
+    failing: usize::MAX,
+    failure: Failure::Broken,
     calls: 0,
 };
 
 /// A byte a call, and no failure.
-const BY_BYTE: Pace = Pace {
-    step: 1,
-    failure: Failure::Never,
-    calls: 0,
-};
+const BY_BYTE: Pace = Pace { step: 1, ..AT_ONCE };
+
+impl Failure {
+    /// What the call answers.
+    fn answer(self) -> io::Result<usize>
+        ensures { IfOk result (λ count. count ≡ 0) }
+    {
+        match self {
+            Failure::Broken => Err(io::Error::from(ErrorKind::BrokenPipe)),
+            Failure::Interrupted => Err(io::Error::from(ErrorKind::Interrupted)),
+            Failure::Nothing => Ok(0),
+        }
+    }
+}
 
 impl Pace {
     /// How many of `len` bytes one call moves.
@@ -46,19 +60,20 @@ impl Pace {
     {
         let call = self.calls;
         self.calls = call.saturating_add(1);
-        match self.failure {
-            Failure::ErrorAt(at) if at == call => Err(io::Error::from(ErrorKind::Interrupted)),
-            Failure::NothingAt(at) if at == call => Ok(0),
-            _ => Ok(len.min(self.step)),
+        if self.left == 0 || call == self.failing {
+            return self.failure.answer();
         }
+        let count = len.min(self.step).min(self.left);
+        self.left -= count;
+        Ok(count)
     }
 }
 
 /// A reader over memory.
 #[derive(Drop)]
-struct Source<'a> {
-    bytes: &'a [u8],
-    pace: Pace,
+pub(super) struct Source<'a> {
+    pub(super) bytes: &'a [u8],
+    pub(super) pace: Pace,
 }
 
 impl Read for Source<'_> {
@@ -73,10 +88,10 @@ impl Read for Source<'_> {
 
 /// A writer into memory. It counts its flushes too.
 #[derive(Drop)]
-struct Sink {
-    bytes: Vec<u8>,
-    pace: Pace,
-    flushes: usize,
+pub(super) struct Sink {
+    pub(super) bytes: Vec<u8>,
+    pub(super) pace: Pace,
+    pub(super) flushes: usize,
 }
 
 impl Write for Sink {
@@ -160,11 +175,19 @@ fn reads_and_writes_in_pieces(rt: HostRuntime) {
     }
 }
 
+/// A byte a call, where one call fails so.
+fn failing(call: usize, failure: Failure) -> Pace {
+    Pace {
+        failing: call,
+        failure,
+        ..BY_BYTE
+    }
+}
+
 #[test]
 fn each_read_fails_in_turn(rt: HostRuntime) {
     for call in 0..=SCRIPT.len() {
-        let failure = Failure::ErrorAt(call);
-        let pace = Pace { failure, ..BY_BYTE };
+        let pace = failing(call, Failure::Interrupted);
         let calls = calls_of(rt.alloc(), pace, AT_ONCE, ScriptEnd::ReadFailed, b"");
         let expected = Calls {
             reads: call + 1,
@@ -178,8 +201,8 @@ fn each_read_fails_in_turn(rt: HostRuntime) {
 #[test]
 fn each_write_fails_in_turn(rt: HostRuntime) {
     for call in 0..ANSWER.len() {
-        for failure in [Failure::ErrorAt(call), Failure::NothingAt(call)] {
-            let pace = Pace { failure, ..BY_BYTE };
+        for failure in [Failure::Interrupted, Failure::Nothing] {
+            let pace = failing(call, failure);
             let written = &ANSWER[..call];
             let calls = calls_of(rt.alloc(), AT_ONCE, pace, ScriptEnd::WriteFailed, written);
             let expected = Calls {
@@ -194,20 +217,17 @@ fn each_write_fails_in_turn(rt: HostRuntime) {
 
 #[test]
 fn a_watched_reader_is_asked_once_a_read(rt: HostRuntime) {
-    for failing in 0usize..4 {
+    for at in 0usize..4 {
         let mut source = Source {
             bytes: b"abc",
-            pace: Pace {
-                failure: Failure::ErrorAt(failing),
-                ..BY_BYTE
-            },
+            pace: failing(at, Failure::Interrupted),
         };
         let mut reader = Watched::new(&mut source);
         for call in 0usize..5 {
             let mut byte = [0];
             let result = reader.read(&mut byte);
-            assert!(rt; result.is_err() == (call == failing));
-            assert!(rt; (reader.failed(), reader.ended()) == (call >= failing, call == 4));
+            assert!(rt; result.is_err() == (call == at));
+            assert!(rt; (reader.failed(), reader.ended()) == (call >= at, call == 4));
         }
         assert!(rt; source.pace.calls == 5);
         assert!(rt; source.bytes.is_empty());
@@ -216,17 +236,17 @@ fn a_watched_reader_is_asked_once_a_read(rt: HostRuntime) {
 
 #[test]
 fn a_watched_writer_is_asked_once_a_write(rt: HostRuntime) {
-    for failing in 0usize..4 {
-        for failure in [Failure::ErrorAt(failing), Failure::NothingAt(failing)] {
+    for at in 0usize..4 {
+        for failure in [Failure::Interrupted, Failure::Nothing] {
             let mut sink = Sink {
                 bytes: Vec::new(rt.alloc()),
-                pace: Pace { failure, ..BY_BYTE },
+                pace: failing(at, failure),
                 flushes: 0,
             };
             let mut writer = Watched::new(&mut sink);
             for call in 0usize..4 {
                 let is_well = matches!(writer.write(b"xy"), Ok(1));
-                assert!(rt; (is_well, writer.failed()) == (call != failing, call >= failing));
+                assert!(rt; (is_well, writer.failed()) == (call != at, call >= at));
             }
             assert!(rt; writer.flush().is_ok());
             assert!(rt; (sink.pace.calls, sink.flushes) == (4, 1));
@@ -239,13 +259,13 @@ fn a_watched_writer_is_asked_once_a_write(rt: HostRuntime) {
 fn is_end_of_line_feeds(
     alloc: Global,
     count: usize,
-    failure: Failure,
+    failing: usize,
     wanted: (ScriptEnd, usize, usize),
 ) -> Result<bool, AllocError> {
     let script = vec![in alloc; b'\n'; count]?;
     let mut source = Source {
         bytes: &script,
-        pace: Pace { failure, ..AT_ONCE },
+        pace: Pace { failing, ..AT_ONCE },
     };
     let mut output = Vec::new(alloc);
     let mut reader = Watched::new(&mut source);
@@ -254,27 +274,19 @@ fn is_end_of_line_feeds(
 }
 
 /// Line feeds, the call that fails, and how it ends, after how many reads, with how many bytes unread. 256 reads of 4096 bytes reach the limit.
-const LINE_FEEDS: [(usize, Failure, (ScriptEnd, usize, usize)); 5] = [
-    (1_048_576, Failure::Never, (ScriptEnd::Done, 257, 0)),
-    (1_048_577, Failure::Never, (ScriptEnd::TooLong, 257, 0)),
-    (1_048_600, Failure::Never, (ScriptEnd::TooLong, 257, 23)),
+const LINE_FEEDS: [(usize, usize, (ScriptEnd, usize, usize)); 5] = [
+    (1_048_576, usize::MAX, (ScriptEnd::Done, 257, 0)),
+    (1_048_577, usize::MAX, (ScriptEnd::TooLong, 257, 0)),
+    (1_048_600, usize::MAX, (ScriptEnd::TooLong, 257, 23)),
     // whichever comes first
-    (
-        1_048_600,
-        Failure::ErrorAt(256),
-        (ScriptEnd::ReadFailed, 257, 24),
-    ),
-    (
-        1_048_600,
-        Failure::ErrorAt(257),
-        (ScriptEnd::TooLong, 257, 23),
-    ),
+    (1_048_600, 256, (ScriptEnd::ReadFailed, 257, 24)),
+    (1_048_600, 257, (ScriptEnd::TooLong, 257, 23)),
 ];
 
 #[test]
 fn reads_one_byte_beyond_the_limit(rt: HostRuntime) -> Result<(), Fail> {
-    for (count, failure, wanted) in &LINE_FEEDS {
-        assert!(rt; is_end_of_line_feeds(rt.alloc(), *count, *failure, *wanted)?);
+    for (count, failing, wanted) in &LINE_FEEDS {
+        assert!(rt; is_end_of_line_feeds(rt.alloc(), *count, *failing, *wanted)?);
     }
     Ok(())
 }

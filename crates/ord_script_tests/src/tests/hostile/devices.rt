@@ -1,98 +1,8 @@
 //! Devices that fail after each number of bytes.
-ghost use Rattle.std.specs.Prelude.{◌≡◌, IfOk};
-
+use super::super::devices::{AT_ONCE, Failure, Pace, Sink, Source};
 use super::{SCRIPTS, is_told};
 use ord_script::{ScriptEnd, Watched, serve};
 use std::alloc::Global;
-use std::io;
-use std::io::{ErrorKind, Read, Write};
-
-/// How a device goes: so many bytes a call, until so many have gone; then each call fails.
-#[derive(Clone, Copy)]
-struct Pace {
-    step: usize,
-    left: usize,
-    failure: Failure,
-}
-
-/// How a call fails.
-#[derive(Clone, Copy)]
-enum Failure {
-    /// By an error.
-    Broken,
-    /// By an interruption, which is an error like any other.
-    Interrupted,
-    /// It moves no byte.
-    Nothing,
-}
-
-impl Failure {
-    /// What the call answers.
-    fn answer(self) -> io::Result<usize>
-        ensures { IfOk result (λ count. count ≡ 0) }
-    {
-        match self {
-            Failure::Broken => Err(io::Error::from(ErrorKind::BrokenPipe)),
-            Failure::Interrupted => Err(io::Error::from(ErrorKind::Interrupted)),
-            Failure::Nothing => Ok(0),
-        }
-    }
-}
-
-/// A reader over memory.
-#[derive(Drop)]
-struct Source<'a> {
-    bytes: &'a [u8],
-    pace: Pace,
-}
-
-impl Read for Source<'_> {
-    fn read(&mut self, buf: &mut [u8]) -> io::Result<usize> {
-        if self.pace.left == 0 {
-            return self.pace.failure.answer();
-        }
-        let all = self.bytes;
-        let count = all
-            .len()
-            .min(buf.len())
-            .min(self.pace.step)
-            .min(self.pace.left);
-        buf[..count].copy_from_slice(&all[..count]);
-        self.bytes = &all[count..];
-        self.pace.left -= count;
-        Ok(count)
-    }
-}
-
-/// A writer into memory.
-#[derive(Drop)]
-struct Sink {
-    bytes: Vec<u8>,
-    pace: Pace,
-}
-
-impl Write for Sink {
-    fn write(&mut self, buf: &[u8]) -> io::Result<usize> {
-        if self.pace.left == 0 {
-            return self.pace.failure.answer();
-        }
-        let count = buf.len().min(self.pace.step).min(self.pace.left);
-        self.bytes.extend_from_slice(&buf[..count])?;
-        self.pace.left -= count;
-        Ok(count)
-    }
-
-    fn flush(&mut self) -> io::Result<()> {
-        Ok(())
-    }
-}
-
-/// A device that goes on.
-const WELL: Pace = Pace {
-    step: usize::MAX,
-    left: usize::MAX,
-    failure: Failure::Broken,
-};
 
 /// Whether a reader and a writer say of themselves what the end says.
 fn are_marked(end: ScriptEnd, read_failed: bool, read_ended: bool, write_failed: bool) -> bool {
@@ -123,6 +33,7 @@ fn goes(
     let mut sink = Sink {
         bytes: Vec::new(alloc),
         pace: writing,
+        flushes: 0,
     };
     let end = end_with(alloc, script, reading, &mut sink);
     end == Some(wanted_end) && sink.bytes.as_slice() == wanted
@@ -140,13 +51,14 @@ fn pace_of(number: usize, left: usize) -> Pace {
         step: STEPS[number % 3],
         left,
         failure: FAILURES[number / 3 % 3],
+        ..AT_ONCE
     }
 }
 
 /// Whether reads that fail after so many bytes end the script, and nothing is written.
 fn read_fails(alloc: Global, script: &str, left: usize) -> bool {
     for number in 0usize..6 {
-        let paces = (pace_of(number, left), WELL);
+        let paces = (pace_of(number, left), AT_ONCE);
         if !goes(alloc, script, paces, &[], ScriptEnd::ReadFailed) {
             return false;
         }
@@ -167,7 +79,7 @@ fn reads_that_fail_after_each_byte(rt: HostRuntime) {
 fn write_fails(alloc: Global, script: &str, answer: &[u8], left: usize) -> bool {
     let wanted = answer.get(..left).unwrap_or(&[]);
     for number in 0usize..9 {
-        let paces = (WELL, pace_of(number, left));
+        let paces = (AT_ONCE, pace_of(number, left));
         if !goes(alloc, script, paces, wanted, ScriptEnd::WriteFailed) {
             return false;
         }
@@ -186,10 +98,11 @@ fn writes_that_fail_after_each_byte(rt: HostRuntime) {
 
 /// Whether a script is answered so with devices that go on, by so many bytes a call.
 fn is_served_slowly(alloc: Global, script: &str, answer: &str, step: usize) -> bool {
-    let pace = Pace { step, ..WELL };
+    let pace = Pace { step, ..AT_ONCE };
     let mut sink = Sink {
         bytes: Vec::new(alloc),
         pace,
+        flushes: 0,
     };
     match end_with(alloc, script, pace, &mut sink) {
         Some(end) => is_told(alloc, answer, end) && sink.bytes.as_slice() == answer.as_bytes(),
