@@ -34,14 +34,14 @@ fn compress_calling(arena: &mut Calls) -> (InvalidationOption<()>, u8) {
     (overflow, calls)
 }
 
-/// The calls of the compression, in their order.
-const CALLS: &[(u8, (u32, u64), (u32, u64), char)] = &[
-    (1, (1, 5), (1, 7), 'e'),
-    (2, (4, 2), (2, 7), 'd'),
-];
+/// A call by numbers: its place, the old pointer, the new one, and the letter.
+type Shown = (u8, (u32, u64), (u32, u64), char);
 
-/// Whether an arena has the item of a call at the pointer that it was shown last.
-fn has_call(arena: &Calls, call: &(u8, (u32, u64), (u32, u64), char)) -> bool {
+/// The calls of the compression, in their order.
+const CALLS: &[Shown] = &[(1, (1, 5), (1, 7), 'e'), (2, (4, 2), (2, 7), 'd')];
+
+/// Whether an arena has the item of a call at the new pointer.
+fn has_call(arena: &Calls, call: &Shown) -> bool {
     let (count, (old_inx, old_generation), (inx, generation), letter) = *call;
     let new = p0(inx, generation);
     arena.get(new) == Some(&(count, p0(old_inx, old_generation), new, letter))

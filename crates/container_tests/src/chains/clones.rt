@@ -3,8 +3,8 @@ use super::{Letters, SCATTERED, is_listed, scattered};
 use arena_base::{P0, Ptr, ReallocationError};
 use std::alloc::AllocError;
 
-/// Whether a clone is refused memory, how often its closure was called, and how many entries it leaves.
-type Cloned = (bool, u8, usize);
+/// How a clone is refused, if it is, how often its closure was called, and how many entries it leaves.
+type Cloned = (Option<ReallocationError>, u8, usize);
 
 /// Makes a chain a clone of the source, where the letter at an index is refused.
 fn clone_but(chain: &mut Letters, source: &Letters, refused: u32) -> Cloned {
@@ -16,8 +16,7 @@ fn clone_but(chain: &mut Letters, source: &Letters, refused: u32) -> Cloned {
         }
         Ok(*letter)
     });
-    let is_refused = outcome == Err(ReallocationError::AllocError);
-    (is_refused, calls, chain.len())
+    (outcome.err(), calls, chain.len())
 }
 
 /// The same with no refusal.
@@ -27,12 +26,12 @@ fn clone_all(chain: &mut Letters, source: &Letters) -> Cloned {
         calls = calls.wrapping_add(1);
         *letter
     });
-    (outcome.is_err(), calls, chain.len())
+    (outcome.err(), calls, chain.len())
 }
 
 /// Whether a clone has the pointers of the source, in its order.
 fn is_cloned(chain: &mut Letters, source: &Letters) -> bool {
-    clone_all(chain, source) == (false, 3, 3)
+    clone_all(chain, source) == (None, 3, 3)
         && is_listed(chain, SCATTERED)
         && (chain.capacity(), chain.generation()) == (4, 3)
 }
@@ -46,8 +45,8 @@ fn a_clone_has_the_pointers_in_order(rt: HostRuntime) {
 
 /// Whether a clone that is whole loses all entries at the next one, of which a letter is refused.
 fn is_emptied(chain: &mut Letters, source: &Letters) -> bool {
-    clone_but(chain, source, 0) == (false, 3, 3)
-        && clone_but(chain, source, 2) == (true, 2, 0)
+    clone_but(chain, source, 0) == (None, 3, 3)
+        && clone_but(chain, source, 2) == (Some(ReallocationError::AllocError), 2, 0)
         && (chain.capacity(), chain.generation()) == (4, 3)
 }
 

@@ -11,7 +11,9 @@ use std::test::Fail;
 #[derive(Clone, Copy)]
 pub(super) struct Pace {
     pub(super) step: usize,
+    /// How many bytes may go yet.
     pub(super) left: usize,
+    /// The call that fails.
     pub(super) failing: usize,
     pub(super) failure: Failure,
     pub(super) calls: usize,
@@ -123,9 +125,14 @@ struct Calls {
     writes: usize,
 }
 
-/// Whether a reader and a writer say of themselves what the end says.
-fn are_marked(end: ScriptEnd, read_ended: bool, read_failed: bool, write_failed: bool) -> bool {
-    read_ended == (end == END || end == ScriptEnd::WriteFailed)
+/// Whether a reader and a writer say of themselves what the end says: each read goes on until it fails or has met the end.
+pub(super) fn are_marked(
+    end: ScriptEnd,
+    read_ended: bool,
+    read_failed: bool,
+    write_failed: bool,
+) -> bool {
+    read_ended != read_failed
         && read_failed == (end == ScriptEnd::ReadFailed)
         && write_failed == (end == ScriptEnd::WriteFailed)
 }

@@ -1,15 +1,8 @@
 //! Devices that fail after each number of bytes.
-use super::super::devices::{AT_ONCE, Failure, Pace, Sink, Source};
+use super::super::devices::{AT_ONCE, Failure, Pace, Sink, Source, are_marked};
 use super::{SCRIPTS, is_told};
 use ord_script::{ScriptEnd, Watched, serve};
 use std::alloc::Global;
-
-/// Whether a reader and a writer say of themselves what the end says.
-fn are_marked(end: ScriptEnd, read_failed: bool, read_ended: bool, write_failed: bool) -> bool {
-    read_failed == (end == ScriptEnd::ReadFailed)
-        && read_ended != read_failed
-        && write_failed == (end == ScriptEnd::WriteFailed)
-}
 
 /// How a script ends with a reader that goes so and this writer, where these say of themselves what the end says.
 fn end_with(alloc: Global, script: &str, reading: Pace, sink: &mut Sink) -> Option<ScriptEnd> {
@@ -19,7 +12,7 @@ fn end_with(alloc: Global, script: &str, reading: Pace, sink: &mut Sink) -> Opti
     });
     let mut writer = Watched::new(sink);
     let end = serve(alloc, &mut reader, &mut writer);
-    are_marked(end, reader.failed(), reader.ended(), writer.failed()).then_some(end)
+    are_marked(end, reader.ended(), reader.failed(), writer.failed()).then_some(end)
 }
 
 /// Whether a script that is served with devices that go so ends so, and this is written.
