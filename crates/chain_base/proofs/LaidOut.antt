@@ -70,7 +70,7 @@ module _ {T : Type 0} where
   alike-bridged a left next right prev = grind (arith, common_steps, alike-prev, alike-next)
 
   -- the two writes of a seam change nothing at an index that stands on neither side
-  relinked-apart : (xs ys : List (Entry T)) (next prev : Option ℕ) (i : ℕ) (o : Option (ℕ × Link T)) → times i xs ≡ 0 → times i ys ≡ 0 → relinked (last_or None xs) next (first_or None ys) prev i o ≡ o
+  pub relinked-apart : (xs ys : List (Entry T)) (next prev : Option ℕ) (i : ℕ) (o : Option (ℕ × Link T)) → times i xs ≡ 0 → times i ys ≡ 0 → relinked (last_or None xs) next (first_or None ys) prev i o ≡ o
   relinked-apart xs ys next prev i o apart_left apart_right = grind (arith, common_steps, names_tells (last_or None xs) i, names_tells (first_or None ys) i, times-last xs i, times-first ys i)
 
   -- the link of an item between two stretches
@@ -88,7 +88,7 @@ module _ {T : Type 0} where
   -- what the slots hold after an insertion between two stretches
   module _ (xs ys : List (Entry T)) (e : Entry T) (k : ℕ) (o : Option (ℕ × Link T)) (left : times e.index xs ≡ 0) (right : times e.index ys ≡ 0)
       (once : times k xs + times k ys ≤ 1) (was : o ≡ link_at (xs ++ ys) k) where
-    slots-inserted : relinked (last_or None xs) (Some e.index) (first_or None ys) (Some e.index) k (if e.index == k then Some (e.generation, link_amid xs e.item ys) else o)
+    pub slots-inserted : relinked (last_or None xs) (Some e.index) (first_or None ys) (Some e.index) k (if e.index == k then Some (e.generation, link_amid xs e.item ys) else o)
         ≡ link_at (xs ++ e ∷ ys) k
     slots-inserted = grind (arith, common_steps, link_between-append, left, link_between-absent, relinked-apart, seam-relinked)
 
@@ -111,7 +111,7 @@ module _ {T : Type 0} where
 
   -- what the slots hold after the entry between two stretches is taken out
   module _ (xs : List (Entry T)) (e : Entry T) (ys : List (Entry T)) (k : ℕ) (o : Option (ℕ × Link T)) (once : times k (xs ++ e ∷ ys) ≤ 1) where
-    slots-removed : o ≡ link_at (xs ++ e ∷ ys) k
+    pub slots-removed : o ≡ link_at (xs ++ e ∷ ys) k
         → relinked (last_or None xs) (first_or None ys) (first_or None ys) (last_or None xs) k (if e.index == k then None else o) ≡ link_at (xs ++ ys) k
     slots-removed was = grind (arith, common_steps, link_between-append, times-append, times-here, link_between-absent, relinked-apart, times-there, seam-relinked)
 

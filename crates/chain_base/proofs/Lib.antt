@@ -9,6 +9,7 @@ pub mod Renumbering
 pub mod Ranking
 pub mod Compressing
 pub mod Exchanging
+pub mod Moving
 pub mod Canonical
 pub mod Steps
 pub mod Ends

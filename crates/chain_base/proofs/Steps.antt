@@ -37,11 +37,11 @@ module _ {T : Type 0} where
   held-laid slots first last es laid = held-links slots es laid.distinct laid.links
 
   -- the first of a list that goes on, or another first where there is nothing before
-  first_or-end : (xs zs : List (Entry T)) (d : Option ℕ) → (if is_some (last_or None xs) then first_or None (xs ++ zs) else d) ≡ first_or d xs
+  pub first_or-end : (xs zs : List (Entry T)) (d : Option ℕ) → (if is_some (last_or None xs) then first_or None (xs ++ zs) else d) ≡ first_or d xs
   first_or-end xs zs d = grind (arith, common_steps, last_or-there)
 
   -- the last of a list that was there before, or another last where there is nothing after
-  last_or-end : (zs ys : List (Entry T)) (d : Option ℕ) → (if is_some (first_or None ys) then last_or None (zs ++ ys) else d) ≡ last_or d ys
+  pub last_or-end : (zs ys : List (Entry T)) (d : Option ℕ) → (if is_some (first_or None ys) then last_or None (zs ++ ys) else d) ≡ last_or d ys
   last_or-end zs ys d = grind (arith, common_steps, last_or-append)
 
   -- what an insertion between two neighbours makes of a chain

@@ -7,4 +7,5 @@ pub mod Compression
 pub mod Exchange
 pub mod Insert
 pub mod Layout
+pub mod Move
 pub mod Transfer

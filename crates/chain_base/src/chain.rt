@@ -11,6 +11,7 @@ mod get;
 mod growth;
 pub mod insert;
 mod links;
+mod moving;
 mod remove;
 mod transfer;
 pub mod walk;

@@ -28,7 +28,7 @@ module _ {T : Type 0} where
 
 -- the marks that it leaves tell the truth
 AreTrue-marked : (effect : Effect) (old new : Shape) (marks : Marks) → Affects effect old new → AreTrue marks old → AreTrue (marked_by effect marks) new
-AreTrue-marked adds old new marks tight holds = record { only_inserted = λ e. tight (holds.only_inserted e); just_built = λ e. cc }
+AreTrue-marked adds old new marks tight holds = record { only_inserted = λ e. tight.0 (holds.only_inserted e); just_built = λ e. cc }
 AreTrue-marked removes old new marks any holds = record { only_inserted = λ e. cc; just_built = λ e. cc }
 AreTrue-marked rebuilds old new marks rebuilt holds = record { only_inserted = λ e. cc; just_built = λ e. rebuilt }
 AreTrue-marked keeps old new marks (inl same) holds = subst (λ (s : Shape). AreTrue marks s) (sym same) holds

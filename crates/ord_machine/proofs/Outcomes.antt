@@ -8,7 +8,7 @@ use Rattle.arena_base.specs.Generation.{next_generation}
 use Rattle.chain_base.specs.Chain.{Entry, Chain, renewed, removed, times, IsDistinct, entry_at, item_of, without, with_item_among, with_generation}
 use Rattle.chain_base.specs.{Compression.at_compressed_index, Compression.numbered, Insert.IsInsertion}
 use Rattle.chain_base.proofs.CallerLemmas.{after-insertion, entry_at-absent, entry_at-between_other, generation-relocated, generation-numbered}
-use Rattle.ord_tree.specs.{Shape.Shape, Shape.missing, Half.IsRebuilt, Ranks.IsTight, Tree.Tree}
+use Rattle.ord_tree.specs.{Shape.Shape, Shape.missing, Half.IsRebuilt, Ranks.IsTight, Tree.Tree, Potential.ReranksWithin}
 use Rattle.triple_ord.specs.Place.{Aim, alone, at_key, behind_key, beside, into, over, IsPlace, aim_of}
 use Rattle.triple_ord.specs.declared.error.OrdInsertionError.TheVariants.{BeyondMaxCapacity, AllocError}
 use Rattle.triple_ord.specs.declared.insert_kind.OrdInsertKind.TheVariants.{Normal, Linear}
@@ -17,7 +17,7 @@ use Rattle.triple_ord.specs.{Insertion.Growth, Insertion.within, Insertion.reall
 use Rattle.triple_ord.specs.{declared.insert_kind.OrdInsertKind.OrdInsertKind, ClosureSearch.Shown}
 use Rattle.triple_ord.proofs.{CallerLemmas.entries-with_room_by, CallerLemmas.numbers-with_room_by, Inserting.entry_at-after}
 use Rattle.ord_machine.specs.declared.reply.Reply.TheVariants.{Inserted, Refused, Item, Removed, Renewed, Changed, Entries, Done, ReductionRefused}
-use Rattle.ord_machine.specs.Machine.{Reading, State, Effect, adds, removes, rebuilds, keeps, told_effect, effect_of, Inserts, Does, entry_of, removed_each}
+use Rattle.ord_machine.specs.Machine.{Reading, State, Effect, adds, removes, rebuilds, keeps, told_effect, effect_of, Inserts, Does, IsTakenOut, entry_of, removed_each}
 use Rattle.ord_machine.specs.{Pointers.resets, Pointers.raises, Pointers.ReplacesAnother, Pointers.IsOfOthers, declared.reply.Reply.Reply}
 use Rattle.ord_machine.specs.{Ascending.IsPlacedByKey, Ascending.KeepsApart, declared.command.Command.Command}
 use Rattle.ord_machine.specs.declared.command.Command.TheVariants as commands
@@ -117,8 +117,8 @@ pub data Change {P T I G K : Type 0} (r : Reading P T I G K) (old new : Chain T)
 
 -- what an effect says of the shapes before and after it
 abbrev pub Affects : Effect → Shape → Shape → Type 0
-Affects adds old new = IsTight old → IsTight new
-Affects removes old new = Unit {0}
+Affects adds old new = (IsTight old → IsTight new) × (ReranksWithin 4 old new ⊎ (new ≡ old))
+Affects removes old new = ReranksWithin 9 old new ⊎ (new ≡ old)
 Affects rebuilds old new = IsRebuilt new
 Affects keeps old new = (new ≡ old) ⊎ (new ≡ missing)
 
@@ -173,9 +173,9 @@ module _ {P T I G K : Type 0} (r : Reading P T I G K) (s : State T) (new : Tree 
 
   -- the shape stays, whatever the reply
   alike : {A : Type 0} (reply : Reply P T A I G) → new.shape ≡ s.tree.shape → Affects (told_effect reply) s.tree.shape new.shape
-  alike (Inserted (New p) before) same = λ tight. subst IsTight (sym same) tight
-  alike (Removed (Success taken)) same = tt
-  alike (Removed (GenerationOverflow taken)) same = tt
+  alike (Inserted (New p) before) same = (λ tight. subst IsTight (sym same) tight, inr same)
+  alike (Removed (Success taken)) same = inr same
+  alike (Removed (GenerationOverflow taken)) same = inr same
   alike reply same = inl same
 
   module _ {back : Bool} {Of : ℕ × ℕ → Type 0} {Keeps : Type 0} where
@@ -183,9 +183,9 @@ module _ {P T I G K : Type 0} (r : Reading P T I G K) (s : State T) (new : Tree 
     still reply same =
         record { affects = alike reply (ap (λ t. t.shape) same); raised = λ _. ap (λ t. t.list.generation) same; change = λ _. stays (ap (λ t. t.list.entries) same) }
 
-    lost : (i : ℕ) → new.list ≡ removed r.greatest s.tree.list i → Spares s.tree.list Of i → Outcome r s.tree new removes back 1 Of Keeps
+    lost : (i : ℕ) → IsTakenOut r.greatest s.tree i new → Spares s.tree.list Of i → Outcome r s.tree new removes back 1 Of Keeps
     lost i is spares =
-        record { affects = tt; raised = λ _. ap (λ c. c.generation) is; change = λ _. leaves i (ap (λ c. c.entries) is) (omega arith) spares }
+        record { affects = inl is.1.reranked; raised = λ _. ap (λ c. c.generation) is.0; change = λ _. leaves i (ap (λ c. c.entries) is.0) (omega arith) spares }
 
     again : (q : ℕ × ℕ) → IsSome (item_of es q) → new ≡ record s.tree { list = renewed r.greatest s.tree.list q.0 } → ((p : ℕ × ℕ) → Of p → q ≢ p)
         → Outcome r s.tree new keeps back 1 Of Keeps
@@ -219,7 +219,7 @@ module _ {P T I G K : Type 0} (r : Reading P T I G K) (s : State T) (new : Tree 
         let i = (r.pointer q).0 in
         let after = is-put room new.list (with_between does.gap) item i (r.pointer q).1 does.inserted in
         record {
-          affects = does.grown.tight;
+          affects = (does.grown.tight, inl does.grown.reranked);
           raised = λ _. after.1 ∙ era;
           change = λ _. comes does.gap i item (record {
             list = after.0 ∙ ap (λ g. does.gap.front ++ record { index = i; generation = g; item = item } ∷ does.gap.back) era;
@@ -263,13 +263,13 @@ module _ {P T I G K : Type 0} (r : Reading P T I G K) (s : State T) (new : Tree 
       }
   outcome asks f (commands.Set q item) reply g does = absurd does.0
   outcome asks f (commands.Remove q) (Removed (Success taken)) g does =
-      lost (r.pointer q).0 does.0.1.removed.0 (λ p here of. other_index es p (r.pointer q) of (ap is_some (sym does.0.1.value)) here)
+      lost (r.pointer q).0 does.0.1.removed (λ p here of. other_index es p (r.pointer q) of (ap is_some (sym does.0.1.value)) here)
   outcome asks f (commands.Remove q) (Removed (GenerationOverflow taken)) g does =
-      lost (r.pointer q).0 does.0.1.removed.0 (λ p here of. other_index es p (r.pointer q) of (ap is_some (sym does.0.1.value)) here)
+      lost (r.pointer q).0 does.0.1.removed (λ p here of. other_index es p (r.pointer q) of (ap is_some (sym does.0.1.value)) here)
   outcome asks f (commands.Remove q) (Removed InvalidPtr) g does = kept does.0.1.invalid
   outcome asks f (commands.Remove q) reply g does = absurd does.0
-  outcome asks f (commands.RemoveInx i) (Removed (Success taken)) g does = lost (r.index i) does.0.1.removed.0 (λ p here of same. of (sym same))
-  outcome asks f (commands.RemoveInx i) (Removed (GenerationOverflow taken)) g does = lost (r.index i) does.0.1.removed.0 (λ p here of same. of (sym same))
+  outcome asks f (commands.RemoveInx i) (Removed (Success taken)) g does = lost (r.index i) does.0.1.removed (λ p here of same. of (sym same))
+  outcome asks f (commands.RemoveInx i) (Removed (GenerationOverflow taken)) g does = lost (r.index i) does.0.1.removed (λ p here of same. of (sym same))
   outcome asks f (commands.RemoveInx i) (Removed InvalidPtr) g does = kept does.0.1.invalid
   outcome asks f (commands.RemoveInx i) reply g does = absurd does.0
   outcome asks f (commands.Invalidate q) (Renewed (Success next)) g does = again (r.pointer q) (sym does.0.valid) does.0.renewed (λ p of. of)

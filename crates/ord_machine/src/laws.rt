@@ -4,6 +4,7 @@ ghost use Rattle.triple_ord.specs.ClosureSearch.{Asks};
 ghost use Rattle.ord_machine.specs.Ascending.{AscendingKeysLaw};
 ghost use Rattle.ord_machine.specs.Laws.{FirstRankLaw};
 ghost use Rattle.ord_machine.specs.Pointers.{EndedPointerLaw, KeptPointerLaw};
+ghost use Rattle.ord_machine.specs.Reranking.{RankChangesLaw};
 
 use arena_base::Ptr;
 use std::alloc::Allocator;
@@ -31,4 +32,10 @@ pub fn ended_pointer_law<P: Ptr, T: SimpleOrdItem, F: FnMut(P, &T) -> Ordering, 
 /// and each insertion is by the item's key, or of the kind `Normal` or `Linear` with a key that the item's is equal to.
 pub fn ascending_keys_law<P: Ptr, T: SimpleOrdItem, F: FnMut(P, &T) -> Ordering, A: Allocator>()
     ensures { AscendingKeysLaw P T P.Inx P.Gen A T.Key (Asks P.numbers F.step) }
+{}
+
+/// Along any run in which the tree is not built anew, entries get another rank at most 4 times for each entry that came, 9 times for
+/// each that was taken out, and 3 times for each that was there at first.
+pub fn rank_changes_law<P: Ptr, T: SimpleOrdItem, F: FnMut(P, &T) -> Ordering, A: Allocator>()
+    ensures { RankChangesLaw P T P.Inx P.Gen A T.Key (Asks P.numbers F.step) }
 {}

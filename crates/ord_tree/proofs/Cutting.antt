@@ -1,18 +1,22 @@
 -- Taking out a node of which one side is empty: what hangs on its other side takes its place.
-use Rattle.std.proofs.Common.{◌≡◌, ◌≢◌, ℕ, ◌+◌, ◌<◌, ◌≤◌, Option, Some, None, List, [], ◌∷◌, ◌++◌, length, arith, refl, sym, ◌∙◌, ap, subst, inl, inr, ⊎_elim, option_map, is_some, true, append_assoc, length-append}
-use Rattle.std.proofs.{lemmas.Bool.cases_lt, lemmas.Bool.eq-eqb, lemmas.Grind.common_steps}
+use Rattle.std.proofs.Common.{◌≡◌, ◌≢◌, ℕ, zero, suc, ◌+◌, ◌<◌, ◌≤◌, Option, Some, None, List, [], ◌∷◌, ◌++◌, length, arith, refl, sym, ◌∙◌, ap, subst, inl, inr, ⊎_elim, option_map, is_some, true, append_assoc, length-append, MatchOption}
+use Rattle.std.proofs.{lemmas.Bool.cases_lt, lemmas.Bool.cases_eq, lemmas.Bool.eq-eqb, lemmas.Bool.ne_eqb, lemmas.Grind.common_steps}
 use Rattle.std.specs.Option.{option_to_list}
-use Rattle.ord_tree.specs.Slots.{Slots, Holds, top, plug, above, HoldsWay, here, times, times_in, times_way, MovesBacks}
+use Rattle.ord_tree.specs.Slots.{Slots, Holds, top, up, plug, above, HoldsWay, here, times, times_in, times_way, MovesBacks}
 use Rattle.ord_tree.specs.{Shape.Shape, Shape.missing, Shape.node, Shape.fork, Shape.rank_of, Shape.root_of, Shape.walk, Demote.IsFallen}
 use Rattle.ord_tree.specs.declared.tree_links.Side.TheVariants.{Lesser, Greater}
 use Rattle.ord_tree.specs.{Balance.IsOver, Balance.IsBalanced, Balance.IsBalancedWay, TreeLinks.other_side, TreeLinks.child_at}
 use Rattle.ord_tree.specs.{declared.tree_links.TreeLinks.TreeLinks, declared.tree_links.Branch.Branch, Detach.without, Detach.IsLoose}
 use Rattle.ord_tree.specs.declared.tree_links.Side.{Side}
 use Rattle.ord_tree.proofs.Forks.{Holds-fork, Holds-plug, link-root, fork_balanced, here-same, times-append, times-walk, times_in-plug, times_in-fork, rank-fork}
-use Rattle.ord_tree.proofs.Frames.{last_step, no_step, occupied-above, root-in, Holds-frame, HoldsWay-frame, Holds-rehung, IsReplaced, HoldsWay-replaced}
+use Rattle.ord_tree.proofs.Frames.{LastStep, last_step, no_step, occupied-above, root-in, Holds-frame, HoldsWay-frame, Holds-rehung, IsReplaced, HoldsWay-replaced}
 use Rattle.ord_tree.proofs.{Spots.Spot, Spots.spot_in, Spots.plug_balanced, Spots.Around, Spots.around, NewLeaf.rootless}
 use Rattle.ord_tree.proofs.{Rotations.above-in, Rotations.occupied-link, Rotations.cases_link, Demoting.IsBranchOf, Demoting.BuiltOrFallen}
 use Rattle.ord_tree.proofs.Doubles.{Among-root, length-root}
+use Rattle.ord_tree.specs.{Potential.put_by, Potential.potential}
+use Rattle.ord_tree.specs.Account.{potential_way, rank_in, rank_way, Names, due, ranks_but, fallen_from, IsPaid, IsPassedUp}
+use Rattle.ord_tree.proofs.Saving.{put_by-full, potential-fork, potential-plug}
+use Rattle.ord_tree.proofs.Naming.{rank_here-other, rank_in-fork, rank_in-plug}
 
 -- lists without an index
 pub without-split : (i : ℕ) (front back : List ℕ) → times i front ≡ 0 → without i (front ++ i ∷ back) ≡ front ++ back
@@ -39,13 +43,13 @@ module _ {old : Slots} {root : Option ℕ} {v : ℕ} {side : Side} {order : List
   pub v_occupied : is_some (old v) ≡ true
   v_occupied = ap is_some spot.at_y
 
-  near_missing : spot.near ≡ missing
+  pub near_missing : spot.near ≡ missing
   near_missing = rootless spot.near (sym (link-root old (Some v) (child_at side spot.links) spot.near spot.holds.near_held) ∙ loose.bare spot.links spot.at_y)
 
-  whole : plug spot.way (fork side missing v spot.rank spot.far) ≡ loose.built.shape
+  pub whole : plug spot.way (fork side missing v spot.rank spot.far) ≡ loose.built.shape
   whole = ap (λ s. plug spot.way (fork side s v spot.rank spot.far)) (sym near_missing) ∙ spot.is
 
-  total : (j : ℕ) → times j order ≡ times_way j spot.way + here j v + times_in j spot.far
+  pub total : (j : ℕ) → times j order ≡ times_way j spot.way + here j v + times_in j spot.far
   total j = ap (times j) (sym loose.built.listed) ∙ times-walk j loose.built.shape ∙ ap (times_in j) (sym whole)
       ∙ times_in-plug j spot.way (fork side missing v spot.rank spot.far) ∙ omega (arith, times_in-fork j side missing spot.far v spot.rank)
 
@@ -68,19 +72,25 @@ module _ {old : Slots} {root : Option ℕ} {v : ℕ} {side : Side} {order : List
           ∙ sym (without-split v (a.before ++ walk spot.far) a.behind (omega (arith, times-append v a.before (walk spot.far), times-walk v spot.far, in_way v, total v, here-same v, loose.once v)))
           ∙ ap (without v) (sym before)
 
-  parts : IsBalancedWay 1 spot.way (rank_of spot.far + 1) × IsBalanced 1 spot.far
+  pub rank_cut : spot.rank ≡ rank_of spot.far + 1
+  rank_cut =
+      let P : Shape → Type 0 = λ s. IsBalanced 1 s in
+      let below = plug_balanced 1 spot.way (fork side missing v spot.rank spot.far) (subst P (sym whole) loose.built.balanced) in
+      bare_rank spot.rank (rank_of spot.far) (fork_balanced 1 side missing spot.far v spot.rank below.1).0
+
+  pub parts : IsBalancedWay 1 spot.way (rank_of spot.far + 1) × IsBalanced 1 spot.far
   parts =
       let P : Shape → Type 0 = λ s. IsBalanced 1 s in
       let below = plug_balanced 1 spot.way (fork side missing v spot.rank spot.far) (subst P (sym whole) loose.built.balanced) in
       let fork = fork_balanced 1 side missing spot.far v spot.rank below.1 in
       let Q : ℕ → Type 0 = λ rank. IsBalancedWay 1 spot.way rank in
-      (subst Q (rank-fork side missing spot.far v spot.rank ∙ bare_rank spot.rank (rank_of spot.far) fork.0) below.0, fork.2)
+      (subst Q (rank-fork side missing spot.far v spot.rank ∙ rank_cut) below.0, fork.2)
 
   module _ (nv : TreeLinks ℕ) (e : old v ≡ Some nv) where
     nv_is : spot.links ≡ nv
     nv_is = let f = spot.at_y in cc
 
-    back_is : nv.back ≡ above spot.way
+    pub back_is : nv.back ≡ above spot.way
     back_is = ap (λ (n : TreeLinks ℕ). n.back) (sym nv_is) ∙ spot.holds.back
 
     pub rest_root : child_at (other_side side) nv ≡ root_of spot.far
@@ -108,14 +118,14 @@ module _ {old : Slots} {root : Option ℕ} {v : ℕ} {side : Side} {order : List
       far_replaced : (j : ℕ) → 0 < times_in j spot.far → replaced j ≡ old j
       far_replaced j inside = parent.elsewhere j (λ b. omega (arith, inside, in_way j b, total j, loose.once j))
 
-      far_held : Holds new (above spot.way) (child_at (other_side side) nv) spot.far
+      pub far_held : Holds new (above spot.way) (child_at (other_side side) nv) spot.far
       far_held =
           Holds-rehung replaced new (Some v) (above spot.way) (child_at (other_side side) nv)
           (λ j n link d. hung j n link d ∙ ap (λ (b : Option ℕ). Some (record n { back = b })) back_is) spot.far
           (λ j other inside. but_hung j other) (λ j. omega (arith, total j, loose.once j))
           (Holds-frame old replaced spot.far (Some v) (child_at (other_side side) nv) far_replaced rest_held)
 
-      way_held : HoldsWay new root' spot.way (child_at (other_side side) nv)
+      pub way_held : HoldsWay new root' spot.way (child_at (other_side side) nv)
       way_held =
           let P : Option ℕ → Type 0 = λ b. IsReplaced old replaced b root root' v (child_at (other_side side) nv) in
           HoldsWay-frame replaced new spot.way root' (child_at (other_side side) nv) (λ j inside. but_hung j (λ link. omega (arith, inside, in_far j link, total j, loose.once j)))
@@ -129,37 +139,128 @@ module _ {old : Slots} {root : Option ℕ} {v : ℕ} {side : Side} {order : List
             (λ other. inr (parent.backs j ∙ ap (λ (o : Option (TreeLinks ℕ)). option_map (λ (n : TreeLinks ℕ). n.back) o) (sym (but_hung j other)))) (cases_link (child_at (other_side side) nv) j),
       )
 
+      module _ (z : ℕ) (hangs : above spot.way ≡ Some z) where
+        abbrev pub last : LastStep spot.way z
+        last = last_step spot.way z hangs
+
+        pub last_was : HoldsWay old root (up last.side z last.rank last.far last.rest) (Some v)
+        last_was = rw last.is at spot.held_way
+
+        pub last_held : HoldsWay new root' (up last.side z last.rank last.far last.rest) (child_at (other_side side) nv)
+        last_held = rw last.is at way_held
+
+        pub rest_new : Holds new (Some z) (child_at (other_side side) nv) spot.far
+        rest_new = rw last.is at far_held
+
+        pub last_balanced : IsBalancedWay 1 (up last.side z last.rank last.far last.rest) (rank_of spot.far + 1)
+        last_balanced = rw last.is at parts.0
+
+        pub last_listed : walk (plug (up last.side z last.rank last.far last.rest) spot.far) ≡ without v order
+        last_listed = rw last.is at listed_without
+
+        pub last_not_far : child_at (other_side last.side) last_was.0 ≢ Some v
+        last_not_far f =
+            let inside = root-in last.far v (sym (link-root old (Some z) (child_at (other_side last.side) last_was.0) last.far last_was.5) ∙ f) in
+            omega (arith, ap (times_way v) last.is, total v, here-same v, loose.once v)
+
+        pub fork_held : Holds new (above last.rest) (Some z) (fork last.side spot.far z last.rank last.far)
+        fork_held =
+            let w = last_held in
+            let P : Option ℕ → Type 0 = λ link. Holds new (Some z) link spot.far in
+            Holds-fork new (above last.rest) (Some z) last.side spot.far last.far z last.rank (w.0, refl, w.1, w.2, w.3, subst P (sym w.4) rest_new, w.5)
+
+        -- the side of its parent has fallen
+        abbrev pub fallen_cut : IsFallen new root' z last.side (without v order)
+        fallen_cut = record {
+          way = last.rest;
+          low = spot.far;
+          far = last.far;
+          rank = last.rank;
+          held_way = last_held.6;
+          held = fork_held;
+          listed = last_listed;
+          over = last_balanced.0;
+          balanced_low = parts.1;
+          balanced_far = last_balanced.1;
+          balanced_way = last_balanced.2;
+          once = λ j. omega (arith, times-without v j order, loose.once j);
+          few = omega (arith, length-without v order, loose.few);
+        }
+
+      pub branch_above : {I : Type 0} (number : I → ℕ) (branch : Option (Branch I)) → IsBranchOf number old v branch → above spot.way ≡ option_map (λ (b : Branch I). number b.parent) branch
+      branch_above number branch by = sym (by.parent nv e ∙ back_is)
+
       pub cut_branch : {I : Type 0} (number : I → ℕ) (branch : Option (Branch I)) → IsBranchOf number old v branch → BuiltOrFallen number new root' (without v order) branch
       cut_branch number None by = record {
         shape = plug spot.way spot.far;
         held = Holds-plug new root' spot.way spot.far (child_at (other_side side) nv) way_held far_held;
         listed = listed_without;
-        balanced = rw (no_step spot.way (sym (by.parent nv e ∙ back_is))) parts.1;
+        balanced = rw (no_step spot.way (branch_above number None by)) parts.1;
       }
       cut_branch number (Some b) by =
           let z = number b.parent in
-          let last = last_step spot.way z (sym (by.parent nv e ∙ back_is)) in
-          let was = rw last.is at spot.held_way in
-          let w = rw last.is at way_held in
-          let h = rw last.is at far_held in
-          let balanced = rw last.is at parts.0 in
-          let not_far : child_at (other_side last.side) was.0 ≢ Some v
-          = λ f. let inside = root-in last.far v (sym (link-root old (Some z) (child_at (other_side last.side) was.0) last.far was.5) ∙ f) in
-          omega (arith, ap (times_way v) last.is, total v, here-same v, loose.once v) in
-          let P : Option ℕ → Type 0 = λ link. Holds new (Some z) link spot.far in
+          let e' : above spot.way ≡ Some z = branch_above number (Some b) by in
+          let was = last_was z e' in
           let Q : Side → Type 0 = λ side. IsFallen new root' z side (without v order) in
-          subst Q (sym (by.side was.0 last.side was.1 was.4 not_far)) (record {
-            way = last.rest;
-            low = spot.far;
-            far = last.far;
-            rank = last.rank;
-            held_way = w.6;
-            held = Holds-fork new (above last.rest) (Some z) last.side spot.far last.far z last.rank (w.0, refl, w.1, w.2, w.3, subst P (sym w.4) h, w.5);
-            listed = rw last.is at listed_without;
-            over = balanced.0;
-            balanced_low = parts.1;
-            balanced_far = balanced.1;
-            balanced_way = balanced.2;
-            once = λ j. omega (arith, times-without v j order, loose.once j);
-            few = omega (arith, length-without v order, loose.few);
-          })
+          subst Q (sym (by.side was.0 (last z e').side was.1 was.4 (last_not_far z e'))) (fallen_cut z e')
+
+      -- the account: the node is out of it, what is due for an empty side is paid by a leaf
+      leaf_pays : (m : ℕ) → due m ≤ put_by (m + 1) 0 m + 1
+      leaf_pays zero = omega (arith, put_by-full 1 0 0)
+      leaf_pays (suc m) = omega arith
+
+      put_before : potential loose.built.shape ≡ potential_way spot.way (rank_of spot.far + 1) + put_by (rank_of spot.far + 1) 0 (rank_of spot.far) + potential spot.far
+      put_before =
+          omega (
+            arith,
+            ap potential whole,
+            potential-plug spot.way (fork side missing v spot.rank spot.far),
+            potential-fork side missing spot.far v spot.rank,
+            ap (potential_way spot.way) (rank-fork side missing spot.far v spot.rank ∙ rank_cut),
+            ap (λ k. put_by k 0 (rank_of spot.far)) rank_cut,
+          )
+
+      ranks_before : (j : ℕ) → j ≢ v → ranks_but v loose.built.shape j ≡ rank_way spot.way j + rank_in spot.far j
+      ranks_before j other =
+          rw (ne_eqb j v other) (omega (
+            arith,
+            ap (λ s. rank_in s j) whole,
+            rank_in-plug j spot.way (fork side missing v spot.rank spot.far),
+            rank_in-fork j side missing spot.far v spot.rank,
+            rank_here-other j v spot.rank other,
+          ))
+
+      names_cut : (is : ℕ → ℕ) → ((j : ℕ) → is j ≡ rank_way spot.way j + rank_in spot.far j) → Names [] (ranks_but v loose.built.shape) is
+      names_cut is same j =
+          ⊎_elim (λ (e' : j ≡ v). inr (inl (rw (e', eq-eqb v v refl) refl))) (λ other. inr (inr (ranks_before j other ∙ sym (same j)))) (cases_eq j v)
+
+      cut_at : (z : ℕ) (e' : above spot.way ≡ Some z) → IsPassedUp (ranks_but v loose.built.shape) new root' z (last z e').side (without v order) (potential loose.built.shape + 1)
+      cut_at z e' = record {
+        fallen = fallen_cut z e';
+        named = [];
+        within = omega (arith, put_before, leaf_pays (rank_of spot.far), ap (λ way. potential_way way (rank_of spot.far + 1)) (last z e').is);
+        names = names_cut (fallen_from (fallen_cut z e')) (λ j. omega (arith, ap (λ way. rank_way way j) (last z e').is));
+      }
+
+      pub cut_paid : {I : Type 0} (number : I → ℕ) (branch : Option (Branch I)) → IsBranchOf number old v branch
+          → MatchOption branch (IsPaid (ranks_but v loose.built.shape) new root' (without v order) (potential loose.built.shape + 1))
+          (λ b. IsPassedUp (ranks_but v loose.built.shape) new root' (number b.parent) b.side (without v order) (potential loose.built.shape + 1))
+      cut_paid number None by = record {
+        shape = plug spot.way spot.far;
+        held = Holds-plug new root' spot.way spot.far (child_at (other_side side) nv) way_held far_held;
+        listed = listed_without;
+        named = [];
+        within = omega (
+          arith,
+          put_before,
+          potential-plug spot.way spot.far,
+          ap (λ way. potential_way way (rank_of spot.far)) (no_step spot.way (branch_above number None by)),
+        );
+        names = names_cut (rank_in (plug spot.way spot.far)) (λ j. rank_in-plug j spot.way spot.far);
+      }
+      cut_paid number (Some b) by =
+          let z = number b.parent in
+          let e' : above spot.way ≡ Some z = branch_above number (Some b) by in
+          let was = last_was z e' in
+          let Q : Side → Type 0 = λ side. IsPassedUp (ranks_but v loose.built.shape) new root' z side (without v order) (potential loose.built.shape + 1) in
+          subst Q (sym (by.side was.0 (last z e').side was.1 was.4 (last_not_far z e'))) (cut_at z e')

@@ -1,13 +1,13 @@
 -- One step of the repair after a removal, and the way from a node that has demoted to its parent.
 use Rattle.std.proofs.Common.{◌≡◌, ◌≢◌, ℕ, ◌+◌, ◌^◌, ◌<◌, ◌≤◌, Option, Some, None, List, [], length, arith, refl, inr, sym, ◌∙◌, ap, subst, is_some, true, option_map, MatchOption}
 use Rattle.std.specs.Option.{IfSome}
-use Rattle.ord_tree.specs.Slots.{Slots, Holds, up, plug, above, here, times_in, times_way, IsApart, rank_at}
+use Rattle.ord_tree.specs.Slots.{Slots, Holds, up, plug, above, HoldsWay, here, times_in, times_way, IsApart, rank_at}
 use Rattle.ord_tree.specs.Shape.{Shape, missing, node, fork, rank_of, root_of, size_of, walk}
-use Rattle.ord_tree.specs.{Demote.IsFallen, Demote.IsDemoted, Demote.IsLeaning, Demote.HasDemoted, TreeLinks.other_side, TreeLinks.child_at}
+use Rattle.ord_tree.specs.{Demote.IsFallen, Demote.IsDemoted, Demote.IsDemotedNode, Demote.IsLeaning, Demote.HasDemoted, TreeLinks.other_side, TreeLinks.child_at}
 use Rattle.ord_tree.specs.{Balance.IsOver, Balance.IsBalanced, Balance.IsBalancedWay, declared.tree_links.TreeLinks.TreeLinks}
 use Rattle.ord_tree.specs.{Promote.IsBuilt, Promote.IsRepaired, declared.tree_links.Branch.Branch, declared.tree_links.Side.Side}
 use Rattle.ord_tree.proofs.Forks.{fork-other, rank-fork, size-fork, walk-ranked, walk-plug, link-root, Holds-fork, Holds-plug, fork_balanced, IsBalanced-fork, IsBalanced-plug, here-same, times_in-fork, IsApart-once, apart-from}
-use Rattle.ord_tree.proofs.Frames.{last_step, no_step, occupied-above, root-in, HoldsWay-frame, IsReranked, Holds-reranked, backs-ranked}
+use Rattle.ord_tree.proofs.Frames.{LastStep, last_step, no_step, occupied-above, root-in, HoldsWay-frame, IsReranked, Holds-reranked, backs-ranked}
 use Rattle.ord_tree.proofs.{Rotations.ForkAt, Rotations.ForkAt-holds, Rotations.occupied-link, Slack.IsRanked-balanced, Slack.rank-small}
 use Rattle.ord_tree.proofs.{Promoting.size-plug, Promoting.root_holds, Doubles.fork_of, Doubles.rank_at-held, Halves.size_of-walk}
 use Rattle.ord_tree.proofs.{NewLeaf.rootless, Leaning.some_of}
@@ -23,12 +23,12 @@ abbrev pub BuiltOrFallen : {I : Type 0} → (I → ℕ) → Slots → Option ℕ
 BuiltOrFallen number at root order branch = MatchOption branch (IsBuilt at root order 1) (λ b. IsFallen at root (number b.parent) b.side order)
 
 -- where a node is, a rank is
-rank-positive : (slack : ℕ) (s : Shape) (i : ℕ) → IsBalanced slack s → root_of s ≡ Some i → 0 < rank_of s
+pub rank-positive : (slack : ℕ) (s : Shape) (i : ℕ) → IsBalanced slack s → root_of s ≡ Some i → 0 < rank_of s
 rank-positive slack missing i h e = absurd cc
 rank-positive slack (node l j k r) i h e = omega (arith, h.0.lesser)
 
 module _ {at : Slots} {root : Option ℕ} {y : ℕ} {side : Side} {order : List ℕ} (fallen : IsFallen at root y side order) where
-  abbrev whole : Shape
+  abbrev pub whole : Shape
   whole = fork side fallen.low y fallen.rank fallen.far
 
   pub y_occupied : is_some (at y) ≡ true
@@ -52,10 +52,10 @@ module _ {at : Slots} {root : Option ℕ} {y : ℕ} {side : Side} {order : List 
         let P : Option ℕ → Type 0 = λ child. Holds at (Some y) child fallen.far in
         (root_holds at (Some y) s fallen.far ns (subst P link y_holds.far_held) d).1
 
-  apart : IsApart fallen.way whole
+  pub apart : IsApart fallen.way whole
   apart = IsApart-once fallen.way whole order fallen.listed fallen.once
 
-  parts_apart : (j : ℕ) → times_way j fallen.way + times_in j fallen.low + here j y + times_in j fallen.far ≤ 1
+  pub parts_apart : (j : ℕ) → times_way j fallen.way + times_in j fallen.low + here j y + times_in j fallen.far ≤ 1
   parts_apart j = omega (arith, apart j, times_in-fork j side fallen.low fallen.far y fallen.rank)
 
   -- y is high enough
@@ -83,36 +83,42 @@ module _ {at : Slots} {root : Option ℕ} {y : ℕ} {side : Side} {order : List 
       omega (arith, fallen.over.lesser, rank-small fallen.low (IsRanked-balanced 1 fallen.low fallen.balanced_low) few)
 
   -- y gets the rank one lower
-  pub IsDemoted-written : {new : Slots} {rank : ℕ} → IsReranked at new y rank → rank + 1 ≡ fallen.rank → IsOver 1 rank (rank_of fallen.low) (rank_of fallen.far)
-      → IsDemoted at new root y order
-  IsDemoted-written {new} {rank} by lower over =
-      let P : ℕ → Type 0 = λ k. IsBalancedWay 1 fallen.way k in
-      let rank_is = rank-fork side fallen.low fallen.far y rank in
-      let some = some_of (at y) y_occupied in
-      let rank_was = rank_at-held at (above fallen.way) (Some y) whole fallen.held ∙ rank-fork side fallen.low fallen.far y fallen.rank in
-      record {
-        demoted = record {
+  module _ {new : Slots} {rank : ℕ} (by : IsReranked at new y rank) (lower : rank + 1 ≡ fallen.rank) (over : IsOver 1 rank (rank_of fallen.low) (rank_of fallen.far)) where
+    pub rank_lower : rank_of (fork side fallen.low y rank fallen.far) ≡ rank
+    rank_lower = rank-fork side fallen.low fallen.far y rank
+
+    abbrev pub demoted_written : IsDemotedNode new root y order
+    demoted_written =
+        let P : ℕ → Type 0 = λ k. IsBalancedWay 1 fallen.way k in
+        record {
           way = fallen.way;
           shape = fork side fallen.low y rank fallen.far;
           held_way = HoldsWay-frame at new fallen.way root (Some y) (λ j in_way. by.elsewhere j (apart-from y j (λ j. times_way j fallen.way) (omega (arith, parts_apart y, here-same y)) in_way)) fallen.held_way;
           held = Holds-reranked by (above fallen.way) (Some y) side fallen.low fallen.far fallen.rank (omega (arith, parts_apart y, here-same y)) fallen.held;
           listed = walk-plug fallen.way (fork side fallen.low y rank fallen.far) whole (walk-ranked side fallen.low fallen.far y rank fallen.rank) ∙ fallen.listed;
           balanced = IsBalanced-fork 1 side fallen.low fallen.far y rank over fallen.balanced_low fallen.balanced_far;
-          balanced_way = subst P (omega (arith, rank_is, lower)) fallen.balanced_way;
+          balanced_way = subst P (omega (arith, rank_lower, lower)) fallen.balanced_way;
           once = fallen.once;
           few = fallen.few;
-        };
-        rank = omega (arith, rank_is, rank_was, lower);
-        fits = omega (arith, rank_was, rank-bound);
-        backs = backs-ranked by some.0 some.1;
-      }
+        }
+
+    pub IsDemoted-written : IsDemoted at new root y order
+    IsDemoted-written =
+        let some = some_of (at y) y_occupied in
+        let rank_was = rank_at-held at (above fallen.way) (Some y) whole fallen.held ∙ rank-fork side fallen.low fallen.far y fallen.rank in
+        record {
+          demoted = demoted_written;
+          rank = omega (arith, rank_lower, rank_was, lower);
+          fits = omega (arith, rank_was, rank-bound);
+          backs = backs-ranked by some.0 some.1;
+        }
 
   -- where nothing hangs on the other side
   pub IsOver-bare : root_of fallen.far ≡ None → (fallen.rank ≡ 2) × IsOver 1 1 (rank_of fallen.low) (rank_of fallen.far)
   IsOver-bare bare = let none : rank_of fallen.far ≡ 0 = ap rank_of (rootless fallen.far bare) in (omega (arith, fallen.over), omega (arith, fallen.over))
 
   -- where the sibling is one below
-  pub IsLeaning-fallen : (s : ℕ) → root_of fallen.far ≡ Some s → rank_of fallen.low + 3 ≡ fallen.rank → rank_of fallen.far + 1 ≡ fallen.rank → IsLeaning at root (other_side side) y s order
+  unfoldable pub IsLeaning-fallen : (s : ℕ) → root_of fallen.far ≡ Some s → rank_of fallen.low + 3 ≡ fallen.rank → rank_of fallen.far + 1 ≡ fallen.rank → IsLeaning at root (other_side side) y s order
   IsLeaning-fallen s far low sibling =
       let forked = fork_of (other_side side) fallen.far s far in
       let turned : whole ≡ fork (other_side side) (fork (other_side side) forked.near s forked.rank forked.far) y fallen.rank fallen.low
@@ -148,21 +154,72 @@ module _ {at : Slots} {root : Option ℕ} {y : ℕ} {side : Side} {order : List 
       }
 
 -- a node that has demoted, and its parent
-module _ {old new : Slots} {root : Option ℕ} {y : ℕ} {order : List ℕ} (demoted : IsDemoted old new root y order) where
-  pub demoted_occupied : is_some (new y) ≡ true
-  demoted_occupied = occupied-link new (above demoted.demoted.way) (Some y) demoted.demoted.shape y demoted.demoted.held refl
+module _ {new : Slots} {root : Option ℕ} {y : ℕ} {order : List ℕ} (now : IsDemotedNode new root y order) where
+  pub node_occupied : is_some (new y) ≡ true
+  node_occupied = occupied-link new (above now.way) (Some y) now.shape y now.held refl
 
-  demoted_back : (n : TreeLinks ℕ) → new y ≡ Some n → above demoted.demoted.way ≡ n.back
-  demoted_back n e = sym (root_holds new (above demoted.demoted.way) y demoted.demoted.shape n demoted.demoted.held e).0
-
-  pub parent_occupied : (n : TreeLinks ℕ) (p : ℕ) → new y ≡ Some n → n.back ≡ Some p → is_some (new p) ≡ true
-  parent_occupied n p e back = occupied-above new root (Some y) demoted.demoted.way demoted.demoted.held_way p (demoted_back n e ∙ back)
+  pub node_back : (n : TreeLinks ℕ) → new y ≡ Some n → above now.way ≡ n.back
+  node_back n e = sym (root_holds new (above now.way) y now.shape n now.held e).0
 
   -- what the branch on which it hangs says
-  module _ {I : Type 0} (number : I → ℕ) where
-    demoted_above : (branch : Option (Branch I)) → IsBranchOf number new y branch → above demoted.demoted.way ≡ option_map (λ (p : Branch I). number p.parent) branch
-    demoted_above branch by = let n = some_of (new y) demoted_occupied in demoted_back n.0 n.1 ∙ sym (by.parent n.0 n.1)
+  pub node_above : {I : Type 0} (number : I → ℕ) (branch : Option (Branch I)) → IsBranchOf number new y branch → above now.way ≡ option_map (λ (p : Branch I). number p.parent) branch
+  node_above number branch by = let n = some_of (new y) node_occupied in node_back n.0 n.1 ∙ sym (by.parent n.0 n.1)
 
+  module _ (z : ℕ) (e : above now.way ≡ Some z) where
+    abbrev pub last : LastStep now.way z
+    last = last_step now.way z e
+
+    pub last_held : HoldsWay new root (up last.side z last.rank last.far last.rest) (Some y)
+    last_held = rw last.is at now.held_way
+
+    pub shape_held : Holds new (Some z) (Some y) now.shape
+    shape_held = rw last.is at now.held
+
+    pub last_listed : walk (plug (up last.side z last.rank last.far last.rest) now.shape) ≡ order
+    last_listed = rw last.is at now.listed
+
+    pub last_balanced : IsBalancedWay 1 (up last.side z last.rank last.far last.rest) (rank_of now.shape + 1)
+    last_balanced = rw last.is at now.balanced_way
+
+    pub last_not_far : child_at (other_side last.side) last_held.0 ≢ Some y
+    last_not_far f =
+        let apart = IsApart-once (up last.side z last.rank last.far last.rest) now.shape order last_listed now.once y in
+        let in_shape = root-in now.shape y (sym (link-root new (Some z) (Some y) now.shape shape_held)) in
+        let in_far = root-in last.far y (sym (link-root new (Some z) (child_at (other_side last.side) last_held.0) last.far last_held.5) ∙ f) in
+        omega arith
+
+    pub fork_held : Holds new (above last.rest) (Some z) (fork last.side now.shape z last.rank last.far)
+    fork_held =
+        let h = last_held in
+        let P : Option ℕ → Type 0 = λ link. Holds new (Some z) link now.shape in
+        Holds-fork new (above last.rest) (Some z) last.side now.shape last.far z last.rank (h.0, refl, h.1, h.2, h.3, subst P (sym h.4) shape_held, h.5)
+
+    -- the side of its parent has fallen
+    abbrev pub fallen_above : IsFallen new root z last.side order
+    fallen_above = record {
+      way = last.rest;
+      low = now.shape;
+      far = last.far;
+      rank = last.rank;
+      held_way = last_held.6;
+      held = fork_held;
+      listed = last_listed;
+      over = last_balanced.0;
+      balanced_low = now.balanced;
+      balanced_far = last_balanced.1;
+      balanced_way = last_balanced.2;
+      once = now.once;
+      few = now.few;
+    }
+
+module _ {old new : Slots} {root : Option ℕ} {y : ℕ} {order : List ℕ} (demoted : IsDemoted old new root y order) where
+  pub demoted_occupied : is_some (new y) ≡ true
+  demoted_occupied = node_occupied demoted.demoted
+
+  pub parent_occupied : (n : TreeLinks ℕ) (p : ℕ) → new y ≡ Some n → n.back ≡ Some p → is_some (new p) ≡ true
+  parent_occupied n p e back = occupied-above new root (Some y) demoted.demoted.way demoted.demoted.held_way p (node_back demoted.demoted n e ∙ back)
+
+  module _ {I : Type 0} (number : I → ℕ) where
     pub demoted_branch : (on : Option (Branch I)) → IsBranchOf number new y on
         → MatchOption on (IsRepaired old new root order 1) (λ b. HasDemoted old new root y (number b.parent) b.side order)
     demoted_branch None by = let now = demoted.demoted in record {
@@ -170,41 +227,19 @@ module _ {old new : Slots} {root : Option ℕ} {y : ℕ} {order : List ℕ} (dem
         shape = plug now.way now.shape;
         held = Holds-plug new root now.way now.shape (Some y) now.held_way now.held;
         listed = now.listed;
-        balanced = rw (no_step now.way (demoted_above None by)) now.balanced;
+        balanced = rw (no_step now.way (node_above now number None by)) now.balanced;
       };
       backs = ([], omega arith, λ j. inr (demoted.backs j));
     }
     demoted_branch (Some b) by =
         let now = demoted.demoted in
         let z = number b.parent in
-        let last = last_step now.way z (demoted_above (Some b) by) in
-        let h = rw last.is at now.held_way in
-        let held = rw last.is at now.held in
-        let listed = rw last.is at now.listed in
-        let balanced = rw last.is at now.balanced_way in
-        let apart = IsApart-once (up last.side z last.rank last.far last.rest) now.shape order listed now.once y in
-        let in_shape = root-in now.shape y (sym (link-root new (Some z) (Some y) now.shape held)) in
-        let not_far : child_at (other_side last.side) h.0 ≢ Some y
-        = λ f. let in_far = root-in last.far y (sym (link-root new (Some z) (child_at (other_side last.side) h.0) last.far h.5) ∙ f) in omega arith in
-        let P : Option ℕ → Type 0 = λ link. Holds new (Some z) link now.shape in
+        let e : above now.way ≡ Some z = node_above now number (Some b) by in
+        let h = last_held now z e in
         let Q : Side → Type 0 = λ side. HasDemoted old new root y z side order in
-        subst Q (sym (by.side h.0 last.side h.1 h.4 not_far)) (record {
-          fallen = record {
-            way = last.rest;
-            low = now.shape;
-            far = last.far;
-            rank = last.rank;
-            held_way = h.6;
-            held = Holds-fork new (above last.rest) (Some z) last.side now.shape last.far z last.rank (h.0, refl, h.1, h.2, h.3, subst P (sym h.4) held, h.5);
-            listed = listed;
-            over = balanced.0;
-            balanced_low = now.balanced;
-            balanced_far = balanced.1;
-            balanced_way = balanced.2;
-            once = now.once;
-            few = now.few;
-          };
-          higher = rw h.1 (omega (arith, h.3, demoted.rank, balanced.0.lesser));
+        subst Q (sym (by.side h.0 (last now z e).side h.1 h.4 (last_not_far now z e))) (record {
+          fallen = fallen_above now z e;
+          higher = rw h.1 (omega (arith, h.3, demoted.rank, (last_balanced now z e).0.lesser));
           fits = demoted.fits;
           backs = demoted.backs;
         })

@@ -1,11 +1,12 @@
 -- A node is taken out: the entry before it stands in its place, and the branch that has fallen goes along.
-use Rattle.std.proofs.Common.{◌≡◌, ℕ, ◌+◌, Option, None, List, [], ◌∷◌, ◌++◌, map, arith, refl, sym, ◌∙◌, ap, subst, inl, inr, ⊎_elim, length-append}
-use Rattle.std.proofs.{lemmas.Grind.common_steps, lemmas.List.map-append}
+use Rattle.std.proofs.Common.{◌≡◌, ◌≢◌, ℕ, ◌+◌, Option, None, List, [], ◌∷◌, ◌++◌, map, arith, refl, sym, ◌∙◌, ap, subst, inl, inr, ⊎_elim, length-append}
+use Rattle.std.proofs.{lemmas.Grind.common_steps, lemmas.List.map-append, lemmas.Bool.cases_eq, lemmas.Bool.eq-eqb, lemmas.Bool.ne_eqb}
 use Rattle.ord_tree.specs.Slots.{Slots, Holds, Way, top, up, plug, above, HoldsWay, times, Among, MovesBacks}
 use Rattle.ord_tree.specs.{declared.tree_links.Side.TheVariants.Lesser, declared.tree_links.Side.TheVariants.Greater, TreeLinks.child_at}
 use Rattle.ord_tree.specs.{Shape.Shape, Shape.missing, Shape.node, Shape.fork, Shape.rank_of, Shape.walk, Detach.stand_in, Detach.renamed}
 use Rattle.ord_tree.specs.{Balance.IsBalanced, Balance.IsBalancedWay, declared.tree_links.Side.Side}
-use Rattle.ord_tree.proofs.{Forks.HoldsFork-holds, Doubles.Among-behind}
+use Rattle.ord_tree.specs.{Potential.potential, Account.potential_way, Account.rank_here, Account.rank_in, Account.rank_way, Account.Names, Account.ranks_but}
+use Rattle.ord_tree.proofs.{Forks.HoldsFork-holds, Doubles.Among-behind, Standing.stand_in-same, Standing.stand_in-other, Naming.rank_here-other}
 
 -- the way with v in the place of z
 abbrev pub renamed_way : ℕ → ℕ → Way → Way
@@ -62,3 +63,35 @@ MovesBacks-then m n first mid last a b = (
     Among-front : (xs ys : List ℕ) (j : ℕ) → Among j xs → Among j (xs ++ ys)
     Among-front [] ys j h = elim h [ ]
     Among-front (x ∷ xs) ys j h = ⊎_elim (λ e. inl e) (λ rest. inr (Among-front xs ys j rest)) h
+
+-- v in the place of z: what is put by stays, and so do the ranks of all others
+pub potential-renamed : (z v : ℕ) (s : Shape) → potential (renamed z v s) ≡ potential s
+potential-renamed z v missing = refl
+potential-renamed z v (node l i k r) = rw (rank-renamed z v l, rank-renamed z v r, potential-renamed z v l, potential-renamed z v r) refl
+
+pub potential_way-renamed : (z v : ℕ) (way : Way) (rank : ℕ) → potential_way (renamed_way z v way) rank ≡ potential_way way rank
+potential_way-renamed z v top rank = refl
+potential_way-renamed z v (up side i k far rest) rank = rw (rank-renamed z v far, potential-renamed z v far, potential_way-renamed z v rest k) refl
+
+module _ (z v j : ℕ) (not_z : j ≢ z) (not_v : j ≢ v) where
+  pub rank_here-renamed : (i k : ℕ) → rank_here j (stand_in z v i) k ≡ rank_here j i k
+  rank_here-renamed i k =
+      ⊎_elim (λ (same : i ≡ z). rw (same, stand_in-same z v, rank_here-other j v k not_v, rank_here-other j z k not_z) refl) (λ (other : i ≢ z). ap (λ i. rank_here j i k) (stand_in-other z v i other)) (cases_eq i z)
+
+  pub rank_in-renamed : (s : Shape) → rank_in (renamed z v s) j ≡ rank_in s j
+  rank_in-renamed missing = refl
+  rank_in-renamed (node l i k r) = omega (arith, rank_in-renamed l, rank_here-renamed i k, rank_in-renamed r)
+
+  pub rank_way-renamed : (way : Way) → rank_way (renamed_way z v way) j ≡ rank_way way j
+  rank_way-renamed top = refl
+  rank_way-renamed (up side i k far rest) = omega (arith, rank_here-renamed i k, rank_in-renamed far, rank_way-renamed rest)
+
+-- v is named, z is gone
+pub names_stood : (z v : ℕ) (s : Shape) (named : List ℕ) (was is : ℕ → ℕ) → Names named (ranks_but v s) was → ((j : ℕ) → j ≢ z → j ≢ v → is j ≡ was j) → Names (v ∷ named) (ranks_but z s) is
+names_stood z v s named was is names same j =
+    ⊎_elim (λ (e : j ≡ v). inl (inl e)) (λ (not_v : j ≢ v). ⊎_elim (λ (e : j ≡ z). inr (inl (rw (e, eq-eqb z z refl) refl)))
+    (λ (not_z : j ≢ z).
+    let but_z : ranks_but z s j ≡ rank_in s j = rw (ne_eqb j z not_z) refl in
+    let but_v : ranks_but v s j ≡ rank_in s j = rw (ne_eqb j v not_v) refl in
+    ⊎_elim (λ in_named. inl (inr in_named)) (⊎_elim (λ (none : ranks_but v s j ≡ 0). inr (inl (but_z ∙ sym but_v ∙ none)))
+    (λ (e : ranks_but v s j ≡ was j). inr (inr (but_z ∙ sym but_v ∙ e ∙ sym (same j not_z not_v))))) (names j)) (cases_eq j z)) (cases_eq j v)

@@ -196,11 +196,11 @@ module _ {old : Slots} {old_root : Option ℕ} {side : Side} {z y : ℕ} (site :
       }
 
       module _ {new : Slots} {root : Option ℕ} (t : IsRotated site_above new root rank_low rank_high) where
-        abbrev upper : Shape
+        abbrev pub upper : Shape
         upper = fork side middle.near z rank_low site.far
 
         -- the walk stays
-        walk_double : walk (plug site.way (fork side lifted x rank_high upper)) ≡ walk (plug site.way site_shape)
+        pub walk_double : walk (plug site.way (fork side lifted x rank_high upper)) ≡ walk (plug site.way site_shape)
         walk_double =
             let inner_is : site.inner ≡ fork side middle.far x middle.rank middle.near = middle.is ∙ fork-other side middle.near middle.far x middle.rank in
             let first : walk (fork side lifted x rank_high middle.near) ≡ walk (fork side site.outer y site.low site.inner)

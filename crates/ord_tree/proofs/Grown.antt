@@ -9,7 +9,8 @@ use Rattle.ord_tree.specs.{Node.bare_entry, Node.bare, Node.links_in, Node.slots
 use Rattle.ord_tree.specs.{declared.node.SimpleOrdArenaNode.SimpleOrdArenaNode as Node, Shape.Shape, Shape.missing, Shape.node, Shape.walk}
 use Rattle.ord_tree.specs.{Slots.Holds, Slots.times, Slots.IsOnce, Slots.shape_under, Tree.put_on, Tree.put_at, Tree.CanPutAt, Tree.IsGrown}
 use Rattle.ord_tree.specs.{Leaf.beside, Leaf.leaf_links, Leaf.IsNewLeaf, Layout.shape_in, Layout.IsLaidOut, Promote.IsRepaired}
-use Rattle.ord_tree.specs.Ranks.{IsRanked}
+use Rattle.ord_tree.specs.{Ranks.IsRanked, Potential.potential, Potential.ReranksWithin, Account.IsPaid, Account.rank_in}
+use Rattle.ord_tree.proofs.{Naming.ReranksWithin-paid, Saving.put_by-full}
 use Rattle.arena_base.proofs.CallerLemmas.{limit_of-below}
 use Rattle.ord_tree.proofs.Trees.{links_at, times-bare, indexes-bare, vacant_among-bare, shape_in-held, is_some-bare}
 use Rattle.ord_tree.proofs.Slack.{IsRanked-balanced, IsBalanced-ranked, IsTight-balanced, IsBalanced-tight}
@@ -83,12 +84,12 @@ module _ {P T I G : Type 0} (number : I → ℕ) (c d : Chain (Node P T I G)) (r
   abbrev before : Shape
   before = shape_in c root
 
-  slots_other : (j : ℕ) → j ≢ x → slots_of d j ≡ slots_of c j
+  pub slots_other : (j : ℕ) → j ≢ x → slots_of d j ≡ slots_of c j
   slots_other j ne =
       ap (λ (es : List (Entry (Node P T I G))). links_at es j) entries
       ∙ ap (option_map (λ (e : ℕ × Node P T I G). links_in e.1)) (put-other at.1 c.entries (number at.0) occupied new_entry j ne)
 
-  slots_x : slots_of d x ≡ Some (links_in new_entry.item)
+  pub slots_x : slots_of d x ≡ Some (links_in new_entry.item)
   slots_x =
       ap (λ (es : List (Entry (Node P T I G))). links_at es x) entries
       ∙ ap (option_map (λ (e : ℕ × Node P T I G). links_in e.1)) (put-same at.1 c.entries (number at.0) occupied new_entry free)
@@ -97,7 +98,7 @@ module _ {P T I G : Type 0} (number : I → ℕ) (c d : Chain (Node P T I G)) (r
   order_is =
       ap (λ (es : List (Entry (Node P T I G))). indexes es) entries ∙ put-indexes at.1 c.entries (number at.0) new_entry
 
-  fresh : times x order ≡ 0
+  pub fresh : times x order ≡ 0
   fresh = times-indexes c.entries x ∙ free
 
   pub once : IsOnce order
@@ -106,7 +107,7 @@ module _ {P T I G : Type 0} (number : I → ℕ) (c d : Chain (Node P T I G)) (r
   pub distinct : IsDistinct c.entries
   distinct j = omega (arith, once j, times-indexes c.entries j)
 
-  few : length order + 1 < 2 ^ 64
+  pub few : length order + 1 < 2 ^ 64
   few =
       omega (
         arith,
@@ -119,14 +120,14 @@ module _ {P T I G : Type 0} (number : I → ℕ) (c d : Chain (Node P T I G)) (r
         fits,
       )
 
-  held_d : Holds (slots_of d) None root before
+  pub held_d : Holds (slots_of d) None root before
   held_d =
       Holds-frame (slots_of c) (slots_of d) before None root
       (λ j inside. slots_other j (apart-from x j (λ j. times j order) fresh (omega (arith, inside, times-walk j before, ap (times j) laid.listed)))) laid.held
 
   module _ (branch : Branch I) (bud : IsLeafBranch number (number at.0) (side_at at.1) (slots_of c) order branch)
       (leaf_is : links_in new_entry.item ≡ leaf_links (Some (number branch.parent))) where
-    pub new_leaf : (slack : ℕ) → IsBalanced slack before → IsNewLeaf (slots_of d) root branch.side (number branch.parent) x order slack
+    unfoldable pub new_leaf : (slack : ℕ) → IsBalanced slack before → IsNewLeaf (slots_of d) root branch.side (number branch.parent) x order slack
     new_leaf slack balanced = record {
       built = record { shape = before; held = held_d; listed = laid.listed; balanced = balanced };
       within = bud.within;
@@ -156,13 +157,21 @@ module _ {P T I G : Type 0} (number : I → ℕ) (c d : Chain (Node P T I G)) (r
         let b = IsBalanced-ranked before laid.ranked in
         record { held = held_new; listed = ap walk (shape_is 1 b) ∙ (repaired 1 b).built.listed ∙ listed_new; ranked = IsRanked-balanced 1 (shape_in new root') (balanced_new 1 b) }
 
-    pub IsGrown-planted : IsGrown before (shape_in new root')
-    IsGrown-planted =
+    reranked_new : IsPaid (rank_in before) (slots_of new) root' (beside branch.side (number branch.parent) x order) (potential before + 4) → ReranksWithin 4 before (shape_in new root')
+    reranked_new paid =
+        let P : Shape → Type 0 = λ s. ReranksWithin 4 before s in
+        subst P (sym (shape_in-held new root' paid.shape paid.held (paid.listed ∙ listed_new)))
+        (ReranksWithin-paid 4 before paid (λ j inside. refl) (λ j. omega (arith, once j, times-walk j before, ap (times j) laid.listed))
+        (λ j. omega (arith, times-walk j paid.shape, ap (times j) paid.listed, ap (times j) (bud.put x ∙ sym order_is), IsOnce-distinct d.entries sound.distinct j)) laid.ranked)
+
+    pub IsGrown-planted : IsPaid (rank_in before) (slots_of new) root' (beside branch.side (number branch.parent) x order) (potential before + 4) → IsGrown before (shape_in new root')
+    IsGrown-planted paid =
         let b = IsBalanced-ranked before laid.ranked in
         record {
           ranked = IsRanked-balanced 1 (shape_in new root') (balanced_new 1 b);
           tight = λ tight. IsTight-balanced (shape_in new root') (balanced_new 0 (IsBalanced-tight before laid.ranked tight));
           moved = MovesAtMost-backs 5 (slots_of d) (slots_of new) root root' before (shape_in new root') held_d held_new (repaired 1 b).backs;
+          reranked = reranked_new paid;
         }
 
 -- the tree of one entry
@@ -194,7 +203,7 @@ module _ {P T I G : Type 0} (c d : Chain (Node P T I G)) (root : Option ℕ) (x 
   IsGrown-alone =
       let A : Shape → Type 0 = λ s. IsGrown s (shape_in d (Some x)) in
       let B : Shape → Type 0 = λ s. IsGrown missing s in
-      subst A (sym shape_none) (subst B (sym shape_alone) (record { ranked = ranked_alone; tight = λ _. (inl refl, tt, tt); moved = ([], omega arith, λ i p q old new. elim old [ ]) }))
+      subst A (sym shape_none) (subst B (sym shape_alone) (record { ranked = ranked_alone; tight = λ _. (inl refl, tt, tt); moved = ([], omega arith, λ i p q old new. elim old [ ]); reranked = ([], omega (arith, put_by-full 1 0 0), λ i k l old new. elim old [ ]) }))
 
 -- what the steps of an insertion say to each other, where `branch` is the one under which the new entry x hangs
 module _ {P T I G : Type 0} (number : I → ℕ) (branch : Option (Branch I)) where
@@ -210,6 +219,11 @@ module _ {P T I G : Type 0} (number : I → ℕ) (branch : Option (Branch I)) wh
   abbrev pub HasGrown : Chain (Node P T I G) → Option ℕ → I → Chain (Node P T I G) → Option I → Type 0
   HasGrown d root x new root' = MatchOption branch ((new ≡ d) × (root' ≡ Some x)) (λ p. (order : List ℕ) (slack : ℕ) → IsNewLeaf (slots_of d) root p.side (number p.parent) (number x) order slack
       → IsRepaired (slots_of d) (slots_of new) (option_map number root') (beside p.side (number p.parent) (number x) order) slack)
+
+  -- and who has another rank is paid
+  abbrev pub HasPaid : Chain (Node P T I G) → Option ℕ → I → Chain (Node P T I G) → Option I → Type 0
+  HasPaid d root x new root' = MatchOption branch (Unit {0}) (λ p. (order : List ℕ) (slack : ℕ) (bud : IsNewLeaf (slots_of d) root p.side (number p.parent) (number x) order slack)
+      → IsPaid (rank_in bud.built.shape) (slots_of new) (option_map number root') (beside p.side (number p.parent) (number x) order) (potential bud.built.shape + 4))
 
   -- the new entry e was put into the list at this place, and its node has the links of a leaf under the branch
   pub record IsPut (c d : Chain (Node P T I G)) (at : Option (I × Ordering)) (e : Entry (Node P T I G)) : Type 0 where
@@ -238,22 +252,24 @@ module _ {P T I G : Type 0} (number : I → ℕ) (c d : Chain (Node P T I G)) (r
 
   module _ (new : Chain (Node P T I G)) (root' : Option I) (kept : bare new ≡ bare d) where
     has_grown : (at : Option (I × Ordering)) (on : Option (Branch I)) → IsPut number on c d at new_entry
-        → HasGrown number on d root x new root' → IsGrownTo (shape_in c root) new (option_map number root')
-    has_grown None None put same =
+        → HasGrown number on d root x new root' → HasPaid number on d root x new root' → IsGrownTo (shape_in c root) new (option_map number root')
+    unfolding new_leaf
+    has_grown None None put same paid =
         let alone = put.entries ∙ ap (λ (es : List (Entry (Node P T I G))). new_entry ∷ es) put.can in
         let R : Option ℕ → Type 0 = λ r. IsGrownTo (shape_in c root) new r in
         let N : Chain (Node P T I G) → Type 0 = λ n. IsGrownTo (shape_in c root) n (Some (number x)) in
         subst R (sym (ap (option_map number) same.1))
         (subst N (sym same.0) (IsLaidOut-alone c d root (number x) g leaf put.can alone put.links, IsGrown-alone c d root (number x) g leaf put.can alone put.links))
-    has_grown (Some at) None put same =
+    has_grown (Some at) None put same paid =
         absurd (elim (put.found root (shape_in c root) laid (distinct number c d root at new_entry laid put.can.0 free put.entries most greatest sound fits)) [ ])
-    has_grown None (Some branch) put repaired = absurd (let none = put.found root (shape_in c root) laid (λ i. let e = ap (entry_times i) put.can in omega arith) in cc)
-    has_grown (Some at) (Some branch) put repaired =
+    has_grown None (Some branch) put repaired paid = absurd (let none = put.found root (shape_in c root) laid (λ i. let e = ap (entry_times i) put.can in omega arith) in cc)
+    has_grown (Some at) (Some branch) put repaired paid =
         let here = put.found root (shape_in c root) laid (distinct number c d root at new_entry laid put.can.0 free put.entries most greatest sound fits) in
         let leaves = new_leaf number c d root at new_entry laid put.can.0 free put.entries most greatest sound fits branch here put.links in
         let again = λ (slack : ℕ) (balanced : IsBalanced slack (shape_in c root)). repaired (indexes c.entries) slack (leaves slack balanced) in (
           IsLaidOut-planted number c d root at new_entry laid put.can.0 free put.entries most greatest sound fits new (option_map number root') branch here kept again,
-          IsGrown-planted number c d root at new_entry laid put.can.0 free put.entries most greatest sound fits new (option_map number root') branch here kept again,
+          IsGrown-planted number c d root at new_entry laid put.can.0 free put.entries most greatest sound fits new (option_map number root') branch here kept again
+              (paid (indexes c.entries) 1 (leaves 1 (IsBalanced-ranked (shape_in c root) laid.ranked))),
         )
 
 -- small steps of an insertion's call
@@ -306,9 +322,9 @@ module _ {P T I G : Type 0} (number : I → ℕ) (c : Chain (Node P T I G)) (roo
   pub call_allowed : CanGrow number branch d root (number x)
   call_allowed = grow_allowed number c d root x era leaf laid x_free most greatest sound fits at branch put
 
-  module _ (new : Chain (Node P T I G)) (root' : Option I) (kept : bare new ≡ bare d) (grown : HasGrown number branch d root x new root') where
+  module _ (new : Chain (Node P T I G)) (root' : Option I) (kept : bare new ≡ bare d) (grown : HasGrown number branch d root x new root') (paid : HasPaid number branch d root x new root') where
     pub call_grown : IsGrownTo (shape_in c root) new (option_map number root')
-    call_grown = has_grown number c d root x era leaf laid x_free most greatest sound fits new root' kept at branch put grown
+    call_grown = has_grown number c d root x era leaf laid x_free most greatest sound fits new root' kept at branch put grown paid
 
     pub call_listed : IsInsertion (bare c) (bare new) (put_at number at (map bare_entry c.entries)) t index era
     call_listed =

@@ -3,7 +3,7 @@ use Rattle.std.proofs.Common.{◌≡◌, ◌≢◌, ℕ, ◌+◌, ◌-◌, ◌<�
 use Rattle.ord_tree.specs.Slots.{Slots, Holds, plug, above, here, times_in, times_way, rank_at}
 use Rattle.ord_tree.specs.{Shape.Shape, Shape.fork, Shape.rank_of, Shape.root_of, Shape.size_of, TreeLinks.other_side, TreeLinks.child_at}
 use Rattle.ord_tree.specs.{declared.tree_links.TreeLinks.TreeLinks, Balance.IsOver, Balance.IsBalancedWay, declared.tree_links.Side.Side}
-use Rattle.ord_tree.specs.{Demote.IsDemoted, Demote.IsLeaning, Promote.IsRepaired, Rotate.IsRotated}
+use Rattle.ord_tree.specs.{Demote.IsDemoted, Demote.IsDemotedNode, Demote.IsLeaning, Promote.IsRepaired, Rotate.IsRotated}
 use Rattle.ord_tree.proofs.Forks.{rank-fork, size-fork, walk-ranked, walk-fork_near, walk-plug, HoldsFork-holds, Holds-fork, IsBalanced-fork, here-same, times_in-fork, apart-from}
 use Rattle.ord_tree.proofs.Doubles.{root-some, rank_at-held, inner_root, IsRepaired-rotated, middle_rank_is, middle_over, site_below, site_above, IsRepaired-rotated_twice}
 use Rattle.ord_tree.proofs.Frames.{Holds-frame, HoldsWay-frame, IsReranked, Holds-reranked, backs-ranked}
@@ -51,16 +51,16 @@ module _ {old : Slots} {old_root : Option ℕ} {side : Side} {y s : ℕ} {order 
 
   -- both are demoted
   module _ {mid new : Slots} (by_s : IsReranked old mid s (lean.site.low - 1)) (by_y : IsReranked mid new y (lean.site.high - 1)) where
-    total : (j : ℕ) → times_way j lean.site.way + times_in j lean.site.outer + here j s + times_in j lean.site.inner + here j y + times_in j lean.site.far ≤ 1
+    pub total : (j : ℕ) → times_way j lean.site.way + times_in j lean.site.outer + here j s + times_in j lean.site.inner + here j y + times_in j lean.site.far ≤ 1
     total j = omega (arith, lean.site.apart j, times_in-fork j side (fork side lean.site.outer s lean.site.low lean.site.inner) lean.site.far y lean.site.high, times_in-fork j side lean.site.outer lean.site.inner s lean.site.low)
 
-    abbrev lowered : Shape
+    abbrev pub lowered : Shape
     lowered = fork side lean.site.outer s (lean.site.low - 1) lean.site.inner
 
-    s≢y : s ≢ y
+    pub s≢y : s ≢ y
     s≢y = apart-from y s (λ j. here j s) (omega (arith, total y, here-same y)) (omega (arith, here-same s))
 
-    held_lowered : Holds mid (above lean.site.way) (Some y) (fork side lowered y lean.site.high lean.site.far)
+    pub held_lowered : Holds mid (above lean.site.way) (Some y) (fork side lowered y lean.site.high lean.site.far)
     held_lowered =
         let f = HoldsFork-holds old (above lean.site.way) (Some y) side (fork side lean.site.outer s lean.site.low lean.site.inner) lean.site.far y lean.site.high lean.site.held in
         Holds-fork mid (above lean.site.way) (Some y) side lowered lean.site.far y lean.site.high (
@@ -73,39 +73,47 @@ module _ {old : Slots} {old_root : Option ℕ} {side : Side} {y s : ℕ} {order 
           Holds-frame old mid lean.site.far (Some y) (child_at (other_side side) f.0) (λ j in_far. by_s.elsewhere j (apart-from s j (λ j. times_in j lean.site.far) (omega (arith, total s, here-same s)) in_far)) f.6,
         )
 
-    held_both : Holds new (above lean.site.way) (Some y) (fork side lowered y (lean.site.high - 1) lean.site.far)
+    pub held_both : Holds new (above lean.site.way) (Some y) (fork side lowered y (lean.site.high - 1) lean.site.far)
     held_both =
         Holds-reranked by_y (above lean.site.way) (Some y) side lowered lean.site.far lean.site.high
         (omega (arith, total y, here-same y, times_in-fork y side lean.site.outer lean.site.inner s (lean.site.low - 1))) held_lowered
+
+    pub rank_both : rank_of (fork side lowered y (lean.site.high - 1) lean.site.far) ≡ lean.site.high - 1
+    rank_both = rank-fork side lowered lean.site.far y (lean.site.high - 1)
+
+    abbrev pub demoted_both : rank_of lean.site.outer + 2 ≡ lean.site.low → rank_of lean.site.inner + 2 ≡ lean.site.low → IsDemotedNode new old_root y order
+    demoted_both outer inner =
+        let site = lean.site in
+        let whole = fork side lowered y (site.high - 1) site.far in
+        let before = fork side (fork side site.outer s site.low site.inner) y site.high site.far in
+        let P : ℕ → Type 0 = λ rank. IsBalancedWay 1 site.way rank in
+        let Q : ℕ → Type 0 = λ rank. IsOver 1 (site.high - 1) rank (rank_of site.far) in
+        record {
+          way = site.way;
+          shape = whole;
+          held_way = HoldsWay-frame old new site.way old_root (Some y)
+              (λ j in_way. by_y.elsewhere j (apart-from y j (λ j. times_way j site.way) (omega (arith, total y, here-same y)) in_way)
+              ∙ by_s.elsewhere j (apart-from s j (λ j. times_way j site.way) (omega (arith, total s, here-same s)) in_way)) site.held_way;
+          held = held_both;
+          listed = walk-plug site.way whole before
+              (walk-ranked side lowered site.far y (site.high - 1) site.high
+              ∙ walk-fork_near side lowered (fork side site.outer s site.low site.inner) site.far y site.high (walk-ranked side site.outer site.inner s (site.low - 1) site.low)) ∙ lean.listed;
+          balanced = IsBalanced-fork 1 side lowered site.far y (site.high - 1) (subst Q (sym (rank-fork side site.outer site.inner s (site.low - 1))) (omega (arith, lean.low, lean.sibling, lean.over)))
+              (IsBalanced-fork 1 side site.outer site.inner s (site.low - 1) (omega (arith, lean.low, lean.sibling, lean.over)) lean.balanced_outer lean.balanced_inner) lean.balanced_low;
+          balanced_way = subst P (omega (arith, rank_both, lean.sibling)) lean.balanced_way;
+          once = lean.once;
+          few = lean.few;
+        }
 
     pub IsDemoted-both : rank_of lean.site.outer + 2 ≡ lean.site.low → rank_of lean.site.inner + 2 ≡ lean.site.low → is_some (old s) ≡ true
         → is_some (old y) ≡ true → IsDemoted old new old_root y order
     IsDemoted-both outer inner some_s some_y =
         let site = lean.site in
-        let whole = fork side lowered y (site.high - 1) site.far in
         let before = fork side (fork side site.outer s site.low site.inner) y site.high site.far in
-        let rank_is : rank_of whole ≡ site.high - 1 = rank-fork side lowered site.far y (site.high - 1) in
         let rank_was : rank_at old (Some y) ≡ site.high = rank_at-held old (above site.way) (Some y) before site.held ∙ rank-fork side (fork side site.outer s site.low site.inner) site.far y site.high in
-        let P : ℕ → Type 0 = λ rank. IsBalancedWay 1 site.way rank in
-        let Q : ℕ → Type 0 = λ rank. IsOver 1 (site.high - 1) rank (rank_of site.far) in
         record {
-          demoted = record {
-            way = site.way;
-            shape = whole;
-            held_way = HoldsWay-frame old new site.way old_root (Some y)
-                (λ j in_way. by_y.elsewhere j (apart-from y j (λ j. times_way j site.way) (omega (arith, total y, here-same y)) in_way)
-                ∙ by_s.elsewhere j (apart-from s j (λ j. times_way j site.way) (omega (arith, total s, here-same s)) in_way)) site.held_way;
-            held = held_both;
-            listed = walk-plug site.way whole before
-                (walk-ranked side lowered site.far y (site.high - 1) site.high
-                ∙ walk-fork_near side lowered (fork side site.outer s site.low site.inner) site.far y site.high (walk-ranked side site.outer site.inner s (site.low - 1) site.low)) ∙ lean.listed;
-            balanced = IsBalanced-fork 1 side lowered site.far y (site.high - 1) (subst Q (sym (rank-fork side site.outer site.inner s (site.low - 1))) (omega (arith, lean.low, lean.sibling, lean.over)))
-                (IsBalanced-fork 1 side site.outer site.inner s (site.low - 1) (omega (arith, lean.low, lean.sibling, lean.over)) lean.balanced_outer lean.balanced_inner) lean.balanced_low;
-            balanced_way = subst P (omega (arith, rank_is, lean.sibling)) lean.balanced_way;
-            once = lean.once;
-            few = lean.few;
-          };
-          rank = omega (arith, rank_is, rank_was, lean.sibling);
+          demoted = demoted_both outer inner;
+          rank = omega (arith, rank_both, rank_was, lean.sibling);
           fits = omega (arith, rank_was, lean.sibling, low-small);
           backs = λ j. backs-ranked by_s (some_of (old s) some_s).0 (some_of (old s) some_s).1 j
               ∙ backs-ranked by_y (some_of (old y) some_y).0 (by_s.elsewhere y (λ e. s≢y (sym e)) ∙ (some_of (old y) some_y).1) j;

@@ -6,6 +6,9 @@ pub mod Frames
 pub mod Rotations
 pub mod Doubles
 pub mod OnceOrTwice
+pub mod Saving
+pub mod Views
+pub mod Naming
 pub mod Promoting
 pub mod Removing
 pub mod Leaning
@@ -13,7 +16,8 @@ pub mod Demoting
 pub mod Reading
 pub mod Spots
 pub mod NewLeaf
-pub mod Views
+pub mod Paying
+pub mod Lowering
 pub mod Cutting
 pub mod Standing
 pub mod Neighbours
@@ -24,6 +28,7 @@ pub mod Named
 pub mod Puts
 pub mod Grown
 pub mod Shrunk
+pub mod Moving
 pub mod Renewed
 pub mod Displacing
 pub mod Rebuilding

@@ -15,28 +15,28 @@ rootless missing e = refl
 rootless (node l i k r) e = absurd cc
 
 module _ {at : Slots} {root : Option ℕ} {side : Side} {y x : ℕ} {order : List ℕ} {slack : ℕ} (bud : IsNewLeaf at root side y x order slack) where
-  spot : Spot at root side y bud.built.shape
+  pub spot : Spot at root side y bud.built.shape
   spot = spot_in at root side y bud.built.shape top root refl bud.built.held (omega (arith, bud.within, times-walk y bud.built.shape, ap (times y) bud.built.listed))
 
   pub y_occupied : is_some (at y) ≡ true
   y_occupied = ap is_some spot.at_y
 
-  near_missing : spot.near ≡ missing
+  pub near_missing : spot.near ≡ missing
   near_missing = rootless spot.near (sym (link-root at (Some y) (child_at side spot.links) spot.near spot.holds.near_held) ∙ bud.bare spot.links spot.at_y)
 
-  whole : plug spot.way (fork side missing y spot.rank spot.far) ≡ bud.built.shape
+  pub whole : plug spot.way (fork side missing y spot.rank spot.far) ≡ bud.built.shape
   whole = ap (λ s. plug spot.way (fork side s y spot.rank spot.far)) (sym near_missing) ∙ spot.is
 
   -- no index twice, and x nowhere
-  total : (j : ℕ) → times j order ≡ times_way j spot.way + here j y + times_in j spot.far
+  pub total : (j : ℕ) → times j order ≡ times_way j spot.way + here j y + times_in j spot.far
   total j = ap (times j) (sym bud.built.listed) ∙ times-walk j bud.built.shape ∙ ap (times_in j) (sym whole)
       ∙ times_in-plug j spot.way (fork side missing y spot.rank spot.far) ∙ omega (arith, times_in-fork j side missing spot.far y spot.rank)
 
-  x≢y : x ≢ y
+  pub x≢y : x ≢ y
   x≢y e = let same = ap (here x) e in omega (arith, bud.fresh, total x, here-same x)
 
   -- the list with x in it
-  listed : walk (plug spot.way (fork side (node missing x 1 missing) y spot.rank spot.far)) ≡ beside side y x order
+  pub listed : walk (plug spot.way (fork side (node missing x 1 missing) y spot.rank spot.far)) ≡ beside side y x order
   listed = go side (sym bud.built.listed ∙ ap walk (sym whole))
     where
       a : Around spot.way
@@ -60,7 +60,7 @@ module _ {at : Slots} {root : Option ℕ} {side : Side} {y x : ℕ} {order : Lis
           ∙ ap (beside Greater y x) (sym before)
 
   module _ (new : Slots) (written : (n : TreeLinks ℕ) → at y ≡ Some n → new y ≡ Some (with_child_at side (Some x) n)) (elsewhere : (j : ℕ) → j ≢ y → new j ≡ at j) where
-    pub IsRising-attached : IsRising new root x (beside side y x order) slack
+    abbrev pub IsRising-attached : IsRising new root x (beside side y x order) slack
     IsRising-attached =
         let parts = plug_balanced slack spot.way (fork side missing y spot.rank spot.far) (let P : Shape → Type 0 = λ s. IsBalanced slack s in subst P (sym whole) bud.built.balanced) in
         let fork = fork_balanced slack side missing spot.far y spot.rank parts.1 in

@@ -62,7 +62,7 @@ module _ {at : Slots} {root : Option ℕ} {y : ℕ} {order : List ℕ} {slack : 
   }
 
   -- elsewhere it hangs under its parent
-  pub rising_under : (z : ℕ) → above rising.way ≡ Some z → IsRisingUnder at root z y order slack
+  unfoldable pub rising_under : (z : ℕ) → above rising.way ≡ Some z → IsRisingUnder at root z y order slack
   rising_under z e =
       let last = last_step rising.way z e in
       let w = rw last.is at rising.held_way in
@@ -98,10 +98,10 @@ size-plug top s = omega arith
 size-plug (up side i k far rest) s = omega (arith, size-plug rest (fork side s i k far), size-fork side s far i k)
 
 module _ {at : Slots} {root : Option ℕ} {z y : ℕ} {order : List ℕ} {slack : ℕ} (u : IsRisingUnder at root z y order slack) where
-  apart : IsApart u.rest (fork u.side u.shape z u.high u.far)
+  pub apart : IsApart u.rest (fork u.side u.shape z u.high u.far)
   apart = IsApart-once u.rest (fork u.side u.shape z u.high u.far) order u.listed u.once
 
-  root_is : root_of u.shape ≡ Some y
+  pub root_is : root_of u.shape ≡ Some y
   root_is = sym (link-root at (Some z) (Some y) u.shape u.held)
 
   pub z_occupied : is_some (at z) ≡ true
@@ -137,7 +137,7 @@ module _ {at : Slots} {root : Option ℕ} {z y : ℕ} {order : List ℕ} {slack 
     pub sibling_occupied : (i : ℕ) → child_at (other_side u.side) nz ≡ Some i → is_some (at i) ≡ true
     sibling_occupied i d = occupied-link at (Some z) (child_at (other_side u.side) u.nz) u.far i u.held_far (ap (child_at (other_side u.side)) nz_is ∙ d)
 
-  held_z : Holds at (above u.rest) (Some z) (fork u.side u.shape z u.high u.far)
+  pub held_z : Holds at (above u.rest) (Some z) (fork u.side u.shape z u.high u.far)
   held_z =
       let P : Option ℕ → Type 0 = λ link. Holds at (Some z) link u.shape in
       Holds-fork at (above u.rest) (Some z) u.side u.shape u.far z u.high (u.nz, refl, u.at_z, u.back, u.rank, subst P (sym u.child) u.held, u.held_far)
@@ -161,34 +161,37 @@ module _ {at : Slots} {root : Option ℕ} {z y : ℕ} {order : List ℕ} {slack 
 
   -- a promotion
   module _ (new : Slots) (by : IsReranked at new z (u.high + 1)) where
-    stays : (f : ℕ → ℕ) → f z ≡ 0 → (j : ℕ) → 0 < f j → new j ≡ at j
+    pub stays : (f : ℕ → ℕ) → f z ≡ 0 → (j : ℕ) → 0 < f j → new j ≡ at j
     stays f none j in_f = by.elsewhere j (apart-from z j f none in_f)
 
-    alone : (times_way z u.rest ≡ 0) × (times_in z u.shape ≡ 0) × (times_in z u.far ≡ 0)
+    pub alone : (times_way z u.rest ≡ 0) × (times_in z u.shape ≡ 0) × (times_in z u.far ≡ 0)
     alone = omega (arith, apart z, times_in-fork z u.side u.shape u.far z u.high, here-same z)
 
-    promoted_z : Holds new (above u.rest) (Some z) (fork u.side u.shape z (u.high + 1) u.far)
+    pub promoted_z : Holds new (above u.rest) (Some z) (fork u.side u.shape z (u.high + 1) u.far)
     promoted_z = Holds-reranked by (above u.rest) (Some z) u.side u.shape u.far u.high (omega (arith, alone)) held_z
 
     rank_at_y : rank_at at (Some y) ≡ u.low + 1
     rank_at_y = rank_at-held at (Some z) (Some y) u.shape u.held ∙ u.risen
 
+    abbrev pub rising_promoted : u.high ≡ u.low + 1 → rank_of u.far + 1 ≡ u.high → IsRising new root z order slack
+    rising_promoted equal sibling = record {
+      way = u.rest;
+      shape = fork u.side u.shape z (u.high + 1) u.far;
+      low = u.high;
+      held_way = HoldsWay-frame at new u.rest root (Some z) (stays (λ j. times_way j u.rest) alone.0) u.held_rest;
+      held = promoted_z;
+      listed = walk-plug u.rest (fork u.side u.shape z (u.high + 1) u.far) (fork u.side u.shape z u.high u.far) (walk-ranked u.side u.shape u.far z (u.high + 1) u.high) ∙ u.listed;
+      balanced = IsBalanced-fork slack u.side u.shape u.far z (u.high + 1) (omega (arith, u.risen)) u.balanced u.balanced_far;
+      balanced_way = u.balanced_rest;
+      risen = rank-fork u.side u.shape u.far z (u.high + 1);
+      uneven = IsUneven-fork u.side u.shape u.far z (u.high + 1) (inr (omega (arith, u.risen)));
+      once = u.once;
+      few = u.few;
+    }
+
     pub IsPromoted-promoted : u.high ≡ u.low + 1 → rank_of u.far + 1 ≡ u.high → IsPromoted at new root y z order slack
     IsPromoted-promoted equal sibling = record {
-      rising = record {
-        way = u.rest;
-        shape = fork u.side u.shape z (u.high + 1) u.far;
-        low = u.high;
-        held_way = HoldsWay-frame at new u.rest root (Some z) (stays (λ j. times_way j u.rest) alone.0) u.held_rest;
-        held = promoted_z;
-        listed = walk-plug u.rest (fork u.side u.shape z (u.high + 1) u.far) (fork u.side u.shape z u.high u.far) (walk-ranked u.side u.shape u.far z (u.high + 1) u.high) ∙ u.listed;
-        balanced = IsBalanced-fork slack u.side u.shape u.far z (u.high + 1) (omega (arith, u.risen)) u.balanced u.balanced_far;
-        balanced_way = u.balanced_rest;
-        risen = rank-fork u.side u.shape u.far z (u.high + 1);
-        uneven = IsUneven-fork u.side u.shape u.far z (u.high + 1) (inr (omega (arith, u.risen)));
-        once = u.once;
-        few = u.few;
-      };
+      rising = rising_promoted equal sibling;
       backs = backs-ranked by u.nz u.at_z;
       higher = rw (rank_at_y, by.here u.nz u.at_z) (omega arith);
       fits = omega (arith, rank_at_y, low-small);
@@ -196,19 +199,19 @@ module _ {at : Slots} {root : Option ℕ} {z y : ℕ} {order : List ℕ} {slack 
 
   -- a steep place
   module _ (equal : u.high ≡ u.low + 1) (not_sibling : rank_of u.far + 1 ≢ u.high) where
-    forked : Forked u.side u.shape y
+    pub forked : Forked u.side u.shape y
     forked = fork_of u.side u.shape y root_is
 
-    forked_rank : forked.rank ≡ u.low + 1
+    pub forked_rank : forked.rank ≡ u.low + 1
     forked_rank = sym (rank-fork u.side forked.near forked.far y forked.rank) ∙ ap rank_of (sym forked.is) ∙ u.risen
 
-    steep_uneven : 2 * forked.rank ≡ rank_of forked.near + rank_of forked.far + 3
+    pub steep_uneven : 2 * forked.rank ≡ rank_of forked.near + rank_of forked.far + 3
     steep_uneven =
         let P : Shape → Type 0 = λ s. IsUneven s in
         ⊎_elim (λ (leaf : forked.rank ≡ 1). absurd (omega (arith, forked_rank, u.over.greater))) (λ h. h)
         (fork_uneven u.side forked.near forked.far y forked.rank (subst P forked.is u.uneven))
 
-    pub IsSteep-rising : IsSteep at root u.side z y order slack
+    unfoldable pub IsSteep-rising : IsSteep at root u.side z y order slack
     IsSteep-rising =
         let P : Shape → Type 0 = λ s. Holds at (above u.rest) (Some z) (fork u.side s z u.high u.far) in
         let Q : Shape → Type 0 = λ s. IsApart u.rest (fork u.side s z u.high u.far) in

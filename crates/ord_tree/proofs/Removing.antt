@@ -1,5 +1,5 @@
 -- What the code of a removal finds at each of its steps.
-use Rattle.std.proofs.Common.{◌≡◌, ℕ, ◌+◌, ◌≤◌, Option, Some, None, List, [], ◌∷◌, ◌++◌, map, arith, refl, sym, ◌∙◌, ap, subst, option_map, is_some, true, append_assoc, MatchOption}
+use Rattle.std.proofs.Common.{◌≡◌, ℕ, ◌+◌, ◌≤◌, Option, Some, None, List, [], ◌∷◌, ◌++◌, map, arith, refl, sym, ◌∙◌, ap, subst, option_map, is_some, true, false, append_assoc, MatchOption}
 use Rattle.std.proofs.lemmas.List.{map-append}
 use Rattle.std.specs.Option.{IsSomeAnd}
 use Rattle.ord_tree.specs.Slots.{Slots, Holds, Way, top, plug, above, HoldsWay, here, times}
@@ -7,11 +7,13 @@ use Rattle.ord_tree.specs.Detach.{without, stand_in, renamed, IsLoose, CanStandI
 use Rattle.ord_tree.specs.{declared.tree_links.Side.TheVariants.Lesser, declared.tree_links.Side.TheVariants.Greater, Promote.IsBuilt}
 use Rattle.ord_tree.specs.{Shape.Shape, Shape.fork, Shape.rank_of, Shape.walk, declared.tree_links.TreeLinks.TreeLinks, Demote.IsFallen}
 use Rattle.ord_tree.specs.{declared.tree_links.Branch.Branch, declared.tree_links.Side.Side, Balance.IsOver}
-use Rattle.ord_tree.proofs.Displacing.{renamed_way, renamed-fork, renamed-plug, rank-renamed, IsBalanced-renamed, IsBalancedWay-renamed, walk-renamed, map-absent, plug_held}
+use Rattle.ord_tree.proofs.Displacing.{potential-renamed, potential_way-renamed, rank_here-renamed, rank_in-renamed, rank_way-renamed, names_stood, renamed_way, renamed-fork, renamed-plug, rank-renamed, IsBalanced-renamed, IsBalancedWay-renamed, walk-renamed, map-absent, plug_held}
+use Rattle.ord_tree.specs.Potential.{put_by}
+use Rattle.ord_tree.specs.Account.{rank_in, due, ranks_but, fallen_from, IsPaid, IsPassedUp}
 use Rattle.ord_tree.proofs.Neighbours.{BeforeIn, before_in, previous-neighbour, first-within}
 use Rattle.ord_tree.proofs.Forks.{Holds-plug, HoldsFork-holds, here-same, times-append, times-walk}
 use Rattle.ord_tree.proofs.{Cutting.without-split, Cutting.times-without, Cutting.length-without, Spots.Spot, Spots.spot_in}
-use Rattle.ord_tree.proofs.{Demoting.BuiltOrFallen, Standing.stand_in-same}
+use Rattle.ord_tree.proofs.{Demoting.BuiltOrFallen, Standing.stand_in-same, Paying.IsPaid-more}
 
 -- the other branch is the first, with v for z
 abbrev pub IsRenamed : {I : Type 0} → (I → ℕ) → ℕ → ℕ → Option (Branch I) → Option (Branch I) → Type 0
@@ -24,21 +26,28 @@ module _ {old : Slots} {root : Option ℕ} {z : ℕ} {before : Option ℕ} {orde
   pub z_occupied : is_some (old z) ≡ true
   z_occupied = ap is_some spot.at_y
 
+  -- where nothing hangs on its lesser side
+  pub bare_z : (nz : TreeLinks ℕ) → old z ≡ Some nz → nz.lesser ≡ None → (n : TreeLinks ℕ) → old z ≡ Some n → n.lesser ≡ None
+  bare_z nz e none n is = let same : nz ≡ n = cc in ap (λ (n : TreeLinks ℕ). n.lesser) (sym same) ∙ none
+
+  abbrev pub loose_z : (nz : TreeLinks ℕ) → old z ≡ Some nz → nz.lesser ≡ None → IsLoose old root z Lesser order
+  loose_z nz e none = record { built = can.built; within = can.within; bare = bare_z nz e none; once = can.once; few = can.few }
+
   module _ (nz : TreeLinks ℕ) (e : old z ≡ Some nz) (j : ℕ) (some : nz.lesser ≡ Some j) where
-    abbrev b : BeforeIn old z order
+    abbrev pub b : BeforeIn old z order
     b = before_in old root can.built.shape order can.built.held can.built.listed z can.within nz e j some
 
     pub v_is : before ≡ Some b.index
     v_is = can.is_before ∙ previous-neighbour order b.front b.back b.index z can.once b.is
 
     module _ (v : ℕ) (is_v : before ≡ Some v) where
-      same : b.index ≡ v
+      pub same : b.index ≡ v
       same = let e = v_is in cc
 
-      listed : order ≡ b.front ++ v ∷ z ∷ b.back
+      pub listed : order ≡ b.front ++ v ∷ z ∷ b.back
       listed = b.is ∙ ap (λ i. b.front ++ i ∷ z ∷ b.back) same
 
-      pub loose_v : IsLoose old root v Greater order
+      abbrev pub loose_v : IsLoose old root v Greater order
       loose_v =
           let P : ℕ → Type 0 = λ v. (n : TreeLinks ℕ) → old v ≡ Some n → n.greater ≡ None in
           record { built = can.built; within = first-within order b.front b.back v z can.once listed; bare = subst P same b.bare; once = can.once; few = can.few }
@@ -91,55 +100,111 @@ module _ {old : Slots} {root : Option ℕ} {z : ℕ} {before : Option ℕ} {orde
             balanced = IsBalanced-renamed 1 z v built.shape built.balanced;
           }
 
+          module _ {y : ℕ} {side : Side} (f : IsFallen mid root' y side (without v order)) where
+            abbrev pub way' : Way
+            way' = renamed_way z v f.way
+
+            abbrev pub fork' : Shape
+            fork' = fork side (renamed z v f.low) (stand_in z v y) f.rank (renamed z v f.far)
+
+            same_shape : renamed z v (plug f.way (fork side f.low y f.rank f.far)) ≡ plug way' fork'
+            same_shape = renamed-plug z v f.way (fork side f.low y f.rank f.far) ∙ ap (plug way') (renamed-fork z v side f.low f.far y f.rank)
+
+            whole : Holds new None root'' (plug way' fork')
+            whole = let P : Shape → Type 0 = λ s. Holds new None root'' s in subst P same_shape (held (plug f.way (fork side f.low y f.rank f.far)) (fallen_stands f))
+
+            parts : (link : Option ℕ) × HoldsWay new root'' way' link × Holds new (above way') link fork'
+            parts = plug_held new root'' way' fork' whole
+
+            link_is : parts.0 ≡ Some (stand_in z v y)
+            link_is = (HoldsFork-holds new (above way') parts.0 side (renamed z v f.low) (renamed z v f.far) (stand_in z v y) f.rank parts.2).1
+
+            pub way_stood : HoldsWay new root'' way' (Some (stand_in z v y))
+            way_stood = let W : Option ℕ → Type 0 = λ link. HoldsWay new root'' way' link in subst W link_is parts.1
+
+            pub fork_stood : Holds new (above way') (Some (stand_in z v y)) fork'
+            fork_stood = let H : Option ℕ → Type 0 = λ link. Holds new (above way') link fork' in subst H link_is parts.2
+
+            pub listed_stood : walk (plug way' fork') ≡ without z order
+            listed_stood = ap walk (sym same_shape) ∙ walk-renamed z v (plug f.way (fork side f.low y f.rank f.far)) ∙ ap (map (stand_in z v)) f.listed ∙ order_renamed
+
+            pub over_stood : IsOver 1 f.rank (rank_of (renamed z v f.low) + 1) (rank_of (renamed z v f.far))
+            over_stood = rw (rank-renamed z v f.low, rank-renamed z v f.far) f.over
+
+            abbrev pub fallen_stood : IsFallen new root'' (stand_in z v y) side (without z order)
+            fallen_stood = record {
+              way = way';
+              low = renamed z v f.low;
+              far = renamed z v f.far;
+              rank = f.rank;
+              held_way = way_stood;
+              held = fork_stood;
+              listed = listed_stood;
+              over = over_stood;
+              balanced_low = IsBalanced-renamed 1 z v f.low f.balanced_low;
+              balanced_far = IsBalanced-renamed 1 z v f.far f.balanced_far;
+              balanced_way = IsBalancedWay-renamed 1 z v f.way f.rank f.balanced_way;
+              once = λ i. omega (arith, times-without z i order, can.once i);
+              few = omega (arith, length-without z order, can.few);
+            }
+
           fallen_renamed : (y y' : ℕ) (side side' : Side) → y' ≡ stand_in z v y → side' ≡ side → IsFallen mid root' y side (without v order) → IsFallen new root'' y' side' (without z order)
           fallen_renamed y y' side side' is_y is_side f =
               let P : ℕ → Type 0 = λ y. IsFallen new root'' y side' (without z order) in
               let Q : Side → Type 0 = λ side. IsFallen new root'' (stand_in z v y) side (without z order) in
-              subst P (sym is_y) (subst Q (sym is_side) go)
-            where
-              s : Shape
-              s = plug f.way (fork side f.low y f.rank f.far)
+              subst P (sym is_y) (subst Q (sym is_side) (fallen_stood f))
 
-              way' : Way
-              way' = renamed_way z v f.way
+          -- and its account
+          module _ (s : Shape) (credit : ℕ) where
+            built_paid : (total : ℕ) → credit + 1 ≤ total → IsPaid (ranks_but v s) mid root' (without v order) credit → IsPaid (ranks_but z s) new root'' (without z order) total
+            built_paid total enough paid = record {
+              shape = renamed z v paid.shape;
+              held = held paid.shape (stands paid.shape paid.held paid.listed);
+              listed = walk-renamed z v paid.shape ∙ ap (map (stand_in z v)) paid.listed ∙ order_renamed;
+              named = v ∷ paid.named;
+              within = omega (arith, paid.within, potential-renamed z v paid.shape);
+              names = names_stood z v s paid.named (rank_in paid.shape) (rank_in (renamed z v paid.shape)) paid.names (λ j not_z not_v. rank_in-renamed z v j not_z not_v paid.shape);
+            }
 
-              fork' : Shape
-              fork' = fork side (renamed z v f.low) (stand_in z v y) f.rank (renamed z v f.far)
+            fallen_paid : (total : ℕ) → credit + 1 ≤ total → (y : ℕ) (side : Side) → IsPassedUp (ranks_but v s) mid root' y side (without v order) credit
+                → IsPassedUp (ranks_but z s) new root'' (stand_in z v y) side (without z order) total
+            fallen_paid total enough y side up =
+                let f = up.fallen in
+                record {
+                  fallen = fallen_stood f;
+                  named = v ∷ up.named;
+                  within = omega (
+                    arith,
+                    up.within,
+                    ap due (rank-renamed z v f.low),
+                    ap (λ k. put_by f.rank (k + 1) (rank_of (renamed z v f.far))) (rank-renamed z v f.low),
+                    ap (put_by f.rank (rank_of f.low + 1)) (rank-renamed z v f.far),
+                    potential-renamed z v f.low,
+                    potential-renamed z v f.far,
+                    potential_way-renamed z v f.way f.rank,
+                  );
+                  names = names_stood z v s up.named (fallen_from f) (fallen_from (fallen_stood f)) up.names
+                      (λ j not_z not_v. omega (
+                        arith,
+                        rank_way-renamed z v j not_z not_v f.way,
+                        rank_in-renamed z v j not_z not_v f.low,
+                        rank_in-renamed z v j not_z not_v f.far,
+                        rank_here-renamed z v j not_z not_v y f.rank,
+                      ));
+                }
 
-              same_shape : renamed z v s ≡ plug way' fork'
-              same_shape = renamed-plug z v f.way (fork side f.low y f.rank f.far) ∙ ap (plug way') (renamed-fork z v side f.low f.far y f.rank)
-
-              whole : Holds new None root'' (plug way' fork')
-              whole = let P : Shape → Type 0 = λ s. Holds new None root'' s in subst P same_shape (held s (fallen_stands f))
-
-              parts : (link : Option ℕ) × HoldsWay new root'' way' link × Holds new (above way') link fork'
-              parts = plug_held new root'' way' fork' whole
-
-              link_is : parts.0 ≡ Some (stand_in z v y)
-              link_is = (HoldsFork-holds new (above way') parts.0 side (renamed z v f.low) (renamed z v f.far) (stand_in z v y) f.rank parts.2).1
-
-              over' : IsOver 1 f.rank (rank_of (renamed z v f.low) + 1) (rank_of (renamed z v f.far))
-              over' = rw (rank-renamed z v f.low, rank-renamed z v f.far) f.over
-
-              go : IsFallen new root'' (stand_in z v y) side (without z order)
-              go =
-                  let W : Option ℕ → Type 0 = λ link. HoldsWay new root'' way' link in
-                  let H : Option ℕ → Type 0 = λ link. Holds new (above way') link fork' in
-                  record {
-                    way = way';
-                    low = renamed z v f.low;
-                    far = renamed z v f.far;
-                    rank = f.rank;
-                    held_way = subst W link_is parts.1;
-                    held = subst H link_is parts.2;
-                    listed = ap walk (sym same_shape) ∙ walk-renamed z v s ∙ ap (map (stand_in z v)) f.listed ∙ order_renamed;
-                    over = over';
-                    balanced_low = IsBalanced-renamed 1 z v f.low f.balanced_low;
-                    balanced_far = IsBalanced-renamed 1 z v f.far f.balanced_far;
-                    balanced_way = IsBalancedWay-renamed 1 z v f.way f.rank f.balanced_way;
-                    once = λ i. omega (arith, times-without z i order, can.once i);
-                    few = omega (arith, length-without z order, can.few);
-                  }
+            module _ {I : Type 0} (number : I → ℕ) (total : ℕ) (enough : credit + 1 ≤ total) where
+              pub displaced_paid : (cut branch : Option (Branch I)) → IsRenamed number z v cut branch
+                  → MatchOption cut (IsPaid (ranks_but v s) mid root' (without v order) credit) (λ b. IsPassedUp (ranks_but v s) mid root' (number b.parent) b.side (without v order) credit)
+                  → MatchOption branch (IsPaid (ranks_but z s) new root'' (without z order) total)
+                  (λ b. IsPassedUp (ranks_but z s) new root'' (number b.parent) b.side (without z order) total)
+              displaced_paid None None is h = built_paid total enough h
+              displaced_paid None (Some q) is h = absurd cc
+              displaced_paid (Some p) None is h = elim is [ ]
+              displaced_paid (Some p) (Some q) is h =
+                  let P : ℕ → Type 0 = λ y. IsPassedUp (ranks_but z s) new root'' y q.side (without z order) total in
+                  let Q : Side → Type 0 = λ side. IsPassedUp (ranks_but z s) new root'' (stand_in z v (number p.parent)) side (without z order) total in
+                  subst P (sym is.0) (subst Q (sym is.1) (fallen_paid total enough (number p.parent) p.side h))
 
           module _ {I : Type 0} (number : I → ℕ) where
             pub displaced : (cut branch : Option (Branch I)) → IsRenamed number z v cut branch → BuiltOrFallen number mid root' (without v order) cut
@@ -148,6 +213,18 @@ module _ {old : Slots} {root : Option ℕ} {z : ℕ} {before : Option ℕ} {orde
             displaced None (Some q) is h = absurd cc
             displaced (Some p) None is h = elim is [ ]
             displaced (Some p) (Some q) is h = fallen_renamed (number p.parent) (number q.parent) p.side q.side is.0 is.1 h
+
+-- more credit
+pub paid_more : {I : Type 0} (number : I → ℕ) (was : ℕ → ℕ) (at : Slots) (root : Option ℕ) (order : List ℕ) (c d : ℕ) → c ≤ d → (on : Option (Branch I))
+    → MatchOption on (IsPaid was at root order c) (λ b. IsPassedUp was at root (number b.parent) b.side order c)
+    → MatchOption on (IsPaid was at root order d) (λ b. IsPassedUp was at root (number b.parent) b.side order d)
+paid_more number was at root order c d more None paid = IsPaid-more was was at root order c d (λ j. refl) more paid
+paid_more number was at root order c d more (Some b) up = record { fallen = up.fallen; named = up.named; within = omega (arith, up.within); names = up.names }
+
+-- a link that leads nowhere, with numbers for indexes
+pub mapped_none : {I : Type 0} (number : I → ℕ) (o : Option I) → is_some o ≡ false → option_map number o ≡ None
+mapped_none number None e = refl
+mapped_none number (Some i) e = absurd cc
 
 -- a link that leads somewhere, with numbers for indexes
 pub mapped : {I : Type 0} (number : I → ℕ) (o : Option I) → is_some o ≡ true → (j : ℕ) × option_map number o ≡ Some j

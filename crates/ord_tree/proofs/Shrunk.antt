@@ -1,6 +1,6 @@
 -- A removal: from the tree without a node to the chain without its entry.
 use Rattle.std.proofs.Common.{◌≡◌, ℕ, ◌+◌, ◌<◌, ◌≤◌, ◌^◌, Option, Some, None, OnSome, List, [], ◌∷◌, map, length, arith, refl, sym, ◌∙◌, ap, subst, is_some, true, option_map}
-use Rattle.std.proofs.{lemmas.Grind.common_steps, lemmas.List.length-map}
+use Rattle.std.proofs.{lemmas.Grind.common_steps, lemmas.List.length-map, lemmas.Bool.ne_eqb}
 use Rattle.chain_base.specs.Chain.{Entry, Chain, entry_at, link_at, IsSound, removed, without as entries_without}
 use Rattle.chain_base.specs.Link.{Link}
 use Rattle.ord_tree.specs.{Node.bare_entry, Node.bare, Node.entry_in, Node.links_in, Node.slots_of, Node.indexes, Shape.Shape, Shape.walk}
@@ -9,7 +9,9 @@ use Rattle.ord_tree.specs.{Slots.Holds, Slots.times, Slots.IsOnce, Slots.MovesBa
 use Rattle.ord_tree.specs.Tree.{IsShrunk}
 use Rattle.arena_base.proofs.CallerLemmas.{limit_of-below}
 use Rattle.chain_base.proofs.CallerLemmas.{entry_at-link, entry_at-without_other}
-use Rattle.ord_tree.proofs.{Trees.entry_at-bare, Trees.is_some-bare, Trees.indexes-bare, Trees.shape_in-held, Views.MovesAtMost-backs}
+use Rattle.ord_tree.proofs.{Trees.entry_at-bare, Trees.is_some-bare, Trees.indexes-bare, Trees.shape_in-held, Views.MovesAtMost-backs, Views.Holds-unique}
+use Rattle.ord_tree.specs.{Potential.potential, Potential.ReranksWithin, Account.IsPaid, Account.ranks_but}
+use Rattle.ord_tree.proofs.{Naming.ReranksWithin-paid, Cutting.times-without}
 use Rattle.ord_tree.proofs.{LeafBranches.IsOnce-distinct, LeafBranches.within-occupied, Slack.IsRanked-balanced, Slack.IsBalanced-ranked}
 use Rattle.ord_tree.proofs.{Forks.times-walk, Forks.apart-from, Frames.Holds-frame}
 
@@ -61,13 +63,13 @@ module _ {P T I G : Type 0} (c : Chain (Node P T I G)) (root : Option ℕ) (x : 
   abbrev order : List ℕ
   order = indexes c.entries
 
-  once : IsOnce order
+  pub once : IsOnce order
   once = IsOnce-distinct c.entries sound.distinct
 
-  few : length order < 2 ^ 64
+  pub few : length order < 2 ^ 64
   few = omega (arith, length-map c.entries (λ (e : Entry (Node P T I G)). e.index), sound.counted, sound.within_limit, limit_of-below most c.maximum, fits)
 
-  pub detachable : (before : Option ℕ) → before ≡ previous None x order → IsDetachable (slots_of c) root x before order
+  abbrev pub detachable : (before : Option ℕ) → before ≡ previous None x order → IsDetachable (slots_of c) root x before order
   detachable before is = record {
     built = record { shape = shape_in c root; held = laid.held; listed = laid.listed; balanced = IsBalanced-ranked (shape_in c root) laid.ranked };
     within = within-occupied c.entries x occupied;
@@ -78,12 +80,16 @@ module _ {P T I G : Type 0} (c : Chain (Node P T I G)) (root : Option ℕ) (x : 
 
   module _ (before : Option ℕ) (is_before : before ≡ previous None x order) (d : Chain (Node P T I G)) (root' : Option ℕ) (kept : bare d ≡ bare c)
       (builds : (order : List ℕ) → IsDetachable (slots_of c) root x before order → IsBuilt (slots_of d) root' (without x order) 1)
-      (moves : (order : List ℕ) → IsDetachable (slots_of c) root x before order → MovesBacks 9 (slots_of c) (slots_of d)) where
+      (moves : (order : List ℕ) → IsDetachable (slots_of c) root x before order → MovesBacks 9 (slots_of c) (slots_of d))
+      (pays : (order : List ℕ) (can : IsDetachable (slots_of c) root x before order) → IsPaid (ranks_but x can.built.shape) (slots_of d) root' (without x order) (potential can.built.shape + 9)) where
     built : IsBuilt (slots_of d) root' (without x order) 1
     built = builds order (detachable before is_before)
 
     backs : MovesBacks 9 (slots_of c) (slots_of d)
     backs = moves order (detachable before is_before)
+
+    paid : IsPaid (ranks_but x (shape_in c root)) (slots_of d) root' (without x order) (potential (shape_in c root) + 9)
+    paid = pays order (detachable before is_before)
 
     abbrev last : Chain (Node P T I G)
     last = removed greatest d x
@@ -104,6 +110,15 @@ module _ {P T I G : Type 0} (c : Chain (Node P T I G)) (root : Option ℕ) (x : 
     shape_is : shape_in last root' ≡ built.shape
     shape_is = shape_in-held last root' built.shape held_last listed_last
 
+    reranked : ReranksWithin 9 (shape_in c root) built.shape
+    reranked =
+        let R : Shape → Type 0 = λ s. ReranksWithin 9 (shape_in c root) s in
+        subst R (Holds-unique (slots_of d) None root' paid.shape built.shape paid.held built.held)
+        (ReranksWithin-paid 9 (shape_in c root) paid
+        (λ j inside. rw (ne_eqb j x (apart-from x j (λ j. times j (without x order)) (times-without_same x order (once x)) (omega (arith, inside, times-walk j paid.shape, ap (times j) paid.listed)))) refl)
+        (λ j. omega (arith, once j, times-walk j (shape_in c root), ap (times j) laid.listed))
+        (λ j. omega (arith, times-walk j paid.shape, ap (times j) paid.listed, times-without x j order, once j)) laid.ranked)
+
     pub IsLaidOut-removed : IsLaidOut last root' (shape_in last root')
     IsLaidOut-removed =
         let L : Shape → Type 0 = λ s. IsLaidOut last root' s in
@@ -115,6 +130,7 @@ module _ {P T I G : Type 0} (c : Chain (Node P T I G)) (root : Option ℕ) (x : 
         subst S (sym shape_is) (record {
           ranked = IsRanked-balanced 1 built.shape built.balanced;
           moved = MovesAtMost-backs 9 (slots_of c) (slots_of d) root root' (shape_in c root) built.shape laid.held built.held backs;
+          reranked = reranked;
         })
 
     pub bare_removed : bare last ≡ removed greatest (bare c) x

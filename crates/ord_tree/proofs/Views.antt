@@ -1,5 +1,5 @@
 -- The shape that nodes spell is a function of them, and their parents are the shape's.
-use Rattle.std.proofs.Common.{◌≡◌, ℕ, zero, suc, ◌≤◌, Option, Some, None, List, [], ◌∷◌, arith, refl, sym, ◌∙◌, ap, inl, inr, ⊎_elim}
+use Rattle.std.proofs.Common.{◌≡◌, ℕ, zero, suc, ◌+◌, ◌≤◌, Option, Some, None, List, [], ◌∷◌, arith, refl, sym, ◌∙◌, ap, inl, inr, ⊎_elim}
 use Rattle.std.proofs.lemmas.List.Elements.{Contains-append_right}
 use Rattle.std.specs.List.{Contains}
 use Rattle.ord_tree.specs.Slots.{Slots, Holds, Among, back_at, MovesBacks, shape_under}
@@ -13,6 +13,11 @@ shape_under-held (suc n) at over link (node l i k r) h b =
     rw (h.1, h.2, shape_under-held n at (Some i) h.0.lesser l h.5 (omega (arith, b)), shape_under-held n at (Some i) h.0.greater r h.6 (omega (arith, b)))
     (ap (λ k. node l i k r) h.4)
 
+-- so there is one
+pub Holds-unique : (at : Slots) (over link : Option ℕ) (s t : Shape) → Holds at over link s → Holds at over link t → s ≡ t
+Holds-unique at over link s t h g =
+    sym (shape_under-held (height s + height t) at over link s h (omega arith)) ∙ shape_under-held (height s + height t) at over link t g (omega arith)
+
 -- a node's parent in the shape is the one that it holds
 pub back-parent : (at : Slots) (over link : Option ℕ) (s : Shape) (i : ℕ) (p : Option ℕ) → Holds at over link s → HasParentUnder over s i p → back_at at i ≡ Some p
 back-parent at over link missing i p h e = elim e [ ]
@@ -20,7 +25,7 @@ back-parent at over link (node l j k r) i p h e =
     ⊎_elim (λ (here : (i ≡ j) × (p ≡ over)). rw (here.0, h.2) (ap Some (h.3 ∙ sym here.1)))
     (⊎_elim (λ in_l. back-parent at (Some j) h.0.lesser l i p h.5 in_l) (λ in_r. back-parent at (Some j) h.0.greater r i p h.6 in_r)) e
 
-Contains-among : (j : ℕ) (xs : List ℕ) → Among j xs → Contains xs j
+pub Contains-among : (j : ℕ) (xs : List ℕ) → Among j xs → Contains xs j
 Contains-among j [] h = elim h [ ]
 Contains-among j (x ∷ xs) h =
     ⊎_elim (λ (e : j ≡ x). (0, omega arith, sym e)) (λ rest. Contains-append_right (x ∷ []) xs j (Contains-among j xs rest)) h

@@ -3,12 +3,14 @@ pub mod Ranks
 pub mod Numbers
 pub mod Half
 pub mod Parents
+pub mod Potential
 pub mod Laws
 pub mod TreeLinks
 pub mod Slots
 pub mod Balance
 pub mod Rotate
 pub mod Promote
+pub mod Account
 pub mod Leaf
 pub mod ShapeCode
 pub mod Demote
@@ -17,6 +19,7 @@ pub mod Node
 pub mod Tree
 pub mod Layout
 pub mod LeafBranch
+pub mod Move
 pub mod Rebuild
 pub mod MapNode
 pub mod Clone

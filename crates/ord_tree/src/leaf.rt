@@ -1,14 +1,17 @@
 //! A new leaf, and the repair that it needs.
 
-ghost use Rattle.std.specs.Prelude.{◌≡◌, ℕ, List, option_map};
+ghost use Rattle.std.specs.Prelude.{◌≡◌, ℕ, ◌+◌, List, option_map};
 ghost use Rattle.ord_tree.specs.Leaf.{IsNewLeaf, beside};
+ghost use Rattle.ord_tree.specs.Potential.{potential};
 ghost use Rattle.ord_tree.specs.Promote.{IsRepaired};
+ghost use Rattle.ord_tree.specs.Account.{IsPaid, rank_in};
 
 use crate::nodes::Nodes;
 use crate::promote::promote_all;
 use crate::tree_links::Side;
 
 /// Hangs the leaf x on a side of y where nothing hangs yet, and repairs the ranks above it.
+#[inline(always)]
 pub fn add_leaf<N: Nodes>(
     nodes: &mut N,
     root: &mut Option<N::Inx>,
@@ -24,6 +27,11 @@ pub fn add_leaf<N: Nodes>(
         (N.number y) (N.number x) order slack
         → IsRepaired (N.at nodes.old) (N.at nodes.new) (option_map N.number root.new)
         (beside side (N.number y) (N.number x) order) slack }
+    ensures paid { (order : List ℕ) (slack : ℕ)
+        (bud : IsNewLeaf (N.at nodes.old) (option_map N.number root.old) side
+        (N.number y) (N.number x) order slack)
+        → IsPaid (rank_in bud.built.shape) (N.at nodes.new) (option_map N.number root.new)
+        (beside side (N.number y) (N.number x) order) (potential bud.built.shape + 4) }
     ensures kept { N.list nodes.new ≡ N.list nodes.old }
 {
     nodes.set_child(y, side, Some(x));

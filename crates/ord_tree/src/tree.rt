@@ -11,6 +11,7 @@ ghost use Rattle.ord_tree.specs.Tree.{IsChainOf, IsSoundTree};
 mod clone;
 mod growth;
 mod insert;
+mod moving;
 mod rebuild;
 mod remove;
 mod write;

@@ -23,7 +23,7 @@ item_if-own g o = grind (arith, common_steps)
 item_if-other : {T : Type 0} (g h : ℕ) (o : Option (ℕ × T)) → IfSome o (λ e. e.0 ≡ g) → h ≢ g → item_if h o ≡ None
 item_if-other g h o has apart = grind (arith, common_steps)
 
-item_if-found : {T : Type 0} (g : ℕ) (o : Option (ℕ × T)) → IsSome (item_if g o) → (x : T) × (o ≡ Some (g, x))
+pub item_if-found : {T : Type 0} (g : ℕ) (o : Option (ℕ × T)) → IsSome (item_if g o) → (x : T) × (o ≡ Some (g, x))
 item_if-found g None there = absurd (cc)
 item_if-found g (Some e) there = (e.1, ap (λ k. Some (k, e.1)) (grind (arith, common_steps)))
 
@@ -35,7 +35,7 @@ module _ {T : Type 0} where
 
   -- a change at the index of the pointer that names its entry, if any
   module _ (old new : Tree T) (p : ℕ × ℕ) (found : Option T) where
-    updates-at : IfSome (entry_at old p.0) (λ e. e.0 ≡ p.1) → entry_at new p.0 ≡ option_map (λ x. (p.1, x)) found
+    pub updates-at : IfSome (entry_at old p.0) (λ e. e.0 ≡ p.1) → entry_at new p.0 ≡ option_map (λ x. (p.1, x)) found
         → ((i : ℕ) → i ≢ p.0 → entry_at new i ≡ entry_at old i) → Updates old new p found
     updates-at has here others = record {
       changed = rw here (item_if-own p.1 found);

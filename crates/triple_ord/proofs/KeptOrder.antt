@@ -21,7 +21,7 @@ module _ {T K : Type 0} (key : T → K) (cmp : K → K → Ordering) (total : Is
     LiesBetween front back = IfSome (last_of None front) (λ f. cmp (key f.item) (key e.item) ≢ Greater)
         × IfSome (first_of back) (λ f. cmp (key e.item) (key f.item) ≢ Greater)
 
-    in_order-between : (front back : List (Entry T)) → IsInOrder key cmp (front ++ back) → LiesBetween front back → IsInOrder key cmp (front ++ e ∷ back)
+    pub in_order-between : (front back : List (Entry T)) → IsInOrder key cmp (front ++ back) → LiesBetween front back → IsInOrder key cmp (front ++ e ∷ back)
     in_order-between [] [] order lies = in_order-one key cmp e
     in_order-between [] (f ∷ back) order lies = in_order-more key cmp e f back lies.1 order
     in_order-between (x ∷ []) back order lies =

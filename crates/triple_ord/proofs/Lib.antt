@@ -2,6 +2,8 @@ pub mod Words
 pub mod Inserting
 pub mod OrderLaws
 pub mod KeptOrder
+pub mod Rekeying
+pub mod RekeyOrder
 pub mod Descending
 pub mod Stepping
 pub mod Bare

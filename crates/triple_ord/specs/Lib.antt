@@ -10,6 +10,7 @@ pub mod Hint
 pub mod VisitBounds
 pub mod Recasting
 pub mod Refusal
+pub mod Rekey
 pub mod Ties
 pub mod Place
 pub mod Insertion

@@ -25,6 +25,7 @@ mod place;
 mod prepare;
 mod rebuild;
 mod recast;
+mod rekey;
 mod remove;
 mod slot_drain;
 mod slots;

@@ -2,6 +2,7 @@
 //! contract of each is the law.
 ghost use Rattle.triple_ord.specs.ClosureSearch.{Asks};
 ghost use Rattle.triple_ord.specs.OrderLaws.{AbsentKeyLaw, AnsweredInOrderLaw, BesidePlaceLaw, KeptOrderLaw, SameRanksLaw};
+ghost use Rattle.triple_ord.specs.Rekey.{RekeyOrderLaw};
 
 use crate::item::SimpleOrdItem;
 use arena_base::Ptr;
@@ -28,6 +29,11 @@ pub fn answered_in_order_law<P: Ptr, T, F: FnMut(P, &T) -> Ordering>()
 /// whether it replaces the item of an equal entry, or goes before all greater keys and behind all that are equal or lesser.
 pub fn kept_order_law<P: Ptr, T: SimpleOrdItem>()
     ensures { KeptOrderLaw P.numbers T.key_of T.Key.cmp }
+{}
+
+/// An entry that `rekey` gives another item leaves a list that is in the order of its keys in their order.
+pub fn rekey_order_law<T: SimpleOrdItem>()
+    ensures { RekeyOrderLaw T.key_of T.Key.cmp }
 {}
 
 /// Two arenas of one length that were just rebuilt have the same ranks, position by position.

@@ -16,6 +16,7 @@ mod rebuild;
 mod recast_transfer;
 mod recasting;
 mod refusals;
+mod rekeying;
 mod removal;
 mod slots;
 mod walks;

@@ -55,6 +55,8 @@ impl<P: Ptr, T, A: Allocator> Arena<P, T, A> {
     /// Makes the capacity the greater of `n` and the greatest index with an entry. All vacant slots then count as never used.
     ///
     /// It is refused where `n` is beyond the maximum or the greatest index, or where the capacity would grow and memory is refused.
+    #[cold]
+    #[inline(never)]
     pub fn reallocate_min_capacity(&mut self, n: usize) -> Result<(), ReallocationError>
         ensures ok { OnOk result
             (self.new ≡ with_capacity self.old (max n (greatest_occupied self.old.slots))) }

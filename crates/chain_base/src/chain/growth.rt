@@ -45,6 +45,8 @@ impl<P: Ptr, T, A: Allocator> ChainArena<P, T, A> {
     ///
     /// It is refused where `n` is beyond the maximum or the greatest index, or where the capacity would grow and memory is
     /// refused. Nothing changes then.
+    #[cold]
+    #[inline(never)]
     pub fn reallocate_min_capacity(&mut self, n: usize) -> Result<(), ReallocationError>
         ensures ok { OnOk result
             (self.new ≡ with_capacity self.old (max n (greatest_index self.old.entries))) }
@@ -62,6 +64,7 @@ impl<P: Ptr, T, A: Allocator> ChainArena<P, T, A> {
     /// A growth makes the capacity twice as great, at least 4, and at most its limit, in O(capacity). It is refused with
     /// `BeyondMaxCapacity` where no slot is vacant and the capacity is at the limit, and with `AllocError` where none is and memory
     /// is refused. Nothing changes then.
+    #[inline(always)]
     pub fn make_room(&mut self) -> Result<(), InsertionError>
         ensures ok { OnOk result (self.new ≡ with_room P.Inx.most self.old) }
         ensures room { OnOk result (length self.new.entries < self.new.capacity) }

@@ -63,6 +63,7 @@ impl<P: Ptr, T, A: Allocator> OrdTree<P, T, A> {
     /// A growth makes the capacity twice as great, at least 4, and at most its limit, in O(capacity). It is refused with
     /// `BeyondMaxCapacity` where no slot is vacant and the capacity is at the limit, and with `AllocError` where none is and memory
     /// is refused. Nothing changes then.
+    #[inline(always)]
     pub fn make_room(&mut self) -> Result<(), InsertionError>
         ensures ok { OnOk result
             (self.new ≡ record self.old { list = with_room P.Inx.most self.old.list }) }

@@ -1,12 +1,14 @@
 //! Adding entries.
 
-ghost use Rattle.std.specs.Prelude.{◌≡◌, ◌↔◌, ◌⊎◌, ℕ, List, Option, Some, option_map, IsSomeAnd, MatchOption, IsErr, IfOk, OnOk, IfErr, OnErr, length};
+ghost use Rattle.std.specs.Prelude.{◌≡◌, ◌↔◌, ◌⊎◌, ℕ, ◌+◌, List, Option, Some, option_map, IsSomeAnd, MatchOption, IsErr, IfOk, OnOk, IfErr, OnErr, length};
 ghost use Rattle.chain_base.specs.Chain.{IsDistinct, IsOccupied, chain_limit, with_room};
 ghost use Rattle.chain_base.specs.Insert.{IsInsertion};
 ghost use Rattle.ord_tree.specs.Shape.{Shape};
 ghost use Rattle.ord_tree.specs.Node.{indexes, bare, slots_of};
 ghost use Rattle.ord_tree.specs.Leaf.{neighbour_in, beside, IsNewLeaf};
+ghost use Rattle.ord_tree.specs.Potential.{potential};
 ghost use Rattle.ord_tree.specs.Promote.{IsRepaired};
+ghost use Rattle.ord_tree.specs.Account.{IsPaid, rank_in};
 ghost use Rattle.ord_tree.specs.Tree.{put_at, CanPutAt, IsGrown};
 ghost use Rattle.ord_tree.specs.Layout.{IsLaidOut};
 ghost use Rattle.ord_tree.specs.LeafBranch.{side_at, kind_at, IsLeafBranch, IsLeafBranchAt};
@@ -89,7 +91,7 @@ fn parent_in<I: Copy>(branch: Option<Branch<I>>) -> Option<I>
 }
 
 // The place in the chain that is named.
-fn kind_of<P: Ptr>(at: Option<(P::Inx, Ordering)>) -> LinkInsertKind<P>
+pub(super) fn kind_of<P: Ptr>(at: Option<(P::Inx, Ordering)>) -> LinkInsertKind<P>
     ensures { result ≡ kind_at at }
 {
     match at {
@@ -100,7 +102,7 @@ fn kind_of<P: Ptr>(at: Option<(P::Inx, Ordering)>) -> LinkInsertKind<P>
 }
 
 // The side of an entry that an ordering names.
-fn side_of(ordering: Ordering) -> Side
+pub(super) fn side_of(ordering: Ordering) -> Side
     ensures { result ≡ side_at ordering }
 {
     match ordering {
@@ -169,6 +171,7 @@ fn branch_at<P: Ptr, T, A: Allocator>(
 }
 
 // Lets the tree over a chain have the new leaf x, on its branch or alone.
+#[inline(always)]
 fn grow<P: Ptr, T, A: Allocator>(
     chain: &mut ChainArena<P, SimpleOrdArenaNode<P, T>, A>,
     root: &mut Option<NodeInx<P::Inx>>,
@@ -187,6 +190,14 @@ fn grow<P: Ptr, T, A: Allocator>(
         (option_map P.Inx.number root.new)
         (beside p.side (P.Inx.number p.parent) (P.Inx.number x) order)
         slack) }
+    ensures paid { MatchOption branch (Unit {0})
+        (λ p. (order : List ℕ) (slack : ℕ)
+        (bud : IsNewLeaf (slots_of chain.old) (option_map P.Inx.number root.old) p.side
+        (P.Inx.number p.parent) (P.Inx.number x) order slack)
+        → IsPaid (rank_in bud.built.shape) (slots_of chain.new)
+        (option_map P.Inx.number root.new)
+        (beside p.side (P.Inx.number p.parent) (P.Inx.number x) order)
+        (potential bud.built.shape + 4)) }
     ensures kept { bare chain.new ≡ bare chain.old }
 {
     match branch {

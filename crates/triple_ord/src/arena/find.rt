@@ -24,6 +24,7 @@ impl<P: Ptr, T: SimpleOrdItem, A: Allocator> SimpleOrdArena<P, T, A> {
     ///
     /// With `None` the search stopped at a gap of the list: the entry before it, if any, has a lesser key, and the one after it, if
     /// any, a greater one. So no entry has an equal key where the keys are in order. It takes O(log n) time for n entries.
+    #[inline(always)]
     pub fn find_key(&self, k: &T::Key) -> Option<P>
         ensures finds { IfSome result
             (λ p. FindsBy T.key_of T.Key.cmp self.now k.now (P.numbers p) Equal) }
@@ -36,6 +37,7 @@ impl<P: Ptr, T: SimpleOrdItem, A: Allocator> SimpleOrdArena<P, T, A> {
 
     /// `find_key`, and how many entries it visited: of n > 0 entries c with `2^(c+1) <= (n+1)^2`, and after insertions alone
     /// `fib(c+2) <= n+1`.
+    #[inline(always)]
     pub fn find_key_counted(&self, k: &T::Key) -> (Option<P>, Visits)
         ensures found { FindsKey T.key_of T.Key.cmp self.now.list.entries k.now
             (option_map P.numbers result.0) result.1 }
@@ -50,6 +52,7 @@ impl<P: Ptr, T: SimpleOrdItem, A: Allocator> SimpleOrdArena<P, T, A> {
     ///
     /// A gap fits where the entry before it, if any, has a lesser key, and the one after it, if any, a greater one. It takes
     /// O(log n) time for n entries.
+    #[inline(always)]
     pub fn find_similar_key(&self, k: &T::Key) -> Option<(P, Ordering)>
         ensures finds { IfSome result
             (λ a. FindsBy T.key_of T.Key.cmp self.now k.now (P.numbers a.0) a.1) }
@@ -61,6 +64,7 @@ impl<P: Ptr, T: SimpleOrdItem, A: Allocator> SimpleOrdArena<P, T, A> {
     }
 
     /// `find_similar_key`, and how many entries it visited, within the bounds of `find_key_counted`.
+    #[inline(always)]
     pub fn find_similar_key_counted(&self, k: &T::Key) -> (Option<(P, Ordering)>, Visits)
         ensures found { FindsSimilar T.key_of T.Key.cmp self.now.list.entries k.now
             (option_map (λ a. (P.numbers a.0, a.1)) result.0) result.1 }

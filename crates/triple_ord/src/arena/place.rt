@@ -18,6 +18,7 @@ use std::cmp::Ordering;
 
 impl<P: Ptr, T: SimpleOrdItem, A: Allocator> SimpleOrdArena<P, T, A> {
     // The place of an insertion, and how many entries the search for it visited; a refusal where it has none.
+    #[inline(always)]
     pub(super) fn place_for(
         &self,
         kind: OrdInsertKind<P, &T::Key>,
@@ -56,6 +57,7 @@ impl<P: Ptr, T: SimpleOrdItem, A: Allocator> SimpleOrdArena<P, T, A> {
     }
 
     // The place by a key, and how many entries the search for it visited.
+    #[inline(always)]
     fn place_by_key(&self, ties: Ties, k: &T::Key) -> (InsertPlace<P>, Visits)
         ensures { IsPlaceFor P.numbers T.key_of T.Key.cmp self.now {G = P.Gen} P.Inx.number
             (kind_by ties k.now) result.0 result.1 }
@@ -80,6 +82,7 @@ impl<P: Ptr, T: SimpleOrdItem, A: Allocator> SimpleOrdArena<P, T, A> {
     }
 
     // Where a search by a key ended: an equal entry is to be replaced, and a gap is to be filled.
+    #[inline(always)]
     fn place_found(&self, found: Option<(P, Ordering)>) -> InsertPlace<P>
         ensures { (cmp : T.Key → T.Key → Ordering) (k : T.Key) (c : ℕ)
             → FindsSimilar T.key_of cmp self.now.list.entries k

@@ -147,6 +147,7 @@ impl<P: Ptr, T: Drop, A: Allocator> SimpleOrdArena<P, T, A> {
     }
 
     // Sees to it that a slot is vacant.
+    #[inline(always)]
     fn make_room(&mut self) -> Result<(), OrdInsertionError>
         ensures ok { OnOk result
             (self.new ≡ record self.old {

@@ -1,5 +1,6 @@
-use Rattle.std.proofs.Common.{◌∙◌, arith}
+use Rattle.std.proofs.Common.{◌∙◌, arith, refl}
 use Rattle.ord_tree.proofs.Promoting.{IsRepaired-after}
+use Rattle.ord_tree.proofs.Lowering.{IsPassedUp-first, IsPassedUp-next, IsPaid-up}
 use Rattle.ord_tree.proofs.demote.demote_all.Goals as goal
 
 pub loop-next-smaller : goal.loop-next-smaller
@@ -14,6 +15,9 @@ loop-next-preserved g c = record {
       let now = c.loop-next.invariant.fallen order fallen in
       let next = c.in-Some.ensures.demoted order now.0 in
       (next.fallen, λ j. now.1 j ∙ next.backs j);
+  paid = λ order start.
+      let on = c.loop-next.invariant.paid order start in
+      IsPassedUp-next on (c.in-Some.ensures.paid order on.fallen);
   kept = cc;
 }
 
@@ -21,3 +25,11 @@ pub returns-clause-repaired : goal.returns-clause-repaired
 returns-clause-repaired g c = λ order fallen.
     let now = c.loop-next.invariant.fallen order fallen in
     IsRepaired-after now.1 (c.in_default.ensures.demoted order now.0)
+
+pub loop-next-init : goal.loop-next-init
+loop-next-init g c = record { fallen = λ order fallen. (fallen, λ j. refl); paid = λ order start. IsPassedUp-first start; kept = refl }
+
+pub returns-clause-paid : goal.returns-clause-paid
+returns-clause-paid g c = λ order start.
+    let on = c.loop-next.invariant.paid order start in
+    IsPaid-up on 7 (c.in_default.ensures.paid order on.fallen)

@@ -1,8 +1,8 @@
 use Rattle.std.proofs.Common.{◌≡◌, ℕ, ◌-◌, Some, List, option_map}
-use Rattle.ord_tree.specs.{Slots.back_at, Slots.rank_at, Demote.IsFallen}
+use Rattle.ord_tree.specs.{Slots.back_at, Slots.rank_at, Demote.IsFallen, Account.IsPassedUp, Account.fallen_from, Account.fallen_stake}
 use Rattle.ord_tree.proofs.demote.demote_all.Given as goal
 
--- what has fallen when the repair began has fallen here, and no node has another parent
+-- what has fallen when the repair began has fallen here, no node has another parent, and the account is passed up
 abbrev pub invariant-loop-next : goal.invariant-loop-next
 invariant-loop-next g l =
     let was = g.N.Nodes.at l.fn.nodes in
@@ -14,6 +14,8 @@ invariant-loop-next g l =
     record {
       fallen : (order : List ℕ) → IsFallen was was_root (number first.parent) first.side order
           → IsFallen now root (number l.branch.parent) l.branch.side order × ((j : ℕ) → back_at was j ≡ back_at now j);
+      paid : (order : List ℕ) (start : IsFallen was was_root (number first.parent) first.side order)
+          → IsPassedUp (fallen_from start) now root (number l.branch.parent) l.branch.side order (fallen_stake start);
       kept : g.N.Nodes.list l.nodes ≡ g.N.Nodes.list l.fn.nodes;
     }
 

@@ -1,4 +1,5 @@
 use Rattle.ord_tree.proofs.Demoting.{demoted_occupied, parent_occupied, demoted_branch}
+use Rattle.ord_tree.proofs.Lowering.{lowered_branch}
 use Rattle.ord_tree.proofs.demote.demote_next.Goals as goal
 
 pub branch_of-requires-clause-occupied : goal.branch_of-requires-clause-occupied
@@ -10,3 +11,7 @@ branch_of-requires-clause-parent g c = parent_occupied (c.if-not-demote.ensures.
 pub returns-clause-demoted : goal.returns-clause-demoted
 returns-clause-demoted g c = λ order fallen.
     demoted_branch (c.if-not-demote.ensures.mended order fallen) g.N.Nodes.number c.branch_of.result (record { parent = c.branch_of.ensures.parent; side = c.branch_of.ensures.side })
+
+pub returns-clause-paid : goal.returns-clause-paid
+returns-clause-paid g c = λ order fallen.
+    lowered_branch (c.if-not-demote.ensures.paid order fallen) g.N.Nodes.number c.branch_of.result (record { parent = c.branch_of.ensures.parent; side = c.branch_of.ensures.side })

@@ -1,6 +1,6 @@
 use Rattle.std.proofs.Common.{sym, ◌∙◌, subst, option_map}
 use Rattle.ord_tree.specs.TreeLinks.{as_numbers}
-use Rattle.ord_tree.proofs.Cutting.{v_occupied, rest_occupied, parent_occupied, moves_one, cut_branch}
+use Rattle.ord_tree.proofs.Cutting.{v_occupied, rest_occupied, parent_occupied, moves_one, cut_branch, cut_paid}
 use Rattle.ord_tree.proofs.{Reading.child_other-read, Frames.IsReplaced}
 use Rattle.ord_tree.proofs.detach.cut.Goals as goal
 
@@ -43,3 +43,16 @@ returns-clause-backs g c = λ order loose.
     moves_one loose links c.links-links.ensures (at c.replace_child.new.nodes) (at c.hang.new.nodes) (option_map number c.replace_child.new.root)
     (subst P rest_is (record { at_top = r.at_top; below = r.below; here = r.here; elsewhere = r.elsewhere; backs = r.backs }))
     (λ i n link. c.hang.ensures.here i n (rest_is ∙ link)) (λ j other. c.hang.ensures.elsewhere j (λ link. other (sym rest_is ∙ link)))
+
+pub returns-clause-paid : goal.returns-clause-paid
+returns-clause-paid g c = λ order loose.
+    let number = g.N.Nodes.number in
+    let at = g.N.Nodes.at in
+    let links = as_numbers number c.links-links.result in
+    let rest_is = child_other-read number c.args.bare _ c.other.ensures c.links-links.result c.child-rest.result c.child-rest.ensures in
+    let r = c.replace_child.ensures in
+    let P = IsReplaced (at c.args.nodes.now) (at c.replace_child.new.nodes) links.back (option_map number c.args.root.now) (option_map number c.replace_child.new.root) (number c.args.v) in
+    cut_paid loose links c.links-links.ensures (at c.replace_child.new.nodes) (at c.hang.new.nodes) (option_map number c.replace_child.new.root)
+    (subst P rest_is (record { at_top = r.at_top; below = r.below; here = r.here; elsewhere = r.elsewhere; backs = r.backs }))
+    (λ i n link. c.hang.ensures.here i n (rest_is ∙ link)) (λ j other. c.hang.ensures.elsewhere j (λ link. other (sym rest_is ∙ link)))
+    number c.branch_of-branch.result (record { parent = c.branch_of-branch.ensures.parent; side = c.branch_of-branch.ensures.side })

@@ -1,6 +1,7 @@
-use Rattle.std.proofs.Common.{◌∙◌, ap, option_map}
+use Rattle.std.proofs.Common.{◌∙◌, ap, option_map, ◌+◌, arith, rules}
+use Rattle.ord_tree.specs.Potential.{potential}
 use Rattle.ord_tree.specs.TreeLinks.{as_numbers}
-use Rattle.ord_tree.proofs.Removing.{z_occupied, v_is, loose_v, can_stand, displaced, mapped, unmapped}
+use Rattle.ord_tree.proofs.Removing.{z_occupied, v_is, loose_v, can_stand, displaced, displaced_paid, loose_z, paid_more, mapped_none, mapped, unmapped}
 use Rattle.ord_tree.proofs.{Displacing.MovesBacks-then, Cutting.v_occupied}
 use Rattle.ord_tree.proofs.detach.displace.Goals as goal
 
@@ -56,3 +57,22 @@ returns-clause-backs g c = λ order can.
     (c.cut-branch.ensures.occupied v ∙ v_occupied loose) number c.cut-branch.result (c.cut-branch.ensures.fallen order loose) in
     MovesBacks-then 1 3 (at c.args.nodes.now) (at c.cut-branch.new.nodes) (at c.substitute.new.nodes) (c.cut-branch.ensures.backs order loose)
     (c.substitute.ensures.backs stands.0 stands.1)
+
+pub returns-clause-paid : goal.returns-clause-paid
+returns-clause-paid g c = λ order can.
+    let number = g.N.Nodes.number in
+    let at = g.N.Nodes.at in
+    let v = number c.unwrap-v.result in
+    let links = as_numbers number c.links.result in
+    let some = mapped number c.links.result.lesser c.if-is_none.ensures in
+    let is_v = ap (option_map number) c.unwrap-v.ensures in
+    let loose = loose_v can links c.links.ensures some.0 some.1 v is_v in
+    displaced_paid can links c.links.ensures some.0 some.1 v is_v (at c.cut-branch.new.nodes) (option_map number c.cut-branch.new.root)
+    (c.cut-branch.ensures.occupied v ∙ v_occupied loose) (at c.substitute.new.nodes) (option_map number c.substitute.new.root) c.substitute.ensures.held
+    can.built.shape (potential can.built.shape + 1) number (potential can.built.shape + 2) (omega arith) c.cut-branch.result c.branch_with.result c.branch_with.ensures (c.cut-branch.ensures.paid order loose)
+
+pub returns-then-is_none-clause-paid : goal.returns-then-is_none-clause-paid
+returns-then-is_none-clause-paid g c = λ order can.
+    let number = g.N.Nodes.number in
+    let none = mapped_none number c.links.result.lesser (search rules) in
+    paid_more number _ _ _ _ (potential can.built.shape + 1) _ (omega arith) _ (c.cut.ensures.paid order (loose_z can (as_numbers number c.links.result) c.links.ensures none))

@@ -1,4 +1,5 @@
 use Rattle.ord_tree.proofs.{NewLeaf.y_occupied, NewLeaf.IsRising-attached, NewLeaf.backs-attached, Promoting.IsRepaired-after}
+use Rattle.ord_tree.proofs.Paying.{IsPaid-leaf}
 use Rattle.ord_tree.specs.Leaf.{beside}
 use Rattle.ord_tree.proofs.leaf.add_leaf.Goals as goal
 
@@ -15,3 +16,10 @@ returns-clause-repaired g c = λ order slack bud.
     let number = g.N.Nodes.number in
     IsRepaired-after (backs-attached bud (g.N.Nodes.at c.set_child.new.self) c.set_child.ensures.here c.set_child.ensures.elsewhere)
     (c.promote_all.ensures.repaired (beside c.args.side (number c.args.y) (number c.args.x) order) slack (IsRising-attached bud (g.N.Nodes.at c.set_child.new.self) c.set_child.ensures.here c.set_child.ensures.elsewhere))
+
+pub returns-clause-paid : goal.returns-clause-paid
+returns-clause-paid g c = λ order slack bud.
+    let number = g.N.Nodes.number in
+    let hung = g.N.Nodes.at c.set_child.new.self in
+    IsPaid-leaf bud hung c.set_child.ensures.here c.set_child.ensures.elsewhere
+    (c.promote_all.ensures.paid (beside c.args.side (number c.args.y) (number c.args.x) order) slack (IsRising-attached bud hung c.set_child.ensures.here c.set_child.ensures.elsewhere))

@@ -1,5 +1,6 @@
-use Rattle.std.proofs.Common.{◌∙◌, arith}
+use Rattle.std.proofs.Common.{◌∙◌, arith, refl}
 use Rattle.ord_tree.proofs.Promoting.{IsRepaired-after}
+use Rattle.ord_tree.proofs.Paying.{IsPassedOn-first, IsPassedOn-next, IsPaid-after}
 use Rattle.ord_tree.proofs.promote.promote_all.Goals as goal
 
 pub loop-z-smaller : goal.loop-z-smaller
@@ -14,6 +15,9 @@ loop-z-preserved g c = record {
       let now = c.loop-z.invariant.rising order slack rising in
       let next = c.in-Some.ensures.promoted order slack now.0 in
       (next.rising, λ j. now.1 j ∙ next.backs j);
+  paid = λ order slack first.
+      let on = c.loop-z.invariant.paid order slack first in
+      IsPassedOn-next on (c.in-Some.ensures.paid order slack on.rising);
   kept = cc;
 }
 
@@ -21,3 +25,11 @@ pub returns-clause-repaired : goal.returns-clause-repaired
 returns-clause-repaired g c = λ order slack rising.
     let now = c.loop-z.invariant.rising order slack rising in
     IsRepaired-after now.1 (c.in_default.ensures.promoted order slack now.0)
+
+pub loop-z-init : goal.loop-z-init
+loop-z-init g c = record { rising = λ order slack rising. (rising, λ j. refl); paid = λ order slack first. IsPassedOn-first first; kept = refl }
+
+pub returns-clause-paid : goal.returns-clause-paid
+returns-clause-paid g c = λ order slack first.
+    let on = c.loop-z.invariant.paid order slack first in
+    IsPaid-after on 3 (c.in_default.ensures.paid order slack on.rising)

@@ -2,3 +2,6 @@ use Rattle.ord_tree.proofs.tree.insert.grow.Goals as goal
 
 pub returns-in-Some-clause-grown : goal.returns-in-Some-clause-grown
 returns-in-Some-clause-grown g c = rw c.in-Some.is c.add_leaf.ensures.repaired
+
+pub returns-in-Some-clause-paid : goal.returns-in-Some-clause-paid
+returns-in-Some-clause-paid g c = rw c.in-Some.is c.add_leaf.ensures.paid

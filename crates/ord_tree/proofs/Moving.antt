@@ -1,0 +1,247 @@
+-- An entry that goes to another place: from the tree without its node to the tree with it as a new leaf.
+use Rattle.std.proofs.Common.{arith, ◌≡◌, ◌≢◌, ℕ, ◌+◌, ◌<◌, ◌^◌, Option, Some, None, List, [], ◌∷◌, ◌∙◌, map, length, refl, sym, ap, subst, inl, inr, ⊎_elim, is_some, true, option_map}
+use Rattle.std.proofs.{lemmas.Grind.common_steps, lemmas.Bool.cases_eq}
+use Rattle.std.specs.declared.cmp.Ordering.{Ordering}
+use Rattle.chain_base.specs.Chain.{Entry, Chain, entry_at, times as entry_times, IsSound, without as entries_without}
+use Rattle.chain_base.specs.{declared.chain.insert.LinkInsertKind.LinkInsertKind, Insert.placed, Insert.CanPlace, Move.relisted, Move.unlisted, Move.put_back}
+use Rattle.chain_base.proofs.CallerLemmas.{entry_at-without_other}
+use Rattle.ord_tree.specs.{declared.node.SimpleOrdArenaNode.SimpleOrdArenaNode as Node, Node.bare_entry, Node.bare, Node.entry_in, Node.links_in, Node.slots_of, Node.indexes}
+use Rattle.ord_tree.specs.{declared.tree_links.Side.TheVariants.Lesser, declared.tree_links.Side.TheVariants.Greater, declared.tree_links.Side.Side}
+use Rattle.ord_tree.specs.{declared.tree_links.TreeLinks.TreeLinks, declared.tree_links.Branch.Branch, Shape.Shape, Shape.walk}
+use Rattle.ord_tree.specs.{Leaf.beside, Leaf.previous, Leaf.following, Leaf.neighbour_in, Leaf.leaf_links, Leaf.IsNewLeaf}
+use Rattle.ord_tree.specs.{LeafBranch.side_at, LeafBranch.kind_at, LeafBranch.IsLeafBranch, Detach.without, Detach.IsDetachable}
+use Rattle.ord_tree.specs.{Slots.Holds, Slots.times, Slots.IsOnce, Slots.MovesBacks, Layout.shape_in, Layout.IsLaidOut}
+use Rattle.ord_tree.specs.{Promote.IsBuilt, Promote.IsRepaired, Tree.put_on, Tree.CanPutAt, Move.IsShifted, Move.IsAside}
+use Rattle.ord_tree.proofs.Trees.{entry_at-bare, is_some-bare, indexes-bare, shape_in-held}
+use Rattle.ord_tree.proofs.{Shrunk.times-without_same, Shrunk.indexes-without, Shrunk.bare-without, Shrunk.detachable, Cutting.times-without, Spots.times-beside-ge}
+use Rattle.ord_tree.proofs.{Puts.put-same, Puts.put-other, Puts.put-indexes, Puts.put-bare, Grown.placed-put, Grown.CanPlace-put}
+use Rattle.ord_tree.proofs.{LeafBranches.times-indexes, LeafBranches.within-occupied, LeafBranches.some_in, LeafBranches.is_some-mapped, Views.MovesAtMost-backs}
+use Rattle.ord_tree.proofs.{Forks.times-walk, Forks.apart-from, Frames.Holds-frame, Displacing.MovesBacks-then, Slack.IsRanked-balanced}
+
+-- a list without one of its indexes is shorter by one
+length-without_in : (i : ℕ) (xs : List ℕ) → 0 < times i xs → length (without i xs) + 1 ≡ length xs
+length-without_in i [] inside = absurd (omega arith)
+length-without_in i (x ∷ xs) inside = grind (arith, common_steps, length-without_in i xs)
+
+-- what stands in a list of entries is found there
+occupied-within : {T : Type 0} (es : List (Entry T)) (i : ℕ) → 0 < times i (indexes es) → is_some (entry_at es i) ≡ true
+occupied-within [] i inside = absurd (omega arith)
+occupied-within (e ∷ es) i inside = grind (arith, common_steps, occupied-within es i)
+
+-- a new index has the neighbour on its side that the other had
+module _ (y x : ℕ) where
+  previous-beside : (first : Option ℕ) (order : List ℕ) → times x order ≡ 0 → previous first x (beside Lesser y x order) ≡ previous first y order
+  previous-beside first [] none = refl
+  previous-beside first (i ∷ is) none = grind (arith, common_steps, previous-beside (Some i) is)
+
+  following-beside : (order : List ℕ) → times x order ≡ 0 → following x (beside Greater y x order) ≡ following y order
+  following-beside [] none = refl
+  following-beside (i ∷ is) none = grind (arith, common_steps, following-beside is)
+
+  pub neighbour-beside : (side : Side) (order : List ℕ) → times x order ≡ 0 → neighbour_in side x (beside side y x order) ≡ neighbour_in side y order
+  neighbour-beside Lesser order none = previous-beside None order none
+  neighbour-beside Greater order none = following-beside order none
+
+-- d is the chain c once the node x is taken out of the tree, of which the root is now this one
+pub record IsTakenOut {P T I G : Type 0} (c d : Chain (Node P T I G)) (root' : Option ℕ) (x : ℕ) : Type 0 where
+  pub kept : bare d ≡ bare c
+  pub built : IsBuilt (slots_of d) root' (without x (indexes c.entries)) 1
+  pub backs : MovesBacks 9 (slots_of c) (slots_of d)
+  pub once : IsOnce (indexes c.entries)
+  pub few : length (indexes c.entries) < 2 ^ 64
+  pub there : is_some (entry_at c.entries x) ≡ true
+
+-- what the step that takes it out ensures
+module _ {P T I G : Type 0} (c : Chain (Node P T I G)) (root : Option ℕ) (x : ℕ) (laid : IsLaidOut c root (shape_in c root)) (there : is_some (entry_at c.entries x) ≡ true)
+    (most : ℕ) (greatest : Option ℕ) (sound : IsSound most greatest c) (fits : most + 1 < 2 ^ 64) (before : Option ℕ) (is_before : before ≡ previous None x (indexes c.entries))
+    (d : Chain (Node P T I G)) (root' : Option ℕ) (kept : bare d ≡ bare c)
+    (builds : (order : List ℕ) → IsDetachable (slots_of c) root x before order → IsBuilt (slots_of d) root' (without x order) 1) where
+  pub taken_out : ((order : List ℕ) → IsDetachable (slots_of c) root x before order → MovesBacks 9 (slots_of c) (slots_of d)) → IsTakenOut c d root' x
+  taken_out moves =
+      let can = detachable c root x laid there most greatest sound fits before is_before in
+      record { kept = kept; built = builds _ can; backs = moves _ can; once = can.once; few = can.few; there = there }
+
+module _ {P T I G : Type 0} {c d : Chain (Node P T I G)} {root' : Option ℕ} {x : ℕ} (out : IsTakenOut c d root' x) where
+  abbrev pub rest : List ℕ
+  rest = without x (indexes c.entries)
+
+  some_kept : (j : ℕ) → is_some (entry_at d.entries j) ≡ is_some (entry_at c.entries j)
+  some_kept j = sym (is_some-bare d.entries j) ∙ ap (λ (b : Chain T). is_some (entry_at b.entries j)) out.kept ∙ is_some-bare c.entries j
+
+  pub still_in : is_some (entry_at d.entries x) ≡ true
+  still_in = some_kept x ∙ out.there
+
+  same_order : indexes d.entries ≡ indexes c.entries
+  same_order = sym (indexes-bare d.entries) ∙ ap (λ (b : Chain T). indexes b.entries) out.kept ∙ indexes-bare c.entries
+
+  pub rest_is : indexes (entries_without x d.entries) ≡ rest
+  rest_is = indexes-without d.entries x ∙ ap (without x) same_order
+
+  rest_fresh : times x rest ≡ 0
+  rest_fresh = times-without_same x (indexes c.entries) (out.once x)
+
+  rest_once : IsOnce rest
+  rest_once j = omega (arith, times-without x j (indexes c.entries), out.once j)
+
+  module _ (number : I → ℕ) (at : I × Ordering) (can : CanPutAt number (Some at) (unlisted (bare c) x)) where
+    abbrev y : ℕ
+    y = number at.0
+
+    abbrev left : List (Entry (Node P T I G))
+    left = entries_without x d.entries
+
+    left_bare : map bare_entry left ≡ entries_without x (bare c).entries
+    left_bare = bare-without d.entries x ∙ ap (λ (b : Chain T). entries_without x b.entries) out.kept
+
+    y_left : is_some (entry_at left y) ≡ true
+    y_left = sym (is_some-bare left y) ∙ ap (λ (es : List (Entry T)). is_some (entry_at es y)) left_bare ∙ can.0
+
+    pub can_place : (kind : LinkInsertKind P I G) → kind ≡ kind_at (Some at) → CanPlace number kind (unlisted d x)
+    can_place kind kind_is =
+        let C : LinkInsertKind P I G → Type 0 = λ kind. CanPlace number kind (unlisted d x) in
+        subst C (sym kind_is) (CanPlace-put P G number (Some at) (unlisted d x) (y_left, can.1))
+
+    -- the entry, as the chain still has it
+    module _ (e : ℕ × Node P T I G) (has : entry_at d.entries x ≡ Some e) where
+      abbrev entry : Entry (Node P T I G)
+      entry = record { index = x; generation = e.0; item = e.1 }
+
+      left_free : entry_times x left ≡ 0
+      left_free = sym (times-indexes left x) ∙ ap (times x) rest_is ∙ rest_fresh
+
+      abbrev put : List (Entry (Node P T I G))
+      put = put_on at.1 y left entry
+
+      -- every index holds what it held
+      entry_at-put : (j : ℕ) → entry_at put j ≡ entry_at d.entries j
+      entry_at-put j = ⊎_elim
+          (λ (same : j ≡ x). rw same (put-same at.1 left y y_left entry left_free ∙ sym has))
+          (λ (other : j ≢ x). put-other at.1 left y y_left entry j other ∙ entry_at-without_other d.entries x j other)
+          (cases_eq j x)
+
+      order-put : indexes put ≡ beside (side_at at.1) y x rest
+      order-put = put-indexes at.1 left y entry ∙ ap (beside (side_at at.1) y x) rest_is
+
+      bare-put : map bare_entry put ≡ put_back (put_on at.1 y) x (entry_at (bare c).entries x) (entries_without x (bare c).entries)
+      bare-put =
+          put-bare at.1 left y entry ∙ ap (λ (es : List (Entry T)). put_on at.1 y es (bare_entry entry)) left_bare
+          ∙ ap (λ (o : Option (ℕ × T)). put_back (put_on at.1 y) x o (entries_without x (bare c).entries))
+          (sym (ap (λ (b : Chain T). entry_at b.entries x) (sym out.kept) ∙ entry_at-bare d.entries x ∙ ap (option_map entry_in) has))
+
+      put_at_place : (kind : LinkInsertKind P I G) → kind ≡ kind_at (Some at) → relisted d x (placed number kind) ≡ record d { entries = put }
+      put_at_place kind kind_is =
+          ap (λ (o : Option (ℕ × Node P T I G)). record d { entries = put_back (placed number kind) x o left }) has
+          ∙ ap (λ (kind : LinkInsertKind P I G). record d { entries = placed number kind left entry }) kind_is
+          ∙ ap (λ (es : List (Entry (Node P T I G))). record d { entries = es }) (placed-put P G number (Some at) left entry)
+
+    -- the chain with the entry at its new place; its node doesn't stand in the tree yet
+    module _ (m : Chain (Node P T I G)) (kind : LinkInsertKind P I G) (kind_is : kind ≡ kind_at (Some at)) (m_is : m ≡ relisted d x (placed number kind)) where
+      e : (e : ℕ × Node P T I G) × (entry_at d.entries x ≡ Some e)
+      e = some_in (entry_at d.entries x) still_in
+
+      entries_are : m ≡ record d { entries = put e.0 e.1 }
+      entries_are = m_is ∙ put_at_place e.0 e.1 kind kind_is
+
+      same_entries : (j : ℕ) → entry_at m.entries j ≡ entry_at d.entries j
+      same_entries j = ap (λ (c : Chain (Node P T I G)). entry_at c.entries j) entries_are ∙ entry_at-put e.0 e.1 j
+
+      pub same_slots : (j : ℕ) → slots_of m j ≡ slots_of d j
+      same_slots j = ap (option_map (λ (e : ℕ × Node P T I G). links_in e.1)) (same_entries j)
+
+      pub order_is : indexes m.entries ≡ beside (side_at at.1) y x rest
+      order_is = ap (λ (c : Chain (Node P T I G)). indexes c.entries) entries_are ∙ order-put e.0 e.1
+
+      pub bare_is : bare m ≡ relisted (bare c) x (put_on at.1 y)
+      bare_is =
+          ap bare entries_are ∙ ap (λ (es : List (Entry T)). record (bare d) { entries = es }) (bare-put e.0 e.1)
+          ∙ ap (λ (b : Chain T). record b { entries = put_back (put_on at.1 y) x (entry_at (bare c).entries x) (entries_without x (bare c).entries) }) out.kept
+
+      pub x_in : is_some (entry_at m.entries x) ≡ true
+      x_in = ap is_some (same_entries x) ∙ still_in
+
+      pub x_slot : is_some (slots_of m x) ≡ true
+      x_slot = is_some-mapped (λ (e : ℕ × Node P T I G). links_in e.1) (entry_at m.entries x) ∙ x_in
+
+      y_within : 0 < times y rest
+      y_within = omega (arith, ap (times y) rest_is, within-occupied left y y_left)
+
+      pub y_in : is_some (entry_at m.entries y) ≡ true
+      y_in = occupied-within m.entries y (omega (arith, ap (times y) order_is, times-beside-ge (side_at at.1) y x y rest, y_within))
+
+      held_rest : Holds (slots_of m) None root' out.built.shape
+      held_rest = Holds-frame (slots_of d) (slots_of m) out.built.shape None root' (λ j _. same_slots j) out.built.held
+
+      pub aside : IsAside (slots_of m) root' rest (indexes m.entries) (side_at at.1) y x
+      aside = record {
+        shape = out.built.shape;
+        held = held_rest;
+        listed = out.built.listed;
+        once = rest_once;
+        within = y_within;
+        facing = ap (neighbour_in (side_at at.1) x) order_is ∙ neighbour-beside y x (side_at at.1) rest rest_fresh;
+      }
+
+      -- its node is a leaf now, that knows its parent
+      module _ (n : Chain (Node P T I G)) (branch : Branch I) (bud : IsLeafBranch number y (side_at at.1) (slots_of m) rest branch) (bare_kept : bare n ≡ bare m)
+          (leaf : slots_of n x ≡ Some (leaf_links (Some (number branch.parent)))) (elsewhere : (j : ℕ) → j ≢ x → slots_of n j ≡ slots_of m j) where
+        pub new_leaf : IsNewLeaf (slots_of n) root' branch.side (number branch.parent) x rest 1
+        new_leaf = record {
+          built = record {
+            shape = out.built.shape;
+            held = Holds-frame (slots_of m) (slots_of n) out.built.shape None root'
+                (λ j inside. elsewhere j (apart-from x j (λ j. times j rest) rest_fresh (omega (arith, inside, times-walk j out.built.shape, ap (times j) out.built.listed)))) held_rest;
+            listed = out.built.listed;
+            balanced = out.built.balanced;
+          };
+          within = bud.within;
+          bare = λ l h. bud.bare l (sym (elsewhere (number branch.parent) (apart-from x (number branch.parent) (λ j. times j rest) rest_fresh bud.within)) ∙ h);
+          leaf = leaf;
+          fresh = rest_fresh;
+          once = rest_once;
+          few = omega (arith, length-without_in x (indexes c.entries) (within-occupied c.entries x out.there), out.few);
+        }
+
+        own_back : MovesBacks 1 (slots_of d) (slots_of n)
+        own_back = (
+          x ∷ [],
+          omega arith,
+          λ j. ⊎_elim (λ (same : j ≡ x). inl (inl same))
+              (λ (other : j ≢ x). inr (ap (option_map (λ (l : TreeLinks ℕ). l.back)) (sym (elsewhere j other ∙ same_slots j)))) (cases_eq j x),
+        )
+
+        -- and it hangs there
+        module _ (root : Option ℕ) (laid : IsLaidOut c root (shape_in c root)) (q : Chain (Node P T I G)) (root'' : Option ℕ) (hung : bare q ≡ bare n)
+            (repairs : (order : List ℕ) (slack : ℕ) → IsNewLeaf (slots_of n) root' branch.side (number branch.parent) x order slack
+            → IsRepaired (slots_of n) (slots_of q) root'' (beside branch.side (number branch.parent) x order) slack) where
+          repaired : IsRepaired (slots_of n) (slots_of q) root'' (beside branch.side (number branch.parent) x rest) 1
+          repaired = repairs rest 1 new_leaf
+
+          bare_end : bare q ≡ bare m
+          bare_end = hung ∙ bare_kept
+
+          listed : walk repaired.built.shape ≡ indexes q.entries
+          listed =
+              repaired.built.listed ∙ bud.put x ∙ sym order_is ∙ sym (indexes-bare m.entries)
+              ∙ ap (λ (b : Chain T). indexes b.entries) (sym bare_end) ∙ indexes-bare q.entries
+
+          shape_is : shape_in q root'' ≡ repaired.built.shape
+          shape_is = shape_in-held q root'' repaired.built.shape repaired.built.held listed
+
+          pub laid_again : IsLaidOut q root'' (shape_in q root'')
+          laid_again =
+              let L : Shape → Type 0 = λ s. IsLaidOut q root'' s in
+              subst L (sym shape_is) (record { held = repaired.built.held; listed = listed; ranked = IsRanked-balanced 1 repaired.built.shape repaired.built.balanced })
+
+          pub list_moved : bare q ≡ relisted (bare c) x (put_on at.1 y)
+          list_moved = bare_end ∙ bare_is
+
+          moves : MovesBacks 15 (slots_of c) (slots_of q)
+          moves = MovesBacks-then 9 6 (slots_of c) (slots_of d) (slots_of q) out.backs (MovesBacks-then 1 5 (slots_of d) (slots_of n) (slots_of q) own_back repaired.backs)
+
+          pub shifted : IsShifted (shape_in c root) (shape_in q root'')
+          shifted =
+              let S : Shape → Type 0 = λ s. IsShifted (shape_in c root) s in
+              subst S (sym shape_is) (record {
+                ranked = IsRanked-balanced 1 repaired.built.shape repaired.built.balanced;
+                moved = MovesAtMost-backs 15 (slots_of c) (slots_of q) root root'' (shape_in c root) repaired.built.shape laid.held repaired.built.held moves;
+              })

@@ -1,0 +1,119 @@
+-- Ranks by index, and lists that name who has another.
+use Rattle.std.proofs.Common.{◌≡◌, ◌≢◌, ℕ, zero, suc, ◌+◌, ◌<◌, ◌≤◌, ◌⊎◌, Option, Some, List, [], ◌∷◌, ◌++◌, length, arith, refl, sym, ◌∙◌, ap, inl, inr, ⊎_elim}
+use Rattle.std.proofs.{lemmas.Grind.common_steps, lemmas.Bool.eq-eqb, lemmas.Bool.ne_eqb}
+use Rattle.ord_tree.specs.declared.tree_links.Side.TheVariants.{Lesser, Greater}
+use Rattle.ord_tree.specs.Slots.{Way, top, up, plug, here, times_in, times_way, Among}
+use Rattle.ord_tree.proofs.{Forks.here-same, Views.Contains-among}
+use Rattle.ord_tree.specs.{Potential.potential, Potential.StandsWithRank, Potential.ReranksWithin, Ranks.IsRanked, Account.IsPaid, Slots.Slots}
+use Rattle.ord_tree.specs.{Shape.Shape, Shape.missing, Shape.node, Shape.fork, Shape.root_of, Shape.rank_of, declared.tree_links.Side.Side}
+use Rattle.ord_tree.specs.Account.{rank_here, rank_in, rank_way, Names, pending}
+
+pub rank_here-same : (i k : ℕ) → rank_here i i k ≡ k
+rank_here-same i k = rw (eq-eqb i i refl) refl
+
+pub rank_here-other : (j i k : ℕ) → j ≢ i → rank_here j i k ≡ 0
+rank_here-other j i k e = rw (ne_eqb j i e) refl
+
+-- one more
+pub rank_here-next : (j i k : ℕ) → rank_here j i (k + 1) ≡ rank_here j i k + here j i
+rank_here-next j i k = grind (arith, common_steps)
+
+-- an index that stands nowhere has no rank
+pub rank_in-absent : (j : ℕ) (s : Shape) → times_in j s ≡ 0 → rank_in s j ≡ 0
+rank_in-absent j missing none = refl
+rank_in-absent j (node l i k r) none =
+    let in_l = rank_in-absent j l (omega arith) in let in_r = rank_in-absent j r (omega arith) in grind (arith, common_steps)
+
+pub rank_way-absent : (j : ℕ) (way : Way) → times_way j way ≡ 0 → rank_way way j ≡ 0
+rank_way-absent j top none = refl
+rank_way-absent j (up side i k far rest) none =
+    let in_far = rank_in-absent j far (omega arith) in let in_rest = rank_way-absent j rest (omega arith) in grind (arith, common_steps)
+
+-- the rank at the root
+pub rank_in-root : (s : Shape) (i : ℕ) → root_of s ≡ Some i → times_in i s ≤ 1 → rank_in s i ≡ rank_of s
+rank_in-root missing i e once = absurd cc
+rank_in-root (node l j k r) i e once =
+    let same : j ≡ i = cc in
+    let one : here i j ≡ 1 = ap (here i) same ∙ here-same i in
+    let in_l = rank_in-absent i l (omega (arith, once, one)) in
+    let in_r = rank_in-absent i r (omega (arith, once, one)) in
+    omega (arith, in_l, in_r, ap (λ j. rank_here i j k) same, rank_here-same i k)
+
+pub rank_in-fork : (j : ℕ) (side : Side) (near far : Shape) (i k : ℕ) → rank_in (fork side near i k far) j ≡ rank_in near j + rank_here j i k + rank_in far j
+rank_in-fork j Lesser near far i k = refl
+rank_in-fork j Greater near far i k = omega arith
+
+pub rank_in-plug : (j : ℕ) (way : Way) (s : Shape) → rank_in (plug way s) j ≡ rank_way way j + rank_in s j
+rank_in-plug j top s = omega arith
+rank_in-plug j (up side i k far rest) s = omega (arith, rank_in-plug j rest (fork side s i k far), rank_in-fork j side s far i k)
+
+-- lists in a row
+pub Among-before : (xs ys : List ℕ) (j : ℕ) → Among j xs → Among j (xs ++ ys)
+Among-before [] ys j h = elim h [ ]
+Among-before (x ∷ xs) ys j h = ⊎_elim (λ e. inl e) (λ rest. inr (Among-before xs ys j rest)) h
+
+Among-behind : (xs ys : List ℕ) (j : ℕ) → Among j ys → Among j (xs ++ ys)
+Among-behind [] ys j h = h
+Among-behind (x ∷ xs) ys j h = inr (Among-behind xs ys j h)
+
+pub Names-joined : (xs ys : List ℕ) (f g h : ℕ → ℕ) → Names xs f g → Names ys g h → Names (xs ++ ys) f h
+Names-joined xs ys f g h p q j =
+    ⊎_elim (λ in_xs. inl (Among-before xs ys j in_xs))
+    (⊎_elim (λ none. inr (inl none))
+    (λ (same : f j ≡ g j). ⊎_elim (λ in_ys. inl (Among-behind xs ys j in_ys))
+    (⊎_elim (λ (none : g j ≡ 0). inr (inl (same ∙ none))) (λ (same' : g j ≡ h j). inr (inr (same ∙ same')))) (q j))) (p j)
+
+-- y is pending, or new
+pub pending_or_new : (y low : ℕ) → Among y (pending y low) ⊎ (low ≡ 0)
+pending_or_new y zero = inr refl
+pending_or_new y (suc low) = inl (inl refl)
+
+pub pending-least : (y low : ℕ) → 0 < low → length (pending y low) ≡ 1
+pending-least y zero h = absurd (omega (arith, h))
+pending-least y (suc low) h = refl
+
+pub pending-most : (y low : ℕ) → length (pending y low) ≤ 1
+pending-most y zero = omega arith
+pending-most y (suc low) = omega arith
+
+-- an index that stands in a shape with some rank
+standing : (s : Shape) (i k : ℕ) → StandsWithRank s i k → 0 < times_in i s
+standing missing i k h = elim h [ ]
+standing (node l j m r) i k h =
+    ⊎_elim (λ (at : (i ≡ j) × (k ≡ m)). let one : here i j ≡ 1 = ap (here i) (sym at.0) ∙ here-same i in omega arith)
+    (⊎_elim (λ in_l. let some = standing l i k in_l in omega arith) (λ in_r. let some = standing r i k in_r in omega arith)) h
+
+-- is there with that rank alone, where no index stands twice
+pub rank_in-standing : (s : Shape) (i k : ℕ) → times_in i s ≤ 1 → StandsWithRank s i k → rank_in s i ≡ k
+rank_in-standing missing i k once h = elim h [ ]
+rank_in-standing (node l j m r) i k once h =
+    ⊎_elim (λ (at : (i ≡ j) × (k ≡ m)). rank_in-root (node l j m r) i (ap Some (sym at.0)) once ∙ sym at.1)
+    (⊎_elim
+    (λ in_l.
+    let some = standing l i k in_l in
+    omega (arith, rank_in-standing l i k (omega arith) in_l, rank_here-other i j m (not_here (omega arith)), rank_in-absent i r (omega arith)))
+    (λ in_r.
+    let some = standing r i k in_r in
+    omega (arith, rank_in-standing r i k (omega arith) in_r, rank_here-other i j m (not_here (omega arith)), rank_in-absent i l (omega arith)))) h
+  where
+    not_here : here i j ≡ 0 → i ≢ j
+    not_here none e = let one : here i j ≡ 1 = ap (here i) (sym e) ∙ here-same i in omega arith
+
+-- no rank is 0
+rank-positive : (s : Shape) (i k : ℕ) → IsRanked s → StandsWithRank s i k → 0 < k
+rank-positive missing i k ranked h = elim h [ ]
+rank-positive (node l j m r) i k ranked h =
+    ⊎_elim (λ (at : (i ≡ j) × (k ≡ m)). omega (arith, at.1, ranked.0.lesser)) (⊎_elim (rank-positive l i k ranked.1) (rank-positive r i k ranked.2)) h
+
+-- an account of a change of this shape, as the shapes tell it; `was` has the ranks of those that stay
+pub ReranksWithin-paid : (m : ℕ) (s : Shape) {was : ℕ → ℕ} {at : Slots} {root : Option ℕ} {order : List ℕ} (paid : IsPaid was at root order (potential s + m))
+    → ((j : ℕ) → 0 < times_in j paid.shape → was j ≡ rank_in s j) → ((j : ℕ) → times_in j s ≤ 1) → ((j : ℕ) → times_in j paid.shape ≤ 1) → IsRanked s → ReranksWithin m s paid.shape
+ReranksWithin-paid m s {was} paid stays once once' ranked = (
+  paid.named,
+  paid.within,
+  λ i k l before after.
+      let same = stays i (standing paid.shape i l after) ∙ rank_in-standing s i k (once i) before in
+      ⊎_elim (λ among. inl (Contains-among i paid.named among))
+      (⊎_elim (λ (none : was i ≡ 0). absurd (omega (arith, none, same, rank-positive s i k ranked before)))
+      (λ (e : was i ≡ rank_in paid.shape i). inr (sym same ∙ e ∙ rank_in-standing paid.shape i l (once' i) after))) (paid.names i),
+)

@@ -1,0 +1,54 @@
+-- What a node puts by, by its rank differences, and what forks and ways put by.
+use Rattle.std.proofs.Common.{◌≡◌, ℕ, ◌+◌, ◌*◌, ◌<◌, ◌≤◌, ◌⊎◌, arith, refl, ap}
+use Rattle.std.proofs.lemmas.Bool.Decides.{nat_tests}
+use Rattle.ord_tree.specs.declared.tree_links.Side.TheVariants.{Lesser, Greater}
+use Rattle.ord_tree.specs.{Slots.Way, Slots.top, Slots.up, Slots.plug, Shape.Shape, Shape.missing, Shape.node, Shape.fork, Shape.rank_of, Shape.size_of}
+use Rattle.ord_tree.specs.{Potential.put_by, Potential.potential, Account.potential_way, declared.tree_links.Side.Side}
+use Rattle.ord_tree.proofs.Forks.{rank-fork}
+
+module _ (k l r : ℕ) where
+  pub put_by-full : k ≡ l + 1 → k ≡ r + 1 → put_by k l r ≡ 1
+  unfolding put_by
+  put_by-full a b = grind (arith, nat_tests)
+
+  pub put_by-slack : k ≡ l + 2 → k ≡ r + 2 → put_by k l r ≡ 3
+  unfolding put_by
+  put_by-slack a b = grind (arith, nat_tests)
+
+  pub put_by-uneven : 2 * k ≡ l + r + 3 → put_by k l r ≡ 0
+  unfolding put_by
+  put_by-uneven a = grind (arith, nat_tests)
+
+  pub put_by-most : put_by k l r ≤ 3
+  unfolding put_by
+  put_by-most = grind (arith, nat_tests)
+
+  -- where a rank is as great as another there, the node isn't slack
+  pub put_by-tight : (k ≤ l + 1) ⊎ (k ≤ r + 1) → put_by k l r ≤ 1
+  unfolding put_by
+  put_by-tight h = grind (arith, nat_tests)
+
+  pub put_by-turned : put_by k l r ≡ put_by k r l
+  unfolding put_by
+  put_by-turned = grind (arith, nat_tests)
+
+  -- within the rank rules
+  pub put_by-cases : l < k → k ≤ l + 2 → r < k → k ≤ r + 2
+      → (2 * k ≡ l + r + 2) × (put_by k l r ≡ 1) ⊎ (2 * k ≡ l + r + 3) × (put_by k l r ≡ 0) ⊎ (2 * k ≡ l + r + 4) × (put_by k l r ≡ 3)
+  unfolding put_by
+  put_by-cases l1 l2 r1 r2 = grind (arith, nat_tests)
+
+pub potential-fork : (side : Side) (near far : Shape) (i k : ℕ) → potential (fork side near i k far) ≡ put_by k (rank_of near) (rank_of far) + potential near + potential far
+potential-fork Lesser near far i k = refl
+potential-fork Greater near far i k = omega (arith, put_by-turned k (rank_of near) (rank_of far))
+
+-- a way and what stands at its end put by what both do
+pub potential-plug : (way : Way) (s : Shape) → potential (plug way s) ≡ potential_way way (rank_of s) + potential s
+potential-plug top s = omega arith
+potential-plug (up side i k far rest) s =
+    omega (arith, potential-plug rest (fork side s i k far), potential-fork side s far i k, ap (potential_way rest) (rank-fork side s far i k))
+
+-- at most three for each node
+pub potential-le-size : (s : Shape) → potential s ≤ 3 * size_of s
+potential-le-size missing = omega arith
+potential-le-size (node l i k r) = omega (arith, potential-le-size l, potential-le-size r, put_by-most k (rank_of l) (rank_of r))

@@ -1,0 +1,19 @@
+-- An entry that goes to another place of the list.
+use Rattle.std.specs.Prelude.{◌≡◌, ℕ, ◌<◌, Option, None, List}
+use Rattle.ord_tree.specs.{declared.tree_links.Side.Side, Shape.Shape, Shape.walk, Ranks.IsRanked, Parents.MovesAtMost}
+use Rattle.ord_tree.specs.{Slots.Slots, Slots.Holds, Slots.times, Slots.IsOnce, Leaf.neighbour_in}
+
+-- what becomes of the shape: at most fifteen entries get another parent
+pub record IsShifted (old new : Shape) : Type 0 where
+  pub ranked : IsRanked new
+  pub moved : MovesAtMost 15 old new
+
+-- Nodes spell a tree over `order`, in which y stands. In the list `whole`, x stands between y and its neighbour on that side.
+-- No public clause cites it.
+pub record IsAside (at : Slots) (root : Option ℕ) (order whole : List ℕ) (side : Side) (y x : ℕ) : Type 0 where
+  pub shape : Shape
+  pub held : Holds at None root shape
+  pub listed : walk shape ≡ order
+  pub once : IsOnce order
+  pub within : 0 < times y order
+  pub facing : neighbour_in side x whole ≡ neighbour_in side y order

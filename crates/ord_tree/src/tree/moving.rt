@@ -1,0 +1,85 @@
+//! Moving an entry in the list.
+
+ghost use Rattle.std.specs.Prelude.{◌≡◌, ℕ, List, Option, Some};
+ghost use Rattle.chain_base.specs.Chain.{IsOccupied};
+ghost use Rattle.chain_base.specs.Move.{relisted, unlisted};
+ghost use Rattle.ord_tree.specs.Node.{indexes, slots_of};
+ghost use Rattle.ord_tree.specs.Tree.{put_on, CanPutAt};
+ghost use Rattle.ord_tree.specs.Move.{IsShifted, IsAside};
+ghost use Rattle.ord_tree.specs.LeafBranch.{IsLeafBranch};
+
+use super::OrdTree;
+use super::insert::{kind_of, neighbour, side_of};
+use crate::detach::detach;
+use crate::leaf::add_leaf;
+use crate::node::SimpleOrdArenaNode;
+use crate::node_inx::{NodeInx, node_at};
+use crate::nodes::Nodes;
+use crate::tree_links::{Branch, Side, TreeLinks};
+use arena_base::Ptr;
+use chain_base::ChainArena;
+use std::alloc::Allocator;
+use std::cmp::Ordering;
+
+impl<P: Ptr, T, A: Allocator> OrdTree<P, T, A> {
+    /// Takes the entry at an index that has one out of the list and puts it back directly before (`Less`) or after (`Greater`)
+    /// another. It keeps its index, its generation and its item, and so its pointer. Every other entry keeps its order, and at
+    /// most fifteen get another parent.
+    ///
+    /// Beside its own neighbour it comes to stand where it stood. For n entries it takes O(log n) time, and no memory.
+    pub fn move_beside(&mut self, i: P::Inx, at: (P::Inx, Ordering))
+        requires entry { IsOccupied self.old.list (P.Inx.number i) }
+        requires place { CanPutAt P.Inx.number (Some at) (unlisted self.old.list (P.Inx.number i)) }
+        ensures list { self.new.list ≡ relisted self.old.list (P.Inx.number i) (put_on at.1 (P.Inx.number at.0)) }
+        ensures shape { IsShifted self.old.shape self.new.shape }
+    {
+        prove!(self.chain.len() <= self.chain.capacity());
+        let z = node_at(&self.chain, i);
+        let before = neighbour(&self.chain, z, Side::Lesser);
+        detach(&mut self.chain, &mut self.root, z, before);
+        self.chain.move_beside(i, kind_of(Some(at)));
+        let y = node_at(&self.chain, at.0);
+        let branch = branch_across(&self.chain, y, side_of(at.1), z);
+        let leaf = TreeLinks {
+            back: Some(branch.parent),
+            lesser: None,
+            greater: None,
+            rank: 1,
+        };
+        self.chain.set_links(z, leaf);
+        add_leaf(
+            &mut self.chain,
+            &mut self.root,
+            branch.side,
+            branch.parent,
+            z,
+        );
+    }
+}
+
+// The branch of a leaf x that stands in the list directly beside y, on that side, and not yet in the tree: there where nothing
+// hangs, else under the neighbour of x on that side, of which the facing side is free then.
+fn branch_across<P: Ptr, T, A: Allocator>(
+    chain: &ChainArena<P, SimpleOrdArenaNode<P, T>, A>,
+    y: NodeInx<P::Inx>,
+    side: Side,
+    x: NodeInx<P::Inx>,
+) -> Branch<NodeInx<P::Inx>>
+    requires beside { IsOccupied chain.now (P.Inx.number y) }
+    requires leaf { IsOccupied chain.now (P.Inx.number x) }
+    requires aside { (root : Option ℕ) × (order : List ℕ)
+        × IsAside (slots_of chain.now) root order (indexes chain.now.entries) side (P.Inx.number y) (P.Inx.number x) }
+    ensures { (root : Option ℕ) (order : List ℕ)
+        → IsAside (slots_of chain.now) root order (indexes chain.now.entries) side (P.Inx.number y) (P.Inx.number x)
+        → IsLeafBranch P.Inx.number (P.Inx.number y) side (slots_of chain.now) order result }
+{
+    let links = chain.links(y);
+    if links.child(side).is_none() {
+        return Branch { parent: y, side };
+    }
+    let parent = neighbour(chain, x, side).unwrap();
+    Branch {
+        parent,
+        side: side.other(),
+    }
+}

@@ -1,0 +1,31 @@
+use Rattle.triple_ord.proofs.Words.{sym}
+use Rattle.triple_ord.proofs.Rekeying.{can_stay, can_go, rekeyed_by}
+use Rattle.triple_ord.proofs.arena.SimpleOrdArena.rekey.Goals as goal
+
+pub go_beside-requires-clause-entry : goal.go_beside-requires-clause-entry
+go_beside-requires-clause-entry g c =
+    can_stay g.P.Ptr.numbers g.T.SimpleOrdItem.key_of g.T.Key.Ord.cmp c.args.self.now c.replace-before.new.self c.args.self.now c.len.ensures.sound.distinct (g.P.Ptr.numbers c.args.p) c.args.t
+    (sym c.if-not-contains.ensures) c.search-found.result.1 (rw c.inx.ensures at c.replace-before.ensures.after)
+
+pub go_beside-requires-clause-place : goal.go_beside-requires-clause-place
+go_beside-requires-clause-place g c =
+    can_go g.P.Ptr.numbers g.T.SimpleOrdItem.key_of g.T.Key.Ord.cmp c.args.self.now c.replace-before.new.self c.args.self.now c.len.ensures.sound.distinct (g.P.Ptr.numbers c.args.p) c.args.t
+    (sym c.if-not-contains.ensures) c.search-found.result.1 (rw c.inx.ensures at c.replace-before.ensures.after) c.search-found.result.0 (rw c.key.ensures at c.search-found.ensures.found)
+
+pub returns-clause-rekeys : goal.returns-clause-rekeys
+returns-clause-rekeys g c =
+    (rekeyed_by g.P.Ptr.numbers g.T.SimpleOrdItem.key_of g.T.Key.Ord.cmp c.args.self.now c.replace-before.new.self c.go_beside.new.self c.len.ensures.sound.distinct (g.P.Ptr.numbers c.args.p) c.args.t
+    (sym c.if-not-contains.ensures) c.search-found.result.1 (rw c.inx.ensures at c.replace-before.ensures.after) c.search-found.result.0 (rw c.key.ensures at c.search-found.ensures.found)
+    c.go_beside.ensures.stays c.go_beside.ensures.list c.go_beside.ensures.shape).rekeys
+
+pub returns-clause-updates : goal.returns-clause-updates
+returns-clause-updates g c =
+    (rekeyed_by g.P.Ptr.numbers g.T.SimpleOrdItem.key_of g.T.Key.Ord.cmp c.args.self.now c.replace-before.new.self c.go_beside.new.self c.len.ensures.sound.distinct (g.P.Ptr.numbers c.args.p) c.args.t
+    (sym c.if-not-contains.ensures) c.search-found.result.1 (rw c.inx.ensures at c.replace-before.ensures.after) c.search-found.result.0 (rw c.key.ensures at c.search-found.ensures.found)
+    c.go_beside.ensures.stays c.go_beside.ensures.list c.go_beside.ensures.shape).updates
+
+pub returns-clause-count : goal.returns-clause-count
+returns-clause-count g c =
+    (rekeyed_by g.P.Ptr.numbers g.T.SimpleOrdItem.key_of g.T.Key.Ord.cmp c.args.self.now c.replace-before.new.self c.go_beside.new.self c.len.ensures.sound.distinct (g.P.Ptr.numbers c.args.p) c.args.t
+    (sym c.if-not-contains.ensures) c.search-found.result.1 (rw c.inx.ensures at c.replace-before.ensures.after) c.search-found.result.0 (rw c.key.ensures at c.search-found.ensures.found)
+    c.go_beside.ensures.stays c.go_beside.ensures.list c.go_beside.ensures.shape).counted
