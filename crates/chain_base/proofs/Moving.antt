@@ -3,7 +3,7 @@ use Rattle.std.proofs.Common.{◌≡◌, ◌≢◌, ℕ, ◌+◌, ◌≤◌, ◌
 use Rattle.std.proofs.{lemmas.Bool.Decides.eqb_tells, lemmas.Grind.common_steps}
 use Rattle.arena_base.specs.{Arena.Arena, Arena.slot, Pointer.named_of}
 use Rattle.chain_base.specs.Chain.{Entry, Chain, IsDistinct, times, entry_at, first_or, last_or, link_at, without, IsSound}
-use Rattle.chain_base.specs.{Layout.chain_of, Layout.relinked, Layout.linked_next, Layout.linked_prev, Layout.IsLaidOut, Insert.PutsBetween, Move.relisted, Move.put_back, Move.HoldsLinks, Link.Link}
+use Rattle.chain_base.specs.{Layout.chain_of, Layout.relinked, Layout.linked_next, Layout.linked_prev, Layout.IsLaidOut, Insert.PutsBetween, Move.with_entry_moved, Move.list_with, Move.HoldsLinks, Link.Link}
 use Rattle.chain_base.proofs.LaidOut.{IsChainIn, Alike, alike-next, alike-prev, alike-bridged, bridged, end_beside, link_amid, laid-links, relinked-apart, slot-relinked, slots-inserted, slots-removed}
 use Rattle.chain_base.proofs.Lists.{Stands-occurs, entry_at-absent, entry_at-link, entry_at-some, linked-occurs, times-append, times-here, times-first, times-last, link_between-append, link_between-absent, same_index, other_index, last_or-append, first_or-append}
 use Rattle.chain_base.proofs.{Steps.Lies, Steps.lies-alike, Steps.held-laid, Steps.first_or-end, Steps.last_or-end, Vacancy.held-is, Exchanging.occupied-named}
@@ -49,8 +49,8 @@ module _ {T : Type 0} where
               | inr h ↦ rw h.0 refl
             ]
 
-        pub slots-relisted : relinked (last_or None xs2) (Some e.index) (first_or None ys2) (Some e.index) k lifted ≡ link_at (xs2 ++ e ∷ ys2) k
-        slots-relisted =
+        pub slots-with_entry_moved : relinked (last_or None xs2) (Some e.index) (first_or None ys2) (Some e.index) k lifted ≡ link_at (xs2 ++ e ∷ ys2) k
+        slots-with_entry_moved =
             let sum : (j : ℕ) → times j xs + times j ys ≡ times j xs2 + times j ys2 = λ j. sym (times-append j xs ys) ∙ ap (times j) split ∙ times-append j xs2 ys2 in
             let absent : times e.index xs2 + times e.index ys2 ≡ 0
             = omega (arith, sum e.index, times-append e.index xs (e ∷ ys), times-here e.index e ys refl, distinct e.index) in
@@ -87,7 +87,7 @@ module _ {T : Type 0} where
             (slot-relinked closed (Some e.index) (first_or None ys2) (Some e.index) (last_or None xs2) k
             ∙ ap (relinked (Some e.index) (first_or None ys2) (Some e.index) (last_or None xs2) k)
             (slot-relinked a (last_or None xs) (first_or None ys) (first_or None ys) (last_or None xs) k))
-            ∙ slots-relisted k (slot a k) (laid.links k) xs2 ys2 split)
+            ∙ slots-with_entry_moved k (slot a k) (laid.links k) xs2 ys2 split)
             (λ k. omega (arith, times-put xs2 ys2 split k, distinct k))
             (sym (first_or-append None xs2 (e ∷ ys2))) (sym (last_or-append None xs2 (e ∷ ys2)))
 
@@ -182,12 +182,12 @@ module _ {T : Type 0} where
       closed-holding = rw (closed-is, st.rest) (closed-holds st.front st.entry st.back laid_split.distinct a first last laid_split)
 
       module _ (place : List (Entry T) → Entry T → List (Entry T)) (left right : Option ℕ) (at : PutsBetween (without i c.entries) (place (without i c.entries)) left right) where
-        relisted-is : relisted c i place ≡ record c { entries = at.front ++ st.entry ∷ at.back }
-        relisted-is =
+        with_entry_moved-is : with_entry_moved c i place ≡ record c { entries = at.front ++ st.entry ∷ at.back }
+        with_entry_moved-is =
             let found : entry_at c.entries i ≡ Some (e.0, e.1.item)
             = entry_at-link None None c.entries i ∙ ap (option_map (λ (x : ℕ × Link T). (x.0, x.1.item))) (sym (st.laid.links i) ∙ st.held) in
             let whole : record { index = i; generation = e.0; item = e.1.item } ≡ st.entry = rw (st.index, st.was) refl in
-            ap (λ es. record c { entries = es }) (ap (λ o. put_back place i o (without i c.entries)) found ∙ ap (place (without i c.entries)) whole ∙ at.puts st.entry)
+            ap (λ es. record c { entries = es }) (ap (λ o. list_with place i o (without i c.entries)) found ∙ ap (place (without i c.entries)) whole ∙ at.puts st.entry)
 
         named-occurs : (o : Option ℕ) → ((k : ℕ) → o ≡ Some k → 1 ≤ times k c.entries) → named_of most o ≡ o
         named-occurs None there = refl
@@ -203,7 +203,7 @@ module _ {T : Type 0} where
             (b2 b3 b4 : Arena (Link T)) (made2 : b2 ≡ linked_next b1 (Some i) (named_of most right)) (made3 : b3 ≡ linked_prev b2 (Some i) (named_of most left))
             (made4 : b4 ≡ bridged b3 left (named_of most (Some i)) right (named_of most (Some i))) (first2 last2 : Option ℕ)
             (first2_is : first2 ≡ end_beside left first1 (Some i)) where
-          pub Moves-linked : last2 ≡ end_beside right last1 (Some i) → Lies b4 first2 last2 (relisted c i place)
+          pub Moves-linked : last2 ≡ end_beside right last1 (Some i) → Lies b4 first2 last2 (with_entry_moved c i place)
           Moves-linked last2_is =
               let split : st.front ++ st.back ≡ at.front ++ at.back = sym st.rest ∙ at.split in
               let done = Lies-put st.front st.entry st.back laid_split.distinct a first last laid_split at.front at.back split in
@@ -233,8 +233,8 @@ module _ {T : Type 0} where
               = first2_is ∙ ap (λ (o : Option ℕ). end_beside left o (Some i)) first1_is ∙ rw (prev2, next2, at.prev_is, st.index) refl in
               let last_at : last2 ≡ end_beside behind (end_beside (first_or None st.back) last (last_or None st.front)) (Some j)
               = last2_is ∙ ap (λ (o : Option ℕ). end_beside right o (Some i)) last1_is ∙ rw (prev2, next2, at.next_is, st.index) refl in
-              let chain : relisted c i place ≡ record (chain_of a first) { entries = at.front ++ st.entry ∷ at.back }
-              = relisted-is ∙ ap (λ (d : Chain T). record d { entries = at.front ++ st.entry ∷ at.back }) (sym st.seen) in
+              let chain : with_entry_moved c i place ≡ record (chain_of a first) { entries = at.front ++ st.entry ∷ at.back }
+              = with_entry_moved-is ∙ ap (λ (d : Chain T). record d { entries = at.front ++ st.entry ∷ at.back }) (sym st.seen) in
               rw (arena, first_at, last_at, chain) done
 
   -- an entry of a list, where the slots hold the list's links

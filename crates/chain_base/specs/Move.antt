@@ -4,18 +4,18 @@ use Rattle.arena_base.specs.Arena.{Arena, slot}
 use Rattle.chain_base.specs.{Chain.Entry, Chain.Chain, Chain.times, Chain.entry_at, Chain.link_at, Chain.without, Link.Link}
 
 module _ {T : Type 0} where
-  -- the list with the entry of index i put back by `place`, where it was found
-  abbrev pub put_back : (List (Entry T) → Entry T → List (Entry T)) → ℕ → Option (ℕ × T) → List (Entry T) → List (Entry T)
-  put_back place i None es = es
-  put_back place i (Some e) es = place es (record { index = i; generation = e.0; item = e.1 })
+  -- the list with an entry of index i, if there is one, put into it by `place`
+  abbrev pub list_with : (List (Entry T) → Entry T → List (Entry T)) → ℕ → Option (ℕ × T) → List (Entry T) → List (Entry T)
+  list_with place i None es = es
+  list_with place i (Some e) es = place es (record { index = i; generation = e.0; item = e.1 })
 
-  -- c without the entry of index i in its list
-  abbrev pub unlisted : Chain T → ℕ → Chain T
-  unlisted c i = record c { entries = without i c.entries }
+  -- c, with the entry of index i missing in its list; its index is not vacant
+  abbrev pub without_entry : Chain T → ℕ → Chain T
+  without_entry c i = record c { entries = without i c.entries }
 
-  -- c, the entry of index i taken out of the list and put back by `place`
-  abbrev pub relisted : Chain T → ℕ → (List (Entry T) → Entry T → List (Entry T)) → Chain T
-  relisted c i place = record c { entries = put_back place i (entry_at c.entries i) (without i c.entries) }
+  -- c, with the entry of index i at another place: `place` puts it into the list without it
+  abbrev pub with_entry_moved : Chain T → ℕ → (List (Entry T) → Entry T → List (Entry T)) → Chain T
+  with_entry_moved c i place = record c { entries = list_with place i (entry_at c.entries i) (without i c.entries) }
 
   -- the slots of these entries hold their links. No public clause cites it.
   abbrev pub HoldsLinks : Arena (Link T) → List (Entry T) → Type 0

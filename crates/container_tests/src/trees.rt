@@ -1,4 +1,5 @@
 //! Trees of small keys, kept in order by hand, seen through the chain's nodes.
+mod amortized;
 mod balance;
 mod memory;
 mod rebuild;
@@ -110,4 +111,47 @@ fn moved(old: &[Place], new: &[Place]) -> usize {
         }
     }
     moved
+}
+
+/// The rank of a child.
+fn rank_at(places: &[Place], index: Option<u32>) -> u8 {
+    match places.iter().find(|place| Some(place.index) == index) {
+        Some(place) => place.rank,
+        None => 0,
+    }
+}
+
+/// How much higher a node's rank is than that of each child.
+fn steps(places: &[Place], place: &Place) -> (u8, u8) {
+    let (lesser, greater) = place.children;
+    (
+        place.rank.saturating_sub(rank_at(places, lesser)),
+        place.rank.saturating_sub(rank_at(places, greater)),
+    )
+}
+
+/// The potential of a tree: one for each full node, three for each slack one.
+fn potential(places: &[Place]) -> usize {
+    let mut potential: usize = 0;
+    for place in places {
+        potential = potential.saturating_add(match steps(places, place) {
+            (1, 1) => 1,
+            (2, 2) => 3,
+            _ => 0,
+        });
+    }
+    potential
+}
+
+/// How many indexes of the first list have another rank in the second.
+fn rank_changes(old: &[Place], new: &[Place]) -> usize {
+    let mut changes: usize = 0;
+    for before in old {
+        for after in new {
+            if after.index == before.index && after.rank != before.rank {
+                changes = changes.saturating_add(1);
+            }
+        }
+    }
+    changes
 }

@@ -2,12 +2,12 @@
 use Rattle.std.proofs.Common.{◌≡◌, ℕ, inl, inr, List, [], ◌∷◌, ◌++◌, length, map, Some, None, refl, sym, ap, subst, ◌∙◌, arith, length-append}
 use Rattle.std.specs.declared.cmp.Ordering.{Ordering}
 use Rattle.chain_base.specs.Chain.{Entry, Chain, next_index, inserted, with_room}
-use Rattle.ord_tree.specs.{Shape.Shape, Shape.missing, Shape.node, Shape.walk, Tree.Tree, Tree.IsSoundTree, Ranks.IsRanked}
+use Rattle.ord_tree.specs.{Shape.Shape, Shape.missing, Shape.node, Shape.walk, Tree.Tree, Tree.IsSoundTree, Ranks.IsRanked, Ranks.HasRank}
 use Rattle.triple_ord.specs.declared.entry_kind.OrdEntryKind.TheVariants.{New, Replacing}
 use Rattle.triple_ord.specs.{declared.error.OrdInsertionError.TheVariants.AllocError, declared.error.OrdInsertionError.OrdInsertionError}
-use Rattle.triple_ord.specs.{Insertion.reallocating, Insertion.InsertsNew, ClosureSearch.Shown, Gap.with_between, Place.at_key, Node.IsPart}
+use Rattle.triple_ord.specs.{Insertion.reallocating, Insertion.InsertsNew, ClosureSearch.Shown, Gap.with_between, Place.at_key}
 use Rattle.ord_machine.specs.declared.reply.Reply.TheVariants.{Inserted, Refused, Ranks}
-use Rattle.ord_machine.specs.Machine.{Reading, HasRank, HaveRanks, Inserts, Ranked}
+use Rattle.ord_machine.specs.Machine.{Reading, HaveRanks, Inserts, Ranked}
 use Rattle.ord_machine.specs.{Laws.AreFirstReplies, Laws.FirstRankLaw, declared.reply.Reply.Reply}
 
 -- where nothing is cut in two, both parts are nothing
@@ -15,16 +15,12 @@ no_parts : {X : Type 0} (front back : List X) → [] ≡ front ++ back → (fron
 no_parts [] back cut = (refl, sym cut)
 no_parts (x ∷ front) back cut = cc
 
--- the only node has a single rank
-same_rank : (lesser greater : Shape) (i j k m : ℕ) → IsPart (node lesser i k greater) (node missing j m missing) → k ≡ m
-same_rank lesser greater i j k m (inl whole) = cc
-same_rank lesser greater i j k m (inr (inl part)) = cc
-same_rank lesser greater i j k m (inr (inr part)) = cc
-
--- which is 1
+-- the rank of the only node is 1
 only_rank : (shape : Shape) (i k : ℕ) → walk shape ≡ i ∷ [] → IsRanked shape → HasRank shape i k → k ≡ 1
-only_rank missing i k listed ranked has = cc
-only_rank (node missing j m missing) i k listed ranked has = same_rank has.0 has.1 i j k m has.2 ∙ ranked.0.leaf refl refl
+only_rank missing i k listed ranked has = absurd has
+only_rank (node missing j m missing) i k listed ranked (inl here) = here.1 ∙ ranked.0.leaf refl refl
+only_rank (node missing j m missing) i k listed ranked (inr (inl none)) = absurd none
+only_rank (node missing j m missing) i k listed ranked (inr (inr none)) = absurd none
 only_rank (node (node a b c d) j m r) i k listed ranked has =
     absurd (omega (arith, ap length listed, length-append (walk a ++ b ∷ walk d) (j ∷ walk r), length-append (walk a) (b ∷ walk d)))
 only_rank (node missing j m (node a b c d)) i k listed ranked has = absurd (omega (arith, ap length listed, length-append (walk a) (b ∷ walk d)))

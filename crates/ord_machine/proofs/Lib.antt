@@ -12,4 +12,4 @@ pub mod Outcomes
 pub mod Ended
 pub mod Kept
 pub mod Ascending
-pub mod Reranking
+pub mod RankChanges

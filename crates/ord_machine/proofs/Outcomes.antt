@@ -8,7 +8,7 @@ use Rattle.arena_base.specs.Generation.{next_generation}
 use Rattle.chain_base.specs.Chain.{Entry, Chain, renewed, removed, times, IsDistinct, entry_at, item_of, without, with_item_among, with_generation}
 use Rattle.chain_base.specs.{Compression.at_compressed_index, Compression.numbered, Insert.IsInsertion}
 use Rattle.chain_base.proofs.CallerLemmas.{after-insertion, entry_at-absent, entry_at-between_other, generation-relocated, generation-numbered}
-use Rattle.ord_tree.specs.{Shape.Shape, Shape.missing, Half.IsRebuilt, Ranks.IsTight, Tree.Tree, Potential.ReranksWithin}
+use Rattle.ord_tree.specs.{Shape.Shape, Shape.missing, Half.IsRebuilt, Ranks.IsTight, Tree.Tree, Potential.ChangesRanksWithin}
 use Rattle.triple_ord.specs.Place.{Aim, alone, at_key, behind_key, beside, into, over, IsPlace, aim_of}
 use Rattle.triple_ord.specs.declared.error.OrdInsertionError.TheVariants.{BeyondMaxCapacity, AllocError}
 use Rattle.triple_ord.specs.declared.insert_kind.OrdInsertKind.TheVariants.{Normal, Linear}
@@ -117,8 +117,8 @@ pub data Change {P T I G K : Type 0} (r : Reading P T I G K) (old new : Chain T)
 
 -- what an effect says of the shapes before and after it
 abbrev pub Affects : Effect → Shape → Shape → Type 0
-Affects adds old new = (IsTight old → IsTight new) × (ReranksWithin 4 old new ⊎ (new ≡ old))
-Affects removes old new = ReranksWithin 9 old new ⊎ (new ≡ old)
+Affects adds old new = (IsTight old → IsTight new) × (ChangesRanksWithin 4 old new ⊎ (new ≡ old))
+Affects removes old new = ChangesRanksWithin 9 old new ⊎ (new ≡ old)
 Affects rebuilds old new = IsRebuilt new
 Affects keeps old new = (new ≡ old) ⊎ (new ≡ missing)
 
@@ -185,7 +185,7 @@ module _ {P T I G K : Type 0} (r : Reading P T I G K) (s : State T) (new : Tree 
 
     lost : (i : ℕ) → IsTakenOut r.greatest s.tree i new → Spares s.tree.list Of i → Outcome r s.tree new removes back 1 Of Keeps
     lost i is spares =
-        record { affects = inl is.1.reranked; raised = λ _. ap (λ c. c.generation) is.0; change = λ _. leaves i (ap (λ c. c.entries) is.0) (omega arith) spares }
+        record { affects = inl is.1.rank_changes; raised = λ _. ap (λ c. c.generation) is.0; change = λ _. leaves i (ap (λ c. c.entries) is.0) (omega arith) spares }
 
     again : (q : ℕ × ℕ) → IsSome (item_of es q) → new ≡ record s.tree { list = renewed r.greatest s.tree.list q.0 } → ((p : ℕ × ℕ) → Of p → q ≢ p)
         → Outcome r s.tree new keeps back 1 Of Keeps
@@ -219,7 +219,7 @@ module _ {P T I G K : Type 0} (r : Reading P T I G K) (s : State T) (new : Tree 
         let i = (r.pointer q).0 in
         let after = is-put room new.list (with_between does.gap) item i (r.pointer q).1 does.inserted in
         record {
-          affects = (does.grown.tight, inl does.grown.reranked);
+          affects = (does.grown.tight, inl does.grown.rank_changes);
           raised = λ _. after.1 ∙ era;
           change = λ _. comes does.gap i item (record {
             list = after.0 ∙ ap (λ g. does.gap.front ++ record { index = i; generation = g; item = item } ∷ does.gap.back) era;

@@ -3,7 +3,9 @@ use Rattle.std.proofs.Common.{◌≡◌, ℕ, List, [], ◌∷◌, ◌++◌, inl
 use Rattle.std.proofs.lemmas.Bool.Decides.{eqb_tells}
 use Rattle.chain_base.specs.Chain.{Entry, link_at, link_between}
 use Rattle.ord_tree.specs.Shape.{Shape}
-use Rattle.ord_machine.specs.Machine.{HasRank, HaveRanks}
+use Rattle.ord_tree.specs.{Shape.missing, Shape.node, Ranks.HasRank}
+use Rattle.triple_ord.specs.Node.{IsPart}
+use Rattle.ord_machine.specs.Machine.{HaveRanks}
 
 module _ {T : Type 0} where
   -- an entry of a list has a link
@@ -17,6 +19,13 @@ module _ {T : Type 0} where
   link_next all done rest left e i cut next is =
       let there = subst (λ (k : ℕ). IsSome (link_at (done ++ e ∷ left) k)) (sym is) (link_there None None done left e) in
       subst (λ (es : List (Entry T)). IsSome (link_at es i)) (ap (λ r. done ++ r) (sym next) ∙ cut) there
+
+-- a node of the shape has the rank that it shows
+pub HasRank-part : (shape l r : Shape) (i k : ℕ) → IsPart (node l i k r) shape → HasRank shape i k
+HasRank-part missing l r i k part = cc
+HasRank-part (node lesser j m greater) l r i k (inl whole) = inl (cc, cc)
+HasRank-part (node lesser j m greater) l r i k (inr (inl part)) = inr (inl (HasRank-part lesser l r i k part))
+HasRank-part (node lesser j m greater) l r i k (inr (inr part)) = inr (inr (HasRank-part greater l r i k part))
 
 -- one more rank
 module _ {T : Type 0} (shape : Shape) (e : Entry T) (k : ℕ) (has : HasRank shape e.index k) where

@@ -3,4 +3,4 @@ pub mod Machine
 pub mod Laws
 pub mod Pointers
 pub mod Ascending
-pub mod Reranking
+pub mod RankChanges

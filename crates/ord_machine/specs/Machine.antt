@@ -7,10 +7,10 @@ use Rattle.arena_base.specs.Compression.{compressed_generation, compression_over
 use Rattle.arena_base.specs.Generation.{overflows_after}
 use Rattle.chain_base.specs.Chain.{Entry, Chain, IsSound, entry_at, item_of, link_at, first_pointer, last_pointer, removed, renewed, cleared, raised, chain_limit, greatest_index, with_capacity}
 use Rattle.chain_base.specs.{Compression.relocated, Compression.canonical, Link.Link}
-use Rattle.ord_tree.specs.{Tree.Tree, Tree.IsSoundTree, Tree.IsShrunk, Tree.with_item, Shape.Shape, Shape.missing, Shape.node}
-use Rattle.ord_tree.specs.{Numbers.fib, Numbers.HasDigits, Half.IsRebuilt, Ranks.IsTight}
+use Rattle.ord_tree.specs.{Tree.Tree, Tree.IsSoundTree, Tree.IsShrunk, Tree.with_item, Shape.Shape, Shape.missing}
+use Rattle.ord_tree.specs.{Numbers.fib, Numbers.HasDigits, Half.IsRebuilt, Ranks.IsTight, Ranks.HasRank}
 use Rattle.triple_ord.specs.declared.error.OrdInsertionError.TheVariants.{BeyondMaxCapacity, AllocError}
-use Rattle.triple_ord.specs.{Insertion.Growth, Insertion.within, Insertion.reallocating, Insertion.InsertsBy, Hint.IsNearHint, Node.IsPart}
+use Rattle.triple_ord.specs.{Insertion.Growth, Insertion.within, Insertion.reallocating, Insertion.InsertsBy, Hint.IsNearHint}
 use Rattle.triple_ord.specs.{ClosureSearch.Shown, ClosureSearch.FindsWith, ClosureSearch.FindsSimilarWith, Order.IsInOrder}
 use Rattle.triple_ord.specs.{declared.error.OrdInsertionError.OrdInsertionError, declared.entry_kind.OrdEntryKind.TheVariants.New}
 use Rattle.triple_ord.specs.{declared.entry_kind.OrdEntryKind.OrdEntryKind, Place.Aim, Place.at_key, Place.aim_of}
@@ -102,10 +102,6 @@ removed_each greatest c (e ∷ es) = removed_each greatest (removed greatest c e
 -- a pointer with an item, as an entry
 abbrev pub entry_of : {P T : Type 0} → (P → ℕ × ℕ) → P × T → Entry T
 entry_of pointer pair = record { index = (pointer pair.0).0; generation = (pointer pair.0).1; item = pair.1 }
-
--- the node of index i has rank k in the shape
-abbrev pub HasRank : Shape → ℕ → ℕ → Type 0
-HasRank shape i k = (lesser greater : Shape) × IsPart (node lesser i k greater) shape
 
 -- each entry's node has this rank in the shape, one after another
 abbrev pub HaveRanks : {T : Type 0} → Shape → List (Entry T) → List ℕ → Type 0

@@ -4,7 +4,7 @@ ghost use Rattle.triple_ord.specs.ClosureSearch.{Asks};
 ghost use Rattle.ord_machine.specs.Ascending.{AscendingKeysLaw};
 ghost use Rattle.ord_machine.specs.Laws.{FirstRankLaw};
 ghost use Rattle.ord_machine.specs.Pointers.{EndedPointerLaw, KeptPointerLaw};
-ghost use Rattle.ord_machine.specs.Reranking.{RankChangesLaw};
+ghost use Rattle.ord_machine.specs.RankChanges.{RankChangesLaw};
 
 use arena_base::Ptr;
 use std::alloc::Allocator;
@@ -34,8 +34,11 @@ pub fn ascending_keys_law<P: Ptr, T: SimpleOrdItem, F: FnMut(P, &T) -> Ordering,
     ensures { AscendingKeysLaw P T P.Inx P.Gen A T.Key (Asks P.numbers F.step) }
 {}
 
-/// Along any run in which the tree is not built anew, entries get another rank at most 4 times for each entry that came, 9 times for
-/// each that was taken out, and 3 times for each that was there at first.
+/// The ranks of old entries change at most 4m + 9d + 3n times in a run of m insertions of new entries and d removals that begins with
+/// n entries and has no compression: the amortized bound of rank-balanced trees (Haeupler, Sen and Tarjan, 2015).
+///
+/// A run that begins without entries has n = 0, and a run after a rebuild begins with the entries that were rebuilt. An insertion that
+/// replaces an item changes no rank, and neither does a command that only asks.
 pub fn rank_changes_law<P: Ptr, T: SimpleOrdItem, F: FnMut(P, &T) -> Ordering, A: Allocator>()
     ensures { RankChangesLaw P T P.Inx P.Gen A T.Key (Asks P.numbers F.step) }
 {}

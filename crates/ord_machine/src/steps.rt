@@ -6,7 +6,8 @@ ghost use Rattle.ord_tree.specs.Shape.{missing};
 ghost use Rattle.triple_ord.specs.ClosureSearch.{Asks};
 ghost use Rattle.triple_ord.specs.Insertion.{within, reallocating, told};
 ghost use Rattle.triple_ord.specs.Place.{at_key, aim_of};
-ghost use Rattle.ord_machine.specs.Machine.{Marks, AreTrue, Inserts, insertion_reply, Sets, Removes, RemovesAt, Renews, Changes, Rebuilds, Reserves, SetsMaximum, Finds, FindsFrom, FindsNear, FindsNearFrom, AnswersWith, AnswersSimilarWith, Visits, Gets, IsEnd, HasNeighbours, Lists, entry_of, Ranked, HasRank, HaveRanks, Drains, removed_each, Checks, Counts};
+ghost use Rattle.ord_tree.specs.Ranks.{HasRank};
+ghost use Rattle.ord_machine.specs.Machine.{Marks, AreTrue, Inserts, insertion_reply, Sets, Removes, RemovesAt, Renews, Changes, Rebuilds, Reserves, SetsMaximum, Finds, FindsFrom, FindsNear, FindsNearFrom, AnswersWith, AnswersSimilarWith, Visits, Gets, IsEnd, HasNeighbours, Lists, entry_of, Ranked, HaveRanks, Drains, removed_each, Checks, Counts};
 
 use crate::reply::Reply;
 use arena_base::{ItemsMut, Ptr, ReallocationError};

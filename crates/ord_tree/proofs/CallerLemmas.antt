@@ -7,7 +7,7 @@ pub use Rattle.ord_tree.proofs.LeafBranches.{times-indexes}
 pub use Rattle.ord_tree.proofs.Halves.{size_of-walk}
 pub use Rattle.ord_tree.proofs.Trees.{height-le-size}
 -- an index that stands in a shape once stands there with one rank
-pub use Rattle.ord_tree.proofs.Naming.{rank_in-standing}
+pub use Rattle.ord_tree.proofs.RankChanges.{rank_in-standing}
 pub use Rattle.ord_tree.proofs.Forks.{times-walk}
--- a shape puts by three at most for each node
-pub use Rattle.ord_tree.proofs.Saving.{potential-le-size}
+-- the potential of a shape is at most three for each node
+pub use Rattle.ord_tree.proofs.Potentials.{potential-le-size}

@@ -13,10 +13,10 @@ use Rattle.ord_tree.proofs.Frames.{LastStep, last_step, no_step, occupied-above,
 use Rattle.ord_tree.proofs.{Spots.Spot, Spots.spot_in, Spots.plug_balanced, Spots.Around, Spots.around, NewLeaf.rootless}
 use Rattle.ord_tree.proofs.{Rotations.above-in, Rotations.occupied-link, Rotations.cases_link, Demoting.IsBranchOf, Demoting.BuiltOrFallen}
 use Rattle.ord_tree.proofs.Doubles.{Among-root, length-root}
-use Rattle.ord_tree.specs.{Potential.put_by, Potential.potential}
-use Rattle.ord_tree.specs.Account.{potential_way, rank_in, rank_way, Names, due, ranks_but, fallen_from, IsPaid, IsPassedUp}
-use Rattle.ord_tree.proofs.Saving.{put_by-full, potential-fork, potential-plug}
-use Rattle.ord_tree.proofs.Naming.{rank_here-other, rank_in-fork, rank_in-plug}
+use Rattle.ord_tree.specs.{Potential.node_potential, Potential.potential}
+use Rattle.ord_tree.specs.Account.{potential_way, rank_in, rank_way, NamesChanges, leaf_reserve, ranks_without, fallen_ranks, IsSpelledWithin, IsFallenWithin}
+use Rattle.ord_tree.proofs.Potentials.{node_potential-full, potential-fork, potential-plug}
+use Rattle.ord_tree.proofs.RankChanges.{rank_here-other, rank_in-fork, rank_in-plug}
 
 -- lists without an index
 pub without-split : (i : ℕ) (front back : List ℕ) → times i front ≡ 0 → without i (front ++ i ∷ back) ≡ front ++ back
@@ -204,12 +204,12 @@ module _ {old : Slots} {root : Option ℕ} {v : ℕ} {side : Side} {order : List
           let Q : Side → Type 0 = λ side. IsFallen new root' z side (without v order) in
           subst Q (sym (by.side was.0 (last z e').side was.1 was.4 (last_not_far z e'))) (fallen_cut z e')
 
-      -- the account: the node is out of it, what is due for an empty side is paid by a leaf
-      leaf_pays : (m : ℕ) → due m ≤ put_by (m + 1) 0 m + 1
-      leaf_pays zero = omega (arith, put_by-full 1 0 0)
+      -- the account without the node: a full leaf that goes pays for the reserve of an empty side
+      leaf_pays : (m : ℕ) → leaf_reserve m ≤ node_potential (m + 1) 0 m + 1
+      leaf_pays zero = omega (arith, node_potential-full 1 0 0)
       leaf_pays (suc m) = omega arith
 
-      put_before : potential loose.built.shape ≡ potential_way spot.way (rank_of spot.far + 1) + put_by (rank_of spot.far + 1) 0 (rank_of spot.far) + potential spot.far
+      put_before : potential loose.built.shape ≡ potential_way spot.way (rank_of spot.far + 1) + node_potential (rank_of spot.far + 1) 0 (rank_of spot.far) + potential spot.far
       put_before =
           omega (
             arith,
@@ -217,10 +217,10 @@ module _ {old : Slots} {root : Option ℕ} {v : ℕ} {side : Side} {order : List
             potential-plug spot.way (fork side missing v spot.rank spot.far),
             potential-fork side missing spot.far v spot.rank,
             ap (potential_way spot.way) (rank-fork side missing spot.far v spot.rank ∙ rank_cut),
-            ap (λ k. put_by k 0 (rank_of spot.far)) rank_cut,
+            ap (λ k. node_potential k 0 (rank_of spot.far)) rank_cut,
           )
 
-      ranks_before : (j : ℕ) → j ≢ v → ranks_but v loose.built.shape j ≡ rank_way spot.way j + rank_in spot.far j
+      ranks_before : (j : ℕ) → j ≢ v → ranks_without v loose.built.shape j ≡ rank_way spot.way j + rank_in spot.far j
       ranks_before j other =
           rw (ne_eqb j v other) (omega (
             arith,
@@ -230,21 +230,21 @@ module _ {old : Slots} {root : Option ℕ} {v : ℕ} {side : Side} {order : List
             rank_here-other j v spot.rank other,
           ))
 
-      names_cut : (is : ℕ → ℕ) → ((j : ℕ) → is j ≡ rank_way spot.way j + rank_in spot.far j) → Names [] (ranks_but v loose.built.shape) is
+      names_cut : (is : ℕ → ℕ) → ((j : ℕ) → is j ≡ rank_way spot.way j + rank_in spot.far j) → NamesChanges [] (ranks_without v loose.built.shape) is
       names_cut is same j =
           ⊎_elim (λ (e' : j ≡ v). inr (inl (rw (e', eq-eqb v v refl) refl))) (λ other. inr (inr (ranks_before j other ∙ sym (same j)))) (cases_eq j v)
 
-      cut_at : (z : ℕ) (e' : above spot.way ≡ Some z) → IsPassedUp (ranks_but v loose.built.shape) new root' z (last z e').side (without v order) (potential loose.built.shape + 1)
+      cut_at : (z : ℕ) (e' : above spot.way ≡ Some z) → IsFallenWithin (ranks_without v loose.built.shape) new root' z (last z e').side (without v order) (potential loose.built.shape + 1)
       cut_at z e' = record {
         fallen = fallen_cut z e';
         named = [];
         within = omega (arith, put_before, leaf_pays (rank_of spot.far), ap (λ way. potential_way way (rank_of spot.far + 1)) (last z e').is);
-        names = names_cut (fallen_from (fallen_cut z e')) (λ j. omega (arith, ap (λ way. rank_way way j) (last z e').is));
+        names = names_cut (fallen_ranks (fallen_cut z e')) (λ j. omega (arith, ap (λ way. rank_way way j) (last z e').is));
       }
 
       pub cut_paid : {I : Type 0} (number : I → ℕ) (branch : Option (Branch I)) → IsBranchOf number old v branch
-          → MatchOption branch (IsPaid (ranks_but v loose.built.shape) new root' (without v order) (potential loose.built.shape + 1))
-          (λ b. IsPassedUp (ranks_but v loose.built.shape) new root' (number b.parent) b.side (without v order) (potential loose.built.shape + 1))
+          → MatchOption branch (IsSpelledWithin (ranks_without v loose.built.shape) new root' (without v order) (potential loose.built.shape + 1))
+          (λ b. IsFallenWithin (ranks_without v loose.built.shape) new root' (number b.parent) b.side (without v order) (potential loose.built.shape + 1))
       cut_paid number None by = record {
         shape = plug spot.way spot.far;
         held = Holds-plug new root' spot.way spot.far (child_at (other_side side) nv) way_held far_held;
@@ -262,5 +262,5 @@ module _ {old : Slots} {root : Option ℕ} {v : ℕ} {side : Side} {order : List
           let z = number b.parent in
           let e' : above spot.way ≡ Some z = branch_above number (Some b) by in
           let was = last_was z e' in
-          let Q : Side → Type 0 = λ side. IsPassedUp (ranks_but v loose.built.shape) new root' z side (without v order) (potential loose.built.shape + 1) in
+          let Q : Side → Type 0 = λ side. IsFallenWithin (ranks_without v loose.built.shape) new root' z side (without v order) (potential loose.built.shape + 1) in
           subst Q (sym (by.side was.0 (last z e').side was.1 was.4 (last_not_far z e'))) (cut_at z e')

@@ -5,8 +5,8 @@ use Rattle.ord_tree.specs.Slots.{Slots, Holds, Way, top, up, plug, above, HoldsW
 use Rattle.ord_tree.specs.{declared.tree_links.Side.TheVariants.Lesser, declared.tree_links.Side.TheVariants.Greater, TreeLinks.child_at}
 use Rattle.ord_tree.specs.{Shape.Shape, Shape.missing, Shape.node, Shape.fork, Shape.rank_of, Shape.walk, Detach.stand_in, Detach.renamed}
 use Rattle.ord_tree.specs.{Balance.IsBalanced, Balance.IsBalancedWay, declared.tree_links.Side.Side}
-use Rattle.ord_tree.specs.{Potential.potential, Account.potential_way, Account.rank_here, Account.rank_in, Account.rank_way, Account.Names, Account.ranks_but}
-use Rattle.ord_tree.proofs.{Forks.HoldsFork-holds, Doubles.Among-behind, Standing.stand_in-same, Standing.stand_in-other, Naming.rank_here-other}
+use Rattle.ord_tree.specs.{Potential.potential, Account.potential_way, Account.rank_here, Account.rank_in, Account.rank_way, Account.NamesChanges, Account.ranks_without}
+use Rattle.ord_tree.proofs.{Forks.HoldsFork-holds, Doubles.Among-behind, Standing.stand_in-same, Standing.stand_in-other, RankChanges.rank_here-other}
 
 -- the way with v in the place of z
 abbrev pub renamed_way : ℕ → ℕ → Way → Way
@@ -64,7 +64,7 @@ MovesBacks-then m n first mid last a b = (
     Among-front [] ys j h = elim h [ ]
     Among-front (x ∷ xs) ys j h = ⊎_elim (λ e. inl e) (λ rest. inr (Among-front xs ys j rest)) h
 
--- v in the place of z: what is put by stays, and so do the ranks of all others
+-- with v in the place of z the potential stays, and so do the ranks of all others
 pub potential-renamed : (z v : ℕ) (s : Shape) → potential (renamed z v s) ≡ potential s
 potential-renamed z v missing = refl
 potential-renamed z v (node l i k r) = rw (rank-renamed z v l, rank-renamed z v r, potential-renamed z v l, potential-renamed z v r) refl
@@ -87,11 +87,11 @@ module _ (z v j : ℕ) (not_z : j ≢ z) (not_v : j ≢ v) where
   rank_way-renamed (up side i k far rest) = omega (arith, rank_here-renamed i k, rank_in-renamed far, rank_way-renamed rest)
 
 -- v is named, z is gone
-pub names_stood : (z v : ℕ) (s : Shape) (named : List ℕ) (was is : ℕ → ℕ) → Names named (ranks_but v s) was → ((j : ℕ) → j ≢ z → j ≢ v → is j ≡ was j) → Names (v ∷ named) (ranks_but z s) is
+pub names_stood : (z v : ℕ) (s : Shape) (named : List ℕ) (was is : ℕ → ℕ) → NamesChanges named (ranks_without v s) was → ((j : ℕ) → j ≢ z → j ≢ v → is j ≡ was j) → NamesChanges (v ∷ named) (ranks_without z s) is
 names_stood z v s named was is names same j =
     ⊎_elim (λ (e : j ≡ v). inl (inl e)) (λ (not_v : j ≢ v). ⊎_elim (λ (e : j ≡ z). inr (inl (rw (e, eq-eqb z z refl) refl)))
     (λ (not_z : j ≢ z).
-    let but_z : ranks_but z s j ≡ rank_in s j = rw (ne_eqb j z not_z) refl in
-    let but_v : ranks_but v s j ≡ rank_in s j = rw (ne_eqb j v not_v) refl in
-    ⊎_elim (λ in_named. inl (inr in_named)) (⊎_elim (λ (none : ranks_but v s j ≡ 0). inr (inl (but_z ∙ sym but_v ∙ none)))
-    (λ (e : ranks_but v s j ≡ was j). inr (inr (but_z ∙ sym but_v ∙ e ∙ sym (same j not_z not_v))))) (names j)) (cases_eq j z)) (cases_eq j v)
+    let but_z : ranks_without z s j ≡ rank_in s j = rw (ne_eqb j z not_z) refl in
+    let but_v : ranks_without v s j ≡ rank_in s j = rw (ne_eqb j v not_v) refl in
+    ⊎_elim (λ in_named. inl (inr in_named)) (⊎_elim (λ (none : ranks_without v s j ≡ 0). inr (inl (but_z ∙ sym but_v ∙ none)))
+    (λ (e : ranks_without v s j ≡ was j). inr (inr (but_z ∙ sym but_v ∙ e ∙ sym (same j not_z not_v))))) (names j)) (cases_eq j z)) (cases_eq j v)

@@ -9,8 +9,8 @@ use Rattle.ord_tree.specs.{Node.bare_entry, Node.bare, Node.links_in, Node.slots
 use Rattle.ord_tree.specs.{declared.node.SimpleOrdArenaNode.SimpleOrdArenaNode as Node, Shape.Shape, Shape.missing, Shape.node, Shape.walk}
 use Rattle.ord_tree.specs.{Slots.Holds, Slots.times, Slots.IsOnce, Slots.shape_under, Tree.put_on, Tree.put_at, Tree.CanPutAt, Tree.IsGrown}
 use Rattle.ord_tree.specs.{Leaf.beside, Leaf.leaf_links, Leaf.IsNewLeaf, Layout.shape_in, Layout.IsLaidOut, Promote.IsRepaired}
-use Rattle.ord_tree.specs.{Ranks.IsRanked, Potential.potential, Potential.ReranksWithin, Account.IsPaid, Account.rank_in}
-use Rattle.ord_tree.proofs.{Naming.ReranksWithin-paid, Saving.put_by-full}
+use Rattle.ord_tree.specs.{Ranks.IsRanked, Potential.potential, Potential.ChangesRanksWithin, Account.IsSpelledWithin, Account.rank_in}
+use Rattle.ord_tree.proofs.{RankChanges.ChangesRanksWithin-spelled, Potentials.node_potential-full}
 use Rattle.arena_base.proofs.CallerLemmas.{limit_of-below}
 use Rattle.ord_tree.proofs.Trees.{links_at, times-bare, indexes-bare, vacant_among-bare, shape_in-held, is_some-bare}
 use Rattle.ord_tree.proofs.Slack.{IsRanked-balanced, IsBalanced-ranked, IsTight-balanced, IsBalanced-tight}
@@ -157,21 +157,21 @@ module _ {P T I G : Type 0} (number : I → ℕ) (c d : Chain (Node P T I G)) (r
         let b = IsBalanced-ranked before laid.ranked in
         record { held = held_new; listed = ap walk (shape_is 1 b) ∙ (repaired 1 b).built.listed ∙ listed_new; ranked = IsRanked-balanced 1 (shape_in new root') (balanced_new 1 b) }
 
-    reranked_new : IsPaid (rank_in before) (slots_of new) root' (beside branch.side (number branch.parent) x order) (potential before + 4) → ReranksWithin 4 before (shape_in new root')
-    reranked_new paid =
-        let P : Shape → Type 0 = λ s. ReranksWithin 4 before s in
+    rank_changes_new : IsSpelledWithin (rank_in before) (slots_of new) root' (beside branch.side (number branch.parent) x order) (potential before + 4) → ChangesRanksWithin 4 before (shape_in new root')
+    rank_changes_new paid =
+        let P : Shape → Type 0 = λ s. ChangesRanksWithin 4 before s in
         subst P (sym (shape_in-held new root' paid.shape paid.held (paid.listed ∙ listed_new)))
-        (ReranksWithin-paid 4 before paid (λ j inside. refl) (λ j. omega (arith, once j, times-walk j before, ap (times j) laid.listed))
+        (ChangesRanksWithin-spelled 4 before paid (λ j inside. refl) (λ j. omega (arith, once j, times-walk j before, ap (times j) laid.listed))
         (λ j. omega (arith, times-walk j paid.shape, ap (times j) paid.listed, ap (times j) (bud.put x ∙ sym order_is), IsOnce-distinct d.entries sound.distinct j)) laid.ranked)
 
-    pub IsGrown-planted : IsPaid (rank_in before) (slots_of new) root' (beside branch.side (number branch.parent) x order) (potential before + 4) → IsGrown before (shape_in new root')
+    pub IsGrown-planted : IsSpelledWithin (rank_in before) (slots_of new) root' (beside branch.side (number branch.parent) x order) (potential before + 4) → IsGrown before (shape_in new root')
     IsGrown-planted paid =
         let b = IsBalanced-ranked before laid.ranked in
         record {
           ranked = IsRanked-balanced 1 (shape_in new root') (balanced_new 1 b);
           tight = λ tight. IsTight-balanced (shape_in new root') (balanced_new 0 (IsBalanced-tight before laid.ranked tight));
           moved = MovesAtMost-backs 5 (slots_of d) (slots_of new) root root' before (shape_in new root') held_d held_new (repaired 1 b).backs;
-          reranked = reranked_new paid;
+          rank_changes = rank_changes_new paid;
         }
 
 -- the tree of one entry
@@ -203,7 +203,7 @@ module _ {P T I G : Type 0} (c d : Chain (Node P T I G)) (root : Option ℕ) (x 
   IsGrown-alone =
       let A : Shape → Type 0 = λ s. IsGrown s (shape_in d (Some x)) in
       let B : Shape → Type 0 = λ s. IsGrown missing s in
-      subst A (sym shape_none) (subst B (sym shape_alone) (record { ranked = ranked_alone; tight = λ _. (inl refl, tt, tt); moved = ([], omega arith, λ i p q old new. elim old [ ]); reranked = ([], omega (arith, put_by-full 1 0 0), λ i k l old new. elim old [ ]) }))
+      subst A (sym shape_none) (subst B (sym shape_alone) (record { ranked = ranked_alone; tight = λ _. (inl refl, tt, tt); moved = ([], omega arith, λ i p q old new. elim old [ ]); rank_changes = ([], omega (arith, node_potential-full 1 0 0), λ i k l old new. elim old [ ]) }))
 
 -- what the steps of an insertion say to each other, where `branch` is the one under which the new entry x hangs
 module _ {P T I G : Type 0} (number : I → ℕ) (branch : Option (Branch I)) where
@@ -220,10 +220,10 @@ module _ {P T I G : Type 0} (number : I → ℕ) (branch : Option (Branch I)) wh
   HasGrown d root x new root' = MatchOption branch ((new ≡ d) × (root' ≡ Some x)) (λ p. (order : List ℕ) (slack : ℕ) → IsNewLeaf (slots_of d) root p.side (number p.parent) (number x) order slack
       → IsRepaired (slots_of d) (slots_of new) (option_map number root') (beside p.side (number p.parent) (number x) order) slack)
 
-  -- and who has another rank is paid
-  abbrev pub HasPaid : Chain (Node P T I G) → Option ℕ → I → Chain (Node P T I G) → Option I → Type 0
-  HasPaid d root x new root' = MatchOption branch (Unit {0}) (λ p. (order : List ℕ) (slack : ℕ) (bud : IsNewLeaf (slots_of d) root p.side (number p.parent) (number x) order slack)
-      → IsPaid (rank_in bud.built.shape) (slots_of new) (option_map number root') (beside p.side (number p.parent) (number x) order) (potential bud.built.shape + 4))
+  -- and the account of its rank changes
+  abbrev pub HasAccount : Chain (Node P T I G) → Option ℕ → I → Chain (Node P T I G) → Option I → Type 0
+  HasAccount d root x new root' = MatchOption branch (Unit {0}) (λ p. (order : List ℕ) (slack : ℕ) (bud : IsNewLeaf (slots_of d) root p.side (number p.parent) (number x) order slack)
+      → IsSpelledWithin (rank_in bud.built.shape) (slots_of new) (option_map number root') (beside p.side (number p.parent) (number x) order) (potential bud.built.shape + 4))
 
   -- the new entry e was put into the list at this place, and its node has the links of a leaf under the branch
   pub record IsPut (c d : Chain (Node P T I G)) (at : Option (I × Ordering)) (e : Entry (Node P T I G)) : Type 0 where
@@ -252,7 +252,7 @@ module _ {P T I G : Type 0} (number : I → ℕ) (c d : Chain (Node P T I G)) (r
 
   module _ (new : Chain (Node P T I G)) (root' : Option I) (kept : bare new ≡ bare d) where
     has_grown : (at : Option (I × Ordering)) (on : Option (Branch I)) → IsPut number on c d at new_entry
-        → HasGrown number on d root x new root' → HasPaid number on d root x new root' → IsGrownTo (shape_in c root) new (option_map number root')
+        → HasGrown number on d root x new root' → HasAccount number on d root x new root' → IsGrownTo (shape_in c root) new (option_map number root')
     unfolding new_leaf
     has_grown None None put same paid =
         let alone = put.entries ∙ ap (λ (es : List (Entry (Node P T I G))). new_entry ∷ es) put.can in
@@ -322,7 +322,7 @@ module _ {P T I G : Type 0} (number : I → ℕ) (c : Chain (Node P T I G)) (roo
   pub call_allowed : CanGrow number branch d root (number x)
   call_allowed = grow_allowed number c d root x era leaf laid x_free most greatest sound fits at branch put
 
-  module _ (new : Chain (Node P T I G)) (root' : Option I) (kept : bare new ≡ bare d) (grown : HasGrown number branch d root x new root') (paid : HasPaid number branch d root x new root') where
+  module _ (new : Chain (Node P T I G)) (root' : Option I) (kept : bare new ≡ bare d) (grown : HasGrown number branch d root x new root') (paid : HasAccount number branch d root x new root') where
     pub call_grown : IsGrownTo (shape_in c root) new (option_map number root')
     call_grown = has_grown number c d root x era leaf laid x_free most greatest sound fits new root' kept at branch put grown paid
 

@@ -6,9 +6,9 @@ pub mod Frames
 pub mod Rotations
 pub mod Doubles
 pub mod OnceOrTwice
-pub mod Saving
+pub mod Potentials
 pub mod Views
-pub mod Naming
+pub mod RankChanges
 pub mod Promoting
 pub mod Removing
 pub mod Leaning
@@ -16,8 +16,8 @@ pub mod Demoting
 pub mod Reading
 pub mod Spots
 pub mod NewLeaf
-pub mod Paying
-pub mod Lowering
+pub mod PromotionAccount
+pub mod DemotionAccount
 pub mod Cutting
 pub mod Standing
 pub mod Neighbours

@@ -1,22 +1,23 @@
 -- An entry that goes to another place: from the tree without its node to the tree with it as a new leaf.
-use Rattle.std.proofs.Common.{arith, ◌≡◌, ◌≢◌, ℕ, ◌+◌, ◌<◌, ◌^◌, Option, Some, None, List, [], ◌∷◌, ◌∙◌, map, length, refl, sym, ap, subst, inl, inr, ⊎_elim, is_some, true, option_map}
-use Rattle.std.proofs.{lemmas.Grind.common_steps, lemmas.Bool.cases_eq}
+use Rattle.std.proofs.Common.{arith, ◌≡◌, ◌≢◌, ℕ, ◌+◌, ◌<◌, ◌≤◌, ◌^◌, Option, Some, None, List, [], ◌∷◌, ◌++◌, ◌∙◌, map, length, length-append, refl, sym, ap, subst, inl, inr, ⊎_elim, is_some, true, option_map}
+use Rattle.std.proofs.{lemmas.Grind.common_steps, lemmas.Bool.cases_eq, lemmas.Bool.ne_eqb}
 use Rattle.std.specs.declared.cmp.Ordering.{Ordering}
 use Rattle.chain_base.specs.Chain.{Entry, Chain, entry_at, times as entry_times, IsSound, without as entries_without}
-use Rattle.chain_base.specs.{declared.chain.insert.LinkInsertKind.LinkInsertKind, Insert.placed, Insert.CanPlace, Move.relisted, Move.unlisted, Move.put_back}
+use Rattle.chain_base.specs.{declared.chain.insert.LinkInsertKind.LinkInsertKind, Insert.placed, Insert.CanPlace, Move.with_entry_moved, Move.without_entry, Move.list_with}
 use Rattle.chain_base.proofs.CallerLemmas.{entry_at-without_other}
 use Rattle.ord_tree.specs.{declared.node.SimpleOrdArenaNode.SimpleOrdArenaNode as Node, Node.bare_entry, Node.bare, Node.entry_in, Node.links_in, Node.slots_of, Node.indexes}
 use Rattle.ord_tree.specs.{declared.tree_links.Side.TheVariants.Lesser, declared.tree_links.Side.TheVariants.Greater, declared.tree_links.Side.Side}
 use Rattle.ord_tree.specs.{declared.tree_links.TreeLinks.TreeLinks, declared.tree_links.Branch.Branch, Shape.Shape, Shape.walk}
 use Rattle.ord_tree.specs.{Leaf.beside, Leaf.previous, Leaf.following, Leaf.neighbour_in, Leaf.leaf_links, Leaf.IsNewLeaf}
 use Rattle.ord_tree.specs.{LeafBranch.side_at, LeafBranch.kind_at, LeafBranch.IsLeafBranch, Detach.without, Detach.IsDetachable}
-use Rattle.ord_tree.specs.{Slots.Holds, Slots.times, Slots.IsOnce, Slots.MovesBacks, Layout.shape_in, Layout.IsLaidOut}
-use Rattle.ord_tree.specs.{Promote.IsBuilt, Promote.IsRepaired, Tree.put_on, Tree.CanPutAt, Move.IsShifted, Move.IsAside}
+use Rattle.ord_tree.specs.{Slots.Slots, Slots.Holds, Slots.times, Slots.here, Slots.IsOnce, Slots.MovesBacks, Layout.shape_in, Layout.IsLaidOut}
+use Rattle.ord_tree.specs.{Promote.IsBuilt, Promote.IsRepaired, Tree.put_on, Tree.CanPutAt, Move.IsRearranged, Move.IsAside}
+use Rattle.ord_tree.specs.{Potential.potential, Potential.ChangesRanksWithin, Account.IsSpelledWithin, Account.NamesChanges, Account.rank_in, Account.ranks_without}
 use Rattle.ord_tree.proofs.Trees.{entry_at-bare, is_some-bare, indexes-bare, shape_in-held}
-use Rattle.ord_tree.proofs.{Shrunk.times-without_same, Shrunk.indexes-without, Shrunk.bare-without, Shrunk.detachable, Cutting.times-without, Spots.times-beside-ge}
+use Rattle.ord_tree.proofs.{Shrunk.times-without_same, Shrunk.indexes-without, Shrunk.bare-without, Shrunk.detachable, Cutting.times-without, Spots.times-beside-ge, Spots.times-beside}
 use Rattle.ord_tree.proofs.{Puts.put-same, Puts.put-other, Puts.put-indexes, Puts.put-bare, Grown.placed-put, Grown.CanPlace-put}
-use Rattle.ord_tree.proofs.{LeafBranches.times-indexes, LeafBranches.within-occupied, LeafBranches.some_in, LeafBranches.is_some-mapped, Views.MovesAtMost-backs}
-use Rattle.ord_tree.proofs.{Forks.times-walk, Forks.apart-from, Frames.Holds-frame, Displacing.MovesBacks-then, Slack.IsRanked-balanced}
+use Rattle.ord_tree.proofs.{LeafBranches.times-indexes, LeafBranches.within-occupied, LeafBranches.some_in, LeafBranches.is_some-mapped, Views.MovesAtMost-backs, Views.Holds-unique}
+use Rattle.ord_tree.proofs.{RankChanges.NamesChanges-joined, RankChanges.ChangesRanksWithin-spelled, Forks.here-same, Forks.here-other, Forks.times-walk, Forks.apart-from, Frames.Holds-frame, Displacing.MovesBacks-then, Slack.IsRanked-balanced}
 
 -- a list without one of its indexes is shorter by one
 length-without_in : (i : ℕ) (xs : List ℕ) → 0 < times i xs → length (without i xs) + 1 ≡ length xs
@@ -42,11 +43,12 @@ module _ (y x : ℕ) where
   neighbour-beside Lesser order none = previous-beside None order none
   neighbour-beside Greater order none = following-beside order none
 
--- d is the chain c once the node x is taken out of the tree, of which the root is now this one
-pub record IsTakenOut {P T I G : Type 0} (c d : Chain (Node P T I G)) (root' : Option ℕ) (x : ℕ) : Type 0 where
+-- d is the chain c once the node x is taken out of the tree, of which the root was and is now this one
+pub record IsTakenOut {P T I G : Type 0} (c : Chain (Node P T I G)) (root : Option ℕ) (d : Chain (Node P T I G)) (root' : Option ℕ) (x : ℕ) : Type 0 where
   pub kept : bare d ≡ bare c
   pub built : IsBuilt (slots_of d) root' (without x (indexes c.entries)) 1
   pub backs : MovesBacks 9 (slots_of c) (slots_of d)
+  pub account : IsSpelledWithin (ranks_without x (shape_in c root)) (slots_of d) root' (without x (indexes c.entries)) (potential (shape_in c root) + 9)
   pub once : IsOnce (indexes c.entries)
   pub few : length (indexes c.entries) < 2 ^ 64
   pub there : is_some (entry_at c.entries x) ≡ true
@@ -55,13 +57,34 @@ pub record IsTakenOut {P T I G : Type 0} (c d : Chain (Node P T I G)) (root' : O
 module _ {P T I G : Type 0} (c : Chain (Node P T I G)) (root : Option ℕ) (x : ℕ) (laid : IsLaidOut c root (shape_in c root)) (there : is_some (entry_at c.entries x) ≡ true)
     (most : ℕ) (greatest : Option ℕ) (sound : IsSound most greatest c) (fits : most + 1 < 2 ^ 64) (before : Option ℕ) (is_before : before ≡ previous None x (indexes c.entries))
     (d : Chain (Node P T I G)) (root' : Option ℕ) (kept : bare d ≡ bare c)
-    (builds : (order : List ℕ) → IsDetachable (slots_of c) root x before order → IsBuilt (slots_of d) root' (without x order) 1) where
-  pub taken_out : ((order : List ℕ) → IsDetachable (slots_of c) root x before order → MovesBacks 9 (slots_of c) (slots_of d)) → IsTakenOut c d root' x
-  taken_out moves =
+    (builds : (order : List ℕ) → IsDetachable (slots_of c) root x before order → IsBuilt (slots_of d) root' (without x order) 1)
+    (moves : (order : List ℕ) → IsDetachable (slots_of c) root x before order → MovesBacks 9 (slots_of c) (slots_of d)) where
+  pub taken_out : ((order : List ℕ) (can : IsDetachable (slots_of c) root x before order) → IsSpelledWithin (ranks_without x can.built.shape) (slots_of d) root' (without x order) (potential can.built.shape + 9))
+      → IsTakenOut c root d root' x
+  taken_out accounts =
       let can = detachable c root x laid there most greatest sound fits before is_before in
-      record { kept = kept; built = builds _ can; backs = moves _ can; once = can.once; few = can.few; there = there }
+      record { kept = kept; built = builds _ can; backs = moves _ can; account = accounts _ can; once = can.once; few = can.few; there = there }
 
-module _ {P T I G : Type 0} {c d : Chain (Node P T I G)} {root' : Option ℕ} {x : ℕ} (out : IsTakenOut c d root' x) where
+-- the accounts of a removal and of an insertion of one entry, together: its own rank may change as well
+module _ (s t : Shape) (x : ℕ) {at new : Slots} {root root' : Option ℕ} {order order' : List ℕ} (removal : IsSpelledWithin (ranks_without x s) at root order (potential s + 9)) where
+  pub both_accounts : removal.shape ≡ t → IsSpelledWithin (rank_in t) new root' order' (potential t + 4) → IsSpelledWithin (rank_in s) new root' order' (potential s + 14)
+  both_accounts same insertion =
+      let all = NamesChanges-joined removal.named insertion.named (ranks_without x s) (rank_in t) (rank_in insertion.shape)
+      (subst (λ (u : Shape). NamesChanges removal.named (ranks_without x s) (rank_in u)) same removal.names) insertion.names in
+      record {
+        shape = insertion.shape;
+        held = insertion.held;
+        listed = insertion.listed;
+        named = x ∷ removal.named ++ insertion.named;
+        within = omega (arith, removal.within, insertion.within, ap potential same, length-append removal.named insertion.named);
+        names = λ j. ⊎_elim (λ (is : j ≡ x). inl (inl is))
+            (λ other. let was : ranks_without x s j ≡ rank_in s j = rw (ne_eqb j x other) refl in
+            ⊎_elim (λ named. inl (inr named))
+            (⊎_elim (λ (none : ranks_without x s j ≡ 0). inr (inl (sym was ∙ none)))
+            (λ (stays : ranks_without x s j ≡ rank_in insertion.shape j). inr (inr (sym was ∙ stays)))) (all j)) (cases_eq j x);
+      }
+
+module _ {P T I G : Type 0} {c d : Chain (Node P T I G)} {root root' : Option ℕ} {x : ℕ} (out : IsTakenOut c root d root' x) where
   abbrev pub rest : List ℕ
   rest = without x (indexes c.entries)
 
@@ -83,7 +106,7 @@ module _ {P T I G : Type 0} {c d : Chain (Node P T I G)} {root' : Option ℕ} {x
   rest_once : IsOnce rest
   rest_once j = omega (arith, times-without x j (indexes c.entries), out.once j)
 
-  module _ (number : I → ℕ) (at : I × Ordering) (can : CanPutAt number (Some at) (unlisted (bare c) x)) where
+  module _ (number : I → ℕ) (at : I × Ordering) (can : CanPutAt number (Some at) (without_entry (bare c) x)) where
     abbrev y : ℕ
     y = number at.0
 
@@ -96,10 +119,10 @@ module _ {P T I G : Type 0} {c d : Chain (Node P T I G)} {root' : Option ℕ} {x
     y_left : is_some (entry_at left y) ≡ true
     y_left = sym (is_some-bare left y) ∙ ap (λ (es : List (Entry T)). is_some (entry_at es y)) left_bare ∙ can.0
 
-    pub can_place : (kind : LinkInsertKind P I G) → kind ≡ kind_at (Some at) → CanPlace number kind (unlisted d x)
+    pub can_place : (kind : LinkInsertKind P I G) → kind ≡ kind_at (Some at) → CanPlace number kind (without_entry d x)
     can_place kind kind_is =
-        let C : LinkInsertKind P I G → Type 0 = λ kind. CanPlace number kind (unlisted d x) in
-        subst C (sym kind_is) (CanPlace-put P G number (Some at) (unlisted d x) (y_left, can.1))
+        let C : LinkInsertKind P I G → Type 0 = λ kind. CanPlace number kind (without_entry d x) in
+        subst C (sym kind_is) (CanPlace-put P G number (Some at) (without_entry d x) (y_left, can.1))
 
     -- the entry, as the chain still has it
     module _ (e : ℕ × Node P T I G) (has : entry_at d.entries x ≡ Some e) where
@@ -122,20 +145,20 @@ module _ {P T I G : Type 0} {c d : Chain (Node P T I G)} {root' : Option ℕ} {x
       order-put : indexes put ≡ beside (side_at at.1) y x rest
       order-put = put-indexes at.1 left y entry ∙ ap (beside (side_at at.1) y x) rest_is
 
-      bare-put : map bare_entry put ≡ put_back (put_on at.1 y) x (entry_at (bare c).entries x) (entries_without x (bare c).entries)
+      bare-put : map bare_entry put ≡ list_with (put_on at.1 y) x (entry_at (bare c).entries x) (entries_without x (bare c).entries)
       bare-put =
           put-bare at.1 left y entry ∙ ap (λ (es : List (Entry T)). put_on at.1 y es (bare_entry entry)) left_bare
-          ∙ ap (λ (o : Option (ℕ × T)). put_back (put_on at.1 y) x o (entries_without x (bare c).entries))
+          ∙ ap (λ (o : Option (ℕ × T)). list_with (put_on at.1 y) x o (entries_without x (bare c).entries))
           (sym (ap (λ (b : Chain T). entry_at b.entries x) (sym out.kept) ∙ entry_at-bare d.entries x ∙ ap (option_map entry_in) has))
 
-      put_at_place : (kind : LinkInsertKind P I G) → kind ≡ kind_at (Some at) → relisted d x (placed number kind) ≡ record d { entries = put }
+      put_at_place : (kind : LinkInsertKind P I G) → kind ≡ kind_at (Some at) → with_entry_moved d x (placed number kind) ≡ record d { entries = put }
       put_at_place kind kind_is =
-          ap (λ (o : Option (ℕ × Node P T I G)). record d { entries = put_back (placed number kind) x o left }) has
+          ap (λ (o : Option (ℕ × Node P T I G)). record d { entries = list_with (placed number kind) x o left }) has
           ∙ ap (λ (kind : LinkInsertKind P I G). record d { entries = placed number kind left entry }) kind_is
           ∙ ap (λ (es : List (Entry (Node P T I G))). record d { entries = es }) (placed-put P G number (Some at) left entry)
 
     -- the chain with the entry at its new place; its node doesn't stand in the tree yet
-    module _ (m : Chain (Node P T I G)) (kind : LinkInsertKind P I G) (kind_is : kind ≡ kind_at (Some at)) (m_is : m ≡ relisted d x (placed number kind)) where
+    module _ (m : Chain (Node P T I G)) (kind : LinkInsertKind P I G) (kind_is : kind ≡ kind_at (Some at)) (m_is : m ≡ with_entry_moved d x (placed number kind)) where
       e : (e : ℕ × Node P T I G) × (entry_at d.entries x ≡ Some e)
       e = some_in (entry_at d.entries x) still_in
 
@@ -151,10 +174,10 @@ module _ {P T I G : Type 0} {c d : Chain (Node P T I G)} {root' : Option ℕ} {x
       pub order_is : indexes m.entries ≡ beside (side_at at.1) y x rest
       order_is = ap (λ (c : Chain (Node P T I G)). indexes c.entries) entries_are ∙ order-put e.0 e.1
 
-      pub bare_is : bare m ≡ relisted (bare c) x (put_on at.1 y)
+      pub bare_is : bare m ≡ with_entry_moved (bare c) x (put_on at.1 y)
       bare_is =
           ap bare entries_are ∙ ap (λ (es : List (Entry T)). record (bare d) { entries = es }) (bare-put e.0 e.1)
-          ∙ ap (λ (b : Chain T). record b { entries = put_back (put_on at.1 y) x (entry_at (bare c).entries x) (entries_without x (bare c).entries) }) out.kept
+          ∙ ap (λ (b : Chain T). record b { entries = list_with (put_on at.1 y) x (entry_at (bare c).entries x) (entries_without x (bare c).entries) }) out.kept
 
       pub x_in : is_some (entry_at m.entries x) ≡ true
       x_in = ap is_some (same_entries x) ∙ still_in
@@ -210,7 +233,7 @@ module _ {P T I G : Type 0} {c d : Chain (Node P T I G)} {root' : Option ℕ} {x
         )
 
         -- and it hangs there
-        module _ (root : Option ℕ) (laid : IsLaidOut c root (shape_in c root)) (q : Chain (Node P T I G)) (root'' : Option ℕ) (hung : bare q ≡ bare n)
+        module _ (laid : IsLaidOut c root (shape_in c root)) (q : Chain (Node P T I G)) (root'' : Option ℕ) (hung : bare q ≡ bare n)
             (repairs : (order : List ℕ) (slack : ℕ) → IsNewLeaf (slots_of n) root' branch.side (number branch.parent) x order slack
             → IsRepaired (slots_of n) (slots_of q) root'' (beside branch.side (number branch.parent) x order) slack) where
           repaired : IsRepaired (slots_of n) (slots_of q) root'' (beside branch.side (number branch.parent) x rest) 1
@@ -232,16 +255,40 @@ module _ {P T I G : Type 0} {c d : Chain (Node P T I G)} {root' : Option ℕ} {x
               let L : Shape → Type 0 = λ s. IsLaidOut q root'' s in
               subst L (sym shape_is) (record { held = repaired.built.held; listed = listed; ranked = IsRanked-balanced 1 repaired.built.shape repaired.built.balanced })
 
-          pub list_moved : bare q ≡ relisted (bare c) x (put_on at.1 y)
+          pub list_moved : bare q ≡ with_entry_moved (bare c) x (put_on at.1 y)
           list_moved = bare_end ∙ bare_is
 
           moves : MovesBacks 15 (slots_of c) (slots_of q)
           moves = MovesBacks-then 9 6 (slots_of c) (slots_of d) (slots_of q) out.backs (MovesBacks-then 1 5 (slots_of d) (slots_of n) (slots_of q) own_back repaired.backs)
 
-          pub shifted : IsShifted (shape_in c root) (shape_in q root'')
-          shifted =
-              let S : Shape → Type 0 = λ s. IsShifted (shape_in c root) s in
-              subst S (sym shape_is) (record {
-                ranked = IsRanked-balanced 1 repaired.built.shape repaired.built.balanced;
-                moved = MovesAtMost-backs 15 (slots_of c) (slots_of q) root root'' (shape_in c root) repaired.built.shape laid.held repaired.built.held moves;
-              })
+          -- and the account of both steps
+          module _ (accounts : (order : List ℕ) (slack : ℕ) (bud : IsNewLeaf (slots_of n) root' branch.side (number branch.parent) x order slack)
+              → IsSpelledWithin (rank_in bud.built.shape) (slots_of q) root'' (beside branch.side (number branch.parent) x order) (potential bud.built.shape + 4)) where
+            account : IsSpelledWithin (rank_in (shape_in c root)) (slots_of q) root'' (beside branch.side (number branch.parent) x rest) (potential (shape_in c root) + 14)
+            unfolding new_leaf
+            account =
+                both_accounts (shape_in c root) out.built.shape x out.account
+                (Holds-unique (slots_of d) None root' out.account.shape out.built.shape out.account.held out.built.held) (accounts rest 1 new_leaf)
+
+            times_left : (j : ℕ) → times j (walk account.shape) ≤ 1
+            times_left j =
+                let within = times-beside branch.side (number branch.parent) x j rest in ⊎_elim
+                (λ (same : j ≡ x). omega (arith, ap (times j) account.listed, within, ap (λ i. times i rest) same, rest_fresh, here-same x, ap (λ i. here i x) same))
+                (λ (other : j ≢ x). omega (arith, ap (times j) account.listed, within, here-other j x other, rest_once j)) (cases_eq j x)
+
+            rank_changes : ChangesRanksWithin 14 (shape_in c root) repaired.built.shape
+            rank_changes =
+                let R : Shape → Type 0 = λ s. ChangesRanksWithin 14 (shape_in c root) s in
+                subst R (Holds-unique (slots_of q) None root'' account.shape repaired.built.shape account.held repaired.built.held)
+                (ChangesRanksWithin-spelled 14 (shape_in c root) account (λ j inside. refl)
+                (λ j. omega (arith, out.once j, times-walk j (shape_in c root), ap (times j) laid.listed))
+                (λ j. omega (arith, times-walk j account.shape, times_left j)) laid.ranked)
+
+            pub rearranged : IsRearranged (shape_in c root) (shape_in q root'')
+            rearranged =
+                let S : Shape → Type 0 = λ s. IsRearranged (shape_in c root) s in
+                subst S (sym shape_is) (record {
+                  ranked = IsRanked-balanced 1 repaired.built.shape repaired.built.balanced;
+                  moved = MovesAtMost-backs 15 (slots_of c) (slots_of q) root root'' (shape_in c root) repaired.built.shape laid.held repaired.built.held moves;
+                  rank_changes = rank_changes;
+                })

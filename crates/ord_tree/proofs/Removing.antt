@@ -8,12 +8,12 @@ use Rattle.ord_tree.specs.{declared.tree_links.Side.TheVariants.Lesser, declared
 use Rattle.ord_tree.specs.{Shape.Shape, Shape.fork, Shape.rank_of, Shape.walk, declared.tree_links.TreeLinks.TreeLinks, Demote.IsFallen}
 use Rattle.ord_tree.specs.{declared.tree_links.Branch.Branch, declared.tree_links.Side.Side, Balance.IsOver}
 use Rattle.ord_tree.proofs.Displacing.{potential-renamed, potential_way-renamed, rank_here-renamed, rank_in-renamed, rank_way-renamed, names_stood, renamed_way, renamed-fork, renamed-plug, rank-renamed, IsBalanced-renamed, IsBalancedWay-renamed, walk-renamed, map-absent, plug_held}
-use Rattle.ord_tree.specs.Potential.{put_by}
-use Rattle.ord_tree.specs.Account.{rank_in, due, ranks_but, fallen_from, IsPaid, IsPassedUp}
+use Rattle.ord_tree.specs.Potential.{node_potential}
+use Rattle.ord_tree.specs.Account.{rank_in, leaf_reserve, ranks_without, fallen_ranks, IsSpelledWithin, IsFallenWithin}
 use Rattle.ord_tree.proofs.Neighbours.{BeforeIn, before_in, previous-neighbour, first-within}
 use Rattle.ord_tree.proofs.Forks.{Holds-plug, HoldsFork-holds, here-same, times-append, times-walk}
 use Rattle.ord_tree.proofs.{Cutting.without-split, Cutting.times-without, Cutting.length-without, Spots.Spot, Spots.spot_in}
-use Rattle.ord_tree.proofs.{Demoting.BuiltOrFallen, Standing.stand_in-same, Paying.IsPaid-more}
+use Rattle.ord_tree.proofs.{Demoting.BuiltOrFallen, Standing.stand_in-same, PromotionAccount.IsSpelledWithin-more}
 
 -- the other branch is the first, with v for z
 abbrev pub IsRenamed : {I : Type 0} → (I → ℕ) → ℕ → ℕ → Option (Branch I) → Option (Branch I) → Type 0
@@ -156,7 +156,7 @@ module _ {old : Slots} {root : Option ℕ} {z : ℕ} {before : Option ℕ} {orde
 
           -- and its account
           module _ (s : Shape) (credit : ℕ) where
-            built_paid : (total : ℕ) → credit + 1 ≤ total → IsPaid (ranks_but v s) mid root' (without v order) credit → IsPaid (ranks_but z s) new root'' (without z order) total
+            built_paid : (total : ℕ) → credit + 1 ≤ total → IsSpelledWithin (ranks_without v s) mid root' (without v order) credit → IsSpelledWithin (ranks_without z s) new root'' (without z order) total
             built_paid total enough paid = record {
               shape = renamed z v paid.shape;
               held = held paid.shape (stands paid.shape paid.held paid.listed);
@@ -166,8 +166,8 @@ module _ {old : Slots} {root : Option ℕ} {z : ℕ} {before : Option ℕ} {orde
               names = names_stood z v s paid.named (rank_in paid.shape) (rank_in (renamed z v paid.shape)) paid.names (λ j not_z not_v. rank_in-renamed z v j not_z not_v paid.shape);
             }
 
-            fallen_paid : (total : ℕ) → credit + 1 ≤ total → (y : ℕ) (side : Side) → IsPassedUp (ranks_but v s) mid root' y side (without v order) credit
-                → IsPassedUp (ranks_but z s) new root'' (stand_in z v y) side (without z order) total
+            fallen_paid : (total : ℕ) → credit + 1 ≤ total → (y : ℕ) (side : Side) → IsFallenWithin (ranks_without v s) mid root' y side (without v order) credit
+                → IsFallenWithin (ranks_without z s) new root'' (stand_in z v y) side (without z order) total
             fallen_paid total enough y side up =
                 let f = up.fallen in
                 record {
@@ -176,14 +176,14 @@ module _ {old : Slots} {root : Option ℕ} {z : ℕ} {before : Option ℕ} {orde
                   within = omega (
                     arith,
                     up.within,
-                    ap due (rank-renamed z v f.low),
-                    ap (λ k. put_by f.rank (k + 1) (rank_of (renamed z v f.far))) (rank-renamed z v f.low),
-                    ap (put_by f.rank (rank_of f.low + 1)) (rank-renamed z v f.far),
+                    ap leaf_reserve (rank-renamed z v f.low),
+                    ap (λ k. node_potential f.rank (k + 1) (rank_of (renamed z v f.far))) (rank-renamed z v f.low),
+                    ap (node_potential f.rank (rank_of f.low + 1)) (rank-renamed z v f.far),
                     potential-renamed z v f.low,
                     potential-renamed z v f.far,
                     potential_way-renamed z v f.way f.rank,
                   );
-                  names = names_stood z v s up.named (fallen_from f) (fallen_from (fallen_stood f)) up.names
+                  names = names_stood z v s up.named (fallen_ranks f) (fallen_ranks (fallen_stood f)) up.names
                       (λ j not_z not_v. omega (
                         arith,
                         rank_way-renamed z v j not_z not_v f.way,
@@ -195,15 +195,15 @@ module _ {old : Slots} {root : Option ℕ} {z : ℕ} {before : Option ℕ} {orde
 
             module _ {I : Type 0} (number : I → ℕ) (total : ℕ) (enough : credit + 1 ≤ total) where
               pub displaced_paid : (cut branch : Option (Branch I)) → IsRenamed number z v cut branch
-                  → MatchOption cut (IsPaid (ranks_but v s) mid root' (without v order) credit) (λ b. IsPassedUp (ranks_but v s) mid root' (number b.parent) b.side (without v order) credit)
-                  → MatchOption branch (IsPaid (ranks_but z s) new root'' (without z order) total)
-                  (λ b. IsPassedUp (ranks_but z s) new root'' (number b.parent) b.side (without z order) total)
+                  → MatchOption cut (IsSpelledWithin (ranks_without v s) mid root' (without v order) credit) (λ b. IsFallenWithin (ranks_without v s) mid root' (number b.parent) b.side (without v order) credit)
+                  → MatchOption branch (IsSpelledWithin (ranks_without z s) new root'' (without z order) total)
+                  (λ b. IsFallenWithin (ranks_without z s) new root'' (number b.parent) b.side (without z order) total)
               displaced_paid None None is h = built_paid total enough h
               displaced_paid None (Some q) is h = absurd cc
               displaced_paid (Some p) None is h = elim is [ ]
               displaced_paid (Some p) (Some q) is h =
-                  let P : ℕ → Type 0 = λ y. IsPassedUp (ranks_but z s) new root'' y q.side (without z order) total in
-                  let Q : Side → Type 0 = λ side. IsPassedUp (ranks_but z s) new root'' (stand_in z v (number p.parent)) side (without z order) total in
+                  let P : ℕ → Type 0 = λ y. IsFallenWithin (ranks_without z s) new root'' y q.side (without z order) total in
+                  let Q : Side → Type 0 = λ side. IsFallenWithin (ranks_without z s) new root'' (stand_in z v (number p.parent)) side (without z order) total in
                   subst P (sym is.0) (subst Q (sym is.1) (fallen_paid total enough (number p.parent) p.side h))
 
           module _ {I : Type 0} (number : I → ℕ) where
@@ -216,9 +216,9 @@ module _ {old : Slots} {root : Option ℕ} {z : ℕ} {before : Option ℕ} {orde
 
 -- more credit
 pub paid_more : {I : Type 0} (number : I → ℕ) (was : ℕ → ℕ) (at : Slots) (root : Option ℕ) (order : List ℕ) (c d : ℕ) → c ≤ d → (on : Option (Branch I))
-    → MatchOption on (IsPaid was at root order c) (λ b. IsPassedUp was at root (number b.parent) b.side order c)
-    → MatchOption on (IsPaid was at root order d) (λ b. IsPassedUp was at root (number b.parent) b.side order d)
-paid_more number was at root order c d more None paid = IsPaid-more was was at root order c d (λ j. refl) more paid
+    → MatchOption on (IsSpelledWithin was at root order c) (λ b. IsFallenWithin was at root (number b.parent) b.side order c)
+    → MatchOption on (IsSpelledWithin was at root order d) (λ b. IsFallenWithin was at root (number b.parent) b.side order d)
+paid_more number was at root order c d more None paid = IsSpelledWithin-more was was at root order c d (λ j. refl) more paid
 paid_more number was at root order c d more (Some b) up = record { fallen = up.fallen; named = up.named; within = omega (arith, up.within); names = up.names }
 
 -- a link that leads nowhere, with numbers for indexes

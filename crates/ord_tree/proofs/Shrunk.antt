@@ -10,8 +10,8 @@ use Rattle.ord_tree.specs.Tree.{IsShrunk}
 use Rattle.arena_base.proofs.CallerLemmas.{limit_of-below}
 use Rattle.chain_base.proofs.CallerLemmas.{entry_at-link, entry_at-without_other}
 use Rattle.ord_tree.proofs.{Trees.entry_at-bare, Trees.is_some-bare, Trees.indexes-bare, Trees.shape_in-held, Views.MovesAtMost-backs, Views.Holds-unique}
-use Rattle.ord_tree.specs.{Potential.potential, Potential.ReranksWithin, Account.IsPaid, Account.ranks_but}
-use Rattle.ord_tree.proofs.{Naming.ReranksWithin-paid, Cutting.times-without}
+use Rattle.ord_tree.specs.{Potential.potential, Potential.ChangesRanksWithin, Account.IsSpelledWithin, Account.ranks_without}
+use Rattle.ord_tree.proofs.{RankChanges.ChangesRanksWithin-spelled, Cutting.times-without}
 use Rattle.ord_tree.proofs.{LeafBranches.IsOnce-distinct, LeafBranches.within-occupied, Slack.IsRanked-balanced, Slack.IsBalanced-ranked}
 use Rattle.ord_tree.proofs.{Forks.times-walk, Forks.apart-from, Frames.Holds-frame}
 
@@ -81,15 +81,15 @@ module _ {P T I G : Type 0} (c : Chain (Node P T I G)) (root : Option ℕ) (x : 
   module _ (before : Option ℕ) (is_before : before ≡ previous None x order) (d : Chain (Node P T I G)) (root' : Option ℕ) (kept : bare d ≡ bare c)
       (builds : (order : List ℕ) → IsDetachable (slots_of c) root x before order → IsBuilt (slots_of d) root' (without x order) 1)
       (moves : (order : List ℕ) → IsDetachable (slots_of c) root x before order → MovesBacks 9 (slots_of c) (slots_of d))
-      (pays : (order : List ℕ) (can : IsDetachable (slots_of c) root x before order) → IsPaid (ranks_but x can.built.shape) (slots_of d) root' (without x order) (potential can.built.shape + 9)) where
+      (account : (order : List ℕ) (can : IsDetachable (slots_of c) root x before order) → IsSpelledWithin (ranks_without x can.built.shape) (slots_of d) root' (without x order) (potential can.built.shape + 9)) where
     built : IsBuilt (slots_of d) root' (without x order) 1
     built = builds order (detachable before is_before)
 
     backs : MovesBacks 9 (slots_of c) (slots_of d)
     backs = moves order (detachable before is_before)
 
-    paid : IsPaid (ranks_but x (shape_in c root)) (slots_of d) root' (without x order) (potential (shape_in c root) + 9)
-    paid = pays order (detachable before is_before)
+    paid : IsSpelledWithin (ranks_without x (shape_in c root)) (slots_of d) root' (without x order) (potential (shape_in c root) + 9)
+    paid = account order (detachable before is_before)
 
     abbrev last : Chain (Node P T I G)
     last = removed greatest d x
@@ -110,11 +110,11 @@ module _ {P T I G : Type 0} (c : Chain (Node P T I G)) (root : Option ℕ) (x : 
     shape_is : shape_in last root' ≡ built.shape
     shape_is = shape_in-held last root' built.shape held_last listed_last
 
-    reranked : ReranksWithin 9 (shape_in c root) built.shape
-    reranked =
-        let R : Shape → Type 0 = λ s. ReranksWithin 9 (shape_in c root) s in
+    rank_changes : ChangesRanksWithin 9 (shape_in c root) built.shape
+    rank_changes =
+        let R : Shape → Type 0 = λ s. ChangesRanksWithin 9 (shape_in c root) s in
         subst R (Holds-unique (slots_of d) None root' paid.shape built.shape paid.held built.held)
-        (ReranksWithin-paid 9 (shape_in c root) paid
+        (ChangesRanksWithin-spelled 9 (shape_in c root) paid
         (λ j inside. rw (ne_eqb j x (apart-from x j (λ j. times j (without x order)) (times-without_same x order (once x)) (omega (arith, inside, times-walk j paid.shape, ap (times j) paid.listed)))) refl)
         (λ j. omega (arith, once j, times-walk j (shape_in c root), ap (times j) laid.listed))
         (λ j. omega (arith, times-walk j paid.shape, ap (times j) paid.listed, times-without x j order, once j)) laid.ranked)
@@ -130,7 +130,7 @@ module _ {P T I G : Type 0} (c : Chain (Node P T I G)) (root : Option ℕ) (x : 
         subst S (sym shape_is) (record {
           ranked = IsRanked-balanced 1 built.shape built.balanced;
           moved = MovesAtMost-backs 9 (slots_of c) (slots_of d) root root' (shape_in c root) built.shape laid.held built.held backs;
-          reranked = reranked;
+          rank_changes = rank_changes;
         })
 
     pub bare_removed : bare last ≡ removed greatest (bare c) x

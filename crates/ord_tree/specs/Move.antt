@@ -1,12 +1,15 @@
 -- An entry that goes to another place of the list.
 use Rattle.std.specs.Prelude.{◌≡◌, ℕ, ◌<◌, Option, None, List}
-use Rattle.ord_tree.specs.{declared.tree_links.Side.Side, Shape.Shape, Shape.walk, Ranks.IsRanked, Parents.MovesAtMost}
+use Rattle.ord_tree.specs.{declared.tree_links.Side.Side, Shape.Shape, Shape.walk, Ranks.IsRanked, Parents.MovesAtMost, Potential.ChangesRanksWithin}
 use Rattle.ord_tree.specs.{Slots.Slots, Slots.Holds, Slots.times, Slots.IsOnce, Leaf.neighbour_in}
 
--- what becomes of the shape: at most fifteen entries get another parent
-pub record IsShifted (old new : Shape) : Type 0 where
+-- What a move of an entry makes of the shape: at most fifteen entries get another parent (nine as in a removal, five as in an
+-- insertion, and the entry itself), and the number of entries whose rank changes, plus the new potential, is at most the old
+-- potential plus 14 (9, 4 and 1 likewise).
+pub record IsRearranged (old new : Shape) : Type 0 where
   pub ranked : IsRanked new
   pub moved : MovesAtMost 15 old new
+  pub rank_changes : ChangesRanksWithin 14 old new
 
 -- Nodes spell a tree over `order`, in which y stands. In the list `whole`, x stands between y and its neighbour on that side.
 -- No public clause cites it.

@@ -2,6 +2,11 @@
 use Rattle.std.specs.Prelude.{◌≡◌, ℕ, ◌+◌, ◌<◌, ◌≤◌, ◌⊎◌}
 use Rattle.ord_tree.specs.Shape.{Shape, missing, node, rank_of}
 
+-- the node of index i is in the shape, with rank k
+abbrev pub HasRank : Shape → ℕ → ℕ → Type 0
+HasRank missing i k = ⊥
+HasRank (node l j m r) i k = (i ≡ j) × (k ≡ m) ⊎ HasRank l i k ⊎ HasRank r i k
+
 -- a node may have rank k over sides of ranks l and r
 pub record IsRankOver (k l r : ℕ) : Type 0 where
   -- the rank is greater than that of each side by 1 or 2

@@ -5,7 +5,7 @@ use Rattle.std.specs.Coded.{Coded, code_by, coded×, coded_ℕ, coded_list, code
 use Rattle.std.specs.declared.cmp.Ordering.{Ordering}
 use Rattle.chain_base.specs.Chain.{Entry, Chain, insert_after, insert_before, with_item as chain_with_item, IsOccupied}
 use Rattle.ord_tree.specs.{declared.node.SimpleOrdArenaNode.SimpleOrdArenaNode as Node, Shape.Shape, Shape.root_of, Shape.walk, Slots.Holds}
-use Rattle.ord_tree.specs.{Node.indexes, Node.bare, Node.slots_of, Ranks.IsRanked, Ranks.IsTight, ShapeCode.shape_code, Parents.MovesAtMost, Potential.ReranksWithin}
+use Rattle.ord_tree.specs.{Node.indexes, Node.bare, Node.slots_of, Ranks.IsRanked, Ranks.IsTight, ShapeCode.shape_code, Parents.MovesAtMost, Potential.ChangesRanksWithin}
 
 -- the list of entries with the numbers around it, as a chain arena has them, and the shape over the entries' indexes
 pub record Tree (T : Type 0) : Type 0 where
@@ -55,18 +55,20 @@ abbrev pub CanPutAt : {I T : Type 0} → (I → ℕ) → Option (I × Ordering) 
 CanPutAt number None c = c.entries ≡ []
 CanPutAt number (Some at) c = IsOccupied c (number at.0) × (at.1 ≢ Equal)
 
--- what an insertion makes of the shape: tight stays tight, at most five entries get another parent, and new ranks are paid
+-- What an insertion makes of the shape: a tight one stays tight, at most five entries get another parent, and the number of old
+-- entries whose rank changes, plus the new potential, is at most the old potential plus 4.
 pub record IsGrown (old new : Shape) : Type 0 where
   pub ranked : IsRanked new
   pub tight : IsTight old → IsTight new
   pub moved : MovesAtMost 5 old new
-  pub reranked : ReranksWithin 4 old new
+  pub rank_changes : ChangesRanksWithin 4 old new
 
--- what a removal makes of the shape: at most nine entries get another parent, and new ranks are paid
+-- What a removal makes of the shape: at most nine entries get another parent, and the number of entries whose rank changes, plus
+-- the new potential, is at most the old potential plus 9.
 pub record IsShrunk (old new : Shape) : Type 0 where
   pub ranked : IsRanked new
   pub moved : MovesAtMost 9 old new
-  pub reranked : ReranksWithin 9 old new
+  pub rank_changes : ChangesRanksWithin 9 old new
 
 -- the tree with another item at this index
 abbrev pub with_item : {T : Type 0} → Tree T → ℕ → T → Tree T

@@ -3,7 +3,7 @@
 ghost use Rattle.std.specs.Prelude.{◌≡◌, ℕ, ◌+◌, Option, Some, List, option_map, MatchBool, MatchOption};
 ghost use Rattle.ord_tree.specs.Promote.{IsRepaired};
 ghost use Rattle.ord_tree.specs.Demote.{IsFallen, IsLeaning, IsDemoted, HasDemoted};
-ghost use Rattle.ord_tree.specs.Account.{IsPaid, IsLowered, IsPassedUp, fallen_from, fallen_stake, lean_from, lean_stake};
+ghost use Rattle.ord_tree.specs.Account.{IsSpelledWithin, IsDemotedWithin, IsFallenWithin, fallen_ranks, fallen_credit, leaning_ranks, leaning_credit};
 
 use crate::nodes::{Nodes, branch_of, rank_of};
 use crate::rotate::rotate;
@@ -21,7 +21,7 @@ use crate::tree_links::{Branch, Side};
 ///          a     r-2       r-3     a
 /// ```
 ///
-/// If both children of s are two below it, s and y demote_next by one.
+/// If both children of s are two below it, the ranks of s and y fall by one.
 ///
 /// ```text
 ///        y r                  y r-1
@@ -59,14 +59,14 @@ pub fn demote_or_rotate<N: Nodes>(
         (IsDemoted (N.at nodes.old) (N.at nodes.new)
         (option_map N.number root.new) (N.number y) order)
         (IsRepaired (N.at nodes.old) (N.at nodes.new) (option_map N.number root.new) order 1) }
-    ensures paid { (order : List ℕ)
+    ensures account { (order : List ℕ)
         (lean : IsLeaning (N.at nodes.old) (option_map N.number root.old) side
         (N.number y) (N.number s) order)
         → MatchBool result
-        (IsLowered (lean_from lean) (N.at nodes.new) (option_map N.number root.new)
-        (N.number y) order (lean_stake lean))
-        (IsPaid (lean_from lean) (N.at nodes.new) (option_map N.number root.new) order
-        (lean_stake lean + 7)) }
+        (IsDemotedWithin (leaning_ranks lean) (N.at nodes.new) (option_map N.number root.new)
+        (N.number y) order (leaning_credit lean))
+        (IsSpelledWithin (leaning_ranks lean) (N.at nodes.new) (option_map N.number root.new) order
+        (leaning_credit lean + 7)) }
     ensures kept { N.list nodes.new ≡ N.list nodes.old }
 {
     let other = side.other();
@@ -99,14 +99,14 @@ pub fn demote<N: Nodes>(nodes: &mut N, root: &mut Option<N::Inx>, y: N::Inx, sid
         (IsDemoted (N.at nodes.old) (N.at nodes.new)
         (option_map N.number root.new) (N.number y) order)
         (IsRepaired (N.at nodes.old) (N.at nodes.new) (option_map N.number root.new) order 1) }
-    ensures paid { (order : List ℕ)
+    ensures account { (order : List ℕ)
         (fallen : IsFallen (N.at nodes.old) (option_map N.number root.old)
         (N.number y) side order)
         → MatchBool result
-        (IsLowered (fallen_from fallen) (N.at nodes.new) (option_map N.number root.new)
-        (N.number y) order (fallen_stake fallen))
-        (IsPaid (fallen_from fallen) (N.at nodes.new) (option_map N.number root.new) order
-        (fallen_stake fallen + 7)) }
+        (IsDemotedWithin (fallen_ranks fallen) (N.at nodes.new) (option_map N.number root.new)
+        (N.number y) order (fallen_credit fallen))
+        (IsSpelledWithin (fallen_ranks fallen) (N.at nodes.new) (option_map N.number root.new) order
+        (fallen_credit fallen + 7)) }
     ensures kept { N.list nodes.new ≡ N.list nodes.old }
 {
     let links = nodes.links(y);
@@ -143,15 +143,15 @@ pub fn demote_next<N: Nodes>(
         (IsRepaired (N.at nodes.old) (N.at nodes.new) (option_map N.number root.new) order 1)
         (λ next. HasDemoted (N.at nodes.old) (N.at nodes.new) (option_map N.number root.new)
         (N.number branch.parent) (N.number next.parent) next.side order) }
-    ensures paid { (order : List ℕ)
+    ensures account { (order : List ℕ)
         (fallen : IsFallen (N.at nodes.old) (option_map N.number root.old)
         (N.number branch.parent) branch.side order)
         → MatchOption result
-        (IsPaid (fallen_from fallen) (N.at nodes.new) (option_map N.number root.new) order
-        (fallen_stake fallen + 7))
-        (λ next. IsPassedUp (fallen_from fallen) (N.at nodes.new)
+        (IsSpelledWithin (fallen_ranks fallen) (N.at nodes.new) (option_map N.number root.new) order
+        (fallen_credit fallen + 7))
+        (λ next. IsFallenWithin (fallen_ranks fallen) (N.at nodes.new)
         (option_map N.number root.new) (N.number next.parent) next.side order
-        (fallen_stake fallen)) }
+        (fallen_credit fallen)) }
     ensures kept { N.list nodes.new ≡ N.list nodes.old }
 {
     if !demote(nodes, root, branch.parent, branch.side) {
@@ -169,11 +169,11 @@ pub fn demote_all<N: Nodes>(nodes: &mut N, root: &mut Option<N::Inx>, fallen: Br
         → IsFallen (N.at nodes.old) (option_map N.number root.old)
         (N.number fallen.parent) fallen.side order
         → IsRepaired (N.at nodes.old) (N.at nodes.new) (option_map N.number root.new) order 1 }
-    ensures paid { (order : List ℕ)
+    ensures account { (order : List ℕ)
         (first : IsFallen (N.at nodes.old) (option_map N.number root.old)
         (N.number fallen.parent) fallen.side order)
-        → IsPaid (fallen_from first) (N.at nodes.new) (option_map N.number root.new) order
-        (fallen_stake first + 7) }
+        → IsSpelledWithin (fallen_ranks first) (N.at nodes.new) (option_map N.number root.new) order
+        (fallen_credit first + 7) }
     ensures kept { N.list nodes.new ≡ N.list nodes.old }
 {
     let mut branch = fallen;

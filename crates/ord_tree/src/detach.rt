@@ -6,7 +6,7 @@ ghost use Rattle.ord_tree.specs.Potential.{potential};
 ghost use Rattle.ord_tree.specs.Slots.{Holds, MovesBacks};
 ghost use Rattle.ord_tree.specs.Promote.{IsBuilt};
 ghost use Rattle.ord_tree.specs.Demote.{IsFallen};
-ghost use Rattle.ord_tree.specs.Account.{IsPaid, IsPassedUp, ranks_but};
+ghost use Rattle.ord_tree.specs.Account.{IsSpelledWithin, IsFallenWithin, ranks_without};
 ghost use Rattle.ord_tree.specs.Detach.{without, stand_in, renamed, IsLoose, CanStandIn, IsDetachable};
 
 use crate::demote::demote_all;
@@ -33,14 +33,14 @@ pub fn cut<N: Nodes>(
     ensures backs { (order : List ℕ)
         → IsLoose (N.at nodes.old) (option_map N.number root.old) (N.number v) bare order
         → MovesBacks 1 (N.at nodes.old) (N.at nodes.new) }
-    ensures paid { (order : List ℕ)
+    ensures account { (order : List ℕ)
         (loose : IsLoose (N.at nodes.old) (option_map N.number root.old)
         (N.number v) bare order)
         → MatchOption result
-        (IsPaid (ranks_but (N.number v) loose.built.shape) (N.at nodes.new)
+        (IsSpelledWithin (ranks_without (N.number v) loose.built.shape) (N.at nodes.new)
         (option_map N.number root.new) (without (N.number v) order)
         (potential loose.built.shape + 1))
-        (λ branch. IsPassedUp (ranks_but (N.number v) loose.built.shape) (N.at nodes.new)
+        (λ branch. IsFallenWithin (ranks_without (N.number v) loose.built.shape) (N.at nodes.new)
         (option_map N.number root.new) (N.number branch.parent) branch.side
         (without (N.number v) order) (potential loose.built.shape + 1)) }
     ensures occupied { (j : ℕ) → is_some (N.at nodes.new j) ≡ is_some (N.at nodes.old j) }
@@ -113,14 +113,14 @@ pub fn displace<N: Nodes>(
         → IsDetachable (N.at nodes.old) (option_map N.number root.old)
         (N.number z) (option_map N.number before) order
         → MovesBacks 4 (N.at nodes.old) (N.at nodes.new) }
-    ensures paid { (order : List ℕ)
+    ensures account { (order : List ℕ)
         (can : IsDetachable (N.at nodes.old) (option_map N.number root.old)
         (N.number z) (option_map N.number before) order)
         → MatchOption result
-        (IsPaid (ranks_but (N.number z) can.built.shape) (N.at nodes.new)
+        (IsSpelledWithin (ranks_without (N.number z) can.built.shape) (N.at nodes.new)
         (option_map N.number root.new) (without (N.number z) order)
         (potential can.built.shape + 2))
-        (λ branch. IsPassedUp (ranks_but (N.number z) can.built.shape) (N.at nodes.new)
+        (λ branch. IsFallenWithin (ranks_without (N.number z) can.built.shape) (N.at nodes.new)
         (option_map N.number root.new) (N.number branch.parent) branch.side
         (without (N.number z) order) (potential can.built.shape + 2)) }
     ensures kept { N.list nodes.new ≡ N.list nodes.old }
@@ -147,10 +147,10 @@ pub fn detach<N: Nodes>(nodes: &mut N, root: &mut Option<N::Inx>, z: N::Inx, bef
         → IsDetachable (N.at nodes.old) (option_map N.number root.old)
         (N.number z) (option_map N.number before) order
         → MovesBacks 9 (N.at nodes.old) (N.at nodes.new) }
-    ensures paid { (order : List ℕ)
+    ensures account { (order : List ℕ)
         (can : IsDetachable (N.at nodes.old) (option_map N.number root.old)
         (N.number z) (option_map N.number before) order)
-        → IsPaid (ranks_but (N.number z) can.built.shape) (N.at nodes.new)
+        → IsSpelledWithin (ranks_without (N.number z) can.built.shape) (N.at nodes.new)
         (option_map N.number root.new) (without (N.number z) order)
         (potential can.built.shape + 9) }
     ensures kept { N.list nodes.new ≡ N.list nodes.old }

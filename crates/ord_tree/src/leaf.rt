@@ -4,7 +4,7 @@ ghost use Rattle.std.specs.Prelude.{◌≡◌, ℕ, ◌+◌, List, option_map};
 ghost use Rattle.ord_tree.specs.Leaf.{IsNewLeaf, beside};
 ghost use Rattle.ord_tree.specs.Potential.{potential};
 ghost use Rattle.ord_tree.specs.Promote.{IsRepaired};
-ghost use Rattle.ord_tree.specs.Account.{IsPaid, rank_in};
+ghost use Rattle.ord_tree.specs.Account.{IsSpelledWithin, rank_in};
 
 use crate::nodes::Nodes;
 use crate::promote::promote_all;
@@ -27,10 +27,10 @@ pub fn add_leaf<N: Nodes>(
         (N.number y) (N.number x) order slack
         → IsRepaired (N.at nodes.old) (N.at nodes.new) (option_map N.number root.new)
         (beside side (N.number y) (N.number x) order) slack }
-    ensures paid { (order : List ℕ) (slack : ℕ)
+    ensures account { (order : List ℕ) (slack : ℕ)
         (bud : IsNewLeaf (N.at nodes.old) (option_map N.number root.old) side
         (N.number y) (N.number x) order slack)
-        → IsPaid (rank_in bud.built.shape) (N.at nodes.new) (option_map N.number root.new)
+        → IsSpelledWithin (rank_in bud.built.shape) (N.at nodes.new) (option_map N.number root.new)
         (beside side (N.number y) (N.number x) order) (potential bud.built.shape + 4) }
     ensures kept { N.list nodes.new ≡ N.list nodes.old }
 {

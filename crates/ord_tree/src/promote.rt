@@ -2,7 +2,7 @@
 
 ghost use Rattle.std.specs.Prelude.{◌≡◌, ℕ, ◌+◌, Option, Some, List, option_map, MatchOption};
 ghost use Rattle.ord_tree.specs.Promote.{IsRising, IsSteep, IsRepaired, IsPromoted};
-ghost use Rattle.ord_tree.specs.Account.{IsPaid, IsPassedOn, risen_from, stake, steep_from, steep_stake};
+ghost use Rattle.ord_tree.specs.Account.{IsSpelledWithin, IsRisingWithin, rising_ranks, rising_credit, steep_ranks, steep_credit};
 
 use crate::nodes::{Nodes, rank_of, side_of};
 use crate::rotate::rotate;
@@ -45,11 +45,11 @@ pub fn rotate_once_or_twice<N: Nodes>(
         → IsSteep (N.at nodes.old) (option_map N.number root.old) side
         (N.number z) (N.number y) order slack
         → IsRepaired (N.at nodes.old) (N.at nodes.new) (option_map N.number root.new) order slack }
-    ensures paid { (order : List ℕ) (slack : ℕ)
+    ensures account { (order : List ℕ) (slack : ℕ)
         (steep : IsSteep (N.at nodes.old) (option_map N.number root.old) side
         (N.number z) (N.number y) order slack)
-        → IsPaid (steep_from steep) (N.at nodes.new) (option_map N.number root.new) order
-        (steep_stake steep + 3) }
+        → IsSpelledWithin (steep_ranks steep) (N.at nodes.new) (option_map N.number root.new) order
+        (steep_credit steep + 3) }
     ensures kept { N.list nodes.new ≡ N.list nodes.old }
 {
     let low = nodes.links(y);
@@ -76,14 +76,14 @@ pub fn promote<N: Nodes>(nodes: &mut N, root: &mut Option<N::Inx>, y: N::Inx) ->
         (IsRepaired (N.at nodes.old) (N.at nodes.new) (option_map N.number root.new) order slack)
         (λ z. IsPromoted (N.at nodes.old) (N.at nodes.new) (option_map N.number root.new)
         (N.number y) (N.number z) order slack) }
-    ensures paid { (order : List ℕ) (slack : ℕ)
+    ensures account { (order : List ℕ) (slack : ℕ)
         (rising : IsRising (N.at nodes.old) (option_map N.number root.old)
         (N.number y) order slack)
         → MatchOption result
-        (IsPaid (risen_from rising) (N.at nodes.new) (option_map N.number root.new) order
-        (stake rising + 3))
-        (λ z. IsPassedOn (risen_from rising) (N.at nodes.new) (option_map N.number root.new)
-        (N.number z) order slack (stake rising)) }
+        (IsSpelledWithin (rising_ranks rising) (N.at nodes.new) (option_map N.number root.new) order
+        (rising_credit rising + 3))
+        (λ z. IsRisingWithin (rising_ranks rising) (N.at nodes.new) (option_map N.number root.new)
+        (N.number z) order slack (rising_credit rising)) }
     ensures kept { N.list nodes.new ≡ N.list nodes.old }
 {
     let low = nodes.links(y);
@@ -112,11 +112,11 @@ pub fn promote_all<N: Nodes>(nodes: &mut N, root: &mut Option<N::Inx>, y: N::Inx
     ensures repaired { (order : List ℕ) (slack : ℕ)
         → IsRising (N.at nodes.old) (option_map N.number root.old) (N.number y) order slack
         → IsRepaired (N.at nodes.old) (N.at nodes.new) (option_map N.number root.new) order slack }
-    ensures paid { (order : List ℕ) (slack : ℕ)
+    ensures account { (order : List ℕ) (slack : ℕ)
         (rising : IsRising (N.at nodes.old) (option_map N.number root.old)
         (N.number y) order slack)
-        → IsPaid (risen_from rising) (N.at nodes.new) (option_map N.number root.new) order
-        (stake rising + 3) }
+        → IsSpelledWithin (rising_ranks rising) (N.at nodes.new) (option_map N.number root.new) order
+        (rising_credit rising + 3) }
     ensures kept { N.list nodes.new ≡ N.list nodes.old }
 {
     let mut rising = y;

@@ -4,10 +4,10 @@ use Rattle.triple_ord.proofs.Words.{Entry, Chain, times, IsDistinct, entry_at, t
 use Rattle.triple_ord.proofs.Words.{Gap, first_of, last_of, before, after, LiesBehind, IsBeside, order_to, taken, Passed, Ordering, Less, Equal, Greater, Tree, with_item, put_on, pointer, FindsSimilar, cases_eq, item_of, count, Updates, entry_at-between, entry_at-between_other, length-between}
 use Rattle.triple_ord.proofs.CallerLemmas.{updates-at, item_if-found}
 use Rattle.triple_ord.specs.Rekey.{Rekeys}
-use Rattle.ord_tree.specs.{Move.IsShifted, Tree.CanPutAt}
+use Rattle.ord_tree.specs.{Move.IsRearranged, Tree.CanPutAt}
 use Rattle.triple_ord.proofs.Inserting.{begins, ends, last_of-append, with_item-here, puts-before, puts-after, entry_at-before, entry_at-after}
 use Rattle.triple_ord.proofs.OrderLaws.{taken-less, taken-greater, passed-unequal}
-use Rattle.chain_base.specs.{Chain.without, Move.relisted, Move.put_back, Move.unlisted}
+use Rattle.chain_base.specs.{Chain.without, Move.with_entry_moved, Move.list_with, Move.without_entry}
 
 module _ {T : Type 0} (i : ℕ) where
   without-absent : (es : List (Entry T)) → times i es ≡ 0 → without i es ≡ es
@@ -121,9 +121,9 @@ module _ {T K : Type 0} (key : T → K) (cmp : K → K → Ordering) (es : List 
           | inr high ↦ rw high.1 (puts-before (without i es) e distinct2 gap_left (first-kept i m.gap.back e other high.0) entry)
         ]
 
-    pub listed-moved : e.index ≢ i → put_back (put_on o e.index) i (entry_at (with_item_among es i item) i) (without i (with_item_among es i item)) ≡ put_there
+    pub listed-moved : e.index ≢ i → list_with (put_on o e.index) i (entry_at (with_item_among es i item) i) (without i (with_item_among es i item)) ≡ put_there
     listed-moved other =
-        ap (λ (x : Option (ℕ × T)). put_back (put_on o e.index) i x (without i (with_item_among es i item)))
+        ap (λ (x : Option (ℕ × T)). list_with (put_on o e.index) i x (without i (with_item_among es i item)))
         (entry_at-with_item_among es i item ∙ ap (option_map (λ (x : ℕ × T). (x.0, item))) there)
         ∙ ap (λ (es : List (Entry T)). put_on o e.index es entry) (without-written i es item) ∙ put-left other
 
@@ -188,7 +188,7 @@ module _ {T K : Type 0} (key : T → K) (cmp : K → K → Ordering) (old new : 
   abbrev there : List (Entry T)
   there = put_there key cmp old.list.entries (key item) distinct p has.0 has.1 item e.0 o e.2
 
-  rekeyed : new.list ≡ record old.list { entries = there } → ((new.shape ≡ old.shape) ⊎ IsShifted old.shape new.shape) → IsRekeyed key cmp old p item new
+  rekeyed : new.list ≡ record old.list { entries = there } → ((new.shape ≡ old.shape) ⊎ IsRearranged old.shape new.shape) → IsRekeyed key cmp old p item new
   rekeyed is shape =
       let entries : new.list.entries ≡ there = ap (λ (c : Chain T). c.entries) is in
       record {
@@ -237,10 +237,10 @@ module _ {T K : Type 0} (key : T → K) (cmp : K → K → Ordering) (old new : 
       | inr high ↦ absurd (let less = high.1 in cc)
     ]
 
-    pub rekeyed_moved : new.list ≡ relisted (with_item old p.0 item).list p.0 (put_on o q.0) → IsShifted old.shape new.shape → IsRekeyed key cmp old p item new
+    pub rekeyed_moved : new.list ≡ with_entry_moved (with_item old p.0 item).list p.0 (put_on o q.0) → IsRearranged old.shape new.shape → IsRekeyed key cmp old p item new
     rekeyed_moved after shape =
         rekeyed
-        (after ∙ ap (λ (n : ℕ). relisted (with_item old p.0 item).list p.0 (put_on o n)) (ap (λ (x : ℕ × ℕ). x.0) e.1)
+        (after ∙ ap (λ (n : ℕ). with_entry_moved (with_item old p.0 item).list p.0 (put_on o n)) (ap (λ (x : ℕ × ℕ). x.0) e.1)
         ∙ ap (λ es. record old.list { entries = es }) (listed-moved key cmp old.list.entries (key item) distinct p has.0 has.1 item e.0 o e.2 index_other))
         (inr shape)
 
@@ -255,15 +255,15 @@ module _ {P T K : Type 0} (numbers : P → ℕ × ℕ) (key : T → K) (cmp : K 
       let was = item_if-found p.1 (entry_at old.list.entries p.0) named in
       rw (written, entry_at-with_item_among old.list.entries p.0 item, was.1) refl
 
-  pub can_go : (at : Option (P × Ordering)) → Answers at → IfSome at (λ a. (numbers a.0).0 ≢ p.0 → CanPutAt (λ q. (numbers q).0) (Some a) (unlisted mid.list p.0))
+  pub can_go : (at : Option (P × Ordering)) → Answers at → IfSome at (λ a. (numbers a.0).0 ≢ p.0 → CanPutAt (λ q. (numbers q).0) (Some a) (without_entry mid.list p.0))
   can_go None found = tt
   can_go (Some a) found = λ other.
       let apart : p.0 ≢ (numbers a.0).0 = λ same. other (sym same) in
       (rw written (occupied_there key cmp old new distinct p item named (numbers a.0) a.1 c found apart), unequal key cmp old new distinct p item named (numbers a.0) a.1 c found apart)
 
   pub rekeyed_by : (at : Option (P × Ordering)) → Answers at → IfSome at (λ a. (numbers a.0).0 ≡ p.0 → new ≡ mid)
-      → IfSome at (λ a. (numbers a.0).0 ≢ p.0 → new.list ≡ relisted mid.list p.0 (put_on a.1 (numbers a.0).0))
-      → IfSome at (λ a. (numbers a.0).0 ≢ p.0 → IsShifted mid.shape new.shape) → IsRekeyed key cmp old p item new
+      → IfSome at (λ a. (numbers a.0).0 ≢ p.0 → new.list ≡ with_entry_moved mid.list p.0 (put_on a.1 (numbers a.0).0))
+      → IfSome at (λ a. (numbers a.0).0 ≢ p.0 → IsRearranged mid.shape new.shape) → IsRekeyed key cmp old p item new
   rekeyed_by None found stays list shape =
       absurd (let was = (item_if-found p.1 (entry_at old.list.entries p.0) named).1 in let none = ap (λ es. entry_at es p.0) found in cc)
   rekeyed_by (Some a) found stays list shape = elim (cases_eq (numbers a.0).0 p.0) [
@@ -271,5 +271,5 @@ module _ {P T K : Type 0} (numbers : P → ℕ × ℕ) (key : T → K) (cmp : K 
     | inr other ↦
         let apart : p.0 ≢ (numbers a.0).0 = λ same. other (sym same) in
         rekeyed_moved key cmp old new distinct p item named (numbers a.0) a.1 c found apart
-        (list other ∙ ap (λ (t : Tree T). relisted t.list p.0 (put_on a.1 (numbers a.0).0)) written) (rw written at (shape other))
+        (list other ∙ ap (λ (t : Tree T). with_entry_moved t.list p.0 (put_on a.1 (numbers a.0).0)) written) (rw written at (shape other))
   ]

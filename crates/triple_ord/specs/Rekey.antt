@@ -1,7 +1,7 @@
 -- An entry that gets another item and goes to the place of its key.
 use Rattle.std.specs.{Prelude.◌≡◌, Prelude.ℕ, Prelude.◌⊎◌, Prelude.◌∷◌, Prelude.◌++◌, declared.cmp.Ordering.Ordering}
 use Rattle.chain_base.specs.Chain.{IsDistinct, without}
-use Rattle.ord_tree.specs.{Tree.Tree, Move.IsShifted}
+use Rattle.ord_tree.specs.{Tree.Tree, Move.IsRearranged}
 use Rattle.triple_ord.specs.{Gap.Gap, Place.LiesBehind, Order.IsInOrder}
 
 -- The entry of p has the item now, and stands in a gap of the list that lies behind the item's key; all else stays.
@@ -10,7 +10,7 @@ pub record Rekeys {T K : Type 0} (key : T → K) (cmp : K → K → Ordering) (o
   pub place : LiesBehind key cmp gap (key item)
   pub entries : new.list.entries ≡ without p.0 gap.front ++ record { index = p.0; generation = p.1; item = item } ∷ without p.0 gap.back
   pub kept : new.list ≡ record old.list { entries = new.list.entries }
-  pub shape : (new.shape ≡ old.shape) ⊎ IsShifted old.shape new.shape
+  pub shape : (new.shape ≡ old.shape) ⊎ IsRearranged old.shape new.shape
 
 -- An entry that gets another key leaves a list in the order of its keys in their order.
 abbrev pub RekeyOrderLaw : {T K : Type 0} → (T → K) → (K → K → Ordering) → Type 0

@@ -12,6 +12,7 @@ mod entries;
 mod equal_keys;
 mod every_order;
 mod hints;
+mod rank_changes;
 mod rebuild;
 mod recast_transfer;
 mod recasting;

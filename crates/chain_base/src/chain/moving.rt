@@ -3,7 +3,7 @@ ghost use Rattle.std.specs.Prelude.{◌≡◌};
 ghost use Rattle.std.specs.Option.{option_map};
 ghost use Rattle.chain_base.specs.Chain.{Chain, IsOccupied};
 ghost use Rattle.chain_base.specs.Insert.{placed, CanPlace, PutsBetween};
-ghost use Rattle.chain_base.specs.Move.{relisted, unlisted, HoldsLinks};
+ghost use Rattle.chain_base.specs.Move.{with_entry_moved, without_entry, HoldsLinks};
 
 use super::ChainArena;
 use super::insert::LinkInsertKind;
@@ -13,14 +13,13 @@ use arena_base::{Arena, Ptr};
 use std::alloc::Allocator;
 
 impl<P: Ptr, T, A: Allocator> ChainArena<P, T, A> {
-    /// Takes the entry at an index that has one out of the list and puts it back at the place that `kind` names in the list
-    /// without it. It keeps its index, its generation and its item, and so its pointer. It takes no memory.
+    /// Moves the entry at `i` to the place that `kind` names in the list without it. It keeps its pointer and its item.
     ///
-    /// Beside its own neighbour it comes to stand where it stood.
+    /// The other entries keep their order. Beside its own neighbour the entry stays where it is. O(1), and no memory.
     pub fn move_beside(&mut self, i: P::Inx, kind: LinkInsertKind<P>)
         requires entry { IsOccupied self.old (P.Inx.number i) }
-        requires place { CanPlace P.Inx.number kind (unlisted self.old (P.Inx.number i)) }
-        ensures { self.new ≡ relisted self.old (P.Inx.number i) (placed P.Inx.number kind) }
+        requires place { CanPlace P.Inx.number kind (without_entry self.old (P.Inx.number i)) }
+        ensures { self.new ≡ with_entry_moved self.old (P.Inx.number i) (placed P.Inx.number kind) }
     {
         // Each index of an entry can be named in a link.
         let _ = self.len();
@@ -42,7 +41,7 @@ impl<P: Ptr, T, A: Allocator> ChainArena<P, T, A> {
     }
 }
 
-// The neighbours of an entry that is to come to a place in a list, where the entries of the list hold their links.
+// The neighbours that an entry gets at a place of a list. The slots of the list's entries hold their links.
 fn neighbours_in<P: Ptr, T, A: Allocator>(
     arena: &Arena<P, LinkNoGen<P, T>, A>,
     kind: LinkInsertKind<P>,

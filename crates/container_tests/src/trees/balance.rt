@@ -1,23 +1,6 @@
 //! Insertions and removals in every order, beside a plain vector.
-use super::{Keys, Place, moved, places, toggle};
+use super::{Keys, Place, moved, places, potential, rank_changes, steps, toggle};
 use std::alloc::Global;
-
-/// The rank of a child.
-fn rank_at(places: &[Place], index: Option<u32>) -> u8 {
-    match places.iter().find(|place| Some(place.index) == index) {
-        Some(place) => place.rank,
-        None => 0,
-    }
-}
-
-/// How much higher a node's rank is than that of each child.
-fn steps(places: &[Place], place: &Place) -> (u8, u8) {
-    let (lesser, greater) = place.children;
-    (
-        place.rank.saturating_sub(rank_at(places, lesser)),
-        place.rank.saturating_sub(rank_at(places, greater)),
-    )
-}
 
 /// No node has both children two below it.
 fn is_tight(places: &[Place]) -> bool {
@@ -63,18 +46,25 @@ fn order_of(alloc: Global, count: u8, number: usize) -> Vec<u8> {
     order
 }
 
-/// Inserts or removes a key in a plain vector. Answers how many parents the tree may move.
-fn toggle_sorted(sorted: &mut Vec<u8>, key: u8) -> usize {
+/// Inserts or removes a key in a plain vector. Returns how many parents the tree may move, and how many rank changes it may add to its
+/// account.
+fn toggle_sorted(sorted: &mut Vec<u8>, key: u8) -> (usize, usize) {
     match sorted.binary_search(&key) {
         Err(at) => {
             let _ = sorted.insert(at, key);
-            5
+            (5, 4)
         }
         Ok(at) => {
             let _ = sorted.remove(at);
-            9
+            (9, 9)
         }
     }
+}
+
+/// Whether the potential of the old tree and the allowance pay for the rank changes and for the potential of the new one.
+fn is_paid(old: &[Place], new: &[Place], allowance: usize) -> bool {
+    let needed = rank_changes(old, new).saturating_add(potential(new));
+    needed <= potential(old).saturating_add(allowance)
 }
 
 /// A tree, the places of its keys, and a plain vector of the same keys.
@@ -88,11 +78,12 @@ struct Both {
 /// Inserts or removes a key in both. Tells whether they agree then: only a removal leaves a tree that isn't tight.
 fn agree_on(alloc: Global, both: &mut Both, key: u8, stays_tight: bool) -> bool {
     let is_done = toggle(&mut both.tree, &both.places, key);
-    let most = toggle_sorted(&mut both.sorted, key);
+    let (most_moved, allowance) = toggle_sorted(&mut both.sorted, key);
     let new = places(alloc, &both.tree);
     let is_right = is_done
         && is_balanced(&new, both.tree.root(), &both.sorted)
-        && moved(&both.places, &new) <= most
+        && moved(&both.places, &new) <= most_moved
+        && is_paid(&both.places, &new, allowance)
         && (!stays_tight || is_tight(&new));
     both.places = new;
     is_right

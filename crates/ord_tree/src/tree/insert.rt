@@ -8,7 +8,7 @@ ghost use Rattle.ord_tree.specs.Node.{indexes, bare, slots_of};
 ghost use Rattle.ord_tree.specs.Leaf.{neighbour_in, beside, IsNewLeaf};
 ghost use Rattle.ord_tree.specs.Potential.{potential};
 ghost use Rattle.ord_tree.specs.Promote.{IsRepaired};
-ghost use Rattle.ord_tree.specs.Account.{IsPaid, rank_in};
+ghost use Rattle.ord_tree.specs.Account.{IsSpelledWithin, rank_in};
 ghost use Rattle.ord_tree.specs.Tree.{put_at, CanPutAt, IsGrown};
 ghost use Rattle.ord_tree.specs.Layout.{IsLaidOut};
 ghost use Rattle.ord_tree.specs.LeafBranch.{side_at, kind_at, IsLeafBranch, IsLeafBranchAt};
@@ -190,11 +190,11 @@ fn grow<P: Ptr, T, A: Allocator>(
         (option_map P.Inx.number root.new)
         (beside p.side (P.Inx.number p.parent) (P.Inx.number x) order)
         slack) }
-    ensures paid { MatchOption branch (Unit {0})
+    ensures account { MatchOption branch (Unit {0})
         (λ p. (order : List ℕ) (slack : ℕ)
         (bud : IsNewLeaf (slots_of chain.old) (option_map P.Inx.number root.old) p.side
         (P.Inx.number p.parent) (P.Inx.number x) order slack)
-        → IsPaid (rank_in bud.built.shape) (slots_of chain.new)
+        → IsSpelledWithin (rank_in bud.built.shape) (slots_of chain.new)
         (option_map P.Inx.number root.new)
         (beside p.side (P.Inx.number p.parent) (P.Inx.number x) order)
         (potential bud.built.shape + 4)) }

@@ -2,10 +2,10 @@
 
 ghost use Rattle.std.specs.Prelude.{◌≡◌, ℕ, List, Option, Some};
 ghost use Rattle.chain_base.specs.Chain.{IsOccupied};
-ghost use Rattle.chain_base.specs.Move.{relisted, unlisted};
+ghost use Rattle.chain_base.specs.Move.{with_entry_moved, without_entry};
 ghost use Rattle.ord_tree.specs.Node.{indexes, slots_of};
 ghost use Rattle.ord_tree.specs.Tree.{put_on, CanPutAt};
-ghost use Rattle.ord_tree.specs.Move.{IsShifted, IsAside};
+ghost use Rattle.ord_tree.specs.Move.{IsRearranged, IsAside};
 ghost use Rattle.ord_tree.specs.LeafBranch.{IsLeafBranch};
 
 use super::OrdTree;
@@ -22,16 +22,19 @@ use std::alloc::Allocator;
 use std::cmp::Ordering;
 
 impl<P: Ptr, T, A: Allocator> OrdTree<P, T, A> {
-    /// Takes the entry at an index that has one out of the list and puts it back directly before (`Less`) or after (`Greater`)
-    /// another. It keeps its index, its generation and its item, and so its pointer. Every other entry keeps its order, and at
-    /// most fifteen get another parent.
+    /// Moves the entry at `i` directly before (`Less`) or after (`Greater`) another entry. It keeps its pointer and its item.
     ///
-    /// Beside its own neighbour it comes to stand where it stood. For n entries it takes O(log n) time, and no memory.
+    /// The other entries keep their order. Beside its own neighbour the entry stays where it is.
+    ///
+    /// # Complexity
+    ///
+    /// O(log n), and no memory. At most fifteen nodes get a new parent. The amortized number of rank changes is at most 14.
     pub fn move_beside(&mut self, i: P::Inx, at: (P::Inx, Ordering))
         requires entry { IsOccupied self.old.list (P.Inx.number i) }
-        requires place { CanPutAt P.Inx.number (Some at) (unlisted self.old.list (P.Inx.number i)) }
-        ensures list { self.new.list ≡ relisted self.old.list (P.Inx.number i) (put_on at.1 (P.Inx.number at.0)) }
-        ensures shape { IsShifted self.old.shape self.new.shape }
+        requires place { CanPutAt P.Inx.number (Some at) (without_entry self.old.list (P.Inx.number i)) }
+        ensures list { self.new.list
+            ≡ with_entry_moved self.old.list (P.Inx.number i) (put_on at.1 (P.Inx.number at.0)) }
+        ensures shape { IsRearranged self.old.shape self.new.shape }
     {
         prove!(self.chain.len() <= self.chain.capacity());
         let z = node_at(&self.chain, i);

@@ -1,8 +1,8 @@
 //! Giving an entry another key.
 ghost use Rattle.std.specs.Prelude.{◌≡◌, ◌≢◌, ◌↔◌, Some, OnSome, IfSome, IfNone, IsTrue};
 ghost use Rattle.chain_base.specs.Chain.{IsOccupied};
-ghost use Rattle.chain_base.specs.Move.{relisted, unlisted};
-ghost use Rattle.ord_tree.specs.Move.{IsShifted};
+ghost use Rattle.chain_base.specs.Move.{with_entry_moved, without_entry};
+ghost use Rattle.ord_tree.specs.Move.{IsRearranged};
 ghost use Rattle.ord_tree.specs.Tree.{CanPutAt, put_on};
 ghost use Rattle.triple_ord.specs.Arena.{item_of, count, Updates};
 ghost use Rattle.triple_ord.specs.Rekey.{Rekeys};
@@ -45,12 +45,12 @@ impl<P: Ptr, T, A: Allocator> SimpleOrdArena<P, T, A> {
     fn go_beside(&mut self, p: P, at: Option<(P, Ordering)>)
         requires entry { IsOccupied self.old.list (P.numbers p).0 }
         requires place { IfSome at (λ a. (P.numbers a.0).0 ≢ (P.numbers p).0
-            → CanPutAt (λ q. (P.numbers q).0) (Some a) (unlisted self.old.list (P.numbers p).0)) }
+            → CanPutAt (λ q. (P.numbers q).0) (Some a) (without_entry self.old.list (P.numbers p).0)) }
         ensures stays { IfSome at (λ a. (P.numbers a.0).0 ≡ (P.numbers p).0 → self.new ≡ self.old) }
         ensures list { IfSome at (λ a. (P.numbers a.0).0 ≢ (P.numbers p).0
-            → self.new.list ≡ relisted self.old.list (P.numbers p).0 (put_on a.1 (P.numbers a.0).0)) }
+            → self.new.list ≡ with_entry_moved self.old.list (P.numbers p).0 (put_on a.1 (P.numbers a.0).0)) }
         ensures shape { IfSome at (λ a. (P.numbers a.0).0 ≢ (P.numbers p).0
-            → IsShifted self.old.shape self.new.shape) }
+            → IsRearranged self.old.shape self.new.shape) }
     {
         let Some(at) = at else {
             return;

@@ -1,4 +1,4 @@
-use Rattle.ord_machine.proofs.Reranking.{rank_changes}
+use Rattle.ord_machine.proofs.RankChanges.{rank_changes}
 use Rattle.ord_machine.proofs.laws.rank_changes_law.Goals as goal
 
 pub returns : goal.returns

@@ -2,8 +2,8 @@ use Rattle.std.proofs.Common.{◌≡◌, ◌+◌, sym, ◌∙◌, ap, subst, opt
 use Rattle.ord_tree.specs.{declared.tree_links.Side.Side, Demote.IsLeaning}
 use Rattle.ord_tree.proofs.Demoting.{IsRepaired-stop, IsDemoted-written, IsOver-bare, IsLeaning-fallen}
 use Rattle.std.specs.Prelude.{MatchBool}
-use Rattle.ord_tree.specs.{Shape.rank_of, Account.IsPaid, Account.IsLowered, Account.lean_from, Account.lean_stake}
-use Rattle.ord_tree.proofs.Lowering.{IsPaid-high, IsLowered-written, paid-bare, paid-slack, leaning-paid}
+use Rattle.ord_tree.specs.{Shape.rank_of, Account.IsSpelledWithin, Account.IsDemotedWithin, Account.leaning_ranks, Account.leaning_credit}
+use Rattle.ord_tree.proofs.DemotionAccount.{IsSpelledWithin-high, IsDemotedWithin-written, paid-bare, paid-slack, leaning-paid}
 use Rattle.ord_tree.proofs.Reading.{low-read, fallen-read, far-read, sibling-read}
 use Rattle.ord_tree.proofs.demote.demote.Goals as goal
 
@@ -61,29 +61,29 @@ returns-clause-mended g c = λ order fallen.
     let P : Side → Type 0 = λ side. IsLeaning (g.N.Nodes.at c.args.nodes.now) (option_map number c.args.root.now) side (number c.args.y) (number c.in-Some.s) order in
     c.demote_or_rotate.ensures.mended order (subst P (sym c.other-other.ensures) (IsLeaning-fallen fallen _ root_is (omega (arith, rank_is, low_is, fallen.over.lesser)) (omega (arith, rank_is, sibling_is, fallen.over.greater))))
 
-pub returns-in_default-clause-paid : goal.returns-in_default-clause-paid
-returns-in_default-clause-paid g c = λ order fallen.
+pub returns-in_default-clause-account : goal.returns-in_default-clause-account
+returns-in_default-clause-account g c = λ order fallen.
     let number = g.N.Nodes.number in
     let none = far-read number fallen _ c.other-other.ensures _ c.links-links.ensures _ c.child-2.ensures ∙ ap (option_map number) c.in_default.is in
     let bare = IsOver-bare fallen none in
-    IsLowered-written fallen (record { here = c.set_rank.ensures.here; elsewhere = c.set_rank.ensures.elsewhere }) (omega (arith, bare.0)) bare.1 (paid-bare fallen none)
+    IsDemotedWithin-written fallen (record { here = c.set_rank.ensures.here; elsewhere = c.set_rank.ensures.elsewhere }) (omega (arith, bare.0)) bare.1 (paid-bare fallen none)
 
-pub returns-then-links-low-le2-clause-paid : goal.returns-then-links-low-le2-clause-paid
-returns-then-links-low-le2-clause-paid g c = λ order fallen. IsPaid-high fallen
+pub returns-then-links-low-le2-clause-account : goal.returns-then-links-low-le2-clause-account
+returns-then-links-low-le2-clause-account g c = λ order fallen. IsSpelledWithin-high fallen
 
-pub returns-then-links-sibling-eq2-clause-paid : goal.returns-then-links-sibling-eq2-clause-paid
-returns-then-links-sibling-eq2-clause-paid g c = λ order fallen.
+pub returns-then-links-sibling-eq2-clause-account : goal.returns-then-links-sibling-eq2-clause-account
+returns-then-links-sibling-eq2-clause-account g c = λ order fallen.
     let number = g.N.Nodes.number in
     let low_is = low-read number fallen _ c.other-other.ensures _ c.links-links.ensures _ c.child.ensures _ c.rank_of-low.ensures in
     let rank_is = fallen-read number fallen _ c.other-other.ensures _ c.links-links.ensures in
     let sibling_is = sibling-read number fallen _ c.other-other.ensures _ c.links-links.ensures _ c.child-2.ensures _ c.in-Some.is _ c.links-sibling.ensures in
     let written = c.set_rank-then-links-sibling-eq2.ensures in
-    IsLowered-written fallen (record { here = written.here; elsewhere = written.elsewhere }) (omega (arith, rank_is, fallen.over.lesser))
+    IsDemotedWithin-written fallen (record { here = written.here; elsewhere = written.elsewhere }) (omega (arith, rank_is, fallen.over.lesser))
     (omega (arith, rank_is, low_is, sibling_is, fallen.over))
     (paid-slack fallen (omega (arith, rank_is, low_is, fallen.over.lesser)) (omega (arith, rank_is, sibling_is, fallen.over.greater)) _ (omega (arith, rank_is, fallen.over.lesser)))
 
-pub returns-clause-paid : goal.returns-clause-paid
-returns-clause-paid g c = λ order fallen.
+pub returns-clause-account : goal.returns-clause-account
+returns-clause-account g c = λ order fallen.
     let number = g.N.Nodes.number in
     let low_is = low-read number fallen _ c.other-other.ensures _ c.links-links.ensures _ c.child.ensures _ c.rank_of-low.ensures in
     let rank_is = fallen-read number fallen _ c.other-other.ensures _ c.links-links.ensures in
@@ -95,7 +95,7 @@ returns-clause-paid g c = λ order fallen.
     let now = c.demote_or_rotate.new.nodes in
     let root = option_map number c.demote_or_rotate.new.root in
     let P : Side → Type 0 = λ side. (lean : IsLeaning (at c.args.nodes.now) (option_map number c.args.root.now) side y s order)
-    → MatchBool c.demote_or_rotate.result (IsLowered (lean_from lean) (at now) root y order (lean_stake lean)) (IsPaid (lean_from lean) (at now) root order (lean_stake lean + 7)) in
+    → MatchBool c.demote_or_rotate.result (IsDemotedWithin (leaning_ranks lean) (at now) root y order (leaning_credit lean)) (IsSpelledWithin (leaning_ranks lean) (at now) root order (leaning_credit lean + 7)) in
     let low : rank_of fallen.low + 3 ≡ fallen.rank = omega (arith, rank_is, low_is, fallen.over.lesser) in
     let sibling : rank_of fallen.far + 1 ≡ fallen.rank = omega (arith, rank_is, sibling_is, fallen.over.greater) in
-    leaning-paid fallen s root_is low sibling (at now) root c.demote_or_rotate.result (subst P c.other-other.ensures (c.demote_or_rotate.ensures.paid order) (IsLeaning-fallen fallen s root_is low sibling))
+    leaning-paid fallen s root_is low sibling (at now) root c.demote_or_rotate.result (subst P c.other-other.ensures (c.demote_or_rotate.ensures.account order) (IsLeaning-fallen fallen s root_is low sibling))

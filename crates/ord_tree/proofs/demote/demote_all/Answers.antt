@@ -1,6 +1,6 @@
 use Rattle.std.proofs.Common.{◌∙◌, arith, refl}
 use Rattle.ord_tree.proofs.Promoting.{IsRepaired-after}
-use Rattle.ord_tree.proofs.Lowering.{IsPassedUp-first, IsPassedUp-next, IsPaid-up}
+use Rattle.ord_tree.proofs.DemotionAccount.{IsFallenWithin-first, IsFallenWithin-next, IsSpelledWithin-up}
 use Rattle.ord_tree.proofs.demote.demote_all.Goals as goal
 
 pub loop-next-smaller : goal.loop-next-smaller
@@ -17,7 +17,7 @@ loop-next-preserved g c = record {
       (next.fallen, λ j. now.1 j ∙ next.backs j);
   paid = λ order start.
       let on = c.loop-next.invariant.paid order start in
-      IsPassedUp-next on (c.in-Some.ensures.paid order on.fallen);
+      IsFallenWithin-next on (c.in-Some.ensures.account order on.fallen);
   kept = cc;
 }
 
@@ -27,9 +27,9 @@ returns-clause-repaired g c = λ order fallen.
     IsRepaired-after now.1 (c.in_default.ensures.demoted order now.0)
 
 pub loop-next-init : goal.loop-next-init
-loop-next-init g c = record { fallen = λ order fallen. (fallen, λ j. refl); paid = λ order start. IsPassedUp-first start; kept = refl }
+loop-next-init g c = record { fallen = λ order fallen. (fallen, λ j. refl); paid = λ order start. IsFallenWithin-first start; kept = refl }
 
-pub returns-clause-paid : goal.returns-clause-paid
-returns-clause-paid g c = λ order start.
+pub returns-clause-account : goal.returns-clause-account
+returns-clause-account g c = λ order start.
     let on = c.loop-next.invariant.paid order start in
-    IsPaid-up on 7 (c.in_default.ensures.paid order on.fallen)
+    IsSpelledWithin-up on 7 (c.in_default.ensures.account order on.fallen)

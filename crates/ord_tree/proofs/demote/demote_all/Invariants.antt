@@ -1,5 +1,5 @@
 use Rattle.std.proofs.Common.{◌≡◌, ℕ, ◌-◌, Some, List, option_map}
-use Rattle.ord_tree.specs.{Slots.back_at, Slots.rank_at, Demote.IsFallen, Account.IsPassedUp, Account.fallen_from, Account.fallen_stake}
+use Rattle.ord_tree.specs.{Slots.back_at, Slots.rank_at, Demote.IsFallen, Account.IsFallenWithin, Account.fallen_ranks, Account.fallen_credit}
 use Rattle.ord_tree.proofs.demote.demote_all.Given as goal
 
 -- what has fallen when the repair began has fallen here, no node has another parent, and the account is passed up
@@ -15,7 +15,7 @@ invariant-loop-next g l =
       fallen : (order : List ℕ) → IsFallen was was_root (number first.parent) first.side order
           → IsFallen now root (number l.branch.parent) l.branch.side order × ((j : ℕ) → back_at was j ≡ back_at now j);
       paid : (order : List ℕ) (start : IsFallen was was_root (number first.parent) first.side order)
-          → IsPassedUp (fallen_from start) now root (number l.branch.parent) l.branch.side order (fallen_stake start);
+          → IsFallenWithin (fallen_ranks start) now root (number l.branch.parent) l.branch.side order (fallen_credit start);
       kept : g.N.Nodes.list l.nodes ≡ g.N.Nodes.list l.fn.nodes;
     }
 

@@ -1,5 +1,5 @@
 use Rattle.ord_tree.proofs.Demoting.{demoted_occupied, parent_occupied, demoted_branch}
-use Rattle.ord_tree.proofs.Lowering.{lowered_branch}
+use Rattle.ord_tree.proofs.DemotionAccount.{lowered_branch}
 use Rattle.ord_tree.proofs.demote.demote_next.Goals as goal
 
 pub branch_of-requires-clause-occupied : goal.branch_of-requires-clause-occupied
@@ -12,6 +12,6 @@ pub returns-clause-demoted : goal.returns-clause-demoted
 returns-clause-demoted g c = λ order fallen.
     demoted_branch (c.if-not-demote.ensures.mended order fallen) g.N.Nodes.number c.branch_of.result (record { parent = c.branch_of.ensures.parent; side = c.branch_of.ensures.side })
 
-pub returns-clause-paid : goal.returns-clause-paid
-returns-clause-paid g c = λ order fallen.
-    lowered_branch (c.if-not-demote.ensures.paid order fallen) g.N.Nodes.number c.branch_of.result (record { parent = c.branch_of.ensures.parent; side = c.branch_of.ensures.side })
+pub returns-clause-account : goal.returns-clause-account
+returns-clause-account g c = λ order fallen.
+    lowered_branch (c.if-not-demote.ensures.account order fallen) g.N.Nodes.number c.branch_of.result (record { parent = c.branch_of.ensures.parent; side = c.branch_of.ensures.side })

@@ -1,7 +1,7 @@
 use Rattle.std.proofs.Common.{ℕ, ◌-◌, sym, ap, subst, option_map, is_some, arith}
 use Rattle.ord_tree.specs.{declared.tree_links.Side.Side, Rotate.Site, Rotate.IsRotated, TreeLinks.as_numbers}
 use Rattle.ord_tree.proofs.Leaning.{low-small, inner_some, IsRepaired-lifted, IsRepaired-between, IsDemoted-both}
-use Rattle.ord_tree.proofs.Lowering.{IsPaid-lifted, IsPaid-between, IsLowered-both}
+use Rattle.ord_tree.proofs.DemotionAccount.{IsSpelledWithin-lifted, IsSpelledWithin-between, IsDemotedWithin-both}
 use Rattle.ord_tree.proofs.{Reading.site_read, Reading.inner-read, Reading.inner-there, Doubles.site_below, Doubles.site_above}
 use Rattle.ord_tree.proofs.Frames.{IsReranked}
 use Rattle.ord_tree.proofs.demote.demote_or_rotate.Goals as goal
@@ -78,15 +78,15 @@ returns-clause-mended g c = λ order lean.
     let rotated = subst P c.other-other.ensures c.rotate-2.ensures.rotated (site_below site x x_is) in
     IsRepaired-between lean x x_is rotated (c.rotate-3.ensures.rotated (site_above site x x_is rotated)) r.inner_is r.high_is (omega (arith, r, lean.over)) (omega (arith, r, lean.over))
 
-pub returns-then-links-outer-eq1-clause-paid : goal.returns-then-links-outer-eq1-clause-paid
-returns-then-links-outer-eq1-clause-paid g c = λ order lean.
+pub returns-then-links-outer-eq1-clause-account : goal.returns-then-links-outer-eq1-clause-account
+returns-then-links-outer-eq1-clause-account g c = λ order lean.
     let site = lean.site in
     let r = site_read g.N.Nodes.number site _ c.other-other.ensures _ _ c.links-rank.ensures c.links-links.ensures
     _ _ c.child.ensures c.child-2.ensures _ _ c.rank_of-outer.ensures c.rank_of-inner.ensures in
-    IsPaid-lifted lean (c.rotate.ensures.rotated site) (omega (arith, r)) r.high_is
+    IsSpelledWithin-lifted lean (c.rotate.ensures.rotated site) (omega (arith, r)) r.high_is
 
-pub returns-then-links-inner-eq2-clause-paid : goal.returns-then-links-inner-eq2-clause-paid
-returns-then-links-inner-eq2-clause-paid g c = λ order lean.
+pub returns-then-links-inner-eq2-clause-account : goal.returns-then-links-inner-eq2-clause-account
+returns-then-links-inner-eq2-clause-account g c = λ order lean.
     let number = g.N.Nodes.number in
     let r = site_read number lean.site _ c.other-other.ensures _ _ c.links-rank.ensures c.links-links.ensures
     _ _ c.child.ensures c.child-2.ensures _ _ c.rank_of-outer.ensures c.rank_of-inner.ensures in
@@ -97,11 +97,11 @@ returns-then-links-inner-eq2-clause-paid g c = λ order lean.
     let second = c.set_rank-then-links-inner-eq2.ensures in
     let P : ℕ → Type 0 = λ k. IsReranked (at c.args.nodes.now) (at c.set_rank.new.self) s (k - 1) in
     let Q : ℕ → Type 0 = λ k. IsReranked (at c.set_rank.new.self) (at c.set_rank-then-links-inner-eq2.new.self) y (k - 1) in
-    IsLowered-both lean (subst P r.low_is (record { here = first.here; elsewhere = first.elsewhere })) (subst Q r.high_is (record { here = second.here; elsewhere = second.elsewhere }))
+    IsDemotedWithin-both lean (subst P r.low_is (record { here = first.here; elsewhere = first.elsewhere })) (subst Q r.high_is (record { here = second.here; elsewhere = second.elsewhere }))
     (omega (arith, r, lean.over)) (omega (arith, r))
 
-pub returns-clause-paid : goal.returns-clause-paid
-returns-clause-paid g c = λ order lean.
+pub returns-clause-account : goal.returns-clause-account
+returns-clause-account g c = λ order lean.
     let number = g.N.Nodes.number in
     let site = lean.site in
     let r = site_read number site _ c.other-other.ensures _ _ c.links-rank.ensures c.links-links.ensures
@@ -111,4 +111,4 @@ returns-clause-paid g c = λ order lean.
     let P : Side → Type 0 = λ side. (site : Site (g.N.Nodes.at c.args.nodes.now) (option_map number c.args.root.now) side (number c.args.s) x)
     → IsRotated site (g.N.Nodes.at c.rotate-2.new.nodes) (option_map number c.rotate-2.new.root) c.rank_of-inner.result c.links-rank.result.rank in
     let rotated = subst P c.other-other.ensures c.rotate-2.ensures.rotated (site_below site x x_is) in
-    IsPaid-between lean x x_is rotated (c.rotate-3.ensures.rotated (site_above site x x_is rotated)) r.inner_is r.high_is (omega (arith, r, lean.over)) (omega (arith, r, lean.over))
+    IsSpelledWithin-between lean x x_is rotated (c.rotate-3.ensures.rotated (site_above site x x_is rotated)) r.inner_is r.high_is (omega (arith, r, lean.over)) (omega (arith, r, lean.over))

@@ -44,8 +44,8 @@ returns-clause-backs g c = λ order loose.
     (subst P rest_is (record { at_top = r.at_top; below = r.below; here = r.here; elsewhere = r.elsewhere; backs = r.backs }))
     (λ i n link. c.hang.ensures.here i n (rest_is ∙ link)) (λ j other. c.hang.ensures.elsewhere j (λ link. other (sym rest_is ∙ link)))
 
-pub returns-clause-paid : goal.returns-clause-paid
-returns-clause-paid g c = λ order loose.
+pub returns-clause-account : goal.returns-clause-account
+returns-clause-account g c = λ order loose.
     let number = g.N.Nodes.number in
     let at = g.N.Nodes.at in
     let links = as_numbers number c.links-links.result in

@@ -58,8 +58,8 @@ returns-clause-backs g c = λ order can.
     MovesBacks-then 1 3 (at c.args.nodes.now) (at c.cut-branch.new.nodes) (at c.substitute.new.nodes) (c.cut-branch.ensures.backs order loose)
     (c.substitute.ensures.backs stands.0 stands.1)
 
-pub returns-clause-paid : goal.returns-clause-paid
-returns-clause-paid g c = λ order can.
+pub returns-clause-account : goal.returns-clause-account
+returns-clause-account g c = λ order can.
     let number = g.N.Nodes.number in
     let at = g.N.Nodes.at in
     let v = number c.unwrap-v.result in
@@ -69,10 +69,10 @@ returns-clause-paid g c = λ order can.
     let loose = loose_v can links c.links.ensures some.0 some.1 v is_v in
     displaced_paid can links c.links.ensures some.0 some.1 v is_v (at c.cut-branch.new.nodes) (option_map number c.cut-branch.new.root)
     (c.cut-branch.ensures.occupied v ∙ v_occupied loose) (at c.substitute.new.nodes) (option_map number c.substitute.new.root) c.substitute.ensures.held
-    can.built.shape (potential can.built.shape + 1) number (potential can.built.shape + 2) (omega arith) c.cut-branch.result c.branch_with.result c.branch_with.ensures (c.cut-branch.ensures.paid order loose)
+    can.built.shape (potential can.built.shape + 1) number (potential can.built.shape + 2) (omega arith) c.cut-branch.result c.branch_with.result c.branch_with.ensures (c.cut-branch.ensures.account order loose)
 
-pub returns-then-is_none-clause-paid : goal.returns-then-is_none-clause-paid
-returns-then-is_none-clause-paid g c = λ order can.
+pub returns-then-is_none-clause-account : goal.returns-then-is_none-clause-account
+returns-then-is_none-clause-account g c = λ order can.
     let number = g.N.Nodes.number in
     let none = mapped_none number c.links.result.lesser (search rules) in
-    paid_more number _ _ _ _ (potential can.built.shape + 1) _ (omega arith) _ (c.cut.ensures.paid order (loose_z can (as_numbers number c.links.result) c.links.ensures none))
+    paid_more number _ _ _ _ (potential can.built.shape + 1) _ (omega arith) _ (c.cut.ensures.account order (loose_z can (as_numbers number c.links.result) c.links.ensures none))

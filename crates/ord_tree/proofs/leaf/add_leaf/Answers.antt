@@ -1,5 +1,5 @@
 use Rattle.ord_tree.proofs.{NewLeaf.y_occupied, NewLeaf.IsRising-attached, NewLeaf.backs-attached, Promoting.IsRepaired-after}
-use Rattle.ord_tree.proofs.Paying.{IsPaid-leaf}
+use Rattle.ord_tree.proofs.PromotionAccount.{IsSpelledWithin-leaf}
 use Rattle.ord_tree.specs.Leaf.{beside}
 use Rattle.ord_tree.proofs.leaf.add_leaf.Goals as goal
 
@@ -17,9 +17,9 @@ returns-clause-repaired g c = λ order slack bud.
     IsRepaired-after (backs-attached bud (g.N.Nodes.at c.set_child.new.self) c.set_child.ensures.here c.set_child.ensures.elsewhere)
     (c.promote_all.ensures.repaired (beside c.args.side (number c.args.y) (number c.args.x) order) slack (IsRising-attached bud (g.N.Nodes.at c.set_child.new.self) c.set_child.ensures.here c.set_child.ensures.elsewhere))
 
-pub returns-clause-paid : goal.returns-clause-paid
-returns-clause-paid g c = λ order slack bud.
+pub returns-clause-account : goal.returns-clause-account
+returns-clause-account g c = λ order slack bud.
     let number = g.N.Nodes.number in
     let hung = g.N.Nodes.at c.set_child.new.self in
-    IsPaid-leaf bud hung c.set_child.ensures.here c.set_child.ensures.elsewhere
-    (c.promote_all.ensures.paid (beside c.args.side (number c.args.y) (number c.args.x) order) slack (IsRising-attached bud hung c.set_child.ensures.here c.set_child.ensures.elsewhere))
+    IsSpelledWithin-leaf bud hung c.set_child.ensures.here c.set_child.ensures.elsewhere
+    (c.promote_all.ensures.account (beside c.args.side (number c.args.y) (number c.args.x) order) slack (IsRising-attached bud hung c.set_child.ensures.here c.set_child.ensures.elsewhere))

@@ -1,8 +1,8 @@
 use Rattle.std.proofs.Common.{◌≡◌, ◌≢◌, ℕ, ◌+◌, [], refl, inr, sym, ◌∙◌, ap, subst, option_map, arith}
 use Rattle.ord_tree.specs.{declared.tree_links.Side.Side, TreeLinks.as_numbers, Promote.IsSteep, Shape.rank_of}
 use Rattle.ord_tree.proofs.Promoting.{y_occupied, y_back, rising_under, IsBuilt-top, z_occupied, IsBuilt-stop, low-small, IsPromoted-promoted, IsSteep-rising}
-use Rattle.ord_tree.specs.Account.{IsPaid, steep_from, steep_stake}
-use Rattle.ord_tree.proofs.Paying.{IsPaid-top, IsPaid-stop, IsPaid-under, IsPaid-steep, IsPassedOn-promoted, IsPassedOn-under}
+use Rattle.ord_tree.specs.Account.{IsSpelledWithin, steep_ranks, steep_credit}
+use Rattle.ord_tree.proofs.PromotionAccount.{IsSpelledWithin-top, IsSpelledWithin-stop, IsSpelledWithin-under, IsSpelledWithin-steep, IsRisingWithin-promoted, IsRisingWithin-under}
 use Rattle.ord_tree.proofs.{Reading.ranks-read, Reading.side-read, Reading.beside-read, Reading.beside-occupied, Frames.IsReranked}
 use Rattle.ord_tree.proofs.promote.promote.Goals as goal
 
@@ -80,21 +80,21 @@ returns-clause-promoted g c = λ order slack rising.
     let P : Side → Type 0 = λ side. IsSteep (g.N.Nodes.at c.args.nodes.now) (option_map number c.args.root.now) side (number c.in-Some.z) (number c.args.y) order slack in
     c.rotate_once_or_twice.ensures.repaired order slack (subst P (sym side_is) (IsSteep-rising u (omega (arith, ranks, u.over.lesser)) (omega (arith, ranks, sibling_is))))
 
-pub returns-in_default-clause-paid : goal.returns-in_default-clause-paid
-returns-in_default-clause-paid g c = λ order slack rising.
+pub returns-in_default-clause-account : goal.returns-in_default-clause-account
+returns-in_default-clause-account g c = λ order slack rising.
     let number = g.N.Nodes.number in
-    IsPaid-top rising (y_back rising (as_numbers number c.links-low.result) c.links-low.ensures ∙ ap (option_map number) c.in_default.is)
+    IsSpelledWithin-top rising (y_back rising (as_numbers number c.links-low.result) c.links-low.ensures ∙ ap (option_map number) c.in_default.is)
 
-pub returns-then-high-low-clause-paid : goal.returns-then-high-low-clause-paid
-returns-then-high-low-clause-paid g c = λ order slack rising.
+pub returns-then-high-low-clause-account : goal.returns-then-high-low-clause-account
+returns-then-high-low-clause-account g c = λ order slack rising.
     let number = g.N.Nodes.number in
     let hangs = y_back rising (as_numbers number c.links-low.result) c.links-low.ensures ∙ ap (option_map number) c.in-Some.is in
     let u = rising_under rising (number c.in-Some.z) hangs in
     let ranks = ranks-read number u _ _ c.links-low.ensures c.links-high.ensures in
-    IsPaid-under rising (number c.in-Some.z) hangs (IsPaid-stop u (omega (arith, ranks)))
+    IsSpelledWithin-under rising (number c.in-Some.z) hangs (IsSpelledWithin-stop u (omega (arith, ranks)))
 
-pub returns-then-high-sibling-eq1-clause-paid : goal.returns-then-high-sibling-eq1-clause-paid
-returns-then-high-sibling-eq1-clause-paid g c = λ order slack rising.
+pub returns-then-high-sibling-eq1-clause-account : goal.returns-then-high-sibling-eq1-clause-account
+returns-then-high-sibling-eq1-clause-account g c = λ order slack rising.
     let number = g.N.Nodes.number in
     let hangs = y_back rising (as_numbers number c.links-low.result) c.links-low.ensures ∙ ap (option_map number) c.in-Some.is in
     let u = rising_under rising (number c.in-Some.z) hangs in
@@ -102,11 +102,11 @@ returns-then-high-sibling-eq1-clause-paid g c = λ order slack rising.
     let sibling_is = beside-read number u _ _ c.links-low.ensures c.links-high.ensures _ c.side_of-side.ensures _ c.other.ensures _ c.child.ensures _ c.rank_of-sibling.ensures in
     let z = number c.in-Some.z in
     let P : ℕ → Type 0 = λ k. IsReranked (g.N.Nodes.at c.args.nodes.now) (g.N.Nodes.at c.set_rank.new.self) z (k + 1) in
-    IsPassedOn-under rising z hangs (IsPassedOn-promoted u (g.N.Nodes.at c.set_rank.new.self) (subst P ranks.0 (record { here = c.set_rank.ensures.here; elsewhere = c.set_rank.ensures.elsewhere }))
+    IsRisingWithin-under rising z hangs (IsRisingWithin-promoted u (g.N.Nodes.at c.set_rank.new.self) (subst P ranks.0 (record { here = c.set_rank.ensures.here; elsewhere = c.set_rank.ensures.elsewhere }))
     (omega (arith, ranks, u.over.lesser)) (omega (arith, ranks, sibling_is)))
 
-pub returns-clause-paid : goal.returns-clause-paid
-returns-clause-paid g c = λ order slack rising.
+pub returns-clause-account : goal.returns-clause-account
+returns-clause-account g c = λ order slack rising.
     let number = g.N.Nodes.number in
     let z = number c.in-Some.z in
     let y = number c.args.y in
@@ -116,7 +116,7 @@ returns-clause-paid g c = λ order slack rising.
     let side_is = side-read number u _ _ c.links-low.ensures c.links-high.ensures _ c.side_of-side.ensures in
     let sibling_is = beside-read number u _ _ c.links-low.ensures c.links-high.ensures _ c.side_of-side.ensures _ c.other.ensures _ c.child.ensures _ c.rank_of-sibling.ensures in
     let P : Side → Type 0 = λ side. (steep : IsSteep (g.N.Nodes.at c.args.nodes.now) (option_map number c.args.root.now) side z y order slack)
-    → IsPaid (steep_from steep) (g.N.Nodes.at c.rotate_once_or_twice.new.nodes) (option_map number c.rotate_once_or_twice.new.root) order (steep_stake steep + 3) in
+    → IsSpelledWithin (steep_ranks steep) (g.N.Nodes.at c.rotate_once_or_twice.new.nodes) (option_map number c.rotate_once_or_twice.new.root) order (steep_credit steep + 3) in
     let equal : u.high ≡ u.low + 1 = omega (arith, ranks, u.over.lesser) in
     let not_sibling : rank_of u.far + 1 ≢ u.high = omega (arith, ranks, sibling_is) in
-    IsPaid-under rising z hangs (IsPaid-steep u equal not_sibling 3 (subst P side_is (c.rotate_once_or_twice.ensures.paid order slack) (IsSteep-rising u equal not_sibling)))
+    IsSpelledWithin-under rising z hangs (IsSpelledWithin-steep u equal not_sibling 3 (subst P side_is (c.rotate_once_or_twice.ensures.account order slack) (IsSteep-rising u equal not_sibling)))

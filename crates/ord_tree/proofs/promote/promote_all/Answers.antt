@@ -1,6 +1,6 @@
 use Rattle.std.proofs.Common.{◌∙◌, arith, refl}
 use Rattle.ord_tree.proofs.Promoting.{IsRepaired-after}
-use Rattle.ord_tree.proofs.Paying.{IsPassedOn-first, IsPassedOn-next, IsPaid-after}
+use Rattle.ord_tree.proofs.PromotionAccount.{IsRisingWithin-first, IsRisingWithin-next, IsSpelledWithin-after}
 use Rattle.ord_tree.proofs.promote.promote_all.Goals as goal
 
 pub loop-z-smaller : goal.loop-z-smaller
@@ -17,7 +17,7 @@ loop-z-preserved g c = record {
       (next.rising, λ j. now.1 j ∙ next.backs j);
   paid = λ order slack first.
       let on = c.loop-z.invariant.paid order slack first in
-      IsPassedOn-next on (c.in-Some.ensures.paid order slack on.rising);
+      IsRisingWithin-next on (c.in-Some.ensures.account order slack on.rising);
   kept = cc;
 }
 
@@ -27,9 +27,9 @@ returns-clause-repaired g c = λ order slack rising.
     IsRepaired-after now.1 (c.in_default.ensures.promoted order slack now.0)
 
 pub loop-z-init : goal.loop-z-init
-loop-z-init g c = record { rising = λ order slack rising. (rising, λ j. refl); paid = λ order slack first. IsPassedOn-first first; kept = refl }
+loop-z-init g c = record { rising = λ order slack rising. (rising, λ j. refl); paid = λ order slack first. IsRisingWithin-first first; kept = refl }
 
-pub returns-clause-paid : goal.returns-clause-paid
-returns-clause-paid g c = λ order slack first.
+pub returns-clause-account : goal.returns-clause-account
+returns-clause-account g c = λ order slack first.
     let on = c.loop-z.invariant.paid order slack first in
-    IsPaid-after on 3 (c.in_default.ensures.paid order slack on.rising)
+    IsSpelledWithin-after on 3 (c.in_default.ensures.account order slack on.rising)

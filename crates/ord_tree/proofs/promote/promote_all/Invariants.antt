@@ -1,5 +1,5 @@
 use Rattle.std.proofs.Common.{◌≡◌, ℕ, ◌-◌, Some, List, option_map}
-use Rattle.ord_tree.specs.{Slots.back_at, Slots.rank_at, Promote.IsRising, Account.IsPassedOn, Account.risen_from, Account.stake}
+use Rattle.ord_tree.specs.{Slots.back_at, Slots.rank_at, Promote.IsRising, Account.IsRisingWithin, Account.rising_ranks, Account.rising_credit}
 use Rattle.ord_tree.proofs.promote.promote_all.Given as goal
 
 -- what has risen when the repair began has risen here, no node has another parent, and the account is passed on
@@ -14,7 +14,7 @@ invariant-loop-z g l =
       rising : (order : List ℕ) (slack : ℕ) → IsRising was was_root (number l.fn.y) order slack
           → IsRising now root (number l.rising) order slack × ((j : ℕ) → back_at was j ≡ back_at now j);
       paid : (order : List ℕ) (slack : ℕ) (first : IsRising was was_root (number l.fn.y) order slack)
-          → IsPassedOn (risen_from first) now root (number l.rising) order slack (stake first);
+          → IsRisingWithin (rising_ranks first) now root (number l.rising) order slack (rising_credit first);
       kept : g.N.Nodes.list l.nodes ≡ g.N.Nodes.list l.fn.nodes;
     }
 

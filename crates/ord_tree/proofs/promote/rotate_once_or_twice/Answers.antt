@@ -2,7 +2,7 @@ use Rattle.std.proofs.Common.{◌≡◌, Some, sym, ◌∙◌, ap, subst, option
 use Rattle.ord_tree.specs.{declared.tree_links.Side.Side, Rotate.Site, Rotate.IsRotated, Shape.rank_of, Shape.root_of, TreeLinks.as_numbers}
 use Rattle.ord_tree.proofs.Doubles.{low_rank, outer_rank, inner_root, middle_rank, site_below, site_above}
 use Rattle.ord_tree.proofs.OnceOrTwice.{inner_some, IsRepaired-single, IsRepaired-double}
-use Rattle.ord_tree.proofs.Paying.{IsPaid-single, IsPaid-double}
+use Rattle.ord_tree.proofs.PromotionAccount.{IsSpelledWithin-single, IsSpelledWithin-double}
 use Rattle.ord_tree.proofs.{Reading.child-read, Reading.child_other-read, LeafBranches.is_some-mapped}
 use Rattle.ord_tree.proofs.promote.rotate_once_or_twice.Goals as goal
 
@@ -14,13 +14,13 @@ returns-then-low-outer-eq1-clause-repaired g c = λ order slack steep.
     = rw (c.rank_of-outer.ensures, child-read number c.args.side c.links-low.result c.child.result c.child.ensures) (outer_rank steep.site low c.links-low.ensures) in
     IsRepaired-single steep (c.rotate.ensures.rotated steep.site) outer_is (low_rank steep.site low c.links-low.ensures) (omega arith)
 
-pub returns-then-low-outer-eq1-clause-paid : goal.returns-then-low-outer-eq1-clause-paid
-returns-then-low-outer-eq1-clause-paid g c = λ order slack steep.
+pub returns-then-low-outer-eq1-clause-account : goal.returns-then-low-outer-eq1-clause-account
+returns-then-low-outer-eq1-clause-account g c = λ order slack steep.
     let number = g.N.Nodes.number in
     let low = as_numbers number c.links-low.result in
     let outer_is : c.rank_of-outer.result ≡ rank_of steep.site.outer
     = rw (c.rank_of-outer.ensures, child-read number c.args.side c.links-low.result c.child.result c.child.ensures) (outer_rank steep.site low c.links-low.ensures) in
-    IsPaid-single steep (c.rotate.ensures.rotated steep.site) outer_is (low_rank steep.site low c.links-low.ensures) (omega arith)
+    IsSpelledWithin-single steep (c.rotate.ensures.rotated steep.site) outer_is (low_rank steep.site low c.links-low.ensures) (omega arith)
 
 pub unwrap-x-requires : goal.unwrap-x-requires
 unwrap-x-requires g c =
@@ -70,8 +70,8 @@ returns-clause-repaired g c = λ order slack steep.
     IsRepaired-double steep x x_is rotated (c.rotate-3.ensures.rotated (site_above steep.site x x_is rotated))
     (middle_rank steep.site x x_is low (as_numbers number c.links-rank.result) c.links-low.ensures c.links-rank.ensures) (low_rank steep.site low c.links-low.ensures) (omega arith)
 
-pub returns-clause-paid : goal.returns-clause-paid
-returns-clause-paid g c = λ order slack steep.
+pub returns-clause-account : goal.returns-clause-account
+returns-clause-account g c = λ order slack steep.
     let number = g.N.Nodes.number in
     let low = as_numbers number c.links-low.result in
     let x = number c.unwrap-x.result in
@@ -83,5 +83,5 @@ returns-clause-paid g c = λ order slack steep.
     let P : Side → Type 0 = λ side. (site : Site (g.N.Nodes.at c.args.nodes.now) (option_map number c.args.root.now) side (number c.args.y) x)
     → IsRotated site (g.N.Nodes.at c.rotate-2.new.nodes) (option_map number c.rotate-2.new.root) c.links-rank.result.rank c.links-low.result.rank in
     let rotated = subst P c.other-other.ensures c.rotate-2.ensures.rotated (site_below steep.site x x_is) in
-    IsPaid-double steep x x_is rotated (c.rotate-3.ensures.rotated (site_above steep.site x x_is rotated))
+    IsSpelledWithin-double steep x x_is rotated (c.rotate-3.ensures.rotated (site_above steep.site x x_is rotated))
     (middle_rank steep.site x x_is low (as_numbers number c.links-rank.result) c.links-low.ensures c.links-rank.ensures) (low_rank steep.site low c.links-low.ensures) (omega arith)

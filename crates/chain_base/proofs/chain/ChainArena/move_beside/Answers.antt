@@ -4,7 +4,7 @@ use Rattle.chain_base.specs.Insert.{placed}
 use Rattle.chain_base.proofs.LaidOut.{alike-next, alike-prev}
 use Rattle.chain_base.proofs.Moving.{stood, held-beside, held-itself, held-place, closed-alike, closed-holding, Moves-linked}
 use Rattle.chain_base.proofs.Ends.{occupied-laid_out}
-use Rattle.chain_base.specs.Move.{unlisted}
+use Rattle.chain_base.specs.Move.{without_entry}
 use Rattle.chain_base.proofs.chain.ChainArena.move_beside.Goals as goal
 
 pub entry-requires : goal.entry-requires
@@ -24,7 +24,7 @@ pub neighbours_in-requires : goal.neighbours_in-requires
 neighbours_in-requires g c =
     let st = stood c.self.inside.arena _ _ c.args.self.now _ _ c.self.view_is c.self.invariant c.entry.ensures in
     let beside = c.prev_next.ensures in
-    (unlisted c.args.self.now (g.P.Inx.PtrInx.number c.args.i), closed-holding st _ _ c.len.ensures.sound _ _ beside.prev beside.next beside.named_prev beside.named_next _ c.relink-closed.ensures.arena, c.requires.place)
+    (without_entry c.args.self.now (g.P.Inx.PtrInx.number c.args.i), closed-holding st _ _ c.len.ensures.sound _ _ beside.prev beside.next beside.named_prev beside.named_next _ c.relink-closed.ensures.arena, c.requires.place)
 
 pub set_next-requires : goal.set_next-requires
 set_next-requires g c = λ x is.
@@ -46,7 +46,7 @@ relink-ends-requires-clause-left g c = λ x is.
     let beside = c.prev_next.ensures in
     let alike = closed-alike st _ _ c.len.ensures.sound _ _ beside.prev beside.next beside.named_prev beside.named_next _ c.relink-closed.ensures.arena in
     let holding = closed-holding st _ _ c.len.ensures.sound _ _ beside.prev beside.next beside.named_prev beside.named_next _ c.relink-closed.ensures.arena in
-    let at = c.neighbours_in.ensures (unlisted c.args.self.now (g.P.Inx.PtrInx.number c.args.i)) holding c.requires.place in
+    let at = c.neighbours_in.ensures (without_entry c.args.self.now (g.P.Inx.PtrInx.number c.args.i)) holding c.requires.place in
     held-place st _ _ _ at _ (alike-prev _ _ _ (Some (g.P.Inx.PtrInx.number c.args.i)) (named_of g.P.Inx.PtrInx.most (option_map g.P.Inx.PtrInx.number c.neighbours_in.result.0)) c.set_prev.ensures (alike-next _ _ _ (Some (g.P.Inx.PtrInx.number c.args.i)) (named_of g.P.Inx.PtrInx.most (option_map g.P.Inx.PtrInx.number c.neighbours_in.result.1)) c.set_next.ensures alike)) _ (inl (ap (option_map g.P.Inx.PtrInx.number) is))
 
 pub relink-ends-requires-clause-right : goal.relink-ends-requires-clause-right
@@ -55,7 +55,7 @@ relink-ends-requires-clause-right g c = λ x is.
     let beside = c.prev_next.ensures in
     let alike = closed-alike st _ _ c.len.ensures.sound _ _ beside.prev beside.next beside.named_prev beside.named_next _ c.relink-closed.ensures.arena in
     let holding = closed-holding st _ _ c.len.ensures.sound _ _ beside.prev beside.next beside.named_prev beside.named_next _ c.relink-closed.ensures.arena in
-    let at = c.neighbours_in.ensures (unlisted c.args.self.now (g.P.Inx.PtrInx.number c.args.i)) holding c.requires.place in
+    let at = c.neighbours_in.ensures (without_entry c.args.self.now (g.P.Inx.PtrInx.number c.args.i)) holding c.requires.place in
     held-place st _ _ _ at _ (alike-prev _ _ _ (Some (g.P.Inx.PtrInx.number c.args.i)) (named_of g.P.Inx.PtrInx.most (option_map g.P.Inx.PtrInx.number c.neighbours_in.result.0)) c.set_prev.ensures (alike-next _ _ _ (Some (g.P.Inx.PtrInx.number c.args.i)) (named_of g.P.Inx.PtrInx.most (option_map g.P.Inx.PtrInx.number c.neighbours_in.result.1)) c.set_next.ensures alike)) _ (inr (ap (option_map g.P.Inx.PtrInx.number) is))
 
 pub invariant_of-self : goal.invariant_of-self
@@ -63,7 +63,7 @@ invariant_of-self g c =
     let st = stood c.self.inside.arena _ _ c.args.self.now _ _ c.self.view_is c.self.invariant c.entry.ensures in
     let beside = c.prev_next.ensures in
     let holding = closed-holding st _ _ c.len.ensures.sound _ _ beside.prev beside.next beside.named_prev beside.named_next _ c.relink-closed.ensures.arena in
-    let at = c.neighbours_in.ensures (unlisted c.args.self.now (g.P.Inx.PtrInx.number c.args.i)) holding c.requires.place in
+    let at = c.neighbours_in.ensures (without_entry c.args.self.now (g.P.Inx.PtrInx.number c.args.i)) holding c.requires.place in
     let closed = c.relink-closed.ensures in
     let ends = c.relink-ends.ensures in
     let done = Moves-linked st _ _ c.len.ensures.sound _ _ beside.prev beside.next beside.named_prev beside.named_next _ closed.arena (placed g.P.Inx.PtrInx.number c.args.kind) _ _ at
@@ -75,7 +75,7 @@ returns g c =
     let st = stood c.self.inside.arena _ _ c.args.self.now _ _ c.self.view_is c.self.invariant c.entry.ensures in
     let beside = c.prev_next.ensures in
     let holding = closed-holding st _ _ c.len.ensures.sound _ _ beside.prev beside.next beside.named_prev beside.named_next _ c.relink-closed.ensures.arena in
-    let at = c.neighbours_in.ensures (unlisted c.args.self.now (g.P.Inx.PtrInx.number c.args.i)) holding c.requires.place in
+    let at = c.neighbours_in.ensures (without_entry c.args.self.now (g.P.Inx.PtrInx.number c.args.i)) holding c.requires.place in
     let closed = c.relink-closed.ensures in
     let ends = c.relink-ends.ensures in
     let done = Moves-linked st _ _ c.len.ensures.sound _ _ beside.prev beside.next beside.named_prev beside.named_next _ closed.arena (placed g.P.Inx.PtrInx.number c.args.kind) _ _ at

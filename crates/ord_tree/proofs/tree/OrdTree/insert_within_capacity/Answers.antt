@@ -31,7 +31,7 @@ invariant_of-self-2 g c =
     let root = option_map number c.self.inside.root in
     (call_grown number c.self.inside.chain root c.args.at _ c.self.invariant can c.branch_at-branch.ensures c.parent_in.ensures c.leaf-node.ensures c.kind_of.ensures
     c.in_ok-p.ensures.ok (ap number c.new.ensures ∙ c.inx.ensures) g.P.Inx.PtrInx.most g.P.Gen.PtrGen.greatest c.len.ensures.sound g.met.P.Inx.PtrInx.fits
-    c.grow.new.chain c.grow.new.root c.grow.ensures.kept c.grow.ensures.grown c.grow.ensures.paid).0
+    c.grow.new.chain c.grow.new.root c.grow.ensures.kept c.grow.ensures.grown c.grow.ensures.account).0
 
 pub returns-clause-ok : goal.returns-clause-ok
 returns-clause-ok g c =
@@ -41,7 +41,7 @@ returns-clause-ok g c =
     let x_is = ap number c.new.ensures ∙ c.inx.ensures in
     rw (← c.self.view_is) (call_listed number c.self.inside.chain root c.args.at _ c.self.invariant can c.branch_at-branch.ensures c.parent_in.ensures c.leaf-node.ensures c.kind_of.ensures
     c.in_ok-p.ensures.ok x_is g.P.Inx.PtrInx.most g.P.Gen.PtrGen.greatest c.len.ensures.sound g.met.P.Inx.PtrInx.fits
-    c.grow.new.chain c.grow.new.root c.grow.ensures.kept c.grow.ensures.grown c.grow.ensures.paid)
+    c.grow.new.chain c.grow.new.root c.grow.ensures.kept c.grow.ensures.grown c.grow.ensures.account)
 
 pub returns-clause-shape : goal.returns-clause-shape
 returns-clause-shape g c =
@@ -51,4 +51,4 @@ returns-clause-shape g c =
     let x_is = ap number c.new.ensures ∙ c.inx.ensures in
     rw (← c.self.view_is) (call_grown number c.self.inside.chain root c.args.at _ c.self.invariant can c.branch_at-branch.ensures c.parent_in.ensures c.leaf-node.ensures c.kind_of.ensures
     c.in_ok-p.ensures.ok x_is g.P.Inx.PtrInx.most g.P.Gen.PtrGen.greatest c.len.ensures.sound g.met.P.Inx.PtrInx.fits
-    c.grow.new.chain c.grow.new.root c.grow.ensures.kept c.grow.ensures.grown c.grow.ensures.paid).1
+    c.grow.new.chain c.grow.new.root c.grow.ensures.kept c.grow.ensures.grown c.grow.ensures.account).1

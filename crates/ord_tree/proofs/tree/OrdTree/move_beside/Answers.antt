@@ -1,6 +1,6 @@
 use Rattle.std.proofs.Common.{◌∙◌, sym, option_map}
 use Rattle.ord_tree.proofs.{Shrunk.detachable, Trees.is_some-bare}
-use Rattle.ord_tree.proofs.Moving.{taken_out, still_in, can_place, y_in, x_in, x_slot, aside, new_leaf, laid_again, list_moved, shifted}
+use Rattle.ord_tree.proofs.Moving.{taken_out, still_in, can_place, y_in, x_in, x_slot, aside, new_leaf, laid_again, list_moved, rearranged}
 use Rattle.ord_tree.proofs.tree.OrdTree.move_beside.Goals as goal
 
 pub node_at-z-requires : goal.node_at-z-requires
@@ -24,7 +24,8 @@ move_beside-requires-clause-entry g c =
     let held = rw (← c.self.view_is) at c.requires.entry in
     let out = taken_out c.self.inside.chain (option_map number c.self.inside.root) _ c.self.invariant (sym (is_some-bare c.self.inside.chain.entries _) ∙ held)
     g.P.Inx.PtrInx.most g.P.Gen.PtrGen.greatest c.len.ensures.sound g.met.P.Inx.PtrInx.fits _ (rw c.node_at-z.ensures at c.neighbour-before.ensures)
-    c.detach.new.nodes (option_map number c.detach.new.root) c.detach.ensures.kept (rw c.node_at-z.ensures at c.detach.ensures.built) (rw c.node_at-z.ensures at c.detach.ensures.backs) in
+    c.detach.new.nodes (option_map number c.detach.new.root) c.detach.ensures.kept (rw c.node_at-z.ensures at c.detach.ensures.built) (rw c.node_at-z.ensures at c.detach.ensures.backs)
+    (rw c.node_at-z.ensures at c.detach.ensures.account) in
     still_in out
 
 pub move_beside-requires-clause-place : goal.move_beside-requires-clause-place
@@ -33,7 +34,8 @@ move_beside-requires-clause-place g c =
     let held = rw (← c.self.view_is) at c.requires.entry in
     let out = taken_out c.self.inside.chain (option_map number c.self.inside.root) _ c.self.invariant (sym (is_some-bare c.self.inside.chain.entries _) ∙ held)
     g.P.Inx.PtrInx.most g.P.Gen.PtrGen.greatest c.len.ensures.sound g.met.P.Inx.PtrInx.fits _ (rw c.node_at-z.ensures at c.neighbour-before.ensures)
-    c.detach.new.nodes (option_map number c.detach.new.root) c.detach.ensures.kept (rw c.node_at-z.ensures at c.detach.ensures.built) (rw c.node_at-z.ensures at c.detach.ensures.backs) in
+    c.detach.new.nodes (option_map number c.detach.new.root) c.detach.ensures.kept (rw c.node_at-z.ensures at c.detach.ensures.built) (rw c.node_at-z.ensures at c.detach.ensures.backs)
+    (rw c.node_at-z.ensures at c.detach.ensures.account) in
     let can = rw (← c.self.view_is) at c.requires.place in
     can_place out number c.args.at can c.kind_of.result c.kind_of.ensures
 
@@ -43,7 +45,8 @@ node_at-y-requires g c =
     let held = rw (← c.self.view_is) at c.requires.entry in
     let out = taken_out c.self.inside.chain (option_map number c.self.inside.root) _ c.self.invariant (sym (is_some-bare c.self.inside.chain.entries _) ∙ held)
     g.P.Inx.PtrInx.most g.P.Gen.PtrGen.greatest c.len.ensures.sound g.met.P.Inx.PtrInx.fits _ (rw c.node_at-z.ensures at c.neighbour-before.ensures)
-    c.detach.new.nodes (option_map number c.detach.new.root) c.detach.ensures.kept (rw c.node_at-z.ensures at c.detach.ensures.built) (rw c.node_at-z.ensures at c.detach.ensures.backs) in
+    c.detach.new.nodes (option_map number c.detach.new.root) c.detach.ensures.kept (rw c.node_at-z.ensures at c.detach.ensures.built) (rw c.node_at-z.ensures at c.detach.ensures.backs)
+    (rw c.node_at-z.ensures at c.detach.ensures.account) in
     let can = rw (← c.self.view_is) at c.requires.place in
     y_in out number c.args.at can c.move_beside.new.self c.kind_of.result c.kind_of.ensures c.move_beside.ensures
 
@@ -53,7 +56,8 @@ branch_across-branch-requires-clause-beside g c =
     let held = rw (← c.self.view_is) at c.requires.entry in
     let out = taken_out c.self.inside.chain (option_map number c.self.inside.root) _ c.self.invariant (sym (is_some-bare c.self.inside.chain.entries _) ∙ held)
     g.P.Inx.PtrInx.most g.P.Gen.PtrGen.greatest c.len.ensures.sound g.met.P.Inx.PtrInx.fits _ (rw c.node_at-z.ensures at c.neighbour-before.ensures)
-    c.detach.new.nodes (option_map number c.detach.new.root) c.detach.ensures.kept (rw c.node_at-z.ensures at c.detach.ensures.built) (rw c.node_at-z.ensures at c.detach.ensures.backs) in
+    c.detach.new.nodes (option_map number c.detach.new.root) c.detach.ensures.kept (rw c.node_at-z.ensures at c.detach.ensures.built) (rw c.node_at-z.ensures at c.detach.ensures.backs)
+    (rw c.node_at-z.ensures at c.detach.ensures.account) in
     let can = rw (← c.self.view_is) at c.requires.place in
     rw c.node_at-y.ensures (y_in out number c.args.at can c.move_beside.new.self c.kind_of.result c.kind_of.ensures c.move_beside.ensures)
 
@@ -63,7 +67,8 @@ branch_across-branch-requires-clause-leaf g c =
     let held = rw (← c.self.view_is) at c.requires.entry in
     let out = taken_out c.self.inside.chain (option_map number c.self.inside.root) _ c.self.invariant (sym (is_some-bare c.self.inside.chain.entries _) ∙ held)
     g.P.Inx.PtrInx.most g.P.Gen.PtrGen.greatest c.len.ensures.sound g.met.P.Inx.PtrInx.fits _ (rw c.node_at-z.ensures at c.neighbour-before.ensures)
-    c.detach.new.nodes (option_map number c.detach.new.root) c.detach.ensures.kept (rw c.node_at-z.ensures at c.detach.ensures.built) (rw c.node_at-z.ensures at c.detach.ensures.backs) in
+    c.detach.new.nodes (option_map number c.detach.new.root) c.detach.ensures.kept (rw c.node_at-z.ensures at c.detach.ensures.built) (rw c.node_at-z.ensures at c.detach.ensures.backs)
+    (rw c.node_at-z.ensures at c.detach.ensures.account) in
     let can = rw (← c.self.view_is) at c.requires.place in
     rw c.node_at-z.ensures (x_in out number c.args.at can c.move_beside.new.self c.kind_of.result c.kind_of.ensures c.move_beside.ensures)
 
@@ -73,7 +78,8 @@ branch_across-branch-requires-clause-aside g c =
     let held = rw (← c.self.view_is) at c.requires.entry in
     let out = taken_out c.self.inside.chain (option_map number c.self.inside.root) _ c.self.invariant (sym (is_some-bare c.self.inside.chain.entries _) ∙ held)
     g.P.Inx.PtrInx.most g.P.Gen.PtrGen.greatest c.len.ensures.sound g.met.P.Inx.PtrInx.fits _ (rw c.node_at-z.ensures at c.neighbour-before.ensures)
-    c.detach.new.nodes (option_map number c.detach.new.root) c.detach.ensures.kept (rw c.node_at-z.ensures at c.detach.ensures.built) (rw c.node_at-z.ensures at c.detach.ensures.backs) in
+    c.detach.new.nodes (option_map number c.detach.new.root) c.detach.ensures.kept (rw c.node_at-z.ensures at c.detach.ensures.built) (rw c.node_at-z.ensures at c.detach.ensures.backs)
+    (rw c.node_at-z.ensures at c.detach.ensures.account) in
     let can = rw (← c.self.view_is) at c.requires.place in
     rw (c.side_of.ensures, c.node_at-y.ensures, c.node_at-z.ensures) (_, _, aside out number c.args.at can c.move_beside.new.self c.kind_of.result c.kind_of.ensures c.move_beside.ensures)
 
@@ -83,7 +89,8 @@ set_links-requires g c =
     let held = rw (← c.self.view_is) at c.requires.entry in
     let out = taken_out c.self.inside.chain (option_map number c.self.inside.root) _ c.self.invariant (sym (is_some-bare c.self.inside.chain.entries _) ∙ held)
     g.P.Inx.PtrInx.most g.P.Gen.PtrGen.greatest c.len.ensures.sound g.met.P.Inx.PtrInx.fits _ (rw c.node_at-z.ensures at c.neighbour-before.ensures)
-    c.detach.new.nodes (option_map number c.detach.new.root) c.detach.ensures.kept (rw c.node_at-z.ensures at c.detach.ensures.built) (rw c.node_at-z.ensures at c.detach.ensures.backs) in
+    c.detach.new.nodes (option_map number c.detach.new.root) c.detach.ensures.kept (rw c.node_at-z.ensures at c.detach.ensures.built) (rw c.node_at-z.ensures at c.detach.ensures.backs)
+    (rw c.node_at-z.ensures at c.detach.ensures.account) in
     let can = rw (← c.self.view_is) at c.requires.place in
     rw c.node_at-z.ensures (x_slot out number c.args.at can c.move_beside.new.self c.kind_of.result c.kind_of.ensures c.move_beside.ensures)
 
@@ -93,7 +100,8 @@ add_leaf-requires g c =
     let held = rw (← c.self.view_is) at c.requires.entry in
     let out = taken_out c.self.inside.chain (option_map number c.self.inside.root) _ c.self.invariant (sym (is_some-bare c.self.inside.chain.entries _) ∙ held)
     g.P.Inx.PtrInx.most g.P.Gen.PtrGen.greatest c.len.ensures.sound g.met.P.Inx.PtrInx.fits _ (rw c.node_at-z.ensures at c.neighbour-before.ensures)
-    c.detach.new.nodes (option_map number c.detach.new.root) c.detach.ensures.kept (rw c.node_at-z.ensures at c.detach.ensures.built) (rw c.node_at-z.ensures at c.detach.ensures.backs) in
+    c.detach.new.nodes (option_map number c.detach.new.root) c.detach.ensures.kept (rw c.node_at-z.ensures at c.detach.ensures.built) (rw c.node_at-z.ensures at c.detach.ensures.backs)
+    (rw c.node_at-z.ensures at c.detach.ensures.account) in
     let can = rw (← c.self.view_is) at c.requires.place in
     let bud = rw (c.side_of.ensures, c.node_at-y.ensures, c.node_at-z.ensures) at c.branch_across-branch.ensures in
     let branch = bud _ _ (aside out number c.args.at can c.move_beside.new.self c.kind_of.result c.kind_of.ensures c.move_beside.ensures) in
@@ -105,12 +113,13 @@ invariant_of-self g c =
     let held = rw (← c.self.view_is) at c.requires.entry in
     let out = taken_out c.self.inside.chain (option_map number c.self.inside.root) _ c.self.invariant (sym (is_some-bare c.self.inside.chain.entries _) ∙ held)
     g.P.Inx.PtrInx.most g.P.Gen.PtrGen.greatest c.len.ensures.sound g.met.P.Inx.PtrInx.fits _ (rw c.node_at-z.ensures at c.neighbour-before.ensures)
-    c.detach.new.nodes (option_map number c.detach.new.root) c.detach.ensures.kept (rw c.node_at-z.ensures at c.detach.ensures.built) (rw c.node_at-z.ensures at c.detach.ensures.backs) in
+    c.detach.new.nodes (option_map number c.detach.new.root) c.detach.ensures.kept (rw c.node_at-z.ensures at c.detach.ensures.built) (rw c.node_at-z.ensures at c.detach.ensures.backs)
+    (rw c.node_at-z.ensures at c.detach.ensures.account) in
     let can = rw (← c.self.view_is) at c.requires.place in
     let bud = rw (c.side_of.ensures, c.node_at-y.ensures, c.node_at-z.ensures) at c.branch_across-branch.ensures in
     let branch = bud _ _ (aside out number c.args.at can c.move_beside.new.self c.kind_of.result c.kind_of.ensures c.move_beside.ensures) in
     laid_again out number c.args.at can c.move_beside.new.self c.kind_of.result c.kind_of.ensures c.move_beside.ensures c.set_links.new.self _ branch c.set_links.ensures.kept (rw c.node_at-z.ensures at c.set_links.ensures.here) (rw c.node_at-z.ensures at c.set_links.ensures.elsewhere)
-    (option_map number c.self.inside.root) c.self.invariant c.add_leaf.new.nodes (option_map number c.add_leaf.new.root) c.add_leaf.ensures.kept (rw c.node_at-z.ensures at c.add_leaf.ensures.repaired)
+    c.self.invariant c.add_leaf.new.nodes (option_map number c.add_leaf.new.root) c.add_leaf.ensures.kept (rw c.node_at-z.ensures at c.add_leaf.ensures.repaired)
 
 pub returns-clause-list : goal.returns-clause-list
 returns-clause-list g c =
@@ -118,12 +127,13 @@ returns-clause-list g c =
     let held = rw (← c.self.view_is) at c.requires.entry in
     let out = taken_out c.self.inside.chain (option_map number c.self.inside.root) _ c.self.invariant (sym (is_some-bare c.self.inside.chain.entries _) ∙ held)
     g.P.Inx.PtrInx.most g.P.Gen.PtrGen.greatest c.len.ensures.sound g.met.P.Inx.PtrInx.fits _ (rw c.node_at-z.ensures at c.neighbour-before.ensures)
-    c.detach.new.nodes (option_map number c.detach.new.root) c.detach.ensures.kept (rw c.node_at-z.ensures at c.detach.ensures.built) (rw c.node_at-z.ensures at c.detach.ensures.backs) in
+    c.detach.new.nodes (option_map number c.detach.new.root) c.detach.ensures.kept (rw c.node_at-z.ensures at c.detach.ensures.built) (rw c.node_at-z.ensures at c.detach.ensures.backs)
+    (rw c.node_at-z.ensures at c.detach.ensures.account) in
     let can = rw (← c.self.view_is) at c.requires.place in
     let bud = rw (c.side_of.ensures, c.node_at-y.ensures, c.node_at-z.ensures) at c.branch_across-branch.ensures in
     let branch = bud _ _ (aside out number c.args.at can c.move_beside.new.self c.kind_of.result c.kind_of.ensures c.move_beside.ensures) in
     rw (← c.self.view_is) (list_moved out number c.args.at can c.move_beside.new.self c.kind_of.result c.kind_of.ensures c.move_beside.ensures c.set_links.new.self _ branch c.set_links.ensures.kept (rw c.node_at-z.ensures at c.set_links.ensures.here) (rw c.node_at-z.ensures at c.set_links.ensures.elsewhere)
-    (option_map number c.self.inside.root) c.self.invariant c.add_leaf.new.nodes (option_map number c.add_leaf.new.root) c.add_leaf.ensures.kept (rw c.node_at-z.ensures at c.add_leaf.ensures.repaired))
+    c.self.invariant c.add_leaf.new.nodes (option_map number c.add_leaf.new.root) c.add_leaf.ensures.kept (rw c.node_at-z.ensures at c.add_leaf.ensures.repaired))
 
 pub returns-clause-shape : goal.returns-clause-shape
 returns-clause-shape g c =
@@ -131,9 +141,11 @@ returns-clause-shape g c =
     let held = rw (← c.self.view_is) at c.requires.entry in
     let out = taken_out c.self.inside.chain (option_map number c.self.inside.root) _ c.self.invariant (sym (is_some-bare c.self.inside.chain.entries _) ∙ held)
     g.P.Inx.PtrInx.most g.P.Gen.PtrGen.greatest c.len.ensures.sound g.met.P.Inx.PtrInx.fits _ (rw c.node_at-z.ensures at c.neighbour-before.ensures)
-    c.detach.new.nodes (option_map number c.detach.new.root) c.detach.ensures.kept (rw c.node_at-z.ensures at c.detach.ensures.built) (rw c.node_at-z.ensures at c.detach.ensures.backs) in
+    c.detach.new.nodes (option_map number c.detach.new.root) c.detach.ensures.kept (rw c.node_at-z.ensures at c.detach.ensures.built) (rw c.node_at-z.ensures at c.detach.ensures.backs)
+    (rw c.node_at-z.ensures at c.detach.ensures.account) in
     let can = rw (← c.self.view_is) at c.requires.place in
     let bud = rw (c.side_of.ensures, c.node_at-y.ensures, c.node_at-z.ensures) at c.branch_across-branch.ensures in
     let branch = bud _ _ (aside out number c.args.at can c.move_beside.new.self c.kind_of.result c.kind_of.ensures c.move_beside.ensures) in
-    rw (← c.self.view_is) (shifted out number c.args.at can c.move_beside.new.self c.kind_of.result c.kind_of.ensures c.move_beside.ensures c.set_links.new.self _ branch c.set_links.ensures.kept (rw c.node_at-z.ensures at c.set_links.ensures.here) (rw c.node_at-z.ensures at c.set_links.ensures.elsewhere)
-    (option_map number c.self.inside.root) c.self.invariant c.add_leaf.new.nodes (option_map number c.add_leaf.new.root) c.add_leaf.ensures.kept (rw c.node_at-z.ensures at c.add_leaf.ensures.repaired))
+    rw (← c.self.view_is) (rearranged out number c.args.at can c.move_beside.new.self c.kind_of.result c.kind_of.ensures c.move_beside.ensures c.set_links.new.self _ branch c.set_links.ensures.kept (rw c.node_at-z.ensures at c.set_links.ensures.here) (rw c.node_at-z.ensures at c.set_links.ensures.elsewhere)
+    c.self.invariant c.add_leaf.new.nodes (option_map number c.add_leaf.new.root) c.add_leaf.ensures.kept (rw c.node_at-z.ensures at c.add_leaf.ensures.repaired)
+    (rw c.node_at-z.ensures at c.add_leaf.ensures.account))

@@ -3,5 +3,5 @@ use Rattle.ord_tree.proofs.tree.insert.grow.Goals as goal
 pub returns-in-Some-clause-grown : goal.returns-in-Some-clause-grown
 returns-in-Some-clause-grown g c = rw c.in-Some.is c.add_leaf.ensures.repaired
 
-pub returns-in-Some-clause-paid : goal.returns-in-Some-clause-paid
-returns-in-Some-clause-paid g c = rw c.in-Some.is c.add_leaf.ensures.paid
+pub returns-in-Some-clause-account : goal.returns-in-Some-clause-account
+returns-in-Some-clause-account g c = rw c.in-Some.is c.add_leaf.ensures.account

@@ -4,9 +4,9 @@ use Rattle.std.proofs.{lemmas.Grind.common_steps, lemmas.Bool.eq-eqb, lemmas.Boo
 use Rattle.ord_tree.specs.declared.tree_links.Side.TheVariants.{Lesser, Greater}
 use Rattle.ord_tree.specs.Slots.{Way, top, up, plug, here, times_in, times_way, Among}
 use Rattle.ord_tree.proofs.{Forks.here-same, Views.Contains-among}
-use Rattle.ord_tree.specs.{Potential.potential, Potential.StandsWithRank, Potential.ReranksWithin, Ranks.IsRanked, Account.IsPaid, Slots.Slots}
+use Rattle.ord_tree.specs.{Potential.potential, Ranks.HasRank, Potential.ChangesRanksWithin, Ranks.IsRanked, Account.IsSpelledWithin, Slots.Slots}
 use Rattle.ord_tree.specs.{Shape.Shape, Shape.missing, Shape.node, Shape.fork, Shape.root_of, Shape.rank_of, declared.tree_links.Side.Side}
-use Rattle.ord_tree.specs.Account.{rank_here, rank_in, rank_way, Names, pending}
+use Rattle.ord_tree.specs.Account.{rank_here, rank_in, rank_way, NamesChanges, pending_change}
 
 pub rank_here-same : (i k : ℕ) → rank_here i i k ≡ k
 rank_here-same i k = rw (eq-eqb i i refl) refl
@@ -56,35 +56,35 @@ Among-behind : (xs ys : List ℕ) (j : ℕ) → Among j ys → Among j (xs ++ ys
 Among-behind [] ys j h = h
 Among-behind (x ∷ xs) ys j h = inr (Among-behind xs ys j h)
 
-pub Names-joined : (xs ys : List ℕ) (f g h : ℕ → ℕ) → Names xs f g → Names ys g h → Names (xs ++ ys) f h
-Names-joined xs ys f g h p q j =
+pub NamesChanges-joined : (xs ys : List ℕ) (f g h : ℕ → ℕ) → NamesChanges xs f g → NamesChanges ys g h → NamesChanges (xs ++ ys) f h
+NamesChanges-joined xs ys f g h p q j =
     ⊎_elim (λ in_xs. inl (Among-before xs ys j in_xs))
     (⊎_elim (λ none. inr (inl none))
     (λ (same : f j ≡ g j). ⊎_elim (λ in_ys. inl (Among-behind xs ys j in_ys))
     (⊎_elim (λ (none : g j ≡ 0). inr (inl (same ∙ none))) (λ (same' : g j ≡ h j). inr (inr (same ∙ same')))) (q j))) (p j)
 
 -- y is pending, or new
-pub pending_or_new : (y low : ℕ) → Among y (pending y low) ⊎ (low ≡ 0)
+pub pending_or_new : (y low : ℕ) → Among y (pending_change y low) ⊎ (low ≡ 0)
 pending_or_new y zero = inr refl
 pending_or_new y (suc low) = inl (inl refl)
 
-pub pending-least : (y low : ℕ) → 0 < low → length (pending y low) ≡ 1
+pub pending-least : (y low : ℕ) → 0 < low → length (pending_change y low) ≡ 1
 pending-least y zero h = absurd (omega (arith, h))
 pending-least y (suc low) h = refl
 
-pub pending-most : (y low : ℕ) → length (pending y low) ≤ 1
+pub pending-most : (y low : ℕ) → length (pending_change y low) ≤ 1
 pending-most y zero = omega arith
 pending-most y (suc low) = omega arith
 
 -- an index that stands in a shape with some rank
-standing : (s : Shape) (i k : ℕ) → StandsWithRank s i k → 0 < times_in i s
+standing : (s : Shape) (i k : ℕ) → HasRank s i k → 0 < times_in i s
 standing missing i k h = elim h [ ]
 standing (node l j m r) i k h =
     ⊎_elim (λ (at : (i ≡ j) × (k ≡ m)). let one : here i j ≡ 1 = ap (here i) (sym at.0) ∙ here-same i in omega arith)
     (⊎_elim (λ in_l. let some = standing l i k in_l in omega arith) (λ in_r. let some = standing r i k in_r in omega arith)) h
 
 -- is there with that rank alone, where no index stands twice
-pub rank_in-standing : (s : Shape) (i k : ℕ) → times_in i s ≤ 1 → StandsWithRank s i k → rank_in s i ≡ k
+pub rank_in-standing : (s : Shape) (i k : ℕ) → times_in i s ≤ 1 → HasRank s i k → rank_in s i ≡ k
 rank_in-standing missing i k once h = elim h [ ]
 rank_in-standing (node l j m r) i k once h =
     ⊎_elim (λ (at : (i ≡ j) × (k ≡ m)). rank_in-root (node l j m r) i (ap Some (sym at.0)) once ∙ sym at.1)
@@ -100,15 +100,15 @@ rank_in-standing (node l j m r) i k once h =
     not_here none e = let one : here i j ≡ 1 = ap (here i) (sym e) ∙ here-same i in omega arith
 
 -- no rank is 0
-rank-positive : (s : Shape) (i k : ℕ) → IsRanked s → StandsWithRank s i k → 0 < k
+rank-positive : (s : Shape) (i k : ℕ) → IsRanked s → HasRank s i k → 0 < k
 rank-positive missing i k ranked h = elim h [ ]
 rank-positive (node l j m r) i k ranked h =
     ⊎_elim (λ (at : (i ≡ j) × (k ≡ m)). omega (arith, at.1, ranked.0.lesser)) (⊎_elim (rank-positive l i k ranked.1) (rank-positive r i k ranked.2)) h
 
 -- an account of a change of this shape, as the shapes tell it; `was` has the ranks of those that stay
-pub ReranksWithin-paid : (m : ℕ) (s : Shape) {was : ℕ → ℕ} {at : Slots} {root : Option ℕ} {order : List ℕ} (paid : IsPaid was at root order (potential s + m))
-    → ((j : ℕ) → 0 < times_in j paid.shape → was j ≡ rank_in s j) → ((j : ℕ) → times_in j s ≤ 1) → ((j : ℕ) → times_in j paid.shape ≤ 1) → IsRanked s → ReranksWithin m s paid.shape
-ReranksWithin-paid m s {was} paid stays once once' ranked = (
+pub ChangesRanksWithin-spelled : (m : ℕ) (s : Shape) {was : ℕ → ℕ} {at : Slots} {root : Option ℕ} {order : List ℕ} (paid : IsSpelledWithin was at root order (potential s + m))
+    → ((j : ℕ) → 0 < times_in j paid.shape → was j ≡ rank_in s j) → ((j : ℕ) → times_in j s ≤ 1) → ((j : ℕ) → times_in j paid.shape ≤ 1) → IsRanked s → ChangesRanksWithin m s paid.shape
+ChangesRanksWithin-spelled m s {was} paid stays once once' ranked = (
   paid.named,
   paid.within,
   λ i k l before after.

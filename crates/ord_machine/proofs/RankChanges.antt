@@ -3,7 +3,7 @@ use Rattle.std.proofs.Common.{◌≡◌, ℕ, ◌+◌, ◌≤◌, inl, inr, Opti
 use Rattle.std.proofs.lemmas.List.{length-map}
 use Rattle.std.specs.List.{AllByRecursion}
 use Rattle.chain_base.specs.Chain.{IsSound}
-use Rattle.ord_tree.specs.{Shape.Shape, Shape.size_of, Tree.Tree, Tree.IsSoundTree, Potential.potential, Potential.StandsWithRank, Potential.ReranksWithin}
+use Rattle.ord_tree.specs.{Shape.Shape, Shape.size_of, Tree.Tree, Tree.IsSoundTree, Potential.potential, Potential.ChangesRanksWithin, Ranks.HasRank}
 use Rattle.ord_tree.proofs.CallerLemmas.{rank_in-standing, times-walk, times-indexes, potential-le-size, size_of-walk}
 use Rattle.ord_tree.specs.{Slots.times, Slots.times_in}
 use Rattle.triple_ord.specs.ClosureSearch.{Shown}
@@ -11,14 +11,14 @@ use Rattle.triple_ord.specs.declared.entry_kind.OrdEntryKind.TheVariants.{New}
 use Rattle.arena_base.specs.declared.invalidation.InvalidationResult.TheVariants.{Success, GenerationOverflow}
 use Rattle.ord_machine.specs.declared.reply.Reply.TheVariants.{Inserted, Removed}
 use Rattle.ord_machine.specs.Machine.{Reading, State, Runs, Effect, adds, removes, rebuilds, keeps, told_effect, effect_of}
-use Rattle.ord_machine.specs.{Reranking.worth, Reranking.KeepsTree, Reranking.worth_among, Reranking.Reranks, Reranking.RankChangesLaw}
+use Rattle.ord_machine.specs.RankChanges.{allowance, KeepsTree, allowance_of, CountsRankChanges, RankChangesLaw}
 use Rattle.ord_machine.specs.{declared.command.Command.Command, declared.reply.Reply.Reply}
 use Rattle.ord_machine.specs.declared.command.Command.TheVariants as commands
 use Rattle.ord_machine.proofs.Outcomes.{Affects, outcome}
 
--- each index stands in the shape with one rank
+-- each index has one rank in the shape
 abbrev IsSingle : Shape → Type 0
-IsSingle s = (i k l : ℕ) → StandsWithRank s i k → StandsWithRank s i l → k ≡ l
+IsSingle s = (i k l : ℕ) → HasRank s i k → HasRank s i l → k ≡ l
 
 -- so in a sound tree
 single_sound : {T : Type 0} (most : ℕ) (greatest : Option ℕ) (t : Tree T) → IsSound most greatest t.list → IsSoundTree t → IsSingle t.shape
@@ -26,19 +26,19 @@ single_sound most greatest t lawful sound i k l a b =
     let once : times_in i t.shape ≤ 1 = omega (arith, lawful.distinct i, times-indexes t.list.entries i, ap (times i) sound.listed, times-walk i t.shape) in
     sym (rank_in-standing t.shape i k once a) ∙ rank_in-standing t.shape i l once b
 
--- where the shape stays, no rank changes
-unchanged : (m : ℕ) (s : Shape) → IsSingle s → ReranksWithin m s s
+-- if the shape stays, no rank changes
+unchanged : (m : ℕ) (s : Shape) → IsSingle s → ChangesRanksWithin m s s
 unchanged m s single = ([], omega arith, λ i k l a b. inr (single i k l a b))
 
--- what a step pays for
-paid_by : (effect : Effect) (old new : Shape) → (effect ≡ rebuilds → ⊥) → IsSingle old → Affects effect old new → ReranksWithin (worth effect) old new
-paid_by adds old new built single affects =
-    elim affects.1 [ inl within ↦ within | inr same ↦ subst (λ (s : Shape). ReranksWithin 4 old s) (sym same) (unchanged 4 old single) ]
-paid_by removes old new built single affects =
-    elim affects [ inl within ↦ within | inr same ↦ subst (λ (s : Shape). ReranksWithin 9 old s) (sym same) (unchanged 9 old single) ]
-paid_by rebuilds old new built single affects = absurd (built refl)
-paid_by keeps old new built single (inl same) = subst (λ (s : Shape). ReranksWithin 0 old s) (sym same) (unchanged 0 old single)
-paid_by keeps old new built single (inr none) = subst (λ (s : Shape). ReranksWithin 0 old s) (sym none) ([], omega arith, λ i k l a b. elim b [ ])
+-- a step changes ranks within its allowance
+within_allowance : (effect : Effect) (old new : Shape) → (effect ≡ rebuilds → ⊥) → IsSingle old → Affects effect old new → ChangesRanksWithin (allowance effect) old new
+within_allowance adds old new built single affects =
+    elim affects.1 [ inl within ↦ within | inr same ↦ subst (λ (s : Shape). ChangesRanksWithin 4 old s) (sym same) (unchanged 4 old single) ]
+within_allowance removes old new built single affects =
+    elim affects [ inl within ↦ within | inr same ↦ subst (λ (s : Shape). ChangesRanksWithin 9 old s) (sym same) (unchanged 9 old single) ]
+within_allowance rebuilds old new built single affects = absurd (built refl)
+within_allowance keeps old new built single (inl same) = subst (λ (s : Shape). ChangesRanksWithin 0 old s) (sym same) (unchanged 0 old single)
+within_allowance keeps old new built single (inr none) = subst (λ (s : Shape). ChangesRanksWithin 0 old s) (sym none) ([], omega arith, λ i k l a b. elim b [ ])
 
 module _ {P T I G A : Type 0} where
   not_told : (reply : Reply P T A I G) → told_effect reply ≡ rebuilds → ⊥
@@ -55,14 +55,14 @@ module _ {P T I G A : Type 0} where
 module _ {P T I G A F K : Type 0} (r : Reading P T I G K) (asks : F → Shown T → F → Type 0) (new : State T) (g : F) where
   account : (asked : List (Command P T I G K)) (told : List (Reply P T A I G)) (old : State T) (f : F) → IsSingle old.tree.shape → AllByRecursion KeepsTree asked
       → Runs r asks old f asked told new g
-      → (count : ℕ) × (count + potential new.tree.shape ≤ potential old.tree.shape + worth_among asked told) × Reranks r asks old f asked told new g count
+      → (count : ℕ) × (count + potential new.tree.shape ≤ potential old.tree.shape + allowance_of asked told) × CountsRankChanges r asks old f asked told new g count
   account [] [] old f single stays run = (0, omega (arith, ap (λ (s : State T). potential s.tree.shape) run.0), (run.0, run.1, refl))
   account [] (reply ∷ told) old f single stays run = absurd run
   account (command ∷ asked) [] old f single stays run = absurd run
   account (command ∷ asked) (reply ∷ told) old f single stays run =
       let mid = run.0 in
       let step = run.2 in
-      let paid = paid_by (effect_of command reply) old.tree.shape mid.tree.shape (not_rebuilt command reply stays.0) single (outcome r old mid.tree asks f command reply run.1 step.does).affects in
+      let paid = within_allowance (effect_of command reply) old.tree.shape mid.tree.shape (not_rebuilt command reply stays.0) single (outcome r old mid.tree asks f command reply run.1 step.does).affects in
       let rest = account asked told mid run.1 (single_sound r.most r.greatest mid.tree step.lawful step.sound) stays.1 run.3 in
       (length paid.0 + rest.0, omega (arith, paid.1, rest.1), (mid, run.1, paid.0, rest.0, step, paid.2, refl, rest.2))
 

@@ -1,14 +1,14 @@
--- The account of a repair after an insertion: each step is paid by what the shape puts by.
+-- The account of a repair after an insertion: the potential pays for each step.
 use Rattle.std.proofs.Common.{◌≡◌, ◌≢◌, ℕ, ◌+◌, ◌-◌, ◌<◌, ◌≤◌, Option, Some, None, List, [], ◌∷◌, ◌++◌, length, arith, refl, sym, ◌∙◌, ap, subst, inl, inr, ⊎_elim, length-append}
 use Rattle.std.proofs.lemmas.Bool.{cases_eq}
 use Rattle.ord_tree.specs.Slots.{Slots, up, plug, above, here, times_in, times_way, Among}
 use Rattle.ord_tree.specs.Shape.{missing, fork, rank_of, root_of}
-use Rattle.ord_tree.specs.Account.{potential_way, rank_here, rank_in, rank_way, Names, pending, IsPaid, risen_from, stake, steep_from, steep_stake, IsPassedOn}
-use Rattle.ord_tree.specs.{Potential.put_by, Potential.potential, Promote.IsRising, Promote.IsSteep, Rotate.IsRotated, declared.tree_links.Side.Side}
+use Rattle.ord_tree.specs.Account.{potential_way, rank_here, rank_in, rank_way, NamesChanges, pending_change, IsSpelledWithin, rising_ranks, rising_credit, steep_ranks, steep_credit, IsRisingWithin}
+use Rattle.ord_tree.specs.{Potential.node_potential, Potential.potential, Promote.IsRising, Promote.IsSteep, Rotate.IsRotated, declared.tree_links.Side.Side}
 use Rattle.ord_tree.specs.{Balance.IsOver, TreeLinks.other_side, TreeLinks.with_child_at, Leaf.IsNewLeaf, Leaf.beside}
 use Rattle.ord_tree.specs.{declared.tree_links.TreeLinks.TreeLinks}
-use Rattle.ord_tree.proofs.Saving.{put_by-full, put_by-uneven, put_by-tight, put_by-cases, potential-fork, potential-plug}
-use Rattle.ord_tree.proofs.Naming.{rank_here-other, rank_here-next, rank_in-absent, rank_way-absent, rank_in-root, rank_in-fork, rank_in-plug, Names-joined, pending_or_new, pending-least}
+use Rattle.ord_tree.proofs.Potentials.{node_potential-full, node_potential-uneven, node_potential-tight, node_potential-cases, potential-fork, potential-plug}
+use Rattle.ord_tree.proofs.RankChanges.{rank_here-other, rank_here-next, rank_in-absent, rank_way-absent, rank_in-root, rank_in-fork, rank_in-plug, NamesChanges-joined, pending_or_new, pending-least}
 use Rattle.ord_tree.proofs.Forks.{rank-fork, walk-plug, walk-rotated, Holds-plug, here-same, here-other, times_in-fork, fork_balanced}
 use Rattle.ord_tree.proofs.Frames.{last_step, no_step, root-in, IsReranked}
 use Rattle.ord_tree.proofs.Doubles.{middle, middle_rank_is, middle_over, site_below, site_above, site_shape, lifted, walk_double}
@@ -16,8 +16,8 @@ use Rattle.ord_tree.proofs.NewLeaf.{spot, whole, IsRising-attached}
 use Rattle.ord_tree.proofs.Promoting.{IsRisingUnder, rising_under, apart, root_is, held_z, rising_promoted, forked, IsSteep-rising}
 
 -- the same ranks at first, and more credit
-pub IsPaid-more : (f g : ℕ → ℕ) (at : Slots) (root : Option ℕ) (order : List ℕ) (c d : ℕ) → ((j : ℕ) → f j ≡ g j) → c ≤ d → IsPaid g at root order c → IsPaid f at root order d
-IsPaid-more f g at root order c d same more paid = record {
+pub IsSpelledWithin-more : (f g : ℕ → ℕ) (at : Slots) (root : Option ℕ) (order : List ℕ) (c d : ℕ) → ((j : ℕ) → f j ≡ g j) → c ≤ d → IsSpelledWithin g at root order c → IsSpelledWithin f at root order d
+IsSpelledWithin-more f g at root order c d same more paid = record {
   shape = paid.shape;
   held = paid.held;
   listed = paid.listed;
@@ -26,52 +26,52 @@ IsPaid-more f g at root order c d same more paid = record {
   names = λ j. ⊎_elim (λ named. inl named) (⊎_elim (λ (none : g j ≡ 0). inr (inl (same j ∙ none))) (λ (e : g j ≡ rank_in paid.shape j). inr (inr (same j ∙ e)))) (paid.names j);
 }
 
-pub IsPassedOn-more : (f g : ℕ → ℕ) (at : Slots) (root : Option ℕ) (z : ℕ) (order : List ℕ) (slack c d : ℕ) → ((j : ℕ) → f j ≡ g j) → c ≤ d → IsPassedOn g at root z order slack c → IsPassedOn f at root z order slack d
-IsPassedOn-more f g at root z order slack c d same more on = record {
+pub IsRisingWithin-more : (f g : ℕ → ℕ) (at : Slots) (root : Option ℕ) (z : ℕ) (order : List ℕ) (slack c d : ℕ) → ((j : ℕ) → f j ≡ g j) → c ≤ d → IsRisingWithin g at root z order slack c → IsRisingWithin f at root z order slack d
+IsRisingWithin-more f g at root z order slack c d same more on = record {
   rising = on.rising;
   named = on.named;
   within = omega (arith, on.within);
-  names = λ j. ⊎_elim (λ named. inl named) (⊎_elim (λ (none : g j ≡ 0). inr (inl (same j ∙ none))) (λ (e : g j ≡ risen_from on.rising j). inr (inr (same j ∙ e)))) (on.names j);
+  names = λ j. ⊎_elim (λ named. inl named) (⊎_elim (λ (none : g j ≡ 0). inr (inl (same j ∙ none))) (λ (e : g j ≡ rising_ranks on.rising j). inr (inr (same j ∙ e)))) (on.names j);
 }
 
 -- nothing was done yet
 module _ {at : Slots} {root : Option ℕ} {y : ℕ} {order : List ℕ} {slack : ℕ} (rising : IsRising at root y order slack) where
-  pub IsPassedOn-first : IsPassedOn (risen_from rising) at root y order slack (stake rising)
-  IsPassedOn-first = record { rising = rising; named = []; within = omega arith; names = λ j. inr (inr refl) }
+  pub IsRisingWithin-first : IsRisingWithin (rising_ranks rising) at root y order slack (rising_credit rising)
+  IsRisingWithin-first = record { rising = rising; named = []; within = omega arith; names = λ j. inr (inr refl) }
 
 -- steps in a row
-module _ {was : ℕ → ℕ} {at : Slots} {root : Option ℕ} {y : ℕ} {order : List ℕ} {slack credit : ℕ} (on : IsPassedOn was at root y order slack credit) where
-  pub IsPassedOn-next : {new : Slots} {root' : Option ℕ} {z : ℕ} → IsPassedOn (risen_from on.rising) new root' z order slack (stake on.rising) → IsPassedOn was new root' z order slack credit
-  IsPassedOn-next next = record {
+module _ {was : ℕ → ℕ} {at : Slots} {root : Option ℕ} {y : ℕ} {order : List ℕ} {slack credit : ℕ} (on : IsRisingWithin was at root y order slack credit) where
+  pub IsRisingWithin-next : {new : Slots} {root' : Option ℕ} {z : ℕ} → IsRisingWithin (rising_ranks on.rising) new root' z order slack (rising_credit on.rising) → IsRisingWithin was new root' z order slack credit
+  IsRisingWithin-next next = record {
     rising = next.rising;
     named = on.named ++ next.named;
     within = omega (arith, on.within, next.within, length-append on.named next.named);
-    names = Names-joined on.named next.named was (risen_from on.rising) (risen_from next.rising) on.names next.names;
+    names = NamesChanges-joined on.named next.named was (rising_ranks on.rising) (rising_ranks next.rising) on.names next.names;
   }
 
-  pub IsPaid-after : {new : Slots} {root' : Option ℕ} (more : ℕ) → IsPaid (risen_from on.rising) new root' order (stake on.rising + more) → IsPaid was new root' order (credit + more)
-  IsPaid-after more paid = record {
+  pub IsSpelledWithin-after : {new : Slots} {root' : Option ℕ} (more : ℕ) → IsSpelledWithin (rising_ranks on.rising) new root' order (rising_credit on.rising + more) → IsSpelledWithin was new root' order (credit + more)
+  IsSpelledWithin-after more paid = record {
     shape = paid.shape;
     held = paid.held;
     listed = paid.listed;
     named = on.named ++ paid.named;
     within = omega (arith, on.within, paid.within, length-append on.named paid.named);
-    names = Names-joined on.named paid.named was (risen_from on.rising) (rank_in paid.shape) on.names paid.names;
+    names = NamesChanges-joined on.named paid.named was (rising_ranks on.rising) (rank_in paid.shape) on.names paid.names;
   }
 
 -- y is the only one whose rank may differ
-names_pending : (y low : ℕ) (was is : ℕ → ℕ) → was y ≡ low → ((j : ℕ) → j ≢ y → was j ≡ is j) → Names (pending y low) was is
+names_pending : (y low : ℕ) (was is : ℕ → ℕ) → was y ≡ low → ((j : ℕ) → j ≢ y → was j ≡ is j) → NamesChanges (pending_change y low) was is
 names_pending y low was is from same j =
-    ⊎_elim (λ (e : j ≡ y). ⊎_elim (λ among. let P : ℕ → Type 0 = λ i. Among i (pending y low) in inl (subst P (sym e) among)) (λ (new : low ≡ 0). inr (inl (ap was e ∙ from ∙ new))) (pending_or_new y low))
+    ⊎_elim (λ (e : j ≡ y). ⊎_elim (λ among. let P : ℕ → Type 0 = λ i. Among i (pending_change y low) in inl (subst P (sym e) among)) (λ (new : low ≡ 0). inr (inl (ap was e ∙ from ∙ new))) (pending_or_new y low))
     (λ other. inr (inr (same j other))) (cases_eq j y)
 
 module _ {at : Slots} {root : Option ℕ} {z y : ℕ} {order : List ℕ} {slack : ℕ} (u : IsRisingUnder at root z y order slack) where
-  -- the ranks before y rose, and what is put by
-  abbrev pub from_under : ℕ → ℕ
-  from_under j = rank_way (up u.side z u.high u.far u.rest) j + rank_in u.shape j - here j y
+  -- the ranks before y rose, and the credit that the state needs
+  abbrev pub ranks_under : ℕ → ℕ
+  ranks_under j = rank_way (up u.side z u.high u.far u.rest) j + rank_in u.shape j - here j y
 
-  abbrev pub stake_under : ℕ
-  stake_under = length (pending y u.low) + potential_way (up u.side z u.high u.far u.rest) u.low + potential u.shape
+  abbrev pub credit_under : ℕ
+  credit_under = length (pending_change y u.low) + potential_way (up u.side z u.high u.far u.rest) u.low + potential u.shape
 
   -- y stands at the root of its shape alone
   parts : (j : ℕ) → times_way j u.rest + times_in j u.shape + here j z + times_in j u.far ≤ 1
@@ -83,7 +83,7 @@ module _ {at : Slots} {root : Option ℕ} {z y : ℕ} {order : List ℕ} {slack 
   y≢z : y ≢ z
   y≢z e = let same : here y z ≡ 1 = ap (here y) (sym e) ∙ here-same y in omega (arith, parts y, in_shape)
 
-  from_y : from_under y ≡ u.low
+  from_y : ranks_under y ≡ u.low
   from_y =
       omega (
         arith,
@@ -96,67 +96,67 @@ module _ {at : Slots} {root : Option ℕ} {z y : ℕ} {order : List ℕ} {slack 
       )
 
   -- a greater parent ends the repair
-  pub IsPaid-stop : u.low + 1 < u.high → IsPaid from_under at root order (stake_under + 3)
-  IsPaid-stop higher =
+  pub IsSpelledWithin-stop : u.low + 1 < u.high → IsSpelledWithin ranks_under at root order (credit_under + 3)
+  IsSpelledWithin-stop higher =
       let s = fork u.side u.shape z u.high u.far in
       record {
         shape = plug u.rest s;
         held = Holds-plug at root u.rest s (Some z) u.held_rest (held_z u);
         listed = u.listed;
-        named = pending y u.low;
+        named = pending_change y u.low;
         within = omega (
           arith,
           potential-plug u.rest s,
           potential-fork u.side u.shape u.far z u.high,
           ap (potential_way u.rest) (rank-fork u.side u.shape u.far z u.high),
-          put_by-tight u.high (rank_of u.shape) (rank_of u.far) (inl (omega (arith, u.over.lesser, u.risen))),
+          node_potential-tight u.high (rank_of u.shape) (rank_of u.far) (inl (omega (arith, u.over.lesser, u.risen))),
         );
-        names = names_pending y u.low from_under (rank_in (plug u.rest s)) from_y
+        names = names_pending y u.low ranks_under (rank_in (plug u.rest s)) from_y
             (λ j other. omega (arith, rank_in-plug j u.rest s, rank_in-fork j u.side u.shape u.far z u.high, here-other j y other));
       }
 
   -- a promotion is paid by z, which was full
   module _ (new : Slots) (by : IsReranked at new z (u.high + 1)) (equal : u.high ≡ u.low + 1) (sibling : rank_of u.far + 1 ≡ u.high) where
-    pub IsPassedOn-promoted : IsPassedOn from_under new root z order slack stake_under
-    IsPassedOn-promoted =
+    pub IsRisingWithin-promoted : IsRisingWithin ranks_under new root z order slack credit_under
+    IsRisingWithin-promoted =
         let s = fork u.side u.shape z (u.high + 1) u.far in
         record {
           rising = rising_promoted u new by equal sibling;
-          named = pending y u.low;
+          named = pending_change y u.low;
           within = omega (
             arith,
             pending-least z u.high (omega arith),
             potential-fork u.side u.shape u.far z (u.high + 1),
-            put_by-full u.high u.low (rank_of u.far) equal (omega arith),
-            put_by-uneven (u.high + 1) (rank_of u.shape) (rank_of u.far) (omega (arith, u.risen)),
+            node_potential-full u.high u.low (rank_of u.far) equal (omega arith),
+            node_potential-uneven (u.high + 1) (rank_of u.shape) (rank_of u.far) (omega (arith, u.risen)),
           );
-          names = names_pending y u.low from_under (λ j. rank_way u.rest j + rank_in s j - here j z) from_y
+          names = names_pending y u.low ranks_under (λ j. rank_way u.rest j + rank_in s j - here j z) from_y
               (λ j other. omega (arith, rank_in-fork j u.side u.shape u.far z (u.high + 1), rank_here-next j z u.high, here-other j y other));
         }
 
   -- a steep place has the same account
   module _ (equal : u.high ≡ u.low + 1) (not_sibling : rank_of u.far + 1 ≢ u.high) where
-    steep_from-under : (j : ℕ) → from_under j ≡ steep_from (IsSteep-rising u equal not_sibling) j
+    steep_ranks-under : (j : ℕ) → ranks_under j ≡ steep_ranks (IsSteep-rising u equal not_sibling) j
     unfolding IsSteep-rising
-    steep_from-under j =
+    steep_ranks-under j =
         let f = forked u equal not_sibling in
         omega (arith, ap (λ s. rank_in s j) f.is, rank_in-fork j u.side f.near f.far y f.rank)
 
-    steep_stake-under : steep_stake (IsSteep-rising u equal not_sibling) ≤ stake_under
+    steep_credit-under : steep_credit (IsSteep-rising u equal not_sibling) ≤ credit_under
     unfolding IsSteep-rising
-    steep_stake-under =
+    steep_credit-under =
         let f = forked u equal not_sibling in
         omega (arith, ap (λ s. potential s) f.is, potential-fork u.side f.near f.far y f.rank, pending-least y u.low (omega (arith, u.over.greater)))
 
-    pub IsPaid-steep : {new : Slots} {root' : Option ℕ} (more : ℕ) → IsPaid (steep_from (IsSteep-rising u equal not_sibling)) new root' order (steep_stake (IsSteep-rising u equal not_sibling) + more)
-        → IsPaid from_under new root' order (stake_under + more)
-    IsPaid-steep {new} {root'} more paid = IsPaid-more from_under (steep_from (IsSteep-rising u equal not_sibling)) new root' order _ _ steep_from-under (omega (arith, steep_stake-under)) paid
+    pub IsSpelledWithin-steep : {new : Slots} {root' : Option ℕ} (more : ℕ) → IsSpelledWithin (steep_ranks (IsSteep-rising u equal not_sibling)) new root' order (steep_credit (IsSteep-rising u equal not_sibling) + more)
+        → IsSpelledWithin ranks_under new root' order (credit_under + more)
+    IsSpelledWithin-steep {new} {root'} more paid = IsSpelledWithin-more ranks_under (steep_ranks (IsSteep-rising u equal not_sibling)) new root' order _ _ steep_ranks-under (omega (arith, steep_credit-under)) paid
 
 -- what has risen, and where it hangs
 module _ {at : Slots} {root : Option ℕ} {y : ℕ} {order : List ℕ} {slack : ℕ} (rising : IsRising at root y order slack) where
   -- at the root the repair is over
-  pub IsPaid-top : above rising.way ≡ None → IsPaid (risen_from rising) at root order (stake rising + 3)
-  IsPaid-top e =
+  pub IsSpelledWithin-top : above rising.way ≡ None → IsSpelledWithin (rising_ranks rising) at root order (rising_credit rising + 3)
+  IsSpelledWithin-top e =
       let w = no_step rising.way e in
       record {
         shape = plug rising.way rising.shape;
@@ -172,28 +172,28 @@ module _ {at : Slots} {root : Option ℕ} {y : ℕ} {order : List ℕ} {slack : 
     unfolding rising_under
     way_is = (last_step rising.way z e).is
 
-    from_is : (j : ℕ) → risen_from rising j ≡ from_under (rising_under rising z e) j
+    from_is : (j : ℕ) → rising_ranks rising j ≡ ranks_under (rising_under rising z e) j
     unfolding rising_under
     from_is j = ap (λ way. rank_way way j + rank_in rising.shape j - here j y) way_is
 
-    stake_is : stake rising ≡ stake_under (rising_under rising z e)
+    stake_is : rising_credit rising ≡ credit_under (rising_under rising z e)
     unfolding rising_under
-    stake_is = ap (λ way. length (pending y rising.low) + potential_way way rising.low + potential rising.shape) way_is
+    stake_is = ap (λ way. length (pending_change y rising.low) + potential_way way rising.low + potential rising.shape) way_is
 
-    pub IsPaid-under : {new : Slots} {root' : Option ℕ} → IsPaid (from_under (rising_under rising z e)) new root' order (stake_under (rising_under rising z e) + 3) → IsPaid (risen_from rising) new root' order (stake rising + 3)
-    IsPaid-under {new} {root'} paid = IsPaid-more (risen_from rising) (from_under (rising_under rising z e)) new root' order _ _ from_is (omega (arith, stake_is)) paid
+    pub IsSpelledWithin-under : {new : Slots} {root' : Option ℕ} → IsSpelledWithin (ranks_under (rising_under rising z e)) new root' order (credit_under (rising_under rising z e) + 3) → IsSpelledWithin (rising_ranks rising) new root' order (rising_credit rising + 3)
+    IsSpelledWithin-under {new} {root'} paid = IsSpelledWithin-more (rising_ranks rising) (ranks_under (rising_under rising z e)) new root' order _ _ from_is (omega (arith, stake_is)) paid
 
-    pub IsPassedOn-under : {new : Slots} {root' : Option ℕ} {x : ℕ} → IsPassedOn (from_under (rising_under rising z e)) new root' x order slack (stake_under (rising_under rising z e)) → IsPassedOn (risen_from rising) new root' x order slack (stake rising)
-    IsPassedOn-under {new} {root'} {x} on = IsPassedOn-more (risen_from rising) (from_under (rising_under rising z e)) new root' x order slack _ _ from_is (omega (arith, stake_is)) on
+    pub IsRisingWithin-under : {new : Slots} {root' : Option ℕ} {x : ℕ} → IsRisingWithin (ranks_under (rising_under rising z e)) new root' x order slack (credit_under (rising_under rising z e)) → IsRisingWithin (rising_ranks rising) new root' x order slack (rising_credit rising)
+    IsRisingWithin-under {new} {root'} {x} on = IsRisingWithin-more (rising_ranks rising) (ranks_under (rising_under rising z e)) new root' x order slack _ _ from_is (omega (arith, stake_is)) on
 
--- what the three nodes of a double rotation put by
-pub double_saves : (m o a b f : ℕ) → o + 1 ≡ m → f + 1 ≡ m → a < m → m ≤ a + 2 → b < m → m ≤ b + 2 → put_by m o b + put_by m a f ≤ 1 + put_by m a b
+-- the potential of the three nodes of a double rotation
+pub double_saves : (m o a b f : ℕ) → o + 1 ≡ m → f + 1 ≡ m → a < m → m ≤ a + 2 → b < m → m ≤ b + 2 → node_potential m o b + node_potential m a f ≤ 1 + node_potential m a b
 double_saves m o a b f e d a1 a2 b1 b2 =
     omega (
       arith,
-      put_by-cases m o b (omega arith) (omega arith) b1 b2,
-      put_by-cases m a f a1 a2 (omega arith) (omega arith),
-      put_by-cases m a b a1 a2 b1 b2,
+      node_potential-cases m o b (omega arith) (omega arith) b1 b2,
+      node_potential-cases m a f a1 a2 (omega arith) (omega arith),
+      node_potential-cases m a b a1 a2 b1 b2,
     )
 
 module _ {old : Slots} {old_root : Option ℕ} {side : Side} {z y : ℕ} {order : List ℕ} {slack : ℕ} (steep : IsSteep old old_root side z y order slack) where
@@ -202,8 +202,8 @@ module _ {old : Slots} {old_root : Option ℕ} {side : Side} {z y : ℕ} {order 
 
   -- the single rotation
   module _ {new : Slots} {root : Option ℕ} {rank_z rank_y : ℕ} (r : IsRotated steep.site new root rank_z rank_y) where
-    pub IsPaid-single : rank_z ≡ rank_of steep.site.outer → rank_y ≡ steep.site.low → rank_y ≡ rank_z + 1 → IsPaid (steep_from steep) new root order (steep_stake steep + 3)
-    IsPaid-single is_z is_y outer =
+    pub IsSpelledWithin-single : rank_z ≡ rank_of steep.site.outer → rank_y ≡ steep.site.low → rank_y ≡ rank_z + 1 → IsSpelledWithin (steep_ranks steep) new root order (steep_credit steep + 3)
+    IsSpelledWithin-single is_z is_y outer =
         let site = steep.site in
         let below = fork side site.inner z rank_z site.far in
         let whole = fork side site.outer y rank_y below in
@@ -220,8 +220,8 @@ module _ {old : Slots} {old_root : Option ℕ} {side : Side} {z y : ℕ} {order 
             ap (potential_way site.way) steep.equal,
             potential-fork side site.outer below y rank_y,
             potential-fork side site.inner site.far z rank_z,
-            put_by-tight rank_y (rank_of site.outer) (rank_of below) (inl (omega arith)),
-            put_by-tight rank_z (rank_of site.inner) (rank_of site.far) (inr (omega (arith, steep.sibling, steep.equal))),
+            node_potential-tight rank_y (rank_of site.outer) (rank_of below) (inl (omega arith)),
+            node_potential-tight rank_z (rank_of site.inner) (rank_of site.far) (inr (omega (arith, steep.sibling, steep.equal))),
           );
           names = λ j. ⊎_elim (λ (is : j ≡ z). inl (inl is)) (λ not_z. ⊎_elim (λ (is : j ≡ y). inl (inr (inl is)))
               (λ not_y. inr (inr (omega (
@@ -240,8 +240,8 @@ module _ {old : Slots} {old_root : Option ℕ} {side : Side} {z y : ℕ} {order 
   -- the double one: y has the rank again that it had before it rose
   module _ (x : ℕ) (x_is : root_of steep.site.inner ≡ Some x) {mid : Slots} {mid_root : Option ℕ} {rank_low rank_high : ℕ} (r : IsRotated (site_below steep.site x x_is) mid mid_root rank_low rank_high)
       {new : Slots} {root : Option ℕ} (t : IsRotated (site_above steep.site x x_is r) new root rank_low rank_high) where
-    pub IsPaid-double : rank_low ≡ (middle steep.site x x_is).rank → rank_high ≡ steep.site.low → rank_high ≢ rank_of steep.site.outer + 1 → IsPaid (steep_from steep) new root order (steep_stake steep + 3)
-    IsPaid-double is_low is_high not_outer =
+    pub IsSpelledWithin-double : rank_low ≡ (middle steep.site x x_is).rank → rank_high ≡ steep.site.low → rank_high ≢ rank_of steep.site.outer + 1 → IsSpelledWithin (steep_ranks steep) new root order (steep_credit steep + 3)
+    IsSpelledWithin-double is_low is_high not_outer =
         let site = steep.site in
         let mid_is = middle site x x_is in
         let inner = middle_over site x x_is slack (fork_balanced slack side site.outer site.inner y site.low steep.balanced).2 in
@@ -267,8 +267,8 @@ module _ {old : Slots} {old_root : Option ℕ} {side : Side} {z y : ℕ} {order 
             potential-fork side mid_is.near site.far z rank_low,
             ap potential mid_is.is,
             potential-fork (other_side side) mid_is.near mid_is.far x mid_is.rank,
-            ap (λ k. put_by k (rank_of mid_is.near) (rank_of mid_is.far)) is_low,
-            put_by-tight rank_high (rank_of over_y) (rank_of over_z) (inl (omega (arith, rank-fork side site.outer mid_is.far y rank_low))),
+            ap (λ k. node_potential k (rank_of mid_is.near) (rank_of mid_is.far)) is_low,
+            node_potential-tight rank_high (rank_of over_y) (rank_of over_z) (inl (omega (arith, rank-fork side site.outer mid_is.far y rank_low))),
             double_saves rank_low (rank_of site.outer) (rank_of mid_is.near) (rank_of mid_is.far) (rank_of site.far) outer (omega (arith, steep.sibling, steep.equal))
                 (omega (arith, inner.0.lesser)) (omega (arith, inner.0.lesser)) (omega (arith, inner.0.greater)) (omega (arith, inner.0.greater)),
           );
@@ -290,14 +290,14 @@ module _ {old : Slots} {old_root : Option ℕ} {side : Side} {z y : ℕ} {order 
               )))) (cases_eq j x)) (cases_eq j z);
         }
 
--- a new leaf, which is full, is to be paid
+-- a new leaf is full, so it costs one
 module _ {at : Slots} {root : Option ℕ} {side : Side} {y x : ℕ} {order : List ℕ} {slack : ℕ} (bud : IsNewLeaf at root side y x order slack)
     (hung : Slots) (written : (n : TreeLinks ℕ) → at y ≡ Some n → hung y ≡ Some (with_child_at side (Some x) n)) (elsewhere : (j : ℕ) → j ≢ y → hung j ≡ at j) where
   abbrev risen : IsRising hung root x (beside side y x order) slack
   risen = IsRising-attached bud hung written elsewhere
 
-  leaf_from : (j : ℕ) → rank_in bud.built.shape j ≡ risen_from risen j
-  leaf_from j =
+  leaf_ranks : (j : ℕ) → rank_in bud.built.shape j ≡ rising_ranks risen j
+  leaf_ranks j =
       omega (
         arith,
         ap (λ s. rank_in s j) (whole bud),
@@ -305,17 +305,17 @@ module _ {at : Slots} {root : Option ℕ} {side : Side} {y x : ℕ} {order : Lis
         rank_in-fork j side missing (spot bud).far y (spot bud).rank,
       )
 
-  leaf_stake : stake risen ≤ potential bud.built.shape + 1
-  leaf_stake =
+  leaf_credit : rising_credit risen ≤ potential bud.built.shape + 1
+  leaf_credit =
       omega (
         arith,
         ap potential (whole bud),
         potential-plug (spot bud).way (fork side missing y (spot bud).rank (spot bud).far),
         potential-fork side missing (spot bud).far y (spot bud).rank,
         ap (potential_way (spot bud).way) (rank-fork side missing (spot bud).far y (spot bud).rank),
-        put_by-full 1 0 0,
+        node_potential-full 1 0 0,
       )
 
-  pub IsPaid-leaf : {new : Slots} {root' : Option ℕ} → IsPaid (risen_from risen) new root' (beside side y x order) (stake risen + 3)
-      → IsPaid (rank_in bud.built.shape) new root' (beside side y x order) (potential bud.built.shape + 4)
-  IsPaid-leaf {new} {root'} paid = IsPaid-more (rank_in bud.built.shape) (risen_from risen) new root' (beside side y x order) _ _ leaf_from (omega (arith, leaf_stake)) paid
+  pub IsSpelledWithin-leaf : {new : Slots} {root' : Option ℕ} → IsSpelledWithin (rising_ranks risen) new root' (beside side y x order) (rising_credit risen + 3)
+      → IsSpelledWithin (rank_in bud.built.shape) new root' (beside side y x order) (potential bud.built.shape + 4)
+  IsSpelledWithin-leaf {new} {root'} paid = IsSpelledWithin-more (rank_in bud.built.shape) (rising_ranks risen) new root' (beside side y x order) _ _ leaf_ranks (omega (arith, leaf_credit)) paid

@@ -1,0 +1,88 @@
+//! The amortized bound is exact: an insertion and a removal that use all of their allowance.
+use super::{Keys, Place, places, potential, rank_changes, toggle};
+use std::alloc::Global;
+
+/// A key and its rank.
+type Ranked = (u8, u8);
+
+/// Keys that are inserted or, if they are there already, removed one after another; the tree then; the last key, and the tree after it;
+/// how many ranks of other entries that changes; and its allowance.
+struct Step {
+    keys: &'static [u8],
+    before: &'static [Ranked],
+    last: u8,
+    after: &'static [Ranked],
+    changes: usize,
+    allowance: usize,
+}
+
+/// An insertion with a single rotation: the ranks of 1 and 2 change, and all three nodes are full.
+const INSERTION: Step = Step {
+    keys: &[1, 2],
+    before: &[(1, 2), (2, 1)],
+    last: 3,
+    after: &[(1, 1), (2, 2), (3, 1)],
+    changes: 2,
+    allowance: 4,
+};
+
+/// A removal of the root: 7 takes its place, 6 and 5 lose rank, and then 4 is lifted above 2 and 5 by a double rotation.
+const REMOVAL: Step = Step {
+    keys: &[12, 11, 10, 8, 7, 6, 5, 2, 1, 4, 9, 3, 9],
+    before: &[
+        (1, 1),
+        (2, 3),
+        (3, 1),
+        (4, 2),
+        (5, 4),
+        (6, 2),
+        (7, 1),
+        (8, 5),
+        (10, 1),
+        (11, 3),
+        (12, 1),
+    ],
+    last: 8,
+    after: &[
+        (1, 1),
+        (2, 2),
+        (3, 1),
+        (4, 4),
+        (5, 2),
+        (6, 1),
+        (7, 5),
+        (10, 1),
+        (11, 3),
+        (12, 1),
+    ],
+    changes: 5,
+    allowance: 9,
+};
+
+/// Whether a tree has these keys with these ranks, in order.
+fn has_ranks(places: &[Place], ranks: &[Ranked]) -> bool {
+    let ranked = places.iter().map(|place| (place.key, place.rank));
+    ranked.eq(ranks.iter().copied())
+}
+
+/// Whether the last key of a step changes as many ranks as it says, and needs its whole allowance.
+fn is_exact(alloc: Global, step: &Step) -> bool {
+    let mut tree = Keys::new(alloc);
+    for key in step.keys {
+        let _ = toggle(&mut tree, &places(alloc, &tree), *key);
+    }
+    let before = places(alloc, &tree);
+    let _ = toggle(&mut tree, &before, step.last);
+    let after = places(alloc, &tree);
+    let needed = step.changes.saturating_add(potential(&after));
+    has_ranks(&before, step.before)
+        && has_ranks(&after, step.after)
+        && rank_changes(&before, &after) == step.changes
+        && needed == potential(&before).saturating_add(step.allowance)
+}
+
+#[test]
+fn allowances_are_needed_whole(rt: HostRuntime) {
+    assert!(rt; is_exact(rt.alloc(), &INSERTION));
+    assert!(rt; is_exact(rt.alloc(), &REMOVAL));
+}

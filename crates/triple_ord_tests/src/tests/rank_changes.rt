@@ -1,0 +1,88 @@
+//! The amortized bound over a long random run: ranks are read from outside, step by step.
+use super::{Keys, rank_at};
+use std::alloc::Global;
+use triple_ord::OrdPair;
+
+/// How many entries there are at most at any time.
+const MOST: u32 = 256;
+
+/// What a run did.
+#[derive(Clone, Copy)]
+struct Account {
+    insertions: u64,
+    removals: u64,
+    changes: u64,
+}
+
+/// The next number of a linear congruential generator (Knuth, MMIX).
+fn next(seed: u64) -> u64 {
+    seed.wrapping_mul(6364136223846793005)
+        .wrapping_add(1442695040888963407)
+}
+
+/// The ranks by index, from index 1 on; 0 at a vacant index.
+fn ranks(alloc: Global, a: &Keys) -> Vec<u8> {
+    let mut ranks = Vec::new(alloc);
+    for index in 1..=MOST {
+        let _ = ranks.push(rank_at(a, index));
+    }
+    ranks
+}
+
+/// How many entries are in both states with different ranks.
+fn changes(old: &[u8], new: &[u8]) -> u64 {
+    let mut changes: u64 = 0;
+    for (old, new) in old.iter().zip(new) {
+        if *old != 0 && *new != 0 && old != new {
+            changes = changes.wrapping_add(1);
+        }
+    }
+    changes
+}
+
+/// Inserts a key that isn't there, or removes it.
+fn toggle(a: &mut Keys, key: u64, account: &mut Account) {
+    match a.find_key(&key) {
+        Some(p) => {
+            let _ = a.remove(p);
+            account.removals = account.removals.wrapping_add(1);
+        }
+        None => {
+            let _ = a.insert(OrdPair::new(key, ()));
+            account.insertions = account.insertions.wrapping_add(1);
+        }
+    }
+}
+
+/// A run over random keys, and how many ranks it changed.
+fn run(alloc: Global, steps: u64) -> Account {
+    let mut a = Keys::new(alloc);
+    let mut account = Account {
+        insertions: 0,
+        removals: 0,
+        changes: 0,
+    };
+    let mut seed = 1;
+    let mut before = ranks(alloc, &a);
+    for _ in 0..steps {
+        seed = next(seed);
+        toggle(&mut a, (seed >> 33) % u64::from(MOST), &mut account);
+        let after = ranks(alloc, &a);
+        account.changes = account.changes.wrapping_add(changes(&before, &after));
+        before = after;
+    }
+    account
+}
+
+#[test]
+fn rank_changes_stay_within_the_amortized_bound(rt: HostRuntime) {
+    let account = run(rt.alloc(), 100_000);
+    let allowed = account
+        .insertions
+        .wrapping_mul(4)
+        .wrapping_add(account.removals.wrapping_mul(9));
+    assert!(rt; account.insertions.wrapping_add(account.removals) == 100_000);
+    assert!(rt; account.changes <= allowed);
+    // A random run is far below the bound: less than a sixth of it.
+    assert!(rt; account.changes.wrapping_mul(6) < allowed, "{} of {allowed}", account.changes);
+}
