@@ -69,7 +69,8 @@ fn has_ranks(places: &[Place], ranks: &[Ranked]) -> bool {
 fn is_exact(alloc: Global, step: &Step) -> bool {
     let mut tree = Keys::new(alloc);
     for key in step.keys {
-        let _ = toggle(&mut tree, &places(alloc, &tree), *key);
+        let now = places(alloc, &tree);
+        let _ = toggle(&mut tree, &now, *key);
     }
     let before = places(alloc, &tree);
     let _ = toggle(&mut tree, &before, step.last);
