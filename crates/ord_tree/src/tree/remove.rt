@@ -20,7 +20,8 @@ use std::alloc::Allocator;
 
 impl<P: Ptr, T, A: Allocator> OrdTree<P, T, A> {
     /// Takes the entry at the index out, with its generation and its item, and raises the generation. The next insertion takes
-    /// its slot. Every other entry keeps its pointer, its item and its order, and at most nine get another parent.
+    /// its slot. Every other entry keeps its pointer, its item and its order; at most nine get another parent, and over a run nine ranks
+    /// change for each removal at most.
     ///
     /// At an index without an entry it returns `InvalidPtr`, and nothing changes. For n entries it takes O(log n) time, and
     /// no memory.
@@ -39,7 +40,8 @@ impl<P: Ptr, T, A: Allocator> OrdTree<P, T, A> {
     }
 
     /// Takes the entry out at an index that has one, with its generation and its item, and raises the generation. The next
-    /// insertion takes its slot. Every other entry keeps its pointer, its item and its order, and at most nine get another parent.
+    /// insertion takes its slot. Every other entry keeps its pointer, its item and its order; at most nine get another parent, and over a
+    /// run nine ranks change for each removal at most.
     ///
     /// For n entries it takes O(log n) time, and no memory.
     pub fn remove_entry(&mut self, i: P::Inx) -> InvalidationOption<(P::Gen, T)>

@@ -44,7 +44,8 @@ impl<'a, P: Ptr, T: Drop, A: Allocator> SimpleOrdArenaInsertEntry<'a, P, T, A> {
     /// Inserts the item, and returns the one that it replaced.
     ///
     /// No key is compared: an item whose key isn't that of the entry can break the order of the keys, never the tree. It takes no
-    /// memory, and O(log n) time for n entries; a new entry changes the parent of at most five others.
+    /// memory, and O(log n) time for n entries; a new entry changes the parent of at most five others, and over
+    /// a run four ranks of others at most.
     pub fn insert(self, t: T) -> Option<T>
         ensures inserts { InsertsThere P.numbers (entry_shown self.entry)
             (entry_put P.numbers self.entry) (entry_arena self.entry) t result self.exit.0.now }

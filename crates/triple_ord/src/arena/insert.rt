@@ -46,7 +46,7 @@ impl<P: Ptr, T: SimpleOrdItem + Drop, A: Allocator> SimpleOrdArena<P, T, A> {
     /// limit, and with `AllocError` where memory is refused; the item is then dropped, and nothing else changes. `entry_insert` lets a
     /// caller keep it.
     ///
-    /// A new entry changes the parent of at most five others in the tree. It takes O(log n) time for n entries, and O(n) where the
+    /// A new entry changes the parent of at most five others in the tree, and over a run four ranks of others at most. It takes O(log n) time for n entries, and O(n) where the
     /// arena grows; each growth doubles the room, so over many insertions that is O(1) for each.
     pub fn insert_reallocating(&mut self, t: T) -> Result<(P, Option<T>), OrdInsertionError>
         ensures inserts { Inserts T.key_of T.Key.cmp P.Inx.most P.numbers self.old t

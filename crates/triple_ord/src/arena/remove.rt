@@ -14,7 +14,8 @@ use std::alloc::Allocator;
 
 impl<P: Ptr, T, A: Allocator> SimpleOrdArena<P, T, A> {
     /// Takes the entry that the pointer names out, returns its item, and raises the generation. The next insertion takes its slot.
-    /// Every other entry keeps its pointer, its item and its place in the order, and at most nine get another parent in the tree.
+    /// Every other entry keeps its pointer, its item and its place in the order. At most nine get another parent in the tree, and over a
+    /// run nine ranks change for each removal at most.
     ///
     /// For a pointer that names no entry it returns `InvalidPtr`, and nothing changes. It compares no keys, and takes
     /// O(log n) time for n entries: O(1) for the list, and the repair of the ranks.
