@@ -2,9 +2,9 @@
 use Rattle.std.specs.declared.alloc.AllocError.{AllocError}
 use Rattle.arena_base.specs.{Clone.Grants, declared.error.ReallocationError.ReallocationError, declared.invalidation.InvalidationOption.InvalidationOption}
 use Rattle.arena_base.specs.declared.error.ReallocationError.TheVariants.{BeyondMaxCapacity, AllocError as NoMemory}
-use Rattle.chain_base.specs.{Chain.entry_at as entry_among, Clone.taken_over}
+use Rattle.chain_base.specs.{Chain.entry_at as entry_among, Chain.without, Clone.taken_over}
 use Rattle.ord_tree.specs.Clone.{ShowsItem, IsClone, IsRefusedClone}
-use Rattle.triple_ord.proofs.Words.{OrdInsertionError, ◌≡◌, ◌≢◌, ℕ, ◌+◌, List, [], ◌∷◌, ◌++◌, length, Option, Some, None, IsSome, is_some, slice_get, map, length-append, IfSome, IfNone, OnSome, Ok, refl, sym, ap, subst, ◌∙◌, arith, inl}
+use Rattle.triple_ord.proofs.Words.{OrdInsertionError, ◌≡◌, ◌≢◌, ℕ, ◌+◌, ◌≤◌, List, [], ◌∷◌, ◌++◌, length, Option, Some, None, IsSome, is_some, slice_get, map, length-append, IfSome, IfNone, OnSome, Ok, refl, sym, ap, subst, ◌∙◌, arith, inl}
 use Rattle.triple_ord.proofs.Words.{inr, beside, Place, into, over, IsPlace, aim_of, Growth, with_room_by, InsertsBy, told, OrdEntryKind, New, Tree, IsGrown, with_item, Gap, with_between, Equal, pointer, FindsKey, FindsSimilar, Aim, at_key}
 use Rattle.triple_ord.proofs.Words.{Replacing, OrdInsertKind, item_of, items, count, Updates, Renews, FindsBy, IsOfGeneration, IsNumbered, eq-eqb, cases_eq, option_map, Ordering, next_generation, item_if, Entry, Chain, times, FindsNothing}
 use Rattle.triple_ord.proofs.Words.{◌<◌, Result, Err, ◌⊎◌, nil_from_length, Bor, IsSound, greatest_index, clone-same, Transferring, TransferStep, IsTransfer, FoldsTo, length-map, entry_at-absent, entry_at-without_other, IsDistinct, removed}
@@ -14,7 +14,11 @@ use Rattle.triple_ord.proofs.Words.{entry_at-with_generation_other, entry_at-wit
 use Rattle.triple_ord.proofs.Inserting.{entry_at-after, similar-here, IsInsertion-same}
 use Rattle.chain_base.proofs.CallerLemmas.{with_new, roomy_capacity, capacity-vacant, capacity-with_room}
 use Rattle.triple_ord.specs.{Arena.entry_at, Clone.cloned, Clone.refused_clone, Entry.InsertsThere, Entry.Awaits, Entry.IsEntryFor}
-use Rattle.triple_ord.specs.{EntryKind.pointer_of_kind, Insertion.InsertsNew, Place.behind_key, declared.insert_kind.OrdInsertKind.TheVariants.Normal}
+use Rattle.triple_ord.specs.{EntryKind.pointer_of_kind, Rekey.Rekeys, Insertion.InsertsNew, Place.behind_key, declared.insert_kind.OrdInsertKind.TheVariants.Normal}
+
+times-without : {T : Type 0} (i : ℕ) (es : List (Entry T)) → times i es ≤ 1 → times i (without i es) ≡ 0
+times-without i [] once = refl
+times-without i (e ∷ es) once = grind (arith, common_steps, times-without i es)
 
 -- what an entry shows to its own generation, and to others
 pub item_if-own : {T : Type 0} (g : ℕ) (o : Option T) → item_if g (option_map (λ x. (g, x)) o) ≡ o
@@ -56,6 +60,27 @@ module _ {T : Type 0} where
   count-removed greatest old new p there is =
       let found = item_if-found p.1 (entry_at old p.0) there in
       rw is (length-without old.list.entries p.0 (rw found.1 refl))
+
+  -- an entry that goes to a gap of the others, with any item
+  module _ {K : Type 0} (key : T → K) (cmp : K → K → Ordering) (old new : Tree T) (p : ℕ × ℕ) (item : T) (distinct : IsDistinct old.list.entries) (there : IsSome (item_of old p))
+      (r : Rekeys key cmp old p item new) where
+    abbrev moved_entry : Entry T
+    moved_entry = record { index = p.0; generation = p.1; item = item }
+
+    alone : times p.0 (r.gap.front ++ r.gap.back) ≡ 0
+    alone = ap (times p.0) (sym r.gap.cut) ∙ times-without p.0 old.list.entries (distinct p.0)
+
+    pub rekeys-updates : Updates old new p (Some item)
+    rekeys-updates =
+        updates-at old new p (Some item) (rw (item_if-found p.1 (entry_at old p.0) there).1 refl)
+        (ap (λ es. entry_among es p.0) r.entries ∙ entry_at-between r.gap.front moved_entry r.gap.back alone)
+        (λ j other. ap (λ es. entry_among es j) r.entries ∙ entry_at-between_other r.gap.front moved_entry r.gap.back j other
+        ∙ ap (λ es. entry_among es j) (sym r.gap.cut) ∙ entry_at-without_other old.list.entries p.0 j other)
+
+    pub rekeys-count : count new ≡ count old
+    rekeys-count =
+        let found = item_if-found p.1 (entry_at old p.0) there in
+        omega (arith, ap length r.entries, length-between r.gap.front moved_entry r.gap.back, ap length r.gap.cut, length-without old.list.entries p.0 (rw found.1 refl))
 
   pub updates-written : (a : Tree T) (p : ℕ × ℕ) (item : T) → IsSome (item_of a p) → Updates a (with_item a p.0 item) p (Some item)
   updates-written a p item there =

@@ -2,9 +2,11 @@ pub mod Words
 pub mod Inserting
 pub mod OrderLaws
 pub mod KeptOrder
+pub mod Without
 pub mod Rekeying
 pub mod RekeyOrder
 pub mod Descending
+pub mod OtherEntries
 pub mod Stepping
 pub mod Bare
 pub mod Content

@@ -1,92 +1,17 @@
 -- An entry that gets another item and goes to a gap of its list.
 use Rattle.triple_ord.proofs.Words.{◌≡◌, ◌≢◌, ℕ, ◌+◌, ◌≤◌, List, [], ◌∷◌, ◌++◌, Option, Some, None, IfSome, IsSome, length, refl, sym, ap, subst, ◌∙◌, arith, common_steps, eqb_tells, inl, inr, ◌⊎◌, append_assoc, option_map, IfSome_then}
 use Rattle.triple_ord.proofs.Words.{Entry, Chain, times, IsDistinct, entry_at, times-append, with_item_among, entry_at-with_item_among, entry_at-with_item_among_other, entry_at-without_other, length-without}
-use Rattle.triple_ord.proofs.Words.{Gap, first_of, last_of, before, after, LiesBehind, IsBeside, order_to, taken, Passed, Ordering, Less, Equal, Greater, Tree, with_item, put_on, pointer, FindsSimilar, cases_eq, item_of, count, Updates, entry_at-between, entry_at-between_other, length-between}
-use Rattle.triple_ord.proofs.CallerLemmas.{updates-at, item_if-found}
-use Rattle.triple_ord.specs.Rekey.{Rekeys}
+use Rattle.triple_ord.proofs.Words.{Gap, first_of, last_of, before, after, Ordering, Less, Equal, Greater, Tree, with_item, put_on, cases_eq, item_of, item_if, count, Updates, entry_at-between, entry_at-between_other, length-between}
+use Rattle.triple_ord.proofs.CallerLemmas.{item_if-found, rekeys-updates, rekeys-count}
+use Rattle.triple_ord.specs.{Rekey.Rekeys, Arena.FindSame}
 use Rattle.ord_tree.specs.{Move.IsRearranged, Tree.CanPutAt}
 use Rattle.triple_ord.proofs.Inserting.{begins, ends, last_of-append, with_item-here, puts-before, puts-after, entry_at-before, entry_at-after}
-use Rattle.triple_ord.proofs.OrderLaws.{taken-less, taken-greater, passed-unequal}
+use Rattle.triple_ord.proofs.Without.{without-absent, without-append, without-last, without-first, first-kept, last-kept, without-written, times-without}
+use Rattle.triple_ord.specs.Around.{EndsAround, FindsAround}
 use Rattle.chain_base.specs.{Chain.without, Move.with_entry_moved, Move.list_with, Move.without_entry}
 
-module _ {T : Type 0} (i : ℕ) where
-  without-absent : (es : List (Entry T)) → times i es ≡ 0 → without i es ≡ es
-  without-absent [] none = refl
-  without-absent (e ∷ es) none = grind (arith, common_steps, without-absent es)
-
-  pub without-append : (xs ys : List (Entry T)) → times i (xs ++ ys) ≤ 1 → without i (xs ++ ys) ≡ without i xs ++ without i ys
-  without-append [] ys once = refl
-  without-append (x ∷ xs) ys once = elim (eqb_tells x.index i) [
-    | inl h ↦
-        let whole : 1 + times i (xs ++ ys) ≤ 1 = rw h.0 at once in
-        rw h.0 (ap (λ zs. xs ++ zs) (sym (without-absent ys (omega (arith, whole, times-append i xs ys)))))
-    | inr h ↦ rw h.0 (ap (λ zs. x ∷ zs) (without-append xs ys (omega (arith, once))))
-  ]
-
-  without-kept : (front : List (Entry T)) (e : Entry T) → e.index ≢ i → without i (front ++ e ∷ []) ≡ without i front ++ e ∷ []
-  without-kept [] e other = grind (arith, common_steps)
-  without-kept (f ∷ front) e other = grind (arith, common_steps, without-kept front e)
-
-  without-last : (front : List (Entry T)) (e : Entry T) → e.index ≡ i → times i front ≡ 0 → without i (front ++ e ∷ []) ≡ front
-  without-last [] e same none = grind (arith, common_steps)
-  without-last (f ∷ front) e same none = grind (arith, common_steps, without-last front e)
-
-  without-first : (e : Entry T) (back : List (Entry T)) → e.index ≡ i → without i (e ∷ back) ≡ back
-  without-first e back same = grind (arith, common_steps)
-
-  first-kept : (es : List (Entry T)) (e : Entry T) → e.index ≢ i → first_of es ≡ Some e → first_of (without i es) ≡ Some e
-  first-kept [] e other is = absurd cc
-  first-kept (x ∷ es) e other is = grind (arith, common_steps)
-
-  last-kept : (es : List (Entry T)) (e : Entry T) → e.index ≢ i → last_of None es ≡ Some e → last_of None (without i es) ≡ Some e
-  last-kept es e other is =
-      let front = ends es e is in
-      ap (λ es. last_of None (without i es)) front.1 ∙ ap (λ es. last_of None es) (without-kept front.0 e other) ∙ last_of-append None (without i front.0) e []
-
-  without-written : (es : List (Entry T)) (item : T) → without i (with_item_among es i item) ≡ without i es
-  without-written [] item = refl
-  without-written (e ∷ es) item = grind (arith, common_steps, without-written es item)
-
-  times-without : (j : ℕ) (es : List (Entry T)) → times j (without i es) ≤ times j es
-  times-without j [] = omega arith
-  times-without j (e ∷ es) = grind (arith, common_steps, times-without j es)
-
--- an entry that a search behind all equal keys met, beside a gap at which it stops
-pub record Met {T K : Type 0} (key : T → K) (cmp : K → K → Ordering) (es : List (Entry T)) (k : K) (e : Entry T) (o : Ordering) : Type 0 where
-  pub gap : Gap es
-  pub behind : LiesBehind key cmp gap k
-  pub beside : ((before gap ≡ Some e) × (o ≡ Greater)) ⊎ ((after gap ≡ Some e) × (o ≡ Less))
-
 module _ {T K : Type 0} (key : T → K) (cmp : K → K → Ordering) (es : List (Entry T)) (k : K) where
-  pub met : (e : Entry T) (c : ℕ) → IsBeside key (taken Passed cmp) es k c e → Met key cmp es k e (order_to key (taken Passed cmp) k e)
-  met e c b =
-      let gap = b.0 in
-      let fits = b.1.fits in
-      record {
-        gap = gap;
-        behind = record {
-          at_most_before = IfSome_then (before gap) fits.lesser_before (λ f lesser. taken-greater cmp k (key f.item) Passed lesser);
-          greater_after = IfSome_then (after gap) fits.greater_after (λ f more. taken-less cmp k (key f.item) Passed more);
-        };
-        beside = elim b.2 [
-          | inl low ↦ inl (low, rw low at fits.lesser_before)
-          | inr high ↦ inr (high, rw high at fits.greater_after)
-        ];
-      }
-
-  pub met_by : (q : ℕ × ℕ) (o : Ordering) (c : ℕ) → FindsSimilar key (taken Passed cmp) es k (Some (q, o)) c → (e : Entry T) × (q ≡ pointer e) × Met key cmp es k e o
-  met_by q o c found =
-      let e = found.0 in
-      let M : Ordering → Type 0 = λ o. Met key cmp es k e o in (
-        e,
-        ap (λ (a : (ℕ × ℕ) × Ordering). a.0) found.1,
-        subst M (sym (ap (λ (a : (ℕ × ℕ) × Ordering). a.1) found.1)) (elim found.2 [
-          | inl same ↦ absurd (passed-unequal cmp k (key e.item) same.0.equal)
-          | inr b ↦ met e c b
-        ]),
-      )
-
-  module _ (distinct : IsDistinct es) (p : ℕ × ℕ) (was : T) (there : entry_at es p.0 ≡ Some (p.1, was)) (item : T) (e : Entry T) (o : Ordering) (m : Met key cmp es k e o) where
+  module _ (distinct : IsDistinct es) (p : ℕ × ℕ) (was : T) (there : entry_at es p.0 ≡ Some (p.1, was)) (item : T) (e : Entry T) (o : Ordering) (m : EndsAround key cmp es p.0 k e o) where
     abbrev i : ℕ
     i = p.0
 
@@ -105,7 +30,7 @@ module _ {T K : Type 0} (key : T → K) (cmp : K → K → Ordering) (es : List 
       | inr high ↦ entry_at-after es e distinct m.gap high.0
     ]
 
-    abbrev gap_left : Gap (without i es)
+    abbrev pub gap_left : Gap (without i es)
     gap_left = record {
       front = without i m.gap.front;
       back = without i m.gap.back;
@@ -156,83 +81,70 @@ module _ {T K : Type 0} (key : T → K) (cmp : K → K → Ordering) (es : List 
         times-own : (i : ℕ) (e : Entry T) (es : List (Entry T)) → e.index ≡ i → times i (e ∷ es) ≡ 1 + times i es
         times-own i e es same = grind (arith, common_steps)
 
-    entry_at-there : entry_at put_there i ≡ Some (p.1, item)
-    entry_at-there = entry_at-between (without i m.gap.front) entry (without i m.gap.back)
-        (omega (arith, ap (times i) (sym gap_left.cut), times-gone i es (distinct i)))
-      where
-        times-gone : (i : ℕ) (es : List (Entry T)) → times i es ≤ 1 → times i (without i es) ≡ 0
-        times-gone i [] once = refl
-        times-gone i (e ∷ es) once = grind (arith, common_steps, times-gone i es)
-
-    entry_at-elsewhere : (j : ℕ) → j ≢ i → entry_at put_there j ≡ entry_at es j
-    entry_at-elsewhere j other = entry_at-between_other (without i m.gap.front) entry (without i m.gap.back) j other
-        ∙ ap (λ es. entry_at es j) (sym gap_left.cut) ∙ entry_at-without_other es i j other
-
-    length-there : length put_there ≡ length es
-    length-there = omega (arith, length-between (without i m.gap.front) entry (without i m.gap.back), ap length gap_left.cut, length-without es i (rw there refl))
-
--- what a call owes: the entry of p has another item and is where that belongs
+-- what a call owes: the entry of p has this item and is where that belongs
 pub record IsRekeyed {T K : Type 0} (key : T → K) (cmp : K → K → Ordering) (old : Tree T) (p : ℕ × ℕ) (item : T) (new : Tree T) : Type 0 where
   pub rekeys : Rekeys key cmp old p item new
   pub updates : Updates old new p (Some item)
   pub counted : count new ≡ count old
 
 module _ {T K : Type 0} (key : T → K) (cmp : K → K → Ordering) (old new : Tree T) (distinct : IsDistinct old.list.entries) (p : ℕ × ℕ) (item : T)
-    (named : IsSome (item_of old p)) (q : ℕ × ℕ) (o : Ordering) (c : ℕ) (found : FindsSimilar key (taken Passed cmp) old.list.entries (key item) (Some (q, o)) c) where
+    (named : IsSome (item_of old p)) (q : ℕ × ℕ) (o : Ordering) (found : FindsAround key cmp old.list.entries p.0 (key item) (Some (q, o))) where
   has : (was : T) × (entry_at old.list.entries p.0 ≡ Some (p.1, was))
   has = item_if-found p.1 (entry_at old.list.entries p.0) named
 
-  e : (e : Entry T) × (q ≡ pointer e) × Met key cmp old.list.entries (key item) e o
-  e = met_by key cmp old.list.entries (key item) q o c found
+  abbrev e : Entry T
+  e = found.0
+
+  abbrev ended : EndsAround key cmp old.list.entries p.0 (key item) e o
+  ended = found.2
+
+  index_is : e.index ≡ q.0
+  index_is = sym (ap (λ (x : ℕ × ℕ). x.0) found.1)
 
   abbrev there : List (Entry T)
-  there = put_there key cmp old.list.entries (key item) distinct p has.0 has.1 item e.0 o e.2
+  there = put_there key cmp old.list.entries (key item) distinct p has.0 has.1 item e o ended
 
   rekeyed : new.list ≡ record old.list { entries = there } → ((new.shape ≡ old.shape) ⊎ IsRearranged old.shape new.shape) → IsRekeyed key cmp old p item new
   rekeyed is shape =
       let entries : new.list.entries ≡ there = ap (λ (c : Chain T). c.entries) is in
+      let rekeys : Rekeys key cmp old p item new = record {
+        gap = gap_left key cmp old.list.entries (key item) distinct p has.0 has.1 item e o ended;
+        place = record { at_most_before = ended.at_most_before; greater_after = ended.greater_after };
+        entries = entries;
+        kept = is ∙ ap (λ es. record old.list { entries = es }) (sym entries);
+        shape = shape;
+      } in
       record {
-        rekeys = record {
-          gap = e.2.gap;
-          place = e.2.behind;
-          entries = entries;
-          kept = is ∙ ap (λ es. record old.list { entries = es }) (sym entries);
-          shape = shape;
-        };
-        updates = updates-at old new p (Some item) (rw has.1 refl)
-            (ap (λ es. entry_at es p.0) entries ∙ entry_at-there key cmp old.list.entries (key item) distinct p has.0 has.1 item e.0 o e.2)
-            (λ j other. ap (λ es. entry_at es j) entries ∙ entry_at-elsewhere key cmp old.list.entries (key item) distinct p has.0 has.1 item e.0 o e.2 j other);
-        counted = ap length entries ∙ length-there key cmp old.list.entries (key item) distinct p has.0 has.1 item e.0 o e.2;
+        rekeys = rekeys;
+        updates = rekeys-updates key cmp old new p item distinct named rekeys;
+        counted = rekeys-count key cmp old new p item distinct named rekeys;
       }
 
   -- it stays where it stood
   pub rekeyed_left : p.0 ≡ q.0 → new ≡ with_item old p.0 item → IsRekeyed key cmp old p item new
   rekeyed_left same after =
-      let index : e.0.index ≡ p.0 = sym (ap (λ (x : ℕ × ℕ). x.0) e.1) ∙ sym same in
       rekeyed
-      (ap (λ (t : Tree T). t.list) after ∙ ap (λ es. record old.list { entries = es }) (listed-left key cmp old.list.entries (key item) distinct p has.0 has.1 item e.0 o e.2 index))
+      (ap (λ (t : Tree T). t.list) after
+      ∙ ap (λ es. record old.list { entries = es }) (listed-left key cmp old.list.entries (key item) distinct p has.0 has.1 item e o ended (index_is ∙ sym same)))
       (inl (ap (λ (t : Tree T). t.shape) after))
 
   module _ (other : p.0 ≢ q.0) where
-    index_other : e.0.index ≢ p.0
-    index_other same = other (sym same ∙ sym (ap (λ (x : ℕ × ℕ). x.0) e.1))
+    index_other : e.index ≢ p.0
+    index_other same = other (sym same ∙ index_is)
 
     -- it can go beside another
-    pub occupied_here : IsSome (entry_at (with_item old p.0 item).list.entries p.0)
-    occupied_here = rw (entry_at-with_item_among old.list.entries p.0 item, has.1) refl
-
     pub occupied_there : IsSome (entry_at (without p.0 (with_item old p.0 item).list.entries) q.0)
     occupied_there =
         let back : q.0 ≢ p.0 = λ same. other (sym same) in
         rw (
           entry_at-without_other (with_item old p.0 item).list.entries p.0 q.0 back,
           entry_at-with_item_among_other old.list.entries p.0 q.0 item back,
-          ap (λ (x : ℕ × ℕ). x.0) e.1,
-          found_here key cmp old.list.entries (key item) distinct p has.0 has.1 item e.0 o e.2,
+          ← index_is,
+          found_here key cmp old.list.entries (key item) distinct p has.0 has.1 item e o ended,
         ) refl
 
     pub unequal : o ≢ Equal
-    unequal is = elim e.2.beside [
+    unequal is = elim ended.beside [
       | inl low ↦ absurd (let more = low.1 in cc)
       | inr high ↦ absurd (let less = high.1 in cc)
     ]
@@ -240,15 +152,51 @@ module _ {T K : Type 0} (key : T → K) (cmp : K → K → Ordering) (old new : 
     pub rekeyed_moved : new.list ≡ with_entry_moved (with_item old p.0 item).list p.0 (put_on o q.0) → IsRearranged old.shape new.shape → IsRekeyed key cmp old p item new
     rekeyed_moved after shape =
         rekeyed
-        (after ∙ ap (λ (n : ℕ). with_entry_moved (with_item old p.0 item).list p.0 (put_on o n)) (ap (λ (x : ℕ × ℕ). x.0) e.1)
-        ∙ ap (λ es. record old.list { entries = es }) (listed-moved key cmp old.list.entries (key item) distinct p has.0 has.1 item e.0 o e.2 index_other))
+        (after ∙ ap (λ (n : ℕ). with_entry_moved (with_item old p.0 item).list p.0 (put_on o n)) (sym index_is)
+        ∙ ap (λ es. record old.list { entries = es }) (listed-moved key cmp old.list.entries (key item) distinct p has.0 has.1 item e o ended index_other))
         (inr shape)
+
+-- an entry with the item that it has
+module _ {T : Type 0} where
+  with_own_item : (es : List (Entry T)) (i g : ℕ) (item : T) → entry_at es i ≡ Some (g, item) → with_item_among es i item ≡ es
+  with_own_item [] i g item there = refl
+  with_own_item (e ∷ es) i g item there = elim (eqb_tells e.index i) [
+    | inl h ↦
+        let both : (e.generation, e.item) ≡ (g, item) = let at = rw h.0 at there in cc in
+        rw h.0 (ap (λ x. record e { item = x } ∷ es) (sym (ap (λ (x : ℕ × T). x.1) both)))
+    | inr h ↦ rw h.0 (ap (λ xs. e ∷ xs) (with_own_item es i g item (rw h.0 at there)))
+  ]
+
+  pub own_item : (old : Tree T) (p : ℕ × ℕ) (item : T) → item_of old p ≡ Some item → old ≡ with_item old p.0 item
+  own_item old p item is =
+      let was = item_if-found p.1 (entry_at old.list.entries p.0) (rw is refl) in
+      let same : was.0 ≡ item = let h = was.1 in item_at p.1 was.0 (ap (item_if p.1) (sym was.1) ∙ is) in
+      ap (λ es. record old { list = record old.list { entries = es } }) (sym (with_own_item old.list.entries p.0 p.1 item (was.1 ∙ ap (λ x. Some (p.1, x)) same)))
+    where
+      item_at : (g : ℕ) (was : T) → item_if g (Some (g, was)) ≡ Some item → was ≡ item
+      item_at g was is = grind (arith, common_steps)
+
+  cases_pair : (q p : ℕ × ℕ) → (q ≡ p) ⊎ (q ≢ p)
+  cases_pair q p = elim (cases_eq q.0 p.0) [
+    | inl a ↦ elim (cases_eq q.1 p.1) [
+      | inl b ↦ inl (ap (λ n. (n, q.1)) a ∙ ap (λ n. (p.0, n)) b)
+      | inr b ↦ inr (λ same. b (ap (λ (x : ℕ × ℕ). x.1) same))
+    ]
+    | inr a ↦ inr (λ same. a (ap (λ (x : ℕ × ℕ). x.0) same))
+  ]
+
+  -- where a pointer finds what it found, every pointer does
+  pub same-found : (old new : Tree T) (p : ℕ × ℕ) (item : T) → item_of old p ≡ Some item → Updates old new p (Some item) → FindSame old new
+  same-found old new p item is updates q = elim (cases_pair q p) [
+    | inl same ↦ ap (item_of new) same ∙ updates.changed ∙ sym is ∙ ap (item_of old) (sym same)
+    | inr other ↦ updates.others q other
+  ]
 
 -- from what the steps of a call ensure: the search, the write of the item and the move
 module _ {P T K : Type 0} (numbers : P → ℕ × ℕ) (key : T → K) (cmp : K → K → Ordering) (old mid new : Tree T) (distinct : IsDistinct old.list.entries) (p : ℕ × ℕ) (item : T)
-    (named : IsSome (item_of old p)) (c : ℕ) (written : mid ≡ with_item old p.0 item) where
+    (named : IsSome (item_of old p)) (written : mid ≡ with_item old p.0 item) where
   abbrev Answers : Option (P × Ordering) → Type 0
-  Answers at = FindsSimilar key (taken Passed cmp) old.list.entries (key item) (option_map (λ (a : P × Ordering). (numbers a.0, a.1)) at) c
+  Answers at = FindsAround key cmp old.list.entries p.0 (key item) (option_map (λ (a : P × Ordering). (numbers a.0, a.1)) at)
 
   pub can_stay : IsSome (entry_at mid.list.entries p.0)
   can_stay =
@@ -259,7 +207,7 @@ module _ {P T K : Type 0} (numbers : P → ℕ × ℕ) (key : T → K) (cmp : K 
   can_go None found = tt
   can_go (Some a) found = λ other.
       let apart : p.0 ≢ (numbers a.0).0 = λ same. other (sym same) in
-      (rw written (occupied_there key cmp old new distinct p item named (numbers a.0) a.1 c found apart), unequal key cmp old new distinct p item named (numbers a.0) a.1 c found apart)
+      (rw written (occupied_there key cmp old new distinct p item named (numbers a.0) a.1 found apart), unequal key cmp old new distinct p item named (numbers a.0) a.1 found apart)
 
   pub rekeyed_by : (at : Option (P × Ordering)) → Answers at → IfSome at (λ a. (numbers a.0).0 ≡ p.0 → new ≡ mid)
       → IfSome at (λ a. (numbers a.0).0 ≢ p.0 → new.list ≡ with_entry_moved mid.list p.0 (put_on a.1 (numbers a.0).0))
@@ -267,9 +215,9 @@ module _ {P T K : Type 0} (numbers : P → ℕ × ℕ) (key : T → K) (cmp : K 
   rekeyed_by None found stays list shape =
       absurd (let was = (item_if-found p.1 (entry_at old.list.entries p.0) named).1 in let none = ap (λ es. entry_at es p.0) found in cc)
   rekeyed_by (Some a) found stays list shape = elim (cases_eq (numbers a.0).0 p.0) [
-    | inl same ↦ rekeyed_left key cmp old new distinct p item named (numbers a.0) a.1 c found (sym same) (stays same ∙ written)
+    | inl same ↦ rekeyed_left key cmp old new distinct p item named (numbers a.0) a.1 found (sym same) (stays same ∙ written)
     | inr other ↦
         let apart : p.0 ≢ (numbers a.0).0 = λ same. other (sym same) in
-        rekeyed_moved key cmp old new distinct p item named (numbers a.0) a.1 c found apart
+        rekeyed_moved key cmp old new distinct p item named (numbers a.0) a.1 found apart
         (list other ∙ ap (λ (t : Tree T). with_entry_moved t.list p.0 (put_on a.1 (numbers a.0).0)) written) (rw written at (shape other))
   ]

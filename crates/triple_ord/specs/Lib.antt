@@ -25,6 +25,7 @@ pub mod OrderedDrain
 pub mod SlotWalk
 pub mod SlotDrain
 pub mod Descent
+pub mod Around
 pub mod Steps
 pub mod Clone
 pub mod OrderLaws

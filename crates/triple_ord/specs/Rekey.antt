@@ -1,18 +1,21 @@
--- An entry that gets another item and goes to the place of its key.
-use Rattle.std.specs.{Prelude.◌≡◌, Prelude.ℕ, Prelude.◌⊎◌, Prelude.◌∷◌, Prelude.◌++◌, declared.cmp.Ordering.Ordering}
-use Rattle.chain_base.specs.Chain.{IsDistinct, without}
+-- An entry that goes to the place of its key, with another item or with the one that it has.
+use Rattle.std.specs.{Prelude.◌≡◌, Prelude.ℕ, Prelude.◌⊎◌, declared.cmp.Ordering.Ordering}
+use Rattle.chain_base.specs.Chain.{without}
 use Rattle.ord_tree.specs.{Tree.Tree, Move.IsRearranged}
-use Rattle.triple_ord.specs.{Gap.Gap, Place.LiesBehind, Order.IsInOrder}
+use Rattle.triple_ord.specs.{Gap.Gap, Gap.with_between, Place.LiesBehind, Order.IsInOrder}
 
--- The entry of p has the item now, and stands in a gap of the list that lies behind the item's key; all else stays.
+-- The entry of p has the item now, and stands in a gap of the other entries that lies behind the item's key. Nothing else changes.
 pub record Rekeys {T K : Type 0} (key : T → K) (cmp : K → K → Ordering) (old : Tree T) (p : ℕ × ℕ) (item : T) (new : Tree T) : Type 0 where
-  pub gap : Gap old.list.entries
+  pub gap : Gap (without p.0 old.list.entries)
   pub place : LiesBehind key cmp gap (key item)
-  pub entries : new.list.entries ≡ without p.0 gap.front ++ record { index = p.0; generation = p.1; item = item } ∷ without p.0 gap.back
+  pub entries : new.list.entries ≡ with_between gap (record { index = p.0; generation = p.1; item = item })
   pub kept : new.list ≡ record old.list { entries = new.list.entries }
   pub shape : (new.shape ≡ old.shape) ⊎ IsRearranged old.shape new.shape
 
--- An entry that gets another key leaves a list in the order of its keys in their order.
-abbrev pub RekeyOrderLaw : {T K : Type 0} → (T → K) → (K → K → Ordering) → Type 0
-RekeyOrderLaw {T} key cmp = (old new : Tree T) (p : ℕ × ℕ) (item : T)
-    → IsDistinct old.list.entries → IsInOrder key cmp old.list.entries → Rekeys key cmp old p item new → IsInOrder key cmp new.list.entries
+-- If the other entries are in the order of their keys, all entries are so afterwards, whatever key the entry had before. If all entries
+-- are in order, the others are.
+pub record RekeyOrderLaw {T K : Type 0} (key : T → K) (cmp : K → K → Ordering) : Type 0 where
+  pub restored : (old new : Tree T) (p : ℕ × ℕ) (item : T)
+      → IsInOrder key cmp (without p.0 old.list.entries) → Rekeys key cmp old p item new → IsInOrder key cmp new.list.entries
+  pub kept : (old new : Tree T) (p : ℕ × ℕ) (item : T)
+      → IsInOrder key cmp old.list.entries → Rekeys key cmp old p item new → IsInOrder key cmp new.list.entries

@@ -144,7 +144,7 @@ fn compare<P: Ptr, T: SimpleOrdItem, A: Allocator>(
 //
 // Both sides of a node are read before one is chosen: so the choice is a selection, and no branch.
 #[inline(always)]
-fn towards<P: Ptr>(
+pub(crate) fn towards<P: Ptr>(
     order: Ordering,
     lesser: Option<P::Inx>,
     greater: Option<P::Inx>,
@@ -167,7 +167,7 @@ fn met_behind<P: Copy>(met: Option<P>, p: P, order: Ordering) -> Option<P>
 }
 
 // The laws of balance bound a search by the longest way down. It does nothing; its contract is the law.
-fn visits_law()
+pub(crate) fn visits_law()
     ensures { VisitsLaw }
 {
     height_law();

@@ -2,6 +2,7 @@
 #![tactic(auto)]
 
 mod arena;
+mod around;
 mod descent;
 mod entry_kind;
 mod error;

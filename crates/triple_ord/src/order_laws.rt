@@ -31,7 +31,7 @@ pub fn kept_order_law<P: Ptr, T: SimpleOrdItem>()
     ensures { KeptOrderLaw P.numbers T.key_of T.Key.cmp }
 {}
 
-/// An entry that `rekey` gives another item leaves a list that is in the order of its keys in their order.
+/// After `rekey` or `reposition` all entries are in the order of their keys, if the other entries were, whatever key the entry had.
 pub fn rekey_order_law<T: SimpleOrdItem>()
     ensures { RekeyOrderLaw T.key_of T.Key.cmp }
 {}

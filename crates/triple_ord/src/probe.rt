@@ -1,9 +1,10 @@
 //! `Probe`: what a search sees of an arena, entry by entry, each one counted.
-ghost use Rattle.std.specs.Prelude.{◌≡◌, ◌+◌, ◌<◌, ◌^◌, Some, IsSome};
-ghost use Rattle.std.specs.Option.{option_map};
-ghost use Rattle.chain_base.specs.Chain.{entry_at, link_at, IsDistinct};
+ghost use Rattle.std.specs.Prelude.{◌≡◌, ◌+◌, ◌<◌, ◌^◌, List, ◌∷◌, ◌++◌, Some, IsSome};
+ghost use Rattle.std.specs.Option.{option_map, option_copied};
+ghost use Rattle.chain_base.specs.Chain.{Entry, entry_at, link_at, IsDistinct};
 ghost use Rattle.ord_tree.specs.Shape.{root_of, height};
 ghost use Rattle.ord_tree.specs.Tree.{IsSoundTree};
+ghost use Rattle.triple_ord.specs.Around.{last_item};
 ghost use Rattle.triple_ord.specs.Descent.{IsNodeAt};
 
 use crate::visits::Visits;
@@ -79,6 +80,46 @@ impl<'a, P: Ptr, T, A: Allocator> Probe<'a, P, T, A> {
         ensures tree { self.new.tree.now ≡ self.old.tree.now }
     {
         self.visits += 1;
+        self.look(i)
+    }
+
+    /// Shows, in place of the item of the entry at the index, that of the entry before it in the list, if there is one. One entry is
+    /// counted. Of the entry at the index itself it tells the generation and the roots of its sides.
+    pub fn show_previous(
+        &mut self,
+        i: P::Inx,
+    ) -> (P::Gen, &'a SimpleOrdArenaNode<P, T>, Option<&'a T>)
+        requires occupied { IsSome (entry_at self.old.tree.now.list.entries (P.Inx.number i)) }
+        requires distinct { IsDistinct self.old.tree.now.list.entries }
+        requires room { self.old.visits + 1 < 2 ^ 128 }
+        ensures shown { IsNodeAt self.old.tree.now (P.Inx.number i) (P.Gen.number result.0)
+            result.1.now.t result.1.now.p_tree0 result.1.now.p_tree1 }
+        ensures previous { (front back : List (Entry T)) (e : Entry T) → e.index ≡ P.Inx.number i
+            → self.old.tree.now.list.entries ≡ front ++ e ∷ back
+            → option_copied result.2 ≡ last_item front }
+        ensures counted { self.new.visits ≡ self.old.visits + 1 }
+        ensures tree { self.new.tree.now ≡ self.old.tree.now }
+    {
+        self.visits += 1;
+        let (generation, link) = self.look(i);
+        let previous = match link.prev() {
+            Some(j) => Some(&self.look(j).1.t.t),
+            None => None,
+        };
+        (generation, &link.t, previous)
+    }
+
+    // The entry at the index, not counted yet.
+    fn look(&self, i: P::Inx) -> (P::Gen, &'a LinkNoGen<P, SimpleOrdArenaNode<P, T>>)
+        requires { IsSome (entry_at self.now.tree.now.list.entries (P.Inx.number i)) }
+        ensures shown { IsNodeAt self.now.tree.now (P.Inx.number i)
+            (P.Gen.number result.0) result.1.now.item.t
+            result.1.now.item.p_tree0 result.1.now.item.p_tree1 }
+        ensures linked { link_at self.now.tree.now.list.entries (P.Inx.number i) ≡ Some (
+          P.Gen.number result.0,
+          record { item = result.1.now.item.t; prev = result.1.now.prev; next = result.1.now.next },
+        ) }
+    {
         self.tree.chain().arena().entry(i)
     }
 }

@@ -1,42 +1,111 @@
-//! Giving an entry another key.
-ghost use Rattle.std.specs.Prelude.{◌≡◌, ◌≢◌, ◌↔◌, Some, OnSome, IfSome, IfNone, IsTrue};
+//! Moving an entry to the place of its key. The entry keeps its pointer.
+ghost use Rattle.std.specs.Prelude.{◌≡◌, ◌≢◌, ◌↔◌, ℕ, Some, None, OnOk, IfOk, IfErr, OnErr, OnSome, IfSome, IfNone, OnFalse, IsTrue, is_some, length};
+ghost use Rattle.std.specs.Option.{option_map};
 ghost use Rattle.chain_base.specs.Chain.{IsOccupied};
 ghost use Rattle.chain_base.specs.Move.{with_entry_moved, without_entry};
 ghost use Rattle.ord_tree.specs.Move.{IsRearranged};
 ghost use Rattle.ord_tree.specs.Tree.{CanPutAt, put_on};
-ghost use Rattle.triple_ord.specs.Arena.{item_of, count, Updates};
+ghost use Rattle.triple_ord.specs.Arena.{item_of, count, Updates, FindSame};
+ghost use Rattle.triple_ord.specs.Around.{FindsAround};
 ghost use Rattle.triple_ord.specs.Rekey.{Rekeys};
+ghost use Rattle.triple_ord.specs.VisitBounds.{IsWithinBounds};
 
 use super::SimpleOrdArena;
+use crate::around::descend_around;
 use crate::item::SimpleOrdItem;
-use crate::ties::Ties;
+use crate::probe::Probe;
+use crate::visits::Visits;
 use arena_base::Ptr;
 use std::alloc::Allocator;
 use std::cmp::Ordering;
 
-impl<P: Ptr, T: SimpleOrdItem + Drop, A: Allocator> SimpleOrdArena<P, T, A> {
-    /// Gives the entry that the pointer names another item, and lets it go to the place of the item's key, behind all that are equal
-    /// or lesser. Returns the item that it had. It keeps its pointer, and at most fifteen entries get another parent in the tree.
+impl<P: Ptr, T: SimpleOrdItem, A: Allocator> SimpleOrdArena<P, T, A> {
+    /// Replaces the item of the entry at `p` by `t`, moves the entry to the place of its new key, and returns the old item.
     ///
-    /// For a pointer that names no entry it returns `None`; the item is then dropped, and nothing else changes. It takes O(log n)
-    /// time for n entries, and no memory.
-    pub fn rekey(&mut self, p: P, t: T) -> Option<T>
-        ensures before { result ≡ item_of self.old (P.numbers p) }
-        ensures rekeys { OnSome result
+    /// The entry keeps its pointer. It goes behind all other entries whose key is at most the new one, as a new entry of the kind
+    /// `Nonhereditary` does. If the other entries are in the order of their keys, all entries are afterwards, whatever key the entry had
+    /// before ([`rekey_order_law`](crate::order_laws::rekey_order_law)).
+    ///
+    /// # Errors
+    ///
+    /// If `p` is stale, `t` is returned and the arena is unchanged.
+    ///
+    /// # Complexity
+    ///
+    /// O(log n), and no memory. At most fifteen nodes get a new parent in the tree. The amortized number of rank changes is at most 14.
+    pub fn rekey(&mut self, p: P, t: T) -> Result<T, T>
+        ensures rekeys { OnOk result
             (Rekeys T.key_of T.Key.cmp self.old (P.numbers p) t self.new) }
-        ensures updates { OnSome result (Updates self.old self.new (P.numbers p) (Some t)) }
+        ensures before { IfOk result (λ before. item_of self.old (P.numbers p) ≡ Some before) }
+        ensures updates { OnOk result (Updates self.old self.new (P.numbers p) (Some t)) }
         ensures count { count self.new ≡ count self.old }
-        ensures absent { IfNone result (self.new ≡ self.old) }
+        ensures stale { OnErr result (item_of self.old (P.numbers p) ≡ None) }
+        ensures back { IfErr result (λ back. back ≡ t) }
+        ensures refused { OnErr result (self.new ≡ self.old) }
+    {
+        let (before, _) = self.rekey_counted(p, t)?;
+        Ok(before)
+    }
+
+    /// `rekey`, and how many entries the search for the new place visited, within the bounds of `find_key_counted`.
+    ///
+    /// # Errors
+    ///
+    /// If `p` is stale, `t` is returned and the arena is unchanged.
+    pub fn rekey_counted(&mut self, p: P, t: T) -> Result<(T, Visits), T>
+        ensures rekeys { OnOk result
+            (Rekeys T.key_of T.Key.cmp self.old (P.numbers p) t self.new) }
+        ensures before { IfOk result (λ r. item_of self.old (P.numbers p) ≡ Some r.0) }
+        ensures visits { IfOk result
+            (λ r. IsWithinBounds (length self.old.list.entries) self.old.shape r.1) }
+        ensures updates { OnOk result (Updates self.old self.new (P.numbers p) (Some t)) }
+        ensures count { count self.new ≡ count self.old }
+        ensures stale { OnErr result (item_of self.old (P.numbers p) ≡ None) }
+        ensures back { IfErr result (λ back. back ≡ t) }
+        ensures refused { OnErr result (self.new ≡ self.old) }
     {
         // with its length an arena tells what holds of its list
         let _ = self.len();
         if !self.contains(p) {
-            return None;
+            return Err(t);
         }
-        let found = self.search(Ties::Passed, t.key()).0;
+        let (found, visits) = self.place_around(p, t.key());
         let before = self.replace(p.inx(), t);
         self.go_beside(p, found);
-        Some(before)
+        Ok((before, visits))
+    }
+
+    /// Moves the entry at `p` to the place of its key, and returns whether `p` names an entry.
+    ///
+    /// This is `rekey` without a new item, for a key that was written through `get_mut` or `arena[p]`: if all other entries are in the
+    /// order of their keys, all entries are afterwards. If `p` is stale, the arena is unchanged. Cost and bounds are those of `rekey`.
+    pub fn reposition(&mut self, p: P) -> bool
+        ensures found { result ≡ is_some (item_of self.old (P.numbers p)) }
+        ensures rekeys { IfSome (item_of self.old (P.numbers p))
+            (λ t. Rekeys T.key_of T.Key.cmp self.old (P.numbers p) t self.new) }
+        ensures same { FindSame self.old self.new }
+        ensures count { count self.new ≡ count self.old }
+        ensures stale { OnFalse result (self.new ≡ self.old) }
+    {
+        // with its length an arena tells what holds of its list
+        let _ = self.len();
+        let Some(item) = self.get(p) else {
+            return false;
+        };
+        let (found, _) = self.place_around(p, item.key());
+        self.go_beside(p, found);
+        true
+    }
+
+    // The place of a key among the entries but the one at a pointer, and how many entries the search for it visited.
+    fn place_around(&self, p: P, k: &T::Key) -> (Option<(P, Ordering)>, Visits)
+        ensures found { FindsAround T.key_of T.Key.cmp self.now.list.entries (P.numbers p).0 k.now
+            (option_map (λ a. (P.numbers a.0, a.1)) result.0) }
+        ensures visits { IsWithinBounds (length self.now.list.entries) self.now.shape result.1 }
+    {
+        let mut probe = Probe::new(&self.tree);
+        let found = descend_around(&mut probe, p.inx(), k);
+        (found, probe.visits())
     }
 }
 

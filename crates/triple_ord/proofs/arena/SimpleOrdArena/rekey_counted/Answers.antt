@@ -1,0 +1,13 @@
+use Rattle.triple_ord.proofs.Words.{sym}
+use Rattle.triple_ord.proofs.Rekeying.{can_stay, can_go, rekeyed_by}
+use Rattle.triple_ord.proofs.arena.SimpleOrdArena.rekey_counted.Goals as goal
+
+pub go_beside-requires-clause-entry : goal.go_beside-requires-clause-entry
+go_beside-requires-clause-entry g c =
+    can_stay g.P.Ptr.numbers g.T.SimpleOrdItem.key_of g.T.Key.Ord.cmp c.args.self.now c.replace-before.new.self c.args.self.now c.len.ensures.sound.distinct (g.P.Ptr.numbers c.args.p) c.args.t
+    (sym c.if-not-contains.ensures) (rw c.inx.ensures at c.replace-before.ensures.after)
+
+pub go_beside-requires-clause-place : goal.go_beside-requires-clause-place
+go_beside-requires-clause-place g c =
+    can_go g.P.Ptr.numbers g.T.SimpleOrdItem.key_of g.T.Key.Ord.cmp c.args.self.now c.replace-before.new.self c.args.self.now c.len.ensures.sound.distinct (g.P.Ptr.numbers c.args.p) c.args.t
+    (sym c.if-not-contains.ensures) (rw c.inx.ensures at c.replace-before.ensures.after) c.place_around-found.result.0 (rw c.key.ensures at c.place_around-found.ensures.found)

@@ -1,0 +1,82 @@
+//! The way down to the place of a key, past an entry that is about to leave its place.
+//!
+//! The tree still holds that entry, whose key says nothing of its place: it may be the old one, or one that was written over. So the
+//! entry before it answers for it. If that lies before the key, what hangs on the lesser side does too; else nothing behind can be the
+//! place.
+ghost use Rattle.std.specs.Prelude.{◌≡◌, ◌+◌, ◌-◌, ◌^◌, ◌<◌, ◌≤◌, IsSome, length};
+ghost use Rattle.std.specs.Option.{option_map, option_copied};
+ghost use Rattle.chain_base.specs.Chain.{entry_at, IsDistinct};
+ghost use Rattle.triple_ord.specs.Around.{order_behind, FindsAround, IsAnsweredAround};
+ghost use Rattle.triple_ord.specs.VisitBounds.{IsWithinBounds};
+
+use crate::descent::{towards, visits_law};
+use crate::item::SimpleOrdItem;
+use crate::probe::Probe;
+use crate::ties::Ties;
+use arena_base::Ptr;
+use std::alloc::Allocator;
+use std::cmp::Ordering;
+
+/// Goes down from the root by a key, behind all entries whose key is at most it, as if the entry at the index `passed` weren't there.
+/// Returns the entry that it was shown last, with the side of it on which the place lies.
+pub(crate) fn descend_around<P: Ptr, T: SimpleOrdItem, A: Allocator>(
+    probe: &mut Probe<'_, P, T, A>,
+    passed: P::Inx,
+    k: &T::Key,
+) -> Option<(P, Ordering)>
+    requires { probe.old.visits < 2 ^ 64 }
+    ensures found { FindsAround T.key_of T.Key.cmp probe.old.tree.now.list.entries
+        (P.Inx.number passed) k.now (option_map (λ a. (P.numbers a.0, a.1)) result) }
+    ensures visits { IsWithinBounds (length probe.old.tree.now.list.entries)
+        probe.old.tree.now.shape (probe.new.visits - probe.old.visits) }
+{
+    visits_law();
+    let mut last = None;
+    let mut at = probe.root();
+    while let Some(i) = at {
+        let (p, order, next) = compare_around(probe, passed, k, i);
+        last = Some((p, order));
+        at = next;
+    }
+    last
+}
+
+// Compares a key with that of the entry at an index, or with that of the entry before the one that is passed: the entry's pointer, how
+// the key lies to it, and where the search goes on.
+#[inline(always)]
+fn compare_around<P: Ptr, T: SimpleOrdItem, A: Allocator>(
+    probe: &mut Probe<'_, P, T, A>,
+    passed: P::Inx,
+    k: &T::Key,
+    i: P::Inx,
+) -> (P, Ordering, Option<P::Inx>)
+    requires occupied { IsSome (entry_at probe.old.tree.now.list.entries (P.Inx.number i)) }
+    requires distinct { IsDistinct probe.old.tree.now.list.entries }
+    requires room { probe.old.visits + 1 < 2 ^ 128 }
+    ensures answered { IsAnsweredAround T.key_of T.Key.cmp probe.old.tree.now
+        (P.Inx.number passed) k.now (P.Inx.number i) (P.numbers result.0) result.1
+        (option_map P.Inx.number result.2) }
+    ensures counted { probe.new.visits ≡ probe.old.visits + 1 }
+    ensures tree { probe.new.tree.now ≡ probe.old.tree.now }
+{
+    if i == passed {
+        let (generation, node, previous) = probe.show_previous(i);
+        let order = lies_behind(k, previous);
+        let next = towards::<P>(order, node.p_tree0.get(), node.p_tree1.get());
+        return (P::_from_raw(i, generation), order, next);
+    }
+    let (generation, node) = probe.show(i);
+    let order = Ties::Passed.order(k, node.t.key());
+    let next = towards::<P>(order, node.p_tree0.get(), node.p_tree1.get());
+    (P::_from_raw(i, generation), order, next)
+}
+
+// How a key lies to the item that stands before it, if there is one: an equal key counts as lesser.
+fn lies_behind<T: SimpleOrdItem>(k: &T::Key, previous: Option<&T>) -> Ordering
+    ensures { result ≡ order_behind T.key_of T.Key.cmp k.now (option_copied previous) }
+{
+    match previous {
+        Some(item) => Ties::Passed.order(k, item.key()),
+        None => Ordering::Greater,
+    }
+}
