@@ -1,6 +1,7 @@
 -- An entry that goes to the place of its key leaves the keys in order, if those of the others are.
 use Rattle.triple_ord.proofs.Words.{◌≡◌, ◌≢◌, ℕ, List, [], ◌∷◌, refl, sym, ap, subst, ◌∙◌, inl, inr, eqb_tells, IfSome_then, IsTotalOrder, alike_right, ordering_reverse, Ordering, Less, Equal, Greater}
-use Rattle.triple_ord.proofs.Words.{Entry, Tree, IsInOrder, before, after}
+use Rattle.triple_ord.proofs.Words.{Entry, Tree, IsInOrder, before, after, with_item}
+use Rattle.triple_ord.proofs.Without.{without-written}
 use Rattle.triple_ord.proofs.{KeptOrder.in_order-between, OrderLaws.IsInOrder-rest, OrderLaws.in_order-one, OrderLaws.in_order-more}
 use Rattle.triple_ord.specs.Rekey.{Rekeys, RekeyOrderLaw}
 use Rattle.chain_base.specs.Chain.{without}
@@ -51,4 +52,6 @@ module _ {T K : Type 0} (key : T → K) (cmp : K → K → Ordering) (total : Is
   rekeyed_order = record {
     restored = restored_order;
     kept = λ old new p item order r. restored_order old new p item (in_order-without p.0 old.list.entries order) r;
+    rewritten = λ old new p written item order r.
+        restored_order (with_item old p.0 written) new p item (rw (without-written p.0 old.list.entries written) (in_order-without p.0 old.list.entries order)) r;
   }

@@ -1,7 +1,7 @@
 -- An entry that goes to the place of its key, with another item or with the one that it has.
 use Rattle.std.specs.{Prelude.◌≡◌, Prelude.ℕ, Prelude.◌⊎◌, declared.cmp.Ordering.Ordering}
 use Rattle.chain_base.specs.Chain.{without}
-use Rattle.ord_tree.specs.{Tree.Tree, Move.IsRearranged}
+use Rattle.ord_tree.specs.{Tree.Tree, Tree.with_item, Move.IsRearranged}
 use Rattle.triple_ord.specs.{Gap.Gap, Gap.with_between, Place.LiesBehind, Order.IsInOrder}
 
 -- The entry of p has the item now, and stands in a gap of the other entries that lies behind the item's key. Nothing else changes.
@@ -12,10 +12,12 @@ pub record Rekeys {T K : Type 0} (key : T → K) (cmp : K → K → Ordering) (o
   pub kept : new.list ≡ record old.list { entries = new.list.entries }
   pub shape : (new.shape ≡ old.shape) ⊎ IsRearranged old.shape new.shape
 
--- If the other entries are in the order of their keys, all entries are so afterwards, whatever key the entry had before. If all entries
--- are in order, the others are.
+-- If the other entries are in the order of their keys, then all are afterwards, whatever key the entry had before; so if all were, also
+-- if the item of the entry was written over since.
 pub record RekeyOrderLaw {T K : Type 0} (key : T → K) (cmp : K → K → Ordering) : Type 0 where
   pub restored : (old new : Tree T) (p : ℕ × ℕ) (item : T)
       → IsInOrder key cmp (without p.0 old.list.entries) → Rekeys key cmp old p item new → IsInOrder key cmp new.list.entries
   pub kept : (old new : Tree T) (p : ℕ × ℕ) (item : T)
       → IsInOrder key cmp old.list.entries → Rekeys key cmp old p item new → IsInOrder key cmp new.list.entries
+  pub rewritten : (old new : Tree T) (p : ℕ × ℕ) (written item : T)
+      → IsInOrder key cmp old.list.entries → Rekeys key cmp (with_item old p.0 written) p item new → IsInOrder key cmp new.list.entries

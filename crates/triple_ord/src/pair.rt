@@ -6,6 +6,7 @@ use crate::item::SimpleOrdItem;
 use arena_base::{Recast, Recaster};
 use std::fmt;
 use std::marker::Model;
+use std::mem;
 
 /// A key with a value that doesn't count in the order of an ordered arena.
 ///
@@ -83,6 +84,14 @@ impl<K, V> OrdPair<K, V> {
         ensures value { result.1.now ≡ self.old.1 }
     {
         (&self.k, &mut self.v)
+    }
+
+    // Puts another key in the place of the key, which is returned. An arena does so where it moves the entry.
+    pub(crate) fn replace_k(&mut self, k: K) -> K
+        ensures before { result ≡ self.old.0 }
+        ensures after { self.new ≡ (k, self.old.1) }
+    {
+        mem::replace(&mut self.k, k)
     }
 
     /// The key and the value, taken out.

@@ -4,8 +4,8 @@ ghost use Rattle.std.specs.Option.{option_map};
 ghost use Rattle.chain_base.specs.Chain.{IsOccupied};
 ghost use Rattle.chain_base.specs.Move.{with_entry_moved, without_entry};
 ghost use Rattle.ord_tree.specs.Move.{IsRearranged};
-ghost use Rattle.ord_tree.specs.Tree.{CanPutAt, put_on};
-ghost use Rattle.triple_ord.specs.Arena.{item_of, count, Updates, FindSame};
+ghost use Rattle.ord_tree.specs.Tree.{CanPutAt, put_on, with_item};
+ghost use Rattle.triple_ord.specs.Arena.{item_of, entry_at, count, Updates, FindSame};
 ghost use Rattle.triple_ord.specs.Around.{FindsAround};
 ghost use Rattle.triple_ord.specs.Rekey.{Rekeys};
 ghost use Rattle.triple_ord.specs.VisitBounds.{IsWithinBounds};
@@ -13,6 +13,7 @@ ghost use Rattle.triple_ord.specs.VisitBounds.{IsWithinBounds};
 use super::SimpleOrdArena;
 use crate::around::descend_around;
 use crate::item::SimpleOrdItem;
+use crate::pair::OrdPair;
 use crate::probe::Probe;
 use crate::visits::Visits;
 use arena_base::Ptr;
@@ -106,6 +107,49 @@ impl<P: Ptr, T: SimpleOrdItem, A: Allocator> SimpleOrdArena<P, T, A> {
         let mut probe = Probe::new(&self.tree);
         let found = descend_around(&mut probe, p.inx(), k);
         (found, probe.visits())
+    }
+}
+
+impl<P: Ptr, K: Ord, V, A: Allocator> SimpleOrdArena<P, OrdPair<K, V>, A> {
+    /// Gives the pair at `p` the key `k`, moves the entry to the place of that key, and returns the old key. The value stays.
+    ///
+    /// This is `rekey` for a pair whose value can't be handed in anew. Cost and bounds are those of `rekey`.
+    ///
+    /// # Errors
+    ///
+    /// If `p` is stale, `k` is returned and the arena is unchanged.
+    pub fn rekey_pair(&mut self, p: P, k: K) -> Result<K, K>
+        ensures rekeys { OnOk result (IfSome (item_of self.old (P.numbers p)) (λ pair.
+            Rekeys (λ pair. pair.0) K.cmp self.old (P.numbers p) (k, pair.1) self.new)) }
+        ensures before { IfOk result (λ before.
+            option_map (λ pair. pair.0) (item_of self.old (P.numbers p)) ≡ Some before) }
+        ensures updates { Updates self.old self.new (P.numbers p)
+            (option_map (λ pair. (k, pair.1)) (item_of self.old (P.numbers p))) }
+        ensures count { count self.new ≡ count self.old }
+        ensures stale { OnErr result (item_of self.old (P.numbers p) ≡ None) }
+        ensures back { IfErr result (λ back. back ≡ k) }
+        ensures refused { OnErr result (self.new ≡ self.old) }
+    {
+        // with its length an arena tells what holds of its list
+        let _ = self.len();
+        if !self.contains(p) {
+            return Err(k);
+        }
+        let (found, _) = self.place_around(p, &k);
+        let before = self.replace_key(p.inx(), k);
+        self.go_beside(p, found);
+        Ok(before)
+    }
+
+    // Gives the pair at an index that has one another key, and returns the key that it had.
+    fn replace_key(&mut self, i: P::Inx, k: K) -> K
+        requires { IsOccupied self.old.list (P.Inx.number i) }
+        ensures before { IfSome (entry_at self.old (P.Inx.number i)) (λ e. result ≡ e.1.0) }
+        ensures after { IfSome (entry_at self.old (P.Inx.number i))
+            (λ e. self.new ≡ with_item self.old (P.Inx.number i) (k, e.1.1)) }
+    {
+        let pair = self.tree.pair_mut(i);
+        pair.1.replace_k(k)
     }
 }
 
