@@ -35,8 +35,8 @@ module _ {T : Type 0} (es : List (Entry T)) (distinct : IsDistinct es) (i g : �
       go None is = refl
       go (Some f) is = absurd (cc)
 
-  pub item_before : (j : ℕ) → l.prev ≡ Some j → (h : ℕ) (item : T) → entry_at es j ≡ Some (h, item) → Some item ≡ last_item front
-  item_before j some h item there = go (last_of None front) refl (prev_is ∙ some)
+  pub item_before : (j : ℕ) → l.prev ≡ Some j → (item : T) → option_map (λ x. x.1) (entry_at es j) ≡ Some item → Some item ≡ last_item front
+  item_before j some item there = go (last_of None front) refl (prev_is ∙ some)
     where
       go : (o : Option (Entry T)) → last_of None front ≡ o → option_map (λ e. e.index) o ≡ Some j → Some item ≡ option_map (λ e. e.item) o
       go None is at = absurd (cc)
@@ -44,8 +44,7 @@ module _ {T : Type 0} (es : List (Entry T)) (distinct : IsDistinct es) (i g : �
           let index : f.index ≡ j = cc in
           let f_front = ends front f is in
           let f_cut : es ≡ f_front.0 ++ f ∷ (e ∷ back) = cut ∙ ap (λ xs. xs ++ e ∷ back) f_front.1 ∙ simp append_assoc in
-          let found = sym there ∙ ap (entry_at es) (sym index) ∙ entry_at-here es distinct f_front.0 f (e ∷ back) f_cut in
-          ap (λ (o : Option (ℕ × T)). option_map (λ x. x.1) o) found
+          sym there ∙ ap (option_map (λ (x : ℕ × T). x.1)) (ap (entry_at es) (sym index) ∙ entry_at-here es distinct f_front.0 f (e ∷ back) f_cut)
 
   pub occupied_before : (j : ℕ) → l.prev ≡ Some j → IsSome (entry_at es j)
   occupied_before j some = go (last_of None front) refl (prev_is ∙ some)

@@ -1,11 +1,15 @@
 -- An entry that gets another item and goes to a gap of its list.
-use Rattle.triple_ord.proofs.Words.{◌≡◌, ◌≢◌, ℕ, ◌+◌, ◌≤◌, List, [], ◌∷◌, ◌++◌, Option, Some, None, IfSome, IsSome, length, refl, sym, ap, subst, ◌∙◌, arith, common_steps, eqb_tells, inl, inr, ◌⊎◌, append_assoc, option_map, IfSome_then}
+use Rattle.std.specs.Ordering.{is_lt}
+use Rattle.triple_ord.proofs.Words.{true, false, ◌≡◌, ◌≢◌, ℕ, ◌+◌, ◌≤◌, List, [], ◌∷◌, ◌++◌, Option, Some, None, IfSome, IsSome, length, refl, sym, ap, subst, ◌∙◌, arith, common_steps, eqb_tells, inl, inr, ◌⊎◌, append_assoc, option_map, IfSome_then}
 use Rattle.triple_ord.proofs.Words.{Entry, Chain, times, IsDistinct, entry_at, times-append, with_item_among, entry_at-with_item_among, entry_at-with_item_among_other, entry_at-without_other, length-without}
+use Rattle.triple_ord.proofs.Words.{Link, link_at, entry_at-link, insert_before, insert_after}
 use Rattle.triple_ord.proofs.Words.{Gap, first_of, last_of, before, after, Ordering, Less, Equal, Greater, Tree, with_item, put_on, cases_eq, item_of, item_if, count, Updates, entry_at-between, entry_at-between_other, length-between}
-use Rattle.triple_ord.proofs.CallerLemmas.{item_if-found, rekeys-updates, rekeys-count}
+use Rattle.triple_ord.proofs.CallerLemmas.{item_if-found}
 use Rattle.triple_ord.specs.{Rekey.Rekeys, Arena.FindSame}
 use Rattle.ord_tree.specs.{Move.IsRearranged, Tree.CanPutAt}
-use Rattle.triple_ord.proofs.Inserting.{begins, ends, last_of-append, with_item-here, puts-before, puts-after, entry_at-before, entry_at-after}
+use Rattle.triple_ord.proofs.Inserting.{begins, ends, with_item-here, puts-before, puts-after, entry_at-before, entry_at-after}
+use Rattle.triple_ord.proofs.Inserting.{StandsAt, stands, IsLinked, link-read, nowhere_else, entry_at-here, insert_before-here, insert_after-here}
+use Rattle.triple_ord.proofs.Stepping.{read_index}
 use Rattle.triple_ord.proofs.Without.{without-absent, without-append, without-last, without-first, first-kept, last-kept, without-written, times-without}
 use Rattle.triple_ord.specs.Around.{EndsAround, FindsAround}
 use Rattle.chain_base.specs.{Chain.without, Move.with_entry_moved, Move.list_with, Move.without_entry}
@@ -21,7 +25,7 @@ module _ {T K : Type 0} (key : T → K) (cmp : K → K → Ordering) (es : List 
     abbrev pub put_there : List (Entry T)
     put_there = without i m.gap.front ++ entry ∷ without i m.gap.back
 
-    parted : (j : ℕ) → times j m.gap.front + times j m.gap.back ≤ 1
+    pub parted : (j : ℕ) → times j m.gap.front + times j m.gap.back ≤ 1
     parted j = omega (arith, distinct j, ap (times j) m.gap.cut, times-append j m.gap.front m.gap.back)
 
     pub found_here : entry_at es e.index ≡ Some (e.generation, e.item)
@@ -81,12 +85,6 @@ module _ {T K : Type 0} (key : T → K) (cmp : K → K → Ordering) (es : List 
         times-own : (i : ℕ) (e : Entry T) (es : List (Entry T)) → e.index ≡ i → times i (e ∷ es) ≡ 1 + times i es
         times-own i e es same = grind (arith, common_steps)
 
--- what a call owes: the entry of p has this item and is where that belongs
-pub record IsRekeyed {T K : Type 0} (key : T → K) (cmp : K → K → Ordering) (old : Tree T) (p : ℕ × ℕ) (item : T) (new : Tree T) : Type 0 where
-  pub rekeys : Rekeys key cmp old p item new
-  pub updates : Updates old new p (Some item)
-  pub counted : count new ≡ count old
-
 module _ {T K : Type 0} (key : T → K) (cmp : K → K → Ordering) (old new : Tree T) (distinct : IsDistinct old.list.entries) (p : ℕ × ℕ) (item : T)
     (named : IsSome (item_of old p)) (q : ℕ × ℕ) (o : Ordering) (found : FindsAround key cmp old.list.entries p.0 (key item) (Some (q, o))) where
   has : (was : T) × (entry_at old.list.entries p.0 ≡ Some (p.1, was))
@@ -104,24 +102,19 @@ module _ {T K : Type 0} (key : T → K) (cmp : K → K → Ordering) (old new : 
   abbrev there : List (Entry T)
   there = put_there key cmp old.list.entries (key item) distinct p has.0 has.1 item e o ended
 
-  rekeyed : new.list ≡ record old.list { entries = there } → ((new.shape ≡ old.shape) ⊎ IsRearranged old.shape new.shape) → IsRekeyed key cmp old p item new
+  rekeyed : new.list ≡ record old.list { entries = there } → ((new.shape ≡ old.shape) ⊎ IsRearranged old.shape new.shape) → Rekeys key cmp old p item new
   rekeyed is shape =
       let entries : new.list.entries ≡ there = ap (λ (c : Chain T). c.entries) is in
-      let rekeys : Rekeys key cmp old p item new = record {
+      record {
         gap = gap_left key cmp old.list.entries (key item) distinct p has.0 has.1 item e o ended;
         place = record { at_most_before = ended.at_most_before; greater_after = ended.greater_after };
         entries = entries;
         kept = is ∙ ap (λ es. record old.list { entries = es }) (sym entries);
         shape = shape;
-      } in
-      record {
-        rekeys = rekeys;
-        updates = rekeys-updates key cmp old new p item distinct named rekeys;
-        counted = rekeys-count key cmp old new p item distinct named rekeys;
       }
 
   -- it stays where it stood
-  pub rekeyed_left : p.0 ≡ q.0 → new ≡ with_item old p.0 item → IsRekeyed key cmp old p item new
+  pub rekeyed_left : p.0 ≡ q.0 → new ≡ with_item old p.0 item → Rekeys key cmp old p item new
   rekeyed_left same after =
       rekeyed
       (ap (λ (t : Tree T). t.list) after
@@ -149,12 +142,77 @@ module _ {T K : Type 0} (key : T → K) (cmp : K → K → Ordering) (old new : 
       | inr high ↦ absurd (let less = high.1 in cc)
     ]
 
-    pub rekeyed_moved : new.list ≡ with_entry_moved (with_item old p.0 item).list p.0 (put_on o q.0) → IsRearranged old.shape new.shape → IsRekeyed key cmp old p item new
+    pub rekeyed_moved : new.list ≡ with_entry_moved (with_item old p.0 item).list p.0 (put_on o q.0) → ((new.shape ≡ old.shape) ⊎ IsRearranged old.shape new.shape) → Rekeys key cmp old p item new
     rekeyed_moved after shape =
         rekeyed
         (after ∙ ap (λ (n : ℕ). with_entry_moved (with_item old p.0 item).list p.0 (put_on o n)) (sym index_is)
         ∙ ap (λ es. record old.list { entries = es }) (listed-moved key cmp old.list.entries (key item) distinct p has.0 has.1 item e o ended index_other))
-        (inr shape)
+        shape
+
+-- a side that isn't Equal
+pub less_by : (o : Ordering) → is_lt o ≡ true → o ≡ Less
+less_by o test = grind (arith, common_steps)
+
+pub greater_by : (o : Ordering) → is_lt o ≡ false → o ≢ Equal → o ≡ Greater
+greater_by o test unequal = grind (arith, common_steps)
+
+-- an entry that stands directly on a side of another already
+module _ {T : Type 0} (c : Chain T) (distinct : IsDistinct c.entries) (i q g : ℕ) (l : Link T) (there : link_at c.entries q ≡ Some (g, l)) (apart : q ≢ i) where
+  abbrev at : StandsAt c.entries q
+  at = stands c.entries q (rw (entry_at-link None None c.entries q, there) refl)
+
+  linked : IsLinked at.front at.entry at.back g l
+  linked = link-read c.entries distinct at.front at.entry at.back at.cut g l (ap (link_at c.entries) at.here ∙ there)
+
+  -- f stands between these parts
+  module _ (front back : List (Entry T)) (f : Entry T) (here : f.index ≡ i) (cut : c.entries ≡ front ++ f ∷ back) where
+    alone : times i (front ++ back) ≡ 0
+    alone = ap (λ n. times n (front ++ back)) (sym here) ∙ nowhere_else c.entries distinct front f back cut
+
+    rest_is : without i c.entries ≡ front ++ back
+    rest_is =
+        let counted = times-append i front back in
+        ap (without i) cut ∙ without-append i front (f ∷ back) (subst (λ es. times i es ≤ 1) cut (distinct i))
+        ∙ ap (λ xs. xs ++ without i (f ∷ back)) (without-absent i front (omega (arith, alone, counted))) ∙ ap (λ xs. front ++ xs) (without-first i f back here)
+
+    entry_is : list_with (put_on Less q) i (entry_at c.entries i) (without i c.entries) ≡ insert_before q f (front ++ back)
+    entry_is = ap (λ (o : Option (ℕ × T)). list_with (put_on Less q) i o (without i c.entries)) (ap (entry_at c.entries) (sym here) ∙ entry_at-here c.entries distinct front f back cut)
+        ∙ ap (λ n. insert_before q (record { index = n; generation = f.generation; item = f.item }) (without i c.entries)) (sym here) ∙ ap (insert_before q f) rest_is
+
+    entry_is_after : list_with (put_on Greater q) i (entry_at c.entries i) (without i c.entries) ≡ insert_after q f (front ++ back)
+    entry_is_after = ap (λ (o : Option (ℕ × T)). list_with (put_on Greater q) i o (without i c.entries)) (ap (entry_at c.entries) (sym here) ∙ entry_at-here c.entries distinct front f back cut)
+        ∙ ap (λ n. insert_after q (record { index = n; generation = f.generation; item = f.item }) (without i c.entries)) (sym here) ∙ ap (insert_after q f) rest_is
+
+    rest_distinct : IsDistinct (front ++ back)
+    rest_distinct j = subst (λ es. times j es ≤ 1) rest_is (omega (arith, distinct j, times-without i j c.entries))
+
+  pub stays_before : l.prev ≡ Some i → c ≡ with_entry_moved c i (put_on Less q)
+  stays_before named =
+      let n = read_index (last_of None at.front) i (linked.prev ∙ named) in
+      let end = ends at.front n.0 n.1 in
+      let cut : c.entries ≡ end.0 ++ n.0 ∷ (at.entry ∷ at.back) = at.cut ∙ ap (λ xs. xs ++ at.entry ∷ at.back) end.1 ∙ simp append_assoc in
+      let put = insert_before-here (end.0 ++ at.entry ∷ at.back) (rest_distinct end.0 (at.entry ∷ at.back) n.0 n.2 cut) end.0 at.entry at.back refl n.0 in
+      ap (λ es. record c { entries = es }) (cut ∙ sym put ∙ ap (λ k. insert_before k n.0 (end.0 ++ at.entry ∷ at.back)) at.here ∙ sym (entry_is end.0 (at.entry ∷ at.back) n.0 n.2 cut))
+
+  pub stays_after : l.next ≡ Some i → c ≡ with_entry_moved c i (put_on Greater q)
+  stays_after named =
+      let n = read_index (first_of at.back) i (linked.next ∙ named) in
+      let begin = begins at.back n.0 n.1 in
+      let cut : c.entries ≡ (at.front ++ at.entry ∷ []) ++ n.0 ∷ begin.0 = at.cut ∙ ap (λ xs. at.front ++ at.entry ∷ xs) begin.1 ∙ simp append_assoc in
+      let whole : (at.front ++ at.entry ∷ []) ++ begin.0 ≡ at.front ++ at.entry ∷ begin.0 = simp append_assoc refl in
+      let put = insert_after-here ((at.front ++ at.entry ∷ []) ++ begin.0) (rest_distinct (at.front ++ at.entry ∷ []) begin.0 n.0 n.2 cut) at.front at.entry begin.0 whole n.0 in
+      ap (λ es. record c { entries = es }) (at.cut ∙ ap (λ xs. at.front ++ at.entry ∷ xs) begin.1 ∙ sym put ∙ ap (λ k. insert_after k n.0 ((at.front ++ at.entry ∷ []) ++ begin.0)) at.here
+      ∙ sym (entry_is_after (at.front ++ at.entry ∷ []) begin.0 n.0 n.2 cut))
+
+-- two pointers are one, or differ
+cases_pair : (q p : ℕ × ℕ) → (q ≡ p) ⊎ (q ≢ p)
+cases_pair q p = elim (cases_eq q.0 p.0) [
+  | inl a ↦ elim (cases_eq q.1 p.1) [
+    | inl b ↦ inl (ap (λ n. (n, q.1)) a ∙ ap (λ n. (p.0, n)) b)
+    | inr b ↦ inr (λ same. b (ap (λ (x : ℕ × ℕ). x.1) same))
+  ]
+  | inr a ↦ inr (λ same. a (ap (λ (x : ℕ × ℕ). x.0) same))
+]
 
 -- an entry with the item that it has
 module _ {T : Type 0} where
@@ -167,23 +225,18 @@ module _ {T : Type 0} where
     | inr h ↦ rw h.0 (ap (λ xs. e ∷ xs) (with_own_item es i g item (rw h.0 at there)))
   ]
 
-  pub own_item : (old : Tree T) (p : ℕ × ℕ) (item : T) → item_of old p ≡ Some item → old ≡ with_item old p.0 item
-  own_item old p item is =
+  -- a pointer's item is that of the entry at its index
+  pub entry_of : (old : Tree T) (p : ℕ × ℕ) (item : T) → item_of old p ≡ Some item → entry_at old.list.entries p.0 ≡ Some (p.1, item)
+  entry_of old p item is =
       let was = item_if-found p.1 (entry_at old.list.entries p.0) (rw is refl) in
-      let same : was.0 ≡ item = let h = was.1 in item_at p.1 was.0 (ap (item_if p.1) (sym was.1) ∙ is) in
-      ap (λ es. record old { list = record old.list { entries = es } }) (sym (with_own_item old.list.entries p.0 p.1 item (was.1 ∙ ap (λ x. Some (p.1, x)) same)))
+      was.1 ∙ ap (λ x. Some (p.1, x)) (item_at p.1 was.0 (ap (item_if p.1) (sym was.1) ∙ is))
     where
       item_at : (g : ℕ) (was : T) → item_if g (Some (g, was)) ≡ Some item → was ≡ item
       item_at g was is = grind (arith, common_steps)
 
-  cases_pair : (q p : ℕ × ℕ) → (q ≡ p) ⊎ (q ≢ p)
-  cases_pair q p = elim (cases_eq q.0 p.0) [
-    | inl a ↦ elim (cases_eq q.1 p.1) [
-      | inl b ↦ inl (ap (λ n. (n, q.1)) a ∙ ap (λ n. (p.0, n)) b)
-      | inr b ↦ inr (λ same. b (ap (λ (x : ℕ × ℕ). x.1) same))
-    ]
-    | inr a ↦ inr (λ same. a (ap (λ (x : ℕ × ℕ). x.0) same))
-  ]
+  pub own_item : (old : Tree T) (p : ℕ × ℕ) (item : T) → item_of old p ≡ Some item → old ≡ with_item old p.0 item
+  own_item old p item is =
+      ap (λ es. record old { list = record old.list { entries = es } }) (sym (with_own_item old.list.entries p.0 p.1 item (entry_of old p item is)))
 
   -- where a pointer finds what it found, every pointer does
   pub same-found : (old new : Tree T) (p : ℕ × ℕ) (item : T) → item_of old p ≡ Some item → Updates old new p (Some item) → FindSame old new
@@ -211,7 +264,7 @@ module _ {P T K : Type 0} (numbers : P → ℕ × ℕ) (key : T → K) (cmp : K 
 
   pub rekeyed_by : (at : Option (P × Ordering)) → Answers at → IfSome at (λ a. (numbers a.0).0 ≡ p.0 → new ≡ mid)
       → IfSome at (λ a. (numbers a.0).0 ≢ p.0 → new.list ≡ with_entry_moved mid.list p.0 (put_on a.1 (numbers a.0).0))
-      → IfSome at (λ a. (numbers a.0).0 ≢ p.0 → IsRearranged mid.shape new.shape) → IsRekeyed key cmp old p item new
+      → IfSome at (λ a. (numbers a.0).0 ≢ p.0 → (new.shape ≡ mid.shape) ⊎ IsRearranged mid.shape new.shape) → Rekeys key cmp old p item new
   rekeyed_by None found stays list shape =
       absurd (let was = (item_if-found p.1 (entry_at old.list.entries p.0) named).1 in let none = ap (λ es. entry_at es p.0) found in cc)
   rekeyed_by (Some a) found stays list shape = elim (cases_eq (numbers a.0).0 p.0) [

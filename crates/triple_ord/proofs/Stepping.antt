@@ -105,7 +105,7 @@ before-count [] = inr (refl, refl)
 before-count (x ∷ front) = inl (ap present (some_last x front).1)
 
 -- the entry whose index is read
-read_index : {T : Type 0} (o : Option (Entry T)) (j : ℕ) → option_map (λ e. e.index) o ≡ Some j → (e : Entry T) × (o ≡ Some e) × (e.index ≡ j)
+pub read_index : {T : Type 0} (o : Option (Entry T)) (j : ℕ) → option_map (λ e. e.index) o ≡ Some j → (e : Entry T) × (o ≡ Some e) × (e.index ≡ j)
 read_index None j is = absurd (cc)
 read_index (Some e) j is = (e, refl, cc)
 

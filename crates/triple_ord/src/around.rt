@@ -73,7 +73,7 @@ fn compare_around<P: Ptr, T: SimpleOrdItem, A: Allocator>(
 
 // How a key lies to the item that stands before it, if there is one: an equal key counts as lesser.
 fn lies_behind<T: SimpleOrdItem>(k: &T::Key, previous: Option<&T>) -> Ordering
-    ensures { result ≡ order_behind T.key_of T.Key.cmp k.now (option_copied previous) }
+    ensures { result ≡ order_behind T.key_of T.Key.cmp k.now (option_copied previous.entry) }
 {
     match previous {
         Some(item) => Ties::Passed.order(k, item.key()),

@@ -4,9 +4,8 @@ ghost use Rattle.std.specs.Borrow.{Lends, sem};
 
 use crate::item::SimpleOrdItem;
 use arena_base::{Recast, Recaster};
-use std::fmt;
 use std::marker::Model;
-use std::mem;
+use std::{fmt, mem};
 
 /// A key with a value that doesn't count in the order of an ordered arena.
 ///

@@ -103,10 +103,20 @@ impl<'a, P: Ptr, T, A: Allocator> Probe<'a, P, T, A> {
         self.visits += 1;
         let (generation, link) = self.look(i);
         let previous = match link.prev() {
-            Some(j) => Some(&self.look(j).1.t.t),
+            Some(j) => Some(self.item_at(j)),
             None => None,
         };
         (generation, &link.t, previous)
+    }
+
+    // The item of the entry at the index, not counted yet.
+    fn item_at(&self, i: P::Inx) -> &'a T
+        requires { IsSome (entry_at self.now.tree.now.list.entries (P.Inx.number i)) }
+        ensures { option_map (λ e. e.1) (entry_at self.now.tree.now.list.entries (P.Inx.number i))
+            ≡ Some result.now }
+    {
+        let (_, link) = self.look(i);
+        &link.t.t
     }
 
     // The entry at the index, not counted yet.

@@ -134,18 +134,6 @@ impl<P: Ptr, T: Drop, A: Allocator> SimpleOrdArena<P, T, A> {
         self.tree.insert_within_capacity(at, t).unwrap()
     }
 
-    // Gives the entry at an index that has one another item, and returns the one that it had.
-    pub(super) fn replace(&mut self, i: P::Inx, t: T) -> T
-        requires { IsOccupied self.old.list (P.Inx.number i) }
-        ensures before { option_map (λ e. e.1) (entry_at self.old (P.Inx.number i))
-            ≡ Some result }
-        ensures after { self.new ≡ with_item self.old (P.Inx.number i) t }
-    {
-        let pair = self.tree.pair_mut(i);
-        let place = pair.1;
-        mem::replace(place, t)
-    }
-
     // Sees to it that a slot is vacant.
     #[inline(always)]
     fn make_room(&mut self) -> Result<(), OrdInsertionError>
@@ -177,4 +165,18 @@ fn index_beside<P: Ptr>(at: Option<(P, Ordering)>) -> Option<(P::Inx, Ordering)>
 {
     let (p, order) = at?;
     Some((p.inx(), order))
+}
+
+impl<P: Ptr, T, A: Allocator> SimpleOrdArena<P, T, A> {
+    // Gives the entry at an index that has one another item, and returns the one that it had.
+    pub(super) fn replace(&mut self, i: P::Inx, t: T) -> T
+        requires { IsOccupied self.old.list (P.Inx.number i) }
+        ensures before { option_map (λ e. e.1) (entry_at self.old (P.Inx.number i))
+            ≡ Some result }
+        ensures after { self.new ≡ with_item self.old (P.Inx.number i) t }
+    {
+        let pair = self.tree.pair_mut(i);
+        let place = pair.1;
+        mem::replace(place, t)
+    }
 }

@@ -1,5 +1,7 @@
 //! Moving an entry to the place of its key. The entry keeps its pointer.
-ghost use Rattle.std.specs.Prelude.{◌≡◌, ◌≢◌, ◌↔◌, ℕ, Some, None, OnOk, IfOk, IfErr, OnErr, OnSome, IfSome, IfNone, OnFalse, IsTrue, is_some, length};
+ghost use Rattle.std.specs.Prelude.{◌≡◌, ◌≢◌, ◌↔◌, ◌⊎◌, Some, None, OnOk, IfOk, IfErr, OnErr, IfSome, IsTrue, is_some, length};
+ghost use Rattle.std.specs.Bool.{OnFalse};
+ghost use Rattle.std.specs.declared.cmp.Ordering.TheVariants.{Equal};
 ghost use Rattle.std.specs.Option.{option_map};
 ghost use Rattle.chain_base.specs.Chain.{IsOccupied};
 ghost use Rattle.chain_base.specs.Move.{with_entry_moved, without_entry};
@@ -16,7 +18,7 @@ use crate::item::SimpleOrdItem;
 use crate::pair::OrdPair;
 use crate::probe::Probe;
 use crate::visits::Visits;
-use arena_base::Ptr;
+use arena_base::{ItemsMut, Ptr, PtrInx};
 use std::alloc::Allocator;
 use std::cmp::Ordering;
 
@@ -44,8 +46,10 @@ impl<P: Ptr, T: SimpleOrdItem, A: Allocator> SimpleOrdArena<P, T, A> {
         ensures back { IfErr result (λ back. back ≡ t) }
         ensures refused { OnErr result (self.new ≡ self.old) }
     {
-        let (before, _) = self.rekey_counted(p, t)?;
-        Ok(before)
+        match self.rekey_counted(p, t) {
+            Ok((before, _visits)) => Ok(before),
+            Err(t) => Err(t),
+        }
     }
 
     /// `rekey`, and how many entries the search for the new place visited, within the bounds of `find_key_counted`.
@@ -132,9 +136,9 @@ impl<P: Ptr, K: Ord, V, A: Allocator> SimpleOrdArena<P, OrdPair<K, V>, A> {
     {
         // with its length an arena tells what holds of its list
         let _ = self.len();
-        if !self.contains(p) {
+        let Some(_pair) = self.get(p) else {
             return Err(k);
-        }
+        };
         let (found, _) = self.place_around(p, &k);
         let before = self.replace_key(p.inx(), k);
         self.go_beside(p, found);
@@ -149,12 +153,13 @@ impl<P: Ptr, K: Ord, V, A: Allocator> SimpleOrdArena<P, OrdPair<K, V>, A> {
             (λ e. self.new ≡ with_item self.old (P.Inx.number i) (k, e.1.1)) }
     {
         let pair = self.tree.pair_mut(i);
-        pair.1.replace_k(k)
+        let place = pair.1;
+        place.replace_k(k)
     }
 }
 
 impl<P: Ptr, T, A: Allocator> SimpleOrdArena<P, T, A> {
-    // Lets the entry of a pointer go beside another, if one is named and has another index.
+    // Lets the entry of a pointer go beside another, if one is named and has another index. Beside its own neighbour it stays.
     fn go_beside(&mut self, p: P, at: Option<(P, Ordering)>)
         requires entry { IsOccupied self.old.list (P.numbers p).0 }
         requires place { IfSome at (λ a. (P.numbers a.0).0 ≢ (P.numbers p).0
@@ -163,7 +168,7 @@ impl<P: Ptr, T, A: Allocator> SimpleOrdArena<P, T, A> {
         ensures list { IfSome at (λ a. (P.numbers a.0).0 ≢ (P.numbers p).0
             → self.new.list ≡ with_entry_moved self.old.list (P.numbers p).0 (put_on a.1 (P.numbers a.0).0)) }
         ensures shape { IfSome at (λ a. (P.numbers a.0).0 ≢ (P.numbers p).0
-            → IsRearranged self.old.shape self.new.shape) }
+            → (self.new.shape ≡ self.old.shape) ⊎ IsRearranged self.old.shape self.new.shape) }
     {
         let Some(at) = at else {
             return;
@@ -171,7 +176,29 @@ impl<P: Ptr, T, A: Allocator> SimpleOrdArena<P, T, A> {
         if share_index(at.0, p) {
             return;
         }
+        if self.stands_beside(p.inx(), at) {
+            return;
+        }
         self.tree.move_beside(p.inx(), (at.0.inx(), at.1));
+    }
+
+    // Whether the entry at an index already stands directly on this side of another.
+    fn stands_beside(&self, i: P::Inx, at: (P, Ordering)) -> bool
+        requires { IsOccupied self.now.list (P.Inx.number i) }
+        ensures { IsTrue result → (P.numbers at.0).0 ≢ P.Inx.number i → at.1 ≢ Equal
+            → self.now.list ≡ with_entry_moved self.now.list (P.Inx.number i) (put_on at.1 (P.numbers at.0).0) }
+    {
+        // with its length an arena tells what holds of its list
+        let _ = self.len();
+        let Some((_, link)) = self.get_inx_node(at.0.inx()) else {
+            return false;
+        };
+        let neighbour = if at.1.is_lt() {
+            link.prev()
+        } else {
+            link.next()
+        };
+        is_named(neighbour, i)
     }
 }
 
@@ -180,4 +207,14 @@ fn share_index<P: Ptr>(p: P, q: P) -> bool
     ensures { IsTrue result ↔ ((P.numbers p).0 ≡ (P.numbers q).0) }
 {
     p.inx() == q.inx()
+}
+
+// Whether an index is there, and is this one.
+fn is_named<I: PtrInx>(neighbour: Option<I>, i: I) -> bool
+    ensures { IsTrue result → option_map I.number neighbour ≡ Some (I.number i) }
+{
+    match neighbour {
+        Some(j) => j == i,
+        None => false,
+    }
 }

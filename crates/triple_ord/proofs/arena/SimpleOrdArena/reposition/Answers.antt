@@ -1,0 +1,25 @@
+use Rattle.triple_ord.proofs.Words.{sym, refl, ◌∙◌, ap, option_map}
+use Rattle.triple_ord.proofs.CallerLemmas.{rekeys-updates, rekeys-count}
+use Rattle.triple_ord.proofs.Rekeying.{can_stay, can_go, rekeyed_by, own_item, same-found}
+use Rattle.triple_ord.proofs.arena.SimpleOrdArena.reposition.Goals as goal
+
+pub go_beside-requires-clause-place : goal.go_beside-requires-clause-place
+go_beside-requires-clause-place g c =
+    can_go g.P.Ptr.numbers g.T.SimpleOrdItem.key_of g.T.Key.Ord.cmp c.args.self.now c.args.self.now c.args.self.now c.len.ensures.sound.distinct (g.P.Ptr.numbers c.args.p) c.in-Some.item.now
+    (rw (sym c.in-Some.ensures) refl) (own_item c.args.self.now (g.P.Ptr.numbers c.args.p) c.in-Some.item.now (sym c.in-Some.ensures)) c.place_around-found.result.0
+    (rw c.key.ensures at c.place_around-found.ensures.found)
+
+pub returns-clause-rekeys : goal.returns-clause-rekeys
+returns-clause-rekeys g c = rw (sym c.in-Some.ensures) (
+    rekeyed_by g.P.Ptr.numbers g.T.SimpleOrdItem.key_of g.T.Key.Ord.cmp c.args.self.now c.args.self.now c.go_beside.new.self c.len.ensures.sound.distinct (g.P.Ptr.numbers c.args.p) c.in-Some.item.now
+    (rw (sym c.in-Some.ensures) refl) (own_item c.args.self.now (g.P.Ptr.numbers c.args.p) c.in-Some.item.now (sym c.in-Some.ensures)) c.place_around-found.result.0
+    (rw c.key.ensures at c.place_around-found.ensures.found) c.go_beside.ensures.stays c.go_beside.ensures.list c.go_beside.ensures.shape)
+
+pub returns-clause-same : goal.returns-clause-same
+returns-clause-same g c =
+    let rekeys = rw (sym c.in-Some.ensures) at (returns-clause-rekeys g c) in
+    same-found _ _ _ c.in-Some.item.now (sym c.in-Some.ensures) (rekeys-updates _ _ _ _ _ _ c.len.ensures.sound.distinct (rw (sym c.in-Some.ensures) refl) rekeys)
+
+pub returns-clause-count : goal.returns-clause-count
+returns-clause-count g c =
+    rekeys-count _ _ _ _ _ _ c.len.ensures.sound.distinct (rw (sym c.in-Some.ensures) refl) (rw (sym c.in-Some.ensures) at (returns-clause-rekeys g c))
