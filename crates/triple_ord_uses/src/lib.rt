@@ -6,3 +6,4 @@ pub mod entries;
 pub mod notes;
 pub mod rounds;
 pub mod scheduler;
+pub mod sessions;
