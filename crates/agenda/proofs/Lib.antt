@@ -4,3 +4,4 @@ pub mod Leaving
 pub mod Deadlines
 pub mod Putting
 pub mod Moving
+pub mod Rekeying

@@ -2,7 +2,7 @@
 use Rattle.std.proofs.Common.{◌≡◌, ◌≢◌, ℕ, ◌+◌, ◌≤◌, ◌⊎◌, List, [], ◌∷◌, ◌++◌, length, length-append, Option, Some, None, IsSome, IfSome, IfNone, refl, sym, ap, subst, ◌∙◌, arith, inl, inr, if◌then◌else◌}
 use Rattle.std.proofs.lemmas.Bool.Decides.{eqb_tells, leb_tells}
 use Rattle.std.specs.Option.{option_map}
-use Rattle.agenda.specs.Agenda.{Scheduled, Agenda, is_named_by, job_of, count, without, with_left, first_deadline, first_due, IsDistinct, Schedules, Reschedules, Updates, Moves}
+use Rattle.agenda.specs.Agenda.{Scheduled, Agenda, is_named_by, job_of, count, without, with_left, first_deadline, first_due, IsDistinct, Schedules, Reschedules, MovesDeadline, Updates, Moves}
 
 -- two tickets are one or differ
 one_or_other : (t u : ℕ × ℕ) → (t ≡ u) ⊎ (t ≢ u)
@@ -142,3 +142,22 @@ module _ {J : Type 0} where
     pub count-rescheduled : count new ≡ count old
     count-rescheduled =
         omega (arith, count-scheduled left u d h.left.1 new h.put, length-without old.jobs t (let some : IsSome (job_of old.jobs t) = rw h.named refl in some))
+
+  -- what tickets name where a job moved to another deadline under its ticket
+  module _ (old : Agenda J) (t : ℕ × ℕ) (d : ℕ) (new : Agenda J) (distinct : IsDistinct old.jobs) (h : MovesDeadline old t d new) where
+    abbrev moved : Scheduled J
+    moved = record { ticket = t; deadline = d; job = h.left.1 }
+
+    pub updates-moves_deadline : Updates old new t (option_map (λ job. (d, job.1)) (job_of old.jobs t))
+    updates-moves_deadline = record {
+      changed = ap (λ (xs : List (Scheduled J)). job_of xs t) h.after
+          ∙ job_of-between h.earlier moved h.later (ap (λ (xs : List (Scheduled J)). job_of xs t) (sym h.others) ∙ job_of-without old.jobs t distinct)
+          ∙ sym (ap (option_map (λ job. (d, job.1))) h.named);
+      others = λ u apart. ap (λ (xs : List (Scheduled J)). job_of xs u) h.after ∙ job_of-between_other h.earlier moved h.later u apart
+          ∙ ap (λ (xs : List (Scheduled J)). job_of xs u) (sym h.others) ∙ job_of-without_other old.jobs t u apart;
+    }
+
+    pub count-moves_deadline : count new ≡ count old
+    count-moves_deadline =
+        let there : IsSome (job_of old.jobs t) = rw h.named refl in
+        omega (arith, ap length h.after, ap length h.others, length-append h.earlier (moved ∷ h.later), length-append h.earlier h.later, length-without old.jobs t there)

@@ -103,6 +103,20 @@ module _ {J : Type 0} where
     pub named : job_of old.jobs t ≡ Some left
     pub put : Schedules (with_left old (without old.jobs t)) u deadline left.1 new
 
+  -- From old to new, the job of the ticket t has this deadline, and stands behind every other job whose deadline is at most it, and before
+  -- the rest; it keeps its ticket.
+  pub record MovesDeadline (old : Agenda J) (t : ℕ × ℕ) (deadline : ℕ) (new : Agenda J) : Type 0 where
+    pub left : ℕ × J
+    pub named : job_of old.jobs t ≡ Some left
+    pub earlier : List (Scheduled J)
+    pub later : List (Scheduled J)
+    pub others : without old.jobs t ≡ earlier ++ later
+    pub after : new.jobs ≡ earlier ++ record { ticket = t; deadline = deadline; job = left.1 } ∷ later
+    pub no_later_before : All (λ x. x.deadline ≤ deadline) earlier
+    pub later_behind : All (λ x. deadline < x.deadline) later
+    pub generation : new.generation ≡ old.generation
+    pub capacity : new.capacity ≡ old.capacity
+
   -- from old to new, a ticket names this now, and every other ticket names what it named
   pub record Updates (old new : Agenda J) (t : ℕ × ℕ) (named : Option (ℕ × J)) : Type 0 where
     pub changed : job_of new.jobs t ≡ named

@@ -1,9 +1,11 @@
 //! `Agenda`: jobs by deadline.
 
 ghost use Rattle.std.specs.Prelude.{◌≡◌, ◌==◌, ◌↔◌, ◌+◌, ◌≤◌, [], Err, Some, None};
-ghost use Rattle.std.specs.Prelude.{IfOk, OnOk, IfErr, OnErr, IfSome, IfNone, OnSome, is_some};
+ghost use Rattle.std.specs.Prelude.{IfOk, OnOk, IfErr, OnErr, IfSome, IfNone, OnSome};
+ghost use Rattle.std.specs.{Prelude.is_some, Option.option_map, Bool.OnTrue, Bool.OnFalse};
 ghost use Rattle.agenda.specs.Agenda.{most_jobs, count, job_of, without, with_left, first_deadline, first_due, behind_first};
-ghost use Rattle.agenda.specs.Agenda.{IsSound, Schedules, Reschedules, Updates, Leaves, Moves};
+ghost use Rattle.agenda.specs.Agenda.{IsSound, Schedules, Reschedules, MovesDeadline};
+ghost use Rattle.agenda.specs.Agenda.{Updates, Leaves, Moves};
 
 use crate::jobs::{Jobs, put, put_within};
 use crate::ticket::Ticket;
@@ -17,8 +19,9 @@ use triple_ord::{ReallocationError, SimpleOrdArena};
 /// contracts an agenda is one list of jobs, each with its ticket and its deadline, the generation of the next ticket, and the capacity.
 /// `len` tells what is true of every agenda: the list is in order, no ticket names two jobs, and there is room for all.
 ///
-/// The generation of tickets rises with each job that leaves or is moved, so a ticket that named one names nothing more, until after
-/// some 2 to the 64th of them the generations begin again.
+/// A ticket names its job until the job leaves or [`move_to`](Self::move_to) moves it; [`reschedule`](Self::reschedule) keeps it. The
+/// generation of tickets rises each time that a ticket ends, so it names nothing from then on, until after some 2 to the 64th of them
+/// the generations begin again.
 ///
 /// Only `schedule` takes memory. n is the number of jobs in what is said of time.
 #[derive(Drop)]
@@ -142,6 +145,25 @@ impl<J: Drop, A: Allocator> Agenda<J, A> {
     {
         let pointer = put(&mut self.jobs, deadline, job)?;
         Ok(Ticket { pointer })
+    }
+
+    /// Gives the job of the ticket another deadline, in O(log n). The ticket stays valid. Returns whether the ticket names a job.
+    ///
+    /// The job counts as newly scheduled: it goes behind all other jobs whose deadline is at most its own, also if its deadline is what
+    /// it was. [`move_to`](Self::move_to) does the same and issues a new ticket.
+    ///
+    /// No memory is taken. If the ticket names no job, nothing changes.
+    pub fn reschedule(&mut self, ticket: Ticket, deadline: u64) -> bool
+        ensures value { result ≡ is_some (job_of self.old.jobs ticket) }
+        ensures moved { OnTrue result (MovesDeadline self.old ticket deadline self.new) }
+        ensures updates { Updates self.old self.new ticket
+            (option_map (λ job. (deadline, job.1)) (job_of self.old.jobs ticket)) }
+        ensures count { count self.new ≡ count self.old }
+        ensures none { OnFalse result (self.new ≡ self.old) }
+    {
+        // with its length an arena tells what holds of its list
+        let _ = self.jobs.len();
+        self.jobs.rekey_pair(ticket.pointer, deadline).is_ok()
     }
 
     /// Gives the job that the ticket names another deadline, and a new ticket, which is returned, in O(log n). It counts as newly

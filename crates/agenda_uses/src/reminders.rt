@@ -2,7 +2,7 @@
 
 ghost use Rattle.std.specs.Prelude.{◌≡◌, ◌≢◌, ◌+◌, ◌-◌, ◌≤◌, ℕ};
 ghost use Rattle.std.specs.Prelude.{Some, None, IfOk, OnOk, IfErr, OnErr, IfSome, IfNone, OnSome, is_some};
-ghost use Rattle.std.specs.Option.{option_map};
+ghost use Rattle.std.specs.{Option.option_map, Bool.OnFalse};
 ghost use Rattle.agenda.specs.Agenda.{job_of, count, first_deadline};
 
 use agenda::{Agenda, Ticket};
@@ -64,6 +64,19 @@ pub fn put_off(reminders: &mut Reminders, ticket: Ticket, time: u64) -> Option<T
     ensures none { IfNone result (reminders.new ≡ reminders.old) }
 {
     reminders.move_to(ticket, time)
+}
+
+/// Puts a note off to another time. It keeps its ticket. Tells whether the ticket names a note.
+pub fn snooze(reminders: &mut Reminders, ticket: Ticket, time: u64) -> bool
+    ensures named { result ≡ is_some (job_of reminders.old.jobs ticket) }
+    ensures names { job_of reminders.new.jobs ticket
+        ≡ option_map (λ reminder. (time, reminder.1)) (job_of reminders.old.jobs ticket) }
+    ensures others { (t : ℕ × ℕ) → t ≢ ticket
+        → job_of reminders.new.jobs t ≡ job_of reminders.old.jobs t }
+    ensures count { count reminders.new ≡ count reminders.old }
+    ensures none { OnFalse result (reminders.new ≡ reminders.old) }
+{
+    reminders.reschedule(ticket, time)
 }
 
 /// Takes off the note that is to be shown now, if there is one: its time has come.
