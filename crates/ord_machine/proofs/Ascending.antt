@@ -9,7 +9,7 @@ use Rattle.triple_ord.specs.{Gap.first_of, Gap.last_of, ClosureSearch.Shown, Sea
 use Rattle.triple_ord.proofs.OrderLaws.{recursion-map}
 use Rattle.ord_machine.specs.{Ascending.KeepsApart, Ascending.AscendingKeysLaw, Machine.Reading, Machine.State, Machine.Runs}
 use Rattle.ord_machine.specs.{declared.command.Command.Command, declared.reply.Reply.Reply}
-use Rattle.ord_machine.proofs.Outcomes.{Change, stays, comes, writes, leaves, renews, relays, empties, outcome}
+use Rattle.ord_machine.proofs.Outcomes.{Change, stays, comes, writes, rekeys, leaves, renews, relays, empties, outcome}
 
 -- each key is less than those behind it, one after another
 abbrev Climbs : {K : Type 0} → (K → K → Ordering) → List K → Type 0
@@ -131,6 +131,7 @@ module _ {P T I G K : Type 0} (r : Reading P T I G K) (total : IsTotalOrder r.cm
   apart-change (comes gap i item entered aim place by) = absurd (by total keeps)
   apart-change (writes i was item at is spares alike) =
       subst (λ es. Ascends r.key r.cmp total es) (sym is) (ascends-written r.key r.cmp total old.entries i was item at (alike total keeps) sorted)
+  apart-change (rekeys q item found now others spares never) = absurd (never keeps)
   apart-change (leaves i is some spares) = subst (λ es. Ascends r.key r.cmp total es) (sym is) (ascends-without r.key r.cmp total old.entries i sorted)
   apart-change (renews i is some spares) = subst (λ ks. Climbs r.cmp ks) (sym (ap (λ es. keys r.key es) is ∙ keys-renewed r.key old.entries i new.generation)) sorted
   apart-change (relays all same some others) = subst (λ ks. Climbs r.cmp ks) (sym same) sorted

@@ -15,9 +15,10 @@ use Rattle.triple_ord.specs.declared.insert_kind.OrdInsertKind.TheVariants.{Norm
 use Rattle.triple_ord.specs.declared.entry_kind.OrdEntryKind.TheVariants.{New, Replacing}
 use Rattle.triple_ord.specs.{Insertion.Growth, Insertion.within, Insertion.reallocating, Insertion.with_room_by, Gap.Gap, Gap.with_between}
 use Rattle.triple_ord.specs.{declared.insert_kind.OrdInsertKind.OrdInsertKind, ClosureSearch.Shown}
-use Rattle.triple_ord.proofs.{CallerLemmas.entries-with_room_by, CallerLemmas.numbers-with_room_by, Inserting.entry_at-after}
+use Rattle.triple_ord.proofs.{CallerLemmas.entries-with_room_by, CallerLemmas.numbers-with_room_by, CallerLemmas.rekeys-updates, Inserting.entry_at-after}
+use Rattle.triple_ord.specs.Rekey.{Rekeys}
 use Rattle.ord_machine.specs.declared.reply.Reply.TheVariants.{Inserted, Refused, Item, Removed, Renewed, Changed, Entries, Done, ReductionRefused}
-use Rattle.ord_machine.specs.Machine.{Reading, State, Effect, adds, removes, rebuilds, keeps, told_effect, effect_of, Inserts, Does, IsTakenOut, entry_of, removed_each}
+use Rattle.ord_machine.specs.Machine.{Reading, State, Effect, adds, removes, moves, rebuilds, keeps, told_effect, effect_of, Inserts, Does, IsTakenOut, entry_of, removed_each}
 use Rattle.ord_machine.specs.{Pointers.resets, Pointers.raises, Pointers.ReplacesAnother, Pointers.IsOfOthers, declared.reply.Reply.Reply}
 use Rattle.ord_machine.specs.{Ascending.IsPlacedByKey, Ascending.KeepsApart, declared.command.Command.Command}
 use Rattle.ord_machine.specs.declared.command.Command.TheVariants as commands
@@ -48,6 +49,16 @@ module _ {T : Type 0} where
       let both : ◌≡◌ {A = Option (ℕ × T)} (Some (q.1, one.0)) (Some (p.1, two.0)) = sym one.1 ∙ ap (entry_at es) (sym same) ∙ two.1 in
       let pair : ◌≡◌ {A = ℕ × T} (q.1, one.0) (p.1, two.0) = cc in
       apart (ap (λ i. (i, q.1)) (sym same) ∙ ap (λ g. (p.0, g)) (ap (λ (e : ℕ × T). e.0) pair))
+
+-- two pointers are one, or differ
+pub cases_pointer : (p q : ℕ × ℕ) → (p ≡ q) ⊎ (p ≢ q)
+cases_pointer p q = elim (eqb_tells p.0 q.0) [
+  | inl i ↦ elim (eqb_tells p.1 q.1) [
+    | inl g ↦ inl (ap (λ n. (n, p.1)) i.1 ∙ ap (λ n. (q.0, n)) g.1)
+    | inr g ↦ inr (λ same. g.1 (ap (λ (x : ℕ × ℕ). x.1) same))
+  ]
+  | inr i ↦ inr (λ same. i.1 (ap (λ (x : ℕ × ℕ). x.0) same))
+]
 
 -- the generation after so many raises
 abbrev pub risen : Option ℕ → ℕ → ℕ → ℕ
@@ -101,7 +112,8 @@ IsOfNone Of = (p : ℕ × ℕ) → Of p → ⊥
 abbrev pub Spares : {T : Type 0} → Chain T → (ℕ × ℕ → Type 0) → ℕ → Type 0
 Spares c Of i = (p : ℕ × ℕ) → IsSome (item_of c.entries p) → Of p → p.0 ≢ i
 
--- What becomes of the entries: they stay; one comes, gets another item, leaves, or gets a new pointer; all get new pointers, or leave.
+-- What becomes of the entries: they stay; one comes, gets another item, in its place or in another, leaves, or gets a new pointer; all
+-- get new pointers, or leave.
 -- Here n is how often the generation is raised, Of p that the call is to others than p's entry, Keeps that it keeps the keys apart.
 pub data Change {P T I G K : Type 0} (r : Reading P T I G K) (old new : Chain T) (n : ℕ) (Of : ℕ × ℕ → Type 0) (Keeps : Type 0) : Type 0 where
   stays : new.entries ≡ old.entries → Change r old new n Of Keeps
@@ -109,6 +121,8 @@ pub data Change {P T I G K : Type 0} (r : Reading P T I G K) (old new : Chain T)
       → GoesByKey r Keeps item aim → Change r old new n Of Keeps
   writes : (i : ℕ) (e : ℕ × T) (item : T) → entry_at old.entries i ≡ Some e → new.entries ≡ with_item_among old.entries i item
       → Spares old Of i → AreAlike r Keeps e.1 item → Change r old new n Of Keeps
+  rekeys : (q : ℕ × ℕ) (item : T) → IsSome (item_of old.entries q) → item_of new.entries q ≡ Some item
+      → ((p : ℕ × ℕ) → p ≢ q → item_of new.entries p ≡ item_of old.entries p) → ((p : ℕ × ℕ) → Of p → p ≢ q) → (Keeps → ⊥) → Change r old new n Of Keeps
   leaves : (i : ℕ) → new.entries ≡ without i old.entries → 0 < n → Spares old Of i → Change r old new n Of Keeps
   renews : (i : ℕ) → new.entries ≡ with_generation old.entries i new.generation → 0 < n → Spares old Of i → Change r old new n Of Keeps
   relays : ((i : ℕ) (e : ℕ × T) → entry_at new.entries i ≡ Some e → e.0 ≡ new.generation) → HasKeysOf r old new → 0 < n → IsOfNone Of
@@ -119,6 +133,7 @@ pub data Change {P T I G K : Type 0} (r : Reading P T I G K) (old new : Chain T)
 abbrev pub Affects : Effect → Shape → Shape → Type 0
 Affects adds old new = (IsTight old → IsTight new) × (ChangesRanksWithin 4 old new ⊎ (new ≡ old))
 Affects removes old new = ChangesRanksWithin 9 old new ⊎ (new ≡ old)
+Affects moves old new = ChangesRanksWithin 14 old new ⊎ (new ≡ old)
 Affects rebuilds old new = IsRebuilt new
 Affects keeps old new = (new ≡ old) ⊎ (new ≡ missing)
 
@@ -186,6 +201,17 @@ module _ {P T I G K : Type 0} (r : Reading P T I G K) (s : State T) (new : Tree 
     lost : (i : ℕ) → IsTakenOut r.greatest s.tree i new → Spares s.tree.list Of i → Outcome r s.tree new removes back 1 Of Keeps
     lost i is spares =
         record { affects = inl is.1.rank_changes; raised = λ _. ap (λ c. c.generation) is.0; change = λ _. leaves i (ap (λ c. c.entries) is.0) (omega arith) spares }
+
+    -- the entry of a pointer goes to the place of its key
+    rekeyed : (q : ℕ × ℕ) (item : T) → IsSome (item_of es q) → Rekeys r.key r.cmp s.tree q item new → ((p : ℕ × ℕ) → Of p → q ≢ p) → (Keeps → ⊥)
+        → Outcome r s.tree new moves back 0 Of Keeps
+    rekeyed q item there does apart never = record {
+      affects = elim does.shape [ inl same ↦ inr same | inr rearranged ↦ inl rearranged.rank_changes ];
+      raised = λ _. ap (λ (c : Chain T). c.generation) does.kept;
+      change = λ distinct.
+          let updates = rekeys-updates r.key r.cmp s.tree new q item distinct there does in
+          rekeys q item there updates.changed updates.others (λ p of same. apart p of (sym same)) never;
+    }
 
     again : (q : ℕ × ℕ) → IsSome (item_of es q) → new ≡ record s.tree { list = renewed r.greatest s.tree.list q.0 } → ((p : ℕ × ℕ) → Of p → q ≢ p)
         → Outcome r s.tree new keeps back 1 Of Keeps
@@ -262,6 +288,9 @@ module _ {P T I G K : Type 0} (r : Reading P T I G K) (s : State T) (new : Tree 
             (λ p here of. other_index es p (r.pointer q) of there here) (λ _ never. absurd never);
       }
   outcome asks f (commands.Set q item) reply g does = absurd does.0
+  outcome asks f (commands.Rekey q item) (Item None) g does = kept does.0.1
+  outcome asks f (commands.Rekey q item) (Item (Some before)) g does = rekeyed (r.pointer q) item (ap is_some (sym does.0.0)) does.0.1 (λ p of. of) (λ never. never)
+  outcome asks f (commands.Rekey q item) reply g does = absurd does.0
   outcome asks f (commands.Remove q) (Removed (Success taken)) g does =
       lost (r.pointer q).0 does.0.1.removed (λ p here of. other_index es p (r.pointer q) of (ap is_some (sym does.0.1.value)) here)
   outcome asks f (commands.Remove q) (Removed (GenerationOverflow taken)) g does =
