@@ -38,27 +38,25 @@ module _ {T : Type 0} (es : List (Entry T)) (distinct : IsDistinct es) (i g : �
       go None is = refl
       go (Some f) is = absurd (cc)
 
-  pub item_before : (j : ℕ) → l.prev ≡ Some j → (item : T) → option_map (λ x. x.1) (entry_at es j) ≡ Some item → Some item ≡ last_item front
-  item_before j some item there = go (last_of None front) refl (prev_is ∙ some)
+  -- the entry before stands at the index that the link names
+  before_at : (j : ℕ) → l.prev ≡ Some j → (f : Entry T) × (last_of None front ≡ Some f) × (entry_at es j ≡ Some (f.generation, f.item))
+  before_at j some = go (last_of None front) refl (prev_is ∙ some)
     where
-      go : (o : Option (Entry T)) → last_of None front ≡ o → option_map (λ e. e.index) o ≡ Some j → Some item ≡ option_map (λ e. e.item) o
+      go : (o : Option (Entry T)) → last_of None front ≡ o → option_map (λ e. e.index) o ≡ Some j → (f : Entry T) × (last_of None front ≡ Some f) × (entry_at es j ≡ Some (f.generation, f.item))
       go None is at = absurd (cc)
       go (Some f) is at =
           let index : f.index ≡ j = cc in
           let f_front = ends front f is in
           let f_cut : es ≡ f_front.0 ++ f ∷ (e ∷ back) = cut ∙ ap (λ xs. xs ++ e ∷ back) f_front.1 ∙ simp append_assoc in
-          sym there ∙ ap (option_map (λ (x : ℕ × T). x.1)) (ap (entry_at es) (sym index) ∙ entry_at-here es distinct f_front.0 f (e ∷ back) f_cut)
+          (f, is, ap (entry_at es) (sym index) ∙ entry_at-here es distinct f_front.0 f (e ∷ back) f_cut)
+
+  pub item_before : (j : ℕ) → l.prev ≡ Some j → (item : T) → option_map (λ x. x.1) (entry_at es j) ≡ Some item → Some item ≡ last_item front
+  item_before j some item there =
+      let f = before_at j some in
+      sym there ∙ ap (option_map (λ (x : ℕ × T). x.1)) f.2 ∙ sym (ap (option_map (λ (e : Entry T). e.item)) f.1)
 
   pub occupied_before : (j : ℕ) → l.prev ≡ Some j → IsSome (entry_at es j)
-  occupied_before j some = go (last_of None front) refl (prev_is ∙ some)
-    where
-      go : (o : Option (Entry T)) → last_of None front ≡ o → option_map (λ e. e.index) o ≡ Some j → IsSome (entry_at es j)
-      go None is at = absurd (cc)
-      go (Some f) is at =
-          let index : f.index ≡ j = cc in
-          let f_front = ends front f is in
-          let f_cut : es ≡ f_front.0 ++ f ∷ (e ∷ back) = cut ∙ ap (λ xs. xs ++ e ∷ back) f_front.1 ∙ simp append_assoc in
-          rw (← index, entry_at-here es distinct f_front.0 f (e ∷ back) f_cut) refl
+  occupied_before j some = rw (before_at j some).2 refl
 
 module _ {T K : Type 0} (key : T → K) (cmp : K → K → Ordering) (es : List (Entry T)) (distinct : IsDistinct es) (i : ℕ) (k : K) where
   abbrev Asked : Shown T → Type 0

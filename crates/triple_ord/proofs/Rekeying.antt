@@ -178,13 +178,11 @@ module _ {T : Type 0} (c : Chain T) (distinct : IsDistinct c.entries) (i q g : �
         ap (without i) cut ∙ without-append i front (f ∷ back) (subst (λ es. times i es ≤ 1) cut (distinct i))
         ∙ ap (λ xs. xs ++ without i (f ∷ back)) (without-absent i front (omega (arith, alone, counted))) ∙ ap (λ xs. front ++ xs) (without-first i f back here)
 
-    entry_is : list_with (put_on Less q) i (entry_at c.entries i) (without i c.entries) ≡ insert_before q f (front ++ back)
-    entry_is = ap (λ (o : Option (ℕ × T)). list_with (put_on Less q) i o (without i c.entries)) (ap (entry_at c.entries) (sym here) ∙ entry_at-here c.entries distinct front f back cut)
-        ∙ ap (λ n. insert_before q (record { index = n; generation = f.generation; item = f.item }) (without i c.entries)) (sym here) ∙ ap (insert_before q f) rest_is
-
-    entry_is_after : list_with (put_on Greater q) i (entry_at c.entries i) (without i c.entries) ≡ insert_after q f (front ++ back)
-    entry_is_after = ap (λ (o : Option (ℕ × T)). list_with (put_on Greater q) i o (without i c.entries)) (ap (entry_at c.entries) (sym here) ∙ entry_at-here c.entries distinct front f back cut)
-        ∙ ap (λ n. insert_after q (record { index = n; generation = f.generation; item = f.item }) (without i c.entries)) (sym here) ∙ ap (insert_after q f) rest_is
+    put_again : (o : Ordering) → list_with (put_on o q) i (entry_at c.entries i) (without i c.entries) ≡ put_on o q (front ++ back) f
+    put_again o =
+        ap (λ (x : Option (ℕ × T)). list_with (put_on o q) i x (without i c.entries)) (ap (entry_at c.entries) (sym here) ∙ entry_at-here c.entries distinct front f back cut)
+        ∙ ap (λ n. put_on o q (without i c.entries) (record { index = n; generation = f.generation; item = f.item })) (sym here)
+        ∙ ap (λ es. put_on o q es f) rest_is
 
     rest_distinct : IsDistinct (front ++ back)
     rest_distinct j = subst (λ es. times j es ≤ 1) rest_is (omega (arith, distinct j, times-without i j c.entries))
@@ -195,7 +193,7 @@ module _ {T : Type 0} (c : Chain T) (distinct : IsDistinct c.entries) (i q g : �
       let end = ends at.front n.0 n.1 in
       let cut : c.entries ≡ end.0 ++ n.0 ∷ (at.entry ∷ at.back) = at.cut ∙ ap (λ xs. xs ++ at.entry ∷ at.back) end.1 ∙ simp append_assoc in
       let put = insert_before-here (end.0 ++ at.entry ∷ at.back) (rest_distinct end.0 (at.entry ∷ at.back) n.0 n.2 cut) end.0 at.entry at.back refl n.0 in
-      ap (λ es. record c { entries = es }) (cut ∙ sym put ∙ ap (λ k. insert_before k n.0 (end.0 ++ at.entry ∷ at.back)) at.here ∙ sym (entry_is end.0 (at.entry ∷ at.back) n.0 n.2 cut))
+      ap (λ es. record c { entries = es }) (cut ∙ sym put ∙ ap (λ k. insert_before k n.0 (end.0 ++ at.entry ∷ at.back)) at.here ∙ sym (put_again end.0 (at.entry ∷ at.back) n.0 n.2 cut Less))
 
   pub stays_after : l.next ≡ Some i → c ≡ with_entry_moved c i (put_on Greater q)
   stays_after named =
@@ -205,7 +203,7 @@ module _ {T : Type 0} (c : Chain T) (distinct : IsDistinct c.entries) (i q g : �
       let whole : (at.front ++ at.entry ∷ []) ++ begin.0 ≡ at.front ++ at.entry ∷ begin.0 = simp append_assoc refl in
       let put = insert_after-here ((at.front ++ at.entry ∷ []) ++ begin.0) (rest_distinct (at.front ++ at.entry ∷ []) begin.0 n.0 n.2 cut) at.front at.entry begin.0 whole n.0 in
       ap (λ es. record c { entries = es }) (at.cut ∙ ap (λ xs. at.front ++ at.entry ∷ xs) begin.1 ∙ sym put ∙ ap (λ k. insert_after k n.0 ((at.front ++ at.entry ∷ []) ++ begin.0)) at.here
-      ∙ sym (entry_is_after (at.front ++ at.entry ∷ []) begin.0 n.0 n.2 cut))
+      ∙ sym (put_again (at.front ++ at.entry ∷ []) begin.0 n.0 n.2 cut Greater))
 
 -- two pointers are one, or differ
 cases_pair : (q p : ℕ × ℕ) → (q ≡ p) ⊎ (q ≢ p)
