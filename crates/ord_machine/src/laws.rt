@@ -2,6 +2,7 @@
 
 ghost use Rattle.triple_ord.specs.ClosureSearch.{Asks};
 ghost use Rattle.ord_machine.specs.Ascending.{AscendingKeysLaw};
+ghost use Rattle.ord_machine.specs.InOrder.{OrderedKeysLaw};
 ghost use Rattle.ord_machine.specs.Laws.{FirstRankLaw};
 ghost use Rattle.ord_machine.specs.Pointers.{EndedPointerLaw, KeptPointerLaw, RekeyedPointerLaw};
 ghost use Rattle.ord_machine.specs.RankChanges.{RankChangesLaw};
@@ -37,6 +38,14 @@ pub fn ended_pointer_law<P: Ptr, T: SimpleOrdItem, F: FnMut(P, &T) -> Ordering, 
 /// and each insertion is by the item's key, or of the kind `Normal` or `Linear` with a key that the item's is equal to.
 pub fn ascending_keys_law<P: Ptr, T: SimpleOrdItem, F: FnMut(P, &T) -> Ordering, A: Allocator>()
     ensures { AscendingKeysLaw P T P.Inx P.Gen A T.Key (Asks P.numbers F.step) }
+{}
+
+/// Keys are in order after any run from an arena whose keys are in order, equal keys included, as long as no command is `Set`, and each
+/// insertion is by the item's key, or of a kind that goes by a key that the item's is equal to.
+///
+/// `Rekey` leaves them in order, whatever the keys: its entry goes to the place of the new key.
+pub fn ordered_keys_law<P: Ptr, T: SimpleOrdItem, F: FnMut(P, &T) -> Ordering, A: Allocator>()
+    ensures { OrderedKeysLaw P T P.Inx P.Gen A T.Key (Asks P.numbers F.step) }
 {}
 
 /// The ranks of old entries change at most 4m + 9d + 14k + 3n times in a run of m insertions of new entries, d removals and k entries that
