@@ -211,7 +211,7 @@ fn share_index<P: Ptr>(p: P, q: P) -> bool
 
 // Whether an index is there, and is this one.
 fn is_named<I: PtrInx>(neighbour: Option<I>, i: I) -> bool
-    ensures { IsTrue result → option_map I.number neighbour ≡ Some (I.number i) }
+    ensures { IsTrue result ↔ (option_map I.number neighbour ≡ Some (I.number i)) }
 {
     match neighbour {
         Some(j) => j == i,
