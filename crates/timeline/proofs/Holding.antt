@@ -5,7 +5,8 @@ use Rattle.std.specs.{declared.cmp.Ordering.TheVariants.Less, declared.cmp.Order
 use Rattle.std.specs.{Option.option_map, Ordering.nat_cmp}
 use Rattle.chain_base.specs.Chain.{Entry, IsDistinct, entry_at, without}
 use Rattle.ord_tree.specs.Tree.{Tree}
-use Rattle.triple_ord.specs.{Insertion.within, Insertion.InsertsBy, Insertion.told, Gap.Gap, Gap.before, Gap.after, Gap.last_of}
+use Rattle.triple_ord.specs.{Insertion.within, Insertion.InsertsBy, Gap.Gap, Gap.before, Gap.after, Gap.last_of}
+use Rattle.triple_ord.specs.declared.entry_kind.OrdEntryKind.{OrdEntryKind, TheVariants.New, TheVariants.Replacing}
 use Rattle.triple_ord.specs.{Search.IsFirstEqual, Place.at_key}
 use Rattle.triple_ord.proofs.KeptOrder.{listed-new}
 use Rattle.timeline.specs.Layout.{change, told_of, changes_of, earlier, later, last_value, IsChanged, IsLastUntil, IsTakenOut}
@@ -114,9 +115,9 @@ module _ {V : Type 0} where
     abbrev IsSet : Type 0
     IsSet = IsChanged (changes_of old) t value (changes_of new)
 
-    pub changed-inserted : (p : ℕ × ℕ) (b : Option (ℕ × Option V)) → InsertsBy time_of nat_cmp most within (at_key t) numbers old (t, value) (told (Ok (p, b))) new
-        → IsSet
-    changed-inserted p None inserts =
+    pub changed-inserted : (shown : OrdEntryKind (ℕ × ℕ)) (b : Option (ℕ × Option V))
+        → InsertsBy time_of nat_cmp most within (at_key t) numbers old (t, value) (Ok (shown, b)) new → IsSet
+    changed-inserted (New p) None inserts =
         let gap = inserts.gap in
         let parts = changes-cut old.list.entries gap in
         let whole = subst IsRising parts rising in
@@ -134,7 +135,8 @@ module _ {V : Type 0} where
           after = ap (map change) list.listed ∙ map-append change gap.front (list.entry ∷ gap.back) ∙ ap (λ c. map change gap.front ++ c ∷ map change gap.back) here
               ∙ sym (ap (λ zs. zs ++ (record { time = t; value = value } ∷ later t (changes_of old))) early ∙ ap (λ zs. map change gap.front ++ (record { time = t; value = value } ∷ zs)) late);
         }
-    changed-inserted p (Some b) inserts = absurd (met old.list.entries unmet inserts.entry inserts.place)
+    changed-inserted (Replacing p) (Some b) inserts = absurd (met old.list.entries unmet inserts.entry inserts.place)
+    changed-inserted shown b inserts = absurd inserts
 
   -- the index of the last change at or before a time has an entry
   pub occupied-until : (es : List (Entry (ℕ × Option V))) → IsDistinct es → (t i d : ℕ) (v : Option V) → IsLastUntil es t (Some (i, d, v)) → IsSome (entry_at es i)

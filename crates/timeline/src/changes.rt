@@ -5,7 +5,10 @@ ghost use Rattle.std.specs.Prelude.{IsTrue, false, IfSome, OnOk, OnErr, length};
 ghost use Rattle.std.specs.List.{AllByRecursion};
 ghost use Rattle.std.specs.Option.{option_map};
 ghost use Rattle.chain_base.specs.Chain.{link_at};
+ghost use Rattle.std.specs.Ordering.{nat_cmp};
 ghost use Rattle.triple_ord.specs.Gap.{after};
+ghost use Rattle.triple_ord.specs.Place.{aim_of, at_key, kind_now};
+ghost use Rattle.triple_ord.specs.Search.{FindsSimilar};
 ghost use Rattle.timeline.specs.Timeline.{most_changes, IsRising, IsTimeline, value_at};
 ghost use Rattle.timeline.specs.Layout.{changes_of, earlier, later, IsLastUntil, HoldsUntil, IsFirstHeld, IsEnd};
 ghost use Rattle.timeline.specs.Layout.{IsTakenOut, IsChanged, KeepsRoom};
@@ -13,7 +16,7 @@ ghost use Rattle.timeline.specs.Layout.{IsTakenOut, IsChanged, KeepsRoom};
 use crate::value::{TimelineValue, is_same};
 use std::alloc::Allocator;
 use std::cmp::Ordering;
-use triple_ord::{OrdPair, P0, Ptr, ReallocationError, SimpleOrdArena};
+use triple_ord::{OrdInsertKind, OrdPair, P0, Ptr, ReallocationError, SimpleOrdArena};
 
 /// Changes by time, each with the value that holds from then on, or none.
 pub(crate) type Changes<V, A> = SimpleOrdArena<P0, OrdPair<u64, Option<V>>, A>;
@@ -41,6 +44,38 @@ fn index_until<V: Copy, A: Allocator>(
     }
 }
 
+// A search for a time that compares the last change first: behind all changes it looks at nothing more.
+fn find_similar<V: Copy, A: Allocator>(
+    changes: &Changes<V, A>,
+    time: &u64,
+) -> Option<(P0, Ordering)>
+    ensures found { (visits : ℕ) × FindsSimilar (λ c. c.0) nat_cmp changes.now.list.entries
+        time.now (option_map (λ a. (a.0, a.1)) result) visits }
+{
+    match changes.last() {
+        Some(last) => changes.find_similar_key_linear(last.inx(), 1, time),
+        None => changes.find_similar_key(time),
+    }
+}
+
+// By a time. The search compares the last change first: behind all changes it looks at nothing more.
+#[inline(always)]
+fn kind_at<'k, V: Copy, A: Allocator>(
+    changes: &Changes<V, A>,
+    time: &'k u64,
+) -> OrdInsertKind<P0, &'k u64>
+    ensures { aim_of (λ i. i) (kind_now result) ≡ at_key time.now }
+{
+    match changes.last() {
+        Some(last) => OrdInsertKind::Linear {
+            p_init: last.inx(),
+            num: 1,
+            k: time,
+        },
+        None => OrdInsertKind::Normal(time),
+    }
+}
+
 /// Index, time and value of the last change at or before a time.
 pub(crate) fn last_until<V: Copy, A: Allocator>(
     changes: &Changes<V, A>,
@@ -51,7 +86,7 @@ pub(crate) fn last_until<V: Copy, A: Allocator>(
 {
     // with its length an arena tells what holds of its list
     let _ = changes.len();
-    let (p, order) = changes.find_similar_key(&time)?;
+    let (p, order) = find_similar(changes, &time)?;
     let i = index_until(changes, p, order)?;
     let (_, pair) = changes.get_inx(i)?;
     Some((i, *pair.k(), *pair.v()))
@@ -194,8 +229,13 @@ pub(crate) fn change_at<V: TimelineValue, A: Allocator>(
     if is_same(held_at(changes, time), value) {
         return;
     }
-    match changes.insert_within_capacity(OrdPair::new(time, value)) {
-        Ok(_) => {}
+    // with its length an arena tells what holds of its list
+    let _ = changes.len();
+    let kind = kind_at(changes, &time);
+    match changes.entry_insert_within_capacity(kind) {
+        Ok(entry) => {
+            let _ = entry.insert(OrdPair::new(time, value));
+        }
         // a key has a place, and a slot is vacant
         Err(_) => unreachable!(),
     }

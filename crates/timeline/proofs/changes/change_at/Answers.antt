@@ -1,5 +1,7 @@
-use Rattle.std.proofs.Common.{sym, ◌∙◌}
-use Rattle.timeline.specs.{Timeline.most_changes, Layout.changes_of}
+use Rattle.std.proofs.Common.{ℕ, Option, Ok, sym, subst, ◌∙◌, ◌≡◌, nat_cmp, rules}
+use Rattle.triple_ord.specs.{Insertion.within, Insertion.InsertsBy, Place.at_key}
+use Rattle.triple_ord.proofs.CallerLemmas.{entry-inserts-by}
+use Rattle.timeline.specs.{Timeline.most_changes, Layout.changes_of, Layout.IsChanged}
 use Rattle.timeline.proofs.Holding.{changed-same, changed-inserted}
 use Rattle.timeline.proofs.changes.change_at.Goals as goal
 
@@ -9,5 +11,13 @@ returns-then-is_same-clause-changed g c =
 
 pub returns-clause-changed : goal.returns-clause-changed
 returns-clause-changed g c =
-    changed-inserted most_changes (λ p. p) c.args.changes.now c.insert_within_capacity.new.self c.args.time c.args.value c.requires.rising c.requires.unmet
-    (λ same. let no = c.if-is_same.ensures.1 (c.held_at.ensures ∙ same) in cc) c.in-Ok.field-0.0 c.in-Ok.field-0.1 (rw c.new.ensures at c.in-Ok.ensures.inserts)
+    let shown = c.in-Ok.entry.prepared.shown in
+    let inserts = entry-inserts-by (λ (x : ℕ × Option g.row.V.Denot). x.0) nat_cmp (λ (p : ℕ × ℕ). p) (λ (i : ℕ). i) within most_changes _ c.args.changes.now
+    c.in-Ok.entry.arena.now c.insert.new.self.0 c.len.ensures.sound.distinct shown _ _ c.new.result c.insert.result c.in-Ok.ensures.place
+    (at_key c.args.time) c.kind_at-kind.ensures c.insert.ensures.inserts in
+    let changed = changed-inserted most_changes (λ p. p) c.args.changes.now c.insert.new.self.0 c.args.time c.args.value c.requires.rising c.requires.unmet
+    (λ same. let no = c.if-is_same.ensures.1 (c.held_at.ensures ∙ same) in cc) shown c.insert.result
+    (subst (λ (x : ℕ × Option g.row.V.Denot). InsertsBy (λ (y : ℕ × Option g.row.V.Denot). y.0) nat_cmp most_changes within (at_key c.args.time) (λ (p : ℕ × ℕ). p)
+    c.args.changes.now x (Ok (shown, c.insert.result)) c.insert.new.self.0) c.new.ensures inserts) in
+    let there : c.insert.new.self.0 ≡ c.changes-1.given.0 = search rules in
+    subst (λ u. IsChanged (changes_of c.args.changes.now) c.args.time c.args.value (changes_of u)) there changed
