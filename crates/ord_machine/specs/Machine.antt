@@ -45,7 +45,7 @@ pub record Marks : Type 0 where
   -- no entry has come or gone since there was none, or since the last rebuild
   pub just_built : Bool
 
--- what a step does to the entries: one more comes, one leaves, one goes to another place, the tree over them is built anew, or none of these
+-- what a step does to the entries: one more comes, one leaves, one goes to another place, the tree over them is rebuilt, or none of these
 pub data Effect : Type 0 where
   adds : Effect
   removes : Effect

@@ -23,7 +23,8 @@ pub fn kept_pointer_law<P: Ptr, T: SimpleOrdItem, F: FnMut(P, &T) -> Ordering, A
     ensures { KeptPointerLaw P T P.Inx P.Gen A T.Key (Asks P.numbers F.step) }
 {}
 
-/// An entry that is rekeyed keeps its pointer: directly afterwards, and after any commands to other entries, the pointer names the new item.
+/// An entry that is rekeyed keeps its pointer: directly afterwards, and after any commands to other entries, the pointer names the new
+/// item.
 pub fn rekeyed_pointer_law<P: Ptr, T: SimpleOrdItem, F: FnMut(P, &T) -> Ordering, A: Allocator>()
     ensures { RekeyedPointerLaw P T P.Inx P.Gen A T.Key (Asks P.numbers F.step) }
 {}

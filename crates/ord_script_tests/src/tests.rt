@@ -159,6 +159,15 @@ const ANSWERS: &[(&[u8], &str)] = &[
         b"insert 1 0\ninsert 2 0\nset 1.2 2 9\ncheck\nset 1.2 9 0\ncheck\n",
         "new 1.2\nnew 2.2\nold 1:0\nok\nold 2:9\nincorrect ordering\n",
     ),
+    // an entry goes to the place of another key, behind those with an equal one; a pointer that names none moves nothing
+    (
+        b"insert 1 0\ninsert 2 0\ninsert 3 0\nrekey 1.2 9 5\nlist\nranks\nget 1.2\nfind 9\nfind 1\nrekey 1.3 0 0\nlist\n",
+        "new 1.2\nnew 2.2\nnew 3.2\nold 1:0\nlist 2.2=2:0 3.2=3:0 1.2=9:5\nranks 1 2 1\nitem 9:5\nat 1.2\nnone\nnone\nlist 2.2=2:0 3.2=3:0 1.2=9:5\n",
+    ),
+    (
+        b"insert 5 1\ninsert 7 2\nrekey 2.2 5 3\nlist\nrekey 1.2 5 4\nlist\nset 1.2 -9 0\ncheck\nrekey 1.2 -9 6\ncheck\nlist\n",
+        "new 1.2\nnew 2.2\nold 7:2\nlist 1.2=5:1 2.2=5:3\nold 5:1\nlist 2.2=5:3 1.2=5:4\nold 5:4\nincorrect ordering\nold -9:0\nok\nlist 1.2=-9:6 2.2=5:3\n",
+    ),
     // lines: CR before LF, blank lines and comments, which are counted
     (b"insert 007 01\r\n", "new 1.2\n"),
     (b"\r\nlist\r\n", "list\n"),
@@ -263,6 +272,10 @@ const BAD_LINES: &[(&[u8], FaultKind)] = &[
     (b"set 1.2 x 4", FaultKind::BadNumber),
     (b"set 1 3 4", FaultKind::BadNumber),
     (b"set 1.2 3 -4", FaultKind::BadNumber),
+    (b"rekey 1.2 3", FaultKind::WrongArguments),
+    (b"rekey 1 3 4", FaultKind::BadNumber),
+    (b"rekey 1.2 3 -4", FaultKind::BadNumber),
+    (b"re-key 1.2 3 4", FaultKind::UnknownCommand),
     (b"remove", FaultKind::WrongArguments),
     (b"remove 1", FaultKind::BadNumber),
     (b"remove-index 1.2", FaultKind::BadNumber),

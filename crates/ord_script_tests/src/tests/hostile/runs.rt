@@ -3,7 +3,7 @@ use linked_list_allocator::LocalHeap;
 use ord_script::{Command, Reply, run};
 use std::alloc::{AllocError, Global};
 use std::cmp::Ordering;
-use triple_ord::{OrdEntryKind, OrdInsertionError, OrdPair, P0, SimpleOrdArena};
+use triple_ord::{OrdEntryKind, OrdInsertionError, OrdPair, P0, Ptr, SimpleOrdArena};
 
 type Item = OrdPair<u64, u64>;
 
@@ -13,17 +13,19 @@ type Numbers<'h> = SimpleOrdArena<P0, Item, &'h LocalHeap>;
 #[derive(Clone, Copy)]
 enum Line {
     Insert(u64),
+    /// Of the entry at the index, with the first generation.
+    Rekey(u32, u64),
     Find(u64),
     List,
     Ranks,
     Drain(usize),
 }
 
-use Line::{Drain, Find, Insert, List, Ranks};
+use Line::{Drain, Find, Insert, List, Ranks, Rekey};
 
-/// What tells and takes the entries that there are, and then thirty commands: the arena grows at the first, the fifth and the ninth entry,
+/// What tells and takes the entries that there are, and then 32 commands: the arena grows at the first, the fifth and the ninth entry,
 /// and begins again after a drain.
-const LINES: [Line; 32] = [
+const LINES: [Line; 34] = [
     List,
     Drain(99),
     Ranks,
@@ -34,6 +36,7 @@ const LINES: [Line; 32] = [
     Insert(60),
     Ranks,
     Insert(10),
+    Rekey(2, 65),
     Find(60),
     List,
     Insert(20),
@@ -41,6 +44,7 @@ const LINES: [Line; 32] = [
     Insert(80),
     Ranks,
     Insert(40),
+    Rekey(4, 50),
     List,
     Find(45),
     Insert(45),
@@ -58,9 +62,15 @@ const LINES: [Line; 32] = [
     List,
 ];
 
+/// The pointer at an index with the first generation.
+fn first_pointer(i: u32) -> P0 {
+    P0::_from_raw(i, 2)
+}
+
 fn command(line: Line) -> Command<P0, Item> {
     match line {
         Insert(key) => Command::Insert(OrdPair::new(key, 0)),
+        Rekey(i, key) => Command::Rekey(first_pointer(i), OrdPair::new(key, 0)),
         Find(key) => Command::Find(key),
         List => Command::List,
         Ranks => Command::Ranks,
@@ -127,6 +137,37 @@ fn is_insertion(plain: &mut Plain, key: u64, reply: &Told) -> bool {
     }
 }
 
+/// The place of a pointer.
+fn place_of_pointer(plain: &Plain, p: P0) -> Option<usize> {
+    plain.iter().position(|entry| entry.0 == p)
+}
+
+/// The key at a place.
+fn key_at(plain: &Plain, place: usize) -> Option<u64> {
+    plain.get(place).map(|entry| entry.1)
+}
+
+/// Takes an entry of the vector out, and puts it behind those whose key is at most this one.
+fn move_entry(plain: &mut Plain, place: usize, key: u64) -> bool {
+    if place >= plain.len() {
+        return false;
+    }
+    let entry = plain.remove(place);
+    let behind = plain.iter().filter(|entry| entry.1 <= key).count();
+    behind <= plain.len() && plain.insert(behind, (entry.0, key)).is_ok()
+}
+
+/// Whether a reply is that of a `Rekey`, which is done to the vector too.
+fn is_rekey(plain: &mut Plain, p: P0, key: u64, reply: &Told) -> bool {
+    match (reply, place_of_pointer(plain, p)) {
+        (Reply::Item(Some(before)), Some(place)) => {
+            key_at(plain, place) == Some(*before.k()) && move_entry(plain, place, key)
+        }
+        (Reply::Item(None), None) => true,
+        _ => false,
+    }
+}
+
 /// Whether a reply is that of a search.
 fn is_search(plain: &Plain, key: u64, reply: &Told) -> bool {
     match reply {
@@ -164,6 +205,7 @@ fn is_drain(plain: &mut Plain, count: usize, reply: &Told) -> bool {
 fn is_reply(plain: &mut Plain, line: Line, reply: &Told) -> bool {
     match line {
         Insert(key) => is_insertion(plain, key, reply),
+        Rekey(i, key) => is_rekey(plain, first_pointer(i), key, reply),
         Find(key) => is_search(plain, key, reply),
         List => is_list(plain, usize::MAX, reply),
         Ranks => is_ranks(plain, reply),
@@ -177,7 +219,7 @@ type Refusals = [bool; 5];
 /// The place of a command among these.
 fn place_among(line: Line) -> usize {
     match line {
-        Insert(_) | Find(_) => 1,
+        Insert(_) | Rekey(_, _) | Find(_) => 1,
         List => 2,
         Ranks => 3,
         Drain(_) => 4,
@@ -207,7 +249,7 @@ fn is_marked(plain: &mut Plain, line: Line, reply: &Told, refused: &mut Refusals
 /// Whether the replies are those of the commands.
 fn are_replies(plain: &mut Plain, replies: &[Told], refused: &mut Refusals) -> bool {
     for place in 0..replies.len() {
-        if !is_marked(plain, LINES[place % 32], &replies[place], refused) {
+        if !is_marked(plain, LINES[place % 34], &replies[place], refused) {
             return false;
         }
     }
