@@ -4,17 +4,35 @@ ghost use Rattle.std.specs.Prelude.{◌≡◌, ◌<◌, ◌↔◌, Err, IfOk, If
 ghost use Rattle.std.specs.Ordering.{nat_cmp};
 ghost use Rattle.chain_base.specs.Chain.{chain_limit, IsSound};
 ghost use Rattle.triple_ord.specs.Insertion.{within, reallocating, InsertsNew};
-ghost use Rattle.triple_ord.specs.Place.{behind_key};
+ghost use Rattle.triple_ord.specs.Place.{aim_of, behind_key, kind_now};
 ghost use Rattle.agenda.specs.Agenda.{most_jobs};
 ghost use Rattle.agenda.specs.Layout.{deadline_of, greatest_generation};
 
 use std::alloc::Allocator;
 use triple_ord::{
-    OrdInsertKind, OrdInsertionError, OrdPair, P0, ReallocationError, SimpleOrdArena,
+    OrdInsertKind, OrdInsertionError, OrdPair, P0, Ptr, ReallocationError, SimpleOrdArena,
 };
 
 /// Jobs by deadline.
 pub(crate) type Jobs<J, A> = SimpleOrdArena<P0, OrdPair<u64, J>, A>;
+
+// Behind all deadlines up to this one. The search compares the last deadline first: for a job that is due last nothing more.
+#[inline(always)]
+fn kind_behind<'k, J, A: Allocator>(
+    jobs: &Jobs<J, A>,
+    deadline: &'k u64,
+) -> OrdInsertKind<P0, &'k u64>
+    ensures { aim_of (λ i. i) (kind_now result) ≡ behind_key deadline.now }
+{
+    match jobs.last() {
+        Some(last) => OrdInsertKind::NonhereditaryLinear {
+            p_init: last.inx(),
+            num: 1,
+            k: deadline,
+        },
+        None => OrdInsertKind::Nonhereditary(deadline),
+    }
+}
 
 /// Puts a job into the arena, which grows where it has no slot. A job that is refused comes back.
 pub(crate) fn put<J: Drop, A: Allocator>(
@@ -34,7 +52,8 @@ pub(crate) fn put<J: Drop, A: Allocator>(
 {
     // with its length an arena tells what holds of its list
     let _ = jobs.len();
-    match jobs.entry_insert(OrdInsertKind::Nonhereditary(&deadline)) {
+    let kind = kind_behind(jobs, &deadline);
+    match jobs.entry_insert(kind) {
         Ok(entry) => {
             let p = entry.ptr().any();
             let _ = entry.insert(OrdPair::new(deadline, job));
@@ -59,7 +78,8 @@ pub(crate) fn put_within<J: Drop, A: Allocator>(jobs: &mut Jobs<J, A>, deadline:
 {
     // with its length an arena tells what holds of its list
     let _ = jobs.len();
-    match jobs.entry_insert_within_capacity(OrdInsertKind::Nonhereditary(&deadline)) {
+    let kind = kind_behind(jobs, &deadline);
+    match jobs.entry_insert_within_capacity(kind) {
         Ok(entry) => {
             let p = entry.ptr().any();
             let _ = entry.insert(OrdPair::new(deadline, job));

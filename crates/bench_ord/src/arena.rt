@@ -2,7 +2,7 @@
 use crate::store::Store;
 use crate::task::{Linked, Reached};
 use std::alloc::{AllocError, Global};
-use triple_ord::{OrdPair, P0, Ptr, SimpleOrdArena};
+use triple_ord::{OrdInsertKind, OrdPair, P0, Ptr, SimpleOrdArena};
 
 /// An ordered arena of pairs.
 pub type Pairs = SimpleOrdArena<P0, OrdPair<u64, u64>>;
@@ -54,6 +54,34 @@ impl Store for Pairs {
         }
         sum
     }
+}
+
+/// Inserts a key with its value by a search that compares the last key first: a key behind all others needs no other comparison.
+pub fn append(pairs: &mut Pairs, key: u64) -> Result<(), AllocError> {
+    let kind = match pairs.last() {
+        Some(last) => OrdInsertKind::Linear {
+            p_init: last.inx(),
+            num: 1,
+            k: &key,
+        },
+        None => OrdInsertKind::Normal(&key),
+    };
+    match pairs.entry_insert(kind) {
+        Ok(entry) => {
+            let _ = entry.insert(OrdPair::new(key, key >> 8));
+            Ok(())
+        }
+        Err(_) => Err(AllocError),
+    }
+}
+
+/// The keys, appended one after another.
+pub fn appended(alloc: Global, keys: &[u64]) -> Result<Pairs, AllocError> {
+    let mut pairs = SimpleOrdArena::new(alloc);
+    for key in keys {
+        append(&mut pairs, *key)?;
+    }
+    Ok(pairs)
 }
 
 /// An arena with pointers to its entries, in a random order.

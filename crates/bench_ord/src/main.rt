@@ -12,6 +12,7 @@ mod lap;
 mod map;
 mod market;
 mod measures;
+mod rekeying;
 mod report;
 mod scheduling;
 mod store;
@@ -30,6 +31,7 @@ fn main(rt: HostRuntime) -> Result<()> {
             .parse::<usize>()
             .context("a number of entries")?;
         measures::run(&rt, n)?;
+        rekeying::run(&rt, n)?;
         scheduling::run(&rt, n)?;
         trading::run(&rt, n)?;
     }

@@ -1,5 +1,5 @@
 //! The measures of the arena, each of it and of another structure in turn.
-use crate::arena::{Pairs, Pointed};
+use crate::arena::{Pairs, Pointed, appended};
 use crate::hints::{FromHints, FromTheRoot, hints_of};
 use crate::keys::{Keys, keys_of, pairs_of, shuffle};
 use crate::lap::{Lap, rounds};
@@ -31,7 +31,7 @@ fn compare_changing(rt: &HostRuntime, keys: &Keys) -> Result<()> {
     for (measure, work) in &works {
         compare_work(rt, measure, *work)?;
     }
-    Ok(())
+    compare_appending(rt, &keys.ascending)
 }
 
 // Entries that stay.
@@ -145,6 +145,22 @@ fn compare_work(rt: &HostRuntime, measure: &str, work: Work) -> Result<()> {
         map = map.or_quicker(work.lap::<Map>(rt)?);
     }
     report(rt, work.size(), measure, arena, map)
+}
+
+fn appending(rt: &HostRuntime, keys: &[u64]) -> Result<Lap> {
+    let start = Instant::now(rt)?;
+    let pairs = appended(rt.alloc(), keys)?;
+    Ok(Lap::since(rt, start, pairs.size() as u64)?)
+}
+
+fn compare_appending(rt: &HostRuntime, keys: &[u64]) -> Result<()> {
+    let mut arena = appending(rt, keys)?;
+    let mut map = filling::<Map>(rt, keys)?;
+    for _ in 1..rounds(keys.len()) {
+        arena = arena.or_quicker(appending(rt, keys)?);
+        map = map.or_quicker(filling::<Map>(rt, keys)?);
+    }
+    report(rt, keys.len(), "append ascending keys", arena, map)
 }
 
 fn compare_finding(

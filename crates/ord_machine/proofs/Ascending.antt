@@ -1,15 +1,15 @@
 -- Keys stay apart along a run.
-use Rattle.std.proofs.Common.{◌≡◌, ℕ, inl, inr, List, [], ◌∷◌, ◌++◌, map, Some, None, IfSome, refl, sym, ap, subst, ◌∙◌, arith}
+use Rattle.std.proofs.Common.{◌≡◌, ℕ, inl, inr, List, [], ◌∷◌, ◌++◌, map, Some, None, IfSome, sym, ap, subst, ◌∙◌, arith}
 use Rattle.std.proofs.lemmas.Bool.Decides.{eqb_tells}
 use Rattle.std.specs.declared.cmp.Ordering.TheVariants.{Less, Equal, Greater}
 use Rattle.std.specs.{Cmp.IsTotalOrder, Cmp.alike_right, List.Sorted.IsStrictlySortedBy, declared.cmp.Ordering.Ordering}
 use Rattle.std.specs.{Ordering.ordering_reverse, List.AllByRecursion}
-use Rattle.chain_base.specs.Chain.{Entry, Chain, IsDistinct, entry_at, without, with_item_among, with_generation}
+use Rattle.chain_base.specs.Chain.{Entry, Chain, IsDistinct, entry_at, without, with_item_among}
 use Rattle.triple_ord.specs.{Gap.first_of, Gap.last_of, ClosureSearch.Shown, Search.order_to, Place.at_key}
 use Rattle.triple_ord.proofs.OrderLaws.{recursion-map}
 use Rattle.ord_machine.specs.{Ascending.KeepsApart, Ascending.AscendingKeysLaw, Machine.Reading, Machine.State, Machine.Runs}
 use Rattle.ord_machine.specs.{declared.command.Command.Command, declared.reply.Reply.Reply}
-use Rattle.ord_machine.proofs.Outcomes.{Change, stays, comes, writes, leaves, renews, relays, empties, outcome}
+use Rattle.ord_machine.proofs.Outcomes.{keys-renewed, Change, stays, comes, writes, rekeys, leaves, renews, relays, empties, outcome}
 
 -- each key is less than those behind it, one after another
 abbrev Climbs : {K : Type 0} → (K → K → Ordering) → List K → Type 0
@@ -24,14 +24,6 @@ sorted-climbs cmp (k ∷ ks) climbs = (climbs.0, sorted-climbs cmp ks climbs.1)
 module _ {T K : Type 0} (key : T → K) where
   abbrev keys : List (Entry T) → List K
   keys es = map (λ e. key e.item) es
-
-  -- changes of pointers alone
-  keys-renewed : (es : List (Entry T)) (i g : ℕ) → keys (with_generation es i g) ≡ keys es
-  keys-renewed [] i g = refl
-  keys-renewed (e ∷ es) i g = elim (eqb_tells e.index i) [
-    | inl h ↦ rw h.0 refl
-    | inr h ↦ rw h.0 (ap (λ ks. key e.item ∷ ks) (keys-renewed es i g))
-  ]
 
   -- what is true of each key, when an entry goes, comes, or gets another item
   module _ (P : K → Type 0) where
@@ -131,6 +123,7 @@ module _ {P T I G K : Type 0} (r : Reading P T I G K) (total : IsTotalOrder r.cm
   apart-change (comes gap i item entered aim place by) = absurd (by total keeps)
   apart-change (writes i was item at is spares alike) =
       subst (λ es. Ascends r.key r.cmp total es) (sym is) (ascends-written r.key r.cmp total old.entries i was item at (alike total keeps) sorted)
+  apart-change (rekeys q item found now others spares never) = absurd (never keeps)
   apart-change (leaves i is some spares) = subst (λ es. Ascends r.key r.cmp total es) (sym is) (ascends-without r.key r.cmp total old.entries i sorted)
   apart-change (renews i is some spares) = subst (λ ks. Climbs r.cmp ks) (sym (ap (λ es. keys r.key es) is ∙ keys-renewed r.key old.entries i new.generation)) sorted
   apart-change (relays all same some others) = subst (λ ks. Climbs r.cmp ks) (sym same) sorted

@@ -9,7 +9,7 @@ use Rattle.chain_base.proofs.CallerLemmas.{entry_at-with_generation, entry_at-wi
 use Rattle.triple_ord.specs.ClosureSearch.{Shown}
 use Rattle.ord_machine.specs.Pointers.{resets, raises, raises_among, Part, EndedPointerLaw}
 use Rattle.ord_machine.specs.{Machine.Reading, Machine.State, Machine.Runs, declared.command.Command.Command, declared.reply.Reply.Reply}
-use Rattle.ord_machine.proofs.Outcomes.{found-there, there-found, elsewhere, unused, risen, Change, stays, comes, writes, leaves, renews, relays, empties, outcome}
+use Rattle.ord_machine.proofs.Outcomes.{cases_pointer, found-there, there-found, elsewhere, unused, risen, Change, stays, comes, writes, rekeys, leaves, renews, relays, empties, outcome}
 
 -- how generations go from one list to the next: the arena's rises by so many; an entry that wasn't there with its pointer has one from
 -- the old one to the new one; and where an entry's pointer ended, it rose
@@ -125,6 +125,21 @@ module _ {P T I G K : Type 0} (r : Reading P T I G K) (old new : Chain T) (n : �
             let now : entry_at new.entries p.0 ≡ Some (p.1, there.0) = rw (is, entry_at-with_item_among_other old.entries i p.0 item h.1) there.1 in
             let some = there-found new.entries p there.0 now in cc
       ]
+  goes-change (rekeys q item found now others spares never) = record {
+    raised = raised;
+    entries = λ i e is. elim (cases_pointer (i, e.0) q) [
+      | inl same ↦
+          let had = found-there old.entries q found in
+          inl (had.0, ap (entry_at old.entries) (ap (λ (p : ℕ × ℕ). p.0) same) ∙ had.1 ∙ ap (λ g. Some (g, had.0)) (sym (ap (λ (p : ℕ × ℕ). p.1) same)))
+      | inr other ↦
+          let there = sym (others (i, e.0) other) ∙ there-found new.entries (i, e.0) e.1 is in
+          inl (found-there old.entries (i, e.0) (ap is_some there))
+    ];
+    ended = λ p there none. absurd (elim (cases_pointer p q) [
+      | inl same ↦ let some = ap (item_of new.entries) same ∙ now in cc
+      | inr other ↦ let gone = sym (others p other) ∙ none in cc
+    ]);
+  }
   goes-change (leaves i is some spares) = record {
     raised = raised;
     entries = λ j e found. elim (eqb_tells j i) [

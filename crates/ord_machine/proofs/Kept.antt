@@ -1,11 +1,12 @@
--- A pointer keeps its entry while commands are to others.
-use Rattle.std.proofs.Common.{◌≡◌, ℕ, List, [], ◌∷◌, IsSome, is_some, refl, ap, ◌∙◌}
+-- A pointer keeps its entry while commands are to others, and the new item of an entry that was rekeyed.
+use Rattle.std.proofs.Common.{◌≡◌, ℕ, List, [], ◌∷◌, IsSome, is_some, refl, sym, ap, ◌∙◌}
 use Rattle.arena_base.specs.Arena.{item_if}
 use Rattle.chain_base.specs.Chain.{Entry, Chain, entry_at, item_of}
 use Rattle.chain_base.proofs.CallerLemmas.{entry_at-without_other, entry_at-with_item_among_other, entry_at-with_generation_other}
 use Rattle.triple_ord.specs.ClosureSearch.{Shown}
-use Rattle.ord_machine.specs.{Machine.Reading, Machine.State, Pointers.KeptPointerLaw}
-use Rattle.ord_machine.proofs.Outcomes.{elsewhere, unused, Change, stays, comes, writes, leaves, renews, relays, empties, outcome}
+use Rattle.triple_ord.proofs.CallerLemmas.{rekeys-updates}
+use Rattle.ord_machine.specs.{Machine.Reading, Machine.State, Pointers.KeptPointerLaw, Pointers.RekeyedPointerLaw}
+use Rattle.ord_machine.proofs.Outcomes.{elsewhere, unused, Change, stays, comes, writes, rekeys, leaves, renews, relays, empties, outcome}
 
 -- a change
 module _ {P T I G K : Type 0} (r : Reading P T I G K) (old new : Chain T) (p : ℕ × ℕ) (there : IsSome (item_of old.entries p)) where
@@ -17,6 +18,7 @@ module _ {P T I G K : Type 0} (r : Reading P T I G K) (old new : Chain T) (p : �
   keeps-change of (comes gap i item entered aim place by) =
       keeps-there refl (elsewhere old new gap i item entered p.0 (unused old new gap i item entered p there))
   keeps-change of (writes i was item at is spares alike) = keeps-there is (entry_at-with_item_among_other old.entries i p.0 item (spares p there of))
+  keeps-change of (rekeys q item found now others spares never) = others p (spares p of)
   keeps-change of (leaves i is some spares) = keeps-there is (entry_at-without_other old.entries i p.0 (spares p there of))
   keeps-change of (renews i is some spares) = keeps-there is (entry_at-with_generation_other old.entries i p.0 new.generation (spares p there of))
   keeps-change of (relays all same some others) = absurd (others p of)
@@ -32,3 +34,11 @@ kept_pointer P T I G A K asks r old new f g (c ∷ asked) (q ∷ told) p lawful 
     let leads = (outcome r old mid.tree asks f c q run.1 run.2.does).change lawful.distinct in
     let kept = keeps-change r old.tree.list mid.tree.list p there others.0 leads in
     kept_pointer P T I G A K asks r mid new run.1 g asked told p run.2.lawful others.1 run.3 (ap is_some kept ∙ there) ∙ kept
+
+-- a run that begins by giving the pointer's own entry another item
+pub rekeyed_pointer : (P T I G A K : Type 0) {F : Type 0} (asks : F → Shown T → F → Type 0) → RekeyedPointerLaw P T I G A K asks
+rekeyed_pointer P T I G A K asks r old new f g p item before asked told lawful others run =
+    let mid = run.0 in
+    let does = run.2.does.0 in
+    let found = (rekeys-updates r.key r.cmp old.tree mid.tree (r.pointer p) item lawful.distinct (ap is_some (sym does.0)) does.1).changed in
+    kept_pointer P T I G A K asks r mid new run.1 g asked told (r.pointer p) run.2.lawful others run.3 (ap is_some found) ∙ found

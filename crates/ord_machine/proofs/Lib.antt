@@ -12,4 +12,5 @@ pub mod Outcomes
 pub mod Ended
 pub mod Kept
 pub mod Ascending
+pub mod InOrder
 pub mod RankChanges

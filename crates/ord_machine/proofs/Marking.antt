@@ -3,7 +3,7 @@ use Rattle.std.proofs.Common.{◌≡◌, ℕ, zero, suc, ◌==◌, cond, true, i
 use Rattle.std.proofs.{lemmas.List.length-map, Math.Dec.eqb-suc-zero}
 use Rattle.ord_tree.specs.{Shape.Shape, Shape.missing, Shape.node, Shape.walk, Tree.Tree, Tree.IsSoundTree}
 use Rattle.triple_ord.specs.ClosureSearch.{Shown}
-use Rattle.ord_machine.specs.Machine.{Reading, State, Marks, Effect, adds, removes, rebuilds, keeps, marked_by, AreTrue, settled, Does, effect_of, marks_after}
+use Rattle.ord_machine.specs.Machine.{Reading, State, Marks, Effect, adds, removes, moves, rebuilds, keeps, marked_by, AreTrue, settled, Does, effect_of, marks_after}
 use Rattle.ord_machine.specs.{declared.command.Command.Command, declared.reply.Reply.Reply}
 use Rattle.ord_machine.proofs.{Outcomes.Affects, Outcomes.outcome, CallerLemmas.AreTrue-missing}
 
@@ -30,6 +30,7 @@ module _ {T : Type 0} where
 AreTrue-marked : (effect : Effect) (old new : Shape) (marks : Marks) → Affects effect old new → AreTrue marks old → AreTrue (marked_by effect marks) new
 AreTrue-marked adds old new marks tight holds = record { only_inserted = λ e. tight.0 (holds.only_inserted e); just_built = λ e. cc }
 AreTrue-marked removes old new marks any holds = record { only_inserted = λ e. cc; just_built = λ e. cc }
+AreTrue-marked moves old new marks any holds = record { only_inserted = λ e. cc; just_built = λ e. cc }
 AreTrue-marked rebuilds old new marks rebuilt holds = record { only_inserted = λ e. cc; just_built = λ e. rebuilt }
 AreTrue-marked keeps old new marks (inl same) holds = subst (λ (s : Shape). AreTrue marks s) (sym same) holds
 AreTrue-marked keeps old new marks (inr none) holds = subst (λ (s : Shape). AreTrue marks s) (sym none) (AreTrue-missing marks)

@@ -1,7 +1,7 @@
 -- What a step makes of the list: all that the laws of pointers and keys look at.
-use Rattle.std.proofs.Common.{◌≡◌, ◌≢◌, ℕ, zero, suc, ◌+◌, ◌<◌, Bool, false, List, [], ◌∷◌, ◌++◌, ◌⊎◌, inl, inr, length, map, take, Option, Some, None, IsSome, is_some, refl, sym, ap, subst, ◌∙◌, arith}
+use Rattle.std.proofs.Common.{◌≡◌, ◌≢◌, ℕ, zero, suc, ◌+◌, ◌<◌, Bool, false, List, [], ◌∷◌, ◌++◌, ◌⊎◌, inl, inr, length, map, take, Option, Some, None, IsSome, is_some, Result, Ok, refl, sym, ap, subst, ◌∙◌, arith, length-append}
 use Rattle.std.proofs.{lemmas.Bool.Decides.eqb_tells, lemmas.List.length-map, lemmas.Cmp.tied_itself}
-use Rattle.std.specs.declared.cmp.Ordering.TheVariants.{Less, Equal, Greater}
+use Rattle.std.specs.declared.cmp.Ordering.{Ordering, TheVariants.Less, TheVariants.Equal, TheVariants.Greater}
 use Rattle.std.specs.Cmp.{IsTotalOrder}
 use Rattle.arena_base.specs.declared.invalidation.InvalidationResult.TheVariants.{Success, GenerationOverflow, InvalidPtr}
 use Rattle.arena_base.specs.Generation.{next_generation}
@@ -11,15 +11,18 @@ use Rattle.chain_base.proofs.CallerLemmas.{after-insertion, entry_at-absent, ent
 use Rattle.ord_tree.specs.{Shape.Shape, Shape.missing, Half.IsRebuilt, Ranks.IsTight, Tree.Tree, Potential.ChangesRanksWithin}
 use Rattle.triple_ord.specs.Place.{Aim, alone, at_key, behind_key, beside, into, over, IsPlace, aim_of}
 use Rattle.triple_ord.specs.declared.error.OrdInsertionError.TheVariants.{BeyondMaxCapacity, AllocError}
-use Rattle.triple_ord.specs.declared.insert_kind.OrdInsertKind.TheVariants.{Normal, Linear}
+use Rattle.triple_ord.specs.declared.insert_kind.OrdInsertKind.TheVariants.{Normal, Nonhereditary, Linear, NonhereditaryLinear}
 use Rattle.triple_ord.specs.declared.entry_kind.OrdEntryKind.TheVariants.{New, Replacing}
 use Rattle.triple_ord.specs.{Insertion.Growth, Insertion.within, Insertion.reallocating, Insertion.with_room_by, Gap.Gap, Gap.with_between}
-use Rattle.triple_ord.specs.{declared.insert_kind.OrdInsertKind.OrdInsertKind, ClosureSearch.Shown}
-use Rattle.triple_ord.proofs.{CallerLemmas.entries-with_room_by, CallerLemmas.numbers-with_room_by, Inserting.entry_at-after}
+use Rattle.triple_ord.specs.{declared.insert_kind.OrdInsertKind.OrdInsertKind, declared.entry_kind.OrdEntryKind.OrdEntryKind, declared.error.OrdInsertionError.OrdInsertionError, ClosureSearch.Shown}
+use Rattle.triple_ord.proofs.{CallerLemmas.entries-with_room_by, CallerLemmas.numbers-with_room_by, CallerLemmas.rekeys-updates, Inserting.entry_at-after}
+use Rattle.triple_ord.proofs.{KeptOrder.kept_order, RekeyOrder.rekeyed_order, RekeyOrder.in_order-without}
+use Rattle.triple_ord.proofs.OrderLaws.{in_order-one, in_order-more, IsInOrder-rest}
+use Rattle.triple_ord.specs.{Rekey.Rekeys, Order.IsInOrder, OrderLaws.GoesBy, Insertion.InsertsBy}
 use Rattle.ord_machine.specs.declared.reply.Reply.TheVariants.{Inserted, Refused, Item, Removed, Renewed, Changed, Entries, Done, ReductionRefused}
-use Rattle.ord_machine.specs.Machine.{Reading, State, Effect, adds, removes, rebuilds, keeps, told_effect, effect_of, Inserts, Does, IsTakenOut, entry_of, removed_each}
+use Rattle.ord_machine.specs.Machine.{Reading, State, Effect, adds, removes, moves, rebuilds, keeps, told_effect, effect_of, Inserts, Does, IsTakenOut, entry_of, removed_each}
 use Rattle.ord_machine.specs.{Pointers.resets, Pointers.raises, Pointers.ReplacesAnother, Pointers.IsOfOthers, declared.reply.Reply.Reply}
-use Rattle.ord_machine.specs.{Ascending.IsPlacedByKey, Ascending.KeepsApart, declared.command.Command.Command}
+use Rattle.ord_machine.specs.{Ascending.IsPlacedByKey, Ascending.KeepsApart, InOrder.GoesByEqualKey, InOrder.KeepsInOrder, declared.command.Command.Command}
 use Rattle.ord_machine.specs.declared.command.Command.TheVariants as commands
 
 module _ {T : Type 0} where
@@ -49,6 +52,16 @@ module _ {T : Type 0} where
       let pair : ◌≡◌ {A = ℕ × T} (q.1, one.0) (p.1, two.0) = cc in
       apart (ap (λ i. (i, q.1)) (sym same) ∙ ap (λ g. (p.0, g)) (ap (λ (e : ℕ × T). e.0) pair))
 
+-- two pointers are one, or differ
+pub cases_pointer : (p q : ℕ × ℕ) → (p ≡ q) ⊎ (p ≢ q)
+cases_pointer p q = elim (eqb_tells p.0 q.0) [
+  | inl i ↦ elim (eqb_tells p.1 q.1) [
+    | inl g ↦ inl (ap (λ n. (n, p.1)) i.1 ∙ ap (λ n. (q.0, n)) g.1)
+    | inr g ↦ inr (λ same. g.1 (ap (λ (x : ℕ × ℕ). x.1) same))
+  ]
+  | inr i ↦ inr (λ same. i.1 (ap (λ (x : ℕ × ℕ). x.0) same))
+]
+
 -- the generation after so many raises
 abbrev pub risen : Option ℕ → ℕ → ℕ → ℕ
 risen greatest zero g = g
@@ -72,6 +85,15 @@ GoesByKey r Keeps item aim = IsTotalOrder r.cmp → Keeps → IsByKey r item aim
 -- two items have equal keys in a step that keeps the keys apart
 abbrev pub AreAlike : {P T I G K : Type 0} → Reading P T I G K → Type 0 → T → T → Type 0
 AreAlike r Keeps x item = IsTotalOrder r.cmp → Keeps → r.cmp (r.key x) (r.key item) ≡ Equal
+
+-- what an insertion goes by is a key that is equal to the item's, or is behind one, in a step that leaves the keys in order
+abbrev pub GoesInOrder : {P T I G K : Type 0} → Reading P T I G K → Type 0 → T → Aim K → Type 0
+GoesInOrder {K = K} r InOrder item aim = IsTotalOrder r.cmp → InOrder → (k : K) × GoesBy aim k × (r.cmp k (r.key item) ≡ Equal)
+
+-- such a step leaves them in order
+abbrev pub LeavesInOrder : {P T I G K : Type 0} → Reading P T I G K → Type 0 → Chain T → Chain T → Type 0
+LeavesInOrder r InOrder old new =
+    IsTotalOrder r.cmp → IsDistinct old.entries → InOrder → IsInOrder r.key r.cmp old.entries → IsInOrder r.key r.cmp new.entries
 
 -- the keys of a list, one after another, are those of another
 abbrev pub HasKeysOf : {P T I G K : Type 0} → Reading P T I G K → Chain T → Chain T → Type 0
@@ -101,7 +123,8 @@ IsOfNone Of = (p : ℕ × ℕ) → Of p → ⊥
 abbrev pub Spares : {T : Type 0} → Chain T → (ℕ × ℕ → Type 0) → ℕ → Type 0
 Spares c Of i = (p : ℕ × ℕ) → IsSome (item_of c.entries p) → Of p → p.0 ≢ i
 
--- What becomes of the entries: they stay; one comes, gets another item, leaves, or gets a new pointer; all get new pointers, or leave.
+-- What becomes of the entries: they stay; one comes, gets another item, in its place or in another, leaves, or gets a new pointer; all
+-- get new pointers, or leave.
 -- Here n is how often the generation is raised, Of p that the call is to others than p's entry, Keeps that it keeps the keys apart.
 pub data Change {P T I G K : Type 0} (r : Reading P T I G K) (old new : Chain T) (n : ℕ) (Of : ℕ × ℕ → Type 0) (Keeps : Type 0) : Type 0 where
   stays : new.entries ≡ old.entries → Change r old new n Of Keeps
@@ -109,6 +132,8 @@ pub data Change {P T I G K : Type 0} (r : Reading P T I G K) (old new : Chain T)
       → GoesByKey r Keeps item aim → Change r old new n Of Keeps
   writes : (i : ℕ) (e : ℕ × T) (item : T) → entry_at old.entries i ≡ Some e → new.entries ≡ with_item_among old.entries i item
       → Spares old Of i → AreAlike r Keeps e.1 item → Change r old new n Of Keeps
+  rekeys : (q : ℕ × ℕ) (item : T) → IsSome (item_of old.entries q) → item_of new.entries q ≡ Some item
+      → ((p : ℕ × ℕ) → p ≢ q → item_of new.entries p ≡ item_of old.entries p) → ((p : ℕ × ℕ) → Of p → p ≢ q) → (Keeps → ⊥) → Change r old new n Of Keeps
   leaves : (i : ℕ) → new.entries ≡ without i old.entries → 0 < n → Spares old Of i → Change r old new n Of Keeps
   renews : (i : ℕ) → new.entries ≡ with_generation old.entries i new.generation → 0 < n → Spares old Of i → Change r old new n Of Keeps
   relays : ((i : ℕ) (e : ℕ × T) → entry_at new.entries i ≡ Some e → e.0 ≡ new.generation) → HasKeysOf r old new → 0 < n → IsOfNone Of
@@ -119,14 +144,16 @@ pub data Change {P T I G K : Type 0} (r : Reading P T I G K) (old new : Chain T)
 abbrev pub Affects : Effect → Shape → Shape → Type 0
 Affects adds old new = (IsTight old → IsTight new) × (ChangesRanksWithin 4 old new ⊎ (new ≡ old))
 Affects removes old new = ChangesRanksWithin 9 old new ⊎ (new ≡ old)
+Affects moves old new = ChangesRanksWithin 14 old new ⊎ (new ≡ old)
 Affects rebuilds old new = IsRebuilt new
 Affects keeps old new = (new ≡ old) ⊎ (new ≡ missing)
 
 -- and of the shape, and of the generation, if it isn't set back
-pub record Outcome {P T I G K : Type 0} (r : Reading P T I G K) (old new : Tree T) (effect : Effect) (back : Bool) (n : ℕ) (Of : ℕ × ℕ → Type 0) (Keeps : Type 0) : Type 0 where
+pub record Outcome {P T I G K : Type 0} (r : Reading P T I G K) (old new : Tree T) (effect : Effect) (back : Bool) (n : ℕ) (Of : ℕ × ℕ → Type 0) (Keeps InOrder : Type 0) : Type 0 where
   pub affects : Affects effect old.shape new.shape
   pub raised : back ≡ false → new.list.generation ≡ risen r.greatest n old.list.generation
   pub change : IsDistinct old.list.entries → Change r old.list new.list n Of Keeps
+  pub ordered : LeavesInOrder r InOrder old.list new.list
 
 -- the keys of relaid entries
 module _ {T K : Type 0} (key : T → K) where
@@ -137,6 +164,30 @@ module _ {T K : Type 0} (key : T → K) where
   keys-numbered : (es : List (Entry T)) (g from : ℕ) → map (λ e. key e.item) (numbered g from (map (λ e. e.item) es)) ≡ map (λ e. key e.item) es
   keys-numbered [] g from = refl
   keys-numbered (e ∷ es) g from = ap (λ ks. key e.item ∷ ks) (keys-numbered es g (from + 1))
+
+  -- and of one with another pointer
+  pub keys-renewed : (es : List (Entry T)) (i g : ℕ) → map (λ e. key e.item) (with_generation es i g) ≡ map (λ e. key e.item) es
+  keys-renewed [] i g = refl
+  keys-renewed (e ∷ es) i g = elim (eqb_tells e.index i) [
+    | inl h ↦ rw h.0 refl
+    | inr h ↦ rw h.0 (ap (λ ks. key e.item ∷ ks) (keys-renewed es i g))
+  ]
+
+-- lists whose keys are the same, one after another, are both in order or neither
+module _ {T K : Type 0} (key : T → K) (cmp : K → K → Ordering) where
+  in_order-none : IsInOrder {T = T} key cmp []
+  in_order-none front back e f cut = absurd (omega (arith, ap length cut, length-append front (e ∷ f ∷ back)))
+
+  in_order-keys : (xs ys : List (Entry T)) → map (λ e. key e.item) xs ≡ map (λ e. key e.item) ys → IsInOrder key cmp ys → IsInOrder key cmp xs
+  in_order-keys [] ys same order = in_order-none
+  in_order-keys (x ∷ []) ys same order = in_order-one key cmp x
+  in_order-keys (x ∷ (y ∷ xs)) [] same order = absurd (cc)
+  in_order-keys (x ∷ (y ∷ xs)) (a ∷ []) same order = absurd (cc)
+  in_order-keys (x ∷ (y ∷ xs)) (a ∷ (b ∷ ys)) same order =
+      let first : key x.item ≡ key a.item = cc in
+      let second : key y.item ≡ key b.item = cc in
+      let rest : map (λ e. key e.item) (y ∷ xs) ≡ map (λ e. key e.item) (b ∷ ys) = cc in
+      in_order-more key cmp x y xs (rw (first, second) (order [] ys a b refl)) (in_order-keys (y ∷ xs) (b ∷ ys) rest (IsInOrder-rest key cmp a (b ∷ ys) order))
 
 -- a new entry
 module _ {T : Type 0} (room new : Chain T) (put : Entry T → List (Entry T)) (item : T) (i : ℕ) where
@@ -171,6 +222,21 @@ module _ {P T I G K : Type 0} (r : Reading P T I G K) (s : State T) (new : Tree 
   by_kind (Linear i num k) item by = by
   by_kind kind item by = absurd by
 
+  in_order_by_kind : (kind : OrdInsertKind P K I G) (item : T) → GoesByEqualKey r kind item → (k : K) × GoesBy (aim_of r.index kind) k × (r.cmp k (r.key item) ≡ Equal)
+  in_order_by_kind (Normal k) item by = (k, inl refl, by)
+  in_order_by_kind (Nonhereditary k) item by = (k, inr refl, by)
+  in_order_by_kind (Linear i num k) item by = (k, inl refl, by)
+  in_order_by_kind (NonhereditaryLinear i num k) item by = (k, inr refl, by)
+  in_order_by_kind kind item by = absurd by
+
+  -- the entries are these, whose keys are in order
+  in_order_as : {xs : List (Entry T)} → new.list.entries ≡ xs → IsInOrder r.key r.cmp xs → IsInOrder r.key r.cmp new.list.entries
+  in_order_as is order = subst (λ es. IsInOrder r.key r.cmp es) (sym is) order
+
+  -- the keys are the same
+  in_order_alike : HasKeysOf r s.tree.list new.list → IsInOrder r.key r.cmp es → IsInOrder r.key r.cmp new.list.entries
+  in_order_alike same order = in_order-keys r.key r.cmp new.list.entries es same order
+
   -- the shape stays, whatever the reply
   alike : {A : Type 0} (reply : Reply P T A I G) → new.shape ≡ s.tree.shape → Affects (told_effect reply) s.tree.shape new.shape
   alike (Inserted (New p) before) same = (λ tight. subst IsTight (sym same) tight, inr same)
@@ -178,40 +244,72 @@ module _ {P T I G K : Type 0} (r : Reading P T I G K) (s : State T) (new : Tree 
   alike (Removed (GenerationOverflow taken)) same = inr same
   alike reply same = inl same
 
-  module _ {back : Bool} {Of : ℕ × ℕ → Type 0} {Keeps : Type 0} where
-    still : {A : Type 0} (reply : Reply P T A I G) → new ≡ s.tree → Outcome r s.tree new (told_effect reply) back 0 Of Keeps
+  module _ {back : Bool} {Of : ℕ × ℕ → Type 0} {Keeps InOrder : Type 0} where
+    still : {A : Type 0} (reply : Reply P T A I G) → new ≡ s.tree → Outcome r s.tree new (told_effect reply) back 0 Of Keeps InOrder
     still reply same =
-        record { affects = alike reply (ap (λ t. t.shape) same); raised = λ _. ap (λ t. t.list.generation) same; change = λ _. stays (ap (λ t. t.list.entries) same) }
+        record {
+          affects = alike reply (ap (λ t. t.shape) same);
+          raised = λ _. ap (λ t. t.list.generation) same;
+          change = λ _. stays (ap (λ t. t.list.entries) same);
+          ordered = λ _ _ _. in_order_as (ap (λ t. t.list.entries) same);
+        }
 
-    lost : (i : ℕ) → IsTakenOut r.greatest s.tree i new → Spares s.tree.list Of i → Outcome r s.tree new removes back 1 Of Keeps
+    lost : (i : ℕ) → IsTakenOut r.greatest s.tree i new → Spares s.tree.list Of i → Outcome r s.tree new removes back 1 Of Keeps InOrder
     lost i is spares =
-        record { affects = inl is.1.rank_changes; raised = λ _. ap (λ c. c.generation) is.0; change = λ _. leaves i (ap (λ c. c.entries) is.0) (omega arith) spares }
+        record {
+          affects = inl is.1.rank_changes;
+          raised = λ _. ap (λ c. c.generation) is.0;
+          change = λ _. leaves i (ap (λ c. c.entries) is.0) (omega arith) spares;
+          ordered = λ total _ _ order. in_order_as (ap (λ c. c.entries) is.0) (in_order-without r.key r.cmp total i es order);
+        }
+
+    -- the entry of a pointer goes to the place of its key
+    rekeyed : (q : ℕ × ℕ) (item : T) → IsSome (item_of es q) → Rekeys r.key r.cmp s.tree q item new → ((p : ℕ × ℕ) → Of p → q ≢ p) → (Keeps → ⊥)
+        → Outcome r s.tree new moves back 0 Of Keeps InOrder
+    rekeyed q item there does apart never = record {
+      affects = elim does.shape [ inl same ↦ inr same | inr rearranged ↦ inl rearranged.rank_changes ];
+      raised = λ _. ap (λ (c : Chain T). c.generation) does.kept;
+      change = λ distinct.
+          let updates = rekeys-updates r.key r.cmp s.tree new q item distinct there does in
+          rekeys q item there updates.changed updates.others (λ p of same. apart p of (sym same)) never;
+      ordered = λ total _ _ order. (rekeyed_order r.key r.cmp total).kept s.tree new q item order does;
+    }
 
     again : (q : ℕ × ℕ) → IsSome (item_of es q) → new ≡ record s.tree { list = renewed r.greatest s.tree.list q.0 } → ((p : ℕ × ℕ) → Of p → q ≢ p)
-        → Outcome r s.tree new keeps back 1 Of Keeps
+        → Outcome r s.tree new keeps back 1 Of Keeps InOrder
     again q there is apart = record {
       affects = inl (ap (λ t. t.shape) is);
       raised = λ _. ap (λ t. t.list.generation) is;
       change = λ _. renews q.0 (rw is refl) (omega arith) (λ p here of. other_index es p q (apart p of) there here);
+      ordered = λ _ _ _. in_order_alike (ap (λ (t : Tree T). map (λ e. r.key e.item) t.list.entries) is ∙ keys-renewed r.key es q.0 _);
     }
 
     gone : {n : ℕ} → new.shape ≡ missing → new.list.entries ≡ [] → new.list.generation ≡ risen r.greatest n s.tree.list.generation → 0 < n
-        → IsOfNone Of → Outcome r s.tree new keeps back n Of Keeps
-    gone bare none raised some of_none = record { affects = inr bare; raised = λ _. raised; change = λ _. empties none some of_none }
+        → IsOfNone Of → Outcome r s.tree new keeps back n Of Keeps InOrder
+    gone bare none raised some of_none =
+        record { affects = inr bare; raised = λ _. raised; change = λ _. empties none some of_none; ordered = λ _ _ _ _. in_order_as none (in_order-none r.key r.cmp) }
 
     -- the list keeps its entries, and the tree its shape
     alone-raised : {n : ℕ} → new.shape ≡ s.tree.shape → new.list.entries ≡ es → new.list.generation ≡ risen r.greatest n s.tree.list.generation
-        → Outcome r s.tree new keeps back n Of Keeps
-    alone-raised same is raised = record { affects = inl same; raised = λ _. raised; change = λ _. stays is }
+        → Outcome r s.tree new keeps back n Of Keeps InOrder
+    alone-raised same is raised = record { affects = inl same; raised = λ _. raised; change = λ _. stays is; ordered = λ _ _ _. in_order_as is }
 
-    kept : new ≡ s.tree → Outcome r s.tree new keeps back 0 Of Keeps
+    kept : new ≡ s.tree → Outcome r s.tree new keeps back 0 Of Keeps InOrder
     kept same = alone-raised (ap (λ t. t.shape) same) (ap (λ t. t.list.entries) same) (ap (λ t. t.list.generation) same)
 
-  module _ {A Keeps : Type 0} (growth : Growth) (aim : Aim K) (item : T) (by : GoesByKey r Keeps item aim) where
+  -- an insertion by a key
+  insertion_in_order : {InOrder : Type 0} (growth : Growth) (aim : Aim K) (item : T) → GoesInOrder r InOrder item aim
+      → (answer : Result (OrdEntryKind P × Option T) OrdInsertionError) → InsertsBy r.key r.cmp r.most growth aim r.pointer s.tree item answer new
+      → LeavesInOrder r InOrder s.tree.list new.list
+  insertion_in_order growth aim item goes answer inserts total distinct held order =
+      let by_key = goes total held in
+      kept_order r.pointer r.key r.cmp total r.most growth aim by_key.0 s.tree new item answer by_key.1 by_key.2 distinct order inserts
+
+  module _ {A Keeps InOrder : Type 0} (growth : Growth) (aim : Aim K) (item : T) (by : GoesByKey r Keeps item aim) (goes : GoesInOrder r InOrder item aim) where
     abbrev IsReply : Reply P T A I G → Type 0
     IsReply reply = Inserts r.key r.cmp r.most growth aim r.pointer s.tree item reply new
 
-    outcome-insertion : (reply : Reply P T A I G) → IsReply reply → Outcome r s.tree new (told_effect reply) false 0 (λ p. ReplacesAnother r p reply) Keeps
+    outcome-insertion : (reply : Reply P T A I G) → IsReply reply → Outcome r s.tree new (told_effect reply) false 0 (λ p. ReplacesAnother r p reply) Keeps InOrder
     outcome-insertion (Inserted (New q) None) does =
         let room = with_room_by growth r.most s.tree.list in
         let roomy = entries-with_room_by growth r.most s.tree.list in
@@ -225,6 +323,7 @@ module _ {P T I G K : Type 0} (r : Reading P T I G K) (s : State T) (new : Tree 
             list = after.0 ∙ ap (λ g. does.gap.front ++ record { index = i; generation = g; item = item } ∷ does.gap.back) era;
             free = ap (times i) (sym does.gap.cut) ∙ ap (times i) (sym roomy) ∙ does.inserted.vacant.free;
           }) aim does.place by;
+          ordered = insertion_in_order growth aim item goes (Ok (New q, None)) does;
         }
     outcome-insertion (Inserted (Replacing q) (Some before)) does =
         let e = does.entry in
@@ -236,6 +335,7 @@ module _ {P T I G K : Type 0} (r : Reading P T I G K) (s : State T) (new : Tree 
               writes e.index (e.generation, e.item) item here (ap (λ t. t.list.entries) does.after)
               (λ p there of. other_index es p (e.index, e.generation) (λ same. of (does.named ∙ same)) (ap is_some (there-found es (e.index, e.generation) e.item here)) there)
               (λ total keeps. replaced-alike total item aim e does.place (by total keeps));
+          ordered = insertion_in_order growth aim item goes (Ok (Replacing q, Some before)) does;
         }
     outcome-insertion (Refused refusal) does = kept does.after
     outcome-insertion reply does = absurd does
@@ -244,13 +344,14 @@ module _ {P T I G K : Type 0} (r : Reading P T I G K) (s : State T) (new : Tree 
   abbrev pub After : {A : Type 0} → Command P T I G K → Reply P T A I G → Type 0
   After command reply =
       Outcome r s.tree new (effect_of command reply) (resets command) (raises command reply) (λ p. IsOfOthers r p command reply) (KeepsApart r command)
+      (KeepsInOrder r command)
 
   pub outcome : {A F : Type 0} (asks : F → Shown T → F → Type 0) (f : F) (command : Command P T I G K) (reply : Reply P T A I G) (g : F)
       → Does r asks s f command reply new g → After command reply
-  outcome asks f (commands.Insert item) reply g does = outcome-insertion reallocating (at_key (r.key item)) item (λ total _. tied_itself total (r.key item)) reply does.0
-  outcome asks f (commands.InsertWithin item) reply g does = outcome-insertion within (at_key (r.key item)) item (λ total _. tied_itself total (r.key item)) reply does.0
-  outcome asks f (commands.Entry kind item) reply g does = outcome-insertion reallocating (aim_of r.index kind) item (λ _ by. by_kind kind item by) reply does.0
-  outcome asks f (commands.EntryWithin kind item) reply g does = outcome-insertion within (aim_of r.index kind) item (λ _ by. by_kind kind item by) reply does.0
+  outcome asks f (commands.Insert item) reply g does = outcome-insertion reallocating (at_key (r.key item)) item (λ total _. tied_itself total (r.key item)) (λ total _. (r.key item, inl refl, tied_itself total (r.key item))) reply does.0
+  outcome asks f (commands.InsertWithin item) reply g does = outcome-insertion within (at_key (r.key item)) item (λ total _. tied_itself total (r.key item)) (λ total _. (r.key item, inl refl, tied_itself total (r.key item))) reply does.0
+  outcome asks f (commands.Entry kind item) reply g does = outcome-insertion reallocating (aim_of r.index kind) item (λ _ by. by_kind kind item by) (λ _ by. in_order_by_kind kind item by) reply does.0
+  outcome asks f (commands.EntryWithin kind item) reply g does = outcome-insertion within (aim_of r.index kind) item (λ _ by. by_kind kind item by) (λ _ by. in_order_by_kind kind item by) reply does.0
   outcome asks f (commands.Set q item) (Item None) g does = kept does.0.1
   outcome asks f (commands.Set q item) (Item (Some before)) g does =
       let there : IsSome (item_of es (r.pointer q)) = ap is_some (sym does.0.0) in
@@ -260,8 +361,12 @@ module _ {P T I G K : Type 0} (r : Reading P T I G K) (s : State T) (new : Tree 
         raised = λ _. ap (λ t. t.list.generation) does.0.1;
         change = λ _. writes (r.pointer q).0 ((r.pointer q).1, found.0) item found.1 (ap (λ t. t.list.entries) does.0.1)
             (λ p here of. other_index es p (r.pointer q) of there here) (λ _ never. absurd never);
+        ordered = λ _ _ never. absurd never;
       }
   outcome asks f (commands.Set q item) reply g does = absurd does.0
+  outcome asks f (commands.Rekey q item) (Item None) g does = kept does.0.1
+  outcome asks f (commands.Rekey q item) (Item (Some before)) g does = rekeyed (r.pointer q) item (ap is_some (sym does.0.0)) does.0.1 (λ p of. of) (λ never. never)
+  outcome asks f (commands.Rekey q item) reply g does = absurd does.0
   outcome asks f (commands.Remove q) (Removed (Success taken)) g does =
       lost (r.pointer q).0 does.0.1.removed (λ p here of. other_index es p (r.pointer q) of (ap is_some (sym does.0.1.value)) here)
   outcome asks f (commands.Remove q) (Removed (GenerationOverflow taken)) g does =
@@ -288,6 +393,7 @@ module _ {P T I G K : Type 0} (r : Reading P T I G K) (s : State T) (new : Tree 
     change = λ _. relays (λ i e found. generation-relocated es _ es i e (ap (λ (c : Chain T). entry_at c.entries i) (sym does.0.0) ∙ found)
         ∙ sym (ap (λ c. c.generation) does.0.0))
         (ap (λ (c : Chain T). map (λ e. r.key e.item) c.entries) does.0.0 ∙ keys-relocated r.key es es _) (omega arith) (λ p of. of);
+    ordered = λ _ _ _. in_order_alike (ap (λ (c : Chain T). map (λ e. r.key e.item) c.entries) does.0.0 ∙ keys-relocated r.key es es _);
   }
   outcome asks f (commands.Compress reset) reply g does = absurd does.0
   outcome asks f (commands.Canonical reset) (Changed result) g does = record {
@@ -296,6 +402,7 @@ module _ {P T I G K : Type 0} (r : Reading P T I G K) (s : State T) (new : Tree 
     change = λ _. relays (λ i e found. generation-numbered _ 1 (map (λ e. e.item) es) i e (ap (λ (c : Chain T). entry_at c.entries i) (sym does.0.0) ∙ found)
         ∙ sym (ap (λ c. c.generation) does.0.0))
         (ap (λ (c : Chain T). map (λ e. r.key e.item) c.entries) does.0.0 ∙ keys-numbered r.key es _ 1) (omega arith) (λ p of. of);
+    ordered = λ _ _ _. in_order_alike (ap (λ (c : Chain T). map (λ e. r.key e.item) c.entries) does.0.0 ∙ keys-numbered r.key es _ 1);
   }
   outcome asks f (commands.Canonical reset) reply g does = absurd does.0
   outcome asks f (commands.Reserve n) Done g does =

@@ -1,5 +1,5 @@
 -- The account of rank changes along a run.
-use Rattle.std.proofs.Common.{◌≡◌, ℕ, ◌+◌, ◌≤◌, inl, inr, Option, List, [], ◌∷◌, length, refl, sym, ap, subst, ◌∙◌, arith}
+use Rattle.std.proofs.Common.{◌≡◌, ℕ, ◌+◌, ◌≤◌, inl, inr, Option, Some, List, [], ◌∷◌, length, refl, sym, ap, subst, ◌∙◌, arith}
 use Rattle.std.proofs.lemmas.List.{length-map}
 use Rattle.std.specs.List.{AllByRecursion}
 use Rattle.chain_base.specs.Chain.{IsSound}
@@ -9,8 +9,8 @@ use Rattle.ord_tree.specs.{Slots.times, Slots.times_in}
 use Rattle.triple_ord.specs.ClosureSearch.{Shown}
 use Rattle.triple_ord.specs.declared.entry_kind.OrdEntryKind.TheVariants.{New}
 use Rattle.arena_base.specs.declared.invalidation.InvalidationResult.TheVariants.{Success, GenerationOverflow}
-use Rattle.ord_machine.specs.declared.reply.Reply.TheVariants.{Inserted, Removed}
-use Rattle.ord_machine.specs.Machine.{Reading, State, Runs, Effect, adds, removes, rebuilds, keeps, told_effect, effect_of}
+use Rattle.ord_machine.specs.declared.reply.Reply.TheVariants.{Inserted, Item, Removed}
+use Rattle.ord_machine.specs.Machine.{Reading, State, Runs, Effect, adds, removes, moves, rebuilds, keeps, told_effect, effect_of}
 use Rattle.ord_machine.specs.RankChanges.{allowance, KeepsTree, allowance_of, CountsRankChanges, RankChangesLaw}
 use Rattle.ord_machine.specs.{declared.command.Command.Command, declared.reply.Reply.Reply}
 use Rattle.ord_machine.specs.declared.command.Command.TheVariants as commands
@@ -36,6 +36,8 @@ within_allowance adds old new built single affects =
     elim affects.1 [ inl within ↦ within | inr same ↦ subst (λ (s : Shape). ChangesRanksWithin 4 old s) (sym same) (unchanged 4 old single) ]
 within_allowance removes old new built single affects =
     elim affects [ inl within ↦ within | inr same ↦ subst (λ (s : Shape). ChangesRanksWithin 9 old s) (sym same) (unchanged 9 old single) ]
+within_allowance moves old new built single affects =
+    elim affects [ inl within ↦ within | inr same ↦ subst (λ (s : Shape). ChangesRanksWithin 14 old s) (sym same) (unchanged 14 old single) ]
 within_allowance rebuilds old new built single affects = absurd (built refl)
 within_allowance keeps old new built single (inl same) = subst (λ (s : Shape). ChangesRanksWithin 0 old s) (sym same) (unchanged 0 old single)
 within_allowance keeps old new built single (inr none) = subst (λ (s : Shape). ChangesRanksWithin 0 old s) (sym none) ([], omega arith, λ i k l a b. elim b [ ])
@@ -50,6 +52,7 @@ module _ {P T I G A : Type 0} where
   not_rebuilt : {K : Type 0} (command : Command P T I G K) (reply : Reply P T A I G) → KeepsTree command → effect_of command reply ≡ rebuilds → ⊥
   not_rebuilt (commands.Compress reset) reply stays e = stays
   not_rebuilt (commands.Canonical reset) reply stays e = stays
+  not_rebuilt (commands.Rekey p item) (Item (Some before)) stays e = cc
   not_rebuilt command reply stays e = not_told reply e
 
 module _ {P T I G A F K : Type 0} (r : Reading P T I G K) (asks : F → Shown T → F → Type 0) (new : State T) (g : F) where

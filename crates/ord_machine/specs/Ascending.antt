@@ -13,11 +13,13 @@ module _ {P T I G K : Type 0} (r : Reading P T I G K) where
   IsPlacedByKey (Linear i num k) item = r.cmp k (r.key item) ≡ Equal
   IsPlacedByKey kind item = ⊥
 
-  -- a command that lets no two entries have equal keys, and no two change places: any but `Set` and an insertion by another kind
+  -- a command that lets no two entries have equal keys, and no two change places: any but `Set`, `Rekey` and an insertion by another kind
   abbrev pub KeepsApart : Command P T I G K → Type 0
   KeepsApart (commands.Entry kind item) = IsPlacedByKey kind item
   KeepsApart (commands.EntryWithin kind item) = IsPlacedByKey kind item
   KeepsApart (commands.Set p item) = ⊥
+  -- the entry may go behind one with an equal key
+  KeepsApart (commands.Rekey p item) = ⊥
   KeepsApart command = Unit {0}
 
 -- After a run of such commands from a state without entries, each key is less than those after it.

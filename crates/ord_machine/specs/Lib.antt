@@ -3,4 +3,5 @@ pub mod Machine
 pub mod Laws
 pub mod Pointers
 pub mod Ascending
+pub mod InOrder
 pub mod RankChanges

@@ -14,7 +14,7 @@ use Rattle.triple_ord.specs.{Insertion.Growth, Insertion.within, Insertion.reall
 use Rattle.triple_ord.specs.{ClosureSearch.Shown, ClosureSearch.FindsWith, ClosureSearch.FindsSimilarWith, Order.IsInOrder}
 use Rattle.triple_ord.specs.{declared.error.OrdInsertionError.OrdInsertionError, declared.entry_kind.OrdEntryKind.TheVariants.New}
 use Rattle.triple_ord.specs.{declared.entry_kind.OrdEntryKind.OrdEntryKind, Place.Aim, Place.at_key, Place.aim_of}
-use Rattle.triple_ord.specs.Search.{FindsKey, FindsSimilar}
+use Rattle.triple_ord.specs.{Rekey.Rekeys, Search.FindsKey, Search.FindsSimilar}
 use Rattle.ord_machine.specs.declared.reply.Reply.TheVariants.{Inserted, Refused, Found, Similar, Count, Item, Removed, Renewed, Changed, At, Links, Entries, Ranks, Done, ReductionRefused, Sorted, Stats}
 use Rattle.ord_machine.specs.{declared.command.Command.Command, declared.reply.Reply.Reply}
 use Rattle.ord_machine.specs.declared.command.Command.TheVariants as commands
@@ -45,10 +45,11 @@ pub record Marks : Type 0 where
   -- no entry has come or gone since there was none, or since the last rebuild
   pub just_built : Bool
 
--- what a step does to the entries: one more comes, one goes, the tree over them is built anew, or none of these
+-- what a step does to the entries: one more comes, one leaves, one goes to another place, the tree over them is built anew, or none of these
 pub data Effect : Type 0 where
   adds : Effect
   removes : Effect
+  moves : Effect
   rebuilds : Effect
   keeps : Effect
 
@@ -56,6 +57,7 @@ pub data Effect : Type 0 where
 abbrev pub marked_by : Effect → Marks → Marks
 marked_by adds marks = record { only_inserted = marks.only_inserted; just_built = false }
 marked_by removes marks = record { only_inserted = false; just_built = false }
+marked_by moves marks = record { only_inserted = false; just_built = false }
 marked_by rebuilds marks = record { only_inserted = false; just_built = true }
 marked_by keeps marks = marks
 
@@ -173,6 +175,13 @@ module _ {P T I G A : Type 0} where
       (before ≡ item_of old.list.entries (pointer p))
       × MatchOption before (new ≡ old) (λ _. new ≡ with_item old (pointer p).0 item)
   Sets pointer old p item reply new = ⊥
+
+  -- the entry under a pointer gets another item and goes to the place of its key; the pointer stays
+  abbrev pub MovesToKey : {K : Type 0} → (T → K) → (K → K → Ordering) → (P → ℕ × ℕ) → Tree T → P → T → Reply P T A I G → Tree T → Type 0
+  MovesToKey key cmp pointer old p item (Item before) new =
+      (before ≡ item_of old.list.entries (pointer p))
+      × MatchOption before (new ≡ old) (λ _. Rekeys key cmp old (pointer p) item new)
+  MovesToKey key cmp pointer old p item reply new = ⊥
 
   -- the entry under a pointer, taken out
   abbrev pub Removes : Option ℕ → (P → ℕ × ℕ) → Tree T → P → Reply P T A I G → Tree T → Type 0
@@ -303,6 +312,7 @@ module _ {P T I G A : Type 0} where
   Replies r old (commands.EntryWithin kind item) reply new =
       Inserts r.key r.cmp r.most within (aim_of r.index kind) r.pointer old.tree item reply new
   Replies r old (commands.Set p item) reply new = Sets r.pointer old.tree p item reply new
+  Replies r old (commands.Rekey p item) reply new = MovesToKey r.key r.cmp r.pointer old.tree p item reply new
   Replies r old (commands.Remove p) reply new = Removes r.greatest r.pointer old.tree p reply new
   Replies r old (commands.RemoveInx i) reply new = RemovesAt r.greatest r.pointer old.tree (r.index i) reply new
   Replies r old (commands.Invalidate p) reply new = Renews r.greatest r.pointer old.tree p reply new
@@ -326,6 +336,7 @@ module _ {P T I G A : Type 0} where
   told_effect reply = keeps
 
   abbrev pub effect_of : {K : Type 0} → Command P T I G K → Reply P T A I G → Effect
+  effect_of (commands.Rekey p item) (Item (Some before)) = moves
   effect_of (commands.Compress reset) reply = rebuilds
   effect_of (commands.Canonical reset) reply = rebuilds
   effect_of command reply = told_effect reply

@@ -4,7 +4,7 @@ use Rattle.std.specs.{List.AllByRecursion, Option.ForSome}
 use Rattle.arena_base.specs.declared.invalidation.InvalidationResult.TheVariants.{Success, GenerationOverflow}
 use Rattle.chain_base.specs.Chain.{IsSound, entry_at, item_of}
 use Rattle.triple_ord.specs.{declared.entry_kind.OrdEntryKind.TheVariants.Replacing, ClosureSearch.Shown}
-use Rattle.ord_machine.specs.declared.reply.Reply.TheVariants.{Inserted, Removed, Renewed, Changed, Entries}
+use Rattle.ord_machine.specs.declared.reply.Reply.TheVariants.{Inserted, Item, Removed, Renewed, Changed, Entries}
 use Rattle.ord_machine.specs.{Machine.Reading, Machine.State, Machine.Runs, declared.command.Command.Command, declared.reply.Reply.Reply}
 use Rattle.ord_machine.specs.declared.command.Command.TheVariants as commands
 
@@ -71,7 +71,7 @@ module _ {P T I G A K : Type 0} (r : Reading P T I G K) (p : ℕ × ℕ) where
   ReplacesAnother (Inserted (Replacing q) before) = r.pointer q ≢ p
   ReplacesAnother reply = Unit {0}
 
-  -- a command, with its reply, that is to other entries than that of the pointer: it writes, takes out and renews none or another,
+  -- a command, with its reply, that is to other entries than that of the pointer: it writes, moves, takes out and renews none or another,
   -- and it doesn't take all out or give all another pointer
   abbrev pub IsOfOthers : Command P T I G K → Reply P T A I G → Type 0
   IsOfOthers (commands.Insert item) reply = ReplacesAnother reply
@@ -79,6 +79,7 @@ module _ {P T I G A K : Type 0} (r : Reading P T I G K) (p : ℕ × ℕ) where
   IsOfOthers (commands.Entry kind item) reply = ReplacesAnother reply
   IsOfOthers (commands.EntryWithin kind item) reply = ReplacesAnother reply
   IsOfOthers (commands.Set q item) reply = r.pointer q ≢ p
+  IsOfOthers (commands.Rekey q item) reply = r.pointer q ≢ p
   IsOfOthers (commands.Remove q) reply = r.pointer q ≢ p
   IsOfOthers (commands.RemoveInx i) reply = r.index i ≢ p.0
   IsOfOthers (commands.Invalidate q) reply = r.pointer q ≢ p
@@ -99,3 +100,12 @@ KeptPointerLaw P T I G A K {F} asks =
     (r : Reading P T I G K) (old new : State T) (f g : F) (asked : List (Command P T I G K)) (told : List (Reply P T A I G)) (p : ℕ × ℕ)
     → IsSound r.most r.greatest old.tree.list → AreOfOthers r p asked told → Runs r asks old f asked told new g
     → IsSome (item_of old.tree.list.entries p) → item_of new.tree.list.entries p ≡ item_of old.tree.list.entries p
+
+-- An entry that is rekeyed keeps its pointer: directly afterwards, and after any commands to other entries, the pointer names the new item.
+abbrev pub RekeyedPointerLaw : (P T I G A K : Type 0) {F : Type 0} → (F → Shown T → F → Type 0) → Type 0
+RekeyedPointerLaw P T I G A K {F} asks =
+    (r : Reading P T I G K) (old new : State T) (f g : F) (p : P) (item before : T)
+    (asked : List (Command P T I G K)) (told : List (Reply P T A I G))
+    → IsSound r.most r.greatest old.tree.list → AreOfOthers r (r.pointer p) asked told
+    → Runs r asks old f (commands.Rekey p item ∷ asked) (Item (Some before) ∷ told) new g
+    → item_of new.tree.list.entries (r.pointer p) ≡ Some item

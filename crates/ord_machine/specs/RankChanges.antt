@@ -4,14 +4,15 @@ use Rattle.std.specs.List.{AllByRecursion}
 use Rattle.chain_base.specs.Chain.{IsSound}
 use Rattle.ord_tree.specs.{Tree.IsSoundTree, Potential.NamesRankChanges}
 use Rattle.triple_ord.specs.ClosureSearch.{Shown}
-use Rattle.ord_machine.specs.Machine.{Reading, State, Step, Runs, Effect, adds, removes, rebuilds, keeps, effect_of}
+use Rattle.ord_machine.specs.Machine.{Reading, State, Step, Runs, Effect, adds, removes, moves, rebuilds, keeps, effect_of}
 use Rattle.ord_machine.specs.{declared.command.Command.Command, declared.reply.Reply.Reply}
 use Rattle.ord_machine.specs.declared.command.Command.TheVariants as commands
 
--- how many rank changes a step adds to the bound: 4 for a new entry, 9 for a removal
+-- how many rank changes a step adds to the bound: 4 for a new entry, 9 for a removal, 14 for an entry that goes to another place
 abbrev pub allowance : Effect → ℕ
 allowance adds = 4
 allowance removes = 9
+allowance moves = 14
 allowance rebuilds = 0
 allowance keeps = 0
 
@@ -22,7 +23,7 @@ KeepsTree (commands.Canonical reset) = ⊥
 KeepsTree command = Unit {0}
 
 module _ {P T I G A : Type 0} where
-  -- the sum over all steps: 4m + 9d for m new entries and d removals
+  -- the sum over all steps: 4m + 9d + 14k for m new entries, d removals and k entries that go to another place
   abbrev pub allowance_of : {K : Type 0} → List (Command P T I G K) → List (Reply P T A I G) → ℕ
   allowance_of (command ∷ commands) (reply ∷ replies) = allowance (effect_of command reply) + allowance_of commands replies
   allowance_of commands replies = 0
@@ -39,8 +40,8 @@ module _ {P T I G A F : Type 0} where
   CountsRankChanges r asks old f [] (reply ∷ replies) new g count = ⊥
   CountsRankChanges r asks old f (command ∷ commands) [] new g count = ⊥
 
--- Every run from a sound tree without a rebuild can be counted: at most 4 rank changes for each new entry, 9 for each removal, and 3 for
--- each entry that was there at first.
+-- Every run from a sound tree without a rebuild can be counted: at most 4 rank changes for each new entry, 9 for each removal, 14 for
+-- each entry that goes to another place, and 3 for each entry that was there at first.
 abbrev pub RankChangesLaw : (P T I G A K : Type 0) {F : Type 0} → (F → Shown T → F → Type 0) → Type 0
 RankChangesLaw P T I G A K {F} asks =
     (r : Reading P T I G K) (old new : State T) (f g : F) (asked : List (Command P T I G K)) (told : List (Reply P T A I G))

@@ -15,6 +15,8 @@ pub enum Command<P: Ptr, T: SimpleOrdItem> {
     EntryWithin(OrdInsertKind<P, T::Key>, T),
     /// Gives the entry that the pointer names another item, whatever its key.
     Set(P, T),
+    /// Gives the entry that the pointer names another item, and moves it to the place of the item's key. The entry keeps its pointer.
+    Rekey(P, T),
     /// Takes the entry that the pointer names out.
     Remove(P),
     /// Takes the entry at the index out.

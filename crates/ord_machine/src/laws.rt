@@ -2,8 +2,9 @@
 
 ghost use Rattle.triple_ord.specs.ClosureSearch.{Asks};
 ghost use Rattle.ord_machine.specs.Ascending.{AscendingKeysLaw};
+ghost use Rattle.ord_machine.specs.InOrder.{OrderedKeysLaw};
 ghost use Rattle.ord_machine.specs.Laws.{FirstRankLaw};
-ghost use Rattle.ord_machine.specs.Pointers.{EndedPointerLaw, KeptPointerLaw};
+ghost use Rattle.ord_machine.specs.Pointers.{EndedPointerLaw, KeptPointerLaw, RekeyedPointerLaw};
 ghost use Rattle.ord_machine.specs.RankChanges.{RankChangesLaw};
 
 use arena_base::Ptr;
@@ -16,10 +17,15 @@ pub fn first_rank_law<P: Ptr, T: SimpleOrdItem, F: FnMut(P, &T) -> Ordering, A: 
     ensures { FirstRankLaw P T P.Inx P.Gen A T.Key (Asks P.numbers F.step) }
 {}
 
-/// A pointer names the same item through every insertion, replacement, removal and renewal of other entries, and through all that only
-/// asks or changes the capacity or the generation: only a call to its own entry, or to all entries, ends or renews it.
+/// A pointer names the same item through every insertion, replacement, move, removal and renewal of other entries, and through all that
+/// only asks or changes the capacity or the generation: only a call to its own entry, or to all entries, ends or renews it.
 pub fn kept_pointer_law<P: Ptr, T: SimpleOrdItem, F: FnMut(P, &T) -> Ordering, A: Allocator>()
     ensures { KeptPointerLaw P T P.Inx P.Gen A T.Key (Asks P.numbers F.step) }
+{}
+
+/// An entry that is rekeyed keeps its pointer: directly afterwards, and after any commands to other entries, the pointer names the new item.
+pub fn rekeyed_pointer_law<P: Ptr, T: SimpleOrdItem, F: FnMut(P, &T) -> Ordering, A: Allocator>()
+    ensures { RekeyedPointerLaw P T P.Inx P.Gen A T.Key (Asks P.numbers F.step) }
 {}
 
 /// A pointer that ceased to name an entry names none ever again, as long as no entry's generation is above the arena's at the
@@ -34,8 +40,17 @@ pub fn ascending_keys_law<P: Ptr, T: SimpleOrdItem, F: FnMut(P, &T) -> Ordering,
     ensures { AscendingKeysLaw P T P.Inx P.Gen A T.Key (Asks P.numbers F.step) }
 {}
 
-/// The ranks of old entries change at most 4m + 9d + 3n times in a run of m insertions of new entries and d removals that begins with
-/// n entries and has no compression: the amortized bound of rank-balanced trees (Haeupler, Sen and Tarjan, 2015).
+/// Keys are in order after any run from an arena whose keys are in order, equal keys included, as long as no command is `Set`, and each
+/// insertion is by the item's key, or of a kind that goes by a key that the item's is equal to.
+///
+/// `Rekey` leaves them in order, whatever the keys: its entry goes to the place of the new key.
+pub fn ordered_keys_law<P: Ptr, T: SimpleOrdItem, F: FnMut(P, &T) -> Ordering, A: Allocator>()
+    ensures { OrderedKeysLaw P T P.Inx P.Gen A T.Key (Asks P.numbers F.step) }
+{}
+
+/// The ranks of old entries change at most 4m + 9d + 14k + 3n times in a run of m insertions of new entries, d removals and k entries that
+/// are rekeyed, if it begins with n entries and has no compression: the amortized bound of rank-balanced trees (Haeupler, Sen and Tarjan,
+/// 2015).
 ///
 /// A run that begins without entries has n = 0, and a run after a rebuild begins with the entries that were rebuilt. An insertion that
 /// replaces an item changes no rank, and neither does a command that only asks.

@@ -106,6 +106,7 @@ where
         Command::Entry(kind, item) => steps::entry(arena, &kind, item),
         Command::EntryWithin(kind, item) => steps::entry_within(arena, &kind, item),
         Command::Set(p, item) => steps::set(arena, p, item),
+        Command::Rekey(p, item) => steps::rekey(arena, p, item),
         Command::Remove(p) => steps::remove(arena, p),
         Command::RemoveInx(i) => steps::remove_inx(arena, i),
         Command::Invalidate(p) => steps::invalidate(arena, p),

@@ -7,7 +7,7 @@ ghost use Rattle.triple_ord.specs.ClosureSearch.{Asks};
 ghost use Rattle.triple_ord.specs.Insertion.{within, reallocating, told};
 ghost use Rattle.triple_ord.specs.Place.{at_key, aim_of};
 ghost use Rattle.ord_tree.specs.Ranks.{HasRank};
-ghost use Rattle.ord_machine.specs.Machine.{Marks, AreTrue, Inserts, insertion_reply, Sets, Removes, RemovesAt, Renews, Changes, Rebuilds, Reserves, SetsMaximum, Finds, FindsFrom, FindsNear, FindsNearFrom, AnswersWith, AnswersSimilarWith, Visits, Gets, IsEnd, HasNeighbours, Lists, entry_of, Ranked, HaveRanks, Drains, removed_each, Checks, Counts};
+ghost use Rattle.ord_machine.specs.Machine.{Marks, AreTrue, Inserts, insertion_reply, Sets, MovesToKey, Removes, RemovesAt, Renews, Changes, Rebuilds, Reserves, SetsMaximum, Finds, FindsFrom, FindsNear, FindsNearFrom, AnswersWith, AnswersSimilarWith, Visits, Gets, IsEnd, HasNeighbours, Lists, entry_of, Ranked, HaveRanks, Drains, removed_each, Checks, Counts};
 
 use crate::reply::Reply;
 use arena_base::{ItemsMut, Ptr, ReallocationError};
@@ -113,6 +113,17 @@ pub fn set<P: Ptr, T: Drop, A: Allocator>(
     let pair = arena.pair_mut(p.inx());
     let held = pair.1;
     Reply::Item(Some(mem::replace(held, item)))
+}
+
+/// `Command::Rekey`
+pub fn rekey<P: Ptr, T: SimpleOrdItem + Drop, A: Allocator>(
+    arena: &mut SimpleOrdArena<P, T, A>,
+    p: P,
+    item: T,
+) -> Reply<P, T, A>
+    ensures { MovesToKey T.key_of T.Key.cmp P.numbers arena.old p item result arena.new }
+{
+    Reply::Item(arena.rekey(p, item).ok())
 }
 
 /// `Command::Remove`

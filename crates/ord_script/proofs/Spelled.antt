@@ -86,6 +86,7 @@ said_by-spelled (commands.InsertWithin p) sayable range = taken commands.InsertW
 said_by-spelled (commands.Entry kind pair) sayable range = said_by-entry kind pair sayable.0 range
 said_by-spelled (commands.EntryWithin kind pair) sayable range = absurd sayable
 said_by-spelled (commands.Set p item) sayable range = taken (λ a. commands.Set a.0 a.1) (both-reads (pointer-reads p) (pair-reads item)) range
+said_by-spelled (commands.Rekey p item) sayable range = taken (λ a. commands.Rekey a.0 a.1) (both-reads (pointer-reads p) (pair-reads item)) range
 said_by-spelled (commands.Remove p) sayable range = taken commands.Remove (pointer-reads p) range
 said_by-spelled (commands.RemoveInx i) sayable range = taken commands.RemoveInx (index-reads i) range
 said_by-spelled (commands.Invalidate p) sayable range = taken commands.Invalidate (pointer-reads p) range

@@ -22,6 +22,7 @@ word_text words.Before = codes "before"
 word_text words.At = codes "at"
 word_text words.After = codes "after"
 word_text words.Set = codes "set"
+word_text words.Rekey = codes "rekey"
 word_text words.Remove = codes "remove"
 word_text words.RemoveInx = codes "remove-index"
 word_text words.Invalidate = codes "invalidate"
@@ -50,8 +51,8 @@ word_text words.Stats = codes "stats"
 abbrev pub all_words : List Word
 all_words =
     words.Insert ∷ words.Within ∷ words.Empty ∷ words.Nonhereditary ∷ words.Linear ∷ words.NonhereditaryLinear
-    ∷ words.Before ∷ words.At ∷ words.After ∷ words.Set ∷ words.Remove ∷ words.RemoveInx ∷ words.Invalidate ∷ words.Clear ∷ words.IncGeneration
-    ∷ words.Compress ∷ words.Canonical ∷ words.Find ∷ words.FindLinear ∷ words.Similar ∷ words.SimilarLinear
+    ∷ words.Before ∷ words.At ∷ words.After ∷ words.Set ∷ words.Rekey ∷ words.Remove ∷ words.RemoveInx ∷ words.Invalidate ∷ words.Clear
+    ∷ words.IncGeneration ∷ words.Compress ∷ words.Canonical ∷ words.Find ∷ words.FindLinear ∷ words.Similar ∷ words.SimilarLinear
     ∷ words.Visits ∷ words.Get ∷ words.First ∷ words.Last ∷ words.Neighbours ∷ words.List ∷ words.Ranks
     ∷ words.Check ∷ words.Reserve ∷ words.SetMax ∷ words.DrainOrdered ∷ words.Stats ∷ []
 
@@ -92,6 +93,10 @@ entry_beside order a = commands.Entry (kinds.Manual a.0 order) a.1
 abbrev pub set : Pointer × Pair → PairCommand
 set a = commands.Set a.0 a.1
 
+-- and so that the entry goes to the place of the item's key
+abbrev pub rekey : Pointer × Pair → PairCommand
+rekey a = commands.Rekey a.0 a.1
+
 -- searches from a hint: the entry that a pointer names, or the one at an index, and a number of steps
 abbrev pub find_linear : Pointer × (ℕ × ℤ) → PairCommand
 find_linear a = commands.FindLinear a.0 a.1.0 a.1.1
@@ -118,6 +123,7 @@ command_by words.Before = taking index_and_pair (entry_beside Less)
 command_by words.At = taking index_and_pair (entry_beside Equal)
 command_by words.After = taking index_and_pair (entry_beside Greater)
 command_by words.Set = taking (both (one pointer_of) key_and_value) set
+command_by words.Rekey = taking (both (one pointer_of) key_and_value) rekey
 command_by words.Remove = taking (one pointer_of) commands.Remove
 command_by words.RemoveInx = taking (one index_of) commands.RemoveInx
 command_by words.Invalidate = taking (one pointer_of) commands.Invalidate
@@ -157,6 +163,7 @@ word_of (commands.Entry (kinds.Manual index Greater) pair) = words.After
 word_of (commands.Entry (kinds.Normal key) pair) = words.Insert
 word_of (commands.EntryWithin kind pair) = words.Within
 word_of (commands.Set pointer pair) = words.Set
+word_of (commands.Rekey pointer pair) = words.Rekey
 word_of (commands.Remove pointer) = words.Remove
 word_of (commands.RemoveInx index) = words.RemoveInx
 word_of (commands.Invalidate pointer) = words.Invalidate

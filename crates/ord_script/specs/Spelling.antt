@@ -65,6 +65,7 @@ saying_of (commands.Entry (kinds.Manual i Greater) pair) = record { word = codes
 saying_of (commands.Entry (kinds.Normal k) pair) = record { word = codes "insert"; arguments = [] }
 saying_of (commands.EntryWithin kind pair) = record { word = codes "within"; arguments = [] }
 saying_of (commands.Set p pair) = record { word = codes "set"; arguments = pointer p ∷ pair_arguments pair }
+saying_of (commands.Rekey p pair) = record { word = codes "rekey"; arguments = pointer p ∷ pair_arguments pair }
 saying_of (commands.Remove p) = record { word = codes "remove"; arguments = pointer p ∷ [] }
 saying_of (commands.RemoveInx i) = record { word = codes "remove-index"; arguments = index i ∷ [] }
 saying_of (commands.Invalidate p) = record { word = codes "invalidate"; arguments = pointer p ∷ [] }

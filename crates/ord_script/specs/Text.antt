@@ -50,6 +50,7 @@ Adds result old new bytes = OnOk result (string_bytes new ≡ string_bytes old +
 -- how the reply to a command is told
 abbrev pub form_of : PairCommand → Form
 form_of (commands.Set p item) = Replaced
+form_of (commands.Rekey p item) = Replaced
 form_of (commands.RemoveInx i) = WithPointer
 form_of commands.Clear = Cleared
 form_of (commands.DrainOrdered num) = Drained

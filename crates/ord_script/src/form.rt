@@ -10,7 +10,7 @@ use std::alloc::{AllocError, Allocator};
 #[derive(Clone, Copy, Debug)]
 pub enum Form {
     Plain,
-    /// `Command::Set`: the item is the old one.
+    /// `Command::Set`, `Command::Rekey`: the item is the old one.
     Replaced,
     /// `Command::RemoveInx`: the item's pointer is told too.
     WithPointer,
@@ -38,7 +38,7 @@ fn form_of(command: &PairCommand) -> Form
     ensures { result ≡ form_of command.now }
 {
     match command {
-        Command::Set(_, _) => Form::Replaced,
+        Command::Set(_, _) | Command::Rekey(_, _) => Form::Replaced,
         Command::RemoveInx(_) => Form::WithPointer,
         Command::Clear => Form::Cleared,
         Command::DrainOrdered(_) => Form::Drained,

@@ -1,6 +1,6 @@
 //! Reads the command that a line gives.
 ghost use Rattle.std.specs.Prelude.{◌≡◌};
-ghost use Rattle.ord_script.specs.Commands.{without_arguments, command_by, said_by, nonhereditary, linear, nonhereditary_linear, entry_beside, set, find_linear, similar_linear};
+ghost use Rattle.ord_script.specs.Commands.{without_arguments, command_by, said_by, nonhereditary, linear, nonhereditary_linear, entry_beside, set, rekey, find_linear, similar_linear};
 ghost use Rattle.ord_script.specs.Commands as spec;
 ghost use Rattle.ord_script.specs.Script.{words_of};
 
@@ -50,6 +50,7 @@ fn command_by(word: Word, arguments: Words<'_>) -> Result<PairCommand, FaultKind
         Word::At => Ok(entry_beside(Ordering::Equal, arguments_in(arguments)?)),
         Word::After => Ok(entry_beside(Ordering::Greater, arguments_in(arguments)?)),
         Word::Set => Ok(set(arguments_in(arguments)?)),
+        Word::Rekey => Ok(rekey(arguments_in(arguments)?)),
         Word::Remove => Ok(Command::Remove(arguments_in(arguments)?)),
         Word::RemoveInx => Ok(Command::RemoveInx(arguments_in(arguments)?)),
         Word::Invalidate => Ok(Command::Invalidate(arguments_in(arguments)?)),
@@ -121,6 +122,14 @@ fn set(arguments: (P0, Pair)) -> PairCommand
 {
     let (p, pair) = arguments;
     Command::Set(p, pair)
+}
+
+/// Another item for the entry that a pointer names, which goes to the place of the item's key.
+fn rekey(arguments: (P0, Pair)) -> PairCommand
+    ensures { result ≡ rekey arguments }
+{
+    let (p, pair) = arguments;
+    Command::Rekey(p, pair)
 }
 
 /// A search for a key from the entry that a pointer names.

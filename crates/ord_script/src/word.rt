@@ -15,6 +15,7 @@ pub enum Word {
     At,
     After,
     Set,
+    Rekey,
     Remove,
     RemoveInx,
     Invalidate,
@@ -41,7 +42,7 @@ pub enum Word {
 }
 
 /// All words.
-const WORDS: [Word; 33] = [
+const WORDS: [Word; 34] = [
     Word::Insert,
     Word::Within,
     Word::Empty,
@@ -52,6 +53,7 @@ const WORDS: [Word; 33] = [
     Word::At,
     Word::After,
     Word::Set,
+    Word::Rekey,
     Word::Remove,
     Word::RemoveInx,
     Word::Invalidate,
@@ -93,6 +95,7 @@ impl Word {
             Word::At => "at",
             Word::After => "after",
             Word::Set => "set",
+            Word::Rekey => "rekey",
             Word::Remove => "remove",
             Word::RemoveInx => "remove-index",
             Word::Invalidate => "invalidate",

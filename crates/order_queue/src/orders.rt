@@ -4,14 +4,14 @@ ghost use Rattle.std.specs.Prelude.{◌≡◌, ◌↔◌, Err, IfOk, OnErr, leng
 ghost use Rattle.std.specs.Ordering.{nat_cmp};
 ghost use Rattle.chain_base.specs.Chain.{chain_limit, IsSound};
 ghost use Rattle.triple_ord.specs.Insertion.{reallocating, InsertsNew};
-ghost use Rattle.triple_ord.specs.Place.{behind_key};
+ghost use Rattle.triple_ord.specs.Place.{aim_of, behind_key, kind_now};
 ghost use Rattle.order_queue.specs.Queue.{most_orders};
 ghost use Rattle.order_queue.specs.Layout.{rank_of, ranked, greatest_generation};
 
 use crate::side::Side;
 use std::alloc::Allocator;
 use triple_ord::{
-    OrdInsertKind, OrdInsertionError, OrdPair, P0, ReallocationError, SimpleOrdArena,
+    OrdInsertKind, OrdInsertionError, OrdPair, P0, Ptr, ReallocationError, SimpleOrdArena,
 };
 
 /// Quantities by the rank of the price.
@@ -24,6 +24,21 @@ pub(crate) fn ranked(side: Side, number: u64) -> u64
     match side {
         Side::Buy => u64::MAX - number,
         Side::Sell => number,
+    }
+}
+
+// Behind all ranks up to this one. The search compares the last rank first: for an order that trades last nothing more.
+#[inline(always)]
+fn kind_behind<'k, A: Allocator>(orders: &Orders<A>, rank: &'k u64) -> OrdInsertKind<P0, &'k u64>
+    ensures { aim_of (λ i. i) (kind_now result) ≡ behind_key rank.now }
+{
+    match orders.last() {
+        Some(last) => OrdInsertKind::NonhereditaryLinear {
+            p_init: last.inx(),
+            num: 1,
+            k: rank,
+        },
+        None => OrdInsertKind::Nonhereditary(rank),
     }
 }
 
@@ -44,7 +59,8 @@ pub(crate) fn put<A: Allocator>(
 {
     // with its length an arena tells what holds of its list
     let _ = orders.len();
-    match orders.entry_insert(OrdInsertKind::Nonhereditary(&rank)) {
+    let kind = kind_behind(orders, &rank);
+    match orders.entry_insert(kind) {
         Ok(entry) => {
             let p = entry.ptr().any();
             let _ = entry.insert(OrdPair::new(rank, quantity));

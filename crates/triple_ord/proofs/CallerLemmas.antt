@@ -253,6 +253,17 @@ module _ {T K : Type 0} (key : T → K) (cmp : K → K → Ordering) where
         go (over e) (Replacing p) before awaited there = absurd there
         go place shown before awaited there = absurd awaited.1
 
+    -- the same by what the kind goes by; behind a key it is a new entry
+    pub entry-inserts-by : (aim : Aim K) → aim_of number kind ≡ aim → InsertsThere numbers shown put arena item before new
+        → InsertsBy key cmp most growth aim numbers old item (Ok (shown, before)) new
+    entry-inserts-by aim is there =
+        subst (λ (a : Aim K). InsertsBy key cmp most growth a numbers old item (Ok (shown, before)) new) is (entry-inserts there)
+
+    pub entry-inserts-new : (k : K) → aim_of number kind ≡ behind_key k → InsertsThere numbers shown put arena item before new
+        → InsertsNew key cmp most growth (behind_key k) old item (numbers (pointer_of_kind shown)) new
+    entry-inserts-new k is there =
+        inserts-new key cmp most growth k numbers old item new (shown, before) (entry-inserts-by (behind_key k) is there)
+
   -- the same by the item's key, told by the pointer and the item that was replaced
   module _ {P I G : Type 0} (numbers : P → ℕ × ℕ) (number : I → ℕ) (growth : Growth) (most : ℕ) (old arena new : Tree T)
       (distinct : IsDistinct old.list.entries) (k : K) (shown : OrdEntryKind P) (put : Entry T → List (Entry T)) (visits : ℕ) (item : T)

@@ -316,7 +316,7 @@ met_next-map f met x o = grind (arith, common_steps)
 
 -- answers that differ were given at two entries
 module _ {T : Type 0} (shown : List (Shown T)) where
-  neighbours_shown : (low high : Option (Entry T)) → IfSome low (λ e. Contains shown (e, Greater)) → IfSome high (λ e. Contains shown (e, Less))
+  pub neighbours_shown : (low high : Option (Entry T)) → IfSome low (λ e. Contains shown (e, Greater)) → IfSome high (λ e. Contains shown (e, Less))
       → present low + present high ≤ length shown
   neighbours_shown (Some a) (Some b) l h = elim (cases_eq l.0 h.0) [
     | inl same ↦

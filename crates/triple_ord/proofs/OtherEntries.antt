@@ -1,10 +1,10 @@
 -- A search for the place of a key among all entries but one: what its answers say, and where it ends.
-use Rattle.triple_ord.proofs.Words.{◌≡◌, ◌≢◌, ℕ, false, ◌+◌, ◌≤◌, List, [], ◌∷◌, ◌++◌, Option, Some, None, IsSome, IfSome, refl, sym, ap, subst, ◌∙◌, arith, common_steps, inl, inr, append_assoc, option_map, cases_eq}
+use Rattle.triple_ord.proofs.Words.{◌≡◌, ◌≢◌, ℕ, false, ◌+◌, ◌-◌, ◌≤◌, length, List, [], ◌∷◌, ◌++◌, Option, Some, None, IsSome, IfSome, refl, sym, ap, subst, ◌∙◌, arith, common_steps, inl, inr, append_assoc, option_map, cases_eq}
 use Rattle.triple_ord.proofs.Words.{All, AllByRecursion, All-from_recursion, All-contains, FoldsTo, Contains, Contains-push, Link, link_at, entry_at}
-use Rattle.triple_ord.proofs.Words.{Entry, times, IsDistinct, times-append, Shape, Gap, first_of, last_of, pointer, order_to, taken, Passed, Ordering, Less, Equal, Greater, Shown, IsDescending, HasDescended, similar_of, is_eq}
+use Rattle.triple_ord.proofs.Words.{Entry, times, IsDistinct, times-append, Shape, Gap, first_of, last_of, present, pointer, order_to, taken, Passed, Ordering, Less, Equal, Greater, Shown, IsDescending, HasDescended, similar_of, is_eq}
 use Rattle.triple_ord.proofs.Inserting.{begins, ends, last_of-append, no_last, link-read, entry_at-here}
 use Rattle.triple_ord.proofs.Without.{without-last, first-kept, last-kept}
-use Rattle.triple_ord.proofs.Descending.{cut_there, descent-empty}
+use Rattle.triple_ord.proofs.Descending.{cut_there, descent-empty, neighbours_shown}
 use Rattle.triple_ord.proofs.OrderLaws.{taken-less, taken-greater, passed-unequal}
 use Rattle.triple_ord.specs.Around.{last_item, order_behind, AnswersAround, EndsAround, FindsAround}
 use Rattle.chain_base.specs.Chain.{without}
@@ -13,6 +13,9 @@ use Rattle.chain_base.specs.Chain.{without}
 asked_all : {X : Type 0} (Q : X → Type 0) (xs : List X) (f g : Unit {0}) → FoldsTo {P = Unit {0}} (λ f s g. Q s) f xs g → AllByRecursion Q xs
 asked_all Q [] f g calls = tt
 asked_all Q (x ∷ xs) f g calls = (calls.1, asked_all Q xs calls.0 g calls.2)
+
+present-most : {X : Type 0} (o : Option X) → present o ≤ 1
+present-most o = grind (arith, common_steps)
 
 -- no such answer is Equal
 pub passed-test : {K : Type 0} (cmp : K → K → Ordering) (k other : K) → is_eq (taken Passed cmp k other) ≡ false
@@ -35,27 +38,25 @@ module _ {T : Type 0} (es : List (Entry T)) (distinct : IsDistinct es) (i g : �
       go None is = refl
       go (Some f) is = absurd (cc)
 
-  pub item_before : (j : ℕ) → l.prev ≡ Some j → (item : T) → option_map (λ x. x.1) (entry_at es j) ≡ Some item → Some item ≡ last_item front
-  item_before j some item there = go (last_of None front) refl (prev_is ∙ some)
+  -- the entry before stands at the index that the link names
+  before_at : (j : ℕ) → l.prev ≡ Some j → (f : Entry T) × (last_of None front ≡ Some f) × (entry_at es j ≡ Some (f.generation, f.item))
+  before_at j some = go (last_of None front) refl (prev_is ∙ some)
     where
-      go : (o : Option (Entry T)) → last_of None front ≡ o → option_map (λ e. e.index) o ≡ Some j → Some item ≡ option_map (λ e. e.item) o
+      go : (o : Option (Entry T)) → last_of None front ≡ o → option_map (λ e. e.index) o ≡ Some j → (f : Entry T) × (last_of None front ≡ Some f) × (entry_at es j ≡ Some (f.generation, f.item))
       go None is at = absurd (cc)
       go (Some f) is at =
           let index : f.index ≡ j = cc in
           let f_front = ends front f is in
           let f_cut : es ≡ f_front.0 ++ f ∷ (e ∷ back) = cut ∙ ap (λ xs. xs ++ e ∷ back) f_front.1 ∙ simp append_assoc in
-          sym there ∙ ap (option_map (λ (x : ℕ × T). x.1)) (ap (entry_at es) (sym index) ∙ entry_at-here es distinct f_front.0 f (e ∷ back) f_cut)
+          (f, is, ap (entry_at es) (sym index) ∙ entry_at-here es distinct f_front.0 f (e ∷ back) f_cut)
+
+  pub item_before : (j : ℕ) → l.prev ≡ Some j → (item : T) → option_map (λ x. x.1) (entry_at es j) ≡ Some item → Some item ≡ last_item front
+  item_before j some item there =
+      let f = before_at j some in
+      sym there ∙ ap (option_map (λ (x : ℕ × T). x.1)) f.2 ∙ sym (ap (option_map (λ (e : Entry T). e.item)) f.1)
 
   pub occupied_before : (j : ℕ) → l.prev ≡ Some j → IsSome (entry_at es j)
-  occupied_before j some = go (last_of None front) refl (prev_is ∙ some)
-    where
-      go : (o : Option (Entry T)) → last_of None front ≡ o → option_map (λ e. e.index) o ≡ Some j → IsSome (entry_at es j)
-      go None is at = absurd (cc)
-      go (Some f) is at =
-          let index : f.index ≡ j = cc in
-          let f_front = ends front f is in
-          let f_cut : es ≡ f_front.0 ++ f ∷ (e ∷ back) = cut ∙ ap (λ xs. xs ++ e ∷ back) f_front.1 ∙ simp append_assoc in
-          rw (← index, entry_at-here es distinct f_front.0 f (e ∷ back) f_cut) refl
+  occupied_before j some = rw (before_at j some).2 refl
 
 module _ {T K : Type 0} (key : T → K) (cmp : K → K → Ordering) (es : List (Entry T)) (distinct : IsDistinct es) (i : ℕ) (k : K) where
   abbrev Asked : Shown T → Type 0
@@ -121,9 +122,18 @@ module _ {T K : Type 0} (key : T → K) (cmp : K → K → Ordering) (es : List 
           | inr other ↦ rw (is, first-kept i (f ∷ ys) f other refl) (taken-less cmp k (key f.item) Passed (sym (less.other other)))
         ]
 
-    pub ends_around : (last : Option (Shown T)) → last_of None shown ≡ last → FindsAround key cmp es i k (similar_of last)
-    ends_around None none = rw none at (descent-empty es shape shown d (last_of None shown) refl)
-    ends_around (Some s) some =
+    -- the gap has no more neighbours once the entry is gone
+    present-front : (o : Option (Entry T)) → last_of None d.front ≡ o → present (last_of None (without i d.front)) ≤ present o
+    present-front None none = rw (no_last d.front none) (omega arith)
+    present-front (Some e) some = present-most (last_of None (without i d.front))
+
+    present-back : (xs : List (Entry T)) → d.back ≡ xs → present (first_of (without i d.back)) ≤ present (first_of xs)
+    present-back [] none = rw none (omega arith)
+    present-back (f ∷ ys) some = present-most (first_of (without i d.back))
+
+    pub ends_around : (c : ℕ) (last : Option (Shown T)) → length shown ≤ c → last_of None shown ≡ last → FindsAround key cmp es i k (similar_of last) c
+    ends_around c None few none = rw none at (descent-empty es shape shown d (last_of None shown) refl)
+    ends_around c (Some s) few some =
         let f = ends shown s some in
         let here : Asked s = All-contains Asked shown s asked (subst (λ xs. Contains xs s) (sym f.1) (Contains-push f.0 s)) in (
           s.0,
@@ -132,6 +142,13 @@ module _ {T K : Type 0} (key : T → K) (cmp : K → K → Ordering) (es : List 
             gap = record { front = d.front; back = d.back; cut = cut };
             at_most_before = low (last_of None d.front) refl;
             greater_after = high d.back refl;
+            seen = omega (
+              arith,
+              few,
+              neighbours_shown shown (last_of None d.front) (first_of d.back) d.greater_before d.less_after,
+              present-front (last_of None d.front) refl,
+              present-back d.back refl,
+            );
             beside = elim (rw some at d.last_beside) [
               | inl before ↦
                   let front = ends d.front s.0 before in
@@ -145,6 +162,8 @@ module _ {T K : Type 0} (key : T → K) (cmp : K → K → Ordering) (es : List 
 
   -- the way has come to its end
   pub descent-around : (shape : Shape) (before visits : ℕ) (last : Option ((ℕ × ℕ) × Ordering)) → HasDescended {F = Unit {0}} (λ f s g. Asked s) es shape before tt tt None visits last
-      → FindsAround key cmp es i k last
+      → FindsAround key cmp es i k last (visits - before)
   descent-around shape before visits last d =
-      rw d.last_is (ends_around shape d.shown d.descending (All-from_recursion Asked d.shown (asked_all Asked d.shown tt tt d.calls)) (last_of None d.shown) refl)
+      rw d.last_is
+      (ends_around shape d.shown d.descending (All-from_recursion Asked d.shown (asked_all Asked d.shown tt tt d.calls)) (visits - before) (last_of None d.shown)
+      (omega (arith, d.count)) refl)

@@ -24,7 +24,7 @@ module _ {T K : Type 0} (key : T → K) (cmp : K → K → Ordering) (total : Is
       (IsInOrder-rest key cmp f (g ∷ es) (IsInOrder-rest key cmp e (f ∷ g ∷ es) order))
 
   module _ (i : ℕ) where
-    in_order-without : (es : List (Entry T)) → IsInOrder key cmp es → IsInOrder key cmp (without i es)
+    pub in_order-without : (es : List (Entry T)) → IsInOrder key cmp es → IsInOrder key cmp (without i es)
     in_order-without [] order = order
     in_order-without (e ∷ []) order = elim (eqb_tells e.index i) [
       | inl h ↦ rw h.0 (IsInOrder-rest key cmp e [] order)

@@ -5,7 +5,7 @@ use Rattle.triple_ord.proofs.Words.{Entry, Chain, times, IsDistinct, entry_at, t
 use Rattle.triple_ord.proofs.Words.{Link, link_at, entry_at-link, insert_before, insert_after}
 use Rattle.triple_ord.proofs.Words.{Gap, first_of, last_of, before, after, Ordering, Less, Equal, Greater, Tree, with_item, put_on, cases_eq, item_of, item_if, count, Updates, entry_at-between, entry_at-between_other, length-between}
 use Rattle.triple_ord.proofs.CallerLemmas.{item_if-found}
-use Rattle.triple_ord.specs.{Rekey.Rekeys, Arena.FindSame}
+use Rattle.triple_ord.specs.{Rekey.RekeysCounted, Arena.FindSame}
 use Rattle.ord_tree.specs.{Move.IsRearranged, Tree.CanPutAt}
 use Rattle.triple_ord.proofs.Inserting.{begins, ends, with_item-here, puts-before, puts-after, entry_at-before, entry_at-after}
 use Rattle.triple_ord.proofs.Inserting.{StandsAt, stands, IsLinked, link-read, nowhere_else, entry_at-here, insert_before-here, insert_after-here}
@@ -14,8 +14,8 @@ use Rattle.triple_ord.proofs.Without.{without-absent, without-append, without-la
 use Rattle.triple_ord.specs.Around.{EndsAround, FindsAround}
 use Rattle.chain_base.specs.{Chain.without, Move.with_entry_moved, Move.list_with, Move.without_entry}
 
-module _ {T K : Type 0} (key : T → K) (cmp : K → K → Ordering) (es : List (Entry T)) (k : K) where
-  module _ (distinct : IsDistinct es) (p : ℕ × ℕ) (was : T) (there : entry_at es p.0 ≡ Some (p.1, was)) (item : T) (e : Entry T) (o : Ordering) (m : EndsAround key cmp es p.0 k e o) where
+module _ {T K : Type 0} (key : T → K) (cmp : K → K → Ordering) (es : List (Entry T)) (k : K) (c : ℕ) where
+  module _ (distinct : IsDistinct es) (p : ℕ × ℕ) (was : T) (there : entry_at es p.0 ≡ Some (p.1, was)) (item : T) (e : Entry T) (o : Ordering) (m : EndsAround key cmp es p.0 k c e o) where
     abbrev i : ℕ
     i = p.0
 
@@ -86,39 +86,42 @@ module _ {T K : Type 0} (key : T → K) (cmp : K → K → Ordering) (es : List 
         times-own i e es same = grind (arith, common_steps)
 
 module _ {T K : Type 0} (key : T → K) (cmp : K → K → Ordering) (old new : Tree T) (distinct : IsDistinct old.list.entries) (p : ℕ × ℕ) (item : T)
-    (named : IsSome (item_of old p)) (q : ℕ × ℕ) (o : Ordering) (found : FindsAround key cmp old.list.entries p.0 (key item) (Some (q, o))) where
+    (named : IsSome (item_of old p)) (q : ℕ × ℕ) (o : Ordering) (c : ℕ) (found : FindsAround key cmp old.list.entries p.0 (key item) (Some (q, o)) c) where
   has : (was : T) × (entry_at old.list.entries p.0 ≡ Some (p.1, was))
   has = item_if-found p.1 (entry_at old.list.entries p.0) named
 
   abbrev e : Entry T
   e = found.0
 
-  abbrev ended : EndsAround key cmp old.list.entries p.0 (key item) e o
+  abbrev ended : EndsAround key cmp old.list.entries p.0 (key item) c e o
   ended = found.2
 
   index_is : e.index ≡ q.0
   index_is = sym (ap (λ (x : ℕ × ℕ). x.0) found.1)
 
   abbrev there : List (Entry T)
-  there = put_there key cmp old.list.entries (key item) distinct p has.0 has.1 item e o ended
+  there = put_there key cmp old.list.entries (key item) c distinct p has.0 has.1 item e o ended
 
-  rekeyed : new.list ≡ record old.list { entries = there } → ((new.shape ≡ old.shape) ⊎ IsRearranged old.shape new.shape) → Rekeys key cmp old p item new
+  rekeyed : new.list ≡ record old.list { entries = there } → ((new.shape ≡ old.shape) ⊎ IsRearranged old.shape new.shape) → RekeysCounted key cmp old p item c new
   rekeyed is shape =
       let entries : new.list.entries ≡ there = ap (λ (c : Chain T). c.entries) is in
       record {
-        gap = gap_left key cmp old.list.entries (key item) distinct p has.0 has.1 item e o ended;
-        place = record { at_most_before = ended.at_most_before; greater_after = ended.greater_after };
-        entries = entries;
-        kept = is ∙ ap (λ es. record old.list { entries = es }) (sym entries);
-        shape = shape;
+        rekeys = record {
+          gap = gap_left key cmp old.list.entries (key item) c distinct p has.0 has.1 item e o ended;
+          place = record { at_most_before = ended.at_most_before; greater_after = ended.greater_after };
+          entries = entries;
+          kept = is ∙ ap (λ es. record old.list { entries = es }) (sym entries);
+          shape = shape;
+        };
+        seen = ended.seen;
       }
 
   -- it stays where it stood
-  pub rekeyed_left : p.0 ≡ q.0 → new ≡ with_item old p.0 item → Rekeys key cmp old p item new
+  pub rekeyed_left : p.0 ≡ q.0 → new ≡ with_item old p.0 item → RekeysCounted key cmp old p item c new
   rekeyed_left same after =
       rekeyed
       (ap (λ (t : Tree T). t.list) after
-      ∙ ap (λ es. record old.list { entries = es }) (listed-left key cmp old.list.entries (key item) distinct p has.0 has.1 item e o ended (index_is ∙ sym same)))
+      ∙ ap (λ es. record old.list { entries = es }) (listed-left key cmp old.list.entries (key item) c distinct p has.0 has.1 item e o ended (index_is ∙ sym same)))
       (inl (ap (λ (t : Tree T). t.shape) after))
 
   module _ (other : p.0 ≢ q.0) where
@@ -133,7 +136,7 @@ module _ {T K : Type 0} (key : T → K) (cmp : K → K → Ordering) (old new : 
           entry_at-without_other (with_item old p.0 item).list.entries p.0 q.0 back,
           entry_at-with_item_among_other old.list.entries p.0 q.0 item back,
           ← index_is,
-          found_here key cmp old.list.entries (key item) distinct p has.0 has.1 item e o ended,
+          found_here key cmp old.list.entries (key item) c distinct p has.0 has.1 item e o ended,
         ) refl
 
     pub unequal : o ≢ Equal
@@ -142,11 +145,11 @@ module _ {T K : Type 0} (key : T → K) (cmp : K → K → Ordering) (old new : 
       | inr high ↦ absurd (let less = high.1 in cc)
     ]
 
-    pub rekeyed_moved : new.list ≡ with_entry_moved (with_item old p.0 item).list p.0 (put_on o q.0) → ((new.shape ≡ old.shape) ⊎ IsRearranged old.shape new.shape) → Rekeys key cmp old p item new
+    pub rekeyed_moved : new.list ≡ with_entry_moved (with_item old p.0 item).list p.0 (put_on o q.0) → ((new.shape ≡ old.shape) ⊎ IsRearranged old.shape new.shape) → RekeysCounted key cmp old p item c new
     rekeyed_moved after shape =
         rekeyed
         (after ∙ ap (λ (n : ℕ). with_entry_moved (with_item old p.0 item).list p.0 (put_on o n)) (sym index_is)
-        ∙ ap (λ es. record old.list { entries = es }) (listed-moved key cmp old.list.entries (key item) distinct p has.0 has.1 item e o ended index_other))
+        ∙ ap (λ es. record old.list { entries = es }) (listed-moved key cmp old.list.entries (key item) c distinct p has.0 has.1 item e o ended index_other))
         shape
 
 -- a side that isn't Equal
@@ -175,13 +178,11 @@ module _ {T : Type 0} (c : Chain T) (distinct : IsDistinct c.entries) (i q g : �
         ap (without i) cut ∙ without-append i front (f ∷ back) (subst (λ es. times i es ≤ 1) cut (distinct i))
         ∙ ap (λ xs. xs ++ without i (f ∷ back)) (without-absent i front (omega (arith, alone, counted))) ∙ ap (λ xs. front ++ xs) (without-first i f back here)
 
-    entry_is : list_with (put_on Less q) i (entry_at c.entries i) (without i c.entries) ≡ insert_before q f (front ++ back)
-    entry_is = ap (λ (o : Option (ℕ × T)). list_with (put_on Less q) i o (without i c.entries)) (ap (entry_at c.entries) (sym here) ∙ entry_at-here c.entries distinct front f back cut)
-        ∙ ap (λ n. insert_before q (record { index = n; generation = f.generation; item = f.item }) (without i c.entries)) (sym here) ∙ ap (insert_before q f) rest_is
-
-    entry_is_after : list_with (put_on Greater q) i (entry_at c.entries i) (without i c.entries) ≡ insert_after q f (front ++ back)
-    entry_is_after = ap (λ (o : Option (ℕ × T)). list_with (put_on Greater q) i o (without i c.entries)) (ap (entry_at c.entries) (sym here) ∙ entry_at-here c.entries distinct front f back cut)
-        ∙ ap (λ n. insert_after q (record { index = n; generation = f.generation; item = f.item }) (without i c.entries)) (sym here) ∙ ap (insert_after q f) rest_is
+    put_again : (o : Ordering) → list_with (put_on o q) i (entry_at c.entries i) (without i c.entries) ≡ put_on o q (front ++ back) f
+    put_again o =
+        ap (λ (x : Option (ℕ × T)). list_with (put_on o q) i x (without i c.entries)) (ap (entry_at c.entries) (sym here) ∙ entry_at-here c.entries distinct front f back cut)
+        ∙ ap (λ n. put_on o q (without i c.entries) (record { index = n; generation = f.generation; item = f.item })) (sym here)
+        ∙ ap (λ es. put_on o q es f) rest_is
 
     rest_distinct : IsDistinct (front ++ back)
     rest_distinct j = subst (λ es. times j es ≤ 1) rest_is (omega (arith, distinct j, times-without i j c.entries))
@@ -192,7 +193,7 @@ module _ {T : Type 0} (c : Chain T) (distinct : IsDistinct c.entries) (i q g : �
       let end = ends at.front n.0 n.1 in
       let cut : c.entries ≡ end.0 ++ n.0 ∷ (at.entry ∷ at.back) = at.cut ∙ ap (λ xs. xs ++ at.entry ∷ at.back) end.1 ∙ simp append_assoc in
       let put = insert_before-here (end.0 ++ at.entry ∷ at.back) (rest_distinct end.0 (at.entry ∷ at.back) n.0 n.2 cut) end.0 at.entry at.back refl n.0 in
-      ap (λ es. record c { entries = es }) (cut ∙ sym put ∙ ap (λ k. insert_before k n.0 (end.0 ++ at.entry ∷ at.back)) at.here ∙ sym (entry_is end.0 (at.entry ∷ at.back) n.0 n.2 cut))
+      ap (λ es. record c { entries = es }) (cut ∙ sym put ∙ ap (λ k. insert_before k n.0 (end.0 ++ at.entry ∷ at.back)) at.here ∙ sym (put_again end.0 (at.entry ∷ at.back) n.0 n.2 cut Less))
 
   pub stays_after : l.next ≡ Some i → c ≡ with_entry_moved c i (put_on Greater q)
   stays_after named =
@@ -202,7 +203,7 @@ module _ {T : Type 0} (c : Chain T) (distinct : IsDistinct c.entries) (i q g : �
       let whole : (at.front ++ at.entry ∷ []) ++ begin.0 ≡ at.front ++ at.entry ∷ begin.0 = simp append_assoc refl in
       let put = insert_after-here ((at.front ++ at.entry ∷ []) ++ begin.0) (rest_distinct (at.front ++ at.entry ∷ []) begin.0 n.0 n.2 cut) at.front at.entry begin.0 whole n.0 in
       ap (λ es. record c { entries = es }) (at.cut ∙ ap (λ xs. at.front ++ at.entry ∷ xs) begin.1 ∙ sym put ∙ ap (λ k. insert_after k n.0 ((at.front ++ at.entry ∷ []) ++ begin.0)) at.here
-      ∙ sym (entry_is_after (at.front ++ at.entry ∷ []) begin.0 n.0 n.2 cut))
+      ∙ sym (put_again (at.front ++ at.entry ∷ []) begin.0 n.0 n.2 cut Greater))
 
 -- two pointers are one, or differ
 cases_pair : (q p : ℕ × ℕ) → (q ≡ p) ⊎ (q ≢ p)
@@ -247,9 +248,9 @@ module _ {T : Type 0} where
 
 -- from what the steps of a call ensure: the search, the write of the item and the move
 module _ {P T K : Type 0} (numbers : P → ℕ × ℕ) (key : T → K) (cmp : K → K → Ordering) (old mid new : Tree T) (distinct : IsDistinct old.list.entries) (p : ℕ × ℕ) (item : T)
-    (named : IsSome (item_of old p)) (written : mid ≡ with_item old p.0 item) where
+    (named : IsSome (item_of old p)) (c : ℕ) (written : mid ≡ with_item old p.0 item) where
   abbrev Answers : Option (P × Ordering) → Type 0
-  Answers at = FindsAround key cmp old.list.entries p.0 (key item) (option_map (λ (a : P × Ordering). (numbers a.0, a.1)) at)
+  Answers at = FindsAround key cmp old.list.entries p.0 (key item) (option_map (λ (a : P × Ordering). (numbers a.0, a.1)) at) c
 
   pub can_stay : IsSome (entry_at mid.list.entries p.0)
   can_stay =
@@ -260,17 +261,17 @@ module _ {P T K : Type 0} (numbers : P → ℕ × ℕ) (key : T → K) (cmp : K 
   can_go None found = tt
   can_go (Some a) found = λ other.
       let apart : p.0 ≢ (numbers a.0).0 = λ same. other (sym same) in
-      (rw written (occupied_there key cmp old new distinct p item named (numbers a.0) a.1 found apart), unequal key cmp old new distinct p item named (numbers a.0) a.1 found apart)
+      (rw written (occupied_there key cmp old new distinct p item named (numbers a.0) a.1 c found apart), unequal key cmp old new distinct p item named (numbers a.0) a.1 c found apart)
 
   pub rekeyed_by : (at : Option (P × Ordering)) → Answers at → IfSome at (λ a. (numbers a.0).0 ≡ p.0 → new ≡ mid)
       → IfSome at (λ a. (numbers a.0).0 ≢ p.0 → new.list ≡ with_entry_moved mid.list p.0 (put_on a.1 (numbers a.0).0))
-      → IfSome at (λ a. (numbers a.0).0 ≢ p.0 → (new.shape ≡ mid.shape) ⊎ IsRearranged mid.shape new.shape) → Rekeys key cmp old p item new
+      → IfSome at (λ a. (numbers a.0).0 ≢ p.0 → (new.shape ≡ mid.shape) ⊎ IsRearranged mid.shape new.shape) → RekeysCounted key cmp old p item c new
   rekeyed_by None found stays list shape =
       absurd (let was = (item_if-found p.1 (entry_at old.list.entries p.0) named).1 in let none = ap (λ es. entry_at es p.0) found in cc)
   rekeyed_by (Some a) found stays list shape = elim (cases_eq (numbers a.0).0 p.0) [
-    | inl same ↦ rekeyed_left key cmp old new distinct p item named (numbers a.0) a.1 found (sym same) (stays same ∙ written)
+    | inl same ↦ rekeyed_left key cmp old new distinct p item named (numbers a.0) a.1 c found (sym same) (stays same ∙ written)
     | inr other ↦
         let apart : p.0 ≢ (numbers a.0).0 = λ same. other (sym same) in
-        rekeyed_moved key cmp old new distinct p item named (numbers a.0) a.1 found apart
+        rekeyed_moved key cmp old new distinct p item named (numbers a.0) a.1 c found apart
         (list other ∙ ap (λ (t : Tree T). with_entry_moved t.list p.0 (put_on a.1 (numbers a.0).0)) written) (rw written at (shape other))
   ]

@@ -1,9 +1,9 @@
 -- A search for the place of a key among the entries of a list but one, which is still in the tree. No public clause cites this file.
 use Rattle.std.specs.{Option.option_map, Ordering.is_eq, declared.cmp.Ordering.Ordering, declared.cmp.Ordering.TheVariants.Less, declared.cmp.Ordering.TheVariants.Greater}
-use Rattle.std.specs.Prelude.{◌≡◌, ◌≢◌, ℕ, ◌⊎◌, false, List, [], ◌∷◌, ◌++◌, Option, Some, None, IfSome}
+use Rattle.std.specs.Prelude.{◌≡◌, ◌≢◌, ℕ, ◌+◌, ◌≤◌, ◌⊎◌, false, List, [], ◌∷◌, ◌++◌, Option, Some, None, IfSome}
 use Rattle.chain_base.specs.Chain.{Entry, without}
 use Rattle.ord_tree.specs.Tree.{Tree}
-use Rattle.triple_ord.specs.{ClosureSearch.Shown, Search.order_to, Search.pointer, Gap.Gap, Gap.before, Gap.after, Gap.first_of, Gap.last_of, Ties.taken, Descent.IsNodeAt, Descent.side_of}
+use Rattle.triple_ord.specs.{ClosureSearch.Shown, Search.order_to, Search.pointer, Gap.Gap, Gap.before, Gap.after, Gap.first_of, Gap.last_of, Gap.present, Ties.taken, Descent.IsNodeAt, Descent.side_of}
 use Rattle.triple_ord.specs.declared.ties.Ties.TheVariants.{Passed}
 
 -- the item of the last entry, if there is one
@@ -34,15 +34,16 @@ module _ {T K : Type 0} (key : T → K) (cmp : K → K → Ordering) where
     pub unequal : is_eq order ≡ false
     pub next_is : next ≡ side_of order lesser greater
 
-  -- The search ends on this side of the entry e, at a gap. Once the entry at index i is gone, the key before the gap is at most k, and
-  -- the one after it greater.
-  pub record EndsAround (es : List (Entry T)) (i : ℕ) (k : K) (e : Entry T) (o : Ordering) : Type 0 where
+  -- The search ends on this side of the entry e, at a gap, with c visits. Once the entry at index i is gone, the key before the gap is at
+  -- most k, and the one after it greater; the search has seen both.
+  pub record EndsAround (es : List (Entry T)) (i : ℕ) (k : K) (c : ℕ) (e : Entry T) (o : Ordering) : Type 0 where
     pub gap : Gap es
     pub at_most_before : IfSome (last_of None (without i gap.front)) (λ f. order_to key cmp k f ≢ Less)
     pub greater_after : IfSome (first_of (without i gap.back)) (λ f. order_to key cmp k f ≡ Less)
+    pub seen : present (last_of None (without i gap.front)) + present (first_of (without i gap.back)) ≤ c
     pub beside : ((before gap ≡ Some e) × (o ≡ Greater)) ⊎ ((after gap ≡ Some e) × (o ≡ Less))
 
   -- what such a search returns: an entry with the side on which the place lies, and nothing in an empty list alone
-  abbrev pub FindsAround : List (Entry T) → ℕ → K → Option ((ℕ × ℕ) × Ordering) → Type 0
-  FindsAround es i k None = es ≡ []
-  FindsAround es i k (Some answer) = (e : Entry T) × (answer.0 ≡ pointer e) × EndsAround es i k e answer.1
+  abbrev pub FindsAround : List (Entry T) → ℕ → K → Option ((ℕ × ℕ) × Ordering) → ℕ → Type 0
+  FindsAround es i k None c = es ≡ []
+  FindsAround es i k (Some answer) c = (e : Entry T) × (answer.0 ≡ pointer e) × EndsAround es i k c e answer.1

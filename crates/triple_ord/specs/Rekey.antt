@@ -1,8 +1,8 @@
 -- An entry that goes to the place of its key, with another item or with the one that it has.
-use Rattle.std.specs.{Prelude.◌≡◌, Prelude.ℕ, Prelude.◌⊎◌, declared.cmp.Ordering.Ordering}
+use Rattle.std.specs.{Prelude.◌≡◌, Prelude.ℕ, Prelude.◌≤◌, Prelude.◌⊎◌, declared.cmp.Ordering.Ordering}
 use Rattle.chain_base.specs.Chain.{without}
 use Rattle.ord_tree.specs.{Tree.Tree, Tree.with_item, Move.IsRearranged}
-use Rattle.triple_ord.specs.{Gap.Gap, Gap.with_between, Place.LiesBehind, Order.IsInOrder}
+use Rattle.triple_ord.specs.{Gap.Gap, Gap.with_between, Gap.neighbour_count, Place.LiesBehind, Order.IsInOrder}
 
 -- The entry of p has the item now, and stands in a gap of the other entries that lies behind the item's key. Nothing else changes.
 pub record Rekeys {T K : Type 0} (key : T → K) (cmp : K → K → Ordering) (old : Tree T) (p : ℕ × ℕ) (item : T) (new : Tree T) : Type 0 where
@@ -11,6 +11,11 @@ pub record Rekeys {T K : Type 0} (key : T → K) (cmp : K → K → Ordering) (o
   pub entries : new.list.entries ≡ with_between gap (record { index = p.0; generation = p.1; item = item })
   pub kept : new.list ≡ record old.list { entries = new.list.entries }
   pub shape : (new.shape ≡ old.shape) ⊎ IsRearranged old.shape new.shape
+
+-- The same, by a search for the gap with c visits: it has seen the keys of the entries beside the gap.
+pub record RekeysCounted {T K : Type 0} (key : T → K) (cmp : K → K → Ordering) (old : Tree T) (p : ℕ × ℕ) (item : T) (c : ℕ) (new : Tree T) : Type 0 where
+  pub rekeys : Rekeys key cmp old p item new
+  pub seen : neighbour_count rekeys.gap ≤ c
 
 -- If the other entries are in the order of their keys, then all are afterwards, whatever key the entry had before; so if all were, also
 -- if the item of the entry was written over since.

@@ -26,7 +26,8 @@ pub(crate) fn descend_around<P: Ptr, T: SimpleOrdItem, A: Allocator>(
 ) -> Option<(P, Ordering)>
     requires { probe.old.visits < 2 ^ 64 }
     ensures found { FindsAround T.key_of T.Key.cmp probe.old.tree.now.list.entries
-        (P.Inx.number passed) k.now (option_map (λ a. (P.numbers a.0, a.1)) result) }
+        (P.Inx.number passed) k.now (option_map (λ a. (P.numbers a.0, a.1)) result)
+        (probe.new.visits - probe.old.visits) }
     ensures visits { IsWithinBounds (length probe.old.tree.now.list.entries)
         probe.old.tree.now.shape (probe.new.visits - probe.old.visits) }
 {

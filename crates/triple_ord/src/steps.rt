@@ -19,6 +19,8 @@ use std::cmp::Ordering;
 /// Each step compares the key with an entry's: Less leads to the previous entry, Greater to the next. An entry at which the order turns
 /// ends the steps with a result, and so does an end of the list. At an equal key that is sought, which may not be the first of its
 /// group, and after `num` comparisons they end without.
+// Inlined, so that an insertion with the hint `num: 1` has no loop left of it.
+#[inline(always)]
 pub(crate) fn step_along<P: Ptr, T: SimpleOrdItem, A: Allocator>(
     probe: &mut Probe<'_, P, T, A>,
     ties: Ties,
@@ -57,6 +59,7 @@ pub(crate) fn step_along<P: Ptr, T: SimpleOrdItem, A: Allocator>(
 }
 
 // The entry's neighbour on the side on which the key lies. There is none behind an end of the list, and none for an equal key.
+#[inline(always)]
 fn towards<P: Ptr, T>(link: &LinkNoGen<P, T>, order: Ordering) -> Option<P::Inx>
     ensures { option_map P.Inx.number result ≡ neighbour_towards link.now order }
 {

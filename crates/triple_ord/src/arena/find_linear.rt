@@ -101,6 +101,7 @@ impl<P: Ptr, T: SimpleOrdItem, A: Allocator> SimpleOrdArena<P, T, A> {
     }
 
     // A search from a hint, by what it makes of equal keys.
+    #[inline(always)]
     pub(super) fn search_from(
         &self,
         ties: Ties,

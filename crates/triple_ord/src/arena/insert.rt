@@ -65,6 +65,10 @@ impl<P: Ptr, T: SimpleOrdItem + Drop, A: Allocator> SimpleOrdArena<P, T, A> {
     }
 
     /// The same as `insert_reallocating`.
+    ///
+    /// It searches from the root, also for a key behind all others. [`entry_insert`](Self::entry_insert) with the kind
+    /// [`OrdInsertKind::Linear`] (or [`OrdInsertKind::NonhereditaryLinear`]), the index of [`last`](Self::last) and `num: 1` compares
+    /// the last key first, and so finds the place of such a key in O(1).
     pub fn insert(&mut self, t: T) -> Result<(P, Option<T>), OrdInsertionError>
         ensures inserts { Inserts T.key_of T.Key.cmp P.Inx.most P.numbers self.old t
             result self.new }

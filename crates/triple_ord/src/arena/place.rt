@@ -67,6 +67,7 @@ impl<P: Ptr, T: SimpleOrdItem, A: Allocator> SimpleOrdArena<P, T, A> {
     }
 
     // The place by a key, searched from a hint.
+    #[inline(always)]
     fn place_near(
         &self,
         ties: Ties,

@@ -9,7 +9,7 @@ ghost use Rattle.ord_tree.specs.Move.{IsRearranged};
 ghost use Rattle.ord_tree.specs.Tree.{CanPutAt, put_on, with_item};
 ghost use Rattle.triple_ord.specs.Arena.{item_of, entry_at, count, Updates, FindSame};
 ghost use Rattle.triple_ord.specs.Around.{FindsAround};
-ghost use Rattle.triple_ord.specs.Rekey.{Rekeys};
+ghost use Rattle.triple_ord.specs.Rekey.{Rekeys, RekeysCounted};
 ghost use Rattle.triple_ord.specs.VisitBounds.{IsWithinBounds};
 
 use super::SimpleOrdArena;
@@ -58,8 +58,8 @@ impl<P: Ptr, T: SimpleOrdItem, A: Allocator> SimpleOrdArena<P, T, A> {
     ///
     /// If `p` is stale, `t` is returned and the arena is unchanged.
     pub fn rekey_counted(&mut self, p: P, t: T) -> Result<(T, Visits), T>
-        ensures rekeys { OnOk result
-            (Rekeys T.key_of T.Key.cmp self.old (P.numbers p) t self.new) }
+        ensures rekeys { IfOk result
+            (λ r. RekeysCounted T.key_of T.Key.cmp self.old (P.numbers p) t r.1 self.new) }
         ensures before { IfOk result (λ r. item_of self.old (P.numbers p) ≡ Some r.0) }
         ensures visits { IfOk result
             (λ r. IsWithinBounds (length self.old.list.entries) self.old.shape r.1) }
@@ -105,7 +105,7 @@ impl<P: Ptr, T: SimpleOrdItem, A: Allocator> SimpleOrdArena<P, T, A> {
     // The place of a key among the entries but the one at a pointer, and how many entries the search for it visited.
     fn place_around(&self, p: P, k: &T::Key) -> (Option<(P, Ordering)>, Visits)
         ensures found { FindsAround T.key_of T.Key.cmp self.now.list.entries (P.numbers p).0 k.now
-            (option_map (λ a. (P.numbers a.0, a.1)) result.0) }
+            (option_map (λ a. (P.numbers a.0, a.1)) result.0) result.1 }
         ensures visits { IsWithinBounds (length self.now.list.entries) self.now.shape result.1 }
     {
         let mut probe = Probe::new(&self.tree);
@@ -211,7 +211,7 @@ fn share_index<P: Ptr>(p: P, q: P) -> bool
 
 // Whether an index is there, and is this one.
 fn is_named<I: PtrInx>(neighbour: Option<I>, i: I) -> bool
-    ensures { IsTrue result → option_map I.number neighbour ≡ Some (I.number i) }
+    ensures { IsTrue result ↔ (option_map I.number neighbour ≡ Some (I.number i)) }
 {
     match neighbour {
         Some(j) => j == i,

@@ -1,7 +1,7 @@
 use Rattle.std.proofs.{Common.arith, lemmas.Grind.common_steps}
 use Rattle.std.proofs.Common.{ℕ, ap, subst, ◌∙◌, ◌≡◌, nat_cmp, rules}
-use Rattle.triple_ord.specs.{declared.insert_kind.OrdInsertKind.TheVariants.Nonhereditary, Insertion.reallocating, Insertion.InsertsNew, EntryKind.pointer_of_kind, Place.behind_key}
-use Rattle.triple_ord.proofs.CallerLemmas.{entry-inserts, inserts-new}
+use Rattle.triple_ord.specs.{Insertion.reallocating, Insertion.InsertsNew, EntryKind.pointer_of_kind, Place.behind_key}
+use Rattle.triple_ord.proofs.CallerLemmas.{entry-inserts-new}
 use Rattle.agenda.specs.{Layout.deadline_of, Agenda.most_jobs}
 use Rattle.agenda.proofs.jobs.put.Goals as goal
 
@@ -10,10 +10,8 @@ returns-in-Ok-clause-ok g c =
     let item : ℕ × g.row.J.Denot = (c.args.deadline, c.args.job) in
     let shown = c.in-Ok.entry.prepared.shown in
     let named : c.any-p.result ≡ pointer_of_kind shown = c.any-p.ensures ∙ ap pointer_of_kind c.ptr.ensures in
-    let step = entry-inserts deadline_of nat_cmp (λ (p : ℕ × ℕ). p) (λ (i : ℕ). i) reallocating most_jobs
-    (Nonhereditary c.args.deadline) c.args.jobs.now c.in-Ok.entry.arena.now c.insert.new.self.0
-    c.len.ensures.sound.distinct shown _ _ c.new.result c.insert.result c.in-Ok.ensures.place c.insert.ensures.inserts in
-    let done = inserts-new deadline_of nat_cmp most_jobs reallocating c.args.deadline (λ (p : ℕ × ℕ). p) c.args.jobs.now c.new.result c.insert.new.self.0 (shown, c.insert.result) step in
+    let done = entry-inserts-new deadline_of nat_cmp (λ (p : ℕ × ℕ). p) (λ (i : ℕ). i) reallocating most_jobs _ c.args.jobs.now c.in-Ok.entry.arena.now c.insert.new.self.0
+    c.len.ensures.sound.distinct shown _ _ c.new.result c.insert.result c.in-Ok.ensures.place c.args.deadline c.kind_behind-kind.ensures c.insert.ensures.inserts in
     let told : InsertsNew deadline_of nat_cmp most_jobs reallocating (behind_key c.args.deadline) c.args.jobs.now item c.any-p.result c.insert.new.self.0 = rw (named, ← c.new.ensures) done in
     subst (λ u. InsertsNew deadline_of nat_cmp most_jobs reallocating (behind_key c.args.deadline) c.args.jobs.now item c.any-p.result u) (search rules) told
 

@@ -9,9 +9,9 @@ returns g c = λ yes apart unequal.
     let number = option_map g.P.Inx.PtrInx.number in
     elim c.if-is_lt.branch [
       | then-is_lt w ↦
-          let named = sym w.prev-neighbour.ensures.value ∙ ap number (sym w.neighbour-is) ∙ c.is_named.ensures yes in
+          let named = sym w.prev-neighbour.ensures.value ∙ ap number (sym w.neighbour-is) ∙ c.is_named.ensures.0 yes in
           rw (less_by _ (sym c.is_lt.ensures ∙ w.if-is_lt.true)) (stays_before c.args.self.now.list c.len.ensures.sound.distinct _ _ _ _ linked apart named)
       | else-is_lt w ↦
-          let named = sym w.next-neighbour.ensures.value ∙ ap number (sym w.neighbour-is) ∙ c.is_named.ensures yes in
+          let named = sym w.next-neighbour.ensures.value ∙ ap number (sym w.neighbour-is) ∙ c.is_named.ensures.0 yes in
           rw (greater_by _ (sym c.is_lt.ensures ∙ w.if-is_lt.false) unequal) (stays_after c.args.self.now.list c.len.ensures.sound.distinct _ _ _ _ linked apart named)
     ]
