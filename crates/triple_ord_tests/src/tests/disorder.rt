@@ -3,6 +3,7 @@ mod building;
 mod changes;
 mod closures;
 mod insertions;
+mod moves;
 mod places;
 mod searches;
 mod trees;
@@ -67,7 +68,10 @@ fn rows(rt: &impl Abort, alloc: Global, a: &Numbers) -> Vec<Row> {
 
 /// Whether every call does what it may, on this arena or its clones.
 fn all_hold(rt: &impl Abort, alloc: Global, a: &Numbers, old: &[Row]) -> bool {
-    searches::hold(a, old) && closures::hold(a, old) && changes::hold(rt, alloc, a, old)
+    searches::hold(a, old)
+        && closures::hold(a, old)
+        && changes::hold(rt, alloc, a, old)
+        && moves::hold(rt, alloc, a, old)
 }
 
 /// The same, with the entries that there are.

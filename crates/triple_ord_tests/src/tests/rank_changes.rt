@@ -1,17 +1,19 @@
-//! The amortized bound over a long random run: ranks are read from outside, step by step.
-use super::{Keys, rank_at};
+//! The amortized bound over a long random run, and the bounds on new parents: ranks and parents are read from outside, step by step.
+use super::Keys;
 use std::alloc::Global;
 use triple_ord::OrdPair;
 
 /// How many entries there are at most at any time.
 const MOST: u32 = 256;
 
-/// What a run did.
+/// What a run did, and whether each step gave few enough entries another parent.
 #[derive(Clone, Copy)]
 struct Account {
     insertions: u64,
     removals: u64,
+    moves: u64,
     changes: u64,
+    is_within: bool,
 }
 
 /// The next number of a linear congruential generator (Knuth, MMIX).
@@ -20,63 +22,104 @@ fn next(seed: u64) -> u64 {
         .wrapping_add(1442695040888963407)
 }
 
-/// Writes the ranks of now, by index from 1 on, over those of before; 0 stands for a vacant index. Returns how many entries are in both
-/// states with different ranks.
-fn changes(ranks: &mut [u8], a: &Keys) -> u64 {
-    let mut changes: u64 = 0;
+/// What a node says: its rank, 0 for a vacant index, and its parent.
+#[derive(Clone, Copy, PartialEq, Eq)]
+struct Node {
+    rank: u8,
+    parent: Option<u32>,
+}
+
+/// A vacant index.
+const NONE: Node = Node {
+    rank: 0,
+    parent: None,
+};
+
+/// The node at an index.
+fn node_at(a: &Keys, index: u32) -> Node {
+    match a.get_inx_node(index) {
+        Some((_, node)) => Node {
+            rank: node.t.rank,
+            parent: node.t.p_back.get(),
+        },
+        None => NONE,
+    }
+}
+
+/// Writes the nodes of now, by index from 1 on, over those of before. Returns how many entries are in both states with different ranks,
+/// and how many with different parents.
+fn changes(nodes: &mut [Node], a: &Keys) -> (u64, u64) {
+    let mut changes = (0u64, 0u64);
     let mut index: u32 = 0;
-    for rank in ranks.iter_mut() {
+    for node in nodes.iter_mut() {
         index = index.wrapping_add(1);
-        let now = rank_at(a, index);
-        if *rank != 0 && now != 0 && *rank != now {
-            changes = changes.wrapping_add(1);
+        let now = node_at(a, index);
+        if node.rank != 0 && now.rank != 0 {
+            changes.0 = changes.0.wrapping_add((node.rank != now.rank) as u64);
+            changes.1 = changes.1.wrapping_add((node.parent != now.parent) as u64);
         }
-        *rank = now;
+        *node = now;
     }
     changes
 }
 
-/// Inserts a key that isn't there, or removes it.
-fn toggle(a: &mut Keys, key: u64, account: &mut Account) {
-    match a.find_key(&key) {
-        Some(p) => {
-            let _ = a.remove(p);
-            account.removals = account.removals.wrapping_add(1);
-        }
-        None => {
-            let _ = a.insert(OrdPair::new(key, ()));
-            account.insertions = account.insertions.wrapping_add(1);
-        }
+/// A key that isn't there is inserted. One that is there moves to another key that isn't, or is removed. Returns how many entries may get
+/// another parent.
+fn step(a: &mut Keys, key: u64, other: u64, account: &mut Account) -> u64 {
+    let Some(p) = a.find_key(&key) else {
+        let _ = a.insert(OrdPair::new(key, ()));
+        account.insertions = account.insertions.wrapping_add(1);
+        return 5;
+    };
+    if other % 3 != 0 && a.find_key(&other).is_none() {
+        let _ = a.rekey(p, OrdPair::new(other, ()));
+        account.moves = account.moves.wrapping_add(1);
+        return 15;
     }
+    let _ = a.remove(p);
+    account.removals = account.removals.wrapping_add(1);
+    9
 }
 
-/// A run over random keys, and how many ranks it changed.
+/// A run over random keys.
 fn run(alloc: Global, steps: u64) -> Account {
     let mut a = Keys::new(alloc);
     let mut account = Account {
         insertions: 0,
         removals: 0,
+        moves: 0,
         changes: 0,
+        is_within: true,
     };
-    let mut ranks = [0; MOST as usize];
+    let mut nodes = [NONE; MOST as usize];
     let mut seed = 1;
     for _ in 0..steps {
         seed = next(seed);
-        toggle(&mut a, (seed >> 33) % u64::from(MOST), &mut account);
-        account.changes = account.changes.wrapping_add(changes(&mut ranks, &a));
+        let (key, other) = (seed >> 33, seed >> 48);
+        let most = u64::from(MOST);
+        let most_parents = step(&mut a, key % most, other % most, &mut account);
+        let (ranks, parents) = changes(&mut nodes, &a);
+        account.changes = account.changes.wrapping_add(ranks);
+        account.is_within = account.is_within && parents <= most_parents;
     }
     account
+}
+
+/// How many rank changes a run may make: 4 for an insertion, 9 for a removal, 14 for a move.
+fn allowed(account: &Account) -> u64 {
+    account
+        .insertions
+        .wrapping_mul(4)
+        .wrapping_add(account.removals.wrapping_mul(9))
+        .wrapping_add(account.moves.wrapping_mul(14))
 }
 
 #[test]
 fn rank_changes_stay_within_the_amortized_bound(rt: HostRuntime) {
     let account = run(rt.alloc(), 100_000);
-    let allowed = account
-        .insertions
-        .wrapping_mul(4)
-        .wrapping_add(account.removals.wrapping_mul(9));
-    assert!(rt; account.insertions.wrapping_add(account.removals) == 100_000);
-    assert!(rt; account.changes <= allowed);
-    // Random runs need about a fifth of the bound.
-    assert!(rt; account.changes.wrapping_mul(4) < allowed);
+    let changes = account.insertions.wrapping_add(account.removals);
+    assert!(rt; changes.wrapping_add(account.moves) == 100_000 && account.moves > 10_000);
+    assert!(rt; account.is_within && account.changes <= allowed(&account));
+    // Random runs need less than a quarter of the bound.
+    assert!(rt; account.changes.wrapping_mul(4) < allowed(&account));
 }
