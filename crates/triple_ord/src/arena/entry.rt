@@ -68,6 +68,7 @@ impl<P: Ptr, T: SimpleOrdItem + Drop, A: Allocator> SimpleOrdArena<P, T, A> {
     /// It is refused with `FailedOrdRequirement` where `kind` has no place, and with `NotWithinCapacity` where a new entry is needed and
     /// no slot is vacant. Nothing changes then, nor before the entry inserts. It takes no memory, and as long as the search for a key
     /// that `kind` makes: O(log n) time for n entries, near a hint less, and O(1) without a key.
+    #[inline(always)]
     pub fn entry_insert_within_capacity(
         &mut self,
         kind: OrdInsertKind<P, &T::Key>,
@@ -100,6 +101,7 @@ impl<P: Ptr, T: SimpleOrdItem + Drop, A: Allocator> SimpleOrdArena<P, T, A> {
     ///
     /// Before the entry inserts nothing else has changed than the capacity, where it grew. It takes as long as
     /// `entry_insert_within_capacity`, and O(n) where the arena grows.
+    #[inline(always)]
     pub fn entry_insert_reallocating(
         &mut self,
         kind: OrdInsertKind<P, &T::Key>,
@@ -140,6 +142,7 @@ impl<P: Ptr, T: SimpleOrdItem + Drop, A: Allocator> SimpleOrdArena<P, T, A> {
     ///     }
     /// }
     /// ```
+    #[inline(always)]
     pub fn entry_insert(
         &mut self,
         kind: OrdInsertKind<P, &T::Key>,
