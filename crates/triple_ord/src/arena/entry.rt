@@ -46,6 +46,7 @@ impl<'a, P: Ptr, T: Drop, A: Allocator> SimpleOrdArenaInsertEntry<'a, P, T, A> {
     /// No key is compared: an item whose key isn't that of the entry can break the order of the keys, never the tree. It takes no
     /// memory, and O(log n) time for n entries; a new entry changes the parent of at most five others, and over
     /// a run four ranks of others at most.
+    #[inline(always)]
     pub fn insert(self, t: T) -> Option<T>
         ensures inserts { InsertsThere P.numbers (entry_shown self.entry)
             (entry_put P.numbers self.entry) (entry_arena self.entry) t result self.exit.0.now }
