@@ -16,6 +16,7 @@ use crate::tree_links::{Branch, Side};
 /// Takes v out of the tree, where nothing hangs on that side of it: what hangs on its other side takes its place.
 ///
 /// Returns the branch, which has fallen by one, or None where it is the root's.
+#[inline(always)]
 pub fn cut<N: Nodes>(
     nodes: &mut N,
     root: &mut Option<N::Inx>,

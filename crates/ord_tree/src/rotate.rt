@@ -17,6 +17,7 @@ use crate::tree_links::Side;
 /// ```
 ///
 /// and its mirror image for the other side.
+#[inline(always)]
 pub fn rotate<N: Nodes>(
     nodes: &mut N,
     root: &mut Option<N::Inx>,

@@ -25,6 +25,7 @@ impl<P: Ptr, T: Drop, A: Allocator> ChainArena<P, T, A> {
     /// Inserts an item at the place that `kind` names, into the slot that was freed last, else the least that was never used.
     ///
     /// Its generation is the arena's. It is refused where no slot is vacant; the item is then dropped, and nothing else changes.
+    #[inline(always)]
     pub fn insert_within_capacity(
         &mut self,
         kind: LinkInsertKind<P>,

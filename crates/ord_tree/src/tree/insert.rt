@@ -30,6 +30,7 @@ impl<P: Ptr, T: Drop, A: Allocator> OrdTree<P, T, A> {
     ///
     /// Its generation is the arena's. It is refused where no slot is vacant; the item is then dropped, and nothing else changes.
     /// It takes no memory.
+    #[inline(always)]
     pub fn insert_within_capacity(
         &mut self,
         at: Option<(P::Inx, Ordering)>,

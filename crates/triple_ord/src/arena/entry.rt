@@ -46,6 +46,7 @@ impl<'a, P: Ptr, T: Drop, A: Allocator> SimpleOrdArenaInsertEntry<'a, P, T, A> {
     /// No key is compared: an item whose key isn't that of the entry can break the order of the keys, never the tree. It takes no
     /// memory, and O(log n) time for n entries; a new entry changes the parent of at most five others, and over
     /// a run four ranks of others at most.
+    #[inline(always)]
     pub fn insert(self, t: T) -> Option<T>
         ensures inserts { InsertsThere P.numbers (entry_shown self.entry)
             (entry_put P.numbers self.entry) (entry_arena self.entry) t result self.exit.0.now }
@@ -68,6 +69,7 @@ impl<P: Ptr, T: SimpleOrdItem + Drop, A: Allocator> SimpleOrdArena<P, T, A> {
     /// It is refused with `FailedOrdRequirement` where `kind` has no place, and with `NotWithinCapacity` where a new entry is needed and
     /// no slot is vacant. Nothing changes then, nor before the entry inserts. It takes no memory, and as long as the search for a key
     /// that `kind` makes: O(log n) time for n entries, near a hint less, and O(1) without a key.
+    #[inline(always)]
     pub fn entry_insert_within_capacity(
         &mut self,
         kind: OrdInsertKind<P, &T::Key>,
@@ -100,6 +102,7 @@ impl<P: Ptr, T: SimpleOrdItem + Drop, A: Allocator> SimpleOrdArena<P, T, A> {
     ///
     /// Before the entry inserts nothing else has changed than the capacity, where it grew. It takes as long as
     /// `entry_insert_within_capacity`, and O(n) where the arena grows.
+    #[inline(always)]
     pub fn entry_insert_reallocating(
         &mut self,
         kind: OrdInsertKind<P, &T::Key>,
@@ -140,6 +143,7 @@ impl<P: Ptr, T: SimpleOrdItem + Drop, A: Allocator> SimpleOrdArena<P, T, A> {
     ///     }
     /// }
     /// ```
+    #[inline(always)]
     pub fn entry_insert(
         &mut self,
         kind: OrdInsertKind<P, &T::Key>,

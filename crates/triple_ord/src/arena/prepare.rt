@@ -22,8 +22,11 @@ use std::alloc::Allocator;
 use std::cmp::Ordering;
 use std::mem;
 
+// Inlined up to the calls of `insert` and `entry_insert`, the kind is known, so that one search is left of all; and what is prepared
+// stays in registers.
 impl<P: Ptr, T: SimpleOrdItem + Drop, A: Allocator> SimpleOrdArena<P, T, A> {
     // The place of an insertion that keeps within the capacity.
+    #[inline(always)]
     pub(super) fn prepare_within(
         &mut self,
         kind: OrdInsertKind<P, &T::Key>,
@@ -59,6 +62,7 @@ impl<P: Ptr, T: SimpleOrdItem + Drop, A: Allocator> SimpleOrdArena<P, T, A> {
     }
 
     // The place of an insertion that may grow, with a slot where it needs one.
+    #[inline(always)]
     pub(super) fn prepare_reallocating(
         &mut self,
         kind: OrdInsertKind<P, &T::Key>,
@@ -96,6 +100,7 @@ impl<P: Ptr, T: SimpleOrdItem + Drop, A: Allocator> SimpleOrdArena<P, T, A> {
 
 impl<P: Ptr, T: Drop, A: Allocator> SimpleOrdArena<P, T, A> {
     // Inserts an item at a place that is ready for it.
+    #[inline(always)]
     pub(super) fn insert_prepared(&mut self, prepared: Prepared<P>, t: T) -> Option<T>
         requires { IsReady P.numbers prepared.shown prepared.at self.old }
         ensures inserts { InsertsThere P.numbers prepared.shown
@@ -120,6 +125,7 @@ impl<P: Ptr, T: Drop, A: Allocator> SimpleOrdArena<P, T, A> {
     }
 
     // Inserts a new entry at a place, where a slot is vacant.
+    #[inline(always)]
     fn put(&mut self, at: Option<(P, Ordering)>, t: T) -> P
         requires can { HasRoomAt P.numbers at self.old.list }
         requires vacant { IsSome (next_index self.old.list) }
