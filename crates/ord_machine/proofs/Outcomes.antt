@@ -86,7 +86,7 @@ GoesByKey r Keeps item aim = IsTotalOrder r.cmp → Keeps → IsByKey r item aim
 abbrev pub AreAlike : {P T I G K : Type 0} → Reading P T I G K → Type 0 → T → T → Type 0
 AreAlike r Keeps x item = IsTotalOrder r.cmp → Keeps → r.cmp (r.key x) (r.key item) ≡ Equal
 
--- what an insertion goes by is a key that is equal to the item's, or is behind one, in a step that leaves the keys in order
+-- an insertion goes by a key that is equal to the item's, in its place or behind it, in a step that leaves the keys in order
 abbrev pub GoesInOrder : {P T I G K : Type 0} → Reading P T I G K → Type 0 → T → Aim K → Type 0
 GoesInOrder {K = K} r InOrder item aim = IsTotalOrder r.cmp → InOrder → (k : K) × GoesBy aim k × (r.cmp k (r.key item) ≡ Equal)
 
@@ -148,7 +148,7 @@ Affects moves old new = ChangesRanksWithin 14 old new ⊎ (new ≡ old)
 Affects rebuilds old new = IsRebuilt new
 Affects keeps old new = (new ≡ old) ⊎ (new ≡ missing)
 
--- and of the shape, and of the generation, if it isn't set back
+-- and of the shape, of the generation, if it isn't set back, and of the order of the keys
 pub record Outcome {P T I G K : Type 0} (r : Reading P T I G K) (old new : Tree T) (effect : Effect) (back : Bool) (n : ℕ) (Of : ℕ × ℕ → Type 0) (Keeps InOrder : Type 0) : Type 0 where
   pub affects : Affects effect old.shape new.shape
   pub raised : back ≡ false → new.list.generation ≡ risen r.greatest n old.list.generation

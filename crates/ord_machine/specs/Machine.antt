@@ -42,7 +42,7 @@ reading_by key cmp most greatest pointer index generation =
 pub record Marks : Type 0 where
   -- only insertions have come since there was no entry
   pub only_inserted : Bool
-  -- no entry has come or gone since there was none, or since the last rebuild
+  -- no entry has come, gone or moved since there was none, or since the last rebuild
   pub just_built : Bool
 
 -- what a step does to the entries: one more comes, one leaves, one goes to another place, the tree over them is rebuilt, or none of these

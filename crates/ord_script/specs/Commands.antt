@@ -93,7 +93,7 @@ entry_beside order a = commands.Entry (kinds.Manual a.0 order) a.1
 abbrev pub set : Pointer × Pair → PairCommand
 set a = commands.Set a.0 a.1
 
--- and so that the entry goes to the place of the item's key
+-- another item for it, by whose key it goes to its place
 abbrev pub rekey : Pointer × Pair → PairCommand
 rekey a = commands.Rekey a.0 a.1
 
