@@ -1,5 +1,5 @@
 //! An agenda: jobs that leave by deadline, and by the order of scheduling among equal ones. Each is named by a ticket, by which it
-//! can be cancelled or moved.
+//! can be cancelled, rescheduled or moved.
 #![tactic(auto)]
 
 mod agenda;

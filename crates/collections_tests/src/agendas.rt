@@ -1,4 +1,6 @@
 //! Agendas of letters, as a program sees them.
+mod sequences;
+
 use agenda::{Agenda, ReallocationError, Ticket};
 use linked_list_allocator::LocalHeap;
 use std::alloc::{AllocError, Allocator, Global};
@@ -10,12 +12,13 @@ type Letters<A = Global> = Agenda<char, A>;
 enum Call {
     Schedule(u64, char),
     Move(usize, u64),
+    Reschedule(usize, u64),
     Cancel(usize),
     PopDue(u64),
 }
 
 /// Makes a call, and keeps the ticket that it gives. Answers deadline and letter of the job that it names or takes, if there is one; of a
-/// job that is moved the new deadline and no letter.
+/// job that is moved or rescheduled the new deadline and a space.
 fn job_of<A: Allocator>(
     letters: &mut Letters<A>,
     tickets: &mut Vec<Ticket>,
@@ -32,6 +35,9 @@ fn job_of<A: Allocator>(
             tickets.push(ticket).ok()?;
             Some((deadline, ' '))
         }
+        Call::Reschedule(place, deadline) => letters
+            .reschedule(*tickets.get(place)?, deadline)
+            .then_some((deadline, ' ')),
         Call::Cancel(place) => letters.cancel(*tickets.get(place)?),
         Call::PopDue(time) => letters.pop_due(time),
     }
@@ -143,16 +149,17 @@ const BEFORE: [Row; 4] = [
     (Call::Schedule(4, 'd'), Some((4, 'd'))),
 ];
 
-const WITHOUT: [Row; 2] = [
+const WITHOUT: [Row; 3] = [
     (Call::Schedule(3, 'e'), None),
     (Call::Move(0, 2), Some((2, ' '))),
+    (Call::Reschedule(1, 2), Some((2, ' '))),
 ];
 
 const AFTER: [Row; 7] = [
     (Call::Schedule(3, 'e'), Some((3, 'e'))),
-    (Call::PopDue(u64::MAX), Some((2, 'b'))),
     (Call::PopDue(u64::MAX), Some((2, 'c'))),
     (Call::PopDue(u64::MAX), Some((2, 'a'))),
+    (Call::PopDue(u64::MAX), Some((2, 'b'))),
     (Call::PopDue(u64::MAX), Some((3, 'e'))),
     (Call::PopDue(u64::MAX), Some((4, 'd'))),
     (Call::PopDue(u64::MAX), None),
