@@ -28,6 +28,40 @@ pub fn add(
     }
 }
 
+// Behind all jobs of the same deadline or an earlier one, with a search that compares the last deadline first.
+fn from_the_last<'k>(jobs: &Jobs, deadline: &'k u64) -> OrdInsertKind<P0, &'k u64> {
+    match jobs.last() {
+        Some(last) => OrdInsertKind::NonhereditaryLinear {
+            p_init: last.inx(),
+            num: 1,
+            k: deadline,
+        },
+        None => OrdInsertKind::Nonhereditary(deadline),
+    }
+}
+
+/// Puts a job on the list as `add` does. Its place is found in O(1) if it is due last, else in O(log n).
+pub fn append(
+    jobs: &mut Jobs,
+    job: OrdPair<u64, u64>,
+) -> Result<P0, (OrdPair<u64, u64>, OrdInsertionError)>
+    ensures finds { IfOk result (λ p. item_of jobs.new p ≡ Some job) }
+    ensures others { IfOk result (λ p. (q : ℕ × ℕ) → q ≢ p
+        → item_of jobs.new q ≡ item_of jobs.old q) }
+    ensures back { IfErr result (λ e. e.0 ≡ job) }
+    ensures refused { OnErr result (jobs.new ≡ jobs.old) }
+{
+    let kind = from_the_last(jobs, job.k());
+    match jobs.entry_insert(kind) {
+        Ok(entry) => {
+            let p = entry.ptr().any();
+            let _ = entry.insert(job);
+            Ok(p)
+        }
+        Err(refusal) => Err((job, refusal)),
+    }
+}
+
 /// Puts a job on the list where there is room, by a hint: the pointer of a job of about the same deadline.
 pub fn add_near(
     jobs: &mut Jobs,
