@@ -52,8 +52,16 @@ fn places<A: Allocator>(alloc: Global, tree: &Keys<A>) -> Vec<Place> {
 
 /// The place of a key: before the first greater one, or behind the last.
 fn place_of(places: &[Place], key: u8) -> Option<(u32, Ordering)> {
+    place_around(places, None, key)
+}
+
+/// The same among all entries but the one with an index.
+fn place_around(places: &[Place], index: Option<u32>, key: u8) -> Option<(u32, Ordering)> {
     let mut at = None;
     for place in places {
+        if Some(place.index) == index {
+            continue;
+        }
         if place.key < key {
             at = Some((place.index, Ordering::Greater));
         } else if at.is_none() {

@@ -1,6 +1,10 @@
-//! Insertions and removals in every order, beside a plain vector.
-use super::{Keys, Place, moved, places, potential, rank_changes, steps, toggle};
+//! Insertions, removals and moves in every order, beside a plain vector.
+use super::{
+    Keys, Place, index_of, moved, place_around, places, potential, rank_changes, steps, toggle,
+};
+use arena_base::ItemsMut;
 use std::alloc::Global;
+use std::cmp::Ordering;
 
 /// No node has both children two below it.
 fn is_tight(places: &[Place]) -> bool {
@@ -61,6 +65,54 @@ fn toggle_sorted(sorted: &mut Vec<u8>, key: u8) -> (usize, usize) {
     }
 }
 
+/// The other key of the entry that has this one at first.
+fn other_of(key: u8) -> u8 {
+    11u8.saturating_sub(key)
+}
+
+/// Moves an entry beside another, and gives it a key. Tells whether the tree has both entries.
+fn move_beside(tree: &mut Keys, index: u32, at: (u32, Ordering), key: u8) -> bool {
+    let are_there = tree.contains_inx(index) && tree.contains_inx(at.0);
+    if !are_there || at.0 == index || at.1 == Ordering::Equal {
+        return false;
+    }
+    tree.move_beside(index, at);
+    match tree.item_at_mut(index) {
+        Some(item) => {
+            *item = key;
+            true
+        }
+        None => false,
+    }
+}
+
+/// Inserts a key, moves its entry to the place of its other key, or removes the entry that has that. An entry alone is removed at once.
+fn turn(tree: &mut Keys, places: &[Place], key: u8) -> bool {
+    let other = other_of(key);
+    let Some(index) = index_of(places, key) else {
+        let is_moved = index_of(places, other).is_some();
+        return toggle(tree, places, if is_moved { other } else { key });
+    };
+    match place_around(places, Some(index), other) {
+        Some(at) => move_beside(tree, index, at, other),
+        None => toggle(tree, places, key),
+    }
+}
+
+/// The same in a plain vector. Returns how many parents the tree may move, and how many rank changes it may add to its account.
+fn turn_sorted(sorted: &mut Vec<u8>, key: u8) -> (usize, usize) {
+    let other = other_of(key);
+    if sorted.contains(&other) {
+        return toggle_sorted(sorted, other);
+    }
+    if sorted.len() < 2 || !sorted.contains(&key) {
+        return toggle_sorted(sorted, key);
+    }
+    let _ = toggle_sorted(sorted, key);
+    let _ = toggle_sorted(sorted, other);
+    (15, 14)
+}
+
 /// Whether the potential of the old tree and the allowance pay for the rank changes and for the potential of the new one.
 fn is_paid(old: &[Place], new: &[Place], allowance: usize) -> bool {
     let needed = rank_changes(old, new).saturating_add(potential(new));
@@ -75,22 +127,51 @@ struct Both {
     sorted: Vec<u8>,
 }
 
-/// Inserts or removes a key in both. Tells whether they agree then: only a removal leaves a tree that isn't tight.
-fn agree_on(alloc: Global, both: &mut Both, key: u8, stays_tight: bool) -> bool {
-    let is_done = toggle(&mut both.tree, &both.places, key);
-    let (most_moved, allowance) = toggle_sorted(&mut both.sorted, key);
+/// What is done with a key that is there.
+#[derive(Clone, Copy, PartialEq, Eq)]
+enum Mix {
+    /// No key comes twice.
+    Insertions,
+    /// It is removed.
+    Removals,
+    /// Its entry moves to the place of its other key, and is removed after that.
+    Moves,
+}
+
+/// Does what is done with a key in both. Returns how many parents the tree may move, and how many rank changes it may add to its account,
+/// if that is done.
+fn change(both: &mut Both, key: u8, mix: Mix) -> Option<(usize, usize)> {
+    let is_done = if mix == Mix::Moves {
+        turn(&mut both.tree, &both.places, key)
+    } else {
+        toggle(&mut both.tree, &both.places, key)
+    };
+    if !is_done {
+        return None;
+    }
+    Some(if mix == Mix::Moves {
+        turn_sorted(&mut both.sorted, key)
+    } else {
+        toggle_sorted(&mut both.sorted, key)
+    })
+}
+
+/// Makes a change in both. Tells whether they agree then: insertions alone leave a tight tree.
+fn agree_on(alloc: Global, both: &mut Both, key: u8, mix: Mix) -> bool {
+    let Some((most_moved, allowance)) = change(both, key, mix) else {
+        return false;
+    };
     let new = places(alloc, &both.tree);
-    let is_right = is_done
-        && is_balanced(&new, both.tree.root(), &both.sorted)
+    let is_right = is_balanced(&new, both.tree.root(), &both.sorted)
         && moved(&both.places, &new) <= most_moved
         && is_paid(&both.places, &new, allowance)
-        && (!stays_tight || is_tight(&new));
+        && (mix != Mix::Insertions || is_tight(&new));
     both.places = new;
     is_right
 }
 
-/// Whether a tree and a plain vector agree after each of these keys, which are inserted or removed one after another.
-fn agree_on_all(alloc: Global, keys: &[u8], stays_tight: bool) -> bool {
+/// Whether a tree and a plain vector agree after each of these keys, one after another.
+fn agree_on_all(alloc: Global, keys: &[u8], mix: Mix) -> bool {
     let mut both = Both {
         tree: Keys::new(alloc),
         places: Vec::new(alloc),
@@ -98,7 +179,7 @@ fn agree_on_all(alloc: Global, keys: &[u8], stays_tight: bool) -> bool {
     };
     let mut agree = true;
     for key in keys {
-        agree = agree_on(alloc, &mut both, *key, stays_tight) && agree;
+        agree = agree_on(alloc, &mut both, *key, mix) && agree;
     }
     agree
 }
@@ -111,7 +192,7 @@ fn keeps_the_balance_in_every_order(rt: HostRuntime) {
         for number in 0..orders {
             let order = order_of(rt.alloc(), count, number);
             assert!(rt; order.len() == usize::from(count));
-            assert!(rt; agree_on_all(rt.alloc(), &order, true));
+            assert!(rt; agree_on_all(rt.alloc(), &order, Mix::Insertions));
         }
     }
 }
@@ -119,7 +200,14 @@ fn keeps_the_balance_in_every_order(rt: HostRuntime) {
 #[test]
 fn inserts_and_removes_in_every_mix(rt: HostRuntime) {
     for word in 0..78_125usize {
-        assert!(rt; agree_on_all(rt.alloc(), &digits_of(word), false));
+        assert!(rt; agree_on_all(rt.alloc(), &digits_of(word), Mix::Removals));
+    }
+}
+
+#[test]
+fn moves_in_every_mix(rt: HostRuntime) {
+    for word in 0..78_125usize {
+        assert!(rt; agree_on_all(rt.alloc(), &digits_of(word), Mix::Moves));
     }
 }
 
