@@ -9,16 +9,18 @@ use std::alloc::{AllocError, Global};
 use std::time::Instant;
 use triple_ord::{OrdInsertKind, OrdPair, P0};
 
-/// Measures both kinds of new keys at n entries, and prints it.
+/// Measures each kind of new keys at n entries, and prints it.
 pub fn run(rt: &HostRuntime, n: usize) -> Result<()> {
     let keys = keys_of(rt.alloc(), n)?;
+    compare_rekeying(rt, "rekey in place", &keys, Target::Here)?;
     compare_rekeying(rt, "rekey to a near key", &keys, Target::Near)?;
     compare_rekeying(rt, "rekey to a random key", &keys, Target::Random)
 }
 
-// Where the new keys lie: about four entries further on, or anywhere.
+// Where the new keys lie: between the neighbours of the entry, about four entries further on, or anywhere.
 #[derive(Clone, Copy)]
 enum Target {
+    Here,
     Near,
     Random,
 }
@@ -46,6 +48,7 @@ fn changes_of(
             continue;
         };
         let key = match target {
+            Target::Here => pair.k().saturating_add(1),
             Target::Near => pair.k().saturating_add(four_entries),
             Target::Random => *random,
         };
