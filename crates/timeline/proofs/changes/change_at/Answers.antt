@@ -1,7 +1,7 @@
-use Rattle.std.proofs.Common.{ℕ, Option, Ok, sym, subst, ◌∙◌, ◌≡◌, nat_cmp, rules}
+use Rattle.std.proofs.Common.{ℕ, Option, Ok, sym, subst, ◌∙◌, nat_cmp, rules}
 use Rattle.triple_ord.specs.{Insertion.within, Insertion.InsertsBy, Place.at_key}
 use Rattle.triple_ord.proofs.CallerLemmas.{entry-inserts-by}
-use Rattle.timeline.specs.{Timeline.most_changes, Layout.changes_of, Layout.IsChanged}
+use Rattle.timeline.specs.{Timeline.most_changes, Layout.changes_of}
 use Rattle.timeline.proofs.Holding.{changed-same, changed-inserted}
 use Rattle.timeline.proofs.changes.change_at.Goals as goal
 
@@ -19,5 +19,4 @@ returns-clause-changed g c =
     (λ same. let no = c.if-is_same.ensures.1 (c.held_at.ensures ∙ same) in cc) shown c.insert.result
     (subst (λ (x : ℕ × Option g.row.V.Denot). InsertsBy (λ (y : ℕ × Option g.row.V.Denot). y.0) nat_cmp most_changes within (at_key c.args.time) (λ (p : ℕ × ℕ). p)
     c.args.changes.now x (Ok (shown, c.insert.result)) c.insert.new.self.0) c.new.ensures inserts) in
-    let there : c.insert.new.self.0 ≡ c.changes-1.given.0 = search rules in
-    subst (λ u. IsChanged (changes_of c.args.changes.now) c.args.time c.args.value (changes_of u)) there changed
+    search (rules, changed)
