@@ -10,7 +10,7 @@ ghost use Rattle.agenda.specs.Layout.{deadline_of, greatest_generation};
 
 use std::alloc::Allocator;
 use triple_ord::{
-    OrdInsertKind, OrdInsertionError, OrdPair, P0, Ptr, ReallocationError, SimpleOrdArena,
+    BasePtr, OrdInsertKind, OrdInsertionError, OrdPair, P0, ReallocationError, SimpleOrdArena,
 };
 
 /// Jobs by deadline.

@@ -22,5 +22,5 @@ pub use Rattle.arena_base.specs.Compression.{CompressionStep, IsCompression, com
 pub use Rattle.arena_base.specs.Slot.{entry_in, vacant_slots, arena_of, AllVacantFrom, slot_entry, with_slot_item, with_slot_generation}
 pub use Rattle.arena_base.specs.Walk.{entries_from, entries_rising, pointers_from, falling_from, rising_from}
 pub use Rattle.arena_base.specs.{Generation.IsLawfulGeneration, Pointer.index_number, SlotMoves.ClonesSlots, SlotMoves.CompressesSlots}
-pub use Rattle.arena_base.specs.declared.{arena.Arena.TheInside.Inside, ptr.PtrGen.Ghosts as Generations, ptr.PtrInx.Ghosts as Indexes}
+pub use Rattle.arena_base.specs.declared.{arena.Arena.TheInside.Inside, ptr.BasePtrGen.Ghosts as Generations, ptr.BasePtrInx.Ghosts as Indexes}
 pub use Rattle.arena_base.specs.declared.slot.Slot.{Slot, TheVariants.Occupied, TheVariants.Vacant}

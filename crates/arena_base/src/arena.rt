@@ -18,7 +18,7 @@ mod walks;
 mod write;
 
 use crate::invalidation::InvalidationOption;
-use crate::ptr::{P0, P8, Ptr, PtrGen, PtrInx};
+use crate::ptr::{BasePtr, BasePtrGen, BasePtrInx, P0, P8};
 use crate::slot::Slot;
 pub use drain::Drain;
 use std::alloc::{Allocator, Global};
@@ -34,7 +34,7 @@ pub use walks::PtrAdvancer;
 /// The calls take this arena's pointer type alone: where `arena` is an `Arena<P0, u64>` and `q` a `Q0`, `arena.get(q)` doesn't
 /// compile, with `error[mismatched-types]: expected `P0`, found `Q0``.
 #[derive(Drop)]
-pub struct Arena<P: Ptr, T, A: Allocator = Global> {
+pub struct Arena<P: BasePtr, T, A: Allocator = Global> {
     slots: Vec<Slot<T, P::Gen>, A>,
     // The indexes without an entry. The last is taken next. It has room for all, so that a removal needs no memory.
     vacant: Vec<VacantInx<P>, A>,
@@ -43,14 +43,14 @@ pub struct Arena<P: Ptr, T, A: Allocator = Global> {
 }
 
 // A vacant slot is listed by its index.
-type VacantInx<P> = <P as Ptr>::Inx;
+type VacantInx<P> = <P as BasePtr>::Inx;
 
 // So the list takes no more for each than an index: a byte in an arena of bytes, half a word in the usual one.
 const _: () = prove!(size_of::<VacantInx<P8>>() == 1);
 
 const _: () = prove!(size_of::<VacantInx<P0>>() == 4);
 
-impl<P: Ptr, T, A: Allocator> Model for Arena<P, T, A> {
+impl<P: BasePtr, T, A: Allocator> Model for Arena<P, T, A> {
     ghost use Rattle.std.specs.Prelude.{◌≤◌, map, vec_len, vec_capacity};
     ghost use Rattle.arena_base.specs.Arena.{Arena as Slots};
 
@@ -68,7 +68,7 @@ impl<P: Ptr, T, A: Allocator> Model for Arena<P, T, A> {
         × (vec_len a.slots ≤ vec_capacity a.vacant) };
 }
 
-impl<P: Ptr, T, A: Allocator> Arena<P, T, A> {
+impl<P: BasePtr, T, A: Allocator> Arena<P, T, A> {
     /// How many entries there is room for before the arena has to grow.
     pub fn capacity(&self) -> usize
         ensures value { result ≡ arena_capacity self.now }

@@ -4,13 +4,13 @@ ghost use Rattle.std.specs.declared.alloc.AllocError.{AllocError};
 ghost use Rattle.arena_base.specs.Clone.{IsShown};
 
 use crate::map_entry::Calls;
-use crate::ptr::Ptr;
+use crate::ptr::BasePtr;
 use std::alloc::AllocError;
 
 /// What makes an item of an entry's pointer and a reference to its item, as a closure `FnMut(P, &U) -> Result<T, AllocError>` does.
 ///
 /// A container over an arena writes its own, which hands its part of the item on to that of its caller.
-pub trait CloneEntry<P: Ptr, U, T> {
+pub trait CloneEntry<P: BasePtr, U, T> {
     // it may be called
     ghost callable: { Self → Type 0 };
 
@@ -24,7 +24,7 @@ pub trait CloneEntry<P: Ptr, U, T> {
         ensures callable { callable self.new };
 }
 
-impl<P: Ptr, U, T, F: FnMut(P, &U) -> T> CloneEntry<P, U, T> for Calls<F> {
+impl<P: BasePtr, U, T, F: FnMut(P, &U) -> T> CloneEntry<P, U, T> for Calls<F> {
     ghost callable = { λ c. F.IsAlwaysCallable c.f };
 
     ghost step = { λ c p item answer d.
@@ -41,7 +41,8 @@ pub struct TryCalls<F> {
     pub f: F,
 }
 
-impl<P: Ptr, U, T, F: FnMut(P, &U) -> Result<T, AllocError>> CloneEntry<P, U, T> for TryCalls<F> {
+impl<P: BasePtr, U, T, F: FnMut(P, &U) -> Result<T, AllocError>> CloneEntry<P, U, T>
+    for TryCalls<F> {
     ghost callable = { λ c. F.IsAlwaysCallable c.f };
 
     ghost step = { λ c p item answer d. IsShown F.step c.f p item answer d.f };

@@ -3,13 +3,13 @@ ghost use Rattle.std.specs.Prelude.{◌≡◌, ℕ, Option, Some, is_some, IsSom
 ghost use Rattle.std.specs.Option.{option_copied_mut, option_map};
 ghost use Rattle.std.specs.Borrow.{sem, Lends, LendsIf, follows_if, name_if_some};
 
-use crate::ptr::{Ptr, PtrGen, PtrInx};
+use crate::ptr::{BasePtr, BasePtrGen, BasePtrInx};
 
 /// Containers whose entries are found by index, and whose items can be written there.
 ///
 /// An item that was written is the entry's afterwards, and nothing else has changed. Each call takes O(1) in an arena, a chain
 /// arena, a tree and an ordered arena.
-pub trait ItemsMut<P: Ptr, T> {
+pub trait ItemsMut<P: BasePtr, T> {
     // generation and item of the entry at an index
     ghost entry_at: { Self → ℕ → Option (ℕ × T) };
 
@@ -64,7 +64,7 @@ pub trait ItemsMut<P: Ptr, T> {
 }
 
 // Whether there is an entry at the index, and the container again, as the same reference.
-fn occupied<S: ItemsMut<P, T>, P: Ptr, T>(items: &mut S, i: P::Inx) -> (bool, &mut S)
+fn occupied<S: ItemsMut<P, T>, P: BasePtr, T>(items: &mut S, i: P::Inx) -> (bool, &mut S)
     ensures same_reference { result.1.ghost_name ≡ items.entry.ghost_name }
     ensures same { result.1.now ≡ items.old }
     ensures occupied { result.0 ≡ is_some (S.entry_at items.old (P.Inx.number i)) }

@@ -4,11 +4,11 @@ ghost use Rattle.arena_base.specs.Arena.{item_of, FindSame, FindSameBut};
 ghost use Rattle.arena_base.specs.Generation.{next_generation};
 
 use crate::error::ReallocationError;
-use crate::ptr::Ptr;
+use crate::ptr::BasePtr;
 use crate::traits::{ArenaCloneFromWith, ArenaTrait};
 
 /// Takes out what the pointer names. Afterwards it names nothing. Where it named nothing, nothing changes.
-pub fn take<P: Ptr, T, A: ArenaTrait<P, T>>(arena: &mut A, p: P) -> Option<T>
+pub fn take<P: BasePtr, T, A: ArenaTrait<P, T>>(arena: &mut A, p: P) -> Option<T>
     ensures taken { result ≡ item_of (A.content arena.old) (P.numbers p) }
     ensures gone { item_of (A.content arena.new) (P.numbers p) ≡ None }
     ensures others { FindSameBut (P.numbers p) (A.content arena.new) (A.content arena.old) }
@@ -19,7 +19,7 @@ pub fn take<P: Ptr, T, A: ArenaTrait<P, T>>(arena: &mut A, p: P) -> Option<T>
 
 /// Puts an item in the place of the one that the pointer names, which is dropped. It returns whether there was one; where
 /// there was none, nothing changes.
-pub fn put<P: Ptr, T: Drop, A: ArenaTrait<P, T>>(arena: &mut A, p: P, item: T) -> bool
+pub fn put<P: BasePtr, T: Drop, A: ArenaTrait<P, T>>(arena: &mut A, p: P, item: T) -> bool
     ensures found { result ≡ is_some (item_of (A.content arena.old) (P.numbers p)) }
     ensures written { IsTrue result → item_of (A.content arena.new) (P.numbers p) ≡ Some item }
     ensures others { FindSameBut (P.numbers p) (A.content arena.new) (A.content arena.old) }
@@ -38,7 +38,7 @@ pub fn put<P: Ptr, T: Drop, A: ArenaTrait<P, T>>(arena: &mut A, p: P, item: T) -
 /// nothing changes.
 ///
 /// The old pointer names nothing afterwards, unless the raised generation is its own, as it always is for the type `()`.
-pub fn renew<P: Ptr, T, A: ArenaTrait<P, T>>(arena: &mut A, p: P) -> Option<P>
+pub fn renew<P: BasePtr, T, A: ArenaTrait<P, T>>(arena: &mut A, p: P) -> Option<P>
     ensures found { is_some result ≡ is_some (item_of (A.content arena.old) (P.numbers p)) }
     ensures index { IfSome result (λ q. (P.numbers q).0 ≡ (P.numbers p).0) }
     ensures generation { IfSome result
@@ -56,7 +56,7 @@ pub fn renew<P: Ptr, T, A: ArenaTrait<P, T>>(arena: &mut A, p: P) -> Option<P>
 }
 
 /// Drops all entries. Afterwards no pointer names anything.
-pub fn empty<P: Ptr, T: Drop, A: ArenaTrait<P, T>>(arena: &mut A)
+pub fn empty<P: BasePtr, T: Drop, A: ArenaTrait<P, T>>(arena: &mut A)
     ensures { (p : ℕ × ℕ) → item_of (A.content arena.new) p ≡ None }
 {
     let _ = arena.clear();
@@ -64,7 +64,7 @@ pub fn empty<P: Ptr, T: Drop, A: ArenaTrait<P, T>>(arena: &mut A)
 
 /// Copies the source into another arena, whose own entries are dropped. Afterwards every pointer finds in it what it finds in
 /// the source. Where that is refused, nothing changes.
-pub fn copy<P: Ptr, T: Copy + Drop, S: ArenaTrait<P, T>, A: ArenaCloneFromWith<P, T>>(
+pub fn copy<P: BasePtr, T: Copy + Drop, S: ArenaTrait<P, T>, A: ArenaCloneFromWith<P, T>>(
     source: &S,
     arena: &mut A,
 ) -> Result<(), ReallocationError>

@@ -1,12 +1,12 @@
 //! `MapEntry`: what becomes of an item whose entry gets a new pointer.
 ghost use Rattle.std.specs.Prelude.{◌≡◌};
 
-use crate::ptr::Ptr;
+use crate::ptr::BasePtr;
 
 /// What makes a new item of an entry's old pointer, its item and its new pointer, as a closure `FnMut(P, T, P) -> T` does.
 ///
 /// A container over an arena writes its own, which hands its part of the item on to that of its caller.
-pub trait MapEntry<P: Ptr, T> {
+pub trait MapEntry<P: BasePtr, T> {
     // it may be called
     ghost callable: { Self → Type 0 };
 
@@ -26,7 +26,7 @@ pub struct Calls<F> {
     pub f: F,
 }
 
-impl<P: Ptr, T, F: FnMut(P, T, P) -> T> MapEntry<P, T> for Calls<F> {
+impl<P: BasePtr, T, F: FnMut(P, T, P) -> T> MapEntry<P, T> for Calls<F> {
     ghost callable = { λ c. F.IsAlwaysCallable c.f };
 
     ghost step = { λ c old item new answer d. F.step c.f old item new answer d.f };

@@ -3,19 +3,19 @@ ghost use Rattle.std.specs.Prelude.{◌≡◌, None};
 ghost use Rattle.std.specs.Option.{option_map};
 ghost use Rattle.arena_base.specs.Pointer.{named, named_of};
 
-use crate::ptr::{Ptr, PtrInx};
+use crate::ptr::{BasePtr, BasePtrInx};
 use std::fmt;
 use std::marker::Model;
 
 /// An index or none, in the room of an index: an `Option` of one would take twice as much.
 ///
-/// The index of `Ptr::invalid()` names no entry, and stands for none.
+/// The index of `BasePtr::invalid()` names no entry, and stands for none.
 #[derive(Clone, Drop)]
-pub struct OptInx<P: Ptr> {
+pub struct OptInx<P: BasePtr> {
     inx: P::Inx,
 }
 
-impl<P: Ptr> Model for OptInx<P> {
+impl<P: BasePtr> Model for OptInx<P> {
     ghost use Rattle.std.specs.Prelude.{ℕ, Option};
     ghost use Rattle.arena_base.specs.Pointer.{named};
 
@@ -24,8 +24,8 @@ impl<P: Ptr> Model for OptInx<P> {
     ghost view = { λ i. named P.Inx.most (P.Inx.number i.inx) };
 }
 
-impl<P: Ptr> OptInx<P> {
-    /// An index or none. The index of `Ptr::invalid()` is none.
+impl<P: BasePtr> OptInx<P> {
+    /// An index or none. The index of `BasePtr::invalid()` is none.
     pub fn new(inx: Option<P::Inx>) -> Self
         ensures { result ≡ named_of P.Inx.most (option_map P.Inx.number inx) }
     {
@@ -57,7 +57,7 @@ impl<P: Ptr> OptInx<P> {
 }
 
 /// As an `Option` of the index's number.
-impl<P: Ptr> fmt::Debug for OptInx<P> {
+impl<P: BasePtr> fmt::Debug for OptInx<P> {
     fn fmt<W: fmt::Write>(&self, f: &mut fmt::Formatter<W>) -> fmt::Result {
         self.get().and_then(P::Inx::try_into_usize).fmt(f)
     }

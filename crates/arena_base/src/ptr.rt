@@ -8,11 +8,13 @@ mod pointers;
 mod unit;
 
 pub use pointers::{P0, P8, PN, Q0};
+use std::fmt::Debug;
+use std::hash::Hash;
 
-/// The index part of a pointer.
+/// The index part of a pointer, as an arena needs it.
 ///
 /// Index 0 names nothing, and neither does the greatest index: entries have the indexes from 1 to `limit()`.
-pub trait PtrInx: Copy + Eq {
+pub trait BasePtrInx: Copy + Eq {
     // the index as a number
     ghost number: { Self → ℕ };
 
@@ -42,11 +44,11 @@ pub trait PtrInx: Copy + Eq {
     ghost fits: { most + 1 < 2 ^ 64 };
 }
 
-/// The generation part of a pointer.
+/// The generation part of a pointer, as an arena needs it.
 ///
 /// Generation 0 is unused and 1 belongs to invalid pointers: entries have the generations from `two()` on. After the greatest
 /// comes `two()` again. The type `()` has one generation, which never changes.
-pub trait PtrGen: Copy + Eq {
+pub trait BasePtrGen: Copy + Eq {
     // the generation as a number, 0 for `()`
     ghost number: { Self → ℕ };
 
@@ -82,14 +84,14 @@ pub trait PtrGen: Copy + Eq {
 
 /// A pointer to an entry of an arena: the entry's index, and the generation that the entry has.
 ///
-/// An arena needs no more of it than that it can be copied and compared. `P0`, `Q0`, `P8` and `PN` can be ordered, hashed and printed
-/// too; code that does so for any pointer asks for it, as in `P: Ptr + Ord + Hash + Debug`.
-pub trait Ptr: Copy + Eq {
+/// An arena only copies and compares pointers, so its calls ask for this trait alone. Code that sorts, hashes or prints pointers of any
+/// type asks for [`Ptr`].
+pub trait BasePtr: Copy + Eq {
     /// The type of its index.
-    type Inx: PtrInx;
+    type Inx: BasePtrInx;
 
     /// The type of its generation.
-    type Gen: PtrGen;
+    type Gen: BasePtrGen;
 
     // the numbers of its index and of its generation
     ghost numbers: { Self → ℕ × ℕ };
@@ -118,3 +120,15 @@ pub trait Ptr: Copy + Eq {
     ghost eq_is: { (p q : Self) → Self.PartialEq.eq p q
         ≡ (((numbers p).0 == (numbers q).0) && ((numbers p).1 == (numbers q).1)) };
 }
+
+/// The index part of a pointer, with an order, a hash and `Debug`.
+pub trait PtrInx: BasePtrInx + Ord + Hash + Debug {}
+
+/// The generation part of a pointer, with `Debug`.
+pub trait PtrGen: BasePtrGen + Debug {}
+
+/// A pointer to an entry of an arena, with an order, a hash and `Debug`.
+///
+/// Its members are those of [`BasePtr`]. `P0`, `Q0`, `P8` and `PN` implement it; a pointer type of your own does by `impl Ptr for` it,
+/// once it derives the others.
+pub trait Ptr: BasePtr<Inx: PtrInx, Gen: PtrGen> + Ord + Hash + Debug {}

@@ -11,11 +11,11 @@ ghost use Rattle.arena_base.specs.Invalidation.{valid_value, is_overflow, IsRemo
 use crate::error::{MaxCapacityReductionError, ReallocationError};
 use crate::invalidation::{InvalidationOption, InvalidationResult};
 use crate::items_mut::ItemsMut;
-use crate::ptr::{Ptr, PtrGen, PtrInx};
+use crate::ptr::{BasePtr, BasePtrGen, BasePtrInx};
 use std::alloc::{AllocError, Allocator};
 
 /// The calls that all arenas have.
-pub trait ArenaTrait<P: Ptr, T>: ItemsMut<P, T> {
+pub trait ArenaTrait<P: BasePtr, T>: ItemsMut<P, T> {
     /// The handle that the arena's memory comes from.
     type Alloc: Allocator + Copy;
 
@@ -173,7 +173,7 @@ pub trait ArenaTrait<P: Ptr, T>: ItemsMut<P, T> {
 pub trait CompactArenaTrait {}
 
 /// Arenas whose capacity can be given a maximum.
-pub trait SetMaxCapacity<P: Ptr, T>: ArenaTrait<P, T> {
+pub trait SetMaxCapacity<P: BasePtr, T>: ArenaTrait<P, T> {
     /// Sets a maximum of the capacity. It is refused, and nothing changes, where the capacity is already greater.
     fn set_max_capacity(&mut self, n: usize) -> Result<(), MaxCapacityReductionError>
         ensures ok { OnOk result
@@ -184,7 +184,7 @@ pub trait SetMaxCapacity<P: Ptr, T>: ArenaTrait<P, T> {
 }
 
 /// Arenas that can become a clone of another arena.
-pub trait ArenaCloneFromWith<P: Ptr, T>: ArenaTrait<P, T> {
+pub trait ArenaCloneFromWith<P: BasePtr, T>: ArenaTrait<P, T> {
     /// Makes this arena a clone of the source, with items that `map` makes: it has the source's pointers and generation, and its
     /// own old entries are dropped. For each entry of the source, by rising index, `map` is called with its pointer and a
     /// reference to its item. The capacity grows to the source's greatest index with an entry, where it is less, before anything

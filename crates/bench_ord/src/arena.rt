@@ -2,7 +2,7 @@
 use crate::store::Store;
 use crate::task::{Linked, Reached};
 use std::alloc::{AllocError, Global};
-use triple_ord::{OrdInsertKind, OrdPair, P0, Ptr, SimpleOrdArena};
+use triple_ord::{BasePtr, OrdInsertKind, OrdPair, P0, SimpleOrdArena};
 
 /// An ordered arena of pairs.
 pub type Pairs = SimpleOrdArena<P0, OrdPair<u64, u64>>;

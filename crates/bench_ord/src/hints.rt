@@ -3,7 +3,7 @@ use crate::arena::Pairs;
 use crate::keys::shuffle;
 use crate::task::Task;
 use std::alloc::{AllocError, Global};
-use triple_ord::{P0, Ptr};
+use triple_ord::{BasePtr, P0};
 
 /// A key that an entry has, with the pointer to an entry near it.
 #[derive(Clone, Copy)]

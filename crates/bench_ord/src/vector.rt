@@ -2,7 +2,7 @@
 use crate::arena::Pointed;
 use crate::task::{Linked, Reached};
 use std::alloc::{AllocError, Global};
-use triple_ord::{OrdPair, Ptr};
+use triple_ord::{BasePtr, OrdPair};
 
 /// The items of an arena in a vector, at the indexes that they have there.
 #[derive(Drop)]

@@ -18,7 +18,7 @@ pub mod walk;
 mod write;
 
 use crate::link::LinkNoGen;
-use arena_base::{Arena, InvalidationOption, Ptr};
+use arena_base::{Arena, BasePtr, InvalidationOption};
 use std::alloc::{Allocator, Global};
 use std::marker::Model;
 
@@ -27,13 +27,13 @@ use std::marker::Model;
 /// An entry keeps its pointer while others come and go. Each call takes O(1), but for `clear`, growths and the two calls
 /// that look for an index.
 #[derive(Drop)]
-pub struct ChainArena<P: Ptr, T, A: Allocator = Global> {
+pub struct ChainArena<P: BasePtr, T, A: Allocator = Global> {
     arena: Arena<P, LinkNoGen<P, T>, A>,
     first: Option<P::Inx>,
     last: Option<P::Inx>,
 }
 
-impl<P: Ptr, T, A: Allocator> Model for ChainArena<P, T, A> {
+impl<P: BasePtr, T, A: Allocator> Model for ChainArena<P, T, A> {
     ghost use Rattle.std.specs.Option.{option_map};
     ghost use Rattle.chain_base.specs.Chain.{Chain};
 
@@ -48,7 +48,7 @@ impl<P: Ptr, T, A: Allocator> Model for ChainArena<P, T, A> {
         (chain_of c.arena (option_map P.Inx.number c.first)).entries };
 }
 
-impl<P: Ptr, T, A: Allocator> ChainArena<P, T, A> {
+impl<P: BasePtr, T, A: Allocator> ChainArena<P, T, A> {
     /// How many entries there is room for before the arena has to grow.
     pub fn capacity(&self) -> usize
         ensures { result ≡ self.now.capacity }

@@ -3,19 +3,19 @@ ghost use Rattle.std.specs.Prelude.{◌≡◌, ◌≤◌, Some, None};
 ghost use Rattle.std.specs.Option.{option_map, ForSome};
 ghost use Rattle.arena_base.specs.Pointer.{named_of};
 
-use arena_base::{OptInx, Ptr};
+use arena_base::{BasePtr, OptInx};
 use std::marker::Model;
 
 /// An item of a chain, and the indexes of the entries before and after it. The indexes are without generations, since a
 /// neighbour is always an entry.
 #[derive(Drop)]
-pub struct LinkNoGen<P: Ptr, T> {
+pub struct LinkNoGen<P: BasePtr, T> {
     pub t: T,
     prev: OptInx<P>,
     next: OptInx<P>,
 }
 
-impl<P: Ptr, T> Model for LinkNoGen<P, T> {
+impl<P: BasePtr, T> Model for LinkNoGen<P, T> {
     ghost use Rattle.chain_base.specs.Link.{Link};
 
     ghost Value = { Link T };
@@ -23,10 +23,10 @@ impl<P: Ptr, T> Model for LinkNoGen<P, T> {
     ghost view = { λ l. record { item = l.t; prev = l.prev; next = l.next } };
 }
 
-impl<P: Ptr, T> LinkNoGen<P, T> {
+impl<P: BasePtr, T> LinkNoGen<P, T> {
     /// A link of the item `t` between two neighbours, first the previous one, then the next.
     ///
-    /// The index of `Ptr::invalid()` names no neighbour.
+    /// The index of `BasePtr::invalid()` names no neighbour.
     pub fn new(prev_next: (Option<P::Inx>, Option<P::Inx>), t: T) -> Self
         ensures item { result.item ≡ t }
         ensures prev { result.prev ≡ named_of P.Inx.most (option_map P.Inx.number prev_next.0) }

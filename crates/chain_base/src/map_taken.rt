@@ -1,13 +1,13 @@
 //! `MapTaken`: what becomes of an entry that goes over from one arena into another.
 ghost use Rattle.arena_base.specs.declared.invalidation.InvalidationOption.{InvalidationOption as Taken};
 
-use arena_base::{Calls, InvalidationOption, Ptr};
+use arena_base::{BasePtr, Calls, InvalidationOption};
 
 /// What makes a new item of the pointer that an entry had, its item with what its removal says, and its new pointer, as a closure
 /// `FnMut(Q, InvalidationOption<U>, P) -> T` does.
 ///
 /// A container over a chain writes its own, which hands its part of the items on to that of its caller.
-pub trait MapTaken<Q: Ptr, U, P: Ptr, T> {
+pub trait MapTaken<Q: BasePtr, U, P: BasePtr, T> {
     // it may be called
     ghost callable: { Self → Type 0 };
 
@@ -21,7 +21,7 @@ pub trait MapTaken<Q: Ptr, U, P: Ptr, T> {
         ensures callable { callable self.new };
 }
 
-impl<Q: Ptr, U, P: Ptr, T, F: FnMut(Q, InvalidationOption<U>, P) -> T> MapTaken<Q, U, P, T>
+impl<Q: BasePtr, U, P: BasePtr, T, F: FnMut(Q, InvalidationOption<U>, P) -> T> MapTaken<Q, U, P, T>
     for Calls<F> {
     ghost callable = { λ c. F.IsAlwaysCallable c.f };
 

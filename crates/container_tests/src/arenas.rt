@@ -7,7 +7,7 @@ mod memory;
 mod texts;
 mod walks;
 
-use arena_base::{Arena, P0, Ptr};
+use arena_base::{Arena, BasePtr, P0};
 use std::alloc::Allocator;
 
 fn p0(inx: u32, generation: u64) -> P0 {

@@ -4,7 +4,7 @@ mod clones;
 mod memory;
 mod rebuild;
 
-use arena_base::{Advancer, InsertionError, InvalidationOption, ItemsMut, P0, Ptr};
+use arena_base::{Advancer, BasePtr, InsertionError, InvalidationOption, ItemsMut, P0};
 use chain_base::{ChainArena, ChainPtrAdvancer, LinkInsertKind};
 use std::alloc::{Allocator, Global};
 

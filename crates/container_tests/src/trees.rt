@@ -5,7 +5,7 @@ mod memory;
 mod rebuild;
 mod repairs;
 
-use arena_base::{Advancer, InsertionError, ItemsMut, P0, Ptr};
+use arena_base::{Advancer, BasePtr, InsertionError, ItemsMut, P0};
 use chain_base::ChainPtrAdvancer;
 use ord_tree::OrdTree;
 use std::alloc::{Allocator, Global};

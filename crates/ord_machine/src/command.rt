@@ -1,10 +1,10 @@
 //! What an arena can be asked.
-use arena_base::Ptr;
+use arena_base::BasePtr;
 use triple_ord::{OrdInsertKind, SimpleOrdItem};
 
 /// A command to an ordered arena of items `T` under pointers `P`.
 #[derive(Drop)]
-pub enum Command<P: Ptr, T: SimpleOrdItem> {
+pub enum Command<P: BasePtr, T: SimpleOrdItem> {
     /// Inserts the item by its key.
     Insert(T),
     /// Inserts the item by its key, within the capacity.

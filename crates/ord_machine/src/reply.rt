@@ -1,12 +1,12 @@
 //! What an arena answers.
-use arena_base::{InvalidationOption, InvalidationResult, Ptr};
+use arena_base::{BasePtr, InvalidationOption, InvalidationResult};
 use std::alloc::Allocator;
 use std::cmp::Ordering;
 use triple_ord::{OrdEntryKind, OrdInsertionError};
 
 /// A reply to a command.
 #[derive(Drop)]
-pub enum Reply<P: Ptr, T, A: Allocator> {
+pub enum Reply<P: BasePtr, T, A: Allocator> {
     /// The item is in a new entry, or replaces the item that an entry had, which stands beside.
     Inserted(OrdEntryKind<P>, Option<T>),
     /// The command was refused, and changed nothing. `Reserve` is refused as a growth is, beyond the limit or for want of memory; a

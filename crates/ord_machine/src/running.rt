@@ -8,7 +8,7 @@ ghost use Rattle.ord_machine.specs.Machine.{reading_by, Marks, AreTrue, Does, Ru
 use crate::command::Command;
 use crate::reply::Reply;
 use crate::steps;
-use arena_base::Ptr;
+use arena_base::BasePtr;
 use std::alloc::{AllocError, Allocator};
 use std::cmp::Ordering;
 use triple_ord::{SimpleOrdArena, SimpleOrdItem};
@@ -20,7 +20,7 @@ use triple_ord::{SimpleOrdArena, SimpleOrdItem};
 /// on. A clone of an item has to equal it. `FindWith` and `SimilarWith` call the closure, and its state passes from one to the next; it
 /// may answer anything, differently each time, and has to be one that may be called at every pointer and item, again and again.
 pub fn run<
-    P: Ptr,
+    P: BasePtr,
     T: SimpleOrdItem + Clone + Drop,
     F: FnMut(P, &T) -> Ordering,
     A: Allocator + Copy,
@@ -52,7 +52,12 @@ where
 }
 
 // One step.
-fn step<P: Ptr, T: SimpleOrdItem + Clone + Drop, F: FnMut(P, &T) -> Ordering, A: Allocator + Copy>(
+fn step<
+    P: BasePtr,
+    T: SimpleOrdItem + Clone + Drop,
+    F: FnMut(P, &T) -> Ordering,
+    A: Allocator + Copy,
+>(
     alloc: A,
     arena: &mut SimpleOrdArena<P, T, A>,
     command: Command<P, T>,
@@ -79,7 +84,7 @@ where
 
 // What a command does, and what it answers.
 fn reply_to<
-    P: Ptr,
+    P: BasePtr,
     T: SimpleOrdItem + Clone + Drop,
     F: FnMut(P, &T) -> Ordering,
     A: Allocator + Copy,

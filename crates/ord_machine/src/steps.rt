@@ -10,14 +10,14 @@ ghost use Rattle.ord_tree.specs.Ranks.{HasRank};
 ghost use Rattle.ord_machine.specs.Machine.{Marks, AreTrue, Inserts, insertion_reply, Sets, MovesToKey, Removes, RemovesAt, Renews, Changes, Rebuilds, Reserves, SetsMaximum, Finds, FindsFrom, FindsNear, FindsNearFrom, AnswersWith, AnswersSimilarWith, Visits, Gets, IsEnd, HasNeighbours, Lists, entry_of, Ranked, HaveRanks, Drains, removed_each, Checks, Counts};
 
 use crate::reply::Reply;
-use arena_base::{ItemsMut, Ptr, ReallocationError};
+use arena_base::{BasePtr, ItemsMut, ReallocationError};
 use std::alloc::{AllocError, Allocator};
 use std::cmp::Ordering;
 use std::mem;
 use triple_ord::{OrdEntryKind, OrdInsertKind, OrdInsertionError, SimpleOrdArena, SimpleOrdItem};
 
 /// `Command::Insert`
-pub fn insert<P: Ptr, T: SimpleOrdItem + Drop, A: Allocator>(
+pub fn insert<P: BasePtr, T: SimpleOrdItem + Drop, A: Allocator>(
     arena: &mut SimpleOrdArena<P, T, A>,
     item: T,
 ) -> Reply<P, T, A>
@@ -28,7 +28,7 @@ pub fn insert<P: Ptr, T: SimpleOrdItem + Drop, A: Allocator>(
 }
 
 /// `Command::InsertWithin`
-pub fn insert_within<P: Ptr, T: SimpleOrdItem + Drop, A: Allocator>(
+pub fn insert_within<P: BasePtr, T: SimpleOrdItem + Drop, A: Allocator>(
     arena: &mut SimpleOrdArena<P, T, A>,
     item: T,
 ) -> Reply<P, T, A>
@@ -39,7 +39,7 @@ pub fn insert_within<P: Ptr, T: SimpleOrdItem + Drop, A: Allocator>(
 }
 
 /// The reply to an insertion by the item's key.
-fn reply_to_insertion<P: Ptr, T, A: Allocator>(
+fn reply_to_insertion<P: BasePtr, T, A: Allocator>(
     inserted: Result<(P, Option<T>), OrdInsertionError>,
 ) -> Reply<P, T, A>
     ensures { result ≡ insertion_reply (told inserted) }
@@ -57,7 +57,7 @@ fn reply_to_insertion<P: Ptr, T, A: Allocator>(
 }
 
 /// `Command::Entry`
-pub fn entry<P: Ptr, T: SimpleOrdItem + Drop, A: Allocator>(
+pub fn entry<P: BasePtr, T: SimpleOrdItem + Drop, A: Allocator>(
     arena: &mut SimpleOrdArena<P, T, A>,
     kind: &OrdInsertKind<P, T::Key>,
     item: T,
@@ -79,7 +79,7 @@ pub fn entry<P: Ptr, T: SimpleOrdItem + Drop, A: Allocator>(
 }
 
 /// `Command::EntryWithin`
-pub fn entry_within<P: Ptr, T: SimpleOrdItem + Drop, A: Allocator>(
+pub fn entry_within<P: BasePtr, T: SimpleOrdItem + Drop, A: Allocator>(
     arena: &mut SimpleOrdArena<P, T, A>,
     kind: &OrdInsertKind<P, T::Key>,
     item: T,
@@ -100,7 +100,7 @@ pub fn entry_within<P: Ptr, T: SimpleOrdItem + Drop, A: Allocator>(
 }
 
 /// `Command::Set`
-pub fn set<P: Ptr, T: Drop, A: Allocator>(
+pub fn set<P: BasePtr, T: Drop, A: Allocator>(
     arena: &mut SimpleOrdArena<P, T, A>,
     p: P,
     item: T,
@@ -116,7 +116,7 @@ pub fn set<P: Ptr, T: Drop, A: Allocator>(
 }
 
 /// `Command::Rekey`
-pub fn rekey<P: Ptr, T: SimpleOrdItem + Drop, A: Allocator>(
+pub fn rekey<P: BasePtr, T: SimpleOrdItem + Drop, A: Allocator>(
     arena: &mut SimpleOrdArena<P, T, A>,
     p: P,
     item: T,
@@ -127,7 +127,7 @@ pub fn rekey<P: Ptr, T: SimpleOrdItem + Drop, A: Allocator>(
 }
 
 /// `Command::Remove`
-pub fn remove<P: Ptr, T: Drop, A: Allocator>(
+pub fn remove<P: BasePtr, T: Drop, A: Allocator>(
     arena: &mut SimpleOrdArena<P, T, A>,
     p: P,
 ) -> Reply<P, T, A>
@@ -137,7 +137,7 @@ pub fn remove<P: Ptr, T: Drop, A: Allocator>(
 }
 
 /// `Command::RemoveInx`
-pub fn remove_inx<P: Ptr, T: Drop, A: Allocator>(
+pub fn remove_inx<P: BasePtr, T: Drop, A: Allocator>(
     arena: &mut SimpleOrdArena<P, T, A>,
     i: P::Inx,
 ) -> Reply<P, T, A>
@@ -152,7 +152,7 @@ pub fn remove_inx<P: Ptr, T: Drop, A: Allocator>(
 }
 
 /// `Command::Invalidate`
-pub fn invalidate<P: Ptr, T, A: Allocator>(
+pub fn invalidate<P: BasePtr, T, A: Allocator>(
     arena: &mut SimpleOrdArena<P, T, A>,
     p: P,
 ) -> Reply<P, T, A>
@@ -162,7 +162,9 @@ pub fn invalidate<P: Ptr, T, A: Allocator>(
 }
 
 /// `Command::Clear`
-pub fn clear<P: Ptr, T: Drop, A: Allocator>(arena: &mut SimpleOrdArena<P, T, A>) -> Reply<P, T, A>
+pub fn clear<P: BasePtr, T: Drop, A: Allocator>(
+    arena: &mut SimpleOrdArena<P, T, A>,
+) -> Reply<P, T, A>
     ensures { Changes P.Gen.greatest arena.old
         (record { list = cleared P.Gen.greatest arena.old.list; shape = missing })
         result arena.new }
@@ -171,7 +173,7 @@ pub fn clear<P: Ptr, T: Drop, A: Allocator>(arena: &mut SimpleOrdArena<P, T, A>)
 }
 
 /// `Command::IncGeneration`
-pub fn inc_generation<P: Ptr, T, A: Allocator>(
+pub fn inc_generation<P: BasePtr, T, A: Allocator>(
     arena: &mut SimpleOrdArena<P, T, A>,
 ) -> Reply<P, T, A>
     ensures { Changes P.Gen.greatest arena.old
@@ -181,7 +183,7 @@ pub fn inc_generation<P: Ptr, T, A: Allocator>(
 }
 
 /// `Command::Compress`
-pub fn compress<P: Ptr, T, A: Allocator>(
+pub fn compress<P: BasePtr, T, A: Allocator>(
     arena: &mut SimpleOrdArena<P, T, A>,
     reset: bool,
 ) -> Reply<P, T, A>
@@ -191,7 +193,7 @@ pub fn compress<P: Ptr, T, A: Allocator>(
 }
 
 /// `Command::Canonical`
-pub fn canonical<P: Ptr, T, A: Allocator>(
+pub fn canonical<P: BasePtr, T, A: Allocator>(
     arena: &mut SimpleOrdArena<P, T, A>,
     reset: bool,
 ) -> Reply<P, T, A>
@@ -201,7 +203,7 @@ pub fn canonical<P: Ptr, T, A: Allocator>(
 }
 
 /// `Command::Find`
-pub fn find<P: Ptr, T: SimpleOrdItem, A: Allocator>(
+pub fn find<P: BasePtr, T: SimpleOrdItem, A: Allocator>(
     arena: &SimpleOrdArena<P, T, A>,
     key: &T::Key,
 ) -> Reply<P, T, A>
@@ -214,7 +216,7 @@ pub fn find<P: Ptr, T: SimpleOrdItem, A: Allocator>(
 }
 
 /// `Command::FindLinear`
-pub fn find_linear<P: Ptr, T: SimpleOrdItem, A: Allocator>(
+pub fn find_linear<P: BasePtr, T: SimpleOrdItem, A: Allocator>(
     arena: &SimpleOrdArena<P, T, A>,
     p: P,
     num: usize,
@@ -229,7 +231,7 @@ pub fn find_linear<P: Ptr, T: SimpleOrdItem, A: Allocator>(
 }
 
 /// `Command::Similar`
-pub fn similar<P: Ptr, T: SimpleOrdItem, A: Allocator>(
+pub fn similar<P: BasePtr, T: SimpleOrdItem, A: Allocator>(
     arena: &SimpleOrdArena<P, T, A>,
     key: &T::Key,
 ) -> Reply<P, T, A>
@@ -242,7 +244,7 @@ pub fn similar<P: Ptr, T: SimpleOrdItem, A: Allocator>(
 }
 
 /// `Command::SimilarLinear`
-pub fn similar_linear<P: Ptr, T: SimpleOrdItem, A: Allocator>(
+pub fn similar_linear<P: BasePtr, T: SimpleOrdItem, A: Allocator>(
     arena: &SimpleOrdArena<P, T, A>,
     i: P::Inx,
     num: usize,
@@ -257,7 +259,7 @@ pub fn similar_linear<P: Ptr, T: SimpleOrdItem, A: Allocator>(
 }
 
 /// `Command::FindWith`
-pub fn find_with<P: Ptr, T, F: FnMut(P, &T) -> Ordering, A: Allocator>(
+pub fn find_with<P: BasePtr, T, F: FnMut(P, &T) -> Ordering, A: Allocator>(
     arena: &SimpleOrdArena<P, T, A>,
     closure: &mut F,
 ) -> Reply<P, T, A>
@@ -272,7 +274,7 @@ pub fn find_with<P: Ptr, T, F: FnMut(P, &T) -> Ordering, A: Allocator>(
 }
 
 /// `Command::SimilarWith`
-pub fn similar_with<P: Ptr, T, F: FnMut(P, &T) -> Ordering, A: Allocator>(
+pub fn similar_with<P: BasePtr, T, F: FnMut(P, &T) -> Ordering, A: Allocator>(
     arena: &SimpleOrdArena<P, T, A>,
     closure: &mut F,
 ) -> Reply<P, T, A>
@@ -287,7 +289,7 @@ pub fn similar_with<P: Ptr, T, F: FnMut(P, &T) -> Ordering, A: Allocator>(
 }
 
 /// `Command::Visits`
-pub fn visits<P: Ptr, T: SimpleOrdItem, A: Allocator>(
+pub fn visits<P: BasePtr, T: SimpleOrdItem, A: Allocator>(
     arena: &SimpleOrdArena<P, T, A>,
     key: &T::Key,
 ) -> Reply<P, T, A>
@@ -299,7 +301,10 @@ pub fn visits<P: Ptr, T: SimpleOrdItem, A: Allocator>(
 }
 
 /// `Command::Get`
-pub fn get<P: Ptr, T: Clone, A: Allocator>(arena: &SimpleOrdArena<P, T, A>, p: P) -> Reply<P, T, A>
+pub fn get<P: BasePtr, T: Clone, A: Allocator>(
+    arena: &SimpleOrdArena<P, T, A>,
+    p: P,
+) -> Reply<P, T, A>
     requires { (x y : T) → T.is_clone x y → y ≡ x }
     ensures { Gets P.numbers arena.now p result }
 {
@@ -313,21 +318,21 @@ pub fn get<P: Ptr, T: Clone, A: Allocator>(arena: &SimpleOrdArena<P, T, A>, p: P
 }
 
 /// `Command::First`
-pub fn first<P: Ptr, T, A: Allocator>(arena: &SimpleOrdArena<P, T, A>) -> Reply<P, T, A>
+pub fn first<P: BasePtr, T, A: Allocator>(arena: &SimpleOrdArena<P, T, A>) -> Reply<P, T, A>
     ensures { IsEnd P.numbers (first_pointer arena.now.list.entries) result }
 {
     Reply::At(arena.first())
 }
 
 /// `Command::Last`
-pub fn last<P: Ptr, T, A: Allocator>(arena: &SimpleOrdArena<P, T, A>) -> Reply<P, T, A>
+pub fn last<P: BasePtr, T, A: Allocator>(arena: &SimpleOrdArena<P, T, A>) -> Reply<P, T, A>
     ensures { IsEnd P.numbers (last_pointer arena.now.list.entries) result }
 {
     Reply::At(arena.last())
 }
 
 /// `Command::Neighbours`
-pub fn neighbours<P: Ptr, T, A: Allocator>(
+pub fn neighbours<P: BasePtr, T, A: Allocator>(
     arena: &SimpleOrdArena<P, T, A>,
     i: P::Inx,
 ) -> Reply<P, T, A>
@@ -343,7 +348,7 @@ pub fn neighbours<P: Ptr, T, A: Allocator>(
 }
 
 /// `Command::List`
-pub fn list<P: Ptr, T: Clone, A: Allocator>(
+pub fn list<P: BasePtr, T: Clone, A: Allocator>(
     alloc: A,
     arena: &SimpleOrdArena<P, T, A>,
 ) -> Reply<P, T, A>
@@ -357,7 +362,10 @@ pub fn list<P: Ptr, T: Clone, A: Allocator>(
 }
 
 /// `Command::Ranks`
-pub fn ranks<P: Ptr, T, A: Allocator>(alloc: A, arena: &SimpleOrdArena<P, T, A>) -> Reply<P, T, A>
+pub fn ranks<P: BasePtr, T, A: Allocator>(
+    alloc: A,
+    arena: &SimpleOrdArena<P, T, A>,
+) -> Reply<P, T, A>
     ensures { Ranked arena.now result }
 {
     match ranks_of(alloc, arena) {
@@ -367,7 +375,7 @@ pub fn ranks<P: Ptr, T, A: Allocator>(alloc: A, arena: &SimpleOrdArena<P, T, A>)
 }
 
 /// `Command::Check`
-pub fn check<P: Ptr, T: SimpleOrdItem, A: Allocator>(
+pub fn check<P: BasePtr, T: SimpleOrdItem, A: Allocator>(
     arena: &SimpleOrdArena<P, T, A>,
 ) -> Reply<P, T, A>
     ensures { Checks T.key_of T.Key.cmp arena.now result }
@@ -376,7 +384,7 @@ pub fn check<P: Ptr, T: SimpleOrdItem, A: Allocator>(
 }
 
 /// `Command::Reserve`
-pub fn reserve<P: Ptr, T, A: Allocator>(
+pub fn reserve<P: BasePtr, T, A: Allocator>(
     arena: &mut SimpleOrdArena<P, T, A>,
     n: usize,
 ) -> Reply<P, T, A>
@@ -392,7 +400,7 @@ pub fn reserve<P: Ptr, T, A: Allocator>(
 }
 
 /// `Command::SetMax`
-pub fn set_max<P: Ptr, T, A: Allocator>(
+pub fn set_max<P: BasePtr, T, A: Allocator>(
     arena: &mut SimpleOrdArena<P, T, A>,
     n: usize,
 ) -> Reply<P, T, A>
@@ -405,7 +413,7 @@ pub fn set_max<P: Ptr, T, A: Allocator>(
 }
 
 /// `Command::DrainOrdered`
-pub fn drain_ordered<P: Ptr, T: Drop, A: Allocator>(
+pub fn drain_ordered<P: BasePtr, T: Drop, A: Allocator>(
     alloc: A,
     arena: &mut SimpleOrdArena<P, T, A>,
     num: usize,
@@ -419,7 +427,7 @@ pub fn drain_ordered<P: Ptr, T: Drop, A: Allocator>(
 }
 
 /// `Command::Stats`
-pub fn stats<P: Ptr, T, A: Allocator>(arena: &SimpleOrdArena<P, T, A>) -> Reply<P, T, A>
+pub fn stats<P: BasePtr, T, A: Allocator>(arena: &SimpleOrdArena<P, T, A>) -> Reply<P, T, A>
     ensures { Counts P.Gen.number arena.now result }
 {
     Reply::Stats(
@@ -431,7 +439,7 @@ pub fn stats<P: Ptr, T, A: Allocator>(arena: &SimpleOrdArena<P, T, A>) -> Reply<
 }
 
 // The pointer of each entry and a clone of its item, in order.
-fn entries<P: Ptr, T: Clone, A: Allocator>(
+fn entries<P: BasePtr, T: Clone, A: Allocator>(
     alloc: A,
     arena: &SimpleOrdArena<P, T, A>,
 ) -> Result<Vec<(P, T), A>, AllocError>
@@ -448,7 +456,7 @@ fn entries<P: Ptr, T: Clone, A: Allocator>(
 }
 
 // The first entries in order, taken out; then the others are dropped. The room for them is asked for before.
-fn drained<P: Ptr, T: Drop, A: Allocator>(
+fn drained<P: BasePtr, T: Drop, A: Allocator>(
     alloc: A,
     arena: &mut SimpleOrdArena<P, T, A>,
     num: usize,
@@ -475,7 +483,7 @@ fn drained<P: Ptr, T: Drop, A: Allocator>(
 }
 
 // The rank of each entry's node, in order.
-fn ranks_of<P: Ptr, T, A: Allocator>(
+fn ranks_of<P: BasePtr, T, A: Allocator>(
     alloc: A,
     arena: &SimpleOrdArena<P, T, A>,
 ) -> Result<Vec<u8, A>, AllocError>
@@ -492,7 +500,7 @@ fn ranks_of<P: Ptr, T, A: Allocator>(
 }
 
 // The rank of the node at the index.
-fn rank_at<P: Ptr, T, A: Allocator>(arena: &SimpleOrdArena<P, T, A>, i: P::Inx) -> Option<u8>
+fn rank_at<P: BasePtr, T, A: Allocator>(arena: &SimpleOrdArena<P, T, A>, i: P::Inx) -> Option<u8>
     ensures there { is_some result ≡ is_some (link_at arena.now.list.entries (P.Inx.number i)) }
     ensures rank { IfSome result (λ rank. HasRank arena.now.shape (P.Inx.number i) rank) }
 {

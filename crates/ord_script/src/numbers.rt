@@ -2,7 +2,7 @@
 ghost use Rattle.std.specs.Prelude.{◌≡◌, position};
 ghost use Rattle.ord_script.specs.Numbers.{number_up_to, key_of, value_of, index_of, flag_of, pointer_of, is_point};
 
-use arena_base::{P0, Ptr};
+use arena_base::{BasePtr, P0};
 
 /// A key: decimal digits, which may have a `-` before them.
 pub fn key_of(word: &[u8]) -> Option<i64>

@@ -1,5 +1,5 @@
 //! What a script's arena holds: pairs of a key and a value under pointers. How they are written.
-use arena_base::{P0, Ptr};
+use arena_base::{BasePtr, P0};
 use ord_machine::{Command, Reply};
 use std::fmt;
 use triple_ord::{OrdPair, SimpleOrdArena};

@@ -4,14 +4,14 @@ ghost use Rattle.std.specs.Prelude.{◌≡◌, None, option_map};
 
 use crate::node_inx::{NodeInx, kept};
 use crate::tree_links::Side;
-use arena_base::{OptInx, Ptr};
+use arena_base::{BasePtr, OptInx};
 
 /// What the chain holds of an entry of a tree: the item, and the links and the rank of its node.
 ///
 /// The links are indexes without generations, since what a link leads to is always an entry. The fields that a descent reads
 /// stand together, and a link that leads nowhere takes no more room than another.
 #[derive(Clone, Debug, Drop)]
-pub struct SimpleOrdArenaNode<P: Ptr, T> {
+pub struct SimpleOrdArenaNode<P: BasePtr, T> {
     /// The root of the lesser side, or `None` where nothing hangs there.
     pub p_tree0: OptInx<P>,
     /// The root of the greater side, or `None` where nothing hangs there.
@@ -24,7 +24,7 @@ pub struct SimpleOrdArenaNode<P: Ptr, T> {
     pub rank: u8,
 }
 
-impl<P: Ptr, T> SimpleOrdArenaNode<P, T> {
+impl<P: BasePtr, T> SimpleOrdArenaNode<P, T> {
     ghost use Rattle.ord_tree.specs.TreeLinks.{with_child_at};
     ghost use Rattle.ord_tree.specs.Node.{links_in};
 

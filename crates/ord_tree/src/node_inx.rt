@@ -4,18 +4,18 @@ ghost use Rattle.std.specs.Prelude.{◌≡◌, ◌≢◌, ◌+◌, option_map};
 ghost use Rattle.arena_base.specs.Pointer.{named_of};
 ghost use Rattle.chain_base.specs.Chain.{IsOccupied};
 
-use arena_base::{OptInx, Ptr, PtrInx};
+use arena_base::{BasePtr, BasePtrInx, OptInx};
 use chain_base::ChainArena;
 use std::alloc::{AllocError, Allocator};
 use std::marker::Model;
 
-/// The index of a node: any but that of `Ptr::invalid()`, which stands for no link where a node keeps its links.
+/// The index of a node: any but that of `BasePtr::invalid()`, which stands for no link where a node keeps its links.
 #[derive(Debug)]
-pub struct NodeInx<I: PtrInx> {
+pub struct NodeInx<I: BasePtrInx> {
     inx: I,
 }
 
-impl<I: PtrInx> Model for NodeInx<I> {
+impl<I: BasePtrInx> Model for NodeInx<I> {
     ghost use Rattle.std.specs.Prelude.{◌≢◌, ◌+◌};
 
     ghost Value = { I };
@@ -27,15 +27,15 @@ impl<I: PtrInx> Model for NodeInx<I> {
     ghost inverse = { λ i. record { inx = i } };
 }
 
-impl<I: PtrInx> Clone for NodeInx<I> {
+impl<I: BasePtrInx> Clone for NodeInx<I> {
     fn clone(&self) -> Result<Self, AllocError> {
         Ok(*self)
     }
 }
 
-impl<I: PtrInx> Copy for NodeInx<I> {}
+impl<I: BasePtrInx> Copy for NodeInx<I> {}
 
-impl<I: PtrInx> NodeInx<I> {
+impl<I: BasePtrInx> NodeInx<I> {
     /// The index of a node.
     pub fn new(inx: I) -> Self
         requires { I.number inx ≢ I.most + 1 }
@@ -54,7 +54,10 @@ impl<I: PtrInx> NodeInx<I> {
 }
 
 /// The index of an entry, as that of its node.
-pub fn node_at<P: Ptr, T, A: Allocator>(chain: &ChainArena<P, T, A>, i: P::Inx) -> NodeInx<P::Inx>
+pub fn node_at<P: BasePtr, T, A: Allocator>(
+    chain: &ChainArena<P, T, A>,
+    i: P::Inx,
+) -> NodeInx<P::Inx>
     requires { IsOccupied chain.now (P.Inx.number i) }
     ensures { result ≡ i }
 {
@@ -63,7 +66,7 @@ pub fn node_at<P: Ptr, T, A: Allocator>(chain: &ChainArena<P, T, A>, i: P::Inx) 
 }
 
 /// A link, as a node keeps it.
-pub fn kept<P: Ptr>(link: Option<NodeInx<P::Inx>>) -> OptInx<P>
+pub fn kept<P: BasePtr>(link: Option<NodeInx<P::Inx>>) -> OptInx<P>
     ensures { result ≡ option_map P.Inx.number link }
 {
     match link {
@@ -73,14 +76,14 @@ pub fn kept<P: Ptr>(link: Option<NodeInx<P::Inx>>) -> OptInx<P>
 }
 
 /// The link that a node keeps.
-pub fn link_in<P: Ptr>(kept: &OptInx<P>) -> Option<NodeInx<P::Inx>>
+pub fn link_in<P: BasePtr>(kept: &OptInx<P>) -> Option<NodeInx<P::Inx>>
     ensures { option_map P.Inx.number result ≡ kept.now }
 {
     as_link::<P>(kept.get())
 }
 
-/// A link of indexes, none of which is that of `Ptr::invalid()`.
-pub fn as_link<P: Ptr>(link: Option<P::Inx>) -> Option<NodeInx<P::Inx>>
+/// A link of indexes, none of which is that of `BasePtr::invalid()`.
+pub fn as_link<P: BasePtr>(link: Option<P::Inx>) -> Option<NodeInx<P::Inx>>
     requires { named_of P.Inx.most (option_map P.Inx.number link) ≡ option_map P.Inx.number link }
     ensures { result ≡ link }
 {

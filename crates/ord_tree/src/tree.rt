@@ -18,7 +18,7 @@ mod write;
 
 use crate::node::SimpleOrdArenaNode;
 use crate::node_inx::NodeInx;
-use arena_base::{InvalidationOption, Ptr};
+use arena_base::{BasePtr, InvalidationOption};
 use chain_base::ChainArena;
 use std::alloc::{Allocator, Global};
 use std::marker::Model;
@@ -30,12 +30,12 @@ use std::marker::Model;
 /// greater than that of each side by 1 or 2. So a tree of n entries and rank R has `2^(R+1) <= (n+1)^2`, and no way down
 /// passes more than R entries.
 #[derive(Drop)]
-pub struct OrdTree<P: Ptr, T, A: Allocator = Global> {
+pub struct OrdTree<P: BasePtr, T, A: Allocator = Global> {
     chain: ChainArena<P, SimpleOrdArenaNode<P, T>, A>,
     root: Option<NodeInx<P::Inx>>,
 }
 
-impl<P: Ptr, T, A: Allocator> Model for OrdTree<P, T, A> {
+impl<P: BasePtr, T, A: Allocator> Model for OrdTree<P, T, A> {
     ghost use Rattle.std.specs.Option.{option_map};
     ghost use Rattle.ord_tree.specs.Tree.{Tree, tree_code};
 
@@ -51,7 +51,7 @@ impl<P: Ptr, T, A: Allocator> Model for OrdTree<P, T, A> {
         (shape_in t.chain (option_map P.Inx.number t.root)) };
 }
 
-impl<P: Ptr, T, A: Allocator> OrdTree<P, T, A> {
+impl<P: BasePtr, T, A: Allocator> OrdTree<P, T, A> {
     /// The list, with the links and ranks of its entries.
     pub fn chain(&self) -> &ChainArena<P, SimpleOrdArenaNode<P, T>, A>
         ensures chain { IsChainOf self.now result.now }

@@ -2,7 +2,7 @@
 
 use crate::side::Side;
 use std::marker::Model;
-use triple_ord::{P0, Ptr};
+use triple_ord::{BasePtr, P0};
 
 /// The name of a resting order.
 ///

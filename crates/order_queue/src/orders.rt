@@ -11,7 +11,7 @@ ghost use Rattle.order_queue.specs.Layout.{rank_of, ranked, greatest_generation}
 use crate::side::Side;
 use std::alloc::Allocator;
 use triple_ord::{
-    OrdInsertKind, OrdInsertionError, OrdPair, P0, Ptr, ReallocationError, SimpleOrdArena,
+    BasePtr, OrdInsertKind, OrdInsertionError, OrdPair, P0, ReallocationError, SimpleOrdArena,
 };
 
 /// Quantities by the rank of the price.

@@ -16,7 +16,7 @@ ghost use Rattle.timeline.specs.Layout.{IsTakenOut, IsChanged, KeepsRoom};
 use crate::value::{TimelineValue, is_same};
 use std::alloc::Allocator;
 use std::cmp::Ordering;
-use triple_ord::{OrdInsertKind, OrdPair, P0, Ptr, ReallocationError, SimpleOrdArena};
+use triple_ord::{BasePtr, OrdInsertKind, OrdPair, P0, ReallocationError, SimpleOrdArena};
 
 /// Changes by time, each with the value that holds from then on, or none.
 pub(crate) type Changes<V, A> = SimpleOrdArena<P0, OrdPair<u64, Option<V>>, A>;

@@ -33,7 +33,7 @@ mod traits;
 mod walk;
 mod write;
 
-use arena_base::{InvalidationOption, Ptr};
+use arena_base::{BasePtr, InvalidationOption};
 pub use drain::{CapacityDrain, OrderedDrain};
 pub use insert_entry::SimpleOrdArenaInsertEntry;
 pub use iter::Iter;
@@ -50,11 +50,11 @@ pub use walk::OrderedPtrAdvancer;
 /// keys were misplaced is as safe as any, and a search in it meets an entry with an equal key, or stops between two neighbours
 /// of which the first has a lesser key and the second a greater one.
 #[derive(Drop)]
-pub struct SimpleOrdArena<P: Ptr, T, A: Allocator = Global> {
+pub struct SimpleOrdArena<P: BasePtr, T, A: Allocator = Global> {
     tree: OrdTree<P, T, A>,
 }
 
-impl<P: Ptr, T, A: Allocator> Model for SimpleOrdArena<P, T, A> {
+impl<P: BasePtr, T, A: Allocator> Model for SimpleOrdArena<P, T, A> {
     ghost use Rattle.ord_tree.specs.Tree.{Tree, tree_code};
 
     ghost Value = { Tree T };
@@ -64,7 +64,7 @@ impl<P: Ptr, T, A: Allocator> Model for SimpleOrdArena<P, T, A> {
     ghost view = { λ a. a.tree };
 }
 
-impl<P: Ptr, T, A: Allocator> SimpleOrdArena<P, T, A> {
+impl<P: BasePtr, T, A: Allocator> SimpleOrdArena<P, T, A> {
     /// How many entries there is room for before the arena has to grow.
     pub fn capacity(&self) -> usize
         ensures { result ≡ self.now.list.capacity }

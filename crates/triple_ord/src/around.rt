@@ -13,13 +13,13 @@ use crate::descent::{towards, visits_law};
 use crate::item::SimpleOrdItem;
 use crate::probe::Probe;
 use crate::ties::Ties;
-use arena_base::Ptr;
+use arena_base::BasePtr;
 use std::alloc::Allocator;
 use std::cmp::Ordering;
 
 /// Goes down from the root by a key, behind all entries whose key is at most it, as if the entry at the index `passed` weren't there.
 /// Returns the entry that it was shown last, with the side of it on which the place lies.
-pub(crate) fn descend_around<P: Ptr, T: SimpleOrdItem, A: Allocator>(
+pub(crate) fn descend_around<P: BasePtr, T: SimpleOrdItem, A: Allocator>(
     probe: &mut Probe<'_, P, T, A>,
     passed: P::Inx,
     k: &T::Key,
@@ -45,7 +45,7 @@ pub(crate) fn descend_around<P: Ptr, T: SimpleOrdItem, A: Allocator>(
 // Compares a key with that of the entry at an index, or with that of the entry before the one that is passed: the entry's pointer, how
 // the key lies to it, and where the search goes on.
 #[inline(always)]
-fn compare_around<P: Ptr, T: SimpleOrdItem, A: Allocator>(
+fn compare_around<P: BasePtr, T: SimpleOrdItem, A: Allocator>(
     probe: &mut Probe<'_, P, T, A>,
     passed: P::Inx,
     k: &T::Key,

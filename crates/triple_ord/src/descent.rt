@@ -12,13 +12,13 @@ ghost use Rattle.triple_ord.specs.VisitBounds.{IsWithinBounds, VisitsLaw};
 use crate::item::SimpleOrdItem;
 use crate::probe::Probe;
 use crate::ties::Ties;
-use arena_base::Ptr;
+use arena_base::BasePtr;
 use ord_tree::laws::{height_law, rank_square_law, rebuilt_height_law, tight_rank_law};
 use std::alloc::Allocator;
 use std::cmp::Ordering;
 
 /// Goes down from the root by the closure's answers, and returns the entry that it showed last with the answer that it got.
-pub(crate) fn descend<P: Ptr, T, F: FnMut(P, &T) -> Ordering, A: Allocator>(
+pub(crate) fn descend<P: BasePtr, T, F: FnMut(P, &T) -> Ordering, A: Allocator>(
     probe: &mut Probe<'_, P, T, A>,
     f: &mut F,
 ) -> Option<(P, Ordering)>
@@ -51,7 +51,7 @@ pub(crate) fn descend<P: Ptr, T, F: FnMut(P, &T) -> Ordering, A: Allocator>(
 /// Goes down from the root by a key: to the lesser side at an equal key that is sought, so that the entry behind the gap where the way
 /// ends is the first of its group. Where that entry is equal, it is the result, else the one that was shown last.
 #[inline(always)]
-pub(crate) fn descend_by_key<P: Ptr, T: SimpleOrdItem, A: Allocator>(
+pub(crate) fn descend_by_key<P: BasePtr, T: SimpleOrdItem, A: Allocator>(
     probe: &mut Probe<'_, P, T, A>,
     ties: Ties,
     k: &T::Key,
@@ -80,7 +80,7 @@ pub(crate) fn descend_by_key<P: Ptr, T: SimpleOrdItem, A: Allocator>(
 
 // Goes on to the lesser side of an equal entry, for the first of its group.
 #[inline(always)]
-fn descend_in_group<P: Ptr, T: SimpleOrdItem, A: Allocator>(
+fn descend_in_group<P: BasePtr, T: SimpleOrdItem, A: Allocator>(
     probe: &mut Probe<'_, P, T, A>,
     ties: Ties,
     k: &T::Key,
@@ -120,7 +120,7 @@ fn descend_in_group<P: Ptr, T: SimpleOrdItem, A: Allocator>(
 
 // Compares a key with that of the entry at an index: the entry's pointer, how the key lies to its key, and where the search goes on.
 #[inline(always)]
-fn compare<P: Ptr, T: SimpleOrdItem, A: Allocator>(
+fn compare<P: BasePtr, T: SimpleOrdItem, A: Allocator>(
     probe: &mut Probe<'_, P, T, A>,
     ties: Ties,
     k: &T::Key,
@@ -144,7 +144,7 @@ fn compare<P: Ptr, T: SimpleOrdItem, A: Allocator>(
 //
 // Both sides of a node are read before one is chosen: so the choice is a selection, and no branch.
 #[inline(always)]
-pub(crate) fn towards<P: Ptr>(
+pub(crate) fn towards<P: BasePtr>(
     order: Ordering,
     lesser: Option<P::Inx>,
     greater: Option<P::Inx>,

@@ -2,12 +2,12 @@
 ghost use Rattle.std.specs.Prelude.{◌≡◌};
 ghost use Rattle.triple_ord.specs.Place.{kind_now};
 
-use arena_base::Ptr;
+use arena_base::BasePtr;
 use std::cmp::Ordering;
 
 /// How an insertion finds its place. Into an arena without entries each kind but `Manual` puts the item alone.
 #[derive(Debug, Clone, PartialEq, Eq, Drop)]
-pub enum OrdInsertKind<P: Ptr, K> {
+pub enum OrdInsertKind<P: BasePtr, K> {
     /// Into an arena without entries. It is refused where there is an entry.
     Empty,
     /// By a key: the item of an entry with an equal key whose previous entry, if any, has a lesser one is replaced; else a new entry goes
@@ -44,7 +44,7 @@ pub enum OrdInsertKind<P: Ptr, K> {
     },
 }
 
-impl<P: Ptr, K> OrdInsertKind<P, K> {
+impl<P: BasePtr, K> OrdInsertKind<P, K> {
     /// The same kind, with a reference to its key.
     pub fn as_ref(&self) -> OrdInsertKind<P, &K>
         ensures { kind_now result ≡ self.now }

@@ -22,9 +22,9 @@ pub use arena::{
     SimpleOrdArenaInsertEntry,
 };
 pub use arena_base::{
-    Advancer, Arena, ArenaCloneFromWith, ArenaTrait, CompactArenaTrait, InvalidationOption,
-    InvalidationResult, ItemsMut, P0, P8, PN, Ptr, PtrAdvancer, PtrGen, PtrInx, Q0,
-    ReallocationError, Recast, Recaster, SetMaxCapacity,
+    Advancer, Arena, ArenaCloneFromWith, ArenaTrait, BasePtr, BasePtrGen, BasePtrInx,
+    CompactArenaTrait, InvalidationOption, InvalidationResult, ItemsMut, P0, P8, PN, Ptr,
+    PtrAdvancer, PtrGen, PtrInx, Q0, ReallocationError, Recast, Recaster, SetMaxCapacity,
 };
 pub use chain_base::{ChainArena, LinkNoGen};
 pub use entry_kind::OrdEntryKind;

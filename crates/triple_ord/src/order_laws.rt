@@ -5,7 +5,7 @@ ghost use Rattle.triple_ord.specs.OrderLaws.{AbsentKeyLaw, AnsweredInOrderLaw, B
 ghost use Rattle.triple_ord.specs.Rekey.{RekeyOrderLaw};
 
 use crate::item::SimpleOrdItem;
-use arena_base::Ptr;
+use arena_base::BasePtr;
 use std::cmp::Ordering;
 
 /// On a list in the order of its keys, `find_key` and `find_key_linear` return `None` exactly where no entry has an equal key.
@@ -21,13 +21,13 @@ pub fn beside_place_law<T: SimpleOrdItem>()
 
 /// Where the answers of a closure are a fixed function of pointer and item, and along the list come first `Greater`, then `Equal`, and
 /// then `Less`, each of them for some entries or for none, `find_with` returns `None` exactly where no entry is answered `Equal`.
-pub fn answered_in_order_law<P: Ptr, T, F: FnMut(P, &T) -> Ordering>()
+pub fn answered_in_order_law<P: BasePtr, T, F: FnMut(P, &T) -> Ordering>()
     ensures { AnsweredInOrderLaw (Asks P.numbers F.step) }
 {}
 
 /// An insertion by a key leaves a list that is in the order of its keys in their order, where the inserted item has an equal key:
 /// whether it replaces the item of an equal entry, or goes before all greater keys and behind all that are equal or lesser.
-pub fn kept_order_law<P: Ptr, T: SimpleOrdItem>()
+pub fn kept_order_law<P: BasePtr, T: SimpleOrdItem>()
     ensures { KeptOrderLaw P.numbers T.key_of T.Key.cmp }
 {}
 

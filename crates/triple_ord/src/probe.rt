@@ -8,7 +8,7 @@ ghost use Rattle.triple_ord.specs.Around.{last_item};
 ghost use Rattle.triple_ord.specs.Descent.{IsNodeAt};
 
 use crate::visits::Visits;
-use arena_base::Ptr;
+use arena_base::BasePtr;
 use chain_base::LinkNoGen;
 use ord_tree::{OrdTree, SimpleOrdArenaNode};
 use std::alloc::Allocator;
@@ -16,12 +16,12 @@ use std::alloc::Allocator;
 /// Shows the entries of a tree to a search. A search is handed a probe and never the tree, and each entry that it sees is
 /// counted.
 #[derive(Drop)]
-pub(crate) struct Probe<'a, P: Ptr, T, A: Allocator> {
+pub(crate) struct Probe<'a, P: BasePtr, T, A: Allocator> {
     tree: &'a OrdTree<P, T, A>,
     visits: u128,
 }
 
-impl<'a, P: Ptr, T, A: Allocator> Probe<'a, P, T, A> {
+impl<'a, P: BasePtr, T, A: Allocator> Probe<'a, P, T, A> {
     /// A probe that has shown nothing yet.
     pub fn new(tree: &'a OrdTree<P, T, A>) -> Self
         ensures tree { result.tree.now ≡ tree.now }

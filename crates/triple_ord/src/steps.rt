@@ -8,7 +8,7 @@ ghost use Rattle.triple_ord.specs.Ties.{taken};
 use crate::item::SimpleOrdItem;
 use crate::probe::Probe;
 use crate::ties::Ties;
-use arena_base::Ptr;
+use arena_base::BasePtr;
 use chain_base::LinkNoGen;
 use std::alloc::Allocator;
 use std::cmp::Ordering;
@@ -21,7 +21,7 @@ use std::cmp::Ordering;
 /// group, and after `num` comparisons they end without.
 // Inlined, so that an insertion with the hint `num: 1` has no loop left of it.
 #[inline(always)]
-pub(crate) fn step_along<P: Ptr, T: SimpleOrdItem, A: Allocator>(
+pub(crate) fn step_along<P: BasePtr, T: SimpleOrdItem, A: Allocator>(
     probe: &mut Probe<'_, P, T, A>,
     ties: Ties,
     p_init: P::Inx,
@@ -60,7 +60,7 @@ pub(crate) fn step_along<P: Ptr, T: SimpleOrdItem, A: Allocator>(
 
 // The entry's neighbour on the side on which the key lies. There is none behind an end of the list, and none for an equal key.
 #[inline(always)]
-fn towards<P: Ptr, T>(link: &LinkNoGen<P, T>, order: Ordering) -> Option<P::Inx>
+fn towards<P: BasePtr, T>(link: &LinkNoGen<P, T>, order: Ordering) -> Option<P::Inx>
     ensures { option_map P.Inx.number result ≡ neighbour_towards link.now order }
 {
     match order {

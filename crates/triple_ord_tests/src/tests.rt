@@ -22,7 +22,7 @@ mod removal;
 mod slots;
 mod walks;
 
-use arena_base::{P0, P8, PN, Ptr};
+use arena_base::{BasePtr, P0, P8, PN};
 use std::alloc::{Allocator, Global};
 use std::cell::Cell;
 use std::cmp::Ordering;

@@ -1,7 +1,7 @@
 //! The uses of `triple_ord_uses`, run: the scheduler, its rounds, the entries and the catalogue.
 
 use std::alloc::Global;
-use triple_ord::{OrdInsertionError, OrdPair, OrderedPtrAdvancer, P0, Ptr, PtrAdvancer};
+use triple_ord::{BasePtr, OrdInsertionError, OrdPair, OrderedPtrAdvancer, P0, PtrAdvancer};
 use triple_ord_uses::catalogue::{
     Book, BookPtr, Catalogue, find, pages, put, renumber, take_first,
 };

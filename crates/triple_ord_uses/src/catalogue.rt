@@ -6,7 +6,7 @@ ghost use Rattle.triple_ord.specs.Arena.{item_of, count};
 
 use std::alloc::Global;
 use std::marker::Model;
-use triple_ord::{OrdInsertionError, Ptr, SimpleOrdArena, SimpleOrdItem};
+use triple_ord::{BasePtr, OrdInsertionError, SimpleOrdArena, SimpleOrdItem};
 
 /// The pointer of a book: a type of its own, so that no other pointer is taken for one.
 #[derive(Clone, Copy, PartialEq, Eq, PartialOrd, Ord, Hash, Debug)]
@@ -23,7 +23,7 @@ impl Model for BookPtr {
     ghost inverse = { λ p. record { inx = p.0; generation = p.1 } };
 }
 
-impl Ptr for BookPtr {
+impl BasePtr for BookPtr {
     type Inx = u32;
 
     type Gen = u64;

@@ -5,7 +5,7 @@ ghost use Rattle.triple_ord.specs.Arena.{item_of, count, FindSame};
 
 use crate::scheduler::Jobs;
 use std::cmp::Ordering;
-use triple_ord::{OrdEntryKind, OrdInsertKind, OrdInsertionError, OrdPair, P0, Ptr};
+use triple_ord::{BasePtr, OrdEntryKind, OrdInsertKind, OrdInsertionError, OrdPair, P0};
 
 /// Puts a job on the list beside those of the same deadline; where it is refused the job comes back.
 pub fn add(

@@ -5,7 +5,7 @@ ghost use Rattle.triple_ord.specs.Arena.{item_of, count, FindSame};
 
 use std::alloc::AllocError;
 use std::marker::Model;
-use triple_ord::{OrdInsertionError, P0, Ptr, SimpleOrdArena, SimpleOrdItem};
+use triple_ord::{BasePtr, OrdInsertionError, P0, SimpleOrdArena, SimpleOrdItem};
 
 /// A note: the time by which it is found, and its text.
 #[derive(Drop)]

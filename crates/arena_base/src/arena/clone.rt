@@ -11,12 +11,12 @@ use super::growth::fill_up;
 use crate::clone_entry::{CloneEntry, TryCalls};
 use crate::error::ReallocationError;
 use crate::map_entry::Calls;
-use crate::ptr::{Ptr, PtrGen, PtrInx};
+use crate::ptr::{BasePtr, BasePtrGen, BasePtrInx};
 use crate::slot::Slot;
 use crate::traits::ArenaTrait;
 use std::alloc::{AllocError, Allocator};
 
-impl<P: Ptr, T: Drop, A: Allocator> Arena<P, T, A> {
+impl<P: BasePtr, T: Drop, A: Allocator> Arena<P, T, A> {
     /// Makes this arena a clone of the source, with items that `map` makes: it has the source's pointers and generation, and its
     /// own old entries are dropped.
     ///
@@ -147,7 +147,7 @@ impl<P: Ptr, T: Drop, A: Allocator> Arena<P, T, A> {
 }
 
 // The greatest index with an entry, or 0.
-fn greatest_occupied<P: Ptr, U, S: ArenaTrait<P, U>>(source: &S) -> usize
+fn greatest_occupied<P: BasePtr, U, S: ArenaTrait<P, U>>(source: &S) -> usize
     ensures value { result ≡ greatest_occupied (S.content source.now).slots }
 {
     match source.find_last_inx_ptr() {
@@ -159,7 +159,7 @@ fn greatest_occupied<P: Ptr, U, S: ArenaTrait<P, U>>(source: &S) -> usize
 // Fills the slots with clones of those of the source, whose greatest index with an entry is `n`. Where an item is refused, none is
 // left.
 fn clone_slots<
-    P: Ptr,
+    P: BasePtr,
     T: Drop,
     A: Allocator,
     U,

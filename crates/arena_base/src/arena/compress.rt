@@ -10,11 +10,11 @@ use super::get::pointer;
 use super::growth::list_vacant;
 use crate::invalidation::InvalidationOption;
 use crate::map_entry::{Calls, MapEntry};
-use crate::ptr::{Ptr, PtrGen, PtrInx};
+use crate::ptr::{BasePtr, BasePtrGen, BasePtrInx};
 use crate::slot::Slot;
 use std::alloc::Allocator;
 
-impl<P: Ptr, T, A: Allocator> Arena<P, T, A> {
+impl<P: BasePtr, T, A: Allocator> Arena<P, T, A> {
     /// Moves all entries to the indexes from 1 on, in the order of their indexes, and gives them all one generation, which
     /// becomes the arena's: the first where `reset` is true, else the next one.
     ///
@@ -85,7 +85,7 @@ impl<P: Ptr, T, A: Allocator> Arena<P, T, A> {
 }
 
 // Moves the entries of all slots to the first ones, with this generation.
-fn move_down<P: Ptr, T, A: Allocator, M: MapEntry<P, T> + Drop>(
+fn move_down<P: BasePtr, T, A: Allocator, M: MapEntry<P, T> + Drop>(
     slots: &mut Vec<Slot<T, P::Gen>, A>,
     generation: P::Gen,
     mut map: M,

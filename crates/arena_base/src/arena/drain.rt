@@ -7,17 +7,17 @@ ghost use Rattle.arena_base.specs.Walk.{entries_from};
 
 use super::Arena;
 use crate::invalidation::InvalidationOption;
-use crate::ptr::{Ptr, PtrGen};
+use crate::ptr::{BasePtr, BasePtrGen};
 use std::alloc::{Allocator, Global};
 
 /// Takes the entries out of an arena by rising index, each by a removal of its own. When it is dropped it clears the arena.
-pub struct Drain<'a, P: Ptr, T: Drop, A: Allocator = Global> {
+pub struct Drain<'a, P: BasePtr, T: Drop, A: Allocator = Global> {
     arena: &'a mut Arena<P, T, A>,
     // the position of the slot that it looks at next
     at: usize,
 }
 
-impl<P: Ptr, T: Drop, A: Allocator> Arena<P, T, A> {
+impl<P: BasePtr, T: Drop, A: Allocator> Arena<P, T, A> {
     /// Takes all entries out, by rising index.
     ///
     /// Each is removed, and raises the generation, as it is given. When the drain is dropped, the arena is cleared of the rest, which
@@ -32,7 +32,7 @@ impl<P: Ptr, T: Drop, A: Allocator> Arena<P, T, A> {
     }
 }
 
-impl<'a, P: Ptr, T: Drop, A: Allocator> Drop for Drain<'a, P, T, A> {
+impl<'a, P: BasePtr, T: Drop, A: Allocator> Drop for Drain<'a, P, T, A> {
     fn drop(self)
         ensures { self.exit.0.now ≡ cleared P.Gen.greatest (drain_arena self.entry) }
     {
@@ -41,7 +41,7 @@ impl<'a, P: Ptr, T: Drop, A: Allocator> Drop for Drain<'a, P, T, A> {
     }
 }
 
-impl<'a, P: Ptr, T: Drop, A: Allocator> Iterator for Drain<'a, P, T, A> {
+impl<'a, P: BasePtr, T: Drop, A: Allocator> Iterator for Drain<'a, P, T, A> {
     type Item = InvalidationOption<(P, T)>;
 
     ghost next_gives = { DrainSteps P.Gen.greatest P.numbers };

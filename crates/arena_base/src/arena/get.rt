@@ -4,11 +4,11 @@ ghost use Rattle.std.specs.Option.{option_copied, option_map};
 ghost use Rattle.arena_base.specs.Arena.{slot, generation_at, item_of, arena_len, arena_capacity, next_index, IsFresh, IsVacant, IsOccupied, IsFirstEntry, IsLastEntry};
 
 use super::Arena;
-use crate::ptr::{Ptr, PtrInx};
+use crate::ptr::{BasePtr, BasePtrInx};
 use crate::slot::Slot;
 use std::alloc::Allocator;
 
-impl<P: Ptr, T, A: Allocator> Arena<P, T, A> {
+impl<P: BasePtr, T, A: Allocator> Arena<P, T, A> {
     /// Whether the pointer names an entry.
     pub fn contains(&self, p: P) -> bool
         ensures { result ≡ is_some (item_of self.now (P.numbers p)) }
@@ -129,7 +129,7 @@ impl<P: Ptr, T, A: Allocator> Arena<P, T, A> {
 }
 
 // The pointer with this generation to the slot at the position.
-pub(super) fn pointer<P: Ptr>(position: usize, generation: P::Gen) -> P
+pub(super) fn pointer<P: BasePtr>(position: usize, generation: P::Gen) -> P
     requires { position < P.Inx.most }
     ensures index { (P.numbers result).0 ≡ position + 1 }
     ensures generation { (P.numbers result).1 ≡ P.Gen.number generation }
@@ -138,7 +138,7 @@ pub(super) fn pointer<P: Ptr>(position: usize, generation: P::Gen) -> P
 }
 
 // The index of the slot at the position.
-pub(super) fn inx_at<I: PtrInx>(position: usize) -> I
+pub(super) fn inx_at<I: BasePtrInx>(position: usize) -> I
     requires { position < I.most }
     ensures { I.number result ≡ position + 1 }
 {
@@ -146,7 +146,7 @@ pub(super) fn inx_at<I: PtrInx>(position: usize) -> I
 }
 
 // The position of the slot at the index.
-pub(super) fn position_at<I: PtrInx>(i: I) -> usize
+pub(super) fn position_at<I: BasePtrInx>(i: I) -> usize
     requires { 0 < I.number i }
     ensures { I.number i ≡ result + 1 }
 {

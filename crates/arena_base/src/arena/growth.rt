@@ -9,11 +9,11 @@ use super::Arena;
 use super::get::inx_at;
 use crate::error::{MaxCapacityReductionError, ReallocationError};
 use crate::invalidation::InvalidationOption;
-use crate::ptr::{Ptr, PtrGen, PtrInx};
+use crate::ptr::{BasePtr, BasePtrGen, BasePtrInx};
 use crate::slot::Slot;
 use std::alloc::{AllocError, Allocator};
 
-impl<P: Ptr, T, A: Allocator> Arena<P, T, A> {
+impl<P: BasePtr, T, A: Allocator> Arena<P, T, A> {
     /// An empty arena with capacity 0 and no maximum, which takes no memory until it grows.
     pub fn new(alloc: A) -> Self
     where
@@ -181,7 +181,7 @@ fn reserve<S, I, A: Allocator>(
 }
 
 // Adds vacant slots until there are `n`, and lists the indexes of all vacant ones.
-pub(super) fn fill_up<T, G, I: PtrInx, A: Allocator>(
+pub(super) fn fill_up<T, G, I: BasePtrInx, A: Allocator>(
     slots: &mut Vec<Slot<T, G>, A>,
     vacant: &mut Vec<I, A>,
     n: usize,
@@ -227,7 +227,7 @@ fn cut_vacant<T, G: Copy, A: Allocator>(slots: &mut Vec<Slot<T, G>, A>, n: usize
 }
 
 // Lists the vacant indexes from the last to the first. The first `full` slots have entries, and are not looked at.
-pub(super) fn list_vacant<T, G, I: PtrInx, A: Allocator>(
+pub(super) fn list_vacant<T, G, I: BasePtrInx, A: Allocator>(
     slots: &[Slot<T, G>],
     full: usize,
     vacant: &mut Vec<I, A>,

@@ -5,11 +5,11 @@ ghost use Rattle.arena_base.specs.Arena.{arena_len, arena_capacity, arena_limit,
 use super::Arena;
 use super::get::position_at;
 use crate::error::InsertionError;
-use crate::ptr::{Ptr, PtrInx};
+use crate::ptr::{BasePtr, BasePtrInx};
 use crate::slot::Slot;
 use std::alloc::Allocator;
 
-impl<P: Ptr, T: Drop, A: Allocator> Arena<P, T, A> {
+impl<P: BasePtr, T: Drop, A: Allocator> Arena<P, T, A> {
     /// Inserts an item into a vacant slot: the one that was freed last, else the least that was never used.
     ///
     /// Its generation is the arena's. It is refused where no slot is vacant; the item is then dropped, and nothing else changes.

@@ -3,11 +3,11 @@ ghost use Rattle.std.specs.Prelude.{◌≡◌, Ok, Err, MatchOption};
 ghost use Rattle.arena_base.specs.Arena.{item_of};
 
 use super::Arena;
-use crate::ptr::{Ptr, PtrGen, PtrInx};
+use crate::ptr::{BasePtr, BasePtrGen, BasePtrInx};
 use crate::recast::Recaster;
 use std::alloc::Allocator;
 
-impl<P: Ptr, A: Allocator> Recaster for Arena<P, P, A> {
+impl<P: BasePtr, A: Allocator> Recaster for Arena<P, P, A> {
     type Item = P;
 
     ghost item_gives = { λ a p result q. MatchOption (item_of a (P.numbers p))

@@ -7,11 +7,11 @@ ghost use Rattle.arena_base.specs.Invalidation.{valid_value, IsRemoval, IsRenewa
 
 use super::Arena;
 use crate::invalidation::{InvalidationOption, InvalidationResult};
-use crate::ptr::{Ptr, PtrGen, PtrInx};
+use crate::ptr::{BasePtr, BasePtrGen, BasePtrInx};
 use crate::slot::Slot;
 use std::alloc::Allocator;
 
-impl<P: Ptr, T, A: Allocator> Arena<P, T, A> {
+impl<P: BasePtr, T, A: Allocator> Arena<P, T, A> {
     /// Takes the entry out that the pointer names, and raises the generation. The next insertion takes its slot.
     ///
     /// For a pointer that names no entry it returns `InvalidPtr`, and nothing changes. It takes O(1) time.

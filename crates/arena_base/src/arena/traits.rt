@@ -4,11 +4,11 @@ ghost use Rattle.std.specs.Prelude.{refl};
 use super::Arena;
 use crate::error::{MaxCapacityReductionError, ReallocationError};
 use crate::invalidation::{InvalidationOption, InvalidationResult};
-use crate::ptr::{Ptr, PtrGen, PtrInx};
+use crate::ptr::{BasePtr, BasePtrGen, BasePtrInx};
 use crate::traits::{ArenaCloneFromWith, ArenaTrait, CompactArenaTrait, SetMaxCapacity};
 use std::alloc::{AllocError, Allocator};
 
-impl<P: Ptr, T, A: Allocator + Copy> ArenaTrait<P, T> for Arena<P, T, A> {
+impl<P: BasePtr, T, A: Allocator + Copy> ArenaTrait<P, T> for Arena<P, T, A> {
     type Alloc = A;
 
     ghost content = { λ a. a };
@@ -99,15 +99,15 @@ impl<P: Ptr, T, A: Allocator + Copy> ArenaTrait<P, T> for Arena<P, T, A> {
     }
 }
 
-impl<P: Ptr, T, A: Allocator> CompactArenaTrait for Arena<P, T, A> {}
+impl<P: BasePtr, T, A: Allocator> CompactArenaTrait for Arena<P, T, A> {}
 
-impl<P: Ptr, T, A: Allocator + Copy> SetMaxCapacity<P, T> for Arena<P, T, A> {
+impl<P: BasePtr, T, A: Allocator + Copy> SetMaxCapacity<P, T> for Arena<P, T, A> {
     fn set_max_capacity(&mut self, n: usize) -> Result<(), MaxCapacityReductionError> {
         self.set_max_capacity(n)
     }
 }
 
-impl<P: Ptr, T, A: Allocator + Copy> ArenaCloneFromWith<P, T> for Arena<P, T, A> {
+impl<P: BasePtr, T, A: Allocator + Copy> ArenaCloneFromWith<P, T> for Arena<P, T, A> {
     fn clone_from_with<U, S: ArenaTrait<P, U>, F: FnMut(P, &U) -> T + Drop>(
         &mut self,
         source: &S,

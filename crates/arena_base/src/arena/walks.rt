@@ -6,7 +6,7 @@ ghost use Rattle.arena_base.specs.Walk.{pointers, entries_rising, rising_from, f
 use super::Arena;
 use super::get::pointer;
 use crate::advancer::Advancer;
-use crate::ptr::{Ptr, PtrInx};
+use crate::ptr::{BasePtr, BasePtrInx};
 use std::alloc::Allocator;
 use std::marker::{Model, PhantomData};
 
@@ -16,14 +16,14 @@ use std::marker::{Model, PhantomData};
 /// stands at its index afterwards. Where there is none it gives `None` and stays where it is, so that it goes on with entries
 /// that come behind it later. It has ended where it goes down from index 0, and nowhere else.
 #[derive(Drop)]
-pub struct PtrAdvancer<P: Ptr> {
+pub struct PtrAdvancer<P: BasePtr> {
     // the position of the slot that it stands before
     at: usize,
     falling: bool,
     of: PhantomData<P>,
 }
 
-impl<P: Ptr> Model for PtrAdvancer<P> {
+impl<P: BasePtr> Model for PtrAdvancer<P> {
     ghost use Rattle.arena_base.specs.Walk.{Walk};
 
     ghost Value = { Walk };
@@ -31,7 +31,7 @@ impl<P: Ptr> Model for PtrAdvancer<P> {
     ghost view = { λ s. record { at = s.at; falling = s.falling } };
 }
 
-impl<P: Ptr, T, A: Allocator> Advancer<Arena<P, T, A>> for PtrAdvancer<P> {
+impl<P: BasePtr, T, A: Allocator> Advancer<Arena<P, T, A>> for PtrAdvancer<P> {
     type Item = P;
 
     ghost advance_gives = { WalkSteps P.numbers };
@@ -57,7 +57,7 @@ impl<P: Ptr, T, A: Allocator> Advancer<Arena<P, T, A>> for PtrAdvancer<P> {
     }
 }
 
-impl<P: Ptr, T, A: Allocator> Arena<P, T, A> {
+impl<P: BasePtr, T, A: Allocator> Arena<P, T, A> {
     /// Goes through all pointers by rising index.
     pub fn advancer(&self) -> PtrAdvancer<P>
         ensures begins { result ≡ rising_walk 1 }

@@ -6,10 +6,10 @@ ghost use Rattle.arena_base.specs.Arena.{slot, item_of, with_item, swapped, IsOc
 
 use super::Arena;
 use crate::items_mut::ItemsMut;
-use crate::ptr::{Ptr, PtrInx};
+use crate::ptr::{BasePtr, BasePtrInx};
 use std::alloc::Allocator;
 
-impl<P: Ptr, T, A: Allocator> ItemsMut<P, T> for Arena<P, T, A> {
+impl<P: BasePtr, T, A: Allocator> ItemsMut<P, T> for Arena<P, T, A> {
     ghost entry_at = { slot };
 
     ghost written = { with_item };
@@ -26,14 +26,14 @@ impl<P: Ptr, T, A: Allocator> ItemsMut<P, T> for Arena<P, T, A> {
     }
 }
 
-impl<P: Ptr, T, A: Allocator> Arena<P, T, A> {
+impl<P: BasePtr, T, A: Allocator> Arena<P, T, A> {
     ghost use Rattle.arena_base.specs.contracts.arena.Arena.{the_row};
 
     /// The item that the pointer names, to be written.
     pub fn get_mut(&mut self, p: P) -> Option<&mut T>
         ensures* writes_back { sem 𝓛 (LendsIf (the_row P.row T.row A.row P.Inx.row P.Gen.row
-            P.Ptr.own P.PartialEq P.Inx.PtrInx.own P.Inx.PartialEq
-            P.Gen.PtrGen.own P.Gen.PartialEq A.Allocator)
+            P.BasePtr.own P.PartialEq P.Inx.BasePtrInx.own P.Inx.PartialEq
+            P.Gen.BasePtrGen.own P.Gen.PartialEq A.Allocator)
             T.row self.entry result (with_item self.old (P.numbers p).0) self.old) }
         ensures value { option_copied_mut result ≡ item_of self.old (P.numbers p) }
     {

@@ -2,9 +2,9 @@
 ghost use Rattle.std.specs.Prelude.{◌≡◌, ℕ, ◌^◌, ◌-◌, Option, Some, None, refl};
 ghost use Rattle.std.proofs.Common.{rules};
 
-use super::{PtrGen, PtrInx};
+use super::{BasePtrGen, BasePtrInx, PtrGen, PtrInx};
 
-impl PtrInx for u8 {
+impl BasePtrInx for u8 {
     ghost number = { λ i. i };
 
     ghost most = { 254 };
@@ -32,7 +32,7 @@ impl PtrInx for u8 {
     }
 }
 
-impl PtrInx for u16 {
+impl BasePtrInx for u16 {
     ghost number = { λ i. i };
 
     ghost most = { 65534 };
@@ -60,7 +60,7 @@ impl PtrInx for u16 {
     }
 }
 
-impl PtrInx for u32 {
+impl BasePtrInx for u32 {
     ghost number = { λ i. i };
 
     ghost most = { 4294967294 };
@@ -88,7 +88,7 @@ impl PtrInx for u32 {
     }
 }
 
-impl PtrInx for u64 {
+impl BasePtrInx for u64 {
     ghost number = { λ i. i };
 
     ghost most = { 18446744073709551614 };
@@ -116,7 +116,7 @@ impl PtrInx for u64 {
     }
 }
 
-impl PtrInx for usize {
+impl BasePtrInx for usize {
     ghost number = { λ i. i };
 
     ghost most = { 18446744073709551614 };
@@ -144,7 +144,7 @@ impl PtrInx for usize {
     }
 }
 
-impl PtrGen for u8 {
+impl BasePtrGen for u8 {
     ghost number = { λ g. g };
 
     ghost greatest = { Some 255 };
@@ -174,7 +174,7 @@ impl PtrGen for u8 {
     }
 }
 
-impl PtrGen for u16 {
+impl BasePtrGen for u16 {
     ghost number = { λ g. g };
 
     ghost greatest = { Some 65535 };
@@ -204,7 +204,7 @@ impl PtrGen for u16 {
     }
 }
 
-impl PtrGen for u32 {
+impl BasePtrGen for u32 {
     ghost number = { λ g. g };
 
     ghost greatest = { Some 4294967295 };
@@ -234,7 +234,7 @@ impl PtrGen for u32 {
     }
 }
 
-impl PtrGen for u64 {
+impl BasePtrGen for u64 {
     ghost number = { λ g. g };
 
     ghost greatest = { Some 18446744073709551615 };
@@ -263,3 +263,21 @@ impl PtrGen for u64 {
         self >= 2
     }
 }
+
+impl PtrInx for u8 {}
+
+impl PtrInx for u16 {}
+
+impl PtrInx for u32 {}
+
+impl PtrInx for u64 {}
+
+impl PtrInx for usize {}
+
+impl PtrGen for u8 {}
+
+impl PtrGen for u16 {}
+
+impl PtrGen for u32 {}
+
+impl PtrGen for u64 {}

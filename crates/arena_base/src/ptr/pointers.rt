@@ -2,7 +2,7 @@
 ghost use Rattle.std.specs.Prelude.{refl};
 ghost use Rattle.std.proofs.Common.{ap};
 
-use super::Ptr;
+use super::{BasePtr, Ptr};
 use crate::recast::{Recast, Recaster};
 use std::fmt;
 use std::marker::Model;
@@ -24,7 +24,7 @@ impl Model for P0 {
     ghost inverse = { λ p. record { inx = p.0; generation = p.1 } };
 }
 
-impl Ptr for P0 {
+impl BasePtr for P0 {
     type Inx = u32;
 
     type Gen = u64;
@@ -54,6 +54,8 @@ impl Ptr for P0 {
         P0 { inx, generation }
     }
 }
+
+impl Ptr for P0 {}
 
 impl fmt::Debug for P0 {
     fn fmt<W: fmt::Write>(&self, f: &mut fmt::Formatter<W>) -> fmt::Result {
@@ -86,7 +88,7 @@ impl Model for Q0 {
     ghost inverse = { λ p. record { inx = p.0; generation = p.1 } };
 }
 
-impl Ptr for Q0 {
+impl BasePtr for Q0 {
     type Inx = u32;
 
     type Gen = u64;
@@ -116,6 +118,8 @@ impl Ptr for Q0 {
         Q0 { inx, generation }
     }
 }
+
+impl Ptr for Q0 {}
 
 impl fmt::Debug for Q0 {
     fn fmt<W: fmt::Write>(&self, f: &mut fmt::Formatter<W>) -> fmt::Result {
@@ -148,7 +152,7 @@ impl Model for P8 {
     ghost inverse = { λ p. record { inx = p.0; generation = p.1 } };
 }
 
-impl Ptr for P8 {
+impl BasePtr for P8 {
     type Inx = u8;
 
     type Gen = u8;
@@ -178,6 +182,8 @@ impl Ptr for P8 {
         P8 { inx, generation }
     }
 }
+
+impl Ptr for P8 {}
 
 impl fmt::Debug for P8 {
     fn fmt<W: fmt::Write>(&self, f: &mut fmt::Formatter<W>) -> fmt::Result {
@@ -210,7 +216,7 @@ impl Model for PN {
     ghost inverse = { λ n. record { inx = n; generation = tt } };
 }
 
-impl Ptr for PN {
+impl BasePtr for PN {
     type Inx = u32;
 
     type Gen = ();
@@ -240,6 +246,8 @@ impl Ptr for PN {
         PN { inx, generation }
     }
 }
+
+impl Ptr for PN {}
 
 impl fmt::Debug for PN {
     fn fmt<W: fmt::Write>(&self, f: &mut fmt::Formatter<W>) -> fmt::Result {

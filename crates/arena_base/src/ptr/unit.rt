@@ -1,9 +1,9 @@
 //! `()` as the generation that never changes.
 ghost use Rattle.std.specs.Prelude.{None, refl};
 
-use super::PtrGen;
+use super::{BasePtrGen, PtrGen};
 
-impl PtrGen for () {
+impl BasePtrGen for () {
     ghost number = { λ _. 0 };
 
     ghost greatest = { None };
@@ -24,3 +24,5 @@ impl PtrGen for () {
         true
     }
 }
+
+impl PtrGen for () {}

@@ -10,10 +10,10 @@ ghost use Rattle.chain_base.specs.Walk.{index_after};
 
 use super::ChainArena;
 use super::links::{set_next, set_prev};
-use arena_base::{InvalidationOption, Ptr, PtrInx};
+use arena_base::{BasePtr, BasePtrInx, InvalidationOption};
 use std::alloc::Allocator;
 
-impl<P: Ptr, T, A: Allocator> ChainArena<P, T, A> {
+impl<P: BasePtr, T, A: Allocator> ChainArena<P, T, A> {
     /// Moves all entries to the indexes from 1 on, in the order of the list, and gives them all one generation, which becomes
     /// the arena's: the first where `reset` is true, else the next one. The entry at position i of the list, counted from 0, has
     /// index i + 1 then.
@@ -77,7 +77,7 @@ impl<P: Ptr, T, A: Allocator> ChainArena<P, T, A> {
 }
 
 // The index that an entry has once those at i and j have changed theirs.
-fn exchanged_inx<P: Ptr>(at: Option<P::Inx>, i: P::Inx, j: P::Inx) -> Option<P::Inx>
+fn exchanged_inx<P: BasePtr>(at: Option<P::Inx>, i: P::Inx, j: P::Inx) -> Option<P::Inx>
     ensures { option_map P.Inx.number result
         ≡ option_map (exchanged_index (P.Inx.number i) (P.Inx.number j))
         (option_map P.Inx.number at) }

@@ -6,10 +6,10 @@ ghost use Rattle.chain_base.specs.Clone.{IsClone, IsRefusedClone, ShowsLink};
 
 use super::ChainArena;
 use crate::link::LinkNoGen;
-use arena_base::{CloneEntry, Ptr, ReallocationError};
+use arena_base::{BasePtr, CloneEntry, ReallocationError};
 use std::alloc::{AllocError, Allocator};
 
-impl<P: Ptr, T: Drop, A: Allocator> ChainArena<P, T, A> {
+impl<P: BasePtr, T: Drop, A: Allocator> ChainArena<P, T, A> {
     /// Makes this chain a clone of the source, with items that `map` makes: it has the source's pointers in the source's order,
     /// and its generation, and its own old entries are dropped.
     ///
@@ -103,7 +103,7 @@ pub struct CloneLink<M> {
     map: M,
 }
 
-impl<P: Ptr, T, U, M: CloneEntry<P, LinkNoGen<P, U>, T>> CloneEntry<
+impl<P: BasePtr, T, U, M: CloneEntry<P, LinkNoGen<P, U>, T>> CloneEntry<
     P,
     LinkNoGen<P, U>,
     LinkNoGen<P, T>,
@@ -130,7 +130,7 @@ pub struct ShowLink<F> {
     f: F,
 }
 
-impl<P: Ptr, U, T, F: FnMut(P, &U, (Option<P::Inx>, Option<P::Inx>)) -> T> CloneEntry<
+impl<P: BasePtr, U, T, F: FnMut(P, &U, (Option<P::Inx>, Option<P::Inx>)) -> T> CloneEntry<
     P,
     LinkNoGen<P, U>,
     T,
@@ -158,7 +158,7 @@ pub struct TryShowLink<F> {
 }
 
 impl<
-    P: Ptr,
+    P: BasePtr,
     U,
     T,
     F: FnMut(P, &U, (Option<P::Inx>, Option<P::Inx>)) -> Result<T, AllocError>,

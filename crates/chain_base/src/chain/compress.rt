@@ -11,10 +11,10 @@ ghost use Rattle.chain_base.specs.Naming.{CompressesItems, neighbour_on, linked_
 use super::ChainArena;
 use super::links::{set_next, set_prev};
 use crate::link::LinkNoGen;
-use arena_base::{Arena, Calls, InvalidationOption, MapEntry, Ptr, PtrInx};
+use arena_base::{Arena, BasePtr, BasePtrInx, Calls, InvalidationOption, MapEntry};
 use std::alloc::Allocator;
 
-impl<P: Ptr, T, A: Allocator> ChainArena<P, T, A> {
+impl<P: BasePtr, T, A: Allocator> ChainArena<P, T, A> {
     /// Moves all entries to the indexes from 1 on, in the order of their indexes, and gives them all one generation, which
     /// becomes the arena's: the first where `reset` is true, else the next one. The list keeps its order.
     ///
@@ -69,7 +69,7 @@ impl<P: Ptr, T, A: Allocator> ChainArena<P, T, A> {
 }
 
 // Compresses the arena under a chain. The links keep the names of neighbours that they have.
-fn compress_items<P: Ptr, T, A: Allocator, M: MapEntry<P, T> + Drop>(
+fn compress_items<P: BasePtr, T, A: Allocator, M: MapEntry<P, T> + Drop>(
     arena: &mut Arena<P, LinkNoGen<P, T>, A>,
     reset: bool,
     map: M,
@@ -91,7 +91,7 @@ pub struct MapItem<M> {
     map: M,
 }
 
-impl<P: Ptr, T, M: MapEntry<P, T>> MapEntry<P, LinkNoGen<P, T>> for MapItem<M> {
+impl<P: BasePtr, T, M: MapEntry<P, T>> MapEntry<P, LinkNoGen<P, T>> for MapItem<M> {
     ghost use Rattle.chain_base.specs.Naming.{MapsItem};
 
     ghost callable = { λ m. M.callable m.map };
@@ -117,7 +117,7 @@ pub enum Side {
 //
 // Before a compression these are the indexes to come: an entry is met at its old index, its neighbour's link not
 // yet changed on this side. After it they are the indexes.
-fn name_compressed_indexes<P: Ptr, T, A: Allocator>(
+fn name_compressed_indexes<P: BasePtr, T, A: Allocator>(
     arena: &mut Arena<P, LinkNoGen<P, T>, A>,
     side: Side,
 ) -> Option<P::Inx>
@@ -142,7 +142,7 @@ fn name_compressed_indexes<P: Ptr, T, A: Allocator>(
 }
 
 // The index of the neighbour on a side.
-fn neighbour_on<P: Ptr, T>(link: &LinkNoGen<P, T>, side: Side) -> Option<P::Inx>
+fn neighbour_on<P: BasePtr, T>(link: &LinkNoGen<P, T>, side: Side) -> Option<P::Inx>
     ensures { option_map P.Inx.number result ≡ neighbour_on side link.now }
 {
     match side {
@@ -152,7 +152,7 @@ fn neighbour_on<P: Ptr, T>(link: &LinkNoGen<P, T>, side: Side) -> Option<P::Inx>
 }
 
 // Links the entry at an index, if one is named, to another neighbour on the side that faces this one.
-fn link_facing<P: Ptr, T, A: Allocator>(
+fn link_facing<P: BasePtr, T, A: Allocator>(
     arena: &mut Arena<P, LinkNoGen<P, T>, A>,
     side: Side,
     at: Option<P::Inx>,

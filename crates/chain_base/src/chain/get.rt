@@ -5,10 +5,10 @@ ghost use Rattle.chain_base.specs.Chain.{entry_at, item_of, link_at, pointed, fi
 
 use super::ChainArena;
 use crate::link::LinkNoGen;
-use arena_base::Ptr;
+use arena_base::BasePtr;
 use std::alloc::Allocator;
 
-impl<P: Ptr, T, A: Allocator> ChainArena<P, T, A> {
+impl<P: BasePtr, T, A: Allocator> ChainArena<P, T, A> {
     /// Whether the pointer names an entry.
     pub fn contains(&self, p: P) -> bool
         ensures { result ≡ is_some (item_of self.now.entries (P.numbers p)) }

@@ -6,12 +6,12 @@ ghost use Rattle.chain_base.specs.Chain.{new_chain, with_capacity, with_room, cl
 
 use super::ChainArena;
 use arena_base::{
-    Arena, InsertionError, InvalidationOption, MaxCapacityReductionError, Ptr, PtrInx,
+    Arena, BasePtr, BasePtrInx, InsertionError, InvalidationOption, MaxCapacityReductionError,
     ReallocationError,
 };
 use std::alloc::{AllocError, Allocator};
 
-impl<P: Ptr, T, A: Allocator> ChainArena<P, T, A> {
+impl<P: BasePtr, T, A: Allocator> ChainArena<P, T, A> {
     /// An empty chain arena with capacity 0 and no maximum, which takes no memory until it grows.
     pub fn new(alloc: A) -> Self
     where

@@ -7,12 +7,12 @@ ghost use Rattle.chain_base.specs.Insert.{placed, CanPlace, IsInsertion, PutsBet
 use super::ChainArena;
 use super::links::relink;
 use crate::link::LinkNoGen;
-use arena_base::{InsertionError, Ptr};
+use arena_base::{BasePtr, InsertionError};
 use std::alloc::Allocator;
 
 /// Where a new entry stands in the list.
 #[derive(Debug, PartialEq, Eq, Drop)]
-pub enum LinkInsertKind<P: Ptr> {
+pub enum LinkInsertKind<P: BasePtr> {
     /// As the only entry. The list must be empty.
     Disconnected,
     /// Directly after the entry of this index, which must have one.
@@ -21,7 +21,7 @@ pub enum LinkInsertKind<P: Ptr> {
     PrevToInx(P::Inx),
 }
 
-impl<P: Ptr, T: Drop, A: Allocator> ChainArena<P, T, A> {
+impl<P: BasePtr, T: Drop, A: Allocator> ChainArena<P, T, A> {
     /// Inserts an item at the place that `kind` names, into the slot that was freed last, else the least that was never used.
     ///
     /// Its generation is the arena's. It is refused where no slot is vacant; the item is then dropped, and nothing else changes.

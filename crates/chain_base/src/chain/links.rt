@@ -6,12 +6,12 @@ ghost use Rattle.arena_base.specs.Pointer.{named_of};
 ghost use Rattle.chain_base.specs.Layout.{linked_next, linked_prev};
 
 use crate::link::LinkNoGen;
-use arena_base::{Arena, ItemsMut, Ptr};
+use arena_base::{Arena, BasePtr, ItemsMut};
 use std::alloc::Allocator;
 
 // Lets `left`, if there is one, lead on to `next`, and `right`, if there is one, back to `prev`. Where one is missing that end
 // of the list is new. Returns the first and the last index of the list.
-pub(super) fn relink<P: Ptr, T, A: Allocator>(
+pub(super) fn relink<P: BasePtr, T, A: Allocator>(
     arena: &mut Arena<P, LinkNoGen<P, T>, A>,
     left: Option<P::Inx>,
     next: Option<P::Inx>,
@@ -40,7 +40,7 @@ pub(super) fn relink<P: Ptr, T, A: Allocator>(
 }
 
 // Links the entry at an index, if one is named, to another next one.
-pub(super) fn set_next<P: Ptr, T, A: Allocator>(
+pub(super) fn set_next<P: BasePtr, T, A: Allocator>(
     arena: &mut Arena<P, LinkNoGen<P, T>, A>,
     at: Option<P::Inx>,
     next: Option<P::Inx>,
@@ -57,7 +57,7 @@ pub(super) fn set_next<P: Ptr, T, A: Allocator>(
 }
 
 // Links the entry at an index, if one is named, to another previous one.
-pub(super) fn set_prev<P: Ptr, T, A: Allocator>(
+pub(super) fn set_prev<P: BasePtr, T, A: Allocator>(
     arena: &mut Arena<P, LinkNoGen<P, T>, A>,
     at: Option<P::Inx>,
     prev: Option<P::Inx>,

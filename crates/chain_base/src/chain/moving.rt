@@ -9,10 +9,10 @@ use super::ChainArena;
 use super::insert::LinkInsertKind;
 use super::links::{relink, set_next, set_prev};
 use crate::link::LinkNoGen;
-use arena_base::{Arena, Ptr};
+use arena_base::{Arena, BasePtr};
 use std::alloc::Allocator;
 
-impl<P: Ptr, T, A: Allocator> ChainArena<P, T, A> {
+impl<P: BasePtr, T, A: Allocator> ChainArena<P, T, A> {
     /// Moves the entry at `i` to the place that `kind` names in the list without it. It keeps its pointer and its item.
     ///
     /// The other entries keep their order. Beside its own neighbour the entry stays where it is. O(1), and no memory.
@@ -42,7 +42,7 @@ impl<P: Ptr, T, A: Allocator> ChainArena<P, T, A> {
 }
 
 // The neighbours that an entry gets at a place of a list. The slots of the list's entries hold their links.
-fn neighbours_in<P: Ptr, T, A: Allocator>(
+fn neighbours_in<P: BasePtr, T, A: Allocator>(
     arena: &Arena<P, LinkNoGen<P, T>, A>,
     kind: LinkInsertKind<P>,
 ) -> (Option<P::Inx>, Option<P::Inx>)

@@ -8,10 +8,10 @@ ghost use Rattle.chain_base.specs.Chain.{IsOccupied, link_at, item_of, removed, 
 use super::ChainArena;
 use super::links::relink;
 use crate::link::LinkNoGen;
-use arena_base::{InvalidationOption, InvalidationResult, Ptr};
+use arena_base::{BasePtr, InvalidationOption, InvalidationResult};
 use std::alloc::Allocator;
 
-impl<P: Ptr, T, A: Allocator> ChainArena<P, T, A> {
+impl<P: BasePtr, T, A: Allocator> ChainArena<P, T, A> {
     /// Takes the entry at the index out, with its generation and the link that it had, links its neighbours to each other,
     /// and raises the generation. The next insertion takes its slot. It takes no memory.
     ///

@@ -11,10 +11,10 @@ use super::ChainArena;
 use super::insert::LinkInsertKind;
 use crate::link::LinkNoGen;
 use crate::map_taken::MapTaken;
-use arena_base::{Calls, InvalidationOption, InvalidationResult, Ptr, ReallocationError};
+use arena_base::{BasePtr, Calls, InvalidationOption, InvalidationResult, ReallocationError};
 use std::alloc::Allocator;
 
-impl<P: Ptr, T, A: Allocator> ChainArena<P, T, A> {
+impl<P: BasePtr, T, A: Allocator> ChainArena<P, T, A> {
     /// Takes all entries out of the source, in order, and puts one for each into this chain, whose old entries are dropped: at
     /// the indexes from 1 on, with this generation, which becomes the chain's. The capacity grows to their number where it was
     /// less.
@@ -26,7 +26,7 @@ impl<P: Ptr, T, A: Allocator> ChainArena<P, T, A> {
     /// It is refused with `BeyondMaxCapacity` where the source has more entries than this chain's limit, and with `AllocError`
     /// where the capacity would grow and memory is refused. Nothing changes then, and `f` isn't called.
     pub fn transfer_canonical_reallocating<
-        Q: Ptr,
+        Q: BasePtr,
         U,
         B: Allocator,
         F: FnMut(Q, InvalidationOption<U>, P) -> T + Drop,
@@ -53,7 +53,7 @@ impl<P: Ptr, T, A: Allocator> ChainArena<P, T, A> {
     }
 
     /// Takes all entries over as `transfer_canonical_reallocating` does, where `map` has the place of the closure.
-    pub fn transfer_by<Q: Ptr, U, B: Allocator, M: MapTaken<Q, U, P, T> + Drop>(
+    pub fn transfer_by<Q: BasePtr, U, B: Allocator, M: MapTaken<Q, U, P, T> + Drop>(
         &mut self,
         new_generation: P::Gen,
         source: &mut ChainArena<Q, U, B>,
@@ -82,7 +82,7 @@ impl<P: Ptr, T, A: Allocator> ChainArena<P, T, A> {
 }
 
 // Makes the capacity n where it is less.
-fn raise_capacity<P: Ptr, T, A: Allocator>(
+fn raise_capacity<P: BasePtr, T, A: Allocator>(
     chain: &mut ChainArena<P, T, A>,
     n: usize,
 ) -> Result<(), ReallocationError>
@@ -101,11 +101,15 @@ fn raise_capacity<P: Ptr, T, A: Allocator>(
 }
 
 // Takes all entries of the source over into a chain without entries.
-fn take_all<P: Ptr, T: Drop, A: Allocator, Q: Ptr, U, B: Allocator, M: MapTaken<Q, U, P, T> + Drop>(
-    chain: &mut ChainArena<P, T, A>,
-    source: &mut ChainArena<Q, U, B>,
-    mut map: M,
-)
+fn take_all<
+    P: BasePtr,
+    T: Drop,
+    A: Allocator,
+    Q: BasePtr,
+    U,
+    B: Allocator,
+    M: MapTaken<Q, U, P, T> + Drop,
+>(chain: &mut ChainArena<P, T, A>, source: &mut ChainArena<Q, U, B>, mut map: M)
     requires callable { M.callable map }
     requires empty { chain.old ≡ filled_with chain.old [] }
     requires room { length source.old.entries ≤ chain.old.capacity }
@@ -124,7 +128,7 @@ fn take_all<P: Ptr, T: Drop, A: Allocator, Q: Ptr, U, B: Allocator, M: MapTaken<
 }
 
 // Takes the first entry out.
-fn take_first<Q: Ptr, U, B: Allocator>(
+fn take_first<Q: BasePtr, U, B: Allocator>(
     source: &mut ChainArena<Q, U, B>,
 ) -> (Q, InvalidationOption<U>)
     requires { 0 < length source.old.entries }
@@ -136,7 +140,7 @@ fn take_first<Q: Ptr, U, B: Allocator>(
 }
 
 // The result of a removal, with the item alone.
-fn item_taken<Q: Ptr, U>(
+fn item_taken<Q: BasePtr, U>(
     taken: InvalidationResult<(Q::Gen, LinkNoGen<Q, U>)>,
 ) -> InvalidationResult<U>
     ensures value { valid_value result ≡ option_map (λ e. e.1.item) (valid_value taken) }
@@ -146,7 +150,7 @@ fn item_taken<Q: Ptr, U>(
 }
 
 // Puts an item behind the last of those at the indexes from 1 on.
-fn put_last<P: Ptr, T: Drop, A: Allocator>(
+fn put_last<P: BasePtr, T: Drop, A: Allocator>(
     chain: &mut ChainArena<P, T, A>,
     last: Option<P::Inx>,
     item: T,
@@ -165,7 +169,7 @@ fn put_last<P: Ptr, T: Drop, A: Allocator>(
 }
 
 // The place behind the last entry, or alone where there is none.
-fn kind_behind<P: Ptr>(last: Option<P::Inx>) -> LinkInsertKind<P>
+fn kind_behind<P: BasePtr>(last: Option<P::Inx>) -> LinkInsertKind<P>
     ensures { result ≡ place_behind last }
 {
     match last {

@@ -5,7 +5,7 @@ ghost use Rattle.chain_base.specs.Chain.{item_of};
 ghost use Rattle.chain_base.specs.Walk.{pointers_left, GivesEntry, WalkSteps};
 
 use super::ChainArena;
-use arena_base::{Advancer, Ptr};
+use arena_base::{Advancer, BasePtr};
 use std::alloc::Allocator;
 use std::marker::Model;
 
@@ -15,11 +15,11 @@ use std::marker::Model;
 /// goes on to the index that its link names at that moment. `None` is for good: it comes where no entry has the index, and
 /// after the entry that was the last one when it was given, also where others come behind it later.
 #[derive(Drop)]
-pub struct ChainPtrAdvancer<P: Ptr> {
+pub struct ChainPtrAdvancer<P: BasePtr> {
     at: Option<P::Inx>,
 }
 
-impl<P: Ptr> Model for ChainPtrAdvancer<P> {
+impl<P: BasePtr> Model for ChainPtrAdvancer<P> {
     ghost use Rattle.std.specs.Prelude.{ℕ, Option};
     ghost use Rattle.std.specs.Option.{option_map};
 
@@ -28,7 +28,7 @@ impl<P: Ptr> Model for ChainPtrAdvancer<P> {
     ghost view = { λ s. option_map P.Inx.number s.at };
 }
 
-impl<P: Ptr, T, A: Allocator> Advancer<ChainArena<P, T, A>> for ChainPtrAdvancer<P> {
+impl<P: BasePtr, T, A: Allocator> Advancer<ChainArena<P, T, A>> for ChainPtrAdvancer<P> {
     type Item = P;
 
     ghost advance_gives = { WalkSteps P.numbers };
@@ -48,7 +48,7 @@ impl<P: Ptr, T, A: Allocator> Advancer<ChainArena<P, T, A>> for ChainPtrAdvancer
     }
 }
 
-impl<P: Ptr, T, A: Allocator> ChainArena<P, T, A> {
+impl<P: BasePtr, T, A: Allocator> ChainArena<P, T, A> {
     /// Goes through the pointers from an entry on, which is the first to be given; `None` where the pointer names no entry.
     pub fn advancer_chain(&self, p: P) -> Option<ChainPtrAdvancer<P>>
         ensures valid { is_some result ≡ is_some (item_of self.now.entries (P.numbers p)) }

@@ -7,10 +7,10 @@ ghost use Rattle.chain_base.specs.Layout.{entry_in, rewritten};
 
 use super::ChainArena;
 use crate::link::LinkNoGen;
-use arena_base::{Arena, ItemsMut, Ptr};
+use arena_base::{Arena, BasePtr, ItemsMut};
 use std::alloc::Allocator;
 
-impl<P: Ptr, T, A: Allocator> ItemsMut<P, T> for ChainArena<P, T, A> {
+impl<P: BasePtr, T, A: Allocator> ItemsMut<P, T> for ChainArena<P, T, A> {
     ghost entry_at = { λ c. entry_at c.entries };
 
     ghost written = { with_item };
@@ -25,7 +25,7 @@ impl<P: Ptr, T, A: Allocator> ItemsMut<P, T> for ChainArena<P, T, A> {
 }
 
 // An arena of links, as what holds their items.
-trait LinkItemsMut<P: Ptr, T> {
+trait LinkItemsMut<P: BasePtr, T> {
     // generation and item of the link at an index
     ghost item_at: { Self → ℕ → Option (ℕ × T) };
 
@@ -41,7 +41,7 @@ trait LinkItemsMut<P: Ptr, T> {
             ≡ Some (P.Gen.number result.0, result.1.now) };
 }
 
-impl<P: Ptr, T, A: Allocator> LinkItemsMut<P, T> for Arena<P, LinkNoGen<P, T>, A> {
+impl<P: BasePtr, T, A: Allocator> LinkItemsMut<P, T> for Arena<P, LinkNoGen<P, T>, A> {
     ghost item_at = { λ links i. entry_in (slot links i) };
 
     ghost written = { rewritten };

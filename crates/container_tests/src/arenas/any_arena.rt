@@ -1,6 +1,6 @@
 //! An arena among others, through the traits; indexes and generations of each type.
 use super::{numbers, p0};
-use arena_base::{Arena, ArenaTrait, P0, PtrGen, PtrInx, SetMaxCapacity, laws};
+use arena_base::{Arena, ArenaTrait, BasePtrGen, BasePtrInx, P0, SetMaxCapacity, laws};
 use std::alloc::Global;
 
 /// The numbers of an arena: entries, capacity, and those of the first and of the last pointer by index.
@@ -65,7 +65,7 @@ fn as_any_arena(rt: HostRuntime) {
 }
 
 // Indexes and generations of each type, through their bounds.
-fn counts<I: PtrInx, G: PtrGen>() -> (bool, bool, bool, bool) {
+fn counts<I: BasePtrInx, G: BasePtrGen>() -> (bool, bool, bool, bool) {
     let none = I::try_from_usize(0).is_none() && I::try_from_usize(I::limit() + 1).is_none();
     let last = I::try_from_usize(I::limit()).and_then(|i: I| i.try_into_usize());
     let two = G::two();

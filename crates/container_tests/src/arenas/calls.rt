@@ -1,6 +1,6 @@
 //! Calls in a row, with what each gives and leaves, and generations that begin again.
 use super::{Counts, counts, numbers, p0};
-use arena_base::{Arena, InvalidationOption, InvalidationResult, ItemsMut, P0, P8, Ptr};
+use arena_base::{Arena, BasePtr, InvalidationOption, InvalidationResult, ItemsMut, P0, P8};
 
 /// A call on an arena of numbers.
 #[derive(Clone, Copy)]

@@ -1,6 +1,6 @@
 //! Clones of arenas, and an arena of pointers as a recaster.
 use super::{Counts, counts, p0};
-use arena_base::{Arena, P0, Ptr, ReallocationError, Recast, laws};
+use arena_base::{Arena, BasePtr, P0, ReallocationError, Recast, laws};
 use linked_list_allocator::LocalHeap;
 use std::alloc::{AllocError, Global};
 

@@ -1,6 +1,6 @@
 //! Compressions.
 use super::{Counts, counts, p0};
-use arena_base::{Arena, InvalidationOption, P0, Ptr};
+use arena_base::{Arena, BasePtr, InvalidationOption, P0};
 use std::alloc::Global;
 
 /// The place of a call among all, the pointers that it was shown, and the item.

@@ -1,6 +1,6 @@
 //! Arenas, pointers and refusals as they are printed.
 use arena_base::{
-    Arena, InsertionError, MaxCapacityReductionError, P0, P8, PN, Ptr, Q0, ReallocationError,
+    Arena, BasePtr, InsertionError, MaxCapacityReductionError, P0, P8, PN, Q0, ReallocationError,
 };
 use std::alloc::Global;
 

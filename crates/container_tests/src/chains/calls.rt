@@ -1,6 +1,6 @@
 //! Calls in a row, with what each gives and leaves.
 use super::{Entry, Letters, Place, insert, is_listed};
-use arena_base::{InvalidationOption, Ptr};
+use arena_base::{BasePtr, InvalidationOption};
 
 /// A call on a chain of letters.
 #[derive(Clone, Copy)]

@@ -1,6 +1,6 @@
 //! Clones of other chains.
 use super::{Letters, SCATTERED, is_listed, scattered};
-use arena_base::{P0, Ptr, ReallocationError};
+use arena_base::{BasePtr, P0, ReallocationError};
 use std::alloc::AllocError;
 
 /// How a clone is refused, if it is, how often its closure was called, and how many entries it leaves.

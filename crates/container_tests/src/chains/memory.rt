@@ -1,6 +1,6 @@
 //! Memory that is refused.
 use super::{Entry, Letters, Place, SCATTERED, insert, is_listed, scattered};
-use arena_base::{InsertionError, InvalidationOption, P0, Ptr, ReallocationError};
+use arena_base::{BasePtr, InsertionError, InvalidationOption, P0, ReallocationError};
 use linked_list_allocator::LocalHeap;
 
 /// Ten entries, each inserted after the last.

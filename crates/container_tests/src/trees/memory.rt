@@ -1,6 +1,6 @@
 //! Memory that is refused, and calls that ask for none.
 use super::{Keys, Place, insert_at, place_of, places, toggle};
-use arena_base::{InsertionError, P0, Ptr};
+use arena_base::{BasePtr, InsertionError, P0};
 use linked_list_allocator::LocalHeap;
 use std::alloc::Global;
 

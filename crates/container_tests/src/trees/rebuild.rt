@@ -1,6 +1,6 @@
 //! Rebuilt trees, compared place by place with a recursive function of the length.
 use super::{Keys, Place, insert_at, places};
-use arena_base::{InvalidationOption, P0, Ptr, ReallocationError};
+use arena_base::{BasePtr, InvalidationOption, P0, ReallocationError};
 use std::alloc::{AllocError, Global};
 use std::cmp::Ordering;
 

@@ -1,5 +1,5 @@
 //! `run` on arenas of letters under pointers of eight bits.
-use arena_base::{InvalidationOption, InvalidationResult, P8, Ptr};
+use arena_base::{BasePtr, InvalidationOption, InvalidationResult, P8};
 use ord_script::{Command, Reply, run};
 use std::alloc::{AllocError, Global};
 use std::cmp::Ordering;

@@ -7,11 +7,11 @@ ghost use Rattle.ord_tree.specs.Clone.{IsClone, IsRefusedClone, ShowsItem};
 
 use super::OrdTree;
 use crate::node::SimpleOrdArenaNode;
-use arena_base::{Calls, CloneEntry, Ptr, ReallocationError, TryCalls};
+use arena_base::{BasePtr, Calls, CloneEntry, ReallocationError, TryCalls};
 use chain_base::{ChainArena, LinkNoGen};
 use std::alloc::{AllocError, Allocator};
 
-impl<P: Ptr, T: Drop, A: Allocator> OrdTree<P, T, A> {
+impl<P: BasePtr, T: Drop, A: Allocator> OrdTree<P, T, A> {
     /// Makes this tree a clone of the source, with items that `map` makes: it has the source's pointers in the source's order, the
     /// source's shape and its generation, and its own old entries are dropped.
     ///
@@ -57,7 +57,7 @@ impl<P: Ptr, T: Drop, A: Allocator> OrdTree<P, T, A> {
     }
 }
 
-impl<P: Ptr, T, A: Allocator + Copy> OrdTree<P, T, A> {
+impl<P: BasePtr, T, A: Allocator + Copy> OrdTree<P, T, A> {
     /// Makes a chain a clone of the list, with items that `map` makes: it has the tree's pointers in their order and its generation,
     /// and its own old entries are dropped.
     ///
@@ -97,8 +97,11 @@ pub struct ShowItem<M> {
     map: M,
 }
 
-impl<P: Ptr, T, U, M: CloneEntry<P, T, U>> CloneEntry<P, LinkNoGen<P, SimpleOrdArenaNode<P, T>>, U>
-    for ShowItem<M> {
+impl<P: BasePtr, T, U, M: CloneEntry<P, T, U>> CloneEntry<
+    P,
+    LinkNoGen<P, SimpleOrdArenaNode<P, T>>,
+    U,
+> for ShowItem<M> {
     ghost callable = { λ m. M.callable m.map };
 
     ghost step = { λ m p link answer n. M.step m.map p link.item.t answer n.map };
@@ -120,7 +123,7 @@ pub struct CloneNode<M> {
     map: M,
 }
 
-impl<P: Ptr, U, T, M: CloneEntry<P, U, T>> CloneEntry<
+impl<P: BasePtr, U, T, M: CloneEntry<P, U, T>> CloneEntry<
     P,
     LinkNoGen<P, SimpleOrdArenaNode<P, U>>,
     SimpleOrdArenaNode<P, T>,

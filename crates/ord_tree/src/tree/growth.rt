@@ -5,11 +5,11 @@ ghost use Rattle.chain_base.specs.Chain.{new_chain, with_capacity, with_room, gr
 ghost use Rattle.ord_tree.specs.Shape.{missing};
 
 use super::OrdTree;
-use arena_base::{InsertionError, MaxCapacityReductionError, Ptr, ReallocationError};
+use arena_base::{BasePtr, InsertionError, MaxCapacityReductionError, ReallocationError};
 use chain_base::ChainArena;
 use std::alloc::{AllocError, Allocator};
 
-impl<P: Ptr, T, A: Allocator> OrdTree<P, T, A> {
+impl<P: BasePtr, T, A: Allocator> OrdTree<P, T, A> {
     /// An empty tree with capacity 0 and no maximum, which takes no memory until it grows.
     pub fn new(alloc: A) -> Self
     where

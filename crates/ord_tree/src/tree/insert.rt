@@ -19,12 +19,12 @@ use crate::node::SimpleOrdArenaNode;
 use crate::node_inx::{NodeInx, as_link, node_at};
 use crate::nodes::Nodes;
 use crate::tree_links::{Branch, Side};
-use arena_base::{InsertionError, Ptr};
+use arena_base::{BasePtr, InsertionError};
 use chain_base::{ChainArena, LinkInsertKind};
 use std::alloc::Allocator;
 use std::cmp::Ordering;
 
-impl<P: Ptr, T: Drop, A: Allocator> OrdTree<P, T, A> {
+impl<P: BasePtr, T: Drop, A: Allocator> OrdTree<P, T, A> {
     /// Inserts an item directly before (`Less`) or after (`Greater`) the entry at an index, or alone (`None`) where there is no
     /// entry, into the slot that was freed last, else the least that was never used.
     ///
@@ -92,7 +92,7 @@ fn parent_in<I: Copy>(branch: Option<Branch<I>>) -> Option<I>
 }
 
 // The place in the chain that is named.
-pub(super) fn kind_of<P: Ptr>(at: Option<(P::Inx, Ordering)>) -> LinkInsertKind<P>
+pub(super) fn kind_of<P: BasePtr>(at: Option<(P::Inx, Ordering)>) -> LinkInsertKind<P>
     ensures { result ≡ kind_at at }
 {
     match at {
@@ -113,7 +113,7 @@ pub(super) fn side_of(ordering: Ordering) -> Side
 }
 
 // The entry directly before or after the one at an index that has one.
-pub(super) fn neighbour<P: Ptr, T, A: Allocator>(
+pub(super) fn neighbour<P: BasePtr, T, A: Allocator>(
     chain: &ChainArena<P, SimpleOrdArenaNode<P, T>, A>,
     i: NodeInx<P::Inx>,
     side: Side,
@@ -131,7 +131,7 @@ pub(super) fn neighbour<P: Ptr, T, A: Allocator>(
 
 // The branch of a new leaf that is to stand on that side of the entry at an index that has one: there where nothing
 // hangs, else under its neighbour on that side, of which the facing side is free then.
-fn branch_on<P: Ptr, T, A: Allocator>(
+fn branch_on<P: BasePtr, T, A: Allocator>(
     chain: &ChainArena<P, SimpleOrdArenaNode<P, T>, A>,
     i: NodeInx<P::Inx>,
     side: Side,
@@ -156,7 +156,7 @@ fn branch_on<P: Ptr, T, A: Allocator>(
 }
 
 // The branch of a new leaf that is to stand before or after an entry, or alone.
-fn branch_at<P: Ptr, T, A: Allocator>(
+fn branch_at<P: BasePtr, T, A: Allocator>(
     chain: &ChainArena<P, SimpleOrdArenaNode<P, T>, A>,
     at: Option<(P::Inx, Ordering)>,
 ) -> Option<Branch<NodeInx<P::Inx>>>
@@ -173,7 +173,7 @@ fn branch_at<P: Ptr, T, A: Allocator>(
 
 // Lets the tree over a chain have the new leaf x, on its branch or alone.
 #[inline(always)]
-fn grow<P: Ptr, T, A: Allocator>(
+fn grow<P: BasePtr, T, A: Allocator>(
     chain: &mut ChainArena<P, SimpleOrdArenaNode<P, T>, A>,
     root: &mut Option<NodeInx<P::Inx>>,
     branch: Option<Branch<NodeInx<P::Inx>>>,

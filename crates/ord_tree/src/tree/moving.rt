@@ -16,12 +16,12 @@ use crate::node::SimpleOrdArenaNode;
 use crate::node_inx::{NodeInx, node_at};
 use crate::nodes::Nodes;
 use crate::tree_links::{Branch, Side, TreeLinks};
-use arena_base::Ptr;
+use arena_base::BasePtr;
 use chain_base::ChainArena;
 use std::alloc::Allocator;
 use std::cmp::Ordering;
 
-impl<P: Ptr, T, A: Allocator> OrdTree<P, T, A> {
+impl<P: BasePtr, T, A: Allocator> OrdTree<P, T, A> {
     /// Moves the entry at `i` directly before (`Less`) or after (`Greater`) another entry. It keeps its pointer and its item.
     ///
     /// The other entries keep their order. Beside its own neighbour the entry stays where it is.
@@ -62,7 +62,7 @@ impl<P: Ptr, T, A: Allocator> OrdTree<P, T, A> {
 
 // The branch of a leaf x that stands in the list directly beside y, on that side, and not yet in the tree: there where nothing
 // hangs, else under the neighbour of x on that side, of which the facing side is free then.
-fn branch_across<P: Ptr, T, A: Allocator>(
+fn branch_across<P: BasePtr, T, A: Allocator>(
     chain: &ChainArena<P, SimpleOrdArenaNode<P, T>, A>,
     y: NodeInx<P::Inx>,
     side: Side,

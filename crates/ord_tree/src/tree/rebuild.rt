@@ -16,11 +16,11 @@ use super::OrdTree;
 use crate::node::SimpleOrdArenaNode;
 use crate::node_inx::NodeInx;
 use crate::rebuild::rebuild;
-use arena_base::{Calls, InvalidationOption, MapEntry, Ptr, ReallocationError};
+use arena_base::{BasePtr, Calls, InvalidationOption, MapEntry, ReallocationError};
 use chain_base::{ChainArena, MapTaken};
 use std::alloc::Allocator;
 
-impl<P: Ptr, T, A: Allocator> OrdTree<P, T, A> {
+impl<P: BasePtr, T, A: Allocator> OrdTree<P, T, A> {
     /// Moves all entries to the indexes from 1 on, in the order of their indexes, and gives them all one generation, which
     /// becomes the arena's: the first where `reset` is true, else the next one. Then the tree is built anew; the list keeps its
     /// order.
@@ -87,7 +87,7 @@ impl<P: Ptr, T, A: Allocator> OrdTree<P, T, A> {
     /// It is refused with `BeyondMaxCapacity` where the source has more entries than this tree's limit, and with `AllocError`
     /// where the capacity would grow and memory is refused. Nothing changes then, and `f` isn't called.
     pub fn transfer_canonical_reallocating<
-        Q: Ptr,
+        Q: BasePtr,
         U,
         B: Allocator,
         F: FnMut(Q, InvalidationOption<U>, P) -> T + Drop,
@@ -129,7 +129,7 @@ pub struct MapNode<M> {
     map: M,
 }
 
-impl<P: Ptr, T, M: MapEntry<P, T>> MapEntry<P, SimpleOrdArenaNode<P, T>> for MapNode<M> {
+impl<P: BasePtr, T, M: MapEntry<P, T>> MapEntry<P, SimpleOrdArenaNode<P, T>> for MapNode<M> {
     ghost callable = { λ m. M.callable m.map };
 
     ghost step = { λ m old node new answer n. M.step m.map old node.t new answer.t n.map };
@@ -144,7 +144,7 @@ impl<P: Ptr, T, M: MapEntry<P, T>> MapEntry<P, SimpleOrdArenaNode<P, T>> for Map
     }
 }
 
-impl<Q: Ptr, U, P: Ptr, T, M: MapTaken<Q, U, P, T>> MapTaken<
+impl<Q: BasePtr, U, P: BasePtr, T, M: MapTaken<Q, U, P, T>> MapTaken<
     Q,
     SimpleOrdArenaNode<Q, U>,
     P,
@@ -172,7 +172,7 @@ impl<Q: Ptr, U, P: Ptr, T, M: MapTaken<Q, U, P, T>> MapTaken<
 }
 
 // Builds the tree over a chain anew, whatever its nodes say.
-pub(super) fn rebuild_over<P: Ptr, T, A: Allocator>(
+pub(super) fn rebuild_over<P: BasePtr, T, A: Allocator>(
     chain: &mut ChainArena<P, SimpleOrdArenaNode<P, T>, A>,
     root: &mut Option<NodeInx<P::Inx>>,
 )

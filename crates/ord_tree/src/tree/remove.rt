@@ -14,11 +14,11 @@ use crate::detach::detach;
 use crate::node::SimpleOrdArenaNode;
 use crate::node_inx::node_at;
 use crate::tree_links::Side;
-use arena_base::{InvalidationOption, InvalidationResult, Ptr};
+use arena_base::{BasePtr, InvalidationOption, InvalidationResult};
 use chain_base::LinkNoGen;
 use std::alloc::Allocator;
 
-impl<P: Ptr, T, A: Allocator> OrdTree<P, T, A> {
+impl<P: BasePtr, T, A: Allocator> OrdTree<P, T, A> {
     /// Takes the entry at the index out, with its generation and its item, and raises the generation. The next insertion takes
     /// its slot. Every other entry keeps its pointer, its item and its order; at most nine get another parent, and over a run nine ranks
     /// change for each removal at most.
@@ -90,7 +90,7 @@ impl<P: Ptr, T, A: Allocator> OrdTree<P, T, A> {
 }
 
 // The result of the chain, with the item alone in place of the node.
-fn item_taken<P: Ptr, T>(
+fn item_taken<P: BasePtr, T>(
     taken: InvalidationOption<(P::Gen, LinkNoGen<P, SimpleOrdArenaNode<P, T>>)>,
 ) -> InvalidationOption<(P::Gen, T)>
     ensures value { allowed_value result

@@ -10,11 +10,11 @@ ghost use Rattle.ord_tree.specs.Layout.{with_node_item};
 
 use super::OrdTree;
 use crate::node::SimpleOrdArenaNode;
-use arena_base::{ItemsMut, Ptr};
+use arena_base::{BasePtr, ItemsMut};
 use chain_base::ChainArena;
 use std::alloc::Allocator;
 
-impl<P: Ptr, T, A: Allocator> ItemsMut<P, T> for OrdTree<P, T, A> {
+impl<P: BasePtr, T, A: Allocator> ItemsMut<P, T> for OrdTree<P, T, A> {
     ghost entry_at = { λ t. entry_at t.list.entries };
 
     ghost written = { with_item };
@@ -29,7 +29,7 @@ impl<P: Ptr, T, A: Allocator> ItemsMut<P, T> for OrdTree<P, T, A> {
 }
 
 // A chain of nodes, as what holds their items.
-trait NodeItemsMut<P: Ptr, T> {
+trait NodeItemsMut<P: BasePtr, T> {
     // generation and item of the node at an index
     ghost item_at: { Self → ℕ → Option (ℕ × T) };
 
@@ -45,7 +45,8 @@ trait NodeItemsMut<P: Ptr, T> {
             ≡ Some (P.Gen.number result.0, result.1.now) };
 }
 
-impl<P: Ptr, T, A: Allocator> NodeItemsMut<P, T> for ChainArena<P, SimpleOrdArenaNode<P, T>, A> {
+impl<P: BasePtr, T, A: Allocator> NodeItemsMut<P, T>
+    for ChainArena<P, SimpleOrdArenaNode<P, T>, A> {
     ghost item_at = { λ nodes i. option_map entry_in (entry_at nodes.entries i) };
 
     ghost written = { with_node_item };

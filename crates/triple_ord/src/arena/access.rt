@@ -4,11 +4,11 @@ ghost use Rattle.std.specs.Option.{option_copied, option_map};
 ghost use Rattle.triple_ord.specs.Arena.{item_of, entry_at};
 
 use super::SimpleOrdArena;
-use arena_base::Ptr;
+use arena_base::BasePtr;
 use std::alloc::Allocator;
 use std::ops::Index;
 
-impl<P: Ptr, T, A: Allocator> SimpleOrdArena<P, T, A> {
+impl<P: BasePtr, T, A: Allocator> SimpleOrdArena<P, T, A> {
     /// Whether the pointer names an entry, in O(1).
     pub fn contains(&self, p: P) -> bool
         ensures { result ≡ is_some (item_of self.now (P.numbers p)) }
@@ -42,7 +42,7 @@ impl<P: Ptr, T, A: Allocator> SimpleOrdArena<P, T, A> {
     }
 }
 
-impl<P: Ptr, T, A: Allocator> Index<P> for SimpleOrdArena<P, T, A> {
+impl<P: BasePtr, T, A: Allocator> Index<P> for SimpleOrdArena<P, T, A> {
     type Output = T;
 
     ghost can_index = { λ a p. IsSome (item_of a (P.numbers p)) };

@@ -4,10 +4,10 @@ ghost use Rattle.triple_ord.specs.Order.{IsInOrder};
 
 use super::SimpleOrdArena;
 use crate::item::SimpleOrdItem;
-use arena_base::Ptr;
+use arena_base::BasePtr;
 use std::alloc::Allocator;
 
-impl<P: Ptr, T: SimpleOrdItem, A: Allocator> SimpleOrdArena<P, T, A> {
+impl<P: BasePtr, T: SimpleOrdItem, A: Allocator> SimpleOrdArena<P, T, A> {
     /// Whether the list is in the order of the keys: `Err("incorrect ordering")` exactly where some entry's key is greater than the
     /// key of the entry after it. TreeLinks, ranks and pointers of an arena are in order always. It compares each key with the next one.
     pub fn _check_invariants(this: &Self) -> Result<(), &'static str>

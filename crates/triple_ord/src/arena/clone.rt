@@ -6,10 +6,10 @@ ghost use Rattle.triple_ord.specs.Arena.{count, FindSame};
 ghost use Rattle.triple_ord.specs.Clone.{cloned, refused_clone};
 
 use super::SimpleOrdArena;
-use arena_base::{Ptr, ReallocationError};
+use arena_base::{BasePtr, ReallocationError};
 use std::alloc::{AllocError, Allocator};
 
-impl<P: Ptr, T: Clone + Drop, A: Allocator + Copy> SimpleOrdArena<P, T, A> {
+impl<P: BasePtr, T: Clone + Drop, A: Allocator + Copy> SimpleOrdArena<P, T, A> {
     /// Makes this arena a clone of the source: it has the source's pointers, order, shape and generation, with clones of its items,
     /// and its own old entries are dropped. A clone of an item has to equal it.
     ///

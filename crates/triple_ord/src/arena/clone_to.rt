@@ -8,11 +8,11 @@ ghost use Rattle.ord_tree.specs.Clone.{ShowsItem};
 ghost use Rattle.triple_ord.specs.Content.{content_of};
 
 use super::SimpleOrdArena;
-use arena_base::{ArenaCloneFromWith, Ptr, ReallocationError};
+use arena_base::{ArenaCloneFromWith, BasePtr, ReallocationError};
 use chain_base::ChainArena;
 use std::alloc::Allocator;
 
-impl<P: Ptr, T: Drop, A: Allocator + Copy> SimpleOrdArena<P, T, A> {
+impl<P: BasePtr, T: Drop, A: Allocator + Copy> SimpleOrdArena<P, T, A> {
     /// Makes another arena a clone of this one, with items that `map` makes: it has this one's pointers and generation, and its own
     /// old entries are dropped. The order isn't taken over.
     ///

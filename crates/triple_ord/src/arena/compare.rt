@@ -4,13 +4,13 @@ ghost use Rattle.std.specs.Cmp.Lexicographic.{slice_cmp, slice_partial_cmp, poin
 ghost use Rattle.triple_ord.specs.Arena.{items};
 
 use super::SimpleOrdArena;
-use arena_base::Ptr;
+use arena_base::BasePtr;
 use std::alloc::Allocator;
 use std::cmp::Ordering;
 
-impl<P: Ptr, T, A: Allocator> SimpleOrdArena<P, T, A> {
+impl<P: BasePtr, T, A: Allocator> SimpleOrdArena<P, T, A> {
     /// Whether both have equal items in the same order.
-    pub fn canonical_eq<Q: Ptr, B: Allocator>(&self, other: &SimpleOrdArena<Q, T, B>) -> bool
+    pub fn canonical_eq<Q: BasePtr, B: Allocator>(&self, other: &SimpleOrdArena<Q, T, B>) -> bool
     where
         T: PartialEq,
         ensures { result ≡ pointwise T.eq (items self.now) (items other.now) }
@@ -28,7 +28,7 @@ impl<P: Ptr, T, A: Allocator> SimpleOrdArena<P, T, A> {
     }
 
     /// The order of the items, as words are ordered by their letters; `None` where the first two that differ have none.
-    pub fn canonical_partial_cmp<Q: Ptr, B: Allocator>(
+    pub fn canonical_partial_cmp<Q: BasePtr, B: Allocator>(
         &self,
         other: &SimpleOrdArena<Q, T, B>,
     ) -> Option<Ordering>
@@ -55,7 +55,10 @@ impl<P: Ptr, T, A: Allocator> SimpleOrdArena<P, T, A> {
     }
 
     /// The order of the items, as words are ordered by their letters.
-    pub fn canonical_cmp<Q: Ptr, B: Allocator>(&self, other: &SimpleOrdArena<Q, T, B>) -> Ordering
+    pub fn canonical_cmp<Q: BasePtr, B: Allocator>(
+        &self,
+        other: &SimpleOrdArena<Q, T, B>,
+    ) -> Ordering
     where
         T: Ord,
         ensures { result ≡ slice_cmp T.cmp (items self.now) (items other.now) }

@@ -1,11 +1,11 @@
 //! Printing an arena.
 use super::SimpleOrdArena;
-use arena_base::Ptr;
+use arena_base::BasePtr;
 use std::alloc::Allocator;
 use std::fmt;
 
 /// A map from pointer to item, in the order of the list.
-impl<P: Ptr + fmt::Debug, T: fmt::Debug, A: Allocator> fmt::Debug for SimpleOrdArena<P, T, A> {
+impl<P: BasePtr + fmt::Debug, T: fmt::Debug, A: Allocator> fmt::Debug for SimpleOrdArena<P, T, A> {
     fn fmt<W: fmt::Write>(&self, f: &mut fmt::Formatter<W>) -> fmt::Result {
         let mut out = f.debug_map();
         for (p, item) in self {

@@ -7,16 +7,16 @@ ghost use Rattle.ord_tree.specs.Shape.{missing};
 ghost use Rattle.triple_ord.specs.OrderedDrain.{ordered_drain_arena, ordered_drain_lender, ordered_drain_rest, OrderedDrainSteps};
 
 use super::SimpleOrdArena;
-use arena_base::{InvalidationOption, Ptr};
+use arena_base::{BasePtr, InvalidationOption};
 use std::alloc::{Allocator, Global};
 use std::marker::Model;
 
 /// Takes the entries out of an arena in order, each by a removal of its own. When it is dropped it clears the arena.
-pub struct OrderedDrain<'a, P: Ptr, T: Drop, A: Allocator = Global> {
+pub struct OrderedDrain<'a, P: BasePtr, T: Drop, A: Allocator = Global> {
     arena: &'a mut SimpleOrdArena<P, T, A>,
 }
 
-impl<P: Ptr, T: Drop, A: Allocator> SimpleOrdArena<P, T, A> {
+impl<P: BasePtr, T: Drop, A: Allocator> SimpleOrdArena<P, T, A> {
     /// Takes all entries out, in the order of the list.
     ///
     /// Each is removed, and raises the generation, as it is given, in O(log n) time. When the drain is dropped, the arena is cleared of
@@ -29,7 +29,7 @@ impl<P: Ptr, T: Drop, A: Allocator> SimpleOrdArena<P, T, A> {
     }
 }
 
-impl<'a, P: Ptr, T: Drop, A: Allocator> OrderedDrain<'a, P, T, A> {
+impl<'a, P: BasePtr, T: Drop, A: Allocator> OrderedDrain<'a, P, T, A> {
     /// Ends the drain, and leaves the arena as it is: the entries that haven't been given stay.
     ///
     /// `mem::forget` does the same, but says nothing to a caller of what is left.
@@ -40,7 +40,7 @@ impl<'a, P: Ptr, T: Drop, A: Allocator> OrderedDrain<'a, P, T, A> {
     }
 }
 
-impl<'a, P: Ptr, T: Drop, A: Allocator> Drop for OrderedDrain<'a, P, T, A> {
+impl<'a, P: BasePtr, T: Drop, A: Allocator> Drop for OrderedDrain<'a, P, T, A> {
     fn drop(self)
         ensures { self.exit.0.now
             ≡ record {
@@ -53,7 +53,7 @@ impl<'a, P: Ptr, T: Drop, A: Allocator> Drop for OrderedDrain<'a, P, T, A> {
     }
 }
 
-impl<'a, P: Ptr, T: Drop, A: Allocator> Iterator for OrderedDrain<'a, P, T, A> {
+impl<'a, P: BasePtr, T: Drop, A: Allocator> Iterator for OrderedDrain<'a, P, T, A> {
     type Item = InvalidationOption<(P, T)>;
 
     ghost next_gives = { OrderedDrainSteps P.Gen.greatest P.numbers };
@@ -73,11 +73,11 @@ impl<'a, P: Ptr, T: Drop, A: Allocator> Iterator for OrderedDrain<'a, P, T, A> {
 
 /// Gives the pointers and the items of an arena that it owns, in the order of the list. What it hasn't given is dropped with it.
 #[derive(Drop)]
-pub struct CapacityDrain<P: Ptr, T, A: Allocator = Global> {
+pub struct CapacityDrain<P: BasePtr, T, A: Allocator = Global> {
     arena: SimpleOrdArena<P, T, A>,
 }
 
-impl<P: Ptr, T, A: Allocator> Model for CapacityDrain<P, T, A> {
+impl<P: BasePtr, T, A: Allocator> Model for CapacityDrain<P, T, A> {
     ghost use Rattle.std.specs.Prelude.{List};
     ghost use Rattle.std.specs.Coded.{coded_list};
     ghost use Rattle.chain_base.specs.Chain.{Entry};
@@ -90,7 +90,7 @@ impl<P: Ptr, T, A: Allocator> Model for CapacityDrain<P, T, A> {
     ghost view = { λ d. d.arena.list.entries };
 }
 
-impl<P: Ptr, T: Drop, A: Allocator> Iterator for CapacityDrain<P, T, A> {
+impl<P: BasePtr, T: Drop, A: Allocator> Iterator for CapacityDrain<P, T, A> {
     type Item = (P, T);
 
     ghost next_gives = { YieldsFirstBy
@@ -115,13 +115,13 @@ impl<P: Ptr, T: Drop, A: Allocator> Iterator for CapacityDrain<P, T, A> {
     }
 }
 
-impl<P: Ptr, T: Drop, A: Allocator> ExactSizeIterator for CapacityDrain<P, T, A> {
+impl<P: BasePtr, T: Drop, A: Allocator> ExactSizeIterator for CapacityDrain<P, T, A> {
     fn len(&self) -> usize {
         self.arena.len()
     }
 }
 
-impl<P: Ptr, T: Drop, A: Allocator> IntoIterator for SimpleOrdArena<P, T, A> {
+impl<P: BasePtr, T: Drop, A: Allocator> IntoIterator for SimpleOrdArena<P, T, A> {
     type Item = (P, T);
 
     type IntoIter = CapacityDrain<P, T, A>;

@@ -21,11 +21,11 @@ use crate::insert_kind::OrdInsertKind;
 use crate::item::SimpleOrdItem;
 use crate::prepared::{InsertPlace, Prepared};
 use crate::visits::Visits;
-use arena_base::Ptr;
+use arena_base::BasePtr;
 use std::alloc::Allocator;
 use std::cmp::Ordering;
 
-impl<'a, P: Ptr, T: Drop, A: Allocator> SimpleOrdArenaInsertEntry<'a, P, T, A> {
+impl<'a, P: BasePtr, T: Drop, A: Allocator> SimpleOrdArenaInsertEntry<'a, P, T, A> {
     /// The pointer of the entry: that of a new one, which finds nothing yet, or of the one whose item is to be replaced. In O(1).
     pub fn ptr(&self) -> OrdEntryKind<P>
         ensures { result ≡ entry_shown self.now }
@@ -63,7 +63,7 @@ impl<'a, P: Ptr, T: Drop, A: Allocator> SimpleOrdArenaInsertEntry<'a, P, T, A> {
     }
 }
 
-impl<P: Ptr, T: SimpleOrdItem + Drop, A: Allocator> SimpleOrdArena<P, T, A> {
+impl<P: BasePtr, T: SimpleOrdItem + Drop, A: Allocator> SimpleOrdArena<P, T, A> {
     /// Finds the place of an insertion, and keeps within the capacity.
     ///
     /// It is refused with `FailedOrdRequirement` where `kind` has no place, and with `NotWithinCapacity` where a new entry is needed and
@@ -75,8 +75,8 @@ impl<P: Ptr, T: SimpleOrdItem + Drop, A: Allocator> SimpleOrdArena<P, T, A> {
         kind: OrdInsertKind<P, &T::Key>,
     ) -> Result<SimpleOrdArenaInsertEntry<'_, P, T, A>, OrdInsertionError>
         ensures* unchanged_at_err { sem 𝓛 (rests_if_refused P.row T.row A.row P.Inx.row P.Gen.row
-            P.Ptr.own P.PartialEq P.Inx.PtrInx.own P.Inx.PartialEq
-            P.Gen.PtrGen.own P.Gen.PartialEq A.Allocator
+            P.BasePtr.own P.PartialEq P.Inx.BasePtrInx.own P.Inx.PartialEq
+            P.Gen.BasePtrGen.own P.Gen.PartialEq A.Allocator
             self.entry result) }
         ensures place { IfOk result (λ e. IsEntryFor P.numbers T.key_of T.Key.cmp P.Inx.number
             within P.Inx.most (kind_now kind.entry) self.old (entry_shown e)
@@ -108,8 +108,8 @@ impl<P: Ptr, T: SimpleOrdItem + Drop, A: Allocator> SimpleOrdArena<P, T, A> {
         kind: OrdInsertKind<P, &T::Key>,
     ) -> Result<SimpleOrdArenaInsertEntry<'_, P, T, A>, OrdInsertionError>
         ensures* unchanged_at_err { sem 𝓛 (rests_if_refused P.row T.row A.row P.Inx.row P.Gen.row
-            P.Ptr.own P.PartialEq P.Inx.PtrInx.own P.Inx.PartialEq
-            P.Gen.PtrGen.own P.Gen.PartialEq A.Allocator
+            P.BasePtr.own P.PartialEq P.Inx.BasePtrInx.own P.Inx.PartialEq
+            P.Gen.BasePtrGen.own P.Gen.PartialEq A.Allocator
             self.entry result) }
         ensures place { IfOk result (λ e. IsEntryFor P.numbers T.key_of T.Key.cmp P.Inx.number
             reallocating P.Inx.most (kind_now kind.entry) self.old (entry_shown e)
@@ -149,8 +149,8 @@ impl<P: Ptr, T: SimpleOrdItem + Drop, A: Allocator> SimpleOrdArena<P, T, A> {
         kind: OrdInsertKind<P, &T::Key>,
     ) -> Result<SimpleOrdArenaInsertEntry<'_, P, T, A>, OrdInsertionError>
         ensures* unchanged_at_err { sem 𝓛 (rests_if_refused P.row T.row A.row P.Inx.row P.Gen.row
-            P.Ptr.own P.PartialEq P.Inx.PtrInx.own P.Inx.PartialEq
-            P.Gen.PtrGen.own P.Gen.PartialEq A.Allocator
+            P.BasePtr.own P.PartialEq P.Inx.BasePtrInx.own P.Inx.PartialEq
+            P.Gen.BasePtrGen.own P.Gen.PartialEq A.Allocator
             self.entry result) }
         ensures place { IfOk result (λ e. IsEntryFor P.numbers T.key_of T.Key.cmp P.Inx.number
             reallocating P.Inx.most (kind_now kind.entry) self.old (entry_shown e)

@@ -14,11 +14,11 @@ use crate::item::SimpleOrdItem;
 use crate::probe::Probe;
 use crate::ties::Ties;
 use crate::visits::Visits;
-use arena_base::Ptr;
+use arena_base::BasePtr;
 use std::alloc::Allocator;
 use std::cmp::Ordering;
 
-impl<P: Ptr, T: SimpleOrdItem, A: Allocator> SimpleOrdArena<P, T, A> {
+impl<P: BasePtr, T: SimpleOrdItem, A: Allocator> SimpleOrdArena<P, T, A> {
     /// The pointer of an entry with an equal key whose previous entry, if any, has a lesser one: with the keys in order, the first that
     /// has an equal key.
     ///
@@ -87,7 +87,7 @@ impl<P: Ptr, T: SimpleOrdItem, A: Allocator> SimpleOrdArena<P, T, A> {
 }
 
 // What was answered Equal.
-pub(super) fn equal_alone<P: Ptr>(found: Option<(P, Ordering)>) -> Option<P>
+pub(super) fn equal_alone<P: BasePtr>(found: Option<(P, Ordering)>) -> Option<P>
     ensures { result ≡ where_equal found }
 {
     match found {

@@ -17,11 +17,11 @@ use crate::probe::Probe;
 use crate::steps::step_along;
 use crate::ties::Ties;
 use crate::visits::Visits;
-use arena_base::Ptr;
+use arena_base::BasePtr;
 use std::alloc::Allocator;
 use std::cmp::Ordering;
 
-impl<P: Ptr, T: SimpleOrdItem, A: Allocator> SimpleOrdArena<P, T, A> {
+impl<P: BasePtr, T: SimpleOrdItem, A: Allocator> SimpleOrdArena<P, T, A> {
     /// `find_key`, after at most `num` steps along the list from the entry that `p_init` names.
     ///
     /// Each step compares `k` with an entry's key: Less leads to the previous entry, Greater to the next. They end at an equal key,

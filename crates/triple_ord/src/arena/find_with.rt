@@ -9,11 +9,11 @@ use super::find::equal_alone;
 use crate::descent::descend;
 use crate::probe::Probe;
 use crate::visits::Visits;
-use arena_base::Ptr;
+use arena_base::BasePtr;
 use std::alloc::Allocator;
 use std::cmp::Ordering;
 
-impl<P: Ptr, T, A: Allocator> SimpleOrdArena<P, T, A> {
+impl<P: BasePtr, T, A: Allocator> SimpleOrdArena<P, T, A> {
     /// The pointer of the entry at which `f` answered Equal.
     ///
     /// `f` says how what is searched lies to the entry that it is shown: with Less the search goes on before it, with Greater behind

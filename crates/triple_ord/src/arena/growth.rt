@@ -5,11 +5,11 @@ ghost use Rattle.ord_tree.specs.Shape.{missing};
 ghost use Rattle.triple_ord.specs.Arena.{count, FindSame};
 
 use super::SimpleOrdArena;
-use arena_base::{MaxCapacityReductionError, Ptr, ReallocationError};
+use arena_base::{BasePtr, MaxCapacityReductionError, ReallocationError};
 use ord_tree::OrdTree;
 use std::alloc::{AllocError, Allocator};
 
-impl<P: Ptr, T, A: Allocator> SimpleOrdArena<P, T, A> {
+impl<P: BasePtr, T, A: Allocator> SimpleOrdArena<P, T, A> {
     /// An empty arena with capacity 0 and no maximum, which takes no memory until it grows.
     pub fn new(alloc: A) -> Self
     where

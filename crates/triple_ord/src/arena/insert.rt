@@ -12,11 +12,11 @@ use super::SimpleOrdArena;
 use crate::error::OrdInsertionError;
 use crate::insert_kind::OrdInsertKind;
 use crate::item::SimpleOrdItem;
-use arena_base::{ItemsMut, Ptr};
+use arena_base::{BasePtr, ItemsMut};
 use std::alloc::Allocator;
 use std::cmp::Ordering;
 
-impl<P: Ptr, T: SimpleOrdItem + Drop, A: Allocator> SimpleOrdArena<P, T, A> {
+impl<P: BasePtr, T: SimpleOrdItem + Drop, A: Allocator> SimpleOrdArena<P, T, A> {
     /// Inserts an item by its key, and returns its pointer, without growing.
     ///
     /// It does what `insert_reallocating` does, but where a new entry is needed and no slot is vacant it is refused with
@@ -82,7 +82,7 @@ impl<P: Ptr, T: SimpleOrdItem + Drop, A: Allocator> SimpleOrdArena<P, T, A> {
     }
 }
 
-impl<P: Ptr, T: Drop, A: Allocator> SimpleOrdArena<P, T, A> {
+impl<P: BasePtr, T: Drop, A: Allocator> SimpleOrdArena<P, T, A> {
     /// Inserts an item beside the entry at an index, whatever the keys: directly before it (`Less`), directly after it (`Greater`), or
     /// in the place of its item (`Equal`), which is returned.
     ///

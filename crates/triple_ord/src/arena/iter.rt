@@ -4,13 +4,13 @@ ghost use Rattle.std.specs.Iterator.{YieldsFirstBy, UpTo, item_count};
 ghost use Rattle.std.specs.Iterator.SizeHint.{IsWithinCount};
 
 use super::SimpleOrdArena;
-use arena_base::Ptr;
+use arena_base::BasePtr;
 use std::alloc::{Allocator, Global};
 use std::marker::Model;
 
 /// Gives the pointers and the items of an arena in the order of its list.
 #[derive(Drop)]
-pub struct Iter<'a, P: Ptr, T, A: Allocator = Global> {
+pub struct Iter<'a, P: BasePtr, T, A: Allocator = Global> {
     arena: &'a SimpleOrdArena<P, T, A>,
     // the index of the entry that comes next
     at: Option<P::Inx>,
@@ -18,7 +18,7 @@ pub struct Iter<'a, P: Ptr, T, A: Allocator = Global> {
     left: usize,
 }
 
-impl<'a, P: Ptr, T, A: Allocator> Model for Iter<'a, P, T, A> {
+impl<'a, P: BasePtr, T, A: Allocator> Model for Iter<'a, P, T, A> {
     ghost use Rattle.std.specs.Prelude.{List};
     ghost use Rattle.std.specs.Option.{option_map};
     ghost use Rattle.std.specs.Coded.{coded_list};
@@ -37,7 +37,7 @@ impl<'a, P: Ptr, T, A: Allocator> Model for Iter<'a, P, T, A> {
         (option_map P.Inx.number i.at) i.left };
 }
 
-impl<P: Ptr, T, A: Allocator> SimpleOrdArena<P, T, A> {
+impl<P: BasePtr, T, A: Allocator> SimpleOrdArena<P, T, A> {
     /// The entries in the order of the list, each as its pointer and its item; each step is O(1).
     pub fn iter_ordered(&self) -> Iter<'_, P, T, A>
         ensures { result ≡ self.now.list.entries }
@@ -56,7 +56,7 @@ impl<P: Ptr, T, A: Allocator> SimpleOrdArena<P, T, A> {
     }
 }
 
-impl<'a, P: Ptr, T, A: Allocator> Iterator for Iter<'a, P, T, A> {
+impl<'a, P: BasePtr, T, A: Allocator> Iterator for Iter<'a, P, T, A> {
     type Item = (P, &'a T);
 
     ghost next_gives = { YieldsFirstBy
@@ -83,13 +83,13 @@ impl<'a, P: Ptr, T, A: Allocator> Iterator for Iter<'a, P, T, A> {
     }
 }
 
-impl<'a, P: Ptr, T, A: Allocator> ExactSizeIterator for Iter<'a, P, T, A> {
+impl<'a, P: BasePtr, T, A: Allocator> ExactSizeIterator for Iter<'a, P, T, A> {
     fn len(&self) -> usize {
         self.left
     }
 }
 
-impl<'a, P: Ptr, T, A: Allocator> IntoIterator for &'a SimpleOrdArena<P, T, A> {
+impl<'a, P: BasePtr, T, A: Allocator> IntoIterator for &'a SimpleOrdArena<P, T, A> {
     type Item = (P, &'a T);
 
     type IntoIter = Iter<'a, P, T, A>;

@@ -5,12 +5,12 @@ ghost use Rattle.chain_base.specs.Chain.{link_at, first_pointer, last_pointer};
 ghost use Rattle.triple_ord.specs.Node.{IsNodeIn};
 
 use super::SimpleOrdArena;
-use arena_base::Ptr;
+use arena_base::BasePtr;
 use chain_base::LinkNoGen;
 use ord_tree::SimpleOrdArenaNode;
 use std::alloc::Allocator;
 
-impl<P: Ptr, T, A: Allocator> SimpleOrdArena<P, T, A> {
+impl<P: BasePtr, T, A: Allocator> SimpleOrdArena<P, T, A> {
     /// The pointer of the first entry of the list, in O(1).
     pub fn first(&self) -> Option<P>
         ensures { option_map P.numbers result ≡ first_pointer self.now.list.entries }

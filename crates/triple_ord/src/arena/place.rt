@@ -12,11 +12,11 @@ use crate::item::SimpleOrdItem;
 use crate::prepared::InsertPlace;
 use crate::ties::Ties;
 use crate::visits::Visits;
-use arena_base::Ptr;
+use arena_base::BasePtr;
 use std::alloc::Allocator;
 use std::cmp::Ordering;
 
-impl<P: Ptr, T: SimpleOrdItem, A: Allocator> SimpleOrdArena<P, T, A> {
+impl<P: BasePtr, T: SimpleOrdItem, A: Allocator> SimpleOrdArena<P, T, A> {
     // The place of an insertion, and how many entries the search for it visited; a refusal where it has none.
     #[inline(always)]
     pub(super) fn place_for(

@@ -17,14 +17,14 @@ use crate::error::OrdInsertionError;
 use crate::insert_kind::OrdInsertKind;
 use crate::item::SimpleOrdItem;
 use crate::prepared::{InsertPlace, Prepared};
-use arena_base::{ItemsMut, Ptr};
+use arena_base::{BasePtr, ItemsMut};
 use std::alloc::Allocator;
 use std::cmp::Ordering;
 use std::mem;
 
 // Inlined up to the calls of `insert` and `entry_insert`, the kind is known, so that one search is left of all; and what is prepared
 // stays in registers.
-impl<P: Ptr, T: SimpleOrdItem + Drop, A: Allocator> SimpleOrdArena<P, T, A> {
+impl<P: BasePtr, T: SimpleOrdItem + Drop, A: Allocator> SimpleOrdArena<P, T, A> {
     // The place of an insertion that keeps within the capacity.
     #[inline(always)]
     pub(super) fn prepare_within(
@@ -98,7 +98,7 @@ impl<P: Ptr, T: SimpleOrdItem + Drop, A: Allocator> SimpleOrdArena<P, T, A> {
     }
 }
 
-impl<P: Ptr, T: Drop, A: Allocator> SimpleOrdArena<P, T, A> {
+impl<P: BasePtr, T: Drop, A: Allocator> SimpleOrdArena<P, T, A> {
     // Inserts an item at a place that is ready for it.
     #[inline(always)]
     pub(super) fn insert_prepared(&mut self, prepared: Prepared<P>, t: T) -> Option<T>
@@ -166,14 +166,14 @@ impl<P: Ptr, T: Drop, A: Allocator> SimpleOrdArena<P, T, A> {
 }
 
 // The index of the entry beside which a new one goes, and its side.
-fn index_beside<P: Ptr>(at: Option<(P, Ordering)>) -> Option<(P::Inx, Ordering)>
+fn index_beside<P: BasePtr>(at: Option<(P, Ordering)>) -> Option<(P::Inx, Ordering)>
     ensures { by_number P.Inx.number result ≡ by_number (λ p. (P.numbers p).0) at }
 {
     let (p, order) = at?;
     Some((p.inx(), order))
 }
 
-impl<P: Ptr, T, A: Allocator> SimpleOrdArena<P, T, A> {
+impl<P: BasePtr, T, A: Allocator> SimpleOrdArena<P, T, A> {
     // Gives the entry at an index that has one another item, and returns the one that it had.
     pub(super) fn replace(&mut self, i: P::Inx, t: T) -> T
         requires { IsOccupied self.old.list (P.Inx.number i) }

@@ -11,10 +11,10 @@ ghost use Rattle.ord_tree.specs.Shape.{missing};
 ghost use Rattle.triple_ord.specs.Arena.{items, count, IsOfGeneration, IsNumbered, FindsNothing};
 
 use super::SimpleOrdArena;
-use arena_base::{InvalidationOption, Ptr, ReallocationError};
+use arena_base::{BasePtr, InvalidationOption, ReallocationError};
 use std::alloc::Allocator;
 
-impl<P: Ptr, T, A: Allocator> SimpleOrdArena<P, T, A> {
+impl<P: BasePtr, T, A: Allocator> SimpleOrdArena<P, T, A> {
     /// Moves all entries to the indexes from 1 on, in the order of their indexes, and gives them all one generation, which
     /// becomes the arena's: the first where `reset` is true, else the next one. The order of the entries stays, and the tree is
     /// built anew.
@@ -86,7 +86,7 @@ impl<P: Ptr, T, A: Allocator> SimpleOrdArena<P, T, A> {
     /// It is refused with `BeyondMaxCapacity` where the source has more entries than this arena's limit, and with `AllocError`
     /// where the capacity would grow and memory is refused. Nothing changes then, and `f` isn't called.
     pub fn transfer_canonical_reallocating<
-        Q: Ptr,
+        Q: BasePtr,
         U,
         B: Allocator,
         F: FnMut(Q, InvalidationOption<U>, P) -> T + Drop,

@@ -4,12 +4,12 @@ ghost use Rattle.triple_ord.specs.Arena.{entry_at};
 ghost use Rattle.triple_ord.specs.Recasting.{RecastsItem};
 
 use super::SimpleOrdArena;
-use arena_base::{ItemsMut, Ptr, PtrInx, Recast, Recaster};
+use arena_base::{BasePtr, BasePtrInx, ItemsMut, Recast, Recaster};
 use std::alloc::Allocator;
 
 /// The items are recast by rising index, up to the first whose recast fails, in O(capacity) time. The items before that one stay
 /// recast, it stays as its own recast left it, and the others as they were. Where keys change, the arena may be out of order.
-impl<I, P: Ptr, T: Recast<I>, A: Allocator> Recast<I> for SimpleOrdArena<P, T, A> {
+impl<I, P: BasePtr, T: Recast<I>, A: Allocator> Recast<I> for SimpleOrdArena<P, T, A> {
     ghost use Rattle.triple_ord.specs.Recasting.{RecastsItems};
 
     ghost recast_gives = { λ gives old result new.
@@ -29,7 +29,7 @@ impl<I, P: Ptr, T: Recast<I>, A: Allocator> Recast<I> for SimpleOrdArena<P, T, A
 }
 
 // Recasts the item of the entry at an index that has one.
-fn recast_at<I, P: Ptr, T: Recast<I>, A: Allocator, R: Recaster<Item = I>>(
+fn recast_at<I, P: BasePtr, T: Recast<I>, A: Allocator, R: Recaster<Item = I>>(
     arena: &mut SimpleOrdArena<P, T, A>,
     i: P::Inx,
     recaster: &R,

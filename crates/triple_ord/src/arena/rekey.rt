@@ -18,11 +18,11 @@ use crate::item::SimpleOrdItem;
 use crate::pair::OrdPair;
 use crate::probe::Probe;
 use crate::visits::Visits;
-use arena_base::{ItemsMut, Ptr, PtrInx};
+use arena_base::{BasePtr, BasePtrInx, ItemsMut};
 use std::alloc::Allocator;
 use std::cmp::Ordering;
 
-impl<P: Ptr, T: SimpleOrdItem, A: Allocator> SimpleOrdArena<P, T, A> {
+impl<P: BasePtr, T: SimpleOrdItem, A: Allocator> SimpleOrdArena<P, T, A> {
     /// Replaces the item of the entry at `p` by `t`, moves the entry to the place of its new key, and returns the old item.
     ///
     /// The entry keeps its pointer. It goes behind all other entries whose key is at most the new one, as a new entry of the kind
@@ -114,7 +114,7 @@ impl<P: Ptr, T: SimpleOrdItem, A: Allocator> SimpleOrdArena<P, T, A> {
     }
 }
 
-impl<P: Ptr, K: Ord, V, A: Allocator> SimpleOrdArena<P, OrdPair<K, V>, A> {
+impl<P: BasePtr, K: Ord, V, A: Allocator> SimpleOrdArena<P, OrdPair<K, V>, A> {
     /// Gives the pair at `p` the key `k`, moves the entry to the place of that key, and returns the old key. The value stays.
     ///
     /// This is `rekey` for a pair whose value can't be handed in anew. Cost and bounds are those of `rekey`.
@@ -158,7 +158,7 @@ impl<P: Ptr, K: Ord, V, A: Allocator> SimpleOrdArena<P, OrdPair<K, V>, A> {
     }
 }
 
-impl<P: Ptr, T, A: Allocator> SimpleOrdArena<P, T, A> {
+impl<P: BasePtr, T, A: Allocator> SimpleOrdArena<P, T, A> {
     // Lets the entry of a pointer go beside another, if one is named and has another index. Beside its own neighbour it stays.
     fn go_beside(&mut self, p: P, at: Option<(P, Ordering)>)
         requires entry { IsOccupied self.old.list (P.numbers p).0 }
@@ -203,14 +203,14 @@ impl<P: Ptr, T, A: Allocator> SimpleOrdArena<P, T, A> {
 }
 
 // Whether two pointers have one index.
-fn share_index<P: Ptr>(p: P, q: P) -> bool
+fn share_index<P: BasePtr>(p: P, q: P) -> bool
     ensures { IsTrue result ↔ ((P.numbers p).0 ≡ (P.numbers q).0) }
 {
     p.inx() == q.inx()
 }
 
 // Whether an index is there, and is this one.
-fn is_named<I: PtrInx>(neighbour: Option<I>, i: I) -> bool
+fn is_named<I: BasePtrInx>(neighbour: Option<I>, i: I) -> bool
     ensures { IsTrue result ↔ (option_map I.number neighbour ≡ Some (I.number i)) }
 {
     match neighbour {

@@ -9,10 +9,10 @@ ghost use Rattle.ord_tree.specs.Tree.{IsShrunk};
 ghost use Rattle.triple_ord.specs.Arena.{item_of, entry_at, count, Updates, Renews, FindsNothing};
 
 use super::SimpleOrdArena;
-use arena_base::{InvalidationOption, InvalidationResult, Ptr};
+use arena_base::{BasePtr, InvalidationOption, InvalidationResult};
 use std::alloc::Allocator;
 
-impl<P: Ptr, T, A: Allocator> SimpleOrdArena<P, T, A> {
+impl<P: BasePtr, T, A: Allocator> SimpleOrdArena<P, T, A> {
     /// Takes the entry that the pointer names out, returns its item, and raises the generation. The next insertion takes its slot.
     /// Every other entry keeps its pointer, its item and its place in the order. At most nine get another parent in the tree, and over a
     /// run nine ranks change for each removal at most.
@@ -86,7 +86,7 @@ impl<P: Ptr, T, A: Allocator> SimpleOrdArena<P, T, A> {
 }
 
 // The result of the tree, without the generation.
-fn item_taken<P: Ptr, T>(taken: InvalidationResult<(P::Gen, T)>) -> InvalidationResult<T>
+fn item_taken<P: BasePtr, T>(taken: InvalidationResult<(P::Gen, T)>) -> InvalidationResult<T>
     ensures value { valid_value result ≡ option_map (λ e. e.1) (valid_value taken) }
     ensures overflow { has_overflowed result ≡ has_overflowed taken }
 {

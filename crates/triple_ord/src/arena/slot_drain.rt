@@ -8,16 +8,16 @@ ghost use Rattle.triple_ord.specs.Content.{content_of};
 ghost use Rattle.triple_ord.specs.SlotDrain.{drain_arena, drain_lender, drain_rest, DrainSteps};
 
 use super::SimpleOrdArena;
-use arena_base::{Advancer, InvalidationOption, Ptr, PtrAdvancer};
+use arena_base::{Advancer, BasePtr, InvalidationOption, PtrAdvancer};
 use std::alloc::{Allocator, Global};
 
 /// Takes the entries out of an arena by rising index, each by a removal of its own. When it is dropped it clears the arena.
-pub struct Drain<'a, P: Ptr, T: Drop, A: Allocator = Global> {
+pub struct Drain<'a, P: BasePtr, T: Drop, A: Allocator = Global> {
     arena: &'a mut SimpleOrdArena<P, T, A>,
     walk: PtrAdvancer<P>,
 }
 
-impl<P: Ptr, T: Drop, A: Allocator> SimpleOrdArena<P, T, A> {
+impl<P: BasePtr, T: Drop, A: Allocator> SimpleOrdArena<P, T, A> {
     /// Takes all entries out, by rising index, whatever the order of the list.
     ///
     /// Each is removed, and raises the generation, as it is given, in O(log n) time; to come to them takes O(capacity) in all. When the
@@ -33,7 +33,7 @@ impl<P: Ptr, T: Drop, A: Allocator> SimpleOrdArena<P, T, A> {
     }
 }
 
-impl<'a, P: Ptr, T: Drop, A: Allocator> Drain<'a, P, T, A> {
+impl<'a, P: BasePtr, T: Drop, A: Allocator> Drain<'a, P, T, A> {
     /// Ends the drain, and leaves the arena as it is: the entries that haven't been given stay.
     ///
     /// `mem::forget` does the same, but says nothing to a caller of what is left.
@@ -44,7 +44,7 @@ impl<'a, P: Ptr, T: Drop, A: Allocator> Drain<'a, P, T, A> {
     }
 }
 
-impl<'a, P: Ptr, T: Drop, A: Allocator> Drop for Drain<'a, P, T, A> {
+impl<'a, P: BasePtr, T: Drop, A: Allocator> Drop for Drain<'a, P, T, A> {
     fn drop(self)
         ensures { self.exit.0.now
             ≡ record {
@@ -57,7 +57,7 @@ impl<'a, P: Ptr, T: Drop, A: Allocator> Drop for Drain<'a, P, T, A> {
     }
 }
 
-impl<'a, P: Ptr, T: Drop, A: Allocator> Iterator for Drain<'a, P, T, A> {
+impl<'a, P: BasePtr, T: Drop, A: Allocator> Iterator for Drain<'a, P, T, A> {
     type Item = InvalidationOption<(P, T)>;
 
     ghost next_gives = { DrainSteps P.Gen.greatest P.numbers };

@@ -7,12 +7,12 @@ ghost use Rattle.triple_ord.specs.Content.{content_of};
 ghost use Rattle.triple_ord.specs.SlotWalk.{SlotWalkSteps};
 
 use super::SimpleOrdArena;
-use arena_base::{Advancer, Arena, Ptr, PtrAdvancer};
+use arena_base::{Advancer, Arena, BasePtr, PtrAdvancer};
 use chain_base::LinkNoGen;
 use ord_tree::SimpleOrdArenaNode;
 use std::alloc::Allocator;
 
-impl<P: Ptr, T, A: Allocator> SimpleOrdArena<P, T, A> {
+impl<P: BasePtr, T, A: Allocator> SimpleOrdArena<P, T, A> {
     /// The pointer of the entry with the least index, in O(capacity).
     pub fn find_first_inx_ptr(&self) -> Option<P>
         ensures first { IfSome result
@@ -55,7 +55,7 @@ impl<P: Ptr, T, A: Allocator> SimpleOrdArena<P, T, A> {
 // The arena under the tree: its slots hold the nodes.
 type Nodes<P, T, A> = Arena<P, LinkNoGen<P, SimpleOrdArenaNode<P, T>>, A>;
 
-impl<P: Ptr, T, A: Allocator> Advancer<SimpleOrdArena<P, T, A>> for PtrAdvancer<P> {
+impl<P: BasePtr, T, A: Allocator> Advancer<SimpleOrdArena<P, T, A>> for PtrAdvancer<P> {
     type Item = P;
 
     ghost advance_gives = { SlotWalkSteps P.numbers };

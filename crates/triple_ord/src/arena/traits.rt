@@ -4,15 +4,15 @@ ghost use Rattle.triple_ord.specs.ContentLaws.{content-written};
 
 use super::SimpleOrdArena;
 use arena_base::{
-    ArenaTrait, CompactArenaTrait, InvalidationOption, InvalidationResult,
-    MaxCapacityReductionError, Ptr, ReallocationError, SetMaxCapacity,
+    ArenaTrait, BasePtr, CompactArenaTrait, InvalidationOption, InvalidationResult,
+    MaxCapacityReductionError, ReallocationError, SetMaxCapacity,
 };
 use std::alloc::{AllocError, Allocator};
 
 // A contract of a call on `self` brings the arena's laws into the proof: so each method asks for the length first, where the call
 // that it makes needs them.
 #[tactic(auto, using(crate::specs::ContentLaws::slot_is, crate::specs::ContentLaws::item_is, crate::specs::ContentLaws::capacity_is, crate::specs::ContentLaws::len_is, crate::specs::ContentLaws::lawful_is, crate::specs::ContentLaws::content_removed, crate::specs::ContentLaws::content_renewed, crate::specs::ContentLaws::content_cleared))]
-impl<P: Ptr, T, A: Allocator + Copy> ArenaTrait<P, T> for SimpleOrdArena<P, T, A> {
+impl<P: BasePtr, T, A: Allocator + Copy> ArenaTrait<P, T> for SimpleOrdArena<P, T, A> {
     type Alloc = A;
 
     ghost content = { content_of };
@@ -117,10 +117,10 @@ impl<P: Ptr, T, A: Allocator + Copy> ArenaTrait<P, T> for SimpleOrdArena<P, T, A
     }
 }
 
-impl<P: Ptr, T, A: Allocator> CompactArenaTrait for SimpleOrdArena<P, T, A> {}
+impl<P: BasePtr, T, A: Allocator> CompactArenaTrait for SimpleOrdArena<P, T, A> {}
 
 #[tactic(auto, using(crate::specs::ContentLaws::capacity_is))]
-impl<P: Ptr, T, A: Allocator + Copy> SetMaxCapacity<P, T> for SimpleOrdArena<P, T, A> {
+impl<P: BasePtr, T, A: Allocator + Copy> SetMaxCapacity<P, T> for SimpleOrdArena<P, T, A> {
     fn set_max_capacity(&mut self, n: usize) -> Result<(), MaxCapacityReductionError> {
         self.set_max_capacity(n)
     }

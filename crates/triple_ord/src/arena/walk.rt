@@ -5,7 +5,7 @@ ghost use Rattle.triple_ord.specs.Arena.{item_of};
 ghost use Rattle.triple_ord.specs.OrderedWalk.{ordered_rest, GivesEntry, OrderedWalkSteps};
 
 use super::SimpleOrdArena;
-use arena_base::{Advancer, Ptr};
+use arena_base::{Advancer, BasePtr};
 use std::alloc::Allocator;
 use std::marker::Model;
 
@@ -15,12 +15,12 @@ use std::marker::Model;
 /// goes on to the neighbour that this entry has at that moment; each step is O(1). `None` is for good: it comes where no entry has
 /// the index, and after the entry that stood at the end when it was given, also where others come behind it later.
 #[derive(Drop)]
-pub struct OrderedPtrAdvancer<P: Ptr> {
+pub struct OrderedPtrAdvancer<P: BasePtr> {
     at: Option<P::Inx>,
     falling: bool,
 }
 
-impl<P: Ptr> Model for OrderedPtrAdvancer<P> {
+impl<P: BasePtr> Model for OrderedPtrAdvancer<P> {
     ghost use Rattle.std.specs.Option.{option_map};
     ghost use Rattle.triple_ord.specs.OrderedWalk.{OrderedWalk};
 
@@ -29,7 +29,7 @@ impl<P: Ptr> Model for OrderedPtrAdvancer<P> {
     ghost view = { λ s. record { at = option_map P.Inx.number s.at; falling = s.falling } };
 }
 
-impl<P: Ptr, T, A: Allocator> Advancer<SimpleOrdArena<P, T, A>> for OrderedPtrAdvancer<P> {
+impl<P: BasePtr, T, A: Allocator> Advancer<SimpleOrdArena<P, T, A>> for OrderedPtrAdvancer<P> {
     type Item = P;
 
     ghost advance_gives = { OrderedWalkSteps P.numbers };
@@ -52,7 +52,7 @@ impl<P: Ptr, T, A: Allocator> Advancer<SimpleOrdArena<P, T, A>> for OrderedPtrAd
     }
 }
 
-impl<P: Ptr, T, A: Allocator> SimpleOrdArena<P, T, A> {
+impl<P: BasePtr, T, A: Allocator> SimpleOrdArena<P, T, A> {
     /// Goes through the pointers from an entry on, which is the first to be given: to the end of the list, or back to its first
     /// entry where `rev` is true. `None` where the pointer names no entry. O(1), as each step is.
     pub fn advancer_ordered(&self, p: P, rev: bool) -> Option<OrderedPtrAdvancer<P>>

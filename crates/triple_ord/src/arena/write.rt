@@ -6,12 +6,12 @@ ghost use Rattle.ord_tree.specs.Tree.{with_item};
 ghost use Rattle.triple_ord.specs.Arena.{item_of, entry_at};
 
 use super::SimpleOrdArena;
-use arena_base::{ItemsMut, Ptr};
+use arena_base::{BasePtr, ItemsMut};
 use std::alloc::Allocator;
 use std::ops::IndexMut;
 
 /// Writes by index take O(1). What `get_mut` says of an item's key holds here too.
-impl<P: Ptr, T, A: Allocator> ItemsMut<P, T> for SimpleOrdArena<P, T, A> {
+impl<P: BasePtr, T, A: Allocator> ItemsMut<P, T> for SimpleOrdArena<P, T, A> {
     ghost entry_at = { entry_at };
 
     ghost written = { with_item };
@@ -25,7 +25,7 @@ impl<P: Ptr, T, A: Allocator> ItemsMut<P, T> for SimpleOrdArena<P, T, A> {
     }
 }
 
-impl<P: Ptr, T, A: Allocator> SimpleOrdArena<P, T, A> {
+impl<P: BasePtr, T, A: Allocator> SimpleOrdArena<P, T, A> {
     ghost use Rattle.triple_ord.specs.contracts.arena.SimpleOrdArena.{the_row};
 
     /// The item that the pointer names, to be written, in O(1).
@@ -34,8 +34,8 @@ impl<P: Ptr, T, A: Allocator> SimpleOrdArena<P, T, A> {
     /// harmed.
     pub fn get_mut(&mut self, p: P) -> Option<&mut T>
         ensures* writes_back { sem 𝓛 (LendsIf (the_row P.row T.row A.row P.Inx.row P.Gen.row
-            P.Ptr.own P.PartialEq P.Inx.PtrInx.own P.Inx.PartialEq
-            P.Gen.PtrGen.own P.Gen.PartialEq A.Allocator)
+            P.BasePtr.own P.PartialEq P.Inx.BasePtrInx.own P.Inx.PartialEq
+            P.Gen.BasePtrGen.own P.Gen.PartialEq A.Allocator)
             T.row self.entry result (with_item self.old (P.numbers p).0) self.old) }
         ensures value { option_copied_mut result ≡ item_of self.old (P.numbers p) }
     {
@@ -47,14 +47,14 @@ impl<P: Ptr, T, A: Allocator> SimpleOrdArena<P, T, A> {
     }
 }
 
-impl<P: Ptr, T, A: Allocator> IndexMut<P> for SimpleOrdArena<P, T, A> {
+impl<P: BasePtr, T, A: Allocator> IndexMut<P> for SimpleOrdArena<P, T, A> {
     ghost use Rattle.triple_ord.specs.contracts.arena.SimpleOrdArena.{the_row};
 
     fn index_mut(&mut self, p: P) -> &mut T
         requires { IsSome (item_of self.old (P.numbers p)) }
         ensures* writes_back { sem 𝓛 (Lends (the_row P.row T.row A.row P.Inx.row P.Gen.row
-            P.Ptr.own P.PartialEq P.Inx.PtrInx.own P.Inx.PartialEq
-            P.Gen.PtrGen.own P.Gen.PartialEq A.Allocator)
+            P.BasePtr.own P.PartialEq P.Inx.BasePtrInx.own P.Inx.PartialEq
+            P.Gen.BasePtrGen.own P.Gen.PartialEq A.Allocator)
             T.row self.entry result (with_item self.old (P.numbers p).0)) }
         ensures value { item_of self.old (P.numbers p) ≡ Some result.now }
     {

@@ -1,6 +1,6 @@
 //! Drains, in order and by index. The keys 1, 2, 3, 5 stand at the indexes 2, 4, 1, 3.
 use super::{Keys, at, has_keys, keys};
-use arena_base::{InvalidationOption, P0, P8, Ptr};
+use arena_base::{BasePtr, InvalidationOption, P0, P8};
 use std::alloc::Global;
 use std::cell::Cell;
 use std::mem;

@@ -1,6 +1,6 @@
 //! Each call's answer over five jobs, under pointers of eight bits. In order the deadlines are 10, 30, 50, 60, 70, at the indexes
 //! 5, 2, 1, 4, 3, each marked by its tenth.
-use arena_base::{ItemsMut, P8, Ptr};
+use arena_base::{BasePtr, ItemsMut, P8};
 use std::alloc::Global;
 use std::cmp::Ordering;
 use triple_ord::{SimpleOrdArena, SimpleOrdItem};

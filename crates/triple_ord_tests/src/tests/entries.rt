@@ -1,6 +1,6 @@
 //! Insertions by kind, and entries that are asked for first.
 use super::{Counting, CountingKeys, Keys, Sole, five_counting_keys, taken};
-use arena_base::{P0, PN, Ptr};
+use arena_base::{BasePtr, P0, PN};
 use std::alloc::Global;
 use std::cell::Cell;
 use std::cmp::Ordering;

@@ -1,5 +1,5 @@
 //! Groups of entries with equal keys, against a plain vector.
-use arena_base::{P0, Ptr};
+use arena_base::{BasePtr, P0};
 use std::alloc::Global;
 use std::cmp::Ordering;
 use triple_ord::{OrdInsertKind, OrdPair, SimpleOrdArena};

@@ -1,7 +1,7 @@
 //! Insertions and removals in every order of up to five keys, and of six keys in part, beside a plain vector of what was removed.
 use super::removal::remove_key;
 use super::{Keys, keys, rank_at};
-use arena_base::Ptr;
+use arena_base::BasePtr;
 use std::alloc::Global;
 
 /// The keys from 1 to n in the order of this number.

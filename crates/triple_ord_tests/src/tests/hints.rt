@@ -1,6 +1,6 @@
 //! Searches from a hint over the five keys: in the order of the list 10, 30, 50, 60, 70, at the indexes 5, 2, 1, 4, 3.
 use super::{Keys, at, five, keys, write_key};
-use arena_base::{P0, Ptr};
+use arena_base::{BasePtr, P0};
 use std::cmp::Ordering;
 
 /// Where a search for a similar key from an index ends, after so many steps at most, and after how many visits. `None` where the

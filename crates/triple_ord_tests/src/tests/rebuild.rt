@@ -1,6 +1,6 @@
 //! Compressions, the canonical order and transfers.
 use super::{Keys, at, has_ranks, keys};
-use arena_base::{InvalidationOption, P0, P8, Ptr};
+use arena_base::{BasePtr, InvalidationOption, P0, P8};
 use std::alloc::Global;
 use triple_ord::{OrdPair, SimpleOrdArena};
 

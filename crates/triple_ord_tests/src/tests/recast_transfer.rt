@@ -1,5 +1,5 @@
 //! Pointers that were kept elsewhere, recast after a transfer.
-use arena_base::{Arena, InvalidationOption, P0, Ptr, Recast};
+use arena_base::{Arena, BasePtr, InvalidationOption, P0, Recast};
 use std::alloc::Global;
 use triple_ord::{OrdPair, SimpleOrdArena};
 

@@ -1,6 +1,6 @@
 //! Recasting the items of an arena.
 use arena_base::Arena;
-use triple_ord::{OrdPair, P0, Ptr, Recast, SimpleOrdArena};
+use triple_ord::{BasePtr, OrdPair, P0, Recast, SimpleOrdArena};
 
 type Pointers = SimpleOrdArena<P0, OrdPair<u64, P0>>;
 

@@ -7,7 +7,7 @@ use linked_list_allocator::LocalHeap;
 use std::alloc::Global;
 use std::fmt::{Debug, Write};
 use std::process::Abort;
-use triple_ord::{OrdInsertionError, OrdPair, P0, Ptr, SimpleOrdArena};
+use triple_ord::{BasePtr, OrdInsertionError, OrdPair, P0, SimpleOrdArena};
 
 /// An arena on a heap.
 type OnHeap<'h, T> = SimpleOrdArena<P0, T, &'h LocalHeap>;

@@ -1,6 +1,6 @@
 //! Entries that go to the place of another key and keep their pointers.
 use super::{Keys, SmallKeys, at, five, grows_to, has_keys, write_key};
-use arena_base::{P0, P8, Ptr};
+use arena_base::{BasePtr, P0, P8};
 use std::alloc::Global;
 use triple_ord::{OrdPair, SimpleOrdArena};
 

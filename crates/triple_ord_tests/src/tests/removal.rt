@@ -1,6 +1,6 @@
 //! Removals, seen through the nodes.
 use super::{Keys, at, five, has_keys, has_ranks, keys, write_key};
-use arena_base::{InvalidationResult, P0, P8, Ptr};
+use arena_base::{BasePtr, InvalidationResult, P0, P8};
 use linked_list_allocator::LocalHeap;
 use std::alloc::Global;
 use triple_ord::{OrdInsertionError, OrdPair, SimpleOrdArena};

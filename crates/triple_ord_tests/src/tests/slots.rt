@@ -1,6 +1,6 @@
 //! The capacity, and an ordered arena as an arena among others.
 use super::{Keys, at, keys};
-use arena_base::{MaxCapacityReductionError, P0, Ptr, ReallocationError, laws};
+use arena_base::{BasePtr, MaxCapacityReductionError, P0, ReallocationError, laws};
 use triple_ord::{ArenaTrait, OrdPair};
 
 /// Reallocates for so many. Answers the outcome, and the capacity then.

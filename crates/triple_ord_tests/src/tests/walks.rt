@@ -1,7 +1,7 @@
 //! Walks along the list, comparisons, and the check of the order. Five keys stand at the indexes 5, 2, 1, 4, 3, in the order of the
 //! list 10, 30, 50, 60, 70.
 use super::{Keys, at, five, keys, write_key};
-use arena_base::{P0, Ptr};
+use arena_base::{BasePtr, P0};
 use std::cmp::Ordering;
 use triple_ord::{Advancer, OrdPair, OrderedPtrAdvancer, SimpleOrdArena};
 

@@ -9,8 +9,8 @@ pub loop-command-init : goal.loop-command-init
 loop-command-init g c =
     record {
       cut = grind (arith, common_steps);
-      runs = RunsBetween-none (reading_by g.T.SimpleOrdItem.key_of g.T.Key.Ord.cmp g.P.Inx.PtrInx.most g.P.Gen.PtrGen.greatest
-          g.P.Ptr.numbers g.P.Inx.PtrInx.number g.P.Gen.PtrGen.number) (Asks g.P.Ptr.numbers (goal.F-step g)) _ _ _ c.in_ok-replies.ensures.items;
+      runs = RunsBetween-none (reading_by g.T.SimpleOrdItem.key_of g.T.Key.Ord.cmp g.P.Inx.BasePtrInx.most g.P.Gen.BasePtrGen.greatest
+          g.P.BasePtr.numbers g.P.Inx.BasePtrInx.number g.P.Gen.BasePtrGen.number) (Asks g.P.BasePtr.numbers (goal.F-step g)) _ _ _ c.in_ok-replies.ensures.items;
       callable = c.requires.callable;
       count = grind (arith, common_steps);
       room = grind (arith, common_steps);

@@ -6,11 +6,11 @@ use Rattle.ord_machine.proofs.running.run.Given as goal
 
 -- a run over the commands so far, and room for the replies to the others
 abbrev pub invariant-loop-command : goal.invariant-loop-command
-invariant-loop-command g l = let reading = reading_by g.T.SimpleOrdItem.key_of g.T.Key.Ord.cmp g.P.Inx.PtrInx.most g.P.Gen.PtrGen.greatest
-    g.P.Ptr.numbers g.P.Inx.PtrInx.number g.P.Gen.PtrGen.number in record {
+invariant-loop-command g l = let reading = reading_by g.T.SimpleOrdItem.key_of g.T.Key.Ord.cmp g.P.Inx.BasePtrInx.most g.P.Gen.BasePtrGen.greatest
+    g.P.BasePtr.numbers g.P.Inx.BasePtrInx.number g.P.Gen.BasePtrGen.number in record {
       cut : l.yielded ++ into_iter_items l.command-iterator ≡ l.fn.commands.items;
       callable : goal.F-IsAlwaysCallable g l.closure;
-      runs : RunsBetween reading (Asks g.P.Ptr.numbers (goal.F-step g)) l.fn.arena l.fn.closure l.yielded l.replies.items l.arena l.closure;
+      runs : RunsBetween reading (Asks g.P.BasePtr.numbers (goal.F-step g)) l.fn.arena l.fn.closure l.yielded l.replies.items l.arena l.closure;
       count : into_iter_len l.command-iterator ≡ length (into_iter_items l.command-iterator);
       room : vec_len l.replies + into_iter_len l.command-iterator ≤ vec_capacity l.replies;
     }

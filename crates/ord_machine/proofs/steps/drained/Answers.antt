@@ -23,10 +23,10 @@ loop-init g c =
 pub unwrap-taken-requires : goal.unwrap-taken-requires
 unwrap-taken-requires g c =
     let all = c.args.arena.now.list.entries in
-    let before = map (entry_of g.P.Ptr.numbers) c.loop.pairs.items in
+    let before = map (entry_of g.P.BasePtr.numbers) c.loop.pairs.items in
     let least : c.min-count.result ≡ min c.args.num (length all) = grind (arith, common_steps) in
     let so_far = c.loop.invariant in
-    let short : length before < min c.args.num (length all) = omega (arith, least, so_far.count, c.loop-test.true, length-map c.loop.pairs.items (entry_of g.P.Ptr.numbers)) in
+    let short : length before < min c.args.num (length all) = omega (arith, least, so_far.count, c.loop-test.true, length-map c.loop.pairs.items (entry_of g.P.BasePtr.numbers)) in
     next_there c.next.result c.args.num all before c.loop.drain.arena.now.list.entries so_far.cut short (λ none. (rw none at c.next.ensures.steps.1).0)
 
 pub loop-preserved : goal.loop-preserved
@@ -37,8 +37,8 @@ loop-preserved g c =
     let drained = rw c.unwrap-taken.ensures at c.next.ensures.steps.1 in
     record {
       lender = c.next.ensures.steps.0 ∙ so_far.lender;
-      cut = cut_drained g.P.Gen.PtrGen.greatest _ c.args.arena.now.list c.loop.drain.arena.now.list c.next.new.self.arena.now.list _ _ _ more so_far.cut drained.first;
-      taken = taken_drained g.P.Gen.PtrGen.greatest _ c.args.arena.now.list c.loop.drain.arena.now.list c.next.new.self.arena.now.list _ _ _ more so_far.taken drained.removed_list;
+      cut = cut_drained g.P.Gen.BasePtrGen.greatest _ c.args.arena.now.list c.loop.drain.arena.now.list c.next.new.self.arena.now.list _ _ _ more so_far.cut drained.first;
+      taken = taken_drained g.P.Gen.BasePtrGen.greatest _ c.args.arena.now.list c.loop.drain.arena.now.list c.next.new.self.arena.now.list _ _ _ more so_far.taken drained.removed_list;
       count = grind (arith, common_steps, so_far.count);
       within = omega arith;
       few = grind (arith, common_steps, so_far.few);
@@ -48,24 +48,24 @@ loop-preserved g c =
 pub returns-clause-pairs : goal.returns-clause-pairs
 returns-clause-pairs g c =
     let all = c.args.arena.now.list.entries in
-    let before = map (entry_of g.P.Ptr.numbers) c.loop.pairs.items in
+    let before = map (entry_of g.P.BasePtr.numbers) c.loop.pairs.items in
     let least : c.min-count.result ≡ min c.args.num (length all) = grind (arith, common_steps) in
     let so_far = c.loop.invariant in
-    let reached : length before ≡ min c.args.num (length all) = omega (arith, least, so_far.count, so_far.within, c.loop-test.false, length-map c.loop.pairs.items (entry_of g.P.Ptr.numbers)) in
+    let reached : length before ≡ min c.args.num (length all) = omega (arith, least, so_far.count, so_far.within, c.loop-test.false, length-map c.loop.pairs.items (entry_of g.P.BasePtr.numbers)) in
     sym (first_are c.args.num all before c.loop.drain.arena.now.list.entries so_far.cut reached)
 
 pub returns-clause-drained : goal.returns-clause-drained
 returns-clause-drained g c =
     let all = c.args.arena.now.list.entries in
-    let before = map (entry_of g.P.Ptr.numbers) c.loop.pairs.items in
+    let before = map (entry_of g.P.BasePtr.numbers) c.loop.pairs.items in
     let least : c.min-count.result ≡ min c.args.num (length all) = grind (arith, common_steps) in
     let so_far = c.loop.invariant in
-    let reached : length before ≡ min c.args.num (length all) = omega (arith, least, so_far.count, so_far.within, c.loop-test.false, length-map c.loop.pairs.items (entry_of g.P.Ptr.numbers)) in
+    let reached : length before ≡ min c.args.num (length all) = omega (arith, least, so_far.count, so_far.within, c.loop-test.false, length-map c.loop.pairs.items (entry_of g.P.BasePtr.numbers)) in
     let first : take c.args.num all ≡ before = first_are c.args.num all before c.loop.drain.arena.now.list.entries so_far.cut reached in
     let whole = c.args.arena.now.list in
     let gone : c.drop.new.self.0
     ≡ record {
-      list = cleared g.P.Gen.PtrGen.greatest (removed_each g.P.Gen.PtrGen.greatest whole (take c.args.num all));
+      list = cleared g.P.Gen.BasePtrGen.greatest (removed_each g.P.Gen.BasePtrGen.greatest whole (take c.args.num all));
       shape = missing;
     } =
     c.drop.ensures ∙ rw (so_far.taken, first) refl in

@@ -12,9 +12,9 @@ pub loop-p-preserved : goal.loop-p-preserved
 loop-p-preserved g c =
     let so_far = c.loop-p.invariant in
     let items : c.push.new.self.items ≡ c.loop-p.ranks.items ++ c.unwrap-rank.result ∷ [] = c.in_ok-push.ensures.items in
-    let rank : HasRank c.args.arena.now.shape (g.P.Ptr.numbers c.in-Some.p).0 c.unwrap-rank.result =
+    let rank : HasRank c.args.arena.now.shape (g.P.BasePtr.numbers c.in-Some.p).0 c.unwrap-rank.result =
     rw c.inx.ensures at (rw c.unwrap-rank.ensures at c.rank_at.ensures.rank) in (
-      so_far.0 ++ record { index = (g.P.Ptr.numbers c.in-Some.p).0; generation = (g.P.Ptr.numbers c.in-Some.p).1; item = c.in-Some.field-0-1.now } ∷ [],
+      so_far.0 ++ record { index = (g.P.BasePtr.numbers c.in-Some.p).0; generation = (g.P.BasePtr.numbers c.in-Some.p).1; item = c.in-Some.field-0-1.now } ∷ [],
       cut_more _ _ _ _ _ so_far.1 c.in-Some.ensures.steps,
       rw items (HaveRanks-more _ _ _ rank _ _ so_far.2),
     )

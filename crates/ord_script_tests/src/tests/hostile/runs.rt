@@ -3,7 +3,7 @@ use linked_list_allocator::LocalHeap;
 use ord_script::{Command, Reply, run};
 use std::alloc::{AllocError, Global};
 use std::cmp::Ordering;
-use triple_ord::{OrdEntryKind, OrdInsertionError, OrdPair, P0, Ptr, SimpleOrdArena};
+use triple_ord::{BasePtr, OrdEntryKind, OrdInsertionError, OrdPair, P0, SimpleOrdArena};
 
 type Item = OrdPair<u64, u64>;
 

@@ -20,7 +20,7 @@ loop-at-smaller g c =
 pub loop-at-preserved : goal.loop-at-preserved
 loop-at-preserved g c =
     let seen = rw c.loop-at.invariant.tree at c.compare-p.ensures.compared in
-    let met = ap (option_map g.P.Ptr.numbers) c.met_behind-met.ensures ∙ met_next-map {Y = ℕ × ℕ} g.P.Ptr.numbers c.loop-at.met c.compare-p.result.0 c.compare-p.result.1 in
+    let met = ap (option_map g.P.BasePtr.numbers) c.met_behind-met.ensures ∙ met_next-map {Y = ℕ × ℕ} g.P.BasePtr.numbers c.loop-at.met c.compare-p.result.0 c.compare-p.result.1 in
     record {
       tree = c.compare-p.ensures.tree ∙ c.loop-at.invariant.tree;
       more = omega (arith, c.loop-at.invariant.more, c.compare-p.ensures.counted);

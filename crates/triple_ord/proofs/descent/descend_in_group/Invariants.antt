@@ -7,9 +7,9 @@ invariant-loop-at g l = record {
   more : l.initial.probe.visits ≤ l.probe.visits;
   descended : (before : ℕ)
       → HasDescendedByKey g.T.SimpleOrdItem.key_of (taken l.ties g.T.Key.Ord.cmp) l.initial.probe.tree.now.list.entries l.initial.probe.tree.now.shape l.k
-      before (option_map g.P.Inx.PtrInx.number l.fn.lesser) l.initial.probe.visits (Some (g.P.Ptr.numbers l.fn.p, Equal)) (Some (g.P.Ptr.numbers l.fn.p))
+      before (option_map g.P.Inx.BasePtrInx.number l.fn.lesser) l.initial.probe.visits (Some (g.P.BasePtr.numbers l.fn.p, Equal)) (Some (g.P.BasePtr.numbers l.fn.p))
       → HasDescendedByKey g.T.SimpleOrdItem.key_of (taken l.ties g.T.Key.Ord.cmp) l.initial.probe.tree.now.list.entries l.initial.probe.tree.now.shape l.k
-      before (option_map g.P.Inx.PtrInx.number l.at) l.probe.visits (option_map (λ a. ((g.P.Ptr.numbers a.0), a.1)) l.last) (option_map g.P.Ptr.numbers l.met);
+      before (option_map g.P.Inx.BasePtrInx.number l.at) l.probe.visits (option_map (λ a. ((g.P.BasePtr.numbers a.0), a.1)) l.last) (option_map g.P.BasePtr.numbers l.met);
 }
 
 abbrev pub decreases-loop-at : goal.decreases-loop-at

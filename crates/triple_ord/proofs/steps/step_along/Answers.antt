@@ -18,7 +18,7 @@ pub returns-in_default-clause-settled : goal.returns-in_default-clause-settled
 returns-in_default-clause-settled g c =
     let linked = rw c.loop-step.invariant.tree at c.show_link-generation.ensures.linked in
     let order = c.order-order.ensures ∙ ap (taken c.args.ties g.T.Key.Ord.cmp c.args.k.now) (c.key.ensures ∙ ap (λ l. g.T.SimpleOrdItem.key_of l.item.t) c.link.view_is) in
-    let named : ◌≡◌ {A = ℕ × ℕ} (g.P.Ptr.numbers c._from_raw.result) (g.P.Inx.PtrInx.number c.loop-step.at, g.P.Gen.PtrGen.number c.show_link-generation.result.0) = (cc) in
+    let named : ◌≡◌ {A = ℕ × ℕ} (g.P.BasePtr.numbers c._from_raw.result) (g.P.Inx.BasePtrInx.number c.loop-step.at, g.P.Gen.BasePtrGen.number c.show_link-generation.result.0) = (cc) in
     rw (c.show_link-generation.ensures.counted, named)
     (stepping-settles _ _ _ _ c.requires.distinct _ _ _ _ c.loop-step.invariant.stepping _ _ linked _ order (sym c.is_eq.ensures ∙ c.if-is_eq.false)
     (rw (← c.towards.ensures)
@@ -41,7 +41,7 @@ loop-step-preserved g c =
       counted = omega (arith, c.show_link-generation.ensures.counted, c.loop-step.invariant.counted);
       stepping = rw c.show_link-generation.ensures.counted
           (stepping-goes _ _ _ _ c.requires.distinct _ _ _ _ c.loop-step.invariant.stepping _ _ linked _ order _
-          (sym c.towards.ensures ∙ ap (option_map g.P.Inx.PtrInx.number) c.in-Some.is) (apart _ _ (rw c.reverse.ensures at (sym c.ne.ensures ∙ c.if-ne.true))));
+          (sym c.towards.ensures ∙ ap (option_map g.P.Inx.BasePtrInx.number) c.in-Some.is) (apart _ _ (rw c.reverse.ensures at (sym c.ne.ensures ∙ c.if-ne.true))));
     }
 
 pub returns-clause-near : goal.returns-clause-near

@@ -6,5 +6,5 @@ invariant-loop-step g l = record {
   tree : l.probe.tree.now ≡ l.initial.probe.tree.now;
   counted : l.probe.visits ≡ l._step;
   stepping : IsStepping g.T.SimpleOrdItem.key_of (taken l.ties g.T.Key.Ord.cmp) l.initial.probe.tree.now.list.entries l.k
-      (position_of l.initial.probe.tree.now.list.entries (g.P.Inx.PtrInx.number l.fn.p_init)) (g.P.Inx.PtrInx.number l.at) l.probe.visits l.came;
+      (position_of l.initial.probe.tree.now.list.entries (g.P.Inx.BasePtrInx.number l.fn.p_init)) (g.P.Inx.BasePtrInx.number l.at) l.probe.visits l.came;
 }

@@ -3,7 +3,7 @@ use super::{Item, Numbers, Row, put, rows};
 use std::alloc::Global;
 use std::cmp::Ordering;
 use std::process::Abort;
-use triple_ord::{OrdInsertKind, OrdPair, P0, Ptr};
+use triple_ord::{BasePtr, OrdInsertKind, OrdPair, P0};
 
 /// How an arena is built.
 #[derive(Clone, Copy)]

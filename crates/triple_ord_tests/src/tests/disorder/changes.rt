@@ -5,7 +5,7 @@ use super::trees::{has_ranks, moved};
 use super::{Numbers, Row, cloned, put, row_of, rows};
 use std::alloc::Global;
 use std::process::Abort;
-use triple_ord::{OrdEntryKind, OrdInsertionError, OrdPair, P0, Ptr};
+use triple_ord::{BasePtr, OrdEntryKind, OrdInsertionError, OrdPair, P0};
 
 /// A change of a clone.
 #[derive(Clone, Copy)]

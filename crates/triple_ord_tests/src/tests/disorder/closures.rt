@@ -2,7 +2,7 @@
 use super::places::{equal_of, place_of};
 use super::{Item, Numbers, Row};
 use std::cmp::Ordering;
-use triple_ord::{P0, Ptr};
+use triple_ord::{BasePtr, P0};
 
 /// The words.
 const WORDS: [Ordering; 3] = [Ordering::Less, Ordering::Equal, Ordering::Greater];

@@ -2,7 +2,7 @@
 use super::Row;
 use super::places::{gap_at, is_changed, place_of};
 use std::cmp::Ordering;
-use triple_ord::{OrdEntryKind, OrdInsertKind, OrdInsertionError, P0, Ptr};
+use triple_ord::{BasePtr, OrdEntryKind, OrdInsertKind, OrdInsertionError, P0};
 
 /// A kind of insertion, by a key or beside an index.
 type Kind<'k> = OrdInsertKind<P0, &'k u64>;

@@ -2,7 +2,7 @@
 use super::places::{equal_of, may_be_similar};
 use super::{Numbers, Row};
 use std::cmp::Ordering;
-use triple_ord::{P0, Ptr};
+use triple_ord::{BasePtr, P0};
 
 /// How many entries a search among n may visit after insertions alone: c with `fib(c+2) <= n+1`.
 const TIGHT: [u128; 8] = [0, 1, 2, 2, 3, 3, 3, 4];

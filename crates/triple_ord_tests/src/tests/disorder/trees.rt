@@ -1,6 +1,6 @@
 //! What the nodes say of a tree: ranks, and which node hangs on which.
 use super::Numbers;
-use triple_ord::Ptr;
+use triple_ord::BasePtr;
 
 /// A node's rank, and the indexes of its parent and of its children.
 #[derive(Clone, Copy)]

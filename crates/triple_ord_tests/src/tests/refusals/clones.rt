@@ -6,7 +6,7 @@ use linked_list_allocator::LocalHeap;
 use std::alloc::{AllocError, Global};
 use std::marker::Model;
 use std::process::Abort;
-use triple_ord::{Arena, ArenaTrait, ChainArena, OrdPair, P0, Ptr, ReallocationError};
+use triple_ord::{Arena, ArenaTrait, BasePtr, ChainArena, OrdPair, P0, ReallocationError};
 
 /// A text on a heap.
 #[derive(Debug, Drop)]

@@ -3,10 +3,10 @@ use Rattle.arena_base.proofs.arena.Arena.entry.Goals as goal
 
 pub unreachable-requires : goal.unreachable-requires
 unreachable-requires g c =
-    let was = read g.P.Gen.PtrGen g.P.Inx.PtrInx c.self.inside _ c.self.view_is _ _ c.position_of_entry.ensures _ c.index.ensures in
-    false≢true (ap is_some (sym (was ∙ ap (entry_in g.P.Gen.PtrGen.number) c.in-Vacant.is)) ∙ c.requires)
+    let was = read g.P.Gen.BasePtrGen g.P.Inx.BasePtrInx c.self.inside _ c.self.view_is _ _ c.position_of_entry.ensures _ c.index.ensures in
+    false≢true (ap is_some (sym (was ∙ ap (entry_in g.P.Gen.BasePtrGen.number) c.in-Vacant.is)) ∙ c.requires)
 
 pub returns : goal.returns
 returns g c =
-    read g.P.Gen.PtrGen g.P.Inx.PtrInx c.self.inside _ c.self.view_is _ _ c.position_of_entry.ensures _ c.index.ensures
-    ∙ ap (entry_in g.P.Gen.PtrGen.number) c.in-Occupied.is
+    read g.P.Gen.BasePtrGen g.P.Inx.BasePtrInx c.self.inside _ c.self.view_is _ _ c.position_of_entry.ensures _ c.index.ensures
+    ∙ ap (entry_in g.P.Gen.BasePtrGen.number) c.in-Occupied.is

@@ -4,7 +4,7 @@ use Rattle.arena_base.proofs.arena.Arena.next_insertion_ptr.Goals as goal
 pub returns-clause-vacant : goal.returns-clause-vacant
 returns-clause-vacant g c =
     let last = rw c.deref.ensures.value at (sym c.in_ok-i.ensures.value) in
-    rw (ap (λ (n : ℕ × ℕ). n.0) c._from_raw.ensures) (top-vacant g.P.Gen.PtrGen g.P.Inx.PtrInx c.self.inside _ c.self.view_is c.self.invariant.0 _ _ (stack-top _ _ last))
+    rw (ap (λ (n : ℕ × ℕ). n.0) c._from_raw.ensures) (top-vacant g.P.Gen.BasePtrGen g.P.Inx.BasePtrInx c.self.inside _ c.self.view_is c.self.invariant.0 _ _ (stack-top _ _ last))
 
 pub returns-clause-full : goal.returns-clause-full
 returns-clause-full g c = grind (arith, common_steps)

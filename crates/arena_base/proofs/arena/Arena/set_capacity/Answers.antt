@@ -9,7 +9,7 @@ padded g c = rw (c.reserve.new.slots.ok.0, c.reserve.ensures.slots) at c.add_vac
 
 pub cut_vacant-requires : goal.cut_vacant-requires
 cut_vacant-requires g c =
-    padded-vacant g.P.Gen.PtrGen.number c.args.n c.self.inside.slots.items _ (padded g (goal.at.cut_vacant-requires g c).After-add_vacant)
+    padded-vacant g.P.Gen.BasePtrGen.number c.args.n c.self.inside.slots.items _ (padded g (goal.at.cut_vacant-requires g c).After-add_vacant)
     (rw (← c.self.view_is) at c.requires.entries)
 
 pub list_vacant-requires-clause-full : goal.list_vacant-requires-clause-full
@@ -17,14 +17,14 @@ list_vacant-requires-clause-full g c = λ k below.
     let is = padded g (goal.at.list_vacant-requires-clause-full g c).After-add_vacant in
     let there = rw (← c.self.view_is, add-one) at (c.full_positions-full.ensures (k + 1) (omega arith) (omega arith)) in
     rw (c.as_slice.ensures.value, c.cut_vacant.ensures.items)
-    (resized-full g.P.Gen.PtrGen.number c.args.n c.self.inside.slots.items _ is (rw (← c.self.view_is) at c.requires.entries) k there)
+    (resized-full g.P.Gen.BasePtrGen.number c.args.n c.self.inside.slots.items _ is (rw (← c.self.view_is) at c.requires.entries) k there)
 
 pub invariant_of-self-2 : goal.invariant_of-self-2
 invariant_of-self-2 g c =
     let all = rw c.as_slice.ensures.value at c.list_vacant.ensures.items in
     let is = padded g (goal.at.invariant_of-self-2 g c).After-add_vacant in (
-      relisted-sound g.P.Gen.PtrGen g.P.Inx.PtrInx c.cut_vacant.new.slots.items _ c.self.inside.generation c.self.inside.maximum all
-          c.args.n _ (entries-resized g.P.Gen.PtrGen.number c.args.n c.self.inside.slots.items _ is _ c.cut_vacant.ensures.items)
+      relisted-sound g.P.Gen.BasePtrGen g.P.Inx.BasePtrInx c.cut_vacant.new.slots.items _ c.self.inside.generation c.self.inside.maximum all
+          c.args.n _ (entries-resized g.P.Gen.BasePtrGen.number c.args.n c.self.inside.slots.items _ is _ c.cut_vacant.ensures.items)
           (rw (← c.self.view_is) at c.requires.limit) c.self.invariant.0.generation_lawful (λ k. c.self.invariant.0.entries_lawful (suc k)),
       omega (arith, c.cut_vacant.new.slots.ok.0, ap length c.cut_vacant.ensures.items, length-take c.args.n c.add_vacant.new.slots.items, c.in_ok-reserve.ensures.room),
     )
@@ -33,8 +33,8 @@ pub returns-clause-ok : goal.returns-clause-ok
 returns-clause-ok g c =
     let all = rw c.as_slice.ensures.value at c.list_vacant.ensures.items in
     let grown = padded g (goal.at.returns-clause-ok g c).After-add_vacant in
-    let is = entries-resized g.P.Gen.PtrGen.number c.args.n c.self.inside.slots.items _ grown _ c.cut_vacant.ensures.items in
-    relisted g.P.Gen.PtrGen g.P.Inx.PtrInx c.cut_vacant.new.slots.items _ c.self.inside.generation c.self.inside.maximum all
+    let is = entries-resized g.P.Gen.BasePtrGen.number c.args.n c.self.inside.slots.items _ grown _ c.cut_vacant.ensures.items in
+    relisted g.P.Gen.BasePtrGen g.P.Inx.BasePtrInx c.cut_vacant.new.slots.items _ c.self.inside.generation c.self.inside.maximum all
     ∙ rw (← c.self.view_is, is, resized-cons) refl
 
 pub list_vacant-requires-clause-room : goal.list_vacant-requires-clause-room

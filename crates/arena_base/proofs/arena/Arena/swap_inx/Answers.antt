@@ -4,20 +4,20 @@ use Rattle.arena_base.proofs.arena.Arena.swap_inx.Goals as goal
 
 pub generation-kept_first-requires : goal.generation-kept_first-requires
 generation-kept_first-requires g c =
-    read-occupied g.P.Gen.PtrGen g.P.Inx.PtrInx c.self.inside _ c.self.view_is _ _ c.position_of_entry-first.ensures
+    read-occupied g.P.Gen.BasePtrGen g.P.Inx.BasePtrInx c.self.inside _ c.self.view_is _ _ c.position_of_entry-first.ensures
     _ c.index.ensures c.requires.first
 
 pub generation-kept_second-requires : goal.generation-kept_second-requires
 generation-kept_second-requires g c =
-    read-occupied g.P.Gen.PtrGen g.P.Inx.PtrInx c.self.inside _ c.self.view_is _ _ c.position_of_entry-second.ensures
+    read-occupied g.P.Gen.BasePtrGen g.P.Inx.BasePtrInx c.self.inside _ c.self.view_is _ _ c.position_of_entry-second.ensures
     _ c.index-2.ensures c.requires.second
 
 -- both places are those of slots
 within : (g : Over) (c : After-position_of_entry-second g) → (c.position_of_entry-first.result < vec_len c.self.inside.slots)
     × (c.position_of_entry-second.result < vec_len c.self.inside.slots)
 within g c = (
-  slot-within g.P.Gen.PtrGen g.P.Inx.PtrInx c.self.inside _ c.self.view_is _ _ c.position_of_entry-first.ensures,
-  slot-within g.P.Gen.PtrGen g.P.Inx.PtrInx c.self.inside _ c.self.view_is _ _ c.position_of_entry-second.ensures,
+  slot-within g.P.Gen.BasePtrGen g.P.Inx.BasePtrInx c.self.inside _ c.self.view_is _ _ c.position_of_entry-first.ensures,
+  slot-within g.P.Gen.BasePtrGen g.P.Inx.BasePtrInx c.self.inside _ c.self.view_is _ _ c.position_of_entry-second.ensures,
 )
 
 pub index-requires : goal.index-requires
@@ -44,7 +44,7 @@ Exchange g c =
 
 exchange : (g : Over) (c : After-renew-2 g) → Exchange g c
 exchange g c =
-    let xs = c.self.inside.slots in let capacity = capacity-is g.P.Gen.PtrGen g.P.Inx.PtrInx c.self.inside _ c.self.view_is in
+    let xs = c.self.inside.slots in let capacity = capacity-is g.P.Gen.BasePtrGen g.P.Inx.BasePtrInx c.self.inside _ c.self.view_is in
     let first : c.position_of_entry-first.result < length xs.items = omega (arith, capacity, c.position_of_entry-first.ensures.within) in
     let second : c.position_of_entry-second.result < length xs.items = omega (arith, capacity, c.position_of_entry-second.ensures.within) in
     let same : length c.swap.new.self.items ≡ length xs.items = omega (arith, c.swap.new.self.ok.0, xs.ok.0, c.swap.ensures.len) in
@@ -54,11 +54,11 @@ exchange g c =
 
 pub invariant_of-self : goal.invariant_of-self
 invariant_of-self g c = (
-  swapped-sound g.P.Gen.PtrGen g.P.Inx.PtrInx c.self.inside (exchange g (goal.at.invariant_of-self g c).After-renew-2) c.self.invariant.0,
+  swapped-sound g.P.Gen.BasePtrGen g.P.Inx.BasePtrInx c.self.inside (exchange g (goal.at.invariant_of-self g c).After-renew-2) c.self.invariant.0,
   omega (arith, c.self.invariant.1, c.swap.ensures.len),
 )
 
 pub returns : goal.returns
 returns g c =
-    swapped-view g.P.Gen.PtrGen g.P.Inx.PtrInx c.self.inside (exchange g (goal.at.returns g c).After-renew-2) _ c.self.view_is _ _
+    swapped-view g.P.Gen.BasePtrGen g.P.Inx.BasePtrInx c.self.inside (exchange g (goal.at.returns g c).After-renew-2) _ c.self.view_is _ _
     c.position_of_entry-first.ensures.number c.position_of_entry-second.ensures.number

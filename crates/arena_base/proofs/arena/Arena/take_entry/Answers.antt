@@ -3,22 +3,22 @@ use Rattle.arena_base.proofs.arena.Arena.take_entry.Goals as goal
 
 pub take-entry-requires : goal.take-entry-requires
 take-entry-requires g c =
-    read-occupied g.P.Gen.PtrGen g.P.Inx.PtrInx c.self.inside _ c.self.view_is _ _ c.position_of_entry-position.ensures
+    read-occupied g.P.Gen.BasePtrGen g.P.Inx.BasePtrInx c.self.inside _ c.self.view_is _ _ c.position_of_entry-position.ensures
     _ c.index_mut-slot.ensures.value c.requires
 
 pub invariant_of-self : goal.invariant_of-self
 invariant_of-self g c = (
-  taken-sound g.P.Gen.PtrGen g.P.Inx.PtrInx c.self.inside _ c.self.view_is _ _ c.position_of_entry-position.ensures
+  taken-sound g.P.Gen.BasePtrGen g.P.Inx.BasePtrInx c.self.inside _ c.self.view_is _ _ c.position_of_entry-position.ensures
       _ c.take-entry.ensures.after _ c.args.i refl c.push_reserved.ensures.items c.self.invariant.0 c.requires,
   omega (arith, c.self.invariant.1),
 )
 
 pub returns-clause-value : goal.returns-clause-value
 returns-clause-value g c =
-    read g.P.Gen.PtrGen g.P.Inx.PtrInx c.self.inside _ c.self.view_is _ _ c.position_of_entry-position.ensures
-    _ c.index_mut-slot.ensures.value ∙ entry_in-slot_entry g.P.Gen.PtrGen.number _ _ c.take-entry.ensures.value
+    read g.P.Gen.BasePtrGen g.P.Inx.BasePtrInx c.self.inside _ c.self.view_is _ _ c.position_of_entry-position.ensures
+    _ c.index_mut-slot.ensures.value ∙ entry_in-slot_entry g.P.Gen.BasePtrGen.number _ _ c.take-entry.ensures.value
 
 pub returns-clause-after : goal.returns-clause-after
 returns-clause-after g c =
-    taken g.P.Gen.PtrGen g.P.Inx.PtrInx c.self.inside _ c.self.view_is _ _ c.position_of_entry-position.ensures
+    taken g.P.Gen.BasePtrGen g.P.Inx.BasePtrInx c.self.inside _ c.self.view_is _ _ c.position_of_entry-position.ensures
     _ c.take-entry.ensures.after _ c.args.i refl c.push_reserved.ensures.items

@@ -6,13 +6,13 @@ invariant_of-result g c =
     let next = c.fill_up.new.slots in let two = c.two-generation.ensures in
     let is = rw (c.in_ok-slots.slots.ok.0, c.in_ok-slots.ensures.items) at c.fill_up.ensures.items in
     let all = c.fill_up.ensures.vacant in (
-      relisted-sound g.P.Gen.PtrGen g.P.Inx.PtrInx next.items _ c.two-generation.result None all c.args.n []
-          (entries-made g.P.Gen.PtrGen.number c.args.n next.items is) (omega arith) two.lawful (λ k e there. absurd (none-some e there)),
+      relisted-sound g.P.Gen.BasePtrGen g.P.Inx.BasePtrInx next.items _ c.two-generation.result None all c.args.n []
+          (entries-made g.P.Gen.BasePtrGen.number c.args.n next.items is) (omega arith) two.lawful (λ k e there. absurd (none-some e there)),
       omega (arith, next.ok.0, length-padded c.args.n [] next.items Vacant is (omega arith), c.in_ok-vacant.ensures.capacity),
     )
 
 pub returns-clause-ok : goal.returns-clause-ok
 returns-clause-ok g c =
     let is = rw (c.in_ok-slots.slots.ok.0, c.in_ok-slots.ensures.items) at c.fill_up.ensures.items in let all = c.fill_up.ensures.vacant in
-    relisted g.P.Gen.PtrGen g.P.Inx.PtrInx c.fill_up.new.slots.items _ c.two-generation.result None all
-    ∙ rw (entries-made g.P.Gen.PtrGen.number c.args.n c.fill_up.new.slots.items is, c.two-generation.ensures.value, resized-cons) refl
+    relisted g.P.Gen.BasePtrGen g.P.Inx.BasePtrInx c.fill_up.new.slots.items _ c.two-generation.result None all
+    ∙ rw (entries-made g.P.Gen.BasePtrGen.number c.args.n c.fill_up.new.slots.items is, c.two-generation.ensures.value, resized-cons) refl

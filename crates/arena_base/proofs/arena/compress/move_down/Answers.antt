@@ -4,7 +4,7 @@ use Rattle.arena_base.proofs.arena.compress.move_down.Goals as goal
 
 pub loop-from-init : goal.loop-from-init
 loop-from-init g c =
-    (c.requires.callable, compressed-begins g.P.Ptr.numbers g.P.Gen.PtrGen.number g.M.MapEntry.step c.args.generation c.args.map c.args.slots.now.items, refl)
+    (c.requires.callable, compressed-begins g.P.BasePtr.numbers g.P.Gen.BasePtrGen.number g.M.MapEntry.step c.args.generation c.args.map c.args.slots.now.items, refl)
 
 pub fill-requires : goal.fill-requires
 fill-requires g c =

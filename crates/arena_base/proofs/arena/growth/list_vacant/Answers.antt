@@ -11,7 +11,7 @@ returns-clause-items g c =
 pub push_reserved-requires : goal.push_reserved-requires
 push_reserved-requires g c =
     let position = c.loop-position.position in let vacant = c.loop-position.vacant in
-    let listed = length-map vacant.items g.I.PtrInx.number in
+    let listed = length-map vacant.items g.I.BasePtrInx.number in
     let few = length-vacant_slots (position + 1) (drop position c.args.slots.now) in let rest = length-drop position c.args.slots.now in
     omega (arith, vacant.ok.0, listed, ap length c.loop-position.invariant.items, length-reverse {A = ℕ}, few, rest)
 

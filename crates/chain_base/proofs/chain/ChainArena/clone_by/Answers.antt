@@ -6,7 +6,7 @@ use Rattle.chain_base.proofs.chain.ChainArena.clone_by.Goals as goal
 
 pub invariant_of-self : goal.invariant_of-self
 invariant_of-self g c =
-    let done = Lies-cloned g.P.Ptr.numbers g.M.CloneEntry.step (λ m. m.map) g.P.Inx.PtrInx.most g.P.Gen.PtrGen.greatest c.source.inside.arena _ _ c.source.invariant
+    let done = Lies-cloned g.P.BasePtr.numbers g.M.CloneEntry.step (λ m. m.map) g.P.Inx.BasePtrInx.most g.P.Gen.BasePtrGen.greatest c.source.inside.arena _ _ c.source.invariant
     (rw c.source.view_is c.len.ensures.sound) c.self.inside.arena c.clone_by-cloned.new.self _ c.in-Ok.ensures.ok None c.in-Ok.ensures.fresh in
     done.laid
 
@@ -22,7 +22,7 @@ invariant_of-self-else-is_empty g c =
 
 pub returns-in-Ok-clause-ok : goal.returns-in-Ok-clause-ok
 returns-in-Ok-clause-ok g c = rw (c.in-Ok.is, ← c.self.view_is, ← c.source.view_is)
-    (clone-chain g.P.Ptr.numbers g.M.CloneEntry.step (λ m. m.map) g.P.Inx.PtrInx.most g.P.Gen.PtrGen.greatest c.source.inside.arena _ _ c.source.invariant
+    (clone-chain g.P.BasePtr.numbers g.M.CloneEntry.step (λ m. m.map) g.P.Inx.BasePtrInx.most g.P.Gen.BasePtrGen.greatest c.source.inside.arena _ _ c.source.invariant
     (rw c.source.view_is c.len.ensures.sound) c.self.inside.arena c.clone_by-cloned.new.self _ c.in-Ok.ensures.ok _ c.in-Ok.ensures.fresh)
 
 pub returns-in-Ok-clause-beyond : goal.returns-in-Ok-clause-beyond
@@ -46,9 +46,9 @@ returns-then-is_empty-clause-memory g c = λ is.
             (λ refused. refused.after) c.clone_by-cloned.ensures.memory kept.1 (sym c.is_empty.ensures ∙ c.if-is_empty.true) ∙ c.self.view_is,
       )
       | inr refused ↦ inr (rw (← c.self.view_is, ← c.source.view_is) (record {
-        stops = rising-told g.P.Ptr.numbers g.M.CloneEntry.step (λ m. m.map) g.P.Inx.PtrInx.most g.P.Gen.PtrGen.greatest c.source.inside.arena _ _ c.source.invariant
+        stops = rising-told g.P.BasePtr.numbers g.M.CloneEntry.step (λ m. m.map) g.P.Inx.BasePtrInx.most g.P.Gen.BasePtrGen.greatest c.source.inside.arena _ _ c.source.invariant
             (rw c.source.view_is c.len.ensures.sound) c.self.inside.arena c.clone_by-cloned.new.self _ refused.stops;
-        after = refused-chain c.source.inside.arena _ _ c.source.invariant c.self.inside.arena c.clone_by-cloned.new.self (option_map g.P.Inx.PtrInx.number c.self.inside.first) refused.after;
+        after = refused-chain c.source.inside.arena _ _ c.source.invariant c.self.inside.arena c.clone_by-cloned.new.self (option_map g.P.Inx.BasePtrInx.number c.self.inside.first) refused.after;
       }))
     ]
 
@@ -57,7 +57,7 @@ returns-else-is_empty-clause-memory g c = λ is.
     elim (c.clone_by-cloned.ensures.memory is) [
       | inl kept ↦ inl (
         rw (← c.self.view_is, ← c.source.view_is, ← greatest-links c.source.inside.arena.slots _ (held-laid _ _ _ _ c.source.invariant)) kept.0,
-        ap (λ a. chain_of a (option_map g.P.Inx.PtrInx.number c.self.inside.first)) kept.1 ∙ c.self.view_is,
+        ap (λ a. chain_of a (option_map g.P.Inx.BasePtrInx.number c.self.inside.first)) kept.1 ∙ c.self.view_is,
       )
       | inr refused ↦ absurd (unrefused c.source.inside.arena c.self.inside.arena c.clone_by-cloned.new.self _ _ c.self.invariant c.clone_by-cloned.result c.in-Err.field-0 c.in-Err.is c.clone_by-cloned.ensures.beyond_kept
           (λ refused. refused.after) c.clone_by-cloned.ensures.memory (sym c.is_empty.ensures ∙ c.if-is_empty.false) refused.after)

@@ -4,4 +4,4 @@ use Rattle.chain_base.proofs.chain.ChainArena.compress.Goals as goal
 
 pub returns-clause-after : goal.returns-clause-after
 returns-clause-after g c =
-    compression-relocates g.P.Ptr.numbers _ _ g.P.Inx.PtrInx.most g.P.Gen.PtrGen.greatest (λ f p x q y h called. search rules) _ _ _ c.len.ensures.sound c.compress_with.ensures.after
+    compression-relocates g.P.BasePtr.numbers _ _ g.P.Inx.BasePtrInx.most g.P.Gen.BasePtrGen.greatest (λ f p x q y h called. search rules) _ _ _ c.len.ensures.sound c.compress_with.ensures.after

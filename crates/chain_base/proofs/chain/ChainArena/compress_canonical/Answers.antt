@@ -5,23 +5,23 @@ use Rattle.chain_base.proofs.chain.ChainArena.compress_canonical.Goals as goal
 
 pub loop-position-init : goal.loop-position-init
 loop-position-init g c =
-    canonical-begins g.P.Inx.PtrInx.most g.P.Gen.PtrGen.greatest c.args.self.now c.compress-overflow.new.self _ _ c.len-len.ensures.sound c.compress-overflow.ensures.after
+    canonical-begins g.P.Inx.BasePtrInx.most g.P.Gen.BasePtrGen.greatest c.args.self.now c.compress-overflow.new.self _ _ c.len-len.ensures.sound c.compress-overflow.ensures.after
     (c.self.invariant.first_is ∙ ap (λ v. first_or None v.entries) c.self.view_is)
 
 pub unwrap-requires : goal.unwrap-requires
-unwrap-requires g c = chosen g.P.Inx.PtrInx.number c.loop-position.at _ (met-at c.loop-position.invariant (omega (arith, c.len-len.ensures.value)))
+unwrap-requires g c = chosen g.P.Inx.BasePtrInx.number c.loop-position.at _ (met-at c.loop-position.invariant (omega (arith, c.len-len.ensures.value)))
 
 pub exchange-requires-clause-first : goal.exchange-requires-clause-first
 exchange-requires-clause-first g c =
     let at = c.loop-position in
     let more : at.position < length c.args.self.now.entries = omega (arith, c.len-len.ensures.value) in
-    let same = chosen-is g.P.Inx.PtrInx.number at.at _ c.unwrap.result (met-at at.invariant more) c.unwrap.ensures in
+    let same = chosen-is g.P.Inx.BasePtrInx.number at.at _ c.unwrap.result (met-at at.invariant more) c.unwrap.ensures in
     subst (λ k. is_some (entry_at at.self.entries k) ≡ true) (sym same) (occurs-entry at.self.entries _ (met-occurs at.invariant more))
 
 pub exchange-requires-clause-second : goal.exchange-requires-clause-second
 exchange-requires-clause-second g c =
     let at = c.loop-position in
-    let same : g.P.Inx.PtrInx.number c.unwrap-index.result ≡ at.position + 1 = search rules in
+    let same : g.P.Inx.BasePtrInx.number c.unwrap-index.result ≡ at.position + 1 = search rules in
     subst (λ k. is_some (entry_at at.self.entries k) ≡ true) (sym same) (occurs-entry at.self.entries _ (next-occurs at.invariant (omega (arith, c.len-len.ensures.value))))
 
 pub exchange-requires-clause-even : goal.exchange-requires-clause-even
@@ -31,12 +31,12 @@ pub loop-position-preserved : goal.loop-position-preserved
 loop-position-preserved g c =
     let at = c.loop-position in
     let more : at.position < length c.args.self.now.entries = omega (arith, c.len-len.ensures.value) in
-    let first = chosen-is g.P.Inx.PtrInx.number at.at _ c.unwrap.result (met-at at.invariant more) c.unwrap.ensures in
-    let second : g.P.Inx.PtrInx.number c.unwrap-index.result ≡ at.position + 1 = search rules in
-    canonical-step at.invariant more c.exchange.new.self (option_map g.P.Inx.PtrInx.number c.next_after-at.result)
-    (c.exchange.ensures ∙ (ap (λ k. exchanged at.self k (g.P.Inx.PtrInx.number c.unwrap-index.result)) first ∙ ap (exchanged at.self _) second))
+    let first = chosen-is g.P.Inx.BasePtrInx.number at.at _ c.unwrap.result (met-at at.invariant more) c.unwrap.ensures in
+    let second : g.P.Inx.BasePtrInx.number c.unwrap-index.result ≡ at.position + 1 = search rules in
+    canonical-step at.invariant more c.exchange.new.self (option_map g.P.Inx.BasePtrInx.number c.next_after-at.result)
+    (c.exchange.ensures ∙ (ap (λ k. exchanged at.self k (g.P.Inx.BasePtrInx.number c.unwrap-index.result)) first ∙ ap (exchanged at.self _) second))
     (c.next_after-at.ensures ∙ ap (index_after c.exchange.new.self.entries) second)
 
 pub returns-clause-after : goal.returns-clause-after
 returns-clause-after g c =
-    canonical-ends g.P.Inx.PtrInx.most g.P.Gen.PtrGen.greatest c.args.self.now _ c.loop-position.self _ c.loop-position.position c.len-len.ensures.sound (omega (arith, c.len-len.ensures.value)) c.loop-position.invariant
+    canonical-ends g.P.Inx.BasePtrInx.most g.P.Gen.BasePtrGen.greatest c.args.self.now _ c.loop-position.self _ c.loop-position.position c.len-len.ensures.sound (omega (arith, c.len-len.ensures.value)) c.loop-position.invariant

@@ -12,25 +12,25 @@ swap_inx-requires-clause-second g c = occupied-laid_out c.self.inside.arena _ _ 
 pub set_next-requires : goal.set_next-requires
 set_next-requires g c = λ x is.
     let can = can_exchange c.self.inside.arena _ _ _ _ _ c.self.view_is c.self.invariant c.requires.first c.requires.second c.requires.even in
-    target can g.P.Inx.PtrInx.number Before _ _ (alike-swap can _ c.swap_inx.ensures) _ _ c.exchanged_inx.ensures c.neighbours_at-of_i.ensures.before _ is
+    target can g.P.Inx.BasePtrInx.number Before _ _ (alike-swap can _ c.swap_inx.ensures) _ _ c.exchanged_inx.ensures c.neighbours_at-of_i.ensures.before _ is
 
 pub set_prev-requires : goal.set_prev-requires
 set_prev-requires g c = λ x is.
     let can = can_exchange c.self.inside.arena _ _ _ _ _ c.self.view_is c.self.invariant c.requires.first c.requires.second c.requires.even in
     let alike = alike-next _ _ _ _ _ c.set_next.ensures (alike-swap can _ c.swap_inx.ensures) in
-    target can g.P.Inx.PtrInx.number After _ _ alike _ _ c.exchanged_inx-2.ensures c.neighbours_at-of_i.ensures.behind _ is
+    target can g.P.Inx.BasePtrInx.number After _ _ alike _ _ c.exchanged_inx-2.ensures c.neighbours_at-of_i.ensures.behind _ is
 
 pub set_next-requires-2 : goal.set_next-requires-2
 set_next-requires-2 g c = λ x is.
     let can = can_exchange c.self.inside.arena _ _ _ _ _ c.self.view_is c.self.invariant c.requires.first c.requires.second c.requires.even in
     let alike = alike-prev _ _ _ _ _ c.set_prev.ensures (alike-next _ _ _ _ _ c.set_next.ensures (alike-swap can _ c.swap_inx.ensures)) in
-    target can g.P.Inx.PtrInx.number Before _ _ alike _ _ c.exchanged_inx-3.ensures c.neighbours_at-of_j.ensures.before _ is
+    target can g.P.Inx.BasePtrInx.number Before _ _ alike _ _ c.exchanged_inx-3.ensures c.neighbours_at-of_j.ensures.before _ is
 
 pub set_prev-requires-2 : goal.set_prev-requires-2
 set_prev-requires-2 g c = λ x is.
     let can = can_exchange c.self.inside.arena _ _ _ _ _ c.self.view_is c.self.invariant c.requires.first c.requires.second c.requires.even in
     let alike = alike-prev _ _ _ _ _ c.set_prev.ensures (alike-next _ _ _ _ _ c.set_next.ensures (alike-swap can _ c.swap_inx.ensures)) in
-    target can g.P.Inx.PtrInx.number After _ _ (alike-next _ _ _ _ _ c.set_next-2.ensures alike) _ _ c.exchanged_inx-4.ensures c.neighbours_at-of_j.ensures.behind _ is
+    target can g.P.Inx.BasePtrInx.number After _ _ (alike-next _ _ _ _ _ c.set_next-2.ensures alike) _ _ c.exchanged_inx-4.ensures c.neighbours_at-of_j.ensures.behind _ is
 
 pub invariant_of-self : goal.invariant_of-self
 invariant_of-self g c =

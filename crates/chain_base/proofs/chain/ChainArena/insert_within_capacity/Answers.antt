@@ -5,12 +5,12 @@ use Rattle.chain_base.proofs.chain.ChainArena.insert_within_capacity.Goals as go
 pub relink-ends-requires-clause-left : goal.relink-ends-requires-clause-left
 relink-ends-requires-clause-left g c = λ x is.
     let at = rw (← c.self.view_is) at c.neighbours.ensures in
-    beside-inserted c.self.inside.arena _ _ c.self.invariant _ _ _ _ c.in_ok-p.ensures.ok _ _ _ at _ (inl (ap (option_map g.P.Inx.PtrInx.number) is))
+    beside-inserted c.self.inside.arena _ _ c.self.invariant _ _ _ _ c.in_ok-p.ensures.ok _ _ _ at _ (inl (ap (option_map g.P.Inx.BasePtrInx.number) is))
 
 pub relink-ends-requires-clause-right : goal.relink-ends-requires-clause-right
 relink-ends-requires-clause-right g c = λ x is.
     let at = rw (← c.self.view_is) at c.neighbours.ensures in
-    beside-inserted c.self.inside.arena _ _ c.self.invariant _ _ _ _ c.in_ok-p.ensures.ok _ _ _ at _ (inr (ap (option_map g.P.Inx.PtrInx.number) is))
+    beside-inserted c.self.inside.arena _ _ c.self.invariant _ _ _ _ c.in_ok-p.ensures.ok _ _ _ at _ (inr (ap (option_map g.P.Inx.BasePtrInx.number) is))
 
 pub invariant_of-self-2 : goal.invariant_of-self-2
 invariant_of-self-2 g c =

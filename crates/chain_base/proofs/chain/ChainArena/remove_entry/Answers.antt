@@ -11,19 +11,19 @@ remove_entry-taken-requires g c = let held = rw (← c.self.view_is) at c.requir
 
 pub relink-ends-requires-clause-left : goal.relink-ends-requires-clause-left
 relink-ends-requires-clause-left g c = λ x is.
-    rw c.remove_entry-taken.ensures.removed (beside-held c.self.inside.arena _ _ c.self.invariant g.P.Gen.PtrGen.greatest _ _ c.entry.ensures Before _
-    (sym c.prev_next.ensures.prev ∙ ap (option_map g.P.Inx.PtrInx.number) is))
+    rw c.remove_entry-taken.ensures.removed (beside-held c.self.inside.arena _ _ c.self.invariant g.P.Gen.BasePtrGen.greatest _ _ c.entry.ensures Before _
+    (sym c.prev_next.ensures.prev ∙ ap (option_map g.P.Inx.BasePtrInx.number) is))
 
 pub relink-ends-requires-clause-right : goal.relink-ends-requires-clause-right
 relink-ends-requires-clause-right g c = λ x is.
-    rw c.remove_entry-taken.ensures.removed (beside-held c.self.inside.arena _ _ c.self.invariant g.P.Gen.PtrGen.greatest _ _ c.entry.ensures After _
-    (sym c.prev_next.ensures.next ∙ ap (option_map g.P.Inx.PtrInx.number) is))
+    rw c.remove_entry-taken.ensures.removed (beside-held c.self.inside.arena _ _ c.self.invariant g.P.Gen.BasePtrGen.greatest _ _ c.entry.ensures After _
+    (sym c.prev_next.ensures.next ∙ ap (option_map g.P.Inx.BasePtrInx.number) is))
 
 pub invariant_of-self : goal.invariant_of-self
 invariant_of-self g c =
     let ends = c.relink-ends.ensures in
     let beside = c.prev_next.ensures in
-    let removes = Removes-linked c.self.inside.arena _ _ c.self.invariant g.P.Gen.PtrGen.greatest _ _ c.entry.ensures
+    let removes = Removes-linked c.self.inside.arena _ _ c.self.invariant g.P.Gen.BasePtrGen.greatest _ _ c.entry.ensures
     _ _ _ beside.prev beside.next beside.named_prev beside.named_next _ c.relink-ends.new.arena _ _ c.remove_entry-taken.ensures.removed ends.arena ends.first ends.last in
     removes.laid
 
@@ -34,7 +34,7 @@ pub returns-clause-removed : goal.returns-clause-removed
 returns-clause-removed g c =
     let ends = c.relink-ends.ensures in
     let beside = c.prev_next.ensures in
-    let removes = Removes-linked c.self.inside.arena _ _ c.self.invariant g.P.Gen.PtrGen.greatest _ _ c.entry.ensures
+    let removes = Removes-linked c.self.inside.arena _ _ c.self.invariant g.P.Gen.BasePtrGen.greatest _ _ c.entry.ensures
     _ _ _ beside.prev beside.next beside.named_prev beside.named_next _ c.relink-ends.new.arena _ _ c.remove_entry-taken.ensures.removed ends.arena ends.first ends.last in
     rw (← c.self.view_is) removes.chain
 

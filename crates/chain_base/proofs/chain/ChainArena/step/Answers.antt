@@ -9,4 +9,4 @@ returns g c = rw (c._from_raw.ensures, c.next.ensures.value, ← c.self.view_is)
 
 pub returns-in_err-entry : goal.returns-in_err-entry
 returns-in_err-entry g c = rw (c.from_residual.ensures, ← c.self.view_is)
-    (pointers_left-none _ (g.P.Inx.PtrInx.number c.args.i) (c.in_err-entry.ensures ∙ c.self.invariant.links _))
+    (pointers_left-none _ (g.P.Inx.BasePtrInx.number c.args.i) (c.in_err-entry.ensures ∙ c.self.invariant.links _))

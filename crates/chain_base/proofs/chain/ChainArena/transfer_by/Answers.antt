@@ -7,7 +7,7 @@ pub returns-clause-ok : goal.returns-clause-ok
 returns-clause-ok g c =
     let raised = c.set_generation.ensures in
     let cleared = c.clear.ensures.after in
-    transferred g.Q.Ptr.numbers g.P.Ptr.numbers g.Q.Gen.PtrGen.greatest g.M.MapTaken.step _ c.args.map c.take_all.ensures.taken.0 c.args.source.now c.take_all.new.source
+    transferred g.Q.BasePtr.numbers g.P.BasePtr.numbers g.Q.Gen.BasePtrGen.greatest g.M.MapTaken.step _ c.args.map c.take_all.ensures.taken.0 c.args.source.now c.take_all.new.source
     c.reallocate_min_capacity.new.self c.args.self.now c.set_generation.new.self c.take_all.new.chain c.reallocate_min_capacity.result _
     (ap (λ (c : Chain _). c.generation) raised)
     (ap (λ (c : Chain _). c.capacity) raised ∙ ap (λ (c : Chain _). c.capacity) cleared ∙ c.in_ok-raise_capacity.ensures.capacity ∙ ap (max c.args.self.now.capacity) c.len.ensures.value)

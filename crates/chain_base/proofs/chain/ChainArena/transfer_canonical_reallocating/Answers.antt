@@ -3,4 +3,4 @@ use Rattle.chain_base.proofs.chain.ChainArena.transfer_canonical_reallocating.Go
 
 pub returns-clause-ok : goal.returns-clause-ok
 returns-clause-ok g c =
-    transfer-retold g.Q.Ptr.numbers g.P.Ptr.numbers g.Q.Gen.PtrGen.greatest _ _ (λ m. m.f) (λ s q taken p x t called. called) _ _ _ _ _ _ c.transfer_by.result c.transfer_by.ensures.ok
+    transfer-retold g.Q.BasePtr.numbers g.P.BasePtr.numbers g.Q.Gen.BasePtrGen.greatest _ _ (λ m. m.f) (λ s q taken p x t called. called) _ _ _ _ _ _ c.transfer_by.result c.transfer_by.ensures.ok

@@ -24,24 +24,24 @@ module _ {I G X L : Type 0} (number : I → ℕ) (era : G → ℕ) (seen : X →
 pub link_facing-requires : goal.link_facing-requires
 link_facing-requires g c = λ i is.
     let at = c.loop-position in
-    let number = g.P.Inx.PtrInx.number in
-    let held = read number g.P.Gen.PtrGen.number _ at.arena c.unwrap-index.result (at.position + 1) (search rules) c.get_inx.result _ c.get_inx.ensures c.in-Some.is in
+    let number = g.P.Inx.BasePtrInx.number in
+    let held = read number g.P.Gen.BasePtrGen.number _ at.arena c.unwrap-index.result (at.position + 1) (search rules) c.get_inx.result _ c.get_inx.ensures c.in-Some.is in
     named_neighbour-target c.args.side c.args.arena.now at.arena at.count _ (at.position + 1) at.invariant (omega (arith, c.capacity-position-end.ensures.value)) c.requires _ held (number i)
     (sym c.neighbour_on-neighbour.ensures ∙ ap (option_map number) is)
 
 pub loop-position-preserved : goal.loop-position-preserved
 loop-position-preserved g c =
     let at = c.loop-position in
-    let number = g.P.Inx.PtrInx.number in
+    let number = g.P.Inx.BasePtrInx.number in
     let inside : at.position + 1 < length c.args.arena.now.slots = omega (arith, c.capacity-position-end.ensures.value) in
     elim c.match-get_inx.branch [
       | in-Some w ↦
-          let held = read number g.P.Gen.PtrGen.number _ at.arena c.unwrap-index.result (at.position + 1) (search rules) c.get_inx.result _ c.get_inx.ensures w.in-Some.is in
-          let within : at.count + 1 ≤ g.P.Inx.PtrInx.most = omega (arith, at.invariant.fewer, c.capacity-position-end.ensures.limit, c.capacity-position-end.ensures.value) in
+          let held = read number g.P.Gen.BasePtrGen.number _ at.arena c.unwrap-index.result (at.position + 1) (search rules) c.get_inx.result _ c.get_inx.ensures w.in-Some.is in
+          let within : at.count + 1 ≤ g.P.Inx.BasePtrInx.most = omega (arith, at.invariant.fewer, c.capacity-position-end.ensures.limit, c.capacity-position-end.ensures.value) in
           let made : option_map number w.try_from_usize-here.result ≡ Some (at.count + 1) =
-          index-made number g.P.Inx.PtrInx.most (at.count + 1) w.try_from_usize-here.result w.try_from_usize-here.ensures.variant w.try_from_usize-here.ensures.value (omega arith) within in
+          index-made number g.P.Inx.BasePtrInx.most (at.count + 1) w.try_from_usize-here.result w.try_from_usize-here.ensures.variant w.try_from_usize-here.ensures.value (omega arith) within in
           let linked = w.link_facing.ensures ∙ ap (linked_facing c.args.side at.arena (option_map number w.neighbour_on-neighbour.result))
-          (ap (named_of g.P.Inx.PtrInx.most) made ∙ neighbour-within g.P.Inx.PtrInx.most (at.count + 1) within) in
+          (ap (named_of g.P.Inx.BasePtrInx.most) made ∙ neighbour-within g.P.Inx.BasePtrInx.most (at.count + 1) within) in
           elim w.if-is_none.branch [
             | then-is_none v ↦ rw (w.arena-is, w.end-is, v.end-is, w.count-is)
                 (named_neighbour-step c.args.side c.args.arena.now at.arena at.count _ (at.position + 1) at.invariant inside c.requires _ held _ w.neighbour_on-neighbour.ensures _ (λ none. made) (λ some. grind arith) _ linked)
@@ -50,7 +50,7 @@ loop-position-preserved g c =
           ]
       | in_default w ↦ rw (w.arena-is, w.end-is, w.count-is)
           (named_neighbour-vacant c.args.side c.args.arena.now at.arena at.count _ (at.position + 1) at.invariant inside c.requires
-          (read number g.P.Gen.PtrGen.number _ at.arena c.unwrap-index.result (at.position + 1) (search rules) c.get_inx.result _ c.get_inx.ensures w.in_default.is))
+          (read number g.P.Gen.BasePtrGen.number _ at.arena c.unwrap-index.result (at.position + 1) (search rules) c.get_inx.result _ c.get_inx.ensures w.in_default.is))
     ]
 
 pub returns : goal.returns

@@ -5,5 +5,5 @@ use Rattle.chain_base.proofs.chain.transfer.take_all.Given as goal
 -- as many entries are taken as the counter says, and the last index is their number
 abbrev pub invariant-loop : goal.invariant-loop
 invariant-loop g l = g.M.MapTaken.callable l.map
-    × (h : HasTaken g.Q.Ptr.numbers g.P.Ptr.numbers g.Q.Gen.PtrGen.greatest g.M.MapTaken.step l.fn.map l.fn.source l.source l.fn.chain l.chain l.map)
-    × (length h.gone ≡ l.counter) × (option_map g.P.Inx.PtrInx.number l.last ≡ last_index_of (length h.items))
+    × (h : HasTaken g.Q.BasePtr.numbers g.P.BasePtr.numbers g.Q.Gen.BasePtrGen.greatest g.M.MapTaken.step l.fn.map l.fn.source l.source l.fn.chain l.chain l.map)
+    × (length h.gone ≡ l.counter) × (option_map g.P.Inx.BasePtrInx.number l.last ≡ last_index_of (length h.items))

@@ -7,7 +7,7 @@ pub returns-clause-here : goal.returns-clause-here
 returns-clause-here g c =
     let was = links_in c.pair_mut-pair.result.1.now in
     rw (← c.get.ensures.value) (slots_of-changed c.args.self.now _ _ _ c.pair_mut-pair.ensures.value
-    (λ m. record m { back = option_map g.P.Inx.PtrInx.number c.args.back }) (ap (λ (b : Option ℕ). record was { back = b }) c.kept-node.ensures))
+    (λ m. record m { back = option_map g.P.Inx.BasePtrInx.number c.args.back }) (ap (λ (b : Option ℕ). record was { back = b }) c.kept-node.ensures))
 
 pub returns-clause-elsewhere : goal.returns-clause-elsewhere
 returns-clause-elsewhere g c = rw (← c.get.ensures.value) (slots_of-elsewhere c.args.self.now _ _ _ c.pair_mut-pair.ensures.value)

@@ -5,7 +5,7 @@ use Rattle.ord_tree.proofs.store.ChainArenaSimpleOrdArenaNodeNodes.set_child.Goa
 
 pub returns-clause-here : goal.returns-clause-here
 returns-clause-here g c =
-    rw (← c.get.ensures.value) (slots_of-changed c.args.self.now _ _ _ c.pair_mut-pair.ensures.value (with_child_at c.args.side (option_map g.P.Inx.PtrInx.number c.args.child)) c.set_child.ensures.links)
+    rw (← c.get.ensures.value) (slots_of-changed c.args.self.now _ _ _ c.pair_mut-pair.ensures.value (with_child_at c.args.side (option_map g.P.Inx.BasePtrInx.number c.args.child)) c.set_child.ensures.links)
 
 pub returns-clause-elsewhere : goal.returns-clause-elsewhere
 returns-clause-elsewhere g c = rw (← c.get.ensures.value) (slots_of-elsewhere c.args.self.now _ _ _ c.pair_mut-pair.ensures.value)

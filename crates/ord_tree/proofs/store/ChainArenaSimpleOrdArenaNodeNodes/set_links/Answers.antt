@@ -5,7 +5,7 @@ use Rattle.ord_tree.proofs.store.ChainArenaSimpleOrdArenaNodeNodes.set_links.Goa
 
 pub returns-clause-here : goal.returns-clause-here
 returns-clause-here g c =
-    rw (← c.get.ensures.value) (slots_of-linked c.args.self.now _ _ _ c.pair_mut-pair.ensures.value (as_numbers g.P.Inx.PtrInx.number c.args.links) c.kept-node.ensures c.kept-node-2.ensures c.kept-node-3.ensures refl)
+    rw (← c.get.ensures.value) (slots_of-linked c.args.self.now _ _ _ c.pair_mut-pair.ensures.value (as_numbers g.P.Inx.BasePtrInx.number c.args.links) c.kept-node.ensures c.kept-node-2.ensures c.kept-node-3.ensures refl)
 
 pub returns-clause-elsewhere : goal.returns-clause-elsewhere
 returns-clause-elsewhere g c = rw (← c.get.ensures.value) (slots_of-elsewhere c.args.self.now _ _ _ c.pair_mut-pair.ensures.value)

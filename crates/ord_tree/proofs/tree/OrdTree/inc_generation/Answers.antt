@@ -10,4 +10,4 @@ invariant_of-self g c = IsLaidOut-entries c.self.inside.chain c.inc_generation.n
 pub returns-clause-after : goal.returns-clause-after
 returns-clause-after g c =
     let root = c.self.inside.root in
-    rw (← c.self.view_is) (ap (λ (c : Chain _). tree_of c (option_map g.P.Inx.PtrInx.number root)) c.inc_generation.ensures.after)
+    rw (← c.self.view_is) (ap (λ (c : Chain _). tree_of c (option_map g.P.Inx.BasePtrInx.number root)) c.inc_generation.ensures.after)

@@ -5,7 +5,7 @@ use Rattle.ord_tree.proofs.tree.OrdTree.invalidate.Goals as goal
 
 pub invariant_of-self : goal.invariant_of-self
 invariant_of-self g c =
-    call_laid_out g.P.Gen.PtrGen.greatest c.self.inside.chain (option_map g.P.Inx.PtrInx.number c.self.inside.root) _ c.self.invariant (valid_value c.invalidate.result) c.invalidate.new.self
+    call_laid_out g.P.Gen.BasePtrGen.greatest c.self.inside.chain (option_map g.P.Inx.BasePtrInx.number c.self.inside.root) _ c.self.invariant (valid_value c.invalidate.result) c.invalidate.new.self
     c.invalidate.ensures.renewed c.invalidate.ensures.invalid
 
 pub returns : goal.returns
@@ -16,7 +16,7 @@ returns g c =
       index = told.index;
       generation = rw (← c.self.view_is) told.generation;
       overflow = rw (← c.self.view_is) told.overflow;
-      renewed = rw (← c.self.view_is) (call_renewed g.P.Gen.PtrGen.greatest c.self.inside.chain (option_map g.P.Inx.PtrInx.number c.self.inside.root) _ c.self.invariant
+      renewed = rw (← c.self.view_is) (call_renewed g.P.Gen.BasePtrGen.greatest c.self.inside.chain (option_map g.P.Inx.BasePtrInx.number c.self.inside.root) _ c.self.invariant
           (valid_value c.invalidate.result) c.invalidate.new.self told.renewed);
       invalid = grind (arith, common_steps);
     }

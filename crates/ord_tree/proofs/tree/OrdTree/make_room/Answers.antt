@@ -10,5 +10,5 @@ invariant_of-self g c = IsLaidOut-entries c.self.inside.chain c.make_room.new.se
 pub returns-clause-ok : goal.returns-clause-ok
 returns-clause-ok g c =
     let r = c.make_room in
-    let root = option_map g.P.Inx.PtrInx.number c.self.inside.root in
-    rw (← c.self.view_is) (on_ok r.result _ _ r.ensures.ok (λ e. ap (λ (c : Chain _). tree_of c root) e ∙ tree_of-with_room g.P.Inx.PtrInx.most c.self.inside.chain root))
+    let root = option_map g.P.Inx.BasePtrInx.number c.self.inside.root in
+    rw (← c.self.view_is) (on_ok r.result _ _ r.ensures.ok (λ e. ap (λ (c : Chain _). tree_of c root) e ∙ tree_of-with_room g.P.Inx.BasePtrInx.most c.self.inside.chain root))

@@ -14,26 +14,26 @@ detach-requires g c =
     let held = rw (← c.self.view_is) at c.requires.entry in
     rw c.node_at-z.ensures (
       _,
-      detachable c.self.inside.chain (option_map g.P.Inx.PtrInx.number c.self.inside.root) _ c.self.invariant (sym (is_some-bare c.self.inside.chain.entries _) ∙ held)
-          g.P.Inx.PtrInx.most g.P.Gen.PtrGen.greatest c.len.ensures.sound g.met.P.Inx.PtrInx.fits _ (rw c.node_at-z.ensures at c.neighbour-before.ensures),
+      detachable c.self.inside.chain (option_map g.P.Inx.BasePtrInx.number c.self.inside.root) _ c.self.invariant (sym (is_some-bare c.self.inside.chain.entries _) ∙ held)
+          g.P.Inx.BasePtrInx.most g.P.Gen.BasePtrGen.greatest c.len.ensures.sound g.met.P.Inx.BasePtrInx.fits _ (rw c.node_at-z.ensures at c.neighbour-before.ensures),
     )
 
 pub move_beside-requires-clause-entry : goal.move_beside-requires-clause-entry
 move_beside-requires-clause-entry g c =
-    let number = g.P.Inx.PtrInx.number in
+    let number = g.P.Inx.BasePtrInx.number in
     let held = rw (← c.self.view_is) at c.requires.entry in
     let out = taken_out c.self.inside.chain (option_map number c.self.inside.root) _ c.self.invariant (sym (is_some-bare c.self.inside.chain.entries _) ∙ held)
-    g.P.Inx.PtrInx.most g.P.Gen.PtrGen.greatest c.len.ensures.sound g.met.P.Inx.PtrInx.fits _ (rw c.node_at-z.ensures at c.neighbour-before.ensures)
+    g.P.Inx.BasePtrInx.most g.P.Gen.BasePtrGen.greatest c.len.ensures.sound g.met.P.Inx.BasePtrInx.fits _ (rw c.node_at-z.ensures at c.neighbour-before.ensures)
     c.detach.new.nodes (option_map number c.detach.new.root) c.detach.ensures.kept (rw c.node_at-z.ensures at c.detach.ensures.built) (rw c.node_at-z.ensures at c.detach.ensures.backs)
     (rw c.node_at-z.ensures at c.detach.ensures.account) in
     still_in out
 
 pub move_beside-requires-clause-place : goal.move_beside-requires-clause-place
 move_beside-requires-clause-place g c =
-    let number = g.P.Inx.PtrInx.number in
+    let number = g.P.Inx.BasePtrInx.number in
     let held = rw (← c.self.view_is) at c.requires.entry in
     let out = taken_out c.self.inside.chain (option_map number c.self.inside.root) _ c.self.invariant (sym (is_some-bare c.self.inside.chain.entries _) ∙ held)
-    g.P.Inx.PtrInx.most g.P.Gen.PtrGen.greatest c.len.ensures.sound g.met.P.Inx.PtrInx.fits _ (rw c.node_at-z.ensures at c.neighbour-before.ensures)
+    g.P.Inx.BasePtrInx.most g.P.Gen.BasePtrGen.greatest c.len.ensures.sound g.met.P.Inx.BasePtrInx.fits _ (rw c.node_at-z.ensures at c.neighbour-before.ensures)
     c.detach.new.nodes (option_map number c.detach.new.root) c.detach.ensures.kept (rw c.node_at-z.ensures at c.detach.ensures.built) (rw c.node_at-z.ensures at c.detach.ensures.backs)
     (rw c.node_at-z.ensures at c.detach.ensures.account) in
     let can = rw (← c.self.view_is) at c.requires.place in
@@ -41,10 +41,10 @@ move_beside-requires-clause-place g c =
 
 pub node_at-y-requires : goal.node_at-y-requires
 node_at-y-requires g c =
-    let number = g.P.Inx.PtrInx.number in
+    let number = g.P.Inx.BasePtrInx.number in
     let held = rw (← c.self.view_is) at c.requires.entry in
     let out = taken_out c.self.inside.chain (option_map number c.self.inside.root) _ c.self.invariant (sym (is_some-bare c.self.inside.chain.entries _) ∙ held)
-    g.P.Inx.PtrInx.most g.P.Gen.PtrGen.greatest c.len.ensures.sound g.met.P.Inx.PtrInx.fits _ (rw c.node_at-z.ensures at c.neighbour-before.ensures)
+    g.P.Inx.BasePtrInx.most g.P.Gen.BasePtrGen.greatest c.len.ensures.sound g.met.P.Inx.BasePtrInx.fits _ (rw c.node_at-z.ensures at c.neighbour-before.ensures)
     c.detach.new.nodes (option_map number c.detach.new.root) c.detach.ensures.kept (rw c.node_at-z.ensures at c.detach.ensures.built) (rw c.node_at-z.ensures at c.detach.ensures.backs)
     (rw c.node_at-z.ensures at c.detach.ensures.account) in
     let can = rw (← c.self.view_is) at c.requires.place in
@@ -52,10 +52,10 @@ node_at-y-requires g c =
 
 pub branch_across-branch-requires-clause-beside : goal.branch_across-branch-requires-clause-beside
 branch_across-branch-requires-clause-beside g c =
-    let number = g.P.Inx.PtrInx.number in
+    let number = g.P.Inx.BasePtrInx.number in
     let held = rw (← c.self.view_is) at c.requires.entry in
     let out = taken_out c.self.inside.chain (option_map number c.self.inside.root) _ c.self.invariant (sym (is_some-bare c.self.inside.chain.entries _) ∙ held)
-    g.P.Inx.PtrInx.most g.P.Gen.PtrGen.greatest c.len.ensures.sound g.met.P.Inx.PtrInx.fits _ (rw c.node_at-z.ensures at c.neighbour-before.ensures)
+    g.P.Inx.BasePtrInx.most g.P.Gen.BasePtrGen.greatest c.len.ensures.sound g.met.P.Inx.BasePtrInx.fits _ (rw c.node_at-z.ensures at c.neighbour-before.ensures)
     c.detach.new.nodes (option_map number c.detach.new.root) c.detach.ensures.kept (rw c.node_at-z.ensures at c.detach.ensures.built) (rw c.node_at-z.ensures at c.detach.ensures.backs)
     (rw c.node_at-z.ensures at c.detach.ensures.account) in
     let can = rw (← c.self.view_is) at c.requires.place in
@@ -63,10 +63,10 @@ branch_across-branch-requires-clause-beside g c =
 
 pub branch_across-branch-requires-clause-leaf : goal.branch_across-branch-requires-clause-leaf
 branch_across-branch-requires-clause-leaf g c =
-    let number = g.P.Inx.PtrInx.number in
+    let number = g.P.Inx.BasePtrInx.number in
     let held = rw (← c.self.view_is) at c.requires.entry in
     let out = taken_out c.self.inside.chain (option_map number c.self.inside.root) _ c.self.invariant (sym (is_some-bare c.self.inside.chain.entries _) ∙ held)
-    g.P.Inx.PtrInx.most g.P.Gen.PtrGen.greatest c.len.ensures.sound g.met.P.Inx.PtrInx.fits _ (rw c.node_at-z.ensures at c.neighbour-before.ensures)
+    g.P.Inx.BasePtrInx.most g.P.Gen.BasePtrGen.greatest c.len.ensures.sound g.met.P.Inx.BasePtrInx.fits _ (rw c.node_at-z.ensures at c.neighbour-before.ensures)
     c.detach.new.nodes (option_map number c.detach.new.root) c.detach.ensures.kept (rw c.node_at-z.ensures at c.detach.ensures.built) (rw c.node_at-z.ensures at c.detach.ensures.backs)
     (rw c.node_at-z.ensures at c.detach.ensures.account) in
     let can = rw (← c.self.view_is) at c.requires.place in
@@ -74,10 +74,10 @@ branch_across-branch-requires-clause-leaf g c =
 
 pub branch_across-branch-requires-clause-aside : goal.branch_across-branch-requires-clause-aside
 branch_across-branch-requires-clause-aside g c =
-    let number = g.P.Inx.PtrInx.number in
+    let number = g.P.Inx.BasePtrInx.number in
     let held = rw (← c.self.view_is) at c.requires.entry in
     let out = taken_out c.self.inside.chain (option_map number c.self.inside.root) _ c.self.invariant (sym (is_some-bare c.self.inside.chain.entries _) ∙ held)
-    g.P.Inx.PtrInx.most g.P.Gen.PtrGen.greatest c.len.ensures.sound g.met.P.Inx.PtrInx.fits _ (rw c.node_at-z.ensures at c.neighbour-before.ensures)
+    g.P.Inx.BasePtrInx.most g.P.Gen.BasePtrGen.greatest c.len.ensures.sound g.met.P.Inx.BasePtrInx.fits _ (rw c.node_at-z.ensures at c.neighbour-before.ensures)
     c.detach.new.nodes (option_map number c.detach.new.root) c.detach.ensures.kept (rw c.node_at-z.ensures at c.detach.ensures.built) (rw c.node_at-z.ensures at c.detach.ensures.backs)
     (rw c.node_at-z.ensures at c.detach.ensures.account) in
     let can = rw (← c.self.view_is) at c.requires.place in
@@ -85,10 +85,10 @@ branch_across-branch-requires-clause-aside g c =
 
 pub set_links-requires : goal.set_links-requires
 set_links-requires g c =
-    let number = g.P.Inx.PtrInx.number in
+    let number = g.P.Inx.BasePtrInx.number in
     let held = rw (← c.self.view_is) at c.requires.entry in
     let out = taken_out c.self.inside.chain (option_map number c.self.inside.root) _ c.self.invariant (sym (is_some-bare c.self.inside.chain.entries _) ∙ held)
-    g.P.Inx.PtrInx.most g.P.Gen.PtrGen.greatest c.len.ensures.sound g.met.P.Inx.PtrInx.fits _ (rw c.node_at-z.ensures at c.neighbour-before.ensures)
+    g.P.Inx.BasePtrInx.most g.P.Gen.BasePtrGen.greatest c.len.ensures.sound g.met.P.Inx.BasePtrInx.fits _ (rw c.node_at-z.ensures at c.neighbour-before.ensures)
     c.detach.new.nodes (option_map number c.detach.new.root) c.detach.ensures.kept (rw c.node_at-z.ensures at c.detach.ensures.built) (rw c.node_at-z.ensures at c.detach.ensures.backs)
     (rw c.node_at-z.ensures at c.detach.ensures.account) in
     let can = rw (← c.self.view_is) at c.requires.place in
@@ -96,10 +96,10 @@ set_links-requires g c =
 
 pub add_leaf-requires : goal.add_leaf-requires
 add_leaf-requires g c =
-    let number = g.P.Inx.PtrInx.number in
+    let number = g.P.Inx.BasePtrInx.number in
     let held = rw (← c.self.view_is) at c.requires.entry in
     let out = taken_out c.self.inside.chain (option_map number c.self.inside.root) _ c.self.invariant (sym (is_some-bare c.self.inside.chain.entries _) ∙ held)
-    g.P.Inx.PtrInx.most g.P.Gen.PtrGen.greatest c.len.ensures.sound g.met.P.Inx.PtrInx.fits _ (rw c.node_at-z.ensures at c.neighbour-before.ensures)
+    g.P.Inx.BasePtrInx.most g.P.Gen.BasePtrGen.greatest c.len.ensures.sound g.met.P.Inx.BasePtrInx.fits _ (rw c.node_at-z.ensures at c.neighbour-before.ensures)
     c.detach.new.nodes (option_map number c.detach.new.root) c.detach.ensures.kept (rw c.node_at-z.ensures at c.detach.ensures.built) (rw c.node_at-z.ensures at c.detach.ensures.backs)
     (rw c.node_at-z.ensures at c.detach.ensures.account) in
     let can = rw (← c.self.view_is) at c.requires.place in
@@ -109,10 +109,10 @@ add_leaf-requires g c =
 
 pub invariant_of-self : goal.invariant_of-self
 invariant_of-self g c =
-    let number = g.P.Inx.PtrInx.number in
+    let number = g.P.Inx.BasePtrInx.number in
     let held = rw (← c.self.view_is) at c.requires.entry in
     let out = taken_out c.self.inside.chain (option_map number c.self.inside.root) _ c.self.invariant (sym (is_some-bare c.self.inside.chain.entries _) ∙ held)
-    g.P.Inx.PtrInx.most g.P.Gen.PtrGen.greatest c.len.ensures.sound g.met.P.Inx.PtrInx.fits _ (rw c.node_at-z.ensures at c.neighbour-before.ensures)
+    g.P.Inx.BasePtrInx.most g.P.Gen.BasePtrGen.greatest c.len.ensures.sound g.met.P.Inx.BasePtrInx.fits _ (rw c.node_at-z.ensures at c.neighbour-before.ensures)
     c.detach.new.nodes (option_map number c.detach.new.root) c.detach.ensures.kept (rw c.node_at-z.ensures at c.detach.ensures.built) (rw c.node_at-z.ensures at c.detach.ensures.backs)
     (rw c.node_at-z.ensures at c.detach.ensures.account) in
     let can = rw (← c.self.view_is) at c.requires.place in
@@ -123,10 +123,10 @@ invariant_of-self g c =
 
 pub returns-clause-list : goal.returns-clause-list
 returns-clause-list g c =
-    let number = g.P.Inx.PtrInx.number in
+    let number = g.P.Inx.BasePtrInx.number in
     let held = rw (← c.self.view_is) at c.requires.entry in
     let out = taken_out c.self.inside.chain (option_map number c.self.inside.root) _ c.self.invariant (sym (is_some-bare c.self.inside.chain.entries _) ∙ held)
-    g.P.Inx.PtrInx.most g.P.Gen.PtrGen.greatest c.len.ensures.sound g.met.P.Inx.PtrInx.fits _ (rw c.node_at-z.ensures at c.neighbour-before.ensures)
+    g.P.Inx.BasePtrInx.most g.P.Gen.BasePtrGen.greatest c.len.ensures.sound g.met.P.Inx.BasePtrInx.fits _ (rw c.node_at-z.ensures at c.neighbour-before.ensures)
     c.detach.new.nodes (option_map number c.detach.new.root) c.detach.ensures.kept (rw c.node_at-z.ensures at c.detach.ensures.built) (rw c.node_at-z.ensures at c.detach.ensures.backs)
     (rw c.node_at-z.ensures at c.detach.ensures.account) in
     let can = rw (← c.self.view_is) at c.requires.place in
@@ -137,10 +137,10 @@ returns-clause-list g c =
 
 pub returns-clause-shape : goal.returns-clause-shape
 returns-clause-shape g c =
-    let number = g.P.Inx.PtrInx.number in
+    let number = g.P.Inx.BasePtrInx.number in
     let held = rw (← c.self.view_is) at c.requires.entry in
     let out = taken_out c.self.inside.chain (option_map number c.self.inside.root) _ c.self.invariant (sym (is_some-bare c.self.inside.chain.entries _) ∙ held)
-    g.P.Inx.PtrInx.most g.P.Gen.PtrGen.greatest c.len.ensures.sound g.met.P.Inx.PtrInx.fits _ (rw c.node_at-z.ensures at c.neighbour-before.ensures)
+    g.P.Inx.BasePtrInx.most g.P.Gen.BasePtrGen.greatest c.len.ensures.sound g.met.P.Inx.BasePtrInx.fits _ (rw c.node_at-z.ensures at c.neighbour-before.ensures)
     c.detach.new.nodes (option_map number c.detach.new.root) c.detach.ensures.kept (rw c.node_at-z.ensures at c.detach.ensures.built) (rw c.node_at-z.ensures at c.detach.ensures.backs)
     (rw c.node_at-z.ensures at c.detach.ensures.account) in
     let can = rw (← c.self.view_is) at c.requires.place in

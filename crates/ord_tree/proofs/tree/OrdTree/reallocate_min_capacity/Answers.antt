@@ -14,5 +14,5 @@ invariant_of-self g c =
 pub returns-clause-ok : goal.returns-clause-ok
 returns-clause-ok g c =
     let r = c.reallocate_min_capacity in
-    let root = option_map g.P.Inx.PtrInx.number c.self.inside.root in
+    let root = option_map g.P.Inx.BasePtrInx.number c.self.inside.root in
     rw (← c.self.view_is) (on_ok r.result _ _ r.ensures.ok (λ e. ap (λ (c : Chain _). tree_of c root) e ∙ tree_of-with_capacity c.self.inside.chain root c.args.n))

@@ -14,32 +14,32 @@ detach-requires g c =
     let held = rw (← c.self.view_is) at c.requires in
     rw c.node_at-z.ensures (
       _,
-      detachable c.self.inside.chain (option_map g.P.Inx.PtrInx.number c.self.inside.root) _ c.self.invariant (sym (is_some-bare c.self.inside.chain.entries _) ∙ held)
-          g.P.Inx.PtrInx.most g.P.Gen.PtrGen.greatest c.len.ensures.sound g.met.P.Inx.PtrInx.fits _ (rw c.node_at-z.ensures at c.neighbour-before.ensures),
+      detachable c.self.inside.chain (option_map g.P.Inx.BasePtrInx.number c.self.inside.root) _ c.self.invariant (sym (is_some-bare c.self.inside.chain.entries _) ∙ held)
+          g.P.Inx.BasePtrInx.most g.P.Gen.BasePtrGen.greatest c.len.ensures.sound g.met.P.Inx.BasePtrInx.fits _ (rw c.node_at-z.ensures at c.neighbour-before.ensures),
     )
 
 pub remove_entry-requires : goal.remove_entry-requires
 remove_entry-requires g c =
     let held = rw (← c.self.view_is) at c.requires in
-    still_there c.self.inside.chain (option_map g.P.Inx.PtrInx.number c.self.inside.root) _ c.self.invariant (sym (is_some-bare c.self.inside.chain.entries _) ∙ held)
-    g.P.Inx.PtrInx.most g.P.Gen.PtrGen.greatest c.len.ensures.sound g.met.P.Inx.PtrInx.fits _ (rw c.node_at-z.ensures at c.neighbour-before.ensures)
-    c.detach.new.nodes (option_map g.P.Inx.PtrInx.number c.detach.new.root) c.detach.ensures.kept (rw c.node_at-z.ensures at c.detach.ensures.built) (rw c.node_at-z.ensures at c.detach.ensures.backs) (rw c.node_at-z.ensures at c.detach.ensures.account)
+    still_there c.self.inside.chain (option_map g.P.Inx.BasePtrInx.number c.self.inside.root) _ c.self.invariant (sym (is_some-bare c.self.inside.chain.entries _) ∙ held)
+    g.P.Inx.BasePtrInx.most g.P.Gen.BasePtrGen.greatest c.len.ensures.sound g.met.P.Inx.BasePtrInx.fits _ (rw c.node_at-z.ensures at c.neighbour-before.ensures)
+    c.detach.new.nodes (option_map g.P.Inx.BasePtrInx.number c.detach.new.root) c.detach.ensures.kept (rw c.node_at-z.ensures at c.detach.ensures.built) (rw c.node_at-z.ensures at c.detach.ensures.backs) (rw c.node_at-z.ensures at c.detach.ensures.account)
 
 pub invariant_of-self : goal.invariant_of-self
 invariant_of-self g c =
     let held = rw (← c.self.view_is) at c.requires in
-    (removal c.self.inside.chain (option_map g.P.Inx.PtrInx.number c.self.inside.root) _ c.self.invariant (sym (is_some-bare c.self.inside.chain.entries _) ∙ held)
-    g.P.Inx.PtrInx.most g.P.Gen.PtrGen.greatest c.len.ensures.sound g.met.P.Inx.PtrInx.fits _ (rw c.node_at-z.ensures at c.neighbour-before.ensures)
-    c.detach.new.nodes (option_map g.P.Inx.PtrInx.number c.detach.new.root) c.detach.ensures.kept (rw c.node_at-z.ensures at c.detach.ensures.built) (rw c.node_at-z.ensures at c.detach.ensures.backs) (rw c.node_at-z.ensures at c.detach.ensures.account)
-    c.remove_entry.new.self g.P.Gen.PtrGen.number (allowed_value c.remove_entry.result) (allowed_value c.item_taken.result) c.remove_entry.ensures.value c.remove_entry.ensures.removed c.item_taken.ensures.value).laid
+    (removal c.self.inside.chain (option_map g.P.Inx.BasePtrInx.number c.self.inside.root) _ c.self.invariant (sym (is_some-bare c.self.inside.chain.entries _) ∙ held)
+    g.P.Inx.BasePtrInx.most g.P.Gen.BasePtrGen.greatest c.len.ensures.sound g.met.P.Inx.BasePtrInx.fits _ (rw c.node_at-z.ensures at c.neighbour-before.ensures)
+    c.detach.new.nodes (option_map g.P.Inx.BasePtrInx.number c.detach.new.root) c.detach.ensures.kept (rw c.node_at-z.ensures at c.detach.ensures.built) (rw c.node_at-z.ensures at c.detach.ensures.backs) (rw c.node_at-z.ensures at c.detach.ensures.account)
+    c.remove_entry.new.self g.P.Gen.BasePtrGen.number (allowed_value c.remove_entry.result) (allowed_value c.item_taken.result) c.remove_entry.ensures.value c.remove_entry.ensures.removed c.item_taken.ensures.value).laid
 
 pub returns : goal.returns
 returns g c =
     let held = rw (← c.self.view_is) at c.requires in
-    let r = removal c.self.inside.chain (option_map g.P.Inx.PtrInx.number c.self.inside.root) _ c.self.invariant (sym (is_some-bare c.self.inside.chain.entries _) ∙ held)
-    g.P.Inx.PtrInx.most g.P.Gen.PtrGen.greatest c.len.ensures.sound g.met.P.Inx.PtrInx.fits _ (rw c.node_at-z.ensures at c.neighbour-before.ensures)
-    c.detach.new.nodes (option_map g.P.Inx.PtrInx.number c.detach.new.root) c.detach.ensures.kept (rw c.node_at-z.ensures at c.detach.ensures.built) (rw c.node_at-z.ensures at c.detach.ensures.backs) (rw c.node_at-z.ensures at c.detach.ensures.account)
-    c.remove_entry.new.self g.P.Gen.PtrGen.number (allowed_value c.remove_entry.result) (allowed_value c.item_taken.result) c.remove_entry.ensures.value c.remove_entry.ensures.removed c.item_taken.ensures.value in
+    let r = removal c.self.inside.chain (option_map g.P.Inx.BasePtrInx.number c.self.inside.root) _ c.self.invariant (sym (is_some-bare c.self.inside.chain.entries _) ∙ held)
+    g.P.Inx.BasePtrInx.most g.P.Gen.BasePtrGen.greatest c.len.ensures.sound g.met.P.Inx.BasePtrInx.fits _ (rw c.node_at-z.ensures at c.neighbour-before.ensures)
+    c.detach.new.nodes (option_map g.P.Inx.BasePtrInx.number c.detach.new.root) c.detach.ensures.kept (rw c.node_at-z.ensures at c.detach.ensures.built) (rw c.node_at-z.ensures at c.detach.ensures.backs) (rw c.node_at-z.ensures at c.detach.ensures.account)
+    c.remove_entry.new.self g.P.Gen.BasePtrGen.number (allowed_value c.remove_entry.result) (allowed_value c.item_taken.result) c.remove_entry.ensures.value c.remove_entry.ensures.removed c.item_taken.ensures.value in
     record {
       value = rw (← c.self.view_is) r.value;
       overflow = search rules;

@@ -10,4 +10,4 @@ invariant_of-self g c = IsLaidOut-entries c.self.inside.chain c.set_generation.n
 pub returns : goal.returns
 returns g c =
     let root = c.self.inside.root in
-    rw (← c.self.view_is) (ap (λ (c : Chain _). tree_of c (option_map g.P.Inx.PtrInx.number root)) c.set_generation.ensures)
+    rw (← c.self.view_is) (ap (λ (c : Chain _). tree_of c (option_map g.P.Inx.BasePtrInx.number root)) c.set_generation.ensures)

@@ -15,4 +15,4 @@ pub returns-clause-ok : goal.returns-clause-ok
 returns-clause-ok g c =
     let root = c.self.inside.root in
     let r = c.set_max_capacity in
-    rw (← c.self.view_is) (on_ok r.result _ _ r.ensures.ok (λ e. ap (λ (c : Chain _). tree_of c (option_map g.P.Inx.PtrInx.number root)) e))
+    rw (← c.self.view_is) (on_ok r.result _ _ r.ensures.ok (λ e. ap (λ (c : Chain _). tree_of c (option_map g.P.Inx.BasePtrInx.number root)) e))

@@ -6,12 +6,12 @@ use Rattle.ord_tree.proofs.tree.OrdTree.try_clone_from_with.Goals as goal
 
 pub invariant_of-self : goal.invariant_of-self
 invariant_of-self g c =
-    laid-cloned g.P.Ptr.numbers _ (λ m. m.map) _ (λ m. m.f) (λ m p u r n called. called) _
+    laid-cloned g.P.BasePtr.numbers _ (λ m. m.map) _ (λ m. m.f) (λ m p u r n called. called) _
     c.source.inside.chain c.self.inside.chain c.clone_by-cloned.new.self _ _ c.len.ensures.sound _ c.source.invariant c.in-Ok.ensures.ok
 
 pub returns-in-Ok-clause-ok : goal.returns-in-Ok-clause-ok
 returns-in-Ok-clause-ok g c =
-    clone-told g.P.Ptr.numbers _ (λ m. m.map) _ (λ m. m.f) (λ m p u r n called. called) _
+    clone-told g.P.BasePtr.numbers _ (λ m. m.map) _ (λ m. m.f) (λ m p u r n called. called) _
     c.source.inside.chain c.self.inside.chain c.clone_by-cloned.new.self _ _ _ _ c.source.view_is c.self.view_is _ _ c.len.ensures.sound c.source.invariant c.clone_by-cloned.result c.clone_by-cloned.ensures.ok
 
 pub returns-in-Ok-clause-beyond : goal.returns-in-Ok-clause-beyond
@@ -30,7 +30,7 @@ returns-then-is_empty-clause-memory g c = λ is.
         rw (← c.self.view_is, ← c.source.view_is, greatest_index-bare c.source.inside.chain.entries) kept.0,
         kept-tree c.self.inside.chain c.clone_by-cloned.new.self _ c.self.invariant kept.1 (sym c.is_empty.ensures ∙ c.if-is_empty.true) ∙ c.self.view_is,
       )
-      | inr refused ↦ inr (refused-tree g.P.Ptr.numbers _ (λ m. m.map) _ (λ m. m.f) (λ m p u r n called. called) _
+      | inr refused ↦ inr (refused-tree g.P.BasePtr.numbers _ (λ m. m.map) _ (λ m. m.f) (λ m p u r n called. called) _
           c.source.inside.chain c.self.inside.chain c.clone_by-cloned.new.self _ _ _ _ c.source.view_is c.self.view_is refused)
     ]
 
@@ -39,7 +39,7 @@ returns-else-is_empty-clause-memory g c = λ is.
     elim (c.clone_by-cloned.ensures.memory is) [
       | inl kept ↦ inl (
         rw (← c.self.view_is, ← c.source.view_is, greatest_index-bare c.source.inside.chain.entries) kept.0,
-        ap (λ (d : Chain _). tree_of d (option_map g.P.Inx.PtrInx.number c.self.inside.root)) kept.1 ∙ c.self.view_is,
+        ap (λ (d : Chain _). tree_of d (option_map g.P.Inx.BasePtrInx.number c.self.inside.root)) kept.1 ∙ c.self.view_is,
       )
       | inr refused ↦ absurd (let empty = ap (λ (d : Chain _). d.entries) refused.after in let some = sym c.is_empty.ensures ∙ c.if-is_empty.false in let bad = rw empty at some in false≢true (sym bad))
     ]

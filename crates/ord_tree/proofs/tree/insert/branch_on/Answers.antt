@@ -6,7 +6,7 @@ use Rattle.ord_tree.proofs.tree.insert.branch_on.Goals as goal
 
 pub returns-then-is_none : goal.returns-then-is_none
 returns-then-is_none g c = λ root s laid distinct.
-    let number = g.P.Inx.PtrInx.number in
+    let number = g.P.Inx.BasePtrInx.number in
     let child_is = sym (child-read number c.args.side c.links-links.result c.child.result c.child.ensures) in
     let within = within-occupied c.args.chain.now.entries (number c.args.i) c.requires in
     record {
@@ -17,7 +17,7 @@ returns-then-is_none g c = λ root s laid distinct.
 
 pub returns-in_default : goal.returns-in_default
 returns-in_default g c = λ root s laid distinct.
-    let number = g.P.Inx.PtrInx.number in
+    let number = g.P.Inx.BasePtrInx.number in
     let entries = c.args.chain.now.entries in
     let child_is = sym (child-read number c.args.side c.links-links.result c.child.result c.child.ensures) in
     let within = within-occupied entries (number c.args.i) c.requires in
@@ -30,7 +30,7 @@ returns-in_default g c = λ root s laid distinct.
 
 pub returns : goal.returns
 returns g c = λ root s laid distinct.
-    let number = g.P.Inx.PtrInx.number in
+    let number = g.P.Inx.BasePtrInx.number in
     let entries = c.args.chain.now.entries in
     let child_is = sym (child-read number c.args.side c.links-links.result c.child.result c.child.ensures) in
     let within = within-occupied entries (number c.args.i) c.requires in

@@ -6,7 +6,7 @@ use Rattle.ord_tree.proofs.tree.moving.branch_across.Goals as goal
 
 pub unwrap-parent-requires : goal.unwrap-parent-requires
 unwrap-parent-requires g c =
-    let number = g.P.Inx.PtrInx.number in
+    let number = g.P.Inx.BasePtrInx.number in
     let child_is = sym (child-read number c.args.side c.links-links.result c.child.result c.child.ensures) in
     let child = some_in c.child.result c.if-is_none.ensures in
     let aside = c.requires.aside.2 in
@@ -16,7 +16,7 @@ unwrap-parent-requires g c =
 
 pub returns : goal.returns
 returns g c = λ root order aside.
-    let number = g.P.Inx.PtrInx.number in
+    let number = g.P.Inx.BasePtrInx.number in
     let child_is = sym (child-read number c.args.side c.links-links.result c.child.result c.child.ensures) in
     let child = some_in c.child.result c.if-is_none.ensures in
     let bud = next_bud (slots_of c.args.chain.now) root aside.shape order aside.held aside.listed aside.once (number c.args.y) aside.within

@@ -3,10 +3,10 @@ use Rattle.triple_ord.proofs.arena.SimpleOrdArena.clone_from_arena.Goals as goal
 
 pub returns-clause-ok : goal.returns-clause-ok
 returns-clause-ok g c =
-    let sound : IsSound g.P.Inx.PtrInx.most g.P.Gen.PtrGen.greatest c.source.inside.tree.list = rw c.source.view_is c.len.ensures.sound in
+    let sound : IsSound g.P.Inx.BasePtrInx.most g.P.Gen.BasePtrGen.greatest c.source.inside.tree.list = rw c.source.view_is c.len.ensures.sound in
     rw (← c.self.view_is, ← c.source.view_is)
     (MatchResult-weaker c.try_clone_from_with.result c.try_clone_from_with.ensures.ok
-    (λ done. clone-cloned g.P.Ptr.numbers _ (λ f p u x h called. c.requires.clones u.now x (search rules)) _ _ _
+    (λ done. clone-cloned g.P.BasePtr.numbers _ (λ f p u x h called. c.requires.clones u.now x (search rules)) _ _ _
     c.source.inside.tree sound _ _) (λ e none. tt))
 
 pub returns-clause-found : goal.returns-clause-found
@@ -16,5 +16,5 @@ pub returns-clause-memory : goal.returns-clause-memory
 returns-clause-memory g c = λ is. rw (← c.self.view_is, ← c.source.view_is)
     (elim (c.try_clone_from_with.ensures.memory is) [
       | inl kept ↦ inl kept
-      | inr refused ↦ inr (clone-refused_clone g.P.Ptr.numbers _ _ c.source.inside.tree c.self.inside.tree c.try_clone_from_with.new.self refused)
+      | inr refused ↦ inr (clone-refused_clone g.P.BasePtr.numbers _ _ c.source.inside.tree c.self.inside.tree c.try_clone_from_with.new.self refused)
     ])

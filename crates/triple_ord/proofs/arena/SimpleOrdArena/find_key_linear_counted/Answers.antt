@@ -6,7 +6,7 @@ returns-clause-found g c =
     let found = rw c.step_along-near.ensures.tree at c.descend_by_key-found.ensures.found in
     let visits = c.descend_by_key-found.new.probe.visits - c.step_along-near.new.probe.visits in
     rw (← c.self.view_is, ← c.new-probe.ensures.tree, c.visits.ensures, c.equal_alone.ensures)
-    (finds_key-similar g.T.SimpleOrdItem.key_of g.T.Key.Ord.cmp _ _ _ g.P.Ptr.numbers _
+    (finds_key-similar g.T.SimpleOrdItem.key_of g.T.Key.Ord.cmp _ _ _ g.P.BasePtr.numbers _
     (FindsSimilar-more g.T.SimpleOrdItem.key_of g.T.Key.Ord.cmp _ _ _ visits _ (omega arith) found))
 
 pub returns-clause-visits : goal.returns-clause-visits

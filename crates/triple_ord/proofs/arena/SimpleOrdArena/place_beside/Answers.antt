@@ -3,12 +3,12 @@ use Rattle.triple_ord.proofs.arena.SimpleOrdArena.place_beside.Goals as goal
 
 pub returns-in-Equal : goal.returns-in-Equal
 returns-in-Equal g c =
-    let there = sym c.get_inx.ensures ∙ ap (option_map (λ e. (g.P.Gen.PtrGen.number e.0, e.1.now))) c.in_ok-generation.was in
+    let there = sym c.get_inx.ensures ∙ ap (option_map (λ e. (g.P.Gen.BasePtrGen.number e.0, e.1.now))) c.in_ok-generation.was in
     rw c.in-Equal.is
-    (beside-over g.P.Ptr.numbers g.T.SimpleOrdItem.key_of g.T.Key.Ord.cmp c.args.self.now c.len.ensures.sound.distinct c._from_raw-p.result _ _ _ c._from_raw-p.ensures there)
+    (beside-over g.P.BasePtr.numbers g.T.SimpleOrdItem.key_of g.T.Key.Ord.cmp c.args.self.now c.len.ensures.sound.distinct c._from_raw-p.result _ _ _ c._from_raw-p.ensures there)
 
 pub returns-in_default : goal.returns-in_default
 returns-in_default g c =
-    let there = sym c.get_inx.ensures ∙ ap (option_map (λ e. (g.P.Gen.PtrGen.number e.0, e.1.now))) c.in_ok-generation.was in
-    beside-put g.P.Ptr.numbers g.T.SimpleOrdItem.key_of g.T.Key.Ord.cmp c.args.self.now c.len.ensures.sound.distinct c._from_raw-p.result _ _ _ c._from_raw-p.ensures there
+    let there = sym c.get_inx.ensures ∙ ap (option_map (λ e. (g.P.Gen.BasePtrGen.number e.0, e.1.now))) c.in_ok-generation.was in
+    beside-put g.P.BasePtr.numbers g.T.SimpleOrdItem.key_of g.T.Key.Ord.cmp c.args.self.now c.len.ensures.sound.distinct c._from_raw-p.result _ _ _ c._from_raw-p.ensures there
     c.args.direction c.in_default.not-Equal

@@ -7,4 +7,4 @@ returns-in_err-make_room-in-New-clause-refused g c =
     let was : c.make_room.result ≡ Err c.in_err-make_room-in-New.field-0.0 = c.in_err-make_room-in-New.was in
     let lacks = rw was at c.make_room.ensures.refused in
     err-and c.from_residual-in_err-make_room-in-New.result c.from_residual-in_err-make_room-in-New.ensures.1
-    (λ e same. new-refused g.P.Ptr.numbers g.T.SimpleOrdItem.key_of g.T.Key.Ord.cmp g.P.Inx.PtrInx.number reallocating g.P.Inx.PtrInx.most c.args.self.now _ _ _ found e (rw same lacks))
+    (λ e same. new-refused g.P.BasePtr.numbers g.T.SimpleOrdItem.key_of g.T.Key.Ord.cmp g.P.Inx.BasePtrInx.number reallocating g.P.Inx.BasePtrInx.most c.args.self.now _ _ _ found e (rw same lacks))

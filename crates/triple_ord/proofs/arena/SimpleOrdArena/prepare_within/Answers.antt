@@ -5,5 +5,5 @@ pub returns-in_default-clause-refused : goal.returns-in_default-clause-refused
 returns-in_default-clause-refused g c =
     let found = rw c.in-New.is at c.in_ok-place.ensures.place in
     let none : c.next_pointer.result ≡ None = c.in_default.is in
-    new-refused g.P.Ptr.numbers g.T.SimpleOrdItem.key_of g.T.Key.Ord.cmp g.P.Inx.PtrInx.number within g.P.Inx.PtrInx.most c.args.self.now _ _ _ found NotWithinCapacity
-    (full _ _ c.args.self.now.list c.len.ensures.sound (sym c.next_pointer.ensures.index ∙ ap (option_map (λ p. (g.P.Ptr.numbers p).0)) none))
+    new-refused g.P.BasePtr.numbers g.T.SimpleOrdItem.key_of g.T.Key.Ord.cmp g.P.Inx.BasePtrInx.number within g.P.Inx.BasePtrInx.most c.args.self.now _ _ _ found NotWithinCapacity
+    (full _ _ c.args.self.now.list c.len.ensures.sound (sym c.next_pointer.ensures.index ∙ ap (option_map (λ p. (g.P.BasePtr.numbers p).0)) none))

@@ -5,17 +5,17 @@ use Rattle.triple_ord.proofs.arena.SimpleOrdArena.rekey_counted.Goals as goal
 
 pub go_beside-requires-clause-entry : goal.go_beside-requires-clause-entry
 go_beside-requires-clause-entry g c =
-    can_stay g.P.Ptr.numbers g.T.SimpleOrdItem.key_of g.T.Key.Ord.cmp c.args.self.now c.replace-before.new.self c.args.self.now c.len.ensures.sound.distinct (g.P.Ptr.numbers c.args.p) c.args.t
+    can_stay g.P.BasePtr.numbers g.T.SimpleOrdItem.key_of g.T.Key.Ord.cmp c.args.self.now c.replace-before.new.self c.args.self.now c.len.ensures.sound.distinct (g.P.BasePtr.numbers c.args.p) c.args.t
     (sym c.if-not-contains.ensures) c.place_around-found.result.1 (rw c.inx.ensures at c.replace-before.ensures.after)
 
 pub go_beside-requires-clause-place : goal.go_beside-requires-clause-place
 go_beside-requires-clause-place g c =
-    can_go g.P.Ptr.numbers g.T.SimpleOrdItem.key_of g.T.Key.Ord.cmp c.args.self.now c.replace-before.new.self c.args.self.now c.len.ensures.sound.distinct (g.P.Ptr.numbers c.args.p) c.args.t
+    can_go g.P.BasePtr.numbers g.T.SimpleOrdItem.key_of g.T.Key.Ord.cmp c.args.self.now c.replace-before.new.self c.args.self.now c.len.ensures.sound.distinct (g.P.BasePtr.numbers c.args.p) c.args.t
     (sym c.if-not-contains.ensures) c.place_around-found.result.1 (rw c.inx.ensures at c.replace-before.ensures.after) c.place_around-found.result.0 (rw c.key.ensures at c.place_around-found.ensures.found)
 
 pub returns-clause-rekeys : goal.returns-clause-rekeys
 returns-clause-rekeys g c =
-    rekeyed_by g.P.Ptr.numbers g.T.SimpleOrdItem.key_of g.T.Key.Ord.cmp c.args.self.now c.replace-before.new.self c.go_beside.new.self c.len.ensures.sound.distinct (g.P.Ptr.numbers c.args.p) c.args.t
+    rekeyed_by g.P.BasePtr.numbers g.T.SimpleOrdItem.key_of g.T.Key.Ord.cmp c.args.self.now c.replace-before.new.self c.go_beside.new.self c.len.ensures.sound.distinct (g.P.BasePtr.numbers c.args.p) c.args.t
     (sym c.if-not-contains.ensures) c.place_around-found.result.1 (rw c.inx.ensures at c.replace-before.ensures.after) c.place_around-found.result.0 (rw c.key.ensures at c.place_around-found.ensures.found)
     c.go_beside.ensures.stays c.go_beside.ensures.list c.go_beside.ensures.shape
 

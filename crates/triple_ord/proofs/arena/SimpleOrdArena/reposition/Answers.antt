@@ -5,13 +5,13 @@ use Rattle.triple_ord.proofs.arena.SimpleOrdArena.reposition.Goals as goal
 
 pub go_beside-requires-clause-place : goal.go_beside-requires-clause-place
 go_beside-requires-clause-place g c =
-    can_go g.P.Ptr.numbers g.T.SimpleOrdItem.key_of g.T.Key.Ord.cmp c.args.self.now c.args.self.now c.args.self.now c.len.ensures.sound.distinct (g.P.Ptr.numbers c.args.p) c.in-Some.item.now
-    (rw (sym c.in-Some.ensures) refl) c.place_around-found.result.1 (own_item c.args.self.now (g.P.Ptr.numbers c.args.p) c.in-Some.item.now (sym c.in-Some.ensures)) c.place_around-found.result.0
+    can_go g.P.BasePtr.numbers g.T.SimpleOrdItem.key_of g.T.Key.Ord.cmp c.args.self.now c.args.self.now c.args.self.now c.len.ensures.sound.distinct (g.P.BasePtr.numbers c.args.p) c.in-Some.item.now
+    (rw (sym c.in-Some.ensures) refl) c.place_around-found.result.1 (own_item c.args.self.now (g.P.BasePtr.numbers c.args.p) c.in-Some.item.now (sym c.in-Some.ensures)) c.place_around-found.result.0
     (rw c.key.ensures at c.place_around-found.ensures.found)
 
 pub returns-clause-rekeys : goal.returns-clause-rekeys
-returns-clause-rekeys g c = rw (sym c.in-Some.ensures) (rekeyed_by g.P.Ptr.numbers g.T.SimpleOrdItem.key_of g.T.Key.Ord.cmp c.args.self.now c.args.self.now c.go_beside.new.self c.len.ensures.sound.distinct (g.P.Ptr.numbers c.args.p) c.in-Some.item.now
-    (rw (sym c.in-Some.ensures) refl) c.place_around-found.result.1 (own_item c.args.self.now (g.P.Ptr.numbers c.args.p) c.in-Some.item.now (sym c.in-Some.ensures)) c.place_around-found.result.0
+returns-clause-rekeys g c = rw (sym c.in-Some.ensures) (rekeyed_by g.P.BasePtr.numbers g.T.SimpleOrdItem.key_of g.T.Key.Ord.cmp c.args.self.now c.args.self.now c.go_beside.new.self c.len.ensures.sound.distinct (g.P.BasePtr.numbers c.args.p) c.in-Some.item.now
+    (rw (sym c.in-Some.ensures) refl) c.place_around-found.result.1 (own_item c.args.self.now (g.P.BasePtr.numbers c.args.p) c.in-Some.item.now (sym c.in-Some.ensures)) c.place_around-found.result.0
     (rw c.key.ensures at c.place_around-found.ensures.found) c.go_beside.ensures.stays c.go_beside.ensures.list c.go_beside.ensures.shape).rekeys
 
 pub returns-clause-same : goal.returns-clause-same

@@ -14,7 +14,7 @@ returns-then-is_some-clause-visits g c =
 
 pub returns-then-is_some-clause-near : goal.returns-then-is_some-clause-near
 returns-then-is_some-clause-near g c =
-    subst (λ (t : Tree g.row.T.Denot). IsNearHint g.T.SimpleOrdItem.key_of g.T.Key.Ord.cmp t.list.entries c.args.k.now (g.P.Inx.PtrInx.number c.args.p_init) c.args.num c.visits.result)
+    subst (λ (t : Tree g.row.T.Denot). IsNearHint g.T.SimpleOrdItem.key_of g.T.Key.Ord.cmp t.list.entries c.args.k.now (g.P.Inx.BasePtrInx.number c.args.p_init) c.args.num c.visits.result)
     (c.new-probe.ensures.tree ∙ c.self.view_is)
     (rw c.visits.ensures (settled-near _ _ _ _ _ _ _ _ c.step_along-near.ensures.near (sym c.is_some.ensures ∙ c.if-is_some.true)))
 
@@ -33,7 +33,7 @@ returns-clause-visits g c =
 
 pub returns-clause-near : goal.returns-clause-near
 returns-clause-near g c =
-    subst (λ (t : Tree g.row.T.Denot). IsNearHint g.T.SimpleOrdItem.key_of g.T.Key.Ord.cmp t.list.entries c.args.k.now (g.P.Inx.PtrInx.number c.args.p_init) c.args.num c.visits-2.result)
+    subst (λ (t : Tree g.row.T.Denot). IsNearHint g.T.SimpleOrdItem.key_of g.T.Key.Ord.cmp t.list.entries c.args.k.now (g.P.Inx.BasePtrInx.number c.args.p_init) c.args.num c.visits-2.result)
     (c.new-probe.ensures.tree ∙ c.self.view_is)
     (open-near _ _ _ _ _ _ _ _ _ c.step_along-near.ensures.near (sym c.is_some.ensures ∙ c.if-is_some.false))
 

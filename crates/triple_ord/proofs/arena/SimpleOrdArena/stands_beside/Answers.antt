@@ -6,7 +6,7 @@ use Rattle.triple_ord.proofs.arena.SimpleOrdArena.stands_beside.Goals as goal
 pub returns : goal.returns
 returns g c = λ yes apart unequal.
     let linked = sym (rw c.inx.ensures at c.in-Some.ensures.entry) in
-    let number = option_map g.P.Inx.PtrInx.number in
+    let number = option_map g.P.Inx.BasePtrInx.number in
     elim c.if-is_lt.branch [
       | then-is_lt w ↦
           let named = sym w.prev-neighbour.ensures.value ∙ ap number (sym w.neighbour-is) ∙ c.is_named.ensures.0 yes in

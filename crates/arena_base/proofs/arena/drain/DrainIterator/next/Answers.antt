@@ -7,7 +7,7 @@ unwrap-requires g c = ap is_some c.remove.ensures.value ∙ c.in_ok-at.ensures.t
 pub returns-in-Success : goal.returns-in-Success
 returns-in-Success g c =
     let arm = c.in-Success.ensures in let gone = rw arm.value at c.remove.ensures.removed in
-    let first = entries_rising-removed g.P.Gen.PtrGen.greatest c.args.self.now.arena.now (c.args.self.now.at + 1)
+    let first = entries_rising-removed g.P.Gen.BasePtrGen.greatest c.args.self.now.arena.now (c.args.self.now.at + 1)
     c.in_ok-at.ensures.entries.1 c.in_ok-at.ensures.next (sym c.remove.ensures.value ∙ arm.value) gone in
     record {
       steps = (refl, record { first = first; removed = gone; overflow = arm.overflow ∙ rw arm.value at c.remove.ensures.overflow });
@@ -17,7 +17,7 @@ returns-in-Success g c =
 pub returns-in-GenerationOverflow : goal.returns-in-GenerationOverflow
 returns-in-GenerationOverflow g c =
     let arm = c.in-GenerationOverflow.ensures in let gone = rw arm.value at c.remove.ensures.removed in
-    let first = entries_rising-removed g.P.Gen.PtrGen.greatest c.args.self.now.arena.now (c.args.self.now.at + 1)
+    let first = entries_rising-removed g.P.Gen.BasePtrGen.greatest c.args.self.now.arena.now (c.args.self.now.at + 1)
     c.in_ok-at.ensures.entries.1 c.in_ok-at.ensures.next (sym c.remove.ensures.value ∙ arm.value) gone in
     record {
       steps = (refl, record { first = first; removed = gone; overflow = arm.overflow ∙ rw arm.value at c.remove.ensures.overflow });

@@ -3,7 +3,7 @@ use Rattle.triple_ord.proofs.arena.iter.IterIterator.next.Goals as goal
 
 pub returns-in_err-entry-clause-steps : goal.returns-in_err-entry-clause-steps
 returns-in_err-entry-clause-steps g c =
-    let none : c.args.self.now ≡ [] = sym c.self.view_is ∙ rw c.in_ok-i.was (walk-end c.self.inside.arena.now.list.entries (g.P.Inx.PtrInx.number c.in_ok-i.i) c.in_err-entry.ensures) in
+    let none : c.args.self.now ≡ [] = sym c.self.view_is ∙ rw c.in_ok-i.was (walk-end c.self.inside.arena.now.list.entries (g.P.Inx.BasePtrInx.number c.in_ok-i.i) c.in_err-entry.ensures) in
     rw c.from_residual-in_err-entry.ensures (none, none)
 
 pub returns-clause-steps : goal.returns-clause-steps

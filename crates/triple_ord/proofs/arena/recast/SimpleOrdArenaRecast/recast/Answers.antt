@@ -10,7 +10,7 @@ loop-position-init g c = record { recast = []; split = refl; calls = refl; kept 
 pub returns-in_err-recast_at : goal.returns-in_err-recast_at
 returns-in_err-recast_at g c =
     let at = c.loop-position in let i = at.position + 1 in
-    let named : g.P.Inx.PtrInx.number c.unwrap-i.result ≡ i = rw c.unwrap-i.ensures at c.try_from_usize.ensures.value in
+    let named : g.P.Inx.BasePtrInx.number c.unwrap-i.result ≡ i = rw c.unwrap-i.ensures at c.try_from_usize.ensures.value in
     let within : i ≤ c.args.self.now.list.capacity = omega arith in
     let same : c.from_residual.result ≡ Err c.in_err-recast_at.field-0.0 = search rules in
     rw same (recast-failed _ _ _ _ c.len.ensures.sound _ i at.invariant within _ _ (rw named at c.in_err-recast_at.ensures))
@@ -18,7 +18,7 @@ returns-in_err-recast_at g c =
 pub loop-position-preserved : goal.loop-position-preserved
 loop-position-preserved g c =
     let at = c.loop-position in let i = at.position + 1 in
-    let named : g.P.Inx.PtrInx.number c.unwrap-i.result ≡ i = rw c.unwrap-i.ensures at c.try_from_usize.ensures.value in
+    let named : g.P.Inx.BasePtrInx.number c.unwrap-i.result ≡ i = rw c.unwrap-i.ensures at c.try_from_usize.ensures.value in
     let within : i ≤ c.args.self.now.list.capacity = omega arith in
     elim c.if-contains_inx.branch [
       | then-contains_inx+in_ok-recast_at w ↦

@@ -6,21 +6,21 @@ use Rattle.triple_ord.proofs.arena.rekey.SimpleOrdArena+P+OrdPair+K+V+A.rekey_pa
 pub go_beside-requires-clause-entry : goal.go_beside-requires-clause-entry
 go_beside-requires-clause-entry g c =
     let there = sym c.in-Some.ensures in
-    can_stay g.P.Ptr.numbers (λ pair. pair.0) g.K.Ord.cmp c.args.self.now c.replace_key-before.new.self c.args.self.now c.len.ensures.sound.distinct (g.P.Ptr.numbers c.args.p)
-    (c.args.k, c.in-Some._pair.now.1) (rw there refl) c.place_around-found.result.1 (rw (entry_of c.args.self.now (g.P.Ptr.numbers c.args.p) c.in-Some._pair.now there) at (rw c.inx.ensures at c.replace_key-before.ensures.after))
+    can_stay g.P.BasePtr.numbers (λ pair. pair.0) g.K.Ord.cmp c.args.self.now c.replace_key-before.new.self c.args.self.now c.len.ensures.sound.distinct (g.P.BasePtr.numbers c.args.p)
+    (c.args.k, c.in-Some._pair.now.1) (rw there refl) c.place_around-found.result.1 (rw (entry_of c.args.self.now (g.P.BasePtr.numbers c.args.p) c.in-Some._pair.now there) at (rw c.inx.ensures at c.replace_key-before.ensures.after))
 
 pub go_beside-requires-clause-place : goal.go_beside-requires-clause-place
 go_beside-requires-clause-place g c =
     let there = sym c.in-Some.ensures in
-    can_go g.P.Ptr.numbers (λ pair. pair.0) g.K.Ord.cmp c.args.self.now c.replace_key-before.new.self c.args.self.now c.len.ensures.sound.distinct (g.P.Ptr.numbers c.args.p)
-    (c.args.k, c.in-Some._pair.now.1) (rw there refl) c.place_around-found.result.1 (rw (entry_of c.args.self.now (g.P.Ptr.numbers c.args.p) c.in-Some._pair.now there) at (rw c.inx.ensures at c.replace_key-before.ensures.after))
+    can_go g.P.BasePtr.numbers (λ pair. pair.0) g.K.Ord.cmp c.args.self.now c.replace_key-before.new.self c.args.self.now c.len.ensures.sound.distinct (g.P.BasePtr.numbers c.args.p)
+    (c.args.k, c.in-Some._pair.now.1) (rw there refl) c.place_around-found.result.1 (rw (entry_of c.args.self.now (g.P.BasePtr.numbers c.args.p) c.in-Some._pair.now there) at (rw c.inx.ensures at c.replace_key-before.ensures.after))
     c.place_around-found.result.0 c.place_around-found.ensures.found
 
 pub returns-clause-rekeys : goal.returns-clause-rekeys
 returns-clause-rekeys g c =
     let there = sym c.in-Some.ensures in
-    rw there ((rekeyed_by g.P.Ptr.numbers (λ pair. pair.0) g.K.Ord.cmp c.args.self.now c.replace_key-before.new.self c.go_beside.new.self c.len.ensures.sound.distinct (g.P.Ptr.numbers c.args.p)
-    (c.args.k, c.in-Some._pair.now.1) (rw there refl) c.place_around-found.result.1 (rw (entry_of c.args.self.now (g.P.Ptr.numbers c.args.p) c.in-Some._pair.now there) at (rw c.inx.ensures at c.replace_key-before.ensures.after))
+    rw there ((rekeyed_by g.P.BasePtr.numbers (λ pair. pair.0) g.K.Ord.cmp c.args.self.now c.replace_key-before.new.self c.go_beside.new.self c.len.ensures.sound.distinct (g.P.BasePtr.numbers c.args.p)
+    (c.args.k, c.in-Some._pair.now.1) (rw there refl) c.place_around-found.result.1 (rw (entry_of c.args.self.now (g.P.BasePtr.numbers c.args.p) c.in-Some._pair.now there) at (rw c.inx.ensures at c.replace_key-before.ensures.after))
     c.place_around-found.result.0 c.place_around-found.ensures.found c.go_beside.ensures.stays c.go_beside.ensures.list c.go_beside.ensures.shape).rekeys)
 
 pub returns-clause-updates : goal.returns-clause-updates

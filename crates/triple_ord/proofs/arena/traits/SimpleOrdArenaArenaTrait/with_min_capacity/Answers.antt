@@ -3,6 +3,6 @@ use Rattle.triple_ord.proofs.arena.traits.SimpleOrdArenaArenaTrait.with_min_capa
 
 pub returns-clause-ok : goal.returns-clause-ok
 returns-clause-ok g c =
-    let none : Tree _ = record { list = new_chain g.P.Gen.PtrGen.greatest; shape = missing } in
+    let none : Tree _ = record { list = new_chain g.P.Gen.BasePtrGen.greatest; shape = missing } in
     IfOk-weaker c.with_min_capacity.result _ _
     (λ a is. content-capacity none a c.args.n (λ k above. refl) (ap (λ t. t.list) is)) c.with_min_capacity.ensures.ok

@@ -1,5 +1,5 @@
 use Rattle.arena_base.proofs.Words.{arith, common_steps}
-use Rattle.arena_base.proofs.ptr.pointers.P8Ptr._from_raw.Goals as goal
+use Rattle.arena_base.proofs.ptr.pointers.P8BasePtr._from_raw.Goals as goal
 
 pub returns : goal.returns
 returns c = grind (arith, common_steps)
