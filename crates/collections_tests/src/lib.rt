@@ -7,4 +7,6 @@ mod agendas;
 #[cfg(test)]
 mod order_books;
 #[cfg(test)]
+mod texts;
+#[cfg(test)]
 mod timelines;

@@ -1,9 +1,10 @@
 -- What a script answers, and what is written of it.
-use Rattle.std.specs.Prelude.{◌≡◌, ℕ, ◌+◌, ◌<◌, ◌≤◌, Bool, true, false, List, [], ◌++◌, length, map, codes, Option, Some, None}
+use Rattle.std.specs.Prelude.{◌≡◌, ℕ, ◌+◌, ◌<◌, ◌≤◌, ◌||◌, Bool, true, false, List, [], ◌++◌, length, map, codes, Option, Some, None, Result, is_err}
 use Rattle.std.specs.Io.KnownBytes.{Consumes, Appends}
 use Rattle.ord_script.specs.{Pairs.Pair, Pairs.PairReply, Pairs.reading, Pairs.beginning, Pairs.answers_equal, declared.fault.Fault.Fault}
 use Rattle.ord_script.specs.{Text.form_of, Text.reply_lines, Text.fault_line, declared.script_end.ScriptEnd.ScriptEnd, Devices.limit}
 use Rattle.ord_script.specs.Script.{Script, script_of}
+use Rattle.ord_script.specs.{Devices.WritesAll, declared.writing.WriteFailed.WriteFailed}
 use Rattle.ord_script.specs.declared.script_end.ScriptEnd.TheVariants as ends
 use Rattle.ord_machine.specs.Machine.{State, Runs}
 
@@ -67,11 +68,17 @@ status_of ends.Memory = 4
 status_of ends.ReadFailed = 5
 status_of ends.WriteFailed = 6
 
--- what such a program says of it, if anything
+-- the line that such a program writes to standard error, or nothing
 abbrev pub message_of : ScriptEnd → List ℕ
 message_of ends.Done = []
 message_of (ends.Fault line kind) = []
-message_of ends.TooLong = codes "ordrun: input too long"
-message_of ends.Memory = codes "ordrun: out of memory"
-message_of ends.ReadFailed = codes "ordrun: read failed"
-message_of ends.WriteFailed = codes "ordrun: write failed"
+message_of ends.TooLong = codes "ordrun: input too long\n"
+message_of ends.Memory = codes "ordrun: out of memory\n"
+message_of ends.ReadFailed = codes "ordrun: read failed\n"
+message_of ends.WriteFailed = codes "ordrun: write failed\n"
+
+-- The message was written, or a beginning of it where a write failed. A watched device has failed then, or before.
+pub record Reports (end : ScriptEnd) (old_failed new_failed : Bool) (contents contents' : Option (List ℕ)) : Type 0 where
+  pub wrote : Result (Unit {0}) WriteFailed
+  pub writes : WritesAll wrote contents contents' (message_of end)
+  pub failed : new_failed ≡ (old_failed || is_err wrote)

@@ -1,8 +1,11 @@
 //! How a script ends.
 ghost use Rattle.std.specs.Prelude.{◌≡◌};
-ghost use Rattle.ord_script.specs.Service.{status_of, message_of};
+ghost use Rattle.ord_script.specs.Service.{status_of, message_of, Reports};
 
 use crate::fault::FaultKind;
+use crate::watched::Watched;
+use crate::writing::write_all;
+use std::io::Write;
 
 /// How a script ended, and what was written.
 #[derive(Clone, Copy, Debug, PartialEq, Eq)]
@@ -37,16 +40,28 @@ impl ScriptEnd {
         }
     }
 
-    /// What such a program says on standard error; the empty text for nothing.
+    /// The line that such a program writes to standard error, or the empty text.
     pub fn message(&self) -> &'static str
         ensures { result.now ≡ message_of self.now }
     {
         match self {
             ScriptEnd::Done | ScriptEnd::Fault(_, _) => "",
-            ScriptEnd::TooLong => "ordrun: input too long",
-            ScriptEnd::Memory => "ordrun: out of memory",
-            ScriptEnd::ReadFailed => "ordrun: read failed",
-            ScriptEnd::WriteFailed => "ordrun: write failed",
+            ScriptEnd::TooLong => "ordrun: input too long\n",
+            ScriptEnd::Memory => "ordrun: out of memory\n",
+            ScriptEnd::ReadFailed => "ordrun: read failed\n",
+            ScriptEnd::WriteFailed => "ordrun: write failed\n",
         }
+    }
+
+    /// Writes the message of this end to standard error, or to what stands for it, and returns the exit status.
+    ///
+    /// If a write fails, the rest of the message is lost, and the status is the same.
+    pub fn report<E: Write>(&self, errors: &mut Watched<E>) -> u8
+        ensures status { result ≡ status_of self.now }
+        ensures message { Reports self.now errors.old.failed errors.new.failed
+            (E.contents errors.old.device) (E.contents errors.new.device) }
+    {
+        let _ = write_all(errors, self.message().as_bytes());
+        self.status()
     }
 }

@@ -1,5 +1,6 @@
 //! Scripts through `serve`, and runs of commands, as a program sees them.
 mod devices;
+mod ends;
 mod hostile;
 mod memory;
 mod runs;

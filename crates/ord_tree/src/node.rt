@@ -77,4 +77,24 @@ impl<P: BasePtr, T> SimpleOrdArenaNode<P, T> {
             Side::Greater => self.p_tree1 = kept(child),
         }
     }
+
+    /// Keeps another root of a side, another parent and another rank from now on.
+    pub(crate) fn relink(
+        &mut self,
+        side: Side,
+        child: Option<NodeInx<P::Inx>>,
+        back: Option<NodeInx<P::Inx>>,
+        rank: u8,
+    )
+        ensures links { links_in self.new
+            ≡ record (with_child_at side (option_map P.Inx.number child) (links_in self.old)) {
+              back = option_map P.Inx.number back;
+              rank = rank;
+            } }
+        ensures item { self.new.t ≡ self.old.t }
+    {
+        self.set_child(side, child);
+        self.p_back = kept(back);
+        self.rank = rank;
+    }
 }

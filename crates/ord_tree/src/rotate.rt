@@ -3,7 +3,7 @@
 ghost use Rattle.std.specs.Prelude.{◌≡◌, Option, Some, option_map};
 ghost use Rattle.ord_tree.specs.Rotate.{Site, IsRotated};
 
-use crate::nodes::{Nodes, hang, relink, replace_child};
+use crate::nodes::{Nodes, hang, replace_child};
 use crate::tree_links::Side;
 
 /// Lifts y, the child of z on a side, to the place of z. Each gets the rank that is given for it.
@@ -39,6 +39,6 @@ pub fn rotate<N: Nodes>(
     let inner = low.child(other);
     replace_child(nodes, root, high.back, z, Some(y));
     hang(nodes, inner, Some(z));
-    relink(nodes, z, side, inner, Some(y), rank_z);
-    relink(nodes, y, other, Some(z), high.back, rank_y);
+    nodes.relink(z, side, inner, Some(y), rank_z);
+    nodes.relink(y, other, Some(z), high.back, rank_y);
 }

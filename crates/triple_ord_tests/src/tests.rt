@@ -20,6 +20,7 @@ mod refusals;
 mod rekeying;
 mod removal;
 mod slots;
+mod texts;
 mod walks;
 
 use arena_base::{BasePtr, P0, P8, PN};

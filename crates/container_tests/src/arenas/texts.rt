@@ -47,21 +47,38 @@ fn texts_of_pointers(rt: HostRuntime) {
     assert!(rt; is_text(text_of_pointers(rt.alloc()), wanted));
 }
 
-/// The texts of refusals.
-fn text_of_refusals(alloc: Global) -> Option<String> {
-    let (a, b, c) = (
+/// The texts of the refusals of a change of the capacity.
+fn text_of_reallocations(alloc: Global) -> Option<String> {
+    let (beyond, memory) = (
         ReallocationError::BeyondMaxCapacity,
-        InsertionError::NotWithinCapacity,
-        InsertionError::AllocError,
+        ReallocationError::AllocError,
     );
-    format!(in alloc; "{a}; {b}; {c}; {MaxCapacityReductionError}").ok()
+    format!(in alloc; "{beyond}, {beyond:?}; {memory}, {memory:?}").ok()
 }
 
-/// What they are.
-const REFUSALS: &str =
-    "the capacity would go beyond its maximum; no room within the capacity; out of memory; the maximum is below the capacity";
+/// The texts of the refusals of an insertion.
+fn text_of_insertions(alloc: Global) -> Option<String> {
+    let (within, beyond, memory) = (
+        InsertionError::NotWithinCapacity,
+        InsertionError::BeyondMaxCapacity,
+        InsertionError::AllocError,
+    );
+    format!(in alloc; "{within}, {within:?}; {beyond}, {beyond:?}; {memory}, {memory:?}").ok()
+}
+
+/// The texts of the refusal of a maximum.
+fn text_of_reductions(alloc: Global) -> Option<String> {
+    format!(in alloc; "{MaxCapacityReductionError}, {MaxCapacityReductionError:?}").ok()
+}
 
 #[test]
 fn texts_of_refusals(rt: HostRuntime) {
-    assert!(rt; is_text(text_of_refusals(rt.alloc()), REFUSALS));
+    let reallocations =
+        "the capacity would go beyond its maximum, BeyondMaxCapacity; out of memory, AllocError";
+    assert!(rt; is_text(text_of_reallocations(rt.alloc()), reallocations));
+    let insertions =
+        "no room within the capacity, NotWithinCapacity; no room within the maximum capacity, BeyondMaxCapacity; out of memory, AllocError";
+    assert!(rt; is_text(text_of_insertions(rt.alloc()), insertions));
+    let reductions = "the maximum is below the capacity, MaxCapacityReductionError";
+    assert!(rt; is_text(text_of_reductions(rt.alloc()), reductions));
 }

@@ -63,26 +63,28 @@ fn changes(nodes: &mut [Node], a: &Keys) -> (u64, u64) {
     changes
 }
 
-/// A key that isn't there is inserted. One that is there moves to another key that isn't, or is removed. Returns how many entries may get
-/// another parent.
-fn step(a: &mut Keys, key: u64, other: u64, account: &mut Account) -> u64 {
+/// A key that isn't there is inserted. One that is there moves to the other key, if there is one that is vacant, or is removed. Returns
+/// how many entries may get another parent.
+fn step(a: &mut Keys, key: u64, other: Option<u64>, account: &mut Account) -> u64 {
     let Some(p) = a.find_key(&key) else {
         let _ = a.insert(OrdPair::new(key, ()));
         account.insertions = account.insertions.wrapping_add(1);
         return 5;
     };
-    if other % 3 != 0 && a.find_key(&other).is_none() {
-        let _ = a.rekey(p, OrdPair::new(other, ()));
-        account.moves = account.moves.wrapping_add(1);
-        return 15;
+    if let Some(other) = other {
+        if other % 3 != 0 && a.find_key(&other).is_none() {
+            let _ = a.rekey(p, OrdPair::new(other, ()));
+            account.moves = account.moves.wrapping_add(1);
+            return 15;
+        }
     }
     let _ = a.remove(p);
     account.removals = account.removals.wrapping_add(1);
     9
 }
 
-/// A run over random keys.
-fn run(alloc: Global, steps: u64) -> Account {
+/// A run over random keys, with moves or of insertions and removals alone.
+fn run(alloc: Global, steps: u64, has_moves: bool) -> Account {
     let mut a = Keys::new(alloc);
     let mut account = Account {
         insertions: 0,
@@ -95,9 +97,14 @@ fn run(alloc: Global, steps: u64) -> Account {
     let mut seed = 1;
     for _ in 0..steps {
         seed = next(seed);
-        let (key, other) = (seed >> 33, seed >> 48);
         let most = u64::from(MOST);
-        let most_parents = step(&mut a, key % most, other % most, &mut account);
+        let key = (seed >> 33) % most;
+        let other = if has_moves {
+            Some((seed >> 48) % most)
+        } else {
+            None
+        };
+        let most_parents = step(&mut a, key, other, &mut account);
         let (ranks, parents) = changes(&mut nodes, &a);
         account.changes = account.changes.wrapping_add(ranks);
         account.is_within = account.is_within && parents <= most_parents;
@@ -116,10 +123,17 @@ fn allowed(account: &Account) -> u64 {
 
 #[test]
 fn rank_changes_stay_within_the_amortized_bound(rt: HostRuntime) {
-    let account = run(rt.alloc(), 100_000);
-    let changes = account.insertions.wrapping_add(account.removals);
-    assert!(rt; changes.wrapping_add(account.moves) == 100_000 && account.moves > 10_000);
+    let account = run(rt.alloc(), 100_000, false);
+    assert!(rt; account.insertions.wrapping_add(account.removals) == 100_000);
     assert!(rt; account.is_within && account.changes <= allowed(&account));
     // Random runs need less than a quarter of the bound.
+    assert!(rt; account.changes.wrapping_mul(4) < allowed(&account));
+}
+
+#[test]
+fn moves_stay_within_the_amortized_bound(rt: HostRuntime) {
+    let account = run(rt.alloc(), 100_000, true);
+    assert!(rt; account.moves > 10_000);
+    assert!(rt; account.is_within && account.changes <= allowed(&account));
     assert!(rt; account.changes.wrapping_mul(4) < allowed(&account));
 }

@@ -22,7 +22,7 @@ returns-clause-rotated g c = λ site.
     let low = as_numbers number c.links-low.result in
     let high = as_numbers number c.links-high.result in
     let inner_is = child_other-read number side _ c.other-other.ensures c.links-low.result c.child-inner.result c.child-inner.ensures in
-    IsRotated-written (g.N.Nodes.at c.args.nodes.now) (g.N.Nodes.at c.replace_child.new.nodes) (g.N.Nodes.at c.hang.new.nodes) (g.N.Nodes.at c.relink.new.nodes) (g.N.Nodes.at c.relink-2.new.nodes)
+    IsRotated-written (g.N.Nodes.at c.args.nodes.now) (g.N.Nodes.at c.replace_child.new.nodes) (g.N.Nodes.at c.hang.new.nodes) (g.N.Nodes.at c.relink.new.self) (g.N.Nodes.at c.relink-2.new.self)
     (option_map number c.args.root.now) (option_map number c.replace_child.new.root) side (number c.args.z) (number c.args.y) c.args.rank_z c.args.rank_y low high
     site c.links-low.ensures c.links-high.ensures
     (let r = c.replace_child.ensures in record { at_top = r.at_top; below = r.below; here = r.here; elsewhere = r.elsewhere; backs = r.backs })

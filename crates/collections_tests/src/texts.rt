@@ -1,0 +1,50 @@
+//! The refusals of orders as they are printed.
+use order_book::{PlacingError, ReplacingError};
+use std::alloc::Global;
+
+/// The texts of a refusal.
+fn text_of_placing(alloc: Global, refusal: PlacingError) -> Option<String> {
+    format!(in alloc; "{refusal}, {refusal:?}").ok()
+}
+
+fn text_of_replacing(alloc: Global, refusal: ReplacingError) -> Option<String> {
+    format!(in alloc; "{refusal}, {refusal:?}").ok()
+}
+
+/// Whether there was memory for a text, and it is this one.
+fn is_text(text: Option<String>, wanted: &str) -> bool {
+    match text {
+        Some(text) => text.as_str() == wanted,
+        None => false,
+    }
+}
+
+#[test]
+fn texts_of_refused_orders(rt: HostRuntime) {
+    let texts = [
+        (PlacingError::NoQuantity, "an order for nothing, NoQuantity"),
+        (
+            PlacingError::BeyondMaxCapacity,
+            "as many orders as there can be, BeyondMaxCapacity",
+        ),
+        (PlacingError::AllocError, "out of memory, AllocError"),
+    ];
+    for (refusal, wanted) in &texts {
+        assert!(rt; is_text(text_of_placing(rt.alloc(), *refusal), wanted));
+    }
+}
+
+#[test]
+fn texts_of_refused_replacements(rt: HostRuntime) {
+    let texts = [
+        (
+            ReplacingError::NoQuantity,
+            "an order for nothing, NoQuantity",
+        ),
+        (ReplacingError::NoOrder, "no such order, NoOrder"),
+        (ReplacingError::AllocError, "out of memory, AllocError"),
+    ];
+    for (refusal, wanted) in &texts {
+        assert!(rt; is_text(text_of_replacing(rt.alloc(), *refusal), wanted));
+    }
+}
