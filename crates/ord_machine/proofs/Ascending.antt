@@ -5,9 +5,9 @@ use Rattle.std.specs.declared.cmp.Ordering.TheVariants.{Less, Equal, Greater}
 use Rattle.std.specs.{Cmp.IsTotalOrder, Cmp.alike_right, List.Sorted.IsStrictlySortedBy, declared.cmp.Ordering.Ordering}
 use Rattle.std.specs.{Ordering.ordering_reverse, List.AllByRecursion}
 use Rattle.chain_base.specs.Chain.{Entry, Chain, IsDistinct, entry_at, without, with_item_among}
-use Rattle.triple_ord.specs.{Gap.first_of, Gap.last_of, ClosureSearch.Shown, Search.order_to, Place.at_key}
+use Rattle.triple_ord.specs.{Gap.first_of, Gap.last_of, Search.order_to, Place.at_key}
 use Rattle.triple_ord.proofs.OrderLaws.{recursion-map}
-use Rattle.ord_machine.specs.{Ascending.KeepsApart, Ascending.AscendingKeysLaw, Machine.Reading, Machine.State, Machine.Runs}
+use Rattle.ord_machine.specs.{Ascending.KeepsApart, Ascending.AscendingKeysLaw, Machine.Reading, Machine.Calls, Machine.State, Machine.Runs}
 use Rattle.ord_machine.specs.{declared.command.Command.Command, declared.reply.Reply.Reply}
 use Rattle.ord_machine.proofs.Outcomes.{keys-renewed, Change, stays, comes, writes, rekeys, leaves, renews, relays, empties, outcome}
 
@@ -134,18 +134,18 @@ module _ {P T I G K : Type 0} (r : Reading P T I G K) (total : IsTotalOrder r.cm
   abbrev IsApart : State T → Type 0
   IsApart s = IsDistinct s.tree.list.entries × Ascends r.key r.cmp total s.tree.list.entries
 
-  module _ {A F : Type 0} (asks : F → Shown T → F → Type 0) where
+  module _ {A F : Type 0} (calls : Calls T F) where
     along : (asked : List (Command P T I G K)) → AllByRecursion (KeepsApart r) asked → (told : List (Reply P T A I G)) (s t : State T) (f g : F)
-        → Runs r asks s f asked told t g → IsApart s → IsApart t
+        → Runs r calls s f asked told t g → IsApart s → IsApart t
     along [] keep [] s t f g run apart = rw run.0 apart
     along [] keep (q ∷ told) s t f g run apart = absurd run
     along (c ∷ asked) keep [] s t f g run apart = absurd run
     along (c ∷ asked) keep (q ∷ told) s t f g run apart =
         let step = run.2 in
-        let next = apart-change r total s.tree.list run.0.tree.list keep.0 apart.1 ((outcome r s run.0.tree asks f c q run.1 step.does).change apart.0) in
+        let next = apart-change r total s.tree.list run.0.tree.list keep.0 apart.1 ((outcome r s run.0.tree calls f c q run.1 step.does).change apart.0) in
         along asked keep.1 told run.0 t run.1 g run.3 (step.lawful.distinct, next)
 
-pub ascending_keys : (P T I G A K : Type 0) {F : Type 0} (asks : F → Shown T → F → Type 0) → AscendingKeysLaw P T I G A K asks
-ascending_keys P T I G A K asks r old new f g asked told total none keep run =
+pub ascending_keys : (P T I G A K : Type 0) {F : Type 0} (calls : Calls T F) → AscendingKeysLaw P T I G A K calls
+ascending_keys P T I G A K calls r old new f g asked told total none keep run =
     sorted-climbs r.cmp (keys r.key new.tree.list.entries)
-    (along r total asks asked keep told old new f g run (rw none (λ i. omega arith), rw none tt)).1
+    (along r total calls asked keep told old new f g run (rw none (λ i. omega arith), rw none tt)).1

@@ -6,9 +6,8 @@ use Rattle.arena_base.specs.Generation.{next_generation}
 use Rattle.chain_base.specs.Chain.{Chain, IsSound, IsDistinct, entry_at, item_of}
 use Rattle.chain_base.proofs.CallerLemmas.{entry_at-without, entry_at-without_other, entry_at-with_item_among, entry_at-with_item_among_other}
 use Rattle.chain_base.proofs.CallerLemmas.{entry_at-with_generation, entry_at-with_generation_other, entry_at-between}
-use Rattle.triple_ord.specs.ClosureSearch.{Shown}
 use Rattle.ord_machine.specs.Pointers.{resets, raises, raises_among, Part, EndedPointerLaw}
-use Rattle.ord_machine.specs.{Machine.Reading, Machine.State, Machine.Runs, declared.command.Command.Command, declared.reply.Reply.Reply}
+use Rattle.ord_machine.specs.{Machine.Reading, Machine.Calls, Machine.State, Machine.Runs, declared.command.Command.Command, declared.reply.Reply.Reply}
 use Rattle.ord_machine.proofs.Outcomes.{cases_pointer, found-there, there-found, elsewhere, unused, risen, Change, stays, comes, writes, rekeys, leaves, renews, relays, empties, outcome}
 
 -- how generations go from one list to the next: the arena's rises by so many; an entry that wasn't there with its pointer has one from
@@ -188,28 +187,28 @@ module _ {P T I G K : Type 0} (r : Reading P T I G K) (top : ℕ) (counted : r.g
   abbrev NeverResets : List (Command P T I G K) → Type 0
   NeverResets asked = AllByRecursion (λ command. resets command ≡ false) asked
 
-  module _ {A F : Type 0} (asks : F → Shown T → F → Type 0) where
+  module _ {A F : Type 0} (calls : Calls T F) where
     along : (asked : List (Command P T I G K)) → NeverResets asked → (told : List (Reply P T A I G)) (s t : State T) (f g : F)
-        → Runs r asks s f asked told t g → Leads s (raises_among asked told) t
+        → Runs r calls s f asked told t g → Leads s (raises_among asked told) t
     along [] back [] s t f g run lawful holds room = rw run.0 (record { lawful = lawful; raised = omega arith; holds = holds })
     along [] back (q ∷ told) s t f g run lawful holds room = absurd run
     along (c ∷ asked) back [] s t f g run lawful holds room = absurd run
     along (c ∷ asked) back (q ∷ told) s t f g run lawful holds room =
         let step = run.2 in
-        let leads = outcome r s run.0.tree asks f c q run.1 step.does in
+        let leads = outcome r s run.0.tree calls f c q run.1 step.does in
         let raised = leads.raised back.0 ∙ risen-counted r.greatest top (raises c q) s.tree.list.generation counted (omega (arith, room)) in
         let first = goes-change r s.tree.list run.0.tree.list (raises c q) lawful.distinct raised (leads.change lawful.distinct) in
         let rest = along asked back.1 told run.0 t run.1 g run.3 step.lawful (goes s.tree.list run.0.tree.list (raises c q) first holds) (omega (arith, room, first.raised)) in
         record { lawful = rest.lawful; raised = omega (arith, rest.raised, first.raised); holds = rest.holds }
 
-    along-part : (s : State T) (f : F) (n : ℕ) (t : State T) (g : F) → Part A r asks s f n t g → Leads s n t
+    along-part : (s : State T) (f : F) (n : ℕ) (t : State T) (g : F) → Part A r calls s f n t g → Leads s n t
     along-part s f n t g part lawful holds room =
         rw part.count (along part.commands part.never_back part.replies s t f g part.run lawful holds (omega (arith, room, part.count)))
 
-pub ended_pointer : (P T I G A K : Type 0) {F : Type 0} (asks : F → Shown T → F → Type 0) → EndedPointerLaw P T I G A K asks
-ended_pointer P T I G A K asks r top s0 s1 s2 s3 f0 f1 f2 f3 k l m counted lawful below part1 part2 part3 room p there gone =
-    let first = along-part r top counted (λ c. IsBelow c) below-goes asks s0 f0 k s1 f1 part1 lawful below (omega (arith, room)) in
-    let second = along-part r top counted (Watches p) (watched-goes p) asks s1 f1 l s2 f2 part2 first.lawful (record { below = first.holds; named = λ none. absurd (cc) }) (omega (arith, room, first.raised)) in
-    let third = along-part r top counted (λ c. IsSpent c p) (λ old new n goes spent. spent-goes old new n goes p spent) asks s2 f2 m s3 f3
+pub ended_pointer : (P T I G A K : Type 0) {F : Type 0} (calls : Calls T F) → EndedPointerLaw P T I G A K calls
+ended_pointer P T I G A K calls r top s0 s1 s2 s3 f0 f1 f2 f3 k l m counted lawful below part1 part2 part3 room p there gone =
+    let first = along-part r top counted (λ c. IsBelow c) below-goes calls s0 f0 k s1 f1 part1 lawful below (omega (arith, room)) in
+    let second = along-part r top counted (Watches p) (watched-goes p) calls s1 f1 l s2 f2 part2 first.lawful (record { below = first.holds; named = λ none. absurd (cc) }) (omega (arith, room, first.raised)) in
+    let third = along-part r top counted (λ c. IsSpent c p) (λ old new n goes spent. spent-goes old new n goes p spent) calls s2 f2 m s3 f3
     part3 second.lawful (second.holds.named gone) (omega (arith, room, first.raised, second.raised)) in
     third.holds.nothing

@@ -5,9 +5,9 @@ use Rattle.chain_base.specs.Chain.{Entry, Chain, next_index, inserted, with_room
 use Rattle.ord_tree.specs.{Shape.Shape, Shape.missing, Shape.node, Shape.walk, Tree.Tree, Tree.IsSoundTree, Ranks.IsRanked, Ranks.HasRank}
 use Rattle.triple_ord.specs.declared.entry_kind.OrdEntryKind.TheVariants.{New, Replacing}
 use Rattle.triple_ord.specs.{declared.error.OrdInsertionError.TheVariants.AllocError, declared.error.OrdInsertionError.OrdInsertionError}
-use Rattle.triple_ord.specs.{Insertion.reallocating, Insertion.InsertsNew, ClosureSearch.Shown, Gap.with_between, Place.at_key}
+use Rattle.triple_ord.specs.{Insertion.reallocating, Insertion.InsertsNew, Gap.with_between, Place.at_key}
 use Rattle.ord_machine.specs.declared.reply.Reply.TheVariants.{Inserted, Refused, Ranks}
-use Rattle.ord_machine.specs.Machine.{Reading, HaveRanks, Inserts, Ranked}
+use Rattle.ord_machine.specs.Machine.{Calls, Reading, HaveRanks, Inserts, Ranked}
 use Rattle.ord_machine.specs.{Laws.AreFirstReplies, Laws.FirstRankLaw, declared.reply.Reply.Reply}
 
 -- where nothing is cut in two, both parts are nothing
@@ -88,11 +88,11 @@ module _ {P T I G A K : Type 0} (r : Reading P T I G K) (old new : Tree T) (none
   first_and_ranks item first second inserts ranked = absurd inserts
 
 -- a run over both commands
-pub first_rank : (P T I G A K : Type 0) {F : Type 0} (asks : F → Shown T → F → Type 0) → FirstRankLaw P T I G A K asks
-first_rank P T I G A K asks r old new f g item [] none run = absurd run
-first_rank P T I G A K asks r old new f g item (first ∷ []) none run = absurd run.3
-first_rank P T I G A K asks r old new f g item (first ∷ second ∷ []) none run =
+pub first_rank : (P T I G A K : Type 0) {F : Type 0} (calls : Calls T F) → FirstRankLaw P T I G A K calls
+first_rank P T I G A K calls r old new f g item [] none run = absurd run
+first_rank P T I G A K calls r old new f g item (first ∷ []) none run = absurd run.3
+first_rank P T I G A K calls r old new f g item (first ∷ second ∷ []) none run =
     let step = run.2 in
     let next = run.3.2 in
     first_and_ranks r old.tree run.0.tree none step.sound item first second step.does.0 next.does.0.0
-first_rank P T I G A K asks r old new f g item (first ∷ second ∷ third ∷ replies) none run = absurd run.3.3
+first_rank P T I G A K calls r old new f g item (first ∷ second ∷ third ∷ replies) none run = absurd run.3.3

@@ -3,9 +3,8 @@ use Rattle.std.proofs.Common.{◌≡◌, ℕ, List, [], ◌∷◌, IsSome, is_so
 use Rattle.arena_base.specs.Arena.{item_if}
 use Rattle.chain_base.specs.Chain.{Entry, Chain, entry_at, item_of}
 use Rattle.chain_base.proofs.CallerLemmas.{entry_at-without_other, entry_at-with_item_among_other, entry_at-with_generation_other}
-use Rattle.triple_ord.specs.ClosureSearch.{Shown}
 use Rattle.triple_ord.proofs.CallerLemmas.{rekeys-updates}
-use Rattle.ord_machine.specs.{Machine.Reading, Machine.State, Pointers.KeptPointerLaw, Pointers.RekeyedPointerLaw}
+use Rattle.ord_machine.specs.{Machine.Reading, Machine.Calls, Machine.State, Pointers.KeptPointerLaw, Pointers.RekeyedPointerLaw}
 use Rattle.ord_machine.proofs.Outcomes.{elsewhere, unused, Change, stays, comes, writes, rekeys, leaves, renews, relays, empties, outcome}
 
 -- a change
@@ -25,20 +24,20 @@ module _ {P T I G K : Type 0} (r : Reading P T I G K) (old new : Chain T) (p : �
   keeps-change of (empties none some others) = absurd (others p of)
 
 -- a run
-pub kept_pointer : (P T I G A K : Type 0) {F : Type 0} (asks : F → Shown T → F → Type 0) → KeptPointerLaw P T I G A K asks
-kept_pointer P T I G A K asks r old new f g [] [] p lawful others run there = ap (λ (s : State T). item_of s.tree.list.entries p) run.0
-kept_pointer P T I G A K asks r old new f g [] (q ∷ told) p lawful others run there = absurd run
-kept_pointer P T I G A K asks r old new f g (c ∷ asked) [] p lawful others run there = absurd run
-kept_pointer P T I G A K asks r old new f g (c ∷ asked) (q ∷ told) p lawful others run there =
+pub kept_pointer : (P T I G A K : Type 0) {F : Type 0} (calls : Calls T F) → KeptPointerLaw P T I G A K calls
+kept_pointer P T I G A K calls r old new f g [] [] p lawful others run there = ap (λ (s : State T). item_of s.tree.list.entries p) run.0
+kept_pointer P T I G A K calls r old new f g [] (q ∷ told) p lawful others run there = absurd run
+kept_pointer P T I G A K calls r old new f g (c ∷ asked) [] p lawful others run there = absurd run
+kept_pointer P T I G A K calls r old new f g (c ∷ asked) (q ∷ told) p lawful others run there =
     let mid = run.0 in
-    let leads = (outcome r old mid.tree asks f c q run.1 run.2.does).change lawful.distinct in
+    let leads = (outcome r old mid.tree calls f c q run.1 run.2.does).change lawful.distinct in
     let kept = keeps-change r old.tree.list mid.tree.list p there others.0 leads in
-    kept_pointer P T I G A K asks r mid new run.1 g asked told p run.2.lawful others.1 run.3 (ap is_some kept ∙ there) ∙ kept
+    kept_pointer P T I G A K calls r mid new run.1 g asked told p run.2.lawful others.1 run.3 (ap is_some kept ∙ there) ∙ kept
 
 -- a run that begins by giving the pointer's own entry another item
-pub rekeyed_pointer : (P T I G A K : Type 0) {F : Type 0} (asks : F → Shown T → F → Type 0) → RekeyedPointerLaw P T I G A K asks
-rekeyed_pointer P T I G A K asks r old new f g p item before asked told lawful others run =
+pub rekeyed_pointer : (P T I G A K : Type 0) {F : Type 0} (calls : Calls T F) → RekeyedPointerLaw P T I G A K calls
+rekeyed_pointer P T I G A K calls r old new f g p item before asked told lawful others run =
     let mid = run.0 in
     let does = run.2.does.0 in
     let found = (rekeys-updates r.key r.cmp old.tree mid.tree (r.pointer p) item lawful.distinct (ap is_some (sym does.0)) does.1).changed in
-    kept_pointer P T I G A K asks r mid new run.1 g asked told (r.pointer p) run.2.lawful others run.3 (ap is_some found) ∙ found
+    kept_pointer P T I G A K calls r mid new run.1 g asked told (r.pointer p) run.2.lawful others run.3 (ap is_some found) ∙ found

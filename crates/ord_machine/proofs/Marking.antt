@@ -2,8 +2,7 @@
 use Rattle.std.proofs.Common.{◌≡◌, ℕ, zero, suc, ◌==◌, cond, true, inl, inr, ◌∷◌, length, refl, sym, subst, arith, length-append}
 use Rattle.std.proofs.{lemmas.List.length-map, Math.Dec.eqb-suc-zero}
 use Rattle.ord_tree.specs.{Shape.Shape, Shape.missing, Shape.node, Shape.walk, Tree.Tree, Tree.IsSoundTree}
-use Rattle.triple_ord.specs.ClosureSearch.{Shown}
-use Rattle.ord_machine.specs.Machine.{Reading, State, Marks, Effect, adds, removes, moves, rebuilds, keeps, marked_by, AreTrue, settled, Does, effect_of, marks_after}
+use Rattle.ord_machine.specs.Machine.{Calls, Reading, State, Marks, Effect, adds, removes, moves, rebuilds, keeps, marked_by, AreTrue, settled, Does, effect_of, marks_after}
 use Rattle.ord_machine.specs.{declared.command.Command.Command, declared.reply.Reply.Reply}
 use Rattle.ord_machine.proofs.{Outcomes.Affects, Outcomes.outcome, CallerLemmas.AreTrue-missing}
 
@@ -36,9 +35,9 @@ AreTrue-marked keeps old new marks (inl same) holds = subst (λ (s : Shape). Are
 AreTrue-marked keeps old new marks (inr none) holds = subst (λ (s : Shape). AreTrue marks s) (sym none) (AreTrue-missing marks)
 
 -- so the marks after a step tell the truth
-module _ {P T I G A F K : Type 0} (r : Reading P T I G K) (asks : F → Shown T → F → Type 0) (s : State T) (f : F) (command : Command P T I G K)
+module _ {P T I G A F K : Type 0} (r : Reading P T I G K) (calls : Calls T F) (s : State T) (f : F) (command : Command P T I G K)
     (reply : Reply P T A I G) (new : Tree T) (g : F) where
-  pub AreTrue-does : IsSoundTree new → AreTrue s.marks s.tree.shape → Does r asks s f command reply new g
+  pub AreTrue-does : IsSoundTree new → AreTrue s.marks s.tree.shape → Does r calls s f command reply new g
       → AreTrue (marks_after command reply new s.marks) new.shape
   AreTrue-does sound holds does = AreTrue-settled new _ sound
-      (AreTrue-marked (effect_of command reply) s.tree.shape new.shape s.marks (outcome r s new asks f command reply g does).affects holds)
+      (AreTrue-marked (effect_of command reply) s.tree.shape new.shape s.marks (outcome r s new calls f command reply g does).affects holds)

@@ -14,13 +14,13 @@ use Rattle.triple_ord.specs.declared.error.OrdInsertionError.TheVariants.{Beyond
 use Rattle.triple_ord.specs.declared.insert_kind.OrdInsertKind.TheVariants.{Normal, Nonhereditary, Linear, NonhereditaryLinear}
 use Rattle.triple_ord.specs.declared.entry_kind.OrdEntryKind.TheVariants.{New, Replacing}
 use Rattle.triple_ord.specs.{Insertion.Growth, Insertion.within, Insertion.reallocating, Insertion.with_room_by, Gap.Gap, Gap.with_between}
-use Rattle.triple_ord.specs.{declared.insert_kind.OrdInsertKind.OrdInsertKind, declared.entry_kind.OrdEntryKind.OrdEntryKind, declared.error.OrdInsertionError.OrdInsertionError, ClosureSearch.Shown}
+use Rattle.triple_ord.specs.{declared.insert_kind.OrdInsertKind.OrdInsertKind, declared.entry_kind.OrdEntryKind.OrdEntryKind, declared.error.OrdInsertionError.OrdInsertionError}
 use Rattle.triple_ord.proofs.{CallerLemmas.entries-with_room_by, CallerLemmas.numbers-with_room_by, CallerLemmas.rekeys-updates, Inserting.entry_at-after}
 use Rattle.triple_ord.proofs.{KeptOrder.kept_order, RekeyOrder.rekeyed_order, RekeyOrder.in_order-without}
 use Rattle.triple_ord.proofs.OrderLaws.{in_order-one, in_order-more, IsInOrder-rest}
 use Rattle.triple_ord.specs.{Rekey.Rekeys, Order.IsInOrder, OrderLaws.GoesBy, Insertion.InsertsBy}
 use Rattle.ord_machine.specs.declared.reply.Reply.TheVariants.{Inserted, Refused, Item, Removed, Renewed, Changed, Entries, Done, ReductionRefused}
-use Rattle.ord_machine.specs.Machine.{Reading, State, Effect, adds, removes, moves, rebuilds, keeps, told_effect, effect_of, Inserts, Does, IsTakenOut, entry_of, removed_each}
+use Rattle.ord_machine.specs.Machine.{Calls, Reading, State, Effect, adds, removes, moves, rebuilds, keeps, told_effect, effect_of, Inserts, Does, IsTakenOut, entry_of, removed_each}
 use Rattle.ord_machine.specs.{Pointers.resets, Pointers.raises, Pointers.ReplacesAnother, Pointers.IsOfOthers, declared.reply.Reply.Reply}
 use Rattle.ord_machine.specs.{Ascending.IsPlacedByKey, Ascending.KeepsApart, InOrder.GoesByEqualKey, InOrder.KeepsInOrder, declared.command.Command.Command}
 use Rattle.ord_machine.specs.declared.command.Command.TheVariants as commands
@@ -346,14 +346,14 @@ module _ {P T I G K : Type 0} (r : Reading P T I G K) (s : State T) (new : Tree 
       Outcome r s.tree new (effect_of command reply) (resets command) (raises command reply) (λ p. IsOfOthers r p command reply) (KeepsApart r command)
       (KeepsInOrder r command)
 
-  pub outcome : {A F : Type 0} (asks : F → Shown T → F → Type 0) (f : F) (command : Command P T I G K) (reply : Reply P T A I G) (g : F)
-      → Does r asks s f command reply new g → After command reply
-  outcome asks f (commands.Insert item) reply g does = outcome-insertion reallocating (at_key (r.key item)) item (λ total _. tied_itself total (r.key item)) (λ total _. (r.key item, inl refl, tied_itself total (r.key item))) reply does.0
-  outcome asks f (commands.InsertWithin item) reply g does = outcome-insertion within (at_key (r.key item)) item (λ total _. tied_itself total (r.key item)) (λ total _. (r.key item, inl refl, tied_itself total (r.key item))) reply does.0
-  outcome asks f (commands.Entry kind item) reply g does = outcome-insertion reallocating (aim_of r.index kind) item (λ _ by. by_kind kind item by) (λ _ by. in_order_by_kind kind item by) reply does.0
-  outcome asks f (commands.EntryWithin kind item) reply g does = outcome-insertion within (aim_of r.index kind) item (λ _ by. by_kind kind item by) (λ _ by. in_order_by_kind kind item by) reply does.0
-  outcome asks f (commands.Set q item) (Item None) g does = kept does.0.1
-  outcome asks f (commands.Set q item) (Item (Some before)) g does =
+  pub outcome : {A F : Type 0} (calls : Calls T F) (f : F) (command : Command P T I G K) (reply : Reply P T A I G) (g : F)
+      → Does r calls s f command reply new g → After command reply
+  outcome calls f (commands.Insert item) reply g does = outcome-insertion reallocating (at_key (r.key item)) item (λ total _. tied_itself total (r.key item)) (λ total _. (r.key item, inl refl, tied_itself total (r.key item))) reply does.0
+  outcome calls f (commands.InsertWithin item) reply g does = outcome-insertion within (at_key (r.key item)) item (λ total _. tied_itself total (r.key item)) (λ total _. (r.key item, inl refl, tied_itself total (r.key item))) reply does.0
+  outcome calls f (commands.Entry kind item) reply g does = outcome-insertion reallocating (aim_of r.index kind) item (λ _ by. by_kind kind item by) (λ _ by. in_order_by_kind kind item by) reply does.0
+  outcome calls f (commands.EntryWithin kind item) reply g does = outcome-insertion within (aim_of r.index kind) item (λ _ by. by_kind kind item by) (λ _ by. in_order_by_kind kind item by) reply does.0
+  outcome calls f (commands.Set q item) (Item None) g does = kept does.0.1
+  outcome calls f (commands.Set q item) (Item (Some before)) g does =
       let there : IsSome (item_of es (r.pointer q)) = ap is_some (sym does.0.0) in
       let found = found-there es (r.pointer q) there in
       record {
@@ -363,31 +363,31 @@ module _ {P T I G K : Type 0} (r : Reading P T I G K) (s : State T) (new : Tree 
             (λ p here of. other_index es p (r.pointer q) of there here) (λ _ never. absurd never);
         ordered = λ _ _ never. absurd never;
       }
-  outcome asks f (commands.Set q item) reply g does = absurd does.0
-  outcome asks f (commands.Rekey q item) (Item None) g does = kept does.0.1
-  outcome asks f (commands.Rekey q item) (Item (Some before)) g does = rekeyed (r.pointer q) item (ap is_some (sym does.0.0)) does.0.1 (λ p of. of) (λ never. never)
-  outcome asks f (commands.Rekey q item) reply g does = absurd does.0
-  outcome asks f (commands.Remove q) (Removed (Success taken)) g does =
+  outcome calls f (commands.Set q item) reply g does = absurd does.0
+  outcome calls f (commands.Rekey q item) (Item None) g does = kept does.0.1
+  outcome calls f (commands.Rekey q item) (Item (Some before)) g does = rekeyed (r.pointer q) item (ap is_some (sym does.0.0)) does.0.1 (λ p of. of) (λ never. never)
+  outcome calls f (commands.Rekey q item) reply g does = absurd does.0
+  outcome calls f (commands.Remove q) (Removed (Success taken)) g does =
       lost (r.pointer q).0 does.0.1.removed (λ p here of. other_index es p (r.pointer q) of (ap is_some (sym does.0.1.value)) here)
-  outcome asks f (commands.Remove q) (Removed (GenerationOverflow taken)) g does =
+  outcome calls f (commands.Remove q) (Removed (GenerationOverflow taken)) g does =
       lost (r.pointer q).0 does.0.1.removed (λ p here of. other_index es p (r.pointer q) of (ap is_some (sym does.0.1.value)) here)
-  outcome asks f (commands.Remove q) (Removed InvalidPtr) g does = kept does.0.1.invalid
-  outcome asks f (commands.Remove q) reply g does = absurd does.0
-  outcome asks f (commands.RemoveInx i) (Removed (Success taken)) g does = lost (r.index i) does.0.1.removed (λ p here of same. of (sym same))
-  outcome asks f (commands.RemoveInx i) (Removed (GenerationOverflow taken)) g does = lost (r.index i) does.0.1.removed (λ p here of same. of (sym same))
-  outcome asks f (commands.RemoveInx i) (Removed InvalidPtr) g does = kept does.0.1.invalid
-  outcome asks f (commands.RemoveInx i) reply g does = absurd does.0
-  outcome asks f (commands.Invalidate q) (Renewed (Success next)) g does = again (r.pointer q) (sym does.0.valid) does.0.renewed (λ p of. of)
-  outcome asks f (commands.Invalidate q) (Renewed (GenerationOverflow next)) g does = again (r.pointer q) (sym does.0.valid) does.0.renewed (λ p of. of)
-  outcome asks f (commands.Invalidate q) (Renewed InvalidPtr) g does = kept does.0.invalid
-  outcome asks f (commands.Invalidate q) reply g does = absurd does.0
-  outcome asks f commands.Clear (Changed result) g does =
+  outcome calls f (commands.Remove q) (Removed InvalidPtr) g does = kept does.0.1.invalid
+  outcome calls f (commands.Remove q) reply g does = absurd does.0
+  outcome calls f (commands.RemoveInx i) (Removed (Success taken)) g does = lost (r.index i) does.0.1.removed (λ p here of same. of (sym same))
+  outcome calls f (commands.RemoveInx i) (Removed (GenerationOverflow taken)) g does = lost (r.index i) does.0.1.removed (λ p here of same. of (sym same))
+  outcome calls f (commands.RemoveInx i) (Removed InvalidPtr) g does = kept does.0.1.invalid
+  outcome calls f (commands.RemoveInx i) reply g does = absurd does.0
+  outcome calls f (commands.Invalidate q) (Renewed (Success next)) g does = again (r.pointer q) (sym does.0.valid) does.0.renewed (λ p of. of)
+  outcome calls f (commands.Invalidate q) (Renewed (GenerationOverflow next)) g does = again (r.pointer q) (sym does.0.valid) does.0.renewed (λ p of. of)
+  outcome calls f (commands.Invalidate q) (Renewed InvalidPtr) g does = kept does.0.invalid
+  outcome calls f (commands.Invalidate q) reply g does = absurd does.0
+  outcome calls f commands.Clear (Changed result) g does =
       gone (ap (λ t. t.shape) does.0.0) (ap (λ t. t.list.entries) does.0.0) (ap (λ t. t.list.generation) does.0.0) (omega arith) (λ p of. of)
-  outcome asks f commands.Clear reply g does = absurd does.0
-  outcome asks f commands.IncGeneration (Changed result) g does =
+  outcome calls f commands.Clear reply g does = absurd does.0
+  outcome calls f commands.IncGeneration (Changed result) g does =
       alone-raised (ap (λ t. t.shape) does.0.0) (ap (λ t. t.list.entries) does.0.0) (ap (λ t. t.list.generation) does.0.0)
-  outcome asks f commands.IncGeneration reply g does = absurd does.0
-  outcome asks f (commands.Compress reset) (Changed result) g does = record {
+  outcome calls f commands.IncGeneration reply g does = absurd does.0
+  outcome calls f (commands.Compress reset) (Changed result) g does = record {
     affects = does.0.1;
     raised = λ onward. rw onward at (ap (λ c. c.generation) does.0.0);
     change = λ _. relays (λ i e found. generation-relocated es _ es i e (ap (λ (c : Chain T). entry_at c.entries i) (sym does.0.0) ∙ found)
@@ -395,8 +395,8 @@ module _ {P T I G K : Type 0} (r : Reading P T I G K) (s : State T) (new : Tree 
         (ap (λ (c : Chain T). map (λ e. r.key e.item) c.entries) does.0.0 ∙ keys-relocated r.key es es _) (omega arith) (λ p of. of);
     ordered = λ _ _ _. in_order_alike (ap (λ (c : Chain T). map (λ e. r.key e.item) c.entries) does.0.0 ∙ keys-relocated r.key es es _);
   }
-  outcome asks f (commands.Compress reset) reply g does = absurd does.0
-  outcome asks f (commands.Canonical reset) (Changed result) g does = record {
+  outcome calls f (commands.Compress reset) reply g does = absurd does.0
+  outcome calls f (commands.Canonical reset) (Changed result) g does = record {
     affects = does.0.1;
     raised = λ onward. rw onward at (ap (λ c. c.generation) does.0.0);
     change = λ _. relays (λ i e found. generation-numbered _ 1 (map (λ e. e.item) es) i e (ap (λ (c : Chain T). entry_at c.entries i) (sym does.0.0) ∙ found)
@@ -404,23 +404,23 @@ module _ {P T I G K : Type 0} (r : Reading P T I G K) (s : State T) (new : Tree 
         (ap (λ (c : Chain T). map (λ e. r.key e.item) c.entries) does.0.0 ∙ keys-numbered r.key es _ 1) (omega arith) (λ p of. of);
     ordered = λ _ _ _. in_order_alike (ap (λ (c : Chain T). map (λ e. r.key e.item) c.entries) does.0.0 ∙ keys-numbered r.key es _ 1);
   }
-  outcome asks f (commands.Canonical reset) reply g does = absurd does.0
-  outcome asks f (commands.Reserve n) Done g does =
+  outcome calls f (commands.Canonical reset) reply g does = absurd does.0
+  outcome calls f (commands.Reserve n) Done g does =
       alone-raised (ap (λ t. t.shape) does.0.1) (ap (λ t. t.list.entries) does.0.1) (ap (λ t. t.list.generation) does.0.1)
-  outcome asks f (commands.Reserve n) (Refused BeyondMaxCapacity) g does = kept does.0.1
-  outcome asks f (commands.Reserve n) (Refused AllocError) g does = kept does.0.2
-  outcome asks f (commands.Reserve n) reply g does = absurd does.0
-  outcome asks f (commands.SetMax n) Done g does =
+  outcome calls f (commands.Reserve n) (Refused BeyondMaxCapacity) g does = kept does.0.1
+  outcome calls f (commands.Reserve n) (Refused AllocError) g does = kept does.0.2
+  outcome calls f (commands.Reserve n) reply g does = absurd does.0
+  outcome calls f (commands.SetMax n) Done g does =
       alone-raised (ap (λ t. t.shape) does.0.1) (ap (λ t. t.list.entries) does.0.1) (ap (λ t. t.list.generation) does.0.1)
-  outcome asks f (commands.SetMax n) ReductionRefused g does = kept does.0.1
-  outcome asks f (commands.SetMax n) reply g does = absurd does.0
-  outcome asks f (commands.DrainOrdered num) (Entries pairs) g does =
+  outcome calls f (commands.SetMax n) ReductionRefused g does = kept does.0.1
+  outcome calls f (commands.SetMax n) reply g does = absurd does.0
+  outcome calls f (commands.DrainOrdered num) (Entries pairs) g does =
       let first = take num es in
       let count : suc (length first) ≡ length pairs.items + 1 = omega (arith, ap length does.0.0, length-map pairs.items (entry_of r.pointer)) in
       gone (ap (λ t. t.shape) does.0.1) (ap (λ t. t.list.entries) does.0.1)
       (ap (λ t. t.list.generation) does.0.1 ∙ risen-each r.greatest s.tree.list first ∙ ap (λ k. risen r.greatest k s.tree.list.generation) count) (omega arith) (λ p of. of)
-  outcome asks f (commands.DrainOrdered num) (Refused AllocError) g does = kept does.0.1
-  outcome asks f (commands.DrainOrdered num) reply g does = absurd does.0
-  outcome asks f commands.FindWith reply g does = still reply does.1
-  outcome asks f commands.SimilarWith reply g does = still reply does.1
-  outcome asks f command reply g does = still reply does.0.1
+  outcome calls f (commands.DrainOrdered num) (Refused AllocError) g does = kept does.0.1
+  outcome calls f (commands.DrainOrdered num) reply g does = absurd does.0
+  outcome calls f commands.FindWith reply g does = still reply does.1
+  outcome calls f commands.SimilarWith reply g does = still reply does.1
+  outcome calls f command reply g does = still reply does.0.1

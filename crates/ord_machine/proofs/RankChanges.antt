@@ -6,11 +6,10 @@ use Rattle.chain_base.specs.Chain.{IsSound}
 use Rattle.ord_tree.specs.{Shape.Shape, Shape.size_of, Tree.Tree, Tree.IsSoundTree, Potential.potential, Potential.ChangesRanksWithin, Ranks.HasRank}
 use Rattle.ord_tree.proofs.CallerLemmas.{rank_in-standing, times-walk, times-indexes, potential-le-size, size_of-walk}
 use Rattle.ord_tree.specs.{Slots.times, Slots.times_in}
-use Rattle.triple_ord.specs.ClosureSearch.{Shown}
 use Rattle.triple_ord.specs.declared.entry_kind.OrdEntryKind.TheVariants.{New}
 use Rattle.arena_base.specs.declared.invalidation.InvalidationResult.TheVariants.{Success, GenerationOverflow}
 use Rattle.ord_machine.specs.declared.reply.Reply.TheVariants.{Inserted, Item, Removed}
-use Rattle.ord_machine.specs.Machine.{Reading, State, Runs, Effect, adds, removes, moves, rebuilds, keeps, told_effect, effect_of}
+use Rattle.ord_machine.specs.Machine.{Calls, Reading, State, Runs, Effect, adds, removes, moves, rebuilds, keeps, told_effect, effect_of}
 use Rattle.ord_machine.specs.RankChanges.{allowance, KeepsTree, allowance_of, CountsRankChanges, RankChangesLaw}
 use Rattle.ord_machine.specs.{declared.command.Command.Command, declared.reply.Reply.Reply}
 use Rattle.ord_machine.specs.declared.command.Command.TheVariants as commands
@@ -55,23 +54,23 @@ module _ {P T I G A : Type 0} where
   not_rebuilt (commands.Rekey p item) (Item (Some before)) stays e = cc
   not_rebuilt command reply stays e = not_told reply e
 
-module _ {P T I G A F K : Type 0} (r : Reading P T I G K) (asks : F → Shown T → F → Type 0) (new : State T) (g : F) where
+module _ {P T I G A F K : Type 0} (r : Reading P T I G K) (calls : Calls T F) (new : State T) (g : F) where
   account : (asked : List (Command P T I G K)) (told : List (Reply P T A I G)) (old : State T) (f : F) → IsSingle old.tree.shape → AllByRecursion KeepsTree asked
-      → Runs r asks old f asked told new g
-      → (count : ℕ) × (count + potential new.tree.shape ≤ potential old.tree.shape + allowance_of asked told) × CountsRankChanges r asks old f asked told new g count
+      → Runs r calls old f asked told new g
+      → (count : ℕ) × (count + potential new.tree.shape ≤ potential old.tree.shape + allowance_of asked told) × CountsRankChanges r calls old f asked told new g count
   account [] [] old f single stays run = (0, omega (arith, ap (λ (s : State T). potential s.tree.shape) run.0), (run.0, run.1, refl))
   account [] (reply ∷ told) old f single stays run = absurd run
   account (command ∷ asked) [] old f single stays run = absurd run
   account (command ∷ asked) (reply ∷ told) old f single stays run =
       let mid = run.0 in
       let step = run.2 in
-      let paid = within_allowance (effect_of command reply) old.tree.shape mid.tree.shape (not_rebuilt command reply stays.0) single (outcome r old mid.tree asks f command reply run.1 step.does).affects in
+      let paid = within_allowance (effect_of command reply) old.tree.shape mid.tree.shape (not_rebuilt command reply stays.0) single (outcome r old mid.tree calls f command reply run.1 step.does).affects in
       let rest = account asked told mid run.1 (single_sound r.most r.greatest mid.tree step.lawful step.sound) stays.1 run.3 in
       (length paid.0 + rest.0, omega (arith, paid.1, rest.1), (mid, run.1, paid.0, rest.0, step, paid.2, refl, rest.2))
 
-pub rank_changes : (P T I G A K : Type 0) {F : Type 0} (asks : F → Shown T → F → Type 0) → RankChangesLaw P T I G A K asks
-rank_changes P T I G A K asks r old new f g asked told lawful sound stays run =
+pub rank_changes : (P T I G A K : Type 0) {F : Type 0} (calls : Calls T F) → RankChangesLaw P T I G A K calls
+rank_changes P T I G A K calls r old new f g asked told lawful sound stays run =
     let t = old.tree in
-    let all = account r asks new g asked told old f (single_sound r.most r.greatest t lawful sound) stays run in
+    let all = account r calls new g asked told old f (single_sound r.most r.greatest t lawful sound) stays run in
     let counted : size_of t.shape ≡ length t.list.entries = size_of-walk t.shape ∙ ap length sound.listed ∙ length-map t.list.entries (λ e. e.index) in
     (all.0, omega (arith, all.1, potential-le-size t.shape, counted), all.2)

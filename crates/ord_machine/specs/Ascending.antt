@@ -2,8 +2,8 @@
 use Rattle.std.specs.{Prelude.◌≡◌, Prelude.List, Prelude.[], Prelude.map, declared.cmp.Ordering.TheVariants.Equal, List.AllByRecursion}
 use Rattle.std.specs.{List.Sorted.IsStrictlySortedBy, Cmp.IsTotalOrder}
 use Rattle.triple_ord.specs.declared.insert_kind.OrdInsertKind.TheVariants.{Normal, Linear}
-use Rattle.triple_ord.specs.{declared.insert_kind.OrdInsertKind.OrdInsertKind, ClosureSearch.Shown}
-use Rattle.ord_machine.specs.{Machine.Reading, Machine.State, Machine.Runs, declared.command.Command.Command, declared.reply.Reply.Reply}
+use Rattle.triple_ord.specs.{declared.insert_kind.OrdInsertKind.OrdInsertKind}
+use Rattle.ord_machine.specs.{Machine.Reading, Machine.Calls, Machine.State, Machine.Runs, declared.command.Command.Command, declared.reply.Reply.Reply}
 use Rattle.ord_machine.specs.declared.command.Command.TheVariants as commands
 
 module _ {P T I G K : Type 0} (r : Reading P T I G K) where
@@ -23,9 +23,9 @@ module _ {P T I G K : Type 0} (r : Reading P T I G K) where
   KeepsApart command = Unit {0}
 
 -- After a run of such commands from a state without entries, each key is less than those after it.
-abbrev pub AscendingKeysLaw : (P T I G A K : Type 0) {F : Type 0} → (F → Shown T → F → Type 0) → Type 0
-AscendingKeysLaw P T I G A K {F} asks =
+abbrev pub AscendingKeysLaw : (P T I G A K : Type 0) {F : Type 0} → Calls T F → Type 0
+AscendingKeysLaw P T I G A K {F} calls =
     (r : Reading P T I G K) (old new : State T) (f g : F) (asked : List (Command P T I G K)) (told : List (Reply P T A I G))
     → IsTotalOrder r.cmp → old.tree.list.entries ≡ []
-    → AllByRecursion (KeepsApart r) asked → Runs r asks old f asked told new g
+    → AllByRecursion (KeepsApart r) asked → Runs r calls old f asked told new g
     → IsStrictlySortedBy r.cmp (map (λ e. r.key e.item) new.tree.list.entries)

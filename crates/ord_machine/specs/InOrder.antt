@@ -2,8 +2,8 @@
 use Rattle.std.specs.{Prelude.◌≡◌, Prelude.List, declared.cmp.Ordering.TheVariants.Equal, List.AllByRecursion, Cmp.IsTotalOrder}
 use Rattle.chain_base.specs.Chain.{IsSound}
 use Rattle.triple_ord.specs.declared.insert_kind.OrdInsertKind.TheVariants.{Normal, Nonhereditary, Linear, NonhereditaryLinear}
-use Rattle.triple_ord.specs.{declared.insert_kind.OrdInsertKind.OrdInsertKind, ClosureSearch.Shown, Order.IsInOrder}
-use Rattle.ord_machine.specs.{Machine.Reading, Machine.State, Machine.Runs, declared.command.Command.Command, declared.reply.Reply.Reply}
+use Rattle.triple_ord.specs.{declared.insert_kind.OrdInsertKind.OrdInsertKind, Order.IsInOrder}
+use Rattle.ord_machine.specs.{Machine.Reading, Machine.Calls, Machine.State, Machine.Runs, declared.command.Command.Command, declared.reply.Reply.Reply}
 use Rattle.ord_machine.specs.declared.command.Command.TheVariants as commands
 
 module _ {P T I G K : Type 0} (r : Reading P T I G K) where
@@ -23,9 +23,9 @@ module _ {P T I G K : Type 0} (r : Reading P T I G K) where
   KeepsInOrder command = Unit {0}
 
 -- After a run of such commands from a state whose keys are in order, the keys are in order.
-abbrev pub OrderedKeysLaw : (P T I G A K : Type 0) {F : Type 0} → (F → Shown T → F → Type 0) → Type 0
-OrderedKeysLaw P T I G A K {F} asks =
+abbrev pub OrderedKeysLaw : (P T I G A K : Type 0) {F : Type 0} → Calls T F → Type 0
+OrderedKeysLaw P T I G A K {F} calls =
     (r : Reading P T I G K) (old new : State T) (f g : F) (asked : List (Command P T I G K)) (told : List (Reply P T A I G))
     → IsTotalOrder r.cmp → IsSound r.most r.greatest old.tree.list → IsInOrder r.key r.cmp old.tree.list.entries
-    → AllByRecursion (KeepsInOrder r) asked → Runs r asks old f asked told new g
+    → AllByRecursion (KeepsInOrder r) asked → Runs r calls old f asked told new g
     → IsInOrder r.key r.cmp new.tree.list.entries

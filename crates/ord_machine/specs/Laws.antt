@@ -1,10 +1,9 @@
 -- What is true of every run, as a statement of its own.
 use Rattle.std.specs.Prelude.{◌≡◌, List, [], ◌∷◌, None}
 use Rattle.triple_ord.specs.{declared.error.OrdInsertionError.TheVariants.AllocError, declared.entry_kind.OrdEntryKind.TheVariants.New}
-use Rattle.triple_ord.specs.ClosureSearch.{Shown}
 use Rattle.ord_machine.specs.declared.command.Command.TheVariants as commands
 use Rattle.ord_machine.specs.declared.reply.Reply.TheVariants.{Inserted, Refused, Ranks}
-use Rattle.ord_machine.specs.{Machine.Reading, Machine.State, Machine.Runs, declared.reply.Reply.Reply}
+use Rattle.ord_machine.specs.{Machine.Reading, Machine.Calls, Machine.State, Machine.Runs, declared.reply.Reply.Reply}
 
 -- The replies to an insertion and to `ranks`, where there was no entry: one new entry of rank 1, if memory isn't refused to
 -- the ranks; or a refusal, and no ranks.
@@ -15,9 +14,9 @@ AreFirstReplies (Refused refusal ∷ Ranks ranks ∷ []) = ranks.items ≡ []
 AreFirstReplies replies = ⊥
 
 -- a run over these two commands, with any closure, from any state without entries, gives such replies
-abbrev pub FirstRankLaw : (P T I G A K : Type 0) {F : Type 0} → (F → Shown T → F → Type 0) → Type 0
-FirstRankLaw P T I G A K {F} asks =
+abbrev pub FirstRankLaw : (P T I G A K : Type 0) {F : Type 0} → Calls T F → Type 0
+FirstRankLaw P T I G A K {F} calls =
     (r : Reading P T I G K) (old new : State T) (f g : F) (item : T) (replies : List (Reply P T A I G))
     → old.tree.list.entries ≡ []
-    → Runs r asks old f (commands.Insert item ∷ commands.Ranks ∷ []) replies new g
+    → Runs r calls old f (commands.Insert item ∷ commands.Ranks ∷ []) replies new g
     → AreFirstReplies replies

@@ -1,5 +1,5 @@
 -- The list machine: what each command may answer on an ordered arena, and what it leaves.
-use Rattle.std.specs.Prelude.{◌≡◌, ℕ, ◌+◌, ◌^◌, ◌<◌, ◌≤◌, ◌==◌, ◌↔◌, Bool, true, false, if◌then◌else◌, List, [], ◌∷◌, length, map, take, max, Option, Some, IsSome, is_some, IfSome, IfNone, MatchOption, Result, Ok, Err}
+use Rattle.std.specs.Prelude.{◌≡◌, ℕ, ◌+◌, ◌^◌, ◌<◌, ◌≤◌, ◌==◌, ◌↔◌, Bool, true, false, if◌then◌else◌, List, [], ◌∷◌, length, map, take, max, Option, Some, IsSomeAnd, is_some, IfSome, IfNone, MatchOption, Result, Ok, Err}
 use Rattle.std.specs.{declared.cmp.Ordering.Ordering, Option.option_map}
 use Rattle.arena_base.specs.declared.invalidation.InvalidationResult.TheVariants.{Success, GenerationOverflow}
 use Rattle.arena_base.specs.Invalidation.{valid_value, is_overflow, IsRemoval, IsRenewal}
@@ -37,6 +37,16 @@ pub record Reading (P T I G K : Type 0) : Type 0 where
 abbrev pub reading_by : {P T I G K : Type 0} → (T → K) → (K → K → Ordering) → ℕ → Option ℕ → (P → ℕ × ℕ) → (I → ℕ) → (G → ℕ) → Reading P T I G K
 reading_by key cmp most greatest pointer index generation =
     record { key = key; cmp = cmp; most = most; greatest = greatest; pointer = pointer; index = index; generation = generation }
+
+-- What the code of the items and of the closure may do: `asks f s g` where the closure f is shown the entry of s, gives the answer of s and
+-- is left as g; and the items whose clone is never refused memory.
+pub record Calls (T F : Type 0) : Type 1 where
+  pub asks : F → Shown T → F → Type 0
+  pub always_clones : T → Type 0
+
+-- the calls of these
+abbrev pub calls_by : {T F : Type 0} → (F → Shown T → F → Type 0) → (T → Type 0) → Calls T F
+calls_by asks always_clones = record { asks = asks; always_clones = always_clones }
 
 -- what is known of how a shape came about
 pub record Marks : Type 0 where
@@ -163,11 +173,12 @@ module _ {P T I G A : Type 0} where
   Visits key cmp s k (Count c) = ((found : Option (ℕ × ℕ)) × FindsKey key cmp s.tree.list.entries k found c) × IsWithinBoundsByMarks s c
   Visits key cmp s k reply = ⊥
 
-  -- the item under a pointer; memory may be refused to its clone alone
-  abbrev pub Gets : (P → ℕ × ℕ) → Tree T → P → Reply P T A I G → Type 0
-  Gets pointer t p (Item item) = item ≡ item_of t.list.entries (pointer p)
-  Gets pointer t p (Refused AllocError) = IsSome (item_of t.list.entries (pointer p))
-  Gets pointer t p reply = ⊥
+  -- the item under a pointer; memory may be refused to its clone alone, unless that is never refused
+  abbrev pub Gets : (T → Type 0) → (P → ℕ × ℕ) → Tree T → P → Reply P T A I G → Type 0
+  Gets always_clones pointer t p (Item item) = item ≡ item_of t.list.entries (pointer p)
+  Gets always_clones pointer t p (Refused AllocError) =
+      IsSomeAnd (item_of t.list.entries (pointer p)) (λ item. always_clones item → ⊥)
+  Gets always_clones pointer t p reply = ⊥
 
   -- the item under a pointer, in the place of which another is put; the shape stays
   abbrev pub Sets : (P → ℕ × ℕ) → Tree T → P → T → Reply P T A I G → Tree T → Type 0
@@ -290,7 +301,6 @@ module _ {P T I G A : Type 0} where
   Tells r s (commands.Similar k) reply = FindsNear r.key r.cmp r.pointer s k reply
   Tells r s (commands.SimilarLinear i num k) reply = FindsNearFrom r.key r.cmp r.pointer s (r.index i) num k reply
   Tells r s (commands.Visits k) reply = Visits r.key r.cmp s k reply
-  Tells r s (commands.Get p) reply = Gets r.pointer s.tree p reply
   Tells r s commands.First reply = IsEnd r.pointer (first_pointer s.tree.list.entries) reply
   Tells r s commands.Last reply = IsEnd r.pointer (last_pointer s.tree.list.entries) reply
   Tells r s (commands.Neighbours i) reply = HasNeighbours r.index s.tree i reply
@@ -300,8 +310,8 @@ module _ {P T I G A : Type 0} where
   Tells r s commands.Stats reply = Counts r.generation s.tree reply
   Tells r s command reply = ⊥
 
-  -- From the state old, the reply to the command may be this one, and the tree goes on to new. Of a search by a closure nothing is
-  -- said here.
+  -- From the state old, the reply to the command may be this one, and the tree goes on to new. Of a search by a closure and of a clone
+  -- nothing is said here.
   abbrev pub Replies : {K : Type 0} → Reading P T I G K → State T → Command P T I G K → Reply P T A I G → Tree T → Type 0
   Replies r old (commands.Insert item) reply new =
       Inserts r.key r.cmp r.most reallocating (at_key (r.key item)) r.pointer old.tree item reply new
@@ -345,8 +355,7 @@ module _ {P T I G A : Type 0} where
   abbrev pub marks_after : {K : Type 0} → Command P T I G K → Reply P T A I G → Tree T → Marks → Marks
   marks_after command reply new marks = settled new (marked_by (effect_of command reply) marks)
 
--- The same with a closure, which searches by closure call: `asks f s g` where f is shown the entry of s, gives the answer of s and
--- is left as g.
+-- The same with what the closure and the clones of items may do.
 module _ {P T I G A F : Type 0} where
   -- a search by the closure, which goes on from f to g
   abbrev pub AnswersWith : (F → Shown T → F → Type 0) → (P → ℕ × ℕ) → State T → F → Reply P T A I G → F → Type 0
@@ -361,31 +370,32 @@ module _ {P T I G A F : Type 0} where
 
   -- From the state old and the closure f, the reply to the command may be this one, and tree and closure go on to new and g. A
   -- command that doesn't search by the closure leaves it.
-  abbrev pub Does : {K : Type 0} → Reading P T I G K → (F → Shown T → F → Type 0) → State T → F → Command P T I G K → Reply P T A I G → Tree T → F → Type 0
-  Does r asks old f commands.FindWith reply new g = AnswersWith asks r.pointer old f reply g × (new ≡ old.tree)
-  Does r asks old f commands.SimilarWith reply new g = AnswersSimilarWith asks r.pointer old f reply g × (new ≡ old.tree)
-  Does r asks old f command reply new g = Replies r old command reply new × (g ≡ f)
+  abbrev pub Does : {K : Type 0} → Reading P T I G K → Calls T F → State T → F → Command P T I G K → Reply P T A I G → Tree T → F → Type 0
+  Does r calls old f commands.FindWith reply new g = AnswersWith calls.asks r.pointer old f reply g × (new ≡ old.tree)
+  Does r calls old f commands.SimilarWith reply new g = AnswersSimilarWith calls.asks r.pointer old f reply g × (new ≡ old.tree)
+  Does r calls old f (commands.Get p) reply new g = (Gets calls.always_clones r.pointer old.tree p reply × (new ≡ old.tree)) × (g ≡ f)
+  Does r calls old f command reply new g = Replies r old command reply new × (g ≡ f)
 
   -- From the state old and the closure f, the machine may give this reply to the command, and go on to the state new and to g. The
   -- state is one that an arena can have: its list is lawful, and its shape is one over this list that keeps the rank rules.
-  pub record Step {K : Type 0} (r : Reading P T I G K) (asks : F → Shown T → F → Type 0) (old : State T) (f : F)
+  pub record Step {K : Type 0} (r : Reading P T I G K) (calls : Calls T F) (old : State T) (f : F)
       (command : Command P T I G K) (reply : Reply P T A I G) (new : State T) (g : F) : Type 0 where
-    pub does : Does r asks old f command reply new.tree g
+    pub does : Does r calls old f command reply new.tree g
     pub marks : new.marks ≡ marks_after command reply new.tree old.marks
     pub lawful : IsSound r.most r.greatest new.tree.list
     pub sound : IsSoundTree new.tree
 
   -- The machine may give these replies to these commands, one after another.
-  abbrev pub Runs : {K : Type 0} → Reading P T I G K → (F → Shown T → F → Type 0) → State T → F → List (Command P T I G K) → List (Reply P T A I G) → State T → F → Type 0
-  Runs r asks old f [] [] new g = (new ≡ old) × (g ≡ f)
-  Runs r asks old f (command ∷ commands) (reply ∷ replies) new g =
-      (mid : State T) × (between : F) × Step r asks old f command reply mid between × Runs r asks mid between commands replies new g
-  Runs r asks old f [] (reply ∷ replies) new g = ⊥
-  Runs r asks old f (command ∷ commands) [] new g = ⊥
+  abbrev pub Runs : {K : Type 0} → Reading P T I G K → Calls T F → State T → F → List (Command P T I G K) → List (Reply P T A I G) → State T → F → Type 0
+  Runs r calls old f [] [] new g = (new ≡ old) × (g ≡ f)
+  Runs r calls old f (command ∷ commands) (reply ∷ replies) new g =
+      (mid : State T) × (between : F) × Step r calls old f command reply mid between × Runs r calls mid between commands replies new g
+  Runs r calls old f [] (reply ∷ replies) new g = ⊥
+  Runs r calls old f (command ∷ commands) [] new g = ⊥
 
   -- Whatever marks tell the truth of the tree old, a run from there ends in the tree new, with marks that tell the truth of it.
-  abbrev pub RunsBetween : {K : Type 0} → Reading P T I G K → (F → Shown T → F → Type 0) → Tree T → F → List (Command P T I G K) → List (Reply P T A I G) → Tree T → F → Type 0
-  RunsBetween r asks old f commands replies new g =
+  abbrev pub RunsBetween : {K : Type 0} → Reading P T I G K → Calls T F → Tree T → F → List (Command P T I G K) → List (Reply P T A I G) → Tree T → F → Type 0
+  RunsBetween r calls old f commands replies new g =
       (marks : Marks) → AreTrue marks old.shape
       → (marks' : Marks) × AreTrue marks' new.shape
-      × Runs r asks (record { tree = old; marks = marks }) f commands replies (record { tree = new; marks = marks' }) g
+      × Runs r calls (record { tree = old; marks = marks }) f commands replies (record { tree = new; marks = marks' }) g

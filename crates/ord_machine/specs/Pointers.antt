@@ -3,9 +3,9 @@ use Rattle.std.specs.Prelude.{◌≡◌, ◌≢◌, ℕ, ◌+◌, ◌≤◌, Boo
 use Rattle.std.specs.{List.AllByRecursion, Option.ForSome}
 use Rattle.arena_base.specs.declared.invalidation.InvalidationResult.TheVariants.{Success, GenerationOverflow}
 use Rattle.chain_base.specs.Chain.{IsSound, entry_at, item_of}
-use Rattle.triple_ord.specs.{declared.entry_kind.OrdEntryKind.TheVariants.Replacing, ClosureSearch.Shown}
+use Rattle.triple_ord.specs.{declared.entry_kind.OrdEntryKind.TheVariants.Replacing}
 use Rattle.ord_machine.specs.declared.reply.Reply.TheVariants.{Inserted, Item, Removed, Renewed, Changed, Entries}
-use Rattle.ord_machine.specs.{Machine.Reading, Machine.State, Machine.Runs, declared.command.Command.Command, declared.reply.Reply.Reply}
+use Rattle.ord_machine.specs.{Machine.Reading, Machine.Calls, Machine.State, Machine.Runs, declared.command.Command.Command, declared.reply.Reply.Reply}
 use Rattle.ord_machine.specs.declared.command.Command.TheVariants as commands
 
 -- the command sets the generation back to the first
@@ -44,23 +44,23 @@ module _ {P T I G A : Type 0} where
   raises_among commands replies = 0
 
 -- a part of a run, in which no command sets the generation back, and which raises it so often
-pub record Part {P T I G K F : Type 0} (A : Type 0) (r : Reading P T I G K) (asks : F → Shown T → F → Type 0) (old : State T) (f : F) (raised : ℕ) (new : State T) (g : F) : Type 0 where
+pub record Part {P T I G K F : Type 0} (A : Type 0) (r : Reading P T I G K) (calls : Calls T F) (old : State T) (f : F) (raised : ℕ) (new : State T) (g : F) : Type 0 where
   pub commands : List (Command P T I G K)
   pub replies : List (Reply P T A I G)
-  pub run : Runs r asks old f commands replies new g
+  pub run : Runs r calls old f commands replies new g
   pub never_back : AllByRecursion (λ command. resets command ≡ false) commands
   pub count : raised ≡ raises_among commands replies
 
 -- An arena goes through a run in three parts. No entry's generation is above the arena's at its beginning, the generation is never set
 -- back, and all raises together don't go beyond the greatest generation. Then a pointer that names an entry after the first part, and
 -- none after the second, names none after the third.
-abbrev pub EndedPointerLaw : (P T I G A K : Type 0) {F : Type 0} → (F → Shown T → F → Type 0) → Type 0
-EndedPointerLaw P T I G A K {F} asks =
+abbrev pub EndedPointerLaw : (P T I G A K : Type 0) {F : Type 0} → Calls T F → Type 0
+EndedPointerLaw P T I G A K {F} calls =
     (r : Reading P T I G K) (greatest : ℕ) (s0 s1 s2 s3 : State T) (f0 f1 f2 f3 : F) (k l m : ℕ)
     → r.greatest ≡ Some greatest
     → IsSound r.most r.greatest s0.tree.list
     → ((i : ℕ) → ForSome (entry_at s0.tree.list.entries i) (λ e. e.0 ≤ s0.tree.list.generation))
-    → Part A r asks s0 f0 k s1 f1 → Part A r asks s1 f1 l s2 f2 → Part A r asks s2 f2 m s3 f3
+    → Part A r calls s0 f0 k s1 f1 → Part A r calls s1 f1 l s2 f2 → Part A r calls s2 f2 m s3 f3
     → s0.tree.list.generation + k + l + m ≤ greatest
     → (p : ℕ × ℕ) → IsSome (item_of s1.tree.list.entries p) → item_of s2.tree.list.entries p ≡ None
     → item_of s3.tree.list.entries p ≡ None
@@ -95,17 +95,17 @@ module _ {P T I G A K : Type 0} (r : Reading P T I G K) (p : ℕ × ℕ) where
   AreOfOthers commands replies = Unit {0}
 
 -- A pointer that names an entry names the same item after any run of commands to other entries.
-abbrev pub KeptPointerLaw : (P T I G A K : Type 0) {F : Type 0} → (F → Shown T → F → Type 0) → Type 0
-KeptPointerLaw P T I G A K {F} asks =
+abbrev pub KeptPointerLaw : (P T I G A K : Type 0) {F : Type 0} → Calls T F → Type 0
+KeptPointerLaw P T I G A K {F} calls =
     (r : Reading P T I G K) (old new : State T) (f g : F) (asked : List (Command P T I G K)) (told : List (Reply P T A I G)) (p : ℕ × ℕ)
-    → IsSound r.most r.greatest old.tree.list → AreOfOthers r p asked told → Runs r asks old f asked told new g
+    → IsSound r.most r.greatest old.tree.list → AreOfOthers r p asked told → Runs r calls old f asked told new g
     → IsSome (item_of old.tree.list.entries p) → item_of new.tree.list.entries p ≡ item_of old.tree.list.entries p
 
 -- An entry that is rekeyed keeps its pointer: directly afterwards, and after any commands to other entries, the pointer names the new item.
-abbrev pub RekeyedPointerLaw : (P T I G A K : Type 0) {F : Type 0} → (F → Shown T → F → Type 0) → Type 0
-RekeyedPointerLaw P T I G A K {F} asks =
+abbrev pub RekeyedPointerLaw : (P T I G A K : Type 0) {F : Type 0} → Calls T F → Type 0
+RekeyedPointerLaw P T I G A K {F} calls =
     (r : Reading P T I G K) (old new : State T) (f g : F) (p : P) (item before : T)
     (asked : List (Command P T I G K)) (told : List (Reply P T A I G))
     → IsSound r.most r.greatest old.tree.list → AreOfOthers r (r.pointer p) asked told
-    → Runs r asks old f (commands.Rekey p item ∷ asked) (Item (Some before) ∷ told) new g
+    → Runs r calls old f (commands.Rekey p item ∷ asked) (Item (Some before) ∷ told) new g
     → item_of new.tree.list.entries (r.pointer p) ≡ Some item

@@ -3,8 +3,7 @@ use Rattle.std.specs.Prelude.{◌≡◌, ℕ, ◌+◌, ◌*◌, ◌≤◌, List,
 use Rattle.std.specs.List.{AllByRecursion}
 use Rattle.chain_base.specs.Chain.{IsSound}
 use Rattle.ord_tree.specs.{Tree.IsSoundTree, Potential.NamesRankChanges}
-use Rattle.triple_ord.specs.ClosureSearch.{Shown}
-use Rattle.ord_machine.specs.Machine.{Reading, State, Step, Runs, Effect, adds, removes, moves, rebuilds, keeps, effect_of}
+use Rattle.ord_machine.specs.Machine.{Calls, Reading, State, Step, Runs, Effect, adds, removes, moves, rebuilds, keeps, effect_of}
 use Rattle.ord_machine.specs.{declared.command.Command.Command, declared.reply.Reply.Reply}
 use Rattle.ord_machine.specs.declared.command.Command.TheVariants as commands
 
@@ -31,20 +30,20 @@ module _ {P T I G A : Type 0} where
 module _ {P T I G A F : Type 0} where
   -- A run of these commands with these replies, in whose steps together the ranks of at most `count` entries change. An entry counts
   -- once for each step that changes its rank.
-  abbrev pub CountsRankChanges : {K : Type 0} → Reading P T I G K → (F → Shown T → F → Type 0) → State T → F → List (Command P T I G K) → List (Reply P T A I G) → State T → F → ℕ → Type 0
-  CountsRankChanges r asks old f [] [] new g count = (new ≡ old) × (g ≡ f) × (count ≡ 0)
-  CountsRankChanges r asks old f (command ∷ commands) (reply ∷ replies) new g count =
-      (mid : State T) × (between : F) × (changed : List ℕ) × (rest : ℕ) × Step r asks old f command reply mid between
+  abbrev pub CountsRankChanges : {K : Type 0} → Reading P T I G K → Calls T F → State T → F → List (Command P T I G K) → List (Reply P T A I G) → State T → F → ℕ → Type 0
+  CountsRankChanges r calls old f [] [] new g count = (new ≡ old) × (g ≡ f) × (count ≡ 0)
+  CountsRankChanges r calls old f (command ∷ commands) (reply ∷ replies) new g count =
+      (mid : State T) × (between : F) × (changed : List ℕ) × (rest : ℕ) × Step r calls old f command reply mid between
       × NamesRankChanges changed old.tree.shape mid.tree.shape × (count ≡ length changed + rest)
-      × CountsRankChanges r asks mid between commands replies new g rest
-  CountsRankChanges r asks old f [] (reply ∷ replies) new g count = ⊥
-  CountsRankChanges r asks old f (command ∷ commands) [] new g count = ⊥
+      × CountsRankChanges r calls mid between commands replies new g rest
+  CountsRankChanges r calls old f [] (reply ∷ replies) new g count = ⊥
+  CountsRankChanges r calls old f (command ∷ commands) [] new g count = ⊥
 
 -- Every run from a sound tree without a rebuild can be counted: at most 4 rank changes for each new entry, 9 for each removal, 14 for
 -- each entry that goes to another place, and 3 for each entry that was there at first.
-abbrev pub RankChangesLaw : (P T I G A K : Type 0) {F : Type 0} → (F → Shown T → F → Type 0) → Type 0
-RankChangesLaw P T I G A K {F} asks =
+abbrev pub RankChangesLaw : (P T I G A K : Type 0) {F : Type 0} → Calls T F → Type 0
+RankChangesLaw P T I G A K {F} calls =
     (r : Reading P T I G K) (old new : State T) (f g : F) (asked : List (Command P T I G K)) (told : List (Reply P T A I G))
     → IsSound r.most r.greatest old.tree.list → IsSoundTree old.tree
-    → AllByRecursion KeepsTree asked → Runs r asks old f asked told new g
-    → (count : ℕ) × (count ≤ allowance_of asked told + 3 * length old.tree.list.entries) × CountsRankChanges r asks old f asked told new g count
+    → AllByRecursion KeepsTree asked → Runs r calls old f asked told new g
+    → (count : ℕ) × (count ≤ allowance_of asked told + 3 * length old.tree.list.entries) × CountsRankChanges r calls old f asked told new g count

@@ -3,7 +3,7 @@ ghost use Rattle.std.specs.Prelude.{◌≡◌, ◌<◌, IfOk, OnErr, length};
 ghost use Rattle.chain_base.specs.Chain.{IsSound};
 ghost use Rattle.ord_tree.specs.Tree.{IsSoundTree};
 ghost use Rattle.triple_ord.specs.ClosureSearch.{Asks};
-ghost use Rattle.ord_machine.specs.Machine.{reading_by, Marks, AreTrue, Does, RunsBetween};
+ghost use Rattle.ord_machine.specs.Machine.{calls_by, reading_by, Marks, AreTrue, Does, RunsBetween};
 
 use crate::command::Command;
 use crate::reply::Reply;
@@ -36,7 +36,7 @@ where
     requires callable { F.IsAlwaysCallable closure.old }
     ensures run { IfOk result (λ replies. RunsBetween
         (reading_by T.key_of T.Key.cmp P.Inx.most P.Gen.greatest
-        P.numbers P.Inx.number P.Gen.number) (Asks P.numbers F.step)
+        P.numbers P.Inx.number P.Gen.number) (calls_by (Asks P.numbers F.step) T.is_infallible)
         arena.old closure.old commands.items replies.items arena.new closure.new) }
     ensures err { OnErr result (arena.new ≡ arena.old) }
     ensures refused { OnErr result (0 < length commands.items) }
@@ -69,7 +69,7 @@ where
     requires callable { F.IsAlwaysCallable closure.old }
     ensures does { (marks : Marks) → AreTrue marks arena.old.shape
         → Does (reading_by T.key_of T.Key.cmp P.Inx.most P.Gen.greatest
-        P.numbers P.Inx.number P.Gen.number) (Asks P.numbers F.step)
+        P.numbers P.Inx.number P.Gen.number) (calls_by (Asks P.numbers F.step) T.is_infallible)
         (record { tree = arena.old; marks = marks }) closure.old command result arena.new
         closure.new }
     ensures callable { F.IsAlwaysCallable closure.new }
@@ -100,7 +100,7 @@ where
     requires callable { F.IsAlwaysCallable closure.old }
     ensures does { (marks : Marks) → AreTrue marks arena.old.shape
         → Does (reading_by T.key_of T.Key.cmp P.Inx.most P.Gen.greatest
-        P.numbers P.Inx.number P.Gen.number) (Asks P.numbers F.step)
+        P.numbers P.Inx.number P.Gen.number) (calls_by (Asks P.numbers F.step) T.is_infallible)
         (record { tree = arena.old; marks = marks }) closure.old command result arena.new
         closure.new }
     ensures callable { F.IsAlwaysCallable closure.new }

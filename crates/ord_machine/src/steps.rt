@@ -306,7 +306,7 @@ pub fn get<P: BasePtr, T: Clone, A: Allocator>(
     p: P,
 ) -> Reply<P, T, A>
     requires { (x y : T) → T.is_clone x y → y ≡ x }
-    ensures { Gets P.numbers arena.now p result }
+    ensures { Gets T.is_infallible P.numbers arena.now p result }
 {
     match arena.get(p) {
         None => Reply::Item(None),

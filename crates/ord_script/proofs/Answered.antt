@@ -3,29 +3,30 @@ use Rattle.std.proofs.Common.{◌≡◌, ℕ, List, Result, Ok, Err, IfOk, Bor, 
 use Rattle.std.specs.{declared.cmp.Ordering.TheVariants.Equal, declared.cmp.Ordering.Ordering}
 use Rattle.ord_tree.specs.Tree.{Tree}
 use Rattle.triple_ord.specs.ClosureSearch.{Asks}
-use Rattle.ord_machine.specs.Machine.{State, Runs, RunsBetween}
-use Rattle.ord_script.specs.Pairs.{Pair, Pointer, PairCommand, PairReply, reading, beginning, answers_equal}
+use Rattle.ord_machine.specs.Machine.{calls_by, State, Runs, RunsBetween}
+use Rattle.ord_script.specs.Pairs.{Pair, Pointer, PairCommand, PairReply, reading, beginning, script_calls}
 use Rattle.ord_machine.proofs.CallerLemmas.{AreTrue-missing, Runs-like}
 
 -- A run of a script, from where it begins, with a closure that answers Equal always.
 module _ {A F : Type 0} (pointer_of : Pointer → ℕ × ℕ) (step : F → Pointer → Bor Pair → Ordering → F → Type 0)
     (equal : (f : F) (p : Pointer) (pair : Bor Pair) (o : Ordering) (g : F) → step f p pair o g → o ≡ Equal) (commands : List PairCommand)
-    (old : Tree Pair) (f : F) (new : Tree Pair) (g : F) (empty : old ≡ beginning.tree) where
+    (old : Tree Pair) (f : F) (new : Tree Pair) (g : F) (empty : old ≡ beginning.tree)
+    (always_clones : Pair → Type 0) (always : (pair : Pair) → always_clones pair) where
   -- these are replies of a run over the commands
   abbrev IsRun : List (PairReply A) → Type 0
-  IsRun replies = (end : State Pair) × Runs reading answers_equal beginning tt commands replies end tt
+  IsRun replies = (end : State Pair) × Runs reading script_calls beginning tt commands replies end tt
 
   -- and of one between these trees and closures
   abbrev RunsThere : List (PairReply A) → Type 0
-  RunsThere replies = RunsBetween reading (Asks pointer_of step) old f commands replies new g
+  RunsThere replies = RunsBetween reading (calls_by (Asks pointer_of step) always_clones) old f commands replies new g
 
   from_beginning : (replies : List (PairReply A)) → RunsThere replies → IsRun replies
   from_beginning replies between =
-      let run = subst (λ (t : Tree Pair). RunsBetween reading (Asks pointer_of step) t f commands replies new g) empty between
+      let run = subst (λ (t : Tree Pair). RunsBetween reading (calls_by (Asks pointer_of step) always_clones) t f commands replies new g) empty between
       beginning.marks (AreTrue-missing beginning.marks) in (
         record { tree = new; marks = run.0 },
-        Runs-like reading (Asks pointer_of step) answers_equal (λ q. tt)
-            (λ q s h asked. equal q asked.named asked.item s.1 h asked.called) beginning f commands replies
+        Runs-like reading (calls_by (Asks pointer_of step) always_clones) script_calls (λ q. tt)
+            (λ q s h asked. equal q asked.named asked.item s.1 h asked.called) (λ pair _. always pair) beginning f commands replies
             (record { tree = new; marks = run.0 }) g run.2,
       )
 

@@ -7,7 +7,7 @@ use Rattle.ord_tree.specs.Tree.{Tree}
 use Rattle.ord_machine.specs.declared.command.Command.TheVariants as commands
 use Rattle.ord_machine.specs.declared.reply.Reply.TheVariants.{Inserted, Refused, Ranks}
 use Rattle.ord_machine.specs.{Machine.State, Machine.Inserts, Machine.Runs, Laws.AreFirstReplies}
-use Rattle.ord_script.specs.Pairs.{Pair, Pointer, PairCommand, PairReply, reading, beginning, answers_equal}
+use Rattle.ord_script.specs.Pairs.{Pair, Pointer, PairCommand, PairReply, reading, beginning, script_calls}
 use Rattle.ord_script.specs.{Laws.FirstRankTextLaw, Laws.first_answers, declared.form.Form.TheVariants.Plain, declared.form.Form.Form}
 use Rattle.ord_script.specs.{Script.Script, Script.script_of, Arguments.arguments_in, Text.reply_lines, Service.Answers}
 use Rattle.ord_machine.proofs.FirstRank.{first_rank}
@@ -57,12 +57,12 @@ module _ {A : Type 0} where
   first_lines item first second new inserts replies = absurd replies
 
   -- all replies
-  answer_lines : (replies : List (PairReply A)) (end : State Pair) → Runs reading answers_equal beginning tt both_commands replies end tt → AreAnswer replies
+  answer_lines : (replies : List (PairReply A)) (end : State Pair) → Runs reading script_calls beginning tt both_commands replies end tt → AreAnswer replies
   answer_lines [] end run = absurd run
   answer_lines (first ∷ []) end run = absurd run.3
   answer_lines (first ∷ second ∷ []) end run =
       let step = run.2 in
-      first_lines (pos 5, 1) first second run.0.tree step.does.0 (first_rank _ _ _ _ _ _ answers_equal reading beginning end tt tt (pos 5, 1) (first ∷ second ∷ []) refl run)
+      first_lines (pos 5, 1) first second run.0.tree step.does.0 (first_rank _ _ _ _ _ _ script_calls reading beginning end tt tt (pos 5, 1) (first ∷ second ∷ []) refl run)
   answer_lines (first ∷ second ∷ third ∷ replies) end run = absurd run.3.3
 
   answer_text : (text : List ℕ) → Answers A (record { commands = both_commands; fault = None }) text → Contains first_answers text

@@ -1,7 +1,7 @@
 -- What a script answers, and what is written of it.
 use Rattle.std.specs.Prelude.{◌≡◌, ℕ, ◌+◌, ◌<◌, ◌≤◌, ◌||◌, Bool, true, false, List, [], ◌++◌, length, map, codes, Option, Some, None, Result, is_err}
 use Rattle.std.specs.Io.KnownBytes.{Consumes, Appends}
-use Rattle.ord_script.specs.{Pairs.Pair, Pairs.PairReply, Pairs.reading, Pairs.beginning, Pairs.answers_equal, declared.fault.Fault.Fault}
+use Rattle.ord_script.specs.{Pairs.Pair, Pairs.PairReply, Pairs.reading, Pairs.beginning, Pairs.script_calls, declared.fault.Fault.Fault}
 use Rattle.ord_script.specs.{Text.form_of, Text.reply_lines, Text.fault_line, declared.script_end.ScriptEnd.ScriptEnd, Devices.limit}
 use Rattle.ord_script.specs.Script.{Script, script_of}
 use Rattle.ord_script.specs.{Devices.WritesAll, declared.writing.WriteFailed.WriteFailed}
@@ -12,7 +12,7 @@ use Rattle.ord_machine.specs.Machine.{State, Runs}
 pub record Answers (A : Type 0) (script : Script) (text : List ℕ) : Type 0 where
   pub replies : List (PairReply A)
   pub end : State Pair
-  pub run : Runs reading answers_equal beginning tt script.commands replies end tt
+  pub run : Runs reading script_calls beginning tt script.commands replies end tt
   pub lines : text ≡ reply_lines (map form_of script.commands) replies ++ fault_line script.fault
 
 -- how a script ends where all goes well

@@ -2,7 +2,7 @@
 ghost use Rattle.std.specs.Prelude.{◌≡◌, ◌||◌, true, false, IfOk, string_bytes};
 ghost use Rattle.std.specs.Io.KnownBytes.{IsAtEnd};
 ghost use Rattle.ord_machine.specs.Machine.{State, Runs};
-ghost use Rattle.ord_script.specs.Pairs.{Pair, reading, beginning, answers_equal};
+ghost use Rattle.ord_script.specs.Pairs.{Pair, reading, beginning, script_calls};
 ghost use Rattle.ord_script.specs.Script.{script_of};
 ghost use Rattle.ord_script.specs.Service.{Answers, Serves, end_of, is_answered, is_read_failed, is_write_failed};
 
@@ -90,7 +90,7 @@ fn replies_to<A: Allocator + Copy>(
     commands: Vec<PairCommand, A>,
 ) -> Result<Vec<PairReply<A>, A>, AllocError>
     ensures { IfOk result (λ replies. (end : State Pair)
-        × Runs reading answers_equal beginning tt commands.items replies.items end tt) }
+        × Runs reading script_calls beginning tt commands.items replies.items end tt) }
 {
     let mut arena: PairArena<A> = SimpleOrdArena::new(alloc);
     // no line of a script searches by a closure

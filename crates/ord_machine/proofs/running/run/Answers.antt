@@ -2,7 +2,7 @@ use Rattle.std.proofs.Common.{◌≡◌, ℕ, zero, suc, ◌<◌, false, true, �
 use Rattle.std.proofs.lemmas.Grind.{common_steps}
 use Rattle.ord_machine.proofs.{Runs.RunsBetween-none, Runs.RunsBetween-more, Lists.cut_more, Lists.cut_all}
 use Rattle.triple_ord.specs.ClosureSearch.{Asks}
-use Rattle.ord_machine.specs.Machine.{reading_by}
+use Rattle.ord_machine.specs.Machine.{calls_by, reading_by}
 use Rattle.ord_machine.proofs.running.run.Goals as goal
 
 pub loop-command-init : goal.loop-command-init
@@ -10,7 +10,7 @@ loop-command-init g c =
     record {
       cut = grind (arith, common_steps);
       runs = RunsBetween-none (reading_by g.T.SimpleOrdItem.key_of g.T.Key.Ord.cmp g.P.Inx.BasePtrInx.most g.P.Gen.BasePtrGen.greatest
-          g.P.BasePtr.numbers g.P.Inx.BasePtrInx.number g.P.Gen.BasePtrGen.number) (Asks g.P.BasePtr.numbers (goal.F-step g)) _ _ _ c.in_ok-replies.ensures.items;
+          g.P.BasePtr.numbers g.P.Inx.BasePtrInx.number g.P.Gen.BasePtrGen.number) (calls_by (Asks g.P.BasePtr.numbers (goal.F-step g)) g.T.Clone.is_infallible) _ _ _ c.in_ok-replies.ensures.items;
       callable = c.requires.callable;
       count = grind (arith, common_steps);
       room = grind (arith, common_steps);
