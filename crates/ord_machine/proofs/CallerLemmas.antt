@@ -29,9 +29,15 @@ module _ {T F H : Type 0} (asks : F → Shown T → F → Type 0) (asks' : H →
   searches-like : (entries : List (Entry T)) (f g : F) (last : Option (Shown T)) (c : ℕ) → Searches asks entries f g last c → Searches asks' entries (at f) (at g) last c
   searches-like entries f g last c n = record { shown = n.shown; calls = calls-like f n.shown g n.calls; search = n.search; last_is = n.last_is; count = n.count }
 
+-- an item whose clone may be refused memory, and so where fewer clones are never refused it
+may_fail : {T : Type 0} (one other : T → Type 0) → ((x : T) → other x → one x) → (item : Option T)
+    → IsSomeAnd item (λ x. one x → ⊥) → IsSomeAnd item (λ x. other x → ⊥)
+may_fail one other clones None fails = absurd fails
+may_fail one other clones (Some x) fails = λ always. fails (clones x always)
+
 module _ {P T I G A F H K : Type 0} (r : Reading P T I G K) (calls : Calls T F) (calls' : Calls T H)
     (at : F → H) (like : (f : F) (s : Shown T) (g : F) → calls.asks f s g → calls'.asks (at f) s (at g))
-    (clones : (x : T) → calls'.always_clones x → calls.always_clones x) where
+    (clones : (x : T) → calls'.is_infallible x → calls.is_infallible x) where
   answers-like : (s : State T) (f : F) (reply : Reply P T A I G) (g : F) → AnswersWith calls.asks r.pointer s f reply g → AnswersWith calls'.asks r.pointer s (at f) reply (at g)
   answers-like s f (Found p c) g answers = ((answers.0.0, searches-like calls.asks calls'.asks at like s.tree.list.entries f g answers.0.0 c answers.0.1, answers.0.2), answers.1)
   answers-like s f reply g answers = absurd answers
@@ -41,14 +47,10 @@ module _ {P T I G A F H K : Type 0} (r : Reading P T I G K) (calls : Calls T F) 
       ((answers.0.0, searches-like calls.asks calls'.asks at like s.tree.list.entries f g answers.0.0 c answers.0.1, answers.0.2, answers.0.3), answers.1)
   similar-like s f reply g answers = absurd answers
 
-  may_fail : (item : Option T) → IsSomeAnd item (λ x. calls.always_clones x → ⊥) → IsSomeAnd item (λ x. calls'.always_clones x → ⊥)
-  may_fail None fails = absurd fails
-  may_fail (Some x) fails = λ always. fails (clones x always)
-
   gets-like : (s : State T) (p : P) (reply : Reply P T A I G)
-      → Gets calls.always_clones r.pointer s.tree p reply → Gets calls'.always_clones r.pointer s.tree p reply
+      → Gets calls.is_infallible r.pointer s.tree p reply → Gets calls'.is_infallible r.pointer s.tree p reply
   gets-like s p (Item item) gets = gets
-  gets-like s p (Refused AllocError) gets = may_fail (item_of s.tree.list.entries (r.pointer p)) gets
+  gets-like s p (Refused AllocError) gets = may_fail calls.is_infallible calls'.is_infallible clones (item_of s.tree.list.entries (r.pointer p)) gets
   gets-like s p reply gets = absurd gets
 
   does-like : (old : State T) (f g : F) (command : Command P T I G K) (reply : Reply P T A I G) (new : Tree T)

@@ -42,11 +42,11 @@ reading_by key cmp most greatest pointer index generation =
 -- is left as g; and the items whose clone is never refused memory.
 pub record Calls (T F : Type 0) : Type 1 where
   pub asks : F → Shown T → F → Type 0
-  pub always_clones : T → Type 0
+  pub is_infallible : T → Type 0
 
 -- the calls of these
 abbrev pub calls_by : {T F : Type 0} → (F → Shown T → F → Type 0) → (T → Type 0) → Calls T F
-calls_by asks always_clones = record { asks = asks; always_clones = always_clones }
+calls_by asks is_infallible = record { asks = asks; is_infallible = is_infallible }
 
 -- what is known of how a shape came about
 pub record Marks : Type 0 where
@@ -175,10 +175,10 @@ module _ {P T I G A : Type 0} where
 
   -- the item under a pointer; memory may be refused to its clone alone, unless that is never refused
   abbrev pub Gets : (T → Type 0) → (P → ℕ × ℕ) → Tree T → P → Reply P T A I G → Type 0
-  Gets always_clones pointer t p (Item item) = item ≡ item_of t.list.entries (pointer p)
-  Gets always_clones pointer t p (Refused AllocError) =
-      IsSomeAnd (item_of t.list.entries (pointer p)) (λ item. always_clones item → ⊥)
-  Gets always_clones pointer t p reply = ⊥
+  Gets is_infallible pointer t p (Item item) = item ≡ item_of t.list.entries (pointer p)
+  Gets is_infallible pointer t p (Refused AllocError) =
+      IsSomeAnd (item_of t.list.entries (pointer p)) (λ item. is_infallible item → ⊥)
+  Gets is_infallible pointer t p reply = ⊥
 
   -- the item under a pointer, in the place of which another is put; the shape stays
   abbrev pub Sets : (P → ℕ × ℕ) → Tree T → P → T → Reply P T A I G → Tree T → Type 0
@@ -373,7 +373,7 @@ module _ {P T I G A F : Type 0} where
   abbrev pub Does : {K : Type 0} → Reading P T I G K → Calls T F → State T → F → Command P T I G K → Reply P T A I G → Tree T → F → Type 0
   Does r calls old f commands.FindWith reply new g = AnswersWith calls.asks r.pointer old f reply g × (new ≡ old.tree)
   Does r calls old f commands.SimilarWith reply new g = AnswersSimilarWith calls.asks r.pointer old f reply g × (new ≡ old.tree)
-  Does r calls old f (commands.Get p) reply new g = (Gets calls.always_clones r.pointer old.tree p reply × (new ≡ old.tree)) × (g ≡ f)
+  Does r calls old f (commands.Get p) reply new g = (Gets calls.is_infallible r.pointer old.tree p reply × (new ≡ old.tree)) × (g ≡ f)
   Does r calls old f command reply new g = Replies r old command reply new × (g ≡ f)
 
   -- From the state old and the closure f, the machine may give this reply to the command, and go on to the state new and to g. The

@@ -1,5 +1,6 @@
 -- What the reads before a change say of the shapes that stand there.
-use Rattle.std.proofs.Common.{◌≡◌, ◌≢◌, ℕ, ◌+◌, Option, Some, List, sym, ◌∙◌, ap, option_map, is_some, true}
+use Rattle.std.proofs.{lemmas.Option.same_Some}
+use Rattle.std.proofs.Common.{◌≡◌, ◌≢◌, ℕ, ◌+◌, Option, Some, None, List, refl, sym, ◌∙◌, ap, option_map, is_some, true, false}
 use Rattle.ord_tree.specs.{TreeLinks.other_side, TreeLinks.child_at, TreeLinks.as_numbers, declared.tree_links.TreeLinks.TreeLinks}
 use Rattle.ord_tree.specs.{declared.tree_links.Side.Side, Shape.rank_of, Shape.root_of, Slots.Slots, Slots.rank_at, Demote.IsFallen}
 use Rattle.ord_tree.specs.Rotate.{Site}
@@ -7,6 +8,13 @@ use Rattle.ord_tree.proofs.Promoting.{IsRisingUnder, z_rank, y_rank as risen_ran
 use Rattle.ord_tree.proofs.Doubles.{high_rank, low_rank as site_low, outer_rank, inner_rank, inner_root}
 use Rattle.ord_tree.proofs.Demoting.{y_rank as fallen_rank, low_rank as fallen_low, far_root, far_rank}
 use Rattle.ord_tree.proofs.{LeafBranches.is_some-mapped, Rotations.child-as_numbers}
+
+-- links with one number are one link
+pub same-link : {I : Type 0} (number : I → ℕ) → ((i j : I) → number i ≡ number j → i ≡ j) → (a b : Option I) → option_map number a ≡ option_map number b → a ≡ b
+same-link number one None None same = refl
+same-link number one (Some i) (Some j) same = ap (λ i. Some i) (one i j (same_Some _ _ same))
+same-link number one None (Some j) same = let never : false ≡ true = ap is_some same in cc
+same-link number one (Some i) None same = let never : true ≡ false = ap is_some same in cc
 
 module _ {I : Type 0} (number : I → ℕ) where
   -- what a link leads to, as a number

@@ -72,8 +72,8 @@ pub fn demote_or_rotate<N: Nodes>(
     let other = side.other();
     let rank = nodes.links(y).rank;
     let links = nodes.links(s);
-    let outer = rank_of(nodes, links.child(side));
-    let inner = rank_of(nodes, links.child(other));
+    let outer = rank_of(nodes, nodes.child(s, side));
+    let inner = rank_of(nodes, nodes.child(s, other));
     if links.rank - outer == 1 {
         rotate(nodes, root, side, y, s, inner + 1, rank);
         return false;
@@ -83,7 +83,7 @@ pub fn demote_or_rotate<N: Nodes>(
         nodes.set_rank(y, rank - 1);
         return true;
     }
-    let a = links.child(other).unwrap();
+    let a = nodes.child(s, other).unwrap();
     rotate(nodes, root, other, s, a, inner, rank);
     rotate(nodes, root, side, y, a, inner, rank);
     false
@@ -110,9 +110,9 @@ pub fn demote<N: Nodes>(nodes: &mut N, root: &mut Option<N::Inx>, y: N::Inx, sid
     ensures kept { N.list nodes.new ≡ N.list nodes.old }
 {
     let links = nodes.links(y);
-    let low = rank_of(nodes, links.child(side));
+    let low = rank_of(nodes, nodes.child(y, side));
     let other = side.other();
-    let Some(s) = links.child(other) else {
+    let Some(s) = nodes.child(y, other) else {
         nodes.set_rank(y, 1);
         return true;
     };

@@ -53,13 +53,13 @@ pub fn rotate_once_or_twice<N: Nodes>(
     ensures kept { N.list nodes.new ≡ N.list nodes.old }
 {
     let low = nodes.links(y);
-    let outer = rank_of(nodes, low.child(side));
+    let outer = rank_of(nodes, nodes.child(y, side));
     if low.rank - outer == 1 {
         rotate(nodes, root, side, z, y, outer, low.rank);
         return;
     }
     let other = side.other();
-    let x = low.child(other).unwrap();
+    let x = nodes.child(y, other).unwrap();
     let rank = nodes.links(x).rank;
     rotate(nodes, root, other, y, x, rank, low.rank);
     rotate(nodes, root, side, z, x, rank, low.rank);
@@ -95,7 +95,7 @@ pub fn promote<N: Nodes>(nodes: &mut N, root: &mut Option<N::Inx>, y: N::Inx) ->
         return None;
     }
     let side = side_of::<N>(&high, y);
-    let sibling = rank_of(nodes, high.child(side.other()));
+    let sibling = rank_of(nodes, nodes.child(z, side.other()));
     if high.rank - sibling == 1 {
         nodes.set_rank(z, high.rank + 1);
         return Some(z);

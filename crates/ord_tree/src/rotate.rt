@@ -34,9 +34,10 @@ pub fn rotate<N: Nodes>(
     ensures kept { N.list nodes.new ≡ N.list nodes.old }
 {
     let other = side.other();
-    let low = nodes.links(y);
+    // with its links a node tells what its side is
+    let _ = nodes.links(y);
     let high = nodes.links(z);
-    let inner = low.child(other);
+    let inner = nodes.child(y, other);
     replace_child(nodes, root, high.back, z, Some(y));
     hang(nodes, inner, Some(z));
     nodes.relink(z, side, inner, Some(y), rank_z);

@@ -43,16 +43,15 @@ impl<P: BasePtr, T: Drop, A: Allocator> ChainArena<P, T, A> {
             .arena
             .insert_within_capacity(LinkNoGen::new((prev, next), t))?;
         let new = Some(p.inx());
-        let ends = relink(
+        relink(
             &mut self.arena,
             prev,
             new,
             new,
             next,
-            (self.first, self.last),
+            &mut self.first,
+            &mut self.last,
         );
-        self.first = ends.0;
-        self.last = ends.1;
         Ok(p)
     }
 

@@ -9,34 +9,38 @@ use crate::link::LinkNoGen;
 use arena_base::{Arena, BasePtr, ItemsMut};
 use std::alloc::Allocator;
 
-// Lets `left`, if there is one, lead on to `next`, and `right`, if there is one, back to `prev`. Where one is missing that end
-// of the list is new. Returns the first and the last index of the list.
+// Lets `left`, if there is one, lead on to `next`, and `right`, if there is one, back to `prev`. If one is missing, that end of the list
+// is new.
 pub(super) fn relink<P: BasePtr, T, A: Allocator>(
     arena: &mut Arena<P, LinkNoGen<P, T>, A>,
     left: Option<P::Inx>,
     next: Option<P::Inx>,
     prev: Option<P::Inx>,
     right: Option<P::Inx>,
-    ends: (Option<P::Inx>, Option<P::Inx>),
-) -> (Option<P::Inx>, Option<P::Inx>)
+    first: &mut Option<P::Inx>,
+    last: &mut Option<P::Inx>,
+)
     requires left { ForSome left (λ i. IsOccupied arena.old (P.Inx.number i)) }
     requires right { ForSome right (λ i. IsOccupied arena.old (P.Inx.number i)) }
     ensures arena { arena.new ≡ linked_prev
         (linked_next arena.old (option_map P.Inx.number left)
         (named_of P.Inx.most (option_map P.Inx.number next)))
         (option_map P.Inx.number right) (named_of P.Inx.most (option_map P.Inx.number prev)) }
-    ensures first { option_map P.Inx.number result.0 ≡
+    ensures first { option_map P.Inx.number first.new ≡
         (if is_some (option_map P.Inx.number left)
-        then option_map P.Inx.number ends.0 else option_map P.Inx.number next) }
-    ensures last { option_map P.Inx.number result.1 ≡
+        then option_map P.Inx.number first.old else option_map P.Inx.number next) }
+    ensures last { option_map P.Inx.number last.new ≡
         (if is_some (option_map P.Inx.number right)
-        then option_map P.Inx.number ends.1 else option_map P.Inx.number prev) }
+        then option_map P.Inx.number last.old else option_map P.Inx.number prev) }
 {
     set_next(arena, left, next);
     set_prev(arena, right, prev);
-    let first = if left.is_some() { ends.0 } else { next };
-    let last = if right.is_some() { ends.1 } else { prev };
-    (first, last)
+    if left.is_none() {
+        *first = next;
+    }
+    if right.is_none() {
+        *last = prev;
+    }
 }
 
 // Links the entry at an index, if one is named, to another next one.

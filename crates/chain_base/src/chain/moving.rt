@@ -24,20 +24,27 @@ impl<P: BasePtr, T, A: Allocator> ChainArena<P, T, A> {
         // Each index of an entry can be named in a link.
         let _ = self.len();
         let (prev, next) = self.arena.entry(i).1.prev_next();
-        let closed = relink(
+        relink(
             &mut self.arena,
             prev,
             next,
             prev,
             next,
-            (self.first, self.last),
+            &mut self.first,
+            &mut self.last,
         );
         let (left, right) = neighbours_in(&self.arena, kind);
         set_next(&mut self.arena, Some(i), right);
         set_prev(&mut self.arena, Some(i), left);
-        let ends = relink(&mut self.arena, left, Some(i), Some(i), right, closed);
-        self.first = ends.0;
-        self.last = ends.1;
+        relink(
+            &mut self.arena,
+            left,
+            Some(i),
+            Some(i),
+            right,
+            &mut self.first,
+            &mut self.last,
+        );
     }
 }
 

@@ -42,16 +42,15 @@ impl<P: BasePtr, T, A: Allocator> ChainArena<P, T, A> {
     {
         let (prev, next) = self.arena.entry(i).1.prev_next();
         let taken = self.arena.remove_entry(i);
-        let ends = relink(
+        relink(
             &mut self.arena,
             prev,
             next,
             prev,
             next,
-            (self.first, self.last),
+            &mut self.first,
+            &mut self.last,
         );
-        self.first = ends.0;
-        self.last = ends.1;
         taken
     }
 

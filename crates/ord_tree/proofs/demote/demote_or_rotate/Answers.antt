@@ -9,7 +9,7 @@ use Rattle.ord_tree.proofs.demote.demote_or_rotate.Goals as goal
 pub overflow_add-inner : goal.overflow_add-inner
 overflow_add-inner g c =
     let r = site_read g.N.Nodes.number c.requires.1.site _ c.other-other.ensures _ _ c.links-rank.ensures c.links-links.ensures
-    _ _ c.child.ensures c.child-2.ensures _ _ c.rank_of-outer.ensures c.rank_of-inner.ensures in
+    _ _ (c.child.ensures _ c.links-links.ensures) (c.child-2.ensures _ c.links-links.ensures) _ _ c.rank_of-outer.ensures c.rank_of-inner.ensures in
     record { fits = omega (arith, r, c.requires.1.over, low-small c.requires.1) }
 
 pub rotate-requires : goal.rotate-requires
@@ -19,14 +19,14 @@ pub returns-then-links-outer-eq1-clause-mended : goal.returns-then-links-outer-e
 returns-then-links-outer-eq1-clause-mended g c = λ order lean.
     let site = lean.site in
     let r = site_read g.N.Nodes.number site _ c.other-other.ensures _ _ c.links-rank.ensures c.links-links.ensures
-    _ _ c.child.ensures c.child-2.ensures _ _ c.rank_of-outer.ensures c.rank_of-inner.ensures in
+    _ _ (c.child.ensures _ c.links-links.ensures) (c.child-2.ensures _ c.links-links.ensures) _ _ c.rank_of-outer.ensures c.rank_of-inner.ensures in
     IsRepaired-lifted lean (c.rotate.ensures.rotated site) (omega (arith, r)) r.high_is (omega (arith, r))
 
 pub returns-then-links-inner-eq2-clause-mended : goal.returns-then-links-inner-eq2-clause-mended
 returns-then-links-inner-eq2-clause-mended g c = λ order lean.
     let number = g.N.Nodes.number in
     let r = site_read number lean.site _ c.other-other.ensures _ _ c.links-rank.ensures c.links-links.ensures
-    _ _ c.child.ensures c.child-2.ensures _ _ c.rank_of-outer.ensures c.rank_of-inner.ensures in
+    _ _ (c.child.ensures _ c.links-links.ensures) (c.child-2.ensures _ c.links-links.ensures) _ _ c.rank_of-outer.ensures c.rank_of-inner.ensures in
     let at = g.N.Nodes.at in
     let s = number c.args.s in
     let y = number c.args.y in
@@ -42,16 +42,16 @@ unwrap-a-requires g c =
     let number = g.N.Nodes.number in
     let site = c.requires.1.site in
     let r = site_read number site _ c.other-other.ensures _ _ c.links-rank.ensures c.links-links.ensures
-    _ _ c.child.ensures c.child-2.ensures _ _ c.rank_of-outer.ensures c.rank_of-inner.ensures in
+    _ _ (c.child.ensures _ c.links-links.ensures) (c.child-2.ensures _ c.links-links.ensures) _ _ c.rank_of-outer.ensures c.rank_of-inner.ensures in
     let there = inner_some c.requires.1 (as_numbers number c.links-links.result) c.links-links.ensures (omega (arith, r)) in
-    inner-there number site _ c.other-other.ensures _ _ c.links-rank.ensures c.links-links.ensures _ c.child-3.ensures there
+    inner-there number site _ c.other-other.ensures _ _ c.links-rank.ensures c.links-links.ensures _ (c.child-3.ensures _ c.links-links.ensures) there
 
 pub rotate-requires-2 : goal.rotate-requires-2
 rotate-requires-2 g c =
     let number = g.N.Nodes.number in
     let site = c.requires.1.site in
     let x = number c.unwrap-a.result in
-    let x_is = inner-read number site _ c.other-other.ensures _ _ c.links-rank.ensures c.links-links.ensures _ c.child-3.ensures _ c.unwrap-a.ensures in
+    let x_is = inner-read number site _ c.other-other.ensures _ _ c.links-rank.ensures c.links-links.ensures _ (c.child-3.ensures _ c.links-links.ensures) _ c.unwrap-a.ensures in
     let P : Side → Type 0 = λ side. Site (g.N.Nodes.at c.args.nodes.now) (option_map number c.args.root.now) side (number c.args.s) x in
     subst P (sym c.other-other.ensures) (site_below site x x_is)
 
@@ -60,7 +60,7 @@ rotate-requires-3 g c =
     let number = g.N.Nodes.number in
     let site = c.requires.1.site in
     let x = number c.unwrap-a.result in
-    let x_is = inner-read number site _ c.other-other.ensures _ _ c.links-rank.ensures c.links-links.ensures _ c.child-3.ensures _ c.unwrap-a.ensures in
+    let x_is = inner-read number site _ c.other-other.ensures _ _ c.links-rank.ensures c.links-links.ensures _ (c.child-3.ensures _ c.links-links.ensures) _ c.unwrap-a.ensures in
     let P : Side → Type 0 = λ side. (site : Site (g.N.Nodes.at c.args.nodes.now) (option_map number c.args.root.now) side (number c.args.s) x)
     → IsRotated site (g.N.Nodes.at c.rotate-2.new.nodes) (option_map number c.rotate-2.new.root) c.rank_of-inner.result c.links-rank.result.rank in
     site_above site x x_is (subst P c.other-other.ensures c.rotate-2.ensures.rotated (site_below site x x_is))
@@ -70,9 +70,9 @@ returns-clause-mended g c = λ order lean.
     let number = g.N.Nodes.number in
     let site = lean.site in
     let r = site_read number site _ c.other-other.ensures _ _ c.links-rank.ensures c.links-links.ensures
-    _ _ c.child.ensures c.child-2.ensures _ _ c.rank_of-outer.ensures c.rank_of-inner.ensures in
+    _ _ (c.child.ensures _ c.links-links.ensures) (c.child-2.ensures _ c.links-links.ensures) _ _ c.rank_of-outer.ensures c.rank_of-inner.ensures in
     let x = number c.unwrap-a.result in
-    let x_is = inner-read number site _ c.other-other.ensures _ _ c.links-rank.ensures c.links-links.ensures _ c.child-3.ensures _ c.unwrap-a.ensures in
+    let x_is = inner-read number site _ c.other-other.ensures _ _ c.links-rank.ensures c.links-links.ensures _ (c.child-3.ensures _ c.links-links.ensures) _ c.unwrap-a.ensures in
     let P : Side → Type 0 = λ side. (site : Site (g.N.Nodes.at c.args.nodes.now) (option_map number c.args.root.now) side (number c.args.s) x)
     → IsRotated site (g.N.Nodes.at c.rotate-2.new.nodes) (option_map number c.rotate-2.new.root) c.rank_of-inner.result c.links-rank.result.rank in
     let rotated = subst P c.other-other.ensures c.rotate-2.ensures.rotated (site_below site x x_is) in
@@ -82,14 +82,14 @@ pub returns-then-links-outer-eq1-clause-account : goal.returns-then-links-outer-
 returns-then-links-outer-eq1-clause-account g c = λ order lean.
     let site = lean.site in
     let r = site_read g.N.Nodes.number site _ c.other-other.ensures _ _ c.links-rank.ensures c.links-links.ensures
-    _ _ c.child.ensures c.child-2.ensures _ _ c.rank_of-outer.ensures c.rank_of-inner.ensures in
+    _ _ (c.child.ensures _ c.links-links.ensures) (c.child-2.ensures _ c.links-links.ensures) _ _ c.rank_of-outer.ensures c.rank_of-inner.ensures in
     IsSpelledWithin-lifted lean (c.rotate.ensures.rotated site) (omega (arith, r)) r.high_is
 
 pub returns-then-links-inner-eq2-clause-account : goal.returns-then-links-inner-eq2-clause-account
 returns-then-links-inner-eq2-clause-account g c = λ order lean.
     let number = g.N.Nodes.number in
     let r = site_read number lean.site _ c.other-other.ensures _ _ c.links-rank.ensures c.links-links.ensures
-    _ _ c.child.ensures c.child-2.ensures _ _ c.rank_of-outer.ensures c.rank_of-inner.ensures in
+    _ _ (c.child.ensures _ c.links-links.ensures) (c.child-2.ensures _ c.links-links.ensures) _ _ c.rank_of-outer.ensures c.rank_of-inner.ensures in
     let at = g.N.Nodes.at in
     let s = number c.args.s in
     let y = number c.args.y in
@@ -105,9 +105,9 @@ returns-clause-account g c = λ order lean.
     let number = g.N.Nodes.number in
     let site = lean.site in
     let r = site_read number site _ c.other-other.ensures _ _ c.links-rank.ensures c.links-links.ensures
-    _ _ c.child.ensures c.child-2.ensures _ _ c.rank_of-outer.ensures c.rank_of-inner.ensures in
+    _ _ (c.child.ensures _ c.links-links.ensures) (c.child-2.ensures _ c.links-links.ensures) _ _ c.rank_of-outer.ensures c.rank_of-inner.ensures in
     let x = number c.unwrap-a.result in
-    let x_is = inner-read number site _ c.other-other.ensures _ _ c.links-rank.ensures c.links-links.ensures _ c.child-3.ensures _ c.unwrap-a.ensures in
+    let x_is = inner-read number site _ c.other-other.ensures _ _ c.links-rank.ensures c.links-links.ensures _ (c.child-3.ensures _ c.links-links.ensures) _ c.unwrap-a.ensures in
     let P : Side → Type 0 = λ side. (site : Site (g.N.Nodes.at c.args.nodes.now) (option_map number c.args.root.now) side (number c.args.s) x)
     → IsRotated site (g.N.Nodes.at c.rotate-2.new.nodes) (option_map number c.rotate-2.new.root) c.rank_of-inner.result c.links-rank.result.rank in
     let rotated = subst P c.other-other.ensures c.rotate-2.ensures.rotated (site_below site x x_is) in

@@ -32,14 +32,14 @@ pub rank_of-sibling-requires : goal.rank_of-sibling-requires
 rank_of-sibling-requires g c =
     let number = g.N.Nodes.number in
     let u = rising_under c.requires.2 (number c.in-Some.z) (y_back c.requires.2 (as_numbers number c.links-low.result) c.links-low.ensures ∙ ap (option_map number) c.in-Some.is) in
-    beside-occupied number u _ _ c.links-low.ensures c.links-high.ensures _ c.side_of-side.ensures _ c.other.ensures _ c.child.ensures
+    beside-occupied number u _ _ c.links-low.ensures c.links-high.ensures _ c.side_of-side.ensures _ c.other.ensures _ (c.child.ensures _ c.links-high.ensures)
 
 pub overflow_sub-high : goal.overflow_sub-high
 overflow_sub-high g c =
     let number = g.N.Nodes.number in
     let u = rising_under c.requires.2 (number c.in-Some.z) (y_back c.requires.2 (as_numbers number c.links-low.result) c.links-low.ensures ∙ ap (option_map number) c.in-Some.is) in
     let ranks = ranks-read number u _ _ c.links-low.ensures c.links-high.ensures in
-    let sibling_is = beside-read number u _ _ c.links-low.ensures c.links-high.ensures _ c.side_of-side.ensures _ c.other.ensures _ c.child.ensures _ c.rank_of-sibling.ensures in
+    let sibling_is = beside-read number u _ _ c.links-low.ensures c.links-high.ensures _ c.side_of-side.ensures _ c.other.ensures _ (c.child.ensures _ c.links-high.ensures) _ c.rank_of-sibling.ensures in
     omega (arith, ranks, sibling_is, u.over.greater)
 
 pub overflow_add-high : goal.overflow_add-high
@@ -54,7 +54,7 @@ returns-then-high-sibling-eq1-clause-promoted g c = λ order slack rising.
     let number = g.N.Nodes.number in
     let u = rising_under rising (number c.in-Some.z) (y_back rising (as_numbers number c.links-low.result) c.links-low.ensures ∙ ap (option_map number) c.in-Some.is) in
     let ranks = ranks-read number u _ _ c.links-low.ensures c.links-high.ensures in
-    let sibling_is = beside-read number u _ _ c.links-low.ensures c.links-high.ensures _ c.side_of-side.ensures _ c.other.ensures _ c.child.ensures _ c.rank_of-sibling.ensures in
+    let sibling_is = beside-read number u _ _ c.links-low.ensures c.links-high.ensures _ c.side_of-side.ensures _ c.other.ensures _ (c.child.ensures _ c.links-high.ensures) _ c.rank_of-sibling.ensures in
     let z = number c.in-Some.z in
     let P : ℕ → Type 0 = λ k. IsReranked (g.N.Nodes.at c.args.nodes.now) (g.N.Nodes.at c.set_rank.new.self) z (k + 1) in
     IsPromoted-promoted u (g.N.Nodes.at c.set_rank.new.self) (subst P ranks.0 (record { here = c.set_rank.ensures.here; elsewhere = c.set_rank.ensures.elsewhere }))
@@ -66,7 +66,7 @@ rotate_once_or_twice-requires g c =
     let u = rising_under c.requires.2 (number c.in-Some.z) (y_back c.requires.2 (as_numbers number c.links-low.result) c.links-low.ensures ∙ ap (option_map number) c.in-Some.is) in
     let ranks = ranks-read number u _ _ c.links-low.ensures c.links-high.ensures in
     let side_is = side-read number u _ _ c.links-low.ensures c.links-high.ensures _ c.side_of-side.ensures in
-    let sibling_is = beside-read number u _ _ c.links-low.ensures c.links-high.ensures _ c.side_of-side.ensures _ c.other.ensures _ c.child.ensures _ c.rank_of-sibling.ensures in
+    let sibling_is = beside-read number u _ _ c.links-low.ensures c.links-high.ensures _ c.side_of-side.ensures _ c.other.ensures _ (c.child.ensures _ c.links-high.ensures) _ c.rank_of-sibling.ensures in
     let P : Side → Type 0 = λ side. IsSteep (g.N.Nodes.at c.args.nodes.now) (option_map number c.args.root.now) side (number c.in-Some.z) (number c.args.y) c.requires.0 c.requires.1 in
     (c.requires.0, c.requires.1, subst P (sym side_is) (IsSteep-rising u (omega (arith, ranks, u.over.lesser)) (omega (arith, ranks, sibling_is))))
 
@@ -76,7 +76,7 @@ returns-clause-promoted g c = λ order slack rising.
     let u = rising_under rising (number c.in-Some.z) (y_back rising (as_numbers number c.links-low.result) c.links-low.ensures ∙ ap (option_map number) c.in-Some.is) in
     let ranks = ranks-read number u _ _ c.links-low.ensures c.links-high.ensures in
     let side_is = side-read number u _ _ c.links-low.ensures c.links-high.ensures _ c.side_of-side.ensures in
-    let sibling_is = beside-read number u _ _ c.links-low.ensures c.links-high.ensures _ c.side_of-side.ensures _ c.other.ensures _ c.child.ensures _ c.rank_of-sibling.ensures in
+    let sibling_is = beside-read number u _ _ c.links-low.ensures c.links-high.ensures _ c.side_of-side.ensures _ c.other.ensures _ (c.child.ensures _ c.links-high.ensures) _ c.rank_of-sibling.ensures in
     let P : Side → Type 0 = λ side. IsSteep (g.N.Nodes.at c.args.nodes.now) (option_map number c.args.root.now) side (number c.in-Some.z) (number c.args.y) order slack in
     c.rotate_once_or_twice.ensures.repaired order slack (subst P (sym side_is) (IsSteep-rising u (omega (arith, ranks, u.over.lesser)) (omega (arith, ranks, sibling_is))))
 
@@ -99,7 +99,7 @@ returns-then-high-sibling-eq1-clause-account g c = λ order slack rising.
     let hangs = y_back rising (as_numbers number c.links-low.result) c.links-low.ensures ∙ ap (option_map number) c.in-Some.is in
     let u = rising_under rising (number c.in-Some.z) hangs in
     let ranks = ranks-read number u _ _ c.links-low.ensures c.links-high.ensures in
-    let sibling_is = beside-read number u _ _ c.links-low.ensures c.links-high.ensures _ c.side_of-side.ensures _ c.other.ensures _ c.child.ensures _ c.rank_of-sibling.ensures in
+    let sibling_is = beside-read number u _ _ c.links-low.ensures c.links-high.ensures _ c.side_of-side.ensures _ c.other.ensures _ (c.child.ensures _ c.links-high.ensures) _ c.rank_of-sibling.ensures in
     let z = number c.in-Some.z in
     let P : ℕ → Type 0 = λ k. IsReranked (g.N.Nodes.at c.args.nodes.now) (g.N.Nodes.at c.set_rank.new.self) z (k + 1) in
     IsRisingWithin-under rising z hangs (IsRisingWithin-promoted u (g.N.Nodes.at c.set_rank.new.self) (subst P ranks.0 (record { here = c.set_rank.ensures.here; elsewhere = c.set_rank.ensures.elsewhere }))
@@ -114,7 +114,7 @@ returns-clause-account g c = λ order slack rising.
     let u = rising_under rising z hangs in
     let ranks = ranks-read number u _ _ c.links-low.ensures c.links-high.ensures in
     let side_is = side-read number u _ _ c.links-low.ensures c.links-high.ensures _ c.side_of-side.ensures in
-    let sibling_is = beside-read number u _ _ c.links-low.ensures c.links-high.ensures _ c.side_of-side.ensures _ c.other.ensures _ c.child.ensures _ c.rank_of-sibling.ensures in
+    let sibling_is = beside-read number u _ _ c.links-low.ensures c.links-high.ensures _ c.side_of-side.ensures _ c.other.ensures _ (c.child.ensures _ c.links-high.ensures) _ c.rank_of-sibling.ensures in
     let P : Side → Type 0 = λ side. (steep : IsSteep (g.N.Nodes.at c.args.nodes.now) (option_map number c.args.root.now) side z y order slack)
     → IsSpelledWithin (steep_ranks steep) (g.N.Nodes.at c.rotate_once_or_twice.new.nodes) (option_map number c.rotate_once_or_twice.new.root) order (steep_credit steep + 3) in
     let equal : u.high ≡ u.low + 1 = omega (arith, ranks, u.over.lesser) in

@@ -11,7 +11,7 @@ returns-then-low-outer-eq1-clause-repaired g c = λ order slack steep.
     let number = g.N.Nodes.number in
     let low = as_numbers number c.links-low.result in
     let outer_is : c.rank_of-outer.result ≡ rank_of steep.site.outer
-    = rw (c.rank_of-outer.ensures, child-read number c.args.side c.links-low.result c.child.result c.child.ensures) (outer_rank steep.site low c.links-low.ensures) in
+    = rw (c.rank_of-outer.ensures, child-read number c.args.side c.links-low.result c.child.result (c.child.ensures _ c.links-low.ensures)) (outer_rank steep.site low c.links-low.ensures) in
     IsRepaired-single steep (c.rotate.ensures.rotated steep.site) outer_is (low_rank steep.site low c.links-low.ensures) (omega arith)
 
 pub returns-then-low-outer-eq1-clause-account : goal.returns-then-low-outer-eq1-clause-account
@@ -19,7 +19,7 @@ returns-then-low-outer-eq1-clause-account g c = λ order slack steep.
     let number = g.N.Nodes.number in
     let low = as_numbers number c.links-low.result in
     let outer_is : c.rank_of-outer.result ≡ rank_of steep.site.outer
-    = rw (c.rank_of-outer.ensures, child-read number c.args.side c.links-low.result c.child.result c.child.ensures) (outer_rank steep.site low c.links-low.ensures) in
+    = rw (c.rank_of-outer.ensures, child-read number c.args.side c.links-low.result c.child.result (c.child.ensures _ c.links-low.ensures)) (outer_rank steep.site low c.links-low.ensures) in
     IsSpelledWithin-single steep (c.rotate.ensures.rotated steep.site) outer_is (low_rank steep.site low c.links-low.ensures) (omega arith)
 
 pub unwrap-x-requires : goal.unwrap-x-requires
@@ -28,15 +28,15 @@ unwrap-x-requires g c =
     let low = as_numbers number c.links-low.result in
     let steep = c.requires.2 in
     let outer_is : c.rank_of-outer.result ≡ rank_of steep.site.outer
-    = rw (c.rank_of-outer.ensures, child-read number c.args.side c.links-low.result c.child.result c.child.ensures) (outer_rank steep.site low c.links-low.ensures) in
-    let inner_is = child_other-read number c.args.side _ c.other-other.ensures c.links-low.result c.child-2.result c.child-2.ensures in
+    = rw (c.rank_of-outer.ensures, child-read number c.args.side c.links-low.result c.child.result (c.child.ensures _ c.links-low.ensures)) (outer_rank steep.site low c.links-low.ensures) in
+    let inner_is = child_other-read number c.args.side _ c.other-other.ensures c.links-low.result c.child-2.result (c.child-2.ensures _ c.links-low.ensures) in
     sym (is_some-mapped number c.child-2.result) ∙ ap is_some inner_is ∙ inner_some steep low c.links-low.ensures (omega arith)
 
 pub rotate-requires-2 : goal.rotate-requires-2
 rotate-requires-2 g c =
     let number = g.N.Nodes.number in
     let steep = c.requires.2 in
-    let inner_is = child_other-read number c.args.side _ c.other-other.ensures c.links-low.result c.child-2.result c.child-2.ensures in
+    let inner_is = child_other-read number c.args.side _ c.other-other.ensures c.links-low.result c.child-2.result (c.child-2.ensures _ c.links-low.ensures) in
     let x_is : root_of steep.site.inner ≡ Some (number c.unwrap-x.result)
     = sym (inner_root steep.site (as_numbers number c.links-low.result) c.links-low.ensures) ∙ sym inner_is ∙ ap (option_map number) c.unwrap-x.ensures in
     let P : Side → Type 0 = λ side. Site (g.N.Nodes.at c.args.nodes.now) (option_map number c.args.root.now) side (number c.args.y) (number c.unwrap-x.result) in
@@ -47,7 +47,7 @@ rotate-requires-3 g c =
     let number = g.N.Nodes.number in
     let steep = c.requires.2 in
     let x = number c.unwrap-x.result in
-    let inner_is = child_other-read number c.args.side _ c.other-other.ensures c.links-low.result c.child-2.result c.child-2.ensures in
+    let inner_is = child_other-read number c.args.side _ c.other-other.ensures c.links-low.result c.child-2.result (c.child-2.ensures _ c.links-low.ensures) in
     let x_is : root_of steep.site.inner ≡ Some x
     = sym (inner_root steep.site (as_numbers number c.links-low.result) c.links-low.ensures) ∙ sym inner_is ∙ ap (option_map number) c.unwrap-x.ensures in
     let P : Side → Type 0 = λ side. (site : Site (g.N.Nodes.at c.args.nodes.now) (option_map number c.args.root.now) side (number c.args.y) x)
@@ -60,8 +60,8 @@ returns-clause-repaired g c = λ order slack steep.
     let low = as_numbers number c.links-low.result in
     let x = number c.unwrap-x.result in
     let outer_is : c.rank_of-outer.result ≡ rank_of steep.site.outer
-    = rw (c.rank_of-outer.ensures, child-read number c.args.side c.links-low.result c.child.result c.child.ensures) (outer_rank steep.site low c.links-low.ensures) in
-    let inner_is = child_other-read number c.args.side _ c.other-other.ensures c.links-low.result c.child-2.result c.child-2.ensures in
+    = rw (c.rank_of-outer.ensures, child-read number c.args.side c.links-low.result c.child.result (c.child.ensures _ c.links-low.ensures)) (outer_rank steep.site low c.links-low.ensures) in
+    let inner_is = child_other-read number c.args.side _ c.other-other.ensures c.links-low.result c.child-2.result (c.child-2.ensures _ c.links-low.ensures) in
     let x_is : root_of steep.site.inner ≡ Some x
     = sym (inner_root steep.site low c.links-low.ensures) ∙ sym inner_is ∙ ap (option_map number) c.unwrap-x.ensures in
     let P : Side → Type 0 = λ side. (site : Site (g.N.Nodes.at c.args.nodes.now) (option_map number c.args.root.now) side (number c.args.y) x)
@@ -76,8 +76,8 @@ returns-clause-account g c = λ order slack steep.
     let low = as_numbers number c.links-low.result in
     let x = number c.unwrap-x.result in
     let outer_is : c.rank_of-outer.result ≡ rank_of steep.site.outer
-    = rw (c.rank_of-outer.ensures, child-read number c.args.side c.links-low.result c.child.result c.child.ensures) (outer_rank steep.site low c.links-low.ensures) in
-    let inner_is = child_other-read number c.args.side _ c.other-other.ensures c.links-low.result c.child-2.result c.child-2.ensures in
+    = rw (c.rank_of-outer.ensures, child-read number c.args.side c.links-low.result c.child.result (c.child.ensures _ c.links-low.ensures)) (outer_rank steep.site low c.links-low.ensures) in
+    let inner_is = child_other-read number c.args.side _ c.other-other.ensures c.links-low.result c.child-2.result (c.child-2.ensures _ c.links-low.ensures) in
     let x_is : root_of steep.site.inner ≡ Some x
     = sym (inner_root steep.site low c.links-low.ensures) ∙ sym inner_is ∙ ap (option_map number) c.unwrap-x.ensures in
     let P : Side → Type 0 = λ side. (site : Site (g.N.Nodes.at c.args.nodes.now) (option_map number c.args.root.now) side (number c.args.y) x)

@@ -2,32 +2,32 @@ use Rattle.std.proofs.{Common.ap, Common.inl, Common.inr, Common.option_map, Com
 use Rattle.chain_base.proofs.Calls.{beside-inserted, Inserts-linked}
 use Rattle.chain_base.proofs.chain.ChainArena.insert_within_capacity.Goals as goal
 
-pub relink-ends-requires-clause-left : goal.relink-ends-requires-clause-left
-relink-ends-requires-clause-left g c = λ x is.
+pub relink-requires-clause-left : goal.relink-requires-clause-left
+relink-requires-clause-left g c = λ x is.
     let at = rw (← c.self.view_is) at c.neighbours.ensures in
     beside-inserted c.self.inside.arena _ _ c.self.invariant _ _ _ _ c.in_ok-p.ensures.ok _ _ _ at _ (inl (ap (option_map g.P.Inx.BasePtrInx.number) is))
 
-pub relink-ends-requires-clause-right : goal.relink-ends-requires-clause-right
-relink-ends-requires-clause-right g c = λ x is.
+pub relink-requires-clause-right : goal.relink-requires-clause-right
+relink-requires-clause-right g c = λ x is.
     let at = rw (← c.self.view_is) at c.neighbours.ensures in
     beside-inserted c.self.inside.arena _ _ c.self.invariant _ _ _ _ c.in_ok-p.ensures.ok _ _ _ at _ (inr (ap (option_map g.P.Inx.BasePtrInx.number) is))
 
 pub invariant_of-self-2 : goal.invariant_of-self-2
 invariant_of-self-2 g c =
     let at = rw (← c.self.view_is) at c.neighbours.ensures in
-    let ends = rw c.inx.ensures at c.relink-ends.ensures in
+    let ends = rw c.inx.ensures at c.relink.ensures in
     let new = c.new.ensures in
     let inserts = Inserts-linked c.self.inside.arena _ _ c.self.invariant _ _ _ _ c.in_ok-p.ensures.ok _ _ _ at _ _ c.in_ok-p.ensures.sound
-    _ new.item new.prev new.next c.relink-ends.new.arena _ _ ends.arena ends.first ends.last in
+    _ new.item new.prev new.next c.relink.new.arena _ _ ends.arena ends.first ends.last in
     inserts.laid
 
 pub returns-clause-ok : goal.returns-clause-ok
 returns-clause-ok g c =
     let at = rw (← c.self.view_is) at c.neighbours.ensures in
-    let ends = rw c.inx.ensures at c.relink-ends.ensures in
+    let ends = rw c.inx.ensures at c.relink.ensures in
     let new = c.new.ensures in
     let inserts = Inserts-linked c.self.inside.arena _ _ c.self.invariant _ _ _ _ c.in_ok-p.ensures.ok _ _ _ at _ _ c.in_ok-p.ensures.sound
-    _ new.item new.prev new.next c.relink-ends.new.arena _ _ ends.arena ends.first ends.last in
+    _ new.item new.prev new.next c.relink.new.arena _ _ ends.arena ends.first ends.last in
     rw (← c.self.view_is) inserts.insertion
 
 pub neighbours-requires : goal.neighbours-requires

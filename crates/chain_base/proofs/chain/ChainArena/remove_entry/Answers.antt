@@ -9,22 +9,22 @@ entry-requires g c = let held = rw (← c.self.view_is) at c.requires in occupie
 pub remove_entry-taken-requires : goal.remove_entry-taken-requires
 remove_entry-taken-requires g c = let held = rw (← c.self.view_is) at c.requires in occupied-laid_out c.self.inside.arena _ _ c.self.invariant _ held
 
-pub relink-ends-requires-clause-left : goal.relink-ends-requires-clause-left
-relink-ends-requires-clause-left g c = λ x is.
+pub relink-requires-clause-left : goal.relink-requires-clause-left
+relink-requires-clause-left g c = λ x is.
     rw c.remove_entry-taken.ensures.removed (beside-held c.self.inside.arena _ _ c.self.invariant g.P.Gen.BasePtrGen.greatest _ _ c.entry.ensures Before _
     (sym c.prev_next.ensures.prev ∙ ap (option_map g.P.Inx.BasePtrInx.number) is))
 
-pub relink-ends-requires-clause-right : goal.relink-ends-requires-clause-right
-relink-ends-requires-clause-right g c = λ x is.
+pub relink-requires-clause-right : goal.relink-requires-clause-right
+relink-requires-clause-right g c = λ x is.
     rw c.remove_entry-taken.ensures.removed (beside-held c.self.inside.arena _ _ c.self.invariant g.P.Gen.BasePtrGen.greatest _ _ c.entry.ensures After _
     (sym c.prev_next.ensures.next ∙ ap (option_map g.P.Inx.BasePtrInx.number) is))
 
 pub invariant_of-self : goal.invariant_of-self
 invariant_of-self g c =
-    let ends = c.relink-ends.ensures in
+    let ends = c.relink.ensures in
     let beside = c.prev_next.ensures in
     let removes = Removes-linked c.self.inside.arena _ _ c.self.invariant g.P.Gen.BasePtrGen.greatest _ _ c.entry.ensures
-    _ _ _ beside.prev beside.next beside.named_prev beside.named_next _ c.relink-ends.new.arena _ _ c.remove_entry-taken.ensures.removed ends.arena ends.first ends.last in
+    _ _ _ beside.prev beside.next beside.named_prev beside.named_next _ c.relink.new.arena _ _ c.remove_entry-taken.ensures.removed ends.arena ends.first ends.last in
     removes.laid
 
 pub returns-clause-value : goal.returns-clause-value
@@ -32,10 +32,10 @@ returns-clause-value g c = rw (← c.self.view_is, ← c.self.invariant.links) c
 
 pub returns-clause-removed : goal.returns-clause-removed
 returns-clause-removed g c =
-    let ends = c.relink-ends.ensures in
+    let ends = c.relink.ensures in
     let beside = c.prev_next.ensures in
     let removes = Removes-linked c.self.inside.arena _ _ c.self.invariant g.P.Gen.BasePtrGen.greatest _ _ c.entry.ensures
-    _ _ _ beside.prev beside.next beside.named_prev beside.named_next _ c.relink-ends.new.arena _ _ c.remove_entry-taken.ensures.removed ends.arena ends.first ends.last in
+    _ _ _ beside.prev beside.next beside.named_prev beside.named_next _ c.relink.new.arena _ _ c.remove_entry-taken.ensures.removed ends.arena ends.first ends.last in
     rw (← c.self.view_is) removes.chain
 
 pub returns-clause-overflow : goal.returns-clause-overflow
