@@ -16,12 +16,12 @@ module _ {U K : Type 0} (see : U → K) where
 
 module _ {P T U F K : Type 0} (numbers : P → ℕ × ℕ) (step : F → P → Link U → T → F → Type 0) (see : U → K) (keep : T → K)
     (keeps : (f : F) (p : P) (u : Link U) (x : T) (g : F) → step f p u x g → keep x ≡ see u.item) (most : ℕ) (greatest : Option ℕ) (f : F)
-    (source : Chain U) (sound : IsSound most greatest source) (old new : Chain T) (c : IsClone numbers step f source old new) where
+    (source : Chain U) (sound : IsSound most greatest source) (old new : Chain T) (last : F) (c : IsClone numbers step f source old new last) where
   pub clone-kept : (i : ℕ) → option_map (λ e. keep e.1) (entry_at new.entries i) ≡ option_map (λ e. see e.1) (entry_at source.entries i)
   clone-kept i = by (entry_at source.entries i) refl
     where
       items : map keep c.items ≡ map (λ (e : ℕ × ℕ × U). see e.2) (entries_rising source)
-      items = clones-keep numbers step (λ (u : Link U). see u.item) keep keeps (links_rising source) f c.last [] c.items c.calls ∙ links-entries see source.entries 1 source.capacity
+      items = clones-keep numbers step (λ (u : Link U). see u.item) keep keeps (links_rising source) f last [] c.items c.calls ∙ links-entries see source.entries 1 source.capacity
 
       by : (o : Option (ℕ × U)) → entry_at source.entries i ≡ o → option_map (λ e. keep e.1) (entry_at new.entries i) ≡ option_map (λ e. see e.1) o
       by None is =
@@ -52,9 +52,9 @@ module _ {T : Type 0} where
 module _ {P U F : Type 0} (numbers : P → ℕ × ℕ) (step : F → P → Link U → U → F → Type 0)
     (answers : (f : F) (p : P) (u : Link U) (x : U) (g : F) → step f p u x g → x ≡ u.item) (most : ℕ) (greatest : Option ℕ) (f : F)
     (source : Chain U) (sound : IsSound most greatest source) where
-  pub clone-same : (old new : Chain U) → IsClone numbers step f source old new → new ≡ taken_over source old source.entries
-  clone-same old new c = c.after
-      ∙ ap (taken_over source old) (same_entries source.entries new.entries sound.distinct c.entries.order (clone-kept numbers step (λ (u : U). u) (λ (u : U). u) answers most greatest f source sound old new c))
+  pub clone-same : (old new : Chain U) (last : F) → IsClone numbers step f source old new last → new ≡ taken_over source old source.entries
+  clone-same old new last c = c.after
+      ∙ ap (taken_over source old) (same_entries source.entries new.entries sound.distinct c.entries.order (clone-kept numbers step (λ (u : U). u) (λ (u : U). u) answers most greatest f source sound old new last c))
 
 -- no links are shown of a list without entries
 links-none : {U : Type 0} (from count : ℕ) → links_among {U = U} [] from count ≡ []
@@ -63,8 +63,8 @@ links-none from (suc count) = links-none (from + 1) count
 
 -- where an item was refused, there are entries
 module _ {P T U F : Type 0} (numbers : P → ℕ × ℕ) (step : F → P → Link U → Result T AllocError → F → Type 0) (f : F) where
-  pub refused-some : (source : Chain U) (old new : Chain T) → IsRefusedClone numbers step f source old new → 0 < length source.entries
-  refused-some source old new c = by source.entries refl c.stops.split
+  pub refused-some : (source : Chain U) (old new : Chain T) (last : F) → IsRefusedClone numbers step f source old new last → 0 < length source.entries
+  refused-some source old new last c = by source.entries refl c.stops.split
     where
       by : (es : List (Entry U)) → source.entries ≡ es → links_among es 1 source.capacity ≡ c.stops.before ++ c.stops.refused ∷ c.stops.behind → 0 < length source.entries
       by [] is split = absurd (omega (arith, ap length split, length-append c.stops.before (c.stops.refused ∷ c.stops.behind), ap length (links-none {U = U} 1 source.capacity)))
