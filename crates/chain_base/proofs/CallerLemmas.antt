@@ -17,8 +17,9 @@ pub use Rattle.chain_base.proofs.Ranking.{lesser-zero, lesser-next, lesser-most,
 pub use Rattle.chain_base.proofs.Vacancy.{below-greatest, greatest-or_none, times-greatest, below-greatest_index}
 -- the chain after an insertion; room for one entry more changes the capacity where there was none
 pub use Rattle.chain_base.proofs.Room.{with_new, after-insertion, roomy_capacity, capacity-vacant, capacity-with_room}
--- what the calls of a clone keep of the items
-pub use Rattle.chain_base.proofs.CloneKept.{clone-kept, clone-same, refused-some}
+-- what the calls of a clone keep of the items, and which item was refused; a clone in other states
+pub use Rattle.chain_base.proofs.CloneKept.{clone-kept, clone-same, refused-found, refused-some}
+pub use Rattle.chain_base.proofs.Cloning.{clone-restated, refusal-restated}
 
 module _ {T : Type 0} where
   -- without the entry of an index, every other index finds what it found
