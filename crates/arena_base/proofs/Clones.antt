@@ -89,6 +89,18 @@ module _ {P F W X K : Type 0} (numbers : P → ℕ × ℕ) (step : F → P → W
       ∙ rw (map_push keep s.1 called.item, is, keeps s.0 called.pointer e.2 called.item t.0 called.called, map_push) (append_assoc (map keep xs) _ _))
       es (f, xs) (g, ys) (sym (append-nil (map keep xs))) calls
 
+-- no call changes what is seen of the closure's state
+module _ {P F W X K : Type 0} (numbers : P → ℕ × ℕ) (step : F → P → W → Result X AllocError → F → Type 0) (see : F → K)
+    (leaves : (f : F) (p : P) (u : W) (r : Result X AllocError) (g : F) → step f p u r g → see g ≡ see f) where
+  pub clones-leave : (es : List (ℕ × ℕ × W)) (f g : F) (ys : List X) → Calls numbers (Grants numbers step) (f, []) es (g, ys) → see g ≡ see f
+  clones-leave es f g ys calls =
+      chained_keeps (CloneStep numbers (Grants numbers step)) (λ es t. see t.0 ≡ see f)
+      (λ es s e t is called. leaves s.0 called.pointer e.2 (Ok called.item) t.0 called.called ∙ is) es (f, []) (g, ys) refl calls
+
+  pub stops-leave : (es : List (ℕ × ℕ × W)) (f g : F) → StopsAtRefusal numbers step f es g → see g ≡ see f
+  stops-leave es f g s =
+      leaves s.reached s.pointer s.refused.2 (Err s.refusal) g s.called ∙ clones-leave s.before f s.reached s.items s.calls
+
 with_items-same : {U : Type 0} (i : ℕ) (slots : List (Option (ℕ × U))) → with_items slots (map (λ e. e.2) (entries_from i slots)) ≡ slots
 with_items-same i [] = refl
 with_items-same i (s ∷ slots) = grind (arith, with_items-same (i + 1) slots)

@@ -19,7 +19,7 @@ pub use Rattle.chain_base.proofs.Vacancy.{below-greatest, greatest-or_none, time
 pub use Rattle.chain_base.proofs.Room.{with_new, after-insertion, roomy_capacity, capacity-vacant, capacity-with_room}
 -- what the calls of a clone keep of the items, and which item was refused; a clone in other states
 pub use Rattle.chain_base.proofs.CloneKept.{clone-kept, clone-same, refused-found, refused-some}
-pub use Rattle.chain_base.proofs.Cloning.{clone-restated, refusal-restated}
+pub use Rattle.chain_base.proofs.Cloning.{clone-restated, refusal-restated, left-refused}
 
 module _ {T : Type 0} where
   -- without the entry of an index, every other index finds what it found

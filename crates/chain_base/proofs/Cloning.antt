@@ -1,12 +1,12 @@
 -- A clone of a chain: its slots hold the source's links with other items, so it is the source's list with these items.
 use Rattle.std.proofs.Common.{OnOk, Ok, ◌≡◌, ℕ, suc, ◌+◌, ◌<◌, ◌≤◌, max, List, [], ◌∷◌, length, map, take, get_or, slice_get, Option, Some, None, Result, Err, MatchResult, count_by, is_some, refl, sym, ap, ◌∙◌, arith, inl, inr, ◌⊎◌, ◌==◌, true, false, map-id, option_map}
-use Rattle.std.proofs.{lemmas.Grind.common_steps, lemmas.Bool.false≢true, lemmas.Fn.chained_keeps}
+use Rattle.std.proofs.{lemmas.Grind.common_steps, lemmas.Bool.false≢true}
 use Rattle.std.specs.{declared.alloc.AllocError.AllocError, List.FoldsTo}
 use Rattle.arena_base.specs.declared.error.ReallocationError.TheVariants.{BeyondMaxCapacity, AllocError as NoMemory}
 use Rattle.arena_base.specs.Arena.{Arena, slot, arena_capacity, arena_len, greatest_occupied, resized, IsFresh}
 use Rattle.arena_base.specs.Clone.{CloneStep, Grants, with_items, IsClone as IsArenaClone, IsRefusedClone as IsRefusedArena, StopsAtRefusal, taken_over as arena_taken_over}
 use Rattle.arena_base.specs.{declared.error.ReallocationError.ReallocationError, Walk.entries_from, Walk.entries_rising}
-use Rattle.arena_base.proofs.CallerLemmas.{clones-retold, clones-restated, clones-keep, stops-retold, stops-restated}
+use Rattle.arena_base.proofs.CallerLemmas.{clones-retold, clones-restated, clones-keep, clones-leave, stops-retold, stops-restated, stops-leave}
 use Rattle.chain_base.specs.Chain.{Entry, Chain, times, link_at, link_between, greatest_index, vacant_indexes, IsSound}
 use Rattle.chain_base.specs.Clone.{links_among, links_rising, HasItems, taken_over, ClonesLink, IsClone, IsRefusedClone}
 use Rattle.chain_base.specs.{Layout.chain_of, Layout.met, Layout.IsLaidOut, Walk.pointers, Link.Link}
@@ -95,10 +95,6 @@ module _ {P T U M N G : Type 0} (numbers : P → ℕ × ℕ) (step : M → P →
   -- the calls, told of items
   module _ (es : List (ℕ × ℕ × Link U)) (m n : N) (ys : List (Link T))
       (calls : FoldsTo {P = N × List (Link T)} (CloneStep numbers (Grants numbers (link_step step inner name))) (m, []) es (n, ys)) where
-    same-name : name n ≡ name m
-    same-name = chained_keeps (CloneStep numbers (Grants numbers (link_step step inner name))) (λ es t. name t.0 ≡ name m)
-        (λ es s e t is made. made.called.0 ∙ is) es (m, []) (n, ys) refl calls
-
     items-told : FoldsTo {P = M × List T} (CloneStep numbers (Grants numbers step)) (inner m, []) es (inner n, map (λ l. l.item) ys)
     items-told =
         let told = clones-retold numbers (Grants numbers (link_step step inner name)) (Grants numbers step) inner (λ u. u) (λ l. l.item) (λ m p u x n made. made.1.called) es m n [] ys calls in
@@ -114,15 +110,10 @@ module _ {P T U M N G : Type 0} (numbers : P → ℕ × ℕ) (step : M → P →
   -- the name of what was left
   module _ (m n : N) (a0 : Arena (Link U)) (a b : Arena (Link T)) where
     pub name-cloned : IsArenaClone numbers (Grants numbers (link_step step inner name)) m a0 a b n → name n ≡ name m
-    name-cloned c = same-name (entries_rising a0 0) m n c.items c.calls
+    name-cloned c = clones-leave numbers (link_step step inner name) name (λ m p u r n made. made.0) (entries_rising a0 0) m n c.items c.calls
 
-    pub name-refused : (r : Result (Unit {0}) ReallocationError) (e : ReallocationError) → r ≡ Err e → (r ≡ Err BeyondMaxCapacity → (b ≡ a) × (n ≡ m)) → {X : Type 0}
-        → (r ≡ Err NoMemory → (X × (b ≡ a) × (n ≡ m)) ⊎ IsRefusedArena numbers (link_step step inner name) m a0 a b n) → name n ≡ name m
-    name-refused r BeyondMaxCapacity is beyond memory = ap name (beyond is).1
-    name-refused r NoMemory is beyond memory = elim (memory is) [
-      | inl kept ↦ ap name kept.2
-      | inr refused ↦ refused.stops.called.0 ∙ same-name refused.stops.before m refused.stops.reached refused.stops.items refused.stops.calls
-    ]
+    pub name-stopped : IsRefusedArena numbers (link_step step inner name) m a0 a b n → name n ≡ name m
+    name-stopped c = stops-leave numbers (link_step step inner name) name (λ m p u r n made. made.0) (entries_rising a0 0) m n c.stops
 
   module _ (most : ℕ) (greatest : Option ℕ) (a0 : Arena (Link U)) (first last : Option ℕ) (laid : IsChainIn a0 first last)
       (sound : IsSound most greatest (chain_of a0 first)) (a b : Arena (Link T)) (m n : N) where
@@ -234,6 +225,13 @@ module _ {T U : Type 0} (a0 : Arena (Link U)) (a b : Arena (Link T)) (first last
 
   pub kept-chain : b ≡ a → (arena_len b == 0) ≡ true → chain_of b None ≡ chain_of a first
   kept-chain kept empty = grind (arith, common_steps, no-ends)
+
+-- what a refused clone leaves of the state of what makes its items, where its calls leave that
+module _ {M K X Y Z : Type 0} (see : M → K) (m n : M) (stops : Z → see n ≡ see m) where
+  pub left-refused : (r : Result (Unit {0}) ReallocationError) (e : ReallocationError) → r ≡ Err e → (r ≡ Err BeyondMaxCapacity → X × (n ≡ m))
+      → (r ≡ Err NoMemory → (Y × X × (n ≡ m)) ⊎ Z) → see n ≡ see m
+  left-refused r BeyondMaxCapacity is beyond memory = ap see (beyond is).1
+  left-refused r NoMemory is beyond memory = elim (memory is) [ inl kept ↦ ap see kept.2 | inr refused ↦ stops refused ]
 
 -- A clone in states of one kind is one in those of another.
 module _ {P T U M F X E : Type 0} (numbers : P → ℕ × ℕ) (below : M → P → Link U → T → M → Type 0) (above : F → P → Link U → T → F → Type 0) (state : M → F)

@@ -1,6 +1,6 @@
 use Rattle.std.proofs.Common.{◌≡◌, None, inl, inr, sym, ap, ◌∙◌, option_map}
 use Rattle.chain_base.specs.Layout.{chain_of}
-use Rattle.chain_base.proofs.Cloning.{name-cloned, name-refused, Lies-cloned, clone-chain, rising-told, refused-chain, empty-laid, unrefused, filled-laid, kept-chain}
+use Rattle.chain_base.proofs.Cloning.{name-cloned, name-stopped, left-refused, Lies-cloned, clone-chain, rising-told, refused-chain, empty-laid, unrefused, filled-laid, kept-chain}
 use Rattle.chain_base.proofs.{Vacancy.greatest-links, Steps.held-laid}
 use Rattle.chain_base.proofs.chain.ChainArena.clone_by.Goals as goal
 
@@ -27,12 +27,12 @@ returns-in-Ok-clause-callable g c =
 
 pub returns-then-is_empty-clause-callable : goal.returns-then-is_empty-clause-callable
 returns-then-is_empty-clause-callable g c =
-    let named = sym (name-refused g.P.BasePtr.numbers g.M.CloneEntry.step (λ m. m.map.now) (λ m. m.map.ghost_name) _ c.clone_by-cloned.new.map _ _ _ c.clone_by-cloned.result c.in-Err.field-0 c.in-Err.is c.clone_by-cloned.ensures.beyond_kept c.clone_by-cloned.ensures.memory) in
+    let named = sym (left-refused (λ m. m.map.ghost_name) _ c.clone_by-cloned.new.map (name-stopped g.P.BasePtr.numbers g.M.CloneEntry.step (λ m. m.map.now) (λ m. m.map.ghost_name) _ c.clone_by-cloned.new.map _ _ _) c.clone_by-cloned.result c.in-Err.field-0 c.in-Err.is c.clone_by-cloned.ensures.beyond_kept c.clone_by-cloned.ensures.memory) in
     rw (c.map-1.given.1 named) c.clone_by-cloned.ensures.callable
 
 pub returns-else-is_empty-clause-callable : goal.returns-else-is_empty-clause-callable
 returns-else-is_empty-clause-callable g c =
-    let named = sym (name-refused g.P.BasePtr.numbers g.M.CloneEntry.step (λ m. m.map.now) (λ m. m.map.ghost_name) _ c.clone_by-cloned.new.map _ _ _ c.clone_by-cloned.result c.in-Err.field-0 c.in-Err.is c.clone_by-cloned.ensures.beyond_kept c.clone_by-cloned.ensures.memory) in
+    let named = sym (left-refused (λ m. m.map.ghost_name) _ c.clone_by-cloned.new.map (name-stopped g.P.BasePtr.numbers g.M.CloneEntry.step (λ m. m.map.now) (λ m. m.map.ghost_name) _ c.clone_by-cloned.new.map _ _ _) c.clone_by-cloned.result c.in-Err.field-0 c.in-Err.is c.clone_by-cloned.ensures.beyond_kept c.clone_by-cloned.ensures.memory) in
     rw (c.map-1.given.1 named) c.clone_by-cloned.ensures.callable
 
 pub returns-in-Ok-clause-ok : goal.returns-in-Ok-clause-ok
@@ -64,7 +64,7 @@ returns-then-is_empty-clause-memory g c = λ is.
             (λ refused. refused.after) c.clone_by-cloned.ensures.memory kept.1 (sym c.is_empty.ensures ∙ c.if-is_empty.true) ∙ c.self.view_is,
         c.map-1.given.1 (sym (ap (λ m. m.map.ghost_name) kept.2)) ∙ ap (λ m. m.map.now) kept.2,
       )
-      | inr refused ↦ inr (rw (← c.self.view_is, ← c.source.view_is, c.map-1.given.1 (sym (name-refused g.P.BasePtr.numbers g.M.CloneEntry.step (λ m. m.map.now) (λ m. m.map.ghost_name) _ c.clone_by-cloned.new.map _ _ _ c.clone_by-cloned.result c.in-Err.field-0 c.in-Err.is c.clone_by-cloned.ensures.beyond_kept c.clone_by-cloned.ensures.memory))) (record {
+      | inr refused ↦ inr (rw (← c.self.view_is, ← c.source.view_is, c.map-1.given.1 (sym (left-refused (λ m. m.map.ghost_name) _ c.clone_by-cloned.new.map (name-stopped g.P.BasePtr.numbers g.M.CloneEntry.step (λ m. m.map.now) (λ m. m.map.ghost_name) _ c.clone_by-cloned.new.map _ _ _) c.clone_by-cloned.result c.in-Err.field-0 c.in-Err.is c.clone_by-cloned.ensures.beyond_kept c.clone_by-cloned.ensures.memory))) (record {
         stops = rising-told g.P.BasePtr.numbers g.M.CloneEntry.step (λ m. m.map.now) (λ m. m.map.ghost_name) g.P.Inx.BasePtrInx.most g.P.Gen.BasePtrGen.greatest c.source.inside.arena _ _ c.source.invariant
             (rw c.source.view_is c.len.ensures.sound) c.self.inside.arena c.clone_by-cloned.new.self _ c.clone_by-cloned.new.map refused.stops;
         after = refused-chain c.source.inside.arena _ _ c.source.invariant c.self.inside.arena c.clone_by-cloned.new.self (option_map g.P.Inx.BasePtrInx.number c.self.inside.first) refused.after;
