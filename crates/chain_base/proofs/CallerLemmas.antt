@@ -9,8 +9,9 @@ use Rattle.chain_base.proofs.{Renumbering.times-source, Renumbering.entry_at-ren
 pub use Rattle.chain_base.proofs.Transferring.{steps-retold}
 -- a list in two parts; an entry is its link without the neighbours; an index that no entry has finds none
 pub use Rattle.chain_base.proofs.Lists.{option_or-none, times-append, last_or-append, link_between-append, link_between-absent, entry_at-link, entry_at-absent}
--- an index that finds an entry stands in the list; entries at their places by rising index have the items that they had
-pub use Rattle.chain_base.proofs.Canonical.{occurs-entry, entry-occurs, relocated-items}
+-- an index that finds an entry stands in the list; entries at their places by rising index have the items that they
+-- had; a compression whose calls leave what is seen of an item
+pub use Rattle.chain_base.proofs.Canonical.{occurs-entry, entry-occurs, relocated-items, compression-keeps}
 -- the places of indexes by rising index
 pub use Rattle.chain_base.proofs.Ranking.{lesser-zero, lesser-next, lesser-most, lesser-all, compressed-at, compressed-length, length-entries}
 -- the greatest index with an entry
