@@ -35,9 +35,9 @@ module _ {P W X U T M F : Type 0} (numbers : P → ℕ × ℕ) (below : M → P 
     (state : M → F) (from : W → U) (to : X → T)
     (grants : (m : M) (p : P) (w : W) (x : X) (n : M) → below m p w (Ok x) n → above (state m) p (from w) (Ok (to x)) (state n))
     (refuses : (m : M) (p : P) (w : W) (e : AllocError) (n : M) → below m p w (Err e) n → above (state m) p (from w) (Err e) (state n)) where
-  pub stops-retold : (m : M) (es : List (ℕ × ℕ × W)) → StopsAtRefusal {T = X} numbers below m es
-      → StopsAtRefusal {T = T} numbers above (state m) (map (λ (e : ℕ × ℕ × W). (e.0, e.1, from e.2)) es)
-  stops-retold m es s =
+  pub stops-retold : (m : M) (es : List (ℕ × ℕ × W)) (n : M) → StopsAtRefusal {T = X} numbers below m es n
+      → StopsAtRefusal {T = T} numbers above (state m) (map (λ (e : ℕ × ℕ × W). (e.0, e.1, from e.2)) es) (state n)
+  stops-retold m es n s =
       let told : ℕ × ℕ × W → ℕ × ℕ × U = λ e. (e.0, e.1, from e.2) in
       record {
         before = map told s.before;
@@ -51,8 +51,7 @@ module _ {P W X U T M F : Type 0} (numbers : P → ℕ × ℕ) (below : M → P 
         index = s.index;
         generation = s.generation;
         refusal = s.refusal;
-        last = state s.last;
-        called = refuses s.reached s.pointer s.refused.2 s.refusal s.last s.called;
+        called = refuses s.reached s.pointer s.refused.2 s.refusal n s.called;
       }
 
 -- the same items, in other states
@@ -63,20 +62,21 @@ module _ {P U T M F : Type 0} (numbers : P → ℕ × ℕ) (below : M → P → 
   clones-restated es m n ys calls =
       rw (map-id es, map-id ys) at (clones-retold numbers below above state (λ u. u) (λ x. x) like es m n [] ys calls)
 
-  pub clone-restated : (m : M) (source : Arena U) (old new : Arena T) → IsClone numbers below m source old new → IsClone numbers above (state m) source old new
-  clone-restated m source old new c =
-      let calls = clones-restated (entries_rising source 0) m c.last c.items c.calls in
-      record { items = c.items; last = state c.last; calls = calls; after = c.after }
+  pub clone-restated : (m : M) (source : Arena U) (old new : Arena T) (n : M) → IsClone numbers below m source old new n
+      → (last : F) × IsClone numbers above (state m) source old new last
+  clone-restated m source old new n c =
+      (state n, record { items = c.items; calls = clones-restated (entries_rising source 0) m n c.items c.calls; after = c.after })
 
 -- the same of a refusal
 module _ {P U T M F : Type 0} (numbers : P → ℕ × ℕ) (below : M → P → U → Result T AllocError → M → Type 0) (above : F → P → U → Result T AllocError → F → Type 0) (state : M → F)
     (like : (m : M) (p : P) (u : U) (r : Result T AllocError) (n : M) → below m p u r n → above (state m) p u r (state n)) where
-  pub stops-restated : (m : M) (es : List (ℕ × ℕ × U)) → StopsAtRefusal numbers below m es → StopsAtRefusal numbers above (state m) es
-  stops-restated m es s =
-      rw (map-id es) at (stops-retold numbers below above state (λ u. u) (λ x. x) (λ m p u x. like m p u (Ok x)) (λ m p u e. like m p u (Err e)) m es s)
+  pub stops-restated : (m : M) (es : List (ℕ × ℕ × U)) (n : M) → StopsAtRefusal numbers below m es n → StopsAtRefusal numbers above (state m) es (state n)
+  stops-restated m es n s =
+      rw (map-id es) at (stops-retold numbers below above state (λ u. u) (λ x. x) (λ m p u x. like m p u (Ok x)) (λ m p u e. like m p u (Err e)) m es n s)
 
-  pub refusal-restated : (m : M) (source : Arena U) (old new : Arena T) → IsRefusedClone numbers below m source old new → IsRefusedClone numbers above (state m) source old new
-  refusal-restated m source old new c = record { stops = stops-restated m (entries_rising source 0) c.stops; after = c.after }
+  pub refusal-restated : (m : M) (source : Arena U) (old new : Arena T) (n : M) → IsRefusedClone numbers below m source old new n
+      → (last : F) × IsRefusedClone numbers above (state m) source old new last
+  refusal-restated m source old new n c = (state n, record { stops = stops-restated m (entries_rising source 0) n c.stops; after = c.after })
 
 -- each call keeps something of what it is shown
 module _ {P F W X K : Type 0} (numbers : P → ℕ × ℕ) (step : F → P → W → X → F → Type 0) (see : W → K) (keep : X → K)
@@ -88,6 +88,18 @@ module _ {P F W X K : Type 0} (numbers : P → ℕ × ℕ) (step : F → P → W
       (λ es s e t is called. ap (map keep) called.behind
       ∙ rw (map_push keep s.1 called.item, is, keeps s.0 called.pointer e.2 called.item t.0 called.called, map_push) (append_assoc (map keep xs) _ _))
       es (f, xs) (g, ys) (sym (append-nil (map keep xs))) calls
+
+-- no call changes what is seen of the closure's state
+module _ {P F W X K : Type 0} (numbers : P → ℕ × ℕ) (step : F → P → W → Result X AllocError → F → Type 0) (see : F → K)
+    (leaves : (f : F) (p : P) (u : W) (r : Result X AllocError) (g : F) → step f p u r g → see g ≡ see f) where
+  pub clones-leave : (es : List (ℕ × ℕ × W)) (f g : F) (ys : List X) → Calls numbers (Grants numbers step) (f, []) es (g, ys) → see g ≡ see f
+  clones-leave es f g ys calls =
+      chained_keeps (CloneStep numbers (Grants numbers step)) (λ es t. see t.0 ≡ see f)
+      (λ es s e t is called. leaves s.0 called.pointer e.2 (Ok called.item) t.0 called.called ∙ is) es (f, []) (g, ys) refl calls
+
+  pub stops-leave : (es : List (ℕ × ℕ × W)) (f g : F) → StopsAtRefusal numbers step f es g → see g ≡ see f
+  stops-leave es f g s =
+      leaves s.reached s.pointer s.refused.2 (Err s.refusal) g s.called ∙ clones-leave s.before f s.reached s.items s.calls
 
 with_items-same : {U : Type 0} (i : ℕ) (slots : List (Option (ℕ × U))) → with_items slots (map (λ e. e.2) (entries_from i slots)) ≡ slots
 with_items-same i [] = refl
@@ -102,11 +114,11 @@ module _ {T U : Type 0} where
   with_items-era slots items i k count = grind arith
 
 -- its pointers are the source's
-module _ {P U T F : Type 0} (numbers : P → ℕ × ℕ) (step : F → P → U → T → F → Type 0) (f : F) (source : Arena U) (old new : Arena T) where
-  pub clone-pointers : IsClone numbers step f source old new → HasSamePointers new source
+module _ {P U T F : Type 0} (numbers : P → ℕ × ℕ) (step : F → P → U → T → F → Type 0) (f : F) (source : Arena U) (old new : Arena T) (last : F) where
+  pub clone-pointers : IsClone numbers step f source old new last → HasSamePointers new source
   clone-pointers c = λ p.
       let es = entries_rising source 0 in
-      let kept = clones-keep {K = ℕ} numbers step (λ u. 0) (λ x. 0) (λ f p u x g called. refl) es f c.last [] c.items c.calls in
+      let kept = clones-keep {K = ℕ} numbers step (λ u. 0) (λ x. 0) (λ f p u x g called. refl) es f last [] c.items c.calls in
       let count : length c.items ≡ length es = sym (length-map c.items (λ x. 0)) ∙ (ap length kept ∙ length-map es (λ e. 0)) in
       let told = λ (k : ℕ). with_items-era source.slots c.items 0 k count in
       let same = resized-same (max (arena_capacity old) (greatest_occupied source.slots) + 1) (with_items source.slots c.items) in
@@ -118,10 +130,13 @@ module _ {P U T F : Type 0} (numbers : P → ℕ × ℕ) (step : F → P → U �
 
 -- a clone by a closure that answers the item that it is shown
 module _ {P U F : Type 0} (numbers : P → ℕ × ℕ) (step : F → P → U → U → F → Type 0) (answers : (f : F) (p : P) (u : U) (x : U) (g : F) → step f p u x g → x ≡ u)
-    (f : F) (source old new : Arena U) (c : IsClone numbers step f source old new) where
+    (f : F) (source old new : Arena U) (made : (last : F) × IsClone numbers step f source old new last) where
+  abbrev c : IsClone numbers step f source old new made.0
+  c = made.1
+
   pub copy-found : FindSame new source
   copy-found p =
-      let kept = clones-keep numbers step (λ u. u) (λ x. x) answers (entries_rising source 0) f c.last [] c.items c.calls in
+      let kept = clones-keep numbers step (λ u. u) (λ x. x) answers (entries_rising source 0) f made.0 [] c.items c.calls in
       let after = rw ((rw (map-id c.items) at kept), with_items-same 0 source.slots) at c.after in
       let same = resized-same (max (arena_capacity old) (greatest_occupied source.slots) + 1) source.slots in
       ap (item_if p.1) (ap (λ ss. get_or ss p.0 None) after.slots ∙ same (λ k h. greatest_occupied-above source.slots k (omega arith)) p.0)
@@ -155,12 +170,11 @@ module _ {P T U G F : Type 0} {numbers : P → ℕ × ℕ} {number : G → ℕ} 
   abbrev copies : List (Option (ℕ × T))
   copies = map (entry_in number) slots
 
-  pub cloned-ends : greatest_occupied source < i → ClonesSlots numbers number step first source slots
+  pub cloned-ends : greatest_occupied source < i → ClonesSlots numbers number step first source slots f
   cloned-ends past =
       let none : (k : ℕ) → get_or (drop i source) k None ≡ None = λ k. get_or-drop i source k None ∙ greatest_occupied-above source (i + k) (omega arith) in
       record {
         items = b.items;
-        last = f;
         calls = rw (b.split, entries-none i (drop i source) none, append-nil) b.calls;
         vacant_behind = length (drop i source);
         after = ap (with_items source) (sym (append-nil b.items)) ∙ (b.shape [] ∙ ap (λ ss. None ∷ copies ++ ss) (with_items-none (drop i source) none));
@@ -204,7 +218,7 @@ module _ {P T U G F : Type 0} {numbers : P → ℕ × ℕ} {number : G → ℕ} 
     (b : ClonedBelow numbers number (Grants numbers step) first source f slots i) (inside : i < length source)
     (e : ℕ) (u : U) (p : P) (refusal : AllocError) (next : F) (there : get_or source i None ≡ Some (e, u)) (p_index : (numbers p).0 ≡ i)
     (p_generation : (numbers p).1 ≡ e) (called : step f p u (Err refusal) next) where
-  pub cloned-refused : StopsAtRefusal numbers step first (entries_from 0 source)
+  pub cloned-refused : StopsAtRefusal numbers step first (entries_from 0 source) next
   cloned-refused = record {
     before = b.before;
     refused = (i, e, u);
@@ -217,7 +231,6 @@ module _ {P T U G F : Type 0} {numbers : P → ℕ × ℕ} {number : G → ℕ} 
     index = p_index;
     generation = p_generation;
     refusal = refusal;
-    last = next;
     called = called;
   }
 
@@ -234,7 +247,7 @@ module _ {P T A U Inx Gen F : Type 0} (numbers : P → ℕ × ℕ) (gen : Genera
     (s : Inside P T A Inx Gen) (copies next : List (Slot T Gen)) (generation : Gen) (listed : List Inx)
     (all : map inx.number listed ≡ reverse (vacant_slots 1 next)) (a : Arena T) (seen : current gen inx s ≡ a)
     (source : Arena U) (named : gen.number generation ≡ source.generation) (room : greatest_occupied source.slots ≤ arena_capacity a)
-    (within : length copies ≤ length s.slots.items) (padded : next ≡ copies ++ replicate (length s.slots.items - length copies) Vacant) (f : F) where
+    (within : length copies ≤ length s.slots.items) (padded : next ≡ copies ++ replicate (length s.slots.items - length copies) Vacant) (f last : F) where
   abbrev n : ℕ
   n = length s.slots.items
 
@@ -242,7 +255,7 @@ module _ {P T A U Inx Gen F : Type 0} (numbers : P → ℕ × ℕ) (gen : Genera
   after = arena_of gen.number next (map inx.number listed) generation s.maximum
 
   abbrev Cloned : Result Unit AllocError → Type 0
-  Cloned r = OnOk r (ClonesSlots numbers gen.number (Grants numbers step) f source.slots copies)
+  Cloned r = OnOk r (ClonesSlots numbers gen.number (Grants numbers step) f source.slots copies last)
 
   is : entries gen.number next ≡ resized n (entries gen.number copies)
   is = entries-padded gen.number n copies next padded within
@@ -255,21 +268,20 @@ module _ {P T A U Inx Gen F : Type 0} (numbers : P → ℕ × ℕ) (gen : Genera
       ∙ (ap (λ ss. record { slots = ss; vacant = vacant_from 1 (drop 1 ss); generation = gen.number generation; maximum = s.maximum }) shape
       ∙ rw (same, named, ← seen) refl)
 
-  pub clone-whole : ClonesSlots numbers gen.number (Grants numbers step) f source.slots copies
-      → IsClone numbers (Grants numbers step) f source a after
+  pub clone-whole : ClonesSlots numbers gen.number (Grants numbers step) f source.slots copies last
+      → IsClone numbers (Grants numbers step) f source a after last
   clone-whole p =
       let shape = ap (λ xs. None ∷ xs) (is ∙ sym (resized-again n p.vacant_behind (entries gen.number copies)))
       ∙ (sym (resized-cons n (entries gen.number copies ++ replicate p.vacant_behind None)) ∙ ap (resized (n + 1)) (sym p.after)) in
       let view = taken_over-view (with_items source.slots p.items) shape in
       record {
         items = p.items;
-        last = p.last;
         calls = p.calls;
         after = record { slots = ap (λ v. v.slots) view; generation = ap (λ v. v.generation) view; maximum = ap (λ v. v.maximum) view };
       }
 
-  pub clone-refused : (r : Result Unit AllocError) → OnErr r (StopsAtRefusal numbers step f (entries_rising source 0))
-      → OnErr r (copies ≡ []) → OnErr r (IsRefusedClone numbers step f source a after)
+  pub clone-refused : (r : Result Unit AllocError) → OnErr r (StopsAtRefusal numbers step f (entries_rising source 0) last)
+      → OnErr r (copies ≡ []) → OnErr r (IsRefusedClone numbers step f source a after last)
   clone-refused (Ok x) stops none = tt
   clone-refused (Err e) stops none =
       let shape = ap (λ xs. None ∷ xs) (is ∙ ap (λ cs. resized n (entries gen.number cs)) none)

@@ -41,10 +41,10 @@ module _ {P T U F : Type 0} (numbers : P → ℕ × ℕ) (step : F → P → U �
     pub called : step s.0 pointer e.2 item t.0
     pub behind : t.1 ≡ s.1 ++ item ∷ []
 
-  -- the closure was called at each entry by rising index, each time in the state in which the call before had left it
-  pub record IsClone (f : F) (source : Arena U) (old new : Arena T) : Type 0 where
+  -- The closure was called once at each entry by rising index, each time in the state in which the call before had left it, and no more:
+  -- `last` is the state in which the last of these calls left it.
+  pub record IsClone (f : F) (source : Arena U) (old new : Arena T) (last : F) : Type 0 where
     pub items : List T
-    pub last : F
     pub calls : FoldsTo CloneStep (f, []) (entries_rising source 0) (last, items)
     pub after : HoldsSame new (cloned source old items)
 
@@ -54,8 +54,8 @@ module _ {P T U F : Type 0} (numbers : P → ℕ × ℕ) (step : F → P → U �
   abbrev pub Grants : F → P → U → T → F → Type 0
   Grants f p item answer g = step f p item (Ok answer) g
 
-  -- the closure was called at the entries one after another up to one, whose item was refused
-  pub record StopsAtRefusal (f : F) (entries : List (ℕ × ℕ × U)) : Type 0 where
+  -- the closure was called at the entries one after another up to one, whose item was refused, and no more: that call left it as `last`
+  pub record StopsAtRefusal (f : F) (entries : List (ℕ × ℕ × U)) (last : F) : Type 0 where
     pub before : List (ℕ × ℕ × U)
     pub refused : ℕ × ℕ × U
     pub behind : List (ℕ × ℕ × U)
@@ -67,10 +67,9 @@ module _ {P T U F : Type 0} (numbers : P → ℕ × ℕ) (step : F → P → U �
     pub index : (numbers pointer).0 ≡ refused.0
     pub generation : (numbers pointer).1 ≡ refused.1
     pub refusal : AllocError
-    pub last : F
     pub called : step reached pointer refused.2 (Err refusal) last
 
-  -- an item was refused, and the receiver is empty, with the generation and the capacity of a clone
-  pub record IsRefusedClone (f : F) (source : Arena U) (old new : Arena T) : Type 0 where
-    pub stops : StopsAtRefusal f (entries_rising source 0)
+  -- an item was refused, which ended the calls, and the receiver is empty, with the generation and the capacity of a clone
+  pub record IsRefusedClone (f : F) (source : Arena U) (old new : Arena T) (last : F) : Type 0 where
+    pub stops : StopsAtRefusal f (entries_rising source 0) last
     pub after : new ≡ taken_over source old []

@@ -3,10 +3,10 @@ use Rattle.std.specs.{Prelude.◌≡◌, Prelude.ℕ, Prelude.◌-◌, Prelude.�
 use Rattle.arena_base.specs.{declared.slot.Slot.TheVariants.Occupied, declared.slot.Slot.TheVariants.Vacant, Clone.CloneStep, Clone.with_items, Compression.CompressionStep, declared.slot.Slot.Slot, Walk.entries_from, Slot.entry_in}
 
 module _ {P T U G F : Type 0} (numbers : P → ℕ × ℕ) (number : G → ℕ) (step : F → P → U → T → F → Type 0) where
-  -- there are clones of all entries in the slots; behind these the source has vacant slots alone
-  pub record ClonesSlots (f : F) (source : List (Option (ℕ × U))) (slots : List (Slot T G)) : Type 0 where
+  -- There are clones of all entries in the slots, and the calls left the closure as `last`; behind these the source has vacant slots
+  -- alone.
+  pub record ClonesSlots (f : F) (source : List (Option (ℕ × U))) (slots : List (Slot T G)) (last : F) : Type 0 where
     pub items : List T
-    pub last : F
     pub calls : FoldsTo (CloneStep numbers step) (f, []) (entries_from 0 source) (last, items)
     pub vacant_behind : ℕ
     pub after : with_items source items ≡ None ∷ map (entry_in number) slots ++ replicate vacant_behind None

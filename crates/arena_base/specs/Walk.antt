@@ -1,5 +1,5 @@
 -- Walks over an arena by index: the pointers that an advancer still gives, and the entries that a drain still takes.
-use Rattle.std.specs.Prelude.{◌≡◌, ℕ, ◌+◌, ◌-◌, Bool, true, false, Option, Some, None, List, [], ◌∷◌, if◌then◌else◌, take, drop, reverse, MatchOption, IsSome}
+use Rattle.std.specs.Prelude.{◌≡◌, ℕ, ◌+◌, ◌-◌, Bool, true, false, Option, Some, None, List, [], ◌∷◌, ◌==◌, ◌&&◌, count_by, if◌then◌else◌, take, drop, reverse, MatchOption, IsSome}
 use Rattle.arena_base.specs.Arena.{Arena, item_of}
 
 -- an advancer stands between the indexes `at` and `at + 1`, and goes up or down from there
@@ -22,6 +22,10 @@ walk_from w i = record w { at = if w.falling then i - 1 else i }
 -- the walk gives nothing, whatever entries come
 abbrev pub HasEnded : Walk → Type 0
 HasEnded w = w ≡ falling_walk 0
+
+-- how many of these pointers are p
+abbrev pub times_named : ℕ × ℕ → List (ℕ × ℕ) → ℕ
+times_named p ps = count_by (λ q. q.0 == p.0 && q.1 == p.1) ps
 
 module _ {T : Type 0} where
   -- index, generation and item of each entry, where the first slot has index `from`

@@ -1,11 +1,34 @@
 //! The laws of a finite map, of every arena: a call on one pointer leaves every other pointer what it finds.
-ghost use Rattle.std.specs.Prelude.{◌≡◌, ◌≢◌, ◌⊎◌, ℕ, IsTrue, true, false, Some, None, is_some, IfSome, IfNone, OnOk, OnErr};
+ghost use Rattle.std.specs.Prelude.{◌≡◌, ◌≢◌, ◌⊎◌, ℕ, IsTrue, true, false, Some, None, is_some, IsSome, IfSome, IfNone, OnOk, OnErr, length, if◌then◌else◌};
 ghost use Rattle.arena_base.specs.Arena.{item_of, FindSame, FindSameBut};
 ghost use Rattle.arena_base.specs.Generation.{next_generation};
+ghost use Rattle.arena_base.specs.Walk.{pointers, times_named};
 
 use crate::error::ReallocationError;
 use crate::ptr::BasePtr;
 use crate::traits::{ArenaCloneFromWith, ArenaTrait};
+
+/// An empty arena. No pointer names anything in it.
+pub fn make<P: BasePtr, T, A: ArenaTrait<P, T>>(alloc: A::Alloc) -> A
+    ensures { (p : ℕ × ℕ) → item_of (A.content result) p ≡ None }
+{
+    A::new(alloc)
+}
+
+/// How many pointers name something. The list of these pointers has each of them once, and no other.
+pub fn count<P: BasePtr, T, A: ArenaTrait<P, T>>(arena: &A) -> usize
+    ensures count { result ≡ length (pointers (A.content arena.now)) }
+    ensures named { (p : ℕ × ℕ) → times_named p (pointers (A.content arena.now))
+        ≡ (if is_some (item_of (A.content arena.now) p) then 1 else 0) }
+{
+    arena.len()
+}
+
+/// No two pointers with the same index name something.
+pub fn one_pointer<P: BasePtr, T, A: ArenaTrait<P, T>>(arena: &A)
+    ensures { (p q : ℕ × ℕ) → IsSome (item_of (A.content arena.now) p)
+        → IsSome (item_of (A.content arena.now) q) → p.0 ≡ q.0 → p.1 ≡ q.1 }
+{}
 
 /// Takes out what the pointer names. Afterwards it names nothing. Where it named nothing, nothing changes.
 pub fn take<P: BasePtr, T, A: ArenaTrait<P, T>>(arena: &mut A, p: P) -> Option<T>

@@ -200,8 +200,8 @@ pub trait ArenaCloneFromWith<P: BasePtr, T>: ArenaTrait<P, T> {
     where
         T: Drop,
         requires { F.IsAlwaysCallable map }
-        ensures ok { OnOk result (IsClone P.numbers (IsShown F.step) map
-            (S.content source.now) (Self.content self.old) (Self.content self.new)) }
+        ensures ok { OnOk result ((last : F) × IsClone P.numbers (IsShown F.step) map
+            (S.content source.now) (Self.content self.old) (Self.content self.new) last) }
         ensures pointers { OnOk result
             (HasSamePointers (Self.content self.new) (S.content source.now)) }
         ensures beyond { (result ≡ Err ReallocationError.BeyondMaxCapacity)

@@ -9,16 +9,18 @@ use Rattle.chain_base.proofs.{Renumbering.times-source, Renumbering.entry_at-ren
 pub use Rattle.chain_base.proofs.Transferring.{steps-retold}
 -- a list in two parts; an entry is its link without the neighbours; an index that no entry has finds none
 pub use Rattle.chain_base.proofs.Lists.{option_or-none, times-append, last_or-append, link_between-append, link_between-absent, entry_at-link, entry_at-absent}
--- an index that finds an entry stands in the list; entries at their places by rising index have the items that they had
-pub use Rattle.chain_base.proofs.Canonical.{occurs-entry, entry-occurs, relocated-items}
+-- an index that finds an entry stands in the list; entries at their places by rising index have the items that they
+-- had; a compression whose calls leave what is seen of an item
+pub use Rattle.chain_base.proofs.Canonical.{occurs-entry, entry-occurs, relocated-items, compression-keeps}
 -- the places of indexes by rising index
 pub use Rattle.chain_base.proofs.Ranking.{lesser-zero, lesser-next, lesser-most, lesser-all, compressed-at, compressed-length, length-entries}
 -- the greatest index with an entry
 pub use Rattle.chain_base.proofs.Vacancy.{below-greatest, greatest-or_none, times-greatest, below-greatest_index}
 -- the chain after an insertion; room for one entry more changes the capacity where there was none
 pub use Rattle.chain_base.proofs.Room.{with_new, after-insertion, roomy_capacity, capacity-vacant, capacity-with_room}
--- what the calls of a clone keep of the items
-pub use Rattle.chain_base.proofs.CloneKept.{clone-kept, clone-same, refused-some}
+-- what the calls of a clone keep of the items, and which item was refused; a clone in other states
+pub use Rattle.chain_base.proofs.CloneKept.{clone-kept, clone-same, refused-found, refused-some}
+pub use Rattle.chain_base.proofs.Cloning.{clone-restated, refusal-restated, left-refused}
 
 module _ {T : Type 0} where
   -- without the entry of an index, every other index finds what it found

@@ -109,6 +109,37 @@ module _ {T : Type 0} where
         ∙ (slice_get-map (λ (e : ℕ × ℕ × T). e.2) (entries_rising old) (place i) ∙ ap (option_map (λ (e : ℕ × ℕ × T). e.2)) (rising-entry most greatest old sound i e is))) in
         c.after ∙ ap (refilled old g) (map-moved old.entries g c.items old.entries sound.distinct same)
 
+  -- what is seen of an item, where the calls of a compression leave it
+  module _ {K : Type 0} (see : T → K) where
+    seen-at : (items : List T) (k : ℕ) (d : T) → option_map see (slice_get items k) ≡ Some (see d) → see (slice_index_or items k d) ≡ see d
+    seen-at items k d is = by (slice_get items k) refl is
+      where
+        by : (o : Option T) → slice_get items k ≡ o → option_map see o ≡ Some (see d) → see (slice_index_or items k d) ≡ see d
+        by None at is = absurd cc
+        by (Some x) at is = ap see (get_or_from_slice_get items k x d at) ∙ same_Some (see x) (see d) is
+
+    map-seen : (all : List (Entry T)) (g : ℕ) (items : List T) (es : List (Entry T)) → IsDistinct es
+        → ((i : ℕ) (e : ℕ × T) → entry_at es i ≡ Some e → see (slice_index_or items (lesser all i) e.1) ≡ see e.1)
+        → map see (map (λ e. e.item) (map (moved all g items) es)) ≡ map see (map (λ e. e.item) es)
+    map-seen all g items [] distinct same = refl
+    map-seen all g items (e ∷ es) distinct same =
+        let here : see (slice_index_or items (lesser all e.index) e.item) ≡ see e.item = same e.index (e.generation, e.item) (rw (same_index e.index) refl) in
+        let behind : (i : ℕ) (f : ℕ × T) → entry_at es i ≡ Some f → entry_at (e ∷ es) i ≡ Some f =
+        λ i f is. grind (arith, common_steps, entry-occurs es i, distinct i) in
+        rw (here, map-seen all g items es (λ i. omega (arith, distinct i)) (λ i f is. same i f (behind i f is))) refl
+
+    module _ {P F : Type 0} (numbers : P → ℕ × ℕ) (step : F → P → T → P → T → F → Type 0) (g most : ℕ) (greatest : Option ℕ)
+        (leaves : (f : F) (p : P) (x : T) (q : P) (y : T) (h : F) → step f p x q y h → see y ≡ see x) (f : F) (old new : Chain T) where
+      pub compression-keeps : IsSound most greatest old → IsCompression numbers step g f old new
+          → map see (map (λ e. e.item) new.entries) ≡ map see (map (λ e. e.item) old.entries)
+      compression-keeps sound c =
+          let items = calls-keep numbers step g see leaves c.last c.items (entries_rising old) f [] c.calls in
+          let place = λ (i : ℕ). lesser old.entries i in
+          let same = λ (i : ℕ) (e : ℕ × T) (is : entry_at old.entries i ≡ Some e). seen-at c.items (place i) e.1
+          (sym (slice_get-map see c.items (place i)) ∙ ap (λ ks. slice_get ks (place i)) items
+          ∙ (slice_get-map (λ (e : ℕ × ℕ × T). see e.2) (entries_rising old) (place i) ∙ ap (option_map (λ (e : ℕ × ℕ × T). see e.2)) (rising-entry most greatest old sound i e is))) in
+          ap (λ (d : Chain T). map see (map (λ (e : Entry T). e.item) d.entries)) c.after ∙ map-seen old.entries g c.items old.entries sound.distinct same
+
   -- all entries have generation g
   abbrev pub eras : List (Entry T) → List ℕ
   eras es = map (λ e. e.generation) es

@@ -1,10 +1,11 @@
 -- What each call of a clone keeps of its item is found at the index of its entry.
 use Rattle.std.proofs.Common.{◌≡◌, ℕ, zero, suc, ◌+◌, ◌<◌, List, [], ◌∷◌, ◌++◌, length, length-append, map, slice_get, Option, Some, None, is_some, Result, refl, sym, ap, ◌∙◌, arith, option_map}
-use Rattle.std.proofs.{lemmas.Option.slice_get-map, lemmas.Grind.common_steps}
+use Rattle.std.proofs.{lemmas.Option.slice_get-map, lemmas.Grind.common_steps, lemmas.Bool.eq-eqb, Common.cond}
+use Rattle.arena_base.specs.Arena.{item_if}
 use Rattle.std.specs.declared.alloc.AllocError.{AllocError}
 use Rattle.arena_base.proofs.CallerLemmas.{clones-keep}
 use Rattle.chain_base.specs.{Clone.links_among, Clone.links_rising, Clone.taken_over, Clone.IsClone, Clone.IsRefusedClone, Walk.pointers}
-use Rattle.chain_base.specs.{Chain.Entry, Chain.Chain, Chain.IsDistinct, Chain.IsSound, Chain.entry_at, Link.Link, Compression.lesser, Compression.rising_among, Compression.entries_rising}
+use Rattle.chain_base.specs.{Chain.Entry, Chain.Chain, Chain.IsDistinct, Chain.IsSound, Chain.entry_at, Link.Link, Compression.lesser, Compression.rising_among, Compression.entries_rising, Compression.entry_before, Chain.item_of, Chain.link_at}
 use Rattle.chain_base.proofs.{Canonical.entry-absent, Canonical.entry-occurs, Canonical.rising-entry, Cloning.alike-pointers, Lists.entry_at-link, Lists.entry_at-absent}
 
 -- the links by rising index are the entries by rising index
@@ -16,12 +17,12 @@ module _ {U K : Type 0} (see : U → K) where
 
 module _ {P T U F K : Type 0} (numbers : P → ℕ × ℕ) (step : F → P → Link U → T → F → Type 0) (see : U → K) (keep : T → K)
     (keeps : (f : F) (p : P) (u : Link U) (x : T) (g : F) → step f p u x g → keep x ≡ see u.item) (most : ℕ) (greatest : Option ℕ) (f : F)
-    (source : Chain U) (sound : IsSound most greatest source) (old new : Chain T) (c : IsClone numbers step f source old new) where
+    (source : Chain U) (sound : IsSound most greatest source) (old new : Chain T) (last : F) (c : IsClone numbers step f source old new last) where
   pub clone-kept : (i : ℕ) → option_map (λ e. keep e.1) (entry_at new.entries i) ≡ option_map (λ e. see e.1) (entry_at source.entries i)
   clone-kept i = by (entry_at source.entries i) refl
     where
       items : map keep c.items ≡ map (λ (e : ℕ × ℕ × U). see e.2) (entries_rising source)
-      items = clones-keep numbers step (λ (u : Link U). see u.item) keep keeps (links_rising source) f c.last [] c.items c.calls ∙ links-entries see source.entries 1 source.capacity
+      items = clones-keep numbers step (λ (u : Link U). see u.item) keep keeps (links_rising source) f last [] c.items c.calls ∙ links-entries see source.entries 1 source.capacity
 
       by : (o : Option (ℕ × U)) → entry_at source.entries i ≡ o → option_map (λ e. keep e.1) (entry_at new.entries i) ≡ option_map (λ e. see e.1) o
       by None is =
@@ -52,20 +53,40 @@ module _ {T : Type 0} where
 module _ {P U F : Type 0} (numbers : P → ℕ × ℕ) (step : F → P → Link U → U → F → Type 0)
     (answers : (f : F) (p : P) (u : Link U) (x : U) (g : F) → step f p u x g → x ≡ u.item) (most : ℕ) (greatest : Option ℕ) (f : F)
     (source : Chain U) (sound : IsSound most greatest source) where
-  pub clone-same : (old new : Chain U) → IsClone numbers step f source old new → new ≡ taken_over source old source.entries
-  clone-same old new c = c.after
-      ∙ ap (taken_over source old) (same_entries source.entries new.entries sound.distinct c.entries.order (clone-kept numbers step (λ (u : U). u) (λ (u : U). u) answers most greatest f source sound old new c))
+  pub clone-same : (old new : Chain U) (last : F) → IsClone numbers step f source old new last → new ≡ taken_over source old source.entries
+  clone-same old new last c = c.after
+      ∙ ap (taken_over source old) (same_entries source.entries new.entries sound.distinct c.entries.order (clone-kept numbers step (λ (u : U). u) (λ (u : U). u) answers most greatest f source sound old new last c))
 
--- no links are shown of a list without entries
-links-none : {U : Type 0} (from count : ℕ) → links_among {U = U} [] from count ≡ []
-links-none from zero = refl
-links-none from (suc count) = links-none (from + 1) count
-
--- where an item was refused, there are entries
-module _ {P T U F : Type 0} (numbers : P → ℕ × ℕ) (step : F → P → Link U → Result T AllocError → F → Type 0) (f : F) where
-  pub refused-some : (source : Chain U) (old new : Chain T) → IsRefusedClone numbers step f source old new → 0 < length source.entries
-  refused-some source old new c = by source.entries refl c.stops.split
+-- the links that are shown are those of the list
+module _ {U : Type 0} (es : List (Entry U)) (e : ℕ × ℕ × Link U) (behind : List (ℕ × ℕ × Link U)) where
+  shown-link : (from count : ℕ) (before : List (ℕ × ℕ × Link U)) → links_among es from count ≡ before ++ e ∷ behind → link_at es e.0 ≡ Some (e.1, e.2)
+  shown-link from zero [] is = absurd cc
+  shown-link from zero (b ∷ before) is = absurd cc
+  shown-link from (suc count) before is = by (link_at es from) refl before is (shown-link (from + 1) count)
     where
-      by : (es : List (Entry U)) → source.entries ≡ es → links_among es 1 source.capacity ≡ c.stops.before ++ c.stops.refused ∷ c.stops.behind → 0 < length source.entries
-      by [] is split = absurd (omega (arith, ap length split, length-append c.stops.before (c.stops.refused ∷ c.stops.behind), ap length (links-none {U = U} 1 source.capacity)))
-      by (e ∷ es) is split = rw is (omega arith)
+      by : (o : Option (ℕ × Link U)) → link_at es from ≡ o → (before : List (ℕ × ℕ × Link U))
+          → entry_before from o (links_among es (from + 1) count) ≡ before ++ e ∷ behind
+          → ((rest : List (ℕ × ℕ × Link U)) → links_among es (from + 1) count ≡ rest ++ e ∷ behind → link_at es e.0 ≡ Some (e.1, e.2))
+          → link_at es e.0 ≡ Some (e.1, e.2)
+      by None at before is later = later before is
+      by (Some x) at [] is later = let same : (from, x.0, x.1) ≡ e = cc in rw (← same) at
+      by (Some x) at (b ∷ before) is later = later before (cc)
+
+-- an item that was refused is one of the source's, under the pointer that was shown
+module _ {P T U F : Type 0} (numbers : P → ℕ × ℕ) (step : F → P → Link U → Result T AllocError → F → Type 0) (f : F) (source : Chain U) (old new : Chain T) (last : F)
+    (c : IsRefusedClone numbers step f source old new last) where
+  abbrev refused : ℕ × ℕ × Link U
+  refused = c.stops.refused
+
+  pub refused-found : item_of source.entries (refused.0, refused.1) ≡ Some refused.2.item
+  refused-found =
+      let at = entry_at-link None None source.entries refused.0 ∙ ap (option_map (λ e. (e.0, e.1.item))) (shown-link source.entries refused c.stops.behind 1 source.capacity c.stops.before c.stops.split) in
+      ap (item_if refused.1) at ∙ ap (λ b. cond b (Some refused.2.item) None) (eq-eqb refused.1 refused.1 refl)
+
+  -- so there are entries
+  pub refused-some : 0 < length source.entries
+  refused-some = by source.entries refused-found
+    where
+      by : (es : List (Entry U)) → item_of es (refused.0, refused.1) ≡ Some refused.2.item → 0 < length es
+      by [] found = absurd cc
+      by (e ∷ es) found = omega arith

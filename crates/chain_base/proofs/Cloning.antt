@@ -4,9 +4,9 @@ use Rattle.std.proofs.{lemmas.Grind.common_steps, lemmas.Bool.false≢true}
 use Rattle.std.specs.{declared.alloc.AllocError.AllocError, List.FoldsTo}
 use Rattle.arena_base.specs.declared.error.ReallocationError.TheVariants.{BeyondMaxCapacity, AllocError as NoMemory}
 use Rattle.arena_base.specs.Arena.{Arena, slot, arena_capacity, arena_len, greatest_occupied, resized, IsFresh}
-use Rattle.arena_base.specs.Clone.{CloneStep, Grants, with_items, IsClone as IsArenaClone, StopsAtRefusal, taken_over as arena_taken_over}
+use Rattle.arena_base.specs.Clone.{CloneStep, Grants, with_items, IsClone as IsArenaClone, IsRefusedClone as IsRefusedArena, StopsAtRefusal, taken_over as arena_taken_over}
 use Rattle.arena_base.specs.{declared.error.ReallocationError.ReallocationError, Walk.entries_from, Walk.entries_rising}
-use Rattle.arena_base.proofs.CallerLemmas.{clones-retold, clones-restated, clones-keep, stops-retold, stops-restated}
+use Rattle.arena_base.proofs.CallerLemmas.{clones-retold, clones-restated, clones-keep, clones-leave, stops-retold, stops-restated, stops-leave}
 use Rattle.chain_base.specs.Chain.{Entry, Chain, times, link_at, link_between, greatest_index, vacant_indexes, IsSound}
 use Rattle.chain_base.specs.Clone.{links_among, links_rising, HasItems, taken_over, ClonesLink, IsClone, IsRefusedClone}
 use Rattle.chain_base.specs.{Layout.chain_of, Layout.met, Layout.IsLaidOut, Walk.pointers, Link.Link}
@@ -86,27 +86,37 @@ module _ {T U : Type 0} where
 resized-laid : {T : Type 0} (n : ℕ) → IsLaidOut {T = T} (resized n []) None None []
 resized-laid n = grind (arith, common_steps, IsLaidOut-cleared)
 
--- The step of a clone of links, from that of its items.
-abbrev pub link_step : {P T U M N : Type 0} → (M → P → Link U → Result T AllocError → M → Type 0) → (N → M) → N → P → Link U → Result (Link T) AllocError → N → Type 0
-link_step step inner m p link answer n = MatchResult answer (λ new. ClonesLink step (inner m) p link new (inner n)) (λ refusal. step (inner m) p link (Err refusal) (inner n))
+-- The step of a clone of links, from that of its items: what makes these is behind a reference, which keeps its name.
+abbrev pub link_step : {P T U M N G : Type 0} → (M → P → Link U → Result T AllocError → M → Type 0) → (N → M) → (N → G) → N → P → Link U → Result (Link T) AllocError → N → Type 0
+link_step step inner name m p link answer n =
+    (name n ≡ name m) × MatchResult answer (λ new. ClonesLink step (inner m) p link new (inner n)) (λ refusal. step (inner m) p link (Err refusal) (inner n))
 
-module _ {P T U M N : Type 0} (numbers : P → ℕ × ℕ) (step : M → P → Link U → Result T AllocError → M → Type 0) (inner : N → M) where
+module _ {P T U M N G : Type 0} (numbers : P → ℕ × ℕ) (step : M → P → Link U → Result T AllocError → M → Type 0) (inner : N → M) (name : N → G) where
   -- the calls, told of items
   module _ (es : List (ℕ × ℕ × Link U)) (m n : N) (ys : List (Link T))
-      (calls : FoldsTo {P = N × List (Link T)} (CloneStep numbers (Grants numbers (link_step step inner))) (m, []) es (n, ys)) where
+      (calls : FoldsTo {P = N × List (Link T)} (CloneStep numbers (Grants numbers (link_step step inner name))) (m, []) es (n, ys)) where
     items-told : FoldsTo {P = M × List T} (CloneStep numbers (Grants numbers step)) (inner m, []) es (inner n, map (λ l. l.item) ys)
     items-told =
-        let told = clones-retold numbers (Grants numbers (link_step step inner)) (Grants numbers step) inner (λ u. u) (λ l. l.item) (λ m p u x n made. made.called) es m n [] ys calls in
+        let told = clones-retold numbers (Grants numbers (link_step step inner name)) (Grants numbers step) inner (λ u. u) (λ l. l.item) (λ m p u x n made. made.1.called) es m n [] ys calls in
         rw (map-id es) at told
 
   -- the same of a refusal
-  stops-told : (m : N) (es : List (ℕ × ℕ × Link U)) → StopsAtRefusal {T = Link T} numbers (link_step step inner) m es → StopsAtRefusal numbers step (inner m) es
-  stops-told m es s =
-      let told = stops-retold numbers (link_step step inner) step inner (λ u. u) (λ l. l.item) (λ m p u x n made. made.called) (λ m p u e n called. called) m es s in
+  stops-told : (m : N) (es : List (ℕ × ℕ × Link U)) (n : N) → StopsAtRefusal {T = Link T} numbers (link_step step inner name) m es n
+      → StopsAtRefusal numbers step (inner m) es (inner n)
+  stops-told m es n s =
+      let told = stops-retold numbers (link_step step inner name) step inner (λ u. u) (λ l. l.item) (λ m p u x n made. made.1.called) (λ m p u e n called. called.1) m es n s in
       rw (map-id es) at told
 
+  -- the name of what was left
+  module _ (m n : N) (a0 : Arena (Link U)) (a b : Arena (Link T)) where
+    pub name-cloned : IsArenaClone numbers (Grants numbers (link_step step inner name)) m a0 a b n → name n ≡ name m
+    name-cloned c = clones-leave numbers (link_step step inner name) name (λ m p u r n made. made.0) (entries_rising a0 0) m n c.items c.calls
+
+    pub name-stopped : IsRefusedArena numbers (link_step step inner name) m a0 a b n → name n ≡ name m
+    name-stopped c = stops-leave numbers (link_step step inner name) name (λ m p u r n made. made.0) (entries_rising a0 0) m n c.stops
+
   module _ (most : ℕ) (greatest : Option ℕ) (a0 : Arena (Link U)) (first last : Option ℕ) (laid : IsChainIn a0 first last)
-      (sound : IsSound most greatest (chain_of a0 first)) (a b : Arena (Link T)) (m : N) where
+      (sound : IsSound most greatest (chain_of a0 first)) (a b : Arena (Link T)) (m n : N) where
     abbrev es : List (Entry U)
     es = (chain_of a0 first).entries
 
@@ -127,10 +137,10 @@ module _ {P T U M N : Type 0} (numbers : P → ℕ × ℕ) (step : M → P → L
     laid0 : IsLaidOut (resized (size + 1) a0.slots) first last es
     laid0 = IsLaidOut-resized a0 first last es size beyond laid
 
-    module _ (c : IsArenaClone numbers (Grants numbers (link_step step inner)) m a0 a b) where
+    module _ (c : IsArenaClone numbers (Grants numbers (link_step step inner name)) m a0 a b n) where
       frames : (i : ℕ) → frame (get_or (with_items a0.slots c.items) i None) ≡ frame (slot a0 i)
       frames = with_items-frame 0 a0.slots c.items
-          (clones-keep numbers (Grants numbers (link_step step inner)) ends_of ends_of (λ f p u x g made. (let before = made.before in let behind = made.behind in cc)) (entries_rising a0 0) m c.last [] c.items c.calls)
+          (clones-keep numbers (Grants numbers (link_step step inner name)) ends_of ends_of (λ f p u x g made. (let before = made.1.before in let behind = made.1.behind in cc)) (entries_rising a0 0) m n [] c.items c.calls)
 
       past : (k : ℕ) → size + 1 ≤ k → get_or (with_items a0.slots c.items) k None ≡ None
       past k far = grind (arith, common_steps, frames k, beyond k)
@@ -167,12 +177,13 @@ module _ {P T U M N : Type 0} (numbers : P → ℕ × ℕ) (step : M → P → L
           lies b first last (taken_over (chain_of a0 first) (chain_of a first1) list) laid-list capacity
           (fresh ∙ vacant-held b.slots list (held-laid b.slots first last list laid-list) ∙ ap (vacant_indexes list) capacity) c.after.generation c.after.maximum
 
-      pub clone-chain : (first1 : Option ℕ) → IsFresh b → IsClone numbers (Grants numbers step) (inner m) (chain_of a0 first) (chain_of a first1) (chain_of b first)
+      pub clone-chain : (first1 : Option ℕ) → IsFresh b → IsClone numbers (Grants numbers step) (inner m) (chain_of a0 first) (chain_of a first1) (chain_of b first) (inner n)
       clone-chain first1 fresh =
-          grind (arith, common_steps, Lies-cloned first1 fresh, rising, items-told (entries_rising a0 0) m, has-items)
+          grind (arith, common_steps, Lies-cloned first1 fresh, rising, items-told (entries_rising a0 0) m n, has-items)
 
-    pub rising-told : StopsAtRefusal {T = Link T} numbers (link_step step inner) m (entries_rising a0 0) → StopsAtRefusal numbers step (inner m) (links_rising (chain_of a0 first))
-    rising-told stops = rw (← rising) (stops-told m (entries_rising a0 0) stops)
+    pub rising-told : StopsAtRefusal {T = Link T} numbers (link_step step inner name) m (entries_rising a0 0) n
+        → StopsAtRefusal numbers step (inner m) (links_rising (chain_of a0 first)) (inner n)
+    rising-told stops = rw (← rising) (stops-told m (entries_rising a0 0) n stops)
 
 -- a refusal leaves no entry
 module _ {T U : Type 0} (a0 : Arena (Link U)) (first last : Option ℕ) (laid : IsChainIn a0 first last)
@@ -190,10 +201,15 @@ module _ {T U : Type 0} (a0 : Arena (Link U)) (first last : Option ℕ) (laid : 
 
 -- the receiver after a refusal: as it was, or without entries
 module _ {T U : Type 0} (a0 : Arena (Link U)) (a b : Arena (Link T)) (first last : Option ℕ) (laid : IsChainIn a first last)
-    (r : Result (Unit {0}) ReallocationError) (e : ReallocationError) (is : r ≡ Err e) (beyond : r ≡ Err BeyondMaxCapacity → b ≡ a)
-    {A B : Type 0} (stops : B → b ≡ arena_taken_over a0 a []) (memory : r ≡ Err NoMemory → (A × (b ≡ a)) ⊎ B) where
+    (r : Result (Unit {0}) ReallocationError) (e : ReallocationError) (is : r ≡ Err e) {K : Type 0} (beyond : r ≡ Err BeyondMaxCapacity → (b ≡ a) × K)
+    {A B : Type 0} (stops : B → b ≡ arena_taken_over a0 a []) (memory : r ≡ Err NoMemory → (A × (b ≡ a) × K) ⊎ B) where
   left : (b ≡ a) ⊎ (b ≡ arena_taken_over a0 a [])
-  left = grind (arith, common_steps, beyond)
+  left = kept-or-not r e is beyond memory
+    where
+      kept-or-not : (r : Result (Unit {0}) ReallocationError) (e : ReallocationError) → r ≡ Err e → (r ≡ Err BeyondMaxCapacity → (b ≡ a) × K)
+          → (r ≡ Err NoMemory → (A × (b ≡ a) × K) ⊎ B) → (b ≡ a) ⊎ (b ≡ arena_taken_over a0 a [])
+      kept-or-not r BeyondMaxCapacity is beyond memory = inl (beyond is).0
+      kept-or-not r NoMemory is beyond memory = elim (memory is) [ inl kept ↦ inl kept.1 | inr gone ↦ inr (stops gone) ]
 
   no-ends : arena_len a ≡ 0 → (first ≡ None) × (last ≡ None)
   no-ends none = grind (arith, common_steps)
@@ -210,18 +226,28 @@ module _ {T U : Type 0} (a0 : Arena (Link U)) (a b : Arena (Link T)) (first last
   pub kept-chain : b ≡ a → (arena_len b == 0) ≡ true → chain_of b None ≡ chain_of a first
   kept-chain kept empty = grind (arith, common_steps, no-ends)
 
+-- what a refused clone leaves of the state of what makes its items, where its calls leave that
+module _ {M K X Y Z : Type 0} (see : M → K) (m n : M) (stops : Z → see n ≡ see m) where
+  pub left-refused : (r : Result (Unit {0}) ReallocationError) (e : ReallocationError) → r ≡ Err e → (r ≡ Err BeyondMaxCapacity → X × (n ≡ m))
+      → (r ≡ Err NoMemory → (Y × X × (n ≡ m)) ⊎ Z) → see n ≡ see m
+  left-refused r BeyondMaxCapacity is beyond memory = ap see (beyond is).1
+  left-refused r NoMemory is beyond memory = elim (memory is) [ inl kept ↦ ap see kept.2 | inr refused ↦ stops refused ]
+
 -- A clone in states of one kind is one in those of another.
 module _ {P T U M F X E : Type 0} (numbers : P → ℕ × ℕ) (below : M → P → Link U → T → M → Type 0) (above : F → P → Link U → T → F → Type 0) (state : M → F)
     (like : (m : M) (p : P) (u : Link U) (x : T) (n : M) → below m p u x n → above (state m) p u x (state n)) where
-  pub clone-restated : (r : Result X E) (m : M) (source : Chain U) (old new : Chain T) → OnOk r (IsClone numbers below m source old new) → OnOk r (IsClone numbers above (state m) source old new)
-  clone-restated (Ok x) m source old new c =
-      record { items = c.items; last = state c.last; calls = clones-restated numbers below above state like (links_rising source) m c.last c.items c.calls; entries = c.entries; after = c.after }
-  clone-restated (Err e) m source old new c = tt
+  pub clone-restated : (r : Result X E) (m : M) (source : Chain U) (old new : Chain T) (n : M) → OnOk r (IsClone numbers below m source old new n)
+      → OnOk r ((last : F) × IsClone numbers above (state m) source old new last)
+  clone-restated (Ok x) m source old new n c = (
+    state n,
+    record { items = c.items; calls = clones-restated numbers below above state like (links_rising source) m n c.items c.calls; entries = c.entries; after = c.after },
+  )
+  clone-restated (Err e) m source old new n c = tt
 
 -- the same of a refusal
 module _ {P T U M F : Type 0} (numbers : P → ℕ × ℕ) (below : M → P → Link U → Result T AllocError → M → Type 0)
     (above : F → P → Link U → Result T AllocError → F → Type 0) (state : M → F)
     (like : (m : M) (p : P) (u : Link U) (r : Result T AllocError) (n : M) → below m p u r n → above (state m) p u r (state n)) (m : M)
-    (source : Chain U) (old new : Chain T) where
-  pub refusal-restated : IsRefusedClone numbers below m source old new → IsRefusedClone numbers above (state m) source old new
-  refusal-restated c = grind (arith, common_steps, stops-restated)
+    (source : Chain U) (old new : Chain T) (n : M) where
+  pub refusal-restated : IsRefusedClone numbers below m source old new n → (last : F) × IsRefusedClone numbers above (state m) source old new last
+  refusal-restated c = (state n, record { stops = stops-restated numbers below above state like m (links_rising source) n c.stops; after = c.after })

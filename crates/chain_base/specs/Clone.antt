@@ -43,15 +43,15 @@ pub record ShowsLink {P I U R F : Type 0} (number : I → ℕ) (step : F → P �
 
 -- P reads pointers as index and generation; `step` is what a call of the closure may do
 module _ {P T U F : Type 0} (numbers : P → ℕ × ℕ) (step : F → P → Link U → T → F → Type 0) where
-  -- the closure was called at each entry by rising index, each time in the state in which the call before had left it
-  pub record IsClone (f : F) (source : Chain U) (old new : Chain T) : Type 0 where
+  -- The closure was called once at each entry by rising index, each time in the state in which the call before had left it, and no more:
+  -- `last` is the state in which the last of these calls left it.
+  pub record IsClone (f : F) (source : Chain U) (old new : Chain T) (last : F) : Type 0 where
     pub items : List T
-    pub last : F
     pub calls : FoldsTo (CloneStep numbers step) (f, []) (links_rising source) (last, items)
     pub entries : HasItems source.entries items new.entries
     pub after : new ≡ taken_over source old new.entries
 
--- An item was refused, and the receiver is empty, with the generation and the capacity of a clone.
-pub record IsRefusedClone {P T U F : Type 0} (numbers : P → ℕ × ℕ) (step : F → P → Link U → Result T AllocError → F → Type 0) (f : F) (source : Chain U) (old new : Chain T) : Type 0 where
-  pub stops : StopsAtRefusal numbers step f (links_rising source)
+-- An item was refused, which ended the calls, and the receiver is empty, with the generation and the capacity of a clone.
+pub record IsRefusedClone {P T U F : Type 0} (numbers : P → ℕ × ℕ) (step : F → P → Link U → Result T AllocError → F → Type 0) (f : F) (source : Chain U) (old new : Chain T) (last : F) : Type 0 where
+  pub stops : StopsAtRefusal numbers step f (links_rising source) last
   pub after : new ≡ taken_over source old []

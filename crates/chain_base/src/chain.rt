@@ -87,6 +87,9 @@ impl<P: BasePtr, T, A: Allocator> ChainArena<P, T, A> {
     }
 
     /// The allocator's handle that the arena keeps for its growths.
+    ///
+    /// It has no clause and needs none: a chain's value in contracts has no allocator, and a clause can't tell two handles of one type
+    /// apart.
     pub fn alloc(&self) -> A
     where
         A: Copy,

@@ -1,5 +1,5 @@
 -- Balance with a slack, and the rank rules with and without tightness.
-use Rattle.std.proofs.Common.{◌≡◌, ℕ, ◌+◌, ◌*◌, ◌^◌, ◌<◌, ◌≤◌, arith, inl, inr, ⊎_elim, ◌⊎◌}
+use Rattle.std.proofs.Common.{◌≡◌, ℕ, ◌+◌, ◌-◌, ◌*◌, ◌^◌, ◌<◌, ◌≤◌, arith, inl, inr, ⊎_elim, ◌⊎◌}
 use Rattle.std.proofs.{lemmas.Bool.cases_lt, Math.Nat.mul-le-mul}
 use Rattle.ord_tree.specs.declared.tree_links.Side.TheVariants.{Lesser, Greater}
 use Rattle.ord_tree.specs.{Shape.Shape, Shape.missing, Shape.node, Shape.fork, Shape.rank_of, Shape.size_of, declared.tree_links.Side.Side}
@@ -37,6 +37,15 @@ rank-small s h few =
     let square = nodes_over_rank s 127 h high in
     let bound : (size_of s + 1) * (size_of s + 1) ≤ 2 ^ 64 * 2 ^ 64 = mul-le-mul {n₂ = 2 ^ 64} {m₂ = 2 ^ 64} (omega arith) (omega arith) in
     absurd (omega arith)) (cases_lt (rank_of s) 128)
+
+-- and is at most 126, where there is one node less than that
+pub rank-most : (s : Shape) → IsRanked s → size_of s + 1 < 2 ^ 64 → rank_of s ≤ 126
+rank-most s h few =
+    ⊎_elim (λ (low : rank_of s < 127). omega (arith, low))
+    (λ (high : 127 ≤ rank_of s).
+    let square = nodes_over_rank s 126 h high in
+    let bound : (size_of s + 1) * (size_of s + 1) ≤ (2 ^ 64 - 1) * (2 ^ 64 - 1) = mul-le-mul {n₂ = 2 ^ 64 - 1} {m₂ = 2 ^ 64 - 1} (omega arith) (omega arith) in
+    absurd (omega arith)) (cases_lt (rank_of s) 127)
 
 pub IsUneven-fork : (side : Side) (near far : Shape) (i k : ℕ) → (k ≡ 1) ⊎ (2 * k ≡ rank_of near + rank_of far + 3) → IsUneven (fork side near i k far)
 IsUneven-fork Lesser near far i k h = h

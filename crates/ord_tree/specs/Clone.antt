@@ -5,18 +5,23 @@ use Rattle.arena_base.specs.Clone.{Grants, IsShown}
 use Rattle.chain_base.specs.{Clone.IsClone as IsClonedList, Clone.IsRefusedClone as IsRefusedList, Link.Link}
 use Rattle.ord_tree.specs.{Shape.missing, Tree.Tree}
 
+-- a call with the item at a link
+abbrev pub AtItem : {P U R F : Type 0} → (F → P → U → R → F → Type 0) → F → P → Link U → R → F → Type 0
+AtItem step f p link answer g = step f p link.item answer g
+
 -- a call by which a closure was shown the item at a link
 abbrev pub ShowsItem : {P U R F : Type 0} → (F → P → Bor U → R → F → Type 0) → F → P → Link U → R → F → Type 0
-ShowsItem step f p link answer g = IsShown step f p link.item answer g
+ShowsItem step f p link answer g = AtItem (IsShown step) f p link answer g
 
 -- P reads pointers as index and generation; `step` is what a call of the closure may do
-module _ {P T U F : Type 0} (numbers : P → ℕ × ℕ) (step : F → P → Bor U → Result T AllocError → F → Type 0) where
-  -- the list is a clone of the source's by calls that made an item each, and the shape is the source's
-  pub record IsClone (f : F) (source : Tree U) (old new : Tree T) : Type 0 where
-    pub list : IsClonedList numbers (Grants numbers (ShowsItem step)) f source.list old.list new.list
+module _ {P T U F : Type 0} (numbers : P → ℕ × ℕ) (step : F → P → U → Result T AllocError → F → Type 0) where
+  -- The list is a clone of the source's by calls that made an item each, and the shape is the source's. `last` is the state in which the
+  -- last of these calls left the closure.
+  pub record IsClone (f : F) (source : Tree U) (old new : Tree T) (last : F) : Type 0 where
+    pub list : IsClonedList numbers (Grants numbers (AtItem step)) f source.list old.list new.list last
     pub shape : new.shape ≡ source.shape
 
-  -- an item was refused, and the tree is empty, with the generation and the capacity of a clone
-  pub record IsRefusedClone (f : F) (source : Tree U) (old new : Tree T) : Type 0 where
-    pub list : IsRefusedList numbers (ShowsItem step) f source.list old.list new.list
+  -- an item was refused, which ended the calls, and the tree is empty, with the generation and the capacity of a clone
+  pub record IsRefusedClone (f : F) (source : Tree U) (old new : Tree T) (last : F) : Type 0 where
+    pub list : IsRefusedList numbers (AtItem step) f source.list old.list new.list last
     pub shape : new.shape ≡ missing

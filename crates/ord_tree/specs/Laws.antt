@@ -11,6 +11,10 @@ HeightLaw = (s : Shape) → IsRanked s → height s ≤ rank_of s
 abbrev pub RankSquareLaw : Type 0
 RankSquareLaw = (s : Shape) → IsRanked s → 0 < size_of s → 2 ^ (rank_of s + 1) ≤ (size_of s + 1) ^ 2
 
+-- a tree of n nodes, where n + 1 is a word, has a rank of at most 126
+abbrev pub RankLaw : Type 0
+RankLaw = (s : Shape) → IsRanked s → size_of s + 1 < 2 ^ 64 → rank_of s ≤ 126
+
 -- a tight tree of n nodes and rank R has fib (R + 2) ≤ n + 1
 abbrev pub TightRankLaw : Type 0
 TightRankLaw = (s : Shape) → IsRanked s → IsTight s → fib (rank_of s + 2) ≤ size_of s + 1

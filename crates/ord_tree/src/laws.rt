@@ -1,7 +1,7 @@
 //! The laws of balance. Each function here does nothing, and its contract is a law: a fact about every shape,
 //! whichever calls made it.
 
-ghost use Rattle.ord_tree.specs.Laws.{HeightLaw, RankSquareLaw, TightRankLaw, RebuiltRanksLaw, RebuiltHeightLaw, RebuiltExistsLaw, DigitsExistLaw};
+ghost use Rattle.ord_tree.specs.Laws.{HeightLaw, RankSquareLaw, RankLaw, TightRankLaw, RebuiltRanksLaw, RebuiltHeightLaw, RebuiltExistsLaw, DigitsExistLaw};
 
 /// Under the rank rules no way down is longer than the root's rank.
 pub fn height_law()
@@ -12,6 +12,12 @@ pub fn height_law()
 /// rank r is s(1) = 1, s(2) = 2, s(r) = 1 + 2 s(r-2).
 pub fn rank_square_law()
     ensures { RankSquareLaw }
+{}
+
+/// Under the rank rules no rank is greater than 126, where the number of nodes is less than the greatest `u64`: a pointer can name no
+/// more entries, since one index is that of no entry.
+pub fn rank_law()
+    ensures { RankLaw }
 {}
 
 /// A tight tree of n nodes and rank R has `fib(R+2) <= n+1`.

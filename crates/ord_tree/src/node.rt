@@ -20,7 +20,7 @@ pub struct SimpleOrdArenaNode<P: BasePtr, T> {
     pub t: T,
     /// The parent, or `None` at the root.
     pub p_back: OptInx<P>,
-    /// The rank: from 1, that of a node without children, up to 126.
+    /// The rank: from 1, that of a node without children, up to 126 ([`rank_law`](crate::laws::rank_law)).
     pub rank: u8,
 }
 

@@ -1,8 +1,9 @@
 -- For callers: what pointers find after each change of an ordered arena.
 use Rattle.std.specs.declared.alloc.AllocError.{AllocError}
-use Rattle.arena_base.specs.{Clone.Grants, declared.error.ReallocationError.ReallocationError, declared.invalidation.InvalidationOption.InvalidationOption}
+use Rattle.arena_base.specs.{Clone.Grants, Clone.IsShown, declared.error.ReallocationError.ReallocationError, declared.invalidation.InvalidationOption.InvalidationOption}
 use Rattle.arena_base.specs.declared.error.ReallocationError.TheVariants.{BeyondMaxCapacity, AllocError as NoMemory}
-use Rattle.chain_base.specs.{Chain.entry_at as entry_among, Chain.without, Clone.taken_over}
+use Rattle.std.specs.Option.{IsSomeAnd}
+use Rattle.chain_base.specs.{Chain.entry_at as entry_among, Chain.item_of as item_among, Chain.without, Clone.taken_over}
 use Rattle.ord_tree.specs.Clone.{ShowsItem, IsClone, IsRefusedClone}
 use Rattle.triple_ord.proofs.Words.{OrdInsertionError, ◌≡◌, ◌≢◌, ℕ, ◌+◌, ◌≤◌, List, [], ◌∷◌, ◌++◌, length, Option, Some, None, IsSome, is_some, slice_get, map, length-append, IfSome, IfNone, OnSome, Ok, refl, sym, ap, subst, ◌∙◌, arith, inl}
 use Rattle.triple_ord.proofs.Words.{inr, beside, Place, into, over, IsPlace, aim_of, Growth, with_room_by, InsertsBy, told, OrdEntryKind, New, Tree, IsGrown, with_item, Gap, with_between, Equal, pointer, FindsKey, FindsSimilar, Aim, at_key}
@@ -10,10 +11,10 @@ use Rattle.triple_ord.proofs.Words.{Replacing, OrdInsertKind, item_of, items, co
 use Rattle.triple_ord.proofs.Words.{◌<◌, Result, Err, ◌⊎◌, nil_from_length, Bor, IsSound, greatest_index, clone-same, Transferring, TransferStep, IsTransfer, FoldsTo, length-map, entry_at-absent, entry_at-without_other, IsDistinct, removed}
 use Rattle.triple_ord.proofs.Words.{renewed, after-insertion, IsInsertion, moved, at_compressed_index, numbered, entry_at-numbered_before, generation-numbered, items-numbered, generation-moved, generation-relocated, length-with_generation}
 use Rattle.triple_ord.proofs.Words.{entry_at-between_other, entry_at-between, length-between, entry_at-numbered, entry_at-without, length-without, entry_at-with_item_among_other, entry_at-with_item_among, length-with_item_among}
-use Rattle.triple_ord.proofs.Words.{entry_at-with_generation_other, entry_at-with_generation, common_steps, refused-some, Shape, within, reallocating, next_index, true}
+use Rattle.triple_ord.proofs.Words.{entry_at-with_generation_other, entry_at-with_generation, common_steps, refused-found, Shape, within, reallocating, next_index, true}
 use Rattle.triple_ord.proofs.Inserting.{entry_at-after, similar-here, IsInsertion-same}
 use Rattle.chain_base.proofs.CallerLemmas.{with_new, roomy_capacity, capacity-vacant, capacity-with_room}
-use Rattle.triple_ord.specs.{Arena.entry_at, Clone.cloned, Clone.refused_clone, Entry.InsertsThere, Entry.Awaits, Entry.IsEntryFor}
+use Rattle.triple_ord.specs.{Arena.entry_at, Clone.cloned, Clone.refused_clone, Clone.FindsFallible, Entry.InsertsThere, Entry.Awaits, Entry.IsEntryFor}
 use Rattle.triple_ord.specs.{EntryKind.pointer_of_kind, Rekey.Rekeys, Insertion.InsertsNew, Place.behind_key, declared.insert_kind.OrdInsertKind.TheVariants.Normal}
 
 times-without : {T : Type 0} (i : ℕ) (es : List (Entry T)) → times i es ≤ 1 → times i (without i es) ≡ 0
@@ -366,33 +367,48 @@ module _ {P Q T U F : Type 0} (numbers_from : Q → ℕ × ℕ) (numbers_to : P 
 -- A clone of an ordered arena whose calls each give the item that they are shown.
 module _ {P T F : Type 0} (numbers : P → ℕ × ℕ) (step : F → P → Bor T → Result T AllocError → F → Type 0)
     (answers : (f : F) (p : P) (u : Bor T) (x : T) (g : F) → step f p u (Ok x) g → x ≡ u.now) where
-  pub clone-cloned : (most : ℕ) (greatest : Option ℕ) (f : F) (source : Tree T) → IsSound most greatest source.list → (old new : Tree T)
-      → IsClone numbers step f source old new → new ≡ cloned source old
-  clone-cloned most greatest f source sound old new h = ap (λ (l : Chain T). record { list = l; shape = new.shape })
+  clone-cloned : (most : ℕ) (greatest : Option ℕ) (f : F) (source : Tree T) → IsSound most greatest source.list → (old new : Tree T) (last : F)
+      → IsClone numbers (IsShown step) f source old new last → new ≡ cloned source old
+  clone-cloned most greatest f source sound old new last h = ap (λ (l : Chain T). record { list = l; shape = new.shape })
       (clone-same numbers (Grants numbers (ShowsItem step)) (λ f p u x g called. answers f p called.0 x g called.2 ∙ called.1) most greatest f
-      source.list sound old.list new.list h.list)
+      source.list sound old.list new.list last h.list)
       ∙ ap (λ (s : Shape). record { list = taken_over source.list old.list source.list.entries; shape = s }) h.shape
 
-module _ {P T F : Type 0} (numbers : P → ℕ × ℕ) (step : F → P → Bor T → Result T AllocError → F → Type 0) where
-  pub clone-refused_clone : (f : F) (source old new : Tree T) → IsRefusedClone numbers step f source old new
-      → (0 < count source) × (new ≡ refused_clone source old)
-  clone-refused_clone f source old new h = (
-    refused-some numbers (ShowsItem step) f source.list old.list new.list h.list,
-    ap (λ (l : Chain _). record { list = l; shape = new.shape }) h.list.after
-        ∙ ap (λ (s : Shape). record { list = taken_over source.list old.list []; shape = s }) h.shape,
-  )
+  pub clone-made : (most : ℕ) (greatest : Option ℕ) (f : F) (source : Tree T) → IsSound most greatest source.list → (old new : Tree T)
+      → (last : F) × IsClone numbers (IsShown step) f source old new last → new ≡ cloned source old
+  clone-made most greatest f source sound old new made = clone-cloned most greatest f source sound old new made.0 made.1
+
+-- where calls refuse only items whose clones may be refused
+module _ {P T F : Type 0} (numbers : P → ℕ × ℕ) (step : F → P → Bor T → Result T AllocError → F → Type 0) (infallible : T → Type 0)
+    (refuses : (f : F) (p : P) (u : Bor T) (e : AllocError) (g : F) → step f p u (Err e) g → infallible u.now → ⊥) where
+  pub clone-refused_clone : (f : F) (source old new : Tree T) → (last : F) × IsRefusedClone numbers (IsShown step) f source old new last
+      → FindsFallible infallible source × (new ≡ refused_clone source old)
+  clone-refused_clone f source old new (last, h) =
+      let shown = h.list.stops.called in
+      let found = refused-found numbers (ShowsItem step) f source.list old.list new.list last h.list in
+      let item : infallible h.list.stops.refused.2.item → ⊥ = rw (← shown.1) (refuses h.list.stops.reached h.list.stops.pointer shown.0 h.list.stops.refusal last shown.2) in (
+        ((h.list.stops.refused.0, h.list.stops.refused.1), rw found item),
+        ap (λ (l : Chain _). record { list = l; shape = new.shape }) h.list.after
+            ∙ ap (λ (s : Shape). record { list = taken_over source.list old.list []; shape = s }) h.shape,
+      )
 
 -- nothing refuses a clone of an arena without entries
-module _ {T A B : Type 0} (r : Result (Unit {0}) ReallocationError) (source : Tree T) (limit capacity : ℕ)
+module _ {T A B : Type 0} (r : Result (Unit {0}) ReallocationError) (source : Tree T) (limit capacity : ℕ) (infallible : T → Type 0)
     (beyond : r ≡ Err BeyondMaxCapacity → limit < greatest_index source.list.entries)
-    (memory : r ≡ Err NoMemory → ((capacity < greatest_index source.list.entries) × A) ⊎ ((0 < count source) × B))
+    (memory : r ≡ Err NoMemory → ((capacity < greatest_index source.list.entries) × A) ⊎ (FindsFallible infallible source × B))
     (none : count source ≡ 0) where
+  empty : source.list.entries ≡ []
+  empty = nil_from_length source.list.entries none
+
   least : greatest_index source.list.entries ≡ 0
-  least = ap greatest_index (nil_from_length source.list.entries none)
+  least = ap greatest_index empty
+
+  nothing : FindsFallible infallible source → ⊥
+  nothing found = subst (λ (es : List (Entry T)). IsSomeAnd (item_among es found.0) (λ item. infallible item → ⊥)) empty found.1
 
   pub empty-unrefused : (e : ReallocationError) → r ≡ Err e → ⊥
   empty-unrefused BeyondMaxCapacity is = let far = beyond is in omega (arith, least)
   empty-unrefused NoMemory is = elim (memory is) [
     | inl kept ↦ let far = kept.0 in omega (arith, least)
-    | inr refused ↦ let some = refused.0 in omega arith
+    | inr refused ↦ nothing refused.0
   ]

@@ -26,7 +26,7 @@ pub use Rattle.chain_base.proofs.CallerLemmas.{entry_at-with_item_among_other, e
 pub use Rattle.chain_base.proofs.CallerLemmas.{entry_at-with_generation_other, entry_at-with_generation, length-with_generation}
 pub use Rattle.chain_base.proofs.CallerLemmas.{entry_at-between_other, entry_at-between, length-between, entry_at-numbered}
 pub use Rattle.chain_base.proofs.CallerLemmas.{entry_at-numbered_before, generation-numbered, items-numbered, generation-moved}
-pub use Rattle.chain_base.proofs.CallerLemmas.{generation-relocated, clone-same, refused-some, length-entries, compressed-at}
+pub use Rattle.chain_base.proofs.CallerLemmas.{generation-relocated, clone-same, refused-found, length-entries, compressed-at}
 pub use Rattle.chain_base.proofs.CallerLemmas.{compressed-length, entry_at-compressed, occurs-entry, below-greatest, greatest-or_none}
 pub use Rattle.chain_base.proofs.CallerLemmas.{times-greatest, below-greatest_index, times-append, relocated-items, after-insertion}
 pub use Rattle.chain_base.specs.Chain.{Entry, Chain, entry_at, first_or, link_between, link_at, last_pointer, times, generation_at}

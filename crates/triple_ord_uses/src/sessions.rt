@@ -1,13 +1,13 @@
 //! Sessions by deadline: each is named by a token, ends at its deadline unless it is touched before, and keeps its token when it is.
 
-ghost use Rattle.std.specs.Prelude.{◌≡◌, ◌≢◌, ◌+◌, ◌-◌, ◌≤◌, ℕ, Some, None, IfOk, OnErr, IfSome, IfNone, is_some};
+ghost use Rattle.std.specs.Prelude.{◌≡◌, ◌≢◌, ◌+◌, ◌-◌, ◌≤◌, ℕ, Some, None, IfOk, OnErr, IfSome, IfNone, is_some, map};
 ghost use Rattle.std.specs.Option.{option_map};
 ghost use Rattle.std.specs.Ordering.{nat_cmp};
-ghost use Rattle.triple_ord.specs.Arena.{item_of, count, Updates};
+ghost use Rattle.triple_ord.specs.Arena.{item_of, items, count, Updates};
 ghost use Rattle.triple_ord.specs.Order.{IsInOrder};
 
 use std::alloc::Global;
-use triple_ord::order_laws::rekey_order_law;
+use triple_ord::order_laws::{kept_keys_law, rekey_order_law};
 use triple_ord::{OrdInsertKind, OrdInsertionError, OrdPair, P0, SimpleOrdArena};
 
 /// Users by the deadline of their session. Sessions may end at the same time.
@@ -88,4 +88,17 @@ pub fn expire_one(sessions: &mut Sessions, now: u64) -> Option<u64>
     }
     let session = sessions.remove(token).allow()?;
     Some(*session.v())
+}
+
+/// Moves all sessions to the least indexes, which gives each another token, and leaves none its user. The deadlines stay, in their
+/// order.
+pub fn forget_users(sessions: &mut Sessions)
+    ensures deadlines { map (λ s. s.0) (items sessions.new) ≡ map (λ s. s.0) (items sessions.old) }
+    ensures count { count sessions.new ≡ count sessions.old }
+{
+    // With its length an arena tells what holds of its list.
+    let _ = sessions.len();
+    let forget = |_old: P0, session: OrdPair<u64, u64>, _new: P0| OrdPair::new(*session.k(), 0);
+    kept_keys_law::<P0, OrdPair<u64, u64>, _>(&forget);
+    let _ = sessions.compress_with(false, forget);
 }

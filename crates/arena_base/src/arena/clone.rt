@@ -32,8 +32,8 @@ impl<P: BasePtr, T: Drop, A: Allocator> Arena<P, T, A> {
         map: F,
     ) -> Result<(), ReallocationError>
         requires { F.IsAlwaysCallable map }
-        ensures ok { OnOk result
-            (IsClone P.numbers (IsShown F.step) map (S.content source.now) self.old self.new) }
+        ensures ok { OnOk result ((last : F) × IsClone P.numbers (IsShown F.step) map
+            (S.content source.now) self.old self.new last) }
         ensures pointers { OnOk result (HasSamePointers self.new (S.content source.now)) }
         ensures fresh { OnOk result (IsFresh self.new) }
         ensures beyond { (result ≡ Err ReallocationError.BeyondMaxCapacity)
@@ -42,7 +42,8 @@ impl<P: BasePtr, T: Drop, A: Allocator> Arena<P, T, A> {
             → arena_capacity self.old < greatest_occupied (S.content source.now).slots }
         ensures err { OnErr result (self.new ≡ self.old) }
     {
-        self.clone_by(source, Calls { f: map })
+        let mut calls = Calls { f: map };
+        self.clone_by(source, &mut calls)
     }
 
     /// Makes this arena a clone of the source as `clone_from_with` does, where `map` may be refused memory for an item.
@@ -55,8 +56,9 @@ impl<P: BasePtr, T: Drop, A: Allocator> Arena<P, T, A> {
         F: FnMut(P, &U) -> Result<T, AllocError> + Drop,
     >(&mut self, source: &S, map: F) -> Result<(), ReallocationError>
         requires { F.IsAlwaysCallable map }
-        ensures ok { OnOk result (IsClone P.numbers (Grants P.numbers (IsShown F.step)) map
-            (S.content source.now) self.old self.new) }
+        ensures ok { OnOk result
+            ((last : F) × IsClone P.numbers (Grants P.numbers (IsShown F.step)) map
+            (S.content source.now) self.old self.new last) }
         ensures pointers { OnOk result (HasSamePointers self.new (S.content source.now)) }
         ensures fresh { OnOk result (IsFresh self.new) }
         ensures beyond { (result ≡ Err ReallocationError.BeyondMaxCapacity)
@@ -66,31 +68,37 @@ impl<P: BasePtr, T: Drop, A: Allocator> Arena<P, T, A> {
         ensures memory { result ≡ Err ReallocationError.AllocError
             → ((arena_capacity self.old < greatest_occupied (S.content source.now).slots)
             × (self.new ≡ self.old))
-            ⊎ IsRefusedClone P.numbers (IsShown F.step) map
-            (S.content source.now) self.old self.new }
+            ⊎ ((last : F) × IsRefusedClone P.numbers (IsShown F.step) map
+            (S.content source.now) self.old self.new last) }
     {
-        self.clone_by(source, TryCalls { f: map })
+        let mut calls = TryCalls { f: map };
+        self.clone_by(source, &mut calls)
     }
 
     /// Makes this arena a clone of the source as `try_clone_from_with` does, where `map` has the place of the closure.
-    pub fn clone_by<U, S: ArenaTrait<P, U>, M: CloneEntry<P, U, T> + Drop>(
+    ///
+    /// `map` is left in the state after the call for the last entry, or after the call that was refused; it is unchanged if the growth
+    /// is refused or the index is beyond the limit.
+    pub fn clone_by<U, S: ArenaTrait<P, U>, M: CloneEntry<P, U, T>>(
         &mut self,
         source: &S,
-        map: M,
+        map: &mut M,
     ) -> Result<(), ReallocationError>
-        requires { M.callable map }
-        ensures ok { OnOk result (IsClone P.numbers (Grants P.numbers M.step) map
-            (S.content source.now) self.old self.new) }
+        requires { M.callable map.old }
+        ensures callable { M.callable map.new }
+        ensures ok { OnOk result (IsClone P.numbers (Grants P.numbers M.step) map.old
+            (S.content source.now) self.old self.new map.new) }
         ensures pointers { OnOk result (HasSamePointers self.new (S.content source.now)) }
         ensures fresh { OnOk result (IsFresh self.new) }
         ensures beyond { (result ≡ Err ReallocationError.BeyondMaxCapacity)
             ↔ (arena_limit P.Inx.most self.old < greatest_occupied (S.content source.now).slots) }
         ensures beyond_kept { result ≡ Err ReallocationError.BeyondMaxCapacity
-            → self.new ≡ self.old }
+            → (self.new ≡ self.old) × (map.new ≡ map.old) }
         ensures memory { result ≡ Err ReallocationError.AllocError
             → ((arena_capacity self.old < greatest_occupied (S.content source.now).slots)
-            × (self.new ≡ self.old))
-            ⊎ IsRefusedClone P.numbers M.step map (S.content source.now) self.old self.new }
+            × (self.new ≡ self.old) × (map.new ≡ map.old))
+            ⊎ IsRefusedClone P.numbers M.step map.old
+            (S.content source.now) self.old self.new map.new }
     {
         let needed = greatest_occupied(source);
         self.raise_capacity(needed)?;
@@ -120,20 +128,22 @@ impl<P: BasePtr, T: Drop, A: Allocator> Arena<P, T, A> {
 
     // Replaces the slots with clones of those of the source, whose greatest index with an entry is `n`. Where an item is refused,
     // all are vacant.
-    fn take_over<U, S: ArenaTrait<P, U>, M: CloneEntry<P, U, T> + Drop>(
+    fn take_over<U, S: ArenaTrait<P, U>, M: CloneEntry<P, U, T>>(
         &mut self,
         source: &S,
         n: usize,
-        map: M,
+        map: &mut M,
     ) -> Result<(), AllocError>
-        requires callable { M.callable map }
+        requires callable { M.callable map.old }
         requires greatest { n ≡ greatest_occupied (S.content source.now).slots }
         requires room { n ≤ arena_capacity self.old }
-        ensures ok { OnOk result (IsClone P.numbers (Grants P.numbers M.step) map
-            (S.content source.now) self.old self.new) }
+        ensures callable { M.callable map.new }
+        ensures ok { OnOk result (IsClone P.numbers (Grants P.numbers M.step) map.old
+            (S.content source.now) self.old self.new map.new) }
         ensures fresh { IsFresh self.new }
         ensures refused { OnErr result
-            (IsRefusedClone P.numbers M.step map (S.content source.now) self.old self.new) }
+            (IsRefusedClone P.numbers M.step map.old
+            (S.content source.now) self.old self.new map.new) }
     {
         // With its capacity an arena tells what holds of every arena.
         let _ = source.capacity();
@@ -158,22 +168,21 @@ fn greatest_occupied<P: BasePtr, U, S: ArenaTrait<P, U>>(source: &S) -> usize
 
 // Fills the slots with clones of those of the source, whose greatest index with an entry is `n`. Where an item is refused, none is
 // left.
-fn clone_slots<
-    P: BasePtr,
-    T: Drop,
-    A: Allocator,
-    U,
-    S: ArenaTrait<P, U>,
-    M: CloneEntry<P, U, T> + Drop,
->(slots: &mut Vec<Slot<T, P::Gen>, A>, source: &S, n: usize, mut map: M) -> Result<(), AllocError>
-    requires callable { M.callable map }
+fn clone_slots<P: BasePtr, T: Drop, A: Allocator, U, S: ArenaTrait<P, U>, M: CloneEntry<P, U, T>>(
+    slots: &mut Vec<Slot<T, P::Gen>, A>,
+    source: &S,
+    n: usize,
+    map: &mut M,
+) -> Result<(), AllocError>
+    requires callable { M.callable map.old }
     requires empty { slots.old.items ≡ [] }
     requires room { n ≤ vec_capacity slots.old }
     requires greatest { n ≡ greatest_occupied (S.content source.now).slots }
-    ensures ok { OnOk result (ClonesSlots P.numbers P.Gen.number (Grants P.numbers M.step) map
-        (S.content source.now).slots slots.new.items) }
+    ensures callable { M.callable map.new }
+    ensures ok { OnOk result (ClonesSlots P.numbers P.Gen.number (Grants P.numbers M.step) map.old
+        (S.content source.now).slots slots.new.items map.new) }
     ensures refused { OnErr result
-        (StopsAtRefusal P.numbers M.step map (entries_rising (S.content source.now) 0)) }
+        (StopsAtRefusal P.numbers M.step map.old (entries_rising (S.content source.now) 0) map.new) }
     ensures none_left { OnErr result (slots.new.items ≡ []) }
     ensures within { vec_len slots.new ≤ n }
     ensures capacity { vec_capacity slots.new ≡ vec_capacity slots.old }

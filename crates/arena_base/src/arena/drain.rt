@@ -21,7 +21,7 @@ impl<P: BasePtr, T: Drop, A: Allocator> Arena<P, T, A> {
     /// Takes all entries out, by rising index.
     ///
     /// Each is removed, and raises the generation, as it is given. When the drain is dropped, the arena is cleared of the rest, which
-    /// raises the generation once more. After a drain that is forgotten the rest is still there.
+    /// raises the generation once more. [`keep_rest`](Drain::keep_rest) ends the drain and leaves the rest.
     pub fn drain(&mut self) -> Drain<'_, P, T, A>
         ensures rest { drain_rest result ≡ entries_from 0 self.old.slots }
         ensures arena { drain_arena result ≡ self.old }
@@ -29,6 +29,17 @@ impl<P: BasePtr, T: Drop, A: Allocator> Arena<P, T, A> {
     {
         let _ = self.capacity();
         Drain { arena: self, at: 0 }
+    }
+}
+
+impl<'a, P: BasePtr, T: Drop, A: Allocator> Drain<'a, P, T, A> {
+    /// Ends the drain, and leaves the arena as it is: the entries that haven't been given stay.
+    ///
+    /// `mem::forget` does the same, but says nothing to a caller of what is left.
+    pub fn keep_rest(self)
+        ensures { self.exit.0.now ≡ drain_arena self.entry }
+    {
+        let Drain { arena: _, at: _ } = self;
     }
 }
 

@@ -25,15 +25,16 @@ impl<P: BasePtr, T: Drop, A: Allocator> ChainArena<P, T, A> {
         F: FnMut(P, &U, (Option<P::Inx>, Option<P::Inx>)) -> T + Drop,
     >(&mut self, source: &ChainArena<P, U, B>, map: F) -> Result<(), ReallocationError>
         requires { F.IsAlwaysCallable map }
-        ensures ok { OnOk result
-            (IsClone P.numbers (ShowsLink P.Inx.number F.step) map source.now self.old self.new) }
+        ensures ok { OnOk result ((last : F) × IsClone P.numbers (ShowsLink P.Inx.number F.step) map
+            source.now self.old self.new last) }
         ensures beyond { (result ≡ Err ReallocationError.BeyondMaxCapacity)
             ↔ (chain_limit P.Inx.most self.old < greatest_index source.now.entries) }
         ensures memory { result ≡ Err ReallocationError.AllocError
             → self.old.capacity < greatest_index source.now.entries }
         ensures err { OnErr result (self.new ≡ self.old) }
     {
-        self.clone_by(source, ShowLink { f: map })
+        let mut calls = ShowLink { f: map };
+        self.clone_by(source, &mut calls)
     }
 
     /// Makes this chain a clone of the source as `clone_from_with` does, where `map` may be refused memory for an item.
@@ -46,41 +47,48 @@ impl<P: BasePtr, T: Drop, A: Allocator> ChainArena<P, T, A> {
         F: FnMut(P, &U, (Option<P::Inx>, Option<P::Inx>)) -> Result<T, AllocError> + Drop,
     >(&mut self, source: &ChainArena<P, U, B>, map: F) -> Result<(), ReallocationError>
         requires { F.IsAlwaysCallable map }
-        ensures ok { OnOk result
-            (IsClone P.numbers (Grants P.numbers (ShowsLink P.Inx.number F.step)) map
-            source.now self.old self.new) }
+        ensures ok { OnOk result ((last : F)
+            × IsClone P.numbers (Grants P.numbers (ShowsLink P.Inx.number F.step)) map
+            source.now self.old self.new last) }
         ensures beyond { (result ≡ Err ReallocationError.BeyondMaxCapacity)
             ↔ (chain_limit P.Inx.most self.old < greatest_index source.now.entries) }
         ensures beyond_kept { result ≡ Err ReallocationError.BeyondMaxCapacity
             → self.new ≡ self.old }
         ensures memory { result ≡ Err ReallocationError.AllocError
             → ((self.old.capacity < greatest_index source.now.entries) × (self.new ≡ self.old))
-            ⊎ IsRefusedClone P.numbers
-            (ShowsLink P.Inx.number F.step) map source.now self.old self.new }
+            ⊎ ((last : F) × IsRefusedClone P.numbers (ShowsLink P.Inx.number F.step) map
+            source.now self.old self.new last) }
     {
-        self.clone_by(source, TryShowLink { f: map })
+        let mut calls = TryShowLink { f: map };
+        self.clone_by(source, &mut calls)
     }
 
     /// Makes this chain a clone of the source as `try_clone_from_with` does, where `map` has the place of the closure.
-    pub fn clone_by<U, B: Allocator + Copy, M: CloneEntry<P, LinkNoGen<P, U>, T> + Drop>(
+    ///
+    /// `map` is left in the state after the call for the last entry, or after the call that was refused; it is unchanged if the growth
+    /// is refused or the index is beyond the limit.
+    pub fn clone_by<U, B: Allocator + Copy, M: CloneEntry<P, LinkNoGen<P, U>, T>>(
         &mut self,
         source: &ChainArena<P, U, B>,
-        map: M,
+        map: &mut M,
     ) -> Result<(), ReallocationError>
-        requires { M.callable map }
-        ensures ok { OnOk result (IsClone P.numbers (Grants P.numbers M.step) map
-            source.now self.old self.new) }
+        requires { M.callable map.old }
+        ensures callable { M.callable map.new }
+        ensures ok { OnOk result (IsClone P.numbers (Grants P.numbers M.step) map.old
+            source.now self.old self.new map.new) }
         ensures beyond { (result ≡ Err ReallocationError.BeyondMaxCapacity)
             ↔ (chain_limit P.Inx.most self.old < greatest_index source.now.entries) }
         ensures beyond_kept { result ≡ Err ReallocationError.BeyondMaxCapacity
-            → self.new ≡ self.old }
+            → (self.new ≡ self.old) × (map.new ≡ map.old) }
         ensures memory { result ≡ Err ReallocationError.AllocError
-            → ((self.old.capacity < greatest_index source.now.entries) × (self.new ≡ self.old))
-            ⊎ IsRefusedClone P.numbers M.step map source.now self.old self.new }
+            → ((self.old.capacity < greatest_index source.now.entries)
+            × (self.new ≡ self.old) × (map.new ≡ map.old))
+            ⊎ IsRefusedClone P.numbers M.step map.old source.now self.old self.new map.new }
     {
         // The invariant of the source's list is needed: each of its indexes is above 0.
         let _ = source.len();
-        let cloned = self.arena.clone_by(&source.arena, CloneLink { map });
+        let mut link = CloneLink { map };
+        let cloned = self.arena.clone_by(&source.arena, &mut link);
         match cloned {
             Ok(()) => {
                 self.first = source.first;
@@ -99,23 +107,24 @@ impl<P: BasePtr, T: Drop, A: Allocator> ChainArena<P, T, A> {
 /// Makes a link of a clone, which has the neighbours of the source's.
 #[doc(hidden)]
 #[derive(Drop)]
-pub struct CloneLink<M> {
-    map: M,
+pub struct CloneLink<'a, M> {
+    map: &'a mut M,
 }
 
-impl<P: BasePtr, T, U, M: CloneEntry<P, LinkNoGen<P, U>, T>> CloneEntry<
+impl<'a, P: BasePtr, T, U, M: CloneEntry<P, LinkNoGen<P, U>, T>> CloneEntry<
     P,
     LinkNoGen<P, U>,
     LinkNoGen<P, T>,
-> for CloneLink<M> {
-    ghost use Rattle.std.specs.Prelude.{MatchResult, Err};
+> for CloneLink<'a, M> {
+    ghost use Rattle.std.specs.Prelude.{◌≡◌, MatchResult, Err};
     ghost use Rattle.chain_base.specs.Clone.{ClonesLink};
 
-    ghost callable = { λ m. M.callable m.map };
+    ghost callable = { λ m. M.callable m.map.now };
 
-    ghost step = { λ m p link answer n. MatchResult answer
-        (λ new. ClonesLink M.step m.map p link new n.map)
-        (λ refusal. M.step m.map p link (Err refusal) n.map) };
+    ghost step = { λ m p link answer n. (n.map.ghost_name ≡ m.map.ghost_name)
+        × MatchResult answer
+        (λ new. ClonesLink M.step m.map.now p link new n.map.now)
+        (λ refusal. M.step m.map.now p link (Err refusal) n.map.now) };
 
     fn clone_entry(&mut self, p: P, link: &LinkNoGen<P, U>) -> Result<LinkNoGen<P, T>, AllocError> {
         let item = self.map.clone_entry(p, link)?;

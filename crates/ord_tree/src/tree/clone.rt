@@ -3,6 +3,7 @@
 ghost use Rattle.std.specs.Prelude.{◌≡◌, ◌<◌, ◌↔◌, ◌⊎◌, OnOk, OnErr};
 ghost use Rattle.chain_base.specs.Chain.{chain_limit, greatest_index};
 ghost use Rattle.chain_base.specs.Clone.{IsClone as IsClonedList};
+ghost use Rattle.arena_base.specs.Clone.{IsShown};
 ghost use Rattle.ord_tree.specs.Clone.{IsClone, IsRefusedClone, ShowsItem};
 
 use super::OrdTree;
@@ -28,7 +29,8 @@ impl<P: BasePtr, T: Drop, A: Allocator> OrdTree<P, T, A> {
         F: FnMut(P, &U) -> Result<T, AllocError> + Drop,
     >(&mut self, source: &OrdTree<P, U, B>, map: F) -> Result<(), ReallocationError>
         requires { F.IsAlwaysCallable map }
-        ensures ok { OnOk result (IsClone P.numbers F.step map source.now self.old self.new) }
+        ensures ok { OnOk result ((last : F)
+            × IsClone P.numbers (IsShown F.step) map source.now self.old self.new last) }
         ensures beyond { (result ≡ Err ReallocationError.BeyondMaxCapacity)
             ↔ (chain_limit P.Inx.most self.old.list < greatest_index source.now.list.entries) }
         ensures beyond_kept { result ≡ Err ReallocationError.BeyondMaxCapacity
@@ -36,16 +38,39 @@ impl<P: BasePtr, T: Drop, A: Allocator> OrdTree<P, T, A> {
         ensures memory { result ≡ Err ReallocationError.AllocError
             → ((self.old.list.capacity < greatest_index source.now.list.entries)
             × (self.new ≡ self.old))
-            ⊎ IsRefusedClone P.numbers F.step map source.now self.old self.new }
+            ⊎ ((last : F)
+            × IsRefusedClone P.numbers (IsShown F.step) map source.now self.old self.new last) }
+    {
+        let mut calls = TryCalls { f: map };
+        self.clone_by(source, &mut calls)
+    }
+
+    /// Makes this tree a clone of the source as `try_clone_from_with` does, where `map` has the place of the closure.
+    ///
+    /// `map` is left in the state after the call for the last entry, or after the call that was refused; it is unchanged if the growth
+    /// is refused or the index is beyond the limit.
+    pub fn clone_by<U, B: Allocator + Copy, M: CloneEntry<P, U, T>>(
+        &mut self,
+        source: &OrdTree<P, U, B>,
+        map: &mut M,
+    ) -> Result<(), ReallocationError>
+        requires { M.callable map.old }
+        ensures callable { M.callable map.new }
+        ensures ok { OnOk result
+            (IsClone P.numbers M.step map.old source.now self.old self.new map.new) }
+        ensures beyond { (result ≡ Err ReallocationError.BeyondMaxCapacity)
+            ↔ (chain_limit P.Inx.most self.old.list < greatest_index source.now.list.entries) }
+        ensures beyond_kept { result ≡ Err ReallocationError.BeyondMaxCapacity
+            → (self.new ≡ self.old) × (map.new ≡ map.old) }
+        ensures memory { result ≡ Err ReallocationError.AllocError
+            → ((self.old.list.capacity < greatest_index source.now.list.entries)
+            × (self.new ≡ self.old) × (map.new ≡ map.old))
+            ⊎ IsRefusedClone P.numbers M.step map.old source.now self.old self.new map.new }
     {
         // The invariant of the source's list is needed: each of its indexes is above 0.
         let _ = source.chain.len();
-        let cloned = self.chain.clone_by(
-            &source.chain,
-            CloneNode {
-                map: TryCalls { f: map },
-            },
-        );
+        let mut node = CloneNode { map };
+        let cloned = self.chain.clone_by(&source.chain, &mut node);
         match cloned {
             Ok(()) => self.root = source.root,
             // An item was refused, or nothing changed.
@@ -73,20 +98,18 @@ impl<P: BasePtr, T, A: Allocator + Copy> OrdTree<P, T, A> {
         map: F,
     ) -> Result<(), ReallocationError>
         requires { F.IsAlwaysCallable map }
-        ensures ok { OnOk result
-            (IsClonedList P.numbers (ShowsItem F.step) map self.now.list chain.old chain.new) }
+        ensures ok { OnOk result ((last : F) × IsClonedList P.numbers (ShowsItem F.step) map
+            self.now.list chain.old chain.new last) }
         ensures beyond { (result ≡ Err ReallocationError.BeyondMaxCapacity)
             ↔ (chain_limit P.Inx.most chain.old < greatest_index self.now.list.entries) }
         ensures memory { result ≡ Err ReallocationError.AllocError
             → chain.old.capacity < greatest_index self.now.list.entries }
         ensures err { OnErr result (chain.new ≡ chain.old) }
     {
-        chain.clone_by(
-            &self.chain,
-            ShowItem {
-                map: Calls { f: map },
-            },
-        )
+        let mut shown = ShowItem {
+            map: Calls { f: map },
+        };
+        chain.clone_by(&self.chain, &mut shown)
     }
 }
 
@@ -119,23 +142,24 @@ impl<P: BasePtr, T, U, M: CloneEntry<P, T, U>> CloneEntry<
 /// Makes the node of a clone, which has the links and the rank of the source's.
 #[doc(hidden)]
 #[derive(Drop)]
-pub struct CloneNode<M> {
-    map: M,
+pub struct CloneNode<'a, M> {
+    map: &'a mut M,
 }
 
-impl<P: BasePtr, U, T, M: CloneEntry<P, U, T>> CloneEntry<
+impl<'a, P: BasePtr, U, T, M: CloneEntry<P, U, T>> CloneEntry<
     P,
     LinkNoGen<P, SimpleOrdArenaNode<P, U>>,
     SimpleOrdArenaNode<P, T>,
-> for CloneNode<M> {
-    ghost use Rattle.std.specs.Prelude.{MatchResult, Err};
+> for CloneNode<'a, M> {
+    ghost use Rattle.std.specs.Prelude.{◌≡◌, MatchResult, Err};
     ghost use Rattle.ord_tree.specs.CloneNode.{ClonesNode};
 
-    ghost callable = { λ m. M.callable m.map };
+    ghost callable = { λ m. M.callable m.map.now };
 
-    ghost step = { λ m p link answer n. MatchResult answer
-        (λ new. ClonesNode M.step m.map p link.item new n.map)
-        (λ refusal. M.step m.map p link.item.t (Err refusal) n.map) };
+    ghost step = { λ m p link answer n. (n.map.ghost_name ≡ m.map.ghost_name)
+        × MatchResult answer
+        (λ new. ClonesNode M.step m.map.now p link.item new n.map.now)
+        (λ refusal. M.step m.map.now p link.item.t (Err refusal) n.map.now) };
 
     fn clone_entry(
         &mut self,

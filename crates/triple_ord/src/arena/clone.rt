@@ -3,7 +3,7 @@ ghost use Rattle.std.specs.Prelude.{◌≡◌, ◌<◌, ◌↔◌, ◌⊎◌, If
 ghost use Rattle.chain_base.specs.Chain.{new_chain, chain_limit, greatest_index};
 ghost use Rattle.ord_tree.specs.Shape.{missing};
 ghost use Rattle.triple_ord.specs.Arena.{count, FindSame};
-ghost use Rattle.triple_ord.specs.Clone.{cloned, refused_clone};
+ghost use Rattle.triple_ord.specs.Clone.{cloned, refused_clone, FindsFallible};
 
 use super::SimpleOrdArena;
 use arena_base::{BasePtr, ReallocationError};
@@ -18,7 +18,8 @@ impl<P: BasePtr, T: Clone + Drop, A: Allocator + Copy> SimpleOrdArena<P, T, A> {
     ///
     /// It is refused with `BeyondMaxCapacity` where that index is beyond the maximum or the greatest index of the pointers, and with
     /// `AllocError` where the capacity would grow and memory is refused. Nothing changes then. The first item whose clone is refused
-    /// memory ends the call with `AllocError`: the arena is empty then, with the source's generation and the capacity of a clone.
+    /// memory ends the call with `AllocError`: the arena is empty then, with the source's generation and the capacity of a clone. That
+    /// never happens where the clone of each item is infallible, as that of a number is.
     pub fn clone_from_arena(&mut self, source: &Self) -> Result<(), ReallocationError>
         requires clones { (x y : T) → T.is_clone x y → y ≡ x }
         ensures found { OnOk result (FindSame source.now self.new) }
@@ -31,7 +32,8 @@ impl<P: BasePtr, T: Clone + Drop, A: Allocator + Copy> SimpleOrdArena<P, T, A> {
         ensures memory { result ≡ Err ReallocationError.AllocError
             → ((self.old.list.capacity < greatest_index source.now.list.entries)
             × (self.new ≡ self.old))
-            ⊎ ((0 < count source.now) × (self.new ≡ refused_clone source.now self.old)) }
+            ⊎ (FindsFallible T.is_infallible source.now
+            × (self.new ≡ refused_clone source.now self.old)) }
     {
         // With its length an arena tells what holds of its list.
         let _ = source.len();

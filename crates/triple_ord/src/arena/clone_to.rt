@@ -28,8 +28,8 @@ impl<P: BasePtr, T: Drop, A: Allocator + Copy> SimpleOrdArena<P, T, A> {
         map: F,
     ) -> Result<(), ReallocationError>
         requires { F.IsAlwaysCallable map }
-        ensures ok { OnOk result (IsClone P.numbers (IsShown F.step) map
-            (content_of self.now) (C.content arena.old) (C.content arena.new)) }
+        ensures ok { OnOk result ((last : F) × IsClone P.numbers (IsShown F.step) map
+            (content_of self.now) (C.content arena.old) (C.content arena.new) last) }
         ensures beyond { (result ≡ Err ReallocationError.BeyondMaxCapacity)
             ↔ (arena_limit P.Inx.most (C.content arena.old)
             < greatest_occupied (content_of self.now).slots) }
@@ -55,8 +55,8 @@ impl<P: BasePtr, T: Drop, A: Allocator + Copy> SimpleOrdArena<P, T, A> {
         map: F,
     ) -> Result<(), ReallocationError>
         requires { F.IsAlwaysCallable map }
-        ensures ok { OnOk result
-            (IsClonedList P.numbers (ShowsItem F.step) map self.now.list chain.old chain.new) }
+        ensures ok { OnOk result ((last : F) × IsClonedList P.numbers (ShowsItem F.step) map
+            self.now.list chain.old chain.new last) }
         ensures beyond { (result ≡ Err ReallocationError.BeyondMaxCapacity)
             ↔ (chain_limit P.Inx.most chain.old < greatest_index self.now.list.entries) }
         ensures memory { result ≡ Err ReallocationError.AllocError

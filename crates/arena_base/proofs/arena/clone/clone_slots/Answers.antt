@@ -7,7 +7,7 @@ loop-position-init g c =
     let source = (g.S.ArenaTrait.content c.args.source.now).slots in
     record {
       callable = c.requires.callable;
-      cloned = rw c.requires.empty (cloned-begins g.P.BasePtr.numbers g.P.Gen.BasePtrGen.number (Grants g.P.BasePtr.numbers g.M.CloneEntry.step) c.args.map source c.capacity.ensures.lawful.begins);
+      cloned = rw c.requires.empty (cloned-begins g.P.BasePtr.numbers g.P.Gen.BasePtrGen.number (Grants g.P.BasePtr.numbers g.M.CloneEntry.step) c.args.map.now source c.capacity.ensures.lawful.begins);
       count = omega (arith, c.args.slots.now.ok.0, ap length c.requires.empty);
       capacity = refl;
     }

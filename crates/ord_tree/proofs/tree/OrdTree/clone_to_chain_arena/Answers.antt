@@ -5,7 +5,7 @@ use Rattle.ord_tree.proofs.tree.OrdTree.clone_to_chain_arena.Goals as goal
 
 pub returns-clause-ok : goal.returns-clause-ok
 returns-clause-ok g c =
-    list-told g.P.BasePtr.numbers _ _ (λ m. m.map.f) (λ m p l x n called. called) _ c.self.inside.chain _ _ _ (ap (λ (t : Tree _). t.list) c.self.view_is) c.clone_by.result c.clone_by.ensures.ok
+    list-told g.P.BasePtr.numbers _ _ (λ m. m.map.f) (λ m p l x n called. called) _ _ c.self.inside.chain _ _ _ (ap (λ (t : Tree _). t.list) c.self.view_is) c.clone_by.result c.clone_by.ensures.ok
 
 pub returns-clause-beyond : goal.returns-clause-beyond
 returns-clause-beyond g c = rw (← c.self.view_is, greatest_index-bare c.self.inside.chain.entries) c.clone_by.ensures.beyond

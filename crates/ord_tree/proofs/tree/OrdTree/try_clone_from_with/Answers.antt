@@ -1,45 +1,13 @@
-use Rattle.std.proofs.{Common.inl, Common.inr, Common.sym, Common.ap, Common.◌∙◌, Common.option_map, lemmas.Bool.false≢true}
-use Rattle.chain_base.specs.Chain.{Chain}
-use Rattle.ord_tree.specs.Layout.{tree_of}
-use Rattle.ord_tree.proofs.{Cloning.laid-cloned, Cloning.clone-told, Cloning.refused-tree, Cloning.kept-tree, Trees.greatest_index-bare}
+use Rattle.std.proofs.Common.{inl, inr}
+use Rattle.ord_tree.proofs.Cloning.{clone-restated, refusal-restated}
 use Rattle.ord_tree.proofs.tree.OrdTree.try_clone_from_with.Goals as goal
 
-pub invariant_of-self : goal.invariant_of-self
-invariant_of-self g c =
-    laid-cloned g.P.BasePtr.numbers _ (λ m. m.map) _ (λ m. m.f) (λ m p u r n called. called) _
-    c.source.inside.chain c.self.inside.chain c.clone_by-cloned.new.self _ _ c.len.ensures.sound _ c.source.invariant c.in-Ok.ensures.ok
+pub returns-clause-ok : goal.returns-clause-ok
+returns-clause-ok g c = clone-restated g.P.BasePtr.numbers _ _ (λ m. m.f) (λ m p u r n called. called) _ _ _ _ _ c.clone_by.result c.clone_by.ensures.ok
 
-pub returns-in-Ok-clause-ok : goal.returns-in-Ok-clause-ok
-returns-in-Ok-clause-ok g c =
-    clone-told g.P.BasePtr.numbers _ (λ m. m.map) _ (λ m. m.f) (λ m p u r n called. called) _
-    c.source.inside.chain c.self.inside.chain c.clone_by-cloned.new.self _ _ _ _ c.source.view_is c.self.view_is _ _ c.len.ensures.sound c.source.invariant c.clone_by-cloned.result c.clone_by-cloned.ensures.ok
-
-pub returns-in-Ok-clause-beyond : goal.returns-in-Ok-clause-beyond
-returns-in-Ok-clause-beyond g c = rw (← c.self.view_is, ← c.source.view_is, greatest_index-bare c.source.inside.chain.entries) c.clone_by-cloned.ensures.beyond
-
-pub returns-then-is_empty-clause-beyond : goal.returns-then-is_empty-clause-beyond
-returns-then-is_empty-clause-beyond g c = rw (← c.self.view_is, ← c.source.view_is, greatest_index-bare c.source.inside.chain.entries) c.clone_by-cloned.ensures.beyond
-
-pub returns-else-is_empty-clause-beyond : goal.returns-else-is_empty-clause-beyond
-returns-else-is_empty-clause-beyond g c = rw (← c.self.view_is, ← c.source.view_is, greatest_index-bare c.source.inside.chain.entries) c.clone_by-cloned.ensures.beyond
-
-pub returns-then-is_empty-clause-memory : goal.returns-then-is_empty-clause-memory
-returns-then-is_empty-clause-memory g c = λ is.
-    elim (c.clone_by-cloned.ensures.memory is) [
-      | inl kept ↦ inl (
-        rw (← c.self.view_is, ← c.source.view_is, greatest_index-bare c.source.inside.chain.entries) kept.0,
-        kept-tree c.self.inside.chain c.clone_by-cloned.new.self _ c.self.invariant kept.1 (sym c.is_empty.ensures ∙ c.if-is_empty.true) ∙ c.self.view_is,
-      )
-      | inr refused ↦ inr (refused-tree g.P.BasePtr.numbers _ (λ m. m.map) _ (λ m. m.f) (λ m p u r n called. called) _
-          c.source.inside.chain c.self.inside.chain c.clone_by-cloned.new.self _ _ _ _ c.source.view_is c.self.view_is refused)
-    ]
-
-pub returns-else-is_empty-clause-memory : goal.returns-else-is_empty-clause-memory
-returns-else-is_empty-clause-memory g c = λ is.
-    elim (c.clone_by-cloned.ensures.memory is) [
-      | inl kept ↦ inl (
-        rw (← c.self.view_is, ← c.source.view_is, greatest_index-bare c.source.inside.chain.entries) kept.0,
-        ap (λ (d : Chain _). tree_of d (option_map g.P.Inx.BasePtrInx.number c.self.inside.root)) kept.1 ∙ c.self.view_is,
-      )
-      | inr refused ↦ absurd (let empty = ap (λ (d : Chain _). d.entries) refused.after in let some = sym c.is_empty.ensures ∙ c.if-is_empty.false in let bad = rw empty at some in false≢true (sym bad))
+pub returns-clause-memory : goal.returns-clause-memory
+returns-clause-memory g c = λ is.
+    elim (c.clone_by.ensures.memory is) [
+      | inl kept ↦ inl (kept.0, kept.1)
+      | inr refused ↦ inr (refusal-restated g.P.BasePtr.numbers _ _ (λ m. m.f) (λ m p u r n called. called) _ _ _ _ _ refused)
     ]
