@@ -33,7 +33,7 @@ there b o tells is = sym tells ∙ is
 some-same : {X : Type 0} {x y : X} → Some x ≡ Some y → x ≡ y
 some-same is = cc
 
-not_le : (o : Ordering) → is_le o ≡ false → o ≡ Greater
+pub not_le : (o : Ordering) → is_le o ≡ false → o ≡ Greater
 not_le Greater is = refl
 not_le Less is = absurd (cc)
 not_le Equal is = absurd (cc)

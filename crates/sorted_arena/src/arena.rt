@@ -2,6 +2,7 @@
 
 ghost use Rattle.std.specs.Prelude.{◌≡◌, ◌==◌, ◌↔◌, ◌+◌, ◌≤◌, ◌<◌, [], Err, OnOk, OnErr};
 ghost use Rattle.arena_base.specs.Generation.{first_generation};
+ghost use Rattle.sorted_arena.specs.Layout.{sorted_of, IsSortedArena};
 ghost use Rattle.sorted_arena.specs.Sorted.{IsSound, count, with_left};
 
 mod access;
@@ -53,6 +54,14 @@ impl<K: Ord, V, P: BasePtr, A: Allocator> SortedArena<K, V, P, A> {
         SortedArena {
             pairs: SimpleOrdArena::new(alloc),
         }
+    }
+
+    // The ordered arena.
+    pub(crate) fn pairs(&self) -> &Pairs<K, V, P, A>
+        ensures view { self.now ≡ sorted_of result.now }
+        ensures holds { IsSortedArena K.cmp result.now }
+    {
+        &self.pairs
     }
 
     /// Returns how many entries the arena holds without growing.

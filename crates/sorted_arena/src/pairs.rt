@@ -1,12 +1,14 @@
 //! The ordered arena of a sorted one. A new entry goes behind all whose key is at most its own.
 
-ghost use Rattle.std.specs.Prelude.{◌≡◌, ◌↔◌, Err, IfOk, IfErr, OnErr, length};
+ghost use Rattle.std.specs.Prelude.{◌≡◌, ◌↔◌, ◌++◌, List, None, Err, IfOk, IfErr, OnErr, length};
 ghost use Rattle.std.specs.Option.{option_map};
 ghost use Rattle.std.specs.Ordering.{is_le, is_lt};
-ghost use Rattle.chain_base.specs.Chain.{chain_limit, IsSound};
+ghost use Rattle.chain_base.specs.Chain.{Entry, chain_limit, IsSound};
+ghost use Rattle.triple_ord.specs.Gap.{last_of};
 ghost use Rattle.triple_ord.specs.Insertion.{reallocating, InsertsNew};
 ghost use Rattle.triple_ord.specs.Place.{aim_of, behind_key, kind_now};
 ghost use Rattle.sorted_arena.specs.Layout.{item_key, pointer_among};
+ghost use Rattle.sorted_arena.specs.Stretch.{first_index};
 ghost use Rattle.sorted_arena.specs.Sorted.{AreSorted, key_of, first_where, next_of, prev_of};
 
 use std::alloc::Allocator;
@@ -149,5 +151,28 @@ pub(crate) fn upper_bound_in<K: Ord, V, P: BasePtr, A: Allocator>(
     match order {
         Ordering::Less => Some(p),
         _ => next_in(pairs, p),
+    }
+}
+
+/// The index of the last entry before the one at `end`; of the last entry of all, if that is `None`.
+pub(crate) fn last_before<K: Ord, V, P: BasePtr, A: Allocator>(
+    pairs: &Pairs<K, V, P, A>,
+    end: Option<P::Inx>,
+) -> Option<P::Inx>
+    ensures { (front back : List (Entry (K × V))) → pairs.now.list.entries ≡ front ++ back
+        → first_index back ≡ option_map P.Inx.number end
+        → option_map (λ e. e.index) (last_of None front) ≡ option_map P.Inx.number result }
+{
+    // with its length an arena tells what holds of its list
+    let _ = pairs.len();
+    match end {
+        Some(i) => {
+            let (_, link) = pairs.get_inx_link_no_gen(i)?;
+            link.prev()
+        }
+        None => {
+            let last = pairs.last()?;
+            Some(last.inx())
+        }
     }
 }
