@@ -4,6 +4,7 @@ ghost use Rattle.std.specs.Option.{option_map};
 ghost use Rattle.triple_ord.specs.ClosureSearch.{where_equal};
 ghost use Rattle.std.specs.declared.cmp.Ordering.TheVariants.{Equal};
 ghost use Rattle.triple_ord.specs.Arena.{FindsBy};
+ghost use Rattle.triple_ord.specs.Passing.{passing};
 ghost use Rattle.triple_ord.specs.Search.{FindsKey, FindsSimilar};
 ghost use Rattle.triple_ord.specs.Ties.{taken};
 ghost use Rattle.triple_ord.specs.VisitBounds.{IsWithinBounds};
@@ -71,6 +72,22 @@ impl<P: BasePtr, T: SimpleOrdItem, A: Allocator> SimpleOrdArena<P, T, A> {
         ensures visits { IsWithinBounds (length self.now.list.entries) self.now.shape result.1 }
     {
         self.search(Ties::Sought, k)
+    }
+
+    /// Returns the pointer of an entry beside the gap behind `k`, and the order of `k` to its key, where an equal key counts as smaller.
+    ///
+    /// The entry before this gap, if any, has a key at most `k`, and the entry after it, if any, a greater one. So `Less` means that the
+    /// entry stands after the gap, and `Greater` that it stands before it; `Equal` is never returned. `None` only if there is no entry.
+    /// If the keys are in order, this finds the upper bound of `k` in O(log n) time.
+    #[inline(always)]
+    pub fn find_behind_key(&self, k: &T::Key) -> Option<(P, Ordering)>
+        ensures finds { IfSome result
+            (λ a. FindsBy T.key_of (passing T.Key.cmp) self.now k.now (P.numbers a.0) a.1) }
+        ensures found { (visits : ℕ) × FindsSimilar T.key_of (passing T.Key.cmp)
+            self.now.list.entries k.now (option_map (λ a. (P.numbers a.0, a.1)) result) visits }
+    {
+        prove!(self.len() <= usize::MAX);
+        self.search(Ties::Passed, k).0
     }
 
     // A search from the root, by what it makes of equal keys.

@@ -1,0 +1,37 @@
+-- For callers: what pointers find after a write through a reference that went out.
+use Rattle.std.proofs.Common.{◌≡◌, ◌≢◌, ℕ, [], Option, Some, None, IsSome, refl}
+use Rattle.std.specs.Option.{option_map}
+use Rattle.chain_base.proofs.CallerLemmas.{length-with_item_among}
+use Rattle.ord_tree.specs.{Tree.Tree, Shape.missing}
+use Rattle.triple_ord.specs.Arena.{item_of}
+use Rattle.triple_ord.proofs.CallerLemmas.{found-written as found-there, others-written as others-there}
+use Rattle.sorted_arena.specs.Sorted.{Sorted, count, pair_of, with_value}
+
+module _ {K V : Type 0} (a : Sorted K V) (p : ℕ × ℕ) (v : V) where
+  -- an ordered arena of these entries
+  abbrev tree : Tree (K × V)
+  tree = record { list = record { entries = a.entries; capacity = 0; vacant = []; generation = 0; maximum = None }; shape = missing }
+
+  pub count-written : count (with_value a p (pair_of a p) v) ≡ count a
+  count-written = go (pair_of a p)
+    where
+      go : (o : Option (K × V)) → count (with_value a p o v) ≡ count a
+      go None = refl
+      go (Some x) = length-with_item_among a.entries p.0 (x.0, v)
+
+  pub found-written : pair_of (with_value a p (pair_of a p) v) p ≡ option_map (λ e. (e.0, v)) (pair_of a p)
+  found-written = go (pair_of a p) refl
+    where
+      go : (o : Option (K × V)) → pair_of a p ≡ o → pair_of (with_value a p o v) p ≡ option_map (λ e. (e.0, v)) o
+      go None is = is
+      go (Some x) is = let there = found-there tree p (x.0, v) in rw is at there
+
+  pub others-written : (q : ℕ × ℕ) → q ≢ p → pair_of (with_value a p (pair_of a p) v) q ≡ pair_of a q
+  others-written q apart = go (pair_of a p) refl
+    where
+      go : (o : Option (K × V)) → pair_of a p ≡ o → pair_of (with_value a p o v) q ≡ pair_of a q
+      go None is = refl
+      go (Some x) is = let there : IsSome (item_of tree p) = rw is refl in others-there tree p (x.0, v) there q apart
+
+-- for a caller to cite
+pub ruleset written = (count-written, found-written, others-written)

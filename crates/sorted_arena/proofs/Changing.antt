@@ -1,0 +1,159 @@
+-- What insertions and removals make of a sorted arena.
+use Rattle.std.proofs.Common.{◌≡◌, ℕ, ◌+◌, ◌++◌, length, Option, Some, None, Result, Ok, Err, IfSome, OnOk, OnErr, IfOk, subst, refl, sym, ap, ◌∙◌, inr, arith}
+use Rattle.std.proofs.lemmas.{List.Elements.All-from_recursion}
+use Rattle.std.specs.Cmp.{IsTotalOrder}
+use Rattle.std.specs.{Ordering.ordering_reverse, Option.option_map}
+use Rattle.std.specs.declared.cmp.Ordering.{Ordering, TheVariants.Less, TheVariants.Equal, TheVariants.Greater}
+use Rattle.arena_base.specs.Arena.{limit_of}
+use Rattle.chain_base.specs.Chain.{Entry, Chain, IsSound as IsSoundChain, chain_limit, removed}
+use Rattle.chain_base.proofs.CallerLemmas.{after-insertion}
+use Rattle.ord_tree.specs.Tree.{Tree}
+use Rattle.triple_ord.specs.Arena.{item_of as item_of_arena, count as count_arena, Updates as UpdatesArena}
+use Rattle.triple_ord.specs.Insertion.{reallocating, with_room_by, InsertsNew}
+use Rattle.triple_ord.specs.{Gap.with_between, Place.behind_key, Order.IsInOrder}
+use Rattle.triple_ord.specs.declared.entry_kind.OrdEntryKind.TheVariants.{New}
+use Rattle.triple_ord.proofs.CallerLemmas.{entries-with_room_by, numbers-inserted, numbers-with_room_by, capacity-inserted, inserted-new}
+use Rattle.triple_ord.specs.Rekey.{Rekeys as RekeysArena}
+use Rattle.triple_ord.proofs.CallerLemmas.{kept_order, rekeyed_order, in_order-without, all_less, IsInOrder-back}
+use Rattle.sorted_arena.specs.Layout.{item_key, sorted_of, IsSortedArena}
+use Rattle.sorted_arena.specs.Sorted.{Inserts, Rekeys, Updates, IsSound, count}
+use Rattle.sorted_arena.proofs.Cutting.{sorted-in_order, in_order-sorted, sorted-without, all_at_most, greater}
+
+-- a key is equal to itself
+equal-itself : {K : Type 0} (cmp : K → K → Ordering) → IsTotalOrder cmp → (k : K) → cmp k k ≡ Equal
+equal-itself cmp total k = go (cmp k k) refl
+  where
+    go : (o : Ordering) → cmp k k ≡ o → cmp k k ≡ Equal
+    go Equal is = is
+    go Less is = absurd (let other : Less ≡ Greater = sym is ∙ total.antisymm k k ∙ ap ordering_reverse is in cc)
+    go Greater is = absurd (let other : Greater ≡ Less = sym is ∙ total.antisymm k k ∙ ap ordering_reverse is in cc)
+
+module _ {K V : Type 0} (cmp : K → K → Ordering) (most : ℕ) (greatest : Option ℕ) where
+  -- what is true of the ordered arena is true of the sorted one
+  pub sound-held : (a : Tree (K × V)) → IsSoundChain most greatest a.list → IsSortedArena cmp a → IsSound cmp most (sorted_of a)
+  sound-held a sound holds = record {
+    sorted = holds.sorted;
+    distinct = sound.distinct;
+    within = omega (arith, sound.counted);
+    limited = omega (arith, sound.within_limit, ap (limit_of most) holds.unlimited);
+  }
+
+  pub arena-removed : (old new : Tree (K × V)) (i : ℕ) → new.list ≡ removed greatest old.list i → IsSortedArena cmp old → IsSortedArena cmp new
+  arena-removed old new i after holds = record {
+    sorted = rw after (sorted-without cmp i old.list.entries holds.sorted);
+    unlimited = rw after holds.unlimited;
+  }
+
+  -- an arena that took a new entry wasn't full
+  pub not_full : (old new : Tree (K × V)) (k : K) (item : K × V) (p : ℕ × ℕ) → InsertsNew item_key cmp most reallocating (behind_key k) old item p new → IsSoundChain most greatest new.list
+      → length old.list.entries ≡ chain_limit most old.list → ⊥
+  not_full old new k item p inserts sound full =
+      let facts = inserted-new old new (with_room_by reallocating most old.list) (entries-with_room_by reallocating most old.list) inserts.gap item p inserts.inserted in
+      let numbers = numbers-inserted reallocating most old.list new.list (with_between inserts.gap) item p.0 p.1 inserts.inserted in
+      absurd (omega (arith, facts.2, sound.counted, sound.within_limit, ap (limit_of most) numbers.1, full))
+
+  -- a new entry behind all whose key is at most its own
+  module _ (total : IsTotalOrder cmp) (old new : Tree (K × V)) (k : K) (v : V) (p : ℕ × ℕ)
+      (inserts : InsertsNew item_key cmp most reallocating (behind_key k) old (k, v) p new) (sound : IsSoundChain most greatest old.list) (holds : IsSortedArena cmp old) where
+    abbrev entry : Entry (K × V)
+    entry = record { index = p.0; generation = p.1; item = (k, v) }
+
+    abbrev room : Chain (K × V)
+    room = with_room_by reallocating most old.list
+
+    order : IsInOrder item_key cmp old.list.entries
+    order = sorted-in_order cmp old.list.entries holds.sorted
+
+    facts : (item_of_arena old p ≡ None) × UpdatesArena old new p (Some (k, v)) × (count_arena new ≡ count_arena old + 1)
+    facts = inserted-new old new room (entries-with_room_by reallocating most old.list) inserts.gap (k, v) p inserts.inserted
+
+    numbers : (new.list.generation ≡ old.list.generation) × (new.list.maximum ≡ old.list.maximum)
+    numbers = numbers-inserted reallocating most old.list new.list (with_between inserts.gap) (k, v) p.0 p.1 inserts.inserted
+
+    pub inserts-put : Inserts cmp most (sorted_of old) p k v (sorted_of new)
+    inserts-put = record {
+      front = inserts.gap.front;
+      back = inserts.gap.back;
+      before = inserts.gap.cut;
+      after = ap (λ (c : Chain (K × V)). c.entries) (after-insertion room new.list (with_between inserts.gap) (k, v) p.0 p.1 inserts.inserted).1;
+      at_most_before = All-from_recursion _ _ (all_at_most cmp total k inserts.gap.front inserts.gap.back (rw (inserts.gap.cut) at order) inserts.place.at_most_before);
+      greater_behind = All-from_recursion _ _ (greater cmp total k old.list.entries order inserts.gap inserts.place.greater_after);
+      unused = facts.0;
+      of_generation = inserts.inserted.generation ∙ (numbers-with_room_by reallocating most old.list).0;
+      generation = numbers.0;
+      capacity = capacity-inserted reallocating most old.list new.list (with_between inserts.gap) (k, v) p.0 p.1 inserts.inserted sound.counted holds.unlimited;
+    }
+
+    pub updates-put : Updates (sorted_of old) (sorted_of new) p (Some (k, v))
+    updates-put = record { changed = facts.1.changed; others = facts.1.others }
+
+    pub count-put : count (sorted_of new) ≡ count (sorted_of old) + 1
+    count-put = facts.2
+
+    pub arena-put : IsSortedArena cmp new
+    arena-put = record {
+      sorted = in_order-sorted cmp total new.list.entries
+          (kept_order (λ (q : ℕ × ℕ). q) item_key cmp total most reallocating (behind_key k) k old new (k, v) (Ok (New p, None)) (inr refl) (equal-itself cmp total k) sound.distinct order inserts);
+      unlimited = numbers.1 ∙ holds.unlimited;
+    }
+
+-- an entry that goes to the place of another key
+module _ {K V : Type 0} (cmp : K → K → Ordering) (total : IsTotalOrder cmp) (old new : Tree (K × V)) (p : ℕ × ℕ) (k : K) (holds : IsSortedArena cmp old) where
+  abbrev named : Option (K × V)
+  named = item_of_arena old p
+
+  order_before : IsInOrder item_key cmp old.list.entries
+  order_before = sorted-in_order cmp old.list.entries holds.sorted
+
+  module _ (pair : K × V) (r : RekeysArena item_key cmp old p (k, pair.1) new) where
+    others_in_order : IsInOrder item_key cmp (r.gap.front ++ r.gap.back)
+    others_in_order = rw (r.gap.cut) at (in_order-without item_key cmp total p.0 old.list.entries order_before)
+
+    rekeys_moved : named ≡ Some pair → Rekeys cmp (sorted_of old) p k (sorted_of new)
+    rekeys_moved is = record {
+      pair = pair;
+      named = is;
+      front = r.gap.front;
+      back = r.gap.back;
+      others = r.gap.cut;
+      after = r.entries;
+      at_most_before = All-from_recursion _ _ (all_at_most cmp total k r.gap.front r.gap.back others_in_order r.place.at_most_before);
+      greater_behind = All-from_recursion _ _
+          (all_less item_key cmp total k r.gap.back (IsInOrder-back item_key cmp r.gap.front r.gap.back others_in_order) r.place.greater_after);
+      generation = ap (λ (c : Chain (K × V)). c.generation) r.kept;
+      capacity = ap (λ (c : Chain (K × V)). c.capacity) r.kept;
+    }
+
+    arena_moved : IsSortedArena cmp new
+    arena_moved = record {
+      sorted = in_order-sorted cmp total new.list.entries ((rekeyed_order item_key cmp total).kept old new p (k, pair.1) order_before r);
+      unlimited = ap (λ (c : Chain (K × V)). c.maximum) r.kept ∙ holds.unlimited;
+    }
+
+  -- by what the call on the ordered arena tells
+  module _ (result : Result K K) (moved : OnOk result (IfSome named (λ pair. RekeysArena item_key cmp old p (k, pair.1) new)))
+      (before : IfOk result (λ before. option_map (λ pair. pair.0) named ≡ Some before)) where
+    pub rekeys-told : OnOk result (Rekeys cmp (sorted_of old) p k (sorted_of new))
+    rekeys-told = go result moved before
+      where
+        by : (o : Option (K × V)) → named ≡ o → (was : K) → IfSome o (λ pair. RekeysArena item_key cmp old p (k, pair.1) new) → option_map (λ pair. pair.0) o ≡ Some was
+            → Rekeys cmp (sorted_of old) p k (sorted_of new)
+        by None is was moved before = absurd (cc)
+        by (Some pair) is was moved before = rekeys_moved pair moved is
+
+        go : (r : Result K K) → OnOk r (IfSome named (λ pair. RekeysArena item_key cmp old p (k, pair.1) new)) → IfOk r (λ before. option_map (λ pair. pair.0) named ≡ Some before)
+            → OnOk r (Rekeys cmp (sorted_of old) p k (sorted_of new))
+        go (Ok was) moved before = by named refl was moved before
+        go (Err back) moved before = tt
+
+    pub arena-told : OnErr result (new ≡ old) → IsSortedArena cmp new
+    arena-told same = go result moved before same
+      where
+        by : (o : Option (K × V)) → (was : K) → IfSome o (λ pair. RekeysArena item_key cmp old p (k, pair.1) new) → option_map (λ pair. pair.0) o ≡ Some was → IsSortedArena cmp new
+        by None was moved before = absurd (cc)
+        by (Some pair) was moved before = arena_moved pair moved
+
+        go : (r : Result K K) → OnOk r (IfSome named (λ pair. RekeysArena item_key cmp old p (k, pair.1) new)) → IfOk r (λ before. option_map (λ pair. pair.0) named ≡ Some before)
+            → OnErr r (new ≡ old) → IsSortedArena cmp new
+        go (Ok was) moved before same = by named was moved before
+        go (Err back) moved before same = subst (λ (a : Tree (K × V)). IsSortedArena cmp a) (sym same) holds

@@ -1,0 +1,13 @@
+use Rattle.std.proofs.Common.{◌∙◌, sym, ap}
+use Rattle.sorted_arena.specs.Sorted.{with_left}
+use Rattle.sorted_arena.proofs.Cutting.{last-named, OnSome-followed}
+use Rattle.sorted_arena.proofs.arena.SortedArena.pop_last.Goals as goal
+
+pub returns-clause-value : goal.returns-clause-value
+returns-clause-value g c =
+    c.remove.ensures.value ∙ (last-named c.args.self.now.entries c.len.ensures.sound.distinct (g.P.BasePtr.numbers c.in_ok-last.last) (sym c.in_ok-last.ensures.value)).0
+
+pub returns-clause-gone : goal.returns-clause-gone
+returns-clause-gone g c =
+    OnSome-followed c.remove.result (λ is. is ∙ ap (with_left g.P.Gen.BasePtrGen.greatest c.args.self.now)
+    (last-named c.args.self.now.entries c.len.ensures.sound.distinct (g.P.BasePtr.numbers c.in_ok-last.last) (sym c.in_ok-last.ensures.value)).1) c.remove.ensures.gone

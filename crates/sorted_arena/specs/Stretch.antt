@@ -1,0 +1,36 @@
+-- How an iterator over a sorted arena stands in its list (layout).
+use Rattle.std.specs.Prelude.{◌≡◌, ◌==◌, ℕ, Bool, true, if◌then◌else◌, List, [], ◌∷◌, ◌++◌, Option, Some, None}
+use Rattle.std.specs.{Option.option_map, declared.cmp.Ordering.Ordering, declared.ops.Bound.Bound, BTreeMap.Range.is_from_start}
+use Rattle.chain_base.specs.Chain.{Entry, IsDistinct, from_index}
+use Rattle.triple_ord.specs.Gap.{first_of}
+
+module _ {T : Type 0} where
+  -- the entries before the one with this index
+  abbrev pub before_index : ℕ → List (Entry T) → List (Entry T)
+  before_index i [] = []
+  before_index i (e ∷ es) = if e.index == i then [] else e ∷ before_index i es
+
+  -- the entries from the one with the first index on, and before the one with the second; none and all of them where an index is None
+  abbrev pub stretch : List (Entry T) → Option ℕ → Option ℕ → List (Entry T)
+  stretch es None end = []
+  stretch es (Some i) None = from_index es i
+  stretch es (Some i) (Some j) = before_index j (from_index es i)
+
+  -- the index of the first entry, if any
+  abbrev pub first_index : List (Entry T) → Option ℕ
+  first_index es = option_map (λ e. e.index) (first_of es)
+
+  -- the list is cut at two places, and these are the indexes of the entries behind them
+  pub record IsStretch (es : List (Entry T)) (first end : Option ℕ) : Type 0 where
+    pub distinct : IsDistinct es
+    pub front : List (Entry T)
+    pub middle : List (Entry T)
+    pub back : List (Entry T)
+    pub cut : es ≡ front ++ (middle ++ back)
+    pub begins : first_index (middle ++ back) ≡ first
+    pub ends : first_index back ≡ end
+
+-- whether a pair, if any, is not before the start of a range
+abbrev pub is_forward : {K V : Type 0} → (K → K → Ordering) → Bound K → Option (K × V) → Bool
+is_forward cmp from None = true
+is_forward cmp from (Some pair) = is_from_start cmp from pair.0

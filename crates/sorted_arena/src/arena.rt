@@ -1,0 +1,125 @@
+//! `SortedArena`: entries in the order of their keys.
+
+ghost use Rattle.std.specs.Prelude.{◌≡◌, ◌==◌, ◌↔◌, ◌+◌, ◌≤◌, ◌<◌, [], Err, OnOk, OnErr};
+ghost use Rattle.arena_base.specs.Generation.{first_generation};
+ghost use Rattle.sorted_arena.specs.Layout.{sorted_of, IsSortedArena};
+ghost use Rattle.sorted_arena.specs.Sorted.{IsSound, count, with_left};
+
+mod access;
+mod find;
+mod insert;
+mod neighbours;
+mod rekey;
+mod remove;
+
+use crate::pairs::Pairs;
+use std::alloc::{Allocator, Global};
+use std::marker::Model;
+use triple_ord::{BasePtr, P0, ReallocationError, SimpleOrdArena};
+
+/// Values by their keys, in the order of the keys. Equal keys keep the order of their insertion.
+///
+/// An insertion returns a pointer, which names the entry until it is removed; [`rekey`](Self::rekey) keeps it. Values can be written,
+/// keys can't. In contracts a sorted arena is the list of its entries, each with pointer, key and value, the generation of the next
+/// pointer, and the capacity. [`len`](Self::len) promises what holds of every sorted arena (`IsSound`): the keys are in order, no two
+/// entries share an index, and all entries fit in the capacity.
+///
+/// Only the insertions and `reserve` take memory. In the docs n is the number of entries.
+#[derive(Drop)]
+pub struct SortedArena<K: Ord, V, P: BasePtr = P0, A: Allocator = Global> {
+    pairs: Pairs<K, V, P, A>,
+}
+
+impl<K: Ord, V, P: BasePtr, A: Allocator> Model for SortedArena<K, V, P, A> {
+    ghost use Rattle.sorted_arena.specs.Sorted.{Sorted};
+
+    ghost Value = { Sorted K V };
+
+    ghost use Rattle.sorted_arena.specs.Layout.{sorted_of, IsSortedArena};
+
+    ghost view = { λ a. sorted_of a.pairs };
+
+    ghost invariant = { λ a. IsSortedArena K.cmp a.pairs };
+}
+
+impl<K: Ord, V, P: BasePtr, A: Allocator> SortedArena<K, V, P, A> {
+    /// Creates an empty arena with capacity 0. It takes no memory until an entry is inserted.
+    pub fn new(alloc: A) -> Self
+    where
+        A: Copy,
+        ensures entries { result.entries ≡ [] }
+        ensures generation { result.generation ≡ first_generation P.Gen.greatest }
+        ensures capacity { result.capacity ≡ 0 }
+    {
+        SortedArena {
+            pairs: SimpleOrdArena::new(alloc),
+        }
+    }
+
+    // The ordered arena.
+    pub(crate) fn pairs(&self) -> &Pairs<K, V, P, A>
+        ensures view { self.now ≡ sorted_of result.now }
+        ensures holds { IsSortedArena K.cmp result.now }
+    {
+        &self.pairs
+    }
+
+    /// Returns how many entries the arena holds without growing.
+    pub fn capacity(&self) -> usize
+        ensures { result ≡ self.now.capacity }
+    {
+        self.pairs.capacity()
+    }
+
+    /// Returns the number of entries.
+    pub fn len(&self) -> usize
+        ensures value { result ≡ count self.now }
+        ensures sound { IsSound K.cmp P.Inx.most self.now }
+    {
+        self.pairs.len()
+    }
+
+    /// Returns whether the arena has no entries.
+    pub fn is_empty(&self) -> bool
+        ensures { result ≡ (count self.now == 0) }
+    {
+        self.pairs.is_empty()
+    }
+
+    /// Makes room for `additional` more entries. O(capacity) if the arena grows, else O(1).
+    ///
+    /// # Errors
+    ///
+    /// The arena is unchanged.
+    /// - `BeyondMaxCapacity`: there would be more entries than pointers have indexes.
+    /// - `AllocError`: growing failed.
+    pub fn reserve(&mut self, additional: usize) -> Result<(), ReallocationError>
+        ensures entries { self.new.entries ≡ self.old.entries }
+        ensures generation { self.new.generation ≡ self.old.generation }
+        ensures room { OnOk result (count self.old + additional ≤ self.new.capacity) }
+        ensures full { (result ≡ Err ReallocationError.BeyondMaxCapacity)
+            ↔ (P.Inx.most < count self.old + additional) }
+        ensures memory { result ≡ Err ReallocationError.AllocError
+            → self.old.capacity < count self.old + additional }
+        ensures err { OnErr result (self.new ≡ self.old) }
+    {
+        // with its length an arena tells what holds of its list
+        let Some(needed) = self.pairs.len().checked_add(additional) else {
+            return Err(ReallocationError::BeyondMaxCapacity);
+        };
+        if needed <= self.pairs.capacity() {
+            return Ok(());
+        }
+        self.pairs.reallocate_min_capacity(needed)
+    }
+}
+
+impl<K: Ord + Drop, V: Drop, P: BasePtr, A: Allocator> SortedArena<K, V, P, A> {
+    /// Removes all entries, in O(capacity). The capacity stays.
+    pub fn clear(&mut self)
+        ensures count { count self.new ≡ 0 }
+        ensures after { self.new ≡ with_left P.Gen.greatest self.old [] }
+    {
+        let _ = self.pairs.clear();
+    }
+}

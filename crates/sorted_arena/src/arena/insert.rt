@@ -1,0 +1,110 @@
+//! Insertions.
+
+ghost use Rattle.std.specs.Prelude.{◌≡◌, ◌↔◌, ◌+◌, Err, Some, None, IfOk, OnOk, IfErr, OnErr, is_some, true};
+ghost use Rattle.std.specs.Ordering.{is_eq};
+ghost use Rattle.sorted_arena.specs.Sorted.{count, first_where, key_of};
+ghost use Rattle.sorted_arena.specs.Sorted.{IsAbsent, Inserts, InsertsOrReplaces, Updates};
+
+use super::SortedArena;
+use crate::error::UniqueInsertionError;
+use crate::pairs::put;
+use std::alloc::Allocator;
+use triple_ord::{BasePtr, ReallocationError};
+
+impl<K: Ord + Drop, V: Drop, P: BasePtr, A: Allocator> SortedArena<K, V, P, A> {
+    /// Inserts an entry behind all whose key is at most `k`, and returns its pointer. If it is full, the arena grows.
+    ///
+    /// # Errors
+    ///
+    /// The pair comes back, and the arena is unchanged.
+    /// - `BeyondMaxCapacity`: there are as many entries as pointers have indexes.
+    /// - `AllocError`: growing failed.
+    ///
+    /// # Complexity
+    ///
+    /// O(log n), and one comparison if no key is greater than `k`; plus O(n) when the arena grows (amortized O(1)).
+    pub fn insert(&mut self, k: K, v: V) -> Result<P, ((K, V), ReallocationError)>
+        ensures ok { IfOk result
+            (λ p. Inserts K.cmp P.Inx.most self.old (P.numbers p) k v self.new) }
+        ensures updates { IfOk result
+            (λ p. Updates self.old self.new (P.numbers p) (Some (k, v))) }
+        ensures count { OnOk result (count self.new ≡ count self.old + 1) }
+        ensures back { IfErr result (λ e. e.0 ≡ (k, v)) }
+        ensures full { (result ≡ Err ((k, v), ReallocationError.BeyondMaxCapacity))
+            ↔ (count self.old ≡ P.Inx.most) }
+        ensures memory { result ≡ Err ((k, v), ReallocationError.AllocError)
+            → count self.old ≡ self.old.capacity }
+        ensures err { OnErr result (self.new ≡ self.old) }
+    {
+        let p = put(&mut self.pairs, k, v)?;
+        Ok(p)
+    }
+
+    /// Replaces the value of the first entry whose key equals `k`, and returns its pointer and the old value. The entry keeps its key.
+    /// If no entry has this key, inserts one, as [`insert`](Self::insert) does, and returns its pointer and `None`. O(log n).
+    ///
+    /// # Errors
+    ///
+    /// Those of `insert`, if no entry has this key: the pair comes back, and the arena is unchanged.
+    pub fn replace(&mut self, k: K, v: V) -> Result<(P, Option<V>), ((K, V), ReallocationError)>
+        ensures ok { IfOk result
+            (λ a. InsertsOrReplaces K.cmp P.Inx.most self.old (P.numbers a.0) k v a.1 self.new) }
+        ensures back { IfErr result (λ e. e.0 ≡ (k, v)) }
+        ensures absent { OnErr result (IsAbsent K.cmp self.old k) }
+        ensures full { result ≡ Err ((k, v), ReallocationError.BeyondMaxCapacity)
+            → count self.old ≡ P.Inx.most }
+        ensures memory { result ≡ Err ((k, v), ReallocationError.AllocError)
+            → count self.old ≡ self.old.capacity }
+        ensures err { OnErr result (self.new ≡ self.old) }
+    {
+        let at = self.find(&k);
+        match at {
+            Some(p) => {
+                let before = self.set_value(p, v);
+                Ok((p, before))
+            }
+            None => match self.insert(k, v) {
+                Ok(p) => Ok((p, None)),
+                Err(refused) => Err(refused),
+            },
+        }
+    }
+
+    /// Inserts an entry, as [`insert`](Self::insert) does, unless one has an equal key. O(log n).
+    ///
+    /// # Errors
+    ///
+    /// The pair comes back, and the arena is unchanged.
+    /// - `EqualKey`: an entry has an equal key.
+    /// - `BeyondMaxCapacity`, `AllocError`: as `insert`.
+    pub fn insert_unique(&mut self, k: K, v: V) -> Result<P, ((K, V), UniqueInsertionError)>
+        ensures ok { IfOk result
+            (λ p. Inserts K.cmp P.Inx.most self.old (P.numbers p) k v self.new) }
+        ensures updates { IfOk result
+            (λ p. Updates self.old self.new (P.numbers p) (Some (k, v))) }
+        ensures count { OnOk result (count self.new ≡ count self.old + 1) }
+        ensures absent { OnOk result (IsAbsent K.cmp self.old k) }
+        ensures equal { result ≡ Err ((k, v), UniqueInsertionError.EqualKey)
+            → is_some (first_where (λ e. is_eq (K.cmp k (key_of e))) self.old.entries) ≡ true }
+        ensures back { IfErr result (λ e. e.0 ≡ (k, v)) }
+        ensures full { result ≡ Err ((k, v), UniqueInsertionError.BeyondMaxCapacity)
+            → count self.old ≡ P.Inx.most }
+        ensures memory { result ≡ Err ((k, v), UniqueInsertionError.AllocError)
+            → count self.old ≡ self.old.capacity }
+        ensures err { OnErr result (self.new ≡ self.old) }
+    {
+        let at = self.find(&k);
+        match at {
+            Some(_) => Err(((k, v), UniqueInsertionError::EqualKey)),
+            None => match self.insert(k, v) {
+                Ok(p) => Ok(p),
+                Err((pair, ReallocationError::BeyondMaxCapacity)) => {
+                    Err((pair, UniqueInsertionError::BeyondMaxCapacity))
+                }
+                Err((pair, ReallocationError::AllocError)) => {
+                    Err((pair, UniqueInsertionError::AllocError))
+                }
+            },
+        }
+    }
+}

@@ -1,0 +1,51 @@
+//! The first and the last entry, and the neighbours of an entry.
+
+ghost use Rattle.std.specs.Prelude.{◌≡◌, ◌≢◌, IfSome, IfNone, IsSomeAnd};
+ghost use Rattle.std.specs.List.{All};
+ghost use Rattle.std.specs.Option.{option_map};
+ghost use Rattle.std.specs.declared.cmp.Ordering.TheVariants.{Greater};
+ghost use Rattle.chain_base.specs.Chain.{first_pointer, last_pointer};
+ghost use Rattle.sorted_arena.specs.Sorted.{pair_of, count, key_of, next_of, prev_of};
+
+use super::SortedArena;
+use crate::pairs::{next_in, prev_in};
+use std::alloc::Allocator;
+use triple_ord::BasePtr;
+
+impl<K: Ord, V, P: BasePtr, A: Allocator> SortedArena<K, V, P, A> {
+    /// Returns the pointer of the first entry, which has the smallest key, in O(1).
+    pub fn first(&self) -> Option<P>
+        ensures value { option_map P.numbers result ≡ first_pointer self.now.entries }
+        ensures least { IfSome result (λ p. IsSomeAnd (pair_of self.now (P.numbers p))
+            (λ least. All (λ e. K.cmp least.0 (key_of e) ≢ Greater) self.now.entries)) }
+        ensures none { IfNone result (count self.now ≡ 0) }
+    {
+        self.pairs.first()
+    }
+
+    /// Returns the pointer of the last entry, which has the greatest key, in O(1).
+    pub fn last(&self) -> Option<P>
+        ensures value { option_map P.numbers result ≡ last_pointer self.now.entries }
+        ensures greatest { IfSome result (λ p. IsSomeAnd (pair_of self.now (P.numbers p))
+            (λ greatest. All (λ e. K.cmp (key_of e) greatest.0 ≢ Greater) self.now.entries)) }
+        ensures none { IfNone result (count self.now ≡ 0) }
+    {
+        // with its length an arena tells what holds of its list
+        let _ = self.pairs.len();
+        self.pairs.last()
+    }
+
+    /// Returns the pointer of the successor of the entry at `p`, in O(1). `None` if it is the last one, or `p` is stale.
+    pub fn next(&self, p: P) -> Option<P>
+        ensures { option_map P.numbers result ≡ next_of self.now.entries (P.numbers p) }
+    {
+        next_in(&self.pairs, p)
+    }
+
+    /// Returns the pointer of the predecessor of the entry at `p`, in O(1). `None` if it is the first one, or `p` is stale.
+    pub fn prev(&self, p: P) -> Option<P>
+        ensures { option_map P.numbers result ≡ prev_of self.now.entries (P.numbers p) }
+    {
+        prev_in(&self.pairs, p)
+    }
+}

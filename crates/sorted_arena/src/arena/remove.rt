@@ -1,0 +1,110 @@
+//! Removals. None of them takes memory.
+
+ghost use Rattle.std.specs.Prelude.{◌≡◌, ◌≢◌, ◌+◌, None, IfSome, IfNone, OnSome};
+ghost use Rattle.std.specs.List.{All};
+ghost use Rattle.std.specs.Option.{option_and_then};
+ghost use Rattle.std.specs.Ordering.{is_eq};
+ghost use Rattle.std.specs.declared.cmp.Ordering.TheVariants.{Greater};
+ghost use Rattle.sorted_arena.specs.Sorted.{pair_of, count, first_where, key_of, first_item, last_item};
+ghost use Rattle.sorted_arena.specs.Sorted.{behind_first, before_last, first_item_until, entries_above};
+ghost use Rattle.sorted_arena.specs.Sorted.{with_left, without, IsAbsent, Updates};
+
+use super::SortedArena;
+use std::alloc::Allocator;
+use triple_ord::BasePtr;
+
+impl<K: Ord, V, P: BasePtr, A: Allocator> SortedArena<K, V, P, A> {
+    /// Removes the entry at `p` and returns its key and value, in O(log n). If `p` is stale, returns `None` and nothing changes.
+    pub fn remove(&mut self, p: P) -> Option<(K, V)>
+        ensures value { result ≡ pair_of self.old (P.numbers p) }
+        ensures updates { Updates self.old self.new (P.numbers p) None }
+        ensures count { OnSome result (count self.old ≡ count self.new + 1) }
+        ensures gone { OnSome result
+            (self.new ≡ without P.Gen.greatest self.old (P.numbers p)) }
+        ensures none { IfNone result (self.new ≡ self.old) }
+    {
+        // with its length an arena tells what holds of its list
+        let _ = self.pairs.len();
+        let pair = self.pairs.remove(p).allow()?;
+        Some(pair.into_k_v())
+    }
+
+    /// Removes the first entry whose key equals `k` and returns its key and value, in O(log n). `None` exactly if no entry has this
+    /// key; nothing changes then.
+    pub fn remove_key(&mut self, k: &K) -> Option<(K, V)>
+        ensures value { result ≡ option_and_then (pair_of self.old)
+            (first_where (λ e. is_eq (K.cmp k.now (key_of e))) self.old.entries) }
+        ensures absent { IfNone result (IsAbsent K.cmp self.old k.now) }
+        ensures count { OnSome result (count self.old ≡ count self.new + 1) }
+        ensures gone { OnSome result
+            (IfSome (first_where (λ e. is_eq (K.cmp k.now (key_of e))) self.old.entries)
+            (λ p. self.new ≡ without P.Gen.greatest self.old p)) }
+        ensures none { IfNone result (self.new ≡ self.old) }
+    {
+        let p = self.find(k)?;
+        self.remove(p)
+    }
+
+    /// Removes the first entry, which has the smallest key, and returns its key and value, in O(log n). `None` if there is none.
+    pub fn pop_first(&mut self) -> Option<(K, V)>
+        ensures value { result ≡ first_item self.old.entries }
+        ensures count { OnSome result (count self.old ≡ count self.new + 1) }
+        ensures gone { OnSome result
+            (self.new ≡ with_left P.Gen.greatest self.old (behind_first self.old.entries)) }
+        ensures none { IfNone result (self.new ≡ self.old) }
+    {
+        let first = self.first()?;
+        self.remove(first)
+    }
+
+    /// Removes the last entry, which has the greatest key, and returns its key and value, in O(log n). `None` if there is none.
+    pub fn pop_last(&mut self) -> Option<(K, V)>
+        ensures value { result ≡ last_item self.old.entries }
+        ensures count { OnSome result (count self.old ≡ count self.new + 1) }
+        ensures gone { OnSome result
+            (self.new ≡ with_left P.Gen.greatest self.old (before_last self.old.entries)) }
+        ensures none { IfNone result (self.new ≡ self.old) }
+    {
+        // with its length an arena tells what holds of its list
+        let _ = self.len();
+        let last = self.last()?;
+        self.remove(last)
+    }
+
+    /// Removes the first entry if its key is at most `until`, and returns its key and value, in O(log n).
+    ///
+    /// If all keys are greater, returns `None` and nothing changes.
+    pub fn pop_first_until(&mut self, until: &K) -> Option<(K, V)>
+        ensures value { result ≡ first_item_until K.cmp until.now self.old.entries }
+        ensures reached { IfSome result (λ e. K.cmp e.0 until.now ≢ Greater) }
+        ensures count { OnSome result (count self.old ≡ count self.new + 1) }
+        ensures gone { OnSome result
+            (self.new ≡ with_left P.Gen.greatest self.old (behind_first self.old.entries)) }
+        ensures left { IfNone result
+            (All (λ e. K.cmp (key_of e) until.now ≡ Greater) self.new.entries) }
+        ensures none { IfNone result (self.new ≡ self.old) }
+    {
+        // with its length an arena tells what holds of its list
+        let _ = self.len();
+        let first = self.first()?;
+        let (k, _) = self.get(first)?;
+        if k.cmp(until).is_gt() {
+            return None;
+        }
+        self.remove(first)
+    }
+
+    /// Removes and drops all entries whose key is at most `until`, and returns how many there were. O(log n) for each.
+    pub fn remove_until(&mut self, until: &K) -> usize
+    where
+        K: Drop,
+        V: Drop,
+        ensures entries { self.new.entries ≡ entries_above K.cmp until.now self.old.entries }
+        ensures left { All (λ e. K.cmp (key_of e) until.now ≡ Greater) self.new.entries }
+        ensures count { count self.new + result ≡ count self.old }
+    {
+        let before = self.len();
+        while self.pop_first_until(until).is_some() {}
+        before - self.len()
+    }
+}

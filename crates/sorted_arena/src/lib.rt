@@ -1,0 +1,17 @@
+//! Sorted arenas: entries that are always in the order of their keys.
+//!
+//! An entry is found in O(1) by its pointer, and in O(log n) by its key. Equal keys keep the order of their insertion. Values can be
+//! written; keys can't, so the order can't be broken.
+#![tactic(auto)]
+
+mod arena;
+mod error;
+mod pairs;
+mod range;
+
+pub use arena::SortedArena;
+pub use error::{RekeyUniqueError, UniqueInsertionError};
+pub use range::Range;
+pub use triple_ord::{
+    BasePtr, BasePtrGen, BasePtrInx, P0, P8, PN, Ptr, PtrGen, PtrInx, Q0, ReallocationError,
+};

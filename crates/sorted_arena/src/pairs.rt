@@ -1,0 +1,178 @@
+//! The ordered arena of a sorted one. A new entry goes behind all whose key is at most its own.
+
+ghost use Rattle.std.specs.Prelude.{◌≡◌, ◌↔◌, ◌++◌, List, None, Err, IfOk, IfErr, OnErr, length};
+ghost use Rattle.std.specs.Option.{option_map};
+ghost use Rattle.std.specs.Ordering.{is_le, is_lt};
+ghost use Rattle.chain_base.specs.Chain.{Entry, chain_limit, IsSound};
+ghost use Rattle.triple_ord.specs.Gap.{last_of};
+ghost use Rattle.triple_ord.specs.Insertion.{reallocating, InsertsNew};
+ghost use Rattle.triple_ord.specs.Place.{aim_of, behind_key, kind_now};
+ghost use Rattle.sorted_arena.specs.Layout.{item_key, pointer_among};
+ghost use Rattle.sorted_arena.specs.Stretch.{first_index};
+ghost use Rattle.sorted_arena.specs.Sorted.{AreSorted, key_of, first_where, next_of, prev_of};
+
+use std::alloc::Allocator;
+use std::cmp::Ordering;
+use triple_ord::{
+    BasePtr, OrdInsertKind, OrdInsertionError, OrdPair, ReallocationError, SimpleOrdArena,
+};
+
+/// Pairs by their keys.
+pub(crate) type Pairs<K, V, P, A> = SimpleOrdArena<P, OrdPair<K, V>, A>;
+
+// Behind all keys that are at most this one. The search compares the last key first, and ends there if the new key is not smaller.
+#[inline(always)]
+fn kind_behind<'k, K: Ord, V, P: BasePtr, A: Allocator>(
+    pairs: &Pairs<K, V, P, A>,
+    k: &'k K,
+) -> OrdInsertKind<P, &'k K>
+    ensures { aim_of P.Inx.number (kind_now result) ≡ behind_key k.now }
+{
+    match pairs.last() {
+        Some(last) => OrdInsertKind::NonhereditaryLinear {
+            p_init: last.inx(),
+            num: 1,
+            k,
+        },
+        None => OrdInsertKind::Nonhereditary(k),
+    }
+}
+
+/// Inserts a pair. The arena grows if it has no vacant slot. On `Err` the pair comes back.
+pub(crate) fn put<K: Ord + Drop, V: Drop, P: BasePtr, A: Allocator>(
+    pairs: &mut Pairs<K, V, P, A>,
+    k: K,
+    v: V,
+) -> Result<P, ((K, V), ReallocationError)>
+    ensures ok { IfOk result (λ p. InsertsNew item_key K.cmp P.Inx.most reallocating
+        (behind_key k) pairs.old (k, v) (P.numbers p) pairs.new) }
+    ensures back { IfErr result (λ e. e.0 ≡ (k, v)) }
+    ensures full { (result ≡ Err ((k, v), ReallocationError.BeyondMaxCapacity))
+        ↔ (length pairs.old.list.entries ≡ chain_limit P.Inx.most pairs.old.list) }
+    ensures memory { result ≡ Err ((k, v), ReallocationError.AllocError)
+        → length pairs.old.list.entries ≡ pairs.old.list.capacity }
+    ensures err { OnErr result (pairs.new ≡ pairs.old) }
+    ensures sound { IsSound P.Inx.most P.Gen.greatest pairs.old.list }
+{
+    // with its length an arena tells what holds of its list
+    let _ = pairs.len();
+    let kind = kind_behind(pairs, &k);
+    match pairs.entry_insert(kind) {
+        Ok(entry) => {
+            let p = entry.ptr().any();
+            let _ = entry.insert(OrdPair::new(k, v));
+            let _ = pairs.len();
+            Ok(p)
+        }
+        Err(OrdInsertionError::BeyondMaxCapacity) => {
+            Err(((k, v), ReallocationError::BeyondMaxCapacity))
+        }
+        Err(OrdInsertionError::AllocError) => Err(((k, v), ReallocationError::AllocError)),
+        // a key has a place, and the arena may grow
+        Err(_) => unreachable!(),
+    }
+}
+
+// The pointer of the entry at an index.
+fn pointer_at<K: Ord, V, P: BasePtr, A: Allocator>(
+    pairs: &Pairs<K, V, P, A>,
+    i: Option<P::Inx>,
+) -> Option<P>
+    ensures { option_map P.numbers result
+        ≡ pointer_among pairs.now.list.entries (option_map P.Inx.number i) }
+{
+    let i = i?;
+    let (generation, _) = pairs.get_inx(i)?;
+    Some(P::_from_raw(i, generation))
+}
+
+/// The pointer of the successor of the entry at `p`.
+pub(crate) fn next_in<K: Ord, V, P: BasePtr, A: Allocator>(
+    pairs: &Pairs<K, V, P, A>,
+    p: P,
+) -> Option<P>
+    ensures { option_map P.numbers result ≡ next_of pairs.now.list.entries (P.numbers p) }
+{
+    // with its length an arena tells what holds of its list
+    let _ = pairs.len();
+    if !pairs.contains(p) {
+        return None;
+    }
+    let (_, link) = pairs.get_inx_link_no_gen(p.inx())?;
+    pointer_at(pairs, link.next())
+}
+
+/// The pointer of the predecessor of the entry at `p`.
+pub(crate) fn prev_in<K: Ord, V, P: BasePtr, A: Allocator>(
+    pairs: &Pairs<K, V, P, A>,
+    p: P,
+) -> Option<P>
+    ensures { option_map P.numbers result ≡ prev_of pairs.now.list.entries (P.numbers p) }
+{
+    // with its length an arena tells what holds of its list
+    let _ = pairs.len();
+    if !pairs.contains(p) {
+        return None;
+    }
+    let (_, link) = pairs.get_inx_link_no_gen(p.inx())?;
+    pointer_at(pairs, link.prev())
+}
+
+/// The pointer of the first entry whose key is at least `k`.
+pub(crate) fn lower_bound_in<K: Ord, V, P: BasePtr, A: Allocator>(
+    pairs: &Pairs<K, V, P, A>,
+    k: &K,
+) -> Option<P>
+    requires { AreSorted K.cmp pairs.now.list.entries }
+    ensures { option_map P.numbers result
+        ≡ first_where (λ e. is_le (K.cmp k.now (key_of e))) pairs.now.list.entries }
+{
+    // with its length an arena tells what holds of its list
+    let _ = pairs.len();
+    let (p, order) = pairs.find_similar_key(k)?;
+    match order {
+        Ordering::Greater => next_in(pairs, p),
+        _ => Some(p),
+    }
+}
+
+/// The pointer of the first entry whose key is greater than `k`.
+pub(crate) fn upper_bound_in<K: Ord, V, P: BasePtr, A: Allocator>(
+    pairs: &Pairs<K, V, P, A>,
+    k: &K,
+) -> Option<P>
+    requires { AreSorted K.cmp pairs.now.list.entries }
+    ensures { option_map P.numbers result
+        ≡ first_where (λ e. is_lt (K.cmp k.now (key_of e))) pairs.now.list.entries }
+{
+    // with its length an arena tells what holds of its list
+    let _ = pairs.len();
+    let (p, order) = pairs.find_behind_key(k)?;
+    match order {
+        Ordering::Less => Some(p),
+        _ => next_in(pairs, p),
+    }
+}
+
+/// The index of the last entry before the one at `end`; of the last entry of all, if that is `None`.
+pub(crate) fn last_before<K: Ord, V, P: BasePtr, A: Allocator>(
+    pairs: &Pairs<K, V, P, A>,
+    end: Option<P::Inx>,
+) -> Option<P::Inx>
+    ensures { (front back : List (Entry (K × V))) → pairs.now.list.entries ≡ front ++ back
+        → first_index back ≡ option_map P.Inx.number end
+        → option_map (λ e. e.index) (last_of None front) ≡ option_map P.Inx.number result }
+{
+    // with its length an arena tells what holds of its list
+    let _ = pairs.len();
+    match end {
+        Some(i) => {
+            let (_, link) = pairs.get_inx_link_no_gen(i)?;
+            link.prev()
+        }
+        None => {
+            let last = pairs.last()?;
+            Some(last.inx())
+        }
+    }
+}

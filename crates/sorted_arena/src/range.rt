@@ -1,0 +1,219 @@
+//! `Range`: entries in order, from both ends.
+ghost use Rattle.std.specs.Prelude.{◌≡◌, true, false};
+ghost use Rattle.std.specs.Iterator.{YieldsFirstBy, YieldsLastBy, item_count};
+ghost use Rattle.std.specs.{Option.option_map, Option.option_and_then, Range.Bound.bound_map};
+ghost use Rattle.std.specs.BTreeMap.Range.{is_from_start, is_past_end};
+ghost use Rattle.sorted_arena.specs.Range.{entries_between};
+ghost use Rattle.sorted_arena.specs.Sorted.{pair_of, first_where, key_of};
+ghost use Rattle.sorted_arena.specs.Stretch.{is_forward};
+
+use crate::arena::SortedArena;
+use crate::pairs::{Pairs, last_before};
+use std::alloc::{Allocator, Global};
+use std::marker::Model;
+use std::ops::{Bound, RangeBounds};
+use triple_ord::{BasePtr, P0};
+
+/// Gives the pointers, keys and values of the entries in a range, in order, from both ends. Each step is O(1).
+#[derive(Drop)]
+pub struct Range<'a, K: Ord, V, P: BasePtr = P0, A: Allocator = Global> {
+    pub(crate) pairs: &'a Pairs<K, V, P, A>,
+    // the index of the next entry from the front
+    pub(crate) first: Option<P::Inx>,
+    // the index of the entry behind the next one from the back
+    pub(crate) end: Option<P::Inx>,
+}
+
+impl<'a, K: Ord, V, P: BasePtr, A: Allocator> Model for Range<'a, K, V, P, A> {
+    ghost use Rattle.std.specs.Prelude.{List};
+    ghost use Rattle.std.specs.Option.{option_map};
+    ghost use Rattle.chain_base.specs.Chain.{Entry};
+
+    ghost Value = { List (Entry (K × V)) };
+
+    ghost use Rattle.sorted_arena.specs.Stretch.{stretch, IsStretch};
+
+    ghost view = { λ r. stretch r.pairs.now.list.entries
+        (option_map P.Inx.number r.first) (option_map P.Inx.number r.end) };
+
+    ghost invariant = { λ r. IsStretch r.pairs.now.list.entries
+        (option_map P.Inx.number r.first) (option_map P.Inx.number r.end) };
+}
+
+impl<'a, K: Ord, V, P: BasePtr, A: Allocator> Iterator for Range<'a, K, V, P, A> {
+    type Item = (P, &'a K, &'a V);
+
+    ghost next_gives = { YieldsFirstBy (λ x. record {
+      index = (P.numbers x.0).0;
+      generation = (P.numbers x.0).1;
+      item = (x.1.now, x.2.now);
+    }) (λ left. left) };
+
+    ghost remaining = { item_count (λ left. left) };
+
+    fn next(&mut self) -> Option<(P, &'a K, &'a V)> {
+        if are_same::<P>(self.first, self.end) {
+            return None;
+        }
+        let i = self.first?;
+        let entry = self.pairs.get_inx_link_no_gen(i)?;
+        let link = entry.1;
+        self.first = link.next();
+        let (k, v) = link.t.k_v();
+        Some((P::_from_raw(i, entry.0), k, v))
+    }
+}
+
+impl<'a, K: Ord, V, P: BasePtr, A: Allocator> DoubleEndedIterator for Range<'a, K, V, P, A> {
+    ghost next_back_gives = { YieldsLastBy (λ x. record {
+      index = (P.numbers x.0).0;
+      generation = (P.numbers x.0).1;
+      item = (x.1.now, x.2.now);
+    }) (λ left. left) };
+
+    fn next_back(&mut self) -> Option<(P, &'a K, &'a V)> {
+        if are_same::<P>(self.first, self.end) {
+            return None;
+        }
+        let i = last_before(self.pairs, self.end)?;
+        let entry = self.pairs.get_inx(i)?;
+        self.end = Some(i);
+        let (k, v) = entry.1.k_v();
+        Some((P::_from_raw(i, entry.0), k, v))
+    }
+}
+
+// Whether two indexes are equal, or neither is there.
+fn are_same<P: BasePtr>(first: Option<P::Inx>, end: Option<P::Inx>) -> bool
+    ensures same { result ≡ true
+        → option_map P.Inx.number first ≡ option_map P.Inx.number end }
+    ensures apart { result ≡ false
+        → option_map P.Inx.number first ≡ option_map P.Inx.number end → ⊥ }
+{
+    match (first, end) {
+        (Some(i), Some(j)) => i == j,
+        (None, None) => true,
+        _ => false,
+    }
+}
+
+// The index of a pointer, if there is one.
+fn inx_of<P: BasePtr>(p: Option<P>) -> Option<P::Inx>
+    ensures { option_map P.Inx.number result ≡ option_map (λ q. q.0) (option_map P.numbers p) }
+{
+    match p {
+        Some(p) => Some(p.inx()),
+        None => None,
+    }
+}
+
+// Whether a key is not before the start of a range.
+fn is_key_from<K: Ord>(from: Bound<&K>, k: &K) -> bool
+    ensures { result ≡ is_from_start K.cmp (bound_map (λ x. x.now) from.entry) k.now }
+{
+    match from {
+        Bound::Included(start) => start.cmp(k).is_le(),
+        Bound::Excluded(start) => start.cmp(k).is_lt(),
+        Bound::Unbounded => true,
+    }
+}
+
+impl<K: Ord, V, P: BasePtr, A: Allocator> SortedArena<K, V, P, A> {
+    /// Returns an iterator over all entries in order, from both ends.
+    pub fn iter(&self) -> Range<'_, K, V, P, A>
+        ensures { result ≡ self.now.entries }
+    {
+        let pairs = self.pairs();
+        // with its length an arena tells what holds of its list
+        let _ = pairs.len();
+        Range {
+            pairs,
+            first: inx_of(pairs.first()),
+            end: None,
+        }
+    }
+
+    /// Returns an iterator over the entries whose keys are in `range`, in order, from both ends. O(log n).
+    ///
+    /// A range that runs backwards has no entries.
+    pub fn range<R: RangeBounds<K> + Drop>(&self, range: R) -> Range<'_, K, V, P, A>
+        ensures { R.has_bounds range → result
+            ≡ entries_between K.cmp (R.start_bound range) (R.end_bound range) self.now.entries }
+    {
+        self.between(range.start_bound(), range.end_bound())
+    }
+
+    // The entries between two bounds.
+    fn between(&self, from: Bound<&K>, until: Bound<&K>) -> Range<'_, K, V, P, A>
+        ensures { result ≡ entries_between K.cmp (bound_map (λ k. k.now) from.entry)
+            (bound_map (λ k. k.now) until.entry) self.now.entries }
+    {
+        // with its length an arena tells what holds of it
+        let _ = self.len();
+        let end = self.first_past(until);
+        let first = self.first_before(from, end);
+        Range {
+            pairs: self.pairs(),
+            first: inx_of(first),
+            end: inx_of(end),
+        }
+    }
+
+    // The pointer of the first entry that is not before the start of a range.
+    fn first_from(&self, from: Bound<&K>) -> Option<P>
+        ensures { option_map P.numbers result
+            ≡ first_where (λ e. is_from_start K.cmp (bound_map (λ k. k.now) from.entry) (key_of e))
+            self.now.entries }
+    {
+        match from {
+            Bound::Included(k) => self.lower_bound(k),
+            Bound::Excluded(k) => self.upper_bound(k),
+            Bound::Unbounded => self.first(),
+        }
+    }
+
+    // The pointer of the first entry behind the end of a range.
+    fn first_past(&self, until: Bound<&K>) -> Option<P>
+        ensures { option_map P.numbers result
+            ≡ first_where (λ e. is_past_end K.cmp (bound_map (λ k. k.now) until.entry) (key_of e))
+            self.now.entries }
+    {
+        match until {
+            Bound::Included(k) => self.upper_bound(k),
+            Bound::Excluded(k) => self.lower_bound(k),
+            Bound::Unbounded => None,
+        }
+    }
+
+    // The pointer of the first entry that is not before the start of a range, or `end` if that one is before the start.
+    fn first_before(&self, from: Bound<&K>, end: Option<P>) -> Option<P>
+        ensures forward { is_forward K.cmp (bound_map (λ k. k.now) from.entry)
+            (option_and_then (pair_of self.now) (option_map P.numbers end)) ≡ true
+            → option_map P.numbers result
+            ≡ first_where (λ e. is_from_start K.cmp (bound_map (λ k. k.now) from.entry) (key_of e))
+            self.now.entries }
+        ensures backward { is_forward K.cmp (bound_map (λ k. k.now) from.entry)
+            (option_and_then (pair_of self.now) (option_map P.numbers end)) ≡ false
+            → result ≡ end }
+    {
+        if self.is_forward(from, end) {
+            self.first_from(from)
+        } else {
+            end
+        }
+    }
+
+    // Whether the entry at `end`, if any, is not before the start of a range.
+    fn is_forward(&self, from: Bound<&K>, end: Option<P>) -> bool
+        ensures { result ≡ is_forward K.cmp (bound_map (λ k. k.now) from.entry)
+            (option_and_then (pair_of self.now) (option_map P.numbers end)) }
+    {
+        let Some(p) = end else {
+            return true;
+        };
+        match self.key(p) {
+            Some(k) => is_key_from(from, k),
+            None => true,
+        }
+    }
+}
