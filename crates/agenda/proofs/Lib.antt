@@ -5,3 +5,4 @@ pub mod Deadlines
 pub mod Putting
 pub mod Moving
 pub mod Rekeying
+pub mod Ended

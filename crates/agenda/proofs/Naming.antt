@@ -5,7 +5,7 @@ use Rattle.std.specs.Option.{option_map}
 use Rattle.agenda.specs.Agenda.{Scheduled, Agenda, is_named_by, job_of, count, without, with_left, first_deadline, first_due, IsDistinct, Schedules, Reschedules, MovesDeadline, Updates, Moves}
 
 -- two tickets are one or differ
-one_or_other : (t u : ℕ × ℕ) → (t ≡ u) ⊎ (t ≢ u)
+pub one_or_other : (t u : ℕ × ℕ) → (t ≡ u) ⊎ (t ≢ u)
 one_or_other t u = elim (eqb_tells t.0 u.0) [
   | inl h ↦ elim (eqb_tells t.1 u.1) [
     | inl k ↦ inl (ap (λ i. (i, t.1)) h.1 ∙ ap (λ g. (u.0, g)) k.1)

@@ -7,6 +7,7 @@ use Rattle.chain_base.specs.Chain.{Chain, item_of, IsSound}
 use Rattle.ord_tree.specs.Tree.{Tree}
 use Rattle.triple_ord.specs.Rekey.{Rekeys}
 use Rattle.agenda.specs.Agenda.{Scheduled, MovesDeadline, Updates, IsInOrder, job_of, without, count, most_jobs}
+use Rattle.agenda.specs.Tickets.{IsStep, stays, moves}
 use Rattle.agenda.specs.Layout.{greatest_generation, deadline_of, scheduled, agenda_of, IsArenaOfJobs}
 use Rattle.agenda.proofs.Deadlines.{in_order-between, in_order-back, none-later, all-later}
 use Rattle.agenda.proofs.Leaving.{job_of-found, distinct-found, without-found, in_order-without}
@@ -57,6 +58,7 @@ pub record Tells {J : Type 0} (old new : Tree (ℕ × J)) (t : ℕ × ℕ) (d : 
   pub moved : OnTrue result (MovesDeadline (agenda_of old) t d (agenda_of new))
   pub updates : Updates (agenda_of old) (agenda_of new) t (option_map (λ job. (d, job.1)) (job_of (agenda_of old).jobs t))
   pub same_count : count (agenda_of new) ≡ count (agenda_of old)
+  pub step : IsStep (agenda_of old) (agenda_of new)
   pub arena : IsArenaOfJobs new
 
 -- it does, where the entry's key is replaced, or there is none
@@ -67,13 +69,14 @@ module _ {J : Type 0} (old new : Tree (ℕ × J)) (t : ℕ × ℕ) (d : ℕ)
 
   moved-tells : (job : ℕ × J) → found ≡ Some job → Rekeys deadline_of nat_cmp old t (d, job.1) new → Tells old new t d true
   moved-tells job there r =
-      let moves = moves_deadline-rekeyed old new t d job sound holds there r in
+      let goes = moves_deadline-rekeyed old new t d job sound holds there r in
       let distinct = distinct-found old.list.entries sound.distinct in
       record {
         value = sym (ap is_some (job_of-found old.list.entries sound.distinct t ∙ there));
-        moved = moves;
-        updates = updates-moves_deadline (agenda_of old) t d (agenda_of new) distinct moves;
-        same_count = count-moves_deadline (agenda_of old) t d (agenda_of new) distinct moves;
+        moved = goes;
+        updates = updates-moves_deadline (agenda_of old) t d (agenda_of new) distinct goes;
+        same_count = count-moves_deadline (agenda_of old) t d (agenda_of new) distinct goes;
+        step = moves t d goes;
         arena = arena-rekeyed old new t d job sound holds there r;
       }
 
@@ -85,6 +88,7 @@ module _ {J : Type 0} (old new : Tree (ℕ × J)) (t : ℕ × ℕ) (d : ℕ)
         moved = tt;
         updates = rw named (updates-none (agenda_of old) t named);
         same_count = refl;
+        step = stays refl;
         arena = holds;
       }
 

@@ -6,6 +6,7 @@ ghost use Rattle.std.specs.{Prelude.is_some, Option.option_map, Bool.OnTrue, Boo
 ghost use Rattle.agenda.specs.Agenda.{most_jobs, count, job_of, without, with_left, first_deadline, first_due, behind_first};
 ghost use Rattle.agenda.specs.Agenda.{IsSound, Schedules, Reschedules, MovesDeadline};
 ghost use Rattle.agenda.specs.Agenda.{Updates, Leaves, Moves};
+ghost use Rattle.agenda.specs.Tickets.{IsStep, HasNoLaterTicket};
 
 use crate::jobs::{Jobs, put, put_within};
 use crate::ticket::Ticket;
@@ -49,6 +50,7 @@ impl<J, A: Allocator> Agenda<J, A> {
         ensures jobs { result.jobs ≡ [] }
         ensures generation { result.generation ≡ 2 }
         ensures capacity { result.capacity ≡ 0 }
+        ensures tickets { HasNoLaterTicket result }
     {
         Agenda {
             jobs: SimpleOrdArena::new(alloc),
@@ -97,6 +99,7 @@ impl<J, A: Allocator> Agenda<J, A> {
         ensures gone { OnSome result
             (self.new ≡ with_left self.old (without self.old.jobs ticket)) }
         ensures none { IfNone result (self.new ≡ self.old) }
+        ensures step { IsStep self.old self.new }
     {
         // with its length an arena tells what holds of its list
         let _ = self.jobs.len();
@@ -115,6 +118,7 @@ impl<J, A: Allocator> Agenda<J, A> {
         ensures gone { OnSome result
             (self.new ≡ with_left self.old (behind_first self.old.jobs)) }
         ensures none { IfNone result (self.new ≡ self.old) }
+        ensures step { IsStep self.old self.new }
     {
         let first = self.jobs.first()?;
         let deadline = *self.jobs.get(first)?.k();
@@ -142,6 +146,8 @@ impl<J: Drop, A: Allocator> Agenda<J, A> {
         ensures memory { result ≡ Err (job, ReallocationError.AllocError)
             → count self.old ≡ self.old.capacity }
         ensures err { OnErr result (self.new ≡ self.old) }
+        ensures generation { self.new.generation ≡ self.old.generation }
+        ensures step { IsStep self.old self.new }
     {
         let pointer = put(&mut self.jobs, deadline, job)?;
         Ok(Ticket { pointer })
@@ -160,6 +166,8 @@ impl<J: Drop, A: Allocator> Agenda<J, A> {
             (option_map (λ job. (deadline, job.1)) (job_of self.old.jobs ticket)) }
         ensures count { count self.new ≡ count self.old }
         ensures none { OnFalse result (self.new ≡ self.old) }
+        ensures generation { self.new.generation ≡ self.old.generation }
+        ensures step { IsStep self.old self.new }
     {
         // with its length an arena tells what holds of its list
         let _ = self.jobs.len();
@@ -176,6 +184,7 @@ impl<J: Drop, A: Allocator> Agenda<J, A> {
         ensures moves { IfSome result (λ new. Moves self.old self.new ticket new deadline) }
         ensures count { count self.new ≡ count self.old }
         ensures none { IfNone result (self.new ≡ self.old) }
+        ensures step { IsStep self.old self.new }
     {
         // with its length an arena tells what holds of its list
         let _ = self.jobs.len();

@@ -16,7 +16,8 @@ use triple_ord::{
 /// Jobs by deadline.
 pub(crate) type Jobs<J, A> = SimpleOrdArena<P0, OrdPair<u64, J>, A>;
 
-// Behind all deadlines up to this one. The search compares the last deadline first: for a job that is due last nothing more.
+// Inserts behind every job whose deadline is not later. The search starts at the last job, so a job that is due last needs one
+// comparison.
 #[inline(always)]
 fn kind_behind<'k, J, A: Allocator>(
     jobs: &Jobs<J, A>,

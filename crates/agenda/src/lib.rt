@@ -4,6 +4,7 @@
 
 mod agenda;
 mod jobs;
+pub mod laws;
 mod ticket;
 
 pub use agenda::Agenda;

@@ -4,7 +4,7 @@ ghost use Rattle.std.specs.Prelude.{◌≡◌, ◌≢◌, ◌↔◌, ◌+◌, �
 ghost use Rattle.std.specs.Prelude.{IfOk, OnOk, OnErr, OnSome, IfSome, IfNone};
 ghost use Rattle.order_queue.specs.Queue.{most_orders, first_of, total, volume};
 ghost use Rattle.order_queue.specs.declared.side.Side.TheVariants.{Buy, Sell};
-ghost use Rattle.order_book.specs.Book.{opposite, queue, empty_queue, named, without, trades_of, rest_of};
+ghost use Rattle.order_book.specs.Book.{opposite, queue, empty_queue, named, without, trades_for, trades_of, rest_of};
 ghost use Rattle.order_book.specs.Book.{IsBook, IsFull, LacksRoom, Places, Updates};
 
 use crate::error::{PlacingError, ReplacingError};
@@ -91,6 +91,16 @@ impl<A: Allocator> OrderBook<A> {
         }
     }
 
+    /// How much of an order would trade at once, in O(1) for each order that it would trade with. Nothing changes, and no memory is taken.
+    pub fn offered(&self, side: Side, price: u64, quantity: u64) -> u64
+        ensures { result ≡ trades_for self.now side price quantity }
+    {
+        match side {
+            Side::Buy => self.asks.offered(price, quantity),
+            Side::Sell => self.bids.offered(price, quantity),
+        }
+    }
+
     /// Takes an order off the book, and returns its price and what was left of it, in O(log n).
     ///
     /// For a name that names none it returns `None`, and nothing changes.
@@ -109,11 +119,12 @@ impl<A: Allocator> OrderBook<A> {
     }
 
     /// Places an order: it trades as far as its limit `price` allows, and what is left of it comes to rest. Its trades are added to the
-    /// list, and the name of what rests is returned, `None` where nothing is left. It takes O((k + 1) log n), and O(n) where its side
+    /// list, and the name of what rests is returned, `None` where nothing is left. It takes O((k + 1) log n), and O(n) if its side
     /// grows.
     ///
-    /// It is refused with `NoQuantity` for nothing, with `BeyondMaxCapacity` where it would come to rest on a full side, and with
-    /// `AllocError` where memory is refused to the list of trades or to its side. Nothing has changed then.
+    /// It fails with `NoQuantity` if the quantity is 0; with `BeyondMaxCapacity` if something would rest and its side has as many orders as
+    /// it can have, 4,294,967,294; and with `AllocError` if memory is refused to the list of trades, or to its side, which grows only if
+    /// something would rest and there is no room for it. Nothing changes then.
     pub fn place<B: Allocator>(
         &mut self,
         side: Side,
@@ -132,13 +143,14 @@ impl<A: Allocator> OrderBook<A> {
             + volume (trades_of self.old side price quantity)
             ≡ total (queue self.old (opposite side)).orders) }
         ensures nothing { (result ≡ Err PlacingError.NoQuantity) ↔ (quantity ≡ 0) }
-        ensures full { result ≡ Err PlacingError.BeyondMaxCapacity
-            → (0 < rest_of self.old side price quantity)
-            × (length (queue self.old side).orders ≡ most_orders) }
+        ensures full { (result ≡ Err PlacingError.BeyondMaxCapacity)
+            ↔ ((0 < rest_of self.old side price quantity)
+            × (length (queue self.old side).orders ≡ most_orders)) }
         ensures memory { result ≡ Err PlacingError.AllocError
             → LacksRoom (vec_capacity trades.old) (length trades.old.items)
             (trades_of self.old side price quantity)
-            ⊎ IsFull (queue self.old side) }
+            ⊎ ((0 < rest_of self.old side price quantity) × IsFull (queue self.old side)
+            × (length (queue self.old side).orders ≢ most_orders)) }
         ensures err { OnErr result (self.new ≡ self.old) }
         ensures kept { OnErr result (trades.new.items ≡ trades.old.items) }
     {

@@ -1,11 +1,14 @@
 //! What an order does to the two sides of a book.
 
-ghost use Rattle.std.specs.Prelude.{◌≡◌, ◌≢◌, ◌+◌, ◌-◌, ◌<◌, ◌++◌, ◌⊎◌, Err, Some, None, IfOk, OnOk, OnErr, IfSome, length, vec_capacity};
+ghost use Rattle.std.specs.Prelude.{◌≡◌, ◌≢◌, ◌↔◌, ◌+◌, ◌-◌, ◌<◌, ◌++◌, ◌⊎◌, Err, Some, None, IfOk, OnOk, OnErr, IfSome, length, vec_capacity};
 ghost use Rattle.order_queue.specs.Queue.{most_orders, order_of, traded, trades_of_first, taken, total, volume, with_left};
 ghost use Rattle.order_book.specs.Book.{IsFull, LacksRoom, RestsOrNot};
 
 use order_queue::{OrderId, OrderQueue, P0, ReallocationError, Trade};
 use std::alloc::{AllocError, Allocator};
+
+/// How many orders one side can have.
+const MOST_ORDERS: usize = 4_294_967_294;
 
 // Puts what is left of an order on its side.
 fn rest<A: Allocator>(
@@ -16,10 +19,10 @@ fn rest<A: Allocator>(
     ensures rests { IfOk result (λ id. RestsOrNot own.old price left id own.new) }
     ensures names { IfOk result (λ id. IfSome id
         (λ i. order_of own.new.orders i.pointer ≡ Some (price, left))) }
-    ensures full { result ≡ Err ReallocationError.BeyondMaxCapacity
-        → (0 < left) × (length own.old.orders ≡ most_orders) }
+    ensures full { (result ≡ Err ReallocationError.BeyondMaxCapacity)
+        ↔ ((0 < left) × (length own.old.orders ≡ most_orders)) }
     ensures memory { result ≡ Err ReallocationError.AllocError
-        → IsFull own.old }
+        → (0 < left) × IsFull own.old × (length own.old.orders ≢ most_orders) }
     ensures err { OnErr result (own.new ≡ own.old) }
 {
     if left == 0 {
@@ -50,16 +53,22 @@ pub(crate) fn settle<A: Allocator, B: Allocator>(
         + (quantity - traded other.old price quantity) ≡ quantity) }
     ensures sold { OnOk result (total other.new.orders + volume (trades_of_first other.old.side
         (traded other.old price quantity) other.old.orders) ≡ total other.old.orders) }
-    ensures full { result ≡ Err ReallocationError.BeyondMaxCapacity
-        → (traded other.old price quantity < quantity) × (length own.old.orders ≡ most_orders) }
+    ensures full { (result ≡ Err ReallocationError.BeyondMaxCapacity)
+        ↔ ((traded other.old price quantity < quantity)
+        × (length own.old.orders ≡ most_orders)) }
     ensures memory { result ≡ Err ReallocationError.AllocError
         → LacksRoom (vec_capacity trades.old) (length trades.old.items) (trades_of_first
         other.old.side (traded other.old price quantity) other.old.orders)
-        ⊎ IsFull own.old }
+        ⊎ ((traded other.old price quantity < quantity) × IsFull own.old
+        × (length own.old.orders ≢ most_orders)) }
     ensures own_kept { OnErr result (own.new ≡ own.old) }
     ensures other_kept { OnErr result (other.new ≡ other.old) }
     ensures trades_kept { OnErr result (trades.new.items ≡ trades.old.items) }
 {
+    // where the side is full, that is the refusal, also if the trades would be refused memory
+    if own.len() == MOST_ORDERS && other.offered(price, quantity) < quantity {
+        return Err(ReallocationError::BeyondMaxCapacity);
+    }
     let before = trades.len();
     let Ok(left) = other.offer(price, quantity, trades) else {
         return Err(ReallocationError::AllocError);

@@ -1,9 +1,9 @@
 //! A desk: who deals for others, and says at once how much was dealt.
 
-ghost use Rattle.std.specs.Prelude.{◌≡◌, ◌+◌, ◌-◌, ◌++◌, ◌<◌, ◌⊎◌, ℕ, [], ◌∷◌, length};
-ghost use Rattle.std.specs.Prelude.{Some, None, IfOk, OnOk, OnErr, IfSome, IfNone};
+ghost use Rattle.std.specs.Prelude.{◌≡◌, ◌≢◌, ◌↔◌, ◌+◌, ◌-◌, ◌++◌, ◌<◌, ◌⊎◌, ℕ, [], ◌∷◌, length, vec_capacity, IsTrue, true, false};
+ghost use Rattle.std.specs.Prelude.{Some, None, Ok, Err, IfOk, OnOk, OnErr, IfSome, IfNone};
 ghost use Rattle.std.specs.Option.{option_map};
-ghost use Rattle.order_book.specs.Book.{Updates, named, rest_of, trades_for, trades_of};
+ghost use Rattle.order_book.specs.Book.{LacksRoom, Updates, named, rest_of, trades_for, trades_of};
 
 use order_book::{OrderBook, OrderId, PlacingError, Side, Trade};
 use std::alloc::Global;
@@ -99,6 +99,35 @@ impl Desk {
             dealt: quantity - left,
             resting,
         })
+    }
+
+    /// Deals all of an order at once, or nothing of it, and returns whether it was dealt. It needs room for its trades alone.
+    pub fn deal_whole(
+        &mut self,
+        side: Side,
+        price: u64,
+        quantity: u64,
+        trades: &mut Vec<Trade>,
+    ) -> Result<bool, PlacingError>
+        ensures dealt { IfOk result
+            (λ dealt. IsTrue dealt ↔ (trades_for self.old side price quantity ≡ quantity)) }
+        ensures trades { result ≡ Ok true → trades.new.items
+            ≡ trades.old.items ++ trades_of self.old side price quantity }
+        ensures whole { result ≡ Ok true → rest_of self.old side price quantity ≡ 0 }
+        ensures declined { result ≡ Ok false → self.new ≡ self.old }
+        ensures not_full { result ≢ Err PlacingError.BeyondMaxCapacity }
+        ensures memory { result ≡ Err PlacingError.AllocError
+            → LacksRoom (vec_capacity trades.old) (length trades.old.items)
+            (trades_of self.old side price quantity) }
+        ensures refused { OnErr result (self.new ≡ self.old) }
+    {
+        if self.book.offered(side, price, quantity) < quantity {
+            return Ok(false);
+        }
+        match self.book.place(side, price, quantity, trades) {
+            Ok(_) => Ok(true),
+            Err(refusal) => Err(refusal),
+        }
     }
 
     /// How much is left of an order: 0 where the name names none.

@@ -27,7 +27,8 @@ pub(crate) fn ranked(side: Side, number: u64) -> u64
     }
 }
 
-// Behind all ranks up to this one. The search compares the last rank first: for an order that trades last nothing more.
+// Inserts behind every order whose rank is not greater. The search starts at the last order, so an order that trades last needs one
+// comparison.
 #[inline(always)]
 fn kind_behind<'k, A: Allocator>(orders: &Orders<A>, rank: &'k u64) -> OrdInsertKind<P0, &'k u64>
     ensures { aim_of (λ i. i) (kind_now result) ≡ behind_key rank.now }

@@ -126,6 +126,24 @@ impl<A: Allocator> OrderQueue<A> {
         Some((ranked(self.side, rank), quantity))
     }
 
+    /// How much of a quantity an order of the other side with this limit would trade at once, in O(1) for each order that it would trade
+    /// with. It takes no memory.
+    pub fn offered(&self, limit: u64, quantity: u64) -> u64
+        ensures { result ≡ traded self.now limit quantity }
+    {
+        let mut left = quantity;
+        for (_, order) in self.orders.iter_ordered() {
+            if left == 0 {
+                break;
+            }
+            if !self.side.meets(ranked(self.side, *order.k()), limit) {
+                break;
+            }
+            left -= left.min(*order.v());
+        }
+        quantity - left
+    }
+
     /// Adds the trades of an order of the other side with this limit and quantity to the list, the first order's first, and returns
     /// what is left of the quantity; the orders stay as they are. It takes O(1) for each trade.
     ///

@@ -5,7 +5,7 @@ use Rattle.std.specs.Option.{option_map}
 use Rattle.chain_base.specs.{Chain.Entry, Chain.IsDistinct, Chain.entry_at, Chain.link_at, Chain.first_pointer, Link.Link}
 use Rattle.triple_ord.specs.Gap.{before, after, first_of}
 use Rattle.triple_ord.proofs.Inserting.{entry_at-after}
-use Rattle.timeline.specs.Timeline.{Change, value_at, IsRising, IsJoinedAfter, IsTimeline}
+use Rattle.timeline.specs.Timeline.{Change, value_at, IsRising, IsJoinedAfter, AreChanges}
 use Rattle.timeline.specs.Layout.{change, told_of, last_value, IsLastUntil, HoldsUntil}
 use Rattle.timeline.proofs.Cutting.{AreAfter, all-append, all-weaker, rising-back, joined-back}
 use Rattle.timeline.proofs.{Searching.none-last, Searching.begins-with, Searching.none-mapped, Searching.link-before, Holding.changes-cut}
@@ -47,7 +47,7 @@ module _ {V : Type 0} (es : List (Entry (ℕ × Option V))) (t : ℕ) where
         go [] = refl
         go (e ∷ back) = refl
 
-  module _ (lawful : IsTimeline (map change es)) (last : Option (ℕ × ℕ × Option V)) (found : IsLastUntil es t last) where
+  module _ (lawful : AreChanges (map change es)) (last : Option (ℕ × ℕ × Option V)) (found : IsLastUntil es t last) where
     abbrev low : List (Change V)
     low = map change found.gap.front
 

@@ -6,3 +6,4 @@ pub mod Holding
 pub mod Lasting
 pub mod Setting
 pub mod Spanning
+pub mod Room

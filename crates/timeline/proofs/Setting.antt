@@ -2,20 +2,20 @@
 use Rattle.std.proofs.Common.{◌≡◌, ◌≢◌, ℕ, ◌<◌, ◌≤◌, inl, inr, List, ◌++◌, Option, None, sym, ap, subst, ◌∙◌, arith}
 use Rattle.std.proofs.lemmas.List.{append_assoc}
 use Rattle.std.specs.List.{AllByRecursion}
-use Rattle.timeline.specs.Timeline.{Change, value_at, IsRising, IsTimeline, IsSet}
+use Rattle.timeline.specs.Timeline.{Change, value_at, IsRising, AreChanges, IsSet}
 use Rattle.timeline.specs.Layout.{earlier, later, last_value, Brings, IsChanged}
 use Rattle.timeline.proofs.Cutting.{AreBefore, AreAfter, all-append, all-weaker, earlier-before, later-after, cut-before, cut-after, cut-earlier, cut-later, rising-front, rising-back, rising-append, last-append, last-brings, rising-brings, all-brings}
 use Rattle.timeline.proofs.Values.{value-within, value-outside-before, value-outside-after, timeline-set}
 
 -- the changes from one time until another are taken out of a timeline
 pub record IsCutOut {V : Type 0} (old left : List (Change V)) (from until : ℕ) : Type 0 where
-  pub lawful : IsTimeline old
+  pub lawful : AreChanges old
   pub ordered : from < until
   pub taken : left ≡ earlier from old ++ later until old
 
 -- out of a list of the same changes as the timeline's
 module _ {V : Type 0} {old room left : List (Change V)} (from until : ℕ) where
-  pub cut-out : IsTimeline old → from < until → room ≡ old → left ≡ earlier from room ++ later until room → IsCutOut old left from until
+  pub cut-out : AreChanges old → from < until → room ≡ old → left ≡ earlier from room ++ later until room → IsCutOut old left from until
   cut-out lawful ordered kept taken = record { lawful = lawful; ordered = ordered; taken = taken ∙ ap (λ cs. earlier from cs ++ later until cs) kept }
 
 -- what held at the end, read from such a list, holds again
@@ -102,5 +102,5 @@ module _ {V : Type 0} {old left : List (Change V)} {from until : ℕ} (cut : IsC
         ]);
       }
 
-      pub set-timeline : IsTimeline new
-      set-timeline = subst (λ (cs : List (Change V)). IsTimeline cs) (sym new-is) (timeline-set old cut.lawful from until value cut.ordered first.put second.put brings-first brings-second)
+      pub set-timeline : AreChanges new
+      set-timeline = subst (λ (cs : List (Change V)). AreChanges cs) (sym new-is) (timeline-set old cut.lawful from until value cut.ordered first.put second.put brings-first brings-second)

@@ -1,7 +1,7 @@
 -- The stretches of a timeline, one after another.
 use Rattle.std.proofs.Common.{◌≡◌, ◌≢◌, ℕ, ◌<◌, ◌≤◌, List, [], ◌∷◌, ◌++◌, Option, Some, None, inl, inr, refl, sym, ap, subst, ◌∙◌, arith}
 use Rattle.std.proofs.{lemmas.Bool.le-leb, lemmas.Bool.lt-leb, lemmas.Bool.Decides.leb_tells}
-use Rattle.timeline.specs.Timeline.{Change, value_after, value_at, IsRising, IsJoinedAfter, IsTimeline, IsNextSpan, HasNone, AreSpans}
+use Rattle.timeline.specs.Timeline.{Change, value_after, value_at, IsRising, IsJoinedAfter, AreChanges, IsNextSpan, HasNone, AreSpans}
 use Rattle.timeline.specs.{Layout.stretch, Layout.spans_after, Layout.spans_of, declared.span.Span.Span}
 use Rattle.timeline.proofs.Values.{value-early}
 
@@ -93,7 +93,7 @@ module _ {V : Type 0} where
         changed : from < c.time → value_at all c.time ≡ c.value
         changed early = same c.time (omega (arith, early)) ∙ value-past held c cs c.time (omega arith) ∙ value-early c.value cs c.time rising.0
 
-    pub are-spans : (from until : ℕ) → IsTimeline all → AreSpans all from until (spans_of all from until)
+    pub are-spans : (from until : ℕ) → AreChanges all → AreSpans all from until (spans_of all from until)
     are-spans from until lawful = are-after None all from until lawful.rising lawful.joined (λ t _. refl)
 
   -- there is one next stretch at most
@@ -137,9 +137,9 @@ module _ {V : Type 0} where
       ap (λ x. x ∷ ss) same ∙ ap (λ xs. r ∷ xs) (spans-same cs r.until until ss rs (subst (λ (x : Span V). AreSpans cs x.until until ss) same one.1) other.1)
 
   -- the next stretch is the first of those by the changes, and those from its end on are the others
-  pub spans-next : (cs : List (Change V)) (from until : ℕ) (s : Span V) → IsTimeline cs → IsNextSpan cs from until s → spans_of cs from until ≡ s ∷ spans_of cs s.until until
+  pub spans-next : (cs : List (Change V)) (from until : ℕ) (s : Span V) → AreChanges cs → IsNextSpan cs from until s → spans_of cs from until ≡ s ∷ spans_of cs s.until until
   spans-next cs from until s lawful next =
       spans-same cs from until (spans_of cs from until) (s ∷ spans_of cs s.until until) (are-spans cs from until lawful) (next, are-spans cs s.until until lawful)
 
-  pub spans-none : (cs : List (Change V)) (from until : ℕ) → IsTimeline cs → HasNone cs from until → spans_of cs from until ≡ []
+  pub spans-none : (cs : List (Change V)) (from until : ℕ) → AreChanges cs → HasNone cs from until → spans_of cs from until ≡ []
   spans-none cs from until lawful none = spans-same cs from until (spans_of cs from until) [] (are-spans cs from until lawful) none

@@ -2,7 +2,7 @@
 use Rattle.std.proofs.Common.{◌≡◌, ℕ, ◌+◌, ◌<◌, ◌≤◌, List, [], ◌∷◌, ◌++◌, Option, None, refl, sym, ap, subst, ◌∙◌, arith, inl, inr}
 use Rattle.std.proofs.{lemmas.Bool.Decides.leb_tells, lemmas.List.append_assoc}
 use Rattle.std.specs.List.{AllByRecursion}
-use Rattle.timeline.specs.Timeline.{Change, value_after, value_at, IsRising, IsJoinedAfter, IsTimeline}
+use Rattle.timeline.specs.Timeline.{Change, value_after, value_at, IsRising, IsJoinedAfter, AreChanges}
 use Rattle.timeline.specs.Layout.{earlier, later, last_value, Brings}
 use Rattle.timeline.proofs.Cutting.{AreBefore, AreUntil, AreFrom, AreAfter, all-append, all-weaker, earlier-before, later-after, rising-front, rising-back, rising-append, cut-earlier, cut-later, joined-front, joined-back, joined-append, last-append, last-brings, joined-brings, rising-brings, all-brings}
 
@@ -36,7 +36,7 @@ module _ {V : Type 0} where
   ]
 
   -- a value from one time until before another: the changes in between go, the value comes, and then what held at the end
-  module _ (old : List (Change V)) (lawful : IsTimeline old) (from until : ℕ) (value : Option V) (ordered : from < until) (first second : List (Change V))
+  module _ (old : List (Change V)) (lawful : AreChanges old) (from until : ℕ) (value : Option V) (ordered : from < until) (first second : List (Change V))
       (brings : Brings (last_value None (earlier from old)) from value first) (back : Brings value until (value_at old until) second) where
     abbrev low : List (Change V)
     low = earlier from old
@@ -104,7 +104,7 @@ module _ {V : Type 0} where
         ∙ ap (λ held. value_after held high t) (last-second ∙ last-held)
         ∙ sym (ap (λ cs. value_at cs t) late.1 ∙ value-late None late.0 high t (all-weaker _ _ (λ c is. omega (arith, is, past)) late.0 late.2))
 
-    pub timeline-set : IsTimeline changed
+    pub timeline-set : AreChanges changed
     timeline-set = record {
       rising = rising-append from low (first ++ (second ++ high)) (rising-front low early.0 (subst IsRising early.1 lawful.rising))
           (rising-append until first (second ++ high) (rising-brings (last_value None low) from value first brings)

@@ -4,7 +4,7 @@ use Rattle.std.specs.{List.AllByRecursion, Option.option_map}
 use Rattle.chain_base.specs.Chain.{Entry}
 use Rattle.ord_tree.specs.Tree.{Tree}
 use Rattle.triple_ord.specs.Gap.{Gap, before}
-use Rattle.timeline.specs.{Timeline.Change, Timeline.value_at, Timeline.IsTimeline, declared.span.Span.Span}
+use Rattle.timeline.specs.{Timeline.Change, Timeline.Timeline, Timeline.value_at, Timeline.AreChanges, declared.span.Span.Span}
 
 module _ {V : Type 0} where
   -- the changes before a time
@@ -40,9 +40,13 @@ module _ {V : Type 0} where
   abbrev pub changes_of : Tree (ℕ × Option V) → List (Change V)
   changes_of a = map change a.list.entries
 
-  -- the arena of a timeline: its changes are one, and no maximum is set
+  -- the timeline that an arena holds
+  abbrev pub timeline_of : Tree (ℕ × Option V) → Timeline V
+  timeline_of a = record { changes = changes_of a; capacity = a.list.capacity }
+
+  -- the arena of a timeline: its changes are those of one, and no maximum is set
   pub record IsArenaOfChanges (a : Tree (ℕ × Option V)) : Type 0 where
-    pub timeline : IsTimeline (changes_of a)
+    pub changes : AreChanges (changes_of a)
     pub unlimited : a.list.maximum ≡ None
 
   -- index, time and value of an entry

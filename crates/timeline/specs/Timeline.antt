@@ -1,5 +1,5 @@
 -- What a timeline is: the value that holds at each time, told by the times at which it changes.
-use Rattle.std.specs.Prelude.{◌≡◌, ◌≢◌, ℕ, ◌<◌, ◌≤◌, ◌⊎◌, leb, if◌then◌else◌, List, [], ◌∷◌, Option, Some, None}
+use Rattle.std.specs.Prelude.{◌≡◌, ◌≢◌, ℕ, ◌+◌, ◌*◌, ◌<◌, ◌≤◌, ◌⊎◌, min, max, leb, nat_lt, if◌then◌else◌, List, [], ◌∷◌, length, Option, Some, None}
 use Rattle.std.specs.List.{AllByRecursion}
 use Rattle.timeline.specs.declared.span.Span.{Span}
 
@@ -7,6 +7,11 @@ use Rattle.timeline.specs.declared.span.Span.{Span}
 pub record Change (V : Type 0) : Type 0 where
   pub time : ℕ
   pub value : Option V
+
+-- A timeline: its changes, by their times, and how many of them there is room for before it has to grow.
+pub record Timeline (V : Type 0) : Type 0 where
+  pub changes : List (Change V)
+  pub capacity : ℕ
 
 -- how many changes there can be
 abbrev pub most_changes : ℕ
@@ -32,10 +37,26 @@ module _ {V : Type 0} where
   IsJoinedAfter held [] = Unit {0}
   IsJoinedAfter held (c ∷ cs) = (c.value ≢ held) × IsJoinedAfter c.value cs
 
-  -- what is true of every timeline: no two changes have one time, and no two neighbours have equal values
-  pub record IsTimeline (cs : List (Change V)) : Type 0 where
+  -- what is true of the changes of every timeline: no two have one time, and no two neighbours have equal values
+  pub record AreChanges (cs : List (Change V)) : Type 0 where
     pub rising : IsRising cs
     pub joined : IsJoinedAfter None cs
+
+  -- what is true of every timeline
+  pub record IsTimeline (t : Timeline V) : Type 0 where
+    pub rising : IsRising t.changes
+    pub joined : IsJoinedAfter None t.changes
+    pub within : length t.changes ≤ t.capacity
+    pub limited : t.capacity ≤ most_changes
+
+  -- The capacity with room for two more changes: what it is, where there is room; otherwise twice that, at most as many as there can be, and
+  -- at least enough.
+  abbrev pub roomy_capacity : Timeline V → ℕ
+  roomy_capacity t = let needed = length t.changes + 2 in if leb needed t.capacity then t.capacity else max needed (min most_changes (2 * t.capacity))
+
+  -- the capacity after a setting from one time until another; one over no time takes no room
+  abbrev pub capacity_set : Timeline V → ℕ → ℕ → ℕ
+  capacity_set t from until = if nat_lt from until then roomy_capacity t else t.capacity
 
   -- from one time until before another the value is this one, or none, and at every other time it is what it was
   pub record IsSet (old : List (Change V)) (from until : ℕ) (value : Option V) (new : List (Change V)) : Type 0 where

@@ -9,8 +9,8 @@ ghost use Rattle.std.specs.Ordering.{nat_cmp};
 ghost use Rattle.triple_ord.specs.Gap.{after};
 ghost use Rattle.triple_ord.specs.Place.{aim_of, at_key, kind_now};
 ghost use Rattle.triple_ord.specs.Search.{FindsSimilar};
-ghost use Rattle.timeline.specs.Timeline.{most_changes, IsRising, IsTimeline, value_at};
-ghost use Rattle.timeline.specs.Layout.{changes_of, earlier, later, IsLastUntil, HoldsUntil, IsFirstHeld, IsEnd};
+ghost use Rattle.timeline.specs.Timeline.{most_changes, roomy_capacity, value_at, AreChanges, IsRising};
+ghost use Rattle.timeline.specs.Layout.{changes_of, timeline_of, earlier, later, IsLastUntil, HoldsUntil, IsFirstHeld, IsEnd};
 ghost use Rattle.timeline.specs.Layout.{IsTakenOut, IsChanged, KeepsRoom};
 
 use crate::value::{TimelineValue, is_same};
@@ -44,7 +44,7 @@ fn index_until<V: Copy, A: Allocator>(
     }
 }
 
-// A search for a time that compares the last change first: behind all changes it looks at nothing more.
+// Searches for a time, starting at the last change, so a time behind all changes needs one comparison.
 fn find_similar<V: Copy, A: Allocator>(
     changes: &Changes<V, A>,
     time: &u64,
@@ -58,7 +58,7 @@ fn find_similar<V: Copy, A: Allocator>(
     }
 }
 
-// By a time. The search compares the last change first: behind all changes it looks at nothing more.
+// Inserts at a time. The search starts at the last change, so a time behind all changes needs one comparison.
 #[inline(always)]
 fn kind_at<'k, V: Copy, A: Allocator>(
     changes: &Changes<V, A>,
@@ -122,7 +122,7 @@ fn index_behind<V: Copy, A: Allocator>(
 
 /// The time of the first change after a time.
 pub(crate) fn next_after<V: Copy, A: Allocator>(changes: &Changes<V, A>, time: u64) -> Option<u64>
-    requires { IsTimeline (changes_of changes.now) }
+    requires { AreChanges (changes_of changes.now) }
     ensures { HoldsUntil (changes_of changes.now) time result }
 {
     // with its length an arena tells what holds of its list
@@ -134,7 +134,7 @@ pub(crate) fn next_after<V: Copy, A: Allocator>(changes: &Changes<V, A>, time: u
 
 /// The first time from this one on at which a value holds.
 pub(crate) fn first_held<V: Copy, A: Allocator>(changes: &Changes<V, A>, from: u64) -> Option<u64>
-    requires { IsTimeline (changes_of changes.now) }
+    requires { AreChanges (changes_of changes.now) }
     ensures { IsFirstHeld (changes_of changes.now) from result }
 {
     match held_at(changes, from) {
@@ -145,7 +145,7 @@ pub(crate) fn first_held<V: Copy, A: Allocator>(changes: &Changes<V, A>, from: u
 
 /// The time at which the value of a time ends, at most `until`.
 pub(crate) fn end_of<V: Copy, A: Allocator>(changes: &Changes<V, A>, from: u64, until: u64) -> u64
-    requires { IsTimeline (changes_of changes.now) × (from < until) }
+    requires { AreChanges (changes_of changes.now) × (from < until) }
     ensures { IsEnd (changes_of changes.now) from until result }
 {
     match next_after(changes, from) {
@@ -154,10 +154,10 @@ pub(crate) fn end_of<V: Copy, A: Allocator>(changes: &Changes<V, A>, from: u64, 
     }
 }
 
-/// Makes room for two more changes, in O(n) where the arena grows.
+/// Makes room for two more changes, in O(n) if the arena has to grow. The capacity then at least doubles, up to the limit.
 ///
-/// It is refused with `BeyondMaxCapacity` where two more would be more than there can be, and with `AllocError` where memory is
-/// refused; then nothing has changed.
+/// It fails with `BeyondMaxCapacity` if two more would be more than there can be, and with `AllocError` if the arena has to grow and memory
+/// is refused. Nothing changes then.
 pub(crate) fn make_room<V: Copy, A: Allocator>(
     changes: &mut Changes<V, A>,
 ) -> Result<(), ReallocationError>
@@ -165,8 +165,12 @@ pub(crate) fn make_room<V: Copy, A: Allocator>(
     ensures kept { changes_of changes.new ≡ changes_of changes.old }
     ensures unlimited { changes.new.list.maximum ≡ None }
     ensures room { OnOk result (length changes.new.list.entries + 2 ≤ changes.new.list.capacity) }
+    ensures capacity { OnOk result
+        (changes.new.list.capacity ≡ roomy_capacity (timeline_of changes.old)) }
     ensures full { (result ≡ Err ReallocationError.BeyondMaxCapacity)
         ↔ (most_changes < length (changes_of changes.old) + 2) }
+    ensures memory { result ≡ Err ReallocationError.AllocError
+        → changes.old.list.capacity < length (changes_of changes.old) + 2 }
     ensures err { OnErr result (changes.new ≡ changes.old) }
 {
     let needed = changes.len() + 2;

@@ -25,18 +25,18 @@ impl<'a, V: Copy, A: Allocator> Model for Spans<'a, V, A> {
 
     ghost Value = { List (Span V) };
 
-    ghost use Rattle.timeline.specs.Timeline.{IsTimeline};
+    ghost use Rattle.timeline.specs.Timeline.{AreChanges};
     ghost use Rattle.timeline.specs.Layout.{spans_of};
 
-    ghost view = { λ s. spans_of s.timeline.now s.from s.until };
+    ghost view = { λ s. spans_of s.timeline.now.changes s.from s.until };
 
-    ghost invariant = { λ s. IsTimeline s.timeline.now };
+    ghost invariant = { λ s. AreChanges s.timeline.now.changes };
 }
 
 impl<V: Copy, A: Allocator> Timeline<V, A> {
     /// All stretches of a value from one time until another, in turn, each in O(log n) for n changes.
     pub fn spans(&self, from: u64, until: u64) -> Spans<'_, V, A>
-        ensures { AreSpans self.now from until result }
+        ensures { AreSpans self.now.changes from until result }
     {
         // with its length a timeline tells what holds of it
         let _ = self.len();

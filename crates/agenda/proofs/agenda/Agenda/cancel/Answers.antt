@@ -1,5 +1,5 @@
 use Rattle.std.proofs.Common.{◌∙◌, sym, ap, is_some}
-use Rattle.agenda.proofs.Leaving.{job_of-found, agenda-removed, arena-removed, count-removed, updates-removed}
+use Rattle.agenda.proofs.Leaving.{job_of-found, agenda-removed, arena-removed, count-removed, updates-removed, step-removed}
 use Rattle.agenda.proofs.agenda.Agenda.cancel.Goals as goal
 
 pub returns-in_err-pair-clause-value : goal.returns-in_err-pair-clause-value
@@ -34,3 +34,11 @@ pub returns-clause-gone : goal.returns-clause-gone
 returns-clause-gone g c =
     let some = sym c.allow.ensures ∙ c.in_ok-pair.was in
     rw (← c.self.view_is, ← c.ticket.view_is) (agenda-removed c.self.inside.jobs c.remove.new.self c.ticket.inside.pointer c.len.ensures.sound.distinct (ap is_some (sym c.remove.ensures.removal.value ∙ some)) (rw some at c.remove.ensures.removal.removed))
+
+pub returns-in_err-pair-clause-step : goal.returns-in_err-pair-clause-step
+returns-in_err-pair-clause-step g c =
+    rw (← c.self.view_is) (step-removed c.self.inside.jobs c.remove.new.self c.ticket.inside.pointer c.len.ensures.sound.distinct _ c.remove.ensures.removal.value c.remove.ensures.removal.removed c.remove.ensures.removal.invalid)
+
+pub returns-clause-step : goal.returns-clause-step
+returns-clause-step g c =
+    rw (← c.self.view_is) (step-removed c.self.inside.jobs c.remove.new.self c.ticket.inside.pointer c.len.ensures.sound.distinct _ c.remove.ensures.removal.value c.remove.ensures.removal.removed c.remove.ensures.removal.invalid)

@@ -1,4 +1,5 @@
 use Rattle.std.proofs.Common.{◌∙◌, sym, ap, is_some}
+use Rattle.agenda.specs.Tickets.{renews}
 use Rattle.agenda.proofs.{Moving.arena-moved, Moving.rescheduled, Moving.moves-moved, Moving.count-moved, Leaving.job_of-found}
 use Rattle.agenda.proofs.agenda.Agenda.move_to.Goals as goal
 
@@ -39,3 +40,10 @@ returns-clause-count g c =
     rw (← c.self.view_is) (count-moved c.self.inside.jobs c.remove.new.self c.put_within-pointer.new.jobs c.ticket.inside.pointer c.put_within-pointer.result c.args.deadline c.in_ok-moved.moved
     c.len.ensures.sound c.self.invariant (sym c.remove.ensures.removal.value ∙ some) (rw some at c.remove.ensures.removal.removed) c.put_within-pointer.ensures.sound
     (rw c.into_k_v-job.ensures at c.put_within-pointer.ensures.inserted))
+
+pub returns-clause-step : goal.returns-clause-step
+returns-clause-step g c =
+    let some = sym c.allow.ensures ∙ c.in_ok-moved.was in
+    rw (← c.self.view_is) (renews _ _ _ (rescheduled c.self.inside.jobs c.remove.new.self c.put_within-pointer.new.jobs c.ticket.inside.pointer c.put_within-pointer.result c.args.deadline c.in_ok-moved.moved
+    c.len.ensures.sound c.self.invariant (sym c.remove.ensures.removal.value ∙ some) (rw some at c.remove.ensures.removal.removed) c.put_within-pointer.ensures.sound
+    (rw c.into_k_v-job.ensures at c.put_within-pointer.ensures.inserted)))

@@ -25,3 +25,8 @@ pub returns-clause-count : goal.returns-clause-count
 returns-clause-count g c =
     rw (← c.self.view_is) (rekey-tells c.self.inside.jobs c.rekey_pair.new.self c.ticket.inside.pointer c.args.deadline c.len.ensures.sound c.self.invariant c.rekey_pair.result
     c.rekey_pair.ensures.rekeys c.rekey_pair.ensures.before c.rekey_pair.ensures.stale c.rekey_pair.ensures.refused).same_count
+
+pub returns-clause-step : goal.returns-clause-step
+returns-clause-step g c =
+    rw (← c.self.view_is) (rekey-tells c.self.inside.jobs c.rekey_pair.new.self c.ticket.inside.pointer c.args.deadline c.len.ensures.sound c.self.invariant c.rekey_pair.result
+    c.rekey_pair.ensures.rekeys c.rekey_pair.ensures.before c.rekey_pair.ensures.stale c.rekey_pair.ensures.refused).step

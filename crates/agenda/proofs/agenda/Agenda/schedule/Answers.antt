@@ -1,4 +1,5 @@
 use Rattle.triple_ord.specs.Insertion.{reallocating}
+use Rattle.agenda.specs.Tickets.{comes}
 use Rattle.agenda.proofs.{Putting.schedules-inserted, Putting.arena-inserted, Naming.updates-scheduled, Naming.count-scheduled}
 use Rattle.agenda.proofs.agenda.Agenda.schedule.Goals as goal
 
@@ -19,3 +20,7 @@ pub returns-clause-count : goal.returns-clause-count
 returns-clause-count g c =
     let put = schedules-inserted reallocating c.self.inside.jobs c.put.new.jobs c.args.deadline c.args.job c.in_ok-pointer.pointer c.in_ok-pointer.ensures.ok c.put.ensures.sound c.self.invariant in
     rw (← c.self.view_is) (count-scheduled _ _ _ _ _ put)
+
+pub returns-clause-step : goal.returns-clause-step
+returns-clause-step g c =
+    rw (← c.self.view_is) (comes _ _ _ (schedules-inserted reallocating c.self.inside.jobs c.put.new.jobs c.args.deadline c.args.job c.in_ok-pointer.pointer c.in_ok-pointer.ensures.ok c.put.ensures.sound c.self.invariant))
