@@ -6,7 +6,7 @@ ghost use Rattle.triple_ord.specs.Arena.{item_of, count};
 
 use std::alloc::Global;
 use std::marker::Model;
-use triple_ord::{BasePtr, OrdInsertionError, SimpleOrdArena, SimpleOrdItem};
+use triple_ord::{BasePtr, OrdInsertionError, Ptr, SimpleOrdArena, SimpleOrdItem};
 
 /// The pointer of a book: a type of its own, so that no other pointer is taken for one.
 #[derive(Clone, Copy, PartialEq, Eq, PartialOrd, Ord, Hash, Debug)]
@@ -53,6 +53,8 @@ impl BasePtr for BookPtr {
         BookPtr { inx, generation }
     }
 }
+
+impl Ptr for BookPtr {}
 
 /// A book: its number, by which it is found, and how many pages it has.
 #[derive(Clone, Copy, PartialEq, Eq, Debug)]

@@ -4,6 +4,7 @@
 pub mod catalogue;
 pub mod entries;
 pub mod notes;
+pub mod pointers;
 pub mod rounds;
 pub mod scheduler;
 pub mod sessions;
