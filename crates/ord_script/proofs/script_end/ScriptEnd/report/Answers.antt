@@ -4,6 +4,6 @@ use Rattle.ord_script.proofs.script_end.ScriptEnd.report.Goals as goal
 pub returns-clause-message : goal.returns-clause-message
 returns-clause-message g c = record {
   wrote = c.write_all.result;
-  writes = rw (← (c.as_bytes.ensures ∙ c.message.ensures)) c.write_all.ensures.bytes;
+  writes = rw (c.as_bytes.ensures.value ∙ c.message.ensures) at c.write_all.ensures.bytes;
   failed = c.write_all.ensures.failed;
 }
