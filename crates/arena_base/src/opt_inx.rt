@@ -1,7 +1,7 @@
 //! `OptInx`: an optional index in the room of an index.
 ghost use Rattle.std.specs.Prelude.{◌≡◌, None};
 ghost use Rattle.std.specs.Option.{option_map};
-ghost use Rattle.arena_base.specs.Pointer.{named, named_of};
+ghost use Rattle.arena_base.specs.Pointer.{named_of};
 
 use crate::ptr::{BasePtr, BasePtrInx};
 use std::fmt;
@@ -9,7 +9,7 @@ use std::marker::Model;
 
 /// An index or none, in the room of an index: an `Option` of one would take twice as much.
 ///
-/// The index of `BasePtr::invalid()` names no entry, and stands for none.
+/// Index 0 names no entry, and stands for none.
 #[derive(Clone, Drop)]
 pub struct OptInx<P: BasePtr> {
     inx: P::Inx,
@@ -17,20 +17,20 @@ pub struct OptInx<P: BasePtr> {
 
 impl<P: BasePtr> Model for OptInx<P> {
     ghost use Rattle.std.specs.Prelude.{ℕ, Option};
-    ghost use Rattle.arena_base.specs.Pointer.{named};
+    ghost use Rattle.arena_base.specs.Pointer.{index_number};
 
     ghost Value = { Option ℕ };
 
-    ghost view = { λ i. named P.Inx.most (P.Inx.number i.inx) };
+    ghost view = { λ i. index_number (P.Inx.number i.inx) };
 }
 
 impl<P: BasePtr> OptInx<P> {
-    /// An index or none. The index of `BasePtr::invalid()` is none.
+    /// An index or none. Index 0 is none.
     pub fn new(inx: Option<P::Inx>) -> Self
-        ensures { result ≡ named_of P.Inx.most (option_map P.Inx.number inx) }
+        ensures { result ≡ named_of (option_map P.Inx.number inx) }
     {
         OptInx {
-            inx: inx.unwrap_or(P::invalid().inx()),
+            inx: inx.unwrap_or(P::Inx::zero()),
         }
     }
 
@@ -39,16 +39,16 @@ impl<P: BasePtr> OptInx<P> {
         ensures { result ≡ None }
     {
         OptInx {
-            inx: P::invalid().inx(),
+            inx: P::Inx::zero(),
         }
     }
 
     /// The index, if there is one.
     pub fn get(&self) -> Option<P::Inx>
         ensures value { option_map P.Inx.number result ≡ self.now }
-        ensures named { named_of P.Inx.most self.now ≡ self.now }
+        ensures named { named_of self.now ≡ self.now }
     {
-        if self.inx == P::invalid().inx() {
+        if self.inx == P::Inx::zero() {
             None
         } else {
             Some(self.inx)

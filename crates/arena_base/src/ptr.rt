@@ -30,6 +30,10 @@ pub trait BasePtrInx: Copy + Eq {
         ensures variant { IsSome result ↔ (0 < n × n ≤ most) }
         ensures value { IfSome result (λ i. number i ≡ n) };
 
+    /// The index 0, which names nothing.
+    fn zero() -> Self
+        ensures { number result ≡ 0 };
+
     /// The greatest index that an entry may have, one less than the greatest of the type.
     fn limit() -> usize
         ensures { result ≡ most };

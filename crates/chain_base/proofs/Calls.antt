@@ -1,18 +1,18 @@
 -- What the calls of a chain arena owe: from what the arena's calls ensure to the step on the list.
-use Rattle.std.proofs.Common.{◌≡◌, ℕ, ◌≤◌, List, Option, Some, None, IsSome, refl, sym, ap, subst, ◌∙◌, arith, max, OnSome, IfNone, Result, Ok, Err, OnOk, OnErr, ◌⊎◌, inl, inr, option_and_then}
+use Rattle.std.proofs.Common.{◌≡◌, ℕ, ◌<◌, ◌≤◌, List, Option, Some, None, IsSome, refl, sym, ap, subst, ◌∙◌, arith, max, OnSome, IfNone, Result, Ok, Err, OnOk, OnErr, ◌⊎◌, inl, inr, option_and_then}
 use Rattle.std.proofs.lemmas.Grind.{common_steps}
-use Rattle.arena_base.specs.Arena.{Arena, slot, arena_capacity, new_arena, with_capacity as arena_with_capacity, removed as arena_removed, renewed as arena_renewed, greatest_occupied, IsSound as IsSoundArena, IsInsertion as IsArenaInsertion}
+use Rattle.arena_base.specs.Arena.{Arena, slot, new_arena, with_capacity as arena_with_capacity, removed as arena_removed, renewed as arena_renewed, greatest_occupied, IsSound as IsSoundArena, IsInsertion as IsArenaInsertion}
 use Rattle.arena_base.specs.Pointer.{named_of}
 use Rattle.chain_base.specs.Chain.{Entry, Chain, times, new_chain, with_capacity, greatest_index, renewed, removed}
 use Rattle.chain_base.specs.{declared.chain.compress.Side.Side, Naming.neighbour_on, Layout.chain_of, Insert.PutsBetween, Link.Link}
 use Rattle.chain_base.proofs.Steps.{Lies, held-laid, Inserts, Inserts-joined, Removes-joined, Renews-at, Lies-resized, IsLaidOut-cleared}
 use Rattle.chain_base.proofs.LaidOut.{IsChainIn, bridged, end_beside, slot-written, slot-within}
 use Rattle.chain_base.proofs.{Vacancy.HoldIndexes, Vacancy.held-is, Vacancy.past-greatest, Vacancy.greatest-links, Renumbering.beside-other}
-use Rattle.chain_base.proofs.{Lists.times-append, Lists.times-last, Lists.times-first, Lists.other_index, Sound.occupied-within}
+use Rattle.chain_base.proofs.{Lists.times-append, Lists.times-last, Lists.times-first, Lists.other_index, Sound.occupied-above}
 
--- an index within reach names what it says
-pub named_of-within : (most : ℕ) (o : Option ℕ) → ((k : ℕ) → o ≡ Some k → k ≤ most) → named_of most o ≡ o
-named_of-within most o within = grind (arith, common_steps)
+-- an index other than 0 names what it says
+pub named_of-above : (o : Option ℕ) → ((k : ℕ) → o ≡ Some k → 0 < k) → named_of o ≡ o
+named_of-above o above = grind (arith, common_steps)
 
 module _ {T : Type 0} where
   -- what was held is held after an insertion
@@ -38,24 +38,21 @@ module _ {T : Type 0} where
       beside-inserted k is = held-inserted a a1 link j g ins k (held-is a.slots _ k held (beside-occurs k is))
 
       module _ (most : ℕ) (greatest : Option ℕ) (sound : IsSoundArena most greatest a1) where
-        -- an index of the list is within reach where the arena after an insertion is sound
-        within-most : arena_capacity a ≤ most
-        within-most = grind (arith, common_steps)
-
-        named-occurs : (o : Option ℕ) → ((k : ℕ) → o ≡ Some k → 1 ≤ times k c.entries) → named_of most o ≡ o
-        named-occurs o there = named_of-within most o (λ k is. omega (arith, within-most, occupied-within a c.entries k held (there k is)))
+        -- the indexes of the list are not 0 where the arena after an insertion is sound
+        named-occurs : (o : Option ℕ) → ((k : ℕ) → o ≡ Some k → 1 ≤ times k c.entries) → named_of o ≡ o
+        named-occurs o there = named_of-above o (λ k is. occupied-above most greatest a1 sound k (held-inserted a a1 link j g ins k (held-is a.slots _ k held (there k is))))
 
         -- the chain after it, from what the writes of links ensure
-        module _ (item : T) (item_is : link.item ≡ item) (prev_is : link.prev ≡ named_of most prev)
-            (next_is : link.next ≡ named_of most next) (b : Arena (Link T)) (first2 last2 : Option ℕ)
-            (joined : b ≡ bridged a1 prev (named_of most (Some j)) next (named_of most (Some j)))
+        module _ (item : T) (item_is : link.item ≡ item) (prev_is : link.prev ≡ named_of prev)
+            (next_is : link.next ≡ named_of next) (b : Arena (Link T)) (first2 last2 : Option ℕ)
+            (joined : b ≡ bridged a1 prev (named_of (Some j)) next (named_of (Some j)))
             (first_is : first2 ≡ end_beside prev first (Some j)) where
           pub Inserts-linked : last2 ≡ end_beside next last (Some j) → Inserts a b first first2 last2 place item j g
           Inserts-linked last_is =
               let named_prev = named-occurs prev (λ k is. beside-occurs k (inl is)) in
               let named_next = named-occurs next (λ k is. beside-occurs k (inr is)) in
-              let named_new : named_of most (Some j) ≡ Some j
-              = named_of-within most (Some j) (λ k is. let same : j ≡ k = cc in omega (arith, within-most, ins.vacant.within)) in
+              let named_new : named_of (Some j) ≡ Some j
+              = named_of-above (Some j) (λ k is. let same : j ≡ k = cc in omega (arith, ins.vacant.above)) in
               let whole : link ≡ record { item = item; prev = prev; next = next } = rw (← item_is, ← named_prev, ← named_next, ← prev_is, ← next_is) refl in
               let ins2 = subst (λ (l : Link T). IsArenaInsertion a a1 l j g) whole ins in
               rw (joined, first_is, last_is, named_new) (Inserts-joined a a1 first last place prev next item j g laid at ins2)
@@ -68,10 +65,10 @@ module _ {T : Type 0} where
           rw (slot-written a i k None (slot-within a i e at), other_index i k other.0) (held-is a.slots _ k held other.1)
 
       -- a removal, from what the arena's removal and the writes of links ensure
-      module _ (most : ℕ) (prev next : Option ℕ) (prev_is : prev ≡ e.1.prev) (next_is : next ≡ e.1.next)
-          (named_prev : named_of most e.1.prev ≡ e.1.prev) (named_next : named_of most e.1.next ≡ e.1.next) (a1 b : Arena (Link T))
+      module _ (prev next : Option ℕ) (prev_is : prev ≡ e.1.prev) (next_is : next ≡ e.1.next)
+          (named_prev : named_of e.1.prev ≡ e.1.prev) (named_next : named_of e.1.next ≡ e.1.next) (a1 b : Arena (Link T))
           (first2 last2 : Option ℕ) (without : a1 ≡ arena_removed greatest a i)
-          (joined : b ≡ bridged a1 prev (named_of most next) next (named_of most prev)) (first_is : first2 ≡ end_beside prev first next) where
+          (joined : b ≡ bridged a1 prev (named_of next) next (named_of prev)) (first_is : first2 ≡ end_beside prev first next) where
         pub Removes-linked : last2 ≡ end_beside next last prev → Lies b first2 last2 (removed greatest c i)
         Removes-linked last_is = grind (arith, common_steps, Removes-joined)
 

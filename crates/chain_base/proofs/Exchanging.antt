@@ -2,14 +2,13 @@
 use Rattle.std.proofs.Common.{◌≡◌, ℕ, true, List, map, Option, Some, None, IsSome, is_some, refl, sym, ap, ◌∙◌, subst, arith, if◌then◌else◌, length-set, option_map, option_and_then}
 use Rattle.std.proofs.lemmas.Grind.{common_steps}
 use Rattle.arena_base.specs.{Arena.Arena, Arena.slot, Arena.swapped, Pointer.named_of}
-use Rattle.arena_base.proofs.CallerLemmas.{limit_of-below}
 use Rattle.chain_base.specs.Layout.{chain_of, names, linked_next, linked_prev, relinked, IsLaidOut}
 use Rattle.chain_base.specs.{declared.chain.compress.Side.TheVariants.Before, declared.chain.compress.Side.TheVariants.After, Link.Link}
 use Rattle.chain_base.specs.Chain.{Entry, Chain, entry_at, link_at, IsOccupied, IsSound}
 use Rattle.chain_base.specs.{Exchange.exchanged_index, Exchange.in_exchange, Exchange.exchanged, Exchange.IsEven, declared.chain.compress.Side.Side}
 use Rattle.chain_base.proofs.Renumbering.{opposite, beside, beside-occurs, facing, facing-back, followed, IsLaidOut-renumbered}
 use Rattle.chain_base.proofs.LaidOut.{IsChainIn, slot-relinked, Alike, alike-next, alike-prev}
-use Rattle.chain_base.proofs.{Vacancy.HoldIndexes, Vacancy.held-is, Vacancy.held-occurs, Vacancy.held-link, Naming.neighbour-within}
+use Rattle.chain_base.proofs.{Vacancy.HoldIndexes, Vacancy.held-is, Vacancy.held-occurs, Vacancy.held-link, Naming.neighbour-above}
 use Rattle.chain_base.proofs.{Lists.entry_at-link, Lists.entry_at-absent, Lists.entry_at-some, Steps.Lies, Steps.lies-alike, Steps.held-laid}
 
 module _ (i j : ℕ) where
@@ -152,5 +151,5 @@ module _ {T : Type 0} where
           rw (made4, made3, made2, made1, made0, is1, is2, is3, is4, at1, at2, at3, at4, to_j, to_i, is_first, is_last) Lies-exchanged
 
   -- an index with an entry can be named in a link
-  pub occupied-named : (most : ℕ) (greatest : Option ℕ) (c : Chain T) (i : ℕ) → IsSound most greatest c → is_some (entry_at c.entries i) ≡ true → named_of most (Some i) ≡ Some i
-  occupied-named most greatest c i sound occupied = grind (arith, common_steps, i, entry_at-absent, limit_of-below, neighbour-within)
+  pub occupied-named : (most : ℕ) (greatest : Option ℕ) (c : Chain T) (i : ℕ) → IsSound most greatest c → is_some (entry_at c.entries i) ≡ true → named_of (Some i) ≡ Some i
+  occupied-named most greatest c i sound occupied = grind (arith, common_steps, i, entry_at-absent, neighbour-above)

@@ -162,8 +162,8 @@ module _ {T : Type 0} where
 
     -- from what the writes of links ensure: first the neighbours are linked to each other
     module _ (most : ℕ) (greatest : Option ℕ) (sound : IsSound most greatest c) (prev next : Option ℕ) (prev_is : prev ≡ e.1.prev) (next_is : next ≡ e.1.next)
-        (named_prev : named_of most e.1.prev ≡ e.1.prev) (named_next : named_of most e.1.next ≡ e.1.next)
-        (b1 : Arena (Link T)) (made1 : b1 ≡ bridged a prev (named_of most next) next (named_of most prev)) where
+        (named_prev : named_of e.1.prev ≡ e.1.prev) (named_next : named_of e.1.next ≡ e.1.next)
+        (b1 : Arena (Link T)) (made1 : b1 ≡ bridged a prev (named_of next) next (named_of prev)) where
       abbrev closed_arena : Arena (Link T)
       closed_arena = bridged a (last_or None st.front) (first_or None st.back) (first_or None st.back) (last_or None st.front)
 
@@ -171,8 +171,8 @@ module _ {T : Type 0} where
       closed-is =
           let prev2 : prev ≡ last_or None st.front = prev_is ∙ ap (λ (x : ℕ × Link T). x.1.prev) st.was in
           let next2 : next ≡ first_or None st.back = next_is ∙ ap (λ (x : ℕ × Link T). x.1.next) st.was in
-          let named_prev2 : named_of most prev ≡ prev = rw prev_is named_prev in
-          let named_next2 : named_of most next ≡ next = rw next_is named_next in
+          let named_prev2 : named_of prev ≡ prev = rw prev_is named_prev in
+          let named_next2 : named_of next ≡ next = rw next_is named_next in
           rw (made1, named_prev2, named_next2, prev2, next2) refl
 
       pub closed-alike : Alike b1 a
@@ -189,7 +189,7 @@ module _ {T : Type 0} where
             let whole : record { index = i; generation = e.0; item = e.1.item } ≡ st.entry = rw (st.index, st.was) refl in
             ap (λ es. record c { entries = es }) (ap (λ o. list_with place i o (without i c.entries)) found ∙ ap (place (without i c.entries)) whole ∙ at.puts st.entry)
 
-        named-occurs : (o : Option ℕ) → ((k : ℕ) → o ≡ Some k → 1 ≤ times k c.entries) → named_of most o ≡ o
+        named-occurs : (o : Option ℕ) → ((k : ℕ) → o ≡ Some k → 1 ≤ times k c.entries) → named_of o ≡ o
         named-occurs None there = refl
         named-occurs (Some k) there =
             occupied-named most greatest c k sound
@@ -200,16 +200,16 @@ module _ {T : Type 0} where
 
         -- then the entry between its new neighbours
         module _ (first1 last1 : Option ℕ) (first1_is : first1 ≡ end_beside prev first next) (last1_is : last1 ≡ end_beside next last prev)
-            (b2 b3 b4 : Arena (Link T)) (made2 : b2 ≡ linked_next b1 (Some i) (named_of most right)) (made3 : b3 ≡ linked_prev b2 (Some i) (named_of most left))
-            (made4 : b4 ≡ bridged b3 left (named_of most (Some i)) right (named_of most (Some i))) (first2 last2 : Option ℕ)
+            (b2 b3 b4 : Arena (Link T)) (made2 : b2 ≡ linked_next b1 (Some i) (named_of right)) (made3 : b3 ≡ linked_prev b2 (Some i) (named_of left))
+            (made4 : b4 ≡ bridged b3 left (named_of (Some i)) right (named_of (Some i))) (first2 last2 : Option ℕ)
             (first2_is : first2 ≡ end_beside left first1 (Some i)) where
           pub Moves-linked : last2 ≡ end_beside right last1 (Some i) → Lies b4 first2 last2 (with_entry_moved c i place)
           Moves-linked last2_is =
               let split : st.front ++ st.back ≡ at.front ++ at.back = sym st.rest ∙ at.split in
               let done = Lies-put st.front st.entry st.back laid_split.distinct a first last laid_split at.front at.back split in
-              let named_left : named_of most left ≡ left = named-occurs left (λ k is. place-occurs k (inl is)) in
-              let named_right : named_of most right ≡ right = named-occurs right (λ k is. place-occurs k (inr is)) in
-              let here : named_of most (Some i) ≡ Some i
+              let named_left : named_of left ≡ left = named-occurs left (λ k is. place-occurs k (inl is)) in
+              let named_right : named_of right ≡ right = named-occurs right (λ k is. place-occurs k (inr is)) in
+              let here : named_of (Some i) ≡ Some i
               = named-occurs (Some i) (λ k is. let same : i ≡ k = cc in rw (← same) (linked-occurs c.entries i e (sym (st.laid.links i) ∙ st.held))) in
               let prev2 : prev ≡ last_or None st.front = prev_is ∙ ap (λ (x : ℕ × Link T). x.1.prev) st.was in
               let next2 : next ≡ first_or None st.back = next_is ∙ ap (λ (x : ℕ × Link T). x.1.next) st.was in
@@ -217,15 +217,15 @@ module _ {T : Type 0} where
               let before = last_or None at.front in
               let behind = first_or None at.back in
               let two : b2 ≡ linked_next closed_arena (Some j) behind
-              = made2 ∙ ap (λ (b : Arena (Link T)). linked_next b (Some i) (named_of most right)) closed-is
+              = made2 ∙ ap (λ (b : Arena (Link T)). linked_next b (Some i) (named_of right)) closed-is
               ∙ ap (λ (o : Option ℕ). linked_next closed_arena (Some i) o) (named_right ∙ at.next_is) ∙ ap (λ (n : ℕ). linked_next closed_arena (Some n) behind) st.index in
               let three : b3 ≡ bridged closed_arena (Some j) behind (Some j) before
-              = made3 ∙ ap (λ (b : Arena (Link T)). linked_prev b (Some i) (named_of most left)) two
+              = made3 ∙ ap (λ (b : Arena (Link T)). linked_prev b (Some i) (named_of left)) two
               ∙ ap (λ (o : Option ℕ). linked_prev (linked_next closed_arena (Some j) behind) (Some i) o) (named_left ∙ at.prev_is)
               ∙ ap (λ (n : ℕ). linked_prev (linked_next closed_arena (Some j) behind) (Some n) before) st.index in
               let free : Arena (Link T) = bridged closed_arena (Some j) behind (Some j) before in
               let arena : b4 ≡ bridged free before (Some j) behind (Some j)
-              = made4 ∙ ap (λ (b : Arena (Link T)). bridged b left (named_of most (Some i)) right (named_of most (Some i))) three
+              = made4 ∙ ap (λ (b : Arena (Link T)). bridged b left (named_of (Some i)) right (named_of (Some i))) three
               ∙ ap (λ (o : Option ℕ). bridged free left o right o) (here ∙ ap Some st.index)
               ∙ ap (λ (o : Option ℕ). bridged free o (Some j) right (Some j)) at.prev_is
               ∙ ap (λ (o : Option ℕ). bridged free before (Some j) o (Some j)) at.next_is in

@@ -157,5 +157,5 @@ pub index-made : {I : Type 0} (number : I → ℕ) (most n : ℕ) (r : Option I)
 index-made number most n o made value above within = grind (arith, common_steps)
 
 -- it stands for itself in a link
-pub neighbour-within : (most n : ℕ) → n ≤ most → named_of most (Some n) ≡ Some n
-neighbour-within most n within = elim (eqb_tells n (most + 1)) [ inl h ↦ absurd (omega arith) | inr h ↦ rw h.0 refl ]
+pub neighbour-above : (n : ℕ) → 0 < n → named_of (Some n) ≡ Some n
+neighbour-above n above = elim (eqb_tells n 0) [ inl h ↦ absurd (omega arith) | inr h ↦ rw h.0 refl ]

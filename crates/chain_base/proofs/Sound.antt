@@ -1,8 +1,8 @@
 -- What is true of every arena, said of the chain that lies in it.
-use Rattle.std.proofs.Common.{◌≡◌, ℕ, ◌<◌, ◌≤◌, List, [], ◌∷◌, length, Option, None, ap, ◌∙◌, arith, get_or, take, Result, OnOk, OnErr}
+use Rattle.std.proofs.Common.{◌≡◌, ℕ, ◌<◌, ◌≤◌, List, [], ◌∷◌, length, Option, None, IsSome, ap, ◌∙◌, arith, get_or, take, Result, OnOk, OnErr}
 use Rattle.std.proofs.lemmas.Grind.{common_steps}
 use Rattle.std.specs.Option.{option_map, ForSome}
-use Rattle.arena_base.specs.Arena.{Arena, arena_capacity, times as times_among, IsSound as IsSoundArena}
+use Rattle.arena_base.specs.Arena.{Arena, slot, arena_capacity, times as times_among, IsSound as IsSoundArena}
 use Rattle.arena_base.specs.Generation.{IsLawfulGeneration}
 use Rattle.chain_base.specs.{Chain.Entry, Chain.times, Chain.IsSound, Layout.chain_of, Link.Link}
 use Rattle.chain_base.proofs.{Vacancy.HoldIndexes, Vacancy.held-within, Vacancy.vacant-held, Lists.entry_at-link, LaidOut.IsChainIn, Steps.held-laid}
@@ -15,6 +15,10 @@ module _ {T : Type 0} where
   -- slot 0 is vacant where the slots begin with a vacant one
   pub first-vacant : (slots : List (Option (ℕ × Link T))) → take 1 slots ≡ None ∷ [] → (get_or slots 0 None ≡ None) × (0 < length slots)
   first-vacant slots begins = grind (arith, common_steps)
+
+  -- so no entry of a sound arena has index 0
+  pub occupied-above : (most : ℕ) (greatest : Option ℕ) (a : Arena (Link T)) → IsSoundArena most greatest a → (k : ℕ) → IsSome (slot a k) → 0 < k
+  occupied-above most greatest a sound k there = grind (arith, common_steps, first-vacant a.slots sound.begins)
 
   -- a lawful slot has a lawful entry
   module _ (greatest : Option ℕ) (o : Option (ℕ × Link T)) (lawful : ForSome o (λ e. IsLawfulGeneration greatest e.0)) where

@@ -26,11 +26,11 @@ impl<P: BasePtr, T> Model for LinkNoGen<P, T> {
 impl<P: BasePtr, T> LinkNoGen<P, T> {
     /// A link of the item `t` between two neighbours, first the previous one, then the next.
     ///
-    /// The index of `BasePtr::invalid()` names no neighbour.
+    /// Index 0 names no neighbour.
     pub fn new(prev_next: (Option<P::Inx>, Option<P::Inx>), t: T) -> Self
         ensures item { result.item ≡ t }
-        ensures prev { result.prev ≡ named_of P.Inx.most (option_map P.Inx.number prev_next.0) }
-        ensures next { result.next ≡ named_of P.Inx.most (option_map P.Inx.number prev_next.1) }
+        ensures prev { result.prev ≡ named_of (option_map P.Inx.number prev_next.0) }
+        ensures next { result.next ≡ named_of (option_map P.Inx.number prev_next.1) }
     {
         LinkNoGen {
             t,
@@ -42,7 +42,7 @@ impl<P: BasePtr, T> LinkNoGen<P, T> {
     /// The index of the entry before this one.
     pub fn prev(&self) -> Option<P::Inx>
         ensures value { option_map P.Inx.number result ≡ self.now.prev }
-        ensures named { named_of P.Inx.most self.now.prev ≡ self.now.prev }
+        ensures named { named_of self.now.prev ≡ self.now.prev }
     {
         self.prev.get()
     }
@@ -50,7 +50,7 @@ impl<P: BasePtr, T> LinkNoGen<P, T> {
     /// The index of the entry after this one.
     pub fn next(&self) -> Option<P::Inx>
         ensures value { option_map P.Inx.number result ≡ self.now.next }
-        ensures named { named_of P.Inx.most self.now.next ≡ self.now.next }
+        ensures named { named_of self.now.next ≡ self.now.next }
     {
         self.next.get()
     }
@@ -59,8 +59,8 @@ impl<P: BasePtr, T> LinkNoGen<P, T> {
     pub fn prev_next(&self) -> (Option<P::Inx>, Option<P::Inx>)
         ensures prev { option_map P.Inx.number result.0 ≡ self.now.prev }
         ensures next { option_map P.Inx.number result.1 ≡ self.now.next }
-        ensures named_prev { named_of P.Inx.most self.now.prev ≡ self.now.prev }
-        ensures named_next { named_of P.Inx.most self.now.next ≡ self.now.next }
+        ensures named_prev { named_of self.now.prev ≡ self.now.prev }
+        ensures named_next { named_of self.now.next ≡ self.now.next }
     {
         (self.prev(), self.next())
     }
@@ -68,7 +68,7 @@ impl<P: BasePtr, T> LinkNoGen<P, T> {
     // Links this entry to another previous one.
     pub(crate) fn set_prev(&mut self, prev: Option<P::Inx>)
         ensures { self.new
-            ≡ record self.old { prev = named_of P.Inx.most (option_map P.Inx.number prev) } }
+            ≡ record self.old { prev = named_of (option_map P.Inx.number prev) } }
     {
         self.prev = OptInx::new(prev);
     }
@@ -76,7 +76,7 @@ impl<P: BasePtr, T> LinkNoGen<P, T> {
     // Links this entry to another next one.
     pub(crate) fn set_next(&mut self, next: Option<P::Inx>)
         ensures { self.new
-            ≡ record self.old { next = named_of P.Inx.most (option_map P.Inx.number next) } }
+            ≡ record self.old { next = named_of (option_map P.Inx.number next) } }
     {
         self.next = OptInx::new(next);
     }

@@ -1,6 +1,6 @@
 //! `NodeInx`: the index of a node.
 
-ghost use Rattle.std.specs.Prelude.{◌≡◌, ◌≢◌, ◌+◌, option_map};
+ghost use Rattle.std.specs.Prelude.{◌≡◌, ◌≢◌, option_map};
 ghost use Rattle.arena_base.specs.Pointer.{named_of};
 ghost use Rattle.chain_base.specs.Chain.{IsOccupied};
 
@@ -9,20 +9,20 @@ use chain_base::ChainArena;
 use std::alloc::{AllocError, Allocator};
 use std::marker::Model;
 
-/// The index of a node: any but that of `BasePtr::invalid()`, which stands for no link where a node keeps its links.
+/// The index of a node: any but 0, which stands for no link where a node keeps its links.
 #[derive(Debug)]
 pub struct NodeInx<I: BasePtrInx> {
     inx: I,
 }
 
 impl<I: BasePtrInx> Model for NodeInx<I> {
-    ghost use Rattle.std.specs.Prelude.{◌≢◌, ◌+◌};
+    ghost use Rattle.std.specs.Prelude.{◌≢◌};
 
     ghost Value = { I };
 
     ghost view = { λ i. i.inx };
 
-    ghost invariant = { λ i. I.number i.inx ≢ I.most + 1 };
+    ghost invariant = { λ i. I.number i.inx ≢ 0 };
 
     ghost inverse = { λ i. record { inx = i } };
 }
@@ -38,7 +38,7 @@ impl<I: BasePtrInx> Copy for NodeInx<I> {}
 impl<I: BasePtrInx> NodeInx<I> {
     /// The index of a node.
     pub fn new(inx: I) -> Self
-        requires { I.number inx ≢ I.most + 1 }
+        requires { I.number inx ≢ 0 }
         ensures { result ≡ inx }
     {
         NodeInx { inx }
@@ -47,7 +47,7 @@ impl<I: BasePtrInx> NodeInx<I> {
     /// The index.
     pub fn get(self) -> I
         ensures value { result ≡ self }
-        ensures named { I.number self ≢ I.most + 1 }
+        ensures named { I.number self ≢ 0 }
     {
         self.inx
     }
@@ -82,9 +82,9 @@ pub fn link_in<P: BasePtr>(kept: &OptInx<P>) -> Option<NodeInx<P::Inx>>
     as_link::<P>(kept.get())
 }
 
-/// A link of indexes, none of which is that of `BasePtr::invalid()`.
+/// A link of indexes, none of which is 0.
 pub fn as_link<P: BasePtr>(link: Option<P::Inx>) -> Option<NodeInx<P::Inx>>
-    requires { named_of P.Inx.most (option_map P.Inx.number link) ≡ option_map P.Inx.number link }
+    requires { named_of (option_map P.Inx.number link) ≡ option_map P.Inx.number link }
     ensures { result ≡ link }
 {
     Some(NodeInx::new(link?))

@@ -19,6 +19,10 @@ impl BasePtrInx for u8 {
         if self == 0 { None } else { Some(self as usize) }
     }
 
+    fn zero() -> u8 {
+        0
+    }
+
     fn try_from_usize(n: usize) -> Option<u8> {
         if n == 0 || n > Self::limit() {
             None
@@ -45,6 +49,10 @@ impl BasePtrInx for u16 {
 
     fn try_into_usize(self) -> Option<usize> {
         if self == 0 { None } else { Some(self as usize) }
+    }
+
+    fn zero() -> u16 {
+        0
     }
 
     fn try_from_usize(n: usize) -> Option<u16> {
@@ -75,6 +83,10 @@ impl BasePtrInx for u32 {
         if self == 0 { None } else { Some(self as usize) }
     }
 
+    fn zero() -> u32 {
+        0
+    }
+
     fn try_from_usize(n: usize) -> Option<u32> {
         if n == 0 || n > Self::limit() {
             None
@@ -103,6 +115,10 @@ impl BasePtrInx for u64 {
         if self == 0 { None } else { Some(self as usize) }
     }
 
+    fn zero() -> u64 {
+        0
+    }
+
     fn try_from_usize(n: usize) -> Option<u64> {
         if n == 0 || n > Self::limit() {
             None
@@ -129,6 +145,10 @@ impl BasePtrInx for usize {
 
     fn try_into_usize(self) -> Option<usize> {
         if self == 0 { None } else { Some(self) }
+    }
+
+    fn zero() -> usize {
+        0
     }
 
     fn try_from_usize(n: usize) -> Option<usize> {

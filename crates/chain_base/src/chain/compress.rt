@@ -160,7 +160,7 @@ fn link_facing<P: BasePtr, T, A: Allocator>(
 )
     requires { ForSome at (λ i. IsOccupied arena.old (P.Inx.number i)) }
     ensures { arena.new ≡ linked_facing side arena.old (option_map P.Inx.number at)
-        (named_of P.Inx.most (option_map P.Inx.number other)) }
+        (named_of (option_map P.Inx.number other)) }
 {
     match side {
         Side::Before => set_next(arena, at, other),

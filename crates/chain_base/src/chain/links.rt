@@ -24,8 +24,8 @@ pub(super) fn relink<P: BasePtr, T, A: Allocator>(
     requires right { ForSome right (λ i. IsOccupied arena.old (P.Inx.number i)) }
     ensures arena { arena.new ≡ linked_prev
         (linked_next arena.old (option_map P.Inx.number left)
-        (named_of P.Inx.most (option_map P.Inx.number next)))
-        (option_map P.Inx.number right) (named_of P.Inx.most (option_map P.Inx.number prev)) }
+        (named_of (option_map P.Inx.number next)))
+        (option_map P.Inx.number right) (named_of (option_map P.Inx.number prev)) }
     ensures first { option_map P.Inx.number first.new ≡
         (if is_some (option_map P.Inx.number left)
         then option_map P.Inx.number first.old else option_map P.Inx.number next) }
@@ -51,7 +51,7 @@ pub(super) fn set_next<P: BasePtr, T, A: Allocator>(
 )
     requires { ForSome at (λ i. IsOccupied arena.old (P.Inx.number i)) }
     ensures { arena.new ≡ linked_next arena.old
-        (option_map P.Inx.number at) (named_of P.Inx.most (option_map P.Inx.number next)) }
+        (option_map P.Inx.number at) (named_of (option_map P.Inx.number next)) }
 {
     if let Some(i) = at {
         let pair = arena.pair_mut(i);
@@ -68,7 +68,7 @@ pub(super) fn set_prev<P: BasePtr, T, A: Allocator>(
 )
     requires { ForSome at (λ i. IsOccupied arena.old (P.Inx.number i)) }
     ensures { arena.new ≡ linked_prev arena.old
-        (option_map P.Inx.number at) (named_of P.Inx.most (option_map P.Inx.number prev)) }
+        (option_map P.Inx.number at) (named_of (option_map P.Inx.number prev)) }
 {
     if let Some(i) = at {
         let pair = arena.pair_mut(i);

@@ -38,7 +38,7 @@ set_prev-requires g c = λ x is.
     let st = stood c.self.inside.arena _ _ c.args.self.now _ _ c.self.view_is c.self.invariant c.entry.ensures in
     let beside = c.prev_next.ensures in
     let alike = closed-alike st _ _ c.len.ensures.sound _ _ beside.prev beside.next beside.named_prev beside.named_next _ c.relink.ensures.arena in
-    subst (λ (o : Option _). IsSome (option_and_then (λ y. slot c.set_next.new.arena (g.P.Inx.BasePtrInx.number y)) o)) is (held-itself st _ (alike-next _ _ _ (Some (g.P.Inx.BasePtrInx.number c.args.i)) (named_of g.P.Inx.BasePtrInx.most (option_map g.P.Inx.BasePtrInx.number c.neighbours_in.result.1)) c.set_next.ensures alike))
+    subst (λ (o : Option _). IsSome (option_and_then (λ y. slot c.set_next.new.arena (g.P.Inx.BasePtrInx.number y)) o)) is (held-itself st _ (alike-next _ _ _ (Some (g.P.Inx.BasePtrInx.number c.args.i)) (named_of (option_map g.P.Inx.BasePtrInx.number c.neighbours_in.result.1)) c.set_next.ensures alike))
 
 pub relink-requires-2-clause-left : goal.relink-requires-2-clause-left
 relink-requires-2-clause-left g c = λ x is.
@@ -47,7 +47,7 @@ relink-requires-2-clause-left g c = λ x is.
     let alike = closed-alike st _ _ c.len.ensures.sound _ _ beside.prev beside.next beside.named_prev beside.named_next _ c.relink.ensures.arena in
     let holding = closed-holding st _ _ c.len.ensures.sound _ _ beside.prev beside.next beside.named_prev beside.named_next _ c.relink.ensures.arena in
     let at = c.neighbours_in.ensures (without_entry c.args.self.now (g.P.Inx.BasePtrInx.number c.args.i)) holding c.requires.place in
-    held-place st _ _ _ at _ (alike-prev _ _ _ (Some (g.P.Inx.BasePtrInx.number c.args.i)) (named_of g.P.Inx.BasePtrInx.most (option_map g.P.Inx.BasePtrInx.number c.neighbours_in.result.0)) c.set_prev.ensures (alike-next _ _ _ (Some (g.P.Inx.BasePtrInx.number c.args.i)) (named_of g.P.Inx.BasePtrInx.most (option_map g.P.Inx.BasePtrInx.number c.neighbours_in.result.1)) c.set_next.ensures alike)) _ (inl (ap (option_map g.P.Inx.BasePtrInx.number) is))
+    held-place st _ _ _ at _ (alike-prev _ _ _ (Some (g.P.Inx.BasePtrInx.number c.args.i)) (named_of (option_map g.P.Inx.BasePtrInx.number c.neighbours_in.result.0)) c.set_prev.ensures (alike-next _ _ _ (Some (g.P.Inx.BasePtrInx.number c.args.i)) (named_of (option_map g.P.Inx.BasePtrInx.number c.neighbours_in.result.1)) c.set_next.ensures alike)) _ (inl (ap (option_map g.P.Inx.BasePtrInx.number) is))
 
 pub relink-requires-2-clause-right : goal.relink-requires-2-clause-right
 relink-requires-2-clause-right g c = λ x is.
@@ -56,7 +56,7 @@ relink-requires-2-clause-right g c = λ x is.
     let alike = closed-alike st _ _ c.len.ensures.sound _ _ beside.prev beside.next beside.named_prev beside.named_next _ c.relink.ensures.arena in
     let holding = closed-holding st _ _ c.len.ensures.sound _ _ beside.prev beside.next beside.named_prev beside.named_next _ c.relink.ensures.arena in
     let at = c.neighbours_in.ensures (without_entry c.args.self.now (g.P.Inx.BasePtrInx.number c.args.i)) holding c.requires.place in
-    held-place st _ _ _ at _ (alike-prev _ _ _ (Some (g.P.Inx.BasePtrInx.number c.args.i)) (named_of g.P.Inx.BasePtrInx.most (option_map g.P.Inx.BasePtrInx.number c.neighbours_in.result.0)) c.set_prev.ensures (alike-next _ _ _ (Some (g.P.Inx.BasePtrInx.number c.args.i)) (named_of g.P.Inx.BasePtrInx.most (option_map g.P.Inx.BasePtrInx.number c.neighbours_in.result.1)) c.set_next.ensures alike)) _ (inr (ap (option_map g.P.Inx.BasePtrInx.number) is))
+    held-place st _ _ _ at _ (alike-prev _ _ _ (Some (g.P.Inx.BasePtrInx.number c.args.i)) (named_of (option_map g.P.Inx.BasePtrInx.number c.neighbours_in.result.0)) c.set_prev.ensures (alike-next _ _ _ (Some (g.P.Inx.BasePtrInx.number c.args.i)) (named_of (option_map g.P.Inx.BasePtrInx.number c.neighbours_in.result.1)) c.set_next.ensures alike)) _ (inr (ap (option_map g.P.Inx.BasePtrInx.number) is))
 
 pub invariant_of-self : goal.invariant_of-self
 invariant_of-self g c =

@@ -24,7 +24,7 @@ invariant_of-self g c =
     let ends = c.relink.ensures in
     let beside = c.prev_next.ensures in
     let removes = Removes-linked c.self.inside.arena _ _ c.self.invariant g.P.Gen.BasePtrGen.greatest _ _ c.entry.ensures
-    _ _ _ beside.prev beside.next beside.named_prev beside.named_next _ c.relink.new.arena _ _ c.remove_entry-taken.ensures.removed ends.arena ends.first ends.last in
+    _ _ beside.prev beside.next beside.named_prev beside.named_next _ c.relink.new.arena _ _ c.remove_entry-taken.ensures.removed ends.arena ends.first ends.last in
     removes.laid
 
 pub returns-clause-value : goal.returns-clause-value
@@ -35,7 +35,7 @@ returns-clause-removed g c =
     let ends = c.relink.ensures in
     let beside = c.prev_next.ensures in
     let removes = Removes-linked c.self.inside.arena _ _ c.self.invariant g.P.Gen.BasePtrGen.greatest _ _ c.entry.ensures
-    _ _ _ beside.prev beside.next beside.named_prev beside.named_next _ c.relink.new.arena _ _ c.remove_entry-taken.ensures.removed ends.arena ends.first ends.last in
+    _ _ beside.prev beside.next beside.named_prev beside.named_next _ c.relink.new.arena _ _ c.remove_entry-taken.ensures.removed ends.arena ends.first ends.last in
     rw (← c.self.view_is) removes.chain
 
 pub returns-clause-overflow : goal.returns-clause-overflow

@@ -2,7 +2,7 @@ use Rattle.std.proofs.Common.{◌≡◌, ℕ, ◌+◌, ◌<◌, ◌≤◌, lengt
 use Rattle.arena_base.specs.{Pointer.named_of, Arena.Arena, Arena.slot}
 use Rattle.chain_base.specs.Naming.{linked_facing}
 use Rattle.chain_base.proofs.chain.compress.name_compressed_indexes.Goals.{in-Some, then-is_none, else-is_none, in_default}
-use Rattle.chain_base.proofs.Naming.{named_neighbour-begins, named_neighbour-vacant, named_neighbour-step, named_neighbour-target, named_neighbour-ends, index-made, neighbour-within}
+use Rattle.chain_base.proofs.Naming.{named_neighbour-begins, named_neighbour-vacant, named_neighbour-step, named_neighbour-target, named_neighbour-ends, index-made, neighbour-above}
 use Rattle.chain_base.proofs.chain.compress.name_compressed_indexes.Goals as goal
 
 pub loop-position-init : goal.loop-position-init
@@ -41,7 +41,7 @@ loop-position-preserved g c =
           let made : option_map number w.try_from_usize-here.result ≡ Some (at.count + 1) =
           index-made number g.P.Inx.BasePtrInx.most (at.count + 1) w.try_from_usize-here.result w.try_from_usize-here.ensures.variant w.try_from_usize-here.ensures.value (omega arith) within in
           let linked = w.link_facing.ensures ∙ ap (linked_facing c.args.side at.arena (option_map number w.neighbour_on-neighbour.result))
-          (ap (named_of g.P.Inx.BasePtrInx.most) made ∙ neighbour-within g.P.Inx.BasePtrInx.most (at.count + 1) within) in
+          (ap named_of made ∙ neighbour-above (at.count + 1) (omega arith)) in
           elim w.if-is_none.branch [
             | then-is_none v ↦ rw (w.arena-is, w.end-is, v.end-is, w.count-is)
                 (named_neighbour-step c.args.side c.args.arena.now at.arena at.count _ (at.position + 1) at.invariant inside c.requires _ held _ w.neighbour_on-neighbour.ensures _ (λ none. made) (λ some. grind arith) _ linked)
